@@ -1,0 +1,166 @@
+//! The values that the protocol speaks of, and the words in which the table keeps them.
+#![tactic(auto)]
+
+/// A nack by its thread and its number in that thread, each 0 to 63.
+#[derive(Clone, Copy, Debug, PartialEq, Eq)]
+pub struct NackName {
+    pub thread: u8,
+    pub k: u8,
+}
+
+/// What a message is made of: a number, a channel or a nack.
+#[derive(Clone, Copy, Debug, PartialEq, Eq)]
+pub enum Atom {
+    Num(u32),
+    Chan(u8),
+    Nack(NackName),
+}
+
+/// Up to three atoms, in order.
+#[derive(Clone, Copy, Debug, PartialEq, Eq)]
+pub enum Message {
+    Empty,
+    One(Atom),
+    Two(Atom, Atom),
+    Three(Atom, Atom, Atom),
+}
+
+/// A base event, as a sync offers it.
+#[derive(Clone, Copy, Debug, PartialEq, Eq)]
+pub enum Base {
+    Send(u8, Message),
+    Recv(u8),
+    Always(Message),
+    OnNack(NackName),
+    Never,
+}
+
+/// One offer of a sync. Bit s of `scopes` is set where scope s of the sync encloses the offer;
+/// scopes are 0 to 3.
+#[derive(Clone, Copy, Debug, PartialEq, Eq)]
+pub struct Offer {
+    pub base: Base,
+    pub scopes: u8,
+}
+
+/// One sync of a thread: thread 0 to 63, sync 0 to 1023.
+#[derive(Clone, Copy, Debug, PartialEq, Eq)]
+pub struct Row {
+    pub thread: u8,
+    pub sync: u16,
+}
+
+/// How a row was committed: its own offer, the row and the offer that it met (none where it was
+/// committed alone), and the stamp, which is at least 1.
+#[derive(Clone, Copy, Debug, PartialEq, Eq)]
+pub struct Joined {
+    pub own: u8,
+    pub partner: Option<(Row, u8)>,
+    pub stamp: u32,
+}
+
+/// The state of a row.
+#[derive(Clone, Copy, Debug, PartialEq, Eq)]
+pub enum Cell {
+    Fresh,
+    Waiting,
+    Claimed,
+    Synched(Joined),
+    Taken(Joined),
+}
+
+/// What the head word of an offer says of its base event, without the atoms.
+#[derive(Clone, Copy, Debug, PartialEq, Eq)]
+pub enum Direction {
+    Never,
+    Send { chan: u8, atoms: u8 },
+    Recv { chan: u8 },
+    Always { atoms: u8 },
+    OnNack(NackName),
+}
+
+/// The head word of an offer: its direction and the scopes round it.
+#[derive(Clone, Copy, Debug, PartialEq, Eq)]
+pub struct Head {
+    pub direction: Direction,
+    pub scopes: u8,
+}
+
+/// Where a nack is bound: the sync of its thread, and the scope of that sync.
+#[derive(Clone, Copy, Debug, PartialEq, Eq)]
+pub struct Binding {
+    pub sync: u16,
+    pub scope: u8,
+}
+
+/// Why a row was committed alone.
+#[derive(Clone, Copy, Debug, PartialEq, Eq)]
+pub enum Cause {
+    Always(Message),
+    Nack(NackName),
+}
+
+/// One rendezvous, or one commit that stands alone. A row goes with the number of its offer.
+#[derive(Clone, Copy, Debug, PartialEq, Eq)]
+pub enum Commit {
+    Pair {
+        sender: (Row, u8),
+        receiver: (Row, u8),
+        chan: u8,
+        msg: Message,
+        stamp: u32,
+    },
+    Alone {
+        at: (Row, u8),
+        cause: Cause,
+        stamp: u32,
+    },
+}
+
+/// Who makes a step: one of 1 to 16 seats, numbered from 0.
+#[derive(Clone, Copy, Debug, PartialEq, Eq)]
+pub struct Seat(pub u8);
+
+/// A step of the protocol. Places are those of a row's words: 0 the cell, 1 the number of offers,
+/// 2 + 4n the head of offer n, and the three after it its atoms.
+#[derive(Clone, Copy, Debug, PartialEq, Eq)]
+pub enum Step {
+    /// Writes one word of a row that is still Fresh.
+    Draft {
+        row: Row,
+        place: u8,
+        value: u64,
+    },
+    /// Makes a Fresh row Waiting: its offers stand from now on.
+    Open {
+        row: Row,
+    },
+    /// Reads a row's cell.
+    Look {
+        row: Row,
+    },
+    /// Reads another word of an opened row.
+    Read {
+        row: Row,
+        place: u8,
+    },
+    /// Takes one's own waiting row out of the others' reach.
+    Claim {
+        row: Row,
+    },
+    /// Gives a claimed row back.
+    Yield {
+        row: Row,
+    },
+    /// Commits another thread's waiting row with one's own claimed row.
+    Join {
+        mine: Row,
+        own: u8,
+        other: Row,
+        partner: u8,
+    },
+    /// Commits the claimed row with the row that was joined with it.
+    Seal {
+        row: Row,
+    },
+}
