@@ -1,6 +1,10 @@
 //! The values that the protocol speaks of, and the words in which the table keeps them.
 #![tactic(auto)]
 
+mod packing;
+
+pub use packing::{pack_cell, unpack_cell};
+
 /// A nack by its thread and its number in that thread, each 0 to 63.
 #[derive(Clone, Copy, Debug, PartialEq, Eq)]
 pub struct NackName {
