@@ -134,6 +134,10 @@ pub cell_of-zero : cell_of 0 ≡ Some Fresh
 unfolding cell_of cell_word
 cell_of-zero = refl
 
+-- What agrees with `cell_of` at a word is the value whose word it is.
+pub cell_of_only : (o : Option Cell) (w : ℕ) → o ≡ cell_of w → (c : Cell) → IsCellInRange c → w ≡ cell_word c → o ≡ Some c
+cell_of_only o w e c r h = e ∙ ap cell_of h ∙ cell_of-cell_word c r
+
 -- THE NUMBER OF OFFERS
 
 pub count_of-count : (n : ℕ) → n ≤ 8 → count_of n ≡ Some n

@@ -44,6 +44,7 @@ fn joined_bits(joined: Joined) -> u64
     u64::from(joined.own) * (1 << 3) + partner_bits(joined.partner) + u64::from(joined.stamp) * (1 << 26)
 }
 
+#[tactic(auto, unfolding(crate::specs::Words::cell_word))]
 /// The word of a cell: rows, offers and the stamp in the ranges that the format has room for.
 pub fn pack_cell(cell: Cell) -> u64
     requires { IsCellInRange cell }
@@ -100,6 +101,7 @@ fn has_stamp(cell: Cell) -> bool
     }
 }
 
+#[tactic(auto, unfolding(crate::specs::Words::cell_of))]
 /// The cell of a word, or none where the word is no cell's.
 pub fn unpack_cell(word: u64) -> Option<Cell>
     ensures value { result ≡ cell_of word }
