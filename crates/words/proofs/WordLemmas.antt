@@ -1,7 +1,7 @@
 -- What other crates cite of the words: each value has its word, and each well-formed word is the word of its value.
-use Rattle.std.proofs.Common.{◌≡◌, ℕ, ◌+◌, ◌*◌, ◌%◌, ◌^◌, ◌<◌, ◌≤◌, Bool, true, false, ◌==◌, ◌&&◌, nat_le, if◌then◌else◌, Option, Some, None, IfSome, is_some, ◌-◌, refl, sym, ap, ◌∙◌, arith, eqb-true, eq-eqb, leb-true, le-leb, subst}
+use Rattle.std.proofs.Common.{◌≡◌, ℕ, ◌+◌, ◌*◌, ◌%◌, ◌^◌, ◌<◌, ◌≤◌, Bool, true, false, ◌==◌, ◌&&◌, nat_le, if◌then◌else◌, Option, Some, None, IfSome, is_some, option_and_then, ◌-◌, refl, sym, ap, ◌∙◌, arith, eqb-true, eq-eqb, leb-true, le-leb, subst}
 use Rattle.std.proofs.lemmas.Bool.{true≢false, and_parts, and_from, cond-true, ne_eqb}
-use Rattle.std.proofs.lemmas.Option.{cond_some}
+use Rattle.std.proofs.lemmas.Option.{none-some, same_Some, cond_some}
 use Rattle.words.specs.declared.Row.{Row}
 use Rattle.words.specs.declared.Joined.{Joined}
 use Rattle.words.specs.declared.Cell.{Cell}
@@ -12,7 +12,12 @@ use Rattle.words.specs.declared.Head.{Head}
 use Rattle.words.specs.declared.Atom.{Atom}
 use Rattle.words.specs.declared.Atom.TheVariants.{Num, Chan, Nack}
 use Rattle.words.specs.declared.Binding.{Binding}
-use Rattle.words.specs.Words.{field, partner_bits, joined_bits, cell_word, IsRowInRange, IsJoinedInRange, IsCellInRange, joined_fields, cell_fields, has_stamp, cell_of, count_of, direction_bits, direction_fields, head_word, head_fields, head_of, IsNackInRange, IsDirectionInRange, IsHeadInRange, atom_word, atom_fields, atom_of, IsAtomInRange, nack_word, nack_fields, nack_of, IsBindingInRange, offer_of, is_word_for}
+use Rattle.words.specs.declared.Message.{Message}
+use Rattle.words.specs.declared.Message.TheVariants.{Empty, One, Two, Three}
+use Rattle.words.specs.declared.Base.{Base}
+use Rattle.words.specs.declared.Base.TheVariants as base
+use Rattle.words.specs.declared.Offer.{Offer}
+use Rattle.words.specs.Words.{field, partner_bits, joined_bits, cell_word, IsRowInRange, IsJoinedInRange, IsCellInRange, joined_fields, cell_fields, has_stamp, cell_of, count_of, direction_bits, direction_fields, head_word, head_fields, head_of, IsNackInRange, IsDirectionInRange, IsHeadInRange, atom_word, atom_fields, atom_of, IsAtomInRange, nack_word, nack_fields, nack_of, IsBindingInRange, offer_of, is_word_for, IsMessageInRange, IsBaseInRange, IsOfferInRange, atom_count, head_in, direction_in, message_in, first_word, second_word, third_word, message_of, base_of}
 
 -- ANY WORD: what its fields say, and the test that it is the word of just that
 
@@ -245,6 +250,9 @@ pub head_of-zero : head_of 0 ≡ Some (record { direction = Never; scopes = 0 })
 unfolding head_of head_word
 head_of-zero = refl
 
+pub head_of_only : (o : Option Head) (w : ℕ) → o ≡ head_of w → (h : Head) → IsHeadInRange h → w ≡ head_word h → o ≡ Some h
+head_of_only o w e h r same = e ∙ ap head_of same ∙ head_of-head_word h r
+
 -- AN ATOM
 
 pub atom_fields-atom_word : (a : Atom) → IsAtomInRange a → atom_fields (atom_word a) ≡ a
@@ -292,6 +300,9 @@ pub atom_of-zero : atom_of 0 ≡ Some (Num 0)
 unfolding atom_of atom_word
 atom_of-zero = refl
 
+pub atom_of_only : (o : Option Atom) (w : ℕ) → o ≡ atom_of w → (a : Atom) → IsAtomInRange a → w ≡ atom_word a → o ≡ Some a
+atom_of_only o w e a r h = e ∙ ap atom_of h ∙ atom_of-atom_word a r
+
 -- A NACK
 
 pub nack_fields-nack_word : (o : Option Binding) → IfSome o IsBindingInRange → nack_fields (nack_word o) ≡ o
@@ -328,6 +339,159 @@ nack_word-nack_of w o e =
 pub nack_of-zero : nack_of 0 ≡ Some None
 unfolding nack_of nack_word
 nack_of-zero = refl
+
+pub nack_of_only : (o : Option (Option Binding)) (w : ℕ) → o ≡ nack_of w → (b : Option Binding) → IfSome b IsBindingInRange → w ≡ nack_word b → o ≡ Some b
+nack_of_only o w e b r h = e ∙ ap nack_of h ∙ nack_of-nack_word b r
+
+-- A WHOLE OFFER
+
+-- the atoms of a message, and the number 0 past the last
+abbrev first_atom : Message → Atom
+first_atom Empty = Num 0
+first_atom (One a) = a
+first_atom (Two a b) = a
+first_atom (Three a b c) = a
+
+abbrev second_atom : Message → Atom
+second_atom Empty = Num 0
+second_atom (One a) = Num 0
+second_atom (Two a b) = b
+second_atom (Three a b c) = b
+
+abbrev third_atom : Message → Atom
+third_atom Empty = Num 0
+third_atom (One a) = Num 0
+third_atom (Two a b) = Num 0
+third_atom (Three a b c) = c
+
+atom_of-first_word : (m : Message) → IsMessageInRange m → atom_of (first_word m) ≡ Some (first_atom m)
+atom_of-first_word Empty r = atom_of-zero
+atom_of-first_word (One a) r = atom_of-atom_word a r
+atom_of-first_word (Two a b) r = atom_of-atom_word a r.0
+atom_of-first_word (Three a b c) r = atom_of-atom_word a r.0
+
+atom_of-second_word : (m : Message) → IsMessageInRange m → atom_of (second_word m) ≡ Some (second_atom m)
+atom_of-second_word Empty r = atom_of-zero
+atom_of-second_word (One a) r = atom_of-zero
+atom_of-second_word (Two a b) r = atom_of-atom_word b r.1
+atom_of-second_word (Three a b c) r = atom_of-atom_word b r.1
+
+atom_of-third_word : (m : Message) → IsMessageInRange m → atom_of (third_word m) ≡ Some (third_atom m)
+atom_of-third_word Empty r = atom_of-zero
+atom_of-third_word (One a) r = atom_of-zero
+atom_of-third_word (Two a b) r = atom_of-zero
+atom_of-third_word (Three a b c) r = atom_of-atom_word c r.2
+
+message_of-atoms : (m : Message) → message_of (atom_count m) (first_atom m) (second_atom m) (third_atom m) ≡ m
+message_of-atoms Empty = refl
+message_of-atoms (One a) = refl
+message_of-atoms (Two a b) = refl
+message_of-atoms (Three a b c) = refl
+
+base_of-atoms : (b : Base) → base_of (direction_in b) (first_atom (message_in b)) (second_atom (message_in b)) (third_atom (message_in b)) ≡ b
+base_of-atoms (base.Send chan m) = ap (base.Send chan) (message_of-atoms m)
+base_of-atoms (base.Recv chan) = refl
+base_of-atoms (base.Always m) = ap base.Always (message_of-atoms m)
+base_of-atoms (base.OnNack n) = refl
+base_of-atoms base.Never = refl
+
+IsMessageInRange-message_in : (b : Base) → IsBaseInRange b → IsMessageInRange (message_in b)
+IsMessageInRange-message_in (base.Send chan m) r = r.1
+IsMessageInRange-message_in (base.Recv chan) r = tt
+IsMessageInRange-message_in (base.Always m) r = r
+IsMessageInRange-message_in (base.OnNack n) r = tt
+IsMessageInRange-message_in base.Never r = tt
+
+atom_count_low : (m : Message) → atom_count m < 4
+atom_count_low Empty = omega arith
+atom_count_low (One a) = omega arith
+atom_count_low (Two a b) = omega arith
+atom_count_low (Three a b c) = omega arith
+
+IsDirectionInRange-direction_in : (b : Base) → IsBaseInRange b → IsDirectionInRange (direction_in b)
+IsDirectionInRange-direction_in (base.Send chan m) r = (r.0, atom_count_low m)
+IsDirectionInRange-direction_in (base.Recv chan) r = r
+IsDirectionInRange-direction_in (base.Always m) r = atom_count_low m
+IsDirectionInRange-direction_in (base.OnNack n) r = r
+IsDirectionInRange-direction_in base.Never r = tt
+
+pub IsHeadInRange-head_in : (o : Offer) → IsOfferInRange o → IsHeadInRange (head_in o)
+IsHeadInRange-head_in o r = record { direction = IsDirectionInRange-direction_in o.base r.base; scopes = r.scopes }
+
+-- What four words that stand for a head and three atoms say.
+pub offer_of-parts : (w x y z : ℕ) (h : Head) (a b c : Atom) → head_of w ≡ Some h → atom_of x ≡ Some a →
+    atom_of y ≡ Some b → atom_of z ≡ Some c →
+    offer_of w x y z ≡ Some (record { base = base_of h.direction a b c; scopes = h.scopes })
+unfolding offer_of
+offer_of-parts w x y z h a b c p q r s = simp (p, q, r, s)
+
+-- The four words of an offer say that offer.
+pub offer_of-offer_words : (o : Offer) → IsOfferInRange o →
+    offer_of (head_word (head_in o)) (first_word (message_in o.base)) (second_word (message_in o.base)) (third_word (message_in o.base)) ≡ Some o
+offer_of-offer_words o r =
+    let m : Message = message_in o.base in
+    let within : IsMessageInRange m = IsMessageInRange-message_in o.base r.base in
+    offer_of-parts _ _ _ _ (head_in o) (first_atom m) (second_atom m) (third_atom m)
+    (head_of-head_word (head_in o) (IsHeadInRange-head_in o r)) (atom_of-first_word m within) (atom_of-second_word m within)
+    (atom_of-third_word m within)
+    ∙ ap (λ (b : Base). Some (record { base = b; scopes = o.scopes })) (base_of-atoms o.base)
+
+message_at : (p q r : Bool) (a b c : Atom) → IsAtomInRange a → IsAtomInRange b → IsAtomInRange c →
+    IsMessageInRange (if p then Empty else (if q then One a else (if r then Two a b else Three a b c)))
+message_at true q r a b c ha hb hc = tt
+message_at false true r a b c ha hb hc = ha
+message_at false false true a b c ha hb hc = (ha, hb)
+message_at false false false a b c ha hb hc = (ha, hb, hc)
+
+IsMessageInRange-message_of : (n : ℕ) (a b c : Atom) → IsAtomInRange a → IsAtomInRange b → IsAtomInRange c →
+    IsMessageInRange (message_of n a b c)
+IsMessageInRange-message_of n a b c = message_at (n == 0) (n == 1) (n == 2) a b c
+
+pub IsBaseInRange-base_of : (d : Direction) (a b c : Atom) → IsDirectionInRange d → IsAtomInRange a → IsAtomInRange b →
+    IsAtomInRange c → IsBaseInRange (base_of d a b c)
+IsBaseInRange-base_of Never a b c r ha hb hc = tt
+IsBaseInRange-base_of (Send chan atoms) a b c r ha hb hc = (r.0, IsMessageInRange-message_of atoms a b c ha hb hc)
+IsBaseInRange-base_of (Recv chan) a b c r ha hb hc = r
+IsBaseInRange-base_of (Always atoms) a b c r ha hb hc = IsMessageInRange-message_of atoms a b c ha hb hc
+IsBaseInRange-base_of (OnNack n) a b c r ha hb hc = r
+
+-- an offer that was put together from a head and three atoms
+pub record OfferParts (p : Option Head) (q r s : Option Atom) (o : Offer) : Type 0 where
+  pub head : Head
+  pub first : Atom
+  pub second : Atom
+  pub third : Atom
+  pub head_is : p ≡ Some head
+  pub first_is : q ≡ Some first
+  pub second_is : r ≡ Some second
+  pub third_is : s ≡ Some third
+  pub offer_is : o ≡ record { base = base_of head.direction first second third; scopes = head.scopes }
+
+offer_parts : (p : Option Head) (q r s : Option Atom) (o : Offer) →
+    option_and_then (λ h. option_and_then (λ a. option_and_then (λ b. option_and_then (λ c.
+    Some (record { base = base_of h.direction a b c; scopes = h.scopes })) s) r) q) p ≡ Some o → OfferParts p q r s o
+offer_parts None q r s o e = absurd (none-some o e)
+offer_parts (Some h) None r s o e = absurd (none-some o e)
+offer_parts (Some h) (Some a) None s o e = absurd (none-some o e)
+offer_parts (Some h) (Some a) (Some b) None o e = absurd (none-some o e)
+offer_parts (Some h) (Some a) (Some b) (Some c) o e =
+    record { head = h; first = a; second = b; third = c; head_is = refl; first_is = refl; second_is = refl; third_is = refl; offer_is = sym (same_Some _ _ e) }
+
+-- Words that stand for an offer stand for a head and three atoms.
+pub offer_of_parts : (w x y z : ℕ) (o : Offer) → offer_of w x y z ≡ Some o →
+    OfferParts (head_of w) (atom_of x) (atom_of y) (atom_of z) o
+unfolding offer_of
+offer_of_parts w x y z o e = offer_parts (head_of w) (atom_of x) (atom_of y) (atom_of z) o e
+
+pub IsOfferInRange-offer_of : (w x y z : ℕ) (o : Offer) → offer_of w x y z ≡ Some o → IsOfferInRange o
+IsOfferInRange-offer_of w x y z o e =
+    let p = offer_of_parts w x y z o e in
+    let h = (head_word-head_of w p.head p.head_is).0 in
+    let a = (atom_word-atom_of x p.first p.first_is).0 in
+    let b = (atom_word-atom_of y p.second p.second_is).0 in
+    let c = (atom_word-atom_of z p.third p.third_is).0 in
+    subst IsOfferInRange (sym p.offer_is)
+    (record { base = IsBaseInRange-base_of p.head.direction p.first p.second p.third h.direction a b c; scopes = h.scopes })
 
 -- THE PLACES
 

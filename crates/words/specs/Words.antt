@@ -1,5 +1,5 @@
 -- The words of the table: what each bit means, when a word is well-formed for its place, and what it stands for.
-use Rattle.std.specs.Prelude.{ℕ, ◌+◌, ◌*◌, ◌/◌, ◌%◌, ◌^◌, ◌<◌, ◌≤◌, Bool, true, ◌==◌, ◌&&◌, nat_le, if◌then◌else◌, Option, Some, None, IfSome, is_some, option_and_then, ◌-◌}
+use Rattle.std.specs.Prelude.{ℕ, ◌+◌, ◌*◌, ◌/◌, ◌%◌, ◌^◌, ◌<◌, ◌≤◌, Bool, true, ◌==◌, ◌&&◌, nat_le, if◌then◌else◌, Option, Some, None, List, [], ◌∷◌, IfSome, is_some, option_and_then, ◌-◌}
 use Rattle.words.specs.declared.NackName.{NackName}
 use Rattle.words.specs.declared.Atom.{Atom}
 use Rattle.words.specs.declared.Atom.TheVariants.{Num, Chan, Nack}
@@ -202,6 +202,72 @@ offer_of head first second third = do
   b ← atom_of second
   c ← atom_of third
   Some (record { base = base_of h.direction a b c; scopes = h.scopes })
+
+-- messages, base events and offers that the words have room for
+abbrev pub IsMessageInRange : Message → Type 0
+IsMessageInRange Empty = Unit {0}
+IsMessageInRange (One a) = IsAtomInRange a
+IsMessageInRange (Two a b) = IsAtomInRange a × IsAtomInRange b
+IsMessageInRange (Three a b c) = IsAtomInRange a × IsAtomInRange b × IsAtomInRange c
+
+abbrev pub IsBaseInRange : Base → Type 0
+IsBaseInRange (base.Send chan message) = (chan < 256) × IsMessageInRange message
+IsBaseInRange (base.Recv chan) = chan < 256
+IsBaseInRange (base.Always message) = IsMessageInRange message
+IsBaseInRange (base.OnNack n) = IsNackInRange n
+IsBaseInRange base.Never = Unit {0}
+
+pub record IsOfferInRange (o : Offer) : Type 0 where
+  pub base : IsBaseInRange o.base
+  pub scopes : o.scopes < 16
+
+abbrev pub atom_count : Message → ℕ
+atom_count Empty = 0
+atom_count (One a) = 1
+atom_count (Two a b) = 2
+atom_count (Three a b c) = 3
+
+-- the message of a base event, empty where it has none
+abbrev pub message_in : Base → Message
+message_in (base.Send chan message) = message
+message_in (base.Recv chan) = Empty
+message_in (base.Always message) = message
+message_in (base.OnNack n) = Empty
+message_in base.Never = Empty
+
+abbrev pub direction_in : Base → Direction
+direction_in (base.Send chan message) = Send chan (atom_count message)
+direction_in (base.Recv chan) = Recv chan
+direction_in (base.Always message) = Always (atom_count message)
+direction_in (base.OnNack n) = OnNack n
+direction_in base.Never = Never
+
+abbrev pub head_in : Offer → Head
+head_in o = record { direction = direction_in o.base; scopes = o.scopes }
+
+-- the words of a message's atoms, 0 past the last
+abbrev pub first_word : Message → ℕ
+first_word Empty = 0
+first_word (One a) = atom_word a
+first_word (Two a b) = atom_word a
+first_word (Three a b c) = atom_word a
+
+abbrev pub second_word : Message → ℕ
+second_word Empty = 0
+second_word (One a) = 0
+second_word (Two a b) = atom_word b
+second_word (Three a b c) = atom_word b
+
+abbrev pub third_word : Message → ℕ
+third_word Empty = 0
+third_word (One a) = 0
+third_word (Two a b) = 0
+third_word (Three a b c) = atom_word c
+
+-- the four words of an offer: the head, and the three atoms
+abbrev pub offer_words : Offer → List ℕ
+offer_words o =
+    head_word (head_in o) ∷ first_word (message_in o.base) ∷ second_word (message_in o.base) ∷ third_word (message_in o.base) ∷ []
 
 -- THE PLACES of a row: 0 the cell, 1 the number of offers, 2 + 4n the head of offer n, 3 + 4n to 5 + 4n its atoms.
 

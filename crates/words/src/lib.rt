@@ -3,7 +3,10 @@
 
 mod packing;
 
-pub use packing::{pack_cell, unpack_cell};
+pub use packing::{
+    is_word_for, pack_atom, pack_cell, pack_count, pack_head, pack_nack, pack_offer, unpack_atom,
+    unpack_cell, unpack_count, unpack_head, unpack_nack, unpack_offer,
+};
 
 /// A nack by its thread and its number in that thread, each 0 to 63.
 #[derive(Clone, Copy, Debug, PartialEq, Eq)]

@@ -1,6 +1,5 @@
-use Rattle.std.proofs.Common.{◌≡◌, Option, Some, None, arith}
+use Rattle.std.proofs.Common.{Some, None, arith}
 use Rattle.std.proofs.lemmas.Grind.{common_steps}
-use Rattle.words.specs.declared.Cell.{Cell}
 use Rattle.words.specs.Words.{cell_of}
 use Rattle.words.proofs.WordLemmas.{cell_of_only}
 use Rattle.words.proofs.packing.unpack_cell.Goals as goal
