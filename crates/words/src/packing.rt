@@ -1,6 +1,6 @@
 //! The words of the table: values packed into words of 64 bits, and words unpacked again. Which
 //! bit stands for what is at the head of each section of the crate's definitions of words.
-ghost use Rattle.std.specs.Prelude.{ℕ, ◌≡◌, ◌+◌, ◌*◌, ◌/◌, ◌%◌, ◌^◌, ◌<◌, ◌≤◌, true, IfSome, Option, List, [], ◌∷◌, slice_index};
+ghost use Rattle.std.specs.Prelude.{ℕ, ◌≡◌, ◌^◌, ◌<◌, ◌≤◌, IfSome, Option, List, [], ◌∷◌, slice_index};
 ghost use Rattle.words.specs.declared.Atom.{Atom};
 ghost use Rattle.words.specs.declared.Binding.{Binding};
 ghost use Rattle.words.specs.declared.Cell.{Cell};
@@ -88,8 +88,8 @@ fn joined_bits(joined: Joined) -> u64
         + u64::from(joined.stamp) * (1 << 26)
 }
 
+/// The word of a cell: threads 0 to 63, syncs 0 to 1023, offers 0 to 7, and the stamp from 1 on.
 #[tactic(auto, unfolding(crate::specs::Words::cell_word))]
-/// The word of a cell: rows, offers and the stamp in the ranges that the format has room for.
 pub fn pack_cell(cell: Cell) -> u64
     requires { IsCellInRange cell }
     ensures { result ≡ cell_word cell }
@@ -148,8 +148,8 @@ fn has_stamp(cell: Cell) -> bool
     }
 }
 
-#[tactic(auto, unfolding(crate::specs::Words::cell_of))]
 /// The cell of a word, or none where the word is no cell's.
+#[tactic(auto, unfolding(crate::specs::Words::cell_of))]
 pub fn unpack_cell(word: u64) -> Option<Cell>
     ensures value { result ≡ cell_of word }
     ensures sound { IfSome result (λ c. IsCellInRange c × (word ≡ cell_word c)) }
@@ -474,3 +474,6 @@ pub fn is_word_for(place: u8, word: u64) -> bool
         _ => unpack_atom(word).is_some(),
     }
 }
+
+#[cfg(test)]
+mod tests;
