@@ -521,14 +521,14 @@ offer_parts (Some h) (Some a) (Some b) (Some c) o e =
     record { head = h; first = a; second = b; third = c; head_is = refl; first_is = refl; second_is = refl; third_is = refl; offer_is = sym (same_Some _ _ e) }
 
 -- Words that stand for an offer stand for a head and three atoms.
-pub offer_of_parts : (w x y z : ℕ) (o : Offer) → offer_of w x y z ≡ Some o →
+pub parts_of_offer : (w x y z : ℕ) (o : Offer) → offer_of w x y z ≡ Some o →
     OfferParts (head_of w) (atom_of x) (atom_of y) (atom_of z) o
 unfolding offer_of
-offer_of_parts w x y z o e = offer_parts (head_of w) (atom_of x) (atom_of y) (atom_of z) o e
+parts_of_offer w x y z o e = offer_parts (head_of w) (atom_of x) (atom_of y) (atom_of z) o e
 
 pub IsOfferInRange-offer_of : (w x y z : ℕ) (o : Offer) → offer_of w x y z ≡ Some o → IsOfferInRange o
 IsOfferInRange-offer_of w x y z o e =
-    let p = offer_of_parts w x y z o e in
+    let p = parts_of_offer w x y z o e in
     let h = (head_word-head_of w p.head p.head_is).0 in
     let a = (atom_word-atom_of x p.first p.first_is).0 in
     let b = (atom_word-atom_of y p.second p.second_is).0 in
@@ -609,9 +609,12 @@ word-lt place w h =
   where
     cell : is_some (cell_of w) ≡ true → w < 2 ^ 58
     cell e = let c = some_value (cell_of w) e in let l = cell_word-cell_of w c.0 c.1 in omega (arith, l.1, cell_word-lt c.0 l.0)
+
     count : is_some (count_of w) ≡ true → w < 2 ^ 58
     count e = let c = some_value (count_of w) e in let l = count-count_of w c.0 c.1 in omega (arith, l.1, l.0)
+
     head : is_some (head_of w) ≡ true → w < 2 ^ 58
     head e = let c = some_value (head_of w) e in let l = head_word-head_of w c.0 c.1 in omega (arith, l.1, head_word-lt c.0 l.0)
+
     atom : is_some (atom_of w) ≡ true → w < 2 ^ 58
     atom e = let c = some_value (atom_of w) e in let l = atom_word-atom_of w c.0 c.1 in omega (arith, l.1, atom_word-lt c.0 l.0)
