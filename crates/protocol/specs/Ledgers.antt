@@ -1,0 +1,253 @@
+-- Ledgers: the commits that a table's words name, and when they are lawful.
+use Rattle.std.specs.Prelude.{zero, suc, ◌⊎◌, ◌/◌, ◌%◌, ◌==◌, ◌^◌, AllPairs, ◌≡◌, ℕ, ◌+◌, ◌*◌, ◌<◌, ◌≤◌, ◌≢◌, Bool, true, false, ◌||◌, ◌&&◌, nat_lt, if◌then◌else◌, Option, Some, None, is_some, is_none, option_to_list, List, [], ◌∷◌, ◌++◌, map, max, length, count_by, slice_index_or, Contains}
+use Rattle.std.specs.List.{range_with_len, flat_map}
+use Rattle.words.specs.declared.NackName.{NackName}
+use Rattle.words.specs.declared.Base.{Base}
+use Rattle.words.specs.declared.Base.TheVariants.{Send, Recv, Always, OnNack, Never}
+use Rattle.words.specs.declared.Offer.{Offer}
+use Rattle.words.specs.declared.Row.{Row}
+use Rattle.words.specs.declared.Joined.{Joined}
+use Rattle.words.specs.declared.Binding.{Binding}
+use Rattle.words.specs.declared.Cause.{Cause}
+use Rattle.words.specs.declared.Cause.TheVariants as cause
+use Rattle.words.specs.declared.Commit.{Commit}
+use Rattle.words.specs.declared.Commit.TheVariants.{Pair, Alone}
+use Rattle.protocol.specs.Tables.{Table, all_rows, number_of, joined_at, count_at, offer_at, binding_at, is_row, is_nack, names, namer_of}
+
+-- What a ledger has of a row: its offers, once it is opened, and how it is committed.
+pub record Entry : Type 0 where
+  pub offers : List (Option Offer)
+  pub joined : Option Joined
+
+-- A ledger: the entry of each row, one row after another, and what each nack is bound to, thread by thread.
+pub record Ledger : Type 0 where
+  pub threads : ℕ
+  pub rows : ℕ
+  pub entries : List Entry
+  pub nacks : List (Option Binding)
+
+-- the ledger of a table's words
+abbrev pub entry_at : Table → Row → Entry
+entry_at t r = record { offers = map (offer_at t r) (range_with_len 0 (count_at t r)); joined = joined_at t r }
+
+abbrev pub nacks_below : ℕ → ℕ → List NackName
+nacks_below thread k = map (λ k. record { thread = thread; k = k }) (range_with_len 0 k)
+
+abbrev pub all_nacks : ℕ → List NackName
+all_nacks zero = []
+all_nacks (suc thread) = all_nacks thread ++ nacks_below thread 64
+
+unfoldable pub ledger_of : Table → Ledger
+ledger_of t = record {
+    threads = t.threads;
+    rows = t.rows;
+    entries = map (entry_at t) (all_rows t.threads t.rows);
+    nacks = map (binding_at t) (all_nacks t.threads);
+  }
+
+-- READING A LEDGER
+
+abbrev pub has_row : Ledger → Row → Bool
+has_row l r = nat_lt r.thread l.threads && nat_lt r.sync l.rows
+
+abbrev pub no_entry : Entry
+no_entry = record { offers = []; joined = None }
+
+abbrev pub entry_in : Ledger → Row → Entry
+entry_in l r = if has_row l r then slice_index_or l.entries (number_of l.rows r) no_entry else no_entry
+
+-- how a row is committed, offer n of an opened row, and what a nack is bound to
+unfoldable pub joined_in : Ledger → Row → Option Joined
+joined_in l r = (entry_in l r).joined
+
+unfoldable pub offer_in : Ledger → Row → ℕ → Option Offer
+offer_in l r n = slice_index_or (entry_in l r).offers n None
+
+unfoldable pub binding_in : Ledger → NackName → Option Binding
+binding_in l n =
+    if nat_lt n.thread l.threads && nat_lt n.k 64 then slice_index_or l.nacks (n.thread * 64 + n.k) None else None
+
+abbrev pub rows_in : Ledger → List Row
+rows_in l = all_rows l.threads l.rows
+
+-- THE COMMITS, of rows that are committed as `joined` says and offer what `offer` says
+
+-- a commit that stands alone: its offer is an always or a nack
+abbrev pub alone_by : Row → Joined → Base → Option Commit
+alone_by r j (Always m) = Some (Alone (r, j.own) (cause.Always m) j.stamp)
+alone_by r j (OnNack n) = Some (Alone (r, j.own) (cause.Nack n) j.stamp)
+alone_by r j (Send c m) = None
+alone_by r j (Recv c) = None
+alone_by r j Never = None
+
+-- a pair, seen from the row that receives: the message is the one that the partner's offer sends
+abbrev pub received_by : Row → Joined → Row × ℕ → Base → Option Commit
+received_by r j p (Send c m) = Some (Pair p (r, j.own) c m j.stamp)
+received_by r j p (Recv c) = None
+received_by r j p (Always m) = None
+received_by r j p (OnNack n) = None
+received_by r j p Never = None
+
+-- a pair, seen from either row
+abbrev pub pair_by : Row → Joined → Row × ℕ → Base → Option Offer → Option Commit
+pair_by r j p (Send c m) other = Some (Pair (r, j.own) p c m j.stamp)
+pair_by r j p (Recv c) None = None
+pair_by r j p (Recv c) (Some other) = received_by r j p other.base
+pair_by r j p (Always m) other = None
+pair_by r j p (OnNack n) other = None
+pair_by r j p Never other = None
+
+-- the commit of row r, joined as j, by what it offered
+abbrev pub commit_by : (Row → ℕ → Option Offer) → Row → Joined → Option (Row × ℕ) → Option Offer → Option Commit
+commit_by offer r j partner None = None
+commit_by offer r j None (Some own) = alone_by r j own.base
+commit_by offer r j (Some p) (Some own) = pair_by r j p own.base (offer p.0 p.1)
+
+unfoldable pub commit_named : (Row → ℕ → Option Offer) → Row → Joined → Option Commit
+commit_named offer r j = commit_by offer r j j.partner (offer r j.own)
+
+-- a commit of the ledger: a committed row names it
+pub record IsIn (joined : Row → Option Joined) (offer : Row → ℕ → Option Offer) (c : Commit) : Type 0 where
+  pub row : Row
+  pub way : Joined
+  pub is_joined : joined row ≡ Some way
+  pub is_named : commit_named offer row way ≡ Some c
+
+abbrev pub sends : Base → Bool
+sends (Send c m) = true
+sends (Recv c) = false
+sends (Always m) = false
+sends (OnNack n) = false
+sends Never = false
+
+-- each commit once: a pair is told by its sender, or by its receiver while the sender is not joined yet
+abbrev pub is_send : Option Offer → Bool
+is_send None = false
+is_send (Some o) = sends o.base
+
+abbrev pub tells : (Row → Option Joined) → Option Offer → Option (Row × ℕ) → Bool
+tells joined own None = true
+tells joined own (Some p) = is_send own || is_none (joined p.0)
+
+abbrev pub told_by : (Row → Option Joined) → (Row → ℕ → Option Offer) → Row → Option Joined → Option Commit
+told_by joined offer r None = None
+told_by joined offer r (Some j) =
+    if tells joined (offer r j.own) j.partner then commit_named offer r j else None
+
+unfoldable pub told_at : (Row → Option Joined) → (Row → ℕ → Option Offer) → Row → Option Commit
+told_at joined offer r = told_by joined offer r (joined r)
+
+abbrev pub commits_of : List Row → (Row → Option Joined) → (Row → ℕ → Option Offer) → List Commit
+commits_of rows joined offer = flat_map (λ r. option_to_list (told_at joined offer r)) rows
+
+-- pairs of which one row is joined and the other is not sealed yet
+abbrev pub awaits : (Row → Option Joined) → Option (Row × ℕ) → Bool
+awaits joined None = false
+awaits joined (Some p) = is_none (joined p.0)
+
+abbrev pub is_pending : (Row → Option Joined) → Option Joined → Bool
+is_pending joined None = false
+is_pending joined (Some j) = awaits joined j.partner
+
+unfoldable pub pending_of : List Row → (Row → Option Joined) → ℕ
+pending_of rows joined = count_by (λ r. is_pending joined (joined r)) rows
+
+-- WHEN A LEDGER IS LAWFUL
+
+-- the commit takes offer n of row r
+abbrev pub Takes : Commit → Row → ℕ → Type 0
+Takes (Pair sender receiver c m s) r n = (sender ≡ (r, n)) ⊎ (receiver ≡ (r, n))
+Takes (Alone at k s) r n = at ≡ (r, n)
+
+abbrev pub Involves : Commit → Row → Type 0
+Involves c r = (n : ℕ) × Takes c r n
+
+abbrev pub stamp_in : Commit → ℕ
+stamp_in (Pair sender receiver c m s) = s
+stamp_in (Alone at k s) = s
+
+abbrev pub Offers : (Row → ℕ → Option Offer) → Row × ℕ → Base → Type 0
+Offers offer at b = (o : Offer) × (offer at.0 at.1 ≡ Some o) × (o.base ≡ b)
+
+-- bit k of a mask of scopes
+abbrev pub has_scope : ℕ → ℕ → Bool
+has_scope scopes k = scopes / 2 ^ k % 2 == 1
+
+-- nack n is bound to a row that is itself in a commit, which took an offer outside the nack's scope
+pub record IsEnabled (joined : Row → Option Joined) (offer : Row → ℕ → Option Offer) (bound : NackName → Option Binding) (n : NackName) : Type 0 where
+  pub binding : Binding
+  pub is_bound : bound n ≡ Some binding
+  pub commit : Commit
+  pub inside : IsIn joined offer commit
+  pub chosen : ℕ
+  pub takes : Takes commit (record { thread = n.thread; sync = binding.sync }) chosen
+  pub outside : (o : Offer) → offer (record { thread = n.thread; sync = binding.sync }) chosen ≡ Some o → has_scope o.scopes binding.scope ≡ false
+
+-- what was offered fits the commit
+abbrev pub IsCaused : (Row → Option Joined) → (Row → ℕ → Option Offer) → (NackName → Option Binding) → Row × ℕ → Cause → Type 0
+IsCaused joined offer bound at (cause.Always m) = Offers offer at (Always m)
+IsCaused joined offer bound at (cause.Nack n) = Offers offer at (OnNack n) × IsEnabled joined offer bound n
+
+abbrev pub Fits : (Row → Option Joined) → (Row → ℕ → Option Offer) → (NackName → Option Binding) → Commit → Type 0
+Fits joined offer bound (Pair sender receiver c m s) =
+    (sender.0.thread ≢ receiver.0.thread) × Offers offer sender (Send c m) × Offers offer receiver (Recv c)
+Fits joined offer bound (Alone at k s) = IsCaused joined offer bound at k
+
+-- commit d has an earlier row of one of the threads of c
+abbrev pub IsEarlier : Commit → Commit → Type 0
+IsEarlier d c = (thread g h : ℕ) × (h < g) × Involves d (record { thread = thread; sync = h }) × Involves c (record { thread = thread; sync = g })
+
+-- commit d enabled the nack for which c stands alone
+abbrev pub CausedBy : (NackName → Option Binding) → Commit → Cause → Type 0
+CausedBy bound d (cause.Always m) = ⊥
+CausedBy bound d (cause.Nack n) = (b : Binding) × (bound n ≡ Some b) × Involves d (record { thread = n.thread; sync = b.sync })
+
+abbrev pub Enables : (NackName → Option Binding) → Commit → Commit → Type 0
+Enables bound d (Pair sender receiver c m s) = ⊥
+Enables bound d (Alone at k s) = CausedBy bound d k
+
+abbrev pub CountsFor : (NackName → Option Binding) → Commit → Commit → Type 0
+CountsFor bound d c = IsEarlier d c ⊎ Enables bound d c
+
+-- The stamp is one more than the greatest stamp of the commits that count for it, where a missing one counts 0.
+pub record IsStampDue (joined : Row → Option Joined) (offer : Row → ℕ → Option Offer) (bound : NackName → Option Binding) (c : Commit) : Type 0 where
+  pub above : (d : Commit) → IsIn joined offer d → CountsFor bound d c → stamp_in d < stamp_in c
+  pub next : (stamp_in c ≡ 1) ⊎ ((d : Commit) × IsIn joined offer d × CountsFor bound d c × (stamp_in c ≡ stamp_in d + 1))
+
+pub record Lawful (rows : List Row) (joined : Row → Option Joined) (offer : Row → ℕ → Option Offer) (bound : NackName → Option Binding) : Type 0 where
+  -- a committed row names a commit
+  pub named : (r : Row) (j : Joined) → joined r ≡ Some j → is_some (commit_named offer r j) ≡ true
+  -- no row is in two commits
+  pub once : (r : Row) (c d : Commit) → IsIn joined offer c → IsIn joined offer d → Involves c r → Involves d r → c ≡ d
+  -- a pair is a send and a receive of two threads on one channel, and a commit alone is an always or an enabled nack
+  pub fits : (c : Commit) → IsIn joined offer c → Fits joined offer bound c
+  -- where a row is in a commit, so are the earlier rows of its thread
+  pub in_turn : (c : Commit) (thread g h : ℕ) → IsIn joined offer c → Involves c (record { thread = thread; sync = g }) → h < g → (d : Commit) × IsIn joined offer d × Involves d (record { thread = thread; sync = h })
+  pub stamps : (c : Commit) → IsIn joined offer c → IsStampDue joined offer bound c
+  -- no stamp exceeds the number of commits
+  pub bounded : (c : Commit) → IsIn joined offer c → stamp_in c ≤ length (commits_of rows joined offer)
+
+abbrev pub IsLawful : Ledger → Type 0
+IsLawful l = Lawful (rows_in l) (joined_in l) (offer_in l) (binding_in l)
+
+-- a commit of a ledger, and all of them
+abbrev pub HasCommit : Ledger → Commit → Type 0
+HasCommit l c = IsIn (joined_in l) (offer_in l) c
+
+abbrev pub commits_in : Ledger → List Commit
+commits_in l = commits_of (rows_in l) (joined_in l) (offer_in l)
+
+abbrev pub pending_in : Ledger → ℕ
+pending_in l = pending_of (rows_in l) (joined_in l)
+
+-- THE JOURNAL'S ORDER: by stamp, and then by the thread named first
+
+abbrev pub first_thread : Commit → ℕ
+first_thread (Pair sender receiver c m s) = sender.0.thread
+first_thread (Alone at k s) = at.0.thread
+
+abbrev pub ComesBefore : Commit → Commit → Type 0
+ComesBefore c d = (stamp_in c < stamp_in d) ⊎ ((stamp_in c ≡ stamp_in d) × (first_thread c ≤ first_thread d))
+
+abbrev pub IsInOrder : List Commit → Type 0
+IsInOrder cs = AllPairs ComesBefore cs

@@ -1,0 +1,132 @@
+-- The table of words: where each word lies, and what a row or a nack reads as.
+use Rattle.std.specs.Prelude.{ℕ, zero, suc, ◌+◌, ◌-◌, ◌*◌, Bool, true, false, ◌==◌, ◌&&◌, nat_lt, if◌then◌else◌, Option, Some, None, is_some, unwrap_or, List, [], ◌∷◌, ◌++◌, find, max, slice_index, slice_set}
+use Rattle.words.specs.Words.{cell_of, cell_word, count_of, offer_of, nack_of}
+use Rattle.words.specs.declared.NackName.{NackName}
+use Rattle.words.specs.declared.Offer.{Offer}
+use Rattle.words.specs.declared.Base.{Base}
+use Rattle.words.specs.declared.Base.TheVariants.{Send, Recv, Always, OnNack, Never}
+use Rattle.words.specs.declared.Row.{Row}
+use Rattle.words.specs.declared.Joined.{Joined}
+use Rattle.words.specs.declared.Cell.{Cell}
+use Rattle.words.specs.declared.Cell.TheVariants.{Fresh, Waiting, Claimed, Synched, Taken}
+use Rattle.words.specs.declared.Binding.{Binding}
+
+-- The words lie thread by thread: a thread's rows first, 34 words each, then its 64 nack words.
+pub record Table : Type 0 where
+  pub threads : ℕ
+  pub rows : ℕ
+  pub words : List ℕ
+
+-- how many words a thread has
+abbrev pub thread_len : ℕ → ℕ
+thread_len rows = rows * 34 + 64
+
+-- where the word of a row at a place lies
+abbrev pub place_of : ℕ → Row → ℕ → ℕ
+place_of rows r place = r.thread * thread_len rows + r.sync * 34 + place
+
+-- where the word of a nack lies
+abbrev pub nack_place : ℕ → NackName → ℕ
+nack_place rows n = n.thread * thread_len rows + rows * 34 + n.k
+
+-- rows, one after another: those of a thread below a sync, and those of all threads below a thread
+abbrev pub rows_below : ℕ → ℕ → List Row
+rows_below thread zero = []
+rows_below thread (suc sync) = rows_below thread sync ++ record { thread = thread; sync = sync } ∷ []
+
+abbrev pub all_rows : ℕ → ℕ → List Row
+all_rows zero rows = []
+all_rows (suc thread) rows = all_rows thread rows ++ rows_below thread rows
+
+-- the row's place among all rows
+abbrev pub number_of : ℕ → Row → ℕ
+number_of rows r = r.thread * rows + r.sync
+
+abbrev pub row_eq : Row → Row → Bool
+row_eq r s = (r.thread == s.thread) && (r.sync == s.sync)
+
+-- whether the table has the row, or the nack
+unfoldable pub is_row : Table → Row → Bool
+is_row t r = nat_lt r.thread t.threads && nat_lt r.sync t.rows
+
+unfoldable pub is_nack : Table → NackName → Bool
+is_nack t n = nat_lt n.thread t.threads && nat_lt n.k 64
+
+-- the word of a row at a place, and of a nack
+unfoldable pub word_at : Table → Row → ℕ → ℕ
+word_at t r place = slice_index t.words (place_of t.rows r place)
+
+unfoldable pub nack_at : Table → NackName → ℕ
+nack_at t n = slice_index t.words (nack_place t.rows n)
+
+-- the row's cell; a row that the table has not is Fresh for good
+unfoldable pub cell_at : Table → Row → Cell
+cell_at t r = if is_row t r then unwrap_or (cell_of (word_at t r 0)) Fresh else Fresh
+
+abbrev pub is_fresh : Cell → Bool
+is_fresh Fresh = true
+is_fresh Waiting = false
+is_fresh Claimed = false
+is_fresh (Synched j) = false
+is_fresh (Taken j) = false
+
+-- how a committed row was committed
+abbrev pub joined_of : Cell → Option Joined
+joined_of Fresh = None
+joined_of Waiting = None
+joined_of Claimed = None
+joined_of (Synched j) = Some j
+joined_of (Taken j) = Some j
+
+-- how many offers an opened row has
+unfoldable pub count_at : Table → Row → ℕ
+count_at t r = if is_fresh (cell_at t r) then 0 else unwrap_or (count_of (word_at t r 1)) 0
+
+-- offer n of an opened row
+unfoldable pub offer_at : Table → Row → ℕ → Option Offer
+offer_at t r n =
+    if nat_lt n (count_at t r)
+    then offer_of (word_at t r (2 + 4 * n)) (word_at t r (3 + 4 * n)) (word_at t r (4 + 4 * n)) (word_at t r (5 + 4 * n))
+    else None
+
+-- the sync and the scope to which a nack is bound
+unfoldable pub binding_at : Table → NackName → Option Binding
+binding_at t n = if is_nack t n then unwrap_or (nack_of (nack_at t n)) None else None
+
+-- a send and a receive on one channel
+abbrev pub bases_meet : Base → Base → Bool
+bases_meet (Send c m) (Recv d) = c == d
+bases_meet (Recv c) (Send d m) = c == d
+bases_meet a b = false
+
+abbrev pub offers_meet : Option Offer → Option Offer → Bool
+offers_meet (Some a) (Some b) = bases_meet a.base b.base
+offers_meet (Some a) None = false
+offers_meet None b = false
+
+-- whether a row's way of being committed names this row as its partner
+abbrev pub is_partner : Option (Row × ℕ) → Row → Bool
+is_partner None r = false
+is_partner (Some p) r = row_eq p.0 r
+
+abbrev pub names : Option Joined → Row → Bool
+names None r = false
+names (Some j) r = is_partner j.partner r
+
+-- the row that is committed with this one as its partner
+abbrev pub namer_of : List Row → (Row → Option Joined) → Row → Option Row
+namer_of rows joined r = find (λ q. names (joined q) r) rows
+
+-- the stamp of a committed row, and 0 where it is not
+abbrev pub stamp_of : Option Joined → ℕ
+stamp_of None = 0
+stamp_of (Some j) = j.stamp
+
+-- the stamp of the row before this one in its thread, and 0 where there is none
+abbrev pub last_stamp : (Row → Option Joined) → Row → ℕ
+last_stamp joined r =
+    if r.sync == 0 then 0 else stamp_of (joined (record { thread = r.thread; sync = r.sync - 1 }))
+
+-- how the rows of a table are committed
+abbrev pub joined_at : Table → Row → Option Joined
+joined_at t r = joined_of (cell_at t r)

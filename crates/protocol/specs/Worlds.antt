@@ -1,0 +1,122 @@
+-- Worlds: who holds which row, each step's condition and effect, and whole schedules.
+use Rattle.std.specs.Prelude.{◌≡◌, ℕ, ◌+◌, ◌*◌, ◌%◌, ◌<◌, ◌≤◌, ◌≢◌, true, false, ◌==◌, if◌then◌else◌, Option, Some, None, is_some, List, [], ◌∷◌, map, max, replicate, slice_index_or, slice_set}
+use Rattle.words.specs.Words.{cell_word, is_word_for}
+use Rattle.words.specs.declared.Row.{Row}
+use Rattle.words.specs.declared.Joined.{Joined}
+use Rattle.words.specs.declared.Cell.{Cell}
+use Rattle.words.specs.declared.Cell.TheVariants.{Fresh, Waiting, Claimed, Synched}
+use Rattle.words.specs.declared.Seat.{Seat}
+use Rattle.words.specs.declared.Step.{Step}
+use Rattle.words.specs.declared.Step.TheVariants.{Draft, Open, Look, Read, Claim, Yield, Join, Seal}
+use Rattle.protocol.specs.Tables.{Table, thread_len, place_of, number_of, all_rows, is_row, cell_at, is_fresh, offer_at, offers_meet, joined_at, namer_of, last_stamp}
+
+-- The words, and for each row, one after another, the seat that holds it.
+pub record World : Type 0 where
+  pub table : Table
+  pub seats : ℕ
+  pub holders : List (Option ℕ)
+
+-- the holders at the start: row 0 of thread t is held by seat t mod seats, and no other row is held
+abbrev pub first_holder : ℕ → Row → Option ℕ
+first_holder seats r = if r.sync == 0 then Some (r.thread % seats) else None
+
+-- all rows Fresh, no nack bound
+unfoldable pub start_world : ℕ → ℕ → ℕ → World
+start_world threads rows seats = record {
+    table = record { threads = threads; rows = rows; words = replicate (threads * thread_len rows) 0 };
+    seats = seats;
+    holders = map (first_holder seats) (all_rows threads rows);
+  }
+
+unfoldable pub holder_at : World → Row → Option ℕ
+holder_at w r = if is_row w.table r then slice_index_or w.holders (number_of w.table.rows r) None else None
+
+abbrev pub Holds : World → Seat → Row → Type 0
+Holds w seat r = holder_at w r ≡ Some seat.0
+
+abbrev pub world_cell : World → Row → Cell
+world_cell w r = cell_at w.table r
+
+-- whether some committed row names this one as its partner. A claimed row that is named is pending
+abbrev pub namer_at : World → Row → Option Row
+namer_at w r = namer_of (all_rows w.table.threads w.table.rows) (joined_at w.table) r
+
+-- WHEN A STEP MAY BE MADE, by a seat that there is
+abbrev pub Condition : World → Seat → Step → Type 0
+Condition w seat (Draft row place value) =
+    Holds w seat row × (world_cell w row ≡ Fresh) × (1 ≤ place) × (place ≤ 33) × (is_word_for place value ≡ true)
+Condition w seat (Open row) = Holds w seat row × (world_cell w row ≡ Fresh)
+Condition w seat (Look row) = is_row w.table row ≡ true
+Condition w seat (Read row place) = (world_cell w row ≢ Fresh) × (1 ≤ place) × (place ≤ 33)
+Condition w seat (Claim row) = Holds w seat row × (world_cell w row ≡ Waiting)
+Condition w seat (Yield row) = Holds w seat row × (world_cell w row ≡ Claimed) × (namer_at w row ≡ None)
+Condition w seat (Join mine own other partner) =
+    Holds w seat mine
+    × (world_cell w mine ≡ Claimed)
+    × (namer_at w mine ≡ None)
+    × (world_cell w other ≡ Waiting)
+    × (mine.thread ≢ other.thread)
+    × (offers_meet (offer_at w.table mine own) (offer_at w.table other partner) ≡ true)
+Condition w seat (Seal row) = Holds w seat row × (world_cell w row ≡ Claimed) × (is_some (namer_at w row) ≡ true)
+
+abbrev pub Allowed : World → Seat → Step → Type 0
+Allowed w seat step = (seat.0 < w.seats) × Condition w seat step
+
+-- WHAT A STEP DOES
+
+abbrev pub with_word : Table → Row → ℕ → ℕ → Table
+with_word t r place value =
+    record { threads = t.threads; rows = t.rows; words = slice_set t.words (place_of t.rows r place) value }
+
+unfoldable pub with_cell : Table → Row → Cell → Table
+with_cell t r cell = with_word t r 0 (cell_word cell)
+
+abbrev pub with_table : World → Table → World
+with_table w t = record { table = t; seats = w.seats; holders = w.holders }
+
+-- the other row's side of a join: its own offer, the row that joins it with its offer, and the stamp, one more than
+-- the greater last stamp of the two rows
+unfoldable pub joined_with : Table → Row → ℕ → Row → ℕ → Joined
+joined_with t mine own other partner =
+    record {
+      own = partner;
+      partner = Some (mine, own);
+      stamp = 1 + max (last_stamp (joined_at t) mine) (last_stamp (joined_at t) other);
+    }
+
+-- a joined row as its partner sees it: row q, joined as j with offer n of the partner
+abbrev pub mirrored : Row → Joined → ℕ → Joined
+mirrored q j n = record { own = n; partner = Some (q, j.own); stamp = j.stamp }
+
+abbrev pub other_side : Row → Joined → Option (Row × ℕ) → Option Joined
+other_side q j None = None
+other_side q j (Some p) = Some (mirrored q j p.1)
+
+abbrev pub side_of : Row → Option Joined → Option Joined
+side_of q None = None
+side_of q (Some j) = other_side q j j.partner
+
+-- how a pending row is committed: as the row that names it says, from the other side
+abbrev pub sealed_by : Table → Option Row → Option Joined
+sealed_by t None = None
+sealed_by t (Some q) = side_of q (joined_at t q)
+
+abbrev pub with_seal : Table → Row → Option Joined → Table
+with_seal t r None = t
+with_seal t r (Some j) = with_cell t r (Synched j)
+
+abbrev pub after_step : World → Seat → Step → World
+after_step w seat (Draft row place value) = with_table w (with_word w.table row place value)
+after_step w seat (Open row) = with_table w (with_cell w.table row Waiting)
+after_step w seat (Look row) = w
+after_step w seat (Read row place) = w
+after_step w seat (Claim row) = with_table w (with_cell w.table row Claimed)
+after_step w seat (Yield row) = with_table w (with_cell w.table row Waiting)
+after_step w seat (Join mine own other partner) =
+    with_table w (with_cell w.table other (Synched (joined_with w.table mine own other partner)))
+after_step w seat (Seal row) = with_table w (with_seal w.table row (sealed_by w.table (namer_at w row)))
+
+-- A schedule: each step is allowed in turn, and leads on.
+abbrev pub Plays : World → List (Seat × Step) → World → Type 0
+Plays w [] v = v ≡ w
+Plays w (s ∷ ss) v = Allowed w s.0 s.1 × Plays (after_step w s.0 s.1) ss v
