@@ -2,10 +2,12 @@
 
 ghost use Rattle.protocol.specs.Ledgers.{ledger_of, IsLawful};
 ghost use Rattle.protocol.specs.Worlds.{Plays, start_world, World};
-ghost use Rattle.std.specs.Prelude.{◌≡◌, ℕ, []};
+ghost use Rattle.words.specs.declared.Step.{Step};
+ghost use Rattle.words.specs.declared.Seat.{Seat};
+ghost use Rattle.std.specs.Prelude.{◌≡◌, ℕ, ◌≤◌, List};
 
-pub fn f(x: u8) -> u8
-    ensures { (threads rows seats : ℕ) (w : World) → Plays (start_world threads rows seats) [] w → IsLawful (ledger_of w.table) → result ≡ x }
+/// Whatever steps are allowed in turn, from any start, the ledger of the words is lawful.
+pub fn every_schedule_is_lawful()
+    ensures { (threads rows seats : ℕ) (steps : List (Seat × Step)) (w : World) → threads ≤ 64 → rows ≤ 1024 → Plays (start_world threads rows seats) steps w → IsLawful (ledger_of w.table) }
 {
-    x
 }
