@@ -1,1 +1,4 @@
 pub mod RowLemmas
+pub mod Linking
+pub mod StepLemmas
+pub mod Lawfulness

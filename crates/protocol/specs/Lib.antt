@@ -2,3 +2,4 @@ pub use Rattle.words.specs.Words
 pub mod Tables
 pub mod Worlds
 pub mod Ledgers
+pub mod Kept

@@ -1,5 +1,7 @@
-use Rattle.protocol.proofs.RowLemmas.{once_all}
+use Rattle.protocol.proofs.StepLemmas.{linked_seal}
+use Rattle.protocol.proofs.Lawfulness.{lawful_linked}
+use Rattle.protocol.specs.Kept.{Kept}
 use Rattle.protocol.proofs.every_schedule_is_lawful.Goals as goal
 
 pub returns : goal.returns
-returns c = let h = once_all in ?
+returns c = let h = linked_seal in let k = Kept in let l = lawful_linked in ?

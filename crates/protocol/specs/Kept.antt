@@ -1,0 +1,50 @@
+-- What all steps keep. The laws of ledgers follow from it.
+use Rattle.std.specs.Prelude.{◌≡◌, ◌≢◌, ℕ, ◌+◌, ◌*◌, ◌<◌, ◌≤◌, ◌⊎◌, Bool, true, false, Option, Some, None, is_some, List, length, max}
+use Rattle.words.specs.Words.{is_word_for, nack_of}
+use Rattle.words.specs.declared.NackName.{NackName}
+use Rattle.words.specs.declared.Offer.{Offer}
+use Rattle.words.specs.declared.Row.{Row}
+use Rattle.words.specs.declared.Joined.{Joined}
+use Rattle.words.specs.declared.Cell.{Cell}
+use Rattle.words.specs.declared.Cell.TheVariants.{Claimed}
+use Rattle.protocol.specs.Tables.{Table, thread_len, all_rows, is_row, is_nack, word_at, nack_at, cell_at, offer_at, is_fresh, joined_of, names, offers_meet, last_stamp}
+use Rattle.protocol.specs.Worlds.{World, holder_at, mirrored}
+use Rattle.protocol.specs.Ledgers.{commits_of}
+
+abbrev pub joined_by : (Row → Cell) → Row → Option Joined
+joined_by cell r = joined_of (cell r)
+
+-- row r, joined as j, is one side of a pair whose other side is offer p.1 of row p.0
+pub record IsSideOf (cell : Row → Cell) (offer : Row → ℕ → Option Offer) (r : Row) (j : Joined) (p : Row × ℕ) : Type 0 where
+  pub apart : r.thread ≢ p.0.thread
+  pub meets : offers_meet (offer r j.own) (offer p.0 p.1) ≡ true
+  pub back : (cell p.0 ≡ Claimed) ⊎ (joined_of (cell p.0) ≡ Some (mirrored r j p.1))
+  pub stamp : j.stamp ≡ 1 + max (last_stamp (joined_by cell) r) (last_stamp (joined_by cell) p.0)
+
+-- the cells and offers of a table, as all steps keep them
+pub record Linked (threads rows : ℕ) (cell : Row → Cell) (offer : Row → ℕ → Option Offer) : Type 0 where
+  -- only rows of the table are opened
+  pub inside : (r : Row) → is_fresh (cell r) ≡ false → (r.thread < threads) × (r.sync < rows)
+  -- a row is opened after the row before it in its thread was committed
+  pub in_turn : (thread sync : ℕ) → is_fresh (cell (record { thread = thread; sync = sync + 1 })) ≡ false → is_some (joined_of (cell (record { thread = thread; sync = sync }))) ≡ true
+  -- no row is committed alone
+  pub paired : (r : Row) (j : Joined) → joined_of (cell r) ≡ Some j → is_some j.partner ≡ true
+  pub sides : (r : Row) (j : Joined) (p : Row × ℕ) → joined_of (cell r) ≡ Some j → j.partner ≡ Some p → IsSideOf cell offer r j p
+  -- a row is the partner of one row at most
+  pub once : (q r p : Row) → names (joined_of (cell q)) p ≡ true → names (joined_of (cell r)) p ≡ true → q ≡ r
+  pub bounded : (r : Row) (j : Joined) → joined_of (cell r) ≡ Some j → j.stamp ≤ length (commits_of (all_rows threads rows) (joined_by cell) offer)
+
+-- every word is well-formed for its place
+pub record IsFormed (t : Table) : Type 0 where
+  pub rows : (r : Row) (place : ℕ) → is_row t r ≡ true → place < 34 → is_word_for place (word_at t r place) ≡ true
+  pub nacks : (n : NackName) → is_nack t n ≡ true → is_some (nack_of (nack_at t n)) ≡ true
+
+-- a world, as all steps keep it
+pub record Kept (w : World) : Type 0 where
+  pub sized : length w.table.words ≡ w.table.threads * thread_len w.table.rows
+  pub few_threads : w.table.threads ≤ 64
+  pub few_rows : w.table.rows ≤ 1024
+  pub formed : IsFormed w.table
+  pub linked : Linked w.table.threads w.table.rows (cell_at w.table) (offer_at w.table)
+  -- a row is held after the row before it in its thread was committed
+  pub held : (thread sync seat : ℕ) → holder_at w (record { thread = thread; sync = sync + 1 }) ≡ Some seat → is_some (joined_of (cell_at w.table (record { thread = thread; sync = sync }))) ≡ true
