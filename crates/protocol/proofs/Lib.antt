@@ -2,3 +2,4 @@ pub mod RowLemmas
 pub mod Linking
 pub mod StepLemmas
 pub mod Lawfulness
+pub mod Places

@@ -1,0 +1,117 @@
+-- Where words lie: no two of them at one place.
+use Rattle.std.proofs.Common.{◌≡◌, ◌≢◌, ℕ, ◌+◌, ◌*◌, ◌<◌, ◌≤◌, Bool, true, false, cond, eqb, ltb, ◌&&◌, List, length, get_or, set, sym, refl, ap, ◌∙◌, subst, ◌⊎◌, inl, inr, ⊎_elim, arith}
+use Rattle.std.proofs.lemmas.Bool.{cases_order, cases_eq, cases_Bool, ltb-true, lt-ltb, and_parts, and_from, eq-eqb, ne_eqb, false≢true}
+use Rattle.std.proofs.lemmas.List.{get_or-set_same, get_or-set_other, length-set}
+use Rattle.std.proofs.Math.Nat.{mul-le-mul_right}
+use Rattle.words.specs.declared.Row.{Row}
+use Rattle.words.specs.declared.NackName.{NackName}
+use Rattle.protocol.specs.Tables.{Table, thread_len, place_of, nack_place, is_row, is_nack, word_at, nack_at, row_eq}
+use Rattle.protocol.specs.Worlds.{with_word}
+use Rattle.protocol.proofs.RowLemmas.{row_eq-refl, row_eq-true, row_eq-false, row_cases, same_row}
+
+pub row_inside : (t : Table) (r : Row) → is_row t r ≡ true → (r.thread < t.threads) × (r.sync < t.rows)
+unfolding is_row
+row_inside t r h =
+    let p = and_parts (ltb r.thread t.threads) (ltb r.sync t.rows) h in
+    (ltb-true r.thread t.threads p.0, ltb-true r.sync t.rows p.1)
+
+pub row_from : (t : Table) (r : Row) → r.thread < t.threads → r.sync < t.rows → is_row t r ≡ true
+unfolding is_row
+row_from t r h k = and_from _ _ (lt-ltb r.thread t.threads h) (lt-ltb r.sync t.rows k)
+
+pub nack_inside : (t : Table) (n : NackName) → is_nack t n ≡ true → (n.thread < t.threads) × (n.k < 64)
+unfolding is_nack
+nack_inside t n h =
+    let p = and_parts (ltb n.thread t.threads) (ltb n.k 64) h in
+    (ltb-true n.thread t.threads p.0, ltb-true n.k 64 p.1)
+
+-- a number of blocks and a rest below the block's length are unique
+blocks_differ : (a b u v len : ℕ) → a < b → u < len → a * len + u ≡ b * len + v → ⊥
+blocks_differ a b u v len h k e =
+    let up : (a + 1) * len ≤ b * len = mul-le-mul_right len (let s : a + 1 ≤ b = omega arith in s) in
+    absurd (omega arith)
+
+pub same_block : (a b u v len : ℕ) → u < len → v < len → a * len + u ≡ b * len + v → a ≡ b
+same_block a b u v len h k e = ⊎_elim
+    (λ (c : a ≡ b). c)
+    (λ (c : (a < b) ⊎ (b < a)). ⊎_elim
+        (λ (d : a < b). absurd (blocks_differ a b u v len d h e))
+        (λ (d : b < a). absurd (blocks_differ b a v u len d k (sym e)))
+        c)
+    (cases_order a b)
+
+pub same_rest : (a b u v len : ℕ) → u < len → v < len → a * len + u ≡ b * len + v → u ≡ v
+same_rest a b u v len h k e =
+    let c : a ≡ b = same_block a b u v len h k e in
+    let d : a * len ≡ b * len = ap (λ n. n * len) c in
+    omega arith
+
+-- the words of a row, within its thread's
+row_rest : (rows sync place : ℕ) → sync < rows → place < 34 → sync * 34 + place < rows * 34
+row_rest rows sync place h k = omega arith
+
+-- a place of the table is within its words
+block_inside : (a n u len : ℕ) → a < n → u < len → a * len + u < n * len
+block_inside a n u len h k =
+    let up : (a + 1) * len ≤ n * len = mul-le-mul_right len (let s : a + 1 ≤ n = omega arith in s) in
+    omega arith
+
+pub place_inside : (t : Table) (r : Row) (place : ℕ) → is_row t r ≡ true → place < 34 → place_of t.rows r place < t.threads * thread_len t.rows
+place_inside t r place h k =
+    let in_t = row_inside t r h in
+    let rest = row_rest t.rows r.sync place in_t.1 k in
+    let b = block_inside r.thread t.threads (r.sync * 34 + place) (thread_len t.rows) in_t.0 (omega arith) in
+    omega arith
+
+pub nack_place_inside : (t : Table) (n : NackName) → is_nack t n ≡ true → nack_place t.rows n < t.threads * thread_len t.rows
+nack_place_inside t n h =
+    let in_t = nack_inside t n h in
+    let b = block_inside n.thread t.threads (t.rows * 34 + n.k) (thread_len t.rows) in_t.0 (omega arith) in
+    omega arith
+
+pub same_place : (t : Table) (r x : Row) (p q : ℕ) → is_row t r ≡ true → is_row t x ≡ true → p < 34 → q < 34 → place_of t.rows r p ≡ place_of t.rows x q → (r ≡ x) × (p ≡ q)
+same_place t r x p q h k a b e =
+    let in_r = row_inside t r h in
+    let in_x = row_inside t x k in
+    let u = row_rest t.rows r.sync p in_r.1 a in
+    let v = row_rest t.rows x.sync q in_x.1 b in
+    let whole : r.thread * thread_len t.rows + (r.sync * 34 + p) ≡ x.thread * thread_len t.rows + (x.sync * 34 + q) = omega arith in
+    let threads = same_block r.thread x.thread (r.sync * 34 + p) (x.sync * 34 + q) (thread_len t.rows) (omega arith) (omega arith) whole in
+    let rest = same_rest r.thread x.thread (r.sync * 34 + p) (x.sync * 34 + q) (thread_len t.rows) (omega arith) (omega arith) whole in
+    (same_row r x threads (omega arith), omega arith)
+
+pub nack_apart : (t : Table) (r : Row) (p : ℕ) (n : NackName) → is_row t r ≡ true → is_nack t n ≡ true → p < 34 → nack_place t.rows n ≡ place_of t.rows r p → ⊥
+nack_apart t r p n h k a e =
+    let in_r = row_inside t r h in
+    let in_n = nack_inside t n k in
+    let u = row_rest t.rows r.sync p in_r.1 a in
+    let whole : n.thread * thread_len t.rows + (t.rows * 34 + n.k) ≡ r.thread * thread_len t.rows + (r.sync * 34 + p) = omega arith in
+    let rest = same_rest n.thread r.thread (t.rows * 34 + n.k) (r.sync * 34 + p) (thread_len t.rows) (omega arith) (omega arith) whole in
+    absurd (omega arith)
+
+-- A WRITE to one word
+
+pub is_row_after : (t : Table) (x r : Row) (p v : ℕ) → is_row (with_word t x p v) r ≡ is_row t r
+unfolding is_row
+is_row_after t x r p v = refl
+
+pub is_nack_after : (t : Table) (x : Row) (n : NackName) (p v : ℕ) → is_nack (with_word t x p v) n ≡ is_nack t n
+unfolding is_nack
+is_nack_after t x n p v = refl
+
+pub word_same : (t : Table) (x : Row) (p v : ℕ) → length t.words ≡ t.threads * thread_len t.rows → is_row t x ≡ true → p < 34 → word_at (with_word t x p v) x p ≡ v
+unfolding word_at
+word_same t x p v s h k =
+    let inside = place_inside t x p h k in
+    get_or-set_same t.words (place_of t.rows x p) v 0 (omega arith)
+
+pub word_other : (t : Table) (x r : Row) (p q v : ℕ) → is_row t x ≡ true → is_row t r ≡ true → p < 34 → q < 34 → (row_eq r x ≡ false) ⊎ (q ≡ p → ⊥) → word_at (with_word t x p v) r q ≡ word_at t r q
+unfolding word_at
+word_other t x r p q v h k a b n =
+    get_or-set_other t.words (place_of t.rows x p) (place_of t.rows r q) v 0 (λ e.
+        let same = same_place t r x q p k h b a e in
+        ⊎_elim (λ (d : row_eq r x ≡ false). row_eq-false r x d same.0) (λ (d : q ≡ p → ⊥). d same.1) n)
+
+pub nack_other : (t : Table) (x : Row) (n : NackName) (p v : ℕ) → is_row t x ≡ true → is_nack t n ≡ true → p < 34 → nack_at (with_word t x p v) n ≡ nack_at t n
+unfolding nack_at
+nack_other t x n p v h k a = get_or-set_other t.words (place_of t.rows x p) (nack_place t.rows n) v 0 (λ e. nack_apart t x p n h k a e)
