@@ -3,3 +3,4 @@ pub mod Linking
 pub mod StepLemmas
 pub mod Lawfulness
 pub mod Places
+pub mod Readings

@@ -1,0 +1,164 @@
+-- What a table reads as after a write to one of its words.
+use Rattle.std.proofs.Common.{◌≡◌, ◌≢◌, ℕ, ◌+◌, ◌-◌, ◌*◌, ◌<◌, ◌≤◌, Bool, true, false, cond, eqb, ltb, ◌&&◌, List, length, get_or, set, sym, refl, ap, ◌∙◌, subst, ◌⊎◌, inl, inr, ⊎_elim, arith, Option, Some, None, is_some}
+use Rattle.std.specs.Prelude.{unwrap_or}
+use Rattle.std.proofs.lemmas.Bool.{cases_eq, cases_Bool, ltb-true, ltb-false, le-ltb, lt-ltb, false≢true, true≢false}
+use Rattle.std.proofs.lemmas.List.{length-set}
+use Rattle.words.specs.declared.Row.{Row}
+use Rattle.words.specs.declared.NackName.{NackName}
+use Rattle.words.specs.declared.Offer.{Offer}
+use Rattle.words.specs.declared.Binding.{Binding}
+use Rattle.words.specs.declared.Cell.{Cell}
+use Rattle.words.specs.declared.Cell.TheVariants.{Fresh}
+use Rattle.words.specs.Words.{cell_of, cell_word, count_of, offer_of, nack_of, is_word_for, IsCellInRange}
+use Rattle.words.proofs.WordLemmas.{cell_of-cell_word, count-count_of, cell_is_word}
+use Rattle.protocol.specs.Tables.{Table, thread_len, is_row, is_nack, word_at, nack_at, row_eq, cell_at, is_fresh, count_at, offer_at, binding_at}
+use Rattle.protocol.specs.Worlds.{with_word, with_cell}
+use Rattle.protocol.specs.Kept.{IsFormed}
+use Rattle.protocol.proofs.RowLemmas.{row_eq-refl, row_eq-true, row_cases, put, put_same, put_other}
+use Rattle.protocol.proofs.Linking.{cases_Option}
+use Rattle.protocol.proofs.Places.{row_inside, is_row_after, is_nack_after, word_same, word_other, nack_other}
+
+-- a row that the table has not reads as Fresh, with no offers
+pub cell_outside : (t : Table) (r : Row) → is_row t r ≡ false → cell_at t r ≡ Fresh
+unfolding cell_at
+cell_outside t r h = ap (λ b. cond b (unwrap_or (cell_of (word_at t r 0)) Fresh) Fresh) h
+
+pub cell_inside : (t : Table) (r : Row) → is_row t r ≡ true → cell_at t r ≡ unwrap_or (cell_of (word_at t r 0)) Fresh
+unfolding cell_at
+cell_inside t r h = ap (λ b. cond b (unwrap_or (cell_of (word_at t r 0)) Fresh) Fresh) h
+
+-- a row that is not Fresh is one of the table's
+pub row_of_open : (t : Table) (r : Row) → is_fresh (cell_at t r) ≡ false → is_row t r ≡ true
+row_of_open t r h = ⊎_elim
+    (λ (e : is_row t r ≡ true). e)
+    (λ (e : is_row t r ≡ false). absurd (true≢false (sym (ap is_fresh (cell_outside t r e)) ∙ h)))
+    (cases_Bool (is_row t r))
+
+pub count_fresh : (t : Table) (r : Row) → is_fresh (cell_at t r) ≡ true → count_at t r ≡ 0
+unfolding count_at
+count_fresh t r h = ap (λ b. cond b 0 (unwrap_or (count_of (word_at t r 1)) 0)) h
+
+pub count_open : (t : Table) (r : Row) → is_fresh (cell_at t r) ≡ false → count_at t r ≡ unwrap_or (count_of (word_at t r 1)) 0
+unfolding count_at
+count_open t r h = ap (λ b. cond b 0 (unwrap_or (count_of (word_at t r 1)) 0)) h
+
+-- a row has 8 offers at most
+default_few : (w : ℕ) → unwrap_or (count_of w) 0 ≤ 8
+default_few w = ⊎_elim
+    (λ (e : count_of w ≡ None). let z : unwrap_or (count_of w) 0 ≡ 0 = ap (λ (o : Option ℕ). unwrap_or o 0) e in omega arith)
+    (λ (n : (n : ℕ) × (count_of w ≡ Some n)).
+        let z : unwrap_or (count_of w) 0 ≡ n.0 = ap (λ (o : Option ℕ). unwrap_or o 0) n.1 in
+        let few = (count-count_of w n.0 n.1).0 in
+        omega arith)
+    (cases_Option (count_of w))
+
+pub few_offers : (t : Table) (r : Row) → count_at t r ≤ 8
+few_offers t r = ⊎_elim
+    (λ (e : is_fresh (cell_at t r) ≡ true). let z = count_fresh t r e in omega arith)
+    (λ (e : is_fresh (cell_at t r) ≡ false). let z = count_open t r e in let d = default_few (word_at t r 1) in omega arith)
+    (cases_Bool (is_fresh (cell_at t r)))
+
+pub offer_none : (t : Table) (r : Row) (n : ℕ) → count_at t r ≤ n → offer_at t r n ≡ None
+unfolding offer_at
+offer_none t r n h = ap (λ b. cond b (offer_of (word_at t r (2 + 4 * n)) (word_at t r (3 + 4 * n)) (word_at t r (4 + 4 * n)) (word_at t r (5 + 4 * n))) None) (le-ltb n (count_at t r) h)
+
+-- an offer that is there has a number below 8
+pub offer_below : (t : Table) (r : Row) (n : ℕ) (o : Offer) → offer_at t r n ≡ Some o → n < 8
+offer_below t r n o h = ⊎_elim
+    (λ (e : n < count_at t r). let f = few_offers t r in omega arith)
+    (λ (e : count_at t r ≤ n). let bad : None ≡ Some o = sym (offer_none t r n e) ∙ h in cc)
+    (Rattle.std.proofs.lemmas.Bool.cases_lt n (count_at t r))
+
+-- A WRITE of a word at a place other than 0 leaves every cell.
+pub cell_after_word : (t : Table) (x r : Row) (p v : ℕ) → is_row t x ≡ true → 1 ≤ p → p < 34 → cell_at (with_word t x p v) r ≡ cell_at t r
+cell_after_word t x r p v h k a = ⊎_elim
+    (λ (e : is_row t r ≡ true).
+        cell_inside (with_word t x p v) r (is_row_after t x r p v ∙ e)
+        ∙ ap (λ w. unwrap_or (cell_of w) Fresh) (word_other t x r p 0 v h e a (omega arith) (inr (λ (z : 0 ≡ p). absurd (omega arith))))
+        ∙ sym (cell_inside t r e))
+    (λ (e : is_row t r ≡ false). cell_outside (with_word t x p v) r (is_row_after t x r p v ∙ e) ∙ sym (cell_outside t r e))
+    (cases_Bool (is_row t r))
+
+-- the offers of a row depend on whether it is Fresh, and on its words from place 1 on
+offers_same : (t u : Table) (r : Row) (n : ℕ) → is_fresh (cell_at u r) ≡ is_fresh (cell_at t r) → (is_fresh (cell_at t r) ≡ false → (p : ℕ) → 1 ≤ p → p < 34 → word_at u r p ≡ word_at t r p) → offer_at u r n ≡ offer_at t r n
+unfolding offer_at
+offers_same t u r n f w = ⊎_elim
+    (λ (e : is_fresh (cell_at t r) ≡ true).
+        let a = count_fresh t r e in
+        let b = count_fresh u r (f ∙ e) in
+        offer_none u r n (omega arith) ∙ sym (offer_none t r n (omega arith)))
+    (λ (e : is_fresh (cell_at t r) ≡ false). opened t u r n e (f ∙ e) (w e))
+    (cases_Bool (is_fresh (cell_at t r)))
+  where
+    by_number : (t u : Table) (r : Row) (n : ℕ) → n < 8 → ((p : ℕ) → 1 ≤ p → p < 34 → word_at u r p ≡ word_at t r p) → count_at u r ≡ count_at t r → offer_at u r n ≡ offer_at t r n
+    by_number t u r n b w c =
+        λ i. cond (ltb n (c i))
+            (offer_of (w (2 + 4 * n) (omega arith) (omega arith) i) (w (3 + 4 * n) (omega arith) (omega arith) i) (w (4 + 4 * n) (omega arith) (omega arith) i) (w (5 + 4 * n) (omega arith) (omega arith) i))
+            None
+    opened : (t u : Table) (r : Row) (n : ℕ) → is_fresh (cell_at t r) ≡ false → is_fresh (cell_at u r) ≡ false → ((p : ℕ) → 1 ≤ p → p < 34 → word_at u r p ≡ word_at t r p) → offer_at u r n ≡ offer_at t r n
+    opened t u r n e f w =
+        let c : count_at u r ≡ count_at t r = count_open u r f ∙ ap (λ v. unwrap_or (count_of v) 0) (w 1 (omega arith) (omega arith)) ∙ sym (count_open t r e) in
+        let few = few_offers t r in
+        ⊎_elim
+        (λ (b : n < 8). by_number t u r n b w c)
+        (λ (b : 8 ≤ n). offer_none u r n (omega arith) ∙ sym (offer_none t r n (omega arith)))
+        (Rattle.std.proofs.lemmas.Bool.cases_lt n 8)
+
+-- a draft of a Fresh row leaves the offers of all rows
+pub offer_after_draft : (t : Table) (x r : Row) (n p v : ℕ) → is_row t x ≡ true → 1 ≤ p → p < 34 → is_fresh (cell_at t x) ≡ true → offer_at (with_word t x p v) r n ≡ offer_at t r n
+offer_after_draft t x r n p v h k a f =
+    offers_same t (with_word t x p v) r n (ap is_fresh (cell_after_word t x r p v h k a)) (λ e q b c.
+        word_other t x r p q v h (row_of_open t r e) a c (⊎_elim
+            (λ (d : r ≡ x). absurd (false≢true (sym e ∙ ap (λ (y : Row). is_fresh (cell_at t y)) d ∙ f)))
+            (λ (d : row_eq r x ≡ false). inl d)
+            (row_cases r x)))
+
+-- A WRITE of a cell
+pub cell_after_cell : (t : Table) (x : Row) (c : Cell) → length t.words ≡ t.threads * thread_len t.rows → is_row t x ≡ true → IsCellInRange c → cell_at (with_cell t x c) ≡ put (cell_at t) x c
+unfolding with_cell
+cell_after_cell t x c s h g = λ i r. at r i
+  where
+    at : (r : Row) → cell_at (with_cell t x c) r ≡ put (cell_at t) x c r
+    at r = ⊎_elim
+        (λ (e : r ≡ x).
+            ap (cell_at (with_cell t x c)) e
+            ∙ cell_inside (with_cell t x c) x (is_row_after t x x 0 (cell_word c) ∙ h)
+            ∙ ap (λ w. unwrap_or (cell_of w) Fresh) (word_same t x 0 (cell_word c) s h (omega arith))
+            ∙ ap (λ (o : Option Cell). unwrap_or o Fresh) (cell_of-cell_word c g)
+            ∙ sym (ap (put (cell_at t) x c) e ∙ put_same (cell_at t) x c))
+        (λ (e : row_eq r x ≡ false). other r e ∙ sym (put_other (cell_at t) x c r e))
+        (row_cases r x)
+      where
+        other : (r : Row) → row_eq r x ≡ false → cell_at (with_cell t x c) r ≡ cell_at t r
+        other r e = ⊎_elim
+            (λ (k : is_row t r ≡ true).
+                cell_inside (with_cell t x c) r (is_row_after t x r 0 (cell_word c) ∙ k)
+                ∙ ap (λ w. unwrap_or (cell_of w) Fresh) (word_other t x r 0 0 (cell_word c) h k (omega arith) (omega arith) (inl e))
+                ∙ sym (cell_inside t r k))
+            (λ (k : is_row t r ≡ false). cell_outside (with_cell t x c) r (is_row_after t x r 0 (cell_word c) ∙ k) ∙ sym (cell_outside t r k))
+            (cases_Bool (is_row t r))
+
+-- the offers of a row stay, where it is Fresh after the write as it was before
+pub offer_after_cell : (t : Table) (x r : Row) (n : ℕ) (c : Cell) → is_row t x ≡ true → is_fresh (cell_at (with_cell t x c) r) ≡ is_fresh (cell_at t r) → offer_at (with_cell t x c) r n ≡ offer_at t r n
+unfolding with_cell
+offer_after_cell t x r n c h f =
+    offers_same t (with_cell t x c) r n f (λ e q b k. word_other t x r 0 q (cell_word c) h (row_of_open t r e) (omega arith) k (inr (λ (z : q ≡ 0). absurd (omega arith))))
+
+-- WELL-FORMED WORDS stay so
+pub formed_after_word : (t : Table) (x : Row) (p v : ℕ) → length t.words ≡ t.threads * thread_len t.rows → is_row t x ≡ true → p < 34 → is_word_for p v ≡ true → IsFormed t → IsFormed (with_word t x p v)
+formed_after_word t x p v s h k w f = record {
+    rows = λ r q i b. ⊎_elim
+        (λ (e : r ≡ x). ⊎_elim
+            (λ (d : q ≡ p). (λ z. is_word_for (d z) (word_at (with_word t x p v) (e z) (d z))) ∙ ap (is_word_for p) (word_same t x p v s h k) ∙ w)
+            (λ (d : q ≡ p → ⊥). ap (is_word_for q) (word_other t x r p q v h (sym (is_row_after t x r p v) ∙ i) k b (inr d)) ∙ f.rows r q (sym (is_row_after t x r p v) ∙ i) b)
+            (cases_eq q p))
+        (λ (e : row_eq r x ≡ false). ap (is_word_for q) (word_other t x r p q v h (sym (is_row_after t x r p v) ∙ i) k b (inl e)) ∙ f.rows r q (sym (is_row_after t x r p v) ∙ i) b)
+        (row_cases r x);
+    nacks = λ n i. ap (λ u. is_some (nack_of u)) (nack_other t x n p v h (sym (is_nack_after t x n p v) ∙ i) k) ∙ f.nacks n (sym (is_nack_after t x n p v) ∙ i);
+  }
+
+pub cell_is_formed : (c : Cell) → IsCellInRange c → is_word_for 0 (cell_word c) ≡ true
+cell_is_formed c g = cell_is_word (cell_word c) ∙ ap (λ (o : Option Cell). is_some o) (cell_of-cell_word c g)
+
+pub sized_after_word : (t : Table) (x : Row) (p v : ℕ) → length t.words ≡ t.threads * thread_len t.rows → length (with_word t x p v).words ≡ t.threads * thread_len t.rows
+sized_after_word t x p v s = length-set t.words _ v ∙ s
