@@ -4,3 +4,5 @@ pub mod StepLemmas
 pub mod Lawfulness
 pub mod Places
 pub mod Readings
+pub mod Naming
+pub mod Keeping
