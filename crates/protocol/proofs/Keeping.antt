@@ -22,7 +22,8 @@ use Rattle.protocol.specs.Ledgers.{commits_of, told_at, told_by}
 use Rattle.protocol.specs.Kept.{joined_by, IsSideOf, Linked, IsFormed, Kept}
 use Rattle.protocol.proofs.RowLemmas.{row_eq-true, row_cases, put, put_same, put_other, once_all}
 use Rattle.protocol.proofs.Linking.{cases_Option, some_parts, some_inj, some_is_some, IsNaming, naming, fresh_not_joined, unnamed_idle, told_count, count_of_commits}
-use Rattle.protocol.proofs.StepLemmas.{HasTurn, linked_plain, linked_join, linked_seal}
+use Rattle.protocol.proofs.StepLemmas.{HasTurn, linked_plain, linked_join, linked_seal, last_bounded}
+use Rattle.protocol.proofs.Lawfulness.{both_offers}
 use Rattle.protocol.proofs.Places.{row_inside, row_from}
 use Rattle.protocol.proofs.Readings.{cell_after_word, cell_after_cell, offer_after_draft, offer_after_cell, formed_after_word, cell_is_formed, sized_after_word, row_of_open, cell_outside, offer_below}
 use Rattle.protocol.proofs.Naming.{namer_names, no_namer}
@@ -168,3 +169,150 @@ module _ (w : World) (x : Row) (j : Joined) (k : Kept w)
         still_joined (record { thread = thread; sync = sync })
         (k.held thread sync seat (sym (holder_same w (with_cell w.table x (Synched j)) (record { thread = thread; sync = sync + 1 }) refl refl) ∙ h));
   }
+
+kept_draft : (w : World) (x : Row) (p v seat : ℕ) → Kept w → holder_at w x ≡ Some seat → cell_at w.table x ≡ Fresh → 1 ≤ p → p ≤ 33 → is_word_for p v ≡ true → Kept (with_table w (with_word w.table x p v))
+kept_draft w x p v seat k h f a b g =
+    let row : is_row w.table x ≡ true = held_row w x seat h in
+    let below : p < 34 = omega arith in
+    let cells : (r : Row) → cell_at (with_word w.table x p v) r ≡ cell_at w.table r = λ r. cell_after_word w.table x r p v row a below in
+    record {
+      sized = sized_after_word w.table x p v k.sized;
+      few_threads = k.few_threads;
+      few_rows = k.few_rows;
+      formed = formed_after_word w.table x p v k.sized row below g k.formed;
+      linked = subst (λ (z : (Row → Cell) × (Row → ℕ → Option Offer)). Linked w.table.threads w.table.rows z.0 z.1)
+          (λ i. (λ r. sym (cells r) i, λ r n. sym (offer_after_draft w.table x r n p v row a below (ap is_fresh f)) i))
+          k.linked;
+      held = λ thread sync s e.
+          ap (λ (c : Cell). is_some (joined_of c)) (cells (record { thread = thread; sync = sync }))
+          ∙ k.held thread sync s (sym (holder_same w (with_word w.table x p v) (record { thread = thread; sync = sync + 1 }) refl refl) ∙ e);
+    }
+
+-- a row that is neither claimed nor joined is not named
+idle_unnamed : (w : World) (x : Row) → Kept w → cell_at w.table x ≢ Claimed → joined_of (cell_at w.table x) ≡ None → (q : Row) → names (joined_of (cell_at w.table q)) x ≡ false
+idle_unnamed w x k = unnamed_idle w.table.threads w.table.rows (cell_at w.table) (offer_at w.table) x k.linked
+
+kept_open : (w : World) (x : Row) (seat : ℕ) → Kept w → holder_at w x ≡ Some seat → cell_at w.table x ≡ Fresh → Kept (with_table w (with_cell w.table x Waiting))
+kept_open w x seat k h f =
+    kept_plain w x Waiting k (held_row w x seat h) tt (ap joined_of f) refl refl
+    (idle_unnamed w x k (λ e. let bad : Fresh ≡ Claimed = sym f ∙ e in cc) (ap joined_of f))
+    (turn_held w x seat k h)
+
+kept_claim : (w : World) (x : Row) → Kept w → cell_at w.table x ≡ Waiting → Kept (with_table w (with_cell w.table x Claimed))
+kept_claim w x k f =
+    kept_plain w x Claimed k (row_of_open w.table x (ap is_fresh f)) tt (ap joined_of f) refl refl
+    (idle_unnamed w x k (λ e. let bad : Waiting ≡ Claimed = sym f ∙ e in cc) (ap joined_of f))
+    (turn_open w x k (ap is_fresh f))
+
+-- a row for which the search finds no namer is not named
+pub unnamed_row : (w : World) (x : Row) → namer_at w x ≡ None → (q : Row) → names (joined_of (cell_at w.table q)) x ≡ false
+unnamed_row w x h q = ⊎_elim
+    (λ (e : is_row w.table q ≡ true).
+        let in_t = row_inside w.table q e in
+        no_namer w.table.threads w.table.rows (joined_at w.table) x q h in_t.0 in_t.1)
+    (λ (e : is_row w.table q ≡ false). ap (λ (c : Cell). names (joined_of c) x) (cell_outside w.table q e))
+    (cases_Bool (is_row w.table q))
+
+kept_yield : (w : World) (x : Row) → Kept w → cell_at w.table x ≡ Claimed → namer_at w x ≡ None → Kept (with_table w (with_cell w.table x Waiting))
+kept_yield w x k f n =
+    kept_plain w x Waiting k (row_of_open w.table x (ap is_fresh f)) tt (ap joined_of f) refl refl (unnamed_row w x n) (turn_open w x k (ap is_fresh f))
+
+row_in_range : (w : World) (r : Row) → Kept w → is_row w.table r ≡ true → IsRowInRange r
+row_in_range w r k h =
+    let in_t = row_inside w.table r h in
+    let a = k.few_threads in
+    let b = k.few_rows in
+    record { thread = omega arith; sync = omega arith }
+
+-- the word of a join is well-formed
+pub join_in_range : (w : World) (m : Row) (i : ℕ) (o : Row) (n : ℕ) → Kept w → is_row w.table m ≡ true → offers_meet (offer_at w.table m i) (offer_at w.table o n) ≡ true → IsJoinedInRange (joined_with w.table m i o n)
+unfolding joined_with
+join_in_range w m i o n k h meets =
+    let both = both_offers (offer_at w.table m i) (offer_at w.table o n) meets in
+    let a = last_bounded w.table.threads w.table.rows (cell_at w.table) (offer_at w.table) m k.linked in
+    let b = last_bounded w.table.threads w.table.rows (cell_at w.table) (offer_at w.table) o k.linked in
+    let few = few_commits w.table.threads w.table.rows (joined_by (cell_at w.table)) (offer_at w.table) k.few_threads k.few_rows in
+    record {
+      own = offer_below w.table o n both.1 both.3;
+      partner = (row_in_range w m k h, offer_below w.table m i both.0 both.2);
+      stamp_low = low (last_stamp (joined_at w.table) m) (last_stamp (joined_at w.table) o);
+      stamp_high = high (last_stamp (joined_at w.table) m) (last_stamp (joined_at w.table) o) (omega arith) (omega arith);
+    }
+    where
+      low : (a b : ℕ) → 1 ≤ 1 + max a b
+      low a b = omega arith
+      high : (a b : ℕ) → a ≤ 65536 → b ≤ 65536 → 1 + max a b < 2 ^ 32
+      high a b h k = omega arith
+
+kept_join : (w : World) (m : Row) (i : ℕ) (o : Row) (n : ℕ) → Kept w → cell_at w.table m ≡ Claimed → namer_at w m ≡ None → cell_at w.table o ≡ Waiting → m.thread ≢ o.thread → offers_meet (offer_at w.table m i) (offer_at w.table o n) ≡ true → Kept (with_table w (with_cell w.table o (Synched (joined_with w.table m i o n))))
+unfolding joined_with
+kept_join w m i o n k mine none other apart meets =
+    kept_joined w o (joined_with w.table m i o n) k (row_of_open w.table o (ap is_fresh other))
+    (join_in_range w m i o n k (row_of_open w.table m (ap is_fresh mine)) meets)
+    (ap is_fresh other)
+    (linked_join w.table.threads w.table.rows (cell_at w.table) (offer_at w.table) m i o n (joined_with w.table m i o n) k.linked mine (unnamed_row w m none) other apart meets refl)
+
+-- THE SEAL: what the row that names a pending row says
+
+pub record IsSealing (t : Table) (x q : Row) : Type 0 where
+  pub way : Joined
+  pub offer : ℕ
+  pub is : joined_of (cell_at t q) ≡ Some way
+  pub partner : way.partner ≡ Some (x, offer)
+
+pub sealing : (t : Table) (x q : Row) → names (joined_of (cell_at t q)) x ≡ true → IsSealing t x q
+sealing t x q h =
+    let n = naming (joined_of (cell_at t q)) x h in
+    record {
+      way = n.way;
+      offer = n.place.1;
+      is = n.is;
+      partner = n.partner ∙ (λ i. Some (n.row i, n.place.1));
+    }
+
+pub sealed_is : (t : Table) (x q : Row) (o : Option Row) (s : IsSealing t x q) → o ≡ Some q → sealed_by t o ≡ Some (mirrored q s.way s.offer)
+sealed_is t x q o s e = ap (sealed_by t) e ∙ ap (side_of q) s.is ∙ ap (other_side q s.way) s.partner
+
+pub seal_in_range : (w : World) (x q : Row) (s : IsSealing w.table x q) → Kept w → IsJoinedInRange (mirrored q s.way s.offer)
+seal_in_range w x q s k =
+    let side = k.linked.sides q s.way (x, s.offer) s.is s.partner in
+    let both = both_offers (offer_at w.table q s.way.own) (offer_at w.table x s.offer) side.meets in
+    let b = k.linked.bounded q s.way s.is in
+    let stamp = side.stamp in
+    let few = few_commits w.table.threads w.table.rows (joined_by (cell_at w.table)) (offer_at w.table) k.few_threads k.few_rows in
+    record {
+      own = offer_below w.table x s.offer both.1 both.3;
+      partner = (row_in_range w q k (row_of_open w.table q (fresh_not_joined (cell_at w.table q) s.way s.is)), offer_below w.table q s.way.own both.0 both.2);
+      stamp_low = low _ _ _ stamp;
+      stamp_high = high s.way.stamp (omega arith);
+    }
+    where
+      low : (s a b : ℕ) → s ≡ 1 + max a b → 1 ≤ s
+      low s a b e = omega arith
+      high : (s : ℕ) → s ≤ 65536 → s < 2 ^ 32
+      high s h = omega arith
+
+kept_sealed : (w : World) (x q : Row) (s : IsSealing w.table x q) → Kept w → cell_at w.table x ≡ Claimed → Kept (with_table w (with_cell w.table x (Synched (mirrored q s.way s.offer))))
+kept_sealed w x q s k f =
+    kept_joined w x (mirrored q s.way s.offer) k (row_of_open w.table x (ap is_fresh f)) (seal_in_range w x q s k) (ap is_fresh f)
+    (linked_seal w.table.threads w.table.rows (cell_at w.table) (offer_at w.table) x q s.way (mirrored q s.way s.offer) s.offer k.linked f s.is s.partner refl)
+
+kept_seal : (w : World) (x : Row) → Kept w → cell_at w.table x ≡ Claimed → is_some (namer_at w x) ≡ true → Kept (with_table w (with_seal w.table x (sealed_by w.table (namer_at w x))))
+kept_seal w x k f h =
+    let q = some_parts (namer_at w x) h in
+    let s = sealing w.table x q.0 (namer_names (all_rows w.table.threads w.table.rows) (joined_at w.table) x q.0 q.1) in
+    subst (λ (o : Option Joined). Kept (with_table w (with_seal w.table x o))) (sym (sealed_is w.table x q.0 (namer_at w x) s q.1)) (kept_sealed w x q.0 s k f)
+
+pub kept_step : (w : World) (seat : Seat) (step : Step) → Kept w → Allowed w seat step → Kept (after_step w seat step)
+kept_step w seat (Draft row place value) k a = kept_draft w row place value seat.0 k a.1.0 a.1.1 a.1.2 a.1.3 a.1.4
+kept_step w seat (Open row) k a = kept_open w row seat.0 k a.1.0 a.1.1
+kept_step w seat (Look row) k a = k
+kept_step w seat (Read row place) k a = k
+kept_step w seat (Claim row) k a = kept_claim w row k a.1.1
+kept_step w seat (Yield row) k a = kept_yield w row k a.1.1 a.1.2
+kept_step w seat (Join mine own other partner) k a = kept_join w mine own other partner k a.1.1 a.1.2 a.1.3 a.1.4 a.1.5
+kept_step w seat (Seal row) k a = kept_seal w row k a.1.1 a.1.2
+
+pub kept_schedule : (w v : World) (steps : List (Seat × Step)) → Kept w → Plays w steps v → Kept v
+kept_schedule w v [] k p = subst Kept (sym p) k
+kept_schedule w v (s ∷ ss) k p = kept_schedule (after_step w s.0 s.1) v ss (kept_step w s.0 s.1 k p.0) p.1

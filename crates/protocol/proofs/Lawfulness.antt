@@ -60,7 +60,7 @@ by_bases offer r j p a b (Always m) t c x y u v h k = absurd (false≢true h)
 by_bases offer r j p a b (OnNack m) t c x y u v h k = absurd (false≢true h)
 by_bases offer r j p a b Never t c x y u v h k = absurd (false≢true h)
 
-both_offers : (a b : Option Offer) → offers_meet a b ≡ true → (x : Offer) × (y : Offer) × (a ≡ Some x) × (b ≡ Some y) × (bases_meet x.base y.base ≡ true)
+pub both_offers : (a b : Option Offer) → offers_meet a b ≡ true → (x : Offer) × (y : Offer) × (a ≡ Some x) × (b ≡ Some y) × (bases_meet x.base y.base ≡ true)
 both_offers None b h = absurd (false≢true h)
 both_offers (Some x) None h = absurd (false≢true h)
 both_offers (Some x) (Some y) h = (x, y, refl, refl, h)

@@ -143,7 +143,7 @@ apart_rows : (r s : Row) → (r.thread ≡ s.thread → ⊥) → row_eq r s ≡ 
 apart_rows r s h = row_ne r s (λ e. h (ap (λ (y : Row). y.thread) e))
 
 -- no last stamp exceeds the number of commits
-last_bounded : (threads rows : ℕ) (cell : Row → Cell) (offer : Row → ℕ → Option Offer) (r : Row) → Linked threads rows cell offer → last_stamp (joined_by cell) r ≤ length (commits_of (all_rows threads rows) (joined_by cell) offer)
+pub last_bounded : (threads rows : ℕ) (cell : Row → Cell) (offer : Row → ℕ → Option Offer) (r : Row) → Linked threads rows cell offer → last_stamp (joined_by cell) r ≤ length (commits_of (all_rows threads rows) (joined_by cell) offer)
 last_bounded threads rows cell offer r l =
     let n : ℕ = length (commits_of (all_rows threads rows) (joined_by cell) offer) in
     let stamped : stamp_of (joined_of (cell (before r))) ≤ n =
