@@ -30,7 +30,7 @@ use Rattle.protocol.proofs.Naming.{namer_names, no_namer}
 
 -- HOW MANY COMMITS THERE ARE at most
 
-length_below : (t g : ℕ) → length (rows_below t g) ≡ g
+pub length_below : (t g : ℕ) → length (rows_below t g) ≡ g
 length_below t zero = refl
 length_below t (suc g) = length-append (rows_below t g) _ ∙ (let h = length_below t g in omega arith)
 

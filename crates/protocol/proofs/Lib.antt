@@ -6,3 +6,4 @@ pub mod Places
 pub mod Readings
 pub mod Naming
 pub mod Keeping
+pub mod LedgerLemmas

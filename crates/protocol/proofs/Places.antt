@@ -51,7 +51,7 @@ row_rest : (rows sync place : ℕ) → sync < rows → place < 34 → sync * 34 
 row_rest rows sync place h k = omega arith
 
 -- a place of the table is within its words
-block_inside : (a n u len : ℕ) → a < n → u < len → a * len + u < n * len
+pub block_inside : (a n u len : ℕ) → a < n → u < len → a * len + u < n * len
 block_inside a n u len h k =
     let up : (a + 1) * len ≤ n * len = mul-le-mul_right len (let s : a + 1 ≤ n = omega arith in s) in
     omega arith

@@ -1,6 +1,6 @@
-use Rattle.protocol.proofs.Lawfulness.{lawful_linked}
-use Rattle.protocol.proofs.Keeping.{few_commits}
+-- Every allowed step keeps the world, and a kept world has a lawful ledger.
+use Rattle.protocol.proofs.LedgerLemmas.{lawful_schedule}
 use Rattle.protocol.proofs.every_schedule_is_lawful.Goals as goal
 
 pub returns : goal.returns
-returns c = let k = few_commits in let l = lawful_linked in ?
+returns c = lawful_schedule
