@@ -1,10 +1,10 @@
 -- Each allowed step keeps a world kept, and so does a whole schedule.
-use Rattle.std.proofs.Common.{◌≡◌, ◌≢◌, ℕ, zero, suc, ◌+◌, ◌-◌, ◌*◌, ◌/◌, ◌%◌, ◌^◌, ◌<◌, ◌≤◌, Bool, true, false, cond, eqb, ltb, ◌&&◌, List, [], ◌∷◌, ◌++◌, length, get_or, set, map, replicate, sym, refl, ap, ◌∙◌, subst, ◌⊎◌, inl, inr, ⊎_elim, arith, Option, Some, None, is_some, max}
-use Rattle.std.specs.Prelude.{unwrap_or, IfSome, option_to_list}
+use Rattle.std.proofs.Common.{◌≡◌, ◌≢◌, ℕ, zero, suc, ◌+◌, ◌*◌, ◌^◌, ◌<◌, ◌≤◌, true, false, cond, ltb, ◌&&◌, List, [], ◌∷◌, length, get_or, sym, refl, ap, ◌∙◌, subst, ⊎_elim, arith, Option, Some, None, is_some, max}
+use Rattle.std.specs.Prelude.{option_to_list}
 use Rattle.std.specs.List.{sum_by}
-use Rattle.std.proofs.lemmas.Bool.{cases_eq, cases_Bool, false≢true, true≢false}
-use Rattle.std.proofs.lemmas.List.{length-replicate, get_or-replicate, length-append, length-map, get_or-map}
-use Rattle.std.proofs.lemmas.List.Sums.{sum_by-append, sum_by-cons}
+use Rattle.std.proofs.lemmas.Bool.{cases_Bool}
+use Rattle.std.proofs.lemmas.List.{length-append}
+use Rattle.std.proofs.lemmas.List.Sums.{sum_by-cons}
 use Rattle.std.proofs.Math.Nat.{mul-le-mul_right}
 use Rattle.words.specs.declared.Row.{Row}
 use Rattle.words.specs.declared.Joined.{Joined}
@@ -16,15 +16,15 @@ use Rattle.words.specs.declared.Step.TheVariants.{Draft, Open, Look, Read, Claim
 use Rattle.words.specs.declared.Cell.{Cell}
 use Rattle.words.specs.declared.Cell.TheVariants.{Fresh, Waiting, Claimed, Synched}
 use Rattle.words.specs.Words.{cell_word, is_word_for, IsCellInRange, IsJoinedInRange, IsRowInRange}
-use Rattle.protocol.specs.Tables.{Table, thread_len, is_row, row_eq, all_rows, rows_below, cell_at, is_fresh, joined_of, offer_at, offers_meet, names, namer_of, joined_at, last_stamp, number_of}
-use Rattle.protocol.specs.Worlds.{World, start_world, holder_at, Holds, namer_at, Condition, Allowed, after_step, Plays, with_word, with_cell, with_table, joined_with, mirrored, other_side, side_of, sealed_by, with_seal}
-use Rattle.protocol.specs.Ledgers.{commits_of, told_at, told_by}
-use Rattle.protocol.specs.Kept.{joined_by, IsSideOf, Linked, IsFormed, Kept}
-use Rattle.protocol.proofs.RowLemmas.{row_eq-true, row_cases, put, put_same, put_other, once_all}
-use Rattle.protocol.proofs.Linking.{cases_Option, some_parts, some_inj, some_is_some, IsNaming, naming, fresh_not_joined, unnamed_idle, told_count, count_of_commits}
+use Rattle.protocol.specs.Tables.{Table, is_row, row_eq, all_rows, rows_below, cell_at, is_fresh, joined_of, offer_at, offers_meet, names, joined_at, last_stamp, number_of}
+use Rattle.protocol.specs.Worlds.{World, holder_at, namer_at, Allowed, after_step, Plays, with_word, with_cell, with_table, joined_with, mirrored, other_side, side_of, sealed_by, with_seal}
+use Rattle.protocol.specs.Ledgers.{commits_of, told_at}
+use Rattle.protocol.specs.Kept.{joined_by, Linked, Kept}
+use Rattle.protocol.proofs.RowLemmas.{row_cases, put, put_same, put_other}
+use Rattle.protocol.proofs.Linking.{some_parts, naming, fresh_not_joined, unnamed_idle, told_count, count_of_commits}
 use Rattle.protocol.proofs.StepLemmas.{HasTurn, linked_plain, linked_join, linked_seal, last_bounded}
 use Rattle.protocol.proofs.Lawfulness.{both_offers}
-use Rattle.protocol.proofs.Places.{row_inside, row_from}
+use Rattle.protocol.proofs.Places.{row_inside}
 use Rattle.protocol.proofs.Readings.{cell_after_word, cell_after_cell, offer_after_draft, offer_after_cell, formed_after_word, cell_is_formed, sized_after_word, row_of_open, cell_outside, offer_below}
 use Rattle.protocol.proofs.Naming.{namer_names, no_namer}
 
@@ -69,8 +69,8 @@ unfolding holder_at
 held_row w r seat h = ⊎_elim
     (λ (e : is_row w.table r ≡ true). e)
     (λ (e : is_row w.table r ≡ false).
-        let bad : None ≡ Some seat = sym (ap (λ b. cond b (get_or w.holders (number_of w.table.rows r) None) None) e) ∙ h in
-        cc)
+    let bad : None ≡ Some seat = sym (ap (λ b. cond b (get_or w.holders (number_of w.table.rows r) None) None) e) ∙ h in
+    cc)
     (cases_Bool (is_row w.table r))
 
 holder_same : (w : World) (t : Table) (r : Row) → t.threads ≡ w.table.threads → t.rows ≡ w.table.rows → holder_at (with_table w t) r ≡ holder_at w r
@@ -80,15 +80,15 @@ holder_same w t r h k = λ i. cond (ltb r.thread (h i) && ltb r.sync (k i)) (get
 -- a row that is open, or held, has its turn
 turn_open : (w : World) (r : Row) → Kept w → is_fresh (cell_at w.table r) ≡ false → HasTurn w.table.threads w.table.rows (cell_at w.table) r
 turn_open w r k f = record {
-    inside = k.linked.inside r f;
-    turn = λ g e. k.linked.in_turn r.thread g (ap (λ n. is_fresh (cell_at w.table (record { thread = r.thread; sync = n }))) (sym e) ∙ f);
-  }
+  inside = k.linked.inside r f;
+  turn = λ g e. k.linked.in_turn r.thread g (ap (λ n. is_fresh (cell_at w.table (record { thread = r.thread; sync = n }))) (sym e) ∙ f);
+}
 
 turn_held : (w : World) (r : Row) (seat : ℕ) → Kept w → holder_at w r ≡ Some seat → HasTurn w.table.threads w.table.rows (cell_at w.table) r
 turn_held w r seat k h = record {
-    inside = row_inside w.table r (held_row w r seat h);
-    turn = λ g e. k.held r.thread g seat (ap (λ n. holder_at w (record { thread = r.thread; sync = n })) (sym e) ∙ h);
-  }
+  inside = row_inside w.table r (held_row w r seat h);
+  turn = λ g e. k.held r.thread g seat (ap (λ n. holder_at w (record { thread = r.thread; sync = n })) (sym e) ∙ h);
+}
 
 -- ONE LEMMA FOR EACH KIND
 
@@ -101,21 +101,20 @@ module _ (w : World) (x : Row) (c : Cell) (k : Kept w)
     (not_fresh : is_fresh c ≡ false)
     (unnamed : (q : Row) → names (joined_of (cell_at w.table q)) x ≡ false)
     (turn : HasTurn w.table.threads w.table.rows (cell_at w.table) x) where
-
   cells_plain : cell_at (with_cell w.table x c) ≡ put (cell_at w.table) x c
   cells_plain = cell_after_cell w.table x c k.sized row range
 
   fresh_plain : (r : Row) → is_fresh (cell_at w.table r) ≡ false → is_fresh (cell_at (with_cell w.table x c) r) ≡ is_fresh (cell_at w.table r)
   fresh_plain r f = ap (λ (g : Row → Cell). is_fresh (g r)) cells_plain ∙ ⊎_elim
-    (λ (e : r ≡ x). ap (λ (y : Row). is_fresh (put (cell_at w.table) x c y)) e ∙ ap is_fresh (put_same (cell_at w.table) x c) ∙ not_fresh ∙ sym f)
-    (λ (e : row_eq r x ≡ false). ap is_fresh (put_other (cell_at w.table) x c r e))
-    (row_cases r x)
+      (λ (e : r ≡ x). ap (λ (y : Row). is_fresh (put (cell_at w.table) x c y)) e ∙ ap is_fresh (put_same (cell_at w.table) x c) ∙ not_fresh ∙ sym f)
+      (λ (e : row_eq r x ≡ false). ap is_fresh (put_other (cell_at w.table) x c r e))
+      (row_cases r x)
 
   joined_plain : (r : Row) → joined_of (cell_at (with_cell w.table x c) r) ≡ joined_of (cell_at w.table r)
   joined_plain r = ap (λ (g : Row → Cell). joined_of (g r)) cells_plain ∙ ⊎_elim
-    (λ (e : r ≡ x). ap (λ (y : Row). joined_of (put (cell_at w.table) x c y)) e ∙ ap joined_of (put_same (cell_at w.table) x c) ∙ is ∙ sym was ∙ ap (λ (y : Row). joined_of (cell_at w.table y)) (sym e))
-    (λ (e : row_eq r x ≡ false). ap joined_of (put_other (cell_at w.table) x c r e))
-    (row_cases r x)
+      (λ (e : r ≡ x). ap (λ (y : Row). joined_of (put (cell_at w.table) x c y)) e ∙ ap joined_of (put_same (cell_at w.table) x c) ∙ is ∙ sym was ∙ ap (λ (y : Row). joined_of (cell_at w.table y)) (sym e))
+      (λ (e : row_eq r x ≡ false). ap joined_of (put_other (cell_at w.table) x c r e))
+      (row_cases r x)
 
   kept_plain : Kept (with_table w (with_cell w.table x c))
   unfolding with_cell
@@ -127,7 +126,7 @@ module _ (w : World) (x : Row) (c : Cell) (k : Kept w)
     linked =
         subst (λ (g : Row → Cell). Linked w.table.threads w.table.rows g (offer_at (with_cell w.table x c))) (sym cells_plain)
         (linked_plain w.table.threads w.table.rows (cell_at w.table) (offer_at w.table) (offer_at (with_cell w.table x c)) x c k.linked was is unnamed (λ f. turn)
-            (λ r f. λ i n. offer_after_cell w.table x r n c row (fresh_plain r f) i));
+        (λ r f. λ i n. offer_after_cell w.table x r n c row (fresh_plain r f) i));
     held = λ thread sync seat h.
         ap (λ (o : Option Joined). is_some o) (joined_plain (record { thread = thread; sync = sync }))
         ∙ k.held thread sync seat (sym (holder_same w (with_cell w.table x c) (record { thread = thread; sync = sync + 1 }) refl refl) ∙ h);
@@ -139,21 +138,20 @@ module _ (w : World) (x : Row) (j : Joined) (k : Kept w)
     (range : IsJoinedInRange j)
     (open_x : is_fresh (cell_at w.table x) ≡ false)
     (linked : Linked w.table.threads w.table.rows (put (cell_at w.table) x (Synched j)) (offer_at w.table)) where
-
   cells_joined : cell_at (with_cell w.table x (Synched j)) ≡ put (cell_at w.table) x (Synched j)
   cells_joined = cell_after_cell w.table x (Synched j) k.sized row range
 
   fresh_joined : (r : Row) → is_fresh (cell_at (with_cell w.table x (Synched j)) r) ≡ is_fresh (cell_at w.table r)
   fresh_joined r = ap (λ (g : Row → Cell). is_fresh (g r)) cells_joined ∙ ⊎_elim
-    (λ (e : r ≡ x). ap (λ (y : Row). is_fresh (put (cell_at w.table) x (Synched j) y)) e ∙ ap is_fresh (put_same (cell_at w.table) x (Synched j)) ∙ sym open_x ∙ ap (λ (y : Row). is_fresh (cell_at w.table y)) (sym e))
-    (λ (e : row_eq r x ≡ false). ap is_fresh (put_other (cell_at w.table) x (Synched j) r e))
-    (row_cases r x)
+      (λ (e : r ≡ x). ap (λ (y : Row). is_fresh (put (cell_at w.table) x (Synched j) y)) e ∙ ap is_fresh (put_same (cell_at w.table) x (Synched j)) ∙ sym open_x ∙ ap (λ (y : Row). is_fresh (cell_at w.table y)) (sym e))
+      (λ (e : row_eq r x ≡ false). ap is_fresh (put_other (cell_at w.table) x (Synched j) r e))
+      (row_cases r x)
 
   still_joined : (r : Row) → is_some (joined_of (cell_at w.table r)) ≡ true → is_some (joined_of (cell_at (with_cell w.table x (Synched j)) r)) ≡ true
   still_joined r h = ap (λ (g : Row → Cell). is_some (joined_of (g r))) cells_joined ∙ ⊎_elim
-    (λ (e : r ≡ x). ap (λ (y : Row). is_some (joined_of (put (cell_at w.table) x (Synched j) y))) e ∙ ap (λ (c : Cell). is_some (joined_of c)) (put_same (cell_at w.table) x (Synched j)))
-    (λ (e : row_eq r x ≡ false). ap (λ (c : Cell). is_some (joined_of c)) (put_other (cell_at w.table) x (Synched j) r e) ∙ h)
-    (row_cases r x)
+      (λ (e : r ≡ x). ap (λ (y : Row). is_some (joined_of (put (cell_at w.table) x (Synched j) y))) e ∙ ap (λ (c : Cell). is_some (joined_of c)) (put_same (cell_at w.table) x (Synched j)))
+      (λ (e : row_eq r x ≡ false). ap (λ (c : Cell). is_some (joined_of c)) (put_other (cell_at w.table) x (Synched j) r e) ∙ h)
+      (row_cases r x)
 
   kept_joined : Kept (with_table w (with_cell w.table x (Synched j)))
   unfolding with_cell
@@ -208,8 +206,8 @@ kept_claim w x k f =
 pub unnamed_row : (w : World) (x : Row) → namer_at w x ≡ None → (q : Row) → names (joined_of (cell_at w.table q)) x ≡ false
 unnamed_row w x h q = ⊎_elim
     (λ (e : is_row w.table q ≡ true).
-        let in_t = row_inside w.table q e in
-        no_namer w.table.threads w.table.rows (joined_at w.table) x q h in_t.0 in_t.1)
+    let in_t = row_inside w.table q e in
+    no_namer w.table.threads w.table.rows (joined_at w.table) x q h in_t.0 in_t.1)
     (λ (e : is_row w.table q ≡ false). ap (λ (c : Cell). names (joined_of c) x) (cell_outside w.table q e))
     (cases_Bool (is_row w.table q))
 
@@ -238,11 +236,12 @@ join_in_range w m i o n k h meets =
       stamp_low = low (last_stamp (joined_at w.table) m) (last_stamp (joined_at w.table) o);
       stamp_high = high (last_stamp (joined_at w.table) m) (last_stamp (joined_at w.table) o) (omega arith) (omega arith);
     }
-    where
-      low : (a b : ℕ) → 1 ≤ 1 + max a b
-      low a b = omega arith
-      high : (a b : ℕ) → a ≤ 65536 → b ≤ 65536 → 1 + max a b < 2 ^ 32
-      high a b h k = omega arith
+  where
+    low : (a b : ℕ) → 1 ≤ 1 + max a b
+    low a b = omega arith
+
+    high : (a b : ℕ) → a ≤ 65536 → b ≤ 65536 → 1 + max a b < 2 ^ 32
+    high a b h k = omega arith
 
 kept_join : (w : World) (m : Row) (i : ℕ) (o : Row) (n : ℕ) → Kept w → cell_at w.table m ≡ Claimed → namer_at w m ≡ None → cell_at w.table o ≡ Waiting → m.thread ≢ o.thread → offers_meet (offer_at w.table m i) (offer_at w.table o n) ≡ true → Kept (with_table w (with_cell w.table o (Synched (joined_with w.table m i o n))))
 unfolding joined_with
@@ -286,11 +285,12 @@ seal_in_range w x q s k =
       stamp_low = low _ _ _ stamp;
       stamp_high = high s.way.stamp (omega arith);
     }
-    where
-      low : (s a b : ℕ) → s ≡ 1 + max a b → 1 ≤ s
-      low s a b e = omega arith
-      high : (s : ℕ) → s ≤ 65536 → s < 2 ^ 32
-      high s h = omega arith
+  where
+    low : (s a b : ℕ) → s ≡ 1 + max a b → 1 ≤ s
+    low s a b e = omega arith
+
+    high : (s : ℕ) → s ≤ 65536 → s < 2 ^ 32
+    high s h = omega arith
 
 kept_sealed : (w : World) (x q : Row) (s : IsSealing w.table x q) → Kept w → cell_at w.table x ≡ Claimed → Kept (with_table w (with_cell w.table x (Synched (mirrored q s.way s.offer))))
 kept_sealed w x q s k f =

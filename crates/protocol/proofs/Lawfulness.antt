@@ -1,5 +1,5 @@
 -- What all steps keep makes a ledger lawful.
-use Rattle.std.proofs.Common.{◌≡◌, ◌≢◌, ℕ, zero, suc, ◌+◌, ◌-◌, ◌*◌, ◌<◌, ◌≤◌, Bool, true, false, cond, eqb, List, length, Option, Some, None, sym, refl, ap, ◌∙◌, subst, ◌⊎◌, inl, inr, ⊎_elim, arith, is_some, max}
+use Rattle.std.proofs.Common.{◌≡◌, ◌≢◌, ℕ, zero, suc, ◌+◌, ◌-◌, ◌<◌, ◌≤◌, true, false, cond, eqb, length, Option, Some, None, sym, refl, ap, ◌∙◌, subst, ◌⊎◌, inl, inr, ⊎_elim, arith, is_some, max}
 use Rattle.std.proofs.lemmas.Bool.{cases_eq, cases_lt, false≢true, eqb-true, ne_eqb}
 use Rattle.words.specs.declared.Message.{Message}
 use Rattle.words.specs.declared.NackName.{NackName}
@@ -10,14 +10,14 @@ use Rattle.words.specs.declared.Row.{Row}
 use Rattle.words.specs.declared.Joined.{Joined}
 use Rattle.words.specs.declared.Offer.{Offer}
 use Rattle.words.specs.declared.Commit.{Commit}
-use Rattle.words.specs.declared.Commit.TheVariants.{Pair, Alone}
+use Rattle.words.specs.declared.Commit.TheVariants.{Pair}
 use Rattle.words.specs.declared.Cell.{Cell}
 use Rattle.words.specs.declared.Cell.TheVariants.{Claimed}
 use Rattle.protocol.specs.Tables.{all_rows, is_fresh, joined_of, names, offers_meet, bases_meet, last_stamp, stamp_of}
 use Rattle.protocol.specs.Worlds.{mirrored}
-use Rattle.protocol.specs.Ledgers.{IsIn, Takes, Involves, stamp_in, Offers, Fits, IsEarlier, Enables, CountsFor, IsStampDue, Lawful, commit_named, commit_by, pair_by, received_by, commits_of}
+use Rattle.protocol.specs.Ledgers.{IsIn, Takes, Involves, stamp_in, Offers, Fits, Enables, CountsFor, Lawful, commit_named, commit_by, pair_by, received_by, commits_of}
 use Rattle.protocol.specs.Kept.{joined_by, IsSideOf, Linked}
-use Rattle.protocol.proofs.Linking.{cases_Option, some_parts, some_inj, some_is_some, IsNaming, naming, names_from, fresh_not_joined, partner_open, named_some}
+use Rattle.protocol.proofs.Linking.{cases_Option, some_parts, some_inj, some_is_some, names_from, fresh_not_joined, partner_open, named_some}
 
 -- WHAT A PAIR'S COMMIT IS, seen from row r, joined as j with partner p
 
@@ -35,22 +35,22 @@ by_bases : (offer : Row → ℕ → Option Offer) (r : Row) (j : Joined) (p : Ro
 by_bases offer r j p a b (Send d m) (Send e n) c x y u v h k = absurd (false≢true h)
 by_bases offer r j p a b (Send d m) (Recv e) c x y u v h k =
     inl (record {
-        chan = d;
-        msg = m;
-        is = sym (some_inj _ c k);
-        sends = (a, x, u);
-        receives = (b, y, v ∙ ap Recv (sym (eqb-true d e h)));
+      chan = d;
+      msg = m;
+      is = sym (some_inj _ c k);
+      sends = (a, x, u);
+      receives = (b, y, v ∙ ap Recv (sym (eqb-true d e h)));
     })
 by_bases offer r j p a b (Send d m) (Always n) c x y u v h k = absurd (false≢true h)
 by_bases offer r j p a b (Send d m) (OnNack n) c x y u v h k = absurd (false≢true h)
 by_bases offer r j p a b (Send d m) Never c x y u v h k = absurd (false≢true h)
 by_bases offer r j p a b (Recv d) (Send e n) c x y u v h k =
     inr (record {
-        chan = e;
-        msg = n;
-        is = sym (some_inj _ c (sym (ap (received_by r j p) v) ∙ k));
-        sends = (b, y, v);
-        receives = (a, x, u ∙ ap Recv (eqb-true d e h));
+      chan = e;
+      msg = n;
+      is = sym (some_inj _ c (sym (ap (received_by r j p) v) ∙ k));
+      sends = (b, y, v);
+      receives = (a, x, u ∙ ap Recv (eqb-true d e h));
     })
 by_bases offer r j p a b (Recv d) (Recv e) c x y u v h k = absurd (false≢true h)
 by_bases offer r j p a b (Recv d) (Always n) c x y u v h k = absurd (false≢true h)
@@ -70,10 +70,10 @@ unfolding commit_named
 pair_of_named offer r j p c e h k =
     let both = both_offers (offer r j.own) (offer p.0 p.1) h in
     let named : pair_by r j p both.0.base (Some both.1) ≡ Some c =
-        (λ i. pair_by r j p both.0.base (sym both.3 i))
-        ∙ sym (ap (commit_by offer r j (Some p)) both.2)
-        ∙ sym (ap (λ (v : Option (Row × ℕ)). commit_by offer r j v (offer r j.own)) e)
-        ∙ k in
+    (λ i. pair_by r j p both.0.base (sym both.3 i))
+    ∙ sym (ap (commit_by offer r j (Some p)) both.2)
+    ∙ sym (ap (λ (v : Option (Row × ℕ)). commit_by offer r j v (offer r j.own)) e)
+    ∙ k in
     by_bases offer r j p both.0 both.1 both.0.base both.1.base c both.2 both.3 refl refl both.4 named
 
 -- from its partner's side a pair is the same commit
@@ -132,7 +132,6 @@ row_at t g = record { thread = t; sync = g }
 
 module _ (threads rows : ℕ) (cell : Row → Cell) (offer : Row → ℕ → Option Offer) (bound : NackName → Option Binding)
     (l : Linked threads rows cell offer) where
-
   -- what a commit of the ledger is
   partner_of : (c : Commit) (h : IsIn (joined_by cell) offer c) → (p : Row × ℕ) × (h.way.partner ≡ Some p)
   partner_of c h = some_parts h.way.partner (l.paired h.row h.way h.is_joined)
@@ -146,8 +145,8 @@ module _ (threads rows : ℕ) (cell : Row → Cell) (offer : Row → ℕ → Opt
   -- the commit that a joined row names
   commit_of_joined : (r : Row) (j : Joined) → joined_of (cell r) ≡ Some j → (c : Commit) × (commit_named offer r j ≡ Some c)
   commit_of_joined r j e =
-    let p = some_parts j.partner (l.paired r j e) in
-    named_some offer r j p.0 p.1 (l.sides r j p.0 e p.1).meets
+      let p = some_parts j.partner (l.paired r j e) in
+      named_some offer r j p.0 p.1 (l.sides r j p.0 e p.1).meets
 
   in_of_joined : (r : Row) (j : Joined) (e : joined_of (cell r) ≡ Some j) → IsIn (joined_by cell) offer (commit_of_joined r j e).0
   in_of_joined r j e = record { row = r; way = j; is_joined = e; is_named = (commit_of_joined r j e).1 }
@@ -163,52 +162,52 @@ module _ (threads rows : ℕ) (cell : Row → Cell) (offer : Row → ℕ → Opt
   -- each row in a commit is open
   open_of : (c : Commit) (x : Row) → IsIn (joined_by cell) offer c → Involves c x → is_fresh (cell x) ≡ false
   open_of c x h v = ⊎_elim
-    (λ (e : h.row ≡ x). ap (λ (y : Row). is_fresh (cell y)) (sym e) ∙ fresh_not_joined (cell h.row) h.way h.is_joined)
-    (λ (e : (partner_of c h).0.0 ≡ x). ap (λ (y : Row). is_fresh (cell y)) (sym e) ∙ partner_open threads rows cell offer h.row h.way (partner_of c h).0 l h.is_joined (partner_of c h).1)
-    (taken_rows offer h.row h.way (partner_of c h).0 c x (pair_in c h) v)
+      (λ (e : h.row ≡ x). ap (λ (y : Row). is_fresh (cell y)) (sym e) ∙ fresh_not_joined (cell h.row) h.way h.is_joined)
+      (λ (e : (partner_of c h).0.0 ≡ x). ap (λ (y : Row). is_fresh (cell y)) (sym e) ∙ partner_open threads rows cell offer h.row h.way (partner_of c h).0 l h.is_joined (partner_of c h).1)
+      (taken_rows offer h.row h.way (partner_of c h).0 c x (pair_in c h) v)
 
   -- the commit that a row names is the one that any row names in which it is
   same_named : (r : Row) (j : Joined) (c : Commit) → joined_of (cell r) ≡ Some j → (h : IsIn (joined_by cell) offer c) → Involves c r → commit_named offer r j ≡ Some c
   same_named r j c e h v = ⊎_elim
-    (λ (x : h.row ≡ r).
-        let same : h.way ≡ j = some_inj h.way j (sym h.is_joined ∙ ap (λ (y : Row). joined_of (cell y)) x ∙ e) in
-        (λ i. commit_named offer (sym x i) (sym same i)) ∙ h.is_named)
-    (λ (x : (partner_of c h).0.0 ≡ r). ⊎_elim
-        (λ (k : cell (partner_of c h).0.0 ≡ Claimed).
-            let bad : None ≡ Some j = sym (ap joined_of (ap cell (sym x) ∙ k)) ∙ e in
-            cc)
-        (λ (k : joined_of (cell (partner_of c h).0.0) ≡ Some (mirrored h.row h.way (partner_of c h).0.1)).
-            let same : mirrored h.row h.way (partner_of c h).0.1 ≡ j = some_inj _ j (sym k ∙ ap (λ (y : Row). joined_of (cell y)) x ∙ e) in
-            (λ i. commit_named offer (sym x i) (sym same i))
-            ∙ same_commit offer h.row h.way (partner_of c h).0.0 (partner_of c h).0.1 (partner_of c h).1 (side_of_in c h).meets
-            ∙ h.is_named)
-        (side_of_in c h).back)
-    (taken_rows offer h.row h.way (partner_of c h).0 c r (pair_in c h) v)
+      (λ (x : h.row ≡ r).
+      let same : h.way ≡ j = some_inj h.way j (sym h.is_joined ∙ ap (λ (y : Row). joined_of (cell y)) x ∙ e) in
+      (λ i. commit_named offer (sym x i) (sym same i)) ∙ h.is_named)
+      (λ (x : (partner_of c h).0.0 ≡ r). ⊎_elim
+      (λ (k : cell (partner_of c h).0.0 ≡ Claimed).
+      let bad : None ≡ Some j = sym (ap joined_of (ap cell (sym x) ∙ k)) ∙ e in
+      cc)
+      (λ (k : joined_of (cell (partner_of c h).0.0) ≡ Some (mirrored h.row h.way (partner_of c h).0.1)).
+      let same : mirrored h.row h.way (partner_of c h).0.1 ≡ j = some_inj _ j (sym k ∙ ap (λ (y : Row). joined_of (cell y)) x ∙ e) in
+      (λ i. commit_named offer (sym x i) (sym same i))
+      ∙ same_commit offer h.row h.way (partner_of c h).0.0 (partner_of c h).0.1 (partner_of c h).1 (side_of_in c h).meets
+      ∙ h.is_named)
+      (side_of_in c h).back)
+      (taken_rows offer h.row h.way (partner_of c h).0 c r (pair_in c h) v)
 
   once_in : (r : Row) (c d : Commit) → IsIn (joined_by cell) offer c → IsIn (joined_by cell) offer d → Involves c r → Involves d r → c ≡ d
   once_in r c d h k v w = ⊎_elim
-    (λ (x : h.row ≡ r). some_inj c d (sym h.is_named ∙ same_named h.row h.way d h.is_joined k (subst (Involves d) (sym x) w)))
-    (λ (x : (partner_of c h).0.0 ≡ r). ⊎_elim
-        (λ (y : k.row ≡ r). sym (some_inj d c (sym k.is_named ∙ same_named k.row k.way c k.is_joined h (subst (Involves c) (sym y) v))))
-        (λ (y : (partner_of d k).0.0 ≡ r).
-            let a : names (joined_of (cell h.row)) r ≡ true = ap (names (joined_of (cell h.row))) (sym x) ∙ names_from (joined_of (cell h.row)) h.way (partner_of c h).0 h.is_joined (partner_of c h).1 in
-            let b : names (joined_of (cell k.row)) r ≡ true = ap (names (joined_of (cell k.row))) (sym y) ∙ names_from (joined_of (cell k.row)) k.way (partner_of d k).0 k.is_joined (partner_of d k).1 in
-            let same : h.row ≡ k.row = l.once h.row k.row r a b in
-            let ways : h.way ≡ k.way = some_inj h.way k.way (sym h.is_joined ∙ ap (λ (z : Row). joined_of (cell z)) same ∙ k.is_joined) in
-            some_inj c d (sym h.is_named ∙ (λ i. commit_named offer (same i) (ways i)) ∙ k.is_named))
-        (taken_rows offer k.row k.way (partner_of d k).0 d r (pair_in d k) w))
-    (taken_rows offer h.row h.way (partner_of c h).0 c r (pair_in c h) v)
+      (λ (x : h.row ≡ r). some_inj c d (sym h.is_named ∙ same_named h.row h.way d h.is_joined k (subst (Involves d) (sym x) w)))
+      (λ (x : (partner_of c h).0.0 ≡ r). ⊎_elim
+      (λ (y : k.row ≡ r). sym (some_inj d c (sym k.is_named ∙ same_named k.row k.way c k.is_joined h (subst (Involves c) (sym y) v))))
+      (λ (y : (partner_of d k).0.0 ≡ r).
+      let a : names (joined_of (cell h.row)) r ≡ true = ap (names (joined_of (cell h.row))) (sym x) ∙ names_from (joined_of (cell h.row)) h.way (partner_of c h).0 h.is_joined (partner_of c h).1 in
+      let b : names (joined_of (cell k.row)) r ≡ true = ap (names (joined_of (cell k.row))) (sym y) ∙ names_from (joined_of (cell k.row)) k.way (partner_of d k).0 k.is_joined (partner_of d k).1 in
+      let same : h.row ≡ k.row = l.once h.row k.row r a b in
+      let ways : h.way ≡ k.way = some_inj h.way k.way (sym h.is_joined ∙ ap (λ (z : Row). joined_of (cell z)) same ∙ k.is_joined) in
+      some_inj c d (sym h.is_named ∙ (λ i. commit_named offer (same i) (ways i)) ∙ k.is_named))
+      (taken_rows offer k.row k.way (partner_of d k).0 d r (pair_in d k) w))
+      (taken_rows offer h.row h.way (partner_of c h).0 c r (pair_in c h) v)
 
   fits_pair : (q : Row × ℕ) (p : Row × ℕ) (s : ℕ) (c : Commit) → q.0.thread ≢ p.0.thread → IsSent offer q p s c → Fits (joined_by cell) offer bound c
   fits_pair q p s c n x = subst (Fits (joined_by cell) offer bound) (sym x.is) (n, x.sends, x.receives)
 
   fits_in : (c : Commit) → IsIn (joined_by cell) offer c → Fits (joined_by cell) offer bound c
   fits_in c h =
-    let n = (side_of_in c h).apart in
-    ⊎_elim
-    (λ (s : IsSent offer (h.row, h.way.own) (partner_of c h).0 h.way.stamp c). fits_pair _ _ h.way.stamp c n s)
-    (λ (s : IsSent offer (partner_of c h).0 (h.row, h.way.own) h.way.stamp c). fits_pair _ _ h.way.stamp c (λ e. n (sym e)) s)
-    (pair_in c h)
+      let n = (side_of_in c h).apart in
+      ⊎_elim
+      (λ (s : IsSent offer (h.row, h.way.own) (partner_of c h).0 h.way.stamp c). fits_pair _ _ h.way.stamp c n s)
+      (λ (s : IsSent offer (partner_of c h).0 (h.row, h.way.own) h.way.stamp c). fits_pair _ _ h.way.stamp c (λ e. n (sym e)) s)
+      (pair_in c h)
 
   -- the rows before an open row are joined, with rising stamps
   open_suc : (t g : ℕ) → is_fresh (cell (row_at t (suc g))) ≡ false → is_some (joined_of (cell (row_at t g))) ≡ true
@@ -220,72 +219,72 @@ module _ (threads rows : ℕ) (cell : Row → Cell) (offer : Row → ℕ → Opt
   joined_before : (t g h : ℕ) → is_fresh (cell (row_at t g)) ≡ false → h < g → is_some (joined_of (cell (row_at t h))) ≡ true
   joined_before t zero h f b = absurd (omega arith)
   joined_before t (suc g) h f b = ⊎_elim
-    (λ (e : h ≡ g). ap (λ n. is_some (joined_of (cell (row_at t n)))) e ∙ open_suc t g f)
-    (λ (n : h ≡ g → ⊥). joined_before t g h (open_before t g f) (omega (arith, n)))
-    (cases_eq h g)
+      (λ (e : h ≡ g). ap (λ n. is_some (joined_of (cell (row_at t n)))) e ∙ open_suc t g f)
+      (λ (n : h ≡ g → ⊥). joined_before t g h (open_before t g f) (omega (arith, n)))
+      (cases_eq h g)
 
   last_suc : (t g : ℕ) → last_stamp (joined_by cell) (row_at t (suc g)) ≡ stamp_of (joined_of (cell (row_at t g)))
   last_suc t g =
-    ap (λ b. cond b 0 (stamp_of (joined_of (cell (row_at t (suc g - 1)))))) (ne_eqb (suc g) 0 (λ e. absurd (omega arith)))
-    ∙ ap (λ n. stamp_of (joined_of (cell (row_at t n)))) (omega arith)
+      ap (λ b. cond b 0 (stamp_of (joined_of (cell (row_at t (suc g - 1)))))) (ne_eqb (suc g) 0 (λ e. absurd (omega arith)))
+      ∙ ap (λ n. stamp_of (joined_of (cell (row_at t n)))) (omega arith)
 
   stamp_above : (r : Row) (j : Joined) → joined_of (cell r) ≡ Some j → last_stamp (joined_by cell) r < j.stamp
   stamp_above r j e =
-    let p = some_parts j.partner (l.paired r j e) in
-    let s = (l.sides r j p.0 e p.1).stamp in
-    omega arith
+      let p = some_parts j.partner (l.paired r j e) in
+      let s = (l.sides r j p.0 e p.1).stamp in
+      omega arith
 
   rising : (t g h : ℕ) → is_fresh (cell (row_at t g)) ≡ false → h < g → stamp_of (joined_of (cell (row_at t h))) ≤ last_stamp (joined_by cell) (row_at t g)
   rising t zero h f b = absurd (omega arith)
   rising t (suc g) h f b =
-    let last = last_suc t g in
-    ⊎_elim
-    (λ (e : h ≡ g).
-        let same : stamp_of (joined_of (cell (row_at t h))) ≡ stamp_of (joined_of (cell (row_at t g))) = ap (λ n. stamp_of (joined_of (cell (row_at t n)))) e in
-        omega arith)
-    (λ (n : h ≡ g → ⊥).
-        let under = rising t g h (open_before t g f) (omega (arith, n)) in
-        let j = some_parts _ (open_suc t g f) in
-        let above = stamp_above (row_at t g) j.0 j.1 in
-        let is : stamp_of (joined_of (cell (row_at t g))) ≡ j.0.stamp = ap stamp_of j.1 in
-        omega arith)
-    (cases_eq h g)
+      let last = last_suc t g in
+      ⊎_elim
+      (λ (e : h ≡ g).
+      let same : stamp_of (joined_of (cell (row_at t h))) ≡ stamp_of (joined_of (cell (row_at t g))) = ap (λ n. stamp_of (joined_of (cell (row_at t n)))) e in
+      omega arith)
+      (λ (n : h ≡ g → ⊥).
+      let under = rising t g h (open_before t g f) (omega (arith, n)) in
+      let j = some_parts _ (open_suc t g f) in
+      let above = stamp_above (row_at t g) j.0 j.1 in
+      let is : stamp_of (joined_of (cell (row_at t g))) ≡ j.0.stamp = ap stamp_of j.1 in
+      omega arith)
+      (cases_eq h g)
 
   -- the stamp of a commit that an open row is in is above its last stamp
   stamp_over : (c : Commit) (x : Row) → (h : IsIn (joined_by cell) offer c) → Involves c x → last_stamp (joined_by cell) x < stamp_in c
   stamp_over c x h v =
-    let s = (side_of_in c h).stamp in
-    let is = stamp_of_pair offer h.row h.way (partner_of c h).0 c (pair_in c h) in
-    ⊎_elim
-    (λ (e : h.row ≡ x).
-        let at : last_stamp (joined_by cell) h.row ≡ last_stamp (joined_by cell) x = ap (last_stamp (joined_by cell)) e in
-        omega arith)
-    (λ (e : (partner_of c h).0.0 ≡ x).
-        let at : last_stamp (joined_by cell) (partner_of c h).0.0 ≡ last_stamp (joined_by cell) x = ap (last_stamp (joined_by cell)) e in
-        omega arith)
-    (taken_rows offer h.row h.way (partner_of c h).0 c x (pair_in c h) v)
+      let s = (side_of_in c h).stamp in
+      let is = stamp_of_pair offer h.row h.way (partner_of c h).0 c (pair_in c h) in
+      ⊎_elim
+      (λ (e : h.row ≡ x).
+      let at : last_stamp (joined_by cell) h.row ≡ last_stamp (joined_by cell) x = ap (last_stamp (joined_by cell)) e in
+      omega arith)
+      (λ (e : (partner_of c h).0.0 ≡ x).
+      let at : last_stamp (joined_by cell) (partner_of c h).0.0 ≡ last_stamp (joined_by cell) x = ap (last_stamp (joined_by cell)) e in
+      omega arith)
+      (taken_rows offer h.row h.way (partner_of c h).0 c x (pair_in c h) v)
 
   no_enabler : (c d : Commit) (q p : Row × ℕ) (s : ℕ) → IsSent offer q p s c → Enables bound d c → ⊥
   no_enabler c d q p s x e = subst (Enables bound d) x.is e
 
   above_in : (c : Commit) → (h : IsIn (joined_by cell) offer c) → (d : Commit) → IsIn (joined_by cell) offer d → CountsFor bound d c → stamp_in d < stamp_in c
   above_in c h d k (inl e) =
-    let t : ℕ = e.0 in
-    let g : ℕ = e.1 in
-    let b : ℕ = e.2 in
-    let open_g = open_of c (row_at t g) h e.5 in
-    let j = some_parts _ (joined_before t g b open_g e.3) in
-    let named = same_named (row_at t b) j.0 d j.1 k e.4 in
-    let mine : (commit_of_joined (row_at t b) j.0 j.1).0 ≡ d = some_inj _ d (sym (commit_of_joined (row_at t b) j.0 j.1).1 ∙ named) in
-    let stamp : stamp_in d ≡ j.0.stamp = ap stamp_in (sym mine) ∙ stamp_own (row_at t b) j.0 j.1 in
-    let is : stamp_of (joined_of (cell (row_at t b))) ≡ j.0.stamp = ap stamp_of j.1 in
-    let up = rising t g b open_g e.3 in
-    let over = stamp_over c (row_at t g) h e.5 in
-    omega arith
+      let t : ℕ = e.0 in
+      let g : ℕ = e.1 in
+      let b : ℕ = e.2 in
+      let open_g = open_of c (row_at t g) h e.5 in
+      let j = some_parts _ (joined_before t g b open_g e.3) in
+      let named = same_named (row_at t b) j.0 d j.1 k e.4 in
+      let mine : (commit_of_joined (row_at t b) j.0 j.1).0 ≡ d = some_inj _ d (sym (commit_of_joined (row_at t b) j.0 j.1).1 ∙ named) in
+      let stamp : stamp_in d ≡ j.0.stamp = ap stamp_in (sym mine) ∙ stamp_own (row_at t b) j.0 j.1 in
+      let is : stamp_of (joined_of (cell (row_at t b))) ≡ j.0.stamp = ap stamp_of j.1 in
+      let up = rising t g b open_g e.3 in
+      let over = stamp_over c (row_at t g) h e.5 in
+      omega arith
   above_in c h d k (inr e) = absurd (⊎_elim
-    (λ (s : IsSent offer (h.row, h.way.own) (partner_of c h).0 h.way.stamp c). no_enabler c d _ _ h.way.stamp s e)
-    (λ (s : IsSent offer (partner_of c h).0 (h.row, h.way.own) h.way.stamp c). no_enabler c d _ _ h.way.stamp s e)
-    (pair_in c h))
+      (λ (s : IsSent offer (h.row, h.way.own) (partner_of c h).0 h.way.stamp c). no_enabler c d _ _ h.way.stamp s e)
+      (λ (s : IsSent offer (partner_of c h).0 (h.row, h.way.own) h.way.stamp c). no_enabler c d _ _ h.way.stamp s e)
+      (pair_in c h))
 
   -- the commit before, where a row has a last stamp
   last_commit : (c : Commit) (r : Row) → Involves c r → 0 < last_stamp (joined_by cell) r → (d : Commit) × IsIn (joined_by cell) offer d × CountsFor bound d c × (stamp_in d ≡ last_stamp (joined_by cell) r)
@@ -293,43 +292,44 @@ module _ (threads rows : ℕ) (cell : Row → Cell) (offer : Row → ℕ → Opt
     where
       by_sync : (n : ℕ) → r.sync ≡ n → (d : Commit) × IsIn (joined_by cell) offer d × CountsFor bound d c × (stamp_in d ≡ last_stamp (joined_by cell) r)
       by_sync zero e =
-        let none : last_stamp (joined_by cell) r ≡ 0 = ap (λ n. cond (eqb n 0) 0 (stamp_of (joined_of (cell (row_at r.thread (r.sync - 1)))))) e in
-        absurd (omega arith)
+          let none : last_stamp (joined_by cell) r ≡ 0 = ap (λ n. cond (eqb n 0) 0 (stamp_of (joined_of (cell (row_at r.thread (r.sync - 1)))))) e in
+          absurd (omega arith)
       by_sync (suc n) e =
-        let last : last_stamp (joined_by cell) r ≡ stamp_of (joined_of (cell (row_at r.thread n))) = ap (λ m. last_stamp (joined_by cell) (row_at r.thread m)) e ∙ last_suc r.thread n in
-        ⊎_elim
-        (λ (z : joined_of (cell (row_at r.thread n)) ≡ None). let none : stamp_of (joined_of (cell (row_at r.thread n))) ≡ 0 = ap stamp_of z in absurd (omega arith))
-        (λ (j : (j : Joined) × (joined_of (cell (row_at r.thread n)) ≡ Some j)).
-            ((commit_of_joined (row_at r.thread n) j.0 j.1).0,
+          let last : last_stamp (joined_by cell) r ≡ stamp_of (joined_of (cell (row_at r.thread n))) = ap (λ m. last_stamp (joined_by cell) (row_at r.thread m)) e ∙ last_suc r.thread n in
+          ⊎_elim
+          (λ (z : joined_of (cell (row_at r.thread n)) ≡ None). let none : stamp_of (joined_of (cell (row_at r.thread n))) ≡ 0 = ap stamp_of z in absurd (omega arith))
+          (λ (j : (j : Joined) × (joined_of (cell (row_at r.thread n)) ≡ Some j)). (
+            (commit_of_joined (row_at r.thread n) j.0 j.1).0,
             in_of_joined (row_at r.thread n) j.0 j.1,
             inl (r.thread, suc n, n, omega arith, involves_own (row_at r.thread n) j.0 j.1, subst (λ m. Involves c (row_at r.thread m)) e v),
-            stamp_own (row_at r.thread n) j.0 j.1 ∙ sym (ap stamp_of j.1) ∙ sym last))
-        (cases_Option (joined_of (cell (row_at r.thread n))))
+            stamp_own (row_at r.thread n) j.0 j.1 ∙ sym (ap stamp_of j.1) ∙ sym last,
+          ))
+          (cases_Option (joined_of (cell (row_at r.thread n))))
 
   involves_both : (c : Commit) (h : IsIn (joined_by cell) offer c) → Involves c h.row × Involves c (partner_of c h).0.0
   involves_both c h = ⊎_elim
-    (λ (s : IsSent offer (h.row, h.way.own) (partner_of c h).0 h.way.stamp c).
-        ((h.way.own, subst (λ (d : Commit). Takes d h.row h.way.own) (sym s.is) (inl refl)), ((partner_of c h).0.1, subst (λ (d : Commit). Takes d (partner_of c h).0.0 (partner_of c h).0.1) (sym s.is) (inr refl))))
-    (λ (s : IsSent offer (partner_of c h).0 (h.row, h.way.own) h.way.stamp c).
-        ((h.way.own, subst (λ (d : Commit). Takes d h.row h.way.own) (sym s.is) (inr refl)), ((partner_of c h).0.1, subst (λ (d : Commit). Takes d (partner_of c h).0.0 (partner_of c h).0.1) (sym s.is) (inl refl))))
-    (pair_in c h)
+      (λ (s : IsSent offer (h.row, h.way.own) (partner_of c h).0 h.way.stamp c).
+      ((h.way.own, subst (λ (d : Commit). Takes d h.row h.way.own) (sym s.is) (inl refl)), ((partner_of c h).0.1, subst (λ (d : Commit). Takes d (partner_of c h).0.0 (partner_of c h).0.1) (sym s.is) (inr refl))))
+      (λ (s : IsSent offer (partner_of c h).0 (h.row, h.way.own) h.way.stamp c).
+      ((h.way.own, subst (λ (d : Commit). Takes d h.row h.way.own) (sym s.is) (inr refl)), ((partner_of c h).0.1, subst (λ (d : Commit). Takes d (partner_of c h).0.0 (partner_of c h).0.1) (sym s.is) (inl refl))))
+      (pair_in c h)
 
   next_in : (c : Commit) → IsIn (joined_by cell) offer c → (stamp_in c ≡ 1) ⊎ ((d : Commit) × IsIn (joined_by cell) offer d × CountsFor bound d c × (stamp_in c ≡ stamp_in d + 1))
   next_in c h =
-    let p : Row × ℕ = (partner_of c h).0 in
-    let s : h.way.stamp ≡ 1 + max (last_stamp (joined_by cell) h.row) (last_stamp (joined_by cell) p.0) = (side_of_in c h).stamp in
-    let is = stamp_of_pair offer h.row h.way p c (pair_in c h) in
-    let both = involves_both c h in
-    pick (last_stamp (joined_by cell) h.row) (last_stamp (joined_by cell) p.0) (is ∙ s) (last_commit c h.row both.0) (last_commit c p.0 both.1)
+      let p : Row × ℕ = (partner_of c h).0 in
+      let s : h.way.stamp ≡ 1 + max (last_stamp (joined_by cell) h.row) (last_stamp (joined_by cell) p.0) = (side_of_in c h).stamp in
+      let is = stamp_of_pair offer h.row h.way p c (pair_in c h) in
+      let both = involves_both c h in
+      pick (last_stamp (joined_by cell) h.row) (last_stamp (joined_by cell) p.0) (is ∙ s) (last_commit c h.row both.0) (last_commit c p.0 both.1)
     where
       pick : (a b : ℕ) → stamp_in c ≡ 1 + max a b → (0 < a → (d : Commit) × IsIn (joined_by cell) offer d × CountsFor bound d c × (stamp_in d ≡ a)) → (0 < b → (d : Commit) × IsIn (joined_by cell) offer d × CountsFor bound d c × (stamp_in d ≡ b)) → (stamp_in c ≡ 1) ⊎ ((d : Commit) × IsIn (joined_by cell) offer d × CountsFor bound d c × (stamp_in c ≡ stamp_in d + 1))
       pick a b s f g = ⊎_elim
-        (λ (lt : a < b). let d = g (omega arith) in let at : stamp_in d.0 ≡ b = d.3 in inr (d.0, d.1, d.2, omega arith))
-        (λ (le : b ≤ a). ⊎_elim
-            (λ (z : a ≡ 0). inl (omega arith))
-            (λ (z : a ≡ 0 → ⊥). let d = f (omega (arith, z)) in let at : stamp_in d.0 ≡ a = d.3 in inr (d.0, d.1, d.2, omega arith))
-            (cases_eq a 0))
-        (cases_lt a b)
+          (λ (lt : a < b). let d = g (omega arith) in let at : stamp_in d.0 ≡ b = d.3 in inr (d.0, d.1, d.2, omega arith))
+          (λ (le : b ≤ a). ⊎_elim
+          (λ (z : a ≡ 0). inl (omega arith))
+          (λ (z : a ≡ 0 → ⊥). let d = f (omega (arith, z)) in let at : stamp_in d.0 ≡ a = d.3 in inr (d.0, d.1, d.2, omega arith))
+          (cases_eq a 0))
+          (cases_lt a b)
 
   pub lawful_linked : Lawful (all_rows threads rows) (joined_by cell) offer bound
   lawful_linked = record {

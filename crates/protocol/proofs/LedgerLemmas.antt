@@ -1,11 +1,10 @@
 -- The ledger of a table has what the table reads as; the start is kept; so every schedule's ledger is lawful.
-use Rattle.std.proofs.Common.{◌≡◌, ◌≢◌, ℕ, zero, suc, ◌+◌, ◌-◌, ◌*◌, ◌%◌, ◌<◌, ◌≤◌, Bool, true, false, cond, eqb, ltb, ◌&&◌, List, [], ◌∷◌, ◌++◌, length, get_or, map, replicate, sym, refl, ap, ◌∙◌, subst, ◌⊎◌, inl, inr, ⊎_elim, arith, Option, Some, None, is_some}
+use Rattle.std.proofs.Common.{◌≡◌, ℕ, zero, suc, ◌+◌, ◌-◌, ◌*◌, ◌%◌, ◌<◌, ◌≤◌, true, false, cond, ltb, List, [], ◌∷◌, length, get_or, map, replicate, sym, ap, ◌∙◌, subst, ⊎_elim, arith, Option, Some, None, is_some}
 use Rattle.std.specs.Prelude.{unwrap_or}
 use Rattle.std.specs.List.{range_with_len}
 use Rattle.std.proofs.lemmas.Bool.{cases_eq, cases_Bool, cases_lt, false≢true, true≢false, and_from, and_parts, lt-ltb, ltb-true, ne_eqb}
-use Rattle.std.proofs.lemmas.List.{get_or_append_left, get_or-append_right, get_or-map, get_or_past, get_or-replicate, length-append, length-map, length-replicate}
+use Rattle.std.proofs.lemmas.List.{get_or_append_left, get_or-append_right, get_or-map, get_or_past, get_or-replicate, length-append, length-replicate}
 use Rattle.std.proofs.lemmas.List.FromFn.{get_or-map-range_with_len, length-map-range_with_len}
-use Rattle.std.proofs.Math.Nat.{mul-le-mul_right}
 use Rattle.words.specs.declared.Row.{Row}
 use Rattle.words.specs.declared.NackName.{NackName}
 use Rattle.words.specs.declared.Joined.{Joined}
@@ -17,10 +16,10 @@ use Rattle.words.specs.declared.Cell.{Cell}
 use Rattle.words.specs.declared.Cell.TheVariants.{Fresh}
 use Rattle.words.specs.Words.{cell_of, nack_of, is_word_for}
 use Rattle.words.proofs.WordLemmas.{cell_of-zero, nack_of-zero, is_word_for-zero}
-use Rattle.protocol.specs.Tables.{Table, thread_len, place_of, nack_place, is_row, is_nack, row_eq, all_rows, rows_below, number_of, word_at, nack_at, cell_at, is_fresh, joined_of, joined_at, count_at, offer_at, binding_at, names}
+use Rattle.protocol.specs.Tables.{Table, thread_len, place_of, nack_place, is_row, is_nack, all_rows, rows_below, number_of, word_at, nack_at, cell_at, is_fresh, joined_of, joined_at, count_at, offer_at, binding_at, names}
 use Rattle.protocol.specs.Worlds.{World, start_world, first_holder, holder_at, Plays}
-use Rattle.protocol.specs.Ledgers.{Entry, Ledger, ledger_of, entry_at, no_entry, entry_in, has_row, joined_in, offer_in, binding_in, all_nacks, nacks_below, Lawful, IsLawful}
-use Rattle.protocol.specs.Kept.{joined_by, Linked, IsFormed, Kept}
+use Rattle.protocol.specs.Ledgers.{Entry, ledger_of, entry_at, no_entry, entry_in, joined_in, offer_in, binding_in, all_nacks, nacks_below, Lawful, IsLawful}
+use Rattle.protocol.specs.Kept.{Linked, Kept}
 use Rattle.protocol.proofs.Places.{block_inside, row_inside}
 use Rattle.protocol.proofs.Readings.{cell_outside, cell_inside, offer_none, count_fresh}
 use Rattle.protocol.proofs.Keeping.{length_all, length_below, kept_schedule, held_row}
@@ -34,11 +33,11 @@ row_in_thread t (suc g) h d b =
     let len = length_below t g in
     ⊎_elim
     (λ (e : h ≡ g).
-        get_or-append_right (rows_below t g) _ g h d len (omega arith)
-        ∙ ap (λ n. get_or (record { thread = t; sync = g } ∷ []) n d) (let z : h - g ≡ 0 = omega arith in z)
-        ∙ ap (λ n. record { thread = t; sync = n }) (sym e))
+    get_or-append_right (rows_below t g) _ g h d len (omega arith)
+    ∙ ap (λ n. get_or (record { thread = t; sync = g } ∷ []) n d) (let z : h - g ≡ 0 = omega arith in z)
+    ∙ ap (λ n. record { thread = t; sync = n }) (sym e))
     (λ (n : h ≡ g → ⊥).
-        get_or_append_left (rows_below t g) _ d h (omega (arith, n)) ∙ row_in_thread t g h d (omega (arith, n)))
+    get_or_append_left (rows_below t g) _ d h (omega (arith, n)) ∙ row_in_thread t g h d (omega (arith, n)))
     (cases_eq h g)
 
 pub row_at_number : (t g : ℕ) (r : Row) (d : Row) → r.thread < t → r.sync < g → get_or (all_rows t g) (r.thread * g + r.sync) d ≡ r
@@ -47,14 +46,14 @@ row_at_number (suc t) g r d h k =
     let len = length_all t g in
     ⊎_elim
     (λ (e : r.thread ≡ t).
-        let same : r.thread * g ≡ t * g = ap (λ n. n * g) e in
-        get_or-append_right (all_rows t g) (rows_below t g) (t * g) (r.thread * g + r.sync) d len (omega arith)
-        ∙ ap (λ n. get_or (rows_below t g) n d) (let z : r.thread * g + r.sync - t * g ≡ r.sync = omega arith in z)
-        ∙ row_in_thread t g r.sync d k
-        ∙ ap (λ n. record { thread = n; sync = r.sync }) (sym e))
+    let same : r.thread * g ≡ t * g = ap (λ n. n * g) e in
+    get_or-append_right (all_rows t g) (rows_below t g) (t * g) (r.thread * g + r.sync) d len (omega arith)
+    ∙ ap (λ n. get_or (rows_below t g) n d) (let z : r.thread * g + r.sync - t * g ≡ r.sync = omega arith in z)
+    ∙ row_in_thread t g r.sync d k
+    ∙ ap (λ n. record { thread = n; sync = r.sync }) (sym e))
     (λ (n : r.thread ≡ t → ⊥).
-        let b = block_inside r.thread t r.sync g (omega (arith, n)) k in
-        get_or_append_left (all_rows t g) (rows_below t g) d (r.thread * g + r.sync) (omega arith) ∙ row_at_number t g r d (omega (arith, n)) k)
+    let b = block_inside r.thread t r.sync g (omega (arith, n)) k in
+    get_or_append_left (all_rows t g) (rows_below t g) d (r.thread * g + r.sync) (omega arith) ∙ row_at_number t g r d (omega (arith, n)) k)
     (cases_eq r.thread t)
 
 pub number_inside : (t g : ℕ) (r : Row) → r.thread < t → r.sync < g → r.thread * g + r.sync < length (all_rows t g)
@@ -92,8 +91,8 @@ offers_entry : (t : Table) (r : Row) (n : ℕ) → get_or (map (offer_at t r) (r
 offers_entry t r n = ⊎_elim
     (λ (h : n < count_at t r). get_or-map-range_with_len (offer_at t r) 0 (count_at t r) n n None h (let z : 0 + n ≡ n = omega arith in z))
     (λ (h : count_at t r ≤ n).
-        let len = length-map-range_with_len (offer_at t r) 0 (count_at t r) in
-        get_or_past (map (offer_at t r) (range_with_len 0 (count_at t r))) n None (omega arith) ∙ sym (offer_none t r n h))
+    let len = length-map-range_with_len (offer_at t r) 0 (count_at t r) in
+    get_or_past (map (offer_at t r) (range_with_len 0 (count_at t r))) n None (omega arith) ∙ sym (offer_none t r n h))
     (cases_lt n (count_at t r))
 
 pub offer_in_ledger : (t : Table) → offer_in (ledger_of t) ≡ offer_at t
@@ -104,8 +103,8 @@ offer_in_ledger t = λ i r n. at r n i
     at r n = ⊎_elim
         (λ (e : is_row t r ≡ true). ap (λ (x : Entry). get_or x.offers n None) (entry_is t r e) ∙ offers_entry t r n)
         (λ (e : is_row t r ≡ false).
-            let none : count_at t r ≡ 0 = count_fresh t r (ap is_fresh (cell_outside t r e)) in
-            ap (λ (x : Entry). get_or x.offers n None) (entry_outside t r e) ∙ sym (offer_none t r n (omega arith)))
+        let none : count_at t r ≡ 0 = count_fresh t r (ap is_fresh (cell_outside t r e)) in
+        ap (λ (x : Entry). get_or x.offers n None) (entry_outside t r e) ∙ sym (offer_none t r n (omega arith)))
         (cases_Bool (is_row t r))
 
 -- THE NACK AT A NUMBER
@@ -124,11 +123,11 @@ nack_at_number (suc t) n d h k =
     let len = length_nacks t in
     ⊎_elim
     (λ (e : n.thread ≡ t).
-        get_or-append_right (all_nacks t) (nacks_below t 64) (t * 64) (n.thread * 64 + n.k) d len (omega arith)
-        ∙ get_or-map-range_with_len (nack_named t) 0 64 (n.thread * 64 + n.k - t * 64) n.k d (omega arith) (omega arith)
-        ∙ ap (λ m. nack_named m n.k) (sym e))
+    get_or-append_right (all_nacks t) (nacks_below t 64) (t * 64) (n.thread * 64 + n.k) d len (omega arith)
+    ∙ get_or-map-range_with_len (nack_named t) 0 64 (n.thread * 64 + n.k - t * 64) n.k d (omega arith) (omega arith)
+    ∙ ap (λ m. nack_named m n.k) (sym e))
     (λ (m : n.thread ≡ t → ⊥).
-        get_or_append_left (all_nacks t) (nacks_below t 64) d (n.thread * 64 + n.k) (omega (arith, m)) ∙ nack_at_number t n d (omega (arith, m)) k)
+    get_or_append_left (all_nacks t) (nacks_below t 64) d (n.thread * 64 + n.k) (omega (arith, m)) ∙ nack_at_number t n d (omega (arith, m)) k)
     (cases_eq n.thread t)
 
 pub binding_in_ledger : (t : Table) → binding_in (ledger_of t) ≡ binding_at t
@@ -138,16 +137,16 @@ binding_in_ledger t = λ i n. at n i
     at : (n : NackName) → binding_in (ledger_of t) n ≡ binding_at t n
     at n = ⊎_elim
         (λ (e : is_nack t n ≡ true).
-            let p = and_parts (ltb n.thread t.threads) (ltb n.k 64) e in
-            let below = ltb-true n.thread t.threads p.0 in
-            let small = ltb-true n.k 64 p.1 in
-            let len = length_nacks t.threads in
-            ap (λ b. cond b (get_or (map (binding_at t) (all_nacks t.threads)) (n.thread * 64 + n.k) None) None) e
-            ∙ get_or-map (binding_at t) (all_nacks t.threads) (n.thread * 64 + n.k) n None (omega arith)
-            ∙ ap (binding_at t) (nack_at_number t.threads n n below small))
+        let p = and_parts (ltb n.thread t.threads) (ltb n.k 64) e in
+        let below = ltb-true n.thread t.threads p.0 in
+        let small = ltb-true n.k 64 p.1 in
+        let len = length_nacks t.threads in
+        ap (λ b. cond b (get_or (map (binding_at t) (all_nacks t.threads)) (n.thread * 64 + n.k) None) None) e
+        ∙ get_or-map (binding_at t) (all_nacks t.threads) (n.thread * 64 + n.k) n None (omega arith)
+        ∙ ap (binding_at t) (nack_at_number t.threads n n below small))
         (λ (e : is_nack t n ≡ false).
-            ap (λ b. cond b (get_or (map (binding_at t) (all_nacks t.threads)) (n.thread * 64 + n.k) None) None) e
-            ∙ sym (ap (λ b. cond b (unwrap_or (nack_of (nack_at t n)) None) None) e))
+        ap (λ b. cond b (get_or (map (binding_at t) (all_nacks t.threads)) (n.thread * 64 + n.k) None) None) e
+        ∙ sym (ap (λ b. cond b (unwrap_or (nack_of (nack_at t n)) None) None) e))
         (cases_Bool (is_nack t n))
 
 -- THE START
@@ -172,9 +171,9 @@ start_nack threads rows n = zeros (threads * thread_len rows) (nack_place rows n
 pub start_cell : (threads rows : ℕ) (r : Row) → cell_at (start_table threads rows) r ≡ Fresh
 start_cell threads rows r = ⊎_elim
     (λ (e : is_row (start_table threads rows) r ≡ true).
-        cell_inside (start_table threads rows) r e
-        ∙ ap (λ w. unwrap_or (cell_of w) Fresh) (start_word threads rows r 0)
-        ∙ ap (λ (o : Option Cell). unwrap_or o Fresh) cell_of-zero)
+    cell_inside (start_table threads rows) r e
+    ∙ ap (λ w. unwrap_or (cell_of w) Fresh) (start_word threads rows r 0)
+    ∙ ap (λ (o : Option Cell). unwrap_or o Fresh) cell_of-zero)
     (λ (e : is_row (start_table threads rows) r ≡ false). cell_outside (start_table threads rows) r e)
     (cases_Bool (is_row (start_table threads rows) r))
 
@@ -187,28 +186,28 @@ start_holder threads rows seats r h k =
 pub kept_start : (threads rows seats : ℕ) → threads ≤ 64 → rows ≤ 1024 → Kept (start_world threads rows seats)
 unfolding start_world
 kept_start threads rows seats a b = record {
-    sized = length-replicate (threads * thread_len rows) 0;
-    few_threads = a;
-    few_rows = b;
-    formed = record {
-      rows = λ r p i k. ap (is_word_for p) (start_word threads rows r p) ∙ is_word_for-zero p;
-      nacks = λ n i. ap (λ w. is_some (nack_of w)) (start_nack threads rows n) ∙ ap (λ (o : Option (Option Binding)). is_some o) nack_of-zero;
-    };
-    linked = record {
-      inside = λ r h. absurd (true≢false (sym (ap is_fresh (start_cell threads rows r)) ∙ h));
-      in_turn = λ t g h. absurd (true≢false (sym (ap is_fresh (start_cell threads rows (record { thread = t; sync = g + 1 }))) ∙ h));
-      paired = λ r j h. let bad : None ≡ Some j = sym (ap joined_of (start_cell threads rows r)) ∙ h in cc;
-      sides = λ r j p h k. let bad : None ≡ Some j = sym (ap joined_of (start_cell threads rows r)) ∙ h in cc;
-      once = λ q r p h k. absurd (false≢true (sym (ap (λ (c : Cell). names (joined_of c) p) (start_cell threads rows q)) ∙ h));
-      bounded = λ r j h. let bad : None ≡ Some j = sym (ap joined_of (start_cell threads rows r)) ∙ h in cc;
-    };
-    held = λ t g seat h.
-        let r : Row = record { thread = t; sync = g + 1 } in
-        let in_t = row_inside (start_table threads rows) r (held_row (start_world threads rows seats) r seat h) in
-        let bad : None ≡ Some seat =
-            sym (start_holder threads rows seats r in_t.0 in_t.1 ∙ ap (λ c. cond c (Some (t % seats)) None) (ne_eqb (g + 1) 0 (λ e. absurd (omega arith)))) ∙ h in
-        cc;
-  }
+  sized = length-replicate (threads * thread_len rows) 0;
+  few_threads = a;
+  few_rows = b;
+  formed = record {
+    rows = λ r p i k. ap (is_word_for p) (start_word threads rows r p) ∙ is_word_for-zero p;
+    nacks = λ n i. ap (λ w. is_some (nack_of w)) (start_nack threads rows n) ∙ ap (λ (o : Option (Option Binding)). is_some o) nack_of-zero;
+  };
+  linked = record {
+    inside = λ r h. absurd (true≢false (sym (ap is_fresh (start_cell threads rows r)) ∙ h));
+    in_turn = λ t g h. absurd (true≢false (sym (ap is_fresh (start_cell threads rows (record { thread = t; sync = g + 1 }))) ∙ h));
+    paired = λ r j h. let bad : None ≡ Some j = sym (ap joined_of (start_cell threads rows r)) ∙ h in cc;
+    sides = λ r j p h k. let bad : None ≡ Some j = sym (ap joined_of (start_cell threads rows r)) ∙ h in cc;
+    once = λ q r p h k. absurd (false≢true (sym (ap (λ (c : Cell). names (joined_of c) p) (start_cell threads rows q)) ∙ h));
+    bounded = λ r j h. let bad : None ≡ Some j = sym (ap joined_of (start_cell threads rows r)) ∙ h in cc;
+  };
+  held = λ t g seat h.
+      let r : Row = record { thread = t; sync = g + 1 } in
+      let in_t = row_inside (start_table threads rows) r (held_row (start_world threads rows seats) r seat h) in
+      let bad : None ≡ Some seat =
+      sym (start_holder threads rows seats r in_t.0 in_t.1 ∙ ap (λ c. cond c (Some (t % seats)) None) (ne_eqb (g + 1) 0 (λ e. absurd (omega arith)))) ∙ h in
+      cc;
+}
 
 -- THE LAW OF ALL SCHEDULES
 

@@ -1,10 +1,10 @@
 -- One lemma for each kind of step: the cells and offers stay linked.
-use Rattle.std.proofs.Common.{◌≡◌, ◌≢◌, ℕ, zero, suc, ◌+◌, ◌-◌, ◌*◌, ◌<◌, ◌≤◌, Bool, true, false, cond, eqb, ltb, ◌&&◌, ◌||◌, List, [], ◌∷◌, ◌++◌, length, Option, Some, None, sym, refl, ap, ◌∙◌, subst, ◌⊎◌, inl, inr, ⊎_elim, arith, rules, append_assoc, length-append, is_some, max}
+use Rattle.std.proofs.Common.{◌≡◌, ◌≢◌, ℕ, ◌+◌, true, false, cond, eqb, ◌||◌, List, [], ◌∷◌, length, Option, Some, None, sym, refl, ap, ◌∙◌, subst, ◌⊎◌, inl, inr, ⊎_elim, arith, is_some}
 use Rattle.std.specs.Prelude.{is_none, option_to_list}
-use Rattle.std.specs.List.{flat_map, sum_by}
+use Rattle.std.specs.List.{sum_by}
 use Rattle.std.proofs.lemmas.List.Sums.{sum_by-append, sum_by-cons}
 use Rattle.std.proofs.lemmas.List.Concat.{length-flat_map}
-use Rattle.std.proofs.lemmas.Bool.{eqb-true, eqb-false, eq-eqb, ne_eqb, cases_Bool, and_parts, cases_eq, false≢true, true≢false}
+use Rattle.std.proofs.lemmas.Bool.{ne_eqb, cases_Bool, cases_eq, false≢true}
 use Rattle.words.specs.declared.Row.{Row}
 use Rattle.words.specs.declared.Joined.{Joined}
 use Rattle.words.specs.declared.Offer.{Offer}
@@ -13,11 +13,11 @@ use Rattle.words.specs.declared.Base.TheVariants.{Send, Recv, Always, OnNack, Ne
 use Rattle.words.specs.declared.Commit.{Commit}
 use Rattle.words.specs.declared.Cell.{Cell}
 use Rattle.words.specs.declared.Cell.TheVariants.{Fresh, Waiting, Claimed, Synched, Taken}
-use Rattle.protocol.specs.Tables.{row_eq, all_rows, is_fresh, joined_of, names, is_partner, offers_meet, bases_meet, last_stamp, stamp_of}
+use Rattle.protocol.specs.Tables.{row_eq, is_fresh, joined_of, names, is_partner, offers_meet, bases_meet}
 use Rattle.protocol.specs.Worlds.{mirrored}
 use Rattle.protocol.specs.Ledgers.{commits_of, told_at, told_by, tells, is_send, sends, commit_named, commit_by, pair_by, received_by}
-use Rattle.protocol.specs.Kept.{joined_by, IsSideOf, Linked}
-use Rattle.protocol.proofs.RowLemmas.{row_eq-refl, row_eq-true, row_eq-false, row_cases, row_ne, put, put_same, put_other, IsAbsent, IsOnce, once_all}
+use Rattle.protocol.specs.Kept.{Linked}
+use Rattle.protocol.proofs.RowLemmas.{row_eq-refl, row_eq-true, row_cases, put, put_same, put_other, IsAbsent, IsOnce}
 
 -- OPTIONS
 
@@ -75,9 +75,9 @@ sum_change f g x rs o h =
     let front = same_sum f g x o.front o.before h in
     let back = same_sum f g x o.back o.behind h in
     let left : sum_by g rs ≡ sum_by g o.front + (g x + sum_by g o.back) =
-        ap (sum_by g) o.is ∙ sum_by-append g o.front (x ∷ o.back) ∙ ap (λ n. sum_by g o.front + n) (sum_by-cons g x o.back) in
+    ap (sum_by g) o.is ∙ sum_by-append g o.front (x ∷ o.back) ∙ ap (λ n. sum_by g o.front + n) (sum_by-cons g x o.back) in
     let right : sum_by f rs ≡ sum_by f o.front + (f x + sum_by f o.back) =
-        ap (sum_by f) o.is ∙ sum_by-append f o.front (x ∷ o.back) ∙ ap (λ n. sum_by f o.front + n) (sum_by-cons f x o.back) in
+    ap (sum_by f) o.is ∙ sum_by-append f o.front (x ∷ o.back) ∙ ap (λ n. sum_by f o.front + n) (sum_by-cons f x o.back) in
     omega arith
 
 -- changes at two rows
@@ -88,9 +88,9 @@ sum_change_two f g x y rs o p n h =
     let at_x : mid x ≡ g x = put_same f x (g x) in
     let at_y : mid y ≡ f y = put_other f x (g x) y n in
     let second = sum_change mid g y rs p (λ r k. ⊎_elim
-        (λ (e : r ≡ x). ap g e ∙ sym (ap mid e ∙ put_same f x (g x)))
-        (λ (e : row_eq r x ≡ false). h r e k ∙ sym (put_other f x (g x) r e))
-        (row_cases r x)) in
+    (λ (e : r ≡ x). ap g e ∙ sym (ap mid e ∙ put_same f x (g x)))
+    (λ (e : row_eq r x ≡ false). h r e k ∙ sym (put_other f x (g x) r e))
+    (row_cases r x)) in
     omega arith
 
 -- WHO IS NAMED
@@ -108,9 +108,9 @@ pub unnamed_idle : (threads rows : ℕ) (cell : Row → Cell) (offer : Row → �
 unnamed_idle threads rows cell offer x l c j q =
     ⊎_elim
     (λ (h : names (joined_of (cell q)) x ≡ true). ⊎_elim
-        (λ (e : cell x ≡ Claimed). absurd (c e))
-        (λ (e : is_some (joined_of (cell x)) ≡ true). absurd (false≢true (sym (ap (λ (o : Option Joined). is_some o) j) ∙ e)))
-        (named_row threads rows cell offer q x l h))
+    (λ (e : cell x ≡ Claimed). absurd (c e))
+    (λ (e : is_some (joined_of (cell x)) ≡ true). absurd (false≢true (sym (ap (λ (o : Option Joined). is_some o) j) ∙ e)))
+    (named_row threads rows cell offer q x l h))
     (λ (h : names (joined_of (cell q)) x ≡ false). h)
     (cases_Bool (names (joined_of (cell q)) x))
 

@@ -1,11 +1,11 @@
 -- The row that names another: what the search over all rows finds.
-use Rattle.std.proofs.Common.{◌≡◌, ◌≢◌, ℕ, ◌+◌, ◌*◌, ◌<◌, Bool, true, false, cond, List, [], ◌∷◌, ◌++◌, sym, refl, ap, ◌∙◌, subst, ◌⊎◌, inl, inr, ⊎_elim, arith, Option, Some, None, is_some}
+use Rattle.std.proofs.Common.{◌≡◌, ℕ, ◌<◌, Bool, true, false, cond, List, [], ◌∷◌, ◌++◌, sym, refl, ap, ◌∙◌, ⊎_elim, Option, Some, None}
 use Rattle.std.specs.List.{find}
-use Rattle.std.proofs.lemmas.Bool.{cases_Bool, false≢true, true≢false}
+use Rattle.std.proofs.lemmas.Bool.{cases_Bool, true≢false}
 use Rattle.words.specs.declared.Row.{Row}
 use Rattle.words.specs.declared.Joined.{Joined}
-use Rattle.protocol.specs.Tables.{all_rows, row_eq, names, namer_of}
-use Rattle.protocol.proofs.RowLemmas.{IsOnce, once_all, IsAbsent, row_eq-refl, row_eq-true, row_cases}
+use Rattle.protocol.specs.Tables.{all_rows, names, namer_of}
+use Rattle.protocol.proofs.RowLemmas.{IsOnce, once_all}
 use Rattle.protocol.proofs.Linking.{cases_Option, some_inj}
 
 found_passes : (test : Row → Bool) (rs : List Row) (q : Row) → find test rs ≡ Some q → test q ≡ true
@@ -40,7 +40,7 @@ pub namer_is : (threads rows : ℕ) (joined : Row → Option Joined) (x q : Row)
 namer_is threads rows joined x q t g h only = ⊎_elim
     (λ (e : namer_of (all_rows threads rows) joined x ≡ None). absurd (true≢false (sym h ∙ no_namer threads rows joined x q e t g)))
     (λ (e : (r : Row) × (namer_of (all_rows threads rows) joined x ≡ Some r)).
-        e.1 ∙ ap (λ (r : Row). Some r) (only e.0 (namer_names (all_rows threads rows) joined x e.0 e.1)))
+    e.1 ∙ ap (λ (r : Row). Some r) (only e.0 (namer_names (all_rows threads rows) joined x e.0 e.1)))
     (cases_Option (namer_of (all_rows threads rows) joined x))
 
 -- where no row names it, none is found

@@ -1,13 +1,13 @@
 -- Where words lie: no two of them at one place.
-use Rattle.std.proofs.Common.{◌≡◌, ◌≢◌, ℕ, ◌+◌, ◌*◌, ◌<◌, ◌≤◌, Bool, true, false, cond, eqb, ltb, ◌&&◌, List, length, get_or, set, sym, refl, ap, ◌∙◌, subst, ◌⊎◌, inl, inr, ⊎_elim, arith}
-use Rattle.std.proofs.lemmas.Bool.{cases_order, cases_eq, cases_Bool, ltb-true, lt-ltb, and_parts, and_from, eq-eqb, ne_eqb, false≢true}
-use Rattle.std.proofs.lemmas.List.{get_or-set_same, get_or-set_other, length-set}
+use Rattle.std.proofs.Common.{◌≡◌, ℕ, ◌+◌, ◌*◌, ◌<◌, ◌≤◌, true, false, ltb, length, sym, refl, ap, ◌⊎◌, ⊎_elim, arith}
+use Rattle.std.proofs.lemmas.Bool.{cases_order, ltb-true, lt-ltb, and_parts, and_from}
+use Rattle.std.proofs.lemmas.List.{get_or-set_same, get_or-set_other}
 use Rattle.std.proofs.Math.Nat.{mul-le-mul_right}
 use Rattle.words.specs.declared.Row.{Row}
 use Rattle.words.specs.declared.NackName.{NackName}
 use Rattle.protocol.specs.Tables.{Table, thread_len, place_of, nack_place, is_row, is_nack, word_at, nack_at, row_eq}
 use Rattle.protocol.specs.Worlds.{with_word}
-use Rattle.protocol.proofs.RowLemmas.{row_eq-refl, row_eq-true, row_eq-false, row_cases, same_row}
+use Rattle.protocol.proofs.RowLemmas.{row_eq-false, same_row}
 
 pub row_inside : (t : Table) (r : Row) → is_row t r ≡ true → (r.thread < t.threads) × (r.sync < t.rows)
 unfolding is_row
@@ -35,9 +35,9 @@ pub same_block : (a b u v len : ℕ) → u < len → v < len → a * len + u ≡
 same_block a b u v len h k e = ⊎_elim
     (λ (c : a ≡ b). c)
     (λ (c : (a < b) ⊎ (b < a)). ⊎_elim
-        (λ (d : a < b). absurd (blocks_differ a b u v len d h e))
-        (λ (d : b < a). absurd (blocks_differ b a v u len d k (sym e)))
-        c)
+    (λ (d : a < b). absurd (blocks_differ a b u v len d h e))
+    (λ (d : b < a). absurd (blocks_differ b a v u len d k (sym e)))
+    c)
     (cases_order a b)
 
 pub same_rest : (a b u v len : ℕ) → u < len → v < len → a * len + u ≡ b * len + v → u ≡ v
@@ -109,8 +109,8 @@ pub word_other : (t : Table) (x r : Row) (p q v : ℕ) → is_row t x ≡ true �
 unfolding word_at
 word_other t x r p q v h k a b n =
     get_or-set_other t.words (place_of t.rows x p) (place_of t.rows r q) v 0 (λ e.
-        let same = same_place t r x q p k h b a e in
-        ⊎_elim (λ (d : row_eq r x ≡ false). row_eq-false r x d same.0) (λ (d : q ≡ p → ⊥). d same.1) n)
+    let same = same_place t r x q p k h b a e in
+    ⊎_elim (λ (d : row_eq r x ≡ false). row_eq-false r x d same.0) (λ (d : q ≡ p → ⊥). d same.1) n)
 
 pub nack_other : (t : Table) (x : Row) (n : NackName) (p v : ℕ) → is_row t x ≡ true → is_nack t n ≡ true → p < 34 → nack_at (with_word t x p v) n ≡ nack_at t n
 unfolding nack_at

@@ -1,22 +1,20 @@
 -- What a table reads as after a write to one of its words.
-use Rattle.std.proofs.Common.{◌≡◌, ◌≢◌, ℕ, ◌+◌, ◌-◌, ◌*◌, ◌<◌, ◌≤◌, Bool, true, false, cond, eqb, ltb, ◌&&◌, List, length, get_or, set, sym, refl, ap, ◌∙◌, subst, ◌⊎◌, inl, inr, ⊎_elim, arith, Option, Some, None, is_some}
+use Rattle.std.proofs.Common.{◌≡◌, ◌≢◌, ℕ, ◌+◌, ◌*◌, ◌<◌, ◌≤◌, true, false, cond, ltb, length, sym, ap, ◌∙◌, inl, inr, ⊎_elim, refl, arith, Option, Some, None, is_some}
 use Rattle.std.specs.Prelude.{unwrap_or}
 use Rattle.std.proofs.lemmas.Bool.{cases_eq, cases_Bool, ltb-true, ltb-false, le-ltb, lt-ltb, false≢true, true≢false}
 use Rattle.std.proofs.lemmas.List.{length-set}
 use Rattle.words.specs.declared.Row.{Row}
-use Rattle.words.specs.declared.NackName.{NackName}
 use Rattle.words.specs.declared.Offer.{Offer}
-use Rattle.words.specs.declared.Binding.{Binding}
 use Rattle.words.specs.declared.Cell.{Cell}
-use Rattle.words.specs.declared.Cell.TheVariants.{Fresh}
+use Rattle.words.specs.declared.Cell.TheVariants.{Fresh, Waiting, Claimed, Synched, Taken}
 use Rattle.words.specs.Words.{cell_of, cell_word, count_of, offer_of, nack_of, is_word_for, IsCellInRange}
 use Rattle.words.proofs.WordLemmas.{cell_of-cell_word, count-count_of, cell_is_word}
-use Rattle.protocol.specs.Tables.{Table, thread_len, is_row, is_nack, word_at, nack_at, row_eq, cell_at, is_fresh, count_at, offer_at, binding_at}
+use Rattle.protocol.specs.Tables.{Table, thread_len, is_row, word_at, row_eq, cell_at, is_fresh, count_at, offer_at}
 use Rattle.protocol.specs.Worlds.{with_word, with_cell}
 use Rattle.protocol.specs.Kept.{IsFormed}
-use Rattle.protocol.proofs.RowLemmas.{row_eq-refl, row_eq-true, row_cases, put, put_same, put_other}
+use Rattle.protocol.proofs.RowLemmas.{row_cases, put, put_same, put_other}
 use Rattle.protocol.proofs.Linking.{cases_Option}
-use Rattle.protocol.proofs.Places.{row_inside, is_row_after, is_nack_after, word_same, word_other, nack_other}
+use Rattle.protocol.proofs.Places.{is_row_after, is_nack_after, word_same, word_other, nack_other}
 
 -- a row that the table has not reads as Fresh, with no offers
 pub cell_outside : (t : Table) (r : Row) → is_row t r ≡ false → cell_at t r ≡ Fresh
@@ -47,9 +45,9 @@ default_few : (w : ℕ) → unwrap_or (count_of w) 0 ≤ 8
 default_few w = ⊎_elim
     (λ (e : count_of w ≡ None). let z : unwrap_or (count_of w) 0 ≡ 0 = ap (λ (o : Option ℕ). unwrap_or o 0) e in omega arith)
     (λ (n : (n : ℕ) × (count_of w ≡ Some n)).
-        let z : unwrap_or (count_of w) 0 ≡ n.0 = ap (λ (o : Option ℕ). unwrap_or o 0) n.1 in
-        let few = (count-count_of w n.0 n.1).0 in
-        omega arith)
+    let z : unwrap_or (count_of w) 0 ≡ n.0 = ap (λ (o : Option ℕ). unwrap_or o 0) n.1 in
+    let few = (count-count_of w n.0 n.1).0 in
+    omega arith)
     (cases_Option (count_of w))
 
 pub few_offers : (t : Table) (r : Row) → count_at t r ≤ 8
@@ -73,9 +71,9 @@ offer_below t r n o h = ⊎_elim
 pub cell_after_word : (t : Table) (x r : Row) (p v : ℕ) → is_row t x ≡ true → 1 ≤ p → p < 34 → cell_at (with_word t x p v) r ≡ cell_at t r
 cell_after_word t x r p v h k a = ⊎_elim
     (λ (e : is_row t r ≡ true).
-        cell_inside (with_word t x p v) r (is_row_after t x r p v ∙ e)
-        ∙ ap (λ w. unwrap_or (cell_of w) Fresh) (word_other t x r p 0 v h e a (omega arith) (inr (λ (z : 0 ≡ p). absurd (omega arith))))
-        ∙ sym (cell_inside t r e))
+    cell_inside (with_word t x p v) r (is_row_after t x r p v ∙ e)
+    ∙ ap (λ w. unwrap_or (cell_of w) Fresh) (word_other t x r p 0 v h e a (omega arith) (inr (λ (z : 0 ≡ p). absurd (omega arith))))
+    ∙ sym (cell_inside t r e))
     (λ (e : is_row t r ≡ false). cell_outside (with_word t x p v) r (is_row_after t x r p v ∙ e) ∙ sym (cell_outside t r e))
     (cases_Bool (is_row t r))
 
@@ -84,17 +82,18 @@ offers_same : (t u : Table) (r : Row) (n : ℕ) → is_fresh (cell_at u r) ≡ i
 unfolding offer_at
 offers_same t u r n f w = ⊎_elim
     (λ (e : is_fresh (cell_at t r) ≡ true).
-        let a = count_fresh t r e in
-        let b = count_fresh u r (f ∙ e) in
-        offer_none u r n (omega arith) ∙ sym (offer_none t r n (omega arith)))
+    let a = count_fresh t r e in
+    let b = count_fresh u r (f ∙ e) in
+    offer_none u r n (omega arith) ∙ sym (offer_none t r n (omega arith)))
     (λ (e : is_fresh (cell_at t r) ≡ false). opened t u r n e (f ∙ e) (w e))
     (cases_Bool (is_fresh (cell_at t r)))
   where
     by_number : (t u : Table) (r : Row) (n : ℕ) → n < 8 → ((p : ℕ) → 1 ≤ p → p < 34 → word_at u r p ≡ word_at t r p) → count_at u r ≡ count_at t r → offer_at u r n ≡ offer_at t r n
     by_number t u r n b w c =
         λ i. cond (ltb n (c i))
-            (offer_of (w (2 + 4 * n) (omega arith) (omega arith) i) (w (3 + 4 * n) (omega arith) (omega arith) i) (w (4 + 4 * n) (omega arith) (omega arith) i) (w (5 + 4 * n) (omega arith) (omega arith) i))
-            None
+        (offer_of (w (2 + 4 * n) (omega arith) (omega arith) i) (w (3 + 4 * n) (omega arith) (omega arith) i) (w (4 + 4 * n) (omega arith) (omega arith) i) (w (5 + 4 * n) (omega arith) (omega arith) i))
+        None
+
     opened : (t u : Table) (r : Row) (n : ℕ) → is_fresh (cell_at t r) ≡ false → is_fresh (cell_at u r) ≡ false → ((p : ℕ) → 1 ≤ p → p < 34 → word_at u r p ≡ word_at t r p) → offer_at u r n ≡ offer_at t r n
     opened t u r n e f w =
         let c : count_at u r ≡ count_at t r = count_open u r f ∙ ap (λ v. unwrap_or (count_of v) 0) (w 1 (omega arith) (omega arith)) ∙ sym (count_open t r e) in
@@ -108,10 +107,10 @@ offers_same t u r n f w = ⊎_elim
 pub offer_after_draft : (t : Table) (x r : Row) (n p v : ℕ) → is_row t x ≡ true → 1 ≤ p → p < 34 → is_fresh (cell_at t x) ≡ true → offer_at (with_word t x p v) r n ≡ offer_at t r n
 offer_after_draft t x r n p v h k a f =
     offers_same t (with_word t x p v) r n (ap is_fresh (cell_after_word t x r p v h k a)) (λ e q b c.
-        word_other t x r p q v h (row_of_open t r e) a c (⊎_elim
-            (λ (d : r ≡ x). absurd (false≢true (sym e ∙ ap (λ (y : Row). is_fresh (cell_at t y)) d ∙ f)))
-            (λ (d : row_eq r x ≡ false). inl d)
-            (row_cases r x)))
+    word_other t x r p q v h (row_of_open t r e) a c (⊎_elim
+    (λ (d : r ≡ x). absurd (false≢true (sym e ∙ ap (λ (y : Row). is_fresh (cell_at t y)) d ∙ f)))
+    (λ (d : row_eq r x ≡ false). inl d)
+    (row_cases r x)))
 
 -- A WRITE of a cell
 pub cell_after_cell : (t : Table) (x : Row) (c : Cell) → length t.words ≡ t.threads * thread_len t.rows → is_row t x ≡ true → IsCellInRange c → cell_at (with_cell t x c) ≡ put (cell_at t) x c
@@ -121,20 +120,20 @@ cell_after_cell t x c s h g = λ i r. at r i
     at : (r : Row) → cell_at (with_cell t x c) r ≡ put (cell_at t) x c r
     at r = ⊎_elim
         (λ (e : r ≡ x).
-            ap (cell_at (with_cell t x c)) e
-            ∙ cell_inside (with_cell t x c) x (is_row_after t x x 0 (cell_word c) ∙ h)
-            ∙ ap (λ w. unwrap_or (cell_of w) Fresh) (word_same t x 0 (cell_word c) s h (omega arith))
-            ∙ ap (λ (o : Option Cell). unwrap_or o Fresh) (cell_of-cell_word c g)
-            ∙ sym (ap (put (cell_at t) x c) e ∙ put_same (cell_at t) x c))
+        ap (cell_at (with_cell t x c)) e
+        ∙ cell_inside (with_cell t x c) x (is_row_after t x x 0 (cell_word c) ∙ h)
+        ∙ ap (λ w. unwrap_or (cell_of w) Fresh) (word_same t x 0 (cell_word c) s h (omega arith))
+        ∙ ap (λ (o : Option Cell). unwrap_or o Fresh) (cell_of-cell_word c g)
+        ∙ sym (ap (put (cell_at t) x c) e ∙ put_same (cell_at t) x c))
         (λ (e : row_eq r x ≡ false). other r e ∙ sym (put_other (cell_at t) x c r e))
         (row_cases r x)
       where
         other : (r : Row) → row_eq r x ≡ false → cell_at (with_cell t x c) r ≡ cell_at t r
         other r e = ⊎_elim
             (λ (k : is_row t r ≡ true).
-                cell_inside (with_cell t x c) r (is_row_after t x r 0 (cell_word c) ∙ k)
-                ∙ ap (λ w. unwrap_or (cell_of w) Fresh) (word_other t x r 0 0 (cell_word c) h k (omega arith) (omega arith) (inl e))
-                ∙ sym (cell_inside t r k))
+            cell_inside (with_cell t x c) r (is_row_after t x r 0 (cell_word c) ∙ k)
+            ∙ ap (λ w. unwrap_or (cell_of w) Fresh) (word_other t x r 0 0 (cell_word c) h k (omega arith) (omega arith) (inl e))
+            ∙ sym (cell_inside t r k))
             (λ (k : is_row t r ≡ false). cell_outside (with_cell t x c) r (is_row_after t x r 0 (cell_word c) ∙ k) ∙ sym (cell_outside t r k))
             (cases_Bool (is_row t r))
 
@@ -147,18 +146,32 @@ offer_after_cell t x r n c h f =
 -- WELL-FORMED WORDS stay so
 pub formed_after_word : (t : Table) (x : Row) (p v : ℕ) → length t.words ≡ t.threads * thread_len t.rows → is_row t x ≡ true → p < 34 → is_word_for p v ≡ true → IsFormed t → IsFormed (with_word t x p v)
 formed_after_word t x p v s h k w f = record {
-    rows = λ r q i b. ⊎_elim
-        (λ (e : r ≡ x). ⊎_elim
-            (λ (d : q ≡ p). (λ z. is_word_for (d z) (word_at (with_word t x p v) (e z) (d z))) ∙ ap (is_word_for p) (word_same t x p v s h k) ∙ w)
-            (λ (d : q ≡ p → ⊥). ap (is_word_for q) (word_other t x r p q v h (sym (is_row_after t x r p v) ∙ i) k b (inr d)) ∙ f.rows r q (sym (is_row_after t x r p v) ∙ i) b)
-            (cases_eq q p))
-        (λ (e : row_eq r x ≡ false). ap (is_word_for q) (word_other t x r p q v h (sym (is_row_after t x r p v) ∙ i) k b (inl e)) ∙ f.rows r q (sym (is_row_after t x r p v) ∙ i) b)
-        (row_cases r x);
-    nacks = λ n i. ap (λ u. is_some (nack_of u)) (nack_other t x n p v h (sym (is_nack_after t x n p v) ∙ i) k) ∙ f.nacks n (sym (is_nack_after t x n p v) ∙ i);
-  }
+  rows = λ r q i b. ⊎_elim
+      (λ (e : r ≡ x). ⊎_elim
+      (λ (d : q ≡ p). (λ z. is_word_for (d z) (word_at (with_word t x p v) (e z) (d z))) ∙ ap (is_word_for p) (word_same t x p v s h k) ∙ w)
+      (λ (d : q ≡ p → ⊥). ap (is_word_for q) (word_other t x r p q v h (sym (is_row_after t x r p v) ∙ i) k b (inr d)) ∙ f.rows r q (sym (is_row_after t x r p v) ∙ i) b)
+      (cases_eq q p))
+      (λ (e : row_eq r x ≡ false). ap (is_word_for q) (word_other t x r p q v h (sym (is_row_after t x r p v) ∙ i) k b (inl e)) ∙ f.rows r q (sym (is_row_after t x r p v) ∙ i) b)
+      (row_cases r x);
+  nacks = λ n i. ap (λ u. is_some (nack_of u)) (nack_other t x n p v h (sym (is_nack_after t x n p v) ∙ i) k) ∙ f.nacks n (sym (is_nack_after t x n p v) ∙ i);
+}
 
 pub cell_is_formed : (c : Cell) → IsCellInRange c → is_word_for 0 (cell_word c) ≡ true
 cell_is_formed c g = cell_is_word (cell_word c) ∙ ap (λ (o : Option Cell). is_some o) (cell_of-cell_word c g)
 
 pub sized_after_word : (t : Table) (x : Row) (p v : ℕ) → length t.words ≡ t.threads * thread_len t.rows → length (with_word t x p v).words ≡ t.threads * thread_len t.rows
 sized_after_word t x p v s = length-set t.words _ v ∙ s
+
+-- a row that has offers is one of the table's
+pub row_of_count : (t : Table) (r : Row) (n : ℕ) → n < count_at t r → is_row t r ≡ true
+row_of_count t r n h = row_of_open t r (⊎_elim
+    (λ (e : is_fresh (cell_at t r) ≡ true). let z = count_fresh t r e in absurd (omega arith))
+    (λ (e : is_fresh (cell_at t r) ≡ false). e)
+    (cases_Bool (is_fresh (cell_at t r))))
+
+pub open_cell : (c : Cell) → c ≢ Fresh → is_fresh c ≡ false
+open_cell Fresh h = absurd (h refl)
+open_cell Waiting h = refl
+open_cell Claimed h = refl
+open_cell (Synched j) h = refl
+open_cell (Taken j) h = refl

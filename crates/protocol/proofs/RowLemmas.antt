@@ -1,8 +1,8 @@
 -- Rows: when two are one, the list of all rows, and a function that is changed at one row.
-use Rattle.std.proofs.Common.{◌≡◌, ◌≢◌, ℕ, zero, suc, ◌+◌, ◌*◌, ◌<◌, ◌≤◌, Bool, true, false, cond, eqb, ltb, ◌&&◌, List, [], ◌∷◌, ◌++◌, length, Option, Some, None, sym, refl, ap, ◌∙◌, subst, ◌⊎◌, inl, inr, ⊎_elim, arith, rules, append_assoc, length-append, get_or}
-use Rattle.std.proofs.lemmas.Bool.{eqb-true, eqb-false, eq-eqb, ne_eqb, ltb-true, ltb-false, cases_Bool, and_parts, and_left, and_right, cases_eq, false≢true, true≢false}
+use Rattle.std.proofs.Common.{◌≡◌, ◌≢◌, ℕ, zero, suc, ◌<◌, ◌≤◌, true, false, cond, eqb, List, [], ◌∷◌, ◌++◌, sym, refl, ap, ◌∙◌, ◌⊎◌, inl, inr, ⊎_elim, arith, append_assoc}
+use Rattle.std.proofs.lemmas.Bool.{eqb-true, eq-eqb, cases_Bool, and_parts, cases_eq, true≢false}
 use Rattle.words.specs.declared.Row.{Row}
-use Rattle.protocol.specs.Tables.{row_eq, rows_below, all_rows, number_of}
+use Rattle.protocol.specs.Tables.{row_eq, rows_below, all_rows}
 
 pub row_eq-refl : (r : Row) → row_eq r r ≡ true
 row_eq-refl r = rw (eq-eqb r.thread r.thread refl, eq-eqb r.sync r.sync refl) refl
@@ -54,33 +54,35 @@ pub record IsOnce (x : Row) (rs : List Row) : Type 0 where
 absent_below : (t g : ℕ) (x : Row) → ((x.thread ≡ t) → g ≤ x.sync) → IsAbsent x (rows_below t g)
 absent_below t zero x h = tt
 absent_below t (suc g) x h =
-    absent_append x (rows_below t g) _ (absent_below t g x (λ e. let k = h e in omega arith))
-    (row_ne _ x (λ e. let same : x.thread ≡ t = ap (λ (r : Row). r.thread) (sym e) in
-        let at : g ≡ x.sync = ap (λ (r : Row). r.sync) e in
-        let k = h same in
-        absurd (omega arith)), tt)
+    absent_append x (rows_below t g) _ (absent_below t g x (λ e. let k = h e in omega arith)) (
+      row_ne _ x (λ e. let same : x.thread ≡ t = ap (λ (r : Row). r.thread) (sym e) in
+          let at : g ≡ x.sync = ap (λ (r : Row). r.sync) e in
+          let k = h same in
+          absurd (omega arith)),
+      tt,
+    )
 
 once_below : (t g : ℕ) (x : Row) → x.thread ≡ t → x.sync < g → IsOnce x (rows_below t g)
 once_below t zero x e h = absurd (omega arith)
 once_below t (suc g) x e h =
     ⊎_elim
     (λ (s : x.sync ≡ g).
-        record {
-          front = rows_below t g;
-          back = [];
-          is = ap (λ (r : Row). rows_below t g ++ r ∷ []) (same_row (record { thread = t; sync = g }) x (sym e) (sym s));
-          before = absent_below t g x (λ _. omega arith);
-          behind = tt;
-        })
+    record {
+      front = rows_below t g;
+      back = [];
+      is = ap (λ (r : Row). rows_below t g ++ r ∷ []) (same_row (record { thread = t; sync = g }) x (sym e) (sym s));
+      before = absent_below t g x (λ _. omega arith);
+      behind = tt;
+    })
     (λ (n : x.sync ≡ g → ⊥).
-        let o : IsOnce x (rows_below t g) = once_below t g x e (omega (arith, n)) in
-        record {
-          front = o.front;
-          back = o.back ++ record { thread = t; sync = g } ∷ [];
-          is = ap (λ (rs : List Row). rs ++ record { thread = t; sync = g } ∷ []) o.is ∙ append_assoc o.front (x ∷ o.back) _;
-          before = o.before;
-          behind = absent_append x o.back _ o.behind (row_ne _ x (λ k. n (ap (λ (r : Row). r.sync) (sym k))), tt);
-        })
+    let o : IsOnce x (rows_below t g) = once_below t g x e (omega (arith, n)) in
+    record {
+      front = o.front;
+      back = o.back ++ record { thread = t; sync = g } ∷ [];
+      is = ap (λ (rs : List Row). rs ++ record { thread = t; sync = g } ∷ []) o.is ∙ append_assoc o.front (x ∷ o.back) _;
+      before = o.before;
+      behind = absent_append x o.back _ o.behind (row_ne _ x (λ k. n (ap (λ (r : Row). r.sync) (sym k))), tt);
+    })
     (cases_eq x.sync g)
 
 absent_all : (t g : ℕ) (x : Row) → t ≤ x.thread → IsAbsent x (all_rows t g)
@@ -93,21 +95,21 @@ once_all zero g x h k = absurd (omega arith)
 once_all (suc t) g x h k =
     ⊎_elim
     (λ (s : x.thread ≡ t).
-        let o : IsOnce x (rows_below t g) = once_below t g x s k in
-        record {
-          front = all_rows t g ++ o.front;
-          back = o.back;
-          is = ap (λ (rs : List Row). all_rows t g ++ rs) o.is ∙ sym (append_assoc (all_rows t g) o.front (x ∷ o.back));
-          before = absent_append x (all_rows t g) _ (absent_all t g x (omega arith)) o.before;
-          behind = o.behind;
-        })
+    let o : IsOnce x (rows_below t g) = once_below t g x s k in
+    record {
+      front = all_rows t g ++ o.front;
+      back = o.back;
+      is = ap (λ (rs : List Row). all_rows t g ++ rs) o.is ∙ sym (append_assoc (all_rows t g) o.front (x ∷ o.back));
+      before = absent_append x (all_rows t g) _ (absent_all t g x (omega arith)) o.before;
+      behind = o.behind;
+    })
     (λ (n : x.thread ≡ t → ⊥).
-        let o : IsOnce x (all_rows t g) = once_all t g x (omega (arith, n)) k in
-        record {
-          front = o.front;
-          back = o.back ++ rows_below t g;
-          is = ap (λ (rs : List Row). rs ++ rows_below t g) o.is ∙ append_assoc o.front (x ∷ o.back) _;
-          before = o.before;
-          behind = absent_append x o.back _ o.behind (absent_below t g x (λ e. absurd (n e)));
-        })
+    let o : IsOnce x (all_rows t g) = once_all t g x (omega (arith, n)) k in
+    record {
+      front = o.front;
+      back = o.back ++ rows_below t g;
+      is = ap (λ (rs : List Row). rs ++ rows_below t g) o.is ∙ append_assoc o.front (x ∷ o.back) _;
+      before = o.before;
+      behind = absent_append x o.back _ o.behind (absent_below t g x (λ e. absurd (n e)));
+    })
     (cases_eq x.thread t)

@@ -1,5 +1,5 @@
 -- One lemma for each kind of step: the cells and offers stay linked.
-use Rattle.std.proofs.Common.{◌≡◌, ◌≢◌, ℕ, zero, suc, ◌+◌, ◌-◌, ◌*◌, ◌<◌, ◌≤◌, Bool, true, false, cond, eqb, ltb, ◌&&◌, ◌||◌, List, [], ◌∷◌, ◌++◌, length, Option, Some, None, sym, refl, ap, ◌∙◌, subst, ◌⊎◌, inl, inr, ⊎_elim, arith, rules, is_some, max}
+use Rattle.std.proofs.Common.{◌≡◌, ◌≢◌, ℕ, ◌+◌, ◌-◌, ◌<◌, ◌≤◌, Bool, true, false, cond, eqb, ◌||◌, List, length, Option, Some, None, sym, refl, ap, ◌∙◌, subst, ◌⊎◌, inl, inr, ⊎_elim, arith, is_some, max}
 use Rattle.std.specs.Prelude.{is_none, option_to_list}
 use Rattle.std.specs.List.{sum_by}
 use Rattle.std.proofs.lemmas.Bool.{cases_Bool, cases_eq, false≢true, true≢false}
@@ -8,13 +8,13 @@ use Rattle.words.specs.declared.Joined.{Joined}
 use Rattle.words.specs.declared.Offer.{Offer}
 use Rattle.words.specs.declared.Commit.{Commit}
 use Rattle.words.specs.declared.Cell.{Cell}
-use Rattle.words.specs.declared.Cell.TheVariants.{Fresh, Waiting, Claimed, Synched, Taken}
+use Rattle.words.specs.declared.Cell.TheVariants.{Waiting, Claimed, Synched}
 use Rattle.protocol.specs.Tables.{row_eq, all_rows, is_fresh, joined_of, names, is_partner, offers_meet, last_stamp, stamp_of}
 use Rattle.protocol.specs.Worlds.{mirrored}
 use Rattle.protocol.specs.Ledgers.{commits_of, told_at, told_by, tells, is_send, commit_named}
 use Rattle.protocol.specs.Kept.{joined_by, IsSideOf, Linked}
-use Rattle.protocol.proofs.RowLemmas.{row_eq-refl, row_eq-true, row_eq-false, row_cases, row_ne, put, put_same, put_other, IsOnce, once_all}
-use Rattle.protocol.proofs.Linking.{cases_Option, some_parts, some_inj, some_is_some, IsNaming, naming, names_from, fresh_not_joined, sum_change, sum_change_two, unnamed_idle, partner_open, told_same, told_count, count_of_commits, named_some, offers_swapped, one_offer_sends}
+use Rattle.protocol.proofs.RowLemmas.{row_eq-true, row_eq-false, row_cases, row_ne, put, put_same, put_other, once_all}
+use Rattle.protocol.proofs.Linking.{cases_Option, some_inj, naming, names_from, fresh_not_joined, sum_change, sum_change_two, unnamed_idle, partner_open, told_same, told_count, count_of_commits, named_some, offers_swapped, one_offer_sends}
 
 -- the row before
 abbrev before : Row → Row
@@ -24,20 +24,20 @@ before r = record { thread = r.thread; sync = r.sync - 1 }
 before_ne : (threads rows : ℕ) (cell : Row → Cell) (offer : Row → ℕ → Option Offer) (x r : Row) → Linked threads rows cell offer → joined_of (cell x) ≡ None → is_fresh (cell r) ≡ false → (r.sync ≡ 0 → ⊥) → row_eq (before r) x ≡ false
 before_ne threads rows cell offer x r l j f n =
     row_ne (before r) x (λ e.
-        let here : is_fresh (cell (record { thread = r.thread; sync = r.sync - 1 + 1 })) ≡ false =
-            ap (λ k. is_fresh (cell (record { thread = r.thread; sync = k }))) (omega arith) ∙ f in
-        let some : is_some (joined_of (cell (before r))) ≡ true = l.in_turn r.thread (r.sync - 1) here in
-        false≢true (sym (ap (λ (o : Option Joined). is_some o) (ap (λ (y : Row). joined_of (cell y)) e ∙ j)) ∙ some))
+    let here : is_fresh (cell (record { thread = r.thread; sync = r.sync - 1 + 1 })) ≡ false =
+    ap (λ k. is_fresh (cell (record { thread = r.thread; sync = k }))) (omega arith) ∙ f in
+    let some : is_some (joined_of (cell (before r))) ≡ true = l.in_turn r.thread (r.sync - 1) here in
+    false≢true (sym (ap (λ (o : Option Joined). is_some o) (ap (λ (y : Row). joined_of (cell y)) e ∙ j)) ∙ some))
 
 -- so the last stamp of an open row stays where such a row is joined
 last_kept : (threads rows : ℕ) (cell : Row → Cell) (offer : Row → ℕ → Option Offer) (x r : Row) (c : Cell) → Linked threads rows cell offer → joined_of (cell x) ≡ None → is_fresh (cell r) ≡ false → last_stamp (joined_by (put cell x c)) r ≡ last_stamp (joined_by cell) r
 last_kept threads rows cell offer x r c l j f =
     ⊎_elim
     (λ (z : r.sync ≡ 0).
-        let P : ℕ → Type 0 = λ k. cond (eqb k 0) 0 (stamp_of (joined_of (put cell x c (before r)))) ≡ cond (eqb k 0) 0 (stamp_of (joined_of (cell (before r)))) in
-        subst P (sym z) refl)
+    let P : ℕ → Type 0 = λ k. cond (eqb k 0) 0 (stamp_of (joined_of (put cell x c (before r)))) ≡ cond (eqb k 0) 0 (stamp_of (joined_of (cell (before r)))) in
+    subst P (sym z) refl)
     (λ (n : r.sync ≡ 0 → ⊥).
-        ap (λ (d : Cell). cond (eqb r.sync 0) 0 (stamp_of (joined_of d))) (put_other cell x c (before r) (before_ne threads rows cell offer x r l j f n)))
+    ap (λ (d : Cell). cond (eqb r.sync 0) 0 (stamp_of (joined_of d))) (put_other cell x c (before r) (before_ne threads rows cell offer x r l j f n)))
     (cases_eq r.sync 0)
 
 -- a step that joins nothing: claim, yield and open
@@ -54,48 +54,47 @@ module _ (threads rows : ℕ) (cell : Row → Cell) (offer offer' : Row → ℕ 
     (unnamed : (q : Row) → names (joined_of (cell q)) x ≡ false)
     (turn : is_fresh c ≡ false → HasTurn threads rows cell x)
     (offers : (r : Row) → is_fresh (cell r) ≡ false → offer' r ≡ offer r) where
-
   now : Row → Cell
   now = put cell x c
 
   joined_same : (r : Row) → joined_of (put cell x c r) ≡ joined_of (cell r)
   joined_same r = ⊎_elim
-    (λ (e : r ≡ x). ap (λ (y : Row). joined_of (put cell x c y)) e ∙ ap joined_of (put_same cell x c) ∙ is ∙ sym was ∙ ap (λ (y : Row). joined_of (cell y)) (sym e))
-    (λ (e : row_eq r x ≡ false). ap joined_of (put_other cell x c r e))
-    (row_cases r x)
+      (λ (e : r ≡ x). ap (λ (y : Row). joined_of (put cell x c y)) e ∙ ap joined_of (put_same cell x c) ∙ is ∙ sym was ∙ ap (λ (y : Row). joined_of (cell y)) (sym e))
+      (λ (e : row_eq r x ≡ false). ap joined_of (put_other cell x c r e))
+      (row_cases r x)
 
   named_other : (r p : Row) → names (joined_of (cell r)) p ≡ true → row_eq p x ≡ false
   named_other r p h = row_ne p x (λ e. false≢true (sym (unnamed r) ∙ ap (names (joined_of (cell r))) (sym e) ∙ h))
 
   plain_side : (r : Row) (j : Joined) (p : Row × ℕ) → joined_of (cell r) ≡ Some j → j.partner ≡ Some p → IsSideOf (put cell x c) offer' r j p
   plain_side r j p h k =
-    let old = l.sides r j p h k in
-    let open_p : is_fresh (cell p.0) ≡ false = partner_open threads rows cell offer r j p l h k in
-    let open_r : is_fresh (cell r) ≡ false = fresh_not_joined (cell r) j h in
-    let stays : put cell x c p.0 ≡ cell p.0 = put_other cell x c p.0 (named_other r p.0 (names_from (joined_of (cell r)) j p h k)) in
-    record {
-      apart = old.apart;
-      meets = (λ i. offers_meet (offers r open_r i j.own) (offers p.0 open_p i p.1)) ∙ old.meets;
-      back = ⊎_elim
-        (λ (e : cell p.0 ≡ Claimed). inl (stays ∙ e))
-        (λ (e : joined_of (cell p.0) ≡ Some (mirrored r j p.1)). inr (ap joined_of stays ∙ e))
-        old.back;
-      stamp = old.stamp ∙ (λ i. 1 + max (sym (last_kept threads rows cell offer x r c l was open_r) i) (sym (last_kept threads rows cell offer x p.0 c l was open_p) i));
-    }
+      let old = l.sides r j p h k in
+      let open_p : is_fresh (cell p.0) ≡ false = partner_open threads rows cell offer r j p l h k in
+      let open_r : is_fresh (cell r) ≡ false = fresh_not_joined (cell r) j h in
+      let stays : put cell x c p.0 ≡ cell p.0 = put_other cell x c p.0 (named_other r p.0 (names_from (joined_of (cell r)) j p h k)) in
+      record {
+        apart = old.apart;
+        meets = (λ i. offers_meet (offers r open_r i j.own) (offers p.0 open_p i p.1)) ∙ old.meets;
+        back = ⊎_elim
+            (λ (e : cell p.0 ≡ Claimed). inl (stays ∙ e))
+            (λ (e : joined_of (cell p.0) ≡ Some (mirrored r j p.1)). inr (ap joined_of stays ∙ e))
+            old.back;
+        stamp = old.stamp ∙ (λ i. 1 + max (sym (last_kept threads rows cell offer x r c l was open_r) i) (sym (last_kept threads rows cell offer x p.0 c l was open_p) i));
+      }
 
   plain_count : length (commits_of (all_rows threads rows) (joined_by (put cell x c)) offer') ≡ length (commits_of (all_rows threads rows) (joined_by cell) offer)
   plain_count =
-    ap (λ (f : Row → Option Commit). length (Rattle.std.specs.List.flat_map (λ r. option_to_list (f r)) (all_rows threads rows)))
-    (λ i r. told_same (joined_by cell) (joined_by (put cell x c)) offer offer' r (joined_same r)
-        (λ j h. offers r (fresh_not_joined (cell r) j h))
-        (λ j p h k. (joined_same p.0, offers p.0 (partner_open threads rows cell offer r j p l h k))) i)
+      ap (λ (f : Row → Option Commit). length (Rattle.std.specs.List.flat_map (λ r. option_to_list (f r)) (all_rows threads rows)))
+      (λ i r. told_same (joined_by cell) (joined_by (put cell x c)) offer offer' r (joined_same r)
+      (λ j h. offers r (fresh_not_joined (cell r) j h))
+      (λ j p h k. (joined_same p.0, offers p.0 (partner_open threads rows cell offer r j p l h k))) i)
 
   pub linked_plain : Linked threads rows (put cell x c) offer'
   linked_plain = record {
     inside = λ r h. ⊎_elim
         (λ (e : r ≡ x).
-            let at : is_fresh c ≡ false = sym (ap is_fresh (ap (put cell x c) e ∙ put_same cell x c)) ∙ h in
-            subst (λ (y : Row). (y.thread < threads) × (y.sync < rows)) (sym e) (turn at).inside)
+        let at : is_fresh c ≡ false = sym (ap is_fresh (ap (put cell x c) e ∙ put_same cell x c)) ∙ h in
+        subst (λ (y : Row). (y.thread < threads) × (y.sync < rows)) (sym e) (turn at).inside)
         (λ (e : row_eq r x ≡ false). l.inside r (sym (ap is_fresh (put_other cell x c r e)) ∙ h))
         (row_cases r x);
     in_turn = λ thread sync h.
@@ -103,10 +102,10 @@ module _ (threads rows : ℕ) (cell : Row → Cell) (offer offer' : Row → ℕ 
         let prior : Row = record { thread = thread; sync = sync } in
         ap (λ (o : Option Joined). is_some o) (joined_same prior) ∙ ⊎_elim
         (λ (e : here ≡ x).
-            let at : is_fresh c ≡ false = sym (ap is_fresh (ap (put cell x c) e ∙ put_same cell x c)) ∙ h in
-            let t : x.thread ≡ thread = ap (λ (y : Row). y.thread) (sym e) in
-            let had = (turn at).turn sync (ap (λ (y : Row). y.sync) (sym e)) in
-            subst (λ (n : ℕ). is_some (joined_of (cell (record { thread = n; sync = sync }))) ≡ true) t had)
+        let at : is_fresh c ≡ false = sym (ap is_fresh (ap (put cell x c) e ∙ put_same cell x c)) ∙ h in
+        let t : x.thread ≡ thread = ap (λ (y : Row). y.thread) (sym e) in
+        let had = (turn at).turn sync (ap (λ (y : Row). y.sync) (sym e)) in
+        subst (λ (n : ℕ). is_some (joined_of (cell (record { thread = n; sync = sync }))) ≡ true) t had)
         (λ (e : row_eq here x ≡ false). l.in_turn thread sync (sym (ap is_fresh (put_other cell x c here e)) ∙ h))
         (row_cases here x);
     paired = λ r j h. l.paired r j (sym (joined_same r) ∙ h);
@@ -147,20 +146,20 @@ pub last_bounded : (threads rows : ℕ) (cell : Row → Cell) (offer : Row → �
 last_bounded threads rows cell offer r l =
     let n : ℕ = length (commits_of (all_rows threads rows) (joined_by cell) offer) in
     let stamped : stamp_of (joined_of (cell (before r))) ≤ n =
-        ⊎_elim
-        (λ (e : joined_of (cell (before r)) ≡ None). let z : stamp_of (joined_of (cell (before r))) ≡ 0 = ap stamp_of e in omega arith)
-        (λ (w : (j : Joined) × (joined_of (cell (before r)) ≡ Some j)).
-            let z : stamp_of (joined_of (cell (before r))) ≡ w.0.stamp = ap stamp_of w.1 in
-            let b : w.0.stamp ≤ n = l.bounded (before r) w.0 w.1 in
-            omega arith)
-        (cases_Option (joined_of (cell (before r)))) in
+    ⊎_elim
+    (λ (e : joined_of (cell (before r)) ≡ None). let z : stamp_of (joined_of (cell (before r))) ≡ 0 = ap stamp_of e in omega arith)
+    (λ (w : (j : Joined) × (joined_of (cell (before r)) ≡ Some j)).
+    let z : stamp_of (joined_of (cell (before r))) ≡ w.0.stamp = ap stamp_of w.1 in
+    let b : w.0.stamp ≤ n = l.bounded (before r) w.0 w.1 in
+    omega arith)
+    (cases_Option (joined_of (cell (before r)))) in
     ⊎_elim
     (λ (z : r.sync ≡ 0).
-        let P : ℕ → Type 0 = λ k. cond (eqb k 0) 0 (stamp_of (joined_of (cell (before r)))) ≤ n in
-        subst P (sym z) (omega arith))
+    let P : ℕ → Type 0 = λ k. cond (eqb k 0) 0 (stamp_of (joined_of (cell (before r)))) ≤ n in
+    subst P (sym z) (omega arith))
     (λ (z : r.sync ≡ 0 → ⊥).
-        let P : Bool → Type 0 = λ b. cond b 0 (stamp_of (joined_of (cell (before r)))) ≤ n in
-        subst P (sym (Rattle.std.proofs.lemmas.Bool.ne_eqb r.sync 0 z)) stamped)
+    let P : Bool → Type 0 = λ b. cond b 0 (stamp_of (joined_of (cell (before r)))) ≤ n in
+    subst P (sym (Rattle.std.proofs.lemmas.Bool.ne_eqb r.sync 0 z)) stamped)
     (cases_eq r.sync 0)
 
 module _ (threads rows : ℕ) (cell : Row → Cell) (offer : Row → ℕ → Option Offer) (m : Row) (i : ℕ) (o : Row) (k : ℕ) (j : Joined)
@@ -171,7 +170,6 @@ module _ (threads rows : ℕ) (cell : Row → Cell) (offer : Row → ℕ → Opt
     (apart : m.thread ≢ o.thread)
     (meets : offers_meet (offer m i) (offer o k) ≡ true)
     (way : j ≡ record { own = k; partner = Some (m, i); stamp = 1 + max (last_stamp (joined_by cell) m) (last_stamp (joined_by cell) o) }) where
-
   after : Row → Cell
   after = put cell o (Synched j)
 
@@ -204,33 +202,33 @@ module _ (threads rows : ℕ) (cell : Row → Cell) (offer : Row → ℕ → Opt
 
   old_side : (r : Row) (w : Joined) (p : Row × ℕ) → joined_of (cell r) ≡ Some w → w.partner ≡ Some p → IsSideOf (put cell o (Synched j)) offer r w p
   old_side r w p h e =
-    let old = l.sides r w p h e in
-    let open_p : is_fresh (cell p.0) ≡ false = partner_open threads rows cell offer r w p l h e in
-    let open_r : is_fresh (cell r) ≡ false = fresh_not_joined (cell r) w h in
-    let stays : put cell o (Synched j) p.0 ≡ cell p.0 = put_other cell o (Synched j) p.0 (is_named_other r p.0 (names_from (joined_of (cell r)) w p h e)) in
-    record {
-      apart = old.apart;
-      meets = old.meets;
-      back = ⊎_elim
-        (λ (c : cell p.0 ≡ Claimed). inl (stays ∙ c))
-        (λ (c : joined_of (cell p.0) ≡ Some (mirrored r w p.1)). inr (ap joined_of stays ∙ c))
-        old.back;
-      stamp = old.stamp ∙ (λ i. 1 + max (sym (kept_last r open_r) i) (sym (kept_last p.0 open_p) i));
-    }
+      let old = l.sides r w p h e in
+      let open_p : is_fresh (cell p.0) ≡ false = partner_open threads rows cell offer r w p l h e in
+      let open_r : is_fresh (cell r) ≡ false = fresh_not_joined (cell r) w h in
+      let stays : put cell o (Synched j) p.0 ≡ cell p.0 = put_other cell o (Synched j) p.0 (is_named_other r p.0 (names_from (joined_of (cell r)) w p h e)) in
+      record {
+        apart = old.apart;
+        meets = old.meets;
+        back = ⊎_elim
+            (λ (c : cell p.0 ≡ Claimed). inl (stays ∙ c))
+            (λ (c : joined_of (cell p.0) ≡ Some (mirrored r w p.1)). inr (ap joined_of stays ∙ c))
+            old.back;
+        stamp = old.stamp ∙ (λ i. 1 + max (sym (kept_last r open_r) i) (sym (kept_last p.0 open_p) i));
+      }
 
   new_side : IsSideOf (put cell o (Synched j)) offer o j (m, i)
   new_side =
-    let own : j.own ≡ k = ap (λ (w : Joined). w.own) way in
-    record {
-      apart = λ e. apart (sym e);
-      meets = ap (λ (n : ℕ). offers_meet (offer o n) (offer m i)) own ∙ offers_swapped (offer m i) (offer o k) meets;
-      back = inl (mine_stays ∙ mine);
-      stamp =
-        let s : j.stamp ≡ 1 + max (last_stamp (joined_by cell) m) (last_stamp (joined_by cell) o) = ap (λ (w : Joined). w.stamp) way in
-        let a = kept_last o open_other in
-        let b = kept_last m open_mine in
-        s ∙ (λ x. 1 + max (sym b x) (sym a x)) ∙ swapped (last_stamp (joined_by (put cell o (Synched j))) m) (last_stamp (joined_by (put cell o (Synched j))) o);
-    }
+      let own : j.own ≡ k = ap (λ (w : Joined). w.own) way in
+      record {
+        apart = λ e. apart (sym e);
+        meets = ap (λ (n : ℕ). offers_meet (offer o n) (offer m i)) own ∙ offers_swapped (offer m i) (offer o k) meets;
+        back = inl (mine_stays ∙ mine);
+        stamp =
+            let s : j.stamp ≡ 1 + max (last_stamp (joined_by cell) m) (last_stamp (joined_by cell) o) = ap (λ (w : Joined). w.stamp) way in
+            let a = kept_last o open_other in
+            let b = kept_last m open_mine in
+            s ∙ (λ x. 1 + max (sym b x) (sym a x)) ∙ swapped (last_stamp (joined_by (put cell o (Synched j))) m) (last_stamp (joined_by (put cell o (Synched j))) o);
+      }
     where
       swapped : (a b : ℕ) → 1 + max a b ≡ 1 + max b a
       swapped a b = omega arith
@@ -238,21 +236,21 @@ module _ (threads rows : ℕ) (cell : Row → Cell) (offer : Row → ℕ → Opt
   -- the join tells one commit more
   join_count : length (commits_of (all_rows threads rows) (joined_by (put cell o (Synched j))) offer) ≡ length (commits_of (all_rows threads rows) (joined_by cell) offer) + 1
   join_count =
-    let rs : List Row = all_rows threads rows in
-    let in_table = l.inside o open_other in
-    let f : Row → ℕ = told_count (joined_by cell) offer in
-    let g : Row → ℕ = told_count (joined_by (put cell o (Synched j))) offer in
-    let change : sum_by g rs + f o ≡ sum_by f rs + g o =
-        sum_change f g o rs (once_all threads rows o in_table.0 in_table.1) (λ r e.
-            ap (λ (c : Option Commit). length (option_to_list c))
-            (told_same (joined_by cell) (joined_by (put cell o (Synched j))) offer offer r (ap joined_of (put_other cell o (Synched j) r e)) (λ w h. refl)
-                (λ w p h c. (ap joined_of (put_other cell o (Synched j) p.0 (is_named_other r p.0 (names_from (joined_of (cell r)) w p h c))), refl)))) in
-    let before_none : f o ≡ 0 = none_told (joined_by cell) offer o not_joined in
-    let found = named_some offer o j (m, i) partner_is new_side.meets in
-    let after_one : g o ≡ 1 = one_told (joined_by (put cell o (Synched j))) offer o j found.0 joined_other (ap (tells (joined_by (put cell o (Synched j))) (offer o j.own)) partner_is ∙ ap (λ (v : Option Joined). is_send (offer o j.own) || is_none v) (ap joined_of (mine_stays ∙ mine)) ∙ or_true (is_send (offer o j.own))) found.1 in
-    let left = count_of_commits rs (joined_by (put cell o (Synched j))) offer in
-    let right = count_of_commits rs (joined_by cell) offer in
-    omega arith
+      let rs : List Row = all_rows threads rows in
+      let in_table = l.inside o open_other in
+      let f : Row → ℕ = told_count (joined_by cell) offer in
+      let g : Row → ℕ = told_count (joined_by (put cell o (Synched j))) offer in
+      let change : sum_by g rs + f o ≡ sum_by f rs + g o =
+      sum_change f g o rs (once_all threads rows o in_table.0 in_table.1) (λ r e.
+      ap (λ (c : Option Commit). length (option_to_list c))
+      (told_same (joined_by cell) (joined_by (put cell o (Synched j))) offer offer r (ap joined_of (put_other cell o (Synched j) r e)) (λ w h. refl)
+      (λ w p h c. (ap joined_of (put_other cell o (Synched j) p.0 (is_named_other r p.0 (names_from (joined_of (cell r)) w p h c))), refl)))) in
+      let before_none : f o ≡ 0 = none_told (joined_by cell) offer o not_joined in
+      let found = named_some offer o j (m, i) partner_is new_side.meets in
+      let after_one : g o ≡ 1 = one_told (joined_by (put cell o (Synched j))) offer o j found.0 joined_other (ap (tells (joined_by (put cell o (Synched j))) (offer o j.own)) partner_is ∙ ap (λ (v : Option Joined). is_send (offer o j.own) || is_none v) (ap joined_of (mine_stays ∙ mine)) ∙ or_true (is_send (offer o j.own))) found.1 in
+      let left = count_of_commits rs (joined_by (put cell o (Synched j))) offer in
+      let right = count_of_commits rs (joined_by cell) offer in
+      omega arith
 
   pub linked_join : Linked threads rows (put cell o (Synched j)) offer
   linked_join = record {
@@ -264,52 +262,55 @@ module _ (threads rows : ℕ) (cell : Row → Cell) (offer : Row → ℕ → Opt
         let here : Row = record { thread = thread; sync = sync + 1 } in
         let prior : Row = record { thread = thread; sync = sync } in
         let was : is_fresh (cell here) ≡ false = ⊎_elim
-            (λ (e : here ≡ o). ap (λ (y : Row). is_fresh (cell y)) e ∙ open_other)
-            (λ (e : row_eq here o ≡ false). sym (ap is_fresh (put_other cell o (Synched j) here e)) ∙ h)
-            (row_cases here o) in
+        (λ (e : here ≡ o). ap (λ (y : Row). is_fresh (cell y)) e ∙ open_other)
+        (λ (e : row_eq here o ≡ false). sym (ap is_fresh (put_other cell o (Synched j) here e)) ∙ h)
+        (row_cases here o) in
         ⊎_elim
         (λ (e : prior ≡ o). ap (λ (y : Row). is_some (joined_of (put cell o (Synched j) y))) e ∙ ap (λ (v : Option Joined). is_some v) joined_other)
         (λ (e : row_eq prior o ≡ false). ap (λ (c : Cell). is_some (joined_of c)) (put_other cell o (Synched j) prior e) ∙ l.in_turn thread sync was)
         (row_cases prior o);
     paired = λ r w h. ⊎_elim
         (λ (e : r ≡ o).
-            let same : j ≡ w = some_inj j w (sym joined_other ∙ ap (λ (y : Row). joined_of (put cell o (Synched j) y)) (sym e) ∙ h) in
-            ap (λ (v : Joined). is_some v.partner) (sym same) ∙ ap (λ (v : Option (Row × ℕ)). is_some v) partner_is)
+        let same : j ≡ w = some_inj j w (sym joined_other ∙ ap (λ (y : Row). joined_of (put cell o (Synched j) y)) (sym e) ∙ h) in
+        ap (λ (v : Joined). is_some v.partner) (sym same) ∙ ap (λ (v : Option (Row × ℕ)). is_some v) partner_is)
         (λ (e : row_eq r o ≡ false). l.paired r w (sym (ap joined_of (put_other cell o (Synched j) r e)) ∙ h))
         (row_cases r o);
     sides = λ r w p h c. ⊎_elim
         (λ (e : r ≡ o).
-            let same : j ≡ w = some_inj j w (sym joined_other ∙ ap (λ (y : Row). joined_of (put cell o (Synched j) y)) (sym e) ∙ h) in
-            let at : (m, i) ≡ p = some_inj (m, i) p (sym partner_is ∙ ap (λ (v : Joined). v.partner) same ∙ c) in
-            subst (λ (z : Row × Joined × (Row × ℕ)). IsSideOf (put cell o (Synched j)) offer z.0 z.1 z.2) (λ x. (sym e x, same x, at x)) new_side)
+        let same : j ≡ w = some_inj j w (sym joined_other ∙ ap (λ (y : Row). joined_of (put cell o (Synched j) y)) (sym e) ∙ h) in
+        let at : (m, i) ≡ p = some_inj (m, i) p (sym partner_is ∙ ap (λ (v : Joined). v.partner) same ∙ c) in
+        subst (λ (z : Row × Joined × (Row × ℕ)). IsSideOf (put cell o (Synched j)) offer z.0 z.1 z.2) (λ x. (sym e x, same x, at x)) new_side)
         (λ (e : row_eq r o ≡ false). old_side r w p (sym (ap joined_of (put_other cell o (Synched j) r e)) ∙ h) c)
         (row_cases r o);
     once = λ q r p h c. both q r p h c (row_cases q o) (row_cases r o);
     bounded = λ r w h. ⊎_elim
         (λ (e : r ≡ o).
-            let same : j ≡ w = some_inj j w (sym joined_other ∙ ap (λ (y : Row). joined_of (put cell o (Synched j) y)) (sym e) ∙ h) in
-            let s : w.stamp ≡ 1 + max (last_stamp (joined_by cell) m) (last_stamp (joined_by cell) o) = ap (λ (v : Joined). v.stamp) (sym same ∙ way) in
-            let a = last_bounded threads rows cell offer m l in
-            let b = last_bounded threads rows cell offer o l in
-            let n = join_count in
-            omega arith)
+        let same : j ≡ w = some_inj j w (sym joined_other ∙ ap (λ (y : Row). joined_of (put cell o (Synched j) y)) (sym e) ∙ h) in
+        let s : w.stamp ≡ 1 + max (last_stamp (joined_by cell) m) (last_stamp (joined_by cell) o) = ap (λ (v : Joined). v.stamp) (sym same ∙ way) in
+        let a = last_bounded threads rows cell offer m l in
+        let b = last_bounded threads rows cell offer o l in
+        let n = join_count in
+        omega arith)
         (λ (e : row_eq r o ≡ false).
-            let b = l.bounded r w (sym (ap joined_of (put_other cell o (Synched j) r e)) ∙ h) in
-            let n = join_count in
-            omega arith)
+        let b = l.bounded r w (sym (ap joined_of (put_other cell o (Synched j) r e)) ∙ h) in
+        let n = join_count in
+        omega arith)
         (row_cases r o);
   }
     where
       was_named : (q p : Row) → names (joined_of (put cell o (Synched j) q)) p ≡ true → row_eq q o ≡ false → names (joined_of (cell q)) p ≡ true
       was_named q p h e = ap (λ (c : Cell). names (joined_of c) p) (sym (put_other cell o (Synched j) q e)) ∙ h
+
       names_mine : (q p : Row) → names (joined_of (put cell o (Synched j) q)) p ≡ true → q ≡ o → m ≡ p
       names_mine q p h e =
-        row_eq-true m p (
-            sym (ap (λ (v : Option Joined). names v p) joined_other ∙ ap (λ (v : Option (Row × ℕ)). is_partner v p) partner_is)
-            ∙ ap (λ (y : Row). names (joined_of (put cell o (Synched j) y)) p) (sym e)
-            ∙ h)
+          row_eq-true m p (
+          sym (ap (λ (v : Option Joined). names v p) joined_other ∙ ap (λ (v : Option (Row × ℕ)). is_partner v p) partner_is)
+          ∙ ap (λ (y : Row). names (joined_of (put cell o (Synched j) y)) p) (sym e)
+          ∙ h)
+
       clash : (q p : Row) → m ≡ p → names (joined_of (cell q)) p ≡ true → ⊥
       clash q p e h = false≢true (sym (unnamed q) ∙ ap (names (joined_of (cell q))) e ∙ h)
+
       both : (q r p : Row) → names (joined_of (put cell o (Synched j) q)) p ≡ true → names (joined_of (put cell o (Synched j) r)) p ≡ true → (q ≡ o) ⊎ (row_eq q o ≡ false) → (r ≡ o) ⊎ (row_eq r o ≡ false) → q ≡ r
       both q r p h c (inl e) (inl f) = e ∙ sym f
       both q r p h c (inl e) (inr f) = absurd (clash r p (names_mine q p h e) (was_named r p c f))
@@ -324,7 +325,6 @@ module _ (threads rows : ℕ) (cell : Row → Cell) (offer : Row → ℕ → Opt
     (other : joined_of (cell o) ≡ Some j)
     (partner : j.partner ≡ Some (m, i))
     (way : w ≡ mirrored o j i) where
-
   side : IsSideOf cell offer o j (m, i)
   side = l.sides o j (m, i) other partner
 
@@ -353,18 +353,18 @@ module _ (threads rows : ℕ) (cell : Row → Cell) (offer : Row → ℕ → Opt
   -- nobody named o before
   names_o : (r : Row) → names (joined_of (cell r)) o ≡ true → ⊥
   names_o r h =
-    let n = naming (joined_of (cell r)) o h in
-    let s = l.sides r n.way n.place n.is n.partner in
-    let back = subst (λ (y : Row). (cell y ≡ Claimed) ⊎ (joined_of (cell y) ≡ Some (mirrored r n.way n.place.1))) n.row s.back in
-    ⊎_elim
-    (λ (e : cell o ≡ Claimed). let bad : None ≡ Some j = sym (ap joined_of e) ∙ other in cc)
-    (λ (e : joined_of (cell o) ≡ Some (mirrored r n.way n.place.1)).
-        let same : j ≡ mirrored r n.way n.place.1 = some_inj _ _ (sym other ∙ e) in
-        let at : (m, i) ≡ (r, n.way.own) = some_inj (m, i) (r, n.way.own) (sym partner ∙ ap (λ (v : Joined). v.partner) same) in
-        let is_m : m ≡ r = ap (λ (p : Row × ℕ). p.0) at in
-        let bad : None ≡ Some n.way = sym unjoined ∙ ap (λ (y : Row). joined_of (cell y)) is_m ∙ n.is in
-        cc)
-    back
+      let n = naming (joined_of (cell r)) o h in
+      let s = l.sides r n.way n.place n.is n.partner in
+      let back = subst (λ (y : Row). (cell y ≡ Claimed) ⊎ (joined_of (cell y) ≡ Some (mirrored r n.way n.place.1))) n.row s.back in
+      ⊎_elim
+      (λ (e : cell o ≡ Claimed). let bad : None ≡ Some j = sym (ap joined_of e) ∙ other in cc)
+      (λ (e : joined_of (cell o) ≡ Some (mirrored r n.way n.place.1)).
+      let same : j ≡ mirrored r n.way n.place.1 = some_inj _ _ (sym other ∙ e) in
+      let at : (m, i) ≡ (r, n.way.own) = some_inj (m, i) (r, n.way.own) (sym partner ∙ ap (λ (v : Joined). v.partner) same) in
+      let is_m : m ≡ r = ap (λ (p : Row × ℕ). p.0) at in
+      let bad : None ≡ Some n.way = sym unjoined ∙ ap (λ (y : Row). joined_of (cell y)) is_m ∙ n.is in
+      cc)
+      back
 
   last_stays : (r : Row) → is_fresh (cell r) ≡ false → last_stamp (joined_by (put cell m (Synched w))) r ≡ last_stamp (joined_by cell) r
   last_stays r f = last_kept threads rows cell offer m r (Synched w) l unjoined f
@@ -397,52 +397,52 @@ module _ (threads rows : ℕ) (cell : Row → Cell) (offer : Row → ℕ → Opt
   -- a row other than o and m
   side_other : (r : Row) (v : Joined) (p : Row × ℕ) → (r ≡ o → ⊥) → joined_of (cell r) ≡ Some v → v.partner ≡ Some p → IsSideOf (put cell m (Synched w)) offer r v p
   side_other r v p n h e =
-    let old = l.sides r v p h e in
-    let open_p : is_fresh (cell p.0) ≡ false = partner_open threads rows cell offer r v p l h e in
-    let open_r : is_fresh (cell r) ≡ false = fresh_not_joined (cell r) v h in
-    let stays : put cell m (Synched w) p.0 ≡ cell p.0 =
-        put_other cell m (Synched w) p.0 (row_ne p.0 m (λ c. n (names_m r (ap (names (joined_of (cell r))) (sym c) ∙ names_from (joined_of (cell r)) v p h e)))) in
-    record {
-      apart = old.apart;
-      meets = old.meets;
-      back = ⊎_elim
-        (λ (c : cell p.0 ≡ Claimed). inl (stays ∙ c))
-        (λ (c : joined_of (cell p.0) ≡ Some (mirrored r v p.1)). inr (ap joined_of stays ∙ c))
-        old.back;
-      stamp = old.stamp ∙ (λ x. 1 + max (sym (last_stays r open_r) x) (sym (last_stays p.0 open_p) x));
-    }
+      let old = l.sides r v p h e in
+      let open_p : is_fresh (cell p.0) ≡ false = partner_open threads rows cell offer r v p l h e in
+      let open_r : is_fresh (cell r) ≡ false = fresh_not_joined (cell r) v h in
+      let stays : put cell m (Synched w) p.0 ≡ cell p.0 =
+      put_other cell m (Synched w) p.0 (row_ne p.0 m (λ c. n (names_m r (ap (names (joined_of (cell r))) (sym c) ∙ names_from (joined_of (cell r)) v p h e)))) in
+      record {
+        apart = old.apart;
+        meets = old.meets;
+        back = ⊎_elim
+            (λ (c : cell p.0 ≡ Claimed). inl (stays ∙ c))
+            (λ (c : joined_of (cell p.0) ≡ Some (mirrored r v p.1)). inr (ap joined_of stays ∙ c))
+            old.back;
+        stamp = old.stamp ∙ (λ x. 1 + max (sym (last_stays r open_r) x) (sym (last_stays p.0 open_p) x));
+      }
 
   -- the seal tells the same number of commits
   seal_count : length (commits_of (all_rows threads rows) (joined_by (put cell m (Synched w))) offer) ≡ length (commits_of (all_rows threads rows) (joined_by cell) offer)
   seal_count =
-    let rs : List Row = all_rows threads rows in
-    let in_m = l.inside m open_m in
-    let in_o = l.inside o open_o in
-    let f : Row → ℕ = told_count (joined_by cell) offer in
-    let g : Row → ℕ = told_count (joined_by (put cell m (Synched w))) offer in
-    let change : sum_by g rs + (f m + f o) ≡ sum_by f rs + (g m + g o) =
-        sum_change_two f g m o rs (once_all threads rows m in_m.0 in_m.1) (once_all threads rows o in_o.0 in_o.1) (apart_rows o m side.apart) (λ r e n.
-            ap (λ (c : Option Commit). length (option_to_list c))
-            (told_same (joined_by cell) (joined_by (put cell m (Synched w))) offer offer r (ap joined_of (put_other cell m (Synched w) r e)) (λ v h. refl)
-                (λ v p h c. (ap joined_of (put_other cell m (Synched w) p.0 (row_ne p.0 m (λ z. row_eq-false r o n (names_m r (ap (names (joined_of (cell r))) (sym z) ∙ names_from (joined_of (cell r)) v p h c))))), refl)))) in
-    let before_m : f m ≡ 0 = none_told (joined_by cell) offer m unjoined in
-    let found_o = named_some offer o j (m, i) partner side.meets in
-    let found_m = named_some offer m w (o, j.own) partner_m side_m.meets in
-    let before_o : f o ≡ 1 = one_told (joined_by cell) offer o j found_o.0 other (ap (tells (joined_by cell) (offer o j.own)) partner ∙ ap (λ (v : Option Joined). is_send (offer o j.own) || is_none v) unjoined ∙ or_true (is_send (offer o j.own))) found_o.1 in
-    let joined_o : joined_of (put cell m (Synched w) o) ≡ Some j = ap joined_of other_stays ∙ other in
-    let sum : g m + g o ≡ 1 = ⊎_elim
-        (λ (s : (is_send (offer o j.own) ≡ true) × (is_send (offer m w.own) ≡ false)).
-            let at_o : g o ≡ 1 = one_told (joined_by (put cell m (Synched w))) offer o j found_o.0 joined_o (ap (tells (joined_by (put cell m (Synched w))) (offer o j.own)) partner ∙ ap (λ b. b || is_none (joined_of (put cell m (Synched w) m))) s.0) found_o.1 in
-            let at_m : g m ≡ 0 = left_told (joined_by (put cell m (Synched w))) offer m w joined_m (ap (tells (joined_by (put cell m (Synched w))) (offer m w.own)) partner_m ∙ (λ x. s.1 x || is_none (joined_o x))) in
-            omega arith)
-        (λ (s : (is_send (offer o j.own) ≡ false) × (is_send (offer m w.own) ≡ true)).
-            let at_m : g m ≡ 1 = one_told (joined_by (put cell m (Synched w))) offer m w found_m.0 joined_m (ap (tells (joined_by (put cell m (Synched w))) (offer m w.own)) partner_m ∙ ap (λ b. b || is_none (joined_of (put cell m (Synched w) o))) s.1) found_m.1 in
-            let at_o : g o ≡ 0 = left_told (joined_by (put cell m (Synched w))) offer o j joined_o (ap (tells (joined_by (put cell m (Synched w))) (offer o j.own)) partner ∙ (λ x. s.0 x || is_none (joined_m x))) in
-            omega arith)
-        (one_offer_sends (offer o j.own) (offer m w.own) (ap (λ (v : Joined). offers_meet (offer o j.own) (offer m v.own)) way ∙ side.meets)) in
-    let left = count_of_commits rs (joined_by (put cell m (Synched w))) offer in
-    let right = count_of_commits rs (joined_by cell) offer in
-    omega arith
+      let rs : List Row = all_rows threads rows in
+      let in_m = l.inside m open_m in
+      let in_o = l.inside o open_o in
+      let f : Row → ℕ = told_count (joined_by cell) offer in
+      let g : Row → ℕ = told_count (joined_by (put cell m (Synched w))) offer in
+      let change : sum_by g rs + (f m + f o) ≡ sum_by f rs + (g m + g o) =
+      sum_change_two f g m o rs (once_all threads rows m in_m.0 in_m.1) (once_all threads rows o in_o.0 in_o.1) (apart_rows o m side.apart) (λ r e n.
+      ap (λ (c : Option Commit). length (option_to_list c))
+      (told_same (joined_by cell) (joined_by (put cell m (Synched w))) offer offer r (ap joined_of (put_other cell m (Synched w) r e)) (λ v h. refl)
+      (λ v p h c. (ap joined_of (put_other cell m (Synched w) p.0 (row_ne p.0 m (λ z. row_eq-false r o n (names_m r (ap (names (joined_of (cell r))) (sym z) ∙ names_from (joined_of (cell r)) v p h c))))), refl)))) in
+      let before_m : f m ≡ 0 = none_told (joined_by cell) offer m unjoined in
+      let found_o = named_some offer o j (m, i) partner side.meets in
+      let found_m = named_some offer m w (o, j.own) partner_m side_m.meets in
+      let before_o : f o ≡ 1 = one_told (joined_by cell) offer o j found_o.0 other (ap (tells (joined_by cell) (offer o j.own)) partner ∙ ap (λ (v : Option Joined). is_send (offer o j.own) || is_none v) unjoined ∙ or_true (is_send (offer o j.own))) found_o.1 in
+      let joined_o : joined_of (put cell m (Synched w) o) ≡ Some j = ap joined_of other_stays ∙ other in
+      let sum : g m + g o ≡ 1 = ⊎_elim
+      (λ (s : (is_send (offer o j.own) ≡ true) × (is_send (offer m w.own) ≡ false)).
+      let at_o : g o ≡ 1 = one_told (joined_by (put cell m (Synched w))) offer o j found_o.0 joined_o (ap (tells (joined_by (put cell m (Synched w))) (offer o j.own)) partner ∙ ap (λ b. b || is_none (joined_of (put cell m (Synched w) m))) s.0) found_o.1 in
+      let at_m : g m ≡ 0 = left_told (joined_by (put cell m (Synched w))) offer m w joined_m (ap (tells (joined_by (put cell m (Synched w))) (offer m w.own)) partner_m ∙ (λ x. s.1 x || is_none (joined_o x))) in
+      omega arith)
+      (λ (s : (is_send (offer o j.own) ≡ false) × (is_send (offer m w.own) ≡ true)).
+      let at_m : g m ≡ 1 = one_told (joined_by (put cell m (Synched w))) offer m w found_m.0 joined_m (ap (tells (joined_by (put cell m (Synched w))) (offer m w.own)) partner_m ∙ ap (λ b. b || is_none (joined_of (put cell m (Synched w) o))) s.1) found_m.1 in
+      let at_o : g o ≡ 0 = left_told (joined_by (put cell m (Synched w))) offer o j joined_o (ap (tells (joined_by (put cell m (Synched w))) (offer o j.own)) partner ∙ (λ x. s.0 x || is_none (joined_m x))) in
+      omega arith)
+      (one_offer_sends (offer o j.own) (offer m w.own) (ap (λ (v : Joined). offers_meet (offer o j.own) (offer m v.own)) way ∙ side.meets)) in
+      let left = count_of_commits rs (joined_by (put cell m (Synched w))) offer in
+      let right = count_of_commits rs (joined_by cell) offer in
+      omega arith
 
   same_way : (r : Row) (v : Joined) → r ≡ m → joined_of (put cell m (Synched w) r) ≡ Some v → w ≡ v
   same_way r v e h = some_inj w v (sym joined_m ∙ ap (λ (y : Row). joined_of (put cell m (Synched w) y)) (sym e) ∙ h)
@@ -452,16 +452,16 @@ module _ (threads rows : ℕ) (cell : Row → Cell) (offer : Row → ℕ → Opt
 
   all_sides : (r : Row) (v : Joined) (p : Row × ℕ) → joined_of (put cell m (Synched w) r) ≡ Some v → v.partner ≡ Some p → (r ≡ m) ⊎ (row_eq r m ≡ false) → IsSideOf (put cell m (Synched w)) offer r v p
   all_sides r v p h c (inl e) =
-    let same : w ≡ v = same_way r v e h in
-    let at : (o, j.own) ≡ p = some_inj (o, j.own) p (sym partner_m ∙ ap (λ (u : Joined). u.partner) same ∙ c) in
-    subst (λ (z : Row × Joined × (Row × ℕ)). IsSideOf (put cell m (Synched w)) offer z.0 z.1 z.2) (λ x. (sym e x, same x, at x)) side_m
+      let same : w ≡ v = same_way r v e h in
+      let at : (o, j.own) ≡ p = some_inj (o, j.own) p (sym partner_m ∙ ap (λ (u : Joined). u.partner) same ∙ c) in
+      subst (λ (z : Row × Joined × (Row × ℕ)). IsSideOf (put cell m (Synched w)) offer z.0 z.1 z.2) (λ x. (sym e x, same x, at x)) side_m
   all_sides r v p h c (inr n) = ⊎_elim
-    (λ (e : r ≡ o).
-        let same : j ≡ v = some_inj j v (sym other ∙ ap (λ (y : Row). joined_of (cell y)) (sym e) ∙ was_joined r v n h) in
-        let at : (m, i) ≡ p = some_inj (m, i) p (sym partner ∙ ap (λ (u : Joined). u.partner) same ∙ c) in
-        subst (λ (z : Row × Joined × (Row × ℕ)). IsSideOf (put cell m (Synched w)) offer z.0 z.1 z.2) (λ x. (sym e x, same x, at x)) side_o)
-    (λ (e : row_eq r o ≡ false). side_other r v p (row_eq-false r o e) (was_joined r v n h) c)
-    (row_cases r o)
+      (λ (e : r ≡ o).
+      let same : j ≡ v = some_inj j v (sym other ∙ ap (λ (y : Row). joined_of (cell y)) (sym e) ∙ was_joined r v n h) in
+      let at : (m, i) ≡ p = some_inj (m, i) p (sym partner ∙ ap (λ (u : Joined). u.partner) same ∙ c) in
+      subst (λ (z : Row × Joined × (Row × ℕ)). IsSideOf (put cell m (Synched w)) offer z.0 z.1 z.2) (λ x. (sym e x, same x, at x)) side_o)
+      (λ (e : row_eq r o ≡ false). side_other r v p (row_eq-false r o e) (was_joined r v n h) c)
+      (row_cases r o)
 
   pub linked_seal : Linked threads rows (put cell m (Synched w)) offer
   linked_seal = record {
@@ -473,9 +473,9 @@ module _ (threads rows : ℕ) (cell : Row → Cell) (offer : Row → ℕ → Opt
         let here : Row = record { thread = thread; sync = sync + 1 } in
         let prior : Row = record { thread = thread; sync = sync } in
         let was : is_fresh (cell here) ≡ false = ⊎_elim
-            (λ (e : here ≡ m). ap (λ (y : Row). is_fresh (cell y)) e ∙ open_m)
-            (λ (e : row_eq here m ≡ false). sym (ap is_fresh (put_other cell m (Synched w) here e)) ∙ h)
-            (row_cases here m) in
+        (λ (e : here ≡ m). ap (λ (y : Row). is_fresh (cell y)) e ∙ open_m)
+        (λ (e : row_eq here m ≡ false). sym (ap is_fresh (put_other cell m (Synched w) here e)) ∙ h)
+        (row_cases here m) in
         ⊎_elim
         (λ (e : prior ≡ m). ap (λ (y : Row). is_some (joined_of (put cell m (Synched w) y))) e ∙ ap (λ (v : Option Joined). is_some v) joined_m)
         (λ (e : row_eq prior m ≡ false). ap (λ (c : Cell). is_some (joined_of c)) (put_other cell m (Synched w) prior e) ∙ l.in_turn thread sync was)
@@ -488,24 +488,27 @@ module _ (threads rows : ℕ) (cell : Row → Cell) (offer : Row → ℕ → Opt
     once = λ q r p h c. both q r p h c (row_cases q m) (row_cases r m);
     bounded = λ r v h. ⊎_elim
         (λ (e : r ≡ m).
-            let s : v.stamp ≡ j.stamp = ap (λ (u : Joined). u.stamp) (sym (same_way r v e h) ∙ way) in
-            let b = l.bounded o j other in
-            let n = seal_count in
-            omega arith)
+        let s : v.stamp ≡ j.stamp = ap (λ (u : Joined). u.stamp) (sym (same_way r v e h) ∙ way) in
+        let b = l.bounded o j other in
+        let n = seal_count in
+        omega arith)
         (λ (e : row_eq r m ≡ false). let b = l.bounded r v (was_joined r v e h) in let n = seal_count in omega arith)
         (row_cases r m);
   }
     where
       was_named : (q p : Row) → names (joined_of (put cell m (Synched w) q)) p ≡ true → row_eq q m ≡ false → names (joined_of (cell q)) p ≡ true
       was_named q p h e = ap (λ (c : Cell). names (joined_of c) p) (sym (put_other cell m (Synched w) q e)) ∙ h
+
       names_other : (q p : Row) → names (joined_of (put cell m (Synched w) q)) p ≡ true → q ≡ m → o ≡ p
       names_other q p h e =
-        row_eq-true o p (
-            sym (ap (λ (v : Option Joined). names v p) joined_m ∙ ap (λ (v : Option (Row × ℕ)). is_partner v p) partner_m)
-            ∙ ap (λ (y : Row). names (joined_of (put cell m (Synched w) y)) p) (sym e)
-            ∙ h)
+          row_eq-true o p (
+          sym (ap (λ (v : Option Joined). names v p) joined_m ∙ ap (λ (v : Option (Row × ℕ)). is_partner v p) partner_m)
+          ∙ ap (λ (y : Row). names (joined_of (put cell m (Synched w) y)) p) (sym e)
+          ∙ h)
+
       clash : (q p : Row) → o ≡ p → names (joined_of (cell q)) p ≡ true → ⊥
       clash q p e h = names_o q (ap (names (joined_of (cell q))) e ∙ h)
+
       both : (q r p : Row) → names (joined_of (put cell m (Synched w) q)) p ≡ true → names (joined_of (put cell m (Synched w) r)) p ≡ true → (q ≡ m) ⊎ (row_eq q m ≡ false) → (r ≡ m) ⊎ (row_eq r m ≡ false) → q ≡ r
       both q r p h c (inl e) (inl f) = e ∙ sym f
       both q r p h c (inl e) (inr f) = absurd (clash r p (names_other q p h e) (was_named r p c f))

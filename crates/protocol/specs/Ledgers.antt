@@ -1,5 +1,5 @@
 -- Ledgers: the commits that a table's words name, and when they are lawful.
-use Rattle.std.specs.Prelude.{zero, suc, ◌⊎◌, ◌/◌, ◌%◌, ◌==◌, ◌^◌, AllPairs, ◌≡◌, ℕ, ◌+◌, ◌*◌, ◌<◌, ◌≤◌, ◌≢◌, Bool, true, false, ◌||◌, ◌&&◌, nat_lt, if◌then◌else◌, Option, Some, None, is_some, is_none, option_to_list, List, [], ◌∷◌, ◌++◌, map, max, length, count_by, slice_index_or, Contains}
+use Rattle.std.specs.Prelude.{zero, suc, ◌⊎◌, ◌/◌, ◌%◌, ◌==◌, ◌^◌, AllPairs, ◌≡◌, ℕ, ◌+◌, ◌*◌, ◌<◌, ◌≤◌, ◌≢◌, Bool, true, false, ◌||◌, ◌&&◌, nat_lt, if◌then◌else◌, Option, Some, None, is_some, is_none, option_to_list, List, [], ◌++◌, map, length, count_by, slice_index_or}
 use Rattle.std.specs.List.{range_with_len, flat_map}
 use Rattle.words.specs.declared.NackName.{NackName}
 use Rattle.words.specs.declared.Base.{Base}
@@ -12,7 +12,7 @@ use Rattle.words.specs.declared.Cause.{Cause}
 use Rattle.words.specs.declared.Cause.TheVariants as cause
 use Rattle.words.specs.declared.Commit.{Commit}
 use Rattle.words.specs.declared.Commit.TheVariants.{Pair, Alone}
-use Rattle.protocol.specs.Tables.{Table, all_rows, number_of, joined_at, count_at, offer_at, binding_at, is_row, is_nack, names, namer_of}
+use Rattle.protocol.specs.Tables.{Table, all_rows, number_of, joined_at, count_at, offer_at, binding_at}
 
 -- What a ledger has of a row: its offers, once it is opened, and how it is committed.
 pub record Entry : Type 0 where
@@ -39,11 +39,11 @@ all_nacks (suc thread) = all_nacks thread ++ nacks_below thread 64
 
 unfoldable pub ledger_of : Table → Ledger
 ledger_of t = record {
-    threads = t.threads;
-    rows = t.rows;
-    entries = map (entry_at t) (all_rows t.threads t.rows);
-    nacks = map (binding_at t) (all_nacks t.threads);
-  }
+  threads = t.threads;
+  rows = t.rows;
+  entries = map (entry_at t) (all_rows t.threads t.rows);
+  nacks = map (binding_at t) (all_nacks t.threads);
+}
 
 -- READING A LEDGER
 

@@ -3,3 +3,4 @@ pub mod Tables
 pub mod Worlds
 pub mod Ledgers
 pub mod Kept
+pub mod States

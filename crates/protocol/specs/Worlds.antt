@@ -1,5 +1,5 @@
 -- Worlds: who holds which row, each step's condition and effect, and whole schedules.
-use Rattle.std.specs.Prelude.{◌≡◌, ℕ, ◌+◌, ◌*◌, ◌%◌, ◌<◌, ◌≤◌, ◌≢◌, true, false, ◌==◌, if◌then◌else◌, Option, Some, None, is_some, List, [], ◌∷◌, map, max, replicate, slice_index_or, slice_set}
+use Rattle.std.specs.Prelude.{◌≡◌, ℕ, ◌+◌, ◌*◌, ◌%◌, ◌<◌, ◌≤◌, ◌≢◌, true, ◌==◌, if◌then◌else◌, Option, Some, None, is_some, List, [], ◌∷◌, map, max, replicate, slice_index_or, slice_set}
 use Rattle.words.specs.Words.{cell_word, is_word_for}
 use Rattle.words.specs.declared.Row.{Row}
 use Rattle.words.specs.declared.Joined.{Joined}
@@ -8,7 +8,7 @@ use Rattle.words.specs.declared.Cell.TheVariants.{Fresh, Waiting, Claimed, Synch
 use Rattle.words.specs.declared.Seat.{Seat}
 use Rattle.words.specs.declared.Step.{Step}
 use Rattle.words.specs.declared.Step.TheVariants.{Draft, Open, Look, Read, Claim, Yield, Join, Seal}
-use Rattle.protocol.specs.Tables.{Table, thread_len, place_of, number_of, all_rows, is_row, cell_at, is_fresh, offer_at, offers_meet, joined_at, namer_of, last_stamp}
+use Rattle.protocol.specs.Tables.{Table, thread_len, place_of, number_of, all_rows, is_row, cell_at, offer_at, offers_meet, joined_at, namer_of, last_stamp}
 
 -- The words, and for each row, one after another, the seat that holds it.
 pub record World : Type 0 where
@@ -23,10 +23,10 @@ first_holder seats r = if r.sync == 0 then Some (r.thread % seats) else None
 -- all rows Fresh, no nack bound
 unfoldable pub start_world : ℕ → ℕ → ℕ → World
 start_world threads rows seats = record {
-    table = record { threads = threads; rows = rows; words = replicate (threads * thread_len rows) 0 };
-    seats = seats;
-    holders = map (first_holder seats) (all_rows threads rows);
-  }
+  table = record { threads = threads; rows = rows; words = replicate (threads * thread_len rows) 0 };
+  seats = seats;
+  holders = map (first_holder seats) (all_rows threads rows);
+}
 
 unfoldable pub holder_at : World → Row → Option ℕ
 holder_at w r = if is_row w.table r then slice_index_or w.holders (number_of w.table.rows r) None else None

@@ -1,0 +1,154 @@
+//! The words of a table, and what its rows read as.
+
+ghost use Rattle.std.specs.Prelude.{◌≡◌, ◌+◌, ◌*◌, ◌≤◌, ◌<◌, true, length, vec_len};
+
+use words::{Cell, Joined, Offer, Row, pack_cell, unpack_cell, unpack_count, unpack_offer};
+
+/// The words of a row.
+pub(crate) const ROW_LEN: usize = 34;
+
+/// The nacks of a thread, of one word each.
+pub(crate) const NACKS: usize = 64;
+
+/// A table's words, thread by thread: a thread's rows first, and then its nacks.
+#[derive(Debug, Drop)]
+pub(crate) struct Board {
+    pub(crate) threads: usize,
+    pub(crate) rows: usize,
+    pub(crate) words: Vec<u64>,
+    ghost sized: { length words.items ≡ threads * (rows * 34 + 64) },
+    ghost few_threads: { threads ≤ 64 },
+    ghost few_rows: { rows ≤ 1024 },
+}
+
+impl Board {
+    ghost use Rattle.words.specs.Words.{IsCellInRange};
+    ghost use Rattle.protocol.specs.Tables.{is_row, number_of, place_of, word_at, cell_at, count_at, offer_at, joined_at, last_stamp};
+    ghost use Rattle.protocol.specs.Worlds.{with_word, with_cell};
+    ghost use Rattle.protocol.specs.States.{table_of};
+
+    /// Whether the table has the row.
+    #[tactic(auto, unfolding(crate::specs::Tables::is_row))]
+    pub(crate) fn contains(&self, row: Row) -> bool
+        ensures { result ≡ is_row (table_of self.now) row }
+    {
+        usize::from(row.thread) < self.threads && usize::from(row.sync) < self.rows
+    }
+
+    /// The row's place among all rows.
+    pub(crate) fn number(&self, row: Row) -> usize
+        requires { is_row (table_of self.now) row ≡ true }
+        ensures value { result ≡ number_of self.now.rows row }
+        ensures inside { result < self.now.threads * self.now.rows }
+    {
+        usize::from(row.thread) * self.rows + usize::from(row.sync)
+    }
+
+    /// Where the row's word at a place lies.
+    fn place(&self, row: Row, place: usize) -> usize
+        requires row { is_row (table_of self.now) row ≡ true }
+        requires place { place < 34 }
+        ensures value { result ≡ place_of self.now.rows row place }
+        ensures inside { result < vec_len self.now.words }
+    {
+        usize::from(row.thread) * (self.rows * ROW_LEN + NACKS)
+            + usize::from(row.sync) * ROW_LEN
+            + place
+    }
+
+    #[tactic(auto, unfolding(crate::specs::Tables::word_at))]
+    fn word(&self, row: Row, place: usize) -> u64
+        requires row { is_row (table_of self.now) row ≡ true }
+        requires place { place < 34 }
+        ensures { result ≡ word_at (table_of self.now) row place }
+    {
+        let at = self.place(row, place);
+        self.words[at]
+    }
+
+    /// The row's cell. A row that the table has not is Fresh.
+    #[tactic(auto, unfolding(crate::specs::Tables::cell_at))]
+    pub(crate) fn cell(&self, row: Row) -> Cell
+        ensures { result ≡ cell_at (table_of self.now) row }
+    {
+        if !self.contains(row) {
+            return Cell::Fresh;
+        }
+        unpack_cell(self.word(row, 0)).unwrap_or(Cell::Fresh)
+    }
+
+    /// How many offers an opened row has: 0 to 8.
+    #[tactic(auto, unfolding(crate::specs::Tables::count_at))]
+    fn count(&self, row: Row) -> u8
+        ensures { result ≡ count_at (table_of self.now) row }
+    {
+        match self.cell(row) {
+            Cell::Fresh => 0,
+            _ => unpack_count(self.word(row, 1)).unwrap_or(0),
+        }
+    }
+
+    /// Offer n of an opened row.
+    #[tactic(auto, unfolding(crate::specs::Tables::offer_at))]
+    pub(crate) fn offer(&self, row: Row, n: u8) -> Option<Offer>
+        ensures { result ≡ offer_at (table_of self.now) row n }
+    {
+        if n >= self.count(row) {
+            return None;
+        }
+        let head = 2 + 4 * usize::from(n);
+        unpack_offer(
+            self.word(row, head),
+            self.word(row, head + 1),
+            self.word(row, head + 2),
+            self.word(row, head + 3),
+        )
+    }
+
+    /// How a committed row was committed.
+    pub(crate) fn joined(&self, row: Row) -> Option<Joined>
+        ensures { result ≡ joined_at (table_of self.now) row }
+    {
+        match self.cell(row) {
+            Cell::Synched(joined) | Cell::Taken(joined) => Some(joined),
+            Cell::Fresh | Cell::Waiting | Cell::Claimed => None,
+        }
+    }
+
+    /// The stamp of the row before this one in its thread, or 0.
+    pub(crate) fn last_stamp(&self, row: Row) -> u32
+        ensures { result ≡ last_stamp (joined_at (table_of self.now)) row }
+    {
+        if row.sync == 0 {
+            return 0;
+        }
+        let before = Row {
+            thread: row.thread,
+            sync: row.sync - 1,
+        };
+        match self.joined(before) {
+            Some(joined) => joined.stamp,
+            None => 0,
+        }
+    }
+
+    /// Writes the row's word at a place.
+    pub(crate) fn set_word(&mut self, row: Row, place: usize, word: u64)
+        requires row { is_row (table_of self.old) row ≡ true }
+        requires place { place < 34 }
+        ensures { table_of self.new ≡ with_word (table_of self.old) row place word }
+    {
+        let at = self.place(row, place);
+        self.words[at] = word;
+    }
+
+    /// Writes the row's cell.
+    #[tactic(auto, unfolding(crate::specs::Worlds::with_cell))]
+    pub(crate) fn set_cell(&mut self, row: Row, cell: Cell)
+        requires row { is_row (table_of self.old) row ≡ true }
+        requires range { IsCellInRange cell }
+        ensures { table_of self.new ≡ with_cell (table_of self.old) row cell }
+    {
+        self.set_word(row, 0, pack_cell(cell));
+    }
+}
