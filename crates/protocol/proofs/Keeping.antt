@@ -110,7 +110,7 @@ module _ (w : World) (x : Row) (c : Cell) (k : Kept w)
       (λ (e : row_eq r x ≡ false). ap is_fresh (put_other (cell_at w.table) x c r e))
       (row_cases r x)
 
-  joined_plain : (r : Row) → joined_of (cell_at (with_cell w.table x c) r) ≡ joined_of (cell_at w.table r)
+  pub joined_plain : (r : Row) → joined_of (cell_at (with_cell w.table x c) r) ≡ joined_of (cell_at w.table r)
   joined_plain r = ap (λ (g : Row → Cell). joined_of (g r)) cells_plain ∙ ⊎_elim
       (λ (e : r ≡ x). ap (λ (y : Row). joined_of (put (cell_at w.table) x c y)) e ∙ ap joined_of (put_same (cell_at w.table) x c) ∙ is ∙ sym was ∙ ap (λ (y : Row). joined_of (cell_at w.table y)) (sym e))
       (λ (e : row_eq r x ≡ false). ap joined_of (put_other (cell_at w.table) x c r e))
@@ -138,7 +138,7 @@ module _ (w : World) (x : Row) (j : Joined) (k : Kept w)
     (range : IsJoinedInRange j)
     (open_x : is_fresh (cell_at w.table x) ≡ false)
     (linked : Linked w.table.threads w.table.rows (put (cell_at w.table) x (Synched j)) (offer_at w.table)) where
-  cells_joined : cell_at (with_cell w.table x (Synched j)) ≡ put (cell_at w.table) x (Synched j)
+  pub cells_joined : cell_at (with_cell w.table x (Synched j)) ≡ put (cell_at w.table) x (Synched j)
   cells_joined = cell_after_cell w.table x (Synched j) k.sized row range
 
   fresh_joined : (r : Row) → is_fresh (cell_at (with_cell w.table x (Synched j)) r) ≡ is_fresh (cell_at w.table r)

@@ -7,3 +7,4 @@ pub mod Readings
 pub mod Naming
 pub mod Keeping
 pub mod LedgerLemmas
+pub mod Telling

@@ -351,7 +351,7 @@ module _ (threads rows : ℕ) (cell : Row → Cell) (offer : Row → ℕ → Opt
   names_m r h = l.once r o m h (names_from (joined_of (cell o)) j (m, i) other partner)
 
   -- nobody named o before
-  names_o : (r : Row) → names (joined_of (cell r)) o ≡ true → ⊥
+  pub names_o : (r : Row) → names (joined_of (cell r)) o ≡ true → ⊥
   names_o r h =
       let n = naming (joined_of (cell r)) o h in
       let s = l.sides r n.way n.place n.is n.partner in

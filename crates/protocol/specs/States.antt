@@ -1,12 +1,12 @@
 -- What the code's own tables and worlds stand for.
-use Rattle.std.specs.Prelude.{◌≡◌, ℕ, Bool, true, false, Option, Some, None, slice_index_or}
+use Rattle.std.specs.Prelude.{◌≡◌, ℕ, Bool, true, false, Option, Some, None, List, slice_index_or}
 use Rattle.words.specs.declared.Row.{Row}
 use Rattle.words.specs.declared.Seat.{Seat}
 use Rattle.words.specs.declared.Step.{Step}
 use Rattle.protocol.specs.declared.board.Board.{Board}
 use Rattle.protocol.specs.declared.state.State.{State}
 use Rattle.protocol.specs.Tables.{Table, is_row, number_of}
-use Rattle.protocol.specs.Worlds.{World, Allowed, after_step, namer_at}
+use Rattle.protocol.specs.Worlds.{World, Condition, Allowed, after_step, namer_at}
 use Rattle.protocol.specs.Kept.{Kept}
 
 -- the table that a board's words are
@@ -16,12 +16,20 @@ table_of b = record { threads = b.threads; rows = b.rows; words = b.words.items 
 abbrev pub world_of : State → World
 world_of s = record { table = table_of s.board; seats = s.seats; holders = s.holders.items }
 
--- all steps keep the world, and for each row the state has the row that names it
+-- the list has, row by row, the row that names each
+abbrev pub Tells : World → List (Option Row) → Type 0
+Tells w namers = (r : Row) → is_row w.table r ≡ true → slice_index_or namers (number_of w.table.rows r) None ≡ namer_at w r
+
+-- all steps keep the world, and the state knows who names whom
 pub record IsSound (s : State) : Type 0 where
   pub kept : Kept (world_of s)
-  pub named : (r : Row) → is_row (table_of s.board) r ≡ true → slice_index_or s.namers.items (number_of s.board.rows r) None ≡ namer_at (world_of s) r
+  pub told : Tells (world_of s) s.namers.items
 
--- a step is made where it is allowed, and else nothing changes
+-- a step is made where its condition holds, and else nothing changes
+abbrev pub Tries : World → Seat → Step → Bool → World → Type 0
+Tries old seat step true new = Condition old seat step × (new ≡ after_step old seat step)
+Tries old seat step false new = (¬ Condition old seat step) × (new ≡ old)
+
 abbrev pub Decides : World → Seat → Step → Bool → World → Type 0
 Decides old seat step true new = Allowed old seat step × (new ≡ after_step old seat step)
 Decides old seat step false new = (¬ Allowed old seat step) × (new ≡ old)
