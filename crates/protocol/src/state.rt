@@ -21,7 +21,7 @@ impl State {
     ghost use Rattle.words.specs.declared.Step.TheVariants.{Draft, Open, Look, Read, Claim, Yield, Join, Seal};
     ghost use Rattle.protocol.specs.Tables.{is_row};
     ghost use Rattle.protocol.specs.Worlds.{Holds, holder_at, namer_at};
-    ghost use Rattle.protocol.specs.States.{table_of, world_of, IsSound, Decides};
+    ghost use Rattle.protocol.specs.States.{table_of, world_of, IsSound, Tries, Decides};
 
     /// The seat that holds the row.
     #[tactic(auto, unfolding(crate::specs::Worlds::holder_at))]
@@ -50,5 +50,41 @@ impl State {
     {
         let at = self.board.number(row);
         self.namers[at]
+    }
+
+    fn draft(&mut self, seat: Seat, row: Row, place: u8, value: u64) -> bool
+        requires { IsSound self.old }
+        ensures tried { Tries (world_of self.old) seat (Draft row place value) result (world_of self.new) }
+        ensures sound { IsSound self.new }
+    {
+        if !self.holds(seat, row) {
+            return false;
+        }
+        if !matches!(self.board.cell(row), Cell::Fresh) {
+            return false;
+        }
+        if place < 1 || place > 33 {
+            return false;
+        }
+        if !is_word_for(place, value) {
+            return false;
+        }
+        self.board.set_word(row, usize::from(place), value);
+        true
+    }
+
+    fn open(&mut self, seat: Seat, row: Row) -> bool
+        requires { IsSound self.old }
+        ensures tried { Tries (world_of self.old) seat (Open row) result (world_of self.new) }
+        ensures sound { IsSound self.new }
+    {
+        if !self.holds(seat, row) {
+            return false;
+        }
+        if !matches!(self.board.cell(row), Cell::Fresh) {
+            return false;
+        }
+        self.board.set_cell(row, Cell::Waiting);
+        true
     }
 }
