@@ -17,7 +17,7 @@ use Rattle.words.specs.declared.Cell.{Cell}
 use Rattle.words.specs.declared.Cell.TheVariants.{Fresh, Waiting, Claimed, Synched}
 use Rattle.words.specs.Words.{cell_word, is_word_for, IsCellInRange, IsJoinedInRange, IsRowInRange}
 use Rattle.protocol.specs.Tables.{Table, is_row, row_eq, all_rows, rows_below, cell_at, is_fresh, joined_of, offer_at, offers_meet, names, joined_at, last_stamp, number_of}
-use Rattle.protocol.specs.Worlds.{World, holder_at, namer_at, Allowed, after_step, Plays, with_word, with_cell, with_table, joined_with, mirrored, other_side, side_of, sealed_by, with_seal}
+use Rattle.protocol.specs.Worlds.{World, holder_at, namer_at, Condition, Allowed, after_step, Plays, with_word, with_cell, with_table, joined_with, mirrored, other_side, side_of, sealed_by, with_seal}
 use Rattle.protocol.specs.Ledgers.{commits_of, told_at}
 use Rattle.protocol.specs.Kept.{joined_by, Linked, Kept}
 use Rattle.protocol.proofs.RowLemmas.{row_cases, put, put_same, put_other}
@@ -303,15 +303,18 @@ kept_seal w x k f h =
     let s = sealing w.table x q.0 (namer_names (all_rows w.table.threads w.table.rows) (joined_at w.table) x q.0 q.1) in
     subst (λ (o : Option Joined). Kept (with_table w (with_seal w.table x o))) (sym (sealed_is w.table x q.0 (namer_at w x) s q.1)) (kept_sealed w x q.0 s k f)
 
+pub kept_condition : (w : World) (seat : Seat) (step : Step) → Kept w → Condition w seat step → Kept (after_step w seat step)
+kept_condition w seat (Draft row place value) k a = kept_draft w row place value seat.0 k a.0 a.1 a.2 a.3 a.4
+kept_condition w seat (Open row) k a = kept_open w row seat.0 k a.0 a.1
+kept_condition w seat (Look row) k a = k
+kept_condition w seat (Read row place) k a = k
+kept_condition w seat (Claim row) k a = kept_claim w row k a.1
+kept_condition w seat (Yield row) k a = kept_yield w row k a.1 a.2
+kept_condition w seat (Join mine own other partner) k a = kept_join w mine own other partner k a.1 a.2 a.3 a.4 a.5
+kept_condition w seat (Seal row) k a = kept_seal w row k a.1 a.2
+
 pub kept_step : (w : World) (seat : Seat) (step : Step) → Kept w → Allowed w seat step → Kept (after_step w seat step)
-kept_step w seat (Draft row place value) k a = kept_draft w row place value seat.0 k a.1.0 a.1.1 a.1.2 a.1.3 a.1.4
-kept_step w seat (Open row) k a = kept_open w row seat.0 k a.1.0 a.1.1
-kept_step w seat (Look row) k a = k
-kept_step w seat (Read row place) k a = k
-kept_step w seat (Claim row) k a = kept_claim w row k a.1.1
-kept_step w seat (Yield row) k a = kept_yield w row k a.1.1 a.1.2
-kept_step w seat (Join mine own other partner) k a = kept_join w mine own other partner k a.1.1 a.1.2 a.1.3 a.1.4 a.1.5
-kept_step w seat (Seal row) k a = kept_seal w row k a.1.1 a.1.2
+kept_step w seat step k a = kept_condition w seat step k a.1
 
 pub kept_schedule : (w v : World) (steps : List (Seat × Step)) → Kept w → Plays w steps v → Kept v
 kept_schedule w v [] k p = subst Kept (sym p) k

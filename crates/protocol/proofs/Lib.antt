@@ -8,3 +8,4 @@ pub mod Naming
 pub mod Keeping
 pub mod LedgerLemmas
 pub mod Telling
+pub mod Soundness

@@ -29,6 +29,10 @@ pub some_parts : {A : Type 0} (o : Option A) → is_some o ≡ true → (a : A) 
 some_parts None h = absurd (false≢true h)
 some_parts (Some a) h = (a, refl)
 
+pub none_from : {A : Type 0} (o : Option A) → is_some o ≡ false → o ≡ None
+none_from None h = refl
+none_from (Some a) h = absurd (false≢true (sym h))
+
 pub some_inj : {A : Type 0} (a b : A) → Some a ≡ Some b → a ≡ b
 some_inj a b h = cc
 

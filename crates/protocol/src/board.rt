@@ -147,7 +147,9 @@ impl Board {
     pub(crate) fn set_cell(&mut self, row: Row, cell: Cell)
         requires row { is_row (table_of self.old) row ≡ true }
         requires range { IsCellInRange cell }
-        ensures { table_of self.new ≡ with_cell (table_of self.old) row cell }
+        ensures written { table_of self.new ≡ with_cell (table_of self.old) row cell }
+        ensures threads { self.new.threads ≡ self.old.threads }
+        ensures rows { self.new.rows ≡ self.old.rows }
     {
         self.set_word(row, 0, pack_cell(cell));
     }

@@ -60,9 +60,9 @@ impl State {
         if !self.holds(seat, row) {
             return false;
         }
-        if !matches!(self.board.cell(row), Cell::Fresh) {
+        let Cell::Fresh = self.board.cell(row) else {
             return false;
-        }
+        };
         if place < 1 || place > 33 {
             return false;
         }
@@ -81,7 +81,40 @@ impl State {
         if !self.holds(seat, row) {
             return false;
         }
-        if !matches!(self.board.cell(row), Cell::Fresh) {
+        let Cell::Fresh = self.board.cell(row) else {
+            return false;
+        };
+        self.board.set_cell(row, Cell::Waiting);
+        true
+    }
+
+    fn claim(&mut self, seat: Seat, row: Row) -> bool
+        requires { IsSound self.old }
+        ensures tried { Tries (world_of self.old) seat (Claim row) result (world_of self.new) }
+        ensures sound { IsSound self.new }
+    {
+        if !self.holds(seat, row) {
+            return false;
+        }
+        let Cell::Waiting = self.board.cell(row) else {
+            return false;
+        };
+        self.board.set_cell(row, Cell::Claimed);
+        true
+    }
+
+    fn give_back(&mut self, seat: Seat, row: Row) -> bool
+        requires { IsSound self.old }
+        ensures tried { Tries (world_of self.old) seat (Yield row) result (world_of self.new) }
+        ensures sound { IsSound self.new }
+    {
+        if !self.holds(seat, row) {
+            return false;
+        }
+        let Cell::Claimed = self.board.cell(row) else {
+            return false;
+        };
+        if self.namer(row).is_some() {
             return false;
         }
         self.board.set_cell(row, Cell::Waiting);

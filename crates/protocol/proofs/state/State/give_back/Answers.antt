@@ -1,0 +1,31 @@
+use Rattle.std.proofs.Common.{◌≡◌, ◌<◌, ◌≤◌, true, ap, sym, refl, arith, ◌∙◌}
+use Rattle.words.specs.declared.Cell.{Cell}
+use Rattle.words.specs.declared.Cell.TheVariants.{Fresh, Waiting, Claimed, Synched}
+use Rattle.words.specs.declared.Step.TheVariants.{Draft, Open, Claim, Yield, Join, Seal}
+use Rattle.protocol.specs.Tables.{Table, is_fresh, joined_of, cell_at}
+use Rattle.protocol.specs.Worlds.{Holds, with_word, with_cell, Condition}
+use Rattle.protocol.specs.States.{table_of, world_of}
+use Rattle.protocol.proofs.Keeping.{held_row, kept_condition}
+use Rattle.protocol.proofs.Readings.{row_of_open}
+use Rattle.protocol.proofs.Telling.{tells_draft, tells_plain}
+use Rattle.protocol.proofs.Soundness.{sound_state}
+use Rattle.std.proofs.Common.{None}
+use Rattle.protocol.specs.Worlds.{namer_at}
+use Rattle.protocol.proofs.Linking.{none_from}
+use Rattle.protocol.proofs.state.State.give_back.Goals as goal
+
+pub namer-requires-clause-row : goal.namer-requires-clause-row
+namer-requires-clause-row c = held_row (world_of c.args.self.now) c.args.row c.args.seat.0 (c.holds.ensures.0 c.if-not-holds.false)
+
+pub set_cell-requires-clause-row : goal.set_cell-requires-clause-row
+set_cell-requires-clause-row c = held_row (world_of c.args.self.now) c.args.row c.args.seat.0 (c.holds.ensures.0 c.if-not-holds.false)
+
+pub returns-clause-sound : goal.returns-clause-sound
+returns-clause-sound c =
+    let w = world_of c.args.self.now in
+    let held : Holds w c.args.seat c.args.row = c.holds.ensures.0 c.if-not-holds.false in
+    let was : cell_at w.table c.args.row ≡ Claimed = sym c.in-Claimed.ensures in
+    let unnamed : namer_at w c.args.row ≡ None = sym c.namer.ensures ∙ none_from c.namer.result (sym c.is_some.ensures ∙ c.if-is_some.false) in
+    sound_state _ w (with_cell w.table c.args.row Waiting) c.set_cell.ensures.written refl refl
+    (kept_condition w c.args.seat (Yield c.args.row) c.requires.kept (held, was, unnamed))
+    (tells_plain w c.args.row Waiting c.args.self.now.namers.items c.requires.kept (held_row w c.args.row c.args.seat.0 held) tt (ap joined_of was) refl c.requires.told)
