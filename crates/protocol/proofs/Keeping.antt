@@ -319,3 +319,10 @@ kept_step w seat step k a = kept_condition w seat step k a.1
 pub kept_schedule : (w v : World) (steps : List (Seat × Step)) → Kept w → Plays w steps v → Kept v
 kept_schedule w v [] k p = subst Kept (sym p) k
 kept_schedule w v (s ∷ ss) k p = kept_schedule (after_step w s.0 s.1) v ss (kept_step w s.0 s.1 k p.0) p.1
+
+-- a last stamp is small
+pub small_last : (w : World) (r : Row) → Kept w → last_stamp (joined_at w.table) r ≤ 65536
+small_last w r k =
+    let a = last_bounded w.table.threads w.table.rows (cell_at w.table) (offer_at w.table) r k.linked in
+    let few = few_commits w.table.threads w.table.rows (joined_by (cell_at w.table)) (offer_at w.table) k.few_threads k.few_rows in
+    omega arith

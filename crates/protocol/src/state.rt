@@ -3,7 +3,7 @@
 ghost use Rattle.std.specs.Prelude.{◌≡◌, ◌*◌, ◌<◌, ◌≤◌, ◌↔◌, IsTrue, true, length};
 
 use crate::board::Board;
-use words::{Cell, Joined, Row, Seat, Step, is_word_for};
+use words::{Base, Cell, Joined, Offer, Row, Seat, Step, is_word_for};
 
 /// A world: the board, and for each row the seat that holds it and the row that is committed with
 /// it as its partner, so that neither is searched for.
@@ -19,8 +19,8 @@ pub(crate) struct State {
 
 impl State {
     ghost use Rattle.words.specs.declared.Step.TheVariants.{Draft, Open, Look, Read, Claim, Yield, Join, Seal};
-    ghost use Rattle.protocol.specs.Tables.{is_row};
-    ghost use Rattle.protocol.specs.Worlds.{Holds, holder_at, namer_at};
+    ghost use Rattle.protocol.specs.Tables.{is_row, offer_at, offers_meet};
+    ghost use Rattle.protocol.specs.Worlds.{Holds, holder_at, namer_at, joined_with, Condition};
     ghost use Rattle.protocol.specs.States.{table_of, world_of, IsSound, Tries, Decides};
 
     /// The seat that holds the row.
@@ -50,6 +50,32 @@ impl State {
     {
         let at = self.board.number(row);
         self.namers[at]
+    }
+
+    /// Makes the step where it is allowed, and else changes nothing.
+    pub(crate) fn step(&mut self, seat: Seat, step: Step) -> bool
+        requires { IsSound self.old }
+        ensures decided { Decides (world_of self.old) seat step result (world_of self.new) }
+        ensures sound { IsSound self.new }
+    {
+        if usize::from(seat.0) >= self.seats {
+            return false;
+        }
+        match step {
+            Step::Draft { row, place, value } => self.draft(seat, row, place, value),
+            Step::Open { row } => self.open(seat, row),
+            Step::Look { row } => self.look(seat, row),
+            Step::Read { row, place } => self.read(seat, row, place),
+            Step::Claim { row } => self.claim(seat, row),
+            Step::Yield { row } => self.give_back(seat, row),
+            Step::Join {
+                mine,
+                own,
+                other,
+                partner,
+            } => self.join(seat, mine, own, other, partner),
+            Step::Seal { row } => self.seal(seat, row),
+        }
     }
 
     fn draft(&mut self, seat: Seat, row: Row, place: u8, value: u64) -> bool
@@ -120,4 +146,119 @@ impl State {
         self.board.set_cell(row, Cell::Waiting);
         true
     }
+
+    fn look(&self, seat: Seat, row: Row) -> bool
+        ensures { IsTrue result ↔ Condition (world_of self.now) seat (Look row) }
+    {
+        self.board.contains(row)
+    }
+
+    fn read(&self, seat: Seat, row: Row, place: u8) -> bool
+        ensures { IsTrue result ↔ Condition (world_of self.now) seat (Read row place) }
+    {
+        !matches!(self.board.cell(row), Cell::Fresh) && 1 <= place && place <= 33
+    }
+
+    fn join(&mut self, seat: Seat, mine: Row, own: u8, other: Row, partner: u8) -> bool
+        requires { IsSound self.old }
+        ensures tried { Tries (world_of self.old) seat (Join mine own other partner) result (world_of self.new) }
+        ensures sound { IsSound self.new }
+    {
+        if !self.holds(seat, mine) {
+            return false;
+        }
+        let Cell::Claimed = self.board.cell(mine) else {
+            return false;
+        };
+        if self.namer(mine).is_some() {
+            return false;
+        }
+        let Cell::Waiting = self.board.cell(other) else {
+            return false;
+        };
+        if mine.thread == other.thread {
+            return false;
+        }
+        if !offers_meet(
+            self.board.offer(mine, own),
+            self.board.offer(other, partner),
+        ) {
+            return false;
+        }
+        let joined = self.joined_with(mine, own, other, partner);
+        let at = self.board.number(mine);
+        self.board.set_cell(other, Cell::Synched(joined));
+        self.namers[at] = Some(other);
+        true
+    }
+
+    /// The other row's side of a join.
+    #[tactic(auto, unfolding(crate::specs::Worlds::joined_with))]
+    fn joined_with(&self, mine: Row, own: u8, other: Row, partner: u8) -> Joined
+        requires sound { IsSound self.now }
+        requires meet { offers_meet (offer_at (table_of self.now.board) mine own) (offer_at (table_of self.now.board) other partner) ≡ true }
+        ensures { result ≡ joined_with (table_of self.now.board) mine own other partner }
+    {
+        let mine_stamp = self.board.last_stamp(mine);
+        let other_stamp = self.board.last_stamp(other);
+        Joined {
+            own: partner,
+            partner: Some((mine, own)),
+            stamp: 1 + mine_stamp.max(other_stamp),
+        }
+    }
+
+    fn seal(&mut self, seat: Seat, row: Row) -> bool
+        requires { IsSound self.old }
+        ensures tried { Tries (world_of self.old) seat (Seal row) result (world_of self.new) }
+        ensures sound { IsSound self.new }
+    {
+        if !self.holds(seat, row) {
+            return false;
+        }
+        let Cell::Claimed = self.board.cell(row) else {
+            return false;
+        };
+        let Some(other) = self.namer(row) else {
+            return false;
+        };
+        let Some(joined) = side_of(other, self.board.joined(other)) else {
+            return false;
+        };
+        let at = self.board.number(other);
+        self.board.set_cell(row, Cell::Synched(joined));
+        self.namers[at] = Some(row);
+        true
+    }
+}
+
+ghost use Rattle.protocol.specs.Tables.{offers_meet};
+ghost use Rattle.protocol.specs.Worlds.{side_of};
+
+/// Whether two offers are a send and a receive on one channel.
+fn offers_meet(own: Option<Offer>, other: Option<Offer>) -> bool
+    ensures { result ≡ offers_meet own other }
+{
+    let (Some(own), Some(other)) = (own, other) else {
+        return false;
+    };
+    match (own.base, other.base) {
+        (Base::Send(chan, _), Base::Recv(other)) | (Base::Recv(chan), Base::Send(other, _)) => {
+            chan == other
+        }
+        _ => false,
+    }
+}
+
+/// A joined row as its partner sees it.
+fn side_of(row: Row, joined: Option<Joined>) -> Option<Joined>
+    ensures { result ≡ side_of row joined }
+{
+    let joined = joined?;
+    let (_, own) = joined.partner?;
+    Some(Joined {
+        own,
+        partner: Some((row, joined.own)),
+        stamp: joined.stamp,
+    })
 }
