@@ -9,3 +9,4 @@ pub mod Keeping
 pub mod LedgerLemmas
 pub mod Telling
 pub mod Soundness
+pub mod Playing

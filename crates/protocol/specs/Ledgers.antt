@@ -1,6 +1,9 @@
 -- Ledgers: the commits that a table's words name, and when they are lawful.
-use Rattle.std.specs.Prelude.{zero, suc, ◌⊎◌, ◌/◌, ◌%◌, ◌==◌, ◌^◌, AllPairs, ◌≡◌, ℕ, ◌+◌, ◌*◌, ◌<◌, ◌≤◌, ◌≢◌, Bool, true, false, ◌||◌, ◌&&◌, nat_lt, if◌then◌else◌, Option, Some, None, is_some, is_none, option_to_list, List, [], ◌++◌, map, length, count_by, slice_index_or}
+use Rattle.std.specs.Prelude.{zero, suc, ◌⊎◌, ◌/◌, ◌%◌, ◌==◌, ◌^◌, ◌≡◌, ℕ, ◌+◌, ◌*◌, ◌<◌, ◌≤◌, ◌≢◌, Bool, true, false, ◌||◌, ◌&&◌, nat_lt, if◌then◌else◌, Option, Some, None, is_some, is_none, option_to_list, List, [], ◌++◌, map, length, count_by, slice_index_or}
 use Rattle.std.specs.List.{range_with_len, flat_map}
+use Rattle.std.specs.List.Sorted.{IsSortedByKey}
+use Rattle.std.specs.Ordering.{nat_cmp, ordering_then}
+use Rattle.std.specs.declared.cmp.Ordering.{Ordering}
 use Rattle.words.specs.declared.NackName.{NackName}
 use Rattle.words.specs.declared.Base.{Base}
 use Rattle.words.specs.declared.Base.TheVariants.{Send, Recv, Always, OnNack, Never}
@@ -246,8 +249,11 @@ abbrev pub first_thread : Commit → ℕ
 first_thread (Pair sender receiver c m s) = sender.0.thread
 first_thread (Alone at k s) = at.0.thread
 
-abbrev pub ComesBefore : Commit → Commit → Type 0
-ComesBefore c d = (stamp_in c < stamp_in d) ⊎ ((stamp_in c ≡ stamp_in d) × (first_thread c ≤ first_thread d))
+abbrev pub order_of : Commit → ℕ × ℕ
+order_of c = (stamp_in c, first_thread c)
+
+abbrev pub order_cmp : ℕ × ℕ → ℕ × ℕ → Ordering
+order_cmp x y = ordering_then (nat_cmp x.0 y.0) (nat_cmp x.1 y.1)
 
 abbrev pub IsInOrder : List Commit → Type 0
-IsInOrder cs = AllPairs ComesBefore cs
+IsInOrder cs = IsSortedByKey order_of order_cmp cs

@@ -6,8 +6,10 @@ use Rattle.words.specs.declared.Step.{Step}
 use Rattle.protocol.specs.declared.board.Board.{Board}
 use Rattle.protocol.specs.declared.state.State.{State}
 use Rattle.protocol.specs.Tables.{Table, is_row, number_of}
-use Rattle.protocol.specs.Worlds.{World, Condition, Allowed, after_step, namer_at}
+use Rattle.protocol.specs.Worlds.{World, Condition, Allowed, after_step, namer_at, IsRefused}
 use Rattle.protocol.specs.Kept.{Kept}
+use Rattle.protocol.specs.declared.ProtoFault.{ProtoFault}
+use Rattle.protocol.specs.declared.ProtoFault.TheVariants.{Memory, NotAllowed}
 
 -- the table that a board's words are
 abbrev pub table_of : Board → Table
@@ -33,3 +35,8 @@ Tries old seat step false new = (¬ Condition old seat step) × (new ≡ old)
 abbrev pub Decides : World → Seat → Step → Bool → World → Type 0
 Decides old seat step true new = Allowed old seat step × (new ≡ after_step old seat step)
 Decides old seat step false new = (¬ Allowed old seat step) × (new ≡ old)
+
+-- what a refusal of a schedule says. Playing takes no memory
+abbrev pub Refuses : World → List (Seat × Step) → ProtoFault → Type 0
+Refuses w steps Memory = ⊥
+Refuses w steps (NotAllowed index) = IsRefused w steps index

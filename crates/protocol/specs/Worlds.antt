@@ -1,5 +1,5 @@
 -- Worlds: who holds which row, each step's condition and effect, and whole schedules.
-use Rattle.std.specs.Prelude.{◌≡◌, ℕ, ◌+◌, ◌*◌, ◌%◌, ◌<◌, ◌≤◌, ◌≢◌, true, ◌==◌, if◌then◌else◌, Option, Some, None, is_some, List, [], ◌∷◌, map, max, replicate, slice_index_or, slice_set}
+use Rattle.std.specs.Prelude.{◌≡◌, ℕ, ◌+◌, ◌*◌, ◌%◌, ◌<◌, ◌≤◌, ◌≢◌, true, ◌==◌, if◌then◌else◌, Option, Some, None, is_some, List, [], ◌∷◌, ◌++◌, length, map, max, replicate, slice_index_or, slice_set}
 use Rattle.words.specs.Words.{cell_word, is_word_for}
 use Rattle.words.specs.declared.Row.{Row}
 use Rattle.words.specs.declared.Joined.{Joined}
@@ -120,3 +120,14 @@ after_step w seat (Seal row) = with_table w (with_seal w.table row (sealed_by w.
 abbrev pub Plays : World → List (Seat × Step) → World → Type 0
 Plays w [] v = v ≡ w
 Plays w (s ∷ ss) v = Allowed w s.0 s.1 × Plays (after_step w s.0 s.1) ss v
+
+-- The schedule is refused at this step: those before it are played, and it is not allowed then.
+pub record IsRefused (w : World) (steps : List (Seat × Step)) (index : ℕ) : Type 0 where
+  pub before : List (Seat × Step)
+  pub step : Seat × Step
+  pub behind : List (Seat × Step)
+  pub is : steps ≡ before ++ step ∷ behind
+  pub count : length before ≡ index
+  pub world : World
+  pub played : Plays w before world
+  pub refused : ¬ Allowed world step.0 step.1

@@ -8,12 +8,30 @@ ghost use Rattle.words.specs.declared.Seat.{Seat};
 ghost use Rattle.std.specs.Prelude.{◌≡◌, ℕ, ◌≤◌, List};
 
 mod board;
+mod ledger;
 mod state;
+mod world;
+
+use thiserror::Error;
+
+pub use crate::ledger::Ledger;
+pub use crate::world::{World, play};
 
 pub use words::{
     Atom, Base, Binding, Cause, Cell, Commit, Direction, Head, Joined, Message, NackName, Offer,
     Row, Seat, Step,
 };
+
+/// What starting or playing a world can refuse.
+#[derive(Clone, Copy, Debug, PartialEq, Eq, Error)]
+pub enum ProtoFault {
+    /// No memory was left.
+    #[error("out of memory")]
+    Memory,
+    /// The step with this number, from 0, was not allowed.
+    #[error("step {0} is not allowed")]
+    NotAllowed(usize),
+}
 
 /// Whatever steps are allowed in turn, from any start, the ledger of the words is lawful.
 pub fn every_schedule_is_lawful()
