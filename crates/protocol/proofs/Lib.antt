@@ -10,3 +10,5 @@ pub mod LedgerLemmas
 pub mod Telling
 pub mod Soundness
 pub mod Playing
+pub mod Loops
+pub mod CommitLemmas

@@ -44,6 +44,25 @@ impl Board {
         usize::from(row.thread) * self.rows + usize::from(row.sync)
     }
 
+    /// How many rows the table has.
+    pub(crate) fn len(&self) -> usize
+        ensures { result ≡ self.now.threads * self.now.rows }
+    {
+        self.threads * self.rows
+    }
+
+    /// The row with a number.
+    pub(crate) fn row(&self, number: usize) -> Row
+        requires { number < self.now.threads * self.now.rows }
+        ensures inside { is_row (table_of self.now) result ≡ true }
+        ensures value { number_of self.now.rows result ≡ number }
+    {
+        Row {
+            thread: (number / self.rows) as u8,
+            sync: (number % self.rows) as u16,
+        }
+    }
+
     /// Where the row's word at a place lies.
     fn place(&self, row: Row, place: usize) -> usize
         requires row { is_row (table_of self.now) row ≡ true }

@@ -8,6 +8,7 @@ ghost use Rattle.words.specs.declared.Seat.{Seat};
 ghost use Rattle.std.specs.Prelude.{◌≡◌, ℕ, ◌≤◌, List};
 
 mod board;
+mod commits;
 mod ledger;
 mod state;
 mod world;
