@@ -173,3 +173,71 @@ silent joined own (Some p) h =
     joined_some : (o : Option Joined) → is_none o ≡ false → (k : Joined) × (o ≡ Some k)
     joined_some None h = absurd (true≢false h)
     joined_some (Some k) h = (k, refl)
+
+-- a pair seen from a row that offered no send: the row receives
+receives : (offer : Row → ℕ → Option Offer) (r : Row) (j : Joined) (p : Row × ℕ) (c : Commit) → j.partner ≡ Some p → is_send (offer r j.own) ≡ false → commit_named offer r j ≡ Some c → (chan : ℕ) × (m : Rattle.words.specs.declared.Message.Message) × (c ≡ Pair p (r, j.own) chan m j.stamp)
+unfolding commit_named
+receives offer r j p c e s h =
+    by_own (offer r j.own) s (sym (ap (λ (v : Option (Row × ℕ)). commit_by offer r j v (offer r j.own)) e) ∙ h)
+  where
+    by_other : (b : Base) → received_by r j p b ≡ Some c → (chan : ℕ) × (m : Rattle.words.specs.declared.Message.Message) × (c ≡ Pair p (r, j.own) chan m j.stamp)
+    by_other (Send d m) k = (d, m, sym (some_inj _ c k))
+    by_other (Recv d) k = let bad : None ≡ Some c = k in cc
+    by_other (Always m) k = let bad : None ≡ Some c = k in cc
+    by_other (OnNack n) k = let bad : None ≡ Some c = k in cc
+    by_other Never k = let bad : None ≡ Some c = k in cc
+    by_base : (b : Base) (o : Option Offer) → sends b ≡ false → pair_by r j p b o ≡ Some c → (chan : ℕ) × (m : Rattle.words.specs.declared.Message.Message) × (c ≡ Pair p (r, j.own) chan m j.stamp)
+    by_base (Send d m) o s k = absurd (true≢false s)
+    by_base (Recv d) None s k = let bad : None ≡ Some c = k in cc
+    by_base (Recv d) (Some o) s k = by_other o.base k
+    by_base (Always m) o s k = let bad : None ≡ Some c = k in cc
+    by_base (OnNack n) o s k = let bad : None ≡ Some c = k in cc
+    by_base Never o s k = let bad : None ≡ Some c = k in cc
+    by_own : (o : Option Offer) → is_send o ≡ false → commit_by offer r j (Some p) o ≡ Some c → (chan : ℕ) × (m : Rattle.words.specs.declared.Message.Message) × (c ≡ Pair p (r, j.own) chan m j.stamp)
+    by_own None s k = let bad : None ≡ Some c = k in cc
+    by_own (Some o) s k = by_base o.base (offer p.0 p.1) s k
+
+module _ (threads rows : ℕ) (joined : Row → Option Joined) (offer : Row → ℕ → Option Offer) (bound : NackName → Option Binding)
+    (law : Lawful (all_rows threads rows) joined offer bound)
+    (inside : (r : Row) (j : Joined) → joined r ≡ Some j → (r.thread < threads) × (r.sync < rows)) where
+
+  told_by_row : (c : Commit) (r : Row) (j : Joined) → joined r ≡ Some j → told_at joined offer r ≡ Some c → Has c (commits_of (all_rows threads rows) joined offer)
+  told_by_row c r j e h =
+    let in_t = inside r j e in
+    let o : IsOnce r (all_rows threads rows) = once_all threads rows r in_t.0 in_t.1 in
+    subst (λ (rs : List Row). Has c (commits_of rs joined offer)) (sym o.is) (told_once (told_at joined offer) c o.front r o.back h)
+
+  -- where one row does not tell the commit, the other does
+  told_by_partner : (c : Commit) (h : IsIn joined offer c) → tells joined (offer h.row h.way.own) h.way.partner ≡ false → Has c (commits_of (all_rows threads rows) joined offer)
+  told_by_partner c h t =
+    let s = silent joined (offer h.row h.way.own) h.way.partner t in
+    let p : Row × ℕ = s.0 in
+    let k : Joined = s.1 in
+    let d = some_parts (commit_named offer p.0 k) (law.named p.0 k s.4) in
+    let in_d : IsIn joined offer d.0 = record { row = p.0; way = k; is_joined = s.4; is_named = d.1 } in
+    let own : Takes d.0 p.0 k.own = (named_rows offer p.0 k d.0 d.1).own in
+    let other : Takes c p.0 p.1 = (named_rows offer h.row h.way c h.is_named).other p s.2 in
+    let same : c ≡ d.0 = law.once p.0 c d.0 h in_d (p.1, other) (k.own, own) in
+    let named : commit_named offer p.0 k ≡ Some c = d.1 ∙ ap (λ (x : Commit). Some x) (sym same) in
+    ⊎_elim
+    (λ (e : tells joined (offer p.0 k.own) k.partner ≡ true). told_by_row c p.0 k s.4 (tells_told joined offer p.0 k c s.4 e named))
+    (λ (e : tells joined (offer p.0 k.own) k.partner ≡ false).
+        let u = silent joined (offer p.0 k.own) k.partner e in
+        let mine = receives offer h.row h.way p c s.2 s.3 h.is_named in
+        let yours = receives offer p.0 k u.0 c u.2 u.3 named in
+        let pairs : Pair p (h.row, h.way.own) mine.0 mine.1 h.way.stamp ≡ Pair u.0 (p.0, k.own) yours.0 yours.1 k.stamp = sym mine.2 ∙ yours.2 in
+        let rows_same : (h.row, h.way.own) ≡ (p.0, k.own) = cc in
+        let row_same : h.row ≡ p.0 = ap (λ (z : Row × ℕ). z.0) rows_same in
+        let fits : Fits joined offer bound (Pair p (h.row, h.way.own) mine.0 mine.1 h.way.stamp) = subst (Fits joined offer bound) mine.2 (law.fits c h) in
+        absurd (fits.0 (ap (λ (x : Row). x.thread) (sym row_same))))
+    (cases_Bool (tells joined (offer p.0 k.own) k.partner))
+
+  pub commit_members : (c : Commit) → Contains (commits_of (all_rows threads rows) joined offer) c ↔ IsIn joined offer c
+  commit_members c =
+    (λ h.
+        let r = told_of (told_at joined offer) c (all_rows threads rows) (contains_has c _ h) in
+        told_named joined offer r.0 c r.1,
+    λ h. has_contains c _ (⊎_elim
+        (λ (e : tells joined (offer h.row h.way.own) h.way.partner ≡ true). told_by_row c h.row h.way h.is_joined (tells_told joined offer h.row h.way c h.is_joined e h.is_named))
+        (λ (e : tells joined (offer h.row h.way.own) h.way.partner ≡ false). told_by_partner c h e)
+        (cases_Bool (tells joined (offer h.row h.way.own) h.way.partner))))

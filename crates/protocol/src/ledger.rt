@@ -1,9 +1,11 @@
 //! Ledgers: the commits that a table's words name.
 
-ghost use Rattle.std.specs.Prelude.{◌≡◌, ◌≤◌, IfOk, IfErr, List, ℕ};
+ghost use Rattle.std.specs.Prelude.{◌≡◌, ◌*◌, ◌≤◌, ◌↔◌, IfOk, IfSome, IfNone, IsPermutation, Contains, length};
 
 use crate::board::Board;
+use std::alloc::AllocError;
 use std::marker::Model;
+use words::{Commit, Row};
 
 /// The commits that words name, with the offers of the opened rows and the bound nacks. Every
 /// ledger is lawful.
@@ -25,8 +27,10 @@ impl Model for Ledger {
     ghost invariant = { λ l. IsLawful (ledger_of (table_of l.board)) };
 }
 
-ghost use Rattle.protocol.specs.Ledgers.{ledger_of, IsLawful};
+ghost use Rattle.protocol.specs.Ledgers.{ledger_of, IsLawful, HasCommit, Involves, IsInOrder, commits_in, pending_in, order_of};
+ghost use Rattle.protocol.specs.Tables.{thread_len};
 ghost use Rattle.protocol.specs.States.{table_of};
+ghost use Rattle.words.specs.declared.Commit.{Commit};
 
 impl Ledger {
     pub(crate) fn of_board(board: Board) -> Ledger
@@ -34,5 +38,66 @@ impl Ledger {
         ensures { result ≡ ledger_of (table_of board) }
     {
         Ledger { board }
+    }
+
+    /// The ledger of words that lie thread by thread: a thread's rows first, 34 words each, and
+    /// then its 64 nacks. It takes no memory.
+    pub fn of_words(threads: u8, rows: u16, words: Vec<u64>) -> Ledger
+        requires some_threads { 1 ≤ threads }
+        requires few_threads { threads ≤ 64 }
+        requires some_rows { 1 ≤ rows }
+        requires few_rows { rows ≤ 1024 }
+        requires sized { length words.items ≡ threads * thread_len rows }
+        requires lawful { IsLawful (ledger_of (record { threads = threads; rows = rows; words = words.items })) }
+        ensures { result ≡ ledger_of (record { threads = threads; rows = rows; words = words.items }) }
+    {
+        Ledger {
+            board: Board {
+                threads: usize::from(threads),
+                rows: usize::from(rows),
+                words,
+            },
+        }
+    }
+
+    /// The commit that the row is in, from the join on.
+    pub fn commit_of(&self, row: Row) -> Option<Commit>
+        ensures found { IfSome result (λ c. HasCommit self.now c × Involves c row) }
+        ensures none { IfNone result ((c : Commit) → HasCommit self.now c → Involves c row → ⊥) }
+    {
+        if let Some(joined) = self.board.joined(row) {
+            return self.board.commit_named(row, joined);
+        }
+        let namer = self.board.namer(row)?;
+        let joined = self.board.joined(namer)?;
+        self.board.commit_named(namer, joined)
+    }
+
+    /// All commits, by stamp and then by the thread named first.
+    pub fn commits(&self) -> Result<Vec<Commit>, AllocError>
+        ensures once { IfOk result (λ cs. IsPermutation (commits_in self.now) cs.items) }
+        ensures members { IfOk result (λ cs. (c : Commit) → Contains cs.items c ↔ HasCommit self.now c) }
+        ensures in_order { IfOk result (λ cs. IsInOrder cs.items) }
+    {
+        let mut commits = self.board.commits()?;
+        commits.sort_by_key(|commit| order_of(commit))?;
+        Ok(commits)
+    }
+
+    /// How many pairs are joined and not yet sealed. It takes no memory.
+    pub fn pending(&self) -> u32
+        ensures { result ≡ pending_in self.now }
+    {
+        self.board.pending()
+    }
+}
+
+/// By what commits are in order: the stamp, and the thread named first.
+fn order_of(commit: &Commit) -> (u32, u8)
+    ensures { result ≡ order_of commit.now }
+{
+    match commit {
+        Commit::Pair { sender, stamp, .. } => (*stamp, sender.0.thread),
+        Commit::Alone { at, stamp, .. } => (*stamp, at.0.thread),
     }
 }
