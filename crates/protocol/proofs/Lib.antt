@@ -12,3 +12,4 @@ pub mod Soundness
 pub mod Playing
 pub mod Loops
 pub mod CommitLemmas
+pub mod LedgerReadings

@@ -1,5 +1,5 @@
 -- Ledgers: the commits that a table's words name, and when they are lawful.
-use Rattle.std.specs.Prelude.{zero, suc, ◌⊎◌, ◌/◌, ◌%◌, ◌==◌, ◌^◌, ◌≡◌, ℕ, ◌+◌, ◌*◌, ◌<◌, ◌≤◌, ◌≢◌, Bool, true, false, ◌||◌, ◌&&◌, nat_lt, if◌then◌else◌, Option, Some, None, is_some, is_none, option_to_list, List, [], ◌++◌, map, length, count_by, slice_index_or}
+use Rattle.std.specs.Prelude.{zero, suc, ◌⊎◌, ◌/◌, ◌%◌, ◌==◌, ◌^◌, ◌≡◌, ℕ, ◌+◌, ◌*◌, ◌<◌, ◌≤◌, ◌≢◌, Bool, true, false, ◌||◌, ◌&&◌, nat_lt, if◌then◌else◌, Option, Some, None, is_some, is_none, option_and_then, option_to_list, List, [], ◌++◌, map, length, count_by, slice_index_or}
 use Rattle.std.specs.List.{range_with_len, flat_map}
 use Rattle.std.specs.List.Sorted.{IsSortedByKey}
 use Rattle.std.specs.Ordering.{nat_cmp, ordering_then}
@@ -15,7 +15,7 @@ use Rattle.words.specs.declared.Cause.{Cause}
 use Rattle.words.specs.declared.Cause.TheVariants as cause
 use Rattle.words.specs.declared.Commit.{Commit}
 use Rattle.words.specs.declared.Commit.TheVariants.{Pair, Alone}
-use Rattle.protocol.specs.Tables.{Table, all_rows, number_of, joined_at, count_at, offer_at, binding_at}
+use Rattle.protocol.specs.Tables.{Table, all_rows, number_of, joined_at, count_at, offer_at, binding_at, namer_of}
 
 -- What a ledger has of a row: its offers, once it is opened, and how it is committed.
 pub record Entry : Type 0 where
@@ -154,6 +154,16 @@ is_pending joined (Some j) = awaits joined j.partner
 
 unfoldable pub pending_of : List Row → (Row → Option Joined) → ℕ
 pending_of rows joined = count_by (λ r. is_pending joined (joined r)) rows
+
+-- the commit that a row names, and the commit that a row is in: the one it names, or else that of the row that names it
+abbrev pub named_at : (Row → Option Joined) → (Row → ℕ → Option Offer) → Row → Option Commit
+named_at joined offer r = option_and_then (commit_named offer r) (joined r)
+
+abbrev pub commit_at : List Row → (Row → Option Joined) → (Row → ℕ → Option Offer) → Row → Option Commit
+commit_at rows joined offer r =
+    if is_some (joined r)
+    then named_at joined offer r
+    else option_and_then (named_at joined offer) (namer_of rows joined r)
 
 -- WHEN A LEDGER IS LAWFUL
 

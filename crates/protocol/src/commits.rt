@@ -3,7 +3,7 @@
 ghost use Rattle.std.specs.Prelude.{◌≡◌, IfOk, option_to_list};
 ghost use Rattle.std.specs.List.{flat_map};
 ghost use Rattle.protocol.specs.Tables.{all_rows, joined_at, offer_at, namer_of, names};
-ghost use Rattle.protocol.specs.Ledgers.{alone_by, pair_by, commit_named, told_at, is_send, commits_of, pending_of, is_pending};
+ghost use Rattle.protocol.specs.Ledgers.{alone_by, pair_by, commit_named, named_at, commit_at, told_at, is_send, commits_of, pending_of, is_pending};
 ghost use Rattle.protocol.specs.States.{table_of};
 
 use crate::board::Board;
@@ -72,6 +72,23 @@ impl Board {
         } else {
             None
         }
+    }
+
+    /// The commit that the row names.
+    fn named(&self, row: Row) -> Option<Commit>
+        ensures { result ≡ named_at (joined_at (table_of self.now)) (offer_at (table_of self.now)) row }
+    {
+        self.commit_named(row, self.joined(row)?)
+    }
+
+    /// The commit that the row is in.
+    pub(crate) fn commit_of(&self, row: Row) -> Option<Commit>
+        ensures { result ≡ commit_at (all_rows self.now.threads self.now.rows) (joined_at (table_of self.now)) (offer_at (table_of self.now)) row }
+    {
+        if self.joined(row).is_some() {
+            return self.named(row);
+        }
+        self.named(self.namer(row)?)
     }
 
     /// All commits, row by row.

@@ -65,12 +65,7 @@ impl Ledger {
         ensures found { IfSome result (λ c. HasCommit self.now c × Involves c row) }
         ensures none { IfNone result ((c : Commit) → HasCommit self.now c → Involves c row → ⊥) }
     {
-        if let Some(joined) = self.board.joined(row) {
-            return self.board.commit_named(row, joined);
-        }
-        let namer = self.board.namer(row)?;
-        let joined = self.board.joined(namer)?;
-        self.board.commit_named(namer, joined)
+        self.board.commit_of(row)
     }
 
     /// All commits, by stamp and then by the thread named first.
