@@ -1,8 +1,8 @@
 -- The commits of a lawful ledger: which rows are in them, and that each is told.
-use Rattle.std.proofs.Common.{◌≡◌, ◌≢◌, ℕ, zero, suc, ◌+◌, ◌<◌, Bool, true, false, cond, ◌||◌, List, [], ◌∷◌, ◌++◌, length, get_or, sym, refl, ap, ◌∙◌, subst, ◌⊎◌, inl, inr, ⊎_elim, arith, Option, Some, None, is_some}
+use Rattle.std.proofs.Common.{◌≡◌, ℕ, zero, suc, ◌<◌, Bool, true, false, cond, ◌||◌, List, [], ◌∷◌, ◌++◌, length, get_or, sym, refl, ap, ◌∙◌, subst, ◌⊎◌, inl, inr, ⊎_elim, arith, Option, Some, None}
 use Rattle.std.specs.Prelude.{is_none, option_to_list, ◌↔◌, Contains}
 use Rattle.std.specs.List.{flat_map}
-use Rattle.std.proofs.lemmas.Bool.{cases_Bool, false≢true, true≢false}
+use Rattle.std.proofs.lemmas.Bool.{cases_Bool, true≢false}
 use Rattle.words.specs.declared.Row.{Row}
 use Rattle.words.specs.declared.NackName.{NackName}
 use Rattle.words.specs.declared.Binding.{Binding}
@@ -14,8 +14,8 @@ use Rattle.words.specs.declared.Commit.{Commit}
 use Rattle.words.specs.declared.Commit.TheVariants.{Pair, Alone}
 use Rattle.protocol.specs.Tables.{row_eq, all_rows, names, is_partner}
 use Rattle.protocol.specs.Ledgers.{IsIn, Takes, Involves, Lawful, Fits, commit_named, commit_by, alone_by, pair_by, received_by, told_at, told_by, tells, is_send, sends, commits_of}
-use Rattle.protocol.proofs.RowLemmas.{row_eq-refl, row_eq-true, IsOnce, once_all}
-use Rattle.protocol.proofs.Linking.{cases_Option, some_inj, some_parts}
+use Rattle.protocol.proofs.RowLemmas.{row_eq-refl, IsOnce, once_all}
+use Rattle.protocol.proofs.Linking.{some_inj, some_parts}
 
 -- THE ROWS OF A COMMIT that row r names, joined as j
 
@@ -42,21 +42,21 @@ by_alone r j Never c h = let bad : None ≡ Some c = h in cc
 
 sent_rows : (r : Row) (j : Joined) (p : Row × ℕ) (c : Commit) (chan : ℕ) (m : Rattle.words.specs.declared.Message.Message) → (c ≡ Pair (r, j.own) p chan m j.stamp) ⊎ (c ≡ Pair p (r, j.own) chan m j.stamp) → IsNamedBy r j (Some p) c
 sent_rows r j p c chan m (inl is) = record {
-    own = subst (λ (x : Commit). Takes x r j.own) (sym is) (inl refl);
-    rows = λ x v. ⊎_elim
-        (λ (e : (r, j.own) ≡ (x, v.0)). inl (ap (λ (z : Row × ℕ). z.0) e))
-        (λ (e : p ≡ (x, v.0)). inr (ap (λ (z : Row × ℕ). row_eq z.0 x) e ∙ row_eq-refl x))
-        (subst (λ (y : Commit). Takes y x v.0) is v.1);
-    other = λ q e. subst (λ (x : Commit). Takes x q.0 q.1) (sym is) (inr (some_inj p q e));
-  }
+  own = subst (λ (x : Commit). Takes x r j.own) (sym is) (inl refl);
+  rows = λ x v. ⊎_elim
+      (λ (e : (r, j.own) ≡ (x, v.0)). inl (ap (λ (z : Row × ℕ). z.0) e))
+      (λ (e : p ≡ (x, v.0)). inr (ap (λ (z : Row × ℕ). row_eq z.0 x) e ∙ row_eq-refl x))
+      (subst (λ (y : Commit). Takes y x v.0) is v.1);
+  other = λ q e. subst (λ (x : Commit). Takes x q.0 q.1) (sym is) (inr (some_inj p q e));
+}
 sent_rows r j p c chan m (inr is) = record {
-    own = subst (λ (x : Commit). Takes x r j.own) (sym is) (inr refl);
-    rows = λ x v. ⊎_elim
-        (λ (e : p ≡ (x, v.0)). inr (ap (λ (z : Row × ℕ). row_eq z.0 x) e ∙ row_eq-refl x))
-        (λ (e : (r, j.own) ≡ (x, v.0)). inl (ap (λ (z : Row × ℕ). z.0) e))
-        (subst (λ (y : Commit). Takes y x v.0) is v.1);
-    other = λ q e. subst (λ (x : Commit). Takes x q.0 q.1) (sym is) (inl (some_inj p q e));
-  }
+  own = subst (λ (x : Commit). Takes x r j.own) (sym is) (inr refl);
+  rows = λ x v. ⊎_elim
+      (λ (e : p ≡ (x, v.0)). inr (ap (λ (z : Row × ℕ). row_eq z.0 x) e ∙ row_eq-refl x))
+      (λ (e : (r, j.own) ≡ (x, v.0)). inl (ap (λ (z : Row × ℕ). z.0) e))
+      (subst (λ (y : Commit). Takes y x v.0) is v.1);
+  other = λ q e. subst (λ (x : Commit). Takes x q.0 q.1) (sym is) (inl (some_inj p q e));
+}
 
 by_received : (r : Row) (j : Joined) (p : Row × ℕ) (b : Base) (c : Commit) → received_by r j p b ≡ Some c → IsNamedBy r j (Some p) c
 by_received r j p (Send d m) c h = sent_rows r j p c d m (inr (sym (some_inj _ c h)))
@@ -170,6 +170,7 @@ silent joined own (Some p) h =
     or_false : (a b : Bool) → (a || b) ≡ false → (a ≡ false) × (b ≡ false)
     or_false true b h = absurd (true≢false h)
     or_false false b h = (refl, h)
+
     joined_some : (o : Option Joined) → is_none o ≡ false → (k : Joined) × (o ≡ Some k)
     joined_some None h = absurd (true≢false h)
     joined_some (Some k) h = (k, refl)
@@ -186,6 +187,7 @@ receives offer r j p c e s h =
     by_other (Always m) k = let bad : None ≡ Some c = k in cc
     by_other (OnNack n) k = let bad : None ≡ Some c = k in cc
     by_other Never k = let bad : None ≡ Some c = k in cc
+
     by_base : (b : Base) (o : Option Offer) → sends b ≡ false → pair_by r j p b o ≡ Some c → (chan : ℕ) × (m : Rattle.words.specs.declared.Message.Message) × (c ≡ Pair p (r, j.own) chan m j.stamp)
     by_base (Send d m) o s k = absurd (true≢false s)
     by_base (Recv d) None s k = let bad : None ≡ Some c = k in cc
@@ -193,6 +195,7 @@ receives offer r j p c e s h =
     by_base (Always m) o s k = let bad : None ≡ Some c = k in cc
     by_base (OnNack n) o s k = let bad : None ≡ Some c = k in cc
     by_base Never o s k = let bad : None ≡ Some c = k in cc
+
     by_own : (o : Option Offer) → is_send o ≡ false → commit_by offer r j (Some p) o ≡ Some c → (chan : ℕ) × (m : Rattle.words.specs.declared.Message.Message) × (c ≡ Pair p (r, j.own) chan m j.stamp)
     by_own None s k = let bad : None ≡ Some c = k in cc
     by_own (Some o) s k = by_base o.base (offer p.0 p.1) s k
@@ -200,44 +203,44 @@ receives offer r j p c e s h =
 module _ (threads rows : ℕ) (joined : Row → Option Joined) (offer : Row → ℕ → Option Offer) (bound : NackName → Option Binding)
     (law : Lawful (all_rows threads rows) joined offer bound)
     (inside : (r : Row) (j : Joined) → joined r ≡ Some j → (r.thread < threads) × (r.sync < rows)) where
-
   told_by_row : (c : Commit) (r : Row) (j : Joined) → joined r ≡ Some j → told_at joined offer r ≡ Some c → Has c (commits_of (all_rows threads rows) joined offer)
   told_by_row c r j e h =
-    let in_t = inside r j e in
-    let o : IsOnce r (all_rows threads rows) = once_all threads rows r in_t.0 in_t.1 in
-    subst (λ (rs : List Row). Has c (commits_of rs joined offer)) (sym o.is) (told_once (told_at joined offer) c o.front r o.back h)
+      let in_t = inside r j e in
+      let o : IsOnce r (all_rows threads rows) = once_all threads rows r in_t.0 in_t.1 in
+      subst (λ (rs : List Row). Has c (commits_of rs joined offer)) (sym o.is) (told_once (told_at joined offer) c o.front r o.back h)
 
   -- where one row does not tell the commit, the other does
   told_by_partner : (c : Commit) (h : IsIn joined offer c) → tells joined (offer h.row h.way.own) h.way.partner ≡ false → Has c (commits_of (all_rows threads rows) joined offer)
   told_by_partner c h t =
-    let s = silent joined (offer h.row h.way.own) h.way.partner t in
-    let p : Row × ℕ = s.0 in
-    let k : Joined = s.1 in
-    let d = some_parts (commit_named offer p.0 k) (law.named p.0 k s.4) in
-    let in_d : IsIn joined offer d.0 = record { row = p.0; way = k; is_joined = s.4; is_named = d.1 } in
-    let own : Takes d.0 p.0 k.own = (named_rows offer p.0 k d.0 d.1).own in
-    let other : Takes c p.0 p.1 = (named_rows offer h.row h.way c h.is_named).other p s.2 in
-    let same : c ≡ d.0 = law.once p.0 c d.0 h in_d (p.1, other) (k.own, own) in
-    let named : commit_named offer p.0 k ≡ Some c = d.1 ∙ ap (λ (x : Commit). Some x) (sym same) in
-    ⊎_elim
-    (λ (e : tells joined (offer p.0 k.own) k.partner ≡ true). told_by_row c p.0 k s.4 (tells_told joined offer p.0 k c s.4 e named))
-    (λ (e : tells joined (offer p.0 k.own) k.partner ≡ false).
-        let u = silent joined (offer p.0 k.own) k.partner e in
-        let mine = receives offer h.row h.way p c s.2 s.3 h.is_named in
-        let yours = receives offer p.0 k u.0 c u.2 u.3 named in
-        let pairs : Pair p (h.row, h.way.own) mine.0 mine.1 h.way.stamp ≡ Pair u.0 (p.0, k.own) yours.0 yours.1 k.stamp = sym mine.2 ∙ yours.2 in
-        let rows_same : (h.row, h.way.own) ≡ (p.0, k.own) = cc in
-        let row_same : h.row ≡ p.0 = ap (λ (z : Row × ℕ). z.0) rows_same in
-        let fits : Fits joined offer bound (Pair p (h.row, h.way.own) mine.0 mine.1 h.way.stamp) = subst (Fits joined offer bound) mine.2 (law.fits c h) in
-        absurd (fits.0 (ap (λ (x : Row). x.thread) (sym row_same))))
-    (cases_Bool (tells joined (offer p.0 k.own) k.partner))
+      let s = silent joined (offer h.row h.way.own) h.way.partner t in
+      let p : Row × ℕ = s.0 in
+      let k : Joined = s.1 in
+      let d = some_parts (commit_named offer p.0 k) (law.named p.0 k s.4) in
+      let in_d : IsIn joined offer d.0 = record { row = p.0; way = k; is_joined = s.4; is_named = d.1 } in
+      let own : Takes d.0 p.0 k.own = (named_rows offer p.0 k d.0 d.1).own in
+      let other : Takes c p.0 p.1 = (named_rows offer h.row h.way c h.is_named).other p s.2 in
+      let same : c ≡ d.0 = law.once p.0 c d.0 h in_d (p.1, other) (k.own, own) in
+      let named : commit_named offer p.0 k ≡ Some c = d.1 ∙ ap (λ (x : Commit). Some x) (sym same) in
+      ⊎_elim
+      (λ (e : tells joined (offer p.0 k.own) k.partner ≡ true). told_by_row c p.0 k s.4 (tells_told joined offer p.0 k c s.4 e named))
+      (λ (e : tells joined (offer p.0 k.own) k.partner ≡ false).
+      let u = silent joined (offer p.0 k.own) k.partner e in
+      let mine = receives offer h.row h.way p c s.2 s.3 h.is_named in
+      let yours = receives offer p.0 k u.0 c u.2 u.3 named in
+      let pairs : Pair p (h.row, h.way.own) mine.0 mine.1 h.way.stamp ≡ Pair u.0 (p.0, k.own) yours.0 yours.1 k.stamp = sym mine.2 ∙ yours.2 in
+      let rows_same : (h.row, h.way.own) ≡ (p.0, k.own) = cc in
+      let row_same : h.row ≡ p.0 = ap (λ (z : Row × ℕ). z.0) rows_same in
+      let fits : Fits joined offer bound (Pair p (h.row, h.way.own) mine.0 mine.1 h.way.stamp) = subst (Fits joined offer bound) mine.2 (law.fits c h) in
+      absurd (fits.0 (ap (λ (x : Row). x.thread) (sym row_same))))
+      (cases_Bool (tells joined (offer p.0 k.own) k.partner))
 
   pub commit_members : (c : Commit) → Contains (commits_of (all_rows threads rows) joined offer) c ↔ IsIn joined offer c
-  commit_members c =
-    (λ h.
+  commit_members c = (
+    λ h.
         let r = told_of (told_at joined offer) c (all_rows threads rows) (contains_has c _ h) in
         told_named joined offer r.0 c r.1,
     λ h. has_contains c _ (⊎_elim
         (λ (e : tells joined (offer h.row h.way.own) h.way.partner ≡ true). told_by_row c h.row h.way h.is_joined (tells_told joined offer h.row h.way c h.is_joined e h.is_named))
         (λ (e : tells joined (offer h.row h.way.own) h.way.partner ≡ false). told_by_partner c h e)
-        (cases_Bool (tells joined (offer h.row h.way.own) h.way.partner))))
+        (cases_Bool (tells joined (offer h.row h.way.own) h.way.partner))),
+  )

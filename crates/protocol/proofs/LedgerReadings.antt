@@ -1,13 +1,13 @@
 -- What the code reads from a table, said of its ledger.
-use Rattle.std.proofs.Common.{◌≡◌, ℕ, ◌<◌, Bool, true, false, cond, List, sym, refl, ap, ◌∙◌, subst, ◌⊎◌, inl, inr, ⊎_elim, Option, Some, None, is_some}
+use Rattle.std.proofs.Common.{◌≡◌, ℕ, ◌<◌, true, false, cond, sym, refl, ap, ◌∙◌, subst, ⊎_elim, Option, Some, None, is_some}
 use Rattle.std.specs.Prelude.{IfSome, IfNone, ◌↔◌, Contains, option_and_then}
 use Rattle.std.proofs.lemmas.Bool.{cases_Bool, false≢true, true≢false}
 use Rattle.words.specs.declared.Row.{Row}
 use Rattle.words.specs.declared.Joined.{Joined}
 use Rattle.words.specs.declared.Offer.{Offer}
 use Rattle.words.specs.declared.Commit.{Commit}
-use Rattle.protocol.specs.Tables.{Table, is_row, all_rows, cell_at, joined_of, joined_at, offer_at, names, namer_of}
-use Rattle.protocol.specs.Ledgers.{Ledger, ledger_of, joined_in, offer_in, rows_in, IsIn, Takes, Involves, HasCommit, IsLawful, commits_of, commits_in, pending_of, pending_in, commit_named, named_at, commit_at}
+use Rattle.protocol.specs.Tables.{Table, all_rows, cell_at, joined_at, offer_at, names, namer_of}
+use Rattle.protocol.specs.Ledgers.{Ledger, ledger_of, joined_in, offer_in, IsIn, Takes, Involves, HasCommit, IsLawful, commits_of, commits_in, pending_of, pending_in, commit_named, named_at, commit_at}
 use Rattle.protocol.proofs.Linking.{cases_Option, some_parts, none_from, fresh_not_joined, IsNaming, naming}
 use Rattle.protocol.proofs.Places.{row_inside}
 use Rattle.protocol.proofs.Readings.{row_of_open}
@@ -62,8 +62,8 @@ is_namers t r e = ap (λ b. cond b (named_at (joined_at t) (offer_at t) r) (opti
 commit_found : (t : Table) (r : Row) (c : Commit) → commit_at (all_rows t.threads t.rows) (joined_at t) (offer_at t) r ≡ Some c → IsIn (joined_at t) (offer_at t) c × Involves c r
 commit_found t r c h = ⊎_elim
     (λ (e : is_some (joined_at t r) ≡ true).
-        let n = named_is t r c (sym (is_own t r e) ∙ h) in
-        (record { row = r; way = n.0; is_joined = n.1; is_named = n.2 }, (n.0.own, (named_rows (offer_at t) r n.0 c n.2).own)))
+    let n = named_is t r c (sym (is_own t r e) ∙ h) in
+    (record { row = r; way = n.0; is_joined = n.1; is_named = n.2 }, (n.0.own, (named_rows (offer_at t) r n.0 c n.2).own)))
     (λ (e : is_some (joined_at t r) ≡ false). by_namer (namer_of (all_rows t.threads t.rows) (joined_at t) r) refl (sym (is_namers t r e) ∙ h))
     (cases_Bool (is_some (joined_at t r)))
   where
@@ -73,9 +73,10 @@ commit_found t r c h = ⊎_elim
         let n = named_is t q c k in
         let m = naming (joined_at t q) r (namer_names (all_rows t.threads t.rows) (joined_at t) r q e) in
         let same : m.way ≡ n.0 = Rattle.protocol.proofs.Linking.some_inj m.way n.0 (sym m.is ∙ n.1) in
-        let partner : n.0.partner ≡ Some m.place = ap (λ (j : Joined). j.partner) (sym same) ∙ m.partner in
-        (record { row = q; way = n.0; is_joined = n.1; is_named = n.2 },
-        (m.place.1, subst (λ (x : Row). Takes c x m.place.1) m.row ((named_rows (offer_at t) q n.0 c n.2).other m.place partner)))
+        let partner : n.0.partner ≡ Some m.place = ap (λ (j : Joined). j.partner) (sym same) ∙ m.partner in (
+          record { row = q; way = n.0; is_joined = n.1; is_named = n.2 },
+          (m.place.1, subst (λ (x : Row). Takes c x m.place.1) m.row ((named_rows (offer_at t) q n.0 c n.2).other m.place partner)),
+        )
 
 -- in a lawful ledger a joined row names a commit
 names_some : (t : Table) → IsLawful (ledger_of t) → (r : Row) → named_at (joined_at t) (offer_at t) r ≡ None → is_some (joined_at t r) ≡ true → ⊥
@@ -83,8 +84,8 @@ names_some t law r h e =
     let j = some_parts (joined_at t r) e in
     let none : commit_named (offer_at t) r j.0 ≡ None = sym (ap (option_and_then (commit_named (offer_at t) r)) j.1) ∙ h in
     let some : is_some (commit_named (offer_at t) r j.0) ≡ true =
-        ap (λ (f : Row → ℕ → Option Offer). is_some (commit_named f r j.0)) (sym (offer_in_ledger t))
-        ∙ law.named r j.0 (ap (λ (f : Row → Option Joined). f r) (joined_in_ledger t) ∙ j.1) in
+    ap (λ (f : Row → ℕ → Option Offer). is_some (commit_named f r j.0)) (sym (offer_in_ledger t))
+    ∙ law.named r j.0 (ap (λ (f : Row → Option Joined). f r) (joined_in_ledger t) ∙ j.1) in
     false≢true (sym (ap (λ (o : Option Commit). is_some o) none) ∙ some)
 
 -- where none is found, no commit of the ledger has the row
@@ -101,8 +102,8 @@ commit_missing t r law h c k v = ⊎_elim
     by_namer None e n f = ⊎_elim
         (λ (x : k.row ≡ r). false≢true (sym f ∙ ap (λ (y : Row). is_some (joined_at t y)) (sym x) ∙ ap (λ (y : Option Joined). is_some y) k.is_joined))
         (λ (x : names (joined_at t k.row) r ≡ true).
-            let in_t = joined_inside t k.row k.way k.is_joined in
-            true≢false (sym x ∙ no_namer t.threads t.rows (joined_at t) r k.row e in_t.0 in_t.1))
+        let in_t = joined_inside t k.row k.way k.is_joined in
+        true≢false (sym x ∙ no_namer t.threads t.rows (joined_at t) r k.row e in_t.0 in_t.1))
         (row_in_commit (joined_at t) (offer_at t) c r k v)
 
 pub commit_of_found : (t : Table) (l : Ledger) (r : Row) (o : Option Commit) → ledger_of t ≡ l → o ≡ commit_at (all_rows t.threads t.rows) (joined_at t) (offer_at t) r → IfSome o (λ c. HasCommit l c × Involves c r)

@@ -13,3 +13,4 @@ pub mod Playing
 pub mod Loops
 pub mod CommitLemmas
 pub mod LedgerReadings
+pub mod Starting

@@ -1,12 +1,11 @@
 -- What a loop over all rows has at its next row.
-use Rattle.std.proofs.Common.{◌≡◌, ◌≢◌, ℕ, suc, ◌+◌, ◌-◌, ◌*◌, ◌/◌, ◌%◌, ◌<◌, ◌≤◌, Bool, true, false, cond, List, [], ◌∷◌, ◌++◌, length, get_or, take, drop, sym, refl, ap, ◌∙◌, subst, arith, Option, Some, None, ◌⊎◌, inl, inr, ⊎_elim}
+use Rattle.std.proofs.Common.{◌≡◌, ℕ, ◌+◌, ◌*◌, ◌/◌, ◌<◌, ◌≤◌, Bool, true, false, cond, List, [], ◌∷◌, ◌++◌, length, get_or, take, drop, sym, refl, ap, ◌∙◌, subst, arith, Option, Some, None, ⊎_elim}
 use Rattle.std.specs.Prelude.{option_to_list, count_by}
-use Rattle.std.specs.List.{flat_map, find}
+use Rattle.std.specs.List.{find}
 use Rattle.std.proofs.lemmas.List.{take_more, take_all, append-nil, take-append-drop, append_assoc}
 use Rattle.std.proofs.lemmas.List.Concat.{flat_map-append}
 use Rattle.std.proofs.lemmas.List.Sums.{sum_by_push, count_by-le-length}
-use Rattle.std.proofs.lemmas.List.{length-take-le}
-use Rattle.std.proofs.lemmas.Bool.{lt-ltb, and_from, cases_Bool, cases_eq}
+use Rattle.std.proofs.lemmas.Bool.{cases_Bool, cases_eq}
 use Rattle.std.proofs.Math.Nat.{div-lt_iff_lt-mul}
 use Rattle.words.specs.declared.Row.{Row}
 use Rattle.words.specs.declared.Joined.{Joined}
@@ -14,7 +13,7 @@ use Rattle.words.specs.declared.Offer.{Offer}
 use Rattle.words.specs.declared.Commit.{Commit}
 use Rattle.protocol.specs.Tables.{Table, is_row, all_rows, number_of, names, namer_of}
 use Rattle.protocol.specs.Ledgers.{told_at, commits_of, pending_of, is_pending}
-use Rattle.protocol.proofs.Places.{row_inside, row_from}
+use Rattle.protocol.proofs.Places.{row_inside}
 use Rattle.protocol.proofs.Keeping.{length_all}
 use Rattle.protocol.proofs.LedgerLemmas.{row_at_number, number_inside}
 
@@ -43,8 +42,8 @@ find_append test [] ys h = refl
 find_append test (x ∷ xs) ys h = ⊎_elim
     (λ (e : test x ≡ true). let bad : Some x ≡ None = sym (ap (λ b. cond b (Some x) (find test xs)) e) ∙ h in cc)
     (λ (e : test x ≡ false).
-        ap (λ b. cond b (Some x) (find test (xs ++ ys))) e
-        ∙ find_append test xs ys (sym (ap (λ b. cond b (Some x) (find test xs)) e) ∙ h))
+    ap (λ b. cond b (Some x) (find test (xs ++ ys))) e
+    ∙ find_append test xs ys (sym (ap (λ b. cond b (Some x) (find test xs)) e) ∙ h))
     (cases_Bool (test x))
 
 pub namer_more : (t : Table) (n : ℕ) (q x : Row) (joined : Row → Option Joined) → is_row t q ≡ true → number_of t.rows q ≡ n → namer_of (take n (all_rows t.threads t.rows)) joined x ≡ None → names (joined q) x ≡ false → namer_of (take (n + 1) (all_rows t.threads t.rows)) joined x ≡ None
@@ -57,11 +56,11 @@ pub namer_found : (t : Table) (n : ℕ) (q x : Row) (joined : Row → Option Joi
 namer_found t n q x joined h e none f =
     let rs : List Row = all_rows t.threads t.rows in
     sym (ap (λ (xs : List Row). namer_of xs joined x)
-        (sym (take-append-drop (n + 1) rs)
-            ∙ ap (λ (xs : List Row). xs ++ drop (n + 1) rs) (take_row t n q h e)
-            ∙ append_assoc (take n rs) (q ∷ []) (drop (n + 1) rs))
-        ∙ find_append (λ r. names (joined r) x) (take n rs) (q ∷ drop (n + 1) rs) none
-        ∙ ap (λ b. cond b (Some q) (find (λ r. names (joined r) x) (drop (n + 1) rs))) f)
+    (sym (take-append-drop (n + 1) rs)
+    ∙ ap (λ (xs : List Row). xs ++ drop (n + 1) rs) (take_row t n q h e)
+    ∙ append_assoc (take n rs) (q ∷ []) (drop (n + 1) rs))
+    ∙ find_append (λ r. names (joined r) x) (take n rs) (q ∷ drop (n + 1) rs) none
+    ∙ ap (λ b. cond b (Some q) (find (λ r. names (joined r) x) (drop (n + 1) rs))) f)
 
 -- the pending pairs, one row more
 pub pending_more : (t : Table) (n : ℕ) (r : Row) (joined : Row → Option Joined) → is_row t r ≡ true → number_of t.rows r ≡ n → pending_of (take (n + 1) (all_rows t.threads t.rows)) joined ≡ pending_of (take n (all_rows t.threads t.rows)) joined + cond (is_pending joined (joined r)) 1 0

@@ -1,6 +1,5 @@
 -- A state that stands for a kept world, and knows who names whom, is sound.
-use Rattle.std.proofs.Common.{◌≡◌, List, Option, sym, subst, ap}
-use Rattle.words.specs.declared.Row.{Row}
+use Rattle.std.proofs.Common.{◌≡◌, sym, subst}
 use Rattle.protocol.specs.declared.state.State.{State}
 use Rattle.protocol.specs.Tables.{Table}
 use Rattle.protocol.specs.Worlds.{World, with_table}

@@ -1,24 +1,23 @@
 -- The list of who names whom, after each kind of step.
-use Rattle.std.proofs.Common.{◌≡◌, ◌≢◌, ℕ, ◌+◌, ◌*◌, ◌<◌, ◌≤◌, Bool, true, false, cond, ltb, ◌&&◌, List, length, get_or, set, sym, refl, ap, ◌∙◌, subst, ◌⊎◌, inl, inr, ⊎_elim, arith, Option, Some, None, is_some, max}
+use Rattle.std.proofs.Common.{◌≡◌, ℕ, ◌*◌, ◌≤◌, true, false, ltb, ◌&&◌, List, length, get_or, set, sym, refl, ap, ◌∙◌, ⊎_elim, arith, Option, Some, None}
 use Rattle.std.specs.List.{find}
-use Rattle.std.proofs.lemmas.Bool.{cases_Bool, false≢true, true≢false}
+use Rattle.std.proofs.lemmas.Bool.{cases_Bool, false≢true}
 use Rattle.std.proofs.lemmas.List.{get_or-set_same, get_or-set_other}
 use Rattle.words.specs.declared.Row.{Row}
 use Rattle.words.specs.declared.Joined.{Joined}
-use Rattle.words.specs.declared.Offer.{Offer}
 use Rattle.words.specs.declared.Cell.{Cell}
-use Rattle.words.specs.declared.Cell.TheVariants.{Fresh, Waiting, Claimed, Synched}
+use Rattle.words.specs.declared.Cell.TheVariants.{Waiting, Claimed, Synched}
 use Rattle.words.specs.Words.{is_word_for}
 use Rattle.protocol.specs.Tables.{Table, is_row, row_eq, all_rows, number_of, cell_at, is_fresh, joined_of, joined_at, offer_at, offers_meet, names, is_partner, namer_of}
-use Rattle.protocol.specs.Worlds.{World, namer_at, with_word, with_cell, with_table, joined_with, mirrored, with_seal, sealed_by}
+use Rattle.protocol.specs.Worlds.{World, namer_at, with_word, with_cell, with_table, joined_with, mirrored}
 use Rattle.protocol.specs.Kept.{Kept, joined_by}
 use Rattle.protocol.specs.States.{Tells}
-use Rattle.protocol.proofs.RowLemmas.{row_eq-refl, row_eq-true, row_eq-false, row_cases, row_ne, put, put_same, put_other, same_row}
-use Rattle.protocol.proofs.Linking.{some_parts, fresh_not_joined}
+use Rattle.protocol.proofs.RowLemmas.{row_eq-refl, row_eq-false, row_cases, row_ne, put, put_same, put_other, same_row}
+use Rattle.protocol.proofs.Linking.{fresh_not_joined}
 use Rattle.protocol.proofs.StepLemmas.{names_o}
 use Rattle.protocol.proofs.Places.{row_inside, same_block, same_rest, block_inside}
 use Rattle.protocol.proofs.Readings.{cell_after_word, cell_after_cell, row_of_open}
-use Rattle.protocol.proofs.Naming.{namer_is, namer_names}
+use Rattle.protocol.proofs.Naming.{namer_is}
 use Rattle.protocol.proofs.Keeping.{unnamed_row, join_in_range, IsSealing, seal_in_range}
 
 -- rows have numbers of their own
@@ -49,31 +48,31 @@ tells_put w t namers x p j a b e none in_x in_p named unnamed sized tells r h =
     ap (λ n. get_or (set namers (number_of w.table.rows p) (Some x)) (number_of n r) None) b
     ∙ ⊎_elim
     (λ (c : r ≡ p).
-        ap (λ (y : Row). get_or (set namers (number_of w.table.rows p) (Some x)) (number_of w.table.rows y) None) c
-        ∙ get_or-set_same namers (number_of w.table.rows p) (Some x) None (omega arith)
-        ∙ sym (ap (namer_of (all_rows w.table.threads w.table.rows) joined') c
-            ∙ namer_is w.table.threads w.table.rows joined' p x place_x.0 place_x.1 (ap (λ (o : Option Joined). names o p) (put_same (joined_at w.table) x (Some j)) ∙ named p ∙ row_eq-refl p)
-                (λ q d. ⊎_elim
-                    (λ (f : q ≡ x). f)
-                    (λ (f : row_eq q x ≡ false). absurd (false≢true (sym (unnamed q) ∙ sym (ap (λ (o : Option Joined). names o p) (put_other (joined_at w.table) x (Some j) q f)) ∙ d)))
-                    (row_cases q x))))
+    ap (λ (y : Row). get_or (set namers (number_of w.table.rows p) (Some x)) (number_of w.table.rows y) None) c
+    ∙ get_or-set_same namers (number_of w.table.rows p) (Some x) None (omega arith)
+    ∙ sym (ap (namer_of (all_rows w.table.threads w.table.rows) joined') c
+    ∙ namer_is w.table.threads w.table.rows joined' p x place_x.0 place_x.1 (ap (λ (o : Option Joined). names o p) (put_same (joined_at w.table) x (Some j)) ∙ named p ∙ row_eq-refl p)
+    (λ q d. ⊎_elim
+    (λ (f : q ≡ x). f)
+    (λ (f : row_eq q x ≡ false). absurd (false≢true (sym (unnamed q) ∙ sym (ap (λ (o : Option Joined). names o p) (put_other (joined_at w.table) x (Some j) q f)) ∙ d)))
+    (row_cases q x))))
     (λ (c : row_eq r p ≡ false).
-        get_or-set_other namers (number_of w.table.rows p) (number_of w.table.rows r) (Some x) None (λ d. row_eq-false r p c (same_number w.table r p here in_p d))
-        ∙ tells r here
-        ∙ (λ i. find (λ q. sym (same_test q c) i) (all_rows w.table.threads w.table.rows)))
+    get_or-set_other namers (number_of w.table.rows p) (number_of w.table.rows r) (Some x) None (λ d. row_eq-false r p c (same_number w.table r p here in_p d))
+    ∙ tells r here
+    ∙ (λ i. find (λ q. sym (same_test q c) i) (all_rows w.table.threads w.table.rows)))
     (row_cases r p)
     ∙ back
-    where
-      same_test : (q : Row) → row_eq r p ≡ false → names (put (joined_at w.table) x (Some j) q) r ≡ names (joined_at w.table q) r
-      same_test q c = ⊎_elim
-          (λ (f : q ≡ x).
-              ap (λ (y : Row). names (put (joined_at w.table) x (Some j) y) r) f
-              ∙ ap (λ (o : Option Joined). names o r) (put_same (joined_at w.table) x (Some j))
-              ∙ named r
-              ∙ row_ne p r (λ d. row_eq-false r p c (sym d))
-              ∙ sym (ap (λ (y : Row). names (joined_at w.table y) r) f ∙ ap (λ (o : Option Joined). names o r) none))
-          (λ (f : row_eq q x ≡ false). ap (λ (o : Option Joined). names o r) (put_other (joined_at w.table) x (Some j) q f))
-          (row_cases q x)
+  where
+    same_test : (q : Row) → row_eq r p ≡ false → names (put (joined_at w.table) x (Some j) q) r ≡ names (joined_at w.table q) r
+    same_test q c = ⊎_elim
+        (λ (f : q ≡ x).
+        ap (λ (y : Row). names (put (joined_at w.table) x (Some j) y) r) f
+        ∙ ap (λ (o : Option Joined). names o r) (put_same (joined_at w.table) x (Some j))
+        ∙ named r
+        ∙ row_ne p r (λ d. row_eq-false r p c (sym d))
+        ∙ sym (ap (λ (y : Row). names (joined_at w.table y) r) f ∙ ap (λ (o : Option Joined). names o r) none))
+        (λ (f : row_eq q x ≡ false). ap (λ (o : Option Joined). names o r) (put_other (joined_at w.table) x (Some j) q f))
+        (row_cases q x)
 
 -- EACH KIND
 
@@ -90,6 +89,7 @@ tells_plain w x c namers k h g was is = tells_same w (with_cell w.table x c) nam
         (λ (e : r ≡ x). ap (λ (y : Row). joined_of (put (cell_at w.table) x c y)) e ∙ ap joined_of (put_same (cell_at w.table) x c) ∙ is ∙ sym was ∙ ap (λ (y : Row). joined_of (cell_at w.table y)) (sym e))
         (λ (e : row_eq r x ≡ false). ap joined_of (put_other (cell_at w.table) x c r e))
         (row_cases r x)
+
     same : joined_at (with_cell w.table x c) ≡ joined_at w.table
     same = (λ i r. joined_of (cell_after_cell w.table x c k.sized h g i r)) ∙ (λ i r. at r i)
 
@@ -109,7 +109,7 @@ tells_join w m i o n namers k mine none other meets sized tells =
     let in_o = row_of_open w.table o (ap is_fresh other) in
     let j : Joined = joined_with w.table m i o n in
     let is : joined_at (with_cell w.table o (Synched j)) ≡ put (joined_at w.table) o (Some j) =
-        (λ x r. joined_of (cell_after_cell w.table o (Synched j) k.sized in_o (join_in_range w m i o n k in_m meets) x r)) ∙ joined_put (cell_at w.table) o j in
+    (λ x r. joined_of (cell_after_cell w.table o (Synched j) k.sized in_o (join_in_range w m i o n k in_m meets) x r)) ∙ joined_put (cell_at w.table) o j in
     tells_put w (with_cell w.table o (Synched j)) namers o m j refl refl is (ap joined_of other) in_o in_m (λ r. refl) (unnamed_row w m none) sized tells
 
 pub tells_seal : (w : World) (m q : Row) (s : IsSealing w.table m q) (namers : List (Option Row)) → Kept w → cell_at w.table m ≡ Claimed → length namers ≡ w.table.threads * w.table.rows → Tells w namers → Tells (with_table w (with_cell w.table m (Synched (mirrored q s.way s.offer)))) (set namers (number_of w.table.rows q) (Some m))
@@ -119,11 +119,11 @@ tells_seal w m q s namers k mine sized tells =
     let in_q = row_of_open w.table q (fresh_not_joined (cell_at w.table q) s.way s.is) in
     let j : Joined = mirrored q s.way s.offer in
     let is : joined_at (with_cell w.table m (Synched j)) ≡ put (joined_at w.table) m (Some j) =
-        (λ x r. joined_of (cell_after_cell w.table m (Synched j) k.sized in_m (seal_in_range w m q s k) x r)) ∙ joined_put (cell_at w.table) m j in
+    (λ x r. joined_of (cell_after_cell w.table m (Synched j) k.sized in_m (seal_in_range w m q s k) x r)) ∙ joined_put (cell_at w.table) m j in
     tells_put w (with_cell w.table m (Synched j)) namers m q j refl refl is (ap joined_of mine) in_m in_q (λ r. refl)
     (λ x. ⊎_elim
-        (λ (e : names (joined_at w.table x) q ≡ true). absurd (names_o w.table.threads w.table.rows (cell_at w.table) (offer_at w.table) m q s.way j s.offer k.linked mine s.is s.partner refl x e))
-        (λ (e : names (joined_at w.table x) q ≡ false). e)
-        (cases_Bool (names (joined_at w.table x) q)))
+    (λ (e : names (joined_at w.table x) q ≡ true). absurd (names_o w.table.threads w.table.rows (cell_at w.table) (offer_at w.table) m q s.way j s.offer k.linked mine s.is s.partner refl x e))
+    (λ (e : names (joined_at w.table x) q ≡ false). e)
+    (cases_Bool (names (joined_at w.table x) q)))
     sized
     tells

@@ -1,5 +1,5 @@
 -- What the code's own tables and worlds stand for.
-use Rattle.std.specs.Prelude.{◌≡◌, ℕ, Bool, true, false, Option, Some, None, List, slice_index_or}
+use Rattle.std.specs.Prelude.{◌≡◌, Bool, true, false, Option, None, List, slice_index_or}
 use Rattle.words.specs.declared.Row.{Row}
 use Rattle.words.specs.declared.Seat.{Seat}
 use Rattle.words.specs.declared.Step.{Step}

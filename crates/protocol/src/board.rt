@@ -1,7 +1,8 @@
 //! The words of a table, and what its rows read as.
 
-ghost use Rattle.std.specs.Prelude.{◌≡◌, ◌+◌, ◌*◌, ◌≤◌, ◌<◌, true, length, vec_len};
+ghost use Rattle.std.specs.Prelude.{◌≡◌, ◌+◌, ◌*◌, ◌≤◌, ◌<◌, IfOk, true, length, replicate, vec_len};
 
+use std::alloc::{AllocError, Global};
 use words::{Cell, Joined, Offer, Row, pack_cell, unpack_cell, unpack_count, unpack_offer};
 
 /// The words of a row.
@@ -26,6 +27,22 @@ impl Board {
     ghost use Rattle.protocol.specs.Tables.{is_row, number_of, place_of, word_at, cell_at, count_at, offer_at, joined_at, last_stamp};
     ghost use Rattle.protocol.specs.Worlds.{with_word, with_cell};
     ghost use Rattle.protocol.specs.States.{table_of};
+
+    /// The words of a table at the start.
+    pub(crate) fn new(alloc: Global, threads: usize, rows: usize) -> Result<Board, AllocError>
+        requires few_threads { threads ≤ 64 }
+        requires few_rows { rows ≤ 1024 }
+        ensures words { IfOk result (λ b. b.words.items ≡ replicate (threads * (rows * 34 + 64)) 0) }
+        ensures threads { IfOk result (λ b. b.threads ≡ threads) }
+        ensures rows { IfOk result (λ b. b.rows ≡ rows) }
+    {
+        let words = vec![in alloc; 0; threads * (rows * ROW_LEN + NACKS)]?;
+        Ok(Board {
+            threads,
+            rows,
+            words,
+        })
+    }
 
     /// Whether the table has the row.
     #[tactic(auto, unfolding(crate::specs::Tables::is_row))]

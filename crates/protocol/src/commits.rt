@@ -136,10 +136,12 @@ impl Board {
         ensures { result ≡ is_pending (joined_at (table_of self.now)) joined }
     {
         match joined {
-            Some(Joined {
-                partner: Some((partner, _)),
-                ..
-            }) => self.joined(partner).is_none(),
+            Some(
+                Joined {
+                    partner: Some((partner, _)),
+                    ..
+                },
+            ) => self.joined(partner).is_none(),
             _ => false,
         }
     }
@@ -174,10 +176,12 @@ fn names(joined: Option<Joined>, row: Row) -> bool
     ensures { result ≡ names joined row }
 {
     match joined {
-        Some(Joined {
-            partner: Some((partner, _)),
-            ..
-        }) => partner.thread == row.thread && partner.sync == row.sync,
+        Some(
+            Joined {
+                partner: Some((partner, _)),
+                ..
+            },
+        ) => partner.thread == row.thread && partner.sync == row.sync,
         _ => false,
     }
 }

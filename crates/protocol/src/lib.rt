@@ -2,7 +2,7 @@
 #![tactic(auto)]
 
 ghost use Rattle.protocol.specs.Ledgers.{ledger_of, IsLawful};
-ghost use Rattle.protocol.specs.Worlds.{Plays, start_world, World};
+ghost use Rattle.protocol.specs.Worlds.{Plays, IsRefused, start_world, World};
 ghost use Rattle.words.specs.declared.Step.{Step};
 ghost use Rattle.words.specs.declared.Seat.{Seat};
 ghost use Rattle.std.specs.Prelude.{◌≡◌, ℕ, ◌≤◌, List};
@@ -13,14 +13,13 @@ mod ledger;
 mod state;
 mod world;
 
-use thiserror::Error;
-
 pub use crate::ledger::Ledger;
 pub use crate::world::{World, play};
-
+use thiserror::Error;
 pub use words::{
     Atom, Base, Binding, Cause, Cell, Commit, Direction, Head, Joined, Message, NackName, Offer,
-    Row, Seat, Step,
+    Row, Seat, Step, is_word_for, pack_atom, pack_cell, pack_count, pack_head, pack_nack,
+    pack_offer, unpack_atom, unpack_cell, unpack_count, unpack_head, unpack_nack, unpack_offer,
 };
 
 /// What starting or playing a world can refuse.
@@ -36,6 +35,22 @@ pub enum ProtoFault {
 
 /// Whatever steps are allowed in turn, from any start, the ledger of the words is lawful.
 pub fn every_schedule_is_lawful()
-    ensures { (threads rows seats : ℕ) (steps : List (Seat × Step)) (w : World) → threads ≤ 64 → rows ≤ 1024 → Plays (start_world threads rows seats) steps w → IsLawful (ledger_of w.table) }
-{
-}
+    ensures { (threads rows seats : ℕ) (steps : List (Seat × Step)) (w : World)
+        → threads ≤ 64
+        → rows ≤ 1024
+        → Plays (start_world threads rows seats) steps w
+        → IsLawful (ledger_of w.table) }
+{}
+
+/// A schedule leads to one world, or is refused at one step, and never both.
+pub fn one_answer()
+    ensures one_world { (start u v : World) (steps : List (Seat × Step)) → Plays start steps u → Plays start steps v → u ≡ v }
+    ensures not_both { (start v : World) (steps : List (Seat × Step)) (index : ℕ)
+        → Plays start steps v
+        → IsRefused start steps index
+        → ⊥ }
+    ensures one_step { (start : World) (steps : List (Seat × Step)) (i j : ℕ)
+        → IsRefused start steps i
+        → IsRefused start steps j
+        → i ≡ j }
+{}

@@ -1,8 +1,9 @@
 //! A world's state, and the steps on it.
 
-ghost use Rattle.std.specs.Prelude.{◌≡◌, ◌*◌, ◌<◌, ◌≤◌, ◌↔◌, IsTrue, true, length};
+ghost use Rattle.std.specs.Prelude.{◌≡◌, ◌*◌, ◌<◌, ◌≤◌, ◌↔◌, IfOk, IsTrue, true, length, map, replicate};
 
 use crate::board::Board;
+use std::alloc::{AllocError, Global};
 use words::{Base, Cell, Joined, Offer, Row, Seat, Step, is_word_for};
 
 /// A world: the board, and for each row the seat that holds it and the row that is committed with
@@ -20,8 +21,33 @@ pub(crate) struct State {
 impl State {
     ghost use Rattle.words.specs.declared.Step.TheVariants.{Draft, Open, Look, Read, Claim, Yield, Join, Seal};
     ghost use Rattle.protocol.specs.Tables.{is_row, offer_at, offers_meet};
-    ghost use Rattle.protocol.specs.Worlds.{Holds, holder_at, namer_at, joined_with, Condition};
+    ghost use Rattle.protocol.specs.Worlds.{start_world, Holds, holder_at, namer_at, joined_with, Condition};
     ghost use Rattle.protocol.specs.States.{table_of, world_of, IsSound, Tries, Decides};
+
+    /// The state of a world at the start.
+    pub(crate) fn start(
+        alloc: Global,
+        threads: usize,
+        rows: usize,
+        seats: usize,
+    ) -> Result<State, AllocError>
+        requires few_threads { threads ≤ 64 }
+        requires few_rows { rows ≤ 1024 }
+        requires some_seats { 1 ≤ seats }
+        requires few_seats { seats ≤ 16 }
+        ensures world { IfOk result (λ s. world_of s ≡ start_world threads rows seats) }
+        ensures sound { IfOk result IsSound }
+    {
+        let board = Board::new(alloc, threads, rows)?;
+        let holders = first_holders(alloc, &board, seats)?;
+        let namers = no_namers(alloc, board.len())?;
+        Ok(State {
+            board,
+            seats,
+            holders,
+            namers,
+        })
+    }
 
     /// The seat that holds the row.
     #[tactic(auto, unfolding(crate::specs::Worlds::holder_at))]
@@ -232,8 +258,41 @@ impl State {
     }
 }
 
-ghost use Rattle.protocol.specs.Tables.{offers_meet};
-ghost use Rattle.protocol.specs.Worlds.{side_of};
+ghost use Rattle.protocol.specs.Tables.{all_rows, offers_meet};
+ghost use Rattle.protocol.specs.Worlds.{first_holder, side_of};
+
+/// The holders at the start, row by row.
+fn first_holders(alloc: Global, board: &Board, seats: usize) -> Result<Vec<Option<u8>>, AllocError>
+    requires some_seats { 1 ≤ seats }
+    requires few_seats { seats ≤ 16 }
+    ensures { IfOk result (λ v. v.items ≡ map (first_holder seats) (all_rows board.now.threads board.now.rows)) }
+{
+    let mut holders = Vec::new(alloc);
+    for number in 0..board.len() {
+        holders.push(first_holder(seats, board.row(number)))?;
+    }
+    Ok(holders)
+}
+
+/// Nobody names anybody.
+fn no_namers(alloc: Global, len: usize) -> Result<Vec<Option<Row>>, AllocError>
+    ensures { IfOk result (λ v. v.items ≡ replicate len None) }
+{
+    vec![in alloc; None; len]
+}
+
+/// The seat that holds the row at the start.
+fn first_holder(seats: usize, row: Row) -> Option<u8>
+    requires some_seats { 1 ≤ seats }
+    requires few_seats { seats ≤ 16 }
+    ensures { result ≡ first_holder seats row }
+{
+    if row.sync == 0 {
+        Some((usize::from(row.thread) % seats) as u8)
+    } else {
+        None
+    }
+}
 
 /// Whether two offers are a send and a receive on one channel.
 fn offers_meet(own: Option<Offer>, other: Option<Offer>) -> bool

@@ -1,18 +1,16 @@
 //! Worlds, and the schedules that are played on them.
 
-ghost use Rattle.std.specs.Prelude.{◌≡◌, ◌≤◌, IfOk, IfErr, List, ℕ};
+ghost use Rattle.std.specs.Prelude.{◌≡◌, ◌≤◌, IfOk, IfErr};
 ghost use Rattle.protocol.specs.Worlds.{Plays, start_world};
 ghost use Rattle.protocol.specs.Ledgers.{ledger_of};
 ghost use Rattle.protocol.specs.States.{Refuses};
-ghost use Rattle.protocol.specs.declared.ProtoFault.TheVariants.{Memory};
 
 use crate::ProtoFault;
-use crate::board::{Board, NACKS, ROW_LEN};
 use crate::ledger::Ledger;
 use crate::state::State;
-use std::alloc::{AllocError, Global};
+use std::alloc::Global;
 use std::marker::Model;
-use words::{Row, Seat, Step};
+use words::{Seat, Step};
 
 /// A world: the words of a table, and who holds which row.
 #[derive(Debug, Drop)]
@@ -33,6 +31,27 @@ impl Model for World {
 }
 
 impl World {
+    /// All rows Fresh and no nack bound; row 0 of thread t is held by seat t mod `seats`.
+    pub fn start(alloc: Global, threads: u8, rows: u16, seats: u8) -> Result<World, ProtoFault>
+        requires some_threads { 1 ≤ threads }
+        requires few_threads { threads ≤ 64 }
+        requires some_rows { 1 ≤ rows }
+        requires few_rows { rows ≤ 1024 }
+        requires some_seats { 1 ≤ seats }
+        requires few_seats { seats ≤ 16 }
+        ensures started { IfOk result (λ w. w ≡ start_world threads rows seats) }
+        ensures refused { IfErr result (λ e. e ≡ ProtoFault.Memory) }
+    {
+        let state = State::start(
+            alloc,
+            usize::from(threads),
+            usize::from(rows),
+            usize::from(seats),
+        )
+        .map_err(|_| ProtoFault::Memory)?;
+        Ok(World { state })
+    }
+
     /// The words and the bound nacks as a ledger.
     pub fn ledger(self) -> Ledger
         ensures { result ≡ ledger_of self.table }

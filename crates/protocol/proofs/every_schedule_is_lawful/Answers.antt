@@ -1,7 +1,6 @@
 -- Every allowed step keeps the world, and a kept world has a lawful ledger.
 use Rattle.protocol.proofs.LedgerLemmas.{lawful_schedule}
-use Rattle.protocol.proofs.LedgerReadings.{commit_of_none}
 use Rattle.protocol.proofs.every_schedule_is_lawful.Goals as goal
 
 pub returns : goal.returns
-returns c = let t = commit_of_none in lawful_schedule
+returns c = lawful_schedule

@@ -17,6 +17,6 @@ returns-then-not-step-clause-refused c =
 pub loop-index-preserved : goal.loop-index-preserved
 unfolding some_step
 loop-index-preserved c = record {
-    sound = c.step.ensures.sound;
-    played = plays_next c.args.world (world_of c.loop-index.world-inside.state) (world_of c.step.new.self) c.args.steps.now c.loop-index.index some_step c.loop-index-test.true c.loop-index.invariant.played c.if-not-step.ensures.decided;
-  }
+  sound = c.step.ensures.sound;
+  played = plays_next c.args.world (world_of c.loop-index.world-inside.state) (world_of c.step.new.self) c.args.steps.now c.loop-index.index some_step c.loop-index-test.true c.loop-index.invariant.played c.if-not-step.ensures.decided;
+}

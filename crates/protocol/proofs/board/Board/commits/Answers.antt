@@ -1,4 +1,4 @@
-use Rattle.std.proofs.Common.{◌≡◌, ◌≤◌, ◌*◌, ◌++◌, ◌∷◌, [], None, Some, true, false, sym, ap, ◌∙◌, arith, List, take}
+use Rattle.std.proofs.Common.{◌≡◌, ◌≤◌, ◌*◌, ◌++◌, None, Some, sym, ap, ◌∙◌, arith, List, take}
 use Rattle.std.specs.Global.{Vec}
 use Rattle.std.specs.Prelude.{Option, option_to_list}
 use Rattle.std.proofs.lemmas.List.{append-nil}
@@ -17,18 +17,18 @@ loop-number-preserved c =
     let more = commits_more t c.loop-number.number c.row.result (joined_at t) (offer_at t) c.row.ensures.inside c.row.ensures.value in
     elim c.match-told.branch [
       | in-Some+in_ok-push w ↦
-        let told : told_at (joined_at t) (offer_at t) c.row.result ≡ Some w.in-Some.commit = sym c.told.ensures ∙ w.in-Some.is in
-        ap (λ (v : Vec Commit). v.items) w.commits-is
-        ∙ w.in_ok-push.ensures.items
-        ∙ (λ i. c.loop-number.invariant i ++ option_to_list (sym told i))
-        ∙ sym more
+          let told : told_at (joined_at t) (offer_at t) c.row.result ≡ Some w.in-Some.commit = sym c.told.ensures ∙ w.in-Some.is in
+          ap (λ (v : Vec Commit). v.items) w.commits-is
+          ∙ w.in_ok-push.ensures.items
+          ∙ (λ i. c.loop-number.invariant i ++ option_to_list (sym told i))
+          ∙ sym more
       | in_default w ↦
-        let told : told_at (joined_at t) (offer_at t) c.row.result ≡ None = sym c.told.ensures ∙ w.in_default.is in
-        ap (λ (v : Vec Commit). v.items) w.commits-is
-        ∙ c.loop-number.invariant
-        ∙ sym (append-nil _)
-        ∙ ap (λ (o : Option Commit). commits_of (take c.loop-number.number (all_rows t.threads t.rows)) (joined_at t) (offer_at t) ++ option_to_list o) (sym told)
-        ∙ sym more
+          let told : told_at (joined_at t) (offer_at t) c.row.result ≡ None = sym c.told.ensures ∙ w.in_default.is in
+          ap (λ (v : Vec Commit). v.items) w.commits-is
+          ∙ c.loop-number.invariant
+          ∙ sym (append-nil _)
+          ∙ ap (λ (o : Option Commit). commits_of (take c.loop-number.number (all_rows t.threads t.rows)) (joined_at t) (offer_at t) ++ option_to_list o) (sym told)
+          ∙ sym more
     ]
 
 pub returns : goal.returns

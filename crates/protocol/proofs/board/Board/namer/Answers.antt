@@ -1,8 +1,8 @@
-use Rattle.std.proofs.Common.{◌≡◌, ◌≤◌, ◌*◌, None, true, false, sym, ap, ◌∙◌, arith, List}
+use Rattle.std.proofs.Common.{◌≤◌, ◌*◌, sym, ap, ◌∙◌, arith, List}
 use Rattle.words.specs.declared.Row.{Row}
 use Rattle.words.specs.declared.Joined.{Joined}
 use Rattle.std.specs.Prelude.{Option}
-use Rattle.protocol.specs.Tables.{all_rows, joined_at, namer_of, names}
+use Rattle.protocol.specs.Tables.{joined_at, namer_of, names}
 use Rattle.protocol.specs.States.{table_of}
 use Rattle.protocol.proofs.Loops.{namer_found, namer_more, take_rows}
 use Rattle.protocol.proofs.board.Board.namer.Goals as goal

@@ -1,6 +1,6 @@
 -- A row with offers is one of the table's, and has 8 at most.
-use Rattle.std.proofs.Common.{◌≡◌, ◌<◌, ◌≤◌, true, arith}
-use Rattle.protocol.specs.Tables.{count_at, is_row}
+use Rattle.std.proofs.Common.{◌<◌, ◌≤◌, arith}
+use Rattle.protocol.specs.Tables.{count_at}
 use Rattle.protocol.specs.States.{table_of}
 use Rattle.protocol.proofs.Readings.{row_of_count, few_offers}
 use Rattle.protocol.proofs.board.Board.offer.Goals as goal
@@ -52,4 +52,3 @@ word-requires-4-clause-place c =
     let t = table_of c.args.self.now in
     let few : count_at t c.args.row ≤ 8 = few_offers t c.args.row in
     omega (arith, c.count.ensures, c.from.ensures)
-

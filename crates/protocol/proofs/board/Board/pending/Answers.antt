@@ -1,8 +1,6 @@
-use Rattle.std.proofs.Common.{◌≡◌, ◌≤◌, ℕ, ◌+◌, ◌*◌, true, false, cond, sym, ap, ◌∙◌, arith, List}
-use Rattle.std.specs.Prelude.{Option}
+use Rattle.std.proofs.Common.{◌≡◌, ◌≤◌, ℕ, ◌*◌, cond, sym, ap, ◌∙◌, arith, List}
 use Rattle.words.specs.declared.Row.{Row}
-use Rattle.words.specs.declared.Joined.{Joined}
-use Rattle.protocol.specs.Tables.{all_rows, joined_at}
+use Rattle.protocol.specs.Tables.{joined_at}
 use Rattle.protocol.specs.Ledgers.{pending_of, is_pending}
 use Rattle.protocol.specs.States.{table_of}
 use Rattle.protocol.proofs.Loops.{pending_more, take_rows}
@@ -16,13 +14,13 @@ loop-number-preserved c =
     let test = c.is_pending.ensures ∙ ap (is_pending (joined_at t)) c.joined.ensures in
     elim c.if-is_pending.branch [
       | then-is_pending w ↦
-        let one : ◌≡◌ {A = ℕ} (cond (is_pending (joined_at t) (joined_at t c.row.result)) 1 0) 1 = ap (λ b. cond b 1 0) (sym test ∙ w.if-is_pending.true) in
-        let was = c.loop-number.invariant in
-        omega (arith, w.pending-is)
+          let one : ◌≡◌ {A = ℕ} (cond (is_pending (joined_at t) (joined_at t c.row.result)) 1 0) 1 = ap (λ b. cond b 1 0) (sym test ∙ w.if-is_pending.true) in
+          let was = c.loop-number.invariant in
+          omega (arith, w.pending-is)
       | else-is_pending w ↦
-        let none : ◌≡◌ {A = ℕ} (cond (is_pending (joined_at t) (joined_at t c.row.result)) 1 0) 0 = ap (λ b. cond b 1 0) (sym test ∙ w.if-is_pending.false) in
-        let was = c.loop-number.invariant in
-        omega (arith, w.pending-is)
+          let none : ◌≡◌ {A = ℕ} (cond (is_pending (joined_at t) (joined_at t c.row.result)) 1 0) 0 = ap (λ b. cond b 1 0) (sym test ∙ w.if-is_pending.false) in
+          let was = c.loop-number.invariant in
+          omega (arith, w.pending-is)
     ]
 
 pub returns : goal.returns

@@ -8,6 +8,6 @@ returns-clause-inside c =
     let s = c.args.self.now in
     let r = c.args.row in
     let b : r.thread * (s.rows * 34 + 64) + r.sync * 34 + c.args.place < s.threads * (s.rows * 34 + 64) =
-        place_inside (table_of s) r c.args.place c.requires.row c.requires.place in
+    place_inside (table_of s) r c.args.place c.requires.row c.requires.place in
     let t : c.from.result * (s.rows * 34 + 64) ≡ r.thread * (s.rows * 34 + 64) = ap (λ n. n * (s.rows * 34 + 64)) c.from.ensures in
     omega (arith, c.from-2.ensures)

@@ -1,4 +1,4 @@
-use Rattle.std.proofs.Common.{◌<◌, ◌/◌, ◌%◌, ◌*◌, ◌≡◌, ap, arith}
+use Rattle.std.proofs.Common.{◌<◌, arith}
 use Rattle.protocol.specs.States.{table_of}
 use Rattle.protocol.proofs.Places.{row_from}
 use Rattle.protocol.proofs.Loops.{quotient_below, some_rows}

@@ -1,4 +1,4 @@
-use Rattle.std.proofs.Common.{◌≡◌, sym, ap, subst, ◌∙◌, List, rules, IsPermutation}
+use Rattle.std.proofs.Common.{◌≡◌, ap, subst, ◌∙◌, List, rules, IsPermutation}
 use Rattle.std.specs.Prelude.{Contains, ◌↔◌}
 use Rattle.std.proofs.lemmas.List.Sorted.{Contains-permutation, IsPermutation-sym, answers_always}
 use Rattle.words.specs.declared.Commit.{Commit}
@@ -10,18 +10,19 @@ use Rattle.protocol.proofs.ledger.Ledger.commits.Goals as goal
 pub returns-clause-once : goal.returns-clause-once
 returns-clause-once c =
     let told : c.in_ok-commits.commits.items ≡ commits_in c.args.self.now =
-        c.in_ok-commits.ensures ∙ commits_in_ledger (table_of c.self.inside.board) ∙ ap (λ (l : Ledger). commits_in l) c.self.view_is in
+    c.in_ok-commits.ensures ∙ commits_in_ledger (table_of c.self.inside.board) ∙ ap (λ (l : Ledger). commits_in l) c.self.view_is in
     subst (λ (cs : List Commit). IsPermutation cs c.sort_by_key.new.self.items) told c.sort_by_key.ensures.permutation
 
 pub returns-clause-members : goal.returns-clause-members
 returns-clause-members c = λ d.
     let t = table_of c.self.inside.board in
     let told : c.in_ok-commits.commits.items ≡ commits_in c.args.self.now =
-        c.in_ok-commits.ensures ∙ commits_in_ledger t ∙ ap (λ (l : Ledger). commits_in l) c.self.view_is in
+    c.in_ok-commits.ensures ∙ commits_in_ledger t ∙ ap (λ (l : Ledger). commits_in l) c.self.view_is in
     let moved = subst (λ (cs : List Commit). IsPermutation cs c.sort_by_key.new.self.items) told c.sort_by_key.ensures.permutation in
-    let members = subst (λ (l : Ledger). Contains (commits_in l) d ↔ HasCommit l d) c.self.view_is (members_in_ledger t c.self.invariant d) in
-    (λ h. members.0 (Contains-permutation c.sort_by_key.new.self.items (commits_in c.args.self.now) d (IsPermutation-sym _ _ moved) h),
-    λ h. Contains-permutation (commits_in c.args.self.now) c.sort_by_key.new.self.items d moved (members.1 h))
+    let members = subst (λ (l : Ledger). Contains (commits_in l) d ↔ HasCommit l d) c.self.view_is (members_in_ledger t c.self.invariant d) in (
+      λ h. members.0 (Contains-permutation c.sort_by_key.new.self.items (commits_in c.args.self.now) d (IsPermutation-sym _ _ moved) h),
+      λ h. Contains-permutation (commits_in c.args.self.now) c.sort_by_key.new.self.items d moved (members.1 h),
+    )
 
 pub returns-clause-in_order : goal.returns-clause-in_order
 returns-clause-in_order c = c.in_ok-sort_by_key.ensures.sorted order_of (answers_always _ _ _ (λ f a r g h. search rules))

@@ -1,13 +1,9 @@
-use Rattle.std.proofs.Common.{◌≡◌, ◌<◌, ◌≤◌, true, ap, sym, refl, arith, ◌∙◌}
-use Rattle.words.specs.declared.Cell.{Cell}
-use Rattle.words.specs.declared.Cell.TheVariants.{Fresh, Waiting, Claimed, Synched}
-use Rattle.words.specs.declared.Step.TheVariants.{Draft, Open, Claim, Yield, Join, Seal}
-use Rattle.protocol.specs.Tables.{Table, is_fresh, joined_of, cell_at}
-use Rattle.protocol.specs.Worlds.{Holds, with_word, with_cell, Condition}
+use Rattle.std.proofs.Common.{◌≡◌, ◌≤◌, ap, sym, refl, ◌∙◌}
+use Rattle.words.specs.declared.Step.TheVariants.{Draft}
+use Rattle.protocol.specs.Worlds.{Holds, with_word, Condition}
 use Rattle.protocol.specs.States.{table_of, world_of}
 use Rattle.protocol.proofs.Keeping.{held_row, kept_condition}
-use Rattle.protocol.proofs.Readings.{row_of_open}
-use Rattle.protocol.proofs.Telling.{tells_draft, tells_plain}
+use Rattle.protocol.proofs.Telling.{tells_draft}
 use Rattle.protocol.proofs.Soundness.{sound_state}
 use Rattle.protocol.proofs.state.State.draft.Goals as goal
 
@@ -21,9 +17,9 @@ returns-clause-sound c =
     let low : 1 ≤ c.args.place = c.if-place-lt1.false in
     let high : c.args.place ≤ 33 = c.if-place-gt33.false in
     let written : table_of c.set_word.new.self ≡ with_word w.table c.args.row c.args.place c.args.value =
-        c.set_word.ensures ∙ ap (λ n. with_word w.table c.args.row n c.args.value) c.from.ensures in
+    c.set_word.ensures ∙ ap (λ n. with_word w.table c.args.row n c.args.value) c.from.ensures in
     let condition : Condition w c.args.seat (Draft c.args.row c.args.place c.args.value) =
-        (held, sym c.in-Fresh.ensures, low, high, sym c.is_word_for.ensures ∙ c.if-not-is_word_for.false) in
+    (held, sym c.in-Fresh.ensures, low, high, sym c.is_word_for.ensures ∙ c.if-not-is_word_for.false) in
     sound_state _ w (with_word w.table c.args.row c.args.place c.args.value) written refl refl
     (kept_condition w c.args.seat (Draft c.args.row c.args.place c.args.value) c.requires.kept condition)
     (tells_draft w c.args.row c.args.place c.args.value c.args.self.now.namers.items (held_row w c.args.row c.args.seat.0 held) low high c.requires.told)

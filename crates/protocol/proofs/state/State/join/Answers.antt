@@ -1,13 +1,10 @@
-use Rattle.std.proofs.Common.{◌≡◌, ◌≢◌, ℕ, true, None, Some, set, ap, sym, subst, refl, arith, ◌∙◌}
-use Rattle.words.specs.declared.Row.{Row}
+use Rattle.std.proofs.Common.{◌≡◌, ◌≢◌, ℕ, true, None, Some, set, ap, sym, subst, refl, ◌∙◌}
 use Rattle.words.specs.declared.Joined.{Joined}
-use Rattle.words.specs.declared.Offer.{Offer}
-use Rattle.words.specs.declared.Cell.{Cell}
-use Rattle.words.specs.declared.Cell.TheVariants.{Fresh, Waiting, Claimed, Synched}
+use Rattle.words.specs.declared.Cell.TheVariants.{Waiting, Claimed, Synched}
 use Rattle.words.specs.declared.Step.TheVariants.{Join}
 use Rattle.words.specs.Words.{IsJoinedInRange}
-use Rattle.protocol.specs.Tables.{Table, is_fresh, cell_at, offer_at, offers_meet}
-use Rattle.protocol.specs.Worlds.{Holds, with_cell, with_table, namer_at, joined_with, Condition}
+use Rattle.protocol.specs.Tables.{is_fresh, cell_at, offer_at, offers_meet}
+use Rattle.protocol.specs.Worlds.{Holds, with_cell, with_table, namer_at, joined_with}
 use Rattle.protocol.specs.States.{table_of, world_of, Tells}
 use Rattle.protocol.proofs.Linking.{none_from}
 use Rattle.protocol.proofs.Keeping.{held_row, kept_condition, join_in_range}
@@ -30,7 +27,7 @@ set_cell-requires-clause-range c =
     let w = world_of c.args.self.now in
     let held = held_row w c.args.mine c.args.seat.0 (c.holds.ensures.0 c.if-not-holds.false) in
     let meets : offers_meet (offer_at w.table c.args.mine c.args.own) (offer_at w.table c.args.other c.args.partner) ≡ true =
-        (λ i. offers_meet (sym c.offer.ensures i) (sym c.offer-2.ensures i)) ∙ sym c.offers_meet.ensures ∙ c.if-not-offers_meet.false in
+    (λ i. offers_meet (sym c.offer.ensures i) (sym c.offer-2.ensures i)) ∙ sym c.offers_meet.ensures ∙ c.if-not-offers_meet.false in
     subst IsJoinedInRange (sym c.joined_with-joined.ensures) (join_in_range w c.args.mine c.args.own c.args.other c.args.partner c.requires.kept held meets)
 
 pub returns-clause-sound : goal.returns-clause-sound
@@ -42,12 +39,12 @@ returns-clause-sound c =
     let waiting : cell_at w.table c.args.other ≡ Waiting = sym c.in-Waiting.ensures in
     let unnamed : namer_at w c.args.mine ≡ None = sym c.namer.ensures ∙ none_from c.namer.result (sym c.is_some.ensures ∙ c.if-is_some.false) in
     let meets : offers_meet (offer_at w.table c.args.mine c.args.own) (offer_at w.table c.args.other c.args.partner) ≡ true =
-        (λ i. offers_meet (sym c.offer.ensures i) (sym c.offer-2.ensures i)) ∙ sym c.offers_meet.ensures ∙ c.if-not-offers_meet.false in
+    (λ i. offers_meet (sym c.offer.ensures i) (sym c.offer-2.ensures i)) ∙ sym c.offers_meet.ensures ∙ c.if-not-offers_meet.false in
     let written : table_of c.set_cell.new.self ≡ with_cell w.table c.args.other (Synched joined) =
-        c.set_cell.ensures.written ∙ ap (λ (j : Joined). with_cell w.table c.args.other (Synched j)) c.joined_with-joined.ensures in
+    c.set_cell.ensures.written ∙ ap (λ (j : Joined). with_cell w.table c.args.other (Synched j)) c.joined_with-joined.ensures in
     let apart : c.args.mine.thread ≢ c.args.other.thread = c.if-mine-other.false in
     sound_state _ w (with_cell w.table c.args.other (Synched joined)) written refl refl
     (kept_condition w c.args.seat (Join c.args.mine c.args.own c.args.other c.args.partner) c.requires.kept (held, claimed, unnamed, waiting, apart, meets))
     (subst (λ (n : ℕ). Tells (with_table w (with_cell w.table c.args.other (Synched joined))) (set c.args.self.now.namers.items n (Some c.args.other)))
-        (sym c.number-at.ensures.value)
-        (tells_join w c.args.mine c.args.own c.args.other c.args.partner c.args.self.now.namers.items c.requires.kept claimed unnamed waiting meets c.args.self.now.named c.requires.told))
+    (sym c.number-at.ensures.value)
+    (tells_join w c.args.mine c.args.own c.args.other c.args.partner c.args.self.now.namers.items c.requires.kept claimed unnamed waiting meets c.args.self.now.named c.requires.told))

@@ -1,5 +1,5 @@
 -- No stamp exceeds the number of commits, so one more fits.
-use Rattle.std.proofs.Common.{◌≤◌, arith}
+use Rattle.std.proofs.Common.{arith}
 use Rattle.protocol.specs.States.{world_of}
 use Rattle.protocol.proofs.Keeping.{small_last}
 use Rattle.protocol.proofs.state.State.joined_with.Goals as goal

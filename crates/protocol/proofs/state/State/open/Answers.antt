@@ -1,13 +1,11 @@
-use Rattle.std.proofs.Common.{◌≡◌, ◌<◌, ◌≤◌, true, ap, sym, refl, arith, ◌∙◌}
-use Rattle.words.specs.declared.Cell.{Cell}
-use Rattle.words.specs.declared.Cell.TheVariants.{Fresh, Waiting, Claimed, Synched}
-use Rattle.words.specs.declared.Step.TheVariants.{Draft, Open, Claim, Yield, Join, Seal}
-use Rattle.protocol.specs.Tables.{Table, is_fresh, joined_of, cell_at}
-use Rattle.protocol.specs.Worlds.{Holds, with_word, with_cell, Condition}
-use Rattle.protocol.specs.States.{table_of, world_of}
+use Rattle.std.proofs.Common.{◌≡◌, ap, sym, refl}
+use Rattle.words.specs.declared.Cell.TheVariants.{Fresh, Waiting}
+use Rattle.words.specs.declared.Step.TheVariants.{Open}
+use Rattle.protocol.specs.Tables.{joined_of, cell_at}
+use Rattle.protocol.specs.Worlds.{Holds, with_cell}
+use Rattle.protocol.specs.States.{world_of}
 use Rattle.protocol.proofs.Keeping.{held_row, kept_condition}
-use Rattle.protocol.proofs.Readings.{row_of_open}
-use Rattle.protocol.proofs.Telling.{tells_draft, tells_plain}
+use Rattle.protocol.proofs.Telling.{tells_plain}
 use Rattle.protocol.proofs.Soundness.{sound_state}
 use Rattle.protocol.proofs.state.State.open.Goals as goal
 

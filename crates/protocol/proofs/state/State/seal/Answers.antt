@@ -1,12 +1,11 @@
-use Rattle.std.proofs.Common.{◌≡◌, ◌≢◌, ℕ, true, None, Some, is_some, set, Option, ap, sym, subst, refl, arith, ◌∙◌}
+use Rattle.std.proofs.Common.{◌≡◌, ℕ, None, Some, is_some, set, Option, ap, sym, subst, refl, ◌∙◌}
 use Rattle.words.specs.declared.Row.{Row}
 use Rattle.words.specs.declared.Joined.{Joined}
-use Rattle.words.specs.declared.Cell.{Cell}
-use Rattle.words.specs.declared.Cell.TheVariants.{Fresh, Waiting, Claimed, Synched}
+use Rattle.words.specs.declared.Cell.TheVariants.{Claimed, Synched}
 use Rattle.words.specs.declared.Step.TheVariants.{Seal}
 use Rattle.words.specs.Words.{IsJoinedInRange}
-use Rattle.protocol.specs.Tables.{Table, is_fresh, cell_at, all_rows, joined_at}
-use Rattle.protocol.specs.Worlds.{World, Holds, with_cell, with_table, with_seal, sealed_by, namer_at, side_of, mirrored, Condition}
+use Rattle.protocol.specs.Tables.{cell_at, all_rows, joined_at}
+use Rattle.protocol.specs.Worlds.{World, Holds, with_cell, with_table, with_seal, sealed_by, namer_at, side_of, mirrored}
 use Rattle.protocol.specs.States.{table_of, world_of, Tells}
 use Rattle.protocol.proofs.Linking.{some_inj, fresh_not_joined}
 use Rattle.protocol.specs.Kept.{Kept}
@@ -33,7 +32,7 @@ returns-in_default-side_of-clause-tried c =
     let is = side_is w c.args.row c.in-Some.other c.in-Some.ensures in
     let s = sealing_of w c.args.row c.in-Some.other c.in-Some.ensures in
     let bad : ◌≡◌ {A = Option Joined} None (Some (mirrored c.in-Some.other s.way s.offer)) =
-        c.in_default-side_of.ensures ∙ ap (side_of c.in-Some.other) c.joined.ensures ∙ is in
+    c.in_default-side_of.ensures ∙ ap (side_of c.in-Some.other) c.joined.ensures ∙ is in
     (λ a. cc, refl)
 
 pub number-at-requires : goal.number-at-requires
@@ -65,11 +64,11 @@ returns-clause-sound c =
     let held : Holds w c.args.seat c.args.row = c.holds.ensures.0 c.if-not-holds.false in
     let claimed : cell_at w.table c.args.row ≡ Claimed = sym c.in-Claimed.ensures in
     let written : table_of c.set_cell.new.self ≡ with_cell w.table c.args.row (Synched joined) =
-        c.set_cell.ensures.written ∙ ap (λ (j : Joined). with_cell w.table c.args.row (Synched j)) is in
+    c.set_cell.ensures.written ∙ ap (λ (j : Joined). with_cell w.table c.args.row (Synched j)) is in
     let kept : Kept (with_table w (with_seal w.table c.args.row (sealed_by w.table (namer_at w c.args.row)))) =
-        kept_condition w c.args.seat (Seal c.args.row) c.requires.kept (held, claimed, ap (λ (o : Option Row). is_some o) (sym c.in-Some.ensures)) in
+    kept_condition w c.args.seat (Seal c.args.row) c.requires.kept (held, claimed, ap (λ (o : Option Row). is_some o) (sym c.in-Some.ensures)) in
     sound_state _ w (with_cell w.table c.args.row (Synched joined)) written refl refl
     (subst (λ (o : Option Joined). Kept (with_table w (with_seal w.table c.args.row o))) (sealed_is w.table c.args.row other (namer_at w c.args.row) s (sym c.in-Some.ensures)) kept)
     (subst (λ (n : ℕ). Tells (with_table w (with_cell w.table c.args.row (Synched joined))) (set c.args.self.now.namers.items n (Some c.args.row)))
-        (sym c.number-at.ensures.value)
-        (tells_seal w c.args.row other s c.args.self.now.namers.items c.requires.kept claimed c.args.self.now.named c.requires.told))
+    (sym c.number-at.ensures.value)
+    (tells_seal w c.args.row other s c.args.self.now.namers.items c.requires.kept claimed c.args.self.now.named c.requires.told))

@@ -1,0 +1,35 @@
+-- The state at the start is sound.
+use Rattle.std.proofs.Common.{◌≡◌, ℕ, ◌*◌, ◌<◌, ◌≤◌, List, length, get_or, map, replicate, sym, ap, ◌∙◌, subst, ⊎_elim, Option, None, arith}
+use Rattle.std.proofs.lemmas.Bool.{cases_lt}
+use Rattle.std.proofs.lemmas.List.{get_or-replicate, get_or_past, length-replicate, length-map}
+use Rattle.words.specs.declared.Row.{Row}
+use Rattle.words.specs.declared.Cell.{Cell}
+use Rattle.protocol.specs.declared.state.State.{State}
+use Rattle.protocol.specs.Tables.{all_rows, number_of, joined_of, names}
+use Rattle.protocol.specs.Worlds.{World, start_world, first_holder}
+use Rattle.protocol.specs.Kept.{Kept}
+use Rattle.protocol.specs.States.{world_of, IsSound, Tells}
+use Rattle.protocol.proofs.Naming.{namer_none}
+use Rattle.protocol.proofs.Keeping.{length_all}
+use Rattle.protocol.proofs.LedgerLemmas.{kept_start, start_cell}
+
+nobody : (n i : ℕ) → get_or (replicate {A = Option Row} n None) i None ≡ None
+nobody n i = ⊎_elim
+    (λ (h : i < n). get_or-replicate n i None None h)
+    (λ (h : n ≤ i). let l = length-replicate {A = Option Row} n None in get_or_past (replicate {A = Option Row} n None) i None (omega arith))
+    (cases_lt i n)
+
+tells_start : (threads rows seats n : ℕ) → Tells (start_world threads rows seats) (replicate n None)
+unfolding start_world
+tells_start threads rows seats n r h =
+    nobody n (number_of rows r)
+    ∙ sym (namer_none (all_rows threads rows) _ r (λ q. ap (λ (c : Cell). names (joined_of c) r) (start_cell threads rows q)))
+
+pub start_sound : (s : State) (threads rows seats n : ℕ) → world_of s ≡ start_world threads rows seats → s.namers.items ≡ replicate n None → threads ≤ 64 → rows ≤ 1024 → IsSound s
+start_sound s threads rows seats n e f a b = record {
+  kept = subst Kept (sym e) (kept_start threads rows seats a b);
+  told = subst (λ (z : World × List (Option Row)). Tells z.0 z.1) (λ i. (sym e i, sym f i)) (tells_start threads rows seats n);
+}
+
+pub length_holders : (threads rows seats : ℕ) → length (map (first_holder seats) (all_rows threads rows)) ≡ threads * rows
+length_holders threads rows seats = length-map (all_rows threads rows) (first_holder seats) ∙ length_all threads rows
