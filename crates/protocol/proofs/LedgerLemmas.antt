@@ -220,3 +220,10 @@ lawful_ledger t l =
 
 pub lawful_schedule : (threads rows seats : ℕ) (steps : List (Seat × Step)) (w : World) → threads ≤ 64 → rows ≤ 1024 → Plays (start_world threads rows seats) steps w → IsLawful (ledger_of w.table)
 lawful_schedule threads rows seats steps w a b p = lawful_ledger w.table (kept_schedule (start_world threads rows seats) w steps (kept_start threads rows seats a b) p).linked
+
+-- words that are all 0 have a lawful ledger
+pub lawful_zeros : (threads rows : ℕ) (words : List ℕ) → threads ≤ 64 → rows ≤ 1024 → words ≡ replicate (threads * thread_len rows) 0 → IsLawful (ledger_of (record { threads = threads; rows = rows; words = words }))
+unfolding start_world
+lawful_zeros threads rows words a b e =
+    subst (λ (ws : List ℕ). IsLawful (ledger_of (record { threads = threads; rows = rows; words = ws }))) (sym e)
+    (lawful_ledger (start_table threads rows) (kept_start threads rows 1 a b).linked)

@@ -54,3 +54,6 @@ pub fn one_answer()
         → IsRefused start steps j
         → i ≡ j }
 {}
+
+#[cfg(test)]
+mod tests;

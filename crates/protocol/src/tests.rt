@@ -1,0 +1,132 @@
+//! Worked schedules, and worlds at the ends of their ranges.
+
+use super::*;
+use std::test::Fail;
+
+const SENDER: Row = Row { thread: 0, sync: 0 };
+
+const RECEIVER: Row = Row { thread: 1, sync: 0 };
+
+fn draft(seat: u8, row: Row, place: u8, value: u64) -> (Seat, Step) {
+    (Seat(seat), Step::Draft { row, place, value })
+}
+
+/// Two rows that offer a send of 42 and a receive on channel 0, both open and both claimed.
+fn crossed() -> [(Seat, Step); 9] {
+    [
+        draft(0, SENDER, 1, 1),
+        draft(0, SENDER, 2, 8_388_609),
+        draft(0, SENDER, 3, 168),
+        (Seat(0), Step::Open { row: SENDER }),
+        draft(1, RECEIVER, 1, 1),
+        draft(1, RECEIVER, 2, 2),
+        (Seat(1), Step::Open { row: RECEIVER }),
+        (Seat(0), Step::Claim { row: SENDER }),
+        (Seat(1), Step::Claim { row: RECEIVER }),
+    ]
+}
+
+const JOIN: Step = Step::Join {
+    mine: SENDER,
+    own: 0,
+    other: RECEIVER,
+    partner: 0,
+};
+
+const RENDEZVOUS: Commit = Commit::Pair {
+    sender: (SENDER, 0),
+    receiver: (RECEIVER, 0),
+    chan: 0,
+    msg: Message::One(Atom::Num(42)),
+    stamp: 1,
+};
+
+#[test]
+fn a_claimed_row_is_not_joined(rt: HostRuntime) -> Result<(), Fail> {
+    let mut steps = crossed().to_vec(rt.alloc())?;
+    steps.push((Seat(0), JOIN))?;
+    steps.push((
+        Seat(1),
+        Step::Join {
+            mine: RECEIVER,
+            own: 0,
+            other: SENDER,
+            partner: 0,
+        },
+    ))?;
+    let world = World::start(rt.alloc(), 2, 1, 2)?;
+    let fault = play(world, &steps).expect_err(&rt, "the other row is claimed");
+    assert_eq!(rt; fault, ProtoFault::NotAllowed(9));
+    Ok(())
+}
+
+#[test]
+fn a_pair_counts_from_the_join_on(rt: HostRuntime) -> Result<(), Fail> {
+    for sealed in [false, true] {
+        let mut steps = crossed().to_vec(rt.alloc())?;
+        steps.push((Seat(1), Step::Yield { row: RECEIVER }))?;
+        steps.push((Seat(0), JOIN))?;
+        if sealed {
+            steps.push((Seat(0), Step::Seal { row: SENDER }))?;
+        }
+        let ledger = play(World::start(rt.alloc(), 2, 1, 2)?, &steps)?.ledger();
+        assert_eq!(rt; ledger.commits()?.as_slice(), [RENDEZVOUS].as_slice());
+        assert_eq!(rt; ledger.pending(), if sealed { 0 } else { 1 });
+        assert_eq!(rt; ledger.commit_of(SENDER), Some(RENDEZVOUS));
+        assert_eq!(rt; ledger.commit_of(RECEIVER), Some(RENDEZVOUS));
+    }
+    Ok(())
+}
+
+#[test]
+fn worlds_start_at_the_ends_of_their_ranges(rt: HostRuntime) -> Result<(), Fail> {
+    for (threads, rows, seats) in [(1, 1, 1), (64, 1024, 16), (1, 1024, 16), (64, 1, 1)] {
+        let last = Row {
+            thread: threads - 1,
+            sync: 0,
+        };
+        let seat = Seat((threads - 1) % seats);
+        let steps = [
+            (seat, Step::Open { row: last }),
+            (seat, Step::Look { row: last }),
+            (
+                seat,
+                Step::Read {
+                    row: last,
+                    place: 33,
+                },
+            ),
+        ];
+        let ledger = play(World::start(rt.alloc(), threads, rows, seats)?, &steps)?.ledger();
+        assert_eq!(rt; ledger.commits()?.len(), 0);
+        assert_eq!(rt; ledger.pending(), 0);
+        assert_eq!(rt; ledger.commit_of(last), None);
+    }
+    Ok(())
+}
+
+#[test]
+fn only_the_holder_opens(rt: HostRuntime) -> Result<(), Fail> {
+    let steps = [(Seat(1), Step::Open { row: SENDER })];
+    let fault = play(World::start(rt.alloc(), 2, 1, 2)?, &steps);
+    assert_eq!(rt;
+        fault.expect_err(&rt, "seat 0 holds the row"),
+        ProtoFault::NotAllowed(0)
+    );
+    let later = Row { thread: 0, sync: 1 };
+    let steps = [(Seat(0), Step::Open { row: later })];
+    let fault = play(World::start(rt.alloc(), 2, 2, 2)?, &steps);
+    assert_eq!(rt;
+        fault.expect_err(&rt, "nobody holds the row"),
+        ProtoFault::NotAllowed(0)
+    );
+    Ok(())
+}
+
+#[test]
+fn words_that_name_nothing_make_an_empty_ledger(rt: HostRuntime) -> Result<(), Fail> {
+    let words = vec![in rt.alloc(); 0; 98]?;
+    let ledger = Ledger::of_words(1, 1, words);
+    assert_eq!(rt; ledger.commits()?.len(), 0);
+    Ok(())
+}
