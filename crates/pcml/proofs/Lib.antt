@@ -1,0 +1,7 @@
+pub mod Numbers
+pub mod Forms
+pub mod Steps
+pub mod Plans
+pub mod PlanLaws
+pub mod Meeting
+pub mod Playing

@@ -1,0 +1,22 @@
+-- The faults of reading as faults of playing, and the faults of playing and of files as faults of the program.
+use Rattle.pcml.specs.declared.schedule.ReadFault.{ReadFault}
+use Rattle.pcml.specs.declared.schedule.ReadFault.TheVariants as reading
+use Rattle.pcml.specs.declared.play.PlayFault.{PlayFault}
+use Rattle.pcml.specs.declared.play.PlayFault.TheVariants.{Memory, BadStep, NotAllowed}
+use Rattle.pcml.specs.declared.source.SourceFault.{SourceFault}
+use Rattle.pcml.specs.declared.source.SourceFault.TheVariants as files
+use Rattle.pcml.specs.declared.fault.Fault.{Fault}
+use Rattle.pcml.specs.declared.fault.Fault.TheVariants as faults
+
+abbrev pub comes_from : ReadFault → PlayFault
+comes_from reading.Memory = Memory
+comes_from (reading.BadStep line) = BadStep line
+
+abbrev pub fault_of_play : PlayFault → Fault
+fault_of_play Memory = faults.Memory
+fault_of_play (BadStep line) = faults.BadStep line
+fault_of_play (NotAllowed step) = faults.NotAllowed step
+
+abbrev pub fault_of_file : SourceFault → Fault
+fault_of_file files.Memory = faults.Memory
+fault_of_file files.Unread = faults.Unread

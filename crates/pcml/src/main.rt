@@ -1,0 +1,63 @@
+//! `pcml`: one rendezvous, or the steps of a schedule, played in a world.
+#![tactic(auto)]
+
+mod command;
+mod fault;
+mod line;
+mod number;
+mod play;
+mod request;
+mod schedule;
+mod source;
+mod text;
+
+use fault::Fault;
+use source::{Source, SourceFault};
+use std::io::{ErrorKind, Write};
+use std::process::ExitCode;
+use std::rt::{Env, Files};
+use std::{env, fs, io};
+
+/// The files that the process sees.
+#[derive(Drop)]
+struct SystemFiles<'a, R> {
+    rt: &'a R,
+}
+
+impl<R: Files + AllocGlobal> Source for SystemFiles<'_, R> {
+    fn read(&mut self, name: &str) -> Result<Vec<u8>, SourceFault> {
+        match fs::read(self.rt, name) {
+            Ok(bytes) => Ok(bytes),
+            Err(error) if error.kind() == ErrorKind::OutOfMemory => Err(SourceFault::Memory),
+            Err(_) => Err(SourceFault::Unread),
+        }
+    }
+}
+
+/// Runs on the words that the process was given. It fails where they lack memory or are no text.
+fn run<R: Env + Files + Print + AllocGlobal, E: Write>(rt: &R, err: &mut E) -> io::Result<u8> {
+    let words: Vec<String> = env::args(rt)?.skip(1).collect(rt.alloc())?;
+    let words: Vec<&str> = words.iter().map(|word| word.as_str()).collect(rt.alloc())?;
+    let mut files = SystemFiles { rt };
+    let mut out = io::writer(rt);
+    Ok(command::command(rt.alloc(), words.as_slice(), &mut files, &mut out, err))
+}
+
+fn main(rt: HostRuntime) -> ExitCode {
+    let errors = rt.stderr();
+    let mut err = io::writer(&errors);
+    let status = match run(&rt, &mut err) {
+        Ok(status) => status,
+        Err(error) if error.kind() == ErrorKind::OutOfMemory => {
+            command::tell(&mut err, Fault::Memory)
+        }
+        Err(_) => {
+            let _ = writeln!(err, "error: a word is no text");
+            command::BAD_WORDS
+        }
+    };
+    ExitCode::from(status)
+}
+
+#[cfg(test)]
+mod tests;

@@ -1,0 +1,143 @@
+//! What `meet` and `play` print.
+
+ghost use Rattle.std.specs.Prelude.{◌≡◌, IfOk, IfErr};
+ghost use Rattle.std.specs.String.{string_bytes};
+ghost use Rattle.pcml.specs.Schedule.{IsSize};
+ghost use Rattle.pcml.specs.Meet.{meet_steps, TellsMeeting, meeting_line};
+ghost use Rattle.pcml.specs.Play.{start_of, counts_line, Reports, IsPlayed, ExplainsPlay, IsPlayedOrFaulty, HasOneFirstRefused};
+ghost use Rattle.pcml.specs.PlayFaults.{comes_from};
+ghost use Rattle.pcml.specs.declared.play.PlayFault.TheVariants.{Memory};
+
+use crate::schedule::{ReadFault, Size, read_schedule};
+use crate::text::write_numbered;
+use protocol::{Ledger, ProtoFault, Row, Seat, Step, World, play};
+use std::alloc::{AllocError, Global};
+use thiserror::Error;
+
+/// Why a schedule was not played.
+#[derive(Debug, Drop, Error)]
+pub enum PlayFault {
+    #[error("out of memory")]
+    Memory,
+    /// The first line that is not of the form, from 1.
+    #[error("line {0} is not of the form")]
+    BadStep(usize),
+    /// The first step that is not allowed, from 1.
+    #[error("step {0} is not allowed")]
+    NotAllowed(usize),
+}
+
+impl From<ReadFault> for PlayFault {
+    ghost from_gives = { λ read fault. fault ≡ comes_from read };
+
+    fn from(fault: ReadFault) -> PlayFault {
+        match fault {
+            ReadFault::Memory => PlayFault::Memory,
+            ReadFault::BadStep(line) => PlayFault::BadStep(line),
+        }
+    }
+}
+
+impl From<AllocError> for PlayFault {
+    ghost from_gives = { λ _ fault. fault ≡ Memory };
+
+    fn from(_error: AllocError) -> PlayFault {
+        PlayFault::Memory
+    }
+}
+
+/// A thread offers to send the value, another to receive it; the first one claims, joins and seals.
+fn meet_steps(value: u32) -> [(Seat, Step); 10]
+    ensures { result ≡ meet_steps value }
+{
+    let sender = Row { thread: 0, sync: 0 };
+    let receiver = Row { thread: 1, sync: 0 };
+    let draft = |row, place, value| Step::Draft { row, place, value };
+    let join = Step::Join {
+        mine: sender,
+        own: 0,
+        other: receiver,
+        partner: 0,
+    };
+    [
+        (Seat(0), draft(sender, 1, 1)),
+        (Seat(0), draft(sender, 2, 8388609)),
+        (Seat(0), draft(sender, 3, u64::from(value) * 4)),
+        (Seat(0), Step::Open { row: sender }),
+        (Seat(1), draft(receiver, 1, 1)),
+        (Seat(1), draft(receiver, 2, 2)),
+        (Seat(1), Step::Open { row: receiver }),
+        (Seat(0), Step::Claim { row: sender }),
+        (Seat(0), join),
+        (Seat(0), Step::Seal { row: sender }),
+    ]
+}
+
+/// The world in which a schedule of this size begins.
+fn start(alloc: Global, size: Size) -> Result<World, AllocError>
+    requires { IsSize size }
+    ensures { IfOk result (λ world. world ≡ start_of size) }
+{
+    match World::start(alloc, size.threads, size.rows, size.seats) {
+        Ok(world) => Ok(world),
+        Err(_) => Err(AllocError),
+    }
+}
+
+/// The line of the one pair in which a thread sends the value to another.
+pub fn meet_text(alloc: Global, value: u32) -> Result<Vec<u8>, AllocError>
+    ensures met { IfOk result (λ text. TellsMeeting value text.items) }
+    ensures line { IfOk result (λ text. text.items ≡ meeting_line value) }
+{
+    let size = Size {
+        threads: 2,
+        rows: 1,
+        seats: 2,
+    };
+    let world = start(alloc, size)?;
+    let Ok(world) = play(world, &meet_steps(value)) else {
+        unreachable!()
+    };
+    let ledger = world.ledger();
+    let commits = ledger.commits()?;
+    write_numbered(alloc, commits.as_slice())
+}
+
+fn counts_line(alloc: Global, commits: usize, pending: u32) -> Result<String, AllocError>
+    ensures { IfOk result (λ line. string_bytes line ≡ counts_line commits pending) }
+{
+    format!(in alloc; "commits {commits} pending {pending}\n")
+}
+
+/// The ledger's commits in order, and how many there are and how many are pending.
+fn report(alloc: Global, ledger: &Ledger) -> Result<Vec<u8>, AllocError>
+    ensures { IfOk result (λ text. Reports ledger.now text.items) }
+{
+    let commits = ledger.commits()?;
+    let mut text = write_numbered(alloc, commits.as_slice())?;
+    let counts = counts_line(alloc, commits.len(), ledger.pending())?;
+    text.extend_from_slice(counts.as_bytes())?;
+    Ok(text)
+}
+
+/// What the ledger holds once the schedule in the bytes was played: all of it, or nothing but the
+/// first fault.
+pub fn play_text(alloc: Global, bytes: &[u8]) -> Result<Vec<u8>, PlayFault>
+    ensures played { IfOk result (λ text. IsPlayed bytes.now text.items) }
+    ensures fault { IfErr result (ExplainsPlay bytes.now) }
+{
+    let schedule = read_schedule(alloc, bytes)?;
+    let world = start(alloc, schedule.size)?;
+    match play(world, schedule.steps.as_slice()) {
+        Ok(world) => Ok(report(alloc, &world.ledger())?),
+        Err(ProtoFault::Memory) => Err(PlayFault::Memory),
+        Err(ProtoFault::NotAllowed(index)) => Err(PlayFault::NotAllowed(index + 1)),
+    }
+}
+
+/// Bytes are played, or else have a first bad line, or else a first step that is refused: so each
+/// answer of `play_text` but for want of memory is the only one of its kind.
+pub fn play_laws()
+    ensures apart { IsPlayedOrFaulty }
+    ensures first { HasOneFirstRefused }
+{}

@@ -1,0 +1,312 @@
+use crate::command::command;
+use crate::play::play_laws;
+use crate::schedule::schedule_text_laws;
+use crate::source::{Source, SourceFault};
+use crate::text::write_numbered;
+use std::alloc::Global;
+use std::io;
+use std::io::Write;
+use std::process::Abort;
+use std::test::Fail;
+use words::{Atom, Cause, Commit, Message, NackName, Row};
+
+/// One file, by its name.
+#[derive(Drop)]
+struct OneFile<'a> {
+    alloc: Global,
+    text: &'a [u8],
+}
+
+impl Source for OneFile<'_> {
+    fn read(&mut self, name: &str) -> Result<Vec<u8>, SourceFault> {
+        match name {
+            "file" => match Vec::from_slice(self.alloc, self.text) {
+                Ok(bytes) => Ok(bytes),
+                Err(_) => Err(SourceFault::Memory),
+            },
+            "memory" => Err(SourceFault::Memory),
+            _ => Err(SourceFault::Unread),
+        }
+    }
+}
+
+/// Takes this many bytes, and then no more.
+#[derive(Drop)]
+struct Narrow {
+    room: usize,
+}
+
+impl Write for Narrow {
+    fn write(&mut self, bytes: &[u8]) -> io::Result<usize> {
+        let taken = bytes.len().min(self.room);
+        self.room -= taken;
+        Ok(taken)
+    }
+
+    fn flush(&mut self) -> io::Result<()> {
+        Ok(())
+    }
+}
+
+/// What a run of the program gave.
+#[derive(Drop)]
+struct Outcome {
+    status: u8,
+    out: Vec<u8>,
+    err: Vec<u8>,
+}
+
+fn run(alloc: Global, words: &[&str], text: &[u8]) -> Outcome {
+    let mut source = OneFile { alloc, text };
+    let mut out = Vec::new(alloc);
+    let mut err = Vec::new(alloc);
+    let status = command(alloc, words, &mut source, &mut out, &mut err);
+    Outcome { status, out, err }
+}
+
+fn prints<R: Abort + AllocGlobal>(rt: &R, words: &[&str], text: &[u8], expected: &[u8]) {
+    let run = run(rt.alloc(), words, text);
+    assert_eq!(rt; run.out.as_slice(), expected);
+    assert!(rt; run.err.is_empty());
+    assert_eq!(rt; run.status, 0);
+}
+
+fn faults<R: Abort + AllocGlobal>(rt: &R, words: &[&str], text: &[u8], expected: &[u8]) {
+    let run = run(rt.alloc(), words, text);
+    assert_eq!(rt; run.err.as_slice(), expected);
+    assert!(rt; run.out.is_empty());
+    assert_eq!(rt; run.status, 1);
+}
+
+fn is_bad_words<R: Abort + AllocGlobal>(rt: &R, words: &[&str]) {
+    let run = run(rt.alloc(), words, b"world 1 1 1\n");
+    assert!(rt; run.out.is_empty());
+    assert!(rt; !run.err.is_empty());
+    assert_eq!(rt; run.status, 2);
+}
+
+const CROSSED: [&str; 9] = [
+    "world 2 1 2",
+    "0 draft 0.0 1 1",
+    "0 draft 0.0 2 8388609",
+    "0 draft 0.0 3 168",
+    "0 open 0.0",
+    "1 draft 1.0 1 1",
+    "1 draft 1.0 2 2",
+    "1 open 1.0",
+    "0 claim 0.0",
+];
+
+/// The two threads with their offers opened and the first one's row claimed, and then further lines.
+fn crossed(alloc: Global, further: &[&str]) -> Result<String, Fail> {
+    let mut text = String::new(alloc);
+    for line in CROSSED.iter().chain(further) {
+        text.push_str(line)?;
+        text.push_str("\n")?;
+    }
+    Ok(text)
+}
+
+#[test]
+fn meets(rt: HostRuntime) {
+    prints(&rt, &["meet", "0"], b"", b"1 0.0.0 -> 1.0.0 0 (0)\n");
+    prints(&rt, &["meet", "42"], b"", b"1 0.0.0 -> 1.0.0 0 (42)\n");
+    prints(
+        &rt,
+        &["meet", "4294967295"],
+        b"",
+        b"1 0.0.0 -> 1.0.0 0 (4294967295)\n",
+    );
+}
+
+#[test]
+fn plays_crossed_claims(rt: HostRuntime) -> Result<(), Fail> {
+    let both_claim = crossed(
+        rt.alloc(),
+        &["1 claim 1.0", "0 join 0.0 0 1.0 0", "1 join 1.0 0 0.0 0"],
+    )?;
+    faults(
+        &rt,
+        &["play", "file"],
+        both_claim.as_bytes(),
+        b"fault 2 step 10\n",
+    );
+    let yields = crossed(
+        rt.alloc(),
+        &["1 claim 1.0", "1 yield 1.0", "0 join 0.0 0 1.0 0"],
+    )?;
+    prints(
+        &rt,
+        &["play", "file"],
+        yields.as_bytes(),
+        b"1 0.0.0 -> 1.0.0 0 (42)\ncommits 1 pending 1\n",
+    );
+    let seals = crossed(
+        rt.alloc(),
+        &[
+            "1 claim 1.0",
+            "1 yield 1.0",
+            "0 join 0.0 0 1.0 0",
+            "0 seal 0.0",
+        ],
+    )?;
+    prints(
+        &rt,
+        &["play", "file"],
+        seals.as_bytes(),
+        b"1 0.0.0 -> 1.0.0 0 (42)\ncommits 1 pending 0\n",
+    );
+    Ok(())
+}
+
+#[test]
+fn plays_a_world_alone(rt: HostRuntime) {
+    prints(
+        &rt,
+        &["play", "file"],
+        b"world 1 1 1\n",
+        b"commits 0 pending 0\n",
+    );
+    prints(
+        &rt,
+        &["play", "file"],
+        b"world 64 2 16\n15 open 63.0\n",
+        b"commits 0 pending 0\n",
+    );
+}
+
+#[test]
+fn tells_bad_lines(rt: HostRuntime) {
+    let words = ["play", "file"];
+    faults(&rt, &words, b"", b"fault 22 line 1\n");
+    faults(&rt, &words, b"world 65 1 1\n", b"fault 22 line 1\n");
+    faults(&rt, &words, b"world 0 1 1\n", b"fault 22 line 1\n");
+    faults(&rt, &words, b"world 1 1 1", b"fault 22 line 1\n");
+    faults(&rt, &words, b"world 1 01 1\n", b"fault 22 line 1\n");
+    faults(&rt, &words, b"world 1  1 1\n", b"fault 22 line 1\n");
+    faults(&rt, &words, b"world 1 1 1\n\n", b"fault 22 line 2\n");
+    faults(
+        &rt,
+        &words,
+        b"world 1 1 1\n0 open 0.0\n0 claim 0.0",
+        b"fault 22 line 3\n",
+    );
+    faults(
+        &rt,
+        &words,
+        b"world 1 1 1\n9 open 9.9\n0 grant 0.0 0\n",
+        b"fault 22 line 3\n",
+    );
+    faults(
+        &rt,
+        &words,
+        b"world 1 1 1\n0 draft 0.0 1 18446744073709551616\n",
+        b"fault 22 line 2\n",
+    );
+    faults(
+        &rt,
+        &words,
+        b"world 1 1 1\n0 draft 0.0 1 18446744073709551615\n",
+        b"fault 2 step 1\n",
+    );
+    faults(
+        &rt,
+        &words,
+        b"world 1 1 1\n0 read 0.0 34\n",
+        b"fault 22 line 2\n",
+    );
+    faults(
+        &rt,
+        &words,
+        b"world 1 1 1\n15 open 0.0\n",
+        b"fault 2 step 1\n",
+    );
+}
+
+#[test]
+fn writes_every_kind_of_line(rt: HostRuntime) -> Result<(), Fail> {
+    let nack = NackName { thread: 63, k: 63 };
+    let first = (Row { thread: 0, sync: 0 }, 0);
+    let last = (
+        Row {
+            thread: 63,
+            sync: 1023,
+        },
+        7,
+    );
+    let commits = [
+        Commit::Pair {
+            sender: first,
+            receiver: last,
+            chan: 255,
+            msg: Message::Three(Atom::Num(0), Atom::Chan(255), Atom::Nack(nack)),
+            stamp: 1,
+        },
+        Commit::Alone {
+            at: last,
+            cause: Cause::Always(Message::Empty),
+            stamp: 4294967295,
+        },
+        Commit::Alone {
+            at: first,
+            cause: Cause::Always(Message::Two(Atom::Num(1), Atom::Num(20))),
+            stamp: 10,
+        },
+        Commit::Alone {
+            at: first,
+            cause: Cause::Nack(nack),
+            stamp: 2,
+        },
+    ];
+    let text = write_numbered(rt.alloc(), &commits)?;
+    let expected = b"1 0.0.0 -> 63.1023.7 255 (0, #255, !63.63)
+4294967295 63.1023.7 always ()
+10 0.0.0 always (1, 20)
+2 0.0.0 cancelled 63.63
+";
+    assert_eq!(rt; text.as_slice(), expected.as_slice());
+    Ok(())
+}
+
+#[test]
+fn laws_hold() {
+    schedule_text_laws();
+    play_laws();
+}
+
+#[test]
+fn tells_unread_files(rt: HostRuntime) {
+    faults(&rt, &["play", "none"], b"", b"fault 31\n");
+    faults(&rt, &["play", "memory"], b"", b"fault 1\n");
+}
+
+#[test]
+fn tells_unwritten_output(rt: HostRuntime) {
+    for room in 0..24 {
+        let mut source = OneFile {
+            alloc: rt.alloc(),
+            text: b"",
+        };
+        let mut out = Narrow { room };
+        let mut err = Vec::new(rt.alloc());
+        let words = ["meet", "42"];
+        let status = command(rt.alloc(), &words, &mut source, &mut out, &mut err);
+        assert_eq!(rt; status, 1);
+        assert_eq!(rt; err.as_slice(), b"fault 32\n".as_slice());
+    }
+}
+
+#[test]
+fn tells_bad_words(rt: HostRuntime) {
+    is_bad_words(&rt, &[]);
+    is_bad_words(&rt, &["meet"]);
+    is_bad_words(&rt, &["meet", "1", "2"]);
+    is_bad_words(&rt, &["meet", "4294967296"]);
+    is_bad_words(&rt, &["meet", "-1"]);
+    is_bad_words(&rt, &["meet", "x"]);
+    is_bad_words(&rt, &["play"]);
+    is_bad_words(&rt, &["play", "file", "file"]);
+    is_bad_words(&rt, &["mate", "1"]);
+    is_bad_words(&rt, &["--help"]);
+    is_bad_words(&rt, &["meet", "--help"]);
+}
