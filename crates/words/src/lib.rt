@@ -1,6 +1,8 @@
 //! The values that the protocol speaks of, and the words in which the table keeps them.
 #![tactic(auto)]
 
+ghost use Rattle.std.specs.Prelude.{◌≡◌};
+
 mod packing;
 
 pub use packing::{
@@ -48,6 +50,20 @@ pub enum Base {
 pub struct Offer {
     pub base: Base,
     pub scopes: u8,
+}
+
+/// The offer of `never`, in no scope: what the unused places of a list in place hold.
+impl Default for Offer {
+    ghost use Rattle.words.specs.declared.Base.TheVariants.{Never};
+
+    ghost is_default = { λ o. o ≡ record { base = Never; scopes = 0 } };
+
+    fn default() -> Self {
+        Offer {
+            base: Base::Never,
+            scopes: 0,
+        }
+    }
 }
 
 /// One sync of a thread: thread 0 to 63, sync 0 to 1023.

@@ -1,0 +1,3 @@
+pub mod ResolvedLemmas
+pub mod StepLemmas
+pub mod TreeLemmas

@@ -1,0 +1,3 @@
+pub mod Resolved
+pub mod Steps
+pub mod Tree
