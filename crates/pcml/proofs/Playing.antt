@@ -1,5 +1,5 @@
 -- Schedules that are played: where they lead, and where the first refused step is.
-use Rattle.std.proofs.Common.{◌≡◌, ℕ, suc, ◌+◌, ◌^◌, ◌<◌, List, [], ◌∷◌, ◌++◌, length, refl, sym, ap, subst, ◌∙◌, append_assoc, arith, length-append}
+use Rattle.std.proofs.Common.{◌≡◌, ℕ, ◌+◌, ◌^◌, ◌<◌, List, [], ◌∷◌, length, refl, sym, ap, subst, ◌∙◌, append_assoc, arith}
 use Rattle.std.specs.Prelude.{IsPermutation}
 use Rattle.std.specs.Fmt.{digits}
 use Rattle.std.specs.List.{All}
@@ -8,11 +8,12 @@ use Rattle.std.proofs.lemmas.List.Sorted.{length_permutation, All-permutation}
 use Rattle.words.specs.declared.Seat.{Seat}
 use Rattle.words.specs.declared.Step.{Step}
 use Rattle.words.specs.declared.Commit.{Commit}
-use Rattle.protocol.specs.Worlds.{World, Plays, Allowed, after_step, IsRefused, start_world}
+use Rattle.protocol.specs.Worlds.{World, Plays, IsRefused, start_world}
 use Rattle.protocol.specs.Ledgers.{Ledger, ledger_of, commits_in}
 use Rattle.protocol.specs.States.{Refuses}
 use Rattle.protocol.specs.declared.ProtoFault.{ProtoFault}
 use Rattle.protocol.specs.declared.ProtoFault.TheVariants as faults
+use Rattle.protocol.proofs.Playing.{plays_one, played_not_refused, one_refused}
 use Rattle.pcml.specs.Schedule.{Plan}
 use Rattle.pcml.specs.NumberedText.{commits_text}
 use Rattle.pcml.specs.Meet.{meet_steps, meeting_of, Meets, TellsMeeting, meeting_line}
@@ -20,51 +21,14 @@ use Rattle.pcml.proofs.Meeting.{w10, meets}
 use Rattle.pcml.specs.Play.{IsPlayedOrFaulty, HasOneFirstRefused, start_of}
 use Rattle.pcml.proofs.PlanLaws.{spells_only_one, spells_or_is_bad}
 
--- a step that is played after others was allowed there
-pub played_allowed : (before : List (Seat × Step)) (s : Seat × Step) (behind : List (Seat × Step)) (w u v : World) → Plays w (before ++ s ∷ behind) v → Plays w before u → Allowed u s.0 s.1
-played_allowed [] s behind w u v h k = subst (λ (x : World). Allowed x s.0 s.1) (sym k) h.0
-played_allowed (b ∷ before) s behind w u v h k = played_allowed before s behind (after_step w b.0 b.1) u v h.1 k.1
-
-pub plays_one : (ss : List (Seat × Step)) (w u v : World) → Plays w ss u → Plays w ss v → u ≡ v
-plays_one [] w u v h k = h ∙ sym k
-plays_one (s ∷ ss) w u v h k = plays_one ss (after_step w s.0 s.1) u v h.1 k.1
-
-pub not_refused : (w v : World) (ss : List (Seat × Step)) (i : ℕ) → Plays w ss v → IsRefused w ss i → ⊥
-not_refused w v ss i h r =
-    r.refused (played_allowed r.before r.step r.behind w r.world v (subst (λ (xs : List (Seat × Step)). Plays w xs v) r.is h) r.played)
-
-pub refused_below : (w : World) (ss : List (Seat × Step)) (i : ℕ) → IsRefused w ss i → i < length ss
-refused_below w ss i r = let e = ap length r.is ∙ length-append r.before (r.step ∷ r.behind) in omega (arith, r.count)
-
 pub played_or_faulty : IsPlayedOrFaulty
 played_or_faulty bytes text k h = (
   (λ bad. spells_or_is_bad bytes h.plan k h.spells bad),
   (λ r.
       let same = spells_only_one bytes h.plan r.plan h.spells r.spells in
       let plays : Plays (start_of r.plan.size) r.plan.steps h.world = subst (λ (p : Plan). Plays (start_of p.size) p.steps h.world) same h.plays in
-      not_refused (start_of r.plan.size) h.world r.plan.steps r.index plays r.refused),
+      played_not_refused (start_of r.plan.size) h.world r.plan.steps r.index plays r.refused),
 )
-
--- of two refused steps neither is before the other
-same_length : (xs ys : List (Seat × Step)) (x y : Seat × Step) (after behind : List (Seat × Step)) (w u v : World) → xs ++ x ∷ after ≡ ys ++ y ∷ behind → Plays w xs u → Plays w ys v → ¬ Allowed u x.0 x.1 → ¬ Allowed v y.0 y.1
-    → length xs ≡ length ys
-same_length [] [] x y after behind w u v e h k p q = refl
-same_length [] (z ∷ ys) x y after behind w u v e h k p q =
-    let first : x ≡ z = cc in
-    absurd (p (subst (λ (s : Seat × Step). Allowed u s.0 s.1) (sym first) (subst (λ (t : World). Allowed t z.0 z.1) (sym h) k.0)))
-same_length (z ∷ xs) [] x y after behind w u v e h k p q =
-    let first : z ≡ y = cc in
-    absurd (q (subst (λ (s : Seat × Step). Allowed v s.0 s.1) first (subst (λ (t : World). Allowed t z.0 z.1) (sym k) h.0)))
-same_length (z ∷ xs) (a ∷ ys) x y after behind w u v e h k p q =
-    let first : a ≡ z = cc in
-    let others : xs ++ x ∷ after ≡ ys ++ y ∷ behind = cc in
-    let k' : Plays (after_step w z.0 z.1) ys v = subst (λ (s : Seat × Step). Plays (after_step w s.0 s.1) ys v) first k.1 in
-    ap suc (same_length xs ys x y after behind (after_step w z.0 z.1) u v others h.1 k' p q)
-
-pub one_refused : (w : World) (ss : List (Seat × Step)) (i j : ℕ) → IsRefused w ss i → IsRefused w ss j → i ≡ j
-one_refused w ss i j r q =
-    let e = same_length r.before q.before r.step q.step r.behind q.behind w r.world q.world (sym r.is ∙ q.is) r.played q.played r.refused q.refused in
-    sym r.count ∙ e ∙ q.count
 
 pub has_one_first_refused : HasOneFirstRefused
 has_one_first_refused bytes j k h = (
@@ -96,7 +60,7 @@ meeting_text value = simp append_assoc
 met_commits : (value : ℕ) (w : World) (cs : List Commit) → value < 2 ^ 32 → Plays (start_world 2 1 2) (meet_steps value) w → IsPermutation (commits_in (ledger_of w.table)) cs
     → (Meets value w) × (cs ≡ commits_in (ledger_of w.table)) × (cs ≡ meeting_of value ∷ [])
 met_commits value w cs lt plays all =
-    let same : w10 value ≡ w = plays_one (meet_steps value) (start_world 2 1 2) (w10 value) w (meets value lt).plays plays in
+    let same : w10 value ≡ w = plays_one (start_world 2 1 2) (w10 value) w (meet_steps value) (meets value lt).plays plays in
     let m : Meets value w = subst (λ (v : World). Meets value v) same (meets value lt) in
     let cs-is : cs ≡ meeting_of value ∷ [] = only_one (meeting_of value) cs (subst (λ (ds : List Commit). IsPermutation ds cs) m.commits all) in
     (m, cs-is ∙ sym m.commits, cs-is)
@@ -129,4 +93,4 @@ is_meeting_line value start steps w l cs text lt m e =
 pub meeting_not_refused : (value : ℕ) (w : World) (e : ProtoFault) → value < 2 ^ 32 → w ≡ start_world 2 1 2 → Refuses w (meet_steps value) e → ⊥
 meeting_not_refused value w faults.Memory lt start r = r
 meeting_not_refused value w (faults.NotAllowed i) lt start r =
-    not_refused (start_world 2 1 2) (w10 value) (meet_steps value) i (meets value lt).plays (subst (λ (v : World). IsRefused v (meet_steps value) i) start r)
+    played_not_refused (start_world 2 1 2) (w10 value) (meet_steps value) i (meets value lt).plays (subst (λ (v : World). IsRefused v (meet_steps value) i) start r)
