@@ -1,4 +1,5 @@
 use crate::command::command;
+use crate::fault::Fault;
 use crate::play::play_laws;
 use crate::schedule::schedule_text_laws;
 use crate::source::{Source, SourceFault};
@@ -56,33 +57,50 @@ struct Outcome {
     err: Vec<u8>,
 }
 
-fn run(alloc: Global, words: &[&str], text: &[u8]) -> Outcome {
+/// Where memory runs out, the run has to tell just that.
+fn run(alloc: Global, words: &[&str], text: &[u8]) -> Result<Outcome, Fault> {
     let mut source = OneFile { alloc, text };
-    let mut out = Vec::new(alloc);
-    let mut err = Vec::new(alloc);
+    let mut out = Vec::with_capacity(alloc, 256)?;
+    let mut err = Vec::with_capacity(alloc, 4096)?;
     let status = command(alloc, words, &mut source, &mut out, &mut err);
-    Outcome { status, out, err }
+    if status == 1 && out.is_empty() && err.as_slice() == b"fault 1\n".as_slice() {
+        return Err(Fault::Memory);
+    }
+    Ok(Outcome { status, out, err })
 }
 
-fn prints<R: Abort + AllocGlobal>(rt: &R, words: &[&str], text: &[u8], expected: &[u8]) {
-    let run = run(rt.alloc(), words, text);
+fn prints<R: Abort + AllocGlobal>(
+    rt: &R,
+    words: &[&str],
+    text: &[u8],
+    expected: &[u8],
+) -> Result<(), Fault> {
+    let run = run(rt.alloc(), words, text)?;
     assert_eq!(rt; run.out.as_slice(), expected);
     assert!(rt; run.err.is_empty());
     assert_eq!(rt; run.status, 0);
+    Ok(())
 }
 
-fn faults<R: Abort + AllocGlobal>(rt: &R, words: &[&str], text: &[u8], expected: &[u8]) {
-    let run = run(rt.alloc(), words, text);
+fn faults<R: Abort + AllocGlobal>(
+    rt: &R,
+    words: &[&str],
+    text: &[u8],
+    expected: &[u8],
+) -> Result<(), Fault> {
+    let run = run(rt.alloc(), words, text)?;
     assert_eq!(rt; run.err.as_slice(), expected);
     assert!(rt; run.out.is_empty());
     assert_eq!(rt; run.status, 1);
+    Ok(())
 }
 
-fn is_bad_words<R: Abort + AllocGlobal>(rt: &R, words: &[&str]) {
-    let run = run(rt.alloc(), words, b"world 1 1 1\n");
+fn is_bad_words<R: Abort + AllocGlobal>(rt: &R, words: &[&str]) -> Result<(), Fault> {
+    let run = run(rt.alloc(), words, b"world 1 1 1\n")?;
     assert!(rt; run.out.is_empty());
     assert!(rt; !run.err.is_empty());
     assert_eq!(rt; run.status, 2);
+    Ok(())
 }
 
 const CROSSED: [&str; 9] = [
@@ -108,15 +126,16 @@ fn crossed(alloc: Global, further: &[&str]) -> Result<String, Fail> {
 }
 
 #[test]
-fn meets(rt: HostRuntime) {
-    prints(&rt, &["meet", "0"], b"", b"1 0.0.0 -> 1.0.0 0 (0)\n");
-    prints(&rt, &["meet", "42"], b"", b"1 0.0.0 -> 1.0.0 0 (42)\n");
+fn meets(rt: HostRuntime) -> Result<(), Fault> {
+    prints(&rt, &["meet", "0"], b"", b"1 0.0.0 -> 1.0.0 0 (0)\n")?;
+    prints(&rt, &["meet", "42"], b"", b"1 0.0.0 -> 1.0.0 0 (42)\n")?;
     prints(
         &rt,
         &["meet", "4294967295"],
         b"",
         b"1 0.0.0 -> 1.0.0 0 (4294967295)\n",
-    );
+    )?;
+    Ok(())
 }
 
 #[test]
@@ -130,7 +149,7 @@ fn plays_crossed_claims(rt: HostRuntime) -> Result<(), Fail> {
         &["play", "file"],
         both_claim.as_bytes(),
         b"fault 2 step 10\n",
-    );
+    )?;
     let yields = crossed(
         rt.alloc(),
         &["1 claim 1.0", "1 yield 1.0", "0 join 0.0 0 1.0 0"],
@@ -140,7 +159,7 @@ fn plays_crossed_claims(rt: HostRuntime) -> Result<(), Fail> {
         &["play", "file"],
         yields.as_bytes(),
         b"1 0.0.0 -> 1.0.0 0 (42)\ncommits 1 pending 1\n",
-    );
+    )?;
     let seals = crossed(
         rt.alloc(),
         &[
@@ -155,72 +174,74 @@ fn plays_crossed_claims(rt: HostRuntime) -> Result<(), Fail> {
         &["play", "file"],
         seals.as_bytes(),
         b"1 0.0.0 -> 1.0.0 0 (42)\ncommits 1 pending 0\n",
-    );
+    )?;
     Ok(())
 }
 
 #[test]
-fn plays_a_world_alone(rt: HostRuntime) {
+fn plays_a_world_alone(rt: HostRuntime) -> Result<(), Fault> {
     prints(
         &rt,
         &["play", "file"],
         b"world 1 1 1\n",
         b"commits 0 pending 0\n",
-    );
+    )?;
     prints(
         &rt,
         &["play", "file"],
         b"world 64 2 16\n15 open 63.0\n",
         b"commits 0 pending 0\n",
-    );
+    )?;
+    Ok(())
 }
 
 #[test]
-fn tells_bad_lines(rt: HostRuntime) {
+fn tells_bad_lines(rt: HostRuntime) -> Result<(), Fault> {
     let words = ["play", "file"];
-    faults(&rt, &words, b"", b"fault 22 line 1\n");
-    faults(&rt, &words, b"world 65 1 1\n", b"fault 22 line 1\n");
-    faults(&rt, &words, b"world 0 1 1\n", b"fault 22 line 1\n");
-    faults(&rt, &words, b"world 1 1 1", b"fault 22 line 1\n");
-    faults(&rt, &words, b"world 1 01 1\n", b"fault 22 line 1\n");
-    faults(&rt, &words, b"world 1  1 1\n", b"fault 22 line 1\n");
-    faults(&rt, &words, b"world 1 1 1\n\n", b"fault 22 line 2\n");
+    faults(&rt, &words, b"", b"fault 22 line 1\n")?;
+    faults(&rt, &words, b"world 65 1 1\n", b"fault 22 line 1\n")?;
+    faults(&rt, &words, b"world 0 1 1\n", b"fault 22 line 1\n")?;
+    faults(&rt, &words, b"world 1 1 1", b"fault 22 line 1\n")?;
+    faults(&rt, &words, b"world 1 01 1\n", b"fault 22 line 1\n")?;
+    faults(&rt, &words, b"world 1  1 1\n", b"fault 22 line 1\n")?;
+    faults(&rt, &words, b"world 1 1 1\n\n", b"fault 22 line 2\n")?;
     faults(
         &rt,
         &words,
         b"world 1 1 1\n0 open 0.0\n0 claim 0.0",
         b"fault 22 line 3\n",
-    );
+    )?;
     faults(
         &rt,
         &words,
         b"world 1 1 1\n9 open 9.9\n0 grant 0.0 0\n",
         b"fault 22 line 3\n",
-    );
+    )?;
     faults(
         &rt,
         &words,
         b"world 1 1 1\n0 draft 0.0 1 18446744073709551616\n",
         b"fault 22 line 2\n",
-    );
+    )?;
     faults(
         &rt,
         &words,
         b"world 1 1 1\n0 draft 0.0 1 18446744073709551615\n",
         b"fault 2 step 1\n",
-    );
+    )?;
     faults(
         &rt,
         &words,
         b"world 1 1 1\n0 read 0.0 34\n",
         b"fault 22 line 2\n",
-    );
+    )?;
     faults(
         &rt,
         &words,
         b"world 1 1 1\n15 open 0.0\n",
         b"fault 2 step 1\n",
-    );
+    )?;
+    Ok(())
 }
 
 #[test]
@@ -275,38 +296,45 @@ fn laws_hold() {
 }
 
 #[test]
-fn tells_unread_files(rt: HostRuntime) {
-    faults(&rt, &["play", "none"], b"", b"fault 31\n");
-    faults(&rt, &["play", "memory"], b"", b"fault 1\n");
+fn tells_unread_files(rt: HostRuntime) -> Result<(), Fault> {
+    faults(&rt, &["play", "none"], b"", b"fault 31\n")?;
+    let lacking = run(rt.alloc(), &["play", "memory"], b"");
+    assert!(rt; matches!(lacking, Err(Fault::Memory)));
+    Ok(())
 }
 
 #[test]
-fn tells_unwritten_output(rt: HostRuntime) {
+fn tells_unwritten_output(rt: HostRuntime) -> Result<(), Fault> {
     for room in 0..24 {
         let mut source = OneFile {
             alloc: rt.alloc(),
             text: b"",
         };
         let mut out = Narrow { room };
-        let mut err = Vec::new(rt.alloc());
+        let mut err = Vec::with_capacity(rt.alloc(), 64)?;
         let words = ["meet", "42"];
         let status = command(rt.alloc(), &words, &mut source, &mut out, &mut err);
+        if status == 1 && err.as_slice() == b"fault 1\n".as_slice() {
+            return Err(Fault::Memory);
+        }
         assert_eq!(rt; status, 1);
         assert_eq!(rt; err.as_slice(), b"fault 32\n".as_slice());
     }
+    Ok(())
 }
 
 #[test]
-fn tells_bad_words(rt: HostRuntime) {
-    is_bad_words(&rt, &[]);
-    is_bad_words(&rt, &["meet"]);
-    is_bad_words(&rt, &["meet", "1", "2"]);
-    is_bad_words(&rt, &["meet", "4294967296"]);
-    is_bad_words(&rt, &["meet", "-1"]);
-    is_bad_words(&rt, &["meet", "x"]);
-    is_bad_words(&rt, &["play"]);
-    is_bad_words(&rt, &["play", "file", "file"]);
-    is_bad_words(&rt, &["mate", "1"]);
-    is_bad_words(&rt, &["--help"]);
-    is_bad_words(&rt, &["meet", "--help"]);
+fn tells_bad_words(rt: HostRuntime) -> Result<(), Fault> {
+    is_bad_words(&rt, &[])?;
+    is_bad_words(&rt, &["meet"])?;
+    is_bad_words(&rt, &["meet", "1", "2"])?;
+    is_bad_words(&rt, &["meet", "4294967296"])?;
+    is_bad_words(&rt, &["meet", "-1"])?;
+    is_bad_words(&rt, &["meet", "x"])?;
+    is_bad_words(&rt, &["play"])?;
+    is_bad_words(&rt, &["play", "file", "file"])?;
+    is_bad_words(&rt, &["mate", "1"])?;
+    is_bad_words(&rt, &["--help"])?;
+    is_bad_words(&rt, &["meet", "--help"])?;
+    Ok(())
 }
