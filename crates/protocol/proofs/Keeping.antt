@@ -73,7 +73,7 @@ held_row w r seat h = ⊎_elim
     cc)
     (cases_Bool (is_row w.table r))
 
-holder_same : (w : World) (t : Table) (r : Row) → t.threads ≡ w.table.threads → t.rows ≡ w.table.rows → holder_at (with_table w t) r ≡ holder_at w r
+pub holder_same : (w : World) (t : Table) (r : Row) → t.threads ≡ w.table.threads → t.rows ≡ w.table.rows → holder_at (with_table w t) r ≡ holder_at w r
 unfolding holder_at is_row
 holder_same w t r h k = λ i. cond (ltb r.thread (h i) && ltb r.sync (k i)) (get_or w.holders (number_of (k i) r) None) None
 
@@ -187,7 +187,7 @@ kept_draft w x p v seat k h f a b g =
     }
 
 -- a row that is neither claimed nor joined is not named
-idle_unnamed : (w : World) (x : Row) → Kept w → cell_at w.table x ≢ Claimed → joined_of (cell_at w.table x) ≡ None → (q : Row) → names (joined_of (cell_at w.table q)) x ≡ false
+pub idle_unnamed : (w : World) (x : Row) → Kept w → cell_at w.table x ≢ Claimed → joined_of (cell_at w.table x) ≡ None → (q : Row) → names (joined_of (cell_at w.table q)) x ≡ false
 idle_unnamed w x k = unnamed_idle w.table.threads w.table.rows (cell_at w.table) (offer_at w.table) x k.linked
 
 kept_open : (w : World) (x : Row) (seat : ℕ) → Kept w → holder_at w x ≡ Some seat → cell_at w.table x ≡ Fresh → Kept (with_table w (with_cell w.table x Waiting))

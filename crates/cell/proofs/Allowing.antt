@@ -1,0 +1,429 @@
+-- Each atomic step is admitted by the rule.
+use Rattle.std.proofs.Common.{slice_index, slice_set, ◌≡◌, ◌≢◌, ℕ, ◌+◌, ◌*◌, ◌<◌, ◌≤◌, Bool, true, false, List, [], sym, refl, ap, ◌∙◌, subst, inl, inr, ⊎_elim, arith, unwrap_or, Option, Some, None, is_some, eqb, cond, max, ◌-◌}
+use Rattle.std.proofs.lemmas.List.{set-get_or}
+use Rattle.std.proofs.lemmas.Bool.{false≢true, lt-ltb, ne_eqb}
+use mathlib.Core.Option.{some, none}
+use lib.ListN.{get_elem?}
+use prog.Atomic.{either}
+use Rattle.atomic_table.specs.Table.{State, Me, Allows, Act, Valid, step, keeps, stepped, carried_after}
+use Rattle.atomic_table.proofs.Lists.{exchanged}
+use Rattle.words.specs.Words.{cell_word, cell_of, count_of, offer_of, is_word_for, IsCellInRange, IsJoinedInRange}
+use Rattle.words.proofs.WordLemmas.{cell_of-cell_word, cell_word-cell_of}
+use Rattle.words.specs.declared.Seat.{Seat}
+use Rattle.words.specs.declared.Step.{Step}
+use Rattle.words.specs.declared.Step.TheVariants.{Draft, Open, Claim, Yield, Join, Seal}
+use Rattle.words.specs.declared.Offer.{Offer}
+use Rattle.words.specs.declared.Row.{Row}
+use Rattle.words.specs.declared.Joined.{Joined}
+use Rattle.words.specs.declared.Cell.{Cell}
+use Rattle.words.specs.declared.Cell.TheVariants.{Fresh, Waiting, Claimed, Synched}
+use Rattle.protocol.specs.Tables.{Table, place_of, is_row, is_fresh, cell_at, joined_at, joined_of, names, is_partner, offers_meet, offer_at, count_at, stamp_of, last_stamp, word_at, row_eq}
+use Rattle.protocol.specs.Worlds.{World, Condition, after_step, namer_at, joined_with, mirrored, with_seal, with_table, with_cell, with_word}
+use Rattle.protocol.specs.Kept.{Kept}
+use Rattle.protocol.proofs.RowLemmas.{row_ne, row_cases, row_eq-refl}
+use Rattle.protocol.proofs.Naming.{namer_none, namer_is}
+use Rattle.protocol.proofs.Places.{row_from, row_inside, same_place}
+use Rattle.protocol.proofs.Readings.{cell_inside, count_open, row_of_open}
+use Rattle.protocol.proofs.Linking.{fresh_not_joined, some_inj, cases_Option}
+use Rattle.protocol.proofs.Keeping.{kept_schedule, idle_unnamed, join_in_range, IsSealing, sealed_is, seal_in_range}
+use Rattle.protocol.proofs.LedgerLemmas.{kept_start}
+use Rattle.cell.specs.declared.view.View.{View}
+use Rattle.cell.specs.declared.view.Shape.{Shape}
+use Rattle.cell.specs.declared.view.Stage.{Stage}
+use Rattle.cell.specs.declared.view.Stage.TheVariants.{Resting, Claims, Joins}
+use Rattle.cell.specs.Views.{Has, HasReadOffer, HasSeenLast, CanJoin, Knows, Staged, IsClaimer, is_taken, saw, read_word, drafted_word, turned}
+use Rattle.cell.specs.Rule.{Keeps}
+use Rattle.cell.specs.Told.{Inside, At, cell_read, looked, has_read, drafted, waits, claimed, joining, joined, sealed}
+use Rattle.cell.proofs.Others.{learn_cell, learn_word, others_cell, own_cell, cell_now, cell_else, others_draft, own_draft}
+use Rattle.cell.proofs.Turning.{keeps_view, keeps_step}
+
+-- the table with these words
+abbrev sized : Shape → List ℕ → Table
+sized shape ws = record { threads = shape.threads; rows = shape.rows; words = ws }
+
+pub world_kept : {S : Type 0} (shape : Shape) (s : State S View) (k : Keeps shape s) → Kept k.world
+world_kept shape s k = kept_schedule _ k.world k.history (kept_start shape.threads shape.rows shape.passes k.few_threads k.few_rows) k.played
+
+-- the word of a Waiting cell reads as one
+waiting_read : cell_read (cell_word Waiting) ≡ Waiting
+waiting_read = ap (λ (o : Option Cell). unwrap_or o Fresh) (cell_of-cell_word Waiting tt)
+
+-- one place is one word of one row
+same_word : (threads rows : ℕ) (r q : Row) (p o : ℕ) → Inside threads rows r → Inside threads rows q → p < 34 → o < 34 → place_of rows r p ≡ place_of rows q o → (r ≡ q) × (p ≡ o)
+same_word threads rows r q p o a b h i e =
+    let t : Table = record { threads = threads; rows = rows; words = [] } in
+    same_place t r q p o (row_from t r a.0 a.1) (row_from t q b.0 b.1) h i e
+
+-- WHAT A PASS HAS READ IS SO
+
+offer_known : (w : World) (owner : Row → ℕ) (id : ℕ) (v : View) (r : Row) (n : ℕ) (o : Offer) → Knows w owner id v → HasReadOffer v r n o → offer_at w.table r n ≡ Some o
+unfolding offer_at
+offer_known w owner id v r n o k (count, a, b, c, d, has, below, has_a, has_b, has_c, has_d, is) =
+    let first = k.read r 1 count has in
+    let counted : count_at w.table r ≡ unwrap_or (count_of count) 0 = count_open w.table r first.0 ∙ ap (λ (x : ℕ). unwrap_or (count_of x) 0) first.3 in
+    ap (λ (y : Bool). cond y (offer_of (word_at w.table r (2 + 4 * n)) (word_at w.table r (3 + 4 * n)) (word_at w.table r (4 + 4 * n)) (word_at w.table r (5 + 4 * n))) None) (lt-ltb n (count_at w.table r) (subst (λ (x : ℕ). n < x) (sym counted) below))
+    ∙ (λ i. offer_of ((k.read r (2 + 4 * n) a has_a).3 i) ((k.read r (3 + 4 * n) b has_b).3 i) ((k.read r (4 + 4 * n) c has_c).3 i) ((k.read r (5 + 4 * n) d has_d).3 i))
+    ∙ is
+
+offers_known : (w : World) (owner : Row → ℕ) (id : ℕ) (v : View) (m : Row) (i : ℕ) (o : Row) (n : ℕ) (j : Joined) → Knows w owner id v → CanJoin v m i o n j → offers_meet (offer_at w.table m i) (offer_at w.table o n) ≡ true
+offers_known w owner id v m i o n j k can =
+    let a = offer_known w owner id v m i can.my_offer k can.read_mine in
+    let b = offer_known w owner id v o n can.their_offer k can.read_theirs in
+    (λ x. offers_meet (a x) (b x)) ∙ can.meet
+
+last_known : (w : World) (owner : Row → ℕ) (id : ℕ) (v : View) (r : Row) (stamp : ℕ) → Knows w owner id v → HasSeenLast v r stamp → last_stamp (joined_at w.table) r ≡ stamp
+last_known w owner id v r stamp k (inl h) = ap (λ (n : ℕ). cond (eqb n 0) 0 (stamp_of (joined_at w.table (record { thread = r.thread; sync = n - 1 })))) h.0 ∙ sym h.1
+last_known w owner id v r stamp k (inr h) =
+    ap (λ (y : Bool). cond y 0 (stamp_of (joined_at w.table (record { thread = r.thread; sync = r.sync - 1 })))) (ne_eqb r.sync 0 h.1)
+    ∙ ap stamp_of (k.joined (record { thread = r.thread; sync = r.sync - 1 }) h.0 h.2) ∙ sym h.3
+
+joined_known : (w : World) (owner : Row → ℕ) (id : ℕ) (v : View) (m : Row) (i : ℕ) (o : Row) (n : ℕ) (j : Joined) → Knows w owner id v → CanJoin v m i o n j → joined_with w.table m i o n ≡ j
+unfolding joined_with
+joined_known w owner id v m i o n j k can =
+    let a = last_known w owner id v m can.my_last k can.seen_mine in
+    let b = last_known w owner id v o can.their_last k can.seen_theirs in
+    (λ x. record { own = n; partner = Some (m, i); stamp = 1 + max (a x) (b x) }) ∙ sym can.is
+
+-- A pass that makes a step on a word of row r
+module _ (shape : Shape) (id place : ℕ) (me : Me ℕ View) (r : Row) (p : ℕ)
+    (threads : me.0.threads ≡ shape.threads) (rows : me.0.rows ≡ shape.rows)
+    (inside : Inside shape.threads shape.rows r) (low : p < 34) (here : place ≡ place_of shape.rows r p) where
+  one_word : (q : Row) (o : ℕ) → o < 34 → Inside me.0.threads me.0.rows q → place ≡ place_of me.0.rows q o → (r ≡ q) × (p ≡ o)
+  one_word q o h i e =
+      same_word me.0.threads me.0.rows r q p o (subst (λ (z : ℕ × ℕ). Inside z.0 z.1 r) (λ i. (sym threads i, sym rows i)) inside) i low h
+      (ap (λ (n : ℕ). place_of n r p) rows ∙ sym here ∙ e)
+
+  module _ (s : State ℕ View) (k : Keeps shape s) (view : get_elem? s.views id ≡ some me.0) where
+    known : Knows k.world k.owner id me.0
+    known = k.knows id me.0 view
+
+    kept : Kept k.world
+    kept = world_kept shape s k
+
+    abbrev seat : Seat
+    seat = record { 0 = me.0.seat }
+
+    word_is : word_at k.world.table r p ≡ slice_index s.words place
+    unfolding word_at
+    word_is = ap (λ (t : Table). word_at t r p) k.table ∙ ap (slice_index s.words) (sym here)
+
+    is_its_row : is_row k.world.table r ≡ true
+    is_its_row = ap (λ (t : Table). is_row t r) k.table ∙ row_from (sized shape s.words) r inside.0 inside.1
+
+    -- where it only learns
+    learnt : (w : View) → Knows k.world k.owner id w → Keeps shape (stepped s place (slice_index s.words place) id me.1 w keeps)
+    learnt w knows = keeps_view shape s k id w _ _ (set-get_or s.words place 0) knows
+
+    cell_is : p ≡ 0 → cell_at k.world.table r ≡ cell_read (slice_index s.words place)
+    cell_is e = cell_inside k.world.table r is_its_row ∙ ap cell_read (ap (word_at k.world.table r) (sym e) ∙ word_is)
+
+    -- where it writes a word behind the cell
+    wrote_word : (d : ℕ) → Has me.0.held r → ¬ Has me.0.opened r → 1 ≤ p → is_word_for p d ≡ true → Keeps shape (stepped s place d id me.1 (drafted_word r p d me.0) keeps)
+    wrote_word d held unopened high formed =
+        let mine = known.mine r held in
+        let fresh = known.fresh r held unopened in
+        keeps_step shape s k id (drafted_word r p d me.0) _ _ seat (Draft r p d) (known.seat, (mine.1, fresh, high, omega arith, formed))
+        (ap (λ (t : Table). with_word t r p d) k.table ∙ ap (λ (n : ℕ). sized shape (slice_set s.words n d)) (sym here))
+        (λ j u n e. others_draft k.world r p d k.owner kept is_its_row high low fresh j u (k.knows j u e) (λ o. n (sym o ∙ mine.0)))
+        (own_draft k.world r p d k.owner kept is_its_row high low fresh id me.0 known mine.0)
+
+    -- where it writes the cell
+    module _ (c : Cell) (zero : p ≡ 0) (range : IsCellInRange c) (open_c : is_fresh c ≡ false)
+        (was : joined_of (cell_at k.world.table r) ≡ None) (untaken : is_taken (cell_at k.world.table r) ≡ false) where
+      abbrev later : World
+      later = with_table k.world (with_cell k.world.table r c)
+
+      own_now : cell_at later.table r ≡ c
+      own_now = cell_now k.world r c k.owner kept is_its_row range open_c was untaken
+
+      else_now : (q : Row) → row_eq q r ≡ false → cell_at later.table q ≡ cell_at k.world.table q
+      else_now = cell_else k.world r c k.owner kept is_its_row range open_c was untaken
+
+      calm_now : (stage : Stage) → (c ≡ Claimed → IsClaimer stage r) → ((q : Row) → row_eq q r ≡ false → IsClaimer me.0.stage q → IsClaimer stage q)
+          → (q : Row) → Has me.0.held q → cell_at later.table q ≡ Claimed → IsClaimer stage q
+      calm_now stage at_r others q held h = ⊎_elim
+          (λ (e : q ≡ r). subst (IsClaimer stage) (sym e) (at_r (sym own_now ∙ ap (cell_at later.table) (sym e) ∙ h)))
+          (λ (e : row_eq q r ≡ false). others q e (known.calm q held (sym (else_now q e) ∙ h)))
+          (row_cases q r)
+
+      knows_now : (stage : Stage) → Staged later k.owner id stage → (c ≡ Claimed → IsClaimer stage r) → ((q : Row) → row_eq q r ≡ false → IsClaimer me.0.stage q → IsClaimer stage q)
+          → Knows later k.owner id (turned stage r me.0)
+      knows_now stage staged at_r others =
+          own_cell k.world r c k.owner kept is_its_row range open_c was untaken id me.0 stage known staged (λ q held h. calm_now stage at_r others q held h)
+
+      wrote_cell : (done : Step) (w : View)
+          → Condition k.world seat done
+          → after_step k.world seat done ≡ later
+          → ((j : ℕ) → j ≢ id → k.owner r ≡ j → (cell_at k.world.table r ≡ Waiting) × (is_some (joined_of c) ≡ true))
+          → ((j : ℕ) (m : Row) → j ≢ id → k.owner m ≡ j → cell_at k.world.table m ≡ Claimed → names (joined_of c) m ≡ false)
+          → Knows later k.owner id w
+          → Keeps shape (stepped s place (cell_word c) id me.1 w keeps)
+      unfolding with_cell
+      wrote_cell done w condition after by_other unnamed knows =
+          keeps_step shape s k id w _ _ seat done (known.seat, condition)
+          (ap (λ (v : World). v.table) after ∙ ap (λ (t : Table). with_cell t r c) k.table ∙ ap (λ (n : ℕ). sized shape (slice_set s.words n (cell_word c))) (ap (place_of shape.rows r) (sym zero) ∙ sym here))
+          (λ j u n e. subst (λ (v : World). Knows v k.owner j u) (sym after)
+          (others_cell k.world r c k.owner kept is_its_row range open_c was untaken j u (k.knows j u e) (λ o. by_other j n o) (λ m o h. unnamed j m n o h)))
+          (subst (λ (v : World). Knows v k.owner id w) (sym after) knows)
+
+    -- a held row that is not opened
+    opens : p ≡ 0 → me.0.stage ≡ Resting → Has me.0.held r → ¬ Has me.0.opened r → Keeps shape (stepped s place (cell_word Waiting) id me.1 (turned Resting r me.0) keeps)
+    opens zero resting held unopened =
+        let mine = known.mine r held in
+        let fresh = known.fresh r held unopened in
+        let was : joined_of (cell_at k.world.table r) ≡ None = ap joined_of fresh in
+        let untaken : is_taken (cell_at k.world.table r) ≡ false = ap is_taken fresh in
+        wrote_cell Waiting zero tt refl was untaken (Open r) (turned Resting r me.0) (mine.1, fresh) refl
+        (λ j n o. absurd (n (sym o ∙ mine.0))) (λ j m n o h. refl)
+        (knows_now Waiting zero tt refl was untaken Resting tt (λ e. let bad : Waiting ≡ Claimed = e in cc) (λ q e h. subst (λ (z : Stage). IsClaimer z q) resting h))
+
+    -- a held row that waits
+    claims : p ≡ 0 → me.0.stage ≡ Resting → Has me.0.held r → cell_at k.world.table r ≡ Waiting → Keeps shape (stepped s place (cell_word Claimed) id me.1 (turned (Claims r) r me.0) keeps)
+    claims zero resting held waits =
+        let mine = known.mine r held in
+        let was : joined_of (cell_at k.world.table r) ≡ None = ap joined_of waits in
+        let untaken : is_taken (cell_at k.world.table r) ≡ false = ap is_taken waits in
+        let unnamed = idle_unnamed k.world r kept (λ e. let bad : Waiting ≡ Claimed = sym waits ∙ e in cc) was in
+        let now = own_now Claimed zero tt refl was untaken in
+        wrote_cell Claimed zero tt refl was untaken (Claim r) (turned (Claims r) r me.0) (mine.1, waits) refl
+        (λ j n o. absurd (n (sym o ∙ mine.0))) (λ j m n o h. refl)
+        (knows_now Claimed zero tt refl was untaken (Claims r) (
+          mine.0,
+          now,
+          λ q. ⊎_elim
+              (λ (e : q ≡ r). ap (λ (y : Row). names (joined_at (with_cell k.world.table r Claimed) y) r) e ∙ ap (λ (d : Cell). names (joined_of d) r) now)
+              (λ (e : row_eq q r ≡ false). ap (λ (d : Cell). names (joined_of d) r) (else_now Claimed zero tt refl was untaken q e) ∙ unnamed q)
+              (row_cases q r),
+        )
+        (λ e. refl)
+        (λ q e h. absurd (subst (λ (z : Stage). IsClaimer z q) resting h)))
+
+    -- a row that this call has claimed, and joined with no other
+    yields : p ≡ 0 → me.0.stage ≡ Claims r → Has me.0.held r → Keeps shape (stepped s place (cell_word Waiting) id me.1 (turned Resting r me.0) keeps)
+    yields zero claiming held =
+        let mine = known.mine r held in
+        let staged = subst (λ (z : Stage). Staged k.world k.owner id z) claiming known.staged in
+        let was : joined_of (cell_at k.world.table r) ≡ None = ap joined_of staged.1 in
+        let untaken : is_taken (cell_at k.world.table r) ≡ false = ap is_taken staged.1 in
+        wrote_cell Waiting zero tt refl was untaken (Yield r) (turned Resting r me.0)
+        (mine.1, staged.1, namer_none _ (joined_at k.world.table) r staged.2) refl
+        (λ j n o. absurd (n (sym o ∙ mine.0))) (λ j m n o h. refl)
+        (knows_now Waiting zero tt refl was untaken Resting tt (λ e. let bad : Waiting ≡ Claimed = e in cc)
+        (λ q e h. false≢true (sym e ∙ ap (row_eq q) (subst (λ (z : Stage). IsClaimer z q) claiming h) ∙ row_eq-refl q)))
+
+    -- another row, which waits: it is joined with the row that this call has claimed
+    joins : p ≡ 0 → (mine : Row) (own partner : ℕ) (j : Joined) → me.0.stage ≡ Claims mine → Has me.0.held mine → CanJoin me.0 mine own r partner j
+        → cell_at k.world.table r ≡ Waiting → Keeps shape (stepped s place (cell_word (Synched j)) id me.1 (joining mine r j me.0) keeps)
+    joins zero mine own partner j claiming held can waits =
+        let staged = subst (λ (z : Stage). Staged k.world k.owner id z) claiming known.staged in
+        let was : joined_of (cell_at k.world.table r) ≡ None = ap joined_of waits in
+        let untaken : is_taken (cell_at k.world.table r) ≡ false = ap is_taken waits in
+        let meet = offers_known k.world k.owner id me.0 mine own r partner j known can in
+        let is : joined_with k.world.table mine own r partner ≡ j = joined_known k.world k.owner id me.0 mine own r partner j known can in
+        let range : IsJoinedInRange j = subst IsJoinedInRange is (join_in_range k.world mine own r partner kept (row_of_open k.world.table mine (ap is_fresh staged.1)) meet) in
+        let apart : row_eq mine r ≡ false = row_ne mine r (λ e. can.apart (ap (λ (y : Row). y.thread) e)) in
+        let partner_is : j.partner ≡ Some (mine, own) = ap (λ (y : Joined). y.partner) can.is in
+        let now = own_now (Synched j) zero range refl was untaken in
+        wrote_cell (Synched j) zero range refl was untaken (Join mine own r partner) (joining mine r j me.0)
+        ((known.mine mine held).1, staged.1, namer_none _ (joined_at k.world.table) mine staged.2, waits, can.apart, meet)
+        (ap (λ (y : Joined). with_table k.world (with_cell k.world.table r (Synched y))) is)
+        (λ i n o. (waits, refl))
+        (λ i m n o h. ap (λ (y : Option (Row × ℕ)). is_partner y m) partner_is ∙ row_ne mine m (λ e. n (sym o ∙ ap k.owner (sym e) ∙ staged.0)))
+        (learn_cell _ k.owner id (turned (Joins mine r j) r me.0) r (Synched j)
+        (knows_now (Synched j) zero range refl was untaken (Joins mine r j)
+        (staged.0, else_now (Synched j) zero range refl was untaken mine apart ∙ staged.1, ap joined_of now, ap (λ (y : Option (Row × ℕ)). is_partner y mine) partner_is ∙ row_eq-refl mine)
+        (λ e. let bad : Synched j ≡ Claimed = e in cc)
+        (λ q e h. subst (λ (z : Stage). IsClaimer z q) claiming h))
+        now)
+
+    -- a claimed row: it is committed as the row that this call joined says
+    seals : p ≡ 0 → (other : Row) (own : ℕ) (j : Joined) → me.0.stage ≡ Joins r other j → j.partner ≡ Some (r, own) → Has me.0.held r
+        → Keeps shape (stepped s place (cell_word (Synched (mirrored other j own))) id me.1 (saw r (Synched (mirrored other j own)) (turned Resting r me.0)) keeps)
+    seals zero other own j joining_now partner_is held =
+        let mine = known.mine r held in
+        let staged = subst (λ (z : Stage). Staged k.world k.owner id z) joining_now known.staged in
+        let was : joined_of (cell_at k.world.table r) ≡ None = ap joined_of staged.1 in
+        let untaken : is_taken (cell_at k.world.table r) ≡ false = ap is_taken staged.1 in
+        let open_other : is_fresh (cell_at k.world.table other) ≡ false = fresh_not_joined (cell_at k.world.table other) j staged.2 in
+        let there = row_inside k.world.table other (row_of_open k.world.table other open_other) in
+        let named : names (joined_at k.world.table other) r ≡ true = ap (λ (y : Option Joined). names y r) staged.2 ∙ staged.3 in
+        let namer : namer_at k.world r ≡ Some other = namer_is k.world.table.threads k.world.table.rows (joined_at k.world.table) r other there.0 there.1 named (λ q h. kept.linked.once q other r h named) in
+        let sealing : IsSealing k.world.table r other = record { way = j; offer = own; is = staged.2; partner = partner_is } in
+        let range = seal_in_range k.world r other sealing kept in
+        let now = own_now (Synched (mirrored other j own)) zero range refl was untaken in
+        wrote_cell (Synched (mirrored other j own)) zero range refl was untaken (Seal r) (saw r (Synched (mirrored other j own)) (turned Resting r me.0))
+        (mine.1, staged.1, ap (λ (y : Option Row). is_some y) namer)
+        (ap (λ (y : Option Joined). with_table k.world (with_seal k.world.table r y)) (sealed_is k.world.table r other (namer_at k.world r) sealing namer))
+        (λ i n o. absurd (n (sym o ∙ mine.0)))
+        (λ i m n o h. row_ne other m (λ e. let bad : None ≡ Some j = sym (ap joined_of h) ∙ ap (joined_at k.world.table) (sym e) ∙ staged.2 in cc))
+        (learn_cell _ k.owner id (turned Resting r me.0) r (Synched (mirrored other j own))
+        (knows_now (Synched (mirrored other j own)) zero range refl was untaken Resting tt
+        (λ e. let bad : Synched (mirrored other j own) ≡ Claimed = e in cc)
+        (λ q e h. false≢true (sym e ∙ ap (row_eq q) (subst (λ (z : Stage). IsClaimer z q) joining_now h) ∙ row_eq-refl q)))
+        now)
+
+module _ (shape : Shape) (slots id place : ℕ) (me : Me ℕ View) (r : Row)
+    (threads : me.0.threads ≡ shape.threads) (rows : me.0.rows ≡ shape.rows)
+    (inside : Inside shape.threads shape.rows r) where
+  pub look_allowed : place ≡ place_of shape.rows r 0 → Allows (Keeps shape) slots id me place (λ n. n) (looked (step slots place 0 0 none) me)
+  look_allowed here s k homes view range =
+      let c = cell_read (slice_index s.words place) in
+      let knows = known shape id place me r 0 threads rows inside (omega arith) here s k view in
+      let read = cell_is shape id place me r 0 threads rows inside (omega arith) here s k view refl in (
+        saw r c me.0,
+        keeps,
+        tt,
+        learnt shape id place me r 0 threads rows inside (omega arith) here s k view (saw r c me.0) (learn_cell k.world k.owner id me.0 r c knows read),
+        λ q at. ap (λ (z : Row). (saw z c me.0, me.1)) (one_word shape id place me r 0 threads rows inside (omega arith) here q 0 (omega arith) at.0 at.1).0,
+      )
+
+  pub read_allowed : (p : ℕ) → 1 ≤ p → p < 34 → Has me.0.opened r → place ≡ place_of shape.rows r p → Allows (Keeps shape) slots id me place (λ n. n) (has_read (step slots place 0 0 none) me)
+  read_allowed p high low seen here s k homes view range =
+      let x = slice_index s.words place in
+      let knows = known shape id place me r p threads rows inside low here s k view in (
+        read_word r p x me.0,
+        keeps,
+        tt,
+        learnt shape id place me r p threads rows inside low here s k view (read_word r p x me.0)
+            (learn_word k.world k.owner id me.0 r p x knows (knows.opened r seen) high low (word_is shape id place me r p threads rows inside low here s k view)),
+        λ q o h at. ap (λ (z : Row × ℕ). (read_word z.0 z.1 x me.0, me.1)) (let e = one_word shape id place me r p threads rows inside low here q o h at.0 at.1 in λ i. (e.0 i, e.1 i)),
+      )
+
+  pub draft_allowed : (p d : ℕ) → 1 ≤ p → p < 34 → is_word_for p d ≡ true → Has me.0.held r → ¬ Has me.0.opened r → place ≡ place_of shape.rows r p
+      → Allows (Keeps shape) slots id me place (λ n. d) (λ n. drafted (step slots place d 0 none) me d)
+  draft_allowed p d high low formed held unopened here s k homes view range = (
+    drafted_word r p d me.0,
+    keeps,
+    tt,
+    wrote_word shape id place me r p threads rows inside low here s k view d held unopened high formed,
+    λ q o h at. ap (λ (z : Row × ℕ). (drafted_word z.0 z.1 d me.0, me.1)) (let e = one_word shape id place me r p threads rows inside low here q o h at.0 at.1 in λ i. (e.0 i, e.1 i)),
+  )
+
+  -- a held row that is not opened
+  pub open_allowed : me.0.stage ≡ Resting → Has me.0.held r → ¬ Has me.0.opened r → place ≡ place_of shape.rows r 0
+      → Allows (Keeps shape) slots id me place (λ n. cell_word Waiting) (λ n. waits (step slots place (cell_word Waiting) 0 none) me (cell_word Waiting))
+  open_allowed resting held unopened here s k homes view range = (
+    turned Resting r me.0,
+    keeps,
+    tt,
+    opens shape id place me r 0 threads rows inside (omega arith) here s k view refl resting held unopened,
+    λ q at. ap (λ (z : Row). (turned Resting z me.0, me.1)) (one_word shape id place me r 0 threads rows inside (omega arith) here q 0 (omega arith) at.0 at.1).0,
+  )
+
+  -- a row that this call has claimed
+  pub yield_allowed : me.0.stage ≡ Claims r → Has me.0.held r → place ≡ place_of shape.rows r 0
+      → Allows (Keeps shape) slots id me place (λ n. cell_word Waiting) (λ n. waits (step slots place (cell_word Waiting) 0 none) me (cell_word Waiting))
+  yield_allowed claiming held here s k homes view range = (
+    turned Resting r me.0,
+    keeps,
+    tt,
+    yields shape id place me r 0 threads rows inside (omega arith) here s k view refl claiming held,
+    λ q at. ap (λ (z : Row). (turned Resting z me.0, me.1)) (one_word shape id place me r 0 threads rows inside (omega arith) here q 0 (omega arith) at.0 at.1).0,
+  )
+
+  -- a held row: where it is Waiting, it is this call's
+  pub claim_allowed : me.0.stage ≡ Resting → Has me.0.held r → place ≡ place_of shape.rows r 0
+      → Allows (Keeps shape) slots id me place (λ n. either (eqb n (cell_word Waiting)) (cell_word Claimed) n) (claimed (step slots place (cell_word Waiting) (cell_word Claimed) none) me)
+  claim_allowed resting held here s k homes view range =
+      let n = slice_index s.words place in
+      let read = cell_is shape id place me r 0 threads rows inside (omega arith) here s k view refl in
+      let knows = known shape id place me r 0 threads rows inside (omega arith) here s k view in
+      let one : (q : Row) → At (step {S = ℕ} slots place (cell_word Waiting) (cell_word Claimed) none) me q 0 → r ≡ q = λ q at. (one_word shape id place me r 0 threads rows inside (omega arith) here q 0 (omega arith) at.0 at.1).0 in
+      exchanged n (cell_word Waiting) (cell_word Claimed)
+      (λ x. (w : View) × (a : Act ℕ) × Valid s.homes me.1 a × Keeps shape (stepped s place x id me.1 w a) × claimed (step slots place (cell_word Waiting) (cell_word Claimed) none) me n (w, carried_after me.1 a))
+      (λ e. (
+        turned (Claims r) r me.0,
+        keeps,
+        tt,
+        claims shape id place me r 0 threads rows inside (omega arith) here s k view refl resting held (read ∙ ap cell_read e ∙ waiting_read),
+        λ q at. (λ f. ap (λ (z : Row). (turned (Claims z) z me.0, me.1)) (one q at), λ f. absurd (f e)),
+      ))
+      (λ f. (
+        saw r (cell_read n) me.0,
+        keeps,
+        tt,
+        learnt shape id place me r 0 threads rows inside (omega arith) here s k view (saw r (cell_read n) me.0) (learn_cell k.world k.owner id me.0 r (cell_read n) knows read),
+        λ q at. (λ e. absurd (f e), λ g. ap (λ (z : Row). (saw z (cell_read n) me.0, me.1)) (one q at)),
+      ))
+
+-- one word stands for one commit
+one_joined : (i j : Joined) → IsJoinedInRange i → IsJoinedInRange j → cell_word (Synched i) ≡ cell_word (Synched j) → i ≡ j
+one_joined i j a b e =
+    let both : Some (Synched i) ≡ Some (Synched j) = sym (cell_of-cell_word (Synched i) a) ∙ ap cell_of e ∙ cell_of-cell_word (Synched j) b in
+    some_inj i j (ap joined_in both)
+  where
+    joined_in : Option Cell → Option Joined
+    joined_in None = None
+    joined_in (Some c) = joined_of c
+
+module _ (shape : Shape) (slots id place : ℕ) (me : Me ℕ View) (r : Row)
+    (threads : me.0.threads ≡ shape.threads) (rows : me.0.rows ≡ shape.rows)
+    (inside : Inside shape.threads shape.rows r) where
+  -- another row: where it is Waiting, it is joined with the row that this call has claimed
+  pub join_allowed : (mine : Row) (own partner : ℕ) (j : Joined) → me.0.stage ≡ Claims mine → Has me.0.held mine → CanJoin me.0 mine own r partner j → IsJoinedInRange j → place ≡ place_of shape.rows r 0
+      → Allows (Keeps shape) slots id me place (λ n. either (eqb n (cell_word Waiting)) (cell_word (Synched j)) n) (joined (step slots place (cell_word Waiting) (cell_word (Synched j)) none) me)
+  join_allowed mine own partner j claiming held can in_range here s k homes view range =
+      let n = slice_index s.words place in
+      let read = cell_is shape id place me r 0 threads rows inside (omega arith) here s k view refl in
+      let knows = known shape id place me r 0 threads rows inside (omega arith) here s k view in
+      let one : (q : Row) → At (step {S = ℕ} slots place (cell_word Waiting) (cell_word (Synched j)) none) me q 0 → r ≡ q = λ q at. (one_word shape id place me r 0 threads rows inside (omega arith) here q 0 (omega arith) at.0 at.1).0 in
+      exchanged n (cell_word Waiting) (cell_word (Synched j))
+      (λ x. (w : View) × (a : Act ℕ) × Valid s.homes me.1 a × Keeps shape (stepped s place x id me.1 w a) × joined (step slots place (cell_word Waiting) (cell_word (Synched j)) none) me n (w, carried_after me.1 a))
+      (λ e. (
+        joining mine r j me.0,
+        keeps,
+        tt,
+        joins shape id place me r 0 threads rows inside (omega arith) here s k view refl mine own partner j claiming held can (read ∙ ap cell_read e ∙ waiting_read),
+        λ m q i stage at i_range second. (
+          λ f. let same = one_joined j i in_range i_range second in
+              let row = one q at in
+              let my : mine ≡ m = one_claim mine m (sym claiming ∙ stage) in
+              λ x. (joining (my x) (row x) (same x) me.0, me.1),
+          λ f. absurd (f e),
+        ),
+      ))
+      (λ f. (
+        saw r (cell_read n) me.0,
+        keeps,
+        tt,
+        learnt shape id place me r 0 threads rows inside (omega arith) here s k view (saw r (cell_read n) me.0) (learn_cell k.world k.owner id me.0 r (cell_read n) knows read),
+        λ m q i stage at i_range second. (λ e. absurd (f e), λ g. ap (λ (z : Row). (saw z (cell_read n) me.0, me.1)) (one q at)),
+      ))
+    where
+      one_claim : (a b : Row) → Claims a ≡ Claims b → a ≡ b
+      one_claim a b e = ap (λ (z : Stage). row_in z) e
+        where
+          row_in : Stage → Row
+          row_in Resting = a
+          row_in (Claims m) = m
+          row_in (Joins m o j) = m
+
+  -- a row that this call has claimed, and joined with another
+  pub seal_allowed : (other : Row) (own : ℕ) (j : Joined) → me.0.stage ≡ Joins r other j → j.partner ≡ Some (r, own) → Has me.0.held r → IsJoinedInRange (mirrored other j own) → place ≡ place_of shape.rows r 0
+      → Allows (Keeps shape) slots id me place (λ n. cell_word (Synched (mirrored other j own))) (λ n. sealed (step slots place (cell_word (Synched (mirrored other j own))) 0 none) me (cell_word (Synched (mirrored other j own))))
+  seal_allowed other own j joining_now partner_is held in_range here s k homes view range = (
+    saw r (Synched (mirrored other j own)) (turned Resting r me.0),
+    keeps,
+    tt,
+    seals shape id place me r 0 threads rows inside (omega arith) here s k view refl other own j joining_now partner_is held,
+    λ q i at i_range e. (λ x. (saw ((one q at) x) (Synched ((one_joined (mirrored other j own) i in_range i_range e) x)) (turned Resting ((one q at) x) me.0), me.1)),
+  )
+    where
+      one : (q : Row) → At (step {S = ℕ} slots place (cell_word (Synched (mirrored other j own))) 0 none) me q 0 → r ≡ q
+      one q at = (one_word shape id place me r 0 threads rows inside (omega arith) here q 0 (omega arith) at.0 at.1).0
+
+-- the row is inside the table that the view speaks of
+pub at_view : (shape : Shape) (v : View) (r : Row) → v.threads ≡ shape.threads → v.rows ≡ shape.rows → Inside shape.threads shape.rows r → Inside v.threads v.rows r
+at_view shape v r threads rows inside = subst (λ (z : ℕ × ℕ). Inside z.0 z.1 r) (λ i. (sym threads i, sym rows i)) inside
+
+pub place_view : (shape : Shape) (v : View) (r : Row) (p place : ℕ) → v.rows ≡ shape.rows → place ≡ place_of shape.rows r p → place ≡ place_of v.rows r p
+place_view shape v r p place rows e = e ∙ ap (λ (n : ℕ). place_of n r p) (sym rows)
+
+-- no other word reads as Waiting
+pub not_waiting : (n : ℕ) → n ≢ cell_word Waiting → cell_read n ≢ Waiting
+not_waiting n h e = ⊎_elim
+    (λ (none : cell_of n ≡ None). let bad : Fresh ≡ Waiting = sym (ap (λ (o : Option Cell). unwrap_or o Fresh) none) ∙ e in cc)
+    (λ (c : (c : Cell) × (cell_of n ≡ Some c)).
+    let is : c.0 ≡ Waiting = sym (ap (λ (o : Option Cell). unwrap_or o Fresh) c.1) ∙ e in
+    h ((cell_word-cell_of n c.0 c.1).1 ∙ ap cell_word is))
+    (cases_Option (cell_of n))

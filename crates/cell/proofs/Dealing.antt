@@ -1,0 +1,207 @@
+-- The rule holds at the start, and while the first pass deals the rows.
+use Rattle.std.proofs.Common.{slice_set, ◌≡◌, ◌≢◌, ℕ, zero, suc, ◌+◌, ◌*◌, ◌%◌, ◌<◌, ◌≤◌, Bool, true, false, cond, eqb, ◌&&◌, List, [], ◌∷◌, ◌++◌, length, replicate, sym, refl, ap, ◌∙◌, subst, ◌⊎◌, inl, inr, ⊎_elim, arith, Some}
+use Rattle.std.proofs.lemmas.Bool.{cases_Bool, lt-ltb, ltb-true, eq-eqb, eqb-true, ne_eqb, and_parts, and_from}
+use Rattle.std.proofs.Math.Bool.{and-false}
+use Rattle.std.proofs.Math.Dec.{ltb}
+use Rattle.std.proofs.lemmas.List.{length-set}
+use Rattle.std.proofs.Math.Nat.{mod-lt}
+use mathlib.Core.Option.{some, none}
+use lib.ListN.{get_elem?}
+use Rattle.atomic_table.specs.Table.{State, Splits, opening}
+use Rattle.atomic_table.proofs.Lists.{at_set}
+use Rattle.words.specs.declared.Row.{Row}
+use Rattle.words.specs.declared.Cell.TheVariants.{Fresh, Claimed}
+use Rattle.protocol.specs.Tables.{thread_len, cell_at}
+use Rattle.protocol.specs.Worlds.{World, start_world, holder_at}
+use Rattle.protocol.proofs.LedgerLemmas.{start_cell, start_holder}
+use Rattle.protocol.proofs.RowLemmas.{same_row}
+use Rattle.cell.specs.declared.view.View.{View}
+use Rattle.cell.specs.declared.view.Shape.{Shape}
+use Rattle.cell.specs.declared.view.Stage.{Stage}
+use Rattle.cell.specs.declared.view.Stage.TheVariants.{Resting, Claims, Joins}
+use Rattle.cell.specs.Views.{Has, Knows, Staged, first_row}
+use Rattle.cell.specs.Rule.{Keeps, dealer, dealt_rows, dealt_pass}
+
+-- WHO OWNS WHAT may change for rows that a pass does not own
+staged_owned : (w : World) (owner owner' : Row → ℕ) (j : ℕ) (stage : Stage) → ((r : Row) → owner r ≡ j → owner' r ≡ j) → Staged w owner j stage → Staged w owner' j stage
+staged_owned w owner owner' j Resting o h = tt
+staged_owned w owner owner' j (Claims m) o h = (o m h.0, h.1, h.2)
+staged_owned w owner owner' j (Joins m q i) o h = (o m h.0, h.1, h.2, h.3)
+
+knows_owned : (w : World) (owner owner' : Row → ℕ) (j : ℕ) (u : View) → ((r : Row) → owner r ≡ j → owner' r ≡ j) → Knows w owner j u → Knows w owner' j u
+knows_owned w owner owner' j u o k = record {
+  threads = k.threads;
+  rows = k.rows;
+  passes = k.passes;
+  seat = k.seat;
+  undealt = λ t h d. let a = k.undealt t h d in (o (first_row t) a.0, a.1, a.2);
+  mine = λ r h. let a = k.mine r h in (o r a.0, a.1);
+  calm = k.calm;
+  staged = staged_owned w owner owner' j u.stage o k.staged;
+  fresh = k.fresh;
+  drafted = λ r p x h. let a = k.drafted r p x h in (o r a.0, a.1, a.2, a.3, a.4);
+  opened = k.opened;
+  read = k.read;
+  joined = k.joined;
+  taken = k.taken;
+}
+
+-- a pass that has seen nothing
+knows_nothing : (w : World) (owner : Row → ℕ) (id : ℕ) (shape : Shape) (k : ℕ) → shape.threads ≡ w.table.threads → shape.rows ≡ w.table.rows → shape.passes ≡ w.seats → 0 < w.seats
+    → ((t : ℕ) → t < w.table.threads → k ≤ t % w.seats → (owner (first_row t) ≡ id) × (holder_at w (first_row t) ≡ Some (t % w.seats)) × (cell_at w.table (first_row t) ≡ Fresh))
+    → Knows w owner id (dealer shape k)
+knows_nothing w owner id shape k threads rows passes one_seat undealt = record {
+  threads = threads;
+  rows = rows;
+  passes = passes;
+  seat = one_seat;
+  undealt = λ t h d. let u = undealt t h d in (u.0, u.1, λ n. u.2);
+  mine = λ r h. absurd h;
+  calm = λ r h e. absurd h;
+  staged = tt;
+  fresh = λ r h n. absurd h;
+  drafted = λ r p x h. absurd h;
+  opened = λ r h. absurd h;
+  read = λ r p x h. absurd h;
+  joined = λ r j h. absurd h;
+  taken = λ r h. absurd h;
+}
+
+-- THE START
+pub keeps_start : (shape : Shape) (ws xs : List ℕ) → shape.threads ≤ 64 → 1 ≤ shape.rows → shape.rows ≤ 1024 → 1 ≤ shape.passes → ws ≡ replicate (shape.threads * thread_len shape.rows) 0
+    → Keeps shape (opening ws xs (dealer shape 0))
+unfolding start_world
+keeps_start shape ws xs few one_row few_rows one_pass zeros = record {
+  few_threads = few;
+  few_rows = few_rows;
+  history = [];
+  world = start_world shape.threads shape.rows shape.passes;
+  played = refl;
+  table = ap (λ (z : List ℕ). record { threads = shape.threads; rows = shape.rows; words = z }) (sym zeros);
+  owner = λ r. 0;
+  knows = knows_at;
+}
+  where
+    first : Knows (start_world shape.threads shape.rows shape.passes) (λ r. 0) 0 (dealer shape 0)
+    first = knows_nothing (start_world shape.threads shape.rows shape.passes) (λ r. 0) 0 shape 0 refl refl refl one_pass
+        (λ t h d. (refl, start_holder shape.threads shape.rows shape.passes (first_row t) h one_row, start_cell shape.threads shape.rows (first_row t)))
+
+    knows_at : (id : ℕ) (v : View) → get_elem? (dealer shape 0 ∷ []) id ≡ some v → Knows (start_world shape.threads shape.rows shape.passes) (λ r. 0) id v
+    knows_at zero v e = subst (λ (u : View). Knows (start_world shape.threads shape.rows shape.passes) (λ r. 0) 0 u) (mathlib.Core.Option.some-injective _ _ e) first
+    knows_at (suc id) v e = absurd (mathlib.Core.Option.some-ne-none v (sym e))
+
+-- THE ROWS OF ONE SEAT
+abbrev IsDealt : ℕ → ℕ → ℕ → Row → Type 0
+IsDealt n passes k r = (r.sync ≡ 0) × (r.thread < n) × (r.thread % passes ≡ k)
+
+has_one : (t passes k : ℕ) (r : Row) (rs : List Row) (b : Bool) → eqb (t % passes) k ≡ b → (Has rs r → IsDealt t passes k r) → Has (cond b (first_row t ∷ rs) rs) r → IsDealt (suc t) passes k r
+has_one t passes k r rs true e rest (inl f) =
+    (ap (λ (y : Row). y.sync) (sym f), (let same : t ≡ r.thread = ap (λ (y : Row). y.thread) f in omega arith), ap (λ (y : Row). y.thread % passes) (sym f) ∙ eqb-true (t % passes) k e)
+has_one t passes k r rs true e rest (inr g) = let i = rest g in (i.0, omega arith, i.2)
+has_one t passes k r rs false e rest g = let i = rest g in (i.0, omega arith, i.2)
+
+has_dealt : (n passes k : ℕ) (r : Row) → Has (dealt_rows n passes k) r → IsDealt n passes k r
+has_dealt zero passes k r h = absurd h
+has_dealt (suc t) passes k r h = has_one t passes k r (dealt_rows t passes k) (eqb (t % passes) k) refl (λ g. has_dealt t passes k r g) h
+
+-- a list with one more at its end
+at_end : {A : Type 0} (l : List A) (a b : A) (j : ℕ) → get_elem? (l ++ a ∷ []) j ≡ some b → (get_elem? l j ≡ some b) ⊎ ((j ≡ length l) × (a ≡ b))
+at_end [] a b zero e = inr (refl, mathlib.Core.Option.some-injective a b e)
+at_end [] a b (suc j) e = absurd (mathlib.Core.Option.some-ne-none b (sym e))
+at_end (x ∷ xs) a b zero e = inl e
+at_end (x ∷ xs) a b (suc j) e = ⊎_elim (λ h. inl h) (λ h. inr (ap suc h.0, h.1)) (at_end xs a b j e)
+
+module _ {S : Type 0} (shape : Shape) (id k : ℕ) (below : k < shape.passes) (s : State S View) (h : Keeps shape s) (view : get_elem? s.views id ≡ some (dealer shape k)) where
+  was : Knows h.world h.owner id (dealer shape k)
+  was = h.knows id (dealer shape k) view
+
+  abbrev new : ℕ
+  new = length s.views
+
+  abbrev is_dealt : Row → Bool
+  is_dealt r = eqb r.sync 0 && (ltb r.thread shape.threads && eqb (r.thread % shape.passes) k)
+
+  abbrev owner' : Row → ℕ
+  owner' r = cond (is_dealt r) new (h.owner r)
+
+  mod_seats : (t : ℕ) → t % h.world.seats ≡ t % shape.passes
+  mod_seats t = ap (λ (n : ℕ). t % n) (sym was.passes)
+
+  -- the rows that are dealt were the dealer's
+  dealt_his : (r : Row) → is_dealt r ≡ true → h.owner r ≡ id
+  dealt_his r e =
+      let a = and_parts (eqb r.sync 0) _ e in
+      let b = and_parts (ltb r.thread shape.threads) (eqb (r.thread % shape.passes) k) a.1 in
+      let m : k ≡ r.thread % h.world.seats = sym (mod_seats r.thread ∙ eqb-true _ _ b.1) in
+      let u = was.undealt r.thread (subst (λ (n : ℕ). r.thread < n) was.threads (ltb-true _ _ b.0)) (omega arith) in
+      ap h.owner (same_row r (first_row r.thread) refl (eqb-true r.sync 0 a.0)) ∙ u.0
+
+  kept_owner : (j : ℕ) → j ≢ id → (r : Row) → h.owner r ≡ j → owner' r ≡ j
+  kept_owner j n r e = ⊎_elim
+      (λ (d : is_dealt r ≡ true). absurd (n (sym e ∙ dealt_his r d)))
+      (λ (d : is_dealt r ≡ false). ap (λ (b : Bool). cond b new (h.owner r)) d ∙ e)
+      (cases_Bool (is_dealt r))
+
+  some_seats : 0 < h.world.seats
+  some_seats = was.seat
+
+  left : Knows h.world owner' id (dealer shape (k + 1))
+  left = knows_nothing h.world owner' id shape (k + 1) was.threads was.rows was.passes some_seats (λ t i d.
+      let u = was.undealt t i (omega arith) in
+      let m = mod_seats t in
+      (ap (λ (b : Bool). cond b new (h.owner (first_row t))) (ap (λ (b : Bool). ltb t shape.threads && b) (ne_eqb (t % shape.passes) k (λ e. omega arith)) ∙ and-false (ltb t shape.threads)) ∙ u.0, u.1, u.2 (λ z. z)))
+
+  dealt_row : (r : Row) → Has (dealt_rows shape.threads shape.passes k) r → (owner' r ≡ new) × (holder_at h.world r ≡ Some k) × (cell_at h.world.table r ≡ Fresh)
+  dealt_row r i =
+      let d = has_dealt shape.threads shape.passes k r i in
+      let m : r.thread % h.world.seats ≡ k = mod_seats r.thread ∙ d.2 in
+      let same : first_row r.thread ≡ r = same_row (first_row r.thread) r refl (sym d.0) in
+      let u = was.undealt r.thread (subst (λ (n : ℕ). r.thread < n) was.threads d.1) (omega arith) in (
+        ap (λ (b : Bool). cond b new (h.owner r)) (and_from _ _ (eq-eqb r.sync 0 d.0) (and_from _ _ (lt-ltb r.thread shape.threads d.1) (eq-eqb _ _ d.2))),
+        ap (holder_at h.world) (sym same) ∙ u.1 ∙ ap Some m,
+        ap (cell_at h.world.table) (sym same) ∙ u.2 (λ z. z),
+      )
+
+  its_pass : Knows h.world owner' new (dealt_pass (dealer shape k))
+  its_pass = record {
+    threads = was.threads;
+    rows = was.rows;
+    passes = was.passes;
+    seat = subst (λ (n : ℕ). k < n) was.passes below;
+    undealt = λ t i d. let m = mod-lt t some_seats in let p = was.passes in absurd (omega arith);
+    mine = λ r i. let g = dealt_row r i in (g.0, g.1);
+    calm = λ r i e. let g = dealt_row r i in let bad : Fresh ≡ Claimed = sym g.2 ∙ e in cc;
+    staged = tt;
+    fresh = λ r i n. (dealt_row r i).2;
+    drafted = λ r p x i. absurd i;
+    opened = λ r i. absurd i;
+    read = λ r p x i. absurd i;
+    joined = λ r j i. absurd i;
+    taken = λ r i. absurd i;
+  }
+
+  at_old : (j : ℕ) (u : View) → get_elem? (slice_set s.views id (dealer shape (k + 1))) j ≡ some u → Knows h.world owner' j u
+  at_old j u e = ⊎_elim
+      (λ (a : (j ≡ id) × (dealer shape (k + 1) ≡ u)). subst (λ (z : ℕ × View). Knows h.world owner' z.0 z.1) (λ i. (sym a.0 i, a.1 i)) left)
+      (λ (a : (j ≢ id) × (get_elem? s.views j ≡ some u)). knows_owned h.world h.owner owner' j u (kept_owner j a.0) (h.knows j u a.1))
+      (at_set s.views id j (dealer shape (k + 1)) u e)
+
+  deals : Keeps shape (record { words = s.words; homes = s.homes; views = slice_set s.views id (dealer shape (k + 1)) ++ dealt_pass (dealer shape k) ∷ [] })
+  deals = record {
+    few_threads = h.few_threads;
+    few_rows = h.few_rows;
+    history = h.history;
+    world = h.world;
+    played = h.played;
+    table = h.table;
+    owner = owner';
+    knows = λ j u e. ⊎_elim (λ old. at_old j u old) (λ now. subst (λ (z : ℕ × View). Knows h.world owner' z.0 z.1) (λ i. (sym (now.0 ∙ length-set s.views id (dealer shape (k + 1))) i, now.1 i)) its_pass) (at_end (slice_set s.views id (dealer shape (k + 1))) (dealt_pass (dealer shape k)) u j e);
+  }
+
+pub deal_allowed : {S : Type 0} (shape : Shape) (id k : ℕ) → k < shape.passes → Splits {S = S} (Keeps shape) id (dealer shape k) (dealer shape (k + 1)) (dealt_pass (dealer shape k))
+deal_allowed shape id k below s h view = deals shape id k below s h view
+
+-- a table has some words
+pub some_words : (threads rows : ℕ) → 1 ≤ threads → 0 < threads * thread_len rows
+some_words zero rows h = absurd (omega arith)
+some_words (suc threads) rows h = omega (arith, Rattle.std.proofs.Math.Nat.suc-mul threads (thread_len rows))

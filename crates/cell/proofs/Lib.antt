@@ -1,0 +1,4 @@
+pub mod Others
+pub mod Turning
+pub mod Allowing
+pub mod Dealing

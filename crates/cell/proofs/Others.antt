@@ -1,0 +1,344 @@
+-- What passes have seen stays true at every step, whoever makes it.
+use Rattle.std.proofs.Common.{◌≡◌, ℕ, ◌<◌, ◌≤◌, Bool, true, false, cond, eqb, ◌&&◌, List, [], ◌∷◌, sym, refl, ap, ◌∙◌, subst, ◌⊎◌, inl, inr, ⊎_elim, arith, Option, Some, None, is_some}
+use Rattle.std.proofs.lemmas.Bool.{cases_Bool, cases_eq, false≢true, true≢false}
+use Rattle.words.specs.declared.Row.{Row}
+use Rattle.words.specs.declared.Joined.{Joined}
+use Rattle.words.specs.declared.Cell.{Cell}
+use Rattle.words.specs.declared.Cell.TheVariants.{Fresh, Waiting, Claimed, Synched, Taken}
+use Rattle.words.specs.Words.{cell_word, IsCellInRange}
+use Rattle.cell.specs.declared.view.View.{View}
+use Rattle.cell.specs.declared.view.Stage.{Stage}
+use Rattle.cell.specs.declared.view.Stage.TheVariants.{Resting, Claims, Joins}
+use Rattle.protocol.specs.Tables.{Table, is_row, row_eq, cell_at, is_fresh, joined_of, joined_at, names, word_at}
+use Rattle.protocol.specs.Worlds.{World, holder_at, with_word, with_cell, with_table}
+use Rattle.protocol.specs.Kept.{Kept}
+use Rattle.protocol.proofs.RowLemmas.{row_cases, row_ne, put, put_same, put_other}
+use Rattle.protocol.proofs.Places.{word_other, is_row_after}
+use Rattle.protocol.proofs.Readings.{cell_after_cell, cell_after_word, row_of_open}
+use Rattle.cell.specs.Views.{Has, first_row, is_taken, IsClaimer, Staged, Knows, turned, saw, read_word, without, drafted_word}
+
+holder_kept : (w : World) (t : Table) (r : Row) → t.threads ≡ w.table.threads → t.rows ≡ w.table.rows → holder_at (with_table w t) r ≡ holder_at w r
+holder_kept = Rattle.protocol.proofs.Keeping.holder_same
+
+-- A CELL IS WRITTEN: the row x, which was not joined, is open from then on
+module _ (w : World) (x : Row) (c : Cell) (owner : Row → ℕ) (k : Kept w)
+    (row : is_row w.table x ≡ true)
+    (range : IsCellInRange c)
+    (open_c : is_fresh c ≡ false)
+    (was : joined_of (cell_at w.table x) ≡ None)
+    (untaken : is_taken (cell_at w.table x) ≡ false) where
+  cells : cell_at (with_cell w.table x c) ≡ put (cell_at w.table) x c
+  cells = cell_after_cell w.table x c k.sized row range
+
+  same_cell : (r : Row) → row_eq r x ≡ false → cell_at (with_cell w.table x c) r ≡ cell_at w.table r
+  same_cell r e = ap (λ (f : Row → Cell). f r) cells ∙ put_other (cell_at w.table) x c r e
+
+  at_x : cell_at (with_cell w.table x c) x ≡ c
+  at_x = ap (λ (f : Row → Cell). f x) cells ∙ put_same (cell_at w.table) x c
+
+  stays_open : (r : Row) → is_fresh (cell_at w.table r) ≡ false → is_fresh (cell_at (with_cell w.table x c) r) ≡ false
+  stays_open r h = ⊎_elim
+      (λ (e : r ≡ x). ap (λ (y : Row). is_fresh (cell_at (with_cell w.table x c) y)) e ∙ ap is_fresh at_x ∙ open_c)
+      (λ (e : row_eq r x ≡ false). ap is_fresh (same_cell r e) ∙ h)
+      (row_cases r x)
+
+  stays_joined : (r : Row) (j : Joined) → joined_at w.table r ≡ Some j → joined_at (with_cell w.table x c) r ≡ Some j
+  stays_joined r j h = ⊎_elim
+      (λ (e : r ≡ x). let bad : None ≡ Some j = sym was ∙ ap (λ (y : Row). joined_at w.table y) (sym e) ∙ h in cc)
+      (λ (e : row_eq r x ≡ false). ap joined_of (same_cell r e) ∙ h)
+      (row_cases r x)
+
+  stays_taken : (r : Row) → is_taken (cell_at w.table r) ≡ true → is_taken (cell_at (with_cell w.table x c) r) ≡ true
+  stays_taken r h = ⊎_elim
+      (λ (e : r ≡ x). absurd (false≢true (sym untaken ∙ ap (λ (y : Row). is_taken (cell_at w.table y)) (sym e) ∙ h)))
+      (λ (e : row_eq r x ≡ false). ap is_taken (same_cell r e) ∙ h)
+      (row_cases r x)
+
+  -- the words behind the cells stay
+  stays_word : (r : Row) (p : ℕ) → is_row w.table r ≡ true → 1 ≤ p → p < 34 → word_at (with_cell w.table x c) r p ≡ word_at w.table r p
+  unfolding with_cell
+  stays_word r p h a b = word_other w.table x r 0 p (cell_word c) row h (omega arith) b (inr (λ (z : p ≡ 0). absurd (omega arith)))
+
+  -- the world after it has the size and the holders of the world before
+  pub size_kept : ((with_cell w.table x c).threads ≡ w.table.threads) × ((with_cell w.table x c).rows ≡ w.table.rows)
+  unfolding with_cell
+  size_kept = (refl, refl)
+
+  still_row : (r : Row) → is_row (with_cell w.table x c) r ≡ is_row w.table r
+  unfolding with_cell
+  still_row r = is_row_after w.table x r 0 (cell_word c)
+
+  -- a row that is claimed before and not x is claimed after
+  stays_claimed : (m : Row) → cell_at w.table m ≡ Claimed → row_eq m x ≡ false → cell_at (with_cell w.table x c) m ≡ Claimed
+  stays_claimed m h e = same_cell m e ∙ h
+
+  module _ (id : ℕ) (v : View) (knows : Knows w owner id v)
+      -- where the pass owns x, its open row is joined by another
+      (joined_by_other : owner x ≡ id → (cell_at w.table x ≡ Waiting) × (is_some (joined_of c) ≡ true))
+      -- no claimed row of the pass is named by the new cell
+      (unnamed : (m : Row) → owner m ≡ id → cell_at w.table m ≡ Claimed → names (joined_of c) m ≡ false) where
+    claimed_other : (m : Row) → owner m ≡ id → cell_at w.table m ≡ Claimed → row_eq m x ≡ false
+    claimed_other m o h = row_ne m x (λ e.
+        let waits = (joined_by_other (ap owner (sym e) ∙ o)).0 in
+        let bad : Waiting ≡ Claimed = sym waits ∙ ap (cell_at w.table) (sym e) ∙ h in
+        cc)
+
+    staged_kept : (stage : Stage) → Staged w owner id stage → Staged (with_table w (with_cell w.table x c)) owner id stage
+    staged_kept Resting h = tt
+    staged_kept (Claims m) h = (
+      h.0,
+      stays_claimed m h.1 (claimed_other m h.0 h.1),
+      λ q. ⊎_elim
+          (λ (e : q ≡ x). ap (λ (y : Row). names (joined_at (with_cell w.table x c) y) m) e ∙ ap (λ (d : Cell). names (joined_of d) m) at_x ∙ unnamed m h.0 h.1)
+          (λ (e : row_eq q x ≡ false). ap (λ (d : Cell). names (joined_of d) m) (same_cell q e) ∙ h.2 q)
+          (row_cases q x),
+    )
+    staged_kept (Joins m o j) h = (h.0, stays_claimed m h.1 (claimed_other m h.0 h.1), stays_joined o j h.2, h.3)
+
+    pub others_cell : Knows (with_table w (with_cell w.table x c)) owner id v
+    others_cell = record {
+      threads = knows.threads ∙ sym size_kept.0;
+      rows = knows.rows ∙ sym size_kept.1;
+      passes = knows.passes;
+      seat = knows.seat;
+      undealt = λ t h d.
+          let u = knows.undealt t (subst (λ (n : ℕ). t < n) size_kept.0 h) d in (
+            u.0,
+            holder_kept w (with_cell w.table x c) (first_row t) size_kept.0 size_kept.1 ∙ u.1,
+            λ n. ⊎_elim
+                (λ (y : first_row t ≡ x).
+                let waits = (joined_by_other (ap owner (sym y) ∙ u.0)).0 in
+                let bad : Fresh ≡ Waiting = sym (u.2 n) ∙ ap (cell_at w.table) y ∙ waits in
+                cc)
+                (λ (y : row_eq (first_row t) x ≡ false). same_cell (first_row t) y ∙ u.2 n)
+                (row_cases (first_row t) x),
+          );
+      mine = λ r h. let m = knows.mine r h in (m.0, holder_kept w (with_cell w.table x c) r size_kept.0 size_kept.1 ∙ m.1);
+      calm = λ r h e. knows.calm r h (⊎_elim
+          (λ (y : r ≡ x).
+          let some = (joined_by_other (ap owner (sym y) ∙ (knows.mine r h).0)).1 in
+          let none : joined_of c ≡ None = ap joined_of (sym at_x ∙ ap (cell_at (with_cell w.table x c)) (sym y) ∙ e) in
+          absurd (false≢true (sym (ap (λ (o : Option Joined). is_some o) none) ∙ some)))
+          (λ (y : row_eq r x ≡ false). sym (same_cell r y) ∙ e)
+          (row_cases r x));
+      staged = staged_kept v.stage knows.staged;
+      fresh = λ r h n. ⊎_elim
+          (λ (y : r ≡ x).
+          let waits = (joined_by_other (ap owner (sym y) ∙ (knows.mine r h).0)).0 in
+          let bad : Fresh ≡ Waiting = sym (knows.fresh r h n) ∙ ap (cell_at w.table) y ∙ waits in
+          cc)
+          (λ (y : row_eq r x ≡ false). same_cell r y ∙ knows.fresh r h n)
+          (row_cases r x);
+      drafted = λ r p d h. let k = knows.drafted r p d h in (k.0, k.1, k.2, still_row r ∙ k.3, stays_word r p k.3 k.2 k.1 ∙ k.4);
+      opened = λ r h. stays_open r (knows.opened r h);
+      read = λ r p d h. let k = knows.read r p d h in (stays_open r k.0, k.1, k.2, stays_word r p (row_of_open w.table r k.0) k.2 k.1 ∙ k.3);
+      joined = λ r j h. stays_joined r j (knows.joined r j h);
+      taken = λ r h. stays_taken r (knows.taken r h);
+    }
+
+  -- the cells after it
+  pub cell_now : cell_at (with_cell w.table x c) x ≡ c
+  cell_now = at_x
+
+  pub cell_else : (r : Row) → row_eq r x ≡ false → cell_at (with_cell w.table x c) r ≡ cell_at w.table r
+  cell_else = same_cell
+
+  -- the pass that writes the cell
+  pub own_cell : (id : ℕ) (v : View) (stage : Stage) → Knows w owner id v
+      → Staged (with_table w (with_cell w.table x c)) owner id stage
+      → ((r : Row) → Has v.held r → cell_at (with_cell w.table x c) r ≡ Claimed → IsClaimer stage r)
+      → Knows (with_table w (with_cell w.table x c)) owner id (turned stage x v)
+  own_cell id v stage knows staged calm = record {
+    threads = knows.threads ∙ sym size_kept.0;
+    rows = knows.rows ∙ sym size_kept.1;
+    passes = knows.passes;
+    seat = knows.seat;
+    undealt = λ t h d.
+        let u = knows.undealt t (subst (λ (n : ℕ). t < n) size_kept.0 h) d in
+        (u.0, holder_kept w (with_cell w.table x c) (first_row t) size_kept.0 size_kept.1 ∙ u.1, λ n. same_cell (first_row t) (row_ne (first_row t) x (λ e. n (inl (sym e)))) ∙ u.2 (λ o. n (inr o)));
+    mine = λ r h. let m = knows.mine r h in (m.0, holder_kept w (with_cell w.table x c) r size_kept.0 size_kept.1 ∙ m.1);
+    calm = calm;
+    staged = staged;
+    fresh = λ r h n. same_cell r (row_ne r x (λ e. n (inl (sym e)))) ∙ knows.fresh r h (λ o. n (inr o));
+    drafted = λ r p d h. let k = knows.drafted r p d h in (k.0, k.1, k.2, still_row r ∙ k.3, stays_word r p k.3 k.2 k.1 ∙ k.4);
+    opened = λ r h. opened_now r h;
+    read = λ r p d h. let k = knows.read r p d h in (stays_open r k.0, k.1, k.2, stays_word r p (row_of_open w.table r k.0) k.2 k.1 ∙ k.3);
+    joined = λ r j h. stays_joined r j (knows.joined r j h);
+    taken = λ r h. stays_taken r (knows.taken r h);
+  }
+    where
+      opened_now : (r : Row) → Has (x ∷ v.opened) r → is_fresh (cell_at (with_cell w.table x c) r) ≡ false
+      opened_now r (inl e) = ap (λ (y : Row). is_fresh (cell_at (with_cell w.table x c) y)) (sym e) ∙ ap is_fresh at_x ∙ open_c
+      opened_now r (inr h) = stays_open r (knows.opened r h)
+
+-- LEARNING, with no change of the table
+
+know_more : (w : World) (owner : Row → ℕ) (id : ℕ) (v : View) (r : Row) (js : List (Row × Joined)) (ts : List Row) → Knows w owner id v → is_fresh (cell_at w.table r) ≡ false
+    → ((q : Row) (j : Joined) → Has js (q, j) → joined_at w.table q ≡ Some j)
+    → ((q : Row) → Has ts q → is_taken (cell_at w.table q) ≡ true)
+    → Knows w owner id (record {
+      threads = v.threads;
+      rows = v.rows;
+      passes = v.passes;
+      dealt = v.dealt;
+      seat = v.seat;
+      stage = v.stage;
+      held = v.held;
+      drafts = v.drafts;
+      opened = r ∷ v.opened;
+      words = v.words;
+      joined = js;
+      taken = ts;
+    })
+know_more w owner id v r js ts k f js_true ts_true = record {
+  threads = k.threads;
+  rows = k.rows;
+  passes = k.passes;
+  seat = k.seat;
+  undealt = λ t h d. let u = k.undealt t h d in (u.0, u.1, λ n. u.2 (λ o. n (inr o)));
+  mine = k.mine;
+  calm = k.calm;
+  staged = k.staged;
+  fresh = λ q h n. k.fresh q h (λ o. n (inr o));
+  drafted = k.drafted;
+  opened = λ q h. ⊎_elim (λ (e : r ≡ q). ap (λ (y : Row). is_fresh (cell_at w.table y)) (sym e) ∙ f) (λ (o : Has v.opened q). k.opened q o) h;
+  read = k.read;
+  joined = js_true;
+  taken = ts_true;
+}
+
+pub learn_cell : (w : World) (owner : Row → ℕ) (id : ℕ) (v : View) (r : Row) (c : Cell) → Knows w owner id v → cell_at w.table r ≡ c → Knows w owner id (saw r c v)
+learn_cell w owner id v r Fresh k e = k
+learn_cell w owner id v r Waiting k e = know_more w owner id v r v.joined v.taken k (ap is_fresh e) k.joined k.taken
+learn_cell w owner id v r Claimed k e = know_more w owner id v r v.joined v.taken k (ap is_fresh e) k.joined k.taken
+learn_cell w owner id v r (Synched j) k e =
+    know_more w owner id v r ((r, j) ∷ v.joined) v.taken k (ap is_fresh e) (λ q i h. seen q i h) k.taken
+  where
+    seen : (q : Row) (i : Joined) → Has ((r, j) ∷ v.joined) (q, i) → joined_at w.table q ≡ Some i
+    seen q i (inl p) = ap (λ (z : Row × Joined). joined_at w.table z.0) (sym p) ∙ ap joined_of e ∙ ap (λ (z : Row × Joined). Some z.1) p
+    seen q i (inr h) = k.joined q i h
+learn_cell w owner id v r (Taken j) k e =
+    know_more w owner id v r ((r, j) ∷ v.joined) (r ∷ v.taken) k (ap is_fresh e) (λ q i h. seen q i h) (λ q h. took q h)
+  where
+    seen : (q : Row) (i : Joined) → Has ((r, j) ∷ v.joined) (q, i) → joined_at w.table q ≡ Some i
+    seen q i (inl p) = ap (λ (z : Row × Joined). joined_at w.table z.0) (sym p) ∙ ap joined_of e ∙ ap (λ (z : Row × Joined). Some z.1) p
+    seen q i (inr h) = k.joined q i h
+
+    took : (q : Row) → Has (r ∷ v.taken) q → is_taken (cell_at w.table q) ≡ true
+    took q (inl p) = ap (λ (y : Row). is_taken (cell_at w.table y)) (sym p) ∙ ap is_taken e
+    took q (inr h) = k.taken q h
+
+pub learn_word : (w : World) (owner : Row → ℕ) (id : ℕ) (v : View) (r : Row) (p x : ℕ) → Knows w owner id v → is_fresh (cell_at w.table r) ≡ false → 1 ≤ p → p < 34 → word_at w.table r p ≡ x → Knows w owner id (read_word r p x v)
+learn_word w owner id v r p x k f a b e = record {
+  threads = k.threads;
+  rows = k.rows;
+  passes = k.passes;
+  seat = k.seat;
+  undealt = k.undealt;
+  mine = k.mine;
+  calm = k.calm;
+  staged = k.staged;
+  fresh = k.fresh;
+  drafted = k.drafted;
+  opened = k.opened;
+  read = λ q o y h. seen q o y h;
+  joined = k.joined;
+  taken = k.taken;
+}
+  where
+    seen : (q : Row) (o y : ℕ) → Has ((r, p, x) ∷ v.words) (q, o, y) → (is_fresh (cell_at w.table q) ≡ false) × (o < 34) × (1 ≤ o) × (word_at w.table q o ≡ y)
+    seen q o y (inl i) = subst (λ (z : Row × ℕ × ℕ). (is_fresh (cell_at w.table z.0) ≡ false) × (z.1 < 34) × (1 ≤ z.1) × (word_at w.table z.0 z.1 ≡ z.2)) i (f, b, a, e)
+    seen q o y (inr h) = k.read q o y h
+
+-- A WORD OF A FRESH ROW IS DRAFTED by its owner
+module _ (w : World) (x : Row) (p d : ℕ) (owner : Row → ℕ) (k : Kept w)
+    (row : is_row w.table x ≡ true)
+    (low : 1 ≤ p)
+    (high : p < 34)
+    (unopened : cell_at w.table x ≡ Fresh) where
+  cells_stay : (r : Row) → cell_at (with_word w.table x p d) r ≡ cell_at w.table r
+  cells_stay r = cell_after_word w.table x r p d row low high
+
+  words_stay : (r : Row) (q : ℕ) → is_row w.table r ≡ true → q < 34 → (row_eq r x ≡ false) ⊎ (q ≡ p → ⊥) → word_at (with_word w.table x p d) r q ≡ word_at w.table r q
+  words_stay r q h b n = word_other w.table x r p q d row h high b n
+
+  open_not_x : (r : Row) → is_fresh (cell_at w.table r) ≡ false → row_eq r x ≡ false
+  open_not_x r h = row_ne r x (λ e. false≢true (sym h ∙ ap (λ (y : Row). is_fresh (cell_at w.table y)) e ∙ ap is_fresh unopened))
+
+  staged_draft : (id : ℕ) (stage : Stage) → Staged w owner id stage → Staged (with_table w (with_word w.table x p d)) owner id stage
+  staged_draft id Resting h = tt
+  staged_draft id (Claims m) h = (h.0, cells_stay m ∙ h.1, λ q. ap (λ (c : Cell). names (joined_of c) m) (cells_stay q) ∙ h.2 q)
+  staged_draft id (Joins m o j) h = (h.0, cells_stay m ∙ h.1, ap joined_of (cells_stay o) ∙ h.2, h.3)
+
+  read_kept : (r : Row) (q y : ℕ) → (is_fresh (cell_at w.table r) ≡ false) × (q < 34) × (1 ≤ q) × (word_at w.table r q ≡ y) → (is_fresh (cell_at (with_word w.table x p d) r) ≡ false) × (q < 34) × (1 ≤ q) × (word_at (with_word w.table x p d) r q ≡ y)
+  read_kept r q y h = (ap is_fresh (cells_stay r) ∙ h.0, h.1, h.2, words_stay r q (row_of_open w.table r h.0) h.1 (inl (open_not_x r h.0)) ∙ h.3)
+
+  after_draft : (id : ℕ) (v : View) (ds : List (Row × ℕ × ℕ)) → Knows w owner id v
+      → ((r : Row) (q y : ℕ) → Has ds (r, q, y) → (owner r ≡ id) × (q < 34) × (1 ≤ q) × (is_row (with_word w.table x p d) r ≡ true) × (word_at (with_word w.table x p d) r q ≡ y))
+      → Knows (with_table w (with_word w.table x p d)) owner id (record {
+        threads = v.threads;
+        rows = v.rows;
+        passes = v.passes;
+        dealt = v.dealt;
+        seat = v.seat;
+        stage = v.stage;
+        held = v.held;
+        drafts = ds;
+        opened = v.opened;
+        words = v.words;
+        joined = v.joined;
+        taken = v.taken;
+      })
+  after_draft id v ds knows drafted = record {
+    threads = knows.threads;
+    rows = knows.rows;
+    passes = knows.passes;
+    seat = knows.seat;
+    undealt = λ t h e. let u = knows.undealt t h e in (u.0, holder_kept w (with_word w.table x p d) (first_row t) refl refl ∙ u.1, λ n. cells_stay (first_row t) ∙ u.2 n);
+    mine = λ r h. let m = knows.mine r h in (m.0, holder_kept w (with_word w.table x p d) r refl refl ∙ m.1);
+    calm = λ r h e. knows.calm r h (sym (cells_stay r) ∙ e);
+    staged = staged_draft id v.stage knows.staged;
+    fresh = λ r h n. cells_stay r ∙ knows.fresh r h n;
+    drafted = drafted;
+    opened = λ r h. ap is_fresh (cells_stay r) ∙ knows.opened r h;
+    read = λ r q y h. read_kept r q y (knows.read r q y h);
+    joined = λ r j h. ap joined_of (cells_stay r) ∙ knows.joined r j h;
+    taken = λ r h. ap is_taken (cells_stay r) ∙ knows.taken r h;
+  }
+
+  pub others_draft : (id : ℕ) (v : View) → Knows w owner id v → (owner x ≡ id → ⊥) → Knows (with_table w (with_word w.table x p d)) owner id v
+  others_draft id v knows other = after_draft id v v.drafts knows (λ r q y h.
+      let k = knows.drafted r q y h in
+      (k.0, k.1, k.2, is_row_after w.table x r p d ∙ k.3, words_stay r q k.3 k.1 (inl (row_ne r x (λ e. other (ap owner (sym e) ∙ k.0)))) ∙ k.4))
+
+  -- what was drafted at other places stays
+  abbrev Elsewhere : List (Row × ℕ × ℕ) → Row → ℕ → ℕ → Type 0
+  Elsewhere ds r q y = Has ds (r, q, y) × ((row_eq r x ≡ false) ⊎ (q ≡ p → ⊥))
+
+  entry_elsewhere : (e : Row × ℕ × ℕ) (r : Row) (q y : ℕ) → e ≡ (r, q, y) → (row_eq e.0 x ≡ false) ⊎ (eqb e.1 p ≡ false) → (row_eq r x ≡ false) ⊎ (q ≡ p → ⊥)
+  entry_elsewhere e r q y f (inl a) = inl (ap (λ (z : Row × ℕ × ℕ). row_eq z.0 x) (sym f) ∙ a)
+  entry_elsewhere e r q y f (inr a) = inr (λ g. false≢true (sym a ∙ ap (λ (z : Row × ℕ × ℕ). eqb z.1 p) f ∙ Rattle.std.proofs.lemmas.Bool.eq-eqb q p g))
+
+  kept_entry : (e : Row × ℕ × ℕ) (ds ks : List (Row × ℕ × ℕ)) (r : Row) (q y : ℕ) (a b : Bool) → row_eq e.0 x ≡ a → eqb e.1 p ≡ b
+      → (Has ks (r, q, y) → Elsewhere ds r q y) → Has (cond (a && b) ks (e ∷ ks)) (r, q, y) → Elsewhere (e ∷ ds) r q y
+  kept_entry e ds ks r q y true true s t rest h = let k = rest h in (inr k.0, k.1)
+  kept_entry e ds ks r q y true false s t rest (inl f) = (inl f, entry_elsewhere e r q y f (inr t))
+  kept_entry e ds ks r q y true false s t rest (inr h) = let k = rest h in (inr k.0, k.1)
+  kept_entry e ds ks r q y false b s t rest (inl f) = (inl f, entry_elsewhere e r q y f (inl s))
+  kept_entry e ds ks r q y false b s t rest (inr h) = let k = rest h in (inr k.0, k.1)
+
+  kept_drafts : (ds : List (Row × ℕ × ℕ)) (r : Row) (q y : ℕ) → Has (without x p ds) (r, q, y) → Elsewhere ds r q y
+  kept_drafts [] r q y h = absurd h
+  kept_drafts (e ∷ ds) r q y h = kept_entry e ds (without x p ds) r q y (row_eq e.0 x) (eqb e.1 p) refl refl (λ i. kept_drafts ds r q y i) h
+
+  pub own_draft : (id : ℕ) (v : View) → Knows w owner id v → owner x ≡ id → Knows (with_table w (with_word w.table x p d)) owner id (drafted_word x p d v)
+  own_draft id v knows mine = after_draft id v ((x, p, d) ∷ without x p v.drafts) knows (λ r q y h. drafted_now r q y h)
+    where
+      drafted_now : (r : Row) (q y : ℕ) → Has ((x, p, d) ∷ without x p v.drafts) (r, q, y) → (owner r ≡ id) × (q < 34) × (1 ≤ q) × (is_row (with_word w.table x p d) r ≡ true) × (word_at (with_word w.table x p d) r q ≡ y)
+      drafted_now r q y (inl e) =
+          subst (λ (z : Row × ℕ × ℕ). (owner z.0 ≡ id) × (z.1 < 34) × (1 ≤ z.1) × (is_row (with_word w.table x p d) z.0 ≡ true) × (word_at (with_word w.table x p d) z.0 z.1 ≡ z.2)) e
+          (mine, high, low, is_row_after w.table x x p d ∙ row, Rattle.protocol.proofs.Places.word_same w.table x p d k.sized row high)
+      drafted_now r q y (inr h) =
+          let was = kept_drafts v.drafts r q y h in
+          let k = knows.drafted r q y was.0 in
+          (k.0, k.1, k.2, is_row_after w.table x r p d ∙ k.3, words_stay r q k.3 k.1 was.1 ∙ k.4)

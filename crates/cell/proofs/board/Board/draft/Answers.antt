@@ -1,0 +1,23 @@
+use Rattle.std.proofs.Common.{rules, subst, sym, ap, ◌∙◌, ◌≡◌}
+use mathlib.Core.Option.{none}
+use Rattle.atomic_table.specs.Table.{Allows, step}
+use Rattle.cell.specs.declared.view.Shape.{Shape}
+use Rattle.cell.specs.Rule.{Keeps}
+use Rattle.cell.specs.Told.{drafted}
+use Rattle.cell.specs.Views.{drafted_word}
+use Rattle.cell.proofs.Allowing.{draft_allowed, at_view, place_view}
+use Rattle.cell.proofs.board.Board.draft.Goals as goal
+
+pub store-requires : goal.store-requires
+store-requires c = (
+  search rules,
+  search rules,
+  subst (λ (z : Shape). Allows (Keeps z) c.args.self.now.words.shared.table_id.slots c.args.seat.now.id c.args.seat.now.me c.place.result (λ n. c.args.word) (λ n. drafted (step c.args.self.now.words.shared.table_id.slots c.place.result c.args.word 0 none) c.args.seat.now.me c.args.word)) (sym c.args.self.now.keyed)
+      (draft_allowed c.args.self.now.shape c.args.self.now.words.shared.table_id.slots c.args.seat.now.id c.place.result c.args.seat.now.me c.args.row (search rules) (search rules) (search rules) c.args.place c.args.word (search rules) (search rules) (search rules) (search rules) (search rules) (search rules)),
+)
+
+told : (c : goal.After-store) → c.store.new.seat.me ≡ (drafted_word c.args.row c.args.place c.args.word c.args.seat.now.me.0, c.args.seat.now.me.1)
+told c = c.store.ensures.2 c.args.row c.args.place (search rules) (at_view c.args.self.now.shape c.args.seat.now.me.0 c.args.row (search rules) (search rules) (search rules), place_view c.args.self.now.shape c.args.seat.now.me.0 c.args.row c.args.place c.place.result (search rules) (search rules))
+
+pub returns-clause-sits : goal.returns-clause-sits
+returns-clause-sits c = ((search rules), ((search rules), ap (λ z. z.0.threads) (told c) ∙ (search rules), ap (λ z. z.0.rows) (told c) ∙ (search rules)))

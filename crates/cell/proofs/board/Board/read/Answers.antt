@@ -1,0 +1,26 @@
+use Rattle.std.proofs.Common.{rules, subst, sym, ap, ◌∙◌, ◌≡◌}
+use mathlib.Core.Option.{none}
+use Rattle.atomic_table.specs.Table.{Allows, step}
+use Rattle.cell.specs.declared.view.Shape.{Shape}
+use Rattle.cell.specs.Rule.{Keeps}
+use Rattle.cell.specs.Told.{has_read}
+use Rattle.cell.specs.Views.{read_word}
+use Rattle.cell.proofs.Allowing.{read_allowed, at_view, place_view}
+use Rattle.cell.proofs.board.Board.read.Goals as goal
+
+pub load-requires : goal.load-requires
+load-requires c = (
+  search rules,
+  search rules,
+  subst (λ (z : Shape). Allows (Keeps z) c.args.self.now.words.shared.table_id.slots c.args.seat.now.id c.args.seat.now.me c.place.result (λ n. n) (has_read (step c.args.self.now.words.shared.table_id.slots c.place.result 0 0 none) c.args.seat.now.me)) (sym c.args.self.now.keyed)
+      (read_allowed c.args.self.now.shape c.args.self.now.words.shared.table_id.slots c.args.seat.now.id c.place.result c.args.seat.now.me c.args.row (search rules) (search rules) (search rules) c.args.place (search rules) (search rules) (search rules) (search rules)),
+)
+
+told : (c : goal.After-load) → c.load.new.seat.me ≡ (read_word c.args.row c.args.place c.load.result c.args.seat.now.me.0, c.args.seat.now.me.1)
+told c = c.load.ensures.2 c.args.row c.args.place (search rules) (at_view c.args.self.now.shape c.args.seat.now.me.0 c.args.row (search rules) (search rules) (search rules), place_view c.args.self.now.shape c.args.seat.now.me.0 c.args.row c.args.place c.place.result (search rules) (search rules))
+
+pub returns-clause-sits : goal.returns-clause-sits
+returns-clause-sits c = ((search rules), ((search rules), ap (λ z. z.0.threads) (told c) ∙ (search rules), ap (λ z. z.0.rows) (told c) ∙ (search rules)))
+
+pub returns-clause-read : goal.returns-clause-read
+returns-clause-read c = ap (λ z. z.0) (told c)

@@ -1,0 +1,4 @@
+pub mod Views
+pub mod Rule
+pub mod Told
+pub mod Seats

@@ -1,0 +1,107 @@
+//! The table and its rule.
+
+ghost use Rattle.std.specs.Prelude.{◌≡◌, ◌*◌, ◌<◌, ◌≤◌, []};
+ghost use Rattle.protocol.specs.Tables.{thread_len};
+
+use crate::view::{Shape, View};
+use atomic_table::{Play, Split, Table, TableRule};
+use std::alloc::Global;
+
+/// The rule of the cells.
+pub struct Law;
+
+impl TableRule<u64, View, Shape> for Law {
+    ghost use Rattle.cell.specs.Rule.{Keeps};
+    ghost use Rattle.cell.specs.Rule.{dealer};
+
+    ghost holds = { λ shape s. Keeps shape s };
+
+    ghost first = { λ shape. dealer shape 0 };
+}
+
+pub(crate) type Words = Table<u64, View, Shape, Law, Global>;
+
+/// The words, and how many threads and rows they are for.
+#[derive(Drop)]
+pub struct Board {
+    pub(crate) words: Words,
+    pub(crate) shape: Shape,
+    ghost keyed: { words.shared.key ≡ shape },
+    ghost sized: { words.shared.table_id.words ≡ shape.threads * thread_len shape.rows },
+    ghost small: { (shape.threads ≤ 64) × (shape.rows ≤ 1024) },
+}
+
+/// The row's cell is read.
+pub struct Look;
+
+impl Play<u64, View> for Look {
+    ghost use Rattle.cell.specs.Told.{looked};
+
+    ghost then = { λ st m n w. looked st m n w };
+}
+
+/// A word of an opened row is read.
+pub struct Read;
+
+impl Play<u64, View> for Read {
+    ghost use Rattle.cell.specs.Told.{has_read};
+
+    ghost then = { λ st m n w. has_read st m n w };
+}
+
+/// A word of a held Fresh row is written.
+pub struct Draft;
+
+impl Play<u64, View> for Draft {
+    ghost use Rattle.cell.specs.Told.{drafted};
+
+    ghost then = { λ st m n w. drafted st m n w };
+}
+
+/// A row is Waiting: a held Fresh row is opened, or a claimed one given up.
+pub struct Wait;
+
+impl Play<u64, View> for Wait {
+    ghost use Rattle.cell.specs.Told.{waits};
+
+    ghost then = { λ st m n w. waits st m n w };
+}
+
+/// A held row is claimed, where it is Waiting.
+pub struct Claim;
+
+impl Play<u64, View> for Claim {
+    ghost use Rattle.cell.specs.Told.{claimed};
+
+    ghost then = { λ st m n w. claimed st m n w };
+}
+
+/// Another row is joined with the claimed one, where it is Waiting.
+pub struct Join;
+
+impl Play<u64, View> for Join {
+    ghost use Rattle.cell.specs.Told.{joined};
+
+    ghost then = { λ st m n w. joined st m n w };
+}
+
+/// A claimed row is committed, as the row that it joined says.
+pub struct Seal;
+
+impl Play<u64, View> for Seal {
+    ghost use Rattle.cell.specs.Told.{sealed};
+
+    ghost then = { λ st m n w. sealed st m n w };
+}
+
+/// The first pass deals the rows of the next seat to a pass of their own.
+pub struct Deal;
+
+impl Split<View> for Deal {
+    ghost use Rattle.cell.specs.Rule.{dealt_one};
+    ghost use Rattle.cell.specs.Rule.{dealt_pass};
+
+    ghost left = { λ v. dealt_one v };
+
+    ghost right = { λ v. dealt_pass v };
+}

@@ -1,0 +1,171 @@
+//! One function for each atomic step.
+
+ghost use Rattle.std.specs.Prelude.{◌≡◌, ◌≢◌, ◌*◌, ◌+◌, ◌<◌, ◌≤◌, [], true, IfOk, IfErr, Some};
+ghost use Rattle.words.specs.Words.{is_word_for, IsJoinedInRange};
+ghost use Rattle.words.specs.declared.Cell.TheVariants.{Waiting, Synched};
+ghost use Rattle.protocol.specs.Tables.{thread_len, place_of};
+ghost use Rattle.protocol.specs.Worlds.{mirrored};
+ghost use Rattle.cell.specs.declared.view.Stage.TheVariants.{Resting, Claims, Joins};
+ghost use Rattle.cell.specs.Told.{cell_read, joining};
+ghost use Rattle.cell.specs.Seats.{Sits, HasRow};
+ghost use Rattle.cell.specs.Views.{Has, CanJoin, saw, read_word, drafted_word, turned};
+
+use crate::board::{Board, Claim, Draft, Join, Look, Read, Seal, Wait};
+use crate::view::View;
+use atomic_table::Seat;
+use protocol::{Cell, Joined, Row, pack_cell, unpack_cell};
+
+impl Board {
+    // where the word of a row at a place lies
+    fn place(&self, row: Row, place: u8) -> usize
+        requires { HasRow self.now row × (place < 34) }
+        ensures { (result ≡ place_of self.now.shape.rows row place) × (result < self.now.words.shared.table_id.words) }
+    {
+        let len = self.shape.rows * 34 + 64;
+        (u64::from(row.thread) * len + u64::from(row.sync) * 34 + u64::from(place)) as usize
+    }
+
+    /// Reads the row's cell.
+    pub(crate) fn look(&self, seat: &mut Seat<u64, View>, row: Row) -> Cell
+        requires { Sits self.now seat.old × HasRow self.now row }
+        ensures sits { (seat.new.id ≡ seat.old.id) × Sits self.now seat.new }
+        ensures saw { seat.new.me.0 ≡ saw row result seat.old.me.0 }
+    {
+        cell_in(self.words.shared.load::<Look>(seat, self.place(row, 0)))
+    }
+
+    /// Reads a word of a row that was seen opened.
+    pub(crate) fn read(&self, seat: &mut Seat<u64, View>, row: Row, place: u8) -> u64
+        requires sits { Sits self.now seat.old × HasRow self.now row }
+        requires place { (1 ≤ place) × (place < 34) × Has seat.old.me.0.opened row }
+        ensures sits { (seat.new.id ≡ seat.old.id) × Sits self.now seat.new }
+        ensures read { seat.new.me.0 ≡ read_word row place result seat.old.me.0 }
+    {
+        self.words.shared.load::<Read>(seat, self.place(row, place))
+    }
+
+    /// Writes a word of a held row that is not opened yet.
+    pub(crate) fn draft(&self, seat: &mut Seat<u64, View>, row: Row, place: u8, word: u64)
+        requires sits { Sits self.now seat.old × HasRow self.now row }
+        requires place { (1 ≤ place) × (place < 34) × (is_word_for place word ≡ true) }
+        requires held { Has seat.old.me.0.held row × (¬ Has seat.old.me.0.opened row) }
+        ensures sits { (seat.new.id ≡ seat.old.id) × Sits self.now seat.new }
+        ensures drafted { seat.new.me.0 ≡ drafted_word row place word seat.old.me.0 }
+    {
+        self.words
+            .shared
+            .store::<Draft>(seat, self.place(row, place), word);
+    }
+
+    /// Opens a held row that is Fresh.
+    pub(crate) fn open(&self, seat: &mut Seat<u64, View>, row: Row)
+        requires sits { Sits self.now seat.old × HasRow self.now row }
+        requires held { Has seat.old.me.0.held row × (¬ Has seat.old.me.0.opened row) × (seat.old.me.0.stage ≡ Resting) }
+        ensures sits { (seat.new.id ≡ seat.old.id) × Sits self.now seat.new }
+        ensures opened { seat.new.me.0 ≡ turned Resting row seat.old.me.0 }
+    {
+        self.words
+            .shared
+            .store::<Wait>(seat, self.place(row, 0), pack_cell(Cell::Waiting));
+    }
+
+    /// Claims a held row, where it is Waiting; else says what it is.
+    pub(crate) fn claim(&self, seat: &mut Seat<u64, View>, row: Row) -> Result<(), Cell>
+        requires sits { Sits self.now seat.old × HasRow self.now row }
+        requires held { Has seat.old.me.0.held row × (seat.old.me.0.stage ≡ Resting) }
+        ensures sits { (seat.new.id ≡ seat.old.id) × Sits self.now seat.new }
+        ensures claimed { IfOk result (λ _. seat.new.me.0 ≡ turned (Claims row) row seat.old.me.0) }
+        ensures found { IfErr result (λ cell. (cell ≢ Waiting) × (seat.new.me.0 ≡ saw row cell seat.old.me.0)) }
+    {
+        let waiting = pack_cell(Cell::Waiting);
+        let claimed = pack_cell(Cell::Claimed);
+        let found = self
+            .words
+            .shared
+            .compare_exchange::<Claim>(seat, self.place(row, 0), waiting, claimed);
+        if found == waiting {
+            Ok(())
+        } else {
+            Err(cell_in(found))
+        }
+    }
+
+    /// Gives up the row that this call has claimed.
+    pub(crate) fn give_up(&self, seat: &mut Seat<u64, View>, row: Row)
+        requires sits { Sits self.now seat.old × HasRow self.now row }
+        requires held { Has seat.old.me.0.held row × (seat.old.me.0.stage ≡ Claims row) }
+        ensures sits { (seat.new.id ≡ seat.old.id) × Sits self.now seat.new }
+        ensures waits { seat.new.me.0 ≡ turned Resting row seat.old.me.0 }
+    {
+        self.words
+            .shared
+            .store::<Wait>(seat, self.place(row, 0), pack_cell(Cell::Waiting));
+    }
+
+    /// Joins another row with the claimed one, where it is Waiting; else says what it is.
+    pub(crate) fn join(
+        &self,
+        seat: &mut Seat<u64, View>,
+        mine: Row,
+        own: u8,
+        row: Row,
+        partner: u8,
+        joined: Joined,
+    ) -> Result<(), Cell>
+        requires sits { Sits self.now seat.old × HasRow self.now row }
+        requires held { Has seat.old.me.0.held mine × (seat.old.me.0.stage ≡ Claims mine) }
+        requires can { CanJoin seat.old.me.0 mine own row partner joined × IsJoinedInRange joined }
+        ensures sits { (seat.new.id ≡ seat.old.id) × Sits self.now seat.new }
+        ensures joined { IfOk result (λ _. seat.new.me.0 ≡ joining mine row joined seat.old.me.0) }
+        ensures found { IfErr result (λ cell. (cell ≢ Waiting) × (seat.new.me.0 ≡ saw row cell seat.old.me.0)) }
+    {
+        let waiting = pack_cell(Cell::Waiting);
+        let synched = pack_cell(Cell::Synched(joined));
+        let found = self
+            .words
+            .shared
+            .compare_exchange::<Join>(seat, self.place(row, 0), waiting, synched);
+        if found == waiting {
+            Ok(())
+        } else {
+            Err(cell_in(found))
+        }
+    }
+
+    /// Commits the claimed row, as the row says that this call has joined with it.
+    pub(crate) fn seal(
+        &self,
+        seat: &mut Seat<u64, View>,
+        row: Row,
+        own: u8,
+        other: Row,
+        joined: Joined,
+    )
+        requires sits { Sits self.now seat.old × HasRow self.now row }
+        requires held { Has seat.old.me.0.held row × (seat.old.me.0.stage ≡ Joins row other joined) }
+        requires partner { (joined.partner ≡ Some (row, own)) × IsJoinedInRange (mirrored other joined own) }
+        ensures sits { (seat.new.id ≡ seat.old.id) × Sits self.now seat.new }
+        ensures sealed { seat.new.me.0 ≡ saw row (Synched (mirrored other joined own)) (turned Resting row seat.old.me.0) }
+    {
+        let committed = Joined {
+            own,
+            partner: Some((other, joined.own)),
+            stamp: joined.stamp,
+        };
+        self.words.shared.store::<Seal>(
+            seat,
+            self.place(row, 0),
+            pack_cell(Cell::Synched(committed)),
+        );
+    }
+}
+
+// the cell that a word of the table stands for
+fn cell_in(word: u64) -> Cell
+    ensures { result ≡ cell_read word }
+{
+    match unpack_cell(word) {
+        Some(cell) => cell,
+        None => Cell::Fresh,
+    }
+}

@@ -1,0 +1,48 @@
+//! What a pass has seen. No value of these types is made: they are read by contracts alone.
+
+use protocol::{Joined, Row};
+use std::collections::LinkedList;
+
+/// How large a table is.
+#[derive(Clone, Copy, Debug, Drop)]
+pub struct Shape {
+    pub threads: u64,
+    pub rows: u64,
+    pub passes: u64,
+}
+
+/// Where a call is between two steps.
+#[derive(Debug, Drop)]
+pub enum Stage {
+    Resting,
+    /// It has claimed the row.
+    Claims(Row),
+    /// It has claimed the first row, and joined the second so.
+    Joins(Row, Row, Joined),
+}
+
+/// What a pass has seen.
+#[derive(Debug, Drop)]
+pub struct View {
+    /// The table's size.
+    pub threads: u64,
+    pub rows: u64,
+    pub passes: u64,
+    /// The seats below this one have their rows already; this pass deals the others.
+    pub dealt: u64,
+    /// The seat of the protocol that makes this pass's steps.
+    pub seat: u8,
+    pub stage: Stage,
+    /// The rows that it holds.
+    pub held: LinkedList<Row>,
+    /// The words that it drafted: of a row, at a place.
+    pub drafts: LinkedList<(Row, u8, u64)>,
+    /// The rows that it saw opened.
+    pub opened: LinkedList<Row>,
+    /// The words of opened rows that it read.
+    pub words: LinkedList<(Row, u8, u64)>,
+    /// The rows that it saw committed, and how.
+    pub joined: LinkedList<(Row, Joined)>,
+    /// The rows that it saw taken.
+    pub taken: LinkedList<Row>,
+}
