@@ -5,6 +5,13 @@
 //! `steps` makes one atomic step; that the rule admits it is proved where it is called.
 #![tactic(auto)]
 
+ghost use Rattle.std.specs.Prelude.{ℕ};
+ghost use Rattle.atomic_table.specs.Table.{State};
+ghost use Rattle.protocol.specs.Ledgers.{ledger_of, IsLawful};
+ghost use Rattle.cell.specs.declared.view.Shape.{Shape};
+ghost use Rattle.cell.specs.declared.view.View.{View};
+ghost use Rattle.cell.specs.Rule.{Keeps};
+
 mod board;
 mod start;
 mod steps;
@@ -12,6 +19,11 @@ mod view;
 
 pub use crate::board::{Board, Law};
 pub use crate::view::{Shape, Stage, View};
+
+/// Between any two atomic steps the ledger of the words is lawful: the rule holds then.
+pub fn every_moment_is_lawful()
+    ensures { (shape : Shape) (s : State ℕ View) → Keeps shape s → IsLawful (ledger_of (record { threads = shape.threads; rows = shape.rows; words = s.words })) }
+{}
 
 #[cfg(test)]
 mod tests;
