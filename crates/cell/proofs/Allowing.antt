@@ -33,7 +33,7 @@ use Rattle.cell.specs.declared.view.Stage.{Stage}
 use Rattle.cell.specs.declared.view.Stage.TheVariants.{Resting, Claims, Joins}
 use Rattle.cell.specs.Views.{Has, HasReadOffer, HasSeenLast, CanJoin, Knows, Staged, IsClaimer, is_taken, saw, read_word, drafted_word, turned}
 use Rattle.cell.specs.Rule.{Keeps}
-use Rattle.cell.specs.Told.{Inside, At, cell_read, looked, has_read, drafted, waits, claimed, joining, joined, sealed}
+use Rattle.cell.specs.Told.{Agrees, Inside, At, cell_read, looked, has_read, drafted, waits, claimed, joining, joined, sealed}
 use Rattle.cell.proofs.Others.{learn_cell, learn_word, others_cell, own_cell, cell_now, cell_else, others_draft, own_draft}
 use Rattle.cell.proofs.Turning.{keeps_view, keeps_step}
 
@@ -83,6 +83,21 @@ joined_known w owner id v m i o n j k can =
     let a = last_known w owner id v m can.my_last k can.seen_mine in
     let b = last_known w owner id v o can.their_last k can.seen_theirs in
     (λ x. record { own = n; partner = Some (m, i); stamp = 1 + max (a x) (b x) }) ∙ sym can.is
+
+-- what a pass has seen of a row agrees with the row's cell
+agrees : (w : World) (owner : Row → ℕ) (id : ℕ) (v : View) (r : Row) (c : Cell) → Knows w owner id v → cell_at w.table r ≡ c → Agrees v r c
+agrees w owner id v r c k e = (
+  λ o. ap is_fresh (sym e) ∙ k.opened r o,
+  λ h n. sym e ∙ k.fresh r h n,
+  λ j h. ap joined_of (sym e) ∙ k.joined r j h,
+  λ t. ap is_taken (sym e) ∙ k.taken r t,
+  λ h resting claimed_now. subst (λ (z : Stage). IsClaimer z r) resting (k.calm r h (e ∙ claimed_now)),
+)
+
+seen_there : {S : Type 0} (w : World) (owner : Row → ℕ) (id : ℕ) (me : Me S View) (r q : Row) (c : Cell) → Knows w owner id me.0 → cell_at w.table r ≡ c → r ≡ q
+    → (◌≡◌ {A = Me S View} (saw r c me.0, me.1) (saw q c me.0, me.1)) × Agrees me.0 q c
+seen_there {S} w owner id me r q c k e same =
+    (ap (λ (z : Row). (saw z c me.0, me.1)) same, subst (λ (z : Row). Agrees me.0 z c) same (agrees w owner id me.0 r c k e))
 
 -- A pass that makes a step on a word of row r
 module _ (shape : Shape) (id place : ℕ) (me : Me ℕ View) (r : Row) (p : ℕ)
@@ -274,7 +289,7 @@ module _ (shape : Shape) (slots id place : ℕ) (me : Me ℕ View) (r : Row)
         keeps,
         tt,
         learnt shape id place me r 0 threads rows inside (omega arith) here s k view (saw r c me.0) (learn_cell k.world k.owner id me.0 r c knows read),
-        λ q at. ap (λ (z : Row). (saw z c me.0, me.1)) (one_word shape id place me r 0 threads rows inside (omega arith) here q 0 (omega arith) at.0 at.1).0,
+        λ q at. seen_there k.world k.owner id me r q c knows read (one_word shape id place me r 0 threads rows inside (omega arith) here q 0 (omega arith) at.0 at.1).0,
       )
 
   pub read_allowed : (p : ℕ) → 1 ≤ p → p < 34 → Has me.0.opened r → place ≡ place_of shape.rows r p → Allows (Keeps shape) slots id me place (λ n. n) (has_read (step slots place 0 0 none) me)
@@ -343,7 +358,7 @@ module _ (shape : Shape) (slots id place : ℕ) (me : Me ℕ View) (r : Row)
         keeps,
         tt,
         learnt shape id place me r 0 threads rows inside (omega arith) here s k view (saw r (cell_read n) me.0) (learn_cell k.world k.owner id me.0 r (cell_read n) knows read),
-        λ q at. (λ e. absurd (f e), λ g. ap (λ (z : Row). (saw z (cell_read n) me.0, me.1)) (one q at)),
+        λ q at. (λ e. absurd (f e), λ g. seen_there k.world k.owner id me r q (cell_read n) knows read (one q at)),
       ))
 
 -- one word stands for one commit
@@ -387,7 +402,7 @@ module _ (shape : Shape) (slots id place : ℕ) (me : Me ℕ View) (r : Row)
         keeps,
         tt,
         learnt shape id place me r 0 threads rows inside (omega arith) here s k view (saw r (cell_read n) me.0) (learn_cell k.world k.owner id me.0 r (cell_read n) knows read),
-        λ m q i stage at i_range second. (λ e. absurd (f e), λ g. ap (λ (z : Row). (saw z (cell_read n) me.0, me.1)) (one q at)),
+        λ m q i stage at i_range second. (λ e. absurd (f e), λ g. seen_there k.world k.owner id me r q (cell_read n) knows read (one q at)),
       ))
     where
       one_claim : (a b : Row) → Claims a ≡ Claims b → a ≡ b

@@ -1,15 +1,15 @@
 -- What a step tells the pass that makes it: its view after, by the word that it found.
-use Rattle.std.specs.Prelude.{◌≡◌, ◌≢◌, ℕ, ◌<◌, unwrap_or}
+use Rattle.std.specs.Prelude.{◌≡◌, ◌≢◌, ℕ, ◌<◌, true, false, unwrap_or, Some}
 use Rattle.atomic_table.specs.Table.{Step, Me}
 use Rattle.words.specs.Words.{cell_word, cell_of, IsJoinedInRange}
 use Rattle.words.specs.declared.Row.{Row}
 use Rattle.words.specs.declared.Joined.{Joined}
 use Rattle.words.specs.declared.Cell.{Cell}
-use Rattle.words.specs.declared.Cell.TheVariants.{Fresh, Waiting, Synched}
-use Rattle.protocol.specs.Tables.{place_of}
+use Rattle.words.specs.declared.Cell.TheVariants.{Fresh, Waiting, Claimed, Synched}
+use Rattle.protocol.specs.Tables.{place_of, is_fresh, joined_of}
 use Rattle.cell.specs.declared.view.View.{View}
 use Rattle.cell.specs.declared.view.Stage.TheVariants.{Resting, Claims, Joins}
-use Rattle.cell.specs.Views.{saw, read_word, drafted_word, turned}
+use Rattle.cell.specs.Views.{Has, is_taken, saw, read_word, drafted_word, turned}
 
 -- the table has the row
 abbrev pub Inside : ℕ → ℕ → Row → Type 0
@@ -23,8 +23,17 @@ At st m r p = Inside m.0.threads m.0.rows r × (st.word ≡ place_of m.0.rows r 
 abbrev pub cell_read : ℕ → Cell
 cell_read n = unwrap_or (cell_of n) Fresh
 
+-- what a pass knows of a row's cell before it looks
+abbrev pub Agrees : View → Row → Cell → Type 0
+Agrees v r c =
+    (Has v.opened r → is_fresh c ≡ false)
+    × (Has v.held r → ¬ Has v.opened r → c ≡ Fresh)
+    × ((j : Joined) → Has v.joined (r, j) → joined_of c ≡ Some j)
+    × (Has v.taken r → is_taken c ≡ true)
+    × (Has v.held r → v.stage ≡ Resting → c ≢ Claimed)
+
 abbrev pub looked : {S : Type 0} → Step S → Me S View → ℕ → Me S View → Type 0
-looked st m n w = (r : Row) → At st m r 0 → w ≡ (saw r (cell_read n) m.0, m.1)
+looked st m n w = (r : Row) → At st m r 0 → (w ≡ (saw r (cell_read n) m.0, m.1)) × Agrees m.0 r (cell_read n)
 
 abbrev pub has_read : {S : Type 0} → Step S → Me S View → ℕ → Me S View → Type 0
 has_read st m n w = (r : Row) (p : ℕ) → p < 34 → At st m r p → w ≡ (read_word r p n m.0, m.1)
@@ -39,7 +48,7 @@ waits st m n w = (r : Row) → At st m r 0 → w ≡ (turned Resting r m.0, m.1)
 -- where the cell was Waiting it is Claimed; else the pass has seen what it is
 abbrev pub claimed : {S : Type 0} → Step S → Me S View → ℕ → Me S View → Type 0
 claimed st m n w = (r : Row) → At st m r 0
-    → (n ≡ cell_word Waiting → w ≡ (turned (Claims r) r m.0, m.1)) × (n ≢ cell_word Waiting → w ≡ (saw r (cell_read n) m.0, m.1))
+    → (n ≡ cell_word Waiting → w ≡ (turned (Claims r) r m.0, m.1)) × (n ≢ cell_word Waiting → (w ≡ (saw r (cell_read n) m.0, m.1)) × Agrees m.0 r (cell_read n))
 
 -- the pass has joined row o, and is to seal its own
 abbrev pub joining : Row → Row → Joined → View → View
@@ -47,7 +56,7 @@ joining mine o j v = saw o (Synched j) (turned (Joins mine o j) o v)
 
 abbrev pub joined : {S : Type 0} → Step S → Me S View → ℕ → Me S View → Type 0
 joined st m n w = (mine o : Row) (j : Joined) → m.0.stage ≡ Claims mine → At st m o 0 → IsJoinedInRange j → st.second ≡ cell_word (Synched j)
-    → (n ≡ cell_word Waiting → w ≡ (joining mine o j m.0, m.1)) × (n ≢ cell_word Waiting → w ≡ (saw o (cell_read n) m.0, m.1))
+    → (n ≡ cell_word Waiting → w ≡ (joining mine o j m.0, m.1)) × (n ≢ cell_word Waiting → (w ≡ (saw o (cell_read n) m.0, m.1)) × Agrees m.0 o (cell_read n))
 
 abbrev pub sealed : {S : Type 0} → Step S → Me S View → ℕ → Me S View → Type 0
 sealed st m n w = (r : Row) (j : Joined) → At st m r 0 → IsJoinedInRange j → n ≡ cell_word (Synched j)

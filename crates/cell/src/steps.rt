@@ -6,7 +6,7 @@ ghost use Rattle.words.specs.declared.Cell.TheVariants.{Waiting, Synched};
 ghost use Rattle.protocol.specs.Tables.{thread_len, place_of};
 ghost use Rattle.protocol.specs.Worlds.{mirrored};
 ghost use Rattle.cell.specs.declared.view.Stage.TheVariants.{Resting, Claims, Joins};
-ghost use Rattle.cell.specs.Told.{cell_read, joining};
+ghost use Rattle.cell.specs.Told.{Agrees, cell_read, joining};
 ghost use Rattle.cell.specs.Seats.{Sits, HasRow};
 ghost use Rattle.cell.specs.Views.{Has, CanJoin, saw, read_word, drafted_word, turned};
 
@@ -30,6 +30,7 @@ impl Board {
         requires { Sits self.now seat.old × HasRow self.now row }
         ensures sits { (seat.new.id ≡ seat.old.id) × Sits self.now seat.new }
         ensures saw { seat.new.me.0 ≡ saw row result seat.old.me.0 }
+        ensures agrees { Agrees seat.old.me.0 row result }
     {
         cell_in(self.words.shared.load::<Look>(seat, self.place(row, 0)))
     }
@@ -75,7 +76,7 @@ impl Board {
         requires held { Has seat.old.me.0.held row × (seat.old.me.0.stage ≡ Resting) }
         ensures sits { (seat.new.id ≡ seat.old.id) × Sits self.now seat.new }
         ensures claimed { IfOk result (λ _. seat.new.me.0 ≡ turned (Claims row) row seat.old.me.0) }
-        ensures found { IfErr result (λ cell. (cell ≢ Waiting) × (seat.new.me.0 ≡ saw row cell seat.old.me.0)) }
+        ensures found { IfErr result (λ cell. (cell ≢ Waiting) × (seat.new.me.0 ≡ saw row cell seat.old.me.0) × Agrees seat.old.me.0 row cell) }
     {
         let waiting = pack_cell(Cell::Waiting);
         let claimed = pack_cell(Cell::Claimed);
@@ -117,7 +118,7 @@ impl Board {
         requires can { CanJoin seat.old.me.0 mine own row partner joined × IsJoinedInRange joined }
         ensures sits { (seat.new.id ≡ seat.old.id) × Sits self.now seat.new }
         ensures joined { IfOk result (λ _. seat.new.me.0 ≡ joining mine row joined seat.old.me.0) }
-        ensures found { IfErr result (λ cell. (cell ≢ Waiting) × (seat.new.me.0 ≡ saw row cell seat.old.me.0)) }
+        ensures found { IfErr result (λ cell. (cell ≢ Waiting) × (seat.new.me.0 ≡ saw row cell seat.old.me.0) × Agrees seat.old.me.0 row cell) }
     {
         let waiting = pack_cell(Cell::Waiting);
         let synched = pack_cell(Cell::Synched(joined));

@@ -6,7 +6,7 @@ use Rattle.words.specs.Words.{cell_word}
 use Rattle.words.specs.declared.Cell.TheVariants.{Waiting}
 use Rattle.cell.specs.declared.view.Shape.{Shape}
 use Rattle.cell.specs.Rule.{Keeps}
-use Rattle.cell.specs.Told.{claimed}
+use Rattle.cell.specs.Told.{Agrees, claimed}
 use Rattle.cell.proofs.Allowing.{claim_allowed, at_view, place_view, not_waiting}
 use Rattle.cell.proofs.board.Board.claim.Goals as goal
 
@@ -22,4 +22,4 @@ pub returns-else-found-waiting-clause-found : goal.returns-else-found-waiting-cl
 returns-else-found-waiting-clause-found c =
     let other : c.compare_exchange-found.result ≢ cell_word Waiting = (λ e. c.if-found-waiting.false (e ∙ sym c.pack_cell-waiting.ensures)) in
     let told = (c.compare_exchange-found.ensures.2 c.args.row (at_view c.args.self.now.shape c.args.seat.now.me.0 c.args.row (search rules) (search rules) (search rules), place_view c.args.self.now.shape c.args.seat.now.me.0 c.args.row 0 c.place.result (search rules) (search rules))).1 other in
-    (λ e. not_waiting c.compare_exchange-found.result other (sym c.cell_in.ensures ∙ e), ap (λ z. z.0) told ∙ (search rules))
+    (λ e. not_waiting c.compare_exchange-found.result other (sym c.cell_in.ensures ∙ e), ap (λ z. z.0) told.0 ∙ (search rules), subst (Agrees c.args.seat.now.me.0 c.args.row) (sym c.cell_in.ensures) told.1)
