@@ -1,4 +1,5 @@
-//! What a pass has seen. No value of these types is made: they are read by contracts alone.
+//! A table's size, and what a pass has seen. No value of `Stage` or `View` is made: contracts alone
+//! read them.
 
 use protocol::{Joined, Row};
 use std::collections::LinkedList;
