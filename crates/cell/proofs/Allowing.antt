@@ -31,14 +31,16 @@ use Rattle.cell.specs.declared.view.View.{View}
 use Rattle.cell.specs.declared.view.Shape.{Shape}
 use Rattle.cell.specs.declared.view.Stage.{Stage}
 use Rattle.cell.specs.declared.view.Stage.TheVariants.{Resting, Claims, Joins}
-use Rattle.cell.specs.Views.{Has, HasReadOffer, HasSeenLast, CanJoin, Knows, Staged, IsClaimer, is_taken, saw, read_word, drafted_word, turned}
+use Rattle.cell.specs.Sight.{Has, CanJoin, Coherent}
+use Rattle.cell.specs.Views.{Knows, Staged, IsClaimer, is_taken, saw, read_word, drafted_word, turned}
+use Rattle.cell.proofs.Truths.{offers_known, joined_known, agrees, coherent}
 use Rattle.cell.specs.Rule.{Keeps}
 use Rattle.cell.specs.Told.{Agrees, Inside, At, cell_read, looked, has_read, drafted, waits, claimed, joining, joined, sealed}
 use Rattle.cell.proofs.Others.{learn_cell, learn_word, others_cell, own_cell, cell_now, cell_else, others_draft, own_draft}
 use Rattle.cell.proofs.Turning.{keeps_view, keeps_step}
 
 -- the table with these words
-abbrev sized : Shape → List ℕ → Table
+abbrev pub sized : Shape → List ℕ → Table
 sized shape ws = record { threads = shape.threads; rows = shape.rows; words = ws }
 
 pub world_kept : {S : Type 0} (shape : Shape) (s : State S View) (k : Keeps shape s) → Kept k.world
@@ -54,55 +56,19 @@ same_word threads rows r q p o a b h i e =
     let t : Table = record { threads = threads; rows = rows; words = [] } in
     same_place t r q p o (row_from t r a.0 a.1) (row_from t q b.0 b.1) h i e
 
--- WHAT A PASS HAS READ IS SO
-
-offer_known : (w : World) (owner : Row → ℕ) (id : ℕ) (v : View) (r : Row) (n : ℕ) (o : Offer) → Knows w owner id v → HasReadOffer v r n o → offer_at w.table r n ≡ Some o
-unfolding offer_at
-offer_known w owner id v r n o k (count, a, b, c, d, has, below, has_a, has_b, has_c, has_d, is) =
-    let first = k.read r 1 count has in
-    let counted : count_at w.table r ≡ unwrap_or (count_of count) 0 = count_open w.table r first.0 ∙ ap (λ (x : ℕ). unwrap_or (count_of x) 0) first.3 in
-    ap (λ (y : Bool). cond y (offer_of (word_at w.table r (2 + 4 * n)) (word_at w.table r (3 + 4 * n)) (word_at w.table r (4 + 4 * n)) (word_at w.table r (5 + 4 * n))) None) (lt-ltb n (count_at w.table r) (subst (λ (x : ℕ). n < x) (sym counted) below))
-    ∙ (λ i. offer_of ((k.read r (2 + 4 * n) a has_a).3 i) ((k.read r (3 + 4 * n) b has_b).3 i) ((k.read r (4 + 4 * n) c has_c).3 i) ((k.read r (5 + 4 * n) d has_d).3 i))
-    ∙ is
-
-offers_known : (w : World) (owner : Row → ℕ) (id : ℕ) (v : View) (m : Row) (i : ℕ) (o : Row) (n : ℕ) (j : Joined) → Knows w owner id v → CanJoin v m i o n j → offers_meet (offer_at w.table m i) (offer_at w.table o n) ≡ true
-offers_known w owner id v m i o n j k can =
-    let a = offer_known w owner id v m i can.my_offer k can.read_mine in
-    let b = offer_known w owner id v o n can.their_offer k can.read_theirs in
-    (λ x. offers_meet (a x) (b x)) ∙ can.meet
-
-last_known : (w : World) (owner : Row → ℕ) (id : ℕ) (v : View) (r : Row) (stamp : ℕ) → Knows w owner id v → HasSeenLast v r stamp → last_stamp (joined_at w.table) r ≡ stamp
-last_known w owner id v r stamp k (inl h) = ap (λ (n : ℕ). cond (eqb n 0) 0 (stamp_of (joined_at w.table (record { thread = r.thread; sync = n - 1 })))) h.0 ∙ sym h.1
-last_known w owner id v r stamp k (inr h) =
-    ap (λ (y : Bool). cond y 0 (stamp_of (joined_at w.table (record { thread = r.thread; sync = r.sync - 1 })))) (ne_eqb r.sync 0 h.1)
-    ∙ ap stamp_of (k.joined (record { thread = r.thread; sync = r.sync - 1 }) h.0 h.2) ∙ sym h.3
-
-joined_known : (w : World) (owner : Row → ℕ) (id : ℕ) (v : View) (m : Row) (i : ℕ) (o : Row) (n : ℕ) (j : Joined) → Knows w owner id v → CanJoin v m i o n j → joined_with w.table m i o n ≡ j
-unfolding joined_with
-joined_known w owner id v m i o n j k can =
-    let a = last_known w owner id v m can.my_last k can.seen_mine in
-    let b = last_known w owner id v o can.their_last k can.seen_theirs in
-    (λ x. record { own = n; partner = Some (m, i); stamp = 1 + max (a x) (b x) }) ∙ sym can.is
-
--- what a pass has seen of a row agrees with the row's cell
-agrees : (w : World) (owner : Row → ℕ) (id : ℕ) (v : View) (r : Row) (c : Cell) → Knows w owner id v → cell_at w.table r ≡ c → Agrees v r c
-agrees w owner id v r c k e = (
-  λ o. ap is_fresh (sym e) ∙ k.opened r o,
-  λ h n. sym e ∙ k.fresh r h n,
-  λ j h. ap joined_of (sym e) ∙ k.joined r j h,
-  λ t. ap is_taken (sym e) ∙ k.taken r t,
-  λ h resting claimed_now. subst (λ (z : Stage). IsClaimer z r) resting (k.calm r h (e ∙ claimed_now)),
-)
-
-seen_there : {S : Type 0} (w : World) (owner : Row → ℕ) (id : ℕ) (me : Me S View) (r q : Row) (c : Cell) → Knows w owner id me.0 → cell_at w.table r ≡ c → r ≡ q
+-- a pass that finds a cell sees it, and it agrees with what it had seen
+seen_there : {S : Type 0} (w : World) (owner : Row → ℕ) (id : ℕ) (me : Me S View) (r q : Row) (c : Cell) → Kept w → Knows w owner id me.0 → cell_at w.table r ≡ c → r ≡ q
     → (◌≡◌ {A = Me S View} (saw r c me.0, me.1) (saw q c me.0, me.1)) × Agrees me.0 q c
-seen_there {S} w owner id me r q c k e same =
-    (ap (λ (z : Row). (saw z c me.0, me.1)) same, subst (λ (z : Row). Agrees me.0 z c) same (agrees w owner id me.0 r c k e))
+seen_there {S} w owner id me r q c kept k e same =
+    (ap (λ (z : Row). (saw z c me.0, me.1)) same, subst (λ (z : Row). Agrees me.0 z c) same (agrees w owner id me.0 k kept r c e))
 
 -- A pass that makes a step on a word of row r
 module _ (shape : Shape) (id place : ℕ) (me : Me ℕ View) (r : Row) (p : ℕ)
     (threads : me.0.threads ≡ shape.threads) (rows : me.0.rows ≡ shape.rows)
     (inside : Inside shape.threads shape.rows r) (low : p < 34) (here : place ≡ place_of shape.rows r p) where
+  at_table : 0 < me.0.threads
+  at_table = let i = inside.0 in omega arith
+
   one_word : (q : Row) (o : ℕ) → o < 34 → Inside me.0.threads me.0.rows q → place ≡ place_of me.0.rows q o → (r ≡ q) × (p ≡ o)
   one_word q o h i e =
       same_word me.0.threads me.0.rows r q p o (subst (λ (z : ℕ × ℕ). Inside z.0 z.1 r) (λ i. (sym threads i, sym rows i)) inside) i low h
@@ -110,7 +76,7 @@ module _ (shape : Shape) (id place : ℕ) (me : Me ℕ View) (r : Row) (p : ℕ)
 
   module _ (s : State ℕ View) (k : Keeps shape s) (view : get_elem? s.views id ≡ some me.0) where
     known : Knows k.world k.owner id me.0
-    known = k.knows id me.0 view
+    known = k.knows id me.0 view at_table
 
     kept : Kept k.world
     kept = world_kept shape s k
@@ -133,13 +99,13 @@ module _ (shape : Shape) (id place : ℕ) (me : Me ℕ View) (r : Row) (p : ℕ)
     cell_is e = cell_inside k.world.table r is_its_row ∙ ap cell_read (ap (word_at k.world.table r) (sym e) ∙ word_is)
 
     -- where it writes a word behind the cell
-    wrote_word : (d : ℕ) → Has me.0.held r → ¬ Has me.0.opened r → 1 ≤ p → is_word_for p d ≡ true → Keeps shape (stepped s place d id me.1 (drafted_word r p d me.0) keeps)
+    wrote_word : (d : ℕ) → Has me.0.seen.held r → ¬ Has me.0.seen.opened r → 1 ≤ p → is_word_for p d ≡ true → Keeps shape (stepped s place d id me.1 (drafted_word r p d me.0) keeps)
     wrote_word d held unopened high formed =
         let mine = known.mine r held in
         let fresh = known.fresh r held unopened in
         keeps_step shape s k id (drafted_word r p d me.0) _ _ seat (Draft r p d) (known.seat, (mine.1, fresh, high, omega arith, formed))
         (ap (λ (t : Table). with_word t r p d) k.table ∙ ap (λ (n : ℕ). sized shape (slice_set s.words n d)) (sym here))
-        (λ j u n e. others_draft k.world r p d k.owner kept is_its_row high low fresh j u (k.knows j u e) (λ o. n (sym o ∙ mine.0)))
+        (λ j u n e t. others_draft k.world r p d k.owner kept is_its_row high low fresh j u (k.knows j u e t) (λ o. n (sym o ∙ mine.0)))
         (own_draft k.world r p d k.owner kept is_its_row high low fresh id me.0 known mine.0)
 
     -- where it writes the cell
@@ -155,7 +121,7 @@ module _ (shape : Shape) (id place : ℕ) (me : Me ℕ View) (r : Row) (p : ℕ)
       else_now = cell_else k.world r c k.owner kept is_its_row range open_c was untaken
 
       calm_now : (stage : Stage) → (c ≡ Claimed → IsClaimer stage r) → ((q : Row) → row_eq q r ≡ false → IsClaimer me.0.stage q → IsClaimer stage q)
-          → (q : Row) → Has me.0.held q → cell_at later.table q ≡ Claimed → IsClaimer stage q
+          → (q : Row) → Has me.0.seen.held q → cell_at later.table q ≡ Claimed → IsClaimer stage q
       calm_now stage at_r others q held h = ⊎_elim
           (λ (e : q ≡ r). subst (IsClaimer stage) (sym e) (at_r (sym own_now ∙ ap (cell_at later.table) (sym e) ∙ h)))
           (λ (e : row_eq q r ≡ false). others q e (known.calm q held (sym (else_now q e) ∙ h)))
@@ -177,12 +143,12 @@ module _ (shape : Shape) (id place : ℕ) (me : Me ℕ View) (r : Row) (p : ℕ)
       wrote_cell done w condition after by_other unnamed knows =
           keeps_step shape s k id w _ _ seat done (known.seat, condition)
           (ap (λ (v : World). v.table) after ∙ ap (λ (t : Table). with_cell t r c) k.table ∙ ap (λ (n : ℕ). sized shape (slice_set s.words n (cell_word c))) (ap (place_of shape.rows r) (sym zero) ∙ sym here))
-          (λ j u n e. subst (λ (v : World). Knows v k.owner j u) (sym after)
-          (others_cell k.world r c k.owner kept is_its_row range open_c was untaken j u (k.knows j u e) (λ o. by_other j n o) (λ m o h. unnamed j m n o h)))
+          (λ j u n e t. subst (λ (v : World). Knows v k.owner j u) (sym after)
+          (others_cell k.world r c k.owner kept is_its_row range open_c was untaken j u (k.knows j u e t) (λ o. by_other j n o) (λ m o h. unnamed j m n o h)))
           (subst (λ (v : World). Knows v k.owner id w) (sym after) knows)
 
     -- a held row that is not opened
-    opens : p ≡ 0 → me.0.stage ≡ Resting → Has me.0.held r → ¬ Has me.0.opened r → Keeps shape (stepped s place (cell_word Waiting) id me.1 (turned Resting r me.0) keeps)
+    opens : p ≡ 0 → me.0.stage ≡ Resting → Has me.0.seen.held r → ¬ Has me.0.seen.opened r → Keeps shape (stepped s place (cell_word Waiting) id me.1 (turned Resting r me.0) keeps)
     opens zero resting held unopened =
         let mine = known.mine r held in
         let fresh = known.fresh r held unopened in
@@ -193,7 +159,7 @@ module _ (shape : Shape) (id place : ℕ) (me : Me ℕ View) (r : Row) (p : ℕ)
         (knows_now Waiting zero tt refl was untaken Resting tt (λ e. let bad : Waiting ≡ Claimed = e in cc) (λ q e h. subst (λ (z : Stage). IsClaimer z q) resting h))
 
     -- a held row that waits
-    claims : p ≡ 0 → me.0.stage ≡ Resting → Has me.0.held r → cell_at k.world.table r ≡ Waiting → Keeps shape (stepped s place (cell_word Claimed) id me.1 (turned (Claims r) r me.0) keeps)
+    claims : p ≡ 0 → me.0.stage ≡ Resting → Has me.0.seen.held r → cell_at k.world.table r ≡ Waiting → Keeps shape (stepped s place (cell_word Claimed) id me.1 (turned (Claims r) r me.0) keeps)
     claims zero resting held waits =
         let mine = known.mine r held in
         let was : joined_of (cell_at k.world.table r) ≡ None = ap joined_of waits in
@@ -214,7 +180,7 @@ module _ (shape : Shape) (id place : ℕ) (me : Me ℕ View) (r : Row) (p : ℕ)
         (λ q e h. absurd (subst (λ (z : Stage). IsClaimer z q) resting h)))
 
     -- a row that this call has claimed, and joined with no other
-    yields : p ≡ 0 → me.0.stage ≡ Claims r → Has me.0.held r → Keeps shape (stepped s place (cell_word Waiting) id me.1 (turned Resting r me.0) keeps)
+    yields : p ≡ 0 → me.0.stage ≡ Claims r → Has me.0.seen.held r → Keeps shape (stepped s place (cell_word Waiting) id me.1 (turned Resting r me.0) keeps)
     yields zero claiming held =
         let mine = known.mine r held in
         let staged = subst (λ (z : Stage). Staged k.world k.owner id z) claiming known.staged in
@@ -227,14 +193,14 @@ module _ (shape : Shape) (id place : ℕ) (me : Me ℕ View) (r : Row) (p : ℕ)
         (λ q e h. false≢true (sym e ∙ ap (row_eq q) (subst (λ (z : Stage). IsClaimer z q) claiming h) ∙ row_eq-refl q)))
 
     -- another row, which waits: it is joined with the row that this call has claimed
-    joins : p ≡ 0 → (mine : Row) (own partner : ℕ) (j : Joined) → me.0.stage ≡ Claims mine → Has me.0.held mine → CanJoin me.0 mine own r partner j
+    joins : p ≡ 0 → (mine : Row) (own partner : ℕ) (j : Joined) → me.0.stage ≡ Claims mine → Has me.0.seen.held mine → CanJoin me.0.seen mine own r partner j
         → cell_at k.world.table r ≡ Waiting → Keeps shape (stepped s place (cell_word (Synched j)) id me.1 (joining mine r j me.0) keeps)
     joins zero mine own partner j claiming held can waits =
         let staged = subst (λ (z : Stage). Staged k.world k.owner id z) claiming known.staged in
         let was : joined_of (cell_at k.world.table r) ≡ None = ap joined_of waits in
         let untaken : is_taken (cell_at k.world.table r) ≡ false = ap is_taken waits in
-        let meet = offers_known k.world k.owner id me.0 mine own r partner j known can in
-        let is : joined_with k.world.table mine own r partner ≡ j = joined_known k.world k.owner id me.0 mine own r partner j known can in
+        let meet = offers_known k.world k.owner id me.0 known mine own r partner j can in
+        let is : joined_with k.world.table mine own r partner ≡ j = joined_known k.world k.owner id me.0 known mine own r partner j can in
         let range : IsJoinedInRange j = subst IsJoinedInRange is (join_in_range k.world mine own r partner kept (row_of_open k.world.table mine (ap is_fresh staged.1)) meet) in
         let apart : row_eq mine r ≡ false = row_ne mine r (λ e. can.apart (ap (λ (y : Row). y.thread) e)) in
         let partner_is : j.partner ≡ Some (mine, own) = ap (λ (y : Joined). y.partner) can.is in
@@ -252,7 +218,7 @@ module _ (shape : Shape) (id place : ℕ) (me : Me ℕ View) (r : Row) (p : ℕ)
         now)
 
     -- a claimed row: it is committed as the row that this call joined says
-    seals : p ≡ 0 → (other : Row) (own : ℕ) (j : Joined) → me.0.stage ≡ Joins r other j → j.partner ≡ Some (r, own) → Has me.0.held r
+    seals : p ≡ 0 → (other : Row) (own : ℕ) (j : Joined) → me.0.stage ≡ Joins r other j → j.partner ≡ Some (r, own) → Has me.0.seen.held r
         → Keeps shape (stepped s place (cell_word (Synched (mirrored other j own))) id me.1 (saw r (Synched (mirrored other j own)) (turned Resting r me.0)) keeps)
     seals zero other own j joining_now partner_is held =
         let mine = known.mine r held in
@@ -289,10 +255,12 @@ module _ (shape : Shape) (slots id place : ℕ) (me : Me ℕ View) (r : Row)
         keeps,
         tt,
         learnt shape id place me r 0 threads rows inside (omega arith) here s k view (saw r c me.0) (learn_cell k.world k.owner id me.0 r c knows read),
-        λ q at. seen_there k.world k.owner id me r q c knows read (one_word shape id place me r 0 threads rows inside (omega arith) here q 0 (omega arith) at.0 at.1).0,
+        λ q at.
+            let there = seen_there k.world k.owner id me r q c (world_kept shape s k) knows read (one_word shape id place me r 0 threads rows inside (omega arith) here q 0 (omega arith) at.0 at.1).0 in
+            (there.0, there.1, coherent k.world k.owner id (saw r c me.0) (learn_cell k.world k.owner id me.0 r c knows read) (world_kept shape s k)),
       )
 
-  pub read_allowed : (p : ℕ) → 1 ≤ p → p < 34 → Has me.0.opened r → place ≡ place_of shape.rows r p → Allows (Keeps shape) slots id me place (λ n. n) (has_read (step slots place 0 0 none) me)
+  pub read_allowed : (p : ℕ) → 1 ≤ p → p < 34 → Has me.0.seen.opened r → place ≡ place_of shape.rows r p → Allows (Keeps shape) slots id me place (λ n. n) (has_read (step slots place 0 0 none) me)
   read_allowed p high low seen here s k homes view range =
       let x = slice_index s.words place in
       let knows = known shape id place me r p threads rows inside low here s k view in (
@@ -301,10 +269,13 @@ module _ (shape : Shape) (slots id place : ℕ) (me : Me ℕ View) (r : Row)
         tt,
         learnt shape id place me r p threads rows inside low here s k view (read_word r p x me.0)
             (learn_word k.world k.owner id me.0 r p x knows (knows.opened r seen) high low (word_is shape id place me r p threads rows inside low here s k view)),
-        λ q o h at. ap (λ (z : Row × ℕ). (read_word z.0 z.1 x me.0, me.1)) (let e = one_word shape id place me r p threads rows inside low here q o h at.0 at.1 in λ i. (e.0 i, e.1 i)),
+        λ q o h at. (
+          ap (λ (z : Row × ℕ). (read_word z.0 z.1 x me.0, me.1)) (let e = one_word shape id place me r p threads rows inside low here q o h at.0 at.1 in λ i. (e.0 i, e.1 i)),
+          coherent k.world k.owner id (read_word r p x me.0) (learn_word k.world k.owner id me.0 r p x knows (knows.opened r seen) high low (word_is shape id place me r p threads rows inside low here s k view)) (world_kept shape s k),
+        ),
       )
 
-  pub draft_allowed : (p d : ℕ) → 1 ≤ p → p < 34 → is_word_for p d ≡ true → Has me.0.held r → ¬ Has me.0.opened r → place ≡ place_of shape.rows r p
+  pub draft_allowed : (p d : ℕ) → 1 ≤ p → p < 34 → is_word_for p d ≡ true → Has me.0.seen.held r → ¬ Has me.0.seen.opened r → place ≡ place_of shape.rows r p
       → Allows (Keeps shape) slots id me place (λ n. d) (λ n. drafted (step slots place d 0 none) me d)
   draft_allowed p d high low formed held unopened here s k homes view range = (
     drafted_word r p d me.0,
@@ -315,7 +286,7 @@ module _ (shape : Shape) (slots id place : ℕ) (me : Me ℕ View) (r : Row)
   )
 
   -- a held row that is not opened
-  pub open_allowed : me.0.stage ≡ Resting → Has me.0.held r → ¬ Has me.0.opened r → place ≡ place_of shape.rows r 0
+  pub open_allowed : me.0.stage ≡ Resting → Has me.0.seen.held r → ¬ Has me.0.seen.opened r → place ≡ place_of shape.rows r 0
       → Allows (Keeps shape) slots id me place (λ n. cell_word Waiting) (λ n. waits (step slots place (cell_word Waiting) 0 none) me (cell_word Waiting))
   open_allowed resting held unopened here s k homes view range = (
     turned Resting r me.0,
@@ -326,7 +297,7 @@ module _ (shape : Shape) (slots id place : ℕ) (me : Me ℕ View) (r : Row)
   )
 
   -- a row that this call has claimed
-  pub yield_allowed : me.0.stage ≡ Claims r → Has me.0.held r → place ≡ place_of shape.rows r 0
+  pub yield_allowed : me.0.stage ≡ Claims r → Has me.0.seen.held r → place ≡ place_of shape.rows r 0
       → Allows (Keeps shape) slots id me place (λ n. cell_word Waiting) (λ n. waits (step slots place (cell_word Waiting) 0 none) me (cell_word Waiting))
   yield_allowed claiming held here s k homes view range = (
     turned Resting r me.0,
@@ -337,7 +308,7 @@ module _ (shape : Shape) (slots id place : ℕ) (me : Me ℕ View) (r : Row)
   )
 
   -- a held row: where it is Waiting, it is this call's
-  pub claim_allowed : me.0.stage ≡ Resting → Has me.0.held r → place ≡ place_of shape.rows r 0
+  pub claim_allowed : me.0.stage ≡ Resting → Has me.0.seen.held r → place ≡ place_of shape.rows r 0
       → Allows (Keeps shape) slots id me place (λ n. either (eqb n (cell_word Waiting)) (cell_word Claimed) n) (claimed (step slots place (cell_word Waiting) (cell_word Claimed) none) me)
   claim_allowed resting held here s k homes view range =
       let n = slice_index s.words place in
@@ -358,7 +329,7 @@ module _ (shape : Shape) (slots id place : ℕ) (me : Me ℕ View) (r : Row)
         keeps,
         tt,
         learnt shape id place me r 0 threads rows inside (omega arith) here s k view (saw r (cell_read n) me.0) (learn_cell k.world k.owner id me.0 r (cell_read n) knows read),
-        λ q at. (λ e. absurd (f e), λ g. seen_there k.world k.owner id me r q (cell_read n) knows read (one q at)),
+        λ q at. (λ e. absurd (f e), λ g. seen_there k.world k.owner id me r q (cell_read n) (world_kept shape s k) knows read (one q at)),
       ))
 
 -- one word stands for one commit
@@ -375,7 +346,7 @@ module _ (shape : Shape) (slots id place : ℕ) (me : Me ℕ View) (r : Row)
     (threads : me.0.threads ≡ shape.threads) (rows : me.0.rows ≡ shape.rows)
     (inside : Inside shape.threads shape.rows r) where
   -- another row: where it is Waiting, it is joined with the row that this call has claimed
-  pub join_allowed : (mine : Row) (own partner : ℕ) (j : Joined) → me.0.stage ≡ Claims mine → Has me.0.held mine → CanJoin me.0 mine own r partner j → IsJoinedInRange j → place ≡ place_of shape.rows r 0
+  pub join_allowed : (mine : Row) (own partner : ℕ) (j : Joined) → me.0.stage ≡ Claims mine → Has me.0.seen.held mine → CanJoin me.0.seen mine own r partner j → IsJoinedInRange j → place ≡ place_of shape.rows r 0
       → Allows (Keeps shape) slots id me place (λ n. either (eqb n (cell_word Waiting)) (cell_word (Synched j)) n) (joined (step slots place (cell_word Waiting) (cell_word (Synched j)) none) me)
   join_allowed mine own partner j claiming held can in_range here s k homes view range =
       let n = slice_index s.words place in
@@ -402,7 +373,7 @@ module _ (shape : Shape) (slots id place : ℕ) (me : Me ℕ View) (r : Row)
         keeps,
         tt,
         learnt shape id place me r 0 threads rows inside (omega arith) here s k view (saw r (cell_read n) me.0) (learn_cell k.world k.owner id me.0 r (cell_read n) knows read),
-        λ m q i stage at i_range second. (λ e. absurd (f e), λ g. seen_there k.world k.owner id me r q (cell_read n) knows read (one q at)),
+        λ m q i stage at i_range second. (λ e. absurd (f e), λ g. seen_there k.world k.owner id me r q (cell_read n) (world_kept shape s k) knows read (one q at)),
       ))
     where
       one_claim : (a b : Row) → Claims a ≡ Claims b → a ≡ b
@@ -414,7 +385,7 @@ module _ (shape : Shape) (slots id place : ℕ) (me : Me ℕ View) (r : Row)
           row_in (Joins m o j) = m
 
   -- a row that this call has claimed, and joined with another
-  pub seal_allowed : (other : Row) (own : ℕ) (j : Joined) → me.0.stage ≡ Joins r other j → j.partner ≡ Some (r, own) → Has me.0.held r → IsJoinedInRange (mirrored other j own) → place ≡ place_of shape.rows r 0
+  pub seal_allowed : (other : Row) (own : ℕ) (j : Joined) → me.0.stage ≡ Joins r other j → j.partner ≡ Some (r, own) → Has me.0.seen.held r → IsJoinedInRange (mirrored other j own) → place ≡ place_of shape.rows r 0
       → Allows (Keeps shape) slots id me place (λ n. cell_word (Synched (mirrored other j own))) (λ n. sealed (step slots place (cell_word (Synched (mirrored other j own))) 0 none) me (cell_word (Synched (mirrored other j own))))
   seal_allowed other own j joining_now partner_is held in_range here s k homes view range = (
     saw r (Synched (mirrored other j own)) (turned Resting r me.0),

@@ -19,7 +19,8 @@ use Rattle.cell.specs.declared.view.View.{View}
 use Rattle.cell.specs.declared.view.Shape.{Shape}
 use Rattle.cell.specs.declared.view.Stage.{Stage}
 use Rattle.cell.specs.declared.view.Stage.TheVariants.{Resting, Claims, Joins}
-use Rattle.cell.specs.Views.{Has, Knows, Staged, first_row}
+use Rattle.cell.specs.Sight.{Has}
+use Rattle.cell.specs.Views.{Knows, Staged, first_row}
 use Rattle.cell.specs.Rule.{Keeps, dealer, dealt_rows, dealt_pass}
 
 -- WHO OWNS WHAT may change for rows that a pass does not own
@@ -86,9 +87,9 @@ keeps_start shape ws xs few one_row few_rows one_pass zeros = record {
     first = knows_nothing (start_world shape.threads shape.rows shape.passes) (λ r. 0) 0 shape 0 refl refl refl one_pass
         (λ t h d. (refl, start_holder shape.threads shape.rows shape.passes (first_row t) h one_row, start_cell shape.threads shape.rows (first_row t)))
 
-    knows_at : (id : ℕ) (v : View) → get_elem? (dealer shape 0 ∷ []) id ≡ some v → Knows (start_world shape.threads shape.rows shape.passes) (λ r. 0) id v
-    knows_at zero v e = subst (λ (u : View). Knows (start_world shape.threads shape.rows shape.passes) (λ r. 0) 0 u) (mathlib.Core.Option.some-injective _ _ e) first
-    knows_at (suc id) v e = absurd (mathlib.Core.Option.some-ne-none v (sym e))
+    knows_at : (id : ℕ) (v : View) → get_elem? (dealer shape 0 ∷ []) id ≡ some v → 0 < v.threads → Knows (start_world shape.threads shape.rows shape.passes) (λ r. 0) id v
+    knows_at zero v e t = subst (λ (u : View). Knows (start_world shape.threads shape.rows shape.passes) (λ r. 0) 0 u) (mathlib.Core.Option.some-injective _ _ e) first
+    knows_at (suc id) v e t = absurd (mathlib.Core.Option.some-ne-none v (sym e))
 
 -- THE ROWS OF ONE SEAT
 abbrev IsDealt : ℕ → ℕ → ℕ → Row → Type 0
@@ -105,15 +106,15 @@ has_dealt zero passes k r h = absurd h
 has_dealt (suc t) passes k r h = has_one t passes k r (dealt_rows t passes k) (eqb (t % passes) k) refl (λ g. has_dealt t passes k r g) h
 
 -- a list with one more at its end
-at_end : {A : Type 0} (l : List A) (a b : A) (j : ℕ) → get_elem? (l ++ a ∷ []) j ≡ some b → (get_elem? l j ≡ some b) ⊎ ((j ≡ length l) × (a ≡ b))
+pub at_end : {A : Type 0} (l : List A) (a b : A) (j : ℕ) → get_elem? (l ++ a ∷ []) j ≡ some b → (get_elem? l j ≡ some b) ⊎ ((j ≡ length l) × (a ≡ b))
 at_end [] a b zero e = inr (refl, mathlib.Core.Option.some-injective a b e)
 at_end [] a b (suc j) e = absurd (mathlib.Core.Option.some-ne-none b (sym e))
 at_end (x ∷ xs) a b zero e = inl e
 at_end (x ∷ xs) a b (suc j) e = ⊎_elim (λ h. inl h) (λ h. inr (ap suc h.0, h.1)) (at_end xs a b j e)
 
-module _ {S : Type 0} (shape : Shape) (id k : ℕ) (below : k < shape.passes) (s : State S View) (h : Keeps shape s) (view : get_elem? s.views id ≡ some (dealer shape k)) where
+module _ {S : Type 0} (shape : Shape) (id k : ℕ) (below : k < shape.passes) (some_threads : 0 < shape.threads) (s : State S View) (h : Keeps shape s) (view : get_elem? s.views id ≡ some (dealer shape k)) where
   was : Knows h.world h.owner id (dealer shape k)
-  was = h.knows id (dealer shape k) view
+  was = h.knows id (dealer shape k) view some_threads
 
   abbrev new : ℕ
   new = length s.views
@@ -180,10 +181,10 @@ module _ {S : Type 0} (shape : Shape) (id k : ℕ) (below : k < shape.passes) (s
     taken = λ r i. absurd i;
   }
 
-  at_old : (j : ℕ) (u : View) → get_elem? (slice_set s.views id (dealer shape (k + 1))) j ≡ some u → Knows h.world owner' j u
-  at_old j u e = ⊎_elim
+  at_old : (j : ℕ) (u : View) → get_elem? (slice_set s.views id (dealer shape (k + 1))) j ≡ some u → 0 < u.threads → Knows h.world owner' j u
+  at_old j u e t = ⊎_elim
       (λ (a : (j ≡ id) × (dealer shape (k + 1) ≡ u)). subst (λ (z : ℕ × View). Knows h.world owner' z.0 z.1) (λ i. (sym a.0 i, a.1 i)) left)
-      (λ (a : (j ≢ id) × (get_elem? s.views j ≡ some u)). knows_owned h.world h.owner owner' j u (kept_owner j a.0) (h.knows j u a.1))
+      (λ (a : (j ≢ id) × (get_elem? s.views j ≡ some u)). knows_owned h.world h.owner owner' j u (kept_owner j a.0) (h.knows j u a.1 t))
       (at_set s.views id j (dealer shape (k + 1)) u e)
 
   deals : Keeps shape (record { words = s.words; homes = s.homes; views = slice_set s.views id (dealer shape (k + 1)) ++ dealt_pass (dealer shape k) ∷ [] })
@@ -195,11 +196,11 @@ module _ {S : Type 0} (shape : Shape) (id k : ℕ) (below : k < shape.passes) (s
     played = h.played;
     table = h.table;
     owner = owner';
-    knows = λ j u e. ⊎_elim (λ old. at_old j u old) (λ now. subst (λ (z : ℕ × View). Knows h.world owner' z.0 z.1) (λ i. (sym (now.0 ∙ length-set s.views id (dealer shape (k + 1))) i, now.1 i)) its_pass) (at_end (slice_set s.views id (dealer shape (k + 1))) (dealt_pass (dealer shape k)) u j e);
+    knows = λ j u e t. ⊎_elim (λ old. at_old j u old t) (λ now. subst (λ (z : ℕ × View). Knows h.world owner' z.0 z.1) (λ i. (sym (now.0 ∙ length-set s.views id (dealer shape (k + 1))) i, now.1 i)) its_pass) (at_end (slice_set s.views id (dealer shape (k + 1))) (dealt_pass (dealer shape k)) u j e);
   }
 
-pub deal_allowed : {S : Type 0} (shape : Shape) (id k : ℕ) → k < shape.passes → Splits {S = S} (Keeps shape) id (dealer shape k) (dealer shape (k + 1)) (dealt_pass (dealer shape k))
-deal_allowed shape id k below s h view = deals shape id k below s h view
+pub deal_allowed : {S : Type 0} (shape : Shape) (id k : ℕ) → k < shape.passes → 0 < shape.threads → Splits {S = S} (Keeps shape) id (dealer shape k) (dealer shape (k + 1)) (dealt_pass (dealer shape k))
+deal_allowed shape id k below some_threads s h view = deals shape id k below some_threads s h view
 
 -- a table has some words
 pub some_words : (threads rows : ℕ) → 1 ≤ threads → 0 < threads * thread_len rows

@@ -1,4 +1,12 @@
+pub mod Truths
+pub mod Redrafting
+pub mod Learning
+pub mod Offers
+pub mod Meeting
+pub mod Results
 pub mod Others
 pub mod Turning
 pub mod Allowing
 pub mod Dealing
+pub mod Hearing
+pub mod Endings

@@ -15,7 +15,8 @@ use Rattle.protocol.specs.Kept.{Kept}
 use Rattle.protocol.proofs.RowLemmas.{row_cases, row_ne, put, put_same, put_other}
 use Rattle.protocol.proofs.Places.{word_other, is_row_after}
 use Rattle.protocol.proofs.Readings.{cell_after_cell, cell_after_word, row_of_open}
-use Rattle.cell.specs.Views.{Has, first_row, is_taken, IsClaimer, Staged, Knows, turned, saw, read_word, without, drafted_word}
+use Rattle.cell.specs.Sight.{Has, without}
+use Rattle.cell.specs.Views.{first_row, is_taken, IsClaimer, Staged, Knows, at_stage, turned, saw, read_word, drafted_word}
 
 holder_kept : (w : World) (t : Table) (r : Row) → t.threads ≡ w.table.threads → t.rows ≡ w.table.rows → holder_at (with_table w t) r ≡ holder_at w r
 holder_kept = Rattle.protocol.proofs.Keeping.holder_same
@@ -146,7 +147,7 @@ module _ (w : World) (x : Row) (c : Cell) (owner : Row → ℕ) (k : Kept w)
   -- the pass that writes the cell
   pub own_cell : (id : ℕ) (v : View) (stage : Stage) → Knows w owner id v
       → Staged (with_table w (with_cell w.table x c)) owner id stage
-      → ((r : Row) → Has v.held r → cell_at (with_cell w.table x c) r ≡ Claimed → IsClaimer stage r)
+      → ((r : Row) → Has v.seen.held r → cell_at (with_cell w.table x c) r ≡ Claimed → IsClaimer stage r)
       → Knows (with_table w (with_cell w.table x c)) owner id (turned stage x v)
   own_cell id v stage knows staged calm = record {
     threads = knows.threads ∙ sym size_kept.0;
@@ -167,7 +168,7 @@ module _ (w : World) (x : Row) (c : Cell) (owner : Row → ℕ) (k : Kept w)
     taken = λ r h. stays_taken r (knows.taken r h);
   }
     where
-      opened_now : (r : Row) → Has (x ∷ v.opened) r → is_fresh (cell_at (with_cell w.table x c) r) ≡ false
+      opened_now : (r : Row) → Has (x ∷ v.seen.opened) r → is_fresh (cell_at (with_cell w.table x c) r) ≡ false
       opened_now r (inl e) = ap (λ (y : Row). is_fresh (cell_at (with_cell w.table x c) y)) (sym e) ∙ ap is_fresh at_x ∙ open_c
       opened_now r (inr h) = stays_open r (knows.opened r h)
 
@@ -176,20 +177,7 @@ module _ (w : World) (x : Row) (c : Cell) (owner : Row → ℕ) (k : Kept w)
 know_more : (w : World) (owner : Row → ℕ) (id : ℕ) (v : View) (r : Row) (js : List (Row × Joined)) (ts : List Row) → Knows w owner id v → is_fresh (cell_at w.table r) ≡ false
     → ((q : Row) (j : Joined) → Has js (q, j) → joined_at w.table q ≡ Some j)
     → ((q : Row) → Has ts q → is_taken (cell_at w.table q) ≡ true)
-    → Knows w owner id (record {
-      threads = v.threads;
-      rows = v.rows;
-      passes = v.passes;
-      dealt = v.dealt;
-      seat = v.seat;
-      stage = v.stage;
-      held = v.held;
-      drafts = v.drafts;
-      opened = r ∷ v.opened;
-      words = v.words;
-      joined = js;
-      taken = ts;
-    })
+    → Knows w owner id (at_stage v.stage (record { held = v.seen.held; drafts = v.seen.drafts; opened = r ∷ v.seen.opened; words = v.seen.words; joined = js; taken = ts }) v)
 know_more w owner id v r js ts k f js_true ts_true = record {
   threads = k.threads;
   rows = k.rows;
@@ -201,7 +189,7 @@ know_more w owner id v r js ts k f js_true ts_true = record {
   staged = k.staged;
   fresh = λ q h n. k.fresh q h (λ o. n (inr o));
   drafted = k.drafted;
-  opened = λ q h. ⊎_elim (λ (e : r ≡ q). ap (λ (y : Row). is_fresh (cell_at w.table y)) (sym e) ∙ f) (λ (o : Has v.opened q). k.opened q o) h;
+  opened = λ q h. ⊎_elim (λ (e : r ≡ q). ap (λ (y : Row). is_fresh (cell_at w.table y)) (sym e) ∙ f) (λ (o : Has v.seen.opened q). k.opened q o) h;
   read = k.read;
   joined = js_true;
   taken = ts_true;
@@ -209,22 +197,22 @@ know_more w owner id v r js ts k f js_true ts_true = record {
 
 pub learn_cell : (w : World) (owner : Row → ℕ) (id : ℕ) (v : View) (r : Row) (c : Cell) → Knows w owner id v → cell_at w.table r ≡ c → Knows w owner id (saw r c v)
 learn_cell w owner id v r Fresh k e = k
-learn_cell w owner id v r Waiting k e = know_more w owner id v r v.joined v.taken k (ap is_fresh e) k.joined k.taken
-learn_cell w owner id v r Claimed k e = know_more w owner id v r v.joined v.taken k (ap is_fresh e) k.joined k.taken
+learn_cell w owner id v r Waiting k e = know_more w owner id v r v.seen.joined v.seen.taken k (ap is_fresh e) k.joined k.taken
+learn_cell w owner id v r Claimed k e = know_more w owner id v r v.seen.joined v.seen.taken k (ap is_fresh e) k.joined k.taken
 learn_cell w owner id v r (Synched j) k e =
-    know_more w owner id v r ((r, j) ∷ v.joined) v.taken k (ap is_fresh e) (λ q i h. seen q i h) k.taken
+    know_more w owner id v r ((r, j) ∷ v.seen.joined) v.seen.taken k (ap is_fresh e) (λ q i h. seen q i h) k.taken
   where
-    seen : (q : Row) (i : Joined) → Has ((r, j) ∷ v.joined) (q, i) → joined_at w.table q ≡ Some i
+    seen : (q : Row) (i : Joined) → Has ((r, j) ∷ v.seen.joined) (q, i) → joined_at w.table q ≡ Some i
     seen q i (inl p) = ap (λ (z : Row × Joined). joined_at w.table z.0) (sym p) ∙ ap joined_of e ∙ ap (λ (z : Row × Joined). Some z.1) p
     seen q i (inr h) = k.joined q i h
 learn_cell w owner id v r (Taken j) k e =
-    know_more w owner id v r ((r, j) ∷ v.joined) (r ∷ v.taken) k (ap is_fresh e) (λ q i h. seen q i h) (λ q h. took q h)
+    know_more w owner id v r ((r, j) ∷ v.seen.joined) (r ∷ v.seen.taken) k (ap is_fresh e) (λ q i h. seen q i h) (λ q h. took q h)
   where
-    seen : (q : Row) (i : Joined) → Has ((r, j) ∷ v.joined) (q, i) → joined_at w.table q ≡ Some i
+    seen : (q : Row) (i : Joined) → Has ((r, j) ∷ v.seen.joined) (q, i) → joined_at w.table q ≡ Some i
     seen q i (inl p) = ap (λ (z : Row × Joined). joined_at w.table z.0) (sym p) ∙ ap joined_of e ∙ ap (λ (z : Row × Joined). Some z.1) p
     seen q i (inr h) = k.joined q i h
 
-    took : (q : Row) → Has (r ∷ v.taken) q → is_taken (cell_at w.table q) ≡ true
+    took : (q : Row) → Has (r ∷ v.seen.taken) q → is_taken (cell_at w.table q) ≡ true
     took q (inl p) = ap (λ (y : Row). is_taken (cell_at w.table y)) (sym p) ∙ ap is_taken e
     took q (inr h) = k.taken q h
 
@@ -246,7 +234,7 @@ learn_word w owner id v r p x k f a b e = record {
   taken = k.taken;
 }
   where
-    seen : (q : Row) (o y : ℕ) → Has ((r, p, x) ∷ v.words) (q, o, y) → (is_fresh (cell_at w.table q) ≡ false) × (o < 34) × (1 ≤ o) × (word_at w.table q o ≡ y)
+    seen : (q : Row) (o y : ℕ) → Has ((r, p, x) ∷ v.seen.words) (q, o, y) → (is_fresh (cell_at w.table q) ≡ false) × (o < 34) × (1 ≤ o) × (word_at w.table q o ≡ y)
     seen q o y (inl i) = subst (λ (z : Row × ℕ × ℕ). (is_fresh (cell_at w.table z.0) ≡ false) × (z.1 < 34) × (1 ≤ z.1) × (word_at w.table z.0 z.1 ≡ z.2)) i (f, b, a, e)
     seen q o y (inr h) = k.read q o y h
 
@@ -275,20 +263,7 @@ module _ (w : World) (x : Row) (p d : ℕ) (owner : Row → ℕ) (k : Kept w)
 
   after_draft : (id : ℕ) (v : View) (ds : List (Row × ℕ × ℕ)) → Knows w owner id v
       → ((r : Row) (q y : ℕ) → Has ds (r, q, y) → (owner r ≡ id) × (q < 34) × (1 ≤ q) × (is_row (with_word w.table x p d) r ≡ true) × (word_at (with_word w.table x p d) r q ≡ y))
-      → Knows (with_table w (with_word w.table x p d)) owner id (record {
-        threads = v.threads;
-        rows = v.rows;
-        passes = v.passes;
-        dealt = v.dealt;
-        seat = v.seat;
-        stage = v.stage;
-        held = v.held;
-        drafts = ds;
-        opened = v.opened;
-        words = v.words;
-        joined = v.joined;
-        taken = v.taken;
-      })
+      → Knows (with_table w (with_word w.table x p d)) owner id (at_stage v.stage (record { held = v.seen.held; drafts = ds; opened = v.seen.opened; words = v.seen.words; joined = v.seen.joined; taken = v.seen.taken }) v)
   after_draft id v ds knows drafted = record {
     threads = knows.threads;
     rows = knows.rows;
@@ -307,7 +282,7 @@ module _ (w : World) (x : Row) (p d : ℕ) (owner : Row → ℕ) (k : Kept w)
   }
 
   pub others_draft : (id : ℕ) (v : View) → Knows w owner id v → (owner x ≡ id → ⊥) → Knows (with_table w (with_word w.table x p d)) owner id v
-  others_draft id v knows other = after_draft id v v.drafts knows (λ r q y h.
+  others_draft id v knows other = after_draft id v v.seen.drafts knows (λ r q y h.
       let k = knows.drafted r q y h in
       (k.0, k.1, k.2, is_row_after w.table x r p d ∙ k.3, words_stay r q k.3 k.1 (inl (row_ne r x (λ e. other (ap owner (sym e) ∙ k.0)))) ∙ k.4))
 
@@ -332,13 +307,13 @@ module _ (w : World) (x : Row) (p d : ℕ) (owner : Row → ℕ) (k : Kept w)
   kept_drafts (e ∷ ds) r q y h = kept_entry e ds (without x p ds) r q y (row_eq e.0 x) (eqb e.1 p) refl refl (λ i. kept_drafts ds r q y i) h
 
   pub own_draft : (id : ℕ) (v : View) → Knows w owner id v → owner x ≡ id → Knows (with_table w (with_word w.table x p d)) owner id (drafted_word x p d v)
-  own_draft id v knows mine = after_draft id v ((x, p, d) ∷ without x p v.drafts) knows (λ r q y h. drafted_now r q y h)
+  own_draft id v knows mine = after_draft id v ((x, p, d) ∷ without x p v.seen.drafts) knows (λ r q y h. drafted_now r q y h)
     where
-      drafted_now : (r : Row) (q y : ℕ) → Has ((x, p, d) ∷ without x p v.drafts) (r, q, y) → (owner r ≡ id) × (q < 34) × (1 ≤ q) × (is_row (with_word w.table x p d) r ≡ true) × (word_at (with_word w.table x p d) r q ≡ y)
+      drafted_now : (r : Row) (q y : ℕ) → Has ((x, p, d) ∷ without x p v.seen.drafts) (r, q, y) → (owner r ≡ id) × (q < 34) × (1 ≤ q) × (is_row (with_word w.table x p d) r ≡ true) × (word_at (with_word w.table x p d) r q ≡ y)
       drafted_now r q y (inl e) =
           subst (λ (z : Row × ℕ × ℕ). (owner z.0 ≡ id) × (z.1 < 34) × (1 ≤ z.1) × (is_row (with_word w.table x p d) z.0 ≡ true) × (word_at (with_word w.table x p d) z.0 z.1 ≡ z.2)) e
           (mine, high, low, is_row_after w.table x x p d ∙ row, Rattle.protocol.proofs.Places.word_same w.table x p d k.sized row high)
       drafted_now r q y (inr h) =
-          let was = kept_drafts v.drafts r q y h in
+          let was = kept_drafts v.seen.drafts r q y h in
           let k = knows.drafted r q y was.0 in
           (k.0, k.1, k.2, is_row_after w.table x r p d ∙ k.3, words_stay r q k.3 k.1 was.1 ∙ k.4)

@@ -1,5 +1,5 @@
 -- The rule of the table is kept by a call that learns, and by a step of the protocol.
-use Rattle.std.proofs.Common.{slice_set, ◌≡◌, ◌≢◌, ℕ, List, [], ◌∷◌, ◌++◌, sym, ap, ◌∙◌, subst, ⊎_elim}
+use Rattle.std.proofs.Common.{slice_set, ◌≡◌, ◌≢◌, ◌<◌, ℕ, List, [], ◌∷◌, ◌++◌, sym, ap, ◌∙◌, subst, ⊎_elim}
 use mathlib.Core.Option.{Option, some}
 use lib.ListN.{get_elem?}
 use Rattle.atomic_table.specs.Table.{State}
@@ -16,12 +16,12 @@ use Rattle.cell.specs.Rule.{Keeps}
 
 -- what all views say of a world, one of them being new
 views_with : (vs : List View) (id : ℕ) (w : View) (world : World) (owner : Row → ℕ)
-    → ((j : ℕ) (u : View) → j ≢ id → get_elem? vs j ≡ some u → Knows world owner j u)
+    → ((j : ℕ) (u : View) → j ≢ id → get_elem? vs j ≡ some u → 0 < u.threads → Knows world owner j u)
     → Knows world owner id w
-    → (j : ℕ) (u : View) → get_elem? (slice_set vs id w) j ≡ some u → Knows world owner j u
-views_with vs id w world owner others mine j u e = ⊎_elim
+    → (j : ℕ) (u : View) → get_elem? (slice_set vs id w) j ≡ some u → 0 < u.threads → Knows world owner j u
+views_with vs id w world owner others mine j u e at_table = ⊎_elim
     (λ (h : (j ≡ id) × (w ≡ u)). subst (λ (z : ℕ × View). Knows world owner z.0 z.1) (λ i. (sym h.0 i, h.1 i)) mine)
-    (λ (h : (j ≢ id) × (get_elem? vs j ≡ some u)). others j u h.0 h.1)
+    (λ (h : (j ≢ id) × (get_elem? vs j ≡ some u)). others j u h.0 h.1 at_table)
     (at_set vs id j w u e)
 
 -- the table stays, and one pass knows more
@@ -35,14 +35,14 @@ keeps_view shape s k id w ws hs same knows = record {
   played = k.played;
   table = k.table ∙ ap (λ (z : List ℕ). record { threads = shape.threads; rows = shape.rows; words = z }) (sym same);
   owner = k.owner;
-  knows = views_with s.views id w k.world k.owner (λ j u n e. k.knows j u e) knows;
+  knows = views_with s.views id w k.world k.owner (λ j u n e t. k.knows j u e t) knows;
 }
 
 -- the protocol's step is made, and one pass knows more
 pub keeps_step : {S : Type 0} (shape : Shape) (s : State S View) (k : Keeps shape s) (id : ℕ) (w : View) (ws : List ℕ) (hs : List (Option S))
     → (seat : Seat) (step : Step) → Allowed k.world seat step
     → (after_step k.world seat step).table ≡ record { threads = shape.threads; rows = shape.rows; words = ws }
-    → ((j : ℕ) (u : View) → j ≢ id → get_elem? s.views j ≡ some u → Knows (after_step k.world seat step) k.owner j u)
+    → ((j : ℕ) (u : View) → j ≢ id → get_elem? s.views j ≡ some u → 0 < u.threads → Knows (after_step k.world seat step) k.owner j u)
     → Knows (after_step k.world seat step) k.owner id w
     → Keeps shape (record { words = ws; homes = hs; views = slice_set s.views id w })
 keeps_step shape s k id w ws hs seat step allowed same others knows = record {

@@ -1,3 +1,5 @@
+pub mod Sight
+pub mod Attempts
 pub mod Views
 pub mod Rule
 pub mod Told

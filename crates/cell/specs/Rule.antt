@@ -1,5 +1,5 @@
 -- The rule of the shared table.
-use Rattle.std.specs.Prelude.{◌≡◌, ℕ, zero, suc, ◌+◌, ◌%◌, ◌≤◌, ◌==◌, if◌then◌else◌, List, [], ◌∷◌}
+use Rattle.std.specs.Prelude.{◌≡◌, ℕ, zero, suc, ◌+◌, ◌%◌, ◌≤◌, ◌==◌, ◌<◌, ◌||◌, Bool, true, false, if◌then◌else◌, List, [], ◌∷◌, ◌++◌}
 use mathlib.Core.Option.{some}
 use lib.ListN.{get_elem?}
 use Rattle.atomic_table.specs.Table.{State}
@@ -10,7 +10,9 @@ use Rattle.cell.specs.declared.view.View.{View}
 use Rattle.cell.specs.declared.view.Shape.{Shape}
 use Rattle.cell.specs.declared.view.Stage.TheVariants.{Resting}
 use Rattle.protocol.specs.Worlds.{World, start_world, Plays}
-use Rattle.cell.specs.Views.{Knows, first_row}
+use Rattle.cell.specs.declared.view.Seen.{Seen}
+use Rattle.cell.specs.Views.{Knows, first_row, at_stage}
+use Rattle.protocol.specs.Tables.{row_eq}
 
 -- The history: a list of the protocol's steps leads from the start to the words as they stand. What each pass has seen
 -- is true of the world that the history leads to. Nothing else ever happens to the table.
@@ -22,24 +24,16 @@ pub record Keeps {S : Type 0} (shape : Shape) (s : State S View) : Type 0 where
   pub played : Plays (start_world shape.threads shape.rows shape.passes) history world
   pub table : world.table ≡ record { threads = shape.threads; rows = shape.rows; words = s.words }
   pub owner : Row → ℕ
-  pub knows : (id : ℕ) (v : View) → get_elem? s.views id ≡ some v → Knows world owner id v
+  -- a pass that is of no table any more knows nothing
+  pub knows : (id : ℕ) (v : View) → get_elem? s.views id ≡ some v → 0 < v.threads → Knows world owner id v
+
+-- a pass that holds these rows and has seen nothing
+abbrev pub seen_nothing : List Row → Seen
+seen_nothing rows = record { held = rows; drafts = []; opened = []; words = []; joined = []; taken = [] }
 
 -- the first pass: it has dealt the seats below this one, and holds nothing itself
 abbrev pub dealer : Shape → ℕ → View
-dealer shape k = record {
-  threads = shape.threads;
-  rows = shape.rows;
-  passes = shape.passes;
-  dealt = k;
-  seat = 0;
-  stage = Resting;
-  held = [];
-  drafts = [];
-  opened = [];
-  words = [];
-  joined = [];
-  taken = [];
-}
+dealer shape k = record { threads = shape.threads; rows = shape.rows; passes = shape.passes; dealt = k; seat = 0; stage = Resting; seen = seen_nothing [] }
 
 -- the first rows of the threads below this one that fall to seat k
 abbrev pub dealt_rows : ℕ → ℕ → ℕ → List Row
@@ -55,26 +49,45 @@ dealt_pass v = record {
   dealt = v.passes;
   seat = v.dealt;
   stage = Resting;
-  held = dealt_rows v.threads v.passes v.dealt;
-  drafts = [];
-  opened = [];
-  words = [];
-  joined = [];
-  taken = [];
+  seen = seen_nothing (dealt_rows v.threads v.passes v.dealt);
 }
 
 abbrev pub dealt_one : View → View
-dealt_one v = record {
-  threads = v.threads;
-  rows = v.rows;
-  passes = v.passes;
-  dealt = v.dealt + 1;
-  seat = v.seat;
-  stage = v.stage;
-  held = v.held;
-  drafts = v.drafts;
-  opened = v.opened;
-  words = v.words;
-  joined = v.joined;
-  taken = v.taken;
+dealt_one v = record { threads = v.threads; rows = v.rows; passes = v.passes; dealt = v.dealt + 1; seat = v.seat; stage = v.stage; seen = v.seen }
+
+-- WHAT ONE PASS TELLS ANOTHER
+
+-- whether the row is in the list
+abbrev pub is_among : List Row → Row → Bool
+is_among [] r = false
+is_among (q ∷ qs) r = row_eq q r || is_among qs r
+
+-- the words that were drafted for these rows
+abbrev pub drafts_of : List Row → List (Row × ℕ × ℕ) → List (Row × ℕ × ℕ)
+drafts_of rows [] = []
+drafts_of rows (d ∷ ds) = if is_among rows d.0 then d ∷ drafts_of rows ds else drafts_of rows ds
+
+-- what is told: all that was seen, and the words drafted for opened rows, but no row is handed over
+abbrev pub told_of : Seen → Seen
+told_of s = record { held = []; drafts = []; opened = s.opened; words = s.words ++ drafts_of s.opened s.drafts; joined = s.joined; taken = s.taken }
+
+-- what a pass has seen once it was told this
+abbrev pub heard : Seen → Seen → Seen
+heard s told = record {
+  held = s.held;
+  drafts = s.drafts;
+  opened = s.opened ++ told.opened;
+  words = s.words ++ told.words;
+  joined = s.joined ++ told.joined;
+  taken = s.taken ++ told.taken;
 }
+
+abbrev pub told_pass : View → View
+told_pass v = record { threads = v.threads; rows = v.rows; passes = v.passes; dealt = v.passes; seat = v.seat; stage = Resting; seen = told_of v.seen }
+
+abbrev pub heard_pass : View → View → View
+heard_pass v told = at_stage v.stage (heard v.seen told.seen) v
+
+-- the pass that has told all that it had seen: it is of no table any more
+abbrev pub spent_pass : View
+spent_pass = record { threads = 0; rows = 0; passes = 0; dealt = 0; seat = 0; stage = Resting; seen = seen_nothing [] }

@@ -4,7 +4,7 @@ ghost use Rattle.std.specs.Prelude.{◌≡◌, ◌*◌, ◌<◌, ◌≤◌, []};
 ghost use Rattle.protocol.specs.Tables.{thread_len};
 
 use crate::view::{Shape, View};
-use atomic_table::{Play, Split, Table, TableRule};
+use atomic_table::{Join as JoinSeats, Play, Split, Table, TableRule};
 use std::alloc::Global;
 
 /// The rule of the cells.
@@ -28,7 +28,8 @@ pub struct Board {
     pub(crate) shape: Shape,
     ghost keyed: { words.shared.key ≡ shape },
     ghost sized: { words.shared.table_id.words ≡ shape.threads * thread_len shape.rows },
-    ghost small: { (shape.threads ≤ 64) × (shape.rows ≤ 1024) },
+    ghost slotless: { words.shared.table_id.slots ≡ 0 },
+    ghost small: { (1 ≤ shape.threads) × (shape.threads ≤ 64) × (1 ≤ shape.rows) × (shape.rows ≤ 1024) },
 }
 
 /// The row's cell is read.
@@ -104,4 +105,23 @@ impl Split<View> for Deal {
     ghost left = { λ v. dealt_one v };
 
     ghost right = { λ v. dealt_pass v };
+}
+
+/// A pass tells what it has seen: the right part has seen it too, and holds no row.
+pub struct Tell;
+
+impl Split<View> for Tell {
+    ghost use Rattle.cell.specs.Rule.{told_pass};
+
+    ghost left = { λ v. v };
+
+    ghost right = { λ v. told_pass v };
+}
+
+impl JoinSeats<View> for Tell {
+    ghost use Rattle.cell.specs.Rule.{heard_pass, spent_pass};
+
+    ghost both = { λ v w. heard_pass v w };
+
+    ghost spent = { spent_pass };
 }

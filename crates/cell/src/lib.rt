@@ -12,13 +12,19 @@ ghost use Rattle.cell.specs.declared.view.Shape.{Shape};
 ghost use Rattle.cell.specs.declared.view.View.{View};
 ghost use Rattle.cell.specs.Rule.{Keeps};
 
+mod attempt;
 mod board;
+mod closing;
+mod drafting;
+mod reading;
 mod start;
 mod steps;
+mod telling;
 mod view;
 
+pub use crate::attempt::{Attempt, CLAIM, JOIN, NoGate, SEAL, StepGate, YIELD};
 pub use crate::board::{Board, Law};
-pub use crate::view::{Shape, Stage, View};
+pub use crate::view::{Seen, Shape, Stage, View};
 
 /// Between any two atomic steps the ledger of the words is lawful: the rule holds then.
 pub fn every_moment_is_lawful()

@@ -8,7 +8,8 @@ ghost use Rattle.protocol.specs.Worlds.{mirrored};
 ghost use Rattle.cell.specs.declared.view.Stage.TheVariants.{Resting, Claims, Joins};
 ghost use Rattle.cell.specs.Told.{Agrees, cell_read, joining};
 ghost use Rattle.cell.specs.Seats.{Sits, HasRow};
-ghost use Rattle.cell.specs.Views.{Has, CanJoin, saw, read_word, drafted_word, turned};
+ghost use Rattle.cell.specs.Sight.{Has, CanJoin, Coherent};
+ghost use Rattle.cell.specs.Views.{saw, read_word, drafted_word, turned};
 
 use crate::board::{Board, Claim, Draft, Join, Look, Read, Seal, Wait};
 use crate::view::View;
@@ -31,6 +32,7 @@ impl Board {
         ensures sits { (seat.new.id ≡ seat.old.id) × Sits self.now seat.new }
         ensures saw { seat.new.me.0 ≡ saw row result seat.old.me.0 }
         ensures agrees { Agrees seat.old.me.0 row result }
+        ensures coherent { Coherent self.now.shape.threads self.now.shape.rows seat.new.me.0.seen }
     {
         cell_in(self.words.shared.load::<Look>(seat, self.place(row, 0)))
     }
@@ -38,9 +40,10 @@ impl Board {
     /// Reads a word of a row that was seen opened.
     pub(crate) fn read(&self, seat: &mut Seat<u64, View>, row: Row, place: u8) -> u64
         requires sits { Sits self.now seat.old × HasRow self.now row }
-        requires place { (1 ≤ place) × (place < 34) × Has seat.old.me.0.opened row }
+        requires place { (1 ≤ place) × (place < 34) × Has seat.old.me.0.seen.opened row }
         ensures sits { (seat.new.id ≡ seat.old.id) × Sits self.now seat.new }
         ensures read { seat.new.me.0 ≡ read_word row place result seat.old.me.0 }
+        ensures coherent { Coherent self.now.shape.threads self.now.shape.rows seat.new.me.0.seen }
     {
         self.words.shared.load::<Read>(seat, self.place(row, place))
     }
@@ -49,7 +52,7 @@ impl Board {
     pub(crate) fn draft(&self, seat: &mut Seat<u64, View>, row: Row, place: u8, word: u64)
         requires sits { Sits self.now seat.old × HasRow self.now row }
         requires place { (1 ≤ place) × (place < 34) × (is_word_for place word ≡ true) }
-        requires held { Has seat.old.me.0.held row × (¬ Has seat.old.me.0.opened row) }
+        requires held { Has seat.old.me.0.seen.held row × (¬ Has seat.old.me.0.seen.opened row) }
         ensures sits { (seat.new.id ≡ seat.old.id) × Sits self.now seat.new }
         ensures drafted { seat.new.me.0 ≡ drafted_word row place word seat.old.me.0 }
     {
@@ -61,7 +64,7 @@ impl Board {
     /// Opens a held row that is Fresh.
     pub(crate) fn open(&self, seat: &mut Seat<u64, View>, row: Row)
         requires sits { Sits self.now seat.old × HasRow self.now row }
-        requires held { Has seat.old.me.0.held row × (¬ Has seat.old.me.0.opened row) × (seat.old.me.0.stage ≡ Resting) }
+        requires held { Has seat.old.me.0.seen.held row × (¬ Has seat.old.me.0.seen.opened row) × (seat.old.me.0.stage ≡ Resting) }
         ensures sits { (seat.new.id ≡ seat.old.id) × Sits self.now seat.new }
         ensures opened { seat.new.me.0 ≡ turned Resting row seat.old.me.0 }
     {
@@ -73,7 +76,7 @@ impl Board {
     /// Claims a held row, where it is Waiting; else says what it is.
     pub(crate) fn claim(&self, seat: &mut Seat<u64, View>, row: Row) -> Result<(), Cell>
         requires sits { Sits self.now seat.old × HasRow self.now row }
-        requires held { Has seat.old.me.0.held row × (seat.old.me.0.stage ≡ Resting) }
+        requires held { Has seat.old.me.0.seen.held row × (seat.old.me.0.stage ≡ Resting) }
         ensures sits { (seat.new.id ≡ seat.old.id) × Sits self.now seat.new }
         ensures claimed { IfOk result (λ _. seat.new.me.0 ≡ turned (Claims row) row seat.old.me.0) }
         ensures found { IfErr result (λ cell. (cell ≢ Waiting) × (seat.new.me.0 ≡ saw row cell seat.old.me.0) × Agrees seat.old.me.0 row cell) }
@@ -94,7 +97,7 @@ impl Board {
     /// Gives up the row that this call has claimed.
     pub(crate) fn give_up(&self, seat: &mut Seat<u64, View>, row: Row)
         requires sits { Sits self.now seat.old × HasRow self.now row }
-        requires held { Has seat.old.me.0.held row × (seat.old.me.0.stage ≡ Claims row) }
+        requires held { Has seat.old.me.0.seen.held row × (seat.old.me.0.stage ≡ Claims row) }
         ensures sits { (seat.new.id ≡ seat.old.id) × Sits self.now seat.new }
         ensures waits { seat.new.me.0 ≡ turned Resting row seat.old.me.0 }
     {
@@ -114,8 +117,8 @@ impl Board {
         joined: Joined,
     ) -> Result<(), Cell>
         requires sits { Sits self.now seat.old × HasRow self.now row }
-        requires held { Has seat.old.me.0.held mine × (seat.old.me.0.stage ≡ Claims mine) }
-        requires can { CanJoin seat.old.me.0 mine own row partner joined × IsJoinedInRange joined }
+        requires held { Has seat.old.me.0.seen.held mine × (seat.old.me.0.stage ≡ Claims mine) }
+        requires can { CanJoin seat.old.me.0.seen mine own row partner joined × IsJoinedInRange joined }
         ensures sits { (seat.new.id ≡ seat.old.id) × Sits self.now seat.new }
         ensures joined { IfOk result (λ _. seat.new.me.0 ≡ joining mine row joined seat.old.me.0) }
         ensures found { IfErr result (λ cell. (cell ≢ Waiting) × (seat.new.me.0 ≡ saw row cell seat.old.me.0) × Agrees seat.old.me.0 row cell) }
@@ -143,7 +146,7 @@ impl Board {
         joined: Joined,
     )
         requires sits { Sits self.now seat.old × HasRow self.now row }
-        requires held { Has seat.old.me.0.held row × (seat.old.me.0.stage ≡ Joins row other joined) }
+        requires held { Has seat.old.me.0.seen.held row × (seat.old.me.0.stage ≡ Joins row other joined) }
         requires partner { (joined.partner ≡ Some (row, own)) × IsJoinedInRange (mirrored other joined own) }
         ensures sits { (seat.new.id ≡ seat.old.id) × Sits self.now seat.new }
         ensures sealed { seat.new.me.0 ≡ saw row (Synched (mirrored other joined own)) (turned Resting row seat.old.me.0) }

@@ -1,5 +1,5 @@
-//! A table's size, and what a pass has seen. No value of `Stage` or `View` is made: contracts alone
-//! read them.
+//! A table's size, and what a pass has seen. No value of `Stage`, `Seen` or `View` is made: contracts
+//! alone read them.
 
 use protocol::{Joined, Row};
 use std::collections::LinkedList;
@@ -22,19 +22,10 @@ pub enum Stage {
     Joins(Row, Row, Joined),
 }
 
-/// What a pass has seen.
+/// What a pass has seen. It only grows, but for the drafts of a held row that is not opened yet.
 #[derive(Debug, Drop)]
-pub struct View {
-    /// The table's size.
-    pub threads: u64,
-    pub rows: u64,
-    pub passes: u64,
-    /// The seats below this one have their rows already; this pass deals the others.
-    pub dealt: u64,
-    /// The seat of the protocol that makes this pass's steps.
-    pub seat: u8,
-    pub stage: Stage,
-    /// The rows that it holds.
+pub struct Seen {
+    /// The rows that the pass holds. Those that it did not see opened are Fresh.
     pub held: LinkedList<Row>,
     /// The words that it drafted: of a row, at a place.
     pub drafts: LinkedList<(Row, u8, u64)>,
@@ -46,4 +37,19 @@ pub struct View {
     pub joined: LinkedList<(Row, Joined)>,
     /// The rows that it saw taken.
     pub taken: LinkedList<Row>,
+}
+
+/// What the table's rule knows of a pass.
+#[derive(Debug, Drop)]
+pub struct View {
+    /// The table's size.
+    pub threads: u64,
+    pub rows: u64,
+    pub passes: u64,
+    /// The seats below this one have their rows already; this pass deals the others.
+    pub dealt: u64,
+    /// The seat of the protocol that makes this pass's steps.
+    pub seat: u8,
+    pub stage: Stage,
+    pub seen: Seen,
 }

@@ -14,6 +14,7 @@ mod state;
 mod world;
 
 pub use crate::ledger::Ledger;
+pub use crate::state::offers_meet;
 pub use crate::world::{World, play};
 use thiserror::Error;
 pub use words::{

@@ -294,8 +294,8 @@ fn first_holder(seats: usize, row: Row) -> Option<u8>
     }
 }
 
-/// Whether two offers are a send and a receive on one channel.
-fn offers_meet(own: Option<Offer>, other: Option<Offer>) -> bool
+/// Whether two offers are a send and a receive on one channel; an offer that is not there meets none.
+pub fn offers_meet(own: Option<Offer>, other: Option<Offer>) -> bool
     ensures { result ≡ offers_meet own other }
 {
     let (Some(own), Some(other)) = (own, other) else {

@@ -1,0 +1,62 @@
+-- The words of a table at its end, and what their ledger says.
+use Rattle.std.proofs.Common.{◌≡◌, ◌≢◌, ℕ, zero, suc, ◌+◌, ◌*◌, ◌<◌, ◌≤◌, List, [], ◌∷◌, length, slice_index, slice_set, slice_get, get_or, sym, refl, ap, ◌∙◌, subst, ⊎_elim, arith, Some}
+use Rattle.std.proofs.lemmas.List.{ext_get_or, get_or-set_same, get_or-set_other, length-set}
+use mathlib.Core.Option.{some, none}
+use lib.ListN.{get_elem?}
+use Rattle.atomic_table.specs.Table.{State, Seen as SeenWith, Final}
+use Rattle.words.specs.declared.Joined.{Joined}
+use Rattle.words.specs.declared.Offer.{Offer}
+use Rattle.words.specs.declared.Row.{Row}
+use Rattle.protocol.specs.Tables.{Table, thread_len, joined_at, offer_at}
+use Rattle.protocol.specs.Ledgers.{ledger_of, IsLawful, joined_in, offer_in}
+use Rattle.protocol.proofs.LedgerLemmas.{lawful_ledger, joined_in_ledger, offer_in_ledger}
+use Rattle.cell.specs.declared.view.View.{View}
+use Rattle.cell.specs.declared.view.Shape.{Shape}
+use Rattle.cell.specs.Sight.{Has, IsDraft}
+use Rattle.cell.specs.Views.{Knows}
+use Rattle.cell.specs.Rule.{Keeps}
+use Rattle.cell.proofs.Allowing.{world_kept, sized}
+use Rattle.cell.proofs.Truths.{own_chose}
+
+read_there : (xs : List ℕ) (i x : ℕ) → get_elem? xs i ≡ some x → get_or xs i 0 ≡ x
+read_there [] i x e = absurd (mathlib.Core.Option.some-ne-none x (sym e))
+read_there (y ∷ ys) zero x e = mathlib.Core.Option.some-injective y x e
+read_there (y ∷ ys) (suc i) x e = read_there ys i x e
+
+-- one more word is copied
+pub copied_more : (xs ys : List ℕ) (n at x : ℕ) → length xs ≡ n → at < n → get_elem? ys at ≡ some x → ((i : ℕ) → i < at → slice_index xs i ≡ slice_index ys i)
+    → (i : ℕ) → i < at + 1 → slice_index (slice_set xs at x) i ≡ slice_index ys i
+copied_more xs ys n at x len low is before i below = ⊎_elim
+    (λ (e : i ≡ at). ap (λ (k : ℕ). get_or (slice_set xs at x) k 0) e ∙ get_or-set_same xs at x 0 (subst (λ (k : ℕ). at < k) (sym len) low) ∙ sym (read_there ys at x is) ∙ ap (λ (k : ℕ). get_or ys k 0) (sym e))
+    (λ (h : i < at). get_or-set_other xs at i x 0 (λ e. omega arith) ∙ before i h)
+    (Rattle.std.proofs.Math.Nat.eq-or-lt_of_le (let l : i ≤ at = omega arith in l))
+
+pub copied_all : (xs ys : List ℕ) (n at : ℕ) → length xs ≡ n → length ys ≡ n → n ≤ at → ((i : ℕ) → i < at → slice_index xs i ≡ slice_index ys i) → xs ≡ ys
+copied_all xs ys n at len same past each = ext_get_or 0 xs ys (len ∙ sym same) (λ i h. each i (omega arith))
+
+pub ended : (key shape : Shape) (id : ℕ) (v : View) (ws copy slots : List ℕ) → key ≡ shape → copy ≡ ws → Final (SeenWith (Keeps {S = ℕ} key) id v) ws slots → Final (SeenWith (Keeps {S = ℕ} shape) id v) copy slots
+ended key shape id v ws copy slots keyed copied = subst (λ (z : Shape × List ℕ). Final (SeenWith (Keeps {S = ℕ} z.0) id v) z.1 slots) (λ i. (keyed i, sym copied i))
+
+-- THE STATE AT THE END meets the rule, and the pass that closes it has seen what it has seen
+module _ (shape : Shape) (id : ℕ) (v : View) (at_table : 0 < v.threads) (ws slots : List ℕ) (final : Final (SeenWith (Keeps {S = ℕ} shape) id v) ws slots) where
+  kept : Keeps {S = ℕ} shape final.0
+  kept = final.1.0
+
+  table_is : kept.world.table ≡ sized shape ws
+  table_is = kept.table ∙ ap (sized shape) final.2
+
+  known : Knows kept.world kept.owner id v
+  known = kept.knows id v final.1.1 at_table
+
+  pub final_lawful : IsLawful (ledger_of (sized shape ws))
+  final_lawful = subst (λ (t : Table). IsLawful (ledger_of t)) table_is (lawful_ledger kept.world.table (world_kept shape final.0 kept).linked)
+
+  pub final_joined : (r : Row) (j : Joined) → Has v.seen.joined (r, j) → joined_in (ledger_of (sized shape ws)) r ≡ Some j
+  final_joined r j h = subst (λ (t : Table). joined_in (ledger_of t) r ≡ Some j) table_is (ap (λ (f : Row → _). f r) (joined_in_ledger kept.world.table) ∙ known.joined r j h)
+
+  pub final_own : (r : Row) (j : Joined) (offers : List Offer) → IsDraft v.seen r offers → joined_in (ledger_of (sized shape ws)) r ≡ Some j
+      → (j.own < length offers) × (offer_in (ledger_of (sized shape ws)) r j.own ≡ slice_get offers j.own)
+  final_own r j offers draft e =
+      let here : joined_at kept.world.table r ≡ Some j = ap (λ (f : Row → _). f r) (sym (joined_in_ledger kept.world.table)) ∙ subst (λ (t : Table). joined_in (ledger_of t) r ≡ Some j) (sym table_is) e in
+      let chose = own_chose kept.world kept.owner id v r j offers known (world_kept shape final.0 kept) draft here in
+      (chose.0, subst (λ (t : Table). offer_in (ledger_of t) r j.own ≡ slice_get offers j.own) table_is (ap (λ (f : Row → ℕ → _). f r j.own) (offer_in_ledger kept.world.table) ∙ chose.1))

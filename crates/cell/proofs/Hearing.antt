@@ -1,0 +1,143 @@
+-- What a pass has seen is true for whoever is told it.
+use Rattle.std.proofs.Common.{slice_set, ◌≡◌, ◌≢◌, ℕ, ◌<◌, ◌≤◌, ◌%◌, Bool, true, false, cond, ◌||◌, List, [], ◌∷◌, ◌++◌, length, sym, refl, ap, ◌∙◌, subst, inl, inr, ◌⊎◌, ⊎_elim, arith}
+use Rattle.std.proofs.lemmas.Bool.{cases_Bool, true≢false}
+use Rattle.std.proofs.lemmas.List.{length-set}
+use Rattle.std.proofs.Math.Nat.{mod-lt}
+use mathlib.Core.Option.{some}
+use lib.ListN.{get_elem?}
+use Rattle.atomic_table.specs.Table.{State, Splits, Joins}
+use Rattle.atomic_table.proofs.Lists.{at_set}
+use Rattle.words.specs.declared.Row.{Row}
+use Rattle.words.specs.declared.Joined.{Joined}
+use Rattle.protocol.specs.Tables.{Table, is_row, row_eq, is_fresh, cell_at, joined_at, word_at}
+use Rattle.protocol.specs.Worlds.{World}
+use Rattle.protocol.proofs.RowLemmas.{row_eq-true}
+use Rattle.cell.specs.declared.view.Seen.{Seen}
+use Rattle.cell.specs.declared.view.View.{View}
+use Rattle.cell.specs.declared.view.Shape.{Shape}
+use Rattle.cell.specs.Sight.{Has}
+use Rattle.cell.specs.Views.{Knows, is_taken}
+use Rattle.cell.specs.Rule.{Keeps, is_among, drafts_of, told_of, told_pass, heard, heard_pass, spent_pass}
+use Rattle.cell.proofs.Dealing.{at_end}
+
+has_either : {A : Type 0} (xs ys : List A) (x : A) → Has (xs ++ ys) x → Has xs x ⊎ Has ys x
+has_either [] ys x h = inr h
+has_either (y ∷ xs) ys x (inl e) = inl (inl e)
+has_either (y ∷ xs) ys x (inr h) = ⊎_elim (λ (a : Has xs x). inl (inr a)) (λ (b : Has ys x). inr b) (has_either xs ys x h)
+
+among : (rows : List Row) (r : Row) → is_among rows r ≡ true → Has rows r
+among [] r e = absurd (true≢false (sym e))
+among (q ∷ rows) r e = ⊎_elim
+    (λ (h : row_eq q r ≡ true). inl (row_eq-true q r h))
+    (λ (h : row_eq q r ≡ false). inr (among rows r (sym (ap (λ (b : Bool). b || is_among rows r) h) ∙ e)))
+    (cases_Bool (row_eq q r))
+
+-- a draft that is told is of one of the rows
+told_case : (rows : List Row) (d : Row × ℕ × ℕ) (ds : List (Row × ℕ × ℕ)) (x : Row × ℕ × ℕ) (b : Bool) → is_among rows d.0 ≡ b → (Has (drafts_of rows ds) x → Has ds x × Has rows x.0)
+    → Has (cond b (d ∷ drafts_of rows ds) (drafts_of rows ds)) x → Has (d ∷ ds) x × Has rows x.0
+told_case rows d ds x true e rest (inl f) = (inl f, subst (λ (z : Row × ℕ × ℕ). Has rows z.0) f (among rows d.0 e))
+told_case rows d ds x true e rest (inr g) = let t = rest g in (inr t.0, t.1)
+told_case rows d ds x false e rest g = let t = rest g in (inr t.0, t.1)
+
+told_draft : (rows : List Row) (ds : List (Row × ℕ × ℕ)) (x : Row × ℕ × ℕ) → Has (drafts_of rows ds) x → Has ds x × Has rows x.0
+told_draft rows [] x h = absurd h
+told_draft rows (d ∷ ds) x h = told_case rows d ds x (is_among rows d.0) refl (λ g. told_draft rows ds x g) h
+
+module _ (w : World) (owner : Row → ℕ) where
+  knows_told : (id new : ℕ) (v : View) → Knows w owner id v → Knows w owner new (told_pass v)
+  knows_told id new v k = record {
+    threads = k.threads;
+    rows = k.rows;
+    passes = k.passes;
+    seat = k.seat;
+    undealt = λ t h d. let m = mod-lt t (some_seats k.seat) in let p = k.passes in absurd (omega arith);
+    mine = λ r h. absurd h;
+    calm = λ r h e. absurd h;
+    staged = tt;
+    fresh = λ r h n. absurd h;
+    drafted = λ r p x h. absurd h;
+    opened = k.opened;
+    read = λ r p x h. ⊎_elim
+        (λ (a : Has v.seen.words (r, p, x)). k.read r p x a)
+        (λ (b : Has (drafts_of v.seen.opened v.seen.drafts) (r, p, x)).
+        let t = told_draft v.seen.opened v.seen.drafts (r, p, x) b in
+        let d = k.drafted r p x t.0 in
+        (k.opened r t.1, d.1, d.2, d.4))
+        (has_either v.seen.words (drafts_of v.seen.opened v.seen.drafts) (r, p, x) h);
+    joined = k.joined;
+    taken = k.taken;
+  }
+    where
+      some_seats : v.seat < w.seats → 0 < w.seats
+      some_seats h = omega arith
+
+  knows_heard : (id other : ℕ) (v u : View) → Knows w owner id v → Knows w owner other u → Knows w owner id (heard_pass v u)
+  knows_heard id other v u k l = record {
+    threads = k.threads;
+    rows = k.rows;
+    passes = k.passes;
+    seat = k.seat;
+    undealt = λ t h d. let a = k.undealt t h d in (a.0, a.1, λ n. a.2 (λ o. n (has_left v.seen.opened u.seen.opened _ o)));
+    mine = k.mine;
+    calm = k.calm;
+    staged = k.staged;
+    fresh = λ r h n. k.fresh r h (λ o. n (has_left v.seen.opened u.seen.opened r o));
+    drafted = k.drafted;
+    opened = λ r h. ⊎_elim (λ (a : Has v.seen.opened r). k.opened r a) (λ (b : Has u.seen.opened r). l.opened r b) (has_either v.seen.opened u.seen.opened r h);
+    read = λ r p x h. ⊎_elim (λ (a : Has v.seen.words (r, p, x)). k.read r p x a) (λ (b : Has u.seen.words (r, p, x)). l.read r p x b) (has_either v.seen.words u.seen.words (r, p, x) h);
+    joined = λ r j h. ⊎_elim (λ (a : Has v.seen.joined (r, j)). k.joined r j a) (λ (b : Has u.seen.joined (r, j)). l.joined r j b) (has_either v.seen.joined u.seen.joined (r, j) h);
+    taken = λ r h. ⊎_elim (λ (a : Has v.seen.taken r). k.taken r a) (λ (b : Has u.seen.taken r). l.taken r b) (has_either v.seen.taken u.seen.taken r h);
+  }
+    where
+      has_left : {A : Type 0} (xs ys : List A) (x : A) → Has xs x → Has (xs ++ ys) x
+      has_left (y ∷ xs) ys x (inl e) = inl e
+      has_left (y ∷ xs) ys x (inr h) = inr (has_left xs ys x h)
+      has_left [] ys x h = absurd h
+
+pub tell_allowed : {S : Type 0} (shape : Shape) (id : ℕ) (v : View) → 0 < v.threads → Splits {S = S} (Keeps shape) id v v (told_pass v)
+tell_allowed shape id v at_table s k view = record {
+  few_threads = k.few_threads;
+  few_rows = k.few_rows;
+  history = k.history;
+  world = k.world;
+  played = k.played;
+  table = k.table;
+  owner = k.owner;
+  knows = λ j u e t. ⊎_elim
+      (λ old. before j u old t)
+      (λ (now : (j ≡ length (slice_set s.views id v)) × (told_pass v ≡ u)). subst (λ (z : View). Knows k.world k.owner j z) now.1 (knows_told k.world k.owner id j v (k.knows id v view at_table)))
+      (at_end (slice_set s.views id v) (told_pass v) u j e);
+}
+  where
+    before : (j : ℕ) (u : View) → get_elem? (slice_set s.views id v) j ≡ some u → 0 < u.threads → Knows k.world k.owner j u
+    before j u e t = ⊎_elim
+        (λ (a : (j ≡ id) × (v ≡ u)). subst (λ (z : ℕ × View). Knows k.world k.owner z.0 z.1) (λ i. (sym a.0 i, a.1 i)) (k.knows id v view at_table))
+        (λ (a : (j ≢ id) × (get_elem? s.views j ≡ some u)). k.knows j u a.1 t)
+        (at_set s.views id j v u e)
+
+pub hear_allowed : {S : Type 0} (shape : Shape) (id : ℕ) (v : View) (other : ℕ) (w : View) → 0 < v.threads → 0 < w.threads → Joins {S = S} (Keeps shape) id v other w (heard_pass v w) spent_pass
+hear_allowed shape id v other w at_table told_at s k view apart told = record {
+  few_threads = k.few_threads;
+  few_rows = k.few_rows;
+  history = k.history;
+  world = k.world;
+  played = k.played;
+  table = k.table;
+  owner = k.owner;
+  knows = λ j u e t. ⊎_elim
+      (λ (a : (j ≡ other) × (spent_pass ≡ u)). let z : u.threads ≡ 0 = ap (λ (y : View). y.threads) (sym a.1) in absurd (omega arith))
+      (λ (a : (j ≢ other) × (get_elem? (slice_set s.views id (heard_pass v w)) j ≡ some u)). before j u a.1 t)
+      (at_set (slice_set s.views id (heard_pass v w)) other j spent_pass u e);
+}
+  where
+    his : Knows k.world k.owner other w
+    his = ⊎_elim
+        (λ (a : (other ≡ id) × (heard_pass v w ≡ w)). absurd (apart a.0))
+        (λ (a : (other ≢ id) × (get_elem? s.views other ≡ some w)). k.knows other w a.1 told_at)
+        (at_set s.views id other (heard_pass v w) w told)
+
+    before : (j : ℕ) (u : View) → get_elem? (slice_set s.views id (heard_pass v w)) j ≡ some u → 0 < u.threads → Knows k.world k.owner j u
+    before j u e t = ⊎_elim
+        (λ (a : (j ≡ id) × (heard_pass v w ≡ u)). subst (λ (z : ℕ × View). Knows k.world k.owner z.0 z.1) (λ i. (sym a.0 i, a.1 i)) (knows_heard k.world k.owner id other v w (k.knows id v view at_table) his))
+        (λ (a : (j ≢ id) × (get_elem? s.views j ≡ some u)). k.knows j u a.1 t)
+        (at_set s.views id j (heard_pass v w) u e)

@@ -1,0 +1,161 @@
+-- What a pass knows of two rows stays known while it sees more.
+use Rattle.std.proofs.Common.{rules, ◌≡◌, ◌≢◌, ℕ, ◌+◌, ◌*◌, ◌-◌, ◌^◌, ◌<◌, ◌≤◌, Bool, true, false, List, [], ◌∷◌, sym, refl, ap, ◌∙◌, subst, inl, inr, ◌⊎◌, arith, max, unwrap_or, Option, Some, None, cond, IfSome, IfNone, IfErr, is_err, Result, Ok, Err}
+use Rattle.std.proofs.lemmas.Bool.{cases_Bool}
+use Rattle.words.specs.Words.{count_of, IsRowInRange, IsJoinedInRange}
+use Rattle.words.specs.declared.Offer.{Offer}
+use Rattle.words.specs.declared.Row.{Row}
+use Rattle.words.specs.declared.Joined.{Joined}
+use Rattle.words.specs.declared.Base.{Base}
+use Rattle.words.specs.declared.Base.TheVariants.{Send, Recv, Always, OnNack, Never}
+use Rattle.words.specs.declared.Message.{Message}
+use Rattle.protocol.specs.Tables.{offers_meet, bases_meet, is_partner}
+use Rattle.protocol.proofs.RowLemmas.{row_eq-refl}
+use Rattle.cell.specs.Sight.{Coherent, SawChosen, LackOffer, IsKnownOpen}
+use Rattle.cell.specs.declared.view.Seen.{Seen}
+use Rattle.cell.specs.Sight.{Has, HaveOffer, HasSeenLast, SeesOffer, CanJoin, Learns, see_opened}
+use Rattle.words.specs.declared.Cell.{Cell}
+use Rattle.words.specs.declared.Cell.TheVariants.{Fresh, Waiting, Claimed, Synched, Taken}
+use Rattle.protocol.specs.Tables.{is_fresh, joined_of}
+use Rattle.cell.specs.declared.view.View.{View}
+use Rattle.cell.specs.declared.view.Stage.{Stage}
+use Rattle.cell.specs.declared.view.Stage.TheVariants.{Resting}
+use Rattle.cell.specs.Attempts.{IsNear}
+use Rattle.cell.specs.Sight.{SawCommitted, see_cell}
+use Rattle.cell.specs.Told.{Agrees}
+use Rattle.cell.specs.Views.{IsClaimer}
+use Rattle.cell.proofs.Offers.{have_more}
+use Rattle.cell.proofs.Truths.{meeting_own, meeting_other}
+
+pub from_some : {A : Type 0} (x : Option A) (P : A → Type 0) (a : A) → IfSome x P → x ≡ Some a → P a
+from_some None P a h e = let bad : None ≡ Some a = e in cc
+from_some (Some b) P a h e = subst P (Rattle.protocol.proofs.Linking.some_inj b a e) h
+
+pub sees_more : (About : Row → Type 0) (s t : Seen) (r : Row) (n : ℕ) (o : Offer) → Learns About s t → SeesOffer s r n o → SeesOffer t r n o
+sees_more About s t r n o l (inl h) = inl (have_more s.words t.words r n o l.words.0 h)
+sees_more About s t r n o l (inr h) = inr (l.opened.0 r h.0, subst (λ (d : List (Row × ℕ × ℕ)). HaveOffer d r n o) (sym l.drafts) h.1)
+
+last_more : (s t : Seen) (r : Row) (stamp : ℕ) → ((x : Row × Joined) → Has s.joined x → Has t.joined x) → HasSeenLast s r stamp → HasSeenLast t r stamp
+last_more s t r stamp more (inl h) = inl h
+last_more s t r stamp more (inr h) = inr (h.0, h.1, more _ h.2, h.3)
+
+-- an offer that was read has a number below 8
+few : (count n : ℕ) → n < unwrap_or (count_of count) 0 → n < 8
+unfolding count_of
+few count n h = by_case (Rattle.std.proofs.Math.Dec.leb count 8) refl h
+  where
+    by_case : (b : Bool) → Rattle.std.proofs.Math.Dec.leb count 8 ≡ b → n < unwrap_or (cond b (Some count) None) 0 → n < 8
+    by_case true e h = let l = Rattle.std.proofs.lemmas.Bool.leb-true count 8 e in omega arith
+    by_case false e h = absurd (omega arith)
+
+-- the two offers were read, and then both last stamps
+pub can_join : (about_other about_mine about_their : Row → Type 0) (s1 s2 s3 s4 : Seen) (mine other : Row) (own partner my_last their_last : ℕ) (a b : Offer)
+    → Learns about_other s1 s2 → Learns about_mine s2 s3 → Learns about_their s3 s4
+    → mine.thread ≢ other.thread
+    → HaveOffer s1.words mine own a → HaveOffer s2.words other partner b
+    → offers_meet (Some a) (Some b) ≡ true
+    → HasSeenLast s3 mine my_last → HasSeenLast s4 other their_last
+    → CanJoin s4 mine own other partner (record { own = partner; partner = Some (mine, own); stamp = 1 + max my_last their_last })
+can_join _ _ _ s1 s2 s3 s4 mine other own partner my_last their_last a b l m n apart have_mine have_theirs meet last_mine last_theirs = record {
+  apart = apart;
+  my_offer = a;
+  their_offer = b;
+  read_mine = have_more s1.words s4.words mine own a (λ x h. n.words.0 x (m.words.0 x (l.words.0 x h))) have_mine;
+  read_theirs = have_more s2.words s4.words other partner b (λ x h. n.words.0 x (m.words.0 x h)) have_theirs;
+  meet = meet;
+  my_last = my_last;
+  their_last = their_last;
+  seen_mine = last_more s3 s4 mine my_last n.joined.0 last_mine;
+  seen_theirs = last_theirs;
+  is = refl;
+}
+
+pub join_ranged : (threads rows : ℕ) (words words' : List (Row × ℕ × ℕ)) (mine other : Row) (own partner my_last their_last : ℕ) (a b : Offer) → threads ≤ 64 → rows ≤ 1024 → (mine.thread < threads) × (mine.sync < rows)
+    → HaveOffer words mine own a → HaveOffer words' other partner b → my_last ≤ 65536 → their_last ≤ 65536
+    → IsJoinedInRange (record { own = partner; partner = Some (mine, own); stamp = 1 + max my_last their_last })
+join_ranged threads rows words words' mine other own partner my_last their_last a b few_threads few_rows inside have_mine have_theirs low high = record {
+  own = few have_theirs.0 partner have_theirs.6;
+  partner = (record { thread = let i = inside.0 in omega arith; sync = let i = inside.1 in omega arith }, few have_mine.0 own have_mine.6);
+  stamp_low = let m = max my_last their_last in omega arith;
+  stamp_high = small my_last their_last low high;
+}
+  where
+    small : (x y : ℕ) → x ≤ 65536 → y ≤ 65536 → 1 + max x y < 2 ^ 32
+    small x y h i = omega arith
+
+-- a row that is seen opened changes nothing of it
+pub can_join_opened : (s : Seen) (r mine other : Row) (own partner : ℕ) (j : Joined) → CanJoin s mine own other partner j → CanJoin (see_opened r s) mine own other partner j
+can_join_opened s r mine other own partner j can = record {
+  apart = can.apart;
+  my_offer = can.my_offer;
+  their_offer = can.their_offer;
+  read_mine = can.read_mine;
+  read_theirs = can.read_theirs;
+  meet = can.meet;
+  my_last = can.my_last;
+  their_last = can.their_last;
+  seen_mine = last_more s (see_opened r s) mine can.my_last (λ x h. h) can.seen_mine;
+  seen_theirs = last_more s (see_opened r s) other can.their_last (λ x h. h) can.seen_theirs;
+  is = can.is;
+}
+
+-- a cell that is neither Fresh nor Waiting nor Claimed is committed
+committed_cell : (c : Cell) → is_fresh c ≡ false → c ≢ Waiting → c ≢ Claimed → (j : Joined) × (joined_of c ≡ Some j)
+committed_cell Fresh f w h = let bad : true ≡ false = f in cc
+committed_cell Waiting f w h = absurd (w refl)
+committed_cell Claimed f w h = absurd (h refl)
+committed_cell (Synched j) f w h = (j, refl)
+committed_cell (Taken j) f w h = (j, refl)
+
+pub saw_joined : (r : Row) (c : Cell) (j : Joined) (s : Seen) → joined_of c ≡ Some j → Has (see_cell r c s).joined (r, j)
+saw_joined r Fresh j s e = let bad : None ≡ Some j = e in cc
+saw_joined r Waiting j s e = let bad : None ≡ Some j = e in cc
+saw_joined r Claimed j s e = let bad : None ≡ Some j = e in cc
+saw_joined r (Synched i) j s e = inl (ap (λ (k : Joined). (r, k)) (Rattle.protocol.proofs.Linking.some_inj i j e))
+saw_joined r (Taken i) j s e = inl (ap (λ (k : Joined). (r, k)) (Rattle.protocol.proofs.Linking.some_inj i j e))
+
+pub err_case : {A B : Type 0} (x : Result A B) (P : B → Type 0) → is_err x ≡ true → IfErr x P → (b : B) × P b
+err_case (Ok a) P e h = let bad : false ≡ true = e in cc
+err_case (Err b) P e h = (b, h)
+
+pub saw_committed : (r : Row) (c : Cell) (s : Seen) → is_fresh c ≡ false → c ≢ Waiting → c ≢ Claimed → SawCommitted (see_cell r c s) r
+saw_committed r c s f w h = let j = committed_cell c f w h in (j.0, saw_joined r c j.0 s j.1)
+
+-- what a claim, a look at the other row and a yield add
+pub learns_yield : (mine other : Row) (c : Cell) (s : Seen) → Learns (IsNear mine other) s (see_opened mine (see_cell other c (see_opened mine s)))
+learns_yield mine other Fresh s = search rules
+learns_yield mine other Waiting s = search rules
+learns_yield mine other Claimed s = search rules
+learns_yield mine other (Synched j) s = search rules
+learns_yield mine other (Taken j) s = search rules
+
+-- a claim that found its row not Waiting found it committed
+pub claim_found : (v : View) (r : Row) (c : Cell) → Has v.seen.held r → Has v.seen.opened r → v.stage ≡ Resting → c ≢ Waiting → Agrees v r c → SawCommitted (see_cell r c v.seen) r
+claim_found v r c held opened resting w agree =
+    saw_committed r c v.seen (agree.opened opened) w (λ e. subst (λ (s : Stage). IsClaimer s r) resting (agree.calm held e))
+
+-- a join that found its row neither Waiting nor Claimed found it committed
+pub join_found : (v : View) (mine r : Row) (own partner : ℕ) (j : Joined) (c : Cell) → CanJoin v.seen mine own r partner j → c ≢ Waiting → c ≢ Claimed → Agrees v r c → SawCommitted (see_cell r c v.seen) r
+join_found v mine r own partner j c can w h agree = saw_committed r c v.seen (agree.read 1 can.read_theirs.0 can.read_theirs.5) w h
+
+-- A RESULT
+pub from_none : {A : Type 0} (x : Option A) (P : Type 0) → IfNone x P → x ≡ None → P
+from_none None P h e = h
+from_none (Some a) P h e = let bad : Some a ≡ None = e in cc
+
+-- what meets a receive is a send
+pub recv_meets : (mine theirs : Offer) (chan : ℕ) → mine.base ≡ Recv chan → offers_meet (Some mine) (Some theirs) ≡ true → (d : ℕ) × (got : Message) × (theirs.base ≡ Send d got)
+recv_meets mine theirs chan e meet = sends theirs.base refl (sym (ap (λ (b : Base). bases_meet b theirs.base) e) ∙ meet)
+  where
+    sends : (b : Base) → theirs.base ≡ b → bases_meet (Recv chan) theirs.base ≡ true → (d : ℕ) × (got : Message) × (theirs.base ≡ Send d got)
+    sends (Send d got) f h = (d, got, f)
+    sends (Recv d) f h = let bad : false ≡ true = sym (ap (bases_meet (Recv chan)) f) ∙ h in cc
+    sends (Always m) f h = let bad : false ≡ true = sym (ap (bases_meet (Recv chan)) f) ∙ h in cc
+    sends (OnNack n) f h = let bad : false ≡ true = sym (ap (bases_meet (Recv chan)) f) ∙ h in cc
+    sends Never f h = let bad : false ≡ true = sym (ap (bases_meet (Recv chan)) f) ∙ h in cc
+
+-- a row whose offer was chosen does not lack it
+pub chosen_not_lacking : (threads rows : ℕ) (s : Seen) (r : Row) (n : ℕ) → Coherent threads rows s → SawChosen s r n → ¬ LackOffer s.words r n
+chosen_not_lacking threads rows s r n agree chosen (count, has, above) = let below = agree.chosen r n count chosen has in omega arith
+
+pub partner_known_open : (s : Seen) (r : Row) (j : Joined) (p : Row) (n : ℕ) → Has s.joined (r, j) → j.partner ≡ Some (p, n) → IsKnownOpen s p
+partner_known_open s r j p n has e = inr (r, j, has, ap (λ (o : Option (Row × ℕ)). is_partner o p) e ∙ row_eq-refl p)

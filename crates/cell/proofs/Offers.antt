@@ -1,0 +1,198 @@
+-- Offers, word by word: how the words of one offer are read, and what they agree with.
+use Rattle.std.proofs.Common.{◌≡◌, ◌≢◌, ℕ, ◌+◌, ◌*◌, ◌-◌, ◌%◌, ◌<◌, ◌≤◌, Bool, true, false, List, [], ◌∷◌, sym, refl, ap, ◌∙◌, subst, inl, inr, ⊎_elim, ◌⊎◌, arith, unwrap_or, Option, Some, None, is_some, eqb, cond, IfSome, IfNone, option_and_then}
+use Rattle.std.proofs.lemmas.Bool.{eq-eqb, ne_eqb, true≢false}
+use Rattle.std.proofs.Math.Nat.{add-mul-mod_self_left}
+use Rattle.words.specs.Words.{count_of, head_of, atom_of, offer_of, base_of, is_word_for}
+use Rattle.words.specs.declared.Atom.{Atom}
+use Rattle.words.specs.declared.Head.{Head}
+use Rattle.words.specs.declared.Offer.{Offer}
+use Rattle.words.specs.declared.Row.{Row}
+use Rattle.words.specs.declared.Joined.{Joined}
+use Rattle.words.specs.declared.Cell.{Cell}
+use Rattle.words.specs.declared.Cell.TheVariants.{Fresh, Waiting, Claimed, Synched, Taken}
+use Rattle.cell.specs.declared.view.Seen.{Seen}
+use Rattle.cell.specs.declared.view.View.{View}
+use Rattle.cell.specs.Sight.{Has, HaveOffer, LackOffer, SeesOffer, Coherent, see_cell}
+use Rattle.cell.specs.Views.{saw, read_word}
+
+-- a place that is no cell and no count is a head or an atom, by what is left over 4
+word_behind : (k w : ℕ) → is_word_for (2 + k) w ≡ cond (eqb (k % 4) 0) (is_some (head_of w)) (is_some (atom_of w))
+unfolding is_word_for
+word_behind k w =
+    ap (λ (b : Bool). cond b (is_some (Rattle.words.specs.Words.cell_of w)) (cond (eqb (2 + k) 1) (is_some (count_of w)) (cond (eqb ((2 + k - 2) % 4) 0) (is_some (head_of w)) (is_some (atom_of w))))) (ne_eqb (2 + k) 0 (λ e. omega arith))
+    ∙ ap (λ (b : Bool). cond b (is_some (count_of w)) (cond (eqb ((2 + k - 2) % 4) 0) (is_some (head_of w)) (is_some (atom_of w)))) (ne_eqb (2 + k) 1 (λ e. omega arith))
+    ∙ ap (λ (j : ℕ). cond (eqb (j % 4) 0) (is_some (head_of w)) (is_some (atom_of w))) (let e : 2 + k - 2 ≡ k = omega arith in e)
+
+pub head_place : (n w : ℕ) → is_word_for (2 + 4 * n) w ≡ is_some (head_of w)
+head_place n w = word_behind (4 * n) w ∙ ap (λ (j : ℕ). cond (eqb j 0) (is_some (head_of w)) (is_some (atom_of w))) (Rattle.std.proofs.Math.Nat.mul-mod_right 4 n)
+
+pub atom_place : (k n w : ℕ) → 1 ≤ k → k < 4 → is_word_for (2 + k + 4 * n) w ≡ is_some (atom_of w)
+atom_place k n w low high =
+    ap (λ (j : ℕ). is_word_for j w) (let e : 2 + k + 4 * n ≡ 2 + (k + 4 * n) = omega arith in e)
+    ∙ word_behind (k + 4 * n) w
+    ∙ ap (λ (b : Bool). cond b (is_some (head_of w)) (is_some (atom_of w)))
+    (ap (λ (j : ℕ). eqb j 0) (add-mul-mod_self_left k 4 n ∙ Rattle.std.proofs.Math.Nat.mod-eq_of_lt high) ∙ ne_eqb k 0 (λ e. omega arith))
+
+-- four well-formed words are an offer
+pub offer_formed : (a b c d : ℕ) → is_some (head_of a) ≡ true → is_some (atom_of b) ≡ true → is_some (atom_of c) ≡ true → is_some (atom_of d) ≡ true → is_some (offer_of a b c d) ≡ true
+unfolding offer_of
+offer_formed a b c d = four (head_of a) (atom_of b) (atom_of c) (atom_of d)
+  where
+    four : (h : Option Head) (x y z : Option Atom) → is_some h ≡ true → is_some x ≡ true → is_some y ≡ true → is_some z ≡ true
+        → is_some {T = Offer} (option_and_then (λ h. option_and_then (λ x. option_and_then (λ y. option_and_then (λ z. Some (record { base = base_of h.direction x y z; scopes = h.scopes })) z) y) x) h) ≡ true
+    four None x y z p q r s = absurd (true≢false (sym p))
+    four (Some h) None y z p q r s = absurd (true≢false (sym q))
+    four (Some h) (Some x) None z p q r s = absurd (true≢false (sym r))
+    four (Some h) (Some x) (Some y) None p q r s = absurd (true≢false (sym s))
+    four (Some h) (Some x) (Some y) (Some z) p q r s = refl
+
+-- a look adds no words
+pub cell_words : (r : Row) (c : Cell) (s : Seen) → (see_cell r c s).words ≡ s.words
+cell_words r Fresh s = refl
+cell_words r Waiting s = refl
+cell_words r Claimed s = refl
+cell_words r (Synched j) s = refl
+cell_words r (Taken j) s = refl
+
+pub cell_drafts : (r : Row) (c : Cell) (s : Seen) → (see_cell r c s).drafts ≡ s.drafts
+cell_drafts r Fresh s = refl
+cell_drafts r Waiting s = refl
+cell_drafts r Claimed s = refl
+cell_drafts r (Synched j) s = refl
+cell_drafts r (Taken j) s = refl
+
+pub have_more : (xs ys : List (Row × ℕ × ℕ)) (r : Row) (n : ℕ) (o : Offer) → ((x : Row × ℕ × ℕ) → Has xs x → Has ys x) → HaveOffer xs r n o → HaveOffer ys r n o
+have_more xs ys r n o more (count, a, b, c, d, h, below, i, j, k, l, is) = (count, a, b, c, d, more _ h, below, more _ i, more _ j, more _ k, more _ l, is)
+
+-- WHAT WAS SEEN BEFORE AGREES with what is read now
+module _ (threads rows : ℕ) (s : Seen) (agree : Coherent threads rows s) (r : Row) (n : ℕ) (o : Offer)
+    (seen : HaveOffer s.words r n o ⊎ HaveOffer s.drafts r n o) where
+  pub same_count : (count : ℕ) → Has s.words (r, 1, count) → n < unwrap_or (count_of count) 0
+  same_count count now = from seen
+    where
+      from : HaveOffer s.words r n o ⊎ HaveOffer s.drafts r n o → n < unwrap_or (count_of count) 0
+      from (inl h) = subst (λ (x : ℕ). n < unwrap_or (count_of x) 0) (agree.one_word r 1 h.0 count h.5 now) h.6
+      from (inr h) = subst (λ (x : ℕ). n < unwrap_or (count_of x) 0) (agree.as_drafted r 1 h.0 count h.5 now) h.6
+
+  pub same_offer : (a b c d : ℕ) → Has s.words (r, 2 + 4 * n, a) → Has s.words (r, 3 + 4 * n, b) → Has s.words (r, 4 + 4 * n, c) → Has s.words (r, 5 + 4 * n, d) → offer_of a b c d ≡ Some o
+  same_offer a b c d i j k l = from seen
+    where
+      from : HaveOffer s.words r n o ⊎ HaveOffer s.drafts r n o → offer_of a b c d ≡ Some o
+      from (inl h) =
+          let e = agree.one_word r (2 + 4 * n) a h.1 i h.7 in
+          let f = agree.one_word r (3 + 4 * n) b h.2 j h.8 in
+          let g = agree.one_word r (4 + 4 * n) c h.3 k h.9 in
+          let m = agree.one_word r (5 + 4 * n) d h.4 l h.10 in
+          (λ x. offer_of (e x) (f x) (g x) (m x)) ∙ h.11
+      from (inr h) =
+          let e = agree.as_drafted r (2 + 4 * n) h.1 a h.7 i in
+          let f = agree.as_drafted r (3 + 4 * n) h.2 b h.8 j in
+          let g = agree.as_drafted r (4 + 4 * n) h.3 c h.9 k in
+          let m = agree.as_drafted r (5 + 4 * n) h.4 d h.10 l in
+          (λ x. offer_of (sym e x) (sym f x) (sym g x) (sym m x)) ∙ h.11
+
+-- FIVE WORDS, READ ONE AFTER ANOTHER
+pub record ReadFive (v w : View) (r : Row) (n count a b c d : ℕ) : Type 0 where
+  pub count_word : Has w.seen.words (r, 1, count)
+  pub head : Has w.seen.words (r, 2 + 4 * n, a)
+  pub first : Has w.seen.words (r, 3 + 4 * n, b)
+  pub second : Has w.seen.words (r, 4 + 4 * n, c)
+  pub third : Has w.seen.words (r, 5 + 4 * n, d)
+  pub kept : (x : Row × ℕ × ℕ) → Has v.seen.words x → Has w.seen.words x
+  pub drafts : w.seen.drafts ≡ v.seen.drafts
+  pub opened : w.seen.opened ≡ v.seen.opened
+
+read_in_turn : (v : View) (r : Row) (n count a b c d : ℕ)
+    → ReadFive v (read_word r (5 + 4 * n) d (read_word r (4 + 4 * n) c (read_word r (3 + 4 * n) b (read_word r (2 + 4 * n) a (read_word r 1 count v))))) r n count a b c d
+read_in_turn v r n count a b c d = record {
+  count_word = inr (inr (inr (inr (inl refl))));
+  head = inr (inr (inr (inl refl)));
+  first = inr (inr (inl refl));
+  second = inr (inl refl);
+  third = inl refl;
+  kept = λ x h. inr (inr (inr (inr (inr h))));
+  drafts = refl;
+  opened = refl;
+}
+
+pub read_five : (v v1 v2 v3 v4 v5 : View) (r : Row) (n count a b c d : ℕ) → v1 ≡ read_word r 1 count v → v2 ≡ read_word r (2 + 4 * n) a v1 → v3 ≡ read_word r (3 + 4 * n) b v2 → v4 ≡ read_word r (4 + 4 * n) c v3 → v5 ≡ read_word r (5 + 4 * n) d v4
+    → ReadFive v v5 r n count a b c d
+read_five v v1 v2 v3 v4 v5 r n count a b c d e1 e2 e3 e4 e5 =
+    subst (λ (w : View). ReadFive v w r n count a b c d)
+    (sym (e5 ∙ ap (read_word r (5 + 4 * n) d) (e4 ∙ ap (read_word r (4 + 4 * n) c) (e3 ∙ ap (read_word r (3 + 4 * n) b) (e2 ∙ ap (read_word r (2 + 4 * n) a) e1)))))
+    (read_in_turn v r n count a b c d)
+
+pub five_offer : (v w : View) (r : Row) (n count a b c d : ℕ) (o : Offer) → ReadFive v w r n count a b c d → n < unwrap_or (count_of count) 0 → offer_of a b c d ≡ Some o → HaveOffer w.seen.words r n o
+five_offer v w r n count a b c d o f below is = (count, a, b, c, d, f.count_word, below, f.head, f.first, f.second, f.third, is)
+
+-- what a pass had seen of the offer, it still sees
+pub seen_still : (v w : View) (r : Row) (n : ℕ) (o : Offer) → ((x : Row × ℕ × ℕ) → Has v.seen.words x → Has w.seen.words x) → w.seen.drafts ≡ v.seen.drafts → SeesOffer v.seen r n o
+    → HaveOffer w.seen.words r n o ⊎ HaveOffer w.seen.drafts r n o
+seen_still v w r n o more drafts (inl h) = inl (have_more v.seen.words w.seen.words r n o more h)
+seen_still v w r n o more drafts (inr h) = inr (subst (λ (l : List (Row × ℕ × ℕ)). HaveOffer l r n o) (sym drafts) h.1)
+
+-- the words that were read are an offer
+pub five_formed : (threads rows : ℕ) (v w : View) (r : Row) (n count a b c d : ℕ) → Coherent threads rows w.seen → ReadFive v w r n count a b c d → is_some (offer_of a b c d) ≡ true
+five_formed threads rows v w r n count a b c d agree f =
+    offer_formed a b c d
+    (sym (head_place n a) ∙ agree.formed r (2 + 4 * n) a f.head)
+    (sym (atom_place 1 n b (omega arith) (omega arith)) ∙ agree.formed r (3 + 4 * n) b f.first)
+    (sym (atom_place 2 n c (omega arith) (omega arith)) ∙ agree.formed r (4 + 4 * n) c f.second)
+    (sym (atom_place 3 n d (omega arith) (omega arith)) ∙ agree.formed r (5 + 4 * n) d f.third)
+
+pub if_some : {A : Type 0} (x : Option A) (P : A → Type 0) → ((a : A) → x ≡ Some a → P a) → IfSome x P
+if_some None P h = tt
+if_some (Some a) P h = h a refl
+
+pub if_none : {A : Type 0} (x : Option A) (P : Type 0) → (x ≡ None → P) → IfNone x P
+if_none None P h = h refl
+if_none (Some a) P h = tt
+
+-- a look, and then the number of offers
+pub look_count : (v v1 v2 : View) (r : Row) (cell : Cell) (count : ℕ) → v1 ≡ saw r cell v → v2 ≡ read_word r 1 count v1
+    → ((x : Row × ℕ × ℕ) → Has v.seen.words x → Has v2.seen.words x) × (v2.seen.drafts ≡ v.seen.drafts) × Has v2.seen.words (r, 1, count)
+look_count v v1 v2 r cell count e f =
+    subst (λ (w : View). ((x : Row × ℕ × ℕ) → Has v.seen.words x → Has w.seen.words x) × (w.seen.drafts ≡ v.seen.drafts) × Has w.seen.words (r, 1, count))
+    (sym (f ∙ ap (read_word r 1 count) e))
+    (λ x h. inr (subst (λ (l : List (Row × ℕ × ℕ)). Has l x) (sym (cell_words r cell v.seen)) h), cell_drafts r cell v.seen, inl refl)
+
+-- what was seen of an offer before says that it stands below the number that was read
+pub seen_below : (threads rows : ℕ) (v v1 v2 : View) (r : Row) (n : ℕ) (cell : Cell) (count : ℕ) (o : Offer) → v1 ≡ saw r cell v → v2 ≡ read_word r 1 count v1 → Coherent threads rows v2.seen
+    → SeesOffer v.seen r n o → n < unwrap_or (count_of count) 0
+seen_below threads rows v v1 v2 r n cell count o e f agree seen =
+    let l = look_count v v1 v2 r cell count e f in
+    same_count threads rows v2.seen agree r n o (seen_still v v2 r n o l.0 l.1 seen) count l.2
+
+-- and that it is the offer that was read
+pub seen_same : (threads rows : ℕ) (v v1 w : View) (r : Row) (n count a b c d : ℕ) (cell : Cell) (o : Offer) → v1 ≡ saw r cell v → ReadFive v1 w r n count a b c d → Coherent threads rows w.seen
+    → SeesOffer v.seen r n o → offer_of a b c d ≡ Some o
+seen_same threads rows v v1 w r n count a b c d cell o e f agree seen =
+    let words : v1.seen.words ≡ v.seen.words = ap (λ (u : View). u.seen.words) e ∙ cell_words r cell v.seen in
+    let drafts : v1.seen.drafts ≡ v.seen.drafts = ap (λ (u : View). u.seen.drafts) e ∙ cell_drafts r cell v.seen in
+    same_offer threads rows w.seen agree r n o
+    (seen_still v w r n o (λ x h. f.kept x (subst (λ (l : List (Row × ℕ × ℕ)). Has l x) (sym words) h)) (f.drafts ∙ drafts) seen)
+    a b c d f.head f.first f.second f.third
+
+-- the words of an offer are well-formed
+pub offer_parts : (a b c d : ℕ) (o : Offer) → offer_of a b c d ≡ Some o → (is_some (head_of a) ≡ true) × (is_some (atom_of b) ≡ true) × (is_some (atom_of c) ≡ true) × (is_some (atom_of d) ≡ true)
+unfolding offer_of
+offer_parts a b c d o = four (head_of a) (atom_of b) (atom_of c) (atom_of d)
+  where
+    four : (h : Option Head) (x y z : Option Atom)
+        → option_and_then (λ h. option_and_then (λ x. option_and_then (λ y. option_and_then (λ z. Some (record { base = base_of h.direction x y z; scopes = h.scopes })) z) y) x) h ≡ Some o
+        → (is_some h ≡ true) × (is_some x ≡ true) × (is_some y ≡ true) × (is_some z ≡ true)
+    four None x y z e = let bad : None ≡ Some o = e in cc
+    four (Some h) None y z e = let bad : None ≡ Some o = e in cc
+    four (Some h) (Some x) None z e = let bad : None ≡ Some o = e in cc
+    four (Some h) (Some x) (Some y) None e = let bad : None ≡ Some o = e in cc
+    four (Some h) (Some x) (Some y) (Some z) e = (refl, refl, refl, refl)
+
+pub offer_places : (n a b c d : ℕ) (o : Offer) → offer_of a b c d ≡ Some o
+    → (is_word_for (2 + 4 * n) a ≡ true) × (is_word_for (3 + 4 * n) b ≡ true) × (is_word_for (4 + 4 * n) c ≡ true) × (is_word_for (5 + 4 * n) d ≡ true)
+offer_places n a b c d o e =
+    let p = offer_parts a b c d o e in (
+      head_place n a ∙ p.0,
+      atom_place 1 n b (omega arith) (omega arith) ∙ p.1,
+      atom_place 2 n c (omega arith) (omega arith) ∙ p.2,
+      atom_place 3 n d (omega arith) (omega arith) ∙ p.3,
+    )

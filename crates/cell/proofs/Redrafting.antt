@@ -1,0 +1,149 @@
+-- Drafting words of one row leaves what was drafted elsewhere.
+use Rattle.std.proofs.Common.{◌≡◌, ◌≢◌, ℕ, ◌+◌, ◌*◌, ◌<◌, ◌≤◌, Bool, true, false, cond, eqb, ◌&&◌, List, [], ◌∷◌, sym, refl, ap, ◌∙◌, subst, inl, inr, ◌⊎◌, ⊎_elim, arith, length, slice_get, unwrap_or, Some, None, is_some, leb}
+use Rattle.std.proofs.lemmas.Bool.{eqb-true, and_parts, le-leb, true≢false}
+use Rattle.std.proofs.lemmas.Option.{slice_get_within}
+use Rattle.std.proofs.Math.Nat.{eq-or-lt_of_le}
+use Rattle.words.specs.Words.{count_of, offer_of, is_word_for}
+use Rattle.words.specs.declared.Offer.{Offer}
+use Rattle.protocol.proofs.Linking.{some_inj}
+use Rattle.words.specs.declared.Row.{Row}
+use Rattle.protocol.specs.Tables.{row_eq}
+use Rattle.protocol.proofs.RowLemmas.{row_eq-true}
+use Rattle.cell.specs.declared.view.Seen.{Seen}
+use Rattle.cell.specs.Sight.{Has, HaveOffer, IsDraft, without, see_draft, Redrafts, IsPlaceOf}
+
+-- what is left after a word of (r, p) is gone, and what was there before
+left_one : (r : Row) (p : ℕ) (d : Row × ℕ × ℕ) (ds : List (Row × ℕ × ℕ)) (q : Row) (o x : ℕ) (b : Bool) → (row_eq d.0 r && eqb d.1 p) ≡ b → ¬ ((q ≡ r) × (o ≡ p)) → (Has ds (q, o, x) → Has (without r p ds) (q, o, x))
+    → Has (d ∷ ds) (q, o, x) → Has (cond b (without r p ds) (d ∷ without r p ds)) (q, o, x)
+left_one r p d ds q o x true e else_where rest (inl f) =
+    let a = and_parts (row_eq d.0 r) (eqb d.1 p) e in
+    absurd (else_where (ap (λ (z : Row × ℕ × ℕ). z.0) (sym f) ∙ row_eq-true d.0 r a.0, ap (λ (z : Row × ℕ × ℕ). z.1) (sym f) ∙ eqb-true d.1 p a.1))
+left_one r p d ds q o x true e else_where rest (inr h) = rest h
+left_one r p d ds q o x false e else_where rest (inl f) = inl f
+left_one r p d ds q o x false e else_where rest (inr h) = inr (rest h)
+
+left : (r : Row) (p : ℕ) (ds : List (Row × ℕ × ℕ)) (q : Row) (o x : ℕ) → ¬ ((q ≡ r) × (o ≡ p)) → Has ds (q, o, x) → Has (without r p ds) (q, o, x)
+left r p [] q o x else_where h = absurd h
+left r p (d ∷ ds) q o x else_where h = left_one r p d ds q o x (row_eq d.0 r && eqb d.1 p) refl else_where (λ i. left r p ds q o x else_where i) h
+
+was_one : (r : Row) (p : ℕ) (d : Row × ℕ × ℕ) (ds : List (Row × ℕ × ℕ)) (y : Row × ℕ × ℕ) (b : Bool) → (Has (without r p ds) y → Has ds y) → Has (cond b (without r p ds) (d ∷ without r p ds)) y → Has (d ∷ ds) y
+was_one r p d ds y true rest h = inr (rest h)
+was_one r p d ds y false rest (inl f) = inl f
+was_one r p d ds y false rest (inr h) = inr (rest h)
+
+was : (r : Row) (p : ℕ) (ds : List (Row × ℕ × ℕ)) (y : Row × ℕ × ℕ) → Has (without r p ds) y → Has ds y
+was r p [] y h = absurd h
+was r p (d ∷ ds) y h = was_one r p d ds y (row_eq d.0 r && eqb d.1 p) (λ i. was r p ds y i) h
+
+pub redrafts_word : (r : Row) (p x : ℕ) (s : Seen) → Redrafts (λ q o. (q ≡ r) × (o ≡ p)) s (see_draft r p x s)
+redrafts_word r p x s = record {
+  held = refl;
+  opened = refl;
+  words = refl;
+  joined = refl;
+  taken = refl;
+  kept = λ q o y else_where h. inr (left r p s.drafts q o y else_where h);
+  only = λ q o y else_where h. only q o y else_where h;
+}
+  where
+    only : (q : Row) (o y : ℕ) → ¬ ((q ≡ r) × (o ≡ p)) → Has ((r, p, x) ∷ without r p s.drafts) (q, o, y) → Has s.drafts (q, o, y)
+    only q o y else_where (inl f) = absurd (else_where (ap (λ (z : Row × ℕ × ℕ). z.0) (sym f), ap (λ (z : Row × ℕ × ℕ). z.1) (sym f)))
+    only q o y else_where (inr h) = was r p s.drafts (q, o, y) h
+
+pub redrafts_wider : (Where Wider : Row → ℕ → Type 0) (s t : Seen) → ((q : Row) (o : ℕ) → Where q o → Wider q o) → Redrafts Where s t → Redrafts Wider s t
+redrafts_wider Where Wider s t wider f = record {
+  held = f.held;
+  opened = f.opened;
+  words = f.words;
+  joined = f.joined;
+  taken = f.taken;
+  kept = λ q o x out h. f.kept q o x (λ i. out (wider q o i)) h;
+  only = λ q o x out h. f.only q o x (λ i. out (wider q o i)) h;
+}
+
+pub redrafts_then : (Where : Row → ℕ → Type 0) (s t u : Seen) → Redrafts Where s t → Redrafts Where t u → Redrafts Where s u
+redrafts_then Where s t u f g = record {
+  held = g.held ∙ f.held;
+  opened = g.opened ∙ f.opened;
+  words = g.words ∙ f.words;
+  joined = g.joined ∙ f.joined;
+  taken = g.taken ∙ f.taken;
+  kept = λ q o x out h. g.kept q o x out (f.kept q o x out h);
+  only = λ q o x out h. f.only q o x out (g.only q o x out h);
+}
+
+-- the four words of offer n
+pub redrafts_offer : (r : Row) (n a b c d : ℕ) (s : Seen) → Redrafts (λ q p. (q ≡ r) × IsPlaceOf n p) s (see_draft r (5 + 4 * n) d (see_draft r (4 + 4 * n) c (see_draft r (3 + 4 * n) b (see_draft r (2 + 4 * n) a s))))
+redrafts_offer r n a b c d s =
+    let one : (p x : ℕ) (t : Seen) → IsPlaceOf n p → Redrafts (λ q o. (q ≡ r) × IsPlaceOf n o) t (see_draft r p x t) =
+    λ p x t here. redrafts_wider (λ q o. (q ≡ r) × (o ≡ p)) (λ q o. (q ≡ r) × IsPlaceOf n o) t (see_draft r p x t) (λ q o i. (i.0, subst (IsPlaceOf n) (sym i.1) here)) (redrafts_word r p x t) in
+    let first = see_draft r (2 + 4 * n) a s in
+    let second = see_draft r (3 + 4 * n) b first in
+    let third = see_draft r (4 + 4 * n) c second in
+    redrafts_then (λ q o. (q ≡ r) × IsPlaceOf n o) s third _
+    (redrafts_then (λ q o. (q ≡ r) × IsPlaceOf n o) s second third
+    (redrafts_then (λ q o. (q ≡ r) × IsPlaceOf n o) s first second (one (2 + 4 * n) a s (omega arith, omega arith)) (one (3 + 4 * n) b first (omega arith, omega arith)))
+    (one (4 + 4 * n) c second (omega arith, omega arith)))
+    (one (5 + 4 * n) d third (omega arith, omega arith))
+
+-- A LIST OF OFFERS, drafted one after another
+pub record IsDraftedTo (row : Row) (offers : List Offer) (n : ℕ) (s t : Seen) : Type 0 where
+  pub others : Redrafts (λ q p. q ≡ row) s t
+  pub count : Has t.drafts (row, 1, length offers)
+  pub each : (k : ℕ) (o : Offer) → k < n → slice_get offers k ≡ Some o → HaveOffer t.drafts row k o
+
+counted : (count n : ℕ) → count ≤ 8 → n < count → n < unwrap_or (count_of count) 0
+unfolding count_of
+counted count n few below = ap_cond (leb count 8) (le-leb count 8 few) below
+  where
+    ap_cond : (b : Bool) → b ≡ true → n < count → n < unwrap_or (cond b (Some count) None) 0
+    ap_cond true e h = h
+    ap_cond false e h = absurd (true≢false (sym e))
+
+pub count_place : (count : ℕ) → count ≤ 8 → is_word_for 1 count ≡ true
+unfolding is_word_for count_of
+count_place count few = ap (λ (b : Bool). is_some {T = ℕ} (cond b (Some count) None)) (le-leb count 8 few)
+
+pub drafted_none : (row : Row) (offers : List Offer) (s : Seen) → IsDraftedTo row offers 0 s (see_draft row 1 (length offers) s)
+drafted_none row offers s = record {
+  others = redrafts_wider (λ q o. (q ≡ row) × (o ≡ 1)) (λ q p. q ≡ row) s _ (λ q o h. h.0) (redrafts_word row 1 (length offers) s);
+  count = inl refl;
+  each = λ k o h e. absurd (omega arith);
+}
+
+pub drafted_more : (row : Row) (offers : List Offer) (n : ℕ) (s t u : Seen) (o : Offer) → length offers ≤ 8 → n < length offers → slice_get offers n ≡ Some o → IsDraftedTo row offers n s t → Redrafts (λ q p. (q ≡ row) × IsPlaceOf n p) t u
+    → ((a : ℕ) × (b : ℕ) × (c : ℕ) × (d : ℕ) × Has u.drafts (row, 2 + 4 * n, a) × Has u.drafts (row, 3 + 4 * n, b) × Has u.drafts (row, 4 + 4 * n, c) × Has u.drafts (row, 5 + 4 * n, d) × (offer_of a b c d ≡ Some o))
+    → IsDraftedTo row offers (n + 1) s u
+drafted_more row offers n s t u o few below is so_far redraft (a, b, c, d, has_a, has_b, has_c, has_d, reads) = record {
+  others = redrafts_then (λ q p. q ≡ row) s t u so_far.others (redrafts_wider (λ q p. (q ≡ row) × IsPlaceOf n p) (λ q p. q ≡ row) t u (λ q p h. h.0) redraft);
+  count = count_now;
+  each = λ k q low e. ⊎_elim
+      (λ (h : k ≡ n). subst (λ (z : ℕ × Offer). HaveOffer u.drafts row z.0 z.1) (λ i. (sym h i, some_inj o q (sym is ∙ ap (slice_get offers) (sym h) ∙ e) i)) here)
+      (λ (h : k < n). earlier k q h (so_far.each k q h e))
+      (eq-or-lt_of_le (let l : k ≤ n = omega arith in l));
+}
+  where
+    count_now : Has u.drafts (row, 1, length offers)
+    count_now = redraft.kept row 1 (length offers) (λ h. let l = h.1.0 in omega arith) so_far.count
+
+    here : HaveOffer u.drafts row n o
+    here = (length offers, a, b, c, d, count_now, counted (length offers) n few below, has_a, has_b, has_c, has_d, reads)
+
+    earlier : (k : ℕ) (q : Offer) → k < n → HaveOffer t.drafts row k q → HaveOffer u.drafts row k q
+    earlier k q low h = (
+      h.0,
+      h.1,
+      h.2,
+      h.3,
+      h.4,
+      redraft.kept row 1 h.0 (λ i. let l = i.1.0 in omega arith) h.5,
+      h.6,
+      redraft.kept row (2 + 4 * k) h.1 (λ i. let l = i.1.0 in omega arith) h.7,
+      redraft.kept row (3 + 4 * k) h.2 (λ i. let l = i.1.0 in omega arith) h.8,
+      redraft.kept row (4 + 4 * k) h.3 (λ i. let l = i.1.0 in omega arith) h.9,
+      redraft.kept row (5 + 4 * k) h.4 (λ i. let l = i.1.0 in omega arith) h.10,
+      h.11,
+    )
+
+pub drafted_all : (row : Row) (offers : List Offer) (n : ℕ) (s t : Seen) → length offers ≤ n → IsDraftedTo row offers n s t → IsDraft t row offers
+drafted_all row offers n s t past so_far = (so_far.count, λ k o e. so_far.each k o (let l = slice_get_within offers k o e in omega arith) e)

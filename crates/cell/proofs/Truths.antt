@@ -1,0 +1,175 @@
+-- What a pass has seen is true of the world, and so agrees with itself and with what it finds.
+use Rattle.std.proofs.Common.{◌≡◌, ◌≢◌, ℕ, ◌+◌, ◌*◌, ◌-◌, ◌<◌, ◌≤◌, Bool, true, false, List, sym, refl, ap, ◌∙◌, subst, inl, inr, ◌⊎◌, ⊎_elim, arith, unwrap_or, Option, Some, None, is_some, eqb, cond, max, length, slice_get}
+use Rattle.std.proofs.lemmas.Bool.{cases_Bool, lt-ltb, ne_eqb, true≢false}
+use Rattle.words.specs.Words.{cell_of, count_of, offer_of, is_word_for, IsJoinedInRange, IsCellInRange}
+use Rattle.words.proofs.WordLemmas.{cell_word-cell_of}
+use Rattle.words.specs.declared.Offer.{Offer}
+use Rattle.words.specs.declared.Row.{Row}
+use Rattle.words.specs.declared.Joined.{Joined}
+use Rattle.words.specs.declared.Cell.{Cell}
+use Rattle.words.specs.declared.Cell.TheVariants.{Fresh, Waiting, Claimed, Synched, Taken}
+use Rattle.protocol.specs.Tables.{Table, is_row, is_fresh, cell_at, joined_at, joined_of, names, offers_meet, offer_at, count_at, stamp_of, last_stamp, word_at}
+use Rattle.protocol.specs.Worlds.{World, joined_with}
+use Rattle.protocol.specs.Kept.{Kept, IsSideOf}
+use Rattle.protocol.proofs.Places.{row_inside}
+use Rattle.protocol.proofs.Readings.{cell_inside, cell_outside, count_open, row_of_open, offer_none}
+use Rattle.protocol.proofs.Linking.{fresh_not_joined, some_inj, cases_Option, IsNaming, naming, partner_open}
+use Rattle.protocol.proofs.Keeping.{few_commits}
+use Rattle.cell.specs.declared.view.View.{View}
+use Rattle.cell.specs.declared.view.Stage.{Stage}
+use Rattle.cell.specs.Sight.{Has, HaveOffer, HasSeenLast, CanJoin, IsDraft, SawChosen, Coherent}
+use Rattle.cell.specs.Views.{Knows, IsClaimer, is_taken}
+use Rattle.cell.specs.Told.{Agrees}
+
+-- WORDS OF AN OPEN ROW
+
+count_there : (t : Table) (r : Row) (count : ℕ) → is_fresh (cell_at t r) ≡ false → word_at t r 1 ≡ count → count_at t r ≡ unwrap_or (count_of count) 0
+count_there t r count open_r is = count_open t r open_r ∙ ap (λ (x : ℕ). unwrap_or (count_of x) 0) is
+
+pub offer_there : (t : Table) (words : List (Row × ℕ × ℕ)) (r : Row) (n : ℕ) (o : Offer) → ((p x : ℕ) → Has words (r, p, x) → word_at t r p ≡ x)
+    → is_fresh (cell_at t r) ≡ false → HaveOffer words r n o → offer_at t r n ≡ Some o
+unfolding offer_at
+offer_there t words r n o there open_r (count, a, b, c, d, has, below, has_a, has_b, has_c, has_d, is) =
+    let counted = count_there t r count open_r (there 1 count has) in
+    ap (λ (y : Bool). cond y (offer_of (word_at t r (2 + 4 * n)) (word_at t r (3 + 4 * n)) (word_at t r (4 + 4 * n)) (word_at t r (5 + 4 * n))) None) (lt-ltb n (count_at t r) (subst (λ (x : ℕ). n < x) (sym counted) below))
+    ∙ (λ i. offer_of ((there (2 + 4 * n) a has_a) i) ((there (3 + 4 * n) b has_b) i) ((there (4 + 4 * n) c has_c) i) ((there (5 + 4 * n) d has_d) i))
+    ∙ is
+
+-- an offer that is there stands below the number of offers
+below_count : (t : Table) (r : Row) (n : ℕ) (o : Offer) → offer_at t r n ≡ Some o → n < count_at t r
+below_count t r n o is = Rattle.std.proofs.Math.Nat.lt_of_not-le (λ h. let bad : None ≡ Some o = sym (offer_none t r n h) ∙ is in cc)
+
+-- offers that meet are there
+pub meeting_own : (a b : Option Offer) → offers_meet a b ≡ true → (o : Offer) × (a ≡ Some o)
+meeting_own None b h = absurd (true≢false (sym h))
+meeting_own (Some o) b h = (o, refl)
+
+pub meeting_other : (a b : Option Offer) → offers_meet a b ≡ true → (o : Offer) × (b ≡ Some o)
+meeting_other None b h = absurd (true≢false (sym h))
+meeting_other (Some a) None h = absurd (true≢false (sym h))
+meeting_other (Some a) (Some o) h = (o, refl)
+
+-- how a row is committed has room in its word
+joined_ranged : (t : Table) (r : Row) (j : Joined) → joined_at t r ≡ Some j → IsJoinedInRange j
+joined_ranged t r j h =
+    let open_r = fresh_not_joined (cell_at t r) j h in
+    let read = cell_inside t r (row_of_open t r open_r) in
+    ⊎_elim
+    (λ (e : cell_of (word_at t r 0) ≡ None). let bad : None ≡ Some j = sym (ap joined_of (read ∙ ap (λ (o : Option Cell). unwrap_or o Fresh) e)) ∙ h in cc)
+    (λ (c : (c : Cell) × (cell_of (word_at t r 0) ≡ Some c)).
+    in_cell c.0 (cell_word-cell_of (word_at t r 0) c.0 c.1).0 (sym (ap joined_of (read ∙ ap (λ (o : Option Cell). unwrap_or o Fresh) c.1)) ∙ h))
+    (cases_Option (cell_of (word_at t r 0)))
+  where
+    in_cell : (c : Cell) → IsCellInRange c → joined_of c ≡ Some j → IsJoinedInRange j
+    in_cell Fresh range e = let bad : None ≡ Some j = e in cc
+    in_cell Waiting range e = let bad : None ≡ Some j = e in cc
+    in_cell Claimed range e = let bad : None ≡ Some j = e in cc
+    in_cell (Synched i) range e = subst IsJoinedInRange (some_inj i j e) range
+    in_cell (Taken i) range e = subst IsJoinedInRange (some_inj i j e) range
+
+-- A PASS THAT KNOWS THE WORLD
+module _ (w : World) (owner : Row → ℕ) (id : ℕ) (v : View) (k : Knows w owner id v) where
+  pub offer_known : (r : Row) (n : ℕ) (o : Offer) → HaveOffer v.seen.words r n o → offer_at w.table r n ≡ Some o
+  offer_known r n o have = offer_there w.table v.seen.words r n o (λ p x h. (k.read r p x h).3) (k.read r 1 have.0 have.5).0 have
+
+  pub offers_known : (m : Row) (i : ℕ) (o : Row) (n : ℕ) (j : Joined) → CanJoin v.seen m i o n j → offers_meet (offer_at w.table m i) (offer_at w.table o n) ≡ true
+  offers_known m i o n j can =
+      let a = offer_known m i can.my_offer can.read_mine in
+      let b = offer_known o n can.their_offer can.read_theirs in
+      (λ x. offers_meet (a x) (b x)) ∙ can.meet
+
+  last_known : (r : Row) (stamp : ℕ) → HasSeenLast v.seen r stamp → last_stamp (joined_at w.table) r ≡ stamp
+  last_known r stamp (inl h) = ap (λ (n : ℕ). cond (eqb n 0) 0 (stamp_of (joined_at w.table (record { thread = r.thread; sync = n - 1 })))) h.0 ∙ sym h.1
+  last_known r stamp (inr h) =
+      ap (λ (y : Bool). cond y 0 (stamp_of (joined_at w.table (record { thread = r.thread; sync = r.sync - 1 })))) (ne_eqb r.sync 0 h.1)
+      ∙ ap stamp_of (k.joined (record { thread = r.thread; sync = r.sync - 1 }) h.0 h.2) ∙ sym h.3
+
+  pub joined_known : (m : Row) (i : ℕ) (o : Row) (n : ℕ) (j : Joined) → CanJoin v.seen m i o n j → joined_with w.table m i o n ≡ j
+  unfolding joined_with
+  joined_known m i o n j can =
+      let a = last_known m can.my_last can.seen_mine in
+      let b = last_known o can.their_last can.seen_theirs in
+      (λ x. record { own = n; partner = Some (m, i); stamp = 1 + max (a x) (b x) }) ∙ sym can.is
+
+  module _ (kept : Kept w) where
+    side : (r : Row) (j : Joined) (p : Row × ℕ) → Has v.seen.joined (r, j) → j.partner ≡ Some p → IsSideOf (cell_at w.table) (offer_at w.table) r j p
+    side r j p has e = kept.linked.sides r j p (k.joined r j has) e
+
+    open_partner : (r : Row) (j : Joined) (p : Row × ℕ) → Has v.seen.joined (r, j) → j.partner ≡ Some p → is_fresh (cell_at w.table p.0) ≡ false
+    open_partner r j p has e = partner_open w.table.threads w.table.rows (cell_at w.table) (offer_at w.table) r j p kept.linked (k.joined r j has) e
+
+    -- a commit's offer is below the number of offers that was read
+    chosen_below : (r : Row) (n count : ℕ) → SawChosen v.seen r n → Has v.seen.words (r, 1, count) → n < unwrap_or (count_of count) 0
+    chosen_below r n count chose has =
+        let read = k.read r 1 count has in
+        subst (λ (x : ℕ). n < x) (count_there w.table r count read.0 read.3) (taken chose)
+      where
+        own_there : (j : Joined) → Has v.seen.joined (r, j) → (p : Row × ℕ) × (j.partner ≡ Some p) → j.own < count_at w.table r
+        own_there j has_j p = let o = meeting_own _ _ (side r j p.0 has_j p.1).meets in below_count w.table r j.own o.0 o.1
+
+        taken : SawChosen v.seen r n → n < count_at w.table r
+        taken (inl c) = subst (λ (x : ℕ). x < count_at w.table r) c.2 (own_there c.0 c.1 (Rattle.protocol.proofs.Linking.some_parts c.0.partner (kept.linked.paired r c.0 (k.joined r c.0 c.1))))
+        taken (inr c) = let o = meeting_other _ _ (side c.0 c.1 (r, n) c.2 c.3).meets in below_count w.table r n o.0 o.1
+
+    pub coherent : Coherent v.threads v.rows v.seen
+    coherent = record {
+      formed = λ r p x h. let a = k.read r p x h in ap (is_word_for p) (sym a.3) ∙ kept.formed.rows r p (row_of_open w.table r a.0) a.1;
+      one_word = λ r p x y g h. sym (k.read r p x g).3 ∙ (k.read r p y h).3;
+      one_draft = λ r p x y g h. sym (k.drafted r p x g).4 ∙ (k.drafted r p y h).4;
+      as_drafted = λ r p x y g h. sym (k.drafted r p x g).4 ∙ (k.read r p y h).3;
+      one_joined = λ r i j g h. some_inj i j (sym (k.joined r i g) ∙ k.joined r j h);
+      in_range = λ r j h. (
+        joined_ranged w.table r j (k.joined r j h),
+        Rattle.std.proofs.Math.Nat.le_trans (kept.linked.bounded r j (k.joined r j h)) (few_commits w.table.threads w.table.rows _ _ kept.few_threads kept.few_rows),
+      );
+      paired = λ r j h. kept.linked.paired r j (k.joined r j h);
+      inside = λ r j p h e.
+          let i = kept.linked.inside p.0 (open_partner r j p h e) in
+          subst (λ (z : ℕ × ℕ). (p.0.thread < z.0) × (p.0.sync < z.1)) (λ i. (sym k.threads i, sym k.rows i)) i;
+      chosen = λ r n count c h. chosen_below r n count c h;
+      meet = λ r j p mine theirs h e a b.
+          let m = offer_known r j.own mine a in
+          let t = offer_known p.0 p.1 theirs b in
+          (λ x. offers_meet (sym m x) (sym t x)) ∙ (side r j p h e).meets;
+    }
+
+    -- what a pass has seen of a row agrees with the row's cell
+    pub agrees : (r : Row) (c : Cell) → cell_at w.table r ≡ c → Agrees v r c
+    agrees r c e = record {
+      opened = λ o. ap is_fresh (sym e) ∙ k.opened r o;
+      fresh = λ h n. sym e ∙ k.fresh r h n;
+      joined = λ j h. ap joined_of (sym e) ∙ k.joined r j h;
+      taken = λ t. ap is_taken (sym e) ∙ k.taken r t;
+      read = λ p x h. ap is_fresh (sym e) ∙ (k.read r p x h).0;
+      calm = λ h claimed_now. k.calm r h (e ∙ claimed_now);
+      named = λ q j h n.
+          let a = naming (Some j) r n in
+          let same = some_inj j a.way a.is in
+          ap is_fresh (sym e) ∙ ap (λ (y : Row). is_fresh (cell_at w.table y)) (sym a.row) ∙ open_partner q j a.place h (ap (λ (y : Joined). y.partner) same ∙ a.partner);
+      in_turn = λ h. ap (λ (y : Cell). is_some (joined_of y)) (sym e) ∙ kept.linked.in_turn r.thread r.sync (k.opened _ h);
+    }
+
+few_offers : (count n : ℕ) → n < unwrap_or (count_of count) 0 → n < count
+unfolding count_of
+few_offers count n h = by_case (Rattle.std.proofs.Math.Dec.leb count 8) h
+  where
+    by_case : (b : Bool) → n < unwrap_or (cond b (Some count) None) 0 → n < count
+    by_case true h = h
+    by_case false h = absurd (omega arith)
+
+-- A COMMITTED ROW CHOSE AMONG THE OFFERS THAT ITS PASS DRAFTED
+pub own_chose : (w : World) (owner : Row → ℕ) (id : ℕ) (v : View) (r : Row) (j : Joined) (offers : List Offer) → Knows w owner id v → Kept w → IsDraft v.seen r offers → joined_at w.table r ≡ Some j
+    → (j.own < length offers) × (offer_at w.table r j.own ≡ slice_get offers j.own)
+own_chose w owner id v r j offers k kept draft e =
+    let p = Rattle.protocol.proofs.Linking.some_parts j.partner (kept.linked.paired r j e) in
+    let o = meeting_own _ _ (kept.linked.sides r j p.0 e p.1).meets in
+    let open_r = fresh_not_joined (cell_at w.table r) j e in
+    let counted = count_there w.table r (length offers) open_r (k.drafted r 1 (length offers) draft.0).4 in
+    let below = few_offers (length offers) j.own (subst (λ (n : ℕ). j.own < n) counted (below_count w.table r j.own o.0 o.1)) in
+    let some = there (slice_get offers j.own) refl (Rattle.std.proofs.lemmas.Option.slice_get_cases offers j.own).1 below in
+    (below, offer_there w.table v.seen.drafts r j.own some.0 (λ p x h. (k.drafted r p x h).4) open_r (draft.1 j.own some.0 some.1) ∙ sym some.1)
+  where
+    there : (x : Option Offer) → slice_get offers j.own ≡ x → ((o : Offer) × (j.own < length offers) × (slice_get offers j.own ≡ Some o) × (Rattle.std.proofs.Common.get_or offers j.own o ≡ o)) ⊎ ((length offers ≤ j.own) × (slice_get offers j.own ≡ None))
+        → j.own < length offers → (o : Offer) × (slice_get offers j.own ≡ Some o)
+    there x e (inl h) below = (h.0, h.2)
+    there x e (inr h) below = absurd (omega (arith, h.0))

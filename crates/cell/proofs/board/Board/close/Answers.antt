@@ -1,0 +1,34 @@
+use Rattle.std.proofs.Common.{rules, ◌≡◌, ◌<◌, ◌≤◌, List, length, Some, slice_get, sym, subst, ap, ◌∙◌, arith}
+use Rattle.words.specs.declared.Joined.{Joined}
+use Rattle.words.specs.declared.Offer.{Offer}
+use Rattle.words.specs.declared.Row.{Row}
+use Rattle.protocol.specs.Ledgers.{Ledger, ledger_of, joined_in, offer_in}
+use Rattle.cell.proofs.Endings.{ended, final_lawful, final_joined, final_own}
+use Rattle.cell.proofs.board.Board.close.Goals as goal
+
+pub of_words-requires-clause-lawful : goal.of_words-requires-clause-lawful
+of_words-requires-clause-lawful c =
+    let size : c.args.seat.me.0.threads ≡ c.args.self.shape.threads = (search rules) in
+    let some = c.args.self.small.0 in
+    final_lawful c.args.self.shape c.args.seat.id c.args.seat.me.0 (omega arith) c.copy_words-words.result.items _
+    (ended _ _ _ _ _ _ _ c.args.self.keyed c.copy_words-words.ensures c.close_with-closed.ensures.values.2)
+
+pub returns-clause-size : goal.returns-clause-size
+unfolding ledger_of
+returns-clause-size c = (ap (λ (l : Ledger). l.threads) c.of_words.ensures, ap (λ (l : Ledger). l.rows) c.of_words.ensures)
+
+pub returns-clause-seen : goal.returns-clause-seen
+returns-clause-seen c r j h =
+    let size : c.args.seat.me.0.threads ≡ c.args.self.shape.threads = (search rules) in
+    let some = c.args.self.small.0 in
+    subst (λ (l : Ledger). joined_in l r ≡ Some j) (sym c.of_words.ensures)
+    (final_joined c.args.self.shape c.args.seat.id c.args.seat.me.0 (omega arith) c.copy_words-words.result.items _
+    (ended _ _ _ _ _ _ _ c.args.self.keyed c.copy_words-words.ensures c.close_with-closed.ensures.values.2) r j h)
+
+pub returns-clause-own : goal.returns-clause-own
+returns-clause-own c r j offers draft e =
+    let size : c.args.seat.me.0.threads ≡ c.args.self.shape.threads = (search rules) in
+    let some = c.args.self.small.0 in
+    subst (λ (l : Ledger). (j.own < length offers) × (offer_in l r j.own ≡ slice_get offers j.own)) (sym c.of_words.ensures)
+    (final_own c.args.self.shape c.args.seat.id c.args.seat.me.0 (omega arith) c.copy_words-words.result.items _
+    (ended _ _ _ _ _ _ _ c.args.self.keyed c.copy_words-words.ensures c.close_with-closed.ensures.values.2) r j offers draft (subst (λ (l : Ledger). joined_in l r ≡ Some j) c.of_words.ensures e))

@@ -1,0 +1,58 @@
+use Rattle.std.proofs.Common.{rules, ◌≡◌, ◌≢◌, ◌⊎◌, ◌<◌, ℕ, true, false, sym, subst, ap, ◌∙◌, inl, inr, IfErr, is_err, Result}
+use Rattle.words.specs.declared.Row.{Row}
+use Rattle.words.specs.declared.Cell.{Cell}
+use Rattle.words.specs.declared.Cell.TheVariants.{Fresh, Waiting, Claimed, Synched, Taken}
+use Rattle.words.specs.declared.Joined.{Joined}
+use Rattle.protocol.specs.Tables.{is_fresh}
+use Rattle.cell.specs.declared.view.View.{View}
+use Rattle.cell.specs.declared.view.Stage.{Stage}
+use Rattle.cell.specs.declared.view.Stage.TheVariants.{Resting, Claims}
+use Rattle.cell.specs.declared.attempt.Attempt.TheVariants.{Mine, Gone, Unfit}
+use Rattle.cell.specs.Attempts.{Attempted, IsNear}
+use Rattle.cell.specs.Sight.{Has, CanJoin, Learns, SawCommitted, see_cell}
+use Rattle.cell.specs.Told.{Agrees}
+use Rattle.cell.specs.Views.{IsClaimer, saw, turned}
+use Rattle.cell.proofs.Meeting.{can_join_opened, claim_found, join_found, err_case, learns_yield}
+use Rattle.cell.proofs.board.Board.meet.Goals as goal
+
+unclaimed : (c : Cell) → (c ≡ Fresh) ⊎ ((c ≡ Waiting) ⊎ (((j : Joined) × (c ≡ Synched j)) ⊎ ((j : Joined) × (c ≡ Taken j)))) → c ≢ Claimed
+unclaimed c (inl h) e = let bad : Fresh ≡ Claimed = sym h ∙ e in cc
+unclaimed c (inr (inl h)) e = let bad : Waiting ≡ Claimed = sym h ∙ e in cc
+unclaimed c (inr (inr (inl h))) e = let bad : Synched h.0 ≡ Claimed = sym h.1 ∙ e in cc
+unclaimed c (inr (inr (inr h))) e = let bad : Taken h.0 ≡ Claimed = sym h.1 ∙ e in cc
+
+pub returns-then-is_err-clause-attempted : goal.returns-then-is_err-clause-attempted
+returns-then-is_err-clause-attempted g c =
+    let found = err_case c.claim.result (λ cell. (cell ≢ Waiting) × (c.claim.new.seat.me.0 ≡ saw c.args.mine.0 cell c.args.seat.now.me.0) × Agrees c.args.seat.now.me.0 c.args.mine.0 cell) (search rules) c.claim.ensures.found in (
+      subst (λ (v : View). SawCommitted v.seen c.args.mine.0) (sym found.1.1)
+          (claim_found c.args.seat.now.me.0 c.args.mine.0 found.0 c.requires.held.0 c.requires.held.1 c.requires.held.2 found.1.0 found.1.2),
+      (λ e. cc),
+    )
+
+pub join-requires-clause-can : goal.join-requires-clause-can
+join-requires-clause-can g c =
+    let claimed : c.claim.new.seat.me.0 ≡ turned (Claims c.args.mine.0) c.args.mine.0 c.args.seat.now.me.0 = (search rules) in
+    (subst (λ (v : View). CanJoin v.seen c.args.mine.0 c.args.mine.1 c.args.other c.args.joined.own c.args.joined) (sym claimed) (can_join_opened _ _ _ _ _ _ _ c.requires.can.0), c.requires.can.1)
+
+-- the other row was found neither Waiting nor Claimed, and one's own was given up
+pub returns-in-Fresh : goal.returns-in-Fresh
+returns-in-Fresh g c =
+    let claimed : c.claim.new.seat.me.0 ≡ turned (Claims c.args.mine.0) c.args.mine.0 c.args.seat.now.me.0 = (search rules) in
+    let can : CanJoin c.claim.new.seat.me.0.seen c.args.mine.0 c.args.mine.1 c.args.other c.args.joined.own c.args.joined =
+    subst (λ (v : View). CanJoin v.seen c.args.mine.0 c.args.mine.1 c.args.other c.args.joined.own c.args.joined) (sym claimed) (can_join_opened _ _ _ _ _ _ _ c.requires.can.0) in
+    let found : c.join.new.seat.me.0 ≡ saw c.args.other c.in-Err.found c.claim.new.seat.me.0 = (search rules) in
+    let agree : Agrees c.claim.new.seat.me.0 c.args.other c.in-Err.found = (search rules) in
+    let not_waiting : c.in-Err.found ≢ Waiting = (search rules) in
+    let committed = join_found c.claim.new.seat.me.0 c.args.mine.0 c.args.other c.args.mine.1 c.args.joined.own c.args.joined c.in-Err.found can not_waiting (unclaimed c.in-Err.found c.in-Fresh.is) agree in
+    let after : c.give_up.new.seat.me.0 ≡ turned Resting c.args.mine.0 (saw c.args.other c.in-Err.found (turned (Claims c.args.mine.0) c.args.mine.0 c.args.seat.now.me.0)) =
+    c.give_up.ensures.waits ∙ ap (turned Resting c.args.mine.0) (found ∙ ap (saw c.args.other c.in-Err.found) claimed) in
+    record {
+      sits = (search rules);
+      stays = (search rules);
+      learns = subst (λ (v : View). Learns (IsNear c.args.mine.0 c.args.other) c.args.seat.now.me.0.seen v.seen) (sym after)
+          (learns_yield c.args.mine.0 c.args.other c.in-Err.found c.args.seat.now.me.0.seen);
+      attempted = (
+        subst (λ (v : View). SawCommitted v.seen c.args.other) (sym (c.give_up.ensures.waits ∙ ap (turned Resting c.args.mine.0) found)) committed,
+        (λ e. cc),
+      );
+    }

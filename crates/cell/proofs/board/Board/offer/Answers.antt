@@ -1,0 +1,47 @@
+use Rattle.std.proofs.Common.{rules, ◌≡◌, ◌≢◌, ◌+◌, ◌<◌, ◌≤◌, ◌*◌, ◌⊎◌, None, Some, ℕ, sym, ap, ◌∙◌, subst, arith, unwrap_or, Option, is_some, true, false, inl, inr}
+use Rattle.words.specs.Words.{count_of, offer_of}
+use Rattle.words.specs.declared.Offer.{Offer}
+use Rattle.words.specs.declared.Row.{Row}
+use Rattle.cell.specs.declared.view.View.{View}
+use Rattle.cell.specs.Sight.{Has, HaveOffer, LackOffer, SeesOffer, see_cell}
+use Rattle.cell.proofs.Offers.{ReadFive, read_five, five_offer, five_formed, seen_below, seen_same, if_some, if_none}
+use Rattle.cell.proofs.board.Board.offer.Goals as goal
+use Rattle.cell.proofs.board.Board.offer.Goals.{After-unpack_offer}
+
+pub returns-in_err-count-clause-same : goal.returns-in_err-count-clause-same
+returns-in_err-count-clause-same c o seen =
+    let below = seen_below _ _ _ _ _ c.args.row c.args.n c.look.result c.read.result o c.look.ensures.saw c.read.ensures.read c.read.ensures.coherent seen in
+    let none : count_of c.read.result ≡ None = (search rules) in
+    let bad : c.args.n < 0 = subst (λ (x : Option ℕ). c.args.n < unwrap_or x 0) none below in
+    absurd (omega arith)
+
+pub returns-then-n-count-clause-same : goal.returns-then-n-count-clause-same
+returns-then-n-count-clause-same c o seen =
+    let below = seen_below _ _ _ _ _ c.args.row c.args.n c.look.result c.read.result o c.look.ensures.saw c.read.ensures.read c.read.ensures.coherent seen in
+    let some : count_of c.read.result ≡ Some c.in_ok-count.count = (search rules) in
+    let bad : c.args.n < c.in_ok-count.count = subst (λ (x : Option ℕ). c.args.n < unwrap_or x 0) some below in
+    absurd (omega (arith, c.if-n-count.true))
+
+five : (c : After-unpack_offer) → ReadFive c.look.new.seat.me.0 c.read-third.new.seat.me.0 c.args.row c.args.n c.read.result c.read-head.result c.read-first.result c.read-second.result c.read-third.result
+five c = read_five c.look.new.seat.me.0 c.read.new.seat.me.0 c.read-head.new.seat.me.0 c.read-first.new.seat.me.0 c.read-second.new.seat.me.0 c.read-third.new.seat.me.0 c.args.row c.args.n _ _ _ _ _ c.read.ensures.read c.read-head.ensures.read c.read-first.ensures.read c.read-second.ensures.read c.read-third.ensures.read
+
+below_count : (c : After-unpack_offer) → c.args.n < unwrap_or (count_of c.read.result) 0
+below_count c =
+    let some : count_of c.read.result ≡ Some c.in_ok-count.count = (search rules) in
+    subst (λ (x : Option ℕ). c.args.n < unwrap_or x 0) (sym some) (omega (arith, c.if-n-count.false))
+
+is_opened : (c : After-unpack_offer) → Has c.read-third.new.seat.me.0.seen.opened c.args.row
+is_opened c = (search rules)
+
+pub returns-clause-some : goal.returns-clause-some
+returns-clause-some c = if_some c.unpack_offer.result _ (λ o e. (is_opened c, five_offer _ _ c.args.row c.args.n _ _ _ _ _ o (five c) (below_count c) (sym c.unpack_offer.ensures.value ∙ e)))
+
+pub returns-clause-none : goal.returns-clause-none
+returns-clause-none c = if_none c.unpack_offer.result _ (λ e.
+    let formed = five_formed _ _ _ c.read-third.new.seat.me.0 c.args.row c.args.n _ _ _ _ _ c.read-third.ensures.coherent (five c) in
+    let bad : true ≡ false = sym formed ∙ ap is_some (sym c.unpack_offer.ensures.value ∙ e) in
+    cc)
+
+pub returns-clause-same : goal.returns-clause-same
+returns-clause-same c o seen =
+    c.unpack_offer.ensures.value ∙ seen_same _ _ _ _ c.read-third.new.seat.me.0 c.args.row c.args.n _ _ _ _ _ c.look.result o c.look.ensures.saw (five c) c.read-third.ensures.coherent seen

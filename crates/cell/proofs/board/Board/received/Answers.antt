@@ -1,0 +1,30 @@
+use Rattle.std.proofs.Common.{rules, ℕ, ◌≡◌, ◌≢◌, None, Some, true, sym, ap, ◌∙◌, inr}
+use Rattle.words.specs.declared.Message.{Message}
+use Rattle.words.specs.declared.Base.TheVariants.{Recv, Send}
+use Rattle.words.specs.declared.Offer.{Offer}
+use Rattle.words.specs.declared.Row.{Row}
+use Rattle.cell.specs.Sight.{Has, HaveOffer, LackOffer, IsKnownOpen}
+use Rattle.cell.proofs.Meeting.{from_none, from_some, recv_meets, chosen_not_lacking, partner_known_open}
+use Rattle.cell.proofs.Offers.{have_more}
+use Rattle.cell.proofs.board.Board.received.Goals as goal
+
+pub returns-in_err-message-clause-sent : goal.returns-in_err-message-clause-sent
+returns-in_err-message-clause-sent c =
+    let partner : c.args.joined.partner ≡ Some (c.in_ok-partner.partner, c.in_ok-partner.offer) = (search rules) in
+    let none : c.offer.result ≡ None = (search rules) in
+    let lack = from_none c.offer.result (IsKnownOpen c.args.seat.now.me.0.seen c.in_ok-partner.partner → LackOffer c.offer.new.seat.me.0.seen.words c.in_ok-partner.partner c.in_ok-partner.offer) c.offer.ensures.none none
+    (partner_known_open c.args.seat.now.me.0.seen c.args.row c.args.joined c.in_ok-partner.partner c.in_ok-partner.offer c.requires.committed partner) in
+    absurd (chosen_not_lacking _ _ c.offer.new.seat.me.0.seen c.in_ok-partner.partner c.in_ok-partner.offer c.offer.ensures.coherent
+    (inr (c.args.row, c.args.joined, c.offer.ensures.learns.joined.0 (c.args.row, c.args.joined) c.requires.committed, partner)) lack)
+
+pub returns-in_default : goal.returns-in_default
+returns-in_default c =
+    let partner : c.args.joined.partner ≡ Some (c.in_ok-partner.partner, c.in_ok-partner.offer) = (search rules) in
+    let some : c.offer.result ≡ Some c.in_ok-message.field-0 = (search rules) in
+    let have = (from_some c.offer.result (λ o. Has c.offer.new.seat.me.0.seen.opened c.in_ok-partner.partner × HaveOffer c.offer.new.seat.me.0.seen.words c.in_ok-partner.partner c.in_ok-partner.offer o) c.in_ok-message.field-0 c.offer.ensures.some some).1 in
+    let mine = c.requires.receives.0 in
+    let meet = c.offer.ensures.coherent.meet c.args.row c.args.joined (c.in_ok-partner.partner, c.in_ok-partner.offer) mine c.in_ok-message.field-0
+    (c.offer.ensures.learns.joined.0 (c.args.row, c.args.joined) c.requires.committed) partner
+    (have_more c.args.seat.now.me.0.seen.words c.offer.new.seat.me.0.seen.words c.args.row c.args.joined.own mine c.offer.ensures.learns.words.0 c.requires.receives.2) have in
+    let sends = recv_meets mine c.in_ok-message.field-0 c.requires.receives.1 c.requires.receives.3 meet in
+    absurd (c.in_default.not-Send sends.0 sends.1 sends.2)

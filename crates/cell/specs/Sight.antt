@@ -1,0 +1,166 @@
+-- What a pass has seen: how it grows, and what it says of offers and of rows that can meet.
+use Rattle.std.specs.Prelude.{◌≡◌, ◌≢◌, ◌⊎◌, ℕ, ◌+◌, ◌-◌, ◌*◌, ◌<◌, ◌≤◌, max, unwrap_or, Bool, true, false, is_some, Option, Some, List, [], ◌∷◌, ◌==◌, ◌&&◌, if◌then◌else◌, length, slice_get}
+use Rattle.words.specs.Words.{count_of, offer_of, is_word_for, IsJoinedInRange, IsOfferInRange}
+use Rattle.words.specs.declared.Base.{Base}
+use Rattle.words.specs.declared.Base.TheVariants.{Send, Recv, Always, OnNack, Never}
+use Rattle.words.specs.declared.Message.{Message}
+use Rattle.words.specs.declared.Message.TheVariants.{Empty}
+use Rattle.words.specs.declared.Offer.{Offer}
+use Rattle.words.specs.declared.Row.{Row}
+use Rattle.words.specs.declared.Joined.{Joined}
+use Rattle.words.specs.declared.Cell.{Cell}
+use Rattle.words.specs.declared.Cell.TheVariants.{Fresh, Waiting, Claimed, Synched, Taken}
+use Rattle.cell.specs.declared.view.Seen.{Seen}
+use Rattle.protocol.specs.Tables.{row_eq, is_fresh, joined_of, names, offers_meet}
+
+-- x is in the list
+abbrev pub Has : {A : Type 0} → List A → A → Type 0
+Has [] x = ⊥
+Has (y ∷ ys) x = (y ≡ x) ⊎ Has ys x
+
+-- HOW IT GROWS
+
+-- the row was seen opened
+abbrev pub see_opened : Row → Seen → Seen
+see_opened r s = record { held = s.held; drafts = s.drafts; opened = r ∷ s.opened; words = s.words; joined = s.joined; taken = s.taken }
+
+-- the row's cell was seen
+abbrev pub see_cell : Row → Cell → Seen → Seen
+see_cell r Fresh s = s
+see_cell r Waiting s = see_opened r s
+see_cell r Claimed s = see_opened r s
+see_cell r (Synched j) s = record { held = s.held; drafts = s.drafts; opened = r ∷ s.opened; words = s.words; joined = (r, j) ∷ s.joined; taken = s.taken }
+see_cell r (Taken j) s = record { held = s.held; drafts = s.drafts; opened = r ∷ s.opened; words = s.words; joined = (r, j) ∷ s.joined; taken = r ∷ s.taken }
+
+-- a word of an opened row was read
+abbrev pub see_word : Row → ℕ → ℕ → Seen → Seen
+see_word r p x s = record { held = s.held; drafts = s.drafts; opened = s.opened; words = (r, p, x) ∷ s.words; joined = s.joined; taken = s.taken }
+
+-- a word of a held Fresh row was drafted: what was drafted there before is gone
+abbrev pub without : Row → ℕ → List (Row × ℕ × ℕ) → List (Row × ℕ × ℕ)
+without r p [] = []
+without r p (d ∷ ds) = if row_eq d.0 r && (d.1 == p) then without r p ds else d ∷ without r p ds
+
+abbrev pub see_draft : Row → ℕ → ℕ → Seen → Seen
+see_draft r p x s = record { held = s.held; drafts = (r, p, x) ∷ without r p s.drafts; opened = s.opened; words = s.words; joined = s.joined; taken = s.taken }
+
+-- nothing is lost, and what is new is of rows such as these
+abbrev pub Adds : {A : Type 0} → (A → Type 0) → List A → List A → Type 0
+Adds {A} About xs ys = ((x : A) → Has xs x → Has ys x) × ((x : A) → Has ys x → Has xs x ⊎ About x)
+
+pub record Learns (About : Row → Type 0) (s t : Seen) : Type 0 where
+  pub held : t.held ≡ s.held
+  pub drafts : t.drafts ≡ s.drafts
+  pub opened : Adds About s.opened t.opened
+  pub words : Adds (λ x. About x.0) s.words t.words
+  pub joined : Adds (λ x. About x.0) s.joined t.joined
+  pub taken : Adds About s.taken t.taken
+
+-- Words were drafted at these places, and nothing else changed.
+pub record Redrafts (Where : Row → ℕ → Type 0) (s t : Seen) : Type 0 where
+  pub held : t.held ≡ s.held
+  pub opened : t.opened ≡ s.opened
+  pub words : t.words ≡ s.words
+  pub joined : t.joined ≡ s.joined
+  pub taken : t.taken ≡ s.taken
+  pub kept : (r : Row) (p x : ℕ) → ¬ Where r p → Has s.drafts (r, p, x) → Has t.drafts (r, p, x)
+  pub only : (r : Row) (p x : ℕ) → ¬ Where r p → Has t.drafts (r, p, x) → Has s.drafts (r, p, x)
+
+-- OFFERS
+
+-- at most 8 offers that the words have room for
+abbrev pub AreOffers : List Offer → Type 0
+AreOffers offers = (length offers ≤ 8) × ((n : ℕ) (offer : Offer) → slice_get offers n ≡ Some offer → IsOfferInRange offer)
+
+-- the place is one of the four of offer n
+abbrev pub IsPlaceOf : ℕ → ℕ → Type 0
+IsPlaceOf n p = (2 + 4 * n ≤ p) × (p < 6 + 4 * n)
+
+-- these words have offer n of the row
+abbrev pub HaveOffer : List (Row × ℕ × ℕ) → Row → ℕ → Offer → Type 0
+HaveOffer words r n offer =
+    (count : ℕ) × (a : ℕ) × (b : ℕ) × (c : ℕ) × (d : ℕ)
+    × Has words (r, 1, count) × (n < unwrap_or (count_of count) 0)
+    × Has words (r, 2 + 4 * n, a) × Has words (r, 3 + 4 * n, b) × Has words (r, 4 + 4 * n, c) × Has words (r, 5 + 4 * n, d)
+    × (offer_of a b c d ≡ Some offer)
+
+-- these words say that the row has no offer n
+abbrev pub LackOffer : List (Row × ℕ × ℕ) → Row → ℕ → Type 0
+LackOffer words r n = (count : ℕ) × Has words (r, 1, count) × (unwrap_or (count_of count) 0 ≤ n)
+
+-- offer n of the row was read, or drafted before the row was opened
+abbrev pub SeesOffer : Seen → Row → ℕ → Offer → Type 0
+SeesOffer s r n offer = HaveOffer s.words r n offer ⊎ (Has s.opened r × HaveOffer s.drafts r n offer)
+
+-- the offers of the list are drafted for the row, and no more
+abbrev pub IsDraft : Seen → Row → List Offer → Type 0
+IsDraft s r offers = Has s.drafts (r, 1, length offers) × ((n : ℕ) (offer : Offer) → slice_get offers n ≡ Some offer → HaveOffer s.drafts r n offer)
+
+-- the row was seen committed
+abbrev pub SawCommitted : Seen → Row → Type 0
+SawCommitted s r = (j : Joined) × Has s.joined (r, j)
+
+-- row q stands right before row r in its thread
+abbrev pub IsBefore : Row → Row → Type 0
+IsBefore r q = (q.thread ≡ r.thread) × (q.sync + 1 ≡ r.sync)
+
+-- the row is known to be open: it was seen so, or it is the partner of a row that was seen committed
+abbrev pub IsKnownOpen : Seen → Row → Type 0
+IsKnownOpen s r = Has s.opened r ⊎ ((q : Row) × (j : Joined) × Has s.joined (q, j) × (names (Some j) r ≡ true))
+
+-- row q is row r, or its partner as it was seen committed
+abbrev pub IsPartnerOf : Seen → Row → Row → Type 0
+IsPartnerOf s r q = (q ≡ r) ⊎ ((j : Joined) × Has s.joined (r, j) × (names (Some j) q ≡ true))
+
+-- what a committed row gets, by the base event that it chose: the message that it received, or that of its own always, else none
+abbrev pub Gets : Seen → Joined → Base → Message → Type 0
+Gets s j (Send c m) got = got ≡ Empty
+Gets s j (Recv c) got = (p : Row × ℕ) × (d : ℕ) × (o : Offer) × (j.partner ≡ Some p) × SeesOffer s p.0 p.1 o × (o.base ≡ Send d got)
+Gets s j (Always m) got = got ≡ m
+Gets s j (OnNack n) got = got ≡ Empty
+Gets s j Never got = got ≡ Empty
+
+abbrev pub IsResult : Seen → Row → Message → Type 0
+IsResult s r got = (j : Joined) × (o : Offer) × Has s.joined (r, j) × SeesOffer s r j.own o × Gets s j o.base got
+
+-- WHAT A PASS KNOWS OF TWO ROWS BEFORE IT JOINS THEM
+
+-- the stamp of the row before this one in its thread, as it was seen; 0 where there is none
+abbrev pub HasSeenLast : Seen → Row → ℕ → Type 0
+HasSeenLast s r stamp =
+    ((r.sync ≡ 0) × (stamp ≡ 0))
+    ⊎ ((j : Joined) × (r.sync ≢ 0) × Has s.joined (record { thread = r.thread; sync = r.sync - 1 }, j) × (stamp ≡ j.stamp))
+
+-- the other row, joined as j by offer `own` of row `mine`, meets it under offer `partner`, at the stamp that both last stamps give
+pub record CanJoin (s : Seen) (mine : Row) (own : ℕ) (other : Row) (partner : ℕ) (j : Joined) : Type 0 where
+  pub apart : mine.thread ≢ other.thread
+  pub my_offer : Offer
+  pub their_offer : Offer
+  pub read_mine : HaveOffer s.words mine own my_offer
+  pub read_theirs : HaveOffer s.words other partner their_offer
+  pub meet : offers_meet (Some my_offer) (Some their_offer) ≡ true
+  pub my_last : ℕ
+  pub their_last : ℕ
+  pub seen_mine : HasSeenLast s mine my_last
+  pub seen_theirs : HasSeenLast s other their_last
+  pub is : j ≡ record { own = partner; partner = Some (mine, own); stamp = 1 + max my_last their_last }
+
+-- WHAT IS TRUE OF ALL THAT A PASS HAS SEEN, since it is true of one table
+
+-- a commit that was seen took offer n of the row
+abbrev pub SawChosen : Seen → Row → ℕ → Type 0
+SawChosen s r n = ((j : Joined) × Has s.joined (r, j) × (j.own ≡ n)) ⊎ ((q : Row) × (j : Joined) × Has s.joined (q, j) × (j.partner ≡ Some (r, n)))
+
+pub record Coherent (threads rows : ℕ) (s : Seen) : Type 0 where
+  pub formed : (r : Row) (p x : ℕ) → Has s.words (r, p, x) → is_word_for p x ≡ true
+  pub one_word : (r : Row) (p x y : ℕ) → Has s.words (r, p, x) → Has s.words (r, p, y) → x ≡ y
+  pub one_draft : (r : Row) (p x y : ℕ) → Has s.drafts (r, p, x) → Has s.drafts (r, p, y) → x ≡ y
+  pub as_drafted : (r : Row) (p x y : ℕ) → Has s.drafts (r, p, x) → Has s.words (r, p, y) → x ≡ y
+  pub one_joined : (r : Row) (i j : Joined) → Has s.joined (r, i) → Has s.joined (r, j) → i ≡ j
+  pub in_range : (r : Row) (j : Joined) → Has s.joined (r, j) → IsJoinedInRange j × (j.stamp ≤ 65536)
+  -- a committed row has a partner, and both offers meet
+  pub paired : (r : Row) (j : Joined) → Has s.joined (r, j) → is_some j.partner ≡ true
+  pub inside : (r : Row) (j : Joined) (p : Row × ℕ) → Has s.joined (r, j) → j.partner ≡ Some p → (p.0.thread < threads) × (p.0.sync < rows)
+  pub chosen : (r : Row) (n count : ℕ) → SawChosen s r n → Has s.words (r, 1, count) → n < unwrap_or (count_of count) 0
+  pub meet : (r : Row) (j : Joined) (p : Row × ℕ) (mine theirs : Offer) → Has s.joined (r, j) → j.partner ≡ Some p
+      → HaveOffer s.words r j.own mine → HaveOffer s.words p.0 p.1 theirs → offers_meet (Some mine) (Some theirs) ≡ true

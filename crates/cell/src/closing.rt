@@ -1,0 +1,46 @@
+//! The end of a table: its words become a ledger.
+
+ghost use Rattle.std.specs.Prelude.{◌≡◌, ◌<◌, List, length, Some, slice_get};
+ghost use Rattle.std.specs.Slots.{slots_items, slots_len, IsFull};
+ghost use Rattle.words.specs.declared.Joined.{Joined};
+ghost use Rattle.words.specs.declared.Offer.{Offer};
+ghost use Rattle.words.specs.declared.Row.{Row};
+ghost use Rattle.protocol.specs.Ledgers.{joined_in, offer_in};
+ghost use Rattle.cell.specs.Seats.{Sits};
+ghost use Rattle.cell.specs.Sight.{Has, IsDraft};
+
+use crate::board::Board;
+use crate::view::View;
+use atomic_table::{Closed, Seat};
+use protocol::Ledger;
+use std::alloc::Global;
+
+impl Board {
+    /// The ledger of the words at the end. They are copied into the room that was made for them.
+    pub(crate) fn close(self, seat: Seat<u64, View>, room: Vec<u64>) -> Ledger
+        requires sits { Sits self seat }
+        requires room { length room.items ≡ self.words.shared.table_id.words }
+        ensures size { (result.threads ≡ self.shape.threads) × (result.rows ≡ self.shape.rows) }
+        ensures seen { (r : Row) (j : Joined) → Has seat.me.0.seen.joined (r, j) → joined_in result r ≡ Some j }
+        ensures own { (r : Row) (j : Joined) (offers : List Offer) → IsDraft seat.me.0.seen r offers → joined_in result r ≡ Some j → (j.own < length offers) × (offer_in result r j.own ≡ slice_get offers j.own) }
+    {
+        let Board { words, shape } = self;
+        let closed = words.close_with(seat);
+        let words = copy_words(&closed, room);
+        closed.free();
+        Ledger::of_words(shape.threads as u8, shape.rows as u16, words)
+    }
+}
+
+/// The words, in a room that has as many.
+fn copy_words(closed: &Closed<u64, Global>, room: Vec<u64>) -> Vec<u64>
+    requires full { IsFull closed.now.words }
+    requires room { length room.items ≡ slots_len closed.now.words }
+    ensures { result.items ≡ slots_items closed.now.words }
+{
+    let mut words = room;
+    for at in 0..words.len() {
+        words[at] = closed.word(at);
+    }
+    words
+}

@@ -1,0 +1,122 @@
+//! What a pass reads of a row by several looks.
+
+ghost use Rattle.std.specs.Prelude.{ℕ, ◌≡◌, ◌⊎◌, ◌+◌, ◌<◌, ◌≤◌, true, IfSome, IfNone, None, Some};
+ghost use Rattle.words.specs.declared.Message.{Message};
+ghost use Rattle.words.specs.declared.Base.TheVariants.{Recv, Send};
+ghost use Rattle.words.specs.declared.Offer.{Offer};
+ghost use Rattle.words.specs.declared.Row.{Row};
+ghost use Rattle.protocol.specs.Tables.{names};
+ghost use Rattle.cell.specs.Seats.{Sits, HasRow};
+ghost use Rattle.cell.specs.Sight.{Has, HaveOffer, HasSeenLast, IsBefore, IsKnownOpen, IsPartnerOf, IsResult, LackOffer, SawCommitted, SeesOffer, Learns, Coherent};
+ghost use Rattle.cell.specs.Views.{at_stage};
+
+use crate::board::Board;
+use crate::view::View;
+use atomic_table::Seat;
+use protocol::{Base, Cell, Joined, Message, Offer, Row, unpack_count, unpack_offer};
+
+impl Board {
+    /// Offer n of the row, where it is opened and has one.
+    pub(crate) fn offer(&self, seat: &mut Seat<u64, View>, row: Row, n: u8) -> Option<Offer>
+        requires { Sits self.now seat.old × HasRow self.now row }
+        ensures sits { (seat.new.id ≡ seat.old.id) × Sits self.now seat.new }
+        ensures stays { seat.new.me.0 ≡ at_stage seat.old.me.0.stage seat.new.me.0.seen seat.old.me.0 }
+        ensures learns { Learns (λ q. q ≡ row) seat.old.me.0.seen seat.new.me.0.seen }
+        ensures coherent { Coherent self.now.shape.threads self.now.shape.rows seat.new.me.0.seen }
+        ensures some { IfSome result (λ o. Has seat.new.me.0.seen.opened row × HaveOffer seat.new.me.0.seen.words row n o) }
+        ensures none { IfNone result (IsKnownOpen seat.old.me.0.seen row → LackOffer seat.new.me.0.seen.words row n) }
+        ensures same { (o : Offer) → SeesOffer seat.old.me.0.seen row n o → result ≡ Some o }
+    {
+        if self.look(seat, row) == Cell::Fresh {
+            return None;
+        }
+        let count = unpack_count(self.read(seat, row, 1))?;
+        if n >= count {
+            return None;
+        }
+        let head = self.read(seat, row, 2 + 4 * n);
+        let first = self.read(seat, row, 3 + 4 * n);
+        let second = self.read(seat, row, 4 + 4 * n);
+        let third = self.read(seat, row, 5 + 4 * n);
+        unpack_offer(head, first, second, third)
+    }
+
+    /// The stamp of the row before this one in its thread, and 0 where there is none. The row was
+    /// seen opened, so the one before it is committed.
+    pub(crate) fn last_stamp(&self, seat: &mut Seat<u64, View>, row: Row) -> u32
+        requires sits { Sits self.now seat.old × HasRow self.now row }
+        requires opened { Has seat.old.me.0.seen.opened row }
+        requires coherent { Coherent self.now.shape.threads self.now.shape.rows seat.old.me.0.seen }
+        ensures sits { (seat.new.id ≡ seat.old.id) × Sits self.now seat.new }
+        ensures stays { seat.new.me.0 ≡ at_stage seat.old.me.0.stage seat.new.me.0.seen seat.old.me.0 }
+        ensures learns { Learns (IsBefore row) seat.old.me.0.seen seat.new.me.0.seen }
+        ensures coherent { Coherent self.now.shape.threads self.now.shape.rows seat.new.me.0.seen }
+        ensures last { HasSeenLast seat.new.me.0.seen row result }
+        ensures small { result ≤ 65536 }
+    {
+        if row.sync == 0 {
+            return 0;
+        }
+        let before = Row {
+            thread: row.thread,
+            sync: row.sync - 1,
+        };
+        match self.look(seat, before) {
+            Cell::Synched(joined) | Cell::Taken(joined) => joined.stamp,
+            Cell::Fresh | Cell::Waiting | Cell::Claimed => 0,
+        }
+    }
+
+    /// What the row's thread gets, where the row is committed.
+    pub(crate) fn result(&self, seat: &mut Seat<u64, View>, row: Row) -> Option<Message>
+        requires { Sits self.now seat.old × HasRow self.now row }
+        ensures sits { (seat.new.id ≡ seat.old.id) × Sits self.now seat.new }
+        ensures stays { seat.new.me.0 ≡ at_stage seat.old.me.0.stage seat.new.me.0.seen seat.old.me.0 }
+        ensures learns { Learns (IsPartnerOf seat.new.me.0.seen row) seat.old.me.0.seen seat.new.me.0.seen }
+        ensures some { IfSome result (IsResult seat.new.me.0.seen row) }
+        ensures none { IfNone result (¬ SawCommitted seat.old.me.0.seen row) }
+        ensures same { (got : Message) → IsResult seat.old.me.0.seen row got → result ≡ Some got }
+    {
+        match self.look(seat, row) {
+            Cell::Synched(joined) | Cell::Taken(joined) => self.gained(seat, row, joined),
+            Cell::Fresh | Cell::Waiting | Cell::Claimed => None,
+        }
+    }
+
+    /// What the thread of a committed row gets.
+    fn gained(&self, seat: &mut Seat<u64, View>, row: Row, joined: Joined) -> Option<Message>
+        requires sits { Sits self.now seat.old × HasRow self.now row }
+        requires committed { Has seat.old.me.0.seen.joined (row, joined) × Has seat.old.me.0.seen.opened row }
+        ensures sits { (seat.new.id ≡ seat.old.id) × Sits self.now seat.new }
+        ensures stays { seat.new.me.0 ≡ at_stage seat.old.me.0.stage seat.new.me.0.seen seat.old.me.0 }
+        ensures learns { Learns (λ q. (q ≡ row) ⊎ (names (Some joined) q ≡ true)) seat.old.me.0.seen seat.new.me.0.seen }
+        ensures coherent { Coherent self.now.shape.threads self.now.shape.rows seat.new.me.0.seen }
+        ensures got { (got : Message) × (result ≡ Some got) × IsResult seat.new.me.0.seen row got }
+    {
+        match self.offer(seat, row, joined.own)?.base {
+            Base::Always(message) => Some(message),
+            Base::Recv(_) => self.received(seat, row, joined),
+            Base::Send(..) | Base::OnNack(_) | Base::Never => Some(Message::Empty),
+        }
+    }
+
+    /// What the partner of a committed row sent to it.
+    fn received(&self, seat: &mut Seat<u64, View>, row: Row, joined: Joined) -> Option<Message>
+        requires sits { Sits self.now seat.old × HasRow self.now row }
+        requires committed { Has seat.old.me.0.seen.joined (row, joined) }
+        requires coherent { Coherent self.now.shape.threads self.now.shape.rows seat.old.me.0.seen }
+        requires receives { (mine : Offer) × (chan : ℕ) × HaveOffer seat.old.me.0.seen.words row joined.own mine × (mine.base ≡ Recv chan) }
+        ensures sits { (seat.new.id ≡ seat.old.id) × Sits self.now seat.new }
+        ensures stays { seat.new.me.0 ≡ at_stage seat.old.me.0.stage seat.new.me.0.seen seat.old.me.0 }
+        ensures learns { Learns (λ q. names (Some joined) q ≡ true) seat.old.me.0.seen seat.new.me.0.seen }
+        ensures coherent { Coherent self.now.shape.threads self.now.shape.rows seat.new.me.0.seen }
+        ensures sent { (partner : Row × ℕ) × (chan : ℕ) × (theirs : Offer) × (got : Message) × (result ≡ Some got) × (joined.partner ≡ Some partner) × HaveOffer seat.new.me.0.seen.words partner.0 partner.1 theirs × (theirs.base ≡ Send chan got) }
+    {
+        let _ = row;
+        let (partner, offer) = joined.partner?;
+        match self.offer(seat, partner, offer)?.base {
+            Base::Send(_, message) => Some(message),
+            _ => None,
+        }
+    }
+}
