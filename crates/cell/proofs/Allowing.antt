@@ -32,7 +32,8 @@ use Rattle.cell.specs.declared.view.Shape.{Shape}
 use Rattle.cell.specs.declared.view.Stage.{Stage}
 use Rattle.cell.specs.declared.view.Stage.TheVariants.{Resting, Claims, Joins}
 use Rattle.cell.specs.Sight.{Has, CanJoin, Coherent}
-use Rattle.cell.specs.Views.{Knows, Staged, IsClaimer, is_taken, saw, read_word, drafted_word, turned}
+use Rattle.cell.specs.Sight.{is_taken}
+use Rattle.cell.specs.Views.{Knows, Staged, IsClaimer, saw, read_word, drafted_word, turned}
 use Rattle.cell.proofs.Truths.{offers_known, joined_known, agrees, coherent}
 use Rattle.cell.specs.Rule.{Keeps}
 use Rattle.cell.specs.Told.{Agrees, Inside, At, cell_read, looked, has_read, drafted, waits, claimed, joining, joined, sealed}

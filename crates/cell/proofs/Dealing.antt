@@ -1,5 +1,5 @@
 -- The rule holds at the start, and while the first pass deals the rows.
-use Rattle.std.proofs.Common.{slice_set, ◌≡◌, ◌≢◌, ℕ, zero, suc, ◌+◌, ◌*◌, ◌%◌, ◌<◌, ◌≤◌, Bool, true, false, cond, eqb, ◌&&◌, List, [], ◌∷◌, ◌++◌, length, replicate, sym, refl, ap, ◌∙◌, subst, ◌⊎◌, inl, inr, ⊎_elim, arith, Some}
+use Rattle.std.proofs.Common.{slice_set, ◌≡◌, ◌≢◌, ℕ, zero, suc, ◌+◌, ◌*◌, ◌%◌, ◌<◌, ◌≤◌, Bool, true, false, cond, eqb, ◌&&◌, List, [], ◌∷◌, ◌++◌, length, replicate, sym, refl, ap, ◌∙◌, subst, ◌⊎◌, inl, inr, ⊎_elim, arith, Some, None, slice_get}
 use Rattle.std.proofs.lemmas.Bool.{cases_Bool, lt-ltb, ltb-true, eq-eqb, eqb-true, ne_eqb, and_parts, and_from}
 use Rattle.std.proofs.Math.Bool.{and-false}
 use Rattle.std.proofs.Math.Dec.{ltb}
@@ -101,9 +101,23 @@ has_one t passes k r rs true e rest (inl f) =
 has_one t passes k r rs true e rest (inr g) = let i = rest g in (i.0, omega arith, i.2)
 has_one t passes k r rs false e rest g = let i = rest g in (i.0, omega arith, i.2)
 
-has_dealt : (n passes k : ℕ) (r : Row) → Has (dealt_rows n passes k) r → IsDealt n passes k r
+pub has_dealt : (n passes k : ℕ) (r : Row) → Has (dealt_rows n passes k) r → IsDealt n passes k r
 has_dealt zero passes k r h = absurd h
 has_dealt (suc t) passes k r h = has_one t passes k r (dealt_rows t passes k) (eqb (t % passes) k) refl (λ g. has_dealt t passes k r g) h
+
+one_has : (t passes k : ℕ) (r : Row) (rs : List Row) (b : Bool) → eqb (t % passes) k ≡ b → IsDealt (suc t) passes k r → (IsDealt t passes k r → Has rs r) → Has (cond b (first_row t ∷ rs) rs) r
+one_has t passes k r rs true e d rest = ⊎_elim
+    (λ (h : r.thread ≡ t). inl (same_row (first_row t) r (sym h) (sym d.0)))
+    (λ (h : r.thread < t). inr (rest (d.0, h, d.2)))
+    (Rattle.std.proofs.Math.Nat.eq-or-lt_of_le (let l = d.1 in let m : r.thread ≤ t = omega arith in m))
+one_has t passes k r rs false e d rest = ⊎_elim
+    (λ (h : r.thread ≡ t). let no : eqb (t % passes) k ≡ true = eq-eqb (t % passes) k (ap (λ (n : ℕ). n % passes) (sym h) ∙ d.2) in let bad : true ≡ false = sym no ∙ e in cc)
+    (λ (h : r.thread < t). rest (d.0, h, d.2))
+    (Rattle.std.proofs.Math.Nat.eq-or-lt_of_le (let l = d.1 in let m : r.thread ≤ t = omega arith in m))
+
+pub dealt_has : (n passes k : ℕ) (r : Row) → IsDealt n passes k r → Has (dealt_rows n passes k) r
+dealt_has zero passes k r d = let l = d.1 in absurd (omega arith)
+dealt_has (suc t) passes k r d = one_has t passes k r (dealt_rows t passes k) (eqb (t % passes) k) refl d (λ e. dealt_has t passes k r e)
 
 -- a list with one more at its end
 pub at_end : {A : Type 0} (l : List A) (a b : A) (j : ℕ) → get_elem? (l ++ a ∷ []) j ≡ some b → (get_elem? l j ≡ some b) ⊎ ((j ≡ length l) × (a ≡ b))
@@ -206,3 +220,16 @@ deal_allowed shape id k below some_threads s h view = deals shape id k below som
 pub some_words : (threads rows : ℕ) → 1 ≤ threads → 0 < threads * thread_len rows
 some_words zero rows h = absurd (omega arith)
 some_words (suc threads) rows h = omega (arith, Rattle.std.proofs.Math.Nat.suc-mul threads (thread_len rows))
+
+-- one more in a list that is read by number
+pub each_more : {A : Type 0} (P : ℕ → A → Type 0) (xs ys : List A) (x : A) (n : ℕ) → length xs ≡ n → ys ≡ xs ++ x ∷ [] → P n x → ((k : ℕ) (y : A) → slice_get xs k ≡ Some y → P k y) → (k : ℕ) (y : A) → slice_get ys k ≡ Some y → P k y
+each_more P xs ys x n len is last before k y e = ⊎_elim
+    (λ (h : slice_get xs k ≡ Some y). before k y h)
+    (λ (h : (k ≡ length xs) × (x ≡ y)). subst (λ (z : ℕ × _). P z.0 z.1) (λ i. (sym (h.0 ∙ len) i, h.1 i)) last)
+    (get_end xs x y k (ap (λ (l : List _). slice_get l k) (sym is) ∙ e))
+  where
+    get_end : {A : Type 0} (l : List A) (a b : A) (j : ℕ) → slice_get (l ++ a ∷ []) j ≡ Some b → (slice_get l j ≡ Some b) ⊎ ((j ≡ length l) × (a ≡ b))
+    get_end [] a b zero e = inr (refl, Rattle.protocol.proofs.Linking.some_inj a b e)
+    get_end [] a b (suc j) e = let bad : None ≡ Some b = e in cc
+    get_end (x ∷ xs) a b zero e = inl e
+    get_end (x ∷ xs) a b (suc j) e = ⊎_elim (λ h. inl h) (λ h. inr (ap suc h.0, h.1)) (get_end xs a b j e)

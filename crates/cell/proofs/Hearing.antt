@@ -16,7 +16,8 @@ use Rattle.cell.specs.declared.view.Seen.{Seen}
 use Rattle.cell.specs.declared.view.View.{View}
 use Rattle.cell.specs.declared.view.Shape.{Shape}
 use Rattle.cell.specs.Sight.{Has}
-use Rattle.cell.specs.Views.{Knows, is_taken}
+use Rattle.cell.specs.Sight.{is_taken}
+use Rattle.cell.specs.Views.{Knows}
 use Rattle.cell.specs.Rule.{Keeps, is_among, drafts_of, told_of, told_pass, heard, heard_pass, spent_pass}
 use Rattle.cell.proofs.Dealing.{at_end}
 

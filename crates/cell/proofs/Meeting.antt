@@ -131,11 +131,11 @@ learns_yield mine other (Taken j) s = search rules
 -- a claim that found its row not Waiting found it committed
 pub claim_found : (v : View) (r : Row) (c : Cell) → Has v.seen.held r → Has v.seen.opened r → v.stage ≡ Resting → c ≢ Waiting → Agrees v r c → SawCommitted (see_cell r c v.seen) r
 claim_found v r c held opened resting w agree =
-    saw_committed r c v.seen (agree.opened opened) w (λ e. subst (λ (s : Stage). IsClaimer s r) resting (agree.calm held e))
+    saw_committed r c v.seen (agree.0.opened opened) w (λ e. subst (λ (s : Stage). IsClaimer s r) resting (agree.1 held e))
 
 -- a join that found its row neither Waiting nor Claimed found it committed
 pub join_found : (v : View) (mine r : Row) (own partner : ℕ) (j : Joined) (c : Cell) → CanJoin v.seen mine own r partner j → c ≢ Waiting → c ≢ Claimed → Agrees v r c → SawCommitted (see_cell r c v.seen) r
-join_found v mine r own partner j c can w h agree = saw_committed r c v.seen (agree.read 1 can.read_theirs.0 can.read_theirs.5) w h
+join_found v mine r own partner j c can w h agree = saw_committed r c v.seen (agree.0.read 1 can.read_theirs.0 can.read_theirs.5) w h
 
 -- A RESULT
 pub from_none : {A : Type 0} (x : Option A) (P : Type 0) → IfNone x P → x ≡ None → P

@@ -16,7 +16,8 @@ use Rattle.protocol.proofs.RowLemmas.{row_cases, row_ne, put, put_same, put_othe
 use Rattle.protocol.proofs.Places.{word_other, is_row_after}
 use Rattle.protocol.proofs.Readings.{cell_after_cell, cell_after_word, row_of_open}
 use Rattle.cell.specs.Sight.{Has, without}
-use Rattle.cell.specs.Views.{first_row, is_taken, IsClaimer, Staged, Knows, at_stage, turned, saw, read_word, drafted_word}
+use Rattle.cell.specs.Sight.{is_taken}
+use Rattle.cell.specs.Views.{first_row, IsClaimer, Staged, Knows, at_stage, turned, saw, read_word, drafted_word}
 
 holder_kept : (w : World) (t : Table) (r : Row) → t.threads ≡ w.table.threads → t.rows ≡ w.table.rows → holder_at (with_table w t) r ≡ holder_at w r
 holder_kept = Rattle.protocol.proofs.Keeping.holder_same

@@ -18,7 +18,8 @@ use Rattle.protocol.proofs.Keeping.{few_commits}
 use Rattle.cell.specs.declared.view.View.{View}
 use Rattle.cell.specs.declared.view.Stage.{Stage}
 use Rattle.cell.specs.Sight.{Has, HaveOffer, HasSeenLast, CanJoin, IsDraft, SawChosen, Coherent}
-use Rattle.cell.specs.Views.{Knows, IsClaimer, is_taken}
+use Rattle.cell.specs.Sight.{is_taken}
+use Rattle.cell.specs.Views.{Knows}
 use Rattle.cell.specs.Told.{Agrees}
 
 -- WORDS OF AN OPEN ROW
@@ -135,19 +136,21 @@ module _ (w : World) (owner : Row → ℕ) (id : ℕ) (v : View) (k : Knows w ow
 
     -- what a pass has seen of a row agrees with the row's cell
     pub agrees : (r : Row) (c : Cell) → cell_at w.table r ≡ c → Agrees v r c
-    agrees r c e = record {
-      opened = λ o. ap is_fresh (sym e) ∙ k.opened r o;
-      fresh = λ h n. sym e ∙ k.fresh r h n;
-      joined = λ j h. ap joined_of (sym e) ∙ k.joined r j h;
-      taken = λ t. ap is_taken (sym e) ∙ k.taken r t;
-      read = λ p x h. ap is_fresh (sym e) ∙ (k.read r p x h).0;
-      calm = λ h claimed_now. k.calm r h (e ∙ claimed_now);
-      named = λ q j h n.
-          let a = naming (Some j) r n in
-          let same = some_inj j a.way a.is in
-          ap is_fresh (sym e) ∙ ap (λ (y : Row). is_fresh (cell_at w.table y)) (sym a.row) ∙ open_partner q j a.place h (ap (λ (y : Joined). y.partner) same ∙ a.partner);
-      in_turn = λ h. ap (λ (y : Cell). is_some (joined_of y)) (sym e) ∙ kept.linked.in_turn r.thread r.sync (k.opened _ h);
-    }
+    agrees r c e = (
+      record {
+        opened = λ o. ap is_fresh (sym e) ∙ k.opened r o;
+        fresh = λ h n. sym e ∙ k.fresh r h n;
+        joined = λ j h. ap joined_of (sym e) ∙ k.joined r j h;
+        taken = λ t. ap is_taken (sym e) ∙ k.taken r t;
+        read = λ p x h. ap is_fresh (sym e) ∙ (k.read r p x h).0;
+        named = λ q j h n.
+            let a = naming (Some j) r n in
+            let same = some_inj j a.way a.is in
+            ap is_fresh (sym e) ∙ ap (λ (y : Row). is_fresh (cell_at w.table y)) (sym a.row) ∙ open_partner q j a.place h (ap (λ (y : Joined). y.partner) same ∙ a.partner);
+        in_turn = λ h. ap (λ (y : Cell). is_some (joined_of y)) (sym e) ∙ kept.linked.in_turn r.thread r.sync (k.opened _ h);
+      },
+      λ h claimed_now. k.calm r h (e ∙ claimed_now),
+    )
 
 few_offers : (count n : ℕ) → n < unwrap_or (count_of count) 0 → n < count
 unfolding count_of

@@ -4,3 +4,4 @@ pub mod Views
 pub mod Rule
 pub mod Told
 pub mod Seats
+pub mod Calls

@@ -27,6 +27,10 @@ pub record Keeps {S : Type 0} (shape : Shape) (s : State S View) : Type 0 where
   -- a pass that is of no table any more knows nothing
   pub knows : (id : ℕ) (v : View) → get_elem? s.views id ≡ some v → 0 < v.threads → Knows world owner id v
 
+-- the pass with this number is of the table, and knows this
+abbrev pub IsAt : {S : Type 0} → State S View → ℕ → View → Type 0
+IsAt s id v = (get_elem? s.views id ≡ some v) × (0 < v.threads)
+
 -- a pass that holds these rows and has seen nothing
 abbrev pub seen_nothing : List Row → Seen
 seen_nothing rows = record { held = rows; drafts = []; opened = []; words = []; joined = []; taken = [] }

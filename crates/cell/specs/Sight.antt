@@ -145,6 +145,25 @@ pub record CanJoin (s : Seen) (mine : Row) (own : ℕ) (other : Row) (partner : 
   pub seen_theirs : HasSeenLast s other their_last
   pub is : j ≡ record { own = partner; partner = Some (mine, own); stamp = 1 + max my_last their_last }
 
+abbrev pub is_taken : Cell → Bool
+is_taken Fresh = false
+is_taken Waiting = false
+is_taken Claimed = false
+is_taken (Synched j) = false
+is_taken (Taken j) = true
+
+-- THE CELL THAT A PASS MAY FIND, by what it has seen
+pub record IsExpected (s : Seen) (r : Row) (c : Cell) : Type 0 where
+  pub opened : Has s.opened r → is_fresh c ≡ false
+  pub fresh : Has s.held r → ¬ Has s.opened r → c ≡ Fresh
+  pub joined : (j : Joined) → Has s.joined (r, j) → joined_of c ≡ Some j
+  pub taken : Has s.taken r → is_taken c ≡ true
+  pub read : (p x : ℕ) → Has s.words (r, p, x) → is_fresh c ≡ false
+  -- the partner of a committed row is open
+  pub named : (q : Row) (j : Joined) → Has s.joined (q, j) → names (Some j) r ≡ true → is_fresh c ≡ false
+  -- a row is opened once the one before it in its thread is committed
+  pub in_turn : Has s.opened (record { thread = r.thread; sync = r.sync + 1 }) → is_some (joined_of c) ≡ true
+
 -- WHAT IS TRUE OF ALL THAT A PASS HAS SEEN, since it is true of one table
 
 -- a commit that was seen took offer n of the row

@@ -1,16 +1,16 @@
 -- What a step tells the pass that makes it: its view after, by the word that it found.
-use Rattle.std.specs.Prelude.{◌≡◌, ◌≢◌, ℕ, ◌+◌, ◌<◌, true, false, is_some, unwrap_or, Some}
+use Rattle.std.specs.Prelude.{◌≡◌, ◌≢◌, ℕ, ◌<◌, unwrap_or}
 use Rattle.atomic_table.specs.Table.{Step, Me}
 use Rattle.words.specs.Words.{cell_word, cell_of, IsJoinedInRange}
 use Rattle.words.specs.declared.Row.{Row}
 use Rattle.words.specs.declared.Joined.{Joined}
 use Rattle.words.specs.declared.Cell.{Cell}
 use Rattle.words.specs.declared.Cell.TheVariants.{Fresh, Waiting, Claimed, Synched}
-use Rattle.protocol.specs.Tables.{place_of, is_fresh, joined_of, names}
+use Rattle.protocol.specs.Tables.{place_of}
 use Rattle.cell.specs.declared.view.View.{View}
 use Rattle.cell.specs.declared.view.Stage.TheVariants.{Resting, Claims, Joins}
-use Rattle.cell.specs.Sight.{Has, Coherent}
-use Rattle.cell.specs.Views.{IsClaimer, is_taken, saw, read_word, drafted_word, turned}
+use Rattle.cell.specs.Sight.{Has, IsExpected, Coherent}
+use Rattle.cell.specs.Views.{IsClaimer, saw, read_word, drafted_word, turned}
 
 -- the table has the row
 abbrev pub Inside : ℕ → ℕ → Row → Type 0
@@ -24,19 +24,9 @@ At st m r p = Inside m.0.threads m.0.rows r × (st.word ≡ place_of m.0.rows r 
 abbrev pub cell_read : ℕ → Cell
 cell_read n = unwrap_or (cell_of n) Fresh
 
--- what a pass knows of a row's cell before it looks
-pub record Agrees (v : View) (r : Row) (c : Cell) : Type 0 where
-  pub opened : Has v.seen.opened r → is_fresh c ≡ false
-  pub fresh : Has v.seen.held r → ¬ Has v.seen.opened r → c ≡ Fresh
-  pub joined : (j : Joined) → Has v.seen.joined (r, j) → joined_of c ≡ Some j
-  pub taken : Has v.seen.taken r → is_taken c ≡ true
-  pub read : (p x : ℕ) → Has v.seen.words (r, p, x) → is_fresh c ≡ false
-  -- only its holder claims a row
-  pub calm : Has v.seen.held r → c ≡ Claimed → IsClaimer v.stage r
-  -- the partner of a committed row is open
-  pub named : (q : Row) (j : Joined) → Has v.seen.joined (q, j) → names (Some j) r ≡ true → is_fresh c ≡ false
-  -- a row is opened once the one before it in its thread is committed
-  pub in_turn : Has v.seen.opened (record { thread = r.thread; sync = r.sync + 1 }) → is_some (joined_of c) ≡ true
+-- what a pass knows of a row's cell before it looks: what it has seen of it, and that only its holder claims it
+abbrev pub Agrees : View → Row → Cell → Type 0
+Agrees v r c = IsExpected v.seen r c × (Has v.seen.held r → c ≡ Claimed → IsClaimer v.stage r)
 
 abbrev pub looked : {S : Type 0} → Step S → Me S View → ℕ → Me S View → Type 0
 looked st m n w = (r : Row) → At st m r 0 → (w ≡ (saw r (cell_read n) m.0, m.1)) × Agrees m.0 r (cell_read n) × Coherent m.0.threads m.0.rows w.0.seen

@@ -1,5 +1,5 @@
 -- What the rule knows of a pass, and when it is true of the table.
-use Rattle.std.specs.Prelude.{◌≡◌, ◌⊎◌, ℕ, ◌%◌, ◌<◌, ◌≤◌, Bool, true, false, Some}
+use Rattle.std.specs.Prelude.{◌≡◌, ◌⊎◌, ℕ, ◌%◌, ◌<◌, ◌≤◌, true, false, Some}
 use Rattle.words.specs.declared.Row.{Row}
 use Rattle.words.specs.declared.Joined.{Joined}
 use Rattle.words.specs.declared.Cell.{Cell}
@@ -10,18 +10,11 @@ use Rattle.cell.specs.declared.view.Stage.{Stage}
 use Rattle.cell.specs.declared.view.Stage.TheVariants.{Resting, Claims, Joins}
 use Rattle.protocol.specs.Tables.{is_row, is_fresh, names, word_at, cell_at, joined_at}
 use Rattle.protocol.specs.Worlds.{World, holder_at}
-use Rattle.cell.specs.Sight.{Has, see_opened, see_cell, see_word, see_draft}
+use Rattle.cell.specs.Sight.{Has, is_taken, see_opened, see_cell, see_word, see_draft}
 
 -- a thread's first row
 abbrev pub first_row : ℕ → Row
 first_row t = record { thread = t; sync = 0 }
-
-abbrev pub is_taken : Cell → Bool
-is_taken Fresh = false
-is_taken Waiting = false
-is_taken Claimed = false
-is_taken (Synched j) = false
-is_taken (Taken j) = true
 
 -- the call has claimed this row
 abbrev pub IsClaimer : Stage → Row → Type 0

@@ -1,0 +1,26 @@
+use Rattle.std.proofs.Common.{rules, ◌≡◌, ◌+◌, ℕ, ◌++◌, ◌∷◌, [], length, slice_get, Some, sym, ap, ◌∙◌, subst, refl}
+use Rattle.cell.specs.declared.view.Shape.{Shape}
+use Rattle.cell.specs.Calls.{PassView}
+use Rattle.cell.specs.Rule.{dealer, dealt_pass, dealt_rows, seen_nothing}
+use Rattle.cell.proofs.Dealing.{each_more}
+use Rattle.cell.proofs.cells.Cells.new.Goals as goal
+
+pub loop-number-preserved : goal.loop-number-preserved
+loop-number-preserved c =
+    let shape : Shape = record { threads = c.args.threads; rows = c.args.rows; passes = c.args.passes } in
+    let dealt : c.deal-seat.result.me.0 ≡ dealt_pass (dealer shape c.loop-number.number) =
+    c.deal-seat.ensures.pass.1
+    ∙ ap (λ (n : ℕ). dealt_pass (dealer c.in_ok-board.board.shape n)) (let e : c.from-in-loop-number.result ≡ c.loop-number.number = (search rules) in e)
+    ∙ ap (λ (s : Shape). dealt_pass (dealer s c.loop-number.number)) (let e : c.in_ok-board.board.shape ≡ shape = (search rules) in e) in
+    let id : c.deal-seat.result.table_id ≡ c.in_ok-board.board.words.shared.table_id = (search rules) in
+    let pass : PassView = record { of = record { id = c.deal-seat.result.table_id; threads = c.deal-seat.result.me.0.threads; rows = c.deal-seat.result.me.0.rows; passes = c.deal-seat.result.me.0.passes }; seen = c.deal-seat.result.me.0.seen } in
+    let pushed : c.push.new.self.items ≡ c.loop-number.dealt.items ++ pass ∷ [] = (search rules) in
+    record {
+      here = (search rules);
+      dealer = (search rules);
+      count = (search rules);
+      each = each_more (λ (k : ℕ) (p : PassView). p ≡ record { of = record { id = c.in_ok-board.board.words.shared.table_id; threads = c.args.threads; rows = c.args.rows; passes = c.args.passes }; seen = seen_nothing (dealt_rows c.args.threads c.args.passes k) })
+          c.loop-number.dealt.items c.push.new.self.items pass c.loop-number.number c.loop-number.invariant.count pushed
+          (λ i. record { of = record { id = id i; threads = (dealt i).threads; rows = (dealt i).rows; passes = (dealt i).passes }; seen = (dealt i).seen })
+          c.loop-number.invariant.each;
+    }

@@ -1,0 +1,25 @@
+-- The table and a pass, as callers see them.
+use Rattle.std.specs.Prelude.{◌≡◌, ℕ, ◌<◌}
+use Rattle.atomic_table.specs.Seated.{TableId}
+use Rattle.words.specs.declared.Row.{Row}
+use Rattle.cell.specs.declared.view.Seen.{Seen}
+
+-- which table it is, and its size
+pub record Grid : Type 0 where
+  pub id : TableId
+  pub threads : ℕ
+  pub rows : ℕ
+  pub passes : ℕ
+
+-- of which table a pass is, and what it has seen
+pub record PassView : Type 0 where
+  pub of : Grid
+  pub seen : Seen
+
+-- the pass is one of this table's
+abbrev pub IsPassOf : Grid → PassView → Type 0
+IsPassOf g p = (p.of.id ≡ g.id) × (p.of.threads ≡ g.threads) × (p.of.rows ≡ g.rows) × (p.of.passes ≡ g.passes)
+
+-- the table has the row
+abbrev pub IsRowOf : Grid → Row → Type 0
+IsRowOf g r = (r.thread < g.threads) × (r.sync < g.rows)

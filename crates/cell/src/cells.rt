@@ -1,0 +1,233 @@
+//! The shared table and its passes, as callers use them.
+
+ghost use Rattle.std.specs.Prelude.{◌≡◌, ◌≢◌, ◌⊎◌, ◌+◌, ◌<◌, ◌≤◌, ℕ, List, Some, true, IfOk, IfSome, IfNone, SomeIff, IsTrue, ◌↔◌, length, slice_get};
+ghost use Rattle.words.specs.declared.Joined.{Joined};
+ghost use Rattle.words.specs.declared.Message.{Message};
+ghost use Rattle.words.specs.declared.Offer.{Offer};
+ghost use Rattle.words.specs.declared.Row.{Row};
+ghost use Rattle.words.specs.declared.Cell.TheVariants.{Claimed};
+ghost use Rattle.protocol.specs.Ledgers.{joined_in, offer_in};
+ghost use Rattle.cell.specs.Attempts.{Attempted, IsNear};
+ghost use Rattle.cell.specs.Calls.{IsPassOf, IsRowOf, PassView};
+ghost use Rattle.cell.specs.Rule.{dealt_rows, heard, seen_nothing, told_of};
+ghost use Rattle.cell.specs.Sight.{
+  AreOffers,
+  Coherent,
+  Has,
+  HaveOffer,
+  IsDraft,
+  IsExpected,
+  IsKnownOpen,
+  IsPartnerOf,
+  IsResult,
+  LackOffer,
+  Learns,
+  Redrafts,
+  SawCommitted,
+  SeesOffer,
+  see_cell,
+  see_opened,
+};
+
+use crate::attempt::{Attempt, StepGate};
+use crate::board::Board;
+use crate::view::{Shape, View};
+use atomic_table::Seat;
+use protocol::{Cell, Ledger, Message, Offer, Row};
+use std::alloc::{AllocError, Global};
+use std::marker::Model;
+
+/// The shared table: threads may share it, and none of its calls waits.
+#[derive(Drop)]
+pub struct Cells {
+    board: Board,
+    room: Vec<u64>,
+}
+
+impl Model for Cells {
+    ghost use Rattle.std.specs.Prelude.{◌≡◌, length};
+    ghost use Rattle.cell.specs.Calls.{Grid};
+
+    ghost Value = { Grid };
+
+    ghost view = { λ c. record { id = c.board.words.shared.table_id; threads = c.board.shape.threads; rows = c.board.shape.rows; passes = c.board.shape.passes } };
+
+    ghost invariant = { λ c. length c.room.items ≡ c.board.words.shared.table_id.words };
+}
+
+/// What a thread calls the table with. It holds rows, and its value is what it has seen.
+#[derive(Drop)]
+pub struct Pass {
+    seat: Seat<u64, View>,
+    threads: u8,
+    passes: u8,
+    number: u8,
+}
+
+impl Model for Pass {
+    ghost use Rattle.std.specs.Prelude.{◌≡◌, ◌≤◌};
+    ghost use Rattle.cell.specs.declared.view.Stage.TheVariants.{Resting};
+    ghost use Rattle.cell.specs.Calls.{PassView};
+    ghost use Rattle.cell.specs.Rule.{dealt_rows};
+
+    ghost Value = { PassView };
+
+    ghost view = { λ p. record { of = record { id = p.seat.table_id; threads = p.seat.me.0.threads; rows = p.seat.me.0.rows; passes = p.seat.me.0.passes }; seen = p.seat.me.0.seen } };
+
+    ghost invariant = { λ p. (1 ≤ p.passes) × (p.seat.me.0.stage ≡ Resting) × (p.seat.me.0.seen.held ≡ dealt_rows p.threads p.passes p.number) };
+}
+
+impl Pass {
+    /// Whether the pass holds the row.
+    pub fn holds(&self, row: Row) -> bool
+        ensures { IsTrue result ↔ Has self.now.seen.held row }
+    {
+        if row.thread >= self.threads {
+            return false;
+        }
+        if row.sync != 0 {
+            return false;
+        }
+        row.thread % self.passes == self.number
+    }
+}
+
+impl Cells {
+    /// A table for 1 to 64 threads of 1 to 1024 rows, and 1 to 16 passes. Row 0 of thread t is held
+    /// by pass `t mod passes`. All memory that the calls need is taken here.
+    pub fn new(
+        alloc: Global,
+        threads: u8,
+        rows: u16,
+        passes: u8,
+    ) -> Result<(Cells, Vec<Pass>), AllocError>
+        requires threads { (1 ≤ threads) × (threads ≤ 64) }
+        requires rows { (1 ≤ rows) × (rows ≤ 1024) }
+        requires passes { (1 ≤ passes) × (passes ≤ 16) }
+        ensures size { IfOk result (λ t. (t.0.threads ≡ threads) × (t.0.rows ≡ rows) × (t.0.passes ≡ passes) × (length t.1.items ≡ passes)) }
+        ensures passes { IfOk result (λ t. (number : ℕ) (pass : PassView) → slice_get t.1.items number ≡ Some pass → IsPassOf t.0 pass × (pass.seen ≡ seen_nothing (dealt_rows threads passes number))) }
+    {
+        let shape = Shape {
+            threads: u64::from(threads),
+            rows: u64::from(rows),
+            passes: u64::from(passes),
+        };
+        let words = usize::from(threads) * (usize::from(rows) * 34 + 64);
+        let room = vec![in alloc; 0; words]?;
+        let (board, mut dealer) = Board::start(alloc, shape, room.as_slice())?;
+        let mut dealt = Vec::with_capacity(alloc, usize::from(passes))?;
+        for number in 0..passes {
+            let seat = board.deal(&mut dealer, u64::from(number));
+            dealt.push(Pass {
+                seat,
+                threads,
+                passes,
+                number,
+            })?;
+        }
+        Ok((Cells { board, room }, dealt))
+    }
+
+    /// Opens a held row that is Fresh: its offers stand from now on.
+    pub fn open(&self, pass: &mut Pass, row: Row)
+        requires here { IsPassOf self.now pass.old × IsRowOf self.now row }
+        requires fresh { Has pass.old.seen.held row × (¬ Has pass.old.seen.opened row) }
+        ensures here { IsPassOf self.now pass.new }
+        ensures opened { pass.new.seen ≡ see_opened row pass.old.seen }
+    {
+        self.board.open(&mut pass.seat, row);
+    }
+
+    /// The row's cell.
+    pub fn look(&self, pass: &mut Pass, row: Row) -> Cell
+        requires here { IsPassOf self.now pass.old × IsRowOf self.now row }
+        ensures here { IsPassOf self.now pass.new }
+        ensures saw { pass.new.seen ≡ see_cell row result pass.old.seen }
+        ensures expected { IsExpected pass.old.seen row result }
+        ensures unclaimed { Has pass.old.seen.held row → result ≢ Claimed }
+        ensures coherent { Coherent self.now.threads self.now.rows pass.new.seen }
+    {
+        self.board.look(&mut pass.seat, row)
+    }
+
+    /// Offer n of the row: none where the row is Fresh or has no offer n.
+    pub fn offer(&self, pass: &mut Pass, row: Row, n: u8) -> Option<Offer>
+        requires here { IsPassOf self.now pass.old × IsRowOf self.now row }
+        ensures here { IsPassOf self.now pass.new }
+        ensures learns { Learns (λ q. q ≡ row) pass.old.seen pass.new.seen }
+        ensures coherent { Coherent self.now.threads self.now.rows pass.new.seen }
+        ensures some { IfSome result (λ o. Has pass.new.seen.opened row × HaveOffer pass.new.seen.words row n o) }
+        ensures none { IfNone result (IsKnownOpen pass.old.seen row → LackOffer pass.new.seen.words row n) }
+        ensures same { (o : Offer) → SeesOffer pass.old.seen row n o → result ≡ Some o }
+    {
+        self.board.offer(&mut pass.seat, row, n)
+    }
+
+    /// What the row's thread gets, where the row is committed.
+    pub fn result(&self, pass: &mut Pass, row: Row) -> Option<Message>
+        requires here { IsPassOf self.now pass.old × IsRowOf self.now row }
+        ensures here { IsPassOf self.now pass.new }
+        ensures learns { Learns (IsPartnerOf pass.new.seen row) pass.old.seen pass.new.seen }
+        ensures some { IfSome result (IsResult pass.new.seen row) }
+        ensures none { IfNone result (¬ SawCommitted pass.old.seen row) }
+        ensures same { (got : Message) → IsResult pass.old.seen row got → result ≡ Some got }
+    {
+        self.board.result(&mut pass.seat, row)
+    }
+
+    /// Tries to commit the held opened row `mine` with `other`, by offer `own` of the one and
+    /// `partner` of the other. No row stays claimed.
+    pub fn attempt<G: StepGate>(
+        &self,
+        pass: &mut Pass,
+        gate: &G,
+        mine: Row,
+        own: u8,
+        other: Row,
+        partner: u8,
+    ) -> Attempt
+        requires here { IsPassOf self.now pass.old × IsRowOf self.now mine × IsRowOf self.now other }
+        requires opened { Has pass.old.seen.held mine × Has pass.old.seen.opened mine }
+        ensures here { IsPassOf self.now pass.new }
+        ensures learns { Learns (IsNear mine other) pass.old.seen pass.new.seen }
+        ensures attempted { Attempted pass.old.seen pass.new.seen mine own other partner result }
+    {
+        self.board
+            .attempt(&mut pass.seat, gate, (mine, own), (other, partner))
+    }
+
+    /// Writes a list of at most 8 offers for a held row that is not opened yet, in place of the list
+    /// that was written before.
+    pub fn draft(&self, pass: &mut Pass, row: Row, offers: &[Offer])
+        requires here { IsPassOf self.now pass.old × IsRowOf self.now row }
+        requires fresh { Has pass.old.seen.held row × (¬ Has pass.old.seen.opened row) }
+        requires offers { AreOffers offers.now }
+        ensures here { IsPassOf self.now pass.new }
+        ensures others { Redrafts (λ q p. q ≡ row) pass.old.seen pass.new.seen }
+        ensures drafted { IsDraft pass.new.seen row offers.now }
+    {
+        self.board.draft_offers(&mut pass.seat, row, offers);
+    }
+
+    /// Tells `to` all that `from` has seen, and the offers that it drafted for its opened rows.
+    pub fn tell(&self, from: &mut Pass, to: &mut Pass)
+        requires here { IsPassOf self.now from.old × IsPassOf self.now to.old }
+        ensures here { IsPassOf self.now from.new × IsPassOf self.now to.new }
+        ensures kept { from.new.seen ≡ from.old.seen }
+        ensures told { to.new.seen ≡ heard to.old.seen (told_of from.old.seen) }
+    {
+        self.board.tell(&mut from.seat, &mut to.seat);
+    }
+
+    /// Ends the table: its ledger has all that the pass has seen or was told.
+    pub fn close(self, pass: Pass) -> Ledger
+        requires here { IsPassOf self pass }
+        ensures size { (result.threads ≡ self.threads) × (result.rows ≡ self.rows) }
+        ensures seen { (r : Row) (j : Joined) → Has pass.seen.joined (r, j) → joined_in result r ≡ Some j }
+        ensures own { (r : Row) (j : Joined) (offers : List Offer) → IsDraft pass.seen r offers → joined_in result r ≡ Some j → (j.own < length offers) × (offer_in result r j.own ≡ slice_get offers j.own) }
+    {
+        let Cells { board, room } = self;
+        let Pass { seat, .. } = pass;
+        board.close(seat, room)
+    }
+}
