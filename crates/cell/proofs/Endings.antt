@@ -1,5 +1,5 @@
 -- The words of a table at its end, and what their ledger says.
-use Rattle.std.proofs.Common.{◌≡◌, ◌≢◌, ℕ, zero, suc, ◌+◌, ◌*◌, ◌<◌, ◌≤◌, List, [], ◌∷◌, length, slice_index, slice_set, slice_get, get_or, sym, refl, ap, ◌∙◌, subst, ⊎_elim, arith, Some}
+use Rattle.std.proofs.Common.{◌≡◌, ◌≢◌, ℕ, zero, suc, ◌+◌, ◌*◌, ◌<◌, ◌≤◌, List, [], ◌∷◌, length, slice_index, slice_set, slice_get, get_or, sym, refl, ap, ◌∙◌, subst, ⊎_elim, arith, Some, None}
 use Rattle.std.proofs.lemmas.List.{ext_get_or, get_or-set_same, get_or-set_other, length-set}
 use mathlib.Core.Option.{some, none}
 use lib.ListN.{get_elem?}
@@ -12,11 +12,11 @@ use Rattle.protocol.specs.Ledgers.{ledger_of, IsLawful, joined_in, offer_in}
 use Rattle.protocol.proofs.LedgerLemmas.{lawful_ledger, joined_in_ledger, offer_in_ledger}
 use Rattle.cell.specs.declared.view.View.{View}
 use Rattle.cell.specs.declared.view.Shape.{Shape}
-use Rattle.cell.specs.Sight.{Has, IsDraft}
+use Rattle.cell.specs.Sight.{Has, IsDraft, SeesOffer, SeesNoOffer}
 use Rattle.cell.specs.Views.{Knows}
 use Rattle.cell.specs.Rule.{Keeps}
 use Rattle.cell.proofs.Allowing.{world_kept, sized}
-use Rattle.cell.proofs.Truths.{own_chose}
+use Rattle.cell.proofs.Truths.{own_chose, sees_known, lacks_known}
 
 read_there : (xs : List ℕ) (i x : ℕ) → get_elem? xs i ≡ some x → get_or xs i 0 ≡ x
 read_there [] i x e = absurd (mathlib.Core.Option.some-ne-none x (sym e))
@@ -60,3 +60,11 @@ module _ (shape : Shape) (id : ℕ) (v : View) (at_table : 0 < v.threads) (ws sl
       let here : joined_at kept.world.table r ≡ Some j = ap (λ (f : Row → _). f r) (sym (joined_in_ledger kept.world.table)) ∙ subst (λ (t : Table). joined_in (ledger_of t) r ≡ Some j) (sym table_is) e in
       let chose = own_chose kept.world kept.owner id v r j offers known (world_kept shape final.0 kept) draft here in
       (chose.0, subst (λ (t : Table). offer_in (ledger_of t) r j.own ≡ slice_get offers j.own) table_is (ap (λ (f : Row → ℕ → _). f r j.own) (offer_in_ledger kept.world.table) ∙ chose.1))
+
+  pub final_offer : (r : Row) (n : ℕ) (o : Offer) → SeesOffer v.seen r n o → offer_in (ledger_of (sized shape ws)) r n ≡ Some o
+  final_offer r n o sees =
+      subst (λ (t : Table). offer_in (ledger_of t) r n ≡ Some o) table_is (ap (λ (f : Row → ℕ → _). f r n) (offer_in_ledger kept.world.table) ∙ sees_known kept.world kept.owner id v r n o known sees)
+
+  pub final_lack : (r : Row) (n : ℕ) → SeesNoOffer v.seen r n → offer_in (ledger_of (sized shape ws)) r n ≡ None
+  final_lack r n sees =
+      subst (λ (t : Table). offer_in (ledger_of t) r n ≡ None) table_is (ap (λ (f : Row → ℕ → _). f r n) (offer_in_ledger kept.world.table) ∙ lacks_known kept.world kept.owner id v r n known sees)

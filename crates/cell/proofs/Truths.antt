@@ -17,7 +17,7 @@ use Rattle.protocol.proofs.Linking.{fresh_not_joined, some_inj, cases_Option, Is
 use Rattle.protocol.proofs.Keeping.{few_commits}
 use Rattle.cell.specs.declared.view.View.{View}
 use Rattle.cell.specs.declared.view.Stage.{Stage}
-use Rattle.cell.specs.Sight.{Has, HaveOffer, HasSeenLast, CanJoin, IsDraft, SawChosen, Coherent}
+use Rattle.cell.specs.Sight.{Has, HaveOffer, HasSeenLast, CanJoin, IsDraft, SawChosen, SeesNoOffer, SeesOffer, Coherent}
 use Rattle.cell.specs.Sight.{is_taken}
 use Rattle.cell.specs.Views.{Knows}
 use Rattle.cell.specs.Told.{Agrees}
@@ -151,6 +151,18 @@ module _ (w : World) (owner : Row → ℕ) (id : ℕ) (v : View) (k : Knows w ow
       },
       λ h claimed_now. k.calm r h (e ∙ claimed_now),
     )
+
+-- OFFERS THAT WERE SEEN are those of the table, and those that were seen to lack are not there
+pub sees_known : (w : World) (owner : Row → ℕ) (id : ℕ) (v : View) (r : Row) (n : ℕ) (o : Offer) → Knows w owner id v → SeesOffer v.seen r n o → offer_at w.table r n ≡ Some o
+sees_known w owner id v r n o k (inl h) = offer_known w owner id v k r n o h
+sees_known w owner id v r n o k (inr h) = offer_there w.table v.seen.drafts r n o (λ p x d. (k.drafted r p x d).4) (k.opened r h.0) h.1
+
+pub lacks_known : (w : World) (owner : Row → ℕ) (id : ℕ) (v : View) (r : Row) (n : ℕ) → Knows w owner id v → SeesNoOffer v.seen r n → offer_at w.table r n ≡ None
+lacks_known w owner id v r n k (inl (count, has, above)) =
+    let a = k.read r 1 count has in
+    offer_none w.table r n (subst (λ (m : ℕ). m ≤ n) (sym (count_there w.table r count a.0 a.3)) above)
+lacks_known w owner id v r n k (inr (opened, lack)) =
+    offer_none w.table r n (subst (λ (m : ℕ). m ≤ n) (sym (count_there w.table r lack.0 (k.opened r opened) (k.drafted r 1 lack.0 lack.1).4)) lack.2)
 
 few_offers : (count n : ℕ) → n < unwrap_or (count_of count) 0 → n < count
 unfolding count_of

@@ -92,6 +92,10 @@ LackOffer words r n = (count : ℕ) × Has words (r, 1, count) × (unwrap_or (co
 abbrev pub SeesOffer : Seen → Row → ℕ → Offer → Type 0
 SeesOffer s r n offer = HaveOffer s.words r n offer ⊎ (Has s.opened r × HaveOffer s.drafts r n offer)
 
+-- the number of the row's offers was read, or drafted before the row was opened, and n is not below it
+abbrev pub SeesNoOffer : Seen → Row → ℕ → Type 0
+SeesNoOffer s r n = LackOffer s.words r n ⊎ (Has s.opened r × LackOffer s.drafts r n)
+
 -- the offers of the list are drafted for the row, and no more
 abbrev pub IsDraft : Seen → Row → List Offer → Type 0
 IsDraft s r offers = Has s.drafts (r, 1, length offers) × ((n : ℕ) (offer : Offer) → slice_get offers n ≡ Some offer → HaveOffer s.drafts r n offer)

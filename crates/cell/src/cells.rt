@@ -1,6 +1,6 @@
 //! The shared table and its passes, as callers use them.
 
-ghost use Rattle.std.specs.Prelude.{◌≡◌, ◌≢◌, ◌⊎◌, ◌+◌, ◌<◌, ◌≤◌, ℕ, List, Some, true, IfOk, IfSome, IfNone, SomeIff, IsTrue, ◌↔◌, length, slice_get};
+ghost use Rattle.std.specs.Prelude.{◌≡◌, ◌≢◌, ◌⊎◌, ◌+◌, ◌<◌, ◌≤◌, ℕ, List, None, Some, true, IfOk, IfSome, IfNone, SomeIff, IsTrue, ◌↔◌, length, slice_get};
 ghost use Rattle.words.specs.declared.Joined.{Joined};
 ghost use Rattle.words.specs.declared.Message.{Message};
 ghost use Rattle.words.specs.declared.Offer.{Offer};
@@ -24,6 +24,7 @@ ghost use Rattle.cell.specs.Sight.{
   Learns,
   Redrafts,
   SawCommitted,
+  SeesNoOffer,
   SeesOffer,
   see_cell,
   see_opened,
@@ -224,6 +225,8 @@ impl Cells {
         requires here { IsPassOf self pass }
         ensures size { (result.threads ≡ self.threads) × (result.rows ≡ self.rows) }
         ensures seen { (r : Row) (j : Joined) → Has pass.seen.joined (r, j) → joined_in result r ≡ Some j }
+        ensures offers { (r : Row) (n : ℕ) (o : Offer) → SeesOffer pass.seen r n o → offer_in result r n ≡ Some o }
+        ensures lacks { (r : Row) (n : ℕ) → SeesNoOffer pass.seen r n → offer_in result r n ≡ None }
         ensures own { (r : Row) (j : Joined) (offers : List Offer) → IsDraft pass.seen r offers → joined_in result r ≡ Some j → (j.own < length offers) × (offer_in result r j.own ≡ slice_get offers j.own) }
     {
         let Cells { board, room } = self;

@@ -1,13 +1,13 @@
 //! The end of a table: its words become a ledger.
 
-ghost use Rattle.std.specs.Prelude.{◌≡◌, ◌<◌, List, length, Some, slice_get};
+ghost use Rattle.std.specs.Prelude.{◌≡◌, ◌<◌, ℕ, List, length, None, Some, slice_get};
 ghost use Rattle.std.specs.Slots.{slots_items, slots_len, IsFull};
 ghost use Rattle.words.specs.declared.Joined.{Joined};
 ghost use Rattle.words.specs.declared.Offer.{Offer};
 ghost use Rattle.words.specs.declared.Row.{Row};
 ghost use Rattle.protocol.specs.Ledgers.{joined_in, offer_in};
 ghost use Rattle.cell.specs.Seats.{Sits};
-ghost use Rattle.cell.specs.Sight.{Has, IsDraft};
+ghost use Rattle.cell.specs.Sight.{Has, IsDraft, SeesNoOffer, SeesOffer};
 
 use crate::board::Board;
 use crate::view::View;
@@ -22,6 +22,8 @@ impl Board {
         requires room { length room.items ≡ self.words.shared.table_id.words }
         ensures size { (result.threads ≡ self.shape.threads) × (result.rows ≡ self.shape.rows) }
         ensures seen { (r : Row) (j : Joined) → Has seat.me.0.seen.joined (r, j) → joined_in result r ≡ Some j }
+        ensures offers { (r : Row) (n : ℕ) (o : Offer) → SeesOffer seat.me.0.seen r n o → offer_in result r n ≡ Some o }
+        ensures lacks { (r : Row) (n : ℕ) → SeesNoOffer seat.me.0.seen r n → offer_in result r n ≡ None }
         ensures own { (r : Row) (j : Joined) (offers : List Offer) → IsDraft seat.me.0.seen r offers → joined_in result r ≡ Some j → (j.own < length offers) × (offer_in result r j.own ≡ slice_get offers j.own) }
     {
         let Board { words, shape } = self;

@@ -1,9 +1,9 @@
-use Rattle.std.proofs.Common.{rules, ◌≡◌, ◌<◌, ◌≤◌, List, length, Some, slice_get, sym, subst, ap, ◌∙◌, arith}
+use Rattle.std.proofs.Common.{rules, ◌≡◌, ◌<◌, ◌≤◌, List, length, None, Some, slice_get, sym, subst, ap, ◌∙◌, arith}
 use Rattle.words.specs.declared.Joined.{Joined}
 use Rattle.words.specs.declared.Offer.{Offer}
 use Rattle.words.specs.declared.Row.{Row}
 use Rattle.protocol.specs.Ledgers.{Ledger, ledger_of, joined_in, offer_in}
-use Rattle.cell.proofs.Endings.{ended, final_lawful, final_joined, final_own}
+use Rattle.cell.proofs.Endings.{ended, final_lawful, final_joined, final_lack, final_offer, final_own}
 use Rattle.cell.proofs.board.Board.close.Goals as goal
 
 pub of_words-requires-clause-lawful : goal.of_words-requires-clause-lawful
@@ -32,3 +32,19 @@ returns-clause-own c r j offers draft e =
     subst (λ (l : Ledger). (j.own < length offers) × (offer_in l r j.own ≡ slice_get offers j.own)) (sym c.of_words.ensures)
     (final_own c.args.self.shape c.args.seat.id c.args.seat.me.0 (omega arith) c.copy_words-words.result.items _
     (ended _ _ _ _ _ _ _ c.args.self.keyed c.copy_words-words.ensures c.close_with-closed.ensures.values.2) r j offers draft (subst (λ (l : Ledger). joined_in l r ≡ Some j) c.of_words.ensures e))
+
+pub returns-clause-offers : goal.returns-clause-offers
+returns-clause-offers c r n o sees =
+    let size : c.args.seat.me.0.threads ≡ c.args.self.shape.threads = (search rules) in
+    let some = c.args.self.small.0 in
+    subst (λ (l : Ledger). offer_in l r n ≡ Some o) (sym c.of_words.ensures)
+    (final_offer c.args.self.shape c.args.seat.id c.args.seat.me.0 (omega arith) c.copy_words-words.result.items _
+        (ended _ _ _ _ _ _ _ c.args.self.keyed c.copy_words-words.ensures c.close_with-closed.ensures.values.2) r n o sees)
+
+pub returns-clause-lacks : goal.returns-clause-lacks
+returns-clause-lacks c r n sees =
+    let size : c.args.seat.me.0.threads ≡ c.args.self.shape.threads = (search rules) in
+    let some = c.args.self.small.0 in
+    subst (λ (l : Ledger). offer_in l r n ≡ None) (sym c.of_words.ensures)
+    (final_lack c.args.self.shape c.args.seat.id c.args.seat.me.0 (omega arith) c.copy_words-words.result.items _
+        (ended _ _ _ _ _ _ _ c.args.self.keyed c.copy_words-words.ensures c.close_with-closed.ensures.values.2) r n sees)
