@@ -11,11 +11,12 @@ use Rattle.words.specs.declared.Row.{Row}
 use Rattle.words.specs.declared.Joined.{Joined}
 use Rattle.protocol.specs.Tables.{Table, is_row, row_eq, is_fresh, cell_at, joined_at, word_at}
 use Rattle.protocol.specs.Worlds.{World}
-use Rattle.protocol.proofs.RowLemmas.{row_eq-true}
+use Rattle.protocol.proofs.RowLemmas.{row_eq-refl, row_eq-true}
+use Rattle.words.specs.declared.Offer.{Offer}
 use Rattle.cell.specs.declared.view.Seen.{Seen}
 use Rattle.cell.specs.declared.view.View.{View}
 use Rattle.cell.specs.declared.view.Shape.{Shape}
-use Rattle.cell.specs.Sight.{Has}
+use Rattle.cell.specs.Sight.{Has, HaveOffer, SeesOffer, SeesNoOffer}
 use Rattle.cell.specs.Sight.{is_taken}
 use Rattle.cell.specs.Views.{Knows}
 use Rattle.cell.specs.Rule.{Keeps, is_among, drafts_of, told_of, told_pass, heard, heard_pass, spent_pass}
@@ -43,6 +44,50 @@ told_case rows d ds x false e rest g = let t = rest g in (inr t.0, t.1)
 told_draft : (rows : List Row) (ds : List (Row × ℕ × ℕ)) (x : Row × ℕ × ℕ) → Has (drafts_of rows ds) x → Has ds x × Has rows x.0
 told_draft rows [] x h = absurd h
 told_draft rows (d ∷ ds) x h = told_case rows d ds x (is_among rows d.0) refl (λ g. told_draft rows ds x g) h
+
+-- what is told of an opened row's drafts
+has_right : {A : Type 0} (xs ys : List A) (x : A) → Has ys x → Has (xs ++ ys) x
+has_right [] ys x h = h
+has_right (y ∷ xs) ys x h = inr (has_right xs ys x h)
+
+has_left : {A : Type 0} (xs ys : List A) (x : A) → Has xs x → Has (xs ++ ys) x
+has_left [] ys x h = absurd h
+has_left (y ∷ xs) ys x (inl e) = inl e
+has_left (y ∷ xs) ys x (inr h) = inr (has_left xs ys x h)
+
+is_member : (rows : List Row) (r : Row) → Has rows r → is_among rows r ≡ true
+is_member (q ∷ rows) r (inl e) = ap (λ (b : Bool). b || is_among rows r) (ap (λ (z : Row). row_eq z r) e ∙ row_eq-refl r)
+is_member (q ∷ rows) r (inr h) = ap (λ (b : Bool). row_eq q r || b) (is_member rows r h) ∙ Rattle.std.proofs.Math.Bool.or-true (row_eq q r)
+is_member [] r h = absurd h
+
+kept_case : (rows : List Row) (d : Row × ℕ × ℕ) (ds : List (Row × ℕ × ℕ)) (x : Row × ℕ × ℕ) (b : Bool) → is_among rows d.0 ≡ b → is_among rows x.0 ≡ true → (Has ds x → Has (drafts_of rows ds) x)
+    → Has (d ∷ ds) x → Has (cond b (d ∷ drafts_of rows ds) (drafts_of rows ds)) x
+kept_case rows d ds x true e m rest (inl f) = inl f
+kept_case rows d ds x true e m rest (inr h) = inr (rest h)
+kept_case rows d ds x false e m rest (inl f) = absurd (true≢false (sym m ∙ ap (λ (z : Row × ℕ × ℕ). is_among rows z.0) (sym f) ∙ e))
+kept_case rows d ds x false e m rest (inr h) = rest h
+
+kept_draft : (rows : List Row) (ds : List (Row × ℕ × ℕ)) (x : Row × ℕ × ℕ) → is_among rows x.0 ≡ true → Has ds x → Has (drafts_of rows ds) x
+kept_draft rows [] x m h = absurd h
+kept_draft rows (d ∷ ds) x m h = kept_case rows d ds x (is_among rows d.0) refl m (λ i. kept_draft rows ds x m i) h
+
+-- a word that was seen of an opened row is among those that were told
+told_word : (s t : Seen) (r : Row) (p x : ℕ) → Has s.opened r → Has s.drafts (r, p, x) → Has (heard t (told_of s)).words (r, p, x)
+told_word s t r p x opened h = has_right t.words _ (r, p, x) (has_right s.words _ (r, p, x) (kept_draft s.opened s.drafts (r, p, x) (is_member s.opened r opened) h))
+
+read_word : (s t : Seen) (x : Row × ℕ × ℕ) → Has s.words x → Has (heard t (told_of s)).words x
+read_word s t x h = has_right t.words _ x (has_left s.words _ x h)
+
+have_row : (xs ys : List (Row × ℕ × ℕ)) (r : Row) (n : ℕ) (o : Offer) → ((p x : ℕ) → Has xs (r, p, x) → Has ys (r, p, x)) → HaveOffer xs r n o → HaveOffer ys r n o
+have_row xs ys r n o more (count, a, b, c, d, h, below, i, j, k, l, is) = (count, a, b, c, d, more _ _ h, below, more _ _ i, more _ _ j, more _ _ k, more _ _ l, is)
+
+pub told_offer : (s t : Seen) (r : Row) (n : ℕ) (o : Offer) → SeesOffer s r n o → SeesOffer (heard t (told_of s)) r n o
+told_offer s t r n o (inl h) = inl (have_row s.words _ r n o (λ p x i. read_word s t (r, p, x) i) h)
+told_offer s t r n o (inr h) = inl (have_row s.drafts _ r n o (λ p x i. told_word s t r p x h.0 i) h.1)
+
+pub told_lack : (s t : Seen) (r : Row) (n : ℕ) → SeesNoOffer s r n → SeesNoOffer (heard t (told_of s)) r n
+told_lack s t r n (inl h) = inl (h.0, read_word s t (r, 1, h.0) h.1, h.2)
+told_lack s t r n (inr h) = inl (h.1.0, told_word s t r 1 h.1.0 h.0 h.1.1, h.1.2)
 
 module _ (w : World) (owner : Row → ℕ) where
   knows_told : (id new : ℕ) (v : View) → Knows w owner id v → Knows w owner new (told_pass v)
@@ -89,11 +134,6 @@ module _ (w : World) (owner : Row → ℕ) where
     joined = λ r j h. ⊎_elim (λ (a : Has v.seen.joined (r, j)). k.joined r j a) (λ (b : Has u.seen.joined (r, j)). l.joined r j b) (has_either v.seen.joined u.seen.joined (r, j) h);
     taken = λ r h. ⊎_elim (λ (a : Has v.seen.taken r). k.taken r a) (λ (b : Has u.seen.taken r). l.taken r b) (has_either v.seen.taken u.seen.taken r h);
   }
-    where
-      has_left : {A : Type 0} (xs ys : List A) (x : A) → Has xs x → Has (xs ++ ys) x
-      has_left (y ∷ xs) ys x (inl e) = inl e
-      has_left (y ∷ xs) ys x (inr h) = inr (has_left xs ys x h)
-      has_left [] ys x h = absurd h
 
 pub tell_allowed : {S : Type 0} (shape : Shape) (id : ℕ) (v : View) → 0 < v.threads → Splits {S = S} (Keeps shape) id v v (told_pass v)
 tell_allowed shape id v at_table s k view = record {

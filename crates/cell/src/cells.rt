@@ -6,7 +6,7 @@ ghost use Rattle.words.specs.declared.Message.{Message};
 ghost use Rattle.words.specs.declared.Offer.{Offer};
 ghost use Rattle.words.specs.declared.Row.{Row};
 ghost use Rattle.words.specs.declared.Cell.TheVariants.{Claimed};
-ghost use Rattle.protocol.specs.Ledgers.{joined_in, offer_in};
+ghost use Rattle.protocol.specs.Ledgers.{IsLawful, joined_in, offer_in};
 ghost use Rattle.cell.specs.Attempts.{Attempted, IsNear};
 ghost use Rattle.cell.specs.Calls.{IsPassOf, IsRowOf, PassView};
 ghost use Rattle.cell.specs.Rule.{dealt_rows, heard, seen_nothing, told_of};
@@ -216,6 +216,8 @@ impl Cells {
         ensures here { IsPassOf self.now from.new × IsPassOf self.now to.new }
         ensures kept { from.new.seen ≡ from.old.seen }
         ensures told { to.new.seen ≡ heard to.old.seen (told_of from.old.seen) }
+        ensures offers { (r : Row) (n : ℕ) (o : Offer) → SeesOffer from.old.seen r n o → SeesOffer to.new.seen r n o }
+        ensures lacks { (r : Row) (n : ℕ) → SeesNoOffer from.old.seen r n → SeesNoOffer to.new.seen r n }
     {
         self.board.tell(&mut from.seat, &mut to.seat);
     }
@@ -224,6 +226,7 @@ impl Cells {
     pub fn close(self, pass: Pass) -> Ledger
         requires here { IsPassOf self pass }
         ensures size { (result.threads ≡ self.threads) × (result.rows ≡ self.rows) }
+        ensures lawful { IsLawful result }
         ensures seen { (r : Row) (j : Joined) → Has pass.seen.joined (r, j) → joined_in result r ≡ Some j }
         ensures offers { (r : Row) (n : ℕ) (o : Offer) → SeesOffer pass.seen r n o → offer_in result r n ≡ Some o }
         ensures lacks { (r : Row) (n : ℕ) → SeesNoOffer pass.seen r n → offer_in result r n ≡ None }

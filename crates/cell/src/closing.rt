@@ -5,7 +5,7 @@ ghost use Rattle.std.specs.Slots.{slots_items, slots_len, IsFull};
 ghost use Rattle.words.specs.declared.Joined.{Joined};
 ghost use Rattle.words.specs.declared.Offer.{Offer};
 ghost use Rattle.words.specs.declared.Row.{Row};
-ghost use Rattle.protocol.specs.Ledgers.{joined_in, offer_in};
+ghost use Rattle.protocol.specs.Ledgers.{IsLawful, joined_in, offer_in};
 ghost use Rattle.cell.specs.Seats.{Sits};
 ghost use Rattle.cell.specs.Sight.{Has, IsDraft, SeesNoOffer, SeesOffer};
 
@@ -21,6 +21,7 @@ impl Board {
         requires sits { Sits self seat }
         requires room { length room.items ≡ self.words.shared.table_id.words }
         ensures size { (result.threads ≡ self.shape.threads) × (result.rows ≡ self.shape.rows) }
+        ensures lawful { IsLawful result }
         ensures seen { (r : Row) (j : Joined) → Has seat.me.0.seen.joined (r, j) → joined_in result r ≡ Some j }
         ensures offers { (r : Row) (n : ℕ) (o : Offer) → SeesOffer seat.me.0.seen r n o → offer_in result r n ≡ Some o }
         ensures lacks { (r : Row) (n : ℕ) → SeesNoOffer seat.me.0.seen r n → offer_in result r n ≡ None }

@@ -2,7 +2,7 @@ use Rattle.std.proofs.Common.{rules, ◌≡◌, ◌<◌, ◌≤◌, List, length
 use Rattle.words.specs.declared.Joined.{Joined}
 use Rattle.words.specs.declared.Offer.{Offer}
 use Rattle.words.specs.declared.Row.{Row}
-use Rattle.protocol.specs.Ledgers.{Ledger, ledger_of, joined_in, offer_in}
+use Rattle.protocol.specs.Ledgers.{IsLawful, Ledger, ledger_of, joined_in, offer_in}
 use Rattle.cell.proofs.Endings.{ended, final_lawful, final_joined, final_lack, final_offer, final_own}
 use Rattle.cell.proofs.board.Board.close.Goals as goal
 
@@ -48,3 +48,11 @@ returns-clause-lacks c r n sees =
     subst (λ (l : Ledger). offer_in l r n ≡ None) (sym c.of_words.ensures)
     (final_lack c.args.self.shape c.args.seat.id c.args.seat.me.0 (omega arith) c.copy_words-words.result.items _
         (ended _ _ _ _ _ _ _ c.args.self.keyed c.copy_words-words.ensures c.close_with-closed.ensures.values.2) r n sees)
+
+pub returns-clause-lawful : goal.returns-clause-lawful
+returns-clause-lawful c =
+    let size : c.args.seat.me.0.threads ≡ c.args.self.shape.threads = (search rules) in
+    let some = c.args.self.small.0 in
+    subst IsLawful (sym c.of_words.ensures)
+    (final_lawful c.args.self.shape c.args.seat.id c.args.seat.me.0 (omega arith) c.copy_words-words.result.items _
+        (ended _ _ _ _ _ _ _ c.args.self.keyed c.copy_words-words.ensures c.close_with-closed.ensures.values.2))

@@ -1,0 +1,17 @@
+use Rattle.std.proofs.Common.{rules, ◌≡◌, sym, subst}
+use Rattle.cell.specs.declared.view.Seen.{Seen}
+use Rattle.cell.specs.Calls.{PassView}
+use Rattle.cell.specs.Sight.{SeesNoOffer, SeesOffer}
+use Rattle.cell.specs.Rule.{heard, told_of}
+use Rattle.cell.proofs.Hearing.{told_lack, told_offer}
+use Rattle.cell.proofs.cells.Cells.tell.Goals as goal
+
+pub returns-clause-offers : goal.returns-clause-offers
+returns-clause-offers c r n o sees =
+    let told : c.tell.new.to.me.0.seen ≡ heard c.args.to.now.seen (told_of c.args.from.now.seen) = (search rules) in
+    subst (λ (s : Seen). SeesOffer s r n o) (sym told) (told_offer c.args.from.now.seen c.args.to.now.seen r n o sees)
+
+pub returns-clause-lacks : goal.returns-clause-lacks
+returns-clause-lacks c r n sees =
+    let told : c.tell.new.to.me.0.seen ≡ heard c.args.to.now.seen (told_of c.args.from.now.seen) = (search rules) in
+    subst (λ (s : Seen). SeesNoOffer s r n) (sym told) (told_lack c.args.from.now.seen c.args.to.now.seen r n sees)
