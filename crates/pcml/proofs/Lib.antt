@@ -3,5 +3,7 @@ pub mod Forms
 pub mod Steps
 pub mod Plans
 pub mod PlanLaws
-pub mod Meeting
+pub mod Passes
+pub mod Parts
+pub mod MeetingLedger
 pub mod Playing

@@ -1,6 +1,8 @@
 -- The faults of reading as faults of playing, and the faults of playing and of files as faults of the program.
 use Rattle.pcml.specs.declared.schedule.ReadFault.{ReadFault}
 use Rattle.pcml.specs.declared.schedule.ReadFault.TheVariants as reading
+use Rattle.pcml.specs.declared.meet.MeetFault.{MeetFault}
+use Rattle.pcml.specs.declared.meet.MeetFault.TheVariants as meets
 use Rattle.pcml.specs.declared.play.PlayFault.{PlayFault}
 use Rattle.pcml.specs.declared.play.PlayFault.TheVariants.{Memory, BadStep, NotAllowed}
 use Rattle.pcml.specs.declared.source.SourceFault.{SourceFault}
@@ -11,6 +13,10 @@ use Rattle.pcml.specs.declared.fault.Fault.TheVariants as faults
 abbrev pub comes_from : ReadFault → PlayFault
 comes_from reading.Memory = Memory
 comes_from (reading.BadStep line) = BadStep line
+
+abbrev pub fault_of_meet : MeetFault → Fault
+fault_of_meet meets.Memory = faults.Memory
+fault_of_meet meets.NoThread = faults.NoThread
 
 abbrev pub fault_of_play : PlayFault → Fault
 fault_of_play Memory = faults.Memory

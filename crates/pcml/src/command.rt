@@ -7,12 +7,15 @@ ghost use Rattle.pcml.specs.declared.fault.Fault.TheVariants.{Unwritten};
 ghost use Rattle.pcml.specs.Command.{Answers, Fails};
 
 use crate::fault::Fault;
-use crate::play::{meet_text, play_text};
+use crate::meet::meet_text;
+use crate::play::play_text;
 use crate::request::{Request, read_words};
 use crate::source::Source;
 use clap::error::ErrorKind;
 use std::alloc::Global;
 use std::io::Write;
+use std::sync::Wait;
+use std::thread::Threads;
 
 const DONE: u8 = 0;
 
@@ -22,12 +25,17 @@ const FAULT: u8 = 1;
 pub const BAD_WORDS: u8 = 2;
 
 /// The text that a request is answered with.
-fn answer<S: Source>(alloc: Global, asked: Request<'_>, source: &mut S) -> Result<Vec<u8>, Fault>
+fn answer<R: Threads + Wait, S: Source>(
+    rt: &R,
+    alloc: Global,
+    asked: Request<'_>,
+    source: &mut S,
+) -> Result<Vec<u8>, Fault>
     ensures done { IfOk result (λ text. Answers asked.entry text.items) }
     ensures fault { IfErr result (Fails asked.entry) }
 {
     match asked {
-        Request::Meet(value) => Ok(meet_text(alloc, value)?),
+        Request::Meet(value) => Ok(meet_text(rt, alloc, value)?),
         Request::Play(name) => {
             let bytes = source.read(name)?;
             Ok(play_text(alloc, bytes.as_slice())?)
@@ -47,7 +55,8 @@ fn write_text<O: Write>(out: &mut O, text: &[u8]) -> Result<(), Fault>
 }
 
 /// Answers a request on the output. After a fault nothing was written, but for that of the output.
-fn respond<S: Source, O: Write>(
+fn respond<R: Threads + Wait, S: Source, O: Write>(
+    rt: &R,
     alloc: Global,
     asked: Request<'_>,
     source: &mut S,
@@ -57,14 +66,15 @@ fn respond<S: Source, O: Write>(
         × Appends (O.contents out.old) (O.contents out.new) text) }
     ensures fault { IfErr result (λ fault. (fault ≡ Unwritten) ⊎ (Fails asked.entry fault × (out.new ≡ out.old))) }
 {
-    let text = answer(alloc, asked, source)?;
+    let text = answer(rt, alloc, asked, source)?;
     write_text(out, text.as_slice())
 }
 
 /// Does what the words behind the program's name ask for, and answers the status: 0, or 1 after a
 /// fault, or 2 after words that are not understood and after a wish for help. A fault is a line on
 /// the error stream; whether that stream takes it changes nothing.
-pub fn command<S: Source, O: Write, E: Write>(
+pub fn command<R: Threads + Wait, S: Source, O: Write, E: Write>(
+    rt: &R,
     alloc: Global,
     words: &[&str],
     source: &mut S,
@@ -86,7 +96,7 @@ pub fn command<S: Source, O: Write, E: Write>(
             return BAD_WORDS;
         }
     };
-    match respond(alloc, asked, source, out) {
+    match respond(rt, alloc, asked, source, out) {
         Ok(()) => DONE,
         Err(fault) => tell(err, fault),
     }

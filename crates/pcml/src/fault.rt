@@ -1,9 +1,10 @@
 //! The faults of the program, each with its number.
 
 ghost use Rattle.std.specs.Prelude.{◌≡◌};
-ghost use Rattle.pcml.specs.PlayFaults.{fault_of_play, fault_of_file};
+ghost use Rattle.pcml.specs.PlayFaults.{fault_of_meet, fault_of_play, fault_of_file};
 ghost use Rattle.pcml.specs.declared.fault.Fault.TheVariants.{Memory};
 
+use crate::meet::MeetFault;
 use crate::play::PlayFault;
 use crate::source::SourceFault;
 use std::alloc::AllocError;
@@ -17,6 +18,9 @@ pub enum Fault {
     /// The first step of a schedule that is not allowed, from 1.
     #[error("fault 2 step {0}")]
     NotAllowed(usize),
+    /// A thread that could not be started.
+    #[error("fault 6")]
+    NoThread,
     /// The first line of a schedule that is not of the form, from 1.
     #[error("fault 22 line {0}")]
     BadStep(usize),
@@ -33,6 +37,17 @@ impl From<AllocError> for Fault {
 
     fn from(_error: AllocError) -> Fault {
         Fault::Memory
+    }
+}
+
+impl From<MeetFault> for Fault {
+    ghost from_gives = { λ meet fault. fault ≡ fault_of_meet meet };
+
+    fn from(fault: MeetFault) -> Fault {
+        match fault {
+            MeetFault::Memory => Fault::Memory,
+            MeetFault::NoThread => Fault::NoThread,
+        }
     }
 }
 

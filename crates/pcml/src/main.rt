@@ -1,9 +1,10 @@
-//! `pcml`: one rendezvous, or the steps of a schedule, played in a world.
+//! `pcml`: one rendezvous of two threads, or the steps of a schedule, played in a world.
 #![tactic(auto)]
 
 mod command;
 mod fault;
 mod line;
+mod meet;
 mod number;
 mod play;
 mod request;
@@ -16,6 +17,8 @@ use source::{Source, SourceFault};
 use std::io::{ErrorKind, Write};
 use std::process::ExitCode;
 use std::rt::{Env, Files};
+use std::sync::Wait;
+use std::thread::Threads;
 use std::{env, fs, io};
 
 /// The files that the process sees.
@@ -35,12 +38,15 @@ impl<R: Files + AllocGlobal> Source for SystemFiles<'_, R> {
 }
 
 /// Runs on the words that the process was given. It fails where they lack memory or are no text.
-fn run<R: Env + Files + Print + AllocGlobal, E: Write>(rt: &R, err: &mut E) -> io::Result<u8> {
+fn run<R: Env + Files + Print + AllocGlobal + Threads + Wait, E: Write>(
+    rt: &R,
+    err: &mut E,
+) -> io::Result<u8> {
     let words: Vec<String> = env::args(rt)?.skip(1).collect(rt.alloc())?;
     let words: Vec<&str> = words.iter().map(|word| word.as_str()).collect(rt.alloc())?;
     let mut files = SystemFiles { rt };
     let mut out = io::writer(rt);
-    Ok(command::command(rt.alloc(), words.as_slice(), &mut files, &mut out, err))
+    Ok(command::command(rt, rt.alloc(), words.as_slice(), &mut files, &mut out, err))
 }
 
 fn main(rt: HostRuntime) -> ExitCode {

@@ -1,16 +1,15 @@
-//! What `meet` and `play` print.
+//! What `play` prints.
 
 ghost use Rattle.std.specs.Prelude.{◌≡◌, IfOk, IfErr};
 ghost use Rattle.std.specs.String.{string_bytes};
 ghost use Rattle.pcml.specs.Schedule.{IsSize};
-ghost use Rattle.pcml.specs.Meet.{meet_steps, TellsMeeting, meeting_line};
 ghost use Rattle.pcml.specs.Play.{start_of, counts_line, Reports, IsPlayed, ExplainsPlay, IsPlayedOrFaulty, HasOneFirstRefused};
 ghost use Rattle.pcml.specs.PlayFaults.{comes_from};
 ghost use Rattle.pcml.specs.declared.play.PlayFault.TheVariants.{Memory};
 
 use crate::schedule::{ReadFault, Size, read_schedule};
 use crate::text::write_numbered;
-use protocol::{Ledger, ProtoFault, Row, Seat, Step, World, play};
+use protocol::{Ledger, ProtoFault, World, play};
 use std::alloc::{AllocError, Global};
 use thiserror::Error;
 
@@ -46,33 +45,6 @@ impl From<AllocError> for PlayFault {
     }
 }
 
-/// A thread offers to send the value, another to receive it; the first one claims, joins and seals.
-fn meet_steps(value: u32) -> [(Seat, Step); 10]
-    ensures { result ≡ meet_steps value }
-{
-    let sender = Row { thread: 0, sync: 0 };
-    let receiver = Row { thread: 1, sync: 0 };
-    let draft = |row, place, value| Step::Draft { row, place, value };
-    let join = Step::Join {
-        mine: sender,
-        own: 0,
-        other: receiver,
-        partner: 0,
-    };
-    [
-        (Seat(0), draft(sender, 1, 1)),
-        (Seat(0), draft(sender, 2, 8388609)),
-        (Seat(0), draft(sender, 3, u64::from(value) * 4)),
-        (Seat(0), Step::Open { row: sender }),
-        (Seat(1), draft(receiver, 1, 1)),
-        (Seat(1), draft(receiver, 2, 2)),
-        (Seat(1), Step::Open { row: receiver }),
-        (Seat(0), Step::Claim { row: sender }),
-        (Seat(0), join),
-        (Seat(0), Step::Seal { row: sender }),
-    ]
-}
-
 /// The world in which a schedule of this size begins.
 fn start(alloc: Global, size: Size) -> Result<World, AllocError>
     requires { IsSize size }
@@ -82,25 +54,6 @@ fn start(alloc: Global, size: Size) -> Result<World, AllocError>
         Ok(world) => Ok(world),
         Err(_) => Err(AllocError),
     }
-}
-
-/// The line of the one pair in which a thread sends the value to another.
-pub fn meet_text(alloc: Global, value: u32) -> Result<Vec<u8>, AllocError>
-    ensures met { IfOk result (λ text. TellsMeeting value text.items) }
-    ensures line { IfOk result (λ text. text.items ≡ meeting_line value) }
-{
-    let size = Size {
-        threads: 2,
-        rows: 1,
-        seats: 2,
-    };
-    let world = start(alloc, size)?;
-    let Ok(world) = play(world, &meet_steps(value)) else {
-        unreachable!()
-    };
-    let ledger = world.ledger();
-    let commits = ledger.commits()?;
-    write_numbered(alloc, commits.as_slice())
 }
 
 fn counts_line(alloc: Global, commits: usize, pending: u32) -> Result<String, AllocError>

@@ -8,7 +8,9 @@ use std::alloc::Global;
 use std::io;
 use std::io::Write;
 use std::process::Abort;
+use std::sync::Wait;
 use std::test::Fail;
+use std::thread::Threads;
 use words::{Atom, Cause, Commit, Message, NackName, Row};
 
 /// One file, by its name.
@@ -58,45 +60,53 @@ struct Outcome {
 }
 
 /// Where memory runs out, the run has to tell just that.
-fn run(alloc: Global, words: &[&str], text: &[u8]) -> Result<Outcome, Fault> {
+fn run<R: AllocGlobal + Threads + Wait>(
+    rt: &R,
+    words: &[&str],
+    text: &[u8],
+) -> Result<Outcome, Fault> {
+    let alloc = rt.alloc();
     let mut source = OneFile { alloc, text };
     let mut out = Vec::with_capacity(alloc, 256)?;
     let mut err = Vec::with_capacity(alloc, 4096)?;
-    let status = command(alloc, words, &mut source, &mut out, &mut err);
+    let status = command(rt, alloc, words, &mut source, &mut out, &mut err);
     if status == 1 && out.is_empty() && err.as_slice() == b"fault 1\n".as_slice() {
         return Err(Fault::Memory);
     }
     Ok(Outcome { status, out, err })
 }
 
-fn prints<R: Abort + AllocGlobal>(
+fn prints<R: Abort + AllocGlobal + Threads + Wait>(
     rt: &R,
     words: &[&str],
     text: &[u8],
     expected: &[u8],
 ) -> Result<(), Fault> {
-    let run = run(rt.alloc(), words, text)?;
+    let run = run(rt, words, text)?;
     assert_eq!(rt; run.out.as_slice(), expected);
     assert!(rt; run.err.is_empty());
     assert_eq!(rt; run.status, 0);
     Ok(())
 }
 
-fn faults<R: Abort + AllocGlobal>(
+fn faults<R: Abort + AllocGlobal + Threads + Wait>(
     rt: &R,
     words: &[&str],
     text: &[u8],
     expected: &[u8],
 ) -> Result<(), Fault> {
-    let run = run(rt.alloc(), words, text)?;
+    let run = run(rt, words, text)?;
     assert_eq!(rt; run.err.as_slice(), expected);
     assert!(rt; run.out.is_empty());
     assert_eq!(rt; run.status, 1);
     Ok(())
 }
 
-fn is_bad_words<R: Abort + AllocGlobal>(rt: &R, words: &[&str]) -> Result<(), Fault> {
-    let run = run(rt.alloc(), words, b"world 1 1 1\n")?;
+fn is_bad_words<R: Abort + AllocGlobal + Threads + Wait>(
+    rt: &R,
+    words: &[&str],
+) -> Result<(), Fault> {
+    let run = run(rt, words, b"world 1 1 1\n")?;
     assert!(rt; run.out.is_empty());
     assert!(rt; !run.err.is_empty());
     assert_eq!(rt; run.status, 2);
@@ -135,6 +145,15 @@ fn meets(rt: HostRuntime) -> Result<(), Fault> {
         b"",
         b"1 0.0.0 -> 1.0.0 0 (4294967295)\n",
     )?;
+    Ok(())
+}
+
+/// Which of the two threads claims first differs from run to run; the line does not.
+#[test]
+fn meets_the_same_way_each_time(rt: HostRuntime) -> Result<(), Fault> {
+    for _ in 0..200 {
+        prints(&rt, &["meet", "42"], b"", b"1 0.0.0 -> 1.0.0 0 (42)\n")?;
+    }
     Ok(())
 }
 
@@ -298,7 +317,7 @@ fn laws_hold() {
 #[test]
 fn tells_unread_files(rt: HostRuntime) -> Result<(), Fault> {
     faults(&rt, &["play", "none"], b"", b"fault 31\n")?;
-    let lacking = run(rt.alloc(), &["play", "memory"], b"");
+    let lacking = run(&rt, &["play", "memory"], b"");
     assert!(rt; matches!(lacking, Err(Fault::Memory)));
     Ok(())
 }
@@ -313,7 +332,7 @@ fn tells_unwritten_output(rt: HostRuntime) -> Result<(), Fault> {
         let mut out = Narrow { room };
         let mut err = Vec::with_capacity(rt.alloc(), 64)?;
         let words = ["meet", "42"];
-        let status = command(rt.alloc(), &words, &mut source, &mut out, &mut err);
+        let status = command(&rt, rt.alloc(), &words, &mut source, &mut out, &mut err);
         if status == 1 && err.as_slice() == b"fault 1\n".as_slice() {
             return Err(Fault::Memory);
         }
