@@ -10,3 +10,4 @@ pub mod Allowing
 pub mod Dealing
 pub mod Hearing
 pub mod Endings
+pub mod Playing
