@@ -1,29 +1,28 @@
 -- Each atomic step is admitted by the rule.
-use Rattle.std.proofs.Common.{slice_index, slice_set, ◌≡◌, ◌≢◌, ℕ, ◌+◌, ◌*◌, ◌<◌, ◌≤◌, Bool, true, false, List, [], sym, refl, ap, ◌∙◌, subst, inl, inr, ⊎_elim, arith, unwrap_or, Option, Some, None, is_some, eqb, cond, max, ◌-◌}
+use Rattle.std.proofs.Common.{slice_index, slice_set, ◌≡◌, ◌≢◌, ℕ, ◌<◌, ◌≤◌, true, false, List, [], sym, refl, ap, ◌∙◌, subst, ⊎_elim, arith, unwrap_or, Option, Some, None, is_some, eqb}
 use Rattle.std.proofs.lemmas.List.{set-get_or}
-use Rattle.std.proofs.lemmas.Bool.{false≢true, lt-ltb, ne_eqb}
+use Rattle.std.proofs.lemmas.Bool.{false≢true}
 use mathlib.Core.Option.{some, none}
 use lib.ListN.{get_elem?}
 use prog.Atomic.{either}
 use Rattle.atomic_table.specs.Table.{State, Me, Allows, Act, Valid, step, keeps, stepped, carried_after}
 use Rattle.atomic_table.proofs.Lists.{exchanged}
-use Rattle.words.specs.Words.{cell_word, cell_of, count_of, offer_of, is_word_for, IsCellInRange, IsJoinedInRange}
+use Rattle.words.specs.Words.{cell_word, cell_of, is_word_for, IsCellInRange, IsJoinedInRange}
 use Rattle.words.proofs.WordLemmas.{cell_of-cell_word, cell_word-cell_of}
 use Rattle.words.specs.declared.Seat.{Seat}
 use Rattle.words.specs.declared.Step.{Step}
 use Rattle.words.specs.declared.Step.TheVariants.{Draft, Open, Claim, Yield, Join, Seal}
-use Rattle.words.specs.declared.Offer.{Offer}
 use Rattle.words.specs.declared.Row.{Row}
 use Rattle.words.specs.declared.Joined.{Joined}
 use Rattle.words.specs.declared.Cell.{Cell}
 use Rattle.words.specs.declared.Cell.TheVariants.{Fresh, Waiting, Claimed, Synched}
-use Rattle.protocol.specs.Tables.{Table, place_of, is_row, is_fresh, cell_at, joined_at, joined_of, names, is_partner, offers_meet, offer_at, count_at, stamp_of, last_stamp, word_at, row_eq}
+use Rattle.protocol.specs.Tables.{Table, place_of, is_row, is_fresh, cell_at, joined_at, joined_of, names, is_partner, word_at, row_eq}
 use Rattle.protocol.specs.Worlds.{World, Condition, after_step, namer_at, joined_with, mirrored, with_seal, with_table, with_cell, with_word}
 use Rattle.protocol.specs.Kept.{Kept}
 use Rattle.protocol.proofs.RowLemmas.{row_ne, row_cases, row_eq-refl}
 use Rattle.protocol.proofs.Naming.{namer_none, namer_is}
 use Rattle.protocol.proofs.Places.{row_from, row_inside, same_place}
-use Rattle.protocol.proofs.Readings.{cell_inside, count_open, row_of_open}
+use Rattle.protocol.proofs.Readings.{cell_inside, row_of_open}
 use Rattle.protocol.proofs.Linking.{fresh_not_joined, some_inj, cases_Option}
 use Rattle.protocol.proofs.Keeping.{kept_schedule, idle_unnamed, join_in_range, IsSealing, sealed_is, seal_in_range}
 use Rattle.protocol.proofs.LedgerLemmas.{kept_start}
@@ -31,7 +30,7 @@ use Rattle.cell.specs.declared.view.View.{View}
 use Rattle.cell.specs.declared.view.Shape.{Shape}
 use Rattle.cell.specs.declared.view.Stage.{Stage}
 use Rattle.cell.specs.declared.view.Stage.TheVariants.{Resting, Claims, Joins}
-use Rattle.cell.specs.Sight.{Has, CanJoin, Coherent}
+use Rattle.cell.specs.Sight.{Has, CanJoin}
 use Rattle.cell.specs.Sight.{is_taken}
 use Rattle.cell.specs.Views.{Knows, Staged, IsClaimer, saw, read_word, drafted_word, turned}
 use Rattle.cell.proofs.Truths.{offers_known, joined_known, agrees, coherent}

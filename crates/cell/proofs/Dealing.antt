@@ -11,9 +11,9 @@ use Rattle.atomic_table.specs.Table.{State, Splits, opening}
 use Rattle.atomic_table.proofs.Lists.{at_set}
 use Rattle.words.specs.declared.Row.{Row}
 use Rattle.words.specs.declared.Cell.TheVariants.{Fresh, Claimed}
-use Rattle.protocol.specs.Tables.{thread_len, cell_at}
+use Rattle.protocol.specs.Tables.{thread_len, cell_at, word_at}
 use Rattle.protocol.specs.Worlds.{World, start_world, holder_at}
-use Rattle.protocol.proofs.LedgerLemmas.{start_cell, start_holder}
+use Rattle.protocol.proofs.LedgerLemmas.{start_cell, start_holder, start_word}
 use Rattle.protocol.proofs.RowLemmas.{same_row}
 use Rattle.cell.specs.declared.view.View.{View}
 use Rattle.cell.specs.declared.view.Shape.{Shape}
@@ -21,7 +21,8 @@ use Rattle.cell.specs.declared.view.Stage.{Stage}
 use Rattle.cell.specs.declared.view.Stage.TheVariants.{Resting, Claims, Joins}
 use Rattle.cell.specs.Sight.{Has}
 use Rattle.cell.specs.Views.{Knows, Staged, first_row}
-use Rattle.cell.specs.Rule.{Keeps, dealer, dealt_rows, dealt_pass}
+use Rattle.cell.specs.Rule.{Keeps, dealer, dealt_rows, dealt_pass, no_offers}
+use Rattle.protocol.proofs.Keeping.{held_row}
 
 -- WHO OWNS WHAT may change for rows that a pass does not own
 staged_owned : (w : World) (owner owner' : Row → ℕ) (j : ℕ) (stage : Stage) → ((r : Row) → owner r ≡ j → owner' r ≡ j) → Staged w owner j stage → Staged w owner' j stage
@@ -35,7 +36,7 @@ knows_owned w owner owner' j u o k = record {
   rows = k.rows;
   passes = k.passes;
   seat = k.seat;
-  undealt = λ t h d. let a = k.undealt t h d in (o (first_row t) a.0, a.1, a.2);
+  undealt = λ t h d. let a = k.undealt t h d in (o (first_row t) a.0, a.1, a.2, a.3);
   mine = λ r h. let a = k.mine r h in (o r a.0, a.1);
   calm = k.calm;
   staged = staged_owned w owner owner' j u.stage o k.staged;
@@ -49,14 +50,14 @@ knows_owned w owner owner' j u o k = record {
 
 -- a pass that has seen nothing
 knows_nothing : (w : World) (owner : Row → ℕ) (id : ℕ) (shape : Shape) (k : ℕ) → shape.threads ≡ w.table.threads → shape.rows ≡ w.table.rows → shape.passes ≡ w.seats → 0 < w.seats
-    → ((t : ℕ) → t < w.table.threads → k ≤ t % w.seats → (owner (first_row t) ≡ id) × (holder_at w (first_row t) ≡ Some (t % w.seats)) × (cell_at w.table (first_row t) ≡ Fresh))
+    → ((t : ℕ) → t < w.table.threads → k ≤ t % w.seats → (owner (first_row t) ≡ id) × (holder_at w (first_row t) ≡ Some (t % w.seats)) × (cell_at w.table (first_row t) ≡ Fresh) × (word_at w.table (first_row t) 1 ≡ 0))
     → Knows w owner id (dealer shape k)
 knows_nothing w owner id shape k threads rows passes one_seat undealt = record {
   threads = threads;
   rows = rows;
   passes = passes;
   seat = one_seat;
-  undealt = λ t h d. let u = undealt t h d in (u.0, u.1, λ n. u.2);
+  undealt = λ t h d. let u = undealt t h d in (u.0, u.1, (λ n. u.2), λ n. u.3);
   mine = λ r h. absurd h;
   calm = λ r h e. absurd h;
   staged = tt;
@@ -85,7 +86,7 @@ keeps_start shape ws xs few one_row few_rows one_pass zeros = record {
   where
     first : Knows (start_world shape.threads shape.rows shape.passes) (λ r. 0) 0 (dealer shape 0)
     first = knows_nothing (start_world shape.threads shape.rows shape.passes) (λ r. 0) 0 shape 0 refl refl refl one_pass
-        (λ t h d. (refl, start_holder shape.threads shape.rows shape.passes (first_row t) h one_row, start_cell shape.threads shape.rows (first_row t)))
+        (λ t h d. (refl, start_holder shape.threads shape.rows shape.passes (first_row t) h one_row, start_cell shape.threads shape.rows (first_row t), start_word shape.threads shape.rows (first_row t) 1))
 
     knows_at : (id : ℕ) (v : View) → get_elem? (dealer shape 0 ∷ []) id ≡ some v → 0 < v.threads → Knows (start_world shape.threads shape.rows shape.passes) (λ r. 0) id v
     knows_at zero v e t = subst (λ (u : View). Knows (start_world shape.threads shape.rows shape.passes) (λ r. 0) 0 u) (mathlib.Core.Option.some-injective _ _ e) first
@@ -118,6 +119,12 @@ one_has t passes k r rs false e d rest = ⊎_elim
 pub dealt_has : (n passes k : ℕ) (r : Row) → IsDealt n passes k r → Has (dealt_rows n passes k) r
 dealt_has zero passes k r d = let l = d.1 in absurd (omega arith)
 dealt_has (suc t) passes k r d = one_has t passes k r (dealt_rows t passes k) (eqb (t % passes) k) refl d (λ e. dealt_has t passes k r e)
+
+-- what stands at first in the drafts of a pass
+no_offers_of : (rows : List Row) (r : Row) (p x : ℕ) → Has (no_offers rows) (r, p, x) → Has rows r × (p ≡ 1) × (x ≡ 0)
+no_offers_of [] r p x h = absurd h
+no_offers_of (q ∷ rows) r p x (inl e) = (inl (ap (λ (z : Row × ℕ × ℕ). z.0) e), ap (λ (z : Row × ℕ × ℕ). z.1) (sym e), ap (λ (z : Row × ℕ × ℕ). z.2) (sym e))
+no_offers_of (q ∷ rows) r p x (inr h) = let n = no_offers_of rows r p x h in (inr n.0, n.1, n.2)
 
 -- a list with one more at its end
 pub at_end : {A : Type 0} (l : List A) (a b : A) (j : ℕ) → get_elem? (l ++ a ∷ []) j ≡ some b → (get_elem? l j ≡ some b) ⊎ ((j ≡ length l) × (a ≡ b))
@@ -164,9 +171,9 @@ module _ {S : Type 0} (shape : Shape) (id k : ℕ) (below : k < shape.passes) (s
   left = knows_nothing h.world owner' id shape (k + 1) was.threads was.rows was.passes some_seats (λ t i d.
       let u = was.undealt t i (omega arith) in
       let m = mod_seats t in
-      (ap (λ (b : Bool). cond b new (h.owner (first_row t))) (ap (λ (b : Bool). ltb t shape.threads && b) (ne_eqb (t % shape.passes) k (λ e. omega arith)) ∙ and-false (ltb t shape.threads)) ∙ u.0, u.1, u.2 (λ z. z)))
+      (ap (λ (b : Bool). cond b new (h.owner (first_row t))) (ap (λ (b : Bool). ltb t shape.threads && b) (ne_eqb (t % shape.passes) k (λ e. omega arith)) ∙ and-false (ltb t shape.threads)) ∙ u.0, u.1, u.2 (λ z. z), u.3 (λ l. l.1)))
 
-  dealt_row : (r : Row) → Has (dealt_rows shape.threads shape.passes k) r → (owner' r ≡ new) × (holder_at h.world r ≡ Some k) × (cell_at h.world.table r ≡ Fresh)
+  dealt_row : (r : Row) → Has (dealt_rows shape.threads shape.passes k) r → (owner' r ≡ new) × (holder_at h.world r ≡ Some k) × (cell_at h.world.table r ≡ Fresh) × (word_at h.world.table r 1 ≡ 0)
   dealt_row r i =
       let d = has_dealt shape.threads shape.passes k r i in
       let m : r.thread % h.world.seats ≡ k = mod_seats r.thread ∙ d.2 in
@@ -175,6 +182,7 @@ module _ {S : Type 0} (shape : Shape) (id k : ℕ) (below : k < shape.passes) (s
         ap (λ (b : Bool). cond b new (h.owner r)) (and_from _ _ (eq-eqb r.sync 0 d.0) (and_from _ _ (lt-ltb r.thread shape.threads d.1) (eq-eqb _ _ d.2))),
         ap (holder_at h.world) (sym same) ∙ u.1 ∙ ap Some m,
         ap (cell_at h.world.table) (sym same) ∙ u.2 (λ z. z),
+        ap (λ (q : Row). word_at h.world.table q 1) (sym same) ∙ u.3 (λ l. l.1),
       )
 
   its_pass : Knows h.world owner' new (dealt_pass (dealer shape k))
@@ -188,7 +196,11 @@ module _ {S : Type 0} (shape : Shape) (id k : ℕ) (below : k < shape.passes) (s
     calm = λ r i e. let g = dealt_row r i in let bad : Fresh ≡ Claimed = sym g.2 ∙ e in cc;
     staged = tt;
     fresh = λ r i n. (dealt_row r i).2;
-    drafted = λ r p x i. absurd i;
+    drafted = λ r p x i.
+        let n = no_offers_of (dealt_rows shape.threads shape.passes k) r p x i in
+        let g = dealt_row r n.0 in
+        let q = n.1 in
+        (g.0, (omega arith), (omega arith), held_row h.world r k g.1, ap (word_at h.world.table r) n.1 ∙ g.3 ∙ sym n.2);
     opened = λ r i. absurd i;
     read = λ r p x i. absurd i;
     joined = λ r j i. absurd i;

@@ -1,13 +1,13 @@
 -- The words of a table at its end, and what their ledger says.
-use Rattle.std.proofs.Common.{◌≡◌, ◌≢◌, ℕ, zero, suc, ◌+◌, ◌*◌, ◌<◌, ◌≤◌, List, [], ◌∷◌, length, slice_index, slice_set, slice_get, get_or, sym, refl, ap, ◌∙◌, subst, ⊎_elim, arith, Some, None}
-use Rattle.std.proofs.lemmas.List.{ext_get_or, get_or-set_same, get_or-set_other, length-set}
+use Rattle.std.proofs.Common.{◌≡◌, ℕ, zero, suc, ◌+◌, ◌<◌, ◌≤◌, List, [], ◌∷◌, length, slice_index, slice_set, slice_get, get_or, sym, ap, ◌∙◌, subst, ⊎_elim, arith, Some, None}
+use Rattle.std.proofs.lemmas.List.{ext_get_or, get_or-set_same, get_or-set_other}
 use mathlib.Core.Option.{some, none}
 use lib.ListN.{get_elem?}
-use Rattle.atomic_table.specs.Table.{State, Seen as SeenWith, Final}
+use Rattle.atomic_table.specs.Table.{Seen as SeenWith, Final}
 use Rattle.words.specs.declared.Joined.{Joined}
 use Rattle.words.specs.declared.Offer.{Offer}
 use Rattle.words.specs.declared.Row.{Row}
-use Rattle.protocol.specs.Tables.{Table, thread_len, joined_at, offer_at}
+use Rattle.protocol.specs.Tables.{Table, joined_at}
 use Rattle.protocol.specs.Ledgers.{ledger_of, IsLawful, joined_in, offer_in}
 use Rattle.protocol.proofs.LedgerLemmas.{lawful_ledger, joined_in_ledger, offer_in_ledger}
 use Rattle.cell.specs.declared.view.View.{View}

@@ -1,15 +1,13 @@
 -- What a pass has seen is true for whoever is told it.
-use Rattle.std.proofs.Common.{slice_set, ◌≡◌, ◌≢◌, ℕ, ◌<◌, ◌≤◌, ◌%◌, Bool, true, false, cond, ◌||◌, List, [], ◌∷◌, ◌++◌, length, sym, refl, ap, ◌∙◌, subst, inl, inr, ◌⊎◌, ⊎_elim, arith}
+use Rattle.std.proofs.Common.{slice_set, ◌≡◌, ◌≢◌, ℕ, ◌<◌, Bool, true, false, cond, ◌||◌, List, [], ◌∷◌, ◌++◌, length, sym, refl, ap, ◌∙◌, subst, inl, inr, ◌⊎◌, ⊎_elim, arith}
 use Rattle.std.proofs.lemmas.Bool.{cases_Bool, true≢false}
-use Rattle.std.proofs.lemmas.List.{length-set}
 use Rattle.std.proofs.Math.Nat.{mod-lt}
 use mathlib.Core.Option.{some}
 use lib.ListN.{get_elem?}
-use Rattle.atomic_table.specs.Table.{State, Splits, Joins}
+use Rattle.atomic_table.specs.Table.{Splits, Joins}
 use Rattle.atomic_table.proofs.Lists.{at_set}
 use Rattle.words.specs.declared.Row.{Row}
-use Rattle.words.specs.declared.Joined.{Joined}
-use Rattle.protocol.specs.Tables.{Table, is_row, row_eq, is_fresh, cell_at, joined_at, word_at}
+use Rattle.protocol.specs.Tables.{row_eq}
 use Rattle.protocol.specs.Worlds.{World}
 use Rattle.protocol.proofs.RowLemmas.{row_eq-refl, row_eq-true}
 use Rattle.words.specs.declared.Offer.{Offer}
@@ -17,7 +15,6 @@ use Rattle.cell.specs.declared.view.Seen.{Seen}
 use Rattle.cell.specs.declared.view.View.{View}
 use Rattle.cell.specs.declared.view.Shape.{Shape}
 use Rattle.cell.specs.Sight.{Has, HaveOffer, SeesOffer, SeesNoOffer}
-use Rattle.cell.specs.Sight.{is_taken}
 use Rattle.cell.specs.Views.{Knows}
 use Rattle.cell.specs.Rule.{Keeps, is_among, drafts_of, told_of, told_pass, heard, heard_pass, spent_pass}
 use Rattle.cell.proofs.Dealing.{at_end}
@@ -123,7 +120,7 @@ module _ (w : World) (owner : Row → ℕ) where
     rows = k.rows;
     passes = k.passes;
     seat = k.seat;
-    undealt = λ t h d. let a = k.undealt t h d in (a.0, a.1, λ n. a.2 (λ o. n (has_left v.seen.opened u.seen.opened _ o)));
+    undealt = λ t h d. let a = k.undealt t h d in (a.0, a.1, (λ n. a.2 (λ o. n (has_left v.seen.opened u.seen.opened _ o))), a.3);
     mine = k.mine;
     calm = k.calm;
     staged = k.staged;

@@ -1,5 +1,5 @@
 -- What is learnt in two calls, and of more rows.
-use Rattle.std.proofs.Common.{rules, ◌≡◌, List, sym, ◌∙◌, inl, inr, ◌⊎◌, ⊎_elim}
+use Rattle.std.proofs.Common.{rules, ◌≡◌, List, ◌∙◌, inr, ⊎_elim}
 use Rattle.words.specs.declared.Row.{Row}
 use Rattle.cell.specs.declared.view.Seen.{Seen}
 use Rattle.cell.specs.Sight.{Has, Adds, Learns, see_cell}

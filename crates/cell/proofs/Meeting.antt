@@ -1,7 +1,7 @@
 -- What a pass knows of two rows stays known while it sees more.
-use Rattle.std.proofs.Common.{rules, ◌≡◌, ◌≢◌, ℕ, ◌+◌, ◌*◌, ◌-◌, ◌^◌, ◌<◌, ◌≤◌, Bool, true, false, List, [], ◌∷◌, sym, refl, ap, ◌∙◌, subst, inl, inr, ◌⊎◌, arith, max, unwrap_or, Option, Some, None, cond, IfSome, IfNone, IfErr, is_err, Result, Ok, Err}
+use Rattle.std.proofs.Common.{rules, ◌≡◌, ◌≢◌, ℕ, ◌+◌, ◌^◌, ◌<◌, ◌≤◌, Bool, true, false, List, sym, refl, ap, ◌∙◌, subst, inl, inr, arith, max, unwrap_or, Option, Some, None, cond, IfSome, IfNone, IfErr, is_err, Result, Ok, Err}
 use Rattle.std.proofs.lemmas.Bool.{cases_Bool}
-use Rattle.words.specs.Words.{count_of, IsRowInRange, IsJoinedInRange}
+use Rattle.words.specs.Words.{count_of, IsJoinedInRange}
 use Rattle.words.specs.declared.Offer.{Offer}
 use Rattle.words.specs.declared.Row.{Row}
 use Rattle.words.specs.declared.Joined.{Joined}
@@ -24,7 +24,6 @@ use Rattle.cell.specs.Sight.{SawCommitted, see_cell}
 use Rattle.cell.specs.Told.{Agrees}
 use Rattle.cell.specs.Views.{IsClaimer}
 use Rattle.cell.proofs.Offers.{have_more}
-use Rattle.cell.proofs.Truths.{meeting_own, meeting_other}
 
 pub from_some : {A : Type 0} (x : Option A) (P : A → Type 0) (a : A) → IfSome x P → x ≡ Some a → P a
 from_some None P a h e = let bad : None ≡ Some a = e in cc

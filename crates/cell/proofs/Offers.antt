@@ -1,18 +1,17 @@
 -- Offers, word by word: how the words of one offer are read, and what they agree with.
-use Rattle.std.proofs.Common.{◌≡◌, ◌≢◌, ℕ, ◌+◌, ◌*◌, ◌-◌, ◌%◌, ◌<◌, ◌≤◌, Bool, true, false, List, [], ◌∷◌, sym, refl, ap, ◌∙◌, subst, inl, inr, ⊎_elim, ◌⊎◌, arith, unwrap_or, Option, Some, None, is_some, eqb, cond, IfSome, IfNone, option_and_then}
-use Rattle.std.proofs.lemmas.Bool.{eq-eqb, ne_eqb, true≢false}
+use Rattle.std.proofs.Common.{◌≡◌, ℕ, ◌+◌, ◌*◌, ◌-◌, ◌%◌, ◌<◌, ◌≤◌, Bool, true, List, sym, refl, ap, ◌∙◌, subst, inl, inr, ◌⊎◌, arith, unwrap_or, Option, Some, None, is_some, eqb, cond, IfSome, IfNone, option_and_then}
+use Rattle.std.proofs.lemmas.Bool.{ne_eqb, true≢false}
 use Rattle.std.proofs.Math.Nat.{add-mul-mod_self_left}
 use Rattle.words.specs.Words.{count_of, head_of, atom_of, offer_of, base_of, is_word_for}
 use Rattle.words.specs.declared.Atom.{Atom}
 use Rattle.words.specs.declared.Head.{Head}
 use Rattle.words.specs.declared.Offer.{Offer}
 use Rattle.words.specs.declared.Row.{Row}
-use Rattle.words.specs.declared.Joined.{Joined}
 use Rattle.words.specs.declared.Cell.{Cell}
 use Rattle.words.specs.declared.Cell.TheVariants.{Fresh, Waiting, Claimed, Synched, Taken}
 use Rattle.cell.specs.declared.view.Seen.{Seen}
 use Rattle.cell.specs.declared.view.View.{View}
-use Rattle.cell.specs.Sight.{Has, HaveOffer, LackOffer, SeesOffer, Coherent, see_cell}
+use Rattle.cell.specs.Sight.{Has, HaveOffer, SeesOffer, Coherent, see_cell}
 use Rattle.cell.specs.Views.{saw, read_word}
 
 -- a place that is no cell and no count is a head or an atom, by what is left over 4

@@ -12,10 +12,12 @@ use Rattle.cell.specs.declared.view.Stage.TheVariants.{Resting, Claims, Joins}
 use Rattle.protocol.specs.Tables.{Table, is_row, row_eq, cell_at, is_fresh, joined_of, joined_at, names, word_at}
 use Rattle.protocol.specs.Worlds.{World, holder_at, with_word, with_cell, with_table}
 use Rattle.protocol.specs.Kept.{Kept}
-use Rattle.protocol.proofs.RowLemmas.{row_cases, row_ne, put, put_same, put_other}
+use Rattle.protocol.proofs.Keeping.{held_row}
+use Rattle.protocol.proofs.RowLemmas.{row_cases, row_eq-false, row_ne, put, put_same, put_other}
+use Rattle.cell.proofs.Redrafting.{left}
 use Rattle.protocol.proofs.Places.{word_other, is_row_after}
 use Rattle.protocol.proofs.Readings.{cell_after_cell, cell_after_word, row_of_open}
-use Rattle.cell.specs.Sight.{Has, without}
+use Rattle.cell.specs.Sight.{Has, IsCounted, without}
 use Rattle.cell.specs.Sight.{is_taken}
 use Rattle.cell.specs.Views.{first_row, IsClaimer, Staged, Knows, at_stage, turned, saw, read_word, drafted_word}
 
@@ -60,6 +62,10 @@ module _ (w : World) (x : Row) (c : Cell) (owner : Row → ℕ) (k : Kept w)
   stays_word : (r : Row) (p : ℕ) → is_row w.table r ≡ true → 1 ≤ p → p < 34 → word_at (with_cell w.table x c) r p ≡ word_at w.table r p
   unfolding with_cell
   stays_word r p h a b = word_other w.table x r 0 p (cell_word c) row h (omega arith) b (inr (λ (z : p ≡ 0). absurd (omega arith)))
+
+  -- the number of offers of a row that someone holds
+  stays_count : (r : Row) (seat : ℕ) → holder_at w r ≡ Some seat → word_at w.table r 1 ≡ 0 → word_at (with_cell w.table x c) r 1 ≡ 0
+  stays_count r seat h z = stays_word r 1 (held_row w r seat h) (omega arith) (omega arith) ∙ z
 
   -- the world after it has the size and the holders of the world before
   pub size_kept : ((with_cell w.table x c).threads ≡ w.table.threads) × ((with_cell w.table x c).rows ≡ w.table.rows)
@@ -114,6 +120,7 @@ module _ (w : World) (x : Row) (c : Cell) (owner : Row → ℕ) (k : Kept w)
                 cc)
                 (λ (y : row_eq (first_row t) x ≡ false). same_cell (first_row t) y ∙ u.2 n)
                 (row_cases (first_row t) x),
+            λ n. stays_count (first_row t) _ u.1 (u.3 n),
           );
       mine = λ r h. let m = knows.mine r h in (m.0, holder_kept w (with_cell w.table x c) r size_kept.0 size_kept.1 ∙ m.1);
       calm = λ r h e. knows.calm r h (⊎_elim
@@ -157,7 +164,7 @@ module _ (w : World) (x : Row) (c : Cell) (owner : Row → ℕ) (k : Kept w)
     seat = knows.seat;
     undealt = λ t h d.
         let u = knows.undealt t (subst (λ (n : ℕ). t < n) size_kept.0 h) d in
-        (u.0, holder_kept w (with_cell w.table x c) (first_row t) size_kept.0 size_kept.1 ∙ u.1, λ n. same_cell (first_row t) (row_ne (first_row t) x (λ e. n (inl (sym e)))) ∙ u.2 (λ o. n (inr o)));
+        (u.0, holder_kept w (with_cell w.table x c) (first_row t) size_kept.0 size_kept.1 ∙ u.1, λ n. same_cell (first_row t) (row_ne (first_row t) x (λ e. n (inl (sym e)))) ∙ u.2 (λ o. n (inr o)), λ n. stays_count (first_row t) _ u.1 (u.3 n));
     mine = λ r h. let m = knows.mine r h in (m.0, holder_kept w (with_cell w.table x c) r size_kept.0 size_kept.1 ∙ m.1);
     calm = calm;
     staged = staged;
@@ -184,7 +191,7 @@ know_more w owner id v r js ts k f js_true ts_true = record {
   rows = k.rows;
   passes = k.passes;
   seat = k.seat;
-  undealt = λ t h d. let u = k.undealt t h d in (u.0, u.1, λ n. u.2 (λ o. n (inr o)));
+  undealt = λ t h d. let u = k.undealt t h d in (u.0, u.1, (λ n. u.2 (λ o. n (inr o))), u.3);
   mine = k.mine;
   calm = k.calm;
   staged = k.staged;
@@ -263,14 +270,15 @@ module _ (w : World) (x : Row) (p d : ℕ) (owner : Row → ℕ) (k : Kept w)
   read_kept r q y h = (ap is_fresh (cells_stay r) ∙ h.0, h.1, h.2, words_stay r q (row_of_open w.table r h.0) h.1 (inl (open_not_x r h.0)) ∙ h.3)
 
   after_draft : (id : ℕ) (v : View) (ds : List (Row × ℕ × ℕ)) → Knows w owner id v
+      → ((t : ℕ) (r : Row) → owner r ≡ id → is_row w.table r ≡ true → (¬ IsCounted v.seen r → word_at w.table r 1 ≡ 0) → ¬ ((count : ℕ) × Has ds (r, 1, count)) → word_at (with_word w.table x p d) r 1 ≡ 0)
       → ((r : Row) (q y : ℕ) → Has ds (r, q, y) → (owner r ≡ id) × (q < 34) × (1 ≤ q) × (is_row (with_word w.table x p d) r ≡ true) × (word_at (with_word w.table x p d) r q ≡ y))
       → Knows (with_table w (with_word w.table x p d)) owner id (at_stage v.stage (record { held = v.seen.held; drafts = ds; opened = v.seen.opened; words = v.seen.words; joined = v.seen.joined; taken = v.seen.taken }) v)
-  after_draft id v ds knows drafted = record {
+  after_draft id v ds knows counts drafted = record {
     threads = knows.threads;
     rows = knows.rows;
     passes = knows.passes;
     seat = knows.seat;
-    undealt = λ t h e. let u = knows.undealt t h e in (u.0, holder_kept w (with_word w.table x p d) (first_row t) refl refl ∙ u.1, λ n. cells_stay (first_row t) ∙ u.2 n);
+    undealt = λ t h e. let u = knows.undealt t h e in (u.0, holder_kept w (with_word w.table x p d) (first_row t) refl refl ∙ u.1, (λ n. cells_stay (first_row t) ∙ u.2 n), λ n. counts t (first_row t) u.0 (held_row w (first_row t) _ u.1) u.3 n);
     mine = λ r h. let m = knows.mine r h in (m.0, holder_kept w (with_word w.table x p d) r refl refl ∙ m.1);
     calm = λ r h e. knows.calm r h (sym (cells_stay r) ∙ e);
     staged = staged_draft id v.stage knows.staged;
@@ -283,7 +291,9 @@ module _ (w : World) (x : Row) (p d : ℕ) (owner : Row → ℕ) (k : Kept w)
   }
 
   pub others_draft : (id : ℕ) (v : View) → Knows w owner id v → (owner x ≡ id → ⊥) → Knows (with_table w (with_word w.table x p d)) owner id v
-  others_draft id v knows other = after_draft id v v.seen.drafts knows (λ r q y h.
+  others_draft id v knows other = after_draft id v v.seen.drafts knows
+      (λ t r o i was n. words_stay r 1 i (omega arith) (inl (row_ne r x (λ e. other (ap owner (sym e) ∙ o)))) ∙ was n)
+      (λ r q y h.
       let k = knows.drafted r q y h in
       (k.0, k.1, k.2, is_row_after w.table x r p d ∙ k.3, words_stay r q k.3 k.1 (inl (row_ne r x (λ e. other (ap owner (sym e) ∙ k.0)))) ∙ k.4))
 
@@ -308,8 +318,18 @@ module _ (w : World) (x : Row) (p d : ℕ) (owner : Row → ℕ) (k : Kept w)
   kept_drafts (e ∷ ds) r q y h = kept_entry e ds (without x p ds) r q y (row_eq e.0 x) (eqb e.1 p) refl refl (λ i. kept_drafts ds r q y i) h
 
   pub own_draft : (id : ℕ) (v : View) → Knows w owner id v → owner x ≡ id → Knows (with_table w (with_word w.table x p d)) owner id (drafted_word x p d v)
-  own_draft id v knows mine = after_draft id v ((x, p, d) ∷ without x p v.seen.drafts) knows (λ r q y h. drafted_now r q y h)
+  own_draft id v knows mine = after_draft id v ((x, p, d) ∷ without x p v.seen.drafts) knows (λ t r o i was n. counts_now r i was n) (λ r q y h. drafted_now r q y h)
     where
+      elsewhere : (r : Row) → is_row w.table r ≡ true → (¬ IsCounted v.seen r → word_at w.table r 1 ≡ 0) → ¬ ((count : ℕ) × Has ((x, p, d) ∷ without x p v.seen.drafts) (r, 1, count))
+          → (row_eq r x ≡ false) ⊎ (1 ≡ p → ⊥) → ¬ ((r ≡ x) × (1 ≡ p)) → word_at (with_word w.table x p d) r 1 ≡ 0
+      elsewhere r i was n apart not_it = words_stay r 1 i (omega arith) apart ∙ was (λ l. n (l.0, inr (left x p v.seen.drafts r 1 l.0 not_it l.1)))
+
+      counts_now : (r : Row) → is_row w.table r ≡ true → (¬ IsCounted v.seen r → word_at w.table r 1 ≡ 0) → ¬ ((count : ℕ) × Has ((x, p, d) ∷ without x p v.seen.drafts) (r, 1, count)) → word_at (with_word w.table x p d) r 1 ≡ 0
+      counts_now r i was n = ⊎_elim
+          (λ (e : r ≡ x). elsewhere r i was n (inr (λ (f : 1 ≡ p). n (d, inl (λ k. (sym e k, sym f k, d))))) (λ h. n (d, inl (λ k. (sym h.0 k, sym h.1 k, d)))))
+          (λ (e : row_eq r x ≡ false). elsewhere r i was n (inl e) (λ h. row_eq-false r x e h.0))
+          (row_cases r x)
+
       drafted_now : (r : Row) (q y : ℕ) → Has ((x, p, d) ∷ without x p v.seen.drafts) (r, q, y) → (owner r ≡ id) × (q < 34) × (1 ≤ q) × (is_row (with_word w.table x p d) r ≡ true) × (word_at (with_word w.table x p d) r q ≡ y)
       drafted_now r q y (inl e) =
           subst (λ (z : Row × ℕ × ℕ). (owner z.0 ≡ id) × (z.1 < 34) × (1 ≤ z.1) × (is_row (with_word w.table x p d) z.0 ≡ true) × (word_at (with_word w.table x p d) z.0 z.1 ≡ z.2)) e

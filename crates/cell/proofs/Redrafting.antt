@@ -1,5 +1,5 @@
 -- Drafting words of one row leaves what was drafted elsewhere.
-use Rattle.std.proofs.Common.{◌≡◌, ◌≢◌, ℕ, ◌+◌, ◌*◌, ◌<◌, ◌≤◌, Bool, true, false, cond, eqb, ◌&&◌, List, [], ◌∷◌, sym, refl, ap, ◌∙◌, subst, inl, inr, ◌⊎◌, ⊎_elim, arith, length, slice_get, unwrap_or, Some, None, is_some, leb}
+use Rattle.std.proofs.Common.{◌≡◌, ℕ, ◌+◌, ◌*◌, ◌<◌, ◌≤◌, Bool, true, false, cond, eqb, ◌&&◌, List, [], ◌∷◌, sym, refl, ap, ◌∙◌, subst, inl, inr, ⊎_elim, arith, length, slice_get, unwrap_or, Some, None, is_some, leb}
 use Rattle.std.proofs.lemmas.Bool.{eqb-true, and_parts, le-leb, true≢false}
 use Rattle.std.proofs.lemmas.Option.{slice_get_within}
 use Rattle.std.proofs.Math.Nat.{eq-or-lt_of_le}
@@ -22,7 +22,7 @@ left_one r p d ds q o x true e else_where rest (inr h) = rest h
 left_one r p d ds q o x false e else_where rest (inl f) = inl f
 left_one r p d ds q o x false e else_where rest (inr h) = inr (rest h)
 
-left : (r : Row) (p : ℕ) (ds : List (Row × ℕ × ℕ)) (q : Row) (o x : ℕ) → ¬ ((q ≡ r) × (o ≡ p)) → Has ds (q, o, x) → Has (without r p ds) (q, o, x)
+pub left : (r : Row) (p : ℕ) (ds : List (Row × ℕ × ℕ)) (q : Row) (o x : ℕ) → ¬ ((q ≡ r) × (o ≡ p)) → Has ds (q, o, x) → Has (without r p ds) (q, o, x)
 left r p [] q o x else_where h = absurd h
 left r p (d ∷ ds) q o x else_where h = left_one r p d ds q o x (row_eq d.0 r && eqb d.1 p) refl else_where (λ i. left r p ds q o x else_where i) h
 

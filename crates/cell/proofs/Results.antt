@@ -1,10 +1,9 @@
 -- A committed row gets one message, and goes on getting it.
-use Rattle.std.proofs.Common.{◌≡◌, ◌≢◌, ℕ, ◌+◌, ◌*◌, ◌<◌, true, List, sym, refl, ap, ◌∙◌, subst, inl, inr, ◌⊎◌, Option, Some, None}
+use Rattle.std.proofs.Common.{◌≡◌, ℕ, ◌+◌, ◌*◌, List, sym, ap, ◌∙◌, subst, inl, inr, Some}
 use Rattle.words.specs.Words.{offer_of, message_in}
 use Rattle.words.specs.declared.Base.{Base}
 use Rattle.words.specs.declared.Base.TheVariants.{Send, Recv, Always, OnNack, Never}
 use Rattle.words.specs.declared.Message.{Message}
-use Rattle.words.specs.declared.Message.TheVariants.{Empty}
 use Rattle.words.specs.declared.Offer.{Offer}
 use Rattle.words.specs.declared.Row.{Row}
 use Rattle.words.specs.declared.Joined.{Joined}

@@ -1,6 +1,6 @@
 -- What a pass has seen is true of the world, and so agrees with itself and with what it finds.
 use Rattle.std.proofs.Common.{◌≡◌, ◌≢◌, ℕ, ◌+◌, ◌*◌, ◌-◌, ◌<◌, ◌≤◌, Bool, true, false, List, sym, refl, ap, ◌∙◌, subst, inl, inr, ◌⊎◌, ⊎_elim, arith, unwrap_or, Option, Some, None, is_some, eqb, cond, max, length, slice_get}
-use Rattle.std.proofs.lemmas.Bool.{cases_Bool, lt-ltb, ne_eqb, true≢false}
+use Rattle.std.proofs.lemmas.Bool.{lt-ltb, ne_eqb, true≢false}
 use Rattle.words.specs.Words.{cell_of, count_of, offer_of, is_word_for, IsJoinedInRange, IsCellInRange}
 use Rattle.words.proofs.WordLemmas.{cell_word-cell_of}
 use Rattle.words.specs.declared.Offer.{Offer}
@@ -8,15 +8,13 @@ use Rattle.words.specs.declared.Row.{Row}
 use Rattle.words.specs.declared.Joined.{Joined}
 use Rattle.words.specs.declared.Cell.{Cell}
 use Rattle.words.specs.declared.Cell.TheVariants.{Fresh, Waiting, Claimed, Synched, Taken}
-use Rattle.protocol.specs.Tables.{Table, is_row, is_fresh, cell_at, joined_at, joined_of, names, offers_meet, offer_at, count_at, stamp_of, last_stamp, word_at}
+use Rattle.protocol.specs.Tables.{Table, is_fresh, cell_at, joined_at, joined_of, offers_meet, offer_at, count_at, stamp_of, last_stamp, word_at}
 use Rattle.protocol.specs.Worlds.{World, joined_with}
 use Rattle.protocol.specs.Kept.{Kept, IsSideOf}
-use Rattle.protocol.proofs.Places.{row_inside}
-use Rattle.protocol.proofs.Readings.{cell_inside, cell_outside, count_open, row_of_open, offer_none}
+use Rattle.protocol.proofs.Readings.{cell_inside, count_open, row_of_open, offer_none}
 use Rattle.protocol.proofs.Linking.{fresh_not_joined, some_inj, cases_Option, IsNaming, naming, partner_open}
 use Rattle.protocol.proofs.Keeping.{few_commits}
 use Rattle.cell.specs.declared.view.View.{View}
-use Rattle.cell.specs.declared.view.Stage.{Stage}
 use Rattle.cell.specs.Sight.{Has, HaveOffer, HasSeenLast, CanJoin, IsDraft, SawChosen, SeesNoOffer, SeesOffer, Coherent}
 use Rattle.cell.specs.Sight.{is_taken}
 use Rattle.cell.specs.Views.{Knows}

@@ -1,5 +1,5 @@
 -- The rule of the shared table.
-use Rattle.std.specs.Prelude.{◌≡◌, ℕ, zero, suc, ◌+◌, ◌%◌, ◌≤◌, ◌==◌, ◌<◌, ◌||◌, Bool, true, false, if◌then◌else◌, List, [], ◌∷◌, ◌++◌}
+use Rattle.std.specs.Prelude.{◌≡◌, ℕ, zero, suc, ◌+◌, ◌%◌, ◌≤◌, ◌==◌, ◌<◌, ◌||◌, Bool, false, if◌then◌else◌, List, [], ◌∷◌, ◌++◌}
 use mathlib.Core.Option.{some}
 use lib.ListN.{get_elem?}
 use Rattle.atomic_table.specs.Table.{State}
@@ -31,9 +31,14 @@ pub record Keeps {S : Type 0} (shape : Shape) (s : State S View) : Type 0 where
 abbrev pub IsAt : {S : Type 0} → State S View → ℕ → View → Type 0
 IsAt s id v = (get_elem? s.views id ≡ some v) × (0 < v.threads)
 
+-- the number of a Fresh row's offers is 0 until one is drafted
+abbrev pub no_offers : List Row → List (Row × ℕ × ℕ)
+no_offers [] = []
+no_offers (r ∷ rs) = (r, 1, 0) ∷ no_offers rs
+
 -- a pass that holds these rows and has seen nothing
 abbrev pub seen_nothing : List Row → Seen
-seen_nothing rows = record { held = rows; drafts = []; opened = []; words = []; joined = []; taken = [] }
+seen_nothing rows = record { held = rows; drafts = no_offers rows; opened = []; words = []; joined = []; taken = [] }
 
 -- the first pass: it has dealt the seats below this one, and holds nothing itself
 abbrev pub dealer : Shape → ℕ → View

@@ -1,5 +1,5 @@
 -- What a pass has seen: how it grows, and what it says of offers and of rows that can meet.
-use Rattle.std.specs.Prelude.{◌≡◌, ◌≢◌, ◌⊎◌, ℕ, ◌+◌, ◌-◌, ◌*◌, ◌<◌, ◌≤◌, max, unwrap_or, Bool, true, false, is_some, Option, Some, List, [], ◌∷◌, ◌==◌, ◌&&◌, if◌then◌else◌, length, slice_get}
+use Rattle.std.specs.Prelude.{◌≡◌, ◌≢◌, ◌⊎◌, ℕ, ◌+◌, ◌-◌, ◌*◌, ◌<◌, ◌≤◌, max, unwrap_or, Bool, true, false, is_some, Some, List, [], ◌∷◌, ◌==◌, ◌&&◌, if◌then◌else◌, length, slice_get}
 use Rattle.words.specs.Words.{count_of, offer_of, is_word_for, IsJoinedInRange, IsOfferInRange}
 use Rattle.words.specs.declared.Base.{Base}
 use Rattle.words.specs.declared.Base.TheVariants.{Send, Recv, Always, OnNack, Never}
@@ -95,6 +95,10 @@ SeesOffer s r n offer = HaveOffer s.words r n offer ⊎ (Has s.opened r × HaveO
 -- the number of the row's offers was read, or drafted before the row was opened, and n is not below it
 abbrev pub SeesNoOffer : Seen → Row → ℕ → Type 0
 SeesNoOffer s r n = LackOffer s.words r n ⊎ (Has s.opened r × LackOffer s.drafts r n)
+
+-- a number of offers is drafted for the row
+abbrev pub IsCounted : Seen → Row → Type 0
+IsCounted s r = (count : ℕ) × Has s.drafts (r, 1, count)
 
 -- the offers of the list are drafted for the row, and no more
 abbrev pub IsDraft : Seen → Row → List Offer → Type 0

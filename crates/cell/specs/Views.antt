@@ -1,16 +1,16 @@
 -- What the rule knows of a pass, and when it is true of the table.
-use Rattle.std.specs.Prelude.{◌≡◌, ◌⊎◌, ℕ, ◌%◌, ◌<◌, ◌≤◌, true, false, Some}
+use Rattle.std.specs.Prelude.{◌≡◌, ℕ, ◌%◌, ◌<◌, ◌≤◌, true, false, Some}
 use Rattle.words.specs.declared.Row.{Row}
 use Rattle.words.specs.declared.Joined.{Joined}
 use Rattle.words.specs.declared.Cell.{Cell}
-use Rattle.words.specs.declared.Cell.TheVariants.{Fresh, Waiting, Claimed, Synched, Taken}
+use Rattle.words.specs.declared.Cell.TheVariants.{Fresh, Claimed}
 use Rattle.cell.specs.declared.view.Seen.{Seen}
 use Rattle.cell.specs.declared.view.View.{View}
 use Rattle.cell.specs.declared.view.Stage.{Stage}
 use Rattle.cell.specs.declared.view.Stage.TheVariants.{Resting, Claims, Joins}
 use Rattle.protocol.specs.Tables.{is_row, is_fresh, names, word_at, cell_at, joined_at}
 use Rattle.protocol.specs.Worlds.{World, holder_at}
-use Rattle.cell.specs.Sight.{Has, is_taken, see_opened, see_cell, see_word, see_draft}
+use Rattle.cell.specs.Sight.{Has, IsCounted, is_taken, see_opened, see_cell, see_word, see_draft}
 
 -- a thread's first row
 abbrev pub first_row : ℕ → Row
@@ -37,6 +37,7 @@ pub record Knows (w : World) (owner : Row → ℕ) (id : ℕ) (v : View) : Type 
   -- the first rows of the seats that are not dealt yet are this pass's to deal
   pub undealt : (t : ℕ) → t < w.table.threads → v.dealt ≤ t % w.seats
       → (owner (first_row t) ≡ id) × (holder_at w (first_row t) ≡ Some (t % w.seats)) × (¬ Has v.seen.opened (first_row t) → cell_at w.table (first_row t) ≡ Fresh)
+      × (¬ IsCounted v.seen (first_row t) → word_at w.table (first_row t) 1 ≡ 0)
   pub mine : (r : Row) → Has v.seen.held r → (owner r ≡ id) × (holder_at w r ≡ Some v.seat)
   pub calm : (r : Row) → Has v.seen.held r → cell_at w.table r ≡ Claimed → IsClaimer v.stage r
   pub staged : Staged w owner id v.stage

@@ -160,7 +160,7 @@ zeros n i = ⊎_elim
     (λ (h : n ≤ i). let l = length-replicate {A = ℕ} n 0 in get_or_past {X = ℕ} (replicate n 0) i 0 (omega arith))
     (cases_lt i n)
 
-start_word : (threads rows : ℕ) (r : Row) (p : ℕ) → word_at (start_table threads rows) r p ≡ 0
+pub start_word : (threads rows : ℕ) (r : Row) (p : ℕ) → word_at (start_table threads rows) r p ≡ 0
 unfolding word_at
 start_word threads rows r p = zeros (threads * thread_len rows) (place_of rows r p)
 

@@ -1,4 +1,4 @@
-use Rattle.std.proofs.Common.{rules, ◌≡◌, ◌∙◌, sym}
+use Rattle.std.proofs.Common.{rules}
 use Rattle.std.specs.Slots.{slots_items, slots_len}
 use Rattle.cell.proofs.Endings.{copied_more, copied_all}
 use Rattle.cell.proofs.closing.copy_words.Goals as goal

@@ -1,7 +1,4 @@
-use Rattle.std.proofs.Common.{rules, ◌≡◌, ◌<◌, ◌≤◌, List, length, None, Some, slice_get, sym, subst, ap, ◌∙◌, arith}
-use Rattle.words.specs.declared.Joined.{Joined}
-use Rattle.words.specs.declared.Offer.{Offer}
-use Rattle.words.specs.declared.Row.{Row}
+use Rattle.std.proofs.Common.{rules, ◌≡◌, ◌<◌, length, None, Some, slice_get, sym, subst, ap, arith}
 use Rattle.protocol.specs.Ledgers.{IsLawful, Ledger, ledger_of, joined_in, offer_in}
 use Rattle.cell.proofs.Endings.{ended, final_lawful, final_joined, final_lack, final_offer, final_own}
 use Rattle.cell.proofs.board.Board.close.Goals as goal
@@ -39,7 +36,7 @@ returns-clause-offers c r n o sees =
     let some = c.args.self.small.0 in
     subst (λ (l : Ledger). offer_in l r n ≡ Some o) (sym c.of_words.ensures)
     (final_offer c.args.self.shape c.args.seat.id c.args.seat.me.0 (omega arith) c.copy_words-words.result.items _
-        (ended _ _ _ _ _ _ _ c.args.self.keyed c.copy_words-words.ensures c.close_with-closed.ensures.values.2) r n o sees)
+    (ended _ _ _ _ _ _ _ c.args.self.keyed c.copy_words-words.ensures c.close_with-closed.ensures.values.2) r n o sees)
 
 pub returns-clause-lacks : goal.returns-clause-lacks
 returns-clause-lacks c r n sees =
@@ -47,7 +44,7 @@ returns-clause-lacks c r n sees =
     let some = c.args.self.small.0 in
     subst (λ (l : Ledger). offer_in l r n ≡ None) (sym c.of_words.ensures)
     (final_lack c.args.self.shape c.args.seat.id c.args.seat.me.0 (omega arith) c.copy_words-words.result.items _
-        (ended _ _ _ _ _ _ _ c.args.self.keyed c.copy_words-words.ensures c.close_with-closed.ensures.values.2) r n sees)
+    (ended _ _ _ _ _ _ _ c.args.self.keyed c.copy_words-words.ensures c.close_with-closed.ensures.values.2) r n sees)
 
 pub returns-clause-lawful : goal.returns-clause-lawful
 returns-clause-lawful c =
@@ -55,4 +52,4 @@ returns-clause-lawful c =
     let some = c.args.self.small.0 in
     subst IsLawful (sym c.of_words.ensures)
     (final_lawful c.args.self.shape c.args.seat.id c.args.seat.me.0 (omega arith) c.copy_words-words.result.items _
-        (ended _ _ _ _ _ _ _ c.args.self.keyed c.copy_words-words.ensures c.close_with-closed.ensures.values.2))
+    (ended _ _ _ _ _ _ _ c.args.self.keyed c.copy_words-words.ensures c.close_with-closed.ensures.values.2))

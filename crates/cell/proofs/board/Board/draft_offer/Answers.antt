@@ -1,4 +1,4 @@
-use Rattle.std.proofs.Common.{◌≡◌, ◌+◌, ◌*◌, ◌<◌, ◌≤◌, sym, ap, ◌∙◌, subst, arith}
+use Rattle.std.proofs.Common.{◌≡◌, ◌+◌, ◌*◌, sym, ap, ◌∙◌, subst, arith}
 use Rattle.cell.specs.declared.view.View.{View}
 use Rattle.cell.specs.Sight.{IsPlaceOf, Redrafts}
 use Rattle.cell.specs.Views.{drafted_word}

@@ -1,7 +1,6 @@
-use Rattle.std.proofs.Common.{rules, true, ◌≡◌, ◌<◌, ◌≤◌, ℕ, Some, length, slice_get, sym, subst, arith}
+use Rattle.std.proofs.Common.{rules, true, ◌≡◌, ◌<◌, ℕ, length, sym, subst, arith}
 use Rattle.std.proofs.lemmas.Option.{slice_get-get_or}
 use Rattle.words.specs.Words.{is_word_for}
-use Rattle.words.specs.declared.Offer.{Offer}
 use Rattle.cell.specs.declared.view.View.{View}
 use Rattle.cell.specs.Views.{drafted_word}
 use Rattle.cell.proofs.Redrafting.{IsDraftedTo, count_place, drafted_none, drafted_more, drafted_all}

@@ -1,6 +1,4 @@
-use Rattle.std.proofs.Common.{rules, ◌≡◌, ◌⊎◌, ◌<◌, ◌≤◌, ◌+◌, ℕ, true, false, Some, Option, sym, ap, ◌∙◌, subst, max, refl}
-use Rattle.words.specs.declared.Offer.{Offer}
-use Rattle.words.specs.declared.Joined.{Joined}
+use Rattle.std.proofs.Common.{rules, ◌≡◌, ◌+◌, ℕ, true, false, Some, sym, ◌∙◌, subst, max}
 use Rattle.words.specs.Words.{IsJoinedInRange}
 use Rattle.protocol.specs.Tables.{offers_meet}
 use Rattle.cell.specs.Sight.{Has, HaveOffer, CanJoin}

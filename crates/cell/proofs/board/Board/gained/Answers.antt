@@ -1,10 +1,6 @@
-use Rattle.std.proofs.Common.{rules, ℕ, ◌≡◌, ◌≢◌, None, Some, inl, refl}
-use Rattle.words.specs.declared.Base.TheVariants.{Recv}
-use Rattle.words.specs.declared.Base.{Base}
+use Rattle.std.proofs.Common.{rules, ◌≡◌, None, Some, inl, refl}
 use Rattle.words.specs.declared.Offer.{Offer}
-use Rattle.words.specs.declared.Row.{Row}
-use Rattle.words.specs.declared.Message.{Message}
-use Rattle.cell.specs.Sight.{Has, HaveOffer, SeesOffer, LackOffer, IsKnownOpen, Gets}
+use Rattle.cell.specs.Sight.{Has, HaveOffer, LackOffer, IsKnownOpen}
 use Rattle.cell.proofs.Meeting.{from_none, from_some, chosen_not_lacking}
 use Rattle.cell.proofs.Results.{gets_received}
 use Rattle.cell.proofs.Offers.{have_more}

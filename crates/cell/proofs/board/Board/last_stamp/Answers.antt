@@ -1,4 +1,4 @@
-use Rattle.std.proofs.Common.{sym, subst, refl, inl, ◌-◌, ◌≡◌}
+use Rattle.std.proofs.Common.{sym, subst, refl, inl, ◌-◌}
 use Rattle.words.specs.declared.Row.{Row}
 use Rattle.cell.specs.declared.view.View.{View}
 use Rattle.cell.specs.Sight.{Has}

@@ -1,17 +1,13 @@
-use Rattle.std.proofs.Common.{rules, ◌≡◌, ◌≢◌, ◌⊎◌, ◌<◌, ℕ, true, false, sym, subst, ap, ◌∙◌, inl, inr, IfErr, is_err, Result}
-use Rattle.words.specs.declared.Row.{Row}
+use Rattle.std.proofs.Common.{rules, ◌≡◌, ◌≢◌, ◌⊎◌, sym, subst, ap, ◌∙◌, inl, inr}
 use Rattle.words.specs.declared.Cell.{Cell}
 use Rattle.words.specs.declared.Cell.TheVariants.{Fresh, Waiting, Claimed, Synched, Taken}
 use Rattle.words.specs.declared.Joined.{Joined}
-use Rattle.protocol.specs.Tables.{is_fresh}
 use Rattle.cell.specs.declared.view.View.{View}
-use Rattle.cell.specs.declared.view.Stage.{Stage}
 use Rattle.cell.specs.declared.view.Stage.TheVariants.{Resting, Claims}
-use Rattle.cell.specs.declared.attempt.Attempt.TheVariants.{Mine, Gone, Unfit}
-use Rattle.cell.specs.Attempts.{Attempted, IsNear}
-use Rattle.cell.specs.Sight.{Has, CanJoin, Learns, SawCommitted, see_cell}
+use Rattle.cell.specs.Attempts.{IsNear}
+use Rattle.cell.specs.Sight.{CanJoin, Learns, SawCommitted}
 use Rattle.cell.specs.Told.{Agrees}
-use Rattle.cell.specs.Views.{IsClaimer, saw, turned}
+use Rattle.cell.specs.Views.{saw, turned}
 use Rattle.cell.proofs.Meeting.{can_join_opened, claim_found, join_found, err_case, learns_yield}
 use Rattle.cell.proofs.board.Board.meet.Goals as goal
 

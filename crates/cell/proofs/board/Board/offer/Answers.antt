@@ -1,9 +1,6 @@
-use Rattle.std.proofs.Common.{rules, ◌≡◌, ◌≢◌, ◌+◌, ◌<◌, ◌≤◌, ◌*◌, ◌⊎◌, None, Some, ℕ, sym, ap, ◌∙◌, subst, arith, unwrap_or, Option, is_some, true, false, inl, inr}
-use Rattle.words.specs.Words.{count_of, offer_of}
-use Rattle.words.specs.declared.Offer.{Offer}
-use Rattle.words.specs.declared.Row.{Row}
-use Rattle.cell.specs.declared.view.View.{View}
-use Rattle.cell.specs.Sight.{Has, HaveOffer, LackOffer, SeesOffer, see_cell}
+use Rattle.std.proofs.Common.{rules, ◌≡◌, ◌<◌, None, Some, ℕ, sym, ap, ◌∙◌, subst, arith, unwrap_or, Option, is_some, true, false}
+use Rattle.words.specs.Words.{count_of}
+use Rattle.cell.specs.Sight.{Has}
 use Rattle.cell.proofs.Offers.{ReadFive, read_five, five_offer, five_formed, seen_below, seen_same, if_some, if_none}
 use Rattle.cell.proofs.board.Board.offer.Goals as goal
 use Rattle.cell.proofs.board.Board.offer.Goals.{After-unpack_offer}

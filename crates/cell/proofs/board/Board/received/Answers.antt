@@ -1,8 +1,4 @@
-use Rattle.std.proofs.Common.{rules, ℕ, ◌≡◌, ◌≢◌, None, Some, true, sym, ap, ◌∙◌, inr}
-use Rattle.words.specs.declared.Message.{Message}
-use Rattle.words.specs.declared.Base.TheVariants.{Recv, Send}
-use Rattle.words.specs.declared.Offer.{Offer}
-use Rattle.words.specs.declared.Row.{Row}
+use Rattle.std.proofs.Common.{rules, ◌≡◌, None, Some, inr}
 use Rattle.cell.specs.Sight.{Has, HaveOffer, LackOffer, IsKnownOpen}
 use Rattle.cell.proofs.Meeting.{from_none, from_some, recv_meets, chosen_not_lacking, partner_known_open}
 use Rattle.cell.proofs.Offers.{have_more}

@@ -1,5 +1,4 @@
-use Rattle.std.proofs.Common.{rules, ◌≡◌, Some, sym, ap, ◌∙◌, subst}
-use Rattle.words.specs.declared.Row.{Row}
+use Rattle.std.proofs.Common.{◌≡◌, Some, sym, ap, ◌∙◌, subst}
 use Rattle.cell.specs.declared.view.View.{View}
 use Rattle.cell.specs.Sight.{Learns}
 use Rattle.cell.proofs.Learning.{learns_look}

@@ -1,4 +1,4 @@
-use Rattle.std.proofs.Common.{rules, ◌≡◌, ◌<◌, ◌≤◌, ℕ, subst, sym, ap, ◌∙◌, arith}
+use Rattle.std.proofs.Common.{rules, ◌≡◌, ◌<◌, ℕ, subst, sym, ap, arith}
 use Rattle.atomic_table.specs.Table.{Splits, Joins}
 use Rattle.cell.specs.declared.view.Shape.{Shape}
 use Rattle.cell.specs.declared.view.View.{View}

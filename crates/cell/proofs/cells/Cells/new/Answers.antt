@@ -1,4 +1,4 @@
-use Rattle.std.proofs.Common.{rules, ◌≡◌, ◌+◌, ℕ, ◌++◌, ◌∷◌, [], length, slice_get, Some, sym, ap, ◌∙◌, subst, refl}
+use Rattle.std.proofs.Common.{rules, ◌≡◌, ℕ, ◌++◌, ◌∷◌, [], ap, ◌∙◌}
 use Rattle.cell.specs.declared.view.Shape.{Shape}
 use Rattle.cell.specs.Calls.{PassView}
 use Rattle.cell.specs.Rule.{dealer, dealt_pass, dealt_rows, seen_nothing}

@@ -1,6 +1,5 @@
 use Rattle.std.proofs.Common.{rules, ◌≡◌, sym, subst}
 use Rattle.cell.specs.declared.view.Seen.{Seen}
-use Rattle.cell.specs.Calls.{PassView}
 use Rattle.cell.specs.Sight.{SeesNoOffer, SeesOffer}
 use Rattle.cell.specs.Rule.{heard, told_of}
 use Rattle.cell.proofs.Hearing.{told_lack, told_offer}

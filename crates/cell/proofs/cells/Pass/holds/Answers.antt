@@ -1,4 +1,4 @@
-use Rattle.std.proofs.Common.{rules, ◌≡◌, ◌≤◌, ◌<◌, ◌%◌, ℕ, List, sym, ap, ◌∙◌, subst, IsTrue, nat_eq, arith}
+use Rattle.std.proofs.Common.{rules, ◌≡◌, ◌<◌, ◌%◌, ℕ, List, sym, ap, ◌∙◌, subst, arith}
 use Rattle.words.specs.declared.Row.{Row}
 use Rattle.cell.specs.Calls.{PassView}
 use Rattle.cell.specs.Sight.{Has}
