@@ -1,5 +1,5 @@
 -- What a pass that has taken part sees of its own offer, also after it was told something.
-use Rattle.std.proofs.Common.{◌≡◌, ℕ, ◌≤◌, ◌<◌, List, [], ◌∷◌, ◌++◌, subst, sym, refl, inl, inr, unwrap_or, arith}
+use Rattle.std.proofs.Common.{◌≡◌, ℕ, ◌≤◌, List, [], ◌∷◌, ◌++◌, subst, sym, refl, inl, inr, unwrap_or}
 use Rattle.words.specs.Words.{count_of}
 use Rattle.words.specs.declared.Offer.{Offer}
 use Rattle.words.specs.declared.Row.{Row}

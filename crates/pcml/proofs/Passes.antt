@@ -1,5 +1,5 @@
 -- The two passes of a table, taken from the end of their list.
-use Rattle.std.proofs.Common.{◌≡◌, ◌≤◌, ℕ, suc, List, [], ◌∷◌, ◌++◌, length, slice_get, Some, sym, refl, ap, ◌∙◌, subst, arith}
+use Rattle.std.proofs.Common.{◌≡◌, ◌≤◌, List, [], ◌∷◌, ◌++◌, length, slice_get, Some, sym, refl, ap, ◌∙◌, subst, arith}
 use Rattle.cell.specs.Calls.{PassView}
 
 pub popped : (xs ys zs : List PassView) (a b : PassView) → xs ≡ ys ++ b ∷ [] → ys ≡ zs ++ a ∷ [] → length xs ≡ 2 → (slice_get xs 0 ≡ Some a) × (slice_get xs 1 ≡ Some b)

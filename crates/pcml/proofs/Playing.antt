@@ -1,5 +1,5 @@
 -- Schedules that are played: where they lead, and where the first refused step is.
-use Rattle.std.proofs.Common.{◌≡◌, ℕ, ◌+◌, sym, ap, subst, ◌∙◌}
+use Rattle.std.proofs.Common.{ℕ, ◌+◌, sym, ap, subst, ◌∙◌}
 use Rattle.protocol.specs.Worlds.{Plays, IsRefused}
 use Rattle.protocol.proofs.Playing.{played_not_refused, one_refused}
 use Rattle.pcml.specs.Schedule.{Plan}

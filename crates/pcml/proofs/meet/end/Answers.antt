@@ -1,4 +1,4 @@
-use Rattle.std.proofs.Common.{rules, ◌≡◌, sym, ◌∙◌, subst}
+use Rattle.std.proofs.Common.{sym, ◌∙◌, subst}
 use Rattle.cell.specs.declared.view.Seen.{Seen}
 use Rattle.cell.specs.Rule.{heard, told_of}
 use Rattle.cell.specs.Sight.{SeesOffer, SeesNoOffer}

@@ -1,5 +1,5 @@
-use Rattle.std.proofs.Common.{rules, ◌≡◌, sym, ap, ◌∙◌}
-use Rattle.pcml.specs.Meet.{first_row, send_of, receive_offer, HasTakenPart, HasTwoOffers}
+use Rattle.std.proofs.Common.{ap, ◌∙◌}
+use Rattle.pcml.specs.Meet.{send_of}
 use Rattle.pcml.specs.NumberedText.{commits_text}
 use Rattle.pcml.proofs.MeetingLedger.{prints_meeting}
 use Rattle.pcml.proofs.meet.meet_text.Goals as goal

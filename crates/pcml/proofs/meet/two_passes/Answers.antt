@@ -1,5 +1,4 @@
-use Rattle.std.proofs.Common.{rules, ◌≡◌, ◌++◌, ◌∷◌, [], List, length, slice_get, Some, sym, ap, ◌∙◌}
-use Rattle.cell.specs.Calls.{PassView}
+use Rattle.std.proofs.Common.{rules}
 use Rattle.pcml.proofs.Passes.{popped}
 use Rattle.pcml.proofs.meet.two_passes.Goals as goal
 
