@@ -160,6 +160,7 @@ impl Cells {
         ensures some { IfSome result (λ o. Has pass.new.seen.opened row × HaveOffer pass.new.seen.words row n o) }
         ensures none { IfNone result (IsKnownOpen pass.old.seen row → LackOffer pass.new.seen.words row n) }
         ensures same { (o : Offer) → SeesOffer pass.old.seen row n o → result ≡ Some o }
+        ensures unopened { Has pass.old.seen.held row → ¬ Has pass.old.seen.opened row → (result ≡ None) × (pass.new.seen ≡ pass.old.seen) }
     {
         self.board.offer(&mut pass.seat, row, n)
     }
@@ -172,6 +173,7 @@ impl Cells {
         ensures some { IfSome result (IsResult pass.new.seen row) }
         ensures none { IfNone result (¬ SawCommitted pass.old.seen row) }
         ensures same { (got : Message) → IsResult pass.old.seen row got → result ≡ Some got }
+        ensures unopened { Has pass.old.seen.held row → ¬ Has pass.old.seen.opened row → (result ≡ None) × (pass.new.seen ≡ pass.old.seen) }
     {
         self.board.result(&mut pass.seat, row)
     }

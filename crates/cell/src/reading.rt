@@ -26,6 +26,7 @@ impl Board {
         ensures some { IfSome result (λ o. Has seat.new.me.0.seen.opened row × HaveOffer seat.new.me.0.seen.words row n o) }
         ensures none { IfNone result (IsKnownOpen seat.old.me.0.seen row → LackOffer seat.new.me.0.seen.words row n) }
         ensures same { (o : Offer) → SeesOffer seat.old.me.0.seen row n o → result ≡ Some o }
+        ensures unopened { Has seat.old.me.0.seen.held row → ¬ Has seat.old.me.0.seen.opened row → (result ≡ None) × (seat.new.me.0.seen ≡ seat.old.me.0.seen) }
     {
         if self.look(seat, row) == Cell::Fresh {
             return None;
@@ -76,6 +77,7 @@ impl Board {
         ensures some { IfSome result (IsResult seat.new.me.0.seen row) }
         ensures none { IfNone result (¬ SawCommitted seat.old.me.0.seen row) }
         ensures same { (got : Message) → IsResult seat.old.me.0.seen row got → result ≡ Some got }
+        ensures unopened { Has seat.old.me.0.seen.held row → ¬ Has seat.old.me.0.seen.opened row → (result ≡ None) × (seat.new.me.0.seen ≡ seat.old.me.0.seen) }
     {
         match self.look(seat, row) {
             Cell::Synched(joined) | Cell::Taken(joined) => self.gained(seat, row, joined),
