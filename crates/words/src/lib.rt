@@ -186,4 +186,13 @@ pub enum Step {
     Seal {
         row: Row,
     },
+    /// Commits a waiting row alone, by its offer with this number.
+    Grant {
+        row: Row,
+        offer: u8,
+    },
+    /// Takes a committed row: the seat holds the thread's next row from now on.
+    Take {
+        row: Row,
+    },
 }
