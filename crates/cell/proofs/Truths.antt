@@ -48,24 +48,6 @@ meeting_other None b h = absurd (true≢false (sym h))
 meeting_other (Some a) None h = absurd (true≢false (sym h))
 meeting_other (Some a) (Some o) h = (o, refl)
 
--- how a row is committed has room in its word
-joined_ranged : (t : Table) (r : Row) (j : Joined) → joined_at t r ≡ Some j → IsJoinedInRange j
-joined_ranged t r j h =
-    let open_r = fresh_not_joined (cell_at t r) j h in
-    let read = cell_inside t r (row_of_open t r open_r) in
-    ⊎_elim
-    (λ (e : cell_of (word_at t r 0) ≡ None). let bad : None ≡ Some j = sym (ap joined_of (read ∙ ap (λ (o : Option Cell). unwrap_or o Fresh) e)) ∙ h in cc)
-    (λ (c : (c : Cell) × (cell_of (word_at t r 0) ≡ Some c)).
-    in_cell c.0 (cell_word-cell_of (word_at t r 0) c.0 c.1).0 (sym (ap joined_of (read ∙ ap (λ (o : Option Cell). unwrap_or o Fresh) c.1)) ∙ h))
-    (cases_Option (cell_of (word_at t r 0)))
-  where
-    in_cell : (c : Cell) → IsCellInRange c → joined_of c ≡ Some j → IsJoinedInRange j
-    in_cell Fresh range e = let bad : None ≡ Some j = e in cc
-    in_cell Waiting range e = let bad : None ≡ Some j = e in cc
-    in_cell Claimed range e = let bad : None ≡ Some j = e in cc
-    in_cell (Synched i) range e = subst IsJoinedInRange (some_inj i j e) range
-    in_cell (Taken i) range e = subst IsJoinedInRange (some_inj i j e) range
-
 -- A PASS THAT KNOWS THE WORLD
 module _ (w : World) (owner : Row → ℕ) (id : ℕ) (v : View) (k : Knows w owner id v) where
   pub offer_known : (r : Row) (n : ℕ) (o : Offer) → HaveOffer v.seen.words r n o → offer_at w.table r n ≡ Some o

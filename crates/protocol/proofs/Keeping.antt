@@ -1,8 +1,8 @@
 -- Each allowed step keeps a world kept, and so does a whole schedule.
-use Rattle.std.proofs.Common.{◌≡◌, ◌≢◌, ℕ, zero, suc, ◌+◌, ◌*◌, ◌^◌, ◌<◌, ◌≤◌, true, false, cond, ltb, ◌&&◌, List, [], ◌∷◌, length, get_or, sym, refl, ap, ◌∙◌, subst, ⊎_elim, arith, Option, Some, None, is_some, max}
+use Rattle.std.proofs.Common.{◌≡◌, ◌≢◌, ℕ, zero, suc, ◌+◌, ◌*◌, ◌^◌, ◌<◌, ◌≤◌, true, false, cond, ltb, ◌&&◌, List, [], ◌∷◌, length, get_or, sym, refl, ap, ◌∙◌, subst, ⊎_elim, arith, Option, Some, None, is_some, max, get_or-set_other, length-set, set, unwrap_or, get_or-set_same, inl, true≢false}
 use Rattle.std.specs.Prelude.{option_to_list}
 use Rattle.std.specs.List.{sum_by}
-use Rattle.std.proofs.lemmas.Bool.{cases_Bool}
+use Rattle.std.proofs.lemmas.Bool.{cases_Bool, false≢true}
 use Rattle.std.proofs.lemmas.List.{length-append}
 use Rattle.std.proofs.lemmas.List.Sums.{sum_by-cons}
 use Rattle.std.proofs.Math.Nat.{mul-le-mul_right}
@@ -12,20 +12,21 @@ use Rattle.words.specs.declared.Offer.{Offer}
 use Rattle.words.specs.declared.Commit.{Commit}
 use Rattle.words.specs.declared.Seat.{Seat}
 use Rattle.words.specs.declared.Step.{Step}
-use Rattle.words.specs.declared.Step.TheVariants.{Draft, Open, Look, Read, Claim, Yield, Join, Seal}
+use Rattle.words.specs.declared.Step.TheVariants.{Draft, Open, Look, Read, Claim, Yield, Join, Seal, Grant, Take}
 use Rattle.words.specs.declared.Cell.{Cell}
-use Rattle.words.specs.declared.Cell.TheVariants.{Fresh, Waiting, Claimed, Synched}
-use Rattle.words.specs.Words.{cell_word, is_word_for, IsCellInRange, IsJoinedInRange, IsRowInRange}
-use Rattle.protocol.specs.Tables.{Table, is_row, row_eq, all_rows, rows_below, cell_at, is_fresh, joined_of, offer_at, offers_meet, names, joined_at, last_stamp, number_of}
-use Rattle.protocol.specs.Worlds.{World, holder_at, namer_at, Condition, Allowed, after_step, Plays, with_word, with_cell, with_table, joined_with, mirrored, other_side, side_of, sealed_by, with_seal}
+use Rattle.words.specs.declared.Cell.TheVariants.{Fresh, Waiting, Claimed, Synched, Taken}
+use Rattle.words.proofs.WordLemmas.{cell_of-zero}
+use Rattle.words.specs.Words.{cell_word, is_word_for, IsCellInRange, IsJoinedInRange, IsRowInRange, cell_of}
+use Rattle.protocol.specs.Tables.{Table, is_row, row_eq, all_rows, rows_below, cell_at, is_fresh, joined_of, offer_at, offers_meet, names, joined_at, last_stamp, number_of, is_taken, next_row, synched_of, word_at, stands_alone}
+use Rattle.protocol.specs.Worlds.{World, holder_at, namer_at, Condition, Allowed, after_step, Plays, with_word, with_cell, with_table, joined_with, mirrored, other_side, side_of, sealed_by, with_seal, granted_by, handed, with_holders, with_take}
 use Rattle.protocol.specs.Ledgers.{commits_of, told_at}
 use Rattle.protocol.specs.Kept.{joined_by, Linked, Kept}
-use Rattle.protocol.proofs.RowLemmas.{row_cases, put, put_same, put_other}
-use Rattle.protocol.proofs.Linking.{some_parts, naming, fresh_not_joined, unnamed_idle, told_count, count_of_commits}
-use Rattle.protocol.proofs.StepLemmas.{HasTurn, linked_plain, linked_join, linked_seal, last_bounded}
+use Rattle.protocol.proofs.RowLemmas.{row_cases, put, put_same, put_other, same_row, row_ne, row_eq-false}
+use Rattle.protocol.proofs.Linking.{some_parts, naming, fresh_not_joined, unnamed_idle, told_count, count_of_commits, some_inj, taken_joined, always_of}
+use Rattle.protocol.proofs.StepLemmas.{HasTurn, linked_plain, linked_join, linked_seal, last_bounded, linked_grant}
 use Rattle.protocol.proofs.Lawfulness.{both_offers}
-use Rattle.protocol.proofs.Places.{row_inside}
-use Rattle.protocol.proofs.Readings.{cell_after_word, cell_after_cell, offer_after_draft, offer_after_cell, formed_after_word, cell_is_formed, sized_after_word, row_of_open, cell_outside, offer_below}
+use Rattle.protocol.proofs.Places.{row_inside, is_row_after, block_inside, same_block, same_rest, word_other}
+use Rattle.protocol.proofs.Readings.{cell_after_word, cell_after_cell, offer_after_draft, offer_after_cell, formed_after_word, cell_is_formed, sized_after_word, row_of_open, cell_outside, offer_below, cell_inside, joined_ranged}
 use Rattle.protocol.proofs.Naming.{namer_names, no_namer}
 
 -- HOW MANY COMMITS THERE ARE at most
@@ -64,6 +65,13 @@ few_commits threads rows joined offer h k =
 
 -- WHO HOLDS A ROW
 
+-- rows have numbers of their own
+pub same_number : (t : Table) (r x : Row) → is_row t r ≡ true → is_row t x ≡ true → number_of t.rows r ≡ number_of t.rows x → r ≡ x
+same_number t r x h k e =
+    let a = row_inside t r h in
+    let b = row_inside t x k in
+    same_row r x (same_block r.thread x.thread r.sync x.sync t.rows a.1 b.1 e) (same_rest r.thread x.thread r.sync x.sync t.rows a.1 b.1 e)
+
 pub held_row : (w : World) (r : Row) (seat : ℕ) → holder_at w r ≡ Some seat → is_row w.table r ≡ true
 unfolding holder_at
 held_row w r seat h = ⊎_elim
@@ -76,6 +84,60 @@ held_row w r seat h = ⊎_elim
 pub holder_same : (w : World) (t : Table) (r : Row) → t.threads ≡ w.table.threads → t.rows ≡ w.table.rows → holder_at (with_table w t) r ≡ holder_at w r
 unfolding holder_at is_row
 holder_same w t r h k = λ i. cond (ltb r.thread (h i) && ltb r.sync (k i)) (get_or w.holders (number_of (k i) r) None) None
+
+-- THE HOLDERS, once the row behind x is handed over
+
+pub handed_same : (t u : Table) (holders : List (Option ℕ)) (seat : Seat) (x : Row) → u.threads ≡ t.threads → u.rows ≡ t.rows → handed u holders seat x ≡ handed t holders seat x
+unfolding handed is_row
+handed_same t u holders seat x a b = λ i. cond (ltb x.thread (a i) && ltb (x.sync + 1) (b i)) (set holders (number_of (b i) (next_row x)) (Some seat.0)) holders
+
+handed_there : (t : Table) (holders : List (Option ℕ)) (seat : Seat) (x : Row) → is_row t (next_row x) ≡ true → handed t holders seat x ≡ set holders (number_of t.rows (next_row x)) (Some seat.0)
+unfolding handed
+handed_there t holders seat x e = ap (λ b. cond b (set holders (number_of t.rows (next_row x)) (Some seat.0)) holders) e
+
+handed_nowhere : (t : Table) (holders : List (Option ℕ)) (seat : Seat) (x : Row) → is_row t (next_row x) ≡ false → handed t holders seat x ≡ holders
+unfolding handed
+handed_nowhere t holders seat x e = ap (λ b. cond b (set holders (number_of t.rows (next_row x)) (Some seat.0)) holders) e
+
+pub length_handed : (t : Table) (holders : List (Option ℕ)) (seat : Seat) (x : Row) → length (handed t holders seat x) ≡ length holders
+length_handed t holders seat x = ⊎_elim
+    (λ (e : is_row t (next_row x) ≡ true). ap (λ (hs : List (Option ℕ)). length hs) (handed_there t holders seat x e) ∙ length-set holders _ (Some seat.0))
+    (λ (e : is_row t (next_row x) ≡ false). ap (λ (hs : List (Option ℕ)). length hs) (handed_nowhere t holders seat x e))
+    (cases_Bool (is_row t (next_row x)))
+
+held_inside : (w : World) (r : Row) → is_row w.table r ≡ true → holder_at w r ≡ get_or w.holders (number_of w.table.rows r) None
+unfolding holder_at
+held_inside w r e = ap (λ b. cond b (get_or w.holders (number_of w.table.rows r) None) None) e
+
+held_outside : (w : World) (r : Row) → is_row w.table r ≡ false → holder_at w r ≡ None
+unfolding holder_at
+held_outside w r e = ap (λ b. cond b (get_or w.holders (number_of w.table.rows r) None) None) e
+
+-- the seat holds it
+pub hand_next : (w : World) (seat : Seat) (x : Row) → length w.holders ≡ w.table.threads * w.table.rows → is_row w.table (next_row x) ≡ true → holder_at (with_holders w (handed w.table w.holders seat x)) (next_row x) ≡ Some seat.0
+hand_next w seat x sized e =
+    let inside = row_inside w.table (next_row x) e in
+    let below = block_inside x.thread w.table.threads (x.sync + 1) w.table.rows inside.0 inside.1 in
+    held_inside (with_holders w (handed w.table w.holders seat x)) (next_row x) e
+    ∙ ap (λ (hs : List (Option ℕ)). get_or hs (number_of w.table.rows (next_row x)) None) (handed_there w.table w.holders seat x e)
+    ∙ get_or-set_same w.holders (number_of w.table.rows (next_row x)) (Some seat.0) None (omega arith)
+
+-- and all other rows are held as before
+pub hand_other : (w : World) (seat : Seat) (x r : Row) → row_eq r (next_row x) ≡ false → holder_at (with_holders w (handed w.table w.holders seat x)) r ≡ holder_at w r
+hand_other w seat x r n = ⊎_elim
+    (λ (k : is_row w.table r ≡ true). ⊎_elim
+    (λ (e : is_row w.table (next_row x) ≡ true).
+    held_inside (with_holders w (handed w.table w.holders seat x)) r k
+    ∙ ap (λ (hs : List (Option ℕ)). get_or hs (number_of w.table.rows r) None) (handed_there w.table w.holders seat x e)
+    ∙ get_or-set_other w.holders (number_of w.table.rows (next_row x)) (number_of w.table.rows r) (Some seat.0) None (λ d. row_eq-false r (next_row x) n (same_number w.table r (next_row x) k e d))
+    ∙ sym (held_inside w r k))
+    (λ (e : is_row w.table (next_row x) ≡ false).
+    held_inside (with_holders w (handed w.table w.holders seat x)) r k
+    ∙ ap (λ (hs : List (Option ℕ)). get_or hs (number_of w.table.rows r) None) (handed_nowhere w.table w.holders seat x e)
+    ∙ sym (held_inside w r k))
+    (cases_Bool (is_row w.table (next_row x))))
+    (λ (k : is_row w.table r ≡ false). held_outside (with_holders w (handed w.table w.holders seat x)) r k ∙ sym (held_outside w r k))
+    (cases_Bool (is_row w.table r))
 
 -- a row that is open, or held, has its turn
 turn_open : (w : World) (r : Row) → Kept w → is_fresh (cell_at w.table r) ≡ false → HasTurn w.table.threads w.table.rows (cell_at w.table) r
@@ -90,16 +152,37 @@ turn_held w r seat k h = record {
   turn = λ g e. k.held r.thread g seat (ap (λ n. holder_at w (record { thread = r.thread; sync = n })) (sym e) ∙ h);
 }
 
+-- a row that some seat holds is held
+is_held : (w : World) (r : Row) (seat : ℕ) → holder_at w r ≡ Some seat → holder_at w r ≢ None
+is_held w r seat h n = let bad : Some seat ≡ None = sym h ∙ n in cc
+
+-- an open row is held
+open_held : (w : World) (r : Row) → Kept w → is_fresh (cell_at w.table r) ≡ false → holder_at w r ≢ None
+open_held w r k f n =
+    let row = row_of_open w.table r f in
+    let fresh : cell_at w.table r ≡ Fresh =
+    cell_inside w.table r row
+    ∙ ap (λ v. unwrap_or (cell_of v) Fresh) (k.blank r 0 row (omega arith) n)
+    ∙ ap (λ (o : Option Cell). unwrap_or o Fresh) cell_of-zero in
+    true≢false (sym (ap is_fresh fresh) ∙ f)
+
+-- a write to a row that is held leaves what nobody held blank
+blank_after : (w : World) (x : Row) (p v : ℕ) → Kept w → is_row w.table x ≡ true → p < 34 → holder_at w x ≢ None → (r : Row) (q : ℕ) → is_row w.table r ≡ true → q < 34 → holder_at w r ≡ None → word_at (with_word w.table x p v) r q ≡ 0
+blank_after w x p v k row below held r q in_t b none =
+    let other : row_eq r x ≡ false = row_ne r x (λ e. held (ap (holder_at w) (sym e) ∙ none)) in
+    word_other w.table x r p q v row in_t below b (inl other) ∙ k.blank r q in_t b none
+
 -- ONE LEMMA FOR EACH KIND
 
--- a cell that joins nothing: open, claim, yield
+-- a cell that joins nothing anew: open, claim, yield, take
 module _ (w : World) (x : Row) (c : Cell) (k : Kept w)
     (row : is_row w.table x ≡ true)
     (range : IsCellInRange c)
-    (was : joined_of (cell_at w.table x) ≡ None)
-    (is : joined_of c ≡ None)
+    (same : joined_of c ≡ joined_of (cell_at w.table x))
+    (takes : is_taken (cell_at w.table x) ≡ true → is_taken c ≡ true)
     (not_fresh : is_fresh c ≡ false)
-    (unnamed : (q : Row) → names (joined_of (cell_at w.table q)) x ≡ false)
+    (unclaimed : (q : Row) → names (joined_of (cell_at w.table q)) x ≡ true → cell_at w.table x ≢ Claimed)
+    (held_x : holder_at w x ≢ None)
     (turn : HasTurn w.table.threads w.table.rows (cell_at w.table) x) where
   cells_plain : cell_at (with_cell w.table x c) ≡ put (cell_at w.table) x c
   cells_plain = cell_after_cell w.table x c k.sized row range
@@ -110,13 +193,13 @@ module _ (w : World) (x : Row) (c : Cell) (k : Kept w)
       (λ (e : row_eq r x ≡ false). ap is_fresh (put_other (cell_at w.table) x c r e))
       (row_cases r x)
 
-  pub joined_plain : (r : Row) → joined_of (cell_at (with_cell w.table x c) r) ≡ joined_of (cell_at w.table r)
-  joined_plain r = ap (λ (g : Row → Cell). joined_of (g r)) cells_plain ∙ ⊎_elim
-      (λ (e : r ≡ x). ap (λ (y : Row). joined_of (put (cell_at w.table) x c y)) e ∙ ap joined_of (put_same (cell_at w.table) x c) ∙ is ∙ sym was ∙ ap (λ (y : Row). joined_of (cell_at w.table y)) (sym e))
-      (λ (e : row_eq r x ≡ false). ap joined_of (put_other (cell_at w.table) x c r e))
+  taken_plain : (r : Row) → is_taken (cell_at w.table r) ≡ true → is_taken (cell_at (with_cell w.table x c) r) ≡ true
+  taken_plain r h = ap (λ (g : Row → Cell). is_taken (g r)) cells_plain ∙ ⊎_elim
+      (λ (e : r ≡ x). ap (λ (y : Row). is_taken (put (cell_at w.table) x c y)) e ∙ ap is_taken (put_same (cell_at w.table) x c) ∙ takes (ap (λ (y : Row). is_taken (cell_at w.table y)) (sym e) ∙ h))
+      (λ (e : row_eq r x ≡ false). ap is_taken (put_other (cell_at w.table) x c r e) ∙ h)
       (row_cases r x)
 
-  kept_plain : Kept (with_table w (with_cell w.table x c))
+  pub kept_plain : Kept (with_table w (with_cell w.table x c))
   unfolding with_cell
   kept_plain = record {
     sized = sized_after_word w.table x 0 (cell_word c) k.sized;
@@ -125,20 +208,24 @@ module _ (w : World) (x : Row) (c : Cell) (k : Kept w)
     formed = formed_after_word w.table x 0 (cell_word c) k.sized row (omega arith) (cell_is_formed c range) k.formed;
     linked =
         subst (λ (g : Row → Cell). Linked w.table.threads w.table.rows g (offer_at (with_cell w.table x c))) (sym cells_plain)
-        (linked_plain w.table.threads w.table.rows (cell_at w.table) (offer_at w.table) (offer_at (with_cell w.table x c)) x c k.linked was is unnamed (λ f. turn)
+        (linked_plain w.table.threads w.table.rows (cell_at w.table) (offer_at w.table) (offer_at (with_cell w.table x c)) x c k.linked same takes unclaimed (λ f. turn)
         (λ r f. λ i n. offer_after_cell w.table x r n c row (fresh_plain r f) i));
     held = λ thread sync seat h.
-        ap (λ (o : Option Joined). is_some o) (joined_plain (record { thread = thread; sync = sync }))
-        ∙ k.held thread sync seat (sym (holder_same w (with_cell w.table x c) (record { thread = thread; sync = sync + 1 }) refl refl) ∙ h);
+        taken_plain (record { thread = thread; sync = sync })
+        (k.held thread sync seat (sym (holder_same w (with_cell w.table x c) (record { thread = thread; sync = sync + 1 }) refl refl) ∙ h));
+    seated = k.seated;
+    blank = λ r p i b n.
+        blank_after w x 0 (cell_word c) k row (omega arith) held_x r p (sym (is_row_after w.table x r 0 (cell_word c)) ∙ i) b (sym (holder_same w (with_cell w.table x c) r refl refl) ∙ n);
   }
 
--- a cell that is joined: join and seal
+-- a cell that is joined: join, seal and grant
 module _ (w : World) (x : Row) (j : Joined) (k : Kept w)
     (row : is_row w.table x ≡ true)
     (range : IsJoinedInRange j)
     (open_x : is_fresh (cell_at w.table x) ≡ false)
+    (not_joined : joined_of (cell_at w.table x) ≡ None)
     (linked : Linked w.table.threads w.table.rows (put (cell_at w.table) x (Synched j)) (offer_at w.table)) where
-  pub cells_joined : cell_at (with_cell w.table x (Synched j)) ≡ put (cell_at w.table) x (Synched j)
+  cells_joined : cell_at (with_cell w.table x (Synched j)) ≡ put (cell_at w.table) x (Synched j)
   cells_joined = cell_after_cell w.table x (Synched j) k.sized row range
 
   fresh_joined : (r : Row) → is_fresh (cell_at (with_cell w.table x (Synched j)) r) ≡ is_fresh (cell_at w.table r)
@@ -147,10 +234,10 @@ module _ (w : World) (x : Row) (j : Joined) (k : Kept w)
       (λ (e : row_eq r x ≡ false). ap is_fresh (put_other (cell_at w.table) x (Synched j) r e))
       (row_cases r x)
 
-  still_joined : (r : Row) → is_some (joined_of (cell_at w.table r)) ≡ true → is_some (joined_of (cell_at (with_cell w.table x (Synched j)) r)) ≡ true
-  still_joined r h = ap (λ (g : Row → Cell). is_some (joined_of (g r))) cells_joined ∙ ⊎_elim
-      (λ (e : r ≡ x). ap (λ (y : Row). is_some (joined_of (put (cell_at w.table) x (Synched j) y))) e ∙ ap (λ (c : Cell). is_some (joined_of c)) (put_same (cell_at w.table) x (Synched j)))
-      (λ (e : row_eq r x ≡ false). ap (λ (c : Cell). is_some (joined_of c)) (put_other (cell_at w.table) x (Synched j) r e) ∙ h)
+  still_taken : (r : Row) → is_taken (cell_at w.table r) ≡ true → is_taken (cell_at (with_cell w.table x (Synched j)) r) ≡ true
+  still_taken r h = ap (λ (g : Row → Cell). is_taken (g r)) cells_joined ∙ ⊎_elim
+      (λ (e : r ≡ x). absurd (false≢true (sym (ap (λ (o : Option Joined). is_some o) (ap (λ (y : Row). joined_of (cell_at w.table y)) e ∙ not_joined)) ∙ taken_joined (cell_at w.table r) h)))
+      (λ (e : row_eq r x ≡ false). ap is_taken (put_other (cell_at w.table) x (Synched j) r e) ∙ h)
       (row_cases r x)
 
   kept_joined : Kept (with_table w (with_cell w.table x (Synched j)))
@@ -164,8 +251,11 @@ module _ (w : World) (x : Row) (j : Joined) (k : Kept w)
         (λ i. (sym cells_joined i, λ r n. sym (offer_after_cell w.table x r n (Synched j) row (fresh_joined r)) i))
         linked;
     held = λ thread sync seat h.
-        still_joined (record { thread = thread; sync = sync })
+        still_taken (record { thread = thread; sync = sync })
         (k.held thread sync seat (sym (holder_same w (with_cell w.table x (Synched j)) (record { thread = thread; sync = sync + 1 }) refl refl) ∙ h));
+    seated = k.seated;
+    blank = λ r p i b n.
+        blank_after w x 0 (cell_word (Synched j)) k row (omega arith) (open_held w x k open_x) r p (sym (is_row_after w.table x r 0 (cell_word (Synched j))) ∙ i) b (sym (holder_same w (with_cell w.table x (Synched j)) r refl refl) ∙ n);
   }
 
 kept_draft : (w : World) (x : Row) (p v seat : ℕ) → Kept w → holder_at w x ≡ Some seat → cell_at w.table x ≡ Fresh → 1 ≤ p → p ≤ 33 → is_word_for p v ≡ true → Kept (with_table w (with_word w.table x p v))
@@ -182,24 +272,38 @@ kept_draft w x p v seat k h f a b g =
           (λ i. (λ r. sym (cells r) i, λ r n. sym (offer_after_draft w.table x r n p v row a below (ap is_fresh f)) i))
           k.linked;
       held = λ thread sync s e.
-          ap (λ (c : Cell). is_some (joined_of c)) (cells (record { thread = thread; sync = sync }))
+          ap is_taken (cells (record { thread = thread; sync = sync }))
           ∙ k.held thread sync s (sym (holder_same w (with_word w.table x p v) (record { thread = thread; sync = sync + 1 }) refl refl) ∙ e);
+      seated = k.seated;
+      blank = λ r q i d n.
+          blank_after w x p v k row below (is_held w x seat h) r q (sym (is_row_after w.table x r p v) ∙ i) d (sym (holder_same w (with_word w.table x p v) r refl refl) ∙ n);
     }
 
 -- a row that is neither claimed nor joined is not named
 pub idle_unnamed : (w : World) (x : Row) → Kept w → cell_at w.table x ≢ Claimed → joined_of (cell_at w.table x) ≡ None → (q : Row) → names (joined_of (cell_at w.table q)) x ≡ false
 idle_unnamed w x k = unnamed_idle w.table.threads w.table.rows (cell_at w.table) (offer_at w.table) x k.linked
 
+-- a write that joins nothing to a row that is neither joined nor named
+kept_unjoined : (w : World) (x : Row) (c : Cell) → Kept w → is_row w.table x ≡ true → IsCellInRange c → joined_of (cell_at w.table x) ≡ None → joined_of c ≡ None → is_fresh c ≡ false → ((q : Row) → names (joined_of (cell_at w.table q)) x ≡ false) → holder_at w x ≢ None → HasTurn w.table.threads w.table.rows (cell_at w.table) x → Kept (with_table w (with_cell w.table x c))
+kept_unjoined w x c k row range was is opened unnamed held turn =
+    kept_plain w x c k row range (is ∙ sym was)
+    (λ h. absurd (false≢true (sym (ap (λ (o : Option Joined). is_some o) was) ∙ taken_joined (cell_at w.table x) h)))
+    opened
+    (λ q h. absurd (false≢true (sym (unnamed q) ∙ h)))
+    held turn
+
 kept_open : (w : World) (x : Row) (seat : ℕ) → Kept w → holder_at w x ≡ Some seat → cell_at w.table x ≡ Fresh → Kept (with_table w (with_cell w.table x Waiting))
 kept_open w x seat k h f =
-    kept_plain w x Waiting k (held_row w x seat h) tt (ap joined_of f) refl refl
+    kept_unjoined w x Waiting k (held_row w x seat h) tt (ap joined_of f) refl refl
     (idle_unnamed w x k (λ e. let bad : Fresh ≡ Claimed = sym f ∙ e in cc) (ap joined_of f))
+    (is_held w x seat h)
     (turn_held w x seat k h)
 
 kept_claim : (w : World) (x : Row) → Kept w → cell_at w.table x ≡ Waiting → Kept (with_table w (with_cell w.table x Claimed))
 kept_claim w x k f =
-    kept_plain w x Claimed k (row_of_open w.table x (ap is_fresh f)) tt (ap joined_of f) refl refl
+    kept_unjoined w x Claimed k (row_of_open w.table x (ap is_fresh f)) tt (ap joined_of f) refl refl
     (idle_unnamed w x k (λ e. let bad : Waiting ≡ Claimed = sym f ∙ e in cc) (ap joined_of f))
+    (open_held w x k (ap is_fresh f))
     (turn_open w x k (ap is_fresh f))
 
 -- a row for which the search finds no namer is not named
@@ -213,7 +317,7 @@ unnamed_row w x h q = ⊎_elim
 
 kept_yield : (w : World) (x : Row) → Kept w → cell_at w.table x ≡ Claimed → namer_at w x ≡ None → Kept (with_table w (with_cell w.table x Waiting))
 kept_yield w x k f n =
-    kept_plain w x Waiting k (row_of_open w.table x (ap is_fresh f)) tt (ap joined_of f) refl refl (unnamed_row w x n) (turn_open w x k (ap is_fresh f))
+    kept_unjoined w x Waiting k (row_of_open w.table x (ap is_fresh f)) tt (ap joined_of f) refl refl (unnamed_row w x n) (open_held w x k (ap is_fresh f)) (turn_open w x k (ap is_fresh f))
 
 row_in_range : (w : World) (r : Row) → Kept w → is_row w.table r ≡ true → IsRowInRange r
 row_in_range w r k h =
@@ -221,6 +325,13 @@ row_in_range w r k h =
     let a = k.few_threads in
     let b = k.few_rows in
     record { thread = omega arith; sync = omega arith }
+
+-- a last stamp is small
+pub small_last : (w : World) (r : Row) → Kept w → last_stamp (joined_at w.table) r ≤ 65536
+small_last w r k =
+    let a = last_bounded w.table.threads w.table.rows (cell_at w.table) (offer_at w.table) r k.linked in
+    let few = few_commits w.table.threads w.table.rows (joined_by (cell_at w.table)) (offer_at w.table) k.few_threads k.few_rows in
+    omega arith
 
 -- the word of a join is well-formed
 pub join_in_range : (w : World) (m : Row) (i : ℕ) (o : Row) (n : ℕ) → Kept w → is_row w.table m ≡ true → offers_meet (offer_at w.table m i) (offer_at w.table o n) ≡ true → IsJoinedInRange (joined_with w.table m i o n)
@@ -249,7 +360,99 @@ kept_join w m i o n k mine none other apart meets =
     kept_joined w o (joined_with w.table m i o n) k (row_of_open w.table o (ap is_fresh other))
     (join_in_range w m i o n k (row_of_open w.table m (ap is_fresh mine)) meets)
     (ap is_fresh other)
+    (ap joined_of other)
     (linked_join w.table.threads w.table.rows (cell_at w.table) (offer_at w.table) m i o n (joined_with w.table m i o n) k.linked mine (unnamed_row w m none) other apart meets refl)
+
+-- the word of a grant is well-formed
+pub grant_in_range : (w : World) (o : Row) (n : ℕ) → Kept w → stands_alone (offer_at w.table o n) ≡ true → IsJoinedInRange (granted_by w.table o n)
+unfolding granted_by
+grant_in_range w o n k alone =
+    let always = always_of (offer_at w.table o n) alone in
+    let a = small_last w o k in
+    record {
+      own = offer_below w.table o n always.1 always.2;
+      partner = tt;
+      stamp_low = omega arith;
+      stamp_high = omega arith;
+    }
+
+kept_grant : (w : World) (o : Row) (n : ℕ) → Kept w → cell_at w.table o ≡ Waiting → stands_alone (offer_at w.table o n) ≡ true → Kept (with_table w (with_cell w.table o (Synched (granted_by w.table o n))))
+unfolding granted_by
+kept_grant w o n k waits alone =
+    kept_joined w o (granted_by w.table o n) k (row_of_open w.table o (ap is_fresh waits))
+    (grant_in_range w o n k alone)
+    (ap is_fresh waits)
+    (ap joined_of waits)
+    (linked_grant w.table.threads w.table.rows (cell_at w.table) (offer_at w.table) o n (granted_by w.table o n) k.linked waits alone refl)
+
+-- THE TAKE
+
+pub synched_is : (c : Cell) (j : Joined) → synched_of c ≡ Some j → c ≡ Synched j
+synched_is Fresh j h = let bad : None ≡ Some j = h in cc
+synched_is Waiting j h = let bad : None ≡ Some j = h in cc
+synched_is Claimed j h = let bad : None ≡ Some j = h in cc
+synched_is (Synched i) j h = ap Synched (some_inj i j h)
+synched_is (Taken i) j h = let bad : None ≡ Some j = h in cc
+
+-- the row behind a taken row is handed over
+kept_handed : (w : World) (seat : Seat) (x : Row) → Kept w → is_taken (cell_at w.table x) ≡ true → Kept (with_holders w (handed w.table w.holders seat x))
+kept_handed w seat x k taken = record {
+  sized = k.sized;
+  few_threads = k.few_threads;
+  few_rows = k.few_rows;
+  formed = k.formed;
+  linked = k.linked;
+  held = λ thread sync s h. ⊎_elim
+      (λ (e : record { thread = thread; sync = sync + 1 } ≡ next_row x).
+      let a : thread ≡ x.thread = ap (λ (r : Row). r.thread) e in
+      let b : sync + 1 ≡ x.sync + 1 = ap (λ (r : Row). r.sync) e in
+      let c : sync ≡ x.sync = omega arith in
+      (λ i. is_taken (cell_at w.table (record { thread = a i; sync = c i }))) ∙ taken)
+      (λ (e : row_eq (record { thread = thread; sync = sync + 1 }) (next_row x) ≡ false). k.held thread sync s (sym (hand_other w seat x _ e) ∙ h))
+      (row_cases (record { thread = thread; sync = sync + 1 }) (next_row x));
+  seated = length_handed w.table w.holders seat x ∙ k.seated;
+  blank = λ r p i b n. ⊎_elim
+      (λ (e : r ≡ next_row x).
+      let there : holder_at (with_holders w (handed w.table w.holders seat x)) (next_row x) ≡ Some seat.0 = hand_next w seat x k.seated (ap (is_row w.table) (sym e) ∙ i) in
+      let bad : Some seat.0 ≡ None = sym there ∙ ap (holder_at (with_holders w (handed w.table w.holders seat x))) (sym e) ∙ n in
+      cc)
+      (λ (e : row_eq r (next_row x) ≡ false). k.blank r p i b (sym (hand_other w seat x r e) ∙ n))
+      (row_cases r (next_row x));
+}
+
+-- a synched row becomes Taken
+pub kept_taken : (w : World) (x : Row) (j : Joined) → Kept w → cell_at w.table x ≡ Synched j → Kept (with_table w (with_cell w.table x (Taken j)))
+kept_taken w x j k is =
+    let open_x : is_fresh (cell_at w.table x) ≡ false = ap is_fresh is in
+    kept_plain w x (Taken j) k (row_of_open w.table x open_x) (joined_ranged w.table x j (ap joined_of is)) (sym (ap joined_of is)) (λ h. refl) refl
+    (λ q h e. let bad : Synched j ≡ Claimed = sym is ∙ e in cc)
+    (open_held w x k open_x)
+    (turn_open w x k open_x)
+
+pub cells_taken : (w : World) (x : Row) (j : Joined) → Kept w → cell_at w.table x ≡ Synched j → cell_at (with_cell w.table x (Taken j)) ≡ put (cell_at w.table) x (Taken j)
+cells_taken w x j k is = cell_after_cell w.table x (Taken j) k.sized (row_of_open w.table x (ap is_fresh is)) (joined_ranged w.table x j (ap joined_of is))
+
+pub kept_took : (w : World) (seat : Seat) (x : Row) (j : Joined) → Kept w → cell_at w.table x ≡ Synched j → Kept (with_holders (with_table w (with_cell w.table x (Taken j))) (handed w.table w.holders seat x))
+unfolding with_cell
+kept_took w seat x j k is =
+    subst (λ (hs : List (Option ℕ)). Kept (with_holders (with_table w (with_cell w.table x (Taken j))) hs))
+    (handed_same w.table (with_cell w.table x (Taken j)) w.holders seat x refl refl)
+    (kept_handed (with_table w (with_cell w.table x (Taken j))) seat x (kept_taken w x j k is)
+    (ap is_taken (ap (λ (f : Row → Cell). f x) (cells_taken w x j k is) ∙ put_same (cell_at w.table) x (Taken j))))
+
+-- a world whose table has that cell and whose holders are those
+pub took_world : (w v : World) (seat : Seat) (x : Row) (j : Joined) (t : Table) → v.table ≡ t → t ≡ with_cell w.table x (Taken j) → v.seats ≡ w.seats → v.holders ≡ handed t w.holders seat x → v ≡ with_holders (with_table w (with_cell w.table x (Taken j))) (handed w.table w.holders seat x)
+unfolding with_cell
+took_world w v seat x j t a b c d =
+    let hands : v.holders ≡ handed w.table w.holders seat x =
+    d ∙ ap (λ (u : Table). handed u w.holders seat x) b ∙ handed_same w.table (with_cell w.table x (Taken j)) w.holders seat x refl refl in
+    λ i. record { table = (a ∙ b) i; seats = c i; holders = hands i }
+
+kept_take : (w : World) (seat : Seat) (x : Row) → Kept w → is_some (synched_of (cell_at w.table x)) ≡ true → Kept (after_step w seat (Take x))
+kept_take w seat x k h =
+    let j = some_parts (synched_of (cell_at w.table x)) h in
+    subst (λ (o : Option Joined). Kept (with_holders (with_table w (with_take w.table x o)) (handed w.table w.holders seat x))) (sym j.1)
+    (kept_took w seat x j.0 k (synched_is (cell_at w.table x) j.0 j.1))
 
 -- THE SEAL: what the row that names a pending row says
 
@@ -294,7 +497,7 @@ seal_in_range w x q s k =
 
 kept_sealed : (w : World) (x q : Row) (s : IsSealing w.table x q) → Kept w → cell_at w.table x ≡ Claimed → Kept (with_table w (with_cell w.table x (Synched (mirrored q s.way s.offer))))
 kept_sealed w x q s k f =
-    kept_joined w x (mirrored q s.way s.offer) k (row_of_open w.table x (ap is_fresh f)) (seal_in_range w x q s k) (ap is_fresh f)
+    kept_joined w x (mirrored q s.way s.offer) k (row_of_open w.table x (ap is_fresh f)) (seal_in_range w x q s k) (ap is_fresh f) (ap joined_of f)
     (linked_seal w.table.threads w.table.rows (cell_at w.table) (offer_at w.table) x q s.way (mirrored q s.way s.offer) s.offer k.linked f s.is s.partner refl)
 
 kept_seal : (w : World) (x : Row) → Kept w → cell_at w.table x ≡ Claimed → is_some (namer_at w x) ≡ true → Kept (with_table w (with_seal w.table x (sealed_by w.table (namer_at w x))))
@@ -312,6 +515,8 @@ kept_condition w seat (Claim row) k a = kept_claim w row k a.1
 kept_condition w seat (Yield row) k a = kept_yield w row k a.1 a.2
 kept_condition w seat (Join mine own other partner) k a = kept_join w mine own other partner k a.1 a.2 a.3 a.4 a.5
 kept_condition w seat (Seal row) k a = kept_seal w row k a.1 a.2
+kept_condition w seat (Grant row n) k a = kept_grant w row n k a.0 a.1
+kept_condition w seat (Take row) k a = kept_take w seat row k a
 
 pub kept_step : (w : World) (seat : Seat) (step : Step) → Kept w → Allowed w seat step → Kept (after_step w seat step)
 kept_step w seat step k a = kept_condition w seat step k a.1
@@ -319,10 +524,3 @@ kept_step w seat step k a = kept_condition w seat step k a.1
 pub kept_schedule : (w v : World) (steps : List (Seat × Step)) → Kept w → Plays w steps v → Kept v
 kept_schedule w v [] k p = subst Kept (sym p) k
 kept_schedule w v (s ∷ ss) k p = kept_schedule (after_step w s.0 s.1) v ss (kept_step w s.0 s.1 k p.0) p.1
-
--- a last stamp is small
-pub small_last : (w : World) (r : Row) → Kept w → last_stamp (joined_at w.table) r ≤ 65536
-small_last w r k =
-    let a = last_bounded w.table.threads w.table.rows (cell_at w.table) (offer_at w.table) r k.linked in
-    let few = few_commits w.table.threads w.table.rows (joined_by (cell_at w.table)) (offer_at w.table) k.few_threads k.few_rows in
-    omega arith

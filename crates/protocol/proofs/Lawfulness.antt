@@ -10,14 +10,16 @@ use Rattle.words.specs.declared.Row.{Row}
 use Rattle.words.specs.declared.Joined.{Joined}
 use Rattle.words.specs.declared.Offer.{Offer}
 use Rattle.words.specs.declared.Commit.{Commit}
-use Rattle.words.specs.declared.Commit.TheVariants.{Pair}
+use Rattle.words.specs.declared.Cause.TheVariants as cause
+use Rattle.words.specs.declared.Commit.TheVariants.{Pair, Alone}
 use Rattle.words.specs.declared.Cell.{Cell}
 use Rattle.words.specs.declared.Cell.TheVariants.{Claimed}
-use Rattle.protocol.specs.Tables.{all_rows, is_fresh, joined_of, names, offers_meet, bases_meet, last_stamp, stamp_of}
+use Rattle.protocol.specs.Tables.{all_rows, is_fresh, joined_of, names, is_partner, offers_meet, stands_alone, bases_meet, last_stamp, stamp_of}
 use Rattle.protocol.specs.Worlds.{mirrored}
-use Rattle.protocol.specs.Ledgers.{IsIn, Takes, Involves, stamp_in, Offers, Fits, Enables, CountsFor, Lawful, commit_named, commit_by, pair_by, received_by, commits_of}
+use Rattle.protocol.specs.Ledgers.{IsIn, Takes, Involves, stamp_in, Offers, Fits, Enables, CountsFor, Lawful, commit_named, commit_by, alone_by, pair_by, received_by, commits_of}
 use Rattle.protocol.specs.Kept.{joined_by, IsSideOf, Linked}
-use Rattle.protocol.proofs.Linking.{cases_Option, some_parts, some_inj, some_is_some, names_from, fresh_not_joined, partner_open, named_some}
+use Rattle.protocol.proofs.Linking.{cases_Option, some_parts, some_inj, some_is_some, names_from, partner_parts, fresh_not_joined, taken_joined, partner_open, always_of, named_some, named_alone}
+use Rattle.protocol.proofs.CommitLemmas.{named_rows}
 
 -- WHAT A PAIR'S COMMIT IS, seen from row r, joined as j with partner p
 
@@ -104,67 +106,50 @@ same_commit offer q j r n e h =
     ∙ sym (ap (commit_by offer q j (Some (r, n))) both.2)
     ∙ sym (ap (λ (v : Option (Row × ℕ)). commit_by offer q j v (offer q j.own)) e)
 
-stamp_of_pair : (offer : Row → ℕ → Option Offer) (r : Row) (j : Joined) (p : Row × ℕ) (c : Commit) → IsPairOf offer r j p c → stamp_in c ≡ j.stamp
-stamp_of_pair offer r j p c (inl s) = ap stamp_in s.is
-stamp_of_pair offer r j p c (inr s) = ap stamp_in s.is
-
-takes_own : (offer : Row → ℕ → Option Offer) (r : Row) (j : Joined) (p : Row × ℕ) (c : Commit) → IsPairOf offer r j p c → Takes c r j.own
-takes_own offer r j p c (inl s) = subst (λ (d : Commit). Takes d r j.own) (sym s.is) (inl refl)
-takes_own offer r j p c (inr s) = subst (λ (d : Commit). Takes d r j.own) (sym s.is) (inr refl)
-
--- a pair takes two rows
-taken_rows : (offer : Row → ℕ → Option Offer) (r : Row) (j : Joined) (p : Row × ℕ) (c : Commit) (x : Row) → IsPairOf offer r j p c → Involves c x → (r ≡ x) ⊎ (p.0 ≡ x)
-taken_rows offer r j p c x (inl s) v =
-    let t : ((r, j.own) ≡ (x, v.0)) ⊎ (p ≡ (x, v.0)) = subst (λ (d : Commit). Takes d x v.0) s.is v.1 in
-    ⊎_elim
-    (λ (e : (r, j.own) ≡ (x, v.0)). inl (ap (λ (z : Row × ℕ). z.0) e))
-    (λ (e : p ≡ (x, v.0)). inr (ap (λ (z : Row × ℕ). z.0) e))
-    t
-taken_rows offer r j p c x (inr s) v =
-    let t : (p ≡ (x, v.0)) ⊎ ((r, j.own) ≡ (x, v.0)) = subst (λ (d : Commit). Takes d x v.0) s.is v.1 in
-    ⊎_elim
-    (λ (e : p ≡ (x, v.0)). inr (ap (λ (z : Row × ℕ). z.0) e))
-    (λ (e : (r, j.own) ≡ (x, v.0)). inl (ap (λ (z : Row × ℕ). z.0) e))
-    t
+-- a commit that stands alone, by what was offered
+alone_of_named : (offer : Row → ℕ → Option Offer) (r : Row) (j : Joined) (c : Commit) → j.partner ≡ None → stands_alone (offer r j.own) ≡ true → commit_named offer r j ≡ Some c → (m : Message) × Offers offer (r, j.own) (Always m) × (c ≡ Alone (r, j.own) (cause.Always m) j.stamp)
+unfolding commit_named
+alone_of_named offer r j c e h k =
+    let o = always_of (offer r j.own) h in
+    let named : alone_by r j o.1.base ≡ Some c =
+    sym (ap (commit_by offer r j None) o.2) ∙ sym (ap (λ (v : Option (Row × ℕ)). commit_by offer r j v (offer r j.own)) e) ∙ k in
+    (o.0, (o.1, o.2, o.3), some_inj c _ (sym named ∙ ap (alone_by r j) o.3))
 
 abbrev row_at : ℕ → ℕ → Row
 row_at t g = record { thread = t; sync = g }
 
 module _ (threads rows : ℕ) (cell : Row → Cell) (offer : Row → ℕ → Option Offer) (bound : NackName → Option Binding)
     (l : Linked threads rows cell offer) where
-  -- what a commit of the ledger is
-  partner_of : (c : Commit) (h : IsIn (joined_by cell) offer c) → (p : Row × ℕ) × (h.way.partner ≡ Some p)
-  partner_of c h = some_parts h.way.partner (l.paired h.row h.way h.is_joined)
-
-  side_of_in : (c : Commit) (h : IsIn (joined_by cell) offer c) → IsSideOf cell offer h.row h.way (partner_of c h).0
-  side_of_in c h = l.sides h.row h.way (partner_of c h).0 h.is_joined (partner_of c h).1
-
-  pair_in : (c : Commit) (h : IsIn (joined_by cell) offer c) → IsPairOf offer h.row h.way (partner_of c h).0 c
-  pair_in c h = pair_of_named offer h.row h.way (partner_of c h).0 c (partner_of c h).1 (side_of_in c h).meets h.is_named
-
   -- the commit that a joined row names
   commit_of_joined : (r : Row) (j : Joined) → joined_of (cell r) ≡ Some j → (c : Commit) × (commit_named offer r j ≡ Some c)
-  commit_of_joined r j e =
-      let p = some_parts j.partner (l.paired r j e) in
-      named_some offer r j p.0 p.1 (l.sides r j p.0 e p.1).meets
+  commit_of_joined r j e = ⊎_elim
+      (λ (n : j.partner ≡ None). named_alone offer r j n (l.alone r j e n).alone)
+      (λ (p : (p : Row × ℕ) × (j.partner ≡ Some p)). named_some offer r j p.0 p.1 (l.sides r j p.0 e p.1).meets)
+      (cases_Option j.partner)
 
   in_of_joined : (r : Row) (j : Joined) (e : joined_of (cell r) ≡ Some j) → IsIn (joined_by cell) offer (commit_of_joined r j e).0
   in_of_joined r j e = record { row = r; way = j; is_joined = e; is_named = (commit_of_joined r j e).1 }
 
   involves_own : (r : Row) (j : Joined) (e : joined_of (cell r) ≡ Some j) → Involves (commit_of_joined r j e).0 r
-  unfolding in_of_joined
-  involves_own r j e = (j.own, takes_own offer r j (partner_of (commit_of_joined r j e).0 (in_of_joined r j e)).0 (commit_of_joined r j e).0 (pair_in (commit_of_joined r j e).0 (in_of_joined r j e)))
+  involves_own r j e = (j.own, (named_rows offer r j (commit_of_joined r j e).0 (commit_of_joined r j e).1).own)
 
   stamp_own : (r : Row) (j : Joined) (e : joined_of (cell r) ≡ Some j) → stamp_in (commit_of_joined r j e).0 ≡ j.stamp
-  unfolding in_of_joined
-  stamp_own r j e = stamp_of_pair offer r j (partner_of (commit_of_joined r j e).0 (in_of_joined r j e)).0 (commit_of_joined r j e).0 (pair_in (commit_of_joined r j e).0 (in_of_joined r j e))
+  stamp_own r j e = (named_rows offer r j (commit_of_joined r j e).0 (commit_of_joined r j e).1).stamp
+
+  -- a row in a commit is the one that names it, or its partner
+  rows_in : (c : Commit) (x : Row) (h : IsIn (joined_by cell) offer c) → Involves c x → (h.row ≡ x) ⊎ ((p : Row × ℕ) × (h.way.partner ≡ Some p) × (p.0 ≡ x))
+  rows_in c x h v = ⊎_elim
+      (λ (e : h.row ≡ x). inl e)
+      (λ (e : is_partner h.way.partner x ≡ true). inr (partner_parts h.way.partner x e))
+      ((named_rows offer h.row h.way c h.is_named).rows x v)
 
   -- each row in a commit is open
   open_of : (c : Commit) (x : Row) → IsIn (joined_by cell) offer c → Involves c x → is_fresh (cell x) ≡ false
   open_of c x h v = ⊎_elim
       (λ (e : h.row ≡ x). ap (λ (y : Row). is_fresh (cell y)) (sym e) ∙ fresh_not_joined (cell h.row) h.way h.is_joined)
-      (λ (e : (partner_of c h).0.0 ≡ x). ap (λ (y : Row). is_fresh (cell y)) (sym e) ∙ partner_open threads rows cell offer h.row h.way (partner_of c h).0 l h.is_joined (partner_of c h).1)
-      (taken_rows offer h.row h.way (partner_of c h).0 c x (pair_in c h) v)
+      (λ (p : (p : Row × ℕ) × (h.way.partner ≡ Some p) × (p.0 ≡ x)).
+      ap (λ (y : Row). is_fresh (cell y)) (sym p.2) ∙ partner_open threads rows cell offer h.row h.way p.0 l h.is_joined p.1)
+      (rows_in c x h v)
 
   -- the commit that a row names is the one that any row names in which it is
   same_named : (r : Row) (j : Joined) (c : Commit) → joined_of (cell r) ≡ Some j → (h : IsIn (joined_by cell) offer c) → Involves c r → commit_named offer r j ≡ Some c
@@ -172,46 +157,54 @@ module _ (threads rows : ℕ) (cell : Row → Cell) (offer : Row → ℕ → Opt
       (λ (x : h.row ≡ r).
       let same : h.way ≡ j = some_inj h.way j (sym h.is_joined ∙ ap (λ (y : Row). joined_of (cell y)) x ∙ e) in
       (λ i. commit_named offer (sym x i) (sym same i)) ∙ h.is_named)
-      (λ (x : (partner_of c h).0.0 ≡ r). ⊎_elim
-      (λ (k : cell (partner_of c h).0.0 ≡ Claimed).
-      let bad : None ≡ Some j = sym (ap joined_of (ap cell (sym x) ∙ k)) ∙ e in
+      (λ (x : (p : Row × ℕ) × (h.way.partner ≡ Some p) × (p.0 ≡ r)).
+      let p : Row × ℕ = x.0 in
+      let side : IsSideOf cell offer h.row h.way p = l.sides h.row h.way p h.is_joined x.1 in
+      ⊎_elim
+      (λ (k : cell p.0 ≡ Claimed).
+      let bad : None ≡ Some j = sym (ap joined_of (ap cell (sym x.2) ∙ k)) ∙ e in
       cc)
-      (λ (k : joined_of (cell (partner_of c h).0.0) ≡ Some (mirrored h.row h.way (partner_of c h).0.1)).
-      let same : mirrored h.row h.way (partner_of c h).0.1 ≡ j = some_inj _ j (sym k ∙ ap (λ (y : Row). joined_of (cell y)) x ∙ e) in
-      (λ i. commit_named offer (sym x i) (sym same i))
-      ∙ same_commit offer h.row h.way (partner_of c h).0.0 (partner_of c h).0.1 (partner_of c h).1 (side_of_in c h).meets
+      (λ (k : joined_of (cell p.0) ≡ Some (mirrored h.row h.way p.1)).
+      let same : mirrored h.row h.way p.1 ≡ j = some_inj _ j (sym k ∙ ap (λ (y : Row). joined_of (cell y)) x.2 ∙ e) in
+      (λ i. commit_named offer (sym x.2 i) (sym same i))
+      ∙ same_commit offer h.row h.way p.0 p.1 x.1 side.meets
       ∙ h.is_named)
-      (side_of_in c h).back)
-      (taken_rows offer h.row h.way (partner_of c h).0 c r (pair_in c h) v)
+      side.back)
+      (rows_in c r h v)
 
   once_in : (r : Row) (c d : Commit) → IsIn (joined_by cell) offer c → IsIn (joined_by cell) offer d → Involves c r → Involves d r → c ≡ d
   once_in r c d h k v w = ⊎_elim
       (λ (x : h.row ≡ r). some_inj c d (sym h.is_named ∙ same_named h.row h.way d h.is_joined k (subst (Involves d) (sym x) w)))
-      (λ (x : (partner_of c h).0.0 ≡ r). ⊎_elim
+      (λ (x : (p : Row × ℕ) × (h.way.partner ≡ Some p) × (p.0 ≡ r)). ⊎_elim
       (λ (y : k.row ≡ r). sym (some_inj d c (sym k.is_named ∙ same_named k.row k.way c k.is_joined h (subst (Involves c) (sym y) v))))
-      (λ (y : (partner_of d k).0.0 ≡ r).
-      let a : names (joined_of (cell h.row)) r ≡ true = ap (names (joined_of (cell h.row))) (sym x) ∙ names_from (joined_of (cell h.row)) h.way (partner_of c h).0 h.is_joined (partner_of c h).1 in
-      let b : names (joined_of (cell k.row)) r ≡ true = ap (names (joined_of (cell k.row))) (sym y) ∙ names_from (joined_of (cell k.row)) k.way (partner_of d k).0 k.is_joined (partner_of d k).1 in
+      (λ (y : (p : Row × ℕ) × (k.way.partner ≡ Some p) × (p.0 ≡ r)).
+      let a : names (joined_of (cell h.row)) r ≡ true = ap (names (joined_of (cell h.row))) (sym x.2) ∙ names_from (joined_of (cell h.row)) h.way x.0 h.is_joined x.1 in
+      let b : names (joined_of (cell k.row)) r ≡ true = ap (names (joined_of (cell k.row))) (sym y.2) ∙ names_from (joined_of (cell k.row)) k.way y.0 k.is_joined y.1 in
       let same : h.row ≡ k.row = l.once h.row k.row r a b in
       let ways : h.way ≡ k.way = some_inj h.way k.way (sym h.is_joined ∙ ap (λ (z : Row). joined_of (cell z)) same ∙ k.is_joined) in
       some_inj c d (sym h.is_named ∙ (λ i. commit_named offer (same i) (ways i)) ∙ k.is_named))
-      (taken_rows offer k.row k.way (partner_of d k).0 d r (pair_in d k) w))
-      (taken_rows offer h.row h.way (partner_of c h).0 c r (pair_in c h) v)
+      (rows_in d r k w))
+      (rows_in c r h v)
 
   fits_pair : (q : Row × ℕ) (p : Row × ℕ) (s : ℕ) (c : Commit) → q.0.thread ≢ p.0.thread → IsSent offer q p s c → Fits (joined_by cell) offer bound c
   fits_pair q p s c n x = subst (Fits (joined_by cell) offer bound) (sym x.is) (n, x.sends, x.receives)
 
   fits_in : (c : Commit) → IsIn (joined_by cell) offer c → Fits (joined_by cell) offer bound c
-  fits_in c h =
-      let n = (side_of_in c h).apart in
+  fits_in c h = ⊎_elim
+      (λ (n : h.way.partner ≡ None).
+      let a = alone_of_named offer h.row h.way c n (l.alone h.row h.way h.is_joined n).alone h.is_named in
+      subst (Fits (joined_by cell) offer bound) (sym a.2) a.1)
+      (λ (p : (p : Row × ℕ) × (h.way.partner ≡ Some p)).
+      let side : IsSideOf cell offer h.row h.way p.0 = l.sides h.row h.way p.0 h.is_joined p.1 in
       ⊎_elim
-      (λ (s : IsSent offer (h.row, h.way.own) (partner_of c h).0 h.way.stamp c). fits_pair _ _ h.way.stamp c n s)
-      (λ (s : IsSent offer (partner_of c h).0 (h.row, h.way.own) h.way.stamp c). fits_pair _ _ h.way.stamp c (λ e. n (sym e)) s)
-      (pair_in c h)
+      (λ (s : IsSent offer (h.row, h.way.own) p.0 h.way.stamp c). fits_pair _ _ h.way.stamp c side.apart s)
+      (λ (s : IsSent offer p.0 (h.row, h.way.own) h.way.stamp c). fits_pair _ _ h.way.stamp c (λ e. side.apart (sym e)) s)
+      (pair_of_named offer h.row h.way p.0 c p.1 side.meets h.is_named))
+      (cases_Option h.way.partner)
 
-  -- the rows before an open row are joined, with rising stamps
+  -- the rows before an open row are taken, with rising stamps
   open_suc : (t g : ℕ) → is_fresh (cell (row_at t (suc g))) ≡ false → is_some (joined_of (cell (row_at t g))) ≡ true
-  open_suc t g f = l.in_turn t g (ap (λ n. is_fresh (cell (row_at t n))) (omega arith) ∙ f)
+  open_suc t g f = taken_joined (cell (row_at t g)) (l.in_turn t g (ap (λ n. is_fresh (cell (row_at t n))) (omega arith) ∙ f))
 
   open_before : (t g : ℕ) → is_fresh (cell (row_at t (suc g))) ≡ false → is_fresh (cell (row_at t g)) ≡ false
   open_before t g f = let j = some_parts _ (open_suc t g f) in fresh_not_joined (cell (row_at t g)) j.0 j.1
@@ -229,10 +222,10 @@ module _ (threads rows : ℕ) (cell : Row → Cell) (offer : Row → ℕ → Opt
       ∙ ap (λ n. stamp_of (joined_of (cell (row_at t n)))) (omega arith)
 
   stamp_above : (r : Row) (j : Joined) → joined_of (cell r) ≡ Some j → last_stamp (joined_by cell) r < j.stamp
-  stamp_above r j e =
-      let p = some_parts j.partner (l.paired r j e) in
-      let s = (l.sides r j p.0 e p.1).stamp in
-      omega arith
+  stamp_above r j e = ⊎_elim
+      (λ (n : j.partner ≡ None). let s = (l.alone r j e n).stamp in omega arith)
+      (λ (p : (p : Row × ℕ) × (j.partner ≡ Some p)). let s = (l.sides r j p.0 e p.1).stamp in omega arith)
+      (cases_Option j.partner)
 
   rising : (t g h : ℕ) → is_fresh (cell (row_at t g)) ≡ false → h < g → stamp_of (joined_of (cell (row_at t h))) ≤ last_stamp (joined_by cell) (row_at t g)
   rising t zero h f b = absurd (omega arith)
@@ -253,19 +246,31 @@ module _ (threads rows : ℕ) (cell : Row → Cell) (offer : Row → ℕ → Opt
   -- the stamp of a commit that an open row is in is above its last stamp
   stamp_over : (c : Commit) (x : Row) → (h : IsIn (joined_by cell) offer c) → Involves c x → last_stamp (joined_by cell) x < stamp_in c
   stamp_over c x h v =
-      let s = (side_of_in c h).stamp in
-      let is = stamp_of_pair offer h.row h.way (partner_of c h).0 c (pair_in c h) in
+      let is = (named_rows offer h.row h.way c h.is_named).stamp in
       ⊎_elim
       (λ (e : h.row ≡ x).
+      let above = stamp_above h.row h.way h.is_joined in
       let at : last_stamp (joined_by cell) h.row ≡ last_stamp (joined_by cell) x = ap (last_stamp (joined_by cell)) e in
       omega arith)
-      (λ (e : (partner_of c h).0.0 ≡ x).
-      let at : last_stamp (joined_by cell) (partner_of c h).0.0 ≡ last_stamp (joined_by cell) x = ap (last_stamp (joined_by cell)) e in
+      (λ (p : (p : Row × ℕ) × (h.way.partner ≡ Some p) × (p.0 ≡ x)).
+      let s = (l.sides h.row h.way p.0 h.is_joined p.1).stamp in
+      let at : last_stamp (joined_by cell) p.0.0 ≡ last_stamp (joined_by cell) x = ap (last_stamp (joined_by cell)) p.2 in
       omega arith)
-      (taken_rows offer h.row h.way (partner_of c h).0 c x (pair_in c h) v)
+      (rows_in c x h v)
 
-  no_enabler : (c d : Commit) (q p : Row × ℕ) (s : ℕ) → IsSent offer q p s c → Enables bound d c → ⊥
-  no_enabler c d q p s x e = subst (Enables bound d) x.is e
+  -- no commit enables another
+  no_enabler : (c d : Commit) → IsIn (joined_by cell) offer c → Enables bound d c → ⊥
+  no_enabler c d h e = ⊎_elim
+      (λ (n : h.way.partner ≡ None).
+      let a = alone_of_named offer h.row h.way c n (l.alone h.row h.way h.is_joined n).alone h.is_named in
+      subst (Enables bound d) a.2 e)
+      (λ (p : (p : Row × ℕ) × (h.way.partner ≡ Some p)).
+      let side : IsSideOf cell offer h.row h.way p.0 = l.sides h.row h.way p.0 h.is_joined p.1 in
+      ⊎_elim
+      (λ (s : IsSent offer (h.row, h.way.own) p.0 h.way.stamp c). subst (Enables bound d) s.is e)
+      (λ (s : IsSent offer p.0 (h.row, h.way.own) h.way.stamp c). subst (Enables bound d) s.is e)
+      (pair_of_named offer h.row h.way p.0 c p.1 side.meets h.is_named))
+      (cases_Option h.way.partner)
 
   above_in : (c : Commit) → (h : IsIn (joined_by cell) offer c) → (d : Commit) → IsIn (joined_by cell) offer d → CountsFor bound d c → stamp_in d < stamp_in c
   above_in c h d k (inl e) =
@@ -281,10 +286,7 @@ module _ (threads rows : ℕ) (cell : Row → Cell) (offer : Row → ℕ → Opt
       let up = rising t g b open_g e.3 in
       let over = stamp_over c (row_at t g) h e.5 in
       omega arith
-  above_in c h d k (inr e) = absurd (⊎_elim
-      (λ (s : IsSent offer (h.row, h.way.own) (partner_of c h).0 h.way.stamp c). no_enabler c d _ _ h.way.stamp s e)
-      (λ (s : IsSent offer (partner_of c h).0 (h.row, h.way.own) h.way.stamp c). no_enabler c d _ _ h.way.stamp s e)
-      (pair_in c h))
+  above_in c h d k (inr e) = absurd (no_enabler c d h e)
 
   -- the commit before, where a row has a last stamp
   last_commit : (c : Commit) (r : Row) → Involves c r → 0 < last_stamp (joined_by cell) r → (d : Commit) × IsIn (joined_by cell) offer d × CountsFor bound d c × (stamp_in d ≡ last_stamp (joined_by cell) r)
@@ -306,22 +308,22 @@ module _ (threads rows : ℕ) (cell : Row → Cell) (offer : Row → ℕ → Opt
           ))
           (cases_Option (joined_of (cell (row_at r.thread n))))
 
-  involves_both : (c : Commit) (h : IsIn (joined_by cell) offer c) → Involves c h.row × Involves c (partner_of c h).0.0
-  involves_both c h = ⊎_elim
-      (λ (s : IsSent offer (h.row, h.way.own) (partner_of c h).0 h.way.stamp c).
-      ((h.way.own, subst (λ (d : Commit). Takes d h.row h.way.own) (sym s.is) (inl refl)), ((partner_of c h).0.1, subst (λ (d : Commit). Takes d (partner_of c h).0.0 (partner_of c h).0.1) (sym s.is) (inr refl))))
-      (λ (s : IsSent offer (partner_of c h).0 (h.row, h.way.own) h.way.stamp c).
-      ((h.way.own, subst (λ (d : Commit). Takes d h.row h.way.own) (sym s.is) (inr refl)), ((partner_of c h).0.1, subst (λ (d : Commit). Takes d (partner_of c h).0.0 (partner_of c h).0.1) (sym s.is) (inl refl))))
-      (pair_in c h)
-
   next_in : (c : Commit) → IsIn (joined_by cell) offer c → (stamp_in c ≡ 1) ⊎ ((d : Commit) × IsIn (joined_by cell) offer d × CountsFor bound d c × (stamp_in c ≡ stamp_in d + 1))
   next_in c h =
-      let p : Row × ℕ = (partner_of c h).0 in
-      let s : h.way.stamp ≡ 1 + max (last_stamp (joined_by cell) h.row) (last_stamp (joined_by cell) p.0) = (side_of_in c h).stamp in
-      let is = stamp_of_pair offer h.row h.way p c (pair_in c h) in
-      let both = involves_both c h in
-      pick (last_stamp (joined_by cell) h.row) (last_stamp (joined_by cell) p.0) (is ∙ s) (last_commit c h.row both.0) (last_commit c p.0 both.1)
+      let at = named_rows offer h.row h.way c h.is_named in
+      ⊎_elim
+      (λ (n : h.way.partner ≡ None).
+      let s = (l.alone h.row h.way h.is_joined n).stamp in
+      let own = last_commit c h.row (h.way.own, at.own) in
+      pick (last_stamp (joined_by cell) h.row) (last_stamp (joined_by cell) h.row) (at.stamp ∙ s ∙ twice (last_stamp (joined_by cell) h.row)) own own)
+      (λ (p : (p : Row × ℕ) × (h.way.partner ≡ Some p)).
+      let s = (l.sides h.row h.way p.0 h.is_joined p.1).stamp in
+      pick (last_stamp (joined_by cell) h.row) (last_stamp (joined_by cell) p.0.0) (at.stamp ∙ s) (last_commit c h.row (h.way.own, at.own)) (last_commit c p.0.0 (p.0.1, at.other p.0 p.1)))
+      (cases_Option h.way.partner)
     where
+      twice : (a : ℕ) → 1 + a ≡ 1 + max a a
+      twice a = omega arith
+
       pick : (a b : ℕ) → stamp_in c ≡ 1 + max a b → (0 < a → (d : Commit) × IsIn (joined_by cell) offer d × CountsFor bound d c × (stamp_in d ≡ a)) → (0 < b → (d : Commit) × IsIn (joined_by cell) offer d × CountsFor bound d c × (stamp_in d ≡ b)) → (stamp_in c ≡ 1) ⊎ ((d : Commit) × IsIn (joined_by cell) offer d × CountsFor bound d c × (stamp_in c ≡ stamp_in d + 1))
       pick a b s f g = ⊎_elim
           (λ (lt : a < b). let d = g (omega arith) in let at : stamp_in d.0 ≡ b = d.3 in inr (d.0, d.1, d.2, omega arith))
@@ -340,5 +342,5 @@ module _ (threads rows : ℕ) (cell : Row → Cell) (offer : Row → ℕ → Opt
         let j = some_parts _ (joined_before t g b (open_of c (row_at t g) h v) lt) in
         ((commit_of_joined (row_at t b) j.0 j.1).0, in_of_joined (row_at t b) j.0 j.1, involves_own (row_at t b) j.0 j.1);
     stamps = λ c h. record { above = above_in c h; next = next_in c h };
-    bounded = λ c h. subst (λ n. n ≤ length (commits_of (all_rows threads rows) (joined_by cell) offer)) (sym (stamp_of_pair offer h.row h.way (partner_of c h).0 c (pair_in c h))) (l.bounded h.row h.way h.is_joined);
+    bounded = λ c h. subst (λ n. n ≤ length (commits_of (all_rows threads rows) (joined_by cell) offer)) (sym (named_rows offer h.row h.way c h.is_named).stamp) (l.bounded h.row h.way h.is_joined);
   }

@@ -3,7 +3,7 @@ use Rattle.std.proofs.Common.{◌≡◌, ℕ, zero, suc, ◌+◌, ◌-◌, ◌*�
 use Rattle.std.specs.Prelude.{unwrap_or}
 use Rattle.std.specs.List.{range_with_len}
 use Rattle.std.proofs.lemmas.Bool.{cases_eq, cases_Bool, cases_lt, false≢true, true≢false, and_from, and_parts, lt-ltb, ltb-true, ne_eqb}
-use Rattle.std.proofs.lemmas.List.{get_or_append_left, get_or-append_right, get_or-map, get_or_past, get_or-replicate, length-append, length-replicate}
+use Rattle.std.proofs.lemmas.List.{get_or_append_left, get_or-append_right, get_or-map, get_or_past, get_or-replicate, length-append, length-replicate, length-map}
 use Rattle.std.proofs.lemmas.List.FromFn.{get_or-map-range_with_len, length-map-range_with_len}
 use Rattle.words.specs.declared.Row.{Row}
 use Rattle.words.specs.declared.NackName.{NackName}
@@ -183,6 +183,9 @@ start_holder threads rows seats r h k =
     ap (λ b. cond b (get_or (map (first_holder seats) (all_rows threads rows)) (number_of rows r) None) None) (and_from _ _ (lt-ltb r.thread threads h) (lt-ltb r.sync rows k))
     ∙ at_number (first_holder seats) threads rows r None h k
 
+pub length_holders : (threads rows seats : ℕ) → length (map (first_holder seats) (all_rows threads rows)) ≡ threads * rows
+length_holders threads rows seats = length-map (all_rows threads rows) (first_holder seats) ∙ length_all threads rows
+
 pub kept_start : (threads rows seats : ℕ) → threads ≤ 64 → rows ≤ 1024 → Kept (start_world threads rows seats)
 unfolding start_world
 kept_start threads rows seats a b = record {
@@ -196,7 +199,7 @@ kept_start threads rows seats a b = record {
   linked = record {
     inside = λ r h. absurd (true≢false (sym (ap is_fresh (start_cell threads rows r)) ∙ h));
     in_turn = λ t g h. absurd (true≢false (sym (ap is_fresh (start_cell threads rows (record { thread = t; sync = g + 1 }))) ∙ h));
-    paired = λ r j h. let bad : None ≡ Some j = sym (ap joined_of (start_cell threads rows r)) ∙ h in cc;
+    alone = λ r j h k. let bad : None ≡ Some j = sym (ap joined_of (start_cell threads rows r)) ∙ h in cc;
     sides = λ r j p h k. let bad : None ≡ Some j = sym (ap joined_of (start_cell threads rows r)) ∙ h in cc;
     once = λ q r p h k. absurd (false≢true (sym (ap (λ (c : Cell). names (joined_of c) p) (start_cell threads rows q)) ∙ h));
     bounded = λ r j h. let bad : None ≡ Some j = sym (ap joined_of (start_cell threads rows r)) ∙ h in cc;
@@ -207,6 +210,8 @@ kept_start threads rows seats a b = record {
       let bad : None ≡ Some seat =
       sym (start_holder threads rows seats r in_t.0 in_t.1 ∙ ap (λ c. cond c (Some (t % seats)) None) (ne_eqb (g + 1) 0 (λ e. absurd (omega arith)))) ∙ h in
       cc;
+  seated = length_holders threads rows seats;
+  blank = λ r p i b n. start_word threads rows r p;
 }
 
 -- THE LAW OF ALL SCHEDULES

@@ -11,11 +11,12 @@ use Rattle.words.specs.declared.Offer.{Offer}
 use Rattle.words.specs.declared.Base.{Base}
 use Rattle.words.specs.declared.Base.TheVariants.{Send, Recv, Always, OnNack, Never}
 use Rattle.words.specs.declared.Commit.{Commit}
+use Rattle.words.specs.declared.Message.{Message}
 use Rattle.words.specs.declared.Cell.{Cell}
 use Rattle.words.specs.declared.Cell.TheVariants.{Fresh, Waiting, Claimed, Synched, Taken}
-use Rattle.protocol.specs.Tables.{row_eq, is_fresh, joined_of, names, is_partner, offers_meet, bases_meet}
+use Rattle.protocol.specs.Tables.{row_eq, is_fresh, is_taken, joined_of, names, is_partner, offers_meet, bases_meet, is_always, stands_alone}
 use Rattle.protocol.specs.Worlds.{mirrored}
-use Rattle.protocol.specs.Ledgers.{commits_of, told_at, told_by, tells, is_send, sends, commit_named, commit_by, pair_by, received_by}
+use Rattle.protocol.specs.Ledgers.{commits_of, told_at, told_by, tells, is_send, sends, commit_named, commit_by, alone_by, pair_by, received_by}
 use Rattle.protocol.specs.Kept.{Linked}
 use Rattle.protocol.proofs.RowLemmas.{row_eq-refl, row_eq-true, row_cases, put, put_same, put_other, IsAbsent, IsOnce}
 
@@ -48,7 +49,7 @@ pub record IsNaming (o : Option Joined) (x : Row) : Type 0 where
   pub partner : way.partner ≡ Some place
   pub row : place.0 ≡ x
 
-partner_parts : (o : Option (Row × ℕ)) (x : Row) → is_partner o x ≡ true → (p : Row × ℕ) × (o ≡ Some p) × (p.0 ≡ x)
+pub partner_parts : (o : Option (Row × ℕ)) (x : Row) → is_partner o x ≡ true → (p : Row × ℕ) × (o ≡ Some p) × (p.0 ≡ x)
 partner_parts None x h = absurd (false≢true h)
 partner_parts (Some p) x h = (p, refl, row_eq-true p.0 x h)
 
@@ -67,6 +68,13 @@ fresh_not_joined Waiting j h = refl
 fresh_not_joined Claimed j h = refl
 fresh_not_joined (Synched k) j h = refl
 fresh_not_joined (Taken k) j h = refl
+
+pub taken_joined : (c : Cell) → is_taken c ≡ true → is_some (joined_of c) ≡ true
+taken_joined Fresh h = absurd (false≢true h)
+taken_joined Waiting h = absurd (false≢true h)
+taken_joined Claimed h = absurd (false≢true h)
+taken_joined (Synched j) h = absurd (false≢true h)
+taken_joined (Taken j) h = refl
 
 -- SUMS OVER ROWS
 
@@ -185,6 +193,26 @@ unfolding commit_named
 named_some offer r j p e h =
     let found = pair_is_some r j p (offer r j.own) (offer p.0 p.1) h in
     (found.0, ap (λ (v : Option (Row × ℕ)). commit_by offer r j v (offer r j.own)) e ∙ ap (commit_by offer r j (Some p)) found.2 ∙ found.3)
+
+-- an offer that stands alone is an always
+pub always_of : (a : Option Offer) → stands_alone a ≡ true → (m : Message) × (o : Offer) × (a ≡ Some o) × (o.base ≡ Always m)
+always_of None h = absurd (false≢true h)
+always_of (Some a) h = let m = by_base a.base h in (m.0, a, refl, m.1)
+  where
+    by_base : (b : Base) → is_always b ≡ true → (m : Message) × (b ≡ Always m)
+    by_base (Send c m) h = absurd (false≢true h)
+    by_base (Recv c) h = absurd (false≢true h)
+    by_base (Always m) h = (m, refl)
+    by_base (OnNack n) h = absurd (false≢true h)
+    by_base Never h = absurd (false≢true h)
+
+pub named_alone : (offer : Row → ℕ → Option Offer) (r : Row) (j : Joined) → j.partner ≡ None → stands_alone (offer r j.own) ≡ true → (c : Commit) × (commit_named offer r j ≡ Some c)
+unfolding commit_named
+named_alone offer r j e h =
+    let o = always_of (offer r j.own) h in (
+      _,
+      ap (λ (v : Option (Row × ℕ)). commit_by offer r j v (offer r j.own)) e ∙ ap (commit_by offer r j None) o.2 ∙ ap (alone_by r j) o.3,
+    )
 
 eqb_swapped : (c d : ℕ) → eqb c d ≡ eqb d c
 eqb_swapped c d = ⊎_elim (λ (e : c ≡ d). rw e refl) (λ (n : c ≡ d → ⊥). ne_eqb c d n ∙ sym (ne_eqb d c (λ e. n (sym e)))) (cases_eq c d)

@@ -1,19 +1,20 @@
 -- What a table reads as after a write to one of its words.
-use Rattle.std.proofs.Common.{◌≡◌, ◌≢◌, ℕ, ◌+◌, ◌*◌, ◌<◌, ◌≤◌, true, false, cond, ltb, length, sym, ap, ◌∙◌, inl, inr, ⊎_elim, refl, arith, Option, Some, None, is_some}
+use Rattle.std.proofs.Common.{◌≡◌, ◌≢◌, ℕ, ◌+◌, ◌*◌, ◌<◌, ◌≤◌, true, false, cond, ltb, length, sym, ap, ◌∙◌, inl, inr, ⊎_elim, refl, arith, Option, Some, None, is_some, subst}
 use Rattle.std.specs.Prelude.{unwrap_or}
 use Rattle.std.proofs.lemmas.Bool.{cases_eq, cases_Bool, ltb-true, ltb-false, le-ltb, lt-ltb, false≢true, true≢false}
 use Rattle.std.proofs.lemmas.List.{length-set}
 use Rattle.words.specs.declared.Row.{Row}
 use Rattle.words.specs.declared.Offer.{Offer}
+use Rattle.words.specs.declared.Joined.{Joined}
 use Rattle.words.specs.declared.Cell.{Cell}
 use Rattle.words.specs.declared.Cell.TheVariants.{Fresh, Waiting, Claimed, Synched, Taken}
-use Rattle.words.specs.Words.{cell_of, cell_word, count_of, offer_of, nack_of, is_word_for, IsCellInRange}
-use Rattle.words.proofs.WordLemmas.{cell_of-cell_word, count-count_of, cell_is_word}
-use Rattle.protocol.specs.Tables.{Table, thread_len, is_row, word_at, row_eq, cell_at, is_fresh, count_at, offer_at}
+use Rattle.words.specs.Words.{cell_of, cell_word, count_of, offer_of, nack_of, is_word_for, IsCellInRange, IsJoinedInRange}
+use Rattle.words.proofs.WordLemmas.{cell_of-cell_word, count-count_of, cell_is_word, cell_word-cell_of}
+use Rattle.protocol.specs.Tables.{Table, thread_len, is_row, word_at, row_eq, cell_at, is_fresh, count_at, offer_at, joined_at, joined_of}
 use Rattle.protocol.specs.Worlds.{with_word, with_cell}
 use Rattle.protocol.specs.Kept.{IsFormed}
 use Rattle.protocol.proofs.RowLemmas.{row_cases, put, put_same, put_other}
-use Rattle.protocol.proofs.Linking.{cases_Option}
+use Rattle.protocol.proofs.Linking.{cases_Option, some_inj, fresh_not_joined}
 use Rattle.protocol.proofs.Places.{is_row_after, is_nack_after, word_same, word_other, nack_other}
 
 -- a row that the table has not reads as Fresh, with no offers
@@ -143,6 +144,10 @@ unfolding with_cell
 offer_after_cell t x r n c h f =
     offers_same t (with_cell t x c) r n f (λ e q b k. word_other t x r 0 q (cell_word c) h (row_of_open t r e) (omega arith) k (inr (λ (z : q ≡ 0). absurd (omega arith))))
 
+pub row_after_cell : (t : Table) (x r : Row) (c : Cell) → is_row (with_cell t x c) r ≡ is_row t r
+unfolding with_cell
+row_after_cell t x r c = is_row_after t x r 0 (cell_word c)
+
 -- WELL-FORMED WORDS stay so
 pub formed_after_word : (t : Table) (x : Row) (p v : ℕ) → length t.words ≡ t.threads * thread_len t.rows → is_row t x ≡ true → p < 34 → is_word_for p v ≡ true → IsFormed t → IsFormed (with_word t x p v)
 formed_after_word t x p v s h k w f = record {
@@ -175,3 +180,21 @@ open_cell Waiting h = refl
 open_cell Claimed h = refl
 open_cell (Synched j) h = refl
 open_cell (Taken j) h = refl
+
+-- how a row is committed has room in its word
+pub joined_ranged : (t : Table) (r : Row) (j : Joined) → joined_at t r ≡ Some j → IsJoinedInRange j
+joined_ranged t r j h =
+    let open_r = fresh_not_joined (cell_at t r) j h in
+    let read = cell_inside t r (row_of_open t r open_r) in
+    ⊎_elim
+    (λ (e : cell_of (word_at t r 0) ≡ None). let bad : None ≡ Some j = sym (ap joined_of (read ∙ ap (λ (o : Option Cell). unwrap_or o Fresh) e)) ∙ h in cc)
+    (λ (c : (c : Cell) × (cell_of (word_at t r 0) ≡ Some c)).
+    in_cell c.0 (cell_word-cell_of (word_at t r 0) c.0 c.1).0 (sym (ap joined_of (read ∙ ap (λ (o : Option Cell). unwrap_or o Fresh) c.1)) ∙ h))
+    (cases_Option (cell_of (word_at t r 0)))
+  where
+    in_cell : (c : Cell) → IsCellInRange c → joined_of c ≡ Some j → IsJoinedInRange j
+    in_cell Fresh range e = let bad : None ≡ Some j = e in cc
+    in_cell Waiting range e = let bad : None ≡ Some j = e in cc
+    in_cell Claimed range e = let bad : None ≡ Some j = e in cc
+    in_cell (Synched i) range e = subst IsJoinedInRange (some_inj i j e) range
+    in_cell (Taken i) range e = subst IsJoinedInRange (some_inj i j e) range

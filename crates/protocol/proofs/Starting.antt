@@ -30,6 +30,3 @@ start_sound s threads rows seats n e f a b = record {
   kept = subst Kept (sym e) (kept_start threads rows seats a b);
   told = subst (λ (z : World × List (Option Row)). Tells z.0 z.1) (λ i. (sym e i, sym f i)) (tells_start threads rows seats n);
 }
-
-pub length_holders : (threads rows seats : ℕ) → length (map (first_holder seats) (all_rows threads rows)) ≡ threads * rows
-length_holders threads rows seats = length-map (all_rows threads rows) (first_holder seats) ∙ length_all threads rows

@@ -9,12 +9,12 @@ use Rattle.words.specs.declared.Offer.{Offer}
 use Rattle.words.specs.declared.Commit.{Commit}
 use Rattle.words.specs.declared.Cell.{Cell}
 use Rattle.words.specs.declared.Cell.TheVariants.{Waiting, Claimed, Synched}
-use Rattle.protocol.specs.Tables.{row_eq, all_rows, is_fresh, joined_of, names, is_partner, offers_meet, last_stamp, stamp_of}
+use Rattle.protocol.specs.Tables.{row_eq, all_rows, is_fresh, is_taken, joined_of, names, is_partner, offers_meet, stands_alone, last_stamp, stamp_of}
 use Rattle.protocol.specs.Worlds.{mirrored}
 use Rattle.protocol.specs.Ledgers.{commits_of, told_at, told_by, tells, is_send, commit_named}
-use Rattle.protocol.specs.Kept.{joined_by, IsSideOf, Linked}
+use Rattle.protocol.specs.Kept.{joined_by, IsSideOf, IsAlone, Linked}
 use Rattle.protocol.proofs.RowLemmas.{row_eq-true, row_eq-false, row_cases, row_ne, put, put_same, put_other, once_all}
-use Rattle.protocol.proofs.Linking.{cases_Option, some_inj, naming, names_from, fresh_not_joined, sum_change, sum_change_two, unnamed_idle, partner_open, told_same, told_count, count_of_commits, named_some, offers_swapped, one_offer_sends}
+use Rattle.protocol.proofs.Linking.{cases_Option, some_inj, naming, names_from, fresh_not_joined, taken_joined, named_alone, sum_change, sum_change_two, unnamed_idle, partner_open, told_same, told_count, count_of_commits, named_some, offers_swapped, one_offer_sends}
 
 -- the row before
 abbrev before : Row → Row
@@ -26,7 +26,7 @@ before_ne threads rows cell offer x r l j f n =
     row_ne (before r) x (λ e.
     let here : is_fresh (cell (record { thread = r.thread; sync = r.sync - 1 + 1 })) ≡ false =
     ap (λ k. is_fresh (cell (record { thread = r.thread; sync = k }))) (omega arith) ∙ f in
-    let some : is_some (joined_of (cell (before r))) ≡ true = l.in_turn r.thread (r.sync - 1) here in
+    let some : is_some (joined_of (cell (before r))) ≡ true = taken_joined (cell (before r)) (l.in_turn r.thread (r.sync - 1) here) in
     false≢true (sym (ap (λ (o : Option Joined). is_some o) (ap (λ (y : Row). joined_of (cell y)) e ∙ j)) ∙ some))
 
 -- so the last stamp of an open row stays where such a row is joined
@@ -40,46 +40,60 @@ last_kept threads rows cell offer x r c l j f =
     ap (λ (d : Cell). cond (eqb r.sync 0) 0 (stamp_of (joined_of d))) (put_other cell x c (before r) (before_ne threads rows cell offer x r l j f n)))
     (cases_eq r.sync 0)
 
--- a step that joins nothing: claim, yield and open
+-- a step that joins nothing anew: open, claim, yield and take
 
--- a row may be open where the row before it is joined
+-- a row may be open where the row before it was taken
 pub record HasTurn (threads rows : ℕ) (cell : Row → Cell) (x : Row) : Type 0 where
   pub inside : (x.thread < threads) × (x.sync < rows)
-  pub turn : (sync : ℕ) → x.sync ≡ sync + 1 → is_some (joined_of (cell (record { thread = x.thread; sync = sync }))) ≡ true
+  pub turn : (sync : ℕ) → x.sync ≡ sync + 1 → is_taken (cell (record { thread = x.thread; sync = sync })) ≡ true
 
 module _ (threads rows : ℕ) (cell : Row → Cell) (offer offer' : Row → ℕ → Option Offer) (x : Row) (c : Cell)
     (l : Linked threads rows cell offer)
-    (was : joined_of (cell x) ≡ None)
-    (is : joined_of c ≡ None)
-    (unnamed : (q : Row) → names (joined_of (cell q)) x ≡ false)
+    (same : joined_of c ≡ joined_of (cell x))
+    (takes : is_taken (cell x) ≡ true → is_taken c ≡ true)
+    (unclaimed : (q : Row) → names (joined_of (cell q)) x ≡ true → cell x ≢ Claimed)
     (turn : is_fresh c ≡ false → HasTurn threads rows cell x)
     (offers : (r : Row) → is_fresh (cell r) ≡ false → offer' r ≡ offer r) where
-  now : Row → Cell
-  now = put cell x c
-
   joined_same : (r : Row) → joined_of (put cell x c r) ≡ joined_of (cell r)
   joined_same r = ⊎_elim
-      (λ (e : r ≡ x). ap (λ (y : Row). joined_of (put cell x c y)) e ∙ ap joined_of (put_same cell x c) ∙ is ∙ sym was ∙ ap (λ (y : Row). joined_of (cell y)) (sym e))
+      (λ (e : r ≡ x). ap (λ (y : Row). joined_of (put cell x c y)) e ∙ ap joined_of (put_same cell x c) ∙ same ∙ ap (λ (y : Row). joined_of (cell y)) (sym e))
       (λ (e : row_eq r x ≡ false). ap joined_of (put_other cell x c r e))
       (row_cases r x)
 
-  named_other : (r p : Row) → names (joined_of (cell r)) p ≡ true → row_eq p x ≡ false
-  named_other r p h = row_ne p x (λ e. false≢true (sym (unnamed r) ∙ ap (names (joined_of (cell r))) (sym e) ∙ h))
+  taken_stays : (r : Row) → is_taken (cell r) ≡ true → is_taken (put cell x c r) ≡ true
+  taken_stays r h = ⊎_elim
+      (λ (e : r ≡ x). ap (λ (y : Row). is_taken (put cell x c y)) e ∙ ap is_taken (put_same cell x c) ∙ takes (ap (λ (y : Row). is_taken (cell y)) (sym e) ∙ h))
+      (λ (e : row_eq r x ≡ false). ap is_taken (put_other cell x c r e) ∙ h)
+      (row_cases r x)
+
+  last_same : (r : Row) → last_stamp (joined_by (put cell x c)) r ≡ last_stamp (joined_by cell) r
+  last_same r = λ i. last_stamp (λ (y : Row). joined_same y i) r
+
+  claimed_stays : (r p : Row) → names (joined_of (cell r)) p ≡ true → cell p ≡ Claimed → put cell x c p ≡ Claimed
+  claimed_stays r p h k =
+      put_other cell x c p (row_ne p x (λ e. unclaimed r (ap (names (joined_of (cell r))) (sym e) ∙ h) (ap cell (sym e) ∙ k))) ∙ k
 
   plain_side : (r : Row) (j : Joined) (p : Row × ℕ) → joined_of (cell r) ≡ Some j → j.partner ≡ Some p → IsSideOf (put cell x c) offer' r j p
   plain_side r j p h k =
       let old = l.sides r j p h k in
       let open_p : is_fresh (cell p.0) ≡ false = partner_open threads rows cell offer r j p l h k in
       let open_r : is_fresh (cell r) ≡ false = fresh_not_joined (cell r) j h in
-      let stays : put cell x c p.0 ≡ cell p.0 = put_other cell x c p.0 (named_other r p.0 (names_from (joined_of (cell r)) j p h k)) in
       record {
         apart = old.apart;
         meets = (λ i. offers_meet (offers r open_r i j.own) (offers p.0 open_p i p.1)) ∙ old.meets;
         back = ⊎_elim
-            (λ (e : cell p.0 ≡ Claimed). inl (stays ∙ e))
-            (λ (e : joined_of (cell p.0) ≡ Some (mirrored r j p.1)). inr (ap joined_of stays ∙ e))
+            (λ (e : cell p.0 ≡ Claimed). inl (claimed_stays r p.0 (names_from (joined_of (cell r)) j p h k) e))
+            (λ (e : joined_of (cell p.0) ≡ Some (mirrored r j p.1)). inr (joined_same p.0 ∙ e))
             old.back;
-        stamp = old.stamp ∙ (λ i. 1 + max (sym (last_kept threads rows cell offer x r c l was open_r) i) (sym (last_kept threads rows cell offer x p.0 c l was open_p) i));
+        stamp = old.stamp ∙ (λ i. 1 + max (sym (last_same r) i) (sym (last_same p.0) i));
+      }
+
+  plain_alone : (r : Row) (j : Joined) → joined_of (cell r) ≡ Some j → j.partner ≡ None → IsAlone (put cell x c) offer' r j
+  plain_alone r j h k =
+      let old = l.alone r j h k in
+      record {
+        alone = (λ i. stands_alone (offers r (fresh_not_joined (cell r) j h) i j.own)) ∙ old.alone;
+        stamp = old.stamp ∙ ap (λ n. 1 + n) (sym (last_same r));
       }
 
   plain_count : length (commits_of (all_rows threads rows) (joined_by (put cell x c)) offer') ≡ length (commits_of (all_rows threads rows) (joined_by cell) offer)
@@ -100,15 +114,15 @@ module _ (threads rows : ℕ) (cell : Row → Cell) (offer offer' : Row → ℕ 
     in_turn = λ thread sync h.
         let here : Row = record { thread = thread; sync = sync + 1 } in
         let prior : Row = record { thread = thread; sync = sync } in
-        ap (λ (o : Option Joined). is_some o) (joined_same prior) ∙ ⊎_elim
+        taken_stays prior (⊎_elim
         (λ (e : here ≡ x).
         let at : is_fresh c ≡ false = sym (ap is_fresh (ap (put cell x c) e ∙ put_same cell x c)) ∙ h in
         let t : x.thread ≡ thread = ap (λ (y : Row). y.thread) (sym e) in
         let had = (turn at).turn sync (ap (λ (y : Row). y.sync) (sym e)) in
-        subst (λ (n : ℕ). is_some (joined_of (cell (record { thread = n; sync = sync }))) ≡ true) t had)
+        subst (λ (n : ℕ). is_taken (cell (record { thread = n; sync = sync })) ≡ true) t had)
         (λ (e : row_eq here x ≡ false). l.in_turn thread sync (sym (ap is_fresh (put_other cell x c here e)) ∙ h))
-        (row_cases here x);
-    paired = λ r j h. l.paired r j (sym (joined_same r) ∙ h);
+        (row_cases here x));
+    alone = λ r j h k. plain_alone r j (sym (joined_same r) ∙ h) k;
     sides = λ r j p h k. plain_side r j p (sym (joined_same r) ∙ h) k;
     once = λ q r p h k. l.once q r p (ap (λ (o : Option Joined). names o p) (sym (joined_same q)) ∙ h) (ap (λ (o : Option Joined). names o p) (sym (joined_same r)) ∙ k);
     bounded = λ r j h. subst (λ (n : ℕ). j.stamp ≤ n) (sym plain_count) (l.bounded r j (sym (joined_same r) ∙ h));
@@ -136,7 +150,7 @@ or_true : (b : Bool) → (b || true) ≡ true
 or_true true = refl
 or_true false = refl
 
--- THE JOIN
+-- A ROW THAT IS COMMITTED
 
 apart_rows : (r s : Row) → (r.thread ≡ s.thread → ⊥) → row_eq r s ≡ false
 apart_rows r s h = row_ne r s (λ e. h (ap (λ (y : Row). y.thread) e))
@@ -162,6 +176,157 @@ last_bounded threads rows cell offer r l =
     subst P (sym (Rattle.std.proofs.lemmas.Bool.ne_eqb r.sync 0 z)) stamped)
     (cases_eq r.sync 0)
 
+-- a row that is neither joined nor Fresh is committed: rows stay inside and in turn, and a row alone stays so
+module _ (threads rows : ℕ) (cell : Row → Cell) (offer : Row → ℕ → Option Offer) (x : Row) (j : Joined)
+    (l : Linked threads rows cell offer)
+    (not_joined : joined_of (cell x) ≡ None)
+    (opened : is_fresh (cell x) ≡ false) where
+  inside_kept : (r : Row) → is_fresh (put cell x (Synched j) r) ≡ false → (r.thread < threads) × (r.sync < rows)
+  inside_kept r h = ⊎_elim
+      (λ (e : r ≡ x). subst (λ (y : Row). (y.thread < threads) × (y.sync < rows)) (sym e) (l.inside x opened))
+      (λ (e : row_eq r x ≡ false). l.inside r (sym (ap is_fresh (put_other cell x (Synched j) r e)) ∙ h))
+      (row_cases r x)
+
+  turn_kept : (thread sync : ℕ) → is_fresh (put cell x (Synched j) (record { thread = thread; sync = sync + 1 })) ≡ false → is_taken (put cell x (Synched j) (record { thread = thread; sync = sync })) ≡ true
+  turn_kept thread sync h =
+      let here : Row = record { thread = thread; sync = sync + 1 } in
+      let prior : Row = record { thread = thread; sync = sync } in
+      let was : is_fresh (cell here) ≡ false = ⊎_elim
+      (λ (e : here ≡ x). ap (λ (y : Row). is_fresh (cell y)) e ∙ opened)
+      (λ (e : row_eq here x ≡ false). sym (ap is_fresh (put_other cell x (Synched j) here e)) ∙ h)
+      (row_cases here x) in
+      let taken : is_taken (cell prior) ≡ true = l.in_turn thread sync was in
+      let other : row_eq prior x ≡ false = row_ne prior x (λ e.
+      false≢true (sym (ap (λ (o : Option Joined). is_some o) (ap (λ (y : Row). joined_of (cell y)) e ∙ not_joined)) ∙ taken_joined (cell prior) taken)) in
+      ap is_taken (put_other cell x (Synched j) prior other) ∙ taken
+
+  last_after : (r : Row) → is_fresh (cell r) ≡ false → last_stamp (joined_by (put cell x (Synched j))) r ≡ last_stamp (joined_by cell) r
+  last_after r f = last_kept threads rows cell offer x r (Synched j) l not_joined f
+
+  alone_kept : (r : Row) (w : Joined) → joined_of (cell r) ≡ Some w → w.partner ≡ None → IsAlone (put cell x (Synched j)) offer r w
+  alone_kept r w h k =
+      let old = l.alone r w h k in
+      record {
+        alone = old.alone;
+        stamp = old.stamp ∙ ap (λ n. 1 + n) (sym (last_after r (fresh_not_joined (cell r) w h)));
+      }
+
+-- how the row is joined then, and that every other is as before
+same_way : (cell : Row → Cell) (x : Row) (j : Joined) (r : Row) (w : Joined) → r ≡ x → joined_of (put cell x (Synched j) r) ≡ Some w → j ≡ w
+same_way cell x j r w e h =
+    some_inj j w (sym (ap joined_of (put_same cell x (Synched j))) ∙ ap (λ (y : Row). joined_of (put cell x (Synched j) y)) (sym e) ∙ h)
+
+was_joined : (cell : Row → Cell) (x : Row) (j : Joined) (r : Row) (w : Joined) → row_eq r x ≡ false → joined_of (put cell x (Synched j) r) ≡ Some w → joined_of (cell r) ≡ Some w
+was_joined cell x j r w e h = sym (ap joined_of (put_other cell x (Synched j) r e)) ∙ h
+
+-- A WAITING ROW, by a join or a grant: it names nobody whom another row names, and tells its commit
+module _ (threads rows : ℕ) (cell : Row → Cell) (offer : Row → ℕ → Option Offer) (o : Row) (j : Joined) (commit : Commit)
+    (l : Linked threads rows cell offer)
+    (waits : cell o ≡ Waiting)
+    (free : (q p : Row) → is_partner j.partner p ≡ true → names (joined_of (cell q)) p ≡ false)
+    (named : commit_named offer o j ≡ Some commit)
+    (told : tells (joined_by (put cell o (Synched j))) (offer o j.own) j.partner ≡ true)
+    (low : j.stamp ≤ length (commits_of (all_rows threads rows) (joined_by cell) offer) + 1)
+    (side : (p : Row × ℕ) → j.partner ≡ Some p → IsSideOf (put cell o (Synched j)) offer o j p)
+    (alone : j.partner ≡ None → IsAlone (put cell o (Synched j)) offer o j) where
+  not_joined : joined_of (cell o) ≡ None
+  not_joined = ap joined_of waits
+
+  opened : is_fresh (cell o) ≡ false
+  opened = ap is_fresh waits
+
+  nobody_names : (q : Row) → names (joined_of (cell q)) o ≡ false
+  nobody_names = unnamed_idle threads rows cell offer o l (λ e. let bad : Waiting ≡ Claimed = sym waits ∙ e in cc) not_joined
+
+  joined_now : joined_of (put cell o (Synched j) o) ≡ Some j
+  joined_now = ap joined_of (put_same cell o (Synched j))
+
+  named_other : (r p : Row) → names (joined_of (cell r)) p ≡ true → row_eq p o ≡ false
+  named_other r p h = row_ne p o (λ e. false≢true (sym (nobody_names r) ∙ ap (names (joined_of (cell r))) (sym e) ∙ h))
+
+  old_side : (r : Row) (w : Joined) (p : Row × ℕ) → joined_of (cell r) ≡ Some w → w.partner ≡ Some p → IsSideOf (put cell o (Synched j)) offer r w p
+  old_side r w p h e =
+      let old = l.sides r w p h e in
+      let open_p : is_fresh (cell p.0) ≡ false = partner_open threads rows cell offer r w p l h e in
+      let open_r : is_fresh (cell r) ≡ false = fresh_not_joined (cell r) w h in
+      let stays : put cell o (Synched j) p.0 ≡ cell p.0 = put_other cell o (Synched j) p.0 (named_other r p.0 (names_from (joined_of (cell r)) w p h e)) in
+      record {
+        apart = old.apart;
+        meets = old.meets;
+        back = ⊎_elim
+            (λ (c : cell p.0 ≡ Claimed). inl (stays ∙ c))
+            (λ (c : joined_of (cell p.0) ≡ Some (mirrored r w p.1)). inr (ap joined_of stays ∙ c))
+            old.back;
+        stamp = old.stamp ∙ (λ i. 1 + max (sym (last_after threads rows cell offer o j l not_joined opened r open_r) i) (sym (last_after threads rows cell offer o j l not_joined opened p.0 open_p) i));
+      }
+
+  -- one commit more is told
+  one_more : length (commits_of (all_rows threads rows) (joined_by (put cell o (Synched j))) offer) ≡ length (commits_of (all_rows threads rows) (joined_by cell) offer) + 1
+  one_more =
+      let rs : List Row = all_rows threads rows in
+      let in_table = l.inside o opened in
+      let f : Row → ℕ = told_count (joined_by cell) offer in
+      let g : Row → ℕ = told_count (joined_by (put cell o (Synched j))) offer in
+      let change : sum_by g rs + f o ≡ sum_by f rs + g o =
+      sum_change f g o rs (once_all threads rows o in_table.0 in_table.1) (λ r e.
+      ap (λ (c : Option Commit). length (option_to_list c))
+      (told_same (joined_by cell) (joined_by (put cell o (Synched j))) offer offer r (ap joined_of (put_other cell o (Synched j) r e)) (λ w h. refl)
+      (λ w p h c. (ap joined_of (put_other cell o (Synched j) p.0 (named_other r p.0 (names_from (joined_of (cell r)) w p h c))), refl)))) in
+      let before_none : f o ≡ 0 = none_told (joined_by cell) offer o not_joined in
+      let after_one : g o ≡ 1 = one_told (joined_by (put cell o (Synched j))) offer o j commit joined_now told named in
+      let left = count_of_commits rs (joined_by (put cell o (Synched j))) offer in
+      let right = count_of_commits rs (joined_by cell) offer in
+      omega arith
+
+  pub linked_synched : Linked threads rows (put cell o (Synched j)) offer
+  linked_synched = record {
+    inside = inside_kept threads rows cell offer o j l not_joined opened;
+    in_turn = turn_kept threads rows cell offer o j l not_joined opened;
+    alone = λ r w h c. ⊎_elim
+        (λ (e : r ≡ o).
+        let same : j ≡ w = same_way cell o j r w e h in
+        subst (λ (z : Row × Joined). IsAlone (put cell o (Synched j)) offer z.0 z.1) (λ x. (sym e x, same x)) (alone (ap (λ (v : Joined). v.partner) same ∙ c)))
+        (λ (e : row_eq r o ≡ false). alone_kept threads rows cell offer o j l not_joined opened r w (was_joined cell o j r w e h) c)
+        (row_cases r o);
+    sides = λ r w p h c. ⊎_elim
+        (λ (e : r ≡ o).
+        let same : j ≡ w = same_way cell o j r w e h in
+        subst (λ (z : Row × Joined). IsSideOf (put cell o (Synched j)) offer z.0 z.1 p) (λ x. (sym e x, same x)) (side p (ap (λ (v : Joined). v.partner) same ∙ c)))
+        (λ (e : row_eq r o ≡ false). old_side r w p (was_joined cell o j r w e h) c)
+        (row_cases r o);
+    once = λ q r p h c. both q r p h c (row_cases q o) (row_cases r o);
+    bounded = λ r w h. ⊎_elim
+        (λ (e : r ≡ o).
+        let s : w.stamp ≡ j.stamp = ap (λ (v : Joined). v.stamp) (sym (same_way cell o j r w e h)) in
+        let n = one_more in
+        omega (arith, low))
+        (λ (e : row_eq r o ≡ false).
+        let b = l.bounded r w (was_joined cell o j r w e h) in
+        let n = one_more in
+        omega arith)
+        (row_cases r o);
+  }
+    where
+      was_named : (q p : Row) → names (joined_of (put cell o (Synched j) q)) p ≡ true → row_eq q o ≡ false → names (joined_of (cell q)) p ≡ true
+      was_named q p h e = ap (λ (c : Cell). names (joined_of c) p) (sym (put_other cell o (Synched j) q e)) ∙ h
+
+      names_partner : (q p : Row) → names (joined_of (put cell o (Synched j) q)) p ≡ true → q ≡ o → is_partner j.partner p ≡ true
+      names_partner q p h e =
+          sym (ap (λ (v : Option Joined). names v p) joined_now)
+          ∙ ap (λ (y : Row). names (joined_of (put cell o (Synched j) y)) p) (sym e)
+          ∙ h
+
+      clash : (q p : Row) → is_partner j.partner p ≡ true → names (joined_of (cell q)) p ≡ true → ⊥
+      clash q p e h = false≢true (sym (free q p e) ∙ h)
+
+      both : (q r p : Row) → names (joined_of (put cell o (Synched j) q)) p ≡ true → names (joined_of (put cell o (Synched j) r)) p ≡ true → (q ≡ o) ⊎ (row_eq q o ≡ false) → (r ≡ o) ⊎ (row_eq r o ≡ false) → q ≡ r
+      both q r p h c (inl e) (inl f) = e ∙ sym f
+      both q r p h c (inl e) (inr f) = absurd (clash r p (names_partner q p h e) (was_named r p c f))
+      both q r p h c (inr e) (inl f) = absurd (clash q p (names_partner r p c f) (was_named q p h e))
+      both q r p h c (inr e) (inr f) = l.once q r p (was_named q p h e) (was_named r p c f)
+
+-- THE JOIN
+
 module _ (threads rows : ℕ) (cell : Row → Cell) (offer : Row → ℕ → Option Offer) (m : Row) (i : ℕ) (o : Row) (k : ℕ) (j : Joined)
     (l : Linked threads rows cell offer)
     (mine : cell m ≡ Claimed)
@@ -170,54 +335,17 @@ module _ (threads rows : ℕ) (cell : Row → Cell) (offer : Row → ℕ → Opt
     (apart : m.thread ≢ o.thread)
     (meets : offers_meet (offer m i) (offer o k) ≡ true)
     (way : j ≡ record { own = k; partner = Some (m, i); stamp = 1 + max (last_stamp (joined_by cell) m) (last_stamp (joined_by cell) o) }) where
-  after : Row → Cell
-  after = put cell o (Synched j)
-
-  not_joined : joined_of (cell o) ≡ None
-  not_joined = ap joined_of other
-
-  open_other : is_fresh (cell o) ≡ false
-  open_other = ap is_fresh other
-
-  open_mine : is_fresh (cell m) ≡ false
-  open_mine = ap is_fresh mine
-
-  other_unnamed : (q : Row) → names (joined_of (cell q)) o ≡ false
-  other_unnamed = unnamed_idle threads rows cell offer o l (λ e. let bad : Waiting ≡ Claimed = sym other ∙ e in cc) not_joined
+  partner_is : j.partner ≡ Some (m, i)
+  partner_is = ap (λ (w : Joined). w.partner) way
 
   mine_stays : put cell o (Synched j) m ≡ cell m
   mine_stays = put_other cell o (Synched j) m (apart_rows m o apart)
 
-  joined_other : joined_of (put cell o (Synched j) o) ≡ Some j
-  joined_other = ap joined_of (put_same cell o (Synched j))
+  last_join : (r : Row) → is_fresh (cell r) ≡ false → last_stamp (joined_by (put cell o (Synched j))) r ≡ last_stamp (joined_by cell) r
+  last_join = last_after threads rows cell offer o j l (ap joined_of other) (ap is_fresh other)
 
-  partner_is : j.partner ≡ Some (m, i)
-  partner_is = ap (λ (w : Joined). w.partner) way
-
-  is_named_other : (r p : Row) → names (joined_of (cell r)) p ≡ true → row_eq p o ≡ false
-  is_named_other r p h = row_ne p o (λ e. false≢true (sym (other_unnamed r) ∙ ap (names (joined_of (cell r))) (sym e) ∙ h))
-
-  kept_last : (r : Row) → is_fresh (cell r) ≡ false → last_stamp (joined_by (put cell o (Synched j))) r ≡ last_stamp (joined_by cell) r
-  kept_last r f = last_kept threads rows cell offer o r (Synched j) l not_joined f
-
-  old_side : (r : Row) (w : Joined) (p : Row × ℕ) → joined_of (cell r) ≡ Some w → w.partner ≡ Some p → IsSideOf (put cell o (Synched j)) offer r w p
-  old_side r w p h e =
-      let old = l.sides r w p h e in
-      let open_p : is_fresh (cell p.0) ≡ false = partner_open threads rows cell offer r w p l h e in
-      let open_r : is_fresh (cell r) ≡ false = fresh_not_joined (cell r) w h in
-      let stays : put cell o (Synched j) p.0 ≡ cell p.0 = put_other cell o (Synched j) p.0 (is_named_other r p.0 (names_from (joined_of (cell r)) w p h e)) in
-      record {
-        apart = old.apart;
-        meets = old.meets;
-        back = ⊎_elim
-            (λ (c : cell p.0 ≡ Claimed). inl (stays ∙ c))
-            (λ (c : joined_of (cell p.0) ≡ Some (mirrored r w p.1)). inr (ap joined_of stays ∙ c))
-            old.back;
-        stamp = old.stamp ∙ (λ i. 1 + max (sym (kept_last r open_r) i) (sym (kept_last p.0 open_p) i));
-      }
-
-  new_side : IsSideOf (put cell o (Synched j)) offer o j (m, i)
-  new_side =
+  joined_side : IsSideOf (put cell o (Synched j)) offer o j (m, i)
+  joined_side =
       let own : j.own ≡ k = ap (λ (w : Joined). w.own) way in
       record {
         apart = λ e. apart (sym e);
@@ -225,97 +353,60 @@ module _ (threads rows : ℕ) (cell : Row → Cell) (offer : Row → ℕ → Opt
         back = inl (mine_stays ∙ mine);
         stamp =
             let s : j.stamp ≡ 1 + max (last_stamp (joined_by cell) m) (last_stamp (joined_by cell) o) = ap (λ (w : Joined). w.stamp) way in
-            let a = kept_last o open_other in
-            let b = kept_last m open_mine in
+            let a = last_join o (ap is_fresh other) in
+            let b = last_join m (ap is_fresh mine) in
             s ∙ (λ x. 1 + max (sym b x) (sym a x)) ∙ swapped (last_stamp (joined_by (put cell o (Synched j))) m) (last_stamp (joined_by (put cell o (Synched j))) o);
       }
     where
       swapped : (a b : ℕ) → 1 + max a b ≡ 1 + max b a
       swapped a b = omega arith
 
-  -- the join tells one commit more
-  join_count : length (commits_of (all_rows threads rows) (joined_by (put cell o (Synched j))) offer) ≡ length (commits_of (all_rows threads rows) (joined_by cell) offer) + 1
-  join_count =
-      let rs : List Row = all_rows threads rows in
-      let in_table = l.inside o open_other in
-      let f : Row → ℕ = told_count (joined_by cell) offer in
-      let g : Row → ℕ = told_count (joined_by (put cell o (Synched j))) offer in
-      let change : sum_by g rs + f o ≡ sum_by f rs + g o =
-      sum_change f g o rs (once_all threads rows o in_table.0 in_table.1) (λ r e.
-      ap (λ (c : Option Commit). length (option_to_list c))
-      (told_same (joined_by cell) (joined_by (put cell o (Synched j))) offer offer r (ap joined_of (put_other cell o (Synched j) r e)) (λ w h. refl)
-      (λ w p h c. (ap joined_of (put_other cell o (Synched j) p.0 (is_named_other r p.0 (names_from (joined_of (cell r)) w p h c))), refl)))) in
-      let before_none : f o ≡ 0 = none_told (joined_by cell) offer o not_joined in
-      let found = named_some offer o j (m, i) partner_is new_side.meets in
-      let after_one : g o ≡ 1 = one_told (joined_by (put cell o (Synched j))) offer o j found.0 joined_other (ap (tells (joined_by (put cell o (Synched j))) (offer o j.own)) partner_is ∙ ap (λ (v : Option Joined). is_send (offer o j.own) || is_none v) (ap joined_of (mine_stays ∙ mine)) ∙ or_true (is_send (offer o j.own))) found.1 in
-      let left = count_of_commits rs (joined_by (put cell o (Synched j))) offer in
-      let right = count_of_commits rs (joined_by cell) offer in
-      omega arith
-
   pub linked_join : Linked threads rows (put cell o (Synched j)) offer
-  linked_join = record {
-    inside = λ r h. ⊎_elim
-        (λ (e : r ≡ o). subst (λ (y : Row). (y.thread < threads) × (y.sync < rows)) (sym e) (l.inside o open_other))
-        (λ (e : row_eq r o ≡ false). l.inside r (sym (ap is_fresh (put_other cell o (Synched j) r e)) ∙ h))
-        (row_cases r o);
-    in_turn = λ thread sync h.
-        let here : Row = record { thread = thread; sync = sync + 1 } in
-        let prior : Row = record { thread = thread; sync = sync } in
-        let was : is_fresh (cell here) ≡ false = ⊎_elim
-        (λ (e : here ≡ o). ap (λ (y : Row). is_fresh (cell y)) e ∙ open_other)
-        (λ (e : row_eq here o ≡ false). sym (ap is_fresh (put_other cell o (Synched j) here e)) ∙ h)
-        (row_cases here o) in
-        ⊎_elim
-        (λ (e : prior ≡ o). ap (λ (y : Row). is_some (joined_of (put cell o (Synched j) y))) e ∙ ap (λ (v : Option Joined). is_some v) joined_other)
-        (λ (e : row_eq prior o ≡ false). ap (λ (c : Cell). is_some (joined_of c)) (put_other cell o (Synched j) prior e) ∙ l.in_turn thread sync was)
-        (row_cases prior o);
-    paired = λ r w h. ⊎_elim
-        (λ (e : r ≡ o).
-        let same : j ≡ w = some_inj j w (sym joined_other ∙ ap (λ (y : Row). joined_of (put cell o (Synched j) y)) (sym e) ∙ h) in
-        ap (λ (v : Joined). is_some v.partner) (sym same) ∙ ap (λ (v : Option (Row × ℕ)). is_some v) partner_is)
-        (λ (e : row_eq r o ≡ false). l.paired r w (sym (ap joined_of (put_other cell o (Synched j) r e)) ∙ h))
-        (row_cases r o);
-    sides = λ r w p h c. ⊎_elim
-        (λ (e : r ≡ o).
-        let same : j ≡ w = some_inj j w (sym joined_other ∙ ap (λ (y : Row). joined_of (put cell o (Synched j) y)) (sym e) ∙ h) in
-        let at : (m, i) ≡ p = some_inj (m, i) p (sym partner_is ∙ ap (λ (v : Joined). v.partner) same ∙ c) in
-        subst (λ (z : Row × Joined × (Row × ℕ)). IsSideOf (put cell o (Synched j)) offer z.0 z.1 z.2) (λ x. (sym e x, same x, at x)) new_side)
-        (λ (e : row_eq r o ≡ false). old_side r w p (sym (ap joined_of (put_other cell o (Synched j) r e)) ∙ h) c)
-        (row_cases r o);
-    once = λ q r p h c. both q r p h c (row_cases q o) (row_cases r o);
-    bounded = λ r w h. ⊎_elim
-        (λ (e : r ≡ o).
-        let same : j ≡ w = some_inj j w (sym joined_other ∙ ap (λ (y : Row). joined_of (put cell o (Synched j) y)) (sym e) ∙ h) in
-        let s : w.stamp ≡ 1 + max (last_stamp (joined_by cell) m) (last_stamp (joined_by cell) o) = ap (λ (v : Joined). v.stamp) (sym same ∙ way) in
-        let a = last_bounded threads rows cell offer m l in
-        let b = last_bounded threads rows cell offer o l in
-        let n = join_count in
-        omega arith)
-        (λ (e : row_eq r o ≡ false).
-        let b = l.bounded r w (sym (ap joined_of (put_other cell o (Synched j) r e)) ∙ h) in
-        let n = join_count in
-        omega arith)
-        (row_cases r o);
-  }
-    where
-      was_named : (q p : Row) → names (joined_of (put cell o (Synched j) q)) p ≡ true → row_eq q o ≡ false → names (joined_of (cell q)) p ≡ true
-      was_named q p h e = ap (λ (c : Cell). names (joined_of c) p) (sym (put_other cell o (Synched j) q e)) ∙ h
+  linked_join =
+      let found = named_some offer o j (m, i) partner_is joined_side.meets in
+      linked_synched threads rows cell offer o j found.0 l other
+      (λ q p e. ap (names (joined_of (cell q))) (sym (row_eq-true m p (sym (ap (λ (v : Option (Row × ℕ)). is_partner v p) partner_is) ∙ e))) ∙ unnamed q)
+      found.1
+      (ap (tells (joined_by (put cell o (Synched j))) (offer o j.own)) partner_is ∙ ap (λ (v : Option Joined). is_send (offer o j.own) || is_none v) (ap joined_of (mine_stays ∙ mine)) ∙ or_true (is_send (offer o j.own)))
+      (let s : j.stamp ≡ 1 + max (last_stamp (joined_by cell) m) (last_stamp (joined_by cell) o) = ap (λ (v : Joined). v.stamp) way in
+      let a = last_bounded threads rows cell offer m l in
+      let b = last_bounded threads rows cell offer o l in
+      omega arith)
+      (λ p e. subst (λ (z : Row × ℕ). IsSideOf (put cell o (Synched j)) offer o j z) (some_inj (m, i) p (sym partner_is ∙ e)) joined_side)
+      (λ e. let bad : Some (m, i) ≡ None = sym partner_is ∙ e in cc)
 
-      names_mine : (q p : Row) → names (joined_of (put cell o (Synched j) q)) p ≡ true → q ≡ o → m ≡ p
-      names_mine q p h e =
-          row_eq-true m p (
-          sym (ap (λ (v : Option Joined). names v p) joined_other ∙ ap (λ (v : Option (Row × ℕ)). is_partner v p) partner_is)
-          ∙ ap (λ (y : Row). names (joined_of (put cell o (Synched j) y)) p) (sym e)
-          ∙ h)
+-- THE GRANT
 
-      clash : (q p : Row) → m ≡ p → names (joined_of (cell q)) p ≡ true → ⊥
-      clash q p e h = false≢true (sym (unnamed q) ∙ ap (names (joined_of (cell q))) e ∙ h)
+module _ (threads rows : ℕ) (cell : Row → Cell) (offer : Row → ℕ → Option Offer) (o : Row) (k : ℕ) (j : Joined)
+    (l : Linked threads rows cell offer)
+    (waits : cell o ≡ Waiting)
+    (alone : stands_alone (offer o k) ≡ true)
+    (way : j ≡ record { own = k; partner = None; stamp = 1 + last_stamp (joined_by cell) o }) where
+  own_is : j.own ≡ k
+  own_is = ap (λ (w : Joined). w.own) way
 
-      both : (q r p : Row) → names (joined_of (put cell o (Synched j) q)) p ≡ true → names (joined_of (put cell o (Synched j) r)) p ≡ true → (q ≡ o) ⊎ (row_eq q o ≡ false) → (r ≡ o) ⊎ (row_eq r o ≡ false) → q ≡ r
-      both q r p h c (inl e) (inl f) = e ∙ sym f
-      both q r p h c (inl e) (inr f) = absurd (clash r p (names_mine q p h e) (was_named r p c f))
-      both q r p h c (inr e) (inl f) = absurd (clash q p (names_mine r p c f) (was_named q p h e))
-      both q r p h c (inr e) (inr f) = l.once q r p (was_named q p h e) (was_named r p c f)
+  nobody : j.partner ≡ None
+  nobody = ap (λ (w : Joined). w.partner) way
+
+  stamp_is : j.stamp ≡ 1 + last_stamp (joined_by cell) o
+  stamp_is = ap (λ (w : Joined). w.stamp) way
+
+  chosen : stands_alone (offer o j.own) ≡ true
+  chosen = ap (λ n. stands_alone (offer o n)) own_is ∙ alone
+
+  pub linked_grant : Linked threads rows (put cell o (Synched j)) offer
+  linked_grant =
+      let found = named_alone offer o j nobody chosen in
+      linked_synched threads rows cell offer o j found.0 l waits
+      (λ q p e. absurd (false≢true (sym (ap (λ (v : Option (Row × ℕ)). is_partner v p) nobody) ∙ e)))
+      found.1
+      (ap (tells (joined_by (put cell o (Synched j))) (offer o j.own)) nobody)
+      (let b = last_bounded threads rows cell offer o l in omega (arith, stamp_is))
+      (λ p e. let bad : None ≡ Some p = sym nobody ∙ e in cc)
+      (λ e. record {
+        alone = chosen;
+        stamp = stamp_is ∙ ap (λ n. 1 + n) (sym (last_after threads rows cell offer o j l (ap joined_of waits) (ap is_fresh waits) o (ap is_fresh waits)));
+      })
 
 -- THE SEAL
 
@@ -367,7 +458,7 @@ module _ (threads rows : ℕ) (cell : Row → Cell) (offer : Row → ℕ → Opt
       back
 
   last_stays : (r : Row) → is_fresh (cell r) ≡ false → last_stamp (joined_by (put cell m (Synched w))) r ≡ last_stamp (joined_by cell) r
-  last_stays r f = last_kept threads rows cell offer m r (Synched w) l unjoined f
+  last_stays = last_after threads rows cell offer m w l unjoined open_m
 
   -- o, whose partner is joined now
   side_o : IsSideOf (put cell m (Synched w)) offer o j (m, i)
@@ -444,55 +535,36 @@ module _ (threads rows : ℕ) (cell : Row → Cell) (offer : Row → ℕ → Opt
       let right = count_of_commits rs (joined_by cell) offer in
       omega arith
 
-  same_way : (r : Row) (v : Joined) → r ≡ m → joined_of (put cell m (Synched w) r) ≡ Some v → w ≡ v
-  same_way r v e h = some_inj w v (sym joined_m ∙ ap (λ (y : Row). joined_of (put cell m (Synched w) y)) (sym e) ∙ h)
-
-  was_joined : (r : Row) (v : Joined) → row_eq r m ≡ false → joined_of (put cell m (Synched w) r) ≡ Some v → joined_of (cell r) ≡ Some v
-  was_joined r v e h = sym (ap joined_of (put_other cell m (Synched w) r e)) ∙ h
-
   all_sides : (r : Row) (v : Joined) (p : Row × ℕ) → joined_of (put cell m (Synched w) r) ≡ Some v → v.partner ≡ Some p → (r ≡ m) ⊎ (row_eq r m ≡ false) → IsSideOf (put cell m (Synched w)) offer r v p
   all_sides r v p h c (inl e) =
-      let same : w ≡ v = same_way r v e h in
+      let same : w ≡ v = same_way cell m w r v e h in
       let at : (o, j.own) ≡ p = some_inj (o, j.own) p (sym partner_m ∙ ap (λ (u : Joined). u.partner) same ∙ c) in
       subst (λ (z : Row × Joined × (Row × ℕ)). IsSideOf (put cell m (Synched w)) offer z.0 z.1 z.2) (λ x. (sym e x, same x, at x)) side_m
   all_sides r v p h c (inr n) = ⊎_elim
       (λ (e : r ≡ o).
-      let same : j ≡ v = some_inj j v (sym other ∙ ap (λ (y : Row). joined_of (cell y)) (sym e) ∙ was_joined r v n h) in
+      let same : j ≡ v = some_inj j v (sym other ∙ ap (λ (y : Row). joined_of (cell y)) (sym e) ∙ was_joined cell m w r v n h) in
       let at : (m, i) ≡ p = some_inj (m, i) p (sym partner ∙ ap (λ (u : Joined). u.partner) same ∙ c) in
       subst (λ (z : Row × Joined × (Row × ℕ)). IsSideOf (put cell m (Synched w)) offer z.0 z.1 z.2) (λ x. (sym e x, same x, at x)) side_o)
-      (λ (e : row_eq r o ≡ false). side_other r v p (row_eq-false r o e) (was_joined r v n h) c)
+      (λ (e : row_eq r o ≡ false). side_other r v p (row_eq-false r o e) (was_joined cell m w r v n h) c)
       (row_cases r o)
 
   pub linked_seal : Linked threads rows (put cell m (Synched w)) offer
   linked_seal = record {
-    inside = λ r h. ⊎_elim
-        (λ (e : r ≡ m). subst (λ (y : Row). (y.thread < threads) × (y.sync < rows)) (sym e) (l.inside m open_m))
-        (λ (e : row_eq r m ≡ false). l.inside r (sym (ap is_fresh (put_other cell m (Synched w) r e)) ∙ h))
-        (row_cases r m);
-    in_turn = λ thread sync h.
-        let here : Row = record { thread = thread; sync = sync + 1 } in
-        let prior : Row = record { thread = thread; sync = sync } in
-        let was : is_fresh (cell here) ≡ false = ⊎_elim
-        (λ (e : here ≡ m). ap (λ (y : Row). is_fresh (cell y)) e ∙ open_m)
-        (λ (e : row_eq here m ≡ false). sym (ap is_fresh (put_other cell m (Synched w) here e)) ∙ h)
-        (row_cases here m) in
-        ⊎_elim
-        (λ (e : prior ≡ m). ap (λ (y : Row). is_some (joined_of (put cell m (Synched w) y))) e ∙ ap (λ (v : Option Joined). is_some v) joined_m)
-        (λ (e : row_eq prior m ≡ false). ap (λ (c : Cell). is_some (joined_of c)) (put_other cell m (Synched w) prior e) ∙ l.in_turn thread sync was)
-        (row_cases prior m);
-    paired = λ r v h. ⊎_elim
-        (λ (e : r ≡ m). ap (λ (u : Joined). is_some u.partner) (sym (same_way r v e h)) ∙ ap (λ (u : Option (Row × ℕ)). is_some u) partner_m)
-        (λ (e : row_eq r m ≡ false). l.paired r v (was_joined r v e h))
+    inside = inside_kept threads rows cell offer m w l unjoined open_m;
+    in_turn = turn_kept threads rows cell offer m w l unjoined open_m;
+    alone = λ r v h c. ⊎_elim
+        (λ (e : r ≡ m). let bad : Some (o, j.own) ≡ None = sym partner_m ∙ ap (λ (u : Joined). u.partner) (same_way cell m w r v e h) ∙ c in cc)
+        (λ (e : row_eq r m ≡ false). alone_kept threads rows cell offer m w l unjoined open_m r v (was_joined cell m w r v e h) c)
         (row_cases r m);
     sides = λ r v p h c. all_sides r v p h c (row_cases r m);
     once = λ q r p h c. both q r p h c (row_cases q m) (row_cases r m);
     bounded = λ r v h. ⊎_elim
         (λ (e : r ≡ m).
-        let s : v.stamp ≡ j.stamp = ap (λ (u : Joined). u.stamp) (sym (same_way r v e h) ∙ way) in
+        let s : v.stamp ≡ j.stamp = ap (λ (u : Joined). u.stamp) (sym (same_way cell m w r v e h) ∙ way) in
         let b = l.bounded o j other in
         let n = seal_count in
         omega arith)
-        (λ (e : row_eq r m ≡ false). let b = l.bounded r v (was_joined r v e h) in let n = seal_count in omega arith)
+        (λ (e : row_eq r m ≡ false). let b = l.bounded r v (was_joined cell m w r v e h) in let n = seal_count in omega arith)
         (row_cases r m);
   }
     where

@@ -8,8 +8,8 @@ use Rattle.words.specs.declared.Joined.{Joined}
 use Rattle.words.specs.declared.Cell.{Cell}
 use Rattle.words.specs.declared.Cell.TheVariants.{Waiting, Claimed, Synched}
 use Rattle.words.specs.Words.{is_word_for}
-use Rattle.protocol.specs.Tables.{Table, is_row, row_eq, all_rows, number_of, cell_at, is_fresh, joined_of, joined_at, offer_at, offers_meet, names, is_partner, namer_of}
-use Rattle.protocol.specs.Worlds.{World, namer_at, with_word, with_cell, with_table, joined_with, mirrored}
+use Rattle.protocol.specs.Tables.{Table, is_row, row_eq, all_rows, number_of, cell_at, is_fresh, joined_of, joined_at, offer_at, offers_meet, names, is_partner, namer_of, stands_alone}
+use Rattle.protocol.specs.Worlds.{World, namer_at, with_word, with_cell, with_table, joined_with, mirrored, granted_by}
 use Rattle.protocol.specs.Kept.{Kept, joined_by}
 use Rattle.protocol.specs.States.{Tells}
 use Rattle.protocol.proofs.RowLemmas.{row_eq-refl, row_eq-false, row_cases, row_ne, put, put_same, put_other, same_row}
@@ -18,22 +18,15 @@ use Rattle.protocol.proofs.StepLemmas.{names_o}
 use Rattle.protocol.proofs.Places.{row_inside, same_block, same_rest, block_inside}
 use Rattle.protocol.proofs.Readings.{cell_after_word, cell_after_cell, row_of_open}
 use Rattle.protocol.proofs.Naming.{namer_is}
-use Rattle.protocol.proofs.Keeping.{unnamed_row, join_in_range, IsSealing, seal_in_range}
+use Rattle.protocol.proofs.Keeping.{unnamed_row, join_in_range, IsSealing, seal_in_range, same_number, grant_in_range}
 
--- rows have numbers of their own
-pub same_number : (t : Table) (r x : Row) → is_row t r ≡ true → is_row t x ≡ true → number_of t.rows r ≡ number_of t.rows x → r ≡ x
-same_number t r x h k e =
-    let a = row_inside t r h in
-    let b = row_inside t x k in
-    same_row r x (same_block r.thread x.thread r.sync x.sync t.rows a.1 b.1 e) (same_rest r.thread x.thread r.sync x.sync t.rows a.1 b.1 e)
-
--- where nobody is joined anew, the list stays
-pub tells_same : (w : World) (t : Table) (namers : List (Option Row)) → t.threads ≡ w.table.threads → t.rows ≡ w.table.rows → joined_at t ≡ joined_at w.table → Tells w namers → Tells (with_table w t) namers
+-- where nobody names anybody anew, the list stays
+pub tells_same : (w : World) (t : Table) (namers : List (Option Row)) → t.threads ≡ w.table.threads → t.rows ≡ w.table.rows → ((q r : Row) → names (joined_at t q) r ≡ names (joined_at w.table q) r) → Tells w namers → Tells (with_table w t) namers
 unfolding is_row
 tells_same w t namers a b j tells r h =
     ap (λ n. get_or namers (number_of n r) None) b
     ∙ tells r ((λ i. ltb r.thread (sym a i) && ltb r.sync (sym b i)) ∙ h)
-    ∙ (λ i. namer_of (all_rows (sym a i) (sym b i)) (sym j i) r)
+    ∙ (λ i. find (λ (q : Row). sym (j q r) i) (all_rows (sym a i) (sym b i)))
 
 -- where one row is joined anew, which names a row that nobody named, the list has it there
 tells_put : (w : World) (t : Table) (namers : List (Option Row)) (x p : Row) (j : Joined) → t.threads ≡ w.table.threads → t.rows ≡ w.table.rows → joined_at t ≡ put (joined_at w.table) x (Some j) → joined_at w.table x ≡ None → is_row w.table x ≡ true → is_row w.table p ≡ true → ((r : Row) → is_partner j.partner r ≡ row_eq p r) → ((q : Row) → names (joined_at w.table q) p ≡ false) → length namers ≡ w.table.threads * w.table.rows → Tells w namers → Tells (with_table w t) (set namers (number_of w.table.rows p) (Some x))
@@ -78,20 +71,20 @@ tells_put w t namers x p j a b e none in_x in_p named unnamed sized tells r h =
 
 pub tells_draft : (w : World) (x : Row) (p v : ℕ) (namers : List (Option Row)) → is_row w.table x ≡ true → 1 ≤ p → p ≤ 33 → Tells w namers → Tells (with_table w (with_word w.table x p v)) namers
 tells_draft w x p v namers h a b =
-    tells_same w (with_word w.table x p v) namers refl refl (λ i r. joined_of (cell_after_word w.table x r p v h a (omega arith) i))
+    tells_same w (with_word w.table x p v) namers refl refl (λ q r. ap (λ (c : Cell). names (joined_of c) r) (cell_after_word w.table x q p v h a (omega arith)))
 
-pub tells_plain : (w : World) (x : Row) (c : Cell) (namers : List (Option Row)) → Kept w → is_row w.table x ≡ true → Rattle.words.specs.Words.IsCellInRange c → joined_of (cell_at w.table x) ≡ None → joined_of c ≡ None → Tells w namers → Tells (with_table w (with_cell w.table x c)) namers
+pub tells_plain : (w : World) (x : Row) (c : Cell) (namers : List (Option Row)) → Kept w → is_row w.table x ≡ true → Rattle.words.specs.Words.IsCellInRange c → ((r : Row) → names (joined_of c) r ≡ names (joined_of (cell_at w.table x)) r) → Tells w namers → Tells (with_table w (with_cell w.table x c)) namers
 unfolding with_cell
-tells_plain w x c namers k h g was is = tells_same w (with_cell w.table x c) namers refl refl same
+tells_plain w x c namers k h g same = tells_same w (with_cell w.table x c) namers refl refl (λ q r. after q r ∙ at q r)
   where
-    at : (r : Row) → joined_of (put (cell_at w.table) x c r) ≡ joined_of (cell_at w.table r)
-    at r = ⊎_elim
-        (λ (e : r ≡ x). ap (λ (y : Row). joined_of (put (cell_at w.table) x c y)) e ∙ ap joined_of (put_same (cell_at w.table) x c) ∙ is ∙ sym was ∙ ap (λ (y : Row). joined_of (cell_at w.table y)) (sym e))
-        (λ (e : row_eq r x ≡ false). ap joined_of (put_other (cell_at w.table) x c r e))
-        (row_cases r x)
+    after : (q r : Row) → names (joined_at (with_cell w.table x c) q) r ≡ names (joined_of (put (cell_at w.table) x c q)) r
+    after q r = ap (λ (f : Row → Cell). names (joined_of (f q)) r) (cell_after_cell w.table x c k.sized h g)
 
-    same : joined_at (with_cell w.table x c) ≡ joined_at w.table
-    same = (λ i r. joined_of (cell_after_cell w.table x c k.sized h g i r)) ∙ (λ i r. at r i)
+    at : (q r : Row) → names (joined_of (put (cell_at w.table) x c q)) r ≡ names (joined_of (cell_at w.table q)) r
+    at q r = ⊎_elim
+        (λ (e : q ≡ x). ap (λ (y : Row). names (joined_of (put (cell_at w.table) x c y)) r) e ∙ ap (λ (d : Cell). names (joined_of d) r) (put_same (cell_at w.table) x c) ∙ same r ∙ ap (λ (y : Row). names (joined_of (cell_at w.table y)) r) (sym e))
+        (λ (e : row_eq q x ≡ false). ap (λ (d : Cell). names (joined_of d) r) (put_other (cell_at w.table) x c q e))
+        (row_cases q x)
 
 joined_put : (cell : Row → Cell) (x : Row) (j : Joined) → (λ r. joined_of (put cell x (Synched j) r)) ≡ put (joined_by cell) x (Some j)
 joined_put cell x j = λ i r. at r i
@@ -127,3 +120,10 @@ tells_seal w m q s namers k mine sized tells =
     (cases_Bool (names (joined_at w.table x) q)))
     sized
     tells
+
+-- a grant names nobody
+pub tells_grant : (w : World) (o : Row) (n : ℕ) (namers : List (Option Row)) → Kept w → cell_at w.table o ≡ Waiting → stands_alone (offer_at w.table o n) ≡ true → Tells w namers → Tells (with_table w (with_cell w.table o (Synched (granted_by w.table o n)))) namers
+unfolding granted_by
+tells_grant w o n namers k waits alone =
+    tells_plain w o (Synched (granted_by w.table o n)) namers k (row_of_open w.table o (ap is_fresh waits)) (grant_in_range w o n k alone)
+    (λ r. ap (λ (c : Cell). names (joined_of c) r) (sym waits))

@@ -4,7 +4,7 @@ use Rattle.words.specs.Words.{cell_of, count_of, offer_of, nack_of}
 use Rattle.words.specs.declared.NackName.{NackName}
 use Rattle.words.specs.declared.Offer.{Offer}
 use Rattle.words.specs.declared.Base.{Base}
-use Rattle.words.specs.declared.Base.TheVariants.{Send, Recv}
+use Rattle.words.specs.declared.Base.TheVariants.{Send, Recv, Always, OnNack, Never}
 use Rattle.words.specs.declared.Row.{Row}
 use Rattle.words.specs.declared.Joined.{Joined}
 use Rattle.words.specs.declared.Cell.{Cell}
@@ -78,6 +78,25 @@ joined_of Claimed = None
 joined_of (Synched j) = Some j
 joined_of (Taken j) = Some j
 
+-- how a committed row was committed that nobody has taken
+abbrev pub synched_of : Cell → Option Joined
+synched_of Fresh = None
+synched_of Waiting = None
+synched_of Claimed = None
+synched_of (Synched j) = Some j
+synched_of (Taken j) = None
+
+abbrev pub is_taken : Cell → Bool
+is_taken Fresh = false
+is_taken Waiting = false
+is_taken Claimed = false
+is_taken (Synched j) = false
+is_taken (Taken j) = true
+
+-- the row behind this one in its thread
+abbrev pub next_row : Row → Row
+next_row r = record { thread = r.thread; sync = r.sync + 1 }
+
 -- how many offers an opened row has
 unfoldable pub count_at : Table → Row → ℕ
 count_at t r = if is_fresh (cell_at t r) then 0 else unwrap_or (count_of (word_at t r 1)) 0
@@ -103,6 +122,18 @@ abbrev pub offers_meet : Option Offer → Option Offer → Bool
 offers_meet (Some a) (Some b) = bases_meet a.base b.base
 offers_meet (Some a) None = false
 offers_meet None b = false
+
+-- an offer that commits its row alone: an always
+abbrev pub is_always : Base → Bool
+is_always (Send c m) = false
+is_always (Recv c) = false
+is_always (Always m) = true
+is_always (OnNack n) = false
+is_always Never = false
+
+abbrev pub stands_alone : Option Offer → Bool
+stands_alone None = false
+stands_alone (Some o) = is_always o.base
 
 -- whether a row's way of being committed names this row as its partner
 abbrev pub is_partner : Option (Row × ℕ) → Row → Bool

@@ -4,11 +4,11 @@ use Rattle.words.specs.Words.{cell_word, is_word_for}
 use Rattle.words.specs.declared.Row.{Row}
 use Rattle.words.specs.declared.Joined.{Joined}
 use Rattle.words.specs.declared.Cell.{Cell}
-use Rattle.words.specs.declared.Cell.TheVariants.{Fresh, Waiting, Claimed, Synched}
+use Rattle.words.specs.declared.Cell.TheVariants.{Fresh, Waiting, Claimed, Synched, Taken}
 use Rattle.words.specs.declared.Seat.{Seat}
 use Rattle.words.specs.declared.Step.{Step}
-use Rattle.words.specs.declared.Step.TheVariants.{Draft, Open, Look, Read, Claim, Yield, Join, Seal}
-use Rattle.protocol.specs.Tables.{Table, thread_len, place_of, number_of, all_rows, is_row, cell_at, offer_at, offers_meet, joined_at, namer_of, last_stamp}
+use Rattle.words.specs.declared.Step.TheVariants.{Draft, Open, Look, Read, Claim, Yield, Join, Seal, Grant, Take}
+use Rattle.protocol.specs.Tables.{Table, thread_len, place_of, number_of, all_rows, is_row, next_row, cell_at, synched_of, offer_at, offers_meet, stands_alone, joined_at, namer_of, last_stamp}
 
 -- The words, and for each row, one after another, the seat that holds it.
 pub record World : Type 0 where
@@ -58,6 +58,8 @@ Condition w seat (Join mine own other partner) =
     × (mine.thread ≢ other.thread)
     × (offers_meet (offer_at w.table mine own) (offer_at w.table other partner) ≡ true)
 Condition w seat (Seal row) = Holds w seat row × (world_cell w row ≡ Claimed) × (is_some (namer_at w row) ≡ true)
+Condition w seat (Grant row n) = (world_cell w row ≡ Waiting) × (stands_alone (offer_at w.table row n) ≡ true)
+Condition w seat (Take row) = is_some (synched_of (world_cell w row)) ≡ true
 
 abbrev pub Allowed : World → Seat → Step → Type 0
 Allowed w seat step = (seat.0 < w.seats) × Condition w seat step
@@ -105,6 +107,22 @@ abbrev pub with_seal : Table → Row → Option Joined → Table
 with_seal t r None = t
 with_seal t r (Some j) = with_cell t r (Synched j)
 
+-- how a row is committed alone by its offer n: the stamp is one more than its last stamp
+unfoldable pub granted_by : Table → Row → ℕ → Joined
+granted_by t r n = record { own = n; partner = None; stamp = 1 + last_stamp (joined_at t) r }
+
+abbrev pub with_take : Table → Row → Option Joined → Table
+with_take t r None = t
+with_take t r (Some j) = with_cell t r (Taken j)
+
+-- the holders, once the seat holds the row behind this one, if there is one
+unfoldable pub handed : Table → List (Option ℕ) → Seat → Row → List (Option ℕ)
+handed t holders seat r =
+    if is_row t (next_row r) then slice_set holders (number_of t.rows (next_row r)) (Some seat.0) else holders
+
+abbrev pub with_holders : World → List (Option ℕ) → World
+with_holders w holders = record { table = w.table; seats = w.seats; holders = holders }
+
 abbrev pub after_step : World → Seat → Step → World
 after_step w seat (Draft row place value) = with_table w (with_word w.table row place value)
 after_step w seat (Open row) = with_table w (with_cell w.table row Waiting)
@@ -115,6 +133,9 @@ after_step w seat (Yield row) = with_table w (with_cell w.table row Waiting)
 after_step w seat (Join mine own other partner) =
     with_table w (with_cell w.table other (Synched (joined_with w.table mine own other partner)))
 after_step w seat (Seal row) = with_table w (with_seal w.table row (sealed_by w.table (namer_at w row)))
+after_step w seat (Grant row n) = with_table w (with_cell w.table row (Synched (granted_by w.table row n)))
+after_step w seat (Take row) =
+    with_holders (with_table w (with_take w.table row (synched_of (world_cell w row)))) (handed w.table w.holders seat row)
 
 -- A schedule: each step is allowed in turn, and leads on.
 abbrev pub Plays : World → List (Seat × Step) → World → Type 0

@@ -19,9 +19,9 @@ pub(crate) struct State {
 }
 
 impl State {
-    ghost use Rattle.words.specs.declared.Step.TheVariants.{Draft, Open, Look, Read, Claim, Yield, Join, Seal};
+    ghost use Rattle.words.specs.declared.Step.TheVariants.{Draft, Open, Look, Read, Claim, Yield, Join, Seal, Grant, Take};
     ghost use Rattle.protocol.specs.Tables.{is_row, offer_at, offers_meet};
-    ghost use Rattle.protocol.specs.Worlds.{start_world, Holds, holder_at, namer_at, joined_with, Condition};
+    ghost use Rattle.protocol.specs.Worlds.{start_world, Holds, holder_at, namer_at, joined_with, granted_by, handed, Condition};
     ghost use Rattle.protocol.specs.States.{table_of, world_of, IsSound, Tries, Decides};
 
     /// The state of a world at the start.
@@ -101,6 +101,8 @@ impl State {
                 partner,
             } => self.join(seat, mine, own, other, partner),
             Step::Seal { row } => self.seal(seat, row),
+            Step::Grant { row, offer } => self.grant(seat, row, offer),
+            Step::Take { row } => self.take(seat, row),
         }
     }
 
@@ -256,9 +258,70 @@ impl State {
         self.namers[at] = Some(row);
         true
     }
+
+    fn grant(&mut self, seat: Seat, row: Row, offer: u8) -> bool
+        requires { IsSound self.old }
+        ensures tried { Tries (world_of self.old) seat (Grant row offer) result (world_of self.new) }
+        ensures sound { IsSound self.new }
+    {
+        let Cell::Waiting = self.board.cell(row) else {
+            return false;
+        };
+        if !stands_alone(self.board.offer(row, offer)) {
+            return false;
+        }
+        let joined = self.granted_by(row, offer);
+        self.board.set_cell(row, Cell::Synched(joined));
+        true
+    }
+
+    /// How the row is committed alone.
+    #[tactic(auto, unfolding(crate::specs::Worlds::granted_by))]
+    fn granted_by(&self, row: Row, offer: u8) -> Joined
+        requires { IsSound self.now }
+        ensures { result ≡ granted_by (table_of self.now.board) row offer }
+    {
+        Joined {
+            own: offer,
+            partner: None,
+            stamp: 1 + self.board.last_stamp(row),
+        }
+    }
+
+    fn take(&mut self, seat: Seat, row: Row) -> bool
+        requires { IsSound self.old }
+        ensures tried { Tries (world_of self.old) seat (Take row) result (world_of self.new) }
+        ensures sound { IsSound self.new }
+    {
+        let Cell::Synched(joined) = self.board.cell(row) else {
+            return false;
+        };
+        self.board.set_cell(row, Cell::Taken(joined));
+        self.hand(seat, row);
+        true
+    }
+
+    /// Lets the seat hold the row behind this one, if the table has it.
+    #[tactic(auto, unfolding(crate::specs::Worlds::handed))]
+    fn hand(&mut self, seat: Seat, row: Row)
+        requires { is_row (table_of self.old.board) row ≡ true }
+        ensures board { self.new.board ≡ self.old.board }
+        ensures seats { self.new.seats ≡ self.old.seats }
+        ensures namers { self.new.namers.items ≡ self.old.namers.items }
+        ensures holders { self.new.holders.items ≡ handed (table_of self.old.board) self.old.holders.items seat row }
+    {
+        let next = Row {
+            thread: row.thread,
+            sync: row.sync + 1,
+        };
+        if self.board.contains(next) {
+            let at = self.board.number(next);
+            self.holders[at] = Some(seat.0);
+        }
+    }
 }
 
-ghost use Rattle.protocol.specs.Tables.{all_rows, offers_meet};
+ghost use Rattle.protocol.specs.Tables.{all_rows, offers_meet, stands_alone};
 ghost use Rattle.protocol.specs.Worlds.{first_holder, side_of};
 
 /// The holders at the start, row by row.
@@ -306,6 +369,16 @@ pub fn offers_meet(own: Option<Offer>, other: Option<Offer>) -> bool
             chan == other
         }
         _ => false,
+    }
+}
+
+/// Whether an offer commits its row alone.
+fn stands_alone(offer: Option<Offer>) -> bool
+    ensures { result ≡ stands_alone offer }
+{
+    match offer {
+        Some(offer) => matches!(offer.base, Base::Always(_)),
+        None => false,
     }
 }
 

@@ -1,7 +1,8 @@
 use Rattle.std.proofs.Common.{◌≡◌, ap, sym, refl, ◌∙◌}
 use Rattle.words.specs.declared.Cell.TheVariants.{Waiting, Claimed}
 use Rattle.words.specs.declared.Step.TheVariants.{Yield}
-use Rattle.protocol.specs.Tables.{joined_of, cell_at}
+use Rattle.words.specs.declared.Cell.{Cell}
+use Rattle.protocol.specs.Tables.{joined_of, names, cell_at}
 use Rattle.protocol.specs.Worlds.{Holds, with_cell}
 use Rattle.protocol.specs.States.{world_of}
 use Rattle.protocol.proofs.Keeping.{held_row, kept_condition}
@@ -26,4 +27,4 @@ returns-clause-sound c =
     let unnamed : namer_at w c.args.row ≡ None = sym c.namer.ensures ∙ none_from c.namer.result (sym c.is_some.ensures ∙ c.if-is_some.false) in
     sound_state _ w (with_cell w.table c.args.row Waiting) c.set_cell.ensures.written refl refl
     (kept_condition w c.args.seat (Yield c.args.row) c.requires.kept (held, was, unnamed))
-    (tells_plain w c.args.row Waiting c.args.self.now.namers.items c.requires.kept (held_row w c.args.row c.args.seat.0 held) tt (ap joined_of was) refl c.requires.told)
+    (tells_plain w c.args.row Waiting c.args.self.now.namers.items c.requires.kept (held_row w c.args.row c.args.seat.0 held) tt (λ r. ap (λ (d : Cell). names (joined_of d) r) (sym was)) c.requires.told)

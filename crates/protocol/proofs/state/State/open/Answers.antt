@@ -1,7 +1,8 @@
 use Rattle.std.proofs.Common.{◌≡◌, ap, sym, refl}
 use Rattle.words.specs.declared.Cell.TheVariants.{Fresh, Waiting}
 use Rattle.words.specs.declared.Step.TheVariants.{Open}
-use Rattle.protocol.specs.Tables.{joined_of, cell_at}
+use Rattle.words.specs.declared.Cell.{Cell}
+use Rattle.protocol.specs.Tables.{joined_of, names, cell_at}
 use Rattle.protocol.specs.Worlds.{Holds, with_cell}
 use Rattle.protocol.specs.States.{world_of}
 use Rattle.protocol.proofs.Keeping.{held_row, kept_condition}
@@ -19,4 +20,4 @@ returns-clause-sound c =
     let was : cell_at w.table c.args.row ≡ Fresh = sym c.in-Fresh.ensures in
     sound_state _ w (with_cell w.table c.args.row Waiting) c.set_cell.ensures.written refl refl
     (kept_condition w c.args.seat (Open c.args.row) c.requires.kept (held, was))
-    (tells_plain w c.args.row Waiting c.args.self.now.namers.items c.requires.kept (held_row w c.args.row c.args.seat.0 held) tt (ap joined_of was) refl c.requires.told)
+    (tells_plain w c.args.row Waiting c.args.self.now.namers.items c.requires.kept (held_row w c.args.row c.args.seat.0 held) tt (λ r. ap (λ (d : Cell). names (joined_of d) r) (sym was)) c.requires.told)

@@ -4,7 +4,8 @@ use Rattle.std.specs.Prelude.{Option, ℕ}
 use Rattle.words.specs.declared.Row.{Row}
 use Rattle.protocol.specs.Tables.{all_rows}
 use Rattle.protocol.specs.Worlds.{start_world, first_holder}
-use Rattle.protocol.proofs.Starting.{start_sound, length_holders}
+use Rattle.protocol.proofs.Starting.{start_sound}
+use Rattle.protocol.proofs.LedgerLemmas.{length_holders}
 use Rattle.protocol.proofs.state.State.start.Goals as goal
 
 pub invariant_of-result : goal.invariant_of-result
