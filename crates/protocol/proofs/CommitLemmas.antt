@@ -146,17 +146,27 @@ told_once told c [] r back h = has_left c (option_to_list (told r)) _ (subst (λ
 told_once told c (x ∷ front) r back h = has_right c (option_to_list (told x)) _ (told_once told c front r back h)
 
 -- what is told of a row it names
-told_named : (joined : Row → Option Joined) (offer : Row → ℕ → Option Offer) (r : Row) (c : Commit) → told_at joined offer r ≡ Some c → IsIn joined offer c
+pub told_parts : (joined : Row → Option Joined) (offer : Row → ℕ → Option Offer) (r : Row) (c : Commit) → told_at joined offer r ≡ Some c → (j : Joined) × (joined r ≡ Some j) × (tells joined (offer r j.own) j.partner ≡ true) × (commit_named offer r j ≡ Some c)
 unfolding told_at
-told_named joined offer r c h = by_joined (joined r) refl h
+told_parts joined offer r c h = by_joined (joined r) refl h
   where
-    by_joined : (o : Option Joined) → joined r ≡ o → told_by joined offer r o ≡ Some c → IsIn joined offer c
+    by_joined : (o : Option Joined) → joined r ≡ o → told_by joined offer r o ≡ Some c → (j : Joined) × (joined r ≡ Some j) × (tells joined (offer r j.own) j.partner ≡ true) × (commit_named offer r j ≡ Some c)
     by_joined None e k = let bad : None ≡ Some c = k in cc
-    by_joined (Some j) e k = by_test (tells joined (offer r j.own) j.partner) k
+    by_joined (Some j) e k = by_test (tells joined (offer r j.own) j.partner) refl k
       where
-        by_test : (b : Bool) → cond b (commit_named offer r j) None ≡ Some c → IsIn joined offer c
-        by_test true k = record { row = r; way = j; is_joined = e; is_named = k }
-        by_test false k = let bad : None ≡ Some c = k in cc
+        by_test : (b : Bool) → tells joined (offer r j.own) j.partner ≡ b → cond b (commit_named offer r j) None ≡ Some c → (j : Joined) × (joined r ≡ Some j) × (tells joined (offer r j.own) j.partner ≡ true) × (commit_named offer r j ≡ Some c)
+        by_test true t k = (j, e, t, k)
+        by_test false t k = let bad : None ≡ Some c = k in cc
+
+pub told_named : (joined : Row → Option Joined) (offer : Row → ℕ → Option Offer) (r : Row) (c : Commit) → told_at joined offer r ≡ Some c → IsIn joined offer c
+told_named joined offer r c h =
+    let t = told_parts joined offer r c h in
+    record { row = r; way = t.0; is_joined = t.1; is_named = t.3 }
+
+pub commit_told : (rs : List Row) (joined : Row → Option Joined) (offer : Row → ℕ → Option Offer) (c : Commit) → Contains (commits_of rs joined offer) c → IsIn joined offer c
+commit_told rs joined offer c h =
+    let r = told_of (told_at joined offer) c rs (contains_has c _ h) in
+    told_named joined offer r.0 c r.1
 
 tells_told : (joined : Row → Option Joined) (offer : Row → ℕ → Option Offer) (r : Row) (j : Joined) (c : Commit) → joined r ≡ Some j → tells joined (offer r j.own) j.partner ≡ true → commit_named offer r j ≡ Some c → told_at joined offer r ≡ Some c
 unfolding told_at
@@ -240,9 +250,7 @@ module _ (threads rows : ℕ) (joined : Row → Option Joined) (offer : Row → 
 
   pub commit_members : (c : Commit) → Contains (commits_of (all_rows threads rows) joined offer) c ↔ IsIn joined offer c
   commit_members c = (
-    λ h.
-        let r = told_of (told_at joined offer) c (all_rows threads rows) (contains_has c _ h) in
-        told_named joined offer r.0 c r.1,
+    commit_told (all_rows threads rows) joined offer c,
     λ h. has_contains c _ (⊎_elim
         (λ (e : tells joined (offer h.row h.way.own) h.way.partner ≡ true). told_by_row c h.row h.way h.is_joined (tells_told joined offer h.row h.way c h.is_joined e h.is_named))
         (λ (e : tells joined (offer h.row h.way.own) h.way.partner ≡ false). told_by_partner c h e)

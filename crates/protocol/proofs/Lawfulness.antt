@@ -16,7 +16,7 @@ use Rattle.words.specs.declared.Cell.{Cell}
 use Rattle.words.specs.declared.Cell.TheVariants.{Claimed}
 use Rattle.protocol.specs.Tables.{all_rows, is_fresh, joined_of, names, is_partner, offers_meet, stands_alone, bases_meet, last_stamp, stamp_of}
 use Rattle.protocol.specs.Worlds.{mirrored}
-use Rattle.protocol.specs.Ledgers.{IsIn, Takes, Involves, stamp_in, Offers, Fits, Enables, CountsFor, Lawful, commit_named, commit_by, alone_by, pair_by, received_by, commits_of}
+use Rattle.protocol.specs.Ledgers.{IsIn, Involves, stamp_in, Offers, Fits, Enables, CountsFor, Lawful, commit_named, commit_by, alone_by, pair_by, received_by, commits_of}
 use Rattle.protocol.specs.Kept.{joined_by, IsSideOf, Linked}
 use Rattle.protocol.proofs.Linking.{cases_Option, some_parts, some_inj, some_is_some, names_from, partner_parts, fresh_not_joined, taken_joined, partner_open, always_of, named_some, named_alone}
 use Rattle.protocol.proofs.CommitLemmas.{named_rows}

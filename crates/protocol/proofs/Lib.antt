@@ -14,3 +14,4 @@ pub mod Loops
 pub mod CommitLemmas
 pub mod LedgerReadings
 pub mod Starting
+pub mod Ordering

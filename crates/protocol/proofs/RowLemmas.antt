@@ -1,6 +1,10 @@
 -- Rows: when two are one, the list of all rows, and a function that is changed at one row.
-use Rattle.std.proofs.Common.{◌≡◌, ◌≢◌, ℕ, zero, suc, ◌<◌, ◌≤◌, true, false, cond, eqb, List, [], ◌∷◌, ◌++◌, sym, refl, ap, ◌∙◌, ◌⊎◌, inl, inr, ⊎_elim, arith, append_assoc}
+use Rattle.std.proofs.Common.{◌||◌, ◌≡◌, ◌≢◌, ℕ, zero, suc, ◌<◌, ◌≤◌, true, false, cond, eqb, List, [], ◌∷◌, ◌++◌, sym, refl, ap, ◌∙◌, ◌⊎◌, inl, inr, ⊎_elim, arith, append_assoc, subst}
 use Rattle.std.proofs.lemmas.Bool.{eqb-true, eq-eqb, cases_Bool, and_parts, cases_eq, true≢false}
+use Rattle.std.specs.List.{IsDistinct, list_any}
+use Rattle.std.specs.Cmp.{IsEquivalence}
+use Rattle.std.proofs.lemmas.Map.Keys.{IsDistinct-push}
+use Rattle.std.proofs.lemmas.List.{append-nil}
 use Rattle.words.specs.declared.Row.{Row}
 use Rattle.protocol.specs.Tables.{row_eq, rows_below, all_rows}
 
@@ -113,3 +117,35 @@ once_all (suc t) g x h k =
       behind = absent_append x o.back _ o.behind (absent_below t g x (λ e. absurd (n e)));
     })
     (cases_eq x.thread t)
+
+-- ALL ROWS DIFFER
+
+pub row_eq_flips : (r s : Row) → row_eq r s ≡ row_eq s r
+row_eq_flips r s = ⊎_elim
+    (λ (e : r ≡ s). λ i. row_eq (e i) (sym e i))
+    (λ (n : row_eq r s ≡ false). n ∙ sym (row_ne s r (λ e. row_eq-false r s n (sym e))))
+    (row_cases r s)
+
+row_equivalence : IsEquivalence row_eq
+row_equivalence = record {
+  refl = row_eq-refl;
+  symm = row_eq_flips;
+  congr = λ r s t h. ap (λ (x : Row). row_eq x t) (row_eq-true r s h);
+}
+
+any_absent : (x : Row) (rs : List Row) → IsAbsent x rs → list_any (row_eq x) rs ≡ false
+any_absent x [] h = refl
+any_absent x (r ∷ rs) h = (λ i. (row_eq_flips x r ∙ h.0) i || any_absent x rs h.1 i)
+
+distinct_rows : (t g n : ℕ) → IsDistinct row_eq (all_rows t g) → IsDistinct row_eq (all_rows t g ++ rows_below t n)
+distinct_rows t g zero d = subst (IsDistinct row_eq) (sym (append-nil (all_rows t g))) d
+distinct_rows t g (suc n) d =
+    let next : Row = record { thread = t; sync = n } in
+    let absent : IsAbsent next (all_rows t g ++ rows_below t n) = absent_append next (all_rows t g) _ (absent_all t g next (omega arith)) (absent_below t n next (λ e. omega arith)) in
+    subst (IsDistinct row_eq) (append_assoc (all_rows t g) (rows_below t n) (next ∷ []))
+    (IsDistinct-push row_equivalence (all_rows t g ++ rows_below t n) next (distinct_rows t g n d) (any_absent next _ absent))
+
+pub all_distinct : (t g : ℕ) → IsDistinct row_eq (all_rows t g)
+unfolding IsDistinct
+all_distinct zero g = tt
+all_distinct (suc t) g = distinct_rows t g g (all_distinct t g)

@@ -1,16 +1,15 @@
 -- The state at the start is sound.
-use Rattle.std.proofs.Common.{◌≡◌, ℕ, ◌*◌, ◌<◌, ◌≤◌, List, length, get_or, map, replicate, sym, ap, ◌∙◌, subst, ⊎_elim, Option, None, arith}
+use Rattle.std.proofs.Common.{◌≡◌, ℕ, ◌<◌, ◌≤◌, List, get_or, replicate, sym, ap, ◌∙◌, subst, ⊎_elim, Option, None, arith}
 use Rattle.std.proofs.lemmas.Bool.{cases_lt}
-use Rattle.std.proofs.lemmas.List.{get_or-replicate, get_or_past, length-replicate, length-map}
+use Rattle.std.proofs.lemmas.List.{get_or-replicate, get_or_past, length-replicate}
 use Rattle.words.specs.declared.Row.{Row}
 use Rattle.words.specs.declared.Cell.{Cell}
 use Rattle.protocol.specs.declared.state.State.{State}
 use Rattle.protocol.specs.Tables.{all_rows, number_of, joined_of, names}
-use Rattle.protocol.specs.Worlds.{World, start_world, first_holder}
+use Rattle.protocol.specs.Worlds.{World, start_world}
 use Rattle.protocol.specs.Kept.{Kept}
 use Rattle.protocol.specs.States.{world_of, IsSound, Tells}
 use Rattle.protocol.proofs.Naming.{namer_none}
-use Rattle.protocol.proofs.Keeping.{length_all}
 use Rattle.protocol.proofs.LedgerLemmas.{kept_start, start_cell}
 
 nobody : (n i : ℕ) → get_or (replicate {A = Option Row} n None) i None ≡ None

@@ -12,10 +12,10 @@ use Rattle.protocol.specs.Tables.{Table, is_row, row_eq, all_rows, number_of, ce
 use Rattle.protocol.specs.Worlds.{World, namer_at, with_word, with_cell, with_table, joined_with, mirrored, granted_by}
 use Rattle.protocol.specs.Kept.{Kept, joined_by}
 use Rattle.protocol.specs.States.{Tells}
-use Rattle.protocol.proofs.RowLemmas.{row_eq-refl, row_eq-false, row_cases, row_ne, put, put_same, put_other, same_row}
+use Rattle.protocol.proofs.RowLemmas.{row_eq-refl, row_eq-false, row_cases, row_ne, put, put_same, put_other}
 use Rattle.protocol.proofs.Linking.{fresh_not_joined}
 use Rattle.protocol.proofs.StepLemmas.{names_o}
-use Rattle.protocol.proofs.Places.{row_inside, same_block, same_rest, block_inside}
+use Rattle.protocol.proofs.Places.{row_inside, block_inside}
 use Rattle.protocol.proofs.Readings.{cell_after_word, cell_after_cell, row_of_open}
 use Rattle.protocol.proofs.Naming.{namer_is}
 use Rattle.protocol.proofs.Keeping.{unnamed_row, join_in_range, IsSealing, seal_in_range, same_number, grant_in_range}

@@ -1,5 +1,5 @@
 -- Ledgers: the commits that a table's words name, and when they are lawful.
-use Rattle.std.specs.Prelude.{zero, suc, ◌⊎◌, ◌/◌, ◌%◌, ◌==◌, ◌^◌, ◌≡◌, ℕ, ◌+◌, ◌*◌, ◌<◌, ◌≤◌, ◌≢◌, Bool, true, false, ◌||◌, ◌&&◌, nat_lt, if◌then◌else◌, Option, Some, None, is_some, is_none, option_and_then, option_to_list, List, [], ◌++◌, map, length, count_by, slice_index_or}
+use Rattle.std.specs.Prelude.{zero, suc, ◌⊎◌, ◌/◌, ◌%◌, ◌==◌, ◌^◌, ◌≡◌, ℕ, ◌+◌, ◌*◌, ◌<◌, ◌≤◌, ◌≢◌, Bool, true, false, ◌||◌, ◌&&◌, nat_lt, if◌then◌else◌, Option, Some, None, is_some, is_none, option_and_then, option_to_list, List, [], ◌++◌, map, length, count_by, slice_get, slice_index_or}
 use Rattle.std.specs.List.{range_with_len, flat_map}
 use Rattle.std.specs.List.Sorted.{IsSortedByKey}
 use Rattle.std.specs.Ordering.{nat_cmp, ordering_then}
@@ -255,9 +255,12 @@ pending_in l = pending_of (rows_in l) (joined_in l)
 
 -- THE JOURNAL'S ORDER: by stamp, and then by the thread named first
 
+abbrev pub first_row : Commit → Row
+first_row (Pair sender receiver c m s) = sender.0
+first_row (Alone at k s) = at.0
+
 abbrev pub first_thread : Commit → ℕ
-first_thread (Pair sender receiver c m s) = sender.0.thread
-first_thread (Alone at k s) = at.0.thread
+first_thread c = (first_row c).thread
 
 abbrev pub order_of : Commit → ℕ × ℕ
 order_of c = (stamp_in c, first_thread c)
@@ -267,3 +270,9 @@ order_cmp x y = ordering_then (nat_cmp x.0 y.0) (nat_cmp x.1 y.1)
 
 abbrev pub IsInOrder : List Commit → Type 0
 IsInOrder cs = IsSortedByKey order_of order_cmp cs
+
+-- each commit stands once, and behind each that counts for it: those of the earlier rows of its threads, and the one
+-- that enabled its nack
+pub record IsCausal (bound : NackName → Option Binding) (cs : List Commit) : Type 0 where
+  pub once : (i k : ℕ) (c : Commit) → slice_get cs i ≡ Some c → slice_get cs k ≡ Some c → i ≡ k
+  pub behind : (i k : ℕ) (c d : Commit) → slice_get cs i ≡ Some d → slice_get cs k ≡ Some c → CountsFor bound d c → i < k

@@ -27,7 +27,7 @@ impl Model for Ledger {
     ghost invariant = { λ l. IsLawful (ledger_of (table_of l.board)) };
 }
 
-ghost use Rattle.protocol.specs.Ledgers.{ledger_of, IsLawful, HasCommit, Involves, IsInOrder, commits_in, pending_in, order_of};
+ghost use Rattle.protocol.specs.Ledgers.{ledger_of, IsLawful, HasCommit, Involves, IsInOrder, IsCausal, binding_in, commits_in, pending_in, order_of};
 ghost use Rattle.protocol.specs.Tables.{thread_len};
 ghost use Rattle.protocol.specs.States.{table_of};
 ghost use Rattle.words.specs.declared.Commit.{Commit};
@@ -73,6 +73,7 @@ impl Ledger {
         ensures once { IfOk result (λ cs. IsPermutation (commits_in self.now) cs.items) }
         ensures members { IfOk result (λ cs. (c : Commit) → Contains cs.items c ↔ HasCommit self.now c) }
         ensures in_order { IfOk result (λ cs. IsInOrder cs.items) }
+        ensures causal { IfOk result (λ cs. IsCausal (binding_in self.now) cs.items) }
     {
         let mut commits = self.board.commits()?;
         commits.sort_by_key(|commit| order_of(commit))?;

@@ -2,9 +2,10 @@ use Rattle.std.proofs.Common.{◌≡◌, ap, subst, ◌∙◌, List, rules, IsPe
 use Rattle.std.specs.Prelude.{Contains, ◌↔◌}
 use Rattle.std.proofs.lemmas.List.Sorted.{Contains-permutation, IsPermutation-sym, answers_always}
 use Rattle.words.specs.declared.Commit.{Commit}
-use Rattle.protocol.specs.Ledgers.{Ledger, commits_in, HasCommit, order_of}
+use Rattle.protocol.specs.Ledgers.{Ledger, ledger_of, binding_in, commits_in, HasCommit, order_of, IsCausal}
 use Rattle.protocol.specs.States.{table_of}
 use Rattle.protocol.proofs.LedgerReadings.{commits_in_ledger, members_in_ledger}
+use Rattle.protocol.proofs.Ordering.{causal_ledger}
 use Rattle.protocol.proofs.ledger.Ledger.commits.Goals as goal
 
 pub returns-clause-once : goal.returns-clause-once
@@ -26,3 +27,11 @@ returns-clause-members c = λ d.
 
 pub returns-clause-in_order : goal.returns-clause-in_order
 returns-clause-in_order c = c.in_ok-sort_by_key.ensures.sorted order_of (answers_always _ _ _ (λ f a r g h. search rules))
+
+pub returns-clause-causal : goal.returns-clause-causal
+returns-clause-causal c =
+    let t = table_of c.self.inside.board in
+    let told : c.in_ok-commits.commits.items ≡ commits_in (ledger_of t) = c.in_ok-commits.ensures ∙ commits_in_ledger t in
+    let sorted = c.in_ok-sort_by_key.ensures.sorted order_of (answers_always _ _ _ (λ f a r g h. search rules)) in
+    subst (λ (l : Ledger). IsCausal (binding_in l) c.sort_by_key.new.self.items) c.self.view_is
+    (causal_ledger (ledger_of t) c.self.invariant c.sort_by_key.new.self.items (subst (λ (cs : List Commit). IsPermutation cs c.sort_by_key.new.self.items) told c.sort_by_key.ensures.permutation) sorted)

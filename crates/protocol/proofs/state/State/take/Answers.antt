@@ -1,4 +1,4 @@
-use Rattle.std.proofs.Common.{◌≡◌, ap, sym, subst, refl, ◌∙◌, Some, List, Option, Vec, is_some}
+use Rattle.std.proofs.Common.{◌≡◌, ap, sym, subst, ◌∙◌, Some, List, Option, is_some}
 use Rattle.words.specs.declared.Row.{Row}
 use Rattle.words.specs.declared.Joined.{Joined}
 use Rattle.words.specs.declared.Cell.{Cell}
