@@ -130,3 +130,74 @@ fn words_that_name_nothing_make_an_empty_ledger(rt: HostRuntime) -> Result<(), F
     assert_eq!(rt; ledger.commits()?.len(), 0);
     Ok(())
 }
+
+/// A thread that offers an always of the empty message, twice, and is granted both.
+fn two_grants() -> [(Seat, Step); 9] {
+    let later = Row { thread: 0, sync: 1 };
+    [
+        draft(0, SENDER, 1, 1),
+        draft(0, SENDER, 2, 3),
+        (Seat(0), Step::Open { row: SENDER }),
+        (
+            Seat(0),
+            Step::Grant {
+                row: SENDER,
+                offer: 0,
+            },
+        ),
+        (Seat(0), Step::Take { row: SENDER }),
+        draft(0, later, 1, 1),
+        draft(0, later, 2, 3),
+        (Seat(0), Step::Open { row: later }),
+        (
+            Seat(0),
+            Step::Grant {
+                row: later,
+                offer: 0,
+            },
+        ),
+    ]
+}
+
+fn alone(sync: u16, stamp: u32) -> Commit {
+    Commit::Alone {
+        at: (Row { thread: 0, sync }, 0),
+        cause: Cause::Always(Message::Empty),
+        stamp,
+    }
+}
+
+#[test]
+fn a_thread_goes_on_once_its_row_is_taken(rt: HostRuntime) -> Result<(), Fail> {
+    let ledger = play(World::start(rt.alloc(), 1, 2, 1)?, &two_grants())?.ledger();
+    assert_eq!(rt;
+        ledger.commits()?.as_slice(),
+        [alone(0, 1), alone(1, 2)].as_slice()
+    );
+    assert_eq!(rt; ledger.pending(), 0);
+    Ok(())
+}
+
+#[test]
+fn a_row_that_nobody_took_holds_its_thread(rt: HostRuntime) -> Result<(), Fail> {
+    let mut steps = two_grants().to_vec(rt.alloc())?;
+    steps.remove(4);
+    let fault = play(World::start(rt.alloc(), 1, 2, 1)?, &steps);
+    assert_eq!(rt;
+        fault.expect_err(&rt, "nobody holds the next row"),
+        ProtoFault::NotAllowed(4)
+    );
+    Ok(())
+}
+
+#[test]
+fn a_row_is_taken_once(rt: HostRuntime) -> Result<(), Fail> {
+    let mut steps = two_grants().to_vec(rt.alloc())?;
+    steps.push((Seat(0), Step::Take { row: SENDER }))?;
+    let fault = play(World::start(rt.alloc(), 1, 2, 1)?, &steps);
+    assert_eq!(rt;
+        fault.expect_err(&rt, "the row is taken"),
+        ProtoFault::NotAllowed(9)
+    );
+    Ok(())
+}
