@@ -31,7 +31,7 @@ use Rattle.cell.specs.declared.view.Shape.{Shape}
 use Rattle.cell.specs.declared.view.Stage.{Stage}
 use Rattle.cell.specs.declared.view.Stage.TheVariants.{Resting, Claims, Joins}
 use Rattle.cell.specs.Sight.{Has, CanJoin}
-use Rattle.cell.specs.Sight.{is_taken}
+use Rattle.protocol.specs.Tables.{is_taken}
 use Rattle.cell.specs.Views.{Knows, Staged, IsClaimer, saw, read_word, drafted_word, turned}
 use Rattle.cell.proofs.Truths.{offers_known, joined_known, agrees, coherent}
 use Rattle.cell.specs.Rule.{Keeps}
@@ -106,7 +106,7 @@ module _ (shape : Shape) (id place : ℕ) (me : Me ℕ View) (r : Row) (p : ℕ)
         keeps_step shape s k id (drafted_word r p d me.0) _ _ seat (Draft r p d) (known.seat, (mine.1, fresh, high, omega arith, formed))
         (ap (λ (t : Table). with_word t r p d) k.table ∙ ap (λ (n : ℕ). sized shape (slice_set s.words n d)) (sym here))
         (λ j u n e t. others_draft k.world r p d k.owner kept is_its_row high low fresh j u (k.knows j u e t) (λ o. n (sym o ∙ mine.0)))
-        (own_draft k.world r p d k.owner kept is_its_row high low fresh id me.0 known mine.0)
+        (own_draft k.world r p d k.owner kept is_its_row high low fresh id me.0 known mine.0 mine.1)
 
     -- where it writes the cell
     module _ (c : Cell) (zero : p ≡ 0) (range : IsCellInRange c) (open_c : is_fresh c ≡ false)

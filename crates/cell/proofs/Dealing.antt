@@ -22,7 +22,6 @@ use Rattle.cell.specs.declared.view.Stage.TheVariants.{Resting, Claims, Joins}
 use Rattle.cell.specs.Sight.{Has}
 use Rattle.cell.specs.Views.{Knows, Staged, first_row}
 use Rattle.cell.specs.Rule.{Keeps, dealer, dealt_rows, dealt_pass, no_offers}
-use Rattle.protocol.proofs.Keeping.{held_row}
 
 -- WHO OWNS WHAT may change for rows that a pass does not own
 staged_owned : (w : World) (owner owner' : Row → ℕ) (j : ℕ) (stage : Stage) → ((r : Row) → owner r ≡ j → owner' r ≡ j) → Staged w owner j stage → Staged w owner' j stage
@@ -200,7 +199,7 @@ module _ {S : Type 0} (shape : Shape) (id k : ℕ) (below : k < shape.passes) (s
         let n = no_offers_of (dealt_rows shape.threads shape.passes k) r p x i in
         let g = dealt_row r n.0 in
         let q = n.1 in
-        (g.0, (omega arith), (omega arith), held_row h.world r k g.1, ap (word_at h.world.table r) n.1 ∙ g.3 ∙ sym n.2);
+        (g.0, (omega arith), (omega arith), g.1, ap (word_at h.world.table r) n.1 ∙ g.3 ∙ sym n.2);
     opened = λ r i. absurd i;
     read = λ r p x i. absurd i;
     joined = λ r j i. absurd i;

@@ -18,7 +18,7 @@ use Rattle.cell.proofs.Redrafting.{left}
 use Rattle.protocol.proofs.Places.{word_other, is_row_after}
 use Rattle.protocol.proofs.Readings.{cell_after_cell, cell_after_word, row_of_open}
 use Rattle.cell.specs.Sight.{Has, IsCounted, without}
-use Rattle.cell.specs.Sight.{is_taken}
+use Rattle.protocol.specs.Tables.{is_taken}
 use Rattle.cell.specs.Views.{first_row, IsClaimer, Staged, Knows, at_stage, turned, saw, read_word, drafted_word}
 
 holder_kept : (w : World) (t : Table) (r : Row) → t.threads ≡ w.table.threads → t.rows ≡ w.table.rows → holder_at (with_table w t) r ≡ holder_at w r
@@ -138,7 +138,7 @@ module _ (w : World) (x : Row) (c : Cell) (owner : Row → ℕ) (k : Kept w)
           cc)
           (λ (y : row_eq r x ≡ false). same_cell r y ∙ knows.fresh r h n)
           (row_cases r x);
-      drafted = λ r p d h. let k = knows.drafted r p d h in (k.0, k.1, k.2, still_row r ∙ k.3, stays_word r p k.3 k.2 k.1 ∙ k.4);
+      drafted = λ r p d h. let k = knows.drafted r p d h in (k.0, k.1, k.2, holder_kept w (with_cell w.table x c) r size_kept.0 size_kept.1 ∙ k.3, stays_word r p (held_row w r _ k.3) k.2 k.1 ∙ k.4);
       opened = λ r h. stays_open r (knows.opened r h);
       read = λ r p d h. let k = knows.read r p d h in (stays_open r k.0, k.1, k.2, stays_word r p (row_of_open w.table r k.0) k.2 k.1 ∙ k.3);
       joined = λ r j h. stays_joined r j (knows.joined r j h);
@@ -169,7 +169,7 @@ module _ (w : World) (x : Row) (c : Cell) (owner : Row → ℕ) (k : Kept w)
     calm = calm;
     staged = staged;
     fresh = λ r h n. same_cell r (row_ne r x (λ e. n (inl (sym e)))) ∙ knows.fresh r h (λ o. n (inr o));
-    drafted = λ r p d h. let k = knows.drafted r p d h in (k.0, k.1, k.2, still_row r ∙ k.3, stays_word r p k.3 k.2 k.1 ∙ k.4);
+    drafted = λ r p d h. let k = knows.drafted r p d h in (k.0, k.1, k.2, holder_kept w (with_cell w.table x c) r size_kept.0 size_kept.1 ∙ k.3, stays_word r p (held_row w r _ k.3) k.2 k.1 ∙ k.4);
     opened = λ r h. opened_now r h;
     read = λ r p d h. let k = knows.read r p d h in (stays_open r k.0, k.1, k.2, stays_word r p (row_of_open w.table r k.0) k.2 k.1 ∙ k.3);
     joined = λ r j h. stays_joined r j (knows.joined r j h);
@@ -271,7 +271,7 @@ module _ (w : World) (x : Row) (p d : ℕ) (owner : Row → ℕ) (k : Kept w)
 
   after_draft : (id : ℕ) (v : View) (ds : List (Row × ℕ × ℕ)) → Knows w owner id v
       → ((t : ℕ) (r : Row) → owner r ≡ id → is_row w.table r ≡ true → (¬ IsCounted v.seen r → word_at w.table r 1 ≡ 0) → ¬ ((count : ℕ) × Has ds (r, 1, count)) → word_at (with_word w.table x p d) r 1 ≡ 0)
-      → ((r : Row) (q y : ℕ) → Has ds (r, q, y) → (owner r ≡ id) × (q < 34) × (1 ≤ q) × (is_row (with_word w.table x p d) r ≡ true) × (word_at (with_word w.table x p d) r q ≡ y))
+      → ((r : Row) (q y : ℕ) → Has ds (r, q, y) → (owner r ≡ id) × (q < 34) × (1 ≤ q) × (holder_at w r ≡ Some v.seat) × (word_at (with_word w.table x p d) r q ≡ y))
       → Knows (with_table w (with_word w.table x p d)) owner id (at_stage v.stage (record { held = v.seen.held; drafts = ds; opened = v.seen.opened; words = v.seen.words; joined = v.seen.joined; taken = v.seen.taken }) v)
   after_draft id v ds knows counts drafted = record {
     threads = knows.threads;
@@ -283,7 +283,7 @@ module _ (w : World) (x : Row) (p d : ℕ) (owner : Row → ℕ) (k : Kept w)
     calm = λ r h e. knows.calm r h (sym (cells_stay r) ∙ e);
     staged = staged_draft id v.stage knows.staged;
     fresh = λ r h n. cells_stay r ∙ knows.fresh r h n;
-    drafted = drafted;
+    drafted = λ r q y h. let k = drafted r q y h in (k.0, k.1, k.2, holder_kept w (with_word w.table x p d) r refl refl ∙ k.3, k.4);
     opened = λ r h. ap is_fresh (cells_stay r) ∙ knows.opened r h;
     read = λ r q y h. read_kept r q y (knows.read r q y h);
     joined = λ r j h. ap joined_of (cells_stay r) ∙ knows.joined r j h;
@@ -295,7 +295,7 @@ module _ (w : World) (x : Row) (p d : ℕ) (owner : Row → ℕ) (k : Kept w)
       (λ t r o i was n. words_stay r 1 i (omega arith) (inl (row_ne r x (λ e. other (ap owner (sym e) ∙ o)))) ∙ was n)
       (λ r q y h.
       let k = knows.drafted r q y h in
-      (k.0, k.1, k.2, is_row_after w.table x r p d ∙ k.3, words_stay r q k.3 k.1 (inl (row_ne r x (λ e. other (ap owner (sym e) ∙ k.0)))) ∙ k.4))
+      (k.0, k.1, k.2, k.3, words_stay r q (held_row w r _ k.3) k.1 (inl (row_ne r x (λ e. other (ap owner (sym e) ∙ k.0)))) ∙ k.4))
 
   -- what was drafted at other places stays
   abbrev Elsewhere : List (Row × ℕ × ℕ) → Row → ℕ → ℕ → Type 0
@@ -317,8 +317,8 @@ module _ (w : World) (x : Row) (p d : ℕ) (owner : Row → ℕ) (k : Kept w)
   kept_drafts [] r q y h = absurd h
   kept_drafts (e ∷ ds) r q y h = kept_entry e ds (without x p ds) r q y (row_eq e.0 x) (eqb e.1 p) refl refl (λ i. kept_drafts ds r q y i) h
 
-  pub own_draft : (id : ℕ) (v : View) → Knows w owner id v → owner x ≡ id → Knows (with_table w (with_word w.table x p d)) owner id (drafted_word x p d v)
-  own_draft id v knows mine = after_draft id v ((x, p, d) ∷ without x p v.seen.drafts) knows (λ t r o i was n. counts_now r i was n) (λ r q y h. drafted_now r q y h)
+  pub own_draft : (id : ℕ) (v : View) → Knows w owner id v → owner x ≡ id → holder_at w x ≡ Some v.seat → Knows (with_table w (with_word w.table x p d)) owner id (drafted_word x p d v)
+  own_draft id v knows mine holds = after_draft id v ((x, p, d) ∷ without x p v.seen.drafts) knows (λ t r o i was n. counts_now r i was n) (λ r q y h. drafted_now r q y h)
     where
       elsewhere : (r : Row) → is_row w.table r ≡ true → (¬ IsCounted v.seen r → word_at w.table r 1 ≡ 0) → ¬ ((count : ℕ) × Has ((x, p, d) ∷ without x p v.seen.drafts) (r, 1, count))
           → (row_eq r x ≡ false) ⊎ (1 ≡ p → ⊥) → ¬ ((r ≡ x) × (1 ≡ p)) → word_at (with_word w.table x p d) r 1 ≡ 0
@@ -330,11 +330,11 @@ module _ (w : World) (x : Row) (p d : ℕ) (owner : Row → ℕ) (k : Kept w)
           (λ (e : row_eq r x ≡ false). elsewhere r i was n (inl e) (λ h. row_eq-false r x e h.0))
           (row_cases r x)
 
-      drafted_now : (r : Row) (q y : ℕ) → Has ((x, p, d) ∷ without x p v.seen.drafts) (r, q, y) → (owner r ≡ id) × (q < 34) × (1 ≤ q) × (is_row (with_word w.table x p d) r ≡ true) × (word_at (with_word w.table x p d) r q ≡ y)
+      drafted_now : (r : Row) (q y : ℕ) → Has ((x, p, d) ∷ without x p v.seen.drafts) (r, q, y) → (owner r ≡ id) × (q < 34) × (1 ≤ q) × (holder_at w r ≡ Some v.seat) × (word_at (with_word w.table x p d) r q ≡ y)
       drafted_now r q y (inl e) =
-          subst (λ (z : Row × ℕ × ℕ). (owner z.0 ≡ id) × (z.1 < 34) × (1 ≤ z.1) × (is_row (with_word w.table x p d) z.0 ≡ true) × (word_at (with_word w.table x p d) z.0 z.1 ≡ z.2)) e
-          (mine, high, low, is_row_after w.table x x p d ∙ row, Rattle.protocol.proofs.Places.word_same w.table x p d k.sized row high)
+          subst (λ (z : Row × ℕ × ℕ). (owner z.0 ≡ id) × (z.1 < 34) × (1 ≤ z.1) × (holder_at w z.0 ≡ Some v.seat) × (word_at (with_word w.table x p d) z.0 z.1 ≡ z.2)) e
+          (mine, high, low, holds, Rattle.protocol.proofs.Places.word_same w.table x p d k.sized row high)
       drafted_now r q y (inr h) =
           let was = kept_drafts v.seen.drafts r q y h in
           let k = knows.drafted r q y was.0 in
-          (k.0, k.1, k.2, is_row_after w.table x r p d ∙ k.3, words_stay r q k.3 k.1 was.1 ∙ k.4)
+          (k.0, k.1, k.2, k.3, words_stay r q (held_row w r _ k.3) k.1 was.1 ∙ k.4)

@@ -1,22 +1,21 @@
 -- What a pass has seen is true of the world, and so agrees with itself and with what it finds.
 use Rattle.std.proofs.Common.{◌≡◌, ◌≢◌, ℕ, ◌+◌, ◌*◌, ◌-◌, ◌<◌, ◌≤◌, Bool, true, false, List, sym, refl, ap, ◌∙◌, subst, inl, inr, ◌⊎◌, ⊎_elim, arith, unwrap_or, Option, Some, None, is_some, eqb, cond, max, length, slice_get}
 use Rattle.std.proofs.lemmas.Bool.{lt-ltb, ne_eqb, true≢false}
-use Rattle.words.specs.Words.{cell_of, count_of, offer_of, is_word_for, IsJoinedInRange, IsCellInRange}
-use Rattle.words.proofs.WordLemmas.{cell_word-cell_of}
+use Rattle.words.specs.Words.{count_of, offer_of, is_word_for}
 use Rattle.words.specs.declared.Offer.{Offer}
 use Rattle.words.specs.declared.Row.{Row}
 use Rattle.words.specs.declared.Joined.{Joined}
 use Rattle.words.specs.declared.Cell.{Cell}
-use Rattle.words.specs.declared.Cell.TheVariants.{Fresh, Waiting, Claimed, Synched, Taken}
-use Rattle.protocol.specs.Tables.{Table, is_fresh, cell_at, joined_at, joined_of, offers_meet, offer_at, count_at, stamp_of, last_stamp, word_at}
+use Rattle.protocol.specs.Tables.{Table, is_fresh, cell_at, joined_at, joined_of, offers_meet, offer_at, count_at, stamp_of, last_stamp, word_at, stands_alone}
 use Rattle.protocol.specs.Worlds.{World, joined_with}
 use Rattle.protocol.specs.Kept.{Kept, IsSideOf}
-use Rattle.protocol.proofs.Readings.{cell_inside, count_open, row_of_open, offer_none}
-use Rattle.protocol.proofs.Linking.{fresh_not_joined, some_inj, cases_Option, IsNaming, naming, partner_open}
-use Rattle.protocol.proofs.Keeping.{few_commits}
+use Rattle.protocol.proofs.Readings.{count_open, row_of_open, offer_none, joined_ranged}
+use Rattle.protocol.proofs.Linking.{fresh_not_joined, some_inj, naming, partner_open}
+use Rattle.protocol.proofs.Lawfulness.{chosen_there}
+use Rattle.protocol.proofs.Keeping.{few_commits, taken_before}
 use Rattle.cell.specs.declared.view.View.{View}
 use Rattle.cell.specs.Sight.{Has, HaveOffer, HasSeenLast, CanJoin, IsDraft, SawChosen, SeesNoOffer, SeesOffer, Coherent}
-use Rattle.cell.specs.Sight.{is_taken}
+use Rattle.protocol.specs.Tables.{is_taken}
 use Rattle.cell.specs.Views.{Knows}
 use Rattle.cell.specs.Told.{Agrees}
 
@@ -85,11 +84,8 @@ module _ (w : World) (owner : Row → ℕ) (id : ℕ) (v : View) (k : Knows w ow
         let read = k.read r 1 count has in
         subst (λ (x : ℕ). n < x) (count_there w.table r count read.0 read.3) (taken chose)
       where
-        own_there : (j : Joined) → Has v.seen.joined (r, j) → (p : Row × ℕ) × (j.partner ≡ Some p) → j.own < count_at w.table r
-        own_there j has_j p = let o = meeting_own _ _ (side r j p.0 has_j p.1).meets in below_count w.table r j.own o.0 o.1
-
         taken : SawChosen v.seen r n → n < count_at w.table r
-        taken (inl c) = subst (λ (x : ℕ). x < count_at w.table r) c.2 (own_there c.0 c.1 (Rattle.protocol.proofs.Linking.some_parts c.0.partner (kept.linked.paired r c.0 (k.joined r c.0 c.1))))
+        taken (inl c) = subst (λ (x : ℕ). x < count_at w.table r) c.2 (let o = chosen_there w.table.threads w.table.rows (cell_at w.table) (offer_at w.table) r c.0 kept.linked (k.joined r c.0 c.1) in below_count w.table r c.0.own o.0 o.1)
         taken (inr c) = let o = meeting_other _ _ (side c.0 c.1 (r, n) c.2 c.3).meets in below_count w.table r n o.0 o.1
 
     pub coherent : Coherent v.threads v.rows v.seen
@@ -103,7 +99,7 @@ module _ (w : World) (owner : Row → ℕ) (id : ℕ) (v : View) (k : Knows w ow
         joined_ranged w.table r j (k.joined r j h),
         Rattle.std.proofs.Math.Nat.le_trans (kept.linked.bounded r j (k.joined r j h)) (few_commits w.table.threads w.table.rows _ _ kept.few_threads kept.few_rows),
       );
-      paired = λ r j h. kept.linked.paired r j (k.joined r j h);
+      alone = λ r j mine h e a. ap stands_alone (sym (offer_known r j.own mine a)) ∙ (kept.linked.alone r j (k.joined r j h) e).alone;
       inside = λ r j p h e.
           let i = kept.linked.inside p.0 (open_partner r j p h e) in
           subst (λ (z : ℕ × ℕ). (p.0.thread < z.0) × (p.0.sync < z.1)) (λ i. (sym k.threads i, sym k.rows i)) i;
@@ -127,7 +123,10 @@ module _ (w : World) (owner : Row → ℕ) (id : ℕ) (v : View) (k : Knows w ow
             let a = naming (Some j) r n in
             let same = some_inj j a.way a.is in
             ap is_fresh (sym e) ∙ ap (λ (y : Row). is_fresh (cell_at w.table y)) (sym a.row) ∙ open_partner q j a.place h (ap (λ (y : Joined). y.partner) same ∙ a.partner);
-        in_turn = λ h. ap (λ (y : Cell). is_some (joined_of y)) (sym e) ∙ kept.linked.in_turn r.thread r.sync (k.opened _ h);
+        in_turn = λ q same below h. ap is_taken (sym e) ∙ taken_before w kept r q same below (⊎_elim
+            (λ (o : Has v.seen.opened q). inl (k.opened q o))
+            (λ (o : Has v.seen.held q). inr (v.seat, (k.mine q o).1))
+            h);
       },
       λ h claimed_now. k.calm r h (e ∙ claimed_now),
     )
@@ -156,8 +155,7 @@ few_offers count n h = by_case (Rattle.std.proofs.Math.Dec.leb count 8) h
 pub own_chose : (w : World) (owner : Row → ℕ) (id : ℕ) (v : View) (r : Row) (j : Joined) (offers : List Offer) → Knows w owner id v → Kept w → IsDraft v.seen r offers → joined_at w.table r ≡ Some j
     → (j.own < length offers) × (offer_at w.table r j.own ≡ slice_get offers j.own)
 own_chose w owner id v r j offers k kept draft e =
-    let p = Rattle.protocol.proofs.Linking.some_parts j.partner (kept.linked.paired r j e) in
-    let o = meeting_own _ _ (kept.linked.sides r j p.0 e p.1).meets in
+    let o = chosen_there w.table.threads w.table.rows (cell_at w.table) (offer_at w.table) r j kept.linked e in
     let open_r = fresh_not_joined (cell_at w.table r) j e in
     let counted = count_there w.table r (length offers) open_r (k.drafted r 1 (length offers) draft.0).4 in
     let below = few_offers (length offers) j.own (subst (λ (n : ℕ). j.own < n) counted (below_count w.table r j.own o.0 o.1)) in

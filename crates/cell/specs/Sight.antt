@@ -1,5 +1,5 @@
 -- What a pass has seen: how it grows, and what it says of offers and of rows that can meet.
-use Rattle.std.specs.Prelude.{◌≡◌, ◌≢◌, ◌⊎◌, ℕ, ◌+◌, ◌-◌, ◌*◌, ◌<◌, ◌≤◌, max, unwrap_or, Bool, true, false, is_some, Some, List, [], ◌∷◌, ◌==◌, ◌&&◌, if◌then◌else◌, length, slice_get}
+use Rattle.std.specs.Prelude.{◌≡◌, ◌≢◌, ◌⊎◌, ℕ, ◌+◌, ◌-◌, ◌*◌, ◌<◌, ◌≤◌, max, unwrap_or, true, false, Some, None, List, [], ◌∷◌, ◌==◌, ◌&&◌, nat_lt, if◌then◌else◌, length, slice_get}
 use Rattle.words.specs.Words.{count_of, offer_of, is_word_for, IsJoinedInRange, IsOfferInRange}
 use Rattle.words.specs.declared.Base.{Base}
 use Rattle.words.specs.declared.Base.TheVariants.{Send, Recv, Always, OnNack, Never}
@@ -11,7 +11,7 @@ use Rattle.words.specs.declared.Joined.{Joined}
 use Rattle.words.specs.declared.Cell.{Cell}
 use Rattle.words.specs.declared.Cell.TheVariants.{Fresh, Waiting, Claimed, Synched, Taken}
 use Rattle.cell.specs.declared.view.Seen.{Seen}
-use Rattle.protocol.specs.Tables.{row_eq, is_fresh, joined_of, names, offers_meet}
+use Rattle.protocol.specs.Tables.{row_eq, next_row, is_fresh, is_taken, joined_of, names, offers_meet, stands_alone}
 
 -- x is in the list
 abbrev pub Has : {A : Type 0} → List A → A → Type 0
@@ -43,6 +43,13 @@ without r p (d ∷ ds) = if row_eq d.0 r && (d.1 == p) then without r p ds else 
 
 abbrev pub see_draft : Row → ℕ → ℕ → Seen → Seen
 see_draft r p x s = record { held = s.held; drafts = (r, p, x) ∷ without r p s.drafts; opened = s.opened; words = s.words; joined = s.joined; taken = s.taken }
+
+-- the row was taken by the pass, which holds the thread's next row from then on, if there is one: a Fresh row
+abbrev pub see_next : ℕ → Row → Seen → Seen
+see_next rows r s =
+    if nat_lt (r.sync + 1) rows
+    then record { held = next_row r ∷ s.held; drafts = (next_row r, 1, 0) ∷ s.drafts; opened = s.opened; words = s.words; joined = s.joined; taken = s.taken }
+    else s
 
 -- nothing is lost, and what is new is of rows such as these
 abbrev pub Adds : {A : Type 0} → (A → Type 0) → List A → List A → Type 0
@@ -153,12 +160,16 @@ pub record CanJoin (s : Seen) (mine : Row) (own : ℕ) (other : Row) (partner : 
   pub seen_theirs : HasSeenLast s other their_last
   pub is : j ≡ record { own = partner; partner = Some (mine, own); stamp = 1 + max my_last their_last }
 
-abbrev pub is_taken : Cell → Bool
-is_taken Fresh = false
-is_taken Waiting = false
-is_taken Claimed = false
-is_taken (Synched j) = false
-is_taken (Taken j) = true
+-- WHAT A PASS KNOWS OF A ROW BEFORE IT GRANTS IT
+
+-- the row, committed alone as j by its offer n, at the stamp that its last stamp gives
+pub record CanGrant (s : Seen) (r : Row) (n : ℕ) (j : Joined) : Type 0 where
+  pub offer : Offer
+  pub read : HaveOffer s.words r n offer
+  pub alone : stands_alone (Some offer) ≡ true
+  pub last : ℕ
+  pub seen_last : HasSeenLast s r last
+  pub is : j ≡ record { own = n; partner = None; stamp = 1 + last }
 
 -- THE CELL THAT A PASS MAY FIND, by what it has seen
 pub record IsExpected (s : Seen) (r : Row) (c : Cell) : Type 0 where
@@ -169,8 +180,8 @@ pub record IsExpected (s : Seen) (r : Row) (c : Cell) : Type 0 where
   pub read : (p x : ℕ) → Has s.words (r, p, x) → is_fresh c ≡ false
   -- the partner of a committed row is open
   pub named : (q : Row) (j : Joined) → Has s.joined (q, j) → names (Some j) r ≡ true → is_fresh c ≡ false
-  -- a row is opened once the one before it in its thread is committed
-  pub in_turn : Has s.opened (record { thread = r.thread; sync = r.sync + 1 }) → is_some (joined_of c) ≡ true
+  -- a row is held, and opened, once all before it in its thread are taken
+  pub in_turn : (q : Row) → q.thread ≡ r.thread → r.sync < q.sync → Has s.opened q ⊎ Has s.held q → is_taken c ≡ true
 
 -- WHAT IS TRUE OF ALL THAT A PASS HAS SEEN, since it is true of one table
 
@@ -185,8 +196,8 @@ pub record Coherent (threads rows : ℕ) (s : Seen) : Type 0 where
   pub as_drafted : (r : Row) (p x y : ℕ) → Has s.drafts (r, p, x) → Has s.words (r, p, y) → x ≡ y
   pub one_joined : (r : Row) (i j : Joined) → Has s.joined (r, i) → Has s.joined (r, j) → i ≡ j
   pub in_range : (r : Row) (j : Joined) → Has s.joined (r, j) → IsJoinedInRange j × (j.stamp ≤ 65536)
-  -- a committed row has a partner, and both offers meet
-  pub paired : (r : Row) (j : Joined) → Has s.joined (r, j) → is_some j.partner ≡ true
+  -- a row that is committed alone chose an always, and of a pair both offers meet
+  pub alone : (r : Row) (j : Joined) (mine : Offer) → Has s.joined (r, j) → j.partner ≡ None → HaveOffer s.words r j.own mine → stands_alone (Some mine) ≡ true
   pub inside : (r : Row) (j : Joined) (p : Row × ℕ) → Has s.joined (r, j) → j.partner ≡ Some p → (p.0.thread < threads) × (p.0.sync < rows)
   pub chosen : (r : Row) (n count : ℕ) → SawChosen s r n → Has s.words (r, 1, count) → n < unwrap_or (count_of count) 0
   pub meet : (r : Row) (j : Joined) (p : Row × ℕ) (mine theirs : Offer) → Has s.joined (r, j) → j.partner ≡ Some p

@@ -5,12 +5,12 @@ use Rattle.words.specs.Words.{cell_word, cell_of, IsJoinedInRange}
 use Rattle.words.specs.declared.Row.{Row}
 use Rattle.words.specs.declared.Joined.{Joined}
 use Rattle.words.specs.declared.Cell.{Cell}
-use Rattle.words.specs.declared.Cell.TheVariants.{Fresh, Waiting, Claimed, Synched}
-use Rattle.protocol.specs.Tables.{place_of}
+use Rattle.words.specs.declared.Cell.TheVariants.{Fresh, Waiting, Claimed, Synched, Taken}
+use Rattle.protocol.specs.Tables.{place_of, next_row}
 use Rattle.cell.specs.declared.view.View.{View}
 use Rattle.cell.specs.declared.view.Stage.TheVariants.{Resting, Claims, Joins}
 use Rattle.cell.specs.Sight.{Has, IsExpected, Coherent}
-use Rattle.cell.specs.Views.{IsClaimer, saw, read_word, drafted_word, turned}
+use Rattle.cell.specs.Views.{IsClaimer, saw, took, read_word, drafted_word, turned}
 
 -- the table has the row
 abbrev pub Inside : ℕ → ℕ → Row → Type 0
@@ -57,3 +57,14 @@ joined st m n w = (mine o : Row) (j : Joined) → m.0.stage ≡ Claims mine → 
 abbrev pub sealed : {S : Type 0} → Step S → Me S View → ℕ → Me S View → Type 0
 sealed st m n w = (r : Row) (j : Joined) → At st m r 0 → IsJoinedInRange j → n ≡ cell_word (Synched j)
     → w ≡ (saw r (Synched j) (turned Resting r m.0), m.1)
+
+-- where the cell was Waiting it is committed alone; else the pass has seen what it is
+abbrev pub granted : {S : Type 0} → Step S → Me S View → ℕ → Me S View → Type 0
+granted st m n w = (r : Row) (j : Joined) → m.0.stage ≡ Resting → At st m r 0 → IsJoinedInRange j → st.second ≡ cell_word (Synched j)
+    → (n ≡ cell_word Waiting → (w ≡ (saw r (Synched j) (turned Resting r m.0), m.1)) × Agrees m.0 r Waiting) × (n ≢ cell_word Waiting → (w ≡ (saw r (cell_read n) m.0, m.1)) × Agrees m.0 r (cell_read n))
+
+-- where the cell was Synched it is Taken, and nobody has opened the row behind it; else the pass has seen what it is
+abbrev pub taken : {S : Type 0} → Step S → Me S View → ℕ → Me S View → Type 0
+taken st m n w = (r : Row) (j : Joined) → At st m r 0 → IsJoinedInRange j → st.second ≡ cell_word (Taken j)
+    → (n ≡ cell_word (Synched j) → (w ≡ (took r j m.0, m.1)) × Agrees m.0 r (Synched j) × (¬ Has m.0.seen.opened (next_row r)))
+    × (n ≢ cell_word (Synched j) → (w ≡ (saw r (cell_read n) m.0, m.1)) × Agrees m.0 r (cell_read n))

@@ -3,14 +3,14 @@ use Rattle.std.specs.Prelude.{◌≡◌, ℕ, ◌%◌, ◌<◌, ◌≤◌, true,
 use Rattle.words.specs.declared.Row.{Row}
 use Rattle.words.specs.declared.Joined.{Joined}
 use Rattle.words.specs.declared.Cell.{Cell}
-use Rattle.words.specs.declared.Cell.TheVariants.{Fresh, Claimed}
+use Rattle.words.specs.declared.Cell.TheVariants.{Fresh, Claimed, Taken}
 use Rattle.cell.specs.declared.view.Seen.{Seen}
 use Rattle.cell.specs.declared.view.View.{View}
 use Rattle.cell.specs.declared.view.Stage.{Stage}
 use Rattle.cell.specs.declared.view.Stage.TheVariants.{Resting, Claims, Joins}
-use Rattle.protocol.specs.Tables.{is_row, is_fresh, names, word_at, cell_at, joined_at}
+use Rattle.protocol.specs.Tables.{is_fresh, is_taken, names, word_at, cell_at, joined_at}
 use Rattle.protocol.specs.Worlds.{World, holder_at}
-use Rattle.cell.specs.Sight.{Has, IsCounted, is_taken, see_opened, see_cell, see_word, see_draft}
+use Rattle.cell.specs.Sight.{Has, IsCounted, see_opened, see_cell, see_word, see_draft, see_next}
 
 -- a thread's first row
 abbrev pub first_row : ℕ → Row
@@ -42,7 +42,7 @@ pub record Knows (w : World) (owner : Row → ℕ) (id : ℕ) (v : View) : Type 
   pub calm : (r : Row) → Has v.seen.held r → cell_at w.table r ≡ Claimed → IsClaimer v.stage r
   pub staged : Staged w owner id v.stage
   pub fresh : (r : Row) → Has v.seen.held r → ¬ Has v.seen.opened r → cell_at w.table r ≡ Fresh
-  pub drafted : (r : Row) (p x : ℕ) → Has v.seen.drafts (r, p, x) → (owner r ≡ id) × (p < 34) × (1 ≤ p) × (is_row w.table r ≡ true) × (word_at w.table r p ≡ x)
+  pub drafted : (r : Row) (p x : ℕ) → Has v.seen.drafts (r, p, x) → (owner r ≡ id) × (p < 34) × (1 ≤ p) × (holder_at w r ≡ Some v.seat) × (word_at w.table r p ≡ x)
   pub opened : (r : Row) → Has v.seen.opened r → is_fresh (cell_at w.table r) ≡ false
   pub read : (r : Row) (p x : ℕ) → Has v.seen.words (r, p, x) → (is_fresh (cell_at w.table r) ≡ false) × (p < 34) × (1 ≤ p) × (word_at w.table r p ≡ x)
   pub joined : (r : Row) (j : Joined) → Has v.seen.joined (r, j) → joined_at w.table r ≡ Some j
@@ -60,6 +60,10 @@ turned stage r v = at_stage stage (see_opened r v.seen) v
 
 abbrev pub saw : Row → Cell → View → View
 saw r c v = at_stage v.stage (see_cell r c v.seen) v
+
+-- the row, committed so, was taken by the pass
+abbrev pub took : Row → Joined → View → View
+took r j v = at_stage v.stage (see_next v.rows r (see_cell r (Taken j) v.seen)) v
 
 abbrev pub read_word : Row → ℕ → ℕ → View → View
 read_word r p x v = at_stage v.stage (see_word r p x v.seen) v

@@ -1,8 +1,8 @@
 -- Each allowed step keeps a world kept, and so does a whole schedule.
-use Rattle.std.proofs.Common.{◌≡◌, ◌≢◌, ℕ, zero, suc, ◌+◌, ◌*◌, ◌^◌, ◌<◌, ◌≤◌, true, false, cond, ltb, ◌&&◌, List, [], ◌∷◌, length, get_or, sym, refl, ap, ◌∙◌, subst, ⊎_elim, arith, Option, Some, None, is_some, max, get_or-set_other, length-set, set, unwrap_or, get_or-set_same, inl, true≢false}
+use Rattle.std.proofs.Common.{inl, inr, ◌⊎◌, ◌≡◌, ◌≢◌, ℕ, zero, suc, ◌+◌, ◌*◌, ◌^◌, ◌<◌, ◌≤◌, true, false, cond, ltb, ◌&&◌, List, [], ◌∷◌, length, get_or, sym, refl, ap, ◌∙◌, subst, ⊎_elim, arith, Option, Some, None, is_some, max, get_or-set_other, length-set, set, unwrap_or, get_or-set_same, inl, true≢false}
 use Rattle.std.specs.Prelude.{option_to_list}
 use Rattle.std.specs.List.{sum_by}
-use Rattle.std.proofs.lemmas.Bool.{cases_Bool, false≢true}
+use Rattle.std.proofs.lemmas.Bool.{cases_Bool, false≢true, cases_eq}
 use Rattle.std.proofs.lemmas.List.{length-append}
 use Rattle.std.proofs.lemmas.List.Sums.{sum_by-cons}
 use Rattle.std.proofs.Math.Nat.{mul-le-mul_right}
@@ -22,7 +22,7 @@ use Rattle.protocol.specs.Worlds.{World, holder_at, namer_at, Condition, Allowed
 use Rattle.protocol.specs.Ledgers.{commits_of, told_at}
 use Rattle.protocol.specs.Kept.{joined_by, Linked, Kept}
 use Rattle.protocol.proofs.RowLemmas.{row_cases, put, put_same, put_other, same_row, row_ne, row_eq-false}
-use Rattle.protocol.proofs.Linking.{some_parts, naming, fresh_not_joined, unnamed_idle, told_count, count_of_commits, some_inj, taken_joined, always_of}
+use Rattle.protocol.proofs.Linking.{some_parts, naming, fresh_not_joined, unnamed_idle, told_count, count_of_commits, some_inj, taken_joined, always_of, taken_open}
 use Rattle.protocol.proofs.StepLemmas.{HasTurn, linked_plain, linked_join, linked_seal, last_bounded, linked_grant}
 use Rattle.protocol.proofs.Lawfulness.{both_offers}
 use Rattle.protocol.proofs.Places.{row_inside, is_row_after, block_inside, same_block, same_rest, word_other}
@@ -157,7 +157,7 @@ is_held : (w : World) (r : Row) (seat : ℕ) → holder_at w r ≡ Some seat →
 is_held w r seat h n = let bad : Some seat ≡ None = sym h ∙ n in cc
 
 -- an open row is held
-open_held : (w : World) (r : Row) → Kept w → is_fresh (cell_at w.table r) ≡ false → holder_at w r ≢ None
+pub open_held : (w : World) (r : Row) → Kept w → is_fresh (cell_at w.table r) ≡ false → holder_at w r ≢ None
 open_held w r k f n =
     let row = row_of_open w.table r f in
     let fresh : cell_at w.table r ≡ Fresh =
@@ -165,6 +165,32 @@ open_held w r k f n =
     ∙ ap (λ v. unwrap_or (cell_of v) Fresh) (k.blank r 0 row (omega arith) n)
     ∙ ap (λ (o : Option Cell). unwrap_or o Fresh) cell_of-zero in
     true≢false (sym (ap is_fresh fresh) ∙ f)
+
+-- the rows before an open row, and before one that is held, are taken
+taken_before_open : (w : World) → Kept w → (t g h : ℕ) → is_fresh (cell_at w.table (record { thread = t; sync = g })) ≡ false → h < g → is_taken (cell_at w.table (record { thread = t; sync = h })) ≡ true
+taken_before_open w k t zero h f b = absurd (omega arith)
+taken_before_open w k t (suc g) h f b =
+    let last : is_taken (cell_at w.table (record { thread = t; sync = g })) ≡ true = k.linked.in_turn t g (ap (λ n. is_fresh (cell_at w.table (record { thread = t; sync = n }))) (omega arith) ∙ f) in
+    ⊎_elim
+    (λ (e : h ≡ g). ap (λ n. is_taken (cell_at w.table (record { thread = t; sync = n }))) e ∙ last)
+    (λ (n : h ≡ g → ⊥). taken_before_open w k t g h (taken_open (cell_at w.table (record { thread = t; sync = g })) last) (omega (arith, n)))
+    (cases_eq h g)
+
+pub taken_before : (w : World) → Kept w → (r q : Row) → q.thread ≡ r.thread → r.sync < q.sync → (is_fresh (cell_at w.table q) ≡ false) ⊎ ((seat : ℕ) × (holder_at w q ≡ Some seat)) → is_taken (cell_at w.table r) ≡ true
+taken_before w k r q same below (inl f) =
+    taken_before_open w k r.thread q.sync r.sync (ap (λ n. is_fresh (cell_at w.table (record { thread = n; sync = q.sync }))) (sym same) ∙ f) below
+taken_before w k r q same below (inr (seat, h)) = by_sync q.sync refl
+  where
+    by_sync : (n : ℕ) → q.sync ≡ n → is_taken (cell_at w.table r) ≡ true
+    by_sync zero e = absurd (omega arith)
+    by_sync (suc n) e =
+        let held : holder_at w (record { thread = r.thread; sync = n + 1 }) ≡ Some seat =
+        (λ i. holder_at w (record { thread = sym same i; sync = (let m : n + 1 ≡ q.sync = omega arith in m) i })) ∙ h in
+        let last : is_taken (cell_at w.table (record { thread = r.thread; sync = n })) ≡ true = k.held r.thread n seat held in
+        ⊎_elim
+        (λ (z : r.sync ≡ n). ap (λ m. is_taken (cell_at w.table (record { thread = r.thread; sync = m }))) z ∙ last)
+        (λ (z : r.sync ≡ n → ⊥). taken_before_open w k r.thread n r.sync (taken_open (cell_at w.table (record { thread = r.thread; sync = n })) last) (omega (arith, z)))
+        (cases_eq r.sync n)
 
 -- a write to a row that is held leaves what nobody held blank
 blank_after : (w : World) (x : Row) (p v : ℕ) → Kept w → is_row w.table x ≡ true → p < 34 → holder_at w x ≢ None → (r : Row) (q : ℕ) → is_row w.table r ≡ true → q < 34 → holder_at w r ≡ None → word_at (with_word w.table x p v) r q ≡ 0

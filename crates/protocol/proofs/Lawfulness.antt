@@ -67,6 +67,13 @@ both_offers None b h = absurd (false≢true h)
 both_offers (Some x) None h = absurd (false≢true h)
 both_offers (Some x) (Some y) h = (x, y, refl, refl, h)
 
+-- the offer by which a row is committed is there
+pub chosen_there : (threads rows : ℕ) (cell : Row → Cell) (offer : Row → ℕ → Option Offer) (r : Row) (j : Joined) → Linked threads rows cell offer → joined_of (cell r) ≡ Some j → (o : Offer) × (offer r j.own ≡ Some o)
+chosen_there threads rows cell offer r j l e = ⊎_elim
+    (λ (n : j.partner ≡ None). let a = always_of (offer r j.own) (l.alone r j e n).alone in (a.1, a.2))
+    (λ (p : (p : Row × ℕ) × (j.partner ≡ Some p)). let b = both_offers (offer r j.own) (offer p.0.0 p.0.1) (l.sides r j p.0 e p.1).meets in (b.0, b.2))
+    (cases_Option j.partner)
+
 pair_of_named : (offer : Row → ℕ → Option Offer) (r : Row) (j : Joined) (p : Row × ℕ) (c : Commit) → j.partner ≡ Some p → offers_meet (offer r j.own) (offer p.0 p.1) ≡ true → commit_named offer r j ≡ Some c → IsPairOf offer r j p c
 unfolding commit_named
 pair_of_named offer r j p c e h k =

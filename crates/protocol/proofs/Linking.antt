@@ -76,6 +76,13 @@ taken_joined Claimed h = absurd (false≢true h)
 taken_joined (Synched j) h = absurd (false≢true h)
 taken_joined (Taken j) h = refl
 
+pub taken_open : (c : Cell) → is_taken c ≡ true → is_fresh c ≡ false
+taken_open Fresh h = absurd (false≢true h)
+taken_open Waiting h = refl
+taken_open Claimed h = refl
+taken_open (Synched j) h = refl
+taken_open (Taken j) h = refl
+
 -- SUMS OVER ROWS
 
 same_sum : (f g : Row → ℕ) (x : Row) (rs : List Row) → IsAbsent x rs → ((r : Row) → row_eq r x ≡ false → g r ≡ f r) → sum_by g rs ≡ sum_by f rs

@@ -1,4 +1,6 @@
-use Rattle.std.proofs.Common.{rules, ◌≡◌, None, Some, inr}
+use Rattle.std.proofs.Common.{rules, ◌≡◌, ◌∙◌, ap, sym, true, None, Some, inr}
+use Rattle.std.proofs.lemmas.Bool.{false≢true}
+use Rattle.protocol.specs.Tables.{is_always}
 use Rattle.cell.specs.Sight.{Has, HaveOffer, LackOffer, IsKnownOpen}
 use Rattle.cell.proofs.Meeting.{from_none, from_some, recv_meets, chosen_not_lacking, partner_known_open}
 use Rattle.cell.proofs.Offers.{have_more}
@@ -24,3 +26,17 @@ returns-in_default c =
     (have_more c.args.seat.now.me.0.seen.words c.offer.new.seat.me.0.seen.words c.args.row c.args.joined.own mine c.offer.ensures.learns.words.0 c.requires.receives.2) have in
     let sends = recv_meets mine c.in_ok-message.field-0 c.requires.receives.1 c.requires.receives.3 meet in
     absurd (c.in_default.not-Send sends.0 sends.1 sends.2)
+
+-- a row that receives is not committed alone
+pub returns-in_err-partner-clause-sent : goal.returns-in_err-partner-clause-sent
+returns-in_err-partner-clause-sent c =
+    let none : c.args.joined.partner ≡ None = (search rules) in
+    let mine = c.requires.receives.0 in
+    let alone : is_always mine.base ≡ true = c.requires.coherent.alone c.args.row c.args.joined mine c.requires.committed none c.requires.receives.2 in
+    absurd (false≢true (sym (ap is_always c.requires.receives.3) ∙ alone))
+
+pub offer-requires : goal.offer-requires
+offer-requires c =
+    let partner : c.args.joined.partner ≡ Some (c.in_ok-partner.partner, c.in_ok-partner.offer) = (search rules) in
+    let inside = c.requires.coherent.inside c.args.row c.args.joined (c.in_ok-partner.partner, c.in_ok-partner.offer) c.requires.committed partner in
+    (c.requires.sits.0, inside)
