@@ -1,7 +1,7 @@
 -- Each atomic step is admitted by the rule.
-use Rattle.std.proofs.Common.{slice_index, slice_set, ◌≡◌, ◌≢◌, ℕ, ◌<◌, ◌≤◌, true, false, List, [], sym, refl, ap, ◌∙◌, subst, ⊎_elim, arith, unwrap_or, Option, Some, None, is_some, eqb}
+use Rattle.std.proofs.Common.{◌∷◌, cond, ◌+◌, slice_index, slice_set, ◌≡◌, ◌≢◌, ℕ, ◌<◌, ◌≤◌, true, false, List, [], sym, refl, ap, ◌∙◌, subst, ⊎_elim, arith, unwrap_or, Option, Some, None, is_some, eqb, Bool, ltb}
 use Rattle.std.proofs.lemmas.List.{set-get_or}
-use Rattle.std.proofs.lemmas.Bool.{false≢true}
+use Rattle.std.proofs.lemmas.Bool.{false≢true, ltb-true}
 use mathlib.Core.Option.{some, none}
 use lib.ListN.{get_elem?}
 use prog.Atomic.{either}
@@ -11,40 +11,37 @@ use Rattle.words.specs.Words.{cell_word, cell_of, is_word_for, IsCellInRange, Is
 use Rattle.words.proofs.WordLemmas.{cell_of-cell_word, cell_word-cell_of}
 use Rattle.words.specs.declared.Seat.{Seat}
 use Rattle.words.specs.declared.Step.{Step}
-use Rattle.words.specs.declared.Step.TheVariants.{Draft, Open, Claim, Yield, Join, Seal}
+use Rattle.words.specs.declared.Step.TheVariants.{Draft, Open, Claim, Yield, Join, Seal, Grant, Take}
 use Rattle.words.specs.declared.Row.{Row}
 use Rattle.words.specs.declared.Joined.{Joined}
 use Rattle.words.specs.declared.Cell.{Cell}
-use Rattle.words.specs.declared.Cell.TheVariants.{Fresh, Waiting, Claimed, Synched}
-use Rattle.protocol.specs.Tables.{Table, place_of, is_row, is_fresh, cell_at, joined_at, joined_of, names, is_partner, word_at, row_eq}
-use Rattle.protocol.specs.Worlds.{World, Condition, after_step, namer_at, joined_with, mirrored, with_seal, with_table, with_cell, with_word}
+use Rattle.words.specs.declared.Cell.TheVariants.{Fresh, Waiting, Claimed, Synched, Taken}
+use Rattle.protocol.specs.Tables.{Table, place_of, is_row, is_fresh, cell_at, joined_at, joined_of, names, is_partner, word_at, row_eq, next_row, synched_of}
+use Rattle.protocol.specs.Worlds.{World, Condition, after_step, namer_at, joined_with, mirrored, with_seal, with_table, with_cell, with_word, holder_at, with_holders, with_take, handed}
 use Rattle.protocol.specs.Kept.{Kept}
-use Rattle.protocol.proofs.RowLemmas.{row_ne, row_cases, row_eq-refl}
+use Rattle.protocol.proofs.RowLemmas.{row_ne, row_cases, row_eq-refl, put, put_other, put_same}
 use Rattle.protocol.proofs.Naming.{namer_none, namer_is}
 use Rattle.protocol.proofs.Places.{row_from, row_inside, same_place}
 use Rattle.protocol.proofs.Readings.{cell_inside, row_of_open}
 use Rattle.protocol.proofs.Linking.{fresh_not_joined, some_inj, cases_Option}
-use Rattle.protocol.proofs.Keeping.{kept_schedule, idle_unnamed, join_in_range, IsSealing, sealed_is, seal_in_range}
-use Rattle.protocol.proofs.LedgerLemmas.{kept_start}
+use Rattle.protocol.proofs.Keeping.{idle_unnamed, join_in_range, grant_in_range, IsSealing, sealed_is, seal_in_range}
 use Rattle.cell.specs.declared.view.View.{View}
 use Rattle.cell.specs.declared.view.Shape.{Shape}
 use Rattle.cell.specs.declared.view.Stage.{Stage}
 use Rattle.cell.specs.declared.view.Stage.TheVariants.{Resting, Claims, Joins}
-use Rattle.cell.specs.Sight.{Has, CanJoin}
+use Rattle.cell.specs.Sight.{Has, CanGrant, CanJoin}
 use Rattle.protocol.specs.Tables.{is_taken}
-use Rattle.cell.specs.Views.{Knows, Staged, IsClaimer, saw, read_word, drafted_word, turned}
-use Rattle.cell.proofs.Truths.{offers_known, joined_known, agrees, coherent}
+use Rattle.cell.proofs.Following.{knows_follows, knows_owned, hold_more, taken_world, not_held, next_unopened, follows_taken, taken_at, next_held}
+use Rattle.cell.specs.Views.{Knows, Staged, IsClaimer, at_stage, took, saw, read_word, drafted_word, turned}
+use Rattle.cell.proofs.Truths.{offers_known, joined_known, granted_known, agrees, coherent}
 use Rattle.cell.specs.Rule.{Keeps}
-use Rattle.cell.specs.Told.{Agrees, Inside, At, cell_read, looked, has_read, drafted, waits, claimed, joining, joined, sealed}
+use Rattle.cell.specs.Told.{Agrees, Inside, At, cell_read, looked, has_read, drafted, waits, claimed, joining, joined, granted, taken, sealed}
 use Rattle.cell.proofs.Others.{learn_cell, learn_word, others_cell, own_cell, cell_now, cell_else, others_draft, own_draft}
-use Rattle.cell.proofs.Turning.{keeps_view, keeps_step}
+use Rattle.cell.proofs.Turning.{world_kept, keeps_view, keeps_step}
 
 -- the table with these words
 abbrev pub sized : Shape → List ℕ → Table
 sized shape ws = record { threads = shape.threads; rows = shape.rows; words = ws }
-
-pub world_kept : {S : Type 0} (shape : Shape) (s : State S View) (k : Keeps shape s) → Kept k.world
-world_kept shape s k = kept_schedule _ k.world k.history (kept_start shape.threads shape.rows shape.passes k.few_threads k.few_rows) k.played
 
 -- the word of a Waiting cell reads as one
 waiting_read : cell_read (cell_word Waiting) ≡ Waiting
@@ -103,7 +100,7 @@ module _ (shape : Shape) (id place : ℕ) (me : Me ℕ View) (r : Row) (p : ℕ)
     wrote_word d held unopened high formed =
         let mine = known.mine r held in
         let fresh = known.fresh r held unopened in
-        keeps_step shape s k id (drafted_word r p d me.0) _ _ seat (Draft r p d) (known.seat, (mine.1, fresh, high, omega arith, formed))
+        keeps_step shape s k id (drafted_word r p d me.0) _ _ k.owner seat (Draft r p d) (known.seat, (mine.1, fresh, high, omega arith, formed))
         (ap (λ (t : Table). with_word t r p d) k.table ∙ ap (λ (n : ℕ). sized shape (slice_set s.words n d)) (sym here))
         (λ j u n e t. others_draft k.world r p d k.owner kept is_its_row high low fresh j u (k.knows j u e t) (λ o. n (sym o ∙ mine.0)))
         (own_draft k.world r p d k.owner kept is_its_row high low fresh id me.0 known mine.0 mine.1)
@@ -141,7 +138,7 @@ module _ (shape : Shape) (id place : ℕ) (me : Me ℕ View) (r : Row) (p : ℕ)
           → Keeps shape (stepped s place (cell_word c) id me.1 w keeps)
       unfolding with_cell
       wrote_cell done w condition after by_other unnamed knows =
-          keeps_step shape s k id w _ _ seat done (known.seat, condition)
+          keeps_step shape s k id w _ _ k.owner seat done (known.seat, condition)
           (ap (λ (v : World). v.table) after ∙ ap (λ (t : Table). with_cell t r c) k.table ∙ ap (λ (n : ℕ). sized shape (slice_set s.words n (cell_word c))) (ap (place_of shape.rows r) (sym zero) ∙ sym here))
           (λ j u n e t. subst (λ (v : World). Knows v k.owner j u) (sym after)
           (others_cell k.world r c k.owner kept is_its_row range open_c was untaken j u (k.knows j u e t) (λ o. by_other j n o) (λ m o h. unnamed j m n o h)))
@@ -216,6 +213,74 @@ module _ (shape : Shape) (id place : ℕ) (me : Me ℕ View) (r : Row) (p : ℕ)
         (λ e. let bad : Synched j ≡ Claimed = e in cc)
         (λ q e h. subst (λ (z : Stage). IsClaimer z q) claiming h))
         now)
+
+    -- a row that waits: it is committed alone
+    grants : p ≡ 0 → (n : ℕ) (j : Joined) → me.0.stage ≡ Resting → CanGrant me.0.seen r n j → cell_at k.world.table r ≡ Waiting
+        → Keeps shape (stepped s place (cell_word (Synched j)) id me.1 (saw r (Synched j) (turned Resting r me.0)) keeps)
+    grants zero n j resting can waits =
+        let was : joined_of (cell_at k.world.table r) ≡ None = ap joined_of waits in
+        let untaken : is_taken (cell_at k.world.table r) ≡ false = ap is_taken waits in
+        let known_grant = granted_known k.world k.owner id me.0 known r n j can in
+        let range : IsJoinedInRange j = subst IsJoinedInRange known_grant.1 (grant_in_range k.world r n kept known_grant.0) in
+        let nobody : j.partner ≡ None = ap (λ (y : Joined). y.partner) can.is in
+        let now = own_now (Synched j) zero range refl was untaken in
+        wrote_cell (Synched j) zero range refl was untaken (Grant r n) (saw r (Synched j) (turned Resting r me.0))
+        (waits, known_grant.0)
+        (ap (λ (y : Joined). with_table k.world (with_cell k.world.table r (Synched y))) known_grant.1)
+        (λ i n o. (waits, refl))
+        (λ i m n o h. ap (λ (y : Option (Row × ℕ)). is_partner y m) nobody)
+        (learn_cell _ k.owner id (turned Resting r me.0) r (Synched j)
+        (knows_now (Synched j) zero range refl was untaken Resting tt
+        (λ e. let bad : Synched j ≡ Claimed = e in cc)
+        (λ q e h. subst (λ (z : Stage). IsClaimer z q) resting h))
+        now)
+
+    -- a committed row that nobody has taken: the pass takes it, and holds the row behind it
+    module _ (j : Joined) (is : cell_at k.world.table r ≡ Synched j) where
+      abbrev owner' : Row → ℕ
+      owner' = put k.owner (next_row r) id
+
+      abbrev later_taken : World
+      later_taken = taken_world k.world seat r j kept is
+
+      -- whoever holds a row owns it as before
+      owned : (i : ℕ) (q : Row) → holder_at k.world q ≢ None → k.owner q ≡ i → owner' q ≡ i
+      owned i q held o = put_other k.owner (next_row r) id q (held_apart (holder_at k.world q) refl) ∙ o
+        where
+          held_apart : (h : Option ℕ) → holder_at k.world q ≡ h → row_eq q (next_row r) ≡ false
+          held_apart None e = absurd (held e)
+          held_apart (Some n) e = not_held k.world seat r j kept is q n e
+
+      still_knows : (i : ℕ) (u : View) → Knows k.world k.owner i u → Knows later_taken owner' i u
+      still_knows i u knows =
+          knows_follows k.world later_taken owner' i u (follows_taken k.world seat r j kept is)
+          (knows_owned k.world k.owner owner' i u kept (owned i) knows)
+
+      took_knows : Knows later_taken owner' id (took r j me.0)
+      took_knows =
+          let saw_it : Knows later_taken owner' id (saw r (Taken j) me.0) = learn_cell later_taken owner' id me.0 r (Taken j) (still_knows id me.0 known) (taken_at k.world seat r j kept is) in
+          by_next saw_it (ltb (r.sync + 1) me.0.rows) refl
+        where
+          by_next : Knows later_taken owner' id (saw r (Taken j) me.0) → (b : Bool) → ltb (r.sync + 1) me.0.rows ≡ b → Knows later_taken owner' id (took r j me.0)
+          by_next saw_it true e =
+              let row : is_row k.world.table (next_row r) ≡ true =
+              row_from k.world.table (next_row r) (row_inside k.world.table r is_its_row).0 (subst (λ (n : ℕ). r.sync + 1 < n) known.rows (ltb-true _ _ e)) in
+              let next = next_held k.world seat r j kept is row in
+              subst (λ (b : Bool). Knows later_taken owner' id (at_stage me.0.stage (cond b (record { held = next_row r ∷ (saw r (Taken j) me.0).seen.held; drafts = (next_row r, 1, 0) ∷ (saw r (Taken j) me.0).seen.drafts; opened = (saw r (Taken j) me.0).seen.opened; words = (saw r (Taken j) me.0).seen.words; joined = (saw r (Taken j) me.0).seen.joined; taken = (saw r (Taken j) me.0).seen.taken }) (saw r (Taken j) me.0).seen) me.0)) (sym e)
+              (hold_more later_taken owner' id (saw r (Taken j) me.0) (next_row r) saw_it (put_same k.owner (next_row r) id) next.0 next.1 next.2)
+          by_next saw_it false e =
+              subst (λ (b : Bool). Knows later_taken owner' id (at_stage me.0.stage (cond b (record { held = next_row r ∷ (saw r (Taken j) me.0).seen.held; drafts = (next_row r, 1, 0) ∷ (saw r (Taken j) me.0).seen.drafts; opened = (saw r (Taken j) me.0).seen.opened; words = (saw r (Taken j) me.0).seen.words; joined = (saw r (Taken j) me.0).seen.joined; taken = (saw r (Taken j) me.0).seen.taken }) (saw r (Taken j) me.0).seen) me.0)) (sym e)
+              saw_it
+
+      takes : p ≡ 0 → Keeps shape (stepped s place (cell_word (Taken j)) id me.1 (took r j me.0) keeps)
+      unfolding with_cell
+      takes zero =
+          let synched : synched_of (cell_at k.world.table r) ≡ Some j = ap synched_of is in
+          let after : after_step k.world seat (Take r) ≡ later_taken = ap (λ (o : Option Joined). with_holders (with_table k.world (with_take k.world.table r o)) (handed k.world.table k.world.holders seat r)) synched in
+          keeps_step shape s k id (took r j me.0) _ _ owner' seat (Take r) (known.seat, ap (λ (o : Option Joined). is_some o) synched)
+          (ap (λ (v : World). v.table) after ∙ ap (λ (t : Table). with_cell t r (Taken j)) k.table ∙ ap (λ (n : ℕ). sized shape (slice_set s.words n (cell_word (Taken j)))) (ap (place_of shape.rows r) (sym zero) ∙ sym here))
+          (λ i u n e t. subst (λ (v : World). Knows v owner' i u) (sym after) (still_knows i u (k.knows i u e t)))
+          (subst (λ (v : World). Knows v owner' id (took r j me.0)) (sym after) took_knows)
 
     -- a claimed row: it is committed as the row that this call joined says
     seals : p ≡ 0 → (other : Row) (own : ℕ) (j : Joined) → me.0.stage ≡ Joins r other j → j.partner ≡ Some (r, own) → Has me.0.seen.held r
@@ -332,15 +397,20 @@ module _ (shape : Shape) (slots id place : ℕ) (me : Me ℕ View) (r : Row)
         λ q at. (λ e. absurd (f e), λ g. seen_there k.world k.owner id me r q (cell_read n) (world_kept shape s k) knows read (one q at)),
       ))
 
+abbrev joined_in : Option Cell → Option Joined
+joined_in None = None
+joined_in (Some c) = joined_of c
+
 -- one word stands for one commit
 one_joined : (i j : Joined) → IsJoinedInRange i → IsJoinedInRange j → cell_word (Synched i) ≡ cell_word (Synched j) → i ≡ j
 one_joined i j a b e =
     let both : Some (Synched i) ≡ Some (Synched j) = sym (cell_of-cell_word (Synched i) a) ∙ ap cell_of e ∙ cell_of-cell_word (Synched j) b in
     some_inj i j (ap joined_in both)
-  where
-    joined_in : Option Cell → Option Joined
-    joined_in None = None
-    joined_in (Some c) = joined_of c
+
+one_taken : (i j : Joined) → IsJoinedInRange i → IsJoinedInRange j → cell_word (Taken i) ≡ cell_word (Taken j) → i ≡ j
+one_taken i j a b e =
+    let both : Some (Taken i) ≡ Some (Taken j) = sym (cell_of-cell_word (Taken i) a) ∙ ap cell_of e ∙ cell_of-cell_word (Taken j) b in
+    some_inj i j (ap joined_in both)
 
 module _ (shape : Shape) (slots id place : ℕ) (me : Me ℕ View) (r : Row)
     (threads : me.0.threads ≡ shape.threads) (rows : me.0.rows ≡ shape.rows)
@@ -384,6 +454,75 @@ module _ (shape : Shape) (slots id place : ℕ) (me : Me ℕ View) (r : Row)
           row_in (Claims m) = m
           row_in (Joins m o j) = m
 
+  -- a row that is committed alone, where it is Waiting
+  pub grant_allowed : (n : ℕ) (j : Joined) → me.0.stage ≡ Resting → CanGrant me.0.seen r n j → IsJoinedInRange j → place ≡ place_of shape.rows r 0
+      → Allows (Keeps shape) slots id me place (λ x. either (eqb x (cell_word Waiting)) (cell_word (Synched j)) x) (granted (step slots place (cell_word Waiting) (cell_word (Synched j)) none) me)
+  grant_allowed n j resting can in_range here s k homes view range =
+      let x = slice_index s.words place in
+      let read = cell_is shape id place me r 0 threads rows inside (omega arith) here s k view refl in
+      let knows = known shape id place me r 0 threads rows inside (omega arith) here s k view in
+      let one : (q : Row) → At (step {S = ℕ} slots place (cell_word Waiting) (cell_word (Synched j)) none) me q 0 → r ≡ q = λ q at. (one_word shape id place me r 0 threads rows inside (omega arith) here q 0 (omega arith) at.0 at.1).0 in
+      exchanged x (cell_word Waiting) (cell_word (Synched j))
+      (λ y. (w : View) × (a : Act ℕ) × Valid s.homes me.1 a × Keeps shape (stepped s place y id me.1 w a) × granted (step slots place (cell_word Waiting) (cell_word (Synched j)) none) me x (w, carried_after me.1 a))
+      (λ e.
+      let waits = read ∙ ap cell_read e ∙ waiting_read in (
+        saw r (Synched j) (turned Resting r me.0),
+        keeps,
+        tt,
+        grants shape id place me r 0 threads rows inside (omega arith) here s k view refl n j resting can waits,
+        λ q i rests at i_range second. (
+          λ f. let same = one_joined j i in_range i_range second in
+              let row = one q at in
+              ((λ z. (saw (row z) (Synched (same z)) (turned Resting (row z) me.0), me.1)), (seen_there k.world k.owner id me r q Waiting (world_kept shape s k) knows waits row).1),
+          λ f. absurd (f e),
+        ),
+      ))
+      (λ f. (
+        saw r (cell_read x) me.0,
+        keeps,
+        tt,
+        learnt shape id place me r 0 threads rows inside (omega arith) here s k view (saw r (cell_read x) me.0) (learn_cell k.world k.owner id me.0 r (cell_read x) knows read),
+        λ q i rests at i_range second. (λ e. absurd (f e), λ g. seen_there k.world k.owner id me r q (cell_read x) (world_kept shape s k) knows read (one q at)),
+      ))
+
+  -- a committed row, where it is Synched: it is taken
+  pub take_allowed : (j : Joined) → IsJoinedInRange j → place ≡ place_of shape.rows r 0
+      → Allows (Keeps shape) slots id me place (λ x. either (eqb x (cell_word (Synched j))) (cell_word (Taken j)) x) (taken (step slots place (cell_word (Synched j)) (cell_word (Taken j)) none) me)
+  take_allowed j in_range here s k homes view range =
+      let x = slice_index s.words place in
+      let read = cell_is shape id place me r 0 threads rows inside (omega arith) here s k view refl in
+      let knows = known shape id place me r 0 threads rows inside (omega arith) here s k view in
+      let one : (q : Row) → At (step {S = ℕ} slots place (cell_word (Synched j)) (cell_word (Taken j)) none) me q 0 → r ≡ q = λ q at. (one_word shape id place me r 0 threads rows inside (omega arith) here q 0 (omega arith) at.0 at.1).0 in
+      exchanged x (cell_word (Synched j)) (cell_word (Taken j))
+      (λ y. (w : View) × (a : Act ℕ) × Valid s.homes me.1 a × Keeps shape (stepped s place y id me.1 w a) × taken (step slots place (cell_word (Synched j)) (cell_word (Taken j)) none) me x (w, carried_after me.1 a))
+      (λ e.
+      let synched : cell_at k.world.table r ≡ Synched j = read ∙ ap cell_read e ∙ ap (λ (o : Option Cell). unwrap_or o Fresh) (cell_of-cell_word (Synched j) in_range) in (
+        took r j me.0,
+        keeps,
+        tt,
+        takes shape id place me r 0 threads rows inside (omega arith) here s k view j synched refl,
+        λ q i at i_range second. (
+          λ f. let same = one_taken j i in_range i_range second in
+              let row = one q at in (
+                (λ z. (took (row z) (same z) me.0, me.1)),
+                subst (λ (z : Joined). Agrees me.0 q (Synched z)) same (seen_there k.world k.owner id me r q (Synched j) (world_kept shape s k) knows synched row).1,
+                λ o. let open_next : is_fresh (cell_at k.world.table (next_row r)) ≡ false = knows.opened (next_row r) (subst (λ (z : Row). Has me.0.seen.opened (next_row z)) (sym row) o) in
+                    false≢true (sym open_next ∙ next_unopened k.world (record { 0 = me.0.seat }) r j (world_kept shape s k) synched),
+              ),
+          λ f. absurd (f (e ∙ ap (λ (z : Joined). cell_word (Synched z)) (one_taken j i in_range i_range second))),
+        ),
+      ))
+      (λ f. (
+        saw r (cell_read x) me.0,
+        keeps,
+        tt,
+        learnt shape id place me r 0 threads rows inside (omega arith) here s k view (saw r (cell_read x) me.0) (learn_cell k.world k.owner id me.0 r (cell_read x) knows read),
+        λ q i at i_range second. (
+          λ e. absurd (f (e ∙ ap (λ (z : Joined). cell_word (Synched z)) (sym (one_taken j i in_range i_range second)))),
+          λ g. seen_there k.world k.owner id me r q (cell_read x) (world_kept shape s k) knows read (one q at),
+        ),
+      ))
+
   -- a row that this call has claimed, and joined with another
   pub seal_allowed : (other : Row) (own : ℕ) (j : Joined) → me.0.stage ≡ Joins r other j → j.partner ≡ Some (r, own) → Has me.0.seen.held r → IsJoinedInRange (mirrored other j own) → place ≡ place_of shape.rows r 0
       → Allows (Keeps shape) slots id me place (λ n. cell_word (Synched (mirrored other j own))) (λ n. sealed (step slots place (cell_word (Synched (mirrored other j own))) 0 none) me (cell_word (Synched (mirrored other j own))))
@@ -405,11 +544,14 @@ at_view shape v r threads rows inside = subst (λ (z : ℕ × ℕ). Inside z.0 z
 pub place_view : (shape : Shape) (v : View) (r : Row) (p place : ℕ) → v.rows ≡ shape.rows → place ≡ place_of shape.rows r p → place ≡ place_of v.rows r p
 place_view shape v r p place rows e = e ∙ ap (λ (n : ℕ). place_of n r p) (sym rows)
 
--- no other word reads as Waiting
-pub not_waiting : (n : ℕ) → n ≢ cell_word Waiting → cell_read n ≢ Waiting
-not_waiting n h e = ⊎_elim
-    (λ (none : cell_of n ≡ None). let bad : Fresh ≡ Waiting = sym (ap (λ (o : Option Cell). unwrap_or o Fresh) none) ∙ e in cc)
-    (λ (c : (c : Cell) × (cell_of n ≡ Some c)).
-    let is : c.0 ≡ Waiting = sym (ap (λ (o : Option Cell). unwrap_or o Fresh) c.1) ∙ e in
-    h ((cell_word-cell_of n c.0 c.1).1 ∙ ap cell_word is))
+-- no other word reads as a cell that is not Fresh
+pub not_cell : (c : Cell) (n : ℕ) → c ≢ Fresh → n ≢ cell_word c → cell_read n ≢ c
+not_cell c n opened h e = ⊎_elim
+    (λ (none : cell_of n ≡ None). opened (sym e ∙ ap (λ (o : Option Cell). unwrap_or o Fresh) none))
+    (λ (d : (d : Cell) × (cell_of n ≡ Some d)).
+    let is : d.0 ≡ c = sym (ap (λ (o : Option Cell). unwrap_or o Fresh) d.1) ∙ e in
+    h ((cell_word-cell_of n d.0 d.1).1 ∙ ap cell_word is))
     (cases_Option (cell_of n))
+
+pub not_waiting : (n : ℕ) → n ≢ cell_word Waiting → cell_read n ≢ Waiting
+not_waiting n = not_cell Waiting n (λ e. let bad : Waiting ≡ Fresh = e in cc)

@@ -17,35 +17,11 @@ use Rattle.protocol.proofs.LedgerLemmas.{start_cell, start_holder, start_word}
 use Rattle.protocol.proofs.RowLemmas.{same_row}
 use Rattle.cell.specs.declared.view.View.{View}
 use Rattle.cell.specs.declared.view.Shape.{Shape}
-use Rattle.cell.specs.declared.view.Stage.{Stage}
-use Rattle.cell.specs.declared.view.Stage.TheVariants.{Resting, Claims, Joins}
 use Rattle.cell.specs.Sight.{Has}
-use Rattle.cell.specs.Views.{Knows, Staged, first_row}
+use Rattle.cell.specs.Views.{Knows, first_row}
 use Rattle.cell.specs.Rule.{Keeps, dealer, dealt_rows, dealt_pass, no_offers}
-
--- WHO OWNS WHAT may change for rows that a pass does not own
-staged_owned : (w : World) (owner owner' : Row → ℕ) (j : ℕ) (stage : Stage) → ((r : Row) → owner r ≡ j → owner' r ≡ j) → Staged w owner j stage → Staged w owner' j stage
-staged_owned w owner owner' j Resting o h = tt
-staged_owned w owner owner' j (Claims m) o h = (o m h.0, h.1, h.2)
-staged_owned w owner owner' j (Joins m q i) o h = (o m h.0, h.1, h.2, h.3)
-
-knows_owned : (w : World) (owner owner' : Row → ℕ) (j : ℕ) (u : View) → ((r : Row) → owner r ≡ j → owner' r ≡ j) → Knows w owner j u → Knows w owner' j u
-knows_owned w owner owner' j u o k = record {
-  threads = k.threads;
-  rows = k.rows;
-  passes = k.passes;
-  seat = k.seat;
-  undealt = λ t h d. let a = k.undealt t h d in (o (first_row t) a.0, a.1, a.2, a.3);
-  mine = λ r h. let a = k.mine r h in (o r a.0, a.1);
-  calm = k.calm;
-  staged = staged_owned w owner owner' j u.stage o k.staged;
-  fresh = k.fresh;
-  drafted = λ r p x h. let a = k.drafted r p x h in (o r a.0, a.1, a.2, a.3, a.4);
-  opened = k.opened;
-  read = k.read;
-  joined = k.joined;
-  taken = k.taken;
-}
+use Rattle.cell.proofs.Following.{knows_owned}
+use Rattle.cell.proofs.Turning.{world_kept}
 
 -- a pass that has seen nothing
 knows_nothing : (w : World) (owner : Row → ℕ) (id : ℕ) (shape : Shape) (k : ℕ) → shape.threads ≡ w.table.threads → shape.rows ≡ w.table.rows → shape.passes ≡ w.seats → 0 < w.seats
@@ -209,7 +185,7 @@ module _ {S : Type 0} (shape : Shape) (id k : ℕ) (below : k < shape.passes) (s
   at_old : (j : ℕ) (u : View) → get_elem? (slice_set s.views id (dealer shape (k + 1))) j ≡ some u → 0 < u.threads → Knows h.world owner' j u
   at_old j u e t = ⊎_elim
       (λ (a : (j ≡ id) × (dealer shape (k + 1) ≡ u)). subst (λ (z : ℕ × View). Knows h.world owner' z.0 z.1) (λ i. (sym a.0 i, a.1 i)) left)
-      (λ (a : (j ≢ id) × (get_elem? s.views j ≡ some u)). knows_owned h.world h.owner owner' j u (kept_owner j a.0) (h.knows j u a.1 t))
+      (λ (a : (j ≢ id) × (get_elem? s.views j ≡ some u)). knows_owned h.world h.owner owner' j u (world_kept shape s h) (λ r held o. kept_owner j a.0 r o) (h.knows j u a.1 t))
       (at_set s.views id j (dealer shape (k + 1)) u e)
 
   deals : Keeps shape (record { words = s.words; homes = s.homes; views = slice_set s.views id (dealer shape (k + 1)) ++ dealt_pass (dealer shape k) ∷ [] })

@@ -15,7 +15,8 @@ use Rattle.cell.specs.declared.view.Shape.{Shape}
 use Rattle.cell.specs.Sight.{Has, IsDraft, SeesOffer, SeesNoOffer}
 use Rattle.cell.specs.Views.{Knows}
 use Rattle.cell.specs.Rule.{Keeps}
-use Rattle.cell.proofs.Allowing.{world_kept, sized}
+use Rattle.cell.proofs.Allowing.{sized}
+use Rattle.cell.proofs.Turning.{world_kept}
 use Rattle.cell.proofs.Truths.{own_chose, sees_known, lacks_known}
 
 read_there : (xs : List ℕ) (i x : ℕ) → get_elem? xs i ≡ some x → get_or xs i 0 ≡ x

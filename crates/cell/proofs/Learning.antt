@@ -1,5 +1,5 @@
 -- What is learnt in two calls, and of more rows.
-use Rattle.std.proofs.Common.{rules, ◌≡◌, List, ◌∙◌, inr, ⊎_elim}
+use Rattle.std.proofs.Common.{inl, rules, ◌≡◌, List, ◌∙◌, inr, ⊎_elim}
 use Rattle.words.specs.declared.Row.{Row}
 use Rattle.cell.specs.declared.view.Seen.{Seen}
 use Rattle.cell.specs.Sight.{Has, Adds, Learns, see_cell}
@@ -17,6 +17,20 @@ learns_then About s t u f g = record {
   words = adds_then (λ x. About x.0) s.words t.words u.words f.words g.words;
   joined = adds_then (λ x. About x.0) s.joined t.joined u.joined f.joined g.joined;
   taken = adds_then About s.taken t.taken u.taken f.taken g.taken;
+}
+
+-- what is learnt of some rows is learnt of more
+adds_wider : {A : Type 0} (About About' : A → Type 0) (xs ys : List A) → ((x : A) → About x → About' x) → Adds About xs ys → Adds About' xs ys
+adds_wider About About' xs ys w f = (f.0, λ x h. ⊎_elim (λ (i : Has xs x). inl i) (λ (a : About x). inr (w x a)) (f.1 x h))
+
+pub learns_wider : (About About' : Row → Type 0) (s t : Seen) → ((r : Row) → About r → About' r) → Learns About s t → Learns About' s t
+learns_wider About About' s t w l = record {
+  held = l.held;
+  drafts = l.drafts;
+  opened = adds_wider About About' s.opened t.opened w l.opened;
+  words = adds_wider (λ x. About x.0) (λ x. About' x.0) s.words t.words (λ x. w x.0) l.words;
+  joined = adds_wider (λ x. About x.0) (λ x. About' x.0) s.joined t.joined (λ x. w x.0) l.joined;
+  taken = adds_wider About About' s.taken t.taken w l.taken;
 }
 
 -- a look adds what it finds of its row

@@ -11,3 +11,5 @@ pub mod Dealing
 pub mod Hearing
 pub mod Endings
 pub mod Playing
+pub mod Following
+pub mod Alone

@@ -33,12 +33,12 @@ pub sees_more : (About : Row → Type 0) (s t : Seen) (r : Row) (n : ℕ) (o : O
 sees_more About s t r n o l (inl h) = inl (have_more s.words t.words r n o l.words.0 h)
 sees_more About s t r n o l (inr h) = inr (l.opened.0 r h.0, subst (λ (d : List (Row × ℕ × ℕ)). HaveOffer d r n o) (sym l.drafts) h.1)
 
-last_more : (s t : Seen) (r : Row) (stamp : ℕ) → ((x : Row × Joined) → Has s.joined x → Has t.joined x) → HasSeenLast s r stamp → HasSeenLast t r stamp
+pub last_more : (s t : Seen) (r : Row) (stamp : ℕ) → ((x : Row × Joined) → Has s.joined x → Has t.joined x) → HasSeenLast s r stamp → HasSeenLast t r stamp
 last_more s t r stamp more (inl h) = inl h
 last_more s t r stamp more (inr h) = inr (h.0, h.1, more _ h.2, h.3)
 
 -- an offer that was read has a number below 8
-few : (count n : ℕ) → n < unwrap_or (count_of count) 0 → n < 8
+pub few : (count n : ℕ) → n < unwrap_or (count_of count) 0 → n < 8
 unfolding count_of
 few count n h = by_case (Rattle.std.proofs.Math.Dec.leb count 8) refl h
   where

@@ -7,14 +7,14 @@ use Rattle.words.specs.declared.Row.{Row}
 use Rattle.words.specs.declared.Joined.{Joined}
 use Rattle.words.specs.declared.Cell.{Cell}
 use Rattle.protocol.specs.Tables.{Table, is_fresh, cell_at, joined_at, joined_of, offers_meet, offer_at, count_at, stamp_of, last_stamp, word_at, stands_alone}
-use Rattle.protocol.specs.Worlds.{World, joined_with}
+use Rattle.protocol.specs.Worlds.{World, joined_with, granted_by}
 use Rattle.protocol.specs.Kept.{Kept, IsSideOf}
 use Rattle.protocol.proofs.Readings.{count_open, row_of_open, offer_none, joined_ranged}
 use Rattle.protocol.proofs.Linking.{fresh_not_joined, some_inj, naming, partner_open}
 use Rattle.protocol.proofs.Lawfulness.{chosen_there}
 use Rattle.protocol.proofs.Keeping.{few_commits, taken_before}
 use Rattle.cell.specs.declared.view.View.{View}
-use Rattle.cell.specs.Sight.{Has, HaveOffer, HasSeenLast, CanJoin, IsDraft, SawChosen, SeesNoOffer, SeesOffer, Coherent}
+use Rattle.cell.specs.Sight.{Has, HaveOffer, HasSeenLast, CanJoin, IsDraft, SawChosen, SeesNoOffer, SeesOffer, Coherent, CanGrant}
 use Rattle.protocol.specs.Tables.{is_taken}
 use Rattle.cell.specs.Views.{Knows}
 use Rattle.cell.specs.Told.{Agrees}
@@ -70,6 +70,12 @@ module _ (w : World) (owner : Row → ℕ) (id : ℕ) (v : View) (k : Knows w ow
       let a = last_known m can.my_last can.seen_mine in
       let b = last_known o can.their_last can.seen_theirs in
       (λ x. record { own = n; partner = Some (m, i); stamp = 1 + max (a x) (b x) }) ∙ sym can.is
+
+  pub granted_known : (r : Row) (n : ℕ) (j : Joined) → CanGrant v.seen r n j → (stands_alone (offer_at w.table r n) ≡ true) × (granted_by w.table r n ≡ j)
+  unfolding granted_by
+  granted_known r n j can =
+      let a = last_known r can.last can.seen_last in
+      (ap stands_alone (offer_known r n can.offer can.read) ∙ can.alone, (λ x. record { own = n; partner = None; stamp = 1 + a x }) ∙ sym can.is)
 
   module _ (kept : Kept w) where
     side : (r : Row) (j : Joined) (p : Row × ℕ) → Has v.seen.joined (r, j) → j.partner ≡ Some p → IsSideOf (cell_at w.table) (offer_at w.table) r j p

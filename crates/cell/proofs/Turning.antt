@@ -12,7 +12,14 @@ use Rattle.protocol.proofs.Playing.{plays_more}
 use Rattle.cell.specs.declared.view.View.{View}
 use Rattle.cell.specs.declared.view.Shape.{Shape}
 use Rattle.cell.specs.Views.{Knows}
+use Rattle.protocol.specs.Kept.{Kept}
+use Rattle.protocol.proofs.Keeping.{kept_schedule}
+use Rattle.protocol.proofs.LedgerLemmas.{kept_start}
 use Rattle.cell.specs.Rule.{Keeps}
+
+-- the world of the rule is one that all steps keep
+pub world_kept : {S : Type 0} (shape : Shape) (s : State S View) (k : Keeps shape s) → Kept k.world
+world_kept shape s k = kept_schedule _ k.world k.history (kept_start shape.threads shape.rows shape.passes k.few_threads k.few_rows) k.played
 
 -- what all views say of a world, one of them being new
 views_with : (vs : List View) (id : ℕ) (w : View) (world : World) (owner : Row → ℕ)
@@ -39,19 +46,19 @@ keeps_view shape s k id w ws hs same knows = record {
 }
 
 -- the protocol's step is made, and one pass knows more
-pub keeps_step : {S : Type 0} (shape : Shape) (s : State S View) (k : Keeps shape s) (id : ℕ) (w : View) (ws : List ℕ) (hs : List (Option S))
+pub keeps_step : {S : Type 0} (shape : Shape) (s : State S View) (k : Keeps shape s) (id : ℕ) (w : View) (ws : List ℕ) (hs : List (Option S)) (owner : Row → ℕ)
     → (seat : Seat) (step : Step) → Allowed k.world seat step
     → (after_step k.world seat step).table ≡ record { threads = shape.threads; rows = shape.rows; words = ws }
-    → ((j : ℕ) (u : View) → j ≢ id → get_elem? s.views j ≡ some u → 0 < u.threads → Knows (after_step k.world seat step) k.owner j u)
-    → Knows (after_step k.world seat step) k.owner id w
+    → ((j : ℕ) (u : View) → j ≢ id → get_elem? s.views j ≡ some u → 0 < u.threads → Knows (after_step k.world seat step) owner j u)
+    → Knows (after_step k.world seat step) owner id w
     → Keeps shape (record { words = ws; homes = hs; views = slice_set s.views id w })
-keeps_step shape s k id w ws hs seat step allowed same others knows = record {
+keeps_step shape s k id w ws hs owner seat step allowed same others knows = record {
   few_threads = k.few_threads;
   few_rows = k.few_rows;
   history = k.history ++ (seat, step) ∷ [];
   world = after_step k.world seat step;
   played = plays_more (start_world shape.threads shape.rows shape.passes) k.world k.history (seat, step) k.played allowed;
   table = same;
-  owner = k.owner;
-  knows = views_with s.views id w (after_step k.world seat step) k.owner others knows;
+  owner = owner;
+  knows = views_with s.views id w (after_step k.world seat step) owner others knows;
 }

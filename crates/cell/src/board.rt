@@ -95,6 +95,24 @@ impl Play<u64, View> for Seal {
     ghost then = { λ st m n w. sealed st m n w };
 }
 
+/// A row is committed alone, where it is Waiting.
+pub struct Give;
+
+impl Play<u64, View> for Give {
+    ghost use Rattle.cell.specs.Told.{granted};
+
+    ghost then = { λ st m n w. granted st m n w };
+}
+
+/// A committed row is taken, where it is Synched.
+pub struct Take;
+
+impl Play<u64, View> for Take {
+    ghost use Rattle.cell.specs.Told.{taken};
+
+    ghost then = { λ st m n w. taken st m n w };
+}
+
 /// The first pass deals the rows of the next seat to a pass of their own.
 pub struct Deal;
 

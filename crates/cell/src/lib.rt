@@ -22,14 +22,17 @@ mod board;
 mod cells;
 mod closing;
 mod drafting;
+mod granting;
 mod reading;
 mod start;
 mod steps;
+mod taking;
 mod telling;
 mod view;
 
 pub use crate::attempt::{Attempt, CLAIM, JOIN, NoGate, SEAL, StepGate, YIELD};
 pub use crate::cells::{Cells, Pass};
+pub use crate::granting::Grant;
 pub use crate::view::Seen;
 
 /// The rule holds between any two atomic steps of any callers' threads. So then the ledger of the

@@ -3,15 +3,15 @@
 ghost use Rattle.std.specs.Prelude.{◌≡◌, ◌≢◌, ◌*◌, ◌+◌, ◌<◌, ◌≤◌, [], true, IfOk, IfErr, Some};
 ghost use Rattle.words.specs.Words.{is_word_for, IsJoinedInRange};
 ghost use Rattle.words.specs.declared.Cell.TheVariants.{Waiting, Synched};
-ghost use Rattle.protocol.specs.Tables.{thread_len, place_of};
+ghost use Rattle.protocol.specs.Tables.{thread_len, place_of, next_row};
 ghost use Rattle.protocol.specs.Worlds.{mirrored};
 ghost use Rattle.cell.specs.declared.view.Stage.TheVariants.{Resting, Claims, Joins};
 ghost use Rattle.cell.specs.Told.{Agrees, cell_read, joining};
 ghost use Rattle.cell.specs.Seats.{Sits, HasRow};
-ghost use Rattle.cell.specs.Sight.{Has, CanJoin, Coherent};
-ghost use Rattle.cell.specs.Views.{saw, read_word, drafted_word, turned};
+ghost use Rattle.cell.specs.Sight.{Has, CanGrant, CanJoin, Coherent};
+ghost use Rattle.cell.specs.Views.{saw, took, read_word, drafted_word, turned};
 
-use crate::board::{Board, Claim, Draft, Join, Look, Read, Seal, Wait};
+use crate::board::{Board, Claim, Draft, Give, Join, Look, Read, Seal, Take, Wait};
 use crate::view::View;
 use atomic_table::Seat;
 use protocol::{Cell, Joined, Row, pack_cell, unpack_cell};
@@ -130,6 +130,60 @@ impl Board {
             .shared
             .compare_exchange::<Join>(seat, self.place(row, 0), waiting, synched);
         if found == waiting {
+            Ok(())
+        } else {
+            Err(cell_in(found))
+        }
+    }
+
+    /// Commits a row alone, where it is Waiting; else says what it is.
+    pub(crate) fn give(
+        &self,
+        seat: &mut Seat<u64, View>,
+        row: Row,
+        joined: Joined,
+    ) -> Result<(), Cell>
+        requires sits { Sits self.now seat.old × HasRow self.now row }
+        requires resting { seat.old.me.0.stage ≡ Resting }
+        requires can { CanGrant seat.old.me.0.seen row joined.own joined × IsJoinedInRange joined }
+        ensures sits { (seat.new.id ≡ seat.old.id) × Sits self.now seat.new }
+        ensures given { IfOk result (λ _. (seat.new.me.0 ≡ saw row (Synched joined) (turned Resting row seat.old.me.0)) × Agrees seat.old.me.0 row Waiting) }
+        ensures found { IfErr result (λ cell. (cell ≢ Waiting) × (seat.new.me.0 ≡ saw row cell seat.old.me.0) × Agrees seat.old.me.0 row cell) }
+    {
+        let waiting = pack_cell(Cell::Waiting);
+        let synched = pack_cell(Cell::Synched(joined));
+        let found = self
+            .words
+            .shared
+            .compare_exchange::<Give>(seat, self.place(row, 0), waiting, synched);
+        if found == waiting {
+            Ok(())
+        } else {
+            Err(cell_in(found))
+        }
+    }
+
+    /// Takes a row that is committed so, where nobody has taken it; else says what it is. The pass
+    /// holds the thread's next row then, if there is one.
+    pub(crate) fn take_committed(
+        &self,
+        seat: &mut Seat<u64, View>,
+        row: Row,
+        joined: Joined,
+    ) -> Result<(), Cell>
+        requires sits { Sits self.now seat.old × HasRow self.now row }
+        requires range { IsJoinedInRange joined }
+        ensures sits { (seat.new.id ≡ seat.old.id) × Sits self.now seat.new }
+        ensures took { IfOk result (λ _. (seat.new.me.0 ≡ took row joined seat.old.me.0) × Agrees seat.old.me.0 row (Synched joined) × (¬ Has seat.old.me.0.seen.opened (next_row row))) }
+        ensures found { IfErr result (λ cell. (cell ≢ Synched joined) × (seat.new.me.0 ≡ saw row cell seat.old.me.0) × Agrees seat.old.me.0 row cell) }
+    {
+        let synched = pack_cell(Cell::Synched(joined));
+        let taken = pack_cell(Cell::Taken(joined));
+        let found = self
+            .words
+            .shared
+            .compare_exchange::<Take>(seat, self.place(row, 0), synched, taken);
+        if found == synched {
             Ok(())
         } else {
             Err(cell_in(found))

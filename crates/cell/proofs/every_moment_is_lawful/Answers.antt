@@ -2,7 +2,7 @@ use Rattle.std.proofs.Common.{subst, sym, ◌∙◌}
 use Rattle.protocol.specs.Tables.{Table}
 use Rattle.protocol.specs.Ledgers.{ledger_of, IsLawful}
 use Rattle.protocol.proofs.LedgerLemmas.{lawful_ledger}
-use Rattle.cell.proofs.Allowing.{world_kept}
+use Rattle.cell.proofs.Turning.{world_kept}
 use Rattle.cell.proofs.every_moment_is_lawful.Goals as goal
 
 pub returns-clause-lawful : goal.returns-clause-lawful
