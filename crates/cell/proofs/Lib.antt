@@ -13,3 +13,4 @@ pub mod Endings
 pub mod Playing
 pub mod Following
 pub mod Alone
+pub mod Flagging

@@ -5,3 +5,4 @@ pub mod Rule
 pub mod Told
 pub mod Seats
 pub mod Calls
+pub mod Flags

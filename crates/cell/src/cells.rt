@@ -7,8 +7,9 @@ ghost use Rattle.words.specs.declared.Offer.{Offer};
 ghost use Rattle.words.specs.declared.Row.{Row};
 ghost use Rattle.words.specs.declared.Cell.TheVariants.{Claimed};
 ghost use Rattle.protocol.specs.Ledgers.{IsLawful, joined_in, offer_in};
-ghost use Rattle.cell.specs.Attempts.{Attempted, IsNear};
+ghost use Rattle.cell.specs.Attempts.{Attempted, Granted, IsAtOrBefore, IsNear, Took};
 ghost use Rattle.cell.specs.Calls.{IsPassOf, IsRowOf, PassView};
+ghost use Rattle.cell.specs.Flags.{AreFlags};
 ghost use Rattle.cell.specs.Rule.{dealt_rows, heard, seen_nothing, told_of};
 ghost use Rattle.cell.specs.Sight.{
   AreOffers,
@@ -32,9 +33,11 @@ ghost use Rattle.cell.specs.Sight.{
 
 use crate::attempt::{Attempt, StepGate};
 use crate::board::Board;
+use crate::granting::Grant;
+use crate::rows::RowSet;
 use crate::view::{Shape, View};
 use atomic_table::Seat;
-use protocol::{Cell, Ledger, Message, Offer, Row};
+use protocol::{Cell, Joined, Ledger, Message, Offer, Row};
 use std::alloc::{AllocError, Global};
 use std::marker::Model;
 
@@ -60,22 +63,20 @@ impl Model for Cells {
 #[derive(Drop)]
 pub struct Pass {
     seat: Seat<u64, View>,
-    threads: u8,
-    passes: u8,
-    number: u8,
+    rows: RowSet,
 }
 
 impl Model for Pass {
-    ghost use Rattle.std.specs.Prelude.{◌≡◌, ◌≤◌};
+    ghost use Rattle.std.specs.Prelude.{◌≡◌};
     ghost use Rattle.cell.specs.declared.view.Stage.TheVariants.{Resting};
     ghost use Rattle.cell.specs.Calls.{PassView};
-    ghost use Rattle.cell.specs.Rule.{dealt_rows};
+    ghost use Rattle.cell.specs.Flags.{AreFlags};
 
     ghost Value = { PassView };
 
     ghost view = { λ p. record { of = record { id = p.seat.table_id; threads = p.seat.me.0.threads; rows = p.seat.me.0.rows; passes = p.seat.me.0.passes }; seen = p.seat.me.0.seen } };
 
-    ghost invariant = { λ p. (1 ≤ p.passes) × (p.seat.me.0.stage ≡ Resting) × (p.seat.me.0.seen.held ≡ dealt_rows p.threads p.passes p.number) };
+    ghost invariant = { λ p. (p.seat.me.0.stage ≡ Resting) × (p.seat.me.0.threads ≡ p.rows.threads) × (p.seat.me.0.rows ≡ p.rows.rows) × AreFlags p.rows.threads p.rows.rows p.rows.flags.items p.seat.me.0.seen.held };
 }
 
 impl Pass {
@@ -83,13 +84,7 @@ impl Pass {
     pub fn holds(&self, row: Row) -> bool
         ensures { IsTrue result ↔ Has self.now.seen.held row }
     {
-        if row.thread >= self.threads {
-            return false;
-        }
-        if row.sync != 0 {
-            return false;
-        }
-        row.thread % self.passes == self.number
+        self.rows.contains(row)
     }
 }
 
@@ -119,12 +114,8 @@ impl Cells {
         let mut dealt = Vec::with_capacity(alloc, usize::from(passes))?;
         for number in 0..passes {
             let seat = board.deal(&mut dealer, u64::from(number));
-            dealt.push(Pass {
-                seat,
-                threads,
-                passes,
-                number,
-            })?;
+            let rows = first_rows(alloc, threads, rows, passes, number)?;
+            dealt.push(Pass { seat, rows })?;
         }
         Ok((Cells { board, room }, dealt))
     }
@@ -199,6 +190,37 @@ impl Cells {
             .attempt(&mut pass.seat, gate, (mine, own), (other, partner))
     }
 
+    /// Commits the row alone by its offer n, where that is an always and the row waits. The row may
+    /// be held by any pass.
+    pub fn grant(&self, pass: &mut Pass, row: Row, n: u8) -> Grant
+        requires here { IsPassOf self.now pass.old × IsRowOf self.now row }
+        ensures here { IsPassOf self.now pass.new }
+        ensures learns { Learns (IsAtOrBefore row) pass.old.seen pass.new.seen }
+        ensures granted { Granted pass.old.seen pass.new.seen row n result }
+    {
+        self.board.grant(&mut pass.seat, row, n)
+    }
+
+    /// Takes the row, where it is committed and nobody has taken it: the pass holds the thread's next
+    /// row from then on, if there is one. The row may be held by any pass.
+    pub fn take(&self, pass: &mut Pass, row: Row) -> Option<Joined>
+        requires here { IsPassOf self.now pass.old × IsRowOf self.now row }
+        ensures here { IsPassOf self.now pass.new }
+        ensures some { IfSome result (Took self.now.rows pass.old.seen pass.new.seen row) }
+        ensures none { IfNone result (Learns (λ q. q ≡ row) pass.old.seen pass.new.seen × (SawCommitted pass.old.seen row → Has pass.new.seen.taken row)) }
+    {
+        let Pass { seat, rows } = pass;
+        let joined = self.board.take(seat, row)?;
+        let next = Row {
+            thread: row.thread,
+            sync: row.sync + 1,
+        };
+        if next.sync < rows.rows {
+            rows.insert(next);
+        }
+        Some(joined)
+    }
+
     /// Writes a list of at most 8 offers for a held row that is not opened yet, in place of the list
     /// that was written before.
     pub fn draft(&self, pass: &mut Pass, row: Row, offers: &[Offer])
@@ -238,4 +260,26 @@ impl Cells {
         let Pass { seat, .. } = pass;
         board.close(seat, room)
     }
+}
+
+/// The rows that pass `number` holds at the start.
+fn first_rows(
+    alloc: Global,
+    threads: u8,
+    rows: u16,
+    passes: u8,
+    number: u8,
+) -> Result<RowSet, AllocError>
+    requires rows { 1 ≤ rows }
+    requires passes { 1 ≤ passes }
+    ensures size { IfOk result (λ s. (s.threads ≡ threads) × (s.rows ≡ rows)) }
+    ensures dealt { IfOk result (λ s. AreFlags s.threads s.rows s.flags.items (dealt_rows threads passes number)) }
+{
+    let mut first = RowSet::new(alloc, threads, rows)?;
+    for thread in 0..threads {
+        if thread % passes == number {
+            first.insert(Row { thread, sync: 0 });
+        }
+    }
+    Ok(first)
 }

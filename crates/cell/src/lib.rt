@@ -24,6 +24,7 @@ mod closing;
 mod drafting;
 mod granting;
 mod reading;
+mod rows;
 mod start;
 mod steps;
 mod taking;

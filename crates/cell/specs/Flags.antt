@@ -1,0 +1,10 @@
+-- A set of rows as flags, row by row.
+use Rattle.std.specs.Prelude.{◌≡◌, ℕ, ◌<◌, ◌↔◌, Bool, true, false, List, slice_index_or}
+use Rattle.words.specs.declared.Row.{Row}
+use Rattle.protocol.specs.Tables.{number_of}
+use Rattle.cell.specs.Sight.{Has}
+
+-- the flags of these rows are set, and no others
+pub record AreFlags (threads rows : ℕ) (flags : List Bool) (held : List Row) : Type 0 where
+  pub inside : (r : Row) → Has held r → (r.thread < threads) × (r.sync < rows)
+  pub marked : (r : Row) → r.thread < threads → r.sync < rows → (slice_index_or flags (number_of rows r) false ≡ true) ↔ Has held r
