@@ -151,11 +151,11 @@ impl Board {
         ensures found { IfErr result (λ cell. (cell ≢ Waiting) × (seat.new.me.0 ≡ saw row cell seat.old.me.0) × Agrees seat.old.me.0 row cell) }
     {
         let waiting = pack_cell(Cell::Waiting);
-        let synched = pack_cell(Cell::Synched(joined));
+        let granted = pack_cell(Cell::Synched(joined));
         let found = self
             .words
             .shared
-            .compare_exchange::<Give>(seat, self.place(row, 0), waiting, synched);
+            .compare_exchange::<Give>(seat, self.place(row, 0), waiting, granted);
         if found == waiting {
             Ok(())
         } else {
@@ -177,13 +177,13 @@ impl Board {
         ensures took { IfOk result (λ _. (seat.new.me.0 ≡ took row joined seat.old.me.0) × Agrees seat.old.me.0 row (Synched joined) × (¬ Has seat.old.me.0.seen.opened (next_row row))) }
         ensures found { IfErr result (λ cell. (cell ≢ Synched joined) × (seat.new.me.0 ≡ saw row cell seat.old.me.0) × Agrees seat.old.me.0 row cell) }
     {
-        let synched = pack_cell(Cell::Synched(joined));
+        let committed = pack_cell(Cell::Synched(joined));
         let taken = pack_cell(Cell::Taken(joined));
         let found = self
             .words
             .shared
-            .compare_exchange::<Take>(seat, self.place(row, 0), synched, taken);
-        if found == synched {
+            .compare_exchange::<Take>(seat, self.place(row, 0), committed, taken);
+        if found == committed {
             Ok(())
         } else {
             Err(cell_in(found))

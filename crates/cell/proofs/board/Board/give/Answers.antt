@@ -14,12 +14,12 @@ pub compare_exchange-found-requires : goal.compare_exchange-found-requires
 compare_exchange-found-requires c = (
   search rules,
   search rules,
-  subst (λ (z : Shape × ℕ × ℕ). Allows (Keeps z.0) c.args.self.now.words.shared.table_id.slots c.args.seat.now.id c.args.seat.now.me c.place.result (λ n. either (eqb n z.1) z.2 n) (granted (step c.args.self.now.words.shared.table_id.slots c.place.result z.1 z.2 none) c.args.seat.now.me)) (λ i. (sym c.args.self.now.keyed i, sym c.pack_cell-waiting.ensures i, sym c.pack_cell-synched.ensures i))
+  subst (λ (z : Shape × ℕ × ℕ). Allows (Keeps z.0) c.args.self.now.words.shared.table_id.slots c.args.seat.now.id c.args.seat.now.me c.place.result (λ n. either (eqb n z.1) z.2 n) (granted (step c.args.self.now.words.shared.table_id.slots c.place.result z.1 z.2 none) c.args.seat.now.me)) (λ i. (sym c.args.self.now.keyed i, sym c.pack_cell-waiting.ensures i, sym c.pack_cell-granted.ensures i))
       (grant_allowed c.args.self.now.shape c.args.self.now.words.shared.table_id.slots c.args.seat.now.id c.place.result c.args.seat.now.me c.args.row (search rules) (search rules) (search rules) c.args.joined.own c.args.joined (search rules) c.requires.can.0 c.requires.can.1 (search rules)),
 )
 
 pub returns-else-found-waiting-clause-found : goal.returns-else-found-waiting-clause-found
 returns-else-found-waiting-clause-found c =
     let other : c.compare_exchange-found.result ≢ cell_word Waiting = (λ e. c.if-found-waiting.false (e ∙ sym c.pack_cell-waiting.ensures)) in
-    let told = (c.compare_exchange-found.ensures.2 c.args.row c.args.joined (search rules) (at_view c.args.self.now.shape c.args.seat.now.me.0 c.args.row (search rules) (search rules) (search rules), place_view c.args.self.now.shape c.args.seat.now.me.0 c.args.row 0 c.place.result (search rules) (search rules)) c.requires.can.1 c.pack_cell-synched.ensures).1 other in
+    let told = (c.compare_exchange-found.ensures.2 c.args.row c.args.joined (search rules) (at_view c.args.self.now.shape c.args.seat.now.me.0 c.args.row (search rules) (search rules) (search rules), place_view c.args.self.now.shape c.args.seat.now.me.0 c.args.row 0 c.place.result (search rules) (search rules)) c.requires.can.1 c.pack_cell-granted.ensures).1 other in
     (λ e. not_waiting c.compare_exchange-found.result other (sym c.cell_in.ensures ∙ e), ap (λ z. z.0) told.0 ∙ (search rules), subst (Agrees c.args.seat.now.me.0 c.args.row) (sym c.cell_in.ensures) told.1)

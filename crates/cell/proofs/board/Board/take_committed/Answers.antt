@@ -15,31 +15,31 @@ pub compare_exchange-found-requires : goal.compare_exchange-found-requires
 compare_exchange-found-requires c = (
   search rules,
   search rules,
-  subst (λ (z : Shape × ℕ × ℕ). Allows (Keeps z.0) c.args.self.now.words.shared.table_id.slots c.args.seat.now.id c.args.seat.now.me c.place.result (λ n. either (eqb n z.1) z.2 n) (taken (step c.args.self.now.words.shared.table_id.slots c.place.result z.1 z.2 none) c.args.seat.now.me)) (λ i. (sym c.args.self.now.keyed i, sym c.pack_cell-synched.ensures i, sym c.pack_cell-taken.ensures i))
+  subst (λ (z : Shape × ℕ × ℕ). Allows (Keeps z.0) c.args.self.now.words.shared.table_id.slots c.args.seat.now.id c.args.seat.now.me c.place.result (λ n. either (eqb n z.1) z.2 n) (taken (step c.args.self.now.words.shared.table_id.slots c.place.result z.1 z.2 none) c.args.seat.now.me)) (λ i. (sym c.args.self.now.keyed i, sym c.pack_cell-committed.ensures i, sym c.pack_cell-taken.ensures i))
       (take_allowed c.args.self.now.shape c.args.self.now.words.shared.table_id.slots c.args.seat.now.id c.place.result c.args.seat.now.me c.args.row (search rules) (search rules) (search rules) c.args.joined c.requires.range (search rules)),
 )
 
-pub returns-then-found-synched-clause-sits : goal.returns-then-found-synched-clause-sits
-returns-then-found-synched-clause-sits c =
-    let told = (c.compare_exchange-found.ensures.2 c.args.row c.args.joined (at_view c.args.self.now.shape c.args.seat.now.me.0 c.args.row (search rules) (search rules) (search rules), place_view c.args.self.now.shape c.args.seat.now.me.0 c.args.row 0 c.place.result (search rules) (search rules)) c.requires.range c.pack_cell-taken.ensures).0 (c.if-found-synched.true ∙ c.pack_cell-synched.ensures) in
+pub returns-then-found-committed-clause-sits : goal.returns-then-found-committed-clause-sits
+returns-then-found-committed-clause-sits c =
+    let told = (c.compare_exchange-found.ensures.2 c.args.row c.args.joined (at_view c.args.self.now.shape c.args.seat.now.me.0 c.args.row (search rules) (search rules) (search rules), place_view c.args.self.now.shape c.args.seat.now.me.0 c.args.row 0 c.place.result (search rules) (search rules)) c.requires.range c.pack_cell-taken.ensures).0 (c.if-found-committed.true ∙ c.pack_cell-committed.ensures) in
     let is : c.compare_exchange-found.new.seat.me ≡ (took c.args.row c.args.joined c.args.seat.now.me.0, c.args.seat.now.me.1) = told.0 in
     ((search rules), ((search rules), ap (λ z. z.0.threads) is ∙ (search rules), ap (λ z. z.0.rows) is ∙ (search rules)))
 
-pub returns-then-found-synched-clause-took : goal.returns-then-found-synched-clause-took
-returns-then-found-synched-clause-took c =
-    let told = (c.compare_exchange-found.ensures.2 c.args.row c.args.joined (at_view c.args.self.now.shape c.args.seat.now.me.0 c.args.row (search rules) (search rules) (search rules), place_view c.args.self.now.shape c.args.seat.now.me.0 c.args.row 0 c.place.result (search rules) (search rules)) c.requires.range c.pack_cell-taken.ensures).0 (c.if-found-synched.true ∙ c.pack_cell-synched.ensures) in
+pub returns-then-found-committed-clause-took : goal.returns-then-found-committed-clause-took
+returns-then-found-committed-clause-took c =
+    let told = (c.compare_exchange-found.ensures.2 c.args.row c.args.joined (at_view c.args.self.now.shape c.args.seat.now.me.0 c.args.row (search rules) (search rules) (search rules), place_view c.args.self.now.shape c.args.seat.now.me.0 c.args.row 0 c.place.result (search rules) (search rules)) c.requires.range c.pack_cell-taken.ensures).0 (c.if-found-committed.true ∙ c.pack_cell-committed.ensures) in
     (ap (λ z. z.0) told.0, told.1, told.2)
 
-pub returns-else-found-synched-clause-sits : goal.returns-else-found-synched-clause-sits
-returns-else-found-synched-clause-sits c =
-    let other : c.compare_exchange-found.result ≢ cell_word (Synched c.args.joined) = (λ e. c.if-found-synched.false (e ∙ sym c.pack_cell-synched.ensures)) in
+pub returns-else-found-committed-clause-sits : goal.returns-else-found-committed-clause-sits
+returns-else-found-committed-clause-sits c =
+    let other : c.compare_exchange-found.result ≢ cell_word (Synched c.args.joined) = (λ e. c.if-found-committed.false (e ∙ sym c.pack_cell-committed.ensures)) in
     let told = (c.compare_exchange-found.ensures.2 c.args.row c.args.joined (at_view c.args.self.now.shape c.args.seat.now.me.0 c.args.row (search rules) (search rules) (search rules), place_view c.args.self.now.shape c.args.seat.now.me.0 c.args.row 0 c.place.result (search rules) (search rules)) c.requires.range c.pack_cell-taken.ensures).1 other in
     let is : c.compare_exchange-found.new.seat.me ≡ (saw c.args.row (cell_read c.compare_exchange-found.result) c.args.seat.now.me.0, c.args.seat.now.me.1) = told.0 in
     ((search rules), ((search rules), ap (λ z. z.0.threads) is ∙ (search rules), ap (λ z. z.0.rows) is ∙ (search rules)))
 
-pub returns-else-found-synched-clause-found : goal.returns-else-found-synched-clause-found
-returns-else-found-synched-clause-found c =
-    let other : c.compare_exchange-found.result ≢ cell_word (Synched c.args.joined) = (λ e. c.if-found-synched.false (e ∙ sym c.pack_cell-synched.ensures)) in
+pub returns-else-found-committed-clause-found : goal.returns-else-found-committed-clause-found
+returns-else-found-committed-clause-found c =
+    let other : c.compare_exchange-found.result ≢ cell_word (Synched c.args.joined) = (λ e. c.if-found-committed.false (e ∙ sym c.pack_cell-committed.ensures)) in
     let told = (c.compare_exchange-found.ensures.2 c.args.row c.args.joined (at_view c.args.self.now.shape c.args.seat.now.me.0 c.args.row (search rules) (search rules) (search rules), place_view c.args.self.now.shape c.args.seat.now.me.0 c.args.row 0 c.place.result (search rules) (search rules)) c.requires.range c.pack_cell-taken.ensures).1 other in
     let is : c.compare_exchange-found.new.seat.me ≡ (saw c.args.row (cell_read c.compare_exchange-found.result) c.args.seat.now.me.0, c.args.seat.now.me.1) = told.0 in
     (λ e. not_cell (Synched c.args.joined) c.compare_exchange-found.result (λ f. let bad : Synched c.args.joined ≡ Fresh = f in cc) other (sym c.cell_in.ensures ∙ e), ap (λ z. z.0) is ∙ (search rules), subst (Agrees c.args.seat.now.me.0 c.args.row) (sym c.cell_in.ensures) told.1)
