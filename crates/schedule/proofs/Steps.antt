@@ -5,10 +5,10 @@ use Rattle.words.specs.Words.{IsRowInRange}
 use Rattle.words.specs.declared.Row.{Row}
 use Rattle.words.specs.declared.Seat.{Seat}
 use Rattle.words.specs.declared.Step.{Step}
-use Rattle.words.specs.declared.Step.TheVariants.{Draft, Open, Look, Read, Claim, Yield, Join, Seal}
+use Rattle.words.specs.declared.Step.TheVariants.{Draft, Open, Look, Read, Claim, Yield, Join, Seal, Grant, Take}
 use Rattle.schedule.specs.declared.Size.{Size}
 use Rattle.schedule.specs.Schedule.{row_text, step_text, step_line, world_line, IsStep, IsSeatStep, IsSize}
-use Rattle.schedule.specs.Reading.{◌>>=◌, number_at, count_at, draft_at, read_at, join_at, alone_at, begins, after_word, step_at, step_line_at, world_line_at}
+use Rattle.schedule.specs.Reading.{◌>>=◌, number_at, count_at, draft_at, read_at, join_at, grant_at, alone_at, begins, after_word, row_step_at, step_at, step_line_at, world_line_at}
 use Rattle.schedule.proofs.Numbers.{bind_some, chosen_some}
 use Rattle.schedule.proofs.Forms.{Reads, both, made, ended, numbers, counts, rows, placed, word_takes}
 
@@ -31,6 +31,10 @@ joins : Reads {X = ((ℕ × ℕ) × ℕ) × ((ℕ × ℕ) × ℕ)} (λ p. Join (
     (λ p. (((p.0.0.0 ≤ 63) × (p.0.0.1 ≤ 1023)) × (p.0.1 ≤ 7)) × (((p.1.0.0 ≤ 63) × (p.1.0.1 ≤ 1023)) × (p.1.1 ≤ 7)))
 unfolding join_at
 joins = both (λ mine other. Join mine.0 mine.1 other.0 other.1) (placed 7 32 (omega arith) refl) (placed 7 10 (omega arith) refl)
+
+grants : Reads {X = (ℕ × ℕ) × ℕ} (λ p. Grant (record { thread = p.0.0; sync = p.0.1 }) p.1) grant_at (λ p. (ended 46 p.0.0 ++ ended 32 p.0.1) ++ ended 10 p.1) (λ p. ((p.0.0 ≤ 63) × (p.0.1 ≤ 1023)) × (p.1 ≤ 7))
+unfolding grant_at
+grants = made (λ at. Grant at.0 at.1) (placed 7 10 (omega arith) refl)
 
 -- ---- a step
 
@@ -81,29 +85,45 @@ read_join bytes s rest word_is e =
     let other : IsRowInRange (record { thread = x.1.0.0; sync = x.1.0.1 }) = record { thread = omega (arith, t.fits.1.0.0); sync = omega (arith, t.fits.1.0.1) } in
     subst (λ (y : Step). IsRead bytes y rest) is_s (record { parts = whole; fits = (mine, t.fits.0.1, other, t.fits.1.1) })
 
+read_grant : (bytes : List ℕ) (s : Step) (rest : List ℕ) → begins bytes (codes "grant ") ≡ true → grant_at (drop 6 bytes) ≡ Some (s, rest) → IsRead bytes s rest
+read_grant bytes s rest word_is e =
+    let t = grants.takes (drop 6 bytes) s rest e in
+    let x = t.from in
+    let made : Step = Grant (record { thread = x.0.0; sync = x.0.1 }) x.1 in
+    let is_s : made ≡ s = sym t.value in
+    let whole : bytes ≡ step_text made ++ 10 ∷ rest =
+    word_takes (codes "grant ") bytes word_is ∙ ap (λ (y : List ℕ). codes "grant " ++ y) t.parts ∙ simp append_assoc in
+    subst (λ (y : Step). IsRead bytes y rest) is_s (record { parts = whole; fits = (record { thread = omega (arith, t.fits.0.0); sync = omega (arith, t.fits.0.1) }, t.fits.1) })
+
 -- the first test of a chain
 otherwise : {A : Type 0} (b : Bool) (x y z : A) (P : Type 0) → cond b x y ≡ z → (b ≡ true → x ≡ z → P) → (y ≡ z → P) → P
 otherwise true x y z P e found other = found refl e
 otherwise false x y z P e found other = other e
 
+row_step_takes : (bytes : List ℕ) (s : Step) (rest : List ℕ) → row_step_at bytes ≡ Some (s, rest) → IsRead bytes s rest
+unfolding row_step_at
+row_step_takes bytes s rest e =
+    otherwise _ _ _ _ _ e (read_alone (λ r. Open r) (codes "open ") bytes s rest (λ r. refl) (λ r h. h)) (λ e.
+    otherwise _ _ _ _ _ e (read_alone (λ r. Look r) (codes "look ") bytes s rest (λ r. refl) (λ r h. h)) (λ e.
+    otherwise _ _ _ _ _ e (read_alone (λ r. Claim r) (codes "claim ") bytes s rest (λ r. refl) (λ r h. h)) (λ e.
+    otherwise _ _ _ _ _ e (read_alone (λ r. Yield r) (codes "yield ") bytes s rest (λ r. refl) (λ r h. h)) (λ e.
+    otherwise _ _ _ _ _ e (read_alone (λ r. Seal r) (codes "seal ") bytes s rest (λ r. refl) (λ r h. h)) (λ e.
+    otherwise _ _ _ _ _ e (read_alone (λ r. Take r) (codes "take ") bytes s rest (λ r. refl) (λ r h. h)) (λ e. absurd cc))))))
+
 pub step_takes : (bytes : List ℕ) (s : Step) (rest : List ℕ) → step_at bytes ≡ Some (s, rest) → IsRead bytes s rest
 unfolding step_at
 step_takes bytes s rest e =
     otherwise _ _ _ _ _ e (read_draft bytes s rest) (λ e.
-    otherwise _ _ _ _ _ e (read_alone (λ r. Open r) (codes "open ") bytes s rest (λ r. refl) (λ r h. h)) (λ e.
-    otherwise _ _ _ _ _ e (read_alone (λ r. Look r) (codes "look ") bytes s rest (λ r. refl) (λ r h. h)) (λ e.
     otherwise _ _ _ _ _ e (read_read bytes s rest) (λ e.
-    otherwise _ _ _ _ _ e (read_alone (λ r. Claim r) (codes "claim ") bytes s rest (λ r. refl) (λ r h. h)) (λ e.
-    otherwise _ _ _ _ _ e (read_alone (λ r. Yield r) (codes "yield ") bytes s rest (λ r. refl) (λ r h. h)) (λ e.
     otherwise _ _ _ _ _ e (read_join bytes s rest) (λ e.
-    otherwise _ _ _ _ _ e (read_alone (λ r. Seal r) (codes "seal ") bytes s rest (λ r. refl) (λ r h. h)) (λ e. absurd cc))))))))
+    otherwise _ _ _ _ _ e (read_grant bytes s rest) (row_step_takes bytes s rest))))
 
 again_alone : (step : Row → Step) (r : Row) (rest : List ℕ) → IsRowInRange r → alone_at step (row_text r ++ 10 ∷ rest) ≡ Some (step r, rest)
 again_alone step r rest fits =
     ap (alone_at step) (simp append_assoc) ∙ (alones step).again (r.thread, r.sync) rest (omega (arith, fits.thread), omega (arith, fits.sync))
 
 pub step_again : (s : Step) (rest : List ℕ) → IsStep s → step_at (step_text s ++ 10 ∷ rest) ≡ Some (s, rest)
-unfolding step_at
+unfolding step_at row_step_at
 step_again (Draft r place value) rest fits =
     ap draft_at (simp append_assoc) ∙ drafts.again (((r.thread, r.sync), place), value) rest (((omega (arith, fits.0.thread), omega (arith, fits.0.sync)), fits.1), omega (arith, fits.2))
 step_again (Open r) rest fits = again_alone (λ r. Open r) r rest fits
@@ -116,6 +136,9 @@ step_again (Join mine own other partner) rest fits =
     ap join_at (simp append_assoc) ∙ joins.again (((mine.thread, mine.sync), own), ((other.thread, other.sync), partner)) rest
     (((omega (arith, fits.0.thread), omega (arith, fits.0.sync)), fits.1), ((omega (arith, fits.2.thread), omega (arith, fits.2.sync)), fits.3))
 step_again (Seal r) rest fits = again_alone (λ r. Seal r) r rest fits
+step_again (Grant r offer) rest fits =
+    ap grant_at (simp append_assoc) ∙ grants.again ((r.thread, r.sync), offer) rest ((omega (arith, fits.0.thread), omega (arith, fits.0.sync)), fits.1)
+step_again (Take r) rest fits = again_alone (λ r. Take r) r rest fits
 
 -- ---- lines
 

@@ -4,7 +4,7 @@ use Rattle.std.specs.Cmp.Lexicographic.{pointwise}
 use Rattle.words.specs.declared.Row.{Row}
 use Rattle.words.specs.declared.Seat.{Seat}
 use Rattle.words.specs.declared.Step.{Step}
-use Rattle.words.specs.declared.Step.TheVariants.{Draft, Open, Look, Read, Claim, Yield, Join, Seal}
+use Rattle.words.specs.declared.Step.TheVariants.{Draft, Open, Look, Read, Claim, Yield, Join, Seal, Grant, Take}
 use Rattle.schedule.specs.declared.Size.{Size}
 
 infixl 10 ◌>>=◌
@@ -79,6 +79,11 @@ join_at bytes = do
   other ← placed_at 7 10 mine.1
   Some (Join mine.0.0 mine.0.1 other.0.0 other.0.1, other.1)
 
+unfoldable pub grant_at : List ℕ → Option (Step × List ℕ)
+grant_at bytes = do
+  at ← placed_at 7 10 bytes
+  Some (Grant at.0.0 at.0.1, at.1)
+
 -- a step that is done to a row alone
 abbrev pub alone_at : (Row → Step) → List ℕ → Option (Step × List ℕ)
 alone_at step bytes = do
@@ -93,24 +98,31 @@ begins bytes word = pointwise nat_eq (take (length word) bytes) word
 abbrev pub after_word : List ℕ → List ℕ → Option (List ℕ)
 after_word word bytes = if begins bytes word then Some (drop (length word) bytes) else None
 
+-- the word of a step that is done to a row alone, and the row
+unfoldable pub row_step_at : List ℕ → Option (Step × List ℕ)
+row_step_at bytes =
+    if begins bytes (codes "open ")
+    then alone_at (λ row. Open row) (drop 5 bytes)
+    else (if begins bytes (codes "look ")
+    then alone_at (λ row. Look row) (drop 5 bytes)
+    else (if begins bytes (codes "claim ")
+    then alone_at (λ row. Claim row) (drop 6 bytes)
+    else (if begins bytes (codes "yield ")
+    then alone_at (λ row. Yield row) (drop 6 bytes)
+    else (if begins bytes (codes "seal ")
+    then alone_at (λ row. Seal row) (drop 5 bytes)
+    else (if begins bytes (codes "take ") then alone_at (λ row. Take row) (drop 5 bytes) else None)))))
+
 -- the step's word, and what it is done to
 unfoldable pub step_at : List ℕ → Option (Step × List ℕ)
 step_at bytes =
     if begins bytes (codes "draft ")
     then draft_at (drop 6 bytes)
-    else (if begins bytes (codes "open ")
-    then alone_at (λ row. Open row) (drop 5 bytes)
-    else (if begins bytes (codes "look ")
-    then alone_at (λ row. Look row) (drop 5 bytes)
     else (if begins bytes (codes "read ")
     then read_at (drop 5 bytes)
-    else (if begins bytes (codes "claim ")
-    then alone_at (λ row. Claim row) (drop 6 bytes)
-    else (if begins bytes (codes "yield ")
-    then alone_at (λ row. Yield row) (drop 6 bytes)
     else (if begins bytes (codes "join ")
     then join_at (drop 5 bytes)
-    else (if begins bytes (codes "seal ") then alone_at (λ row. Seal row) (drop 5 bytes) else None)))))))
+    else (if begins bytes (codes "grant ") then grant_at (drop 6 bytes) else row_step_at bytes)))
 
 -- LINES
 

@@ -6,7 +6,7 @@ use Rattle.words.specs.Words.{IsRowInRange}
 use Rattle.words.specs.declared.Row.{Row}
 use Rattle.words.specs.declared.Seat.{Seat}
 use Rattle.words.specs.declared.Step.{Step}
-use Rattle.words.specs.declared.Step.TheVariants.{Draft, Open, Look, Read, Claim, Yield, Join, Seal}
+use Rattle.words.specs.declared.Step.TheVariants.{Draft, Open, Look, Read, Claim, Yield, Join, Seal, Grant, Take}
 use Rattle.schedule.specs.declared.Size.{Size}
 
 -- what a schedule says: the size of the world, and the steps in order, each with the seat that makes it
@@ -28,6 +28,8 @@ step_text (Yield row) = codes "yield " ++ row_text row
 step_text (Join mine own other partner) =
     codes "join " ++ row_text mine ++ codes " " ++ decimal own ++ codes " " ++ row_text other ++ codes " " ++ decimal partner
 step_text (Seal row) = codes "seal " ++ row_text row
+step_text (Grant row offer) = codes "grant " ++ row_text row ++ codes " " ++ decimal offer
+step_text (Take row) = codes "take " ++ row_text row
 
 -- the seat, a space, the step, and the line's end
 abbrev pub step_line : Seat × Step → List ℕ
@@ -50,6 +52,8 @@ IsStep (Claim row) = IsRowInRange row
 IsStep (Yield row) = IsRowInRange row
 IsStep (Join mine own other partner) = IsRowInRange mine × (own ≤ 7) × IsRowInRange other × (partner ≤ 7)
 IsStep (Seal row) = IsRowInRange row
+IsStep (Grant row offer) = IsRowInRange row × (offer ≤ 7)
+IsStep (Take row) = IsRowInRange row
 
 pub record IsSeatStep (s : Seat × Step) : Type 0 where
   pub seat : s.0.0 ≤ 15

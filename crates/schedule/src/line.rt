@@ -1,7 +1,7 @@
 //! The lines of a schedule's text, each read from the front of the bytes.
 
 ghost use Rattle.std.specs.Prelude.{◌≤◌, IfSome};
-ghost use Rattle.schedule.specs.Reading.{Gives, number_at, count_at, row_at, placed_at, draft_at, read_at, join_at, step_at, step_line_at, world_line_at};
+ghost use Rattle.schedule.specs.Reading.{Gives, number_at, count_at, row_at, placed_at, draft_at, read_at, join_at, grant_at, row_step_at, step_at, step_line_at, world_line_at};
 
 use crate::Size;
 use crate::number::number;
@@ -83,13 +83,19 @@ fn join(bytes: &[u8]) -> Option<(Step, &[u8])>
     Some((step, rest))
 }
 
-#[tactic(auto, unfolding(crate::specs::Reading::step_at))]
-fn step(bytes: &[u8]) -> Option<(Step, &[u8])>
-    ensures { Gives (λ x. (x.0, x.1.now)) result (step_at bytes.now) }
+#[tactic(auto, unfolding(crate::specs::Reading::grant_at))]
+fn grant(bytes: &[u8]) -> Option<(Step, &[u8])>
+    ensures { Gives (λ x. (x.0, x.1.now)) result (grant_at bytes.now) }
 {
-    if let Some(rest) = bytes.strip_prefix(b"draft ") {
-        return draft(rest);
-    }
+    let ((row, offer), rest) = placed(bytes, 7, LINE_END)?;
+    Some((Step::Grant { row, offer }, rest))
+}
+
+/// A step that is done to a row alone.
+#[tactic(auto, unfolding(crate::specs::Reading::row_step_at))]
+fn row_step(bytes: &[u8]) -> Option<(Step, &[u8])>
+    ensures { Gives (λ x. (x.0, x.1.now)) result (row_step_at bytes.now) }
+{
     if let Some(rest) = bytes.strip_prefix(b"open ") {
         let (row, rest) = row_of(rest, LINE_END)?;
         return Some((Step::Open { row }, rest));
@@ -97,9 +103,6 @@ fn step(bytes: &[u8]) -> Option<(Step, &[u8])>
     if let Some(rest) = bytes.strip_prefix(b"look ") {
         let (row, rest) = row_of(rest, LINE_END)?;
         return Some((Step::Look { row }, rest));
-    }
-    if let Some(rest) = bytes.strip_prefix(b"read ") {
-        return read(rest);
     }
     if let Some(rest) = bytes.strip_prefix(b"claim ") {
         let (row, rest) = row_of(rest, LINE_END)?;
@@ -109,14 +112,34 @@ fn step(bytes: &[u8]) -> Option<(Step, &[u8])>
         let (row, rest) = row_of(rest, LINE_END)?;
         return Some((Step::Yield { row }, rest));
     }
-    if let Some(rest) = bytes.strip_prefix(b"join ") {
-        return join(rest);
-    }
     if let Some(rest) = bytes.strip_prefix(b"seal ") {
         let (row, rest) = row_of(rest, LINE_END)?;
         return Some((Step::Seal { row }, rest));
     }
+    if let Some(rest) = bytes.strip_prefix(b"take ") {
+        let (row, rest) = row_of(rest, LINE_END)?;
+        return Some((Step::Take { row }, rest));
+    }
     None
+}
+
+#[tactic(auto, unfolding(crate::specs::Reading::step_at))]
+fn step(bytes: &[u8]) -> Option<(Step, &[u8])>
+    ensures { Gives (λ x. (x.0, x.1.now)) result (step_at bytes.now) }
+{
+    if let Some(rest) = bytes.strip_prefix(b"draft ") {
+        return draft(rest);
+    }
+    if let Some(rest) = bytes.strip_prefix(b"read ") {
+        return read(rest);
+    }
+    if let Some(rest) = bytes.strip_prefix(b"join ") {
+        return join(rest);
+    }
+    if let Some(rest) = bytes.strip_prefix(b"grant ") {
+        return grant(rest);
+    }
+    row_step(bytes)
 }
 
 /// The line of a step, and the bytes behind it.

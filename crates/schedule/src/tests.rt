@@ -25,6 +25,8 @@ fn reads_every_kind_of_step(rt: HostRuntime) -> Result<(), Fail> {
 5 yield 5.0
 6 join 6.1 7 60.1000 0
 7 seal 7.2
+8 grant 8.9 7
+9 take 9.1022
 ";
     let schedule = read_schedule(rt.alloc(), text.as_slice())?;
     let size = Size {
@@ -72,6 +74,14 @@ fn reads_every_kind_of_step(rt: HostRuntime) -> Result<(), Fail> {
             },
         ),
         (Seat(7), Step::Seal { row: row(7, 2) }),
+        (
+            Seat(8),
+            Step::Grant {
+                row: row(8, 9),
+                offer: 7,
+            },
+        ),
+        (Seat(9), Step::Take { row: row(9, 1022) }),
     ];
     assert_eq!(rt; schedule.steps.as_slice(), expected.as_slice());
     Ok(())
@@ -118,6 +128,9 @@ fn tells_a_bad_step(rt: HostRuntime) -> Result<(), AllocError> {
         "0 read 0.0 34\n",
         "0 join 0.0 8 1.0 0\n",
         "0 join 0.0 0 1.0 8\n",
+        "0 grant 0.0 8\n",
+        "0 grant 0.0\n",
+        "0 take 0.0 0\n",
         "world 1 1 1\n",
     ];
     for line in lines {
