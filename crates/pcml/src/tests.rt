@@ -194,6 +194,42 @@ fn plays_crossed_claims(rt: HostRuntime) -> Result<(), Fail> {
     Ok(())
 }
 
+/// An always is granted, its row is taken, and so is the row behind it opened and granted.
+#[test]
+fn plays_grants_and_takes(rt: HostRuntime) -> Result<(), Fault> {
+    let words = ["play", "file"];
+    prints(
+        &rt,
+        &words,
+        b"world 1 2 1
+0 draft 0.0 1 1
+0 draft 0.0 2 8388611
+0 draft 0.0 3 168
+0 open 0.0
+0 grant 0.0 0
+0 take 0.0
+0 draft 0.1 1 1
+0 draft 0.1 2 3
+0 open 0.1
+0 grant 0.1 0
+",
+        b"1 0.0.0 always (42)\n2 0.1.0 always ()\ncommits 2 pending 0\n",
+    )?;
+    faults(
+        &rt,
+        &words,
+        b"world 1 2 1\n0 open 0.0\n0 grant 0.0 0\n",
+        b"fault 2 step 2\n",
+    )?;
+    faults(
+        &rt,
+        &words,
+        b"world 1 2 1\n0 open 0.0\n0 take 0.0\n",
+        b"fault 2 step 2\n",
+    )?;
+    Ok(())
+}
+
 #[test]
 fn plays_a_world_alone(rt: HostRuntime) -> Result<(), Fault> {
     prints(
