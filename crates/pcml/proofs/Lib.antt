@@ -1,8 +1,3 @@
-pub mod Numbers
-pub mod Forms
-pub mod Steps
-pub mod Plans
-pub mod PlanLaws
 pub mod Passes
 pub mod Parts
 pub mod MeetingLedger

@@ -19,7 +19,7 @@ use Rattle.std.specs.List.{All}
 use Rattle.std.proofs.lemmas.List.Elements.{All-cons, All-nil}
 use Rattle.std.proofs.lemmas.List.Sorted.{length_permutation, All-permutation}
 use Rattle.protocol.specs.Tables.{all_rows}
-use Rattle.pcml.specs.NumberedText.{commits_text}
+use Rattle.numbered.specs.NumberedText.{commits_text}
 use Rattle.protocol.proofs.RowLemmas.{same_row}
 use Rattle.protocol.proofs.Linking.{some_inj}
 use Rattle.pcml.specs.Meet.{first_row, meeting_of, meeting_line, send_of, receive_offer, HasTwoOffers, PrintsMeeting}

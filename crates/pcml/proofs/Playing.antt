@@ -2,9 +2,9 @@
 use Rattle.std.proofs.Common.{ℕ, ◌+◌, sym, ap, subst, ◌∙◌}
 use Rattle.protocol.specs.Worlds.{Plays, IsRefused}
 use Rattle.protocol.proofs.Playing.{played_not_refused, one_refused}
-use Rattle.pcml.specs.Schedule.{Plan}
+use Rattle.schedule.specs.Schedule.{Plan}
 use Rattle.pcml.specs.Play.{IsPlayedOrFaulty, HasOneFirstRefused, start_of}
-use Rattle.pcml.proofs.PlanLaws.{spells_only_one, spells_or_is_bad}
+use Rattle.schedule.proofs.PlanLaws.{spells_only_one, spells_or_is_bad}
 
 pub played_or_faulty : IsPlayedOrFaulty
 played_or_faulty bytes text k h = (

@@ -5,7 +5,7 @@ use Rattle.pcml.specs.declared.request.Request.TheVariants.{Meet, Play}
 use Rattle.pcml.specs.Meet.{PrintsMeeting}
 use Rattle.pcml.specs.declared.fault.Fault.{Fault}
 use Rattle.pcml.specs.declared.fault.Fault.TheVariants as faults
-use Rattle.pcml.specs.Schedule.{IsFirstBadLine}
+use Rattle.schedule.specs.Schedule.{IsFirstBadLine}
 use Rattle.pcml.specs.Play.{IsPlayed, IsFirstRefused}
 
 -- The line of the one pair (or none), or what comes of some file's schedule: no contract says what a file holds.

@@ -4,11 +4,11 @@ use Rattle.std.specs.Fmt.{decimal}
 use Rattle.words.specs.declared.Commit.{Commit}
 use Rattle.protocol.specs.Worlds.{World, Plays, IsRefused, start_world}
 use Rattle.protocol.specs.Ledgers.{Ledger, ledger_of, commits_in, pending_in, IsInOrder}
-use Rattle.pcml.specs.declared.schedule.Size.{Size}
+use Rattle.schedule.specs.declared.Size.{Size}
 use Rattle.pcml.specs.declared.play.PlayFault.{PlayFault}
 use Rattle.pcml.specs.declared.play.PlayFault.TheVariants.{Memory, BadStep, NotAllowed}
-use Rattle.pcml.specs.Schedule.{Plan, Spells, IsFirstBadLine}
-use Rattle.pcml.specs.NumberedText.{commits_text}
+use Rattle.schedule.specs.Schedule.{Plan, Spells, IsFirstBadLine}
+use Rattle.numbered.specs.NumberedText.{commits_text}
 
 -- the last line: how many commits there are, and how many of their pairs are not sealed yet
 abbrev pub counts_line : ℕ → ℕ → List ℕ

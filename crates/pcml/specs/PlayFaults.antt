@@ -1,6 +1,6 @@
 -- The faults of reading as faults of playing, and the faults of playing and of files as faults of the program.
-use Rattle.pcml.specs.declared.schedule.ReadFault.{ReadFault}
-use Rattle.pcml.specs.declared.schedule.ReadFault.TheVariants as reading
+use Rattle.schedule.specs.declared.ReadFault.{ReadFault}
+use Rattle.schedule.specs.declared.ReadFault.TheVariants as reading
 use Rattle.pcml.specs.declared.meet.MeetFault.{MeetFault}
 use Rattle.pcml.specs.declared.meet.MeetFault.TheVariants as meets
 use Rattle.pcml.specs.declared.play.PlayFault.{PlayFault}

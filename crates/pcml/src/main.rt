@@ -3,14 +3,10 @@
 
 mod command;
 mod fault;
-mod line;
 mod meet;
-mod number;
 mod play;
 mod request;
-mod schedule;
 mod source;
-mod text;
 
 use fault::Fault;
 use source::{Source, SourceFault};

@@ -7,8 +7,8 @@ ghost use Rattle.cell.specs.Calls.{IsPassOf, IsRowOf};
 ghost use Rattle.cell.specs.Sight.{Has};
 ghost use Rattle.pcml.specs.Meet.{first_row, send_of, receive_offer, HasTakenPart, HasTwoOffers, IsReady, PrintsMeeting};
 
-use crate::text::write_numbered;
 use cell::{Cells, NoGate, Pass};
+use numbered::write_numbered;
 use protocol::Ledger;
 use std::alloc::{AllocError, Global};
 use std::snapshot::Snapshot;

@@ -2,14 +2,14 @@
 
 ghost use Rattle.std.specs.Prelude.{◌≡◌, IfOk, IfErr};
 ghost use Rattle.std.specs.String.{string_bytes};
-ghost use Rattle.pcml.specs.Schedule.{IsSize};
+ghost use Rattle.schedule.specs.Schedule.{IsSize};
 ghost use Rattle.pcml.specs.Play.{start_of, counts_line, Reports, IsPlayed, ExplainsPlay, IsPlayedOrFaulty, HasOneFirstRefused};
 ghost use Rattle.pcml.specs.PlayFaults.{comes_from};
 ghost use Rattle.pcml.specs.declared.play.PlayFault.TheVariants.{Memory};
 
-use crate::schedule::{ReadFault, Size, read_schedule};
-use crate::text::write_numbered;
+use numbered::write_numbered;
 use protocol::{Ledger, ProtoFault, World, play};
+use schedule::{ReadFault, Size, read_schedule};
 use std::alloc::{AllocError, Global};
 use thiserror::Error;
 

@@ -13,24 +13,32 @@ pub enum Request<'a> {
     Play(&'a str),
 }
 
-fn command_line<'a>(alloc: Global) -> Result<Command<'a>, AllocError> {
+fn meet_command<'a>(alloc: Global) -> Result<Command<'a>, AllocError> {
     let value = Arg::new(alloc, "value")
         .required(true)
         .action(ArgAction::Set)
         .value_name("V")
         .value_parser(value_parser!(u32))
         .help("The number that is sent");
+    Command::new(alloc, "meet")
+        .about("Sends one number from a thread to another")
+        .arg(value)
+}
+
+fn play_command<'a>(alloc: Global) -> Result<Command<'a>, AllocError> {
     let file = Arg::new(alloc, "file")
         .required(true)
         .action(ArgAction::Set)
         .value_name("FILE")
         .help("The schedule");
-    let meet = Command::new(alloc, "meet")
-        .about("Sends one number from a thread to another")
-        .arg(value)?;
-    let play = Command::new(alloc, "play")
+    Command::new(alloc, "play")
         .about("Plays the steps of a schedule")
-        .arg(file)?;
+        .arg(file)
+}
+
+fn command_line<'a>(alloc: Global) -> Result<Command<'a>, AllocError> {
+    let meet = meet_command(alloc)?;
+    let play = play_command(alloc)?;
     Command::new(alloc, "pcml")
         .bin_name("pcml")?
         .about("First-class events and selective rendezvous")

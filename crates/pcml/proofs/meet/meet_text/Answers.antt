@@ -1,6 +1,6 @@
 use Rattle.std.proofs.Common.{ap, ◌∙◌}
 use Rattle.pcml.specs.Meet.{send_of}
-use Rattle.pcml.specs.NumberedText.{commits_text}
+use Rattle.numbered.specs.NumberedText.{commits_text}
 use Rattle.pcml.proofs.MeetingLedger.{prints_meeting}
 use Rattle.pcml.proofs.meet.meet_text.Goals as goal
 

@@ -1,0 +1,5 @@
+pub mod Numbers
+pub mod Forms
+pub mod Steps
+pub mod Plans
+pub mod PlanLaws

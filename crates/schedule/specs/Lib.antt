@@ -1,0 +1,3 @@
+pub mod Schedule
+pub mod Reading
+pub mod ReadFaults

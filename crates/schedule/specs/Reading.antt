@@ -1,0 +1,141 @@
+-- Reading from left to right: what stands at the front of the bytes, and the bytes after it.
+use Rattle.std.specs.Prelude.{◌≡◌, ℕ, ◌+◌, ◌-◌, ◌*◌, List, [], ◌∷◌, take, drop, length, codes, Bool, Option, Some, None, option_and_then, nat_lt, nat_le, nat_eq, ◌==◌, ◌&&◌, if◌then◌else◌}
+use Rattle.std.specs.Cmp.Lexicographic.{pointwise}
+use Rattle.words.specs.declared.Row.{Row}
+use Rattle.words.specs.declared.Seat.{Seat}
+use Rattle.words.specs.declared.Step.{Step}
+use Rattle.words.specs.declared.Step.TheVariants.{Draft, Open, Look, Read, Claim, Yield, Join, Seal, Grant, Take}
+use Rattle.schedule.specs.declared.Size.{Size}
+
+infixl 10 ◌>>=◌
+abbrev pub ◌>>=◌ : {A B : Type 0} → Option A → (A → Option B) → Option B
+o >>= f = option_and_then f o
+
+-- What a function returned, seen by view, is what reading gives.
+abbrev pub Gives : {X Y : Type 0} → (X → Y) → Option X → Option Y → Type 0
+Gives view None read = read ≡ None
+Gives view (Some x) read = read ≡ Some (view x)
+
+-- NUMBERS
+
+-- what a byte says as a digit
+abbrev pub digit_of : ℕ → Option ℕ
+digit_of b = if nat_le 48 b && nat_le b 57 then Some (b - 48) else None
+
+-- The number n with one more digit behind it. Behind a 0 there is none.
+abbrev pub with_digit : ℕ → ℕ → ℕ → Option ℕ
+with_digit limit n b = do
+  d ← digit_of b
+  if nat_lt 0 n && nat_le (n * 10 + d) limit then Some (n * 10 + d) else None
+
+-- the digits that go on from the number n, up to the byte that ends it
+unfoldable pub digits_at : ℕ → ℕ → ℕ → List ℕ → Option (ℕ × List ℕ)
+digits_at limit end n [] = None
+digits_at limit end n (b ∷ bytes) =
+    if b == end then Some (n, bytes) else (with_digit limit n b >>= λ m. digits_at limit end m bytes)
+
+-- a number of at most the limit, and the byte that ends it
+unfoldable pub number_at : ℕ → ℕ → List ℕ → Option (ℕ × List ℕ)
+number_at limit end [] = None
+number_at limit end (b ∷ bytes) = do
+  d ← digit_of b
+  if nat_le d limit then digits_at limit end d bytes else None
+
+-- a count from 1 on
+unfoldable pub count_at : ℕ → ℕ → List ℕ → Option (ℕ × List ℕ)
+count_at limit end bytes = do
+  n ← number_at limit end bytes
+  if n.0 == 0 then None else Some n
+
+-- STEPS
+
+unfoldable pub row_at : ℕ → List ℕ → Option (Row × List ℕ)
+row_at end bytes = do
+  thread ← number_at 63 46 bytes
+  sync ← number_at 1023 end thread.1
+  Some (record { thread = thread.0; sync = sync.0 }, sync.1)
+
+-- a row, a space, and a number
+unfoldable pub placed_at : ℕ → ℕ → List ℕ → Option ((Row × ℕ) × List ℕ)
+placed_at limit end bytes = do
+  row ← row_at 32 bytes
+  place ← number_at limit end row.1
+  Some ((row.0, place.0), place.1)
+
+unfoldable pub draft_at : List ℕ → Option (Step × List ℕ)
+draft_at bytes = do
+  to ← placed_at 33 32 bytes
+  value ← number_at 18446744073709551615 10 to.1
+  Some (Draft to.0.0 to.0.1 value.0, value.1)
+
+unfoldable pub read_at : List ℕ → Option (Step × List ℕ)
+read_at bytes = do
+  from ← placed_at 33 10 bytes
+  Some (Read from.0.0 from.0.1, from.1)
+
+unfoldable pub join_at : List ℕ → Option (Step × List ℕ)
+join_at bytes = do
+  mine ← placed_at 7 32 bytes
+  other ← placed_at 7 10 mine.1
+  Some (Join mine.0.0 mine.0.1 other.0.0 other.0.1, other.1)
+
+unfoldable pub grant_at : List ℕ → Option (Step × List ℕ)
+grant_at bytes = do
+  at ← placed_at 7 10 bytes
+  Some (Grant at.0.0 at.0.1, at.1)
+
+-- a step that is done to a row alone
+abbrev pub alone_at : (Row → Step) → List ℕ → Option (Step × List ℕ)
+alone_at step bytes = do
+  row ← row_at 10 bytes
+  Some (step row.0, row.1)
+
+-- the word stands at the front
+abbrev pub begins : List ℕ → List ℕ → Bool
+begins bytes word = pointwise nat_eq (take (length word) bytes) word
+
+-- what stands behind the word, where it begins the bytes
+abbrev pub after_word : List ℕ → List ℕ → Option (List ℕ)
+after_word word bytes = if begins bytes word then Some (drop (length word) bytes) else None
+
+-- the word of a step that is done to a row alone, and the row
+unfoldable pub row_step_at : List ℕ → Option (Step × List ℕ)
+row_step_at bytes =
+    if begins bytes (codes "open ")
+    then alone_at (λ row. Open row) (drop 5 bytes)
+    else (if begins bytes (codes "look ")
+    then alone_at (λ row. Look row) (drop 5 bytes)
+    else (if begins bytes (codes "claim ")
+    then alone_at (λ row. Claim row) (drop 6 bytes)
+    else (if begins bytes (codes "yield ")
+    then alone_at (λ row. Yield row) (drop 6 bytes)
+    else (if begins bytes (codes "seal ")
+    then alone_at (λ row. Seal row) (drop 5 bytes)
+    else (if begins bytes (codes "take ") then alone_at (λ row. Take row) (drop 5 bytes) else None)))))
+
+-- the step's word, and what it is done to
+unfoldable pub step_at : List ℕ → Option (Step × List ℕ)
+step_at bytes =
+    if begins bytes (codes "draft ")
+    then draft_at (drop 6 bytes)
+    else (if begins bytes (codes "read ")
+    then read_at (drop 5 bytes)
+    else (if begins bytes (codes "join ")
+    then join_at (drop 5 bytes)
+    else (if begins bytes (codes "grant ") then grant_at (drop 6 bytes) else row_step_at bytes)))
+
+-- LINES
+
+unfoldable pub step_line_at : List ℕ → Option ((Seat × Step) × List ℕ)
+step_line_at bytes = do
+  seat ← number_at 15 32 bytes
+  step ← step_at seat.1
+  Some ((record { 0 = seat.0 }, step.0), step.1)
+
+unfoldable pub world_line_at : List ℕ → Option (Size × List ℕ)
+world_line_at bytes = do
+  rest ← after_word (codes "world ") bytes
+  threads ← count_at 64 32 rest
+  rows ← count_at 1024 32 threads.1
+  seats ← count_at 16 10 rows.1
+  Some (record { threads = threads.0; rows = rows.0; seats = seats.0 }, seats.1)

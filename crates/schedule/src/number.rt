@@ -1,0 +1,48 @@
+//! Numbers in a schedule's text: decimal digits without leading zeros, and a byte that ends them.
+
+ghost use Rattle.std.specs.Prelude.{◌≡◌, ◌≤◌, ◌<◌, ◌⊎◌, IfSome, OnSome};
+ghost use Rattle.schedule.specs.Reading.{Gives, digit_of, with_digit, number_at};
+
+/// What a byte says as a decimal digit.
+fn digit(byte: u8) -> Option<u64>
+    ensures { result ≡ digit_of byte }
+{
+    match byte {
+        b'0'..=b'9' => Some(u64::from(byte - b'0')),
+        _ => None,
+    }
+}
+
+/// The value with one more digit behind it, where that is at most the limit. Behind a 0 there is none.
+fn with_more(limit: u64, value: u64, byte: u8) -> Option<u64>
+    ensures { result ≡ with_digit limit value byte }
+{
+    let digit = digit(byte)?;
+    if value == 0 {
+        return None;
+    }
+    let more = value.checked_mul(10)?.checked_add(digit)?;
+    if more <= limit { Some(more) } else { None }
+}
+
+/// The number at the front of the bytes, if it is at most the limit, and the bytes behind the one that ends it.
+#[tactic(auto, unfolding(crate::specs::Reading::number_at, crate::specs::Reading::digits_at))]
+pub fn number(bytes: &[u8], limit: u64, end: u8) -> Option<(u64, &[u8])>
+    ensures value { Gives (λ x. (x.0, x.1.now)) result (number_at limit end bytes.now) }
+    ensures within { IfSome result (λ x. x.0 ≤ limit) }
+{
+    let [first, after @ ..] = bytes else {
+        return None;
+    };
+    let mut value = digit(*first)?;
+    if value > limit {
+        return None;
+    }
+    for (i, byte) in after.iter().enumerate() {
+        if *byte == end {
+            return Some((value, &after[i + 1..]));
+        }
+        value = with_more(limit, value, *byte)?;
+    }
+    None
+}
