@@ -13,13 +13,16 @@ kept promise side cells row offer pass same is h =
     subst (λ (z : Grid × Row × Offer). HasTakenPart z.0 pass z.1 z.2)
     (λ i. ((ap (λ (s : TookPart). s.cells.value) same ∙ is.0) i, (ap (λ (s : TookPart). s.row) same ∙ is.1) i, (ap (λ (s : TookPart). s.offer) same ∙ is.2) i)) h
 
--- src/meet.rt:105:17
+pub spawn_with-sending-requires-clause-keeps : goal.spawn_with-sending-requires-clause-keeps
+spawn_with-sending-requires-clause-keeps g c κs r h =
+    let is = c.requires.sends in
+    subst (λ (z : Grid × Row × Offer). HasTakenPart z.0 r z.1 z.2) (λ i. (sym is.0 i, sym is.1 i, sym is.2 i)) h
+
 pub spawn_with-receiving-requires-clause-keeps : goal.spawn_with-receiving-requires-clause-keeps
 spawn_with-receiving-requires-clause-keeps g c κs r h =
     let is = c.requires.receives in
     subst (λ (z : Grid × Row × Offer). HasTakenPart z.0 r z.1 z.2) (λ i. (sym is.0 i, sym is.1 i, sym is.2 i)) h
 
--- src/meet.rt:88:9
 pub returns : goal.returns
 returns g c = (
   kept c.in-Ok.sending.promise c.captures.sends c.captures.cells.now (first_row 0) c.captures.send c.join.result (search rules) c.requires.sends c.join.ensures,
