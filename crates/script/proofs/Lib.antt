@@ -1,0 +1,4 @@
+pub mod Blocking
+pub mod Declaring
+pub mod Telling
+pub mod Keeping
