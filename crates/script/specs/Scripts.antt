@@ -1,42 +1,47 @@
 -- Reading from left to right: declarations, processes, and whole texts.
-use Rattle.std.specs.Prelude.{◌≡◌, ℕ, ◌-◌, List, [], ◌∷◌, ◌++◌, map, length, ◌||◌, Option, Some, None, Result, Ok, Err, is_some, nat_lt, nat_le, ◌==◌, slice_index, if◌then◌else◌}
+use Rattle.std.specs.Prelude.{◌≡◌, ℕ, ◌≤◌, ◌-◌, List, [], ◌∷◌, ◌++◌, map, length, ◌||◌, Option, Some, None, Result, Ok, Err, is_some, nat_lt, nat_le, ◌==◌, slice_index, if◌then◌else◌}
 use Rattle.token.specs.Tokens.{Token}
 use Rattle.token.specs.Lexemes.{placed_tokens, last_line}
 use Rattle.phrase.specs.Places.{place, texts}
 use Rattle.phrase.specs.Steps.{Told, ◌>>=◌, stop_at, if_some, repeated, name_at, next_is, accept_at, expect_at, Here, here, start}
 use Rattle.syntax.specs.Trees.{Block}
-use Rattle.syntax.specs.Processes.{Proc, proc_of, string_texts}
+use Rattle.syntax.specs.Processes.{Proc, proc_of, string_texts, ShareChannels}
 use Rattle.script.specs.Blocks.{block_at}
 use Rattle.script.specs.declared.process.Loops.TheVariants.{Allowed}
 use Rattle.script.specs.declared.script.Script.{Script as SeenScript}
-use Rattle.script.specs.declared.script.Draft.{Draft}
+use Rattle.script.specs.declared.reading.Draft.{Draft}
 use Rattle.phrase.specs.declared.fault.Problem.{Problem}
 use Rattle.phrase.specs.declared.fault.Problem.TheVariants.{Syntax, UnknownName, Twice, TooMany, LoopWithoutSync}
 use Rattle.script.specs.declared.fault.ScriptFault.{ScriptFault}
 use Rattle.script.specs.declared.fault.ScriptFault.TheVariants as faults
 use Rattle.token.specs.declared.kind.Symbol.TheVariants.{Channel, Process, Semicolon}
 
--- the names of the channels and of the processes by their numbers, and the processes
+-- the names of the channels by their numbers, and the processes
 pub record Script : Type 0 where
   pub channels : List (List ℕ)
-  pub names : List (List ℕ)
   pub processes : List Proc
 
-abbrev pub proc_from : Block → Here → Proc
-proc_from body h = record { body = body; variables = h.variables; channels = length h.channels }
+-- what each script has, besides what its processes have
+pub record IsScript (s : Script) : Type 0 where
+  pub channels : length s.channels ≤ 256
+  pub processes : length s.processes ≤ 64
+  pub shared : ShareChannels (length s.channels) s.processes
+
+abbrev pub proc_from : List ℕ → Block → Here → Proc
+proc_from name body h = record { name = name; body = body; variables = h.variables; channels = length h.channels }
 
 abbrev pub script_of : SeenScript → Script
-script_of s = record { channels = string_texts s.channels.items; names = string_texts s.names.items; processes = map proc_of s.processes.items }
+script_of s = record { channels = string_texts s.channels.items; processes = map proc_of s.processes.items }
 
--- a name that is declared, as one of at most so many
-unfoldable pub declare_at : ℕ → List (List ℕ) → List Token → Result (List (List ℕ) × List Token) Told
+-- a name that is declared, as one of at most so many, and the names with it
+unfoldable pub declare_at : ℕ → List (List ℕ) → List Token → Result (List ℕ × List (List ℕ) × List Token) Told
 declare_at limit names ts =
     if_some (name_at ts) (λ text.
     if is_some (place text names)
     then stop_at Twice ts
     else (if nat_le limit (length names) || nat_lt 32 (length text)
     then stop_at TooMany ts
-    else (accept_at 49 ts >>= λ rest. Ok (names ++ text ∷ [], rest))))
+    else (accept_at 49 ts >>= λ rest. Ok (text, names ++ text ∷ [], rest))))
     (stop_at Syntax ts)
 
 -- one more channel
@@ -44,8 +49,8 @@ unfoldable pub channel_next : List (List ℕ) × List Token → Result (List (Li
 channel_next s = do
   rest ← accept_at 49 s.1
   c ← declare_at 256 s.0 rest
-  rest ← expect_at 49 Semicolon c.1
-  Ok (c.0, rest)
+  rest ← expect_at 49 Semicolon c.2
+  Ok (c.1, rest)
 
 abbrev pub channel_step : List (List ℕ) × List Token → Option (Result (List (List ℕ) × List Token) Told)
 channel_step s = if next_is Channel s.1 then Some (channel_next s) else None
@@ -65,8 +70,8 @@ unfoldable pub process_next : Drawn → Result Drawn Told
 process_next s = do
   rest ← expect_at 49 Process s.3
   n ← declare_at 64 s.1 rest
-  b ← block_at 49 Allowed (start s.2.channels) n.1
-  Ok (s.0 ++ proc_from b.0 b.1 ∷ [], n.0, b.1, b.2)
+  b ← block_at 49 Allowed (start s.2.channels) n.2
+  Ok (s.0 ++ proc_from n.0 b.0 b.1 ∷ [], n.1, b.1, b.2)
 
 abbrev pub process_step : Drawn → Option (Result Drawn Told)
 process_step s = if length s.3 == 0 then None else Some (process_next s)
@@ -78,7 +83,7 @@ unfoldable pub script_at : List Token → Result Script Told
 script_at ts = do
   c ← channels_at ts
   p ← processes_at c.0 c.1
-  Ok (record { channels = p.2.channels; names = p.1; processes = p.0 })
+  Ok (record { channels = p.2.channels; processes = p.0 })
 
 -- WHOLE TEXTS
 

@@ -19,10 +19,12 @@
 
 mod fault;
 mod process;
+mod reading;
 mod script;
 
 pub use fault::ScriptFault;
-pub use script::{Script, parse};
+pub use reading::parse;
+pub use script::Script;
 pub use syntax::Proc;
 
 #[cfg(test)]

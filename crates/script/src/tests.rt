@@ -331,8 +331,14 @@ fn parentheses(rt: HostRuntime) {
 fn names_of_numbers(rt: HostRuntime) {
     let text = b"channel c; channel d; process a { x, y <- sync recv d; }";
     if let Ok(script) = parse(rt.alloc(), text) {
-        assert_eq!(rt; script.channel_name(1), Some("d"));
-        assert_eq!(rt; script.process_name(0), Some("a"));
+        if script.channels() == 2 {
+            assert_eq!(rt; script.channel_name(1), "d");
+        }
+        if script.processes().len() == 1 {
+            assert_eq!(rt; script.process_name(0), "a");
+        }
+        assert_eq!(rt; script.channels(), 2);
+        assert_eq!(rt; script.processes().len(), 1);
         assert!(rt;
             matches!(first_stmt(&script), Some(Stmt::Sync(Some(_), event)) if is_recv(event))
         );

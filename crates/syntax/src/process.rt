@@ -7,10 +7,11 @@ ghost use Rattle.syntax.specs.Limits.{BlockIsIn, BlockIsIn-prop, block_depth};
 use crate::tree::Block;
 use std::sync::Arc;
 
-/// A process: its statements, the names of its variables by their numbers, and how many channels
-/// its script declares. Each process keeps the limits, and so does each copy of a part of it.
+/// A process: its name, its statements, the names of its variables by their numbers, and how many
+/// channels its script declares. Each process keeps the limits.
 #[derive(Debug, Drop)]
 pub struct Proc {
+    name: String,
     body: Arc<Block>,
     variables: Vec<String>,
     channels: usize,
@@ -21,19 +22,27 @@ pub struct Proc {
 impl Proc {
     ghost use Rattle.std.specs.Prelude.{slice_get};
     ghost use Rattle.std.specs.Option.{option_map};
+    ghost use Rattle.std.specs.String.{string_bytes};
     ghost use Rattle.syntax.specs.Limits.{KeepsLimits};
     ghost use Rattle.syntax.specs.Processes.{proc_of, IsProc, string_texts};
 
     /// A process whose body keeps the limits.
-    pub fn new(body: Arc<Block>, variables: Vec<String>, channels: usize) -> Proc
+    pub fn new(name: String, body: Arc<Block>, variables: Vec<String>, channels: usize) -> Proc
         requires { KeepsLimits (record { channels = channels; variables = length variables.items }) (block_of body.value) }
-        ensures { proc_of result ≡ record { body = block_of body.value; variables = string_texts variables.items; channels = channels } }
+        ensures { proc_of result ≡ record { name = string_bytes name; body = block_of body.value; variables = string_texts variables.items; channels = channels } }
     {
         Proc {
+            name,
             body,
             variables,
             channels,
         }
+    }
+
+    pub fn name(&self) -> &str
+        ensures { result.now ≡ (proc_of self.now).name }
+    {
+        self.name.as_str()
     }
 
     /// The statements of the process.

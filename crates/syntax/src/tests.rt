@@ -35,8 +35,9 @@ fn processes(rt: HostRuntime) -> Result<(), Fail> {
     let body = Arc::new(alloc, Block::Done)?;
     let mut variables = Vec::new(alloc);
     variables.push(String::from_str(alloc, "x")?)?;
-    let process = Proc::new(body, variables, 2);
+    let process = Proc::new(String::from_str(alloc, "a")?, body, variables, 2);
     crosses_threads(&process);
+    assert_eq!(rt; process.name(), "a");
     assert_eq!(rt; process.channels(), 2);
     assert_eq!(rt; process.variables(), 1);
     assert_eq!(rt; process.variable_name(0), Some("x"));

@@ -2,7 +2,7 @@ use Rattle.std.proofs.Common.{◌≡◌, ◌-◌, length}
 use Rattle.phrase.specs.Places.{texts}
 use Rattle.phrase.specs.Steps.{bare, repeated}
 use Rattle.script.specs.Scripts.{channel_step, channels_at}
-use Rattle.script.proofs.script.channels.Given as goal
+use Rattle.script.proofs.reading.channels.Given as goal
 
 abbrev pub invariant-loop-turn : goal.invariant-loop-turn
 invariant-loop-turn l = record {

@@ -2,7 +2,7 @@ use Rattle.std.proofs.Common.{◌≡◌, ◌-◌, length}
 use Rattle.phrase.specs.Places.{texts}
 use Rattle.phrase.specs.Steps.{bare, repeated}
 use Rattle.script.specs.Scripts.{drawn, process_step, processes_at}
-use Rattle.script.proofs.script.processes.Given as goal
+use Rattle.script.proofs.reading.processes.Given as goal
 
 abbrev pub invariant-loop-turn : goal.invariant-loop-turn
 invariant-loop-turn l = record {

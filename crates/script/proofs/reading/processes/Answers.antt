@@ -5,7 +5,7 @@ use Rattle.syntax.specs.Processes.{Proc, proc_of}
 use Rattle.script.specs.Scripts.{drawn, process_step, processes_at}
 use Rattle.phrase.proofs.Giving.{gives_err, fails_same, fails_bind, repeated_step, repeated_none, repeated_all, goes_on}
 use Rattle.script.proofs.Declaring.{process_step-some, process_step-none}
-use Rattle.script.proofs.script.processes.Goals as goal
+use Rattle.script.proofs.reading.processes.Goals as goal
 
 pub loop-turn-init : goal.loop-turn-init
 unfolding processes_at

@@ -5,7 +5,7 @@ use Rattle.script.specs.Scripts.{script_at, script_of, line_left}
 use Rattle.token.specs.Tokens.{Token}
 use Rattle.token.specs.declared.lexeme.Placed.{Placed}
 use Rattle.script.proofs.Telling.{text_ok, text_err}
-use Rattle.script.proofs.script.parse.Goals as goal
+use Rattle.script.proofs.reading.parse.Goals as goal
 
 pub returns-in-Ok-whole : goal.returns-in-Ok-whole
 returns-in-Ok-whole c =

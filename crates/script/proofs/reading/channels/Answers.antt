@@ -5,7 +5,7 @@ use Rattle.phrase.specs.Steps.{bare, repeated}
 use Rattle.script.specs.Scripts.{channel_step, channels_at}
 use Rattle.phrase.proofs.Giving.{gives_err, fails_same, fails_bind, repeated_step, repeated_none, repeated_all, goes_on}
 use Rattle.script.proofs.Declaring.{channel_step-some, channel_step-none}
-use Rattle.script.proofs.script.channels.Goals as goal
+use Rattle.script.proofs.reading.channels.Goals as goal
 
 pub loop-turn-init : goal.loop-turn-init
 unfolding channels_at
