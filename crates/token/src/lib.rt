@@ -8,3 +8,6 @@ pub mod lexeme;
 
 pub use kind::{Symbol, Token, is_same};
 pub use lexeme::{Placed, Tokens, scan};
+
+#[cfg(test)]
+mod tests;
