@@ -5,4 +5,5 @@ pub mod NumberedText
 pub mod Meet
 pub mod Play
 pub mod PlayFaults
+pub mod Check
 pub mod Command

@@ -11,6 +11,8 @@ pub enum Request<'a> {
     Meet(u32),
     /// What comes of the schedule in the file of this name.
     Play(&'a str),
+    /// How many processes and channels the script in the file of this name has.
+    Check(&'a str),
 }
 
 fn command_line<'a>(alloc: Global) -> Result<Command<'a>, AllocError> {
@@ -25,6 +27,14 @@ fn command_line<'a>(alloc: Global) -> Result<Command<'a>, AllocError> {
         .action(ArgAction::Set)
         .value_name("FILE")
         .help("The schedule");
+    let script = Arg::new(alloc, "file")
+        .required(true)
+        .action(ArgAction::Set)
+        .value_name("FILE")
+        .help("The script");
+    let check = Command::new(alloc, "check")
+        .about("Checks the text of a script")
+        .arg(script)?;
     let meet = Command::new(alloc, "meet")
         .about("Sends one number from a thread to another")
         .arg(value)?;
@@ -37,7 +47,8 @@ fn command_line<'a>(alloc: Global) -> Result<Command<'a>, AllocError> {
         .no_binary_name(true)
         .subcommand_required(true)
         .subcommand(meet)?
-        .subcommand(play)
+        .subcommand(play)?
+        .subcommand(check)
 }
 
 /// What the words ask for; they begin behind the program's name. A wish for help is an error too.
@@ -47,6 +58,7 @@ pub fn read_words<'a>(alloc: Global, words: &'a [&'a str]) -> Result<Request<'a>
     let found = match matches.subcommand() {
         Some(("meet", meet)) => meet.get_one("value").map(|value| Request::Meet(value)),
         Some(("play", play)) => play.get_str("file").map(|name| Request::Play(name)),
+        Some(("check", check)) => check.get_str("file").map(|name| Request::Check(name)),
         _ => None,
     };
     match found {

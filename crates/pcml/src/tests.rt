@@ -13,6 +13,8 @@ use std::test::Fail;
 use std::thread::Threads;
 use words::{Atom, Cause, Commit, Message, NackName, Row};
 
+mod check;
+
 /// One file, by its name.
 #[derive(Drop)]
 struct OneFile<'a> {
