@@ -6,6 +6,7 @@ ghost use Rattle.pcml.specs.declared.request.Request.{Request};
 ghost use Rattle.pcml.specs.declared.fault.Fault.TheVariants.{Unwritten};
 ghost use Rattle.pcml.specs.Command.{Answers, Fails};
 
+use crate::check::check_text;
 use crate::fault::Fault;
 use crate::meet::meet_text;
 use crate::play::play_text;
@@ -39,6 +40,10 @@ fn answer<R: Threads + Wait, S: Source>(
         Request::Play(name) => {
             let bytes = source.read(name)?;
             Ok(play_text(alloc, bytes.as_slice())?)
+        }
+        Request::Check(name) => {
+            let bytes = source.read(name)?;
+            Ok(check_text(alloc, bytes.as_slice())?)
         }
     }
 }

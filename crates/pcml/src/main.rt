@@ -1,6 +1,7 @@
 //! `pcml`: one rendezvous of two threads, or the steps of a schedule, played in a world.
 #![tactic(auto)]
 
+mod check;
 mod command;
 mod fault;
 mod meet;

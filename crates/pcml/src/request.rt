@@ -11,6 +11,8 @@ pub enum Request<'a> {
     Meet(u32),
     /// What comes of the schedule in the file of this name.
     Play(&'a str),
+    /// How many processes and channels the script in the file of this name has.
+    Check(&'a str),
 }
 
 fn meet_command<'a>(alloc: Global) -> Result<Command<'a>, AllocError> {
@@ -36,16 +38,29 @@ fn play_command<'a>(alloc: Global) -> Result<Command<'a>, AllocError> {
         .arg(file)
 }
 
+fn check_command<'a>(alloc: Global) -> Result<Command<'a>, AllocError> {
+    let file = Arg::new(alloc, "file")
+        .required(true)
+        .action(ArgAction::Set)
+        .value_name("FILE")
+        .help("The script");
+    Command::new(alloc, "check")
+        .about("Checks the text of a script")
+        .arg(file)
+}
+
 fn command_line<'a>(alloc: Global) -> Result<Command<'a>, AllocError> {
     let meet = meet_command(alloc)?;
     let play = play_command(alloc)?;
+    let check = check_command(alloc)?;
     Command::new(alloc, "pcml")
         .bin_name("pcml")?
         .about("First-class events and selective rendezvous")
         .no_binary_name(true)
         .subcommand_required(true)
         .subcommand(meet)?
-        .subcommand(play)
+        .subcommand(play)?
+        .subcommand(check)
 }
 
 /// What the words ask for; they begin behind the program's name. A wish for help is an error too.
@@ -55,6 +70,7 @@ pub fn read_words<'a>(alloc: Global, words: &'a [&'a str]) -> Result<Request<'a>
     let found = match matches.subcommand() {
         Some(("meet", meet)) => meet.get_one("value").map(|value| Request::Meet(value)),
         Some(("play", play)) => play.get_str("file").map(|name| Request::Play(name)),
+        Some(("check", check)) => check.get_str("file").map(|name| Request::Check(name)),
         _ => None,
     };
     match found {

@@ -10,6 +10,8 @@ use std::sync::Wait;
 use std::test::Fail;
 use std::thread::Threads;
 
+mod check;
+
 /// One file, by its name.
 #[derive(Drop)]
 struct OneFile<'a> {

@@ -1,0 +1,11 @@
+use Rattle.std.proofs.Common.{◌≡◌, vec_len, map}
+use Rattle.syntax.specs.Trees.{terms_of}
+use Rattle.phrase.specs.Exprs.{linked, signed_of}
+use Rattle.phrase.proofs.Linking.{linked_on}
+use Rattle.phrase.proofs.expr.link.Given as goal
+
+abbrev pub invariant-loop-sign : goal.invariant-loop-sign
+invariant-loop-sign l = linked_on (terms_of l.linked) (map signed_of l.terms.items) ≡ linked (map signed_of l.fn.terms.items)
+
+abbrev pub decreases-loop-sign : goal.decreases-loop-sign
+decreases-loop-sign l = vec_len l.terms

@@ -1,0 +1,3 @@
+pub mod Places
+pub mod Steps
+pub mod Exprs

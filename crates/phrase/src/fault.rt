@@ -1,0 +1,44 @@
+//! Why reading stops.
+
+ghost use Rattle.std.specs.Prelude.{◌≡◌};
+ghost use Rattle.phrase.specs.declared.fault.Stop.TheVariants.{Memory};
+
+use std::alloc::{AllocError, AllocFailed};
+
+/// What is wrong at a token. Of two problems at one token the one that stands first here is told.
+#[derive(Clone, Copy, Debug, PartialEq, Eq)]
+pub enum Problem {
+    /// The grammar does not allow the token there, or the text ends too early.
+    Syntax,
+    /// A name that is read is neither a declared channel nor bound before in its process.
+    UnknownName,
+    /// A name is declared or bound that stands for something else, or twice in one list.
+    Twice,
+    /// More than the limits allow.
+    TooMany,
+    /// The body of a loop does not begin with a sync.
+    LoopWithoutSync,
+}
+
+/// Why reading stopped: at a token, from which on so many are left, or for want of memory.
+#[derive(Clone, Copy, Debug, PartialEq, Eq)]
+pub enum Stop {
+    Memory,
+    At(Problem, usize),
+}
+
+impl From<AllocError> for Stop {
+    ghost from_gives = { λ _ stop. stop ≡ Memory };
+
+    fn from(_error: AllocError) -> Stop {
+        Stop::Memory
+    }
+}
+
+impl<T: Drop> From<AllocFailed<T>> for Stop {
+    ghost from_gives = { λ _ stop. stop ≡ Memory };
+
+    fn from(_error: AllocFailed<T>) -> Stop {
+        Stop::Memory
+    }
+}

@@ -1,0 +1,111 @@
+//! Single tokens, taken from the front. How deep a token lies is told by the room that is left: where
+//! there is none, a token that the grammar allows is one too many.
+
+ghost use Rattle.std.specs.Prelude.{◌≡◌, ◌==◌, ◌<◌, OnOk, length};
+ghost use Rattle.std.specs.Option.{option_map};
+ghost use Rattle.phrase.specs.Steps.{Gives, bare, name_at, number_at, next_is, accept_at, expect_at};
+ghost use Rattle.phrase.specs.declared.fault.Stop.TheVariants.{At};
+
+use crate::fault::{Problem, Stop};
+use token::{Placed, Symbol, Token, is_same};
+
+/// Where a loop over the tokens begins, and how many there are.
+#[tactic(auto, using(crate::proofs::Fronts::length_bare))]
+pub fn begin<'a>(tokens: &'a [Placed<'a>]) -> (&'a [Placed<'a>], usize)
+    ensures rest { result.0.now ≡ tokens.now }
+    ensures count { result.1 ≡ length (bare tokens.now) }
+{
+    (tokens, tokens.len())
+}
+
+/// How many tokens there are.
+#[tactic(auto, using(crate::proofs::Fronts::length_bare))]
+pub fn left(tokens: &[Placed<'_>]) -> usize
+    ensures { result ≡ length (bare tokens.now) }
+{
+    tokens.len()
+}
+
+/// Whether no token is left.
+#[tactic(auto, using(crate::proofs::Fronts::length_bare))]
+pub fn is_end(tokens: &[Placed<'_>]) -> bool
+    ensures { result ≡ (length (bare tokens.now) == 0) }
+{
+    left(tokens) == 0
+}
+
+/// A problem at the token in front.
+#[tactic(auto, using(crate::proofs::Fronts::length_bare))]
+pub fn stop(problem: Problem, tokens: &[Placed<'_>]) -> Stop
+    ensures { result ≡ At problem (length (bare tokens.now)) }
+{
+    Stop::At(problem, tokens.len())
+}
+
+/// The name in front.
+pub fn name_at<'a>(tokens: &'a [Placed<'a>]) -> Option<&'a str>
+    ensures { option_map (λ name. name.now) result ≡ name_at (bare tokens.now) }
+{
+    let placed = tokens.first()?;
+    match placed.token {
+        Token::Name(name) => Some(name),
+        _ => None,
+    }
+}
+
+/// The number in front.
+pub fn number_at(tokens: &[Placed<'_>]) -> Option<u32>
+    ensures { result ≡ number_at (bare tokens.now) }
+{
+    let placed = tokens.first()?;
+    match placed.token {
+        Token::Number(number) => Some(number),
+        _ => None,
+    }
+}
+
+/// Whether the keyword or the mark stands in front.
+#[tactic(auto, unfolding(crate::specs::Steps::next_is))]
+pub fn is_next(tokens: &[Placed<'_>], symbol: Symbol) -> bool
+    ensures { result ≡ next_is symbol (bare tokens.now) }
+{
+    let Some(placed) = tokens.first() else {
+        return false;
+    };
+    match placed.token {
+        Token::Symbol(found) => is_same(symbol, found),
+        _ => false,
+    }
+}
+
+/// The tokens behind the one in front.
+#[tactic(auto, unfolding(crate::specs::Steps::accept_at))]
+pub fn accept<'a>(tokens: &'a [Placed<'a>], room: usize) -> Result<&'a [Placed<'a>], Stop>
+    ensures value { Gives (λ x. bare x.now) result (accept_at room (bare tokens.now)) }
+    ensures deep { OnOk result (0 < room) }
+{
+    let Some((_, rest)) = tokens.split_first() else {
+        return Err(Stop::At(Problem::Syntax, 0));
+    };
+    if room == 0 {
+        return Err(stop(Problem::TooMany, tokens));
+    }
+    Ok(rest)
+}
+
+/// The tokens behind the keyword or the mark, which has to stand in front.
+#[tactic(auto, unfolding(crate::specs::Steps::expect_at))]
+pub fn expect<'a>(
+    tokens: &'a [Placed<'a>],
+    room: usize,
+    symbol: Symbol,
+) -> Result<&'a [Placed<'a>], Stop>
+    ensures value { Gives (λ x. bare x.now) result (expect_at room symbol (bare tokens.now)) }
+    ensures deep { OnOk result (0 < room) }
+{
+    if !is_next(tokens, symbol) {
+        return Err(stop(Problem::Syntax, tokens));
+    }
+    let rest = accept(tokens, room)?;
+    Ok(rest)
+}

@@ -1,0 +1,5 @@
+pub mod Blocking
+pub mod Declaring
+pub mod Telling
+pub mod Keeping
+pub mod KeepingScripts

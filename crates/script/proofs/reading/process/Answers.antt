@@ -1,0 +1,5 @@
+use Rattle.script.proofs.Keeping.{process_read}
+use Rattle.script.proofs.reading.process.Goals as goal
+
+pub proc_with-requires : goal.proc_with-requires
+proc_with-requires c = process_read _ _ _ c.in_ok-block.ensures

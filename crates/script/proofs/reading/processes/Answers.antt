@@ -1,0 +1,48 @@
+use Rattle.std.proofs.Common.{◌≡◌, ◌+◌, ◌-◌, ℕ, List, [], map, length, ap, ◌∙◌, arith}
+use Rattle.phrase.specs.Places.{texts}
+use Rattle.phrase.specs.Steps.{Here, bare, here, repeated}
+use Rattle.syntax.specs.Processes.{Proc, proc_of}
+use Rattle.script.specs.Scripts.{drawn, process_step, processes_at}
+use Rattle.phrase.proofs.Giving.{gives_err, fails_same, fails_bind, repeated_step, repeated_none, repeated_all, goes_on}
+use Rattle.script.proofs.Declaring.{process_step-some, process_step-none}
+use Rattle.script.proofs.reading.processes.Goals as goal
+
+pub loop-turn-init : goal.loop-turn-init
+unfolding processes_at
+loop-turn-init c =
+    let ts = bare c.args.tokens.now in
+    let rest : bare c.begin-count.result.0.now ≡ ts = ap bare c.begin-count.ensures.rest in
+    let none : length ts - 0 ≡ length ts = omega arith in
+    record {
+      same = rw (rest, none) (
+          ap (λ (p : List Proc). repeated process_step (length ts) (p, texts c.new-2.result.names.items, here c.new-3.result, ts)) (ap (map proc_of) c.new.ensures.items)
+          ∙ ap (λ (n : List (List ℕ)). repeated process_step (length ts) ([], n, here c.new-3.result, ts)) (ap texts c.new-2.ensures)
+          ∙ ap (λ (h : Here). repeated process_step (length ts) ([], [], h, ts)) c.new-3.ensures);
+      count = c.begin-count.ensures.count;
+    }
+
+pub loop-turn-preserved : goal.loop-turn-preserved
+loop-turn-preserved c =
+    let s = drawn c.loop-turn.draft (bare c.loop-turn.rest.now) in
+    let whole = repeated_step process_step (length (bare c.args.tokens.now)) c.loop-turn._turn s _ _ (omega (arith, c.loop-turn.invariant.count, c.loop-turn-test.true)) (process_step-some s c.if-is_end.ensures) c.loop-turn.invariant.same in
+    record {
+      same = goes_on process_step (length (bare c.args.tokens.now) - (c.loop-turn._turn + 1)) _ _ _ c.in_ok-after.ensures whole;
+      count = c.loop-turn.invariant.count;
+    }
+
+pub returns-then-is_end : goal.returns-then-is_end
+returns-then-is_end c =
+    let s = drawn c.loop-turn.draft (bare c.loop-turn.rest.now) in
+    repeated_none process_step (length (bare c.args.tokens.now) - c.loop-turn._turn) s _ (process_step-none s c.if-is_end.ensures) c.loop-turn.invariant.same
+
+pub returns-in_err-after : goal.returns-in_err-after
+returns-in_err-after c =
+    let e = c.in_err-after.field-0.0 in
+    let s = drawn c.loop-turn.draft (bare c.loop-turn.rest.now) in
+    let whole = repeated_step process_step (length (bare c.args.tokens.now)) c.loop-turn._turn s _ _ (omega (arith, c.loop-turn.invariant.count, c.loop-turn-test.true)) (process_step-some s c.if-is_end.ensures) c.loop-turn.invariant.same in
+    gives_err _ c.from_residual.result e _ c.from_residual.ensures.1 (fails_same e _ _ whole (fails_bind e _ _ c.in_err-after.ensures))
+
+pub returns : goal.returns
+returns c =
+    let s = drawn c.loop-turn.draft (bare c.loop-turn.rest.now) in
+    repeated_all process_step (length (bare c.args.tokens.now)) c.loop-turn._turn s _ (omega (arith, c.loop-turn.invariant.count, c.loop-turn-test.false)) c.loop-turn.invariant.same

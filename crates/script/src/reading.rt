@@ -1,0 +1,223 @@
+//! Declared channels, processes and whole texts, read from the front.
+
+ghost use Rattle.std.specs.Prelude.{◌≡◌, ◌<◌, ◌≤◌, ◌∷◌, ◌++◌, IfOk, length, map, slice_get};
+ghost use Rattle.std.specs.Option.{option_map};
+ghost use Rattle.std.specs.String.{string_bytes};
+ghost use Rattle.token.specs.Lexemes.{placed_tokens, last_line, seen};
+ghost use Rattle.phrase.specs.Places.{texts};
+ghost use Rattle.phrase.specs.Steps.{Gives, bare, here, start};
+ghost use Rattle.script.specs.Scripts.{drawn, proc_from, declare_at, channel_next, channels_at, process_next, processes_at, script_at, script_of, line_left, fault_at, text_at, Answers};
+ghost use Rattle.syntax.specs.Processes.{proc_of, string_texts};
+ghost use Rattle.syntax.specs.Limits.{KeepsLimits};
+ghost use Rattle.syntax.specs.Trees.{block_of};
+
+use crate::fault::ScriptFault;
+use crate::process::{Loops, read_block};
+use crate::script::Script;
+use phrase::fault::{Problem, Stop};
+use phrase::scope::{Counts, NAME_LEN, Scope};
+use phrase::step::{accept, begin, expect, is_end, is_next, name_at, stop};
+use phrase::table::Table;
+use std::alloc::{AllocError, Global};
+use std::sync::Arc;
+use syntax::{Block, Proc};
+use token::{Placed, Symbol, Tokens, scan};
+
+/// The most bytes of a text.
+const TEXT_LEN: usize = 65536;
+
+/// The most channels of a script.
+const CHANNELS: usize = 256;
+
+/// The most processes of a script.
+const PROCESSES: usize = 64;
+
+/// At the outermost level tokens may lie 48 levels deeper.
+const ROOM: usize = 49;
+
+/// The names as text of their own.
+fn owned(alloc: Global, names: Vec<&str>) -> Result<Vec<String>, AllocError>
+    ensures { IfOk result (λ owned. string_texts owned.items ≡ texts names.entry.items) }
+{
+    let mut owned = Vec::new(alloc);
+    for name in &names {
+        owned.push(String::from_str(alloc, name)?)?;
+    }
+    Ok(owned)
+}
+
+/// A name that is declared, as one of at most `limit`.
+#[tactic(auto, unfolding(crate::specs::Scripts::declare_at))]
+fn declare<'a>(
+    table: &mut Table<'a>,
+    limit: usize,
+    tokens: &'a [Placed<'a>],
+) -> Result<(&'a str, &'a [Placed<'a>]), Stop>
+    ensures { Gives (λ x. (x.0.now, texts table.new.names.items, bare x.1.now)) result (declare_at limit (texts table.old.names.items) (bare tokens.now)) }
+{
+    let Some(name) = name_at(tokens) else {
+        return Err(stop(Problem::Syntax, tokens));
+    };
+    if table.number(name).is_some() {
+        return Err(stop(Problem::Twice, tokens));
+    }
+    if table.len() >= limit || name.len() > NAME_LEN {
+        return Err(stop(Problem::TooMany, tokens));
+    }
+    let rest = accept(tokens, ROOM)?;
+    table.add(name)?;
+    Ok((name, rest))
+}
+
+/// One more channel.
+#[tactic(auto, unfolding(crate::specs::Scripts::channel_next))]
+fn channel<'a>(table: &mut Table<'a>, tokens: &'a [Placed<'a>]) -> Result<&'a [Placed<'a>], Stop>
+    ensures { Gives (λ x. (texts table.new.names.items, bare x.now)) result (channel_next (texts table.old.names.items, bare tokens.now)) }
+{
+    let rest = accept(tokens, ROOM)?;
+    let (_, rest) = declare(table, CHANNELS, rest)?;
+    let rest = expect(rest, ROOM, Symbol::Semicolon)?;
+    Ok(rest)
+}
+
+/// The declared channels.
+#[tactic(auto, unfolding(crate::specs::Scripts::channels_at))]
+fn channels<'a>(
+    alloc: Global,
+    tokens: &'a [Placed<'a>],
+) -> Result<(Table<'a>, &'a [Placed<'a>]), Stop>
+    ensures { Gives (λ x. (texts x.0.names.items, bare x.1.now)) result (channels_at (bare tokens.now)) }
+{
+    let mut table = Table::new(alloc);
+    let (mut rest, count) = begin(tokens);
+    for _turn in 0..count {
+        if !is_next(rest, Symbol::Channel) {
+            return Ok((table, rest));
+        }
+        let after = channel(&mut table, rest)?;
+        rest = after;
+    }
+    Ok((table, rest))
+}
+
+/// The processes of a script that is being read, and the names there.
+#[derive(Drop)]
+struct Draft<'a> {
+    processes: Vec<Proc>,
+    names: Table<'a>,
+    scope: Scope<'a>,
+}
+
+fn proc_with(alloc: Global, name: &str, block: Block, scope: &Scope<'_>) -> Result<Proc, AllocError>
+    requires { KeepsLimits (record { channels = length (here scope.now).channels; variables = length (here scope.now).variables }) (block_of block) }
+    ensures { IfOk result (λ p. proc_of p ≡ proc_from name.now (block_of block) (here scope.now)) }
+{
+    let variables = owned(alloc, scope.variables.names(alloc)?)?;
+    let name = String::from_str(alloc, name)?;
+    let body = Arc::new(alloc, block)?;
+    Ok(Proc::new(name, body, variables, scope.channels.len()))
+}
+
+/// One more process.
+#[tactic(auto, unfolding(crate::specs::Scripts::process_next))]
+fn process<'a>(
+    alloc: Global,
+    draft: &mut Draft<'a>,
+    tokens: &'a [Placed<'a>],
+) -> Result<&'a [Placed<'a>], Stop>
+    ensures { Gives (λ x. drawn draft.new (bare x.now)) result (process_next (drawn draft.old (bare tokens.now))) }
+{
+    let rest = expect(tokens, ROOM, Symbol::Process)?;
+    let (name, rest) = declare(&mut draft.names, PROCESSES, rest)?;
+    draft.scope.variables = Table::new(alloc);
+    draft.scope.counts = Counts { bases: 0, nacks: 0 };
+    let (block, rest) = read_block(alloc, &mut draft.scope, rest, ROOM, Loops::Allowed)?;
+    let process = proc_with(alloc, name, block, &draft.scope)?;
+    draft.processes.push(process)?;
+    Ok(rest)
+}
+
+/// The processes, up to the end of the text.
+#[tactic(auto, unfolding(crate::specs::Scripts::processes_at))]
+fn processes<'a>(
+    alloc: Global,
+    channels: Table<'a>,
+    tokens: &'a [Placed<'a>],
+) -> Result<(Draft<'a>, &'a [Placed<'a>]), Stop>
+    ensures { Gives (λ x. drawn x.0 (bare x.1.now)) result (processes_at (texts channels.entry.names.items) (bare tokens.now)) }
+{
+    let mut draft = Draft {
+        processes: Vec::new(alloc),
+        names: Table::new(alloc),
+        scope: Scope::new(alloc, channels),
+    };
+    let (mut rest, count) = begin(tokens);
+    for _turn in 0..count {
+        if is_end(rest) {
+            return Ok((draft, rest));
+        }
+        let after = process(alloc, &mut draft, rest)?;
+        rest = after;
+    }
+    Ok((draft, rest))
+}
+
+/// The whole of a script.
+#[tactic(auto, unfolding(crate::specs::Scripts::script_at))]
+fn whole<'a>(alloc: Global, tokens: &'a [Placed<'a>]) -> Result<Script, Stop>
+    ensures { Gives (λ s. script_of s) result (script_at (bare tokens.now)) }
+{
+    let (channels, rest) = channels(alloc, tokens)?;
+    let (draft, _) = processes(alloc, channels, rest)?;
+    let channels = owned(alloc, draft.scope.channels.names(alloc)?)?;
+    let Draft {
+        processes,
+        names: _,
+        scope: _,
+    } = draft;
+    Ok(Script {
+        channels,
+        processes,
+    })
+}
+
+/// The line at which so many tokens are left.
+fn line_at(tokens: &Tokens<'_>, left: usize) -> usize
+    ensures { result ≡ line_left (seen tokens.now.placed.items) tokens.now.last_line left }
+{
+    let len = tokens.placed.len();
+    if left == 0 || left > len {
+        return tokens.last_line;
+    }
+    tokens.placed[len - left].line
+}
+
+fn fault_at(problem: Problem, line: usize) -> ScriptFault
+    ensures { result ≡ fault_at problem line }
+{
+    match problem {
+        Problem::Syntax => ScriptFault::Syntax(line),
+        Problem::UnknownName => ScriptFault::UnknownName(line),
+        Problem::Twice => ScriptFault::Twice(line),
+        Problem::TooMany => ScriptFault::TooMany(line),
+        Problem::LoopWithoutSync => ScriptFault::LoopWithoutSync(line),
+    }
+}
+
+/// The script that the bytes spell, or their first fault.
+#[tactic(auto, unfolding(crate::specs::Scripts::text_at))]
+pub fn parse(alloc: Global, bytes: &[u8]) -> Result<Script, ScriptFault>
+    ensures { Answers result (text_at bytes.now) }
+{
+    if bytes.len() > TEXT_LEN {
+        return Err(ScriptFault::TooLong);
+    }
+    let Ok(tokens) = scan(alloc, bytes) else {
+        return Err(ScriptFault::Memory);
+    };
+    match whole(alloc, &tokens.placed) {
+        Ok(script) => Ok(script),
+        Err(Stop::Memory) => Err(ScriptFault::Memory),
+        Err(Stop::At(problem, left)) => Err(fault_at(problem, line_at(&tokens, left))),
+    }
+}

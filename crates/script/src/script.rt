@@ -1,0 +1,57 @@
+//! Scripts.
+
+ghost use Rattle.std.specs.Prelude.{◌≤◌, length, map};
+ghost use Rattle.syntax.specs.Processes.{proc_of, ShareChannels, ShareChannels-prop};
+
+use syntax::Proc;
+
+/// A script: its channels and its processes, in the order in which they are declared. It is made by
+/// `parse` alone.
+#[derive(Debug, Drop)]
+pub struct Script {
+    pub(crate) channels: Vec<String>,
+    pub(crate) processes: Vec<Proc>,
+    ghost few_channels: { length channels.items ≤ 256 },
+    ghost few_processes: { length processes.items ≤ 64 },
+    ghost shared: { ShareChannels (length channels.items) (map proc_of processes.items) } by { ShareChannels-prop (length channels.items) (map proc_of processes.items) },
+}
+
+impl Script {
+    ghost use Rattle.std.specs.Prelude.{◌≡◌, ◌<◌, Some, slice_get};
+    ghost use Rattle.std.specs.Option.{option_map};
+    ghost use Rattle.script.specs.Scripts.{script_of, IsScript};
+
+    /// The processes, in their order.
+    pub fn processes(&self) -> &[Proc]
+        ensures value { map proc_of result.now ≡ (script_of self.now).processes }
+        ensures count { length result.now ≡ length (script_of self.now).processes }
+        ensures limits { IsScript (script_of self.now) }
+    {
+        &self.processes
+    }
+
+    /// How many channels are declared.
+    #[tactic(auto, using(syntax::proofs::Texts::length_texts))]
+    pub fn channels(&self) -> usize
+        ensures { result ≡ length (script_of self.now).channels }
+    {
+        self.channels.len()
+    }
+
+    /// The name of process t, which has to be declared.
+    pub fn process_name(&self, t: usize) -> &str
+        requires { t < length (script_of self.now).processes }
+        ensures { Some result.now ≡ option_map (λ p. p.name) (slice_get (script_of self.now).processes t) }
+    {
+        self.processes[t].name()
+    }
+
+    /// The name of channel c, which has to be declared.
+    #[tactic(auto, using(syntax::proofs::Texts::get_texts, syntax::proofs::Texts::length_texts))]
+    pub fn channel_name(&self, c: usize) -> &str
+        requires { c < length (script_of self.now).channels }
+        ensures { Some result.now ≡ slice_get (script_of self.now).channels c }
+    {
+        self.channels[c].as_str()
+    }
+}
