@@ -2,31 +2,34 @@
 use Rattle.std.proofs.Common.{inl, inr, ◌⊎◌, ◌≡◌, ◌≢◌, ℕ, zero, suc, ◌+◌, ◌*◌, ◌^◌, ◌<◌, ◌≤◌, true, false, cond, ltb, ◌&&◌, List, [], ◌∷◌, length, get_or, sym, refl, ap, ◌∙◌, subst, ⊎_elim, arith, Option, Some, None, is_some, max, get_or-set_other, length-set, set, unwrap_or, get_or-set_same, inl, true≢false}
 use Rattle.std.specs.Prelude.{option_to_list}
 use Rattle.std.specs.List.{sum_by}
-use Rattle.std.proofs.lemmas.Bool.{cases_Bool, false≢true, cases_eq}
+use Rattle.std.proofs.lemmas.Bool.{cases_Bool, false≢true, cases_eq, and_from, lt-ltb}
 use Rattle.std.proofs.lemmas.List.{length-append}
 use Rattle.std.proofs.lemmas.List.Sums.{sum_by-cons}
 use Rattle.std.proofs.Math.Nat.{mul-le-mul_right}
+use Rattle.words.specs.declared.NackName.{NackName}
+use Rattle.words.specs.declared.Binding.{Binding}
 use Rattle.words.specs.declared.Row.{Row}
 use Rattle.words.specs.declared.Joined.{Joined}
 use Rattle.words.specs.declared.Offer.{Offer}
 use Rattle.words.specs.declared.Commit.{Commit}
 use Rattle.words.specs.declared.Seat.{Seat}
 use Rattle.words.specs.declared.Step.{Step}
-use Rattle.words.specs.declared.Step.TheVariants.{Draft, Open, Look, Read, Claim, Yield, Join, Seal, Grant, Take}
+use Rattle.words.specs.declared.Step.TheVariants.{Draft, Open, Look, Read, Claim, Yield, Join, Seal, Grant, Take, Bind}
 use Rattle.words.specs.declared.Cell.{Cell}
 use Rattle.words.specs.declared.Cell.TheVariants.{Fresh, Waiting, Claimed, Synched, Taken}
 use Rattle.words.proofs.WordLemmas.{cell_of-zero}
-use Rattle.words.specs.Words.{cell_word, is_word_for, IsCellInRange, IsJoinedInRange, IsRowInRange, cell_of}
-use Rattle.protocol.specs.Tables.{Table, is_row, row_eq, all_rows, rows_below, cell_at, is_fresh, joined_of, offer_at, offers_meet, names, joined_at, last_stamp, number_of, is_taken, next_row, synched_of, word_at, stands_alone}
-use Rattle.protocol.specs.Worlds.{World, holder_at, namer_at, Condition, Allowed, after_step, Plays, with_word, with_cell, with_table, joined_with, mirrored, other_side, side_of, sealed_by, with_seal, granted_by, handed, with_holders, with_take}
+use Rattle.words.specs.Words.{cell_word, is_word_for, IsBindingInRange, IsCellInRange, IsJoinedInRange, IsRowInRange, cell_of}
+use Rattle.protocol.specs.Tables.{Table, is_row, is_nack, binding_at, cause_of, cause_at, row_eq, all_rows, rows_below, cell_at, is_fresh, joined_of, offer_at, offers_meet, names, joined_at, last_stamp, number_of, is_taken, next_row, synched_of, word_at}
+use Rattle.protocol.specs.Worlds.{World, holder_at, namer_at, Condition, Allowed, after_step, Plays, with_word, with_cell, with_table, joined_with, mirrored, other_side, side_of, sealed_by, with_seal, granted_by, handed, with_holders, with_take, with_nack, nack_of_row}
 use Rattle.protocol.specs.Ledgers.{commits_of, told_at}
 use Rattle.protocol.specs.Kept.{joined_by, Linked, Kept}
 use Rattle.protocol.proofs.RowLemmas.{row_cases, put, put_same, put_other, same_row, row_ne, row_eq-false}
-use Rattle.protocol.proofs.Linking.{some_parts, naming, fresh_not_joined, unnamed_idle, told_count, count_of_commits, some_inj, taken_joined, always_of, taken_open}
-use Rattle.protocol.proofs.StepLemmas.{HasTurn, linked_plain, linked_join, linked_seal, last_bounded, linked_grant}
+use Rattle.protocol.proofs.Linking.{some_parts, naming, fresh_not_joined, unnamed_idle, told_count, count_of_commits, some_inj, taken_joined, alone_there, taken_open}
+use Rattle.protocol.proofs.StepLemmas.{HasTurn, linked_plain, linked_join, linked_seal, last_bounded, linked_grant, linked_bind, cause_bounded}
+use Rattle.protocol.proofs.Causes.{cause_alone}
 use Rattle.protocol.proofs.Lawfulness.{both_offers}
-use Rattle.protocol.proofs.Places.{row_inside, is_row_after, block_inside, same_block, same_rest, word_other}
-use Rattle.protocol.proofs.Readings.{cell_after_word, cell_after_cell, offer_after_draft, offer_after_cell, formed_after_word, cell_is_formed, sized_after_word, row_of_open, cell_outside, offer_below, cell_inside, joined_ranged}
+use Rattle.protocol.proofs.Places.{row_inside, is_row_after, block_inside, same_block, same_rest, word_other, is_row_bound, word_bound}
+use Rattle.protocol.proofs.Readings.{cell_after_word, cell_after_cell, offer_after_draft, offer_after_cell, formed_after_word, cell_is_formed, sized_after_word, row_of_open, cell_outside, binding_after_word, binding_after_cell, cell_after_bind, offer_after_bind, binding_kept, formed_after_bind, offer_below, cell_inside, joined_ranged}
 use Rattle.protocol.proofs.Naming.{namer_names, no_namer}
 
 -- HOW MANY COMMITS THERE ARE at most
@@ -233,7 +236,7 @@ module _ (w : World) (x : Row) (c : Cell) (k : Kept w)
     few_rows = k.few_rows;
     formed = formed_after_word w.table x 0 (cell_word c) k.sized row (omega arith) (cell_is_formed c range) k.formed;
     linked =
-        subst (λ (g : Row → Cell). Linked w.table.threads w.table.rows g (offer_at (with_cell w.table x c))) (sym cells_plain)
+        subst (λ (z : (Row → Cell) × (NackName → Option Binding)). Linked w.table.threads w.table.rows z.0 (offer_at (with_cell w.table x c)) z.1) (λ i. (sym cells_plain i, sym (binding_after_cell w.table x c row) i))
         (linked_plain w.table.threads w.table.rows (cell_at w.table) (offer_at w.table) (offer_at (with_cell w.table x c)) x c k.linked same takes unclaimed (λ f. turn)
         (λ r f. λ i n. offer_after_cell w.table x r n c row (fresh_plain r f) i));
     held = λ thread sync seat h.
@@ -250,7 +253,7 @@ module _ (w : World) (x : Row) (j : Joined) (k : Kept w)
     (range : IsJoinedInRange j)
     (open_x : is_fresh (cell_at w.table x) ≡ false)
     (not_joined : joined_of (cell_at w.table x) ≡ None)
-    (linked : Linked w.table.threads w.table.rows (put (cell_at w.table) x (Synched j)) (offer_at w.table)) where
+    (linked : Linked w.table.threads w.table.rows (put (cell_at w.table) x (Synched j)) (offer_at w.table) (binding_at w.table)) where
   cells_joined : cell_at (with_cell w.table x (Synched j)) ≡ put (cell_at w.table) x (Synched j)
   cells_joined = cell_after_cell w.table x (Synched j) k.sized row range
 
@@ -273,8 +276,8 @@ module _ (w : World) (x : Row) (j : Joined) (k : Kept w)
     few_threads = k.few_threads;
     few_rows = k.few_rows;
     formed = formed_after_word w.table x 0 (cell_word (Synched j)) k.sized row (omega arith) (cell_is_formed (Synched j) range) k.formed;
-    linked = subst (λ (z : (Row → Cell) × (Row → ℕ → Option Offer)). Linked w.table.threads w.table.rows z.0 z.1)
-        (λ i. (sym cells_joined i, λ r n. sym (offer_after_cell w.table x r n (Synched j) row (fresh_joined r)) i))
+    linked = subst (λ (z : (Row → Cell) × (Row → ℕ → Option Offer) × (NackName → Option Binding)). Linked w.table.threads w.table.rows z.0 z.1 z.2)
+        (λ i. (sym cells_joined i, λ r n. sym (offer_after_cell w.table x r n (Synched j) row (fresh_joined r)) i, sym (binding_after_cell w.table x (Synched j) row) i))
         linked;
     held = λ thread sync seat h.
         still_taken (record { thread = thread; sync = sync })
@@ -294,8 +297,8 @@ kept_draft w x p v seat k h f a b g =
       few_threads = k.few_threads;
       few_rows = k.few_rows;
       formed = formed_after_word w.table x p v k.sized row below g k.formed;
-      linked = subst (λ (z : (Row → Cell) × (Row → ℕ → Option Offer)). Linked w.table.threads w.table.rows z.0 z.1)
-          (λ i. (λ r. sym (cells r) i, λ r n. sym (offer_after_draft w.table x r n p v row a below (ap is_fresh f)) i))
+      linked = subst (λ (z : (Row → Cell) × (Row → ℕ → Option Offer) × (NackName → Option Binding)). Linked w.table.threads w.table.rows z.0 z.1 z.2)
+          (λ i. (λ r. sym (cells r) i, λ r n. sym (offer_after_draft w.table x r n p v row a below (ap is_fresh f)) i, sym (binding_after_word w.table x p v row below) i))
           k.linked;
       held = λ thread sync s e.
           ap is_taken (cells (record { thread = thread; sync = sync }))
@@ -389,27 +392,86 @@ kept_join w m i o n k mine none other apart meets =
     (ap joined_of other)
     (linked_join w.table.threads w.table.rows (cell_at w.table) (offer_at w.table) m i o n (joined_with w.table m i o n) k.linked mine (unnamed_row w m none) other apart meets refl)
 
--- the word of a grant is well-formed
-pub grant_in_range : (w : World) (o : Row) (n : ℕ) → Kept w → stands_alone (offer_at w.table o n) ≡ true → IsJoinedInRange (granted_by w.table o n)
-unfolding granted_by
-grant_in_range w o n k alone =
-    let always = always_of (offer_at w.table o n) alone in
-    let a = small_last w o k in
-    record {
-      own = offer_below w.table o n always.1 always.2;
-      partner = tt;
-      stamp_low = omega arith;
-      stamp_high = omega arith;
-    }
+-- a cause is small
+pub small_cause : (w : World) (o : Option Offer) (s : ℕ) → Kept w → cause_of (joined_at w.table) (offer_at w.table) (binding_at w.table) o ≡ Some s → s ≤ 65536
+small_cause w o s k h =
+    let a = cause_bounded w.table.threads w.table.rows (cell_at w.table) (offer_at w.table) o s k.linked h in
+    let few = few_commits w.table.threads w.table.rows (joined_by (cell_at w.table)) (offer_at w.table) k.few_threads k.few_rows in
+    omega arith
 
-kept_grant : (w : World) (o : Row) (n : ℕ) → Kept w → cell_at w.table o ≡ Waiting → stands_alone (offer_at w.table o n) ≡ true → Kept (with_table w (with_cell w.table o (Synched (granted_by w.table o n))))
+-- how a row is granted that has a cause
+pub granted_is : (t : Table) (o : Row) (n s : ℕ) → cause_at t o n ≡ Some s → granted_by t o n ≡ record { own = n; partner = None; stamp = 1 + max (last_stamp (joined_at t) o) s }
 unfolding granted_by
-kept_grant w o n k waits alone =
+granted_is t o n s e = λ i. record { own = n; partner = None; stamp = 1 + max (last_stamp (joined_at t) o) (unwrap_or (e i) 0) }
+
+-- the word of a grant is well-formed
+pub grant_in_range : (w : World) (o : Row) (n s : ℕ) → Kept w → cause_at w.table o n ≡ Some s → IsJoinedInRange (granted_by w.table o n)
+grant_in_range w o n s k caused =
+    let there = alone_there (offer_at w.table o n) (cause_alone (joined_at w.table) (offer_at w.table) (binding_at w.table) (offer_at w.table o n) s caused) in
+    subst IsJoinedInRange (sym (granted_is w.table o n s caused)) (record {
+      own = offer_below w.table o n there.0 there.1;
+      partner = tt;
+      stamp_low = low (last_stamp (joined_at w.table) o) s;
+      stamp_high = high (last_stamp (joined_at w.table) o) s (small_last w o k) (small_cause w (offer_at w.table o n) s k caused);
+    })
+  where
+    low : (a b : ℕ) → 1 ≤ 1 + max a b
+    low a b = omega arith
+
+    high : (a b : ℕ) → a ≤ 65536 → b ≤ 65536 → 1 + max a b < 2 ^ 32
+    high a b h k = omega arith
+
+kept_grant : (w : World) (o : Row) (n : ℕ) → Kept w → cell_at w.table o ≡ Waiting → is_some (cause_at w.table o n) ≡ true → Kept (with_table w (with_cell w.table o (Synched (granted_by w.table o n))))
+kept_grant w o n k waits there =
+    let s = some_parts (cause_at w.table o n) there in
     kept_joined w o (granted_by w.table o n) k (row_of_open w.table o (ap is_fresh waits))
-    (grant_in_range w o n k alone)
+    (grant_in_range w o n s.0 k s.1)
     (ap is_fresh waits)
     (ap joined_of waits)
-    (linked_grant w.table.threads w.table.rows (cell_at w.table) (offer_at w.table) o n (granted_by w.table o n) k.linked waits alone refl)
+    (linked_grant w.table.threads w.table.rows (cell_at w.table) (offer_at w.table) o n s.0 (granted_by w.table o n) k.linked waits s.1 (granted_is w.table o n s.0 s.1))
+
+-- THE BIND
+
+-- a nack of a row's thread is one of the table's
+pub nack_of_thread : (t : Table) (r : Row) (k : ℕ) → is_row t r ≡ true → k < 64 → is_nack t (nack_of_row r k) ≡ true
+unfolding is_nack
+nack_of_thread t r k h b = and_from _ _ (lt-ltb r.thread t.threads (row_inside t r h).0) (lt-ltb k 64 b)
+
+-- a row and a scope that a word has room for
+pub bind_in_range : (w : World) (r : Row) (scope : ℕ) → Kept w → is_row w.table r ≡ true → scope < 4 → IsBindingInRange (record { sync = r.sync; scope = scope })
+bind_in_range w r scope k h b =
+    let inside = row_inside w.table r h in
+    let few = k.few_rows in
+    record { sync = omega arith; scope = b }
+
+kept_bound : (w : World) (m : NackName) (b : Binding) → Kept w → is_nack w.table m ≡ true → IsBindingInRange b → ((n : NackName) (c : Binding) → binding_at w.table n ≡ Some c → binding_at (with_nack w.table m b) n ≡ Some c) → Kept (with_table w (with_nack w.table m b))
+unfolding with_nack
+kept_bound w m b kept nack range binds = record {
+  sized = length-set w.table.words _ _ ∙ kept.sized;
+  few_threads = kept.few_threads;
+  few_rows = kept.few_rows;
+  formed = formed_after_bind w.table m b kept.sized nack range kept.formed;
+  linked =
+      subst (λ (z : (Row → Cell) × (Row → ℕ → Option Offer)). Linked w.table.threads w.table.rows z.0 z.1 (binding_at (with_nack w.table m b)))
+      (λ i. (λ r. sym (cell_after_bind w.table m b r nack) i, λ r n. sym (offer_after_bind w.table m b r n nack) i))
+      (linked_bind (binding_at w.table) (binding_at (with_nack w.table m b)) w.table.threads w.table.rows (cell_at w.table) (offer_at w.table) kept.linked binds);
+  held = λ thread sync s e.
+      ap is_taken (cell_after_bind w.table m b (record { thread = thread; sync = sync }) nack)
+      ∙ kept.held thread sync s (sym (holder_same w (with_nack w.table m b) (record { thread = thread; sync = sync + 1 }) refl refl) ∙ e);
+  seated = kept.seated;
+  blank = λ q p i a n.
+      let here = sym (is_row_bound w.table m b q) ∙ i in
+      word_bound w.table m b q p nack here a ∙ kept.blank q p here a (sym (holder_same w (with_nack w.table m b) q refl refl) ∙ n);
+}
+
+kept_bind : (w : World) (r : Row) (k scope seat : ℕ) → Kept w → holder_at w r ≡ Some seat → k < 64 → scope < 4 → binding_at w.table (nack_of_row r k) ≡ None → Kept (with_table w (with_nack w.table (nack_of_row r k) (record { sync = r.sync; scope = scope })))
+kept_bind w r k scope seat kept h b c free =
+    let row = held_row w r seat h in
+    let m : NackName = nack_of_row r k in
+    let bound : Binding = record { sync = r.sync; scope = scope } in
+    let nack = nack_of_thread w.table r k row b in
+    let range = bind_in_range w r scope kept row c in
+    kept_bound w m bound kept nack range (binding_kept w.table m bound nack free)
 
 -- THE TAKE
 
@@ -543,6 +605,7 @@ kept_condition w seat (Join mine own other partner) k a = kept_join w mine own o
 kept_condition w seat (Seal row) k a = kept_seal w row k a.1 a.2
 kept_condition w seat (Grant row n) k a = kept_grant w row n k a.0 a.1
 kept_condition w seat (Take row) k a = kept_take w seat row k a
+kept_condition w seat (Bind n row scope) k a = kept_bind w row n scope seat.0 k a.0 a.2 a.3 a.4
 
 pub kept_step : (w : World) (seat : Seat) (step : Step) → Kept w → Allowed w seat step → Kept (after_step w seat step)
 kept_step w seat step k a = kept_condition w seat step k a.1

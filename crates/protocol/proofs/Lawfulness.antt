@@ -14,11 +14,12 @@ use Rattle.words.specs.declared.Cause.TheVariants as cause
 use Rattle.words.specs.declared.Commit.TheVariants.{Pair, Alone}
 use Rattle.words.specs.declared.Cell.{Cell}
 use Rattle.words.specs.declared.Cell.TheVariants.{Claimed}
-use Rattle.protocol.specs.Tables.{all_rows, is_fresh, joined_of, names, is_partner, offers_meet, stands_alone, bases_meet, last_stamp, stamp_of}
+use Rattle.protocol.specs.Tables.{all_rows, is_fresh, joined_of, names, is_partner, offers_meet, stands_alone, encloses, bound_row, cause_of, bases_meet, last_stamp, stamp_of}
 use Rattle.protocol.specs.Worlds.{mirrored}
-use Rattle.protocol.specs.Ledgers.{IsIn, Involves, stamp_in, Offers, Fits, Enables, CountsFor, Lawful, commit_named, commit_by, alone_by, pair_by, received_by, commits_of}
-use Rattle.protocol.specs.Kept.{joined_by, IsSideOf, Linked}
-use Rattle.protocol.proofs.Linking.{cases_Option, some_parts, some_inj, some_is_some, names_from, partner_parts, fresh_not_joined, taken_joined, partner_open, always_of, named_some, named_alone}
+use Rattle.protocol.specs.Ledgers.{IsIn, IsEnabled, Involves, CausedBy, stamp_in, Offers, Fits, Enables, CountsFor, Lawful, commit_named, commit_by, alone_by, pair_by, received_by, commits_of}
+use Rattle.protocol.specs.Kept.{joined_by, IsSideOf, IsAlone, Linked}
+use Rattle.protocol.proofs.Linking.{cases_Option, some_parts, some_inj, some_is_some, names_from, partner_parts, fresh_not_joined, taken_joined, partner_open, alone_there, named_some, named_alone}
+use Rattle.protocol.proofs.Causes.{IsEnabling, IsAlways, IsOnEnabled, enabling, cause_is, cause_alone}
 use Rattle.protocol.proofs.CommitLemmas.{named_rows}
 
 -- WHAT A PAIR'S COMMIT IS, seen from row r, joined as j with partner p
@@ -68,9 +69,11 @@ both_offers (Some x) None h = absurd (false≢true h)
 both_offers (Some x) (Some y) h = (x, y, refl, refl, h)
 
 -- the offer by which a row is committed is there
-pub chosen_there : (threads rows : ℕ) (cell : Row → Cell) (offer : Row → ℕ → Option Offer) (r : Row) (j : Joined) → Linked threads rows cell offer → joined_of (cell r) ≡ Some j → (o : Offer) × (offer r j.own ≡ Some o)
-chosen_there threads rows cell offer r j l e = ⊎_elim
-    (λ (n : j.partner ≡ None). let a = always_of (offer r j.own) (l.alone r j e n).alone in (a.1, a.2))
+pub chosen_there : {bound : NackName → Option Binding} (threads rows : ℕ) (cell : Row → Cell) (offer : Row → ℕ → Option Offer) (r : Row) (j : Joined) → Linked threads rows cell offer bound → joined_of (cell r) ≡ Some j → (o : Offer) × (offer r j.own ≡ Some o)
+chosen_there {bound} threads rows cell offer r j l e = ⊎_elim
+    (λ (n : j.partner ≡ None).
+    let a = l.alone r j e n in
+    alone_there (offer r j.own) (cause_alone (joined_by cell) offer bound (offer r j.own) a.cause a.is))
     (λ (p : (p : Row × ℕ) × (j.partner ≡ Some p)). let b = both_offers (offer r j.own) (offer p.0.0 p.0.1) (l.sides r j p.0 e p.1).meets in (b.0, b.2))
     (cases_Option j.partner)
 
@@ -114,23 +117,27 @@ same_commit offer q j r n e h =
     ∙ sym (ap (λ (v : Option (Row × ℕ)). commit_by offer q j v (offer q j.own)) e)
 
 -- a commit that stands alone, by what was offered
-alone_of_named : (offer : Row → ℕ → Option Offer) (r : Row) (j : Joined) (c : Commit) → j.partner ≡ None → stands_alone (offer r j.own) ≡ true → commit_named offer r j ≡ Some c → (m : Message) × Offers offer (r, j.own) (Always m) × (c ≡ Alone (r, j.own) (cause.Always m) j.stamp)
+alone_named : (offer : Row → ℕ → Option Offer) (r : Row) (j : Joined) (c : Commit) (o : Offer) (b : Base) → j.partner ≡ None → offer r j.own ≡ Some o → o.base ≡ b → commit_named offer r j ≡ Some c → alone_by r j b ≡ Some c
 unfolding commit_named
-alone_of_named offer r j c e h k =
-    let o = always_of (offer r j.own) h in
-    let named : alone_by r j o.1.base ≡ Some c =
-    sym (ap (commit_by offer r j None) o.2) ∙ sym (ap (λ (v : Option (Row × ℕ)). commit_by offer r j v (offer r j.own)) e) ∙ k in
-    (o.0, (o.1, o.2, o.3), some_inj c _ (sym named ∙ ap (alone_by r j) o.3))
+alone_named offer r j c o b n e f h =
+    ap (alone_by r j) (sym f)
+    ∙ sym (ap (commit_by offer r j None) e)
+    ∙ sym (ap (λ (v : Option (Row × ℕ)). commit_by offer r j v (offer r j.own)) n)
+    ∙ h
 
 abbrev row_at : ℕ → ℕ → Row
 row_at t g = record { thread = t; sync = g }
 
 module _ (threads rows : ℕ) (cell : Row → Cell) (offer : Row → ℕ → Option Offer) (bound : NackName → Option Binding)
-    (l : Linked threads rows cell offer) where
+    (l : Linked threads rows cell offer bound) where
+  -- a row alone has a cause
+  stands : (r : Row) (j : Joined) → IsAlone cell offer bound r j → stands_alone (offer r j.own) ≡ true
+  stands r j a = cause_alone (joined_by cell) offer bound (offer r j.own) a.cause a.is
+
   -- the commit that a joined row names
   commit_of_joined : (r : Row) (j : Joined) → joined_of (cell r) ≡ Some j → (c : Commit) × (commit_named offer r j ≡ Some c)
   commit_of_joined r j e = ⊎_elim
-      (λ (n : j.partner ≡ None). named_alone offer r j n (l.alone r j e n).alone)
+      (λ (n : j.partner ≡ None). named_alone offer r j n (stands r j (l.alone r j e n)))
       (λ (p : (p : Row × ℕ) × (j.partner ≡ Some p)). named_some offer r j p.0 p.1 (l.sides r j p.0 e p.1).meets)
       (cases_Option j.partner)
 
@@ -196,11 +203,65 @@ module _ (threads rows : ℕ) (cell : Row → Cell) (offer : Row → ℕ → Opt
   fits_pair : (q : Row × ℕ) (p : Row × ℕ) (s : ℕ) (c : Commit) → q.0.thread ≢ p.0.thread → IsSent offer q p s c → Fits (joined_by cell) offer bound c
   fits_pair q p s c n x = subst (Fits (joined_by cell) offer bound) (sym x.is) (n, x.sends, x.receives)
 
+  -- A COMMIT THAT STANDS ALONE: by an always, or by a nack that row k enabled
+
+  pub record IsByNack (c : Commit) (r : Row) (j : Joined) (s : ℕ) : Type 0 where
+    pub name : NackName
+    pub by : Joined
+    pub enabled : IsEnabling (joined_by cell) offer bound name by
+    pub offers : Offers offer (r, j.own) (OnNack name)
+    pub is : c ≡ Alone (r, j.own) (cause.Nack name) j.stamp
+    pub stamp : s ≡ by.stamp
+
+  pub record IsByAlways (c : Commit) (r : Row) (j : Joined) (s : ℕ) : Type 0 where
+    pub msg : Message
+    pub offers : Offers offer (r, j.own) (Always msg)
+    pub is : c ≡ Alone (r, j.own) (cause.Always msg) j.stamp
+    pub stamp : s ≡ 0
+
+  lone : (c : Commit) (r : Row) (j : Joined) (s : ℕ) → j.partner ≡ None → cause_of (joined_by cell) offer bound (offer r j.own) ≡ Some s → commit_named offer r j ≡ Some c → IsByAlways c r j s ⊎ IsByNack c r j s
+  lone c r j s n h k = ⊎_elim
+      (λ (a : IsAlways (offer r j.own) s).
+      inl (record {
+        msg = a.0;
+        offers = (a.1, a.2, a.3);
+        is = sym (some_inj _ c (alone_named offer r j c a.1 (Always a.0) n a.2 a.3 k));
+        stamp = a.4;
+      }))
+      (λ (a : IsOnEnabled (joined_by cell) offer bound (offer r j.own) s).
+      inr (record {
+        name = a.0;
+        by = a.1;
+        enabled = enabling (joined_by cell) offer bound a.0 a.1 a.5;
+        offers = (a.2, a.3, a.4);
+        is = sym (some_inj _ c (alone_named offer r j c a.2 (OnNack a.0) n a.3 a.4 k));
+        stamp = a.6;
+      }))
+      (cause_is (joined_by cell) offer bound (offer r j.own) s h)
+
+  lone_in : (c : Commit) (h : IsIn (joined_by cell) offer c) (n : h.way.partner ≡ None) → IsByAlways c h.row h.way (l.alone h.row h.way h.is_joined n).cause ⊎ IsByNack c h.row h.way (l.alone h.row h.way h.is_joined n).cause
+  lone_in c h n = let a = l.alone h.row h.way h.is_joined n in lone c h.row h.way a.cause n a.is h.is_named
+
+  -- the commit of the row that enabled the nack
+  enabled_in : (n : NackName) (k : Joined) → IsEnabling (joined_by cell) offer bound n k → IsEnabled (joined_by cell) offer bound n
+  enabled_in n k e =
+      let row : Row = bound_row n e.binding in
+      record {
+        binding = e.binding;
+        is_bound = e.is_bound;
+        commit = (commit_of_joined row k e.is_joined).0;
+        inside = in_of_joined row k e.is_joined;
+        chosen = k.own;
+        takes = (named_rows offer row k (commit_of_joined row k e.is_joined).0 (commit_of_joined row k e.is_joined).1).own;
+        outside = λ o h. sym (ap (encloses e.binding.scope) h) ∙ e.outside;
+      }
+
   fits_in : (c : Commit) → IsIn (joined_by cell) offer c → Fits (joined_by cell) offer bound c
   fits_in c h = ⊎_elim
-      (λ (n : h.way.partner ≡ None).
-      let a = alone_of_named offer h.row h.way c n (l.alone h.row h.way h.is_joined n).alone h.is_named in
-      subst (Fits (joined_by cell) offer bound) (sym a.2) a.1)
+      (λ (n : h.way.partner ≡ None). ⊎_elim
+      (λ (a : IsByAlways c h.row h.way (l.alone h.row h.way h.is_joined n).cause). subst (Fits (joined_by cell) offer bound) (sym a.is) a.offers)
+      (λ (a : IsByNack c h.row h.way (l.alone h.row h.way h.is_joined n).cause). subst (Fits (joined_by cell) offer bound) (sym a.is) (a.offers, enabled_in a.name a.by a.enabled))
+      (lone_in c h n))
       (λ (p : (p : Row × ℕ) × (h.way.partner ≡ Some p)).
       let side : IsSideOf cell offer h.row h.way p.0 = l.sides h.row h.way p.0 h.is_joined p.1 in
       ⊎_elim
@@ -265,17 +326,30 @@ module _ (threads rows : ℕ) (cell : Row → Cell) (offer : Row → ℕ → Opt
       omega arith)
       (rows_in c x h v)
 
-  -- no commit enables another
-  no_enabler : (c d : Commit) → IsIn (joined_by cell) offer c → Enables bound d c → ⊥
-  no_enabler c d h e = ⊎_elim
+  -- the commit that enabled another has a lower stamp
+  enabler_below : (c d : Commit) → IsIn (joined_by cell) offer c → IsIn (joined_by cell) offer d → Enables bound d c → stamp_in d < stamp_in c
+  enabler_below c d h k e = ⊎_elim
       (λ (n : h.way.partner ≡ None).
-      let a = alone_of_named offer h.row h.way c n (l.alone h.row h.way h.is_joined n).alone h.is_named in
-      subst (Enables bound d) a.2 e)
+      let alone = l.alone h.row h.way h.is_joined n in
+      let is = (named_rows offer h.row h.way c h.is_named).stamp in
+      ⊎_elim
+      (λ (a : IsByAlways c h.row h.way alone.cause). absurd (subst (Enables bound d) a.is e))
+      (λ (a : IsByNack c h.row h.way alone.cause).
+      let by = subst (Enables bound d) a.is e in
+      let same : by.0 ≡ a.enabled.binding = some_inj by.0 a.enabled.binding (sym by.1 ∙ a.enabled.is_bound) in
+      let row : Row = bound_row a.name a.enabled.binding in
+      let inside = subst (λ (b : Binding). Involves d (bound_row a.name b)) same by.2 in
+      let mine : (commit_of_joined row a.by a.enabled.is_joined).0 ≡ d = some_inj _ d (sym (commit_of_joined row a.by a.enabled.is_joined).1 ∙ same_named row a.by d a.enabled.is_joined k inside) in
+      let stamp : stamp_in d ≡ a.by.stamp = ap stamp_in (sym mine) ∙ stamp_own row a.by a.enabled.is_joined in
+      let due = alone.stamp in
+      let caused : alone.cause ≡ a.by.stamp = a.stamp in
+      omega arith)
+      (lone_in c h n))
       (λ (p : (p : Row × ℕ) × (h.way.partner ≡ Some p)).
       let side : IsSideOf cell offer h.row h.way p.0 = l.sides h.row h.way p.0 h.is_joined p.1 in
       ⊎_elim
-      (λ (s : IsSent offer (h.row, h.way.own) p.0 h.way.stamp c). subst (Enables bound d) s.is e)
-      (λ (s : IsSent offer p.0 (h.row, h.way.own) h.way.stamp c). subst (Enables bound d) s.is e)
+      (λ (s : IsSent offer (h.row, h.way.own) p.0 h.way.stamp c). absurd (subst (Enables bound d) s.is e))
+      (λ (s : IsSent offer p.0 (h.row, h.way.own) h.way.stamp c). absurd (subst (Enables bound d) s.is e))
       (pair_of_named offer h.row h.way p.0 c p.1 side.meets h.is_named))
       (cases_Option h.way.partner)
 
@@ -293,7 +367,7 @@ module _ (threads rows : ℕ) (cell : Row → Cell) (offer : Row → ℕ → Opt
       let up = rising t g b open_g e.3 in
       let over = stamp_over c (row_at t g) h e.5 in
       omega arith
-  above_in c h d k (inr e) = absurd (no_enabler c d h e)
+  above_in c h d k (inr e) = enabler_below c d h k e
 
   -- the commit before, where a row has a last stamp
   last_commit : (c : Commit) (r : Row) → Involves c r → 0 < last_stamp (joined_by cell) r → (d : Commit) × IsIn (joined_by cell) offer d × CountsFor bound d c × (stamp_in d ≡ last_stamp (joined_by cell) r)
@@ -315,22 +389,30 @@ module _ (threads rows : ℕ) (cell : Row → Cell) (offer : Row → ℕ → Opt
           ))
           (cases_Option (joined_of (cell (row_at r.thread n))))
 
+  -- the commit that enabled the nack, where the cause has a stamp
+  cause_commit : (c : Commit) (r : Row) (j : Joined) (s : ℕ) → IsByAlways c r j s ⊎ IsByNack c r j s → 0 < s → (d : Commit) × IsIn (joined_by cell) offer d × CountsFor bound d c × (stamp_in d ≡ s)
+  cause_commit c r j s (inl a) b = let z : s ≡ 0 = a.stamp in absurd (omega arith)
+  cause_commit c r j s (inr a) b =
+      let row : Row = bound_row a.name a.enabled.binding in
+      let by : CausedBy bound (commit_of_joined row a.by a.enabled.is_joined).0 (cause.Nack a.name) = (a.enabled.binding, a.enabled.is_bound, involves_own row a.by a.enabled.is_joined) in (
+        (commit_of_joined row a.by a.enabled.is_joined).0,
+        in_of_joined row a.by a.enabled.is_joined,
+        inr (subst (Enables bound (commit_of_joined row a.by a.enabled.is_joined).0) (sym a.is) by),
+        stamp_own row a.by a.enabled.is_joined ∙ sym a.stamp,
+      )
+
   next_in : (c : Commit) → IsIn (joined_by cell) offer c → (stamp_in c ≡ 1) ⊎ ((d : Commit) × IsIn (joined_by cell) offer d × CountsFor bound d c × (stamp_in c ≡ stamp_in d + 1))
   next_in c h =
       let at = named_rows offer h.row h.way c h.is_named in
       ⊎_elim
       (λ (n : h.way.partner ≡ None).
-      let s = (l.alone h.row h.way h.is_joined n).stamp in
-      let own = last_commit c h.row (h.way.own, at.own) in
-      pick (last_stamp (joined_by cell) h.row) (last_stamp (joined_by cell) h.row) (at.stamp ∙ s ∙ twice (last_stamp (joined_by cell) h.row)) own own)
+      let alone = l.alone h.row h.way h.is_joined n in
+      pick (last_stamp (joined_by cell) h.row) alone.cause (at.stamp ∙ alone.stamp) (last_commit c h.row (h.way.own, at.own)) (cause_commit c h.row h.way alone.cause (lone_in c h n)))
       (λ (p : (p : Row × ℕ) × (h.way.partner ≡ Some p)).
       let s = (l.sides h.row h.way p.0 h.is_joined p.1).stamp in
       pick (last_stamp (joined_by cell) h.row) (last_stamp (joined_by cell) p.0.0) (at.stamp ∙ s) (last_commit c h.row (h.way.own, at.own)) (last_commit c p.0.0 (p.0.1, at.other p.0 p.1)))
       (cases_Option h.way.partner)
     where
-      twice : (a : ℕ) → 1 + a ≡ 1 + max a a
-      twice a = omega arith
-
       pick : (a b : ℕ) → stamp_in c ≡ 1 + max a b → (0 < a → (d : Commit) × IsIn (joined_by cell) offer d × CountsFor bound d c × (stamp_in d ≡ a)) → (0 < b → (d : Commit) × IsIn (joined_by cell) offer d × CountsFor bound d c × (stamp_in d ≡ b)) → (stamp_in c ≡ 1) ⊎ ((d : Commit) × IsIn (joined_by cell) offer d × CountsFor bound d c × (stamp_in c ≡ stamp_in d + 1))
       pick a b s f g = ⊎_elim
           (λ (lt : a < b). let d = g (omega arith) in let at : stamp_in d.0 ≡ b = d.3 in inr (d.0, d.1, d.2, omega arith))

@@ -216,7 +216,7 @@ kept_start threads rows seats a b = record {
 
 -- THE LAW OF ALL SCHEDULES
 
-pub lawful_ledger : (t : Table) → Linked t.threads t.rows (cell_at t) (offer_at t) → IsLawful (ledger_of t)
+pub lawful_ledger : (t : Table) → Linked t.threads t.rows (cell_at t) (offer_at t) (binding_at t) → IsLawful (ledger_of t)
 unfolding ledger_of
 lawful_ledger t l =
     subst (λ (z : (Row → Option Joined) × (Row → ℕ → Option Offer) × (NackName → Option Binding)). Lawful (all_rows t.threads t.rows) z.0 z.1 z.2)

@@ -1,5 +1,6 @@
 pub mod RowLemmas
 pub mod Linking
+pub mod Causes
 pub mod StepLemmas
 pub mod Lawfulness
 pub mod Places

@@ -5,16 +5,17 @@ use Rattle.std.specs.List.{sum_by}
 use Rattle.std.proofs.lemmas.List.Sums.{sum_by-append, sum_by-cons}
 use Rattle.std.proofs.lemmas.List.Concat.{length-flat_map}
 use Rattle.std.proofs.lemmas.Bool.{ne_eqb, cases_Bool, cases_eq, false≢true}
+use Rattle.words.specs.declared.NackName.{NackName}
+use Rattle.words.specs.declared.Binding.{Binding}
 use Rattle.words.specs.declared.Row.{Row}
 use Rattle.words.specs.declared.Joined.{Joined}
 use Rattle.words.specs.declared.Offer.{Offer}
 use Rattle.words.specs.declared.Base.{Base}
 use Rattle.words.specs.declared.Base.TheVariants.{Send, Recv, Always, OnNack, Never}
 use Rattle.words.specs.declared.Commit.{Commit}
-use Rattle.words.specs.declared.Message.{Message}
 use Rattle.words.specs.declared.Cell.{Cell}
 use Rattle.words.specs.declared.Cell.TheVariants.{Fresh, Waiting, Claimed, Synched, Taken}
-use Rattle.protocol.specs.Tables.{row_eq, is_fresh, is_taken, joined_of, names, is_partner, offers_meet, bases_meet, is_always, stands_alone}
+use Rattle.protocol.specs.Tables.{row_eq, is_fresh, is_taken, joined_of, names, is_partner, offers_meet, bases_meet, needs_none, stands_alone}
 use Rattle.protocol.specs.Worlds.{mirrored}
 use Rattle.protocol.specs.Ledgers.{commits_of, told_at, told_by, tells, is_send, sends, commit_named, commit_by, alone_by, pair_by, received_by}
 use Rattle.protocol.specs.Kept.{Linked}
@@ -115,7 +116,7 @@ sum_change_two f g x y rs o p n h =
 -- WHO IS NAMED
 
 -- a named row is claimed or joined
-pub named_row : (threads rows : ℕ) (cell : Row → Cell) (offer : Row → ℕ → Option Offer) (q x : Row) → Linked threads rows cell offer → names (joined_of (cell q)) x ≡ true → (cell x ≡ Claimed) ⊎ (is_some (joined_of (cell x)) ≡ true)
+pub named_row : {bound : NackName → Option Binding} (threads rows : ℕ) (cell : Row → Cell) (offer : Row → ℕ → Option Offer) (q x : Row) → Linked threads rows cell offer bound → names (joined_of (cell q)) x ≡ true → (cell x ≡ Claimed) ⊎ (is_some (joined_of (cell x)) ≡ true)
 named_row threads rows cell offer q x l h =
     let n = naming (joined_of (cell q)) x h in
     let s = l.sides q n.way n.place n.is n.partner in
@@ -123,7 +124,7 @@ named_row threads rows cell offer q x l h =
     subst P n.row (⊎_elim (λ (e : cell n.place.0 ≡ Claimed). inl e) (λ (e : joined_of (cell n.place.0) ≡ Some (mirrored q n.way n.place.1)). inr (some_is_some _ _ e)) s.back)
 
 -- so a row that is neither is not named
-pub unnamed_idle : (threads rows : ℕ) (cell : Row → Cell) (offer : Row → ℕ → Option Offer) (x : Row) → Linked threads rows cell offer → cell x ≢ Claimed → joined_of (cell x) ≡ None → (q : Row) → names (joined_of (cell q)) x ≡ false
+pub unnamed_idle : {bound : NackName → Option Binding} (threads rows : ℕ) (cell : Row → Cell) (offer : Row → ℕ → Option Offer) (x : Row) → Linked threads rows cell offer bound → cell x ≢ Claimed → joined_of (cell x) ≡ None → (q : Row) → names (joined_of (cell q)) x ≡ false
 unnamed_idle threads rows cell offer x l c j q =
     ⊎_elim
     (λ (h : names (joined_of (cell q)) x ≡ true). ⊎_elim
@@ -134,7 +135,7 @@ unnamed_idle threads rows cell offer x l c j q =
     (cases_Bool (names (joined_of (cell q)) x))
 
 -- the partner of a joined row is open
-pub partner_open : (threads rows : ℕ) (cell : Row → Cell) (offer : Row → ℕ → Option Offer) (r : Row) (j : Joined) (p : Row × ℕ) → Linked threads rows cell offer → joined_of (cell r) ≡ Some j → j.partner ≡ Some p → is_fresh (cell p.0) ≡ false
+pub partner_open : {bound : NackName → Option Binding} (threads rows : ℕ) (cell : Row → Cell) (offer : Row → ℕ → Option Offer) (r : Row) (j : Joined) (p : Row × ℕ) → Linked threads rows cell offer bound → joined_of (cell r) ≡ Some j → j.partner ≡ Some p → is_fresh (cell p.0) ≡ false
 partner_open threads rows cell offer r j p l h k =
     ⊎_elim
     (λ (e : cell p.0 ≡ Claimed). ap is_fresh e)
@@ -201,25 +202,24 @@ named_some offer r j p e h =
     let found = pair_is_some r j p (offer r j.own) (offer p.0 p.1) h in
     (found.0, ap (λ (v : Option (Row × ℕ)). commit_by offer r j v (offer r j.own)) e ∙ ap (commit_by offer r j (Some p)) found.2 ∙ found.3)
 
--- an offer that stands alone is an always
-pub always_of : (a : Option Offer) → stands_alone a ≡ true → (m : Message) × (o : Offer) × (a ≡ Some o) × (o.base ≡ Always m)
-always_of None h = absurd (false≢true h)
-always_of (Some a) h = let m = by_base a.base h in (m.0, a, refl, m.1)
-  where
-    by_base : (b : Base) → is_always b ≡ true → (m : Message) × (b ≡ Always m)
-    by_base (Send c m) h = absurd (false≢true h)
-    by_base (Recv c) h = absurd (false≢true h)
-    by_base (Always m) h = (m, refl)
-    by_base (OnNack n) h = absurd (false≢true h)
-    by_base Never h = absurd (false≢true h)
+-- an offer that stands alone names a commit
+pub alone_there : (a : Option Offer) → stands_alone a ≡ true → (o : Offer) × (a ≡ Some o)
+alone_there None h = absurd (false≢true h)
+alone_there (Some a) h = (a, refl)
 
 pub named_alone : (offer : Row → ℕ → Option Offer) (r : Row) (j : Joined) → j.partner ≡ None → stands_alone (offer r j.own) ≡ true → (c : Commit) × (commit_named offer r j ≡ Some c)
 unfolding commit_named
 named_alone offer r j e h =
-    let o = always_of (offer r j.own) h in (
-      _,
-      ap (λ (v : Option (Row × ℕ)). commit_by offer r j v (offer r j.own)) e ∙ ap (commit_by offer r j None) o.2 ∙ ap (alone_by r j) o.3,
-    )
+    let o = alone_there (offer r j.own) h in
+    let found = by_base o.0.base (sym (ap stands_alone o.1) ∙ h) in
+    (found.0, ap (λ (v : Option (Row × ℕ)). commit_by offer r j v (offer r j.own)) e ∙ ap (commit_by offer r j None) o.1 ∙ found.1)
+  where
+    by_base : (b : Base) → needs_none b ≡ true → (c : Commit) × (alone_by r j b ≡ Some c)
+    by_base (Send c m) h = absurd (false≢true h)
+    by_base (Recv c) h = absurd (false≢true h)
+    by_base (Always m) h = (_, refl)
+    by_base (OnNack n) h = (_, refl)
+    by_base Never h = absurd (false≢true h)
 
 eqb_swapped : (c d : ℕ) → eqb c d ≡ eqb d c
 eqb_swapped c d = ⊎_elim (λ (e : c ≡ d). rw e refl) (λ (n : c ≡ d → ⊥). ne_eqb c d n ∙ sym (ne_eqb d c (λ e. n (sym e)))) (cases_eq c d)

@@ -1,12 +1,14 @@
 -- Where words lie: no two of them at one place.
-use Rattle.std.proofs.Common.{◌≡◌, ℕ, ◌+◌, ◌*◌, ◌<◌, ◌≤◌, true, false, ltb, length, sym, refl, ap, ◌⊎◌, ⊎_elim, arith}
+use Rattle.std.proofs.Common.{Some, ◌≡◌, ℕ, ◌+◌, ◌*◌, ◌<◌, ◌≤◌, true, false, ltb, length, sym, refl, ap, ◌⊎◌, ⊎_elim, arith}
 use Rattle.std.proofs.lemmas.Bool.{cases_order, ltb-true, lt-ltb, and_parts, and_from}
 use Rattle.std.proofs.lemmas.List.{get_or-set_same, get_or-set_other}
 use Rattle.std.proofs.Math.Nat.{mul-le-mul_right}
 use Rattle.words.specs.declared.Row.{Row}
 use Rattle.words.specs.declared.NackName.{NackName}
+use Rattle.words.specs.declared.Binding.{Binding}
+use Rattle.words.specs.Words.{nack_word}
 use Rattle.protocol.specs.Tables.{Table, thread_len, place_of, nack_place, is_row, is_nack, word_at, nack_at, row_eq}
-use Rattle.protocol.specs.Worlds.{with_word}
+use Rattle.protocol.specs.Worlds.{with_word, with_nack}
 use Rattle.protocol.proofs.RowLemmas.{row_eq-false, same_row}
 
 pub row_inside : (t : Table) (r : Row) → is_row t r ≡ true → (r.thread < t.threads) × (r.sync < t.rows)
@@ -89,6 +91,16 @@ nack_apart t r p n h k a e =
     let rest = same_rest n.thread r.thread (t.rows * 34 + n.k) (r.sync * 34 + p) (thread_len t.rows) (omega arith) (omega arith) whole in
     absurd (omega arith)
 
+-- nacks have places of their own
+pub same_nack_place : (t : Table) (n m : NackName) → is_nack t n ≡ true → is_nack t m ≡ true → nack_place t.rows n ≡ nack_place t.rows m → (n.thread ≡ m.thread) × (n.k ≡ m.k)
+same_nack_place t n m h k e =
+    let in_n = nack_inside t n h in
+    let in_m = nack_inside t m k in
+    let whole : n.thread * thread_len t.rows + (t.rows * 34 + n.k) ≡ m.thread * thread_len t.rows + (t.rows * 34 + m.k) = omega arith in
+    let threads = same_block n.thread m.thread (t.rows * 34 + n.k) (t.rows * 34 + m.k) (thread_len t.rows) (omega arith) (omega arith) whole in
+    let rest = same_rest n.thread m.thread (t.rows * 34 + n.k) (t.rows * 34 + m.k) (thread_len t.rows) (omega arith) (omega arith) whole in
+    (threads, omega arith)
+
 -- A WRITE to one word
 
 pub is_row_after : (t : Table) (x r : Row) (p v : ℕ) → is_row (with_word t x p v) r ≡ is_row t r
@@ -115,3 +127,29 @@ word_other t x r p q v h k a b n =
 pub nack_other : (t : Table) (x : Row) (n : NackName) (p v : ℕ) → is_row t x ≡ true → is_nack t n ≡ true → p < 34 → nack_at (with_word t x p v) n ≡ nack_at t n
 unfolding nack_at
 nack_other t x n p v h k a = get_or-set_other t.words (place_of t.rows x p) (nack_place t.rows n) v 0 (λ e. nack_apart t x p n h k a e)
+
+-- A NACK IS BOUND
+
+pub is_row_bound : (t : Table) (m : NackName) (b : Binding) (r : Row) → is_row (with_nack t m b) r ≡ is_row t r
+unfolding is_row with_nack
+is_row_bound t m b r = refl
+
+pub is_nack_bound : (t : Table) (m : NackName) (b : Binding) (n : NackName) → is_nack (with_nack t m b) n ≡ is_nack t n
+unfolding is_nack with_nack
+is_nack_bound t m b n = refl
+
+pub word_bound : (t : Table) (m : NackName) (b : Binding) (r : Row) (p : ℕ) → is_nack t m ≡ true → is_row t r ≡ true → p < 34 → word_at (with_nack t m b) r p ≡ word_at t r p
+unfolding word_at with_nack
+word_bound t m b r p h k a =
+    get_or-set_other t.words (nack_place t.rows m) (place_of t.rows r p) (nack_word (Some b)) 0 (λ e. nack_apart t r p m k h a (sym e))
+
+pub nack_bound : (t : Table) (m : NackName) (b : Binding) → length t.words ≡ t.threads * thread_len t.rows → is_nack t m ≡ true → nack_at (with_nack t m b) m ≡ nack_word (Some b)
+unfolding nack_at with_nack
+nack_bound t m b s h =
+    let inside = nack_place_inside t m h in
+    get_or-set_same t.words (nack_place t.rows m) (nack_word (Some b)) 0 (omega arith)
+
+pub nack_bound_other : (t : Table) (m n : NackName) (b : Binding) → is_nack t m ≡ true → is_nack t n ≡ true → ((n.thread ≡ m.thread) × (n.k ≡ m.k) → ⊥) → nack_at (with_nack t m b) n ≡ nack_at t n
+unfolding nack_at with_nack
+nack_bound_other t m n b h k d =
+    get_or-set_other t.words (nack_place t.rows m) (nack_place t.rows n) (nack_word (Some b)) 0 (λ e. d (same_nack_place t n m k h e))

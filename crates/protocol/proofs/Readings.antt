@@ -4,18 +4,20 @@ use Rattle.std.specs.Prelude.{unwrap_or}
 use Rattle.std.proofs.lemmas.Bool.{cases_eq, cases_Bool, ltb-true, ltb-false, le-ltb, lt-ltb, false≢true, true≢false}
 use Rattle.std.proofs.lemmas.List.{length-set}
 use Rattle.words.specs.declared.Row.{Row}
+use Rattle.words.specs.declared.NackName.{NackName}
+use Rattle.words.specs.declared.Binding.{Binding}
 use Rattle.words.specs.declared.Offer.{Offer}
 use Rattle.words.specs.declared.Joined.{Joined}
 use Rattle.words.specs.declared.Cell.{Cell}
 use Rattle.words.specs.declared.Cell.TheVariants.{Fresh, Waiting, Claimed, Synched, Taken}
-use Rattle.words.specs.Words.{cell_of, cell_word, count_of, offer_of, nack_of, is_word_for, IsCellInRange, IsJoinedInRange}
-use Rattle.words.proofs.WordLemmas.{cell_of-cell_word, count-count_of, cell_is_word, cell_word-cell_of}
-use Rattle.protocol.specs.Tables.{Table, thread_len, is_row, word_at, row_eq, cell_at, is_fresh, count_at, offer_at, joined_at, joined_of}
-use Rattle.protocol.specs.Worlds.{with_word, with_cell}
+use Rattle.words.specs.Words.{cell_of, cell_word, count_of, offer_of, nack_of, is_word_for, IsBindingInRange, IsCellInRange, IsJoinedInRange}
+use Rattle.words.proofs.WordLemmas.{cell_of-cell_word, count-count_of, cell_is_word, cell_word-cell_of, nack_of-nack_word}
+use Rattle.protocol.specs.Tables.{Table, thread_len, is_row, is_nack, nack_at, binding_at, word_at, row_eq, cell_at, is_fresh, count_at, offer_at, joined_at, joined_of}
+use Rattle.protocol.specs.Worlds.{with_word, with_cell, with_nack}
 use Rattle.protocol.specs.Kept.{IsFormed}
 use Rattle.protocol.proofs.RowLemmas.{row_cases, put, put_same, put_other}
 use Rattle.protocol.proofs.Linking.{cases_Option, some_inj, fresh_not_joined}
-use Rattle.protocol.proofs.Places.{is_row_after, is_nack_after, word_same, word_other, nack_other}
+use Rattle.protocol.proofs.Places.{is_row_after, is_nack_after, word_same, word_other, nack_other, is_row_bound, is_nack_bound, word_bound, nack_bound, nack_bound_other}
 
 -- a row that the table has not reads as Fresh, with no offers
 pub cell_outside : (t : Table) (r : Row) → is_row t r ≡ false → cell_at t r ≡ Fresh
@@ -198,3 +200,85 @@ joined_ranged t r j h =
     in_cell Claimed range e = let bad : None ≡ Some j = e in cc
     in_cell (Synched i) range e = subst IsJoinedInRange (some_inj i j e) range
     in_cell (Taken i) range e = subst IsJoinedInRange (some_inj i j e) range
+
+-- NACKS
+
+pub binding_inside : (t : Table) (n : NackName) → is_nack t n ≡ true → binding_at t n ≡ unwrap_or (nack_of (nack_at t n)) None
+unfolding binding_at
+binding_inside t n h = ap (λ b. cond b (unwrap_or (nack_of (nack_at t n)) None) None) h
+
+pub binding_outside : (t : Table) (n : NackName) → is_nack t n ≡ false → binding_at t n ≡ None
+unfolding binding_at
+binding_outside t n h = ap (λ b. cond b (unwrap_or (nack_of (nack_at t n)) None) None) h
+
+-- a nack that is bound is one of the table's
+pub nack_of_bound : (t : Table) (n : NackName) (b : Binding) → binding_at t n ≡ Some b → is_nack t n ≡ true
+nack_of_bound t n b h = ⊎_elim
+    (λ (e : is_nack t n ≡ true). e)
+    (λ (e : is_nack t n ≡ false). let bad : None ≡ Some b = sym (binding_outside t n e) ∙ h in cc)
+    (cases_Bool (is_nack t n))
+
+-- a write to a row's word leaves every nack
+pub binding_after_word : (t : Table) (x : Row) (p v : ℕ) → is_row t x ≡ true → p < 34 → binding_at (with_word t x p v) ≡ binding_at t
+binding_after_word t x p v h a = λ i n. at n i
+  where
+    at : (n : NackName) → binding_at (with_word t x p v) n ≡ binding_at t n
+    at n = ⊎_elim
+        (λ (e : is_nack t n ≡ true).
+        binding_inside (with_word t x p v) n (is_nack_after t x n p v ∙ e)
+        ∙ ap (λ w. unwrap_or (nack_of w) None) (nack_other t x n p v h e a)
+        ∙ sym (binding_inside t n e))
+        (λ (e : is_nack t n ≡ false). binding_outside (with_word t x p v) n (is_nack_after t x n p v ∙ e) ∙ sym (binding_outside t n e))
+        (cases_Bool (is_nack t n))
+
+pub binding_after_cell : (t : Table) (x : Row) (c : Cell) → is_row t x ≡ true → binding_at (with_cell t x c) ≡ binding_at t
+unfolding with_cell
+binding_after_cell t x c h = binding_after_word t x 0 (cell_word c) h (omega arith)
+
+-- a bind leaves every row
+pub cell_after_bind : (t : Table) (m : NackName) (b : Binding) (r : Row) → is_nack t m ≡ true → cell_at (with_nack t m b) r ≡ cell_at t r
+cell_after_bind t m b r h = ⊎_elim
+    (λ (e : is_row t r ≡ true).
+    cell_inside (with_nack t m b) r (is_row_bound t m b r ∙ e)
+    ∙ ap (λ w. unwrap_or (cell_of w) Fresh) (word_bound t m b r 0 h e (omega arith))
+    ∙ sym (cell_inside t r e))
+    (λ (e : is_row t r ≡ false). cell_outside (with_nack t m b) r (is_row_bound t m b r ∙ e) ∙ sym (cell_outside t r e))
+    (cases_Bool (is_row t r))
+
+pub offer_after_bind : (t : Table) (m : NackName) (b : Binding) (r : Row) (n : ℕ) → is_nack t m ≡ true → offer_at (with_nack t m b) r n ≡ offer_at t r n
+offer_after_bind t m b r n h =
+    offers_same t (with_nack t m b) r n (ap is_fresh (cell_after_bind t m b r h)) (λ e q a k. word_bound t m b r q h (row_of_open t r e) k)
+
+pub binding_bound : (t : Table) (m : NackName) (b : Binding) → length t.words ≡ t.threads * thread_len t.rows → is_nack t m ≡ true → IsBindingInRange b → binding_at (with_nack t m b) m ≡ Some b
+binding_bound t m b s h g =
+    binding_inside (with_nack t m b) m (is_nack_bound t m b m ∙ h)
+    ∙ ap (λ w. unwrap_or (nack_of w) None) (nack_bound t m b s h)
+    ∙ ap (λ (o : Option (Option Binding)). unwrap_or o None) (nack_of-nack_word (Some b) g)
+
+-- what is bound stays so, where the nack that is bound was not
+pub binding_kept : (t : Table) (m : NackName) (b : Binding) → is_nack t m ≡ true → binding_at t m ≡ None → (n : NackName) (c : Binding) → binding_at t n ≡ Some c → binding_at (with_nack t m b) n ≡ Some c
+binding_kept t m b h free n c e =
+    let inside = nack_of_bound t n c e in
+    binding_inside (with_nack t m b) n (is_nack_bound t m b n ∙ inside)
+    ∙ ap (λ w. unwrap_or (nack_of w) None)
+    (nack_bound_other t m n b h inside (λ d. let bad : None ≡ Some c = sym free ∙ sym (λ i. binding_at t (record { thread = d.0 i; k = d.1 i })) ∙ e in cc))
+    ∙ sym (binding_inside t n inside)
+    ∙ e
+
+pub formed_after_bind : (t : Table) (m : NackName) (b : Binding) → length t.words ≡ t.threads * thread_len t.rows → is_nack t m ≡ true → IsBindingInRange b → IsFormed t → IsFormed (with_nack t m b)
+formed_after_bind t m b s h g f = record {
+  rows = λ r q i k.
+      let here = sym (is_row_bound t m b r) ∙ i in
+      ap (is_word_for q) (word_bound t m b r q h here k) ∙ f.rows r q here k;
+  nacks = λ n i.
+      let here = sym (is_nack_bound t m b n) ∙ i in
+      ⊎_elim
+      (λ (e : n.thread ≡ m.thread). ⊎_elim
+      (λ (d : n.k ≡ m.k).
+      ap (λ w. is_some (nack_of w)) ((λ x. nack_at (with_nack t m b) (record { thread = e x; k = d x })) ∙ nack_bound t m b s h)
+      ∙ ap (λ (o : Option (Option Binding)). is_some o) (nack_of-nack_word (Some b) g))
+      (λ (d : n.k ≡ m.k → ⊥). ap (λ w. is_some (nack_of w)) (nack_bound_other t m n b h here (λ z. d z.1)) ∙ f.nacks n here)
+      (cases_eq n.k m.k))
+      (λ (e : n.thread ≡ m.thread → ⊥). ap (λ w. is_some (nack_of w)) (nack_bound_other t m n b h here (λ z. e z.0)) ∙ f.nacks n here)
+      (cases_eq n.thread m.thread);
+}

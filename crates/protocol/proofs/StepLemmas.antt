@@ -3,17 +3,20 @@ use Rattle.std.proofs.Common.{◌≡◌, ◌≢◌, ℕ, ◌+◌, ◌-◌, ◌<�
 use Rattle.std.specs.Prelude.{is_none, option_to_list}
 use Rattle.std.specs.List.{sum_by}
 use Rattle.std.proofs.lemmas.Bool.{cases_Bool, cases_eq, false≢true, true≢false}
+use Rattle.words.specs.declared.NackName.{NackName}
+use Rattle.words.specs.declared.Binding.{Binding}
 use Rattle.words.specs.declared.Row.{Row}
 use Rattle.words.specs.declared.Joined.{Joined}
 use Rattle.words.specs.declared.Offer.{Offer}
 use Rattle.words.specs.declared.Commit.{Commit}
 use Rattle.words.specs.declared.Cell.{Cell}
 use Rattle.words.specs.declared.Cell.TheVariants.{Waiting, Claimed, Synched}
-use Rattle.protocol.specs.Tables.{row_eq, all_rows, is_fresh, is_taken, joined_of, names, is_partner, offers_meet, stands_alone, last_stamp, stamp_of}
+use Rattle.protocol.specs.Tables.{row_eq, all_rows, is_fresh, is_taken, joined_of, names, is_partner, offers_meet, last_stamp, stamp_of, bound_row, cause_of}
 use Rattle.protocol.specs.Worlds.{mirrored}
 use Rattle.protocol.specs.Ledgers.{commits_of, told_at, told_by, tells, is_send, commit_named}
 use Rattle.protocol.specs.Kept.{joined_by, IsSideOf, IsAlone, Linked}
 use Rattle.protocol.proofs.RowLemmas.{row_eq-true, row_eq-false, row_cases, row_ne, put, put_same, put_other, once_all}
+use Rattle.protocol.proofs.Causes.{IsAlways, IsOnEnabled, enabling, cause_is, cause_alone, cause_kept}
 use Rattle.protocol.proofs.Linking.{cases_Option, some_inj, naming, names_from, fresh_not_joined, taken_joined, named_alone, sum_change, sum_change_two, unnamed_idle, partner_open, told_same, told_count, count_of_commits, named_some, offers_swapped, one_offer_sends}
 
 -- the row before
@@ -21,7 +24,7 @@ abbrev before : Row → Row
 before r = record { thread = r.thread; sync = r.sync - 1 }
 
 -- The row before an open row is joined, so a row that is not joined is not before it.
-before_ne : (threads rows : ℕ) (cell : Row → Cell) (offer : Row → ℕ → Option Offer) (x r : Row) → Linked threads rows cell offer → joined_of (cell x) ≡ None → is_fresh (cell r) ≡ false → (r.sync ≡ 0 → ⊥) → row_eq (before r) x ≡ false
+before_ne : {bound : NackName → Option Binding} (threads rows : ℕ) (cell : Row → Cell) (offer : Row → ℕ → Option Offer) (x r : Row) → Linked threads rows cell offer bound → joined_of (cell x) ≡ None → is_fresh (cell r) ≡ false → (r.sync ≡ 0 → ⊥) → row_eq (before r) x ≡ false
 before_ne threads rows cell offer x r l j f n =
     row_ne (before r) x (λ e.
     let here : is_fresh (cell (record { thread = r.thread; sync = r.sync - 1 + 1 })) ≡ false =
@@ -30,7 +33,7 @@ before_ne threads rows cell offer x r l j f n =
     false≢true (sym (ap (λ (o : Option Joined). is_some o) (ap (λ (y : Row). joined_of (cell y)) e ∙ j)) ∙ some))
 
 -- so the last stamp of an open row stays where such a row is joined
-last_kept : (threads rows : ℕ) (cell : Row → Cell) (offer : Row → ℕ → Option Offer) (x r : Row) (c : Cell) → Linked threads rows cell offer → joined_of (cell x) ≡ None → is_fresh (cell r) ≡ false → last_stamp (joined_by (put cell x c)) r ≡ last_stamp (joined_by cell) r
+last_kept : {bound : NackName → Option Binding} (threads rows : ℕ) (cell : Row → Cell) (offer : Row → ℕ → Option Offer) (x r : Row) (c : Cell) → Linked threads rows cell offer bound → joined_of (cell x) ≡ None → is_fresh (cell r) ≡ false → last_stamp (joined_by (put cell x c)) r ≡ last_stamp (joined_by cell) r
 last_kept threads rows cell offer x r c l j f =
     ⊎_elim
     (λ (z : r.sync ≡ 0).
@@ -47,8 +50,8 @@ pub record HasTurn (threads rows : ℕ) (cell : Row → Cell) (x : Row) : Type 0
   pub inside : (x.thread < threads) × (x.sync < rows)
   pub turn : (sync : ℕ) → x.sync ≡ sync + 1 → is_taken (cell (record { thread = x.thread; sync = sync })) ≡ true
 
-module _ (threads rows : ℕ) (cell : Row → Cell) (offer offer' : Row → ℕ → Option Offer) (x : Row) (c : Cell)
-    (l : Linked threads rows cell offer)
+module _ {bound : NackName → Option Binding} (threads rows : ℕ) (cell : Row → Cell) (offer offer' : Row → ℕ → Option Offer) (x : Row) (c : Cell)
+    (l : Linked threads rows cell offer bound)
     (same : joined_of c ≡ joined_of (cell x))
     (takes : is_taken (cell x) ≡ true → is_taken c ≡ true)
     (unclaimed : (q : Row) → names (joined_of (cell q)) x ≡ true → cell x ≢ Claimed)
@@ -88,12 +91,14 @@ module _ (threads rows : ℕ) (cell : Row → Cell) (offer offer' : Row → ℕ 
         stamp = old.stamp ∙ (λ i. 1 + max (sym (last_same r) i) (sym (last_same p.0) i));
       }
 
-  plain_alone : (r : Row) (j : Joined) → joined_of (cell r) ≡ Some j → j.partner ≡ None → IsAlone (put cell x c) offer' r j
+  plain_alone : (r : Row) (j : Joined) → joined_of (cell r) ≡ Some j → j.partner ≡ None → IsAlone (put cell x c) offer' bound r j
   plain_alone r j h k =
       let old = l.alone r j h k in
       record {
-        alone = (λ i. stands_alone (offers r (fresh_not_joined (cell r) j h) i j.own)) ∙ old.alone;
-        stamp = old.stamp ∙ ap (λ n. 1 + n) (sym (last_same r));
+        cause = old.cause;
+        is = (λ i. cause_of (joined_by (put cell x c)) offer' bound (offers r (fresh_not_joined (cell r) j h) i j.own))
+            ∙ cause_kept (joined_by cell) (joined_by (put cell x c)) offer offer' bound bound (λ q w e. joined_same q ∙ e) (λ q w e. offers q (fresh_not_joined (cell q) w e)) (λ n b e. e) (offer r j.own) old.cause old.is;
+        stamp = old.stamp ∙ ap (λ n. 1 + max n old.cause) (sym (last_same r));
       }
 
   plain_count : length (commits_of (all_rows threads rows) (joined_by (put cell x c)) offer') ≡ length (commits_of (all_rows threads rows) (joined_by cell) offer)
@@ -103,7 +108,7 @@ module _ (threads rows : ℕ) (cell : Row → Cell) (offer offer' : Row → ℕ 
       (λ j h. offers r (fresh_not_joined (cell r) j h))
       (λ j p h k. (joined_same p.0, offers p.0 (partner_open threads rows cell offer r j p l h k))) i)
 
-  pub linked_plain : Linked threads rows (put cell x c) offer'
+  pub linked_plain : Linked threads rows (put cell x c) offer' bound
   linked_plain = record {
     inside = λ r h. ⊎_elim
         (λ (e : r ≡ x).
@@ -156,7 +161,7 @@ apart_rows : (r s : Row) → (r.thread ≡ s.thread → ⊥) → row_eq r s ≡ 
 apart_rows r s h = row_ne r s (λ e. h (ap (λ (y : Row). y.thread) e))
 
 -- no last stamp exceeds the number of commits
-pub last_bounded : (threads rows : ℕ) (cell : Row → Cell) (offer : Row → ℕ → Option Offer) (r : Row) → Linked threads rows cell offer → last_stamp (joined_by cell) r ≤ length (commits_of (all_rows threads rows) (joined_by cell) offer)
+pub last_bounded : {bound : NackName → Option Binding} (threads rows : ℕ) (cell : Row → Cell) (offer : Row → ℕ → Option Offer) (r : Row) → Linked threads rows cell offer bound → last_stamp (joined_by cell) r ≤ length (commits_of (all_rows threads rows) (joined_by cell) offer)
 last_bounded threads rows cell offer r l =
     let n : ℕ = length (commits_of (all_rows threads rows) (joined_by cell) offer) in
     let stamped : stamp_of (joined_of (cell (before r))) ≤ n =
@@ -177,8 +182,8 @@ last_bounded threads rows cell offer r l =
     (cases_eq r.sync 0)
 
 -- a row that is neither joined nor Fresh is committed: rows stay inside and in turn, and a row alone stays so
-module _ (threads rows : ℕ) (cell : Row → Cell) (offer : Row → ℕ → Option Offer) (x : Row) (j : Joined)
-    (l : Linked threads rows cell offer)
+module _ {bound : NackName → Option Binding} (threads rows : ℕ) (cell : Row → Cell) (offer : Row → ℕ → Option Offer) (x : Row) (j : Joined)
+    (l : Linked threads rows cell offer bound)
     (not_joined : joined_of (cell x) ≡ None)
     (opened : is_fresh (cell x) ≡ false) where
   inside_kept : (r : Row) → is_fresh (put cell x (Synched j) r) ≡ false → (r.thread < threads) × (r.sync < rows)
@@ -203,12 +208,23 @@ module _ (threads rows : ℕ) (cell : Row → Cell) (offer : Row → ℕ → Opt
   last_after : (r : Row) → is_fresh (cell r) ≡ false → last_stamp (joined_by (put cell x (Synched j))) r ≡ last_stamp (joined_by cell) r
   last_after r f = last_kept threads rows cell offer x r (Synched j) l not_joined f
 
-  alone_kept : (r : Row) (w : Joined) → joined_of (cell r) ≡ Some w → w.partner ≡ None → IsAlone (put cell x (Synched j)) offer r w
+  -- what is joined stays so
+  joined_stays : (r : Row) (w : Joined) → joined_of (cell r) ≡ Some w → joined_of (put cell x (Synched j) r) ≡ Some w
+  joined_stays r w h = ⊎_elim
+      (λ (e : r ≡ x). let bad : None ≡ Some w = sym not_joined ∙ ap (λ (y : Row). joined_of (cell y)) (sym e) ∙ h in cc)
+      (λ (e : row_eq r x ≡ false). ap joined_of (put_other cell x (Synched j) r e) ∙ h)
+      (row_cases r x)
+
+  cause_after : (o : Option Offer) (s : ℕ) → cause_of (joined_by cell) offer bound o ≡ Some s → cause_of (joined_by (put cell x (Synched j))) offer bound o ≡ Some s
+  cause_after = cause_kept (joined_by cell) (joined_by (put cell x (Synched j))) offer offer bound bound joined_stays (λ r w e. refl) (λ n b e. e)
+
+  alone_kept : (r : Row) (w : Joined) → joined_of (cell r) ≡ Some w → w.partner ≡ None → IsAlone (put cell x (Synched j)) offer bound r w
   alone_kept r w h k =
       let old = l.alone r w h k in
       record {
-        alone = old.alone;
-        stamp = old.stamp ∙ ap (λ n. 1 + n) (sym (last_after r (fresh_not_joined (cell r) w h)));
+        cause = old.cause;
+        is = cause_after (offer r w.own) old.cause old.is;
+        stamp = old.stamp ∙ ap (λ n. 1 + max n old.cause) (sym (last_after r (fresh_not_joined (cell r) w h)));
       }
 
 -- how the row is joined then, and that every other is as before
@@ -220,15 +236,15 @@ was_joined : (cell : Row → Cell) (x : Row) (j : Joined) (r : Row) (w : Joined)
 was_joined cell x j r w e h = sym (ap joined_of (put_other cell x (Synched j) r e)) ∙ h
 
 -- A WAITING ROW, by a join or a grant: it names nobody whom another row names, and tells its commit
-module _ (threads rows : ℕ) (cell : Row → Cell) (offer : Row → ℕ → Option Offer) (o : Row) (j : Joined) (commit : Commit)
-    (l : Linked threads rows cell offer)
+module _ {bound : NackName → Option Binding} (threads rows : ℕ) (cell : Row → Cell) (offer : Row → ℕ → Option Offer) (o : Row) (j : Joined) (commit : Commit)
+    (l : Linked threads rows cell offer bound)
     (waits : cell o ≡ Waiting)
     (free : (q p : Row) → is_partner j.partner p ≡ true → names (joined_of (cell q)) p ≡ false)
     (named : commit_named offer o j ≡ Some commit)
     (told : tells (joined_by (put cell o (Synched j))) (offer o j.own) j.partner ≡ true)
     (low : j.stamp ≤ length (commits_of (all_rows threads rows) (joined_by cell) offer) + 1)
     (side : (p : Row × ℕ) → j.partner ≡ Some p → IsSideOf (put cell o (Synched j)) offer o j p)
-    (alone : j.partner ≡ None → IsAlone (put cell o (Synched j)) offer o j) where
+    (alone : j.partner ≡ None → IsAlone (put cell o (Synched j)) offer bound o j) where
   not_joined : joined_of (cell o) ≡ None
   not_joined = ap joined_of waits
 
@@ -278,14 +294,14 @@ module _ (threads rows : ℕ) (cell : Row → Cell) (offer : Row → ℕ → Opt
       let right = count_of_commits rs (joined_by cell) offer in
       omega arith
 
-  pub linked_synched : Linked threads rows (put cell o (Synched j)) offer
+  pub linked_synched : Linked threads rows (put cell o (Synched j)) offer bound
   linked_synched = record {
     inside = inside_kept threads rows cell offer o j l not_joined opened;
     in_turn = turn_kept threads rows cell offer o j l not_joined opened;
     alone = λ r w h c. ⊎_elim
         (λ (e : r ≡ o).
         let same : j ≡ w = same_way cell o j r w e h in
-        subst (λ (z : Row × Joined). IsAlone (put cell o (Synched j)) offer z.0 z.1) (λ x. (sym e x, same x)) (alone (ap (λ (v : Joined). v.partner) same ∙ c)))
+        subst (λ (z : Row × Joined). IsAlone (put cell o (Synched j)) offer bound z.0 z.1) (λ x. (sym e x, same x)) (alone (ap (λ (v : Joined). v.partner) same ∙ c)))
         (λ (e : row_eq r o ≡ false). alone_kept threads rows cell offer o j l not_joined opened r w (was_joined cell o j r w e h) c)
         (row_cases r o);
     sides = λ r w p h c. ⊎_elim
@@ -327,8 +343,8 @@ module _ (threads rows : ℕ) (cell : Row → Cell) (offer : Row → ℕ → Opt
 
 -- THE JOIN
 
-module _ (threads rows : ℕ) (cell : Row → Cell) (offer : Row → ℕ → Option Offer) (m : Row) (i : ℕ) (o : Row) (k : ℕ) (j : Joined)
-    (l : Linked threads rows cell offer)
+module _ {bound : NackName → Option Binding} (threads rows : ℕ) (cell : Row → Cell) (offer : Row → ℕ → Option Offer) (m : Row) (i : ℕ) (o : Row) (k : ℕ) (j : Joined)
+    (l : Linked threads rows cell offer bound)
     (mine : cell m ≡ Claimed)
     (unnamed : (q : Row) → names (joined_of (cell q)) m ≡ false)
     (other : cell o ≡ Waiting)
@@ -361,7 +377,7 @@ module _ (threads rows : ℕ) (cell : Row → Cell) (offer : Row → ℕ → Opt
       swapped : (a b : ℕ) → 1 + max a b ≡ 1 + max b a
       swapped a b = omega arith
 
-  pub linked_join : Linked threads rows (put cell o (Synched j)) offer
+  pub linked_join : Linked threads rows (put cell o (Synched j)) offer bound
   linked_join =
       let found = named_some offer o j (m, i) partner_is joined_side.meets in
       linked_synched threads rows cell offer o j found.0 l other
@@ -377,41 +393,72 @@ module _ (threads rows : ℕ) (cell : Row → Cell) (offer : Row → ℕ → Opt
 
 -- THE GRANT
 
-module _ (threads rows : ℕ) (cell : Row → Cell) (offer : Row → ℕ → Option Offer) (o : Row) (k : ℕ) (j : Joined)
-    (l : Linked threads rows cell offer)
+-- no cause exceeds the number of commits
+pub cause_bounded : {bound : NackName → Option Binding} (threads rows : ℕ) (cell : Row → Cell) (offer : Row → ℕ → Option Offer) (o : Option Offer) (s : ℕ) → Linked threads rows cell offer bound → cause_of (joined_by cell) offer bound o ≡ Some s → s ≤ length (commits_of (all_rows threads rows) (joined_by cell) offer)
+cause_bounded {bound} threads rows cell offer o s l h = ⊎_elim
+    (λ (a : IsAlways o s). let z : s ≡ 0 = a.4 in omega arith)
+    (λ (n : IsOnEnabled (joined_by cell) offer bound o s).
+    let e = enabling (joined_by cell) offer bound n.0 n.1 n.5 in
+    let b = l.bounded (bound_row n.0 e.binding) n.1 e.is_joined in
+    let z : s ≡ n.1.stamp = n.6 in
+    omega arith)
+    (cause_is (joined_by cell) offer bound o s h)
+
+module _ {bound : NackName → Option Binding} (threads rows : ℕ) (cell : Row → Cell) (offer : Row → ℕ → Option Offer) (o : Row) (k : ℕ) (s : ℕ) (j : Joined)
+    (l : Linked threads rows cell offer bound)
     (waits : cell o ≡ Waiting)
-    (alone : stands_alone (offer o k) ≡ true)
-    (way : j ≡ record { own = k; partner = None; stamp = 1 + last_stamp (joined_by cell) o }) where
+    (caused : cause_of (joined_by cell) offer bound (offer o k) ≡ Some s)
+    (way : j ≡ record { own = k; partner = None; stamp = 1 + max (last_stamp (joined_by cell) o) s }) where
   own_is : j.own ≡ k
   own_is = ap (λ (w : Joined). w.own) way
 
   nobody : j.partner ≡ None
   nobody = ap (λ (w : Joined). w.partner) way
 
-  stamp_is : j.stamp ≡ 1 + last_stamp (joined_by cell) o
+  stamp_is : j.stamp ≡ 1 + max (last_stamp (joined_by cell) o) s
   stamp_is = ap (λ (w : Joined). w.stamp) way
 
-  chosen : stands_alone (offer o j.own) ≡ true
-  chosen = ap (λ n. stands_alone (offer o n)) own_is ∙ alone
+  chosen : cause_of (joined_by cell) offer bound (offer o j.own) ≡ Some s
+  chosen = ap (λ n. cause_of (joined_by cell) offer bound (offer o n)) own_is ∙ caused
 
-  pub linked_grant : Linked threads rows (put cell o (Synched j)) offer
+  pub linked_grant : Linked threads rows (put cell o (Synched j)) offer bound
   linked_grant =
-      let found = named_alone offer o j nobody chosen in
+      let found = named_alone offer o j nobody (cause_alone (joined_by cell) offer bound (offer o j.own) s chosen) in
       linked_synched threads rows cell offer o j found.0 l waits
       (λ q p e. absurd (false≢true (sym (ap (λ (v : Option (Row × ℕ)). is_partner v p) nobody) ∙ e)))
       found.1
       (ap (tells (joined_by (put cell o (Synched j))) (offer o j.own)) nobody)
-      (let b = last_bounded threads rows cell offer o l in omega (arith, stamp_is))
+      (let a = last_bounded threads rows cell offer o l in
+      let b = cause_bounded threads rows cell offer (offer o j.own) s l chosen in
+      omega (arith, stamp_is))
       (λ p e. let bad : None ≡ Some p = sym nobody ∙ e in cc)
       (λ e. record {
-        alone = chosen;
-        stamp = stamp_is ∙ ap (λ n. 1 + n) (sym (last_after threads rows cell offer o j l (ap joined_of waits) (ap is_fresh waits) o (ap is_fresh waits)));
+        cause = s;
+        is = cause_after threads rows cell offer o j l (ap joined_of waits) (ap is_fresh waits) (offer o j.own) s chosen;
+        stamp = stamp_is ∙ ap (λ n. 1 + max n s) (sym (last_after threads rows cell offer o j l (ap joined_of waits) (ap is_fresh waits) o (ap is_fresh waits)));
       })
+
+-- THE BIND of a nack that was not bound
+pub linked_bind : (bound bound' : NackName → Option Binding) (threads rows : ℕ) (cell : Row → Cell) (offer : Row → ℕ → Option Offer) → Linked threads rows cell offer bound → ((n : NackName) (b : Binding) → bound n ≡ Some b → bound' n ≡ Some b) → Linked threads rows cell offer bound'
+linked_bind bound bound' threads rows cell offer l binds = record {
+  inside = l.inside;
+  in_turn = l.in_turn;
+  alone = λ r j h e.
+      let old = l.alone r j h e in
+      record {
+        cause = old.cause;
+        is = cause_kept (joined_by cell) (joined_by cell) offer offer bound bound' (λ q w x. x) (λ q w x. refl) binds (offer r j.own) old.cause old.is;
+        stamp = old.stamp;
+      };
+  sides = l.sides;
+  once = l.once;
+  bounded = l.bounded;
+}
 
 -- THE SEAL
 
-module _ (threads rows : ℕ) (cell : Row → Cell) (offer : Row → ℕ → Option Offer) (m o : Row) (j w : Joined) (i : ℕ)
-    (l : Linked threads rows cell offer)
+module _ {bound : NackName → Option Binding} (threads rows : ℕ) (cell : Row → Cell) (offer : Row → ℕ → Option Offer) (m o : Row) (j w : Joined) (i : ℕ)
+    (l : Linked threads rows cell offer bound)
     (mine : cell m ≡ Claimed)
     (other : joined_of (cell o) ≡ Some j)
     (partner : j.partner ≡ Some (m, i))
@@ -548,7 +595,7 @@ module _ (threads rows : ℕ) (cell : Row → Cell) (offer : Row → ℕ → Opt
       (λ (e : row_eq r o ≡ false). side_other r v p (row_eq-false r o e) (was_joined cell m w r v n h) c)
       (row_cases r o)
 
-  pub linked_seal : Linked threads rows (put cell m (Synched w)) offer
+  pub linked_seal : Linked threads rows (put cell m (Synched w)) offer bound
   linked_seal = record {
     inside = inside_kept threads rows cell offer m w l unjoined open_m;
     in_turn = turn_kept threads rows cell offer m w l unjoined open_m;

@@ -4,19 +4,21 @@ use Rattle.std.specs.List.{find}
 use Rattle.std.proofs.lemmas.Bool.{cases_Bool, false≢true}
 use Rattle.std.proofs.lemmas.List.{get_or-set_same, get_or-set_other}
 use Rattle.words.specs.declared.Row.{Row}
+use Rattle.words.specs.declared.NackName.{NackName}
+use Rattle.words.specs.declared.Binding.{Binding}
 use Rattle.words.specs.declared.Joined.{Joined}
 use Rattle.words.specs.declared.Cell.{Cell}
 use Rattle.words.specs.declared.Cell.TheVariants.{Waiting, Claimed, Synched}
 use Rattle.words.specs.Words.{is_word_for}
-use Rattle.protocol.specs.Tables.{Table, is_row, row_eq, all_rows, number_of, cell_at, is_fresh, joined_of, joined_at, offer_at, offers_meet, names, is_partner, namer_of, stands_alone}
-use Rattle.protocol.specs.Worlds.{World, namer_at, with_word, with_cell, with_table, joined_with, mirrored, granted_by}
+use Rattle.protocol.specs.Tables.{Table, is_row, is_nack, row_eq, all_rows, number_of, cell_at, is_fresh, joined_of, joined_at, offer_at, offers_meet, names, is_partner, namer_of, cause_at}
+use Rattle.protocol.specs.Worlds.{World, namer_at, with_word, with_cell, with_table, joined_with, mirrored, granted_by, with_nack}
 use Rattle.protocol.specs.Kept.{Kept, joined_by}
 use Rattle.protocol.specs.States.{Tells}
 use Rattle.protocol.proofs.RowLemmas.{row_eq-refl, row_eq-false, row_cases, row_ne, put, put_same, put_other}
 use Rattle.protocol.proofs.Linking.{fresh_not_joined}
 use Rattle.protocol.proofs.StepLemmas.{names_o}
 use Rattle.protocol.proofs.Places.{row_inside, block_inside}
-use Rattle.protocol.proofs.Readings.{cell_after_word, cell_after_cell, row_of_open}
+use Rattle.protocol.proofs.Readings.{cell_after_word, cell_after_cell, cell_after_bind, row_of_open}
 use Rattle.protocol.proofs.Naming.{namer_is}
 use Rattle.protocol.proofs.Keeping.{unnamed_row, join_in_range, IsSealing, seal_in_range, same_number, grant_in_range}
 
@@ -122,8 +124,13 @@ tells_seal w m q s namers k mine sized tells =
     tells
 
 -- a grant names nobody
-pub tells_grant : (w : World) (o : Row) (n : ℕ) (namers : List (Option Row)) → Kept w → cell_at w.table o ≡ Waiting → stands_alone (offer_at w.table o n) ≡ true → Tells w namers → Tells (with_table w (with_cell w.table o (Synched (granted_by w.table o n)))) namers
+pub tells_grant : (w : World) (o : Row) (n s : ℕ) (namers : List (Option Row)) → Kept w → cell_at w.table o ≡ Waiting → cause_at w.table o n ≡ Some s → Tells w namers → Tells (with_table w (with_cell w.table o (Synched (granted_by w.table o n)))) namers
 unfolding granted_by
-tells_grant w o n namers k waits alone =
-    tells_plain w o (Synched (granted_by w.table o n)) namers k (row_of_open w.table o (ap is_fresh waits)) (grant_in_range w o n k alone)
+tells_grant w o n s namers k waits caused =
+    tells_plain w o (Synched (granted_by w.table o n)) namers k (row_of_open w.table o (ap is_fresh waits)) (grant_in_range w o n s k caused)
     (λ r. ap (λ (c : Cell). names (joined_of c) r) (sym waits))
+
+-- a bind changes no row
+pub tells_bind : (w : World) (m : NackName) (b : Binding) (namers : List (Option Row)) → is_nack w.table m ≡ true → Tells w namers → Tells (with_table w (with_nack w.table m b)) namers
+unfolding with_nack
+tells_bind w m b namers h = tells_same w (with_nack w.table m b) namers refl refl (λ q r. ap (λ (c : Cell). names (joined_of c) r) (cell_after_bind w.table m b q h))

@@ -2,12 +2,13 @@
 use Rattle.std.specs.Prelude.{◌≡◌, ◌≢◌, ℕ, ◌+◌, ◌*◌, ◌<◌, ◌≤◌, ◌⊎◌, true, false, Option, Some, None, is_some, length, max}
 use Rattle.words.specs.Words.{is_word_for, nack_of}
 use Rattle.words.specs.declared.NackName.{NackName}
+use Rattle.words.specs.declared.Binding.{Binding}
 use Rattle.words.specs.declared.Offer.{Offer}
 use Rattle.words.specs.declared.Row.{Row}
 use Rattle.words.specs.declared.Joined.{Joined}
 use Rattle.words.specs.declared.Cell.{Cell}
 use Rattle.words.specs.declared.Cell.TheVariants.{Claimed}
-use Rattle.protocol.specs.Tables.{Table, thread_len, all_rows, is_row, is_nack, word_at, nack_at, cell_at, offer_at, is_fresh, is_taken, joined_of, names, offers_meet, stands_alone, last_stamp}
+use Rattle.protocol.specs.Tables.{Table, thread_len, all_rows, is_row, is_nack, word_at, nack_at, cell_at, offer_at, is_fresh, is_taken, joined_of, names, offers_meet, last_stamp, binding_at, cause_of}
 use Rattle.protocol.specs.Worlds.{World, holder_at, mirrored}
 use Rattle.protocol.specs.Ledgers.{commits_of}
 
@@ -21,18 +22,19 @@ pub record IsSideOf (cell : Row → Cell) (offer : Row → ℕ → Option Offer)
   pub back : (cell p.0 ≡ Claimed) ⊎ (joined_of (cell p.0) ≡ Some (mirrored r j p.1))
   pub stamp : j.stamp ≡ 1 + max (last_stamp (joined_by cell) r) (last_stamp (joined_by cell) p.0)
 
--- row r, joined as j, is committed alone, by an always
-pub record IsAlone (cell : Row → Cell) (offer : Row → ℕ → Option Offer) (r : Row) (j : Joined) : Type 0 where
-  pub alone : stands_alone (offer r j.own) ≡ true
-  pub stamp : j.stamp ≡ 1 + last_stamp (joined_by cell) r
+-- row r, joined as j, is committed alone, by an always or by a nack that is enabled
+pub record IsAlone (cell : Row → Cell) (offer : Row → ℕ → Option Offer) (bound : NackName → Option Binding) (r : Row) (j : Joined) : Type 0 where
+  pub cause : ℕ
+  pub is : cause_of (joined_by cell) offer bound (offer r j.own) ≡ Some cause
+  pub stamp : j.stamp ≡ 1 + max (last_stamp (joined_by cell) r) cause
 
--- the cells and offers of a table, as all steps keep them
-pub record Linked (threads rows : ℕ) (cell : Row → Cell) (offer : Row → ℕ → Option Offer) : Type 0 where
+-- the cells, the offers and the bound nacks of a table, as all steps keep them
+pub record Linked (threads rows : ℕ) (cell : Row → Cell) (offer : Row → ℕ → Option Offer) (bound : NackName → Option Binding) : Type 0 where
   -- only rows of the table are opened
   pub inside : (r : Row) → is_fresh (cell r) ≡ false → (r.thread < threads) × (r.sync < rows)
   -- a row is opened after the row before it in its thread was taken
   pub in_turn : (thread sync : ℕ) → is_fresh (cell (record { thread = thread; sync = sync + 1 })) ≡ false → is_taken (cell (record { thread = thread; sync = sync })) ≡ true
-  pub alone : (r : Row) (j : Joined) → joined_of (cell r) ≡ Some j → j.partner ≡ None → IsAlone cell offer r j
+  pub alone : (r : Row) (j : Joined) → joined_of (cell r) ≡ Some j → j.partner ≡ None → IsAlone cell offer bound r j
   pub sides : (r : Row) (j : Joined) (p : Row × ℕ) → joined_of (cell r) ≡ Some j → j.partner ≡ Some p → IsSideOf cell offer r j p
   -- a row is the partner of one row at most
   pub once : (q r p : Row) → names (joined_of (cell q)) p ≡ true → names (joined_of (cell r)) p ≡ true → q ≡ r
@@ -49,7 +51,7 @@ pub record Kept (w : World) : Type 0 where
   pub few_threads : w.table.threads ≤ 64
   pub few_rows : w.table.rows ≤ 1024
   pub formed : IsFormed w.table
-  pub linked : Linked w.table.threads w.table.rows (cell_at w.table) (offer_at w.table)
+  pub linked : Linked w.table.threads w.table.rows (cell_at w.table) (offer_at w.table) (binding_at w.table)
   -- a row is held after the row before it in its thread was taken
   pub held : (thread sync seat : ℕ) → holder_at w (record { thread = thread; sync = sync + 1 }) ≡ Some seat → is_taken (cell_at w.table (record { thread = thread; sync = sync })) ≡ true
   pub seated : length w.holders ≡ w.table.threads * w.table.rows

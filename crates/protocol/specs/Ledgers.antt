@@ -1,5 +1,5 @@
 -- Ledgers: the commits that a table's words name, and when they are lawful.
-use Rattle.std.specs.Prelude.{zero, suc, ◌⊎◌, ◌/◌, ◌%◌, ◌==◌, ◌^◌, ◌≡◌, ℕ, ◌+◌, ◌*◌, ◌<◌, ◌≤◌, ◌≢◌, Bool, true, false, ◌||◌, ◌&&◌, nat_lt, if◌then◌else◌, Option, Some, None, is_some, is_none, option_and_then, option_to_list, List, [], ◌++◌, map, length, count_by, slice_get, slice_index_or}
+use Rattle.std.specs.Prelude.{zero, suc, ◌⊎◌, ◌≡◌, ℕ, ◌+◌, ◌*◌, ◌<◌, ◌≤◌, ◌≢◌, Bool, true, false, ◌||◌, ◌&&◌, nat_lt, if◌then◌else◌, Option, Some, None, is_some, is_none, option_and_then, option_to_list, List, [], ◌++◌, map, length, count_by, slice_get, slice_index_or}
 use Rattle.std.specs.List.{range_with_len, flat_map}
 use Rattle.std.specs.List.Sorted.{IsSortedByKey}
 use Rattle.std.specs.Ordering.{nat_cmp, ordering_then}
@@ -15,7 +15,7 @@ use Rattle.words.specs.declared.Cause.{Cause}
 use Rattle.words.specs.declared.Cause.TheVariants as cause
 use Rattle.words.specs.declared.Commit.{Commit}
 use Rattle.words.specs.declared.Commit.TheVariants.{Pair, Alone}
-use Rattle.protocol.specs.Tables.{Table, all_rows, number_of, joined_at, count_at, offer_at, binding_at, namer_of}
+use Rattle.protocol.specs.Tables.{Table, all_rows, number_of, joined_at, count_at, offer_at, binding_at, namer_of, has_scope}
 
 -- What a ledger has of a row: its offers, once it is opened, and how it is committed.
 pub record Entry : Type 0 where
@@ -181,10 +181,6 @@ stamp_in (Alone at k s) = s
 
 abbrev pub Offers : (Row → ℕ → Option Offer) → Row × ℕ → Base → Type 0
 Offers offer at b = (o : Offer) × (offer at.0 at.1 ≡ Some o) × (o.base ≡ b)
-
--- bit k of a mask of scopes
-abbrev pub has_scope : ℕ → ℕ → Bool
-has_scope scopes k = scopes / 2 ^ k % 2 == 1
 
 -- nack n is bound to a row that is itself in a commit, which took an offer outside the nack's scope
 pub record IsEnabled (joined : Row → Option Joined) (offer : Row → ℕ → Option Offer) (bound : NackName → Option Binding) (n : NackName) : Type 0 where

@@ -1,5 +1,5 @@
 -- The table of words: where each word lies, and what a row or a nack reads as.
-use Rattle.std.specs.Prelude.{ℕ, zero, suc, ◌+◌, ◌-◌, ◌*◌, Bool, true, false, ◌==◌, ◌&&◌, nat_lt, if◌then◌else◌, Option, Some, None, unwrap_or, List, [], ◌∷◌, ◌++◌, find, slice_index}
+use Rattle.std.specs.Prelude.{ℕ, zero, suc, ◌+◌, ◌-◌, ◌*◌, Bool, true, false, ◌/◌, ◌%◌, ◌^◌, ◌==◌, ◌&&◌, nat_lt, if◌then◌else◌, Option, Some, None, unwrap_or, List, [], ◌∷◌, ◌++◌, find, slice_index}
 use Rattle.words.specs.Words.{cell_of, count_of, offer_of, nack_of}
 use Rattle.words.specs.declared.NackName.{NackName}
 use Rattle.words.specs.declared.Offer.{Offer}
@@ -123,17 +123,17 @@ offers_meet (Some a) (Some b) = bases_meet a.base b.base
 offers_meet (Some a) None = false
 offers_meet None b = false
 
--- an offer that commits its row alone: an always
-abbrev pub is_always : Base → Bool
-is_always (Send c m) = false
-is_always (Recv c) = false
-is_always (Always m) = true
-is_always (OnNack n) = false
-is_always Never = false
+-- an offer that commits its row alone: an always, or a nack
+abbrev pub needs_none : Base → Bool
+needs_none (Send c m) = false
+needs_none (Recv c) = false
+needs_none (Always m) = true
+needs_none (OnNack n) = true
+needs_none Never = false
 
 abbrev pub stands_alone : Option Offer → Bool
 stands_alone None = false
-stands_alone (Some o) = is_always o.base
+stands_alone (Some o) = needs_none o.base
 
 -- whether a row's way of being committed names this row as its partner
 abbrev pub is_partner : Option (Row × ℕ) → Row → Bool
@@ -161,3 +161,51 @@ last_stamp joined r =
 -- how the rows of a table are committed
 abbrev pub joined_at : Table → Row → Option Joined
 joined_at t r = joined_of (cell_at t r)
+
+-- WHEN A NACK IS ENABLED, where rows are joined, offer, and nacks are bound as these functions say
+
+-- bit k of a mask of scopes
+abbrev pub has_scope : ℕ → ℕ → Bool
+has_scope scopes k = scopes / 2 ^ k % 2 == 1
+
+-- whether the scope encloses the offer; one that is not there is enclosed by none
+abbrev pub encloses : ℕ → Option Offer → Bool
+encloses scope None = false
+encloses scope (Some o) = has_scope o.scopes scope
+
+-- the row whose sync a nack is bound to
+abbrev pub bound_row : NackName → Binding → Row
+bound_row n b = record { thread = n.thread; sync = b.sync }
+
+-- how that row is committed, where it chose an offer outside the scope
+abbrev pub enabled_by : (Row → ℕ → Option Offer) → Row → ℕ → Option Joined → Option Joined
+enabled_by offer r scope None = None
+enabled_by offer r scope (Some j) = if encloses scope (offer r j.own) then None else Some j
+
+abbrev pub nack_via : (Row → Option Joined) → (Row → ℕ → Option Offer) → NackName → Option Binding → Option Joined
+nack_via joined offer n None = None
+nack_via joined offer n (Some b) = enabled_by offer (bound_row n b) b.scope (joined (bound_row n b))
+
+unfoldable pub nack_by : (Row → Option Joined) → (Row → ℕ → Option Offer) → (NackName → Option Binding) → NackName → Option Joined
+nack_by joined offer bound n = nack_via joined offer n (bound n)
+
+-- The stamp of what lets an offer commit its row alone: 0 for an always, and for a nack that is enabled the stamp of
+-- the row that enabled it. Another offer has no cause.
+abbrev pub stamped : Option Joined → Option ℕ
+stamped None = None
+stamped (Some j) = Some j.stamp
+
+abbrev pub cause_by : (Row → Option Joined) → (Row → ℕ → Option Offer) → (NackName → Option Binding) → Base → Option ℕ
+cause_by joined offer bound (Send c m) = None
+cause_by joined offer bound (Recv c) = None
+cause_by joined offer bound (Always m) = Some 0
+cause_by joined offer bound (OnNack n) = stamped (nack_by joined offer bound n)
+cause_by joined offer bound Never = None
+
+abbrev pub cause_of : (Row → Option Joined) → (Row → ℕ → Option Offer) → (NackName → Option Binding) → Option Offer → Option ℕ
+cause_of joined offer bound None = None
+cause_of joined offer bound (Some o) = cause_by joined offer bound o.base
+
+-- the cause of offer n of a row
+abbrev pub cause_at : Table → Row → ℕ → Option ℕ
+cause_at t r n = cause_of (joined_at t) (offer_at t) (binding_at t) (offer_at t r n)

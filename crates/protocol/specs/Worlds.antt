@@ -1,14 +1,16 @@
 -- Worlds: who holds which row, each step's condition and effect, and whole schedules.
-use Rattle.std.specs.Prelude.{◌≡◌, ℕ, ◌+◌, ◌*◌, ◌%◌, ◌<◌, ◌≤◌, ◌≢◌, true, ◌==◌, if◌then◌else◌, Option, Some, None, is_some, List, [], ◌∷◌, ◌++◌, length, map, max, replicate, slice_index_or, slice_set}
-use Rattle.words.specs.Words.{cell_word, is_word_for}
+use Rattle.std.specs.Prelude.{◌≡◌, ℕ, ◌+◌, ◌*◌, ◌%◌, ◌<◌, ◌≤◌, ◌≢◌, true, ◌==◌, if◌then◌else◌, Option, Some, None, is_some, unwrap_or, List, [], ◌∷◌, ◌++◌, length, map, max, replicate, slice_index_or, slice_set}
+use Rattle.words.specs.Words.{cell_word, is_word_for, nack_word}
 use Rattle.words.specs.declared.Row.{Row}
+use Rattle.words.specs.declared.NackName.{NackName}
+use Rattle.words.specs.declared.Binding.{Binding}
 use Rattle.words.specs.declared.Joined.{Joined}
 use Rattle.words.specs.declared.Cell.{Cell}
 use Rattle.words.specs.declared.Cell.TheVariants.{Fresh, Waiting, Claimed, Synched, Taken}
 use Rattle.words.specs.declared.Seat.{Seat}
 use Rattle.words.specs.declared.Step.{Step}
-use Rattle.words.specs.declared.Step.TheVariants.{Draft, Open, Look, Read, Claim, Yield, Join, Seal, Grant, Take}
-use Rattle.protocol.specs.Tables.{Table, thread_len, place_of, number_of, all_rows, is_row, next_row, cell_at, synched_of, offer_at, offers_meet, stands_alone, joined_at, namer_of, last_stamp}
+use Rattle.words.specs.declared.Step.TheVariants.{Draft, Open, Look, Read, Claim, Yield, Join, Seal, Grant, Take, Bind}
+use Rattle.protocol.specs.Tables.{Table, thread_len, place_of, nack_place, number_of, all_rows, is_row, next_row, cell_at, synched_of, offer_at, offers_meet, binding_at, cause_at, joined_at, namer_of, last_stamp}
 
 -- The words, and for each row, one after another, the seat that holds it.
 pub record World : Type 0 where
@@ -41,6 +43,10 @@ world_cell w r = cell_at w.table r
 abbrev pub namer_at : World → Row → Option Row
 namer_at w r = namer_of (all_rows w.table.threads w.table.rows) (joined_at w.table) r
 
+-- nack k of the row's thread
+abbrev pub nack_of_row : Row → ℕ → NackName
+nack_of_row r k = record { thread = r.thread; k = k }
+
 -- WHEN A STEP MAY BE MADE, by a seat that there is
 abbrev pub Condition : World → Seat → Step → Type 0
 Condition w seat (Draft row place value) =
@@ -58,8 +64,10 @@ Condition w seat (Join mine own other partner) =
     × (mine.thread ≢ other.thread)
     × (offers_meet (offer_at w.table mine own) (offer_at w.table other partner) ≡ true)
 Condition w seat (Seal row) = Holds w seat row × (world_cell w row ≡ Claimed) × (is_some (namer_at w row) ≡ true)
-Condition w seat (Grant row n) = (world_cell w row ≡ Waiting) × (stands_alone (offer_at w.table row n) ≡ true)
+Condition w seat (Grant row n) = (world_cell w row ≡ Waiting) × (is_some (cause_at w.table row n) ≡ true)
 Condition w seat (Take row) = is_some (synched_of (world_cell w row)) ≡ true
+Condition w seat (Bind k row scope) =
+    Holds w seat row × (world_cell w row ≡ Fresh) × (k < 64) × (scope < 4) × (binding_at w.table (nack_of_row row k) ≡ None)
 
 abbrev pub Allowed : World → Seat → Step → Type 0
 Allowed w seat step = (seat.0 < w.seats) × Condition w seat step
@@ -72,6 +80,10 @@ with_word t r place value =
 
 unfoldable pub with_cell : Table → Row → Cell → Table
 with_cell t r cell = with_word t r 0 (cell_word cell)
+
+unfoldable pub with_nack : Table → NackName → Binding → Table
+with_nack t n b =
+    record { threads = t.threads; rows = t.rows; words = slice_set t.words (nack_place t.rows n) (nack_word (Some b)) }
 
 abbrev pub with_table : World → Table → World
 with_table w t = record { table = t; seats = w.seats; holders = w.holders }
@@ -107,9 +119,10 @@ abbrev pub with_seal : Table → Row → Option Joined → Table
 with_seal t r None = t
 with_seal t r (Some j) = with_cell t r (Synched j)
 
--- how a row is committed alone by its offer n: the stamp is one more than its last stamp
+-- how a row is committed alone by its offer n: the stamp is one more than the greater of its last stamp and its cause's
 unfoldable pub granted_by : Table → Row → ℕ → Joined
-granted_by t r n = record { own = n; partner = None; stamp = 1 + last_stamp (joined_at t) r }
+granted_by t r n =
+    record { own = n; partner = None; stamp = 1 + max (last_stamp (joined_at t) r) (unwrap_or (cause_at t r n) 0) }
 
 abbrev pub with_take : Table → Row → Option Joined → Table
 with_take t r None = t
@@ -136,6 +149,8 @@ after_step w seat (Seal row) = with_table w (with_seal w.table row (sealed_by w.
 after_step w seat (Grant row n) = with_table w (with_cell w.table row (Synched (granted_by w.table row n)))
 after_step w seat (Take row) =
     with_holders (with_table w (with_take w.table row (synched_of (world_cell w row)))) (handed w.table w.holders seat row)
+after_step w seat (Bind k row scope) =
+    with_table w (with_nack w.table (nack_of_row row k) (record { sync = row.sync; scope = scope }))
 
 -- A schedule: each step is allowed in turn, and leads on.
 abbrev pub Plays : World → List (Seat × Step) → World → Type 0

@@ -1,9 +1,12 @@
 //! The words of a table, and what its rows read as.
 
-ghost use Rattle.std.specs.Prelude.{◌≡◌, ◌+◌, ◌*◌, ◌≤◌, ◌<◌, IfOk, true, length, replicate, vec_len};
+ghost use Rattle.std.specs.Prelude.{◌≡◌, ◌+◌, ◌*◌, ◌≤◌, ◌<◌, IfOk, IfSome, true, length, replicate, vec_len};
 
 use std::alloc::{AllocError, Global};
-use words::{Cell, Joined, Offer, Row, pack_cell, unpack_cell, unpack_count, unpack_offer};
+use words::{
+    Base, Binding, Cell, Joined, NackName, Offer, Row, pack_cell, pack_nack, unpack_cell,
+    unpack_count, unpack_nack, unpack_offer,
+};
 
 /// The words of a row.
 pub(crate) const ROW_LEN: usize = 34;
@@ -23,9 +26,9 @@ pub(crate) struct Board {
 }
 
 impl Board {
-    ghost use Rattle.words.specs.Words.{IsCellInRange};
-    ghost use Rattle.protocol.specs.Tables.{is_row, number_of, place_of, word_at, cell_at, count_at, offer_at, joined_at, last_stamp};
-    ghost use Rattle.protocol.specs.Worlds.{with_word, with_cell};
+    ghost use Rattle.words.specs.Words.{IsBindingInRange, IsCellInRange};
+    ghost use Rattle.protocol.specs.Tables.{is_row, number_of, place_of, is_nack, nack_place, word_at, cell_at, count_at, offer_at, joined_at, last_stamp, binding_at, nack_by, cause_of};
+    ghost use Rattle.protocol.specs.Worlds.{with_word, with_cell, with_nack};
     ghost use Rattle.protocol.specs.States.{table_of};
 
     /// The words of a table at the start.
@@ -168,6 +171,80 @@ impl Board {
         }
     }
 
+    /// Whether the table has the nack.
+    #[tactic(auto, unfolding(crate::specs::Tables::is_nack))]
+    fn contains_nack(&self, nack: NackName) -> bool
+        ensures { result ≡ is_nack (table_of self.now) nack }
+    {
+        usize::from(nack.thread) < self.threads && usize::from(nack.k) < NACKS
+    }
+
+    /// Where the nack's word lies.
+    fn nack_place(&self, nack: NackName) -> usize
+        requires { is_nack (table_of self.now) nack ≡ true }
+        ensures value { result ≡ nack_place self.now.rows nack }
+        ensures inside { result < vec_len self.now.words }
+    {
+        usize::from(nack.thread) * (self.rows * ROW_LEN + NACKS)
+            + self.rows * ROW_LEN
+            + usize::from(nack.k)
+    }
+
+    /// Where the nack is bound. A nack that the table has not is not.
+    #[tactic(auto, unfolding(crate::specs::Tables::binding_at, crate::specs::Tables::nack_at))]
+    pub(crate) fn binding(&self, nack: NackName) -> Option<Binding>
+        ensures value { result ≡ binding_at (table_of self.now) nack }
+        ensures in_range { IfSome result IsBindingInRange }
+    {
+        if !self.contains_nack(nack) {
+            return None;
+        }
+        let at = self.nack_place(nack);
+        unpack_nack(self.words[at]).unwrap_or(None)
+    }
+
+    /// How the row that enabled the nack is committed: the nack's own row, by an offer outside its
+    /// scope.
+    #[tactic(auto, unfolding(crate::specs::Tables::nack_by))]
+    fn enabled_by(&self, nack: NackName) -> Option<Joined>
+        ensures { result ≡ nack_by (joined_at (table_of self.now)) (offer_at (table_of self.now)) (binding_at (table_of self.now)) nack }
+    {
+        let bound = self.binding(nack)?;
+        let row = Row {
+            thread: nack.thread,
+            sync: bound.sync,
+        };
+        let joined = self.joined(row)?;
+        if encloses(bound.scope, self.offer(row, joined.own)) {
+            return None;
+        }
+        Some(joined)
+    }
+
+    /// The stamp of what lets the offer commit its row alone, 0 for an always.
+    pub(crate) fn cause(&self, offer: Option<Offer>) -> Option<u32>
+        ensures { result ≡ cause_of (joined_at (table_of self.now)) (offer_at (table_of self.now)) (binding_at (table_of self.now)) offer }
+    {
+        match offer?.base {
+            Base::Always(_) => Some(0),
+            Base::OnNack(nack) => Some(self.enabled_by(nack)?.stamp),
+            Base::Send(..) | Base::Recv(_) | Base::Never => None,
+        }
+    }
+
+    /// Binds the nack.
+    #[tactic(auto, unfolding(crate::specs::Worlds::with_nack))]
+    pub(crate) fn set_nack(&mut self, nack: NackName, bound: Binding)
+        requires nack { is_nack (table_of self.old) nack ≡ true }
+        requires range { IsBindingInRange bound }
+        ensures written { table_of self.new ≡ with_nack (table_of self.old) nack bound }
+        ensures threads { self.new.threads ≡ self.old.threads }
+        ensures rows { self.new.rows ≡ self.old.rows }
+    {
+        let at = self.nack_place(nack);
+        self.words[at] = pack_nack(Some(bound));
+    }
+
     /// Writes the row's word at a place.
     pub(crate) fn set_word(&mut self, row: Row, place: usize, word: u64)
         requires row { is_row (table_of self.old) row ≡ true }
@@ -188,5 +265,26 @@ impl Board {
         ensures rows { self.new.rows ≡ self.old.rows }
     {
         self.set_word(row, 0, pack_cell(cell));
+    }
+}
+
+ghost use Rattle.protocol.specs.Tables.{encloses, has_scope};
+
+/// Whether the scope, 0 to 7, encloses an offer of this mask.
+pub fn has_scope(scopes: u8, scope: u8) -> bool
+    requires { scope < 8 }
+    ensures { result ≡ has_scope scopes scope }
+{
+    (scopes >> scope) % 2 == 1
+}
+
+/// Whether the scope encloses the offer.
+fn encloses(scope: u8, offer: Option<Offer>) -> bool
+    requires { scope < 8 }
+    ensures { result ≡ encloses scope offer }
+{
+    match offer {
+        Some(offer) => has_scope(offer.scopes, scope),
+        None => false,
     }
 }

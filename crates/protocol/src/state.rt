@@ -1,10 +1,10 @@
 //! A world's state, and the steps on it.
 
-ghost use Rattle.std.specs.Prelude.{◌≡◌, ◌*◌, ◌<◌, ◌≤◌, ◌↔◌, IfOk, IsTrue, true, length, map, replicate};
+ghost use Rattle.std.specs.Prelude.{Some, ◌≡◌, ◌*◌, ◌<◌, ◌≤◌, ◌↔◌, IfOk, IsTrue, true, length, map, replicate};
 
 use crate::board::Board;
 use std::alloc::{AllocError, Global};
-use words::{Base, Cell, Joined, Offer, Row, Seat, Step, is_word_for};
+use words::{Base, Binding, Cell, Joined, NackName, Offer, Row, Seat, Step, is_word_for};
 
 /// A world: the board, and for each row the seat that holds it and the row that is committed with
 /// it as its partner, so that neither is searched for.
@@ -19,8 +19,8 @@ pub(crate) struct State {
 }
 
 impl State {
-    ghost use Rattle.words.specs.declared.Step.TheVariants.{Draft, Open, Look, Read, Claim, Yield, Join, Seal, Grant, Take};
-    ghost use Rattle.protocol.specs.Tables.{is_row, offer_at, offers_meet};
+    ghost use Rattle.words.specs.declared.Step.TheVariants.{Draft, Open, Look, Read, Claim, Yield, Join, Seal, Grant, Take, Bind};
+    ghost use Rattle.protocol.specs.Tables.{is_row, offer_at, offers_meet, cause_at};
     ghost use Rattle.protocol.specs.Worlds.{start_world, Holds, holder_at, namer_at, joined_with, granted_by, handed, Condition};
     ghost use Rattle.protocol.specs.States.{table_of, world_of, IsSound, Tries, Decides};
 
@@ -103,6 +103,7 @@ impl State {
             Step::Seal { row } => self.seal(seat, row),
             Step::Grant { row, offer } => self.grant(seat, row, offer),
             Step::Take { row } => self.take(seat, row),
+            Step::Bind { k, row, scope } => self.bind(seat, k, row, scope),
         }
     }
 
@@ -267,24 +268,26 @@ impl State {
         let Cell::Waiting = self.board.cell(row) else {
             return false;
         };
-        if !stands_alone(self.board.offer(row, offer)) {
+        let Some(cause) = self.board.cause(self.board.offer(row, offer)) else {
             return false;
-        }
-        let joined = self.granted_by(row, offer);
+        };
+        let joined = self.granted_by(row, offer, cause);
         self.board.set_cell(row, Cell::Synched(joined));
         true
     }
 
-    /// How the row is committed alone.
+    /// How the row is committed alone, by an offer with this cause.
     #[tactic(auto, unfolding(crate::specs::Worlds::granted_by))]
-    fn granted_by(&self, row: Row, offer: u8) -> Joined
-        requires { IsSound self.now }
+    fn granted_by(&self, row: Row, offer: u8, cause: u32) -> Joined
+        requires sound { IsSound self.now }
+        requires cause { cause_at (table_of self.now.board) row offer ≡ Some cause }
         ensures { result ≡ granted_by (table_of self.now.board) row offer }
     {
+        let last = self.board.last_stamp(row);
         Joined {
             own: offer,
             partner: None,
-            stamp: 1 + self.board.last_stamp(row),
+            stamp: 1 + last.max(cause),
         }
     }
 
@@ -298,6 +301,34 @@ impl State {
         };
         self.board.set_cell(row, Cell::Taken(joined));
         self.hand(seat, row);
+        true
+    }
+
+    fn bind(&mut self, seat: Seat, k: u8, row: Row, scope: u8) -> bool
+        requires { IsSound self.old }
+        ensures tried { Tries (world_of self.old) seat (Bind k row scope) result (world_of self.new) }
+        ensures sound { IsSound self.new }
+    {
+        if !self.holds(seat, row) {
+            return false;
+        }
+        let Cell::Fresh = self.board.cell(row) else {
+            return false;
+        };
+        if k >= 64 || scope >= 4 {
+            return false;
+        }
+        let nack = NackName {
+            thread: row.thread,
+            k,
+        };
+        if self.board.binding(nack).is_some() {
+            return false;
+        }
+        self.board.set_nack(nack, Binding {
+            sync: row.sync,
+            scope,
+        });
         true
     }
 
@@ -321,7 +352,7 @@ impl State {
     }
 }
 
-ghost use Rattle.protocol.specs.Tables.{all_rows, offers_meet, stands_alone};
+ghost use Rattle.protocol.specs.Tables.{all_rows, offers_meet};
 ghost use Rattle.protocol.specs.Worlds.{first_holder, side_of};
 
 /// The holders at the start, row by row.
@@ -369,16 +400,6 @@ pub fn offers_meet(own: Option<Offer>, other: Option<Offer>) -> bool
             chan == other
         }
         _ => false,
-    }
-}
-
-/// Whether an offer commits its row alone.
-fn stands_alone(offer: Option<Offer>) -> bool
-    ensures { result ≡ stands_alone offer }
-{
-    match offer {
-        Some(offer) => matches!(offer.base, Base::Always(_)),
-        None => false,
     }
 }
 

@@ -195,4 +195,10 @@ pub enum Step {
     Take {
         row: Row,
     },
+    /// Binds nack k of the row's thread to the row's sync and one of its scopes.
+    Bind {
+        k: u8,
+        row: Row,
+        scope: u8,
+    },
 }

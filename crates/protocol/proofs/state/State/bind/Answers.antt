@@ -1,0 +1,34 @@
+use Rattle.std.proofs.Common.{◌≡◌, ◌<◌, None, sym, refl, ◌∙◌}
+use Rattle.words.specs.declared.Cell.TheVariants.{Fresh}
+use Rattle.words.specs.declared.Step.TheVariants.{Bind}
+use Rattle.protocol.specs.Tables.{cell_at, binding_at}
+use Rattle.protocol.specs.Worlds.{Holds, with_nack, nack_of_row}
+use Rattle.protocol.specs.States.{world_of}
+use Rattle.protocol.proofs.Linking.{none_from}
+use Rattle.protocol.proofs.Keeping.{held_row, kept_condition, nack_of_thread, bind_in_range}
+use Rattle.protocol.proofs.Telling.{tells_bind}
+use Rattle.protocol.proofs.Soundness.{sound_state}
+use Rattle.protocol.proofs.state.State.bind.Goals as goal
+
+pub set_nack-requires-clause-nack : goal.set_nack-requires-clause-nack
+set_nack-requires-clause-nack c =
+    let w = world_of c.args.self.now in
+    nack_of_thread w.table c.args.row c.args.k (held_row w c.args.row c.args.seat.0 (c.holds.ensures.0 c.if-not-holds.false)) c.if-k-ge64.false
+
+pub set_nack-requires-clause-range : goal.set_nack-requires-clause-range
+set_nack-requires-clause-range c =
+    let w = world_of c.args.self.now in
+    bind_in_range w c.args.row c.args.scope c.requires.kept (held_row w c.args.row c.args.seat.0 (c.holds.ensures.0 c.if-not-holds.false)) c.if-scope-ge4.false
+
+pub returns-clause-sound : goal.returns-clause-sound
+returns-clause-sound c =
+    let w = world_of c.args.self.now in
+    let held : Holds w c.args.seat c.args.row = c.holds.ensures.0 c.if-not-holds.false in
+    let row = held_row w c.args.row c.args.seat.0 held in
+    let was : cell_at w.table c.args.row ≡ Fresh = sym c.in-Fresh.ensures in
+    let few : c.args.k < 64 = c.if-k-ge64.false in
+    let inside : c.args.scope < 4 = c.if-scope-ge4.false in
+    let free : binding_at w.table (nack_of_row c.args.row c.args.k) ≡ None = sym c.binding.ensures.value ∙ none_from c.binding.result (sym c.is_some.ensures ∙ c.if-is_some.false) in
+    sound_state _ w (with_nack w.table (nack_of_row c.args.row c.args.k) (record { sync = c.args.row.sync; scope = c.args.scope })) c.set_nack.ensures.written refl refl
+    (kept_condition w c.args.seat (Bind c.args.k c.args.row c.args.scope) c.requires.kept (held, was, few, inside, free))
+    (tells_bind w (nack_of_row c.args.row c.args.k) (record { sync = c.args.row.sync; scope = c.args.scope }) c.args.self.now.namers.items (nack_of_thread w.table c.args.row c.args.k row few) c.requires.told)
