@@ -19,7 +19,7 @@ use Rattle.words.specs.declared.Cell.{Cell}
 use Rattle.words.specs.declared.Cell.TheVariants.{Fresh, Waiting, Claimed, Synched, Taken}
 use Rattle.words.proofs.WordLemmas.{cell_of-zero}
 use Rattle.words.specs.Words.{cell_word, is_word_for, IsBindingInRange, IsCellInRange, IsJoinedInRange, IsRowInRange, cell_of}
-use Rattle.protocol.specs.Tables.{Table, is_row, is_nack, binding_at, cause_of, cause_at, row_eq, all_rows, rows_below, cell_at, is_fresh, joined_of, offer_at, offers_meet, names, joined_at, last_stamp, number_of, is_taken, next_row, synched_of, word_at}
+use Rattle.protocol.specs.Tables.{Table, is_row, is_nack, binding_at, bound_row, cause_of, cause_at, row_eq, all_rows, rows_below, cell_at, is_fresh, joined_of, offer_at, offers_meet, names, joined_at, last_stamp, number_of, is_taken, next_row, synched_of, word_at}
 use Rattle.protocol.specs.Worlds.{World, holder_at, namer_at, Condition, Allowed, after_step, Plays, with_word, with_cell, with_table, joined_with, mirrored, other_side, side_of, sealed_by, with_seal, granted_by, handed, with_holders, with_take, with_nack, nack_of_row}
 use Rattle.protocol.specs.Ledgers.{commits_of, told_at}
 use Rattle.protocol.specs.Kept.{joined_by, Linked, Kept}
@@ -29,7 +29,7 @@ use Rattle.protocol.proofs.StepLemmas.{HasTurn, linked_plain, linked_join, linke
 use Rattle.protocol.proofs.Causes.{cause_alone}
 use Rattle.protocol.proofs.Lawfulness.{both_offers}
 use Rattle.protocol.proofs.Places.{row_inside, is_row_after, block_inside, same_block, same_rest, word_other, is_row_bound, word_bound}
-use Rattle.protocol.proofs.Readings.{cell_after_word, cell_after_cell, offer_after_draft, offer_after_cell, formed_after_word, cell_is_formed, sized_after_word, row_of_open, cell_outside, binding_after_word, binding_after_cell, cell_after_bind, offer_after_bind, binding_kept, formed_after_bind, offer_below, cell_inside, joined_ranged}
+use Rattle.protocol.proofs.Readings.{cell_after_word, cell_after_cell, offer_after_draft, offer_after_cell, formed_after_word, cell_is_formed, sized_after_word, row_of_open, cell_outside, binding_after_word, binding_after_cell, cell_after_bind, offer_after_bind, binding_kept, binding_was, formed_after_bind, offer_below, cell_inside, joined_ranged}
 use Rattle.protocol.proofs.Naming.{namer_names, no_namer}
 
 -- HOW MANY COMMITS THERE ARE at most
@@ -242,6 +242,7 @@ module _ (w : World) (x : Row) (c : Cell) (k : Kept w)
     held = λ thread sync seat h.
         taken_plain (record { thread = thread; sync = sync })
         (k.held thread sync seat (sym (holder_same w (with_cell w.table x c) (record { thread = thread; sync = sync + 1 }) refl refl) ∙ h));
+    bound = λ n b e h. k.bound n b (ap (λ (f : NackName → Option Binding). f n) (sym (binding_after_word w.table x 0 (cell_word c) row (omega arith))) ∙ e) (sym (holder_same w (with_cell w.table x c) (bound_row n b) refl refl) ∙ h);
     seated = k.seated;
     blank = λ r p i b n.
         blank_after w x 0 (cell_word c) k row (omega arith) held_x r p (sym (is_row_after w.table x r 0 (cell_word c)) ∙ i) b (sym (holder_same w (with_cell w.table x c) r refl refl) ∙ n);
@@ -282,6 +283,7 @@ module _ (w : World) (x : Row) (j : Joined) (k : Kept w)
     held = λ thread sync seat h.
         still_taken (record { thread = thread; sync = sync })
         (k.held thread sync seat (sym (holder_same w (with_cell w.table x (Synched j)) (record { thread = thread; sync = sync + 1 }) refl refl) ∙ h));
+    bound = λ n b e h. k.bound n b (ap (λ (f : NackName → Option Binding). f n) (sym (binding_after_word w.table x 0 (cell_word (Synched j)) row (omega arith))) ∙ e) (sym (holder_same w (with_cell w.table x (Synched j)) (bound_row n b) refl refl) ∙ h);
     seated = k.seated;
     blank = λ r p i b n.
         blank_after w x 0 (cell_word (Synched j)) k row (omega arith) (open_held w x k open_x) r p (sym (is_row_after w.table x r 0 (cell_word (Synched j))) ∙ i) b (sym (holder_same w (with_cell w.table x (Synched j)) r refl refl) ∙ n);
@@ -303,6 +305,7 @@ kept_draft w x p v seat k h f a b g =
       held = λ thread sync s e.
           ap is_taken (cells (record { thread = thread; sync = sync }))
           ∙ k.held thread sync s (sym (holder_same w (with_word w.table x p v) (record { thread = thread; sync = sync + 1 }) refl refl) ∙ e);
+      bound = λ n c e g. k.bound n c (ap (λ (q : NackName → Option Binding). q n) (sym (binding_after_word w.table x p v row below)) ∙ e) (sym (holder_same w (with_word w.table x p v) (bound_row n c) refl refl) ∙ g);
       seated = k.seated;
       blank = λ r q i d n.
           blank_after w x p v k row below (is_held w x seat h) r q (sym (is_row_after w.table x r p v) ∙ i) d (sym (holder_same w (with_word w.table x p v) r refl refl) ∙ n);
@@ -444,9 +447,9 @@ bind_in_range w r scope k h b =
     let few = k.few_rows in
     record { sync = omega arith; scope = b }
 
-kept_bound : (w : World) (m : NackName) (b : Binding) → Kept w → is_nack w.table m ≡ true → IsBindingInRange b → ((n : NackName) (c : Binding) → binding_at w.table n ≡ Some c → binding_at (with_nack w.table m b) n ≡ Some c) → Kept (with_table w (with_nack w.table m b))
+kept_bound : (w : World) (m : NackName) (b : Binding) → Kept w → is_nack w.table m ≡ true → IsBindingInRange b → holder_at w (bound_row m b) ≢ None → ((n : NackName) (c : Binding) → binding_at w.table n ≡ Some c → binding_at (with_nack w.table m b) n ≡ Some c) → Kept (with_table w (with_nack w.table m b))
 unfolding with_nack
-kept_bound w m b kept nack range binds = record {
+kept_bound w m b kept nack range held binds = record {
   sized = length-set w.table.words _ _ ∙ kept.sized;
   few_threads = kept.few_threads;
   few_rows = kept.few_rows;
@@ -458,6 +461,12 @@ kept_bound w m b kept nack range binds = record {
   held = λ thread sync s e.
       ap is_taken (cell_after_bind w.table m b (record { thread = thread; sync = sync }) nack)
       ∙ kept.held thread sync s (sym (holder_same w (with_nack w.table m b) (record { thread = thread; sync = sync + 1 }) refl refl) ∙ e);
+  bound = λ n c e h.
+      let was : holder_at w (bound_row n c) ≡ None = sym (holder_same w (with_nack w.table m b) (bound_row n c) refl refl) ∙ h in
+      ⊎_elim
+      (λ (old : binding_at w.table n ≡ Some c). kept.bound n c old was)
+      (λ (new : (m ≡ n) × (b ≡ c)). held ((λ i. holder_at w (bound_row (new.0 i) (new.1 i))) ∙ was))
+      (binding_was w.table m b kept.sized nack range n c e);
   seated = kept.seated;
   blank = λ q p i a n.
       let here = sym (is_row_bound w.table m b q) ∙ i in
@@ -471,7 +480,7 @@ kept_bind w r k scope seat kept h b c free =
     let bound : Binding = record { sync = r.sync; scope = scope } in
     let nack = nack_of_thread w.table r k row b in
     let range = bind_in_range w r scope kept row c in
-    kept_bound w m bound kept nack range (binding_kept w.table m bound nack free)
+    kept_bound w m bound kept nack range (is_held w r seat h) (binding_kept w.table m bound nack free)
 
 -- THE TAKE
 
@@ -498,6 +507,15 @@ kept_handed w seat x k taken = record {
       (λ i. is_taken (cell_at w.table (record { thread = a i; sync = c i }))) ∙ taken)
       (λ (e : row_eq (record { thread = thread; sync = sync + 1 }) (next_row x) ≡ false). k.held thread sync s (sym (hand_other w seat x _ e) ∙ h))
       (row_cases (record { thread = thread; sync = sync + 1 }) (next_row x));
+  bound = λ n b e h. k.bound n b e (⊎_elim
+      (λ (q : bound_row n b ≡ next_row x). ⊎_elim
+      (λ (i : is_row w.table (next_row x) ≡ true).
+      let bad : Some seat.0 ≡ None = sym (hand_next w seat x k.seated i) ∙ ap (holder_at (with_holders w (handed w.table w.holders seat x))) (sym q) ∙ h in
+      cc)
+      (λ (i : is_row w.table (next_row x) ≡ false). ap (holder_at w) q ∙ held_outside w (next_row x) i)
+      (cases_Bool (is_row w.table (next_row x))))
+      (λ (q : row_eq (bound_row n b) (next_row x) ≡ false). sym (hand_other w seat x (bound_row n b) q) ∙ h)
+      (row_cases (bound_row n b) (next_row x)));
   seated = length_handed w.table w.holders seat x ∙ k.seated;
   blank = λ r p i b n. ⊎_elim
       (λ (e : r ≡ next_row x).

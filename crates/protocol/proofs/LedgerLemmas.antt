@@ -21,7 +21,7 @@ use Rattle.protocol.specs.Worlds.{World, start_world, first_holder, holder_at, P
 use Rattle.protocol.specs.Ledgers.{Entry, ledger_of, entry_at, no_entry, entry_in, joined_in, offer_in, binding_in, all_nacks, nacks_below, Lawful, IsLawful}
 use Rattle.protocol.specs.Kept.{Linked, Kept}
 use Rattle.protocol.proofs.Places.{block_inside, row_inside}
-use Rattle.protocol.proofs.Readings.{cell_outside, cell_inside, offer_none, count_fresh}
+use Rattle.protocol.proofs.Readings.{cell_outside, cell_inside, binding_inside, binding_outside, offer_none, count_fresh}
 use Rattle.protocol.proofs.Keeping.{length_all, length_below, kept_schedule, held_row}
 use Rattle.protocol.proofs.Lawfulness.{lawful_linked}
 
@@ -168,6 +168,15 @@ start_nack : (threads rows : ℕ) (n : NackName) → nack_at (start_table thread
 unfolding nack_at
 start_nack threads rows n = zeros (threads * thread_len rows) (nack_place rows n)
 
+pub start_binding : (threads rows : ℕ) (n : NackName) → binding_at (start_table threads rows) n ≡ None
+start_binding threads rows n = ⊎_elim
+    (λ (e : is_nack (start_table threads rows) n ≡ true).
+    binding_inside (start_table threads rows) n e
+    ∙ ap (λ w. unwrap_or (nack_of w) None) (start_nack threads rows n)
+    ∙ ap (λ (o : Option (Option Binding)). unwrap_or o None) nack_of-zero)
+    (λ (e : is_nack (start_table threads rows) n ≡ false). binding_outside (start_table threads rows) n e)
+    (cases_Bool (is_nack (start_table threads rows) n))
+
 pub start_cell : (threads rows : ℕ) (r : Row) → cell_at (start_table threads rows) r ≡ Fresh
 start_cell threads rows r = ⊎_elim
     (λ (e : is_row (start_table threads rows) r ≡ true).
@@ -210,6 +219,7 @@ kept_start threads rows seats a b = record {
       let bad : None ≡ Some seat =
       sym (start_holder threads rows seats r in_t.0 in_t.1 ∙ ap (λ c. cond c (Some (t % seats)) None) (ne_eqb (g + 1) 0 (λ e. absurd (omega arith)))) ∙ h in
       cc;
+  bound = λ n b e h. let bad : None ≡ Some b = sym (start_binding threads rows n) ∙ e in cc;
   seated = length_holders threads rows seats;
   blank = λ r p i b n. start_word threads rows r p;
 }

@@ -1,6 +1,6 @@
 -- What a table reads as after a write to one of its words.
-use Rattle.std.proofs.Common.{◌≡◌, ◌≢◌, ℕ, ◌+◌, ◌*◌, ◌<◌, ◌≤◌, true, false, cond, ltb, length, sym, ap, ◌∙◌, inl, inr, ⊎_elim, refl, arith, Option, Some, None, is_some, subst}
-use Rattle.std.specs.Prelude.{unwrap_or}
+use Rattle.std.proofs.Common.{◌⊎◌, ◌≡◌, ◌≢◌, ℕ, ◌+◌, ◌*◌, ◌<◌, ◌≤◌, true, false, cond, ltb, length, sym, ap, ◌∙◌, inl, inr, ⊎_elim, refl, arith, Option, Some, None, is_some, subst}
+use Rattle.std.specs.Prelude.{unwrap_or, IfSome}
 use Rattle.std.proofs.lemmas.Bool.{cases_eq, cases_Bool, ltb-true, ltb-false, le-ltb, lt-ltb, false≢true, true≢false}
 use Rattle.std.proofs.lemmas.List.{length-set}
 use Rattle.words.specs.declared.Row.{Row}
@@ -11,7 +11,7 @@ use Rattle.words.specs.declared.Joined.{Joined}
 use Rattle.words.specs.declared.Cell.{Cell}
 use Rattle.words.specs.declared.Cell.TheVariants.{Fresh, Waiting, Claimed, Synched, Taken}
 use Rattle.words.specs.Words.{cell_of, cell_word, count_of, offer_of, nack_of, is_word_for, IsBindingInRange, IsCellInRange, IsJoinedInRange}
-use Rattle.words.proofs.WordLemmas.{cell_of-cell_word, count-count_of, cell_is_word, cell_word-cell_of, nack_of-nack_word}
+use Rattle.words.proofs.WordLemmas.{cell_of-cell_word, count-count_of, cell_is_word, cell_word-cell_of, nack_of-nack_word, nack_word-nack_of}
 use Rattle.protocol.specs.Tables.{Table, thread_len, is_row, is_nack, nack_at, binding_at, word_at, row_eq, cell_at, is_fresh, count_at, offer_at, joined_at, joined_of}
 use Rattle.protocol.specs.Worlds.{with_word, with_cell, with_nack}
 use Rattle.protocol.specs.Kept.{IsFormed}
@@ -264,6 +264,34 @@ binding_kept t m b h free n c e =
     (nack_bound_other t m n b h inside (λ d. let bad : None ≡ Some c = sym free ∙ sym (λ i. binding_at t (record { thread = d.0 i; k = d.1 i })) ∙ e in cc))
     ∙ sym (binding_inside t n inside)
     ∙ e
+
+-- what is bound then was bound before, or is the nack that is bound
+pub binding_was : (t : Table) (m : NackName) (b : Binding) → length t.words ≡ t.threads * thread_len t.rows → is_nack t m ≡ true → IsBindingInRange b → (n : NackName) (c : Binding) → binding_at (with_nack t m b) n ≡ Some c → (binding_at t n ≡ Some c) ⊎ ((m ≡ n) × (b ≡ c))
+binding_was t m b s h g n c e = ⊎_elim
+    (λ (d : n.thread ≡ m.thread). ⊎_elim
+    (λ (f : n.k ≡ m.k).
+    let same : m ≡ n = λ i. record { thread = sym d i; k = sym f i } in
+    inr (same, some_inj b c (sym (binding_bound t m b s h g) ∙ ap (binding_at (with_nack t m b)) same ∙ e)))
+    (λ (f : n.k ≡ m.k → ⊥). inl (stays (λ z. f z.1)))
+    (cases_eq n.k m.k))
+    (λ (d : n.thread ≡ m.thread → ⊥). inl (stays (λ z. d z.0)))
+    (cases_eq n.thread m.thread)
+  where
+    stays : ((n.thread ≡ m.thread) × (n.k ≡ m.k) → ⊥) → binding_at t n ≡ Some c
+    stays d =
+        let inside = sym (is_nack_bound t m b n) ∙ nack_of_bound (with_nack t m b) n c e in
+        binding_inside t n inside
+        ∙ ap (λ w. unwrap_or (nack_of w) None) (sym (nack_bound_other t m n b h inside d))
+        ∙ sym (binding_inside (with_nack t m b) n (is_nack_bound t m b n ∙ inside))
+        ∙ e
+
+-- where a nack is bound has room in its word
+pub binding_ranged : (t : Table) (n : NackName) (b : Binding) → binding_at t n ≡ Some b → IsBindingInRange b
+binding_ranged t n b h = by_word (nack_of (nack_at t n)) refl (sym (binding_inside t n (nack_of_bound t n b h)) ∙ h)
+  where
+    by_word : (o : Option (Option Binding)) → nack_of (nack_at t n) ≡ o → unwrap_or o None ≡ Some b → IsBindingInRange b
+    by_word None e f = let bad : None ≡ Some b = f in cc
+    by_word (Some p) e f = subst (λ (x : Option Binding). IfSome x IsBindingInRange) f (nack_word-nack_of (nack_at t n) p e).0
 
 pub formed_after_bind : (t : Table) (m : NackName) (b : Binding) → length t.words ≡ t.threads * thread_len t.rows → is_nack t m ≡ true → IsBindingInRange b → IsFormed t → IsFormed (with_nack t m b)
 formed_after_bind t m b s h g f = record {

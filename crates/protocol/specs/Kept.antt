@@ -8,7 +8,7 @@ use Rattle.words.specs.declared.Row.{Row}
 use Rattle.words.specs.declared.Joined.{Joined}
 use Rattle.words.specs.declared.Cell.{Cell}
 use Rattle.words.specs.declared.Cell.TheVariants.{Claimed}
-use Rattle.protocol.specs.Tables.{Table, thread_len, all_rows, is_row, is_nack, word_at, nack_at, cell_at, offer_at, is_fresh, is_taken, joined_of, names, offers_meet, last_stamp, binding_at, cause_of}
+use Rattle.protocol.specs.Tables.{Table, thread_len, all_rows, is_row, is_nack, word_at, nack_at, cell_at, offer_at, is_fresh, is_taken, joined_of, names, offers_meet, last_stamp, binding_at, bound_row, cause_of}
 use Rattle.protocol.specs.Worlds.{World, holder_at, mirrored}
 use Rattle.protocol.specs.Ledgers.{commits_of}
 
@@ -54,6 +54,8 @@ pub record Kept (w : World) : Type 0 where
   pub linked : Linked w.table.threads w.table.rows (cell_at w.table) (offer_at w.table) (binding_at w.table)
   -- a row is held after the row before it in its thread was taken
   pub held : (thread sync seat : ℕ) → holder_at w (record { thread = thread; sync = sync + 1 }) ≡ Some seat → is_taken (cell_at w.table (record { thread = thread; sync = sync })) ≡ true
+  -- a nack is bound to a row that is held
+  pub bound : (n : NackName) (b : Binding) → binding_at w.table n ≡ Some b → holder_at w (bound_row n b) ≢ None
   pub seated : length w.holders ≡ w.table.threads * w.table.rows
   -- nothing was written yet of a row that nobody has held
   pub blank : (r : Row) (place : ℕ) → is_row w.table r ≡ true → place < 34 → holder_at w r ≡ None → word_at w.table r place ≡ 0
