@@ -1,5 +1,5 @@
 -- Each atomic step is admitted by the rule.
-use Rattle.std.proofs.Common.{◌∷◌, cond, ◌+◌, slice_index, slice_set, ◌≡◌, ◌≢◌, ℕ, ◌<◌, ◌≤◌, true, false, List, [], sym, refl, ap, ◌∙◌, subst, ⊎_elim, arith, unwrap_or, Option, Some, None, is_some, eqb, Bool, ltb}
+use Rattle.std.proofs.Common.{inl, ◌∷◌, cond, ◌+◌, slice_index, slice_set, ◌≡◌, ◌≢◌, ℕ, ◌<◌, ◌≤◌, true, false, List, [], sym, refl, ap, ◌∙◌, subst, ⊎_elim, arith, unwrap_or, Option, Some, None, is_some, eqb, Bool, ltb}
 use Rattle.std.proofs.lemmas.List.{set-get_or}
 use Rattle.std.proofs.lemmas.Bool.{false≢true, ltb-true}
 use mathlib.Core.Option.{some, none}
@@ -29,9 +29,10 @@ use Rattle.cell.specs.declared.view.View.{View}
 use Rattle.cell.specs.declared.view.Shape.{Shape}
 use Rattle.cell.specs.declared.view.Stage.{Stage}
 use Rattle.cell.specs.declared.view.Stage.TheVariants.{Resting, Claims, Joins}
-use Rattle.cell.specs.Sight.{Has, CanGrant, CanJoin}
+use Rattle.cell.specs.Sight.{Has, CanJoin}
+use Rattle.cell.specs.Nacks.{CanGrant}
 use Rattle.protocol.specs.Tables.{is_taken}
-use Rattle.cell.proofs.Following.{knows_follows, knows_owned, hold_more, taken_world, not_held, next_unopened, follows_taken, taken_at, next_held}
+use Rattle.cell.proofs.Following.{knows_follows, knows_owned, hold_more, taken_world, not_held, next_unopened, follows_taken, bindings_after, next_unbound, taken_at, next_held}
 use Rattle.cell.specs.Views.{Knows, Staged, IsClaimer, at_stage, took, saw, read_word, drafted_word, turned}
 use Rattle.cell.proofs.Truths.{offers_known, joined_known, granted_known, agrees, coherent}
 use Rattle.cell.specs.Rule.{Keeps}
@@ -221,11 +222,11 @@ module _ (shape : Shape) (id place : ℕ) (me : Me ℕ View) (r : Row) (p : ℕ)
         let was : joined_of (cell_at k.world.table r) ≡ None = ap joined_of waits in
         let untaken : is_taken (cell_at k.world.table r) ≡ false = ap is_taken waits in
         let known_grant = granted_known k.world k.owner id me.0 known r n j can in
-        let range : IsJoinedInRange j = subst IsJoinedInRange known_grant.1 (grant_in_range k.world r n kept known_grant.0) in
+        let range : IsJoinedInRange j = subst IsJoinedInRange known_grant.1 (grant_in_range k.world r n can.cause kept known_grant.0) in
         let nobody : j.partner ≡ None = ap (λ (y : Joined). y.partner) can.is in
         let now = own_now (Synched j) zero range refl was untaken in
         wrote_cell (Synched j) zero range refl was untaken (Grant r n) (saw r (Synched j) (turned Resting r me.0))
-        (waits, known_grant.0)
+        (waits, ap (λ (o : Option ℕ). is_some o) known_grant.0)
         (ap (λ (y : Joined). with_table k.world (with_cell k.world.table r (Synched y))) known_grant.1)
         (λ i n o. (waits, refl))
         (λ i m n o h. ap (λ (y : Option (Row × ℕ)). is_partner y m) nobody)
@@ -253,7 +254,7 @@ module _ (shape : Shape) (id place : ℕ) (me : Me ℕ View) (r : Row) (p : ℕ)
 
       still_knows : (i : ℕ) (u : View) → Knows k.world k.owner i u → Knows later_taken owner' i u
       still_knows i u knows =
-          knows_follows k.world later_taken owner' i u (follows_taken k.world seat r j kept is)
+          knows_follows k.world later_taken owner' i u (follows_taken k.world seat r j kept is) (λ n b e o. inl (sym (bindings_after k.world seat r j kept is n) ∙ e))
           (knows_owned k.world k.owner owner' i u kept (owned i) knows)
 
       took_knows : Knows later_taken owner' id (took r j me.0)
@@ -266,10 +267,10 @@ module _ (shape : Shape) (id place : ℕ) (me : Me ℕ View) (r : Row) (p : ℕ)
               let row : is_row k.world.table (next_row r) ≡ true =
               row_from k.world.table (next_row r) (row_inside k.world.table r is_its_row).0 (subst (λ (n : ℕ). r.sync + 1 < n) known.rows (ltb-true _ _ e)) in
               let next = next_held k.world seat r j kept is row in
-              subst (λ (b : Bool). Knows later_taken owner' id (at_stage me.0.stage (cond b (record { held = next_row r ∷ (saw r (Taken j) me.0).seen.held; drafts = (next_row r, 1, 0) ∷ (saw r (Taken j) me.0).seen.drafts; opened = (saw r (Taken j) me.0).seen.opened; words = (saw r (Taken j) me.0).seen.words; joined = (saw r (Taken j) me.0).seen.joined; taken = (saw r (Taken j) me.0).seen.taken }) (saw r (Taken j) me.0).seen) me.0)) (sym e)
-              (hold_more later_taken owner' id (saw r (Taken j) me.0) (next_row r) saw_it (put_same k.owner (next_row r) id) next.0 next.1 next.2)
+              subst (λ (b : Bool). Knows later_taken owner' id (at_stage me.0.stage (cond b (record { held = next_row r ∷ (saw r (Taken j) me.0).seen.held; drafts = (next_row r, 1, 0) ∷ (saw r (Taken j) me.0).seen.drafts; opened = (saw r (Taken j) me.0).seen.opened; words = (saw r (Taken j) me.0).seen.words; joined = (saw r (Taken j) me.0).seen.joined; taken = (saw r (Taken j) me.0).seen.taken; bound = (saw r (Taken j) me.0).seen.bound }) (saw r (Taken j) me.0).seen) me.0)) (sym e)
+              (hold_more later_taken owner' id (saw r (Taken j) me.0) (next_row r) saw_it (put_same k.owner (next_row r) id) next.0 next.1 next.2 (next_unbound k.world seat r j kept is))
           by_next saw_it false e =
-              subst (λ (b : Bool). Knows later_taken owner' id (at_stage me.0.stage (cond b (record { held = next_row r ∷ (saw r (Taken j) me.0).seen.held; drafts = (next_row r, 1, 0) ∷ (saw r (Taken j) me.0).seen.drafts; opened = (saw r (Taken j) me.0).seen.opened; words = (saw r (Taken j) me.0).seen.words; joined = (saw r (Taken j) me.0).seen.joined; taken = (saw r (Taken j) me.0).seen.taken }) (saw r (Taken j) me.0).seen) me.0)) (sym e)
+              subst (λ (b : Bool). Knows later_taken owner' id (at_stage me.0.stage (cond b (record { held = next_row r ∷ (saw r (Taken j) me.0).seen.held; drafts = (next_row r, 1, 0) ∷ (saw r (Taken j) me.0).seen.drafts; opened = (saw r (Taken j) me.0).seen.opened; words = (saw r (Taken j) me.0).seen.words; joined = (saw r (Taken j) me.0).seen.joined; taken = (saw r (Taken j) me.0).seen.taken; bound = (saw r (Taken j) me.0).seen.bound }) (saw r (Taken j) me.0).seen) me.0)) (sym e)
               saw_it
 
       takes : p ≡ 0 → Keeps shape (stepped s place (cell_word (Taken j)) id me.1 (took r j me.0) keeps)

@@ -1,8 +1,9 @@
 -- What a pass knows of a row that it grants or takes.
-use Rattle.std.proofs.Common.{◌≡◌, ◌≢◌, ℕ, ◌+◌, ◌≤◌, true, List, sym, refl, ap, ◌∙◌, subst, inl, arith, Some, None}
+use Rattle.std.proofs.Common.{rules, ◌⊎◌, ◌≡◌, ◌≢◌, ℕ, ◌+◌, ◌≤◌, ◌<◌, ◌^◌, max, List, sym, refl, ap, ◌∙◌, subst, inl, inr, arith, Some, None}
 use Rattle.words.specs.Words.{IsJoinedInRange}
-use Rattle.words.specs.declared.Base.TheVariants.{Always}
-use Rattle.words.specs.declared.Message.{Message}
+use Rattle.words.specs.declared.Base.{Base}
+use Rattle.words.specs.declared.Base.TheVariants.{Send, Recv, Always, OnNack, Never}
+use Rattle.words.specs.declared.NackName.{NackName}
 use Rattle.words.specs.declared.Offer.{Offer}
 use Rattle.words.specs.declared.Row.{Row}
 use Rattle.words.specs.declared.Joined.{Joined}
@@ -14,68 +15,157 @@ use Rattle.cell.specs.declared.view.Stage.TheVariants.{Resting}
 use Rattle.cell.specs.declared.granting.Grant.TheVariants.{Given, Late}
 use Rattle.cell.specs.Told.{Agrees}
 use Rattle.cell.specs.Views.{saw, turned}
-use Rattle.protocol.specs.Tables.{is_always, joined_of, stands_alone}
+use Rattle.protocol.specs.Tables.{bound_row, joined_of}
 use Rattle.cell.specs.declared.view.Seen.{Seen}
-use Rattle.cell.specs.Sight.{Has, HaveOffer, HasSeenLast, CanGrant, Learns, IsBefore, SawCommitted, see_cell}
-use Rattle.cell.specs.Attempts.{SawAlways, Granted}
+use Rattle.cell.specs.Sight.{Has, HaveOffer, HasSeenLast, Learns, LearnsOf, IsBefore, SawCommitted, SeesOffer, see_cell, see_opened}
+use Rattle.cell.specs.Nacks.{CanGrant, IsBoundRow, SawCause, SawEnabled}
+use Rattle.cell.proofs.Learning.{learns_look, learns_then, learns_wider, nacks_wider}
+use Rattle.cell.specs.Attempts.{Granted, IsNackOf, IsNearGrant}
 use Rattle.cell.proofs.Offers.{have_more}
-use Rattle.cell.proofs.Meeting.{few, claim_found}
+use Rattle.cell.proofs.Meeting.{few, claim_found, last_more, sees_more}
 
-always_alone : (o : Offer) (m : Message) → o.base ≡ Always m → stands_alone (Some o) ≡ true
-always_alone o m e = ap is_always e
+-- WHAT LETS A ROW STAND ALONE stays known
+pub enabled_more : {Nacks : NackName → Type 0} (About : Row → Type 0) (s t : Seen) (n : NackName) (j : Joined) → LearnsOf About Nacks s t → SawEnabled s n j → SawEnabled t n j
+enabled_more About s t n j l e = record {
+  binding = e.binding;
+  bound = l.bound.0 (n, e.binding) e.bound;
+  joined = l.joined.0 (bound_row n e.binding, j) e.joined;
+  offer = e.offer;
+  chosen = sees_more About s t (bound_row n e.binding) j.own e.offer l e.chosen;
+  outside = e.outside;
+}
 
-pub can_grant : (s t : Seen) (r : Row) (n last : ℕ) (o : Offer) (m : Message) → Learns (IsBefore r) s t → HaveOffer s.words r n o → o.base ≡ Always m → HasSeenLast t r last
-    → CanGrant t r n (record { own = n; partner = None; stamp = 1 + last })
-can_grant s t r n last o m l have e seen = record {
+pub cause_more : {Nacks : NackName → Type 0} (About : Row → Type 0) (s t : Seen) (b : Base) (stamp : ℕ) → LearnsOf About Nacks s t → SawCause s b stamp → SawCause t b stamp
+cause_more About s t (Send c m) stamp l h = absurd h
+cause_more About s t (Recv c) stamp l h = absurd h
+cause_more About s t (Always m) stamp l h = h
+cause_more About s t (OnNack n) stamp l h = (h.0, enabled_more About s t n h.0 l h.1, h.2)
+cause_more About s t Never stamp l h = absurd h
+
+can_more : {Nacks : NackName → Type 0} (About : Row → Type 0) (s t : Seen) (r : Row) (n : ℕ) (j : Joined) → LearnsOf About Nacks s t → CanGrant s r n j → CanGrant t r n j
+can_more About s t r n j l can = record {
+  offer = can.offer;
+  read = have_more s.words t.words r n can.offer l.words.0 can.read;
+  cause = can.cause;
+  caused = cause_more About s t can.offer.base can.cause l can.caused;
+  last = can.last;
+  seen_last = last_more s t r can.last l.joined.0 can.seen_last;
+  is = can.is;
+}
+
+-- the offer was read in s, its cause was seen in t, and the last stamp in u
+pub can_grant : {Nacks : NackName → Type 0} (About : Row → Type 0) (s t u : Seen) (r : Row) (n last cause : ℕ) (o : Offer) → LearnsOf About Nacks s t → Learns (IsBefore r) t u → HaveOffer s.words r n o → SawCause t o.base cause → HasSeenLast u r last
+    → CanGrant u r n (record { own = n; partner = None; stamp = 1 + max last cause })
+can_grant About s t u r n last cause o l m have caused seen = record {
   offer = o;
-  read = have_more s.words t.words r n o l.words.0 have;
-  alone = always_alone o m e;
+  read = have_more t.words u.words r n o m.words.0 (have_more s.words t.words r n o l.words.0 have);
+  cause = cause;
+  caused = cause_more (IsBefore r) t u o.base cause m caused;
   last = last;
   seen_last = seen;
   is = refl;
 }
 
-pub grant_ranged : (words : List (Row × ℕ × ℕ)) (r : Row) (n last : ℕ) (o : Offer) → HaveOffer words r n o → last ≤ 65536 → IsJoinedInRange (record { own = n; partner = None; stamp = 1 + last })
-grant_ranged words r n last o have low = record {
+pub grant_ranged : (words : List (Row × ℕ × ℕ)) (r : Row) (n last cause : ℕ) (o : Offer) → HaveOffer words r n o → last ≤ 65536 → cause ≤ 65536 → IsJoinedInRange (record { own = n; partner = None; stamp = 1 + max last cause })
+grant_ranged words r n last cause o have low few_causes = record {
   own = few have.0 n have.6;
   partner = tt;
-  stamp_low = omega arith;
-  stamp_high = omega arith;
+  stamp_low = at_least last cause;
+  stamp_high = at_most last cause low few_causes;
 }
+  where
+    at_least : (a b : ℕ) → 1 ≤ 1 + max a b
+    at_least a b = omega arith
 
--- a look reads no word behind the cell
-words_see : (r : Row) (c : Cell) (s : Seen) → (see_cell r c s).words ≡ s.words
-words_see r Fresh s = refl
-words_see r Waiting s = refl
-words_see r Claimed s = refl
-words_see r (Synched j) s = refl
-words_see r (Taken j) s = refl
+    at_most : (a b : ℕ) → a ≤ 65536 → b ≤ 65536 → 1 + max a b < 2 ^ 32
+    at_most a b h k = omega arith
 
--- WHAT A GRANT ANSWERS: the offer was read in s, and the last stamp in the view v
-module _ (before s : Seen) (v w : View) (r : Row) (n last : ℕ) (o : Offer) (m : Message)
-    (first : Learns (λ q. q ≡ r) before s)
-    (second : Learns (IsBefore r) s v.seen)
-    (have : HaveOffer s.words r n o)
-    (always : o.base ≡ Always m) where
-  abbrev alone_as : Joined
-  alone_as = record { own = n; partner = None; stamp = 1 + last }
+learns_open : (r : Row) (s : Seen) → Learns (λ q. q ≡ r) s (see_opened r s)
+learns_open r s = search rules
 
-  sees_always : (t : Seen) → t.words ≡ v.seen.words → SawAlways t r n
-  sees_always t e = (m, o, inl (subst (λ (ws : List (Row × ℕ × ℕ)). HaveOffer ws r n o) (sym e) (have_more s.words v.seen.words r n o second.words.0 have)), always)
+-- THE ROWS AND NACKS that a grant looks at, where the offer was read in s
+pub near_offer : (before s t : Seen) (r : Row) (n : ℕ) → Learns (λ q. q ≡ r) before s → LearnsOf (IsNearGrant t r n) (IsNackOf t r n) before s
+near_offer before s t r n l =
+    nacks_wider (IsNearGrant t r n) (λ m. ⊥) (IsNackOf t r n) before s (λ m h. absurd h)
+    (learns_wider (λ q. q ≡ r) (IsNearGrant t r n) before s (λ q e. inl e) l)
 
-  pub given_is : w ≡ saw r (Synched alone_as) (turned Resting r v) → Agrees v r Waiting → Granted before w.seen r n Given
+pub near_cause : {A : Row → Type 0} {B : NackName → Type 0} (s u t : Seen) (r : Row) (n : ℕ) (o : Offer) → HaveOffer s.words r n o → LearnsOf (IsBoundRow u o.base) (λ m. o.base ≡ OnNack m) s u → LearnsOf A B u t → LearnsOf (IsNearGrant t r n) (IsNackOf t r n) s u
+near_cause {A} s u t r n o have l k =
+    let sees : SeesOffer t r n o = sees_more A u t r n o k (inl (have_more s.words u.words r n o l.words.0 have)) in
+    nacks_wider (IsNearGrant t r n) (λ m. o.base ≡ OnNack m) (IsNackOf t r n) s u (λ m e. (o, sees, e))
+    (learns_wider (IsBoundRow u o.base) (IsNearGrant t r n) s u (λ q h. inr (inr (h.0, h.1, (o, sees, h.2), k.bound.0 (h.0, h.1) h.3, h.4))) l)
+
+pub near_last : (s u t : Seen) (r : Row) (n : ℕ) → Learns (IsBefore r) s u → LearnsOf (IsNearGrant t r n) (IsNackOf t r n) s u
+near_last s u t r n l =
+    nacks_wider (IsNearGrant t r n) (λ m. ⊥) (IsNackOf t r n) s u (λ m h. absurd h)
+    (learns_wider (IsBefore r) (IsNearGrant t r n) s u (λ q e. inr (inl e)) l)
+
+-- A GRANT BEFORE ITS STEP: the offer was read in s, what lets it commit its row in u, and the last stamp in the view v
+pub record IsReady (before s u : Seen) (v : View) (r : Row) (n : ℕ) (o : Offer) (cause last : ℕ) : Type 0 where
+  pub offer : Learns (λ q. q ≡ r) before s
+  pub opened : Has s.opened r
+  pub have : HaveOffer s.words r n o
+  pub nack : LearnsOf (IsBoundRow u o.base) (λ m. o.base ≡ OnNack m) s u
+  pub caused : SawCause u o.base cause
+  pub low_cause : cause ≤ 65536
+  pub before_row : Learns (IsBefore r) u v.seen
+  pub seen_last : HasSeenLast v.seen r last
+  pub low : last ≤ 65536
+
+module _ (before s u : Seen) (v w : View) (r : Row) (n : ℕ) (o : Offer) (cause last : ℕ) (ready : IsReady before s u v r n o cause last) where
+  abbrev pub alone_as : Joined
+  alone_as = record { own = n; partner = None; stamp = 1 + max last cause }
+
+  pub can : CanGrant v.seen r n alone_as × IsJoinedInRange alone_as
+  can = (
+    can_grant (IsBoundRow u o.base) s u v.seen r n last cause o ready.nack ready.before_row ready.have ready.caused ready.seen_last,
+    grant_ranged s.words r n last cause o ready.have ready.low ready.low_cause,
+  )
+
+  -- what is learnt up to the step, and by it
+  pub learns_near : Learns (λ q. q ≡ r) v.seen w.seen → LearnsOf (IsNearGrant w.seen r n) (IsNackOf w.seen r n) before w.seen
+  learns_near step =
+      let later : LearnsOf (λ q. IsBefore r q ⊎ (q ≡ r)) (λ m. ⊥) u w.seen = learns_then (λ q. IsBefore r q ⊎ (q ≡ r)) u v.seen w.seen
+      (learns_wider (IsBefore r) (λ q. IsBefore r q ⊎ (q ≡ r)) u v.seen (λ q e. inl e) ready.before_row)
+      (learns_wider (λ q. q ≡ r) (λ q. IsBefore r q ⊎ (q ≡ r)) v.seen w.seen (λ q e. inr e) step) in
+      learns_then (IsNearGrant w.seen r n) before s w.seen
+      (near_offer before s w.seen r n ready.offer)
+      (learns_then (IsNearGrant w.seen r n) s u w.seen
+      (near_cause s u w.seen r n o ready.have ready.nack later)
+      (learns_then (IsNearGrant w.seen r n) u v.seen w.seen
+      (near_last u v.seen w.seen r n ready.before_row)
+      (near_offer v.seen w.seen w.seen r n step)))
+
+  seen_before : (i : Joined) → Has before.joined (r, i) → Has v.seen.joined (r, i)
+  seen_before i h = ready.before_row.joined.0 (r, i) (ready.nack.joined.0 (r, i) (ready.offer.joined.0 (r, i) h))
+
+  given_learns : w ≡ saw r (Synched alone_as) (turned Resting r v) → Learns (λ q. q ≡ r) v.seen w.seen
+  given_learns e = subst (λ (x : View). Learns (λ q. q ≡ r) v.seen x.seen) (sym e)
+      (learns_then (λ q. q ≡ r) v.seen (see_opened r v.seen) _ (learns_open r v.seen) (learns_look r (Synched alone_as) (see_opened r v.seen)))
+
+  late_learns : (c : Cell) → w ≡ saw r c v → Learns (λ q. q ≡ r) v.seen w.seen
+  late_learns c e = subst (λ (x : View). Learns (λ q. q ≡ r) v.seen x.seen) (sym e) (learns_look r c v.seen)
+
+  pub given_is : w ≡ saw r (Synched alone_as) (turned Resting r v) → Agrees v r Waiting → Granted before w.seen r n Given × LearnsOf (IsNearGrant w.seen r n) (IsNackOf w.seen r n) before w.seen
   given_is e agree = (
-    λ c. let bad : None ≡ Some c.0 = agree.0.joined c.0 (second.joined.0 (r, c.0) (first.joined.0 (r, c.0) c.1)) in cc,
-    sees_always w.seen (ap (λ (u : View). u.seen.words) e),
-    (1 + last, subst (λ (u : View). Has u.seen.joined (r, alone_as)) (sym e) (inl refl)),
+    (
+      (λ c. let bad : None ≡ Some c.0 = agree.0.joined c.0 (seen_before c.0 c.1) in cc),
+      (alone_as, can_more (λ q. q ≡ r) v.seen w.seen r n alone_as (given_learns e) can.0, subst (λ (x : View). Has x.seen.joined (r, alone_as)) (sym e) (inl refl)),
+    ),
+    learns_near (given_learns e),
   )
 
-  pub late_is : (c : Cell) → v.stage ≡ Resting → Has s.opened r → c ≢ Waiting → w ≡ saw r c v → Agrees v r c → Granted before w.seen r n Late
-  late_is c resting opened not_waiting e agree = (
-    sees_always w.seen (ap (λ (u : View). u.seen.words) e ∙ words_see r c v.seen),
-    λ held. subst (λ (u : View). SawCommitted u.seen r) (sym e)
-        (claim_found v r c (subst (λ (rows : List Row). Has rows r) (sym (second.held ∙ first.held)) held) (second.opened.0 r opened) resting not_waiting agree),
-  )
+  pub late_is : (c : Cell) → v.stage ≡ Resting → c ≢ Waiting → w ≡ saw r c v → Agrees v r c → Granted before w.seen r n Late × LearnsOf (IsNearGrant w.seen r n) (IsNackOf w.seen r n) before w.seen
+  late_is c resting not_waiting e agree =
+      let later = can_more (λ q. q ≡ r) v.seen w.seen r n alone_as (late_learns c e) can.0 in
+      let opened : Has v.seen.opened r = ready.before_row.opened.0 r (ready.nack.opened.0 r ready.opened) in
+      let held : v.seen.held ≡ before.held = ready.before_row.held ∙ ready.nack.held ∙ ready.offer.held in (
+        (
+          (later.offer, later.cause, inl later.read, later.caused),
+          λ h. subst (λ (x : View). SawCommitted x.seen r) (sym e) (claim_found v r c (subst (λ (rows : List Row). Has rows r) (sym held) h) opened resting not_waiting agree),
+        ),
+        learns_near (late_learns c e),
+      )
 
 -- WHAT A TAKE FINDS: the row was Synched, and is not any more
 pub taken_found : (v : View) (r : Row) (j : Joined) (c : Cell) → Has v.seen.joined (r, j) → c ≢ Synched j → Agrees v r c → Has (see_cell r c v.seen).taken r

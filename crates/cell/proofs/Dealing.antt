@@ -9,11 +9,13 @@ use mathlib.Core.Option.{some, none}
 use lib.ListN.{get_elem?}
 use Rattle.atomic_table.specs.Table.{State, Splits, opening}
 use Rattle.atomic_table.proofs.Lists.{at_set}
+use Rattle.words.specs.declared.NackName.{NackName}
+use Rattle.words.specs.declared.Binding.{Binding}
 use Rattle.words.specs.declared.Row.{Row}
 use Rattle.words.specs.declared.Cell.TheVariants.{Fresh, Claimed}
-use Rattle.protocol.specs.Tables.{thread_len, cell_at, word_at}
+use Rattle.protocol.specs.Tables.{thread_len, cell_at, word_at, binding_at, bound_row}
 use Rattle.protocol.specs.Worlds.{World, start_world, holder_at}
-use Rattle.protocol.proofs.LedgerLemmas.{start_cell, start_holder, start_word}
+use Rattle.protocol.proofs.LedgerLemmas.{start_binding, start_cell, start_holder, start_word}
 use Rattle.protocol.proofs.RowLemmas.{same_row}
 use Rattle.cell.specs.declared.view.View.{View}
 use Rattle.cell.specs.declared.view.Shape.{Shape}
@@ -25,14 +27,14 @@ use Rattle.cell.proofs.Turning.{world_kept}
 
 -- a pass that has seen nothing
 knows_nothing : (w : World) (owner : Row → ℕ) (id : ℕ) (shape : Shape) (k : ℕ) → shape.threads ≡ w.table.threads → shape.rows ≡ w.table.rows → shape.passes ≡ w.seats → 0 < w.seats
-    → ((t : ℕ) → t < w.table.threads → k ≤ t % w.seats → (owner (first_row t) ≡ id) × (holder_at w (first_row t) ≡ Some (t % w.seats)) × (cell_at w.table (first_row t) ≡ Fresh) × (word_at w.table (first_row t) 1 ≡ 0))
+    → ((t : ℕ) → t < w.table.threads → k ≤ t % w.seats → (owner (first_row t) ≡ id) × (holder_at w (first_row t) ≡ Some (t % w.seats)) × (cell_at w.table (first_row t) ≡ Fresh) × (word_at w.table (first_row t) 1 ≡ 0) × ((n : NackName) (b : Binding) → binding_at w.table n ≡ Some b → bound_row n b ≢ first_row t))
     → Knows w owner id (dealer shape k)
 knows_nothing w owner id shape k threads rows passes one_seat undealt = record {
   threads = threads;
   rows = rows;
   passes = passes;
   seat = one_seat;
-  undealt = λ t h d. let u = undealt t h d in (u.0, u.1, (λ n. u.2), λ n. u.3);
+  undealt = λ t h d. let u = undealt t h d in (u.0, u.1, (λ n. u.2), (λ n. u.3), λ n b e same. absurd (u.4 n b e same));
   mine = λ r h. absurd h;
   calm = λ r h e. absurd h;
   staged = tt;
@@ -42,6 +44,8 @@ knows_nothing w owner id shape k threads rows passes one_seat undealt = record {
   read = λ r p x h. absurd h;
   joined = λ r j h. absurd h;
   taken = λ r h. absurd h;
+  bound = λ n b h. absurd h;
+  binds = λ n b e h. absurd h;
 }
 
 -- THE START
@@ -61,7 +65,7 @@ keeps_start shape ws xs few one_row few_rows one_pass zeros = record {
   where
     first : Knows (start_world shape.threads shape.rows shape.passes) (λ r. 0) 0 (dealer shape 0)
     first = knows_nothing (start_world shape.threads shape.rows shape.passes) (λ r. 0) 0 shape 0 refl refl refl one_pass
-        (λ t h d. (refl, start_holder shape.threads shape.rows shape.passes (first_row t) h one_row, start_cell shape.threads shape.rows (first_row t), start_word shape.threads shape.rows (first_row t) 1))
+        (λ t h d. (refl, start_holder shape.threads shape.rows shape.passes (first_row t) h one_row, start_cell shape.threads shape.rows (first_row t), start_word shape.threads shape.rows (first_row t) 1, λ n b e same. let bad : None ≡ Some b = sym (start_binding shape.threads shape.rows n) ∙ e in cc))
 
     knows_at : (id : ℕ) (v : View) → get_elem? (dealer shape 0 ∷ []) id ≡ some v → 0 < v.threads → Knows (start_world shape.threads shape.rows shape.passes) (λ r. 0) id v
     knows_at zero v e t = subst (λ (u : View). Knows (start_world shape.threads shape.rows shape.passes) (λ r. 0) 0 u) (mathlib.Core.Option.some-injective _ _ e) first
@@ -146,9 +150,9 @@ module _ {S : Type 0} (shape : Shape) (id k : ℕ) (below : k < shape.passes) (s
   left = knows_nothing h.world owner' id shape (k + 1) was.threads was.rows was.passes some_seats (λ t i d.
       let u = was.undealt t i (omega arith) in
       let m = mod_seats t in
-      (ap (λ (b : Bool). cond b new (h.owner (first_row t))) (ap (λ (b : Bool). ltb t shape.threads && b) (ne_eqb (t % shape.passes) k (λ e. omega arith)) ∙ and-false (ltb t shape.threads)) ∙ u.0, u.1, u.2 (λ z. z), u.3 (λ l. l.1)))
+      (ap (λ (b : Bool). cond b new (h.owner (first_row t))) (ap (λ (b : Bool). ltb t shape.threads && b) (ne_eqb (t % shape.passes) k (λ e. omega arith)) ∙ and-false (ltb t shape.threads)) ∙ u.0, u.1, u.2 (λ z. z), u.3 (λ l. l.1), u.4))
 
-  dealt_row : (r : Row) → Has (dealt_rows shape.threads shape.passes k) r → (owner' r ≡ new) × (holder_at h.world r ≡ Some k) × (cell_at h.world.table r ≡ Fresh) × (word_at h.world.table r 1 ≡ 0)
+  dealt_row : (r : Row) → Has (dealt_rows shape.threads shape.passes k) r → (owner' r ≡ new) × (holder_at h.world r ≡ Some k) × (cell_at h.world.table r ≡ Fresh) × (word_at h.world.table r 1 ≡ 0) × ((n : NackName) (b : Binding) → binding_at h.world.table n ≡ Some b → bound_row n b ≢ r)
   dealt_row r i =
       let d = has_dealt shape.threads shape.passes k r i in
       let m : r.thread % h.world.seats ≡ k = mod_seats r.thread ∙ d.2 in
@@ -158,6 +162,7 @@ module _ {S : Type 0} (shape : Shape) (id k : ℕ) (below : k < shape.passes) (s
         ap (holder_at h.world) (sym same) ∙ u.1 ∙ ap Some m,
         ap (cell_at h.world.table) (sym same) ∙ u.2 (λ z. z),
         ap (λ (q : Row). word_at h.world.table q 1) (sym same) ∙ u.3 (λ l. l.1),
+        λ n b e is. u.4 n b e (is ∙ sym same),
       )
 
   its_pass : Knows h.world owner' new (dealt_pass (dealer shape k))
@@ -180,6 +185,8 @@ module _ {S : Type 0} (shape : Shape) (id k : ℕ) (below : k < shape.passes) (s
     read = λ r p x i. absurd i;
     joined = λ r j i. absurd i;
     taken = λ r i. absurd i;
+    bound = λ n b i. absurd i;
+    binds = λ n b e i. absurd ((dealt_row (bound_row n b) i).4 n b e refl);
   }
 
   at_old : (j : ℕ) (u : View) → get_elem? (slice_set s.views id (dealer shape (k + 1))) j ≡ some u → 0 < u.threads → Knows h.world owner' j u

@@ -6,10 +6,12 @@ use lib.ListN.{get_elem?}
 use Rattle.atomic_table.specs.Table.{Seen as SeenWith, Final}
 use Rattle.words.specs.declared.Joined.{Joined}
 use Rattle.words.specs.declared.Offer.{Offer}
+use Rattle.words.specs.declared.NackName.{NackName}
+use Rattle.words.specs.declared.Binding.{Binding}
 use Rattle.words.specs.declared.Row.{Row}
 use Rattle.protocol.specs.Tables.{Table, joined_at}
-use Rattle.protocol.specs.Ledgers.{ledger_of, IsLawful, joined_in, offer_in}
-use Rattle.protocol.proofs.LedgerLemmas.{lawful_ledger, joined_in_ledger, offer_in_ledger}
+use Rattle.protocol.specs.Ledgers.{ledger_of, IsLawful, binding_in, joined_in, offer_in}
+use Rattle.protocol.proofs.LedgerLemmas.{binding_in_ledger, lawful_ledger, joined_in_ledger, offer_in_ledger}
 use Rattle.cell.specs.declared.view.View.{View}
 use Rattle.cell.specs.declared.view.Shape.{Shape}
 use Rattle.cell.specs.Sight.{Has, IsDraft, SeesOffer, SeesNoOffer}
@@ -54,6 +56,9 @@ module _ (shape : Shape) (id : ℕ) (v : View) (at_table : 0 < v.threads) (ws sl
 
   pub final_joined : (r : Row) (j : Joined) → Has v.seen.joined (r, j) → joined_in (ledger_of (sized shape ws)) r ≡ Some j
   final_joined r j h = subst (λ (t : Table). joined_in (ledger_of t) r ≡ Some j) table_is (ap (λ (f : Row → _). f r) (joined_in_ledger kept.world.table) ∙ known.joined r j h)
+
+  pub final_bound : (n : NackName) (b : Binding) → Has v.seen.bound (n, b) → binding_in (ledger_of (sized shape ws)) n ≡ Some b
+  final_bound n b h = subst (λ (t : Table). binding_in (ledger_of t) n ≡ Some b) table_is (ap (λ (f : NackName → _). f n) (binding_in_ledger kept.world.table) ∙ known.bound n b h)
 
   pub final_own : (r : Row) (j : Joined) (offers : List Offer) → IsDraft v.seen r offers → joined_in (ledger_of (sized shape ws)) r ≡ Some j
       → (j.own < length offers) × (offer_in (ledger_of (sized shape ws)) r j.own ≡ slice_get offers j.own)

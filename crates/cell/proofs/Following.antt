@@ -1,17 +1,19 @@
 -- What passes have seen stays true where a world changes in what nobody relies on: a row is taken, and the next is held.
-use Rattle.std.proofs.Common.{◌%◌, ◌*◌, ◌≡◌, ◌≢◌, ℕ, ◌<◌, ◌≤◌, true, false, List, ◌∷◌, sym, refl, ap, ◌∙◌, subst, inl, inr, ⊎_elim, arith, Option, Some, None}
+use Rattle.std.proofs.Common.{◌⊎◌, ◌%◌, ◌*◌, ◌≡◌, ◌≢◌, ℕ, ◌<◌, ◌≤◌, true, false, List, ◌∷◌, sym, refl, ap, ◌∙◌, subst, inl, inr, ⊎_elim, arith, Option, Some, None}
 use Rattle.std.proofs.lemmas.Bool.{cases_Bool, false≢true}
 use Rattle.words.specs.declared.Seat.{Seat}
+use Rattle.words.specs.declared.NackName.{NackName}
+use Rattle.words.specs.declared.Binding.{Binding}
 use Rattle.words.specs.declared.Row.{Row}
 use Rattle.words.specs.declared.Joined.{Joined}
 use Rattle.words.specs.declared.Cell.{Cell}
 use Rattle.words.specs.declared.Cell.TheVariants.{Fresh, Claimed, Synched, Taken}
-use Rattle.protocol.specs.Tables.{is_row, row_eq, next_row, is_fresh, is_taken, names, word_at, cell_at, joined_at, joined_of}
+use Rattle.protocol.specs.Tables.{is_row, row_eq, next_row, is_fresh, is_taken, names, word_at, cell_at, joined_at, joined_of, binding_at, bound_row}
 use Rattle.protocol.specs.Worlds.{World, holder_at, with_cell, with_table, with_holders, handed}
 use Rattle.protocol.specs.Kept.{Kept}
 use Rattle.protocol.proofs.RowLemmas.{row_cases, row_ne, put, put_same, put_other}
 use Rattle.protocol.proofs.Linking.{cases_Option}
-use Rattle.protocol.proofs.Readings.{row_of_open, row_after_cell}
+use Rattle.protocol.proofs.Readings.{row_of_open, row_after_cell, binding_after_cell}
 use Rattle.protocol.proofs.Keeping.{held_row, open_held, hand_other, hand_next, handed_same, cells_taken}
 use Rattle.protocol.proofs.Places.{word_other}
 use Rattle.cell.specs.declared.view.View.{View}
@@ -32,32 +34,52 @@ pub record Follows (w u : World) : Type 0 where
   pub unclaimed : (r : Row) → cell_at u.table r ≡ Claimed → cell_at w.table r ≡ Claimed
   pub words : (r : Row) (p : ℕ) → is_row w.table r ≡ true → 1 ≤ p → p < 34 → word_at u.table r p ≡ word_at w.table r p
   pub held : (r : Row) (seat : ℕ) → holder_at w r ≡ Some seat → holder_at u r ≡ Some seat
+  pub bound : (n : NackName) (b : Binding) → binding_at w.table n ≡ Some b → binding_at u.table n ≡ Some b
 
 staged_follows : (w u : World) (owner : Row → ℕ) (id : ℕ) (stage : Stage) → Follows w u → Staged w owner id stage → Staged u owner id stage
 staged_follows w u owner id Resting f h = tt
 staged_follows w u owner id (Claims m) f h = (h.0, f.claimed m h.1, λ q. ap (λ (o : Option Joined). names o m) (f.joined q) ∙ h.2 q)
 staged_follows w u owner id (Joins m o j) f h = (h.0, f.claimed m h.1, f.joined o ∙ h.2, h.3)
 
-pub knows_follows : (w u : World) (owner : Row → ℕ) (id : ℕ) (v : View) → Follows w u → Knows w owner id v → Knows u owner id v
-knows_follows w u owner id v f k = record {
-  threads = k.threads ∙ sym f.threads;
-  rows = k.rows ∙ sym f.rows;
-  passes = k.passes ∙ sym f.seats;
-  seat = subst (λ (n : ℕ). v.seat < n) (sym f.seats) k.seat;
-  undealt = λ t h d.
-      let m : t % u.seats ≡ t % w.seats = ap (λ (n : ℕ). t % n) f.seats in
-      let a = k.undealt t (subst (λ (n : ℕ). t < n) f.threads h) (subst (λ (n : ℕ). v.dealt ≤ n) m d) in
-      (a.0, f.held (first_row t) _ a.1 ∙ ap Some (sym m), (λ n. f.fresh (first_row t) (a.2 n)), λ n. f.words (first_row t) 1 (held_row w (first_row t) _ a.1) (omega arith) (omega arith) ∙ a.3 n);
-  mine = λ r h. let a = k.mine r h in (a.0, f.held r v.seat a.1);
-  calm = λ r h e. k.calm r h (f.unclaimed r e);
-  staged = staged_follows w u owner id v.stage f k.staged;
-  fresh = λ r h n. f.fresh r (k.fresh r h n);
-  drafted = λ r p x h. let a = k.drafted r p x h in (a.0, a.1, a.2, f.held r v.seat a.3, f.words r p (held_row w r v.seat a.3) a.2 a.1 ∙ a.4);
-  opened = λ r h. f.opened r (k.opened r h);
-  read = λ r p x h. let a = k.read r p x h in (f.opened r a.0, a.1, a.2, f.words r p (row_of_open w.table r a.0) a.2 a.1 ∙ a.3);
-  joined = λ r j h. f.joined r ∙ k.joined r j h;
-  taken = λ r h. f.taken r (k.taken r h);
-}
+-- A pass knows the world that follows, where it has seen by then all nacks that are bound anew to rows of its own.
+module _ (w u : World) (owner : Row → ℕ) (id : ℕ) (v : View) (bs : List (NackName × Binding)) (f : Follows w u)
+    (more : (n : NackName) (b : Binding) → Has v.seen.bound (n, b) → Has bs (n, b))
+    (there : (n : NackName) (b : Binding) → Has bs (n, b) → binding_at u.table n ≡ Some b)
+    (anew : (n : NackName) (b : Binding) → binding_at u.table n ≡ Some b → owner (bound_row n b) ≡ id → (binding_at w.table n ≡ Some b) ⊎ Has bs (n, b)) where
+  seen_bound : (n : NackName) (b : Binding) → (binding_at w.table n ≡ Some b) ⊎ Has bs (n, b) → (binding_at w.table n ≡ Some b → Has v.seen.bound (n, b)) → Has bs (n, b)
+  seen_bound n b (inl e) old = more n b (old e)
+  seen_bound n b (inr h) old = h
+
+  pub knows_bound : Knows w owner id v → Knows u owner id (at_stage v.stage (record { held = v.seen.held; drafts = v.seen.drafts; opened = v.seen.opened; words = v.seen.words; joined = v.seen.joined; taken = v.seen.taken; bound = bs }) v)
+  knows_bound k = record {
+    threads = k.threads ∙ sym f.threads;
+    rows = k.rows ∙ sym f.rows;
+    passes = k.passes ∙ sym f.seats;
+    seat = subst (λ (n : ℕ). v.seat < n) (sym f.seats) k.seat;
+    undealt = λ t h d.
+        let m : t % u.seats ≡ t % w.seats = ap (λ (n : ℕ). t % n) f.seats in
+        let a = k.undealt t (subst (λ (n : ℕ). t < n) f.threads h) (subst (λ (n : ℕ). v.dealt ≤ n) m d) in (
+          a.0,
+          f.held (first_row t) _ a.1 ∙ ap Some (sym m),
+          (λ n. f.fresh (first_row t) (a.2 n)),
+          (λ n. f.words (first_row t) 1 (held_row w (first_row t) _ a.1) (omega arith) (omega arith) ∙ a.3 n),
+          λ n b e same. seen_bound n b (anew n b e (ap owner same ∙ a.0)) (λ old. a.4 n b old same),
+        );
+    mine = λ r h. let a = k.mine r h in (a.0, f.held r v.seat a.1);
+    calm = λ r h e. k.calm r h (f.unclaimed r e);
+    staged = staged_follows w u owner id v.stage f k.staged;
+    fresh = λ r h n. f.fresh r (k.fresh r h n);
+    drafted = λ r p x h. let a = k.drafted r p x h in (a.0, a.1, a.2, f.held r v.seat a.3, f.words r p (held_row w r v.seat a.3) a.2 a.1 ∙ a.4);
+    opened = λ r h. f.opened r (k.opened r h);
+    read = λ r p x h. let a = k.read r p x h in (f.opened r a.0, a.1, a.2, f.words r p (row_of_open w.table r a.0) a.2 a.1 ∙ a.3);
+    joined = λ r j h. f.joined r ∙ k.joined r j h;
+    taken = λ r h. f.taken r (k.taken r h);
+    bound = there;
+    binds = λ n b e h. seen_bound n b (anew n b e (k.mine (bound_row n b) h).0) (λ old. k.binds n b old h);
+  }
+
+pub knows_follows : (w u : World) (owner : Row → ℕ) (id : ℕ) (v : View) → Follows w u → ((n : NackName) (b : Binding) → binding_at u.table n ≡ Some b → owner (bound_row n b) ≡ id → (binding_at w.table n ≡ Some b) ⊎ Has v.seen.bound (n, b)) → Knows w owner id v → Knows u owner id v
+knows_follows w u owner id v f anew k = knows_bound w u owner id v v.seen.bound f (λ n b h. h) (λ n b h. f.bound n b (k.bound n b h)) anew k
 
 -- WHO OWNS WHAT may change for rows that nobody holds
 staged_owned : (w : World) (owner owner' : Row → ℕ) (j : ℕ) (stage : Stage) → Kept w → ((r : Row) → holder_at w r ≢ None → owner r ≡ j → owner' r ≡ j) → Staged w owner j stage → Staged w owner' j stage
@@ -74,7 +96,7 @@ knows_owned w owner owner' j u kept o k = record {
   rows = k.rows;
   passes = k.passes;
   seat = k.seat;
-  undealt = λ t h d. let a = k.undealt t h d in (o (first_row t) (some_seat w (first_row t) _ a.1) a.0, a.1, a.2, a.3);
+  undealt = λ t h d. let a = k.undealt t h d in (o (first_row t) (some_seat w (first_row t) _ a.1) a.0, a.1, a.2, a.3, a.4);
   mine = λ r h. let a = k.mine r h in (o r (some_seat w r _ a.1) a.0, a.1);
   calm = k.calm;
   staged = staged_owned w owner owner' j u.stage kept o k.staged;
@@ -84,17 +106,19 @@ knows_owned w owner owner' j u kept o k = record {
   read = k.read;
   joined = k.joined;
   taken = k.taken;
+  bound = k.bound;
+  binds = k.binds;
 }
 
--- A PASS HOLDS ONE ROW MORE, which is Fresh and has no offers
-pub hold_more : (w : World) (owner : Row → ℕ) (id : ℕ) (v : View) (x : Row) → Knows w owner id v → owner x ≡ id → holder_at w x ≡ Some v.seat → cell_at w.table x ≡ Fresh → word_at w.table x 1 ≡ 0
-    → Knows w owner id (at_stage v.stage (record { held = x ∷ v.seen.held; drafts = (x, 1, 0) ∷ v.seen.drafts; opened = v.seen.opened; words = v.seen.words; joined = v.seen.joined; taken = v.seen.taken }) v)
-hold_more w owner id v x k mine held fresh none = record {
+-- A PASS HOLDS ONE ROW MORE, which is Fresh and has no offers, and to which no nack is bound
+pub hold_more : (w : World) (owner : Row → ℕ) (id : ℕ) (v : View) (x : Row) → Knows w owner id v → owner x ≡ id → holder_at w x ≡ Some v.seat → cell_at w.table x ≡ Fresh → word_at w.table x 1 ≡ 0 → ((n : NackName) (b : Binding) → binding_at w.table n ≡ Some b → bound_row n b ≢ x)
+    → Knows w owner id (at_stage v.stage (record { held = x ∷ v.seen.held; drafts = (x, 1, 0) ∷ v.seen.drafts; opened = v.seen.opened; words = v.seen.words; joined = v.seen.joined; taken = v.seen.taken; bound = v.seen.bound }) v)
+hold_more w owner id v x k mine held fresh none unbound = record {
   threads = k.threads;
   rows = k.rows;
   passes = k.passes;
   seat = k.seat;
-  undealt = λ t h d. let a = k.undealt t h d in (a.0, a.1, a.2, λ n. a.3 (λ l. n (l.0, inr l.1)));
+  undealt = λ t h d. let a = k.undealt t h d in (a.0, a.1, a.2, (λ n. a.3 (λ l. n (l.0, inr l.1))), a.4);
   mine = λ r h. mine_now r h;
   calm = λ r h e. calm_now r h e;
   staged = k.staged;
@@ -104,8 +128,14 @@ hold_more w owner id v x k mine held fresh none = record {
   read = k.read;
   joined = k.joined;
   taken = k.taken;
+  bound = k.bound;
+  binds = λ n b e h. binds_now n b e h;
 }
   where
+    binds_now : (n : NackName) (b : Binding) → binding_at w.table n ≡ Some b → Has (x ∷ v.seen.held) (bound_row n b) → Has v.seen.bound (n, b)
+    binds_now n b e (inl same) = absurd (unbound n b e (sym same))
+    binds_now n b e (inr h) = k.binds n b e h
+
     mine_now : (r : Row) → Has (x ∷ v.seen.held) r → (owner r ≡ id) × (holder_at w r ≡ Some v.seat)
     mine_now r (inl e) = (ap owner (sym e) ∙ mine, ap (holder_at w) (sym e) ∙ held)
     mine_now r (inr h) = k.mine r h
@@ -180,6 +210,13 @@ module _ (w : World) (seat : Seat) (x : Row) (j : Joined) (k : Kept w) (is : cel
       ∙ hand_other (with_table w (with_cell w.table x (Taken j))) seat x r e
       ∙ Rattle.protocol.proofs.Keeping.holder_same w (with_cell w.table x (Taken j)) r size_after.0 size_after.1
 
+  pub bindings_after : (n : NackName) → binding_at (with_cell w.table x (Taken j)) n ≡ binding_at w.table n
+  bindings_after n = ap (λ (f : NackName → Option Binding). f n) (binding_after_cell w.table x (Taken j) (row_of_open w.table x (ap is_fresh is)))
+
+  -- no nack is bound to the row behind it
+  pub next_unbound : (n : NackName) (b : Binding) → binding_at taken_world.table n ≡ Some b → bound_row n b ≢ next_row x
+  next_unbound n b e same = k.bound n b (sym (bindings_after n) ∙ e) (ap (holder_at w) same ∙ next_unheld)
+
   pub follows_taken : Follows w taken_world
   follows_taken = record {
     threads = size_after.0;
@@ -205,6 +242,7 @@ module _ (w : World) (seat : Seat) (x : Row) (j : Joined) (k : Kept w) (is : cel
         (row_cases r x);
     words = word_kept;
     held = λ r s h. other_holder r (not_held r s h) ∙ h;
+    bound = λ n b e. bindings_after n ∙ e;
   }
 
   pub taken_at : cell_at taken_world.table x ≡ Taken j

@@ -6,6 +6,8 @@ use mathlib.Core.Option.{some}
 use lib.ListN.{get_elem?}
 use Rattle.atomic_table.specs.Table.{Splits, Joins}
 use Rattle.atomic_table.proofs.Lists.{at_set}
+use Rattle.words.specs.declared.NackName.{NackName}
+use Rattle.words.specs.declared.Binding.{Binding}
 use Rattle.words.specs.declared.Row.{Row}
 use Rattle.protocol.specs.Tables.{row_eq}
 use Rattle.protocol.specs.Worlds.{World}
@@ -86,6 +88,10 @@ pub told_lack : (s t : Seen) (r : Row) (n : ℕ) → SeesNoOffer s r n → SeesN
 told_lack s t r n (inl h) = inl (h.0, read_word s t (r, 1, h.0) h.1, h.2)
 told_lack s t r n (inr h) = inl (h.1.0, told_word s t r 1 h.1.0 h.0 h.1.1, h.1.2)
 
+-- a nack that was seen bound is among those that were told
+pub told_bound : (s t : Seen) (n : NackName) (b : Binding) → Has s.bound (n, b) → Has (heard t (told_of s)).bound (n, b)
+told_bound s t n b h = has_right t.bound s.bound (n, b) h
+
 module _ (w : World) (owner : Row → ℕ) where
   knows_told : (id new : ℕ) (v : View) → Knows w owner id v → Knows w owner new (told_pass v)
   knows_told id new v k = record {
@@ -109,6 +115,8 @@ module _ (w : World) (owner : Row → ℕ) where
         (has_either v.seen.words (drafts_of v.seen.opened v.seen.drafts) (r, p, x) h);
     joined = k.joined;
     taken = k.taken;
+    bound = k.bound;
+    binds = λ n b e h. absurd h;
   }
     where
       some_seats : v.seat < w.seats → 0 < w.seats
@@ -120,7 +128,7 @@ module _ (w : World) (owner : Row → ℕ) where
     rows = k.rows;
     passes = k.passes;
     seat = k.seat;
-    undealt = λ t h d. let a = k.undealt t h d in (a.0, a.1, (λ n. a.2 (λ o. n (has_left v.seen.opened u.seen.opened _ o))), a.3);
+    undealt = λ t h d. let a = k.undealt t h d in (a.0, a.1, (λ n. a.2 (λ o. n (has_left v.seen.opened u.seen.opened _ o))), a.3, λ n b e same. has_left v.seen.bound u.seen.bound (n, b) (a.4 n b e same));
     mine = k.mine;
     calm = k.calm;
     staged = k.staged;
@@ -130,6 +138,8 @@ module _ (w : World) (owner : Row → ℕ) where
     read = λ r p x h. ⊎_elim (λ (a : Has v.seen.words (r, p, x)). k.read r p x a) (λ (b : Has u.seen.words (r, p, x)). l.read r p x b) (has_either v.seen.words u.seen.words (r, p, x) h);
     joined = λ r j h. ⊎_elim (λ (a : Has v.seen.joined (r, j)). k.joined r j a) (λ (b : Has u.seen.joined (r, j)). l.joined r j b) (has_either v.seen.joined u.seen.joined (r, j) h);
     taken = λ r h. ⊎_elim (λ (a : Has v.seen.taken r). k.taken r a) (λ (b : Has u.seen.taken r). l.taken r b) (has_either v.seen.taken u.seen.taken r h);
+    bound = λ n b h. ⊎_elim (λ (a : Has v.seen.bound (n, b)). k.bound n b a) (λ (c : Has u.seen.bound (n, b)). l.bound n b c) (has_either v.seen.bound u.seen.bound (n, b) h);
+    binds = λ n b e h. has_left v.seen.bound u.seen.bound (n, b) (k.binds n b e h);
   }
 
 pub tell_allowed : {S : Type 0} (shape : Shape) (id : ℕ) (v : View) → 0 < v.threads → Splits {S = S} (Keeps shape) id v v (told_pass v)

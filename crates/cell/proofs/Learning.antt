@@ -1,29 +1,34 @@
 -- What is learnt in two calls, and of more rows.
-use Rattle.std.proofs.Common.{inl, rules, ◌≡◌, List, ◌∙◌, inr, ⊎_elim}
+use Rattle.std.proofs.Common.{inl, rules, ◌≡◌, ◌∷◌, ◌⊎◌, List, Option, Some, None, ap, sym, refl, ◌∙◌, inr, ⊎_elim}
+use Rattle.words.specs.declared.NackName.{NackName}
+use Rattle.words.specs.declared.Binding.{Binding}
 use Rattle.words.specs.declared.Row.{Row}
 use Rattle.cell.specs.declared.view.Seen.{Seen}
-use Rattle.cell.specs.Sight.{Has, Adds, Learns, see_cell}
+use Rattle.cell.specs.Sight.{Has, Adds, Learns, LearnsOf, see_cell}
+use Rattle.cell.specs.declared.view.View.{View}
+use Rattle.cell.specs.Views.{saw_nack}
 use Rattle.words.specs.declared.Cell.{Cell}
 use Rattle.words.specs.declared.Cell.TheVariants.{Fresh, Waiting, Claimed, Synched, Taken}
 
 adds_then : {A : Type 0} (About : A → Type 0) (xs ys zs : List A) → Adds About xs ys → Adds About ys zs → Adds About xs zs
 adds_then About xs ys zs f g = (λ x h. g.0 x (f.0 x h), λ x h. ⊎_elim (λ (i : Has ys x). f.1 x i) (λ (a : About x). inr a) (g.1 x h))
 
-pub learns_then : (About : Row → Type 0) (s t u : Seen) → Learns About s t → Learns About t u → Learns About s u
-learns_then About s t u f g = record {
+pub learns_then : {Nacks : NackName → Type 0} (About : Row → Type 0) (s t u : Seen) → LearnsOf About Nacks s t → LearnsOf About Nacks t u → LearnsOf About Nacks s u
+learns_then {Nacks} About s t u f g = record {
   held = g.held ∙ f.held;
   drafts = g.drafts ∙ f.drafts;
   opened = adds_then About s.opened t.opened u.opened f.opened g.opened;
   words = adds_then (λ x. About x.0) s.words t.words u.words f.words g.words;
   joined = adds_then (λ x. About x.0) s.joined t.joined u.joined f.joined g.joined;
   taken = adds_then About s.taken t.taken u.taken f.taken g.taken;
+  bound = adds_then (λ x. Nacks x.0) s.bound t.bound u.bound f.bound g.bound;
 }
 
 -- what is learnt of some rows is learnt of more
 adds_wider : {A : Type 0} (About About' : A → Type 0) (xs ys : List A) → ((x : A) → About x → About' x) → Adds About xs ys → Adds About' xs ys
 adds_wider About About' xs ys w f = (f.0, λ x h. ⊎_elim (λ (i : Has xs x). inl i) (λ (a : About x). inr (w x a)) (f.1 x h))
 
-pub learns_wider : (About About' : Row → Type 0) (s t : Seen) → ((r : Row) → About r → About' r) → Learns About s t → Learns About' s t
+pub learns_wider : {Nacks : NackName → Type 0} (About About' : Row → Type 0) (s t : Seen) → ((r : Row) → About r → About' r) → LearnsOf About Nacks s t → LearnsOf About' Nacks s t
 learns_wider About About' s t w l = record {
   held = l.held;
   drafts = l.drafts;
@@ -31,7 +36,49 @@ learns_wider About About' s t w l = record {
   words = adds_wider (λ x. About x.0) (λ x. About' x.0) s.words t.words (λ x. w x.0) l.words;
   joined = adds_wider (λ x. About x.0) (λ x. About' x.0) s.joined t.joined (λ x. w x.0) l.joined;
   taken = adds_wider About About' s.taken t.taken w l.taken;
+  bound = l.bound;
 }
+
+-- and of more nacks
+pub nacks_wider : (About : Row → Type 0) (Nacks Nacks' : NackName → Type 0) (s t : Seen) → ((n : NackName) → Nacks n → Nacks' n) → LearnsOf About Nacks s t → LearnsOf About Nacks' s t
+nacks_wider About Nacks Nacks' s t w l = record {
+  held = l.held;
+  drafts = l.drafts;
+  opened = l.opened;
+  words = l.words;
+  joined = l.joined;
+  taken = l.taken;
+  bound = adds_wider (λ x. Nacks x.0) (λ x. Nacks' x.0) s.bound t.bound (λ x. w x.0) l.bound;
+}
+
+-- nothing is learnt
+pub learns_nothing : (About : Row → Type 0) (Nacks : NackName → Type 0) (s : Seen) → LearnsOf About Nacks s s
+learns_nothing About Nacks s = record {
+  held = refl;
+  drafts = refl;
+  opened = ((λ x h. h), λ x h. inl h);
+  words = ((λ x h. h), λ x h. inl h);
+  joined = ((λ x h. h), λ x h. inl h);
+  taken = ((λ x h. h), λ x h. inl h);
+  bound = ((λ x h. h), λ x h. inl h);
+}
+
+-- a look at a nack adds where it is bound
+pub learns_nack : (n : NackName) (o : Option Binding) (v : View) → LearnsOf (λ q. ⊥) (λ m. m ≡ n) v.seen (saw_nack n o v).seen
+learns_nack n None v = learns_nothing (λ q. ⊥) (λ m. m ≡ n) v.seen
+learns_nack n (Some b) v = record {
+  held = refl;
+  drafts = refl;
+  opened = ((λ x h. h), λ x h. inl h);
+  words = ((λ x h. h), λ x h. inl h);
+  joined = ((λ x h. h), λ x h. inl h);
+  taken = ((λ x h. h), λ x h. inl h);
+  bound = ((λ x h. inr h), λ x h. only x h);
+}
+  where
+    only : (x : NackName × Binding) → Has ((n, b) ∷ v.seen.bound) x → Has v.seen.bound x ⊎ (x.0 ≡ n)
+    only x (inl e) = inr (ap (λ (z : NackName × Binding). z.0) (sym e))
+    only x (inr h) = inl h
 
 -- a look adds what it finds of its row
 pub learns_look : (r : Row) (c : Cell) (s : Seen) → Learns (λ q. q ≡ r) s (see_cell r c s)

@@ -7,6 +7,7 @@ pub mod Results
 pub mod Others
 pub mod Turning
 pub mod Allowing
+pub mod Binding
 pub mod Dealing
 pub mod Hearing
 pub mod Endings

@@ -3,6 +3,7 @@ use Rattle.std.proofs.Common.{rules, ◌≡◌, ◌≢◌, ℕ, ◌+◌, ◌^◌
 use Rattle.std.proofs.lemmas.Bool.{cases_Bool}
 use Rattle.words.specs.Words.{count_of, IsJoinedInRange}
 use Rattle.words.specs.declared.Offer.{Offer}
+use Rattle.words.specs.declared.NackName.{NackName}
 use Rattle.words.specs.declared.Row.{Row}
 use Rattle.words.specs.declared.Joined.{Joined}
 use Rattle.words.specs.declared.Base.{Base}
@@ -12,7 +13,7 @@ use Rattle.protocol.specs.Tables.{offers_meet, bases_meet, is_partner}
 use Rattle.protocol.proofs.RowLemmas.{row_eq-refl}
 use Rattle.cell.specs.Sight.{Coherent, SawChosen, LackOffer, IsKnownOpen}
 use Rattle.cell.specs.declared.view.Seen.{Seen}
-use Rattle.cell.specs.Sight.{Has, HaveOffer, HasSeenLast, SeesOffer, CanJoin, Learns, see_opened}
+use Rattle.cell.specs.Sight.{Has, HaveOffer, HasSeenLast, SeesOffer, CanJoin, Learns, LearnsOf, see_opened}
 use Rattle.words.specs.declared.Cell.{Cell}
 use Rattle.words.specs.declared.Cell.TheVariants.{Fresh, Waiting, Claimed, Synched, Taken}
 use Rattle.protocol.specs.Tables.{is_fresh, joined_of}
@@ -29,7 +30,7 @@ pub from_some : {A : Type 0} (x : Option A) (P : A → Type 0) (a : A) → IfSom
 from_some None P a h e = let bad : None ≡ Some a = e in cc
 from_some (Some b) P a h e = subst P (Rattle.protocol.proofs.Linking.some_inj b a e) h
 
-pub sees_more : (About : Row → Type 0) (s t : Seen) (r : Row) (n : ℕ) (o : Offer) → Learns About s t → SeesOffer s r n o → SeesOffer t r n o
+pub sees_more : {Nacks : NackName → Type 0} (About : Row → Type 0) (s t : Seen) (r : Row) (n : ℕ) (o : Offer) → LearnsOf About Nacks s t → SeesOffer s r n o → SeesOffer t r n o
 sees_more About s t r n o l (inl h) = inl (have_more s.words t.words r n o l.words.0 h)
 sees_more About s t r n o l (inr h) = inr (l.opened.0 r h.0, subst (λ (d : List (Row × ℕ × ℕ)). HaveOffer d r n o) (sym l.drafts) h.1)
 

@@ -1,6 +1,8 @@
 -- What passes have seen stays true at every step, whoever makes it.
 use Rattle.std.proofs.Common.{◌≡◌, ℕ, ◌<◌, ◌≤◌, Bool, true, false, cond, eqb, ◌&&◌, List, [], ◌∷◌, sym, refl, ap, ◌∙◌, subst, ◌⊎◌, inl, inr, ⊎_elim, arith, Option, Some, None, is_some}
 use Rattle.std.proofs.lemmas.Bool.{cases_Bool, cases_eq, false≢true, true≢false}
+use Rattle.words.specs.declared.NackName.{NackName}
+use Rattle.words.specs.declared.Binding.{Binding}
 use Rattle.words.specs.declared.Row.{Row}
 use Rattle.words.specs.declared.Joined.{Joined}
 use Rattle.words.specs.declared.Cell.{Cell}
@@ -9,17 +11,17 @@ use Rattle.words.specs.Words.{cell_word, IsCellInRange}
 use Rattle.cell.specs.declared.view.View.{View}
 use Rattle.cell.specs.declared.view.Stage.{Stage}
 use Rattle.cell.specs.declared.view.Stage.TheVariants.{Resting, Claims, Joins}
-use Rattle.protocol.specs.Tables.{Table, is_row, row_eq, cell_at, is_fresh, joined_of, joined_at, names, word_at}
+use Rattle.protocol.specs.Tables.{Table, is_row, row_eq, cell_at, is_fresh, joined_of, joined_at, names, word_at, binding_at}
 use Rattle.protocol.specs.Worlds.{World, holder_at, with_word, with_cell, with_table}
 use Rattle.protocol.specs.Kept.{Kept}
 use Rattle.protocol.proofs.Keeping.{held_row}
 use Rattle.protocol.proofs.RowLemmas.{row_cases, row_eq-false, row_ne, put, put_same, put_other}
 use Rattle.cell.proofs.Redrafting.{left}
 use Rattle.protocol.proofs.Places.{word_other, is_row_after}
-use Rattle.protocol.proofs.Readings.{cell_after_cell, cell_after_word, row_of_open}
+use Rattle.protocol.proofs.Readings.{cell_after_cell, cell_after_word, row_of_open, binding_after_cell, binding_after_word}
 use Rattle.cell.specs.Sight.{Has, IsCounted, without}
 use Rattle.protocol.specs.Tables.{is_taken}
-use Rattle.cell.specs.Views.{first_row, IsClaimer, Staged, Knows, at_stage, turned, saw, read_word, drafted_word}
+use Rattle.cell.specs.Views.{first_row, IsClaimer, Staged, Knows, at_stage, turned, saw, saw_nack, read_word, drafted_word}
 
 holder_kept : (w : World) (t : Table) (r : Row) → t.threads ≡ w.table.threads → t.rows ≡ w.table.rows → holder_at (with_table w t) r ≡ holder_at w r
 holder_kept = Rattle.protocol.proofs.Keeping.holder_same
@@ -57,6 +59,10 @@ module _ (w : World) (x : Row) (c : Cell) (owner : Row → ℕ) (k : Kept w)
       (λ (e : r ≡ x). absurd (false≢true (sym untaken ∙ ap (λ (y : Row). is_taken (cell_at w.table y)) (sym e) ∙ h)))
       (λ (e : row_eq r x ≡ false). ap is_taken (same_cell r e) ∙ h)
       (row_cases r x)
+
+  -- the nacks stay
+  stays_bound : (n : NackName) → binding_at (with_cell w.table x c) n ≡ binding_at w.table n
+  stays_bound n = ap (λ (f : NackName → Option Binding). f n) (binding_after_cell w.table x c row)
 
   -- the words behind the cells stay
   stays_word : (r : Row) (p : ℕ) → is_row w.table r ≡ true → 1 ≤ p → p < 34 → word_at (with_cell w.table x c) r p ≡ word_at w.table r p
@@ -120,7 +126,8 @@ module _ (w : World) (x : Row) (c : Cell) (owner : Row → ℕ) (k : Kept w)
                 cc)
                 (λ (y : row_eq (first_row t) x ≡ false). same_cell (first_row t) y ∙ u.2 n)
                 (row_cases (first_row t) x),
-            λ n. stays_count (first_row t) _ u.1 (u.3 n),
+            (λ n. stays_count (first_row t) _ u.1 (u.3 n)),
+            λ n b e. u.4 n b (sym (stays_bound n) ∙ e),
           );
       mine = λ r h. let m = knows.mine r h in (m.0, holder_kept w (with_cell w.table x c) r size_kept.0 size_kept.1 ∙ m.1);
       calm = λ r h e. knows.calm r h (⊎_elim
@@ -143,6 +150,8 @@ module _ (w : World) (x : Row) (c : Cell) (owner : Row → ℕ) (k : Kept w)
       read = λ r p d h. let k = knows.read r p d h in (stays_open r k.0, k.1, k.2, stays_word r p (row_of_open w.table r k.0) k.2 k.1 ∙ k.3);
       joined = λ r j h. stays_joined r j (knows.joined r j h);
       taken = λ r h. stays_taken r (knows.taken r h);
+      bound = λ n b h. stays_bound n ∙ knows.bound n b h;
+      binds = λ n b e. knows.binds n b (sym (stays_bound n) ∙ e);
     }
 
   -- the cells after it
@@ -164,7 +173,7 @@ module _ (w : World) (x : Row) (c : Cell) (owner : Row → ℕ) (k : Kept w)
     seat = knows.seat;
     undealt = λ t h d.
         let u = knows.undealt t (subst (λ (n : ℕ). t < n) size_kept.0 h) d in
-        (u.0, holder_kept w (with_cell w.table x c) (first_row t) size_kept.0 size_kept.1 ∙ u.1, λ n. same_cell (first_row t) (row_ne (first_row t) x (λ e. n (inl (sym e)))) ∙ u.2 (λ o. n (inr o)), λ n. stays_count (first_row t) _ u.1 (u.3 n));
+        (u.0, holder_kept w (with_cell w.table x c) (first_row t) size_kept.0 size_kept.1 ∙ u.1, λ n. same_cell (first_row t) (row_ne (first_row t) x (λ e. n (inl (sym e)))) ∙ u.2 (λ o. n (inr o)), (λ n. stays_count (first_row t) _ u.1 (u.3 n)), λ n b e. u.4 n b (sym (stays_bound n) ∙ e));
     mine = λ r h. let m = knows.mine r h in (m.0, holder_kept w (with_cell w.table x c) r size_kept.0 size_kept.1 ∙ m.1);
     calm = calm;
     staged = staged;
@@ -174,6 +183,8 @@ module _ (w : World) (x : Row) (c : Cell) (owner : Row → ℕ) (k : Kept w)
     read = λ r p d h. let k = knows.read r p d h in (stays_open r k.0, k.1, k.2, stays_word r p (row_of_open w.table r k.0) k.2 k.1 ∙ k.3);
     joined = λ r j h. stays_joined r j (knows.joined r j h);
     taken = λ r h. stays_taken r (knows.taken r h);
+    bound = λ n b h. stays_bound n ∙ knows.bound n b h;
+    binds = λ n b e. knows.binds n b (sym (stays_bound n) ∙ e);
   }
     where
       opened_now : (r : Row) → Has (x ∷ v.seen.opened) r → is_fresh (cell_at (with_cell w.table x c) r) ≡ false
@@ -185,13 +196,13 @@ module _ (w : World) (x : Row) (c : Cell) (owner : Row → ℕ) (k : Kept w)
 know_more : (w : World) (owner : Row → ℕ) (id : ℕ) (v : View) (r : Row) (js : List (Row × Joined)) (ts : List Row) → Knows w owner id v → is_fresh (cell_at w.table r) ≡ false
     → ((q : Row) (j : Joined) → Has js (q, j) → joined_at w.table q ≡ Some j)
     → ((q : Row) → Has ts q → is_taken (cell_at w.table q) ≡ true)
-    → Knows w owner id (at_stage v.stage (record { held = v.seen.held; drafts = v.seen.drafts; opened = r ∷ v.seen.opened; words = v.seen.words; joined = js; taken = ts }) v)
+    → Knows w owner id (at_stage v.stage (record { held = v.seen.held; drafts = v.seen.drafts; opened = r ∷ v.seen.opened; words = v.seen.words; joined = js; taken = ts; bound = v.seen.bound }) v)
 know_more w owner id v r js ts k f js_true ts_true = record {
   threads = k.threads;
   rows = k.rows;
   passes = k.passes;
   seat = k.seat;
-  undealt = λ t h d. let u = k.undealt t h d in (u.0, u.1, (λ n. u.2 (λ o. n (inr o))), u.3);
+  undealt = λ t h d. let u = k.undealt t h d in (u.0, u.1, (λ n. u.2 (λ o. n (inr o))), u.3, u.4);
   mine = k.mine;
   calm = k.calm;
   staged = k.staged;
@@ -201,6 +212,8 @@ know_more w owner id v r js ts k f js_true ts_true = record {
   read = k.read;
   joined = js_true;
   taken = ts_true;
+  bound = k.bound;
+  binds = k.binds;
 }
 
 pub learn_cell : (w : World) (owner : Row → ℕ) (id : ℕ) (v : View) (r : Row) (c : Cell) → Knows w owner id v → cell_at w.table r ≡ c → Knows w owner id (saw r c v)
@@ -240,11 +253,38 @@ learn_word w owner id v r p x k f a b e = record {
   read = λ q o y h. seen q o y h;
   joined = k.joined;
   taken = k.taken;
+  bound = k.bound;
+  binds = k.binds;
 }
   where
     seen : (q : Row) (o y : ℕ) → Has ((r, p, x) ∷ v.seen.words) (q, o, y) → (is_fresh (cell_at w.table q) ≡ false) × (o < 34) × (1 ≤ o) × (word_at w.table q o ≡ y)
     seen q o y (inl i) = subst (λ (z : Row × ℕ × ℕ). (is_fresh (cell_at w.table z.0) ≡ false) × (z.1 < 34) × (1 ≤ z.1) × (word_at w.table z.0 z.1 ≡ z.2)) i (f, b, a, e)
     seen q o y (inr h) = k.read q o y h
+
+pub learn_nack : (w : World) (owner : Row → ℕ) (id : ℕ) (v : View) (n : NackName) (o : Option Binding) → Knows w owner id v → binding_at w.table n ≡ o → Knows w owner id (saw_nack n o v)
+learn_nack w owner id v n None k e = k
+learn_nack w owner id v n (Some b) k e = record {
+  threads = k.threads;
+  rows = k.rows;
+  passes = k.passes;
+  seat = k.seat;
+  undealt = λ t h d. let u = k.undealt t h d in (u.0, u.1, u.2, u.3, λ m c f g. inr (u.4 m c f g));
+  mine = k.mine;
+  calm = k.calm;
+  staged = k.staged;
+  fresh = k.fresh;
+  drafted = k.drafted;
+  opened = k.opened;
+  read = k.read;
+  joined = k.joined;
+  taken = k.taken;
+  bound = λ m c h. seen m c h;
+  binds = λ m c f h. inr (k.binds m c f h);
+}
+  where
+    seen : (m : NackName) (c : Binding) → Has ((n, b) ∷ v.seen.bound) (m, c) → binding_at w.table m ≡ Some c
+    seen m c (inl p) = ap (λ (z : NackName × Binding). binding_at w.table z.0) (sym p) ∙ e ∙ ap (λ (z : NackName × Binding). Some z.1) p
+    seen m c (inr h) = k.bound m c h
 
 -- A WORD OF A FRESH ROW IS DRAFTED by its owner
 module _ (w : World) (x : Row) (p d : ℕ) (owner : Row → ℕ) (k : Kept w)
@@ -257,6 +297,9 @@ module _ (w : World) (x : Row) (p d : ℕ) (owner : Row → ℕ) (k : Kept w)
 
   words_stay : (r : Row) (q : ℕ) → is_row w.table r ≡ true → q < 34 → (row_eq r x ≡ false) ⊎ (q ≡ p → ⊥) → word_at (with_word w.table x p d) r q ≡ word_at w.table r q
   words_stay r q h b n = word_other w.table x r p q d row h high b n
+
+  nacks_stay : (n : NackName) → binding_at (with_word w.table x p d) n ≡ binding_at w.table n
+  nacks_stay n = ap (λ (f : NackName → Option Binding). f n) (binding_after_word w.table x p d row high)
 
   open_not_x : (r : Row) → is_fresh (cell_at w.table r) ≡ false → row_eq r x ≡ false
   open_not_x r h = row_ne r x (λ e. false≢true (sym h ∙ ap (λ (y : Row). is_fresh (cell_at w.table y)) e ∙ ap is_fresh unopened))
@@ -272,13 +315,13 @@ module _ (w : World) (x : Row) (p d : ℕ) (owner : Row → ℕ) (k : Kept w)
   after_draft : (id : ℕ) (v : View) (ds : List (Row × ℕ × ℕ)) → Knows w owner id v
       → ((t : ℕ) (r : Row) → owner r ≡ id → is_row w.table r ≡ true → (¬ IsCounted v.seen r → word_at w.table r 1 ≡ 0) → ¬ ((count : ℕ) × Has ds (r, 1, count)) → word_at (with_word w.table x p d) r 1 ≡ 0)
       → ((r : Row) (q y : ℕ) → Has ds (r, q, y) → (owner r ≡ id) × (q < 34) × (1 ≤ q) × (holder_at w r ≡ Some v.seat) × (word_at (with_word w.table x p d) r q ≡ y))
-      → Knows (with_table w (with_word w.table x p d)) owner id (at_stage v.stage (record { held = v.seen.held; drafts = ds; opened = v.seen.opened; words = v.seen.words; joined = v.seen.joined; taken = v.seen.taken }) v)
+      → Knows (with_table w (with_word w.table x p d)) owner id (at_stage v.stage (record { held = v.seen.held; drafts = ds; opened = v.seen.opened; words = v.seen.words; joined = v.seen.joined; taken = v.seen.taken; bound = v.seen.bound }) v)
   after_draft id v ds knows counts drafted = record {
     threads = knows.threads;
     rows = knows.rows;
     passes = knows.passes;
     seat = knows.seat;
-    undealt = λ t h e. let u = knows.undealt t h e in (u.0, holder_kept w (with_word w.table x p d) (first_row t) refl refl ∙ u.1, (λ n. cells_stay (first_row t) ∙ u.2 n), λ n. counts t (first_row t) u.0 (held_row w (first_row t) _ u.1) u.3 n);
+    undealt = λ t h e. let u = knows.undealt t h e in (u.0, holder_kept w (with_word w.table x p d) (first_row t) refl refl ∙ u.1, (λ n. cells_stay (first_row t) ∙ u.2 n), (λ n. counts t (first_row t) u.0 (held_row w (first_row t) _ u.1) u.3 n), λ n b g. u.4 n b (sym (nacks_stay n) ∙ g));
     mine = λ r h. let m = knows.mine r h in (m.0, holder_kept w (with_word w.table x p d) r refl refl ∙ m.1);
     calm = λ r h e. knows.calm r h (sym (cells_stay r) ∙ e);
     staged = staged_draft id v.stage knows.staged;
@@ -288,6 +331,8 @@ module _ (w : World) (x : Row) (p d : ℕ) (owner : Row → ℕ) (k : Kept w)
     read = λ r q y h. read_kept r q y (knows.read r q y h);
     joined = λ r j h. ap joined_of (cells_stay r) ∙ knows.joined r j h;
     taken = λ r h. ap is_taken (cells_stay r) ∙ knows.taken r h;
+    bound = λ n b h. nacks_stay n ∙ knows.bound n b h;
+    binds = λ n b g. knows.binds n b (sym (nacks_stay n) ∙ g);
   }
 
   pub others_draft : (id : ℕ) (v : View) → Knows w owner id v → (owner x ≡ id → ⊥) → Knows (with_table w (with_word w.table x p d)) owner id v

@@ -42,6 +42,7 @@ redrafts_word r p x s = record {
   words = refl;
   joined = refl;
   taken = refl;
+  bound = refl;
   kept = λ q o y else_where h. inr (left r p s.drafts q o y else_where h);
   only = λ q o y else_where h. only q o y else_where h;
 }
@@ -57,6 +58,7 @@ redrafts_wider Where Wider s t wider f = record {
   words = f.words;
   joined = f.joined;
   taken = f.taken;
+  bound = f.bound;
   kept = λ q o x out h. f.kept q o x (λ i. out (wider q o i)) h;
   only = λ q o x out h. f.only q o x (λ i. out (wider q o i)) h;
 }
@@ -68,6 +70,7 @@ redrafts_then Where s t u f g = record {
   words = g.words ∙ f.words;
   joined = g.joined ∙ f.joined;
   taken = g.taken ∙ f.taken;
+  bound = g.bound ∙ f.bound;
   kept = λ q o x out h. g.kept q o x out (f.kept q o x out h);
   only = λ q o x out h. f.only q o x out (g.only q o x out h);
 }

@@ -3,18 +3,25 @@ use Rattle.std.proofs.Common.{◌≡◌, ◌≢◌, ℕ, ◌+◌, ◌*◌, ◌-�
 use Rattle.std.proofs.lemmas.Bool.{lt-ltb, ne_eqb, true≢false}
 use Rattle.words.specs.Words.{count_of, offer_of, is_word_for}
 use Rattle.words.specs.declared.Offer.{Offer}
+use Rattle.words.specs.declared.NackName.{NackName}
 use Rattle.words.specs.declared.Row.{Row}
 use Rattle.words.specs.declared.Joined.{Joined}
 use Rattle.words.specs.declared.Cell.{Cell}
-use Rattle.protocol.specs.Tables.{Table, is_fresh, cell_at, joined_at, joined_of, offers_meet, offer_at, count_at, stamp_of, last_stamp, word_at, stands_alone}
+use Rattle.protocol.specs.Tables.{Table, is_fresh, cell_at, joined_at, joined_of, offers_meet, offer_at, count_at, stamp_of, last_stamp, word_at, stands_alone, binding_at, bound_row, encloses, nack_by, stamped, cause_by, cause_of, cause_at}
+use Rattle.words.specs.declared.Base.{Base}
+use Rattle.words.specs.declared.Base.TheVariants.{Send, Recv, Always, OnNack, Never}
 use Rattle.protocol.specs.Worlds.{World, joined_with, granted_by}
 use Rattle.protocol.specs.Kept.{Kept, IsSideOf}
-use Rattle.protocol.proofs.Readings.{count_open, row_of_open, offer_none, joined_ranged}
+use Rattle.protocol.proofs.Readings.{count_open, row_of_open, offer_none, joined_ranged, nack_of_bound, binding_ranged}
+use Rattle.protocol.proofs.Places.{nack_inside, row_inside}
+use Rattle.protocol.proofs.Causes.{cause_alone, enabling_from}
 use Rattle.protocol.proofs.Linking.{fresh_not_joined, some_inj, naming, partner_open}
 use Rattle.protocol.proofs.Lawfulness.{chosen_there}
-use Rattle.protocol.proofs.Keeping.{few_commits, taken_before}
+use Rattle.protocol.proofs.Keeping.{few_commits, taken_before, held_row, granted_is}
+use Rattle.protocol.proofs.Linking.{cases_Option}
 use Rattle.cell.specs.declared.view.View.{View}
-use Rattle.cell.specs.Sight.{Has, HaveOffer, HasSeenLast, CanJoin, IsDraft, SawChosen, SeesNoOffer, SeesOffer, Coherent, CanGrant}
+use Rattle.cell.specs.Sight.{Has, HaveOffer, HasSeenLast, CanJoin, IsDraft, SawChosen, SeesNoOffer, SeesOffer, Coherent}
+use Rattle.cell.specs.Nacks.{CanGrant, SawCause, SawEnabled}
 use Rattle.protocol.specs.Tables.{is_taken}
 use Rattle.cell.specs.Views.{Knows}
 use Rattle.cell.specs.Told.{Agrees}
@@ -71,11 +78,31 @@ module _ (w : World) (owner : Row → ℕ) (id : ℕ) (v : View) (k : Knows w ow
       let b = last_known o can.their_last can.seen_theirs in
       (λ x. record { own = n; partner = Some (m, i); stamp = 1 + max (a x) (b x) }) ∙ sym can.is
 
-  pub granted_known : (r : Row) (n : ℕ) (j : Joined) → CanGrant v.seen r n j → (stands_alone (offer_at w.table r n) ≡ true) × (granted_by w.table r n ≡ j)
-  unfolding granted_by
+  -- an offer that was seen, read or drafted
+  pub chosen_known : (r : Row) (n : ℕ) (o : Offer) → SeesOffer v.seen r n o → offer_at w.table r n ≡ Some o
+  chosen_known r n o (inl h) = offer_known r n o h
+  chosen_known r n o (inr h) = offer_there w.table v.seen.drafts r n o (λ p x d. (k.drafted r p x d).4) (k.opened r h.0) h.1
+
+  enabled_known : (n : NackName) (j : Joined) → SawEnabled v.seen n j → nack_by (joined_at w.table) (offer_at w.table) (binding_at w.table) n ≡ Some j
+  enabled_known n j e = enabling_from (joined_at w.table) (offer_at w.table) (binding_at w.table) n j (record {
+    binding = e.binding;
+    is_bound = k.bound n e.binding e.bound;
+    is_joined = k.joined (bound_row n e.binding) j e.joined;
+    outside = ap (encloses e.binding.scope) (chosen_known (bound_row n e.binding) j.own e.offer e.chosen) ∙ e.outside;
+  })
+
+  cause_known : (b : Base) (s : ℕ) → SawCause v.seen b s → cause_by (joined_at w.table) (offer_at w.table) (binding_at w.table) b ≡ Some s
+  cause_known (Send c m) s h = absurd h
+  cause_known (Recv c) s h = absurd h
+  cause_known (Always m) s h = ap (λ (x : ℕ). Some x) (sym h)
+  cause_known (OnNack n) s h = ap stamped (enabled_known n h.0 h.1) ∙ ap (λ (x : ℕ). Some x) (sym h.2)
+  cause_known Never s h = absurd h
+
+  pub granted_known : (r : Row) (n : ℕ) (j : Joined) (can : CanGrant v.seen r n j) → (cause_at w.table r n ≡ Some can.cause) × (granted_by w.table r n ≡ j)
   granted_known r n j can =
       let a = last_known r can.last can.seen_last in
-      (ap stands_alone (offer_known r n can.offer can.read) ∙ can.alone, (λ x. record { own = n; partner = None; stamp = 1 + a x }) ∙ sym can.is)
+      let has : cause_at w.table r n ≡ Some can.cause = ap (cause_of (joined_at w.table) (offer_at w.table) (binding_at w.table)) (offer_known r n can.offer can.read) ∙ cause_known can.offer.base can.cause can.caused in
+      (has, granted_is w.table r n can.cause has ∙ (λ x. record { own = n; partner = None; stamp = 1 + max (a x) can.cause }) ∙ sym can.is)
 
   module _ (kept : Kept w) where
     side : (r : Row) (j : Joined) (p : Row × ℕ) → Has v.seen.joined (r, j) → j.partner ≡ Some p → IsSideOf (cell_at w.table) (offer_at w.table) r j p
@@ -94,6 +121,13 @@ module _ (w : World) (owner : Row → ℕ) (id : ℕ) (v : View) (k : Knows w ow
         taken (inl c) = subst (λ (x : ℕ). x < count_at w.table r) c.2 (let o = chosen_there w.table.threads w.table.rows (cell_at w.table) (offer_at w.table) r c.0 kept.linked (k.joined r c.0 c.1) in below_count w.table r c.0.own o.0 o.1)
         taken (inr c) = let o = meeting_other _ _ (side c.0 c.1 (r, n) c.2 c.3).meets in below_count w.table r n o.0 o.1
 
+    -- a row that is held is one of the table's
+    bound_inside : (r : Row) → Rattle.protocol.specs.Worlds.holder_at w r ≢ None → Rattle.protocol.specs.Tables.is_row w.table r ≡ true
+    bound_inside r held = ⊎_elim
+        (λ (e : Rattle.protocol.specs.Worlds.holder_at w r ≡ None). absurd (held e))
+        (λ (e : (seat : ℕ) × (Rattle.protocol.specs.Worlds.holder_at w r ≡ Some seat)). held_row w r e.0 e.1)
+        (cases_Option (Rattle.protocol.specs.Worlds.holder_at w r))
+
     pub coherent : Coherent v.threads v.rows v.seen
     coherent = record {
       formed = λ r p x h. let a = k.read r p x h in ap (is_word_for p) (sym a.3) ∙ kept.formed.rows r p (row_of_open w.table r a.0) a.1;
@@ -105,7 +139,9 @@ module _ (w : World) (owner : Row → ℕ) (id : ℕ) (v : View) (k : Knows w ow
         joined_ranged w.table r j (k.joined r j h),
         Rattle.std.proofs.Math.Nat.le_trans (kept.linked.bounded r j (k.joined r j h)) (few_commits w.table.threads w.table.rows _ _ kept.few_threads kept.few_rows),
       );
-      alone = λ r j mine h e a. ap stands_alone (sym (offer_known r j.own mine a)) ∙ (kept.linked.alone r j (k.joined r j h) e).alone;
+      alone = λ r j mine h e a.
+          let was = kept.linked.alone r j (k.joined r j h) e in
+          ap stands_alone (sym (offer_known r j.own mine a)) ∙ cause_alone (joined_at w.table) (offer_at w.table) (binding_at w.table) (offer_at w.table r j.own) was.cause was.is;
       inside = λ r j p h e.
           let i = kept.linked.inside p.0 (open_partner r j p h e) in
           subst (λ (z : ℕ × ℕ). (p.0.thread < z.0) × (p.0.sync < z.1)) (λ i. (sym k.threads i, sym k.rows i)) i;
@@ -114,6 +150,14 @@ module _ (w : World) (owner : Row → ℕ) (id : ℕ) (v : View) (k : Knows w ow
           let m = offer_known r j.own mine a in
           let t = offer_known p.0 p.1 theirs b in
           (λ x. offers_meet (sym m x) (sym t x)) ∙ (side r j p h e).meets;
+      one_bound = λ n a b g h. some_inj a b (sym (k.bound n a g) ∙ k.bound n b h);
+      bound = λ n b h.
+          let e = k.bound n b h in
+          let i = nack_inside w.table n (nack_of_bound w.table n b e) in
+          let q = row_inside w.table (bound_row n b) (bound_inside (bound_row n b) (kept.bound n b e)) in
+          let rows : w.table.rows ≡ v.rows = sym k.rows in
+          let threads : w.table.threads ≡ v.threads = sym k.threads in
+          (omega (arith, i.0), i.1, omega (arith, q.1), (binding_ranged w.table n b e).scope);
     }
 
     -- what a pass has seen of a row agrees with the row's cell
@@ -139,8 +183,7 @@ module _ (w : World) (owner : Row → ℕ) (id : ℕ) (v : View) (k : Knows w ow
 
 -- OFFERS THAT WERE SEEN are those of the table, and those that were seen to lack are not there
 pub sees_known : (w : World) (owner : Row → ℕ) (id : ℕ) (v : View) (r : Row) (n : ℕ) (o : Offer) → Knows w owner id v → SeesOffer v.seen r n o → offer_at w.table r n ≡ Some o
-sees_known w owner id v r n o k (inl h) = offer_known w owner id v k r n o h
-sees_known w owner id v r n o k (inr h) = offer_there w.table v.seen.drafts r n o (λ p x d. (k.drafted r p x d).4) (k.opened r h.0) h.1
+sees_known w owner id v r n o k h = chosen_known w owner id v k r n o h
 
 pub lacks_known : (w : World) (owner : Row → ℕ) (id : ℕ) (v : View) (r : Row) (n : ℕ) → Knows w owner id v → SeesNoOffer v.seen r n → offer_at w.table r n ≡ None
 lacks_known w owner id v r n k (inl (count, has, above)) =

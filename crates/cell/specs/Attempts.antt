@@ -1,17 +1,20 @@
 -- What the answers of an attempt mean.
-use Rattle.std.specs.Prelude.{◌≡◌, ◌≢◌, ◌⊎◌, ℕ, true, Some, None}
-use Rattle.words.specs.declared.Base.TheVariants.{Always}
+use Rattle.std.specs.Prelude.{◌≡◌, ◌≢◌, ◌⊎◌, ℕ, Bool, true, false, Some}
+use Rattle.words.specs.declared.Base.TheVariants.{OnNack}
+use Rattle.words.specs.declared.NackName.{NackName}
+use Rattle.words.specs.declared.Binding.{Binding}
 use Rattle.words.specs.declared.Joined.{Joined}
-use Rattle.words.specs.declared.Message.{Message}
 use Rattle.words.specs.declared.Offer.{Offer}
 use Rattle.words.specs.declared.Row.{Row}
-use Rattle.protocol.specs.Tables.{next_row, offers_meet}
+use Rattle.protocol.specs.Tables.{bound_row, next_row, offers_meet}
+use Rattle.protocol.specs.Worlds.{nack_of_row}
 use Rattle.cell.specs.declared.view.Seen.{Seen}
 use Rattle.cell.specs.declared.attempt.Attempt.{Attempt}
 use Rattle.cell.specs.declared.attempt.Attempt.TheVariants.{Met, Gone, Mine, Busy, Unfit}
 use Rattle.cell.specs.declared.granting.Grant.{Grant}
 use Rattle.cell.specs.declared.granting.Grant.TheVariants.{Given, NotEnabled, Late}
-use Rattle.cell.specs.Sight.{Adds, Has, SeesOffer, SawCommitted, IsBefore, see_next}
+use Rattle.cell.specs.Sight.{Adds, Has, SeesOffer, SawCommitted, IsBefore, see_bound, see_next}
+use Rattle.cell.specs.Nacks.{CanGrant, CanStandAlone}
 
 -- the rows of two threads, whose two offers were seen and are a send and a receive on one channel
 abbrev pub CanMeet : Seen → Row → ℕ → Row → ℕ → Type 0
@@ -32,20 +35,21 @@ Attempted before after mine own other partner Mine = SawCommitted after mine
 Attempted before after mine own other partner Busy = (¬ Has before.held other) × (¬ SawCommitted before other)
 Attempted before after mine own other partner Unfit = ¬ CanMeet before mine own other partner
 
--- offer n of the row was seen to be an always
-abbrev pub SawAlways : Seen → Row → ℕ → Type 0
-SawAlways s r n = (m : Message) × (o : Offer) × SeesOffer s r n o × (o.base ≡ Always m)
-
 -- the answer of a grant, by what the pass had seen before it and has seen after it
 abbrev pub Granted : Seen → Seen → Row → ℕ → Grant → Type 0
 Granted before after r n Given =
-    (¬ SawCommitted before r) × SawAlways after r n × ((stamp : ℕ) × Has after.joined (r, record { own = n; partner = None; stamp = stamp }))
-Granted before after r n NotEnabled = ¬ SawAlways before r n
-Granted before after r n Late = SawAlways after r n × (Has before.held r → SawCommitted after r)
+    (¬ SawCommitted before r) × ((j : Joined) × CanGrant after r n j × Has after.joined (r, j))
+Granted before after r n NotEnabled = ¬ CanStandAlone before r n
+Granted before after r n Late = CanStandAlone after r n × (Has before.held r → SawCommitted after r)
 
--- the rows that a grant looks at: its own, and the one before it in its thread
-abbrev pub IsAtOrBefore : Row → Row → Type 0
-IsAtOrBefore r q = (q ≡ r) ⊎ IsBefore r q
+-- the nack that offer n of the row waits for, as the offer was seen
+abbrev pub IsNackOf : Seen → Row → ℕ → NackName → Type 0
+IsNackOf s r n nack = (o : Offer) × SeesOffer s r n o × (o.base ≡ OnNack nack)
+
+-- the rows that a grant looks at: its own, the one before it in its thread, and the one to which its nack is bound
+abbrev pub IsNearGrant : Seen → Row → ℕ → Row → Type 0
+IsNearGrant s r n q =
+    (q ≡ r) ⊎ (IsBefore r q ⊎ ((nack : NackName) × (b : Binding) × IsNackOf s r n nack × Has s.bound (nack, b) × (q ≡ bound_row nack b)))
 
 -- The pass took the row, committed so: it holds the thread's next row from now on, if there is one, which has no offers
 -- and is not opened, and it has seen nothing else anew but of the row.
@@ -60,6 +64,15 @@ pub record Took (rows : ℕ) (before after : Seen) (r : Row) (j : Joined) : Type
   pub words : after.words ≡ before.words
   pub joins : Adds (λ q. q.0 ≡ r) before.joined after.joined
   pub takes : Adds (λ q. q ≡ r) before.taken after.taken
+  pub bound : after.bound ≡ before.bound
+
+-- The answer of a bind. True: the pass had not seen the nack bound, and has now seen it bound to this row and scope.
+-- False: it has now seen where the nack is bound, and had seen that before if it is this row. Nothing else is new.
+abbrev pub Bound : Seen → Seen → ℕ → Row → ℕ → Bool → Type 0
+Bound before after k r scope true =
+    (after ≡ see_bound (nack_of_row r k) (record { sync = r.sync; scope = scope }) before) × ((b : Binding) → ¬ Has before.bound (nack_of_row r k, b))
+Bound before after k r scope false =
+    (b : Binding) × (after ≡ see_bound (nack_of_row r k) b before) × (b.sync ≡ r.sync → Has before.bound (nack_of_row r k, b))
 
 -- the rows that an attempt looks at: the two, and the rows before them in their threads
 abbrev pub IsNear : Row → Row → Row → Type 0

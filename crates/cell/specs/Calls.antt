@@ -1,6 +1,7 @@
 -- The table and a pass, as callers see them.
 use Rattle.std.specs.Prelude.{◌≡◌, ℕ, ◌<◌}
 use Rattle.atomic_table.specs.Seated.{TableId}
+use Rattle.words.specs.declared.NackName.{NackName}
 use Rattle.words.specs.declared.Row.{Row}
 use Rattle.cell.specs.declared.view.Seen.{Seen}
 
@@ -23,3 +24,7 @@ IsPassOf g p = (p.of.id ≡ g.id) × (p.of.threads ≡ g.threads) × (p.of.rows 
 -- the table has the row
 abbrev pub IsRowOf : Grid → Row → Type 0
 IsRowOf g r = (r.thread < g.threads) × (r.sync < g.rows)
+
+-- the table has the nack
+abbrev pub IsNackOf : Grid → NackName → Type 0
+IsNackOf g n = (n.thread < g.threads) × (n.k < 64)

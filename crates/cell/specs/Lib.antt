@@ -1,4 +1,5 @@
 pub mod Sight
+pub mod Nacks
 pub mod Attempts
 pub mod Views
 pub mod Rule

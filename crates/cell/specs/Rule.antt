@@ -38,7 +38,7 @@ no_offers (r ∷ rs) = (r, 1, 0) ∷ no_offers rs
 
 -- a pass that holds these rows and has seen nothing
 abbrev pub seen_nothing : List Row → Seen
-seen_nothing rows = record { held = rows; drafts = no_offers rows; opened = []; words = []; joined = []; taken = [] }
+seen_nothing rows = record { held = rows; drafts = no_offers rows; opened = []; words = []; joined = []; taken = []; bound = [] }
 
 -- the first pass: it has dealt the seats below this one, and holds nothing itself
 abbrev pub dealer : Shape → ℕ → View
@@ -78,7 +78,7 @@ drafts_of rows (d ∷ ds) = if is_among rows d.0 then d ∷ drafts_of rows ds el
 
 -- what is told: all that was seen, and the words drafted for opened rows, but no row is handed over
 abbrev pub told_of : Seen → Seen
-told_of s = record { held = []; drafts = []; opened = s.opened; words = s.words ++ drafts_of s.opened s.drafts; joined = s.joined; taken = s.taken }
+told_of s = record { held = []; drafts = []; opened = s.opened; words = s.words ++ drafts_of s.opened s.drafts; joined = s.joined; taken = s.taken; bound = s.bound }
 
 -- what a pass has seen once it was told this
 abbrev pub heard : Seen → Seen → Seen
@@ -89,6 +89,7 @@ heard s told = record {
   words = s.words ++ told.words;
   joined = s.joined ++ told.joined;
   taken = s.taken ++ told.taken;
+  bound = s.bound ++ told.bound;
 }
 
 abbrev pub told_pass : View → View

@@ -1,10 +1,11 @@
 -- A pass at its table.
 use Rattle.std.specs.Prelude.{◌≡◌, ℕ}
 use Rattle.atomic_table.specs.declared.shared.Seat.{Seat}
+use Rattle.words.specs.declared.NackName.{NackName}
 use Rattle.words.specs.declared.Row.{Row}
 use Rattle.cell.specs.declared.board.Board.{Board}
 use Rattle.cell.specs.declared.view.View.{View}
-use Rattle.cell.specs.Told.{Inside}
+use Rattle.cell.specs.Told.{Inside, InsideNack}
 
 -- the seat is one of this table's, and its pass knows the table's size
 abbrev pub Sits : Board → Seat ℕ View → Type 0
@@ -13,3 +14,7 @@ Sits b s = (s.table_id ≡ b.words.shared.table_id) × (s.me.0.threads ≡ b.sha
 -- the table has the row
 abbrev pub HasRow : Board → Row → Type 0
 HasRow b r = Inside b.shape.threads b.shape.rows r
+
+-- the table has the nack
+abbrev pub HasNack : Board → NackName → Type 0
+HasNack b n = InsideNack b.shape.threads n

@@ -6,6 +6,8 @@ use Rattle.words.specs.declared.Base.TheVariants.{Send, Recv, Always, OnNack, Ne
 use Rattle.words.specs.declared.Message.{Message}
 use Rattle.words.specs.declared.Message.TheVariants.{Empty}
 use Rattle.words.specs.declared.Offer.{Offer}
+use Rattle.words.specs.declared.NackName.{NackName}
+use Rattle.words.specs.declared.Binding.{Binding}
 use Rattle.words.specs.declared.Row.{Row}
 use Rattle.words.specs.declared.Joined.{Joined}
 use Rattle.words.specs.declared.Cell.{Cell}
@@ -22,19 +24,19 @@ Has (y ∷ ys) x = (y ≡ x) ⊎ Has ys x
 
 -- the row was seen opened
 abbrev pub see_opened : Row → Seen → Seen
-see_opened r s = record { held = s.held; drafts = s.drafts; opened = r ∷ s.opened; words = s.words; joined = s.joined; taken = s.taken }
+see_opened r s = record { held = s.held; drafts = s.drafts; opened = r ∷ s.opened; words = s.words; joined = s.joined; taken = s.taken; bound = s.bound }
 
 -- the row's cell was seen
 abbrev pub see_cell : Row → Cell → Seen → Seen
 see_cell r Fresh s = s
 see_cell r Waiting s = see_opened r s
 see_cell r Claimed s = see_opened r s
-see_cell r (Synched j) s = record { held = s.held; drafts = s.drafts; opened = r ∷ s.opened; words = s.words; joined = (r, j) ∷ s.joined; taken = s.taken }
-see_cell r (Taken j) s = record { held = s.held; drafts = s.drafts; opened = r ∷ s.opened; words = s.words; joined = (r, j) ∷ s.joined; taken = r ∷ s.taken }
+see_cell r (Synched j) s = record { held = s.held; drafts = s.drafts; opened = r ∷ s.opened; words = s.words; joined = (r, j) ∷ s.joined; taken = s.taken; bound = s.bound }
+see_cell r (Taken j) s = record { held = s.held; drafts = s.drafts; opened = r ∷ s.opened; words = s.words; joined = (r, j) ∷ s.joined; taken = r ∷ s.taken; bound = s.bound }
 
 -- a word of an opened row was read
 abbrev pub see_word : Row → ℕ → ℕ → Seen → Seen
-see_word r p x s = record { held = s.held; drafts = s.drafts; opened = s.opened; words = (r, p, x) ∷ s.words; joined = s.joined; taken = s.taken }
+see_word r p x s = record { held = s.held; drafts = s.drafts; opened = s.opened; words = (r, p, x) ∷ s.words; joined = s.joined; taken = s.taken; bound = s.bound }
 
 -- a word of a held Fresh row was drafted: what was drafted there before is gone
 abbrev pub without : Row → ℕ → List (Row × ℕ × ℕ) → List (Row × ℕ × ℕ)
@@ -42,26 +44,36 @@ without r p [] = []
 without r p (d ∷ ds) = if row_eq d.0 r && (d.1 == p) then without r p ds else d ∷ without r p ds
 
 abbrev pub see_draft : Row → ℕ → ℕ → Seen → Seen
-see_draft r p x s = record { held = s.held; drafts = (r, p, x) ∷ without r p s.drafts; opened = s.opened; words = s.words; joined = s.joined; taken = s.taken }
+see_draft r p x s = record { held = s.held; drafts = (r, p, x) ∷ without r p s.drafts; opened = s.opened; words = s.words; joined = s.joined; taken = s.taken; bound = s.bound }
 
 -- the row was taken by the pass, which holds the thread's next row from then on, if there is one: a Fresh row
 abbrev pub see_next : ℕ → Row → Seen → Seen
 see_next rows r s =
     if nat_lt (r.sync + 1) rows
-    then record { held = next_row r ∷ s.held; drafts = (next_row r, 1, 0) ∷ s.drafts; opened = s.opened; words = s.words; joined = s.joined; taken = s.taken }
+    then record { held = next_row r ∷ s.held; drafts = (next_row r, 1, 0) ∷ s.drafts; opened = s.opened; words = s.words; joined = s.joined; taken = s.taken; bound = s.bound }
     else s
+
+-- the nack was seen bound so
+abbrev pub see_bound : NackName → Binding → Seen → Seen
+see_bound n b s = record { held = s.held; drafts = s.drafts; opened = s.opened; words = s.words; joined = s.joined; taken = s.taken; bound = (n, b) ∷ s.bound }
 
 -- nothing is lost, and what is new is of rows such as these
 abbrev pub Adds : {A : Type 0} → (A → Type 0) → List A → List A → Type 0
 Adds {A} About xs ys = ((x : A) → Has xs x → Has ys x) × ((x : A) → Has ys x → Has xs x ⊎ About x)
 
-pub record Learns (About : Row → Type 0) (s t : Seen) : Type 0 where
+-- what is new is of such rows, and of such nacks
+pub record LearnsOf (About : Row → Type 0) (Nacks : NackName → Type 0) (s t : Seen) : Type 0 where
   pub held : t.held ≡ s.held
   pub drafts : t.drafts ≡ s.drafts
   pub opened : Adds About s.opened t.opened
   pub words : Adds (λ x. About x.0) s.words t.words
   pub joined : Adds (λ x. About x.0) s.joined t.joined
   pub taken : Adds About s.taken t.taken
+  pub bound : Adds (λ x. Nacks x.0) s.bound t.bound
+
+-- what is new is of such rows, and of no nack
+abbrev pub Learns : (Row → Type 0) → Seen → Seen → Type 0
+Learns About s t = LearnsOf About (λ n. ⊥) s t
 
 -- Words were drafted at these places, and nothing else changed.
 pub record Redrafts (Where : Row → ℕ → Type 0) (s t : Seen) : Type 0 where
@@ -70,6 +82,7 @@ pub record Redrafts (Where : Row → ℕ → Type 0) (s t : Seen) : Type 0 where
   pub words : t.words ≡ s.words
   pub joined : t.joined ≡ s.joined
   pub taken : t.taken ≡ s.taken
+  pub bound : t.bound ≡ s.bound
   pub kept : (r : Row) (p x : ℕ) → ¬ Where r p → Has s.drafts (r, p, x) → Has t.drafts (r, p, x)
   pub only : (r : Row) (p x : ℕ) → ¬ Where r p → Has t.drafts (r, p, x) → Has s.drafts (r, p, x)
 
@@ -160,17 +173,6 @@ pub record CanJoin (s : Seen) (mine : Row) (own : ℕ) (other : Row) (partner : 
   pub seen_theirs : HasSeenLast s other their_last
   pub is : j ≡ record { own = partner; partner = Some (mine, own); stamp = 1 + max my_last their_last }
 
--- WHAT A PASS KNOWS OF A ROW BEFORE IT GRANTS IT
-
--- the row, committed alone as j by its offer n, at the stamp that its last stamp gives
-pub record CanGrant (s : Seen) (r : Row) (n : ℕ) (j : Joined) : Type 0 where
-  pub offer : Offer
-  pub read : HaveOffer s.words r n offer
-  pub alone : stands_alone (Some offer) ≡ true
-  pub last : ℕ
-  pub seen_last : HasSeenLast s r last
-  pub is : j ≡ record { own = n; partner = None; stamp = 1 + last }
-
 -- THE CELL THAT A PASS MAY FIND, by what it has seen
 pub record IsExpected (s : Seen) (r : Row) (c : Cell) : Type 0 where
   pub opened : Has s.opened r → is_fresh c ≡ false
@@ -196,9 +198,12 @@ pub record Coherent (threads rows : ℕ) (s : Seen) : Type 0 where
   pub as_drafted : (r : Row) (p x y : ℕ) → Has s.drafts (r, p, x) → Has s.words (r, p, y) → x ≡ y
   pub one_joined : (r : Row) (i j : Joined) → Has s.joined (r, i) → Has s.joined (r, j) → i ≡ j
   pub in_range : (r : Row) (j : Joined) → Has s.joined (r, j) → IsJoinedInRange j × (j.stamp ≤ 65536)
-  -- a row that is committed alone chose an always, and of a pair both offers meet
+  -- a row that is committed alone chose an always or a nack, and of a pair both offers meet
   pub alone : (r : Row) (j : Joined) (mine : Offer) → Has s.joined (r, j) → j.partner ≡ None → HaveOffer s.words r j.own mine → stands_alone (Some mine) ≡ true
   pub inside : (r : Row) (j : Joined) (p : Row × ℕ) → Has s.joined (r, j) → j.partner ≡ Some p → (p.0.thread < threads) × (p.0.sync < rows)
   pub chosen : (r : Row) (n count : ℕ) → SawChosen s r n → Has s.words (r, 1, count) → n < unwrap_or (count_of count) 0
   pub meet : (r : Row) (j : Joined) (p : Row × ℕ) (mine theirs : Offer) → Has s.joined (r, j) → j.partner ≡ Some p
       → HaveOffer s.words r j.own mine → HaveOffer s.words p.0 p.1 theirs → offers_meet (Some mine) (Some theirs) ≡ true
+  pub one_bound : (n : NackName) (a b : Binding) → Has s.bound (n, a) → Has s.bound (n, b) → a ≡ b
+  -- a nack of the table is bound, to a row of the table
+  pub bound : (n : NackName) (b : Binding) → Has s.bound (n, b) → (n.thread < threads) × (n.k < 64) × (b.sync < rows) × (b.scope < 4)

@@ -1,16 +1,18 @@
 -- What a step tells the pass that makes it: its view after, by the word that it found.
-use Rattle.std.specs.Prelude.{◌≡◌, ◌≢◌, ℕ, ◌<◌, unwrap_or}
+use Rattle.std.specs.Prelude.{◌≡◌, ◌≢◌, ℕ, ◌<◌, unwrap_or, Option, Some, None}
 use Rattle.atomic_table.specs.Table.{Step, Me}
-use Rattle.words.specs.Words.{cell_word, cell_of, IsJoinedInRange}
+use Rattle.words.specs.Words.{cell_word, cell_of, nack_word, nack_of, IsBindingInRange, IsJoinedInRange}
+use Rattle.words.specs.declared.NackName.{NackName}
+use Rattle.words.specs.declared.Binding.{Binding}
 use Rattle.words.specs.declared.Row.{Row}
 use Rattle.words.specs.declared.Joined.{Joined}
 use Rattle.words.specs.declared.Cell.{Cell}
 use Rattle.words.specs.declared.Cell.TheVariants.{Fresh, Waiting, Claimed, Synched, Taken}
-use Rattle.protocol.specs.Tables.{place_of, next_row}
+use Rattle.protocol.specs.Tables.{bound_row, nack_place, place_of, next_row}
 use Rattle.cell.specs.declared.view.View.{View}
 use Rattle.cell.specs.declared.view.Stage.TheVariants.{Resting, Claims, Joins}
 use Rattle.cell.specs.Sight.{Has, IsExpected, Coherent}
-use Rattle.cell.specs.Views.{IsClaimer, saw, took, read_word, drafted_word, turned}
+use Rattle.cell.specs.Views.{IsClaimer, bound_nack, saw, saw_nack, took, read_word, drafted_word, turned}
 
 -- the table has the row
 abbrev pub Inside : ℕ → ℕ → Row → Type 0
@@ -19,6 +21,18 @@ Inside threads rows r = (r.thread < threads) × (r.sync < rows)
 -- the step is on this word of this row
 abbrev pub At : {S : Type 0} → Step S → Me S View → Row → ℕ → Type 0
 At st m r p = Inside m.0.threads m.0.rows r × (st.word ≡ place_of m.0.rows r p)
+
+-- the table has the nack
+abbrev pub InsideNack : ℕ → NackName → Type 0
+InsideNack threads n = (n.thread < threads) × (n.k < 64)
+
+-- the step is on the word of this nack
+abbrev pub AtNack : {S : Type 0} → Step S → Me S View → NackName → Type 0
+AtNack st m n = InsideNack m.0.threads n × (st.word ≡ nack_place m.0.rows n)
+
+-- where a word says that a nack is bound
+abbrev pub nack_read : ℕ → Option Binding
+nack_read n = unwrap_or (nack_of n) None
 
 -- the cell that a word stands for
 abbrev pub cell_read : ℕ → Cell
@@ -68,3 +82,18 @@ abbrev pub taken : {S : Type 0} → Step S → Me S View → ℕ → Me S View �
 taken st m n w = (r : Row) (j : Joined) → At st m r 0 → IsJoinedInRange j → st.second ≡ cell_word (Taken j)
     → (n ≡ cell_word (Synched j) → (w ≡ (took r j m.0, m.1)) × Agrees m.0 r (Synched j) × (¬ Has m.0.seen.opened (next_row r)))
     × (n ≢ cell_word (Synched j) → (w ≡ (saw r (cell_read n) m.0, m.1)) × Agrees m.0 r (cell_read n))
+
+-- what a pass knows of a nack before it looks: where it saw it bound
+abbrev pub AgreesNack : View → NackName → Option Binding → Type 0
+AgreesNack v n found = (b : Binding) → Has v.seen.bound (n, b) → found ≡ Some b
+
+abbrev pub looked_nack : {S : Type 0} → Step S → Me S View → ℕ → Me S View → Type 0
+looked_nack st m n w = (nack : NackName) → AtNack st m nack
+    → (w ≡ (saw_nack nack (nack_read n) m.0, m.1)) × AgreesNack m.0 nack (nack_read n) × Coherent m.0.threads m.0.rows w.0.seen
+
+-- where the nack was not bound it is bound so, and the pass had not seen it bound; else the pass has seen where it is,
+-- and had seen it where that is a row that it holds
+abbrev pub tried_bind : {S : Type 0} → Step S → Me S View → ℕ → Me S View → Type 0
+tried_bind st m n w = (nack : NackName) (b : Binding) → AtNack st m nack → IsBindingInRange b → st.second ≡ nack_word (Some b)
+    → (nack_read n ≡ None → (w ≡ (bound_nack nack b m.0, m.1)) × ((c : Binding) → ¬ Has m.0.seen.bound (nack, c)))
+    × ((c : Binding) → nack_read n ≡ Some c → (w ≡ (bound_nack nack c m.0, m.1)) × (Has m.0.seen.held (bound_row nack c) → Has m.0.seen.bound (nack, c)))

@@ -1,5 +1,7 @@
 -- What the rule knows of a pass, and when it is true of the table.
-use Rattle.std.specs.Prelude.{◌≡◌, ℕ, ◌%◌, ◌<◌, ◌≤◌, true, false, Some}
+use Rattle.std.specs.Prelude.{◌≡◌, ℕ, ◌%◌, ◌<◌, ◌≤◌, true, false, Option, Some, None}
+use Rattle.words.specs.declared.NackName.{NackName}
+use Rattle.words.specs.declared.Binding.{Binding}
 use Rattle.words.specs.declared.Row.{Row}
 use Rattle.words.specs.declared.Joined.{Joined}
 use Rattle.words.specs.declared.Cell.{Cell}
@@ -8,9 +10,9 @@ use Rattle.cell.specs.declared.view.Seen.{Seen}
 use Rattle.cell.specs.declared.view.View.{View}
 use Rattle.cell.specs.declared.view.Stage.{Stage}
 use Rattle.cell.specs.declared.view.Stage.TheVariants.{Resting, Claims, Joins}
-use Rattle.protocol.specs.Tables.{is_fresh, is_taken, names, word_at, cell_at, joined_at}
+use Rattle.protocol.specs.Tables.{is_fresh, is_taken, names, word_at, cell_at, joined_at, binding_at, bound_row}
 use Rattle.protocol.specs.Worlds.{World, holder_at}
-use Rattle.cell.specs.Sight.{Has, IsCounted, see_opened, see_cell, see_word, see_draft, see_next}
+use Rattle.cell.specs.Sight.{Has, IsCounted, see_opened, see_cell, see_word, see_draft, see_next, see_bound}
 
 -- a thread's first row
 abbrev pub first_row : ℕ → Row
@@ -38,6 +40,7 @@ pub record Knows (w : World) (owner : Row → ℕ) (id : ℕ) (v : View) : Type 
   pub undealt : (t : ℕ) → t < w.table.threads → v.dealt ≤ t % w.seats
       → (owner (first_row t) ≡ id) × (holder_at w (first_row t) ≡ Some (t % w.seats)) × (¬ Has v.seen.opened (first_row t) → cell_at w.table (first_row t) ≡ Fresh)
       × (¬ IsCounted v.seen (first_row t) → word_at w.table (first_row t) 1 ≡ 0)
+      × ((n : NackName) (b : Binding) → binding_at w.table n ≡ Some b → bound_row n b ≡ first_row t → Has v.seen.bound (n, b))
   pub mine : (r : Row) → Has v.seen.held r → (owner r ≡ id) × (holder_at w r ≡ Some v.seat)
   pub calm : (r : Row) → Has v.seen.held r → cell_at w.table r ≡ Claimed → IsClaimer v.stage r
   pub staged : Staged w owner id v.stage
@@ -47,6 +50,9 @@ pub record Knows (w : World) (owner : Row → ℕ) (id : ℕ) (v : View) : Type 
   pub read : (r : Row) (p x : ℕ) → Has v.seen.words (r, p, x) → (is_fresh (cell_at w.table r) ≡ false) × (p < 34) × (1 ≤ p) × (word_at w.table r p ≡ x)
   pub joined : (r : Row) (j : Joined) → Has v.seen.joined (r, j) → joined_at w.table r ≡ Some j
   pub taken : (r : Row) → Has v.seen.taken r → is_taken (cell_at w.table r) ≡ true
+  pub bound : (n : NackName) (b : Binding) → Has v.seen.bound (n, b) → binding_at w.table n ≡ Some b
+  -- whoever holds a row has seen all nacks that are bound to it
+  pub binds : (n : NackName) (b : Binding) → binding_at w.table n ≡ Some b → Has v.seen.held (bound_row n b) → Has v.seen.bound (n, b)
 
 -- HOW A VIEW GROWS
 
@@ -70,3 +76,11 @@ read_word r p x v = at_stage v.stage (see_word r p x v.seen) v
 
 abbrev pub drafted_word : Row → ℕ → ℕ → View → View
 drafted_word r p x v = at_stage v.stage (see_draft r p x v.seen) v
+
+-- the nack is bound so
+abbrev pub bound_nack : NackName → Binding → View → View
+bound_nack n b v = at_stage v.stage (see_bound n b v.seen) v
+
+abbrev pub saw_nack : NackName → Option Binding → View → View
+saw_nack n None v = v
+saw_nack n (Some b) v = bound_nack n b v

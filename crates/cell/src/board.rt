@@ -113,6 +113,24 @@ impl Play<u64, View> for Take {
     ghost then = { λ st m n w. taken st m n w };
 }
 
+/// The word of a nack is read.
+pub struct LookNack;
+
+impl Play<u64, View> for LookNack {
+    ghost use Rattle.cell.specs.Told.{looked_nack};
+
+    ghost then = { λ st m n w. looked_nack st m n w };
+}
+
+/// A nack is bound to a held Fresh row, where it was not bound.
+pub struct Bind;
+
+impl Play<u64, View> for Bind {
+    ghost use Rattle.cell.specs.Told.{tried_bind};
+
+    ghost then = { λ st m n w. tried_bind st m n w };
+}
+
 /// The first pass deals the rows of the next seat to a pass of their own.
 pub struct Deal;
 

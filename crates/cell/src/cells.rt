@@ -6,9 +6,12 @@ ghost use Rattle.words.specs.declared.Message.{Message};
 ghost use Rattle.words.specs.declared.Offer.{Offer};
 ghost use Rattle.words.specs.declared.Row.{Row};
 ghost use Rattle.words.specs.declared.Cell.TheVariants.{Claimed};
-ghost use Rattle.protocol.specs.Ledgers.{IsLawful, joined_in, offer_in};
-ghost use Rattle.cell.specs.Attempts.{Attempted, Granted, IsAtOrBefore, IsNear, Took};
-ghost use Rattle.cell.specs.Calls.{IsPassOf, IsRowOf, PassView};
+ghost use Rattle.words.specs.declared.NackName.{NackName};
+ghost use Rattle.words.specs.declared.Binding.{Binding};
+ghost use Rattle.protocol.specs.Ledgers.{IsLawful, binding_in, joined_in, offer_in};
+ghost use Rattle.cell.specs.Attempts.{Attempted, Bound, Granted, IsNackOf as IsNackOfOffer, IsNear, IsNearGrant, Took};
+ghost use Rattle.cell.specs.Calls.{IsNackOf, IsPassOf, IsRowOf, PassView};
+ghost use Rattle.cell.specs.Nacks.{IsSeenBound};
 ghost use Rattle.cell.specs.Flags.{AreFlags};
 ghost use Rattle.cell.specs.Rule.{dealt_rows, heard, seen_nothing, told_of};
 ghost use Rattle.cell.specs.Sight.{
@@ -23,6 +26,7 @@ ghost use Rattle.cell.specs.Sight.{
   IsResult,
   LackOffer,
   Learns,
+  LearnsOf,
   Redrafts,
   SawCommitted,
   SeesNoOffer,
@@ -37,7 +41,7 @@ use crate::granting::Grant;
 use crate::rows::RowSet;
 use crate::view::{Shape, View};
 use atomic_table::Seat;
-use protocol::{Cell, Joined, Ledger, Message, Offer, Row};
+use protocol::{Cell, Joined, Ledger, Message, NackName, Offer, Row};
 use std::alloc::{AllocError, Global};
 use std::marker::Model;
 
@@ -190,12 +194,42 @@ impl Cells {
             .attempt(&mut pass.seat, gate, (mine, own), (other, partner))
     }
 
-    /// Commits the row alone by its offer n, where that is an always and the row waits. The row may
-    /// be held by any pass.
+    /// Binds nack k of the row's thread to the row, which is held and not opened yet, and to its scope
+    /// 0 to 3. False where the nack was bound before: it stays bound as it was.
+    pub fn bind(&self, pass: &mut Pass, k: u8, row: Row, scope: u8) -> bool
+        requires here { IsPassOf self.now pass.old × IsRowOf self.now row }
+        requires fresh { Has pass.old.seen.held row × (¬ Has pass.old.seen.opened row) }
+        requires range { (k < 64) × (scope < 4) }
+        ensures here { IsPassOf self.now pass.new }
+        ensures bound { Bound pass.old.seen pass.new.seen k row scope result }
+    {
+        self.board.bind(&mut pass.seat, k, row, scope)
+    }
+
+    /// The row and the scope to which the nack is bound. A nack of a thread that the table has not, or
+    /// with a number above 63, is not bound.
+    pub fn bound(&self, pass: &mut Pass, nack: NackName) -> Option<(Row, u8)>
+        requires here { IsPassOf self.now pass.old }
+        ensures here { IsPassOf self.now pass.new }
+        ensures learns { LearnsOf (λ q. ⊥) (λ n. n ≡ nack) pass.old.seen pass.new.seen }
+        ensures some { IfSome result (λ p. IsSeenBound pass.new.seen nack p.0 p.1 × IsRowOf self.now p.0 × (p.1 < 4)) }
+        ensures there { IfSome result (λ p. IsNackOf self.now nack) }
+        ensures same { IsNackOf self.now nack → (r : Row) (scope : ℕ) → IsSeenBound pass.old.seen nack r scope → result ≡ Some (r, scope) }
+    {
+        let bound = self.board.bound(&mut pass.seat, nack)?;
+        let row = Row {
+            thread: nack.thread,
+            sync: bound.sync,
+        };
+        Some((row, bound.scope))
+    }
+
+    /// Commits the row alone by its offer n, where that is an always or an enabled nack, and the row
+    /// waits. The row may be held by any pass.
     pub fn grant(&self, pass: &mut Pass, row: Row, n: u8) -> Grant
         requires here { IsPassOf self.now pass.old × IsRowOf self.now row }
         ensures here { IsPassOf self.now pass.new }
-        ensures learns { Learns (IsAtOrBefore row) pass.old.seen pass.new.seen }
+        ensures learns { LearnsOf (IsNearGrant pass.new.seen row n) (IsNackOfOffer pass.new.seen row n) pass.old.seen pass.new.seen }
         ensures granted { Granted pass.old.seen pass.new.seen row n result }
     {
         self.board.grant(&mut pass.seat, row, n)
@@ -242,6 +276,7 @@ impl Cells {
         ensures told { to.new.seen ≡ heard to.old.seen (told_of from.old.seen) }
         ensures offers { (r : Row) (n : ℕ) (o : Offer) → SeesOffer from.old.seen r n o → SeesOffer to.new.seen r n o }
         ensures lacks { (r : Row) (n : ℕ) → SeesNoOffer from.old.seen r n → SeesNoOffer to.new.seen r n }
+        ensures bound { (n : NackName) (b : Binding) → Has from.old.seen.bound (n, b) → Has to.new.seen.bound (n, b) }
     {
         self.board.tell(&mut from.seat, &mut to.seat);
     }
@@ -254,6 +289,7 @@ impl Cells {
         ensures seen { (r : Row) (j : Joined) → Has pass.seen.joined (r, j) → joined_in result r ≡ Some j }
         ensures offers { (r : Row) (n : ℕ) (o : Offer) → SeesOffer pass.seen r n o → offer_in result r n ≡ Some o }
         ensures lacks { (r : Row) (n : ℕ) → SeesNoOffer pass.seen r n → offer_in result r n ≡ None }
+        ensures bound { (n : NackName) (b : Binding) → Has pass.seen.bound (n, b) → binding_in result n ≡ Some b }
         ensures own { (r : Row) (j : Joined) (offers : List Offer) → IsDraft pass.seen r offers → joined_in result r ≡ Some j → (j.own < length offers) × (offer_in result r j.own ≡ slice_get offers j.own) }
     {
         let Cells { board, room } = self;

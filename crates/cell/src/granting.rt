@@ -2,48 +2,49 @@
 
 ghost use Rattle.std.specs.Prelude.{◌≡◌};
 ghost use Rattle.cell.specs.declared.view.Stage.TheVariants.{Resting};
-ghost use Rattle.cell.specs.Attempts.{Granted, IsAtOrBefore};
+ghost use Rattle.cell.specs.Attempts.{Granted, IsNackOf, IsNearGrant};
 ghost use Rattle.cell.specs.Seats.{Sits, HasRow};
-ghost use Rattle.cell.specs.Sight.{Learns};
+ghost use Rattle.cell.specs.Sight.{LearnsOf};
 ghost use Rattle.cell.specs.Views.{at_stage};
 
 use crate::board::Board;
 use crate::view::View;
 use atomic_table::Seat;
-use protocol::{Base, Joined, Row};
+use protocol::{Joined, Row};
 
 /// What became of a grant.
 #[derive(Clone, Copy, Debug, PartialEq, Eq)]
 pub enum Grant {
     /// This call committed the row alone.
     Given,
-    /// The row has no such offer, or the offer is no always.
+    /// The row has no such offer, or the offer is neither an always nor a nack that is enabled.
     NotEnabled,
     /// The row did not wait: a look tells what it is.
     Late,
 }
 
 impl Board {
-    /// Commits the row alone by its offer n, where that is an always and the row waits.
+    /// Commits the row alone by its offer n, where that is an always or an enabled nack, and the row
+    /// waits.
     pub(crate) fn grant(&self, seat: &mut Seat<u64, View>, row: Row, n: u8) -> Grant
         requires sits { Sits self.now seat.old × HasRow self.now row }
         requires resting { seat.old.me.0.stage ≡ Resting }
         ensures sits { (seat.new.id ≡ seat.old.id) × Sits self.now seat.new }
         ensures stays { seat.new.me.0 ≡ at_stage Resting seat.new.me.0.seen seat.old.me.0 }
-        ensures learns { Learns (IsAtOrBefore row) seat.old.me.0.seen seat.new.me.0.seen }
+        ensures learns { LearnsOf (IsNearGrant seat.new.me.0.seen row n) (IsNackOf seat.new.me.0.seen row n) seat.old.me.0.seen seat.new.me.0.seen }
         ensures granted { Granted seat.old.me.0.seen seat.new.me.0.seen row n result }
     {
         let Some(offer) = self.offer(seat, row, n) else {
             return Grant::NotEnabled;
         };
-        let Base::Always(_) = offer.base else {
+        let Some(cause) = self.cause(seat, offer.base) else {
             return Grant::NotEnabled;
         };
         let last = self.last_stamp(seat, row);
         let joined = Joined {
             own: n,
             partner: None,
-            stamp: 1 + last,
+            stamp: 1 + last.max(cause),
         };
         match self.give(seat, row, joined) {
             Ok(()) => Grant::Given,

@@ -23,6 +23,7 @@ mod cells;
 mod closing;
 mod drafting;
 mod granting;
+mod nacks;
 mod reading;
 mod rows;
 mod start;

@@ -1,20 +1,22 @@
 //! One function for each atomic step.
 
 ghost use Rattle.std.specs.Prelude.{◌≡◌, ◌≢◌, ◌*◌, ◌+◌, ◌<◌, ◌≤◌, [], true, IfOk, IfErr, Some};
-ghost use Rattle.words.specs.Words.{is_word_for, IsJoinedInRange};
+ghost use Rattle.words.specs.Words.{is_word_for, IsBindingInRange, IsJoinedInRange};
+ghost use Rattle.words.specs.declared.Binding.{Binding};
 ghost use Rattle.words.specs.declared.Cell.TheVariants.{Waiting, Synched};
-ghost use Rattle.protocol.specs.Tables.{thread_len, place_of, next_row};
+ghost use Rattle.protocol.specs.Tables.{bound_row, thread_len, nack_place, place_of, next_row};
 ghost use Rattle.protocol.specs.Worlds.{mirrored};
 ghost use Rattle.cell.specs.declared.view.Stage.TheVariants.{Resting, Claims, Joins};
-ghost use Rattle.cell.specs.Told.{Agrees, cell_read, joining};
-ghost use Rattle.cell.specs.Seats.{Sits, HasRow};
-ghost use Rattle.cell.specs.Sight.{Has, CanGrant, CanJoin, Coherent};
-ghost use Rattle.cell.specs.Views.{saw, took, read_word, drafted_word, turned};
+ghost use Rattle.cell.specs.Told.{Agrees, AgreesNack, cell_read, joining, nack_read};
+ghost use Rattle.cell.specs.Seats.{Sits, HasNack, HasRow};
+ghost use Rattle.cell.specs.Nacks.{CanGrant};
+ghost use Rattle.cell.specs.Sight.{Has, CanJoin, Coherent};
+ghost use Rattle.cell.specs.Views.{bound_nack, saw, saw_nack, took, read_word, drafted_word, turned};
 
-use crate::board::{Board, Claim, Draft, Give, Join, Look, Read, Seal, Take, Wait};
+use crate::board::{Bind, Board, Claim, Draft, Give, Join, Look, LookNack, Read, Seal, Take, Wait};
 use crate::view::View;
 use atomic_table::Seat;
-use protocol::{Cell, Joined, Row, pack_cell, unpack_cell};
+use protocol::{Binding, Cell, Joined, NackName, Row, pack_cell, pack_nack, unpack_cell, unpack_nack};
 
 impl Board {
     // where the word of a row at a place lies
@@ -24,6 +26,57 @@ impl Board {
     {
         let len = self.shape.rows * 34 + 64;
         (u64::from(row.thread) * len + u64::from(row.sync) * 34 + u64::from(place)) as usize
+    }
+
+    // where the word of a nack lies
+    fn nack_place(&self, nack: NackName) -> usize
+        requires { HasNack self.now nack }
+        ensures { (result ≡ nack_place self.now.shape.rows nack) × (result < self.now.words.shared.table_id.words) }
+    {
+        let len = self.shape.rows * 34 + 64;
+        (u64::from(nack.thread) * len + self.shape.rows * 34 + u64::from(nack.k)) as usize
+    }
+
+    /// Reads where the nack is bound.
+    pub(crate) fn look_nack(&self, seat: &mut Seat<u64, View>, nack: NackName) -> Option<Binding>
+        requires { Sits self.now seat.old × HasNack self.now nack }
+        ensures sits { (seat.new.id ≡ seat.old.id) × Sits self.now seat.new }
+        ensures saw { seat.new.me.0 ≡ saw_nack nack result seat.old.me.0 }
+        ensures agrees { AgreesNack seat.old.me.0 nack result }
+        ensures coherent { Coherent self.now.shape.threads self.now.shape.rows seat.new.me.0.seen }
+    {
+        nack_in(
+            self.words
+                .shared
+                .load::<LookNack>(seat, self.nack_place(nack)),
+        )
+    }
+
+    /// Binds a nack to a held row of its thread that is not opened yet, where it is not bound; else
+    /// says where it is.
+    pub(crate) fn bind_nack(
+        &self,
+        seat: &mut Seat<u64, View>,
+        nack: NackName,
+        bound: Binding,
+    ) -> Result<(), Binding>
+        requires sits { Sits self.now seat.old × HasNack self.now nack × HasRow self.now (bound_row nack bound) }
+        requires held { Has seat.old.me.0.seen.held (bound_row nack bound) × (¬ Has seat.old.me.0.seen.opened (bound_row nack bound)) }
+        requires range { IsBindingInRange bound }
+        ensures sits { (seat.new.id ≡ seat.old.id) × Sits self.now seat.new }
+        ensures bound { IfOk result (λ _. (seat.new.me.0 ≡ bound_nack nack bound seat.old.me.0) × ((b : Binding) → ¬ Has seat.old.me.0.seen.bound (nack, b))) }
+        ensures found { IfErr result (λ b. (seat.new.me.0 ≡ bound_nack nack b seat.old.me.0) × (Has seat.old.me.0.seen.held (bound_row nack b) → Has seat.old.me.0.seen.bound (nack, b))) }
+    {
+        let free = pack_nack(None);
+        let word = pack_nack(Some(bound));
+        let found = self
+            .words
+            .shared
+            .compare_exchange::<Bind>(seat, self.nack_place(nack), free, word);
+        match nack_in(found) {
+            None => Ok(()),
+            Some(bound) => Err(bound),
+        }
     }
 
     /// Reads the row's cell.
@@ -226,4 +279,11 @@ fn cell_in(word: u64) -> Cell
         Some(cell) => cell,
         None => Cell::Fresh,
     }
+}
+
+// where a word of the table says that a nack is bound
+fn nack_in(word: u64) -> Option<Binding>
+    ensures { result ≡ nack_read word }
+{
+    unpack_nack(word).unwrap_or(None)
 }

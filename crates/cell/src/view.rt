@@ -1,7 +1,7 @@
 //! A table's size, and what a pass has seen. No value of `Stage`, `Seen` or `View` is made: contracts
 //! alone read them.
 
-use protocol::{Joined, Row};
+use protocol::{Binding, Joined, NackName, Row};
 use std::collections::LinkedList;
 
 /// How large a table is.
@@ -37,6 +37,8 @@ pub struct Seen {
     pub joined: LinkedList<(Row, Joined)>,
     /// The rows that it saw taken.
     pub taken: LinkedList<Row>,
+    /// The nacks that it bound or saw bound, and where.
+    pub bound: LinkedList<(NackName, Binding)>,
 }
 
 /// What the table's rule knows of a pass.

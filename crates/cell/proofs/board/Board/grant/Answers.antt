@@ -1,56 +1,73 @@
-use Rattle.std.proofs.Common.{rules, ◌≡◌, ◌≢◌, Some, sym, ap, ◌∙◌, inl}
-use Rattle.words.specs.declared.Base.TheVariants.{Always}
-use Rattle.words.specs.declared.Cell.TheVariants.{Waiting}
+use Rattle.std.proofs.Common.{rules, ◌≡◌, ℕ, ◌+◌, ◌≤◌, None, Some, sym, ◌∙◌, subst}
 use Rattle.words.specs.declared.Offer.{Offer}
+use Rattle.words.specs.Words.{IsJoinedInRange}
 use Rattle.protocol.proofs.Linking.{some_inj}
-use Rattle.cell.specs.Attempts.{IsAtOrBefore}
+use Rattle.cell.specs.Attempts.{IsNearGrant}
+use Rattle.cell.specs.Nacks.{CanGrant, SawCause}
 use Rattle.cell.specs.Sight.{Has, HaveOffer}
-use Rattle.cell.specs.Told.{Agrees}
-use Rattle.cell.specs.Views.{saw}
-use Rattle.cell.proofs.Learning.{learns_wider}
-use Rattle.cell.proofs.Meeting.{from_some}
-use Rattle.cell.proofs.Alone.{can_grant, grant_ranged, given_is, late_is}
+use Rattle.cell.proofs.Learning.{learns_then, learns_nothing}
+use Rattle.cell.proofs.Meeting.{from_none, from_some}
+use Rattle.cell.proofs.Alone.{IsReady, can, cause_more, given_is, late_is, near_cause, near_offer}
 use Rattle.cell.proofs.board.Board.grant.Goals as goal
+use Rattle.cell.proofs.board.Board.grant.Goals.{After-cause, After-last_stamp-last}
 
+-- the row has no such offer
 pub returns-in_default-clause-granted : goal.returns-in_default-clause-granted
-returns-in_default-clause-granted c (m, o, sees, always) = c.in_default.not-Some o (c.offer.ensures.same o sees)
+returns-in_default-clause-granted c (o, stamp, sees, caused) = c.in_default.not-Some o (c.offer.ensures.same o sees)
 
-pub returns-in_default-base : goal.returns-in_default-base
-returns-in_default-base c = record {
-  sits = (search rules);
-  stays = (search rules);
-  learns = learns_wider (λ q. q ≡ c.args.row) (IsAtOrBefore c.args.row) c.args.seat.now.me.0.seen c.offer.new.seat.me.0.seen (λ q e. inl e) c.offer.ensures.learns;
-  granted = λ (m, o, sees, always).
-      let some : c.offer.result ≡ Some c.in-Some.offer = (search rules) in
-      let same : o ≡ c.in-Some.offer = some_inj o c.in-Some.offer (sym (c.offer.ensures.same o sees) ∙ some) in
-      c.in_default-base.not-Always m (ap (λ (p : Offer). p.base) (sym same) ∙ always);
-}
+-- nothing lets the offer commit its row alone
+pub returns-in_default-cause-clause-granted : goal.returns-in_default-cause-clause-granted
+returns-in_default-cause-clause-granted c (o, stamp, sees, caused) =
+    let some : c.offer.result ≡ Some c.in-Some.offer = (search rules) in
+    let same : o ≡ c.in-Some.offer = some_inj o c.in-Some.offer (sym (c.offer.ensures.same o sees) ∙ some) in
+    let none : c.cause.result ≡ None = (search rules) in
+    let later : SawCause c.offer.new.seat.me.0.seen c.in-Some.offer.base stamp =
+    subst (λ (p : Offer). SawCause c.offer.new.seat.me.0.seen p.base stamp) same (cause_more (λ q. q ≡ c.args.row) c.args.seat.now.me.0.seen c.offer.new.seat.me.0.seen o.base stamp c.offer.ensures.learns caused) in
+    from_none c.cause.result ((stamp : ℕ) → ¬ SawCause c.offer.new.seat.me.0.seen c.in-Some.offer.base stamp) c.cause.ensures.none none stamp later
+
+-- what was read of the offer
+read : (c : After-cause) → Has c.offer.new.seat.me.0.seen.opened c.args.row × HaveOffer c.offer.new.seat.me.0.seen.words c.args.row c.args.n c.in-Some.offer
+read c =
+    let some : c.offer.result ≡ Some c.in-Some.offer = (search rules) in
+    from_some c.offer.result (λ o. Has c.offer.new.seat.me.0.seen.opened c.args.row × HaveOffer c.offer.new.seat.me.0.seen.words c.args.row c.args.n o) c.in-Some.offer c.offer.ensures.some some
+
+pub returns-in_default-cause-clause-learns : goal.returns-in_default-cause-clause-learns
+returns-in_default-cause-clause-learns c =
+    learns_then (IsNearGrant c.cause.new.seat.me.0.seen c.args.row c.args.n) c.args.seat.now.me.0.seen c.offer.new.seat.me.0.seen c.cause.new.seat.me.0.seen
+    (near_offer c.args.seat.now.me.0.seen c.offer.new.seat.me.0.seen c.cause.new.seat.me.0.seen c.args.row c.args.n c.offer.ensures.learns)
+    (near_cause c.offer.new.seat.me.0.seen c.cause.new.seat.me.0.seen c.cause.new.seat.me.0.seen c.args.row c.args.n c.in-Some.offer (read c.before).1 c.cause.ensures.learns (learns_nothing (λ q. ⊥) (λ m. ⊥) c.cause.new.seat.me.0.seen))
+
+ready : (c : After-last_stamp-last) → IsReady c.args.seat.now.me.0.seen c.offer.new.seat.me.0.seen c.cause.new.seat.me.0.seen c.last_stamp-last.new.seat.me.0 c.args.row c.args.n c.in-Some.offer c.in-Some-cause.cause c.last_stamp-last.result
+ready c =
+    let some : c.offer.result ≡ Some c.in-Some.offer = (search rules) in
+    let have = from_some c.offer.result (λ o. Has c.offer.new.seat.me.0.seen.opened c.args.row × HaveOffer c.offer.new.seat.me.0.seen.words c.args.row c.args.n o) c.in-Some.offer c.offer.ensures.some some in
+    let caused : c.cause.result ≡ Some c.in-Some-cause.cause = (search rules) in
+    let cause = from_some c.cause.result (λ stamp. SawCause c.cause.new.seat.me.0.seen c.in-Some.offer.base stamp × (stamp ≤ 65536)) c.in-Some-cause.cause c.cause.ensures.some caused in
+    record {
+      offer = c.offer.ensures.learns;
+      opened = have.0;
+      have = have.1;
+      nack = c.cause.ensures.learns;
+      caused = cause.0;
+      low_cause = cause.1;
+      before_row = c.last_stamp-last.ensures.learns;
+      seen_last = c.last_stamp-last.ensures.last;
+      low = c.last_stamp-last.ensures.small;
+    }
 
 pub give-requires-clause-can : goal.give-requires-clause-can
 give-requires-clause-can c =
-    let some : c.offer.result ≡ Some c.in-Some.offer = (search rules) in
-    let have : HaveOffer c.offer.new.seat.me.0.seen.words c.args.row c.args.n c.in-Some.offer =
-    (from_some c.offer.result (λ o. Has c.offer.new.seat.me.0.seen.opened c.args.row × HaveOffer c.offer.new.seat.me.0.seen.words c.args.row c.args.n o) c.in-Some.offer c.offer.ensures.some some).1 in
-    let always : c.in-Some.offer.base ≡ Always c.in-Always.field-0 = (search rules) in (
-      can_grant c.offer.new.seat.me.0.seen c.last_stamp-last.new.seat.me.0.seen c.args.row c.args.n c.last_stamp-last.result c.in-Some.offer c.in-Always.field-0 c.last_stamp-last.ensures.learns have always c.last_stamp-last.ensures.last,
-      grant_ranged c.offer.new.seat.me.0.seen.words c.args.row c.args.n c.last_stamp-last.result c.in-Some.offer have c.last_stamp-last.ensures.small,
-    )
+    subst (λ (k : ℕ). CanGrant c.last_stamp-last.new.seat.me.0.seen c.args.row c.args.n (record { own = c.args.n; partner = None; stamp = 1 + k }) × IsJoinedInRange (record { own = c.args.n; partner = None; stamp = 1 + k })) (sym c.max.ensures)
+    (can _ _ _ _ c.last_stamp-last.new.seat.me.0 _ _ _ _ _ (ready c.before.before))
 
 pub returns-in-Ok-clause-granted : goal.returns-in-Ok-clause-granted
-returns-in-Ok-clause-granted c =
-    let some : c.offer.result ≡ Some c.in-Some.offer = (search rules) in
-    let have = from_some c.offer.result (λ o. Has c.offer.new.seat.me.0.seen.opened c.args.row × HaveOffer c.offer.new.seat.me.0.seen.words c.args.row c.args.n o) c.in-Some.offer c.offer.ensures.some some in
-    let always : c.in-Some.offer.base ≡ Always c.in-Always.field-0 = (search rules) in
-    given_is c.args.seat.now.me.0.seen c.offer.new.seat.me.0.seen c.last_stamp-last.new.seat.me.0 c.give.new.seat.me.0 c.args.row c.args.n c.last_stamp-last.result c.in-Some.offer c.in-Always.field-0
-    c.offer.ensures.learns c.last_stamp-last.ensures.learns have.1 always (search rules) (search rules)
+returns-in-Ok-clause-granted c = (given_is _ _ _ _ c.give.new.seat.me.0 _ _ _ _ _ (ready c.before.before.before.before) (search rules) (search rules)).0
+
+pub returns-in-Ok-clause-learns : goal.returns-in-Ok-clause-learns
+returns-in-Ok-clause-learns c = (given_is _ _ _ _ c.give.new.seat.me.0 _ _ _ _ _ (ready c.before.before.before.before) (search rules) (search rules)).1
 
 pub returns-in-Err-clause-granted : goal.returns-in-Err-clause-granted
-returns-in-Err-clause-granted c =
-    let some : c.offer.result ≡ Some c.in-Some.offer = (search rules) in
-    let have = from_some c.offer.result (λ o. Has c.offer.new.seat.me.0.seen.opened c.args.row × HaveOffer c.offer.new.seat.me.0.seen.words c.args.row c.args.n o) c.in-Some.offer c.offer.ensures.some some in
-    let always : c.in-Some.offer.base ≡ Always c.in-Always.field-0 = (search rules) in
-    let not_waiting : c.in-Err.field-0 ≢ Waiting = (search rules) in
-    let found : c.give.new.seat.me.0 ≡ saw c.args.row c.in-Err.field-0 c.last_stamp-last.new.seat.me.0 = (search rules) in
-    let agree : Agrees c.last_stamp-last.new.seat.me.0 c.args.row c.in-Err.field-0 = (search rules) in
-    late_is c.args.seat.now.me.0.seen c.offer.new.seat.me.0.seen c.last_stamp-last.new.seat.me.0 c.give.new.seat.me.0 c.args.row c.args.n c.last_stamp-last.result c.in-Some.offer c.in-Always.field-0
-    c.offer.ensures.learns c.last_stamp-last.ensures.learns have.1 always c.in-Err.field-0 (search rules) have.0 not_waiting found agree
+returns-in-Err-clause-granted c = (late_is _ _ _ _ c.give.new.seat.me.0 _ _ _ _ _ (ready c.before.before.before.before) c.in-Err.field-0 (search rules) (search rules) (search rules) (search rules)).0
+
+pub returns-in-Err-clause-learns : goal.returns-in-Err-clause-learns
+returns-in-Err-clause-learns c = (late_is _ _ _ _ c.give.new.seat.me.0 _ _ _ _ _ (ready c.before.before.before.before) c.in-Err.field-0 (search rules) (search rules) (search rules) (search rules)).1

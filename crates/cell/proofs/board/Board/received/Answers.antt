@@ -1,6 +1,6 @@
 use Rattle.std.proofs.Common.{rules, ◌≡◌, ◌∙◌, ap, sym, true, None, Some, inr}
 use Rattle.std.proofs.lemmas.Bool.{false≢true}
-use Rattle.protocol.specs.Tables.{is_always}
+use Rattle.protocol.specs.Tables.{needs_none}
 use Rattle.cell.specs.Sight.{Has, HaveOffer, LackOffer, IsKnownOpen}
 use Rattle.cell.proofs.Meeting.{from_none, from_some, recv_meets, chosen_not_lacking, partner_known_open}
 use Rattle.cell.proofs.Offers.{have_more}
@@ -32,8 +32,8 @@ pub returns-in_err-partner-clause-sent : goal.returns-in_err-partner-clause-sent
 returns-in_err-partner-clause-sent c =
     let none : c.args.joined.partner ≡ None = (search rules) in
     let mine = c.requires.receives.0 in
-    let alone : is_always mine.base ≡ true = c.requires.coherent.alone c.args.row c.args.joined mine c.requires.committed none c.requires.receives.2 in
-    absurd (false≢true (sym (ap is_always c.requires.receives.3) ∙ alone))
+    let alone : needs_none mine.base ≡ true = c.requires.coherent.alone c.args.row c.args.joined mine c.requires.committed none c.requires.receives.2 in
+    absurd (false≢true (sym (ap needs_none c.requires.receives.3) ∙ alone))
 
 pub offer-requires : goal.offer-requires
 offer-requires c =

@@ -1,8 +1,8 @@
 use Rattle.std.proofs.Common.{rules, ◌≡◌, sym, subst}
 use Rattle.cell.specs.declared.view.Seen.{Seen}
-use Rattle.cell.specs.Sight.{SeesNoOffer, SeesOffer}
+use Rattle.cell.specs.Sight.{Has, SeesNoOffer, SeesOffer}
 use Rattle.cell.specs.Rule.{heard, told_of}
-use Rattle.cell.proofs.Hearing.{told_lack, told_offer}
+use Rattle.cell.proofs.Hearing.{told_bound, told_lack, told_offer}
 use Rattle.cell.proofs.cells.Cells.tell.Goals as goal
 
 pub returns-clause-offers : goal.returns-clause-offers
@@ -14,3 +14,8 @@ pub returns-clause-lacks : goal.returns-clause-lacks
 returns-clause-lacks c r n sees =
     let told : c.tell.new.to.me.0.seen ≡ heard c.args.to.now.seen (told_of c.args.from.now.seen) = (search rules) in
     subst (λ (s : Seen). SeesNoOffer s r n) (sym told) (told_lack c.args.from.now.seen c.args.to.now.seen r n sees)
+
+pub returns-clause-bound : goal.returns-clause-bound
+returns-clause-bound c n b h =
+    let told : c.tell.new.to.me.0.seen ≡ heard c.args.to.now.seen (told_of c.args.from.now.seen) = (search rules) in
+    subst (λ (s : Seen). Has s.bound (n, b)) (sym told) (told_bound c.args.from.now.seen c.args.to.now.seen n b h)

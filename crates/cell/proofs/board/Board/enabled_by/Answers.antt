@@ -1,0 +1,40 @@
+use Rattle.std.proofs.Common.{rules, ◌≡◌, true, Option, Some, None, IfNone, ap, sym, ◌∙◌, subst}
+use Rattle.std.proofs.lemmas.Bool.{true≢false}
+use Rattle.words.specs.declared.Joined.{Joined}
+use Rattle.words.specs.declared.Row.{Row}
+use Rattle.protocol.specs.Tables.{bound_row, has_scope}
+use Rattle.protocol.proofs.Linking.{some_inj}
+use Rattle.cell.specs.Nacks.{SawEnabled}
+use Rattle.cell.specs.Sight.{SeesOffer}
+use Rattle.cell.proofs.Meeting.{sees_more}
+use Rattle.cell.proofs.board.Board.enabled_by.Goals as goal
+use Rattle.cell.proofs.board.Board.enabled_by.Goals.{After-offer}
+
+-- a nack that was seen enabled is found so: the offer that was chosen is the one that was seen
+found : (c : After-offer) (j : Joined) (e : SawEnabled c.args.seat.now.me.0.seen c.args.nack j) → (e.binding ≡ c.in_ok-bound.bound) × (c.offer.result ≡ Some e.offer)
+found c j e =
+    let inside = c.requires.coherent.bound c.args.nack e.binding e.bound in
+    let bound : c.bound.result ≡ Some c.in_ok-bound.bound = (search rules) in
+    let same : e.binding ≡ c.in_ok-bound.bound = some_inj _ _ (sym (c.bound.ensures.same (inside.0, inside.1) e.binding e.bound) ∙ bound) in
+    let row : bound_row c.args.nack e.binding ≡ bound_row c.args.nack c.in_ok-bound.bound = ap (bound_row c.args.nack) same in
+    let joined : c.committed.result ≡ Some c.in_ok-joined.joined = (search rules) in
+    let way : j ≡ c.in_ok-joined.joined = some_inj _ _ (sym (c.committed.ensures.same j (c.bound.ensures.learns.joined.0 (bound_row c.args.nack c.in_ok-bound.bound, j) (subst (λ (r : Row). Rattle.cell.specs.Sight.Has c.args.seat.now.me.0.seen.joined (r, j)) row e.joined))) ∙ joined) in
+    let sees = sees_more _ _ _ _ _ e.offer c.committed.ensures.learns (sees_more _ _ _ (bound_row c.args.nack e.binding) j.own e.offer c.bound.ensures.learns e.chosen) in
+    (same, c.offer.ensures.same e.offer (subst (λ (z : Row × Joined). SeesOffer c.committed.new.seat.me.0.seen z.0 z.1.own e.offer) (λ i. (row i, way i)) sees))
+
+pub returns-in_err-chosen-clause-none : goal.returns-in_err-chosen-clause-none
+returns-in_err-chosen-clause-none c =
+    let left : c.from_residual-in_err-chosen.result ≡ None = (search rules) in
+    let none : c.offer.result ≡ None = (search rules) in
+    subst (λ (o : Option Joined). IfNone o ((j : Joined) → ¬ SawEnabled c.args.seat.now.me.0.seen c.args.nack j)) (sym left) (λ j e.
+    let is = (found c.before.before.before j e).1 in
+    let bad : None ≡ Some e.offer = sym none ∙ is in
+    cc)
+
+pub returns-then-has_scope-clause-none : goal.returns-then-has_scope-clause-none
+returns-then-has_scope-clause-none c j e =
+    let some : c.offer.result ≡ Some c.in_ok-chosen.chosen = (search rules) in
+    let set : has_scope c.in_ok-chosen.chosen.scopes c.in_ok-bound.bound.scope ≡ true = (search rules) in
+    let is = found c.before.before.before.before j e in
+    let offer : e.offer ≡ c.in_ok-chosen.chosen = some_inj e.offer c.in_ok-chosen.chosen (sym is.1 ∙ some) in
+    true≢false (sym set ∙ (λ i. has_scope (sym offer i).scopes (sym is.0 i).scope) ∙ e.outside)

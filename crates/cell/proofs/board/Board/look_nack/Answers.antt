@@ -1,0 +1,16 @@
+use Rattle.std.proofs.Common.{rules, subst, sym}
+use mathlib.Core.Option.{none}
+use Rattle.atomic_table.specs.Table.{Allows, step}
+use Rattle.cell.specs.declared.view.Shape.{Shape}
+use Rattle.cell.specs.Rule.{Keeps}
+use Rattle.cell.specs.Told.{looked_nack}
+use Rattle.cell.proofs.Binding.{look_nack_allowed}
+use Rattle.cell.proofs.board.Board.look_nack.Goals as goal
+
+pub load-requires : goal.load-requires
+load-requires c = (
+  search rules,
+  search rules,
+  subst (λ (z : Shape). Allows (Keeps z) c.args.self.now.words.shared.table_id.slots c.args.seat.now.id c.args.seat.now.me c.nack_place.result (λ n. n) (looked_nack (step c.args.self.now.words.shared.table_id.slots c.nack_place.result 0 0 none) c.args.seat.now.me)) (sym c.args.self.now.keyed)
+      (look_nack_allowed c.args.self.now.shape c.args.self.now.words.shared.table_id.slots c.args.seat.now.id c.nack_place.result c.args.seat.now.me c.args.nack (search rules) (search rules) (search rules) (search rules)),
+)

@@ -1,0 +1,124 @@
+//! Nacks: where they are bound, and which are enabled.
+
+ghost use Rattle.std.specs.Prelude.{◌≡◌, ℕ, ◌<◌, ◌≤◌, IfSome, IfNone, Some};
+ghost use Rattle.words.specs.declared.Base.TheVariants.{OnNack};
+ghost use Rattle.words.specs.declared.Binding.{Binding};
+ghost use Rattle.words.specs.declared.Joined.{Joined};
+ghost use Rattle.words.specs.declared.NackName.{NackName};
+ghost use Rattle.protocol.specs.Tables.{bound_row};
+ghost use Rattle.cell.specs.Attempts.{Bound};
+ghost use Rattle.cell.specs.Nacks.{IsBoundRow, SawCause, SawEnabled};
+ghost use Rattle.cell.specs.Seats.{HasNack, HasRow, Sits};
+ghost use Rattle.cell.specs.Sight.{Coherent, Has, Learns, LearnsOf};
+ghost use Rattle.cell.specs.Views.{at_stage};
+
+use crate::board::Board;
+use crate::view::View;
+use atomic_table::Seat;
+use protocol::{Base, Binding, Cell, Joined, NackName, Row, has_scope};
+
+impl Board {
+    /// Where the nack is bound, by a look at its word. A nack that the table has not is not bound.
+    pub(crate) fn bound(&self, seat: &mut Seat<u64, View>, nack: NackName) -> Option<Binding>
+        requires { Sits self.now seat.old }
+        ensures sits { (seat.new.id ≡ seat.old.id) × Sits self.now seat.new }
+        ensures stays { seat.new.me.0 ≡ at_stage seat.old.me.0.stage seat.new.me.0.seen seat.old.me.0 }
+        ensures learns { LearnsOf (λ q. ⊥) (λ n. n ≡ nack) seat.old.me.0.seen seat.new.me.0.seen }
+        ensures some { IfSome result (λ b. Has seat.new.me.0.seen.bound (nack, b)) }
+        ensures there { IfSome result (λ b. HasNack self.now nack × HasRow self.now (bound_row nack b) × (b.scope < 4)) }
+        ensures same { HasNack self.now nack → (b : Binding) → Has seat.old.me.0.seen.bound (nack, b) → result ≡ Some b }
+        ensures coherent { Coherent self.now.shape.threads self.now.shape.rows seat.old.me.0.seen → Coherent self.now.shape.threads self.now.shape.rows seat.new.me.0.seen }
+    {
+        if u64::from(nack.thread) >= self.shape.threads || nack.k >= 64 {
+            return None;
+        }
+        self.look_nack(seat, nack)
+    }
+
+    /// Binds nack k of the row's thread to the row, which is held and not opened yet, and to one of
+    /// its scopes. False where the nack was bound before.
+    pub(crate) fn bind(&self, seat: &mut Seat<u64, View>, k: u8, row: Row, scope: u8) -> bool
+        requires sits { Sits self.now seat.old × HasRow self.now row }
+        requires held { Has seat.old.me.0.seen.held row × (¬ Has seat.old.me.0.seen.opened row) }
+        requires range { (k < 64) × (scope < 4) }
+        ensures sits { (seat.new.id ≡ seat.old.id) × Sits self.now seat.new }
+        ensures stays { seat.new.me.0 ≡ at_stage seat.old.me.0.stage seat.new.me.0.seen seat.old.me.0 }
+        ensures bound { Bound seat.old.me.0.seen seat.new.me.0.seen k row scope result }
+    {
+        let nack = NackName {
+            thread: row.thread,
+            k,
+        };
+        let bound = Binding {
+            sync: row.sync,
+            scope,
+        };
+        match self.bind_nack(seat, nack, bound) {
+            Ok(()) => true,
+            Err(_) => false,
+        }
+    }
+
+    /// The stamp of what lets a base event commit its row alone: 0 for an always, and for a nack that
+    /// is enabled that of the row which enabled it.
+    pub(crate) fn cause(&self, seat: &mut Seat<u64, View>, base: Base) -> Option<u32>
+        requires sits { Sits self.now seat.old }
+        requires coherent { Coherent self.now.shape.threads self.now.shape.rows seat.old.me.0.seen }
+        ensures sits { (seat.new.id ≡ seat.old.id) × Sits self.now seat.new }
+        ensures stays { seat.new.me.0 ≡ at_stage seat.old.me.0.stage seat.new.me.0.seen seat.old.me.0 }
+        ensures learns { LearnsOf (IsBoundRow seat.new.me.0.seen base) (λ n. base ≡ OnNack n) seat.old.me.0.seen seat.new.me.0.seen }
+        ensures coherent { Coherent self.now.shape.threads self.now.shape.rows seat.new.me.0.seen }
+        ensures some { IfSome result (λ stamp. SawCause seat.new.me.0.seen base stamp × (stamp ≤ 65536)) }
+        ensures none { IfNone result ((stamp : ℕ) → ¬ SawCause seat.old.me.0.seen base stamp) }
+    {
+        match base {
+            Base::Always(_) => Some(0),
+            Base::OnNack(nack) => {
+                let joined = self.enabled_by(seat, nack)?;
+                Some(joined.stamp)
+            }
+            Base::Send(..) | Base::Recv(_) | Base::Never => None,
+        }
+    }
+
+    /// How the row that enabled the nack is committed: the nack is bound to it, and it chose an offer
+    /// outside the nack's scope.
+    fn enabled_by(&self, seat: &mut Seat<u64, View>, nack: NackName) -> Option<Joined>
+        requires sits { Sits self.now seat.old }
+        requires coherent { Coherent self.now.shape.threads self.now.shape.rows seat.old.me.0.seen }
+        ensures sits { (seat.new.id ≡ seat.old.id) × Sits self.now seat.new }
+        ensures stays { seat.new.me.0 ≡ at_stage seat.old.me.0.stage seat.new.me.0.seen seat.old.me.0 }
+        ensures learns { LearnsOf (λ q. (b : Binding) × Has seat.new.me.0.seen.bound (nack, b) × (q ≡ bound_row nack b)) (λ n. n ≡ nack) seat.old.me.0.seen seat.new.me.0.seen }
+        ensures coherent { Coherent self.now.shape.threads self.now.shape.rows seat.new.me.0.seen }
+        ensures some { IfSome result (SawEnabled seat.new.me.0.seen nack) }
+        ensures none { IfNone result ((j : Joined) → ¬ SawEnabled seat.old.me.0.seen nack j) }
+    {
+        let bound = self.bound(seat, nack)?;
+        let row = Row {
+            thread: nack.thread,
+            sync: bound.sync,
+        };
+        let joined = self.committed(seat, row)?;
+        let chosen = self.offer(seat, row, joined.own)?;
+        if has_scope(chosen.scopes, bound.scope) {
+            return None;
+        }
+        Some(joined)
+    }
+
+    /// How the row is committed, if it is.
+    fn committed(&self, seat: &mut Seat<u64, View>, row: Row) -> Option<Joined>
+        requires { Sits self.now seat.old × HasRow self.now row }
+        ensures sits { (seat.new.id ≡ seat.old.id) × Sits self.now seat.new }
+        ensures stays { seat.new.me.0 ≡ at_stage seat.old.me.0.stage seat.new.me.0.seen seat.old.me.0 }
+        ensures learns { Learns (λ q. q ≡ row) seat.old.me.0.seen seat.new.me.0.seen }
+        ensures coherent { Coherent self.now.shape.threads self.now.shape.rows seat.new.me.0.seen }
+        ensures some { IfSome result (λ j. Has seat.new.me.0.seen.joined (row, j)) }
+        ensures same { (j : Joined) → Has seat.old.me.0.seen.joined (row, j) → result ≡ Some j }
+    {
+        match self.look(seat, row) {
+            Cell::Synched(joined) | Cell::Taken(joined) => Some(joined),
+            Cell::Fresh | Cell::Waiting | Cell::Claimed => None,
+        }
+    }
+}
