@@ -1,14 +1,15 @@
 -- A step that is read is the step that its words say, and the other way round; likewise a line.
 use Rattle.std.proofs.Common.{◌≡◌, ℕ, ◌≤◌, Bool, true, false, cond, List, ◌∷◌, ◌++◌, length, drop, codes, Some, refl, sym, ap, subst, ◌∙◌, append_assoc, arith}
 use Rattle.std.proofs.lemmas.Option.{some_pair_parts}
+use Rattle.std.specs.Fmt.{decimal}
 use Rattle.words.specs.Words.{IsRowInRange}
 use Rattle.words.specs.declared.Row.{Row}
 use Rattle.words.specs.declared.Seat.{Seat}
 use Rattle.words.specs.declared.Step.{Step}
-use Rattle.words.specs.declared.Step.TheVariants.{Draft, Open, Look, Read, Claim, Yield, Join, Seal, Grant, Take}
+use Rattle.words.specs.declared.Step.TheVariants.{Draft, Open, Look, Read, Claim, Yield, Join, Seal, Grant, Take, Bind}
 use Rattle.schedule.specs.declared.Size.{Size}
 use Rattle.schedule.specs.Schedule.{row_text, step_text, step_line, world_line, IsStep, IsSeatStep, IsSize}
-use Rattle.schedule.specs.Reading.{◌>>=◌, number_at, count_at, draft_at, read_at, join_at, grant_at, alone_at, begins, after_word, row_step_at, step_at, step_line_at, world_line_at}
+use Rattle.schedule.specs.Reading.{◌>>=◌, number_at, count_at, draft_at, read_at, join_at, grant_at, bind_at, alone_at, begins, after_word, row_step_at, step_at, step_line_at, world_line_at}
 use Rattle.schedule.proofs.Numbers.{bind_some, chosen_some}
 use Rattle.schedule.proofs.Forms.{Reads, both, made, ended, numbers, counts, rows, placed, word_takes}
 
@@ -35,6 +36,11 @@ joins = both (λ mine other. Join mine.0 mine.1 other.0 other.1) (placed 7 32 (o
 grants : Reads {X = (ℕ × ℕ) × ℕ} (λ p. Grant (record { thread = p.0.0; sync = p.0.1 }) p.1) grant_at (λ p. (ended 46 p.0.0 ++ ended 32 p.0.1) ++ ended 10 p.1) (λ p. ((p.0.0 ≤ 63) × (p.0.1 ≤ 1023)) × (p.1 ≤ 7))
 unfolding grant_at
 grants = made (λ at. Grant at.0 at.1) (placed 7 10 (omega arith) refl)
+
+binds : Reads {X = ℕ × ((ℕ × ℕ) × ℕ)} (λ p. Bind p.0 (record { thread = p.1.0.0; sync = p.1.0.1 }) p.1.1) bind_at (λ p. ended 32 p.0 ++ ((ended 46 p.1.0.0 ++ ended 32 p.1.0.1) ++ ended 10 p.1.1))
+    (λ p. (p.0 ≤ 63) × (((p.1.0.0 ≤ 63) × (p.1.0.1 ≤ 1023)) × (p.1.1 ≤ 3)))
+unfolding bind_at
+binds = both (λ nack to. Bind nack to.0 to.1) (numbers 63 32 (omega arith) refl) (placed 3 10 (omega arith) refl)
 
 -- ---- a step
 
@@ -95,6 +101,20 @@ read_grant bytes s rest word_is e =
     word_takes (codes "grant ") bytes word_is ∙ ap (λ (y : List ℕ). codes "grant " ++ y) t.parts ∙ simp append_assoc in
     subst (λ (y : Step). IsRead bytes y rest) is_s (record { parts = whole; fits = (record { thread = omega (arith, t.fits.0.0); sync = omega (arith, t.fits.0.1) }, t.fits.1) })
 
+-- what stands behind the word of a bind, part by part
+bind_parts : (k : ℕ) (r : Row) (scope : ℕ) (rest : List ℕ) → (decimal k ++ codes " " ++ row_text r ++ codes " " ++ decimal scope) ++ 10 ∷ rest ≡ (ended 32 k ++ ((ended 46 r.thread ++ ended 32 r.sync) ++ ended 10 scope)) ++ rest
+bind_parts k r scope rest = simp append_assoc
+
+read_bind : (bytes : List ℕ) (s : Step) (rest : List ℕ) → begins bytes (codes "bind ") ≡ true → bind_at (drop 5 bytes) ≡ Some (s, rest) → IsRead bytes s rest
+read_bind bytes s rest word_is e =
+    let t = binds.takes (drop 5 bytes) s rest e in
+    let x = t.from in
+    let made : Step = Bind x.0 (record { thread = x.1.0.0; sync = x.1.0.1 }) x.1.1 in
+    let is_s : made ≡ s = sym t.value in
+    let whole : bytes ≡ step_text made ++ 10 ∷ rest =
+    word_takes (codes "bind ") bytes word_is ∙ ap (λ (y : List ℕ). codes "bind " ++ y) (t.parts ∙ sym (bind_parts x.0 (record { thread = x.1.0.0; sync = x.1.0.1 }) x.1.1 rest)) in
+    subst (λ (y : Step). IsRead bytes y rest) is_s (record { parts = whole; fits = (t.fits.0, record { thread = omega (arith, t.fits.1.0.0); sync = omega (arith, t.fits.1.0.1) }, t.fits.1.1) })
+
 -- the first test of a chain
 otherwise : {A : Type 0} (b : Bool) (x y z : A) (P : Type 0) → cond b x y ≡ z → (b ≡ true → x ≡ z → P) → (y ≡ z → P) → P
 otherwise true x y z P e found other = found refl e
@@ -116,7 +136,8 @@ step_takes bytes s rest e =
     otherwise _ _ _ _ _ e (read_draft bytes s rest) (λ e.
     otherwise _ _ _ _ _ e (read_read bytes s rest) (λ e.
     otherwise _ _ _ _ _ e (read_join bytes s rest) (λ e.
-    otherwise _ _ _ _ _ e (read_grant bytes s rest) (row_step_takes bytes s rest))))
+    otherwise _ _ _ _ _ e (read_grant bytes s rest) (λ e.
+    otherwise _ _ _ _ _ e (read_bind bytes s rest) (row_step_takes bytes s rest)))))
 
 again_alone : (step : Row → Step) (r : Row) (rest : List ℕ) → IsRowInRange r → alone_at step (row_text r ++ 10 ∷ rest) ≡ Some (step r, rest)
 again_alone step r rest fits =
@@ -139,6 +160,8 @@ step_again (Seal r) rest fits = again_alone (λ r. Seal r) r rest fits
 step_again (Grant r offer) rest fits =
     ap grant_at (simp append_assoc) ∙ grants.again ((r.thread, r.sync), offer) rest ((omega (arith, fits.0.thread), omega (arith, fits.0.sync)), fits.1)
 step_again (Take r) rest fits = again_alone (λ r. Take r) r rest fits
+step_again (Bind k r scope) rest fits =
+    ap bind_at (bind_parts k r scope rest) ∙ binds.again (k, ((r.thread, r.sync), scope)) rest (fits.0, ((omega (arith, fits.1.thread), omega (arith, fits.1.sync)), fits.2))
 
 -- ---- lines
 

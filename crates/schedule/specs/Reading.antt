@@ -4,7 +4,7 @@ use Rattle.std.specs.Cmp.Lexicographic.{pointwise}
 use Rattle.words.specs.declared.Row.{Row}
 use Rattle.words.specs.declared.Seat.{Seat}
 use Rattle.words.specs.declared.Step.{Step}
-use Rattle.words.specs.declared.Step.TheVariants.{Draft, Open, Look, Read, Claim, Yield, Join, Seal, Grant, Take}
+use Rattle.words.specs.declared.Step.TheVariants.{Draft, Open, Look, Read, Claim, Yield, Join, Seal, Grant, Take, Bind}
 use Rattle.schedule.specs.declared.Size.{Size}
 
 infixl 10 ◌>>=◌
@@ -84,6 +84,12 @@ grant_at bytes = do
   at ← placed_at 7 10 bytes
   Some (Grant at.0.0 at.0.1, at.1)
 
+unfoldable pub bind_at : List ℕ → Option (Step × List ℕ)
+bind_at bytes = do
+  nack ← number_at 63 32 bytes
+  to ← placed_at 3 10 nack.1
+  Some (Bind nack.0 to.0.0 to.0.1, to.1)
+
 -- a step that is done to a row alone
 abbrev pub alone_at : (Row → Step) → List ℕ → Option (Step × List ℕ)
 alone_at step bytes = do
@@ -122,7 +128,9 @@ step_at bytes =
     then read_at (drop 5 bytes)
     else (if begins bytes (codes "join ")
     then join_at (drop 5 bytes)
-    else (if begins bytes (codes "grant ") then grant_at (drop 6 bytes) else row_step_at bytes)))
+    else (if begins bytes (codes "grant ")
+    then grant_at (drop 6 bytes)
+    else (if begins bytes (codes "bind ") then bind_at (drop 5 bytes) else row_step_at bytes))))
 
 -- LINES
 

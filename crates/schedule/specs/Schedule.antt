@@ -6,7 +6,7 @@ use Rattle.words.specs.Words.{IsRowInRange}
 use Rattle.words.specs.declared.Row.{Row}
 use Rattle.words.specs.declared.Seat.{Seat}
 use Rattle.words.specs.declared.Step.{Step}
-use Rattle.words.specs.declared.Step.TheVariants.{Draft, Open, Look, Read, Claim, Yield, Join, Seal, Grant, Take}
+use Rattle.words.specs.declared.Step.TheVariants.{Draft, Open, Look, Read, Claim, Yield, Join, Seal, Grant, Take, Bind}
 use Rattle.schedule.specs.declared.Size.{Size}
 
 -- what a schedule says: the size of the world, and the steps in order, each with the seat that makes it
@@ -30,6 +30,7 @@ step_text (Join mine own other partner) =
 step_text (Seal row) = codes "seal " ++ row_text row
 step_text (Grant row offer) = codes "grant " ++ row_text row ++ codes " " ++ decimal offer
 step_text (Take row) = codes "take " ++ row_text row
+step_text (Bind k row scope) = codes "bind " ++ decimal k ++ codes " " ++ row_text row ++ codes " " ++ decimal scope
 
 -- the seat, a space, the step, and the line's end
 abbrev pub step_line : Seat × Step → List ℕ
@@ -54,6 +55,7 @@ IsStep (Join mine own other partner) = IsRowInRange mine × (own ≤ 7) × IsRow
 IsStep (Seal row) = IsRowInRange row
 IsStep (Grant row offer) = IsRowInRange row × (offer ≤ 7)
 IsStep (Take row) = IsRowInRange row
+IsStep (Bind k row scope) = (k ≤ 63) × IsRowInRange row × (scope ≤ 3)
 
 pub record IsSeatStep (s : Seat × Step) : Type 0 where
   pub seat : s.0.0 ≤ 15

@@ -1,7 +1,7 @@
 //! The lines of a schedule's text, each read from the front of the bytes.
 
 ghost use Rattle.std.specs.Prelude.{◌≤◌, IfSome};
-ghost use Rattle.schedule.specs.Reading.{Gives, number_at, count_at, row_at, placed_at, draft_at, read_at, join_at, grant_at, row_step_at, step_at, step_line_at, world_line_at};
+ghost use Rattle.schedule.specs.Reading.{Gives, number_at, count_at, row_at, placed_at, draft_at, read_at, join_at, grant_at, bind_at, row_step_at, step_at, step_line_at, world_line_at};
 
 use crate::Size;
 use crate::number::number;
@@ -91,6 +91,15 @@ fn grant(bytes: &[u8]) -> Option<(Step, &[u8])>
     Some((Step::Grant { row, offer }, rest))
 }
 
+#[tactic(auto, unfolding(crate::specs::Reading::bind_at))]
+fn bind(bytes: &[u8]) -> Option<(Step, &[u8])>
+    ensures { Gives (λ x. (x.0, x.1.now)) result (bind_at bytes.now) }
+{
+    let (k, rest) = byte_number(bytes, 63, b' ')?;
+    let ((row, scope), rest) = placed(rest, 3, LINE_END)?;
+    Some((Step::Bind { k, row, scope }, rest))
+}
+
 /// A step that is done to a row alone.
 #[tactic(auto, unfolding(crate::specs::Reading::row_step_at))]
 fn row_step(bytes: &[u8]) -> Option<(Step, &[u8])>
@@ -138,6 +147,9 @@ fn step(bytes: &[u8]) -> Option<(Step, &[u8])>
     }
     if let Some(rest) = bytes.strip_prefix(b"grant ") {
         return grant(rest);
+    }
+    if let Some(rest) = bytes.strip_prefix(b"bind ") {
+        return bind(rest);
     }
     row_step(bytes)
 }

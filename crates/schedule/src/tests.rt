@@ -27,6 +27,7 @@ fn reads_every_kind_of_step(rt: HostRuntime) -> Result<(), Fail> {
 7 seal 7.2
 8 grant 8.9 7
 9 take 9.1022
+10 bind 63 10.11 3
 ";
     let schedule = read_schedule(rt.alloc(), text.as_slice())?;
     let size = Size {
@@ -82,6 +83,14 @@ fn reads_every_kind_of_step(rt: HostRuntime) -> Result<(), Fail> {
             },
         ),
         (Seat(9), Step::Take { row: row(9, 1022) }),
+        (
+            Seat(10),
+            Step::Bind {
+                k: 63,
+                row: row(10, 11),
+                scope: 3,
+            },
+        ),
     ];
     assert_eq!(rt; schedule.steps.as_slice(), expected.as_slice());
     Ok(())
@@ -123,6 +132,9 @@ fn tells_a_bad_step(rt: HostRuntime) -> Result<(), AllocError> {
         "0 claim 0.0 0\n",
         "0 claim 00.0\n",
         "0 bind 0.0 0\n",
+        "0 bind 64 0.0 0\n",
+        "0 bind 0 0.0 4\n",
+        "0 bind 0 0.0\n",
         "0 draft 0.0 34 0\n",
         "0 draft 0.0 1 18446744073709551616\n",
         "0 read 0.0 34\n",
