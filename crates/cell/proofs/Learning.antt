@@ -4,7 +4,7 @@ use Rattle.words.specs.declared.NackName.{NackName}
 use Rattle.words.specs.declared.Binding.{Binding}
 use Rattle.words.specs.declared.Row.{Row}
 use Rattle.cell.specs.declared.view.Seen.{Seen}
-use Rattle.cell.specs.Sight.{Has, Adds, Learns, LearnsOf, see_cell}
+use Rattle.cell.specs.Sight.{Has, Adds, Learns, LearnsOf, see_bound, see_cell}
 use Rattle.cell.specs.declared.view.View.{View}
 use Rattle.cell.specs.Views.{saw_nack}
 use Rattle.words.specs.declared.Cell.{Cell}
@@ -63,10 +63,9 @@ learns_nothing About Nacks s = record {
   bound = ((λ x h. h), λ x h. inl h);
 }
 
--- a look at a nack adds where it is bound
-pub learns_nack : (n : NackName) (o : Option Binding) (v : View) → LearnsOf (λ q. ⊥) (λ m. m ≡ n) v.seen (saw_nack n o v).seen
-learns_nack n None v = learns_nothing (λ q. ⊥) (λ m. m ≡ n) v.seen
-learns_nack n (Some b) v = record {
+-- a nack is seen bound
+pub learns_bound : (n : NackName) (b : Binding) (s : Seen) → LearnsOf (λ q. ⊥) (λ m. m ≡ n) s (see_bound n b s)
+learns_bound n b s = record {
   held = refl;
   drafts = refl;
   opened = ((λ x h. h), λ x h. inl h);
@@ -76,9 +75,13 @@ learns_nack n (Some b) v = record {
   bound = ((λ x h. inr h), λ x h. only x h);
 }
   where
-    only : (x : NackName × Binding) → Has ((n, b) ∷ v.seen.bound) x → Has v.seen.bound x ⊎ (x.0 ≡ n)
+    only : (x : NackName × Binding) → Has ((n, b) ∷ s.bound) x → Has s.bound x ⊎ (x.0 ≡ n)
     only x (inl e) = inr (ap (λ (z : NackName × Binding). z.0) (sym e))
     only x (inr h) = inl h
+
+pub learns_nack : (n : NackName) (o : Option Binding) (v : View) → LearnsOf (λ q. ⊥) (λ m. m ≡ n) v.seen (saw_nack n o v).seen
+learns_nack n None v = learns_nothing (λ q. ⊥) (λ m. m ≡ n) v.seen
+learns_nack n (Some b) v = learns_bound n b v.seen
 
 -- a look adds what it finds of its row
 pub learns_look : (r : Row) (c : Cell) (s : Seen) → Learns (λ q. q ≡ r) s (see_cell r c s)

@@ -9,6 +9,7 @@ ghost use Rattle.words.specs.declared.Cell.TheVariants.{Claimed};
 ghost use Rattle.words.specs.declared.NackName.{NackName};
 ghost use Rattle.words.specs.declared.Binding.{Binding};
 ghost use Rattle.protocol.specs.Ledgers.{IsLawful, binding_in, joined_in, offer_in};
+ghost use Rattle.protocol.specs.Worlds.{nack_of_row};
 ghost use Rattle.cell.specs.Attempts.{Attempted, Bound, Granted, IsNackOf as IsNackOfOffer, IsNear, IsNearGrant, Took};
 ghost use Rattle.cell.specs.Calls.{IsNackOf, IsPassOf, IsRowOf, PassView};
 ghost use Rattle.cell.specs.Nacks.{IsSeenBound};
@@ -201,6 +202,7 @@ impl Cells {
         requires fresh { Has pass.old.seen.held row × (¬ Has pass.old.seen.opened row) }
         requires range { (k < 64) × (scope < 4) }
         ensures here { IsPassOf self.now pass.new }
+        ensures learns { LearnsOf (λ q. ⊥) (λ n. n ≡ nack_of_row row k) pass.old.seen pass.new.seen }
         ensures bound { Bound pass.old.seen pass.new.seen k row scope result }
     {
         self.board.bind(&mut pass.seat, k, row, scope)

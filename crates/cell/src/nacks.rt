@@ -6,6 +6,7 @@ ghost use Rattle.words.specs.declared.Binding.{Binding};
 ghost use Rattle.words.specs.declared.Joined.{Joined};
 ghost use Rattle.words.specs.declared.NackName.{NackName};
 ghost use Rattle.protocol.specs.Tables.{bound_row};
+ghost use Rattle.protocol.specs.Worlds.{nack_of_row};
 ghost use Rattle.cell.specs.Attempts.{Bound};
 ghost use Rattle.cell.specs.Nacks.{IsBoundRow, SawCause, SawEnabled};
 ghost use Rattle.cell.specs.Seats.{HasNack, HasRow, Sits};
@@ -37,12 +38,14 @@ impl Board {
 
     /// Binds nack k of the row's thread to the row, which is held and not opened yet, and to one of
     /// its scopes. False where the nack was bound before.
+    #[tactic(auto, using(crate::proofs::Learning::learns_bound))]
     pub(crate) fn bind(&self, seat: &mut Seat<u64, View>, k: u8, row: Row, scope: u8) -> bool
         requires sits { Sits self.now seat.old × HasRow self.now row }
         requires held { Has seat.old.me.0.seen.held row × (¬ Has seat.old.me.0.seen.opened row) }
         requires range { (k < 64) × (scope < 4) }
         ensures sits { (seat.new.id ≡ seat.old.id) × Sits self.now seat.new }
         ensures stays { seat.new.me.0 ≡ at_stage seat.old.me.0.stage seat.new.me.0.seen seat.old.me.0 }
+        ensures learns { LearnsOf (λ q. ⊥) (λ n. n ≡ nack_of_row row k) seat.old.me.0.seen seat.new.me.0.seen }
         ensures bound { Bound seat.old.me.0.seen seat.new.me.0.seen k row scope result }
     {
         let nack = NackName {

@@ -16,7 +16,9 @@ ghost use Rattle.cell.specs.Views.{bound_nack, saw, saw_nack, took, read_word, d
 use crate::board::{Bind, Board, Claim, Draft, Give, Join, Look, LookNack, Read, Seal, Take, Wait};
 use crate::view::View;
 use atomic_table::Seat;
-use protocol::{Binding, Cell, Joined, NackName, Row, pack_cell, pack_nack, unpack_cell, unpack_nack};
+use protocol::{
+    Binding, Cell, Joined, NackName, Row, pack_cell, pack_nack, unpack_cell, unpack_nack,
+};
 
 impl Board {
     // where the word of a row at a place lies

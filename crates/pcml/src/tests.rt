@@ -232,6 +232,82 @@ fn plays_grants_and_takes(rt: HostRuntime) -> Result<(), Fault> {
     Ok(())
 }
 
+/// A row with a nack bound to its scope 0 commits outside it, and so enables a row that waits for it.
+const A_NACK: &str = "world 2 1 2
+0 bind 0 0.0 0
+0 draft 0.0 1 2
+0 draft 0.0 2 33554434
+0 draft 0.0 6 3
+0 open 0.0
+1 draft 1.0 1 1
+1 draft 1.0 2 4
+1 open 1.0
+";
+
+#[test]
+fn plays_binds_and_grants_of_nacks(rt: HostRuntime) -> Result<(), Fault> {
+    let words = ["play", "file"];
+    let text = format!(in rt.alloc(); "{A_NACK}0 grant 0.0 1\n1 grant 1.0 0\n")?;
+    prints(
+        &rt,
+        &words,
+        text.as_bytes(),
+        b"1 0.0.1 always ()\n2 1.0.0 cancelled 0.0\ncommits 2 pending 0\n",
+    )?;
+    let text = format!(in rt.alloc(); "{A_NACK}1 grant 1.0 0\n0 grant 0.0 1\n")?;
+    faults(&rt, &words, text.as_bytes(), b"fault 2 step 9\n")?;
+    faults(
+        &rt,
+        &words,
+        b"world 1 1 1\n0 bind 0 0.0 0\n0 bind 0 0.0 1\n",
+        b"fault 2 step 2\n",
+    )?;
+    Ok(())
+}
+
+/// The row that waits has a last stamp of 1, and the row that enables it has stamp 3.
+#[test]
+fn counts_the_stamp_of_the_cause(rt: HostRuntime) -> Result<(), Fault> {
+    prints(
+        &rt,
+        &["play", "file"],
+        b"world 2 3 2
+0 draft 0.0 1 1
+0 draft 0.0 2 3
+0 open 0.0
+0 grant 0.0 0
+0 take 0.0
+0 draft 0.1 1 1
+0 draft 0.1 2 3
+0 open 0.1
+0 grant 0.1 0
+0 take 0.1
+0 bind 5 0.2 1
+0 draft 0.2 1 1
+0 draft 0.2 2 3
+0 open 0.2
+1 draft 1.0 1 1
+1 draft 1.0 2 3
+1 open 1.0
+1 grant 1.0 0
+1 take 1.0
+1 draft 1.1 1 1
+1 draft 1.1 2 655364
+1 open 1.1
+0 grant 0.2 0
+1 grant 1.1 0
+",
+        b"1 0.0.0 always ()
+1 1.0.0 always ()
+2 0.1.0 always ()
+3 0.2.0 always ()
+4 1.1.0 cancelled 0.5
+commits 5 pending 0
+",
+    )?;
+    Ok(())
+}
+
 #[test]
 fn plays_a_world_alone(rt: HostRuntime) -> Result<(), Fault> {
     prints(

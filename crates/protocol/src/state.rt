@@ -325,10 +325,11 @@ impl State {
         if self.board.binding(nack).is_some() {
             return false;
         }
-        self.board.set_nack(nack, Binding {
+        let bound = Binding {
             sync: row.sync,
             scope,
-        });
+        };
+        self.board.set_nack(nack, bound);
         true
     }
 

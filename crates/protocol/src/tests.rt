@@ -201,3 +201,103 @@ fn a_row_is_taken_once(rt: HostRuntime) -> Result<(), Fail> {
     );
     Ok(())
 }
+
+/// Thread 0 binds its first nack to its row and scope 0, and offers a receive inside and an always
+/// outside it. Thread 1 waits for the nack.
+fn a_nack() -> [(Seat, Step); 8] {
+    let bind = Step::Bind {
+        k: 0,
+        row: SENDER,
+        scope: 0,
+    };
+    [
+        (Seat(0), bind),
+        draft(0, SENDER, 1, 2),
+        draft(0, SENDER, 2, 33_554_434),
+        draft(0, SENDER, 6, 3),
+        (Seat(0), Step::Open { row: SENDER }),
+        draft(1, RECEIVER, 1, 1),
+        draft(1, RECEIVER, 2, 4),
+        (Seat(1), Step::Open { row: RECEIVER }),
+    ]
+}
+
+const OUTSIDE: (Seat, Step) = (
+    Seat(0),
+    Step::Grant {
+        row: SENDER,
+        offer: 1,
+    },
+);
+
+const WAITER: (Seat, Step) = (
+    Seat(1),
+    Step::Grant {
+        row: RECEIVER,
+        offer: 0,
+    },
+);
+
+#[test]
+fn a_commit_outside_its_scope_enables_a_nack(rt: HostRuntime) -> Result<(), Fail> {
+    let mut steps = a_nack().to_vec(rt.alloc())?;
+    steps.push(OUTSIDE)?;
+    steps.push(WAITER)?;
+    let ledger = play(World::start(rt.alloc(), 2, 1, 2)?, &steps)?.ledger();
+    let cancelled = Commit::Alone {
+        at: (RECEIVER, 0),
+        cause: Cause::Nack(NackName { thread: 0, k: 0 }),
+        stamp: 2,
+    };
+    let granted = Commit::Alone {
+        at: (SENDER, 1),
+        cause: Cause::Always(Message::Empty),
+        stamp: 1,
+    };
+    assert_eq!(rt;
+        ledger.commits()?.as_slice(),
+        [granted, cancelled].as_slice()
+    );
+    Ok(())
+}
+
+#[test]
+fn a_nack_is_not_enabled_before(rt: HostRuntime) -> Result<(), Fail> {
+    let mut steps = a_nack().to_vec(rt.alloc())?;
+    steps.push(WAITER)?;
+    steps.push(OUTSIDE)?;
+    let fault = play(World::start(rt.alloc(), 2, 1, 2)?, &steps);
+    assert_eq!(rt;
+        fault.expect_err(&rt, "the nack's row waits"),
+        ProtoFault::NotAllowed(8)
+    );
+    Ok(())
+}
+
+#[test]
+fn a_nack_is_bound_before_its_row_is_opened(rt: HostRuntime) -> Result<(), Fail> {
+    let bind = |k: u8, scope: u8| -> (Seat, Step) {
+        (
+            Seat(0),
+            Step::Bind {
+                k,
+                row: SENDER,
+                scope,
+            },
+        )
+    };
+    let open = (Seat(0), Step::Open { row: SENDER });
+    for steps in [
+        [bind(0, 0), bind(0, 1)],
+        [open, bind(0, 0)],
+        [bind(63, 3), bind(64, 0)],
+        [bind(0, 3), bind(1, 4)],
+    ] {
+        let fault = play(World::start(rt.alloc(), 1, 1, 1)?, &steps);
+        assert_eq!(rt;
+            fault.expect_err(&rt, "the second step is not allowed"),
+            ProtoFault::NotAllowed(1)
+        );
+    }
+    Ok(())
+}
