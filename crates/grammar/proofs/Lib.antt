@@ -1,0 +1,4 @@
+pub mod Fronts
+pub mod Names
+pub mod Exprs
+pub mod Lists
