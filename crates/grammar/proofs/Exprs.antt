@@ -1,21 +1,20 @@
 -- Expressions: what is written is read, and what is read was written.
-use Rattle.std.proofs.Common.{◌≡◌, ℕ, zero, suc, ◌+◌, ◌-◌, ◌<◌, ◌≤◌, max, Bool, true, false, cond, List, [], ◌∷◌, ◌++◌, length, Option, Some, None, Result, Ok, is_some, refl, sym, ap, ◌∙◌, subst, arith, append_assoc}
+use Rattle.std.proofs.Common.{◌≡◌, ℕ, zero, suc, ◌-◌, ◌<◌, ◌≤◌, max, Bool, true, false, cond, List, [], ◌∷◌, ◌++◌, length, Option, Some, None, Result, Ok, is_some, refl, sym, ap, ◌∙◌, subst, arith, append_assoc}
 use Rattle.std.proofs.lemmas.List.{append-nil}
 use Rattle.std.specs.Option.{option_map}
 use Rattle.token.specs.Tokens.{Token, Fixed}
 use Rattle.token.specs.Tokens as tokens
 use Rattle.token.specs.declared.kind.Symbol.TheVariants.{OpenParen, CloseParen, Plus, Minus}
 use Rattle.phrase.specs.Steps.{Told, Here, ◌>>=◌, repeated, name_at, number_at, next_is, accept_at, expect_at, read_name_at}
-use Rattle.phrase.specs.Exprs.{Parts, parts_term, whole, with_term, sign_at, term_step, operand_with, sum_with, operand_at, sum_at, expr_at}
+use Rattle.phrase.specs.Exprs.{Parts, parts_term, with_term, sign_at, term_step, operand_with, sum_with, operand_at, sum_at, expr_at}
 use Rattle.phrase.specs.declared.scope.Counts.{Counts}
 use Rattle.phrase.proofs.Keeping.{bound_ok, ok_is, no_ok, if_ok, some_ok}
 use Rattle.phrase.proofs.Linking.{operand_at-is}
-use Rattle.syntax.specs.declared.tree.Operand.TheVariants.{Number, Named}
 use Rattle.syntax.specs.declared.tree.Sign.{Sign}
 use Rattle.syntax.specs.declared.tree.Sign.TheVariants as signs
 use Rattle.syntax.specs.Trees as trees
-use Rattle.grammar.specs.Written.{Term, OfNumber, OfName, Grouped, Terms, NoMore, Further, Expr, sign_symbol, term_tokens, terms_tokens, expr_tokens}
-use Rattle.grammar.specs.Depths.{term_depth, terms_depth, expr_depth}
+use Rattle.grammar.specs.Written.{Term, OfNumber, OfName, Grouped, Terms, NoMore, Further, sign_symbol, term_tokens, terms_tokens}
+use Rattle.grammar.specs.Depths.{term_depth, terms_depth}
 use Rattle.grammar.specs.Meaning.{Names, name_meaning, term_meaning, terms_meaning, expr_meaning}
 use Rattle.grammar.specs.Laws.{names_at, at, SpellsExpr, ExprsAreFound, ExprsAreReadAgain}
 use Rattle.grammar.proofs.Fronts.{accept_ok, expect_ok, is_next, Front, next_found, number_found, accept_found, expect_found, no_step, one_step}
@@ -111,6 +110,7 @@ expr_again room ns counts ts e rest s last =
     let read = sum_again room ns counts s.expr.first s.expr.more p.first rest s.depth p.is last in
     let behind = terms_tokens s.expr.more rest in
     rw s.tokens (rw read (ap (λ (y : trees.Expr). Ok (y, rest)) (some_is _ _ p.then)))
+
 -- WHAT IS READ WAS WRITTEN
 
 record SpellsTerm (room : ℕ) (ns : Names) (ts : List Token) (x : Parts × List Token) : Type 0 where

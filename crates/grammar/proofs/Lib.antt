@@ -2,3 +2,4 @@ pub mod Fronts
 pub mod Names
 pub mod Exprs
 pub mod Lists
+pub mod Growing

@@ -1,25 +1,24 @@
 -- Tests and lists: what is written is read, and what is read was written.
-use Rattle.std.proofs.Common.{◌≡◌, ℕ, zero, suc, ◌+◌, ◌-◌, ◌<◌, ◌≤◌, max, Bool, true, false, leb, List, [], ◌∷◌, ◌++◌, length, Option, Some, None, Result, Ok, refl, sym, ap, ◌∙◌, subst, arith}
+use Rattle.std.proofs.Common.{◌≡◌, ℕ, ◌-◌, ◌<◌, ◌≤◌, true, false, leb, List, [], ◌∷◌, length, Some, None, Ok, refl, ap, ◌∙◌, subst, arith}
 use Rattle.std.proofs.lemmas.Bool.Decides.{nat_tests}
 use Rattle.token.specs.Tokens.{Token, Fixed}
-use Rattle.token.specs.Tokens as tokens
 use Rattle.token.specs.declared.kind.Symbol.TheVariants.{OpenParen, CloseParen, Comma, Equal, Less}
-use Rattle.phrase.specs.Steps.{Told, Here, next_is, accept_at, expect_at}
+use Rattle.phrase.specs.Steps.{Here, next_is, accept_at, expect_at}
 use Rattle.phrase.specs.Exprs.{sign_at, expr_at, relation_at, test_at, members_at, list_at}
 use Rattle.phrase.specs.declared.scope.Counts.{Counts}
 use Rattle.phrase.proofs.Keeping.{bound_ok, ok_is, no_ok, if_ok}
 use Rattle.syntax.specs.declared.tree.Relation.{Relation}
 use Rattle.syntax.specs.declared.tree.Relation.TheVariants as relations
 use Rattle.syntax.specs.Trees as trees
-use Rattle.grammar.specs.Written.{Term, OfNumber, OfName, Grouped, Expr, Test, relation_symbol, term_tokens, terms_tokens, expr_tokens, test_tokens, others_tokens, members_tokens, list_tokens}
+use Rattle.grammar.specs.Written.{Term, OfNumber, OfName, Grouped, Expr, Test, relation_symbol, term_tokens, terms_tokens, expr_tokens, test_tokens, members_tokens, list_tokens}
 use Rattle.grammar.specs.Depths.{expr_depth, exprs_depth, list_depth, test_depth}
-use Rattle.grammar.specs.Meaning.{Names, ◌>>=◌, expr_meaning, test_meaning, exprs_meaning, list_meaning}
-use Rattle.grammar.specs.Laws.{names_at, at, SpellsExpr}
+use Rattle.grammar.specs.Meaning.{Names, expr_meaning, test_meaning, exprs_meaning, list_meaning}
+use Rattle.grammar.specs.Laws.{names_at, at}
 use Rattle.grammar.proofs.Fronts.{accept_ok, expect_ok, is_next, next_found, accept_found, expect_found}
 use Rattle.grammar.proofs.Names.{part, some_is, if_else_some}
 use Rattle.grammar.proofs.Exprs.{expr_again, expr_found}
 
-expr_reads : (e : Expr) (room : ℕ) (ns : Names) (counts : Counts) (x : trees.Expr) (rest : List Token) → expr_depth e < room → expr_meaning ns e ≡ Some x → sign_at rest ≡ None → expr_at room (at ns counts) (expr_tokens e rest) ≡ Ok (x, rest)
+pub expr_reads : (e : Expr) (room : ℕ) (ns : Names) (counts : Counts) (x : trees.Expr) (rest : List Token) → expr_depth e < room → expr_meaning ns e ≡ Some x → sign_at rest ≡ None → expr_at room (at ns counts) (expr_tokens e rest) ≡ Ok (x, rest)
 expr_reads e room ns counts x rest deep is last = expr_again room ns counts (expr_tokens e rest) x rest (record { expr = e; tokens = refl; depth = deep; meaning = is }) last
 
 -- TESTS
@@ -45,9 +44,11 @@ test_reads t room ns counts x rest deep e last =
     let a = part (expr_meaning ns t.left) _ x e in
     let b = part (expr_meaning ns t.right) _ x a.then in
     let behind = Fixed (relation_symbol t.relation) ∷ expr_tokens t.right rest in
-    rw (expr_reads t.left room ns counts a.first behind (omega (arith, deep)) a.is (no_sign_relation t.relation (expr_tokens t.right rest)),
-        relation_reads t.relation room (expr_tokens t.right rest) (omega (arith, deep)),
-        expr_reads t.right room ns counts b.first rest (omega (arith, deep)) b.is last)
+    rw (
+      expr_reads t.left room ns counts a.first behind (omega (arith, deep)) a.is (no_sign_relation t.relation (expr_tokens t.right rest)),
+      relation_reads t.relation room (expr_tokens t.right rest) (omega (arith, deep)),
+      expr_reads t.right room ns counts b.first rest (omega (arith, deep)) b.is last,
+    )
     (ap (λ (y : trees.Test). Ok (y, rest)) (some_is _ _ b.then))
 
 pub record SpellsTest (room : ℕ) (ns : Names) (ts : List Token) (x : trees.Test) (rest : List Token) : Type 0 where
@@ -142,8 +143,14 @@ members_again (a ∷ b ∷ []) room ns counts list rest some deep few e =
     let y = headed ns b [] x.tail x.others in
     let last = Fixed CloseParen ∷ rest in
     let second = expr_tokens b last in
-    rw (no_close a.first (terms_tokens a.more (Fixed Comma ∷ second)), expr_reads a room ns counts x.head (Fixed Comma ∷ second) (omega (arith, deep)) x.is (no_sign_comma second), is_next Comma second,
-        accept_ok room (Fixed Comma) second some, expr_reads b room ns counts y.head last (omega (arith, deep)) y.is (no_sign_close rest), no_comma rest)
+    rw (
+      no_close a.first (terms_tokens a.more (Fixed Comma ∷ second)),
+      expr_reads a room ns counts x.head (Fixed Comma ∷ second) (omega (arith, deep)) x.is (no_sign_comma second),
+      is_next Comma second,
+      accept_ok room (Fixed Comma) second some,
+      expr_reads b room ns counts y.head last (omega (arith, deep)) y.is (no_sign_close rest),
+      no_comma rest,
+    )
     (ap (λ (z : List trees.Expr). Ok (z, last)) (ap (λ (z : List trees.Expr). x.head ∷ y.head ∷ z) (nothing_else ns y.tail y.others) ∙ ap (λ (z : List trees.Expr). x.head ∷ z) y.whole ∙ x.whole))
 members_again (a ∷ b ∷ c ∷ []) room ns counts list rest some deep few e =
     let x = headed ns a (b ∷ c ∷ []) list e in
@@ -152,9 +159,17 @@ members_again (a ∷ b ∷ c ∷ []) room ns counts list rest some deep few e =
     let last = Fixed CloseParen ∷ rest in
     let third = expr_tokens c last in
     let second = expr_tokens b (Fixed Comma ∷ third) in
-    rw (no_close a.first (terms_tokens a.more (Fixed Comma ∷ second)), expr_reads a room ns counts x.head (Fixed Comma ∷ second) (omega (arith, deep)) x.is (no_sign_comma second), is_next Comma second,
-        accept_ok room (Fixed Comma) second some, expr_reads b room ns counts y.head (Fixed Comma ∷ third) (omega (arith, deep)) y.is (no_sign_comma third), is_next Comma third,
-        accept_ok room (Fixed Comma) third some, expr_reads c room ns counts w.head last (omega (arith, deep)) w.is (no_sign_close rest), no_comma rest)
+    rw (
+      no_close a.first (terms_tokens a.more (Fixed Comma ∷ second)),
+      expr_reads a room ns counts x.head (Fixed Comma ∷ second) (omega (arith, deep)) x.is (no_sign_comma second),
+      is_next Comma second,
+      accept_ok room (Fixed Comma) second some,
+      expr_reads b room ns counts y.head (Fixed Comma ∷ third) (omega (arith, deep)) y.is (no_sign_comma third),
+      is_next Comma third,
+      accept_ok room (Fixed Comma) third some,
+      expr_reads c room ns counts w.head last (omega (arith, deep)) w.is (no_sign_close rest),
+      no_comma rest,
+    )
     (ap (λ (z : List trees.Expr). Ok (z, last)) (ap (λ (z : List trees.Expr). x.head ∷ y.head ∷ w.head ∷ z) (nothing_else ns w.tail w.others) ∙ ap (λ (z : List trees.Expr). x.head ∷ y.head ∷ z) w.whole ∙ ap (λ (z : List trees.Expr). x.head ∷ z) y.whole ∙ x.whole))
 members_again (a ∷ b ∷ c ∷ d ∷ es) room ns counts list rest some deep few e = absurd (too_long a b c d es few)
 
@@ -164,9 +179,11 @@ unfolding list_at list_meaning
 list_reads es room ns counts list rest deep e =
     if_else_some (leb (length es) 3) _ list e
     (λ few f.
-    rw (expect_ok room OpenParen (members_tokens es (Fixed CloseParen ∷ rest)) (omega (arith, deep)),
-        members_again es (room - 1) ns counts list rest (omega (arith, deep)) (omega (arith, deep)) few f,
-        expect_ok (room - 1) CloseParen rest (omega (arith, deep))) refl)
+    rw (
+      expect_ok room OpenParen (members_tokens es (Fixed CloseParen ∷ rest)) (omega (arith, deep)),
+      members_again es (room - 1) ns counts list rest (omega (arith, deep)) (omega (arith, deep)) few f,
+      expect_ok (room - 1) CloseParen rest (omega (arith, deep)),
+    ) refl)
 
 record SpellsMembers (room : ℕ) (ns : Names) (ts : List Token) (list : List trees.Expr) (rest : List Token) : Type 0 where
   members : List Expr

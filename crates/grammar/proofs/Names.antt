@@ -1,16 +1,15 @@
 -- Names: what is written is read, and what is read was written.
-use Rattle.std.proofs.Common.{◌≡◌, ℕ, zero, suc, ◌+◌, ◌<◌, ◌≤◌, Bool, true, false, cond, ◌||◌, ltb, leb, List, [], ◌∷◌, ◌++◌, length, Option, Some, None, Result, Ok, is_some, refl, sym, ap, ◌∙◌, subst, arith, tests}
+use Rattle.std.proofs.Common.{◌≡◌, ℕ, ◌<◌, ◌≤◌, Bool, true, false, cond, ◌||◌, ltb, leb, List, [], ◌∷◌, ◌++◌, length, Option, Some, None, Ok, is_some, refl, sym, ap, ◌∙◌, subst, arith, tests}
 use Rattle.std.proofs.lemmas.Bool.Decides.{nat_tests}
 use Rattle.token.specs.Tokens.{Token, Name}
 use Rattle.token.specs.Tokens as tokens
-use Rattle.token.specs.declared.kind.Symbol.TheVariants.{Comma, As}
+use Rattle.token.specs.declared.kind.Symbol.TheVariants.{Comma}
 use Rattle.phrase.specs.Places.{place}
 use Rattle.phrase.specs.Steps.{Told, Here, if_some, name_at, next_is, accept_at, channel_of, meaning, read_name_at, is_listed, bind_name_at, bind_names_at}
 use Rattle.phrase.specs.Steps as steps
 use Rattle.phrase.specs.declared.scope.Counts.{Counts}
 use Rattle.phrase.proofs.Keeping.{bound_ok, ok_is, no_ok, if_ok, some_ok}
 use Rattle.syntax.specs.declared.tree.Name.{Name as Meaning}
-use Rattle.syntax.specs.declared.tree.Name.TheVariants.{Variable}
 use Rattle.grammar.specs.Written.{more_names_tokens}
 use Rattle.grammar.specs.Meaning.{Names, ◌>>=◌, name_meaning, bound, bind, bind_all}
 use Rattle.grammar.specs.Laws.{names_at, at}
@@ -104,7 +103,7 @@ pub record SpellsBound (room : ℕ) (list : List ℕ) (h h' : Here) (ts : List T
   pub few : length list < 3
   pub binds : bind list (names_at h) text ≡ Some (v, names_at h')
 
-neither : (a b : Bool) → (a || b) ≡ false → (a ≡ false) × (b ≡ false)
+pub neither : (a b : Bool) → (a || b) ≡ false → (a ≡ false) × (b ≡ false)
 neither false b e = (refl, e)
 neither true b e = absurd cc
 
@@ -146,25 +145,29 @@ names_again room ns counts text (text' ∷ []) b rest some few e last =
     let x = part (bind [] ns text) _ b e in
     let y = part (bind (x.first.0 ∷ []) x.first.1 text') _ b x.then in
     let is = some_is _ _ y.then in
-    rw (bind_again room [] ns counts text x.first (tokens.Fixed Comma ∷ Name text' ∷ rest) some (omega arith) x.is,
-        is_next Comma (Name text' ∷ rest),
-        accept_ok room (tokens.Fixed Comma) (Name text' ∷ rest) some,
-        bind_again room (x.first.0 ∷ []) x.first.1 counts text' y.first rest some (omega arith) y.is,
-        last) (ap (λ (y : List ℕ × Names). Ok (y.0, at y.1 counts, rest)) is)
+    rw (
+      bind_again room [] ns counts text x.first (tokens.Fixed Comma ∷ Name text' ∷ rest) some (omega arith) x.is,
+      is_next Comma (Name text' ∷ rest),
+      accept_ok room (tokens.Fixed Comma) (Name text' ∷ rest) some,
+      bind_again room (x.first.0 ∷ []) x.first.1 counts text' y.first rest some (omega arith) y.is,
+      last,
+    ) (ap (λ (y : List ℕ × Names). Ok (y.0, at y.1 counts, rest)) is)
 names_again room ns counts text (text' ∷ text'' ∷ []) b rest some few e last =
     let x = part (bind [] ns text) _ b e in
     let y = part (bind (x.first.0 ∷ []) x.first.1 text') _ b x.then in
     let z = part (bind (x.first.0 ∷ y.first.0 ∷ []) y.first.1 text'') _ b y.then in
     let is = some_is _ _ z.then in
     let behind = tokens.Fixed Comma ∷ Name text'' ∷ rest in
-    rw (bind_again room [] ns counts text x.first (tokens.Fixed Comma ∷ Name text' ∷ behind) some (omega arith) x.is,
-        is_next Comma (Name text' ∷ behind),
-        accept_ok room (tokens.Fixed Comma) (Name text' ∷ behind) some,
-        bind_again room (x.first.0 ∷ []) x.first.1 counts text' y.first behind some (omega arith) y.is,
-        is_next Comma (Name text'' ∷ rest),
-        accept_ok room (tokens.Fixed Comma) (Name text'' ∷ rest) some,
-        bind_again room (x.first.0 ∷ y.first.0 ∷ []) y.first.1 counts text'' z.first rest some (omega arith) z.is,
-        last) (ap (λ (y : List ℕ × Names). Ok (y.0, at y.1 counts, rest)) is)
+    rw (
+      bind_again room [] ns counts text x.first (tokens.Fixed Comma ∷ Name text' ∷ behind) some (omega arith) x.is,
+      is_next Comma (Name text' ∷ behind),
+      accept_ok room (tokens.Fixed Comma) (Name text' ∷ behind) some,
+      bind_again room (x.first.0 ∷ []) x.first.1 counts text' y.first behind some (omega arith) y.is,
+      is_next Comma (Name text'' ∷ rest),
+      accept_ok room (tokens.Fixed Comma) (Name text'' ∷ rest) some,
+      bind_again room (x.first.0 ∷ y.first.0 ∷ []) y.first.1 counts text'' z.first rest some (omega arith) z.is,
+      last,
+    ) (ap (λ (y : List ℕ × Names). Ok (y.0, at y.1 counts, rest)) is)
 names_again room ns counts text (text' ∷ text'' ∷ text''' ∷ more) b rest some few e last = absurd (too_many text' text'' text''' more few)
 
 pub record SpellsNames (room : ℕ) (h h' : Here) (ts : List Token) (list : List ℕ) (rest : List Token) : Type 0 where

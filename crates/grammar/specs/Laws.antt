@@ -1,5 +1,5 @@
 -- How what is written and what is read from left to right belong together: names and expressions.
-use Rattle.std.specs.Prelude.{◌≡◌, ℕ, ◌<◌, List, [], ◌∷◌, Option, Some, None, Ok}
+use Rattle.std.specs.Prelude.{◌≡◌, ℕ, ◌<◌, List, Some, None, Ok}
 use Rattle.token.specs.Tokens.{Token}
 use Rattle.phrase.specs.Steps.{Here}
 use Rattle.phrase.specs.Exprs.{sign_at, expr_at}

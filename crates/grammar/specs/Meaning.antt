@@ -1,6 +1,6 @@
 -- What is written means: a tree with numbers in place of names, if each name stands for something and
 -- the limits of names, lists and syncs are kept.
-use Rattle.std.specs.Prelude.{ℕ, ◌+◌, List, [], ◌∷◌, ◌++◌, length, Bool, true, false, ◌||◌, ◌&&◌, Option, Some, None, is_some, nat_lt, nat_le, if◌then◌else◌}
+use Rattle.std.specs.Prelude.{ℕ, List, [], ◌∷◌, ◌++◌, length, Bool, true, false, ◌||◌, ◌&&◌, Option, Some, None, is_some, nat_lt, nat_le, if◌then◌else◌}
 use Rattle.phrase.specs.Places.{place}
 use Rattle.phrase.specs.Steps.{if_some, channel_of, is_listed}
 use Rattle.phrase.specs.Exprs.{Parts, parts_term, whole}

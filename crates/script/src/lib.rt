@@ -17,6 +17,8 @@
 //! there yet, nor is a writer.
 #![tactic(auto)]
 
+ghost use Rattle.script.specs.Spelling.{SpellsOnlyOne};
+
 mod fault;
 mod process;
 mod reading;
@@ -26,6 +28,11 @@ pub use fault::ScriptFault;
 pub use reading::parse;
 pub use script::Script;
 pub use syntax::Proc;
+
+/// No bytes spell two scripts.
+pub fn script_text_laws()
+    ensures { SpellsOnlyOne }
+{}
 
 #[cfg(test)]
 mod tests;

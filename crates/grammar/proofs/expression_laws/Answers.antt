@@ -1,4 +1,3 @@
-use Rattle.grammar.proofs.Lists.{list_found}
 use Rattle.grammar.proofs.Exprs.{expr_found, expr_again}
 use Rattle.grammar.proofs.expression_laws.Goals as goal
 
