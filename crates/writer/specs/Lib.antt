@@ -1,0 +1,4 @@
+pub mod Plain
+pub mod Canon
+pub mod Texts
+pub mod Sources
