@@ -10,4 +10,4 @@ mod names;
 mod process;
 mod writing;
 
-pub use writing::write;
+pub use writing::{write, writing_laws};
