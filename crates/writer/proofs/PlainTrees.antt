@@ -265,10 +265,12 @@ mutual
       record {
         meaning = wrap_means ns a.first.1 (plain_event V a.first.0) a.first.0 names (names_of V b.first.0) b.first (plain_list V l.first) l.first is p.meaning b.is q.meaning;
         shallow = omega (arith, p.shallow, q.shallow);
-        good = λ rest rest' h k.
-            (tt, p.good (as_tokens names (Fixed symbols.To ∷ list_tokens list rest)) (as_tokens (names_of V b.first.0) (Fixed symbols.To ∷ list_tokens (plain_list V l.first) rest')) h.1
-            (λ i. subst (λ (y : List (List ℕ)). AllGood (as_tokens y (Fixed symbols.To ∷ list_tokens (plain_list V l.first) rest'))) (sym is)
-            (as_good names (Fixed symbols.To ∷ list_tokens list rest) (Fixed symbols.To ∷ list_tokens (plain_list V l.first) rest') i (λ j. (tt, q.good rest rest' j.1 k)))));
+        good = λ rest rest' h k. (
+          tt,
+          p.good (as_tokens names (Fixed symbols.To ∷ list_tokens list rest)) (as_tokens (names_of V b.first.0) (Fixed symbols.To ∷ list_tokens (plain_list V l.first) rest')) h.1
+              (λ i. subst (λ (y : List (List ℕ)). AllGood (as_tokens y (Fixed symbols.To ∷ list_tokens (plain_list V l.first) rest'))) (sym is)
+              (as_good names (Fixed symbols.To ∷ list_tokens list rest) (Fixed symbols.To ∷ list_tokens (plain_list V l.first) rest') i (λ j. (tt, q.good rest rest' j.1 k)))),
+        );
       })
   event_plain (written.Guard body event) ns V x e =
       let b = part (block_meaning false ns body) _ x e in
@@ -356,10 +358,15 @@ mutual
       record {
         meaning = rw (p.meaning, q.meaning, r.meaning) refl;
         shallow = omega (arith, p.shallow, q.shallow, r.shallow);
-        good = λ rest rest' h k.
-            (tt, p.good (block_tokens first (Fixed symbols.Else ∷ block_tokens second rest)) (block_tokens (plain_block V a.first.0) (Fixed symbols.Else ∷ block_tokens (plain_block V b.first.0) rest')) h.1
-            (λ i. (tt, q.good (Fixed symbols.Else ∷ block_tokens second rest) (Fixed symbols.Else ∷ block_tokens (plain_block V b.first.0) rest') i.1
-            (λ j. (tt, (tt, r.good rest rest' j.1.1 k))))));
+        good = λ rest rest' h k. (
+          tt,
+          p.good (block_tokens first (Fixed symbols.Else ∷ block_tokens second rest)) (block_tokens (plain_block V a.first.0) (Fixed symbols.Else ∷ block_tokens (plain_block V b.first.0) rest')) h.1
+              (λ i. (
+                tt,
+                q.good (Fixed symbols.Else ∷ block_tokens second rest) (Fixed symbols.Else ∷ block_tokens (plain_block V b.first.0) rest') i.1
+                    (λ j. (tt, (tt, r.good rest rest' j.1.1 k))),
+              )),
+        );
       })
   stmt_plain (written.Loop times body) loops ns V x e =
       if_else_some loops _ x e (λ allowed f.
