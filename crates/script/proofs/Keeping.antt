@@ -594,7 +594,7 @@ no_block room place h ts x e = no_ok _ _ e
 no_stmt : (room : ℕ) → StmtsRead room (λ _ _ ts. none_there ts)
 no_stmt room place h ts x e = no_ok _ _ e
 
-deeper : (P : ℕ → Type 0) (r : ℕ) → P r → P (suc r - 1)
+pub deeper : (P : ℕ → Type 0) (r : ℕ) → P r → P (suc r - 1)
 deeper P r h = (let one : r ≡ suc r - 1 = omega arith in subst P one h)
 
 mutual

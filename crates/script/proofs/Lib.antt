@@ -3,3 +3,6 @@ pub mod Declaring
 pub mod Telling
 pub mod Keeping
 pub mod KeepingScripts
+pub mod Found
+pub mod Again
+pub mod Spelled

@@ -1,2 +1,3 @@
 pub mod Blocks
 pub mod Scripts
+pub mod Spelling

@@ -5,17 +5,20 @@
 //! texts (`script`), from left to right.
 //!
 //! Proved:
-//! - `parse` answers what `text_at` says of the bytes, unless memory runs out: the script, or the fault
-//!   with its line. Each function that reads gives what a function on lists of tokens gives.
+//! - `parse` is Ok exactly where the bytes spell a script and are not too many, unless memory runs out,
+//!   and gives that script; no bytes spell two (`script_text_laws`). What texts spell is said by the trees
+//!   of `grammar`, with no reading in them.
+//! - `parse` answers what `text_at` says of the bytes: a fault and its line are those of a reading of the
+//!   tokens from left to right.
 //! - What is read keeps the limits: each process has them by its own invariant (`syntax::Proc`).
 //! - The counts and the names of a script are those of the script that was read.
 //! - Each call ends. Reading goes down by what is left of 49 levels, and loops over statements,
 //!   members and terms, as does the drop of their lists.
 //!
-//! Only tested: that the functions on lists of tokens read the grammar and no more, and that of all
-//! faults the earliest is told. A grammar that is apart from them, and laws that tie them to it, are not
-//! there yet, nor is a writer.
+//! Only tested: that of all faults the earliest is told.
 #![tactic(auto)]
+
+ghost use Rattle.script.specs.Spelling.{SpellsOnlyOne};
 
 mod fault;
 mod process;
@@ -26,6 +29,11 @@ pub use fault::ScriptFault;
 pub use reading::parse;
 pub use script::Script;
 pub use syntax::Proc;
+
+/// No bytes spell two scripts.
+pub fn script_text_laws()
+    ensures { SpellsOnlyOne }
+{}
 
 #[cfg(test)]
 mod tests;

@@ -1,12 +1,13 @@
 //! Declared channels, processes and whole texts, read from the front.
 
-ghost use Rattle.std.specs.Prelude.{◌≡◌, ◌<◌, ◌≤◌, ◌∷◌, ◌++◌, IfOk, length, map, slice_get};
+ghost use Rattle.std.specs.Prelude.{◌≡◌, ◌<◌, ◌≤◌, ◌∷◌, ◌++◌, IfOk, IfErr, OnOk, length, map, slice_get};
 ghost use Rattle.std.specs.Option.{option_map};
 ghost use Rattle.std.specs.String.{string_bytes};
 ghost use Rattle.token.specs.Lexemes.{placed_tokens, last_line, seen};
 ghost use Rattle.phrase.specs.Places.{texts};
 ghost use Rattle.phrase.specs.Steps.{Gives, bare, here, start};
 ghost use Rattle.script.specs.Scripts.{drawn, proc_from, declare_at, channel_next, channels_at, process_next, processes_at, script_at, script_of, line_left, fault_at, text_at, Answers};
+ghost use Rattle.script.specs.Spelling.{Spells, Refuses};
 ghost use Rattle.syntax.specs.Processes.{proc_of, string_texts};
 ghost use Rattle.syntax.specs.Limits.{KeepsLimits};
 ghost use Rattle.syntax.specs.Trees.{block_of};
@@ -204,9 +205,9 @@ fn fault_at(problem: Problem, line: usize) -> ScriptFault
     }
 }
 
-/// The script that the bytes spell, or their first fault.
+/// What the bytes say, read from left to right.
 #[tactic(auto, unfolding(crate::specs::Scripts::text_at))]
-pub fn parse(alloc: Global, bytes: &[u8]) -> Result<Script, ScriptFault>
+fn read_text(alloc: Global, bytes: &[u8]) -> Result<Script, ScriptFault>
     ensures { Answers result (text_at bytes.now) }
 {
     if bytes.len() > TEXT_LEN {
@@ -220,4 +221,15 @@ pub fn parse(alloc: Global, bytes: &[u8]) -> Result<Script, ScriptFault>
         Err(Stop::Memory) => Err(ScriptFault::Memory),
         Err(Stop::At(problem, left)) => Err(fault_at(problem, line_at(&tokens, left))),
     }
+}
+
+/// The script that the bytes spell, or their first fault.
+pub fn parse(alloc: Global, bytes: &[u8]) -> Result<Script, ScriptFault>
+    ensures text { Answers result (text_at bytes.now) }
+    ensures found { IfOk result (λ s. Spells bytes.now (script_of s)) }
+    ensures fits { OnOk result (length bytes.now ≤ 65536) }
+    ensures refused { IfErr result (Refuses bytes.now) }
+{
+    let read = read_text(alloc, bytes);
+    read
 }

@@ -51,7 +51,7 @@ run_first b (c ∷ w) rest h stop =
     let c-word : is_word c ≡ true = q.0 in
     ap (put b) is ∙ rw (b-word, c-word) refl
 
-run_parts : (w rest : List ℕ) → 0 < length w → list_all is_word w ≡ true → Stops rest → lexemes (w ++ rest) ≡ w ∷ lexemes rest
+pub run_parts : (w rest : List ℕ) → 0 < length w → list_all is_word w ≡ true → Stops rest → lexemes (w ++ rest) ≡ w ∷ lexemes rest
 run_parts [] rest some h stop = absurd (omega (arith, some))
 run_parts (b ∷ w) rest some h stop = run_first b w rest h stop
 

@@ -1,0 +1,4 @@
+pub mod Written
+pub mod Meaning
+pub mod Depths
+pub mod Laws

@@ -1,0 +1,693 @@
+-- Events, statements and blocks: what is written is read.
+use Rattle.std.proofs.Common.{◌≡◌, ℕ, zero, suc, ◌+◌, ◌-◌, ◌<◌, ◌≤◌, true, false, leb, List, [], ◌∷◌, ◌++◌, length, Option, Some, None, Result, Ok, refl, sym, ap, ◌∙◌, subst, arith, tests, append_assoc}
+use Rattle.std.proofs.lemmas.Bool.{and_parts}
+use Rattle.std.proofs.lemmas.Bool.Decides.{nat_tests}
+use Rattle.std.proofs.lemmas.List.{append-nil}
+use Rattle.token.specs.Tokens.{Token, Fixed, Name, Number}
+use Rattle.token.specs.declared.kind.Symbol.{Symbol}
+use Rattle.token.specs.declared.kind.Symbol.TheVariants.{CloseParen, Let, Print, Sync, If, Else, Loop, Forever, End, Send, Recv, Always, Never, Cancelled, Choose, Wrap, As, To, Guard, Nack, Semicolon, Comma, OpenBrace, CloseBrace, OpenBracket, CloseBracket, Equal, Arrow}
+use Rattle.syntax.specs.Trees as trees
+use Rattle.syntax.specs.Trees.{Turn}
+use Rattle.syntax.specs.declared.tree.Name.{Name as Meaning}
+use Rattle.syntax.specs.Limits.{base_count, bases_of_all, nack_count, nacks_of_all}
+use Rattle.phrase.specs.Steps.{Told, Here, next_is, repeated}
+use Rattle.phrase.specs.declared.scope.Counts.{Counts}
+use Rattle.grammar.specs.Written as written
+use Rattle.grammar.specs.Written.{Expr, relation_symbol, terms_tokens, expr_tokens, test_tokens, others_tokens, members_tokens, list_tokens, more_names_tokens, as_tokens, received_tokens, event_tokens, events_tokens, more_events_tokens, stmt_tokens, body_tokens, block_tokens}
+use Rattle.grammar.specs.Depths.{expr_depth, list_depth, test_depth, event_depth, events_depth, stmt_depth, stmts_depth, block_depth}
+use Rattle.grammar.specs.Meaning.{Names, name_meaning, expr_meaning, test_meaning, list_meaning, bind, bind_all, bind_names, is_small, as_turn, event_meaning, events_meaning, stmt_meaning, block_meaning}
+use Rattle.grammar.specs.Laws.{at}
+use Rattle.grammar.proofs.Fronts.{accept_ok, expect_ok, is_next, no_step, one_step}
+use Rattle.grammar.proofs.Names.{part, some_is, if_else_some, name_again, bind_again, names_again}
+use Rattle.grammar.proofs.Exprs.{term_longer, terms_longer}
+use Rattle.grammar.proofs.Lists.{expr_reads, test_reads, list_reads}
+use Rattle.script.specs.Blocks.{base_at, nack_word_at, send_at, recv_at, always_at, never_at, cancelled_at, as_names_at, chain, body, ReadsEvent, ReadsBlock, ReadsTurn, member_step, members_with, choose_with, wrap_with, guard_with, nack_with, event_with, synced_with, let_at, print_at, end_at, received_with, branch_with, times_at, counted_with, forever_with, are_allowed, stmt_with, stmt_step, stmts_with, block_with, is_no_sync, as_sync, turn_rest_with, turn_with, event_at, block_at, turn_at, stmt_at}
+use Rattle.script.specs.declared.process.Loops.{Loops as Place}
+use Rattle.script.specs.declared.process.Loops.TheVariants.{Allowed, Forbidden}
+use Rattle.script.proofs.Blocking.{event_at_is, block_at_is, turn_at_is}
+
+-- WHAT IS WRITTEN IS NOT SHORTER THAN WHAT FOLLOWS
+
+expr_longer : (e : Expr) (rest : List Token) → length rest ≤ length (expr_tokens e rest)
+expr_longer e rest =
+    let a = terms_longer e.more rest in
+    let b = term_longer e.first (terms_tokens e.more rest) in
+    omega (arith, a, b)
+
+others_longer : (es : List Expr) (rest : List Token) → length rest ≤ length (others_tokens es rest)
+others_longer [] rest = omega arith
+others_longer (e ∷ es) rest =
+    let a = others_longer es rest in
+    let b = expr_longer e (others_tokens es rest) in
+    omega (arith, a, b)
+
+list_longer : (es : List Expr) (rest : List Token) → length rest ≤ length (list_tokens es rest)
+list_longer [] rest = omega arith
+list_longer (e ∷ es) rest =
+    let a = others_longer es (Fixed CloseParen ∷ rest) in
+    let b = expr_longer e (others_tokens es (Fixed CloseParen ∷ rest)) in
+    omega (arith, a, b)
+
+names_longer : (names : List (List ℕ)) (rest : List Token) → length rest ≤ length (more_names_tokens names rest)
+names_longer [] rest = omega arith
+names_longer (name ∷ names) rest = (let a = names_longer names rest in omega (arith, a))
+
+as_longer : (names : List (List ℕ)) (rest : List Token) → length rest ≤ length (as_tokens names rest)
+as_longer [] rest = omega arith
+as_longer (name ∷ names) rest = (let a = names_longer names rest in omega (arith, a))
+
+received_longer : (names : List (List ℕ)) (rest : List Token) → length rest ≤ length (received_tokens names rest)
+received_longer [] rest = omega arith
+received_longer (name ∷ names) rest = (let a = names_longer names (Fixed Arrow ∷ rest) in omega (arith, a))
+
+test_longer : (t : written.Test) (rest : List Token) → length rest ≤ length (test_tokens t rest)
+test_longer t rest =
+    let a = expr_longer t.right rest in
+    let b = expr_longer t.left (Fixed (relation_symbol t.relation) ∷ expr_tokens t.right rest) in
+    omega (arith, a, b)
+
+mutual
+  event_longer : (e : written.Event) (rest : List Token) → length rest ≤ length (event_tokens e rest)
+  event_longer (written.Send channel list) rest = (let a = list_longer list rest in omega (arith, a))
+  event_longer (written.Recv channel) rest = omega arith
+  event_longer (written.Always list) rest = (let a = list_longer list rest in omega (arith, a))
+  event_longer written.Never rest = omega arith
+  event_longer (written.Cancelled nack) rest = omega arith
+  event_longer (written.Choose written.NoEvents) rest = omega arith
+  event_longer (written.Choose (written.Events' event others)) rest =
+      let a = more_longer others (Fixed CloseBracket ∷ rest) in
+      let b = event_longer event (more_events_tokens others (Fixed CloseBracket ∷ rest)) in
+      omega (arith, a, b)
+  event_longer (written.Wrap event names list) rest =
+      let a = list_longer list rest in
+      let b = as_longer names (Fixed To ∷ list_tokens list rest) in
+      let c = event_longer event (as_tokens names (Fixed To ∷ list_tokens list rest)) in
+      omega (arith, a, b, c)
+  event_longer (written.Guard body event) rest =
+      let a = event_longer event rest in
+      let b = body_longer body (event_tokens event rest) in
+      omega (arith, a, b)
+  event_longer (written.Nack name body event) rest =
+      let a = event_longer event rest in
+      let b = body_longer body (event_tokens event rest) in
+      omega (arith, a, b)
+
+  more_longer : (es : written.Events) (rest : List Token) → length rest ≤ length (more_events_tokens es rest)
+  more_longer written.NoEvents rest = omega arith
+  more_longer (written.Events' event others) rest =
+      let a = more_longer others rest in
+      let b = event_longer event (more_events_tokens others rest) in
+      omega (arith, a, b)
+
+  stmt_longer : (s : written.Stmt) (rest : List Token) → length rest < length (stmt_tokens s rest)
+  stmt_longer (written.Let name value) rest = (let a = expr_longer value (Fixed Semicolon ∷ rest) in omega (arith, a))
+  stmt_longer (written.Print value) rest = (let a = expr_longer value (Fixed Semicolon ∷ rest) in omega (arith, a))
+  stmt_longer (written.Sync names event) rest =
+      let a = event_longer event (Fixed Semicolon ∷ rest) in
+      let b = received_longer names (Fixed Sync ∷ event_tokens event (Fixed Semicolon ∷ rest)) in
+      omega (arith, a, b)
+  stmt_longer (written.If test first second) rest =
+      let a = body_longer second rest in
+      let b = body_longer first (Fixed Else ∷ block_tokens second rest) in
+      let c = test_longer test (block_tokens first (Fixed Else ∷ block_tokens second rest)) in
+      omega (arith, a, b, c)
+  stmt_longer (written.Loop times body) rest = (let a = body_longer body rest in omega (arith, a))
+  stmt_longer (written.Forever body) rest = (let a = body_longer body rest in omega (arith, a))
+  stmt_longer written.End rest = omega arith
+
+  pub body_longer : (b : written.Block) (rest : List Token) → length rest < length (body_tokens b rest)
+  body_longer written.Done rest = omega arith
+  body_longer (written.Then stmt others) rest =
+      let a = body_longer others rest in
+      let b = stmt_longer stmt (body_tokens others rest) in
+      omega (arith, a, b)
+
+-- EVENTS
+
+-- an event that is read, and the counts behind it
+record EventAgain (room : ℕ) (ns ns' : Names) (counts : Counts) (ts : List Token) (e : trees.Event) (rest : List Token) : Type 0 where
+  after : Counts
+  reads : event_at room (at ns counts) ts ≡ Ok (e, at ns' after, rest)
+  bases : after.bases ≡ counts.bases + base_count e
+  nacks : after.nacks ≡ counts.nacks + nack_count e
+
+-- the counts leave room for so much
+record Leaves (counts : Counts) (bases nacks : ℕ) : Type 0 where
+  bases_left : counts.bases + bases ≤ 8
+  nacks_left : counts.nacks + nacks ≤ 4
+
+at_event : (room : ℕ) (ns : Names) (counts : Counts) (ts rest : List Token) (x y : trees.Event × Names) → y ≡ x → (Leaves counts (base_count y.0) (nack_count y.0) → EventAgain room ns y.1 counts ts y.0 rest)
+    → Leaves counts (base_count x.0) (nack_count x.0) → EventAgain room ns x.1 counts ts x.0 rest
+at_event room ns counts ts rest x y same f leaves =
+    subst (λ (z : trees.Event × Names). EventAgain room ns z.1 counts ts z.0 rest) same (f (subst (λ (z : trees.Event × Names). Leaves counts (base_count z.0) (nack_count z.0)) (sym same) leaves))
+
+abbrev pub one_base : Counts → Counts
+one_base counts = record { bases = counts.bases + 1; nacks = counts.nacks }
+
+abbrev one_nack : Counts → Counts
+one_nack counts = record { bases = counts.bases; nacks = counts.nacks + 1 }
+
+not_full : (limit n : ℕ) → n < limit → leb limit n ≡ false
+not_full limit n h = search (arith, tests)
+
+base_again : (room : ℕ) (word : Symbol) (ns : Names) (counts : Counts) (rest : List Token) → 0 < room → counts.bases < 8 → base_at room (at ns counts) (Fixed word ∷ rest) ≡ Ok (at ns (one_base counts), rest)
+unfolding base_at
+base_again room word ns counts rest some few = rw (not_full 8 counts.bases few, accept_ok room (Fixed word) rest some) refl
+
+nack_word_again : (room : ℕ) (ns : Names) (counts : Counts) (rest : List Token) → 0 < room → counts.nacks < 4 → nack_word_at room (at ns counts) (Fixed Nack ∷ rest) ≡ Ok (at ns (one_nack counts), rest)
+unfolding nack_word_at
+nack_word_again room ns counts rest some few = rw (not_full 4 counts.nacks few, accept_ok room (Fixed Nack) rest some) refl
+
+send_reads : (event : ReadsEvent) (block : ReadsBlock) (room : ℕ) (ns : Names) (counts : Counts) (channel : List ℕ) (list : List Expr) (c : Meaning) (l : List trees.Expr) (rest : List Token)
+    → list_depth list < room → counts.bases < 8 → name_meaning ns channel ≡ Some c → list_meaning ns list ≡ Some l
+    → event_with event block room (at ns counts) (event_tokens (written.Send channel list) rest) ≡ Ok (trees.Sends c l, at ns (one_base counts), rest)
+unfolding event_with next_is send_at
+send_reads event block room ns counts channel list c l rest deep few e f =
+    rw (base_again room Send ns counts (Name channel ∷ list_tokens list rest) (omega arith) few, name_again room ns (one_base counts) channel c (list_tokens list rest) (omega arith) e, list_reads list room ns (one_base counts) l rest deep f) refl
+
+recv_reads : (event : ReadsEvent) (block : ReadsBlock) (room : ℕ) (ns : Names) (counts : Counts) (channel : List ℕ) (c : Meaning) (rest : List Token)
+    → 0 < room → counts.bases < 8 → name_meaning ns channel ≡ Some c
+    → event_with event block room (at ns counts) (event_tokens (written.Recv channel) rest) ≡ Ok (trees.Receives c, at ns (one_base counts), rest)
+unfolding event_with next_is recv_at
+recv_reads event block room ns counts channel c rest some few e =
+    rw (base_again room Recv ns counts (Name channel ∷ rest) some few, name_again room ns (one_base counts) channel c rest some e) refl
+
+always_reads : (event : ReadsEvent) (block : ReadsBlock) (room : ℕ) (ns : Names) (counts : Counts) (list : List Expr) (l : List trees.Expr) (rest : List Token)
+    → list_depth list < room → counts.bases < 8 → list_meaning ns list ≡ Some l
+    → event_with event block room (at ns counts) (event_tokens (written.Always list) rest) ≡ Ok (trees.IsReady l, at ns (one_base counts), rest)
+unfolding event_with next_is always_at
+always_reads event block room ns counts list l rest deep few f =
+    rw (base_again room Always ns counts (list_tokens list rest) (omega arith) few, list_reads list room ns (one_base counts) l rest deep f) refl
+
+never_reads : (event : ReadsEvent) (block : ReadsBlock) (room : ℕ) (ns : Names) (counts : Counts) (rest : List Token) → 0 < room → counts.bases < 8
+    → event_with event block room (at ns counts) (event_tokens written.Never rest) ≡ Ok (trees.IsNever, at ns (one_base counts), rest)
+unfolding event_with next_is never_at
+never_reads event block room ns counts rest some few = rw (base_again room Never ns counts rest some few) refl
+
+cancelled_reads : (event : ReadsEvent) (block : ReadsBlock) (room : ℕ) (ns : Names) (counts : Counts) (nack : List ℕ) (n : Meaning) (rest : List Token)
+    → 0 < room → counts.bases < 8 → name_meaning ns nack ≡ Some n
+    → event_with event block room (at ns counts) (event_tokens (written.Cancelled nack) rest) ≡ Ok (trees.IsCancelled n, at ns (one_base counts), rest)
+unfolding event_with next_is cancelled_at
+cancelled_reads event block room ns counts nack n rest some few e =
+    rw (base_again room Cancelled ns counts (Name nack ∷ rest) some few, name_again room ns (one_base counts) nack n rest some e) refl
+
+choose_reads : (event : ReadsEvent) (block : ReadsBlock) (room : ℕ) (h h' : Here) (ts : List Token) (list : List trees.Event) (rest : List Token)
+    → 0 < room - 1 → members_with event (room - 1) h ts ≡ Ok (list, h', Fixed CloseBracket ∷ rest)
+    → event_with event block room h (Fixed Choose ∷ Fixed OpenBracket ∷ ts) ≡ Ok (trees.Chooses (chain list), h', rest)
+unfolding event_with next_is choose_with
+choose_reads event block room h h' ts list rest some e =
+    rw (accept_ok room (Fixed Choose) (Fixed OpenBracket ∷ ts) (omega arith), expect_ok room OpenBracket ts (omega arith), e, expect_ok (room - 1) CloseBracket rest some) refl
+
+as_again : (names : List (List ℕ)) (room : ℕ) (ns : Names) (counts : Counts) (b : Option (List ℕ) × Names) (rest : List Token) → 0 < room → bind_names ns names ≡ Some b
+    → as_names_at room (at ns counts) (as_tokens names (Fixed To ∷ rest)) ≡ Ok (b.0, at b.1 counts, Fixed To ∷ rest)
+unfolding as_names_at bind_names next_is
+as_again [] room ns counts b rest some e = ap (λ (y : Option (List ℕ) × Names). Ok (y.0, at y.1 counts, Fixed To ∷ rest)) (some_is _ _ e)
+as_again (text ∷ texts) room ns counts b rest some e =
+    if_else_some (leb (length texts) 2) _ b e
+    (λ few f.
+    let n = part (bind_all [] ns (text ∷ texts)) _ b f in
+    rw (accept_ok room (Fixed As) (Name text ∷ more_names_tokens texts (Fixed To ∷ rest)) some, names_again room ns counts text texts n.first (Fixed To ∷ rest) some few n.is refl)
+    (ap (λ (y : Option (List ℕ) × Names). Ok (y.0, at y.1 counts, Fixed To ∷ rest)) (some_is _ _ n.then)))
+
+wrap_reads : (event : ReadsEvent) (block : ReadsBlock) (room : ℕ) (h : Here) (ns : Names) (counts : Counts) (ts : List Token) (e : trees.Event) (names : List (List ℕ)) (b : Option (List ℕ) × Names) (list : List Expr) (l : List trees.Expr) (rest : List Token)
+    → list_depth list < room - 1 → event h ts ≡ Ok (e, at ns counts, as_tokens names (Fixed To ∷ list_tokens list rest)) → bind_names ns names ≡ Some b → list_meaning b.1 list ≡ Some l
+    → event_with event block room h (Fixed Wrap ∷ ts) ≡ Ok (trees.Wraps e b.0 l, at b.1 counts, rest)
+unfolding event_with next_is wrap_with
+wrap_reads event block room h ns counts ts e names b list l rest deep inner bound meant =
+    rw (accept_ok room (Fixed Wrap) ts (omega arith), inner, as_again names (room - 1) ns counts b (list_tokens list rest) (omega arith) bound, expect_ok (room - 1) To (list_tokens list rest) (omega arith), list_reads list (room - 1) b.1 counts l rest deep meant) refl
+
+guard_reads : (event : ReadsEvent) (block : ReadsBlock) (room : ℕ) (h h' h'' : Here) (ts ts' rest : List Token) (b : trees.Block) (e : trees.Event)
+    → 0 < room → block Forbidden h ts ≡ Ok (b, h', ts') → event h' ts' ≡ Ok (e, h'', rest)
+    → event_with event block room h (Fixed Guard ∷ ts) ≡ Ok (trees.Guards b e, h'', rest)
+unfolding event_with next_is guard_with
+guard_reads event block room h h' h'' ts ts' rest b e some first second = rw (accept_ok room (Fixed Guard) ts some, first, second) refl
+
+nack_reads : (event : ReadsEvent) (block : ReadsBlock) (room : ℕ) (ns : Names) (counts : Counts) (h' h'' : Here) (name : List ℕ) (n : ℕ × Names) (ts ts' rest : List Token) (b : trees.Block) (e : trees.Event)
+    → 0 < room - 1 → counts.nacks < 4 → bind [] ns name ≡ Some n → block Forbidden (at n.1 (one_nack counts)) ts ≡ Ok (b, h', ts') → event h' ts' ≡ Ok (e, h'', rest)
+    → event_with event block room (at ns counts) (Fixed Nack ∷ Name name ∷ ts) ≡ Ok (trees.Nacks n.0 b e, h'', rest)
+unfolding event_with next_is nack_with
+nack_reads event block room ns counts h' h'' name n ts ts' rest b e some few bound first second =
+    rw (nack_word_again room ns counts (Name name ∷ ts) (omega arith) few, bind_again (room - 1) [] ns (one_nack counts) name n ts some (omega arith) bound, first, second) refl
+
+-- members that are read behind those so far
+record MoreAgain (room : ℕ) (ns ns' : Names) (counts : Counts) (ts : List Token) (n : ℕ) (s : List trees.Event) (events : trees.Events) (rest : List Token) : Type 0 where
+  after : Counts
+  list : List trees.Event
+  reads : repeated (member_step (event_at room) room) n (s, at ns counts, ts) ≡ Ok (s ++ list, at ns' after, rest)
+  chained : chain list ≡ events
+  bases : after.bases ≡ counts.bases + bases_of_all events
+  nacks : after.nacks ≡ counts.nacks + nacks_of_all events
+
+abbrev AgainSoFar : Type 0
+AgainSoFar = List trees.Event × Here × List Token
+
+at_more : (room : ℕ) (ns : Names) (counts : Counts) (ts : List Token) (n : ℕ) (s : List trees.Event) (rest : List Token) (x y : trees.Events × Names) → y ≡ x
+    → (Leaves counts (bases_of_all y.0) (nacks_of_all y.0) → MoreAgain room ns y.1 counts ts n s y.0 rest)
+    → Leaves counts (bases_of_all x.0) (nacks_of_all x.0) → MoreAgain room ns x.1 counts ts n s x.0 rest
+at_more room ns counts ts n s rest x y same f leaves =
+    subst (λ (z : trees.Events × Names). MoreAgain room ns z.1 counts ts n s z.0 rest) same (f (subst (λ (z : trees.Events × Names). Leaves counts (bases_of_all z.0) (nacks_of_all z.0)) (sym same) leaves))
+
+no_more_step : (room : ℕ) (event : ReadsEvent) (s : List trees.Event) (h : Here) (rest : List Token) → member_step event room (s, h, Fixed CloseBracket ∷ rest) ≡ None
+unfolding next_is
+no_more_step room event s h rest = refl
+
+more_step : (room : ℕ) (event : ReadsEvent) (s : List trees.Event) (h h' : Here) (ts rest : List Token) (e : trees.Event) → 0 < room → event h ts ≡ Ok (e, h', rest)
+    → member_step event room (s, h, Fixed Comma ∷ ts) ≡ Some (Ok (s ++ e ∷ [], h', rest))
+more_step room event s h h' ts rest e some read = rw (is_next Comma ts, accept_ok room (Fixed Comma) ts some, read) refl
+
+no_bracket : (e : written.Event) (rest : List Token) → next_is CloseBracket (event_tokens e rest) ≡ false
+unfolding next_is
+no_bracket (written.Send channel list) rest = refl
+no_bracket (written.Recv channel) rest = refl
+no_bracket (written.Always list) rest = refl
+no_bracket written.Never rest = refl
+no_bracket (written.Cancelled nack) rest = refl
+no_bracket (written.Choose members) rest = refl
+no_bracket (written.Wrap event names list) rest = refl
+no_bracket (written.Guard body event) rest = refl
+no_bracket (written.Nack name body event) rest = refl
+
+no_members_read : (event : ReadsEvent) (room : ℕ) (h : Here) (rest : List Token) → members_with event room h (Fixed CloseBracket ∷ rest) ≡ Ok ([], h, Fixed CloseBracket ∷ rest)
+unfolding members_with next_is
+no_members_read event room h rest = refl
+
+members_read_from : (room : ℕ) (h h' : Here) (w : written.Event) (behind : List Token) (e : trees.Event) (y : AgainSoFar)
+    → event_at room h (event_tokens w behind) ≡ Ok (e, h', behind) → repeated (member_step (event_at room) room) (length (event_tokens w behind)) (e ∷ [], h', behind) ≡ Ok y
+    → members_with (event_at room) room h (event_tokens w behind) ≡ Ok y
+unfolding members_with
+members_read_from room h h' w behind e y first others = rw (no_bracket w behind, first) others
+
+-- STATEMENTS
+
+abbrev pub no_counts : Counts
+no_counts = record { bases = 0; nacks = 0 }
+
+synced_reads : (event : ReadsEvent) (room : ℕ) (ns ns' : Names) (counts after : Counts) (ts : List Token) (e : trees.Event) (rest : List Token)
+    → 0 < room → event (at ns no_counts) ts ≡ Ok (e, at ns' after, Fixed Semicolon ∷ rest) → synced_with event room (at ns counts) (Fixed Sync ∷ ts) ≡ Ok (e, at ns' counts, rest)
+unfolding synced_with
+synced_reads event room ns ns' counts after ts e rest some read = rw (expect_ok room Sync ts some, read, expect_ok room Semicolon rest some) refl
+
+let_reads : (event : ReadsEvent) (block : ReadsBlock) (turn : ReadsTurn) (room : ℕ) (place : Place) (ns : Names) (counts : Counts) (name : List ℕ) (value : Expr) (n : ℕ × Names) (v : trees.Expr) (rest : List Token)
+    → expr_depth value < room → bind [] ns name ≡ Some n → expr_meaning n.1 value ≡ Some v
+    → stmt_with event block turn room place (at ns counts) (stmt_tokens (written.Let name value) rest) ≡ Ok (trees.Lets n.0 v, at n.1 counts, rest)
+unfolding stmt_with next_is let_at
+let_reads event block turn room place ns counts name value n v rest deep bound meant =
+    let behind = expr_tokens value (Fixed Semicolon ∷ rest) in
+    rw (
+      accept_ok room (Fixed Let) (Name name ∷ Fixed Equal ∷ behind) (omega arith),
+      bind_again room [] ns counts name n (Fixed Equal ∷ behind) (omega arith) (omega arith) bound,
+      expect_ok room Equal behind (omega arith),
+      expr_reads value room n.1 counts v (Fixed Semicolon ∷ rest) deep meant refl,
+      expect_ok room Semicolon rest (omega arith),
+    ) refl
+
+print_reads : (event : ReadsEvent) (block : ReadsBlock) (turn : ReadsTurn) (room : ℕ) (place : Place) (ns : Names) (counts : Counts) (value : Expr) (v : trees.Expr) (rest : List Token)
+    → expr_depth value < room → expr_meaning ns value ≡ Some v
+    → stmt_with event block turn room place (at ns counts) (stmt_tokens (written.Print value) rest) ≡ Ok (trees.Prints v, at ns counts, rest)
+unfolding stmt_with next_is print_at
+print_reads event block turn room place ns counts value v rest deep meant =
+    rw (accept_ok room (Fixed Print) (expr_tokens value (Fixed Semicolon ∷ rest)) (omega arith), expr_reads value room ns counts v (Fixed Semicolon ∷ rest) deep meant refl, expect_ok room Semicolon rest (omega arith)) refl
+
+end_reads : (event : ReadsEvent) (block : ReadsBlock) (turn : ReadsTurn) (room : ℕ) (place : Place) (h : Here) (rest : List Token) → 0 < room
+    → stmt_with event block turn room place h (stmt_tokens written.End rest) ≡ Ok (trees.Ends, h, rest)
+unfolding stmt_with next_is end_at
+end_reads event block turn room place h rest some = rw (accept_ok room (Fixed End) (Fixed Semicolon ∷ rest) some, expect_ok room Semicolon rest some) refl
+
+sync_reads : (names : List (List ℕ)) (event : ReadsEvent) (block : ReadsBlock) (turn : ReadsTurn) (room : ℕ) (place : Place) (ns ns' : Names) (counts after : Counts) (b : Option (List ℕ) × Names) (ts : List Token) (e : trees.Event) (rest : List Token)
+    → 0 < room → bind_names ns names ≡ Some b → event (at b.1 no_counts) ts ≡ Ok (e, at ns' after, Fixed Semicolon ∷ rest)
+    → stmt_with event block turn room place (at ns counts) (received_tokens names (Fixed Sync ∷ ts)) ≡ Ok (trees.Syncs b.0 e, at ns' counts, rest)
+unfolding stmt_with next_is bind_names received_with
+sync_reads [] event block turn room place ns ns' counts after b ts e rest some bound read =
+    let same : (None, ns) ≡ b = some_is _ _ bound in
+    let read' : event (at ns no_counts) ts ≡ Ok (e, at ns' after, Fixed Semicolon ∷ rest) = ap (λ (y : Option (List ℕ) × Names). event (at y.1 no_counts) ts) same ∙ read in
+    rw (synced_reads event room ns ns' counts after ts e rest some read') (ap (λ (y : Option (List ℕ) × Names). Ok (trees.Syncs y.0 e, at ns' counts, rest)) same)
+sync_reads (text ∷ texts) event block turn room place ns ns' counts after b ts e rest some bound read =
+    if_else_some (leb (length texts) 2) _ b bound
+    (λ few f.
+    let n = part (bind_all [] ns (text ∷ texts)) _ b f in
+    let same : (Some n.first.0, n.first.1) ≡ b = some_is _ _ n.then in
+    let read' : event (at n.first.1 no_counts) ts ≡ Ok (e, at ns' after, Fixed Semicolon ∷ rest) = ap (λ (y : Option (List ℕ) × Names). event (at y.1 no_counts) ts) same ∙ read in
+    rw (names_again room ns counts text texts n.first (Fixed Arrow ∷ Fixed Sync ∷ ts) some few n.is refl, expect_ok room Arrow (Fixed Sync ∷ ts) some, synced_reads event room n.first.1 ns' counts after ts e rest some read')
+    (ap (λ (y : Option (List ℕ) × Names). Ok (trees.Syncs y.0 e, at ns' counts, rest)) same))
+
+branch_reads : (event : ReadsEvent) (block : ReadsBlock) (turn : ReadsTurn) (room : ℕ) (place : Place) (ns : Names) (counts : Counts) (h' h'' : Here) (test : written.Test) (t : trees.Test) (first second : written.Block) (f s : trees.Block) (rest : List Token)
+    → test_depth test < room → test_meaning ns test ≡ Some t
+    → block place (at ns counts) (block_tokens first (Fixed Else ∷ block_tokens second rest)) ≡ Ok (f, h', Fixed Else ∷ block_tokens second rest) → block place h' (block_tokens second rest) ≡ Ok (s, h'', rest)
+    → stmt_with event block turn room place (at ns counts) (stmt_tokens (written.If test first second) rest) ≡ Ok (trees.Branches t f s, h'', rest)
+unfolding stmt_with next_is branch_with
+branch_reads event block turn room place ns counts h' h'' test t first second f s rest deep meant one two =
+    let behind = block_tokens first (Fixed Else ∷ block_tokens second rest) in
+    rw (accept_ok room (Fixed If) (test_tokens test behind) (omega arith), test_reads test room ns counts t behind deep meant refl, one, expect_ok room Else (block_tokens second rest) (omega arith), two) refl
+
+counted_reads : (event : ReadsEvent) (block : ReadsBlock) (turn : ReadsTurn) (room times : ℕ) (h h' : Here) (ts : List Token) (t : Turn) (rest : List Token)
+    → 0 < room → turn (length (Fixed Loop ∷ Number times ∷ ts)) h ts ≡ Ok (t, h', rest)
+    → stmt_with event block turn room Allowed h (Fixed Loop ∷ Number times ∷ ts) ≡ Ok (trees.Loops times t.names t.event t.rest, h', rest)
+unfolding stmt_with next_is counted_with times_at
+counted_reads event block turn room times h h' ts t rest some read =
+    rw (accept_ok room (Fixed Loop) (Number times ∷ ts) some, accept_ok room (Number times) ts some, read) refl
+
+forever_reads : (event : ReadsEvent) (block : ReadsBlock) (turn : ReadsTurn) (room : ℕ) (h h' : Here) (ts : List Token) (t : Turn) (rest : List Token)
+    → 0 < room → turn (length (Fixed Forever ∷ ts)) h ts ≡ Ok (t, h', rest)
+    → stmt_with event block turn room Allowed h (Fixed Forever ∷ ts) ≡ Ok (trees.LoopsForever t.names t.event t.rest, h', rest)
+unfolding stmt_with next_is forever_with
+forever_reads event block turn room h h' ts t rest some read = rw (accept_ok room (Fixed Forever) ts some, read) refl
+
+-- BLOCKS
+
+no_brace : (s : written.Stmt) (rest : List Token) → next_is CloseBrace (stmt_tokens s rest) ≡ false
+unfolding next_is
+no_brace (written.Let name value) rest = refl
+no_brace (written.Print value) rest = refl
+no_brace (written.Sync [] event) rest = refl
+no_brace (written.Sync (name ∷ names) event) rest = refl
+no_brace (written.If test first second) rest = refl
+no_brace (written.Loop times body) rest = refl
+no_brace (written.Forever body) rest = refl
+no_brace written.End rest = refl
+
+stmt_steps : (room : ℕ) (place : Place) (s : List trees.Stmt) (h h' : Here) (w : written.Stmt) (behind : List Token) (x : trees.Stmt) → stmt_at room place h (stmt_tokens w behind) ≡ Ok (x, h', behind)
+    → stmt_step (stmt_at room) place (s, h, stmt_tokens w behind) ≡ Some (Ok (s ++ x ∷ [], h', behind))
+stmt_steps room place s h h' w behind x read = rw (no_brace w behind, read) refl
+
+last_step : (room : ℕ) (place : Place) (s : List trees.Stmt) (h : Here) (rest : List Token) → stmt_step (stmt_at room) place (s, h, Fixed CloseBrace ∷ rest) ≡ None
+last_step room place s h rest = rw (is_next CloseBrace rest) refl
+
+-- statements that are read behind those so far
+record BodyAgain (room : ℕ) (place : Place) (ns ns' : Names) (counts : Counts) (ts : List Token) (n : ℕ) (s : List trees.Stmt) (b : trees.Block) (rest : List Token) : Type 0 where
+  list : List trees.Stmt
+  reads : repeated (stmt_step (stmt_at room) place) n (s, at ns counts, ts) ≡ Ok (s ++ list, at ns' counts, Fixed CloseBrace ∷ rest)
+  bodied : body list ≡ b
+
+block_reads : (room : ℕ) (place : Place) (ns ns' : Names) (counts : Counts) (w : written.Block) (b : trees.Block) (rest : List Token) → 0 < room - 1
+    → BodyAgain (room - 1) place ns ns' counts (body_tokens w rest) (length (body_tokens w rest)) [] b rest
+    → block_at room place (at ns counts) (block_tokens w rest) ≡ Ok (b, at ns' counts, rest)
+unfolding block_with stmts_with
+block_reads room place ns ns' counts w b rest some inner =
+    block_at_is room place (at ns counts) (block_tokens w rest) ∙
+    rw (expect_ok room OpenBrace (body_tokens w rest) (omega arith), inner.reads, expect_ok (room - 1) CloseBrace rest some) (ap (λ (y : trees.Block). Ok (y, at ns' counts, rest)) inner.bodied)
+
+-- a sync that a turn begins with
+record TurnParts (s : trees.Stmt) (b : trees.Block) (t : Turn) : Type 0 where
+  sync : Option (List ℕ) × trees.Event
+  is : as_sync s ≡ Some sync
+  whole : ◌≡◌ {A = Turn} (record { names = sync.0; event = sync.1; rest = b }) t
+
+turn_parts : (s : trees.Stmt) (b : trees.Block) (t : Turn) → as_turn (trees.Runs s b) ≡ Some t → TurnParts s b t
+turn_parts (trees.Syncs names event) b t e = record { sync = (names, event); is = refl; whole = some_is _ _ e }
+turn_parts (trees.Lets name value) b t e = absurd cc
+turn_parts (trees.Prints value) b t e = absurd cc
+turn_parts (trees.Branches test first second) b t e = absurd cc
+turn_parts (trees.Loops times names event rest) b t e = absurd cc
+turn_parts (trees.LoopsForever names event rest) b t e = absurd cc
+turn_parts trees.Ends b t e = absurd cc
+
+-- what means a sync begins with one
+begins_with_sync : (w : written.Stmt) (ns : Names) (x : trees.Stmt × Names) (sync : Option (List ℕ) × trees.Event) (rest : List Token) → stmt_meaning true ns w ≡ Some x → as_sync x.0 ≡ Some sync → is_no_sync (stmt_tokens w rest) ≡ false
+unfolding stmt_meaning is_no_sync next_is
+begins_with_sync (written.Sync [] event) ns x sync rest e f = refl
+begins_with_sync (written.Sync (name ∷ names) event) ns x sync rest e f = refl
+begins_with_sync (written.Let name value) ns x sync rest e f =
+    let n = part (bind [] ns name) _ x e in
+    let v = part (expr_meaning n.first.1 value) _ x n.then in
+    let same : None ≡ Some sync = ap (λ (y : trees.Stmt × Names). as_sync y.0) (some_is _ _ v.then) ∙ f in absurd cc
+begins_with_sync (written.Print value) ns x sync rest e f =
+    let v = part (expr_meaning ns value) _ x e in
+    let same : None ≡ Some sync = ap (λ (y : trees.Stmt × Names). as_sync y.0) (some_is _ _ v.then) ∙ f in absurd cc
+begins_with_sync (written.If test first second) ns x sync rest e f =
+    let t = part (test_meaning ns test) _ x e in
+    let a = part (block_meaning true ns first) _ x t.then in
+    let b = part (block_meaning true a.first.1 second) _ x a.then in
+    let same : None ≡ Some sync = ap (λ (y : trees.Stmt × Names). as_sync y.0) (some_is _ _ b.then) ∙ f in absurd cc
+begins_with_sync (written.Loop times body) ns x sync rest e f =
+    let b = part (block_meaning true ns body) _ x e in
+    let t = part (as_turn b.first.0) _ x b.then in
+    let same : None ≡ Some sync = ap (λ (y : trees.Stmt × Names). as_sync y.0) (some_is _ _ t.then) ∙ f in absurd cc
+begins_with_sync (written.Forever body) ns x sync rest e f =
+    let b = part (block_meaning true ns body) _ x e in
+    let t = part (as_turn b.first.0) _ x b.then in
+    let same : None ≡ Some sync = ap (λ (y : trees.Stmt × Names). as_sync y.0) (some_is _ _ t.then) ∙ f in absurd cc
+begins_with_sync written.End ns x sync rest e f =
+    let same : None ≡ Some sync = ap (λ (y : trees.Stmt × Names). as_sync y.0) (some_is _ _ e) ∙ f in absurd cc
+
+turn_reads : (room word : ℕ) (ns ns' ns'' : Names) (counts : Counts) (w : written.Stmt) (others : written.Block) (s : trees.Stmt) (b : trees.Block) (t : Turn) (rest : List Token) → 0 < room - 1
+    → stmt_meaning true ns w ≡ Some (s, ns') → TurnParts s b t
+    → stmt_at (room - 1) Allowed (at ns counts) (stmt_tokens w (body_tokens others rest)) ≡ Ok (s, at ns' counts, body_tokens others rest)
+    → BodyAgain (room - 1) Allowed ns' ns'' counts (body_tokens others rest) (length (body_tokens others rest)) [] b rest
+    → turn_at room word (at ns counts) (block_tokens (written.Then w others) rest) ≡ Ok (t, at ns'' counts, rest)
+unfolding turn_with turn_rest_with stmts_with
+turn_reads room word ns ns' ns'' counts w others s b t rest some meant parts first inner =
+    let behind = body_tokens others rest in
+    turn_at_is room word (at ns counts) (block_tokens (written.Then w others) rest) ∙
+    rw (expect_ok room OpenBrace (stmt_tokens w behind) (omega arith), begins_with_sync w ns (s, ns') parts.sync behind meant parts.is, first, parts.is, inner.reads, expect_ok (room - 1) CloseBrace rest some)
+    (ap (λ (y : trees.Block). Ok (record { names = parts.sync.0; event = parts.sync.1; rest = y }, at ns'' counts, rest)) inner.bodied ∙ ap (λ (y : Turn). Ok (y, at ns'' counts, rest)) parts.whole)
+
+-- a small event fits where nothing is counted yet
+small_leaves : (e : trees.Event) → is_small e ≡ true → Leaves no_counts (base_count e) (nack_count e)
+small_leaves e h =
+    let n = base_count e in
+    let m = nack_count e in
+    let both = and_parts (leb n 8) (leb m 4) h in
+    let few_bases : n ≤ 8 = at_most n 8 both.0 in
+    let few_nacks : m ≤ 4 = at_most m 4 both.1 in
+    record { bases_left = omega arith; nacks_left = omega arith }
+  where
+    at_most : (a b : ℕ) → leb a b ≡ true → a ≤ b
+    at_most a b e = grind (arith, nat_tests)
+
+le_self : (n : ℕ) → n ≤ n
+le_self n = omega arith
+
+stmt_at_is : (room : ℕ) (place : Place) (h : Here) (ts : List Token) → stmt_at room place h ts ≡ stmt_with (event_at room) (block_at room) (turn_at room) room place h ts
+unfolding stmt_at
+stmt_at_is room place h ts = refl
+
+with_counts : (counts : Counts) (rest : List Token) (y x : trees.Stmt × Names) → y ≡ x → ◌≡◌ {A = Result (trees.Stmt × Here × List Token) Told} (Ok (y.0, at y.1 counts, rest)) (Ok (x.0, at x.1 counts, rest))
+with_counts counts rest y x e = ap (λ (z : trees.Stmt × Names). Ok (z.0, at z.1 counts, rest)) e
+
+mutual
+  unfolding event_meaning events_meaning stmt_meaning block_meaning
+
+  event_again : (w : written.Event) (room : ℕ) (ns : Names) (counts : Counts) (x : trees.Event × Names) (rest : List Token) → event_depth w < room → event_meaning ns w ≡ Some x → Leaves counts (base_count x.0) (nack_count x.0)
+      → EventAgain room ns x.1 counts (event_tokens w rest) x.0 rest
+  event_again (written.Send channel list) room ns counts x rest deep e leaves =
+      let c = part (name_meaning ns channel) _ x e in
+      let l = part (list_meaning ns list) _ x c.then in
+      at_event room ns counts _ rest x _ (some_is _ _ l.then) (λ fits. record {
+        after = one_base counts;
+        reads = event_at_is room (at ns counts) (event_tokens (written.Send channel list) rest) ∙ send_reads _ _ room ns counts channel list c.first l.first rest deep (omega (arith, fits.bases_left)) c.is l.is;
+        bases = refl;
+        nacks = omega arith;
+      }) leaves
+  event_again (written.Recv channel) room ns counts x rest deep e leaves =
+      let c = part (name_meaning ns channel) _ x e in
+      at_event room ns counts _ rest x _ (some_is _ _ c.then) (λ fits. record {
+        after = one_base counts;
+        reads = event_at_is room (at ns counts) (event_tokens (written.Recv channel) rest) ∙ recv_reads _ _ room ns counts channel c.first rest deep (omega (arith, fits.bases_left)) c.is;
+        bases = refl;
+        nacks = omega arith;
+      }) leaves
+  event_again (written.Always list) room ns counts x rest deep e leaves =
+      let l = part (list_meaning ns list) _ x e in
+      at_event room ns counts _ rest x _ (some_is _ _ l.then) (λ fits. record {
+        after = one_base counts;
+        reads = event_at_is room (at ns counts) (event_tokens (written.Always list) rest) ∙ always_reads _ _ room ns counts list l.first rest deep (omega (arith, fits.bases_left)) l.is;
+        bases = refl;
+        nacks = omega arith;
+      }) leaves
+  event_again written.Never room ns counts x rest deep e leaves =
+      at_event room ns counts _ rest x _ (some_is _ _ e) (λ fits. record {
+        after = one_base counts;
+        reads = event_at_is room (at ns counts) (event_tokens written.Never rest) ∙ never_reads _ _ room ns counts rest deep (omega (arith, fits.bases_left));
+        bases = refl;
+        nacks = omega arith;
+      }) leaves
+  event_again (written.Cancelled nack) room ns counts x rest deep e leaves =
+      let n = part (name_meaning ns nack) _ x e in
+      at_event room ns counts _ rest x _ (some_is _ _ n.then) (λ fits. record {
+        after = one_base counts;
+        reads = event_at_is room (at ns counts) (event_tokens (written.Cancelled nack) rest) ∙ cancelled_reads _ _ room ns counts nack n.first rest deep (omega (arith, fits.bases_left)) n.is;
+        bases = refl;
+        nacks = omega arith;
+      }) leaves
+  event_again (written.Choose written.NoEvents) room ns counts x rest deep e leaves =
+      at_event room ns counts _ rest x _ (some_is _ _ e) (λ fits. record {
+        after = counts;
+        reads = event_at_is room (at ns counts) (event_tokens (written.Choose written.NoEvents) rest) ∙ choose_reads _ _ room (at ns counts) (at ns counts) (Fixed CloseBracket ∷ rest) [] rest (omega (arith, deep)) (no_members_read _ (room - 1) (at ns counts) rest);
+        bases = omega arith;
+        nacks = omega arith;
+      }) leaves
+  event_again (written.Choose (written.Events' first others)) room ns counts x rest deep e leaves =
+      let m = part (events_meaning ns (written.Events' first others)) _ x e in
+      let a = part (event_meaning ns first) _ m.first m.is in
+      let b = part (events_meaning a.first.1 others) _ m.first a.then in
+      let whole : (trees.Chooses (trees.Members a.first.0 b.first.0), b.first.1) ≡ x = ap (λ (y : trees.Events × Names). (trees.Chooses y.0, y.1)) (some_is _ _ b.then) ∙ some_is _ _ m.then in
+      at_event room ns counts _ rest x _ whole (λ fits.
+      let close = Fixed CloseBracket ∷ rest in
+      let behind = more_events_tokens others close in
+      let one = event_again first (room - 1) ns counts a.first behind (omega (arith, deep)) a.is (record { bases_left = omega (arith, fits.bases_left); nacks_left = omega (arith, fits.nacks_left) }) in
+      let more = more_again others (room - 1) a.first.1 one.after b.first (length (event_tokens first behind)) (a.first.0 ∷ []) rest (omega (arith, deep)) b.is
+      (record { bases_left = omega (arith, fits.bases_left, one.bases); nacks_left = omega (arith, fits.nacks_left, one.nacks) }) (event_longer first behind) in
+      let members = members_read_from (room - 1) (at ns counts) (at a.first.1 one.after) first behind a.first.0 (a.first.0 ∷ more.list, at b.first.1 more.after, close) one.reads more.reads in
+      record {
+        after = more.after;
+        reads = event_at_is room (at ns counts) (event_tokens (written.Choose (written.Events' first others)) rest) ∙
+            choose_reads _ _ room (at ns counts) (at b.first.1 more.after) (event_tokens first behind) (a.first.0 ∷ more.list) rest (omega (arith, deep)) members ∙
+            ap (λ (y : trees.Events). Ok (trees.Chooses (trees.Members a.first.0 y), at b.first.1 more.after, rest)) more.chained;
+        bases = omega (arith, one.bases, more.bases);
+        nacks = omega (arith, one.nacks, more.nacks);
+      }) leaves
+  event_again (written.Wrap event names list) room ns counts x rest deep e leaves =
+      let a = part (event_meaning ns event) _ x e in
+      let b = part (bind_names a.first.1 names) _ x a.then in
+      let l = part (list_meaning b.first.1 list) _ x b.then in
+      at_event room ns counts _ rest x _ (some_is _ _ l.then) (λ fits.
+      let behind = as_tokens names (Fixed To ∷ list_tokens list rest) in
+      let one = event_again event (room - 1) ns counts a.first behind (omega (arith, deep)) a.is (record { bases_left = fits.bases_left; nacks_left = fits.nacks_left }) in
+      record {
+        after = one.after;
+        reads = event_at_is room (at ns counts) (event_tokens (written.Wrap event names list) rest) ∙
+            wrap_reads _ _ room (at ns counts) a.first.1 one.after (event_tokens event behind) a.first.0 names b.first list l.first rest (omega (arith, deep)) one.reads b.is l.is;
+        bases = one.bases;
+        nacks = one.nacks;
+      }) leaves
+  event_again (written.Guard body event) room ns counts x rest deep e leaves =
+      let b = part (block_meaning false ns body) _ x e in
+      let a = part (event_meaning b.first.1 event) _ x b.then in
+      at_event room ns counts _ rest x _ (some_is _ _ a.then) (λ fits.
+      let behind = event_tokens event rest in
+      let block = block_reads (room - 1) Forbidden ns b.first.1 counts body b.first.0 behind (omega (arith, deep)) (body_again body (room - 1 - 1) Forbidden ns counts b.first (length (body_tokens body behind)) [] behind (omega (arith, deep)) b.is (le_self (length (body_tokens body behind)))) in
+      let one = event_again event (room - 1) b.first.1 counts a.first rest (omega (arith, deep)) a.is (record { bases_left = fits.bases_left; nacks_left = fits.nacks_left }) in
+      record {
+        after = one.after;
+        reads = event_at_is room (at ns counts) (event_tokens (written.Guard body event) rest) ∙ guard_reads _ _ room (at ns counts) (at b.first.1 counts) (at a.first.1 one.after) (block_tokens body behind) behind rest b.first.0 a.first.0 (omega (arith, deep)) block one.reads;
+        bases = one.bases;
+        nacks = one.nacks;
+      }) leaves
+  event_again (written.Nack name body event) room ns counts x rest deep e leaves =
+      let n = part (bind [] ns name) _ x e in
+      let b = part (block_meaning false n.first.1 body) _ x n.then in
+      let a = part (event_meaning b.first.1 event) _ x b.then in
+      at_event room ns counts _ rest x _ (some_is _ _ a.then) (λ fits.
+      let behind = event_tokens event rest in
+      let block = block_reads (room - 1) Forbidden n.first.1 b.first.1 (one_nack counts) body b.first.0 behind (omega (arith, deep)) (body_again body (room - 1 - 1) Forbidden n.first.1 (one_nack counts) b.first (length (body_tokens body behind)) [] behind (omega (arith, deep)) b.is (le_self (length (body_tokens body behind)))) in
+      let one = event_again event (room - 1) b.first.1 (one_nack counts) a.first rest (omega (arith, deep)) a.is (record { bases_left = omega (arith, fits.bases_left); nacks_left = omega (arith, fits.nacks_left) }) in
+      record {
+        after = one.after;
+        reads = event_at_is room (at ns counts) (event_tokens (written.Nack name body event) rest) ∙
+            nack_reads _ _ room ns counts (at b.first.1 (one_nack counts)) (at a.first.1 one.after) name n.first (block_tokens body behind) behind rest b.first.0 a.first.0 (omega (arith, deep)) (omega (arith, fits.nacks_left)) n.is block one.reads;
+        bases = omega (arith, one.bases);
+        nacks = omega (arith, one.nacks);
+      }) leaves
+
+  more_again : (w : written.Events) (room : ℕ) (ns : Names) (counts : Counts) (x : trees.Events × Names) (n : ℕ) (s : List trees.Event) (rest : List Token) → events_depth w < room → events_meaning ns w ≡ Some x → Leaves counts (bases_of_all x.0) (nacks_of_all x.0)
+      → length (more_events_tokens w (Fixed CloseBracket ∷ rest)) ≤ n → MoreAgain room ns x.1 counts (more_events_tokens w (Fixed CloseBracket ∷ rest)) n s x.0 (Fixed CloseBracket ∷ rest)
+  more_again written.NoEvents room ns counts x n s rest deep e leaves fuel =
+      at_more room ns counts _ n s _ x _ (some_is _ _ e) (λ fits. record {
+        after = counts;
+        list = [];
+        reads = no_step (member_step (event_at room) room) n _ (no_more_step room (event_at room) s (at ns counts) rest) ∙ ap (λ (y : List trees.Event). Ok (y, at ns counts, Fixed CloseBracket ∷ rest)) (sym (append-nil s));
+        chained = refl;
+        bases = omega arith;
+        nacks = omega arith;
+      }) leaves
+  more_again (written.Events' first others) room ns counts x zero s rest deep e leaves fuel = absurd (omega (arith, fuel))
+  more_again (written.Events' first others) room ns counts x (suc n) s rest deep e leaves fuel =
+      let a = part (event_meaning ns first) _ x e in
+      let b = part (events_meaning a.first.1 others) _ x a.then in
+      at_more room ns counts _ (suc n) s _ x _ (some_is _ _ b.then) (λ fits.
+      let close = Fixed CloseBracket ∷ rest in
+      let behind = more_events_tokens others close in
+      let one = event_again first room ns counts a.first behind (omega (arith, deep)) a.is (record { bases_left = omega (arith, fits.bases_left); nacks_left = omega (arith, fits.nacks_left) }) in
+      let more = more_again others room a.first.1 one.after b.first n (s ++ a.first.0 ∷ []) rest (omega (arith, deep)) b.is
+      (record { bases_left = omega (arith, fits.bases_left, one.bases); nacks_left = omega (arith, fits.nacks_left, one.nacks) }) (omega (arith, fuel, event_longer first behind)) in
+      let step = more_step room (event_at room) s (at ns counts) (at a.first.1 one.after) (event_tokens first behind) behind a.first.0 (omega (arith, deep)) one.reads in
+      record {
+        after = more.after;
+        list = a.first.0 ∷ more.list;
+        reads = one_step (member_step (event_at room) room) n _ _ _ step (more.reads ∙ ap (λ (y : List trees.Event). Ok (y, at b.first.1 more.after, close)) (append_assoc s (a.first.0 ∷ []) more.list));
+        chained = ap (trees.Members a.first.0) more.chained;
+        bases = omega (arith, one.bases, more.bases);
+        nacks = omega (arith, one.nacks, more.nacks);
+      }) leaves
+
+  stmt_again : (w : written.Stmt) (room : ℕ) (place : Place) (ns : Names) (counts : Counts) (x : trees.Stmt × Names) (rest : List Token) → stmt_depth w < room → stmt_meaning (are_allowed place) ns w ≡ Some x
+      → stmt_at room place (at ns counts) (stmt_tokens w rest) ≡ Ok (x.0, at x.1 counts, rest)
+  stmt_again (written.Let name value) room place ns counts x rest deep e =
+      let n = part (bind [] ns name) _ x e in
+      let v = part (expr_meaning n.first.1 value) _ x n.then in
+      stmt_at_is room place (at ns counts) (stmt_tokens (written.Let name value) rest) ∙ let_reads _ _ _ room place ns counts name value n.first v.first rest deep n.is v.is ∙ with_counts counts rest _ x (some_is _ _ v.then)
+  stmt_again (written.Print value) room place ns counts x rest deep e =
+      let v = part (expr_meaning ns value) _ x e in
+      stmt_at_is room place (at ns counts) (stmt_tokens (written.Print value) rest) ∙ print_reads _ _ _ room place ns counts value v.first rest deep v.is ∙ with_counts counts rest _ x (some_is _ _ v.then)
+  stmt_again (written.Sync names event) room place ns counts x rest deep e =
+      let b = part (bind_names ns names) _ x e in
+      let a = part (event_meaning b.first.1 event) _ x b.then in
+      if_else_some (is_small a.first.0) _ x a.then (λ small f.
+      let close = Fixed Semicolon ∷ rest in
+      let one = event_again event room b.first.1 no_counts a.first close deep a.is (small_leaves a.first.0 small) in
+      stmt_at_is room place (at ns counts) (stmt_tokens (written.Sync names event) rest) ∙
+      sync_reads names _ _ _ room place ns a.first.1 counts one.after b.first (event_tokens event close) a.first.0 rest (omega (arith, deep)) b.is one.reads ∙ with_counts counts rest _ x (some_is _ _ f))
+  stmt_again (written.If test first second) room place ns counts x rest deep e =
+      let t = part (test_meaning ns test) _ x e in
+      let a = part (block_meaning (are_allowed place) ns first) _ x t.then in
+      let b = part (block_meaning (are_allowed place) a.first.1 second) _ x a.then in
+      let behind = Fixed Else ∷ block_tokens second rest in
+      let one = block_reads room place ns a.first.1 counts first a.first.0 behind (omega (arith, deep)) (body_again first (room - 1) place ns counts a.first (length (body_tokens first behind)) [] behind (omega (arith, deep)) a.is (le_self (length (body_tokens first behind)))) in
+      let two = block_reads room place a.first.1 b.first.1 counts second b.first.0 rest (omega (arith, deep)) (body_again second (room - 1) place a.first.1 counts b.first (length (body_tokens second rest)) [] rest (omega (arith, deep)) b.is (le_self (length (body_tokens second rest)))) in
+      stmt_at_is room place (at ns counts) (stmt_tokens (written.If test first second) rest) ∙
+      branch_reads _ _ _ room place ns counts (at a.first.1 counts) (at b.first.1 counts) test t.first first second a.first.0 b.first.0 rest (omega (arith, deep)) t.is one two ∙ with_counts counts rest _ x (some_is _ _ b.then)
+  stmt_again (written.Loop times body) room Forbidden ns counts x rest deep e = absurd cc
+  stmt_again (written.Loop times body) room Allowed ns counts x rest deep e =
+      let b = part (block_meaning true ns body) _ x e in
+      let t = part (as_turn b.first.0) _ x b.then in
+      let turn = turn_again body room (length (Fixed Loop ∷ Number times ∷ block_tokens body rest)) ns counts b.first t.first rest deep b.is t.is in
+      stmt_at_is room Allowed (at ns counts) (stmt_tokens (written.Loop times body) rest) ∙ counted_reads _ _ _ room times (at ns counts) (at b.first.1 counts) (block_tokens body rest) t.first rest (omega (arith, deep)) turn ∙ with_counts counts rest _ x (some_is _ _ t.then)
+  stmt_again (written.Forever body) room Forbidden ns counts x rest deep e = absurd cc
+  stmt_again (written.Forever body) room Allowed ns counts x rest deep e =
+      let b = part (block_meaning true ns body) _ x e in
+      let t = part (as_turn b.first.0) _ x b.then in
+      let turn = turn_again body room (length (Fixed Forever ∷ block_tokens body rest)) ns counts b.first t.first rest deep b.is t.is in
+      stmt_at_is room Allowed (at ns counts) (stmt_tokens (written.Forever body) rest) ∙ forever_reads _ _ _ room (at ns counts) (at b.first.1 counts) (block_tokens body rest) t.first rest (omega (arith, deep)) turn ∙ with_counts counts rest _ x (some_is _ _ t.then)
+  stmt_again written.End room place ns counts x rest deep e =
+      stmt_at_is room place (at ns counts) (stmt_tokens written.End rest) ∙ end_reads _ _ _ room place (at ns counts) rest deep ∙ with_counts counts rest _ x (some_is _ _ e)
+
+  turn_again : (w : written.Block) (room word : ℕ) (ns : Names) (counts : Counts) (b : trees.Block × Names) (t : Turn) (rest : List Token) → block_depth w < room → block_meaning true ns w ≡ Some b → as_turn b.0 ≡ Some t
+      → turn_at room word (at ns counts) (block_tokens w rest) ≡ Ok (t, at b.1 counts, rest)
+  turn_again written.Done room word ns counts b t rest deep e f =
+      let none : None ≡ Some t = ap (λ (y : trees.Block × Names). as_turn y.0) (some_is _ _ e) ∙ f in absurd cc
+  turn_again (written.Then w others) room word ns counts b t rest deep e f =
+      let s = part (stmt_meaning true ns w) _ b e in
+      let o = part (block_meaning true s.first.1 others) _ b s.then in
+      let same : (trees.Runs s.first.0 o.first.0, o.first.1) ≡ b = some_is _ _ o.then in
+      let parts = turn_parts s.first.0 o.first.0 t (ap (λ (y : trees.Block × Names). as_turn y.0) same ∙ f) in
+      let behind = body_tokens others rest in
+      let first = stmt_again w (room - 1) Allowed ns counts s.first behind (omega (arith, deep)) s.is in
+      let inner = body_again others (room - 1) Allowed s.first.1 counts o.first (length behind) [] rest (omega (arith, deep)) o.is (le_self (length behind)) in
+      turn_reads room word ns s.first.1 o.first.1 counts w others s.first.0 o.first.0 t rest (omega (arith, deep)) s.is parts first inner ∙ ap (λ (y : trees.Block × Names). Ok (t, at y.1 counts, rest)) same
+
+  body_again : (w : written.Block) (room : ℕ) (place : Place) (ns : Names) (counts : Counts) (x : trees.Block × Names) (n : ℕ) (s : List trees.Stmt) (rest : List Token) → stmts_depth w < room → block_meaning (are_allowed place) ns w ≡ Some x
+      → length (body_tokens w rest) ≤ n → BodyAgain room place ns x.1 counts (body_tokens w rest) n s x.0 rest
+  body_again written.Done room place ns counts x n s rest deep e fuel =
+      subst (λ (y : trees.Block × Names). BodyAgain room place ns y.1 counts (Fixed CloseBrace ∷ rest) n s y.0 rest) (some_is _ _ e) (record {
+        list = [];
+        reads = no_step (stmt_step (stmt_at room) place) n _ (last_step room place s (at ns counts) rest) ∙ ap (λ (y : List trees.Stmt). Ok (y, at ns counts, Fixed CloseBrace ∷ rest)) (sym (append-nil s));
+        bodied = refl;
+      })
+  body_again (written.Then w others) room place ns counts x zero s rest deep e fuel = absurd (omega (arith, fuel, stmt_longer w (body_tokens others rest)))
+  body_again (written.Then w others) room place ns counts x (suc n) s rest deep e fuel =
+      let a = part (stmt_meaning (are_allowed place) ns w) _ x e in
+      let b = part (block_meaning (are_allowed place) a.first.1 others) _ x a.then in
+      let behind = body_tokens others rest in
+      let first = stmt_again w room place ns counts a.first behind (omega (arith, deep)) a.is in
+      let more = body_again others room place a.first.1 counts b.first n (s ++ a.first.0 ∷ []) rest (omega (arith, deep)) b.is (omega (arith, fuel, stmt_longer w behind)) in
+      let step = stmt_steps room place s (at ns counts) (at a.first.1 counts) w behind a.first.0 first in
+      subst (λ (y : trees.Block × Names). BodyAgain room place ns y.1 counts (body_tokens (written.Then w others) rest) (suc n) s y.0 rest) (some_is _ _ b.then) (record {
+        list = a.first.0 ∷ more.list;
+        reads = one_step (stmt_step (stmt_at room) place) n _ _ _ step (more.reads ∙ ap (λ (y : List trees.Stmt). Ok (y, at b.first.1 counts, Fixed CloseBrace ∷ rest)) (append_assoc s (a.first.0 ∷ []) more.list));
+        bodied = ap (trees.Runs a.first.0) more.bodied;
+      })
+
+-- the block of a process
+pub block_again : (w : written.Block) (ns : Names) (counts : Counts) (x : trees.Block × Names) (rest : List Token) → block_depth w < 49 → block_meaning true ns w ≡ Some x → block_at 49 Allowed (at ns counts) (block_tokens w rest) ≡ Ok (x.0, at x.1 counts, rest)
+block_again w ns counts x rest deep e =
+    block_reads 49 Allowed ns x.1 counts w x.0 rest (omega arith) (body_again w 48 Allowed ns counts x (length (body_tokens w rest)) [] rest (omega (arith, deep)) e (le_self (length (body_tokens w rest))))

@@ -1,0 +1,5 @@
+pub mod Lists
+pub mod Canonical
+pub mod Lexing
+pub mod Plainly
+pub mod PlainTrees

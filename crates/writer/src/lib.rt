@@ -1,0 +1,23 @@
+//! The canonical text of scripts.
+//!
+//! `names` writes names, expressions and lists (`exprs`), events and statements (`process`), and whole
+//! scripts (`writing`), each behind what is written already. Lists of terms, members and statements are
+//! written by loops, so that only depth takes stack.
+//!
+//! Proved:
+//! - `write` gives `Canon` of its script: the tokens of what is written plainly, with names in place of
+//!   numbers and parentheses only round a right operand that is itself a sum.
+//! - The canonical text of a script that some text spells, spells it; it is read as it, where it has at
+//!   most 65,536 bytes; and no other script has it (`writing_laws`).
+//! - Each call ends, by the size of the tree that it goes down.
+#![tactic(auto)]
+
+mod exprs;
+mod names;
+mod process;
+mod writing;
+
+pub use writing::{write, writing_laws};
+
+#[cfg(test)]
+mod tests;
