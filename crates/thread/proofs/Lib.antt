@@ -1,0 +1,3 @@
+pub mod Binding
+pub mod Taking
+pub mod Choices

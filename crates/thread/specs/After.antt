@@ -125,6 +125,9 @@ nack_in (Nack n) = Ok n
 abbrev pub channel_value : Store → Name → Result ℕ Fault
 channel_value store name = name_value store name >>> channel_in
 
+abbrev pub nack_value : Store → Name → Result NackName Fault
+nack_value store name = name_value store name >>> nack_in
+
 abbrev pub send_value : Store → Name → List Expr → Result Base Fault
 send_value store channel list = channel_value store channel >>> λ c. list_value store list >>> λ m. Ok (Send c m)
 
@@ -135,7 +138,7 @@ abbrev pub always_value : Store → List Expr → Result Base Fault
 always_value store list = list_value store list >>> λ m. Ok (Always m)
 
 abbrev pub cancelled_value : Store → Name → Result Base Fault
-cancelled_value store name = name_value store name >>> nack_in >>> λ n. Ok (OnNack n)
+cancelled_value store name = nack_value store name >>> λ n. Ok (OnNack n)
 
 abbrev pub formed : List Wrapping → State → Base → Outcome Formed
 formed wraps s base = Goes (record { tree = Single base; wraps = wraps; state = s })

@@ -1,3 +1,6 @@
 pub mod Values
 pub mod Memories
 pub mod After
+pub mod Plans
+pub mod Fitting
+pub mod Reaches

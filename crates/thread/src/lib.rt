@@ -1,8 +1,15 @@
 //! Suspended machines: a process runs from one sync to the next.
 #![tactic(auto)]
 
+mod commit;
+mod machine;
 mod memory;
+mod plan;
+mod resolving;
+mod statement;
 mod value;
+
+pub use machine::{Machine, Turn};
 
 /// Why a thread stopped before the end of its process.
 #[derive(Clone, Copy, Debug, PartialEq, Eq)]
