@@ -1,3 +1,4 @@
 pub mod Binding
 pub mod Taking
 pub mod Choices
+pub mod Commits

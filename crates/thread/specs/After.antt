@@ -50,6 +50,9 @@ given s (Err fault) = Fails fault s.printed s.left
 
 -- COMMITS
 
+abbrev pub with_variable : ℕ → Atom → State → State
+with_variable name atom s = record s { store = with_atom name atom s.store }
+
 abbrev pub received : Option (List ℕ) → Message → State → Outcome State
 received names message s = given s (with_names names message s.store) >>= λ store. Goes (record s { store = store })
 
@@ -148,7 +151,7 @@ abbrev pub with_nack : ℕ → State → Outcome State
 with_nack name s =
     if nat_le 64 s.nacks
     then Fails Range s.printed s.left
-    else Goes (record s { store = with_atom name (Nack (record { thread = s.thread; k = s.nacks })) s.store; nacks = s.nacks + 1 })
+    else Goes (with_variable name (Nack (record { thread = s.thread; k = s.nacks })) (record s { nacks = s.nacks + 1 }))
 
 abbrev pub as_wrap : ℕ → Formed → Outcome Formed
 as_wrap number f = Goes (record f { tree = Wrap number f.tree })
@@ -168,7 +171,7 @@ abbrev mutual
 
   pub run_stmt : Stmt → State → Outcome State
   run_stmt (Lets name value) s =
-      given s (expr_value s.store value) >>= λ atom. Goes (record s { store = with_atom name atom s.store })
+      given s (expr_value s.store value) >>= λ atom. Goes (with_variable name atom s)
   run_stmt (Prints value) s =
       given s (expr_value s.store value) >>= λ atom. Goes (record s { printed = s.printed ++ atom ∷ [] })
   run_stmt (Syncs names event) s = resolve event [] s >>= synced names

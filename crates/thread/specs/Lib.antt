@@ -4,3 +4,5 @@ pub mod After
 pub mod Plans
 pub mod Fitting
 pub mod Reaches
+pub mod Machines
+pub mod Places

@@ -1,5 +1,5 @@
 -- What is left to do, as it is kept: what the thread comes to that does it.
-use Rattle.std.specs.Prelude.{◌≡◌, ℕ, List, [], ◌∷◌, map, Option, None, Result}
+use Rattle.std.specs.Prelude.{◌≡◌, ℕ, List, [], ◌∷◌, map, Option, None, Result, Ok, Err}
 use Rattle.std.specs.Option.{option_map}
 use Rattle.std.specs.declared.sync.Arc.{Arc}
 use Rattle.event.specs.Resolved.{tree_of}
@@ -8,6 +8,7 @@ use Rattle.event.specs.declared.Resolved.{Resolved}
 use Rattle.syntax.specs.Trees.{Block, Event, Events, block_of, event_of, events_of, exprs_of, names_of, Stmt, Turn, turn_of}
 use Rattle.syntax.specs.declared.tree.Event.{Event as SeenEvent, Wrap' as SeenWrap'}
 use Rattle.words.specs.declared.Base.{Base}
+use Rattle.words.specs.declared.Message.{Message}
 use Rattle.thread.specs.declared.Fault.{Fault}
 use Rattle.thread.specs.declared.memory.Memory.{Memory}
 use Rattle.thread.specs.declared.plan.Rest.{Rest, Nothing, Block', Times', Endless', Resolve'}
@@ -19,11 +20,21 @@ use Rattle.thread.specs.declared.plan.Stop.{Stop}
 use Rattle.thread.specs.declared.plan.Stop.TheVariants.{Offering, Ended, Faulted}
 use Rattle.thread.specs.declared.plan.Step.{Step}
 use Rattle.thread.specs.declared.plan.Step.TheVariants.{On, To}
-use Rattle.thread.specs.After.{State, Chosen, Outcome, Finishes, Fails, ◌>>=◌, Wrapping, Formed, given, formed, synced, times, endless, as_wrap, as_scope, run_block, run_stmt, resolve, resolve_all, finished}
+use Rattle.thread.specs.After.{State, Chosen, Outcome, Goes, Finishes, Fails, ◌>>=◌, Wrapping, Having, Formed, given, formed, synced, times, endless, as_wrap, as_scope, run_block, run_stmt, resolve, resolve_all, finished}
 
 -- the thread with this memory, and these results to come
 abbrev pub state_of : Memory → List Chosen → State
 state_of m left = record { thread = m.thread; store = m.variables.items; nacks = m.nacks; printed = m.printed.items; left = left }
+
+-- the thread after names were set, or the fault
+abbrev pub state_after : {A : Type 0} → Result A Fault → Memory → List Chosen → Outcome State
+state_after (Ok done) m left = Goes (state_of m left)
+state_after (Err fault) m left = Fails fault m.printed.items left
+
+-- the message after wraps were applied, or the fault
+abbrev pub message_after : Result Message Fault → Memory → List Chosen → Outcome Having
+message_after (Ok message) m left = Goes (record { message = message; state = state_of m left })
+message_after (Err fault) m left = Fails fault m.printed.items left
 
 -- a wrap; of another event, one that gives the empty message
 abbrev pub wrapping_of : SeenEvent → Wrapping

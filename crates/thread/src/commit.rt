@@ -1,5 +1,12 @@
 //! What a commit does: the wraps round the chosen offer change its message, and names are set.
 
+ghost use Rattle.std.specs.Prelude.{◌≡◌, ◌+◌, ◌∷◌, ◌<◌, IfOk, List, Some, slice_get};
+ghost use Rattle.event.specs.Resolved.{tree_of};
+ghost use Rattle.event.specs.Tree.{base_count};
+ghost use Rattle.thread.specs.After.{Chosen, wrapped, wrapped_once};
+ghost use Rattle.thread.specs.Plans.{message_after, offered_on, state_of, step_on, wrapping_of, wrappings};
+ghost use Rattle.thread.specs.Fitting.{OfferedFits, StepFits};
+
 use crate::Fault;
 use crate::memory::Memory;
 use crate::plan::{Now, Offered, Step, Stop};
@@ -11,13 +18,31 @@ use syntax::Event;
 use words::Message;
 
 /// Sets the names of a wrap, and gives what its list comes to.
-fn apply_wrap(wrap: &Event, message: Message, memory: &mut Memory) -> Result<Message, Fault> {
+fn apply_wrap(wrap: &Event, message: Message, memory: &mut Memory) -> Result<Message, Fault>
+    ensures { (rs : List Chosen) → wrapped_once (Some (wrapping_of wrap.now)) message (state_of memory.old rs) ≡ message_after result memory.new rs }
+{
     let Event::Wrap(_, names, list) = wrap else {
         return Ok(Message::Empty);
     };
-    memory.set_names(*names, message)?;
-    let changed = message_of(list, &memory.variables)?;
-    Ok(changed)
+    match memory.set_names(*names, message) {
+        Ok(()) => message_of(list, &memory.variables),
+        Err(fault) => Err(fault),
+    }
+}
+
+/// Applies the wrap with this number, if there is one.
+fn apply_numbered(
+    wraps: &[Arc<Event>],
+    number: u32,
+    message: Message,
+    memory: &mut Memory,
+) -> Result<Message, Fault>
+    ensures { (rs : List Chosen) → wrapped_once (slice_get (wrappings wraps.now) number) message (state_of memory.old rs) ≡ message_after result memory.new rs }
+{
+    match wraps.get(number as usize) {
+        Some(wrap) => apply_wrap(wrap, message, memory),
+        None => Ok(message),
+    }
 }
 
 /// Applies the wraps with these numbers, one after another.
@@ -26,11 +51,11 @@ fn apply_wraps(
     numbers: &[u32],
     mut message: Message,
     memory: &mut Memory,
-) -> Result<Message, Fault> {
+) -> Result<Message, Fault>
+    ensures { (rs : List Chosen) → wrapped (wrappings wraps.now) numbers.now message (state_of memory.old rs) ≡ message_after result memory.new rs }
+{
     for number in numbers {
-        if let Some(wrap) = wraps.get(*number as usize) {
-            message = apply_wrap(wrap, message, memory)?;
-        }
+        message = apply_numbered(wraps, *number, message, memory)?;
     }
     Ok(message)
 }
@@ -42,7 +67,12 @@ pub(crate) fn commit(
     chosen: u8,
     message: Message,
     memory: &mut Memory,
-) -> Result<Step, AllocError> {
+) -> Result<Step, AllocError>
+    requires there { chosen < base_count (tree_of offered.tree) }
+    requires fits { OfferedFits offered }
+    ensures does { IfOk result (λ step. (rs : List Chosen) → step_on step (state_of memory.new rs) ≡ offered_on offered (state_of memory.old ((chosen, message) ∷ rs))) }
+    ensures fits { IfOk result StepFits }
+{
     let Offered {
         tree,
         wraps,

@@ -6,6 +6,7 @@ mod machine;
 mod memory;
 mod plan;
 mod resolving;
+mod scopes;
 mod statement;
 mod value;
 
