@@ -5,4 +5,5 @@ pub mod Plans
 pub mod Fitting
 pub mod Reaches
 pub mod Machines
+pub mod Turns
 pub mod Places

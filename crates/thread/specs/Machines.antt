@@ -3,6 +3,7 @@ use Rattle.std.specs.Prelude.{◌≡◌, ℕ, ◌<◌, List, [], length, ⊤}
 use Rattle.event.specs.Resolved.{tree_of}
 use Rattle.event.specs.Tree.{offers, scope_nacks}
 use Rattle.event.specs.declared.Resolved.{Resolved}
+use Rattle.syntax.specs.Processes.{Proc}
 use Rattle.syntax.specs.Trees.{block_of}
 use Rattle.syntax.specs.declared.tree.Block.{Block}
 use Rattle.words.specs.declared.Atom.{Atom}
@@ -27,15 +28,15 @@ pub record Thread : Type 0 where
   pub output : List Atom
 
 -- the phase and the output are what the process comes to after the results
+abbrev pub IsAfterAt : Thread → Phase → Type 0
+IsAfterAt m Ready = (m.results ≡ []) × (m.output ≡ [])
+IsAfterAt m (Open event) = after (block_of m.body) m.variables m.thread m.results ≡ Offers (tree_of event) m.output
+IsAfterAt m Over = after (block_of m.body) m.variables m.thread m.results ≡ Finishes m.output []
+IsAfterAt m (Stuck fault) = after (block_of m.body) m.variables m.thread m.results ≡ Fails fault m.output []
+IsAfterAt m Broken = ⊤
+
 abbrev pub IsAfter : Thread → Type 0
-IsAfter m = stands m.phase
-  where
-    abbrev stands : Phase → Type 0
-    stands Ready = (m.results ≡ []) × (m.output ≡ [])
-    stands (Open event) = after (block_of m.body) m.variables m.thread m.results ≡ Offers (tree_of event) m.output
-    stands Over = after (block_of m.body) m.variables m.thread m.results ≡ Finishes m.output []
-    stands (Stuck fault) = after (block_of m.body) m.variables m.thread m.results ≡ Fails fault m.output []
-    stands Broken = ⊤
+IsAfter m = IsAfterAt m m.phase
 
 abbrev pub IsOpen : Phase → Type 0
 IsOpen (Open event) = ⊤
@@ -66,3 +67,12 @@ pub record SameProcess (old new : Thread) : Type 0 where
   pub body : new.body ≡ old.body
   pub variables : new.variables ≡ old.variables
   pub thread : new.thread ≡ old.thread
+
+-- a machine that has the whole process before it
+pub record StartsAs (process : Proc) (number : ℕ) (m : Thread) : Type 0 where
+  pub body : block_of m.body ≡ process.body
+  pub variables : m.variables ≡ length process.variables
+  pub thread : m.thread ≡ number
+  pub results : m.results ≡ []
+  pub output : m.output ≡ []
+  pub phase : m.phase ≡ Ready
