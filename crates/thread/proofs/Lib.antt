@@ -2,3 +2,4 @@ pub mod Binding
 pub mod Taking
 pub mod Choices
 pub mod Commits
+pub mod Standing

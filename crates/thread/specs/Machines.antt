@@ -38,6 +38,11 @@ IsAfterAt m Broken = ⊤
 abbrev pub IsAfter : Thread → Type 0
 IsAfter m = IsAfterAt m m.phase
 
+abbrev pub HasStopped : Phase → Type 0
+HasStopped Ready = ⊥
+HasStopped Broken = ⊥
+HasStopped phase = ⊤
+
 abbrev pub IsOpen : Phase → Type 0
 IsOpen (Open event) = ⊤
 IsOpen phase = ⊥
