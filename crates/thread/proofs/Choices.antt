@@ -1,10 +1,10 @@
 -- Choices whose members are resolved one after another, and wraps that are numbered.
-use Rattle.std.proofs.Common.{◌≡◌, ℕ, ◌+◌, List, [], ◌∷◌, ◌++◌, map, length, Vec, Global, Box, refl, sym, ap, ◌∙◌, arith, add_assoc}
+use Rattle.std.proofs.Common.{◌≡◌, ℕ, ◌+◌, List, [], ◌∷◌, ◌++◌, map, length, Vec, Global, Box, refl, sym, ap, ◌∙◌, arith}
 use Rattle.std.proofs.lemmas.List.{map-append, length-map}
 use Rattle.event.proofs.ResolvedLemmas.{tree_of-Choose, tree_of-Wrap, tree_of-Scope}
 use Rattle.event.proofs.TreeLemmas.{base_count-Or, scope_count-Or, base_count-Wrap, base_count-Scope}
 use Rattle.event.specs.Resolved.{tree_of}
-use Rattle.event.specs.Tree.{Tree, Nothing, Or, Wrap, Scope, choose, base_count, scope_count}
+use Rattle.event.specs.Tree.{Tree, Nothing, Or, Wrap, choose, base_count, scope_count}
 use Rattle.event.specs.declared.Resolved.{Resolved, Choose, Wrap as WrapOf, Scope as ScopeOf}
 use Rattle.std.specs.declared.sync.Arc.{Arc}
 use Rattle.syntax.specs.Trees.{event_of}

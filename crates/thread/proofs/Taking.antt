@@ -1,11 +1,11 @@
 -- Nothing gives results back, and a turn of a loop takes one.
-use Rattle.std.proofs.Common.{◌≡◌, ◌≢◌, ℕ, zero, suc, ◌+◌, ◌<◌, ◌≤◌, List, [], ◌∷◌, ◌++◌, Option, Some, None, length, slice_get, refl, sym, ap, ◌∙◌, subst, arith, nat_le}
-use Rattle.std.specs.Prelude.{⊤, Bool, true, false, if◌then◌else◌}
+use Rattle.std.proofs.Common.{◌≡◌, ℕ, zero, suc, ◌<◌, ◌≤◌, List, [], ◌∷◌, Option, Some, None, length, slice_get, refl, ap, ◌∙◌, subst, arith, nat_le}
+use Rattle.std.specs.Prelude.{⊤}
 use Rattle.event.specs.Tree.{wraps_at}
 use Rattle.syntax.specs.Trees.{Event, Sends, Receives, IsReady, IsNever, IsCancelled, Chooses, Wraps, Guards, Nacks, Events, NoMembers, Members, Stmt, Lets, Prints, Syncs, Branches, Loops, LoopsForever, Ends, Block, Stops, Runs, Turn}
 use Rattle.words.specs.declared.Message.{Message}
 use Rattle.thread.specs.Values.{expr_value, list_value, test_value, with_names}
-use Rattle.thread.specs.After.{State, Chosen, Outcome, Goes, ◌>>=◌, given, received, Wrapping, Having, wrapped_once, wrapped, Formed, committed, synced_with, synced, times, endless, send_value, recv_value, always_value, cancelled_value, formed, with_nack, as_wrap, as_scope, as_first, run_block, run_stmt, resolve, resolve_all}
+use Rattle.thread.specs.After.{State, Chosen, Outcome, ◌>>=◌, given, received, Wrapping, wrapped_once, wrapped, Formed, committed, synced_with, synced, times, endless, formed, with_nack, as_wrap, as_scope, as_first, run_block, run_stmt, resolve, resolve_all}
 use Rattle.thread.specs.Plans.{turn_on}
 use Rattle.thread.proofs.Binding.{IfGoes, bind_goes, bind_same, bind_assoc, given_goes, goes_weaker, if_goes}
 

@@ -1,8 +1,8 @@
 -- What a process does after the results of its syncs: which event it offers next, or how it ends, and what it
 -- printed.
-use Rattle.std.specs.Prelude.{ℕ, zero, suc, ◌+◌, nat_le, Bool, if◌then◌else◌, List, [], ◌∷◌, ◌++◌, length, replicate, Option, Some, None, Result, Ok, Err, slice_get}
+use Rattle.std.specs.Prelude.{ℕ, zero, suc, ◌+◌, nat_le, if◌then◌else◌, List, [], ◌∷◌, ◌++◌, length, replicate, Option, Some, None, Result, Ok, Err, slice_get}
 use Rattle.event.specs.Tree.{Tree, Single, Nothing, Or, Wrap, Scope, wraps_at}
-use Rattle.syntax.specs.Trees.{Expr, Test, Event, Sends, Receives, IsReady, IsNever, IsCancelled, Chooses, Wraps, Guards, Nacks, Events, NoMembers, Members, Stmt, Lets, Prints, Syncs, Branches, Loops, LoopsForever, Ends, Block, Stops, Runs}
+use Rattle.syntax.specs.Trees.{Expr, Event, Sends, Receives, IsReady, IsNever, IsCancelled, Chooses, Wraps, Guards, Nacks, Events, NoMembers, Members, Stmt, Lets, Prints, Syncs, Branches, Loops, LoopsForever, Ends, Block, Stops, Runs}
 use Rattle.syntax.specs.declared.tree.Name.{Name}
 use Rattle.words.specs.declared.NackName.{NackName}
 use Rattle.words.specs.declared.Atom.{Atom}

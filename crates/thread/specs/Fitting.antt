@@ -1,7 +1,7 @@
 -- Each sync that is open or still to come has at most 8 base events and 4 nacks.
-use Rattle.std.specs.Prelude.{ℕ, ◌+◌, ◌<◌, ◌≤◌, ⊤, map}
+use Rattle.std.specs.Prelude.{ℕ, ◌+◌, ◌≤◌, ⊤, map}
 use Rattle.event.specs.Resolved.{tree_of}
-use Rattle.event.specs.Tree.{Tree, Fits, choose, base_count as bases_in, scope_count as scopes_in}
+use Rattle.event.specs.Tree.{Fits, choose, base_count as bases_in, scope_count as scopes_in}
 use Rattle.syntax.specs.Trees.{Event, Sends, Receives, IsReady, IsNever, IsCancelled, Chooses, Wraps, Guards, Nacks, Events, NoMembers, Members, Stmt, Lets, Prints, Syncs, Branches, Loops, LoopsForever, Ends, Block, Stops, Runs, Turn, block_of, event_of, events_of, turn_of}
 use Rattle.syntax.specs.Limits.{IsSmall, base_count, nack_count, bases_of_all, nacks_of_all}
 use Rattle.thread.specs.declared.plan.Rest.{Rest, Nothing, Block', Times', Endless', Resolve'}

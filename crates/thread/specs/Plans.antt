@@ -4,7 +4,6 @@ use Rattle.std.specs.Option.{option_map}
 use Rattle.std.specs.declared.sync.Arc.{Arc}
 use Rattle.event.specs.Resolved.{tree_of}
 use Rattle.event.specs.Tree.{Tree, Or, Wrap, Scope}
-use Rattle.event.specs.declared.Resolved.{Resolved}
 use Rattle.syntax.specs.Trees.{Block, Event, Events, block_of, event_of, events_of, exprs_of, names_of, Stmt, Turn, turn_of}
 use Rattle.syntax.specs.declared.tree.Event.{Event as SeenEvent, Wrap' as SeenWrap'}
 use Rattle.words.specs.declared.Base.{Base}
@@ -20,7 +19,7 @@ use Rattle.thread.specs.declared.plan.Stop.{Stop}
 use Rattle.thread.specs.declared.plan.Stop.TheVariants.{Offering, Ended, Faulted}
 use Rattle.thread.specs.declared.plan.Step.{Step}
 use Rattle.thread.specs.declared.plan.Step.TheVariants.{On, To}
-use Rattle.thread.specs.After.{State, Chosen, Outcome, Goes, Finishes, Fails, ◌>>=◌, Wrapping, Having, Formed, given, formed, synced, times, endless, as_wrap, as_scope, run_block, run_stmt, resolve, resolve_all, finished}
+use Rattle.thread.specs.After.{State, Chosen, Outcome, Goes, Fails, ◌>>=◌, Wrapping, Having, Formed, given, formed, synced, times, endless, run_block, run_stmt, resolve, resolve_all, finished}
 
 -- the thread with this memory, and these results to come
 abbrev pub state_of : Memory → List Chosen → State

@@ -4,7 +4,7 @@ use Rattle.thread.specs.declared.machine.Turn.{Turn}
 use Rattle.thread.specs.declared.machine.Turn.TheVariants as turn
 use Rattle.thread.specs.declared.plan.Stop.{Stop}
 use Rattle.thread.specs.declared.plan.Stop.TheVariants.{Offering, Ended, Faulted}
-use Rattle.thread.specs.Machines.{Phase, Ready, Open, Over, Stuck, Broken, offers_in, nacks_in}
+use Rattle.thread.specs.Machines.{Phase, Open, Over, Stuck, offers_in, nacks_in}
 
 abbrev pub phase_at : Stop → Phase
 phase_at (Offering o) = Open o.tree

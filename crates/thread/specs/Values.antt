@@ -1,5 +1,5 @@
 -- What names, expressions, lists and tests come to, with the variables as they stand.
-use Rattle.std.specs.Prelude.{ℕ, ◌+◌, ◌-◌, ◌^◌, Bool, true, false, ◌==◌, ◌&&◌, nat_lt, nat_le, if◌then◌else◌, List, [], ◌∷◌, Option, Some, None, Result, Ok, Err, slice_get, slice_set}
+use Rattle.std.specs.Prelude.{ℕ, ◌+◌, ◌-◌, ◌^◌, Bool, false, ◌==◌, ◌&&◌, nat_lt, nat_le, if◌then◌else◌, List, [], ◌∷◌, Option, Some, None, Result, Ok, Err, slice_get, slice_set}
 use Rattle.syntax.specs.Trees.{Term, Single, Sum, Terms, Nothing, More, Expr, Test}
 use Rattle.syntax.specs.declared.tree.Name.{Name}
 use Rattle.syntax.specs.declared.tree.Name.TheVariants.{Variable, Channel}
@@ -9,7 +9,6 @@ use Rattle.syntax.specs.declared.tree.Sign.{Sign}
 use Rattle.syntax.specs.declared.tree.Sign.TheVariants.{Plus, Minus}
 use Rattle.syntax.specs.declared.tree.Relation.{Relation}
 use Rattle.syntax.specs.declared.tree.Relation.TheVariants.{Equal, Less}
-use Rattle.words.specs.declared.NackName.{NackName}
 use Rattle.words.specs.declared.Atom.{Atom}
 use Rattle.words.specs.declared.Atom.TheVariants.{Num, Chan, Nack}
 use Rattle.words.specs.declared.Message.{Message}

@@ -1,4 +1,3 @@
-use Rattle.std.proofs.Common.{◌≡◌, ◌∙◌}
 use Rattle.std.specs.Option.{option_map}
 use Rattle.syntax.specs.Trees.{exprs_of, names_of}
 use Rattle.thread.specs.After.{Wrapping}

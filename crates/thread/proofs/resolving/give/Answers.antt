@@ -1,4 +1,4 @@
-use Rattle.std.proofs.Common.{◌≡◌, ◌∙◌, refl, arith}
+use Rattle.std.proofs.Common.{◌∙◌, refl, arith}
 use Rattle.event.proofs.ResolvedLemmas.{tree_of-Wrap, tree_of-Scope}
 use Rattle.syntax.specs.Trees.{events_of}
 use Rattle.thread.specs.After.{resolve_all}

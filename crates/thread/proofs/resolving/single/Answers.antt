@@ -1,4 +1,3 @@
-use Rattle.std.proofs.Common.{◌≡◌, ◌∙◌, sym}
 use Rattle.event.proofs.ResolvedLemmas.{tree_of-Send, tree_of-Recv, tree_of-Always, tree_of-Never, tree_of-OnNack}
 use Rattle.thread.proofs.resolving.single.Goals as goal
 

@@ -1,4 +1,4 @@
-use Rattle.std.proofs.Common.{◌≡◌, ◌∙◌, sym, length, arith}
+use Rattle.std.proofs.Common.{◌≡◌, sym, length, arith}
 use Rattle.thread.specs.Plans.{wrappings}
 use Rattle.thread.proofs.Choices.{wrap_resolves, wrappings_more, length-wrappings}
 use Rattle.thread.proofs.resolving.wrap.Goals as goal

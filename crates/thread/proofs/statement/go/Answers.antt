@@ -1,6 +1,5 @@
-use Rattle.std.proofs.Common.{◌≡◌, suc, ◌∙◌, sym, arith}
+use Rattle.std.proofs.Common.{◌∙◌, sym, arith}
 use Rattle.syntax.specs.Trees.{turn_of}
-use Rattle.thread.specs.After.{State}
 use Rattle.thread.specs.Plans.{go}
 use Rattle.thread.proofs.Taking.{endless_more, times_more}
 use Rattle.thread.proofs.statement.go.Goals as goal

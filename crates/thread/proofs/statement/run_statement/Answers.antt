@@ -1,4 +1,4 @@
-use Rattle.std.proofs.Common.{◌≡◌, ◌∙◌, refl}
+use Rattle.std.proofs.Common.{◌∙◌, refl}
 use Rattle.thread.specs.Plans.{state_of}
 use Rattle.thread.proofs.statement.run_statement.Goals as goal
 
