@@ -233,3 +233,40 @@ fn long_scripts_run(rt: HostRuntime) -> Result<(), Fail> {
     let deep = repeated(alloc, deep.as_str(), "}else{}", 47, "}")?;
     check_ends(&rt, deep.as_str(), &[], &[6])
 }
+
+fn crosses_threads<T: Send>(_value: &T) {}
+
+#[test]
+fn machines_lie_in_slots(rt: HostRuntime) -> Result<(), Fail> {
+    let alloc = rt.alloc();
+    let mut slots: Vec<Option<Machine>> = Vec::new(alloc);
+    slots.push(Some(machine(alloc, "process a { sync always (); }", 0)?))?;
+    crosses_threads(&slots);
+    if let Some(Some(machine)) = slots.pop() {
+        assert!(rt; !machine.is_offering());
+    }
+    Ok(())
+}
+
+/// Where memory runs out in `begin` or in `resume`, both have to answer so from then on.
+#[test]
+fn broken_for_good(rt: HostRuntime) -> Result<(), Fail> {
+    let alloc = rt.alloc();
+    let text = "process a { sync wrap guard { print 1; } always (2) to (3); print 4; }";
+    let mut machine = machine(alloc, text, 0)?;
+    if let Err(error) = machine.begin(alloc) {
+        assert!(rt; machine.begin(alloc).is_err());
+        assert!(rt; machine.resume(alloc, 0, Message::Empty).is_err());
+        assert!(rt; !machine.is_offering());
+        return Err(Fail::from(error));
+    }
+    let offers = machine.offers(alloc);
+    let _offer = offers.first().ok_or("no offer")?;
+    if let Err(error) = machine.resume(alloc, 0, one(2)) {
+        assert!(rt; machine.resume(alloc, 0, one(2)).is_err());
+        assert_eq!(rt; machine.offers(alloc).len(), 0);
+        return Err(Fail::from(error));
+    }
+    check_prints(&rt, &machine, &[1, 4]);
+    Ok(())
+}
