@@ -4,7 +4,7 @@
 ghost use Rattle.std.specs.Prelude.{◌≡◌, IfOk};
 ghost use Rattle.thread.specs.Machines.{Ready};
 
-use anyhow::{Context, Result};
+use anyhow::{Context, Result, bail};
 use script::parse;
 use std::alloc::Global;
 use std::env;
@@ -26,7 +26,9 @@ fn start(alloc: Global) -> Result<Machine>
 /// Takes the one offer, whose message is the number.
 fn resume(alloc: Global, machine: &mut Machine, number: u32) -> Result<Turn> {
     let offers = machine.offers(alloc);
-    let _offer = offers.first().context("no offer")?;
+    if offers.is_empty() {
+        bail!("no offer");
+    }
     let turn = machine.resume(alloc, 0, Message::One(Atom::Num(number)))?;
     Ok(turn)
 }

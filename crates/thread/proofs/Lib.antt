@@ -3,3 +3,4 @@ pub mod Taking
 pub mod Choices
 pub mod Commits
 pub mod Standing
+pub mod Ranging

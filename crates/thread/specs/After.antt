@@ -12,7 +12,7 @@ use Rattle.words.specs.declared.Base.{Base}
 use Rattle.words.specs.declared.Base.TheVariants.{Send, Recv, Always, OnNack, Never}
 use Rattle.thread.specs.declared.Fault.{Fault}
 use Rattle.thread.specs.declared.Fault.TheVariants.{Kind, Range}
-use Rattle.thread.specs.Values.{Store, name_value, expr_value, list_value, test_value, with_atom, with_names}
+use Rattle.thread.specs.Values.{Store, name_value, expr_value, list_value, test_value, with_atom, with_names, ◌>>=◌ as ◌>>>◌}
 
 -- the result of a sync: the number of the offer that was chosen, and its message
 abbrev pub Chosen : Type 0
@@ -109,11 +109,6 @@ abbrev pub endless : (State → Outcome State) → State → Outcome State
 endless turn s = times (suc (length s.left)) turn s
 
 -- BASE EVENTS AND NACKS
-
-infixl 10 ◌>>>◌
-abbrev pub ◌>>>◌ : {A B : Type 0} → Result A Fault → (A → Result B Fault) → Result B Fault
-Ok a >>> f = f a
-Err fault >>> f = Err fault
 
 abbrev pub channel_in : Atom → Result ℕ Fault
 channel_in (Num n) = Err Kind

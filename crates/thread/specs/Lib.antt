@@ -7,3 +7,4 @@ pub mod Reaches
 pub mod Machines
 pub mod Turns
 pub mod Places
+pub mod Ranges

@@ -1,5 +1,5 @@
 -- A machine, as it is seen from outside: its process, what was given to it, and what it came to.
-use Rattle.std.specs.Prelude.{◌≡◌, ℕ, ◌<◌, List, [], length, ⊤}
+use Rattle.std.specs.Prelude.{◌≡◌, ℕ, List, [], length, ⊤}
 use Rattle.event.specs.Resolved.{tree_of}
 use Rattle.event.specs.Tree.{offers, scope_nacks}
 use Rattle.event.specs.declared.Resolved.{Resolved}
@@ -54,18 +54,6 @@ offers_in phase = []
 abbrev pub nacks_in : Phase → List ℕ
 nacks_in (Open event) = scope_nacks (tree_of event)
 nacks_in phase = []
-
--- a machine that was not begun, or is out of memory
-abbrev pub CanBegin : Phase → Type 0
-CanBegin Ready = ⊤
-CanBegin Broken = ⊤
-CanBegin phase = ⊥
-
--- a machine that made this offer, or is out of memory
-abbrev pub CanResume : Phase → ℕ → Type 0
-CanResume (Open event) chosen = chosen < length (offers (tree_of event))
-CanResume Broken chosen = ⊤
-CanResume phase chosen = ⊥
 
 -- the same process runs as the same thread
 pub record SameProcess (old new : Thread) : Type 0 where

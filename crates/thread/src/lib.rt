@@ -1,6 +1,10 @@
 //! Suspended machines: a process runs from one sync to the next.
 #![tactic(auto)]
 
+ghost use Rattle.std.specs.Prelude.{◌<◌};
+ghost use Rattle.thread.specs.Machines.{IsAfter, Thread, offers_in};
+ghost use Rattle.thread.specs.Ranges.{OffersAreIn, ResultsAreIn};
+
 mod commit;
 mod machine;
 mod memory;
@@ -11,6 +15,11 @@ mod statement;
 mod value;
 
 pub use machine::{Machine, Turn};
+
+/// Whatever a machine offers names only nacks that the words have room for, if its results do.
+pub fn offers_are_in_range()
+    ensures { (m : Thread) → IsAfter m → m.thread < 64 → ResultsAreIn m.results → OffersAreIn (offers_in m.phase) }
+{}
 
 /// Why a thread stopped before the end of its process.
 #[derive(Clone, Copy, Debug, PartialEq, Eq)]

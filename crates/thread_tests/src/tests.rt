@@ -26,7 +26,9 @@ fn resume(
     message: Message,
 ) -> Result<Turn, Fail> {
     let offers = machine.offers(alloc);
-    let _offer = offers.get(usize::from(chosen)).ok_or("no such offer")?;
+    if usize::from(chosen) >= offers.len() {
+        return Err(Fail::from("no such offer"));
+    }
     let turn = machine.resume(alloc, chosen, message)?;
     Ok(turn)
 }
@@ -261,7 +263,9 @@ fn broken_for_good(rt: HostRuntime) -> Result<(), Fail> {
         return Err(Fail::from(error));
     }
     let offers = machine.offers(alloc);
-    let _offer = offers.first().ok_or("no offer")?;
+    if offers.is_empty() {
+        return Err(Fail::from("no offer"));
+    }
     if let Err(error) = machine.resume(alloc, 0, one(2)) {
         assert!(rt; machine.resume(alloc, 0, one(2)).is_err());
         assert_eq!(rt; machine.offers(alloc).len(), 0);
