@@ -1,0 +1,6 @@
+pub mod Binding
+pub mod Taking
+pub mod Choices
+pub mod Commits
+pub mod Standing
+pub mod Ranging

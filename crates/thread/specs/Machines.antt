@@ -1,0 +1,71 @@
+-- A machine, as it is seen from outside: its process, what was given to it, and what it came to.
+use Rattle.std.specs.Prelude.{◌≡◌, ℕ, List, [], length, ⊤}
+use Rattle.event.specs.Resolved.{tree_of}
+use Rattle.event.specs.Tree.{offers, scope_nacks}
+use Rattle.event.specs.declared.Resolved.{Resolved}
+use Rattle.syntax.specs.Processes.{Proc}
+use Rattle.syntax.specs.Trees.{block_of}
+use Rattle.syntax.specs.declared.tree.Block.{Block}
+use Rattle.words.specs.declared.Atom.{Atom}
+use Rattle.words.specs.declared.Offer.{Offer}
+use Rattle.thread.specs.declared.Fault.{Fault}
+use Rattle.thread.specs.After.{Chosen, Offers, Finishes, Fails, after}
+
+-- before its process, at an open sync, at an end, at a fault; or memory ran out while it moved
+pub data Phase : Type 0 where
+  Ready : Phase
+  Open : (event : Resolved) → Phase
+  Over : Phase
+  Stuck : (fault : Fault) → Phase
+  Broken : Phase
+
+pub record Thread : Type 0 where
+  pub body : Block
+  pub variables : ℕ
+  pub thread : ℕ
+  pub results : List Chosen
+  pub phase : Phase
+  pub output : List Atom
+
+-- the phase and the output are what the process comes to after the results
+abbrev pub IsAfterAt : Thread → Phase → Type 0
+IsAfterAt m Ready = (m.results ≡ []) × (m.output ≡ [])
+IsAfterAt m (Open event) = after (block_of m.body) m.variables m.thread m.results ≡ Offers (tree_of event) m.output
+IsAfterAt m Over = after (block_of m.body) m.variables m.thread m.results ≡ Finishes m.output []
+IsAfterAt m (Stuck fault) = after (block_of m.body) m.variables m.thread m.results ≡ Fails fault m.output []
+IsAfterAt m Broken = ⊤
+
+abbrev pub IsAfter : Thread → Type 0
+IsAfter m = IsAfterAt m m.phase
+
+abbrev pub HasStopped : Phase → Type 0
+HasStopped Ready = ⊥
+HasStopped Broken = ⊥
+HasStopped phase = ⊤
+
+abbrev pub IsOpen : Phase → Type 0
+IsOpen (Open event) = ⊤
+IsOpen phase = ⊥
+
+abbrev pub offers_in : Phase → List Offer
+offers_in (Open event) = offers (tree_of event)
+offers_in phase = []
+
+abbrev pub nacks_in : Phase → List ℕ
+nacks_in (Open event) = scope_nacks (tree_of event)
+nacks_in phase = []
+
+-- the same process runs as the same thread
+pub record SameProcess (old new : Thread) : Type 0 where
+  pub body : new.body ≡ old.body
+  pub variables : new.variables ≡ old.variables
+  pub thread : new.thread ≡ old.thread
+
+-- a machine that has the whole process before it
+pub record StartsAs (process : Proc) (number : ℕ) (m : Thread) : Type 0 where
+  pub body : block_of m.body ≡ process.body
+  pub variables : m.variables ≡ length process.variables
+  pub thread : m.thread ≡ number
+  pub results : m.results ≡ []
+  pub output : m.output ≡ []
+  pub phase : m.phase ≡ Ready

@@ -1,0 +1,35 @@
+//! Suspended machines: a process runs from one sync to the next.
+#![tactic(auto)]
+
+ghost use Rattle.std.specs.Prelude.{◌<◌};
+ghost use Rattle.thread.specs.Machines.{IsAfter, Thread, offers_in};
+ghost use Rattle.thread.specs.Ranges.{OffersAreIn, ResultsAreIn};
+
+mod commit;
+mod machine;
+mod memory;
+mod plan;
+mod resolving;
+mod scopes;
+mod statement;
+mod value;
+
+pub use machine::{Machine, Turn};
+
+/// Whatever a machine offers names only nacks that the words have room for, if its results do.
+pub fn offers_are_in_range()
+    ensures { (m : Thread) → IsAfter m → m.thread < 64 → ResultsAreIn m.results → OffersAreIn (offers_in m.phase) }
+{}
+
+/// Why a thread stopped before the end of its process.
+#[derive(Clone, Copy, Debug, PartialEq, Eq)]
+pub enum Fault {
+    /// A variable was read before it was set.
+    Unset = 1,
+    /// A value was of another kind than is wanted there.
+    Kind = 2,
+    /// A number was below 0 or above 4294967295, or a 65th nack was to be made.
+    Range = 3,
+    /// A message had more atoms than there were names for it, or fewer.
+    Shape = 4,
+}

@@ -1,0 +1,276 @@
+ghost use Rattle.std.specs.Prelude.{◌≡◌, IfOk};
+ghost use Rattle.thread.specs.Machines.{Ready};
+
+use script::parse;
+use std::alloc::Global;
+use std::process::Abort;
+use std::test::Fail;
+use thread::{Fault, Machine, Turn};
+use words::{Atom, Base, Message, Offer, pack_offer};
+
+/// The process with this number, as thread 0, before its beginning.
+fn machine(alloc: Global, text: &str, process: usize) -> Result<Machine, Fail>
+    ensures { IfOk result (λ m. m.phase ≡ Ready) }
+{
+    let script = parse(alloc, text.as_bytes())?;
+    let process = script.processes().get(process).ok_or("no such process")?;
+    let machine = Machine::new(alloc, process, 0)?;
+    Ok(machine)
+}
+
+/// Commits the open sync by an offer, which has to be there.
+fn resume(
+    alloc: Global,
+    machine: &mut Machine,
+    chosen: u8,
+    message: Message,
+) -> Result<Turn, Fail> {
+    let offers = machine.offers(alloc);
+    if usize::from(chosen) >= offers.len() {
+        return Err(Fail::from("no such offer"));
+    }
+    let turn = machine.resume(alloc, chosen, message)?;
+    Ok(turn)
+}
+
+/// The first process of the text, run over these results, and its last turn.
+fn after(
+    alloc: Global,
+    text: &str,
+    results: &[(u8, Message)],
+) -> Result<(Machine, Turn), Fail> {
+    let mut machine = machine(alloc, text, 0)?;
+    let mut turn = machine.begin(alloc)?;
+    for (chosen, message) in results {
+        turn = resume(alloc, &mut machine, *chosen, *message)?;
+    }
+    Ok((machine, turn))
+}
+
+fn one(number: u32) -> Message {
+    Message::One(Atom::Num(number))
+}
+
+fn is_fault(turn: &Turn, fault: Fault) -> bool {
+    match turn {
+        Turn::Faulted(found) => *found == fault,
+        _ => false,
+    }
+}
+
+/// Runs the first process over these results, which has to end and to have printed these numbers.
+fn check_ends(
+    rt: &(impl Abort + AllocGlobal),
+    text: &str,
+    results: &[(u8, Message)],
+    printed: &[u32],
+) -> Result<(), Fail> {
+    let (machine, turn) = after(rt.alloc(), text, results)?;
+    assert!(rt; matches!(turn, Turn::Ended), "{text}");
+    check_prints(rt, &machine, printed);
+    Ok(())
+}
+
+fn check_prints(rt: &(impl Abort + AllocGlobal), machine: &Machine, printed: &[u32]) {
+    assert_eq!(rt; machine.output().len(), printed.len());
+    for (atom, number) in machine.output().iter().zip(printed) {
+        assert_eq!(rt; *atom, Atom::Num(*number));
+    }
+}
+
+/// Runs the first process over these results, which has to stop at this fault, having printed these
+/// numbers.
+fn check_fault(
+    rt: &(impl Abort + AllocGlobal),
+    text: &str,
+    results: &[(u8, Message)],
+    fault: Fault,
+    printed: &[u32],
+) -> Result<(), Fail> {
+    let (machine, turn) = after(rt.alloc(), text, results)?;
+    assert!(rt; is_fault(&turn, fault), "{text}");
+    assert!(rt; !machine.is_offering());
+    check_prints(rt, &machine, printed);
+    Ok(())
+}
+
+#[test]
+fn a_message_is_received(rt: HostRuntime) -> Result<(), Fail> {
+    let alloc = rt.alloc();
+    let text =
+        "channel c; process a { sync send c (42); } process b { x <- sync recv c; print x; }";
+    let mut b = machine(alloc, text, 1)?;
+    assert!(rt; !b.is_offering());
+    let turn = b.begin(alloc)?;
+    assert!(rt; b.is_offering());
+    let Turn::Offering { offers, nacks } = turn else {
+        return Err(Fail::from("no offer"));
+    };
+    let recv = Offer {
+        base: Base::Recv(0),
+        scopes: 0,
+    };
+    assert_eq!(rt; offers.as_slice(), [recv].as_slice());
+    assert_eq!(rt; nacks.len(), 0);
+    let turn = resume(alloc, &mut b, 0, one(42))?;
+    assert!(rt; matches!(turn, Turn::Ended));
+    check_prints(&rt, &b, &[42]);
+    assert_eq!(rt; b.results(), [(0, one(42))].as_slice());
+    assert_eq!(rt; b.offers(alloc).len(), 0);
+    assert_eq!(rt; b.nacks(alloc).len(), 0);
+    Ok(())
+}
+
+#[test]
+fn sums_and_tests(rt: HostRuntime) -> Result<(), Fail> {
+    check_ends(&rt, "process a { print (5-3)-1; }", &[], &[1])?;
+    check_ends(&rt, "process a { print 5-(3-1); }", &[], &[3])?;
+    check_ends(&rt, "process a { print 4294967295 - 4294967294 + 7; }", &[], &[8])?;
+    check_fault(&rt, "process a { print 1; print 4294967295 + 1; }", &[], Fault::Range, &[1])?;
+    check_fault(&rt, "process a { print 1 - 2; }", &[], Fault::Range, &[])?;
+    check_fault(&rt, "channel c; process a { let x = x; print c + x; }", &[], Fault::Unset, &[])?;
+    check_fault(&rt, "channel c; process a { print c + 1; }", &[], Fault::Kind, &[])?;
+    check_fault(&rt, "channel c; process a { if c < 1 {} else {} }", &[], Fault::Kind, &[])?;
+    let text = "channel c; process a { if c = 0 { print 1; } else { print 2; } if c = c { print 3; } else {} }";
+    check_ends(&rt, text, &[], &[2, 3])
+}
+
+#[test]
+fn guards_and_wraps(rt: HostRuntime) -> Result<(), Fail> {
+    let guard =
+        "process a { let n = 0; loop 2 { sync guard { let n = n + 1; print n; } always (); } }";
+    check_ends(&rt, guard, &[(0, Message::Empty), (0, Message::Empty)], &[1, 2])?;
+    let wraps = "process a { x <- sync wrap wrap always (3) as p to (p + 1) as q to (q + q); print x; }";
+    check_ends(&rt, wraps, &[(0, one(3))], &[8])?;
+    let chosen = "channel c; process a { x <- sync choose [wrap recv c as p to (p + 1), wrap recv c as p to (p + 2)]; print x; print p; }";
+    check_ends(&rt, chosen, &[(1, one(5))], &[7, 5])?;
+    let shape = "process a { print 7; x, y <- sync always (1); }";
+    check_fault(&rt, shape, &[(0, one(1))], Fault::Shape, &[7])?;
+    let dropped = "process a { x <- sync wrap always (1, 2) to (4); print x; }";
+    let two = Message::Two(Atom::Num(1), Atom::Num(2));
+    check_ends(&rt, dropped, &[(0, two)], &[4])
+}
+
+#[test]
+fn bodies_sync_and_end(rt: HostRuntime) -> Result<(), Fail> {
+    let body = "channel c; process a { y <- sync guard { x <- sync recv c; print x; } always (x); print y; }";
+    check_ends(&rt, body, &[(0, one(9)), (0, one(9))], &[9, 9])?;
+    let ends = "process a { sync nack n { print 1; end; } always (); print 2; }";
+    check_ends(&rt, ends, &[], &[1])
+}
+
+/// The head word of an offer, for one that brings no atoms.
+fn head(rt: &impl Abort, offer: &Offer) -> u64 {
+    assert!(rt; offer.scopes < 16);
+    let base = match offer.base {
+        Base::Recv(channel) => Base::Recv(channel),
+        _ => Base::Always(Message::Empty),
+    };
+    pack_offer(Offer {
+        base,
+        scopes: offer.scopes,
+    })[0]
+}
+
+#[test]
+fn scopes_and_their_nacks(rt: HostRuntime) -> Result<(), Fail> {
+    let text = "channel w; channel v; channel u; channel c; process a { sync nack m { sync send w (m); } choose [nack n { sync send v (n); } recv c, always ()]; }";
+    let results = [(0, Message::Empty), (0, Message::Empty)];
+    let (machine, turn) = after(rt.alloc(), text, &results)?;
+    let Turn::Offering { offers, nacks } = turn else {
+        return Err(Fail::from("no offer"));
+    };
+    assert_eq!(rt; nacks.as_slice(), [0, 1].as_slice());
+    assert_eq!(rt; machine.nacks(rt.alloc()).as_slice(), [0, 1].as_slice());
+    assert_eq!(rt; offers.len(), 2);
+    assert!(rt; matches!(offers[1].base, Base::Always(Message::Empty)));
+    assert_eq!(rt; head(&rt, &offers[0]), 100663322);
+    assert_eq!(rt; head(&rt, &offers[1]), 33554435);
+    Ok(())
+}
+
+#[test]
+fn the_last_nack(rt: HostRuntime) -> Result<(), Fail> {
+    let alloc = rt.alloc();
+    let mut machine = machine(alloc, "process a { forever { sync nack n {} always (); } }", 0)?;
+    let mut turn = machine.begin(alloc)?;
+    for _ in 0..63 {
+        turn = resume(alloc, &mut machine, 0, Message::Empty)?;
+    }
+    let Turn::Offering { nacks, .. } = turn else {
+        return Err(Fail::from("no offer"));
+    };
+    assert_eq!(rt; nacks.as_slice(), [63].as_slice());
+    turn = resume(alloc, &mut machine, 0, Message::Empty)?;
+    assert!(rt; is_fault(&turn, Fault::Range));
+    Ok(())
+}
+
+/// The text made of a head, so many times a part, and an end.
+fn repeated(
+    alloc: Global,
+    head: &str,
+    part: &str,
+    times: u32,
+    end: &str,
+) -> Result<String, Fail> {
+    let mut text = String::from_str(alloc, head)?;
+    for _ in 0..times {
+        text.push_str(part)?;
+    }
+    text.push_str(end)?;
+    Ok(text)
+}
+
+#[test]
+fn long_scripts_run(rt: HostRuntime) -> Result<(), Fail> {
+    let alloc = rt.alloc();
+    let sum = repeated(alloc, "process a{print 0", "+1", 32000, ";}")?;
+    check_ends(&rt, sum.as_str(), &[], &[32000])?;
+    let row = repeated(alloc, "process a{", "end;", 16000, "}")?;
+    check_ends(&rt, row.as_str(), &[], &[])?;
+    let choices = repeated(alloc, "process a{sync choose[", "choose[],", 6000, "always(1)];print 5;}")?;
+    check_ends(&rt, choices.as_str(), &[(0, one(1))], &[5])?;
+    let deep = repeated(alloc, "process a{", "if 0=0{", 47, "print 6;")?;
+    let deep = repeated(alloc, deep.as_str(), "}else{}", 47, "}")?;
+    check_ends(&rt, deep.as_str(), &[], &[6])
+}
+
+fn crosses_threads<T: Send>(_value: &T) {}
+
+#[test]
+fn machines_lie_in_slots(rt: HostRuntime) -> Result<(), Fail> {
+    let alloc = rt.alloc();
+    let mut slots: Vec<Option<Machine>> = Vec::new(alloc);
+    slots.push(Some(machine(alloc, "process a { sync always (); }", 0)?))?;
+    crosses_threads(&slots);
+    if let Some(Some(machine)) = slots.pop() {
+        assert!(rt; !machine.is_offering());
+    }
+    Ok(())
+}
+
+/// Where memory runs out in `begin` or in `resume`, both have to answer so from then on.
+#[test]
+fn broken_for_good(rt: HostRuntime) -> Result<(), Fail> {
+    let alloc = rt.alloc();
+    let text = "process a { sync wrap guard { print 1; } always (2) to (3); print 4; }";
+    let mut machine = machine(alloc, text, 0)?;
+    if let Err(error) = machine.begin(alloc) {
+        assert!(rt; machine.begin(alloc).is_err());
+        assert!(rt; machine.resume(alloc, 0, Message::Empty).is_err());
+        assert!(rt; !machine.is_offering());
+        return Err(Fail::from(error));
+    }
+    let offers = machine.offers(alloc);
+    if offers.is_empty() {
+        return Err(Fail::from("no offer"));
+    }
+    if let Err(error) = machine.resume(alloc, 0, one(2)) {
+        assert!(rt; machine.resume(alloc, 0, one(2)).is_err());
+        assert_eq!(rt; machine.offers(alloc).len(), 0);
+        return Err(Fail::from(error));
+    }
+    check_prints(&rt, &machine, &[1, 4]);
+    Ok(())
+}
