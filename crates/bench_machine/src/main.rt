@@ -12,7 +12,8 @@ use std::rt::Env;
 use thread::{Machine, Turn};
 use words::{Atom, Message};
 
-const PROCESS: &str = "process a { let x = 0; forever { x <- sync guard { print x; } always (x + 1); } }";
+const PROCESS: &str =
+    "process a { let x = 0; forever { x <- sync guard { print x; } always (x + 1); } }";
 
 fn start(alloc: Global) -> Result<Machine>
     ensures { IfOk result (λ m. m.phase ≡ Ready) }

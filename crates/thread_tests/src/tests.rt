@@ -34,11 +34,7 @@ fn resume(
 }
 
 /// The first process of the text, run over these results, and its last turn.
-fn after(
-    alloc: Global,
-    text: &str,
-    results: &[(u8, Message)],
-) -> Result<(Machine, Turn), Fail> {
+fn after(alloc: Global, text: &str, results: &[(u8, Message)]) -> Result<(Machine, Turn), Fail> {
     let mut machine = machine(alloc, text, 0)?;
     let mut turn = machine.begin(alloc)?;
     for (chosen, message) in results {
@@ -125,13 +121,43 @@ fn a_message_is_received(rt: HostRuntime) -> Result<(), Fail> {
 fn sums_and_tests(rt: HostRuntime) -> Result<(), Fail> {
     check_ends(&rt, "process a { print (5-3)-1; }", &[], &[1])?;
     check_ends(&rt, "process a { print 5-(3-1); }", &[], &[3])?;
-    check_ends(&rt, "process a { print 4294967295 - 4294967294 + 7; }", &[], &[8])?;
-    check_fault(&rt, "process a { print 1; print 4294967295 + 1; }", &[], Fault::Range, &[1])?;
+    check_ends(
+        &rt,
+        "process a { print 4294967295 - 4294967294 + 7; }",
+        &[],
+        &[8],
+    )?;
+    check_fault(
+        &rt,
+        "process a { print 1; print 4294967295 + 1; }",
+        &[],
+        Fault::Range,
+        &[1],
+    )?;
     check_fault(&rt, "process a { print 1 - 2; }", &[], Fault::Range, &[])?;
-    check_fault(&rt, "channel c; process a { let x = x; print c + x; }", &[], Fault::Unset, &[])?;
-    check_fault(&rt, "channel c; process a { print c + 1; }", &[], Fault::Kind, &[])?;
-    check_fault(&rt, "channel c; process a { if c < 1 {} else {} }", &[], Fault::Kind, &[])?;
-    let text = "channel c; process a { if c = 0 { print 1; } else { print 2; } if c = c { print 3; } else {} }";
+    check_fault(
+        &rt,
+        "channel c; process a { let x = x; print c + x; }",
+        &[],
+        Fault::Unset,
+        &[],
+    )?;
+    check_fault(
+        &rt,
+        "channel c; process a { print c + 1; }",
+        &[],
+        Fault::Kind,
+        &[],
+    )?;
+    check_fault(
+        &rt,
+        "channel c; process a { if c < 1 {} else {} }",
+        &[],
+        Fault::Kind,
+        &[],
+    )?;
+    let text =
+        "channel c; process a { if c = 0 { print 1; } else { print 2; } if c = c { print 3; } else {} }";
     check_ends(&rt, text, &[], &[2, 3])
 }
 
@@ -139,10 +165,17 @@ fn sums_and_tests(rt: HostRuntime) -> Result<(), Fail> {
 fn guards_and_wraps(rt: HostRuntime) -> Result<(), Fail> {
     let guard =
         "process a { let n = 0; loop 2 { sync guard { let n = n + 1; print n; } always (); } }";
-    check_ends(&rt, guard, &[(0, Message::Empty), (0, Message::Empty)], &[1, 2])?;
-    let wraps = "process a { x <- sync wrap wrap always (3) as p to (p + 1) as q to (q + q); print x; }";
+    check_ends(
+        &rt,
+        guard,
+        &[(0, Message::Empty), (0, Message::Empty)],
+        &[1, 2],
+    )?;
+    let wraps =
+        "process a { x <- sync wrap wrap always (3) as p to (p + 1) as q to (q + q); print x; }";
     check_ends(&rt, wraps, &[(0, one(3))], &[8])?;
-    let chosen = "channel c; process a { x <- sync choose [wrap recv c as p to (p + 1), wrap recv c as p to (p + 2)]; print x; print p; }";
+    let chosen =
+        "channel c; process a { x <- sync choose [wrap recv c as p to (p + 1), wrap recv c as p to (p + 2)]; print x; print p; }";
     check_ends(&rt, chosen, &[(1, one(5))], &[7, 5])?;
     let shape = "process a { print 7; x, y <- sync always (1); }";
     check_fault(&rt, shape, &[(0, one(1))], Fault::Shape, &[7])?;
@@ -153,7 +186,8 @@ fn guards_and_wraps(rt: HostRuntime) -> Result<(), Fail> {
 
 #[test]
 fn bodies_sync_and_end(rt: HostRuntime) -> Result<(), Fail> {
-    let body = "channel c; process a { y <- sync guard { x <- sync recv c; print x; } always (x); print y; }";
+    let body =
+        "channel c; process a { y <- sync guard { x <- sync recv c; print x; } always (x); print y; }";
     check_ends(&rt, body, &[(0, one(9)), (0, one(9))], &[9, 9])?;
     let ends = "process a { sync nack n { print 1; end; } always (); print 2; }";
     check_ends(&rt, ends, &[], &[1])
@@ -174,7 +208,8 @@ fn head(rt: &impl Abort, offer: &Offer) -> u64 {
 
 #[test]
 fn scopes_and_their_nacks(rt: HostRuntime) -> Result<(), Fail> {
-    let text = "channel w; channel v; channel u; channel c; process a { sync nack m { sync send w (m); } choose [nack n { sync send v (n); } recv c, always ()]; }";
+    let text =
+        "channel w; channel v; channel u; channel c; process a { sync nack m { sync send w (m); } choose [nack n { sync send v (n); } recv c, always ()]; }";
     let results = [(0, Message::Empty), (0, Message::Empty)];
     let (machine, turn) = after(rt.alloc(), text, &results)?;
     let Turn::Offering { offers, nacks } = turn else {
@@ -192,28 +227,20 @@ fn scopes_and_their_nacks(rt: HostRuntime) -> Result<(), Fail> {
 #[test]
 fn the_last_nack(rt: HostRuntime) -> Result<(), Fail> {
     let alloc = rt.alloc();
-    let mut machine = machine(alloc, "process a { forever { sync nack n {} always (); } }", 0)?;
-    let mut turn = machine.begin(alloc)?;
+    let text = "process a { forever { sync nack n {} always (); } }";
+    let mut machine = machine(alloc, text, 0)?;
+    let _first = machine.begin(alloc)?;
     for _ in 0..63 {
-        turn = resume(alloc, &mut machine, 0, Message::Empty)?;
+        let _turn = resume(alloc, &mut machine, 0, Message::Empty)?;
     }
-    let Turn::Offering { nacks, .. } = turn else {
-        return Err(Fail::from("no offer"));
-    };
-    assert_eq!(rt; nacks.as_slice(), [63].as_slice());
-    turn = resume(alloc, &mut machine, 0, Message::Empty)?;
-    assert!(rt; is_fault(&turn, Fault::Range));
+    assert_eq!(rt; machine.nacks(alloc).as_slice(), [63].as_slice());
+    let last = resume(alloc, &mut machine, 0, Message::Empty)?;
+    assert!(rt; is_fault(&last, Fault::Range));
     Ok(())
 }
 
 /// The text made of a head, so many times a part, and an end.
-fn repeated(
-    alloc: Global,
-    head: &str,
-    part: &str,
-    times: u32,
-    end: &str,
-) -> Result<String, Fail> {
+fn repeated(alloc: Global, head: &str, part: &str, times: u32, end: &str) -> Result<String, Fail> {
     let mut text = String::from_str(alloc, head)?;
     for _ in 0..times {
         text.push_str(part)?;
@@ -229,7 +256,13 @@ fn long_scripts_run(rt: HostRuntime) -> Result<(), Fail> {
     check_ends(&rt, sum.as_str(), &[], &[32000])?;
     let row = repeated(alloc, "process a{", "end;", 16000, "}")?;
     check_ends(&rt, row.as_str(), &[], &[])?;
-    let choices = repeated(alloc, "process a{sync choose[", "choose[],", 6000, "always(1)];print 5;}")?;
+    let choices = repeated(
+        alloc,
+        "process a{sync choose[",
+        "choose[],",
+        6000,
+        "always(1)];print 5;}",
+    )?;
     check_ends(&rt, choices.as_str(), &[(0, one(1))], &[5])?;
     let deep = repeated(alloc, "process a{", "if 0=0{", 47, "print 6;")?;
     let deep = repeated(alloc, deep.as_str(), "}else{}", 47, "}")?;
