@@ -6,7 +6,7 @@ use std::alloc::Global;
 use std::process::Abort;
 use std::test::Fail;
 use thread::{Fault, Machine, Turn};
-use words::{Atom, Base, Message, Offer, pack_offer};
+use words::{Atom, Base, Direction, Head, Message, Offer, unpack_head};
 
 /// The process with this number, as thread 0, before its beginning.
 fn machine(alloc: Global, text: &str, process: usize) -> Result<Machine, Fail>
@@ -193,19 +193,6 @@ fn bodies_sync_and_end(rt: HostRuntime) -> Result<(), Fail> {
     check_ends(&rt, ends, &[], &[1])
 }
 
-/// The head word of an offer, for one that brings no atoms.
-fn head(rt: &impl Abort, offer: &Offer) -> u64 {
-    assert!(rt; offer.scopes < 16);
-    let base = match offer.base {
-        Base::Recv(channel) => Base::Recv(channel),
-        _ => Base::Always(Message::Empty),
-    };
-    pack_offer(Offer {
-        base,
-        scopes: offer.scopes,
-    })[0]
-}
-
 #[test]
 fn scopes_and_their_nacks(rt: HostRuntime) -> Result<(), Fail> {
     let text =
@@ -218,9 +205,27 @@ fn scopes_and_their_nacks(rt: HostRuntime) -> Result<(), Fail> {
     assert_eq!(rt; nacks.as_slice(), [0, 1].as_slice());
     assert_eq!(rt; machine.nacks(rt.alloc()).as_slice(), [0, 1].as_slice());
     assert_eq!(rt; offers.len(), 2);
-    assert!(rt; matches!(offers[1].base, Base::Always(Message::Empty)));
-    assert_eq!(rt; head(&rt, &offers[0]), 100663322);
-    assert_eq!(rt; head(&rt, &offers[1]), 33554435);
+    let receive = Offer {
+        base: Base::Recv(3),
+        scopes: 3,
+    };
+    let always = Offer {
+        base: Base::Always(Message::Empty),
+        scopes: 1,
+    };
+    assert_eq!(rt; offers.as_slice(), [receive, always].as_slice());
+    let heads = [
+        Head {
+            direction: Direction::Recv { chan: 3 },
+            scopes: 3,
+        },
+        Head {
+            direction: Direction::Always { atoms: 0 },
+            scopes: 1,
+        },
+    ];
+    assert!(rt; unpack_head(100_663_322) == Some(heads[0]));
+    assert!(rt; unpack_head(33_554_435) == Some(heads[1]));
     Ok(())
 }
 
@@ -269,14 +274,11 @@ fn long_scripts_run(rt: HostRuntime) -> Result<(), Fail> {
     check_ends(&rt, deep.as_str(), &[], &[6])
 }
 
-fn crosses_threads<T: Send>(_value: &T) {}
-
 #[test]
 fn machines_lie_in_slots(rt: HostRuntime) -> Result<(), Fail> {
     let alloc = rt.alloc();
     let mut slots: Vec<Option<Machine>> = Vec::new(alloc);
     slots.push(Some(machine(alloc, "process a { sync always (); }", 0)?))?;
-    crosses_threads(&slots);
     if let Some(Some(machine)) = slots.pop() {
         assert!(rt; !machine.is_offering());
     }
