@@ -1,0 +1,7 @@
+mod Facts
+mod Words
+mod Loops
+mod Exprs
+mod Lists
+mod NameLists
+mod Demanding

@@ -1,0 +1,206 @@
+-- Readers of one token.
+use Rattle.std.proofs.Common.{◌≡◌, ◌⊎◌, inl, inr, ⊎_elim, ℕ, zero, suc, ◌<◌, Bool, true, false, ◌||◌, eqb, ltb, leb, List, [], ◌∷◌, length, Option, Some, None, Result, Ok, Err, is_some, refl, ◌∙◌, arith, tests}
+use Rattle.token.specs.Tokens.{Token, Fixed, Name, Number, Bad}
+use Rattle.token.specs.declared.kind.Symbol.{Symbol}
+use Rattle.syntax.specs.declared.tree.Name.{Name as Meaning}
+use Rattle.phrase.specs.Places.{place}
+use Rattle.phrase.specs.Steps.{Told, ◌>>=◌, stop_at, if_some, number_at, next_is, accept_at, expect_at, Here, meaning, read_name_at, bound, is_listed, bind_name_at}
+use Rattle.phrase.specs.declared.fault.Problem.TheVariants.{Syntax, UnknownName, Twice, TooMany}
+use Rattle.grammar.proofs.Fronts.{accept_ok, is_next, next_found}
+use Rattle.faults.specs.Notes.{plain, read_note, bind_note}
+use Rattle.faults.specs.Laws.{Any}
+use Rattle.faults.proofs.Facts.{Lang, Facts, Takes, Faults, token, one_token, or_stop, next_same}
+
+-- A TOKEN THAT MAY LIE TOO DEEP
+
+pub some_room : (room : ℕ) → plain room ≡ None → 0 < room
+unfolding plain
+some_room zero e = absurd cc
+some_room (suc room) e = omega arith
+
+plain_left : (room : ℕ) → plain (suc room) ≡ None
+unfolding plain
+plain_left room = (let no : eqb (suc room) 0 ≡ false = search (arith, tests) in rw no refl)
+
+pub accept_both : (room : ℕ) (t : Token) → ((plain room ≡ None) × ((ts : List Token) → accept_at room (t ∷ ts) ≡ Ok ts)) ⊎ ((plain room ≡ Some (TooMany, 0)) × ((ts : List Token) → accept_at room (t ∷ ts) ≡ Err (TooMany, suc (length ts))))
+unfolding plain accept_at
+accept_both zero t = inr (refl, λ ts. refl)
+accept_both (suc room) t = inl (plain_left room, λ ts. accept_ok (suc room) t ts (omega arith))
+
+-- KEYWORDS AND MARKS
+
+abbrev pub word : Symbol → ℕ → Lang (Unit {0}) (List Token) Any
+word symbol room = token {W = Unit {0}} {X = Unit {0}} {Y = List Token} tt (λ w. Fixed symbol) (λ w. plain room) (λ w x rest. rest)
+
+no_next : (symbol : Symbol) → next_is symbol [] ≡ true → ⊥
+unfolding next_is
+no_next symbol e = cc
+
+pub first_is : (symbol : Symbol) (t : Token) (ts : List Token) → next_is symbol (t ∷ ts) ≡ true → t ≡ Fixed symbol
+first_is symbol t ts e = (let front = next_found symbol (t ∷ ts) e in let same : t ∷ ts ≡ Fixed symbol ∷ front.rest = front.is in cc)
+
+pub accept_facts : {P : List Token → Type 0} (room : ℕ) (symbol : Symbol) → ((ts : List Token) → P ts → next_is symbol ts ≡ true) → Facts P (word symbol room) (λ ts. accept_at room ts)
+accept_facts room symbol h =
+    one_token {W = Unit {0}} {X = Unit {0}} {Y = List Token} tt (λ w. Fixed symbol) (λ w. plain room) (λ w x rest. rest) (λ ts. accept_at room ts)
+    (λ p. absurd (no_next symbol (h [] p)))
+    (λ w. ⊎_elim (λ a. inl (record { none = a.0; value = tt; reads = a.1 })) (λ b. inr (record { problem = TooMany; some = b.0; fails = b.1 })) (accept_both room (Fixed symbol)))
+    (λ t ts p. inl (tt, first_is symbol t ts (h (t ∷ ts) p)))
+
+pub expect_facts : {P : List Token → Type 0} (room : ℕ) (symbol : Symbol) → Facts P (word symbol room) (λ ts. expect_at room symbol ts)
+unfolding expect_at
+expect_facts room symbol = or_stop (next_is symbol) (next_same symbol) (word symbol room) (λ ts. accept_at room ts) (λ w rest. is_next symbol rest) (accept_facts room symbol (λ ts q. q.1))
+
+-- NAMES THAT ARE READ
+
+abbrev pub name : ℕ → Here → Lang Meaning (Meaning × List Token) Any
+name room h = token {W = List ℕ} {X = Meaning} {Y = Meaning × List Token} [] (λ text. Name text) (λ text. read_note room h text) (λ w x rest. (x, rest))
+
+known : (room : ℕ) (h : Here) (text : List ℕ) (x : Meaning) → meaning h text ≡ Some x → read_note room h text ≡ plain room
+unfolding read_note
+known room h text x e = rw e refl
+
+unknown : (room : ℕ) (h : Here) (text : List ℕ) → meaning h text ≡ None → read_note room h text ≡ Some (UnknownName, 0)
+unfolding read_note
+unknown room h text e = rw e refl
+
+read_known : (room : ℕ) (h : Here) (text : List ℕ) (x : Meaning) (ts : List Token) (r : Result (List Token) Told) → meaning h text ≡ Some x → accept_at room (Name text ∷ ts) ≡ r → read_name_at room h (Name text ∷ ts) ≡ (r >>= λ rest. Ok (x, rest))
+unfolding read_name_at
+read_known room h text x ts r e f = rw (e, f) refl
+
+read_unknown : (room : ℕ) (h : Here) (text : List ℕ) (ts : List Token) → meaning h text ≡ None → read_name_at room h (Name text ∷ ts) ≡ Err (UnknownName, suc (length ts))
+unfolding read_name_at
+read_unknown room h text ts e = rw e refl
+
+name_on : (room : ℕ) (h : Here) (text : List ℕ) (o : Option Meaning) → meaning h text ≡ o
+    → Takes {W = List ℕ} {X = Meaning} {Y = Meaning × List Token} [] (λ text. Name text) (λ text. read_note room h text) (λ w x rest. (x, rest)) (λ ts. read_name_at room h ts) text
+    ⊎ Faults {W = List ℕ} {X = Meaning} {Y = Meaning × List Token} [] (λ text. Name text) (λ text. read_note room h text) (λ w x rest. (x, rest)) (λ ts. read_name_at room h ts) text
+name_on room h text None e = inr (record { problem = UnknownName; some = unknown room h text e; fails = λ ts. read_unknown room h text ts e })
+name_on room h text (Some x) e = ⊎_elim
+    (λ a. inl (record { none = known room h text x e ∙ a.0; value = x; reads = λ ts. read_known room h text x ts (Ok ts) e (a.1 ts) }))
+    (λ b. inr (record { problem = TooMany; some = known room h text x e ∙ b.0; fails = λ ts. read_known room h text x ts (Err (TooMany, suc (length ts))) e (b.1 ts) }))
+    (accept_both room (Name text))
+
+name_off : (room : ℕ) (h : Here) (t : Token) → ((w : List ℕ) × (t ≡ Name w)) ⊎ ((us : List Token) → read_name_at room h (t ∷ us) ≡ Err (Syntax, suc (length us)))
+unfolding read_name_at
+name_off room h (Fixed s) = inr (λ us. refl)
+name_off room h (Name text) = inl (text, refl)
+name_off room h (Number n) = inr (λ us. refl)
+name_off room h Bad = inr (λ us. refl)
+
+no_name : (room : ℕ) (h : Here) → read_name_at room h [] ≡ Err (Syntax, 0)
+unfolding read_name_at
+no_name room h = refl
+
+pub name_facts : {P : List Token → Type 0} (room : ℕ) (h : Here) → Facts P (name room h) (λ ts. read_name_at room h ts)
+name_facts room h = one_token {W = List ℕ} {X = Meaning} {Y = Meaning × List Token} [] (λ text. Name text) (λ text. read_note room h text) (λ w x rest. (x, rest)) (λ ts. read_name_at room h ts) (λ p. no_name room h) (λ w. name_on room h w (meaning h w) refl) (λ t ts p. name_off room h t)
+
+-- NUMBERS
+
+unfoldable pub number_at_room : ℕ → List Token → Result (ℕ × List Token) Told
+number_at_room room ts = if_some (number_at ts) (λ n. accept_at room ts >>= λ rest. Ok (n, rest)) (stop_at Syntax ts)
+
+abbrev pub number : ℕ → Lang (Unit {0}) (ℕ × List Token) Any
+number room = token {W = ℕ} {X = Unit {0}} {Y = ℕ × List Token} 0 (λ n. Number n) (λ n. plain room) (λ n x rest. (n, rest))
+
+read_number : (room n : ℕ) (ts : List Token) (r : Result (List Token) Told) → accept_at room (Number n ∷ ts) ≡ r → number_at_room room (Number n ∷ ts) ≡ (r >>= λ rest. Ok (n, rest))
+unfolding number_at_room
+read_number room n ts r f = rw f refl
+
+number_off : (room : ℕ) (t : Token) → ((w : ℕ) × (t ≡ Number w)) ⊎ ((us : List Token) → number_at_room room (t ∷ us) ≡ Err (Syntax, suc (length us)))
+unfolding number_at_room
+number_off room (Fixed s) = inr (λ us. refl)
+number_off room (Name text) = inr (λ us. refl)
+number_off room (Number n) = inl (n, refl)
+number_off room Bad = inr (λ us. refl)
+
+no_number : (room : ℕ) → number_at_room room [] ≡ Err (Syntax, 0)
+unfolding number_at_room
+no_number room = refl
+
+pub number_facts : {P : List Token → Type 0} (room : ℕ) → Facts P (number room) (λ ts. number_at_room room ts)
+number_facts room =
+    one_token {W = ℕ} {X = Unit {0}} {Y = ℕ × List Token} 0 (λ n. Number n) (λ n. plain room) (λ n x rest. (n, rest)) (λ ts. number_at_room room ts)
+    (λ p. no_number room)
+    (λ n. ⊎_elim
+    (λ a. inl (record { none = a.0; value = tt; reads = λ ts. read_number room n ts (Ok ts) (a.1 ts) }))
+    (λ b. inr (record { problem = TooMany; some = b.0; fails = λ ts. read_number room n ts (Err (TooMany, suc (length ts))) (b.1 ts) }))
+    (accept_both room (Number n)))
+    (λ t ts p. number_off room t)
+
+-- NAMES THAT ARE BOUND
+
+abbrev pub Binds : Type 0
+Binds = ℕ × Here × List Token
+
+abbrev pub bound_name : ℕ → List ℕ → Here → Lang (Unit {0}) Binds Any
+bound_name room list h = token {W = List ℕ} {X = Unit {0}} {Y = Binds} [] (λ text. Name text) (λ text. bind_note room list h text) (λ text x rest. ((bound h text).0, (bound h text).1, rest))
+
+module _ (room : ℕ) (list : List ℕ) (h : Here) (text : List ℕ) where
+  abbrev pub is_twice : Bool
+  is_twice = is_some (place text h.channels) || is_listed list (place text h.variables)
+
+  abbrev pub are_many : Bool
+  are_many = ltb 32 (length text) || leb 3 (length list)
+
+  pub twice : is_twice ≡ true → bind_note room list h text ≡ Some (Twice, 0)
+  unfolding bind_note
+  twice e = rw e refl
+
+  pub many : is_twice ≡ false → are_many ≡ true → bind_note room list h text ≡ Some (TooMany, 0)
+  unfolding bind_note
+  many e f = rw (e, f) refl
+
+  free : is_twice ≡ false → are_many ≡ false → bind_note room list h text ≡ plain room
+  unfolding bind_note
+  free e f = rw (e, f) refl
+
+  bind_twice : (ts : List Token) → is_twice ≡ true → bind_name_at room list h (Name text ∷ ts) ≡ Err (Twice, suc (length ts))
+  unfolding bind_name_at
+  bind_twice ts e = rw e refl
+
+  bind_many : (ts : List Token) → is_twice ≡ false → are_many ≡ true → bind_name_at room list h (Name text ∷ ts) ≡ Err (TooMany, suc (length ts))
+  unfolding bind_name_at
+  bind_many ts e f = rw (e, f) refl
+
+  bind_free : (ts : List Token) (r : Result (List Token) Told) → is_twice ≡ false → are_many ≡ false → accept_at room (Name text ∷ ts) ≡ r → bind_name_at room list h (Name text ∷ ts) ≡ (r >>= λ rest. Ok ((bound h text).0, (bound h text).1, rest))
+  unfolding bind_name_at
+  bind_free ts r e f g = rw (e, f, g) refl
+
+  abbrev BindTakes : Type 0
+  BindTakes = Takes {W = List ℕ} {X = Unit {0}} {Y = Binds} [] (λ text. Name text) (λ text. bind_note room list h text) (λ text x rest. ((bound h text).0, (bound h text).1, rest)) (λ ts. bind_name_at room list h ts) text
+
+  abbrev BindFaults : Type 0
+  BindFaults = Faults {W = List ℕ} {X = Unit {0}} {Y = Binds} [] (λ text. Name text) (λ text. bind_note room list h text) (λ text x rest. ((bound h text).0, (bound h text).1, rest)) (λ ts. bind_name_at room list h ts) text
+
+  bind_room : is_twice ≡ false → are_many ≡ false → BindTakes ⊎ BindFaults
+  bind_room e f = ⊎_elim
+      (λ a. inl (record { none = free e f ∙ a.0; value = tt; reads = λ ts. bind_free ts (Ok ts) e f (a.1 ts) }))
+      (λ b. inr (record { problem = TooMany; some = free e f ∙ b.0; fails = λ ts. bind_free ts (Err (TooMany, suc (length ts))) e f (b.1 ts) }))
+      (accept_both room (Name text))
+
+  bind_count : (b : Bool) → is_twice ≡ false → are_many ≡ b → BindTakes ⊎ BindFaults
+  bind_count true e f = inr (record { problem = TooMany; some = many e f; fails = λ ts. bind_many ts e f })
+  bind_count false e f = bind_room e f
+
+  bind_on : (b : Bool) → is_twice ≡ b → BindTakes ⊎ BindFaults
+  bind_on true e = inr (record { problem = Twice; some = twice e; fails = λ ts. bind_twice ts e })
+  bind_on false e = bind_count are_many e refl
+
+  pub bind_name_on : BindTakes ⊎ BindFaults
+  bind_name_on = bind_on is_twice refl
+
+bind_off : (room : ℕ) (list : List ℕ) (h : Here) (t : Token) → ((w : List ℕ) × (t ≡ Name w)) ⊎ ((us : List Token) → bind_name_at room list h (t ∷ us) ≡ Err (Syntax, suc (length us)))
+unfolding bind_name_at
+bind_off room list h (Fixed s) = inr (λ us. refl)
+bind_off room list h (Name text) = inl (text, refl)
+bind_off room list h (Number n) = inr (λ us. refl)
+bind_off room list h Bad = inr (λ us. refl)
+
+no_bound : (room : ℕ) (list : List ℕ) (h : Here) → bind_name_at room list h [] ≡ Err (Syntax, 0)
+unfolding bind_name_at
+no_bound room list h = refl
+
+pub bound_name_facts : {P : List Token → Type 0} (room : ℕ) (list : List ℕ) (h : Here) → Facts P (bound_name room list h) (λ ts. bind_name_at room list h ts)
+bound_name_facts room list h =
+    one_token {W = List ℕ} {X = Unit {0}} {Y = Binds} [] (λ text. Name text) (λ text. bind_note room list h text) (λ text x rest. ((bound h text).0, (bound h text).1, rest)) (λ ts. bind_name_at room list h ts)
+    (λ p. no_bound room list h) (λ w. bind_name_on room list h w) (λ t ts p. bind_off room list h t)

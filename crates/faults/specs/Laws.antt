@@ -1,0 +1,74 @@
+-- The fault that reading has to tell, stated with no reading in it.
+use Rattle.std.specs.Prelude.{◌≡◌, ◌⊎◌, ℕ, ◌+◌, List, ◌∷◌, ◌++◌, length, take, Some, None, Result, Ok, Err, is_some, false}
+use Rattle.token.specs.Tokens.{Token, Name}
+use Rattle.token.specs.declared.kind.Symbol.TheVariants.{Comma}
+use Rattle.phrase.specs.Steps.{Told, Here, next_is, bind_names_at}
+use Rattle.phrase.specs.Exprs.{sign_at, expr_at, test_at, list_at}
+use Rattle.phrase.specs.declared.fault.Problem.TheVariants.{Syntax}
+use Rattle.grammar.specs.Written.{expr_tokens, test_tokens, list_tokens, more_names_tokens}
+use Rattle.faults.specs.Notes.{Note, first_fault, SameFront, expr_notes, test_notes, list_notes, names_notes}
+
+-- the first of these notes is the problem, told at a token from which so many are left
+pub record IsFirst (notes : List Note) (rest : ℕ) (told : Told) : Type 0 where
+  pub left : ℕ
+  pub is : first_fault notes ≡ Some (told.0, left)
+  pub count : left + rest ≡ told.1
+
+-- Of what can be written, with its tokens and its notes, and with what may follow it: the fault that stands
+-- at the token behind those before.
+pub record Demanded {W : Type 0} (spell : W → List Token → List Token) (notes : W → List Note) (Ends : List Token → Type 0) (ts : List Token) (told : Told) : Type 0 where
+  pub before : List Token
+  pub behind : List Token
+  pub tokens : ts ≡ before ++ behind
+  -- the line is told of a token at the place, or of one before
+  pub back : ℕ
+  pub line : told.1 ≡ back + length behind
+  -- something that is written begins with the tokens before, and no fault stands at one of them
+  pub written : W
+  pub more : List Token → List Token
+  pub begins : (rest : List Token) → spell written rest ≡ before ++ more rest
+  pub clean : first_fault (take (length before) (notes written)) ≡ None
+  -- whatever is written and goes on with the token at the place has this first fault
+  pub first : (w : W) (rest others : List Token) → Ends rest → spell w rest ≡ before ++ others → SameFront behind others → IsFirst (notes w) (length rest) (told.0, back + length others)
+  -- and something does go on with it, unless it is syntax
+  pub goes_on : (told.0 ≡ Syntax) ⊎ ((rest : List Token) → SameFront behind (more rest))
+
+abbrev pub IsRead : {X : Type 0} → Result X Told → Type 0
+IsRead (Ok x) = Unit {0}
+IsRead (Err told) = ⊥
+
+-- what is written is read where no fault stands in it, and else the first fault is told
+pub record Answered {X : Type 0} {W : Type 0} (spell : W → List Token → List Token) (notes : W → List Note) (Ends : List Token → Type 0) (read : List Token → Result X Told) : Type 0 where
+  pub reads : (w : W) → first_fault (notes w) ≡ None → (rest : List Token) → Ends rest → IsRead (read (spell w rest))
+  pub tells : (w : W) (told : Told) → first_fault (notes w) ≡ Some told → (rest : List Token) → Ends rest → read (spell w rest) ≡ Err (told.0, told.1 + length rest)
+  pub demanded : (ts : List Token) (told : Told) → read ts ≡ Err told → Demanded spell notes Ends ts told
+
+-- no further term follows
+abbrev pub NoSign : List Token → Type 0
+NoSign rest = is_some (sign_at rest) ≡ false
+
+-- no further name follows
+abbrev pub NoComma : List Token → Type 0
+NoComma rest = next_is Comma rest ≡ false
+
+abbrev pub Any : List Token → Type 0
+Any rest = Unit {0}
+
+abbrev pub ExprsAreAnswered : Type 0
+ExprsAreAnswered = (room : ℕ) (h : Here) → Answered expr_tokens (expr_notes room h) NoSign (λ ts. expr_at room h ts)
+
+abbrev pub TestsAreAnswered : Type 0
+TestsAreAnswered = (room : ℕ) (h : Here) → Answered test_tokens (test_notes room h) NoSign (λ ts. test_at room h ts)
+
+abbrev pub ListsAreAnswered : Type 0
+ListsAreAnswered = (room : ℕ) (h : Here) → Answered list_tokens (list_notes room h) Any (λ ts. list_at room h ts)
+
+-- names that are bound, of which there is one at least
+abbrev pub Names : Type 0
+Names = List ℕ × List (List ℕ)
+
+abbrev pub names_tokens : Names → List Token → List Token
+names_tokens names rest = Name names.0 ∷ more_names_tokens names.1 rest
+
+abbrev pub NamesAreAnswered : Type 0
+NamesAreAnswered = (room : ℕ) (h : Here) → Answered names_tokens (λ names. names_notes room h names.0 names.1) NoComma (λ ts. bind_names_at room h ts)

@@ -1,0 +1,20 @@
+//! The faults of what is written in a script, apart from how it is read. No code runs here.
+//!
+//! The definitions stand in `specs`: for each token of what is written a note with the fault that stands
+//! there (`Notes`), and which fault of some tokens is to be told (`Laws`): that at the earliest place, and
+//! of two at one token the one with the lower number.
+//!
+//! Proved, of expressions, tests, lists and names that are bound: reading from left to right tells just
+//! that fault.
+#![tactic(auto)]
+
+ghost use Rattle.faults.specs.Laws.{ExprsAreAnswered, TestsAreAnswered, ListsAreAnswered, NamesAreAnswered};
+
+/// What is written is read where no fault stands in it, and else its first fault is told. Of any tokens
+/// the fault that is told is the one that is demanded.
+pub fn fault_laws()
+    ensures exprs { ExprsAreAnswered }
+    ensures tests { TestsAreAnswered }
+    ensures lists { ListsAreAnswered }
+    ensures names { NamesAreAnswered }
+{}
