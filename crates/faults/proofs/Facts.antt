@@ -111,7 +111,7 @@ pub record Stops {X Y : Type 0} {E : List Token → Type 0} (L : Lang X Y E) (f 
   pub parts : L.notes w ≡ first ++ last
   pub count : length first ≡ length before
   pub clean : first_fault first ≡ None
-  pub reach : (problem ≡ Syntax) ⊎ ((rest : List Token) → SameFront behind (more rest))
+  pub reach : (problem ≡ Syntax) × (back ≡ 0) ⊎ ((rest : List Token) → SameFront behind (more rest))
 
 -- of tokens of which P holds
 pub record Facts {X Y : Type 0} {E : List Token → Type 0} (P : List Token → Type 0) (L : Lang X Y E) (f : List Token → Result Y Told) : Type 0 where
@@ -447,7 +447,7 @@ stops_with L f ts problem w e reach = record {
   parts = refl;
   count = refl;
   clean = refl;
-  reach = reach;
+  reach = ⊎_elim (λ e. inl (e, refl)) (λ h. inr h) reach;
 }
 
 pub stops_at_once : {X Y : Type 0} {E : List Token → Type 0} (L : Lang X Y E) (f : List Token → Result Y Told) (ts : List Token) → ((others : List Token) → SameFront ts others → f others ≡ Err (Syntax, length others)) → Stops L f ts

@@ -5,3 +5,4 @@ mod Exprs
 mod Lists
 mod NameLists
 mod Demanding
+mod Places

@@ -123,7 +123,7 @@ module _ {X S W H : Type 0} (at : X → H → List Token → S) (spell : W → L
       parts : notes_all notes after h ws ≡ first ++ last
       count : length first ≡ length before
       clean : first_fault first ≡ None
-      reach : (problem ≡ Syntax) ⊎ ((rest : List Token) → SameFront behind (more' rest))
+      reach : (problem ≡ Syntax) × (back ≡ 0) ⊎ ((rest : List Token) → SameFront behind (more' rest))
 
     stops_here : (ts : List Token) (x : X) (h : H) → more ts ≡ true → Stops (one_lang h) (next x h) ts → AllStops ts x h
     stops_here ts x h e s = record {

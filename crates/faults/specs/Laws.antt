@@ -1,5 +1,5 @@
 -- The fault that reading has to tell, stated with no reading in it.
-use Rattle.std.specs.Prelude.{◌≡◌, ◌⊎◌, ℕ, ◌+◌, List, ◌∷◌, ◌++◌, length, take, Some, None, Result, Ok, Err, is_some, false}
+use Rattle.std.specs.Prelude.{◌≡◌, ◌⊎◌, ℕ, ◌+◌, ◌≤◌, List, ◌∷◌, ◌++◌, length, take, Some, None, Result, Ok, Err, is_some, false}
 use Rattle.token.specs.Tokens.{Token, Name}
 use Rattle.token.specs.declared.kind.Symbol.TheVariants.{Comma}
 use Rattle.phrase.specs.Steps.{Told, Here, next_is, bind_names_at}
@@ -27,21 +27,24 @@ pub record Demanded {W : Type 0} (spell : W → List Token → List Token) (note
   pub written : W
   pub more : List Token → List Token
   pub begins : (rest : List Token) → spell written rest ≡ before ++ more rest
+  pub within : length before ≤ length (notes written)
   pub clean : first_fault (take (length before) (notes written)) ≡ None
   -- whatever is written and goes on with the token at the place has this first fault
   pub first : (w : W) (rest others : List Token) → Ends rest → spell w rest ≡ before ++ others → SameFront behind others → IsFirst (notes w) (length rest) (told.0, back + length others)
-  -- and something does go on with it, unless it is syntax
-  pub goes_on : (told.0 ≡ Syntax) ⊎ ((rest : List Token) → SameFront behind (more rest))
+  -- and something does go on with it, unless it is syntax, which is told at the place itself
+  pub goes_on : (told.0 ≡ Syntax) × (back ≡ 0) ⊎ ((rest : List Token) → SameFront behind (more rest))
 
 abbrev pub IsRead : {X : Type 0} → Result X Told → Type 0
 IsRead (Ok x) = Unit {0}
 IsRead (Err told) = ⊥
 
--- what is written is read where no fault stands in it, and else the first fault is told
+-- What is written is read where no fault stands in it, and else the first fault is told. Of any tokens the
+-- fault that is told is the demanded one, and no other fault is demanded.
 pub record Answered {X : Type 0} {W : Type 0} (spell : W → List Token → List Token) (notes : W → List Note) (Ends : List Token → Type 0) (read : List Token → Result X Told) : Type 0 where
   pub reads : (w : W) → first_fault (notes w) ≡ None → (rest : List Token) → Ends rest → IsRead (read (spell w rest))
   pub tells : (w : W) (told : Told) → first_fault (notes w) ≡ Some told → (rest : List Token) → Ends rest → read (spell w rest) ≡ Err (told.0, told.1 + length rest)
   pub demanded : (ts : List Token) (told : Told) → read ts ≡ Err told → Demanded spell notes Ends ts told
+  pub alone : (ts : List Token) (told : Told) → Demanded spell notes Ends ts told → read ts ≡ Err told
 
 -- no further term follows
 abbrev pub NoSign : List Token → Type 0

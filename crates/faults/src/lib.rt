@@ -11,7 +11,7 @@
 ghost use Rattle.faults.specs.Laws.{ExprsAreAnswered, TestsAreAnswered, ListsAreAnswered, NamesAreAnswered};
 
 /// What is written is read where no fault stands in it, and else its first fault is told. Of any tokens
-/// the fault that is told is the one that is demanded.
+/// the fault that is told is the one that is demanded, and no other is demanded of them.
 pub fn fault_laws()
     ensures exprs { ExprsAreAnswered }
     ensures tests { TestsAreAnswered }

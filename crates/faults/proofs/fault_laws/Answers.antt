@@ -4,12 +4,24 @@ use Rattle.faults.proofs.NameLists.{names_lang, names_facts}
 use Rattle.faults.proofs.Demanding.{answered}
 use Rattle.phrase.specs.Steps.{bind_names_at}
 use Rattle.phrase.specs.Exprs.{expr_at, test_at, list_at}
+use Rattle.phrase.specs.Steps.{next_is}
+use Rattle.std.proofs.Common.{[], refl}
+use Rattle.faults.specs.Laws.{NoSign, NoComma}
+use Rattle.faults.proofs.Places.{expr_here, test_here, list_here, names_here}
 use Rattle.faults.proofs.fault_laws.Goals as goal
+
+no_sign : NoSign []
+unfolding next_is
+no_sign = refl
+
+no_comma : NoComma []
+unfolding next_is
+no_comma = refl
 
 pub returns : goal.returns
 returns c = record {
-  exprs = λ room h. answered (expr_lang room h) (λ ts. expr_at room h ts) (expr_facts room h);
-  tests = λ room h. answered (test_lang room h) (λ ts. test_at room h ts) (test_facts room h);
-  lists = λ room h. answered (list_lang room h) (λ ts. list_at room h ts) (list_facts room h);
-  names = λ room h. answered (names_lang room h) (λ ts. bind_names_at room h ts) (names_facts room h);
+  exprs = λ room h. answered (expr_lang room h) (λ ts. expr_at room h ts) (expr_facts room h) (λ e. expr_here e room h) [] no_sign;
+  tests = λ room h. answered (test_lang room h) (λ ts. test_at room h ts) (test_facts room h) (λ t. test_here t room h) [] no_sign;
+  lists = λ room h. answered (list_lang room h) (λ ts. list_at room h ts) (list_facts room h) (λ es. list_here es room h) [] tt;
+  names = λ room h. answered (names_lang room h) (λ ts. bind_names_at room h ts) (names_facts room h) (λ ns. names_here ns.0 ns.1 room h) [] no_comma;
 }
