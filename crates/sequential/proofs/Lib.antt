@@ -1,0 +1,10 @@
+mod Greatest
+mod Lists
+mod Opening
+mod Firing
+mod Growing
+mod Finding
+mod Standing
+mod Running
+mod Remembering
+mod Replaying

@@ -1,0 +1,3 @@
+pub mod Runs
+pub mod Standing
+pub mod Replays
