@@ -8,3 +8,4 @@ mod Standing
 mod Running
 mod Remembering
 mod Replaying
+mod Ending

@@ -39,7 +39,7 @@ pub record OpenAt (ps : List Proc) (t : ℕ) (results : List Chosen) (n : ℕ) (
   pub made : offer_of base ≡ o
   pub nacks_are : nacks ≡ scope_nacks event
 
-moved : (ps : List Proc) (t : ℕ) (results : List Chosen) (m : Thread) (s : MachineStands ps t results m) → after (block_of m.body) m.variables m.thread m.results ≡ after s.process.body (length s.process.variables) t results
+pub moved : (ps : List Proc) (t : ℕ) (results : List Chosen) (m : Thread) (s : MachineStands ps t results m) → after (block_of m.body) m.variables m.thread m.results ≡ after s.process.body (length s.process.variables) t results
 moved ps t results m s = same-after _ _ _ _ _ _ _ _ s.body s.variables s.thread s.given
 
 open-in : (ps : List Proc) (t : ℕ) (results : List Chosen) (m : Thread) (n : ℕ) (o : Offer) (p : Phase) → MachineStands ps t results m → IsAfterAt m p → slice_get (offers_in p) n ≡ Some o → OpenAt ps t results n o (nacks_in p)

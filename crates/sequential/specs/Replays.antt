@@ -1,11 +1,13 @@
 -- What a replay answers.
-use Rattle.std.specs.Prelude.{◌≡◌, ℕ, List, ⊤}
+use Rattle.std.specs.Prelude.{◌≡◌, ℕ, List, length, ⊤}
 use Rattle.syntax.specs.Processes.{Proc}
+use Rattle.words.specs.declared.Atom.{Atom}
 use Rattle.words.specs.declared.Commit.{Commit}
+use Rattle.sequential.specs.declared.end.End.{End}
 use Rattle.sequential.specs.declared.state.State.{State}
 use Rattle.sequential.specs.declared.state.ReplayFault.{ReplayFault}
 use Rattle.sequential.specs.declared.state.ReplayFault.TheVariants.{Memory, Unlawful}
-use Rattle.sequential.specs.Runs.{IsRun, BreaksOffAt}
+use Rattle.sequential.specs.Runs.{IsRun, BreaksOffAt, EndsAs, config_of}
 use Rattle.sequential.specs.Standing.{Stands}
 
 -- the commits are a run of the processes in so many rows each, and the state stands where they lead
@@ -17,3 +19,16 @@ pub record StandsAfter (ps : List Proc) (rows : ℕ) (journal : List Commit) (s 
 abbrev pub Refuses : List Proc → ℕ → List Commit → ReplayFault → Type 0
 Refuses ps rows commits Memory = ⊤
 Refuses ps rows commits (Unlawful index) = BreaksOffAt ps rows commits index
+
+-- what a state says of a thread's end, and of what it printed
+abbrev pub TellsEnd : State → ℕ → End → Type 0
+TellsEnd s t end =
+    (ps : List Proc) (rows : ℕ) (journal : List Commit) → StandsAfter ps rows journal s → (printed : List Atom) × EndsAs ps rows t (config_of journal) end printed
+
+abbrev pub TellsOutput : State → ℕ → List Atom → Type 0
+TellsOutput s t printed =
+    (ps : List Proc) (rows : ℕ) (journal : List Commit) → StandsAfter ps rows journal s → (end : End) × EndsAs ps rows t (config_of journal) end printed
+
+-- how many threads a state has
+abbrev pub thread_count : State → ℕ
+thread_count s = length s.strands.items

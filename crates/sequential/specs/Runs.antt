@@ -1,8 +1,8 @@
 -- Sequential CML: which lists of commits are runs of a script's processes.
-use Rattle.std.specs.Prelude.{◌≡◌, ◌≢◌, ◌⊎◌, ◌==◌, ℕ, ◌+◌, ◌<◌, ◌≤◌, if◌then◌else◌, map, List, [], ◌∷◌, ◌++◌, length, take, Some, slice_get, Contains}
+use Rattle.std.specs.Prelude.{◌≡◌, ◌≢◌, ◌⊎◌, ◌==◌, ℕ, ◌+◌, ◌<◌, ◌≤◌, if◌then◌else◌, map, List, [], ◌∷◌, ◌++◌, length, take, Option, Some, None, nat_lt, slice_get, Contains}
 use Rattle.event.specs.Tree.{Tree, BaseEvent, bases, scope_nacks}
 use Rattle.syntax.specs.Processes.{Proc}
-use Rattle.thread.specs.After.{Chosen, Offers, after}
+use Rattle.thread.specs.After.{Chosen, State, Outcome, Goes, Offers, Finishes, Fails, Strays, after}
 use Rattle.words.specs.declared.Atom.{Atom}
 use Rattle.words.specs.declared.Base.{Base}
 use Rattle.words.specs.declared.Base.TheVariants.{Send, Recv, Always, OnNack}
@@ -14,6 +14,8 @@ use Rattle.words.specs.declared.Message.{Message}
 use Rattle.words.specs.declared.Message.TheVariants.{Empty}
 use Rattle.words.specs.declared.NackName.{NackName}
 use Rattle.words.specs.declared.Row.{Row}
+use Rattle.sequential.specs.declared.end.End.{End}
+use Rattle.sequential.specs.declared.end.End.TheVariants as ends
 
 -- A configuration has for each thread the results of its syncs, and nothing else.
 abbrev pub Config : Type 0
@@ -149,3 +151,20 @@ pub record BreaksOffAt (ps : List Proc) (rows : ℕ) (commits : List Commit) (in
   pub within : index < length commits
   pub run : IsRun ps rows (take index commits)
   pub broken : IsRun ps rows (take (index + 1) commits) → ⊥
+
+-- ENDS
+
+-- how a thread stands, and what it printed, where it made so many syncs of at most so many
+abbrev pub end_of : ℕ → ℕ → Outcome State → Option (End × List Atom)
+end_of rows count (Goes value) = None
+end_of rows count (Offers event printed) = Some (if nat_lt count rows then ends.Waiting else ends.Spent, printed)
+end_of rows count (Finishes printed []) = Some (ends.Ended, printed)
+end_of rows count (Finishes printed (r ∷ left)) = None
+end_of rows count (Fails fault printed []) = Some (ends.Faulted fault, printed)
+end_of rows count (Fails fault printed (r ∷ left)) = None
+end_of rows count Strays = None
+
+pub record EndsAs (ps : List Proc) (rows t : ℕ) (config : Config) (end : End) (printed : List Atom) : Type 0 where
+  pub process : Proc
+  pub is_its : slice_get ps t ≡ Some process
+  pub ends : end_of rows (length (config t)) (after process.body (length process.variables) t (config t)) ≡ Some (end, printed)

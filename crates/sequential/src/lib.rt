@@ -5,8 +5,10 @@
 //!   names the first commit with which they are none.
 #![tactic(auto)]
 
+mod end;
 mod same;
 mod state;
 mod strand;
 
+pub use crate::end::End;
 pub use crate::state::{ReplayFault, State, replay};
