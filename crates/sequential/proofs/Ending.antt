@@ -1,19 +1,17 @@
 -- How the threads of a run stand.
-use Rattle.std.proofs.Common.{◌≡◌, ℕ, ◌<◌, List, length, nat_lt, slice_get, Option, Some, None, refl, sym, ap, ◌∙◌, subst}
+use Rattle.std.proofs.Common.{◌≡◌, ℕ, List, length, slice_get, Some, sym, ap, ◌∙◌, subst}
 use Rattle.syntax.specs.Processes.{Proc}
 use Rattle.syntax.specs.Trees.{block_of}
-use Rattle.thread.specs.After.{Chosen, State as Going, Outcome, after}
+use Rattle.thread.specs.After.{Chosen, after}
 use Rattle.thread.specs.Machines.{Thread, Phase, Ready, Open, Over, Stuck, Broken, IsAfterAt, HasStopped}
-use Rattle.words.specs.declared.Atom.{Atom}
 use Rattle.words.specs.declared.Commit.{Commit}
-use Rattle.sequential.specs.declared.end.End.{End}
 use Rattle.sequential.specs.declared.state.State.{State}
 use Rattle.sequential.specs.declared.strand.Stop.{Stop}
 use Rattle.sequential.specs.declared.strand.Stop.TheVariants.{Offering, Ended, Faulted}
 use Rattle.sequential.specs.declared.strand.Strand.{Strand}
 use Rattle.sequential.specs.Replays.{StandsAfter}
 use Rattle.sequential.specs.Runs.{Config, EndsAs, config_of, end_of}
-use Rattle.sequential.specs.Standing.{MachineStands, StopTells, StrandStands, end_after, end_at}
+use Rattle.sequential.specs.Standing.{StopTells, StrandStands, end_after, end_at}
 use Rattle.sequential.proofs.Opening.{moved}
 
 end-in : (rows n : ℕ) (m : Thread) (p : Phase) (stop : Stop) → IsAfterAt m p → HasStopped p → StopTells stop p →

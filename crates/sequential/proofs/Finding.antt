@@ -1,9 +1,9 @@
 -- What the strands of a run find at the front of a thread is what the thread may take.
-use Rattle.std.proofs.Common.{◌≡◌, ◌≢◌, ◌⊎◌, ◌↔◌, ◌&&◌, ◌==◌, ℕ, zero, suc, ◌+◌, ◌<◌, ◌≤◌, max, Bool, true, false, cond, List, [], ◌∷◌, ◌++◌, length, map, get_or, slice_get, option_and_then, nat_lt, eqb, ltb, Option, Some, None, refl, sym, ap, ◌∙◌, subst, arith, inl, inr, ⊎_elim}
+use Rattle.std.proofs.Common.{◌≡◌, ◌⊎◌, ◌&&◌, ℕ, zero, suc, ◌+◌, ◌<◌, max, Bool, true, false, cond, List, [], ◌∷◌, length, get_or, slice_get, option_and_then, eqb, ltb, Option, Some, None, refl, sym, ap, ◌∙◌, subst, arith, inl, ⊎_elim}
 use Rattle.std.proofs.lemmas.Bool.{eq-eqb, eqb-true, lt-ltb, ltb-true, and_parts, and_from}
-use Rattle.std.proofs.lemmas.Option.{none-some, same_Some, slice_get_within, slice_get-map, slice_get-get_or, option_and_then_some}
+use Rattle.std.proofs.lemmas.Option.{none-some, slice_get_within, slice_get-map, option_and_then_some}
 use Rattle.std.specs.Option.{option_map}
-use Rattle.event.specs.Tree.{Tree, BaseEvent, bases, offer_of, offers}
+use Rattle.event.specs.Tree.{bases, offer_of, offers}
 use Rattle.syntax.specs.Processes.{Proc}
 use Rattle.thread.specs.After.{Chosen}
 use Rattle.thread.specs.Machines.{offers_in}
@@ -17,19 +17,19 @@ use Rattle.words.specs.declared.NackName.{NackName}
 use Rattle.words.specs.declared.Offer.{Offer}
 use Rattle.words.specs.declared.Row.{Row}
 use Rattle.sequential.specs.declared.strand.Strand.{Strand}
-use Rattle.sequential.specs.Runs.{Config, IsOffering, FiredAt, IsFiredAt, CanTake, MayTake, IsLegal, IsCaused, Fires, CausedBy, CountsFor, HasThread, IsGreatest, Follows, config_of, stamp_of}
-use Rattle.sequential.specs.Standing.{KnowsNack, FiresOf, MachineStands, StrandStands, Stands, next_offer, offer_in, last_of, last_in, fired_in, Finds, base_for, CauseIsAt, MayFollow}
-use Rattle.sequential.proofs.Greatest.{greatest-either, greatest-one, greatest-same, greatest-none}
-use Rattle.sequential.proofs.Opening.{OpenAt, open-at, offers-are}
+use Rattle.sequential.specs.Runs.{FiredAt, IsFiredAt, CanTake, MayTake, IsLegal, IsCaused, Fires, CausedBy, CountsFor, HasThread, IsGreatest, Follows, config_of, stamp_of}
+use Rattle.sequential.specs.Standing.{KnowsNack, FiresOf, StrandStands, Stands, next_offer, last_of, last_in, fired_in, Finds, base_for, CauseIsAt, MayFollow}
+use Rattle.sequential.proofs.Greatest.{greatest-either, greatest-one, greatest-same}
+use Rattle.sequential.proofs.Opening.{open-at, offers-are}
 
-if-some : {A : Type 0} (b : Bool) (o : Option A) (x : A) → cond b o None ≡ Some x → (b ≡ true) × (o ≡ Some x)
+pub if-some : {A : Type 0} (b : Bool) (o : Option A) (x : A) → cond b o None ≡ Some x → (b ≡ true) × (o ≡ Some x)
 if-some true o x e = (refl, e)
 if-some false o x e = absurd (none-some x e)
 
-both-tests : (a b c d : ℕ) → (eqb a b) && (ltb c d) ≡ true → (a ≡ b) × (c < d)
+pub both-tests : (a b c d : ℕ) → (eqb a b) && (ltb c d) ≡ true → (a ≡ b) × (c < d)
 both-tests a b c d e = let h = and_parts (eqb a b) (ltb c d) e in (eqb-true a b h.0, ltb-true c d h.1)
 
-tests-both : (a b c d : ℕ) → a ≡ b → c < d → (eqb a b) && (ltb c d) ≡ true
+pub tests-both : (a b c d : ℕ) → a ≡ b → c < d → (eqb a b) && (ltb c d) ≡ true
 tests-both a b c d e lt = and_from (eqb a b) (ltb c d) (eq-eqb a b e) (lt-ltb c d lt)
 
 -- OFFERS
@@ -167,7 +167,7 @@ found-cause ps journal strands rows at (cause.Nack n) stands w =
     let k = fired-known ps journal strands n w.1.0 stands w.1.1 in
     (finds ps journal strands rows at (OnNack n) stands w.0, (max (last_in strands at.0.thread) k.0, (k.0, k.1, refl)))
 
-found-legal : (ps : List Proc) (journal : List Commit) (strands : List Strand) (rows : ℕ) (c : Commit) →
+pub found-legal : (ps : List Proc) (journal : List Commit) (strands : List Strand) (rows : ℕ) (c : Commit) →
     Stands ps journal strands → IsLegal ps rows (config_of journal) c → (below : ℕ) × MayFollow strands rows c below
 found-legal ps journal strands rows (Pair sender receiver chan msg stamp) stands legal =
     (

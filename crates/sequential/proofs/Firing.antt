@@ -1,21 +1,12 @@
 -- Nacks that are fired as a thread's results grow.
-use Rattle.std.proofs.Common.{◌≡◌, ◌⊎◌, ℕ, zero, suc, ◌+◌, ◌<◌, ◌≤◌, Bool, true, false, List, [], ◌∷◌, ◌++◌, length, map, take, slice_get, Option, Some, None, Contains, refl, sym, ap, ◌∙◌, subst, arith, inl, inr, ⊎_elim, eqb}
-use Rattle.std.proofs.lemmas.Bool.{cases_eq, false≢true}
+use Rattle.std.proofs.Common.{◌≡◌, ◌⊎◌, ℕ, zero, suc, ◌<◌, Bool, true, false, List, [], ◌∷◌, ◌++◌, length, take, slice_get, Some, Contains, refl, sym, ap, ◌∙◌, subst, arith, inl, inr, ⊎_elim}
+use Rattle.std.proofs.lemmas.Bool.{cases_eq}
 use Rattle.std.proofs.lemmas.Option.{none-some, same_Some, slice_get_within}
-use Rattle.std.specs.Int.{bit_at}
-use Rattle.event.proofs.TreeLemmas.{mask-bits}
-use Rattle.event.specs.Tree.{Tree, BaseEvent, bases, mask, offer_of, scope_nacks}
-use Rattle.protocol.specs.Tables.{has_scope}
+use Rattle.event.specs.Tree.{Tree, BaseEvent, bases, scope_nacks}
 use Rattle.syntax.specs.Processes.{Proc}
 use Rattle.thread.specs.After.{Chosen}
-use Rattle.thread.specs.Machines.{offers_in, nacks_in}
-use Rattle.words.specs.declared.Commit.{Commit}
-use Rattle.words.specs.declared.Offer.{Offer}
-use Rattle.sequential.specs.Runs.{IsOffering, FiredAt, HasRow, HasThread, IsGreatest, stamp_of}
-use Rattle.sequential.specs.Standing.{FiresOf, KnowsNack, StrandStands, Grows}
-use Rattle.sequential.proofs.Greatest.{more, in-more, last-more, more-cases, greatest-other, greatest-this, greatest-same}
+use Rattle.sequential.specs.Runs.{IsOffering, FiredAt}
 use Rattle.sequential.proofs.Lists.{slice_get-first, slice_get-last, slice_get-more, take-first, take-whole}
-use Rattle.sequential.proofs.Opening.{OpenAt, open-at, offering-one}
 
 -- WHETHER A NACK IS AMONG THESE, UNDER A SCOPE THAT FAILS THE TEST
 

@@ -1,26 +1,22 @@
 -- The greatest stamp of the earlier commits of a kind.
-use Rattle.std.proofs.Common.{◌≡◌, ◌⊎◌, ℕ, ◌+◌, ◌≤◌, ◌<◌, max, zero, suc, List, [], ◌∷◌, ◌++◌, length, Contains, refl, sym, subst, arith, inl, inr, ⊎_elim}
+use Rattle.std.proofs.Common.{◌≡◌, ◌⊎◌, ℕ, ◌≤◌, max, List, [], ◌∷◌, ◌++◌, Contains, refl, sym, subst, arith, inl, inr, ⊎_elim}
 use Rattle.std.proofs.lemmas.Bool.{cases_lt}
-use Rattle.std.proofs.lemmas.List.Elements.{Contains-append_left, Contains-append_right, Contains-append_cases}
 use Rattle.words.specs.declared.Commit.{Commit}
 use Rattle.sequential.specs.Runs.{IsGreatest, stamp_of}
-
-only : (c d : Commit) → Contains (c ∷ []) d → c ≡ d
-only c d (zero, within, is) = is
-only c d (suc k, within, is) = absurd (omega (arith, within))
+use Rattle.sequential.proofs.Lists.{contains-before, contains-last, contains-cases}
 
 -- one more commit
 abbrev pub more : List Commit → Commit → List Commit
 more es c = es ++ c ∷ []
 
 pub in-more : (es : List Commit) (c d : Commit) → Contains es d → Contains (more es c) d
-in-more es c d h = Contains-append_left es (c ∷ []) d h
+in-more es c d h = contains-before es c d h
 
 pub last-more : (es : List Commit) (c : Commit) → Contains (more es c) c
-last-more es c = Contains-append_right es (c ∷ []) c (0, omega arith, refl)
+last-more es c = contains-last es c
 
 pub more-cases : (es : List Commit) (c d : Commit) → Contains (more es c) d → Contains es d ⊎ (c ≡ d)
-more-cases es c d h = ⊎_elim (λ earlier. inl earlier) (λ last. inr (only c d last)) (Contains-append_cases es (c ∷ []) d h)
+more-cases es c d h = contains-cases es c d h
 
 -- a commit that is not of the kind changes nothing
 pub greatest-other : (es : List Commit) (c : Commit) (Kind : Commit → Type 0) (n : ℕ) → IsGreatest es Kind n → (Kind c → ⊥) → IsGreatest (more es c) Kind n

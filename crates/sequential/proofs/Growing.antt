@@ -1,22 +1,21 @@
 -- A thread's memory of a run, as the run grows by a commit.
-use Rattle.std.proofs.Common.{◌≡◌, ◌⊎◌, ℕ, zero, suc, ◌+◌, ◌<◌, ◌≤◌, Bool, true, false, List, [], ◌∷◌, ◌++◌, length, map, take, get_or, slice_get, Option, Some, None, Contains, refl, sym, ap, ◌∙◌, subst, arith, inl, inr, ⊎_elim}
+use Rattle.std.proofs.Common.{◌≡◌, ℕ, ◌<◌, ◌≤◌, true, false, List, [], ◌∷◌, ◌++◌, length, get_or, slice_get, Option, Some, None, Contains, sym, ap, ◌∙◌, subst, arith, ⊎_elim}
 use Rattle.std.proofs.lemmas.Bool.{false≢true, eq-eqb, eqb-true}
-use Rattle.std.proofs.lemmas.Option.{none-some, same_Some, slice_get_within}
-use Rattle.std.specs.Int.{bit_at}
+use Rattle.std.proofs.lemmas.Option.{same_Some, slice_get_within}
 use Rattle.event.proofs.TreeLemmas.{mask-bits}
-use Rattle.event.specs.Tree.{Tree, BaseEvent, bases, mask, offer_of, scope_nacks}
+use Rattle.event.specs.Tree.{Tree, BaseEvent, bases, mask, scope_nacks}
 use Rattle.protocol.specs.Tables.{has_scope}
 use Rattle.syntax.specs.Processes.{Proc}
 use Rattle.syntax.specs.Trees.{block_of}
 use Rattle.thread.specs.After.{Chosen}
-use Rattle.thread.specs.Machines.{SameProcess, offers_in, nacks_in}
+use Rattle.thread.specs.Machines.{nacks_in}
 use Rattle.words.specs.declared.Commit.{Commit}
 use Rattle.words.specs.declared.Offer.{Offer}
 use Rattle.sequential.specs.declared.strand.Strand.{Strand}
-use Rattle.sequential.specs.Runs.{IsOffering, FiredAt, HasRow, HasThread, IsGreatest, stamp_of}
-use Rattle.sequential.specs.Standing.{FiresOf, KnowsNack, MachineStands, StrandStands, Grows, FiresMore}
-use Rattle.sequential.proofs.Firing.{FiredNow, HasFailing, AllPass, decide, fired-kept, fired-cases, fired-now}
-use Rattle.sequential.proofs.Greatest.{more, in-more, last-more, more-cases, greatest-other, greatest-this, greatest-same}
+use Rattle.sequential.specs.Runs.{FiredAt, HasRow, HasThread, IsGreatest, stamp_of}
+use Rattle.sequential.specs.Standing.{FiresOf, KnowsNack, StrandStands, Grows}
+use Rattle.sequential.proofs.Firing.{FiredNow, AllPass, decide, fired-kept, fired-cases, fired-now}
+use Rattle.sequential.proofs.Greatest.{more, greatest-other, greatest-this, greatest-same}
 use Rattle.sequential.proofs.Opening.{OpenAt, open-at, offering-one}
 
 -- what the strand of a thread has to know of the commit that it takes part in

@@ -9,3 +9,7 @@ mod Running
 mod Remembering
 mod Replaying
 mod Ending
+mod Indexing
+mod Listing
+mod Bounding
+mod Enabling

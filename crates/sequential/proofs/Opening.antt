@@ -1,12 +1,12 @@
 -- What a machine that stands after a thread's results says of the event that the thread offers.
-use Rattle.std.proofs.Common.{◌≡◌, ℕ, List, [], ◌∷◌, length, map, slice_get, Option, Some, None, refl, sym, ap, ◌∙◌, subst}
+use Rattle.std.proofs.Common.{◌≡◌, ℕ, List, [], length, slice_get, Option, Some, None, refl, sym, ap, ◌∙◌}
 use Rattle.std.specs.Option.{option_map}
 use Rattle.std.proofs.lemmas.Option.{none-some, same_Some, slice_get-map}
 use Rattle.event.specs.Resolved.{tree_of}
 use Rattle.event.specs.Tree.{Tree, BaseEvent, bases, scope_nacks, offers, offer_of}
 use Rattle.syntax.specs.Processes.{Proc}
 use Rattle.syntax.specs.Trees.{Block, block_of}
-use Rattle.thread.specs.After.{Chosen, Outcome, Offers, Finishes, Fails, State, after}
+use Rattle.thread.specs.After.{Chosen, Offers, Finishes, Fails, after}
 use Rattle.thread.specs.Machines.{Thread, Phase, Ready, Open, Over, Stuck, Broken, IsAfterAt, HasStopped, offers_in, nacks_in}
 use Rattle.words.specs.declared.Offer.{Offer}
 use Rattle.sequential.specs.Runs.{IsOffering}

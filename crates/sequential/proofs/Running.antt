@@ -1,12 +1,12 @@
 -- Runs, as they grow by a commit.
-use Rattle.std.proofs.Common.{◌≡◌, ◌⊎◌, ℕ, zero, suc, ◌+◌, ◌<◌, ◌≤◌, List, [], ◌∷◌, ◌++◌, length, take, get_or, slice_get, Option, Some, None, refl, sym, ap, ◌∙◌, subst, arith, ⊎_elim}
-use Rattle.std.proofs.lemmas.List.{take-append-le, take_at, take_more, take-take}
-use Rattle.std.proofs.lemmas.Option.{none-some, slice_get_within}
+use Rattle.std.proofs.Common.{◌≡◌, ℕ, ◌<◌, List, [], length, take, get_or, sym, ap, ◌∙◌, subst, arith, ⊎_elim}
+use Rattle.std.proofs.lemmas.List.{take_more}
+use Rattle.std.proofs.lemmas.Option.{none-some}
 use Rattle.syntax.specs.Processes.{Proc}
 use Rattle.words.specs.declared.Commit.{Commit}
 use Rattle.sequential.specs.Runs.{Follows, IsRun, BreaksOffAt}
 use Rattle.sequential.proofs.Greatest.{more}
-use Rattle.sequential.proofs.Lists.{slice_get-first, slice_get-last, slice_get-more, take-first, take-whole}
+use Rattle.sequential.proofs.Lists.{slice_get-last, slice_get-more, take-first, take-whole}
 
 pub run-none : (ps : List Proc) (rows : ℕ) → IsRun ps rows []
 run-none ps rows i c e = absurd (none-some c e)

@@ -1,8 +1,8 @@
 -- The strands stand after each commit of a run.
-use Rattle.std.proofs.Common.{◌≡◌, ◌≢◌, ◌⊎◌, ◌==◌, ℕ, zero, suc, ◌+◌, ◌<◌, ◌≤◌, max, Bool, true, false, cond, List, [], ◌∷◌, ◌++◌, length, map, take, replicate, get_or, set, slice_get, eqb, Option, Some, None, Contains, refl, sym, ap, ◌∙◌, subst, arith, inl, inr, ⊎_elim}
-use Rattle.std.proofs.lemmas.Bool.{cases_eq, cases_lt, eq-eqb, ne_eqb}
-use Rattle.std.proofs.lemmas.List.{length-set, get_or-replicate, get_or_past, length-replicate}
-use Rattle.std.proofs.lemmas.Option.{none-some, same_Some, slice_get_within}
+use Rattle.std.proofs.Common.{◌≡◌, ℕ, zero, suc, Bool, cond, List, [], ◌∷◌, ◌++◌, length, get_or, set, slice_get, Option, Some, None, refl, sym, ap, ◌∙◌, subst, arith, inl, inr, ⊎_elim}
+use Rattle.std.proofs.lemmas.Bool.{cases_eq, eq-eqb, ne_eqb}
+use Rattle.std.proofs.lemmas.List.{length-set}
+use Rattle.std.proofs.lemmas.Option.{none-some, same_Some}
 use Rattle.syntax.specs.Processes.{Proc}
 use Rattle.thread.specs.After.{Chosen}
 use Rattle.words.specs.declared.Cause.{Cause}
@@ -13,10 +13,10 @@ use Rattle.words.specs.declared.Message.{Message}
 use Rattle.words.specs.declared.Message.TheVariants.{Empty}
 use Rattle.words.specs.declared.Row.{Row}
 use Rattle.sequential.specs.declared.strand.Strand.{Strand}
-use Rattle.sequential.specs.Runs.{Config, applied, with_result, message_by, CanTake, MayTake, IsLegal, IsCaused, IsRow, HasRow, HasThread, CountsFor, IsGreatest, Follows, config_of, config_from, no_results, stamp_of}
-use Rattle.sequential.specs.Standing.{KnowsNack, StrandStands, Stands, Begins, Grows, OneGrows, Commits, last_in}
+use Rattle.sequential.specs.Runs.{Config, applied, with_result, message_by, IsCaused, HasRow, HasThread, CountsFor, IsGreatest, Follows, config_of, config_from, no_results, stamp_of}
+use Rattle.sequential.specs.Standing.{KnowsNack, StrandStands, Stands, Begins, OneGrows, Commits}
 use Rattle.sequential.proofs.Greatest.{more, greatest-none}
-use Rattle.sequential.proofs.Lists.{slice_get-more}
+use Rattle.sequential.proofs.Lists.{nothing-there, slice_get-more}
 use Rattle.sequential.proofs.Growing.{TakesPart, strand-grows, strand-stays}
 
 -- CONFIGURATIONS
@@ -54,13 +54,13 @@ row-thread (Alone at why stamp) t g h = h.0
 
 -- ONE THREAD OF A COMMIT
 
-at-same : (t stamp : ℕ) (r : Chosen) (old new : List Strand) (w : OneGrows t r stamp old new) → slice_get new t ≡ Some w.behind
+pub at-same : (t stamp : ℕ) (r : Chosen) (old new : List Strand) (w : OneGrows t r stamp old new) → slice_get new t ≡ Some w.behind
 at-same t stamp r old new w = ap (λ (xs : List Strand). slice_get xs t) w.is ∙ set-same old t w.before w.behind w.was
 
-at-other : (t u stamp : ℕ) (r : Chosen) (old new : List Strand) → OneGrows t r stamp old new → (u ≡ t → ⊥) → slice_get new u ≡ slice_get old u
+pub at-other : (t u stamp : ℕ) (r : Chosen) (old new : List Strand) → OneGrows t r stamp old new → (u ≡ t → ⊥) → slice_get new u ≡ slice_get old u
 at-other t u stamp r old new w ne = ap (λ (xs : List Strand). slice_get xs u) w.is ∙ set-other old t u w.behind ne
 
-as-many : (t stamp : ℕ) (r : Chosen) (old new : List Strand) → OneGrows t r stamp old new → length new ≡ length old
+pub as-many : (t stamp : ℕ) (r : Chosen) (old new : List Strand) → OneGrows t r stamp old new → length new ≡ length old
 as-many t stamp r old new w = ap (λ (xs : List Strand). length xs) w.is ∙ length-set old t w.behind
 
 arrive : (ps : List Proc) (journal : List Commit) (config : Config) (strands : List Strand) (t u : ℕ) (s x : Strand) →
@@ -190,15 +190,6 @@ knows-nothing : (ps : List Proc) (t k : ℕ) (o : Option ℕ) → o ≡ None →
 knows-nothing ps t k None e = λ g f. none-some f.chosen f.result
 knows-nothing ps t k (Some x) e = absurd (none-some x (sym e))
 
-abbrev nothing : List (Option ℕ)
-nothing = replicate 256 None
-
-nothing-there : (k : ℕ) → get_or nothing k None ≡ None
-nothing-there k = ⊎_elim
-    (λ lt. get_or-replicate 256 k None None lt)
-    (λ ge. get_or_past (replicate 256 None) k None (omega (arith, ge, length-replicate {A = Option ℕ} 256 None)))
-    (cases_lt k 256)
-
 pub begin-strand : (ps : List Proc) (p : Proc) (t : ℕ) (s : Strand) → slice_get ps t ≡ Some p → Begins p t s → StrandStands ps t [] [] s
 begin-strand ps p t s is b = record {
   machine = record { process = p; is_its = is; body = b.body; variables = b.variables; thread = b.thread; given = b.results; stopped = b.stopped; after = b.after };
@@ -227,3 +218,10 @@ begins-all ps strands count begins = record {
   count = count;
   each = λ t s e. let w = begins.each t s e in begin-strand ps w.0 t s w.1 w.2;
 }
+
+-- a thread that begins made no sync, and no stamp is remembered
+pub begins-low : (ps : List Proc) (strands : List Strand) → BeginsEach ps strands → (t : ℕ) (s : Strand) → slice_get strands t ≡ Some s →
+    (s.machine.results ≡ []) × (s.last ≡ 0) × ((k : ℕ) → get_or s.fired k None ≡ None)
+begins-low ps strands begins t s is =
+    let w = begins.each t s is in
+    (w.2.results, w.2.last, λ k. ap (λ (xs : List (Option ℕ)). get_or xs k None) w.2.fired ∙ nothing-there k)

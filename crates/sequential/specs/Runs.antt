@@ -1,5 +1,5 @@
 -- Sequential CML: which lists of commits are runs of a script's processes.
-use Rattle.std.specs.Prelude.{◌≡◌, ◌≢◌, ◌⊎◌, ◌==◌, ℕ, ◌+◌, ◌<◌, ◌≤◌, if◌then◌else◌, map, List, [], ◌∷◌, ◌++◌, length, take, Option, Some, None, nat_lt, slice_get, Contains}
+use Rattle.std.specs.Prelude.{◌≡◌, ◌≢◌, ◌⊎◌, ◌==◌, ℕ, ◌+◌, ◌<◌, ◌≤◌, if◌then◌else◌, List, [], ◌∷◌, ◌++◌, length, take, Option, Some, None, nat_lt, slice_get, Contains}
 use Rattle.event.specs.Tree.{Tree, BaseEvent, bases, scope_nacks}
 use Rattle.syntax.specs.Processes.{Proc}
 use Rattle.thread.specs.After.{Chosen, State, Outcome, Goes, Offers, Finishes, Fails, Strays, after}

@@ -6,9 +6,12 @@
 #![tactic(auto)]
 
 mod end;
+mod receivers;
 mod same;
+mod search;
 mod state;
 mod strand;
 
 pub use crate::end::End;
+pub use crate::search::settle;
 pub use crate::state::{ReplayFault, State, replay};

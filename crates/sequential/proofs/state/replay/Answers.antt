@@ -1,4 +1,3 @@
-use Rattle.std.proofs.Common.{sym, ◌∙◌}
 use Rattle.std.proofs.lemmas.Bool.{both_ways}
 use Rattle.sequential.proofs.Replaying.{replay-stops, replay-goes}
 use Rattle.sequential.proofs.state.replay.Goals as goal
