@@ -51,21 +51,21 @@ bounded-one rows t stamp r old new b w le few =
     let count : syncs w.behind ≡ syncs w.before + 1 = ap (λ (rs : List Chosen). length rs) w.grows.results ∙ length_push w.before.machine.results r in
     record {
       few = λ u s is. ⊎_elim
-        (λ e. subst (λ (x : Strand). syncs x ≤ rows) (at-thread t u stamp r old new s w is e) (omega (arith, count, few)))
-        (λ ne. b.few u s (sym (at-other t u stamp r old new w ne) ∙ is))
-        (cases_eq u t);
+          (λ e. subst (λ (x : Strand). syncs x ≤ rows) (at-thread t u stamp r old new s w is e) (omega (arith, count, few)))
+          (λ ne. b.few u s (sym (at-other t u stamp r old new w ne) ∙ is))
+          (cases_eq u t);
       last = λ u s is. ⊎_elim
-        (λ e. subst (λ (x : Strand). x.last ≤ total new) (at-thread t u stamp r old new s w is e) (omega (arith, w.grows.last, le, more)))
-        (λ ne. omega (arith, b.last u s (sym (at-other t u stamp r old new w ne) ∙ is), more))
-        (cases_eq u t);
+          (λ e. subst (λ (x : Strand). x.last ≤ total new) (at-thread t u stamp r old new s w is e) (omega (arith, w.grows.last, le, more)))
+          (λ ne. omega (arith, b.last u s (sym (at-other t u stamp r old new w ne) ∙ is), more))
+          (cases_eq u t);
       fired = λ u k st s is known. ⊎_elim
-        (λ e.
+          (λ e.
           let same : w.behind ≡ s = at-thread t u stamp r old new s w is e in
           fired-one t k stamp r w.before w.behind (total new) w.grows (omega (arith, le, more))
           (λ x old_is. omega (arith, b.fired t k x w.before w.was old_is, more)) st
           (ap (λ (y : Strand). get_or y.fired k None) same ∙ known))
-        (λ ne. omega (arith, b.fired u k st s (sym (at-other t u stamp r old new w ne) ∙ is) known, more))
-        (cases_eq u t);
+          (λ ne. omega (arith, b.fired u k st s (sym (at-other t u stamp r old new w ne) ∙ is) known, more))
+          (cases_eq u t);
     }
 
 -- WHAT IS FOUND IS WITHIN THE BOUNDS
@@ -81,8 +81,8 @@ cause-bound : (rows t : ℕ) (strands : List Strand) (why : Cause) (below : ℕ)
 cause-bound rows t strands (cause.Always m) below b e = omega (arith, e, last-bound rows strands t b)
 cause-bound rows t strands (cause.Nack n) below b w =
     let fired : w.0 ≤ total strands =
-      option_and_then_some (λ (s : Strand). get_or s.fired n.k None) (slice_get strands n.thread) w.0 w.1
-      (λ s there is. b.fired n.thread n.k w.0 s there is) in
+    option_and_then_some (λ (s : Strand). get_or s.fired n.k None) (slice_get strands n.thread) w.0 w.1
+    (λ s there is. b.fired n.thread n.k w.0 s there is) in
     omega (arith, w.2, fired, last-bound rows strands t b)
 
 pub below-bound : (rows : ℕ) (strands : List Strand) (c : Commit) (below : ℕ) → Bounded rows strands → MayFollow strands rows c below → below ≤ total strands
@@ -124,9 +124,9 @@ room rows strands b few low =
     record {
       last = λ t. omega (arith, last-bound rows strands t b, most, product);
       fired = λ n stamp e.
-        let le : stamp ≤ total strands = option_and_then_some (λ (s : Strand). get_or s.fired n.k None) (slice_get strands n.thread) stamp e
+          let le : stamp ≤ total strands = option_and_then_some (λ (s : Strand). get_or s.fired n.k None) (slice_get strands n.thread) stamp e
           (λ s there is. b.fired n.thread n.k stamp s there is) in
-        omega (arith, le, most, product);
+          omega (arith, le, most, product);
     }
 
 -- at the beginning

@@ -60,7 +60,7 @@ no-alone : (strands : List Strand) (rows : ℕ) (at : Place) (why : Cause) → N
 no-alone strands rows at why none (Pair sender receiver chan msg stamp) below may led = no-send why chan msg led.1
 no-alone strands rows at why none (Alone row other stamp) below may led =
     let here : CauseIsAt strands (last_in strands at.0.thread) other below =
-      subst (λ (x : Place). CauseIsAt strands (last_in strands x.0.thread) other below) led.0 may.1 in
+    subst (λ (x : Place). CauseIsAt strands (last_in strands x.0.thread) other below) led.0 may.1 in
     none below (subst (λ (x : Cause). CauseIsAt strands (last_in strands at.0.thread) x below) (sym (same-cause why other led.1)) here)
 
 pub by-alone : (strands : List Strand) (rows : ℕ) (at : Place) (why : Cause) (o : Option Commit) → Finds strands rows at (base_for why) →
@@ -95,10 +95,10 @@ pub leads-more : (strands : List Strand) (rows : ℕ) (offers : List Offered) (i
     (k : ℕ) (e : Offered) → k < i + 1 → NoneMayBy strands rows (get_or offers k e).0 (get_or offers k e).1
 leads-more strands rows offers i d o lists within none says before k e lt = ⊎_elim
     (λ same.
-      let x : Offered = get_or offers i d in
-      let found = lists.sound x (i, within, any-default offers i d x within) in
-      let here = subst (λ (p : Option Commit). MatchOption p (NoneMayBy strands rows x.0 x.1) (MayBe strands rows)) none (says found) in
-      let is : x ≡ get_or offers k e = sym (ap (λ (n : ℕ). get_or offers n e) same ∙ any-default offers i d e within) in
-      subst (λ (y : Offered). NoneMayBy strands rows y.0 y.1) is here)
+    let x : Offered = get_or offers i d in
+    let found = lists.sound x (i, within, any-default offers i d x within) in
+    let here = subst (λ (p : Option Commit). MatchOption p (NoneMayBy strands rows x.0 x.1) (MayBe strands rows)) none (says found) in
+    let is : x ≡ get_or offers k e = sym (ap (λ (n : ℕ). get_or offers n e) same ∙ any-default offers i d e within) in
+    subst (λ (y : Offered). NoneMayBy strands rows y.0 y.1) is here)
     (λ ne. before k e (omega (arith, lt, ne)))
     (cases_eq k i)

@@ -37,8 +37,8 @@ strand-ends ps rows t config earlier s stands =
       process = m.process;
       is_its = m.is_its;
       ends =
-        ap (λ (n : ℕ). end_of rows n (after m.process.body (length m.process.variables) t (config t))) count
-        ∙ ap (end_of rows (length s.machine.results)) (sym (moved ps t (config t) s.machine m)) ∙ here;
+          ap (λ (n : ℕ). end_of rows n (after m.process.body (length m.process.variables) t (config t))) count
+          ∙ ap (end_of rows (length s.machine.results)) (sym (moved ps t (config t) s.machine m)) ∙ here;
     }
 
 -- a thread's end and its output, as its strand tells them

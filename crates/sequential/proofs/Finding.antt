@@ -72,10 +72,10 @@ finds-at : (ps : List Proc) (rows : ℕ) (results : List Chosen) (at : Row × �
 finds-at ps rows results at b earlier s stands c =
     let count : length s.machine.results ≡ length results = ap (λ (rs : List Chosen). length rs) stands.machine.given in
     let tests : (eqb at.0.sync (length s.machine.results)) && (ltb at.0.sync rows) ≡ true =
-      tests-both at.0.sync (length s.machine.results) at.0.sync rows (c.next ∙ sym count) (omega (arith, c.next, c.few)) in
+    tests-both at.0.sync (length s.machine.results) at.0.sync rows (c.next ∙ sym count) (omega (arith, c.next, c.few)) in
     let are : offers_in s.machine.phase ≡ offers c.event = offers-are ps at.0.thread results s.machine c.event stands.machine c.offered in
     let there : slice_get (offers_in s.machine.phase) at.1 ≡ Some (offer_of c.base) =
-      ap (λ (os : List Offer). slice_get os at.1) are ∙ slice_get-map offer_of (bases c.event) at.1 ∙ ap (option_map offer_of) c.is in
+    ap (λ (os : List Offer). slice_get os at.1) are ∙ slice_get-map offer_of (bases c.event) at.1 ∙ ap (option_map offer_of) c.is in
     ap (λ (t : Bool). cond t (slice_get (offers_in s.machine.phase) at.1) None) tests ∙ there
 
 pub finds : (ps : List Proc) (journal : List Commit) (strands : List Strand) (rows : ℕ) (at : Row × ℕ) (b : Base) →
@@ -129,17 +129,18 @@ cause-legal : (ps : List Proc) (journal : List Commit) (strands : List Strand) (
     IsCaused ps rows (config_of journal) at why × IsGreatest journal (λ d. HasThread d at.0.thread ⊎ CausedBy ps (config_of journal) why d) below
 cause-legal ps journal strands rows at (cause.Always m) below stands found is =
     let take = may-take ps journal strands rows at (Always m) stands found in
-    let last = last-is ps journal strands at.0.thread take.offered.process stands take.offered.is_its in
-    (take, subst (IsGreatest journal (λ d. HasThread d at.0.thread ⊎ CausedBy ps (config_of journal) (cause.Always m) d)) (sym is)
-      (greatest-same journal (λ d. HasThread d at.0.thread) _ _ (λ d h. inl h) (λ d h. ⊎_elim (λ x. x) (λ x. absurd x) h) last))
+    let last = last-is ps journal strands at.0.thread take.offered.process stands take.offered.is_its in (
+      take,
+      subst (IsGreatest journal (λ d. HasThread d at.0.thread ⊎ CausedBy ps (config_of journal) (cause.Always m) d)) (sym is)
+          (greatest-same journal (λ d. HasThread d at.0.thread) _ _ (λ d h. inl h) (λ d h. ⊎_elim (λ x. x) (λ x. absurd x) h) last),
+    )
 cause-legal ps journal strands rows at (cause.Nack n) below stands found w =
     let take = may-take ps journal strands rows at (OnNack n) stands found in
     let last = last-is ps journal strands at.0.thread take.offered.process stands take.offered.is_its in
-    let fired = fired-is ps journal strands n w.0 stands w.1 in
-    (
+    let fired = fired-is ps journal strands n w.0 stands w.1 in (
       (take, fired.0),
       subst (IsGreatest journal (λ d. HasThread d at.0.thread ⊎ CausedBy ps (config_of journal) (cause.Nack n) d)) (sym w.2)
-      (greatest-either journal (λ d. HasThread d at.0.thread) (Fires ps (config_of journal) n) _ _ last fired.1),
+          (greatest-either journal (λ d. HasThread d at.0.thread) (Fires ps (config_of journal) n) _ _ last fired.1),
     )
 
 -- a commit that the strands find is legal, and they know the stamp that counts
@@ -150,11 +151,10 @@ found-is ps journal strands rows (Pair sender receiver chan msg stamp) below sta
     let send = may-take ps journal strands rows sender (Send chan msg) stands w.1 in
     let recv = may-take ps journal strands rows receiver (Recv chan) stands w.2 in
     let first = last-is ps journal strands sender.0.thread send.offered.process stands send.offered.is_its in
-    let second = last-is ps journal strands receiver.0.thread recv.offered.process stands recv.offered.is_its in
-    (
+    let second = last-is ps journal strands receiver.0.thread recv.offered.process stands recv.offered.is_its in (
       (w.0, send, recv),
       subst (IsGreatest journal (λ d. HasThread d sender.0.thread ⊎ HasThread d receiver.0.thread)) (sym w.3)
-      (greatest-either journal (λ d. HasThread d sender.0.thread) (λ d. HasThread d receiver.0.thread) _ _ first second),
+          (greatest-either journal (λ d. HasThread d sender.0.thread) (λ d. HasThread d receiver.0.thread) _ _ first second),
     )
 found-is ps journal strands rows (Alone at why stamp) below stands w = cause-legal ps journal strands rows at why below stands w.0 w.1
 
@@ -169,11 +169,10 @@ found-cause ps journal strands rows at (cause.Nack n) stands w =
 
 pub found-legal : (ps : List Proc) (journal : List Commit) (strands : List Strand) (rows : ℕ) (c : Commit) →
     Stands ps journal strands → IsLegal ps rows (config_of journal) c → (below : ℕ) × MayFollow strands rows c below
-found-legal ps journal strands rows (Pair sender receiver chan msg stamp) stands legal =
-    (
-      max (last_in strands sender.0.thread) (last_in strands receiver.0.thread),
-      (legal.0, finds ps journal strands rows sender (Send chan msg) stands legal.1, finds ps journal strands rows receiver (Recv chan) stands legal.2, refl),
-    )
+found-legal ps journal strands rows (Pair sender receiver chan msg stamp) stands legal = (
+  max (last_in strands sender.0.thread) (last_in strands receiver.0.thread),
+  (legal.0, finds ps journal strands rows sender (Send chan msg) stands legal.1, finds ps journal strands rows receiver (Recv chan) stands legal.2, refl),
+)
 found-legal ps journal strands rows (Alone at why stamp) stands legal =
     let h = found-cause ps journal strands rows at why stands legal in (h.1.0, (h.0, h.1.1))
 

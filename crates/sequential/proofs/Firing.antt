@@ -28,9 +28,9 @@ decide-first n nacks test k false e later (inr differs) = inr (pass-first n nack
 pub decide : (nacks : List ℕ) (test : ℕ → Bool) (k : ℕ) → HasFailing nacks test k ⊎ AllPass nacks test k
 decide [] test k = inr (λ s e. absurd (none-some k e))
 decide (n ∷ nacks) test k = elim (decide nacks (λ s. test (suc s)) k) [
-    inl w ↦ inl (suc w.0, w.1, w.2)
+  | inl w ↦ inl (suc w.0, w.1, w.2)
   | inr later ↦ decide-first n nacks test k (test zero) refl later (cases_eq n k)
-  ]
+]
 
 -- RESULTS THAT GROW
 
@@ -72,12 +72,15 @@ pub fired-cases : (ps : List Proc) (t : ℕ) (results : List Chosen) (r : Chosen
 fired-cases ps t results r k g f = ⊎_elim
     (λ h. inl (fired-before ps t results r k g f h.0 h.1))
     (λ h.
-      let whole : take g (results ++ r ∷ []) ≡ results = ap (λ (n : ℕ). take n (results ++ r ∷ [])) h.0 ∙ take-whole results r in
-      inr (h.0, (
+    let whole : take g (results ++ r ∷ []) ≡ results = ap (λ (n : ℕ). take n (results ++ r ∷ [])) h.0 ∙ take-whole results r in
+    inr (
+      h.0,
+      (
         f.event,
         subst (λ (xs : List Chosen). IsOffering ps t xs f.event) whole f.offered,
         (f.scope, f.base, f.nack, ap (λ (c : Chosen). slice_get (bases f.event) c.0) h.1 ∙ f.took, f.outside),
-      )))
+      ),
+    ))
     (slice_get-more results r f.chosen g f.result)
 
 pub fired-now : (ps : List Proc) (t : ℕ) (results : List Chosen) (r : Chosen) (k : ℕ) → FiredNow ps t results r k → FiredAt ps t (results ++ r ∷ []) k (length results)

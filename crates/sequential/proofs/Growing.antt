@@ -41,11 +41,10 @@ grown results r = results ++ r ∷ []
 knows-fired : (ps : List Proc) (t : ℕ) (results : List Chosen) (earlier : List Commit) (r : Chosen) (c : Commit) (k stamp : ℕ) →
     TakesPart earlier t (length results) stamp c → FiredNow ps t results r k → KnowsNack ps t (grown results r) (more earlier c) k (Some stamp)
 knows-fired ps t results earlier r c k stamp part now =
-    let f = fired-now ps t results r k now in
-    (
+    let f = fired-now ps t results r k now in (
       (length results, f),
       greatest-this earlier c (FiresOf ps t (grown results r) k) stamp
-      (λ d there w. part.above d there (part.rows_are d w.0 w.2)) (length results, f, part.row) part.stamp_is,
+          (λ d there w. part.above d there (part.rows_are d w.0 w.2)) (length results, f, part.row) part.stamp_is,
     )
 
 still-fires : (ps : List Proc) (t : ℕ) (results : List Chosen) (r : Chosen) (k : ℕ) (d : Commit) → FiresOf ps t results k d → FiresOf ps t (grown results r) k d
@@ -59,19 +58,18 @@ knows-same : (ps : List Proc) (t : ℕ) (results : List Chosen) (earlier : List 
 knows-same ps t results earlier r c k stamp part none None knows = λ g f. knows g (fired-then ps t results r k none g f)
 knows-same ps t results earlier r c k stamp part none (Some last) knows =
     let same = greatest-same earlier (FiresOf ps t results k) (FiresOf ps t (grown results r) k) last
-      (λ d w. still-fires ps t results r k d w)
-      (λ d w. (w.0, fired-then ps t results r k none w.0 w.1, w.2)) knows.1 in
+    (λ d w. still-fires ps t results r k d w)
+    (λ d w. (w.0, fired-then ps t results r k none w.0 w.1, w.2)) knows.1 in
     let late : FiresOf ps t (grown results r) k c → ⊥ = λ w.
-      let old = fired-then ps t results r k none w.0 w.1 in
-      let within : w.0 < length results = slice_get_within results w.0 old.chosen old.result in
-      omega (arith, within, part.only w.0 w.2) in
+    let old = fired-then ps t results r k none w.0 w.1 in
+    let within : w.0 < length results = slice_get_within results w.0 old.chosen old.result in
+    omega (arith, within, part.only w.0 w.2) in
     ((knows.0.0, fired-kept ps t results r k knows.0.0 knows.0.1), greatest-other earlier c (FiresOf ps t (grown results r) k) last same late)
 
 fires-now : (ps : List Proc) (t : ℕ) (results : List Chosen) (r : Chosen) (k s : ℕ) (o : Offer) (nacks : List ℕ) →
     OpenAt ps t results r.0 o nacks → slice_get nacks s ≡ Some k → has_scope o.scopes s ≡ false → FiredNow ps t results r k
 fires-now ps t results r k s o nacks w nack out =
-    let scopes : mask w.base.scopes ≡ o.scopes = ap (λ (x : Offer). x.scopes) w.made in
-    (
+    let scopes : mask w.base.scopes ≡ o.scopes = ap (λ (x : Offer). x.scopes) w.made in (
       w.event,
       w.offered,
       (
@@ -88,11 +86,11 @@ fires-not : (ps : List Proc) (t : ℕ) (results : List Chosen) (r : Chosen) (k :
 fires-not ps t results r k o nacks w all now =
     let event : now.0 ≡ w.event = offering-one ps t results now.0 w.event now.1 w.offered in
     let nack : slice_get nacks now.2.0 ≡ Some k =
-      ap (λ (ns : List ℕ). slice_get ns now.2.0) (w.nacks_are ∙ ap scope_nacks (sym event)) ∙ now.2.2 in
+    ap (λ (ns : List ℕ). slice_get ns now.2.0) (w.nacks_are ∙ ap scope_nacks (sym event)) ∙ now.2.2 in
     let base : now.2.1 ≡ w.base =
-      same_Some now.2.1 w.base (sym now.2.3 ∙ ap (λ (e : Tree). slice_get (bases e) r.0) event ∙ w.is) in
+    same_Some now.2.1 w.base (sym now.2.3 ∙ ap (λ (e : Tree). slice_get (bases e) r.0) event ∙ w.is) in
     let scopes : o.scopes ≡ mask now.2.1.scopes =
-      ap (λ (x : Offer). x.scopes) (sym w.made) ∙ ap (λ (b : BaseEvent). mask b.scopes) (sym base) in
+    ap (λ (x : Offer). x.scopes) (sym w.made) ∙ ap (λ (b : BaseEvent). mask b.scopes) (sym base) in
     now.2.4 (inside-mask now.2.1.scopes now.2.0 (ap (λ (m : ℕ). has_scope m now.2.0) (sym scopes) ∙ all now.2.0 nack))
 
 -- STRANDS
@@ -104,9 +102,9 @@ knows-more ps t results earlier r c stamp old new stands grows part k =
     let w = open-at ps t results old.machine r.0 grows.offer stands.machine grows.was in
     ⊎_elim
     (λ fires. subst (KnowsNack ps t (grown results r) (more earlier c) k) (sym (grows.fired.fires k fires.0 fires.1 fires.2))
-      (knows-fired ps t results earlier r c k stamp part (fires-now ps t results r k fires.0 grows.offer (nacks_in old.machine.phase) w fires.1 fires.2)))
+    (knows-fired ps t results earlier r c k stamp part (fires-now ps t results r k fires.0 grows.offer (nacks_in old.machine.phase) w fires.1 fires.2)))
     (λ all. subst (KnowsNack ps t (grown results r) (more earlier c) k) (sym (grows.fired.stays k all))
-      (knows-same ps t results earlier r c k stamp part (fires-not ps t results r k grows.offer (nacks_in old.machine.phase) w all) (get_or old.fired k None) (stands.fired k)))
+    (knows-same ps t results earlier r c k stamp part (fires-not ps t results r k grows.offer (nacks_in old.machine.phase) w all) (get_or old.fired k None) (stands.fired k)))
     (decide (nacks_in old.machine.phase) (has_scope grows.offer.scopes) k)
 
 -- a thread that takes part in the commit
@@ -126,7 +124,7 @@ strand-grows ps t results earlier r c stamp old new stands grows part = record {
   };
   stop = grows.stop;
   last = subst (IsGreatest (more earlier c) (λ d. HasThread d t)) (sym grows.last)
-    (greatest-this earlier c (λ d. HasThread d t) stamp part.above part.thread part.stamp_is);
+      (greatest-this earlier c (λ d. HasThread d t) stamp part.above part.thread part.stamp_is);
   fired = knows-more ps t results earlier r c stamp old new stands grows part;
 }
 

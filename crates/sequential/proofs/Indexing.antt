@@ -23,12 +23,12 @@ there-more : (R : ℕ → ℕ → Type 0) (offers : List Offered) (table : List 
     (d : ℕ) (w : Place) → get_or (set table c (Some p)) d None ≡ Some w → Contains (offers ++ (at, Recv c) ∷ []) (w, Recv d)
 there-more R offers table c at p within h picks d w e = ⊎_elim
     (λ same.
-      let is : p ≡ w = same_Some p w (sym (get_or-set_same table c (Some p) None within) ∙ ap (λ (k : ℕ). get_or (set table c (Some p)) k None) (sym same) ∙ e) in
-      let new : Contains (offers ++ (at, Recv c) ∷ []) (p, Recv c) = ⊎_elim
-        (λ here. subst (λ (x : Place). Contains (offers ++ (at, Recv c) ∷ []) (x, Recv c)) (sym here) (contains-last offers (at, Recv c)))
-        (λ known. contains-before offers (at, Recv c) (p, Recv c) (h.there c p known)) picks.from in
-      subst (λ (x : Place). Contains (offers ++ (at, Recv c) ∷ []) (x, Recv d)) is
-      (subst (λ (k : ℕ). Contains (offers ++ (at, Recv c) ∷ []) (p, Recv k)) (sym same) new))
+    let is : p ≡ w = same_Some p w (sym (get_or-set_same table c (Some p) None within) ∙ ap (λ (k : ℕ). get_or (set table c (Some p)) k None) (sym same) ∙ e) in
+    let new : Contains (offers ++ (at, Recv c) ∷ []) (p, Recv c) = ⊎_elim
+    (λ here. subst (λ (x : Place). Contains (offers ++ (at, Recv c) ∷ []) (x, Recv c)) (sym here) (contains-last offers (at, Recv c)))
+    (λ known. contains-before offers (at, Recv c) (p, Recv c) (h.there c p known)) picks.from in
+    subst (λ (x : Place). Contains (offers ++ (at, Recv c) ∷ []) (x, Recv d)) is
+    (subst (λ (k : ℕ). Contains (offers ++ (at, Recv c) ∷ []) (p, Recv k)) (sym same) new))
     (λ ne. contains-before offers (at, Recv c) (w, Recv d) (h.there d w (sym (get_or-set_other table c d (Some p) None ne) ∙ e)))
     (cases_eq d c)
 
@@ -40,17 +40,17 @@ best-more : (R : ℕ → ℕ → Type 0) → ((i j k : ℕ) → R i j → R j k 
     (d : ℕ) (a : Place) → Contains (offers ++ (at, Recv c) ∷ []) (a, Recv d) → (w : Place) × (get_or (set table c (Some p)) d None ≡ Some w) × R w.0.thread a.0.thread
 best-more R through offers table c at p within h picks d a there = ⊎_elim
     (λ before.
-      let old = h.best d a before in
-      ⊎_elim
-      (λ same. at-place R table c d p a within same
-        (through p.0.thread old.0.0.thread a.0.thread (picks.over old.0 (ap (λ (k : ℕ). get_or table k None) (sym same) ∙ old.1)) old.2))
-      (λ ne. (old.0, get_or-set_other table c d (Some p) None ne ∙ old.1, old.2))
-      (cases_eq d c))
+    let old = h.best d a before in
+    ⊎_elim
+    (λ same. at-place R table c d p a within same
+    (through p.0.thread old.0.0.thread a.0.thread (picks.over old.0 (ap (λ (k : ℕ). get_or table k None) (sym same) ∙ old.1)) old.2))
+    (λ ne. (old.0, get_or-set_other table c d (Some p) None ne ∙ old.1, old.2))
+    (cases_eq d c))
     (λ last.
-      let place : at ≡ a = ap (λ (x : Offered). x.0) last in
-      let base : Recv c ≡ Recv d = ap (λ (x : Offered). x.1) last in
-      let channel : d ≡ c = cc in
-      at-place R table c d p a within channel (subst (λ (x : Place). R p.0.thread x.0.thread) place picks.near))
+    let place : at ≡ a = ap (λ (x : Offered). x.0) last in
+    let base : Recv c ≡ Recv d = ap (λ (x : Offered). x.1) last in
+    let channel : d ≡ c = cc in
+    at-place R table c d p a within channel (subst (λ (x : Place). R p.0.thread x.0.thread) place picks.near))
     (contains-cases offers (at, Recv c) (a, Recv d) there)
 
 pub table-more : (R : ℕ → ℕ → Type 0) → ((i j k : ℕ) → R i j → R j k → R i k) → (offers : List Offered) (table : List (Option Place)) (c : ℕ) (at p : Place) → c < length table → HasBest R offers table → Picks R (get_or table c None) at p →
@@ -95,9 +95,9 @@ pub index-more : (offers : List Offered) (r s : Receivers) (c : ℕ) (at : Place
     IsIndex offers r → IsIndex (offers ++ (at, Recv c) ∷ []) s
 index-more offers r s c at in_first in_last first last h = record {
   first = subst (HasBest ◌≤◌ (offers ++ (at, Recv c) ∷ [])) (sym first)
-    (table-more ◌≤◌ (λ i j k p q. omega (arith, p, q)) offers r.first c at _ in_first h.first (first-picks (get_or r.first c None) at));
+      (table-more ◌≤◌ (λ i j k p q. omega (arith, p, q)) offers r.first c at _ in_first h.first (first-picks (get_or r.first c None) at));
   last = subst (HasBest IsAbove (offers ++ (at, Recv c) ∷ [])) (sym last)
-    (table-more IsAbove (λ i j k p q. omega (arith, p, q)) offers r.last c at _ in_last h.last (last-picks (get_or r.last c None) at));
+      (table-more IsAbove (λ i j k p q. omega (arith, p, q)) offers r.last c at _ in_last h.last (last-picks (get_or r.last c None) at));
 }
 
 -- an offer that is no receive changes nothing
@@ -105,9 +105,9 @@ table-same : (R : ℕ → ℕ → Type 0) (offers : List Offered) (table : List 
 table-same R offers table x none h = record {
   there = λ c w e. contains-before offers x (w, Recv c) (h.there c w e);
   best = λ c at there. ⊎_elim
-    (λ before. h.best c at before)
-    (λ last. absurd (none c (ap (λ (y : Offered). y.1) last)))
-    (contains-cases offers x (at, Recv c) there);
+      (λ before. h.best c at before)
+      (λ last. absurd (none c (ap (λ (y : Offered). y.1) last)))
+      (contains-cases offers x (at, Recv c) there);
 }
 
 pub index-same : (offers : List Offered) (r : Receivers) (x : Offered) → ((c : ℕ) → x.1 ≡ Recv c → ⊥) → IsIndex offers r → IsIndex (offers ++ x ∷ []) r

@@ -55,15 +55,15 @@ full-one : (strands : List Strand) (rows t n : ℕ) (offers : List Offered) (s :
 full-one strands rows t n offers s o there is h at b finds before = ⊎_elim
     (λ lower. contains-before offers _ (at, b) (h.full at b finds (inl lower)))
     (λ here. ⊎_elim
-      (λ same.
-        let found = found-of strands rows at b s finds (ap (slice_get strands) here.0 ∙ there) in
-        let offer : o ≡ found.offer = same_Some o found.offer (sym is ∙ ap (slice_get (offers_in s.machine.phase)) (sym same) ∙ found.is) in
-        let base : o.base ≡ b = ap (λ (x : Offer). x.base) offer ∙ found.base in
-        let row : row_of t s ≡ at.0 = same-row t (length s.machine.results) at.0 (sym here.0) (sym found.sync) in
-        let all : ◌≡◌ {A = Offered} ((row_of t s, n), o.base) (at, b) = same-offered (row_of t s) at.0 n at.1 o.base b row (sym same) base in
-        subst (Contains (offers ++ ((row_of t s, n), o.base) ∷ [])) all (contains-last offers ((row_of t s, n), o.base)))
-      (λ ne. contains-before offers _ (at, b) (h.full at b finds (inr (here.0, omega (arith, here.1, ne)))))
-      (cases_eq at.1 n))
+    (λ same.
+    let found = found-of strands rows at b s finds (ap (slice_get strands) here.0 ∙ there) in
+    let offer : o ≡ found.offer = same_Some o found.offer (sym is ∙ ap (slice_get (offers_in s.machine.phase)) (sym same) ∙ found.is) in
+    let base : o.base ≡ b = ap (λ (x : Offer). x.base) offer ∙ found.base in
+    let row : row_of t s ≡ at.0 = same-row t (length s.machine.results) at.0 (sym here.0) (sym found.sync) in
+    let all : ◌≡◌ {A = Offered} ((row_of t s, n), o.base) (at, b) = same-offered (row_of t s) at.0 n at.1 o.base b row (sym same) base in
+    subst (Contains (offers ++ ((row_of t s, n), o.base) ∷ [])) all (contains-last offers ((row_of t s, n), o.base)))
+    (λ ne. contains-before offers _ (at, b) (h.full at b finds (inr (here.0, omega (arith, here.1, ne)))))
+    (cases_eq at.1 n))
     before
 
 pub lists-one : (strands : List Strand) (rows t n : ℕ) (offers : List Offered) (s : Strand) (o : Offer) →
@@ -72,12 +72,12 @@ pub lists-one : (strands : List Strand) (rows t n : ℕ) (offers : List Offered)
 lists-one strands rows t n offers s o there few is h =
     let new : Offered = ((row_of t s, n), o.base) in
     let made : Finds strands rows (row_of t s, n) o.base =
-      finds-of strands rows (row_of t s, n) o.base s there (record { sync = refl; few = few; offer = o; is = is; base = refl }) in
+    finds-of strands rows (row_of t s, n) o.base s there (record { sync = refl; few = few; offer = o; is = is; base = refl }) in
     record {
       sound = λ x c. ⊎_elim
-        (λ before. h.sound x before)
-        (λ last. subst (λ (y : Offered). Finds strands rows y.0 y.1) last made)
-        (contains-cases offers new x c);
+          (λ before. h.sound x before)
+          (λ last. subst (λ (y : Offered). Finds strands rows y.0 y.1) last made)
+          (contains-cases offers new x c);
       full = λ at b finds before. full-one strands rows t n offers s o there is h at b finds before;
     }
 
@@ -96,14 +96,14 @@ pub lists-next : (strands : List Strand) (rows t n : ℕ) (offers : List Offered
 lists-next strands rows t n offers s there le h = record {
   sound = h.sound;
   full = λ at b finds before. ⊎_elim
-    (λ lower. ⊎_elim
+      (λ lower. ⊎_elim
       (λ same.
-        let found = found-of strands rows at b s finds (ap (slice_get strands) same ∙ there) in
-        h.full at b finds (inr (same, omega (arith, le, slice_get_within (offers_in s.machine.phase) at.1 found.offer found.is))))
+      let found = found-of strands rows at b s finds (ap (slice_get strands) same ∙ there) in
+      h.full at b finds (inr (same, omega (arith, le, slice_get_within (offers_in s.machine.phase) at.1 found.offer found.is))))
       (λ ne. h.full at b finds (inl (omega (arith, lower, ne))))
       (cases_eq at.0.thread t))
-    (λ here. absurd (omega (arith, here.1)))
-    before;
+      (λ here. absurd (omega (arith, here.1)))
+      before;
 }
 
 -- a thread that is spent offers nothing
@@ -111,14 +111,14 @@ pub lists-spent : (strands : List Strand) (rows t : ℕ) (offers : List Offered)
 lists-spent strands rows t offers s there le h = record {
   sound = h.sound;
   full = λ at b finds before. ⊎_elim
-    (λ lower. ⊎_elim
+      (λ lower. ⊎_elim
       (λ same.
-        let found = found-of strands rows at b s finds (ap (slice_get strands) same ∙ there) in
-        absurd (omega (arith, le, found.sync, found.few)))
+      let found = found-of strands rows at b s finds (ap (slice_get strands) same ∙ there) in
+      absurd (omega (arith, le, found.sync, found.few)))
       (λ ne. h.full at b finds (inl (omega (arith, lower, ne))))
       (cases_eq at.0.thread t))
-    (λ here. absurd (omega (arith, here.1)))
-    before;
+      (λ here. absurd (omega (arith, here.1)))
+      before;
 }
 
 pub lists-none : (strands : List Strand) (rows : ℕ) → ListsTo strands rows 0 0 []
@@ -131,6 +131,6 @@ pub lists-all : (strands : List Strand) (rows t : ℕ) (offers : List Offered) �
 lists-all strands rows t offers le h = record {
   sound = h.sound;
   full = λ at b finds.
-    option_and_then_some (next_offer rows at) (slice_get strands at.0.thread) finds.offer finds.is
-    (λ s there is. h.full at b finds (inl (omega (arith, le, slice_get_within strands at.0.thread s there))));
+      option_and_then_some (next_offer rows at) (slice_get strands at.0.thread) finds.offer finds.is
+      (λ s there is. h.full at b finds (inl (omega (arith, le, slice_get_within strands at.0.thread s there))));
 }

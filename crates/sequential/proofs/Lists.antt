@@ -20,9 +20,9 @@ slice_get-more [] y z zero e = inr (refl, cc)
 slice_get-more [] y z (suc k) e = absurd (none-some z e)
 slice_get-more (x ∷ xs) y z zero e = inl (omega arith, e)
 slice_get-more (x ∷ xs) y z (suc k) e = elim (slice_get-more xs y z k e) [
-    inl h ↦ inl (omega (arith, h.0), h.1)
+  | inl h ↦ inl (omega (arith, h.0), h.1)
   | inr h ↦ inr (omega (arith, h.0), h.1)
-  ]
+]
 
 pub take-first : {A : Type 0} (k : ℕ) (xs : List A) (y : A) → k ≤ length xs → take k (xs ++ y ∷ []) ≡ take k xs
 take-first k xs y le = take-append-le k xs (y ∷ []) le

@@ -22,7 +22,7 @@ pub offering-one : (ps : List Proc) (t : ℕ) (results : List Chosen) (d e : Tre
 offering-one ps t results d e one other =
     let process : one.process ≡ other.process = same_Some one.process other.process (sym one.is_its ∙ other.is_its) in
     let same : after one.process.body (length one.process.variables) t results ≡ after other.process.body (length other.process.variables) t results =
-      ap (λ (p : Proc). after p.body (length p.variables) t results) process in
+    ap (λ (p : Proc). after p.body (length p.variables) t results) process in
     let is : Offers d one.printed ≡ Offers e other.printed = sym one.offers ∙ same ∙ other.offers in
     cc
 
@@ -69,12 +69,12 @@ offers-now ps t results m (Open now) event s stopped is_after offering =
 offers-now ps t results m Over event s stopped is_after offering =
     let process : s.process ≡ offering.process = same_Some s.process offering.process (sym s.is_its ∙ offering.is_its) in
     let is : Finishes m.output [] ≡ Offers event offering.printed =
-      sym is_after ∙ moved ps t results m s ∙ ap (λ (p : Proc). after p.body (length p.variables) t results) process ∙ offering.offers in
+    sym is_after ∙ moved ps t results m s ∙ ap (λ (p : Proc). after p.body (length p.variables) t results) process ∙ offering.offers in
     absurd cc
 offers-now ps t results m (Stuck fault) event s stopped is_after offering =
     let process : s.process ≡ offering.process = same_Some s.process offering.process (sym s.is_its ∙ offering.is_its) in
     let is : Fails fault m.output [] ≡ Offers event offering.printed =
-      sym is_after ∙ moved ps t results m s ∙ ap (λ (p : Proc). after p.body (length p.variables) t results) process ∙ offering.offers in
+    sym is_after ∙ moved ps t results m s ∙ ap (λ (p : Proc). after p.body (length p.variables) t results) process ∙ offering.offers in
     absurd cc
 offers-now ps t results m Broken event s stopped is_after offering = absurd stopped
 

@@ -17,24 +17,24 @@ pub fires-one : (n : ℕ) (nacks : List ℕ) (scopes stamp k : ℕ) (old new : L
     slice_get nacks n ≡ Some k → has_scope scopes n ≡ false → k < length new → FiresFirst (n + 1) nacks scopes stamp old (set new k (Some stamp))
 fires-one n nacks scopes stamp k old new first is out within = record {
   fires = λ j s lt e o. ⊎_elim
-    (λ same. ap (λ (i : ℕ). get_or (set new k (Some stamp)) i None) same ∙ get_or-set_same new k (Some stamp) None within)
-    (λ ne. ⊎_elim
+      (λ same. ap (λ (i : ℕ). get_or (set new k (Some stamp)) i None) same ∙ get_or-set_same new k (Some stamp) None within)
+      (λ ne. ⊎_elim
       (λ before. get_or-set_other new k j (Some stamp) None ne ∙ first.fires j s before e o)
       (λ here. absurd (ne (same_Some j k (sym e ∙ ap (slice_get nacks) here ∙ is))))
       (late s n lt))
-    (cases_eq j k);
+      (cases_eq j k);
   stays = λ j all.
-    let ne = λ (same : j ≡ k). false≢true (sym out ∙ all n (omega arith) (is ∙ ap Some (sym same))) in
-    get_or-set_other new k j (Some stamp) None ne ∙ first.stays j (λ s lt e. all s (omega (arith, lt)) e);
+      let ne = λ (same : j ≡ k). false≢true (sym out ∙ all n (omega arith) (is ∙ ap Some (sym same))) in
+      get_or-set_other new k j (Some stamp) None ne ∙ first.stays j (λ s lt e. all s (omega (arith, lt)) e);
 }
 
 pub fires-none : (n : ℕ) (nacks : List ℕ) (scopes stamp : ℕ) (old new : List (Option ℕ)) → FiresFirst n nacks scopes stamp old new →
     has_scope scopes n ≡ true → FiresFirst (n + 1) nacks scopes stamp old new
 fires-none n nacks scopes stamp old new first inside = record {
   fires = λ j s lt e o. ⊎_elim
-    (λ before. first.fires j s before e o)
-    (λ here. absurd (false≢true (sym o ∙ ap (has_scope scopes) here ∙ inside)))
-    (late s n lt);
+      (λ before. first.fires j s before e o)
+      (λ here. absurd (false≢true (sym o ∙ ap (has_scope scopes) here ∙ inside)))
+      (late s n lt);
   stays = λ j all. first.stays j (λ s lt e. all s (omega (arith, lt)) e);
 }
 

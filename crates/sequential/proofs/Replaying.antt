@@ -87,6 +87,6 @@ left-falls c s t w m made same =
     let bound = total-bound w.1 t.strands.items next.3.bounded in
     let count : length t.strands.items ≡ length s.strands.items = next.3.strands.count ∙ sym w.3.strands.count in
     let old : length s.strands.items * s.rows ≡ length t.strands.items * w.1 =
-      ap (λ (n : ℕ). n * s.rows) (sym count) ∙ ap (λ (n : ℕ). length t.strands.items * n) w.3.rows_are in
+    ap (λ (n : ℕ). n * s.rows) (sym count) ∙ ap (λ (n : ℕ). length t.strands.items * n) w.3.rows_are in
     let new : length t.strands.items * t.rows ≡ length t.strands.items * w.1 = ap (λ (n : ℕ). length t.strands.items * n) next.3.rows_are in
     omega (arith, more_syncs, bound, old, new)

@@ -15,8 +15,8 @@ pub run-more : (ps : List Proc) (rows : ℕ) (journal : List Commit) (c : Commit
 run-more ps rows journal c run f i d is = ⊎_elim
     (λ h. subst (λ (cs : List Commit). Follows ps rows cs d) (sym (take-first i journal c (omega (arith, h.0)))) (run i d h.1))
     (λ h.
-      let whole : take i (more journal c) ≡ journal = ap (λ (n : ℕ). take n (more journal c)) h.0 ∙ take-whole journal c in
-      subst (λ (cs : List Commit). Follows ps rows cs d) (sym whole) (subst (λ (x : Commit). Follows ps rows journal x) h.1 f))
+    let whole : take i (more journal c) ≡ journal = ap (λ (n : ℕ). take n (more journal c)) h.0 ∙ take-whole journal c in
+    subst (λ (cs : List Commit). Follows ps rows cs d) (sym whole) (subst (λ (x : Commit). Follows ps rows journal x) h.1 f))
     (slice_get-more journal c d i is)
 
 -- the last commit of a run follows

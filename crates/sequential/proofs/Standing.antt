@@ -101,14 +101,14 @@ alone-each ps rows journal old new at why stamp stands f w t s is =
     let next = next-alone ps rows (config_of journal) at why f.legal in
     ⊎_elim
     (λ e.
-      let part = takes-part ps rows journal c u (length (config_of journal u)) f (refl, next) (λ h k. sym k.1 ∙ next) (λ d h. inl h) in
-      let grown = strand-grows ps u (config_of journal u) journal (at.1, message_by why) c stamp w.before w.behind (stands.each u w.before w.was) w.grows part in
-      arrive ps (more journal c) (config_of (more journal c)) new t u s w.behind e is (at-same u stamp (at.1, message_by why) old new w)
-      (lead ps journal c u w.behind _ (result-same u (at.1, message_by why) (config_of journal)) grown))
+    let part = takes-part ps rows journal c u (length (config_of journal u)) f (refl, next) (λ h k. sym k.1 ∙ next) (λ d h. inl h) in
+    let grown = strand-grows ps u (config_of journal u) journal (at.1, message_by why) c stamp w.before w.behind (stands.each u w.before w.was) w.grows part in
+    arrive ps (more journal c) (config_of (more journal c)) new t u s w.behind e is (at-same u stamp (at.1, message_by why) old new w)
+    (lead ps journal c u w.behind _ (result-same u (at.1, message_by why) (config_of journal)) grown))
     (λ ne.
-      let was = sym (at-other u t stamp (at.1, message_by why) old new w ne) ∙ is in
-      lead ps journal c t s _ (result-other u t (at.1, message_by why) (config_of journal) ne)
-      (strand-stays ps t (config_of journal t) journal c s (stands.each t s was) (λ h. ne (sym h)) (λ g h. ne (sym h.0))))
+    let was = sym (at-other u t stamp (at.1, message_by why) old new w ne) ∙ is in
+    lead ps journal c t s _ (result-other u t (at.1, message_by why) (config_of journal) ne)
+    (strand-stays ps t (config_of journal t) journal c s (stands.each t s was) (λ h. ne (sym h)) (λ g h. ne (sym h.0))))
     (cases_eq t u)
 
 -- PAIRS
@@ -156,20 +156,20 @@ pair-each ps rows journal old middle new sender receiver chan msg stamp stands f
     let config = config_of (more journal c) in
     ⊎_elim
     (λ e. arrive ps (more journal c) config new t two s w.behind e is (at-same two stamp (receiver.1, msg) middle new w)
-      (pair-receiver ps rows journal old middle new sender receiver chan msg stamp stands f v w))
+    (pair-receiver ps rows journal old middle new sender receiver chan msg stamp stands f v w))
     (λ ne. ⊎_elim
-      (λ e.
-        let there = at-other two one stamp (receiver.1, msg) middle new w f.legal.0 ∙ at-same one stamp (sender.1, Empty) old middle v in
-        arrive ps (more journal c) config new t one s v.behind e is there
-        (pair-sender ps rows journal old middle new sender receiver chan msg stamp stands f v w))
-      (λ other.
-        let was = sym (at-other one t stamp (sender.1, Empty) old middle v other) ∙ sym (at-other two t stamp (receiver.1, msg) middle new w ne) ∙ is in
-        lead ps journal c t s _
-        (result-other two t (receiver.1, msg) (with_result one (sender.1, Empty) (config_of journal)) ne
-        ∙ result-other one t (sender.1, Empty) (config_of journal) other)
-        (strand-stays ps t (config_of journal t) journal c s (stands.each t s was)
-        (λ h. ⊎_elim (λ x. other (sym x)) (λ x. ne (sym x)) h) (λ g h. ⊎_elim (λ x. other (sym x.0)) (λ x. ne (sym x.0)) h)))
-      (cases_eq t one))
+    (λ e.
+    let there = at-other two one stamp (receiver.1, msg) middle new w f.legal.0 ∙ at-same one stamp (sender.1, Empty) old middle v in
+    arrive ps (more journal c) config new t one s v.behind e is there
+    (pair-sender ps rows journal old middle new sender receiver chan msg stamp stands f v w))
+    (λ other.
+    let was = sym (at-other one t stamp (sender.1, Empty) old middle v other) ∙ sym (at-other two t stamp (receiver.1, msg) middle new w ne) ∙ is in
+    lead ps journal c t s _
+    (result-other two t (receiver.1, msg) (with_result one (sender.1, Empty) (config_of journal)) ne
+    ∙ result-other one t (sender.1, Empty) (config_of journal) other)
+    (strand-stays ps t (config_of journal t) journal c s (stands.each t s was)
+    (λ h. ⊎_elim (λ x. other (sym x)) (λ x. ne (sym x)) h) (λ g h. ⊎_elim (λ x. other (sym x.0)) (λ x. ne (sym x.0)) h)))
+    (cases_eq t one))
     (cases_eq t two)
 
 -- the strands of a run stand after the commit that follows
@@ -208,9 +208,9 @@ begins-none ps = record { each = λ t s e. absurd (none-some s e) }
 pub begins-more : (ps : List Proc) (strands : List Strand) (p : Proc) (s : Strand) → slice_get ps (length strands) ≡ Some p → BeginsEach ps strands → Begins p (length strands) s → BeginsEach ps (strands ++ s ∷ [])
 begins-more ps strands p s is before b = record {
   each = λ t x e. ⊎_elim
-    (λ h. before.each t x h.1)
-    (λ h. (p, ap (slice_get ps) h.0 ∙ is, subst (λ (n : ℕ). Begins p n x) (sym h.0) (subst (λ (y : Strand). Begins p (length strands) y) h.1 b)))
-    (slice_get-more strands s x t e);
+      (λ h. before.each t x h.1)
+      (λ h. (p, ap (slice_get ps) h.0 ∙ is, subst (λ (n : ℕ). Begins p n x) (sym h.0) (subst (λ (y : Strand). Begins p (length strands) y) h.1 b)))
+      (slice_get-more strands s x t e);
 }
 
 pub begins-all : (ps : List Proc) (strands : List Strand) → length strands ≡ length ps → BeginsEach ps strands → Stands ps [] strands

@@ -9,8 +9,8 @@ pub loop-added-init : goal.loop-added-init
 loop-added-init c = record {
   reached = c.requires;
   run = λ ps rows journal stands.
-    subst (λ (cs : List Commit). StandsAfter ps rows (journal ++ cs) c.args.state) (sym c.new-added.ensures.items)
-    (subst (λ (cs : List Commit). StandsAfter ps rows cs c.args.state) (sym (append-nil journal)) stands);
+      subst (λ (cs : List Commit). StandsAfter ps rows (journal ++ cs) c.args.state) (sym c.new-added.ensures.items)
+      (subst (λ (cs : List Commit). StandsAfter ps rows cs c.args.state) (sym (append-nil journal)) stands);
 }
 
 pub loop-added-smaller : goal.loop-added-smaller
@@ -27,9 +27,9 @@ loop-added-preserved c =
     record {
       reached = reached-next c.in-Some.commit s t c.loop-added.invariant.reached may c.in_ok-apply.ensures.strands c.apply.ensures.rows;
       run = λ ps rows journal stands.
-        subst (λ (cs : List Commit). StandsAfter ps rows (journal ++ cs) t) (sym c.in_ok-push.ensures.items)
-        (settles-next ps rows journal c.loop-added.added.items c.in-Some.commit s t (c.loop-added.invariant.run ps rows journal stands) may
-        c.in_ok-apply.ensures.strands c.apply.ensures.rows);
+          subst (λ (cs : List Commit). StandsAfter ps rows (journal ++ cs) t) (sym c.in_ok-push.ensures.items)
+          (settles-next ps rows journal c.loop-added.added.items c.in-Some.commit s t (c.loop-added.invariant.run ps rows journal stands) may
+          c.in_ok-apply.ensures.strands c.apply.ensures.rows);
     }
 
 pub returns : goal.returns

@@ -10,9 +10,9 @@ loop-at-init c = index-none _ refl refl
 
 pub loop-at-preserved : goal.loop-at-preserved
 loop-at-preserved c = elim c.match-base.branch [
-    in-Recv w ↦
+  | in-Recv w ↦
       subst (IsIndex _) (sym w.receivers-is)
       (index-first c.args.offers.now c.loop-at.at-index w.from.result _ c.loop-at.receivers w.add.new.self c.loop-at-test.true
       (w.in-Recv.is ∙ ap (λ (k : ℕ). Recv k) (sym w.from.ensures)) w.add.ensures c.loop-at.invariant)
   | in_default w ↦ subst (IsIndex _) (sym w.receivers-is) (index-past c.args.offers.now c.loop-at.at-index _ c.loop-at.receivers c.loop-at-test.true w.in_default.not-Recv c.loop-at.invariant)
-  ]
+]
