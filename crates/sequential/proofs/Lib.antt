@@ -1,0 +1,15 @@
+mod Greatest
+mod Lists
+mod Opening
+mod Firing
+mod Growing
+mod Finding
+mod Standing
+mod Running
+mod Remembering
+mod Replaying
+mod Ending
+mod Indexing
+mod Listing
+mod Bounding
+mod Enabling

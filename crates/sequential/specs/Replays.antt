@@ -1,0 +1,53 @@
+-- What a replay answers.
+use Rattle.std.specs.Prelude.{◌≡◌, ◌<◌, ◌≤◌, ℕ, List, ◌++◌, length, Option, Some, None, ⊤}
+use Rattle.syntax.specs.Processes.{Proc}
+use Rattle.words.specs.declared.Atom.{Atom}
+use Rattle.words.specs.declared.Commit.{Commit}
+use Rattle.sequential.specs.declared.end.End.{End}
+use Rattle.sequential.specs.declared.state.State.{State}
+use Rattle.sequential.specs.declared.state.ReplayFault.{ReplayFault}
+use Rattle.sequential.specs.declared.state.ReplayFault.TheVariants.{Memory, Unlawful}
+use Rattle.sequential.specs.Runs.{IsRun, IsMaximal, Follows, BreaksOffAt, EndsAs, config_of}
+use Rattle.sequential.specs.Searching.{Bounded}
+use Rattle.sequential.specs.Standing.{Stands}
+
+-- the commits are a run of the processes in so many rows each, and the state stands where they lead
+pub record StandsAfter (ps : List Proc) (rows : ℕ) (journal : List Commit) (s : State) : Type 0 where
+  pub rows_are : s.rows ≡ rows
+  pub few : length ps ≤ 64
+  pub low : rows < 65536
+  pub run : IsRun ps rows journal
+  pub strands : Stands ps journal s.strands.items
+  pub bounded : Bounded rows s.strands.items
+
+abbrev pub Refuses : List Proc → ℕ → List Commit → ReplayFault → Type 0
+Refuses ps rows commits Memory = ⊤
+Refuses ps rows commits (Unlawful index) = BreaksOffAt ps rows commits index
+
+-- the state of a run of some processes, each of so many rows
+abbrev pub IsReached : State → Type 0
+IsReached s = (ps : List Proc) × (rows : ℕ) × (journal : List Commit) × StandsAfter ps rows journal s
+
+-- what a state says of a thread's end, and of what it printed
+abbrev pub TellsEnd : State → ℕ → End → Type 0
+TellsEnd s t end =
+    (ps : List Proc) (rows : ℕ) (journal : List Commit) → StandsAfter ps rows journal s → (printed : List Atom) × EndsAs ps rows t (config_of journal) end printed
+
+abbrev pub TellsOutput : State → ℕ → List Atom → Type 0
+TellsOutput s t printed =
+    (ps : List Proc) (rows : ℕ) (journal : List Commit) → StandsAfter ps rows journal s → (end : End) × EndsAs ps rows t (config_of journal) end printed
+
+-- how many threads a state has
+abbrev pub thread_count : State → ℕ
+thread_count s = length s.strands.items
+
+-- a commit that may come next, or none where the run is maximal
+abbrev pub TellsEnabled : State → Option Commit → Type 0
+TellsEnabled s None = (ps : List Proc) (rows : ℕ) (journal : List Commit) → StandsAfter ps rows journal s → IsMaximal ps rows (config_of journal)
+TellsEnabled s (Some c) = (ps : List Proc) (rows : ℕ) (journal : List Commit) → StandsAfter ps rows journal s → Follows ps rows journal c
+
+-- the commits that were added lead the run on to its end
+abbrev pub Settles : State → State → List Commit → Type 0
+Settles old new added =
+    (ps : List Proc) (rows : ℕ) (journal : List Commit) → StandsAfter ps rows journal old →
+    StandsAfter ps rows (journal ++ added) new × IsMaximal ps rows (config_of (journal ++ added))

@@ -1,0 +1,17 @@
+//! Sequential CML: lists of commits, replayed by suspended machines.
+//!
+//! Proved:
+//! - `replay` is Ok exactly where the commits are a run of the processes, want of memory aside, and else
+//!   names the first commit with which they are none.
+#![tactic(auto)]
+
+mod end;
+mod receivers;
+mod same;
+mod search;
+mod state;
+mod strand;
+
+pub use crate::end::End;
+pub use crate::search::settle;
+pub use crate::state::{ReplayFault, State, replay};
