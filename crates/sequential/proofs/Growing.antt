@@ -46,11 +46,10 @@ knows-fired ps t results earlier r c k stamp part none now =
     let first : FiredFirst ps t (grown results r) k (length results) = record {
       at = f;
       first = λ h g. ⊎_elim (λ old. absurd (none h old)) (λ last. omega (arith, last.0)) (fired-cases ps t results r k h g);
-    } in
-    (
+    } in (
       (length results, f),
       greatest-this earlier c (FiresOf ps t (grown results r) k) stamp
-      (λ d there w. part.above d there (part.rows_are d w.0 w.2)) (length results, first, part.row) part.stamp_is,
+          (λ d there w. part.above d there (part.rows_are d w.0 w.2)) (length results, first, part.row) part.stamp_is,
     )
 
 fired-within : (ps : List Proc) (t : ℕ) (results : List Chosen) (k g : ℕ) → FiredAt ps t results k g → g < length results
@@ -80,11 +79,11 @@ knows-kept : (ps : List Proc) (t : ℕ) (results : List Chosen) (earlier : List 
     TakesPart earlier t (length results) stamp c → KnowsNack ps t results earlier k (Some last) → KnowsNack ps t (grown results r) (more earlier c) k (Some last)
 knows-kept ps t results earlier r c k stamp last part knows =
     let same = greatest-same earlier (FiresOf ps t results k) (FiresOf ps t (grown results r) k) last
-      (λ d w. (w.0, first-kept ps t results r k w.0 w.1, w.2))
-      (λ d w. (w.0, first-before ps t results r k w.0 knows.0 w.1, w.2)) knows.1 in
+    (λ d w. (w.0, first-kept ps t results r k w.0 w.1, w.2))
+    (λ d w. (w.0, first-before ps t results r k w.0 knows.0 w.1, w.2)) knows.1 in
     let late : FiresOf ps t (grown results r) k c → ⊥ = λ w.
-      let old = first-before ps t results r k w.0 knows.0 w.1 in
-      omega (arith, fired-within ps t results k w.0 old.at, part.only w.0 w.2) in
+    let old = first-before ps t results r k w.0 knows.0 w.1 in
+    omega (arith, fired-within ps t results k w.0 old.at, part.only w.0 w.2) in
     ((knows.0.0, fired-kept ps t results r k knows.0.0 knows.0.1), greatest-other earlier c (FiresOf ps t (grown results r) k) last same late)
 
 fires-now : (ps : List Proc) (t : ℕ) (results : List Chosen) (r : Chosen) (k s : ℕ) (o : Offer) (nacks : List ℕ) →
@@ -129,9 +128,9 @@ knows-next ps t results earlier r c stamp old new stands grows part k None e kno
     let nacks = nacks_in old.machine.phase in
     ⊎_elim
     (λ fires. subst (Knows ps t results earlier r c k) (sym (grows.fired.fires k fires.0 fires.1 fires.2 e))
-      (knows-fired ps t results earlier r c k stamp part knows (fires-now ps t results r k fires.0 grows.offer nacks w fires.1 fires.2)))
+    (knows-fired ps t results earlier r c k stamp part knows (fires-now ps t results r k fires.0 grows.offer nacks w fires.1 fires.2)))
     (λ all. subst (Knows ps t results earlier r c k) (sym (grows.fired.stays k all ∙ e))
-      (λ g f. ⊎_elim (λ before. knows g before) (λ now. fires-not ps t results r k grows.offer nacks w all now.1) (fired-cases ps t results r k g f)))
+    (λ g f. ⊎_elim (λ before. knows g before) (λ now. fires-not ps t results r k grows.offer nacks w all now.1) (fired-cases ps t results r k g f)))
     (decide nacks (has_scope grows.offer.scopes) k)
 
 -- a thread that takes part in the commit

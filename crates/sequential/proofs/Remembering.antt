@@ -42,14 +42,14 @@ fires-one n nacks scopes stamp k old new first is out within =
       fires = λ j s lt e o none. ⊎_elim
           (λ same. ap (λ (i : ℕ). get_or now i None) same ∙ fresh k stamp new within (first.either k (ap (λ (i : ℕ). get_or old i None) (sym same) ∙ none)))
           (λ ne. ⊎_elim
-            (λ before. get_or-set_other new k j put None ne ∙ first.fires j s before e o none)
-            (λ here. absurd (ne (same_Some j k (sym e ∙ ap (slice_get nacks) here ∙ is))))
-            (late s n lt))
+          (λ before. get_or-set_other new k j put None ne ∙ first.fires j s before e o none)
+          (λ here. absurd (ne (same_Some j k (sym e ∙ ap (slice_get nacks) here ∙ is))))
+          (late s n lt))
           (cases_eq j k);
       keeps = λ j before e. ⊎_elim
           (λ same.
-            let old_is : get_or new k None ≡ Some before = first.keeps k before (ap (λ (i : ℕ). get_or old i None) (sym same) ∙ e) in
-            ap (λ (i : ℕ). get_or now i None) same ∙ placed k stamp new within ∙ ap (λ (o : Option ℕ). Some (unwrap_or o stamp)) old_is)
+          let old_is : get_or new k None ≡ Some before = first.keeps k before (ap (λ (i : ℕ). get_or old i None) (sym same) ∙ e) in
+          ap (λ (i : ℕ). get_or now i None) same ∙ placed k stamp new within ∙ ap (λ (o : Option ℕ). Some (unwrap_or o stamp)) old_is)
           (λ ne. get_or-set_other new k j put None ne ∙ first.keeps j before e)
           (cases_eq j k);
       either = λ j none. ⊎_elim
