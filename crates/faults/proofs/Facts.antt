@@ -129,7 +129,7 @@ one_clean (Some p) e = absurd cc
 
 -- ONE READER BEHIND ANOTHER
 
-abbrev pub seq : {X1 Y1 X2 Y2 : Type 0} {E1 E2 : List Token → Type 0} → (L1 : Lang X1 Y1 E1) → (L1.W → Lang X2 Y2 E2) → Lang X2 Y2 E2
+abbrev pub seq : {X1 Y1 X2 Y2 : Type 0} {EndA EndB : List Token → Type 0} → (L1 : Lang X1 Y1 EndA) → (L1.W → Lang X2 Y2 EndB) → Lang X2 Y2 EndB
 seq L1 L2 = record {
   W = (w : L1.W) × (L2 w).W;
   default = (L1.default, (L2 L1.default).default);
@@ -139,8 +139,8 @@ seq L1 L2 = record {
   shape = λ w. shape_seq (L1.spell w.0) ((L2 w.0).spell w.1) (L1.notes w.0) ((L2 w.0).notes w.1) (L1.shape w.0) ((L2 w.0).shape w.1);
 }
 
-module _ {X1 Y1 X2 Y2 : Type 0} {E1 E2 : List Token → Type 0} (L1 : Lang X1 Y1 E1) (L2 : L1.W → Lang X2 Y2 E2) (f : List Token → Result Y1 Told) (k : Y1 → Result Y2 Told)
-    (fronts : (a b : List Token) → SameFront a b → E1 a → E1 b) (follow : (w : L1.W) (v : (L2 w).W) (rest : List Token) → E2 rest → E1 ((L2 w).spell v rest)) where
+module _ {X1 Y1 X2 Y2 : Type 0} {EndA EndB : List Token → Type 0} (L1 : Lang X1 Y1 EndA) (L2 : L1.W → Lang X2 Y2 EndB) (f : List Token → Result Y1 Told) (k : Y1 → Result Y2 Told)
+    (fronts : (a b : List Token) → SameFront a b → EndA a → EndA b) (follow : (w : L1.W) (v : (L2 w).W) (rest : List Token) → EndB rest → EndA ((L2 w).spell v rest)) where
   abbrev Joined : List Token → Result Y2 Told
   Joined ts = f ts >>= k
 
@@ -211,7 +211,7 @@ module _ {X1 Y1 X2 Y2 : Type 0} {E1 E2 : List Token → Type 0} (L1 : Lang X1 Y1
         is = one.is ∙ ap (L1.spell w) s.is ∙ sh.is (s.before ++ s.behind) ∙ sym (append_assoc sh.text s.before s.behind);
         same = λ others h.
             let at : (sh.text ++ s.before) ++ others ≡ L1.spell w (s.before ++ others) = append_assoc sh.text s.before others ∙ sym (sh.is (s.before ++ others)) in
-            let ends = fronts (s.before ++ s.behind) (s.before ++ others) (same_behind s.before s.behind others h) (subst E1 s.is one.ends) in
+            let ends = fronts (s.before ++ s.behind) (s.before ++ others) (same_behind s.before s.behind others h) (subst EndA s.is one.ends) in
             ap (λ (x : List Token). f x >>= k) at ∙ ap (λ (r : Result Y1 Told). r >>= k) (fine.reads (s.before ++ others) ends) ∙ s.same others h;
         w = (w, s.w);
         more = s.more;
@@ -224,7 +224,7 @@ module _ {X1 Y1 X2 Y2 : Type 0} {E1 E2 : List Token → Type 0} (L1 : Lang X1 Y1
         reach = s.reach;
       }
 
-  pub bind : {P : List Token → Type 0} → Facts P L1 f → ((w : L1.W) (x : X1) → first_fault (L1.notes w) ≡ None → Facts E1 (L2 w) (λ ts. k (L1.join w x ts))) → Facts P (seq L1 L2) (λ ts. f ts >>= k)
+  pub bind : {P : List Token → Type 0} → Facts P L1 f → ((w : L1.W) (x : X1) → first_fault (L1.notes w) ≡ None → Facts EndA (L2 w) (λ ts. k (L1.join w x ts))) → Facts P (seq L1 L2) (λ ts. f ts >>= k)
   bind F G = record {
     reads = λ w. ⊎_elim (λ one. reads_both w.0 w.1 one ((G w.0 one.value one.clean).reads w.1)) (λ one. inr (reads_none w.0 w.1 one)) (F.reads w.0);
     takes = λ ts p. ⊎_elim
@@ -236,7 +236,7 @@ module _ {X1 Y1 X2 Y2 : Type 0} {E1 E2 : List Token → Type 0} (L1 : Lang X1 Y1
   }
 
 -- where anything may follow the first
-pub then : {X1 Y1 X2 Y2 : Type 0} {E2 P : List Token → Type 0} (L1 : Lang X1 Y1 Any) (L2 : L1.W → Lang X2 Y2 E2) (f : List Token → Result Y1 Told) (k : Y1 → Result Y2 Told)
+pub then : {X1 Y1 X2 Y2 : Type 0} {EndB P : List Token → Type 0} (L1 : Lang X1 Y1 Any) (L2 : L1.W → Lang X2 Y2 EndB) (f : List Token → Result Y1 Told) (k : Y1 → Result Y2 Told)
     → Facts P L1 f → ((w : L1.W) (x : X1) → first_fault (L1.notes w) ≡ None → Facts Any (L2 w) (λ ts. k (L1.join w x ts))) → Facts P (seq L1 L2) (λ ts. f ts >>= k)
 then L1 L2 f k F G = bind L1 L2 f k (λ a b h e. tt) (λ w v rest e. tt) F G
 
