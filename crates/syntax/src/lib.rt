@@ -1,6 +1,9 @@
 //! The syntax tree of a script's processes, and the limits that each process keeps.
 #![tactic(auto)]
 
+ghost use denote.Param.Send.{IsSend, IsSync};
+ghost use Rattle.syntax.specs.contracts.process.Proc as proc;
+
 pub mod process;
 pub mod tree;
 
@@ -9,6 +12,12 @@ pub use tree::{
     Block, Event, Events, Expr, Exprs, Name, Names, Operand, Relation, Sign, Stmt, Term, Terms,
     Test, Turn,
 };
+
+/// A process may be moved to another thread, and be read by several at once.
+pub fn processes_cross_threads()
+    ensures moved { IsSend proc.the_row }
+    ensures shared { IsSync proc.the_row }
+{}
 
 #[cfg(test)]
 mod tests;

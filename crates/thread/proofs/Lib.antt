@@ -4,3 +4,4 @@ pub mod Choices
 pub mod Commits
 pub mod Standing
 pub mod Ranging
+pub mod Crossing

@@ -1,9 +1,11 @@
 //! Suspended machines: a process runs from one sync to the next.
 #![tactic(auto)]
 
+ghost use denote.Param.Send.{IsSend};
 ghost use Rattle.std.specs.Prelude.{◌<◌};
 ghost use Rattle.thread.specs.Machines.{IsAfter, Thread, offers_in};
 ghost use Rattle.thread.specs.Ranges.{OffersAreIn, ResultsAreIn};
+ghost use Rattle.thread.specs.contracts.machine.Machine as machine;
 
 mod commit;
 mod machine;
@@ -19,6 +21,11 @@ pub use machine::{Machine, Turn};
 /// Whatever a machine offers names only nacks that the words have room for, if its results do.
 pub fn offers_are_in_range()
     ensures { (m : Thread) → IsAfter m → m.thread < 64 → ResultsAreIn m.results → OffersAreIn (offers_in m.phase) }
+{}
+
+/// A machine may be moved to another thread.
+pub fn machines_cross_threads()
+    ensures { IsSend machine.the_row }
 {}
 
 /// Why a thread stopped before the end of its process.
