@@ -6,3 +6,6 @@ mod Lists
 mod NameLists
 mod Demanding
 mod Places
+mod Shapes
+mod Events
+mod Stmts

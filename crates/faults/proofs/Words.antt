@@ -32,7 +32,7 @@ accept_both (suc room) t = inl (plain_left room, λ ts. accept_ok (suc room) t t
 abbrev pub word : Symbol → ℕ → Lang (Unit {0}) (List Token) Any
 word symbol room = token {W = Unit {0}} {X = Unit {0}} {Y = List Token} tt (λ w. Fixed symbol) (λ w. plain room) (λ w x rest. rest)
 
-no_next : (symbol : Symbol) → next_is symbol [] ≡ true → ⊥
+pub no_next : (symbol : Symbol) → next_is symbol [] ≡ true → ⊥
 unfolding next_is
 no_next symbol e = cc
 

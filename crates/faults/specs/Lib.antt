@@ -1,2 +1,3 @@
 pub mod Notes
 pub mod Laws
+pub mod BlockNotes

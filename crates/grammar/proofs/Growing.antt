@@ -95,7 +95,7 @@ mutual
 
   pub events_grow : (w : written.Events) (ns : Names) (x : trees.Events × Names) → events_meaning ns w ≡ Some x → Grows ns x.1
   events_grow written.NoEvents ns x e = subst (λ (y : trees.Events × Names). Grows ns y.1) (some_is _ _ e) (stays ns)
-  events_grow (written.Events' event others) ns x e =
+  events_grow (written.Another event others) ns x e =
       let a = part (event_meaning ns event) _ x e in
       let m = part (events_meaning a.first.1 others) _ x a.then in
       subst (λ (y : trees.Events × Names). Grows ns y.1) (some_is _ _ m.then)

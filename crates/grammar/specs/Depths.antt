@@ -1,7 +1,7 @@
 -- The depth of what is written: the greatest number of marks that are open at one of its tokens, and of
 -- words `wrap`, `guard` and `nack` whose event has not ended there.
 use Rattle.std.specs.Prelude.{ℕ, ◌+◌, max, List, [], ◌∷◌}
-use Rattle.grammar.specs.Written.{Term, OfNumber, OfName, Grouped, Terms, NoMore, Further, Expr, Test, Event, Events, NoEvents, Events', Stmt, Block, Done, Then, Process, Script}
+use Rattle.grammar.specs.Written.{Term, OfNumber, OfName, Grouped, Terms, NoMore, Further, Expr, Test, Event, Events, NoEvents, Another, Stmt, Block, Done, Then, Process, Script}
 use Rattle.grammar.specs.Written as written
 
 abbrev mutual
@@ -41,7 +41,7 @@ abbrev mutual
 
   pub events_depth : Events → ℕ
   events_depth NoEvents = 0
-  events_depth (Events' event others) = max (event_depth event) (events_depth others)
+  events_depth (Another event others) = max (event_depth event) (events_depth others)
 
   pub stmt_depth : Stmt → ℕ
   stmt_depth (written.Let name value) = expr_depth value

@@ -12,7 +12,7 @@ use Rattle.syntax.specs.Trees as trees
 use Rattle.syntax.specs.Trees.{Turn}
 use Rattle.syntax.specs.Limits.{base_count, nack_count}
 use Rattle.syntax.specs.Processes.{Proc}
-use Rattle.grammar.specs.Written.{Term, OfNumber, OfName, Grouped, Terms, NoMore, Further, Expr, Test, Event, Events, NoEvents, Events', Stmt, Block, Done, Then, Process, Script}
+use Rattle.grammar.specs.Written.{Term, OfNumber, OfName, Grouped, Terms, NoMore, Further, Expr, Test, Event, Events, NoEvents, Another, Stmt, Block, Done, Then, Process, Script}
 use Rattle.grammar.specs.Written as written
 
 infixl 10 ◌>>=◌
@@ -138,7 +138,7 @@ unfoldable mutual
 
   pub events_meaning : Names → Events → Option (trees.Events × Names)
   events_meaning ns NoEvents = Some (trees.NoMembers, ns)
-  events_meaning ns (Events' event others) = do
+  events_meaning ns (Another event others) = do
     e ← event_meaning ns event
     m ← events_meaning e.1 others
     Some (trees.Members e.0 m.0, m.1)

@@ -90,7 +90,7 @@ mutual
 
   pub data Events : Type 0 where
     NoEvents : Events
-    Events' : (event : Event) (others : Events) → Events
+    Another : (event : Event) (others : Events) → Events
 
   pub data Stmt : Type 0 where
     Let : (name : List ℕ) (value : Expr) → Stmt
@@ -128,12 +128,12 @@ abbrev mutual
 
   pub events_tokens : Events → List Token → List Token
   events_tokens NoEvents rest = rest
-  events_tokens (Events' event others) rest = event_tokens event (more_events_tokens others rest)
+  events_tokens (Another event others) rest = event_tokens event (more_events_tokens others rest)
 
   -- events behind another, each behind a comma
   pub more_events_tokens : Events → List Token → List Token
   more_events_tokens NoEvents rest = rest
-  more_events_tokens (Events' event others) rest = Fixed symbols.Comma ∷ event_tokens event (more_events_tokens others rest)
+  more_events_tokens (Another event others) rest = Fixed symbols.Comma ∷ event_tokens event (more_events_tokens others rest)
 
   pub stmt_tokens : Stmt → List Token → List Token
   stmt_tokens (Let name value) rest = Fixed symbols.Let ∷ Name name ∷ Fixed symbols.Equal ∷ expr_tokens value (Fixed symbols.Semicolon ∷ rest)

@@ -8,10 +8,10 @@ use Rattle.syntax.specs.Processes.{Proc, ShareChannels}
 use Rattle.phrase.specs.Places.{place}
 use Rattle.phrase.specs.Steps.{name_at, next_is, accept_at, expect_at, start}
 use Rattle.phrase.proofs.Keeping.{bound_ok, ok_is, no_ok, if_ok, some_ok, repeated_keeps}
-use Rattle.script.specs.Blocks.{block_at}
+use Rattle.block.specs.Blocks.{block_at}
 use Rattle.script.specs.Scripts.{IsScript, proc_from, declare_at, channel_next, channel_step, channels_at, Drawn, process_next, process_step, processes_at}
-use Rattle.script.specs.declared.process.Loops.TheVariants.{Allowed}
-use Rattle.script.proofs.Keeping.{blocks_read}
+use Rattle.block.specs.declared.process.Loops.TheVariants.{Allowed}
+use Rattle.block.proofs.Keeping.{blocks_read}
 
 neither : (a b : Bool) → (a || b) ≡ false → a ≡ false
 neither false b e = refl

@@ -17,16 +17,16 @@ use Rattle.grammar.specs.Laws.{names_at, at}
 use Rattle.grammar.proofs.Fronts.{accept_ok, expect_ok, is_next, next_found, name_found, accept_found, expect_found, no_step, one_step}
 use Rattle.grammar.proofs.Names.{part, some_is, unless_some, neither}
 use Rattle.grammar.proofs.Growing.{block_grows}
-use Rattle.script.specs.Blocks.{block_at}
+use Rattle.block.specs.Blocks.{block_at}
 use Rattle.script.specs.Scripts.{Script, proc_from, declare_at, channel_next, channel_step, channels_at, Drawn, process_next, process_step, processes_at, script_at, tokens_of, with_line, text_at, script_of, Answers}
 use Rattle.script.specs.Spelling.{script_meaning, Spells, SpellsOnlyOne, SpellsNothing, Refuses}
 use Rattle.script.specs.declared.script.Script.{Script as SeenScript}
 use Rattle.phrase.specs.declared.fault.Problem.TheVariants.{Syntax, UnknownName, Twice, TooMany, LoopWithoutSync}
-use Rattle.script.specs.declared.process.Loops.TheVariants.{Allowed}
+use Rattle.block.specs.declared.process.Loops.TheVariants.{Allowed}
 use Rattle.script.specs.declared.fault.ScriptFault.{ScriptFault}
 use Rattle.script.specs.declared.fault.ScriptFault.TheVariants as faults
-use Rattle.script.proofs.Found.{blocks_found}
-use Rattle.script.proofs.Again.{no_counts, block_again, body_longer}
+use Rattle.block.proofs.Found.{blocks_found}
+use Rattle.block.proofs.Again.{no_counts, block_again, body_longer}
 
 le_self : (n : ℕ) → n ≤ n
 le_self n = omega arith

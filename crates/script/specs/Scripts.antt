@@ -6,8 +6,8 @@ use Rattle.phrase.specs.Places.{place, texts}
 use Rattle.phrase.specs.Steps.{Told, ◌>>=◌, stop_at, if_some, repeated, name_at, next_is, accept_at, expect_at, Here, here, start}
 use Rattle.syntax.specs.Trees.{Block}
 use Rattle.syntax.specs.Processes.{Proc, proc_of, string_texts, ShareChannels}
-use Rattle.script.specs.Blocks.{block_at}
-use Rattle.script.specs.declared.process.Loops.TheVariants.{Allowed}
+use Rattle.block.specs.Blocks.{block_at}
+use Rattle.block.specs.declared.process.Loops.TheVariants.{Allowed}
 use Rattle.script.specs.declared.script.Script.{Script as SeenScript}
 use Rattle.script.specs.declared.reading.Draft.{Draft}
 use Rattle.phrase.specs.declared.fault.Problem.{Problem}

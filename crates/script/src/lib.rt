@@ -1,8 +1,8 @@
 //! The script language: how texts are read.
 //!
-//! Tokens come from `token`, names and expressions are read by `phrase`, and what is read is a tree of
-//! `syntax`. This crate reads events, statements and blocks (`process`), and declarations and whole
-//! texts (`script`), from left to right.
+//! Tokens come from `token`, names and expressions are read by `phrase`, events, statements and blocks by
+//! `block`, and what is read is a tree of `syntax`. This crate reads declarations and whole texts, from
+//! left to right.
 //!
 //! Proved:
 //! - `parse` is Ok exactly where the bytes spell a script and are not too many, unless memory runs out,
@@ -21,7 +21,6 @@
 ghost use Rattle.script.specs.Spelling.{SpellsOnlyOne};
 
 mod fault;
-mod process;
 mod reading;
 mod script;
 

@@ -13,8 +13,8 @@ ghost use Rattle.syntax.specs.Limits.{KeepsLimits};
 ghost use Rattle.syntax.specs.Trees.{block_of};
 
 use crate::fault::ScriptFault;
-use crate::process::{Loops, read_block};
 use crate::script::Script;
+use block::{Loops, read_block};
 use phrase::fault::{Problem, Stop};
 use phrase::scope::{Counts, NAME_LEN, Scope};
 use phrase::step::{accept, begin, expect, is_end, is_next, name_at, stop};

@@ -301,10 +301,10 @@ mutual
   events_plain : (w : written.Events) (ns V : Names) (x : trees.Events × Names) → events_meaning ns w ≡ Some x → EventsAt ns V w x
   events_plain written.NoEvents ns V x e =
       subst (EventsAt ns V written.NoEvents) (some_is _ _ e) (λ g. record { meaning = refl; shallow = omega arith; more = λ rest rest' h k. k h; good = λ rest rest' h k. k h })
-  events_plain (written.Events' event others) ns V x e =
+  events_plain (written.Another event others) ns V x e =
       let a = part (event_meaning ns event) _ x e in
       let m = part (events_meaning a.first.1 others) _ x a.then in
-      subst (EventsAt ns V (written.Events' event others)) (some_is _ _ m.then) (λ g.
+      subst (EventsAt ns V (written.Another event others)) (some_is _ _ m.then) (λ g.
       let p = event_plain event ns V a.first a.is (grows_on a.first.1 m.first.1 V (events_grow others a.first.1 m.first m.is) g) in
       let q = events_plain others a.first.1 V m.first m.is g in
       record {

@@ -7,7 +7,7 @@ use Rattle.syntax.specs.declared.tree.Operand.{Operand}
 use Rattle.syntax.specs.declared.tree.Operand.TheVariants.{Number, Named}
 use Rattle.syntax.specs.Trees as trees
 use Rattle.syntax.specs.Processes.{Proc}
-use Rattle.grammar.specs.Written.{Term, OfNumber, OfName, Grouped, Terms, NoMore, Further, Expr, Test, Event, Events, NoEvents, Events', Stmt, Block, Done, Then, Process}
+use Rattle.grammar.specs.Written.{Term, OfNumber, OfName, Grouped, Terms, NoMore, Further, Expr, Test, Event, Events, NoEvents, Another, Stmt, Block, Done, Then, Process}
 use Rattle.grammar.specs.Written as written
 use Rattle.grammar.specs.Meaning.{Names}
 use Rattle.script.specs.Scripts.{Script}
@@ -65,7 +65,7 @@ abbrev mutual
 
   pub plain_events : Names → trees.Events → Events
   plain_events ns trees.NoMembers = NoEvents
-  plain_events ns (trees.Members event others) = Events' (plain_event ns event) (plain_events ns others)
+  plain_events ns (trees.Members event others) = Another (plain_event ns event) (plain_events ns others)
 
   pub plain_stmt : Names → trees.Stmt → Stmt
   plain_stmt ns (trees.Lets name value) = written.Let (variable ns name) (plain_expr ns value)

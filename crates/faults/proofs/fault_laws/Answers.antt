@@ -8,6 +8,8 @@ use Rattle.phrase.specs.Steps.{next_is}
 use Rattle.std.proofs.Common.{[], refl}
 use Rattle.faults.specs.Laws.{NoSign, NoComma}
 use Rattle.faults.proofs.Places.{expr_here, test_here, list_here, names_here}
+use Rattle.faults.proofs.Events.{event_facts}
+use Rattle.faults.proofs.Stmts.{stmt_facts, body_facts}
 use Rattle.faults.proofs.fault_laws.Goals as goal
 
 no_sign : NoSign []

@@ -19,10 +19,10 @@ use Rattle.grammar.proofs.Fronts.{next_found, number_found, accept_found, expect
 use Rattle.grammar.proofs.Names.{name_is_found, bind_is_found, names_found}
 use Rattle.grammar.proofs.Exprs.{expr_found}
 use Rattle.grammar.proofs.Lists.{test_found, list_found}
-use Rattle.script.specs.Blocks.{base_at, nack_word_at, send_at, recv_at, always_at, never_at, cancelled_at, as_names_at, chain, body, ReadsEvent, ReadsBlock, ReadsStmt, ReadsTurn, member_next, member_step, members_with, choose_with, wrap_with, guard_with, nack_with, event_with, fresh, synced_with, let_at, print_at, end_at, received_with, branch_with, times_at, counted_with, forever_with, are_allowed, stmt_with, stmt_next, stmt_step, stmts_with, block_with, is_no_sync, as_sync, turn_rest_with, turn_with, none_there, event_at, block_at, turn_at}
-use Rattle.script.specs.declared.process.Loops.{Loops as Place}
-use Rattle.script.specs.declared.process.Loops.TheVariants.{Allowed, Forbidden}
-use Rattle.script.proofs.Keeping.{EventsRead, deeper, events_read}
+use Rattle.block.specs.Blocks.{base_at, nack_word_at, send_at, recv_at, always_at, never_at, cancelled_at, as_names_at, chain, body, ReadsEvent, ReadsBlock, ReadsStmt, ReadsTurn, member_next, member_step, members_with, choose_with, wrap_with, guard_with, nack_with, event_with, fresh, synced_with, let_at, print_at, end_at, received_with, branch_with, times_at, counted_with, forever_with, are_allowed, stmt_with, stmt_next, stmt_step, stmts_with, block_with, is_no_sync, as_sync, turn_rest_with, turn_with, none_there, event_at, block_at, turn_at}
+use Rattle.block.specs.declared.process.Loops.{Loops as Place}
+use Rattle.block.specs.declared.process.Loops.TheVariants.{Allowed, Forbidden}
+use Rattle.block.proofs.Keeping.{EventsRead, deeper, events_read}
 
 -- EVENTS
 
@@ -168,7 +168,7 @@ no_more room s = record { others = written.NoEvents; list = []; tokens = refl; d
 one_more : (room : ℕ) (s x : MembersSoFar) (e : EventResult) (rest : List Token) → s.2 ≡ Fixed Comma ∷ rest → SpellsEvent room s.1 e.1 rest e.0 e.2 → SpellsMore room (s.0 ++ e.0 ∷ [], e.1, e.2) x → SpellsMore room s x
 unfolding events_meaning
 one_more room s x e rest comma first more = record {
-  others = written.Events' first.event more.others;
+  others = written.Another first.event more.others;
   list = e.0 ∷ more.list;
   tokens = comma ∙ ap (λ (y : List Token). Fixed Comma ∷ y) (first.tokens ∙ ap (event_tokens first.event) more.tokens);
   depth = λ some. (let d = more.depth some in omega (arith, d, first.depth));
@@ -208,7 +208,7 @@ members_found event room h ts x found e =
     let first = found h ts a.first a.is in
     let m = more_found event room found (length ts) (a.first.0 ∷ [], a.first.1, a.first.2) x a.then in
     record {
-      members = written.Events' first.event m.others;
+      members = written.Another first.event m.others;
       tokens = first.tokens ∙ ap (event_tokens first.event) m.tokens;
       depth = λ some. (let d = m.depth some in omega (arith, d, first.depth));
       meaning = rw (first.meaning, m.meaning) (ap (λ (y : List trees.Event). Some (chain y, names_at x.1)) m.value);

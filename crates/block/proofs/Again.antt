@@ -21,10 +21,10 @@ use Rattle.grammar.proofs.Fronts.{accept_ok, expect_ok, is_next, no_step, one_st
 use Rattle.grammar.proofs.Names.{part, some_is, if_else_some, name_again, bind_again, names_again}
 use Rattle.grammar.proofs.Exprs.{term_longer, terms_longer}
 use Rattle.grammar.proofs.Lists.{expr_reads, test_reads, list_reads}
-use Rattle.script.specs.Blocks.{base_at, nack_word_at, send_at, recv_at, always_at, never_at, cancelled_at, as_names_at, chain, body, ReadsEvent, ReadsBlock, ReadsTurn, member_step, members_with, choose_with, wrap_with, guard_with, nack_with, event_with, synced_with, let_at, print_at, end_at, received_with, branch_with, times_at, counted_with, forever_with, are_allowed, stmt_with, stmt_step, stmts_with, block_with, is_no_sync, as_sync, turn_rest_with, turn_with, event_at, block_at, turn_at, stmt_at}
-use Rattle.script.specs.declared.process.Loops.{Loops as Place}
-use Rattle.script.specs.declared.process.Loops.TheVariants.{Allowed, Forbidden}
-use Rattle.script.proofs.Blocking.{event_at_is, block_at_is, turn_at_is}
+use Rattle.block.specs.Blocks.{base_at, nack_word_at, send_at, recv_at, always_at, never_at, cancelled_at, as_names_at, chain, body, ReadsEvent, ReadsBlock, ReadsTurn, member_step, members_with, choose_with, wrap_with, guard_with, nack_with, event_with, synced_with, let_at, print_at, end_at, received_with, branch_with, times_at, counted_with, forever_with, are_allowed, stmt_with, stmt_step, stmts_with, block_with, is_no_sync, as_sync, turn_rest_with, turn_with, event_at, block_at, turn_at, stmt_at}
+use Rattle.block.specs.declared.process.Loops.{Loops as Place}
+use Rattle.block.specs.declared.process.Loops.TheVariants.{Allowed, Forbidden}
+use Rattle.block.proofs.Blocking.{event_at_is, block_at_is, turn_at_is}
 
 -- WHAT IS WRITTEN IS NOT SHORTER THAN WHAT FOLLOWS
 
@@ -74,7 +74,7 @@ mutual
   event_longer written.Never rest = omega arith
   event_longer (written.Cancelled nack) rest = omega arith
   event_longer (written.Choose written.NoEvents) rest = omega arith
-  event_longer (written.Choose (written.Events' event others)) rest =
+  event_longer (written.Choose (written.Another event others)) rest =
       let a = more_longer others (Fixed CloseBracket ∷ rest) in
       let b = event_longer event (more_events_tokens others (Fixed CloseBracket ∷ rest)) in
       omega (arith, a, b)
@@ -94,7 +94,7 @@ mutual
 
   more_longer : (es : written.Events) (rest : List Token) → length rest ≤ length (more_events_tokens es rest)
   more_longer written.NoEvents rest = omega arith
-  more_longer (written.Events' event others) rest =
+  more_longer (written.Another event others) rest =
       let a = more_longer others rest in
       let b = event_longer event (more_events_tokens others rest) in
       omega (arith, a, b)
@@ -516,8 +516,8 @@ mutual
         bases = omega arith;
         nacks = omega arith;
       }) leaves
-  event_again (written.Choose (written.Events' first others)) room ns counts x rest deep e leaves =
-      let m = part (events_meaning ns (written.Events' first others)) _ x e in
+  event_again (written.Choose (written.Another first others)) room ns counts x rest deep e leaves =
+      let m = part (events_meaning ns (written.Another first others)) _ x e in
       let a = part (event_meaning ns first) _ m.first m.is in
       let b = part (events_meaning a.first.1 others) _ m.first a.then in
       let whole : (trees.Chooses (trees.Members a.first.0 b.first.0), b.first.1) ≡ x = ap (λ (y : trees.Events × Names). (trees.Chooses y.0, y.1)) (some_is _ _ b.then) ∙ some_is _ _ m.then in
@@ -530,7 +530,7 @@ mutual
       let members = members_read_from (room - 1) (at ns counts) (at a.first.1 one.after) first behind a.first.0 (a.first.0 ∷ more.list, at b.first.1 more.after, close) one.reads more.reads in
       record {
         after = more.after;
-        reads = event_at_is room (at ns counts) (event_tokens (written.Choose (written.Events' first others)) rest) ∙
+        reads = event_at_is room (at ns counts) (event_tokens (written.Choose (written.Another first others)) rest) ∙
             choose_reads _ _ room (at ns counts) (at b.first.1 more.after) (event_tokens first behind) (a.first.0 ∷ more.list) rest (omega (arith, deep)) members ∙
             ap (λ (y : trees.Events). Ok (trees.Chooses (trees.Members a.first.0 y), at b.first.1 more.after, rest)) more.chained;
         bases = omega (arith, one.bases, more.bases);
@@ -590,8 +590,8 @@ mutual
         bases = omega arith;
         nacks = omega arith;
       }) leaves
-  more_again (written.Events' first others) room ns counts x zero s rest deep e leaves fuel = absurd (omega (arith, fuel))
-  more_again (written.Events' first others) room ns counts x (suc n) s rest deep e leaves fuel =
+  more_again (written.Another first others) room ns counts x zero s rest deep e leaves fuel = absurd (omega (arith, fuel))
+  more_again (written.Another first others) room ns counts x (suc n) s rest deep e leaves fuel =
       let a = part (event_meaning ns first) _ x e in
       let b = part (events_meaning a.first.1 others) _ x a.then in
       at_more room ns counts _ (suc n) s _ x _ (some_is _ _ b.then) (λ fits.

@@ -8,8 +8,8 @@ use Rattle.token.specs.declared.kind.Symbol.TheVariants.{OpenBrace, CloseBrace, 
 use Rattle.phrase.specs.declared.fault.Stop.{Stop}
 use Rattle.phrase.proofs.Giving.{fails_bind}
 use Rattle.syntax.specs.Trees.{Event, Events, NoMembers, Members, Stmt, Block, Stops, Runs}
-use Rattle.script.specs.Blocks.{chain, body, ReadsEvent, ReadsStmt, event_at, block_at, turn_at, stmt_at, event_with, block_with, turn_with, choose_with, wrap_with, guard_with, nack_with, nack_word_at, member_step, member_next, stmt_step, stmt_next}
-use Rattle.script.specs.declared.process.Loops.{Loops as Place}
+use Rattle.block.specs.Blocks.{chain, body, ReadsEvent, ReadsStmt, event_at, block_at, turn_at, stmt_at, event_with, block_with, turn_with, choose_with, wrap_with, guard_with, nack_with, nack_word_at, member_step, member_next, stmt_step, stmt_next}
+use Rattle.block.specs.declared.process.Loops.{Loops as Place}
 
 abbrev pub chain_on : Events → List Event → Events
 chain_on end [] = end

@@ -1,8 +1,8 @@
 use Rattle.std.proofs.Common.{◌≡◌, ◌+◌, ◌-◌, ◌*◌, length, map}
 use Rattle.phrase.specs.Steps.{bare, here, repeated}
 use Rattle.syntax.specs.Trees.{event_of, stmt_of}
-use Rattle.script.specs.Blocks.{event_at, stmt_at, member_step, stmt_step, members_with, stmts_with}
-use Rattle.script.proofs.process.+reading.Given as goal
+use Rattle.block.specs.Blocks.{event_at, stmt_at, member_step, stmt_step, members_with, stmts_with}
+use Rattle.block.proofs.process.+reading.Given as goal
 
 abbrev pub decreases-read_block : goal.decreases-read_block
 decreases-read_block l = 10 * l.room + 0

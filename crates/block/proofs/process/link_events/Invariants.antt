@@ -1,8 +1,8 @@
 use Rattle.std.proofs.Common.{◌≡◌, vec_len, map}
 use Rattle.syntax.specs.Trees.{event_of, events_of}
-use Rattle.script.specs.Blocks.{chain}
-use Rattle.script.proofs.Blocking.{chain_on}
-use Rattle.script.proofs.process.link_events.Given as goal
+use Rattle.block.specs.Blocks.{chain}
+use Rattle.block.proofs.Blocking.{chain_on}
+use Rattle.block.proofs.process.link_events.Given as goal
 
 abbrev pub invariant-loop-event : goal.invariant-loop-event
 invariant-loop-event l = chain_on (events_of l.linked) (map event_of l.events.items) ≡ chain (map event_of l.fn.events.items)

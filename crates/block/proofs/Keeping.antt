@@ -9,9 +9,9 @@ use Rattle.phrase.specs.Steps.{Here, name_at, next_is, accept_at, expect_at, rea
 use Rattle.phrase.specs.Exprs.{expr_at, test_at, list_at}
 use Rattle.phrase.proofs.Keeping.{bound_ok, ok_is, no_ok, if_ok, some_ok, repeated_keeps, accept_room, expect_room, Later, name_read, bind_name_reads, bind_names_read}
 use Rattle.phrase.proofs.KeepingExprs.{expr_read, test_read, list_read}
-use Rattle.script.specs.Blocks.{base_at, nack_word_at, send_at, recv_at, always_at, never_at, cancelled_at, as_names_at, chain, body, ReadsEvent, ReadsBlock, ReadsStmt, ReadsTurn, member_next, member_step, members_with, choose_with, wrap_with, guard_with, nack_with, event_with, fresh, synced_with, let_at, print_at, end_at, received_with, branch_with, times_at, counted_with, forever_with, are_allowed, stmt_with, stmt_next, stmt_step, stmts_with, block_with, is_no_sync, as_sync, turn_rest_with, turn_with, none_there, event_at, block_at, turn_at}
-use Rattle.script.specs.declared.process.Loops.{Loops as Place}
-use Rattle.script.specs.declared.process.Loops.TheVariants.{Allowed, Forbidden}
+use Rattle.block.specs.Blocks.{base_at, nack_word_at, send_at, recv_at, always_at, never_at, cancelled_at, as_names_at, chain, body, ReadsEvent, ReadsBlock, ReadsStmt, ReadsTurn, member_next, member_step, members_with, choose_with, wrap_with, guard_with, nack_with, event_with, fresh, synced_with, let_at, print_at, end_at, received_with, branch_with, times_at, counted_with, forever_with, are_allowed, stmt_with, stmt_next, stmt_step, stmts_with, block_with, is_no_sync, as_sync, turn_rest_with, turn_with, none_there, event_at, block_at, turn_at}
+use Rattle.block.specs.declared.process.Loops.{Loops as Place}
+use Rattle.block.specs.declared.process.Loops.TheVariants.{Allowed, Forbidden}
 
 -- EVENTS
 

@@ -3,8 +3,8 @@ use Rattle.std.proofs.lemmas.List.{map-append, nil_from_length}
 use Rattle.syntax.specs.Trees.{Runs, stmt_of, block_of}
 use Rattle.syntax.specs.declared.tree.Stmt.{Stmt as SeenStmt}
 use Rattle.syntax.specs.declared.tree.Block.{Block as SeenBlock}
-use Rattle.script.proofs.Blocking.{body_on, body_on-nothing, body_on-more}
-use Rattle.script.proofs.process.link_stmts.Goals as goal
+use Rattle.block.proofs.Blocking.{body_on, body_on-nothing, body_on-more}
+use Rattle.block.proofs.process.link_stmts.Goals as goal
 
 pub loop-stmt-init : goal.loop-stmt-init
 loop-stmt-init c = body_on-nothing (map stmt_of c.args.stmts.items)

@@ -4,7 +4,7 @@ ghost use Rattle.std.specs.Prelude.{◌≡◌, ◌<◌, ◌-◌, IfOk, OnOk, map
 ghost use Rattle.std.specs.Option.{option_map};
 ghost use Rattle.phrase.specs.Steps.{Gives, bare, here};
 ghost use Rattle.syntax.specs.Trees.{event_of, events_of, stmt_of, block_of, turn_of, names_of};
-ghost use Rattle.script.specs.Blocks.{chain, body, base_at, nack_word_at, send_at, recv_at, always_at, never_at, cancelled_at, as_names_at, members_with, choose_with, wrap_with, guard_with, nack_with, event_at, synced_with, let_at, print_at, end_at, received_with, branch_with, times_at, counted_with, forever_with, are_allowed, stmt_at, stmts_with, block_at, is_no_sync, turn_at};
+ghost use Rattle.block.specs.Blocks.{chain, body, base_at, nack_word_at, send_at, recv_at, always_at, never_at, cancelled_at, as_names_at, members_with, choose_with, wrap_with, guard_with, nack_with, event_at, synced_with, let_at, print_at, end_at, received_with, branch_with, times_at, counted_with, forever_with, are_allowed, stmt_at, stmts_with, block_at, is_no_sync, turn_at};
 
 use phrase::expr::{read_expr, read_list, read_test};
 use phrase::fault::{Problem, Stop};
@@ -23,7 +23,7 @@ const NACKS: u8 = 4;
 
 /// Whether loops may stand in a block. They may not in that of a guard or a nack.
 #[derive(Clone, Copy, Debug, PartialEq, Eq)]
-pub(crate) enum Loops {
+pub enum Loops {
     Allowed,
     Forbidden,
 }
@@ -579,7 +579,7 @@ fn statements<'a>(
 /// A block.
 #[cycle(reading)]
 #[tactic(auto, using(crate::proofs::Blocking::block_at_is), unfolding(crate::specs::Blocks::block_with))]
-pub(crate) fn read_block<'a>(
+pub fn read_block<'a>(
     alloc: Global,
     scope: &mut Scope<'a>,
     tokens: &'a [Placed<'a>],

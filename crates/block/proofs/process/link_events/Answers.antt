@@ -3,8 +3,8 @@ use Rattle.std.proofs.lemmas.List.{map-append, nil_from_length}
 use Rattle.syntax.specs.Trees.{Members, event_of, events_of}
 use Rattle.syntax.specs.declared.tree.Event.{Event as SeenEvent}
 use Rattle.syntax.specs.declared.tree.Events.{Events as SeenEvents}
-use Rattle.script.proofs.Blocking.{chain_on, chain_on-nothing, chain_on-more}
-use Rattle.script.proofs.process.link_events.Goals as goal
+use Rattle.block.proofs.Blocking.{chain_on, chain_on-nothing, chain_on-more}
+use Rattle.block.proofs.process.link_events.Goals as goal
 
 pub loop-event-init : goal.loop-event-init
 loop-event-init c = chain_on-nothing (map event_of c.args.events.items)

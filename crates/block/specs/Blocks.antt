@@ -4,8 +4,8 @@ use Rattle.token.specs.Tokens.{Token}
 use Rattle.phrase.specs.Steps.{Told, ◌>>=◌, stop_at, if_some, repeated, name_at, number_at, next_is, accept_at, expect_at, read_name_at, bind_name_at, bind_names_at, Here}
 use Rattle.phrase.specs.Exprs.{expr_at, list_at, test_at}
 use Rattle.syntax.specs.Trees.{Event, Sends, Receives, IsReady, IsNever, IsCancelled, Chooses, Wraps, Guards, Nacks, Events, NoMembers, Members, Stmt, Lets, Prints, Syncs, Branches, Loops, LoopsForever, Ends, Block, Stops, Runs, Turn}
-use Rattle.script.specs.declared.process.Loops.{Loops as Place}
-use Rattle.script.specs.declared.process.Loops.TheVariants.{Allowed, Forbidden}
+use Rattle.block.specs.declared.process.Loops.{Loops as Place}
+use Rattle.block.specs.declared.process.Loops.TheVariants.{Allowed, Forbidden}
 use Rattle.phrase.specs.declared.fault.Problem.TheVariants.{Syntax, TooMany, LoopWithoutSync}
 use Rattle.token.specs.declared.kind.Symbol.TheVariants.{Let, Print, Sync, If, Else, Loop, Forever, End, Send, Recv, Always, Never, Cancelled, Choose, Wrap, As, To, Guard, Nack, Semicolon, Comma, OpenBrace, CloseBrace, OpenBracket, CloseBracket, Equal, Arrow}
 

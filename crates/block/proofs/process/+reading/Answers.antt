@@ -2,12 +2,12 @@ use Rattle.std.proofs.Common.{◌≡◌, ◌+◌, ◌-◌, List, [], ◌∷◌, 
 use Rattle.syntax.specs.declared.tree.Event.{Event as SeenEvent}
 use Rattle.phrase.specs.Steps.{bare, here, repeated, next_is}
 use Rattle.syntax.specs.Trees.{Event, Stmt, event_of, stmt_of}
-use Rattle.script.specs.Blocks.{event_at, stmt_at, members_with, stmts_with, member_step, stmt_step}
+use Rattle.block.specs.Blocks.{event_at, stmt_at, members_with, stmts_with, member_step, stmt_step}
 use Rattle.token.specs.declared.kind.Symbol.TheVariants.{CloseBracket}
 use Rattle.phrase.proofs.Fronts.{length_bare}
 use Rattle.phrase.proofs.Giving.{gives_err, fails_same, fails_bind, repeated_step, repeated_none, repeated_all, goes_on, map_more}
-use Rattle.script.proofs.Blocking.{SoFar, member_step-some, member_step-none, member_next-ok, member_next-no_room, member_next-no_event, stmt_step-some, stmt_step-none, stmt_next-ok, stmt_next-fails}
-use Rattle.script.proofs.process.+reading.Goals as goal
+use Rattle.block.proofs.Blocking.{SoFar, member_step-some, member_step-none, member_next-ok, member_next-no_room, member_next-no_event, stmt_step-some, stmt_step-none, stmt_next-ok, stmt_next-fails}
+use Rattle.block.proofs.process.+reading.Goals as goal
 
 pub members-loop-turn-init : goal.members-loop-turn-init
 unfolding members_with

@@ -1,8 +1,8 @@
 use Rattle.std.proofs.Common.{◌≡◌, vec_len, map}
 use Rattle.syntax.specs.Trees.{stmt_of, block_of}
-use Rattle.script.specs.Blocks.{body}
-use Rattle.script.proofs.Blocking.{body_on}
-use Rattle.script.proofs.process.link_stmts.Given as goal
+use Rattle.block.specs.Blocks.{body}
+use Rattle.block.proofs.Blocking.{body_on}
+use Rattle.block.proofs.process.link_stmts.Given as goal
 
 abbrev pub invariant-loop-stmt : goal.invariant-loop-stmt
 invariant-loop-stmt l = body_on (block_of l.linked) (map stmt_of l.stmts.items) ≡ body (map stmt_of l.fn.stmts.items)

@@ -1,0 +1,4 @@
+pub mod Blocking
+pub mod Keeping
+pub mod Found
+pub mod Again
