@@ -2,9 +2,10 @@ ghost use Rattle.std.specs.Prelude.{◌≡◌, IfOk};
 ghost use Rattle.thread.specs.Machines.{Ready};
 
 use script::parse;
-use std::alloc::Global;
+use std::alloc::{AllocError, Global};
 use std::process::Abort;
 use std::test::Fail;
+use std::thread::{Threads, join};
 use thread::{Fault, Machine, Turn};
 use words::{Atom, Base, Direction, Head, Message, Offer, unpack_head};
 
@@ -261,6 +262,8 @@ fn long_scripts_run(rt: HostRuntime) -> Result<(), Fail> {
     check_ends(&rt, sum.as_str(), &[], &[32000])?;
     let row = repeated(alloc, "process a{", "end;", 16000, "}")?;
     check_ends(&rt, row.as_str(), &[], &[])?;
+    let run = repeated(alloc, "process a{", "let x=1;", 8000, "print x;}")?;
+    check_ends(&rt, run.as_str(), &[], &[1])?;
     let choices = repeated(
         alloc,
         "process a{sync choose[",
@@ -269,6 +272,9 @@ fn long_scripts_run(rt: HostRuntime) -> Result<(), Fail> {
         "always(1)];print 5;}",
     )?;
     check_ends(&rt, choices.as_str(), &[(0, one(1))], &[5])?;
+    let wraps = repeated(alloc, "process a{x<-sync ", "wrap ", 45, "always(1)")?;
+    let wraps = repeated(alloc, wraps.as_str(), "as p to(p+1)", 45, ";print x;}")?;
+    check_ends(&rt, wraps.as_str(), &[(0, one(1))], &[46])?;
     let deep = repeated(alloc, "process a{", "if 0=0{", 47, "print 6;")?;
     let deep = repeated(alloc, deep.as_str(), "}else{}", 47, "}")?;
     check_ends(&rt, deep.as_str(), &[], &[6])
@@ -282,6 +288,59 @@ fn machines_lie_in_slots(rt: HostRuntime) -> Result<(), Fail> {
     if let Some(Some(machine)) = slots.pop() {
         assert!(rt; !machine.is_offering());
     }
+    Ok(())
+}
+
+/// The machine at its first stop.
+fn begun(alloc: Global, mut machine: Machine) -> Result<Machine, AllocError>
+    requires { machine.phase ≡ Ready }
+{
+    let _turn = machine.begin(alloc)?;
+    Ok(machine)
+}
+
+#[tactic(auto, using(thread::proofs::Crossing::machine_send))]
+/// Two machines, each begun in a thread of its own.
+fn both_begun<R: Threads>(
+    rt: &R,
+    alloc: Global,
+    first: Machine,
+    second: Machine,
+) -> (Result<Machine, AllocError>, Result<Machine, AllocError>)
+    requires first { first.phase ≡ Ready }
+    requires second { second.phase ≡ Ready }
+{
+    join(
+        rt,
+        || -> Result<Machine, AllocError>
+            requires { first.phase ≡ Ready }
+        { begun(alloc, first) },
+        || -> Result<Machine, AllocError>
+            requires { second.phase ≡ Ready }
+        { begun(alloc, second) },
+    )
+}
+
+/// Gives the value back. Values of its type may cross threads.
+fn crosses<T: Send>(value: T) -> T {
+    value
+}
+
+#[test]
+fn machines_cross_threads(rt: HostRuntime) -> Result<(), Fail> {
+    let alloc = rt.alloc();
+    let text =
+        "channel c; process a { sync send c (42); } process b { x <- sync recv c; print x; }";
+    let a = machine(alloc, text, 0)?;
+    let b = machine(alloc, text, 1)?;
+    let (a, b) = both_begun(&rt, alloc, a, b);
+    let mut b = crosses(b?);
+    let _turn = resume(alloc, &mut b, 0, one(42))?;
+    check_prints(&rt, &b, &[42]);
+    let mut slots: Vec<Option<Machine>> = Vec::new(alloc);
+    slots.push(Some(a?))?;
+    let slots = crosses(slots);
+    assert_eq!(rt; slots.len(), 1);
     Ok(())
 }
 
