@@ -9,7 +9,7 @@ use Rattle.phrase.specs.Places.{place}
 use Rattle.phrase.specs.Steps.{name_at, next_is, accept_at, expect_at, start}
 use Rattle.phrase.proofs.Keeping.{bound_ok, ok_is, no_ok, if_ok, some_ok, repeated_keeps}
 use Rattle.block.specs.Blocks.{block_at}
-use Rattle.script.specs.Scripts.{IsScript, proc_from, declare_at, channel_next, channel_step, channels_at, Drawn, process_next, process_step, processes_at}
+use Rattle.script.specs.Scripts.{Script, IsScript, script_at, proc_from, declare_at, channel_next, channel_step, channels_at, Drawn, process_next, process_step, processes_at}
 use Rattle.block.specs.declared.process.Loops.TheVariants.{Allowed}
 use Rattle.block.proofs.Keeping.{blocks_read}
 
@@ -90,7 +90,7 @@ process_keeps count s t h e = at_end (eqb (length s.3) 0) e
           shared = shared_more count s.0 p h.shared channels;
         })
 
-pub script_read : (ts rest : List Token) (names : List (List ℕ)) (d : Drawn) → channels_at ts ≡ Ok (names, rest) → processes_at names rest ≡ Ok d → IsScript (record { channels = d.2.channels; processes = d.0 })
+script_read : (ts rest : List Token) (names : List (List ℕ)) (d : Drawn) → channels_at ts ≡ Ok (names, rest) → processes_at names rest ≡ Ok d → IsScript (record { channels = d.2.channels; processes = d.0 })
 unfolding processes_at
 script_read ts rest names d c p =
     let few = channels_keep ts (names, rest) c in
@@ -100,3 +100,10 @@ script_read ts rest names d c p =
       processes = omega (arith, r.few, r.same);
       shared = subst (λ (n : ℕ). ShareChannels n d.0) (sym r.channels) r.shared;
     }
+
+pub script_keeps : (ts : List Token) (s : Script) → script_at ts ≡ Ok s → IsScript s
+unfolding script_at
+script_keeps ts s e =
+    let c = bound_ok (channels_at ts) _ s e in
+    let p = bound_ok (processes_at c.first.0 c.first.1) _ s c.then in
+    subst IsScript (ok_is _ _ p.then) (script_read ts c.first.1 c.first.0 p.first c.is p.is)

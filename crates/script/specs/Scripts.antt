@@ -1,13 +1,14 @@
 -- Reading from left to right: declarations, processes, and whole texts.
-use Rattle.std.specs.Prelude.{◌≡◌, ℕ, ◌≤◌, ◌-◌, List, [], ◌∷◌, ◌++◌, map, length, ◌||◌, Option, Some, None, Result, Ok, Err, is_some, nat_lt, nat_le, ◌==◌, slice_index, if◌then◌else◌}
+use Rattle.std.specs.Prelude.{◌≡◌, ℕ, ◌-◌, List, [], ◌∷◌, ◌++◌, map, length, ◌||◌, Option, Some, None, Result, Ok, Err, is_some, nat_lt, nat_le, ◌==◌, slice_index, if◌then◌else◌}
 use Rattle.token.specs.Tokens.{Token}
 use Rattle.token.specs.Lexemes.{placed_tokens, last_line}
 use Rattle.phrase.specs.Places.{place, texts}
 use Rattle.phrase.specs.Steps.{Told, ◌>>=◌, stop_at, if_some, repeated, name_at, next_is, accept_at, expect_at, Here, here, start}
 use Rattle.syntax.specs.Trees.{Block}
-use Rattle.syntax.specs.Processes.{Proc, proc_of, string_texts, ShareChannels}
+use Rattle.syntax.specs.Processes.{Proc, proc_of, string_texts}
 use Rattle.block.specs.Blocks.{block_at}
 use Rattle.block.specs.declared.process.Loops.TheVariants.{Allowed}
+pub use Rattle.script.specs.Sources.{Script, IsScript, tokens_of}
 use Rattle.script.specs.declared.script.Script.{Script as SeenScript}
 use Rattle.script.specs.declared.reading.Draft.{Draft}
 use Rattle.phrase.specs.declared.fault.Problem.{Problem}
@@ -15,17 +16,6 @@ use Rattle.phrase.specs.declared.fault.Problem.TheVariants.{Syntax, UnknownName,
 use Rattle.script.specs.declared.fault.ScriptFault.{ScriptFault}
 use Rattle.script.specs.declared.fault.ScriptFault.TheVariants as faults
 use Rattle.token.specs.declared.kind.Symbol.TheVariants.{Channel, Process, Semicolon}
-
--- the names of the channels by their numbers, and the processes
-pub record Script : Type 0 where
-  pub channels : List (List ℕ)
-  pub processes : List Proc
-
--- what each script has, besides what its processes have
-pub record IsScript (s : Script) : Type 0 where
-  pub channels : length s.channels ≤ 256
-  pub processes : length s.processes ≤ 64
-  pub shared : ShareChannels (length s.channels) s.processes
 
 abbrev pub proc_from : List ℕ → Block → Here → Proc
 proc_from name body h = record { name = name; body = body; variables = h.variables; channels = length h.channels }
@@ -102,10 +92,6 @@ fault_at LoopWithoutSync line = faults.LoopWithoutSync line
 abbrev pub with_line : List ℕ → Result Script Told → Result Script ScriptFault
 with_line bytes (Ok s) = Ok s
 with_line bytes (Err told) = Err (fault_at told.0 (line_left (placed_tokens bytes) (last_line bytes) told.1))
-
--- the tokens of a text
-abbrev pub tokens_of : List ℕ → List Token
-tokens_of bytes = map (λ p. p.0) (placed_tokens bytes)
 
 -- what a text says, or its fault
 unfoldable pub text_at : List ℕ → Result Script ScriptFault

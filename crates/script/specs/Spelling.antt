@@ -4,7 +4,7 @@ use Rattle.grammar.specs.Written as written
 use Rattle.grammar.specs.Written.{script_tokens}
 use Rattle.grammar.specs.Depths.{script_depth}
 use Rattle.grammar.specs.Meaning.{◌>>=◌, channels_meaning, processes_meaning}
-use Rattle.script.specs.Scripts.{Script, tokens_of}
+use Rattle.script.specs.Sources.{Script, tokens_of}
 use Rattle.script.specs.declared.fault.ScriptFault.{ScriptFault}
 use Rattle.script.specs.declared.fault.ScriptFault.TheVariants as faults
 
@@ -21,6 +21,13 @@ pub record Spells (bytes : List ℕ) (s : Script) : Type 0 where
   pub tokens : tokens_of bytes ≡ script_tokens written
   pub depth : script_depth written ≤ 48
   pub meaning : script_meaning written ≡ Some s
+
+-- some text spells the script
+abbrev pub IsSpelled : Script → Type 0
+IsSpelled s = ∥ ((bytes : List ℕ) × Spells bytes s) ∥₁
+
+pub IsSpelled-prop : (s : Script) → IsProp (IsSpelled s)
+IsSpelled-prop s = squash₁
 
 -- no bytes spell two scripts
 abbrev pub SpellsOnlyOne : Type 0

@@ -163,10 +163,10 @@ fn processes<'a>(
     Ok((draft, rest))
 }
 
-/// The whole of a script.
+/// The channels' names and the processes of a whole script.
 #[tactic(auto, unfolding(crate::specs::Scripts::script_at))]
-fn whole<'a>(alloc: Global, tokens: &'a [Placed<'a>]) -> Result<Script, Stop>
-    ensures { Gives (λ s. script_of s) result (script_at (bare tokens.now)) }
+fn whole<'a>(alloc: Global, tokens: &'a [Placed<'a>]) -> Result<(Vec<String>, Vec<Proc>), Stop>
+    ensures { Gives (λ x. record { channels = string_texts x.0.items; processes = map proc_of x.1.items }) result (script_at (bare tokens.now)) }
 {
     let (channels, rest) = channels(alloc, tokens)?;
     let (draft, _) = processes(alloc, channels, rest)?;
@@ -176,10 +176,7 @@ fn whole<'a>(alloc: Global, tokens: &'a [Placed<'a>]) -> Result<Script, Stop>
         names: _,
         scope: _,
     } = draft;
-    Ok(Script {
-        channels,
-        processes,
-    })
+    Ok((channels, processes))
 }
 
 /// The line at which so many tokens are left.
@@ -217,7 +214,10 @@ fn read_text(alloc: Global, bytes: &[u8]) -> Result<Script, ScriptFault>
         return Err(ScriptFault::Memory);
     };
     match whole(alloc, &tokens.placed) {
-        Ok(script) => Ok(script),
+        Ok((channels, processes)) => Ok(Script {
+            channels,
+            processes,
+        }),
         Err(Stop::Memory) => Err(ScriptFault::Memory),
         Err(Stop::At(problem, left)) => Err(fault_at(problem, line_at(&tokens, left))),
     }

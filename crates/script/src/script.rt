@@ -1,18 +1,20 @@
 //! Scripts.
 
 ghost use Rattle.std.specs.Prelude.{◌≤◌, length, map};
-ghost use Rattle.syntax.specs.Processes.{proc_of, ShareChannels, ShareChannels-prop};
+ghost use Rattle.script.specs.Spelling.{IsSpelled, IsSpelled-prop};
+ghost use Rattle.syntax.specs.Processes.{proc_of, string_texts, ShareChannels, ShareChannels-prop};
 
 use syntax::Proc;
 
 /// A script: its channels and its processes, in the order in which they are declared. It is made by
-/// `parse` alone.
+/// `parse` alone, and some text spells it.
 #[derive(Debug, Drop)]
 pub struct Script {
     pub(crate) channels: Vec<String>,
     pub(crate) processes: Vec<Proc>,
     ghost few_channels: { length channels.items ≤ 256 },
     ghost few_processes: { length processes.items ≤ 64 },
+    ghost spelled: { IsSpelled (record { channels = string_texts channels.items; processes = map proc_of processes.items }) } by { IsSpelled-prop (record { channels = string_texts channels.items; processes = map proc_of processes.items }) },
     ghost shared: { ShareChannels (length channels.items) (map proc_of processes.items) } by { ShareChannels-prop (length channels.items) (map proc_of processes.items) },
 }
 
@@ -26,6 +28,7 @@ impl Script {
         ensures value { map proc_of result.now ≡ (script_of self.now).processes }
         ensures count { length result.now ≡ length (script_of self.now).processes }
         ensures limits { IsScript (script_of self.now) }
+        ensures spelled { IsSpelled (script_of self.now) }
     {
         &self.processes
     }

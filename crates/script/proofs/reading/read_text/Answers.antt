@@ -1,17 +1,40 @@
-use Rattle.std.proofs.Common.{◌≡◌, ℕ, List, Ok, Err, sym, ap, ◌∙◌, arith}
+use Rattle.std.proofs.Common.{◌≡◌, ℕ, List, length, map, Ok, Err, sym, ap, ◌∙◌, subst, arith}
+use Rattle.std.proofs.lemmas.List.{length-map}
+use Rattle.syntax.specs.Processes.{proc_of, string_texts, ShareChannels}
+use Rattle.syntax.proofs.Texts.{length_texts}
 use Rattle.token.specs.Lexemes.{placed_tokens, last_line}
 use Rattle.phrase.specs.Steps.{bare}
-use Rattle.script.specs.Scripts.{script_at, script_of, line_left}
+use Rattle.script.specs.Scripts.{Script, script_at, line_left}
+use Rattle.script.proofs.KeepingScripts.{script_keeps}
+use Rattle.script.proofs.Spelled.{spells_found}
 use Rattle.token.specs.Tokens.{Token}
 use Rattle.token.specs.declared.lexeme.Placed.{Placed}
 use Rattle.script.proofs.Telling.{text_ok, text_err}
 use Rattle.script.proofs.reading.read_text.Goals as goal
 
+pub invariant_of-result : goal.invariant_of-result
+invariant_of-result c =
+    let ps = c.in-Ok.tokens.placed.items in
+    let channels = c.in-Ok-whole.channels.items in
+    let processes = c.in-Ok-whole.processes.items in
+    let s : Script = record { channels = string_texts channels; processes = map proc_of processes } in
+    let read : script_at (bare ps) ≡ Ok s = ap (λ (x : List Placed). script_at (bare x)) (sym c.deref.ensures.value) ∙ c.in-Ok-whole.ensures in
+    let keeps = script_keeps (bare ps) s read in
+    let text = text_ok c.args.bytes.now ps s (omega (arith, c.if-bytes-gt-TEXT_LEN.false)) c.in-Ok.ensures.tokens read in
+    let count : length (string_texts channels) ≡ length channels = length_texts channels in
+    record {
+      few_channels = omega (arith, count, keeps.channels);
+      few_processes = omega (arith, keeps.processes, length-map processes proc_of);
+      spelled = ∣ (c.args.bytes.now, spells_found c.args.bytes.now s text) ∣₁;
+      shared = subst (λ (n : ℕ). ShareChannels n (map proc_of processes)) count keeps.shared;
+    }
+
 pub returns-in-Ok-whole : goal.returns-in-Ok-whole
 returns-in-Ok-whole c =
     let ps = c.in-Ok.tokens.placed.items in
-    let read : script_at (bare ps) ≡ Ok (script_of c.in-Ok-whole.script) = ap (λ (x : List Placed). script_at (bare x)) (sym c.deref.ensures.value) ∙ c.in-Ok-whole.ensures in
-    text_ok c.args.bytes.now ps (script_of c.in-Ok-whole.script) (omega (arith, c.if-bytes-gt-TEXT_LEN.false)) c.in-Ok.ensures.tokens read
+    let s : Script = record { channels = string_texts c.in-Ok-whole.channels.items; processes = map proc_of c.in-Ok-whole.processes.items } in
+    let read : script_at (bare ps) ≡ Ok s = ap (λ (x : List Placed). script_at (bare x)) (sym c.deref.ensures.value) ∙ c.in-Ok-whole.ensures in
+    text_ok c.args.bytes.now ps s (omega (arith, c.if-bytes-gt-TEXT_LEN.false)) c.in-Ok.ensures.tokens read
 
 pub returns : goal.returns
 returns c =
