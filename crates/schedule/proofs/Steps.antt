@@ -10,8 +10,9 @@ use Rattle.words.specs.declared.Step.TheVariants.{Draft, Open, Look, Read, Claim
 use Rattle.schedule.specs.declared.Size.{Size}
 use Rattle.schedule.specs.Schedule.{row_text, step_text, step_line, world_line, IsStep, IsSeatStep, IsSize}
 use Rattle.schedule.specs.Reading.{◌>>=◌, number_at, count_at, draft_at, read_at, join_at, grant_at, bind_at, alone_at, begins, after_word, row_step_at, step_at, step_line_at, world_line_at}
-use Rattle.schedule.proofs.Numbers.{bind_some, chosen_some}
-use Rattle.schedule.proofs.Forms.{Reads, both, made, ended, numbers, counts, rows, placed, word_takes}
+use Rattle.digits.proofs.Numbers.{bind_some, chosen_some}
+use Rattle.digits.proofs.Forms.{Reads, both, made, ended, numbers, counts, word_takes}
+use Rattle.schedule.proofs.Forms.{rows, placed}
 
 -- ---- what each kind is done to
 

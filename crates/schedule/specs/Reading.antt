@@ -1,51 +1,11 @@
 -- Reading from left to right: what stands at the front of the bytes, and the bytes after it.
-use Rattle.std.specs.Prelude.{◌≡◌, ℕ, ◌+◌, ◌-◌, ◌*◌, List, [], ◌∷◌, take, drop, length, codes, Bool, Option, Some, None, option_and_then, nat_lt, nat_le, nat_eq, ◌==◌, ◌&&◌, if◌then◌else◌}
-use Rattle.std.specs.Cmp.Lexicographic.{pointwise}
+use Rattle.std.specs.Prelude.{ℕ, List, drop, codes, Option, Some, None, if◌then◌else◌}
+pub use Rattle.digits.specs.Reading.{◌>>=◌, Gives, digit_of, with_digit, digits_at, number_at, count_at, begins, after_word}
 use Rattle.words.specs.declared.Row.{Row}
 use Rattle.words.specs.declared.Seat.{Seat}
 use Rattle.words.specs.declared.Step.{Step}
 use Rattle.words.specs.declared.Step.TheVariants.{Draft, Open, Look, Read, Claim, Yield, Join, Seal, Grant, Take, Bind}
 use Rattle.schedule.specs.declared.Size.{Size}
-
-infixl 10 ◌>>=◌
-abbrev pub ◌>>=◌ : {A B : Type 0} → Option A → (A → Option B) → Option B
-o >>= f = option_and_then f o
-
--- What a function returned, seen by view, is what reading gives.
-abbrev pub Gives : {X Y : Type 0} → (X → Y) → Option X → Option Y → Type 0
-Gives view None read = read ≡ None
-Gives view (Some x) read = read ≡ Some (view x)
-
--- NUMBERS
-
--- what a byte says as a digit
-abbrev pub digit_of : ℕ → Option ℕ
-digit_of b = if nat_le 48 b && nat_le b 57 then Some (b - 48) else None
-
--- The number n with one more digit behind it. Behind a 0 there is none.
-abbrev pub with_digit : ℕ → ℕ → ℕ → Option ℕ
-with_digit limit n b = do
-  d ← digit_of b
-  if nat_lt 0 n && nat_le (n * 10 + d) limit then Some (n * 10 + d) else None
-
--- the digits that go on from the number n, up to the byte that ends it
-unfoldable pub digits_at : ℕ → ℕ → ℕ → List ℕ → Option (ℕ × List ℕ)
-digits_at limit end n [] = None
-digits_at limit end n (b ∷ bytes) =
-    if b == end then Some (n, bytes) else (with_digit limit n b >>= λ m. digits_at limit end m bytes)
-
--- a number of at most the limit, and the byte that ends it
-unfoldable pub number_at : ℕ → ℕ → List ℕ → Option (ℕ × List ℕ)
-number_at limit end [] = None
-number_at limit end (b ∷ bytes) = do
-  d ← digit_of b
-  if nat_le d limit then digits_at limit end d bytes else None
-
--- a count from 1 on
-unfoldable pub count_at : ℕ → ℕ → List ℕ → Option (ℕ × List ℕ)
-count_at limit end bytes = do
-  n ← number_at limit end bytes
-  if n.0 == 0 then None else Some n
 
 -- STEPS
 
@@ -95,14 +55,6 @@ abbrev pub alone_at : (Row → Step) → List ℕ → Option (Step × List ℕ)
 alone_at step bytes = do
   row ← row_at 10 bytes
   Some (step row.0, row.1)
-
--- the word stands at the front
-abbrev pub begins : List ℕ → List ℕ → Bool
-begins bytes word = pointwise nat_eq (take (length word) bytes) word
-
--- what stands behind the word, where it begins the bytes
-abbrev pub after_word : List ℕ → List ℕ → Option (List ℕ)
-after_word word bytes = if begins bytes word then Some (drop (length word) bytes) else None
 
 -- the word of a step that is done to a row alone, and the row
 unfoldable pub row_step_at : List ℕ → Option (Step × List ℕ)

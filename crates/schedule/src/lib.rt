@@ -7,7 +7,6 @@ ghost use Rattle.schedule.specs.Schedule.{Spells, SpellsOnlyOne, SpellsOrIsBad, 
 ghost use Rattle.schedule.specs.ReadFaults.{plan_of, Explains};
 
 mod line;
-mod number;
 
 use crate::line::{step_line, world_line};
 use std::alloc::{AllocFailed, Global};

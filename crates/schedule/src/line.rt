@@ -1,10 +1,9 @@
 //! The lines of a schedule's text, each read from the front of the bytes.
 
-ghost use Rattle.std.specs.Prelude.{◌≤◌, IfSome};
-ghost use Rattle.schedule.specs.Reading.{Gives, number_at, count_at, row_at, placed_at, draft_at, read_at, join_at, grant_at, bind_at, row_step_at, step_at, step_line_at, world_line_at};
+ghost use Rattle.schedule.specs.Reading.{Gives, number_at, row_at, placed_at, draft_at, read_at, join_at, grant_at, bind_at, row_step_at, step_at, step_line_at, world_line_at};
 
 use crate::Size;
-use crate::number::number;
+use digits::{count, number};
 use words::{Row, Seat, Step};
 
 const LINE_END: u8 = b'\n';
@@ -14,18 +13,6 @@ fn byte_number(bytes: &[u8], limit: u8, end: u8) -> Option<(u8, &[u8])>
 {
     let (value, rest) = number(bytes, u64::from(limit), end)?;
     Some((value as u8, rest))
-}
-
-#[tactic(auto, unfolding(crate::specs::Reading::count_at))]
-fn count(bytes: &[u8], limit: u16, end: u8) -> Option<(u16, &[u8])>
-    ensures value { Gives (λ x. (x.0, x.1.now)) result (count_at limit end bytes.now) }
-    ensures within { IfSome result (λ x. x.0 ≤ limit) }
-{
-    let (value, rest) = number(bytes, u64::from(limit), end)?;
-    if value == 0 {
-        return None;
-    }
-    Some((value as u16, rest))
 }
 
 #[tactic(auto, unfolding(crate::specs::Reading::row_at))]
@@ -175,7 +162,7 @@ pub fn world_line(bytes: &[u8]) -> Option<(Size, &[u8])>
     let (seats, rest) = count(rest, 16, LINE_END)?;
     let size = Size {
         threads: threads as u8,
-        rows,
+        rows: rows as u16,
         seats: seats as u8,
     };
     Some((size, rest))

@@ -4,7 +4,7 @@ use Rattle.std.specs.Fmt.{decimal}
 use Rattle.std.proofs.lemmas.Bool.{and_parts, leb-true, ltb-true, eqb-true, le-leb}
 use Rattle.std.proofs.lemmas.Option.{some_pair_parts}
 use Rattle.std.proofs.lemmas.Fmt.{decimal_step, decimal_digit, decimal_by_steps}
-use Rattle.schedule.specs.Reading.{◌>>=◌, digit_of, with_digit, digits_at, number_at}
+use Rattle.digits.specs.Reading.{◌>>=◌, digit_of, with_digit, digits_at, number_at}
 
 -- ---- cases
 

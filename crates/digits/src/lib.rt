@@ -1,7 +1,9 @@
-//! Numbers in a schedule's text: decimal digits without leading zeros, and a byte that ends them.
+//! Numbers in lines of text: decimal digits without leading zeros, and a byte that ends them. Each is
+//! read from the front of the bytes.
+#![tactic(auto)]
 
 ghost use Rattle.std.specs.Prelude.{◌≡◌, ◌≤◌, ◌<◌, ◌⊎◌, IfSome, OnSome};
-ghost use Rattle.schedule.specs.Reading.{Gives, digit_of, with_digit, number_at};
+ghost use Rattle.digits.specs.Reading.{Gives, digit_of, with_digit, number_at, count_at};
 
 /// What a byte says as a decimal digit.
 fn digit(byte: u8) -> Option<u64>
@@ -45,4 +47,16 @@ pub fn number(bytes: &[u8], limit: u64, end: u8) -> Option<(u64, &[u8])>
         value = with_more(limit, value, *byte)?;
     }
     None
+}
+
+/// A number from 1 on.
+#[tactic(auto, unfolding(crate::specs::Reading::count_at))]
+pub fn count(bytes: &[u8], limit: u64, end: u8) -> Option<(u64, &[u8])>
+    ensures value { Gives (λ x. (x.0, x.1.now)) result (count_at limit end bytes.now) }
+    ensures within { IfSome result (λ x. x.0 ≤ limit) }
+{
+    match number(bytes, limit, end)? {
+        (0, _) => None,
+        found => Some(found),
+    }
 }

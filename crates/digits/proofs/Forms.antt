@@ -1,0 +1,107 @@
+-- Readers of the front of the bytes, each with the text that it reads, and how two are joined.
+use Rattle.std.proofs.Common.{◌≡◌, ℕ, ◌^◌, ◌<◌, ◌≤◌, true, false, cond, eqb, List, [], ◌∷◌, ◌++◌, length, take, drop, Option, Some, None, refl, sym, ap, ◌∙◌, append_assoc, arith, tests, inl, inr}
+use Rattle.std.specs.Fmt.{decimal}
+use Rattle.std.specs.Cmp.Lexicographic.{same_text}
+use Rattle.std.proofs.lemmas.Bool.{eqb-false}
+use Rattle.std.proofs.lemmas.Option.{some_pair_parts}
+use Rattle.std.proofs.lemmas.List.{take-append-drop}
+use Rattle.digits.specs.Reading.{◌>>=◌, digit_of, number_at, count_at, begins}
+use Rattle.digits.proofs.Numbers.{bind_some, chosen, number_takes, number_again}
+
+-- what a reader took from the front: the value that was made of x, whose text stood there
+pub record Takes {X Y : Type 0} (make : X → Y) (text : X → List ℕ) (Fits : X → Type 0) (bytes : List ℕ) (y : Y) (rest : List ℕ) : Type 0 where
+  pub from : X
+  pub value : y ≡ make from
+  pub parts : bytes ≡ text from ++ rest
+  pub fits : Fits from
+
+-- what is read is what the text says, and what a text says is read, whatever follows it
+pub record Reads {X Y : Type 0} (make : X → Y) (read : List ℕ → Option (Y × List ℕ)) (text : X → List ℕ) (Fits : X → Type 0) : Type 0 where
+  pub takes : (bytes : List ℕ) (y : Y) (rest : List ℕ) → read bytes ≡ Some (y, rest) → Takes make text Fits bytes y rest
+  pub again : (x : X) (rest : List ℕ) → Fits x → read (text x ++ rest) ≡ Some (make x, rest)
+
+abbrev pub joined : {A B Y : Type 0} → (A → B → Y) → (List ℕ → Option (A × List ℕ)) → (List ℕ → Option (B × List ℕ)) → List ℕ → Option (Y × List ℕ)
+joined make first second bytes = first bytes >>= λ a. second a.1 >>= λ b. Some (make a.0 b.0, b.1)
+
+pub both : {X Z A B Y : Type 0} (make : A → B → Y) {m : X → A} {n : Z → B} {first : List ℕ → Option (A × List ℕ)} {second : List ℕ → Option (B × List ℕ)} {t : X → List ℕ} {u : Z → List ℕ} {F : X → Type 0} {G : Z → Type 0}
+    → Reads m first t F → Reads n second u G → Reads {X = X × Z} (λ p. make (m p.0) (n p.1)) (joined make first second) (λ p. t p.0 ++ u p.1) (λ p. F p.0 × G p.1)
+both make {m} {n} {first} {second} {t} {u} h k = record {
+  takes = λ bytes y rest e.
+      let a = bind_some (first bytes) (λ a. second a.1 >>= λ b. Some (make a.0 b.0, b.1)) (y, rest) e in
+      let b = bind_some (second a.0.1) (λ b. Some (make a.0.0 b.0, b.1)) (y, rest) a.2 in
+      let p = h.takes bytes a.0.0 a.0.1 a.1 in
+      let q = k.takes a.0.1 b.0.0 b.0.1 b.1 in
+      let same = some_pair_parts (make a.0.0 b.0.0) y b.0.1 rest b.2 in
+      record {
+        from = (p.from, q.from);
+        value = sym same.0 ∙ ap (λ c. make c b.0.0) p.value ∙ ap (λ c. make (m p.from) c) q.value;
+        parts = p.parts ∙ ap (λ (s : List ℕ). t p.from ++ s) (q.parts ∙ ap (λ (s : List ℕ). u q.from ++ s) same.1) ∙ sym (append_assoc (t p.from) (u q.from) rest);
+        fits = (p.fits, q.fits);
+      };
+  again = λ x rest fits.
+      ap (joined make first second) (append_assoc (t x.0) (u x.1) rest) ∙ rw (h.again x.0 (u x.1 ++ rest) fits.0, k.again x.1 rest fits.1) refl;
+}
+
+-- the same value, made further
+abbrev pub then_made : {A Y : Type 0} → (A → Y) → (List ℕ → Option (A × List ℕ)) → List ℕ → Option (Y × List ℕ)
+then_made make read bytes = read bytes >>= λ a. Some (make a.0, a.1)
+
+pub made : {X A Y : Type 0} (make : A → Y) {m : X → A} {read : List ℕ → Option (A × List ℕ)} {t : X → List ℕ} {F : X → Type 0}
+    → Reads m read t F → Reads {X = X} (λ x. make (m x)) (then_made make read) t F
+made make {m} {read} {t} h = record {
+  takes = λ bytes y rest e.
+      let a = bind_some (read bytes) (λ a. Some (make a.0, a.1)) (y, rest) e in
+      let p = h.takes bytes a.0.0 a.0.1 a.1 in
+      let same = some_pair_parts (make a.0.0) y a.0.1 rest a.2 in
+      record {
+        from = p.from;
+        value = sym same.0 ∙ ap (λ c. make c) p.value;
+        parts = p.parts ∙ ap (λ (s : List ℕ). t p.from ++ s) same.1;
+        fits = p.fits;
+      };
+  again = λ x rest fits. rw (h.again x rest fits) refl;
+}
+
+-- ---- numbers
+
+abbrev pub ended : ℕ → ℕ → List ℕ
+ended end n = decimal n ++ end ∷ []
+
+pub numbers : (limit end : ℕ) → limit < 2 ^ 64 → digit_of end ≡ None → Reads {X = ℕ} (λ n. n) (number_at limit end) (ended end) (λ n. n ≤ limit)
+numbers limit end small no_digit = record {
+  takes = λ bytes n rest e.
+      let t = number_takes limit end bytes n rest small e in
+      record { from = n; value = refl; parts = t.parts ∙ sym (append_assoc (decimal n) (end ∷ []) rest); fits = t.within };
+  again = λ n rest le. ap (number_at limit end) (append_assoc (decimal n) (end ∷ []) rest) ∙ number_again limit end n rest small no_digit le;
+}
+
+not_zero : (x y : ℕ × List ℕ) → cond (eqb x.0 0) None (Some x) ≡ Some y → (1 ≤ x.0) × (Some x ≡ Some y)
+not_zero x y e =
+    elim (chosen (eqb x.0 0) None (Some x) (Some y) e) [
+      | inl h ↦ absurd cc
+      | inr h ↦ let other : x.0 ≡ 0 → ⊥ = eqb-false x.0 0 h.0 in (omega arith, h.1)
+    ]
+
+positive_test : (n : ℕ) → 1 ≤ n → eqb n 0 ≡ false
+positive_test n h = search (arith, tests)
+
+pub counts : (limit end : ℕ) → limit < 2 ^ 64 → digit_of end ≡ None → Reads {X = ℕ} (λ n. n) (count_at limit end) (ended end) (λ n. (1 ≤ n) × (n ≤ limit))
+unfolding count_at
+counts limit end small no_digit = record {
+  takes = λ bytes n rest e.
+      let a = bind_some (number_at limit end bytes) (λ n. cond (eqb n.0 0) None (Some n)) (n, rest) e in
+      let g = not_zero a.0 (n, rest) a.2 in
+      let same = some_pair_parts a.0.0 n a.0.1 rest g.1 in
+      let p = (numbers limit end small no_digit).takes bytes n rest (a.1 ∙ g.1) in
+      record { from = p.from; value = p.value; parts = p.parts; fits = (omega (arith, g.0, same.0, p.value), p.fits) };
+  again = λ n rest fits.
+      let positive : eqb n 0 ≡ false = positive_test n fits.0 in
+      rw ((numbers limit end small no_digit).again n rest fits.1, positive) refl;
+}
+
+-- ---- words
+
+pub word_takes : (word bytes : List ℕ) → begins bytes word ≡ true → bytes ≡ word ++ drop (length word) bytes
+word_takes word bytes e =
+    let front : take (length word) bytes ≡ word = same_text _ _ (sym e) in
+    sym (take-append-drop (length word) bytes) ∙ ap (λ (t : List ℕ). t ++ drop (length word) bytes) front
