@@ -1,12 +1,14 @@
 -- Readers of the front of the bytes, each with the text that it reads, and how two are joined.
-use Rattle.std.proofs.Common.{◌≡◌, ℕ, ◌^◌, ◌<◌, ◌≤◌, true, false, cond, eqb, List, [], ◌∷◌, ◌++◌, length, take, drop, Option, Some, None, refl, sym, ap, ◌∙◌, append_assoc, arith, tests, inl, inr}
+use Rattle.std.proofs.Common.{◌≡◌, ◌⊎◌, ℕ, ◌^◌, ◌<◌, ◌≤◌, true, false, cond, eqb, List, [], ◌∷◌, ◌++◌, length, take, drop, Option, Some, None, refl, sym, ap, ◌∙◌, append_assoc, arith, tests, inl, inr}
 use Rattle.std.specs.Fmt.{decimal}
-use Rattle.std.specs.Cmp.Lexicographic.{same_text}
+use Rattle.std.specs.Prelude.{nat_eq}
+use Rattle.std.specs.Cmp.Lexicographic.{same_text, pointwise}
+use Rattle.std.proofs.Math.Seq.{take-append_seam, drop-append_seam}
 use Rattle.std.proofs.lemmas.Bool.{eqb-false}
 use Rattle.std.proofs.lemmas.Option.{some_pair_parts}
 use Rattle.std.proofs.lemmas.List.{take-append-drop}
-use Rattle.digits.specs.Reading.{◌>>=◌, digit_of, number_at, count_at, begins}
-use Rattle.digits.proofs.Numbers.{bind_some, chosen, number_takes, number_again}
+use Rattle.digits.specs.Reading.{◌>>=◌, digit_of, number_at, count_at, begins, after_word, or_else}
+use Rattle.digits.proofs.Numbers.{bind_some, chosen, chosen_some, number_takes, number_again}
 
 -- what a reader took from the front: the value that was made of x, whose text stood there
 pub record Takes {X Y : Type 0} (make : X → Y) (text : X → List ℕ) (Fits : X → Type 0) (bytes : List ℕ) (y : Y) (rest : List ℕ) : Type 0 where
@@ -105,3 +107,85 @@ pub word_takes : (word bytes : List ℕ) → begins bytes word ≡ true → byte
 word_takes word bytes e =
     let front : take (length word) bytes ≡ word = same_text _ _ (sym e) in
     sym (take-append-drop (length word) bytes) ∙ ap (λ (t : List ℕ). t ++ drop (length word) bytes) front
+
+itself : (word : List ℕ) → pointwise nat_eq word word ≡ true
+itself [] = refl
+itself (b ∷ word) = (let same : eqb b b ≡ true = search arith in rw (same, itself word) refl)
+
+begins_again : (word bytes : List ℕ) → begins (word ++ bytes) word ≡ true
+begins_again word bytes = ap (λ (front : List ℕ). pointwise nat_eq front word) (take-append_seam word bytes) ∙ itself word
+
+pub after_again : (word bytes : List ℕ) → after_word word (word ++ bytes) ≡ Some bytes
+after_again word bytes = rw (begins_again word bytes) (ap (λ (rest : List ℕ). Some rest) (drop-append_seam word bytes))
+
+-- a word, and what stands behind it
+pub worded : {X A Y : Type 0} (word : List ℕ) (make : A → Y) {m : X → A} {read : List ℕ → Option (A × List ℕ)} {t : X → List ℕ} {F : X → Type 0}
+    → Reads m read t F → Reads {X = X} (λ x. make (m x)) (λ bytes. after_word word bytes >>= λ rest. read rest >>= λ a. Some (make a.0, a.1)) (λ x. word ++ t x) F
+worded word make {m} {read} {t} h = record {
+  takes = λ bytes y rest e.
+      let a = bind_some (after_word word bytes) (λ rest. read rest >>= λ a. Some (make a.0, a.1)) (y, rest) e in
+      let w = chosen_some (begins bytes word) (drop (length word) bytes) a.0 a.1 in
+      let p = (made make h).takes a.0 y rest a.2 in
+      record {
+        from = p.from;
+        value = p.value;
+        parts = word_takes word bytes w.0 ∙ ap (λ (s : List ℕ). word ++ s) (w.1 ∙ p.parts) ∙ sym (append_assoc word (t p.from) rest);
+        fits = p.fits;
+      };
+  again = λ x rest fits.
+      ap (λ (s : List ℕ). after_word word s >>= λ rest. read rest >>= λ a. Some (make a.0, a.1)) (append_assoc word (t x) rest)
+      ∙ rw (after_again word (t x ++ rest), h.again x rest fits) refl;
+}
+
+-- ONE OF TWO
+
+abbrev pub either : {A B C : Type 0} → (A → C) → (B → C) → A ⊎ B → C
+either f g (inl a) = f a
+either f g (inr b) = g b
+
+abbrev pub Either : {A B : Type 0} → (A → Type 0) → (B → Type 0) → A ⊎ B → Type 0
+Either F G (inl a) = F a
+Either F G (inr b) = G b
+
+first_or_second : {A : Type 0} (o p : Option A) (y : A) → or_else o p ≡ Some y → (o ≡ Some y) ⊎ (p ≡ Some y)
+first_or_second None p y e = inr e
+first_or_second (Some x) p y e = inl e
+
+-- the first reader that succeeds, where the first does not read what the second reads
+module _ {X Z Y : Type 0} {m : X → Y} {n : Z → Y} {first second : List ℕ → Option (Y × List ℕ)} {t : X → List ℕ} {u : Z → List ℕ} {F : X → Type 0} {G : Z → Type 0}
+    (h : Reads m first t F) (k : Reads n second u G) (apart : (z : Z) (rest : List ℕ) → G z → first (u z ++ rest) ≡ None) where
+  choice_again : (x : X ⊎ Z) (rest : List ℕ) → Either F G x → or_else (first (either t u x ++ rest)) (second (either t u x ++ rest)) ≡ Some (either m n x, rest)
+  choice_again (inl x) rest fits = rw (h.again x rest fits) refl
+  choice_again (inr z) rest fits = rw (apart z rest fits, k.again z rest fits) refl
+
+  pub choice : Reads {X = X ⊎ Z} (either m n) (λ bytes. or_else (first bytes) (second bytes)) (either t u) (Either F G)
+  choice = record {
+    takes = λ bytes y rest e.
+        elim (first_or_second (first bytes) (second bytes) (y, rest) e) [
+          | inl a ↦ (let p = h.takes bytes y rest a in record { from = inl p.from; value = p.value; parts = p.parts; fits = p.fits })
+          | inr b ↦ (let p = k.takes bytes y rest b in record { from = inr p.from; value = p.value; parts = p.parts; fits = p.fits })
+        ];
+    again = choice_again;
+  }
+
+-- ANOTHER FORM OF THE TEXT
+
+-- each value that is read was written so, and each value that fits is read from its text
+pub settled : {X Y : Type 0} (text : Y → List ℕ) (Fits : Y → Type 0) {m : X → Y} {read : List ℕ → Option (Y × List ℕ)} {t : X → List ℕ} {F : X → Type 0}
+    → Reads m read t F → ((x : X) → F x → (t x ≡ text (m x)) × Fits (m x)) → ((y : Y) → Fits y → (x : X) × (m x ≡ y) × F x)
+    → Reads {X = Y} (λ y. y) read text Fits
+settled {Y = Y} text Fits {m} {read} {t} h there back = record {
+  takes = λ bytes y rest e.
+      let p = h.takes bytes y rest e in
+      let q = there p.from p.fits in
+      record {
+        from = m p.from;
+        value = p.value;
+        parts = p.parts ∙ ap (λ (s : List ℕ). s ++ rest) q.0;
+        fits = q.1;
+      };
+  again = λ y rest fits.
+      let x = back y fits in
+      let q = there x.0 x.2 in
+      ap (λ (s : List ℕ). read (s ++ rest)) (ap text (sym x.1) ∙ sym q.0) ∙ h.again x.0 rest x.2 ∙ ap (λ (z : Y). Some (z, rest)) x.1;
+}

@@ -1,0 +1,6 @@
+pub mod Names
+pub mod Naming
+pub mod Texts
+pub mod Journals
+pub mod Reading
+pub mod Answers

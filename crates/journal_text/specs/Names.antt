@@ -1,0 +1,29 @@
+-- How the threads and the channels of a text are named.
+use Rattle.std.specs.Prelude.{ℕ, List, [], map, get_or, Option, Some, None}
+use Rattle.std.specs.Fmt.{decimal}
+use Rattle.script.specs.Sources.{Script}
+
+-- the names by their numbers
+pub record Naming : Type 0 where
+  pub thread : ℕ → List ℕ
+  pub channel : ℕ → List ℕ
+
+-- the numbers themselves
+abbrev pub numbers : Naming
+numbers = record { thread = decimal; channel = decimal }
+
+-- the names that a script declares
+pub record Declared : Type 0 where
+  pub threads : List (List ℕ)
+  pub channels : List (List ℕ)
+
+abbrev pub names_of : Script → Declared
+names_of s = record { threads = map (λ p. p.name) s.processes; channels = s.channels }
+
+abbrev pub naming : Declared → Naming
+naming d = record { thread = λ t. get_or d.threads t []; channel = λ c. get_or d.channels c [] }
+
+-- a script's names, or numbers where there is none
+abbrev pub naming_by : Option Script → Naming
+naming_by None = numbers
+naming_by (Some s) = naming (names_of s)
