@@ -9,3 +9,5 @@ mod Places
 mod Shapes
 mod Events
 mod Stmts
+mod Turns
+mod Agreeing

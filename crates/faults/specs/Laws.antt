@@ -4,15 +4,18 @@ use Rattle.token.specs.Tokens.{Token, Name}
 use Rattle.token.specs.declared.kind.Symbol.TheVariants.{Comma}
 use Rattle.phrase.specs.Steps.{Told, Here, next_is, bind_names_at}
 use Rattle.phrase.specs.Exprs.{sign_at, expr_at, test_at, list_at}
+use Rattle.phrase.specs.declared.fault.Problem.{Problem}
 use Rattle.phrase.specs.declared.fault.Problem.TheVariants.{Syntax}
 use Rattle.grammar.specs.Written.{expr_tokens, test_tokens, list_tokens, more_names_tokens}
 use Rattle.faults.specs.Notes.{Note, first_fault, SameFront, expr_notes, test_notes, list_notes, names_notes}
 
--- the first of these notes is the problem, told at a token from which so many are left
-pub record IsFirst (notes : List Note) (rest : ℕ) (told : Told) : Type 0 where
-  pub left : ℕ
-  pub is : first_fault notes ≡ Some (told.0, left)
-  pub count : left + rest ≡ told.1
+-- the first fault of these notes is this one, behind so many notes of none
+pub record IsFirst (notes : List Note) (place : ℕ) (fault : Problem × ℕ) : Type 0 where
+  pub before : List Note
+  pub behind : List Note
+  pub parts : notes ≡ before ++ Some fault ∷ behind
+  pub count : length before ≡ place
+  pub none : first_fault before ≡ None
 
 -- Of what can be written, with its tokens and its notes, and with what may follow it: the fault that stands
 -- at the token behind those before.
@@ -20,7 +23,7 @@ pub record Demanded {W : Type 0} (spell : W → List Token → List Token) (note
   pub before : List Token
   pub behind : List Token
   pub tokens : ts ≡ before ++ behind
-  -- the line is told of a token at the place, or of one before
+  -- the line that is told is that of the token so many tokens before
   pub back : ℕ
   pub line : told.1 ≡ back + length behind
   -- something that is written begins with the tokens before, and no fault stands at one of them
@@ -29,9 +32,9 @@ pub record Demanded {W : Type 0} (spell : W → List Token → List Token) (note
   pub begins : (rest : List Token) → spell written rest ≡ before ++ more rest
   pub within : length before ≤ length (notes written)
   pub clean : first_fault (take (length before) (notes written)) ≡ None
-  -- whatever is written and goes on with the token at the place has this first fault
-  pub first : (w : W) (rest others : List Token) → Ends rest → spell w rest ≡ before ++ others → SameFront behind others → IsFirst (notes w) (length rest) (told.0, back + length others)
-  -- and something does go on with it, unless it is syntax, which is told at the place itself
+  -- whatever is written and goes on with the token at the place has its first fault there, this one
+  pub first : (w : W) (rest others : List Token) → Ends rest → spell w rest ≡ before ++ others → SameFront behind others → IsFirst (notes w) (length before) (told.0, back)
+  -- and something does go on with it, unless it is syntax, whose line is that of the place itself
   pub goes_on : (told.0 ≡ Syntax) × (back ≡ 0) ⊎ ((rest : List Token) → SameFront behind (more rest))
 
 abbrev pub IsRead : {X : Type 0} → Result X Told → Type 0
