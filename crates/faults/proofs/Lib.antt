@@ -10,4 +10,5 @@ mod Shapes
 mod Events
 mod Stmts
 mod Turns
+mod Knots
 mod Agreeing

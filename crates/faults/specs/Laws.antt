@@ -6,7 +6,10 @@ use Rattle.phrase.specs.Steps.{Told, Here, next_is, bind_names_at}
 use Rattle.phrase.specs.Exprs.{sign_at, expr_at, test_at, list_at}
 use Rattle.phrase.specs.declared.fault.Problem.{Problem}
 use Rattle.phrase.specs.declared.fault.Problem.TheVariants.{Syntax}
-use Rattle.grammar.specs.Written.{expr_tokens, test_tokens, list_tokens, more_names_tokens}
+use Rattle.grammar.specs.Written.{expr_tokens, test_tokens, list_tokens, more_names_tokens, event_tokens, stmt_tokens, block_tokens}
+use Rattle.block.specs.declared.process.Loops.{Loops}
+use Rattle.block.specs.Blocks.{are_allowed, event_at, stmt_at, block_at}
+use Rattle.faults.specs.BlockNotes.{event_notes, stmt_notes, block_notes}
 use Rattle.faults.specs.Notes.{Note, first_fault, SameFront, expr_notes, test_notes, list_notes, names_notes}
 
 -- the first fault of these notes is this one, behind so many notes of none
@@ -78,3 +81,14 @@ names_tokens names rest = Name names.0 ∷ more_names_tokens names.1 rest
 
 abbrev pub NamesAreAnswered : Type 0
 NamesAreAnswered = (room : ℕ) (h : Here) → Answered names_tokens (λ names. names_notes room h names.0 names.1) NoComma (λ ts. bind_names_at room h ts)
+
+-- EVENTS, STATEMENTS AND BLOCKS
+
+abbrev pub EventsAreAnswered : Type 0
+EventsAreAnswered = (room : ℕ) (h : Here) → Answered event_tokens (event_notes room h) Any (λ ts. event_at room h ts)
+
+abbrev pub StmtsAreAnswered : Type 0
+StmtsAreAnswered = (room : ℕ) (place : Loops) (h : Here) → Answered stmt_tokens (stmt_notes (are_allowed place) room h) Any (λ ts. stmt_at room place h ts)
+
+abbrev pub BlocksAreAnswered : Type 0
+BlocksAreAnswered = (room : ℕ) (place : Loops) (h : Here) → Answered block_tokens (block_notes (are_allowed place) room h) Any (λ ts. block_at room place h ts)
