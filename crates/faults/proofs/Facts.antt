@@ -323,6 +323,38 @@ instead L f g e F = turned L L f g (record {
   errs = λ ts t h. sym (e ts) ∙ h;
 }) F
 
+-- the same ends, otherwise said
+abbrev pub ending : {X Y : Type 0} {E E' : List Token → Type 0} → Lang X Y E → Lang X Y E'
+ending L = record { W = L.W; default = L.default; spell = L.spell; notes = L.notes; join = L.join; shape = L.shape }
+
+pub ended : {X Y : Type 0} {E E' P : List Token → Type 0} (L : Lang X Y E) (f : List Token → Result Y Told) → ((rest : List Token) → E' rest → E rest) → ((rest : List Token) → E rest → E' rest) → Facts P L f → Facts P (ending {E' = E'} L) f
+ended L f to from F = record {
+  reads = λ w. ⊎_elim
+      (λ one. inl (record { clean = one.clean; value = one.value; reads = λ rest e. one.reads rest (to rest e) }))
+      (λ one. inr (record { told = one.told; is = one.is; fails = λ rest e. one.fails rest (to rest e) }))
+      (F.reads w);
+  takes = λ ts p. ⊎_elim
+      (λ one. inl (record { w = one.w; rest = one.rest; is = one.is; clean = one.clean; ends = from one.rest one.ends }))
+      (λ s. inr (record {
+        problem = s.problem;
+        back = s.back;
+        before = s.before;
+        behind = s.behind;
+        is = s.is;
+        same = s.same;
+        w = s.w;
+        more = s.more;
+        begins = s.begins;
+        first = s.first;
+        last = s.last;
+        parts = s.parts;
+        count = s.count;
+        clean = s.clean;
+        reach = s.reach;
+      }))
+      (F.takes ts p);
+}
+
 -- another result
 abbrev pub giving : {X X' Y Z : Type 0} {E : List Token → Type 0} → (L : Lang X Y E) → (L.W → X' → List Token → Z) → Lang X' Z E
 giving L join = record { W = L.W; default = L.default; spell = L.spell; notes = L.notes; join = join; shape = L.shape }

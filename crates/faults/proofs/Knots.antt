@@ -1,10 +1,10 @@
 -- Blocks, and events, statements, blocks and turns together: each is read by the readers of what lies
 -- inside, with less room.
-use Rattle.std.proofs.Common.{◌≡◌, ◌⊎◌, ℕ, zero, suc, ◌+◌, ◌-◌, ◌<◌, Bool, true, false, ◌||◌, List, [], length, Option, Some, None, Result, Ok, Err, is_some, refl, sym, ap, arith}
-use Rattle.token.specs.Tokens.{Token, Fixed}
+use Rattle.std.proofs.Common.{◌≡◌, ℕ, zero, suc, ◌+◌, ◌-◌, ◌<◌, Bool, true, false, ◌||◌, List, [], length, Some, None, Ok, Err, is_some, refl, sym, ap, arith}
+use Rattle.token.specs.Tokens.{Token}
 use Rattle.token.specs.declared.kind.Symbol.TheVariants.{Let, Print, Sync, If, Loop, Forever, End, OpenBrace, CloseBrace, Arrow}
 use Rattle.syntax.specs.Trees as trees
-use Rattle.phrase.specs.Steps.{Told, ◌>>=◌, name_at, next_is, expect_at, Here, bind_names_at}
+use Rattle.phrase.specs.Steps.{◌>>=◌, name_at, next_is, expect_at, Here, bind_names_at}
 use Rattle.phrase.specs.declared.fault.Problem.TheVariants.{Syntax}
 use Rattle.phrase.proofs.Keeping.{bound_ok, ok_is, no_ok, if_ok}
 use Rattle.block.specs.Blocks.{body, ReadsEvent, ReadsBlock, ReadsStmt, ReadsTurn, synced_with, received_with, are_allowed, stmt_with, stmts_with, block_with, is_no_sync, as_sync, none_there, event_at, block_at, turn_at, stmt_at}

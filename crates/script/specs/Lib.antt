@@ -1,2 +1,3 @@
 pub mod Scripts
 pub mod Spelling
+pub mod FirstFaults
