@@ -5,3 +5,4 @@ pub mod Spelled
 pub mod Declares
 pub mod Processes
 pub mod Wholes
+pub mod FirstTold
