@@ -1,6 +1,6 @@
 -- Events: what is written, and where reading it stops, with what reads the events and blocks inside.
-use Rattle.std.proofs.Common.{◌≡◌, ◌⊎◌, inl, inr, ⊎_elim, ℕ, zero, suc, ◌+◌, ◌-◌, ◌<◌, ◌≤◌, Bool, true, false, cond, leb, List, [], ◌∷◌, ◌++◌, length, Option, Some, None, Result, Ok, Err, refl, sym, ap, ◌∙◌, subst, arith}
-use Rattle.token.specs.Tokens.{Token, Fixed, Name}
+use Rattle.std.proofs.Common.{◌≡◌, ◌⊎◌, inl, inr, ⊎_elim, ℕ, suc, ◌+◌, ◌-◌, ◌<◌, ◌≤◌, Bool, true, false, cond, leb, List, [], ◌∷◌, ◌++◌, length, Option, Some, None, Result, Ok, Err, refl, sym, ap, ◌∙◌, arith}
+use Rattle.token.specs.Tokens.{Token, Fixed}
 use Rattle.token.specs.declared.kind.Symbol.{Symbol}
 use Rattle.token.specs.declared.kind.Symbol.TheVariants.{Send, Recv, Always, Never, Cancelled, Choose, Wrap, As, To, Guard, Nack, Comma, OpenBracket, CloseBracket}
 use Rattle.syntax.specs.Trees as trees
@@ -10,12 +10,12 @@ use Rattle.phrase.specs.declared.fault.Problem.TheVariants.{Syntax, TooMany}
 use Rattle.grammar.specs.Written as written
 use Rattle.grammar.specs.Written.{as_tokens, event_tokens, events_tokens, more_events_tokens, block_tokens, more_names_tokens}
 use Rattle.grammar.proofs.Fronts.{is_next}
-use Rattle.block.specs.Blocks.{base_at, nack_word_at, send_at, recv_at, always_at, never_at, cancelled_at, as_names_at, chain, ReadsEvent, ReadsBlock, member_next, member_step, members_with, choose_with, wrap_with, guard_with, nack_with, event_with}
+use Rattle.block.specs.Blocks.{base_at, nack_word_at, send_at, recv_at, always_at, never_at, cancelled_at, as_names_at, chain, ReadsEvent, ReadsBlock, member_step, members_with, choose_with, wrap_with, guard_with, nack_with, event_with}
 use Rattle.block.specs.declared.process.Loops.TheVariants.{Forbidden}
 use Rattle.faults.specs.Laws.{Any, NoComma}
-use Rattle.faults.specs.Notes.{Note, SameFront, first_fault, plain, names_after}
+use Rattle.faults.specs.Notes.{Note, first_fault, plain, names_after}
 use Rattle.faults.specs.BlockNotes.{base_note, nack_note, as_notes, one_base, one_nack, event_after, events_after, block_after, event_notes, events_notes, more_events_notes, block_notes}
-use Rattle.faults.proofs.Facts.{Shape, shape_one, Lang, Facts, Both, seq, bind, then, under, turned, instead, giving, give, either, cases, neither, choose, or_stop, next_same, same_front, fine_of, one_clean, one_token, token, Takes, Faults, spelled_length}
+use Rattle.faults.proofs.Facts.{Shape, Lang, Facts, seq, bind, then, under, turned, instead, giving, give, either, neither, choose, or_stop, next_same, same_front, fine_of, one_clean, one_token, token, Takes, Faults, spelled_length}
 use Rattle.faults.proofs.Words.{some_room, accept_both, first_is, no_next, word, accept_facts, expect_facts, name, name_facts, bound_name, bound_name_facts}
 use Rattle.faults.proofs.Loops.{spell_all, notes_all, after_all, all_lang, all_facts, same_steps}
 use Rattle.faults.proofs.Lists.{list_lang, list_facts}

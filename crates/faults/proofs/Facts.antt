@@ -94,8 +94,17 @@ pub record Whole {X Y : Type 0} {E : List Token → Type 0} (L : Lang X Y E) (ts
   pub clean : first_fault (L.notes w) ≡ None
   pub ends : E rest
 
+-- this fault stands at the first of these notes
+pub record Noted (notes : List Note) (fault : Problem × ℕ) : Type 0 where
+  pub others : List Note
+  pub is : notes ≡ Some fault ∷ others
+
+pub noted_on : (a b : List Note) (fault : Problem × ℕ) → Noted a fault → Noted (a ++ b) fault
+noted_on a b fault n = record { others = n.others ++ b; is = ap (λ (x : List Note). x ++ b) n.is }
+
 -- a reader stops behind these tokens, whatever stands behind the next one; something written begins with
--- them, without a fault, and with the next one too unless it is of no grammar there
+-- them, without a fault, and with the next one too, at which the fault stands, unless it is of no grammar
+-- there
 pub record Stops {X Y : Type 0} {E : List Token → Type 0} (L : Lang X Y E) (f : List Token → Result Y Told) (ts : List Token) : Type 0 where
   pub problem : Problem
   pub back : ℕ
@@ -111,7 +120,7 @@ pub record Stops {X Y : Type 0} {E : List Token → Type 0} (L : Lang X Y E) (f 
   pub parts : L.notes w ≡ first ++ last
   pub count : length first ≡ length before
   pub clean : first_fault first ≡ None
-  pub reach : (problem ≡ Syntax) × (back ≡ 0) ⊎ ((rest : List Token) → SameFront behind (more rest))
+  pub reach : (problem ≡ Syntax) × (back ≡ 0) ⊎ Noted last (problem, back) × ((rest : List Token) → SameFront behind (more rest))
 
 -- of tokens of which P holds
 pub record Facts {X Y : Type 0} {E : List Token → Type 0} (P : List Token → Type 0) (L : Lang X Y E) (f : List Token → Result Y Told) : Type 0 where
@@ -187,7 +196,7 @@ module _ {X1 Y1 X2 Y2 : Type 0} {EndA EndB : List Token → Type 0} (L1 : Lang X
         parts = ap (λ (x : List Note). x ++ (L2 s.w).notes v) s.parts ∙ append_assoc s.first s.last ((L2 s.w).notes v);
         count = s.count;
         clean = s.clean;
-        reach = ⊎_elim (λ e. inl e) (λ h. inr (λ rest. h ((L2 s.w).spell v rest))) s.reach;
+        reach = ⊎_elim (λ e. inl e) (λ h. inr (noted_on s.last ((L2 s.w).notes v) (s.problem, s.back) h.0, λ rest. h.1 ((L2 s.w).spell v rest))) s.reach;
       }
 
   whole_both : (ts : List Token) (one : Whole L1 ts) → Whole (L2 one.w) one.rest → Whole (seq L1 L2) ts
@@ -314,6 +323,38 @@ instead L f g e F = turned L L f g (record {
   errs = λ ts t h. sym (e ts) ∙ h;
 }) F
 
+-- the same ends, otherwise said
+abbrev pub ending : {X Y : Type 0} {E E' : List Token → Type 0} → Lang X Y E → Lang X Y E'
+ending L = record { W = L.W; default = L.default; spell = L.spell; notes = L.notes; join = L.join; shape = L.shape }
+
+pub ended : {X Y : Type 0} {E E' P : List Token → Type 0} (L : Lang X Y E) (f : List Token → Result Y Told) → ((rest : List Token) → E' rest → E rest) → ((rest : List Token) → E rest → E' rest) → Facts P L f → Facts P (ending {E' = E'} L) f
+ended L f to from F = record {
+  reads = λ w. ⊎_elim
+      (λ one. inl (record { clean = one.clean; value = one.value; reads = λ rest e. one.reads rest (to rest e) }))
+      (λ one. inr (record { told = one.told; is = one.is; fails = λ rest e. one.fails rest (to rest e) }))
+      (F.reads w);
+  takes = λ ts p. ⊎_elim
+      (λ one. inl (record { w = one.w; rest = one.rest; is = one.is; clean = one.clean; ends = from one.rest one.ends }))
+      (λ s. inr (record {
+        problem = s.problem;
+        back = s.back;
+        before = s.before;
+        behind = s.behind;
+        is = s.is;
+        same = s.same;
+        w = s.w;
+        more = s.more;
+        begins = s.begins;
+        first = s.first;
+        last = s.last;
+        parts = s.parts;
+        count = s.count;
+        clean = s.clean;
+        reach = s.reach;
+      }))
+      (F.takes ts p);
+}
+
 -- another result
 abbrev pub giving : {X X' Y Z : Type 0} {E : List Token → Type 0} → (L : Lang X Y E) → (L.W → X' → List Token → Z) → Lang X' Z E
 giving L join = record { W = L.W; default = L.default; spell = L.spell; notes = L.notes; join = join; shape = L.shape }
@@ -429,16 +470,16 @@ module _ {X Y : Type 0} {E P : List Token → Type 0} (test : List Token → Boo
   pub choose : Facts P (either L1 L2) (λ ts. cond (test ts) (f ts) (g ts))
   choose = record { reads = chosen_reads; takes = λ ts p. chosen_takes ts p (test ts) refl }
 
--- a reader that stops at the token in front
-pub stops_with : {X Y : Type 0} {E : List Token → Type 0} (L : Lang X Y E) (f : List Token → Result Y Told) (ts : List Token) (problem : Problem) (w : L.W)
-    → ((others : List Token) → SameFront ts others → f others ≡ Err (problem, length others)) → (problem ≡ Syntax) ⊎ ((rest : List Token) → SameFront ts (L.spell w rest)) → Stops L f ts
-stops_with L f ts problem w e reach = record {
-  problem = problem;
-  back = 0;
+-- a reader that stops at the token in front, at which this fault stands
+pub stops_back : {X Y : Type 0} {E : List Token → Type 0} (L : Lang X Y E) (f : List Token → Result Y Told) (ts : List Token) (fault : Problem × ℕ) (w : L.W)
+    → ((others : List Token) → SameFront ts others → f others ≡ Err (fault.0, fault.1 + length others)) → (fault.0 ≡ Syntax) × (fault.1 ≡ 0) ⊎ Noted (L.notes w) fault × ((rest : List Token) → SameFront ts (L.spell w rest)) → Stops L f ts
+stops_back L f ts fault w e reach = record {
+  problem = fault.0;
+  back = fault.1;
   before = [];
   behind = ts;
   is = refl;
-  same = λ others h. e others h ∙ ap (λ (n : ℕ). Err (problem, n)) (let n = length others in let same : n ≡ 0 + n = omega arith in same);
+  same = e;
   w = w;
   more = L.spell w;
   begins = λ rest. refl;
@@ -447,20 +488,34 @@ stops_with L f ts problem w e reach = record {
   parts = refl;
   count = refl;
   clean = refl;
-  reach = ⊎_elim (λ e. inl (e, refl)) (λ h. inr h) reach;
+  reach = reach;
 }
+
+-- a fault that is told at its own token
+pub stops_with : {X Y : Type 0} {E : List Token → Type 0} (L : Lang X Y E) (f : List Token → Result Y Told) (ts : List Token) (problem : Problem) (w : L.W)
+    → ((others : List Token) → SameFront ts others → f others ≡ Err (problem, length others)) → (problem ≡ Syntax) ⊎ Noted (L.notes w) (problem, 0) × ((rest : List Token) → SameFront ts (L.spell w rest)) → Stops L f ts
+stops_with L f ts problem w e reach = stops_back L f ts (problem, 0) w (λ others h. e others h ∙ ap (λ (n : ℕ). Err (problem, n)) (let n = length others in let same : n ≡ 0 + n = omega arith in same)) (⊎_elim (λ e. inl (e, refl)) (λ h. inr h) reach)
 
 pub stops_at_once : {X Y : Type 0} {E : List Token → Type 0} (L : Lang X Y E) (f : List Token → Result Y Told) (ts : List Token) → ((others : List Token) → SameFront ts others → f others ≡ Err (Syntax, length others)) → Stops L f ts
 stops_at_once L f ts e = stops_with L f ts Syntax L.default e (inl refl)
 
 -- a fault at the first token of what is written
-pub bad_at_once : {X Y : Type 0} {E : List Token → Type 0} (L : Lang X Y E) (f : List Token → Result Y Told) (w : L.W) (problem : Problem) (notes : List Note)
-    → L.notes w ≡ Some (problem, 0) ∷ notes → ((rest : List Token) → f (L.spell w rest) ≡ Err (problem, length (L.spell w rest))) → Bad L f w
-bad_at_once L f w problem notes e fails = record {
-  told = (problem, suc (length notes));
-  is = ap first_fault e ∙ ap (λ (n : ℕ). Some (problem, n)) (let n = length notes in let same : 0 + suc n ≡ suc n = omega arith in same);
-  fails = λ rest h. fails rest ∙ ap (λ (n : ℕ). Err (problem, n)) (spelled_length (L.spell w) (L.notes w) rest (L.shape w) ∙ ap (λ (ns : List Note). length ns + length rest) e);
+pub bad_back : {X Y : Type 0} {E : List Token → Type 0} (L : Lang X Y E) (f : List Token → Result Y Told) (w : L.W) (fault : Problem × ℕ)
+    → Noted (L.notes w) fault → ((rest : List Token) → f (L.spell w rest) ≡ Err (fault.0, fault.1 + length (L.spell w rest))) → Bad L f w
+bad_back L f w fault n fails = record {
+  told = (fault.0, fault.1 + suc (length n.others));
+  is = ap first_fault n.is;
+  fails = λ rest h.
+      let size = spelled_length (L.spell w) (L.notes w) rest (L.shape w) in
+      let notes : length (L.notes w) ≡ suc (length n.others) = ap length n.is in
+      let left : fault.1 + length (L.spell w rest) ≡ (fault.1 + suc (length n.others)) + length rest = omega (arith, size, notes) in
+      fails rest ∙ ap (λ (n : ℕ). Err (fault.0, n)) left;
 }
+
+-- one that is told at its own token
+pub bad_at_once : {X Y : Type 0} {E : List Token → Type 0} (L : Lang X Y E) (f : List Token → Result Y Told) (w : L.W) (problem : Problem)
+    → Noted (L.notes w) (problem, 0) → ((rest : List Token) → f (L.spell w rest) ≡ Err (problem, length (L.spell w rest))) → Bad L f w
+bad_at_once L f w problem n fails = bad_back L f w (problem, 0) n (λ rest. fails rest ∙ ap (λ (m : ℕ). Err (problem, m)) (let m = length (L.spell w rest) in let same : m ≡ 0 + m = omega arith in same))
 
 -- one reader by the token in front, or none
 pub or_stop : {X Y : Type 0} {E P : List Token → Type 0} (test : List Token → Bool) → LooksInFront test → (L : Lang X Y E) (f : List Token → Result Y Told)
@@ -540,7 +595,7 @@ module _ {W X Y : Type 0} (default : W) (spell : W → Token) (note : W → Note
     parts = refl;
     count = refl;
     clean = refl;
-    reach = inr (λ rest. e);
+    reach = inr (record { others = []; is = ap (λ (x : Note). x ∷ []) one.some }, λ rest. e);
   })
     where
       same : (others : List Token) → SameFront (t ∷ ts) others → f others ≡ Err (one.problem, 0 + length others)

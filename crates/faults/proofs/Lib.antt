@@ -1,11 +1,14 @@
-mod Facts
-mod Words
-mod Loops
-mod Exprs
-mod Lists
-mod NameLists
-mod Demanding
-mod Places
-mod Shapes
-mod Events
-mod Stmts
+pub mod Facts
+pub mod Words
+pub mod Loops
+pub mod Exprs
+pub mod Lists
+pub mod NameLists
+pub mod Demanding
+pub mod Places
+pub mod Shapes
+pub mod Events
+pub mod Stmts
+pub mod Turns
+pub mod Knots
+pub mod Agreeing

@@ -16,7 +16,7 @@ use Rattle.grammar.specs.Written.{Term, OfNumber, OfName, Grouped, Terms, NoMore
 use Rattle.grammar.proofs.Fronts.{is_next, same_one}
 use Rattle.faults.specs.Notes.{Note, SameFront, also, plain, read_note, term_notes, expr_notes, test_notes, others_notes, more_notes, members_notes, list_notes}
 use Rattle.faults.specs.Laws.{NoSign, Any}
-use Rattle.faults.proofs.Facts.{Shape, shape_one, shape_seq, shape_none, Lang, Facts, Bad, Stops, seq, bind, then, under, turned, instead, giving, give, nothing, gives, either, cases, choose, next_same, stops_with, bad_at_once}
+use Rattle.faults.proofs.Facts.{Shape, shape_one, shape_seq, shape_none, Lang, Facts, Bad, Stops, Noted, seq, bind, then, under, turned, instead, giving, give, nothing, gives, either, cases, choose, next_same, stops_with, bad_at_once}
 use Rattle.faults.proofs.Words.{accept_both, word, accept_facts, expect_facts}
 use Rattle.faults.proofs.Exprs.{sign_ends, expr_shape, expr_lang, expr_facts}
 
@@ -236,12 +236,25 @@ module _ (room : ℕ) (h : Here) where
   stops_by : (problem : Problem) (us : List Token) → fourth_at h us ≡ problem → fourth_reader h us ≡ Err (problem, length us)
   stops_by problem us e = ap (λ (p : Problem). Err (p, length us)) e
 
+  fourth_fault : Term → Problem
+  fourth_fault (OfNumber n) = TooMany
+  fourth_fault (OfName text) = if_some (meaning h text) (λ x. TooMany) UnknownName
+  fourth_fault (Grouped first inner) = TooMany
+
+  fourth_noted : (first : Term) (more : Terms) (es : List Expr) → Noted ((fourth_lang room h).notes (record { first = first; more = more }, es)) (fourth_fault first, 0)
+  unfolding expr_notes term_notes fourth_fault
+  fourth_noted (OfNumber n) more es = record { others = _; is = also_plain room _ }
+  fourth_noted (OfName text) more es = record { others = _; is = name_fourth text _ (meaning h text) refl }
+  fourth_noted (Grouped first inner) more es = record { others = _; is = also_plain room _ }
+
+  fourth_told : (first : Term) (more : Terms) (es : List Expr) (rest : List Token) → fourth_at h ((fourth_lang room h).spell (record { first = first; more = more }, es) rest) ≡ fourth_fault first
+  unfolding fourth_fault
+  fourth_told (OfNumber n) more es rest = fourth_number n _
+  fourth_told (OfName text) more es rest = fourth_name text _ (meaning h text) refl
+  fourth_told (Grouped first inner) more es rest = fourth_open _
+
   fourth_reads : (first : Term) (more : Terms) (es : List Expr) → Bad (fourth_lang room h) (fourth_reader h) (record { first = first; more = more }, es)
-  unfolding expr_notes term_notes
-  fourth_reads (OfNumber n) more es = bad_at_once (fourth_lang room h) (fourth_reader h) _ TooMany _ (also_plain room _) (λ rest. stops_by TooMany _ (fourth_number n _))
-  fourth_reads (OfName text) more es =
-      bad_at_once (fourth_lang room h) (fourth_reader h) _ (if_some (meaning h text) (λ x. TooMany) UnknownName) _ (name_fourth text _ (meaning h text) refl) (λ rest. stops_by _ _ (fourth_name text _ (meaning h text) refl))
-  fourth_reads (Grouped first inner) more es = bad_at_once (fourth_lang room h) (fourth_reader h) _ TooMany _ (also_plain room _) (λ rest. stops_by TooMany _ (fourth_open _))
+  fourth_reads first more es = bad_at_once (fourth_lang room h) (fourth_reader h) _ (fourth_fault first) (fourth_noted first more es) (λ rest. stops_by _ _ (fourth_told first more es rest))
 
   -- whatever stands behind the same token
   fronted : (t : Token) (ts : List Token) (problem : Problem) → ((us : List Token) → fourth_at h (t ∷ us) ≡ problem) → (others : List Token) → SameFront (t ∷ ts) others → fourth_reader h others ≡ Err (problem, length others)
@@ -252,13 +265,15 @@ module _ (room : ℕ) (h : Here) where
   alone t = (record { first = t; more = NoMore }, [])
 
   at_symbol : (s : Symbol) (ts : List Token) (b : Bool) → same_symbol OpenParen s ≡ b → Stops (fourth_lang room h) (fourth_reader h) (Fixed s ∷ ts)
+  unfolding fourth_fault
   at_symbol s ts true e =
       let same : OpenParen ≡ s = same_one OpenParen s e in
       stops_with (fourth_lang room h) (fourth_reader h) (Fixed s ∷ ts) TooMany (alone (Grouped (OfNumber 0) NoMore))
-      (fronted (Fixed s) ts TooMany (λ us. ap (λ (x : Symbol). fourth_at h (Fixed x ∷ us)) (sym same) ∙ fourth_open us)) (inr (λ rest. ap (λ (x : Symbol). Fixed x) (sym same)))
+      (fronted (Fixed s) ts TooMany (λ us. ap (λ (x : Symbol). fourth_at h (Fixed x ∷ us)) (sym same) ∙ fourth_open us)) (inr (fourth_noted (Grouped (OfNumber 0) NoMore) NoMore [], λ rest. ap (λ (x : Symbol). Fixed x) (sym same)))
   at_symbol s ts false e = stops_with (fourth_lang room h) (fourth_reader h) (Fixed s ∷ ts) Syntax (alone (OfNumber 0)) (fronted (Fixed s) ts Syntax (λ us. fourth_other s us e)) (inl refl)
 
   fourth_takes : (ts : List Token) → Stops (fourth_lang room h) (fourth_reader h) ts
+  unfolding fourth_fault
   fourth_takes [] = stops_with (fourth_lang room h) (fourth_reader h) [] Syntax (alone (OfNumber 0)) at_end (inl refl)
     where
       at_end : (others : List Token) → SameFront [] others → fourth_reader h others ≡ Err (Syntax, length others)
@@ -267,8 +282,8 @@ module _ (room : ℕ) (h : Here) where
   fourth_takes (Fixed s ∷ ts) = at_symbol s ts (same_symbol OpenParen s) refl
   fourth_takes (tokens.Name text ∷ ts) =
       stops_with (fourth_lang room h) (fourth_reader h) (tokens.Name text ∷ ts) (if_some (meaning h text) (λ x. TooMany) UnknownName) (alone (OfName text))
-      (fronted (tokens.Name text) ts _ (λ us. fourth_name text us (meaning h text) refl)) (inr (λ rest. refl))
-  fourth_takes (tokens.Number n ∷ ts) = stops_with (fourth_lang room h) (fourth_reader h) (tokens.Number n ∷ ts) TooMany (alone (OfNumber n)) (fronted (tokens.Number n) ts TooMany (λ us. fourth_number n us)) (inr (λ rest. refl))
+      (fronted (tokens.Name text) ts _ (λ us. fourth_name text us (meaning h text) refl)) (inr (fourth_noted (OfName text) NoMore [], λ rest. refl))
+  fourth_takes (tokens.Number n ∷ ts) = stops_with (fourth_lang room h) (fourth_reader h) (tokens.Number n ∷ ts) TooMany (alone (OfNumber n)) (fronted (tokens.Number n) ts TooMany (λ us. fourth_number n us)) (inr (fourth_noted (OfNumber n) NoMore [], λ rest. refl))
   fourth_takes (tokens.Bad ∷ ts) = stops_with (fourth_lang room h) (fourth_reader h) (tokens.Bad ∷ ts) Syntax (alone (OfNumber 0)) (fronted tokens.Bad ts Syntax fourth_bad) (inl refl)
 
   fourth_facts : Facts Any (fourth_lang room h) (fourth_reader h)

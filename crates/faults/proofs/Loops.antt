@@ -7,7 +7,7 @@ use Rattle.phrase.specs.declared.fault.Problem.TheVariants.{Syntax}
 use Rattle.grammar.proofs.Fronts.{no_step, one_step}
 use Rattle.faults.specs.Notes.{Note, first_fault, SameFront}
 use Rattle.faults.specs.Laws.{Any}
-use Rattle.faults.proofs.Facts.{Shape, Lang, Facts, Fine, Bad, Whole, Stops, LooksInFront, shape_none, shape_seq, spelled_length, clean_on, fault_on, same_behind, same_front, fine_of}
+use Rattle.faults.proofs.Facts.{Shape, Lang, Facts, Fine, Bad, Whole, Stops, Noted, noted_on, LooksInFront, shape_none, shape_seq, spelled_length, clean_on, fault_on, same_behind, same_front, fine_of}
 
 -- SEVERAL, ONE BEHIND ANOTHER
 
@@ -123,7 +123,7 @@ module _ {X S W H : Type 0} (at : X → H → List Token → S) (spell : W → L
       parts : notes_all notes after h ws ≡ first ++ last
       count : length first ≡ length before
       clean : first_fault first ≡ None
-      reach : (problem ≡ Syntax) × (back ≡ 0) ⊎ ((rest : List Token) → SameFront behind (more' rest))
+      reach : (problem ≡ Syntax) × (back ≡ 0) ⊎ Noted last (problem, back) × ((rest : List Token) → SameFront behind (more' rest))
 
     stops_here : (ts : List Token) (x : X) (h : H) → more ts ≡ true → Stops (one_lang h) (next x h) ts → AllStops ts x h
     stops_here ts x h e s = record {
@@ -142,7 +142,7 @@ module _ {X S W H : Type 0} (at : X → H → List Token → S) (spell : W → L
       parts = ap (λ (ns : List Note). ns ++ []) s.parts ∙ append_assoc s.first s.last [];
       count = s.count;
       clean = s.clean;
-      reach = s.reach;
+      reach = ⊎_elim (λ e. inl e) (λ h. inr (noted_on s.last [] (s.problem, s.back) h.0, h.1)) s.reach;
     }
 
     stops_later : (ts : List Token) (x : X) (h : H) (one : Whole (one_lang h) ts) (fine : Fine (one_lang h) (next x h) one.w) → AllStops one.rest fine.value (after h one.w) → AllStops ts x h

@@ -1,38 +1,64 @@
--- Where every fault is told at its own token: the first fault lies behind the notes that have none.
-use Rattle.std.proofs.Common.{◌≡◌, ℕ, zero, suc, ◌+◌, ◌≤◌, Bool, true, false, cond, ◌||◌, eqb, ltb, leb, List, [], ◌∷◌, ◌++◌, length, take, Option, Some, None, is_some, refl, ap, arith}
+-- Where the faults are told: at their own token, and that of a loop at its word.
+use Rattle.std.proofs.Common.{◌≡◌, ◌⊎◌, ℕ, zero, suc, Bool, true, false, cond, ◌||◌, eqb, ltb, leb, List, [], ◌∷◌, ◌++◌, length, Option, Some, None, is_some, refl, sym, subst, arith, append_assoc}
+use Rattle.token.specs.Tokens.{Token, Fixed}
+use Rattle.token.specs.declared.kind.Symbol.TheVariants.{Loop, Forever}
 use Rattle.phrase.specs.Places.{place}
-use Rattle.phrase.specs.Steps.{Told, Here, meaning, is_listed}
+use Rattle.phrase.specs.Steps.{Here, meaning, is_listed}
 use Rattle.phrase.specs.declared.fault.Problem.{Problem}
-use Rattle.phrase.specs.declared.fault.Problem.TheVariants.{UnknownName, Twice, TooMany}
+use Rattle.phrase.specs.declared.fault.Problem.TheVariants.{Syntax, UnknownName, Twice, TooMany, LoopWithoutSync}
 use Rattle.grammar.specs.Written.{Term, OfNumber, OfName, Grouped, Terms, NoMore, Further, Expr, Test}
-use Rattle.faults.specs.Notes.{Note, first_fault, also, plain, read_note, bind_note, term_notes, terms_notes, expr_notes, test_notes, others_notes, more_notes, members_notes, list_notes, more_names_notes, names_notes}
+use Rattle.faults.specs.Notes.{Note, also, plain, read_note, bind_note, term_notes, terms_notes, expr_notes, test_notes, others_notes, more_notes, members_notes, list_notes, more_names_notes, names_notes}
+use Rattle.faults.proofs.Facts.{Shape}
 
--- a fault, told at its own token
+abbrev pub nth : List Token → ℕ → Option Token
+nth [] n = None
+nth (t ∷ ts) zero = Some t
+nth (t ∷ ts) (suc n) = nth ts n
+
+-- behind these tokens, the last of them first, the fault is told so many tokens back
+abbrev pub BackIs : List Token → Problem → ℕ → Type 0
+BackIs prior Syntax back = back ≡ 0
+BackIs prior UnknownName back = back ≡ 0
+BackIs prior Twice back = back ≡ 0
+BackIs prior TooMany back = back ≡ 0
+BackIs prior LoopWithoutSync back = (nth prior 2 ≡ Some (Fixed Loop)) × (back ≡ 3) ⊎ (nth prior 1 ≡ Some (Fixed Forever)) × (back ≡ 2)
+
+abbrev pub NoteIs : List Token → Note → Type 0
+NoteIs prior None = Unit {0}
+NoteIs prior (Some p) = BackIs prior p.0 p.1
+
+-- each note is told where it says
+abbrev pub Agree : List Token → List Token → List Note → Type 0
+Agree prior ts [] = Unit {0}
+Agree prior [] (n ∷ notes) = ⊥
+Agree prior (t ∷ ts) (n ∷ notes) = NoteIs prior n × Agree (t ∷ prior) ts notes
+
+-- whatever stands before and behind
+pub record Agrees (spell : List Token → List Token) (notes : List Note) : Type 0 where
+  pub agree : (prior rest : List Token) (others : List Note) → ((p : List Token) → Agree p rest others) → Agree prior (spell rest) (notes ++ others)
+
+pub agrees_none : Agrees (λ rest. rest) []
+agrees_none = record { agree = λ prior rest others k. k prior }
+
+pub agrees_seq : (a b : List Token → List Token) (m n : List Note) → Agrees a m → Agrees b n → Agrees (λ rest. a (b rest)) (m ++ n)
+agrees_seq a b m n x y = record { agree = λ prior rest others k. subst (Agree prior (a (b rest))) (sym (append_assoc m n others)) (x.agree prior (b rest) (n ++ others) (λ p. y.agree p rest others k)) }
+
+-- a fault that is told at its own token
 abbrev pub IsHere : Note → Type 0
-IsHere None = Unit {0}
-IsHere (Some p) = p.1 ≡ 0
+IsHere note = (prior : List Token) → NoteIs prior note
 
 abbrev pub AllHere : List Note → Type 0
 AllHere [] = Unit {0}
 AllHere (n ∷ notes) = IsHere n × AllHere notes
 
-some_is : (a b : Told) → ◌≡◌ {A = Option Told} (Some a) (Some b) → a ≡ b
-some_is a b e = cc
+here_agree : (text : List Token) (notes : List Note) → length notes ≡ length text → AllHere notes → (prior rest : List Token) (others : List Note) → ((p : List Token) → Agree p rest others) → Agree prior (text ++ rest) (notes ++ others)
+here_agree [] [] e h prior rest others k = k prior
+here_agree [] (n ∷ notes) e h prior rest others k = absurd cc
+here_agree (t ∷ text) [] e h prior rest others k = absurd cc
+here_agree (t ∷ text) (n ∷ notes) e h prior rest others k = (h.0 prior, here_agree text notes (omega (arith, e)) h.1 (t ∷ prior) rest others k)
 
-left_small : (notes : List Note) (problem : Problem) (left : ℕ) → AllHere notes → first_fault notes ≡ Some (problem, left) → left ≤ length notes
-left_small [] problem left h e = absurd cc
-left_small (None ∷ notes) problem left h e = (let n = left_small notes problem left h.1 e in omega (arith, n))
-left_small (Some p ∷ notes) problem left h e =
-    let both : ◌≡◌ {A = Told} (p.0, p.1 + suc (length notes)) (problem, left) = some_is _ _ e in
-    let same : p.1 + suc (length notes) ≡ left = ap (λ (x : Told). x.1) both in
-    let none_back : p.1 ≡ 0 = h.0 in
-    omega (arith, same, none_back)
-
-pub behind_clean : (notes : List Note) (k : ℕ) (problem : Problem) (left : ℕ) → AllHere notes → k ≤ length notes → first_fault (take k notes) ≡ None → first_fault notes ≡ Some (problem, left) → left + k ≤ length notes
-behind_clean notes zero problem left h small clean e = (let n = left_small notes problem left h e in omega (arith, n))
-behind_clean [] (suc k) problem left h small clean e = absurd cc
-behind_clean (None ∷ notes) (suc k) problem left h small clean e = (let n = behind_clean notes k problem left h.1 (omega (arith, small)) clean e in omega (arith, n))
-behind_clean (Some p ∷ notes) (suc k) problem left h small clean e = absurd cc
+pub here_agrees : (spell : List Token → List Token) (notes : List Note) → Shape spell notes → AllHere notes → Agrees spell notes
+here_agrees spell notes s h = record { agree = λ prior rest others k. subst (λ (ts : List Token). Agree prior ts (notes ++ others)) (sym (s.is rest)) (here_agree s.text notes s.count h prior rest others k) }
 
 -- THE NOTES OF EXPRESSIONS, LISTS AND NAMES
 
@@ -40,23 +66,23 @@ here_on : (a b : List Note) → AllHere a → AllHere b → AllHere (a ++ b)
 here_on [] b h k = k
 here_on (n ∷ a) b h k = (h.0, here_on a b h.1 k)
 
-either_here : (b : Bool) (x y : Note) → IsHere x → IsHere y → IsHere (cond b x y)
+pub either_here : (b : Bool) (x y : Note) → IsHere x → IsHere y → IsHere (cond b x y)
 either_here true x y h k = h
 either_here false x y h k = k
 
-plain_here : (room : ℕ) → IsHere (plain room)
+pub plain_here : (room : ℕ) → IsHere (plain room)
 unfolding plain
-plain_here room = either_here (eqb room 0) (Some (TooMany, 0)) None refl tt
+plain_here room = either_here (eqb room 0) (Some (TooMany, 0)) None (λ prior. refl) (λ prior. tt)
 
-read_here : (room : ℕ) (h : Here) (text : List ℕ) → IsHere (read_note room h text)
+pub read_here : (room : ℕ) (h : Here) (text : List ℕ) → IsHere (read_note room h text)
 unfolding read_note
-read_here room h text = either_here (is_some (meaning h text)) (plain room) (Some (UnknownName, 0)) (plain_here room) refl
+read_here room h text = either_here (is_some (meaning h text)) (plain room) (Some (UnknownName, 0)) (plain_here room) (λ prior. refl)
 
-bind_here : (room : ℕ) (list : List ℕ) (h : Here) (text : List ℕ) → IsHere (bind_note room list h text)
+pub bind_here : (room : ℕ) (list : List ℕ) (h : Here) (text : List ℕ) → IsHere (bind_note room list h text)
 unfolding bind_note
 bind_here room list h text =
-    let few : IsHere (cond (ltb 32 (length text) || leb 3 (length list)) (Some (TooMany, 0)) (plain room)) = either_here (ltb 32 (length text) || leb 3 (length list)) (Some (TooMany, 0)) (plain room) refl (plain_here room) in
-    either_here (is_some (place text h.channels) || is_listed list (place text h.variables)) (Some (Twice, 0)) (cond (ltb 32 (length text) || leb 3 (length list)) (Some (TooMany, 0)) (plain room)) refl few
+    let few : IsHere (cond (ltb 32 (length text) || leb 3 (length list)) (Some (TooMany, 0)) (plain room)) = either_here (ltb 32 (length text) || leb 3 (length list)) (Some (TooMany, 0)) (plain room) (λ prior. refl) (plain_here room) in
+    either_here (is_some (place text h.channels) || is_listed list (place text h.variables)) (Some (Twice, 0)) (cond (ltb 32 (length text) || leb 3 (length list)) (Some (TooMany, 0)) (plain room)) (λ prior. refl) few
 
 mutual
   unfolding term_notes
@@ -83,15 +109,15 @@ unfolding others_notes
 others_here [] room h = tt
 others_here (e ∷ es) room h = (plain_here room, here_on _ _ (expr_here e room h) (others_here es room h))
 
-also_here : (problem : Problem) (notes : List Note) → AllHere notes → AllHere (also (problem, 0) notes)
-also_here problem [] h = tt
-also_here problem (None ∷ notes) h = (refl, h.1)
-also_here problem (Some q ∷ notes) h = h
+also_here : (p : Problem × ℕ) (notes : List Note) → IsHere (Some p) → AllHere notes → AllHere (also p notes)
+also_here p [] k h = tt
+also_here p (None ∷ notes) k h = (k, h.1)
+also_here p (Some q ∷ notes) k h = h
 
 more_here : (es : List Expr) (n room : ℕ) (h : Here) → AllHere (more_notes n room h es)
 unfolding more_notes
 more_here [] n room h = tt
-more_here (e ∷ es) zero room h = (plain_here room, also_here TooMany _ (here_on _ _ (expr_here e room h) (others_here es room h)))
+more_here (e ∷ es) zero room h = (plain_here room, also_here (TooMany, 0) _ (λ prior. refl) (here_on _ _ (expr_here e room h) (others_here es room h)))
 more_here (e ∷ es) (suc n) room h = (plain_here room, here_on _ _ (expr_here e room h) (more_here es n room h))
 
 members_here : (es : List Expr) (room : ℕ) (h : Here) → AllHere (members_notes room h es)

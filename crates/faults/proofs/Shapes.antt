@@ -1,13 +1,13 @@
 -- Events, statements and blocks have a note for each token.
-use Rattle.std.proofs.Common.{◌≡◌, ℕ, ◌-◌, Bool, true, false, List, [], ◌∷◌, ◌++◌, length, Some, None, refl, sym, ap, ◌∙◌}
+use Rattle.std.proofs.Common.{ℕ, ◌-◌, Bool, true, false, List, [], ◌∷◌, ◌++◌}
 use Rattle.token.specs.Tokens.{Token, Fixed, Name, Number}
 use Rattle.token.specs.declared.kind.Symbol.TheVariants.{Let, Print, Sync, If, Else, Loop, Forever, End, Send, Recv, Always, Never, Cancelled, Choose, Wrap, As, To, Guard, Nack, Semicolon, Comma, OpenBrace, CloseBrace, OpenBracket, CloseBracket, Equal, Arrow}
 use Rattle.phrase.specs.Steps.{Here, bound}
 use Rattle.phrase.specs.declared.fault.Problem.TheVariants.{LoopWithoutSync}
 use Rattle.grammar.specs.Written as written
 use Rattle.grammar.specs.Written.{expr_tokens, test_tokens, list_tokens, more_names_tokens, as_tokens, received_tokens, event_tokens, events_tokens, more_events_tokens, stmt_tokens, body_tokens, block_tokens}
-use Rattle.faults.specs.Notes.{Note, plain, read_note, bind_note, expr_notes, list_notes, names_after, names_notes}
-use Rattle.faults.specs.BlockNotes.{base_note, nack_note, loop_note, as_notes, received_notes, one_base, one_nack, uncounted, event_after, events_after, stmt_after, block_after, begins_with_sync, if_no_sync, event_notes, events_notes, more_events_notes, stmt_notes, body_notes, block_notes}
+use Rattle.faults.specs.Notes.{Note, names_after}
+use Rattle.faults.specs.BlockNotes.{as_notes, received_notes, one_base, one_nack, uncounted, event_after, stmt_after, block_after, begins_with_sync, if_no_sync, event_notes, events_notes, more_events_notes, stmt_notes, body_notes, block_notes}
 use Rattle.faults.proofs.Facts.{Shape, shape_one, shape_seq, shape_none}
 use Rattle.faults.proofs.Exprs.{expr_shape}
 use Rattle.faults.proofs.Lists.{test_shape, list_shape, also_shape}

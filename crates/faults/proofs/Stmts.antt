@@ -1,26 +1,24 @@
 -- Statements and blocks: what is written, and where reading it stops.
-use Rattle.std.proofs.Common.{◌≡◌, ◌⊎◌, inl, inr, ⊎_elim, ℕ, zero, suc, ◌+◌, ◌-◌, ◌<◌, ◌≤◌, Bool, true, false, cond, ◌||◌, List, [], ◌∷◌, ◌++◌, length, Option, Some, None, Result, Ok, Err, is_some, refl, sym, ap, ◌∙◌, subst, arith, append_assoc, length-append}
+use Rattle.std.proofs.Common.{◌≡◌, inl, inr, ⊎_elim, ℕ, suc, ◌+◌, ◌-◌, ◌<◌, ◌≤◌, Bool, true, false, cond, List, [], ◌∷◌, ◌++◌, length, Option, Some, None, Result, Ok, Err, is_some, refl, sym, ap, ◌∙◌, arith, append_assoc, length-append}
 use Rattle.token.specs.Tokens.{Token, Fixed, Name, Number}
 use Rattle.token.specs.Tokens as tokens
-use Rattle.token.specs.declared.kind.Symbol.{Symbol}
 use Rattle.token.specs.declared.kind.Symbol.TheVariants.{Let, Print, Sync, If, Else, Loop, Forever, End, Semicolon, OpenBrace, CloseBrace, Equal, Arrow}
 use Rattle.syntax.specs.Trees as trees
 use Rattle.syntax.specs.Trees.{Turn}
-use Rattle.phrase.specs.Steps.{Told, ◌>>=◌, stop_at, if_some, repeated, name_at, next_is, accept_at, expect_at, Here, bound, bind_name_at, bind_names_at}
+use Rattle.phrase.specs.Steps.{Told, ◌>>=◌, stop_at, repeated, name_at, next_is, accept_at, expect_at, Here, bound, bind_name_at, bind_names_at}
 use Rattle.phrase.specs.Exprs.{expr_at, test_at}
-use Rattle.phrase.specs.declared.fault.Problem.{Problem}
-use Rattle.phrase.specs.declared.fault.Problem.TheVariants.{Syntax, TooMany, LoopWithoutSync}
+use Rattle.phrase.specs.declared.fault.Problem.TheVariants.{Syntax}
 use Rattle.grammar.specs.Written as written
 use Rattle.grammar.specs.Written.{expr_tokens, more_names_tokens, event_tokens, stmt_tokens, body_tokens, block_tokens}
 use Rattle.grammar.proofs.Fronts.{is_next}
-use Rattle.block.specs.Blocks.{body, ReadsEvent, ReadsBlock, ReadsStmt, ReadsTurn, fresh, synced_with, let_at, print_at, end_at, received_with, branch_with, times_at, counted_with, forever_with, are_allowed, stmt_with, stmt_next, stmt_step, stmts_with, block_with}
+use Rattle.block.specs.Blocks.{body, ReadsEvent, ReadsBlock, ReadsStmt, ReadsTurn, synced_with, let_at, print_at, end_at, received_with, branch_with, times_at, counted_with, forever_with, are_allowed, stmt_with, stmt_step, stmts_with}
 use Rattle.block.specs.declared.process.Loops.{Loops as Place}
 use Rattle.block.specs.declared.process.Loops.TheVariants.{Allowed, Forbidden}
 use Rattle.faults.specs.Laws.{Any, NoComma, NoSign}
-use Rattle.faults.specs.Notes.{Note, SameFront, first_fault, plain, names_after, expr_notes, names_notes, test_notes, bind_note, more_names_notes}
-use Rattle.faults.specs.BlockNotes.{loop_note, uncounted, event_after, stmt_after, block_after, begins_with_sync, if_no_sync, received_notes, event_notes, stmt_notes, body_notes, block_notes}
-use Rattle.faults.proofs.Facts.{Shape, shape_one, Lang, Facts, Fine, Bad, Whole, Stops, Both, seq, bind, then, under, turned, instead, giving, give, either, cases, neither, choose, or_stop, next_same, same_front, one_clean, stops_at_once, bad_at_once}
-use Rattle.faults.proofs.Words.{some_room, accept_both, word, accept_facts, expect_facts, number, number_at_room, number_facts, bound_name, bound_name_facts}
+use Rattle.faults.specs.Notes.{Note, SameFront, plain, names_after, expr_notes, names_notes, test_notes, bind_note, more_names_notes}
+use Rattle.faults.specs.BlockNotes.{loop_note, uncounted, event_after, stmt_after, block_after, begins_with_sync, if_no_sync, received_notes, event_notes, stmt_notes, body_notes}
+use Rattle.faults.proofs.Facts.{Shape, Lang, Facts, Bad, seq, bind, then, under, turned, instead, giving, give, either, neither, choose, or_stop, next_same, stops_at_once, bad_at_once}
+use Rattle.faults.proofs.Words.{accept_both, word, accept_facts, expect_facts, number, number_at_room, number_facts, bound_name, bound_name_facts}
 use Rattle.faults.proofs.Loops.{spell_all, notes_all, after_all, all_lang, all_facts, same_steps}
 use Rattle.faults.proofs.Exprs.{sign_ends, name_looks, expr_lang, expr_facts}
 use Rattle.faults.proofs.Lists.{test_lang, test_facts}
@@ -202,8 +200,8 @@ unfolding loop_note
 forbidden_facts room h = record { reads = λ w. inr (reads w); takes = λ ts p. inr (stops_at_once (loops_lang false room h) (λ ts. stop_at Syntax ts) ts (λ others k. refl)) }
   where
     reads : (w : (loops_lang false room h).W) → Bad (loops_lang false room h) (λ ts. stop_at Syntax ts) w
-    reads (inl w) = bad_at_once (loops_lang false room h) (λ ts. stop_at Syntax ts) (inl w) Syntax _ refl (λ rest. refl)
-    reads (inr w) = bad_at_once (loops_lang false room h) (λ ts. stop_at Syntax ts) (inr w) Syntax _ refl (λ rest. refl)
+    reads (inl w) = bad_at_once (loops_lang false room h) (λ ts. stop_at Syntax ts) (inl w) Syntax (record { others = _; is = refl }) (λ rest. refl)
+    reads (inr w) = bad_at_once (loops_lang false room h) (λ ts. stop_at Syntax ts) (inr w) Syntax (record { others = _; is = refl }) (λ rest. refl)
 
 module _ (turn : ReadsTurn) (room : ℕ) (h : Here) (turns : (k : ℕ) → Facts Any (turn_lang (suc k) room h) (λ us. turn (k + length us) h us)) where
   abbrev turn_end : ℕ → Lang trees.Stmt StmtRead Any

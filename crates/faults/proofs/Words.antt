@@ -18,7 +18,7 @@ unfolding plain
 some_room zero e = absurd cc
 some_room (suc room) e = omega arith
 
-plain_left : (room : ℕ) → plain (suc room) ≡ None
+pub plain_left : (room : ℕ) → plain (suc room) ≡ None
 unfolding plain
 plain_left room = (let no : eqb (suc room) 0 ≡ false = search (arith, tests) in rw no refl)
 

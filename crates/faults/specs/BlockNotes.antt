@@ -141,19 +141,15 @@ block_notes loops room h body = plain room ∷ body_notes loops (room - 1) h bod
 
 -- SCRIPTS
 
-abbrev pub channels_after : List (List ℕ) → List (List ℕ) → List (List ℕ)
-channels_after names [] = names
-channels_after names (text ∷ texts) = channels_after (names ++ text ∷ []) texts
-
 -- channels behind others
 unfoldable pub channels_notes : List (List ℕ) → List (List ℕ) → List Note
 channels_notes names [] = []
 channels_notes names (text ∷ texts) = (None ∷ declare_note 256 names text ∷ None ∷ []) ++ channels_notes (names ++ text ∷ []) texts
 
--- processes behind others with such names; a process begins with the channels alone
-unfoldable pub processes_notes : List (List ℕ) → Here → List Process → List Note
-processes_notes names h [] = []
-processes_notes names h (p ∷ ps) = (None ∷ declare_note 64 names p.name ∷ block_notes true 49 (start h.channels) p.body) ++ processes_notes (names ++ p.name ∷ []) (block_after (start h.channels) p.body) ps
+-- processes behind others with such names; each begins with the channels alone
+unfoldable pub processes_notes : List (List ℕ) → List (List ℕ) → List Process → List Note
+processes_notes channels names [] = []
+processes_notes channels names (p ∷ ps) = (None ∷ declare_note 64 names p.name ∷ block_notes true 49 (start channels) p.body) ++ processes_notes channels (names ++ p.name ∷ []) ps
 
 unfoldable pub script_notes : Script → List Note
-script_notes s = channels_notes [] s.channels ++ processes_notes [] (start (channels_after [] s.channels)) s.processes
+script_notes s = channels_notes [] s.channels ++ processes_notes s.channels [] s.processes

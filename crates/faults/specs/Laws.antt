@@ -4,15 +4,21 @@ use Rattle.token.specs.Tokens.{Token, Name}
 use Rattle.token.specs.declared.kind.Symbol.TheVariants.{Comma}
 use Rattle.phrase.specs.Steps.{Told, Here, next_is, bind_names_at}
 use Rattle.phrase.specs.Exprs.{sign_at, expr_at, test_at, list_at}
+use Rattle.phrase.specs.declared.fault.Problem.{Problem}
 use Rattle.phrase.specs.declared.fault.Problem.TheVariants.{Syntax}
-use Rattle.grammar.specs.Written.{expr_tokens, test_tokens, list_tokens, more_names_tokens}
+use Rattle.grammar.specs.Written.{expr_tokens, test_tokens, list_tokens, more_names_tokens, event_tokens, stmt_tokens, block_tokens}
+use Rattle.block.specs.declared.process.Loops.{Loops}
+use Rattle.block.specs.Blocks.{are_allowed, event_at, stmt_at, block_at}
+use Rattle.faults.specs.BlockNotes.{event_notes, stmt_notes, block_notes}
 use Rattle.faults.specs.Notes.{Note, first_fault, SameFront, expr_notes, test_notes, list_notes, names_notes}
 
--- the first of these notes is the problem, told at a token from which so many are left
-pub record IsFirst (notes : List Note) (rest : ℕ) (told : Told) : Type 0 where
-  pub left : ℕ
-  pub is : first_fault notes ≡ Some (told.0, left)
-  pub count : left + rest ≡ told.1
+-- the first fault of these notes is this one, behind so many notes of none
+pub record IsFirst (notes : List Note) (place : ℕ) (fault : Problem × ℕ) : Type 0 where
+  pub before : List Note
+  pub behind : List Note
+  pub parts : notes ≡ before ++ Some fault ∷ behind
+  pub count : length before ≡ place
+  pub none : first_fault before ≡ None
 
 -- Of what can be written, with its tokens and its notes, and with what may follow it: the fault that stands
 -- at the token behind those before.
@@ -20,7 +26,7 @@ pub record Demanded {W : Type 0} (spell : W → List Token → List Token) (note
   pub before : List Token
   pub behind : List Token
   pub tokens : ts ≡ before ++ behind
-  -- the line is told of a token at the place, or of one before
+  -- the line that is told is that of the token so many tokens before
   pub back : ℕ
   pub line : told.1 ≡ back + length behind
   -- something that is written begins with the tokens before, and no fault stands at one of them
@@ -29,9 +35,9 @@ pub record Demanded {W : Type 0} (spell : W → List Token → List Token) (note
   pub begins : (rest : List Token) → spell written rest ≡ before ++ more rest
   pub within : length before ≤ length (notes written)
   pub clean : first_fault (take (length before) (notes written)) ≡ None
-  -- whatever is written and goes on with the token at the place has this first fault
-  pub first : (w : W) (rest others : List Token) → Ends rest → spell w rest ≡ before ++ others → SameFront behind others → IsFirst (notes w) (length rest) (told.0, back + length others)
-  -- and something does go on with it, unless it is syntax, which is told at the place itself
+  -- whatever is written and goes on with the token at the place has its first fault there, this one
+  pub first : (w : W) (rest others : List Token) → Ends rest → spell w rest ≡ before ++ others → SameFront behind others → IsFirst (notes w) (length before) (told.0, back)
+  -- and something does go on with it, unless it is syntax, whose line is that of the place itself
   pub goes_on : (told.0 ≡ Syntax) × (back ≡ 0) ⊎ ((rest : List Token) → SameFront behind (more rest))
 
 abbrev pub IsRead : {X : Type 0} → Result X Told → Type 0
@@ -75,3 +81,14 @@ names_tokens names rest = Name names.0 ∷ more_names_tokens names.1 rest
 
 abbrev pub NamesAreAnswered : Type 0
 NamesAreAnswered = (room : ℕ) (h : Here) → Answered names_tokens (λ names. names_notes room h names.0 names.1) NoComma (λ ts. bind_names_at room h ts)
+
+-- EVENTS, STATEMENTS AND BLOCKS
+
+abbrev pub EventsAreAnswered : Type 0
+EventsAreAnswered = (room : ℕ) (h : Here) → Answered event_tokens (event_notes room h) Any (λ ts. event_at room h ts)
+
+abbrev pub StmtsAreAnswered : Type 0
+StmtsAreAnswered = (room : ℕ) (place : Loops) (h : Here) → Answered stmt_tokens (stmt_notes (are_allowed place) room h) Any (λ ts. stmt_at room place h ts)
+
+abbrev pub BlocksAreAnswered : Type 0
+BlocksAreAnswered = (room : ℕ) (place : Loops) (h : Here) → Answered block_tokens (block_notes (are_allowed place) room h) Any (λ ts. block_at room place h ts)

@@ -4,11 +4,11 @@
 //! there (`Notes`), and which fault of some tokens is to be told (`Laws`): that at the earliest place, and
 //! of two at one token the one with the lower number.
 //!
-//! Proved, of expressions, tests, lists and names that are bound: reading from left to right tells just
-//! that fault.
+//! Proved, of expressions, tests, lists, names that are bound, events, statements and blocks: reading from
+//! left to right tells just that fault.
 #![tactic(auto)]
 
-ghost use Rattle.faults.specs.Laws.{ExprsAreAnswered, TestsAreAnswered, ListsAreAnswered, NamesAreAnswered};
+ghost use Rattle.faults.specs.Laws.{ExprsAreAnswered, TestsAreAnswered, ListsAreAnswered, NamesAreAnswered, EventsAreAnswered, StmtsAreAnswered, BlocksAreAnswered};
 
 /// What is written is read where no fault stands in it, and else its first fault is told. Of any tokens
 /// the fault that is told is the one that is demanded, and no other is demanded of them.
@@ -17,4 +17,7 @@ pub fn fault_laws()
     ensures tests { TestsAreAnswered }
     ensures lists { ListsAreAnswered }
     ensures names { NamesAreAnswered }
+    ensures events { EventsAreAnswered }
+    ensures stmts { StmtsAreAnswered }
+    ensures blocks { BlocksAreAnswered }
 {}

@@ -10,14 +10,16 @@
 //!   of `grammar`, with no reading in them.
 //! - `parse` answers what `text_at` says of the bytes: a fault and its line are those of a reading of the
 //!   tokens from left to right.
+//! - That fault is the first of the text, with its line, as the notes of `faults` and the grammar say it
+//!   (`FirstFaults`): whatever is written and begins with the tokens up to the fault's has it. And the
+//!   first fault of a text that is not too long is told, unless memory runs out.
 //! - What is read keeps the limits: each process has them by its own invariant (`syntax::Proc`).
 //! - The counts and the names of a script are those of the script that was read.
 //! - Each call ends. Reading goes down by what is left of 49 levels, and loops over statements,
 //!   members and terms, as does the drop of their lists.
-//!
-//! Only tested: that of all faults the earliest is told.
 #![tactic(auto)]
 
+ghost use Rattle.script.specs.FirstFaults.{ScriptsAreAnswered};
 ghost use Rattle.script.specs.Spelling.{SpellsOnlyOne};
 
 mod fault;
@@ -29,9 +31,12 @@ pub use reading::parse;
 pub use script::Script;
 pub use syntax::Proc;
 
-/// No bytes spell two scripts.
+/// No bytes spell two scripts. A script that is written is read where no fault stands in it, and else its
+/// first fault is told; of any tokens the fault that is told is the one that is demanded, and no other is
+/// demanded of them.
 pub fn script_text_laws()
-    ensures { SpellsOnlyOne }
+    ensures one { SpellsOnlyOne }
+    ensures faults { ScriptsAreAnswered }
 {}
 
 #[cfg(test)]

@@ -7,6 +7,7 @@ ghost use Rattle.token.specs.Lexemes.{placed_tokens, last_line, seen};
 ghost use Rattle.phrase.specs.Places.{texts};
 ghost use Rattle.phrase.specs.Steps.{Gives, bare, here, start};
 ghost use Rattle.script.specs.Scripts.{drawn, proc_from, declare_at, channel_next, channels_at, process_next, processes_at, script_at, script_of, line_left, fault_at, text_at, Answers};
+ghost use Rattle.script.specs.FirstFaults.{Tells, FirstIsTold};
 ghost use Rattle.script.specs.Spelling.{Spells, Refuses};
 ghost use Rattle.syntax.specs.Processes.{proc_of, string_texts};
 ghost use Rattle.syntax.specs.Limits.{KeepsLimits};
@@ -229,6 +230,8 @@ pub fn parse(alloc: Global, bytes: &[u8]) -> Result<Script, ScriptFault>
     ensures found { IfOk result (λ s. Spells bytes.now (script_of s)) }
     ensures fits { OnOk result (length bytes.now ≤ 65536) }
     ensures refused { IfErr result (Refuses bytes.now) }
+    ensures told { IfErr result (Tells bytes.now) }
+    ensures first { FirstIsTold bytes.now result }
 {
     let read = read_text(alloc, bytes);
     read

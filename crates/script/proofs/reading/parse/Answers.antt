@@ -1,3 +1,4 @@
+use Rattle.script.proofs.FirstTold.{answers_tell, answers_first}
 use Rattle.script.proofs.Spelled.{answers_found, answers_fits, answers_refuses}
 use Rattle.script.proofs.reading.parse.Goals as goal
 
@@ -5,4 +6,4 @@ pub returns : goal.returns
 returns c =
     let bytes = c.args.bytes.now in
     let text = c.read_text-read.ensures in
-    record { text = text; found = answers_found bytes _ text; fits = answers_fits bytes _ text; refused = answers_refuses bytes _ text }
+    record { text = text; found = answers_found bytes _ text; fits = answers_fits bytes _ text; refused = answers_refuses bytes _ text; told = answers_tell bytes _ text; first = answers_first bytes _ text }

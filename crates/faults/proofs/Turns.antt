@@ -1,0 +1,421 @@
+-- The block of a loop: it begins with a sync, or the loop's fault stands at its first token.
+use Rattle.std.proofs.Common.{◌≡◌, ◌⊎◌, inl, inr, ⊎_elim, ℕ, zero, suc, ◌+◌, ◌-◌, ◌<◌, Bool, true, false, cond, ◌||◌, List, [], ◌∷◌, ◌++◌, length, Option, Some, None, Result, Ok, Err, refl, sym, ap, ap₂, ◌∙◌, subst, arith}
+use Rattle.token.specs.Tokens.{Token, Fixed}
+use Rattle.token.specs.declared.kind.Symbol.{Symbol}
+use Rattle.token.specs.declared.kind.Symbol.TheVariants.{Let, Print, If, Loop, Forever, End, OpenBrace, CloseBrace}
+use Rattle.syntax.specs.Trees as trees
+use Rattle.syntax.specs.declared.tree.Relation.TheVariants as relations
+use Rattle.syntax.specs.Trees.{Turn}
+use Rattle.phrase.specs.Steps.{Told, ◌>>=◌, if_some, next_is, accept_at, expect_at, Here}
+use Rattle.phrase.specs.declared.fault.Problem.{Problem}
+use Rattle.phrase.specs.declared.fault.Problem.TheVariants.{Syntax, TooMany, LoopWithoutSync}
+use Rattle.grammar.specs.Written as written
+use Rattle.grammar.specs.Written.{stmt_tokens, body_tokens, block_tokens}
+use Rattle.grammar.proofs.Fronts.{accept_ok, expect_found}
+use Rattle.block.specs.Blocks.{ReadsStmt, is_no_sync, as_sync, no_sync, turn_rest_with, turn_with}
+use Rattle.block.specs.declared.process.Loops.TheVariants.{Allowed}
+use Rattle.faults.specs.Laws.{Any}
+use Rattle.faults.specs.Notes.{Note, SameFront, first_fault, also, plain}
+use Rattle.faults.specs.BlockNotes.{loop_note, stmt_after, block_after, begins_with_sync, if_no_sync, stmt_notes, body_notes}
+use Rattle.faults.proofs.Facts.{Lang, Facts, Fine, Bad, Whole, Stops, Noted, Both, LooksInFront, seq, then, turned, instead, either, choose, next_same, one_clean, stops_at_once, bad_back, stops_back}
+use Rattle.faults.proofs.Words.{some_room, plain_left, no_next, first_is, word, expect_facts}
+use Rattle.faults.proofs.Lists.{also_shape}
+use Rattle.faults.proofs.Shapes.{turn_shape, stmt_shape, body_shape}
+use Rattle.faults.proofs.Stmts.{StmtRead, TurnRead, stmt_lang, turn_lang, body_lang, body_facts}
+
+-- BODIES THAT BEGIN WITH NO SYNC
+
+no_sync_looks : LooksInFront is_no_sync
+unfolding is_no_sync
+no_sync_looks a b h =
+    rw (next_same CloseBrace a b h, next_same Let a b h, next_same Print a b h, next_same If a b h, next_same Loop a b h, next_same Forever a b h, next_same End a b h) refl
+
+no_sync_starts : (b : written.Block) (rest : List Token) → begins_with_sync b ≡ false → is_no_sync (body_tokens b rest) ≡ true
+unfolding is_no_sync next_is
+no_sync_starts written.Done rest e = refl
+no_sync_starts (written.Then (written.Let name value) others) rest e = refl
+no_sync_starts (written.Then (written.Print value) others) rest e = refl
+no_sync_starts (written.Then (written.Sync names event) others) rest e = absurd cc
+no_sync_starts (written.Then (written.If test first second) others) rest e = refl
+no_sync_starts (written.Then (written.Loop times body) others) rest e = refl
+no_sync_starts (written.Then (written.Forever body) others) rest e = refl
+no_sync_starts (written.Then written.End others) rest e = refl
+
+sync_starts : (names : List (List ℕ)) (event : written.Event) (rest : List Token) → is_no_sync (stmt_tokens (written.Sync names event) rest) ≡ false
+unfolding is_no_sync next_is
+sync_starts [] event rest = refl
+sync_starts (name ∷ names) event rest = refl
+
+-- the first note of such a body is that of a plain token
+record PlainFirst (r : ℕ) (notes : List Note) : Type 0 where
+  others : List Note
+  is : notes ≡ plain r ∷ others
+
+no_sync_notes : (b : written.Block) (r : ℕ) (h : Here) → begins_with_sync b ≡ false → PlainFirst r (body_notes true r h b)
+unfolding body_notes stmt_notes loop_note
+no_sync_notes written.Done r h e = record { others = _; is = refl }
+no_sync_notes (written.Then (written.Let name value) others) r h e = record { others = _; is = refl }
+no_sync_notes (written.Then (written.Print value) others) r h e = record { others = _; is = refl }
+no_sync_notes (written.Then (written.Sync names event) others) r h e = absurd cc
+no_sync_notes (written.Then (written.If test first second) others) r h e = record { others = _; is = refl }
+no_sync_notes (written.Then (written.Loop times body) others) r h e = record { others = _; is = refl }
+no_sync_notes (written.Then (written.Forever body) others) r h e = record { others = _; is = refl }
+no_sync_notes (written.Then written.End others) r h e = record { others = _; is = refl }
+
+-- of tokens in front of which none of these stands, such a body
+record NoSyncFront (ts : List Token) : Type 0 where
+  body : written.Block
+  none : begins_with_sync body ≡ false
+  front : (rest : List Token) → SameFront ts (body_tokens body rest)
+
+in_front_of : (symbol : Symbol) (ts us : List Token) → next_is symbol ts ≡ true → SameFront ts (Fixed symbol ∷ us)
+in_front_of symbol [] us e = absurd (no_next symbol e)
+in_front_of symbol (t ∷ ts) us e = first_is symbol t ts e
+
+either_true : (a b : Bool) → (a || b) ≡ true → (a ≡ true) ⊎ (b ≡ true)
+either_true true b e = inl refl
+either_true false b e = inr e
+
+zero_value : written.Expr
+zero_value = record { first = written.OfNumber 0; more = written.NoMore }
+
+zero_test : written.Test
+zero_test = record { left = zero_value; relation = relations.Equal; right = zero_value }
+
+no_sync_front : (ts : List Token) → is_no_sync ts ≡ true → NoSyncFront ts
+unfolding is_no_sync
+no_sync_front ts e =
+    ⊎_elim (λ a. record { body = written.Done; none = refl; front = λ rest. in_front_of CloseBrace ts _ a })
+    (λ e. ⊎_elim (λ a. record { body = written.Then (written.Let [] zero_value) written.Done; none = refl; front = λ rest. in_front_of Let ts _ a })
+    (λ e. ⊎_elim (λ a. record { body = written.Then (written.Print zero_value) written.Done; none = refl; front = λ rest. in_front_of Print ts _ a })
+    (λ e. ⊎_elim (λ a. record { body = written.Then (written.If zero_test written.Done written.Done) written.Done; none = refl; front = λ rest. in_front_of If ts _ a })
+    (λ e. ⊎_elim (λ a. record { body = written.Then (written.Loop 0 written.Done) written.Done; none = refl; front = λ rest. in_front_of Loop ts _ a })
+    (λ e. ⊎_elim (λ a. record { body = written.Then (written.Forever written.Done) written.Done; none = refl; front = λ rest. in_front_of Forever ts _ a })
+    (λ a. record { body = written.Then written.End written.Done; none = refl; front = λ rest. in_front_of End ts _ a })
+    (either_true _ _ e)) (either_true _ _ e)) (either_true _ _ e)) (either_true _ _ e)) (either_true _ _ e)) (either_true _ _ e)
+
+-- THE FAULT AT THE FIRST TOKEN
+
+-- too deep, or the loop's
+fault_behind : ℕ → ℕ → Problem × ℕ
+fault_behind zero back = (TooMany, 0)
+fault_behind (suc r) back = (LoopWithoutSync, back)
+
+also_behind : (r back : ℕ) (notes : List Note) → also (LoopWithoutSync, back) (plain r ∷ notes) ≡ Some (fault_behind r back) ∷ notes
+unfolding plain fault_behind
+also_behind zero back notes = refl
+also_behind (suc r) back notes = ap (λ (n : Note). also (LoopWithoutSync, back) (n ∷ notes)) (plain_left r)
+
+abbrev no_sync_reader : ℕ → ℕ → List Token → Result TurnRead Told
+no_sync_reader r back ts = accept_at r ts >>= λ rest. no_sync (back + length ts)
+
+told_behind : (r back : ℕ) (t : Token) (ts : List Token) → no_sync_reader r back (t ∷ ts) ≡ Err ((fault_behind r back).0, (fault_behind r back).1 + length (t ∷ ts))
+unfolding accept_at fault_behind
+told_behind zero back t ts = (let n = length ts in let same : suc n ≡ 0 + suc n = omega arith in ap (λ (m : ℕ). Err (TooMany, m)) same)
+told_behind (suc r) back t ts = ap (λ (x : Result (List Token) Told). ◌>>=◌ {B = TurnRead} x (λ rest. no_sync (back + length (t ∷ ts)))) (accept_ok (suc r) t ts (omega arith))
+
+told_no_sync : (r back : ℕ) (ts : List Token) → is_no_sync ts ≡ true → no_sync_reader r back ts ≡ Err ((fault_behind r back).0, (fault_behind r back).1 + length ts)
+unfolding is_no_sync next_is
+told_no_sync r back [] e = absurd cc
+told_no_sync r back (t ∷ ts) e = told_behind r back t ts
+
+abbrev no_sync_lang : ℕ → ℕ → Here → Lang Turn TurnRead Any
+no_sync_lang r back h = record {
+  W = (b : written.Block) × (begins_with_sync b ≡ false);
+  default = (written.Done, refl);
+  spell = λ w. body_tokens w.0;
+  notes = λ w. also (LoopWithoutSync, back) (body_notes true r h w.0);
+  join = λ w x rest. (x, block_after h w.0, rest);
+  shape = λ w. also_shape (LoopWithoutSync, back) (body_tokens w.0) _ (body_shape w.0 true r h);
+}
+
+no_sync_noted : (r back : ℕ) (h : Here) (b : written.Block) → begins_with_sync b ≡ false → Noted (also (LoopWithoutSync, back) (body_notes true r h b)) (fault_behind r back)
+no_sync_noted r back h b e = (let p = no_sync_notes b r h e in record { others = p.others; is = ap (also (LoopWithoutSync, back)) p.is ∙ also_behind r back p.others })
+
+no_sync_facts : (r back : ℕ) (h : Here) → Facts (Both Any is_no_sync true) (no_sync_lang r back h) (no_sync_reader r back)
+no_sync_facts r back h = record {
+  reads = λ w. inr (bad_back (no_sync_lang r back h) (no_sync_reader r back) w (fault_behind r back) (no_sync_noted r back h w.0 w.1) (λ rest. told_no_sync r back (body_tokens w.0 rest) (no_sync_starts w.0 rest w.1)));
+  takes = λ ts p.
+      let f = no_sync_front ts p.1 in
+      inr (stops_back (no_sync_lang r back h) (no_sync_reader r back) ts (fault_behind r back) (f.body, f.none) (λ others k. told_no_sync r back others (sym (no_sync_looks ts others k) ∙ p.1)) (inr (no_sync_noted r back h f.body f.none, f.front)));
+}
+
+-- the body of a loop, so many tokens behind whose word a fault stands at its first token
+abbrev loop_lang : ℕ → ℕ → Here → Lang Turn TurnRead Any
+loop_lang r back h = record {
+  W = written.Block;
+  default = written.Done;
+  spell = body_tokens;
+  notes = λ w. if_no_sync (begins_with_sync w) back (body_notes true r h w);
+  join = λ w x rest. (x, block_after h w, rest);
+  shape = λ w. turn_shape (begins_with_sync w) back (body_tokens w) _ (body_shape w true r h);
+}
+
+-- BODIES THAT BEGIN WITH A SYNC
+
+-- a statement that is a sync
+pub record IsSync (x : trees.Stmt) : Type 0 where
+  pub sync : Option (List ℕ) × trees.Event
+  pub is : as_sync x ≡ Some sync
+
+record WritesSync (w : written.Stmt) : Type 0 where
+  names : List (List ℕ)
+  event : written.Event
+  is : w ≡ written.Sync names event
+
+writes_sync : (w : written.Stmt) (rest : List Token) → is_no_sync (stmt_tokens w rest) ≡ false → WritesSync w
+unfolding is_no_sync next_is
+writes_sync (written.Let name value) rest e = absurd cc
+writes_sync (written.Print value) rest e = absurd cc
+writes_sync (written.Sync names event) rest e = record { names = names; event = event; is = refl }
+writes_sync (written.If test first second) rest e = absurd cc
+writes_sync (written.Loop times body) rest e = absurd cc
+writes_sync (written.Forever body) rest e = absurd cc
+writes_sync written.End rest e = absurd cc
+
+abbrev SyncRead : Type 0
+SyncRead = (Option (List ℕ) × trees.Event) × Here × List Token
+
+abbrev sync_lang : ℕ → Here → Lang (Option (List ℕ) × trees.Event) SyncRead Any
+sync_lang r h = record {
+  W = List (List ℕ) × written.Event;
+  default = ([], written.Never);
+  spell = λ w. stmt_tokens (written.Sync w.0 w.1);
+  notes = λ w. stmt_notes true r h (written.Sync w.0 w.1);
+  join = λ w x rest. (x, stmt_after h (written.Sync w.0 w.1), rest);
+  shape = λ w. stmt_shape (written.Sync w.0 w.1) true r h;
+}
+
+-- what reads a statement that is a sync where it begins as one
+abbrev pub SyncsRead : ReadsStmt → Type 0
+SyncsRead stmt = (h : Here) (ts : List Token) (y : StmtRead) → is_no_sync ts ≡ false → stmt Allowed h ts ≡ Ok y → IsSync y.0
+
+-- what is read behind the brace of a loop, from whose word on so many tokens are left
+abbrev behind_brace : ReadsStmt → ℕ → ℕ → Here → List Token → Result TurnRead Told
+behind_brace stmt room word h ts =
+    cond (is_no_sync ts) (accept_at (room - 1) ts >>= λ rest. no_sync word) (stmt Allowed h ts >>= λ first. if_some (as_sync first.0) (λ sync. turn_rest_with stmt room sync first.1 first.2) (no_sync word))
+
+module _ (stmt : ReadsStmt) (room back : ℕ) (stmts : (h : Here) → Facts Any (stmt_lang true (room - 1) h) (stmt Allowed h)) (ends : (h : Here) → stmt Allowed h [] ≡ Err (Syntax, 0)) (syncs : SyncsRead stmt) where
+  abbrev r : ℕ
+  r = room - 1
+
+  abbrev as_read : ℕ → StmtRead → Result SyncRead Told
+  as_read word first = if_some (as_sync first.0) (λ sync. Ok (sync, first.1, first.2)) (no_sync word)
+
+  abbrev sync_reader : Here → List Token → Result SyncRead Told
+  sync_reader h ts = stmt Allowed h ts >>= as_read (back + length ts)
+
+  sync_read : (h : Here) (ts : List Token) (y : StmtRead) (s : IsSync y.0) → stmt Allowed h ts ≡ Ok y → sync_reader h ts ≡ Ok (s.sync, y.1, y.2)
+  sync_read h ts y s e = ap (λ (x : Result StmtRead Told). x >>= as_read (back + length ts)) e ∙ ap (λ (o : Option (Option (List ℕ) × trees.Event)). if_some o (λ sync. Ok (sync, y.1, y.2)) (no_sync (back + length ts))) s.is
+
+  sync_fails : (h : Here) (ts : List Token) (t : Told) → stmt Allowed h ts ≡ Err t → sync_reader h ts ≡ Err t
+  sync_fails h ts t e = ap (λ (x : Result StmtRead Told). x >>= as_read (back + length ts)) e
+
+  sync_reads : (h : Here) (w : (sync_lang r h).W) → Fine (sync_lang r h) (sync_reader h) w ⊎ Bad (sync_lang r h) (sync_reader h) w
+  sync_reads h w = ⊎_elim
+      (λ one.
+      let s = syncs h (stmt_tokens (written.Sync w.0 w.1) []) (one.value, stmt_after h (written.Sync w.0 w.1), []) (sync_starts w.0 w.1 []) (one.reads [] tt) in
+      inl (record { clean = one.clean; value = s.sync; reads = λ rest e. sync_read h (stmt_tokens (written.Sync w.0 w.1) rest) (one.value, stmt_after h (written.Sync w.0 w.1), rest) (record { sync = s.sync; is = s.is }) (one.reads rest tt) }))
+      (λ one. inr (record { told = one.told; is = one.is; fails = λ rest e. sync_fails h (stmt_tokens (written.Sync w.0 w.1) rest) _ (one.fails rest tt) }))
+      ((stmts h).reads (written.Sync w.0 w.1))
+
+  sync_whole : (h : Here) (ts : List Token) → is_no_sync ts ≡ false → Whole (stmt_lang true r h) ts → Whole (sync_lang r h) ts
+  sync_whole h ts e one =
+      let k = writes_sync one.w one.rest (ap is_no_sync (sym one.is) ∙ e) in
+      record {
+        w = (k.names, k.event);
+        rest = one.rest;
+        is = one.is ∙ ap (λ (x : written.Stmt). stmt_tokens x one.rest) k.is;
+        clean = ap (λ (x : written.Stmt). first_fault (stmt_notes true r h x)) (sym k.is) ∙ one.clean;
+        ends = tt;
+      }
+
+  sync_stops : (h : Here) (ts : List Token) (s : Stops (stmt_lang true r h) (stmt Allowed h) ts) → WritesSync s.w → Stops (sync_lang r h) (sync_reader h) ts
+  sync_stops h ts s k = record {
+    problem = s.problem;
+    back = s.back;
+    before = s.before;
+    behind = s.behind;
+    is = s.is;
+    same = λ others i. sync_fails h (s.before ++ others) _ (s.same others i);
+    w = (k.names, k.event);
+    more = s.more;
+    begins = λ rest. ap (λ (x : written.Stmt). stmt_tokens x rest) (sym k.is) ∙ s.begins rest;
+    first = s.first;
+    last = s.last;
+    parts = ap (λ (x : written.Stmt). stmt_notes true r h x) (sym k.is) ∙ s.parts;
+    count = s.count;
+    clean = s.clean;
+    reach = s.reach;
+  }
+
+  -- a stop at the token in front, which begins no sync
+  front_stops : (h : Here) (ts : List Token) (s : Stops (stmt_lang true r h) (stmt Allowed h) ts) → s.before ≡ [] → s.problem ≡ Syntax → s.back ≡ 0 → Stops (sync_lang r h) (sync_reader h) ts
+  front_stops h ts s front syntax none = stops_at_once (sync_lang r h) (sync_reader h) ts at
+    where
+      at : (others : List Token) → SameFront ts others → sync_reader h others ≡ Err (Syntax, length others)
+      at others k =
+          let here' : SameFront s.behind others = subst (λ (x : List Token). SameFront x others) (s.is ∙ ap (λ (x : List Token). x ++ s.behind) front) k in
+          let n = length others in
+          let told : ◌≡◌ {A = Told} (s.problem, s.back + n) (Syntax, n) = ap₂ (λ (x : Problem) (y : ℕ). (x, y)) syntax (let is : s.back + n ≡ n = omega (arith, none) in is) in
+          sync_fails h others (Syntax, n) (ap (λ (x : List Token). stmt Allowed h (x ++ others)) (sym front) ∙ s.same others here' ∙ ap (λ (t : Told). Err t) told)
+
+  at_front : (h : Here) (ts : List Token) (s : Stops (stmt_lang true r h) (stmt Allowed h) ts) → is_no_sync ts ≡ false → (before : List Token) → s.before ≡ before → Stops (sync_lang r h) (sync_reader h) ts
+  at_front h ts s e [] front = ⊎_elim
+      (λ syntax. front_stops h ts s front syntax.0 syntax.1)
+      (λ reach.
+      let start : s.more [] ≡ stmt_tokens s.w [] = ap (λ (x : List Token). x ++ s.more []) (sym front) ∙ sym (s.begins []) in
+      let whole : ts ≡ s.behind = s.is ∙ ap (λ (x : List Token). x ++ s.behind) front in
+      sync_stops h ts s (writes_sync s.w [] (ap is_no_sync (sym start) ∙ sym (no_sync_looks s.behind (s.more []) (reach.1 [])) ∙ ap is_no_sync (sym whole) ∙ e)))
+      s.reach
+  at_front h ts s e (t ∷ before) front =
+      let start : stmt_tokens s.w [] ≡ t ∷ (before ++ s.more []) = s.begins [] ∙ ap (λ (x : List Token). x ++ s.more []) front in
+      let whole : ts ≡ t ∷ (before ++ s.behind) = s.is ∙ ap (λ (x : List Token). x ++ s.behind) front in
+      sync_stops h ts s (writes_sync s.w [] (ap is_no_sync start ∙ no_sync_looks (t ∷ (before ++ s.more [])) (t ∷ (before ++ s.behind)) refl ∙ ap is_no_sync (sym whole) ∙ e))
+
+  sync_facts : (h : Here) → Facts (Both Any is_no_sync false) (sync_lang r h) (sync_reader h)
+  sync_facts h = record {
+    reads = sync_reads h;
+    takes = λ ts p. ⊎_elim (λ one. inl (sync_whole h ts p.1 one)) (λ s. inr (at_front h ts s p.1 s.before refl)) ((stmts h).takes ts tt);
+  }
+
+  abbrev rest_reader : SyncRead → Result TurnRead Told
+  rest_reader s = turn_rest_with stmt room s.0 s.1 s.2
+
+  abbrev begun_lang : Here → Lang Turn TurnRead Any
+  begun_lang h = seq (sync_lang r h) (λ w. body_lang true r (stmt_after h (written.Sync w.0 w.1)))
+
+  begun_facts : (h : Here) → Facts (Both Any is_no_sync false) (begun_lang h) (λ ts. sync_reader h ts >>= rest_reader)
+  unfolding turn_rest_with
+  begun_facts h =
+      then (sync_lang r h) (λ w. body_lang true r (stmt_after h (written.Sync w.0 w.1))) (sync_reader h) rest_reader (sync_facts h)
+      (λ w x c. body_facts stmt r Allowed stmts ends (λ (b : trees.Block). record { names = x.0; event = x.1; rest = b }) (stmt_after h (written.Sync w.0 w.1)))
+
+  -- EITHER
+
+  abbrev parts : Here → Lang Turn TurnRead Any
+  parts h = either (no_sync_lang r back h) (begun_lang h)
+
+  abbrev parts_reader : Here → List Token → Result TurnRead Told
+  parts_reader h ts = cond (is_no_sync ts) (no_sync_reader r back ts) (sync_reader h ts >>= rest_reader)
+
+  parts_facts : (h : Here) → Facts Any (parts h) (parts_reader h)
+  parts_facts h =
+      choose is_no_sync no_sync_looks (no_sync_lang r back h) (begun_lang h) (no_sync_reader r back) (λ ts. sync_reader h ts >>= rest_reader) (λ w rest e. no_sync_starts w.0 rest w.1) (λ w rest e. sync_starts w.0.0 w.0.1 _)
+      (no_sync_facts r back h) (begun_facts h)
+
+  abbrev BodyParts : Type 0
+  BodyParts = ((b : written.Block) × (begins_with_sync b ≡ false)) ⊎ ((List (List ℕ) × written.Event) × written.Block)
+
+  abbrev to_body : BodyParts → written.Block
+  to_body (inl w) = w.0
+  to_body (inr w) = written.Then (written.Sync w.0.0 w.0.1) w.1
+
+  abbrev from_body : written.Block → BodyParts
+  from_body written.Done = inl (written.Done, refl)
+  from_body (written.Then (written.Let name value) others) = inl (written.Then (written.Let name value) others, refl)
+  from_body (written.Then (written.Print value) others) = inl (written.Then (written.Print value) others, refl)
+  from_body (written.Then (written.Sync names event) others) = inr ((names, event), others)
+  from_body (written.Then (written.If test first second) others) = inl (written.Then (written.If test first second) others, refl)
+  from_body (written.Then (written.Loop times body) others) = inl (written.Then (written.Loop times body) others, refl)
+  from_body (written.Then (written.Forever body) others) = inl (written.Then (written.Forever body) others, refl)
+  from_body (written.Then written.End others) = inl (written.Then written.End others, refl)
+
+  parts_spell_to : (h : Here) (w : BodyParts) (rest : List Token) → body_tokens (to_body w) rest ≡ (parts h).spell w rest
+  parts_spell_to h (inl w) rest = refl
+  parts_spell_to h (inr w) rest = refl
+
+  parts_notes_to : (h : Here) (w : BodyParts) → (loop_lang r back h).notes (to_body w) ≡ (parts h).notes w
+  unfolding body_notes
+  parts_notes_to h (inl w) = ap (λ (x : Bool). if_no_sync x back (body_notes true r h w.0)) w.1
+  parts_notes_to h (inr w) = refl
+
+  parts_spell_from : (h : Here) (w : written.Block) (rest : List Token) → body_tokens w rest ≡ (parts h).spell (from_body w) rest
+  parts_spell_from h written.Done rest = refl
+  parts_spell_from h (written.Then (written.Let name value) others) rest = refl
+  parts_spell_from h (written.Then (written.Print value) others) rest = refl
+  parts_spell_from h (written.Then (written.Sync names event) others) rest = refl
+  parts_spell_from h (written.Then (written.If test first second) others) rest = refl
+  parts_spell_from h (written.Then (written.Loop times body) others) rest = refl
+  parts_spell_from h (written.Then (written.Forever body) others) rest = refl
+  parts_spell_from h (written.Then written.End others) rest = refl
+
+  parts_notes_from : (h : Here) (w : written.Block) → (loop_lang r back h).notes w ≡ (parts h).notes (from_body w)
+  unfolding body_notes
+  parts_notes_from h written.Done = refl
+  parts_notes_from h (written.Then (written.Let name value) others) = refl
+  parts_notes_from h (written.Then (written.Print value) others) = refl
+  parts_notes_from h (written.Then (written.Sync names event) others) = refl
+  parts_notes_from h (written.Then (written.If test first second) others) = refl
+  parts_notes_from h (written.Then (written.Loop times body) others) = refl
+  parts_notes_from h (written.Then (written.Forever body) others) = refl
+  parts_notes_from h (written.Then written.End others) = refl
+
+  parts_joined : (h : Here) (w : written.Block) (x : Turn) (rest : List Token) → (parts h).join (from_body w) x rest ≡ (x, block_after h w, rest)
+  unfolding block_after
+  parts_joined h written.Done x rest = refl
+  parts_joined h (written.Then (written.Let name value) others) x rest = refl
+  parts_joined h (written.Then (written.Print value) others) x rest = refl
+  parts_joined h (written.Then (written.Sync names event) others) x rest = refl
+  parts_joined h (written.Then (written.If test first second) others) x rest = refl
+  parts_joined h (written.Then (written.Loop times body) others) x rest = refl
+  parts_joined h (written.Then (written.Forever body) others) x rest = refl
+  parts_joined h (written.Then written.End others) x rest = refl
+
+  pub loop_body_facts : (h : Here) → Facts Any (loop_lang r back h) (parts_reader h)
+  loop_body_facts h = turned (parts h) (loop_lang r back h) (parts_reader h) (parts_reader h) (record {
+    to = to_body;
+    spell_to = parts_spell_to h;
+    notes_to = parts_notes_to h;
+    from = from_body;
+    spell_from = parts_spell_from h;
+    notes_from = parts_notes_from h;
+    value = λ w x. x;
+    oks = λ ts w x rest e. e ∙ ap (λ (y : TurnRead). Ok y) (parts_joined h w x rest);
+    errs = λ ts t e. e;
+  }) (parts_facts h)
+
+  pub brace_is : (h : Here) (ts : List Token) → parts_reader h ts ≡ behind_brace stmt room (back + length ts) h ts
+  brace_is h ts = ap (λ (x : Result TurnRead Told). cond (is_no_sync ts) (no_sync_reader r back ts) x) (at_stmt (stmt Allowed h ts))
+    where
+      at_sync : (first : StmtRead) (o : Option (Option (List ℕ) × trees.Event)) → (◌>>=◌ {A = SyncRead} (if_some o (λ sync. Ok (sync, first.1, first.2)) (no_sync (back + length ts))) rest_reader) ≡ if_some o (λ sync. turn_rest_with stmt room sync first.1 first.2) (no_sync (back + length ts))
+      at_sync first (Some sync) = refl
+      at_sync first None = refl
+
+      at_stmt : (x : Result StmtRead Told) → ((x >>= as_read (back + length ts)) >>= rest_reader) ≡ (x >>= λ first. if_some (as_sync first.0) (λ sync. turn_rest_with stmt room sync first.1 first.2) (no_sync (back + length ts)))
+      at_stmt (Ok first) = at_sync first (as_sync first.0)
+      at_stmt (Err t) = refl
+
+-- THE BLOCK OF A LOOP
+
+turn_is : (stmt : ReadsStmt) (room k : ℕ) (h : Here) (us : List Token) → (expect_at room OpenBrace us >>= λ rest. behind_brace stmt room (suc k + length rest) h rest) ≡ turn_with stmt room (k + length us) h us
+unfolding turn_with
+turn_is stmt room k h us = at_brace (expect_at room OpenBrace us) (λ rest e. (let taken = expect_found room OpenBrace us rest e in let size = ap length taken.is in omega (arith, size)))
+  where
+    at_brace : (x : Result (List Token) Told) → ((rest : List Token) → x ≡ Ok rest → suc k + length rest ≡ k + length us) → (x >>= λ rest. behind_brace stmt room (suc k + length rest) h rest) ≡ (x >>= λ rest. behind_brace stmt room (k + length us) h rest)
+    at_brace (Ok rest) e = ap (λ (n : ℕ). behind_brace stmt room n h rest) (e rest refl)
+    at_brace (Err t) e = refl
+
+module _ (stmt : ReadsStmt) (room : ℕ) (stmts : 0 < room → (h : Here) → Facts Any (stmt_lang true (room - 1) h) (stmt Allowed h)) (ends : (h : Here) → stmt Allowed h [] ≡ Err (Syntax, 0)) (syncs : SyncsRead stmt) where
+  abbrev turn_parts : ℕ → Here → Lang Turn TurnRead Any
+  turn_parts k h = seq (word OpenBrace room) (λ w. loop_lang (room - 1) (suc k) h)
+
+  turn_reads : (k : ℕ) (h : Here) → Facts Any (turn_parts k h) (λ us. expect_at room OpenBrace us >>= λ rest. behind_brace stmt room (suc k + length rest) h rest)
+  turn_reads k h =
+      then (word OpenBrace room) (λ w. loop_lang (room - 1) (suc k) h) (λ us. expect_at room OpenBrace us) (λ rest. behind_brace stmt room (suc k + length rest) h rest) (expect_facts room OpenBrace)
+      (λ w x clean.
+      let some = stmts (some_room room (one_clean (plain room) clean)) in
+      instead (loop_lang (room - 1) (suc k) h) _ (λ rest. behind_brace stmt room (suc k + length rest) h rest) (brace_is stmt room (suc k) some ends syncs h) (loop_body_facts stmt room (suc k) some ends syncs h))
+
+  pub turn_facts : (k : ℕ) (h : Here) → Facts Any (turn_lang (suc k) room h) (λ us. turn_with stmt room (k + length us) h us)
+  turn_facts k h = turned (turn_parts k h) (turn_lang (suc k) room h) (λ us. expect_at room OpenBrace us >>= λ rest. behind_brace stmt room (suc k + length rest) h rest) (λ us. turn_with stmt room (k + length us) h us) (record {
+    to = λ w. w.1;
+    spell_to = λ w rest. refl;
+    notes_to = λ w. refl;
+    from = λ w. (tt, w);
+    spell_from = λ w rest. refl;
+    notes_from = λ w. refl;
+    value = λ w x. x;
+    oks = λ ts w x rest e. sym (turn_is stmt room k h ts) ∙ e;
+    errs = λ ts t e. sym (turn_is stmt room k h ts) ∙ e;
+  }) (turn_reads k h)
