@@ -1,12 +1,12 @@
 -- Stamps rise in each thread.
-use Rattle.std.proofs.Common.{◌≡◌, ◌⊎◌, ℕ, zero, suc, ◌+◌, ◌<◌, ◌≤◌, List, [], ◌∷◌, length, take, get_or, slice_get, Some, Contains, refl, sym, ap, ◌∙◌, subst, arith, inl, inr, ⊎_elim}
+use Rattle.std.proofs.Common.{◌≡◌, ℕ, ◌<◌, List, length, take, slice_get, Some, Contains, sym, ◌∙◌, subst, arith, inl, inr, ⊎_elim}
 use Rattle.std.proofs.lemmas.Bool.{cases_order}
 use Rattle.std.proofs.lemmas.List.{length-take-le, get_or-take}
 use Rattle.std.proofs.lemmas.Option.{slice_get_within, get_or_from_slice_get}
 use Rattle.syntax.specs.Processes.{Proc}
 use Rattle.words.specs.declared.Commit.{Commit}
 use Rattle.words.specs.declared.Commit.TheVariants.{Pair, Alone}
-use Rattle.sequential.specs.Runs.{Config, CountsFor, HasThread, Follows, IsRun, config_of, stamp_of}
+use Rattle.sequential.specs.Runs.{Config, CountsFor, HasThread, config_of}
 use Rattle.order.specs.Laws.{StampsRise, OneStampOneThread}
 
 -- an earlier commit of one of its threads counts for a commit
