@@ -3,3 +3,7 @@ pub mod Deciding
 pub mod Swapping
 pub mod Keys
 pub mod Runs
+pub mod Exchanging
+pub mod Sorting
+pub mod Unique
+pub mod Ordering

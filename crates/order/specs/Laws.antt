@@ -1,17 +1,42 @@
 -- Laws of runs.
-use Rattle.std.specs.Prelude.{◌≡◌, ℕ, ◌<◌, List, Some, slice_get}
+use Rattle.std.specs.Prelude.{◌≡◌, ℕ, ◌<◌, List, Some, slice_get, IsPermutation}
 use Rattle.syntax.specs.Processes.{Proc}
 use Rattle.words.specs.declared.Commit.{Commit}
-use Rattle.sequential.specs.Runs.{HasThread, IsRun, stamp_of}
+use Rattle.protocol.specs.Ledgers.{IsInOrder}
+use Rattle.sequential.specs.Runs.{HasThread, IsRun, config_of, stamp_of}
+
+-- STAMPS
 
 -- of two commits of one thread the later has the greater stamp
 abbrev pub StampsRise : Type 0
-StampsRise = (ps : List Proc) (rows : ℕ) (journal : List Commit) → IsRun ps rows journal →
+StampsRise =
+    (ps : List Proc) (rows : ℕ) (journal : List Commit) → IsRun ps rows journal →
     (i j : ℕ) (c d : Commit) (t : ℕ) → slice_get journal i ≡ Some c → slice_get journal j ≡ Some d → i < j →
     HasThread c t → HasThread d t → stamp_of c < stamp_of d
 
 -- two commits of one stamp share no thread
 abbrev pub OneStampOneThread : Type 0
-OneStampOneThread = (ps : List Proc) (rows : ℕ) (journal : List Commit) → IsRun ps rows journal →
+OneStampOneThread =
+    (ps : List Proc) (rows : ℕ) (journal : List Commit) → IsRun ps rows journal →
     (i j : ℕ) (c d : Commit) (t : ℕ) → slice_get journal i ≡ Some c → slice_get journal j ≡ Some d →
     HasThread c t → HasThread d t → stamp_of c ≡ stamp_of d → i ≡ j
+
+-- THE JOURNAL'S ORDER: by stamp, and then by the thread named first
+
+-- the commits of a run in this order are a run too, and lead to the same configuration
+abbrev pub OrderedIsRun : Type 0
+OrderedIsRun =
+    (ps : List Proc) (rows : ℕ) (commits ordered : List Commit) → IsRun ps rows commits →
+    IsPermutation commits ordered → IsInOrder ordered → IsRun ps rows ordered × (config_of ordered ≡ config_of commits)
+
+-- the commits of a run can be put in this order
+abbrev pub HasOrder : Type 0
+HasOrder =
+    (ps : List Proc) (rows : ℕ) (commits : List Commit) → IsRun ps rows commits →
+    (ordered : List Commit) × IsPermutation commits ordered × IsInOrder ordered
+
+-- in one way
+abbrev pub OneOrder : Type 0
+OneOrder =
+    (ps : List Proc) (rows : ℕ) (commits first second : List Commit) → IsRun ps rows commits →
+    IsPermutation commits first → IsInOrder first → IsPermutation commits second → IsInOrder second → first ≡ second
