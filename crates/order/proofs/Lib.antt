@@ -7,3 +7,5 @@ pub mod Exchanging
 pub mod Sorting
 pub mod Unique
 pub mod Ordering
+pub mod Results
+pub mod Sending

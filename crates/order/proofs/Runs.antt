@@ -13,9 +13,9 @@ abbrev pub RunsOn : List Proc → ℕ → List Commit → List Commit → Type 0
 RunsOn ps rows earlier [] = ⊤
 RunsOn ps rows earlier (c ∷ cs) = Follows ps rows earlier c × RunsOn ps rows (more earlier c) cs
 
-in-the-middle : (xs ys : List Commit) (c : Commit) → slice_get (xs ++ c ∷ ys) (length xs) ≡ Some c
-in-the-middle [] ys c = refl
-in-the-middle (x ∷ xs) ys c = in-the-middle xs ys c
+pub in-the-middle : {A : Type 0} (xs ys : List A) (x : A) → slice_get (xs ++ x ∷ ys) (length xs) ≡ Some x
+in-the-middle [] ys x = refl
+in-the-middle (y ∷ xs) ys x = in-the-middle xs ys x
 
 pub runs-on : (ps : List Proc) (rows : ℕ) (earlier cs : List Commit) → IsRun ps rows (earlier ++ cs) → RunsOn ps rows earlier cs
 runs-on ps rows earlier [] run = tt

@@ -23,7 +23,7 @@ use Rattle.order.proofs.Stamps.{counts}
 
 -- WHAT A COMMIT DOES TO A THREAD
 
-result-at : (t u : ℕ) (r : Chosen) (config : Config) → u ≡ t → with_result t r config u ≡ config u ++ r ∷ []
+pub result-at : (t u : ℕ) (r : Chosen) (config : Config) → u ≡ t → with_result t r config u ≡ config u ++ r ∷ []
 result-at t u r config e = ap (λ (b : Bool). cond b (config u ++ r ∷ []) (config u)) (eq-eqb u t e)
 
 pub applied-other : (config : Config) (c : Commit) (t : ℕ) → (HasThread c t → ⊥) → applied config c t ≡ config t
@@ -45,34 +45,41 @@ next-of ps rows config at (cause.Nack n) h = h.0.next
 row-at : (config : Config) (at : Row × ℕ) (t : ℕ) → t ≡ at.0.thread → at.0.sync ≡ length (config at.0.thread) → at.0.sync ≡ length (config t)
 row-at config at t e next = next ∙ ap (λ (u : ℕ). length (config u)) (sym e)
 
-pub touches : (ps : List Proc) (rows : ℕ) (config : Config) (c : Commit) (t : ℕ) → IsLegal ps rows config c → (applied config c t ≡ config t) ⊎ Grew config c t
-touches ps rows config (Pair sender receiver chan msg stamp) t legal =
+pub grows : (ps : List Proc) (rows : ℕ) (config : Config) (c : Commit) (t : ℕ) → IsLegal ps rows config c → HasThread c t → Grew config c t
+grows ps rows config (Pair sender receiver chan msg stamp) t legal has =
     let s = sender.0.thread in
     let u = receiver.0.thread in
     ⊎_elim
-    (λ e. inr (record {
-      result = (receiver.1, msg);
-      is = result-at u t (receiver.1, msg) (with_result s (sender.1, Empty) config) e
-          ∙ ap (λ (rs : List Chosen). rs ++ (receiver.1, msg) ∷ []) (result-other s t (sender.1, Empty) config (λ same. legal.0 (sym same ∙ e)));
-      row = inr (sym e, row-at config receiver t e legal.2.next);
-    }))
-    (λ ne. ⊎_elim
-    (λ e. inr (record {
+    (λ e. record {
       result = (sender.1, Empty);
-      is = result-other u t (receiver.1, msg) (with_result s (sender.1, Empty) config) ne ∙ result-at s t (sender.1, Empty) config e;
-      row = inl (sym e, row-at config sender t e legal.1.next);
-    }))
-    (λ other. inl (applied-other config (Pair sender receiver chan msg stamp) t (λ h. ⊎_elim (λ x. other (sym x)) (λ x. ne (sym x)) h)))
-    (cases_eq t s))
-    (cases_eq t u)
-touches ps rows config (Alone at why stamp) t legal = ⊎_elim
-    (λ e. inr (record {
-      result = (at.1, message_by why);
-      is = result-at at.0.thread t (at.1, message_by why) config e;
-      row = (sym e, row-at config at t e (next-of ps rows config at why legal));
-    }))
-    (λ ne. inl (result-other at.0.thread t (at.1, message_by why) config ne))
-    (cases_eq t at.0.thread)
+      is = result-other u t (receiver.1, msg) (with_result s (sender.1, Empty) config) (λ same. legal.0 (e ∙ same)) ∙ result-at s t (sender.1, Empty) config (sym e);
+      row = inl (e, row-at config sender t (sym e) legal.1.next);
+    })
+    (λ e. record {
+      result = (receiver.1, msg);
+      is = result-at u t (receiver.1, msg) (with_result s (sender.1, Empty) config) (sym e)
+          ∙ ap (λ (rs : List Chosen). rs ++ (receiver.1, msg) ∷ []) (result-other s t (sender.1, Empty) config (λ same. legal.0 (sym same ∙ sym e)));
+      row = inr (e, row-at config receiver t (sym e) legal.2.next);
+    })
+    has
+grows ps rows config (Alone at why stamp) t legal e = record {
+  result = (at.1, message_by why);
+  is = result-at at.0.thread t (at.1, message_by why) config (sym e);
+  row = (e, row-at config at t (sym e) (next-of ps rows config at why legal));
+}
+
+pub has-or-not : (c : Commit) (t : ℕ) → HasThread c t ⊎ (HasThread c t → ⊥)
+has-or-not (Pair sender receiver chan msg stamp) t = ⊎_elim
+    (λ e. inl (inl e))
+    (λ ne. ⊎_elim (λ e. inl (inr e)) (λ no. inr (λ h. ⊎_elim (λ x. ne x) (λ x. no x) h)) (cases_eq receiver.0.thread t))
+    (cases_eq sender.0.thread t)
+has-or-not (Alone at why stamp) t = cases_eq at.0.thread t
+
+touches : (ps : List Proc) (rows : ℕ) (config : Config) (c : Commit) (t : ℕ) → IsLegal ps rows config c → (applied config c t ≡ config t) ⊎ Grew config c t
+touches ps rows config c t legal = ⊎_elim
+    (λ h. inr (grows ps rows config c t legal h))
+    (λ no. inl (applied-other config c t no))
+    (has-or-not c t)
 
 -- NACKS, WHERE A COMMIT IS ADDED
 
@@ -227,7 +234,7 @@ second-first ps rows config es c d f g none =
       stamp = g.stamp;
     }
 
-row-within : (ps : List Proc) (rows : ℕ) (config : Config) (d : Commit) (t g : ℕ) → IsLegal ps rows config d → HasRow d t g → g ≡ length (config t)
+pub row-within : (ps : List Proc) (rows : ℕ) (config : Config) (d : Commit) (t g : ℕ) → IsLegal ps rows config d → HasRow d t g → g ≡ length (config t)
 row-within ps rows config (Pair sender receiver chan msg stamp) t g legal h = ⊎_elim
     (λ s. sym s.1 ∙ row-at config sender t (sym s.0) legal.1.next)
     (λ r. sym r.1 ∙ row-at config receiver t (sym r.0) legal.2.next) h
@@ -264,13 +271,6 @@ first-second ps rows config es c d f other apart =
     }
 
 -- WHERE BOTH LEAD
-
-has-or-not : (c : Commit) (t : ℕ) → HasThread c t ⊎ (HasThread c t → ⊥)
-has-or-not (Pair sender receiver chan msg stamp) t = ⊎_elim
-    (λ e. inl (inl e))
-    (λ ne. ⊎_elim (λ e. inl (inr e)) (λ no. inr (λ h. ⊎_elim (λ x. ne x) (λ x. no x) h)) (cases_eq receiver.0.thread t))
-    (cases_eq sender.0.thread t)
-has-or-not (Alone at why stamp) t = cases_eq at.0.thread t
 
 -- what a commit does to a thread depends on that thread's results alone
 applied-at : (config other : Config) (c : Commit) (t : ℕ) → config t ≡ other t → applied config c t ≡ applied other c t

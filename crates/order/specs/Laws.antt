@@ -3,7 +3,8 @@ use Rattle.std.specs.Prelude.{◌≡◌, ℕ, ◌<◌, List, Some, slice_get, Is
 use Rattle.syntax.specs.Processes.{Proc}
 use Rattle.words.specs.declared.Commit.{Commit}
 use Rattle.protocol.specs.Ledgers.{IsInOrder}
-use Rattle.sequential.specs.Runs.{HasThread, IsRun, config_of, stamp_of}
+use Rattle.sequential.specs.Runs.{HasRow, HasThread, IsRun, config_of, stamp_of}
+use Rattle.order.specs.Messages.{named, received, sent}
 
 -- STAMPS
 
@@ -20,6 +21,15 @@ OneStampOneThread =
     (ps : List Proc) (rows : ℕ) (journal : List Commit) → IsRun ps rows journal →
     (i j : ℕ) (c d : Commit) (t : ℕ) → slice_get journal i ≡ Some c → slice_get journal j ≡ Some d →
     HasThread c t → HasThread d t → stamp_of c ≡ stamp_of d → i ≡ j
+
+-- ROWS
+
+-- a sync is in at most one commit
+abbrev pub OneRowOneCommit : Type 0
+OneRowOneCommit =
+    (ps : List Proc) (rows : ℕ) (journal : List Commit) → IsRun ps rows journal →
+    (i j : ℕ) (c d : Commit) (t g : ℕ) → slice_get journal i ≡ Some c → slice_get journal j ≡ Some d →
+    HasRow c t g → HasRow d t g → i ≡ j
 
 -- THE JOURNAL'S ORDER: by stamp, and then by the thread named first
 
@@ -40,3 +50,17 @@ abbrev pub OneOrder : Type 0
 OneOrder =
     (ps : List Proc) (rows : ℕ) (commits first second : List Commit) → IsRun ps rows commits →
     IsPermutation commits first → IsInOrder first → IsPermutation commits second → IsInOrder second → first ≡ second
+
+-- MESSAGES
+
+-- what is received from a thread on a channel, in the journal's order, is what the thread sent on it, in its own order
+abbrev pub ReceivedIsSent : Type 0
+ReceivedIsSent =
+    (ps : List Proc) (rows : ℕ) (journal : List Commit) → IsRun ps rows journal →
+    (t chan : ℕ) → received t chan journal ≡ sent ps t chan (config_of journal t)
+
+-- and it is what the pairs on the channel with that sender name
+abbrev pub NamedIsReceived : Type 0
+NamedIsReceived =
+    (ps : List Proc) (rows : ℕ) (journal : List Commit) → IsRun ps rows journal →
+    (t chan : ℕ) → named t chan journal ≡ received t chan journal
