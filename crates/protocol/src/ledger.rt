@@ -74,6 +74,7 @@ impl Ledger {
         ensures members { IfOk result (λ cs. (c : Commit) → Contains cs.items c ↔ HasCommit self.now c) }
         ensures in_order { IfOk result (λ cs. IsInOrder cs.items) }
         ensures causal { IfOk result (λ cs. IsCausal (binding_in self.now) cs.items) }
+        ensures lawful { IsLawful self.now }
     {
         let mut commits = self.board.commits()?;
         commits.sort_by_key(|commit| order_of(commit))?;
