@@ -9,3 +9,4 @@ pub mod Unique
 pub mod Ordering
 pub mod Results
 pub mod Sending
+pub mod LedgerOrder

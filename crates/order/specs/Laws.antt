@@ -2,7 +2,7 @@
 use Rattle.std.specs.Prelude.{◌≡◌, ℕ, ◌<◌, List, Some, slice_get, IsPermutation}
 use Rattle.syntax.specs.Processes.{Proc}
 use Rattle.words.specs.declared.Commit.{Commit}
-use Rattle.protocol.specs.Ledgers.{IsInOrder}
+use Rattle.protocol.specs.Ledgers.{Ledger, IsInOrder, IsLawful, commits_in}
 use Rattle.sequential.specs.Runs.{HasRow, HasThread, IsRun, config_of, stamp_of}
 use Rattle.order.specs.Messages.{named, received, sent}
 
@@ -50,6 +50,15 @@ abbrev pub OneOrder : Type 0
 OneOrder =
     (ps : List Proc) (rows : ℕ) (commits first second : List Commit) → IsRun ps rows commits →
     IsPermutation commits first → IsInOrder first → IsPermutation commits second → IsInOrder second → first ≡ second
+
+-- these are a ledger's commits in this order
+pub record IsOrderOf (l : Ledger) (commits : List Commit) : Type 0 where
+  pub all : IsPermutation (commits_in l) commits
+  pub ordered : IsInOrder commits
+
+-- a lawful ledger has one such list
+abbrev pub OneLedgerOrder : Type 0
+OneLedgerOrder = (l : Ledger) (first second : List Commit) → IsLawful l → IsOrderOf l first → IsOrderOf l second → first ≡ second
 
 -- MESSAGES
 

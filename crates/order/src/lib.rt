@@ -1,7 +1,7 @@
 //! The order of a journal: laws of runs in sequential CML. No code runs here.
 #![tactic(auto)]
 
-ghost use Rattle.order.specs.Laws.{HasOrder, NamedIsReceived, OneOrder, OneRowOneCommit, OneStampOneThread, OrderedIsRun, ReceivedIsSent, StampsRise};
+ghost use Rattle.order.specs.Laws.{HasOrder, NamedIsReceived, OneLedgerOrder, OneOrder, OneRowOneCommit, OneStampOneThread, OrderedIsRun, ReceivedIsSent, StampsRise};
 
 /// In a run the stamps of a thread's commits rise, so two commits of one stamp share no thread.
 pub fn stamp_laws()
@@ -20,6 +20,11 @@ pub fn ordering_laws()
     ensures run { OrderedIsRun }
     ensures there { HasOrder }
     ensures one { OneOrder }
+{}
+
+/// The commits of a lawful ledger stand in this order in one way.
+pub fn ledger_order_law()
+    ensures { OneLedgerOrder }
 {}
 
 /// In a run the messages of one thread on a channel are received in the order in which it sent them. They
