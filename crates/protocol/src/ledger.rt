@@ -90,7 +90,7 @@ impl Ledger {
 }
 
 /// By what commits are in order: the stamp, and the thread named first.
-fn order_of(commit: &Commit) -> (u32, u8)
+pub fn order_of(commit: &Commit) -> (u32, u8)
     ensures { result ≡ order_of commit.now }
 {
     match commit {
