@@ -74,6 +74,7 @@ impl Ledger {
         ensures members { IfOk result (λ cs. (c : Commit) → Contains cs.items c ↔ HasCommit self.now c) }
         ensures in_order { IfOk result (λ cs. IsInOrder cs.items) }
         ensures causal { IfOk result (λ cs. IsCausal (binding_in self.now) cs.items) }
+        ensures lawful { IsLawful self.now }
     {
         let mut commits = self.board.commits()?;
         commits.sort_by_key(|commit| order_of(commit))?;
@@ -89,7 +90,7 @@ impl Ledger {
 }
 
 /// By what commits are in order: the stamp, and the thread named first.
-fn order_of(commit: &Commit) -> (u32, u8)
+pub fn order_of(commit: &Commit) -> (u32, u8)
     ensures { result ≡ order_of commit.now }
 {
     match commit {

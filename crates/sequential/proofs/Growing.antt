@@ -27,10 +27,10 @@ pub record TakesPart (earlier : List Commit) (t g stamp : ℕ) (c : Commit) : Ty
   pub above : (d : Commit) → Contains earlier d → HasThread d t → stamp_of d ≤ stamp
   pub rows_are : (d : Commit) (h : ℕ) → HasRow d t h → HasThread d t
 
-outside-mask : (scopes : List ℕ) (s : ℕ) → has_scope (mask scopes) s ≡ false → Contains scopes s → ⊥
+pub outside-mask : (scopes : List ℕ) (s : ℕ) → has_scope (mask scopes) s ≡ false → Contains scopes s → ⊥
 outside-mask scopes s e h = false≢true (sym e ∙ eq-eqb _ 1 ((mask-bits scopes s).1 h))
 
-inside-mask : (scopes : List ℕ) (s : ℕ) → has_scope (mask scopes) s ≡ true → Contains scopes s
+pub inside-mask : (scopes : List ℕ) (s : ℕ) → has_scope (mask scopes) s ≡ true → Contains scopes s
 inside-mask scopes s e = (mask-bits scopes s).0 (eqb-true _ 1 e)
 
 -- NACKS
@@ -56,7 +56,7 @@ fired-within : (ps : List Proc) (t : ℕ) (results : List Chosen) (k g : ℕ) �
 fired-within ps t results k g f = slice_get_within results g f.chosen f.result
 
 -- the first sync that fired a nack stays the first
-first-kept : (ps : List Proc) (t : ℕ) (results : List Chosen) (r : Chosen) (k g : ℕ) → FiredFirst ps t results k g → FiredFirst ps t (grown results r) k g
+pub first-kept : (ps : List Proc) (t : ℕ) (results : List Chosen) (r : Chosen) (k g : ℕ) → FiredFirst ps t results k g → FiredFirst ps t (grown results r) k g
 first-kept ps t results r k g f = record {
   at = fired-kept ps t results r k g f.at;
   first = λ h later. ⊎_elim
@@ -65,7 +65,7 @@ first-kept ps t results r k g f = record {
       (fired-cases ps t results r k h later);
 }
 
-first-before : (ps : List Proc) (t : ℕ) (results : List Chosen) (r : Chosen) (k g : ℕ) → ((h : ℕ) × FiredAt ps t results k h) → FiredFirst ps t (grown results r) k g → FiredFirst ps t results k g
+pub first-before : (ps : List Proc) (t : ℕ) (results : List Chosen) (r : Chosen) (k g : ℕ) → ((h : ℕ) × FiredAt ps t results k h) → FiredFirst ps t (grown results r) k g → FiredFirst ps t results k g
 first-before ps t results r k g known f = record {
   at = ⊎_elim
       (λ old. old)

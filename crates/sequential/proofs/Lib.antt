@@ -1,11 +1,11 @@
-mod Greatest
-mod Lists
-mod Opening
-mod Firing
-mod Growing
+pub mod Greatest
+pub mod Lists
+pub mod Opening
+pub mod Firing
+pub mod Growing
 mod Finding
-mod Standing
-mod Running
+pub mod Standing
+pub mod Running
 mod Remembering
 mod Replaying
 mod Ending

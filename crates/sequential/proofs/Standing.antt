@@ -31,7 +31,7 @@ config_of-more journal c = config_from-more no_results journal c
 result-same : (t : ℕ) (r : Chosen) (config : Config) → with_result t r config t ≡ config t ++ r ∷ []
 result-same t r config = ap (λ (b : Bool). cond b (config t ++ r ∷ []) (config t)) (eq-eqb t t refl)
 
-result-other : (t u : ℕ) (r : Chosen) (config : Config) → (u ≡ t → ⊥) → with_result t r config u ≡ config u
+pub result-other : (t u : ℕ) (r : Chosen) (config : Config) → (u ≡ t → ⊥) → with_result t r config u ≡ config u
 result-other t u r config ne = ap (λ (b : Bool). cond b (config u ++ r ∷ []) (config u)) (ne_eqb u t ne)
 
 -- STRANDS

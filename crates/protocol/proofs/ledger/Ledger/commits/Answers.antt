@@ -2,7 +2,7 @@ use Rattle.std.proofs.Common.{◌≡◌, ap, subst, ◌∙◌, List, rules, IsPe
 use Rattle.std.specs.Prelude.{Contains, ◌↔◌}
 use Rattle.std.proofs.lemmas.List.Sorted.{Contains-permutation, IsPermutation-sym, answers_always}
 use Rattle.words.specs.declared.Commit.{Commit}
-use Rattle.protocol.specs.Ledgers.{Ledger, ledger_of, binding_in, commits_in, HasCommit, order_of, IsCausal}
+use Rattle.protocol.specs.Ledgers.{Ledger, ledger_of, binding_in, commits_in, HasCommit, order_of, IsCausal, IsLawful}
 use Rattle.protocol.specs.States.{table_of}
 use Rattle.protocol.proofs.LedgerReadings.{commits_in_ledger, members_in_ledger}
 use Rattle.protocol.proofs.Ordering.{causal_ledger}
@@ -35,3 +35,6 @@ returns-clause-causal c =
     let sorted = c.in_ok-sort_by_key.ensures.sorted order_of (answers_always _ _ _ (λ f a r g h. search rules)) in
     subst (λ (l : Ledger). IsCausal (binding_in l) c.sort_by_key.new.self.items) c.self.view_is
     (causal_ledger (ledger_of t) c.self.invariant c.sort_by_key.new.self.items (subst (λ (cs : List Commit). IsPermutation cs c.sort_by_key.new.self.items) told c.sort_by_key.ensures.permutation) sorted)
+
+pub returns-clause-lawful : goal.returns-clause-lawful
+returns-clause-lawful c = subst IsLawful c.self.view_is c.self.invariant

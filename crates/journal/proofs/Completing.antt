@@ -1,0 +1,64 @@
+-- A ledger's commits, led on to their end and put in order.
+use Rattle.std.proofs.Common.{◌≡◌, ℕ, List, ◌++◌, length, Some, sym, ap, ◌∙◌, subst}
+use Rattle.std.specs.Prelude.{IsPermutation}
+use Rattle.std.proofs.lemmas.List.Sorted.{IsPermutation-append_left, IsPermutation-trans}
+use Rattle.std.proofs.lemmas.Option.{same_Some, some_pair_parts}
+use Rattle.syntax.specs.Processes.{Proc}
+use Rattle.thread.specs.After.{after}
+use Rattle.words.specs.declared.Atom.{Atom}
+use Rattle.words.specs.declared.Commit.{Commit}
+use Rattle.protocol.specs.Ledgers.{Ledger, IsInOrder, IsLawful, commits_in}
+use Rattle.sequential.specs.declared.end.End.{End}
+use Rattle.sequential.specs.declared.state.State.{State}
+use Rattle.sequential.specs.declared.state.ReplayFault.{ReplayFault}
+use Rattle.sequential.specs.declared.state.ReplayFault.TheVariants.{Memory, Unlawful}
+use Rattle.sequential.specs.Replays.{Refuses, StandsAfter}
+use Rattle.sequential.specs.Runs.{BreaksOffAt, Config, EndsAs, IsMaximal, IsRun, config_of, end_of}
+use Rattle.order.specs.Laws.{IsOrderOf}
+use Rattle.order.proofs.LedgerOrder.{one-ledger-order}
+use Rattle.order.proofs.Ordering.{ordered-is-run}
+use Rattle.journal.specs.Records.{EndsOf, OutputsOf, TellsEnds, IsCompletion, RefusesLedger}
+
+-- how a thread ended and what it printed, each told with something of the other
+ends-both : (ps : List Proc) (rows t : ℕ) (config : Config) (end other : End) (printed told : List Atom) → EndsAs ps rows t config end told → EndsAs ps rows t config other printed → EndsAs ps rows t config end printed
+ends-both ps rows t config end other printed told one two =
+    let process : one.process ≡ two.process = same_Some one.process two.process (sym one.is_its ∙ two.is_its) in
+    let same : Some (end, told) ≡ Some (other, printed) =
+    sym one.ends ∙ ap (λ (p : Proc). end_of rows (length (config t)) (after p.body (length p.variables) t (config t))) process ∙ two.ends in
+    let parts = some_pair_parts end other told printed same in
+    record { process = two.process; is_its = two.is_its; ends = two.ends ∙ ap (λ (e : End). Some (e, printed)) (sym parts.0) }
+
+tells-ends : (ps : List Proc) (rows : ℕ) (journal : List Commit) (s : State) (ends : List End) (outputs : List (List Atom)) → StandsAfter ps rows journal s → EndsOf s ends → OutputsOf s outputs →
+    TellsEnds ps rows (config_of journal) ends outputs
+tells-ends ps rows journal s ends outputs stands ended printed = record {
+  ends_count = ended.count ∙ stands.strands.count;
+  outputs_count = printed.count ∙ stands.strands.count;
+  each = λ t end told at_end at_output.
+      let one = ended.each t end at_end ps rows journal stands in
+      let two = printed.each t told at_output ps rows journal stands in
+      ends-both ps rows t (config_of journal) end two.0 told one.0 one.1 two.1;
+}
+
+-- what is said of the ledger's commits in order is said of each list of them in order
+of-order : (l : Ledger) (P : List Commit → Type 0) (commits : List Commit) → IsLawful l → IsOrderOf l commits → P commits → (others : List Commit) → IsOrderOf l others → P others
+of-order l P commits law order h others other = subst P (one-ledger-order l commits others law order other) h
+
+pub completes : (ps : List Proc) (rows : ℕ) (l : Ledger) (commits added journal : List Commit) (s : State) (ends : List End) (outputs : List (List Atom)) (tail : ℕ) →
+    IsLawful l → IsOrderOf l commits → IsRun ps rows commits → StandsAfter ps rows (commits ++ added) s → IsMaximal ps rows (config_of (commits ++ added)) →
+    IsPermutation (commits ++ added) journal → IsInOrder journal → EndsOf s ends → OutputsOf s outputs → length added ≡ tail → IsCompletion ps rows l journal ends outputs tail
+completes ps rows l commits added journal s ends outputs tail law order run stands maximal moved sorted ended printed count =
+    let ordered = ordered-is-run ps rows (commits ++ added) journal stands.run moved sorted in
+    record {
+      run = ordered.0;
+      in_order = sorted;
+      maximal = subst (IsMaximal ps rows) (sym ordered.1) maximal;
+      ends_are = subst (λ (config : Config). TellsEnds ps rows config ends outputs) (sym ordered.1) (tells-ends ps rows (commits ++ added) s ends outputs stands ended printed);
+      ledger = of-order l (IsRun ps rows) commits law order run;
+      added = added;
+      whole = IsPermutation-trans (commits_in l ++ added) (commits ++ added) journal (IsPermutation-append_left added (commits_in l) commits order.all) moved;
+      tail_is = count;
+    }
+
+pub refuses : (ps : List Proc) (rows : ℕ) (l : Ledger) (commits : List Commit) (fault : ReplayFault) → IsLawful l → IsOrderOf l commits → Refuses ps rows commits fault → RefusesLedger ps rows l fault
+refuses ps rows l commits Memory law order h = tt
+refuses ps rows l commits (Unlawful index) law order h = of-order l (λ cs. BreaksOffAt ps rows cs index) commits law order h

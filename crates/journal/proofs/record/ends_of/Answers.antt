@@ -1,0 +1,14 @@
+use Rattle.std.proofs.Common.{◌≡◌, arith, ◌∙◌}
+use Rattle.sequential.specs.Replays.{TellsEnd, thread_count}
+use Rattle.journal.proofs.Listing.{holds-more}
+use Rattle.journal.proofs.record.ends_of.Goals as goal
+
+pub loop-thread-preserved : goal.loop-thread-preserved
+loop-thread-preserved c =
+    holds-more (λ t end. TellsEnd c.args.state.now t end) c.loop-thread.thread c.loop-thread.ends.items c.push.new.self.items c.end.result
+    c.loop-thread.invariant c.end.ensures c.in_ok-push.ensures.items
+
+pub returns : goal.returns
+returns c =
+    let last : c.loop-thread.thread ≡ thread_count c.args.state.now = omega (arith, c.loop-thread.auto.thread-end, c.loop-thread-test.false, c.threads-thread-end.ensures) in
+    record { count = c.loop-thread.invariant.0 ∙ last; each = c.loop-thread.invariant.1 }

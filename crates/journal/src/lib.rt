@@ -1,0 +1,17 @@
+//! Journals: the commits of a ledger, led on to the end of their run and put in order.
+//!
+//! Proved:
+//! - `complete` is Ok exactly where the ledger's commits, in order, are a run of the processes, want of
+//!   memory aside, and else names the first commit with which they are none. The record's journal has
+//!   them and those of the tail, is in order, a run, and maximal; the ends and what was printed are those
+//!   to which it leads.
+//! - `received_from` gives the messages of the pairs on a channel with one sender, in their order. Of a
+//!   run these are what the receivers got, and what the sender sent, in its own order
+//!   (`order::message_laws`).
+#![tactic(auto)]
+
+mod messages;
+mod record;
+
+pub use crate::messages::received_from;
+pub use crate::record::{Record, complete};

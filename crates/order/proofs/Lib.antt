@@ -1,0 +1,12 @@
+pub mod Stamps
+pub mod Deciding
+pub mod Swapping
+pub mod Keys
+pub mod Runs
+pub mod Exchanging
+pub mod Sorting
+pub mod Unique
+pub mod Ordering
+pub mod Results
+pub mod Sending
+pub mod LedgerOrder

@@ -1,0 +1,35 @@
+//! The order of a journal: laws of runs in sequential CML. No code runs here.
+#![tactic(auto)]
+
+ghost use Rattle.order.specs.Laws.{HasOrder, NamedIsReceived, OneLedgerOrder, OneOrder, OneRowOneCommit, OneStampOneThread, OrderedIsRun, ReceivedIsSent, StampsRise};
+
+/// In a run the stamps of a thread's commits rise, so two commits of one stamp share no thread.
+pub fn stamp_laws()
+    ensures rise { StampsRise }
+    ensures one { OneStampOneThread }
+{}
+
+/// In a run each sync is in at most one commit.
+pub fn row_law()
+    ensures { OneRowOneCommit }
+{}
+
+/// The commits of a run, put in order by stamp and then by the thread named first, are a run too, and
+/// lead to the same configuration. They can be put in order, and in one way.
+pub fn ordering_laws()
+    ensures run { OrderedIsRun }
+    ensures there { HasOrder }
+    ensures one { OneOrder }
+{}
+
+/// The commits of a lawful ledger stand in this order in one way.
+pub fn ledger_order_law()
+    ensures { OneLedgerOrder }
+{}
+
+/// In a run the messages of one thread on a channel are received in the order in which it sent them. They
+/// are those that the pairs of the thread on that channel name.
+pub fn message_laws()
+    ensures sent { ReceivedIsSent }
+    ensures named { NamedIsReceived }
+{}
