@@ -143,3 +143,22 @@ number_again limit end n rest small no_digit le =
   where
     same : eqb end end ≡ true
     same = search arith
+
+-- no number stands before another byte than the one that ends it
+pub number_stops : (limit end other n : ℕ) (rest : List ℕ) → limit < 2 ^ 64 → digit_of end ≡ None → digit_of other ≡ None → eqb other end ≡ false → n ≤ limit → number_at limit end (decimal n ++ other ∷ rest) ≡ None
+unfolding digits_at
+number_stops limit end other n rest small no_digit no_other apart le =
+    reads_on limit end no_digit n (omega arith) le (other ∷ rest) ∙ rw (apart, no_other) refl
+
+-- a number begins with a digit
+pub record BeginsWithDigit (text : List ℕ) : Type 0 where
+  pub first : ℕ
+  pub others : List ℕ
+  pub is : text ≡ (48 + first) ∷ others
+  pub small : first < 10
+
+pub decimal_begins : (n : ℕ) → n < 2 ^ 64 → BeginsWithDigit (decimal n)
+decimal_begins =
+    decimal_by_steps (λ n text. BeginsWithDigit text)
+    (λ n lt. record { first = n; others = []; is = refl; small = lt })
+    (λ n ds ge before. record { first = before.first; others = before.others ++ (48 + n % 10) ∷ []; is = ap (λ (t : List ℕ). t ++ (48 + n % 10) ∷ []) before.is; small = before.small })

@@ -1,1 +1,3 @@
 pub mod Lookup
+pub mod Naming
+pub mod Lines

@@ -1,17 +1,17 @@
 -- The tokens of the text of tokens are those tokens, where each name and number is one.
-use Rattle.std.proofs.Common.{◌≡◌, ℕ, zero, suc, ◌+◌, ◌-◌, ◌*◌, ◌/◌, ◌%◌, ◌^◌, ◌<◌, ◌≤◌, Bool, true, false, cond, ◌||◌, ◌&&◌, eqb, ltb, leb, get_or, List, [], ◌∷◌, ◌++◌, length, map, codes, Option, Some, None, refl, sym, ap, ◌∙◌, arith, tests, append_assoc}
+use Rattle.std.proofs.Common.{◌≡◌, ℕ, zero, suc, ◌+◌, ◌-◌, ◌*◌, ◌/◌, ◌%◌, ◌^◌, ◌<◌, ◌≤◌, Bool, true, false, cond, ◌&&◌, eqb, ltb, leb, get_or, List, [], ◌∷◌, ◌++◌, length, map, codes, Option, Some, None, refl, ap, ◌∙◌, arith, tests}
 use Rattle.std.specs.Fmt.{decimal}
 use Rattle.std.specs.List.{list_all}
 use Rattle.std.proofs.lemmas.Bool.{and_parts}
 use Rattle.std.proofs.lemmas.Bool.Decides.{nat_tests}
 use Rattle.std.proofs.lemmas.Fmt.{decimal_digit, decimal_by_steps, decimal_nonempty, first_decimal}
-use Rattle.token.specs.Tokens.{Token, Fixed, Name, Number, Bad, keyword_of, mark_of, or_else, symbol_or, between, is_letter, is_digit, is_word, is_name, value_from, has_leading_zero, numeral_from, number_of, number_token, name_or_number, token_of}
-use Rattle.token.specs.Lexemes.{lexemes, is_white, token_at, line_after, tokens_from, placed_tokens}
+use Rattle.token.specs.Tokens.{Token, Fixed, Name, Number, Bad, keyword_of, mark_of, or_else, symbol_or, is_letter, is_digit, is_word, is_name, value_from, has_leading_zero, numeral_from, number_of, number_token, name_or_number, token_of}
+use Rattle.token.specs.Lexemes.{lexemes, is_white, line_after, tokens_from}
 use Rattle.token.specs.declared.kind.Symbol.{Symbol}
 use Rattle.token.specs.declared.kind.Symbol.TheVariants.{Channel, Process, Let, Print, Sync, If, Else, Loop, Forever, End, Send, Recv, Always, Never, Cancelled, Choose, Wrap, As, To, Guard, Nack, Spawn, Joined, Semicolon, Comma, OpenBrace, CloseBrace, OpenParen, CloseParen, OpenBracket, CloseBracket, Equal, Less, Plus, Minus, Arrow}
 use Rattle.token.proofs.Cutting.{run_parts, mark_one, mark_arrow}
 use Rattle.script.specs.Scripts.{tokens_of}
-use Rattle.writer.specs.Canon.{spelling, word_of, behind, behind_symbol, text_of}
+use Rattle.writer.specs.Canon.{word_of, behind, text_of}
 
 -- GOOD TOKENS
 -- A name and a number are good where they are what their spelling says.

@@ -3,3 +3,4 @@ pub mod Canonical
 pub mod Lexing
 pub mod Plainly
 pub mod PlainTrees
+pub mod Declared

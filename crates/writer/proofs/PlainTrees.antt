@@ -1,9 +1,8 @@
 -- Events, statements, blocks and scripts: what is meant is meant when it is written plainly.
-use Rattle.std.proofs.Common.{◌≡◌, ℕ, zero, suc, ◌+◌, ◌≤◌, max, Bool, true, false, cond, ◌||◌, ltb, leb, List, [], ◌∷◌, ◌++◌, length, map, Option, Some, None, is_some, refl, sym, ap, ◌∙◌, subst, arith, append_assoc}
-use Rattle.std.proofs.lemmas.Bool.Decides.{nat_tests}
+use Rattle.std.proofs.Common.{◌≡◌, ℕ, suc, ◌≤◌, Bool, true, false, ◌||◌, ltb, leb, List, [], ◌∷◌, ◌++◌, length, map, Option, Some, is_some, refl, sym, ap, ◌∙◌, subst, arith, append_assoc}
 use Rattle.std.proofs.lemmas.List.{append-nil}
 use Rattle.phrase.specs.Places.{place}
-use Rattle.token.specs.Tokens.{Token, Fixed, Name, Number}
+use Rattle.token.specs.Tokens.{Token, Fixed, Name}
 use Rattle.token.specs.declared.kind.Symbol.TheVariants as symbols
 use Rattle.syntax.specs.Trees as trees
 use Rattle.syntax.specs.Trees.{Turn}
@@ -11,18 +10,18 @@ use Rattle.syntax.specs.Processes.{Proc}
 use Rattle.syntax.specs.declared.tree.Name.{Name as Meaning}
 use Rattle.grammar.specs.Written as written
 use Rattle.grammar.specs.Written.{Expr, relation_symbol, expr_tokens, test_tokens, others_tokens, members_tokens, list_tokens, more_names_tokens, as_tokens, received_tokens, event_tokens, events_tokens, more_events_tokens, stmt_tokens, body_tokens, block_tokens, channels_tokens, processes_tokens, script_tokens}
-use Rattle.grammar.specs.Depths.{expr_depth, exprs_depth, list_depth, test_depth, event_depth, events_depth, stmt_depth, stmts_depth, block_depth, processes_depth, script_depth}
-use Rattle.grammar.specs.Meaning.{Names, name_meaning, expr_meaning, test_meaning, exprs_meaning, list_meaning, bind, bind_all, bind_names, is_small, as_turn, event_meaning, events_meaning, stmt_meaning, block_meaning, declare, channels_meaning, processes_meaning}
+use Rattle.grammar.specs.Depths.{exprs_depth, list_depth, test_depth, event_depth, events_depth, stmt_depth, stmts_depth, processes_depth, script_depth}
+use Rattle.grammar.specs.Meaning.{Names, name_meaning, expr_meaning, test_meaning, exprs_meaning, list_meaning, bind, bind_names, is_small, as_turn, event_meaning, events_meaning, stmt_meaning, block_meaning, declare, channels_meaning, processes_meaning}
 use Rattle.grammar.proofs.Names.{part, some_is, if_else_some, unless_some}
-use Rattle.grammar.proofs.Growing.{Grows, stays, grows_on, event_grows, events_grow, stmt_grows, block_grows, bind_names_grows}
-use Rattle.script.specs.Scripts.{Script, tokens_of}
+use Rattle.grammar.proofs.Growing.{Grows, stays, grows_on, event_grows, events_grow, block_grows, bind_names_grows}
+use Rattle.script.specs.Scripts.{Script}
 use Rattle.script.specs.Spelling.{script_meaning, Spells}
-use Rattle.writer.specs.Plain.{variable, name_of, names_of, names_in, plain_expr, plain_list, plain_test, plain_event, plain_events, plain_stmt, plain_block, plain_process, plain}
-use Rattle.writer.specs.Canon.{text_of, Canon}
+use Rattle.writer.specs.Plain.{variable, name_of, names_of, plain_expr, plain_list, plain_test, plain_event, plain_events, plain_stmt, plain_block, plain_process, plain}
+use Rattle.writer.specs.Canon.{Canon}
 use Rattle.script.proofs.Spelled.{spells_again, spells_only_one}
 use Rattle.writer.specs.Laws.{IsSpelledByCanon, IsReadAgain, HasItsOwnCanon}
 use Rattle.writer.proofs.Lexing.{Good, AllGood, texts_are_good, text_again}
-use Rattle.writer.proofs.Plainly.{named, bound_named, names_named, PlainExpr, expr_plain}
+use Rattle.writer.proofs.Plainly.{named, bound_named, names_named, expr_plain}
 
 -- good tokens stay good when these are written in place of those
 abbrev KeepsGood : (List Token → List Token) → (List Token → List Token) → Type 0

@@ -5,24 +5,23 @@ use Rattle.std.specs.Option.{option_map}
 use Rattle.std.specs.Str.{bytes_eq}
 use Rattle.std.proofs.lemmas.List.{append-nil, map-append}
 use Rattle.std.proofs.lemmas.Slice.Eq.{bytes_eq-Decides}
-use Rattle.token.specs.Tokens.{Token, Fixed, Name, Number}
+use Rattle.token.specs.Tokens.{Token, Fixed, Name}
 use Rattle.token.specs.declared.kind.Symbol.TheVariants as symbols
 use Rattle.phrase.specs.Places.{place}
 use Rattle.phrase.specs.Steps.{if_some, channel_of, is_listed}
-use Rattle.phrase.specs.Exprs.{Parts, linked, as_term, parts_term, whole}
+use Rattle.phrase.specs.Exprs.{Parts, linked, parts_term, whole}
 use Rattle.syntax.specs.declared.tree.Name.{Name as Meaning}
 use Rattle.syntax.specs.declared.tree.Name.TheVariants.{Variable, Channel}
 use Rattle.syntax.specs.declared.tree.Operand.{Operand}
 use Rattle.syntax.specs.declared.tree.Operand.TheVariants as operands
 use Rattle.syntax.specs.declared.tree.Sign.{Sign}
 use Rattle.syntax.specs.Trees as trees
-use Rattle.grammar.specs.Written as written
-use Rattle.grammar.specs.Written.{Term, OfNumber, OfName, Grouped, Terms, NoMore, Further, Expr, Test, sign_symbol, relation_symbol, term_tokens, terms_tokens, expr_tokens, test_tokens, others_tokens, members_tokens, list_tokens, more_names_tokens}
-use Rattle.grammar.specs.Depths.{term_depth, terms_depth, expr_depth, exprs_depth, list_depth, test_depth}
-use Rattle.grammar.specs.Meaning.{Names, name_meaning, term_meaning, terms_meaning, expr_meaning, test_meaning, exprs_meaning, list_meaning, bound, bind, bind_all, bind_names}
+use Rattle.grammar.specs.Written.{Term, OfNumber, OfName, Grouped, Terms, NoMore, Further, Expr, sign_symbol, term_tokens, terms_tokens, expr_tokens}
+use Rattle.grammar.specs.Depths.{term_depth, terms_depth, expr_depth}
+use Rattle.grammar.specs.Meaning.{Names, name_meaning, term_meaning, terms_meaning, expr_meaning, bound, bind, bind_all, bind_names}
 use Rattle.grammar.proofs.Names.{part, some_is, if_else_some, unless_some}
-use Rattle.grammar.proofs.Growing.{Grows, stays, grows_on, bind_grows, bind_all_grows}
-use Rattle.writer.specs.Plain.{text_or_none, variable, name_of, names_of, plain_operand, plain_term, plain_terms, plain_expr, plain_list, plain_test}
+use Rattle.grammar.proofs.Growing.{Grows, grows_on, bind_all_grows}
+use Rattle.writer.specs.Plain.{text_or_none, variable, name_of, names_of, plain_operand, plain_term, plain_terms, plain_expr}
 use Rattle.writer.proofs.Lexing.{Good, AllGood}
 
 -- NAMES

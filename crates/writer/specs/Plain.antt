@@ -1,6 +1,6 @@
 -- A tree, written with names in place of numbers, and with parentheses only round a right operand that
 -- is itself a sum.
-use Rattle.std.specs.Prelude.{ℕ, List, [], ◌∷◌, map, Option, Some, None, slice_get}
+use Rattle.std.specs.Prelude.{ℕ, List, [], map, Option, Some, None, slice_get}
 use Rattle.syntax.specs.declared.tree.Name.{Name}
 use Rattle.syntax.specs.declared.tree.Name.TheVariants.{Variable, Channel}
 use Rattle.syntax.specs.declared.tree.Operand.{Operand}
