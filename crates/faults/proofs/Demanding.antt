@@ -141,39 +141,27 @@ nth_before [] x y q small = absurd (omega (arith, small))
 nth_before (t ∷ before) x y zero small = refl
 nth_before (t ∷ before) x y (suc q) small = nth_before before x y q (omega (arith, small))
 
--- the word that a line is told of is one and the same, so it is `loop` both times or `forever` both times
-other_word : (before x y : List Token) (i : ℕ) → i ≤ length (before ++ x) → i + 2 ≡ length before + 3
-    → nth (prior_at i [] (before ++ x)) 2 ≡ Some (Fixed Loop) → nth (prior_at (length before) [] (before ++ y)) 1 ≡ Some (Fixed Forever) → ⊥
-other_word before x y i small same a b =
+-- the tokens at one and the same place are one
+same_word : (before x y : List Token) (i k l : ℕ) (t u : Token) → i ≤ length (before ++ x) → i + l ≡ length before + k
+    → nth (prior_at i [] (before ++ x)) k ≡ Some t → nth (prior_at (length before) [] (before ++ y)) l ≡ Some u → ◌≡◌ {A = Option Token} (Some t) (Some u)
+same_word before x y i k l t u small same a b =
     let n : length (before ++ y) ≡ length before + length y = length-append before y in
-    let v = word_in i 2 (before ++ x) (Fixed Loop) small a in
-    let u = word_in (length before) 1 (before ++ y) (Fixed Forever) (omega (arith, n)) b in
-    let p = v.sum in let q = u.sum in
-    let at : v.at ≡ u.at = omega (arith, p, q, same) in
-    let within : u.at < length before = omega (arith, q) in
-    let tokens : Some (Fixed Loop) ≡ Some (Fixed Forever) = sym v.is ∙ ap (nth (before ++ x)) at ∙ nth_before before x y u.at within ∙ u.is in
-    absurd cc
+    let v = word_in i k (before ++ x) t small a in
+    let w = word_in (length before) l (before ++ y) u (omega (arith, n)) b in
+    let p = v.sum in let q = w.sum in
+    let at : v.at ≡ w.at = omega (arith, p, q, same) in
+    let within : w.at < length before = omega (arith, q) in
+    sym v.is ∙ ap (nth (before ++ x)) at ∙ nth_before before x y w.at within ∙ w.is
 
-another_word : (before x y : List Token) (i : ℕ) → i ≤ length (before ++ x) → i + 3 ≡ length before + 2
-    → nth (prior_at i [] (before ++ x)) 1 ≡ Some (Fixed Forever) → nth (prior_at (length before) [] (before ++ y)) 2 ≡ Some (Fixed Loop) → ⊥
-another_word before x y i small same a b =
-    let n : length (before ++ y) ≡ length before + length y = length-append before y in
-    let v = word_in i 1 (before ++ x) (Fixed Forever) small a in
-    let u = word_in (length before) 2 (before ++ y) (Fixed Loop) (omega (arith, n)) b in
-    let p = v.sum in let q = u.sum in
-    let at : v.at ≡ u.at = omega (arith, p, q, same) in
-    let within : u.at < length before = omega (arith, q) in
-    let tokens : Some (Fixed Forever) ≡ Some (Fixed Loop) = sym v.is ∙ ap (nth (before ++ x)) at ∙ nth_before before x y u.at within ∙ u.is in
-    absurd cc
-
+-- so a line that is told of a loop's word is told of the same word, and as far back
 same_back : (problem : Problem) (before x y : List Token) (i a b : ℕ) → i ≤ length (before ++ x) → i + b ≡ length before + a → BackIs (prior_at i [] (before ++ x)) problem a → BackIs (prior_at (length before) [] (before ++ y)) problem b → a ≡ b
 same_back Syntax before x y i a b small same g h = g ∙ sym h
 same_back UnknownName before x y i a b small same g h = g ∙ sym h
 same_back Twice before x y i a b small same g h = g ∙ sym h
 same_back TooMany before x y i a b small same g h = g ∙ sym h
 same_back LoopWithoutSync before x y i a b small same (inl g) (inl h) = g.1 ∙ sym h.1
-same_back LoopWithoutSync before x y i a b small same (inl g) (inr h) = (let p = g.1 in let q = h.1 in absurd (other_word before x y i small (omega (arith, p, q, same)) g.0 h.0))
-same_back LoopWithoutSync before x y i a b small same (inr g) (inl h) = (let p = g.1 in let q = h.1 in absurd (another_word before x y i small (omega (arith, p, q, same)) g.0 h.0))
+same_back LoopWithoutSync before x y i a b small same (inl g) (inr h) = (let p = g.1 in let q = h.1 in let tokens = same_word before x y i 2 1 (Fixed Loop) (Fixed Forever) small (omega (arith, p, q, same)) g.0 h.0 in absurd cc)
+same_back LoopWithoutSync before x y i a b small same (inr g) (inl h) = (let p = g.1 in let q = h.1 in let tokens = same_word before x y i 1 2 (Fixed Forever) (Fixed Loop) small (omega (arith, p, q, same)) g.0 h.0 in absurd cc)
 same_back LoopWithoutSync before x y i a b small same (inr g) (inr h) = g.1 ∙ sym h.1
 
 -- the first fault of these notes, and where it stands

@@ -1,6 +1,7 @@
 -- Blocks, and events, statements, blocks and turns together: each is read by the readers of what lies
 -- inside, with less room.
-use Rattle.std.proofs.Common.{◌≡◌, ℕ, zero, suc, ◌+◌, ◌-◌, ◌<◌, Bool, true, false, ◌||◌, List, [], length, Some, None, Ok, Err, is_some, refl, sym, ap, arith}
+use Rattle.std.proofs.Common.{◌≡◌, ℕ, zero, suc, ◌+◌, ◌-◌, ◌<◌, List, [], length, Some, None, Ok, Err, is_some, true≢false, refl, sym, ap, ◌∙◌, arith}
+use Rattle.std.proofs.lemmas.Bool.{or_parts}
 use Rattle.token.specs.Tokens.{Token}
 use Rattle.token.specs.declared.kind.Symbol.TheVariants.{Let, Print, Sync, If, Loop, Forever, End, OpenBrace, CloseBrace, Arrow}
 use Rattle.syntax.specs.Trees as trees
@@ -64,30 +65,22 @@ synced_sync event room h ts y e =
     let c = bound_ok (synced_with event room h ts) _ y e in
     record { sync = (None, c.first.0); is = ap (λ (x : StmtRead). as_sync x.0) (sym (ok_is _ _ c.then)) }
 
-clash : {P : Type 0} (b : Bool) → b ≡ true → b ≡ false → P
-clash true e f = absurd cc
-clash false e f = absurd cc
-
-neither_true : (a b : Bool) → (a || b) ≡ false → (a ≡ false) × (b ≡ false)
-neither_true true b e = absurd cc
-neither_true false b e = (refl, e)
-
 stmt_syncs : (event : ReadsEvent) (block : ReadsBlock) (turn : ReadsTurn) (room : ℕ) → SyncsRead (λ place h ts. stmt_with event block turn room place h ts)
 unfolding stmt_with is_no_sync
 stmt_syncs event block turn room h ts y none e =
-    let lets = neither_true _ _ ((neither_true _ _ none).1) in
-    let prints = neither_true _ _ lets.1 in
-    let ifs = neither_true _ _ prints.1 in
-    let loops = neither_true _ _ ifs.1 in
-    let others = neither_true _ _ loops.1 in
+    let lets = or_parts _ _ ((or_parts _ _ none).1) in
+    let prints = or_parts _ _ lets.1 in
+    let ifs = or_parts _ _ prints.1 in
+    let loops = or_parts _ _ ifs.1 in
+    let others = or_parts _ _ loops.1 in
     if_ok (is_some (name_at ts)) _ _ y e (λ i f. received_sync event room h ts y f)
-    (λ i f. if_ok (next_is Let ts) _ _ y f (λ i g. clash _ i lets.0)
-    (λ i f. if_ok (next_is Print ts) _ _ y f (λ i g. clash _ i prints.0)
+    (λ i f. if_ok (next_is Let ts) _ _ y f (λ i g. absurd (true≢false (sym i ∙ lets.0)))
+    (λ i f. if_ok (next_is Print ts) _ _ y f (λ i g. absurd (true≢false (sym i ∙ prints.0)))
     (λ i f. if_ok (next_is Sync ts) _ _ y f (λ i g. synced_sync event room h ts y g)
-    (λ i f. if_ok (next_is If ts) _ _ y f (λ i g. clash _ i ifs.0)
-    (λ i f. if_ok (next_is End ts) _ _ y f (λ i g. clash _ i others.1)
-    (λ i f. if_ok (next_is Loop ts) _ _ y f (λ i g. clash _ i loops.0)
-    (λ i f. if_ok (next_is Forever ts) _ _ y f (λ i g. clash _ i others.0) (λ i g. no_ok _ _ g))))))))
+    (λ i f. if_ok (next_is If ts) _ _ y f (λ i g. absurd (true≢false (sym i ∙ ifs.0)))
+    (λ i f. if_ok (next_is End ts) _ _ y f (λ i g. absurd (true≢false (sym i ∙ others.1)))
+    (λ i f. if_ok (next_is Loop ts) _ _ y f (λ i g. absurd (true≢false (sym i ∙ loops.0)))
+    (λ i f. if_ok (next_is Forever ts) _ _ y f (λ i g. absurd (true≢false (sym i ∙ others.0))) (λ i g. no_ok _ _ g))))))))
 
 -- TOGETHER
 

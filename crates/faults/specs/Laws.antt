@@ -20,13 +20,13 @@ pub record IsFirst (notes : List Note) (place : ℕ) (fault : Problem × ℕ) : 
   pub count : length before ≡ place
   pub none : first_fault before ≡ None
 
--- Of what can be written, with its tokens and its notes, and with what may follow it: the fault that stands
--- at the token behind those before.
+-- Of what can be written, with its tokens and its notes, and with what may follow it: the fault that is to
+-- be told of these tokens. It stands at the place behind those before.
 pub record Demanded {W : Type 0} (spell : W → List Token → List Token) (notes : W → List Note) (Ends : List Token → Type 0) (ts : List Token) (told : Told) : Type 0 where
   pub before : List Token
   pub behind : List Token
   pub tokens : ts ≡ before ++ behind
-  -- the line that is told is that of the token so many tokens before
+  -- how many tokens before the place the one stands whose line is told
   pub back : ℕ
   pub line : told.1 ≡ back + length behind
   -- something that is written begins with the tokens before, and no fault stands at one of them

@@ -1,11 +1,11 @@
 //! The faults of what is written in a script, apart from how it is read. No code runs here.
 //!
 //! The definitions stand in `specs`: for each token of what is written a note with the fault that stands
-//! there (`Notes`), and which fault of some tokens is to be told (`Laws`): that at the earliest place, and
-//! of two at one token the one with the lower number.
+//! there (`Notes`, `BlockNotes`), and which fault of some tokens is to be told (`Laws`): that at the
+//! earliest place, and of two at one token the one with the lower number.
 //!
 //! Proved, of expressions, tests, lists, names that are bound, events, statements and blocks: reading from
-//! left to right tells just that fault.
+//! left to right tells just that fault. Of declarations and whole scripts `script` proves the same.
 #![tactic(auto)]
 
 ghost use Rattle.faults.specs.Laws.{ExprsAreAnswered, TestsAreAnswered, ListsAreAnswered, NamesAreAnswered, EventsAreAnswered, StmtsAreAnswered, BlocksAreAnswered};

@@ -4,8 +4,7 @@ use Rattle.std.specs.Prelude.{◌≡◌, ◌⊎◌, ℕ, ◌≤◌, List, [], �
 use Rattle.token.specs.Tokens.{Token}
 use Rattle.token.specs.Lexemes.{placed_tokens, last_line}
 use Rattle.phrase.specs.Steps.{Told}
-use Rattle.grammar.specs.Written.{script_tokens}
-use Rattle.grammar.specs.Written.{Script as Written}
+use Rattle.grammar.specs.Written.{Script as Written, script_tokens}
 use Rattle.faults.specs.BlockNotes.{script_notes}
 use Rattle.faults.specs.Laws.{Demanded, Answered}
 use Rattle.script.specs.Scripts.{script_at, tokens_of, line_left, fault_at}
@@ -17,7 +16,7 @@ use Rattle.script.specs.declared.fault.ScriptFault.TheVariants as faults
 abbrev pub Ended : List Token → Type 0
 Ended rest = rest ≡ []
 
--- the text of a script, and what follows it
+-- the tokens of a script, and what follows
 abbrev pub script_spell : Written → List Token → List Token
 script_spell s rest = script_tokens s ++ rest
 
@@ -33,12 +32,13 @@ IsFirstFault bytes told = Demanded script_spell script_notes Ended (tokens_of by
 abbrev pub told_fault : List ℕ → Told → ScriptFault
 told_fault bytes told = fault_at told.0 (line_left (placed_tokens bytes) (last_line bytes) told.1)
 
--- the fault is the first, with its line
+-- a fault that is the first of the text, with its line
 pub record TellsFirst (bytes : List ℕ) (fault : ScriptFault) : Type 0 where
   pub told : Told
   pub is : fault ≡ told_fault bytes told
   pub first : IsFirstFault bytes told
 
+-- what a fault that is told says of the text: it is the first, but for the two that have no line
 abbrev pub Tells : List ℕ → ScriptFault → Type 0
 Tells bytes faults.Memory = Unit {0}
 Tells bytes faults.TooLong = Unit {0}
