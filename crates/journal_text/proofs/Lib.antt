@@ -1,3 +1,4 @@
 pub mod Lookup
 pub mod Naming
 pub mod Lines
+pub mod Journals

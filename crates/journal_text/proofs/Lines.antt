@@ -13,9 +13,9 @@ use Rattle.words.specs.declared.Cause.TheVariants as causes
 use Rattle.words.specs.declared.Commit.{Commit}
 use Rattle.words.specs.declared.Commit.TheVariants.{Pair, Alone}
 use Rattle.token.specs.Tokens.{is_word}
-use Rattle.digits.specs.Reading.{◌>>=◌, or_else, digit_of, number_at}
+use Rattle.digits.specs.Reading.{◌>>=◌, digit_of, number_at}
 use Rattle.digits.proofs.Numbers.{bind_some, number_stops, decimal_begins}
-use Rattle.digits.proofs.Forms.{Reads, both, made, ended, numbers, counts, worded, after_again, either, Either, choice, settled}
+use Rattle.digits.proofs.Forms.{Reads, both, made, ended, numbers, counts, worded, either, Either, choice, settled}
 use Rattle.writer.specs.Laws.{AreNames}
 use Rattle.journal_text.specs.Names.{Declared, naming}
 use Rattle.journal_text.specs.Texts.{place_text, nack_text, atom_text, message_text, commit_line}
@@ -190,14 +190,18 @@ module _ (d : Declared) (threads : AreNames d.threads) (channels : AreNames d.ch
   unfolding one_at atom_at num_at chan_at cancel_at number_at
   one_not_none rest = refl
 
+  later_stops : (text : List ℕ) → atom_at d 41 text ≡ None → later_at d 41 (codes " " ++ text) ≡ None
+  unfolding later_at
+  later_stops text e = rw e refl
+
   two_not_more : (z : ((Atom × Atom) × Atom) ⊎ Unit {0}) (rest : List ℕ) → Either (λ p. (HasAtom d p.0.0 × HasAtom d p.0.1) × HasAtom d p.1) (λ _. Unit {0}) z → two_at d (either three_text (λ _. 41 ∷ []) z ++ rest) ≡ None
-  unfolding two_at later_at
+  unfolding two_at
   two_not_more (inl p) rest fits =
       let behind : List ℕ = codes " " ++ (atom_text (naming d) p.1 ++ 41 ∷ []) ++ rest in
       let first = (atoms 44 comma).again p.0.0 (codes " " ++ (atom_text (naming d) p.0.1 ++ 44 ∷ behind)) fits.0.0 in
-      let stop = atom_stops 41 44 close comma refl p.0.1 behind fits.0.1 in
+      let stop = later_stops (atom_text (naming d) p.0.1 ++ 44 ∷ behind) (atom_stops 41 44 close comma refl p.0.1 behind fits.0.1) in
       let whole : three_text p ++ rest ≡ (atom_text (naming d) p.0.0 ++ 44 ∷ []) ++ (codes " " ++ (atom_text (naming d) p.0.1 ++ 44 ∷ behind)) = simp append_assoc in
-      ap (two_at d) whole ∙ rw (first, after_again (codes " ") (atom_text (naming d) p.0.1 ++ 44 ∷ behind), stop) refl
+      ap (two_at d) whole ∙ rw (first, stop) refl
   two_not_more (inr z) rest fits = two_not_none rest
 
   abbrev More : Type 0

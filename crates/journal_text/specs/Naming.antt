@@ -1,7 +1,5 @@
 -- What the names of a text have to be there for.
 use Rattle.std.specs.Prelude.{ℕ, ◌<◌, length, Option, Some, None}
-use Rattle.std.specs.Option.{option_map}
-use Rattle.words.specs.declared.NackName.{NackName}
 use Rattle.words.specs.declared.Atom.{Atom}
 use Rattle.words.specs.declared.Atom.TheVariants.{Num, Chan, Nack}
 use Rattle.words.specs.declared.Message.{Message}

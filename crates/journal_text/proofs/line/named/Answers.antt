@@ -1,4 +1,4 @@
-use Rattle.std.proofs.Common.{◌≡◌, [], refl, ◌∙◌, arith}
+use Rattle.std.proofs.Common.{[], refl, ◌∙◌, arith}
 use Rattle.journal_text.proofs.Lookup.{named_step}
 use Rattle.journal_text.proofs.line.named.Goals as goal
 
