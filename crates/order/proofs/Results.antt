@@ -1,5 +1,5 @@
 -- The results that a run gives to its threads: they only grow, and each row has its own.
-use Rattle.std.proofs.Common.{◌≡◌, ℕ, ◌+◌, ◌<◌, ◌≤◌, List, [], ◌∷◌, ◌++◌, length, take, drop, slice_get, Some, refl, sym, ap, ◌∙◌, append_assoc, append-nil, subst, arith, inl, inr, ⊎_elim}
+use Rattle.std.proofs.Common.{◌≡◌, ℕ, ◌+◌, ◌<◌, ◌≤◌, List, [], ◌∷◌, ◌++◌, length, take, drop, slice_get, Some, refl, sym, ap, ◌∙◌, append_assoc, append-nil, subst, arith, ⊎_elim}
 use Rattle.std.specs.Prelude.{⊤}
 use Rattle.std.specs.List.{AllByRecursion}
 use Rattle.std.proofs.lemmas.Bool.{cases_eq, cases_order}
@@ -12,10 +12,11 @@ use Rattle.words.specs.declared.Commit.TheVariants.{Pair, Alone}
 use Rattle.words.specs.declared.Message.TheVariants.{Empty}
 use Rattle.sequential.specs.Runs.{Config, HasRow, HasThread, IsLegal, IsRun, applied, with_result, message_by, config_from, config_of, no_results}
 use Rattle.sequential.proofs.Greatest.{more}
-use Rattle.sequential.proofs.Standing.{config_of-more, result-other}
+use Rattle.sequential.proofs.Lists.{slice_get-middle}
+use Rattle.sequential.proofs.Standing.{config_from-append, config_of-more, result-at, result-other, row-thread}
 use Rattle.order.specs.Laws.{OneRowOneCommit}
-use Rattle.order.proofs.Runs.{RunsOn, in-the-middle}
-use Rattle.order.proofs.Swapping.{grows, result-at, row-within}
+use Rattle.order.proofs.Runs.{RunsOn}
+use Rattle.order.proofs.Swapping.{grows, row-within}
 
 -- these results with others behind them
 abbrev pub Extends : List Chosen → List Chosen → Type 0
@@ -49,7 +50,7 @@ config-extends config (c ∷ cs) t =
 -- a result stays where it stands
 pub result-stays : (before rs : List Chosen) (r : Chosen) (g : ℕ) → g ≡ length before → Extends (before ++ r ∷ []) rs → slice_get rs g ≡ Some r
 result-stays before rs r g at h =
-    ap (λ (n : ℕ). slice_get rs n) at ∙ ap (λ (xs : List Chosen). slice_get xs (length before)) (h.1 ∙ append_assoc before (r ∷ []) h.0) ∙ in-the-middle before h.0 r
+    ap (λ (n : ℕ). slice_get rs n) at ∙ ap (λ (xs : List Chosen). slice_get xs (length before)) (h.1 ∙ append_assoc before (r ∷ []) h.0) ∙ slice_get-middle before h.0 r
 
 -- the receiver of a pair got its message
 abbrev pub Got : Config → Commit → Type 0
@@ -74,14 +75,6 @@ got-each ps rows es (c ∷ cs) run = (
 )
 
 -- ROWS
-
-config_from-append : (config : Config) (xs ys : List Commit) → config_from config (xs ++ ys) ≡ config_from (config_from config xs) ys
-config_from-append config [] ys = refl
-config_from-append config (x ∷ xs) ys = config_from-append (applied config x) xs ys
-
-row-thread : (c : Commit) (t g : ℕ) → HasRow c t g → HasThread c t
-row-thread (Pair sender receiver chan msg stamp) t g h = ⊎_elim (λ s. inl s.0) (λ r. inr r.0) h
-row-thread (Alone at why stamp) t g h = h.0
 
 extends-length : (xs ys : List Chosen) → Extends xs ys → length xs ≤ length ys
 extends-length xs ys h = omega (arith, ap (λ (zs : List Chosen). length zs) h.1, length-append xs h.0)

@@ -17,12 +17,12 @@ use Rattle.words.specs.declared.Message.TheVariants.{Empty}
 use Rattle.words.specs.declared.Row.{Row}
 use Rattle.sequential.specs.Runs.{CanTake, Config, HasThread, IsLegal, IsRun, applied, with_result, config_from, config_of}
 use Rattle.sequential.proofs.Greatest.{more}
-use Rattle.sequential.proofs.Standing.{config_of-more, result-other}
+use Rattle.sequential.proofs.Standing.{config_of-more, result-at, result-other}
 use Rattle.order.specs.Laws.{NamedIsReceived, ReceivedIsSent}
 use Rattle.order.specs.Messages.{base_in, chosen_base, sent_by, sent_behind, sent_of, sent, message_of, received_in, named_in, named}
 use Rattle.order.proofs.Results.{Got, got-each}
 use Rattle.order.proofs.Runs.{RunsOn, runs-on}
-use Rattle.order.proofs.Swapping.{applied-other, has-or-not, result-at}
+use Rattle.order.proofs.Swapping.{applied-other, has-or-not}
 
 -- ONE MORE RESULT
 

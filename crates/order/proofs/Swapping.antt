@@ -1,30 +1,26 @@
 -- Two commits next to each other, of which the second does not count the first, may change places.
-use Rattle.std.proofs.Common.{◌≡◌, ◌⊎◌, ℕ, ◌+◌, ◌≤◌, Bool, cond, eqb, List, [], ◌∷◌, ◌++◌, length, refl, sym, ap, ◌∙◌, subst, arith, inl, inr, ⊎_elim}
+use Rattle.std.proofs.Common.{◌≡◌, ◌⊎◌, ℕ, ◌+◌, ◌≤◌, cond, eqb, List, [], ◌∷◌, ◌++◌, length, refl, sym, ap, ◌∙◌, subst, arith, inl, inr, ⊎_elim}
 use Rattle.std.specs.Prelude.{⊤}
-use Rattle.std.proofs.lemmas.Bool.{cases_eq, eq-eqb}
+use Rattle.std.proofs.lemmas.Bool.{cases_eq}
 use Rattle.std.proofs.lemmas.Option.{slice_get_within}
 use Rattle.syntax.specs.Processes.{Proc}
 use Rattle.thread.specs.After.{Chosen}
 use Rattle.words.specs.declared.Base.{Base}
-use Rattle.words.specs.declared.Cause.{Cause}
 use Rattle.words.specs.declared.Cause.TheVariants as cause
 use Rattle.words.specs.declared.Commit.{Commit}
 use Rattle.words.specs.declared.Commit.TheVariants.{Pair, Alone}
 use Rattle.words.specs.declared.Message.TheVariants.{Empty}
 use Rattle.words.specs.declared.NackName.{NackName}
 use Rattle.words.specs.declared.Row.{Row}
-use Rattle.sequential.specs.Runs.{Config, CanTake, MayTake, IsCaused, IsLegal, IsFiredAt, FiredAt, FiredFirst, Fires, CountsFor, HasRow, HasThread, IsGreatest, Follows, applied, with_result, message_by, config_of, stamp_of}
+use Rattle.sequential.specs.Runs.{Config, CanTake, MayTake, IsLegal, IsFiredAt, FiredAt, FiredFirst, Fires, CountsFor, HasRow, HasThread, IsGreatest, Follows, applied, with_result, message_by, config_of, stamp_of}
 use Rattle.sequential.proofs.Firing.{fired-kept, fired-cases}
 use Rattle.sequential.proofs.Greatest.{more, in-more, last-more, more-cases, greatest-other, greatest-same}
 use Rattle.sequential.proofs.Growing.{first-kept, first-before}
-use Rattle.sequential.proofs.Standing.{result-other}
+use Rattle.sequential.proofs.Standing.{next-alone, result-at, result-other}
 use Rattle.order.proofs.Deciding.{first-of}
 use Rattle.order.proofs.Stamps.{counts}
 
 -- WHAT A COMMIT DOES TO A THREAD
-
-pub result-at : (t u : ℕ) (r : Chosen) (config : Config) → u ≡ t → with_result t r config u ≡ config u ++ r ∷ []
-result-at t u r config e = ap (λ (b : Bool). cond b (config u ++ r ∷ []) (config u)) (eq-eqb u t e)
 
 pub applied-other : (config : Config) (c : Commit) (t : ℕ) → (HasThread c t → ⊥) → applied config c t ≡ config t
 applied-other config (Pair sender receiver chan msg stamp) t none =
@@ -37,10 +33,6 @@ pub record Grew (config : Config) (c : Commit) (t : ℕ) : Type 0 where
   pub result : Chosen
   pub is : applied config c t ≡ config t ++ result ∷ []
   pub row : HasRow c t (length (config t))
-
-next-of : (ps : List Proc) (rows : ℕ) (config : Config) (at : Row × ℕ) (why : Cause) → IsCaused ps rows config at why → at.0.sync ≡ length (config at.0.thread)
-next-of ps rows config at (cause.Always m) h = h.next
-next-of ps rows config at (cause.Nack n) h = h.0.next
 
 row-at : (config : Config) (at : Row × ℕ) (t : ℕ) → t ≡ at.0.thread → at.0.sync ≡ length (config at.0.thread) → at.0.sync ≡ length (config t)
 row-at config at t e next = next ∙ ap (λ (u : ℕ). length (config u)) (sym e)
@@ -65,7 +57,7 @@ grows ps rows config (Pair sender receiver chan msg stamp) t legal has =
 grows ps rows config (Alone at why stamp) t legal e = record {
   result = (at.1, message_by why);
   is = result-at at.0.thread t (at.1, message_by why) config (sym e);
-  row = (e, row-at config at t (sym e) (next-of ps rows config at why legal));
+  row = (e, row-at config at t (sym e) (next-alone ps rows config at why legal));
 }
 
 pub has-or-not : (c : Commit) (t : ℕ) → HasThread c t ⊎ (HasThread c t → ⊥)
@@ -238,7 +230,7 @@ pub row-within : (ps : List Proc) (rows : ℕ) (config : Config) (d : Commit) (t
 row-within ps rows config (Pair sender receiver chan msg stamp) t g legal h = ⊎_elim
     (λ s. sym s.1 ∙ row-at config sender t (sym s.0) legal.1.next)
     (λ r. sym r.1 ∙ row-at config receiver t (sym r.0) legal.2.next) h
-row-within ps rows config (Alone at why stamp) t g legal h = sym h.1 ∙ row-at config at t (sym h.0) (next-of ps rows config at why legal)
+row-within ps rows config (Alone at why stamp) t g legal h = sym h.1 ∙ row-at config at t (sym h.0) (next-alone ps rows config at why legal)
 
 -- the first does not count the second, where that stands before it
 second-uncounted : (ps : List Proc) (rows : ℕ) (config : Config) (c d : Commit) → IsLegal ps rows config c → IsLegal ps rows config d → ((t : ℕ) → HasThread c t → HasThread d t → ⊥) →

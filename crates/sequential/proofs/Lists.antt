@@ -10,9 +10,12 @@ slice_get-first [] ys k lt = absurd (omega (arith, lt))
 slice_get-first (x ∷ xs) ys zero lt = refl
 slice_get-first (x ∷ xs) ys (suc k) lt = slice_get-first xs ys k (omega (arith, lt))
 
+pub slice_get-middle : {A : Type 0} (xs ys : List A) (y : A) → slice_get (xs ++ y ∷ ys) (length xs) ≡ Some y
+slice_get-middle [] ys y = refl
+slice_get-middle (x ∷ xs) ys y = slice_get-middle xs ys y
+
 pub slice_get-last : {A : Type 0} (xs : List A) (y : A) → slice_get (xs ++ y ∷ []) (length xs) ≡ Some y
-slice_get-last [] y = refl
-slice_get-last (x ∷ xs) y = slice_get-last xs y
+slice_get-last xs y = slice_get-middle xs [] y
 
 -- what stands in a list with one more element: it stood there before, or it is the last
 pub slice_get-more : {A : Type 0} (xs : List A) (y z : A) (k : ℕ) → slice_get (xs ++ y ∷ []) k ≡ Some z → ((k < length xs) × (slice_get xs k ≡ Some z)) ⊎ ((k ≡ length xs) × (y ≡ z))

@@ -21,15 +21,18 @@ use Rattle.sequential.proofs.Growing.{TakesPart, strand-grows, strand-stays}
 
 -- CONFIGURATIONS
 
-config_from-more : (config : Config) (cs : List Commit) (c : Commit) → config_from config (cs ++ c ∷ []) ≡ applied (config_from config cs) c
-config_from-more config [] c = refl
-config_from-more config (d ∷ cs) c = config_from-more (applied config d) cs c
+pub config_from-append : (config : Config) (cs ds : List Commit) → config_from config (cs ++ ds) ≡ config_from (config_from config cs) ds
+config_from-append config [] ds = refl
+config_from-append config (c ∷ cs) ds = config_from-append (applied config c) cs ds
 
 pub config_of-more : (journal : List Commit) (c : Commit) → config_of (more journal c) ≡ applied (config_of journal) c
-config_of-more journal c = config_from-more no_results journal c
+config_of-more journal c = config_from-append no_results journal (c ∷ [])
+
+pub result-at : (t u : ℕ) (r : Chosen) (config : Config) → u ≡ t → with_result t r config u ≡ config u ++ r ∷ []
+result-at t u r config e = ap (λ (b : Bool). cond b (config u ++ r ∷ []) (config u)) (eq-eqb u t e)
 
 result-same : (t : ℕ) (r : Chosen) (config : Config) → with_result t r config t ≡ config t ++ r ∷ []
-result-same t r config = ap (λ (b : Bool). cond b (config t ++ r ∷ []) (config t)) (eq-eqb t t refl)
+result-same t r config = result-at t t r config refl
 
 pub result-other : (t u : ℕ) (r : Chosen) (config : Config) → (u ≡ t → ⊥) → with_result t r config u ≡ config u
 result-other t u r config ne = ap (λ (b : Bool). cond b (config u ++ r ∷ []) (config u)) (ne_eqb u t ne)
@@ -48,7 +51,7 @@ set-other (z ∷ xs) zero (suc u) y ne = refl
 set-other (z ∷ xs) (suc t) zero y ne = refl
 set-other (z ∷ xs) (suc t) (suc u) y ne = set-other xs t u y (λ e. ne (omega (arith, e)))
 
-row-thread : (c : Commit) (t g : ℕ) → HasRow c t g → HasThread c t
+pub row-thread : (c : Commit) (t g : ℕ) → HasRow c t g → HasThread c t
 row-thread (Pair sender receiver chan msg stamp) t g h = ⊎_elim (λ s. inl s.0) (λ r. inr r.0) h
 row-thread (Alone at why stamp) t g h = h.0
 
@@ -88,7 +91,7 @@ takes-part ps rows journal c t g f row only counts = record {
 
 -- COMMITS ALONE
 
-next-alone : (ps : List Proc) (rows : ℕ) (config : Config) (at : Row × ℕ) (why : Cause) → IsCaused ps rows config at why → at.0.sync ≡ length (config at.0.thread)
+pub next-alone : (ps : List Proc) (rows : ℕ) (config : Config) (at : Row × ℕ) (why : Cause) → IsCaused ps rows config at why → at.0.sync ≡ length (config at.0.thread)
 next-alone ps rows config at (cause.Always m) h = h.next
 next-alone ps rows config at (cause.Nack n) h = h.0.next
 
