@@ -299,7 +299,6 @@ fn begun(alloc: Global, mut machine: Machine) -> Result<Machine, AllocError>
     Ok(machine)
 }
 
-#[tactic(auto, using(thread::proofs::Crossing::machine_send))]
 /// Two machines, each begun in a thread of its own.
 fn both_begun<R: Threads>(
     rt: &R,
