@@ -45,6 +45,3 @@ pub fn every_moment_is_lawful()
     ensures played { (shape : Shape) (s : State ℕ View) → Keeps shape s → (steps : List (Seat × Step)) × (world : World) × Plays (start_world shape.threads shape.rows shape.passes) steps world × (world.table ≡ record { threads = shape.threads; rows = shape.rows; words = s.words }) }
     ensures one_holder { (shape : Shape) (s : State ℕ View) (i j : ℕ) (u v : View) (r : Row) → Keeps shape s → IsAt s i u → IsAt s j v → Has u.seen.held r → Has v.seen.held r → i ≡ j }
 {}
-
-#[cfg(test)]
-mod tests;

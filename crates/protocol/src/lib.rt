@@ -56,6 +56,3 @@ pub fn one_answer()
         → IsRefused start steps j
         → i ≡ j }
 {}
-
-#[cfg(test)]
-mod tests;
