@@ -147,7 +147,7 @@ abbrev pub Either : {A B : Type 0} → (A → Type 0) → (B → Type 0) → A �
 Either F G (inl a) = F a
 Either F G (inr b) = G b
 
-first_or_second : {A : Type 0} (o p : Option A) (y : A) → or_else o p ≡ Some y → (o ≡ Some y) ⊎ (p ≡ Some y)
+pub first_or_second : {A : Type 0} (o p : Option A) (y : A) → or_else o p ≡ Some y → (o ≡ Some y) ⊎ (p ≡ Some y)
 first_or_second None p y e = inr e
 first_or_second (Some x) p y e = inl e
 

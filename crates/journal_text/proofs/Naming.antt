@@ -7,7 +7,7 @@ use Rattle.std.proofs.lemmas.Option.{some_pair_parts}
 use Rattle.token.specs.Tokens.{is_word, is_letter, is_name}
 use Rattle.digits.specs.Reading.{◌>>=◌, or_else, begins, after_word}
 use Rattle.digits.proofs.Numbers.{bind_some, chosen_some}
-use Rattle.digits.proofs.Forms.{Reads, word_takes, after_again}
+use Rattle.digits.proofs.Forms.{first_or_second, Reads, word_takes, after_again}
 use Rattle.writer.specs.Laws.{AreDistinct, AreNames}
 use Rattle.journal_text.specs.Reading.{after_byte, after_name, named_from, named_at}
 
@@ -72,10 +72,6 @@ record TakesName (end i : ℕ) (names : List (List ℕ)) (bytes : List ℕ) (n :
   count : n ≡ i + place
   there : place < length names
   parts : bytes ≡ get_or names place [] ++ end ∷ rest
-
-first_or_second : {A : Type 0} (o p : Option A) (y : A) → or_else o p ≡ Some y → (o ≡ Some y) ⊎ (p ≡ Some y)
-first_or_second None p y e = inr e
-first_or_second (Some x) p y e = inl e
 
 named_takes : (end i : ℕ) (names : List (List ℕ)) (bytes : List ℕ) (n : ℕ) (rest : List ℕ) → named_from end i names bytes ≡ Some (n, rest) → TakesName end i names bytes n rest
 unfolding named_from

@@ -19,7 +19,7 @@ swapped a b = at_test (bytes_eq a b) refl (bytes_eq b a) refl
     at_test true e false f = sym (sym f ∙ (bytes_eq-Decides b a).1 (sym ((bytes_eq-Decides a b).0 e)))
     at_test false e true f = sym e ∙ (bytes_eq-Decides a b).1 (sym ((bytes_eq-Decides b a).0 f))
 
-not_first : (b : Bool) (o : Option ℕ) → cond b (Some 0) (option_map (λ n. n + 1) o) ≡ None → (b ≡ false) × (o ≡ None)
+pub not_first : (b : Bool) (o : Option ℕ) → cond b (Some 0) (option_map (λ n. n + 1) o) ≡ None → (b ≡ false) × (o ≡ None)
 not_first true o e = absurd cc
 not_first false None e = (refl, refl)
 not_first false (Some n) e = absurd cc

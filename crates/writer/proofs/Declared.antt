@@ -13,7 +13,8 @@ use Rattle.syntax.specs.Processes.{Proc}
 use Rattle.grammar.specs.Written as written
 use Rattle.grammar.specs.Written.{block_tokens, channels_tokens, processes_tokens}
 use Rattle.grammar.specs.Meaning.{block_meaning, declare, channels_meaning, processes_meaning}
-use Rattle.grammar.proofs.Names.{part, some_is, unless_some}
+use Rattle.phrase.proofs.Placing.{not_first}
+use Rattle.grammar.proofs.Names.{neither, part, some_is, unless_some}
 use Rattle.faults.proofs.Shapes.{block_shape}
 use Rattle.script.specs.Scripts.{Script}
 use Rattle.script.specs.Spelling.{script_meaning, Spells}
@@ -25,15 +26,6 @@ use Rattle.writer.proofs.Lexing.{Good, AllGood, texts_are_good}
 absent : (o : Option ℕ) → is_some o ≡ false → o ≡ None
 absent None e = refl
 absent (Some n) e = absurd cc
-
-neither : (a b : Bool) → (a || b) ≡ false → a ≡ false
-neither false b e = refl
-neither true b e = absurd cc
-
-not_first : (b : Bool) (o : Option ℕ) → cond b (Some 0) (option_map (λ n. n + 1) o) ≡ None → (b ≡ false) × (o ≡ None)
-not_first true o e = absurd cc
-not_first false None e = (refl, refl)
-not_first false (Some n) e = absurd cc
 
 others : (text : List ℕ) (names : List (List ℕ)) → place text names ≡ None → AllByRecursion (λ x. x ≢ text) names
 others text [] e = tt
@@ -55,7 +47,7 @@ declared limit names new text e h =
     unless_some (is_some (place text names) || (leb limit (length names) || ltb 32 (length text))) _ new e
     (λ may f.
     let is : names ++ text ∷ [] ≡ new = some_is _ _ f in
-    let free : place text names ≡ None = absent (place text names) (neither _ _ may) in
+    let free : place text names ≡ None = absent (place text names) (neither _ _ may).0 in
     (is, subst AreDistinct is (distinct_more names text h (others text names free))))
 
 channels_distinct : (texts names new : List (List ℕ)) → channels_meaning names texts ≡ Some new → AreDistinct names → (names ++ texts ≡ new) × AreDistinct new
