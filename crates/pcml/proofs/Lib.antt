@@ -1,4 +1,0 @@
-pub mod Passes
-pub mod Parts
-pub mod MeetingLedger
-pub mod Playing

@@ -1,5 +1,0 @@
-pub mod Meet
-pub mod Play
-pub mod PlayFaults
-pub mod Check
-pub mod Command

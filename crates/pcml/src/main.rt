@@ -1,22 +1,13 @@
-//! `pcml`: one rendezvous of two threads, or the steps of a schedule, played in a world.
+//! `pcml`: the program of `tool`, over the files, words and streams of the process.
 #![tactic(auto)]
 
-mod check;
-mod command;
-mod fault;
-mod meet;
-mod play;
-mod request;
-mod source;
-
-use fault::Fault;
-use source::{Source, SourceFault};
 use std::io::{ErrorKind, Write};
 use std::process::ExitCode;
 use std::rt::{Env, Files};
 use std::sync::Wait;
 use std::thread::Threads;
 use std::{env, fs, io};
+use tool::{BAD_WORDS, Fault, Source, SourceFault, command, tell};
 
 /// The files that the process sees.
 #[derive(Drop)]
@@ -43,7 +34,7 @@ fn run<R: Env + Files + Print + AllocGlobal + Threads + Wait, E: Write>(
     let words: Vec<&str> = words.iter().map(|word| word.as_str()).collect(rt.alloc())?;
     let mut files = SystemFiles { rt };
     let mut out = io::writer(rt);
-    Ok(command::command(rt, rt.alloc(), words.as_slice(), &mut files, &mut out, err))
+    Ok(command(rt, rt.alloc(), words.as_slice(), &mut files, &mut out, err))
 }
 
 fn main(rt: HostRuntime) -> ExitCode {
@@ -51,16 +42,11 @@ fn main(rt: HostRuntime) -> ExitCode {
     let mut err = io::writer(&errors);
     let status = match run(&rt, &mut err) {
         Ok(status) => status,
-        Err(error) if error.kind() == ErrorKind::OutOfMemory => {
-            command::tell(&mut err, Fault::Memory)
-        }
+        Err(error) if error.kind() == ErrorKind::OutOfMemory => { tell(&mut err, Fault::Memory) }
         Err(_) => {
             let _ = writeln!(err, "error: a word is no text");
-            command::BAD_WORDS
+            BAD_WORDS
         }
     };
     ExitCode::from(status)
 }
-
-#[cfg(test)]
-mod tests;

@@ -1,5 +1,0 @@
-use Rattle.pcml.proofs.Playing.{played_or_faulty, has_one_first_refused}
-use Rattle.pcml.proofs.play.play_laws.Goals as goal
-
-pub returns : goal.returns
-returns c = record { apart = played_or_faulty; first = has_one_first_refused }

@@ -1,0 +1,4 @@
+pub mod Passes
+pub mod Parts
+pub mod MeetingLedger
+pub mod Playing

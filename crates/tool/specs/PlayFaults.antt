@@ -1,0 +1,28 @@
+-- The faults of reading as faults of playing, and the faults of playing and of files as faults of the program.
+use Rattle.schedule.specs.declared.ReadFault.{ReadFault}
+use Rattle.schedule.specs.declared.ReadFault.TheVariants as reading
+use Rattle.tool.specs.declared.meet.MeetFault.{MeetFault}
+use Rattle.tool.specs.declared.meet.MeetFault.TheVariants as meets
+use Rattle.tool.specs.declared.play.PlayFault.{PlayFault}
+use Rattle.tool.specs.declared.play.PlayFault.TheVariants.{Memory, BadStep, NotAllowed}
+use Rattle.tool.specs.declared.source.SourceFault.{SourceFault}
+use Rattle.tool.specs.declared.source.SourceFault.TheVariants as files
+use Rattle.tool.specs.declared.fault.Fault.{Fault}
+use Rattle.tool.specs.declared.fault.Fault.TheVariants as faults
+
+abbrev pub comes_from : ReadFault → PlayFault
+comes_from reading.Memory = Memory
+comes_from (reading.BadStep line) = BadStep line
+
+abbrev pub fault_of_meet : MeetFault → Fault
+fault_of_meet meets.Memory = faults.Memory
+fault_of_meet meets.NoThread = faults.NoThread
+
+abbrev pub fault_of_play : PlayFault → Fault
+fault_of_play Memory = faults.Memory
+fault_of_play (BadStep line) = faults.BadStep line
+fault_of_play (NotAllowed step) = faults.NotAllowed step
+
+abbrev pub fault_of_file : SourceFault → Fault
+fault_of_file files.Memory = faults.Memory
+fault_of_file files.Unread = faults.Unread

@@ -1,0 +1,111 @@
+//! The faults of the program, each with its number.
+
+ghost use Rattle.std.specs.Prelude.{◌≡◌};
+ghost use Rattle.tool.specs.Check.{fault_of_script};
+ghost use Rattle.tool.specs.PlayFaults.{fault_of_meet, fault_of_play, fault_of_file};
+ghost use Rattle.tool.specs.declared.fault.Fault.TheVariants.{Memory};
+
+use crate::meet::MeetFault;
+use crate::play::PlayFault;
+use crate::source::SourceFault;
+use script::ScriptFault;
+use std::alloc::AllocError;
+use thiserror::Error;
+
+/// Why the program printed nothing, or not all. What it shows is the line on the error stream.
+#[derive(Clone, Copy, Debug, PartialEq, Eq, Error)]
+pub enum Fault {
+    #[error("fault 1")]
+    Memory,
+    /// The first step of a schedule that is not allowed, from 1.
+    #[error("fault 2 step {0}")]
+    NotAllowed(usize),
+    /// A thread that could not be started.
+    #[error("fault 6")]
+    NoThread,
+    /// A token of a script that the grammar does not allow, by its line, from 1.
+    #[error("fault 11 line {0}")]
+    Syntax(usize),
+    /// A name of a script that stands for nothing.
+    #[error("fault 12 line {0}")]
+    UnknownName(usize),
+    /// A name of a script that stands for something already.
+    #[error("fault 13 line {0}")]
+    Twice(usize),
+    /// More than the limits of a script allow.
+    #[error("fault 14 line {0}")]
+    TooMany(usize),
+    /// A loop of a script, by the line of its word, that does not begin with a sync.
+    #[error("fault 15 line {0}")]
+    LoopWithoutSync(usize),
+    /// A script of more than 65,536 bytes.
+    #[error("fault 16")]
+    TooLong,
+    /// The first line of a schedule that is not of the form, from 1.
+    #[error("fault 22 line {0}")]
+    BadStep(usize),
+    /// A file that cannot be read.
+    #[error("fault 31")]
+    Unread,
+    /// An output that cannot be written.
+    #[error("fault 32")]
+    Unwritten,
+}
+
+impl From<AllocError> for Fault {
+    ghost from_gives = { λ _ fault. fault ≡ Memory };
+
+    fn from(_error: AllocError) -> Fault {
+        Fault::Memory
+    }
+}
+
+impl From<MeetFault> for Fault {
+    ghost from_gives = { λ meet fault. fault ≡ fault_of_meet meet };
+
+    fn from(fault: MeetFault) -> Fault {
+        match fault {
+            MeetFault::Memory => Fault::Memory,
+            MeetFault::NoThread => Fault::NoThread,
+        }
+    }
+}
+
+impl From<SourceFault> for Fault {
+    ghost from_gives = { λ file fault. fault ≡ fault_of_file file };
+
+    fn from(fault: SourceFault) -> Fault {
+        match fault {
+            SourceFault::Memory => Fault::Memory,
+            SourceFault::Unread => Fault::Unread,
+        }
+    }
+}
+
+impl From<PlayFault> for Fault {
+    ghost from_gives = { λ play fault. fault ≡ fault_of_play play };
+
+    fn from(fault: PlayFault) -> Fault {
+        match fault {
+            PlayFault::Memory => Fault::Memory,
+            PlayFault::NotAllowed(step) => Fault::NotAllowed(step),
+            PlayFault::BadStep(line) => Fault::BadStep(line),
+        }
+    }
+}
+
+impl From<ScriptFault> for Fault {
+    ghost from_gives = { λ script fault. fault ≡ fault_of_script script };
+
+    fn from(fault: ScriptFault) -> Fault {
+        match fault {
+            ScriptFault::Memory => Fault::Memory,
+            ScriptFault::Syntax(line) => Fault::Syntax(line),
+            ScriptFault::UnknownName(line) => Fault::UnknownName(line),
+            ScriptFault::Twice(line) => Fault::Twice(line),
+            ScriptFault::TooMany(line) => Fault::TooMany(line),
+            ScriptFault::LoopWithoutSync(line) => Fault::LoopWithoutSync(line),
+            ScriptFault::TooLong => Fault::TooLong,
+        }
+    }
+}

@@ -1,0 +1,22 @@
+//! The program as a library: `command` does what the words of a command line ask for, over any files
+//! and any two streams. What each request prints is a call of its own.
+#![tactic(auto)]
+
+mod check;
+mod fault;
+mod meet;
+mod play;
+mod program;
+mod request;
+mod source;
+
+pub use crate::check::check_text;
+pub use crate::fault::Fault;
+pub use crate::meet::{MeetFault, meet_text};
+pub use crate::play::{PlayFault, play_laws, play_text};
+pub use crate::program::{BAD_WORDS, command, tell};
+pub use crate::request::Request;
+pub use crate::source::{Source, SourceFault};
+
+#[cfg(test)]
+mod tests;

@@ -1,0 +1,116 @@
+//! The program, over any files and any two streams.
+
+ghost use Rattle.std.specs.Prelude.{◌≡◌, ◌⊎◌, List, ℕ, IfOk, IfErr, OnOk};
+ghost use Rattle.std.specs.Io.KnownBytes.{Appends};
+ghost use Rattle.tool.specs.declared.request.Request.{Request};
+ghost use Rattle.tool.specs.declared.fault.Fault.TheVariants.{Unwritten};
+ghost use Rattle.tool.specs.Command.{Answers, Fails};
+
+use crate::check::check_text;
+use crate::fault::Fault;
+use crate::meet::meet_text;
+use crate::play::play_text;
+use crate::request::{Request, read_words};
+use crate::source::Source;
+use clap::error::ErrorKind;
+use std::alloc::Global;
+use std::io::Write;
+use std::sync::Wait;
+use std::thread::Threads;
+
+const DONE: u8 = 0;
+
+const FAULT: u8 = 1;
+
+/// The status after words that are not understood.
+pub const BAD_WORDS: u8 = 2;
+
+/// The text that a request is answered with.
+fn answer<R: Threads + Wait, S: Source>(
+    rt: &R,
+    alloc: Global,
+    asked: Request<'_>,
+    source: &mut S,
+) -> Result<Vec<u8>, Fault>
+    ensures done { IfOk result (λ text. Answers asked.entry text.items) }
+    ensures fault { IfErr result (Fails asked.entry) }
+{
+    match asked {
+        Request::Meet(value) => Ok(meet_text(rt, alloc, value)?),
+        Request::Play(name) => {
+            let bytes = source.read(name)?;
+            Ok(play_text(alloc, bytes.as_slice())?)
+        }
+        Request::Check(name) => {
+            let bytes = source.read(name)?;
+            Ok(check_text(alloc, bytes.as_slice())?)
+        }
+    }
+}
+
+/// Writes the whole text.
+fn write_text<O: Write>(out: &mut O, text: &[u8]) -> Result<(), Fault>
+    ensures done { OnOk result (Appends (O.contents out.old) (O.contents out.new) text.now) }
+    ensures fault { IfErr result (λ fault. fault ≡ Unwritten) }
+{
+    if out.write_all(text).is_err() || out.flush().is_err() {
+        return Err(Fault::Unwritten);
+    }
+    Ok(())
+}
+
+/// Answers a request on the output. After a fault nothing was written, but for that of the output.
+fn respond<R: Threads + Wait, S: Source, O: Write>(
+    rt: &R,
+    alloc: Global,
+    asked: Request<'_>,
+    source: &mut S,
+    out: &mut O,
+) -> Result<(), Fault>
+    ensures done { OnOk result ((text : List ℕ) × Answers asked.entry text
+        × Appends (O.contents out.old) (O.contents out.new) text) }
+    ensures fault { IfErr result (λ fault. (fault ≡ Unwritten) ⊎ (Fails asked.entry fault × (out.new ≡ out.old))) }
+{
+    let text = answer(rt, alloc, asked, source)?;
+    write_text(out, text.as_slice())
+}
+
+/// Does what the words behind the program's name ask for, and answers the status: 0, or 1 after a
+/// fault, or 2 after words that are not understood and after a wish for help. A fault is a line on
+/// the error stream; whether that stream takes it changes nothing.
+pub fn command<R: Threads + Wait, S: Source, O: Write, E: Write>(
+    rt: &R,
+    alloc: Global,
+    words: &[&str],
+    source: &mut S,
+    out: &mut O,
+    err: &mut E,
+) -> u8
+    // Where all went well, the output has grown by the answer to some request.
+    ensures done { result ≡ 0 → (asked : Request) × (text : List ℕ) × Answers asked text
+        × Appends (O.contents out.old) (O.contents out.new) text }
+    ensures bad_words { result ≡ 2 → out.new ≡ out.old }
+{
+    let asked = match read_words(alloc, words) {
+        Ok(asked) => asked,
+        Err(error) if error.kind() == ErrorKind::OutOfMemory => {
+            return tell(err, Fault::Memory);
+        }
+        Err(error) => {
+            let _ = write!(err, "{error}");
+            return BAD_WORDS;
+        }
+    };
+    match respond(rt, alloc, asked, source, out) {
+        Ok(()) => DONE,
+        Err(fault) => tell(err, fault),
+    }
+}
+
+/// Tells the fault on a line of its own, and answers its status.
+pub fn tell<E: Write>(err: &mut E, fault: Fault) -> u8
+    ensures { result ≡ 1 }
+{
+    let _ = writeln!(err, "{fault}");
+    FAULT
+}
