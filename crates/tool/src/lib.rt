@@ -18,7 +18,7 @@ pub use crate::play::{PlayFault, play_laws, play_text};
 pub use crate::program::{BAD_WORDS, command, tell};
 pub use crate::replay::{Replayed, replay_text};
 pub use crate::request::Request;
-pub use crate::source::{Source, SourceFault};
+pub use crate::source::{Source, SourceFault, SystemFiles};
 
 #[cfg(test)]
 mod tests;
