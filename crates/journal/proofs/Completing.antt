@@ -1,10 +1,8 @@
 -- A ledger's commits, led on to their end and put in order.
-use Rattle.std.proofs.Common.{◌≡◌, ℕ, List, ◌++◌, length, Some, sym, ap, ◌∙◌, subst}
+use Rattle.std.proofs.Common.{◌≡◌, ℕ, List, ◌++◌, length, sym, ap, ◌∙◌, subst}
 use Rattle.std.specs.Prelude.{IsPermutation}
 use Rattle.std.proofs.lemmas.List.Sorted.{IsPermutation-append_left, IsPermutation-trans}
-use Rattle.std.proofs.lemmas.Option.{same_Some, some_pair_parts}
 use Rattle.syntax.specs.Processes.{Proc}
-use Rattle.thread.specs.After.{after}
 use Rattle.words.specs.declared.Atom.{Atom}
 use Rattle.words.specs.declared.Commit.{Commit}
 use Rattle.protocol.specs.Ledgers.{Ledger, IsInOrder, IsLawful, commits_in}
@@ -13,20 +11,12 @@ use Rattle.sequential.specs.declared.state.State.{State}
 use Rattle.sequential.specs.declared.state.ReplayFault.{ReplayFault}
 use Rattle.sequential.specs.declared.state.ReplayFault.TheVariants.{Memory, Unlawful}
 use Rattle.sequential.specs.Replays.{Refuses, StandsAfter}
-use Rattle.sequential.specs.Runs.{BreaksOffAt, Config, EndsAs, IsMaximal, IsRun, config_of, end_of}
+use Rattle.sequential.specs.Runs.{BreaksOffAt, Config, IsMaximal, IsRun, config_of}
+use Rattle.sequential.proofs.Telling.{ends-both}
 use Rattle.order.specs.Laws.{IsOrderOf}
 use Rattle.order.proofs.LedgerOrder.{one-ledger-order}
 use Rattle.order.proofs.Ordering.{ordered-is-run}
 use Rattle.journal.specs.Records.{EndsOf, OutputsOf, TellsEnds, IsCompletion, RefusesLedger}
-
--- how a thread ended and what it printed, each told with something of the other
-ends-both : (ps : List Proc) (rows t : ℕ) (config : Config) (end other : End) (printed told : List Atom) → EndsAs ps rows t config end told → EndsAs ps rows t config other printed → EndsAs ps rows t config end printed
-ends-both ps rows t config end other printed told one two =
-    let process : one.process ≡ two.process = same_Some one.process two.process (sym one.is_its ∙ two.is_its) in
-    let same : Some (end, told) ≡ Some (other, printed) =
-    sym one.ends ∙ ap (λ (p : Proc). end_of rows (length (config t)) (after p.body (length p.variables) t (config t))) process ∙ two.ends in
-    let parts = some_pair_parts end other told printed same in
-    record { process = two.process; is_its = two.is_its; ends = two.ends ∙ ap (λ (e : End). Some (e, printed)) (sym parts.0) }
 
 tells-ends : (ps : List Proc) (rows : ℕ) (journal : List Commit) (s : State) (ends : List End) (outputs : List (List Atom)) → StandsAfter ps rows journal s → EndsOf s ends → OutputsOf s outputs →
     TellsEnds ps rows (config_of journal) ends outputs

@@ -1,5 +1,4 @@
 pub mod Names
-pub mod Naming
 pub mod Texts
 pub mod Journals
 pub mod Reading

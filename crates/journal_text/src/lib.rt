@@ -7,11 +7,11 @@
 #![tactic(auto)]
 
 ghost use Rattle.std.specs.Prelude.{◌≡◌, ◌++◌, OnOk, IfOk, IfErr, map};
-ghost use Rattle.std.specs.List.{AllByRecursion};
+ghost use Rattle.std.specs.String.{string_bytes};
 ghost use Rattle.journal_text.specs.Answers.{Explains};
-ghost use Rattle.journal_text.specs.Journals.{HasLine, Spells, SpellsOnlyOne, SpellsOrIsBad, HasOneFirstBadLine};
+ghost use Rattle.journal_text.specs.Journals.{Spells, SpellsOnlyOne, SpellsOrIsBad, HasOneFirstBadLine};
 ghost use Rattle.journal_text.specs.Names.{names_of, naming, numbers};
-ghost use Rattle.journal_text.specs.Texts.{commits_text};
+ghost use Rattle.journal_text.specs.Texts.{atom_text, commits_text};
 ghost use Rattle.journal_text.specs.declared.JournalFault.TheVariants.{Memory};
 ghost use Rattle.script.specs.Scripts.{script_of};
 
@@ -21,11 +21,11 @@ mod writing;
 
 use crate::line::line;
 use crate::names::Names;
-use crate::writing::put_line;
+use crate::writing::{put_atom, put_line};
 use script::Script;
 use std::alloc::{AllocError, AllocFailed, Global};
 use thiserror::Error;
-use words::Commit;
+use words::{Atom, Commit};
 
 /// Why a journal could not be read.
 #[derive(Debug, Drop, Error)]
@@ -53,14 +53,13 @@ impl From<AllocError> for JournalFault {
     }
 }
 
-/// The text of the commits in their order, a line for each, with the names of the script. Each name has
-/// to be declared, and the numbers have to be in range.
+/// The text of the commits in their order, a line for each, with the names of the script. A name that it
+/// does not declare is left out.
 pub fn write_journal(
     alloc: Global,
     script: &Script,
     commits: &[Commit],
 ) -> Result<Vec<u8>, AllocError>
-    requires { AllByRecursion (HasLine (names_of (script_of script.now))) commits.now }
     ensures { IfOk result (λ text. text.items ≡ commits_text (naming (names_of (script_of script.now))) commits.now) }
 {
     let mut out = String::new(alloc);
@@ -68,6 +67,13 @@ pub fn write_journal(
         put_line(&mut out, Some(script), commit)?;
     }
     Ok(out.into_bytes())
+}
+
+/// Appends the atom as it stands in a journal, with the names of the script.
+pub fn push_atom(out: &mut String, script: &Script, atom: Atom) -> Result<(), AllocError>
+    ensures { OnOk result (string_bytes out.new ≡ string_bytes out.old ++ atom_text (naming (names_of (script_of script.now))) atom) }
+{
+    put_atom(out, Some(script), atom)
 }
 
 /// The text of the commits in their order, a line for each, with numbers for the names of threads and

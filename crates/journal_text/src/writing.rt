@@ -1,9 +1,8 @@
-//! The line of a commit, written.
+//! The line of a commit, written. A name that is not declared is left out.
 
 ghost use Rattle.std.specs.Prelude.{◌≡◌, ◌++◌, OnOk};
 ghost use Rattle.std.specs.String.{string_bytes};
 ghost use Rattle.journal_text.specs.Names.{naming_by};
-ghost use Rattle.journal_text.specs.Naming.{HasThread, HasChannel, NamesAtom, NamesMessage, NamesCause, NamesCommit};
 ghost use Rattle.journal_text.specs.Texts.{place_text, nack_text, atom_text, message_text, cause_text, commit_text, commit_line};
 ghost use Rattle.journal_text.specs.Answers.{source};
 
@@ -12,27 +11,30 @@ use std::alloc::AllocError;
 use words::{Atom, Cause, Commit, Message, NackName, Row};
 
 fn put_thread(out: &mut String, script: Option<&Script>, thread: u8) -> Result<(), AllocError>
-    requires { HasThread (source script) thread }
     ensures { OnOk result (string_bytes out.new ≡ string_bytes out.old ++ (naming_by (source script.entry)).thread thread) }
 {
     match script {
-        Some(script) => out.push_str(script.process_name(usize::from(thread))),
+        Some(script) if usize::from(thread) < script.processes().len() => {
+            out.push_str(script.process_name(usize::from(thread)))
+        }
+        Some(_) => Ok(()),
         None => write!(out, "{thread}"),
     }
 }
 
 fn put_channel(out: &mut String, script: Option<&Script>, chan: u8) -> Result<(), AllocError>
-    requires { HasChannel (source script) chan }
     ensures { OnOk result (string_bytes out.new ≡ string_bytes out.old ++ (naming_by (source script.entry)).channel chan) }
 {
     match script {
-        Some(script) => out.push_str(script.channel_name(usize::from(chan))),
+        Some(script) if usize::from(chan) < script.channels() => {
+            out.push_str(script.channel_name(usize::from(chan)))
+        }
+        Some(_) => Ok(()),
         None => write!(out, "{chan}"),
     }
 }
 
 fn put_place(out: &mut String, script: Option<&Script>, place: (Row, u8)) -> Result<(), AllocError>
-    requires { HasThread (source script) place.0.thread }
     ensures { OnOk result (string_bytes out.new ≡ string_bytes out.old ++ place_text (naming_by (source script.entry)) place) }
 {
     let (row, offer) = place;
@@ -41,15 +43,17 @@ fn put_place(out: &mut String, script: Option<&Script>, place: (Row, u8)) -> Res
 }
 
 fn put_nack(out: &mut String, script: Option<&Script>, nack: NackName) -> Result<(), AllocError>
-    requires { HasThread (source script) nack.thread }
     ensures { OnOk result (string_bytes out.new ≡ string_bytes out.old ++ nack_text (naming_by (source script.entry)) nack) }
 {
     put_thread(out, script, nack.thread)?;
     write!(out, ".{}", nack.k)
 }
 
-fn put_atom(out: &mut String, script: Option<&Script>, atom: Atom) -> Result<(), AllocError>
-    requires { NamesAtom (source script) atom }
+pub(crate) fn put_atom(
+    out: &mut String,
+    script: Option<&Script>,
+    atom: Atom,
+) -> Result<(), AllocError>
     ensures { OnOk result (string_bytes out.new ≡ string_bytes out.old ++ atom_text (naming_by (source script.entry)) atom) }
 {
     match atom {
@@ -70,7 +74,6 @@ fn put_message(
     script: Option<&Script>,
     message: Message,
 ) -> Result<(), AllocError>
-    requires { NamesMessage (source script) message }
     ensures { OnOk result (string_bytes out.new ≡ string_bytes out.old ++ message_text (naming_by (source script.entry)) message) }
 {
     out.push_str("(")?;
@@ -94,7 +97,6 @@ fn put_message(
 }
 
 fn put_cause(out: &mut String, script: Option<&Script>, cause: Cause) -> Result<(), AllocError>
-    requires { NamesCause (source script) cause }
     ensures { OnOk result (string_bytes out.new ≡ string_bytes out.old ++ cause_text (naming_by (source script.entry)) cause) }
 {
     match cause {
@@ -110,7 +112,6 @@ fn put_cause(out: &mut String, script: Option<&Script>, cause: Cause) -> Result<
 }
 
 fn put_commit(out: &mut String, script: Option<&Script>, commit: &Commit) -> Result<(), AllocError>
-    requires { NamesCommit (source script) commit.now }
     ensures { OnOk result (string_bytes out.new ≡ string_bytes out.old ++ commit_text (naming_by (source script.entry)) commit.now) }
 {
     match *commit {
@@ -145,7 +146,6 @@ pub(crate) fn put_line(
     script: Option<&Script>,
     commit: &Commit,
 ) -> Result<(), AllocError>
-    requires { NamesCommit (source script) commit.now }
     ensures { OnOk result (string_bytes out.new ≡ string_bytes out.old ++ commit_line (naming_by (source script.entry)) commit.now) }
 {
     put_commit(out, script, commit)?;

@@ -6,24 +6,8 @@ use std::process::ExitCode;
 use std::rt::{Env, Files};
 use std::sync::Wait;
 use std::thread::Threads;
-use std::{env, fs, io};
-use tool::{BAD_WORDS, Fault, Source, SourceFault, command, tell};
-
-/// The files that the process sees.
-#[derive(Drop)]
-struct SystemFiles<'a, R> {
-    rt: &'a R,
-}
-
-impl<R: Files + AllocGlobal> Source for SystemFiles<'_, R> {
-    fn read(&mut self, name: &str) -> Result<Vec<u8>, SourceFault> {
-        match fs::read(self.rt, name) {
-            Ok(bytes) => Ok(bytes),
-            Err(error) if error.kind() == ErrorKind::OutOfMemory => Err(SourceFault::Memory),
-            Err(_) => Err(SourceFault::Unread),
-        }
-    }
-}
+use std::{env, io};
+use tool::{BAD_WORDS, Fault, SystemFiles, command, tell};
 
 /// Runs on the words that the process was given. It fails where they lack memory or are no text.
 fn run<R: Env + Files + Print + AllocGlobal + Threads + Wait, E: Write>(
@@ -32,7 +16,7 @@ fn run<R: Env + Files + Print + AllocGlobal + Threads + Wait, E: Write>(
 ) -> io::Result<u8> {
     let words: Vec<String> = env::args(rt)?.skip(1).collect(rt.alloc())?;
     let words: Vec<&str> = words.iter().map(|word| word.as_str()).collect(rt.alloc())?;
-    let mut files = SystemFiles { rt };
+    let mut files = SystemFiles::new(rt);
     let mut out = io::writer(rt);
     Ok(command(rt, rt.alloc(), words.as_slice(), &mut files, &mut out, err))
 }

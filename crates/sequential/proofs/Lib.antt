@@ -13,3 +13,4 @@ mod Indexing
 mod Listing
 mod Bounding
 mod Enabling
+pub mod Telling

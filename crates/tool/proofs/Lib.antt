@@ -2,3 +2,4 @@ pub mod Passes
 pub mod Parts
 pub mod MeetingLedger
 pub mod Playing
+pub mod Replaying

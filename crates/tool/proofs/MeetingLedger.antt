@@ -19,7 +19,8 @@ use Rattle.std.specs.List.{All}
 use Rattle.std.proofs.lemmas.List.Elements.{All-cons, All-nil}
 use Rattle.std.proofs.lemmas.List.Sorted.{length_permutation, All-permutation}
 use Rattle.protocol.specs.Tables.{all_rows}
-use Rattle.numbered.specs.NumberedText.{commits_text}
+use Rattle.journal_text.specs.Names.{numbers}
+use Rattle.journal_text.specs.Texts.{commits_text}
 use Rattle.protocol.proofs.RowLemmas.{same_row}
 use Rattle.protocol.proofs.Linking.{some_inj}
 use Rattle.tool.specs.Meet.{first_row, meeting_of, meeting_line, send_of, receive_offer, HasTwoOffers, PrintsMeeting}
@@ -237,12 +238,12 @@ none_at_all : {X : Type 0} (ys : List X) → IsPermutation {X = X} [] ys → ys 
 none_at_all [] h = refl
 none_at_all (y ∷ ys) h = let len : length (y ∷ ys) ≡ 0 = length_permutation [] (y ∷ ys) h in absurd (omega arith)
 
-meeting_text : (value : ℕ) → commits_text (meeting_of value ∷ []) ≡ meeting_line value
+meeting_text : (value : ℕ) → commits_text numbers (meeting_of value ∷ []) ≡ meeting_line value
 unfolding digits
 meeting_text value = simp append_assoc
 
-pub prints_meeting : (value : ℕ) (l : Ledger) (cs : List Commit) (text : List ℕ) → HasTwoOffers value l → IsPermutation (commits_in l) cs → text ≡ commits_text cs → PrintsMeeting value text
+pub prints_meeting : (value : ℕ) (l : Ledger) (cs : List Commit) (text : List ℕ) → HasTwoOffers value l → IsPermutation (commits_in l) cs → text ≡ commits_text numbers cs → PrintsMeeting value text
 prints_meeting value l cs text h all is = ⊎_elim
-    (λ (none : commits_in l ≡ []). inr (is ∙ ap commits_text (none_at_all cs (subst (λ (ds : List Commit). IsPermutation ds cs) none all))))
-    (λ (one : commits_in l ≡ meeting_of value ∷ []). inl (is ∙ ap commits_text (only_one (meeting_of value) cs (subst (λ (ds : List Commit). IsPermutation ds cs) one all)) ∙ meeting_text value))
+    (λ (none : commits_in l ≡ []). inr (is ∙ ap (commits_text numbers) (none_at_all cs (subst (λ (ds : List Commit). IsPermutation ds cs) none all))))
+    (λ (one : commits_in l ≡ meeting_of value ∷ []). inl (is ∙ ap (commits_text numbers) (only_one (meeting_of value) cs (subst (λ (ds : List Commit). IsPermutation ds cs) one all)) ∙ meeting_text value))
     (one_or_none value l h)

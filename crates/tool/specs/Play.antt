@@ -8,7 +8,8 @@ use Rattle.schedule.specs.declared.Size.{Size}
 use Rattle.tool.specs.declared.play.PlayFault.{PlayFault}
 use Rattle.tool.specs.declared.play.PlayFault.TheVariants.{Memory, BadStep, NotAllowed}
 use Rattle.schedule.specs.Schedule.{Plan, Spells, IsFirstBadLine}
-use Rattle.numbered.specs.NumberedText.{commits_text}
+use Rattle.journal_text.specs.Names.{numbers}
+use Rattle.journal_text.specs.Texts.{commits_text}
 
 -- the last line: how many commits there are, and how many of their pairs are not sealed yet
 abbrev pub counts_line : ℕ → ℕ → List ℕ
@@ -23,7 +24,7 @@ pub record AreCommitsOf (l : Ledger) (cs : List Commit) : Type 0 where
 pub record Reports (l : Ledger) (text : List ℕ) : Type 0 where
   pub commits : List Commit
   pub are : AreCommitsOf l commits
-  pub is : text ≡ commits_text commits ++ counts_line (length commits) (pending_in l)
+  pub is : text ≡ commits_text numbers commits ++ counts_line (length commits) (pending_in l)
 
 -- the world in which a schedule begins
 abbrev pub start_of : Size → World

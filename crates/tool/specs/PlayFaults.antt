@@ -1,4 +1,4 @@
--- The faults of reading as faults of playing, and the faults of playing and of files as faults of the program.
+-- The faults of reading as faults of playing, and the faults of playing, of files and of journals as faults of the program.
 use Rattle.schedule.specs.declared.ReadFault.{ReadFault}
 use Rattle.schedule.specs.declared.ReadFault.TheVariants as reading
 use Rattle.tool.specs.declared.meet.MeetFault.{MeetFault}
@@ -7,6 +7,8 @@ use Rattle.tool.specs.declared.play.PlayFault.{PlayFault}
 use Rattle.tool.specs.declared.play.PlayFault.TheVariants.{Memory, BadStep, NotAllowed}
 use Rattle.tool.specs.declared.source.SourceFault.{SourceFault}
 use Rattle.tool.specs.declared.source.SourceFault.TheVariants as files
+use Rattle.journal_text.specs.declared.JournalFault.{JournalFault}
+use Rattle.journal_text.specs.declared.JournalFault.TheVariants as journals
 use Rattle.tool.specs.declared.fault.Fault.{Fault}
 use Rattle.tool.specs.declared.fault.Fault.TheVariants as faults
 
@@ -26,3 +28,7 @@ fault_of_play (NotAllowed step) = faults.NotAllowed step
 abbrev pub fault_of_file : SourceFault → Fault
 fault_of_file files.Memory = faults.Memory
 fault_of_file files.Unread = faults.Unread
+
+abbrev pub fault_of_journal : JournalFault → Fault
+fault_of_journal journals.Memory = faults.Memory
+fault_of_journal (journals.BadLine line) = faults.BadLine line

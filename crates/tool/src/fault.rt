@@ -2,12 +2,13 @@
 
 ghost use Rattle.std.specs.Prelude.{◌≡◌};
 ghost use Rattle.tool.specs.Check.{fault_of_script};
-ghost use Rattle.tool.specs.PlayFaults.{fault_of_meet, fault_of_play, fault_of_file};
+ghost use Rattle.tool.specs.PlayFaults.{fault_of_meet, fault_of_play, fault_of_file, fault_of_journal};
 ghost use Rattle.tool.specs.declared.fault.Fault.TheVariants.{Memory};
 
 use crate::meet::MeetFault;
 use crate::play::PlayFault;
 use crate::source::SourceFault;
+use journal_text::JournalFault;
 use script::ScriptFault;
 use std::alloc::AllocError;
 use thiserror::Error;
@@ -41,6 +42,9 @@ pub enum Fault {
     /// A script of more than 65,536 bytes.
     #[error("fault 16")]
     TooLong,
+    /// The first line of a journal that is not of the form, from 1.
+    #[error("fault 21 line {0}")]
+    BadLine(usize),
     /// The first line of a schedule that is not of the form, from 1.
     #[error("fault 22 line {0}")]
     BadStep(usize),
@@ -90,6 +94,17 @@ impl From<PlayFault> for Fault {
             PlayFault::Memory => Fault::Memory,
             PlayFault::NotAllowed(step) => Fault::NotAllowed(step),
             PlayFault::BadStep(line) => Fault::BadStep(line),
+        }
+    }
+}
+
+impl From<JournalFault> for Fault {
+    ghost from_gives = { λ journal fault. fault ≡ fault_of_journal journal };
+
+    fn from(fault: JournalFault) -> Fault {
+        match fault {
+            JournalFault::Memory => Fault::Memory,
+            JournalFault::BadLine(line) => Fault::BadLine(line),
         }
     }
 }

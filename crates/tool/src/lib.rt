@@ -7,6 +7,7 @@ mod fault;
 mod meet;
 mod play;
 mod program;
+mod replay;
 mod request;
 mod source;
 
@@ -15,8 +16,9 @@ pub use crate::fault::Fault;
 pub use crate::meet::{MeetFault, meet_text};
 pub use crate::play::{PlayFault, play_laws, play_text};
 pub use crate::program::{BAD_WORDS, command, tell};
+pub use crate::replay::{Replayed, replay_text};
 pub use crate::request::Request;
-pub use crate::source::{Source, SourceFault};
+pub use crate::source::{Source, SourceFault, SystemFiles};
 
 #[cfg(test)]
 mod tests;

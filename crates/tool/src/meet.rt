@@ -8,7 +8,7 @@ ghost use Rattle.cell.specs.Sight.{Has};
 ghost use Rattle.tool.specs.Meet.{first_row, send_of, receive_offer, HasTakenPart, HasTwoOffers, IsReady, PrintsMeeting};
 
 use cell::{Cells, NoGate, Pass};
-use numbered::write_numbered;
+use journal_text::write_numbered;
 use protocol::Ledger;
 use std::alloc::{AllocError, Global};
 use std::snapshot::Snapshot;

@@ -7,7 +7,7 @@ ghost use Rattle.tool.specs.Play.{start_of, counts_line, Reports, IsPlayed, Expl
 ghost use Rattle.tool.specs.PlayFaults.{comes_from};
 ghost use Rattle.tool.specs.declared.play.PlayFault.TheVariants.{Memory};
 
-use numbered::write_numbered;
+use journal_text::write_numbered;
 use protocol::{Ledger, ProtoFault, World, play};
 use schedule::{ReadFault, Size, read_schedule};
 use std::alloc::{AllocError, Global};

@@ -4,15 +4,18 @@ ghost use Rattle.std.specs.Prelude.{◌≡◌, ◌⊎◌, List, ℕ, IfOk, IfErr
 ghost use Rattle.std.specs.Io.KnownBytes.{Appends};
 ghost use Rattle.tool.specs.declared.request.Request.{Request};
 ghost use Rattle.tool.specs.declared.fault.Fault.TheVariants.{Unwritten};
+ghost use Rattle.tool.specs.declared.program.Verdict.TheVariants.{Done};
 ghost use Rattle.tool.specs.Command.{Answers, Fails};
 
 use crate::check::check_text;
 use crate::fault::Fault;
 use crate::meet::meet_text;
 use crate::play::play_text;
+use crate::replay::{Replayed, replay_text};
 use crate::request::{Request, read_words};
 use crate::source::Source;
 use clap::error::ErrorKind;
+use script::parse;
 use std::alloc::Global;
 use std::io::Write;
 use std::sync::Wait;
@@ -22,8 +25,18 @@ const DONE: u8 = 0;
 
 const FAULT: u8 = 1;
 
+const UNLAWFUL: u8 = 1;
+
 /// The status after words that are not understood.
 pub const BAD_WORDS: u8 = 2;
+
+/// What an answer says of its request.
+#[derive(Clone, Copy, Debug)]
+enum Verdict {
+    Done,
+    /// The journal that was to be replayed is no run.
+    Unlawful,
+}
 
 /// The text that a request is answered with.
 fn answer<R: Threads + Wait, S: Source>(
@@ -31,19 +44,32 @@ fn answer<R: Threads + Wait, S: Source>(
     alloc: Global,
     asked: Request<'_>,
     source: &mut S,
-) -> Result<Vec<u8>, Fault>
-    ensures done { IfOk result (λ text. Answers asked.entry text.items) }
+) -> Result<(Verdict, Vec<u8>), Fault>
+    ensures done { IfOk result (λ answer. Answers asked.entry answer.0 answer.1.items) }
     ensures fault { IfErr result (Fails asked.entry) }
 {
     match asked {
-        Request::Meet(value) => Ok(meet_text(rt, alloc, value)?),
+        Request::Meet(value) => Ok((Verdict::Done, meet_text(rt, alloc, value)?)),
         Request::Play(name) => {
             let bytes = source.read(name)?;
-            Ok(play_text(alloc, bytes.as_slice())?)
+            Ok((Verdict::Done, play_text(alloc, bytes.as_slice())?))
         }
         Request::Check(name) => {
             let bytes = source.read(name)?;
-            Ok(check_text(alloc, bytes.as_slice())?)
+            Ok((Verdict::Done, check_text(alloc, bytes.as_slice())?))
+        }
+        Request::Replay {
+            script,
+            journal,
+            rows,
+        } => {
+            let bytes = source.read(script)?;
+            let script = parse(alloc, bytes.as_slice())?;
+            let journal = source.read(journal)?;
+            match replay_text(alloc, &script, journal.as_slice(), rows)? {
+                Replayed::Lawful(text) => Ok((Verdict::Done, text)),
+                Replayed::Unlawful(text) => Ok((Verdict::Unlawful, text)),
+            }
         }
     }
 }
@@ -66,18 +92,19 @@ fn respond<R: Threads + Wait, S: Source, O: Write>(
     asked: Request<'_>,
     source: &mut S,
     out: &mut O,
-) -> Result<(), Fault>
-    ensures done { OnOk result ((text : List ℕ) × Answers asked.entry text
+) -> Result<Verdict, Fault>
+    ensures done { IfOk result (λ verdict. (text : List ℕ) × Answers asked.entry verdict text
         × Appends (O.contents out.old) (O.contents out.new) text) }
     ensures fault { IfErr result (λ fault. (fault ≡ Unwritten) ⊎ (Fails asked.entry fault × (out.new ≡ out.old))) }
 {
-    let text = answer(rt, alloc, asked, source)?;
-    write_text(out, text.as_slice())
+    let (verdict, text) = answer(rt, alloc, asked, source)?;
+    write_text(out, text.as_slice())?;
+    Ok(verdict)
 }
 
 /// Does what the words behind the program's name ask for, and answers the status: 0, or 1 after a
-/// fault, or 2 after words that are not understood and after a wish for help. A fault is a line on
-/// the error stream; whether that stream takes it changes nothing.
+/// fault or for a journal that is no run, or 2 after words that are not understood and after a wish for
+/// help. A fault is a line on the error stream; whether that stream takes it changes nothing.
 pub fn command<R: Threads + Wait, S: Source, O: Write, E: Write>(
     rt: &R,
     alloc: Global,
@@ -87,7 +114,7 @@ pub fn command<R: Threads + Wait, S: Source, O: Write, E: Write>(
     err: &mut E,
 ) -> u8
     // Where all went well, the output has grown by the answer to some request.
-    ensures done { result ≡ 0 → (asked : Request) × (text : List ℕ) × Answers asked text
+    ensures done { result ≡ 0 → (asked : Request) × (text : List ℕ) × Answers asked Done text
         × Appends (O.contents out.old) (O.contents out.new) text }
     ensures bad_words { result ≡ 2 → out.new ≡ out.old }
 {
@@ -102,7 +129,8 @@ pub fn command<R: Threads + Wait, S: Source, O: Write, E: Write>(
         }
     };
     match respond(rt, alloc, asked, source, out) {
-        Ok(()) => DONE,
+        Ok(Verdict::Done) => DONE,
+        Ok(Verdict::Unlawful) => UNLAWFUL,
         Err(fault) => tell(err, fault),
     }
 }

@@ -1,7 +1,7 @@
 //! What the words of the command line ask for.
 
 use clap::error::ErrorKind;
-use clap::{Arg, ArgAction, Command, Error, value_parser};
+use clap::{Arg, ArgAction, ArgMatches, Command, Error, value_parser};
 use std::alloc::{AllocError, Global};
 
 /// What to print.
@@ -13,6 +13,12 @@ pub enum Request<'a> {
     Play(&'a str),
     /// How many processes and channels the script in the file of this name has.
     Check(&'a str),
+    /// Where the journal in a file leads the script in another, of so many rows a process.
+    Replay {
+        script: &'a str,
+        journal: &'a str,
+        rows: u16,
+    },
 }
 
 fn meet_command<'a>(alloc: Global) -> Result<Command<'a>, AllocError> {
@@ -27,32 +33,62 @@ fn meet_command<'a>(alloc: Global) -> Result<Command<'a>, AllocError> {
         .arg(value)
 }
 
-fn play_command<'a>(alloc: Global) -> Result<Command<'a>, AllocError> {
-    let file = Arg::new(alloc, "file")
+fn file_argument<'a>(alloc: Global, id: &'a str, value_name: &'a str, help: &'a str) -> Arg<'a> {
+    Arg::new(alloc, id)
         .required(true)
         .action(ArgAction::Set)
-        .value_name("FILE")
-        .help("The schedule");
+        .value_name(value_name)
+        .help(help)
+}
+
+fn play_command<'a>(alloc: Global) -> Result<Command<'a>, AllocError> {
+    let file = file_argument(alloc, "file", "FILE", "The schedule");
     Command::new(alloc, "play")
         .about("Plays the steps of a schedule")
         .arg(file)
 }
 
 fn check_command<'a>(alloc: Global) -> Result<Command<'a>, AllocError> {
-    let file = Arg::new(alloc, "file")
-        .required(true)
-        .action(ArgAction::Set)
-        .value_name("FILE")
-        .help("The script");
+    let file = file_argument(alloc, "file", "FILE", "The script");
     Command::new(alloc, "check")
         .about("Checks the text of a script")
         .arg(file)
+}
+
+fn rows_argument<'a>(alloc: Global) -> Arg<'a> {
+    Arg::new(alloc, "rows")
+        .long("rows")
+        .action(ArgAction::Set)
+        .value_name("G")
+        .value_parser(value_parser!(u16).range(1..=1024))
+        .default_value("256")
+        .help("How many syncs a process may make")
+}
+
+fn replay_command<'a>(alloc: Global) -> Result<Command<'a>, AllocError> {
+    let script = file_argument(alloc, "file", "FILE", "The script");
+    let journal = file_argument(alloc, "journal", "JOURNAL", "The journal");
+    Command::new(alloc, "replay")
+        .about("Replays a journal against its script")
+        .arg(script)?
+        .arg(journal)?
+        .arg(rows_argument(alloc))
+}
+
+/// The request of `replay`, by the words behind it.
+fn replay_request<'a>(replay: &ArgMatches<'a>) -> Option<Request<'a>> {
+    Some(Request::Replay {
+        script: replay.get_str("file")?,
+        journal: replay.get_str("journal")?,
+        rows: replay.get_one("rows")?,
+    })
 }
 
 fn command_line<'a>(alloc: Global) -> Result<Command<'a>, AllocError> {
     let meet = meet_command(alloc)?;
     let play = play_command(alloc)?;
     let check = check_command(alloc)?;
+    let replay = replay_command(alloc)?;
     Command::new(alloc, "pcml")
         .bin_name("pcml")?
         .about("First-class events and selective rendezvous")
@@ -60,7 +96,8 @@ fn command_line<'a>(alloc: Global) -> Result<Command<'a>, AllocError> {
         .subcommand_required(true)
         .subcommand(meet)?
         .subcommand(play)?
-        .subcommand(check)
+        .subcommand(check)?
+        .subcommand(replay)
 }
 
 /// What the words ask for; they begin behind the program's name. A wish for help is an error too.
@@ -71,6 +108,7 @@ pub fn read_words<'a>(alloc: Global, words: &'a [&'a str]) -> Result<Request<'a>
         Some(("meet", meet)) => meet.get_one("value").map(|value| Request::Meet(value)),
         Some(("play", play)) => play.get_str("file").map(|name| Request::Play(name)),
         Some(("check", check)) => check.get_str("file").map(|name| Request::Check(name)),
+        Some(("replay", replay)) => replay_request(replay),
         _ => None,
     };
     match found {

@@ -1,5 +1,9 @@
 //! Where the program's files come from.
 
+use std::fs;
+use std::io::ErrorKind;
+use std::rt::Files;
+
 /// Why a file was not read.
 #[derive(Clone, Copy, Debug, PartialEq, Eq)]
 pub enum SourceFault {
@@ -10,4 +14,26 @@ pub enum SourceFault {
 /// Gives whole files by their names.
 pub trait Source {
     fn read(&mut self, name: &str) -> Result<Vec<u8>, SourceFault>;
+}
+
+/// The files that the process sees.
+#[derive(Drop)]
+pub struct SystemFiles<'a, R> {
+    rt: &'a R,
+}
+
+impl<'a, R> SystemFiles<'a, R> {
+    pub fn new(rt: &'a R) -> SystemFiles<'a, R> {
+        SystemFiles { rt }
+    }
+}
+
+impl<R: Files + AllocGlobal> Source for SystemFiles<'_, R> {
+    fn read(&mut self, name: &str) -> Result<Vec<u8>, SourceFault> {
+        match fs::read(self.rt, name) {
+            Ok(bytes) => Ok(bytes),
+            Err(error) if error.kind() == ErrorKind::OutOfMemory => Err(SourceFault::Memory),
+            Err(_) => Err(SourceFault::Unread),
+        }
+    }
 }

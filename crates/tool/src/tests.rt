@@ -11,6 +11,7 @@ use std::test::Fail;
 use std::thread::Threads;
 
 mod check;
+mod replay;
 
 /// One file, by its name.
 #[derive(Drop)]
@@ -58,17 +59,25 @@ struct Outcome {
     err: Vec<u8>,
 }
 
-/// Where memory runs out, the run has to tell just that.
 fn run<R: AllocGlobal + Threads + Wait>(
     rt: &R,
     words: &[&str],
     text: &[u8],
 ) -> Result<Outcome, Fault> {
     let alloc = rt.alloc();
-    let mut source = OneFile { alloc, text };
+    run_on(rt, words, &mut OneFile { alloc, text })
+}
+
+/// Where memory runs out, the run has to tell just that.
+fn run_on<R: AllocGlobal + Threads + Wait, S: Source>(
+    rt: &R,
+    words: &[&str],
+    source: &mut S,
+) -> Result<Outcome, Fault> {
+    let alloc = rt.alloc();
     let mut out = Vec::with_capacity(alloc, 256)?;
     let mut err = Vec::with_capacity(alloc, 4096)?;
-    let status = command(rt, alloc, words, &mut source, &mut out, &mut err);
+    let status = command(rt, alloc, words, source, &mut out, &mut err);
     if status == 1 && out.is_empty() && err.as_slice() == b"fault 1\n".as_slice() {
         return Err(Fault::Memory);
     }

@@ -1,6 +1,6 @@
 use Rattle.std.proofs.Common.{◌≡◌, arith, ◌∙◌}
 use Rattle.sequential.specs.Replays.{TellsEnd, thread_count}
-use Rattle.journal.proofs.Listing.{holds-more}
+use Rattle.sequential.proofs.Telling.{holds-more}
 use Rattle.journal.proofs.record.ends_of.Goals as goal
 
 pub loop-thread-preserved : goal.loop-thread-preserved
