@@ -19,6 +19,3 @@ pub use crate::program::{BAD_WORDS, command, tell};
 pub use crate::replay::{Replayed, replay_text};
 pub use crate::request::Request;
 pub use crate::source::{Source, SourceFault, SystemFiles};
-
-#[cfg(test)]
-mod tests;

@@ -1,11 +1,10 @@
-use crate::fault::Fault;
-use crate::source::{Source, SourceFault};
 use crate::tests::{Outcome, is_bad_words, run_on};
 use std::alloc::Global;
 use std::process::Abort;
 use std::sync::Wait;
 use std::test::Fail;
 use std::thread::Threads;
+use tool::{Fault, Source, SourceFault};
 
 /// A script and its journal, by these names.
 #[derive(Drop)]

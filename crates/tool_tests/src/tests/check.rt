@@ -1,6 +1,6 @@
-use crate::fault::Fault;
 use crate::tests::{faults, prints};
 use std::test::Fail;
+use tool::Fault;
 
 const WORDS: [&str; 2] = ["check", "file"];
 

@@ -1,7 +1,3 @@
-use crate::fault::Fault;
-use crate::play::play_laws;
-use crate::program::command;
-use crate::source::{Source, SourceFault};
 use std::alloc::Global;
 use std::io;
 use std::io::Write;
@@ -9,6 +5,7 @@ use std::process::Abort;
 use std::sync::Wait;
 use std::test::Fail;
 use std::thread::Threads;
+use tool::{Fault, Source, SourceFault, command, play_laws};
 
 mod check;
 mod replay;

@@ -1,0 +1,5 @@
+//! Tests of `tool`: the command, on texts in memory.
+#![tactic(auto)]
+
+#[cfg(test)]
+mod tests;
