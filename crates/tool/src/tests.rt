@@ -1,6 +1,7 @@
 use crate::fault::Fault;
 use crate::play::play_laws;
 use crate::program::command;
+use crate::replay::replay_laws;
 use crate::source::{Source, SourceFault};
 use std::alloc::Global;
 use std::io;
@@ -358,6 +359,7 @@ fn tells_bad_lines(rt: HostRuntime) -> Result<(), Fault> {
 #[test]
 fn laws_hold() {
     play_laws();
+    replay_laws();
 }
 
 #[test]
