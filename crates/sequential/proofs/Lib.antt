@@ -14,3 +14,4 @@ mod Listing
 mod Bounding
 mod Enabling
 pub mod Telling
+pub mod Fronts

@@ -22,11 +22,14 @@ holds-more P n xs ys x before last e = subst (HoldsOf P (n + 1)) (sym e) (
       (slice_get-more xs x y t is),
 )
 
+-- a thread ends in one way, and printed one thing
+pub ends-one : (ps : List Proc) (rows t : ℕ) (config : Config) (end other : End) (told printed : List Atom) → EndsAs ps rows t config end told → EndsAs ps rows t config other printed → (end ≡ other) × (told ≡ printed)
+ends-one ps rows t config end other told printed one two =
+    let process : one.process ≡ two.process = same_Some one.process two.process (sym one.is_its ∙ two.is_its) in
+    some_pair_parts end other told printed
+    (sym one.ends ∙ ap (λ (p : Proc). end_of rows (length (config t)) (after p.body (length p.variables) t (config t))) process ∙ two.ends)
+
 -- how a thread ended and what it printed, each told with something of the other
 pub ends-both : (ps : List Proc) (rows t : ℕ) (config : Config) (end other : End) (printed told : List Atom) → EndsAs ps rows t config end told → EndsAs ps rows t config other printed → EndsAs ps rows t config end printed
 ends-both ps rows t config end other printed told one two =
-    let process : one.process ≡ two.process = same_Some one.process two.process (sym one.is_its ∙ two.is_its) in
-    let same : Some (end, told) ≡ Some (other, printed) =
-    sym one.ends ∙ ap (λ (p : Proc). end_of rows (length (config t)) (after p.body (length p.variables) t (config t))) process ∙ two.ends in
-    let parts = some_pair_parts end other told printed same in
-    record { process = two.process; is_its = two.is_its; ends = two.ends ∙ ap (λ (e : End). Some (e, printed)) (sym parts.0) }
+    subst (λ (e : End). EndsAs ps rows t config e printed) (sym (ends-one ps rows t config end other told printed one two).0) two

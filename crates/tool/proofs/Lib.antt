@@ -3,3 +3,4 @@ pub mod Parts
 pub mod MeetingLedger
 pub mod Playing
 pub mod Replaying
+pub mod Judging

@@ -7,6 +7,7 @@ use Rattle.words.specs.declared.Commit.{Commit}
 use Rattle.syntax.specs.Processes.{Proc}
 use Rattle.thread.specs.declared.Fault.TheVariants.{Unset, Kind, Range, Shape}
 use Rattle.script.specs.Sources.{Script}
+use Rattle.script.specs.Spelling.{IsSpelled}
 use Rattle.journal_text.specs.Journals.{Spells}
 use Rattle.journal_text.specs.Names.{Naming, names_of, naming}
 use Rattle.journal_text.specs.Texts.{atom_text}
@@ -113,3 +114,17 @@ pub record IsNoRun (s : Script) (rows : ℕ) (bytes text : List ℕ) : Type 0 wh
 abbrev pub TellsReplayed : Script → ℕ → List ℕ → Replayed → Type 0
 TellsReplayed s rows bytes (Lawful text) = IsReplayed s rows bytes text.items
 TellsReplayed s rows bytes (Unlawful text) = IsNoRun s rows bytes text.items
+
+-- LAWS, of a script that some text spells
+
+-- no bytes are replayed to two texts
+abbrev pub IsReplayedToOne : Type 0
+IsReplayedToOne = (s : Script) → IsSpelled s → (rows : ℕ) (bytes text other : List ℕ) → IsReplayed s rows bytes text → IsReplayed s rows bytes other → text ≡ other
+
+-- bytes that are replayed are no journal that is no run
+abbrev pub IsReplayedOrNoRun : Type 0
+IsReplayedOrNoRun = (s : Script) → IsSpelled s → (rows : ℕ) (bytes text other : List ℕ) → IsReplayed s rows bytes text → IsNoRun s rows bytes other → ⊥
+
+-- at most one line is the first with which a journal is no run
+abbrev pub HasOneUnlawfulLine : Type 0
+HasOneUnlawfulLine = (s : Script) → IsSpelled s → (rows : ℕ) (bytes text other : List ℕ) → IsNoRun s rows bytes text → IsNoRun s rows bytes other → text ≡ other

@@ -16,6 +16,6 @@ pub use crate::fault::Fault;
 pub use crate::meet::{MeetFault, meet_text};
 pub use crate::play::{PlayFault, play_laws, play_text};
 pub use crate::program::{BAD_WORDS, command, tell};
-pub use crate::replay::{Replayed, replay_text};
+pub use crate::replay::{Replayed, replay_laws, replay_text};
 pub use crate::request::Request;
 pub use crate::source::{Source, SourceFault, SystemFiles};

@@ -1,12 +1,12 @@
 //! What `replay` prints.
 
-ghost use Rattle.std.specs.Prelude.{◌≡◌, ◌++◌, ◌<◌, IfOk, IfErr, OnOk, length, is_none};
+ghost use Rattle.std.specs.Prelude.{◌≡◌, ◌++◌, ◌<◌, IfOk, IfErr, OnOk, length};
 ghost use Rattle.std.specs.String.{string_bytes};
 ghost use Rattle.script.specs.Scripts.{script_of};
 ghost use Rattle.journal_text.specs.Answers.{Explains};
 ghost use Rattle.journal_text.specs.Names.{names_of, naming};
 ghost use Rattle.sequential.specs.Replays.{IsReached, thread_count};
-ghost use Rattle.tool.specs.Replay.{end_text, lawful_line, printed_text, process_line, reach_text, unlawful_line, TellsProcesses, TellsReplayed, TellsState};
+ghost use Rattle.tool.specs.Replay.{end_text, lawful_line, printed_text, process_line, reach_text, unlawful_line, TellsProcesses, TellsReplayed, TellsState, IsReplayedToOne, IsReplayedOrNoRun, HasOneUnlawfulLine};
 
 use journal_text::{JournalFault, push_atom, read_journal};
 use script::Script;
@@ -151,3 +151,11 @@ pub fn replay_text(
         Err(ReplayFault::Memory) => Err(JournalFault::Memory),
     }
 }
+
+/// The bytes of a journal are replayed to one text, or else one line is the first with which they are no
+/// run: so each answer of `replay_text` but for want of memory is the only one.
+pub fn replay_laws()
+    ensures one { IsReplayedToOne }
+    ensures apart { IsReplayedOrNoRun }
+    ensures first { HasOneUnlawfulLine }
+{}

@@ -5,7 +5,7 @@ use std::process::Abort;
 use std::sync::Wait;
 use std::test::Fail;
 use std::thread::Threads;
-use tool::{Fault, Source, SourceFault, command, play_laws};
+use tool::{Fault, Source, SourceFault, command, play_laws, replay_laws};
 
 mod check;
 mod replay;
@@ -355,6 +355,7 @@ fn tells_bad_lines(rt: HostRuntime) -> Result<(), Fault> {
 #[test]
 fn laws_hold() {
     play_laws();
+    replay_laws();
 }
 
 #[test]
