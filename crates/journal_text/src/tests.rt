@@ -27,7 +27,7 @@ fn bad_line(alloc: Global, text: &str) -> Result<usize, Fail> {
     match read_journal(alloc, &script, text.as_bytes()) {
         Ok(_) => Ok(0),
         Err(JournalFault::BadLine(line)) => Ok(line),
-        Err(JournalFault::Memory) => Err(Fail::from("out of memory")),
+        Err(memory) => Err(memory.into()),
     }
 }
 
