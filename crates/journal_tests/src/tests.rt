@@ -58,8 +58,8 @@ fn empty_ledger(alloc: Global) -> Result<Ledger, Fail> {
     Ok(World::start(alloc, 4, 8, 2)?.ledger())
 }
 
-/// The ledger in which 42 was sent from row 0.0 to row 1.0.
-fn one_rendezvous(alloc: Global) -> Result<Ledger, Fail> {
+/// The ledger in which 42 was sent from row 0.0 to row 1.0, and the sender's cell tells of it or not yet.
+fn rendezvous(alloc: Global, is_sealed: bool) -> Result<Ledger, Fail> {
     let steps = [
         (
             Seat(0),
@@ -115,7 +115,16 @@ fn one_rendezvous(alloc: Global) -> Result<Ledger, Fail> {
         ),
         (Seat(0), Step::Seal { row: SENDER }),
     ];
-    Ok(play(World::start(alloc, 2, 1, 2)?, &steps)?.ledger())
+    let made = if is_sealed {
+        steps.len()
+    } else {
+        steps.len() - 1
+    };
+    Ok(play(World::start(alloc, 2, 1, 2)?, &steps[..made])?.ledger())
+}
+
+fn one_rendezvous(alloc: Global) -> Result<Ledger, Fail> {
+    rendezvous(alloc, true)
 }
 
 fn completed(alloc: Global, text: &str, rows: u16, ledger: &Ledger) -> Result<Record, Fail> {
@@ -158,6 +167,15 @@ fn a_ledger_that_is_complete(rt: HostRuntime) -> Result<(), Fail> {
     assert_eq!(rt; record.ends.len(), 2);
     assert_eq!(rt; record.outputs.len(), 2);
     check_end(&rt, &record, 0, End::Ended, &[])?;
+    check_end(&rt, &record, 1, End::Ended, &[Atom::Num(42)])
+}
+
+#[test]
+fn a_pair_that_is_joined_is_in_the_ledger(rt: HostRuntime) -> Result<(), Fail> {
+    let alloc = rt.alloc();
+    let record = completed(alloc, ONE_SEND, 256, &rendezvous(alloc, false)?)?;
+    assert_eq!(rt; record.journal.len(), 1);
+    assert_eq!(rt; record.tail, 0);
     check_end(&rt, &record, 1, End::Ended, &[Atom::Num(42)])
 }
 
