@@ -103,6 +103,7 @@ near_last s u t r n l =
 -- A GRANT BEFORE ITS STEP: the offer was read in s, what lets it commit its row in u, and the last stamp in the view v
 pub record IsReady (before s u : Seen) (v : View) (r : Row) (n : ℕ) (o : Offer) (cause last : ℕ) : Type 0 where
   pub offer : Learns (λ q. q ≡ r) before s
+  pub same : (p : Offer) → SeesOffer before r n p → o ≡ p
   pub opened : Has s.opened r
   pub have : HaveOffer s.words r n o
   pub nack : LearnsOf (IsBoundRow u o.base) (λ m. o.base ≡ OnNack m) s u
@@ -147,10 +148,16 @@ module _ (before s u : Seen) (v w : View) (r : Row) (n : ℕ) (o : Offer) (cause
   late_learns c e = subst (λ (x : View). Learns (λ q. q ≡ r) v.seen x.seen) (sym e) (learns_look r c v.seen)
 
   pub given_is : w ≡ saw r (Synched alone_as) (turned Resting r v) → Agrees v r Waiting → Granted before w.seen r n Given × LearnsOf (IsNearGrant w.seen r n) (IsNackOf w.seen r n) before w.seen
+  unfolding can can_more can_grant
   given_is e agree = (
     (
       (λ c. let bad : None ≡ Some c.0 = agree.0.joined c.0 (seen_before c.0 c.1) in cc),
-      (alone_as, can_more (λ q. q ≡ r) v.seen w.seen r n alone_as (given_learns e) can.0, subst (λ (x : View). Has x.seen.joined (r, alone_as)) (sym e) (inl refl)),
+      (
+        alone_as,
+        can_more (λ q. q ≡ r) v.seen w.seen r n alone_as (given_learns e) can.0,
+        subst (λ (x : View). Has x.seen.joined (r, alone_as)) (sym e) (inl refl),
+        ready.same,
+      ),
     ),
     learns_near (given_learns e),
   )

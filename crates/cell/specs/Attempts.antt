@@ -35,10 +35,14 @@ Attempted before after mine own other partner Mine = SawCommitted after mine
 Attempted before after mine own other partner Busy = (¬ Has before.held other) × (¬ SawCommitted before other)
 Attempted before after mine own other partner Unfit = ¬ CanMeet before mine own other partner
 
+-- the row was committed alone by its offer n, and that is the offer which the pass had seen, if it had seen one
+abbrev pub IsGranted : Seen → Seen → Row → ℕ → Type 0
+IsGranted before after r n =
+    (j : Joined) × (can : CanGrant after r n j) × Has after.joined (r, j) × ((o : Offer) → SeesOffer before r n o → can.offer ≡ o)
+
 -- the answer of a grant, by what the pass had seen before it and has seen after it
 abbrev pub Granted : Seen → Seen → Row → ℕ → Grant → Type 0
-Granted before after r n Given =
-    (¬ SawCommitted before r) × ((j : Joined) × CanGrant after r n j × Has after.joined (r, j))
+Granted before after r n Given = (¬ SawCommitted before r) × IsGranted before after r n
 Granted before after r n NotEnabled = ¬ CanStandAlone before r n
 Granted before after r n Late = CanStandAlone after r n × (Has before.held r → SawCommitted after r)
 

@@ -125,6 +125,14 @@ impl Cells {
         Ok((Cells { board, room }, dealt))
     }
 
+    /// Whether the table has the row.
+    pub fn has(&self, row: Row) -> bool
+        ensures { IsTrue result ↔ IsRowOf self.now row }
+    {
+        u64::from(row.thread) < self.board.shape.threads
+            && u64::from(row.sync) < self.board.shape.rows
+    }
+
     /// Opens a held row that is Fresh: its offers stand from now on.
     pub fn open(&self, pass: &mut Pass, row: Row)
         requires here { IsPassOf self.now pass.old × IsRowOf self.now row }

@@ -45,6 +45,7 @@ ready c =
     let cause = from_some c.cause.result (λ stamp. SawCause c.cause.new.seat.me.0.seen c.in-Some.offer.base stamp × (stamp ≤ 65536)) c.in-Some-cause.cause c.cause.ensures.some caused in
     record {
       offer = c.offer.ensures.learns;
+      same = λ p sees. some_inj c.in-Some.offer p (sym some ∙ c.offer.ensures.same p sees);
       opened = have.0;
       have = have.1;
       nack = c.cause.ensures.learns;
