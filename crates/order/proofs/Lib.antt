@@ -10,3 +10,4 @@ pub mod Ordering
 pub mod Results
 pub mod Sending
 pub mod LedgerOrder
+pub mod Meeting

@@ -25,7 +25,7 @@ Extends before rs = (behind : List Chosen) × (rs ≡ before ++ behind)
 extends-same : (before rs : List Chosen) → rs ≡ before → Extends before rs
 extends-same before rs e = ([], e ∙ sym (append-nil before))
 
-extends-chain : (xs ys zs : List Chosen) → Extends xs ys → Extends ys zs → Extends xs zs
+pub extends-chain : (xs ys zs : List Chosen) → Extends xs ys → Extends ys zs → Extends xs zs
 extends-chain xs ys zs h k = (h.0 ++ k.0, k.1 ∙ ap (λ (rs : List Chosen). rs ++ k.0) h.1 ∙ append_assoc xs h.0 k.0)
 
 result-extends : (t u : ℕ) (r : Chosen) (config : Config) → Extends (config u) (with_result t r config u)
@@ -34,7 +34,7 @@ result-extends t u r config = ⊎_elim
     (λ ne. extends-same (config u) (with_result t r config u) (result-other t u r config ne))
     (cases_eq u t)
 
-applied-extends : (config : Config) (c : Commit) (t : ℕ) → Extends (config t) (applied config c t)
+pub applied-extends : (config : Config) (c : Commit) (t : ℕ) → Extends (config t) (applied config c t)
 applied-extends config (Pair sender receiver chan msg stamp) t =
     let middle = with_result sender.0.thread (sender.1, Empty) config in
     extends-chain (config t) (middle t) (applied config (Pair sender receiver chan msg stamp) t)
@@ -89,7 +89,7 @@ longer ps rows es later c t legal has =
     omega (arith, grown, ap (λ (zs : List Chosen). length zs) now, ap (λ (zs : List Chosen). length zs) whole, length-append (config_of es t) (grew.result ∷ []))
 
 -- the commits before place j are those before place i, the one there, and others
-before-later : (journal : List Commit) (i j : ℕ) (c : Commit) → slice_get journal i ≡ Some c → i < j → j ≤ length journal → (later : List Commit) × (take j journal ≡ more (take i journal) c ++ later)
+pub before-later : (journal : List Commit) (i j : ℕ) (c : Commit) → slice_get journal i ≡ Some c → i < j → j ≤ length journal → (later : List Commit) × (take j journal ≡ more (take i journal) c ++ later)
 before-later journal i j c is lt within = (
   drop (i + 1) (take j journal),
   sym (take-append-drop (i + 1) (take j journal))

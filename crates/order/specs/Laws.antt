@@ -4,6 +4,7 @@ use Rattle.syntax.specs.Processes.{Proc}
 use Rattle.words.specs.declared.Commit.{Commit}
 use Rattle.protocol.specs.Ledgers.{Ledger, IsInOrder, IsLawful, commits_in}
 use Rattle.sequential.specs.Runs.{HasRow, HasThread, IsRun, config_of, stamp_of}
+use Rattle.order.specs.Meetings.{Meets}
 use Rattle.order.specs.Messages.{named, received, sent}
 
 -- STAMPS
@@ -30,6 +31,14 @@ OneRowOneCommit =
     (ps : List Proc) (rows : ℕ) (journal : List Commit) → IsRun ps rows journal →
     (i j : ℕ) (c d : Commit) (t g : ℕ) → slice_get journal i ≡ Some c → slice_get journal j ≡ Some d →
     HasRow c t g → HasRow d t g → i ≡ j
+
+-- MEETINGS
+
+-- each commit of a run is a meeting of the syncs that it names
+abbrev pub EachMeets : Type 0
+EachMeets =
+    (ps : List Proc) (rows : ℕ) (journal : List Commit) → IsRun ps rows journal →
+    (i : ℕ) (c : Commit) → slice_get journal i ≡ Some c → Meets ps (config_of journal) c
 
 -- THE JOURNAL'S ORDER: by stamp, and then by the thread named first
 

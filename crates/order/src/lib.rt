@@ -1,7 +1,7 @@
 //! The order of a journal: laws of runs in sequential CML. No code runs here.
 #![tactic(auto)]
 
-ghost use Rattle.order.specs.Laws.{HasOrder, NamedIsReceived, OneLedgerOrder, OneOrder, OneRowOneCommit, OneStampOneThread, OrderedIsRun, ReceivedIsSent, StampsRise};
+ghost use Rattle.order.specs.Laws.{EachMeets, HasOrder, NamedIsReceived, OneLedgerOrder, OneOrder, OneRowOneCommit, OneStampOneThread, OrderedIsRun, ReceivedIsSent, StampsRise};
 
 /// In a run the stamps of a thread's commits rise, so two commits of one stamp share no thread.
 pub fn stamp_laws()
@@ -12,6 +12,13 @@ pub fn stamp_laws()
 /// In a run each sync is in at most one commit.
 pub fn row_law()
     ensures { OneRowOneCommit }
+{}
+
+/// In a run each commit is a meeting of the syncs that it names: a pair is of two threads, of which one
+/// sent the message on the channel and the other received and got it; a sync that was committed alone took
+/// an always, or a nack whose own sync chose outside its scope.
+pub fn meeting_law()
+    ensures { EachMeets }
 {}
 
 /// The commits of a run, put in order by stamp and then by the thread named first, are a run too, and
