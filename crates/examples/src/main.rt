@@ -20,7 +20,7 @@ const EXAMPLES: [&str; 7] = [
 ];
 
 /// Does what the words ask for. It fails where that is not done.
-fn ask<R: Files + Print + AllocGlobal + Threads + Wait, E: Write>(
+fn ask<R: Files + Print + AllocGlobal + Threads + Wait + Sync, E: Write>(
     rt: &R,
     words: &[&str],
     err: &mut E,
@@ -35,7 +35,7 @@ fn ask<R: Files + Print + AllocGlobal + Threads + Wait, E: Write>(
 }
 
 /// Prints the example's name, what its script has, and where its journal leads.
-fn show<R: Files + Print + AllocGlobal + Threads + Wait, E: Write>(
+fn show<R: Files + Print + AllocGlobal + Threads + Wait + Sync, E: Write>(
     rt: &R,
     name: &str,
     err: &mut E,

@@ -1,6 +1,5 @@
 -- What the text of a replay says: of the state that a journal leads to, and of the journal itself.
-use Rattle.std.proofs.Common.{◌≡◌, ℕ, ◌+◌, List, [], ◌∷◌, ◌++◌, length, slice_get, Option, Some, None, is_none, refl, sym, ap, ◌∙◌}
-use Rattle.std.proofs.lemmas.List.{flat_map_more}
+use Rattle.std.proofs.Common.{◌≡◌, ℕ, ◌+◌, List, [], ◌∷◌, ◌++◌, length, slice_get, Option, Some, None, is_none, sym, ap, ◌∙◌}
 use Rattle.words.specs.declared.Commit.{Commit}
 use Rattle.script.specs.Sources.{Script}
 use Rattle.journal_text.specs.Journals.{Spells}
@@ -9,8 +8,10 @@ use Rattle.syntax.specs.Processes.{Proc}
 use Rattle.sequential.specs.Replays.{StandsAfter, TellsEnabled, TellsEnd, TellsOutput, thread_count}
 use Rattle.sequential.specs.Runs.{config_of}
 use Rattle.sequential.specs.declared.state.State.{State}
-use Rattle.sequential.proofs.Telling.{HoldsOf, holds-more, ends-both}
-use Rattle.tool.specs.Replay.{Standing, TellsStanding, TellsProcesses, TellsState, StandAs, IsAt, IsReplayed, lawful_line, process_line, process_lines}
+use Rattle.sequential.proofs.Telling.{ends-both}
+use Rattle.tool.specs.Standings.{Standing, StandAs, process_line, process_lines}
+use Rattle.tool.specs.Replay.{TellsStanding, TellsProcesses, TellsState, IsAt, IsReplayed, lawful_line}
+use Rattle.tool.proofs.Lines.{LinesTo}
 
 -- PROCESS BY PROCESS
 
@@ -18,21 +19,7 @@ use Rattle.tool.specs.Replay.{Standing, TellsStanding, TellsProcesses, TellsStat
 abbrev pub TellsOne : State → ℕ → Standing → Type 0
 TellsOne s t p = (p.thread ≡ t) × TellsEnd s t p.end × TellsOutput s t p.printed
 
--- the lines of the first so many
-abbrev pub ProcessesTo : Naming → State → ℕ → List ℕ → Type 0
-ProcessesTo names s n text = (standing : List Standing) × HoldsOf (TellsOne s) n standing × (text ≡ process_lines names standing)
-
-pub no_process : (names : Naming) (s : State) → ProcessesTo names s 0 []
-no_process names s = ([], (refl, λ t p e. absurd cc), refl)
-
-pub one_process : (names : Naming) (s : State) (n : ℕ) (text more : List ℕ) (p : Standing) → ProcessesTo names s n text → TellsOne s n p → more ≡ text ++ process_line names p → ProcessesTo names s (n + 1) more
-one_process names s n text more p (standing, holds, is) told grown = (
-  standing ++ p ∷ [],
-  holds-more (TellsOne s) n standing (standing ++ p ∷ []) p holds told refl,
-  grown ∙ ap (λ (l : List ℕ). l ++ process_line names p) is ∙ flat_map_more (process_line names) [] standing p,
-)
-
-pub all_processes : (names : Naming) (s : State) (n : ℕ) (text : List ℕ) → ProcessesTo names s n text → n ≡ thread_count s → TellsProcesses names s text
+pub all_processes : (names : Naming) (s : State) (n : ℕ) (text : List ℕ) → LinesTo names (TellsOne s) n text → n ≡ thread_count s → TellsProcesses names s text
 all_processes names s n text (standing, holds, is) all = record {
   standing = standing;
   tells = record { count = holds.0 ∙ all; each = holds.1 };

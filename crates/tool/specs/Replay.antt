@@ -1,51 +1,18 @@
 -- What replaying a journal prints.
 use Rattle.std.specs.Prelude.{◌≡◌, ℕ, ◌+◌, Bool, true, false, List, [], ◌∷◌, ◌++◌, length, codes, Option, Some, None, is_none, slice_get}
 use Rattle.std.specs.Fmt.{decimal}
-use Rattle.std.specs.List.{flat_map}
-use Rattle.words.specs.declared.Atom.{Atom}
 use Rattle.words.specs.declared.Commit.{Commit}
 use Rattle.syntax.specs.Processes.{Proc}
-use Rattle.thread.specs.declared.Fault.TheVariants.{Unset, Kind, Range, Shape}
 use Rattle.script.specs.Sources.{Script}
 use Rattle.script.specs.Spelling.{IsSpelled}
 use Rattle.journal_text.specs.Journals.{Spells}
 use Rattle.journal_text.specs.Names.{Naming, names_of, naming}
-use Rattle.journal_text.specs.Texts.{atom_text}
 use Rattle.sequential.specs.Replays.{TellsEnabled, TellsEnd, TellsOutput, thread_count}
-use Rattle.sequential.specs.Runs.{BreaksOffAt, Config, EndsAs, IsLegal, IsMaximal, IsRun, config_of}
-use Rattle.sequential.specs.declared.end.End.{End}
-use Rattle.sequential.specs.declared.end.End.TheVariants.{Ended, Waiting, Spent, Faulted}
+use Rattle.sequential.specs.Runs.{BreaksOffAt, Config, IsLegal, IsMaximal, IsRun, config_of}
 use Rattle.sequential.specs.declared.state.State.{State}
+use Rattle.tool.specs.Standings.{Standing, StandAs, process_lines}
 use Rattle.tool.specs.declared.replay.Replayed.{Replayed}
 use Rattle.tool.specs.declared.replay.Replayed.TheVariants.{Lawful, Unlawful}
-
--- THE LINE OF A PROCESS
-
--- a process by its number, how it ended and what it printed
-pub record Standing : Type 0 where
-  pub thread : ℕ
-  pub end : End
-  pub printed : List Atom
-
-abbrev pub end_text : End → List ℕ
-end_text Ended = codes "ended"
-end_text Waiting = codes "waiting"
-end_text Spent = codes "spent"
-end_text (Faulted Unset) = codes "faulted unset"
-end_text (Faulted Kind) = codes "faulted kind"
-end_text (Faulted Range) = codes "faulted range"
-end_text (Faulted Shape) = codes "faulted shape"
-
--- each atom behind a space
-abbrev pub printed_text : Naming → List Atom → List ℕ
-printed_text names printed = flat_map (λ a. codes " " ++ atom_text names a) printed
-
-abbrev pub process_line : Naming → Standing → List ℕ
-process_line names p = names.thread p.thread ++ codes " " ++ end_text p.end ++ printed_text names p.printed ++ 10 ∷ []
-
--- a line for each process, in their order
-abbrev pub process_lines : Naming → List Standing → List ℕ
-process_lines names standing = flat_map (process_line names) standing
 
 -- THE LAST LINE
 
@@ -80,11 +47,6 @@ pub record TellsState (names : Naming) (s : State) (commits : ℕ) (text : List 
   pub is : text ≡ process_lines names standing ++ lawful_line commits (is_none next)
 
 -- WHAT IS PRINTED
-
--- each process ends so and printed this, where its results are these
-pub record StandAs (ps : List Proc) (rows : ℕ) (config : Config) (standing : List Standing) : Type 0 where
-  pub count : length standing ≡ length ps
-  pub each : (t : ℕ) (p : Standing) → slice_get standing t ≡ Some p → (p.thread ≡ t) × EndsAs ps rows t config p.end p.printed
 
 -- no commit may come next, or one may
 abbrev pub IsAt : List Proc → ℕ → Config → Bool → Type 0

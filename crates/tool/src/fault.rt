@@ -2,13 +2,14 @@
 
 ghost use Rattle.std.specs.Prelude.{◌≡◌};
 ghost use Rattle.tool.specs.Check.{fault_of_script};
-ghost use Rattle.tool.specs.PlayFaults.{fault_of_meet, fault_of_play, fault_of_file, fault_of_journal};
+ghost use Rattle.tool.specs.PlayFaults.{fault_of_meet, fault_of_play, fault_of_file, fault_of_journal, fault_of_run};
 ghost use Rattle.tool.specs.declared.fault.Fault.TheVariants.{Memory};
 
-use crate::meet::MeetFault;
+use crate::meeting::MeetFault;
 use crate::play::PlayFault;
 use crate::source::SourceFault;
 use journal_text::JournalFault;
+use runtime::RunFault;
 use script::ScriptFault;
 use std::alloc::AllocError;
 use thiserror::Error;
@@ -21,6 +22,18 @@ pub enum Fault {
     /// The first step of a schedule that is not allowed, from 1.
     #[error("fault 2 step {0}")]
     NotAllowed(usize),
+    /// A number of workers that is not 1 to 16. No words of a command line ask for it.
+    #[error("fault 2")]
+    Workers,
+    /// A number of rows that is not 1 to 1024. No words of a command line ask for it.
+    #[error("fault 3")]
+    Rows,
+    /// A machine of a run that is not where its row says.
+    #[error("fault 4")]
+    Lost,
+    /// Commits of a run's workers that are no run of the script.
+    #[error("fault 5")]
+    Unlawful,
     /// A thread that could not be started.
     #[error("fault 6")]
     NoThread,
@@ -105,6 +118,21 @@ impl From<JournalFault> for Fault {
         match fault {
             JournalFault::Memory => Fault::Memory,
             JournalFault::BadLine(line) => Fault::BadLine(line),
+        }
+    }
+}
+
+impl From<RunFault> for Fault {
+    ghost from_gives = { λ run fault. fault ≡ fault_of_run run };
+
+    fn from(fault: RunFault) -> Fault {
+        match fault {
+            RunFault::Memory => Fault::Memory,
+            RunFault::Workers => Fault::Workers,
+            RunFault::Rows => Fault::Rows,
+            RunFault::Lost => Fault::Lost,
+            RunFault::Unlawful => Fault::Unlawful,
+            RunFault::NoWorker => Fault::NoThread,
         }
     }
 }

@@ -4,18 +4,21 @@
 
 mod check;
 mod fault;
-mod meet;
+mod meeting;
 mod play;
+mod processes;
 mod program;
 mod replay;
 mod request;
+mod run;
 mod source;
 
 pub use crate::check::check_text;
 pub use crate::fault::Fault;
-pub use crate::meet::{MeetFault, meet_text};
+pub use crate::meeting::{MeetFault, meet_text};
 pub use crate::play::{PlayFault, play_laws, play_text};
 pub use crate::program::{BAD_WORDS, command, tell};
 pub use crate::replay::{Replayed, replay_laws, replay_text};
 pub use crate::request::Request;
+pub use crate::run::run_text;
 pub use crate::source::{Source, SourceFault, SystemFiles};

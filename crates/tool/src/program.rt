@@ -9,10 +9,11 @@ ghost use Rattle.tool.specs.Command.{Answers, Fails};
 
 use crate::check::check_text;
 use crate::fault::Fault;
-use crate::meet::meet_text;
+use crate::meeting::meet_text;
 use crate::play::play_text;
 use crate::replay::{Replayed, replay_text};
 use crate::request::{Request, read_words};
+use crate::run::run_text;
 use crate::source::Source;
 use clap::error::ErrorKind;
 use script::parse;
@@ -39,7 +40,7 @@ enum Verdict {
 }
 
 /// The text that a request is answered with.
-fn answer<R: Threads + Wait, S: Source>(
+fn answer<R: Threads + Wait + Sync, S: Source>(
     rt: &R,
     alloc: Global,
     asked: Request<'_>,
@@ -57,6 +58,16 @@ fn answer<R: Threads + Wait, S: Source>(
         Request::Check(name) => {
             let bytes = source.read(name)?;
             Ok((Verdict::Done, check_text(alloc, bytes.as_slice())?))
+        }
+        Request::Run {
+            script,
+            workers,
+            rows,
+        } => {
+            let bytes = source.read(script)?;
+            let script = parse(alloc, bytes.as_slice())?;
+            let text = run_text(rt, alloc, &script, workers, rows)?;
+            Ok((Verdict::Done, text))
         }
         Request::Replay {
             script,
@@ -86,7 +97,7 @@ fn write_text<O: Write>(out: &mut O, text: &[u8]) -> Result<(), Fault>
 }
 
 /// Answers a request on the output. After a fault nothing was written, but for that of the output.
-fn respond<R: Threads + Wait, S: Source, O: Write>(
+fn respond<R: Threads + Wait + Sync, S: Source, O: Write>(
     rt: &R,
     alloc: Global,
     asked: Request<'_>,
@@ -105,7 +116,7 @@ fn respond<R: Threads + Wait, S: Source, O: Write>(
 /// Does what the words behind the program's name ask for, and answers the status: 0, or 1 after a
 /// fault or for a journal that is no run, or 2 after words that are not understood and after a wish for
 /// help. A fault is a line on the error stream; whether that stream takes it changes nothing.
-pub fn command<R: Threads + Wait, S: Source, O: Write, E: Write>(
+pub fn command<R: Threads + Wait + Sync, S: Source, O: Write, E: Write>(
     rt: &R,
     alloc: Global,
     words: &[&str],

@@ -13,6 +13,13 @@ pub enum Request<'a> {
     Play(&'a str),
     /// How many processes and channels the script in the file of this name has.
     Check(&'a str),
+    /// What comes of running the script in the file of this name on so many workers, with so many rows a
+    /// process.
+    Run {
+        script: &'a str,
+        workers: u8,
+        rows: u16,
+    },
     /// Where the journal in a file leads the script in another, of so many rows a process.
     Replay {
         script: &'a str,
@@ -65,6 +72,31 @@ fn rows_argument<'a>(alloc: Global) -> Arg<'a> {
         .help("How many syncs a process may make")
 }
 
+fn run_command<'a>(alloc: Global) -> Result<Command<'a>, AllocError> {
+    let script = file_argument(alloc, "file", "FILE", "The script");
+    let workers = Arg::new(alloc, "workers")
+        .long("workers")
+        .action(ArgAction::Set)
+        .value_name("N")
+        .value_parser(value_parser!(u8).range(1..=16))
+        .default_value("4")
+        .help("How many workers run the processes");
+    Command::new(alloc, "run")
+        .about("Runs the processes of a script")
+        .arg(script)?
+        .arg(workers)?
+        .arg(rows_argument(alloc))
+}
+
+/// The request of `run`, by the words behind it.
+fn run_request<'a>(run: &ArgMatches<'a>) -> Option<Request<'a>> {
+    Some(Request::Run {
+        script: run.get_str("file")?,
+        workers: run.get_one("workers")?,
+        rows: run.get_one("rows")?,
+    })
+}
+
 fn replay_command<'a>(alloc: Global) -> Result<Command<'a>, AllocError> {
     let script = file_argument(alloc, "file", "FILE", "The script");
     let journal = file_argument(alloc, "journal", "JOURNAL", "The journal");
@@ -88,6 +120,7 @@ fn command_line<'a>(alloc: Global) -> Result<Command<'a>, AllocError> {
     let meet = meet_command(alloc)?;
     let play = play_command(alloc)?;
     let check = check_command(alloc)?;
+    let run = run_command(alloc)?;
     let replay = replay_command(alloc)?;
     Command::new(alloc, "pcml")
         .bin_name("pcml")?
@@ -97,6 +130,7 @@ fn command_line<'a>(alloc: Global) -> Result<Command<'a>, AllocError> {
         .subcommand(meet)?
         .subcommand(play)?
         .subcommand(check)?
+        .subcommand(run)?
         .subcommand(replay)
 }
 
@@ -108,6 +142,7 @@ pub fn read_words<'a>(alloc: Global, words: &'a [&'a str]) -> Result<Request<'a>
         Some(("meet", meet)) => meet.get_one("value").map(|value| Request::Meet(value)),
         Some(("play", play)) => play.get_str("file").map(|name| Request::Play(name)),
         Some(("check", check)) => check.get_str("file").map(|name| Request::Check(name)),
+        Some(("run", run)) => run_request(run),
         Some(("replay", replay)) => replay_request(replay),
         _ => None,
     };

@@ -8,7 +8,11 @@ use std::thread::Threads;
 use tool::{Fault, Source, SourceFault, command, play_laws, replay_laws};
 
 mod check;
+mod gates;
 mod replay;
+mod running;
+mod scripts;
+mod workers;
 
 /// One file, by its name.
 #[derive(Drop)]
@@ -56,7 +60,7 @@ struct Outcome {
     err: Vec<u8>,
 }
 
-fn run<R: AllocGlobal + Threads + Wait>(
+fn run<R: AllocGlobal + Threads + Wait + Sync>(
     rt: &R,
     words: &[&str],
     text: &[u8],
@@ -66,7 +70,7 @@ fn run<R: AllocGlobal + Threads + Wait>(
 }
 
 /// Where memory runs out, the run has to tell just that.
-fn run_on<R: AllocGlobal + Threads + Wait, S: Source>(
+fn run_on<R: AllocGlobal + Threads + Wait + Sync, S: Source>(
     rt: &R,
     words: &[&str],
     source: &mut S,
@@ -81,7 +85,7 @@ fn run_on<R: AllocGlobal + Threads + Wait, S: Source>(
     Ok(Outcome { status, out, err })
 }
 
-fn prints<R: Abort + AllocGlobal + Threads + Wait>(
+fn prints<R: Abort + AllocGlobal + Threads + Wait + Sync>(
     rt: &R,
     words: &[&str],
     text: &[u8],
@@ -94,7 +98,7 @@ fn prints<R: Abort + AllocGlobal + Threads + Wait>(
     Ok(())
 }
 
-fn faults<R: Abort + AllocGlobal + Threads + Wait>(
+fn faults<R: Abort + AllocGlobal + Threads + Wait + Sync>(
     rt: &R,
     words: &[&str],
     text: &[u8],
@@ -107,7 +111,7 @@ fn faults<R: Abort + AllocGlobal + Threads + Wait>(
     Ok(())
 }
 
-fn is_bad_words<R: Abort + AllocGlobal + Threads + Wait>(
+fn is_bad_words<R: Abort + AllocGlobal + Threads + Wait + Sync>(
     rt: &R,
     words: &[&str],
 ) -> Result<(), Fault> {

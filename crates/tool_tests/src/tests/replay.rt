@@ -30,7 +30,7 @@ impl Source for TwoFiles<'_> {
 
 const WORDS: [&str; 3] = ["replay", "script", "journal"];
 
-fn replay<R: AllocGlobal + Threads + Wait>(
+fn replay<R: AllocGlobal + Threads + Wait + Sync>(
     rt: &R,
     words: &[&str],
     script: &str,
@@ -45,7 +45,7 @@ fn replay<R: AllocGlobal + Threads + Wait>(
     run_on(rt, words, &mut files)
 }
 
-fn leads_in_rows<R: Abort + AllocGlobal + Threads + Wait>(
+fn leads_in_rows<R: Abort + AllocGlobal + Threads + Wait + Sync>(
     rt: &R,
     rows: &str,
     script: &str,
@@ -61,7 +61,7 @@ fn leads_in_rows<R: Abort + AllocGlobal + Threads + Wait>(
 }
 
 /// The journal is a run of the script, and leads to what is expected.
-fn leads<R: Abort + AllocGlobal + Threads + Wait>(
+fn leads<R: Abort + AllocGlobal + Threads + Wait + Sync>(
     rt: &R,
     script: &str,
     journal: &str,
@@ -70,7 +70,7 @@ fn leads<R: Abort + AllocGlobal + Threads + Wait>(
     leads_in_rows(rt, "256", script, journal, expected)
 }
 
-fn is_unlawful<R: Abort + AllocGlobal + Threads + Wait>(
+fn is_unlawful<R: Abort + AllocGlobal + Threads + Wait + Sync>(
     rt: &R,
     script: &str,
     journal: &str,
@@ -83,7 +83,7 @@ fn is_unlawful<R: Abort + AllocGlobal + Threads + Wait>(
     Ok(())
 }
 
-fn has_fault<R: Abort + AllocGlobal + Threads + Wait>(
+fn has_fault<R: Abort + AllocGlobal + Threads + Wait + Sync>(
     rt: &R,
     words: &[&str],
     script: &str,

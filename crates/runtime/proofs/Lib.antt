@@ -1,0 +1,3 @@
+pub mod Completed
+pub mod Crossing
+pub mod Lists

@@ -1,0 +1,30 @@
+-- The headline: what the record of a run is.
+use Rattle.std.specs.Prelude.{◌≡◌, ◌≤◌, ℕ, List, length, map, Some, slice_get}
+use Rattle.syntax.specs.Processes.{Proc}
+use Rattle.words.specs.declared.Commit.{Commit}
+use Rattle.protocol.specs.Ledgers.{IsInOrder}
+use Rattle.sequential.specs.Runs.{HasRow, IsMaximal, IsRun, config_of}
+use Rattle.order.specs.Meetings.{Meets}
+use Rattle.order.specs.Messages.{named, received, sent}
+use Rattle.journal.specs.Records.{TellsEnds}
+use Rattle.journal.specs.declared.record.Record.{Record}
+
+-- the commits, in stamp order, are a maximal run of the processes, each of so many rows
+pub record IsMaximalRun (ps : List Proc) (rows : ℕ) (journal : List Commit) : Type 0 where
+  pub run : IsRun ps rows journal
+  pub in_order : IsInOrder journal
+  pub maximal : IsMaximal ps rows (config_of journal)
+  -- each sync commits at most one offer: it is in at most one commit
+  pub at_most_one : (i j : ℕ) (c d : Commit) (t g : ℕ) → slice_get journal i ≡ Some c → slice_get journal j ≡ Some d → HasRow c t g → HasRow d t g → i ≡ j
+  -- each committed send meets a receive of another thread on its channel, giving it its message, and a nack is answered only where
+  -- its sync committed outside its scope
+  pub meets : (i : ℕ) (c : Commit) → slice_get journal i ≡ Some c → Meets ps (config_of journal) c
+  -- one thread's messages on a channel are received in sending order: what the receivers got is what the pairs name, and what it sent
+  pub received_is_sent : (t chan : ℕ) → received t chan journal ≡ sent ps t chan (config_of journal t)
+  pub named_is_received : (t chan : ℕ) → named t chan journal ≡ received t chan journal
+
+-- the record tells such a run, how each process ended and what it printed; what was added behind the workers is a part of it
+pub record TellsMaximalRun (ps : List Proc) (rows : ℕ) (r : Record) : Type 0 where
+  pub journal : IsMaximalRun ps rows r.journal.items
+  pub ends : TellsEnds ps rows (config_of r.journal.items) r.ends.items (map (λ v. v.items) r.outputs.items)
+  pub tail : r.tail ≤ length r.journal.items

@@ -1,0 +1,56 @@
+//! Why a run gave no answer.
+
+use std::alloc::{AllocError, AllocFailed};
+use thiserror::Error;
+
+/// Why `run` or `work` gave no answer. After a fault nothing of the run is kept, and no worker runs on.
+#[derive(Clone, Copy, Debug, PartialEq, Eq, Error)]
+pub enum RunFault {
+    #[error("out of memory")]
+    Memory,
+    /// The number of workers is not 1 to 16.
+    #[error("the number of workers is not 1 to 16")]
+    Workers,
+    /// The number of rows is not 1 to 1024.
+    #[error("the number of rows is not 1 to 1024")]
+    Rows,
+    /// A machine is not where its row says, or a nack that it needs is bound already.
+    #[error("a machine is not where its row says")]
+    Lost,
+    /// The commits of the workers are no run of the script.
+    #[error("the commits are no run")]
+    Unlawful,
+    /// A worker could not be started.
+    #[error("a worker could not be started")]
+    NoWorker,
+}
+
+/// Why the workers stopped before their end.
+#[derive(Clone, Copy, Debug, Drop)]
+pub(crate) enum Halt {
+    Memory,
+    Lost,
+    NoWorker,
+}
+
+impl From<AllocError> for Halt {
+    fn from(_error: AllocError) -> Halt {
+        Halt::Memory
+    }
+}
+
+impl<T: Drop> From<AllocFailed<T>> for Halt {
+    fn from(_error: AllocFailed<T>) -> Halt {
+        Halt::Memory
+    }
+}
+
+/// Of two reasons the one that is told: want of memory before a worker that could not be started, and that
+/// before a machine that was lost.
+pub(crate) fn told_first(before: Option<Halt>, halt: Halt) -> Halt {
+    match (before, halt) {
+        (Some(Halt::Memory), _) | (_, Halt::Memory) => Halt::Memory,
+        (Some(Halt::NoWorker), _) | (_, Halt::NoWorker) => Halt::NoWorker,
+        (Some(Halt::Lost) | None, Halt::Lost) => Halt::Lost,
+    }
+}

@@ -1,0 +1,21 @@
+//! What is called round each turn of a thread.
+
+/// Is called by the workers round each turn of a thread, with the worker's number and the thread's. A run
+/// waits for a gate that does not return.
+pub trait Gate {
+    /// The worker is about to begin a turn of the thread.
+    fn before(&self, worker: u8, thread: u8);
+
+    /// The turn has ended, by a fault too.
+    fn after(&self, worker: u8, thread: u8);
+}
+
+/// A gate that does nothing.
+#[derive(Clone, Copy, Debug)]
+pub struct OpenGate;
+
+impl Gate for OpenGate {
+    fn before(&self, _worker: u8, _thread: u8) {}
+
+    fn after(&self, _worker: u8, _thread: u8) {}
+}

@@ -1,0 +1,17 @@
+//! Workers that run a script's processes over the shared cells, and the headline: `run`.
+#![tactic(auto)]
+
+mod fault;
+mod following;
+mod gate;
+mod homes;
+mod ranges;
+mod ready;
+mod running;
+mod turns;
+mod worker;
+mod workers;
+
+pub use crate::fault::RunFault;
+pub use crate::gate::{Gate, OpenGate};
+pub use crate::running::{run, work};

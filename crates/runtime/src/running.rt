@@ -1,0 +1,144 @@
+//! `work` and `run`.
+
+ghost use Rattle.std.specs.Prelude.{◌≡◌, ◌≢◌, ◌<◌, ◌≤◌, ◌↔◌, Err, IfOk, length, map};
+ghost use Rattle.syntax.specs.Processes.{proc_of};
+ghost use Rattle.protocol.specs.Ledgers.{Ledger, IsLawful};
+ghost use Rattle.script.specs.Scripts.{script_of};
+ghost use Rattle.journal.specs.Records.{Completes};
+ghost use Rattle.runtime.specs.Headline.{TellsMaximalRun};
+ghost use Rattle.runtime.specs.Limits.{AreRows, AreWorkers};
+ghost use Rattle.runtime.specs.declared.fault.RunFault.TheVariants.{Workers, Rows, Unlawful};
+
+use crate::fault::{Halt, RunFault};
+use crate::gate::Gate;
+use crate::homes::Homes;
+use crate::ready::Ready;
+use crate::turns::Shared;
+use crate::workers::{all_work, told_one};
+use cell::Cells;
+use journal::{Record, complete};
+use meet::Meet;
+use protocol::{Ledger, World};
+use script::Script;
+use sequential::ReplayFault;
+use std::alloc::Global;
+use std::sync::{Mutex, Wait};
+use std::thread::Threads;
+
+fn told(halt: Halt) -> RunFault
+    ensures { (result ≢ Workers) × (result ≢ Rows) × (result ≢ Unlawful) }
+{
+    match halt {
+        Halt::Memory => RunFault::Memory,
+        Halt::Lost => RunFault::Lost,
+        Halt::NoWorker => RunFault::NoWorker,
+    }
+}
+
+/// The workers over a table of their own, which is closed at their end.
+fn work_within<R: Threads + Wait + Sync, G: Gate + Sync>(
+    rt: &R,
+    alloc: Global,
+    script: &Script,
+    workers: u8,
+    rows: u16,
+    gate: &G,
+) -> Result<Ledger, Halt>
+    requires workers { AreWorkers workers }
+    requires rows { AreRows rows }
+    requires some { 1 ≤ length (script_of script.now).processes }
+    ensures { IfOk result IsLawful }
+{
+    let processes = script.processes();
+    let threads = processes.len() as u8;
+    let shared = Shared {
+        alloc,
+        meet: Meet::new(alloc, script.channels() as u16, threads)?,
+        ready: Mutex::new(Ready::new(alloc, usize::from(workers))),
+        homes: Homes::new(alloc, processes.len())?,
+    };
+    let (cells, passes) = Cells::new(alloc, threads, rows, workers)?;
+    let passes = all_work(rt, alloc, &cells, &shared, gate, processes, passes)?;
+    match told_one(&cells, passes) {
+        Some(pass) => Ok(cells.close(pass)),
+        None => Err(Halt::Lost),
+    }
+}
+
+/// The workers alone: the ledger of the table that they leave. It waits for its workers, which wait for
+/// one another and for the gate.
+pub fn work<R: Threads + Wait + Sync, G: Gate + Sync>(
+    rt: &R,
+    alloc: Global,
+    script: &Script,
+    workers: u8,
+    rows: u16,
+    gate: &G,
+) -> Result<Ledger, RunFault>
+    requires { 1 ≤ length (script_of script.now).processes }
+    ensures lawful { IfOk result IsLawful }
+    ensures workers { (result ≡ Err Workers) ↔ (¬ AreWorkers workers) }
+    ensures rows { (result ≡ Err Rows) ↔ (AreWorkers workers × (¬ AreRows rows)) }
+    ensures never_unlawful { result ≢ Err Unlawful }
+{
+    if workers < 1 || workers > 16 {
+        return Err(RunFault::Workers);
+    }
+    if rows < 1 || rows > 1024 {
+        return Err(RunFault::Rows);
+    }
+    match work_within(rt, alloc, script, workers, rows, gate) {
+        Ok(ledger) => Ok(ledger),
+        Err(halt) => Err(told(halt)),
+    }
+}
+
+/// A ledger with no commit.
+fn no_commits(alloc: Global) -> Result<Ledger, RunFault>
+    ensures lawful { IfOk result IsLawful }
+    ensures faults { (result ≢ Err Workers) × (result ≢ Err Rows) }
+{
+    match World::start(alloc, 1, 1, 1) {
+        Ok(world) => Ok(world.ledger()),
+        Err(_) => Err(RunFault::Memory),
+    }
+}
+
+/// However the workers' steps fall, a run's commits in stamp order are a maximal run of the script in
+/// sequential CML: each sync commits at most one offer, each committed send meets exactly one receive of
+/// another thread on its channel, giving it its message, one thread's messages on a channel are received
+/// in sending order, and a nack is answered only where its sync committed outside its scope.
+///
+/// The commits are those of `work`, completed: `tail` counts the ones that the workers left to be added.
+/// Where the script has no process nothing is started. It waits as `work` does.
+pub fn run<R: Threads + Wait + Sync, G: Gate + Sync>(
+    rt: &R,
+    alloc: Global,
+    script: &Script,
+    workers: u8,
+    rows: u16,
+    gate: &G,
+) -> Result<Record, RunFault>
+    ensures headline { IfOk result (TellsMaximalRun (script_of script.now).processes rows) }
+    ensures completes { IfOk result (λ r. (l : Ledger) × IsLawful l × Completes (script_of script.now).processes rows l r) }
+    ensures workers { (result ≡ Err Workers) ↔ (¬ AreWorkers workers) }
+    ensures rows { (result ≡ Err Rows) ↔ (AreWorkers workers × (¬ AreRows rows)) }
+{
+    if workers < 1 || workers > 16 {
+        return Err(RunFault::Workers);
+    }
+    if rows < 1 || rows > 1024 {
+        return Err(RunFault::Rows);
+    }
+    let processes = script.processes();
+    let ledger = if processes.is_empty() {
+        no_commits(alloc)?
+    } else {
+        work(rt, alloc, script, workers, rows, gate)?
+    };
+    match complete(alloc, processes, rows, &ledger) {
+        Ok(record) => Ok(record),
+        Err(ReplayFault::Memory) => Err(RunFault::Memory),
+        Err(ReplayFault::Unlawful(_)) => Err(RunFault::Unlawful),
+    }
+}

@@ -1,0 +1,196 @@
+//! The turns of threads: a row is taken, its thread's machine runs, and the thread's next row is opened and
+//! searched for.
+
+ghost use Rattle.std.specs.Prelude.{◌≡◌, ◌<◌, ◌≤◌, IfSome, length};
+ghost use Rattle.protocol.specs.Tables.{next_row};
+ghost use Rattle.cell.specs.Calls.{IsPassOf, IsRowOf};
+ghost use Rattle.cell.specs.Sight.{Has};
+
+use crate::fault::Halt;
+use crate::following::follow;
+use crate::gate::Gate;
+use crate::homes::Homes;
+use crate::ranges::are_offers;
+use crate::ready::Ready;
+use cell::{Cells, NoGate, Pass};
+use meet::{Found, Meet};
+use std::alloc::Global;
+use std::sync::{Mutex, Wait};
+use syntax::Proc;
+use thread::Turn;
+use words::{Cell, Offer, Row};
+
+/// What all workers share, beside the cells.
+#[derive(Drop)]
+pub(crate) struct Shared {
+    pub(crate) alloc: Global,
+    pub(crate) meet: Meet,
+    pub(crate) ready: Mutex<Ready>,
+    pub(crate) homes: Homes,
+}
+
+/// Takes the row, if nobody has, and goes on with its thread. Where the thread has no next row nothing
+/// runs.
+pub(crate) fn advance<R: Wait, G: Gate>(
+    rt: &R,
+    cells: &Cells,
+    shared: &Shared,
+    gate: &G,
+    pass: &mut Pass,
+    worker: u8,
+    row: Row,
+) -> Result<(), Halt>
+    requires { IsPassOf cells.now pass.old }
+    ensures { IsPassOf cells.now pass.new }
+{
+    if !cells.has(row) {
+        return Err(Halt::Lost);
+    }
+    // Before the row is taken: of the next row, which is held then, nothing more is read.
+    let Some(message) = cells.result(pass, row) else {
+        return Ok(());
+    };
+    let Some(joined) = cells.take(pass, row) else {
+        return Ok(());
+    };
+    let Some(next) = row_behind(cells, row) else {
+        return Ok(());
+    };
+    gate.before(worker, row.thread);
+    let turn = shared.homes.resume(rt, shared.alloc, row, joined, message);
+    let done = go_on(rt, cells, shared, pass, next, turn);
+    gate.after(worker, row.thread);
+    done
+}
+
+/// The next row of the row's thread, if the table has it.
+fn row_behind(cells: &Cells, row: Row) -> Option<Row>
+    ensures { IfSome result (λ next. IsRowOf cells.now next × (next ≡ next_row row)) }
+{
+    let next = Row {
+        thread: row.thread,
+        sync: row.sync.checked_add(1)?,
+    };
+    cells.has(next).then_some(next)
+}
+
+/// The first turn of the thread, where the pass holds its first row.
+fn begin_thread<R: Wait, G: Gate>(
+    rt: &R,
+    cells: &Cells,
+    shared: &Shared,
+    gate: &G,
+    process: &Proc,
+    pass: &mut Pass,
+    worker: u8,
+    thread: u8,
+) -> Result<(), Halt>
+    requires here { IsPassOf cells.now pass.old }
+    requires thread { thread < 64 }
+    ensures { IsPassOf cells.now pass.new }
+{
+    let row = Row { thread, sync: 0 };
+    if !pass.holds(row) || !cells.has(row) {
+        return Ok(());
+    }
+    let Cell::Fresh = cells.look(pass, row) else {
+        return Err(Halt::Lost);
+    };
+    gate.before(worker, thread);
+    let turn = shared.homes.begin(rt, shared.alloc, process, thread);
+    let done = go_on(rt, cells, shared, pass, row, turn);
+    gate.after(worker, thread);
+    done
+}
+
+/// The first turns of the threads whose first rows the pass holds.
+pub(crate) fn begin_all<R: Wait, G: Gate>(
+    rt: &R,
+    cells: &Cells,
+    shared: &Shared,
+    gate: &G,
+    processes: &[Proc],
+    pass: &mut Pass,
+    worker: u8,
+) -> Result<(), Halt>
+    requires { IsPassOf cells.now pass.old }
+    ensures { IsPassOf cells.now pass.new }
+{
+    for (at, process) in processes.iter().enumerate() {
+        if at >= 64 {
+            return Err(Halt::Lost);
+        }
+        begin_thread(rt, cells, shared, gate, process, pass, worker, at as u8)?;
+    }
+    Ok(())
+}
+
+/// What the thread came to, at its next row.
+fn go_on<R: Wait>(
+    rt: &R,
+    cells: &Cells,
+    shared: &Shared,
+    pass: &mut Pass,
+    row: Row,
+    turn: Result<Turn, Halt>,
+) -> Result<(), Halt>
+    requires here { IsPassOf cells.now pass.old × IsRowOf cells.now row }
+    requires fresh { Has pass.old.seen.held row × (¬ Has pass.old.seen.opened row) }
+    ensures { IsPassOf cells.now pass.new }
+{
+    match turn? {
+        Turn::Offering { offers, nacks } => {
+            let (offers, nacks) = (offers.as_slice(), nacks.as_slice());
+            enter(rt, cells, shared, pass, row, offers, nacks)
+        }
+        Turn::Ended | Turn::Faulted(_) => Ok(()),
+    }
+}
+
+/// Opens the row with these offers, and looks for a row that it can meet.
+fn enter<R: Wait>(
+    rt: &R,
+    cells: &Cells,
+    shared: &Shared,
+    pass: &mut Pass,
+    row: Row,
+    offers: &[Offer],
+    nacks: &[u8],
+) -> Result<(), Halt>
+    requires here { IsPassOf cells.now pass.old × IsRowOf cells.now row }
+    requires fresh { Has pass.old.seen.held row × (¬ Has pass.old.seen.opened row) }
+    ensures { IsPassOf cells.now pass.new }
+{
+    if !are_offers(offers) {
+        return Err(Halt::Lost);
+    }
+    bind_all(cells, pass, row, nacks)?;
+    cells.draft(pass, row, offers);
+    cells.open(pass, row);
+    match shared.meet.search(rt, cells, pass, &NoGate, row)? {
+        Found::Met(other) => follow(rt, cells, shared, pass, row, Some(other)),
+        Found::Alone => follow(rt, cells, shared, pass, row, None),
+        // whoever committed the row follows it
+        Found::Already | Found::Left => Ok(()),
+    }
+}
+
+/// Binds the nacks of the row's scopes. A nack is bound by its own thread alone, when its sync is opened,
+/// so none is bound yet.
+fn bind_all(cells: &Cells, pass: &mut Pass, row: Row, nacks: &[u8]) -> Result<(), Halt>
+    requires here { IsPassOf cells.now pass.old × IsRowOf cells.now row }
+    requires fresh { Has pass.old.seen.held row × (¬ Has pass.old.seen.opened row) }
+    ensures here { IsPassOf cells.now pass.new }
+    ensures fresh { Has pass.new.seen.held row × (¬ Has pass.new.seen.opened row) }
+{
+    if nacks.len() > 4 {
+        return Err(Halt::Lost);
+    }
+    for scope in 0..nacks.len() {
+        let k = nacks[scope];
+        if k >= 64 || !cells.bind(pass, k, row, scope as u8) {
+            return Err(Halt::Lost);
+        }
+    }
+    Ok(())
+}

@@ -1,0 +1,32 @@
+-- What running a script prints.
+use Rattle.std.specs.Prelude.{◌≡◌, ◌≤◌, ℕ, List, [], ◌∷◌, ◌++◌, length, codes, map}
+use Rattle.std.specs.Fmt.{decimal}
+use Rattle.words.specs.declared.Commit.{Commit}
+use Rattle.script.specs.Sources.{Script}
+use Rattle.journal_text.specs.Names.{names_of, naming}
+use Rattle.journal_text.specs.Texts.{commits_text}
+use Rattle.sequential.specs.Runs.{config_of}
+use Rattle.runtime.specs.Headline.{IsMaximalRun}
+use Rattle.journal.specs.declared.record.Record.{Record}
+use Rattle.tool.specs.Standings.{Standing, AreStandings, StandAs, process_lines}
+
+-- the last line: how many commits there are, and how many of them the workers left to be added
+abbrev pub tail_line : ℕ → ℕ → List ℕ
+tail_line commits tail = codes "commits " ++ decimal commits ++ codes " tail " ++ decimal tail ++ 10 ∷ []
+
+-- the text tells the record's commits, then how each process stands, and how many commits there are
+pub record TellsRecord (s : Script) (r : Record) (text : List ℕ) : Type 0 where
+  pub standing : List Standing
+  pub are : AreStandings r.ends.items (map (λ v. v.items) r.outputs.items) standing
+  pub is : text ≡ commits_text (naming (names_of s)) r.journal.items ++ process_lines (naming (names_of s)) standing ++ tail_line (length r.journal.items) r.tail
+
+-- The text tells the commits of a maximal run of the script's processes, of so many rows each, in stamp order and in the script's
+-- names, then how each process stands where they lead, and how many commits there are.
+pub record IsRan (s : Script) (rows : ℕ) (text : List ℕ) : Type 0 where
+  pub journal : List Commit
+  pub run : IsMaximalRun s.processes rows journal
+  pub standing : List Standing
+  pub stand : StandAs s.processes rows (config_of journal) standing
+  pub tail : ℕ
+  pub few : tail ≤ length journal
+  pub is : text ≡ commits_text (naming (names_of s)) journal ++ process_lines (naming (names_of s)) standing ++ tail_line (length journal) tail
