@@ -1,5 +1,5 @@
 -- A clean-up goes through the entries one after another.
-use Rattle.std.proofs.Common.{◌≡◌, ◌⊎◌, ◌<◌, ◌≤◌, ◌+◌, ℕ, List, [], ◌∷◌, ◌++◌, inl, inr, refl, ap, sym, subst, ◌∙◌, length, take, drop, set, get_or, arith, length-set}
+use Rattle.std.proofs.Common.{◌≡◌, ◌<◌, ◌≤◌, ◌+◌, ℕ, List, [], ◌∷◌, ◌++◌, inl, inr, refl, ap, sym, subst, ◌∙◌, length, take, drop, set, get_or, arith, length-set}
 use Rattle.std.proofs.lemmas.List.{drop-set-lt, take_more, take_more_set, drop_more}
 use Rattle.std.proofs.lemmas.Grind.{drop_more_same}
 use Rattle.words.specs.declared.Row.{Row}

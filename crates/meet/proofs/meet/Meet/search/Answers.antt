@@ -1,29 +1,39 @@
-use Rattle.std.proofs.Common.{rules, ◌≡◌, ℕ, ◌<◌, arith, ap, subst, sym, below_more}
+use Rattle.std.proofs.Common.{ℕ, arith, sym, subst}
 use Rattle.cell.specs.Calls.{IsPassOf, PassView}
-use Rattle.meet.specs.Searches.{Grows}
-use Rattle.meet.proofs.Growing.{grows_by, grows_then, alone_more}
+use Rattle.meet.specs.Searches.{Grows, Lists}
+use Rattle.meet.proofs.Growing.{grows_then, offer_few, offer_more}
+use Rattle.meet.proofs.Reading.{found_left, lacks_at, lacks_more}
 use Rattle.meet.proofs.meet.Meet.search.Goals as goal
-use Rattle.meet.proofs.meet.Meet.search.Goals.{in-Some+in_default-try_offer, in_default}
+use Rattle.meet.proofs.meet.Meet.search.Goals.{in-Some+in_default-look, in_default}
 
-pub returns-clause-found : goal.returns-clause-found
-returns-clause-found g c n h = c.loop-n.invariant.2 n (let few = c.offer_count-count.ensures.whole n h.0 h.2 in omega (arith, c.loop-n-test.false)) h
+pub look-requires-clause-read : goal.look-requires-clause-read
+look-requires-clause-read g c =
+    offer_more c.own_offers-offers.new.pass.seen c.loop-n.pass.seen c.args.row c.loop-n.n c.in-Some.offer c.loop-n.invariant.1
+    (c.own_offers-offers.ensures.seen c.loop-n.n c.in-Some.offer (subst (λ (n : ℕ). Lists c.own_offers-offers.result n c.in-Some.offer) c.from.ensures c.in-Some.is))
 
 pub loop-n-preserved : goal.loop-n-preserved
 loop-n-preserved g c =
     let s = c.args.pass.now.seen in
-    let t = c.loop-n.pass.seen in
-    let u = c.offer.new.pass.seen in
-    let read = grows_by _ _ t u c.offer.ensures.learns in
-    let seen = grows_then s t u c.loop-n.invariant.1 read in
-    elim c.match-offer.branch [
-      | in-Some+in_default-try_offer w ↦ (
-        subst (λ (p : PassView). IsPassOf c.args.cells.now p) (sym w.pass-is) w.try_offer.ensures.here,
-        subst (λ (p : PassView). Grows s p.seen) (sym w.pass-is) (grows_then s u w.try_offer.new.pass.seen seen w.try_offer.ensures.grows),
-        below_more _ _ c.loop-n.invariant.2 (λ h. w.in_default-try_offer.ensures.none (alone_more s u c.args.row c.loop-n.n seen h)),
+    let t = c.own_offers-offers.new.pass.seen in
+    let u = c.loop-n.pass.seen in
+    let offers = c.own_offers-offers.result in
+    let grows = grows_then s t u c.own_offers-offers.ensures.grows c.loop-n.invariant.1 in
+    elim c.match-offers-from.branch [
+      | in-Some+in_default-look w ↦ (
+        subst (λ (p : PassView). IsPassOf c.args.cells.now p) (sym w.pass-is) w.look.ensures.here,
+        subst (λ (p : PassView). Grows t p.seen) (sym w.pass-is) (grows_then t u w.look.new.pass.seen c.loop-n.invariant.1 w.look.ensures.grows),
+        lacks_more s offers c.loop-n.n c.from.result c.from.ensures c.loop-n.invariant.2 (lacks_at s u offers c.from.result w.in-Some.offer w.in-Some.is grows w.in_default-look.ensures.none),
       )
       | in_default w ↦ (
-        subst (λ (p : PassView). IsPassOf c.args.cells.now p) (sym w.pass-is) c.offer.ensures.here,
-        subst (λ (p : PassView). Grows s p.seen) (sym w.pass-is) seen,
-        below_more _ _ c.loop-n.invariant.2 (λ h. let a = alone_more s t c.args.row c.loop-n.n c.loop-n.invariant.1 h in w.in_default.not-Some a.0 (c.offer.ensures.same a.0 a.2)),
+        subst (λ (p : PassView). IsPassOf c.args.cells.now p) (sym w.pass-is) c.loop-n.invariant.0,
+        subst (λ (p : PassView). Grows t p.seen) (sym w.pass-is) c.loop-n.invariant.1,
+        lacks_more s offers c.loop-n.n c.from.result c.from.ensures c.loop-n.invariant.2 (λ o e. absurd (w.in_default.not-Some o e)),
       )
     ]
+
+pub returns-clause-found : goal.returns-clause-found
+returns-clause-found g c =
+    let s = c.args.pass.now.seen in
+    let u = c.loop-n.pass.seen in
+    found_left s u c.leave.new.pass.seen c.args.row c.leave.result (grows_then s c.own_offers-offers.new.pass.seen u c.own_offers-offers.ensures.grows c.loop-n.invariant.1) c.leave.ensures.left
+    (λ n h. c.loop-n.invariant.2 n h.0 (let few = offer_few s c.args.row n h.0 h.2 in omega (arith, c.loop-n-test.false)) (c.own_offers-offers.ensures.whole n h.0 h.2) h.1 h.3)

@@ -1,26 +1,27 @@
-use Rattle.std.proofs.Common.{rules, ◌≡◌, sym, subst, ◌++◌, ◌∷◌, [], Vec, Global, List}
-use Rattle.std.specs.Prelude.{All}
+use Rattle.std.proofs.Common.{sym, subst, Vec, Global}
 use Rattle.words.specs.declared.Row.{Row}
-use Rattle.meet.specs.Searches.{IsAlone}
-use Rattle.meet.proofs.Growing.{grows_then, all_more, all_one}
-use Rattle.std.proofs.lemmas.List.Elements.{All-append}
+use Rattle.meet.proofs.Growing.{Names, grows_then, names_more, names_push}
 use Rattle.meet.proofs.meet.Meet.wake.Goals as goal
-use Rattle.meet.proofs.meet.Meet.wake.Goals.{then-grant_waiting+in_ok-push, else-grant_waiting}
+use Rattle.meet.proofs.meet.Meet.wake.Goals.{then-wake_entry+in_ok-push, else-wake_entry}
 
 pub loop-entry-preserved : goal.loop-entry-preserved
 loop-entry-preserved g c =
     let s = c.args.pass.now.seen in
     let t = c.loop-entry.pass.seen in
-    let u = c.grant_waiting.new.pass.seen in
-    let grows = grows_then s t u c.loop-entry.invariant.1 c.grant_waiting.ensures.grows in
-    let before : All (IsAlone u) c.loop-entry.woken.items = all_more t u c.loop-entry.woken.items c.grant_waiting.ensures.grows c.loop-entry.invariant.2 in
-    elim c.if-grant_waiting.branch [
-      | then-grant_waiting+in_ok-push w ↦ (
-        c.grant_waiting.ensures.here,
-        grows,
-        subst (λ (v : Vec Row Global). All (IsAlone u) v.items) (sym w.woken-is)
-            (subst (λ (rows : List Row). All (IsAlone u) rows) (sym w.in_ok-push.ensures.items) (All-append (IsAlone u) c.loop-entry.woken.items (_ ∷ []) before (all_one (IsAlone u) _ (c.grant_waiting.ensures.granted w.if-grant_waiting.true)))),
+    let u = c.wake_entry.new.pass.seen in
+    let grows = c.wake_entry.ensures.grows in
+    let rows = c.loop-entry.woken.items in
+    elim c.if-wake_entry.branch [
+      | then-wake_entry+in_ok-push w ↦ (
+        c.wake_entry.ensures.here,
+        grows_then s t u c.loop-entry.invariant.1 grows,
+        subst (λ (v : Vec Row Global). Names s u c.args.nack v.items) (sym w.woken-is)
+            (subst (Names s u c.args.nack) (sym w.in_ok-push.ensures.items)
+            (names_push s t u c.args.nack rows _ c.loop-entry.invariant.1 grows c.loop-entry.invariant.2 (c.wake_entry.ensures.woken w.if-wake_entry.true))),
       )
-      | else-grant_waiting w ↦
-          (c.grant_waiting.ensures.here, grows, subst (λ (v : Vec Row Global). All (IsAlone u) v.items) (sym w.woken-is) before)
+      | else-wake_entry w ↦ (
+        c.wake_entry.ensures.here,
+        grows_then s t u c.loop-entry.invariant.1 grows,
+        subst (λ (v : Vec Row Global). Names s u c.args.nack v.items) (sym w.woken-is) (names_more s t u c.args.nack rows grows c.loop-entry.invariant.2),
+      )
     ]

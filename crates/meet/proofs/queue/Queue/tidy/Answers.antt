@@ -1,4 +1,4 @@
-use Rattle.std.proofs.Common.{rules, ◌≡◌, ◌+◌, ℕ, ap, set}
+use Rattle.std.proofs.Common.{rules, ◌+◌, ap, set}
 use Rattle.meet.specs.declared.queue.Queue.TheInside.{Inside}
 use Rattle.meet.proofs.Growing.{grows_then, saw_more}
 use Rattle.meet.proofs.Tidying.{cleans_at, cleans_gone, cleans_kept}
