@@ -35,6 +35,22 @@ fn told(halt: Halt) -> RunFault
     }
 }
 
+/// The limits of a run: those of the workers come first.
+fn check_limits(workers: u8, rows: u16) -> Result<(), RunFault>
+    ensures within { IfOk result (λ u. AreWorkers workers × AreRows rows) }
+    ensures workers { (result ≡ Err Workers) ↔ (¬ AreWorkers workers) }
+    ensures rows { (result ≡ Err Rows) ↔ (AreWorkers workers × (¬ AreRows rows)) }
+    ensures never_unlawful { result ≢ Err Unlawful }
+{
+    if workers < 1 || workers > 16 {
+        return Err(RunFault::Workers);
+    }
+    if rows < 1 || rows > 1024 {
+        return Err(RunFault::Rows);
+    }
+    Ok(())
+}
+
 /// The workers over a table of their own, which is closed at their end.
 fn work_within<R: Threads + Wait + Sync, G: Gate + Sync>(
     rt: &R,
@@ -81,12 +97,7 @@ pub fn work<R: Threads + Wait + Sync, G: Gate + Sync>(
     ensures rows { (result ≡ Err Rows) ↔ (AreWorkers workers × (¬ AreRows rows)) }
     ensures never_unlawful { result ≢ Err Unlawful }
 {
-    if workers < 1 || workers > 16 {
-        return Err(RunFault::Workers);
-    }
-    if rows < 1 || rows > 1024 {
-        return Err(RunFault::Rows);
-    }
+    check_limits(workers, rows)?;
     match work_within(rt, alloc, script, workers, rows, gate) {
         Ok(ledger) => Ok(ledger),
         Err(halt) => Err(told(halt)),
@@ -124,12 +135,7 @@ pub fn run<R: Threads + Wait + Sync, G: Gate + Sync>(
     ensures workers { (result ≡ Err Workers) ↔ (¬ AreWorkers workers) }
     ensures rows { (result ≡ Err Rows) ↔ (AreWorkers workers × (¬ AreRows rows)) }
 {
-    if workers < 1 || workers > 16 {
-        return Err(RunFault::Workers);
-    }
-    if rows < 1 || rows > 1024 {
-        return Err(RunFault::Rows);
-    }
+    check_limits(workers, rows)?;
     let processes = script.processes();
     let ledger = if processes.is_empty() {
         no_commits(alloc)?

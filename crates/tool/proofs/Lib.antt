@@ -4,4 +4,5 @@ pub mod MeetingLedger
 pub mod Playing
 pub mod Lines
 pub mod Replaying
+pub mod Running
 pub mod Judging
