@@ -1,4 +1,5 @@
-//! Events, statements and blocks, read from the front.
+//! Events, statements and blocks, read from the front. What was read goes into its share at once: a tree
+//! that lay about while the next step may fail would be dropped there case by case, and proved so.
 
 ghost use Rattle.std.specs.Prelude.{◌≡◌, ◌<◌, ◌-◌, IfOk, OnOk, map, length};
 ghost use Rattle.std.specs.Option.{option_map};
@@ -274,10 +275,11 @@ fn wrap<'a>(
 {
     let rest = accept(tokens, room)?;
     let (event, rest) = read_event(alloc, scope, rest, room - 1)?;
+    let event = Arc::new(alloc, event)?;
     let (names, rest) = as_names(scope, rest, room - 1)?;
     let rest = expect(rest, room - 1, Symbol::To)?;
     let (list, rest) = read_list(alloc, scope, rest, room - 1)?;
-    Ok((Event::Wrap(Arc::new(alloc, event)?, names, list), rest))
+    Ok((Event::Wrap(event, names, list), rest))
 }
 
 #[cycle(reading)]
@@ -292,8 +294,8 @@ fn guard<'a>(
 {
     let rest = accept(tokens, room)?;
     let (body, rest) = read_block(alloc, scope, rest, room - 1, Loops::Forbidden)?;
-    let (event, rest) = read_event(alloc, scope, rest, room - 1)?;
     let body = Arc::new(alloc, body)?;
+    let (event, rest) = read_event(alloc, scope, rest, room - 1)?;
     let event = Arc::new(alloc, event)?;
     Ok((Event::Guard(body, event), rest))
 }
@@ -311,8 +313,8 @@ fn nack<'a>(
     let rest = nack_word(scope, tokens, room)?;
     let (name, rest) = bind_name(scope, rest, room - 1, None)?;
     let (body, rest) = read_block(alloc, scope, rest, room - 1, Loops::Forbidden)?;
-    let (event, rest) = read_event(alloc, scope, rest, room - 1)?;
     let body = Arc::new(alloc, body)?;
+    let (event, rest) = read_event(alloc, scope, rest, room - 1)?;
     let event = Arc::new(alloc, event)?;
     Ok((Event::Nack(name, body, event), rest))
 }
@@ -333,8 +335,9 @@ fn synced<'a>(
     scope.counts = Counts { bases: 0, nacks: 0 };
     let (event, rest) = read_event(alloc, scope, rest, room)?;
     scope.counts = around;
+    let event = Arc::new(alloc, event)?;
     let rest = expect(rest, room, Symbol::Semicolon)?;
-    Ok((Arc::new(alloc, event)?, rest))
+    Ok((event, rest))
 }
 
 #[tactic(auto, unfolding(crate::specs::Blocks::let_at))]
@@ -469,9 +472,9 @@ fn branch<'a>(
     let rest = accept(tokens, room)?;
     let (test, rest) = read_test(alloc, scope, rest, room)?;
     let (first, rest) = read_block(alloc, scope, rest, room, loops)?;
+    let first = Arc::new(alloc, first)?;
     let rest = expect(rest, room, Symbol::Else)?;
     let (second, rest) = read_block(alloc, scope, rest, room, loops)?;
-    let first = Arc::new(alloc, first)?;
     let second = Arc::new(alloc, second)?;
     Ok((Stmt::If(test, first, second), rest))
 }

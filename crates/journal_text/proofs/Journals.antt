@@ -9,7 +9,7 @@ use Rattle.words.specs.declared.Commit.{Commit}
 use Rattle.script.specs.Sources.{Script}
 use Rattle.script.specs.Spelling.{IsSpelled}
 use Rattle.digits.proofs.Forms.{Reads}
-use Rattle.writer.proofs.Declared.{declares_names}
+use Rattle.script.proofs.Declared.{declares_names}
 use Rattle.journal_text.specs.Names.{names_of, naming}
 use Rattle.journal_text.specs.Texts.{commit_line, commits_text}
 use Rattle.journal_text.specs.Journals.{HasLine, Spells, NoLineBegins, IsFirstBadLine, SpellsOnlyOne, SpellsOrIsBad, HasOneFirstBadLine}

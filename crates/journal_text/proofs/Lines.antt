@@ -16,7 +16,7 @@ use Rattle.token.specs.Tokens.{is_word}
 use Rattle.digits.specs.Reading.{◌>>=◌, digit_of, number_at}
 use Rattle.digits.proofs.Numbers.{bind_some, number_stops, decimal_begins}
 use Rattle.digits.proofs.Forms.{Reads, both, made, ended, numbers, counts, worded, either, Either, choice, settled}
-use Rattle.writer.specs.Laws.{AreNames}
+use Rattle.script.specs.Names.{AreNames}
 use Rattle.journal_text.specs.Names.{Declared, naming}
 use Rattle.journal_text.specs.Texts.{place_text, nack_text, atom_text, message_text, commit_line}
 use Rattle.journal_text.specs.Journals.{HasPlace, HasNack, HasAtom, HasMessage, HasLine, IsStamp}

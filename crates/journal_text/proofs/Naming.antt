@@ -8,7 +8,7 @@ use Rattle.token.specs.Tokens.{is_word, is_letter, is_name}
 use Rattle.digits.specs.Reading.{◌>>=◌, or_else, begins, after_word}
 use Rattle.digits.proofs.Numbers.{bind_some, chosen_some}
 use Rattle.digits.proofs.Forms.{first_or_second, Reads, word_takes, after_again}
-use Rattle.writer.specs.Laws.{AreDistinct, AreNames}
+use Rattle.script.specs.Names.{AreDistinct, AreNames}
 use Rattle.journal_text.specs.Reading.{after_byte, after_name, named_from, named_at}
 
 -- ONE NAME

@@ -6,3 +6,5 @@ pub mod Declares
 pub mod Processes
 pub mod Wholes
 pub mod FirstTold
+pub mod Good
+pub mod Declared

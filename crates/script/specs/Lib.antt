@@ -2,3 +2,4 @@ pub mod Sources
 pub mod Scripts
 pub mod Spelling
 pub mod FirstFaults
+pub mod Names

@@ -20,6 +20,7 @@
 #![tactic(auto)]
 
 ghost use Rattle.script.specs.FirstFaults.{ScriptsAreAnswered};
+ghost use Rattle.script.specs.Names.{DeclaresNames};
 ghost use Rattle.script.specs.Spelling.{SpellsOnlyOne};
 
 mod fault;
@@ -33,10 +34,12 @@ pub use syntax::Proc;
 
 /// No bytes spell two scripts. A script that is written is read where no fault stands in it, and else its
 /// first fault is told; of any tokens the fault that is told is the one that is demanded, and no other is
-/// demanded of them.
+/// demanded of them. The names that a script declares are names, and no two of its channels or of its
+/// processes share one.
 pub fn script_text_laws()
     ensures one { SpellsOnlyOne }
     ensures faults { ScriptsAreAnswered }
+    ensures names { DeclaresNames }
 {}
 
 #[cfg(test)]

@@ -73,7 +73,6 @@ fn rows_argument<'a>(alloc: Global) -> Arg<'a> {
 }
 
 fn run_command<'a>(alloc: Global) -> Result<Command<'a>, AllocError> {
-    let script = file_argument(alloc, "file", "FILE", "The script");
     let workers = Arg::new(alloc, "workers")
         .long("workers")
         .action(ArgAction::Set)
@@ -83,7 +82,7 @@ fn run_command<'a>(alloc: Global) -> Result<Command<'a>, AllocError> {
         .help("How many workers run the processes");
     Command::new(alloc, "run")
         .about("Runs the processes of a script")
-        .arg(script)?
+        .arg(file_argument(alloc, "file", "FILE", "The script"))?
         .arg(workers)?
         .arg(rows_argument(alloc))
 }
@@ -98,12 +97,10 @@ fn run_request<'a>(run: &ArgMatches<'a>) -> Option<Request<'a>> {
 }
 
 fn replay_command<'a>(alloc: Global) -> Result<Command<'a>, AllocError> {
-    let script = file_argument(alloc, "file", "FILE", "The script");
-    let journal = file_argument(alloc, "journal", "JOURNAL", "The journal");
     Command::new(alloc, "replay")
         .about("Replays a journal against its script")
-        .arg(script)?
-        .arg(journal)?
+        .arg(file_argument(alloc, "file", "FILE", "The script"))?
+        .arg(file_argument(alloc, "journal", "JOURNAL", "The journal"))?
         .arg(rows_argument(alloc))
 }
 
@@ -117,21 +114,16 @@ fn replay_request<'a>(replay: &ArgMatches<'a>) -> Option<Request<'a>> {
 }
 
 fn command_line<'a>(alloc: Global) -> Result<Command<'a>, AllocError> {
-    let meet = meet_command(alloc)?;
-    let play = play_command(alloc)?;
-    let check = check_command(alloc)?;
-    let run = run_command(alloc)?;
-    let replay = replay_command(alloc)?;
     Command::new(alloc, "pcml")
         .bin_name("pcml")?
         .about("First-class events and selective rendezvous")
         .no_binary_name(true)
         .subcommand_required(true)
-        .subcommand(meet)?
-        .subcommand(play)?
-        .subcommand(check)?
-        .subcommand(run)?
-        .subcommand(replay)
+        .subcommand(meet_command(alloc)?)?
+        .subcommand(play_command(alloc)?)?
+        .subcommand(check_command(alloc)?)?
+        .subcommand(run_command(alloc)?)?
+        .subcommand(replay_command(alloc)?)
 }
 
 /// What the words ask for; they begin behind the program's name. A wish for help is an error too.

@@ -3,4 +3,3 @@ pub mod Canonical
 pub mod Lexing
 pub mod Plainly
 pub mod PlainTrees
-pub mod Declared

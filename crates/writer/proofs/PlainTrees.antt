@@ -20,7 +20,8 @@ use Rattle.writer.specs.Plain.{variable, name_of, names_of, plain_expr, plain_li
 use Rattle.writer.specs.Canon.{Canon}
 use Rattle.script.proofs.Spelled.{spells_again, spells_only_one}
 use Rattle.writer.specs.Laws.{IsSpelledByCanon, IsReadAgain, HasItsOwnCanon}
-use Rattle.writer.proofs.Lexing.{Good, AllGood, texts_are_good, text_again}
+use Rattle.script.proofs.Good.{Good, AllGood, texts_are_good}
+use Rattle.writer.proofs.Lexing.{text_again}
 use Rattle.writer.proofs.Plainly.{named, bound_named, names_named, expr_plain}
 
 -- good tokens stay good when these are written in place of those

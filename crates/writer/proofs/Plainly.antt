@@ -22,7 +22,7 @@ use Rattle.grammar.specs.Meaning.{Names, name_meaning, term_meaning, terms_meani
 use Rattle.grammar.proofs.Names.{part, some_is, if_else_some, unless_some}
 use Rattle.grammar.proofs.Growing.{Grows, grows_on, bind_all_grows}
 use Rattle.writer.specs.Plain.{text_or_none, variable, name_of, names_of, plain_operand, plain_term, plain_terms, plain_expr}
-use Rattle.writer.proofs.Lexing.{Good, AllGood}
+use Rattle.script.proofs.Good.{Good, AllGood}
 
 -- NAMES
 

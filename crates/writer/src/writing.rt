@@ -5,7 +5,7 @@ ghost use Rattle.std.specs.String.{string_bytes};
 ghost use Rattle.syntax.specs.Processes.{proc_of};
 ghost use Rattle.script.specs.Scripts.{script_of};
 ghost use Rattle.writer.specs.Canon.{Canon};
-ghost use Rattle.writer.specs.Laws.{IsSpelledByCanon, IsReadAgain, HasItsOwnCanon, DeclaresNames};
+ghost use Rattle.writer.specs.Laws.{IsSpelledByCanon, IsReadAgain, HasItsOwnCanon};
 ghost use Rattle.writer.specs.Texts.{channels_text, process_text, processes_text, script_text};
 
 use crate::names::Source;
@@ -54,10 +54,9 @@ pub fn write(alloc: Global, script: &Script) -> Result<String, AllocError>
 }
 
 /// The canonical text of a script that some text spells, spells it and is read as it, and no other
-/// script has it. The names that a script declares are names, and no two are the same.
+/// script has it.
 pub fn writing_laws()
     ensures spelled { IsSpelledByCanon }
     ensures again { IsReadAgain }
     ensures own { HasItsOwnCanon }
-    ensures names { DeclaresNames }
 {}

@@ -1,6 +1,5 @@
 use Rattle.writer.proofs.PlainTrees.{spelled_by_canon, read_again, own_canon}
-use Rattle.writer.proofs.Declared.{declares_names}
 use Rattle.writer.proofs.writing.writing_laws.Goals as goal
 
 pub returns : goal.returns
-returns c = record { spelled = spelled_by_canon; again = read_again; own = own_canon; names = declares_names }
+returns c = record { spelled = spelled_by_canon; again = read_again; own = own_canon }

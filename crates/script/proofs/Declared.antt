@@ -18,8 +18,8 @@ use Rattle.grammar.proofs.Names.{neither, part, some_is, unless_some}
 use Rattle.faults.proofs.Shapes.{block_shape}
 use Rattle.script.specs.Scripts.{Script}
 use Rattle.script.specs.Spelling.{script_meaning, Spells}
-use Rattle.writer.specs.Laws.{AreDistinct, AreNames, DeclaresNames}
-use Rattle.writer.proofs.Lexing.{Good, AllGood, texts_are_good}
+use Rattle.script.specs.Names.{AreDistinct, AreNames, DeclaresNames}
+use Rattle.script.proofs.Good.{Good, AllGood, texts_are_good}
 
 -- ALL DIFFERENT
 
