@@ -82,6 +82,10 @@ fn run_on<R: AllocGlobal + Threads + Wait + Sync, S: Source>(
     if status == 1 && out.is_empty() && err.as_slice() == b"fault 1\n".as_slice() {
         return Err(Fault::Memory);
     }
+    // a thread that lacks memory is not started
+    if status == 1 && out.is_empty() && err.as_slice() == b"fault 6\n".as_slice() {
+        return Err(Fault::NoThread);
+    }
     Ok(Outcome { status, out, err })
 }
 
