@@ -27,7 +27,11 @@ fn try_seed<R: AllocGlobal + Threads + Wait + Sync>(rt: &R, seed: u64) -> Result
     let text = Maker::new(alloc, seed).script(has_sure_nack)?;
     let script = parse(alloc, text.as_bytes()).with_context(|| text.clone())?;
     let record = run(rt, alloc, &script, WORKERS, ROWS, &OpenGate)?;
-    ensure!(record.tail == 0, "seed {seed}: the workers left {} commits", record.tail);
+    ensure!(
+        record.tail == 0,
+        "seed {seed}: the workers left {} commits",
+        record.tail
+    );
     let commits = record.journal.as_slice();
     let fired = commits.iter().any(|commit| is_nack(commit));
     ensure!(fired || !has_sure_nack, "seed {seed}: no nack fired");
@@ -39,7 +43,13 @@ fn try_seed<R: AllocGlobal + Threads + Wait + Sync>(rt: &R, seed: u64) -> Result
 }
 
 fn is_nack(commit: &Commit) -> bool {
-    matches!(commit, Commit::Alone { cause: Cause::Nack(_), .. })
+    matches!(
+        commit,
+        Commit::Alone {
+            cause: Cause::Nack(_),
+            ..
+        }
+    )
 }
 
 fn main(rt: HostRuntime) -> Result<()> {

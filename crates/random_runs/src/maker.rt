@@ -40,7 +40,11 @@ impl Maker {
         self.state = mixed;
         let mixed = (mixed ^ (mixed >> 30)).wrapping_mul(0xbf58_476d_1ce4_e5b9);
         let mixed = (mixed ^ (mixed >> 27)).wrapping_mul(0x94d0_49bb_1331_11eb);
-        if limit == 0 { 0 } else { (mixed ^ (mixed >> 31)) % limit }
+        if limit == 0 {
+            0
+        } else {
+            (mixed ^ (mixed >> 31)) % limit
+        }
     }
 
     fn put(&mut self, text: &str) -> Result<(), AllocError> {
@@ -67,25 +71,39 @@ impl Maker {
                 self.variables = 1;
             }
             let statements = 1 + self.below(4);
-            for _ in 0..statements {
-                self.statement(2)?;
-            }
+            self.statements(statements, 2)?;
             self.put("}\n")?;
         }
         Ok(self.text)
     }
 
-    fn statement(&mut self, depth: u8) -> Result<(), AllocError> {
-        match self.below(10) {
-            0 | 1 | 2 => self.sync_statement(),
-            3 | 4 => self.receive_statement(),
-            5 => self.print_statement(),
-            6 => self.let_statement(),
-            7 if depth > 0 => self.if_statement(depth),
-            8 if depth > 0 => self.loop_statement(depth),
-            9 if self.below(6) == 0 => self.put("end;\n"),
-            _ => self.sync_statement(),
+    /// So many statements, with others in them up to this depth.
+    fn statements(&mut self, count: u64, depth: u8) -> Result<(), AllocError> {
+        for _ in 0..count {
+            match self.below(10) {
+                0 if depth > 0 => {
+                    self.if_front()?;
+                    let first = self.below(3);
+                    self.statements(first, depth - 1)?;
+                    self.put("} else {\n")?;
+                    let second = self.below(3);
+                    self.statements(second, depth - 1)?;
+                    self.put("}\n")?;
+                }
+                1 if depth > 0 => {
+                    self.loop_front()?;
+                    let rest = self.below(3);
+                    self.statements(rest, depth - 1)?;
+                    self.put("}\n")?;
+                }
+                2 => self.print_statement()?,
+                3 => self.let_statement()?,
+                4 | 5 => self.receive_statement()?,
+                6 if self.below(6) == 0 => self.put("end;\n")?,
+                _ => self.sync_statement()?,
+            }
         }
+        Ok(())
     }
 
     fn sync_statement(&mut self) -> Result<(), AllocError> {
@@ -117,37 +135,24 @@ impl Maker {
         self.put(";\n")
     }
 
-    fn if_statement(&mut self, depth: u8) -> Result<(), AllocError> {
+    fn if_front(&mut self) -> Result<(), AllocError> {
         self.put("if ")?;
         self.expression()?;
         let sign = if self.below(3) == 0 { " < " } else { " = " };
         self.put(sign)?;
         self.expression()?;
-        self.put(" {\n")?;
-        self.block(depth)?;
-        self.put("} else {\n")?;
-        self.block(depth)?;
-        self.put("}\n")
+        self.put(" {\n")
     }
 
-    fn loop_statement(&mut self, depth: u8) -> Result<(), AllocError> {
+    /// A loop, and the sync that it begins with.
+    fn loop_front(&mut self) -> Result<(), AllocError> {
         if self.below(8) == 0 {
             self.put("forever {\n")?;
         } else {
             let times = self.below(4);
             write!(self.text, "loop {times} {{\n")?;
         }
-        self.sync_statement()?;
-        self.block(depth)?;
-        self.put("}\n")
-    }
-
-    fn block(&mut self, depth: u8) -> Result<(), AllocError> {
-        let statements = self.below(3);
-        for _ in 0..statements {
-            self.statement(depth.saturating_sub(1))?;
-        }
-        Ok(())
+        self.sync_statement()
     }
 
     /// The event of a sync of its own.
@@ -158,14 +163,35 @@ impl Maker {
     }
 
     fn event(&mut self, depth: u8) -> Result<(), AllocError> {
-        if depth == 0 || self.below(3) == 0 {
+        if depth == 0 {
             return self.base_event();
         }
-        match self.below(7) {
-            0 | 1 | 2 => self.choice(depth),
-            3 => self.wrap(depth),
-            4 => self.guard(depth),
-            _ if self.nacks > 0 => self.nack(depth),
+        match self.below(10) {
+            0 | 1 | 2 => {
+                self.put("choose [")?;
+                self.event(depth - 1)?;
+                let others = self.below(3);
+                for _ in 0..others {
+                    self.put(", ")?;
+                    self.event(depth - 1)?;
+                }
+                self.put("]")
+            }
+            3 => {
+                self.put("wrap ")?;
+                self.event(depth - 1)?;
+                self.wrap_end()
+            }
+            4 => {
+                self.put("guard { ")?;
+                self.body()?;
+                self.put("} ")?;
+                self.event(depth - 1)
+            }
+            5 | 6 if self.nacks > 0 => {
+                self.nack_front()?;
+                self.event(depth - 1)
+            }
             _ => self.base_event(),
         }
     }
@@ -197,21 +223,7 @@ impl Maker {
         }
     }
 
-    fn choice(&mut self, depth: u8) -> Result<(), AllocError> {
-        self.put("choose [")?;
-        let members = 1 + self.below(3);
-        for member in 0..members {
-            if member > 0 {
-                self.put(", ")?;
-            }
-            self.event(depth.saturating_sub(1))?;
-        }
-        self.put("]")
-    }
-
-    fn wrap(&mut self, depth: u8) -> Result<(), AllocError> {
-        self.put("wrap ")?;
-        self.event(depth.saturating_sub(1))?;
+    fn wrap_end(&mut self) -> Result<(), AllocError> {
         if self.below(2) == 0 {
             let name = self.variables;
             write!(self.text, " as v{name}")?;
@@ -221,14 +233,7 @@ impl Maker {
         self.list()
     }
 
-    fn guard(&mut self, depth: u8) -> Result<(), AllocError> {
-        self.put("guard { ")?;
-        self.body()?;
-        self.put("} ")?;
-        self.event(depth.saturating_sub(1))
-    }
-
-    fn nack(&mut self, depth: u8) -> Result<(), AllocError> {
+    fn nack_front(&mut self) -> Result<(), AllocError> {
         self.nacks = self.nacks.saturating_sub(1);
         let name = self.variables;
         self.variables = name.saturating_add(1);
@@ -238,8 +243,7 @@ impl Maker {
             1 => self.body()?,
             _ => {}
         }
-        self.put("} ")?;
-        self.event(depth.saturating_sub(1))
+        self.put("} ")
     }
 
     /// The body of a guard or a nack: it may sync, and that sync has a count of its own.
@@ -288,6 +292,7 @@ impl Maker {
 }
 
 /// Chooses outside a nack's scope, so the nack fires, and waits for it; another process may get it.
-const FIRES: &str = "sync choose [nack v0 { } never, always (3)];\nsync cancelled v0;\nsync choose [send c0 (v0), always (4)];\n";
+const FIRES: &str =
+    "sync choose [nack v0 { } never, always (3)];\nsync cancelled v0;\nsync choose [send c0 (v0), always (4)];\n";
 
 const WAITS: &str = "v0 <- sync choose [recv c0, always (5)];\nprint v0;\n";

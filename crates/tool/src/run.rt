@@ -46,19 +46,14 @@ fn tail_line(alloc: Global, commits: usize, tail: usize) -> Result<String, Alloc
 }
 
 /// The journal, a line for each process, and the counts.
-fn record_text(alloc: Global, script: &Script, record: &Record) -> Result<Vec<u8>, AllocError>
-    requires ends { length record.now.ends.items ≡ length (script_of script.now).processes }
-    requires outputs { length record.now.outputs.items ≡ length (script_of script.now).processes }
-    ensures { IfOk result (λ text. TellsRecord (script_of script.now) record.now text.items) }
+fn record_text(alloc: Global, script: &Script, ran: &Record) -> Result<Vec<u8>, AllocError>
+    requires ends { length ran.now.ends.items ≡ length (script_of script.now).processes }
+    requires outputs { length ran.now.outputs.items ≡ length (script_of script.now).processes }
+    ensures { IfOk result (λ text. TellsRecord (script_of script.now) ran.now text.items) }
 {
-    let mut text = write_journal(alloc, script, record.journal.as_slice())?;
-    let lines = standing_lines(
-        alloc,
-        script,
-        record.ends.as_slice(),
-        record.outputs.as_slice(),
-    )?;
-    let last = tail_line(alloc, record.journal.len(), record.tail)?;
+    let mut text = write_journal(alloc, script, ran.journal.as_slice())?;
+    let lines = standing_lines(alloc, script, ran.ends.as_slice(), ran.outputs.as_slice())?;
+    let last = tail_line(alloc, ran.journal.len(), ran.tail)?;
     text.extend_from_slice(lines.as_bytes())?;
     text.extend_from_slice(last.as_bytes())?;
     Ok(text)
