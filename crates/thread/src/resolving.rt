@@ -141,8 +141,11 @@ fn guard(
     ensures falls { IfOk result (Falls (event_reach (Guards (block_of body.now.value) (event_of inner.now.value)) + pending_reach pending)) }
     ensures fits { IfOk result StepFits }
 {
-    let rest = Rest::Resolve(Arc::try_clone(inner)?, wraps, Box::new(alloc, pending)?);
-    Ok(Step::On(Now::Run(Arc::try_clone(body)?, rest)))
+    let pending = Box::new(alloc, pending)?;
+    let inner = Arc::try_clone(inner)?;
+    let body = Arc::try_clone(body)?;
+    let rest = Rest::Resolve(inner, wraps, pending);
+    Ok(Step::On(Now::Run(body, rest)))
 }
 
 fn nack(
@@ -159,6 +162,7 @@ fn nack(
     ensures falls { IfOk result (Falls (event_reach (Nacks name (block_of body.now.value) (event_of inner.now.value)) + pending_reach pending)) }
     ensures fits { IfOk result StepFits }
 {
+    let pending = Box::new(alloc, pending)?;
     if memory.nacks >= 64 {
         return Ok(Step::To(Stop::Faulted(Fault::Range)));
     }
@@ -166,7 +170,7 @@ fn nack(
     let thread = memory.thread;
     memory.nacks = k + 1;
     memory.set(name, Atom::Nack(NackName { thread, k }));
-    let pending = Pending::Scope(k, Box::new(alloc, pending)?);
+    let pending = Pending::Scope(k, pending);
     let step = guard(alloc, body, inner, wraps, pending)?;
     Ok(step)
 }

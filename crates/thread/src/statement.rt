@@ -28,8 +28,10 @@ fn sync(
     ensures falls { IfOk result (Falls (2 + event_reach (event_of event.now.value))) }
     ensures fits { IfOk result StepFits }
 {
-    let pending = Pending::Sync(names, Box::new(alloc, rest)?);
-    Ok(Step::On(Now::Resolve(Arc::try_clone(event)?, Vec::new(alloc), pending)))
+    let rest = Box::new(alloc, rest)?;
+    let event = Arc::try_clone(event)?;
+    let pending = Pending::Sync(names, rest);
+    Ok(Step::On(Now::Resolve(event, Vec::new(alloc), pending)))
 }
 
 /// Begins a turn of a loop.
@@ -39,7 +41,8 @@ fn begin_turn(alloc: Global, turn: &Turn, again: Rest) -> Result<Step, AllocErro
     ensures falls { IfOk result (Falls (turn_reach (turn_of turn.now))) }
     ensures fits { IfOk result StepFits }
 {
-    let rest = Rest::Block(Arc::try_clone(&turn.rest)?, Box::new(alloc, again)?);
+    let again = Box::new(alloc, again)?;
+    let rest = Rest::Block(Arc::try_clone(&turn.rest)?, again);
     let step = sync(alloc, &turn.event, turn.names, rest)?;
     Ok(step)
 }
@@ -129,7 +132,8 @@ fn repeat(alloc: Global, times: u32, turn: &Arc<Turn>, rest: Rest) -> Result<Ste
     ensures falls { IfOk result (Falls (3 + turn_reach (turn_of turn.now.value) + rest_reach rest)) }
     ensures fits { IfOk result StepFits }
 {
-    let again = Rest::Times(times, Arc::try_clone(turn)?, Box::new(alloc, rest)?);
+    let rest = Box::new(alloc, rest)?;
+    let again = Rest::Times(times, Arc::try_clone(turn)?, rest);
     Ok(Step::On(Now::Go(again)))
 }
 
@@ -140,7 +144,8 @@ fn repeat_forever(alloc: Global, turn: &Arc<Turn>, rest: Rest) -> Result<Step, A
     ensures falls { IfOk result (Falls (3 + turn_reach (turn_of turn.now.value) + rest_reach rest)) }
     ensures fits { IfOk result StepFits }
 {
-    let again = Rest::Endless(Arc::try_clone(turn)?, Box::new(alloc, rest)?);
+    let rest = Box::new(alloc, rest)?;
+    let again = Rest::Endless(Arc::try_clone(turn)?, rest);
     Ok(Step::On(Now::Go(again)))
 }
 
@@ -197,7 +202,8 @@ pub(crate) fn run(
     match block {
         Block::Done => Ok(Step::On(Now::Go(rest))),
         Block::Then(stmt, behind) => {
-            let rest = Rest::Block(Arc::try_clone(behind)?, Box::new(alloc, rest)?);
+            let rest = Box::new(alloc, rest)?;
+            let rest = Rest::Block(Arc::try_clone(behind)?, rest);
             let step = run_statement(alloc, stmt, rest, memory)?;
             Ok(step)
         }
