@@ -5,12 +5,12 @@ use anyhow::{Result, bail};
 use journal_text::write_journal;
 use runtime::{OpenGate, run};
 use script::parse;
-use std::io;
 use std::io::Write;
 use std::rt::Files;
 use std::sync::Wait;
 use std::thread::Threads;
-use tool::{Replayed, Source, SystemFiles, command, replay_text};
+use std::{fs, io};
+use tool::{Replayed, SystemFiles, command, replay_text};
 
 /// A script of `data` by its name.
 struct Example {
@@ -74,18 +74,23 @@ fn run_and_replay<R: Files + Print + AllocGlobal + Threads + Wait + Sync>(
     rt: &R,
     name: &str,
 ) -> Result<()> {
-    let Ok(text) = SystemFiles::new(rt).read(name) else {
-        bail!("{name} is not read");
-    };
+    let text = fs::read(rt, name)?;
     let script = parse(rt.alloc(), text.as_slice())?;
     let record = run(rt, rt.alloc(), &script, WORKERS, ROWS, &OpenGate)?;
     let journal = write_journal(rt.alloc(), &script, record.journal.as_slice())?;
-    match replay_text(rt.alloc(), &script, journal.as_slice(), ROWS)? {
-        Replayed::Lawful(told) if told.as_slice().ends_with(b" maximal\n") => {}
-        _ => bail!("{name}: its journal is no maximal run"),
+    let replayed = replay_text(rt.alloc(), &script, journal.as_slice(), ROWS)?;
+    if !is_maximal(&replayed) {
+        bail!("{name}: its journal is no maximal run");
     }
     println!(rt; "run, and its journal replayed")?;
     Ok(())
+}
+
+fn is_maximal(replayed: &Replayed) -> bool {
+    match replayed {
+        Replayed::Lawful(text) => text.as_slice().ends_with(b" maximal\n"),
+        Replayed::Unlawful(_) => false,
+    }
 }
 
 /// Prints the example's name, what its script has, where its journal leads, and what its run prints, if

@@ -6,7 +6,7 @@
 mod maker;
 
 use crate::maker::Maker;
-use anyhow::{Context, Result, bail, ensure};
+use anyhow::{Context, Result, ensure};
 use journal_text::write_journal;
 use runtime::{OpenGate, run};
 use script::parse;
@@ -25,20 +25,28 @@ fn try_seed<R: AllocGlobal + Threads + Wait + Sync>(rt: &R, seed: u64) -> Result
     let alloc = rt.alloc();
     let has_sure_nack = seed % 3 == 0;
     let text = Maker::new(alloc, seed).script(has_sure_nack)?;
-    let script = parse(alloc, text.as_bytes()).with_context(|| text.clone())?;
+    let script = parse(alloc, text.as_bytes())?;
     let record = run(rt, alloc, &script, WORKERS, ROWS, &OpenGate)?;
     ensure!(
         record.tail == 0,
         "seed {seed}: the workers left {} commits",
         record.tail
     );
-    let commits = record.journal.as_slice();
-    let fired = commits.iter().any(|commit| is_nack(commit));
+    let fired = record.journal.iter().any(|commit| is_nack(commit));
     ensure!(fired || !has_sure_nack, "seed {seed}: no nack fired");
-    let journal = write_journal(alloc, &script, commits)?;
-    match replay_text(alloc, &script, journal.as_slice(), ROWS)? {
-        Replayed::Lawful(told) if told.as_slice().ends_with(b" maximal\n") => Ok(()),
-        _ => bail!("seed {seed}: the journal is no maximal run"),
+    let journal = write_journal(alloc, &script, record.journal.as_slice())?;
+    let replayed = replay_text(alloc, &script, journal.as_slice(), ROWS)?;
+    ensure!(
+        is_maximal(&replayed),
+        "seed {seed}: the journal is no maximal run"
+    );
+    Ok(())
+}
+
+fn is_maximal(replayed: &Replayed) -> bool {
+    match replayed {
+        Replayed::Lawful(text) => text.as_slice().ends_with(b" maximal\n"),
+        Replayed::Unlawful(_) => false,
     }
 }
 

@@ -1,6 +1,6 @@
 //! Random scripts.
 
-ghost use Rattle.std.specs.Prelude.{◌≡◌, ◌<◌, ◌≤◌};
+ghost use Rattle.std.specs.Prelude.{◌≤◌};
 
 use std::alloc::{AllocError, Global};
 
@@ -35,7 +35,9 @@ impl Maker {
     }
 
     /// A number below the limit, and 0 where that is 0.
-    fn below(&mut self, limit: u64) -> u64 {
+    fn below(&mut self, limit: u64) -> u64
+        ensures { result ≤ limit }
+    {
         let mixed = self.state.wrapping_add(0x9e37_79b9_7f4a_7c15);
         self.state = mixed;
         let mixed = (mixed ^ (mixed >> 30)).wrapping_mul(0xbf58_476d_1ce4_e5b9);
