@@ -11,6 +11,7 @@ use std::test::Fail;
 fn workers_alone(rt: HostRuntime) -> Result<(), Fail> {
     for example in EXAMPLES.iter() {
         let script = parse(rt.alloc(), example.script.as_bytes())?;
+        assert!(rt; !script.processes().is_empty());
         let rows: u16 = example.rows.parse()?;
         for workers in [1, 2, 16] {
             let ledger = work(&rt, rt.alloc(), &script, workers, rows, &OpenGate)?;
@@ -41,6 +42,7 @@ fn no_pair_is_missed(rt: HostRuntime) -> Result<(), Fail> {
 #[test]
 fn refuses_numbers_outside_their_limits(rt: HostRuntime) -> Result<(), Fail> {
     let script = parse(rt.alloc(), TWO_PAIRS.as_bytes())?;
+    assert!(rt; !script.processes().is_empty());
     for (workers, rows, fault) in [
         (0, 1, RunFault::Workers),
         (17, 0, RunFault::Workers),
