@@ -166,6 +166,3 @@ pub fn wraps_of(alloc: Global, event: &Resolved, n: u8) -> Result<Vec<u32>, Allo
     push_wraps(event, n, &mut wraps)?;
     Ok(wraps)
 }
-
-#[cfg(test)]
-mod tests;

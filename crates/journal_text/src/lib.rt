@@ -118,6 +118,3 @@ pub fn journal_text_laws()
     ensures apart { SpellsOrIsBad }
     ensures first { HasOneFirstBadLine }
 {}
-
-#[cfg(test)]
-mod tests;

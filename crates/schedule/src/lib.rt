@@ -72,6 +72,3 @@ pub fn schedule_text_laws()
     ensures apart { SpellsOrIsBad }
     ensures first { HasOneFirstBadLine }
 {}
-
-#[cfg(test)]
-mod tests;

@@ -41,6 +41,3 @@ pub fn script_text_laws()
     ensures faults { ScriptsAreAnswered }
     ensures names { DeclaresNames }
 {}
-
-#[cfg(test)]
-mod tests;

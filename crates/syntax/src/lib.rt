@@ -18,6 +18,3 @@ pub fn processes_cross_threads()
     ensures moved { IsSend proc.the_row }
     ensures shared { IsSync proc.the_row }
 {}
-
-#[cfg(test)]
-mod tests;

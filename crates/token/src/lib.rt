@@ -8,6 +8,3 @@ pub mod lexeme;
 
 pub use kind::{Symbol, Token, is_same};
 pub use lexeme::{Placed, Tokens, scan};
-
-#[cfg(test)]
-mod tests;

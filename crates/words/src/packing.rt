@@ -474,6 +474,3 @@ pub fn is_word_for(place: u8, word: u64) -> bool
         _ => unpack_atom(word).is_some(),
     }
 }
-
-#[cfg(test)]
-mod tests;

@@ -18,6 +18,3 @@ mod process;
 mod writing;
 
 pub use writing::{write, writing_laws};
-
-#[cfg(test)]
-mod tests;

@@ -1,4 +1,4 @@
-use crate::{Script, ScriptFault, parse};
+use script::{Script, ScriptFault, parse};
 use std::alloc::Global;
 use std::process::Abort;
 use std::test::Fail;

@@ -1,4 +1,4 @@
-use super::{ReadFault, Size, read_schedule, schedule_text_laws};
+use schedule::{ReadFault, Size, read_schedule, schedule_text_laws};
 use std::alloc::{AllocError, Global};
 use std::process::Abort;
 use std::test::Fail;

@@ -1,6 +1,6 @@
-use crate::{Symbol, Token, scan};
 use std::process::Abort;
 use std::test::Fail;
+use token::{Symbol, Token, scan};
 
 #[test]
 fn tokens_with_their_lines(rt: HostRuntime) -> Result<(), Fail> {

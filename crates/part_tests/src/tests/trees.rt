@@ -1,7 +1,7 @@
-use crate::{Block, Event, Events, Expr, Operand, Proc, Sign, Stmt, Term, Terms};
 use std::process::Abort;
 use std::sync::Arc;
 use std::test::Fail;
+use syntax::{Block, Event, Events, Expr, Operand, Proc, Sign, Stmt, Term, Terms};
 
 const MANY: usize = 30000;
 

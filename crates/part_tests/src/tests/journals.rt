@@ -1,6 +1,6 @@
 ghost use Rattle.std.specs.Prelude.{IfOk};
 
-use super::{JournalFault, read_journal, write_journal, write_numbered};
+use journal_text::{JournalFault, read_journal, write_journal, write_numbered};
 use script::{Script, parse};
 use std::alloc::Global;
 use std::process::Abort;

@@ -2,8 +2,8 @@
 ghost use Rattle.std.specs.Prelude.{◌≡◌, IfSome, None, Some};
 ghost use Rattle.words.specs.Words.{IsAtomInRange, IsBindingInRange, IsCellInRange, IsHeadInRange};
 
-use super::*;
 use std::process::Abort;
+use words::*;
 
 fn check_cell(rt: &impl Abort, cell: Cell, word: u64)
     requires { IsCellInRange cell }

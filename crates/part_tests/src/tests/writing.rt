@@ -1,8 +1,8 @@
-use crate::write;
 use script::parse;
 use std::alloc::Global;
 use std::process::Abort;
 use std::test::Fail;
+use writer::write;
 
 /// Whether the text is written so. Want of memory ends the test.
 fn is_written(alloc: Global, text: &[u8], canonical: &str) -> Result<bool, Fail> {

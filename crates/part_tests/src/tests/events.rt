@@ -3,7 +3,7 @@ ghost use Rattle.smallvec.specs.SmallVec.{small_vec_len};
 ghost use Rattle.event.specs.Resolved.{tree_of};
 ghost use Rattle.event.specs.Tree.{base_count};
 
-use super::{Resolved, fits, flatten, wraps_of};
+use event::{Resolved, fits, flatten, wraps_of};
 use smallvec::SmallVec;
 use std::alloc::{AllocError, Global};
 use std::process::Abort;

@@ -1,0 +1,8 @@
+mod events;
+mod journals;
+mod lexemes;
+mod packing;
+mod schedules;
+mod scripts;
+mod trees;
+mod writing;
