@@ -1,5 +1,5 @@
 -- Events, statements and blocks: what is written is read.
-use Rattle.std.proofs.Common.{◌≡◌, ℕ, zero, suc, ◌+◌, ◌-◌, ◌<◌, ◌≤◌, true, false, leb, List, [], ◌∷◌, ◌++◌, length, Option, Some, None, Result, Ok, refl, sym, ap, ◌∙◌, subst, arith, tests, append_assoc}
+use Rattle.std.proofs.Common.{◌≡◌, ℕ, zero, suc, ◌+◌, ◌-◌, ◌<◌, ◌≤◌, Bool, true, false, leb, List, [], ◌∷◌, ◌++◌, length, Option, Some, None, Result, Ok, refl, sym, ap, ap₂, ◌∙◌, subst, arith, tests, append_assoc}
 use Rattle.std.proofs.lemmas.Bool.{and_parts}
 use Rattle.std.proofs.lemmas.Bool.Decides.{nat_tests}
 use Rattle.std.proofs.lemmas.List.{append-nil}
@@ -21,7 +21,7 @@ use Rattle.grammar.proofs.Fronts.{accept_ok, expect_ok, is_next, no_step, one_st
 use Rattle.grammar.proofs.Names.{part, some_is, if_else_some, name_again, bind_again, names_again}
 use Rattle.grammar.proofs.Exprs.{term_longer, terms_longer}
 use Rattle.grammar.proofs.Lists.{expr_reads, test_reads, list_reads}
-use Rattle.block.specs.Blocks.{base_at, nack_word_at, send_at, recv_at, always_at, never_at, cancelled_at, as_names_at, chain, body, ReadsEvent, ReadsBlock, ReadsTurn, member_step, members_with, choose_with, wrap_with, guard_with, nack_with, event_with, synced_with, let_at, print_at, end_at, received_with, branch_with, times_at, counted_with, forever_with, are_allowed, stmt_with, stmt_step, stmts_with, block_with, is_no_sync, as_sync, turn_rest_with, turn_with, event_at, block_at, turn_at, stmt_at}
+use Rattle.block.specs.Blocks.{base_at, nack_word_at, send_at, recv_at, always_at, never_at, cancelled_at, as_names_at, chain, body, ReadsEvent, ReadsBlock, ReadsTurn, member_step, members_with, choose_with, wrap_with, guard_with, nack_with, event_with, synced_with, sync_with, let_at, print_at, end_at, branch_with, times_at, counted_with, forever_with, are_allowed, stmt_with, stmt_step, stmts_with, block_with, is_no_sync, turn_with, event_at, block_at, turn_at, stmt_at}
 use Rattle.block.specs.declared.process.Loops.{Loops as Place}
 use Rattle.block.specs.declared.process.Loops.TheVariants.{Allowed, Forbidden}
 use Rattle.block.proofs.Blocking.{event_at_is, block_at_is, turn_at_is}
@@ -227,7 +227,7 @@ nack_reads : (event : ReadsEvent) (block : ReadsBlock) (room : ℕ) (ns : Names)
     → event_with event block room (at ns counts) (Fixed Nack ∷ Name name ∷ ts) ≡ Ok (trees.Nacks n.0 b e, h'', rest)
 unfolding event_with next_is nack_with
 nack_reads event block room ns counts h' h'' name n ts ts' rest b e some few bound first second =
-    rw (nack_word_again room ns counts (Name name ∷ ts) (omega arith) few, bind_again (room - 1) [] ns (one_nack counts) name n ts some (omega arith) bound, first, second) refl
+    rw (nack_word_again room ns counts (Name name ∷ ts) (omega arith) few, bind_again (room - 1) [] ns (one_nack counts) name n ts some bound, first, second) refl
 
 -- members that are read behind those so far
 record MoreAgain (room : ℕ) (ns ns' : Names) (counts : Counts) (ts : List Token) (n : ℕ) (s : List trees.Event) (events : trees.Events) (rest : List Token) : Type 0 where
@@ -295,7 +295,7 @@ let_reads event block turn room place ns counts name value n v rest deep bound m
     let behind = expr_tokens value (Fixed Semicolon ∷ rest) in
     rw (
       accept_ok room (Fixed Let) (Name name ∷ Fixed Equal ∷ behind) (omega arith),
-      bind_again room [] ns counts name n (Fixed Equal ∷ behind) (omega arith) (omega arith) bound,
+      bind_again room [] ns counts name n (Fixed Equal ∷ behind) (omega arith) bound,
       expect_ok room Equal behind (omega arith),
       expr_reads value room n.1 counts v (Fixed Semicolon ∷ rest) deep meant refl,
       expect_ok room Semicolon rest (omega arith),
@@ -313,22 +313,29 @@ end_reads : (event : ReadsEvent) (block : ReadsBlock) (turn : ReadsTurn) (room :
 unfolding stmt_with next_is end_at
 end_reads event block turn room place h rest some = rw (accept_ok room (Fixed End) (Fixed Semicolon ∷ rest) some, expect_ok room Semicolon rest some) refl
 
-sync_reads : (names : List (List ℕ)) (event : ReadsEvent) (block : ReadsBlock) (turn : ReadsTurn) (room : ℕ) (place : Place) (ns ns' : Names) (counts after : Counts) (b : Option (List ℕ) × Names) (ts : List Token) (e : trees.Event) (rest : List Token)
+sync_reads : (names : List (List ℕ)) (event : ReadsEvent) (room : ℕ) (ns ns' : Names) (counts after : Counts) (b : Option (List ℕ) × Names) (ts : List Token) (e : trees.Event) (rest : List Token)
     → 0 < room → bind_names ns names ≡ Some b → event (at b.1 no_counts) ts ≡ Ok (e, at ns' after, Fixed Semicolon ∷ rest)
-    → stmt_with event block turn room place (at ns counts) (received_tokens names (Fixed Sync ∷ ts)) ≡ Ok (trees.Syncs b.0 e, at ns' counts, rest)
-unfolding stmt_with next_is bind_names received_with
-sync_reads [] event block turn room place ns ns' counts after b ts e rest some bound read =
+    → sync_with event room (at ns counts) (received_tokens names (Fixed Sync ∷ ts)) ≡ Ok ((b.0, e), at ns' counts, rest)
+unfolding next_is bind_names sync_with
+sync_reads [] event room ns ns' counts after b ts e rest some bound read =
     let same : (None, ns) ≡ b = some_is _ _ bound in
     let read' : event (at ns no_counts) ts ≡ Ok (e, at ns' after, Fixed Semicolon ∷ rest) = ap (λ (y : Option (List ℕ) × Names). event (at y.1 no_counts) ts) same ∙ read in
-    rw (synced_reads event room ns ns' counts after ts e rest some read') (ap (λ (y : Option (List ℕ) × Names). Ok (trees.Syncs y.0 e, at ns' counts, rest)) same)
-sync_reads (text ∷ texts) event block turn room place ns ns' counts after b ts e rest some bound read =
+    rw (synced_reads event room ns ns' counts after ts e rest some read') (ap (λ (y : Option (List ℕ) × Names). Ok ((y.0, e), at ns' counts, rest)) same)
+sync_reads (text ∷ texts) event room ns ns' counts after b ts e rest some bound read =
     if_else_some (leb (length texts) 2) _ b bound
     (λ few f.
     let n = part (bind_all [] ns (text ∷ texts)) _ b f in
     let same : (Some n.first.0, n.first.1) ≡ b = some_is _ _ n.then in
     let read' : event (at n.first.1 no_counts) ts ≡ Ok (e, at ns' after, Fixed Semicolon ∷ rest) = ap (λ (y : Option (List ℕ) × Names). event (at y.1 no_counts) ts) same ∙ read in
     rw (names_again room ns counts text texts n.first (Fixed Arrow ∷ Fixed Sync ∷ ts) some few n.is refl, expect_ok room Arrow (Fixed Sync ∷ ts) some, synced_reads event room n.first.1 ns' counts after ts e rest some read')
-    (ap (λ (y : Option (List ℕ) × Names). Ok (trees.Syncs y.0 e, at ns' counts, rest)) same))
+    (ap (λ (y : Option (List ℕ) × Names). Ok ((y.0, e), at ns' counts, rest)) same))
+
+-- what begins as a sync is read as a statement
+begins_as_sync : (names : List (List ℕ)) (event : ReadsEvent) (block : ReadsBlock) (turn : ReadsTurn) (room : ℕ) (place : Place) (h h' : Here) (ts : List Token) (sync : Option (List ℕ) × trees.Event) (rest : List Token)
+    → sync_with event room h (received_tokens names (Fixed Sync ∷ ts)) ≡ Ok (sync, h', rest) → stmt_with event block turn room place h (received_tokens names (Fixed Sync ∷ ts)) ≡ Ok (trees.Syncs sync.0 sync.1, h', rest)
+unfolding stmt_with next_is
+begins_as_sync [] event block turn room place h h' ts sync rest e = rw e refl
+begins_as_sync (text ∷ texts) event block turn room place h h' ts sync rest e = rw e refl
 
 branch_reads : (event : ReadsEvent) (block : ReadsBlock) (turn : ReadsTurn) (room : ℕ) (place : Place) (ns : Names) (counts : Counts) (h' h'' : Here) (test : written.Test) (t : trees.Test) (first second : written.Block) (f s : trees.Block) (rest : List Token)
     → test_depth test < room → test_meaning ns test ≡ Some t
@@ -386,60 +393,84 @@ block_reads room place ns ns' counts w b rest some inner =
     block_at_is room place (at ns counts) (block_tokens w rest) ∙
     rw (expect_ok room OpenBrace (body_tokens w rest) (omega arith), inner.reads, expect_ok (room - 1) CloseBrace rest some) (ap (λ (y : trees.Block). Ok (y, at ns' counts, rest)) inner.bodied)
 
--- a sync that a turn begins with
-record TurnParts (s : trees.Stmt) (b : trees.Block) (t : Turn) : Type 0 where
-  sync : Option (List ℕ) × trees.Event
-  is : as_sync s ≡ Some sync
-  whole : ◌≡◌ {A = Turn} (record { names = sync.0; event = sync.1; rest = b }) t
+abbrev is_sync : written.Stmt → Bool
+is_sync (written.Sync names event) = true
+is_sync (written.Let name value) = false
+is_sync (written.Print value) = false
+is_sync (written.If test first second) = false
+is_sync (written.Loop times body) = false
+is_sync (written.Forever body) = false
+is_sync written.End = false
 
-turn_parts : (s : trees.Stmt) (b : trees.Block) (t : Turn) → as_turn (trees.Runs s b) ≡ Some t → TurnParts s b t
-turn_parts (trees.Syncs names event) b t e = record { sync = (names, event); is = refl; whole = some_is _ _ e }
-turn_parts (trees.Lets name value) b t e = absurd cc
-turn_parts (trees.Prints value) b t e = absurd cc
-turn_parts (trees.Branches test first second) b t e = absurd cc
-turn_parts (trees.Loops times names event rest) b t e = absurd cc
-turn_parts (trees.LoopsForever names event rest) b t e = absurd cc
-turn_parts trees.Ends b t e = absurd cc
+-- a turn's first statement and the others
+record TurnParts (ns : Names) (w : written.Stmt) (others : written.Block) (b : trees.Block × Names) (t : Turn) : Type 0 where
+  first : trees.Stmt × Names
+  first_is : stmt_meaning true ns w ≡ Some first
+  others' : trees.Block × Names
+  others_is : block_meaning true first.1 others ≡ Some others'
+  turn : as_turn (trees.Runs first.0 others'.0) ≡ Some t
+  after : others'.1 ≡ b.1
 
--- what means a sync begins with one
-begins_with_sync : (w : written.Stmt) (ns : Names) (x : trees.Stmt × Names) (sync : Option (List ℕ) × trees.Event) (rest : List Token) → stmt_meaning true ns w ≡ Some x → as_sync x.0 ≡ Some sync → is_no_sync (stmt_tokens w rest) ≡ false
-unfolding stmt_meaning is_no_sync next_is
-begins_with_sync (written.Sync [] event) ns x sync rest e f = refl
-begins_with_sync (written.Sync (name ∷ names) event) ns x sync rest e f = refl
-begins_with_sync (written.Let name value) ns x sync rest e f =
+turn_parts : (ns : Names) (w : written.Stmt) (others : written.Block) (b : trees.Block × Names) (t : Turn) → block_meaning true ns (written.Then w others) ≡ Some b → as_turn b.0 ≡ Some t → TurnParts ns w others b t
+unfolding block_meaning
+turn_parts ns w others b t e f =
+    let s = part (stmt_meaning true ns w) _ b e in
+    let o = part (block_meaning true s.first.1 others) _ b s.then in
+    let same : (trees.Runs s.first.0 o.first.0, o.first.1) ≡ b = some_is _ _ o.then in
+    record {
+      first = s.first;
+      first_is = s.is;
+      others' = o.first;
+      others_is = o.is;
+      turn = ap (λ (y : trees.Block × Names). as_turn y.0) same ∙ f;
+      after = ap (λ (y : trees.Block × Names). y.1) same;
+    }
+
+-- what means a turn begins with a sync
+no_turn : (w : written.Stmt) (ns : Names) (x : trees.Stmt × Names) (o : trees.Block) (t : Turn) → is_sync w ≡ false → stmt_meaning true ns w ≡ Some x → as_turn (trees.Runs x.0 o) ≡ Some t → ⊥
+unfolding stmt_meaning
+no_turn (written.Sync names event) ns x o t other e f = absurd cc
+no_turn (written.Let name value) ns x o t other e f =
     let n = part (bind [] ns name) _ x e in
     let v = part (expr_meaning n.first.1 value) _ x n.then in
-    let same : None ≡ Some sync = ap (λ (y : trees.Stmt × Names). as_sync y.0) (some_is _ _ v.then) ∙ f in absurd cc
-begins_with_sync (written.Print value) ns x sync rest e f =
+    let same : None ≡ Some t = ap (λ (y : trees.Stmt × Names). as_turn (trees.Runs y.0 o)) (some_is _ _ v.then) ∙ f in absurd cc
+no_turn (written.Print value) ns x o t other e f =
     let v = part (expr_meaning ns value) _ x e in
-    let same : None ≡ Some sync = ap (λ (y : trees.Stmt × Names). as_sync y.0) (some_is _ _ v.then) ∙ f in absurd cc
-begins_with_sync (written.If test first second) ns x sync rest e f =
-    let t = part (test_meaning ns test) _ x e in
-    let a = part (block_meaning true ns first) _ x t.then in
+    let same : None ≡ Some t = ap (λ (y : trees.Stmt × Names). as_turn (trees.Runs y.0 o)) (some_is _ _ v.then) ∙ f in absurd cc
+no_turn (written.If test first second) ns x o t other e f =
+    let v = part (test_meaning ns test) _ x e in
+    let a = part (block_meaning true ns first) _ x v.then in
     let b = part (block_meaning true a.first.1 second) _ x a.then in
-    let same : None ≡ Some sync = ap (λ (y : trees.Stmt × Names). as_sync y.0) (some_is _ _ b.then) ∙ f in absurd cc
-begins_with_sync (written.Loop times body) ns x sync rest e f =
+    let same : None ≡ Some t = ap (λ (y : trees.Stmt × Names). as_turn (trees.Runs y.0 o)) (some_is _ _ b.then) ∙ f in absurd cc
+no_turn (written.Loop times body) ns x o t other e f =
     let b = part (block_meaning true ns body) _ x e in
-    let t = part (as_turn b.first.0) _ x b.then in
-    let same : None ≡ Some sync = ap (λ (y : trees.Stmt × Names). as_sync y.0) (some_is _ _ t.then) ∙ f in absurd cc
-begins_with_sync (written.Forever body) ns x sync rest e f =
+    let v = part (as_turn b.first.0) _ x b.then in
+    let same : None ≡ Some t = ap (λ (y : trees.Stmt × Names). as_turn (trees.Runs y.0 o)) (some_is _ _ v.then) ∙ f in absurd cc
+no_turn (written.Forever body) ns x o t other e f =
     let b = part (block_meaning true ns body) _ x e in
-    let t = part (as_turn b.first.0) _ x b.then in
-    let same : None ≡ Some sync = ap (λ (y : trees.Stmt × Names). as_sync y.0) (some_is _ _ t.then) ∙ f in absurd cc
-begins_with_sync written.End ns x sync rest e f =
-    let same : None ≡ Some sync = ap (λ (y : trees.Stmt × Names). as_sync y.0) (some_is _ _ e) ∙ f in absurd cc
+    let v = part (as_turn b.first.0) _ x b.then in
+    let same : None ≡ Some t = ap (λ (y : trees.Stmt × Names). as_turn (trees.Runs y.0 o)) (some_is _ _ v.then) ∙ f in absurd cc
+no_turn written.End ns x o t other e f =
+    let same : None ≡ Some t = ap (λ (y : trees.Stmt × Names). as_turn (trees.Runs y.0 o)) (some_is _ _ e) ∙ f in absurd cc
 
-turn_reads : (room word : ℕ) (ns ns' ns'' : Names) (counts : Counts) (w : written.Stmt) (others : written.Block) (s : trees.Stmt) (b : trees.Block) (t : Turn) (rest : List Token) → 0 < room - 1
-    → stmt_meaning true ns w ≡ Some (s, ns') → TurnParts s b t
-    → stmt_at (room - 1) Allowed (at ns counts) (stmt_tokens w (body_tokens others rest)) ≡ Ok (s, at ns' counts, body_tokens others rest)
+no_turn_at : (w : written.Stmt) (others : written.Block) (ns : Names) (b : trees.Block × Names) (t : Turn) → is_sync w ≡ false → block_meaning true ns (written.Then w others) ≡ Some b → as_turn b.0 ≡ Some t → ⊥
+no_turn_at w others ns b t other e f = (let p = turn_parts ns w others b t e f in no_turn w ns p.first p.others'.0 t other p.first_is p.turn)
+
+begins_with_sync : (names : List (List ℕ)) (event : written.Event) (rest : List Token) → is_no_sync (stmt_tokens (written.Sync names event) rest) ≡ false
+unfolding is_no_sync next_is
+begins_with_sync [] event rest = refl
+begins_with_sync (name ∷ names) event rest = refl
+
+turn_reads : (room word : ℕ) (ns ns' ns'' : Names) (counts : Counts) (names : List (List ℕ)) (event : written.Event) (others : written.Block) (sync : Option (List ℕ) × trees.Event) (b : trees.Block) (rest : List Token) → 0 < room - 1
+    → sync_with (event_at (room - 1)) (room - 1) (at ns counts) (stmt_tokens (written.Sync names event) (body_tokens others rest)) ≡ Ok (sync, at ns' counts, body_tokens others rest)
     → BodyAgain (room - 1) Allowed ns' ns'' counts (body_tokens others rest) (length (body_tokens others rest)) [] b rest
-    → turn_at room word (at ns counts) (block_tokens (written.Then w others) rest) ≡ Ok (t, at ns'' counts, rest)
-unfolding turn_with turn_rest_with stmts_with
-turn_reads room word ns ns' ns'' counts w others s b t rest some meant parts first inner =
+    → turn_at room word (at ns counts) (block_tokens (written.Then (written.Sync names event) others) rest) ≡ Ok (record { names = sync.0; event = sync.1; rest = b }, at ns'' counts, rest)
+unfolding turn_with stmts_with
+turn_reads room word ns ns' ns'' counts names event others sync b rest some first inner =
     let behind = body_tokens others rest in
-    turn_at_is room word (at ns counts) (block_tokens (written.Then w others) rest) ∙
-    rw (expect_ok room OpenBrace (stmt_tokens w behind) (omega arith), begins_with_sync w ns (s, ns') parts.sync behind meant parts.is, first, parts.is, inner.reads, expect_ok (room - 1) CloseBrace rest some)
-    (ap (λ (y : trees.Block). Ok (record { names = parts.sync.0; event = parts.sync.1; rest = y }, at ns'' counts, rest)) inner.bodied ∙ ap (λ (y : Turn). Ok (y, at ns'' counts, rest)) parts.whole)
+    turn_at_is room word (at ns counts) (block_tokens (written.Then (written.Sync names event) others) rest) ∙
+    rw (expect_ok room OpenBrace (stmt_tokens (written.Sync names event) behind) (omega arith), begins_with_sync names event behind, first, inner.reads, expect_ok (room - 1) CloseBrace rest some)
+    (ap (λ (y : trees.Block). Ok (record { names = sync.0; event = sync.1; rest = y }, at ns'' counts, rest)) inner.bodied)
 
 -- a small event fits where nothing is counted yet
 small_leaves : (e : trees.Event) → is_small e ≡ true → Leaves no_counts (base_count e) (nack_count e)
@@ -626,7 +657,7 @@ mutual
       let close = Fixed Semicolon ∷ rest in
       let one = event_again event room b.first.1 no_counts a.first close deep a.is (small_leaves a.first.0 small) in
       stmt_at_is room place (at ns counts) (stmt_tokens (written.Sync names event) rest) ∙
-      sync_reads names _ _ _ room place ns a.first.1 counts one.after b.first (event_tokens event close) a.first.0 rest (omega (arith, deep)) b.is one.reads ∙ with_counts counts rest _ x (some_is _ _ f))
+      begins_as_sync names _ _ _ room place (at ns counts) _ (event_tokens event close) _ rest (sync_reads names _ room ns a.first.1 counts one.after b.first (event_tokens event close) a.first.0 rest (omega (arith, deep)) b.is one.reads) ∙ with_counts counts rest _ x (some_is _ _ f))
   stmt_again (written.If test first second) room place ns counts x rest deep e =
       let t = part (test_meaning ns test) _ x e in
       let a = part (block_meaning (are_allowed place) ns first) _ x t.then in
@@ -655,15 +686,26 @@ mutual
       → turn_at room word (at ns counts) (block_tokens w rest) ≡ Ok (t, at b.1 counts, rest)
   turn_again written.Done room word ns counts b t rest deep e f =
       let none : None ≡ Some t = ap (λ (y : trees.Block × Names). as_turn y.0) (some_is _ _ e) ∙ f in absurd cc
-  turn_again (written.Then w others) room word ns counts b t rest deep e f =
-      let s = part (stmt_meaning true ns w) _ b e in
-      let o = part (block_meaning true s.first.1 others) _ b s.then in
-      let same : (trees.Runs s.first.0 o.first.0, o.first.1) ≡ b = some_is _ _ o.then in
-      let parts = turn_parts s.first.0 o.first.0 t (ap (λ (y : trees.Block × Names). as_turn y.0) same ∙ f) in
+  turn_again (written.Then (written.Sync names event) others) room word ns counts b t rest deep e f =
+      let p = turn_parts ns (written.Sync names event) others b t e f in
+      let m = part (bind_names ns names) _ p.first p.first_is in
+      let a = part (event_meaning m.first.1 event) _ p.first m.then in
+      if_else_some (is_small a.first.0) _ p.first a.then (λ small g.
+      let same : (trees.Syncs m.first.0 a.first.0, a.first.1) ≡ p.first = some_is _ _ g in
       let behind = body_tokens others rest in
-      let first = stmt_again w (room - 1) Allowed ns counts s.first behind (omega (arith, deep)) s.is in
-      let inner = body_again others (room - 1) Allowed s.first.1 counts o.first (length behind) [] rest (omega (arith, deep)) o.is (le_self (length behind)) in
-      turn_reads room word ns s.first.1 o.first.1 counts w others s.first.0 o.first.0 t rest (omega (arith, deep)) s.is parts first inner ∙ ap (λ (y : trees.Block × Names). Ok (t, at y.1 counts, rest)) same
+      let close = Fixed Semicolon ∷ behind in
+      let one = event_again event (room - 1) m.first.1 no_counts a.first close (omega (arith, deep)) a.is (small_leaves a.first.0 small) in
+      let sync = sync_reads names _ (room - 1) ns a.first.1 counts one.after m.first (event_tokens event close) a.first.0 behind (omega (arith, deep)) m.is one.reads in
+      let after = ap (λ (y : trees.Stmt × Names). y.1) same in
+      let inner = body_again others (room - 1) Allowed a.first.1 counts p.others' (length behind) [] rest (omega (arith, deep)) (ap (λ (y : Names). block_meaning true y others) after ∙ p.others_is) (le_self (length behind)) in
+      let turn : ◌≡◌ {A = Turn} (record { names = m.first.0; event = a.first.0; rest = p.others'.0 }) t = some_is _ _ (ap (λ (y : trees.Stmt × Names). as_turn (trees.Runs y.0 p.others'.0)) same ∙ p.turn) in
+      turn_reads room word ns a.first.1 p.others'.1 counts names event others (m.first.0, a.first.0) p.others'.0 rest (omega (arith, deep)) sync inner ∙ ap₂ (λ (x : Turn) (y : Names). Ok (x, at y counts, rest)) turn p.after)
+  turn_again (written.Then (written.Let name value) others) room word ns counts b t rest deep e f = absurd (no_turn_at (written.Let name value) others ns b t refl e f)
+  turn_again (written.Then (written.Print value) others) room word ns counts b t rest deep e f = absurd (no_turn_at (written.Print value) others ns b t refl e f)
+  turn_again (written.Then (written.If test first second) others) room word ns counts b t rest deep e f = absurd (no_turn_at (written.If test first second) others ns b t refl e f)
+  turn_again (written.Then (written.Loop times body) others) room word ns counts b t rest deep e f = absurd (no_turn_at (written.Loop times body) others ns b t refl e f)
+  turn_again (written.Then (written.Forever body) others) room word ns counts b t rest deep e f = absurd (no_turn_at (written.Forever body) others ns b t refl e f)
+  turn_again (written.Then written.End others) room word ns counts b t rest deep e f = absurd (no_turn_at written.End others ns b t refl e f)
 
   body_again : (w : written.Block) (room : ℕ) (place : Place) (ns : Names) (counts : Counts) (x : trees.Block × Names) (n : ℕ) (s : List trees.Stmt) (rest : List Token) → stmts_depth w < room → block_meaning (are_allowed place) ns w ≡ Some x
       → length (body_tokens w rest) ≤ n → BodyAgain room place ns x.1 counts (body_tokens w rest) n s x.0 rest

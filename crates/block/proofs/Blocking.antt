@@ -67,10 +67,10 @@ unfolding block_at block_with stmt_at
 block_at_is zero place h ts = (let e = expect_zero OpenBrace ts in rw e.is refl)
 block_at_is (suc r) place h ts = (let e : suc r - 1 ≡ r = omega arith in sym (ap (λ (n : ℕ). block_with (stmt_at n) (suc r) place h ts) e))
 
-pub turn_at_is : (room word : ℕ) (h : Here) (ts : List Token) → turn_at room word h ts ≡ turn_with (stmt_at (room - 1)) room word h ts
+pub turn_at_is : (room word : ℕ) (h : Here) (ts : List Token) → turn_at room word h ts ≡ turn_with (event_at (room - 1)) (stmt_at (room - 1)) room word h ts
 unfolding turn_at turn_with stmt_at
 turn_at_is zero word h ts = (let e = expect_zero OpenBrace ts in rw e.is refl)
-turn_at_is (suc r) word h ts = (let e : suc r - 1 ≡ r = omega arith in sym (ap (λ (n : ℕ). turn_with (stmt_at n) (suc r) word h ts) e))
+turn_at_is (suc r) word h ts = (let e : suc r - 1 ≡ r = omega arith in sym (ap (λ (n : ℕ). turn_with (event_at n) (stmt_at n) (suc r) word h ts) e))
 
 -- MEMBERS AND STATEMENTS
 

@@ -1,5 +1,5 @@
 -- Events, statements and blocks: what is read was written.
-use Rattle.std.proofs.Common.{◌≡◌, ℕ, zero, suc, ◌-◌, ◌<◌, ◌≤◌, Bool, true, false, cond, ◌&&◌, leb, List, [], ◌∷◌, ◌++◌, length, Option, Some, None, Ok, is_some, refl, sym, ap, ◌∙◌, subst, arith, tests, append_assoc}
+use Rattle.std.proofs.Common.{◌≡◌, ℕ, zero, suc, ◌-◌, ◌<◌, ◌≤◌, Bool, true, false, cond, ◌&&◌, leb, List, [], ◌∷◌, ◌++◌, ◌||◌, length, Option, Some, None, Ok, is_some, refl, sym, ap, ◌∙◌, subst, arith, tests, append_assoc}
 use Rattle.std.proofs.lemmas.List.{append-nil}
 use Rattle.token.specs.Tokens.{Token, Fixed, Name, Number}
 use Rattle.token.specs.declared.kind.Symbol.{Symbol}
@@ -19,7 +19,7 @@ use Rattle.grammar.proofs.Fronts.{next_found, number_found, accept_found, expect
 use Rattle.grammar.proofs.Names.{name_is_found, bind_is_found, names_found}
 use Rattle.grammar.proofs.Exprs.{expr_found}
 use Rattle.grammar.proofs.Lists.{test_found, list_found}
-use Rattle.block.specs.Blocks.{base_at, nack_word_at, send_at, recv_at, always_at, never_at, cancelled_at, as_names_at, chain, body, ReadsEvent, ReadsBlock, ReadsStmt, ReadsTurn, member_next, member_step, members_with, choose_with, wrap_with, guard_with, nack_with, event_with, fresh, synced_with, let_at, print_at, end_at, received_with, branch_with, times_at, counted_with, forever_with, are_allowed, stmt_with, stmt_next, stmt_step, stmts_with, block_with, is_no_sync, as_sync, turn_rest_with, turn_with, none_there, event_at, block_at, turn_at}
+use Rattle.block.specs.Blocks.{base_at, nack_word_at, send_at, recv_at, always_at, never_at, cancelled_at, as_names_at, chain, body, ReadsEvent, ReadsBlock, ReadsStmt, ReadsTurn, member_next, member_step, members_with, choose_with, wrap_with, guard_with, nack_with, event_with, fresh, synced_with, sync_with, let_at, print_at, end_at, branch_with, times_at, counted_with, forever_with, are_allowed, stmt_with, stmt_next, stmt_step, stmts_with, block_with, is_no_sync, turn_with, none_there, event_at, block_at, turn_at}
 use Rattle.block.specs.declared.process.Loops.{Loops as Place}
 use Rattle.block.specs.declared.process.Loops.TheVariants.{Allowed, Forbidden}
 use Rattle.block.proofs.Keeping.{EventsRead, deeper, events_read}
@@ -430,27 +430,31 @@ end_found room loops h ts x is e =
       meaning = refl;
     })
 
-received_found : (event : ReadsEvent) (room : ℕ) (loops : Bool) (h : Here) (ts : List Token) (x : StmtResult) → EventsRead room event → EventsFound room event → received_with event room h ts ≡ Ok x → SpellsStmt room loops h x.1 ts x.0 x.2
-unfolding received_with stmt_meaning bind_names
-received_found event room loops h ts x reads found e =
-    let n = bound_ok (bind_names_at room h ts) _ x e in
+abbrev SyncResult : Type 0
+SyncResult = (Option (List ℕ) × trees.Event) × Here × List Token
+
+sync_found : (event : ReadsEvent) (room : ℕ) (loops : Bool) (h : Here) (ts : List Token) (x : SyncResult) → EventsRead room event → EventsFound room event → sync_with event room h ts ≡ Ok x → SpellsStmt room loops h x.1 ts (trees.Syncs x.0.0 x.0.1) x.2
+unfolding sync_with stmt_meaning bind_names
+sync_found event room loops h ts x reads found e =
+    if_ok (next_is Sync ts) _ _ x e
+    (λ _ f.
+    let s = bound_ok (synced_with event room h ts) _ x f in
+    let sync = synced_found event room h ts s.first reads found s.is in
+    subst (λ (y : SyncResult). SpellsStmt room loops h y.1 ts (trees.Syncs y.0.0 y.0.1) y.2) (ok_is _ _ s.then)
+    (record { stmt = written.Sync [] sync.event; tokens = sync.tokens; depth = sync.depth; meaning = rw (sync.meaning, sync.small) refl }))
+    (λ _ f.
+    let n = bound_ok (bind_names_at room h ts) _ x f in
     let names = names_found room h ts n.first n.is in
     let a = bound_ok (expect_at room Arrow n.first.2) _ x n.then in
     let arrow = expect_found room Arrow n.first.2 a.first a.is in
     let v = bound_ok (synced_with event room n.first.1 a.first) _ x a.then in
     let sync = synced_found event room n.first.1 a.first v.first reads found v.is in
-    subst (λ (y : StmtResult). SpellsStmt room loops h y.1 ts y.0 y.2) (ok_is _ _ v.then) (record {
+    subst (λ (y : SyncResult). SpellsStmt room loops h y.1 ts (trees.Syncs y.0.0 y.0.1) y.2) (ok_is _ _ v.then) (record {
       stmt = written.Sync (names.text ∷ names.texts) sync.event;
       tokens = names.tokens ∙ ap (λ (y : List Token). Name names.text ∷ more_names_tokens names.texts y) (arrow.is ∙ ap (λ (y : List Token). Fixed Arrow ∷ y) sync.tokens);
       depth = sync.depth;
       meaning = rw (names.few, names.binds, sync.meaning, sync.small) refl;
-    })
-
-sync_found : (event : ReadsEvent) (room : ℕ) (loops : Bool) (h : Here) (ts : List Token) (x : EventResult) → EventsRead room event → EventsFound room event → synced_with event room h ts ≡ Ok x → SpellsStmt room loops h x.1 ts (trees.Syncs None x.0) x.2
-unfolding stmt_meaning bind_names
-sync_found event room loops h ts x reads found e =
-    let sync = synced_found event room h ts x reads found e in
-    record { stmt = written.Sync [] sync.event; tokens = sync.tokens; depth = sync.depth; meaning = rw (sync.meaning, sync.small) refl }
+    }))
 
 branch_found : (block : ReadsBlock) (room : ℕ) (place : Place) (h : Here) (ts : List Token) (x : StmtResult) → BlocksFound room block → next_is If ts ≡ true → branch_with block room place h ts ≡ Ok x → SpellsStmt room (are_allowed place) h x.1 ts x.0 x.2
 unfolding branch_with stmt_meaning
@@ -526,16 +530,15 @@ forever_found turn room h ts x turns is e =
 stmt_found : (event : ReadsEvent) (block : ReadsBlock) (turn : ReadsTurn) (room : ℕ) → EventsRead room event → EventsFound room event → BlocksFound room block → TurnsFound room turn → StmtsFound room (stmt_with event block turn room)
 unfolding stmt_with
 stmt_found event block turn room reads found blocks turns place h ts x e =
-    if_ok (is_some (name_at ts)) _ _ x e (λ _ f. received_found event room (are_allowed place) h ts x reads found f)
+    if_ok (is_some (name_at ts) || next_is Sync ts) _ _ x e
+    (λ _ f.
+    let s = bound_ok (sync_with event room h ts) _ x f in
+    subst (λ (y : StmtResult). SpellsStmt room (are_allowed place) h y.1 ts y.0 y.2) (ok_is _ _ s.then) (sync_found event room (are_allowed place) h ts s.first reads found s.is))
     (λ _ e. if_ok (next_is Let ts) _ _ x e (λ is f. let_found room (are_allowed place) h ts x is f)
     (λ _ e. if_ok (next_is Print ts) _ _ x e
     (λ is f.
     let s = bound_ok (print_at room h ts) _ x f in
     subst (λ (y : StmtResult). SpellsStmt room (are_allowed place) h y.1 ts y.0 y.2) (ok_is _ _ s.then) (print_found room (are_allowed place) h ts s.first is s.is))
-    (λ _ e. if_ok (next_is Sync ts) _ _ x e
-    (λ is f.
-    let s = bound_ok (synced_with event room h ts) _ x f in
-    subst (λ (y : StmtResult). SpellsStmt room (are_allowed place) h y.1 ts y.0 y.2) (ok_is _ _ s.then) (sync_found event room (are_allowed place) h ts s.first reads found s.is))
     (λ _ e. if_ok (next_is If ts) _ _ x e (λ is f. branch_found block room place h ts x blocks is f)
     (λ _ e. if_ok (next_is End ts) _ _ x e
     (λ is f.
@@ -546,7 +549,7 @@ stmt_found event block turn room reads found blocks turns place h ts x e =
     subst (λ (v : Bool). SpellsStmt room v h x.1 ts x.0 x.2) (sym loops)
     (if_ok (next_is Loop ts) _ _ x f (λ is g. counted_found turn room h ts x turns is g)
     (λ _ g. if_ok (next_is Forever ts) _ _ x g (λ is k. forever_found turn room h ts x turns is k) (λ _ k. no_ok _ _ k))))
-    (λ _ f. no_ok _ _ f)))))))
+    (λ _ f. no_ok _ _ f))))))
 
 -- BLOCKS
 
@@ -612,56 +615,38 @@ block_found stmt room found place h ts x e =
       meaning = stmts.meaning ∙ ap (λ (y : List trees.Stmt). Some (body y, names_at s.first.1)) stmts.value;
     })
 
--- a sync in front of others is a turn
-record SyncFirst (s : trees.Stmt) (sync : Option (List ℕ) × trees.Event) : Type 0 where
-  turn : (rest : trees.Block) → as_turn (trees.Runs s rest) ≡ Some (record { names = sync.0; event = sync.1; rest = rest })
-
-sync_first : (s : trees.Stmt) (sync : Option (List ℕ) × trees.Event) → as_sync s ≡ Some sync → SyncFirst s sync
-sync_first (trees.Syncs names event) sync e = (let same : (names, event) ≡ sync = cc in record { turn = λ rest. ap (λ (y : Option (List ℕ) × trees.Event). Some (record { names = y.0; event = y.1; rest = rest })) same })
-sync_first (trees.Lets name value) sync e = absurd cc
-sync_first (trees.Prints value) sync e = absurd cc
-sync_first (trees.Branches test first second) sync e = absurd cc
-sync_first (trees.Loops times names event rest) sync e = absurd cc
-sync_first (trees.LoopsForever names event rest) sync e = absurd cc
-sync_first trees.Ends sync e = absurd cc
-
-turn_rest_found : (stmt : ReadsStmt) (room : ℕ) (s : trees.Stmt) (sync : Option (List ℕ) × trees.Event) (h h' : Here) (ts ts' : List Token) (x : Turn × Here × List Token)
-    → StmtsFound (room - 1) stmt → SpellsStmt (room - 1) true h h' ts s ts' → SyncFirst s sync → turn_rest_with stmt room sync h' ts' ≡ Ok x → SpellsTurn room h x.1 (Fixed OpenBrace ∷ ts) x.0 x.2
-unfolding turn_rest_with block_meaning
-turn_rest_found stmt room s sync h h' ts ts' x found first is e =
-    let b = bound_ok (stmts_with stmt Allowed h' ts') _ x e in
-    let others = stmts_found stmt Allowed (room - 1) h' ts' b.first found b.is in
-    let c = bound_ok (expect_at (room - 1) CloseBrace b.first.2) _ x b.then in
-    let close = expect_found (room - 1) CloseBrace b.first.2 c.first c.is in
-    let d = others.depth close.some in
-    let whole : block_meaning true (names_at h') others.stmts ≡ Some (body b.first.0, names_at b.first.1) = others.meaning ∙ ap (λ (y : List trees.Stmt). Some (body y, names_at b.first.1)) others.value in
-    subst (λ (y : Turn × Here × List Token). SpellsTurn room h y.1 (Fixed OpenBrace ∷ ts) y.0 y.2) (ok_is _ _ c.then) (record {
-      body = written.Then first.stmt others.stmts;
-      block = trees.Runs s (body b.first.0);
-      tokens = ap (λ (y : List Token). Fixed OpenBrace ∷ y) (first.tokens ∙ ap (stmt_tokens first.stmt) (others.tokens c.first close.is));
-      depth = omega (arith, d, first.depth, close.some);
-      meaning = rw (first.meaning, whole) refl;
-      turn = is.turn (body b.first.0);
-    })
-
-turn_found : (stmt : ReadsStmt) (room : ℕ) → StmtsFound (room - 1) stmt → TurnsFound room (turn_with stmt room)
-unfolding turn_with
-turn_found stmt room found word h ts x e =
+turn_found : (event : ReadsEvent) (stmt : ReadsStmt) (room : ℕ) → EventsRead (room - 1) event → EventsFound (room - 1) event → StmtsFound (room - 1) stmt → TurnsFound room (turn_with event stmt room)
+unfolding turn_with block_meaning
+turn_found event stmt room reads events found word h ts x e =
     let a = bound_ok (expect_at room OpenBrace ts) _ x e in
     let open' = expect_found room OpenBrace ts a.first a.is in
     if_ok (is_no_sync a.first) _ _ x a.then
     (λ _ f. (let b = bound_ok (accept_at (room - 1) a.first) _ x f in no_ok _ _ b.then))
     (λ _ f.
-    let s = bound_ok (stmt Allowed h a.first) _ x f in
-    let first = found Allowed h a.first s.first s.is in
-    some_ok (as_sync s.first.0) _ _ x s.then
-    (λ sync is g. subst (λ (y : List Token). SpellsTurn room h x.1 y x.0 x.2) (sym open'.is) (turn_rest_found stmt room s.first.0 sync h s.first.1 a.first s.first.2 x found first (sync_first s.first.0 sync is) g))
-    (λ g. no_ok _ _ g))
+    let y = bound_ok (sync_with event (room - 1) h a.first) _ x f in
+    let first = sync_found event (room - 1) true h a.first y.first reads events y.is in
+    let b = bound_ok (stmts_with stmt Allowed y.first.1 y.first.2) _ x y.then in
+    let others = stmts_found stmt Allowed (room - 1) y.first.1 y.first.2 b.first found b.is in
+    let c = bound_ok (expect_at (room - 1) CloseBrace b.first.2) _ x b.then in
+    let close = expect_found (room - 1) CloseBrace b.first.2 c.first c.is in
+    let d = others.depth close.some in
+    let whole : block_meaning true (names_at y.first.1) others.stmts ≡ Some (body b.first.0, names_at b.first.1) = others.meaning ∙ ap (λ (y : List trees.Stmt). Some (body y, names_at b.first.1)) others.value in
+    subst (λ (y : Turn × Here × List Token). SpellsTurn room h y.1 ts y.0 y.2) (ok_is _ _ c.then) (record {
+      body = written.Then first.stmt others.stmts;
+      block = trees.Runs (trees.Syncs y.first.0.0 y.first.0.1) (body b.first.0);
+      tokens = open'.is ∙ ap (λ (y : List Token). Fixed OpenBrace ∷ y) (first.tokens ∙ ap (stmt_tokens first.stmt) (others.tokens c.first close.is));
+      depth = omega (arith, d, first.depth, close.some);
+      meaning = rw (first.meaning, whole) refl;
+      turn = refl;
+    }))
 
 -- WITH SO MUCH ROOM
 
 no_event : (room : ℕ) → EventsFound room (λ _ ts. none_there ts)
 no_event room h ts x e = no_ok _ _ e
+
+no_event_read : (room : ℕ) → EventsRead room (λ _ ts. none_there ts)
+no_event_read room h ts x e = no_ok _ _ e
 
 no_block : (room : ℕ) → BlocksFound room (λ _ _ ts. none_there ts)
 no_block room place h ts x e = no_ok _ _ e
@@ -681,5 +666,5 @@ mutual
   blocks_found (suc r) place h ts x e = block_found _ (suc r) (deeper (λ n. StmtsFound n (stmt_with (event_at r) (block_at r) (turn_at r) r)) r (stmt_found (event_at r) (block_at r) (turn_at r) r (events_read r) (events_found r) (blocks_found r) (turns_found r))) place h ts x e
 
   pub turns_found : (room : ℕ) → TurnsFound room (turn_at room)
-  turns_found zero word h ts x e = turn_found _ zero (no_stmt zero) word h ts x e
-  turns_found (suc r) word h ts x e = turn_found _ (suc r) (deeper (λ n. StmtsFound n (stmt_with (event_at r) (block_at r) (turn_at r) r)) r (stmt_found (event_at r) (block_at r) (turn_at r) r (events_read r) (events_found r) (blocks_found r) (turns_found r))) word h ts x e
+  turns_found zero word h ts x e = turn_found _ _ zero (no_event_read zero) (no_event zero) (no_stmt zero) word h ts x e
+  turns_found (suc r) word h ts x e = turn_found (event_at r) _ (suc r) (deeper (λ n. EventsRead n (event_at r)) r (events_read r)) (deeper (λ n. EventsFound n (event_at r)) r (events_found r)) (deeper (λ n. StmtsFound n (stmt_with (event_at r) (block_at r) (turn_at r) r)) r (stmt_found (event_at r) (block_at r) (turn_at r) r (events_read r) (events_found r) (blocks_found r) (turns_found r))) word h ts x e

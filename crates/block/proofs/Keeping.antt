@@ -1,15 +1,15 @@
 -- What is read keeps the limits: events, statements and blocks.
-use Rattle.std.proofs.Common.{◌≡◌, ℕ, zero, suc, ◌+◌, ◌-◌, ◌<◌, ◌≤◌, max, Bool, true, false, cond, leb, List, [], ◌∷◌, ◌++◌, length, Option, Some, None, Ok, is_some, refl, ap, ◌∙◌, subst, arith}
+use Rattle.std.proofs.Common.{◌≡◌, ℕ, zero, suc, ◌+◌, ◌-◌, ◌<◌, ◌≤◌, max, Bool, true, false, cond, leb, List, [], ◌∷◌, ◌++◌, ◌||◌, length, Option, Some, None, Ok, is_some, refl, ◌∙◌, subst, arith}
 use Rattle.std.proofs.lemmas.Bool.Decides.{nat_tests}
 use Rattle.token.specs.Tokens.{Token}
 use Rattle.token.specs.declared.kind.Symbol.TheVariants.{Let, Print, Sync, If, Else, Loop, Forever, End, Send, Recv, Always, Never, Cancelled, Choose, Wrap, As, To, Guard, Nack, Semicolon, Comma, OpenBrace, CloseBrace, OpenBracket, CloseBracket, Equal, Arrow}
-use Rattle.syntax.specs.Trees.{Event, Sends, Receives, IsReady, IsNever, IsCancelled, Stmt, Lets, Prints, Syncs, Branches, Loops, LoopsForever, Ends, Block, Turn}
+use Rattle.syntax.specs.Trees.{Event, Sends, Receives, IsReady, IsNever, IsCancelled, Stmt, Syncs, Block, Turn}
 use Rattle.syntax.specs.Limits.{Known, KeepsLimits, EventIsIn, MembersAreIn, StmtIsIn, BlockIsIn, NamesAreIn, IsSmall, base_count, bases_of_all, nack_count, nacks_of_all, event_depth, members_depth, stmt_depth, stmts_depth, block_depth}
 use Rattle.phrase.specs.Steps.{Here, name_at, next_is, accept_at, expect_at, read_name_at, bind_name_at, bind_names_at}
 use Rattle.phrase.specs.Exprs.{expr_at, test_at, list_at}
-use Rattle.phrase.proofs.Keeping.{bound_ok, ok_is, no_ok, if_ok, some_ok, repeated_keeps, accept_room, expect_room, Later, name_read, bind_name_reads, bind_names_read}
+use Rattle.phrase.proofs.Keeping.{bound_ok, ok_is, no_ok, if_ok, repeated_keeps, accept_room, expect_room, Later, name_read, bind_name_reads, bind_names_read}
 use Rattle.phrase.proofs.KeepingExprs.{expr_read, test_read, list_read}
-use Rattle.block.specs.Blocks.{base_at, nack_word_at, send_at, recv_at, always_at, never_at, cancelled_at, as_names_at, chain, body, ReadsEvent, ReadsBlock, ReadsStmt, ReadsTurn, member_next, member_step, members_with, choose_with, wrap_with, guard_with, nack_with, event_with, fresh, synced_with, let_at, print_at, end_at, received_with, branch_with, times_at, counted_with, forever_with, are_allowed, stmt_with, stmt_next, stmt_step, stmts_with, block_with, is_no_sync, as_sync, turn_rest_with, turn_with, none_there, event_at, block_at, turn_at}
+use Rattle.block.specs.Blocks.{base_at, nack_word_at, send_at, recv_at, always_at, never_at, cancelled_at, as_names_at, chain, body, ReadsEvent, ReadsBlock, ReadsStmt, ReadsTurn, member_next, member_step, members_with, choose_with, wrap_with, guard_with, nack_with, event_with, fresh, synced_with, sync_with, let_at, print_at, end_at, branch_with, times_at, counted_with, forever_with, are_allowed, stmt_with, stmt_next, stmt_step, stmts_with, block_with, is_no_sync, turn_with, none_there, event_at, block_at, turn_at}
 use Rattle.block.specs.declared.process.Loops.{Loops as Place}
 use Rattle.block.specs.declared.process.Loops.TheVariants.{Allowed, Forbidden}
 
@@ -404,20 +404,27 @@ end_read room h ts x e =
       depth = accept_room room ts a.first a.is;
     })
 
-received_read : (event : ReadsEvent) (room : ℕ) (h : Here) (ts : List Token) (x : Stmt × Here × List Token) → EventsRead room event → received_with event room h ts ≡ Ok x → StmtRead room h x.1 x.0
-unfolding received_with
-received_read event room h ts x reads e =
+sync_read : (event : ReadsEvent) (room : ℕ) (h : Here) (ts : List Token) (x : (Option (List ℕ) × Event) × Here × List Token) → EventsRead room event → sync_with event room h ts ≡ Ok x → StmtRead room h x.1 (Syncs x.0.0 x.0.1)
+unfolding sync_with
+sync_read event room h ts x reads e =
+    if_ok (next_is Sync ts) _ _ x e
+    (λ _ f.
+    let s = bound_ok (synced_with event room h ts) _ x f in
+    let s-read = synced_read event room h ts s.first reads s.is in
+    subst (λ (y : (Option (List ℕ) × Event) × Here × List Token). StmtRead room h y.1 (Syncs y.0.0 y.0.1)) (ok_is _ _ s.then)
+    (record { later = s-read.later; is_in = λ k later. (tt, (s-read.is_in k later, s-read.small)); counts = s-read.counts; depth = s-read.depth }))
+    (λ _ e.
     let n = bound_ok (bind_names_at room h ts) _ x e in
     let n-read = bind_names_read room h ts n.first n.is in
     let a = bound_ok (expect_at room Arrow n.first.2) _ x n.then in
     let v = bound_ok (synced_with event room n.first.1 a.first) _ x a.then in
     let v-read = synced_read event room n.first.1 a.first v.first reads v.is in
-    subst (λ (y : Stmt × Here × List Token). StmtRead room h y.1 y.0) (ok_is _ _ v.then) (record {
+    subst (λ (y : (Option (List ℕ) × Event) × Here × List Token). StmtRead room h y.1 (Syncs y.0.0 y.0.1)) (ok_is _ _ v.then) (record {
       later = λ k later. n-read.later k (v-read.later k later);
       is_in = λ k later. (n-read.is_in k (v-read.later k later), (v-read.is_in k later, v-read.small));
       counts = v-read.counts ∙ n-read.counts;
       depth = v-read.depth;
-    })
+    }))
 
 branch_read : (block : ReadsBlock) (room : ℕ) (place : Place) (h : Here) (ts : List Token) (x : Stmt × Here × List Token) → BlocksRead room block → branch_with block room place h ts ≡ Ok x → StmtRead room h x.1 x.0
 unfolding branch_with
@@ -466,18 +473,15 @@ forever_read turn room h ts x turns e =
 stmt_read : (event : ReadsEvent) (block : ReadsBlock) (turn : ReadsTurn) (room : ℕ) → EventsRead room event → BlocksRead room block → TurnsRead room turn → StmtsRead room (stmt_with event block turn room)
 unfolding stmt_with
 stmt_read event block turn room reads blocks turns place h ts x e =
-    if_ok (is_some (name_at ts)) _ _ x e (λ _ f. received_read event room h ts x reads f)
+    if_ok (is_some (name_at ts) || next_is Sync ts) _ _ x e
+    (λ _ f.
+    let s = bound_ok (sync_with event room h ts) _ x f in
+    subst (λ (y : Stmt × Here × List Token). StmtRead room h y.1 y.0) (ok_is _ _ s.then) (sync_read event room h ts s.first reads s.is))
     (λ _ e. if_ok (next_is Let ts) _ _ x e (λ _ f. let_read room h ts x f)
     (λ _ e. if_ok (next_is Print ts) _ _ x e
     (λ _ f.
     let s = bound_ok (print_at room h ts) _ x f in
     subst (λ (y : Stmt × Here × List Token). StmtRead room h y.1 y.0) (ok_is _ _ s.then) (print_read room h ts s.first s.is))
-    (λ _ e. if_ok (next_is Sync ts) _ _ x e
-    (λ _ f.
-    let s = bound_ok (synced_with event room h ts) _ x f in
-    let s-read = synced_read event room h ts s.first reads s.is in
-    subst (λ (y : Stmt × Here × List Token). StmtRead room h y.1 y.0) (ok_is _ _ s.then)
-    (record { later = s-read.later; is_in = λ k later. (tt, (s-read.is_in k later, s-read.small)); counts = s-read.counts; depth = s-read.depth }))
     (λ _ e. if_ok (next_is If ts) _ _ x e (λ _ f. branch_read block room place h ts x blocks f)
     (λ _ e. if_ok (next_is End ts) _ _ x e
     (λ _ f.
@@ -486,7 +490,7 @@ stmt_read event block turn room reads blocks turns place h ts x e =
     (λ _ e. if_ok (are_allowed place) _ _ x e
     (λ _ f. if_ok (next_is Loop ts) _ _ x f (λ _ g. counted_read turn room h ts x turns g)
     (λ _ g. if_ok (next_is Forever ts) _ _ x g (λ _ k. forever_read turn room h ts x turns k) (λ _ k. no_ok _ _ k)))
-    (λ _ f. no_ok _ _ f)))))))
+    (λ _ f. no_ok _ _ f))))))
 
 -- BLOCKS
 
@@ -545,21 +549,17 @@ block_read stmt room reads place h ts x e =
       depth = omega (arith, d, some);
     })
 
-sync_in : (s : Stmt) (sync : Option (List ℕ) × Event) → as_sync s ≡ Some sync → s ≡ Syncs sync.0 sync.1
-sync_in (Syncs names event) sync e = (let same : (names, event) ≡ sync = cc in ap (λ (y : Option (List ℕ) × Event). Syncs y.0 y.1) same)
-sync_in (Lets name value) sync e = absurd cc
-sync_in (Prints value) sync e = absurd cc
-sync_in (Branches test first second) sync e = absurd cc
-sync_in (Loops times names event rest) sync e = absurd cc
-sync_in (LoopsForever names event rest) sync e = absurd cc
-sync_in Ends sync e = absurd cc
-
-turn_rest_read : (stmt : ReadsStmt) (room : ℕ) (sync : Option (List ℕ) × Event) (h h' : Here) (ts : List Token) (x : Turn × Here × List Token)
-    → StmtsRead (room - 1) stmt → StmtRead (room - 1) h h' (Syncs sync.0 sync.1) → turn_rest_with stmt room sync h' ts ≡ Ok x → TurnRead room h x.1 x.0
-unfolding turn_rest_with
-turn_rest_read stmt room sync h h' ts x reads first e =
-    let s = bound_ok (stmts_with stmt Allowed h' ts) _ x e in
-    let s-read = stmts_read stmt Allowed (room - 1) h' ts s.first reads s.is in
+turn_read : (event : ReadsEvent) (stmt : ReadsStmt) (room : ℕ) → EventsRead (room - 1) event → StmtsRead (room - 1) stmt → TurnsRead room (turn_with event stmt room)
+unfolding turn_with
+turn_read event stmt room events reads word h ts x e =
+    let a = bound_ok (expect_at room OpenBrace ts) _ x e in
+    if_ok (is_no_sync a.first) _ _ x a.then
+    (λ _ f. (let b = bound_ok (accept_at (room - 1) a.first) _ x f in no_ok _ _ b.then))
+    (λ _ f.
+    let y = bound_ok (sync_with event (room - 1) h a.first) _ x f in
+    let first = sync_read event (room - 1) h a.first y.first events y.is in
+    let s = bound_ok (stmts_with stmt Allowed y.first.1 y.first.2) _ x y.then in
+    let s-read = stmts_read stmt Allowed (room - 1) y.first.1 y.first.2 s.first reads s.is in
     let c = bound_ok (expect_at (room - 1) CloseBrace s.first.2) _ x s.then in
     let some = expect_room (room - 1) CloseBrace s.first.2 c.first c.is in
     let d = s-read.depth some in
@@ -568,20 +568,7 @@ turn_rest_read stmt room sync h h' ts x reads first e =
       is_in = λ k later. (let i = first.is_in k (s-read.later k later) in (i.0, (i.1.0, (i.1.1, s-read.is_in k later))));
       counts = s-read.counts ∙ first.counts;
       depth = omega (arith, d, first.depth, some);
-    })
-
-turn_read : (stmt : ReadsStmt) (room : ℕ) → StmtsRead (room - 1) stmt → TurnsRead room (turn_with stmt room)
-unfolding turn_with
-turn_read stmt room reads word h ts x e =
-    let a = bound_ok (expect_at room OpenBrace ts) _ x e in
-    if_ok (is_no_sync a.first) _ _ x a.then
-    (λ _ f. (let b = bound_ok (accept_at (room - 1) a.first) _ x f in no_ok _ _ b.then))
-    (λ _ f.
-    let s = bound_ok (stmt Allowed h a.first) _ x f in
-    let s-read = reads Allowed h a.first s.first s.is in
-    some_ok (as_sync s.first.0) _ _ x s.then
-    (λ sync is g. turn_rest_read stmt room sync h s.first.1 s.first.2 x reads (subst (StmtRead (room - 1) h s.first.1) (sync_in s.first.0 sync is) s-read) g)
-    (λ g. no_ok _ _ g))
+    }))
 
 -- WITH SO MUCH ROOM
 
@@ -609,8 +596,8 @@ mutual
   blocks_read (suc r) place h ts x e = block_read _ (suc r) (deeper (λ n. StmtsRead n (stmt_with (event_at r) (block_at r) (turn_at r) r)) r (stmt_read (event_at r) (block_at r) (turn_at r) r (events_read r) (blocks_read r) (turns_read r))) place h ts x e
 
   pub turns_read : (room : ℕ) → TurnsRead room (turn_at room)
-  turns_read zero word h ts x e = turn_read _ zero (no_stmt zero) word h ts x e
-  turns_read (suc r) word h ts x e = turn_read _ (suc r) (deeper (λ n. StmtsRead n (stmt_with (event_at r) (block_at r) (turn_at r) r)) r (stmt_read (event_at r) (block_at r) (turn_at r) r (events_read r) (blocks_read r) (turns_read r))) word h ts x e
+  turns_read zero word h ts x e = turn_read _ _ zero (no_event zero) (no_stmt zero) word h ts x e
+  turns_read (suc r) word h ts x e = turn_read (event_at r) _ (suc r) (deeper (λ n. EventsRead n (event_at r)) r (events_read r)) (deeper (λ n. StmtsRead n (stmt_with (event_at r) (block_at r) (turn_at r) r)) r (stmt_read (event_at r) (block_at r) (turn_at r) r (events_read r) (blocks_read r) (turns_read r))) word h ts x e
 
 -- the block of a process
 pub process_read : (h : Here) (ts : List Token) (x : Block × Here × List Token) → block_at 49 Allowed h ts ≡ Ok x

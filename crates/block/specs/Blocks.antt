@@ -156,6 +156,17 @@ synced_with event room h ts = do
   rest ← expect_at room Semicolon e.2
   Ok (e.0, record e.1 { counts = h.counts }, rest)
 
+-- a sync, and the names that its result is bound to
+unfoldable pub sync_with : ReadsEvent → ℕ → Here → List Token → Reads (Option (List ℕ) × Event)
+sync_with event room h ts =
+    if next_is Sync ts
+    then (synced_with event room h ts >>= λ e. Ok ((None, e.0), e.1, e.2))
+    else (do
+      n ← bind_names_at room h ts
+      rest ← expect_at room Arrow n.2
+      e ← synced_with event room n.1 rest
+      Ok ((Some n.0, e.0), e.1, e.2))
+
 unfoldable pub let_at : ℕ → Here → List Token → Reads Stmt
 let_at room h ts = do
   rest ← accept_at room ts
@@ -177,13 +188,6 @@ end_at room ts = do
   rest ← accept_at room ts
   rest ← expect_at room Semicolon rest
   Ok (Ends, rest)
-
-unfoldable pub received_with : ReadsEvent → ℕ → Here → List Token → Reads Stmt
-received_with event room h ts = do
-  n ← bind_names_at room h ts
-  rest ← expect_at room Arrow n.2
-  e ← synced_with event room n.1 rest
-  Ok (Syncs (Some n.0) e.0, e.1, e.2)
 
 unfoldable pub branch_with : ReadsBlock → ℕ → Place → Here → List Token → Reads Stmt
 branch_with block room place h ts = do
@@ -219,16 +223,15 @@ are_allowed Forbidden = false
 
 unfoldable pub stmt_with : ReadsEvent → ReadsBlock → ReadsTurn → ℕ → Place → Here → List Token → Reads Stmt
 stmt_with event block turn room place h ts =
-    if is_some (name_at ts) then received_with event room h ts
+    if is_some (name_at ts) || next_is Sync ts then (sync_with event room h ts >>= λ s. Ok (Syncs s.0.0 s.0.1, s.1, s.2))
     else (if next_is Let ts then let_at room h ts
     else (if next_is Print ts then (print_at room h ts >>= λ s. Ok (s.0, h, s.1))
-    else (if next_is Sync ts then (synced_with event room h ts >>= λ e. Ok (Syncs None e.0, e.1, e.2))
     else (if next_is If ts then branch_with block room place h ts
     else (if next_is End ts then (end_at room ts >>= λ s. Ok (s.0, h, s.1))
     else (if are_allowed place
     then (if next_is Loop ts then counted_with turn room h ts
     else (if next_is Forever ts then forever_with turn room h ts else stop_at Syntax ts))
-    else stop_at Syntax ts))))))
+    else stop_at Syntax ts)))))
 
 -- BLOCKS, WHERE `stmt` READS A STATEMENT
 
@@ -256,35 +259,20 @@ block_with stmt room place h ts = do
 unfoldable pub is_no_sync : List Token → Bool
 is_no_sync ts = next_is CloseBrace ts || (next_is Let ts || (next_is Print ts || (next_is If ts || (next_is Loop ts || (next_is Forever ts || next_is End ts)))))
 
--- the sync that a statement is
-abbrev pub as_sync : Stmt → Option (Option (List ℕ) × Event)
-as_sync (Syncs names event) = Some (names, event)
-as_sync (Lets name value) = None
-as_sync (Prints value) = None
-as_sync (Branches test first second) = None
-as_sync (Loops times names event rest) = None
-as_sync (LoopsForever names event rest) = None
-as_sync Ends = None
-
 abbrev pub no_sync : {A : Type 0} → ℕ → Result A Told
 no_sync word = Err (LoopWithoutSync, word)
 
--- the statements behind the sync that a loop's body begins with
-unfoldable pub turn_rest_with : ReadsStmt → ℕ → Option (List ℕ) × Event → Here → List Token → Reads Turn
-turn_rest_with stmt room sync h ts = do
-  s ← stmts_with stmt Allowed h ts
-  rest ← expect_at (room - 1) CloseBrace s.2
-  Ok (record { names = sync.0; event = sync.1; rest = body s.0 }, s.1, rest)
-
 -- the body of a loop, from whose word on so many tokens are left
-unfoldable pub turn_with : ReadsStmt → ℕ → ReadsTurn
-turn_with stmt room word h ts = do
+unfoldable pub turn_with : ReadsEvent → ReadsStmt → ℕ → ReadsTurn
+turn_with event stmt room word h ts = do
   rest ← expect_at room OpenBrace ts
   if is_no_sync rest
       then (accept_at (room - 1) rest >>= λ _. no_sync word)
       else (do
-        first ← stmt Allowed h rest
-        if_some (as_sync first.0) (λ sync. turn_rest_with stmt room sync first.1 first.2) (no_sync word))
+        first ← sync_with event (room - 1) h rest
+        s ← stmts_with stmt Allowed first.1 first.2
+        rest ← expect_at (room - 1) CloseBrace s.2
+        Ok (record { names = first.0.0; event = first.0.1; rest = body s.0 }, s.1, rest))
 
 -- WITH SO MUCH ROOM
 
@@ -301,8 +289,8 @@ unfoldable mutual
   block_at (suc r) place h ts = block_with (λ place h ts. stmt_with (event_at r) (block_at r) (turn_at r) r place h ts) (suc r) place h ts
 
   pub turn_at : ℕ → ℕ → Here → List Token → Reads Turn
-  turn_at zero word h ts = turn_with (λ _ _ ts. none_there ts) zero word h ts
-  turn_at (suc r) word h ts = turn_with (λ place h ts. stmt_with (event_at r) (block_at r) (turn_at r) r place h ts) (suc r) word h ts
+  turn_at zero word h ts = turn_with (λ _ ts. none_there ts) (λ _ _ ts. none_there ts) zero word h ts
+  turn_at (suc r) word h ts = turn_with (event_at r) (λ place h ts. stmt_with (event_at r) (block_at r) (turn_at r) r place h ts) (suc r) word h ts
 
 unfoldable pub stmt_at : ℕ → Place → Here → List Token → Reads Stmt
 stmt_at room place h ts = stmt_with (event_at room) (block_at room) (turn_at room) room place h ts

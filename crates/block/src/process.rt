@@ -3,14 +3,14 @@
 
 ghost use Rattle.std.specs.Prelude.{◌≡◌, ◌<◌, ◌-◌, IfOk, OnOk, map, length};
 ghost use Rattle.std.specs.Option.{option_map};
-ghost use Rattle.phrase.specs.Steps.{Gives, bare, here};
+ghost use Rattle.phrase.specs.Steps.{Gives, Tells, bare, here};
 ghost use Rattle.syntax.specs.Trees.{event_of, events_of, stmt_of, block_of, turn_of, names_of};
-ghost use Rattle.block.specs.Blocks.{chain, body, base_at, nack_word_at, send_at, recv_at, always_at, never_at, cancelled_at, as_names_at, members_with, choose_with, wrap_with, guard_with, nack_with, event_at, synced_with, let_at, print_at, end_at, received_with, branch_with, times_at, counted_with, forever_with, are_allowed, stmt_at, stmts_with, block_at, is_no_sync, turn_at};
+ghost use Rattle.block.specs.Blocks.{chain, body, base_at, nack_word_at, send_at, recv_at, always_at, never_at, cancelled_at, as_names_at, members_with, choose_with, wrap_with, guard_with, nack_with, event_at, synced_with, sync_with, let_at, print_at, end_at, branch_with, times_at, counted_with, forever_with, are_allowed, stmt_at, stmts_with, block_at, is_no_sync, turn_at};
 
 use phrase::expr::{read_expr, read_list, read_test};
-use phrase::fault::{Problem, Stop};
+use phrase::fault::{Fault, Problem, Stop};
 use phrase::scope::{Counts, Scope, bind_name, bind_names, read_name};
-use phrase::step::{accept, begin, expect, is_next, left, name_at, number_at, stop};
+use phrase::step::{accept, begin, expect, fault, is_next, left, name_at, number_at, stop};
 use std::alloc::{AllocError, Global};
 use std::sync::Arc;
 use syntax::{Block, Event, Events, Names, Stmt, Turn};
@@ -62,11 +62,11 @@ fn base<'a>(
     scope: &mut Scope<'a>,
     tokens: &'a [Placed<'a>],
     room: usize,
-) -> Result<&'a [Placed<'a>], Stop>
-    ensures { Gives (λ x. (here scope.new, bare x.now)) result (base_at room (here scope.old) (bare tokens.now)) }
+) -> Result<&'a [Placed<'a>], Fault>
+    ensures { Tells (λ x. (here scope.new, bare x.now)) result (base_at room (here scope.old) (bare tokens.now)) }
 {
     if scope.counts.bases >= BASES {
-        return Err(stop(Problem::TooMany, tokens));
+        return Err(fault(Problem::TooMany, tokens));
     }
     let rest = accept(tokens, room)?;
     scope.counts.bases += 1;
@@ -79,12 +79,12 @@ fn nack_word<'a>(
     scope: &mut Scope<'a>,
     tokens: &'a [Placed<'a>],
     room: usize,
-) -> Result<&'a [Placed<'a>], Stop>
-    ensures value { Gives (λ x. (here scope.new, bare x.now)) result (nack_word_at room (here scope.old) (bare tokens.now)) }
+) -> Result<&'a [Placed<'a>], Fault>
+    ensures value { Tells (λ x. (here scope.new, bare x.now)) result (nack_word_at room (here scope.old) (bare tokens.now)) }
     ensures deep { OnOk result (0 < room) }
 {
     if scope.counts.nacks >= NACKS {
-        return Err(stop(Problem::TooMany, tokens));
+        return Err(fault(Problem::TooMany, tokens));
     }
     let rest = accept(tokens, room)?;
     scope.counts.nacks += 1;
@@ -111,8 +111,8 @@ fn recv<'a>(
     scope: &mut Scope<'a>,
     tokens: &'a [Placed<'a>],
     room: usize,
-) -> Result<(Event, &'a [Placed<'a>]), Stop>
-    ensures { Gives (λ x. (event_of x.0, here scope.new, bare x.1.now)) result (recv_at room (here scope.old) (bare tokens.now)) }
+) -> Result<(Event, &'a [Placed<'a>]), Fault>
+    ensures { Tells (λ x. (event_of x.0, here scope.new, bare x.1.now)) result (recv_at room (here scope.old) (bare tokens.now)) }
 {
     let rest = base(scope, tokens, room)?;
     let (channel, rest) = read_name(scope, rest, room)?;
@@ -138,8 +138,8 @@ fn never<'a>(
     scope: &mut Scope<'a>,
     tokens: &'a [Placed<'a>],
     room: usize,
-) -> Result<(Event, &'a [Placed<'a>]), Stop>
-    ensures { Gives (λ x. (event_of x.0, here scope.new, bare x.1.now)) result (never_at room (here scope.old) (bare tokens.now)) }
+) -> Result<(Event, &'a [Placed<'a>]), Fault>
+    ensures { Tells (λ x. (event_of x.0, here scope.new, bare x.1.now)) result (never_at room (here scope.old) (bare tokens.now)) }
 {
     let rest = base(scope, tokens, room)?;
     Ok((Event::Never, rest))
@@ -150,8 +150,8 @@ fn cancelled<'a>(
     scope: &mut Scope<'a>,
     tokens: &'a [Placed<'a>],
     room: usize,
-) -> Result<(Event, &'a [Placed<'a>]), Stop>
-    ensures { Gives (λ x. (event_of x.0, here scope.new, bare x.1.now)) result (cancelled_at room (here scope.old) (bare tokens.now)) }
+) -> Result<(Event, &'a [Placed<'a>]), Fault>
+    ensures { Tells (λ x. (event_of x.0, here scope.new, bare x.1.now)) result (cancelled_at room (here scope.old) (bare tokens.now)) }
 {
     let rest = base(scope, tokens, room)?;
     let (nack, rest) = read_name(scope, rest, room)?;
@@ -190,16 +190,16 @@ fn read_event<'a>(
         return send(alloc, scope, tokens, room);
     }
     if is_next(tokens, Symbol::Recv) {
-        return recv(scope, tokens, room);
+        return Ok(recv(scope, tokens, room)?);
     }
     if is_next(tokens, Symbol::Always) {
         return always(alloc, scope, tokens, room);
     }
     if is_next(tokens, Symbol::Never) {
-        return never(scope, tokens, room);
+        return Ok(never(scope, tokens, room)?);
     }
     if is_next(tokens, Symbol::Cancelled) {
-        return cancelled(scope, tokens, room);
+        return Ok(cancelled(scope, tokens, room)?);
     }
     if is_next(tokens, Symbol::Choose) {
         return choose(alloc, scope, tokens, room);
@@ -340,6 +340,27 @@ fn synced<'a>(
     Ok((event, rest))
 }
 
+/// A sync, and the names that its result is bound to.
+#[cycle(reading)]
+#[tactic(auto, unfolding(crate::specs::Blocks::sync_with))]
+fn read_sync<'a>(
+    alloc: Global,
+    scope: &mut Scope<'a>,
+    tokens: &'a [Placed<'a>],
+    room: usize,
+) -> Result<(Option<Names>, Arc<Event>, &'a [Placed<'a>]), Stop>
+    ensures { Gives (λ x. ((option_map names_of x.0, event_of x.1.value), here scope.new, bare x.2.now)) result (sync_with (event_at room) room (here scope.old) (bare tokens.now)) }
+{
+    if is_next(tokens, Symbol::Sync) {
+        let (event, rest) = synced(alloc, scope, tokens, room)?;
+        return Ok((None, event, rest));
+    }
+    let (names, rest) = bind_names(scope, tokens, room)?;
+    let rest = expect(rest, room, Symbol::Arrow)?;
+    let (event, rest) = synced(alloc, scope, rest, room)?;
+    Ok((Some(names), event, rest))
+}
+
 #[tactic(auto, unfolding(crate::specs::Blocks::let_at))]
 fn let_stmt<'a>(
     alloc: Global,
@@ -373,8 +394,8 @@ fn print_stmt<'a>(
 }
 
 #[tactic(auto, unfolding(crate::specs::Blocks::end_at))]
-fn end_stmt<'a>(tokens: &'a [Placed<'a>], room: usize) -> Result<(Stmt, &'a [Placed<'a>]), Stop>
-    ensures { Gives (λ x. (stmt_of x.0, bare x.1.now)) result (end_at room (bare tokens.now)) }
+fn end_stmt<'a>(tokens: &'a [Placed<'a>], room: usize) -> Result<(Stmt, &'a [Placed<'a>]), Fault>
+    ensures { Tells (λ x. (stmt_of x.0, bare x.1.now)) result (end_at room (bare tokens.now)) }
 {
     let rest = accept(tokens, room)?;
     let rest = expect(rest, room, Symbol::Semicolon)?;
@@ -393,8 +414,9 @@ fn read_stmt<'a>(
 ) -> Result<(Stmt, &'a [Placed<'a>]), Stop>
     ensures { Gives (λ x. (stmt_of x.0, here scope.new, bare x.1.now)) result (stmt_at room loops (here scope.old) (bare tokens.now)) }
 {
-    if name_at(tokens).is_some() {
-        return received(alloc, scope, tokens, room);
+    if name_at(tokens).is_some() || is_next(tokens, Symbol::Sync) {
+        let (names, event, rest) = read_sync(alloc, scope, tokens, room)?;
+        return Ok((Stmt::Sync(names, event), rest));
     }
     if is_next(tokens, Symbol::Let) {
         return let_stmt(alloc, scope, tokens, room);
@@ -402,10 +424,6 @@ fn read_stmt<'a>(
     if is_next(tokens, Symbol::Print) {
         let (stmt, rest) = print_stmt(alloc, scope, tokens, room)?;
         return Ok((stmt, rest));
-    }
-    if is_next(tokens, Symbol::Sync) {
-        let (event, rest) = synced(alloc, scope, tokens, room)?;
-        return Ok((Stmt::Sync(None, event), rest));
     }
     if is_next(tokens, Symbol::If) {
         return branch(alloc, scope, tokens, room, loops);
@@ -424,23 +442,6 @@ fn read_stmt<'a>(
         return forever(alloc, scope, tokens, room);
     }
     Err(stop(Problem::Syntax, tokens))
-}
-
-/// A sync whose result is bound to names.
-#[cycle(reading)]
-#[tactic(auto, unfolding(crate::specs::Blocks::received_with))]
-fn received<'a>(
-    alloc: Global,
-    scope: &mut Scope<'a>,
-    tokens: &'a [Placed<'a>],
-    room: usize,
-) -> Result<(Stmt, &'a [Placed<'a>]), Stop>
-    ensures { Gives (λ x. (stmt_of x.0, here scope.new, bare x.1.now)) result (received_with (event_at room) room (here scope.old) (bare tokens.now)) }
-{
-    let (names, rest) = bind_names(scope, tokens, room)?;
-    let rest = expect(rest, room, Symbol::Arrow)?;
-    let (event, rest) = synced(alloc, scope, rest, room)?;
-    Ok((Stmt::Sync(Some(names), event), rest))
 }
 
 #[cycle(reading)]
@@ -481,11 +482,11 @@ fn branch<'a>(
 
 /// How often a loop runs.
 #[tactic(auto, unfolding(crate::specs::Blocks::times_at))]
-fn times<'a>(tokens: &'a [Placed<'a>], room: usize) -> Result<(u32, &'a [Placed<'a>]), Stop>
-    ensures { Gives (λ x. (x.0, bare x.1.now)) result (times_at room (bare tokens.now)) }
+fn times<'a>(tokens: &'a [Placed<'a>], room: usize) -> Result<(u32, &'a [Placed<'a>]), Fault>
+    ensures { Tells (λ x. (x.0, bare x.1.now)) result (times_at room (bare tokens.now)) }
 {
     let Some(times) = number_at(tokens) else {
-        return Err(stop(Problem::Syntax, tokens));
+        return Err(fault(Problem::Syntax, tokens));
     };
     let rest = accept(tokens, room)?;
     Ok((times, rest))
@@ -523,7 +524,7 @@ fn is_no_sync(tokens: &[Placed<'_>]) -> bool
 
 /// The body of a loop, from whose word on so many tokens are left.
 #[cycle(reading)]
-#[tactic(auto, using(crate::proofs::Blocking::turn_at_is), unfolding(crate::specs::Blocks::turn_with, crate::specs::Blocks::turn_rest_with))]
+#[tactic(auto, using(crate::proofs::Blocking::turn_at_is), unfolding(crate::specs::Blocks::turn_with))]
 fn read_turn<'a>(
     alloc: Global,
     scope: &mut Scope<'a>,
@@ -536,12 +537,12 @@ fn read_turn<'a>(
     let rest = expect(tokens, room, Symbol::OpenBrace)?;
     if is_no_sync(rest) {
         accept(rest, room - 1)?;
-        return Err(Stop::At(Problem::LoopWithoutSync, word));
+        return Err(Stop::At(Fault {
+            problem: Problem::LoopWithoutSync,
+            left: word,
+        }));
     }
-    let (first, rest) = read_stmt(alloc, scope, rest, room - 1, Loops::Allowed)?;
-    let Stmt::Sync(names, event) = first else {
-        return Err(Stop::At(Problem::LoopWithoutSync, word));
-    };
+    let (names, event, rest) = read_sync(alloc, scope, rest, room - 1)?;
     let (stmts, rest) = statements(alloc, scope, rest, room - 1, Loops::Allowed)?;
     let rest = expect(rest, room - 1, Symbol::CloseBrace)?;
     let stmts = link_stmts(alloc, stmts)?;

@@ -607,7 +607,7 @@ module _ (event : ReadsEvent) (block : ReadsBlock) (room : ℕ) (events : 0 < ro
       (λ w x clean.
       let some = nack_room clean in
       then (bound_name r [] (one_nack h)) (λ n. seq (block_lang false r (bound (one_nack h) n).1) (λ b. last_event (block_after (bound (one_nack h) n).1 b))) (λ ts. bind_name_at r [] (one_nack h) ts)
-      (λ n. block Forbidden n.1 n.2 >>= λ b. event b.1 b.2 >>= λ e. Ok (trees.Nacks n.0 b.0 e.0, e.1, e.2)) (bound_name_facts r [] (one_nack h))
+      (λ n. block Forbidden n.1 n.2 >>= λ b. event b.1 b.2 >>= λ e. Ok (trees.Nacks n.0 b.0 e.0, e.1, e.2)) (bound_name_facts r [] (one_nack h) refl)
       (λ n y c.
       let v = (bound (one_nack h) n).0 in
       let k = (bound (one_nack h) n).1 in

@@ -626,12 +626,3 @@ module _ {W X Y : Type 0} (default : W) (spell : W → Token) (note : W → Note
       takes : (ts : List Token) → P ts → Whole (token default spell note join) ts ⊎ Stops (token default spell note join) f ts
       takes [] p = inr (at_end (empty p))
       takes (t ∷ ts) p = ⊎_elim (λ one. one_takes t ts one.0 one.1 (on one.0)) (λ e. inr (refuses t e ts)) (off t ts p)
-
--- a reader that never succeeds, whatever is behind it
-pub never_ok : {X Y Z : Type 0} {E : List Token → Type 0} (L : Lang X Y E) (f : List Token → Result Y Told) → Facts Any L f → ((w : L.W) → first_fault (L.notes w) ≡ None → ⊥) → (ts : List Token) (k k' : Y → Result Z Told) → (f ts >>= k) ≡ (f ts >>= k')
-never_ok {Y = Y} {Z = Z} L f F not_clean ts k k' = ⊎_elim
-    (λ one. absurd (not_clean one.w one.clean))
-    (λ s.
-    let e : f ts ≡ Err (s.problem, s.back + length s.behind) = ap f s.is ∙ s.same s.behind (same_front s.behind) in
-    ap (λ (r : Result Y Told). r >>= k) e ∙ sym (ap (λ (r : Result Y Told). r >>= k') e))
-    (F.takes ts tt)

@@ -1,14 +1,12 @@
 -- Blocks, and events, statements, blocks and turns together: each is read by the readers of what lies
 -- inside, with less room.
-use Rattle.std.proofs.Common.{◌≡◌, ℕ, zero, suc, ◌+◌, ◌-◌, ◌<◌, List, [], length, Some, None, Ok, Err, is_some, true≢false, refl, sym, ap, ◌∙◌, arith}
-use Rattle.std.proofs.lemmas.Bool.{or_parts}
+use Rattle.std.proofs.Common.{◌≡◌, ℕ, zero, suc, ◌+◌, ◌-◌, ◌<◌, List, [], length, Ok, Err, refl, arith}
 use Rattle.token.specs.Tokens.{Token}
-use Rattle.token.specs.declared.kind.Symbol.TheVariants.{Let, Print, Sync, If, Loop, Forever, End, OpenBrace, CloseBrace, Arrow}
+use Rattle.token.specs.declared.kind.Symbol.TheVariants.{OpenBrace, CloseBrace}
 use Rattle.syntax.specs.Trees as trees
-use Rattle.phrase.specs.Steps.{◌>>=◌, name_at, next_is, expect_at, Here, bind_names_at}
+use Rattle.phrase.specs.Steps.{◌>>=◌, next_is, expect_at, Here}
 use Rattle.phrase.specs.declared.fault.Problem.TheVariants.{Syntax}
-use Rattle.phrase.proofs.Keeping.{bound_ok, ok_is, no_ok, if_ok}
-use Rattle.block.specs.Blocks.{body, ReadsEvent, ReadsBlock, ReadsStmt, ReadsTurn, synced_with, received_with, are_allowed, stmt_with, stmts_with, block_with, is_no_sync, as_sync, none_there, event_at, block_at, turn_at, stmt_at}
+use Rattle.block.specs.Blocks.{body, ReadsEvent, ReadsBlock, ReadsStmt, ReadsTurn, are_allowed, stmt_with, stmts_with, block_with, none_there, event_at, block_at, turn_at, stmt_at}
 use Rattle.block.specs.declared.process.Loops.{Loops as Place}
 use Rattle.block.specs.declared.process.Loops.TheVariants.{Allowed, Forbidden}
 use Rattle.block.proofs.Keeping.{deeper}
@@ -17,8 +15,8 @@ use Rattle.faults.specs.Notes.{plain}
 use Rattle.faults.proofs.Facts.{Lang, Facts, seq, then, turned, one_clean}
 use Rattle.faults.proofs.Words.{some_room, word, expect_facts}
 use Rattle.faults.proofs.Events.{event_lang, block_lang, event_facts}
-use Rattle.faults.proofs.Stmts.{StmtRead, stmt_lang, turn_lang, body_lang, stmt_facts, body_facts}
-use Rattle.faults.proofs.Turns.{IsSync, SyncsRead, turn_facts}
+use Rattle.faults.proofs.Stmts.{stmt_lang, turn_lang, body_lang, stmt_facts, body_facts}
+use Rattle.faults.proofs.Turns.{turn_facts}
 
 -- BLOCKS
 
@@ -51,36 +49,6 @@ stmt_ends : (event : ReadsEvent) (block : ReadsBlock) (turn : ReadsTurn) (room :
 unfolding stmt_with next_is
 stmt_ends event block turn room Allowed h = refl
 stmt_ends event block turn room Forbidden h = refl
-
-received_sync : (event : ReadsEvent) (room : ℕ) (h : Here) (ts : List Token) (y : StmtRead) → received_with event room h ts ≡ Ok y → IsSync y.0
-unfolding received_with
-received_sync event room h ts y e =
-    let a = bound_ok (bind_names_at room h ts) _ y e in
-    let b = bound_ok (expect_at room Arrow a.first.2) _ y a.then in
-    let c = bound_ok (synced_with event room a.first.1 b.first) _ y b.then in
-    record { sync = (Some a.first.0, c.first.0); is = ap (λ (x : StmtRead). as_sync x.0) (sym (ok_is _ _ c.then)) }
-
-synced_sync : (event : ReadsEvent) (room : ℕ) (h : Here) (ts : List Token) (y : StmtRead) → (synced_with event room h ts >>= λ e. Ok (trees.Syncs None e.0, e.1, e.2)) ≡ Ok y → IsSync y.0
-synced_sync event room h ts y e =
-    let c = bound_ok (synced_with event room h ts) _ y e in
-    record { sync = (None, c.first.0); is = ap (λ (x : StmtRead). as_sync x.0) (sym (ok_is _ _ c.then)) }
-
-stmt_syncs : (event : ReadsEvent) (block : ReadsBlock) (turn : ReadsTurn) (room : ℕ) → SyncsRead (λ place h ts. stmt_with event block turn room place h ts)
-unfolding stmt_with is_no_sync
-stmt_syncs event block turn room h ts y none e =
-    let lets = or_parts _ _ ((or_parts _ _ none).1) in
-    let prints = or_parts _ _ lets.1 in
-    let ifs = or_parts _ _ prints.1 in
-    let loops = or_parts _ _ ifs.1 in
-    let others = or_parts _ _ loops.1 in
-    if_ok (is_some (name_at ts)) _ _ y e (λ i f. received_sync event room h ts y f)
-    (λ i f. if_ok (next_is Let ts) _ _ y f (λ i g. absurd (true≢false (sym i ∙ lets.0)))
-    (λ i f. if_ok (next_is Print ts) _ _ y f (λ i g. absurd (true≢false (sym i ∙ prints.0)))
-    (λ i f. if_ok (next_is Sync ts) _ _ y f (λ i g. synced_sync event room h ts y g)
-    (λ i f. if_ok (next_is If ts) _ _ y f (λ i g. absurd (true≢false (sym i ∙ ifs.0)))
-    (λ i f. if_ok (next_is End ts) _ _ y f (λ i g. absurd (true≢false (sym i ∙ others.1)))
-    (λ i f. if_ok (next_is Loop ts) _ _ y f (λ i g. absurd (true≢false (sym i ∙ loops.0)))
-    (λ i f. if_ok (next_is Forever ts) _ _ y f (λ i g. absurd (true≢false (sym i ∙ others.0))) (λ i g. no_ok _ _ g))))))))
 
 -- TOGETHER
 
@@ -117,11 +85,12 @@ mutual
       (stmt_ends (event_at r) (block_at r) (turn_at r) r place) h
 
   pub turns_together : (room : ℕ) → TurnFacts (turn_at room) room
-  turns_together zero k h = turn_facts (λ place h ts. none_there ts) zero no_room (λ h. refl) (λ h ts y none e. no_ok _ _ e) k h
+  turns_together zero k h = turn_facts (λ h ts. none_there ts) (λ place h ts. none_there ts) zero no_room no_room (λ h. refl) k h
   turns_together (suc r) k h =
-      turn_facts (λ place h ts. stmt_with (event_at r) (block_at r) (turn_at r) r place h ts) (suc r)
+      turn_facts (event_at r) (λ place h ts. stmt_with (event_at r) (block_at r) (turn_at r) r place h ts) (suc r)
+      (λ some. deeper (EventFacts (event_at r)) r (events_together r))
       (λ some. deeper (StmtFacts (λ place h ts. stmt_with (event_at r) (block_at r) (turn_at r) r place h ts)) r (stmts_together (event_at r) (block_at r) (turn_at r) r (events_together r) (blocks_together r) (turns_together r)) Allowed)
-      (stmt_ends (event_at r) (block_at r) (turn_at r) r Allowed) (stmt_syncs (event_at r) (block_at r) (turn_at r) r) k h
+      (stmt_ends (event_at r) (block_at r) (turn_at r) r Allowed) k h
 
 pub stmts_facts : (room : ℕ) → StmtFacts (λ place h ts. stmt_at room place h ts) room
 unfolding stmt_at

@@ -1,16 +1,15 @@
 -- Lists of names that are bound: what is written, and where reading it stops.
-use Rattle.std.proofs.Common.{◌≡◌, ◌⊎◌, inl, inr, ℕ, zero, suc, ◌+◌, Bool, true, false, cond, ◌||◌, ltb, leb, List, [], ◌∷◌, ◌++◌, length, Some, None, Result, Ok, refl, sym, ap, ◌∙◌, arith, tests, length-append}
+use Rattle.std.proofs.Common.{◌≡◌, ◌⊎◌, inl, inr, ℕ, zero, suc, ◌+◌, true, false, cond, leb, List, [], ◌∷◌, ◌++◌, length, Result, Ok, refl, sym, ap, ◌∙◌, arith, tests, length-append}
 use Rattle.token.specs.Tokens.{Token, Fixed, Name}
 use Rattle.token.specs.declared.kind.Symbol.TheVariants.{Comma}
-use Rattle.phrase.specs.Steps.{Told, ◌>>=◌, stop_at, next_is, accept_at, Here, bound, bind_name_at, bind_names_at}
-use Rattle.phrase.specs.declared.fault.Problem.{Problem}
+use Rattle.phrase.specs.Steps.{Told, ◌>>=◌, stop_at, next_is, accept_at, Here, bound, bind_name_at, fourth_name_at, bind_names_at}
 use Rattle.phrase.specs.declared.fault.Problem.TheVariants.{TooMany}
 use Rattle.grammar.specs.Written.{more_names_tokens}
 use Rattle.grammar.proofs.Fronts.{is_next}
-use Rattle.faults.specs.Notes.{Note, SameFront, first_fault, plain, bind_note, names_after, more_names_notes, names_notes}
+use Rattle.faults.specs.Notes.{SameFront, plain, bind_note, names_after, more_names_notes, names_notes}
 use Rattle.faults.specs.Laws.{NoComma, Any}
-use Rattle.faults.proofs.Facts.{Shape, shape_one, shape_seq, shape_none, Lang, Facts, seq, then, under, turned, instead, nothing, gives, either, choose, next_same, one_clean, never_ok}
-use Rattle.faults.proofs.Words.{word, accept_facts, bound_name, bound_name_facts, is_twice, twice, many}
+use Rattle.faults.proofs.Facts.{Shape, shape_one, shape_seq, shape_none, Lang, Facts, seq, then, under, turned, nothing, gives, either, choose, next_same}
+use Rattle.faults.proofs.Words.{word, accept_facts, bound_name, bound_name_facts, fourth_name_facts, no_fourth}
 
 abbrev pub NamesRead : Type 0
 NamesRead = List ℕ × Here × List Token
@@ -40,7 +39,7 @@ module _ (room : ℕ) where
   tail_names list h = either (seq (word Comma room) (λ w. next_names list h)) (none_left list h)
 
   abbrev names_reader : ℕ → List ℕ → Here → List Token → Result NamesRead Told
-  names_reader zero list h us = cond (next_is Comma us) (accept_at room us >>= λ rest. bind_name_at room list h rest >>= λ d. stop_at TooMany rest) (Ok (list, h, us))
+  names_reader zero list h us = cond (next_is Comma us) (accept_at room us >>= λ rest. stop_at (fourth_name_at list h rest) rest) (Ok (list, h, us))
   names_reader (suc n) list h us = cond (next_is Comma us) (accept_at room us >>= λ rest. bind_name_at room list h rest >>= λ b. names_reader n (list ++ b.0 ∷ []) b.1 b.2) (Ok (list, h, us))
 
   abbrev Names : Type 0
@@ -76,33 +75,23 @@ module _ (room : ℕ) where
   names_joined list h [] x rest = refl
   names_joined list h (text ∷ texts) x rest = refl
 
-  -- the fourth name is one too many
-  full : (list : List ℕ) (h : Here) (text : List ℕ) → length list ≡ 3 → first_fault (bind_note room list h text ∷ []) ≡ None → ⊥
-  full list h text three clean = at_twice (is_twice room list h text) refl
-    where
-      is_long : (b : Bool) → (b || leb 3 (length list)) ≡ true
-      is_long true = refl
-      is_long false = (let n = length list in let e : leb 3 n ≡ true = search (arith, tests) in e)
-
-      no : (p : Problem) → bind_note room list h text ≡ Some (p, 0) → ⊥
-      no p e = (let same : ◌≡◌ {A = Note} None (Some (p, 0)) = sym (one_clean (bind_note room list h text) clean) ∙ e in absurd cc)
-
-      at_twice : (b : Bool) → is_twice room list h text ≡ b → ⊥
-      at_twice true e = no _ (twice room list h text e)
-      at_twice false e = no _ (many room list h text e (is_long (ltb 32 (length text))))
-
-  fourth_is : (list : List ℕ) (h : Here) → length list ≡ 3 → (rest : List Token) → (bind_name_at room list h rest >>= λ d. stop_at {A = NamesRead} TooMany []) ≡ (bind_name_at room list h rest >>= λ d. stop_at {A = NamesRead} TooMany rest)
-  fourth_is list h three rest = never_ok (bound_name room list h) (λ ts. bind_name_at room list h ts) (bound_name_facts room list h) (λ text clean. full list h text three clean) rest (λ d. stop_at TooMany []) (λ d. stop_at TooMany rest)
-
   tail_reads : (f : List Token → Result NamesRead Told) (list : List ℕ) (h : Here) → Facts Any (next_names list h) f → Facts Any (tail_names list h) (λ us. cond (next_is Comma us) (accept_at room us >>= f) (Ok (list, h, us)))
   tail_reads f list h F =
       choose (next_is Comma) (next_same Comma) (seq (word Comma room) (λ w. next_names list h)) (none_left list h) (λ us. accept_at room us >>= f) (λ us. Ok (list, h, us)) (λ w rest e. is_next Comma _) (λ w rest e. e)
       (then (word Comma room) (λ w. next_names list h) (λ ts. accept_at room ts) f (accept_facts room Comma (λ ts p. p.1)) (λ w x c. F))
       (under (none_left list h) (λ us. Ok (list, h, us)) (λ ts p. p.1) (gives NoComma (λ x rest. (x, h, rest)) list))
 
-  fourth_reads : (list : List ℕ) (h : Here) → length list ≡ 3 → Facts Any (next_names list h) (λ rest. bind_name_at room list h rest >>= λ d. stop_at TooMany rest)
-  fourth_reads list h three = instead (next_names list h) (λ rest. bind_name_at room list h rest >>= λ d. stop_at TooMany []) _ (fourth_is list h three)
-      (then (bound_name room list h) (λ text. more_names room (list ++ (bound h text).0 ∷ []) (bound h text).1) (λ ts. bind_name_at room list h ts) (λ d. stop_at TooMany []) (bound_name_facts room list h) (λ text x clean. absurd (full list h text three clean)))
+  full : (list : List ℕ) → length list ≡ 3 → leb 3 (length list) ≡ true
+  full list three = (let n = length list in let e : leb 3 n ≡ true = search (arith, tests) in e)
+
+  few : (n : ℕ) (list : List ℕ) → suc n + length list ≡ 3 → leb 3 (length list) ≡ false
+  few n list three = (let m = length list in let e : leb 3 m ≡ false = search (arith, tests) in e)
+
+  -- the fourth name is one too many
+  fourth_reads : (list : List ℕ) (h : Here) → length list ≡ 3 → Facts Any (next_names list h) (λ rest. stop_at (fourth_name_at list h rest) rest)
+  fourth_reads list h three =
+      then (bound_name room list h) (λ text. more_names room (list ++ (bound h text).0 ∷ []) (bound h text).1) (λ ts. stop_at (fourth_name_at list h ts) ts) (λ d. stop_at TooMany []) (fourth_name_facts room list h (full list three))
+      (λ text x clean. absurd (no_fourth room list h text (full list three) clean))
 
   more_names_facts : (n : ℕ) (list : List ℕ) (h : Here) → n + length list ≡ 3 → Facts Any (more_names room list h) (names_reader n list h)
   more_names_facts zero list h three = turned (tail_names list h) (more_names room list h) (names_reader 0 list h) (names_reader 0 list h) (record {
@@ -115,7 +104,7 @@ module _ (room : ℕ) where
     value = λ w x. x;
     oks = λ ts w x rest e. e ∙ ap (λ (y : NamesRead). Ok y) (names_joined list h w x rest);
     errs = λ ts t e. e;
-  }) (tail_reads (λ rest. bind_name_at room list h rest >>= λ d. stop_at TooMany rest) list h (fourth_reads list h (omega (arith, three))))
+  }) (tail_reads (λ rest. stop_at (fourth_name_at list h rest) rest) list h (fourth_reads list h (omega (arith, three))))
   more_names_facts (suc n) list h three = turned (tail_names list h) (more_names room list h) (names_reader (suc n) list h) (names_reader (suc n) list h) (record {
     to = to_names;
     spell_to = names_spell_to list h;
@@ -127,7 +116,7 @@ module _ (room : ℕ) where
     oks = λ ts w x rest e. e ∙ ap (λ (y : NamesRead). Ok y) (names_joined list h w x rest);
     errs = λ ts t e. e;
   }) (tail_reads (λ rest. bind_name_at room list h rest >>= λ b. names_reader n (list ++ b.0 ∷ []) b.1 b.2) list h
-      (then (bound_name room list h) (λ text. more_names room (list ++ (bound h text).0 ∷ []) (bound h text).1) (λ ts. bind_name_at room list h ts) (λ b. names_reader n (list ++ b.0 ∷ []) b.1 b.2) (bound_name_facts room list h)
+      (then (bound_name room list h) (λ text. more_names room (list ++ (bound h text).0 ∷ []) (bound h text).1) (λ ts. bind_name_at room list h ts) (λ b. names_reader n (list ++ b.0 ∷ []) b.1 b.2) (bound_name_facts room list h (few n list three))
       (λ text x clean. more_names_facts n (list ++ (bound h text).0 ∷ []) (bound h text).1 (let v = (bound h text).0 in let e : length (list ++ v ∷ []) ≡ length list + 1 = length-append list (v ∷ []) in omega (arith, three, e)))))
 
 pub names_shape : (text : List ℕ) (texts : List (List ℕ)) (room : ℕ) (h : Here) → Shape (λ r. Name text ∷ more_names_tokens texts r) (names_notes room h text texts)
@@ -158,5 +147,5 @@ names_facts room h = turned (next_names room [] h) (names_lang room h) (λ ts. b
   value = λ w x. x;
   oks = λ ts w x rest e. e;
   errs = λ ts t e. e;
-}) (then (bound_name room [] h) (λ text. more_names room ((bound h text).0 ∷ []) (bound h text).1) (λ ts. bind_name_at room [] h ts) (λ a. names_reader room 2 (a.0 ∷ []) a.1 a.2) (bound_name_facts room [] h)
+}) (then (bound_name room [] h) (λ text. more_names room ((bound h text).0 ∷ []) (bound h text).1) (λ ts. bind_name_at room [] h ts) (λ a. names_reader room 2 (a.0 ∷ []) a.1 a.2) (bound_name_facts room [] h refl)
     (λ text x clean. more_names_facts room 2 ((bound h text).0 ∷ []) (bound h text).1 refl))

@@ -1,5 +1,5 @@
 -- Statements and blocks: what is written, and where reading it stops.
-use Rattle.std.proofs.Common.{◌≡◌, inl, inr, ⊎_elim, ℕ, suc, ◌+◌, ◌-◌, ◌<◌, ◌≤◌, Bool, true, false, cond, List, [], ◌∷◌, ◌++◌, length, Option, Some, None, Result, Ok, Err, is_some, refl, sym, ap, ◌∙◌, arith, append_assoc, length-append}
+use Rattle.std.proofs.Common.{◌≡◌, inl, inr, ⊎_elim, ℕ, suc, ◌+◌, ◌-◌, ◌<◌, ◌≤◌, Bool, true, false, cond, ◌||◌, List, [], ◌∷◌, ◌++◌, length, Option, Some, None, Result, Ok, Err, is_some, refl, sym, ap, ap₂, ◌∙◌, arith, append_assoc, length-append}
 use Rattle.token.specs.Tokens.{Token, Fixed, Name, Number}
 use Rattle.token.specs.Tokens as tokens
 use Rattle.token.specs.declared.kind.Symbol.TheVariants.{Let, Print, Sync, If, Else, Loop, Forever, End, Semicolon, OpenBrace, CloseBrace, Equal, Arrow}
@@ -11,13 +11,13 @@ use Rattle.phrase.specs.declared.fault.Problem.TheVariants.{Syntax}
 use Rattle.grammar.specs.Written as written
 use Rattle.grammar.specs.Written.{expr_tokens, more_names_tokens, event_tokens, stmt_tokens, body_tokens, block_tokens}
 use Rattle.grammar.proofs.Fronts.{is_next}
-use Rattle.block.specs.Blocks.{body, ReadsEvent, ReadsBlock, ReadsStmt, ReadsTurn, synced_with, let_at, print_at, end_at, received_with, branch_with, times_at, counted_with, forever_with, are_allowed, stmt_with, stmt_step, stmts_with}
+use Rattle.block.specs.Blocks.{body, ReadsEvent, ReadsBlock, ReadsStmt, ReadsTurn, synced_with, sync_with, let_at, print_at, end_at, branch_with, times_at, counted_with, forever_with, are_allowed, stmt_with, stmt_step, stmts_with}
 use Rattle.block.specs.declared.process.Loops.{Loops as Place}
 use Rattle.block.specs.declared.process.Loops.TheVariants.{Allowed, Forbidden}
 use Rattle.faults.specs.Laws.{Any, NoComma, NoSign}
 use Rattle.faults.specs.Notes.{Note, SameFront, plain, names_after, expr_notes, names_notes, test_notes, bind_note, more_names_notes}
 use Rattle.faults.specs.BlockNotes.{loop_note, uncounted, event_after, stmt_after, block_after, begins_with_sync, if_no_sync, received_notes, event_notes, stmt_notes, body_notes}
-use Rattle.faults.proofs.Facts.{Shape, Lang, Facts, Bad, seq, bind, then, under, turned, instead, giving, give, either, neither, choose, or_stop, next_same, stops_at_once, bad_at_once}
+use Rattle.faults.proofs.Facts.{Shape, Lang, Facts, Bad, seq, bind, then, under, turned, instead, giving, give, either, neither, choose, or_stop, LooksInFront, next_same, stops_at_once, bad_at_once}
 use Rattle.faults.proofs.Words.{accept_both, word, accept_facts, expect_facts, number, number_at_room, number_facts, bound_name, bound_name_facts}
 use Rattle.faults.proofs.Loops.{spell_all, notes_all, after_all, all_lang, all_facts, same_steps}
 use Rattle.faults.proofs.Exprs.{sign_ends, name_looks, expr_lang, expr_facts}
@@ -97,7 +97,7 @@ module _ (room : ℕ) (h : Here) where
       then (word Let room) (λ w. seq (bound_name room [] h) (λ n. seq (word Equal room) (λ v. seq (expr_lang room (bound h n).1) (λ e. closed (bound h n).1)))) (λ ts. accept_at room ts)
       (λ rest. bind_name_at room [] h rest >>= λ n. expect_at room Equal n.2 >>= λ rest. expr_at room n.1 rest >>= λ v. expect_at room Semicolon v.1 >>= λ rest. Ok (trees.Lets n.0 v.0, n.1, rest)) (accept_facts room Let is)
       (λ w x c. then (bound_name room [] h) (λ n. seq (word Equal room) (λ v. seq (expr_lang room (bound h n).1) (λ e. closed (bound h n).1))) (λ ts. bind_name_at room [] h ts)
-      (λ n. expect_at room Equal n.2 >>= λ rest. expr_at room n.1 rest >>= λ v. expect_at room Semicolon v.1 >>= λ rest. Ok (trees.Lets n.0 v.0, n.1, rest)) (bound_name_facts room [] h)
+      (λ n. expect_at room Equal n.2 >>= λ rest. expr_at room n.1 rest >>= λ v. expect_at room Semicolon v.1 >>= λ rest. Ok (trees.Lets n.0 v.0, n.1, rest)) (bound_name_facts room [] h refl)
       (λ n y c'.
       let i = (bound h n).0 in
       let g = (bound h n).1 in
@@ -310,29 +310,118 @@ module _ (turn : ReadsTurn) (room : ℕ) (h : Here) (turns : (k : ℕ) → Facts
   loops_facts Allowed = loops_reads
   loops_facts Forbidden = forbidden_facts room h
 
+-- A SYNC, AND THE NAMES THAT ITS RESULT IS BOUND TO
+
+abbrev pub SyncRead : Type 0
+SyncRead = (Option (List ℕ) × trees.Event) × Here × List Token
+
+abbrev pub named_lang : Bool → ℕ → Here → Lang (Option (List ℕ) × trees.Event) SyncRead Any
+named_lang loops room h = record {
+  W = List (List ℕ) × written.Event;
+  default = ([], written.Never);
+  spell = λ w. stmt_tokens (written.Sync w.0 w.1);
+  notes = λ w. stmt_notes loops room h (written.Sync w.0 w.1);
+  join = λ w x rest. (x, stmt_after h (written.Sync w.0 w.1), rest);
+  shape = λ w. stmt_shape (written.Sync w.0 w.1) loops room h;
+}
+
+module _ (event : ReadsEvent) (room : ℕ) (events : (h : Here) → Facts Any (event_lang room h) (event h)) (loops : Bool) (h : Here) where
+  abbrev synced : Here → Lang (Option (List ℕ) × trees.Event) SyncRead Any
+  synced g = giving (sync_lang event room events g) (λ w x rest. (x, after_sync event room events g w.1.0, rest))
+
+  synced_facts : {P : List Token → Type 0} → Facts P (synced h) (λ ts. synced_with event room h ts >>= λ e. Ok ((None, e.0), e.1, e.2))
+  synced_facts = give (sync_lang event room events h) (λ w x rest. (x, after_sync event room events h w.1.0, rest)) (λ ts. synced_with event room h ts) (λ e. ((None, e.0), e.1, e.2)) (λ w e. (None, e)) (λ w e rest. refl) (sync_facts event room events h)
+
+  abbrev received_lang : Lang (Option (List ℕ) × trees.Event) SyncRead Any
+  received_lang = seq (names_lang room h) (λ ns. seq (word Arrow room) (λ v. synced (names_after h (ns.0 ∷ ns.1))))
+
+  abbrev received_reader : List Token → Result SyncRead Told
+  received_reader ts = bind_names_at room h ts >>= λ n. expect_at room Arrow n.2 >>= λ rest. synced_with event room n.1 rest >>= λ e. Ok ((Some n.0, e.0), e.1, e.2)
+
+  received_facts : {P : List Token → Type 0} → Facts P received_lang received_reader
+  received_facts =
+      bind (names_lang room h) (λ ns. seq (word Arrow room) (λ v. synced (names_after h (ns.0 ∷ ns.1)))) (λ ts. bind_names_at room h ts)
+      (λ n. expect_at room Arrow n.2 >>= λ rest. synced_with event room n.1 rest >>= λ e. Ok ((Some n.0, e.0), e.1, e.2)) comma_looks (λ w v rest e. arrow_ends _) (names_facts room h)
+      (λ ns x c.
+      let g = names_after h (ns.0 ∷ ns.1) in
+      then (word Arrow room) (λ v. synced g) (λ ts. expect_at room Arrow ts) (λ rest. synced_with event room g rest >>= λ e. Ok ((Some x, e.0), e.1, e.2)) (expect_facts room Arrow)
+      (λ v y c'. give (sync_lang event room events g) (λ w x rest. (x, after_sync event room events g w.1.0, rest)) (λ ts. synced_with event room g ts) (λ e. ((Some x, e.0), e.1, e.2)) (λ w e. (Some x, e)) (λ w e rest. refl) (sync_facts event room events g)))
+
+  abbrev sync_parts : Lang (Option (List ℕ) × trees.Event) SyncRead Any
+  sync_parts = either (synced h) received_lang
+
+  name_first : (w : received_lang.W) (rest : List Token) → next_is Sync (received_lang.spell w rest) ≡ false
+  unfolding next_is
+  name_first w rest = refl
+
+  parts_facts : {P : List Token → Type 0} → Facts P sync_parts (λ ts. sync_with event room h ts)
+  unfolding sync_with
+  parts_facts = choose (next_is Sync) (next_same Sync) (synced h) received_lang (λ ts. synced_with event room h ts >>= λ e. Ok ((None, e.0), e.1, e.2)) received_reader (λ w rest e. is_next Sync _) (λ w rest e. name_first w rest) synced_facts received_facts
+
+  abbrev names_in : sync_parts.W → List (List ℕ)
+  names_in (inl w) = []
+  names_in (inr w) = w.0.0 ∷ w.0.1
+
+  abbrev event_in : sync_parts.W → written.Event
+  event_in (inl w) = w.1.0
+  event_in (inr w) = w.1.1.1.0
+
+  abbrev from_sync : List (List ℕ) → written.Event → sync_parts.W
+  from_sync [] inner = inl (tt, (inner, tt))
+  from_sync (text ∷ texts) inner = inr ((text, texts), (tt, (tt, (inner, tt))))
+
+  sync_spell_to : (w : sync_parts.W) (rest : List Token) → stmt_tokens (written.Sync (names_in w) (event_in w)) rest ≡ sync_parts.spell w rest
+  sync_spell_to (inl w) rest = refl
+  sync_spell_to (inr w) rest = refl
+
+  sync_notes_to : (w : sync_parts.W) → stmt_notes loops room h (written.Sync (names_in w) (event_in w)) ≡ sync_parts.notes w
+  unfolding stmt_notes received_notes
+  sync_notes_to (inl w) = refl
+  sync_notes_to (inr w) = append_assoc _ (plain room ∷ []) _
+
+  sync_spell_from : (names : List (List ℕ)) (inner : written.Event) (rest : List Token) → stmt_tokens (written.Sync names inner) rest ≡ sync_parts.spell (from_sync names inner) rest
+  sync_spell_from [] inner rest = refl
+  sync_spell_from (text ∷ texts) inner rest = refl
+
+  sync_notes_from : (names : List (List ℕ)) (inner : written.Event) → stmt_notes loops room h (written.Sync names inner) ≡ sync_parts.notes (from_sync names inner)
+  unfolding stmt_notes received_notes
+  sync_notes_from [] inner = refl
+  sync_notes_from (text ∷ texts) inner = append_assoc _ (plain room ∷ []) _
+
+  sync_joined : (names : List (List ℕ)) (inner : written.Event) (x : Option (List ℕ) × trees.Event) (rest : List Token) → sync_parts.join (from_sync names inner) x rest ≡ (x, stmt_after h (written.Sync names inner), rest)
+  unfolding stmt_after
+  sync_joined [] inner x rest = refl
+  sync_joined (text ∷ texts) inner x rest = refl
+
+  pub named_facts : {P : List Token → Type 0} → Facts P (named_lang loops room h) (λ ts. sync_with event room h ts)
+  named_facts = turned sync_parts (named_lang loops room h) (λ ts. sync_with event room h ts) (λ ts. sync_with event room h ts) (record {
+    to = λ w. (names_in w, event_in w);
+    spell_to = sync_spell_to;
+    notes_to = sync_notes_to;
+    from = λ w. from_sync w.0 w.1;
+    spell_from = λ w rest. sync_spell_from w.0 w.1 rest;
+    notes_from = λ w. sync_notes_from w.0 w.1;
+    value = λ w x. x;
+    oks = λ ts w x rest e. e ∙ ap (λ (y : SyncRead). Ok y) (sync_joined w.0 w.1 x rest);
+    errs = λ ts t e. e;
+  }) parts_facts
+
 -- STATEMENTS WITH OTHERS INSIDE
+
+begins_sync : List Token → Bool
+begins_sync ts = is_some (name_at ts) || next_is Sync ts
+
+begins_looks : LooksInFront begins_sync
+unfolding begins_sync
+begins_looks a b h = ap₂ (λ (x y : Bool). x || y) (name_looks a b h) (next_same Sync a b h)
+
+begins_named : (names : List (List ℕ)) (event : written.Event) (rest : List Token) → begins_sync (stmt_tokens (written.Sync names event) rest) ≡ true
+unfolding begins_sync next_is
+begins_named [] event rest = refl
+begins_named (text ∷ texts) event rest = refl
 
 module _ (event : ReadsEvent) (block : ReadsBlock) (turn : ReadsTurn) (room : ℕ) (place : Place) (events : (h : Here) → Facts Any (event_lang room h) (event h))
     (blocks : (h : Here) → Facts Any (block_lang (are_allowed place) room h) (block place h)) (h : Here) (turns : (k : ℕ) → Facts Any (turn_lang (suc k) room h) (λ us. turn (k + length us) h us)) where
-  abbrev synced : Here → Lang trees.Stmt StmtRead Any
-  synced g = giving (sync_lang event room events g) (λ w x rest. (x, after_sync event room events g w.1.0, rest))
-
-  synced_facts : {P : List Token → Type 0} → Facts P (synced h) (λ ts. synced_with event room h ts >>= λ e. Ok (trees.Syncs None e.0, e.1, e.2))
-  synced_facts = give (sync_lang event room events h) (λ w x rest. (x, after_sync event room events h w.1.0, rest)) (λ ts. synced_with event room h ts) (λ e. (trees.Syncs None e.0, e.1, e.2)) (λ w e. trees.Syncs None e) (λ w e rest. refl) (sync_facts event room events h)
-
-  abbrev received_lang : Lang trees.Stmt StmtRead Any
-  received_lang = seq (names_lang room h) (λ ns. seq (word Arrow room) (λ v. synced (names_after h (ns.0 ∷ ns.1))))
-
-  received_facts : {P : List Token → Type 0} → Facts P received_lang (λ ts. received_with event room h ts)
-  unfolding received_with
-  received_facts =
-      bind (names_lang room h) (λ ns. seq (word Arrow room) (λ v. synced (names_after h (ns.0 ∷ ns.1)))) (λ ts. bind_names_at room h ts)
-      (λ n. expect_at room Arrow n.2 >>= λ rest. synced_with event room n.1 rest >>= λ e. Ok (trees.Syncs (Some n.0) e.0, e.1, e.2)) comma_looks (λ w v rest e. arrow_ends _) (names_facts room h)
-      (λ ns x c.
-      let g = names_after h (ns.0 ∷ ns.1) in
-      then (word Arrow room) (λ v. synced g) (λ ts. expect_at room Arrow ts) (λ rest. synced_with event room g rest >>= λ e. Ok (trees.Syncs (Some x) e.0, e.1, e.2)) (expect_facts room Arrow)
-      (λ v y c'. give (sync_lang event room events g) (λ w x rest. (x, after_sync event room events g w.1.0, rest)) (λ ts. synced_with event room g ts) (λ e. (trees.Syncs (Some x) e.0, e.1, e.2)) (λ w e. trees.Syncs (Some x) e) (λ w e rest. refl) (sync_facts event room events g)))
-
   abbrev loops : Bool
   loops = are_allowed place
 
@@ -357,16 +446,21 @@ module _ (event : ReadsEvent) (block : ReadsBlock) (turn : ReadsTurn) (room : �
       then (word Else room) (λ v. second_lang g) (λ ts. expect_at room Else ts) (λ rest. block place g rest >>= λ n. Ok (trees.Branches y z n.0, n.1, n.2)) (expect_facts room Else)
       (λ v u k. give (block_lang loops room g) (λ w x rest. (x, block_after g w, rest)) (block place g) (λ n. (trees.Branches y z n.0, n.1, n.2)) (λ w n. trees.Branches y z n) (λ w n rest. refl) (blocks g))))))
 
+  abbrev sync_stmt : Lang trees.Stmt StmtRead Any
+  sync_stmt = giving (named_lang loops room h) (λ w x rest. (x, stmt_after h (written.Sync w.0 w.1), rest))
+
+  sync_stmt_facts : {P : List Token → Type 0} → Facts P sync_stmt (λ ts. sync_with event room h ts >>= λ s. Ok (trees.Syncs s.0.0 s.0.1, s.1, s.2))
+  sync_stmt_facts =
+      give (named_lang loops room h) (λ w x rest. (x, stmt_after h (written.Sync w.0 w.1), rest)) (λ ts. sync_with event room h ts) (λ s. (trees.Syncs s.0.0 s.0.1, s.1, s.2)) (λ w s. trees.Syncs s.0 s.1) (λ w s rest. refl)
+      (named_facts event room events loops h)
+
   -- ONE OF ALL
 
-  abbrev langs5 : Lang trees.Stmt StmtRead Any
-  langs5 = either (end_lang room h) (loops_lang loops room h)
-
   abbrev langs4 : Lang trees.Stmt StmtRead Any
-  langs4 = either branch_lang langs5
+  langs4 = either (end_lang room h) (loops_lang loops room h)
 
   abbrev langs3 : Lang trees.Stmt StmtRead Any
-  langs3 = either (synced h) langs4
+  langs3 = either branch_lang langs4
 
   abbrev langs2 : Lang trees.Stmt StmtRead Any
   langs2 = either (print_lang room h) langs3
@@ -375,19 +469,16 @@ module _ (event : ReadsEvent) (block : ReadsBlock) (turn : ReadsTurn) (room : �
   langs1 = either (let_lang room h) langs2
 
   abbrev langs0 : Lang trees.Stmt StmtRead Any
-  langs0 = either received_lang langs1
-
-  abbrev reader6 : List Token → Result StmtRead Told
-  reader6 ts = cond (are_allowed place) (cond (next_is Loop ts) (counted_with turn room h ts) (cond (next_is Forever ts) (forever_with turn room h ts) (stop_at Syntax ts))) (stop_at Syntax ts)
+  langs0 = either sync_stmt langs1
 
   abbrev reader5 : List Token → Result StmtRead Told
-  reader5 ts = cond (next_is End ts) (end_at room ts >>= λ s. Ok (s.0, h, s.1)) (reader6 ts)
+  reader5 ts = cond (are_allowed place) (cond (next_is Loop ts) (counted_with turn room h ts) (cond (next_is Forever ts) (forever_with turn room h ts) (stop_at Syntax ts))) (stop_at Syntax ts)
 
   abbrev reader4 : List Token → Result StmtRead Told
-  reader4 ts = cond (next_is If ts) (branch_with block room place h ts) (reader5 ts)
+  reader4 ts = cond (next_is End ts) (end_at room ts >>= λ s. Ok (s.0, h, s.1)) (reader5 ts)
 
   abbrev reader3 : List Token → Result StmtRead Told
-  reader3 ts = cond (next_is Sync ts) (synced_with event room h ts >>= λ e. Ok (trees.Syncs None e.0, e.1, e.2)) (reader4 ts)
+  reader3 ts = cond (next_is If ts) (branch_with block room place h ts) (reader4 ts)
 
   abbrev reader2 : List Token → Result StmtRead Told
   reader2 ts = cond (next_is Print ts) (print_at room h ts >>= λ s. Ok (s.0, h, s.1)) (reader3 ts)
@@ -396,43 +487,36 @@ module _ (event : ReadsEvent) (block : ReadsBlock) (turn : ReadsTurn) (room : �
   reader1 ts = cond (next_is Let ts) (let_at room h ts) (reader2 ts)
 
   abbrev reader0 : List Token → Result StmtRead Told
-  reader0 ts = cond (is_some (name_at ts)) (received_with event room h ts) (reader1 ts)
+  reader0 ts = cond (is_some (name_at ts) || next_is Sync ts) (sync_with event room h ts >>= λ s. Ok (trees.Syncs s.0.0 s.0.1, s.1, s.2)) (reader1 ts)
 
-  others0 : (w : (langs1).W) (rest : List Token) → is_some (name_at ((langs1).spell w rest)) ≡ false
-  unfolding next_is
-  others0 = neither (λ ts. is_some (name_at ts)) (let_lang room h) langs2 (λ w rest. refl) (neither (λ ts. is_some (name_at ts)) (print_lang room h) langs3 (λ w rest. refl) (neither (λ ts. is_some (name_at ts)) (synced h) langs4 (λ w rest. refl) (neither (λ ts. is_some (name_at ts)) branch_lang langs5 (λ w rest. refl) (neither (λ ts. is_some (name_at ts)) (end_lang room h) (loops_lang loops room h) (λ w rest. refl) (neither (λ ts. is_some (name_at ts)) (counted_lang loops room h) (forever_lang loops room h) (λ w rest. refl) (λ w rest. refl))))))
+  others0 : (w : (langs1).W) (rest : List Token) → begins_sync ((langs1).spell w rest) ≡ false
+  unfolding begins_sync next_is
+  others0 = neither begins_sync (let_lang room h) langs2 (λ w rest. refl) (neither begins_sync (print_lang room h) langs3 (λ w rest. refl) (neither begins_sync branch_lang langs4 (λ w rest. refl) (neither begins_sync (end_lang room h) (loops_lang loops room h) (λ w rest. refl) (neither begins_sync (counted_lang loops room h) (forever_lang loops room h) (λ w rest. refl) (λ w rest. refl)))))
 
   others1 : (w : (langs2).W) (rest : List Token) → next_is Let ((langs2).spell w rest) ≡ false
   unfolding next_is
-  others1 = neither (next_is Let) (print_lang room h) langs3 (λ w rest. refl) (neither (next_is Let) (synced h) langs4 (λ w rest. refl) (neither (next_is Let) branch_lang langs5 (λ w rest. refl) (neither (next_is Let) (end_lang room h) (loops_lang loops room h) (λ w rest. refl) (neither (next_is Let) (counted_lang loops room h) (forever_lang loops room h) (λ w rest. refl) (λ w rest. refl)))))
+  others1 = neither (next_is Let) (print_lang room h) langs3 (λ w rest. refl) (neither (next_is Let) branch_lang langs4 (λ w rest. refl) (neither (next_is Let) (end_lang room h) (loops_lang loops room h) (λ w rest. refl) (neither (next_is Let) (counted_lang loops room h) (forever_lang loops room h) (λ w rest. refl) (λ w rest. refl))))
 
   others2 : (w : (langs3).W) (rest : List Token) → next_is Print ((langs3).spell w rest) ≡ false
   unfolding next_is
-  others2 = neither (next_is Print) (synced h) langs4 (λ w rest. refl) (neither (next_is Print) branch_lang langs5 (λ w rest. refl) (neither (next_is Print) (end_lang room h) (loops_lang loops room h) (λ w rest. refl) (neither (next_is Print) (counted_lang loops room h) (forever_lang loops room h) (λ w rest. refl) (λ w rest. refl))))
+  others2 = neither (next_is Print) branch_lang langs4 (λ w rest. refl) (neither (next_is Print) (end_lang room h) (loops_lang loops room h) (λ w rest. refl) (neither (next_is Print) (counted_lang loops room h) (forever_lang loops room h) (λ w rest. refl) (λ w rest. refl)))
 
-  others3 : (w : (langs4).W) (rest : List Token) → next_is Sync ((langs4).spell w rest) ≡ false
+  others3 : (w : (langs4).W) (rest : List Token) → next_is If ((langs4).spell w rest) ≡ false
   unfolding next_is
-  others3 = neither (next_is Sync) branch_lang langs5 (λ w rest. refl) (neither (next_is Sync) (end_lang room h) (loops_lang loops room h) (λ w rest. refl) (neither (next_is Sync) (counted_lang loops room h) (forever_lang loops room h) (λ w rest. refl) (λ w rest. refl)))
+  others3 = neither (next_is If) (end_lang room h) (loops_lang loops room h) (λ w rest. refl) (neither (next_is If) (counted_lang loops room h) (forever_lang loops room h) (λ w rest. refl) (λ w rest. refl))
 
-  others4 : (w : (langs5).W) (rest : List Token) → next_is If ((langs5).spell w rest) ≡ false
+  others4 : (w : ((loops_lang loops room h)).W) (rest : List Token) → next_is End (((loops_lang loops room h)).spell w rest) ≡ false
   unfolding next_is
-  others4 = neither (next_is If) (end_lang room h) (loops_lang loops room h) (λ w rest. refl) (neither (next_is If) (counted_lang loops room h) (forever_lang loops room h) (λ w rest. refl) (λ w rest. refl))
+  others4 = neither (next_is End) (counted_lang loops room h) (forever_lang loops room h) (λ w rest. refl) (λ w rest. refl)
 
-  others5 : (w : ((loops_lang loops room h)).W) (rest : List Token) → next_is End (((loops_lang loops room h)).spell w rest) ≡ false
-  unfolding next_is
-  others5 = neither (next_is End) (counted_lang loops room h) (forever_lang loops room h) (λ w rest. refl) (λ w rest. refl)
-
-  reads6 : {P : List Token → Type 0} → Facts P (loops_lang loops room h) reader6
-  reads6 = loops_facts turn room h turns place
-
-  reads5 : {P : List Token → Type 0} → Facts P langs5 reader5
-  reads5 = choose (next_is End) (next_same End) (end_lang room h) (loops_lang loops room h) (λ ts. end_at room ts >>= λ s. Ok (s.0, h, s.1)) reader6 (λ w rest e. is_next End _) (λ w rest e. others5 w rest) (end_facts room h (λ ts p. p.1)) reads6
+  reads5 : {P : List Token → Type 0} → Facts P (loops_lang loops room h) reader5
+  reads5 = loops_facts turn room h turns place
 
   reads4 : {P : List Token → Type 0} → Facts P langs4 reader4
-  reads4 = choose (next_is If) (next_same If) branch_lang langs5 (λ ts. branch_with block room place h ts) reader5 (λ w rest e. is_next If _) (λ w rest e. others4 w rest) (branch_facts (λ ts p. p.1)) reads5
+  reads4 = choose (next_is End) (next_same End) (end_lang room h) (loops_lang loops room h) (λ ts. end_at room ts >>= λ s. Ok (s.0, h, s.1)) reader5 (λ w rest e. is_next End _) (λ w rest e. others4 w rest) (end_facts room h (λ ts p. p.1)) reads5
 
   reads3 : {P : List Token → Type 0} → Facts P langs3 reader3
-  reads3 = choose (next_is Sync) (next_same Sync) (synced h) langs4 (λ ts. synced_with event room h ts >>= λ e. Ok (trees.Syncs None e.0, e.1, e.2)) reader4 (λ w rest e. is_next Sync _) (λ w rest e. others3 w rest) synced_facts reads4
+  reads3 = choose (next_is If) (next_same If) branch_lang langs4 (λ ts. branch_with block room place h ts) reader4 (λ w rest e. is_next If _) (λ w rest e. others3 w rest) (branch_facts (λ ts p. p.1)) reads4
 
   reads2 : {P : List Token → Type 0} → Facts P langs2 reader2
   reads2 = choose (next_is Print) (next_same Print) (print_lang room h) langs3 (λ ts. print_at room h ts >>= λ s. Ok (s.0, h, s.1)) reader3 (λ w rest e. is_next Print _) (λ w rest e. others2 w rest) (print_facts room h (λ ts p. p.1)) reads3
@@ -441,27 +525,26 @@ module _ (event : ReadsEvent) (block : ReadsBlock) (turn : ReadsTurn) (room : �
   reads1 = choose (next_is Let) (next_same Let) (let_lang room h) langs2 (λ ts. let_at room h ts) reader2 (λ w rest e. is_next Let _) (λ w rest e. others1 w rest) (let_facts room h (λ ts p. p.1)) reads2
 
   reads0 : {P : List Token → Type 0} → Facts P langs0 reader0
-  reads0 = choose (λ ts. is_some (name_at ts)) name_looks received_lang langs1 (λ ts. received_with event room h ts) reader1 (λ w rest e. refl) (λ w rest e. others0 w rest) received_facts reads1
+  unfolding begins_sync
+  reads0 = choose begins_sync begins_looks sync_stmt langs1 (λ ts. sync_with event room h ts >>= λ s. Ok (trees.Syncs s.0.0 s.0.1, s.1, s.2)) reader1 (λ w rest e. begins_named w.0 w.1 rest) (λ w rest e. others0 w rest) sync_stmt_facts reads1
 
   abbrev to_stmt : langs0.W → written.Stmt
-  to_stmt (inl w) = written.Sync (w.0.0 ∷ w.0.1) w.1.1.1.0
+  to_stmt (inl w) = written.Sync w.0 w.1
   to_stmt (inr (inl w)) = written.Let w.1.0 w.1.1.1.0
   to_stmt (inr (inr (inl w))) = written.Print w.1.0
-  to_stmt (inr (inr (inr (inl w)))) = written.Sync [] w.1.0
-  to_stmt (inr (inr (inr (inr (inl w))))) = written.If w.1.0 w.1.1.0 w.1.1.1.1
-  to_stmt (inr (inr (inr (inr (inr (inl w)))))) = written.End
-  to_stmt (inr (inr (inr (inr (inr (inr (inl w))))))) = written.Loop w.0 w.1
-  to_stmt (inr (inr (inr (inr (inr (inr (inr w))))))) = written.Forever w
+  to_stmt (inr (inr (inr (inl w)))) = written.If w.1.0 w.1.1.0 w.1.1.1.1
+  to_stmt (inr (inr (inr (inr (inl w))))) = written.End
+  to_stmt (inr (inr (inr (inr (inr (inl w)))))) = written.Loop w.0 w.1
+  to_stmt (inr (inr (inr (inr (inr (inr w)))))) = written.Forever w
 
   abbrev from_stmt : written.Stmt → langs0.W
   from_stmt (written.Let name value) = inr (inl (tt, (name, (tt, (value, tt)))))
   from_stmt (written.Print value) = inr (inr (inl (tt, (value, tt))))
-  from_stmt (written.Sync [] inner) = inr (inr (inr (inl (tt, (inner, tt)))))
-  from_stmt (written.Sync (text ∷ texts) inner) = inl ((text, texts), (tt, (tt, (inner, tt))))
-  from_stmt (written.If test first second) = inr (inr (inr (inr (inl (tt, (test, (first, (tt, second))))))))
-  from_stmt (written.Loop times body') = inr (inr (inr (inr (inr (inr (inl (times, body')))))))
-  from_stmt (written.Forever body') = inr (inr (inr (inr (inr (inr (inr body'))))))
-  from_stmt written.End = inr (inr (inr (inr (inr (inl (tt, tt))))))
+  from_stmt (written.Sync names inner) = inl (names, inner)
+  from_stmt (written.If test first second) = inr (inr (inr (inl (tt, (test, (first, (tt, second)))))))
+  from_stmt (written.Loop times body') = inr (inr (inr (inr (inr (inl (times, body'))))))
+  from_stmt (written.Forever body') = inr (inr (inr (inr (inr (inr body')))))
+  from_stmt written.End = inr (inr (inr (inr (inl (tt, tt)))))
 
   stmt_spell_to : (w : langs0.W) (rest : List Token) → stmt_tokens (to_stmt w) rest ≡ langs0.spell w rest
   stmt_spell_to (inl w) rest = refl
@@ -470,36 +553,32 @@ module _ (event : ReadsEvent) (block : ReadsBlock) (turn : ReadsTurn) (room : �
   stmt_spell_to (inr (inr (inr (inl w)))) rest = refl
   stmt_spell_to (inr (inr (inr (inr (inl w))))) rest = refl
   stmt_spell_to (inr (inr (inr (inr (inr (inl w)))))) rest = refl
-  stmt_spell_to (inr (inr (inr (inr (inr (inr (inl w))))))) rest = refl
-  stmt_spell_to (inr (inr (inr (inr (inr (inr (inr w))))))) rest = refl
+  stmt_spell_to (inr (inr (inr (inr (inr (inr w)))))) rest = refl
 
   stmt_notes_to : (w : langs0.W) → stmt_notes loops room h (to_stmt w) ≡ langs0.notes w
-  unfolding stmt_notes received_notes
-  stmt_notes_to (inl w) = append_assoc _ (plain room ∷ []) _
+  unfolding stmt_notes
+  stmt_notes_to (inl w) = refl
   stmt_notes_to (inr (inl w)) = refl
   stmt_notes_to (inr (inr (inl w))) = refl
   stmt_notes_to (inr (inr (inr (inl w)))) = refl
   stmt_notes_to (inr (inr (inr (inr (inl w))))) = refl
   stmt_notes_to (inr (inr (inr (inr (inr (inl w)))))) = refl
-  stmt_notes_to (inr (inr (inr (inr (inr (inr (inl w))))))) = refl
-  stmt_notes_to (inr (inr (inr (inr (inr (inr (inr w))))))) = refl
+  stmt_notes_to (inr (inr (inr (inr (inr (inr w)))))) = refl
 
   stmt_spell_from : (w : written.Stmt) (rest : List Token) → stmt_tokens w rest ≡ langs0.spell (from_stmt w) rest
   stmt_spell_from (written.Let name value) rest = refl
   stmt_spell_from (written.Print value) rest = refl
-  stmt_spell_from (written.Sync [] inner) rest = refl
-  stmt_spell_from (written.Sync (text ∷ texts) inner) rest = refl
+  stmt_spell_from (written.Sync names inner) rest = refl
   stmt_spell_from (written.If test first second) rest = refl
   stmt_spell_from (written.Loop times body') rest = refl
   stmt_spell_from (written.Forever body') rest = refl
   stmt_spell_from written.End rest = refl
 
   stmt_notes_from : (w : written.Stmt) → stmt_notes loops room h w ≡ langs0.notes (from_stmt w)
-  unfolding stmt_notes received_notes
+  unfolding stmt_notes
   stmt_notes_from (written.Let name value) = refl
   stmt_notes_from (written.Print value) = refl
-  stmt_notes_from (written.Sync [] inner) = refl
-  stmt_notes_from (written.Sync (text ∷ texts) inner) = append_assoc _ (plain room ∷ []) _
+  stmt_notes_from (written.Sync names inner) = refl
   stmt_notes_from (written.If test first second) = refl
   stmt_notes_from (written.Loop times body') = refl
   stmt_notes_from (written.Forever body') = refl
@@ -509,8 +588,7 @@ module _ (event : ReadsEvent) (block : ReadsBlock) (turn : ReadsTurn) (room : �
   unfolding stmt_after
   stmt_joined (written.Let name value) x rest = refl
   stmt_joined (written.Print value) x rest = refl
-  stmt_joined (written.Sync [] inner) x rest = refl
-  stmt_joined (written.Sync (text ∷ texts) inner) x rest = refl
+  stmt_joined (written.Sync names inner) x rest = refl
   stmt_joined (written.If test first second) x rest = refl
   stmt_joined (written.Loop times body') x rest = refl
   stmt_joined (written.Forever body') x rest = refl

@@ -1,27 +1,28 @@
 -- The block of a loop: it begins with a sync, or the loop's fault stands at its first token.
-use Rattle.std.proofs.Common.{◌≡◌, ◌⊎◌, inl, inr, ⊎_elim, ℕ, zero, suc, ◌+◌, ◌-◌, ◌<◌, Bool, true, false, cond, ◌||◌, List, [], ◌∷◌, ◌++◌, length, Option, Some, None, Result, Ok, Err, refl, sym, ap, ap₂, ◌∙◌, subst, arith}
+use Rattle.std.proofs.Common.{◌≡◌, ◌⊎◌, inl, inr, ⊎_elim, ℕ, zero, suc, ◌+◌, ◌-◌, ◌<◌, Bool, true, false, cond, ◌||◌, List, [], ◌∷◌, length, Some, Result, Ok, Err, refl, sym, ap, ◌∙◌, arith}
 use Rattle.token.specs.Tokens.{Token, Fixed}
 use Rattle.token.specs.declared.kind.Symbol.{Symbol}
 use Rattle.token.specs.declared.kind.Symbol.TheVariants.{Let, Print, If, Loop, Forever, End, OpenBrace, CloseBrace}
 use Rattle.syntax.specs.Trees as trees
 use Rattle.syntax.specs.declared.tree.Relation.TheVariants as relations
 use Rattle.syntax.specs.Trees.{Turn}
-use Rattle.phrase.specs.Steps.{Told, ◌>>=◌, if_some, next_is, accept_at, expect_at, Here}
+use Rattle.phrase.specs.Steps.{Told, ◌>>=◌, next_is, accept_at, expect_at, Here}
 use Rattle.phrase.specs.declared.fault.Problem.{Problem}
 use Rattle.phrase.specs.declared.fault.Problem.TheVariants.{Syntax, TooMany, LoopWithoutSync}
 use Rattle.grammar.specs.Written as written
 use Rattle.grammar.specs.Written.{stmt_tokens, body_tokens, block_tokens}
 use Rattle.grammar.proofs.Fronts.{accept_ok, expect_found}
-use Rattle.block.specs.Blocks.{ReadsStmt, is_no_sync, as_sync, no_sync, turn_rest_with, turn_with}
+use Rattle.block.specs.Blocks.{body, ReadsEvent, ReadsStmt, sync_with, stmts_with, is_no_sync, no_sync, turn_with}
 use Rattle.block.specs.declared.process.Loops.TheVariants.{Allowed}
 use Rattle.faults.specs.Laws.{Any}
-use Rattle.faults.specs.Notes.{Note, SameFront, first_fault, also, plain}
+use Rattle.faults.specs.Notes.{Note, SameFront, also, plain}
 use Rattle.faults.specs.BlockNotes.{loop_note, stmt_after, block_after, begins_with_sync, if_no_sync, stmt_notes, body_notes}
-use Rattle.faults.proofs.Facts.{Lang, Facts, Fine, Bad, Whole, Stops, Noted, Both, LooksInFront, seq, then, turned, instead, either, choose, next_same, one_clean, stops_at_once, bad_back, stops_back}
+use Rattle.faults.proofs.Facts.{Lang, Facts, Noted, Both, LooksInFront, seq, then, turned, either, choose, next_same, one_clean, bad_back, stops_back}
 use Rattle.faults.proofs.Words.{some_room, plain_left, no_next, first_is, word, expect_facts}
 use Rattle.faults.proofs.Lists.{also_shape}
-use Rattle.faults.proofs.Shapes.{turn_shape, stmt_shape, body_shape}
-use Rattle.faults.proofs.Stmts.{StmtRead, TurnRead, stmt_lang, turn_lang, body_lang, body_facts}
+use Rattle.faults.proofs.Shapes.{turn_shape, body_shape}
+use Rattle.faults.proofs.Events.{event_lang}
+use Rattle.faults.proofs.Stmts.{TurnRead, SyncRead, named_lang, named_facts, stmt_lang, turn_lang, body_lang, body_facts}
 
 -- BODIES THAT BEGIN WITH NO SYNC
 
@@ -153,142 +154,25 @@ loop_lang r back h = record {
 
 -- BODIES THAT BEGIN WITH A SYNC
 
--- a statement that is a sync
-pub record IsSync (x : trees.Stmt) : Type 0 where
-  pub sync : Option (List ℕ) × trees.Event
-  pub is : as_sync x ≡ Some sync
-
-record WritesSync (w : written.Stmt) : Type 0 where
-  names : List (List ℕ)
-  event : written.Event
-  is : w ≡ written.Sync names event
-
-writes_sync : (w : written.Stmt) (rest : List Token) → is_no_sync (stmt_tokens w rest) ≡ false → WritesSync w
-unfolding is_no_sync next_is
-writes_sync (written.Let name value) rest e = absurd cc
-writes_sync (written.Print value) rest e = absurd cc
-writes_sync (written.Sync names event) rest e = record { names = names; event = event; is = refl }
-writes_sync (written.If test first second) rest e = absurd cc
-writes_sync (written.Loop times body) rest e = absurd cc
-writes_sync (written.Forever body) rest e = absurd cc
-writes_sync written.End rest e = absurd cc
-
-abbrev SyncRead : Type 0
-SyncRead = (Option (List ℕ) × trees.Event) × Here × List Token
-
-abbrev sync_lang : ℕ → Here → Lang (Option (List ℕ) × trees.Event) SyncRead Any
-sync_lang r h = record {
-  W = List (List ℕ) × written.Event;
-  default = ([], written.Never);
-  spell = λ w. stmt_tokens (written.Sync w.0 w.1);
-  notes = λ w. stmt_notes true r h (written.Sync w.0 w.1);
-  join = λ w x rest. (x, stmt_after h (written.Sync w.0 w.1), rest);
-  shape = λ w. stmt_shape (written.Sync w.0 w.1) true r h;
-}
-
--- what reads a statement that is a sync where it begins as one
-abbrev pub SyncsRead : ReadsStmt → Type 0
-SyncsRead stmt = (h : Here) (ts : List Token) (y : StmtRead) → is_no_sync ts ≡ false → stmt Allowed h ts ≡ Ok y → IsSync y.0
-
 -- what is read behind the brace of a loop, from whose word on so many tokens are left
-abbrev behind_brace : ReadsStmt → ℕ → ℕ → Here → List Token → Result TurnRead Told
-behind_brace stmt room word h ts =
-    cond (is_no_sync ts) (accept_at (room - 1) ts >>= λ rest. no_sync word) (stmt Allowed h ts >>= λ first. if_some (as_sync first.0) (λ sync. turn_rest_with stmt room sync first.1 first.2) (no_sync word))
+abbrev behind_brace : ReadsEvent → ReadsStmt → ℕ → ℕ → Here → List Token → Result TurnRead Told
+behind_brace event stmt room word h ts =
+    cond (is_no_sync ts) (accept_at (room - 1) ts >>= λ rest. no_sync word)
+    (sync_with event (room - 1) h ts >>= λ first. stmts_with stmt Allowed first.1 first.2 >>= λ s. expect_at (room - 1) CloseBrace s.2 >>= λ rest. Ok (record { names = first.0.0; event = first.0.1; rest = body s.0 }, s.1, rest))
 
-module _ (stmt : ReadsStmt) (room back : ℕ) (stmts : (h : Here) → Facts Any (stmt_lang true (room - 1) h) (stmt Allowed h)) (ends : (h : Here) → stmt Allowed h [] ≡ Err (Syntax, 0)) (syncs : SyncsRead stmt) where
+module _ (event : ReadsEvent) (stmt : ReadsStmt) (room back : ℕ) (events : (h : Here) → Facts Any (event_lang (room - 1) h) (event h)) (stmts : (h : Here) → Facts Any (stmt_lang true (room - 1) h) (stmt Allowed h)) (ends : (h : Here) → stmt Allowed h [] ≡ Err (Syntax, 0)) where
   abbrev r : ℕ
   r = room - 1
 
-  abbrev as_read : ℕ → StmtRead → Result SyncRead Told
-  as_read word first = if_some (as_sync first.0) (λ sync. Ok (sync, first.1, first.2)) (no_sync word)
-
-  abbrev sync_reader : Here → List Token → Result SyncRead Told
-  sync_reader h ts = stmt Allowed h ts >>= as_read (back + length ts)
-
-  sync_read : (h : Here) (ts : List Token) (y : StmtRead) (s : IsSync y.0) → stmt Allowed h ts ≡ Ok y → sync_reader h ts ≡ Ok (s.sync, y.1, y.2)
-  sync_read h ts y s e = ap (λ (x : Result StmtRead Told). x >>= as_read (back + length ts)) e ∙ ap (λ (o : Option (Option (List ℕ) × trees.Event)). if_some o (λ sync. Ok (sync, y.1, y.2)) (no_sync (back + length ts))) s.is
-
-  sync_fails : (h : Here) (ts : List Token) (t : Told) → stmt Allowed h ts ≡ Err t → sync_reader h ts ≡ Err t
-  sync_fails h ts t e = ap (λ (x : Result StmtRead Told). x >>= as_read (back + length ts)) e
-
-  sync_reads : (h : Here) (w : (sync_lang r h).W) → Fine (sync_lang r h) (sync_reader h) w ⊎ Bad (sync_lang r h) (sync_reader h) w
-  sync_reads h w = ⊎_elim
-      (λ one.
-      let s = syncs h (stmt_tokens (written.Sync w.0 w.1) []) (one.value, stmt_after h (written.Sync w.0 w.1), []) (sync_starts w.0 w.1 []) (one.reads [] tt) in
-      inl (record { clean = one.clean; value = s.sync; reads = λ rest e. sync_read h (stmt_tokens (written.Sync w.0 w.1) rest) (one.value, stmt_after h (written.Sync w.0 w.1), rest) (record { sync = s.sync; is = s.is }) (one.reads rest tt) }))
-      (λ one. inr (record { told = one.told; is = one.is; fails = λ rest e. sync_fails h (stmt_tokens (written.Sync w.0 w.1) rest) _ (one.fails rest tt) }))
-      ((stmts h).reads (written.Sync w.0 w.1))
-
-  sync_whole : (h : Here) (ts : List Token) → is_no_sync ts ≡ false → Whole (stmt_lang true r h) ts → Whole (sync_lang r h) ts
-  sync_whole h ts e one =
-      let k = writes_sync one.w one.rest (ap is_no_sync (sym one.is) ∙ e) in
-      record {
-        w = (k.names, k.event);
-        rest = one.rest;
-        is = one.is ∙ ap (λ (x : written.Stmt). stmt_tokens x one.rest) k.is;
-        clean = ap (λ (x : written.Stmt). first_fault (stmt_notes true r h x)) (sym k.is) ∙ one.clean;
-        ends = tt;
-      }
-
-  sync_stops : (h : Here) (ts : List Token) (s : Stops (stmt_lang true r h) (stmt Allowed h) ts) → WritesSync s.w → Stops (sync_lang r h) (sync_reader h) ts
-  sync_stops h ts s k = record {
-    problem = s.problem;
-    back = s.back;
-    before = s.before;
-    behind = s.behind;
-    is = s.is;
-    same = λ others i. sync_fails h (s.before ++ others) _ (s.same others i);
-    w = (k.names, k.event);
-    more = s.more;
-    begins = λ rest. ap (λ (x : written.Stmt). stmt_tokens x rest) (sym k.is) ∙ s.begins rest;
-    first = s.first;
-    last = s.last;
-    parts = ap (λ (x : written.Stmt). stmt_notes true r h x) (sym k.is) ∙ s.parts;
-    count = s.count;
-    clean = s.clean;
-    reach = s.reach;
-  }
-
-  -- a stop at the token in front, which begins no sync
-  front_stops : (h : Here) (ts : List Token) (s : Stops (stmt_lang true r h) (stmt Allowed h) ts) → s.before ≡ [] → s.problem ≡ Syntax → s.back ≡ 0 → Stops (sync_lang r h) (sync_reader h) ts
-  front_stops h ts s front syntax none = stops_at_once (sync_lang r h) (sync_reader h) ts at
-    where
-      at : (others : List Token) → SameFront ts others → sync_reader h others ≡ Err (Syntax, length others)
-      at others k =
-          let here' : SameFront s.behind others = subst (λ (x : List Token). SameFront x others) (s.is ∙ ap (λ (x : List Token). x ++ s.behind) front) k in
-          let n = length others in
-          let told : ◌≡◌ {A = Told} (s.problem, s.back + n) (Syntax, n) = ap₂ (λ (x : Problem) (y : ℕ). (x, y)) syntax (let is : s.back + n ≡ n = omega (arith, none) in is) in
-          sync_fails h others (Syntax, n) (ap (λ (x : List Token). stmt Allowed h (x ++ others)) (sym front) ∙ s.same others here' ∙ ap (λ (t : Told). Err t) told)
-
-  at_front : (h : Here) (ts : List Token) (s : Stops (stmt_lang true r h) (stmt Allowed h) ts) → is_no_sync ts ≡ false → (before : List Token) → s.before ≡ before → Stops (sync_lang r h) (sync_reader h) ts
-  at_front h ts s e [] front = ⊎_elim
-      (λ syntax. front_stops h ts s front syntax.0 syntax.1)
-      (λ reach.
-      let start : s.more [] ≡ stmt_tokens s.w [] = ap (λ (x : List Token). x ++ s.more []) (sym front) ∙ sym (s.begins []) in
-      let whole : ts ≡ s.behind = s.is ∙ ap (λ (x : List Token). x ++ s.behind) front in
-      sync_stops h ts s (writes_sync s.w [] (ap is_no_sync (sym start) ∙ sym (no_sync_looks s.behind (s.more []) (reach.1 [])) ∙ ap is_no_sync (sym whole) ∙ e)))
-      s.reach
-  at_front h ts s e (t ∷ before) front =
-      let start : stmt_tokens s.w [] ≡ t ∷ (before ++ s.more []) = s.begins [] ∙ ap (λ (x : List Token). x ++ s.more []) front in
-      let whole : ts ≡ t ∷ (before ++ s.behind) = s.is ∙ ap (λ (x : List Token). x ++ s.behind) front in
-      sync_stops h ts s (writes_sync s.w [] (ap is_no_sync start ∙ no_sync_looks (t ∷ (before ++ s.more [])) (t ∷ (before ++ s.behind)) refl ∙ ap is_no_sync (sym whole) ∙ e))
-
-  sync_facts : (h : Here) → Facts (Both Any is_no_sync false) (sync_lang r h) (sync_reader h)
-  sync_facts h = record {
-    reads = sync_reads h;
-    takes = λ ts p. ⊎_elim (λ one. inl (sync_whole h ts p.1 one)) (λ s. inr (at_front h ts s p.1 s.before refl)) ((stmts h).takes ts tt);
-  }
-
   abbrev rest_reader : SyncRead → Result TurnRead Told
-  rest_reader s = turn_rest_with stmt room s.0 s.1 s.2
+  rest_reader first = stmts_with stmt Allowed first.1 first.2 >>= λ s. expect_at r CloseBrace s.2 >>= λ rest. Ok (record { names = first.0.0; event = first.0.1; rest = body s.0 }, s.1, rest)
 
   abbrev begun_lang : Here → Lang Turn TurnRead Any
-  begun_lang h = seq (sync_lang r h) (λ w. body_lang true r (stmt_after h (written.Sync w.0 w.1)))
+  begun_lang h = seq (named_lang true r h) (λ w. body_lang true r (stmt_after h (written.Sync w.0 w.1)))
 
-  begun_facts : (h : Here) → Facts (Both Any is_no_sync false) (begun_lang h) (λ ts. sync_reader h ts >>= rest_reader)
-  unfolding turn_rest_with
+  begun_facts : (h : Here) → Facts (Both Any is_no_sync false) (begun_lang h) (λ ts. sync_with event r h ts >>= rest_reader)
   begun_facts h =
-      then (sync_lang r h) (λ w. body_lang true r (stmt_after h (written.Sync w.0 w.1))) (sync_reader h) rest_reader (sync_facts h)
+      then (named_lang true r h) (λ w. body_lang true r (stmt_after h (written.Sync w.0 w.1))) (λ ts. sync_with event r h ts) rest_reader (named_facts event r events true h)
       (λ w x c. body_facts stmt r Allowed stmts ends (λ (b : trees.Block). record { names = x.0; event = x.1; rest = b }) (stmt_after h (written.Sync w.0 w.1)))
 
   -- EITHER
@@ -297,11 +181,11 @@ module _ (stmt : ReadsStmt) (room back : ℕ) (stmts : (h : Here) → Facts Any 
   parts h = either (no_sync_lang r back h) (begun_lang h)
 
   abbrev parts_reader : Here → List Token → Result TurnRead Told
-  parts_reader h ts = cond (is_no_sync ts) (no_sync_reader r back ts) (sync_reader h ts >>= rest_reader)
+  parts_reader h ts = behind_brace event stmt room (back + length ts) h ts
 
   parts_facts : (h : Here) → Facts Any (parts h) (parts_reader h)
   parts_facts h =
-      choose is_no_sync no_sync_looks (no_sync_lang r back h) (begun_lang h) (no_sync_reader r back) (λ ts. sync_reader h ts >>= rest_reader) (λ w rest e. no_sync_starts w.0 rest w.1) (λ w rest e. sync_starts w.0.0 w.0.1 _)
+      choose is_no_sync no_sync_looks (no_sync_lang r back h) (begun_lang h) (no_sync_reader r back) (λ ts. sync_with event r h ts >>= rest_reader) (λ w rest e. no_sync_starts w.0 rest w.1) (λ w rest e. sync_starts w.0.0 w.0.1 _)
       (no_sync_facts r back h) (begun_facts h)
 
   abbrev BodyParts : Type 0
@@ -375,40 +259,29 @@ module _ (stmt : ReadsStmt) (room back : ℕ) (stmts : (h : Here) → Facts Any 
     errs = λ ts t e. e;
   }) (parts_facts h)
 
-  pub brace_is : (h : Here) (ts : List Token) → parts_reader h ts ≡ behind_brace stmt room (back + length ts) h ts
-  brace_is h ts = ap (λ (x : Result TurnRead Told). cond (is_no_sync ts) (no_sync_reader r back ts) x) (at_stmt (stmt Allowed h ts))
-    where
-      at_sync : (first : StmtRead) (o : Option (Option (List ℕ) × trees.Event)) → (◌>>=◌ {A = SyncRead} (if_some o (λ sync. Ok (sync, first.1, first.2)) (no_sync (back + length ts))) rest_reader) ≡ if_some o (λ sync. turn_rest_with stmt room sync first.1 first.2) (no_sync (back + length ts))
-      at_sync first (Some sync) = refl
-      at_sync first None = refl
-
-      at_stmt : (x : Result StmtRead Told) → ((x >>= as_read (back + length ts)) >>= rest_reader) ≡ (x >>= λ first. if_some (as_sync first.0) (λ sync. turn_rest_with stmt room sync first.1 first.2) (no_sync (back + length ts)))
-      at_stmt (Ok first) = at_sync first (as_sync first.0)
-      at_stmt (Err t) = refl
-
 -- THE BLOCK OF A LOOP
 
-turn_is : (stmt : ReadsStmt) (room k : ℕ) (h : Here) (us : List Token) → (expect_at room OpenBrace us >>= λ rest. behind_brace stmt room (suc k + length rest) h rest) ≡ turn_with stmt room (k + length us) h us
+turn_is : (event : ReadsEvent) (stmt : ReadsStmt) (room k : ℕ) (h : Here) (us : List Token) → (expect_at room OpenBrace us >>= λ rest. behind_brace event stmt room (suc k + length rest) h rest) ≡ turn_with event stmt room (k + length us) h us
 unfolding turn_with
-turn_is stmt room k h us = at_brace (expect_at room OpenBrace us) (λ rest e. (let taken = expect_found room OpenBrace us rest e in let size = ap length taken.is in omega (arith, size)))
+turn_is event stmt room k h us = at_brace (expect_at room OpenBrace us) (λ rest e. (let taken = expect_found room OpenBrace us rest e in let size = ap length taken.is in omega (arith, size)))
   where
-    at_brace : (x : Result (List Token) Told) → ((rest : List Token) → x ≡ Ok rest → suc k + length rest ≡ k + length us) → (x >>= λ rest. behind_brace stmt room (suc k + length rest) h rest) ≡ (x >>= λ rest. behind_brace stmt room (k + length us) h rest)
-    at_brace (Ok rest) e = ap (λ (n : ℕ). behind_brace stmt room n h rest) (e rest refl)
+    at_brace : (x : Result (List Token) Told) → ((rest : List Token) → x ≡ Ok rest → suc k + length rest ≡ k + length us) → (x >>= λ rest. behind_brace event stmt room (suc k + length rest) h rest) ≡ (x >>= λ rest. behind_brace event stmt room (k + length us) h rest)
+    at_brace (Ok rest) e = ap (λ (n : ℕ). behind_brace event stmt room n h rest) (e rest refl)
     at_brace (Err t) e = refl
 
-module _ (stmt : ReadsStmt) (room : ℕ) (stmts : 0 < room → (h : Here) → Facts Any (stmt_lang true (room - 1) h) (stmt Allowed h)) (ends : (h : Here) → stmt Allowed h [] ≡ Err (Syntax, 0)) (syncs : SyncsRead stmt) where
+module _ (event : ReadsEvent) (stmt : ReadsStmt) (room : ℕ) (events : 0 < room → (h : Here) → Facts Any (event_lang (room - 1) h) (event h)) (stmts : 0 < room → (h : Here) → Facts Any (stmt_lang true (room - 1) h) (stmt Allowed h)) (ends : (h : Here) → stmt Allowed h [] ≡ Err (Syntax, 0)) where
   abbrev turn_parts : ℕ → Here → Lang Turn TurnRead Any
   turn_parts k h = seq (word OpenBrace room) (λ w. loop_lang (room - 1) (suc k) h)
 
-  turn_reads : (k : ℕ) (h : Here) → Facts Any (turn_parts k h) (λ us. expect_at room OpenBrace us >>= λ rest. behind_brace stmt room (suc k + length rest) h rest)
+  turn_reads : (k : ℕ) (h : Here) → Facts Any (turn_parts k h) (λ us. expect_at room OpenBrace us >>= λ rest. behind_brace event stmt room (suc k + length rest) h rest)
   turn_reads k h =
-      then (word OpenBrace room) (λ w. loop_lang (room - 1) (suc k) h) (λ us. expect_at room OpenBrace us) (λ rest. behind_brace stmt room (suc k + length rest) h rest) (expect_facts room OpenBrace)
+      then (word OpenBrace room) (λ w. loop_lang (room - 1) (suc k) h) (λ us. expect_at room OpenBrace us) (λ rest. behind_brace event stmt room (suc k + length rest) h rest) (expect_facts room OpenBrace)
       (λ w x clean.
-      let some = stmts (some_room room (one_clean (plain room) clean)) in
-      instead (loop_lang (room - 1) (suc k) h) _ (λ rest. behind_brace stmt room (suc k + length rest) h rest) (brace_is stmt room (suc k) some ends syncs h) (loop_body_facts stmt room (suc k) some ends syncs h))
+      let some = some_room room (one_clean (plain room) clean) in
+      loop_body_facts event stmt room (suc k) (events some) (stmts some) ends h)
 
-  pub turn_facts : (k : ℕ) (h : Here) → Facts Any (turn_lang (suc k) room h) (λ us. turn_with stmt room (k + length us) h us)
-  turn_facts k h = turned (turn_parts k h) (turn_lang (suc k) room h) (λ us. expect_at room OpenBrace us >>= λ rest. behind_brace stmt room (suc k + length rest) h rest) (λ us. turn_with stmt room (k + length us) h us) (record {
+  pub turn_facts : (k : ℕ) (h : Here) → Facts Any (turn_lang (suc k) room h) (λ us. turn_with event stmt room (k + length us) h us)
+  turn_facts k h = turned (turn_parts k h) (turn_lang (suc k) room h) (λ us. expect_at room OpenBrace us >>= λ rest. behind_brace event stmt room (suc k + length rest) h rest) (λ us. turn_with event stmt room (k + length us) h us) (record {
     to = λ w. w.1;
     spell_to = λ w rest. refl;
     notes_to = λ w. refl;
@@ -416,6 +289,6 @@ module _ (stmt : ReadsStmt) (room : ℕ) (stmts : 0 < room → (h : Here) → Fa
     spell_from = λ w rest. refl;
     notes_from = λ w. refl;
     value = λ w x. x;
-    oks = λ ts w x rest e. sym (turn_is stmt room k h ts) ∙ e;
-    errs = λ ts t e. sym (turn_is stmt room k h ts) ∙ e;
+    oks = λ ts w x rest e. sym (turn_is event stmt room k h ts) ∙ e;
+    errs = λ ts t e. sym (turn_is event stmt room k h ts) ∙ e;
   }) (turn_reads k h)

@@ -1,15 +1,15 @@
 -- Readers of one token.
-use Rattle.std.proofs.Common.{◌≡◌, ◌⊎◌, inl, inr, ⊎_elim, ℕ, zero, suc, ◌<◌, Bool, true, false, ◌||◌, eqb, ltb, leb, List, [], ◌∷◌, length, Option, Some, None, Result, Ok, Err, is_some, refl, ◌∙◌, arith, tests}
+use Rattle.std.proofs.Common.{◌≡◌, ◌⊎◌, inl, inr, ⊎_elim, ℕ, zero, suc, ◌<◌, Bool, true, false, ◌||◌, eqb, ltb, leb, List, [], ◌∷◌, length, Option, Some, None, Result, Ok, Err, refl, sym, ap, ◌∙◌, arith, tests}
 use Rattle.token.specs.Tokens.{Token, Fixed, Name, Number, Bad}
 use Rattle.token.specs.declared.kind.Symbol.{Symbol}
 use Rattle.syntax.specs.declared.tree.Name.{Name as Meaning}
-use Rattle.phrase.specs.Places.{place}
-use Rattle.phrase.specs.Steps.{Told, ◌>>=◌, stop_at, if_some, number_at, next_is, accept_at, expect_at, Here, meaning, read_name_at, bound, is_listed, bind_name_at}
+use Rattle.phrase.specs.Steps.{Told, ◌>>=◌, stop_at, if_some, number_at, next_is, accept_at, expect_at, Here, meaning, read_name_at, bound, is_taken, bind_name_at, fourth_name_at}
+use Rattle.phrase.specs.declared.fault.Problem.{Problem}
 use Rattle.phrase.specs.declared.fault.Problem.TheVariants.{Syntax, UnknownName, Twice, TooMany}
 use Rattle.grammar.proofs.Fronts.{accept_ok, is_next, next_found}
-use Rattle.faults.specs.Notes.{plain, read_note, bind_note}
+use Rattle.faults.specs.Notes.{Note, first_fault, plain, read_note, bind_note}
 use Rattle.faults.specs.Laws.{Any}
-use Rattle.faults.proofs.Facts.{Lang, Facts, Takes, Faults, token, one_token, or_stop, next_same}
+use Rattle.faults.proofs.Facts.{Lang, Facts, Takes, Faults, token, one_clean, one_token, or_stop, next_same}
 
 -- A TOKEN THAT MAY LIE TOO DEEP
 
@@ -136,33 +136,30 @@ abbrev pub bound_name : ℕ → List ℕ → Here → Lang (Unit {0}) Binds Any
 bound_name room list h = token {W = List ℕ} {X = Unit {0}} {Y = Binds} [] (λ text. Name text) (λ text. bind_note room list h text) (λ text x rest. ((bound h text).0, (bound h text).1, rest))
 
 module _ (room : ℕ) (list : List ℕ) (h : Here) (text : List ℕ) where
-  abbrev pub is_twice : Bool
-  is_twice = is_some (place text h.channels) || is_listed list (place text h.variables)
-
   abbrev pub are_many : Bool
   are_many = ltb 32 (length text) || leb 3 (length list)
 
-  pub twice : is_twice ≡ true → bind_note room list h text ≡ Some (Twice, 0)
+  pub twice : is_taken list h text ≡ true → bind_note room list h text ≡ Some (Twice, 0)
   unfolding bind_note
   twice e = rw e refl
 
-  pub many : is_twice ≡ false → are_many ≡ true → bind_note room list h text ≡ Some (TooMany, 0)
+  pub many : is_taken list h text ≡ false → are_many ≡ true → bind_note room list h text ≡ Some (TooMany, 0)
   unfolding bind_note
   many e f = rw (e, f) refl
 
-  free : is_twice ≡ false → are_many ≡ false → bind_note room list h text ≡ plain room
+  free : is_taken list h text ≡ false → are_many ≡ false → bind_note room list h text ≡ plain room
   unfolding bind_note
   free e f = rw (e, f) refl
 
-  bind_twice : (ts : List Token) → is_twice ≡ true → bind_name_at room list h (Name text ∷ ts) ≡ Err (Twice, suc (length ts))
+  bind_twice : (ts : List Token) → is_taken list h text ≡ true → bind_name_at room list h (Name text ∷ ts) ≡ Err (Twice, suc (length ts))
   unfolding bind_name_at
   bind_twice ts e = rw e refl
 
-  bind_many : (ts : List Token) → is_twice ≡ false → are_many ≡ true → bind_name_at room list h (Name text ∷ ts) ≡ Err (TooMany, suc (length ts))
+  bind_long : (ts : List Token) → is_taken list h text ≡ false → ltb 32 (length text) ≡ true → bind_name_at room list h (Name text ∷ ts) ≡ Err (TooMany, suc (length ts))
   unfolding bind_name_at
-  bind_many ts e f = rw (e, f) refl
+  bind_long ts e f = rw (e, f) refl
 
-  bind_free : (ts : List Token) (r : Result (List Token) Told) → is_twice ≡ false → are_many ≡ false → accept_at room (Name text ∷ ts) ≡ r → bind_name_at room list h (Name text ∷ ts) ≡ (r >>= λ rest. Ok ((bound h text).0, (bound h text).1, rest))
+  bind_free : (ts : List Token) (r : Result (List Token) Told) → is_taken list h text ≡ false → ltb 32 (length text) ≡ false → accept_at room (Name text ∷ ts) ≡ r → bind_name_at room list h (Name text ∷ ts) ≡ (r >>= λ rest. Ok ((bound h text).0, (bound h text).1, rest))
   unfolding bind_name_at
   bind_free ts r e f g = rw (e, f, g) refl
 
@@ -172,22 +169,61 @@ module _ (room : ℕ) (list : List ℕ) (h : Here) (text : List ℕ) where
   abbrev BindFaults : Type 0
   BindFaults = Faults {W = List ℕ} {X = Unit {0}} {Y = Binds} [] (λ text. Name text) (λ text. bind_note room list h text) (λ text x rest. ((bound h text).0, (bound h text).1, rest)) (λ ts. bind_name_at room list h ts) text
 
-  bind_room : is_twice ≡ false → are_many ≡ false → BindTakes ⊎ BindFaults
-  bind_room e f = ⊎_elim
-      (λ a. inl (record { none = free e f ∙ a.0; value = tt; reads = λ ts. bind_free ts (Ok ts) e f (a.1 ts) }))
-      (λ b. inr (record { problem = TooMany; some = free e f ∙ b.0; fails = λ ts. bind_free ts (Err (TooMany, suc (length ts))) e f (b.1 ts) }))
-      (accept_both room (Name text))
+  -- behind fewer than three
+  module _ (few : leb 3 (length list) ≡ false) where
+    count_alone : are_many ≡ ltb 32 (length text)
+    count_alone = at_length (ltb 32 (length text))
+      where
+        at_length : (b : Bool) → (b || leb 3 (length list)) ≡ b
+        at_length true = refl
+        at_length false = few
 
-  bind_count : (b : Bool) → is_twice ≡ false → are_many ≡ b → BindTakes ⊎ BindFaults
-  bind_count true e f = inr (record { problem = TooMany; some = many e f; fails = λ ts. bind_many ts e f })
-  bind_count false e f = bind_room e f
+    bind_room : is_taken list h text ≡ false → ltb 32 (length text) ≡ false → BindTakes ⊎ BindFaults
+    bind_room e f = ⊎_elim
+        (λ a. inl (record { none = free e (count_alone ∙ f) ∙ a.0; value = tt; reads = λ ts. bind_free ts (Ok ts) e f (a.1 ts) }))
+        (λ b. inr (record { problem = TooMany; some = free e (count_alone ∙ f) ∙ b.0; fails = λ ts. bind_free ts (Err (TooMany, suc (length ts))) e f (b.1 ts) }))
+        (accept_both room (Name text))
 
-  bind_on : (b : Bool) → is_twice ≡ b → BindTakes ⊎ BindFaults
-  bind_on true e = inr (record { problem = Twice; some = twice e; fails = λ ts. bind_twice ts e })
-  bind_on false e = bind_count are_many e refl
+    bind_count : (b : Bool) → is_taken list h text ≡ false → ltb 32 (length text) ≡ b → BindTakes ⊎ BindFaults
+    bind_count true e f = inr (record { problem = TooMany; some = many e (count_alone ∙ f); fails = λ ts. bind_long ts e f })
+    bind_count false e f = bind_room e f
 
-  pub bind_name_on : BindTakes ⊎ BindFaults
-  bind_name_on = bind_on is_twice refl
+    bind_on : (b : Bool) → is_taken list h text ≡ b → BindTakes ⊎ BindFaults
+    bind_on true e = inr (record { problem = Twice; some = twice e; fails = λ ts. bind_twice ts e })
+    bind_on false e = bind_count (ltb 32 (length text)) e refl
+
+    pub bind_name_on : BindTakes ⊎ BindFaults
+    bind_name_on = bind_on (is_taken list h text) refl
+
+  -- behind three
+  abbrev FourthFaults : Type 0
+  FourthFaults = Faults {W = List ℕ} {X = Unit {0}} {Y = Binds} [] (λ text. Name text) (λ text. bind_note room list h text) (λ text x rest. ((bound h text).0, (bound h text).1, rest)) (λ ts. stop_at (fourth_name_at list h ts) ts) text
+
+  fourth_taken : (ts : List Token) → is_taken list h text ≡ true → fourth_name_at list h (Name text ∷ ts) ≡ Twice
+  unfolding fourth_name_at
+  fourth_taken ts e = rw e refl
+
+  fourth_free : (ts : List Token) → is_taken list h text ≡ false → fourth_name_at list h (Name text ∷ ts) ≡ TooMany
+  unfolding fourth_name_at
+  fourth_free ts e = rw e refl
+
+  module _ (full : leb 3 (length list) ≡ true) where
+    full_many : are_many ≡ true
+    full_many = at_length (ltb 32 (length text))
+      where
+        at_length : (b : Bool) → (b || leb 3 (length list)) ≡ true
+        at_length true = refl
+        at_length false = full
+
+    fourth_on : (b : Bool) → is_taken list h text ≡ b → FourthFaults
+    fourth_on true e = record { problem = Twice; some = twice e; fails = λ ts. ap (λ (p : Problem). Err (p, suc (length ts))) (fourth_taken ts e) }
+    fourth_on false e = record { problem = TooMany; some = many e full_many; fails = λ ts. ap (λ (p : Problem). Err (p, suc (length ts))) (fourth_free ts e) }
+
+    pub fourth_name_on : FourthFaults
+    fourth_name_on = fourth_on (is_taken list h text) refl
+
+    pub no_fourth : first_fault (bind_note room list h text ∷ []) ≡ None → ⊥
+    no_fourth clean = (let one = fourth_name_on in let same : ◌≡◌ {A = Note} None (Some (one.problem, 0)) = sym (one_clean (bind_note room list h text) clean) ∙ one.some in absurd cc)
 
 bind_off : (room : ℕ) (list : List ℕ) (h : Here) (t : Token) → ((w : List ℕ) × (t ≡ Name w)) ⊎ ((us : List Token) → bind_name_at room list h (t ∷ us) ≡ Err (Syntax, suc (length us)))
 unfolding bind_name_at
@@ -200,7 +236,24 @@ no_bound : (room : ℕ) (list : List ℕ) (h : Here) → bind_name_at room list 
 unfolding bind_name_at
 no_bound room list h = refl
 
-pub bound_name_facts : {P : List Token → Type 0} (room : ℕ) (list : List ℕ) (h : Here) → Facts P (bound_name room list h) (λ ts. bind_name_at room list h ts)
-bound_name_facts room list h =
+pub bound_name_facts : {P : List Token → Type 0} (room : ℕ) (list : List ℕ) (h : Here) → leb 3 (length list) ≡ false → Facts P (bound_name room list h) (λ ts. bind_name_at room list h ts)
+bound_name_facts room list h few =
     one_token {W = List ℕ} {X = Unit {0}} {Y = Binds} [] (λ text. Name text) (λ text. bind_note room list h text) (λ text x rest. ((bound h text).0, (bound h text).1, rest)) (λ ts. bind_name_at room list h ts)
-    (λ p. no_bound room list h) (λ w. bind_name_on room list h w) (λ t ts p. bind_off room list h t)
+    (λ p. no_bound room list h) (λ w. bind_name_on room list h w few) (λ t ts p. bind_off room list h t)
+
+fourth_off : (list : List ℕ) (h : Here) (t : Token) → ((w : List ℕ) × (t ≡ Name w)) ⊎ ((us : List Token) → stop_at {A = Binds} (fourth_name_at list h (t ∷ us)) (t ∷ us) ≡ Err (Syntax, suc (length us)))
+unfolding fourth_name_at
+fourth_off list h (Fixed s) = inr (λ us. refl)
+fourth_off list h (Name text) = inl (text, refl)
+fourth_off list h (Number n) = inr (λ us. refl)
+fourth_off list h Bad = inr (λ us. refl)
+
+no_fourth_there : (list : List ℕ) (h : Here) → stop_at {A = Binds} (fourth_name_at list h []) [] ≡ Err (Syntax, 0)
+unfolding fourth_name_at
+no_fourth_there list h = refl
+
+-- a name behind three others is one too many
+pub fourth_name_facts : {P : List Token → Type 0} (room : ℕ) (list : List ℕ) (h : Here) → leb 3 (length list) ≡ true → Facts P (bound_name room list h) (λ ts. stop_at (fourth_name_at list h ts) ts)
+fourth_name_facts room list h full =
+    one_token {W = List ℕ} {X = Unit {0}} {Y = Binds} [] (λ text. Name text) (λ text. bind_note room list h text) (λ text x rest. ((bound h text).0, (bound h text).1, rest)) (λ ts. stop_at (fourth_name_at list h ts) ts)
+    (λ p. no_fourth_there list h) (λ w. inr (fourth_name_on room list h w full)) (λ t ts p. fourth_off list h t)

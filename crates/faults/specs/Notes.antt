@@ -3,8 +3,7 @@
 -- `room` is how many levels deeper a token may lie, and one more: 49 at the outermost level.
 use Rattle.std.specs.Prelude.{◌≡◌, ℕ, zero, suc, ◌+◌, ◌-◌, List, [], ◌∷◌, ◌++◌, length, ◌||◌, Option, Some, None, is_some, nat_lt, nat_le, ◌==◌, if◌then◌else◌}
 use Rattle.token.specs.Tokens.{Token}
-use Rattle.phrase.specs.Places.{place}
-use Rattle.phrase.specs.Steps.{Told, Here, meaning, bound, is_listed}
+use Rattle.phrase.specs.Steps.{Told, Here, meaning, bound, is_taken}
 use Rattle.phrase.specs.declared.fault.Problem.{Problem}
 use Rattle.phrase.specs.declared.fault.Problem.TheVariants.{UnknownName, Twice, TooMany}
 use Rattle.grammar.specs.Written.{Term, OfNumber, OfName, Grouped, Terms, NoMore, Further, Expr, Test}
@@ -38,7 +37,7 @@ read_note room h text = if is_some (meaning h text) then plain room else Some (U
 -- a name that is bound behind the variables of its list
 unfoldable pub bind_note : ℕ → List ℕ → Here → List ℕ → Note
 bind_note room list h text =
-    if is_some (place text h.channels) || is_listed list (place text h.variables) then Some (Twice, 0)
+    if is_taken list h text then Some (Twice, 0)
     else (if nat_lt 32 (length text) || nat_le 3 (length list) then Some (TooMany, 0) else plain room)
 
 -- EXPRESSIONS

@@ -1,11 +1,11 @@
 -- Names: what is written is read, and what is read was written.
-use Rattle.std.proofs.Common.{◌≡◌, ℕ, ◌<◌, ◌≤◌, Bool, true, false, cond, ◌||◌, ltb, leb, List, [], ◌∷◌, ◌++◌, length, Option, Some, None, Ok, is_some, refl, sym, ap, ◌∙◌, subst, arith, tests}
+use Rattle.std.proofs.Common.{◌≡◌, ℕ, ◌<◌, ◌≤◌, Bool, true, false, cond, ◌||◌, ltb, leb, List, [], ◌∷◌, ◌++◌, length, Option, Some, None, Ok, refl, sym, ap, ◌∙◌, subst, arith}
 use Rattle.std.proofs.lemmas.Bool.Decides.{nat_tests}
 use Rattle.token.specs.Tokens.{Token, Name}
 use Rattle.token.specs.Tokens as tokens
 use Rattle.token.specs.declared.kind.Symbol.TheVariants.{Comma}
 use Rattle.phrase.specs.Places.{place}
-use Rattle.phrase.specs.Steps.{Told, Here, if_some, name_at, next_is, accept_at, channel_of, meaning, read_name_at, is_listed, bind_name_at, bind_names_at}
+use Rattle.phrase.specs.Steps.{Told, Here, if_some, name_at, next_is, accept_at, channel_of, meaning, read_name_at, is_taken, bind_name_at, bind_names_at}
 use Rattle.phrase.specs.Steps as steps
 use Rattle.phrase.specs.declared.scope.Counts.{Counts}
 use Rattle.phrase.proofs.Keeping.{bound_ok, ok_is, no_ok, if_ok, some_ok}
@@ -69,9 +69,6 @@ name_is_found room h ts x e =
 
 -- A NAME THAT IS BOUND
 
-both_no : (a b : Bool) → a ≡ false → b ≡ false → (a || b) ≡ false
-both_no a b e f = rw (e, f) refl
-
 bound_same : (ns : Names) (counts : Counts) (text : List ℕ) → steps.bound (at ns counts) text ≡ ((bound ns text).0, at (bound ns text).1 counts)
 bound_same ns counts text = at_place (place text ns.variables)
   where
@@ -80,52 +77,43 @@ bound_same ns counts text = at_place (place text ns.variables)
     at_place (Some v) = refl
     at_place None = refl
 
-short : (list : List ℕ) → length list < 3 → leb 3 (length list) ≡ false
-short list h = search (arith, tests)
-
-pub bind_again : (room : ℕ) (list : List ℕ) (ns : Names) (counts : Counts) (text : List ℕ) (b : ℕ × Names) (rest : List Token) → 0 < room → length list < 3 → bind list ns text ≡ Some b
+pub bind_again : (room : ℕ) (list : List ℕ) (ns : Names) (counts : Counts) (text : List ℕ) (b : ℕ × Names) (rest : List Token) → 0 < room → bind list ns text ≡ Some b
     → bind_name_at room list (at ns counts) (Name text ∷ rest) ≡ Ok (b.0, at b.1 counts, rest)
 unfolding bind bind_name_at
-bind_again room list ns counts text b rest some few e =
-    unless_some (is_some (place text ns.channels) || is_listed list (place text ns.variables)) _ b e
+bind_again room list ns counts text b rest some e =
+    unless_some (is_taken list (at ns counts) text) _ b e
     (λ new f. unless_some (ltb 32 (length text)) _ b f
     (λ small g.
     let same = bound_same ns counts text in
     let is : bound ns text ≡ b = some_is _ _ g in
-    let room_left : (ltb 32 (length text) || leb 3 (length list)) ≡ false = both_no _ _ small (short list few) in
-    rw (new, room_left, accept_ok room (Name text) rest some)
+    rw (new, small, accept_ok room (Name text) rest some)
     (ap (λ (x : ℕ × Here). Ok (x.0, x.1, rest)) same ∙ ap (λ (x : ℕ × Names). Ok (x.0, at x.1 counts, rest)) is)))
 
 pub record SpellsBound (room : ℕ) (list : List ℕ) (h h' : Here) (ts : List Token) (v : ℕ) (rest : List Token) : Type 0 where
   pub text : List ℕ
   pub tokens : ts ≡ Name text ∷ rest
   pub some : 0 < room
-  pub few : length list < 3
   pub binds : bind list (names_at h) text ≡ Some (v, names_at h')
 
 pub neither : (a b : Bool) → (a || b) ≡ false → (a ≡ false) × (b ≡ false)
 neither false b e = (refl, e)
 neither true b e = absurd cc
 
-not_full : (list : List ℕ) → leb 3 (length list) ≡ false → length list < 3
-not_full list e = grind (arith, nat_tests)
-
 pub bind_is_found : (room : ℕ) (list : List ℕ) (h : Here) (ts : List Token) (x : ℕ × Here × List Token) → bind_name_at room list h ts ≡ Ok x → SpellsBound room list h x.1 ts x.0 x.2
 unfolding bind bind_name_at
 bind_is_found room list h ts x e =
     some_ok (name_at ts) _ _ x e
-    (λ text named f. if_ok (is_some (place text h.channels) || is_listed list (place text h.variables)) _ _ x f
+    (λ text named f. if_ok (is_taken list h text) _ _ x f
     (λ _ g. no_ok _ _ g)
-    (λ new g. if_ok (ltb 32 (length text) || leb 3 (length list)) _ _ x g
+    (λ new g. if_ok (ltb 32 (length text)) _ _ x g
     (λ _ k. no_ok _ _ k)
     (λ small k.
     let b = bound_ok (accept_at room ts) _ x k in
     let taken = accept_found room (Name text) ts b.first (name_found ts text named) b.is in
-    let parts = neither (ltb 32 (length text)) (leb 3 (length list)) small in
     let same = bound_same (names_at h) h.counts text in
-    let is : bind list (names_at h) text ≡ Some ((steps.bound h text).0, names_at (steps.bound h text).1) = rw (new, parts.0) (sym (ap (λ (y : ℕ × Here). Some (y.0, names_at y.1)) same)) in
+    let is : bind list (names_at h) text ≡ Some ((steps.bound h text).0, names_at (steps.bound h text).1) = rw (new, small) (sym (ap (λ (y : ℕ × Here). Some (y.0, names_at y.1)) same)) in
     subst (λ (y : ℕ × Here × List Token). SpellsBound room list h y.1 ts y.0 y.2) (ok_is _ _ b.then)
-    (record { text = text; tokens = taken.is; some = taken.some; few = not_full list parts.1; binds = is }))))
+    (record { text = text; tokens = taken.is; some = taken.some; binds = is }))))
     (λ f. no_ok _ _ f)
 
 -- A LIST OF NAMES THAT ARE BOUND
@@ -140,16 +128,16 @@ unfolding bind_all bind_names_at
 names_again room ns counts text [] b rest some few e last =
     let x = part (bind [] ns text) _ b e in
     let is = some_is _ _ x.then in
-    rw (bind_again room [] ns counts text x.first rest some (omega arith) x.is, last) (ap (λ (y : List ℕ × Names). Ok (y.0, at y.1 counts, rest)) is)
+    rw (bind_again room [] ns counts text x.first rest some x.is, last) (ap (λ (y : List ℕ × Names). Ok (y.0, at y.1 counts, rest)) is)
 names_again room ns counts text (text' ∷ []) b rest some few e last =
     let x = part (bind [] ns text) _ b e in
     let y = part (bind (x.first.0 ∷ []) x.first.1 text') _ b x.then in
     let is = some_is _ _ y.then in
     rw (
-      bind_again room [] ns counts text x.first (tokens.Fixed Comma ∷ Name text' ∷ rest) some (omega arith) x.is,
+      bind_again room [] ns counts text x.first (tokens.Fixed Comma ∷ Name text' ∷ rest) some x.is,
       is_next Comma (Name text' ∷ rest),
       accept_ok room (tokens.Fixed Comma) (Name text' ∷ rest) some,
-      bind_again room (x.first.0 ∷ []) x.first.1 counts text' y.first rest some (omega arith) y.is,
+      bind_again room (x.first.0 ∷ []) x.first.1 counts text' y.first rest some y.is,
       last,
     ) (ap (λ (y : List ℕ × Names). Ok (y.0, at y.1 counts, rest)) is)
 names_again room ns counts text (text' ∷ text'' ∷ []) b rest some few e last =
@@ -159,13 +147,13 @@ names_again room ns counts text (text' ∷ text'' ∷ []) b rest some few e last
     let is = some_is _ _ z.then in
     let behind = tokens.Fixed Comma ∷ Name text'' ∷ rest in
     rw (
-      bind_again room [] ns counts text x.first (tokens.Fixed Comma ∷ Name text' ∷ behind) some (omega arith) x.is,
+      bind_again room [] ns counts text x.first (tokens.Fixed Comma ∷ Name text' ∷ behind) some x.is,
       is_next Comma (Name text' ∷ behind),
       accept_ok room (tokens.Fixed Comma) (Name text' ∷ behind) some,
-      bind_again room (x.first.0 ∷ []) x.first.1 counts text' y.first behind some (omega arith) y.is,
+      bind_again room (x.first.0 ∷ []) x.first.1 counts text' y.first behind some y.is,
       is_next Comma (Name text'' ∷ rest),
       accept_ok room (tokens.Fixed Comma) (Name text'' ∷ rest) some,
-      bind_again room (x.first.0 ∷ y.first.0 ∷ []) y.first.1 counts text'' z.first rest some (omega arith) z.is,
+      bind_again room (x.first.0 ∷ y.first.0 ∷ []) y.first.1 counts text'' z.first rest some z.is,
       last,
     ) (ap (λ (y : List ℕ × Names). Ok (y.0, at y.1 counts, rest)) is)
 names_again room ns counts text (text' ∷ text'' ∷ text''' ∷ more) b rest some few e last = absurd (too_many text' text'' text''' more few)
@@ -198,8 +186,7 @@ names_found room h ts x e =
     if_ok (next_is Comma c.first.2) _ _ x c.then
     (λ _ k.
     let o = bound_ok (accept_at room c.first.2) _ x k in
-    let d = bound_ok (bind_name_at room (a.first.0 ∷ b.first.0 ∷ c.first.0 ∷ []) c.first.1 o.first) _ x o.then in
-    no_ok _ _ d.then)
+    no_ok _ _ o.then)
     (λ _ k.
     subst (λ (y : List ℕ × Here × List Token). SpellsNames room h y.1 ts y.0 y.2) (ok_is _ _ k)
     (record {

@@ -11,11 +11,11 @@ gives_err view r e read left h = (let p = err_from_is_err_and r left in rw (p.1,
 
 pub fails_same : {Y : Type 0} (e : Stop) (a b : Result Y Told) → a ≡ b → Fails e a → Fails e b
 fails_same Memory a b same h = tt
-fails_same (At problem left) a b same h = sym same ∙ h
+fails_same (At fault) a b same h = sym same ∙ h
 
 pub fails_bind : {A B : Type 0} (e : Stop) (r : Result A Told) (f : A → Result B Told) → Fails e r → Fails e (r >>= f)
 fails_bind Memory r f h = tt
-fails_bind (At problem left) r f h = ap (λ x. x >>= f) h
+fails_bind (At fault) r f h = ap (λ x. x >>= f) h
 
 -- a step that was there
 pub repeated_step : {S : Type 0} (step : S → Option (Result S Told)) (count turn : ℕ) (s : S) (r whole : Result S Told)

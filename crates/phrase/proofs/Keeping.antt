@@ -1,5 +1,5 @@
 -- What is read keeps the limits: names and expressions.
-use Rattle.std.proofs.Common.{◌≡◌, ℕ, zero, suc, ◌+◌, ◌<◌, ◌≤◌, Bool, true, false, cond, ◌||◌, ltb, leb, List, [], ◌∷◌, ◌++◌, length, Option, Some, None, Result, Ok, Err, is_some, refl, ap, ◌∙◌, subst, arith, length-append}
+use Rattle.std.proofs.Common.{◌≡◌, ℕ, zero, suc, ◌+◌, ◌<◌, ◌≤◌, Bool, true, false, cond, ltb, List, [], ◌∷◌, ◌++◌, length, Option, Some, None, Result, Ok, Err, refl, ap, ◌∙◌, subst, arith, length-append}
 use Rattle.std.specs.Option.{option_map}
 use Rattle.std.specs.Str.{bytes_eq}
 use Rattle.token.specs.Tokens.{Token}
@@ -10,7 +10,7 @@ use Rattle.syntax.specs.Limits.{Known, NameIsIn}
 use Rattle.std.specs.List.{AllByRecursion}
 use Rattle.token.specs.declared.kind.Symbol.TheVariants.{Comma}
 use Rattle.phrase.specs.Places.{place}
-use Rattle.phrase.specs.Steps.{Told, Here, ◌>>=◌, if_some, repeated, name_at, next_is, accept_at, expect_at, channel_of, meaning, read_name_at, bound, is_listed, bind_name_at, bind_names_at}
+use Rattle.phrase.specs.Steps.{Told, Here, ◌>>=◌, if_some, repeated, name_at, next_is, accept_at, expect_at, channel_of, meaning, read_name_at, bound, is_taken, bind_name_at, bind_names_at}
 
 -- WHAT AN OK SAYS OF ITS STEPS
 
@@ -140,9 +140,9 @@ pub bind_name_reads : (room : ℕ) (list : List ℕ) (h : Here) (ts : List Token
 unfolding bind_name_at
 bind_name_reads room list h ts x e =
     some_ok (name_at ts) _ _ x e
-    (λ text _ f. if_ok (is_some (place text h.channels) || is_listed list (place text h.variables)) _ _ x f
+    (λ text _ f. if_ok (is_taken list h text) _ _ x f
     (λ _ g. absurd cc)
-    (λ _ g. if_ok (ltb 32 (length text) || leb 3 (length list)) _ _ x g
+    (λ _ g. if_ok (ltb 32 (length text)) _ _ x g
     (λ _ k. absurd cc)
     (λ _ k.
     let b = bound_ok (accept_at room ts) _ x k in
@@ -186,8 +186,7 @@ bind_names_read room h ts x e =
     if_ok (next_is Comma c.first.2) _ _ x c.then
     (λ _ k.
     let p = bound_ok (accept_at room c.first.2) _ x k in
-    let d = bound_ok (bind_name_at room (a.first.0 ∷ b.first.0 ∷ c.first.0 ∷ []) c.first.1 p.first) _ x p.then in
-    no_ok _ _ d.then)
+    no_ok _ _ p.then)
     (λ _ k.
     let is : (a.first.0 ∷ b.first.0 ∷ c.first.0 ∷ [], c.first.1, c.first.2) ≡ x = ok_is _ _ k in
     subst (λ (y : List ℕ × Here × List Token). AreBound room h y.1 y.0) is (more_bound _ _ _ _ _ _ a-read (more_bound _ _ _ _ _ _ b-read (one_bound _ _ _ _ c-read)))))

@@ -1,5 +1,5 @@
 -- Reading from left to right: single tokens, names and lists of names.
-use Rattle.std.specs.Prelude.{◌≡◌, ℕ, zero, suc, List, [], ◌∷◌, ◌++◌, map, length, Bool, false, ◌||◌, Option, Some, None, Result, Ok, Err, is_some, nat_lt, nat_le, ◌==◌, if◌then◌else◌}
+use Rattle.std.specs.Prelude.{◌≡◌, ℕ, zero, suc, List, [], ◌∷◌, ◌++◌, map, length, Bool, false, ◌||◌, Option, Some, None, Result, Ok, Err, is_some, nat_lt, ◌==◌, if◌then◌else◌}
 use Rattle.token.specs.Tokens.{Token, Fixed, Name, Number, Bad, view, same_symbol}
 use Rattle.phrase.specs.Places.{place, texts}
 use Rattle.token.specs.declared.kind.Symbol.{Symbol}
@@ -7,6 +7,7 @@ use Rattle.token.specs.declared.kind.Symbol.TheVariants.{Comma}
 use Rattle.token.specs.declared.lexeme.Placed.{Placed}
 use Rattle.phrase.specs.declared.fault.Problem.{Problem}
 use Rattle.phrase.specs.declared.fault.Problem.TheVariants.{Syntax, UnknownName, Twice, TooMany}
+use Rattle.phrase.specs.declared.fault.Fault.{Fault}
 use Rattle.phrase.specs.declared.fault.Stop.{Stop}
 use Rattle.phrase.specs.declared.fault.Stop.TheVariants.{Memory, At}
 use Rattle.phrase.specs.declared.scope.Counts.{Counts}
@@ -25,10 +26,18 @@ abbrev pub ◌>>=◌ : {A B : Type 0} → Result A Told → (A → Result B Told
 (Ok x) >>= f = f x
 (Err e) >>= f = Err e
 
+abbrev pub told : Fault → Told
+told fault = (fault.problem, fault.left)
+
+-- What a function returned that asks for no memory, seen by view, is what reading gives.
+abbrev pub Tells : {X Y : Type 0} → (X → Y) → Result X Fault → Result Y Told → Type 0
+Tells view (Ok x) read = read ≡ Ok (view x)
+Tells view (Err fault) read = read ≡ Err (told fault)
+
 -- What a function returned, seen by view, is what reading gives, unless memory ran out.
 abbrev pub Fails : {Y : Type 0} → Stop → Result Y Told → Type 0
 Fails Memory read = Unit {0}
-Fails (At problem left) read = read ≡ Err (problem, left)
+Fails (At fault) read = read ≡ Err (told fault)
 
 abbrev pub Gives : {X Y : Type 0} → (X → Y) → Result X Stop → Result Y Told → Type 0
 Gives view (Ok x) read = read ≡ Ok (view x)
@@ -138,16 +147,24 @@ listed None = []
 abbrev pub bound : Here → List ℕ → ℕ × Here
 bound h name = if_some (place name h.variables) (λ v. (v, h)) (length h.variables, record h { variables = h.variables ++ name ∷ [] })
 
+-- whether a name stands for something that it may not be bound to, behind the variables of its list
+abbrev pub is_taken : List ℕ → Here → List ℕ → Bool
+is_taken list h text = is_some (place text h.channels) || is_listed list (place text h.variables)
+
 -- a name that is bound, behind the variables of its list
 unfoldable pub bind_name_at : ℕ → List ℕ → Here → List Token → Result (ℕ × Here × List Token) Told
 bind_name_at room list h ts =
     if_some (name_at ts) (λ text.
-    if is_some (place text h.channels) || is_listed list (place text h.variables)
+    if is_taken list h text
     then stop_at Twice ts
-    else (if nat_lt 32 (length text) || nat_le 3 (length list)
+    else (if nat_lt 32 (length text)
     then stop_at TooMany ts
     else (accept_at room ts >>= λ rest. Ok ((bound h text).0, (bound h text).1, rest))))
     (stop_at Syntax ts)
+
+-- what is wrong at a fourth name
+unfoldable pub fourth_name_at : List ℕ → Here → List Token → Problem
+fourth_name_at list h ts = if_some (name_at ts) (λ text. if is_taken list h text then Twice else TooMany) Syntax
 
 -- a list of names that are bound
 unfoldable pub bind_names_at : ℕ → Here → List Token → Result (List ℕ × Here × List Token) Told
@@ -162,10 +179,7 @@ bind_names_at room h ts = do
               rest ← accept_at room b.2
               c ← bind_name_at room (a.0 ∷ b.0 ∷ []) b.1 rest
               if next_is Comma c.2
-                  then (do
-                    rest ← accept_at room c.2
-                    d ← bind_name_at room (a.0 ∷ b.0 ∷ c.0 ∷ []) c.1 rest
-                    stop_at TooMany rest)
+                  then (accept_at room c.2 >>= λ rest. stop_at (fourth_name_at (a.0 ∷ b.0 ∷ c.0 ∷ []) c.1 rest) rest)
                   else Ok (a.0 ∷ b.0 ∷ c.0 ∷ [], c.1, c.2))
             else Ok (a.0 ∷ b.0 ∷ [], b.1, b.2))
       else Ok (a.0 ∷ [], a.1, a.2)

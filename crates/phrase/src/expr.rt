@@ -1,11 +1,11 @@
 //! Expressions, tests and lists, read from the front.
 
 ghost use Rattle.std.specs.Prelude.{◌≡◌, ◌-◌, IfOk, Ok, [], ◌++◌, map};
-ghost use Rattle.phrase.specs.Steps.{Gives, bare, here};
+ghost use Rattle.phrase.specs.Steps.{Gives, Tells, bare, here};
 ghost use Rattle.syntax.specs.Trees.{terms_of, term_of, expr_of, exprs_of, test_of};
 ghost use Rattle.phrase.specs.Exprs.{parts_of, signed_of, linked, whole, parts_term, operand_at, operand_with, sign_at, sum_at, expr_at, relation_at, test_at, fourth_at, members_at, list_at};
 
-use crate::fault::{Problem, Stop};
+use crate::fault::{Fault, Problem, Stop};
 use crate::scope::{Scope, read_name};
 use crate::step::{accept, expect, is_next, name_at, number_at, stop};
 use std::alloc::{AllocError, Global};
@@ -141,8 +141,11 @@ pub fn read_expr<'a>(
 
 /// What stands between the two sides of a test.
 #[tactic(auto, unfolding(crate::specs::Exprs::relation_at))]
-fn relation<'a>(tokens: &'a [Placed<'a>], room: usize) -> Result<(Relation, &'a [Placed<'a>]), Stop>
-    ensures { Gives (λ x. (x.0, bare x.1.now)) result (relation_at room (bare tokens.now)) }
+fn relation<'a>(
+    tokens: &'a [Placed<'a>],
+    room: usize,
+) -> Result<(Relation, &'a [Placed<'a>]), Fault>
+    ensures { Tells (λ x. (x.0, bare x.1.now)) result (relation_at room (bare tokens.now)) }
 {
     if is_next(tokens, Symbol::Equal) {
         let rest = accept(tokens, room)?;

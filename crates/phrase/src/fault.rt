@@ -1,7 +1,7 @@
 //! Why reading stops.
 
 ghost use Rattle.std.specs.Prelude.{◌≡◌};
-ghost use Rattle.phrase.specs.declared.fault.Stop.TheVariants.{Memory};
+ghost use Rattle.phrase.specs.declared.fault.Stop.TheVariants.{Memory, At};
 
 use std::alloc::{AllocError, AllocFailed};
 
@@ -20,11 +20,27 @@ pub enum Problem {
     LoopWithoutSync,
 }
 
-/// Why reading stopped: at a token, from which on so many are left, or for want of memory.
+/// What is wrong, and how many tokens are left from where it is told.
+#[derive(Clone, Copy, Debug, PartialEq, Eq)]
+pub struct Fault {
+    pub problem: Problem,
+    pub left: usize,
+}
+
+/// Why a reader that asks for memory stopped: at a token, or because memory was refused. A reader that asks
+/// for none has a `Fault` as its error.
 #[derive(Clone, Copy, Debug, PartialEq, Eq)]
 pub enum Stop {
     Memory,
-    At(Problem, usize),
+    At(Fault),
+}
+
+impl From<Fault> for Stop {
+    ghost from_gives = { λ fault stop. stop ≡ At fault };
+
+    fn from(fault: Fault) -> Stop {
+        Stop::At(fault)
+    }
 }
 
 impl From<AllocError> for Stop {

@@ -1,14 +1,14 @@
 //! What names stand for at a token of a process, and what the sync there has so far.
 
-ghost use Rattle.std.specs.Prelude.{◌≡◌, ◌<◌, ◌≤◌, ◌++◌, ◌∷◌, [], IfSome, IfOk, OnOk, length, is_some, nat_le, Ok};
+ghost use Rattle.std.specs.Prelude.{◌≡◌, ◌++◌, ◌∷◌, [], IfOk, length, is_some};
 ghost use Rattle.phrase.specs.Places.{place, texts};
-ghost use Rattle.phrase.specs.Steps.{Gives, bare, here, start, meaning, channel_of, bound, is_listed, is_among, listed, read_name_at, bind_name_at, bind_names_at};
+ghost use Rattle.phrase.specs.Steps.{Gives, Tells, bare, here, start, meaning, channel_of, bound, is_listed, is_among, is_taken, listed, read_name_at, bind_name_at, fourth_name_at, bind_names_at};
 ghost use Rattle.syntax.specs.Trees.{names_of};
 
-use crate::fault::{Problem, Stop};
-use crate::step::{accept, is_next, name_at, stop};
+use crate::fault::{Fault, Problem, Stop};
+use crate::step::{accept, fault, is_next, name_at, stop};
 use crate::table::Table;
-use std::alloc::Global;
+use std::alloc::{AllocError, Global};
 use syntax::{Name, Names};
 use token::{Placed, Symbol};
 
@@ -61,8 +61,8 @@ impl<'a> Scope<'a> {
     }
 
     /// The number of the variable that the name is bound to from here on.
-    fn bind(&mut self, name: &'a str) -> Result<usize, Stop>
-        ensures { Gives (λ v. (v, here self.new)) result (Ok (bound (here self.old) name.now)) }
+    fn bind(&mut self, name: &'a str) -> Result<usize, AllocError>
+        ensures { IfOk result (λ v. (v, here self.new) ≡ bound (here self.old) name.now) }
     {
         match self.variables.number(name) {
             Some(number) => Ok(number),
@@ -91,14 +91,14 @@ pub fn read_name<'a>(
     scope: &Scope<'a>,
     tokens: &'a [Placed<'a>],
     room: usize,
-) -> Result<(Name, &'a [Placed<'a>]), Stop>
-    ensures { Gives (λ x. (x.0, bare x.1.now)) result (read_name_at room (here scope.now) (bare tokens.now)) }
+) -> Result<(Name, &'a [Placed<'a>]), Fault>
+    ensures { Tells (λ x. (x.0, bare x.1.now)) result (read_name_at room (here scope.now) (bare tokens.now)) }
 {
     let Some(name) = name_at(tokens) else {
-        return Err(stop(Problem::Syntax, tokens));
+        return Err(fault(Problem::Syntax, tokens));
     };
     let Some(name) = scope.meaning(name) else {
-        return Err(stop(Problem::UnknownName, tokens));
+        return Err(fault(Problem::UnknownName, tokens));
     };
     let rest = accept(tokens, room)?;
     Ok((name, rest))
@@ -130,11 +130,11 @@ fn is_listed(list: Option<Names>, variable: Option<usize>) -> bool
     has(list, variable)
 }
 
-/// Whether a list has no room for one more name.
-fn is_full(list: Option<Names>) -> bool
-    ensures { result ≡ nat_le 3 (length (listed list)) }
+/// Whether the name stands for a channel, or for a variable of the list, if there is one.
+fn is_taken(scope: &Scope<'_>, list: Option<Names>, name: &str) -> bool
+    ensures { result ≡ is_taken (listed list) (here scope.now) name.now }
 {
-    matches!(list, Some(Names::Three(_, _, _)))
+    scope.channels.number(name).is_some() || is_listed(list, scope.variables.number(name))
 }
 
 /// A name that is bound, behind those of its list.
@@ -150,15 +150,29 @@ pub fn bind_name<'a>(
     let Some(name) = name_at(tokens) else {
         return Err(stop(Problem::Syntax, tokens));
     };
-    if scope.channels.number(name).is_some() || is_listed(list, scope.variables.number(name)) {
+    if is_taken(scope, list, name) {
         return Err(stop(Problem::Twice, tokens));
     }
-    if name.len() > NAME_LEN || is_full(list) {
+    if name.len() > NAME_LEN {
         return Err(stop(Problem::TooMany, tokens));
     }
     let rest = accept(tokens, room)?;
     let number = scope.bind(name)?;
     Ok((number, rest))
+}
+
+/// What is wrong at a fourth name.
+#[tactic(auto, unfolding(crate::specs::Steps::fourth_name_at))]
+fn fourth_name(scope: &Scope<'_>, tokens: &[Placed<'_>], list: Names) -> Problem
+    ensures { result ≡ fourth_name_at (names_of list) (here scope.now) (bare tokens.now) }
+{
+    let Some(name) = name_at(tokens) else {
+        return Problem::Syntax;
+    };
+    if is_taken(scope, Some(list), name) {
+        return Problem::Twice;
+    }
+    Problem::TooMany
 }
 
 /// A list of names that are bound.
@@ -188,7 +202,5 @@ pub fn bind_names<'a>(
         return Ok((names, rest));
     }
     let rest = accept(rest, room)?;
-    // A fourth name is one too many, or something else is wrong at it.
-    bind_name(scope, rest, room, Some(names))?;
-    Err(stop(Problem::TooMany, rest))
+    Err(stop(fourth_name(scope, rest, names), rest))
 }

@@ -3,10 +3,10 @@
 
 ghost use Rattle.std.specs.Prelude.{◌≡◌, ◌==◌, ◌<◌, OnOk, length};
 ghost use Rattle.std.specs.Option.{option_map};
-ghost use Rattle.phrase.specs.Steps.{Gives, bare, name_at, number_at, next_is, accept_at, expect_at};
+ghost use Rattle.phrase.specs.Steps.{Tells, bare, name_at, number_at, next_is, accept_at, expect_at};
 ghost use Rattle.phrase.specs.declared.fault.Stop.TheVariants.{At};
 
-use crate::fault::{Problem, Stop};
+use crate::fault::{Fault, Problem, Stop};
 use token::{Placed, Symbol, Token, is_same};
 
 /// Where a loop over the tokens begins, and how many there are.
@@ -36,10 +36,20 @@ pub fn is_end(tokens: &[Placed<'_>]) -> bool
 
 /// A problem at the token in front.
 #[tactic(auto, using(crate::proofs::Fronts::length_bare))]
-pub fn stop(problem: Problem, tokens: &[Placed<'_>]) -> Stop
-    ensures { result ≡ At problem (length (bare tokens.now)) }
+pub fn fault(problem: Problem, tokens: &[Placed<'_>]) -> Fault
+    ensures { result ≡ record { problem = problem; left = length (bare tokens.now) } }
 {
-    Stop::At(problem, tokens.len())
+    Fault {
+        problem,
+        left: tokens.len(),
+    }
+}
+
+/// A reader stops at the token in front.
+pub fn stop(problem: Problem, tokens: &[Placed<'_>]) -> Stop
+    ensures { result ≡ At (record { problem = problem; left = length (bare tokens.now) }) }
+{
+    Stop::At(fault(problem, tokens))
 }
 
 /// The name in front.
@@ -80,15 +90,18 @@ pub fn is_next(tokens: &[Placed<'_>], symbol: Symbol) -> bool
 
 /// The tokens behind the one in front.
 #[tactic(auto, unfolding(crate::specs::Steps::accept_at))]
-pub fn accept<'a>(tokens: &'a [Placed<'a>], room: usize) -> Result<&'a [Placed<'a>], Stop>
-    ensures value { Gives (λ x. bare x.now) result (accept_at room (bare tokens.now)) }
+pub fn accept<'a>(tokens: &'a [Placed<'a>], room: usize) -> Result<&'a [Placed<'a>], Fault>
+    ensures value { Tells (λ x. bare x.now) result (accept_at room (bare tokens.now)) }
     ensures deep { OnOk result (0 < room) }
 {
     let Some((_, rest)) = tokens.split_first() else {
-        return Err(Stop::At(Problem::Syntax, 0));
+        return Err(Fault {
+            problem: Problem::Syntax,
+            left: 0,
+        });
     };
     if room == 0 {
-        return Err(stop(Problem::TooMany, tokens));
+        return Err(fault(Problem::TooMany, tokens));
     }
     Ok(rest)
 }
@@ -99,12 +112,12 @@ pub fn expect<'a>(
     tokens: &'a [Placed<'a>],
     room: usize,
     symbol: Symbol,
-) -> Result<&'a [Placed<'a>], Stop>
-    ensures value { Gives (λ x. bare x.now) result (expect_at room symbol (bare tokens.now)) }
+) -> Result<&'a [Placed<'a>], Fault>
+    ensures value { Tells (λ x. bare x.now) result (expect_at room symbol (bare tokens.now)) }
     ensures deep { OnOk result (0 < room) }
 {
     if !is_next(tokens, symbol) {
-        return Err(stop(Problem::Syntax, tokens));
+        return Err(fault(Problem::Syntax, tokens));
     }
     let rest = accept(tokens, room)?;
     Ok(rest)

@@ -4,6 +4,7 @@ use Rattle.phrase.specs.Steps.{bare, here, repeated, next_is}
 use Rattle.syntax.specs.Trees.{Event, Stmt, event_of, stmt_of}
 use Rattle.block.specs.Blocks.{event_at, stmt_at, members_with, stmts_with, member_step, stmt_step}
 use Rattle.token.specs.declared.kind.Symbol.TheVariants.{CloseBracket}
+use Rattle.phrase.specs.declared.fault.Stop.TheVariants.{At}
 use Rattle.phrase.proofs.Fronts.{length_bare}
 use Rattle.phrase.proofs.Giving.{gives_err, fails_same, fails_bind, repeated_step, repeated_none, repeated_all, goes_on, map_more}
 use Rattle.block.proofs.Blocking.{SoFar, member_step-some, member_step-none, member_next-ok, member_next-no_room, member_next-no_event, stmt_step-some, stmt_step-none, stmt_next-ok, stmt_next-fails}
@@ -46,7 +47,7 @@ pub members-returns-in_err-after : goal.members-returns-in_err-after
 members-returns-in_err-after t c =
     let room = c.args.room in
     let event = event_at room in
-    let e = c.in_err-after.field-0.0 in
+    let e = At c.in_err-after.field-0.0 in
     let s : SoFar Event = (map event_of c.loop-turn.events.items, here c.loop-turn.scope, bare c.loop-turn.rest.now) in
     let whole = repeated_step (member_step event room) (length (bare c.args.tokens.now)) c.loop-turn._turn s _ _ (omega (arith, length_bare c.args.tokens.now, c.loop-turn-test.true)) (member_step-some event room s c.if-not-is_next.ensures) c.loop-turn.invariant in
     gives_err _ c.from_residual-in_err-after.result e _ c.from_residual-in_err-after.ensures.1 (fails_same e _ _ whole (fails_bind e _ _ (member_next-no_room event room s e c.in_err-after.ensures.value)))

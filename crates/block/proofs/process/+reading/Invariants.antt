@@ -43,8 +43,8 @@ decreases-nack l = 10 * l.room + 4
 abbrev pub decreases-members : goal.decreases-members
 decreases-members l = 10 * l.room + 6
 
-abbrev pub decreases-received : goal.decreases-received
-decreases-received l = 10 * l.room + 7
+abbrev pub decreases-read_sync : goal.decreases-read_sync
+decreases-read_sync l = 10 * l.room + 7
 
 abbrev pub decreases-forever : goal.decreases-forever
 decreases-forever l = 10 * l.room + 7

@@ -8,6 +8,7 @@ use Rattle.phrase.specs.Exprs.{Parts, parts_of, signed_of, parts_term, with_term
 use Rattle.phrase.proofs.Giving.{gives_err, fails_same, fails_bind, repeated_step, repeated_none, repeated_all}
 use Rattle.phrase.proofs.Fronts.{length_bare}
 use Rattle.phrase.proofs.Linking.{operand_at-is, term_step-some, term_step-none, term_read}
+use Rattle.phrase.specs.declared.fault.Stop.TheVariants.{At}
 use Rattle.phrase.proofs.expr.+sum.Goals as goal
 
 pub sum_of-returns-in_err-sum : goal.sum_of-returns-in_err-sum
@@ -59,7 +60,7 @@ sum_of-returns-in_err-after t c =
     let p = parts_of c.loop-turn.sum in
     let rest = bare c.loop-turn.rest.now in
     let operand = operand_at room h in
-    let e = c.in_err-after.field-0.0 in
+    let e = At c.in_err-after.field-0.0 in
     let step = term_step-some operand room p rest c.in-Some.sign c.in-Some.ensures in
     let whole = repeated_step (term_step operand room) (length (bare c.args.tokens.now)) c.loop-turn._turn (p, rest) _ _ (omega (arith, length_bare c.args.tokens.now, c.loop-turn-test.true)) step c.loop-turn.invariant in
     gives_err _ c.from_residual-in_err-after.result e _ c.from_residual-in_err-after.ensures.1
