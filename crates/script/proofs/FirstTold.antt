@@ -6,6 +6,8 @@ use Rattle.script.specs.FirstFaults.{IsFirstFault, told_fault, TellsFirst, Tells
 use Rattle.script.specs.declared.script.Script.{Script as SeenScript}
 use Rattle.script.specs.declared.fault.ScriptFault.{ScriptFault}
 use Rattle.script.specs.declared.fault.ScriptFault.TheVariants as faults
+use Rattle.std.proofs.lemmas.Bool.Decides.{nat_tests}
+use Rattle.script.proofs.Spelled.{too_long}
 use Rattle.script.proofs.Wholes.{scripts_are_answered}
 
 -- the text is read, as it is not too long
@@ -22,20 +24,20 @@ err_is a b e = cc
 
 -- WHAT IS TOLD IS FIRST
 
-told_first : (bytes : List ℕ) (fault : ScriptFault) (read : Result Script Told) → script_at (tokens_of bytes) ≡ read → with_line bytes read ≡ Err fault → TellsFirst bytes fault
-told_first bytes fault (Ok s) e f = absurd cc
-told_first bytes fault (Err told) e f = record { told = told; is = sym (err_is _ _ f); first = scripts_are_answered.demanded (tokens_of bytes) told e }
+told_first : (bytes : List ℕ) (fault : ScriptFault) (read : Result Script Told) → length bytes ≤ 65536 → script_at (tokens_of bytes) ≡ read → with_line bytes read ≡ Err fault → TellsFirst bytes fault
+told_first bytes fault (Ok s) fits e f = absurd cc
+told_first bytes fault (Err told) fits e f = record { told = told; is = sym (err_is _ _ f); first = scripts_are_answered.demanded (tokens_of bytes) told e; fits = fits }
 
 fault_first : (bytes : List ℕ) (fault : ScriptFault) → (faults.TooLong ≡ fault → ⊥) → text_at bytes ≡ Err fault → TellsFirst bytes fault
 fault_first bytes fault other e = at_length (ltb 65536 (length bytes)) refl
   where
     at_length : (b : Bool) → ltb 65536 (length bytes) ≡ b → TellsFirst bytes fault
     at_length true long = absurd (other (err_is _ _ (sym (long_text bytes long) ∙ e)))
-    at_length false short = told_first bytes fault (script_at (tokens_of bytes)) refl (sym (short_text bytes short) ∙ e)
+    at_length false short = told_first bytes fault (script_at (tokens_of bytes)) (let fits : length bytes ≤ 65536 = grind (arith, nat_tests) in fits) refl (sym (short_text bytes short) ∙ e)
 
 pub fault_tells : (bytes : List ℕ) (fault : ScriptFault) → IsFault fault (text_at bytes) → Tells bytes fault
 fault_tells bytes faults.Memory e = tt
-fault_tells bytes faults.TooLong e = tt
+fault_tells bytes faults.TooLong e = too_long bytes e
 fault_tells bytes (faults.Syntax line) e = fault_first bytes (faults.Syntax line) (λ same. absurd cc) e
 fault_tells bytes (faults.UnknownName line) e = fault_first bytes (faults.UnknownName line) (λ same. absurd cc) e
 fault_tells bytes (faults.Twice line) e = fault_first bytes (faults.Twice line) (λ same. absurd cc) e

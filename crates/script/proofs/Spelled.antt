@@ -316,7 +316,7 @@ pub answers_fits : (bytes : List ℕ) (r : Result SeenScript ScriptFault) → An
 answers_fits bytes (Ok s) h = short_text bytes (script_of s) h
 answers_fits bytes (Err fault) h = tt
 
-too_long : (bytes : List ℕ) → text_at bytes ≡ Err faults.TooLong → 65536 < length bytes
+pub too_long : (bytes : List ℕ) → text_at bytes ≡ Err faults.TooLong → 65536 < length bytes
 unfolding text_at
 too_long bytes e = at_length (ltb 65536 (length bytes)) refl e
   where
@@ -361,7 +361,7 @@ pub answers_refuses : (bytes : List ℕ) (r : Result SeenScript ScriptFault) →
 unfolding is_long
 answers_refuses bytes (Ok s) h = tt
 answers_refuses bytes (Err faults.Memory) h = tt
-answers_refuses bytes (Err faults.TooLong) h = too_long bytes h
+answers_refuses bytes (Err faults.TooLong) h = tt
 answers_refuses bytes (Err (faults.Syntax line)) h = nothing bytes (faults.Syntax line) refl h
 answers_refuses bytes (Err (faults.UnknownName line)) h = nothing bytes (faults.UnknownName line) refl h
 answers_refuses bytes (Err (faults.Twice line)) h = nothing bytes (faults.Twice line) refl h

@@ -1,6 +1,6 @@
 -- Which fault of a text is to be told: by the grammar and the notes of what is written, apart from how it is
 -- read.
-use Rattle.std.specs.Prelude.{◌≡◌, ◌⊎◌, ℕ, ◌≤◌, List, [], ◌++◌, length, Result, Err}
+use Rattle.std.specs.Prelude.{◌≡◌, ◌⊎◌, ℕ, ◌<◌, ◌≤◌, List, [], ◌++◌, length, Result, Err}
 use Rattle.token.specs.Tokens.{Token}
 use Rattle.token.specs.Lexemes.{placed_tokens, last_line}
 use Rattle.phrase.specs.Steps.{Told}
@@ -32,16 +32,18 @@ IsFirstFault bytes told = Demanded script_spell script_notes Ended (tokens_of by
 abbrev pub told_fault : List ℕ → Told → ScriptFault
 told_fault bytes told = fault_at told.0 (line_left (placed_tokens bytes) (last_line bytes) told.1)
 
--- a fault that is the first of the text, with its line
+-- the text is not too long, and the fault is its first, with its line
 pub record TellsFirst (bytes : List ℕ) (fault : ScriptFault) : Type 0 where
   pub told : Told
   pub is : fault ≡ told_fault bytes told
   pub first : IsFirstFault bytes told
+  pub fits : length bytes ≤ 65536
 
--- what a fault that is told says of the text: it is the first, but for the two that have no line
+-- What a fault that is told says of the text: the text is too long, or else the fault is its first. So
+-- that a text is too long comes before all other faults.
 abbrev pub Tells : List ℕ → ScriptFault → Type 0
 Tells bytes faults.Memory = Unit {0}
-Tells bytes faults.TooLong = Unit {0}
+Tells bytes faults.TooLong = 65536 < length bytes
 Tells bytes (faults.Syntax line) = TellsFirst bytes (faults.Syntax line)
 Tells bytes (faults.UnknownName line) = TellsFirst bytes (faults.UnknownName line)
 Tells bytes (faults.Twice line) = TellsFirst bytes (faults.Twice line)

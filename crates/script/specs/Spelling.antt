@@ -1,5 +1,5 @@
 -- What a text spells: the grammar, apart from how it is read.
-use Rattle.std.specs.Prelude.{◌≡◌, ℕ, ◌<◌, ◌≤◌, List, [], length, Option, Some}
+use Rattle.std.specs.Prelude.{◌≡◌, ℕ, ◌≤◌, List, [], Option, Some}
 use Rattle.grammar.specs.Written as written
 use Rattle.grammar.specs.Written.{script_tokens}
 use Rattle.grammar.specs.Depths.{script_depth}
@@ -36,10 +36,10 @@ SpellsOnlyOne = (bytes : List ℕ) (s t : Script) → Spells bytes s → Spells 
 abbrev pub SpellsNothing : List ℕ → Type 0
 SpellsNothing bytes = (s : Script) → Spells bytes s → ⊥
 
--- what a fault says of the text: it is too long or spells nothing, unless memory ran out
+-- what a fault with a line says of the text: it spells nothing
 abbrev pub Refuses : List ℕ → ScriptFault → Type 0
 Refuses bytes faults.Memory = Unit {0}
-Refuses bytes faults.TooLong = 65536 < length bytes
+Refuses bytes faults.TooLong = Unit {0}
 Refuses bytes (faults.Syntax line) = SpellsNothing bytes
 Refuses bytes (faults.UnknownName line) = SpellsNothing bytes
 Refuses bytes (faults.Twice line) = SpellsNothing bytes

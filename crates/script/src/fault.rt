@@ -2,8 +2,9 @@
 
 use thiserror::Error;
 
-/// Why a text could not be read as a script, with the line, from 1. Of all faults of a text the one
-/// at the earliest token is told, and of two at one token the one that stands first here.
+/// Why a text could not be read as a script, with the line, from 1. A text that is too long is told as that.
+/// Of all other faults of a text the one at the earliest token is told, and of two at one token the one that
+/// stands first here. Want of memory may be told of any text.
 #[derive(Clone, Copy, Debug, PartialEq, Eq, Error)]
 pub enum ScriptFault {
     #[error("out of memory")]
@@ -23,7 +24,7 @@ pub enum ScriptFault {
     /// The body of a loop, whose word stands on the line, does not begin with a sync.
     #[error("line {0}: the loop does not begin with a sync")]
     LoopWithoutSync(usize),
-    /// The text has more than 65,536 bytes.
+    /// The text has more than 65,536 bytes. This fault comes before all those with a line.
     #[error("the text is too long")]
     TooLong,
 }

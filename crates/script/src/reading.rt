@@ -220,7 +220,7 @@ fn read_text(alloc: Global, bytes: &[u8]) -> Result<Script, ScriptFault>
             processes,
         }),
         Err(Stop::Memory) => Err(ScriptFault::Memory),
-        Err(Stop::At(problem, left)) => Err(fault_at(problem, line_at(&tokens, left))),
+        Err(Stop::At(fault)) => Err(fault_at(fault.problem, line_at(&tokens, fault.left))),
     }
 }
 

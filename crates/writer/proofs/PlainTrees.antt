@@ -481,15 +481,19 @@ script_plain w s e =
       good = λ h. subst (λ (y : List (List ℕ)). AllGood (channels_tokens y (processes_tokens (map (plain_process c.first) p.first)))) same (channels_good w.channels (processes_tokens w.processes) (processes_tokens (map (plain_process c.first) p.first)) h q.good);
     })
 
-pub spelled_by_canon : IsSpelledByCanon
+canon_spells : (bytes : List ℕ) (s : Script) → Spells bytes s → Spells (Canon s) s
 unfolding Canon
-spelled_by_canon bytes s h =
+canon_spells bytes s h =
     let p = script_plain h.written s h.meaning in
     let good = p.good (subst AllGood h.tokens (texts_are_good bytes)) in
     record { written = plain s; tokens = text_again (script_tokens (plain s)) good; depth = omega (arith, p.shallow, h.depth); meaning = p.meaning }
 
+pub spelled_by_canon : IsSpelledByCanon
+spelled_by_canon s h = ∥∥₁_rec squash₁ (λ t. ∣ canon_spells t.0 s t.1 ∣₁) h
+
 pub read_again : IsReadAgain
-read_again bytes s h short = spells_again (Canon s) s short (spelled_by_canon bytes s h)
+read_again s h short = ∥∥₁_rec squash₁ (λ k. ∣ spells_again (Canon s) s short k ∣₁) (spelled_by_canon s h)
 
 pub own_canon : HasItsOwnCanon
-own_canon bytes others s t h k same = spells_only_one (Canon t) s t (subst (λ (y : List ℕ). Spells y s) same (spelled_by_canon bytes s h)) (spelled_by_canon others t k)
+own_canon s t h k same =
+    ∥∥₁_rec squash₁ (λ p. ∥∥₁_rec squash₁ (λ q. ∣ spells_only_one (Canon t) s t (subst (λ (y : List ℕ). Spells y s) same p) q ∣₁) (spelled_by_canon t k)) (spelled_by_canon s h)

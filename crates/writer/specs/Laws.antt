@@ -1,17 +1,26 @@
--- What is written is read again.
+-- What is written is read again. Of a script it is known that some text spells it, and not which: so what
+-- follows from that is known to be so, and stands between bars.
 use Rattle.std.specs.Prelude.{◌≡◌, ℕ, ◌≤◌, List, length, Ok}
 use Rattle.script.specs.Scripts.{Script, text_at}
-use Rattle.script.specs.Spelling.{Spells}
+use Rattle.script.specs.Spelling.{Spells, IsSpelled}
 use Rattle.writer.specs.Canon.{Canon}
 
--- the canonical text of a script that some bytes spell spells it
-abbrev pub IsSpelledByCanon : Type 0
-IsSpelledByCanon = (bytes : List ℕ) (s : Script) → Spells bytes s → Spells (Canon s) s
+-- the bytes spell the script
+abbrev pub IsSpelledBy : List ℕ → Script → Type 0
+IsSpelledBy bytes s = ∥ Spells bytes s ∥₁
 
--- and is read as it, where it is not too long
+-- and are read as it, where they are not too many
+abbrev pub IsReadFrom : List ℕ → Script → Type 0
+IsReadFrom bytes s = length bytes ≤ 65536 → ∥ text_at bytes ≡ Ok s ∥₁
+
+-- the canonical text of a script spells it
+abbrev pub IsSpelledByCanon : Type 0
+IsSpelledByCanon = (s : Script) → IsSpelled s → IsSpelledBy (Canon s) s
+
+-- and is read as it
 abbrev pub IsReadAgain : Type 0
-IsReadAgain = (bytes : List ℕ) (s : Script) → Spells bytes s → length (Canon s) ≤ 65536 → text_at (Canon s) ≡ Ok s
+IsReadAgain = (s : Script) → IsSpelled s → IsReadFrom (Canon s) s
 
 -- scripts that have one canonical text are one
 abbrev pub HasItsOwnCanon : Type 0
-HasItsOwnCanon = (bytes others : List ℕ) (s t : Script) → Spells bytes s → Spells others t → Canon s ≡ Canon t → s ≡ t
+HasItsOwnCanon = (s t : Script) → IsSpelled s → IsSpelled t → Canon s ≡ Canon t → ∥ s ≡ t ∥₁

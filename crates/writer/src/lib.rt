@@ -6,9 +6,10 @@
 //!
 //! Proved:
 //! - `write` gives `Canon` of its script: the tokens of what is written plainly, with names in place of
-//!   numbers and parentheses only round a right operand that is itself a sum.
-//! - The canonical text of a script that some text spells, spells it; it is read as it, where it has at
-//!   most 65,536 bytes; and no other script has it (`writing_laws`).
+//!   numbers and parentheses only round a right operand that is itself a sum. This text spells the script,
+//!   and is read as it where it has at most 65,536 bytes.
+//! - The same of the canonical text of any script that some text spells; and no other script has it
+//!   (`writing_laws`).
 //! - Each call ends, by the size of the tree that it goes down.
 #![tactic(auto)]
 

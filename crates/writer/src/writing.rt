@@ -5,7 +5,7 @@ ghost use Rattle.std.specs.String.{string_bytes};
 ghost use Rattle.syntax.specs.Processes.{proc_of};
 ghost use Rattle.script.specs.Scripts.{script_of};
 ghost use Rattle.writer.specs.Canon.{Canon};
-ghost use Rattle.writer.specs.Laws.{IsSpelledByCanon, IsReadAgain, HasItsOwnCanon};
+ghost use Rattle.writer.specs.Laws.{IsSpelledBy, IsReadFrom, IsSpelledByCanon, IsReadAgain, HasItsOwnCanon};
 ghost use Rattle.writer.specs.Texts.{channels_text, process_text, processes_text, script_text};
 
 use crate::names::Source;
@@ -43,9 +43,11 @@ fn put_processes(out: &mut String, script: &Script) -> Result<(), AllocError>
     Ok(())
 }
 
-/// The canonical text of a script.
+/// The canonical text of a script, which spells it, and is read as it where it has at most 65,536 bytes.
 pub fn write(alloc: Global, script: &Script) -> Result<String, AllocError>
-    ensures { IfOk result (λ text. string_bytes text ≡ Canon (script_of script.now)) }
+    ensures canon { IfOk result (λ text. string_bytes text ≡ Canon (script_of script.now)) }
+    ensures spelled { IfOk result (λ text. IsSpelledBy (string_bytes text) (script_of script.now)) }
+    ensures again { IfOk result (λ text. IsReadFrom (string_bytes text) (script_of script.now)) }
 {
     let mut out = String::new(alloc);
     put_channels(&mut out, script)?;
@@ -53,8 +55,8 @@ pub fn write(alloc: Global, script: &Script) -> Result<String, AllocError>
     Ok(out)
 }
 
-/// The canonical text of a script that some text spells, spells it and is read as it, and no other
-/// script has it.
+/// The canonical text of a script that some text spells, spells it and is read as it where it is not too
+/// long, and no other script has it.
 pub fn writing_laws()
     ensures spelled { IsSpelledByCanon }
     ensures again { IsReadAgain }

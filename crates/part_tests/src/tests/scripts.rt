@@ -145,7 +145,6 @@ fn names(rt: HostRuntime) -> Result<(), Fail> {
     )?;
     check_script(&rt, "channel c; process c { sync send c (c); }", 1, 1)?;
     check_fault(&rt, "process a { let if = 1; }", ScriptFault::Syntax(1))?;
-    check_fault(&rt, "process a { spawn b; }", ScriptFault::Syntax(1))?;
     check_script(
         &rt,
         "process a { let abcdefghijklmnopqrstuvwxyzabcdef = 1; }",
@@ -161,6 +160,39 @@ fn names(rt: HostRuntime) -> Result<(), Fail> {
         &rt,
         "process a { print abcdefghijklmnopqrstuvwxyzabcdefg; }",
         ScriptFault::UnknownName(1),
+    )?;
+    Ok(())
+}
+
+#[test]
+fn reserved_words_are_no_names(rt: HostRuntime) -> Result<(), Fail> {
+    check_fault(&rt, "channel\nspawn;", ScriptFault::Syntax(2))?;
+    check_fault(&rt, "channel\njoined;", ScriptFault::Syntax(2))?;
+    check_fault(&rt, "process\nspawn { }", ScriptFault::Syntax(2))?;
+    check_fault(&rt, "process\njoined { }", ScriptFault::Syntax(2))?;
+    check_fault(&rt, "process a { let\nspawn = 1; }", ScriptFault::Syntax(2))?;
+    check_fault(
+        &rt,
+        "process a { let\njoined = 1; }",
+        ScriptFault::Syntax(2),
+    )?;
+    check_fault(
+        &rt,
+        "process a {\nspawn <- sync never; }",
+        ScriptFault::Syntax(2),
+    )?;
+    check_fault(
+        &rt,
+        "process a {\njoined <- sync never; }",
+        ScriptFault::Syntax(2),
+    )?;
+    check_fault(&rt, "process a { print\nspawn; }", ScriptFault::Syntax(2))?;
+    check_fault(&rt, "process a { print\njoined; }", ScriptFault::Syntax(2))?;
+    check_script(
+        &rt,
+        "channel spawns; process join { let joined1 = 1; }",
+        1,
+        1,
     )?;
     Ok(())
 }
