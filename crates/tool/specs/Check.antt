@@ -1,7 +1,8 @@
 -- What checking a script prints, and its faults as faults of the program.
-use Rattle.std.specs.Prelude.{◌≡◌, ℕ, List, [], ◌∷◌, ◌++◌, length, codes, Ok}
+use Rattle.std.specs.Prelude.{◌≡◌, ℕ, ◌≤◌, List, [], ◌∷◌, ◌++◌, length, codes}
 use Rattle.std.specs.Fmt.{decimal}
-use Rattle.script.specs.Scripts.{Script, text_at}
+use Rattle.script.specs.Sources.{Script}
+use Rattle.script.specs.Spelling.{Spells}
 use Rattle.script.specs.declared.fault.ScriptFault.{ScriptFault}
 use Rattle.script.specs.declared.fault.ScriptFault.TheVariants as scripts
 use Rattle.tool.specs.declared.fault.Fault.{Fault}
@@ -10,10 +11,11 @@ use Rattle.tool.specs.declared.fault.Fault.TheVariants as faults
 abbrev pub check_line : ℕ → ℕ → List ℕ
 check_line processes channels = codes "processes " ++ decimal processes ++ codes " channels " ++ decimal channels ++ 10 ∷ []
 
--- The bytes say a script, and the text tells how many processes and channels it has.
+-- The bytes spell a script and are not too many, and the text tells how many processes and channels it has.
 pub record IsChecked (bytes text : List ℕ) : Type 0 where
   pub script : Script
-  pub says : text_at bytes ≡ Ok script
+  pub spells : Spells bytes script
+  pub fits : length bytes ≤ 65536
   pub is : text ≡ check_line (length script.processes) (length script.channels)
 
 abbrev pub fault_of_script : ScriptFault → Fault

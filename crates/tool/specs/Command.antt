@@ -16,7 +16,7 @@ use Rattle.tool.specs.declared.program.Verdict.TheVariants.{Done, Unlawful}
 use Rattle.journal_text.specs.Journals as journals
 use Rattle.script.specs.Sources.{Script}
 use Rattle.script.specs.Spelling.{Spells}
-use Rattle.script.specs.Scripts.{IsFault, text_at}
+use Rattle.script.specs.FirstFaults.{Tells}
 use Rattle.script.specs.declared.fault.ScriptFault.TheVariants as scripts
 
 -- of a script that some file spells, and some file of a journal
@@ -34,14 +34,14 @@ Answers (Replay script journal rows) Unlawful text = OfFiles (λ s bytes. IsNoRu
 Answers (Run script workers rows) Done text = (bytes : List ℕ) × (s : Script) × Spells bytes s × IsRan s rows text
 Answers asked Unlawful text = ⊥
 
--- what a fault of a script says
+-- what a fault of a script says: some file's text has it as its first
 abbrev pub FailsScript : Fault → Type 0
-FailsScript (faults.Syntax line) = (bytes : List ℕ) × IsFault (scripts.Syntax line) (text_at bytes)
-FailsScript (faults.UnknownName line) = (bytes : List ℕ) × IsFault (scripts.UnknownName line) (text_at bytes)
-FailsScript (faults.Twice line) = (bytes : List ℕ) × IsFault (scripts.Twice line) (text_at bytes)
-FailsScript (faults.TooMany line) = (bytes : List ℕ) × IsFault (scripts.TooMany line) (text_at bytes)
-FailsScript (faults.LoopWithoutSync line) = (bytes : List ℕ) × IsFault (scripts.LoopWithoutSync line) (text_at bytes)
-FailsScript faults.TooLong = (bytes : List ℕ) × IsFault scripts.TooLong (text_at bytes)
+FailsScript (faults.Syntax line) = (bytes : List ℕ) × Tells bytes (scripts.Syntax line)
+FailsScript (faults.UnknownName line) = (bytes : List ℕ) × Tells bytes (scripts.UnknownName line)
+FailsScript (faults.Twice line) = (bytes : List ℕ) × Tells bytes (scripts.Twice line)
+FailsScript (faults.TooMany line) = (bytes : List ℕ) × Tells bytes (scripts.TooMany line)
+FailsScript (faults.LoopWithoutSync line) = (bytes : List ℕ) × Tells bytes (scripts.LoopWithoutSync line)
+FailsScript faults.TooLong = (bytes : List ℕ) × Tells bytes scripts.TooLong
 FailsScript fault = ⊥
 
 -- what a fault says of the request: `meet` lacks only memory or a thread, and the others may also fail by a file or by what it holds

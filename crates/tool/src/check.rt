@@ -2,7 +2,7 @@
 
 ghost use Rattle.std.specs.Prelude.{◌≡◌, IfOk, IfErr};
 ghost use Rattle.std.specs.String.{string_bytes};
-ghost use Rattle.script.specs.Scripts.{IsFault, text_at};
+ghost use Rattle.script.specs.FirstFaults.{Tells};
 ghost use Rattle.tool.specs.Check.{check_line, IsChecked};
 
 use script::{ScriptFault, parse};
@@ -17,7 +17,7 @@ fn check_line(alloc: Global, processes: usize, channels: usize) -> Result<String
 /// How many processes and channels the script in the bytes has, or its fault.
 pub fn check_text(alloc: Global, bytes: &[u8]) -> Result<Vec<u8>, ScriptFault>
     ensures checked { IfOk result (λ text. IsChecked bytes.now text.items) }
-    ensures fault { IfErr result (λ fault. IsFault fault (text_at bytes.now)) }
+    ensures fault { IfErr result (Tells bytes.now) }
 {
     let script = parse(alloc, bytes)?;
     let Ok(line) = check_line(alloc, script.processes().len(), script.channels()) else {
