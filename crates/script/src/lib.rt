@@ -10,9 +10,9 @@
 //!   of `grammar`, with no reading in them.
 //! - `parse` answers what `text_at` says of the bytes: a fault and its line are those of a reading of the
 //!   tokens from left to right.
-//! - That fault is the first of the text, with its line, as the notes of `faults` and the grammar say it
-//!   (`FirstFaults`): whatever is written and begins with the tokens up to the fault's has it. And the
-//!   first fault of a text that is not too long is told, unless memory runs out.
+//! - A fault with a line is the first of a text that is not too long, as the notes of `faults` and the
+//!   grammar say it (`FirstFaults`): whatever is written and begins with the tokens up to the fault's has
+//!   it. And the first fault of a text that is not too long is told, unless memory runs out.
 //! - What is read keeps the limits: each process has them by its own invariant (`syntax::Proc`).
 //! - The counts and the names of a script are those of the script that was read.
 //! - Each call ends. Reading goes down by what is left of 49 levels, and loops over statements,

@@ -132,6 +132,7 @@ fn process<'a>(
     let rest = expect(tokens, ROOM, Symbol::Process)?;
     let (name, rest) = declare(&mut draft.names, PROCESSES, rest)?;
     draft.scope.variables = Table::new(alloc);
+    // A block leaves the counts as they were, so they are 0 here; set anew they are known to be.
     draft.scope.counts = Counts { bases: 0, nacks: 0 };
     let (block, rest) = read_block(alloc, &mut draft.scope, rest, ROOM, Loops::Allowed)?;
     let process = proc_with(alloc, name, block, &draft.scope)?;

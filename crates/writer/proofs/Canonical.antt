@@ -1,8 +1,7 @@
 -- The parts of a canonical text, one behind the other, are the text of its tokens.
 use Rattle.std.proofs.Common.{◌≡◌, ℕ, List, [], ◌∷◌, ◌++◌, map, codes, Option, Some, None, refl, sym, ap, ◌∙◌, append_assoc}
-use Rattle.token.specs.Tokens.{Token, Fixed, Name, Number}
+use Rattle.token.specs.Tokens.{Token, Fixed}
 use Rattle.token.specs.declared.kind.Symbol.TheVariants as symbols
-use Rattle.syntax.specs.declared.tree.Name.{Name as Meaning}
 use Rattle.syntax.specs.declared.tree.Operand.{Operand}
 use Rattle.syntax.specs.declared.tree.Operand.TheVariants as operands
 use Rattle.syntax.specs.declared.tree.Sign.{Sign}
@@ -11,12 +10,12 @@ use Rattle.syntax.specs.declared.tree.Relation.{Relation}
 use Rattle.syntax.specs.declared.tree.Relation.TheVariants as relations
 use Rattle.syntax.specs.Trees.{Term, Single, Sum, Terms, Nothing, More, Expr, Test, Event, Sends, Receives, IsReady, IsNever, IsCancelled, Chooses, Wraps, Guards, Nacks, Events, NoMembers, Members, Stmt, Lets, Prints, Syncs, Branches, Loops, LoopsForever, Ends, Block, Stops, Runs}
 use Rattle.syntax.specs.Processes.{Proc}
-use Rattle.grammar.specs.Written.{sign_symbol, relation_symbol, term_tokens, terms_tokens, expr_tokens, test_tokens, others_tokens, members_tokens, list_tokens, more_names_tokens, as_tokens, received_tokens, event_tokens, events_tokens, more_events_tokens, stmt_tokens, body_tokens, channels_tokens, processes_tokens, script_tokens}
+use Rattle.grammar.specs.Written.{sign_symbol, relation_symbol, term_tokens, terms_tokens, expr_tokens, test_tokens, others_tokens, list_tokens, more_names_tokens, as_tokens, received_tokens, event_tokens, events_tokens, more_events_tokens, stmt_tokens, body_tokens, channels_tokens, processes_tokens}
 use Rattle.grammar.specs.Meaning.{Names}
 use Rattle.script.specs.Scripts.{Script}
 use Rattle.writer.specs.Plain.{variable, names_of, names_in, plain_operand, plain_term, plain_terms, plain_expr, plain_list, plain_test, plain_event, plain_events, plain_stmt, plain_block, plain_process, plain}
 use Rattle.writer.specs.Canon.{text_of, Canon}
-use Rattle.writer.specs.Texts.{variable_text, operand_text, sign_text, term_text, terms_text, expr_text, others_text, members_text, list_text, relation_text, test_text, other_names_text, names_text, as_text, received_text, event_text, events_text, more_events_text, stmt_text, stmts_text, channels_text, process_text, processes_text, script_text}
+use Rattle.writer.specs.Texts.{operand_text, sign_text, term_text, terms_text, expr_text, others_text, list_text, relation_text, test_text, other_names_text, as_text, received_text, event_text, events_text, more_events_text, stmt_text, stmts_text, channels_text, processes_text, script_text}
 
 five : (p a b c d e : List ℕ) → p ++ (a ++ (b ++ (c ++ (d ++ e)))) ≡ p ++ a ++ b ++ c ++ d ++ e
 five p a b c d e = simp append_assoc

@@ -2,4 +2,5 @@ pub mod Lists
 pub mod Canonical
 pub mod Lexing
 pub mod Plainly
+pub mod Codes
 pub mod PlainTrees

@@ -1,5 +1,5 @@
 -- Events, statements, blocks and scripts: what is meant is meant when it is written plainly.
-use Rattle.std.proofs.Common.{◌≡◌, ℕ, suc, ◌≤◌, Bool, true, false, ◌||◌, ltb, leb, List, [], ◌∷◌, ◌++◌, length, map, Option, Some, is_some, refl, sym, ap, ◌∙◌, subst, arith, append_assoc}
+use Rattle.std.proofs.Common.{◌≡◌, ℕ, suc, ◌≤◌, Bool, true, false, ◌||◌, ltb, leb, List, [], ◌∷◌, ◌++◌, length, map, Option, Some, Result, Ok, Err, is_some, refl, sym, ap, ◌∙◌, subst, arith, append_assoc}
 use Rattle.std.proofs.lemmas.List.{append-nil}
 use Rattle.phrase.specs.Places.{place}
 use Rattle.token.specs.Tokens.{Token, Fixed, Name}
@@ -14,12 +14,14 @@ use Rattle.grammar.specs.Depths.{exprs_depth, list_depth, test_depth, event_dept
 use Rattle.grammar.specs.Meaning.{Names, name_meaning, expr_meaning, test_meaning, exprs_meaning, list_meaning, bind, bind_names, is_small, as_turn, event_meaning, events_meaning, stmt_meaning, block_meaning, declare, channels_meaning, processes_meaning}
 use Rattle.grammar.proofs.Names.{part, some_is, if_else_some, unless_some}
 use Rattle.grammar.proofs.Growing.{Grows, stays, grows_on, event_grows, events_grow, block_grows, bind_names_grows}
-use Rattle.script.specs.Scripts.{Script}
+use Rattle.script.specs.Scripts.{Script, text_at}
+use Rattle.script.specs.declared.fault.ScriptFault.{ScriptFault}
 use Rattle.script.specs.Spelling.{script_meaning, Spells}
 use Rattle.writer.specs.Plain.{variable, name_of, names_of, plain_expr, plain_list, plain_test, plain_event, plain_events, plain_stmt, plain_block, plain_process, plain}
 use Rattle.writer.specs.Canon.{Canon}
 use Rattle.script.proofs.Spelled.{spells_again, spells_only_one}
 use Rattle.writer.specs.Laws.{IsSpelledByCanon, IsReadAgain, HasItsOwnCanon}
+use Rattle.writer.proofs.Codes.{script_set}
 use Rattle.script.proofs.Good.{Good, AllGood, texts_are_good}
 use Rattle.writer.proofs.Lexing.{text_again}
 use Rattle.writer.proofs.Plainly.{named, bound_named, names_named, expr_plain}
@@ -492,8 +494,19 @@ pub spelled_by_canon : IsSpelledByCanon
 spelled_by_canon s h = ∥∥₁_rec squash₁ (λ t. ∣ canon_spells t.0 s t.1 ∣₁) h
 
 pub read_again : IsReadAgain
-read_again s h short = ∥∥₁_rec squash₁ (λ k. ∣ spells_again (Canon s) s short k ∣₁) (spelled_by_canon s h)
+read_again s h short = at_read (text_at (Canon s)) refl
+  where
+    nothing_is_prop : IsProp ⊥
+    nothing_is_prop x y = absurd x
+
+    at_read : (read : Result Script ScriptFault) → text_at (Canon s) ≡ read → text_at (Canon s) ≡ Ok s
+    at_read (Ok t) is =
+        is ∙
+        ap (λ (x : Script). Ok x)
+        (∥∥₁_rec (script_set t s) (λ k. (let both : ◌≡◌ {A = Result Script ScriptFault} (Ok t) (Ok s) = sym is ∙ spells_again (Canon s) s short k in let same : t ≡ s = cc in same)) (spelled_by_canon s h))
+    at_read (Err fault) is =
+        absurd (∥∥₁_rec nothing_is_prop (λ k. (let both : ◌≡◌ {A = Result Script ScriptFault} (Err fault) (Ok s) = sym is ∙ spells_again (Canon s) s short k in absurd cc)) (spelled_by_canon s h))
 
 pub own_canon : HasItsOwnCanon
 own_canon s t h k same =
-    ∥∥₁_rec squash₁ (λ p. ∥∥₁_rec squash₁ (λ q. ∣ spells_only_one (Canon t) s t (subst (λ (y : List ℕ). Spells y s) same p) q ∣₁) (spelled_by_canon t k)) (spelled_by_canon s h)
+    ∥∥₁_rec (script_set s t) (λ p. ∥∥₁_rec (script_set s t) (λ q. spells_only_one (Canon t) s t (subst (λ (y : List ℕ). Spells y s) same p) q) (spelled_by_canon t k)) (spelled_by_canon s h)

@@ -1,4 +1,4 @@
-use Rattle.std.proofs.Common.{◌≡◌, ℕ, List, [], ◌∷◌, ◌++◌, codes, ◌∙◌, sym, ap}
+use Rattle.std.proofs.Common.{ℕ, List, [], ◌∷◌, ◌++◌, codes, ◌∙◌, sym, ap}
 use Rattle.std.specs.String.{string_bytes}
 use Rattle.script.specs.Scripts.{script_of}
 use Rattle.writer.proofs.Lists.{channels_more}

@@ -1,4 +1,4 @@
-use Rattle.std.proofs.Common.{◌≡◌, ℕ, List, ◌++◌, ◌∙◌, sym, ap}
+use Rattle.std.proofs.Common.{ℕ, List, ◌++◌, ◌∙◌, sym, ap}
 use Rattle.std.specs.String.{string_bytes}
 use Rattle.syntax.specs.Processes.{proc_of}
 use Rattle.script.specs.Scripts.{script_of}
