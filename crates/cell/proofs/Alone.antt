@@ -13,8 +13,9 @@ use Rattle.protocol.proofs.Linking.{some_inj}
 use Rattle.cell.specs.declared.view.View.{View}
 use Rattle.cell.specs.declared.view.Stage.TheVariants.{Resting}
 use Rattle.cell.specs.declared.granting.Grant.TheVariants.{Given, Late}
-use Rattle.cell.specs.Told.{Agrees}
-use Rattle.cell.specs.Views.{saw, turned}
+use Rattle.cell.specs.Told.{Agrees, settled}
+use Rattle.cell.specs.Views.{did, saw}
+use Rattle.words.specs.declared.Step.TheVariants.{Grant}
 use Rattle.protocol.specs.Tables.{bound_row, joined_of}
 use Rattle.cell.specs.declared.view.Seen.{Seen}
 use Rattle.cell.specs.Sight.{Has, HaveOffer, HasSeenLast, Learns, LearnsOf, IsBefore, SawCommitted, SeesOffer, see_cell, see_opened}
@@ -140,14 +141,14 @@ module _ (before s u : Seen) (v w : View) (r : Row) (n : ℕ) (o : Offer) (cause
   seen_before : (i : Joined) → Has before.joined (r, i) → Has v.seen.joined (r, i)
   seen_before i h = ready.before_row.joined.0 (r, i) (ready.nack.joined.0 (r, i) (ready.offer.joined.0 (r, i) h))
 
-  given_learns : w ≡ saw r (Synched alone_as) (turned Resting r v) → Learns (λ q. q ≡ r) v.seen w.seen
+  given_learns : w ≡ did (Grant r n) (settled r alone_as v) → Learns (λ q. q ≡ r) v.seen w.seen
   given_learns e = subst (λ (x : View). Learns (λ q. q ≡ r) v.seen x.seen) (sym e)
       (learns_then (λ q. q ≡ r) v.seen (see_opened r v.seen) _ (learns_open r v.seen) (learns_look r (Synched alone_as) (see_opened r v.seen)))
 
   late_learns : (c : Cell) → w ≡ saw r c v → Learns (λ q. q ≡ r) v.seen w.seen
   late_learns c e = subst (λ (x : View). Learns (λ q. q ≡ r) v.seen x.seen) (sym e) (learns_look r c v.seen)
 
-  pub given_is : w ≡ saw r (Synched alone_as) (turned Resting r v) → Agrees v r Waiting → Granted before w.seen r n Given × LearnsOf (IsNearGrant w.seen r n) (IsNackOf w.seen r n) before w.seen
+  pub given_is : w ≡ did (Grant r n) (settled r alone_as v) → Agrees v r Waiting → Granted before w.seen r n Given × LearnsOf (IsNearGrant w.seen r n) (IsNackOf w.seen r n) before w.seen
   unfolding can can_more can_grant
   given_is e agree = (
     (

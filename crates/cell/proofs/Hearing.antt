@@ -18,10 +18,11 @@ use Rattle.cell.specs.declared.view.View.{View}
 use Rattle.cell.specs.declared.view.Shape.{Shape}
 use Rattle.cell.specs.Sight.{Has, HaveOffer, SeesOffer, SeesNoOffer}
 use Rattle.cell.specs.Views.{Knows}
-use Rattle.cell.specs.Rule.{Keeps, is_among, drafts_of, told_of, told_pass, heard, heard_pass, spent_pass}
-use Rattle.cell.proofs.Dealing.{at_end}
+use Rattle.cell.specs.Rule.{Keeps, at_seat, is_among, drafts_of, told_of, told_pass, heard, heard_pass, spent_pass}
+use Rattle.cell.proofs.Dealing.{at_end, one_more_pass}
+use Rattle.cell.proofs.Turning.{same_made}
 
-has_either : {A : Type 0} (xs ys : List A) (x : A) → Has (xs ++ ys) x → Has xs x ⊎ Has ys x
+pub has_either : {A : Type 0} (xs ys : List A) (x : A) → Has (xs ++ ys) x → Has xs x ⊎ Has ys x
 has_either [] ys x h = inr h
 has_either (y ∷ xs) ys x (inl e) = inl (inl e)
 has_either (y ∷ xs) ys x (inr h) = ⊎_elim (λ (a : Has xs x). inl (inr a)) (λ (b : Has ys x). inr b) (has_either xs ys x h)
@@ -146,7 +147,8 @@ pub tell_allowed : {S : Type 0} (shape : Shape) (id : ℕ) (v : View) → 0 < v.
 tell_allowed shape id v at_table s k view = record {
   few_threads = k.few_threads;
   few_rows = k.few_rows;
-  history = k.history;
+  moves = k.moves;
+  interleaved = one_more_pass k.moves (slice_set s.views id v) (told_pass v) (same_made k.moves s.views id v v view k.interleaved refl) refl;
   world = k.world;
   played = k.played;
   table = k.table;
@@ -163,11 +165,13 @@ tell_allowed shape id v at_table s k view = record {
         (λ (a : (j ≢ id) × (get_elem? s.views j ≡ some u)). k.knows j u a.1 t)
         (at_set s.views id j v u e)
 
-pub hear_allowed : {S : Type 0} (shape : Shape) (id : ℕ) (v : View) (other : ℕ) (w : View) → 0 < v.threads → 0 < w.threads → Joins {S = S} (Keeps shape) id v other w (heard_pass v w) spent_pass
-hear_allowed shape id v other w at_table told_at s k view apart told = record {
+pub hear_allowed : {S : Type 0} (shape : Shape) (id : ℕ) (v : View) (other : ℕ) (w : View) → 0 < v.threads → 0 < w.threads → w.made ≡ [] → Joins {S = S} (Keeps shape) id v other w (heard_pass v w) spent_pass
+hear_allowed shape id v other w at_table told_at nothing s k view apart told = record {
   few_threads = k.few_threads;
   few_rows = k.few_rows;
-  history = k.history;
+  moves = k.moves;
+  interleaved = same_made k.moves (slice_set s.views id (heard_pass v w)) other w spent_pass told
+      (same_made k.moves s.views id v (heard_pass v w) view k.interleaved refl) (ap (at_seat w.seat) nothing);
   world = k.world;
   played = k.played;
   table = k.table;

@@ -1,5 +1,5 @@
 -- What a pass knows of two rows stays known while it sees more.
-use Rattle.std.proofs.Common.{rules, ◌≡◌, ◌≢◌, ℕ, ◌+◌, ◌^◌, ◌<◌, ◌≤◌, Bool, true, false, List, sym, refl, ap, ◌∙◌, subst, inl, inr, arith, max, unwrap_or, Option, Some, None, cond, IfSome, IfNone, IfErr, is_err, Result, Ok, Err}
+use Rattle.std.proofs.Common.{rules, ◌≡◌, ◌≢◌, ℕ, ◌+◌, ◌^◌, ◌<◌, ◌≤◌, Bool, true, false, List, sym, refl, ap, ◌∙◌, subst, inl, inr, ⊎_elim, arith, max, unwrap_or, Option, Some, None, cond, IfSome, IfNone, IfErr, is_err, Result, Ok, Err}
 use Rattle.std.proofs.lemmas.Bool.{cases_Bool}
 use Rattle.words.specs.Words.{count_of, IsJoinedInRange}
 use Rattle.words.specs.declared.Offer.{Offer}
@@ -20,7 +20,9 @@ use Rattle.protocol.specs.Tables.{is_fresh, joined_of}
 use Rattle.cell.specs.declared.view.View.{View}
 use Rattle.cell.specs.declared.view.Stage.{Stage}
 use Rattle.cell.specs.declared.view.Stage.TheVariants.{Resting}
-use Rattle.cell.specs.Attempts.{IsNear}
+use Rattle.cell.specs.declared.attempt.Attempt.{Attempt}
+use Rattle.cell.specs.declared.attempt.Attempt.TheVariants.{Busy, Gone, Met, Mine, Unfit}
+use Rattle.cell.specs.Attempts.{CanMeet, Fits, IsNear}
 use Rattle.cell.specs.Sight.{SawCommitted, see_cell}
 use Rattle.cell.specs.Told.{Agrees}
 use Rattle.cell.specs.Views.{IsClaimer}
@@ -33,6 +35,35 @@ from_some (Some b) P a h e = subst P (Rattle.protocol.proofs.Linking.some_inj b 
 pub sees_more : {Nacks : NackName → Type 0} (About : Row → Type 0) (s t : Seen) (r : Row) (n : ℕ) (o : Offer) → LearnsOf About Nacks s t → SeesOffer s r n o → SeesOffer t r n o
 sees_more About s t r n o l (inl h) = inl (have_more s.words t.words r n o l.words.0 h)
 sees_more About s t r n o l (inr h) = inr (l.opened.0 r h.0, subst (λ (d : List (Row × ℕ × ℕ)). HaveOffer d r n o) (sym l.drafts) h.1)
+
+-- and of other rows nothing more is seen
+pub sees_apart : (About : Row → Type 0) (s t : Seen) (r : Row) (n : ℕ) (o : Offer) → Learns About s t → ¬ About r → SeesOffer t r n o → SeesOffer s r n o
+sees_apart About s t r n o l other (inl (count, a, b, c, d, h, below, i, j, k, m, is)) =
+    let was : (p x : ℕ) → Has t.words (r, p, x) → Has s.words (r, p, x) = λ p x g. ⊎_elim (λ (old : Has s.words (r, p, x)). old) (λ (new : About r). absurd (other new)) (l.words.1 (r, p, x) g) in
+    inl (count, a, b, c, d, was _ _ h, below, was _ _ i, was _ _ j, was _ _ k, was _ _ m, is)
+sees_apart About s t r n o l other (inr h) = inr (
+  ⊎_elim (λ (old : Has s.opened r). old) (λ (new : About r). absurd (other new)) (l.opened.1 r h.0),
+  subst (λ (d : List (Row × ℕ × ℕ)). HaveOffer d r n o) l.drafts h.1,
+)
+
+-- rows that can be joined can meet, also once more was learnt
+pub can_meet : (About : Row → Type 0) (s t : Seen) (mine other : Row) (own partner : ℕ) (j : Joined) → Learns About s t → CanJoin s mine own other partner j → CanMeet t mine own other partner
+can_meet About s t mine other own partner j l can = (
+  can.apart,
+  can.my_offer,
+  can.their_offer,
+  sees_more About s t mine own can.my_offer l (inl can.read_mine),
+  sees_more About s t other partner can.their_offer l (inl can.read_theirs),
+  can.meet,
+)
+
+-- and so an answer that says that they fit is right
+pub fits_as : (s : Seen) (mine other : Row) (own partner : ℕ) (a : Attempt) → ¬ (a ≡ Unfit) → CanMeet s mine own other partner → Fits s mine own other partner a
+fits_as s mine other own partner (Met stamp) n can = can
+fits_as s mine other own partner Gone n can = can
+fits_as s mine other own partner Mine n can = can
+fits_as s mine other own partner Busy n can = can
+fits_as s mine other own partner Unfit n can = absurd (n refl)
 
 pub last_more : (s t : Seen) (r : Row) (stamp : ℕ) → ((x : Row × Joined) → Has s.joined x → Has t.joined x) → HasSeenLast s r stamp → HasSeenLast t r stamp
 last_more s t r stamp more (inl h) = inl h

@@ -124,12 +124,6 @@ read_five v v1 v2 v3 v4 v5 r n count a b c d e1 e2 e3 e4 e5 =
 pub five_offer : (v w : View) (r : Row) (n count a b c d : ℕ) (o : Offer) → ReadFive v w r n count a b c d → n < unwrap_or (count_of count) 0 → offer_of a b c d ≡ Some o → HaveOffer w.seen.words r n o
 five_offer v w r n count a b c d o f below is = (count, a, b, c, d, f.count_word, below, f.head, f.first, f.second, f.third, is)
 
--- what a pass had seen of the offer, it still sees
-pub seen_still : (v w : View) (r : Row) (n : ℕ) (o : Offer) → ((x : Row × ℕ × ℕ) → Has v.seen.words x → Has w.seen.words x) → w.seen.drafts ≡ v.seen.drafts → SeesOffer v.seen r n o
-    → HaveOffer w.seen.words r n o ⊎ HaveOffer w.seen.drafts r n o
-seen_still v w r n o more drafts (inl h) = inl (have_more v.seen.words w.seen.words r n o more h)
-seen_still v w r n o more drafts (inr h) = inr (subst (λ (l : List (Row × ℕ × ℕ)). HaveOffer l r n o) (sym drafts) h.1)
-
 -- the words that were read are an offer
 pub five_formed : (threads rows : ℕ) (v w : View) (r : Row) (n count a b c d : ℕ) → Coherent threads rows w.seen → ReadFive v w r n count a b c d → is_some (offer_of a b c d) ≡ true
 five_formed threads rows v w r n count a b c d agree f =
@@ -147,30 +141,18 @@ pub if_none : {A : Type 0} (x : Option A) (P : Type 0) → (x ≡ None → P) �
 if_none None P h = h refl
 if_none (Some a) P h = tt
 
--- a look, and then the number of offers
-pub look_count : (v v1 v2 : View) (r : Row) (cell : Cell) (count : ℕ) → v1 ≡ saw r cell v → v2 ≡ read_word r 1 count v1
-    → ((x : Row × ℕ × ℕ) → Has v.seen.words x → Has v2.seen.words x) × (v2.seen.drafts ≡ v.seen.drafts) × Has v2.seen.words (r, 1, count)
-look_count v v1 v2 r cell count e f =
-    subst (λ (w : View). ((x : Row × ℕ × ℕ) → Has v.seen.words x → Has w.seen.words x) × (w.seen.drafts ≡ v.seen.drafts) × Has w.seen.words (r, 1, count))
-    (sym (f ∙ ap (read_word r 1 count) e))
-    (λ x h. inr (subst (λ (l : List (Row × ℕ × ℕ)). Has l x) (sym (cell_words r cell v.seen)) h), cell_drafts r cell v.seen, inl refl)
+-- what is seen of an offer says that it stands below the number that was read
+have_seen : (s : Seen) (r : Row) (n : ℕ) (o : Offer) → SeesOffer s r n o → HaveOffer s.words r n o ⊎ HaveOffer s.drafts r n o
+have_seen s r n o (inl h) = inl h
+have_seen s r n o (inr h) = inr h.1
 
--- what was seen of an offer before says that it stands below the number that was read
-pub seen_below : (threads rows : ℕ) (v v1 v2 : View) (r : Row) (n : ℕ) (cell : Cell) (count : ℕ) (o : Offer) → v1 ≡ saw r cell v → v2 ≡ read_word r 1 count v1 → Coherent threads rows v2.seen
-    → SeesOffer v.seen r n o → n < unwrap_or (count_of count) 0
-seen_below threads rows v v1 v2 r n cell count o e f agree seen =
-    let l = look_count v v1 v2 r cell count e f in
-    same_count threads rows v2.seen agree r n o (seen_still v v2 r n o l.0 l.1 seen) count l.2
+pub seen_below : (threads rows : ℕ) (v w : View) (r : Row) (n : ℕ) (count : ℕ) (o : Offer) → w ≡ read_word r 1 count v → Coherent threads rows w.seen → SeesOffer w.seen r n o → n < unwrap_or (count_of count) 0
+seen_below threads rows v w r n count o e agree seen =
+    same_count threads rows w.seen agree r n o (have_seen w.seen r n o seen) count (subst (λ (u : View). Has u.seen.words (r, 1, count)) (sym e) (inl refl))
 
 -- and that it is the offer that was read
-pub seen_same : (threads rows : ℕ) (v v1 w : View) (r : Row) (n count a b c d : ℕ) (cell : Cell) (o : Offer) → v1 ≡ saw r cell v → ReadFive v1 w r n count a b c d → Coherent threads rows w.seen
-    → SeesOffer v.seen r n o → offer_of a b c d ≡ Some o
-seen_same threads rows v v1 w r n count a b c d cell o e f agree seen =
-    let words : v1.seen.words ≡ v.seen.words = ap (λ (u : View). u.seen.words) e ∙ cell_words r cell v.seen in
-    let drafts : v1.seen.drafts ≡ v.seen.drafts = ap (λ (u : View). u.seen.drafts) e ∙ cell_drafts r cell v.seen in
-    same_offer threads rows w.seen agree r n o
-    (seen_still v w r n o (λ x h. f.kept x (subst (λ (l : List (Row × ℕ × ℕ)). Has l x) (sym words) h)) (f.drafts ∙ drafts) seen)
-    a b c d f.head f.first f.second f.third
+pub seen_same : (threads rows : ℕ) (v w : View) (r : Row) (n count a b c d : ℕ) (o : Offer) → ReadFive v w r n count a b c d → Coherent threads rows w.seen → SeesOffer w.seen r n o → offer_of a b c d ≡ Some o
+seen_same threads rows v w r n count a b c d o f agree seen = same_offer threads rows w.seen agree r n o (have_seen w.seen r n o seen) a b c d f.head f.first f.second f.third
 
 -- the words of an offer are well-formed
 pub offer_parts : (a b c d : ℕ) (o : Offer) → offer_of a b c d ≡ Some o → (is_some (head_of a) ≡ true) × (is_some (atom_of b) ≡ true) × (is_some (atom_of c) ≡ true) × (is_some (atom_of d) ≡ true)

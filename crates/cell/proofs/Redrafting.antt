@@ -1,15 +1,20 @@
 -- Drafting words of one row leaves what was drafted elsewhere.
-use Rattle.std.proofs.Common.{◌≡◌, ℕ, ◌+◌, ◌*◌, ◌<◌, ◌≤◌, Bool, true, false, cond, eqb, ◌&&◌, List, [], ◌∷◌, sym, refl, ap, ◌∙◌, subst, inl, inr, ⊎_elim, arith, length, slice_get, unwrap_or, Some, None, is_some, leb}
+use Rattle.std.proofs.Common.{◌≡◌, ℕ, ◌+◌, ◌*◌, ◌<◌, ◌≤◌, Bool, true, false, cond, eqb, ◌&&◌, List, [], ◌∷◌, ◌++◌, sym, refl, ap, ◌∙◌, subst, inl, inr, ⊎_elim, arith, length, slice_get, unwrap_or, Some, None, is_some, leb}
 use Rattle.std.proofs.lemmas.Bool.{eqb-true, and_parts, le-leb, true≢false}
+use Rattle.std.proofs.lemmas.List.{append_assoc}
 use Rattle.std.proofs.lemmas.Option.{slice_get_within}
 use Rattle.std.proofs.Math.Nat.{eq-or-lt_of_le}
 use Rattle.words.specs.Words.{count_of, offer_of, is_word_for}
 use Rattle.words.specs.declared.Offer.{Offer}
 use Rattle.protocol.proofs.Linking.{some_inj}
 use Rattle.words.specs.declared.Row.{Row}
+use Rattle.words.specs.declared.Step.{Step}
+use Rattle.words.specs.declared.Step.TheVariants.{Draft}
 use Rattle.protocol.specs.Tables.{row_eq}
 use Rattle.protocol.proofs.RowLemmas.{row_eq-true}
 use Rattle.cell.specs.declared.view.Seen.{Seen}
+use Rattle.cell.specs.Attempts.{OnlyDrafts}
+use Rattle.cell.proofs.Hearing.{has_either}
 use Rattle.cell.specs.Sight.{Has, HaveOffer, IsDraft, without, see_draft, Redrafts, IsPlaceOf}
 
 -- what is left after a word of (r, p) is gone, and what was there before
@@ -88,6 +93,27 @@ redrafts_offer r n a b c d s =
     (redrafts_then (λ q o. (q ≡ r) × IsPlaceOf n o) s first second (one (2 + 4 * n) a s (omega arith, omega arith)) (one (3 + 4 * n) b first (omega arith, omega arith)))
     (one (4 + 4 * n) c second (omega arith, omega arith)))
     (one (5 + 4 * n) d third (omega arith, omega arith))
+
+-- WHAT A DRAFT DID
+pub one_draft : (r : Row) (p x : ℕ) (before : List Step) → OnlyDrafts r before (Draft r p x ∷ before)
+one_draft r p x before = (Draft r p x ∷ [], refl, λ step h. only step h)
+  where
+    only : (step : Step) → Has (Draft r p x ∷ []) step → (place : ℕ) × (word : ℕ) × (step ≡ Draft r place word)
+    only step (inl e) = (p, x, sym e)
+    only step (inr h) = absurd h
+
+pub drafts_then : (r : Row) (before between after : List Step) → OnlyDrafts r before between → OnlyDrafts r between after → OnlyDrafts r before after
+drafts_then r before between after (first, e, f) (second, g, h) = (
+  second ++ first,
+  g ∙ ap (λ (l : List Step). second ++ l) e ∙ sym (append_assoc second first before),
+  λ step has. ⊎_elim (λ (a : Has second step). h step a) (λ (b : Has first step). f step b) (has_either second first step has),
+)
+
+pub four_drafts : (r : Row) (p q o m a b c d : ℕ) (before : List Step) → OnlyDrafts r before (Draft r m d ∷ Draft r o c ∷ Draft r q b ∷ Draft r p a ∷ before)
+four_drafts r p q o m a b c d before =
+    drafts_then r before (Draft r o c ∷ Draft r q b ∷ Draft r p a ∷ before) _
+    (drafts_then r before (Draft r q b ∷ Draft r p a ∷ before) _ (drafts_then r before (Draft r p a ∷ before) _ (one_draft r p a before) (one_draft r q b _)) (one_draft r o c _))
+    (one_draft r m d _)
 
 -- A LIST OF OFFERS, drafted one after another
 pub record IsDraftedTo (row : Row) (offers : List Offer) (n : ℕ) (s t : Seen) : Type 0 where

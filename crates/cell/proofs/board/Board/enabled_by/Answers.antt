@@ -13,14 +13,13 @@ use Rattle.cell.proofs.board.Board.enabled_by.Goals.{After-offer}
 -- a nack that was seen enabled is found so: the offer that was chosen is the one that was seen
 found : (c : After-offer) (j : Joined) (e : SawEnabled c.args.seat.now.me.0.seen c.args.nack j) → (e.binding ≡ c.in_ok-bound.bound) × (c.offer.result ≡ Some e.offer)
 found c j e =
-    let inside = c.requires.coherent.bound c.args.nack e.binding e.bound in
     let bound : c.bound.result ≡ Some c.in_ok-bound.bound = (search rules) in
-    let same : e.binding ≡ c.in_ok-bound.bound = some_inj _ _ (sym (c.bound.ensures.same (inside.0, inside.1) e.binding e.bound) ∙ bound) in
+    let same : e.binding ≡ c.in_ok-bound.bound = some_inj _ _ (sym (c.bound.ensures.same e.binding e.bound) ∙ bound) in
     let row : bound_row c.args.nack e.binding ≡ bound_row c.args.nack c.in_ok-bound.bound = ap (bound_row c.args.nack) same in
     let joined : c.committed.result ≡ Some c.in_ok-joined.joined = (search rules) in
     let way : j ≡ c.in_ok-joined.joined = some_inj _ _ (sym (c.committed.ensures.same j (c.bound.ensures.learns.joined.0 (bound_row c.args.nack c.in_ok-bound.bound, j) (subst (λ (r : Row). Rattle.cell.specs.Sight.Has c.args.seat.now.me.0.seen.joined (r, j)) row e.joined))) ∙ joined) in
     let sees = sees_more _ _ _ _ _ e.offer c.committed.ensures.learns (sees_more _ _ _ (bound_row c.args.nack e.binding) j.own e.offer c.bound.ensures.learns e.chosen) in
-    (same, c.offer.ensures.same e.offer (subst (λ (z : Row × Joined). SeesOffer c.committed.new.seat.me.0.seen z.0 z.1.own e.offer) (λ i. (row i, way i)) sees))
+    (same, c.offer.ensures.same e.offer (sees_more _ _ _ _ _ e.offer c.offer.ensures.learns (subst (λ (z : Row × Joined). SeesOffer c.committed.new.seat.me.0.seen z.0 z.1.own e.offer) (λ i. (row i, way i)) sees)))
 
 pub returns-in_err-chosen-clause-none : goal.returns-in_err-chosen-clause-none
 returns-in_err-chosen-clause-none c =

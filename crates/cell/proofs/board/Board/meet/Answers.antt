@@ -7,7 +7,8 @@ use Rattle.cell.specs.declared.view.Stage.TheVariants.{Resting, Claims}
 use Rattle.cell.specs.Attempts.{IsNear}
 use Rattle.cell.specs.Sight.{CanJoin, Learns, SawCommitted}
 use Rattle.cell.specs.Told.{Agrees}
-use Rattle.cell.specs.Views.{saw, turned}
+use Rattle.words.specs.declared.Step.TheVariants.{Claim, Yield}
+use Rattle.cell.specs.Views.{did, saw, turned}
 use Rattle.cell.proofs.Meeting.{can_join_opened, claim_found, join_found, err_case, learns_yield}
 use Rattle.cell.proofs.board.Board.meet.Goals as goal
 
@@ -27,28 +28,28 @@ returns-then-is_err-clause-attempted g c =
 
 pub join-requires-clause-can : goal.join-requires-clause-can
 join-requires-clause-can g c =
-    let claimed : c.claim.new.seat.me.0 ≡ turned (Claims c.args.mine.0) c.args.mine.0 c.args.seat.now.me.0 = (search rules) in
+    let claimed : c.claim.new.seat.me.0 ≡ did (Claim c.args.mine.0) (turned (Claims c.args.mine.0) c.args.mine.0 c.args.seat.now.me.0) = (search rules) in
     (subst (λ (v : View). CanJoin v.seen c.args.mine.0 c.args.mine.1 c.args.other c.args.joined.own c.args.joined) (sym claimed) (can_join_opened _ _ _ _ _ _ _ c.requires.can.0), c.requires.can.1)
 
 -- the other row was found neither Waiting nor Claimed, and one's own was given up
 pub returns-in-Fresh : goal.returns-in-Fresh
 returns-in-Fresh g c =
-    let claimed : c.claim.new.seat.me.0 ≡ turned (Claims c.args.mine.0) c.args.mine.0 c.args.seat.now.me.0 = (search rules) in
+    let claimed : c.claim.new.seat.me.0 ≡ did (Claim c.args.mine.0) (turned (Claims c.args.mine.0) c.args.mine.0 c.args.seat.now.me.0) = (search rules) in
     let can : CanJoin c.claim.new.seat.me.0.seen c.args.mine.0 c.args.mine.1 c.args.other c.args.joined.own c.args.joined =
     subst (λ (v : View). CanJoin v.seen c.args.mine.0 c.args.mine.1 c.args.other c.args.joined.own c.args.joined) (sym claimed) (can_join_opened _ _ _ _ _ _ _ c.requires.can.0) in
     let found : c.join.new.seat.me.0 ≡ saw c.args.other c.in-Err.found c.claim.new.seat.me.0 = (search rules) in
     let agree : Agrees c.claim.new.seat.me.0 c.args.other c.in-Err.found = (search rules) in
     let not_waiting : c.in-Err.found ≢ Waiting = (search rules) in
     let committed = join_found c.claim.new.seat.me.0 c.args.mine.0 c.args.other c.args.mine.1 c.args.joined.own c.args.joined c.in-Err.found can not_waiting (unclaimed c.in-Err.found c.in-Fresh.is) agree in
-    let after : c.give_up.new.seat.me.0 ≡ turned Resting c.args.mine.0 (saw c.args.other c.in-Err.found (turned (Claims c.args.mine.0) c.args.mine.0 c.args.seat.now.me.0)) =
-    c.give_up.ensures.waits ∙ ap (turned Resting c.args.mine.0) (found ∙ ap (saw c.args.other c.in-Err.found) claimed) in
+    let after : c.give_up.new.seat.me.0 ≡ did (Yield c.args.mine.0) (turned Resting c.args.mine.0 (saw c.args.other c.in-Err.found (did (Claim c.args.mine.0) (turned (Claims c.args.mine.0) c.args.mine.0 c.args.seat.now.me.0)))) =
+    c.give_up.ensures.waits ∙ ap (λ (v : View). did (Yield c.args.mine.0) (turned Resting c.args.mine.0 v)) (found ∙ ap (saw c.args.other c.in-Err.found) claimed) in
     record {
       sits = (search rules);
       stays = (search rules);
       learns = subst (λ (v : View). Learns (IsNear c.args.mine.0 c.args.other) c.args.seat.now.me.0.seen v.seen) (sym after)
           (learns_yield c.args.mine.0 c.args.other c.in-Err.found c.args.seat.now.me.0.seen);
       attempted = (
-        subst (λ (v : View). SawCommitted v.seen c.args.other) (sym (c.give_up.ensures.waits ∙ ap (turned Resting c.args.mine.0) found)) committed,
+        subst (λ (v : View). SawCommitted v.seen c.args.other) (sym (c.give_up.ensures.waits ∙ ap (λ (v : View). did (Yield c.args.mine.0) (turned Resting c.args.mine.0 v)) found)) committed,
         (λ e. cc),
       );
     }
