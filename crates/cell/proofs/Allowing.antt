@@ -210,8 +210,8 @@ module _ (shape : Shape) (id place : ℕ) (me : Me ℕ View) (r : Row) (p : ℕ)
         let staged = subst (λ (z : Stage). Staged k.world k.owner id z) claiming known.staged in
         let was : joined_of (cell_at k.world.table r) ≡ None = ap joined_of waits in
         let untaken : is_taken (cell_at k.world.table r) ≡ false = ap is_taken waits in
-        let meet = offers_known k.world k.owner id me.0 known mine own r partner j can in
-        let is : joined_with k.world.table mine own r partner ≡ j = joined_known k.world k.owner id me.0 known mine own r partner j can in
+        let meet = offers_known k.world k.owner id me.0 known kept mine own r partner j can in
+        let is : joined_with k.world.table mine own r partner ≡ j = joined_known k.world k.owner id me.0 known kept mine own r partner j can in
         let range : IsJoinedInRange j = subst IsJoinedInRange is (join_in_range k.world mine own r partner kept (row_of_open k.world.table mine (ap is_fresh staged.1)) meet) in
         let apart : row_eq mine r ≡ false = row_ne mine r (λ e. can.apart (ap (λ (y : Row). y.thread) e)) in
         let partner_is : j.partner ≡ Some (mine, own) = ap (λ (y : Joined). y.partner) can.is in
@@ -235,7 +235,7 @@ module _ (shape : Shape) (id place : ℕ) (me : Me ℕ View) (r : Row) (p : ℕ)
     grants zero n j resting can waits =
         let was : joined_of (cell_at k.world.table r) ≡ None = ap joined_of waits in
         let untaken : is_taken (cell_at k.world.table r) ≡ false = ap is_taken waits in
-        let known_grant = granted_known k.world k.owner id me.0 known r n j can in
+        let known_grant = granted_known k.world k.owner id me.0 known kept r n j can in
         let range : IsJoinedInRange j = subst IsJoinedInRange known_grant.1 (grant_in_range k.world r n can.cause kept known_grant.0) in
         let nobody : j.partner ≡ None = ap (λ (y : Joined). y.partner) can.is in
         let now = own_now (Synched j) zero range refl was untaken in
@@ -438,7 +438,7 @@ module _ (shape : Shape) (slots id place : ℕ) (me : Me ℕ View) (r : Row)
       ))
       (λ f.
       let moved : Keeps shape (stepped s place n id me.1 (saw r (cell_read n) me.0) keeps) =
-          learnt shape id place me r 0 threads rows inside (omega arith) here s k view (saw r (cell_read n) me.0) refl refl (learn_cell k.world k.owner id me.0 r (cell_read n) knows read) in
+      learnt shape id place me r 0 threads rows inside (omega arith) here s k view (saw r (cell_read n) me.0) refl refl (learn_cell k.world k.owner id me.0 r (cell_read n) knows read) in
       let agrees_now = agreed shape id place me r 0 threads rows inside (omega arith) here s k view n (saw r (cell_read n) me.0) refl moved in (
         saw r (cell_read n) me.0,
         keeps,
@@ -478,7 +478,7 @@ module _ (shape : Shape) (slots id place : ℕ) (me : Me ℕ View) (r : Row)
       (λ e.
       let after = did (Join mine own r partner) (saw r (Synched j) (turned (Joins mine r j) r me.0)) in
       let moved : Keeps shape (stepped s place (cell_word (Synched j)) id me.1 after keeps) =
-          joins shape id place me r 0 threads rows inside (omega arith) here s k view refl mine own partner j claiming held can (read ∙ ap cell_read e ∙ waiting_read) in (
+      joins shape id place me r 0 threads rows inside (omega arith) here s k view refl mine own partner j claiming held can (read ∙ ap cell_read e ∙ waiting_read) in (
         after,
         keeps,
         tt,
@@ -497,7 +497,7 @@ module _ (shape : Shape) (slots id place : ℕ) (me : Me ℕ View) (r : Row)
       ))
       (λ f.
       let moved : Keeps shape (stepped s place n id me.1 (saw r (cell_read n) me.0) keeps) =
-          learnt shape id place me r 0 threads rows inside (omega arith) here s k view (saw r (cell_read n) me.0) refl refl (learn_cell k.world k.owner id me.0 r (cell_read n) knows read) in
+      learnt shape id place me r 0 threads rows inside (omega arith) here s k view (saw r (cell_read n) me.0) refl refl (learn_cell k.world k.owner id me.0 r (cell_read n) knows read) in
       let agrees_now = agreed shape id place me r 0 threads rows inside (omega arith) here s k view n (saw r (cell_read n) me.0) refl moved in (
         saw r (cell_read n) me.0,
         keeps,
@@ -528,7 +528,7 @@ module _ (shape : Shape) (slots id place : ℕ) (me : Me ℕ View) (r : Row)
       let waits = read ∙ ap cell_read e ∙ waiting_read in
       let after = did (Grant r n) (settled r j me.0) in
       let moved : Keeps shape (stepped s place (cell_word (Synched j)) id me.1 after keeps) =
-          grants shape id place me r 0 threads rows inside (omega arith) here s k view refl n j resting can waits in (
+      grants shape id place me r 0 threads rows inside (omega arith) here s k view refl n j resting can waits in (
         after,
         keeps,
         tt,
@@ -544,7 +544,7 @@ module _ (shape : Shape) (slots id place : ℕ) (me : Me ℕ View) (r : Row)
       ))
       (λ f.
       let moved : Keeps shape (stepped s place x id me.1 (saw r (cell_read x) me.0) keeps) =
-          learnt shape id place me r 0 threads rows inside (omega arith) here s k view (saw r (cell_read x) me.0) refl refl (learn_cell k.world k.owner id me.0 r (cell_read x) knows read) in
+      learnt shape id place me r 0 threads rows inside (omega arith) here s k view (saw r (cell_read x) me.0) refl refl (learn_cell k.world k.owner id me.0 r (cell_read x) knows read) in
       let agrees_now = agreed shape id place me r 0 threads rows inside (omega arith) here s k view x (saw r (cell_read x) me.0) refl moved in (
         saw r (cell_read x) me.0,
         keeps,
@@ -567,7 +567,7 @@ module _ (shape : Shape) (slots id place : ℕ) (me : Me ℕ View) (r : Row)
       let synched : cell_at k.world.table r ≡ Synched j = read ∙ ap cell_read e ∙ ap (λ (o : Option Cell). unwrap_or o Fresh) (cell_of-cell_word (Synched j) in_range) in
       let after = did (Take r) (took r j me.0) in
       let moved : Keeps shape (stepped s place (cell_word (Taken j)) id me.1 after keeps) =
-          takes shape id place me r 0 threads rows inside (omega arith) here s k view j synched refl in (
+      takes shape id place me r 0 threads rows inside (omega arith) here s k view j synched refl in (
         after,
         keeps,
         tt,
@@ -586,7 +586,7 @@ module _ (shape : Shape) (slots id place : ℕ) (me : Me ℕ View) (r : Row)
       ))
       (λ f.
       let moved : Keeps shape (stepped s place x id me.1 (saw r (cell_read x) me.0) keeps) =
-          learnt shape id place me r 0 threads rows inside (omega arith) here s k view (saw r (cell_read x) me.0) refl refl (learn_cell k.world k.owner id me.0 r (cell_read x) knows read) in
+      learnt shape id place me r 0 threads rows inside (omega arith) here s k view (saw r (cell_read x) me.0) refl refl (learn_cell k.world k.owner id me.0 r (cell_read x) knows read) in
       let agrees_now = agreed shape id place me r 0 threads rows inside (omega arith) here s k view x (saw r (cell_read x) me.0) refl moved in (
         saw r (cell_read x) me.0,
         keeps,
@@ -605,7 +605,7 @@ module _ (shape : Shape) (slots id place : ℕ) (me : Me ℕ View) (r : Row)
   seal_allowed other own j joining_now partner_is held in_range here s k homes view range =
       let after = did (Seal r) (settled r (mirrored other j own) me.0) in
       let moved : Keeps shape (stepped s place (cell_word (Synched (mirrored other j own))) id me.1 after keeps) =
-          seals shape id place me r 0 threads rows inside (omega arith) here s k view refl other own j joining_now partner_is held in (
+      seals shape id place me r 0 threads rows inside (omega arith) here s k view refl other own j joining_now partner_is held in (
         after,
         keeps,
         tt,

@@ -3,6 +3,7 @@ use Rattle.std.proofs.Common.{rules, ◌⊎◌, ◌≡◌, ◌≢◌, ℕ, ◌+�
 use Rattle.words.specs.Words.{IsJoinedInRange}
 use Rattle.words.specs.declared.Base.{Base}
 use Rattle.words.specs.declared.Base.TheVariants.{Send, Recv, Always, OnNack, Never}
+use Rattle.words.specs.declared.Binding.{Binding}
 use Rattle.words.specs.declared.NackName.{NackName}
 use Rattle.words.specs.declared.Offer.{Offer}
 use Rattle.words.specs.declared.Row.{Row}
@@ -69,7 +70,7 @@ can_grant About s t u r n last cause o l m have caused seen = record {
 
 pub grant_ranged : (words : List (Row × ℕ × ℕ)) (r : Row) (n last cause : ℕ) (o : Offer) → HaveOffer words r n o → last ≤ 65536 → cause ≤ 65536 → IsJoinedInRange (record { own = n; partner = None; stamp = 1 + max last cause })
 grant_ranged words r n last cause o have low few_causes = record {
-  own = few have.0 n have.6;
+  own = few have.count n have.below;
   partner = tt;
   stamp_low = at_least last cause;
   stamp_high = at_most last cause low few_causes;
@@ -83,6 +84,19 @@ grant_ranged words r n last cause o have low few_causes = record {
 
 learns_open : (r : Row) (s : Seen) → Learns (λ q. q ≡ r) s (see_opened r s)
 learns_open r s = search rules
+
+-- a nack is looked at, and then twice the row to which it is bound
+pub bound_then : (nack : NackName) (row : Row) (s t u v : Seen) (b : Binding) → row ≡ bound_row nack b → Has v.bound (nack, b)
+    → LearnsOf (λ q. ⊥) (λ m. m ≡ nack) s t → Learns (λ q. q ≡ row) t u → Learns (λ q. q ≡ row) u v
+    → LearnsOf (λ q. (x : Binding) × Has v.bound (nack, x) × (q ≡ bound_row nack x)) (λ m. m ≡ nack) s v
+bound_then nack row s t u v b is bound f g h =
+    let About : Row → Type 0 = λ q. (x : Binding) × Has v.bound (nack, x) × (q ≡ bound_row nack x) in
+    let near : (q : Row) → q ≡ row → About q = λ q e. (b, bound, e ∙ is) in
+    learns_then About s t v
+    (learns_wider (λ q. ⊥) About s t (λ q e. absurd e) f)
+    (learns_then About t u v
+    (nacks_wider About (λ m. ⊥) (λ m. m ≡ nack) t u (λ m e. absurd e) (learns_wider (λ q. q ≡ row) About t u near g))
+    (nacks_wider About (λ m. ⊥) (λ m. m ≡ nack) u v (λ m e. absurd e) (learns_wider (λ q. q ≡ row) About u v near h)))
 
 -- THE ROWS AND NACKS that a grant looks at, where the offer was read in s
 pub near_offer : (before s t : Seen) (r : Row) (n : ℕ) → Learns (λ q. q ≡ r) before s → LearnsOf (IsNearGrant t r n) (IsNackOf t r n) before s

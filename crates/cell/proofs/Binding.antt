@@ -237,7 +237,7 @@ module _ (shape : Shape) (slots id place : ℕ) (me : Me ℕ View) (nack : NackN
       let is : binding_at k.world.table nack ≡ Some found.0 = read ∙ found.1 in
       let after = bound_nack nack found.0 me.0 in
       let moved : Keeps shape (stepped s place x id me.1 after keeps) =
-          learnt shape id place me nack threads rows inside here s k view after refl refl (learn_nack k.world k.owner id me.0 nack (Some found.0) knows is) in (
+      learnt shape id place me nack threads rows inside here s k view after refl refl (learn_nack k.world k.owner id me.0 nack (Some found.0) knows is) in (
         after,
         keeps,
         tt,

@@ -140,8 +140,8 @@ one_more_pass moves vs v before nothing = record {
   made = λ j u e. ⊎_elim
       (λ (old : get_elem? vs j ≡ some u). before.made j u old)
       (λ (new : (j ≡ length vs) × (v ≡ u)).
-        let past : length vs ≤ j = let h = new.0 in omega arith in
-        before.no_others j past ∙ ap (at_seat v.seat) (sym nothing) ∙ ap (λ (z : View). at_seat z.seat z.made) new.1)
+      let past : length vs ≤ j = let h = new.0 in omega arith in
+      before.no_others j past ∙ ap (at_seat v.seat) (sym nothing) ∙ ap (λ (z : View). at_seat z.seat z.made) new.1)
       (at_end vs v u j e);
   no_others = λ j h.
       let size : length (vs ++ v ∷ []) ≡ length vs + 1 = length-append vs (v ∷ []) in

@@ -16,10 +16,11 @@ use Rattle.words.specs.declared.Offer.{Offer}
 use Rattle.cell.specs.declared.view.Seen.{Seen}
 use Rattle.cell.specs.declared.view.View.{View}
 use Rattle.cell.specs.declared.view.Shape.{Shape}
-use Rattle.cell.specs.Sight.{Has, HaveOffer, SeesOffer, SeesNoOffer}
+use Rattle.cell.specs.Sight.{Has, SeesOffer, SeesNoOffer}
 use Rattle.cell.specs.Views.{Knows}
 use Rattle.cell.specs.Rule.{Keeps, at_seat, is_among, drafts_of, told_of, told_pass, heard, heard_pass, spent_pass}
 use Rattle.cell.proofs.Dealing.{at_end, one_more_pass}
+use Rattle.cell.proofs.Offers.{have_row}
 use Rattle.cell.proofs.Turning.{same_made}
 
 pub has_either : {A : Type 0} (xs ys : List A) (x : A) → Has (xs ++ ys) x → Has xs x ⊎ Has ys x
@@ -77,9 +78,6 @@ told_word s t r p x opened h = has_right t.words _ (r, p, x) (has_right s.words 
 
 read_word : (s t : Seen) (x : Row × ℕ × ℕ) → Has s.words x → Has (heard t (told_of s)).words x
 read_word s t x h = has_right t.words _ x (has_left s.words _ x h)
-
-have_row : (xs ys : List (Row × ℕ × ℕ)) (r : Row) (n : ℕ) (o : Offer) → ((p x : ℕ) → Has xs (r, p, x) → Has ys (r, p, x)) → HaveOffer xs r n o → HaveOffer ys r n o
-have_row xs ys r n o more (count, a, b, c, d, h, below, i, j, k, l, is) = (count, a, b, c, d, more _ _ h, below, more _ _ i, more _ _ j, more _ _ k, more _ _ l, is)
 
 pub told_offer : (s t : Seen) (r : Row) (n : ℕ) (o : Offer) → SeesOffer s r n o → SeesOffer (heard t (told_of s)) r n o
 told_offer s t r n o (inl h) = inl (have_row s.words _ r n o (λ p x i. read_word s t (r, p, x) i) h)

@@ -1,6 +1,6 @@
 -- A taken row stays taken, so that each row is taken by one pass; and where no pass has made a step, nothing has happened.
-use Rattle.std.proofs.Common.{◌≡◌, ◌≢◌, ◌⊎◌, ◌<◌, ◌≤◌, ℕ, zero, suc, Bool, true, false, cond, List, [], ◌∷◌, ◌++◌, length, sym, refl, ap, ◌∙◌, subst, inl, inr, ⊎_elim, arith, Option, Some, None, is_some, unwrap_or, eqb}
-use Rattle.std.proofs.lemmas.Bool.{cases_Bool, eq-eqb, eqb-true, false≢true, true≢false}
+use Rattle.std.proofs.Common.{◌≡◌, ◌⊎◌, ◌≤◌, ℕ, zero, suc, Bool, true, false, cond, List, [], ◌∷◌, ◌++◌, length, sym, refl, ap, ◌∙◌, subst, inl, inr, ⊎_elim, arith, Option, Some, None, is_some, unwrap_or, eqb}
+use Rattle.std.proofs.lemmas.Bool.{eq-eqb, eqb-true, false≢true}
 use mathlib.Core.Option.{some}
 use lib.ListN.{get_elem?}
 use Rattle.words.specs.Words.{cell_of, cell_word}
@@ -24,7 +24,6 @@ use Rattle.cell.specs.declared.view.View.{View}
 use Rattle.cell.specs.Sight.{Has}
 use Rattle.cell.specs.Rule.{Interleaves, Move, at_seat, in_order, steps_by}
 use Rattle.cell.proofs.Binding.{nack_from}
-use Rattle.cell.proofs.Turning.{below_views}
 
 -- A STEP LEAVES A TAKEN ROW TAKEN
 taken_open : (c : Cell) → is_taken c ≡ true → is_fresh c ≡ false

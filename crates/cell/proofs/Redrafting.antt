@@ -156,23 +156,36 @@ drafted_more row offers n s t u o few below is so_far redraft (a, b, c, d, has_a
     count_now = redraft.kept row 1 (length offers) (λ h. let l = h.1.0 in omega arith) so_far.count
 
     here : HaveOffer u.drafts row n o
-    here = (length offers, a, b, c, d, count_now, counted (length offers) n few below, has_a, has_b, has_c, has_d, reads)
+    here = record {
+      count = length offers;
+      counted = count_now;
+      below = counted (length offers) n few below;
+      head = a;
+      has_head = has_a;
+      first = b;
+      has_first = λ k. has_b;
+      second = c;
+      has_second = λ k. has_c;
+      third = d;
+      has_third = λ k. has_d;
+      is = reads;
+    }
 
     earlier : (k : ℕ) (q : Offer) → k < n → HaveOffer t.drafts row k q → HaveOffer u.drafts row k q
-    earlier k q low h = (
-      h.0,
-      h.1,
-      h.2,
-      h.3,
-      h.4,
-      redraft.kept row 1 h.0 (λ i. let l = i.1.0 in omega arith) h.5,
-      h.6,
-      redraft.kept row (2 + 4 * k) h.1 (λ i. let l = i.1.0 in omega arith) h.7,
-      redraft.kept row (3 + 4 * k) h.2 (λ i. let l = i.1.0 in omega arith) h.8,
-      redraft.kept row (4 + 4 * k) h.3 (λ i. let l = i.1.0 in omega arith) h.9,
-      redraft.kept row (5 + 4 * k) h.4 (λ i. let l = i.1.0 in omega arith) h.10,
-      h.11,
-    )
+    earlier k q low h = record {
+      count = h.count;
+      counted = redraft.kept row 1 h.count (λ i. let l = i.1.0 in omega arith) h.counted;
+      below = h.below;
+      head = h.head;
+      has_head = redraft.kept row (2 + 4 * k) h.head (λ i. let l = i.1.0 in omega arith) h.has_head;
+      first = h.first;
+      has_first = λ m. redraft.kept row (3 + 4 * k) h.first (λ i. let l = i.1.0 in omega arith) (h.has_first m);
+      second = h.second;
+      has_second = λ m. redraft.kept row (4 + 4 * k) h.second (λ i. let l = i.1.0 in omega arith) (h.has_second m);
+      third = h.third;
+      has_third = λ m. redraft.kept row (5 + 4 * k) h.third (λ i. let l = i.1.0 in omega arith) (h.has_third m);
+      is = h.is;
+    }
 
 pub drafted_all : (row : Row) (offers : List Offer) (n : ℕ) (s t : Seen) → length offers ≤ n → IsDraftedTo row offers n s t → IsDraft t row offers
 drafted_all row offers n s t past so_far = (so_far.count, λ k o e. so_far.each k o (let l = slice_get_within offers k o e in omega arith) e)

@@ -1,5 +1,5 @@
 -- The rule of the table is kept by a call that learns, and by a step of the protocol.
-use Rattle.std.proofs.Common.{slice_set, ◌≡◌, ◌≢◌, ◌<◌, ◌≤◌, ℕ, zero, suc, Bool, cond, List, [], ◌∷◌, ◌++◌, length, sym, refl, ap, ◌∙◌, subst, ⊎_elim, arith}
+use Rattle.std.proofs.Common.{slice_set, ◌≡◌, ◌≢◌, ◌<◌, ◌≤◌, ℕ, zero, suc, Bool, cond, List, [], ◌∷◌, length, sym, refl, ap, ◌∙◌, subst, ⊎_elim, arith}
 use Rattle.std.proofs.lemmas.Bool.{eq-eqb, ne_eqb}
 use Rattle.std.proofs.lemmas.List.{length-set}
 use mathlib.Core.Option.{Option, some}
@@ -58,11 +58,11 @@ pub one_more : (moves : List Move) (vs : List View) (id : ℕ) (v w : View) (ste
 one_more moves vs id v w step view before seat made = record {
   made = λ j u e. ⊎_elim
       (λ (h : (j ≡ id) × (did step w ≡ u)).
-        ap (λ (b : Bool). cond b ((record { 0 = v.seat }, step) ∷ steps_by j moves) (steps_by j moves)) (eq-eqb id j (sym h.0))
-        ∙ ap (λ (l : List (Seat × Step)). (record { 0 = v.seat }, step) ∷ l) (ap (λ (n : ℕ). steps_by n moves) h.0 ∙ before.made id v view)
-        ∙ (λ i. at_seat (sym seat i) (step ∷ sym made i)) ∙ ap (λ (z : View). at_seat z.seat z.made) h.1)
+      ap (λ (b : Bool). cond b ((record { 0 = v.seat }, step) ∷ steps_by j moves) (steps_by j moves)) (eq-eqb id j (sym h.0))
+      ∙ ap (λ (l : List (Seat × Step)). (record { 0 = v.seat }, step) ∷ l) (ap (λ (n : ℕ). steps_by n moves) h.0 ∙ before.made id v view)
+      ∙ (λ i. at_seat (sym seat i) (step ∷ sym made i)) ∙ ap (λ (z : View). at_seat z.seat z.made) h.1)
       (λ (h : (j ≢ id) × (get_elem? vs j ≡ some u)).
-        ap (λ (b : Bool). cond b ((record { 0 = v.seat }, step) ∷ steps_by j moves) (steps_by j moves)) (ne_eqb id j (λ f. h.0 (sym f))) ∙ before.made j u h.1)
+      ap (λ (b : Bool). cond b ((record { 0 = v.seat }, step) ∷ steps_by j moves) (steps_by j moves)) (ne_eqb id j (λ f. h.0 (sym f))) ∙ before.made j u h.1)
       (at_set vs id j (did step w) u e);
   no_others = λ j h.
       let size = length-set vs id (did step w) in

@@ -21,7 +21,9 @@ ghost use Rattle.cell.specs.Nacks.{CanGrant};
 ghost use Rattle.cell.specs.Sight.{Has, CanJoin};
 ghost use Rattle.cell.specs.Views.{bind_of, bound_nack, did, saw, saw_nack, took, read_word, turned, word_drafted};
 
-use crate::board::{Bind, Board, Claim, Draft, Give, GiveUp, Join, Look, LookNack, Open, Read, Seal, Take};
+use crate::board::{
+    Bind, Board, Claim, Draft, Give, GiveUp, Join, Look, LookNack, Open, Read, Seal, Take,
+};
 use crate::view::View;
 use atomic_table::Seat;
 use protocol::{

@@ -1,4 +1,4 @@
-use Rattle.std.proofs.Common.{rules, subst, sym, ap, ◌∙◌, ◌≡◌}
+use Rattle.std.proofs.Common.{rules, subst, sym, ap, ◌≡◌}
 use mathlib.Core.Option.{none}
 use Rattle.atomic_table.specs.Table.{Allows, step}
 use Rattle.cell.specs.declared.view.Shape.{Shape}

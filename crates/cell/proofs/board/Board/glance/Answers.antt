@@ -1,8 +1,7 @@
 -- The word of the first row's cell is glanced at.
-use Rattle.std.proofs.Common.{rules, subst, sym, ap, ◌≡◌, ◌<◌, arith, refl}
+use Rattle.std.proofs.Common.{rules, subst, sym, ◌<◌, arith}
 use mathlib.Core.Option.{none}
 use Rattle.atomic_table.specs.Table.{Allows, step}
-use Rattle.words.specs.declared.Row.{Row}
 use Rattle.cell.specs.declared.view.Shape.{Shape}
 use Rattle.cell.specs.Rule.{Keeps}
 use Rattle.cell.specs.Told.{glanced}
