@@ -9,7 +9,10 @@ use Rattle.atomic_table.specs.Table.{State, Me, Allows, Act, Valid, step, keeps,
 use Rattle.atomic_table.proofs.Lists.{exchanged}
 use Rattle.words.specs.Words.{cell_word, cell_of, is_word_for, IsCellInRange, IsJoinedInRange}
 use Rattle.words.proofs.WordLemmas.{cell_of-cell_word, cell_word-cell_of}
-use Rattle.words.specs.declared.Seat.{Seat}
+use Rattle.words.specs.declared.Seat.{Seat as StepSeat}
+use Rattle.atomic_table.specs.declared.shared.Seat.{Seat}
+use Rattle.cell.specs.declared.board.Board.{Board}
+use Rattle.cell.specs.Seats.{Sits}
 use Rattle.words.specs.declared.Step.{Step}
 use Rattle.words.specs.declared.Step.TheVariants.{Draft, Open, Claim, Yield, Join, Seal, Grant, Take}
 use Rattle.words.specs.declared.Row.{Row}
@@ -29,16 +32,16 @@ use Rattle.cell.specs.declared.view.View.{View}
 use Rattle.cell.specs.declared.view.Shape.{Shape}
 use Rattle.cell.specs.declared.view.Stage.{Stage}
 use Rattle.cell.specs.declared.view.Stage.TheVariants.{Resting, Claims, Joins}
-use Rattle.cell.specs.Sight.{Has, CanJoin}
+use Rattle.cell.specs.Sight.{Has, CanJoin, Coherent}
 use Rattle.cell.specs.Nacks.{CanGrant}
 use Rattle.protocol.specs.Tables.{is_taken}
 use Rattle.cell.proofs.Following.{knows_follows, knows_owned, hold_more, taken_world, not_held, next_unopened, follows_taken, bindings_after, next_unbound, taken_at, next_held}
-use Rattle.cell.specs.Views.{Knows, Staged, IsClaimer, at_stage, took, saw, read_word, drafted_word, turned}
+use Rattle.cell.specs.Views.{Knows, Staged, IsClaimer, at_stage, did, took, saw, read_word, drafted_word, turned, word_drafted}
 use Rattle.cell.proofs.Truths.{offers_known, joined_known, granted_known, agrees, coherent}
 use Rattle.cell.specs.Rule.{Keeps}
-use Rattle.cell.specs.Told.{Agrees, Inside, At, cell_read, looked, has_read, drafted, waits, claimed, joining, joined, granted, taken, sealed}
+use Rattle.cell.specs.Told.{Agrees, AgreesWithItself, Inside, At, cell_read, looked, has_read, glanced, drafted, opened, yielded, claimed, joined, granted, settled, taken, sealed}
 use Rattle.cell.proofs.Others.{learn_cell, learn_word, others_cell, own_cell, cell_now, cell_else, others_draft, own_draft}
-use Rattle.cell.proofs.Turning.{world_kept, keeps_view, keeps_step}
+use Rattle.cell.proofs.Turning.{world_kept, keeps_view, keeps_step, moved_coherent}
 
 -- the table with these words
 abbrev pub sized : Shape → List ℕ → Table
@@ -79,7 +82,7 @@ module _ (shape : Shape) (id place : ℕ) (me : Me ℕ View) (r : Row) (p : ℕ)
     kept : Kept k.world
     kept = world_kept shape s k
 
-    abbrev seat : Seat
+    abbrev seat : StepSeat
     seat = record { 0 = me.0.seat }
 
     word_is : word_at k.world.table r p ≡ slice_index s.words place
@@ -90,18 +93,22 @@ module _ (shape : Shape) (id place : ℕ) (me : Me ℕ View) (r : Row) (p : ℕ)
     is_its_row = ap (λ (t : Table). is_row t r) k.table ∙ row_from (sized shape s.words) r inside.0 inside.1
 
     -- where it only learns
-    learnt : (w : View) → Knows k.world k.owner id w → Keeps shape (stepped s place (slice_index s.words place) id me.1 w keeps)
-    learnt w knows = keeps_view shape s k id w _ _ (set-get_or s.words place 0) knows
+    learnt : (w : View) → w.seat ≡ me.0.seat → w.made ≡ me.0.made → Knows k.world k.owner id w → Keeps shape (stepped s place (slice_index s.words place) id me.1 w keeps)
+    learnt w seat_same made knows = keeps_view shape s k id me.0 w _ _ view seat_same made (set-get_or s.words place 0) knows
+
+    -- what the pass has seen then agrees with itself
+    agreed : (x : ℕ) (w : View) → w.threads ≡ me.0.threads → Keeps shape (stepped s place x id me.1 w keeps) → AgreesWithItself w
+    agreed x w size after = moved_coherent shape s.views _ _ id me.0 w view size at_table after
 
     cell_is : p ≡ 0 → cell_at k.world.table r ≡ cell_read (slice_index s.words place)
     cell_is e = cell_inside k.world.table r is_its_row ∙ ap cell_read (ap (word_at k.world.table r) (sym e) ∙ word_is)
 
     -- where it writes a word behind the cell
-    wrote_word : (d : ℕ) → Has me.0.seen.held r → ¬ Has me.0.seen.opened r → 1 ≤ p → is_word_for p d ≡ true → Keeps shape (stepped s place d id me.1 (drafted_word r p d me.0) keeps)
+    wrote_word : (d : ℕ) → Has me.0.seen.held r → ¬ Has me.0.seen.opened r → 1 ≤ p → is_word_for p d ≡ true → Keeps shape (stepped s place d id me.1 (word_drafted r p d me.0) keeps)
     wrote_word d held unopened high formed =
         let mine = known.mine r held in
         let fresh = known.fresh r held unopened in
-        keeps_step shape s k id (drafted_word r p d me.0) _ _ k.owner seat (Draft r p d) (known.seat, (mine.1, fresh, high, omega arith, formed))
+        keeps_step shape s k id me.0 (drafted_word r p d me.0) _ _ k.owner view refl refl (Draft r p d) (known.seat, (mine.1, fresh, high, omega arith, formed))
         (ap (λ (t : Table). with_word t r p d) k.table ∙ ap (λ (n : ℕ). sized shape (slice_set s.words n d)) (sym here))
         (λ j u n e t. others_draft k.world r p d k.owner kept is_its_row high low fresh j u (k.knows j u e t) (λ o. n (sym o ∙ mine.0)))
         (own_draft k.world r p d k.owner kept is_its_row high low fresh id me.0 known mine.0 mine.1)
@@ -135,29 +142,31 @@ module _ (shape : Shape) (id place : ℕ) (me : Me ℕ View) (r : Row) (p : ℕ)
           → after_step k.world seat done ≡ later
           → ((j : ℕ) → j ≢ id → k.owner r ≡ j → (cell_at k.world.table r ≡ Waiting) × (is_some (joined_of c) ≡ true))
           → ((j : ℕ) (m : Row) → j ≢ id → k.owner m ≡ j → cell_at k.world.table m ≡ Claimed → names (joined_of c) m ≡ false)
+          → w.seat ≡ me.0.seat
+          → w.made ≡ me.0.made
           → Knows later k.owner id w
-          → Keeps shape (stepped s place (cell_word c) id me.1 w keeps)
+          → Keeps shape (stepped s place (cell_word c) id me.1 (did done w) keeps)
       unfolding with_cell
-      wrote_cell done w condition after by_other unnamed knows =
-          keeps_step shape s k id w _ _ k.owner seat done (known.seat, condition)
+      wrote_cell done w condition after by_other unnamed seat_same made knows =
+          keeps_step shape s k id me.0 w _ _ k.owner view seat_same made done (known.seat, condition)
           (ap (λ (v : World). v.table) after ∙ ap (λ (t : Table). with_cell t r c) k.table ∙ ap (λ (n : ℕ). sized shape (slice_set s.words n (cell_word c))) (ap (place_of shape.rows r) (sym zero) ∙ sym here))
           (λ j u n e t. subst (λ (v : World). Knows v k.owner j u) (sym after)
           (others_cell k.world r c k.owner kept is_its_row range open_c was untaken j u (k.knows j u e t) (λ o. by_other j n o) (λ m o h. unnamed j m n o h)))
           (subst (λ (v : World). Knows v k.owner id w) (sym after) knows)
 
     -- a held row that is not opened
-    opens : p ≡ 0 → me.0.stage ≡ Resting → Has me.0.seen.held r → ¬ Has me.0.seen.opened r → Keeps shape (stepped s place (cell_word Waiting) id me.1 (turned Resting r me.0) keeps)
+    opens : p ≡ 0 → me.0.stage ≡ Resting → Has me.0.seen.held r → ¬ Has me.0.seen.opened r → Keeps shape (stepped s place (cell_word Waiting) id me.1 (did (Open r) (turned Resting r me.0)) keeps)
     opens zero resting held unopened =
         let mine = known.mine r held in
         let fresh = known.fresh r held unopened in
         let was : joined_of (cell_at k.world.table r) ≡ None = ap joined_of fresh in
         let untaken : is_taken (cell_at k.world.table r) ≡ false = ap is_taken fresh in
         wrote_cell Waiting zero tt refl was untaken (Open r) (turned Resting r me.0) (mine.1, fresh) refl
-        (λ j n o. absurd (n (sym o ∙ mine.0))) (λ j m n o h. refl)
+        (λ j n o. absurd (n (sym o ∙ mine.0))) (λ j m n o h. refl) refl refl
         (knows_now Waiting zero tt refl was untaken Resting tt (λ e. let bad : Waiting ≡ Claimed = e in cc) (λ q e h. subst (λ (z : Stage). IsClaimer z q) resting h))
 
     -- a held row that waits
-    claims : p ≡ 0 → me.0.stage ≡ Resting → Has me.0.seen.held r → cell_at k.world.table r ≡ Waiting → Keeps shape (stepped s place (cell_word Claimed) id me.1 (turned (Claims r) r me.0) keeps)
+    claims : p ≡ 0 → me.0.stage ≡ Resting → Has me.0.seen.held r → cell_at k.world.table r ≡ Waiting → Keeps shape (stepped s place (cell_word Claimed) id me.1 (did (Claim r) (turned (Claims r) r me.0)) keeps)
     claims zero resting held waits =
         let mine = known.mine r held in
         let was : joined_of (cell_at k.world.table r) ≡ None = ap joined_of waits in
@@ -165,7 +174,7 @@ module _ (shape : Shape) (id place : ℕ) (me : Me ℕ View) (r : Row) (p : ℕ)
         let unnamed = idle_unnamed k.world r kept (λ e. let bad : Waiting ≡ Claimed = sym waits ∙ e in cc) was in
         let now = own_now Claimed zero tt refl was untaken in
         wrote_cell Claimed zero tt refl was untaken (Claim r) (turned (Claims r) r me.0) (mine.1, waits) refl
-        (λ j n o. absurd (n (sym o ∙ mine.0))) (λ j m n o h. refl)
+        (λ j n o. absurd (n (sym o ∙ mine.0))) (λ j m n o h. refl) refl refl
         (knows_now Claimed zero tt refl was untaken (Claims r) (
           mine.0,
           now,
@@ -178,7 +187,7 @@ module _ (shape : Shape) (id place : ℕ) (me : Me ℕ View) (r : Row) (p : ℕ)
         (λ q e h. absurd (subst (λ (z : Stage). IsClaimer z q) resting h)))
 
     -- a row that this call has claimed, and joined with no other
-    yields : p ≡ 0 → me.0.stage ≡ Claims r → Has me.0.seen.held r → Keeps shape (stepped s place (cell_word Waiting) id me.1 (turned Resting r me.0) keeps)
+    yields : p ≡ 0 → me.0.stage ≡ Claims r → Has me.0.seen.held r → Keeps shape (stepped s place (cell_word Waiting) id me.1 (did (Yield r) (turned Resting r me.0)) keeps)
     yields zero claiming held =
         let mine = known.mine r held in
         let staged = subst (λ (z : Stage). Staged k.world k.owner id z) claiming known.staged in
@@ -186,28 +195,33 @@ module _ (shape : Shape) (id place : ℕ) (me : Me ℕ View) (r : Row) (p : ℕ)
         let untaken : is_taken (cell_at k.world.table r) ≡ false = ap is_taken staged.1 in
         wrote_cell Waiting zero tt refl was untaken (Yield r) (turned Resting r me.0)
         (mine.1, staged.1, namer_none _ (joined_at k.world.table) r staged.2) refl
-        (λ j n o. absurd (n (sym o ∙ mine.0))) (λ j m n o h. refl)
+        (λ j n o. absurd (n (sym o ∙ mine.0))) (λ j m n o h. refl) refl refl
         (knows_now Waiting zero tt refl was untaken Resting tt (λ e. let bad : Waiting ≡ Claimed = e in cc)
         (λ q e h. false≢true (sym e ∙ ap (row_eq q) (subst (λ (z : Stage). IsClaimer z q) claiming h) ∙ row_eq-refl q)))
 
+    -- the pass once it has joined the row
+    abbrev joined_by : Row → ℕ → ℕ → Joined → View
+    joined_by mine own partner j = did (Join mine own r partner) (saw r (Synched j) (turned (Joins mine r j) r me.0))
+
     -- another row, which waits: it is joined with the row that this call has claimed
     joins : p ≡ 0 → (mine : Row) (own partner : ℕ) (j : Joined) → me.0.stage ≡ Claims mine → Has me.0.seen.held mine → CanJoin me.0.seen mine own r partner j
-        → cell_at k.world.table r ≡ Waiting → Keeps shape (stepped s place (cell_word (Synched j)) id me.1 (joining mine r j me.0) keeps)
+        → cell_at k.world.table r ≡ Waiting → Keeps shape (stepped s place (cell_word (Synched j)) id me.1 (joined_by mine own partner j) keeps)
     joins zero mine own partner j claiming held can waits =
         let staged = subst (λ (z : Stage). Staged k.world k.owner id z) claiming known.staged in
         let was : joined_of (cell_at k.world.table r) ≡ None = ap joined_of waits in
         let untaken : is_taken (cell_at k.world.table r) ≡ false = ap is_taken waits in
-        let meet = offers_known k.world k.owner id me.0 known mine own r partner j can in
-        let is : joined_with k.world.table mine own r partner ≡ j = joined_known k.world k.owner id me.0 known mine own r partner j can in
+        let meet = offers_known k.world k.owner id me.0 known kept mine own r partner j can in
+        let is : joined_with k.world.table mine own r partner ≡ j = joined_known k.world k.owner id me.0 known kept mine own r partner j can in
         let range : IsJoinedInRange j = subst IsJoinedInRange is (join_in_range k.world mine own r partner kept (row_of_open k.world.table mine (ap is_fresh staged.1)) meet) in
         let apart : row_eq mine r ≡ false = row_ne mine r (λ e. can.apart (ap (λ (y : Row). y.thread) e)) in
         let partner_is : j.partner ≡ Some (mine, own) = ap (λ (y : Joined). y.partner) can.is in
         let now = own_now (Synched j) zero range refl was untaken in
-        wrote_cell (Synched j) zero range refl was untaken (Join mine own r partner) (joining mine r j me.0)
+        wrote_cell (Synched j) zero range refl was untaken (Join mine own r partner) (saw r (Synched j) (turned (Joins mine r j) r me.0))
         ((known.mine mine held).1, staged.1, namer_none _ (joined_at k.world.table) mine staged.2, waits, can.apart, meet)
         (ap (λ (y : Joined). with_table k.world (with_cell k.world.table r (Synched y))) is)
         (λ i n o. (waits, refl))
         (λ i m n o h. ap (λ (y : Option (Row × ℕ)). is_partner y m) partner_is ∙ row_ne mine m (λ e. n (sym o ∙ ap k.owner (sym e) ∙ staged.0)))
+        refl refl
         (learn_cell _ k.owner id (turned (Joins mine r j) r me.0) r (Synched j)
         (knows_now (Synched j) zero range refl was untaken (Joins mine r j)
         (staged.0, else_now (Synched j) zero range refl was untaken mine apart ∙ staged.1, ap joined_of now, ap (λ (y : Option (Row × ℕ)). is_partner y mine) partner_is ∙ row_eq-refl mine)
@@ -217,19 +231,19 @@ module _ (shape : Shape) (id place : ℕ) (me : Me ℕ View) (r : Row) (p : ℕ)
 
     -- a row that waits: it is committed alone
     grants : p ≡ 0 → (n : ℕ) (j : Joined) → me.0.stage ≡ Resting → CanGrant me.0.seen r n j → cell_at k.world.table r ≡ Waiting
-        → Keeps shape (stepped s place (cell_word (Synched j)) id me.1 (saw r (Synched j) (turned Resting r me.0)) keeps)
+        → Keeps shape (stepped s place (cell_word (Synched j)) id me.1 (did (Grant r n) (settled r j me.0)) keeps)
     grants zero n j resting can waits =
         let was : joined_of (cell_at k.world.table r) ≡ None = ap joined_of waits in
         let untaken : is_taken (cell_at k.world.table r) ≡ false = ap is_taken waits in
-        let known_grant = granted_known k.world k.owner id me.0 known r n j can in
+        let known_grant = granted_known k.world k.owner id me.0 known kept r n j can in
         let range : IsJoinedInRange j = subst IsJoinedInRange known_grant.1 (grant_in_range k.world r n can.cause kept known_grant.0) in
         let nobody : j.partner ≡ None = ap (λ (y : Joined). y.partner) can.is in
         let now = own_now (Synched j) zero range refl was untaken in
-        wrote_cell (Synched j) zero range refl was untaken (Grant r n) (saw r (Synched j) (turned Resting r me.0))
+        wrote_cell (Synched j) zero range refl was untaken (Grant r n) (settled r j me.0)
         (waits, ap (λ (o : Option ℕ). is_some o) known_grant.0)
         (ap (λ (y : Joined). with_table k.world (with_cell k.world.table r (Synched y))) known_grant.1)
         (λ i n o. (waits, refl))
-        (λ i m n o h. ap (λ (y : Option (Row × ℕ)). is_partner y m) nobody)
+        (λ i m n o h. ap (λ (y : Option (Row × ℕ)). is_partner y m) nobody) refl refl
         (learn_cell _ k.owner id (turned Resting r me.0) r (Synched j)
         (knows_now (Synched j) zero range refl was untaken Resting tt
         (λ e. let bad : Synched j ≡ Claimed = e in cc)
@@ -273,19 +287,19 @@ module _ (shape : Shape) (id place : ℕ) (me : Me ℕ View) (r : Row) (p : ℕ)
               subst (λ (b : Bool). Knows later_taken owner' id (at_stage me.0.stage (cond b (record { held = next_row r ∷ (saw r (Taken j) me.0).seen.held; drafts = (next_row r, 1, 0) ∷ (saw r (Taken j) me.0).seen.drafts; opened = (saw r (Taken j) me.0).seen.opened; words = (saw r (Taken j) me.0).seen.words; joined = (saw r (Taken j) me.0).seen.joined; taken = (saw r (Taken j) me.0).seen.taken; bound = (saw r (Taken j) me.0).seen.bound }) (saw r (Taken j) me.0).seen) me.0)) (sym e)
               saw_it
 
-      takes : p ≡ 0 → Keeps shape (stepped s place (cell_word (Taken j)) id me.1 (took r j me.0) keeps)
+      takes : p ≡ 0 → Keeps shape (stepped s place (cell_word (Taken j)) id me.1 (did (Take r) (took r j me.0)) keeps)
       unfolding with_cell
       takes zero =
           let synched : synched_of (cell_at k.world.table r) ≡ Some j = ap synched_of is in
           let after : after_step k.world seat (Take r) ≡ later_taken = ap (λ (o : Option Joined). with_holders (with_table k.world (with_take k.world.table r o)) (handed k.world.table k.world.holders seat r)) synched in
-          keeps_step shape s k id (took r j me.0) _ _ owner' seat (Take r) (known.seat, ap (λ (o : Option Joined). is_some o) synched)
+          keeps_step shape s k id me.0 (took r j me.0) _ _ owner' view refl refl (Take r) (known.seat, ap (λ (o : Option Joined). is_some o) synched)
           (ap (λ (v : World). v.table) after ∙ ap (λ (t : Table). with_cell t r (Taken j)) k.table ∙ ap (λ (n : ℕ). sized shape (slice_set s.words n (cell_word (Taken j)))) (ap (place_of shape.rows r) (sym zero) ∙ sym here))
           (λ i u n e t. subst (λ (v : World). Knows v owner' i u) (sym after) (still_knows i u (k.knows i u e t)))
           (subst (λ (v : World). Knows v owner' id (took r j me.0)) (sym after) took_knows)
 
     -- a claimed row: it is committed as the row that this call joined says
     seals : p ≡ 0 → (other : Row) (own : ℕ) (j : Joined) → me.0.stage ≡ Joins r other j → j.partner ≡ Some (r, own) → Has me.0.seen.held r
-        → Keeps shape (stepped s place (cell_word (Synched (mirrored other j own))) id me.1 (saw r (Synched (mirrored other j own)) (turned Resting r me.0)) keeps)
+        → Keeps shape (stepped s place (cell_word (Synched (mirrored other j own))) id me.1 (did (Seal r) (settled r (mirrored other j own) me.0)) keeps)
     seals zero other own j joining_now partner_is held =
         let mine = known.mine r held in
         let staged = subst (λ (z : Stage). Staged k.world k.owner id z) joining_now known.staged in
@@ -298,11 +312,11 @@ module _ (shape : Shape) (id place : ℕ) (me : Me ℕ View) (r : Row) (p : ℕ)
         let sealing : IsSealing k.world.table r other = record { way = j; offer = own; is = staged.2; partner = partner_is } in
         let range = seal_in_range k.world r other sealing kept in
         let now = own_now (Synched (mirrored other j own)) zero range refl was untaken in
-        wrote_cell (Synched (mirrored other j own)) zero range refl was untaken (Seal r) (saw r (Synched (mirrored other j own)) (turned Resting r me.0))
+        wrote_cell (Synched (mirrored other j own)) zero range refl was untaken (Seal r) (settled r (mirrored other j own) me.0)
         (mine.1, staged.1, ap (λ (y : Option Row). is_some y) namer)
         (ap (λ (y : Option Joined). with_table k.world (with_seal k.world.table r y)) (sealed_is k.world.table r other (namer_at k.world r) sealing namer))
         (λ i n o. absurd (n (sym o ∙ mine.0)))
-        (λ i m n o h. row_ne other m (λ e. let bad : None ≡ Some j = sym (ap joined_of h) ∙ ap (joined_at k.world.table) (sym e) ∙ staged.2 in cc))
+        (λ i m n o h. row_ne other m (λ e. let bad : None ≡ Some j = sym (ap joined_of h) ∙ ap (joined_at k.world.table) (sym e) ∙ staged.2 in cc)) refl refl
         (learn_cell _ k.owner id (turned Resting r me.0) r (Synched (mirrored other j own))
         (knows_now (Synched (mirrored other j own)) zero range refl was untaken Resting tt
         (λ e. let bad : Synched (mirrored other j own) ≡ Claimed = e in cc)
@@ -320,10 +334,21 @@ module _ (shape : Shape) (slots id place : ℕ) (me : Me ℕ View) (r : Row)
         saw r c me.0,
         keeps,
         tt,
-        learnt shape id place me r 0 threads rows inside (omega arith) here s k view (saw r c me.0) (learn_cell k.world k.owner id me.0 r c knows read),
+        learnt shape id place me r 0 threads rows inside (omega arith) here s k view (saw r c me.0) refl refl (learn_cell k.world k.owner id me.0 r c knows read),
         λ q at.
             let there = seen_there k.world k.owner id me r q c (world_kept shape s k) knows read (one_word shape id place me r 0 threads rows inside (omega arith) here q 0 (omega arith) at.0 at.1).0 in
             (there.0, there.1, coherent k.world k.owner id (saw r c me.0) (learn_cell k.world k.owner id me.0 r c knows read) (world_kept shape s k)),
+      )
+
+  -- whoever learns nothing sees that what he has seen is of one table
+  pub glance_allowed : place ≡ place_of shape.rows r 0 → Allows (Keeps shape) slots id me place (λ n. n) (glanced (step slots place 0 0 none) me)
+  glance_allowed here s k homes view range =
+      let knows = known shape id place me r 0 threads rows inside (omega arith) here s k view in (
+        me.0,
+        keeps,
+        tt,
+        learnt shape id place me r 0 threads rows inside (omega arith) here s k view me.0 refl refl knows,
+        (refl, coherent k.world k.owner id me.0 knows (world_kept shape s k)),
       )
 
   pub read_allowed : (p : ℕ) → 1 ≤ p → p < 34 → Has me.0.seen.opened r → place ≡ place_of shape.rows r p → Allows (Keeps shape) slots id me place (λ n. n) (has_read (step slots place 0 0 none) me)
@@ -333,7 +358,7 @@ module _ (shape : Shape) (slots id place : ℕ) (me : Me ℕ View) (r : Row)
         read_word r p x me.0,
         keeps,
         tt,
-        learnt shape id place me r p threads rows inside low here s k view (read_word r p x me.0)
+        learnt shape id place me r p threads rows inside low here s k view (read_word r p x me.0) refl refl
             (learn_word k.world k.owner id me.0 r p x knows (knows.opened r seen) high low (word_is shape id place me r p threads rows inside low here s k view)),
         λ q o h at. (
           ap (λ (z : Row × ℕ). (read_word z.0 z.1 x me.0, me.1)) (let e = one_word shape id place me r p threads rows inside low here q o h at.0 at.1 in λ i. (e.0 i, e.1 i)),
@@ -343,35 +368,50 @@ module _ (shape : Shape) (slots id place : ℕ) (me : Me ℕ View) (r : Row)
 
   pub draft_allowed : (p d : ℕ) → 1 ≤ p → p < 34 → is_word_for p d ≡ true → Has me.0.seen.held r → ¬ Has me.0.seen.opened r → place ≡ place_of shape.rows r p
       → Allows (Keeps shape) slots id me place (λ n. d) (λ n. drafted (step slots place d 0 none) me d)
-  draft_allowed p d high low formed held unopened here s k homes view range = (
-    drafted_word r p d me.0,
-    keeps,
-    tt,
-    wrote_word shape id place me r p threads rows inside low here s k view d held unopened high formed,
-    λ q o h at. ap (λ (z : Row × ℕ). (drafted_word z.0 z.1 d me.0, me.1)) (let e = one_word shape id place me r p threads rows inside low here q o h at.0 at.1 in λ i. (e.0 i, e.1 i)),
-  )
+  draft_allowed p d high low formed held unopened here s k homes view range =
+      let after = word_drafted r p d me.0 in
+      let moved : Keeps shape (stepped s place d id me.1 after keeps) = wrote_word shape id place me r p threads rows inside low here s k view d held unopened high formed in (
+        after,
+        keeps,
+        tt,
+        moved,
+        λ q o h at. (
+          ap (λ (z : Row × ℕ). (word_drafted z.0 z.1 d me.0, me.1)) (let e = one_word shape id place me r p threads rows inside low here q o h at.0 at.1 in λ i. (e.0 i, e.1 i)),
+          agreed shape id place me r p threads rows inside low here s k view d after refl moved,
+        ),
+      )
 
   -- a held row that is not opened
   pub open_allowed : me.0.stage ≡ Resting → Has me.0.seen.held r → ¬ Has me.0.seen.opened r → place ≡ place_of shape.rows r 0
-      → Allows (Keeps shape) slots id me place (λ n. cell_word Waiting) (λ n. waits (step slots place (cell_word Waiting) 0 none) me (cell_word Waiting))
-  open_allowed resting held unopened here s k homes view range = (
-    turned Resting r me.0,
-    keeps,
-    tt,
-    opens shape id place me r 0 threads rows inside (omega arith) here s k view refl resting held unopened,
-    λ q at. ap (λ (z : Row). (turned Resting z me.0, me.1)) (one_word shape id place me r 0 threads rows inside (omega arith) here q 0 (omega arith) at.0 at.1).0,
-  )
+      → Allows (Keeps shape) slots id me place (λ n. cell_word Waiting) (λ n. opened (step slots place (cell_word Waiting) 0 none) me (cell_word Waiting))
+  open_allowed resting held unopened here s k homes view range =
+      let after = did (Open r) (turned Resting r me.0) in
+      let moved : Keeps shape (stepped s place (cell_word Waiting) id me.1 after keeps) = opens shape id place me r 0 threads rows inside (omega arith) here s k view refl resting held unopened in (
+        after,
+        keeps,
+        tt,
+        moved,
+        λ q at. (
+          ap (λ (z : Row). (did (Open z) (turned Resting z me.0), me.1)) (one_word shape id place me r 0 threads rows inside (omega arith) here q 0 (omega arith) at.0 at.1).0,
+          agreed shape id place me r 0 threads rows inside (omega arith) here s k view (cell_word Waiting) after refl moved,
+        ),
+      )
 
   -- a row that this call has claimed
   pub yield_allowed : me.0.stage ≡ Claims r → Has me.0.seen.held r → place ≡ place_of shape.rows r 0
-      → Allows (Keeps shape) slots id me place (λ n. cell_word Waiting) (λ n. waits (step slots place (cell_word Waiting) 0 none) me (cell_word Waiting))
-  yield_allowed claiming held here s k homes view range = (
-    turned Resting r me.0,
-    keeps,
-    tt,
-    yields shape id place me r 0 threads rows inside (omega arith) here s k view refl claiming held,
-    λ q at. ap (λ (z : Row). (turned Resting z me.0, me.1)) (one_word shape id place me r 0 threads rows inside (omega arith) here q 0 (omega arith) at.0 at.1).0,
-  )
+      → Allows (Keeps shape) slots id me place (λ n. cell_word Waiting) (λ n. yielded (step slots place (cell_word Waiting) 0 none) me (cell_word Waiting))
+  yield_allowed claiming held here s k homes view range =
+      let after = did (Yield r) (turned Resting r me.0) in
+      let moved : Keeps shape (stepped s place (cell_word Waiting) id me.1 after keeps) = yields shape id place me r 0 threads rows inside (omega arith) here s k view refl claiming held in (
+        after,
+        keeps,
+        tt,
+        moved,
+        λ q at. (
+          ap (λ (z : Row). (did (Yield z) (turned Resting z me.0), me.1)) (one_word shape id place me r 0 threads rows inside (omega arith) here q 0 (omega arith) at.0 at.1).0,
+          agreed shape id place me r 0 threads rows inside (omega arith) here s k view (cell_word Waiting) after refl moved,
+        ),
+      )
 
   -- a held row: where it is Waiting, it is this call's
   pub claim_allowed : me.0.stage ≡ Resting → Has me.0.seen.held r → place ≡ place_of shape.rows r 0
@@ -383,19 +423,28 @@ module _ (shape : Shape) (slots id place : ℕ) (me : Me ℕ View) (r : Row)
       let one : (q : Row) → At (step {S = ℕ} slots place (cell_word Waiting) (cell_word Claimed) none) me q 0 → r ≡ q = λ q at. (one_word shape id place me r 0 threads rows inside (omega arith) here q 0 (omega arith) at.0 at.1).0 in
       exchanged n (cell_word Waiting) (cell_word Claimed)
       (λ x. (w : View) × (a : Act ℕ) × Valid s.homes me.1 a × Keeps shape (stepped s place x id me.1 w a) × claimed (step slots place (cell_word Waiting) (cell_word Claimed) none) me n (w, carried_after me.1 a))
-      (λ e. (
-        turned (Claims r) r me.0,
+      (λ e.
+      let after = did (Claim r) (turned (Claims r) r me.0) in
+      let moved : Keeps shape (stepped s place (cell_word Claimed) id me.1 after keeps) = claims shape id place me r 0 threads rows inside (omega arith) here s k view refl resting held (read ∙ ap cell_read e ∙ waiting_read) in (
+        after,
         keeps,
         tt,
-        claims shape id place me r 0 threads rows inside (omega arith) here s k view refl resting held (read ∙ ap cell_read e ∙ waiting_read),
-        λ q at. (λ f. ap (λ (z : Row). (turned (Claims z) z me.0, me.1)) (one q at), λ f. absurd (f e)),
+        moved,
+        λ q at. (
+          λ f. ap (λ (z : Row). (did (Claim z) (turned (Claims z) z me.0), me.1)) (one q at),
+          λ f. absurd (f e),
+          agreed shape id place me r 0 threads rows inside (omega arith) here s k view (cell_word Claimed) after refl moved,
+        ),
       ))
-      (λ f. (
+      (λ f.
+      let moved : Keeps shape (stepped s place n id me.1 (saw r (cell_read n) me.0) keeps) =
+      learnt shape id place me r 0 threads rows inside (omega arith) here s k view (saw r (cell_read n) me.0) refl refl (learn_cell k.world k.owner id me.0 r (cell_read n) knows read) in
+      let agrees_now = agreed shape id place me r 0 threads rows inside (omega arith) here s k view n (saw r (cell_read n) me.0) refl moved in (
         saw r (cell_read n) me.0,
         keeps,
         tt,
-        learnt shape id place me r 0 threads rows inside (omega arith) here s k view (saw r (cell_read n) me.0) (learn_cell k.world k.owner id me.0 r (cell_read n) knows read),
-        λ q at. (λ e. absurd (f e), λ g. seen_there k.world k.owner id me r q (cell_read n) (world_kept shape s k) knows read (one q at)),
+        moved,
+        λ q at. (λ e. absurd (f e), λ g. seen_there k.world k.owner id me r q (cell_read n) (world_kept shape s k) knows read (one q at), agrees_now),
       ))
 
 abbrev joined_in : Option Cell → Option Joined
@@ -426,25 +475,35 @@ module _ (shape : Shape) (slots id place : ℕ) (me : Me ℕ View) (r : Row)
       let one : (q : Row) → At (step {S = ℕ} slots place (cell_word Waiting) (cell_word (Synched j)) none) me q 0 → r ≡ q = λ q at. (one_word shape id place me r 0 threads rows inside (omega arith) here q 0 (omega arith) at.0 at.1).0 in
       exchanged n (cell_word Waiting) (cell_word (Synched j))
       (λ x. (w : View) × (a : Act ℕ) × Valid s.homes me.1 a × Keeps shape (stepped s place x id me.1 w a) × joined (step slots place (cell_word Waiting) (cell_word (Synched j)) none) me n (w, carried_after me.1 a))
-      (λ e. (
-        joining mine r j me.0,
+      (λ e.
+      let after = did (Join mine own r partner) (saw r (Synched j) (turned (Joins mine r j) r me.0)) in
+      let moved : Keeps shape (stepped s place (cell_word (Synched j)) id me.1 after keeps) =
+      joins shape id place me r 0 threads rows inside (omega arith) here s k view refl mine own partner j claiming held can (read ∙ ap cell_read e ∙ waiting_read) in (
+        after,
         keeps,
         tt,
-        joins shape id place me r 0 threads rows inside (omega arith) here s k view refl mine own partner j claiming held can (read ∙ ap cell_read e ∙ waiting_read),
-        λ m q i stage at i_range second. (
+        moved,
+        λ m i_own q i stage partner_of at i_range second. (
           λ f. let same = one_joined j i in_range i_range second in
               let row = one q at in
               let my : mine ≡ m = one_claim mine m (sym claiming ∙ stage) in
-              λ x. (joining (my x) (row x) (same x) me.0, me.1),
+              let both : Some (mine, own) ≡ Some (m, i_own) = sym (ap (λ (z : Joined). z.partner) can.is) ∙ ap (λ (z : Joined). z.partner) same ∙ partner_of in
+              let my_own : own ≡ i_own = ap (λ (z : Row × ℕ). z.1) (some_inj (mine, own) (m, i_own) both) in
+              let theirs : partner ≡ i.own = sym (ap (λ (z : Joined). z.own) can.is) ∙ ap (λ (z : Joined). z.own) same in
+              λ x. (did (Join (my x) (my_own x) (row x) (theirs x)) (saw (row x) (Synched (same x)) (turned (Joins (my x) (row x) (same x)) (row x) me.0)), me.1),
           λ f. absurd (f e),
+          agreed shape id place me r 0 threads rows inside (omega arith) here s k view (cell_word (Synched j)) after refl moved,
         ),
       ))
-      (λ f. (
+      (λ f.
+      let moved : Keeps shape (stepped s place n id me.1 (saw r (cell_read n) me.0) keeps) =
+      learnt shape id place me r 0 threads rows inside (omega arith) here s k view (saw r (cell_read n) me.0) refl refl (learn_cell k.world k.owner id me.0 r (cell_read n) knows read) in
+      let agrees_now = agreed shape id place me r 0 threads rows inside (omega arith) here s k view n (saw r (cell_read n) me.0) refl moved in (
         saw r (cell_read n) me.0,
         keeps,
         tt,
-        learnt shape id place me r 0 threads rows inside (omega arith) here s k view (saw r (cell_read n) me.0) (learn_cell k.world k.owner id me.0 r (cell_read n) knows read),
-        λ m q i stage at i_range second. (λ e. absurd (f e), λ g. seen_there k.world k.owner id me r q (cell_read n) (world_kept shape s k) knows read (one q at)),
+        moved,
+        λ m i_own q i stage partner_of at i_range second. (λ e. absurd (f e), λ g. seen_there k.world k.owner id me r q (cell_read n) (world_kept shape s k) knows read (one q at), agrees_now),
       ))
     where
       one_claim : (a b : Row) → Claims a ≡ Claims b → a ≡ b
@@ -466,24 +525,32 @@ module _ (shape : Shape) (slots id place : ℕ) (me : Me ℕ View) (r : Row)
       exchanged x (cell_word Waiting) (cell_word (Synched j))
       (λ y. (w : View) × (a : Act ℕ) × Valid s.homes me.1 a × Keeps shape (stepped s place y id me.1 w a) × granted (step slots place (cell_word Waiting) (cell_word (Synched j)) none) me x (w, carried_after me.1 a))
       (λ e.
-      let waits = read ∙ ap cell_read e ∙ waiting_read in (
-        saw r (Synched j) (turned Resting r me.0),
+      let waits = read ∙ ap cell_read e ∙ waiting_read in
+      let after = did (Grant r n) (settled r j me.0) in
+      let moved : Keeps shape (stepped s place (cell_word (Synched j)) id me.1 after keeps) =
+      grants shape id place me r 0 threads rows inside (omega arith) here s k view refl n j resting can waits in (
+        after,
         keeps,
         tt,
-        grants shape id place me r 0 threads rows inside (omega arith) here s k view refl n j resting can waits,
+        moved,
         λ q i rests at i_range second. (
           λ f. let same = one_joined j i in_range i_range second in
               let row = one q at in
-              ((λ z. (saw (row z) (Synched (same z)) (turned Resting (row z) me.0), me.1)), (seen_there k.world k.owner id me r q Waiting (world_kept shape s k) knows waits row).1),
+              let own : n ≡ i.own = sym (ap (λ (z : Joined). z.own) can.is) ∙ ap (λ (z : Joined). z.own) same in
+              ((λ z. (did (Grant (row z) (own z)) (settled (row z) (same z) me.0), me.1)), (seen_there k.world k.owner id me r q Waiting (world_kept shape s k) knows waits row).1),
           λ f. absurd (f e),
+          agreed shape id place me r 0 threads rows inside (omega arith) here s k view (cell_word (Synched j)) after refl moved,
         ),
       ))
-      (λ f. (
+      (λ f.
+      let moved : Keeps shape (stepped s place x id me.1 (saw r (cell_read x) me.0) keeps) =
+      learnt shape id place me r 0 threads rows inside (omega arith) here s k view (saw r (cell_read x) me.0) refl refl (learn_cell k.world k.owner id me.0 r (cell_read x) knows read) in
+      let agrees_now = agreed shape id place me r 0 threads rows inside (omega arith) here s k view x (saw r (cell_read x) me.0) refl moved in (
         saw r (cell_read x) me.0,
         keeps,
         tt,
-        learnt shape id place me r 0 threads rows inside (omega arith) here s k view (saw r (cell_read x) me.0) (learn_cell k.world k.owner id me.0 r (cell_read x) knows read),
-        λ q i rests at i_range second. (λ e. absurd (f e), λ g. seen_there k.world k.owner id me r q (cell_read x) (world_kept shape s k) knows read (one q at)),
+        moved,
+        λ q i rests at i_range second. (λ e. absurd (f e), λ g. seen_there k.world k.owner id me r q (cell_read x) (world_kept shape s k) knows read (one q at), agrees_now),
       ))
 
   -- a committed row, where it is Synched: it is taken
@@ -497,43 +564,57 @@ module _ (shape : Shape) (slots id place : ℕ) (me : Me ℕ View) (r : Row)
       exchanged x (cell_word (Synched j)) (cell_word (Taken j))
       (λ y. (w : View) × (a : Act ℕ) × Valid s.homes me.1 a × Keeps shape (stepped s place y id me.1 w a) × taken (step slots place (cell_word (Synched j)) (cell_word (Taken j)) none) me x (w, carried_after me.1 a))
       (λ e.
-      let synched : cell_at k.world.table r ≡ Synched j = read ∙ ap cell_read e ∙ ap (λ (o : Option Cell). unwrap_or o Fresh) (cell_of-cell_word (Synched j) in_range) in (
-        took r j me.0,
+      let synched : cell_at k.world.table r ≡ Synched j = read ∙ ap cell_read e ∙ ap (λ (o : Option Cell). unwrap_or o Fresh) (cell_of-cell_word (Synched j) in_range) in
+      let after = did (Take r) (took r j me.0) in
+      let moved : Keeps shape (stepped s place (cell_word (Taken j)) id me.1 after keeps) =
+      takes shape id place me r 0 threads rows inside (omega arith) here s k view j synched refl in (
+        after,
         keeps,
         tt,
-        takes shape id place me r 0 threads rows inside (omega arith) here s k view j synched refl,
+        moved,
         λ q i at i_range second. (
           λ f. let same = one_taken j i in_range i_range second in
               let row = one q at in (
-                (λ z. (took (row z) (same z) me.0, me.1)),
+                (λ z. (did (Take (row z)) (took (row z) (same z) me.0), me.1)),
                 subst (λ (z : Joined). Agrees me.0 q (Synched z)) same (seen_there k.world k.owner id me r q (Synched j) (world_kept shape s k) knows synched row).1,
                 λ o. let open_next : is_fresh (cell_at k.world.table (next_row r)) ≡ false = knows.opened (next_row r) (subst (λ (z : Row). Has me.0.seen.opened (next_row z)) (sym row) o) in
                     false≢true (sym open_next ∙ next_unopened k.world (record { 0 = me.0.seat }) r j (world_kept shape s k) synched),
               ),
           λ f. absurd (f (e ∙ ap (λ (z : Joined). cell_word (Synched z)) (one_taken j i in_range i_range second))),
+          agreed shape id place me r 0 threads rows inside (omega arith) here s k view (cell_word (Taken j)) after refl moved,
         ),
       ))
-      (λ f. (
+      (λ f.
+      let moved : Keeps shape (stepped s place x id me.1 (saw r (cell_read x) me.0) keeps) =
+      learnt shape id place me r 0 threads rows inside (omega arith) here s k view (saw r (cell_read x) me.0) refl refl (learn_cell k.world k.owner id me.0 r (cell_read x) knows read) in
+      let agrees_now = agreed shape id place me r 0 threads rows inside (omega arith) here s k view x (saw r (cell_read x) me.0) refl moved in (
         saw r (cell_read x) me.0,
         keeps,
         tt,
-        learnt shape id place me r 0 threads rows inside (omega arith) here s k view (saw r (cell_read x) me.0) (learn_cell k.world k.owner id me.0 r (cell_read x) knows read),
+        moved,
         λ q i at i_range second. (
           λ e. absurd (f (e ∙ ap (λ (z : Joined). cell_word (Synched z)) (sym (one_taken j i in_range i_range second)))),
           λ g. seen_there k.world k.owner id me r q (cell_read x) (world_kept shape s k) knows read (one q at),
+          agrees_now,
         ),
       ))
 
   -- a row that this call has claimed, and joined with another
   pub seal_allowed : (other : Row) (own : ℕ) (j : Joined) → me.0.stage ≡ Joins r other j → j.partner ≡ Some (r, own) → Has me.0.seen.held r → IsJoinedInRange (mirrored other j own) → place ≡ place_of shape.rows r 0
       → Allows (Keeps shape) slots id me place (λ n. cell_word (Synched (mirrored other j own))) (λ n. sealed (step slots place (cell_word (Synched (mirrored other j own))) 0 none) me (cell_word (Synched (mirrored other j own))))
-  seal_allowed other own j joining_now partner_is held in_range here s k homes view range = (
-    saw r (Synched (mirrored other j own)) (turned Resting r me.0),
-    keeps,
-    tt,
-    seals shape id place me r 0 threads rows inside (omega arith) here s k view refl other own j joining_now partner_is held,
-    λ q i at i_range e. (λ x. (saw ((one q at) x) (Synched ((one_joined (mirrored other j own) i in_range i_range e) x)) (turned Resting ((one q at) x) me.0), me.1)),
-  )
+  seal_allowed other own j joining_now partner_is held in_range here s k homes view range =
+      let after = did (Seal r) (settled r (mirrored other j own) me.0) in
+      let moved : Keeps shape (stepped s place (cell_word (Synched (mirrored other j own))) id me.1 after keeps) =
+      seals shape id place me r 0 threads rows inside (omega arith) here s k view refl other own j joining_now partner_is held in (
+        after,
+        keeps,
+        tt,
+        moved,
+        λ q i at i_range e. (
+          (λ x. (did (Seal ((one q at) x)) (settled ((one q at) x) ((one_joined (mirrored other j own) i in_range i_range e) x) me.0), me.1)),
+          agreed shape id place me r 0 threads rows inside (omega arith) here s k view (cell_word (Synched (mirrored other j own))) after refl moved,
+        ),
+      )
     where
       one : (q : Row) → At (step {S = ℕ} slots place (cell_word (Synched (mirrored other j own))) 0 none) me q 0 → r ≡ q
       one q at = (one_word shape id place me r 0 threads rows inside (omega arith) here q 0 (omega arith) at.0 at.1).0
@@ -544,6 +625,13 @@ at_view shape v r threads rows inside = subst (λ (z : ℕ × ℕ). Inside z.0 z
 
 pub place_view : (shape : Shape) (v : View) (r : Row) (p place : ℕ) → v.rows ≡ shape.rows → place ≡ place_of shape.rows r p → place ≡ place_of v.rows r p
 place_view shape v r p place rows e = e ∙ ap (λ (n : ℕ). place_of n r p) (sym rows)
+
+-- a pass that has moved still sits at its table
+pub sits_still : (b : Board) (old new : Seat ℕ View) → Sits b old → new.table_id ≡ old.table_id → new.me.0.threads ≡ old.me.0.threads → new.me.0.rows ≡ old.me.0.rows → AgreesWithItself new.me.0 → Sits b new
+sits_still b old new sits table threads rows agree =
+    let same_threads = threads ∙ sits.1 in
+    let same_rows = rows ∙ sits.2 in
+    (table ∙ sits.0, same_threads, same_rows, subst (λ (z : ℕ × ℕ). Coherent z.0 z.1 new.me.0.seen) (λ i. (same_threads i, same_rows i)) agree)
 
 -- no other word reads as a cell that is not Fresh
 pub not_cell : (c : Cell) (n : ℕ) → c ≢ Fresh → n ≢ cell_word c → cell_read n ≢ c

@@ -3,6 +3,7 @@ use Rattle.std.proofs.Common.{rules, ◌⊎◌, ◌≡◌, ◌≢◌, ℕ, ◌+�
 use Rattle.words.specs.Words.{IsJoinedInRange}
 use Rattle.words.specs.declared.Base.{Base}
 use Rattle.words.specs.declared.Base.TheVariants.{Send, Recv, Always, OnNack, Never}
+use Rattle.words.specs.declared.Binding.{Binding}
 use Rattle.words.specs.declared.NackName.{NackName}
 use Rattle.words.specs.declared.Offer.{Offer}
 use Rattle.words.specs.declared.Row.{Row}
@@ -13,8 +14,9 @@ use Rattle.protocol.proofs.Linking.{some_inj}
 use Rattle.cell.specs.declared.view.View.{View}
 use Rattle.cell.specs.declared.view.Stage.TheVariants.{Resting}
 use Rattle.cell.specs.declared.granting.Grant.TheVariants.{Given, Late}
-use Rattle.cell.specs.Told.{Agrees}
-use Rattle.cell.specs.Views.{saw, turned}
+use Rattle.cell.specs.Told.{Agrees, settled}
+use Rattle.cell.specs.Views.{did, saw}
+use Rattle.words.specs.declared.Step.TheVariants.{Grant}
 use Rattle.protocol.specs.Tables.{bound_row, joined_of}
 use Rattle.cell.specs.declared.view.Seen.{Seen}
 use Rattle.cell.specs.Sight.{Has, HaveOffer, HasSeenLast, Learns, LearnsOf, IsBefore, SawCommitted, SeesOffer, see_cell, see_opened}
@@ -68,7 +70,7 @@ can_grant About s t u r n last cause o l m have caused seen = record {
 
 pub grant_ranged : (words : List (Row × ℕ × ℕ)) (r : Row) (n last cause : ℕ) (o : Offer) → HaveOffer words r n o → last ≤ 65536 → cause ≤ 65536 → IsJoinedInRange (record { own = n; partner = None; stamp = 1 + max last cause })
 grant_ranged words r n last cause o have low few_causes = record {
-  own = few have.0 n have.6;
+  own = few have.count n have.below;
   partner = tt;
   stamp_low = at_least last cause;
   stamp_high = at_most last cause low few_causes;
@@ -82,6 +84,19 @@ grant_ranged words r n last cause o have low few_causes = record {
 
 learns_open : (r : Row) (s : Seen) → Learns (λ q. q ≡ r) s (see_opened r s)
 learns_open r s = search rules
+
+-- a nack is looked at, and then twice the row to which it is bound
+pub bound_then : (nack : NackName) (row : Row) (s t u v : Seen) (b : Binding) → row ≡ bound_row nack b → Has v.bound (nack, b)
+    → LearnsOf (λ q. ⊥) (λ m. m ≡ nack) s t → Learns (λ q. q ≡ row) t u → Learns (λ q. q ≡ row) u v
+    → LearnsOf (λ q. (x : Binding) × Has v.bound (nack, x) × (q ≡ bound_row nack x)) (λ m. m ≡ nack) s v
+bound_then nack row s t u v b is bound f g h =
+    let About : Row → Type 0 = λ q. (x : Binding) × Has v.bound (nack, x) × (q ≡ bound_row nack x) in
+    let near : (q : Row) → q ≡ row → About q = λ q e. (b, bound, e ∙ is) in
+    learns_then About s t v
+    (learns_wider (λ q. ⊥) About s t (λ q e. absurd e) f)
+    (learns_then About t u v
+    (nacks_wider About (λ m. ⊥) (λ m. m ≡ nack) t u (λ m e. absurd e) (learns_wider (λ q. q ≡ row) About t u near g))
+    (nacks_wider About (λ m. ⊥) (λ m. m ≡ nack) u v (λ m e. absurd e) (learns_wider (λ q. q ≡ row) About u v near h)))
 
 -- THE ROWS AND NACKS that a grant looks at, where the offer was read in s
 pub near_offer : (before s t : Seen) (r : Row) (n : ℕ) → Learns (λ q. q ≡ r) before s → LearnsOf (IsNearGrant t r n) (IsNackOf t r n) before s
@@ -140,14 +155,14 @@ module _ (before s u : Seen) (v w : View) (r : Row) (n : ℕ) (o : Offer) (cause
   seen_before : (i : Joined) → Has before.joined (r, i) → Has v.seen.joined (r, i)
   seen_before i h = ready.before_row.joined.0 (r, i) (ready.nack.joined.0 (r, i) (ready.offer.joined.0 (r, i) h))
 
-  given_learns : w ≡ saw r (Synched alone_as) (turned Resting r v) → Learns (λ q. q ≡ r) v.seen w.seen
+  given_learns : w ≡ did (Grant r n) (settled r alone_as v) → Learns (λ q. q ≡ r) v.seen w.seen
   given_learns e = subst (λ (x : View). Learns (λ q. q ≡ r) v.seen x.seen) (sym e)
       (learns_then (λ q. q ≡ r) v.seen (see_opened r v.seen) _ (learns_open r v.seen) (learns_look r (Synched alone_as) (see_opened r v.seen)))
 
   late_learns : (c : Cell) → w ≡ saw r c v → Learns (λ q. q ≡ r) v.seen w.seen
   late_learns c e = subst (λ (x : View). Learns (λ q. q ≡ r) v.seen x.seen) (sym e) (learns_look r c v.seen)
 
-  pub given_is : w ≡ saw r (Synched alone_as) (turned Resting r v) → Agrees v r Waiting → Granted before w.seen r n Given × LearnsOf (IsNearGrant w.seen r n) (IsNackOf w.seen r n) before w.seen
+  pub given_is : w ≡ did (Grant r n) (settled r alone_as v) → Agrees v r Waiting → Granted before w.seen r n Given × LearnsOf (IsNearGrant w.seen r n) (IsNackOf w.seen r n) before w.seen
   unfolding can can_more can_grant
   given_is e agree = (
     (

@@ -1,5 +1,5 @@
 -- A look at a nack, and a bind, are admitted by the rule.
-use Rattle.std.proofs.Common.{◌∷◌, inl, inr, ◌⊎◌, slice_index, slice_set, ◌≡◌, ◌≢◌, ℕ, ◌<◌, true, [], sym, refl, ap, ◌∙◌, subst, ⊎_elim, arith, unwrap_or, Option, Some, None, eqb}
+use Rattle.std.proofs.Common.{◌+◌, ◌≤◌, false, ◌∷◌, inl, inr, ◌⊎◌, slice_index, slice_set, ◌≡◌, ◌≢◌, ℕ, ◌<◌, true, [], sym, refl, ap, ◌∙◌, subst, ⊎_elim, arith, unwrap_or, Option, Some, None, eqb}
 use Rattle.std.proofs.lemmas.List.{set-get_or}
 use Rattle.std.proofs.lemmas.Bool.{and_from, lt-ltb}
 use mathlib.Core.Option.{some, none}
@@ -12,27 +12,26 @@ use Rattle.words.proofs.WordLemmas.{nack_of-nack_word, nack_word-nack_of}
 use Rattle.words.specs.declared.NackName.{NackName}
 use Rattle.words.specs.declared.Binding.{Binding}
 use Rattle.words.specs.declared.Row.{Row}
-use Rattle.words.specs.declared.Step.TheVariants.{Bind}
-use Rattle.protocol.specs.Tables.{Table, bound_row, is_fresh, is_nack, is_taken, joined_of, nack_at, nack_place, binding_at}
-use Rattle.protocol.specs.Worlds.{World, with_nack, with_table}
+use Rattle.protocol.specs.Tables.{Table, bound_row, cell_at, is_fresh, is_nack, is_taken, joined_of, nack_at, nack_place, binding_at}
+use Rattle.protocol.specs.Worlds.{World, holder_at, with_nack, with_table}
 use Rattle.protocol.specs.Kept.{Kept}
-use Rattle.protocol.proofs.Linking.{some_inj, some_parts}
+use Rattle.protocol.proofs.Linking.{cases_Option, some_inj, some_parts}
 use Rattle.protocol.proofs.Places.{same_nack_place, word_bound}
 use Rattle.protocol.proofs.Readings.{binding_inside, binding_bound, binding_kept, binding_was, cell_after_bind}
-use Rattle.protocol.proofs.Keeping.{holder_same}
+use Rattle.protocol.proofs.Keeping.{holder_same, taken_before}
 use Rattle.cell.specs.declared.view.View.{View}
 use Rattle.cell.specs.declared.view.Shape.{Shape}
-use Rattle.cell.specs.Sight.{Coherent, Has}
-use Rattle.cell.specs.Views.{Knows, bound_nack, saw_nack}
+use Rattle.cell.specs.Sight.{Has}
+use Rattle.cell.specs.Views.{Knows, bind_of, bound_nack, did, saw_nack}
 use Rattle.cell.specs.Rule.{Keeps}
-use Rattle.cell.specs.Told.{AgreesNack, AtNack, InsideNack, looked_nack, nack_read, tried_bind}
+use Rattle.cell.specs.Told.{AgreesNack, AgreesWithItself, AtNack, InsideNack, looked_nack, nack_read, tried_bind}
 use Rattle.cell.proofs.Allowing.{sized}
 use Rattle.cell.proofs.Following.{Follows, knows_bound, knows_follows}
 use Rattle.cell.proofs.Others.{learn_nack}
 use Rattle.cell.proofs.Truths.{coherent}
-use Rattle.cell.proofs.Turning.{world_kept, keeps_view, keeps_step}
+use Rattle.cell.proofs.Turning.{world_kept, keeps_view, keeps_step, moved_coherent}
 
-nack_from : (t : Table) (n : NackName) → n.thread < t.threads → n.k < 64 → is_nack t n ≡ true
+pub nack_from : (t : Table) (n : NackName) → n.thread < t.threads → n.k < 64 → is_nack t n ≡ true
 unfolding is_nack
 nack_from t n h k = and_from _ _ (lt-ltb n.thread t.threads h) (lt-ltb n.k 64 k)
 
@@ -43,9 +42,23 @@ one_binding b c g h e =
     some_inj b c (some_inj (Some b) (Some c) both)
 
 -- what was seen by then agrees with itself
-coherent_nack : (w : World) (owner : Row → ℕ) (id : ℕ) (v : View) (n : NackName) (o : Option Binding) → Knows w owner id (saw_nack n o v) → Kept w → Coherent v.threads v.rows (saw_nack n o v).seen
+coherent_nack : (w : World) (owner : Row → ℕ) (id : ℕ) (v : View) (n : NackName) (o : Option Binding) → Knows w owner id (saw_nack n o v) → Kept w → AgreesWithItself (saw_nack n o v)
 coherent_nack w owner id v n None k kept = coherent w owner id v k kept
 coherent_nack w owner id v n (Some b) k kept = coherent w owner id (bound_nack n b v) k kept
+
+-- a nack is bound to no row behind a held Fresh one
+not_behind : (w : World) (owner : Row → ℕ) (id : ℕ) (v : View) → Knows w owner id v → Kept w → (nack : NackName) (b c : Binding) → binding_at w.table nack ≡ Some c
+    → Has v.seen.held (bound_row nack b) → ¬ Has v.seen.opened (bound_row nack b) → c.sync ≤ b.sync
+not_behind w owner id v knows kept nack b c is held unopened =
+    let low : c.sync < b.sync + 1 = Rattle.std.proofs.Math.Nat.lt_of_not-le (λ (above : b.sync + 1 ≤ c.sync).
+    let below : b.sync < c.sync = omega arith in ⊎_elim
+    (λ (none : holder_at w (bound_row nack c) ≡ None). kept.bound nack c is none)
+    (λ (some : (seat : ℕ) × (holder_at w (bound_row nack c) ≡ Some seat)).
+    let taken : is_taken (cell_at w.table (bound_row nack b)) ≡ true = taken_before w kept (bound_row nack b) (bound_row nack c) refl below (inr some) in
+    let bad : false ≡ true = sym (ap is_taken (knows.fresh (bound_row nack b) held unopened)) ∙ taken in
+    cc)
+    (cases_Option (holder_at w (bound_row nack c)))) in
+    omega arith
 
 -- THE WORLD AFTER A BIND
 pub follows_bind : (w : World) (m : NackName) (b : Binding) → is_nack w.table m ≡ true → binding_at w.table m ≡ None → Follows w (with_table w (with_nack w.table m b))
@@ -98,8 +111,21 @@ module _ (shape : Shape) (id place : ℕ) (me : Me ℕ View) (nack : NackName)
     binding_is = binding_inside k.world.table nack is_its_nack ∙ ap nack_read word_is
 
     -- where it only learns
-    learnt : (w : View) → Knows k.world k.owner id w → Keeps shape (stepped s place (slice_index s.words place) id me.1 w keeps)
-    learnt w knows = keeps_view shape s k id w _ _ (set-get_or s.words place 0) knows
+    learnt : (w : View) → w.seat ≡ me.0.seat → w.made ≡ me.0.made → Knows k.world k.owner id w → Keeps shape (stepped s place (slice_index s.words place) id me.1 w keeps)
+    learnt w seat made knows = keeps_view shape s k id me.0 w _ _ view seat made (set-get_or s.words place 0) knows
+
+    -- what the pass has seen then agrees with itself
+    agreed : (x : ℕ) (w : View) → w.threads ≡ me.0.threads → Keeps shape (stepped s place x id me.1 w keeps) → AgreesWithItself w
+    agreed x w size after = moved_coherent shape s.views _ _ id me.0 w view size at_table after
+
+    -- a look at a nack makes no step
+    seat_kept : (o : Option Binding) → (saw_nack nack o me.0).seat ≡ me.0.seat
+    seat_kept None = refl
+    seat_kept (Some b) = refl
+
+    made_kept : (o : Option Binding) → (saw_nack nack o me.0).made ≡ me.0.made
+    made_kept None = refl
+    made_kept (Some b) = refl
 
     sees : Knows k.world k.owner id (saw_nack nack (nack_read (slice_index s.words place)) me.0)
     sees = learn_nack k.world k.owner id me.0 nack (nack_read (slice_index s.words place)) known binding_is
@@ -149,11 +175,11 @@ module _ (shape : Shape) (id place : ℕ) (me : Me ℕ View) (nack : NackName)
           there n c (inl e) = subst (λ (z : NackName × Binding). binding_at later.table z.0 ≡ Some z.1) e (binding_bound k.world.table nack b kept.sized is_its_nack range)
           there n c (inr h) = follows.bound n c (known.bound n c h)
 
-      binds : Keeps shape (stepped s place (nack_word (Some b)) id me.1 (bound_nack nack b me.0) keeps)
+      binds : Keeps shape (stepped s place (nack_word (Some b)) id me.1 (did (bind_of nack b) (bound_nack nack b me.0)) keeps)
       unfolding with_nack
       binds =
           let mine = known.mine (bound_row nack b) held in
-          keeps_step shape s k id (bound_nack nack b me.0) _ _ k.owner (record { 0 = me.0.seat }) (Bind nack.k (bound_row nack b) b.scope)
+          keeps_step shape s k id me.0 (bound_nack nack b me.0) _ _ k.owner view refl refl (bind_of nack b)
           (known.seat, (mine.1, known.fresh (bound_row nack b) held unopened, inside.1, range.scope, free))
           (ap (λ (t : Table). with_nack t nack b) k.table ∙ ap (λ (n : ℕ). sized shape (slice_set s.words n (nack_word (Some b)))) (sym here))
           (λ j u n e t. others j u n (k.knows j u e t))
@@ -168,7 +194,7 @@ module _ (shape : Shape) (slots id place : ℕ) (me : Me ℕ View) (nack : NackN
         saw_nack nack o me.0,
         keeps,
         tt,
-        learnt shape id place me nack threads rows inside here s k view (saw_nack nack o me.0) (sees shape id place me nack threads rows inside here s k view),
+        learnt shape id place me nack threads rows inside here s k view (saw_nack nack o me.0) (seat_kept shape id place me nack threads rows inside here s k view o) (made_kept shape id place me nack threads rows inside here s k view o) (sees shape id place me nack threads rows inside here s k view),
         λ m at.
             let same = one_nack shape id place me nack threads rows inside here m at.0 at.1 in (
               ap (λ (n : NackName). (saw_nack n o me.0, me.1)) same,
@@ -189,34 +215,44 @@ module _ (shape : Shape) (slots id place : ℕ) (me : Me ℕ View) (nack : NackN
       (λ y. (w : View) × (a : Act ℕ) × Valid s.homes me.1 a × Keeps shape (stepped s place y id me.1 w a) × tried_bind (step slots place (nack_word None) (nack_word (Some b)) none) me x (w, carried_after me.1 a))
       (λ e.
       let none_read : nack_read x ≡ None = ap nack_read e ∙ ap (λ (p : Option (Option Binding)). unwrap_or p None) (nack_of-nack_word None tt) in
-      let free : binding_at k.world.table nack ≡ None = read ∙ none_read in (
-        bound_nack nack b me.0,
+      let free : binding_at k.world.table nack ≡ None = read ∙ none_read in
+      let after = did (bind_of nack b) (bound_nack nack b me.0) in
+      let moved : Keeps shape (stepped s place (nack_word (Some b)) id me.1 after keeps) = binds shape id place me nack threads rows inside here s k view b in_range held unopened free in (
+        after,
         keeps,
         tt,
-        binds shape id place me nack threads rows inside here s k view b in_range held unopened free,
+        moved,
         λ m c at c_range second. (
           λ f. let same = one_binding b c in_range c_range second in
               let nack_same = one m at in (
-                (λ z. (bound_nack (nack_same z) (same z) me.0, me.1)),
+                (λ z. (did (bind_of (nack_same z) (same z)) (bound_nack (nack_same z) (same z) me.0), me.1)),
                 λ d h. let bad : None ≡ Some d = sym free ∙ knows.bound nack d (subst (λ (n : NackName). Has me.0.seen.bound (n, d)) (sym nack_same) h) in cc,
               ),
           λ d f. let bad : None ≡ Some d = sym none_read ∙ f in cc,
+          agreed shape id place me nack threads rows inside here s k view (nack_word (Some b)) after refl moved,
         ),
       ))
       (λ f.
       let found = bound_there shape id place me nack threads rows inside here s k view f in
-      let is : binding_at k.world.table nack ≡ Some found.0 = read ∙ found.1 in (
-        bound_nack nack found.0 me.0,
+      let is : binding_at k.world.table nack ≡ Some found.0 = read ∙ found.1 in
+      let after = bound_nack nack found.0 me.0 in
+      let moved : Keeps shape (stepped s place x id me.1 after keeps) =
+      learnt shape id place me nack threads rows inside here s k view after refl refl (learn_nack k.world k.owner id me.0 nack (Some found.0) knows is) in (
+        after,
         keeps,
         tt,
-        learnt shape id place me nack threads rows inside here s k view (bound_nack nack found.0 me.0) (learn_nack k.world k.owner id me.0 nack (Some found.0) knows is),
+        moved,
         λ m c at c_range second. (
           λ g. let bad : None ≡ Some found.0 = sym g ∙ found.1 in cc,
           λ d g. let same : found.0 ≡ d = some_inj found.0 d (sym found.1 ∙ g) in
-              let nack_same = one m at in (
+              let nack_same = one m at in
+              let tried : b ≡ c = one_binding b c in_range c_range second in (
                 (λ z. (bound_nack (nack_same z) (same z) me.0, me.1)),
+                subst (λ (z : Binding × Binding). z.0.sync ≤ z.1.sync) (λ i. (same i, tried i))
+                    (not_behind k.world k.owner id me.0 knows (world_kept shape s k) nack b found.0 is held unopened),
                 λ h. subst (λ (z : NackName × Binding). Has me.0.seen.bound z) (λ i. (nack_same i, same i))
                     (knows.binds nack found.0 is (subst (λ (z : NackName × Binding). Has me.0.seen.held (bound_row z.0 z.1)) (λ i. (sym nack_same i, sym same i)) h)),
               ),
+          agreed shape id place me nack threads rows inside here s k view x after refl moved,
         ),
       ))

@@ -3,7 +3,7 @@ use Rattle.std.proofs.Common.{slice_set, ◌≡◌, ◌≢◌, ℕ, zero, suc, �
 use Rattle.std.proofs.lemmas.Bool.{cases_Bool, lt-ltb, ltb-true, eq-eqb, eqb-true, ne_eqb, and_parts, and_from}
 use Rattle.std.proofs.Math.Bool.{and-false}
 use Rattle.std.proofs.Math.Dec.{ltb}
-use Rattle.std.proofs.lemmas.List.{length-set}
+use Rattle.std.proofs.lemmas.List.{length-append, length-set}
 use Rattle.std.proofs.Math.Nat.{mod-lt}
 use mathlib.Core.Option.{some, none}
 use lib.ListN.{get_elem?}
@@ -19,11 +19,11 @@ use Rattle.protocol.proofs.LedgerLemmas.{start_binding, start_cell, start_holder
 use Rattle.protocol.proofs.RowLemmas.{same_row}
 use Rattle.cell.specs.declared.view.View.{View}
 use Rattle.cell.specs.declared.view.Shape.{Shape}
-use Rattle.cell.specs.Sight.{Has}
+use Rattle.cell.specs.Sight.{Coherent, Has}
 use Rattle.cell.specs.Views.{Knows, first_row}
-use Rattle.cell.specs.Rule.{Keeps, dealer, dealt_rows, dealt_pass, no_offers}
+use Rattle.cell.specs.Rule.{Interleaves, Keeps, Move, at_seat, dealer, dealt_rows, dealt_pass, no_offers, seen_nothing, steps_by}
 use Rattle.cell.proofs.Following.{knows_owned}
-use Rattle.cell.proofs.Turning.{world_kept}
+use Rattle.cell.proofs.Turning.{same_made, world_kept}
 
 -- a pass that has seen nothing
 knows_nothing : (w : World) (owner : Row → ℕ) (id : ℕ) (shape : Shape) (k : ℕ) → shape.threads ≡ w.table.threads → shape.rows ≡ w.table.rows → shape.passes ≡ w.seats → 0 < w.seats
@@ -55,7 +55,8 @@ unfolding start_world
 keeps_start shape ws xs few one_row few_rows one_pass zeros = record {
   few_threads = few;
   few_rows = few_rows;
-  history = [];
+  moves = [];
+  interleaved = record { made = λ id v e. one_view id v e; no_others = λ id h. refl };
   world = start_world shape.threads shape.rows shape.passes;
   played = refl;
   table = ap (λ (z : List ℕ). record { threads = shape.threads; rows = shape.rows; words = z }) (sym zeros);
@@ -63,6 +64,10 @@ keeps_start shape ws xs few one_row few_rows one_pass zeros = record {
   knows = knows_at;
 }
   where
+    one_view : (id : ℕ) (v : View) → get_elem? (dealer shape 0 ∷ []) id ≡ some v → steps_by id [] ≡ at_seat v.seat v.made
+    one_view zero v e = ap (λ (u : View). at_seat u.seat u.made) (mathlib.Core.Option.some-injective _ _ e)
+    one_view (suc id) v e = absurd (mathlib.Core.Option.some-ne-none v (sym e))
+
     first : Knows (start_world shape.threads shape.rows shape.passes) (λ r. 0) 0 (dealer shape 0)
     first = knows_nothing (start_world shape.threads shape.rows shape.passes) (λ r. 0) 0 shape 0 refl refl refl one_pass
         (λ t h d. (refl, start_holder shape.threads shape.rows shape.passes (first_row t) h one_row, start_cell shape.threads shape.rows (first_row t), start_word shape.threads shape.rows (first_row t) 1, λ n b e same. let bad : None ≡ Some b = sym (start_binding shape.threads shape.rows n) ∙ e in cc))
@@ -105,12 +110,43 @@ no_offers_of [] r p x h = absurd h
 no_offers_of (q ∷ rows) r p x (inl e) = (inl (ap (λ (z : Row × ℕ × ℕ). z.0) e), ap (λ (z : Row × ℕ × ℕ). z.1) (sym e), ap (λ (z : Row × ℕ × ℕ). z.2) (sym e))
 no_offers_of (q ∷ rows) r p x (inr h) = let n = no_offers_of rows r p x h in (inr n.0, n.1, n.2)
 
+-- and it agrees with itself
+pub nothing_agrees : (threads rows : ℕ) (held : List Row) → Coherent threads rows (seen_nothing held)
+nothing_agrees threads rows held = record {
+  formed = λ r p x h. absurd h;
+  one_word = λ r p x y h. absurd h;
+  one_draft = λ r p x y g h. (no_offers_of held r p x g).2 ∙ sym (no_offers_of held r p y h).2;
+  as_drafted = λ r p x y g h. absurd h;
+  one_joined = λ r i j h. absurd h;
+  in_range = λ r j h. absurd h;
+  alone = λ r j mine h. absurd h;
+  inside = λ r j p h. absurd h;
+  chosen = λ r n count c h. absurd h;
+  meet = λ r j p mine theirs h. absurd h;
+  one_bound = λ n a b h. absurd h;
+  bound = λ n b h. absurd h;
+}
+
 -- a list with one more at its end
 pub at_end : {A : Type 0} (l : List A) (a b : A) (j : ℕ) → get_elem? (l ++ a ∷ []) j ≡ some b → (get_elem? l j ≡ some b) ⊎ ((j ≡ length l) × (a ≡ b))
 at_end [] a b zero e = inr (refl, mathlib.Core.Option.some-injective a b e)
 at_end [] a b (suc j) e = absurd (mathlib.Core.Option.some-ne-none b (sym e))
 at_end (x ∷ xs) a b zero e = inl e
 at_end (x ∷ xs) a b (suc j) e = ⊎_elim (λ h. inl h) (λ h. inr (ap suc h.0, h.1)) (at_end xs a b j e)
+
+-- a new pass has made nothing yet
+pub one_more_pass : (moves : List Move) (vs : List View) (v : View) → Interleaves moves vs → v.made ≡ [] → Interleaves moves (vs ++ v ∷ [])
+one_more_pass moves vs v before nothing = record {
+  made = λ j u e. ⊎_elim
+      (λ (old : get_elem? vs j ≡ some u). before.made j u old)
+      (λ (new : (j ≡ length vs) × (v ≡ u)).
+      let past : length vs ≤ j = let h = new.0 in omega arith in
+      before.no_others j past ∙ ap (at_seat v.seat) (sym nothing) ∙ ap (λ (z : View). at_seat z.seat z.made) new.1)
+      (at_end vs v u j e);
+  no_others = λ j h.
+      let size : length (vs ++ v ∷ []) ≡ length vs + 1 = length-append vs (v ∷ []) in
+      before.no_others j (omega arith);
+}
 
 module _ {S : Type 0} (shape : Shape) (id k : ℕ) (below : k < shape.passes) (some_threads : 0 < shape.threads) (s : State S View) (h : Keeps shape s) (view : get_elem? s.views id ≡ some (dealer shape k)) where
   was : Knows h.world h.owner id (dealer shape k)
@@ -199,7 +235,9 @@ module _ {S : Type 0} (shape : Shape) (id k : ℕ) (below : k < shape.passes) (s
   deals = record {
     few_threads = h.few_threads;
     few_rows = h.few_rows;
-    history = h.history;
+    moves = h.moves;
+    interleaved = one_more_pass h.moves (slice_set s.views id (dealer shape (k + 1))) (dealt_pass (dealer shape k))
+        (same_made h.moves s.views id (dealer shape k) (dealer shape (k + 1)) view h.interleaved refl) refl;
     world = h.world;
     played = h.played;
     table = h.table;

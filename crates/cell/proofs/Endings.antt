@@ -69,7 +69,7 @@ module _ (shape : Shape) (id : ℕ) (v : View) (at_table : 0 < v.threads) (ws sl
 
   pub final_offer : (r : Row) (n : ℕ) (o : Offer) → SeesOffer v.seen r n o → offer_in (ledger_of (sized shape ws)) r n ≡ Some o
   final_offer r n o sees =
-      subst (λ (t : Table). offer_in (ledger_of t) r n ≡ Some o) table_is (ap (λ (f : Row → ℕ → _). f r n) (offer_in_ledger kept.world.table) ∙ sees_known kept.world kept.owner id v r n o known sees)
+      subst (λ (t : Table). offer_in (ledger_of t) r n ≡ Some o) table_is (ap (λ (f : Row → ℕ → _). f r n) (offer_in_ledger kept.world.table) ∙ sees_known kept.world kept.owner id v r n o known (world_kept shape final.0 kept) sees)
 
   pub final_lack : (r : Row) (n : ℕ) → SeesNoOffer v.seen r n → offer_in (ledger_of (sized shape ws)) r n ≡ None
   final_lack r n sees =

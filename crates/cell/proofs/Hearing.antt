@@ -16,12 +16,14 @@ use Rattle.words.specs.declared.Offer.{Offer}
 use Rattle.cell.specs.declared.view.Seen.{Seen}
 use Rattle.cell.specs.declared.view.View.{View}
 use Rattle.cell.specs.declared.view.Shape.{Shape}
-use Rattle.cell.specs.Sight.{Has, HaveOffer, SeesOffer, SeesNoOffer}
+use Rattle.cell.specs.Sight.{Has, SeesOffer, SeesNoOffer}
 use Rattle.cell.specs.Views.{Knows}
-use Rattle.cell.specs.Rule.{Keeps, is_among, drafts_of, told_of, told_pass, heard, heard_pass, spent_pass}
-use Rattle.cell.proofs.Dealing.{at_end}
+use Rattle.cell.specs.Rule.{Keeps, at_seat, is_among, drafts_of, told_of, told_pass, heard, heard_pass, spent_pass}
+use Rattle.cell.proofs.Dealing.{at_end, one_more_pass}
+use Rattle.cell.proofs.Offers.{have_row}
+use Rattle.cell.proofs.Turning.{same_made}
 
-has_either : {A : Type 0} (xs ys : List A) (x : A) → Has (xs ++ ys) x → Has xs x ⊎ Has ys x
+pub has_either : {A : Type 0} (xs ys : List A) (x : A) → Has (xs ++ ys) x → Has xs x ⊎ Has ys x
 has_either [] ys x h = inr h
 has_either (y ∷ xs) ys x (inl e) = inl (inl e)
 has_either (y ∷ xs) ys x (inr h) = ⊎_elim (λ (a : Has xs x). inl (inr a)) (λ (b : Has ys x). inr b) (has_either xs ys x h)
@@ -76,9 +78,6 @@ told_word s t r p x opened h = has_right t.words _ (r, p, x) (has_right s.words 
 
 read_word : (s t : Seen) (x : Row × ℕ × ℕ) → Has s.words x → Has (heard t (told_of s)).words x
 read_word s t x h = has_right t.words _ x (has_left s.words _ x h)
-
-have_row : (xs ys : List (Row × ℕ × ℕ)) (r : Row) (n : ℕ) (o : Offer) → ((p x : ℕ) → Has xs (r, p, x) → Has ys (r, p, x)) → HaveOffer xs r n o → HaveOffer ys r n o
-have_row xs ys r n o more (count, a, b, c, d, h, below, i, j, k, l, is) = (count, a, b, c, d, more _ _ h, below, more _ _ i, more _ _ j, more _ _ k, more _ _ l, is)
 
 pub told_offer : (s t : Seen) (r : Row) (n : ℕ) (o : Offer) → SeesOffer s r n o → SeesOffer (heard t (told_of s)) r n o
 told_offer s t r n o (inl h) = inl (have_row s.words _ r n o (λ p x i. read_word s t (r, p, x) i) h)
@@ -146,7 +145,8 @@ pub tell_allowed : {S : Type 0} (shape : Shape) (id : ℕ) (v : View) → 0 < v.
 tell_allowed shape id v at_table s k view = record {
   few_threads = k.few_threads;
   few_rows = k.few_rows;
-  history = k.history;
+  moves = k.moves;
+  interleaved = one_more_pass k.moves (slice_set s.views id v) (told_pass v) (same_made k.moves s.views id v v view k.interleaved refl) refl;
   world = k.world;
   played = k.played;
   table = k.table;
@@ -163,11 +163,13 @@ tell_allowed shape id v at_table s k view = record {
         (λ (a : (j ≢ id) × (get_elem? s.views j ≡ some u)). k.knows j u a.1 t)
         (at_set s.views id j v u e)
 
-pub hear_allowed : {S : Type 0} (shape : Shape) (id : ℕ) (v : View) (other : ℕ) (w : View) → 0 < v.threads → 0 < w.threads → Joins {S = S} (Keeps shape) id v other w (heard_pass v w) spent_pass
-hear_allowed shape id v other w at_table told_at s k view apart told = record {
+pub hear_allowed : {S : Type 0} (shape : Shape) (id : ℕ) (v : View) (other : ℕ) (w : View) → 0 < v.threads → 0 < w.threads → w.made ≡ [] → Joins {S = S} (Keeps shape) id v other w (heard_pass v w) spent_pass
+hear_allowed shape id v other w at_table told_at nothing s k view apart told = record {
   few_threads = k.few_threads;
   few_rows = k.few_rows;
-  history = k.history;
+  moves = k.moves;
+  interleaved = same_made k.moves (slice_set s.views id (heard_pass v w)) other w spent_pass told
+      (same_made k.moves s.views id v (heard_pass v w) view k.interleaved refl) (ap (at_seat w.seat) nothing);
   world = k.world;
   played = k.played;
   table = k.table;

@@ -6,6 +6,7 @@ pub mod Meeting
 pub mod Results
 pub mod Others
 pub mod Turning
+pub mod Once
 pub mod Allowing
 pub mod Binding
 pub mod Dealing

@@ -1,5 +1,5 @@
 -- What a pass knows of two rows stays known while it sees more.
-use Rattle.std.proofs.Common.{rules, ◌≡◌, ◌≢◌, ℕ, ◌+◌, ◌^◌, ◌<◌, ◌≤◌, Bool, true, false, List, sym, refl, ap, ◌∙◌, subst, inl, inr, arith, max, unwrap_or, Option, Some, None, cond, IfSome, IfNone, IfErr, is_err, Result, Ok, Err}
+use Rattle.std.proofs.Common.{rules, ◌≡◌, ◌≢◌, ℕ, ◌+◌, ◌^◌, ◌<◌, ◌≤◌, Bool, true, false, List, sym, refl, ap, ◌∙◌, subst, inl, inr, ⊎_elim, arith, max, unwrap_or, Option, Some, None, cond, IfSome, IfNone, IfErr, is_err, Result, Ok, Err}
 use Rattle.std.proofs.lemmas.Bool.{cases_Bool}
 use Rattle.words.specs.Words.{count_of, IsJoinedInRange}
 use Rattle.words.specs.declared.Offer.{Offer}
@@ -20,11 +20,13 @@ use Rattle.protocol.specs.Tables.{is_fresh, joined_of}
 use Rattle.cell.specs.declared.view.View.{View}
 use Rattle.cell.specs.declared.view.Stage.{Stage}
 use Rattle.cell.specs.declared.view.Stage.TheVariants.{Resting}
-use Rattle.cell.specs.Attempts.{IsNear}
+use Rattle.cell.specs.declared.attempt.Attempt.{Attempt}
+use Rattle.cell.specs.declared.attempt.Attempt.TheVariants.{Busy, Gone, Met, Mine, Unfit}
+use Rattle.cell.specs.Attempts.{Attempted, CanMeet, Fits, IsNear}
 use Rattle.cell.specs.Sight.{SawCommitted, see_cell}
 use Rattle.cell.specs.Told.{Agrees}
 use Rattle.cell.specs.Views.{IsClaimer}
-use Rattle.cell.proofs.Offers.{have_more}
+use Rattle.cell.proofs.Offers.{have_more, have_row}
 
 pub from_some : {A : Type 0} (x : Option A) (P : A → Type 0) (a : A) → IfSome x P → x ≡ Some a → P a
 from_some None P a h e = let bad : None ≡ Some a = e in cc
@@ -33,6 +35,34 @@ from_some (Some b) P a h e = subst P (Rattle.protocol.proofs.Linking.some_inj b 
 pub sees_more : {Nacks : NackName → Type 0} (About : Row → Type 0) (s t : Seen) (r : Row) (n : ℕ) (o : Offer) → LearnsOf About Nacks s t → SeesOffer s r n o → SeesOffer t r n o
 sees_more About s t r n o l (inl h) = inl (have_more s.words t.words r n o l.words.0 h)
 sees_more About s t r n o l (inr h) = inr (l.opened.0 r h.0, subst (λ (d : List (Row × ℕ × ℕ)). HaveOffer d r n o) (sym l.drafts) h.1)
+
+-- and of other rows nothing more is seen
+pub sees_apart : (About : Row → Type 0) (s t : Seen) (r : Row) (n : ℕ) (o : Offer) → Learns About s t → ¬ About r → SeesOffer t r n o → SeesOffer s r n o
+sees_apart About s t r n o l other (inl h) =
+    inl (have_row t.words s.words r n o (λ p x g. ⊎_elim (λ (old : Has s.words (r, p, x)). old) (λ (new : About r). absurd (other new)) (l.words.1 (r, p, x) g)) h)
+sees_apart About s t r n o l other (inr h) = inr (
+  ⊎_elim (λ (old : Has s.opened r). old) (λ (new : About r). absurd (other new)) (l.opened.1 r h.0),
+  subst (λ (d : List (Row × ℕ × ℕ)). HaveOffer d r n o) l.drafts h.1,
+)
+
+-- rows that can be joined can meet, also once more was learnt
+pub can_meet : (About : Row → Type 0) (s t : Seen) (mine other : Row) (own partner : ℕ) (j : Joined) → Learns About s t → CanJoin s mine own other partner j → CanMeet t mine own other partner
+can_meet About s t mine other own partner j l can = (
+  can.apart,
+  can.my_offer,
+  can.their_offer,
+  sees_more About s t mine own can.my_offer l (inl can.read_mine),
+  sees_more About s t other partner can.their_offer l (inl can.read_theirs),
+  can.meet,
+)
+
+-- and so an answer that says that they fit is right
+pub fits_as : (s : Seen) (mine other : Row) (own partner : ℕ) (a : Attempt) → ¬ (a ≡ Unfit) → CanMeet s mine own other partner → Fits s mine own other partner a
+fits_as s mine other own partner (Met stamp) n can = can
+fits_as s mine other own partner Gone n can = can
+fits_as s mine other own partner Mine n can = can
+fits_as s mine other own partner Busy n can = can
+fits_as s mine other own partner Unfit n can = absurd (n refl)
 
 pub last_more : (s t : Seen) (r : Row) (stamp : ℕ) → ((x : Row × Joined) → Has s.joined x → Has t.joined x) → HasSeenLast s r stamp → HasSeenLast t r stamp
 last_more s t r stamp more (inl h) = inl h
@@ -73,8 +103,8 @@ pub join_ranged : (threads rows : ℕ) (words words' : List (Row × ℕ × ℕ))
     → HaveOffer words mine own a → HaveOffer words' other partner b → my_last ≤ 65536 → their_last ≤ 65536
     → IsJoinedInRange (record { own = partner; partner = Some (mine, own); stamp = 1 + max my_last their_last })
 join_ranged threads rows words words' mine other own partner my_last their_last a b few_threads few_rows inside have_mine have_theirs low high = record {
-  own = few have_theirs.0 partner have_theirs.6;
-  partner = (record { thread = let i = inside.0 in omega arith; sync = let i = inside.1 in omega arith }, few have_mine.0 own have_mine.6);
+  own = few have_theirs.count partner have_theirs.below;
+  partner = (record { thread = let i = inside.0 in omega arith; sync = let i = inside.1 in omega arith }, few have_mine.count own have_mine.below);
   stamp_low = let m = max my_last their_last in omega arith;
   stamp_high = small my_last their_last low high;
 }
@@ -128,6 +158,18 @@ learns_yield mine other Claimed s = search rules
 learns_yield mine other (Synched j) s = search rules
 learns_yield mine other (Taken j) s = search rules
 
+-- what a claim, a join and a seal add
+pub learns_met : (mine other : Row) (i j : Joined) (s : Seen) → Learns (IsNear mine other) s (see_cell mine (Synched i) (see_opened mine (see_cell other (Synched j) (see_opened other (see_opened mine s)))))
+learns_met mine other i j s = search rules
+
+-- what an attempt answers goes by what was seen before it read the offers, too
+pub attempted_before : (About : Row → Type 0) (s t u : Seen) (mine : Row) (own : ℕ) (other : Row) (partner : ℕ) (a : Attempt) → Learns About s t → Attempted t u mine own other partner a → Attempted s u mine own other partner a
+attempted_before About s t u mine own other partner (Met stamp) l h = h
+attempted_before About s t u mine own other partner Gone l h = h
+attempted_before About s t u mine own other partner Mine l h = h
+attempted_before About s t u mine own other partner Busy l h = (subst (λ (rows : List Row). ¬ Has rows other) l.held h.0, λ seen. h.1 (seen.0, l.joined.0 (other, seen.0) seen.1))
+attempted_before About s t u mine own other partner Unfit l h = h
+
 -- a claim that found its row not Waiting found it committed
 pub claim_found : (v : View) (r : Row) (c : Cell) → Has v.seen.held r → Has v.seen.opened r → v.stage ≡ Resting → c ≢ Waiting → Agrees v r c → SawCommitted (see_cell r c v.seen) r
 claim_found v r c held opened resting w agree =
@@ -135,7 +177,7 @@ claim_found v r c held opened resting w agree =
 
 -- a join that found its row neither Waiting nor Claimed found it committed
 pub join_found : (v : View) (mine r : Row) (own partner : ℕ) (j : Joined) (c : Cell) → CanJoin v.seen mine own r partner j → c ≢ Waiting → c ≢ Claimed → Agrees v r c → SawCommitted (see_cell r c v.seen) r
-join_found v mine r own partner j c can w h agree = saw_committed r c v.seen (agree.0.read 1 can.read_theirs.0 can.read_theirs.5) w h
+join_found v mine r own partner j c can w h agree = saw_committed r c v.seen (agree.0.read 1 can.read_theirs.count can.read_theirs.counted) w h
 
 -- A RESULT
 pub from_none : {A : Type 0} (x : Option A) (P : Type 0) → IfNone x P → x ≡ None → P

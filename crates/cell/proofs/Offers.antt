@@ -1,18 +1,24 @@
 -- Offers, word by word: how the words of one offer are read, and what they agree with.
-use Rattle.std.proofs.Common.{◌≡◌, ℕ, ◌+◌, ◌*◌, ◌-◌, ◌%◌, ◌<◌, ◌≤◌, Bool, true, List, sym, refl, ap, ◌∙◌, subst, inl, inr, ◌⊎◌, arith, unwrap_or, Option, Some, None, is_some, eqb, cond, IfSome, IfNone, option_and_then}
-use Rattle.std.proofs.lemmas.Bool.{ne_eqb, true≢false}
+use Rattle.std.proofs.Common.{◌≡◌, ℕ, zero, suc, ◌+◌, ◌*◌, ◌-◌, ◌%◌, ◌<◌, ◌≤◌, Bool, true, false, List, sym, refl, ap, ◌∙◌, subst, inl, inr, ◌⊎◌, arith, unwrap_or, Option, Some, None, is_some, eqb, cond, IfSome, IfNone, option_and_then}
+use Rattle.std.proofs.lemmas.Bool.{ne_eqb, false≢true, true≢false}
 use Rattle.std.proofs.Math.Nat.{add-mul-mod_self_left}
-use Rattle.words.specs.Words.{count_of, head_of, atom_of, offer_of, base_of, is_word_for}
+use Rattle.words.specs.Words.{count_of, head_of, atom_of, offer_of, base_of, message_of, is_word_for}
 use Rattle.words.specs.declared.Atom.{Atom}
+use Rattle.words.specs.declared.Base.{Base}
+use Rattle.words.specs.declared.Base.TheVariants as base
+use Rattle.words.specs.declared.Direction.{Direction}
+use Rattle.words.specs.declared.Direction.TheVariants as direction
 use Rattle.words.specs.declared.Head.{Head}
+use Rattle.words.specs.declared.Message.TheVariants.{Empty, One, Two, Three}
+use Rattle.protocol.proofs.Linking.{some_inj}
 use Rattle.words.specs.declared.Offer.{Offer}
 use Rattle.words.specs.declared.Row.{Row}
 use Rattle.words.specs.declared.Cell.{Cell}
 use Rattle.words.specs.declared.Cell.TheVariants.{Fresh, Waiting, Claimed, Synched, Taken}
 use Rattle.cell.specs.declared.view.Seen.{Seen}
 use Rattle.cell.specs.declared.view.View.{View}
-use Rattle.cell.specs.Sight.{Has, HaveOffer, SeesOffer, Coherent, see_cell}
-use Rattle.cell.specs.Views.{saw, read_word}
+use Rattle.cell.specs.Sight.{Has, HaveOffer, SeesOffer, Coherent, atoms_behind, atoms_in, atoms_told, see_cell}
+use Rattle.cell.specs.Views.{read_word}
 
 -- a place that is no cell and no count is a head or an atom, by what is left over 4
 word_behind : (k w : ℕ) → is_word_for (2 + k) w ≡ cond (eqb (k % 4) 0) (is_some (head_of w)) (is_some (atom_of w))
@@ -60,8 +66,83 @@ cell_drafts r Claimed s = refl
 cell_drafts r (Synched j) s = refl
 cell_drafts r (Taken j) s = refl
 
+-- the words of one row are enough
+pub have_row : (xs ys : List (Row × ℕ × ℕ)) (r : Row) (n : ℕ) (o : Offer) → ((p x : ℕ) → Has xs (r, p, x) → Has ys (r, p, x)) → HaveOffer xs r n o → HaveOffer ys r n o
+have_row xs ys r n o more h = record {
+  count = h.count;
+  counted = more 1 h.count h.counted;
+  below = h.below;
+  head = h.head;
+  has_head = more (2 + 4 * n) h.head h.has_head;
+  first = h.first;
+  has_first = λ k. more (3 + 4 * n) h.first (h.has_first k);
+  second = h.second;
+  has_second = λ k. more (4 + 4 * n) h.second (h.has_second k);
+  third = h.third;
+  has_third = λ k. more (5 + 4 * n) h.third (h.has_third k);
+  is = h.is;
+}
+
 pub have_more : (xs ys : List (Row × ℕ × ℕ)) (r : Row) (n : ℕ) (o : Offer) → ((x : Row × ℕ × ℕ) → Has xs x → Has ys x) → HaveOffer xs r n o → HaveOffer ys r n o
-have_more xs ys r n o more (count, a, b, c, d, h, below, i, j, k, l, is) = (count, a, b, c, d, more _ h, below, more _ i, more _ j, more _ k, more _ l, is)
+have_more xs ys r n o more h = have_row xs ys r n o (λ p x i. more (r, p, x) i) h
+
+-- ONE OFFER is read from one head and the atoms that it says, whatever stands behind them
+past_none : (k : ℕ) → eqb k 0 ≡ false → 1 ≤ k
+past_none zero p = absurd (true≢false p)
+past_none (suc k) p = omega arith
+
+past_one : (k : ℕ) → eqb k 0 ≡ false → eqb k 1 ≡ false → 2 ≤ k
+past_one zero p q = absurd (true≢false p)
+past_one (suc zero) p q = absurd (true≢false q)
+past_one (suc (suc k)) p q = omega arith
+
+past_two : (k : ℕ) → eqb k 0 ≡ false → eqb k 1 ≡ false → eqb k 2 ≡ false → 3 ≤ k
+past_two zero p q r = absurd (true≢false p)
+past_two (suc zero) p q r = absurd (true≢false q)
+past_two (suc (suc zero)) p q r = absurd (true≢false r)
+past_two (suc (suc (suc k))) p q r = omega arith
+
+message_by : (p q r : Bool) (a b c x y z : Atom) → (p ≡ false → a ≡ x) → (p ≡ false → q ≡ false → b ≡ y) → (p ≡ false → q ≡ false → r ≡ false → c ≡ z)
+    → cond p Empty (cond q (One a) (cond r (Two a b) (Three a b c))) ≡ cond p Empty (cond q (One x) (cond r (Two x y) (Three x y z)))
+message_by true q r a b c x y z e f g = refl
+message_by false true r a b c x y z e f g = ap One (e refl)
+message_by false false true a b c x y z e f g = (λ i. Two (e refl i) (f refl refl i))
+message_by false false false a b c x y z e f g = (λ i. Three (e refl i) (f refl refl i) (g refl refl refl i))
+
+message_same : (k : ℕ) (a b c x y z : Atom) → (1 ≤ k → a ≡ x) → (2 ≤ k → b ≡ y) → (3 ≤ k → c ≡ z) → message_of k a b c ≡ message_of k x y z
+message_same k a b c x y z e f g =
+    message_by (eqb k 0) (eqb k 1) (eqb k 2) a b c x y z (λ p. e (past_none k p)) (λ p q. f (past_one k p q)) (λ p q r. g (past_two k p q r))
+
+base_same : (way : Direction) (a b c x y z : Atom) → (1 ≤ atoms_told way → a ≡ x) → (2 ≤ atoms_told way → b ≡ y) → (3 ≤ atoms_told way → c ≡ z) → base_of way a b c ≡ base_of way x y z
+base_same (direction.Send chan atoms) a b c x y z e f g = ap (base.Send chan) (message_same atoms a b c x y z e f g)
+base_same (direction.Recv chan) a b c x y z e f g = refl
+base_same (direction.Always atoms) a b c x y z e f g = ap base.Always (message_same atoms a b c x y z e f g)
+base_same (direction.OnNack n) a b c x y z e f g = refl
+base_same direction.Never a b c x y z e f g = refl
+
+-- what the words of an offer stand for, one by one
+abbrev offer_read : Option Head → Option Atom → Option Atom → Option Atom → Option Offer
+offer_read h x y z = option_and_then (λ h. option_and_then (λ x. option_and_then (λ y. option_and_then (λ z. Some (record { base = base_of h.direction x y z; scopes = h.scopes })) z) y) x) h
+
+parts_same : (h : Option Head) (x y z p q r : Option Atom) (o : Offer) → offer_read h x y z ≡ Some o
+    → (1 ≤ atoms_in h → x ≡ p) → (2 ≤ atoms_in h → y ≡ q) → (3 ≤ atoms_in h → z ≡ r) → (is_some p ≡ true) × (is_some q ≡ true) × (is_some r ≡ true) → offer_read h p q r ≡ Some o
+parts_same None x y z p q r o is e f g formed = let bad : None ≡ Some o = is in cc
+parts_same (Some h) None y z p q r o is e f g formed = let bad : None ≡ Some o = is in cc
+parts_same (Some h) (Some x) None z p q r o is e f g formed = let bad : None ≡ Some o = is in cc
+parts_same (Some h) (Some x) (Some y) None p q r o is e f g formed = let bad : None ≡ Some o = is in cc
+parts_same (Some h) (Some x) (Some y) (Some z) None q r o is e f g formed = absurd (false≢true formed.0)
+parts_same (Some h) (Some x) (Some y) (Some z) (Some p) None r o is e f g formed = absurd (false≢true formed.1)
+parts_same (Some h) (Some x) (Some y) (Some z) (Some p) (Some q) None o is e f g formed = absurd (false≢true formed.2)
+parts_same (Some h) (Some x) (Some y) (Some z) (Some p) (Some q) (Some r) o is e f g formed =
+    ap (λ (b : Base). Some (record { base = b; scopes = h.scopes }))
+    (base_same h.direction p q r x y z (λ m. sym (some_inj x p (e m))) (λ m. sym (some_inj y q (f m))) (λ m. sym (some_inj z r (g m)))) ∙ is
+
+pub same_read : (a b c d a' b' c' d' : ℕ) (o : Offer) → offer_of a b c d ≡ Some o → a ≡ a' → (1 ≤ atoms_behind a → b ≡ b') → (2 ≤ atoms_behind a → c ≡ c') → (3 ≤ atoms_behind a → d ≡ d')
+    → (is_some (atom_of b') ≡ true) × (is_some (atom_of c') ≡ true) × (is_some (atom_of d') ≡ true) → offer_of a' b' c' d' ≡ Some o
+unfolding offer_of
+same_read a b c d a' b' c' d' o is head e f g formed =
+    ap (λ (w : ℕ). offer_read (head_of w) (atom_of b') (atom_of c') (atom_of d')) (sym head)
+    ∙ parts_same (head_of a) (atom_of b) (atom_of c) (atom_of d) (atom_of b') (atom_of c') (atom_of d') o is (λ m. ap atom_of (e m)) (λ m. ap atom_of (f m)) (λ m. ap atom_of (g m)) formed
 
 -- WHAT WAS SEEN BEFORE AGREES with what is read now
 module _ (threads rows : ℕ) (s : Seen) (agree : Coherent threads rows s) (r : Row) (n : ℕ) (o : Offer)
@@ -70,25 +151,18 @@ module _ (threads rows : ℕ) (s : Seen) (agree : Coherent threads rows s) (r : 
   same_count count now = from seen
     where
       from : HaveOffer s.words r n o ⊎ HaveOffer s.drafts r n o → n < unwrap_or (count_of count) 0
-      from (inl h) = subst (λ (x : ℕ). n < unwrap_or (count_of x) 0) (agree.one_word r 1 h.0 count h.5 now) h.6
-      from (inr h) = subst (λ (x : ℕ). n < unwrap_or (count_of x) 0) (agree.as_drafted r 1 h.0 count h.5 now) h.6
+      from (inl h) = subst (λ (x : ℕ). n < unwrap_or (count_of x) 0) (agree.one_word r 1 h.count count h.counted now) h.below
+      from (inr h) = subst (λ (x : ℕ). n < unwrap_or (count_of x) 0) (agree.as_drafted r 1 h.count count h.counted now) h.below
 
-  pub same_offer : (a b c d : ℕ) → Has s.words (r, 2 + 4 * n, a) → Has s.words (r, 3 + 4 * n, b) → Has s.words (r, 4 + 4 * n, c) → Has s.words (r, 5 + 4 * n, d) → offer_of a b c d ≡ Some o
-  same_offer a b c d i j k l = from seen
+  pub same_offer : (a b c d : ℕ) → Has s.words (r, 2 + 4 * n, a) → Has s.words (r, 3 + 4 * n, b) → Has s.words (r, 4 + 4 * n, c) → Has s.words (r, 5 + 4 * n, d)
+      → (is_some (atom_of b) ≡ true) × (is_some (atom_of c) ≡ true) × (is_some (atom_of d) ≡ true) → offer_of a b c d ≡ Some o
+  same_offer a b c d i j k l formed = from seen
     where
       from : HaveOffer s.words r n o ⊎ HaveOffer s.drafts r n o → offer_of a b c d ≡ Some o
-      from (inl h) =
-          let e = agree.one_word r (2 + 4 * n) a h.1 i h.7 in
-          let f = agree.one_word r (3 + 4 * n) b h.2 j h.8 in
-          let g = agree.one_word r (4 + 4 * n) c h.3 k h.9 in
-          let m = agree.one_word r (5 + 4 * n) d h.4 l h.10 in
-          (λ x. offer_of (e x) (f x) (g x) (m x)) ∙ h.11
-      from (inr h) =
-          let e = agree.as_drafted r (2 + 4 * n) h.1 a h.7 i in
-          let f = agree.as_drafted r (3 + 4 * n) h.2 b h.8 j in
-          let g = agree.as_drafted r (4 + 4 * n) h.3 c h.9 k in
-          let m = agree.as_drafted r (5 + 4 * n) h.4 d h.10 l in
-          (λ x. offer_of (sym e x) (sym f x) (sym g x) (sym m x)) ∙ h.11
+      from (inl h) = same_read h.head h.first h.second h.third a b c d o h.is (agree.one_word r (2 + 4 * n) h.head a h.has_head i)
+          (λ m. agree.one_word r (3 + 4 * n) h.first b (h.has_first m) j) (λ m. agree.one_word r (4 + 4 * n) h.second c (h.has_second m) k) (λ m. agree.one_word r (5 + 4 * n) h.third d (h.has_third m) l) formed
+      from (inr h) = same_read h.head h.first h.second h.third a b c d o h.is (agree.as_drafted r (2 + 4 * n) h.head a h.has_head i)
+          (λ m. agree.as_drafted r (3 + 4 * n) h.first b (h.has_first m) j) (λ m. agree.as_drafted r (4 + 4 * n) h.second c (h.has_second m) k) (λ m. agree.as_drafted r (5 + 4 * n) h.third d (h.has_third m) l) formed
 
 -- FIVE WORDS, READ ONE AFTER ANOTHER
 pub record ReadFive (v w : View) (r : Row) (n count a b c d : ℕ) : Type 0 where
@@ -122,22 +196,34 @@ read_five v v1 v2 v3 v4 v5 r n count a b c d e1 e2 e3 e4 e5 =
     (read_in_turn v r n count a b c d)
 
 pub five_offer : (v w : View) (r : Row) (n count a b c d : ℕ) (o : Offer) → ReadFive v w r n count a b c d → n < unwrap_or (count_of count) 0 → offer_of a b c d ≡ Some o → HaveOffer w.seen.words r n o
-five_offer v w r n count a b c d o f below is = (count, a, b, c, d, f.count_word, below, f.head, f.first, f.second, f.third, is)
+five_offer v w r n count a b c d o f below is = record {
+  count = count;
+  counted = f.count_word;
+  below = below;
+  head = a;
+  has_head = f.head;
+  first = b;
+  has_first = λ k. f.first;
+  second = c;
+  has_second = λ k. f.second;
+  third = d;
+  has_third = λ k. f.third;
+  is = is;
+}
 
--- what a pass had seen of the offer, it still sees
-pub seen_still : (v w : View) (r : Row) (n : ℕ) (o : Offer) → ((x : Row × ℕ × ℕ) → Has v.seen.words x → Has w.seen.words x) → w.seen.drafts ≡ v.seen.drafts → SeesOffer v.seen r n o
-    → HaveOffer w.seen.words r n o ⊎ HaveOffer w.seen.drafts r n o
-seen_still v w r n o more drafts (inl h) = inl (have_more v.seen.words w.seen.words r n o more h)
-seen_still v w r n o more drafts (inr h) = inr (subst (λ (l : List (Row × ℕ × ℕ)). HaveOffer l r n o) (sym drafts) h.1)
+-- the atoms that were read are well-formed
+pub five_atoms : (threads rows : ℕ) (v w : View) (r : Row) (n count a b c d : ℕ) → Coherent threads rows w.seen → ReadFive v w r n count a b c d → (is_some (atom_of b) ≡ true) × (is_some (atom_of c) ≡ true) × (is_some (atom_of d) ≡ true)
+five_atoms threads rows v w r n count a b c d agree f = (
+  sym (atom_place 1 n b (omega arith) (omega arith)) ∙ agree.formed r (3 + 4 * n) b f.first,
+  sym (atom_place 2 n c (omega arith) (omega arith)) ∙ agree.formed r (4 + 4 * n) c f.second,
+  sym (atom_place 3 n d (omega arith) (omega arith)) ∙ agree.formed r (5 + 4 * n) d f.third,
+)
 
 -- the words that were read are an offer
 pub five_formed : (threads rows : ℕ) (v w : View) (r : Row) (n count a b c d : ℕ) → Coherent threads rows w.seen → ReadFive v w r n count a b c d → is_some (offer_of a b c d) ≡ true
 five_formed threads rows v w r n count a b c d agree f =
-    offer_formed a b c d
-    (sym (head_place n a) ∙ agree.formed r (2 + 4 * n) a f.head)
-    (sym (atom_place 1 n b (omega arith) (omega arith)) ∙ agree.formed r (3 + 4 * n) b f.first)
-    (sym (atom_place 2 n c (omega arith) (omega arith)) ∙ agree.formed r (4 + 4 * n) c f.second)
-    (sym (atom_place 3 n d (omega arith) (omega arith)) ∙ agree.formed r (5 + 4 * n) d f.third)
+    let atoms = five_atoms threads rows v w r n count a b c d agree f in
+    offer_formed a b c d (sym (head_place n a) ∙ agree.formed r (2 + 4 * n) a f.head) atoms.0 atoms.1 atoms.2
 
 pub if_some : {A : Type 0} (x : Option A) (P : A → Type 0) → ((a : A) → x ≡ Some a → P a) → IfSome x P
 if_some None P h = tt
@@ -147,30 +233,18 @@ pub if_none : {A : Type 0} (x : Option A) (P : Type 0) → (x ≡ None → P) �
 if_none None P h = h refl
 if_none (Some a) P h = tt
 
--- a look, and then the number of offers
-pub look_count : (v v1 v2 : View) (r : Row) (cell : Cell) (count : ℕ) → v1 ≡ saw r cell v → v2 ≡ read_word r 1 count v1
-    → ((x : Row × ℕ × ℕ) → Has v.seen.words x → Has v2.seen.words x) × (v2.seen.drafts ≡ v.seen.drafts) × Has v2.seen.words (r, 1, count)
-look_count v v1 v2 r cell count e f =
-    subst (λ (w : View). ((x : Row × ℕ × ℕ) → Has v.seen.words x → Has w.seen.words x) × (w.seen.drafts ≡ v.seen.drafts) × Has w.seen.words (r, 1, count))
-    (sym (f ∙ ap (read_word r 1 count) e))
-    (λ x h. inr (subst (λ (l : List (Row × ℕ × ℕ)). Has l x) (sym (cell_words r cell v.seen)) h), cell_drafts r cell v.seen, inl refl)
+-- what is seen of an offer says that it stands below the number that was read
+have_seen : (s : Seen) (r : Row) (n : ℕ) (o : Offer) → SeesOffer s r n o → HaveOffer s.words r n o ⊎ HaveOffer s.drafts r n o
+have_seen s r n o (inl h) = inl h
+have_seen s r n o (inr h) = inr h.1
 
--- what was seen of an offer before says that it stands below the number that was read
-pub seen_below : (threads rows : ℕ) (v v1 v2 : View) (r : Row) (n : ℕ) (cell : Cell) (count : ℕ) (o : Offer) → v1 ≡ saw r cell v → v2 ≡ read_word r 1 count v1 → Coherent threads rows v2.seen
-    → SeesOffer v.seen r n o → n < unwrap_or (count_of count) 0
-seen_below threads rows v v1 v2 r n cell count o e f agree seen =
-    let l = look_count v v1 v2 r cell count e f in
-    same_count threads rows v2.seen agree r n o (seen_still v v2 r n o l.0 l.1 seen) count l.2
+pub seen_below : (threads rows : ℕ) (v w : View) (r : Row) (n : ℕ) (count : ℕ) (o : Offer) → w ≡ read_word r 1 count v → Coherent threads rows w.seen → SeesOffer w.seen r n o → n < unwrap_or (count_of count) 0
+seen_below threads rows v w r n count o e agree seen =
+    same_count threads rows w.seen agree r n o (have_seen w.seen r n o seen) count (subst (λ (u : View). Has u.seen.words (r, 1, count)) (sym e) (inl refl))
 
 -- and that it is the offer that was read
-pub seen_same : (threads rows : ℕ) (v v1 w : View) (r : Row) (n count a b c d : ℕ) (cell : Cell) (o : Offer) → v1 ≡ saw r cell v → ReadFive v1 w r n count a b c d → Coherent threads rows w.seen
-    → SeesOffer v.seen r n o → offer_of a b c d ≡ Some o
-seen_same threads rows v v1 w r n count a b c d cell o e f agree seen =
-    let words : v1.seen.words ≡ v.seen.words = ap (λ (u : View). u.seen.words) e ∙ cell_words r cell v.seen in
-    let drafts : v1.seen.drafts ≡ v.seen.drafts = ap (λ (u : View). u.seen.drafts) e ∙ cell_drafts r cell v.seen in
-    same_offer threads rows w.seen agree r n o
-    (seen_still v w r n o (λ x h. f.kept x (subst (λ (l : List (Row × ℕ × ℕ)). Has l x) (sym words) h)) (f.drafts ∙ drafts) seen)
-    a b c d f.head f.first f.second f.third
+pub seen_same : (threads rows : ℕ) (v w : View) (r : Row) (n count a b c d : ℕ) (o : Offer) → ReadFive v w r n count a b c d → Coherent threads rows w.seen → SeesOffer w.seen r n o → offer_of a b c d ≡ Some o
+seen_same threads rows v w r n count a b c d o f agree seen = same_offer threads rows w.seen agree r n o (have_seen w.seen r n o seen) a b c d f.head f.first f.second f.third (five_atoms threads rows v w r n count a b c d agree f)
 
 -- the words of an offer are well-formed
 pub offer_parts : (a b c d : ℕ) (o : Offer) → offer_of a b c d ≡ Some o → (is_some (head_of a) ≡ true) × (is_some (atom_of b) ≡ true) × (is_some (atom_of c) ≡ true) × (is_some (atom_of d) ≡ true)

@@ -1,15 +1,20 @@
 -- Drafting words of one row leaves what was drafted elsewhere.
-use Rattle.std.proofs.Common.{◌≡◌, ℕ, ◌+◌, ◌*◌, ◌<◌, ◌≤◌, Bool, true, false, cond, eqb, ◌&&◌, List, [], ◌∷◌, sym, refl, ap, ◌∙◌, subst, inl, inr, ⊎_elim, arith, length, slice_get, unwrap_or, Some, None, is_some, leb}
+use Rattle.std.proofs.Common.{◌≡◌, ℕ, ◌+◌, ◌*◌, ◌<◌, ◌≤◌, Bool, true, false, cond, eqb, ◌&&◌, List, [], ◌∷◌, ◌++◌, sym, refl, ap, ◌∙◌, subst, inl, inr, ⊎_elim, arith, length, slice_get, unwrap_or, Some, None, is_some, leb}
 use Rattle.std.proofs.lemmas.Bool.{eqb-true, and_parts, le-leb, true≢false}
+use Rattle.std.proofs.lemmas.List.{append_assoc}
 use Rattle.std.proofs.lemmas.Option.{slice_get_within}
 use Rattle.std.proofs.Math.Nat.{eq-or-lt_of_le}
 use Rattle.words.specs.Words.{count_of, offer_of, is_word_for}
 use Rattle.words.specs.declared.Offer.{Offer}
 use Rattle.protocol.proofs.Linking.{some_inj}
 use Rattle.words.specs.declared.Row.{Row}
+use Rattle.words.specs.declared.Step.{Step}
+use Rattle.words.specs.declared.Step.TheVariants.{Draft}
 use Rattle.protocol.specs.Tables.{row_eq}
 use Rattle.protocol.proofs.RowLemmas.{row_eq-true}
 use Rattle.cell.specs.declared.view.Seen.{Seen}
+use Rattle.cell.specs.Attempts.{OnlyDrafts}
+use Rattle.cell.proofs.Hearing.{has_either}
 use Rattle.cell.specs.Sight.{Has, HaveOffer, IsDraft, without, see_draft, Redrafts, IsPlaceOf}
 
 -- what is left after a word of (r, p) is gone, and what was there before
@@ -89,6 +94,27 @@ redrafts_offer r n a b c d s =
     (one (4 + 4 * n) c second (omega arith, omega arith)))
     (one (5 + 4 * n) d third (omega arith, omega arith))
 
+-- WHAT A DRAFT DID
+pub one_draft : (r : Row) (p x : ℕ) (before : List Step) → OnlyDrafts r before (Draft r p x ∷ before)
+one_draft r p x before = (Draft r p x ∷ [], refl, λ step h. only step h)
+  where
+    only : (step : Step) → Has (Draft r p x ∷ []) step → (place : ℕ) × (word : ℕ) × (step ≡ Draft r place word)
+    only step (inl e) = (p, x, sym e)
+    only step (inr h) = absurd h
+
+pub drafts_then : (r : Row) (before between after : List Step) → OnlyDrafts r before between → OnlyDrafts r between after → OnlyDrafts r before after
+drafts_then r before between after (first, e, f) (second, g, h) = (
+  second ++ first,
+  g ∙ ap (λ (l : List Step). second ++ l) e ∙ sym (append_assoc second first before),
+  λ step has. ⊎_elim (λ (a : Has second step). h step a) (λ (b : Has first step). f step b) (has_either second first step has),
+)
+
+pub four_drafts : (r : Row) (p q o m a b c d : ℕ) (before : List Step) → OnlyDrafts r before (Draft r m d ∷ Draft r o c ∷ Draft r q b ∷ Draft r p a ∷ before)
+four_drafts r p q o m a b c d before =
+    drafts_then r before (Draft r o c ∷ Draft r q b ∷ Draft r p a ∷ before) _
+    (drafts_then r before (Draft r q b ∷ Draft r p a ∷ before) _ (drafts_then r before (Draft r p a ∷ before) _ (one_draft r p a before) (one_draft r q b _)) (one_draft r o c _))
+    (one_draft r m d _)
+
 -- A LIST OF OFFERS, drafted one after another
 pub record IsDraftedTo (row : Row) (offers : List Offer) (n : ℕ) (s t : Seen) : Type 0 where
   pub others : Redrafts (λ q p. q ≡ row) s t
@@ -130,23 +156,36 @@ drafted_more row offers n s t u o few below is so_far redraft (a, b, c, d, has_a
     count_now = redraft.kept row 1 (length offers) (λ h. let l = h.1.0 in omega arith) so_far.count
 
     here : HaveOffer u.drafts row n o
-    here = (length offers, a, b, c, d, count_now, counted (length offers) n few below, has_a, has_b, has_c, has_d, reads)
+    here = record {
+      count = length offers;
+      counted = count_now;
+      below = counted (length offers) n few below;
+      head = a;
+      has_head = has_a;
+      first = b;
+      has_first = λ k. has_b;
+      second = c;
+      has_second = λ k. has_c;
+      third = d;
+      has_third = λ k. has_d;
+      is = reads;
+    }
 
     earlier : (k : ℕ) (q : Offer) → k < n → HaveOffer t.drafts row k q → HaveOffer u.drafts row k q
-    earlier k q low h = (
-      h.0,
-      h.1,
-      h.2,
-      h.3,
-      h.4,
-      redraft.kept row 1 h.0 (λ i. let l = i.1.0 in omega arith) h.5,
-      h.6,
-      redraft.kept row (2 + 4 * k) h.1 (λ i. let l = i.1.0 in omega arith) h.7,
-      redraft.kept row (3 + 4 * k) h.2 (λ i. let l = i.1.0 in omega arith) h.8,
-      redraft.kept row (4 + 4 * k) h.3 (λ i. let l = i.1.0 in omega arith) h.9,
-      redraft.kept row (5 + 4 * k) h.4 (λ i. let l = i.1.0 in omega arith) h.10,
-      h.11,
-    )
+    earlier k q low h = record {
+      count = h.count;
+      counted = redraft.kept row 1 h.count (λ i. let l = i.1.0 in omega arith) h.counted;
+      below = h.below;
+      head = h.head;
+      has_head = redraft.kept row (2 + 4 * k) h.head (λ i. let l = i.1.0 in omega arith) h.has_head;
+      first = h.first;
+      has_first = λ m. redraft.kept row (3 + 4 * k) h.first (λ i. let l = i.1.0 in omega arith) (h.has_first m);
+      second = h.second;
+      has_second = λ m. redraft.kept row (4 + 4 * k) h.second (λ i. let l = i.1.0 in omega arith) (h.has_second m);
+      third = h.third;
+      has_third = λ m. redraft.kept row (5 + 4 * k) h.third (λ i. let l = i.1.0 in omega arith) (h.has_third m);
+      is = h.is;
+    }
 
 pub drafted_all : (row : Row) (offers : List Offer) (n : ℕ) (s t : Seen) → length offers ≤ n → IsDraftedTo row offers n s t → IsDraft t row offers
 drafted_all row offers n s t past so_far = (so_far.count, λ k o e. so_far.each k o (let l = slice_get_within offers k o e in omega arith) e)

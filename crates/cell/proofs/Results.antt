@@ -1,6 +1,6 @@
 -- A committed row gets one message, and goes on getting it.
-use Rattle.std.proofs.Common.{◌≡◌, ℕ, ◌+◌, ◌*◌, List, sym, ap, ◌∙◌, subst, inl, inr, Some}
-use Rattle.words.specs.Words.{offer_of, message_in}
+use Rattle.std.proofs.Common.{◌≡◌, ℕ, ◌≤◌, ◌+◌, ◌*◌, List, sym, ap, ◌∙◌, subst, inl, inr, Some}
+use Rattle.words.specs.Words.{message_in}
 use Rattle.words.specs.declared.Base.{Base}
 use Rattle.words.specs.declared.Base.TheVariants.{Send, Recv, Always, OnNack, Never}
 use Rattle.words.specs.declared.Message.{Message}
@@ -9,16 +9,21 @@ use Rattle.words.specs.declared.Row.{Row}
 use Rattle.words.specs.declared.Joined.{Joined}
 use Rattle.protocol.proofs.Linking.{some_inj}
 use Rattle.cell.specs.declared.view.Seen.{Seen}
-use Rattle.cell.specs.Sight.{Has, HaveOffer, SeesOffer, Gets, IsResult, Learns, Coherent}
+use Rattle.cell.specs.Sight.{Has, HaveOffer, SeesOffer, Gets, IsResult, Learns, Coherent, atoms_behind}
+use Rattle.cell.proofs.Offers.{offer_parts, same_read}
 use Rattle.cell.proofs.Meeting.{sees_more}
 
 same_in : (xs ys : List (Row × ℕ × ℕ)) (r : Row) (n : ℕ) (o q : Offer) → ((p x y : ℕ) → Has xs (r, p, x) → Has ys (r, p, y) → x ≡ y) → HaveOffer xs r n o → HaveOffer ys r n q → o ≡ q
 same_in xs ys r n o q agree h i =
-    let a = agree (2 + 4 * n) h.1 i.1 h.7 i.7 in
-    let b = agree (3 + 4 * n) h.2 i.2 h.8 i.8 in
-    let c = agree (4 + 4 * n) h.3 i.3 h.9 i.9 in
-    let d = agree (5 + 4 * n) h.4 i.4 h.10 i.10 in
-    some_inj o q (sym h.11 ∙ (λ x. offer_of (a x) (b x) (c x) (d x)) ∙ i.11)
+    let head : h.head ≡ i.head = agree (2 + 4 * n) h.head i.head h.has_head i.has_head in
+    let there : (k : ℕ) → k ≤ atoms_behind h.head → k ≤ atoms_behind i.head = λ k m. subst (λ (w : ℕ). k ≤ atoms_behind w) head m in
+    let formed = offer_parts i.head i.first i.second i.third q i.is in
+    some_inj o q
+    (sym (same_read h.head h.first h.second h.third i.head i.first i.second i.third o h.is head
+    (λ m. agree (3 + 4 * n) h.first i.first (h.has_first m) (i.has_first (there 1 m)))
+    (λ m. agree (4 + 4 * n) h.second i.second (h.has_second m) (i.has_second (there 2 m)))
+    (λ m. agree (5 + 4 * n) h.third i.third (h.has_third m) (i.has_third (there 3 m)))
+    (formed.1, formed.2, formed.3)) ∙ i.is)
 
 pub sees_one : (threads rows : ℕ) (s : Seen) (r : Row) (n : ℕ) (o q : Offer) → Coherent threads rows s → SeesOffer s r n o → SeesOffer s r n q → o ≡ q
 sees_one threads rows s r n o q agree (inl h) (inl i) = same_in s.words s.words r n o q (agree.one_word r) h i

@@ -11,7 +11,7 @@ use Rattle.protocol.specs.Tables.{Table, is_fresh, cell_at, joined_at, joined_of
 use Rattle.words.specs.declared.Base.{Base}
 use Rattle.words.specs.declared.Base.TheVariants.{Send, Recv, Always, OnNack, Never}
 use Rattle.protocol.specs.Worlds.{World, joined_with, granted_by}
-use Rattle.protocol.specs.Kept.{Kept, IsSideOf}
+use Rattle.protocol.specs.Kept.{IsFormed, Kept, IsSideOf}
 use Rattle.protocol.proofs.Readings.{count_open, row_of_open, offer_none, joined_ranged, nack_of_bound, binding_ranged}
 use Rattle.protocol.proofs.Places.{nack_inside, row_inside}
 use Rattle.protocol.proofs.Causes.{cause_alone, enabling_from}
@@ -25,20 +25,28 @@ use Rattle.cell.specs.Nacks.{CanGrant, SawCause, SawEnabled}
 use Rattle.protocol.specs.Tables.{is_taken}
 use Rattle.cell.specs.Views.{Knows}
 use Rattle.cell.specs.Told.{Agrees}
+use Rattle.cell.proofs.Meeting.{few}
+use Rattle.cell.proofs.Offers.{atom_place, same_read}
 
 -- WORDS OF AN OPEN ROW
 
 count_there : (t : Table) (r : Row) (count : ℕ) → is_fresh (cell_at t r) ≡ false → word_at t r 1 ≡ count → count_at t r ≡ unwrap_or (count_of count) 0
 count_there t r count open_r is = count_open t r open_r ∙ ap (λ (x : ℕ). unwrap_or (count_of x) 0) is
 
-pub offer_there : (t : Table) (words : List (Row × ℕ × ℕ)) (r : Row) (n : ℕ) (o : Offer) → ((p x : ℕ) → Has words (r, p, x) → word_at t r p ≡ x)
+pub offer_there : (t : Table) (words : List (Row × ℕ × ℕ)) (r : Row) (n : ℕ) (o : Offer) → IsFormed t → ((p x : ℕ) → Has words (r, p, x) → word_at t r p ≡ x)
     → is_fresh (cell_at t r) ≡ false → HaveOffer words r n o → offer_at t r n ≡ Some o
 unfolding offer_at
-offer_there t words r n o there open_r (count, a, b, c, d, has, below, has_a, has_b, has_c, has_d, is) =
-    let counted = count_there t r count open_r (there 1 count has) in
-    ap (λ (y : Bool). cond y (offer_of (word_at t r (2 + 4 * n)) (word_at t r (3 + 4 * n)) (word_at t r (4 + 4 * n)) (word_at t r (5 + 4 * n))) None) (lt-ltb n (count_at t r) (subst (λ (x : ℕ). n < x) (sym counted) below))
-    ∙ (λ i. offer_of ((there (2 + 4 * n) a has_a) i) ((there (3 + 4 * n) b has_b) i) ((there (4 + 4 * n) c has_c) i) ((there (5 + 4 * n) d has_d) i))
-    ∙ is
+offer_there t words r n o formed there open_r h =
+    let counted = count_there t r h.count open_r (there 1 h.count h.counted) in
+    let low : n < 8 = few h.count n h.below in
+    let row = row_of_open t r open_r in
+    ap (λ (y : Bool). cond y (offer_of (word_at t r (2 + 4 * n)) (word_at t r (3 + 4 * n)) (word_at t r (4 + 4 * n)) (word_at t r (5 + 4 * n))) None) (lt-ltb n (count_at t r) (subst (λ (x : ℕ). n < x) (sym counted) h.below))
+    ∙ same_read h.head h.first h.second h.third (word_at t r (2 + 4 * n)) (word_at t r (3 + 4 * n)) (word_at t r (4 + 4 * n)) (word_at t r (5 + 4 * n)) o h.is
+    (sym (there (2 + 4 * n) h.head h.has_head)) (λ m. sym (there (3 + 4 * n) h.first (h.has_first m))) (λ m. sym (there (4 + 4 * n) h.second (h.has_second m))) (λ m. sym (there (5 + 4 * n) h.third (h.has_third m))) (
+      sym (atom_place 1 n (word_at t r (3 + 4 * n)) (omega arith) (omega arith)) ∙ formed.rows r (3 + 4 * n) row (omega arith),
+      sym (atom_place 2 n (word_at t r (4 + 4 * n)) (omega arith) (omega arith)) ∙ formed.rows r (4 + 4 * n) row (omega arith),
+      sym (atom_place 3 n (word_at t r (5 + 4 * n)) (omega arith) (omega arith)) ∙ formed.rows r (5 + 4 * n) row (omega arith),
+    )
 
 -- an offer that is there stands below the number of offers
 below_count : (t : Table) (r : Row) (n : ℕ) (o : Offer) → offer_at t r n ≡ Some o → n < count_at t r
@@ -55,9 +63,9 @@ meeting_other (Some a) None h = absurd (true≢false (sym h))
 meeting_other (Some a) (Some o) h = (o, refl)
 
 -- A PASS THAT KNOWS THE WORLD
-module _ (w : World) (owner : Row → ℕ) (id : ℕ) (v : View) (k : Knows w owner id v) where
+module _ (w : World) (owner : Row → ℕ) (id : ℕ) (v : View) (k : Knows w owner id v) (kept : Kept w) where
   pub offer_known : (r : Row) (n : ℕ) (o : Offer) → HaveOffer v.seen.words r n o → offer_at w.table r n ≡ Some o
-  offer_known r n o have = offer_there w.table v.seen.words r n o (λ p x h. (k.read r p x h).3) (k.read r 1 have.0 have.5).0 have
+  offer_known r n o have = offer_there w.table v.seen.words r n o kept.formed (λ p x h. (k.read r p x h).3) (k.read r 1 have.count have.counted).0 have
 
   pub offers_known : (m : Row) (i : ℕ) (o : Row) (n : ℕ) (j : Joined) → CanJoin v.seen m i o n j → offers_meet (offer_at w.table m i) (offer_at w.table o n) ≡ true
   offers_known m i o n j can =
@@ -81,7 +89,7 @@ module _ (w : World) (owner : Row → ℕ) (id : ℕ) (v : View) (k : Knows w ow
   -- an offer that was seen, read or drafted
   pub chosen_known : (r : Row) (n : ℕ) (o : Offer) → SeesOffer v.seen r n o → offer_at w.table r n ≡ Some o
   chosen_known r n o (inl h) = offer_known r n o h
-  chosen_known r n o (inr h) = offer_there w.table v.seen.drafts r n o (λ p x d. (k.drafted r p x d).4) (k.opened r h.0) h.1
+  chosen_known r n o (inr h) = offer_there w.table v.seen.drafts r n o kept.formed (λ p x d. (k.drafted r p x d).4) (k.opened r h.0) h.1
 
   enabled_known : (n : NackName) (j : Joined) → SawEnabled v.seen n j → nack_by (joined_at w.table) (offer_at w.table) (binding_at w.table) n ≡ Some j
   enabled_known n j e = enabling_from (joined_at w.table) (offer_at w.table) (binding_at w.table) n j (record {
@@ -104,86 +112,85 @@ module _ (w : World) (owner : Row → ℕ) (id : ℕ) (v : View) (k : Knows w ow
       let has : cause_at w.table r n ≡ Some can.cause = ap (cause_of (joined_at w.table) (offer_at w.table) (binding_at w.table)) (offer_known r n can.offer can.read) ∙ cause_known can.offer.base can.cause can.caused in
       (has, granted_is w.table r n can.cause has ∙ (λ x. record { own = n; partner = None; stamp = 1 + max (a x) can.cause }) ∙ sym can.is)
 
-  module _ (kept : Kept w) where
-    side : (r : Row) (j : Joined) (p : Row × ℕ) → Has v.seen.joined (r, j) → j.partner ≡ Some p → IsSideOf (cell_at w.table) (offer_at w.table) r j p
-    side r j p has e = kept.linked.sides r j p (k.joined r j has) e
+  side : (r : Row) (j : Joined) (p : Row × ℕ) → Has v.seen.joined (r, j) → j.partner ≡ Some p → IsSideOf (cell_at w.table) (offer_at w.table) r j p
+  side r j p has e = kept.linked.sides r j p (k.joined r j has) e
 
-    open_partner : (r : Row) (j : Joined) (p : Row × ℕ) → Has v.seen.joined (r, j) → j.partner ≡ Some p → is_fresh (cell_at w.table p.0) ≡ false
-    open_partner r j p has e = partner_open w.table.threads w.table.rows (cell_at w.table) (offer_at w.table) r j p kept.linked (k.joined r j has) e
+  open_partner : (r : Row) (j : Joined) (p : Row × ℕ) → Has v.seen.joined (r, j) → j.partner ≡ Some p → is_fresh (cell_at w.table p.0) ≡ false
+  open_partner r j p has e = partner_open w.table.threads w.table.rows (cell_at w.table) (offer_at w.table) r j p kept.linked (k.joined r j has) e
 
-    -- a commit's offer is below the number of offers that was read
-    chosen_below : (r : Row) (n count : ℕ) → SawChosen v.seen r n → Has v.seen.words (r, 1, count) → n < unwrap_or (count_of count) 0
-    chosen_below r n count chose has =
-        let read = k.read r 1 count has in
-        subst (λ (x : ℕ). n < x) (count_there w.table r count read.0 read.3) (taken chose)
-      where
-        taken : SawChosen v.seen r n → n < count_at w.table r
-        taken (inl c) = subst (λ (x : ℕ). x < count_at w.table r) c.2 (let o = chosen_there w.table.threads w.table.rows (cell_at w.table) (offer_at w.table) r c.0 kept.linked (k.joined r c.0 c.1) in below_count w.table r c.0.own o.0 o.1)
-        taken (inr c) = let o = meeting_other _ _ (side c.0 c.1 (r, n) c.2 c.3).meets in below_count w.table r n o.0 o.1
+  -- a commit's offer is below the number of offers that was read
+  chosen_below : (r : Row) (n count : ℕ) → SawChosen v.seen r n → Has v.seen.words (r, 1, count) → n < unwrap_or (count_of count) 0
+  chosen_below r n count chose has =
+      let read = k.read r 1 count has in
+      subst (λ (x : ℕ). n < x) (count_there w.table r count read.0 read.3) (taken chose)
+    where
+      taken : SawChosen v.seen r n → n < count_at w.table r
+      taken (inl c) = subst (λ (x : ℕ). x < count_at w.table r) c.2 (let o = chosen_there w.table.threads w.table.rows (cell_at w.table) (offer_at w.table) r c.0 kept.linked (k.joined r c.0 c.1) in below_count w.table r c.0.own o.0 o.1)
+      taken (inr c) = let o = meeting_other _ _ (side c.0 c.1 (r, n) c.2 c.3).meets in below_count w.table r n o.0 o.1
 
-    -- a row that is held is one of the table's
-    bound_inside : (r : Row) → Rattle.protocol.specs.Worlds.holder_at w r ≢ None → Rattle.protocol.specs.Tables.is_row w.table r ≡ true
-    bound_inside r held = ⊎_elim
-        (λ (e : Rattle.protocol.specs.Worlds.holder_at w r ≡ None). absurd (held e))
-        (λ (e : (seat : ℕ) × (Rattle.protocol.specs.Worlds.holder_at w r ≡ Some seat)). held_row w r e.0 e.1)
-        (cases_Option (Rattle.protocol.specs.Worlds.holder_at w r))
+  -- a row that is held is one of the table's
+  bound_inside : (r : Row) → Rattle.protocol.specs.Worlds.holder_at w r ≢ None → Rattle.protocol.specs.Tables.is_row w.table r ≡ true
+  bound_inside r held = ⊎_elim
+      (λ (e : Rattle.protocol.specs.Worlds.holder_at w r ≡ None). absurd (held e))
+      (λ (e : (seat : ℕ) × (Rattle.protocol.specs.Worlds.holder_at w r ≡ Some seat)). held_row w r e.0 e.1)
+      (cases_Option (Rattle.protocol.specs.Worlds.holder_at w r))
 
-    pub coherent : Coherent v.threads v.rows v.seen
-    coherent = record {
-      formed = λ r p x h. let a = k.read r p x h in ap (is_word_for p) (sym a.3) ∙ kept.formed.rows r p (row_of_open w.table r a.0) a.1;
-      one_word = λ r p x y g h. sym (k.read r p x g).3 ∙ (k.read r p y h).3;
-      one_draft = λ r p x y g h. sym (k.drafted r p x g).4 ∙ (k.drafted r p y h).4;
-      as_drafted = λ r p x y g h. sym (k.drafted r p x g).4 ∙ (k.read r p y h).3;
-      one_joined = λ r i j g h. some_inj i j (sym (k.joined r i g) ∙ k.joined r j h);
-      in_range = λ r j h. (
-        joined_ranged w.table r j (k.joined r j h),
-        Rattle.std.proofs.Math.Nat.le_trans (kept.linked.bounded r j (k.joined r j h)) (few_commits w.table.threads w.table.rows _ _ kept.few_threads kept.few_rows),
-      );
-      alone = λ r j mine h e a.
-          let was = kept.linked.alone r j (k.joined r j h) e in
-          ap stands_alone (sym (offer_known r j.own mine a)) ∙ cause_alone (joined_at w.table) (offer_at w.table) (binding_at w.table) (offer_at w.table r j.own) was.cause was.is;
-      inside = λ r j p h e.
-          let i = kept.linked.inside p.0 (open_partner r j p h e) in
-          subst (λ (z : ℕ × ℕ). (p.0.thread < z.0) × (p.0.sync < z.1)) (λ i. (sym k.threads i, sym k.rows i)) i;
-      chosen = λ r n count c h. chosen_below r n count c h;
-      meet = λ r j p mine theirs h e a b.
-          let m = offer_known r j.own mine a in
-          let t = offer_known p.0 p.1 theirs b in
-          (λ x. offers_meet (sym m x) (sym t x)) ∙ (side r j p h e).meets;
-      one_bound = λ n a b g h. some_inj a b (sym (k.bound n a g) ∙ k.bound n b h);
-      bound = λ n b h.
-          let e = k.bound n b h in
-          let i = nack_inside w.table n (nack_of_bound w.table n b e) in
-          let q = row_inside w.table (bound_row n b) (bound_inside (bound_row n b) (kept.bound n b e)) in
-          let rows : w.table.rows ≡ v.rows = sym k.rows in
-          let threads : w.table.threads ≡ v.threads = sym k.threads in
-          (omega (arith, i.0), i.1, omega (arith, q.1), (binding_ranged w.table n b e).scope);
-    }
+  pub coherent : Coherent v.threads v.rows v.seen
+  coherent = record {
+    formed = λ r p x h. let a = k.read r p x h in ap (is_word_for p) (sym a.3) ∙ kept.formed.rows r p (row_of_open w.table r a.0) a.1;
+    one_word = λ r p x y g h. sym (k.read r p x g).3 ∙ (k.read r p y h).3;
+    one_draft = λ r p x y g h. sym (k.drafted r p x g).4 ∙ (k.drafted r p y h).4;
+    as_drafted = λ r p x y g h. sym (k.drafted r p x g).4 ∙ (k.read r p y h).3;
+    one_joined = λ r i j g h. some_inj i j (sym (k.joined r i g) ∙ k.joined r j h);
+    in_range = λ r j h. (
+      joined_ranged w.table r j (k.joined r j h),
+      Rattle.std.proofs.Math.Nat.le_trans (kept.linked.bounded r j (k.joined r j h)) (few_commits w.table.threads w.table.rows _ _ kept.few_threads kept.few_rows),
+    );
+    alone = λ r j mine h e a.
+        let was = kept.linked.alone r j (k.joined r j h) e in
+        ap stands_alone (sym (offer_known r j.own mine a)) ∙ cause_alone (joined_at w.table) (offer_at w.table) (binding_at w.table) (offer_at w.table r j.own) was.cause was.is;
+    inside = λ r j p h e.
+        let i = kept.linked.inside p.0 (open_partner r j p h e) in
+        subst (λ (z : ℕ × ℕ). (p.0.thread < z.0) × (p.0.sync < z.1)) (λ i. (sym k.threads i, sym k.rows i)) i;
+    chosen = λ r n count c h. chosen_below r n count c h;
+    meet = λ r j p mine theirs h e a b.
+        let m = offer_known r j.own mine a in
+        let t = offer_known p.0 p.1 theirs b in
+        (λ x. offers_meet (sym m x) (sym t x)) ∙ (side r j p h e).meets;
+    one_bound = λ n a b g h. some_inj a b (sym (k.bound n a g) ∙ k.bound n b h);
+    bound = λ n b h.
+        let e = k.bound n b h in
+        let i = nack_inside w.table n (nack_of_bound w.table n b e) in
+        let q = row_inside w.table (bound_row n b) (bound_inside (bound_row n b) (kept.bound n b e)) in
+        let rows : w.table.rows ≡ v.rows = sym k.rows in
+        let threads : w.table.threads ≡ v.threads = sym k.threads in
+        (omega (arith, i.0), i.1, omega (arith, q.1), (binding_ranged w.table n b e).scope);
+  }
 
-    -- what a pass has seen of a row agrees with the row's cell
-    pub agrees : (r : Row) (c : Cell) → cell_at w.table r ≡ c → Agrees v r c
-    agrees r c e = (
-      record {
-        opened = λ o. ap is_fresh (sym e) ∙ k.opened r o;
-        fresh = λ h n. sym e ∙ k.fresh r h n;
-        joined = λ j h. ap joined_of (sym e) ∙ k.joined r j h;
-        taken = λ t. ap is_taken (sym e) ∙ k.taken r t;
-        read = λ p x h. ap is_fresh (sym e) ∙ (k.read r p x h).0;
-        named = λ q j h n.
-            let a = naming (Some j) r n in
-            let same = some_inj j a.way a.is in
-            ap is_fresh (sym e) ∙ ap (λ (y : Row). is_fresh (cell_at w.table y)) (sym a.row) ∙ open_partner q j a.place h (ap (λ (y : Joined). y.partner) same ∙ a.partner);
-        in_turn = λ q same below h. ap is_taken (sym e) ∙ taken_before w kept r q same below (⊎_elim
-            (λ (o : Has v.seen.opened q). inl (k.opened q o))
-            (λ (o : Has v.seen.held q). inr (v.seat, (k.mine q o).1))
-            h);
-      },
-      λ h claimed_now. k.calm r h (e ∙ claimed_now),
-    )
+  -- what a pass has seen of a row agrees with the row's cell
+  pub agrees : (r : Row) (c : Cell) → cell_at w.table r ≡ c → Agrees v r c
+  agrees r c e = (
+    record {
+      opened = λ o. ap is_fresh (sym e) ∙ k.opened r o;
+      fresh = λ h n. sym e ∙ k.fresh r h n;
+      joined = λ j h. ap joined_of (sym e) ∙ k.joined r j h;
+      taken = λ t. ap is_taken (sym e) ∙ k.taken r t;
+      read = λ p x h. ap is_fresh (sym e) ∙ (k.read r p x h).0;
+      named = λ q j h n.
+          let a = naming (Some j) r n in
+          let same = some_inj j a.way a.is in
+          ap is_fresh (sym e) ∙ ap (λ (y : Row). is_fresh (cell_at w.table y)) (sym a.row) ∙ open_partner q j a.place h (ap (λ (y : Joined). y.partner) same ∙ a.partner);
+      in_turn = λ q same below h. ap is_taken (sym e) ∙ taken_before w kept r q same below (⊎_elim
+          (λ (o : Has v.seen.opened q). inl (k.opened q o))
+          (λ (o : Has v.seen.held q). inr (v.seat, (k.mine q o).1))
+          h);
+    },
+    λ h claimed_now. k.calm r h (e ∙ claimed_now),
+  )
 
 -- OFFERS THAT WERE SEEN are those of the table, and those that were seen to lack are not there
-pub sees_known : (w : World) (owner : Row → ℕ) (id : ℕ) (v : View) (r : Row) (n : ℕ) (o : Offer) → Knows w owner id v → SeesOffer v.seen r n o → offer_at w.table r n ≡ Some o
-sees_known w owner id v r n o k h = chosen_known w owner id v k r n o h
+pub sees_known : (w : World) (owner : Row → ℕ) (id : ℕ) (v : View) (r : Row) (n : ℕ) (o : Offer) → Knows w owner id v → Kept w → SeesOffer v.seen r n o → offer_at w.table r n ≡ Some o
+sees_known w owner id v r n o k kept h = chosen_known w owner id v k kept r n o h
 
 pub lacks_known : (w : World) (owner : Row → ℕ) (id : ℕ) (v : View) (r : Row) (n : ℕ) → Knows w owner id v → SeesNoOffer v.seen r n → offer_at w.table r n ≡ None
 lacks_known w owner id v r n k (inl (count, has, above)) =
@@ -209,7 +216,7 @@ own_chose w owner id v r j offers k kept draft e =
     let counted = count_there w.table r (length offers) open_r (k.drafted r 1 (length offers) draft.0).4 in
     let below = few_offers (length offers) j.own (subst (λ (n : ℕ). j.own < n) counted (below_count w.table r j.own o.0 o.1)) in
     let some = there (slice_get offers j.own) refl (Rattle.std.proofs.lemmas.Option.slice_get_cases offers j.own).1 below in
-    (below, offer_there w.table v.seen.drafts r j.own some.0 (λ p x h. (k.drafted r p x h).4) open_r (draft.1 j.own some.0 some.1) ∙ sym some.1)
+    (below, offer_there w.table v.seen.drafts r j.own some.0 kept.formed (λ p x h. (k.drafted r p x h).4) open_r (draft.1 j.own some.0 some.1) ∙ sym some.1)
   where
     there : (x : Option Offer) → slice_get offers j.own ≡ x → ((o : Offer) × (j.own < length offers) × (slice_get offers j.own ≡ Some o) × (Rattle.std.proofs.Common.get_or offers j.own o ≡ o)) ⊎ ((length offers ≤ j.own) × (slice_get offers j.own ≡ None))
         → j.own < length offers → (o : Offer) × (slice_get offers j.own ≡ Some o)

@@ -1,11 +1,13 @@
 -- What the answers of an attempt mean.
-use Rattle.std.specs.Prelude.{◌≡◌, ◌≢◌, ◌⊎◌, ℕ, Bool, true, false, Some}
+use Rattle.std.specs.Prelude.{◌≡◌, ◌≢◌, ◌⊎◌, ◌≤◌, ℕ, Bool, true, false, Option, Some, None, List, ◌∷◌, ◌++◌}
 use Rattle.words.specs.declared.Base.TheVariants.{OnNack}
 use Rattle.words.specs.declared.NackName.{NackName}
 use Rattle.words.specs.declared.Binding.{Binding}
 use Rattle.words.specs.declared.Joined.{Joined}
 use Rattle.words.specs.declared.Offer.{Offer}
 use Rattle.words.specs.declared.Row.{Row}
+use Rattle.words.specs.declared.Step.{Step}
+use Rattle.words.specs.declared.Step.TheVariants.{Bind, Claim, Draft, Grant as GrantRow, Join, Seal, Take, Yield}
 use Rattle.protocol.specs.Tables.{bound_row, next_row, offers_meet}
 use Rattle.protocol.specs.Worlds.{nack_of_row}
 use Rattle.cell.specs.declared.view.Seen.{Seen}
@@ -33,7 +35,43 @@ Attempted before after mine own other partner (Met stamp) = AreMet after mine ow
 Attempted before after mine own other partner Gone = SawCommitted after other
 Attempted before after mine own other partner Mine = SawCommitted after mine
 Attempted before after mine own other partner Busy = (¬ Has before.held other) × (¬ SawCommitted before other)
-Attempted before after mine own other partner Unfit = ¬ CanMeet before mine own other partner
+Attempted before after mine own other partner Unfit = ¬ CanMeet after mine own other partner
+
+-- by what the pass has seen after it, the two rows can meet, unless the answer is that they do not fit
+abbrev pub Fits : Seen → Row → ℕ → Row → ℕ → Attempt → Type 0
+Fits after mine own other partner (Met stamp) = CanMeet after mine own other partner
+Fits after mine own other partner Gone = CanMeet after mine own other partner
+Fits after mine own other partner Mine = CanMeet after mine own other partner
+Fits after mine own other partner Busy = CanMeet after mine own other partner
+Fits after mine own other partner Unfit = ¬ CanMeet after mine own other partner
+
+-- the steps that a pass has made after an attempt, by those that it had made before, the last one first
+abbrev pub attempt_made : Row → ℕ → Row → ℕ → Attempt → List Step → List Step
+attempt_made mine own other partner (Met stamp) before = Seal mine ∷ Join mine own other partner ∷ Claim mine ∷ before
+attempt_made mine own other partner Gone before = Yield mine ∷ Claim mine ∷ before
+attempt_made mine own other partner Mine before = before
+attempt_made mine own other partner Busy before = Yield mine ∷ Claim mine ∷ before
+attempt_made mine own other partner Unfit before = before
+
+-- after a grant
+abbrev pub grant_made : Row → ℕ → Grant → List Step → List Step
+grant_made r n Given before = GrantRow r n ∷ before
+grant_made r n NotEnabled before = before
+grant_made r n Late before = before
+
+-- after a take, by its answer
+abbrev pub take_made : Row → Option Joined → List Step → List Step
+take_made r (Some j) before = Take r ∷ before
+take_made r None before = before
+
+-- after a bind
+abbrev pub bind_made : ℕ → Row → ℕ → Bool → List Step → List Step
+bind_made k r scope true before = Bind k r scope ∷ before
+bind_made k r scope false before = before
+
+-- words of the row were drafted, and nothing else was done
+abbrev pub OnlyDrafts : Row → List Step → List Step → Type 0
+OnlyDrafts r before after = (steps : List Step) × (after ≡ steps ++ before) × ((step : Step) → Has steps step → (place : ℕ) × (word : ℕ) × (step ≡ Draft r place word))
 
 -- the row was committed alone by its offer n, and that is the offer which the pass had seen, if it had seen one
 abbrev pub IsGranted : Seen → Seen → Row → ℕ → Type 0
@@ -71,12 +109,12 @@ pub record Took (rows : ℕ) (before after : Seen) (r : Row) (j : Joined) : Type
   pub bound : after.bound ≡ before.bound
 
 -- The answer of a bind. True: the pass had not seen the nack bound, and has now seen it bound to this row and scope.
--- False: it has now seen where the nack is bound, and had seen that before if it is this row. Nothing else is new.
+-- False: it has now seen where the nack is bound: to this row, as it had seen before, or to an earlier one. Nothing else is new.
 abbrev pub Bound : Seen → Seen → ℕ → Row → ℕ → Bool → Type 0
 Bound before after k r scope true =
     (after ≡ see_bound (nack_of_row r k) (record { sync = r.sync; scope = scope }) before) × ((b : Binding) → ¬ Has before.bound (nack_of_row r k, b))
 Bound before after k r scope false =
-    (b : Binding) × (after ≡ see_bound (nack_of_row r k) b before) × (b.sync ≡ r.sync → Has before.bound (nack_of_row r k, b))
+    (b : Binding) × (after ≡ see_bound (nack_of_row r k) b before) × (b.sync ≤ r.sync) × (b.sync ≡ r.sync → Has before.bound (nack_of_row r k, b))
 
 -- the rows that an attempt looks at: the two, and the rows before them in their threads
 abbrev pub IsNear : Row → Row → Row → Type 0

@@ -1,5 +1,5 @@
 -- The rule of the shared table.
-use Rattle.std.specs.Prelude.{◌≡◌, ℕ, zero, suc, ◌+◌, ◌%◌, ◌≤◌, ◌==◌, ◌<◌, ◌||◌, Bool, false, if◌then◌else◌, List, [], ◌∷◌, ◌++◌}
+use Rattle.std.specs.Prelude.{◌≡◌, ℕ, zero, suc, ◌+◌, ◌%◌, ◌≤◌, ◌==◌, ◌<◌, ◌||◌, Bool, false, if◌then◌else◌, List, [], ◌∷◌, ◌++◌, length}
 use mathlib.Core.Option.{some}
 use lib.ListN.{get_elem?}
 use Rattle.atomic_table.specs.Table.{State}
@@ -12,17 +12,48 @@ use Rattle.cell.specs.declared.view.Stage.TheVariants.{Resting}
 use Rattle.protocol.specs.Worlds.{World, start_world, Plays}
 use Rattle.cell.specs.declared.view.Seen.{Seen}
 use Rattle.cell.specs.Views.{Knows, first_row, at_stage}
-use Rattle.protocol.specs.Tables.{row_eq}
+use Rattle.protocol.specs.Tables.{Table, row_eq}
 
--- The history: a list of the protocol's steps leads from the start to the words as they stand. What each pass has seen
--- is true of the world that the history leads to. Nothing else ever happens to the table.
+-- One change of the table: which pass made it, at which seat, by which step of the protocol.
+pub record Move : Type 0 where
+  pub pass : ℕ
+  pub seat : Seat
+  pub step : Step
+
+-- a history, its last move first, as a schedule of the protocol
+abbrev pub in_order : List Move → List (Seat × Step)
+in_order [] = []
+in_order (m ∷ moves) = in_order moves ++ (m.seat, m.step) ∷ []
+
+-- what this pass did of it
+abbrev pub steps_by : ℕ → List Move → List (Seat × Step)
+steps_by id [] = []
+steps_by id (m ∷ moves) = if m.pass == id then (m.seat, m.step) ∷ steps_by id moves else steps_by id moves
+
+-- all these steps, at one seat
+abbrev pub at_seat : ℕ → List Step → List (Seat × Step)
+at_seat seat [] = []
+at_seat seat (step ∷ steps) = (record { 0 = seat }, step) ∷ at_seat seat steps
+
+-- The history is the steps that the passes made, interleaved: each pass made its own at its seat, and nobody else any.
+pub record Interleaves (moves : List Move) (views : List View) : Type 0 where
+  pub made : (id : ℕ) (v : View) → get_elem? views id ≡ some v → steps_by id moves ≡ at_seat v.seat v.made
+  pub no_others : (id : ℕ) → length views ≤ id → steps_by id moves ≡ []
+
+-- the words at this moment, as a table
+abbrev pub table_of : {S : Type 0} → Shape → State S View → Table
+table_of shape s = record { threads = shape.threads; rows = shape.rows; words = s.words }
+
+-- The history is the passes' steps interleaved, and leads from the start to the words as they stand. What each pass has
+-- seen is true of the world that the history leads to. Nothing else ever happens to the table.
 pub record Keeps {S : Type 0} (shape : Shape) (s : State S View) : Type 0 where
   pub few_threads : shape.threads ≤ 64
   pub few_rows : shape.rows ≤ 1024
-  pub history : List (Seat × Step)
+  pub moves : List Move
+  pub interleaved : Interleaves moves s.views
   pub world : World
-  pub played : Plays (start_world shape.threads shape.rows shape.passes) history world
-  pub table : world.table ≡ record { threads = shape.threads; rows = shape.rows; words = s.words }
+  pub played : Plays (start_world shape.threads shape.rows shape.passes) (in_order moves) world
+  pub table : world.table ≡ table_of shape s
   pub owner : Row → ℕ
   -- a pass that is of no table any more knows nothing
   pub knows : (id : ℕ) (v : View) → get_elem? s.views id ≡ some v → 0 < v.threads → Knows world owner id v
@@ -42,7 +73,7 @@ seen_nothing rows = record { held = rows; drafts = no_offers rows; opened = []; 
 
 -- the first pass: it has dealt the seats below this one, and holds nothing itself
 abbrev pub dealer : Shape → ℕ → View
-dealer shape k = record { threads = shape.threads; rows = shape.rows; passes = shape.passes; dealt = k; seat = 0; stage = Resting; seen = seen_nothing [] }
+dealer shape k = record { threads = shape.threads; rows = shape.rows; passes = shape.passes; dealt = k; seat = 0; stage = Resting; seen = seen_nothing []; made = [] }
 
 -- the first rows of the threads below this one that fall to seat k
 abbrev pub dealt_rows : ℕ → ℕ → ℕ → List Row
@@ -59,10 +90,11 @@ dealt_pass v = record {
   seat = v.dealt;
   stage = Resting;
   seen = seen_nothing (dealt_rows v.threads v.passes v.dealt);
+  made = [];
 }
 
 abbrev pub dealt_one : View → View
-dealt_one v = record { threads = v.threads; rows = v.rows; passes = v.passes; dealt = v.dealt + 1; seat = v.seat; stage = v.stage; seen = v.seen }
+dealt_one v = record { threads = v.threads; rows = v.rows; passes = v.passes; dealt = v.dealt + 1; seat = v.seat; stage = v.stage; seen = v.seen; made = v.made }
 
 -- WHAT ONE PASS TELLS ANOTHER
 
@@ -93,11 +125,11 @@ heard s told = record {
 }
 
 abbrev pub told_pass : View → View
-told_pass v = record { threads = v.threads; rows = v.rows; passes = v.passes; dealt = v.passes; seat = v.seat; stage = Resting; seen = told_of v.seen }
+told_pass v = record { threads = v.threads; rows = v.rows; passes = v.passes; dealt = v.passes; seat = v.seat; stage = Resting; seen = told_of v.seen; made = [] }
 
 abbrev pub heard_pass : View → View → View
 heard_pass v told = at_stage v.stage (heard v.seen told.seen) v
 
 -- the pass that has told all that it had seen: it is of no table any more
 abbrev pub spent_pass : View
-spent_pass = record { threads = 0; rows = 0; passes = 0; dealt = 0; seat = 0; stage = Resting; seen = seen_nothing [] }
+spent_pass = record { threads = 0; rows = 0; passes = 0; dealt = 0; seat = 0; stage = Resting; seen = seen_nothing []; made = [] }

@@ -5,11 +5,12 @@ use Rattle.words.specs.declared.NackName.{NackName}
 use Rattle.words.specs.declared.Row.{Row}
 use Rattle.cell.specs.declared.board.Board.{Board}
 use Rattle.cell.specs.declared.view.View.{View}
+use Rattle.cell.specs.Sight.{Coherent}
 use Rattle.cell.specs.Told.{Inside, InsideNack}
 
--- the seat is one of this table's, and its pass knows the table's size
+-- the seat is one of this table's, its pass knows the table's size, and what it has seen agrees with itself
 abbrev pub Sits : Board → Seat ℕ View → Type 0
-Sits b s = (s.table_id ≡ b.words.shared.table_id) × (s.me.0.threads ≡ b.shape.threads) × (s.me.0.rows ≡ b.shape.rows)
+Sits b s = (s.table_id ≡ b.words.shared.table_id) × (s.me.0.threads ≡ b.shape.threads) × (s.me.0.rows ≡ b.shape.rows) × Coherent b.shape.threads b.shape.rows s.me.0.seen
 
 -- the table has the row
 abbrev pub HasRow : Board → Row → Type 0

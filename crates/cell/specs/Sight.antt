@@ -1,6 +1,9 @@
 -- What a pass has seen: how it grows, and what it says of offers and of rows that can meet.
-use Rattle.std.specs.Prelude.{◌≡◌, ◌≢◌, ◌⊎◌, ℕ, ◌+◌, ◌-◌, ◌*◌, ◌<◌, ◌≤◌, max, unwrap_or, true, false, Some, None, List, [], ◌∷◌, ◌==◌, ◌&&◌, nat_lt, if◌then◌else◌, length, slice_get}
-use Rattle.words.specs.Words.{count_of, offer_of, is_word_for, IsJoinedInRange, IsOfferInRange}
+use Rattle.std.specs.Prelude.{◌≡◌, ◌≢◌, ◌⊎◌, ℕ, ◌+◌, ◌-◌, ◌*◌, ◌<◌, ◌≤◌, max, unwrap_or, true, false, Some, None, Option, List, [], ◌∷◌, ◌==◌, ◌&&◌, nat_lt, if◌then◌else◌, length, slice_get}
+use Rattle.words.specs.Words.{count_of, head_of, offer_of, is_word_for, IsJoinedInRange, IsOfferInRange}
+use Rattle.words.specs.declared.Direction.{Direction}
+use Rattle.words.specs.declared.Direction.TheVariants as direction
+use Rattle.words.specs.declared.Head.{Head}
 use Rattle.words.specs.declared.Base.{Base}
 use Rattle.words.specs.declared.Base.TheVariants.{Send, Recv, Always, OnNack, Never}
 use Rattle.words.specs.declared.Message.{Message}
@@ -96,13 +99,35 @@ AreOffers offers = (length offers ≤ 8) × ((n : ℕ) (offer : Offer) → slice
 abbrev pub IsPlaceOf : ℕ → ℕ → Type 0
 IsPlaceOf n p = (2 + 4 * n ≤ p) × (p < 6 + 4 * n)
 
--- these words have offer n of the row
-abbrev pub HaveOffer : List (Row × ℕ × ℕ) → Row → ℕ → Offer → Type 0
-HaveOffer words r n offer =
-    (count : ℕ) × (a : ℕ) × (b : ℕ) × (c : ℕ) × (d : ℕ)
-    × Has words (r, 1, count) × (n < unwrap_or (count_of count) 0)
-    × Has words (r, 2 + 4 * n, a) × Has words (r, 3 + 4 * n, b) × Has words (r, 4 + 4 * n, c) × Has words (r, 5 + 4 * n, d)
-    × (offer_of a b c d ≡ Some offer)
+-- how many atoms stand behind the head of an offer
+abbrev pub atoms_told : Direction → ℕ
+atoms_told (direction.Send chan atoms) = atoms
+atoms_told (direction.Recv chan) = 0
+atoms_told (direction.Always atoms) = atoms
+atoms_told (direction.OnNack n) = 0
+atoms_told direction.Never = 0
+
+abbrev pub atoms_in : Option Head → ℕ
+atoms_in None = 0
+atoms_in (Some h) = atoms_told h.direction
+
+abbrev pub atoms_behind : ℕ → ℕ
+atoms_behind head = atoms_in (head_of head)
+
+-- These words have offer n of the row: its head, and as many atoms as the head says. The words past them are not asked for.
+pub record HaveOffer (words : List (Row × ℕ × ℕ)) (r : Row) (n : ℕ) (offer : Offer) : Type 0 where
+  pub count : ℕ
+  pub counted : Has words (r, 1, count)
+  pub below : n < unwrap_or (count_of count) 0
+  pub head : ℕ
+  pub has_head : Has words (r, 2 + 4 * n, head)
+  pub first : ℕ
+  pub has_first : 1 ≤ atoms_behind head → Has words (r, 3 + 4 * n, first)
+  pub second : ℕ
+  pub has_second : 2 ≤ atoms_behind head → Has words (r, 4 + 4 * n, second)
+  pub third : ℕ
+  pub has_third : 3 ≤ atoms_behind head → Has words (r, 5 + 4 * n, third)
+  pub is : offer_of head first second third ≡ Some offer
 
 -- these words say that the row has no offer n
 abbrev pub LackOffer : List (Row × ℕ × ℕ) → Row → ℕ → Type 0

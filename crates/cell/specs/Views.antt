@@ -1,8 +1,10 @@
 -- What the rule knows of a pass, and when it is true of the table.
-use Rattle.std.specs.Prelude.{◌≡◌, ℕ, ◌%◌, ◌<◌, ◌≤◌, true, false, Option, Some, None}
+use Rattle.std.specs.Prelude.{◌≡◌, ℕ, ◌%◌, ◌<◌, ◌≤◌, ◌∷◌, true, false, Option, Some, None, List}
 use Rattle.words.specs.declared.NackName.{NackName}
 use Rattle.words.specs.declared.Binding.{Binding}
 use Rattle.words.specs.declared.Row.{Row}
+use Rattle.words.specs.declared.Step.{Step}
+use Rattle.words.specs.declared.Step.TheVariants.{Bind, Draft}
 use Rattle.words.specs.declared.Joined.{Joined}
 use Rattle.words.specs.declared.Cell.{Cell}
 use Rattle.words.specs.declared.Cell.TheVariants.{Fresh, Claimed, Taken}
@@ -58,7 +60,15 @@ pub record Knows (w : World) (owner : Row → ℕ) (id : ℕ) (v : View) : Type 
 
 -- the call stands here now, and has seen this
 abbrev pub at_stage : Stage → Seen → View → View
-at_stage stage seen v = record { threads = v.threads; rows = v.rows; passes = v.passes; dealt = v.dealt; seat = v.seat; stage = stage; seen = seen }
+at_stage stage seen v = record { threads = v.threads; rows = v.rows; passes = v.passes; dealt = v.dealt; seat = v.seat; stage = stage; seen = seen; made = v.made }
+
+-- and has made these steps
+abbrev pub worked : Stage → Seen → List Step → View → View
+worked stage seen made v = record { threads = v.threads; rows = v.rows; passes = v.passes; dealt = v.dealt; seat = v.seat; stage = stage; seen = seen; made = made }
+
+-- the pass has made this step of the protocol
+abbrev pub did : Step → View → View
+did step v = record { threads = v.threads; rows = v.rows; passes = v.passes; dealt = v.dealt; seat = v.seat; stage = v.stage; seen = v.seen; made = step ∷ v.made }
 
 -- the call stands here now, and the row is open
 abbrev pub turned : Stage → Row → View → View
@@ -76,6 +86,14 @@ read_word r p x v = at_stage v.stage (see_word r p x v.seen) v
 
 abbrev pub drafted_word : Row → ℕ → ℕ → View → View
 drafted_word r p x v = at_stage v.stage (see_draft r p x v.seen) v
+
+-- and the step that it takes
+abbrev pub word_drafted : Row → ℕ → ℕ → View → View
+word_drafted r p x v = did (Draft r p x) (drafted_word r p x v)
+
+-- the step that binds the nack so
+abbrev pub bind_of : NackName → Binding → Step
+bind_of n b = Bind n.k (bound_row n b) b.scope
 
 -- the nack is bound so
 abbrev pub bound_nack : NackName → Binding → View → View

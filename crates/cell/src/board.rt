@@ -41,6 +41,15 @@ impl Play<u64, View> for Look {
     ghost then = { λ st m n w. looked st m n w };
 }
 
+/// A word is read, and nothing is learnt by it.
+pub struct Glance;
+
+impl Play<u64, View> for Glance {
+    ghost use Rattle.cell.specs.Told.{glanced};
+
+    ghost then = { λ st m n w. glanced st m n w };
+}
+
 /// A word of an opened row is read.
 pub struct Read;
 
@@ -59,13 +68,22 @@ impl Play<u64, View> for Draft {
     ghost then = { λ st m n w. drafted st m n w };
 }
 
-/// A row is Waiting: a held Fresh row is opened, or a claimed one given up.
-pub struct Wait;
+/// A held Fresh row is opened.
+pub struct Open;
 
-impl Play<u64, View> for Wait {
-    ghost use Rattle.cell.specs.Told.{waits};
+impl Play<u64, View> for Open {
+    ghost use Rattle.cell.specs.Told.{opened};
 
-    ghost then = { λ st m n w. waits st m n w };
+    ghost then = { λ st m n w. opened st m n w };
+}
+
+/// A claimed row is given up: it is Waiting again.
+pub struct GiveUp;
+
+impl Play<u64, View> for GiveUp {
+    ghost use Rattle.cell.specs.Told.{yielded};
+
+    ghost then = { λ st m n w. yielded st m n w };
 }
 
 /// A held row is claimed, where it is Waiting.

@@ -1,23 +1,37 @@
 //! The shared table and its passes, as callers use them.
 
-ghost use Rattle.std.specs.Prelude.{◌≡◌, ◌≢◌, ◌⊎◌, ◌+◌, ◌<◌, ◌≤◌, ℕ, List, None, Some, true, IfOk, IfSome, IfNone, SomeIff, IsTrue, ◌↔◌, length, slice_get};
+ghost use Rattle.std.specs.Prelude.{◌≡◌, ◌≢◌, ◌⊎◌, ◌+◌, ◌<◌, ◌≤◌, ◌∷◌, [], ℕ, List, None, Some, true, IfOk, IfSome, IfNone, SomeIff, IsTrue, ◌↔◌, length, slice_get};
 ghost use Rattle.words.specs.declared.Joined.{Joined};
 ghost use Rattle.words.specs.declared.Message.{Message};
 ghost use Rattle.words.specs.declared.Offer.{Offer};
 ghost use Rattle.words.specs.declared.Row.{Row};
 ghost use Rattle.words.specs.declared.Cell.TheVariants.{Claimed};
+ghost use Rattle.words.specs.declared.Step.TheVariants.{Open};
 ghost use Rattle.words.specs.declared.NackName.{NackName};
 ghost use Rattle.words.specs.declared.Binding.{Binding};
 ghost use Rattle.protocol.specs.Ledgers.{IsLawful, binding_in, joined_in, offer_in};
 ghost use Rattle.protocol.specs.Worlds.{nack_of_row};
-ghost use Rattle.cell.specs.Attempts.{Attempted, Bound, Granted, IsNackOf as IsNackOfOffer, IsNear, IsNearGrant, Took};
+ghost use Rattle.cell.specs.Attempts.{
+  Attempted,
+  Bound,
+  Fits,
+  Granted,
+  IsNackOf as IsNackOfOffer,
+  IsNear,
+  IsNearGrant,
+  OnlyDrafts,
+  Took,
+  attempt_made,
+  bind_made,
+  grant_made,
+  take_made,
+};
 ghost use Rattle.cell.specs.Calls.{IsNackOf, IsPassOf, IsRowOf, PassView};
 ghost use Rattle.cell.specs.Nacks.{IsSeenBound};
 ghost use Rattle.cell.specs.Flags.{AreFlags};
 ghost use Rattle.cell.specs.Rule.{dealt_rows, heard, seen_nothing, told_of};
 ghost use Rattle.cell.specs.Sight.{
   AreOffers,
-  Coherent,
   Has,
   HaveOffer,
   IsDraft,
@@ -79,7 +93,7 @@ impl Model for Pass {
 
     ghost Value = { PassView };
 
-    ghost view = { λ p. record { of = record { id = p.seat.table_id; threads = p.seat.me.0.threads; rows = p.seat.me.0.rows; passes = p.seat.me.0.passes }; seen = p.seat.me.0.seen } };
+    ghost view = { λ p. record { of = record { id = p.seat.table_id; threads = p.seat.me.0.threads; rows = p.seat.me.0.rows; passes = p.seat.me.0.passes }; seen = p.seat.me.0.seen; made = p.seat.me.0.made } };
 
     ghost invariant = { λ p. (p.seat.me.0.stage ≡ Resting) × (p.seat.me.0.threads ≡ p.rows.threads) × (p.seat.me.0.rows ≡ p.rows.rows) × AreFlags p.rows.threads p.rows.rows p.rows.flags.items p.seat.me.0.seen.held };
 }
@@ -106,7 +120,7 @@ impl Cells {
         requires rows { (1 ≤ rows) × (rows ≤ 1024) }
         requires passes { (1 ≤ passes) × (passes ≤ 16) }
         ensures size { IfOk result (λ t. (t.0.threads ≡ threads) × (t.0.rows ≡ rows) × (t.0.passes ≡ passes) × (length t.1.items ≡ passes)) }
-        ensures passes { IfOk result (λ t. (number : ℕ) (pass : PassView) → slice_get t.1.items number ≡ Some pass → IsPassOf t.0 pass × (pass.seen ≡ seen_nothing (dealt_rows threads passes number))) }
+        ensures passes { IfOk result (λ t. (number : ℕ) (pass : PassView) → slice_get t.1.items number ≡ Some pass → IsPassOf t.0 pass × (pass.seen ≡ seen_nothing (dealt_rows threads passes number)) × (pass.made ≡ [])) }
     {
         let shape = Shape {
             threads: u64::from(threads),
@@ -139,6 +153,7 @@ impl Cells {
         requires fresh { Has pass.old.seen.held row × (¬ Has pass.old.seen.opened row) }
         ensures here { IsPassOf self.now pass.new }
         ensures opened { pass.new.seen ≡ see_opened row pass.old.seen }
+        ensures made { pass.new.made ≡ Open row ∷ pass.old.made }
     {
         self.board.open(&mut pass.seat, row);
     }
@@ -150,7 +165,7 @@ impl Cells {
         ensures saw { pass.new.seen ≡ see_cell row result pass.old.seen }
         ensures expected { IsExpected pass.old.seen row result }
         ensures unclaimed { Has pass.old.seen.held row → result ≢ Claimed }
-        ensures coherent { Coherent self.now.threads self.now.rows pass.new.seen }
+        ensures made { pass.new.made ≡ pass.old.made }
     {
         self.board.look(&mut pass.seat, row)
     }
@@ -160,10 +175,10 @@ impl Cells {
         requires here { IsPassOf self.now pass.old × IsRowOf self.now row }
         ensures here { IsPassOf self.now pass.new }
         ensures learns { Learns (λ q. q ≡ row) pass.old.seen pass.new.seen }
-        ensures coherent { Coherent self.now.threads self.now.rows pass.new.seen }
         ensures some { IfSome result (λ o. Has pass.new.seen.opened row × HaveOffer pass.new.seen.words row n o) }
         ensures none { IfNone result (IsKnownOpen pass.old.seen row → LackOffer pass.new.seen.words row n) }
-        ensures same { (o : Offer) → SeesOffer pass.old.seen row n o → result ≡ Some o }
+        ensures same { (o : Offer) → SeesOffer pass.new.seen row n o → result ≡ Some o }
+        ensures made { pass.new.made ≡ pass.old.made }
         ensures unopened { Has pass.old.seen.held row → ¬ Has pass.old.seen.opened row → (result ≡ None) × (pass.new.seen ≡ pass.old.seen) }
     {
         self.board.offer(&mut pass.seat, row, n)
@@ -177,6 +192,7 @@ impl Cells {
         ensures some { IfSome result (IsResult pass.new.seen row) }
         ensures none { IfNone result (¬ SawCommitted pass.old.seen row) }
         ensures same { (got : Message) → IsResult pass.old.seen row got → result ≡ Some got }
+        ensures made { pass.new.made ≡ pass.old.made }
         ensures unopened { Has pass.old.seen.held row → ¬ Has pass.old.seen.opened row → (result ≡ None) × (pass.new.seen ≡ pass.old.seen) }
     {
         self.board.result(&mut pass.seat, row)
@@ -197,7 +213,9 @@ impl Cells {
         requires opened { Has pass.old.seen.held mine × Has pass.old.seen.opened mine }
         ensures here { IsPassOf self.now pass.new }
         ensures learns { Learns (IsNear mine other) pass.old.seen pass.new.seen }
+        ensures fits { Fits pass.new.seen mine own other partner result }
         ensures attempted { Attempted pass.old.seen pass.new.seen mine own other partner result }
+        ensures made { pass.new.made ≡ attempt_made mine own other partner result pass.old.made }
     {
         self.board
             .attempt(&mut pass.seat, gate, (mine, own), (other, partner))
@@ -212,6 +230,7 @@ impl Cells {
         ensures here { IsPassOf self.now pass.new }
         ensures learns { LearnsOf (λ q. ⊥) (λ n. n ≡ nack_of_row row k) pass.old.seen pass.new.seen }
         ensures bound { Bound pass.old.seen pass.new.seen k row scope result }
+        ensures made { pass.new.made ≡ bind_made k row scope result pass.old.made }
     {
         self.board.bind(&mut pass.seat, k, row, scope)
     }
@@ -224,7 +243,8 @@ impl Cells {
         ensures learns { LearnsOf (λ q. ⊥) (λ n. n ≡ nack) pass.old.seen pass.new.seen }
         ensures some { IfSome result (λ p. IsSeenBound pass.new.seen nack p.0 p.1 × IsRowOf self.now p.0 × (p.1 < 4)) }
         ensures there { IfSome result (λ p. IsNackOf self.now nack) }
-        ensures same { IsNackOf self.now nack → (r : Row) (scope : ℕ) → IsSeenBound pass.old.seen nack r scope → result ≡ Some (r, scope) }
+        ensures same { (r : Row) (scope : ℕ) → IsSeenBound pass.old.seen nack r scope → result ≡ Some (r, scope) }
+        ensures made { pass.new.made ≡ pass.old.made }
     {
         let bound = self.board.bound(&mut pass.seat, nack)?;
         let row = Row {
@@ -241,6 +261,7 @@ impl Cells {
         ensures here { IsPassOf self.now pass.new }
         ensures learns { LearnsOf (IsNearGrant pass.new.seen row n) (IsNackOfOffer pass.new.seen row n) pass.old.seen pass.new.seen }
         ensures granted { Granted pass.old.seen pass.new.seen row n result }
+        ensures made { pass.new.made ≡ grant_made row n result pass.old.made }
     {
         self.board.grant(&mut pass.seat, row, n)
     }
@@ -252,6 +273,7 @@ impl Cells {
         ensures here { IsPassOf self.now pass.new }
         ensures some { IfSome result (Took self.now.rows pass.old.seen pass.new.seen row) }
         ensures none { IfNone result (Learns (λ q. q ≡ row) pass.old.seen pass.new.seen × (SawCommitted pass.old.seen row → Has pass.new.seen.taken row)) }
+        ensures made { pass.new.made ≡ take_made row result pass.old.made }
     {
         let Pass { seat, rows } = pass;
         let joined = self.board.take(seat, row)?;
@@ -274,6 +296,7 @@ impl Cells {
         ensures here { IsPassOf self.now pass.new }
         ensures others { Redrafts (λ q p. q ≡ row) pass.old.seen pass.new.seen }
         ensures drafted { IsDraft pass.new.seen row offers.now }
+        ensures made { OnlyDrafts row pass.old.made pass.new.made }
     {
         self.board.draft_offers(&mut pass.seat, row, offers);
     }
@@ -283,6 +306,7 @@ impl Cells {
         requires here { IsPassOf self.now from.old × IsPassOf self.now to.old }
         ensures here { IsPassOf self.now from.new × IsPassOf self.now to.new }
         ensures kept { from.new.seen ≡ from.old.seen }
+        ensures made { (from.new.made ≡ from.old.made) × (to.new.made ≡ to.old.made) }
         ensures told { to.new.seen ≡ heard to.old.seen (told_of from.old.seen) }
         ensures offers { (r : Row) (n : ℕ) (o : Offer) → SeesOffer from.old.seen r n o → SeesOffer to.new.seen r n o }
         ensures lacks { (r : Row) (n : ℕ) → SeesNoOffer from.old.seen r n → SeesNoOffer to.new.seen r n }

@@ -3,9 +3,10 @@
 ghost use Rattle.std.specs.Prelude.{◌≡◌, ◌+◌, ◌*◌, ◌<◌, ◌≤◌, ℕ, Some, length, slice_get};
 ghost use Rattle.words.specs.Words.{IsOfferInRange, offer_of};
 ghost use Rattle.words.specs.declared.Offer.{Offer};
+ghost use Rattle.cell.specs.Attempts.{OnlyDrafts};
 ghost use Rattle.cell.specs.Seats.{Sits, HasRow};
 ghost use Rattle.cell.specs.Sight.{AreOffers, Has, IsDraft, IsPlaceOf, Redrafts};
-ghost use Rattle.cell.specs.Views.{at_stage};
+ghost use Rattle.cell.specs.Views.{worked};
 
 use crate::board::Board;
 use crate::view::View;
@@ -20,7 +21,8 @@ impl Board {
         requires held { Has seat.old.me.0.seen.held row × (¬ Has seat.old.me.0.seen.opened row) }
         requires offers { AreOffers offers.now }
         ensures sits { (seat.new.id ≡ seat.old.id) × Sits self.now seat.new }
-        ensures stays { seat.new.me.0 ≡ at_stage seat.old.me.0.stage seat.new.me.0.seen seat.old.me.0 }
+        ensures stays { seat.new.me.0 ≡ worked seat.old.me.0.stage seat.new.me.0.seen seat.new.me.0.made seat.old.me.0 }
+        ensures made { OnlyDrafts row seat.old.me.0.made seat.new.me.0.made }
         ensures others { Redrafts (λ q p. q ≡ row) seat.old.me.0.seen seat.new.me.0.seen }
         ensures drafted { IsDraft seat.new.me.0.seen row offers.now }
     {
@@ -36,7 +38,8 @@ impl Board {
         requires held { Has seat.old.me.0.seen.held row × (¬ Has seat.old.me.0.seen.opened row) }
         requires offer { (n < 8) × IsOfferInRange offer }
         ensures sits { (seat.new.id ≡ seat.old.id) × Sits self.now seat.new }
-        ensures stays { seat.new.me.0 ≡ at_stage seat.old.me.0.stage seat.new.me.0.seen seat.old.me.0 }
+        ensures stays { seat.new.me.0 ≡ worked seat.old.me.0.stage seat.new.me.0.seen seat.new.me.0.made seat.old.me.0 }
+        ensures made { OnlyDrafts row seat.old.me.0.made seat.new.me.0.made }
         ensures others { Redrafts (λ q p. (q ≡ row) × IsPlaceOf n p) seat.old.me.0.seen seat.new.me.0.seen }
         ensures drafted { (a b c d : ℕ) × Has seat.new.me.0.seen.drafts (row, 2 + 4 * n, a) × Has seat.new.me.0.seen.drafts (row, 3 + 4 * n, b) × Has seat.new.me.0.seen.drafts (row, 4 + 4 * n, c) × Has seat.new.me.0.seen.drafts (row, 5 + 4 * n, d) × (offer_of a b c d ≡ Some offer) }
     {

@@ -2,10 +2,10 @@
 
 ghost use Rattle.std.specs.Prelude.{◌≡◌};
 ghost use Rattle.cell.specs.declared.view.Stage.TheVariants.{Resting};
-ghost use Rattle.cell.specs.Attempts.{Granted, IsNackOf, IsNearGrant};
+ghost use Rattle.cell.specs.Attempts.{Granted, IsNackOf, IsNearGrant, grant_made};
 ghost use Rattle.cell.specs.Seats.{Sits, HasRow};
 ghost use Rattle.cell.specs.Sight.{LearnsOf};
-ghost use Rattle.cell.specs.Views.{at_stage};
+ghost use Rattle.cell.specs.Views.{worked};
 
 use crate::board::Board;
 use crate::view::View;
@@ -30,7 +30,7 @@ impl Board {
         requires sits { Sits self.now seat.old × HasRow self.now row }
         requires resting { seat.old.me.0.stage ≡ Resting }
         ensures sits { (seat.new.id ≡ seat.old.id) × Sits self.now seat.new }
-        ensures stays { seat.new.me.0 ≡ at_stage Resting seat.new.me.0.seen seat.old.me.0 }
+        ensures stays { seat.new.me.0 ≡ worked Resting seat.new.me.0.seen (grant_made row n result seat.old.me.0.made) seat.old.me.0 }
         ensures learns { LearnsOf (IsNearGrant seat.new.me.0.seen row n) (IsNackOf seat.new.me.0.seen row n) seat.old.me.0.seen seat.new.me.0.seen }
         ensures granted { Granted seat.old.me.0.seen seat.new.me.0.seen row n result }
     {

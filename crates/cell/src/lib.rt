@@ -5,17 +5,22 @@
 //! `steps` makes one atomic step; that the rule admits it is proved where it is called.
 #![tactic(auto)]
 
-ghost use Rattle.std.specs.Prelude.{◌≡◌, ℕ, List};
+ghost use Rattle.std.specs.Prelude.{◌≡◌, ℕ, List, [], None, true};
+ghost use mathlib.Core.Option.{some};
+ghost use lib.ListN.{get_elem?};
 ghost use Rattle.atomic_table.specs.Table.{State};
 ghost use Rattle.words.specs.declared.Row.{Row};
-ghost use Rattle.words.specs.declared.Seat.{Seat};
-ghost use Rattle.words.specs.declared.Step.{Step};
+ghost use Rattle.words.specs.declared.NackName.{NackName};
+ghost use Rattle.words.specs.declared.Cell.TheVariants.{Fresh};
+ghost use Rattle.words.specs.declared.Step.TheVariants.{Take};
+ghost use Rattle.protocol.specs.Tables.{binding_at, cell_at, joined_at, names};
 ghost use Rattle.protocol.specs.Ledgers.{ledger_of, IsLawful};
 ghost use Rattle.protocol.specs.Worlds.{Plays, start_world, World};
 ghost use Rattle.cell.specs.declared.view.Shape.{Shape};
 ghost use Rattle.cell.specs.declared.view.View.{View};
-ghost use Rattle.cell.specs.Rule.{IsAt, Keeps};
+ghost use Rattle.cell.specs.Rule.{Interleaves, IsAt, Keeps, Move, in_order, table_of};
 ghost use Rattle.cell.specs.Sight.{Has};
+ghost use Rattle.cell.specs.Views.{Knows};
 
 mod attempt;
 mod board;
@@ -37,11 +42,21 @@ pub use crate::cells::{Cells, Pass};
 pub use crate::granting::Grant;
 pub use crate::view::Seen;
 
-/// The rule holds between any two atomic steps of any callers' threads. So then the ledger of the
-/// words is lawful, the words are what a list of the protocol's steps has made of the table's start,
-/// and no row is held by two passes.
+/// The rule holds between any two atomic steps of any callers' threads. So at each moment:
+///
+/// - the ledger of the words is lawful;
+/// - the words are what the passes' own steps, interleaved, have made of the table's start by the
+///   rules of the protocol, and nobody has made any other step;
+/// - what each pass has seen is true of that one world;
+/// - no row is held by two passes, and none was taken by two;
+/// - a pending row is named by one row;
+/// - where no pass has made a step, every row is Fresh and no nack is bound.
 pub fn every_moment_is_lawful()
-    ensures lawful { (shape : Shape) (s : State ℕ View) → Keeps shape s → IsLawful (ledger_of (record { threads = shape.threads; rows = shape.rows; words = s.words })) }
-    ensures played { (shape : Shape) (s : State ℕ View) → Keeps shape s → (steps : List (Seat × Step)) × (world : World) × Plays (start_world shape.threads shape.rows shape.passes) steps world × (world.table ≡ record { threads = shape.threads; rows = shape.rows; words = s.words }) }
+    ensures lawful { (shape : Shape) (s : State ℕ View) → Keeps shape s → IsLawful (ledger_of (table_of shape s)) }
+    ensures played { (shape : Shape) (s : State ℕ View) → Keeps shape s → (moves : List Move) × (world : World) × Plays (start_world shape.threads shape.rows shape.passes) (in_order moves) world × (world.table ≡ table_of shape s) × Interleaves moves s.views }
+    ensures known { (shape : Shape) (s : State ℕ View) → Keeps shape s → (world : World) × (owner : Row → ℕ) × (world.table ≡ table_of shape s) × ((id : ℕ) (v : View) → IsAt s id v → Knows world owner id v) }
     ensures one_holder { (shape : Shape) (s : State ℕ View) (i j : ℕ) (u v : View) (r : Row) → Keeps shape s → IsAt s i u → IsAt s j v → Has u.seen.held r → Has v.seen.held r → i ≡ j }
+    ensures one_taker { (shape : Shape) (s : State ℕ View) (i j : ℕ) (u v : View) (r : Row) → Keeps shape s → IsAt s i u → IsAt s j v → Has u.made (Take r) → Has v.made (Take r) → i ≡ j }
+    ensures named_once { (shape : Shape) (s : State ℕ View) (q r p : Row) → Keeps shape s → names (joined_at (table_of shape s) q) p ≡ true → names (joined_at (table_of shape s) r) p ≡ true → q ≡ r }
+    ensures untouched { (shape : Shape) (s : State ℕ View) → Keeps shape s → ((i : ℕ) (v : View) → get_elem? s.views i ≡ some v → v.made ≡ []) → ((r : Row) → cell_at (table_of shape s) r ≡ Fresh) × ((n : NackName) → binding_at (table_of shape s) n ≡ None) }
 {}

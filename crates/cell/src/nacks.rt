@@ -7,11 +7,11 @@ ghost use Rattle.words.specs.declared.Joined.{Joined};
 ghost use Rattle.words.specs.declared.NackName.{NackName};
 ghost use Rattle.protocol.specs.Tables.{bound_row};
 ghost use Rattle.protocol.specs.Worlds.{nack_of_row};
-ghost use Rattle.cell.specs.Attempts.{Bound};
+ghost use Rattle.cell.specs.Attempts.{Bound, bind_made};
 ghost use Rattle.cell.specs.Nacks.{IsBoundRow, SawCause, SawEnabled};
 ghost use Rattle.cell.specs.Seats.{HasNack, HasRow, Sits};
-ghost use Rattle.cell.specs.Sight.{Coherent, Has, Learns, LearnsOf};
-ghost use Rattle.cell.specs.Views.{at_stage};
+ghost use Rattle.cell.specs.Sight.{Has, Learns, LearnsOf};
+ghost use Rattle.cell.specs.Views.{at_stage, worked};
 
 use crate::board::Board;
 use crate::view::View;
@@ -27,8 +27,7 @@ impl Board {
         ensures learns { LearnsOf (λ q. ⊥) (λ n. n ≡ nack) seat.old.me.0.seen seat.new.me.0.seen }
         ensures some { IfSome result (λ b. Has seat.new.me.0.seen.bound (nack, b)) }
         ensures there { IfSome result (λ b. HasNack self.now nack × HasRow self.now (bound_row nack b) × (b.scope < 4)) }
-        ensures same { HasNack self.now nack → (b : Binding) → Has seat.old.me.0.seen.bound (nack, b) → result ≡ Some b }
-        ensures coherent { Coherent self.now.shape.threads self.now.shape.rows seat.old.me.0.seen → Coherent self.now.shape.threads self.now.shape.rows seat.new.me.0.seen }
+        ensures same { (b : Binding) → Has seat.old.me.0.seen.bound (nack, b) → result ≡ Some b }
     {
         if u64::from(nack.thread) >= self.shape.threads || nack.k >= 64 {
             return None;
@@ -44,7 +43,7 @@ impl Board {
         requires held { Has seat.old.me.0.seen.held row × (¬ Has seat.old.me.0.seen.opened row) }
         requires range { (k < 64) × (scope < 4) }
         ensures sits { (seat.new.id ≡ seat.old.id) × Sits self.now seat.new }
-        ensures stays { seat.new.me.0 ≡ at_stage seat.old.me.0.stage seat.new.me.0.seen seat.old.me.0 }
+        ensures stays { seat.new.me.0 ≡ worked seat.old.me.0.stage seat.new.me.0.seen (bind_made k row scope result seat.old.me.0.made) seat.old.me.0 }
         ensures learns { LearnsOf (λ q. ⊥) (λ n. n ≡ nack_of_row row k) seat.old.me.0.seen seat.new.me.0.seen }
         ensures bound { Bound seat.old.me.0.seen seat.new.me.0.seen k row scope result }
     {
@@ -66,11 +65,9 @@ impl Board {
     /// is enabled that of the row which enabled it.
     pub(crate) fn cause(&self, seat: &mut Seat<u64, View>, base: Base) -> Option<u32>
         requires sits { Sits self.now seat.old }
-        requires coherent { Coherent self.now.shape.threads self.now.shape.rows seat.old.me.0.seen }
         ensures sits { (seat.new.id ≡ seat.old.id) × Sits self.now seat.new }
         ensures stays { seat.new.me.0 ≡ at_stage seat.old.me.0.stage seat.new.me.0.seen seat.old.me.0 }
         ensures learns { LearnsOf (IsBoundRow seat.new.me.0.seen base) (λ n. base ≡ OnNack n) seat.old.me.0.seen seat.new.me.0.seen }
-        ensures coherent { Coherent self.now.shape.threads self.now.shape.rows seat.new.me.0.seen }
         ensures some { IfSome result (λ stamp. SawCause seat.new.me.0.seen base stamp × (stamp ≤ 65536)) }
         ensures none { IfNone result ((stamp : ℕ) → ¬ SawCause seat.old.me.0.seen base stamp) }
     {
@@ -88,11 +85,9 @@ impl Board {
     /// outside the nack's scope.
     fn enabled_by(&self, seat: &mut Seat<u64, View>, nack: NackName) -> Option<Joined>
         requires sits { Sits self.now seat.old }
-        requires coherent { Coherent self.now.shape.threads self.now.shape.rows seat.old.me.0.seen }
         ensures sits { (seat.new.id ≡ seat.old.id) × Sits self.now seat.new }
         ensures stays { seat.new.me.0 ≡ at_stage seat.old.me.0.stage seat.new.me.0.seen seat.old.me.0 }
         ensures learns { LearnsOf (λ q. (b : Binding) × Has seat.new.me.0.seen.bound (nack, b) × (q ≡ bound_row nack b)) (λ n. n ≡ nack) seat.old.me.0.seen seat.new.me.0.seen }
-        ensures coherent { Coherent self.now.shape.threads self.now.shape.rows seat.new.me.0.seen }
         ensures some { IfSome result (SawEnabled seat.new.me.0.seen nack) }
         ensures none { IfNone result ((j : Joined) → ¬ SawEnabled seat.old.me.0.seen nack j) }
     {
@@ -115,7 +110,6 @@ impl Board {
         ensures sits { (seat.new.id ≡ seat.old.id) × Sits self.now seat.new }
         ensures stays { seat.new.me.0 ≡ at_stage seat.old.me.0.stage seat.new.me.0.seen seat.old.me.0 }
         ensures learns { Learns (λ q. q ≡ row) seat.old.me.0.seen seat.new.me.0.seen }
-        ensures coherent { Coherent self.now.shape.threads self.now.shape.rows seat.new.me.0.seen }
         ensures some { IfSome result (λ j. Has seat.new.me.0.seen.joined (row, j)) }
         ensures same { (j : Joined) → Has seat.old.me.0.seen.joined (row, j) → result ≡ Some j }
     {

@@ -7,7 +7,7 @@ ghost use Rattle.words.specs.declared.Offer.{Offer};
 ghost use Rattle.words.specs.declared.Row.{Row};
 ghost use Rattle.protocol.specs.Tables.{names};
 ghost use Rattle.cell.specs.Seats.{Sits, HasRow};
-ghost use Rattle.cell.specs.Sight.{Has, HaveOffer, HasSeenLast, IsBefore, IsKnownOpen, IsPartnerOf, IsResult, LackOffer, SawCommitted, SeesOffer, Learns, Coherent};
+ghost use Rattle.cell.specs.Sight.{Has, HaveOffer, HasSeenLast, IsBefore, IsKnownOpen, IsPartnerOf, IsResult, LackOffer, SawCommitted, SeesOffer, Learns};
 ghost use Rattle.cell.specs.Views.{at_stage};
 
 use crate::board::Board;
@@ -22,10 +22,9 @@ impl Board {
         ensures sits { (seat.new.id ≡ seat.old.id) × Sits self.now seat.new }
         ensures stays { seat.new.me.0 ≡ at_stage seat.old.me.0.stage seat.new.me.0.seen seat.old.me.0 }
         ensures learns { Learns (λ q. q ≡ row) seat.old.me.0.seen seat.new.me.0.seen }
-        ensures coherent { Coherent self.now.shape.threads self.now.shape.rows seat.new.me.0.seen }
         ensures some { IfSome result (λ o. Has seat.new.me.0.seen.opened row × HaveOffer seat.new.me.0.seen.words row n o) }
         ensures none { IfNone result (IsKnownOpen seat.old.me.0.seen row → LackOffer seat.new.me.0.seen.words row n) }
-        ensures same { (o : Offer) → SeesOffer seat.old.me.0.seen row n o → result ≡ Some o }
+        ensures same { (o : Offer) → SeesOffer seat.new.me.0.seen row n o → result ≡ Some o }
         ensures unopened { Has seat.old.me.0.seen.held row → ¬ Has seat.old.me.0.seen.opened row → (result ≡ None) × (seat.new.me.0.seen ≡ seat.old.me.0.seen) }
     {
         if self.look(seat, row) == Cell::Fresh {
@@ -47,11 +46,9 @@ impl Board {
     pub(crate) fn last_stamp(&self, seat: &mut Seat<u64, View>, row: Row) -> u32
         requires sits { Sits self.now seat.old × HasRow self.now row }
         requires opened { Has seat.old.me.0.seen.opened row }
-        requires coherent { Coherent self.now.shape.threads self.now.shape.rows seat.old.me.0.seen }
         ensures sits { (seat.new.id ≡ seat.old.id) × Sits self.now seat.new }
         ensures stays { seat.new.me.0 ≡ at_stage seat.old.me.0.stage seat.new.me.0.seen seat.old.me.0 }
         ensures learns { Learns (IsBefore row) seat.old.me.0.seen seat.new.me.0.seen }
-        ensures coherent { Coherent self.now.shape.threads self.now.shape.rows seat.new.me.0.seen }
         ensures last { HasSeenLast seat.new.me.0.seen row result }
         ensures small { result ≤ 65536 }
     {
@@ -92,7 +89,6 @@ impl Board {
         ensures sits { (seat.new.id ≡ seat.old.id) × Sits self.now seat.new }
         ensures stays { seat.new.me.0 ≡ at_stage seat.old.me.0.stage seat.new.me.0.seen seat.old.me.0 }
         ensures learns { Learns (λ q. (q ≡ row) ⊎ (names (Some joined) q ≡ true)) seat.old.me.0.seen seat.new.me.0.seen }
-        ensures coherent { Coherent self.now.shape.threads self.now.shape.rows seat.new.me.0.seen }
         ensures got { (got : Message) × (result ≡ Some got) × IsResult seat.new.me.0.seen row got }
     {
         match self.offer(seat, row, joined.own)?.base {
@@ -106,12 +102,10 @@ impl Board {
     fn received(&self, seat: &mut Seat<u64, View>, row: Row, joined: Joined) -> Option<Message>
         requires sits { Sits self.now seat.old × HasRow self.now row }
         requires committed { Has seat.old.me.0.seen.joined (row, joined) }
-        requires coherent { Coherent self.now.shape.threads self.now.shape.rows seat.old.me.0.seen }
         requires receives { (mine : Offer) × (chan : ℕ) × HaveOffer seat.old.me.0.seen.words row joined.own mine × (mine.base ≡ Recv chan) }
         ensures sits { (seat.new.id ≡ seat.old.id) × Sits self.now seat.new }
         ensures stays { seat.new.me.0 ≡ at_stage seat.old.me.0.stage seat.new.me.0.seen seat.old.me.0 }
         ensures learns { Learns (λ q. names (Some joined) q ≡ true) seat.old.me.0.seen seat.new.me.0.seen }
-        ensures coherent { Coherent self.now.shape.threads self.now.shape.rows seat.new.me.0.seen }
         ensures sent { (partner : Row × ℕ) × (chan : ℕ) × (theirs : Offer) × (got : Message) × (result ≡ Some got) × (joined.partner ≡ Some partner) × HaveOffer seat.new.me.0.seen.words partner.0 partner.1 theirs × (theirs.base ≡ Send chan got) }
     {
         let _ = row;

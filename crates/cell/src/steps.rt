@@ -4,16 +4,26 @@ ghost use Rattle.std.specs.Prelude.{◌≡◌, ◌≢◌, ◌*◌, ◌+◌, ◌<
 ghost use Rattle.words.specs.Words.{is_word_for, IsBindingInRange, IsJoinedInRange};
 ghost use Rattle.words.specs.declared.Binding.{Binding};
 ghost use Rattle.words.specs.declared.Cell.TheVariants.{Waiting, Synched};
+ghost use Rattle.words.specs.declared.Step.TheVariants.{
+  Claim as ClaimStep,
+  Grant as GrantStep,
+  Open as OpenStep,
+  Seal as SealStep,
+  Take as TakeStep,
+  Yield as YieldStep,
+};
 ghost use Rattle.protocol.specs.Tables.{bound_row, thread_len, nack_place, place_of, next_row};
 ghost use Rattle.protocol.specs.Worlds.{mirrored};
 ghost use Rattle.cell.specs.declared.view.Stage.TheVariants.{Resting, Claims, Joins};
-ghost use Rattle.cell.specs.Told.{Agrees, AgreesNack, cell_read, joining, nack_read};
+ghost use Rattle.cell.specs.Told.{Agrees, AgreesNack, cell_read, joining, nack_read, settled};
 ghost use Rattle.cell.specs.Seats.{Sits, HasNack, HasRow};
 ghost use Rattle.cell.specs.Nacks.{CanGrant};
-ghost use Rattle.cell.specs.Sight.{Has, CanJoin, Coherent};
-ghost use Rattle.cell.specs.Views.{bound_nack, saw, saw_nack, took, read_word, drafted_word, turned};
+ghost use Rattle.cell.specs.Sight.{Has, CanJoin};
+ghost use Rattle.cell.specs.Views.{bind_of, bound_nack, did, saw, saw_nack, took, read_word, turned, word_drafted};
 
-use crate::board::{Bind, Board, Claim, Draft, Give, Join, Look, LookNack, Read, Seal, Take, Wait};
+use crate::board::{
+    Bind, Board, Claim, Draft, Give, GiveUp, Join, Look, LookNack, Open, Read, Seal, Take,
+};
 use crate::view::View;
 use atomic_table::Seat;
 use protocol::{
@@ -45,7 +55,6 @@ impl Board {
         ensures sits { (seat.new.id ≡ seat.old.id) × Sits self.now seat.new }
         ensures saw { seat.new.me.0 ≡ saw_nack nack result seat.old.me.0 }
         ensures agrees { AgreesNack seat.old.me.0 nack result }
-        ensures coherent { Coherent self.now.shape.threads self.now.shape.rows seat.new.me.0.seen }
     {
         nack_in(
             self.words
@@ -66,8 +75,8 @@ impl Board {
         requires held { Has seat.old.me.0.seen.held (bound_row nack bound) × (¬ Has seat.old.me.0.seen.opened (bound_row nack bound)) }
         requires range { IsBindingInRange bound }
         ensures sits { (seat.new.id ≡ seat.old.id) × Sits self.now seat.new }
-        ensures bound { IfOk result (λ _. (seat.new.me.0 ≡ bound_nack nack bound seat.old.me.0) × ((b : Binding) → ¬ Has seat.old.me.0.seen.bound (nack, b))) }
-        ensures found { IfErr result (λ b. (seat.new.me.0 ≡ bound_nack nack b seat.old.me.0) × (Has seat.old.me.0.seen.held (bound_row nack b) → Has seat.old.me.0.seen.bound (nack, b))) }
+        ensures bound { IfOk result (λ _. (seat.new.me.0 ≡ did (bind_of nack bound) (bound_nack nack bound seat.old.me.0)) × ((b : Binding) → ¬ Has seat.old.me.0.seen.bound (nack, b))) }
+        ensures found { IfErr result (λ b. (seat.new.me.0 ≡ bound_nack nack b seat.old.me.0) × (b.sync ≤ bound.sync) × (Has seat.old.me.0.seen.held (bound_row nack b) → Has seat.old.me.0.seen.bound (nack, b))) }
     {
         let free = pack_nack(None);
         let word = pack_nack(Some(bound));
@@ -87,7 +96,6 @@ impl Board {
         ensures sits { (seat.new.id ≡ seat.old.id) × Sits self.now seat.new }
         ensures saw { seat.new.me.0 ≡ saw row result seat.old.me.0 }
         ensures agrees { Agrees seat.old.me.0 row result }
-        ensures coherent { Coherent self.now.shape.threads self.now.shape.rows seat.new.me.0.seen }
     {
         cell_in(self.words.shared.load::<Look>(seat, self.place(row, 0)))
     }
@@ -98,7 +106,6 @@ impl Board {
         requires place { (1 ≤ place) × (place < 34) × Has seat.old.me.0.seen.opened row }
         ensures sits { (seat.new.id ≡ seat.old.id) × Sits self.now seat.new }
         ensures read { seat.new.me.0 ≡ read_word row place result seat.old.me.0 }
-        ensures coherent { Coherent self.now.shape.threads self.now.shape.rows seat.new.me.0.seen }
     {
         self.words.shared.load::<Read>(seat, self.place(row, place))
     }
@@ -109,7 +116,7 @@ impl Board {
         requires place { (1 ≤ place) × (place < 34) × (is_word_for place word ≡ true) }
         requires held { Has seat.old.me.0.seen.held row × (¬ Has seat.old.me.0.seen.opened row) }
         ensures sits { (seat.new.id ≡ seat.old.id) × Sits self.now seat.new }
-        ensures drafted { seat.new.me.0 ≡ drafted_word row place word seat.old.me.0 }
+        ensures drafted { seat.new.me.0 ≡ word_drafted row place word seat.old.me.0 }
     {
         self.words
             .shared
@@ -121,11 +128,11 @@ impl Board {
         requires sits { Sits self.now seat.old × HasRow self.now row }
         requires held { Has seat.old.me.0.seen.held row × (¬ Has seat.old.me.0.seen.opened row) × (seat.old.me.0.stage ≡ Resting) }
         ensures sits { (seat.new.id ≡ seat.old.id) × Sits self.now seat.new }
-        ensures opened { seat.new.me.0 ≡ turned Resting row seat.old.me.0 }
+        ensures opened { seat.new.me.0 ≡ did (OpenStep row) (turned Resting row seat.old.me.0) }
     {
         self.words
             .shared
-            .store::<Wait>(seat, self.place(row, 0), pack_cell(Cell::Waiting));
+            .store::<Open>(seat, self.place(row, 0), pack_cell(Cell::Waiting));
     }
 
     /// Claims a held row, where it is Waiting; else says what it is.
@@ -133,7 +140,7 @@ impl Board {
         requires sits { Sits self.now seat.old × HasRow self.now row }
         requires held { Has seat.old.me.0.seen.held row × (seat.old.me.0.stage ≡ Resting) }
         ensures sits { (seat.new.id ≡ seat.old.id) × Sits self.now seat.new }
-        ensures claimed { IfOk result (λ _. seat.new.me.0 ≡ turned (Claims row) row seat.old.me.0) }
+        ensures claimed { IfOk result (λ _. seat.new.me.0 ≡ did (ClaimStep row) (turned (Claims row) row seat.old.me.0)) }
         ensures found { IfErr result (λ cell. (cell ≢ Waiting) × (seat.new.me.0 ≡ saw row cell seat.old.me.0) × Agrees seat.old.me.0 row cell) }
     {
         let waiting = pack_cell(Cell::Waiting);
@@ -154,11 +161,11 @@ impl Board {
         requires sits { Sits self.now seat.old × HasRow self.now row }
         requires held { Has seat.old.me.0.seen.held row × (seat.old.me.0.stage ≡ Claims row) }
         ensures sits { (seat.new.id ≡ seat.old.id) × Sits self.now seat.new }
-        ensures waits { seat.new.me.0 ≡ turned Resting row seat.old.me.0 }
+        ensures waits { seat.new.me.0 ≡ did (YieldStep row) (turned Resting row seat.old.me.0) }
     {
         self.words
             .shared
-            .store::<Wait>(seat, self.place(row, 0), pack_cell(Cell::Waiting));
+            .store::<GiveUp>(seat, self.place(row, 0), pack_cell(Cell::Waiting));
     }
 
     /// Joins another row with the claimed one, where it is Waiting; else says what it is.
@@ -175,7 +182,7 @@ impl Board {
         requires held { Has seat.old.me.0.seen.held mine × (seat.old.me.0.stage ≡ Claims mine) }
         requires can { CanJoin seat.old.me.0.seen mine own row partner joined × IsJoinedInRange joined }
         ensures sits { (seat.new.id ≡ seat.old.id) × Sits self.now seat.new }
-        ensures joined { IfOk result (λ _. seat.new.me.0 ≡ joining mine row joined seat.old.me.0) }
+        ensures joined { IfOk result (λ _. seat.new.me.0 ≡ joining mine own row joined seat.old.me.0) }
         ensures found { IfErr result (λ cell. (cell ≢ Waiting) × (seat.new.me.0 ≡ saw row cell seat.old.me.0) × Agrees seat.old.me.0 row cell) }
     {
         let waiting = pack_cell(Cell::Waiting);
@@ -202,7 +209,7 @@ impl Board {
         requires resting { seat.old.me.0.stage ≡ Resting }
         requires can { CanGrant seat.old.me.0.seen row joined.own joined × IsJoinedInRange joined }
         ensures sits { (seat.new.id ≡ seat.old.id) × Sits self.now seat.new }
-        ensures given { IfOk result (λ _. (seat.new.me.0 ≡ saw row (Synched joined) (turned Resting row seat.old.me.0)) × Agrees seat.old.me.0 row Waiting) }
+        ensures given { IfOk result (λ _. (seat.new.me.0 ≡ did (GrantStep row joined.own) (settled row joined seat.old.me.0)) × Agrees seat.old.me.0 row Waiting) }
         ensures found { IfErr result (λ cell. (cell ≢ Waiting) × (seat.new.me.0 ≡ saw row cell seat.old.me.0) × Agrees seat.old.me.0 row cell) }
     {
         let waiting = pack_cell(Cell::Waiting);
@@ -229,7 +236,7 @@ impl Board {
         requires sits { Sits self.now seat.old × HasRow self.now row }
         requires range { IsJoinedInRange joined }
         ensures sits { (seat.new.id ≡ seat.old.id) × Sits self.now seat.new }
-        ensures took { IfOk result (λ _. (seat.new.me.0 ≡ took row joined seat.old.me.0) × Agrees seat.old.me.0 row (Synched joined) × (¬ Has seat.old.me.0.seen.opened (next_row row))) }
+        ensures took { IfOk result (λ _. (seat.new.me.0 ≡ did (TakeStep row) (took row joined seat.old.me.0)) × Agrees seat.old.me.0 row (Synched joined) × (¬ Has seat.old.me.0.seen.opened (next_row row))) }
         ensures found { IfErr result (λ cell. (cell ≢ Synched joined) × (seat.new.me.0 ≡ saw row cell seat.old.me.0) × Agrees seat.old.me.0 row cell) }
     {
         let committed = pack_cell(Cell::Synched(joined));
@@ -258,7 +265,7 @@ impl Board {
         requires held { Has seat.old.me.0.seen.held row × (seat.old.me.0.stage ≡ Joins row other joined) }
         requires partner { (joined.partner ≡ Some (row, own)) × IsJoinedInRange (mirrored other joined own) }
         ensures sits { (seat.new.id ≡ seat.old.id) × Sits self.now seat.new }
-        ensures sealed { seat.new.me.0 ≡ saw row (Synched (mirrored other joined own)) (turned Resting row seat.old.me.0) }
+        ensures sealed { seat.new.me.0 ≡ did (SealStep row) (settled row (mirrored other joined own) seat.old.me.0) }
     {
         let committed = Joined {
             own,

@@ -4,7 +4,7 @@ ghost use Rattle.std.specs.Prelude.{◌≡◌};
 ghost use Rattle.cell.specs.Rule.{heard_pass, told_pass};
 ghost use Rattle.cell.specs.Seats.{Sits};
 
-use crate::board::{Board, Tell};
+use crate::board::{Board, Glance, Tell};
 use crate::view::View;
 use atomic_table::Seat;
 
@@ -18,5 +18,16 @@ impl Board {
     {
         let told = self.words.shared.split_seat::<Tell>(from);
         self.words.shared.join_seat::<Tell>(to, told);
+        self.glance(to);
+    }
+
+    /// Reads a word and learns nothing by it: a pass that was told something sees so that all that it
+    /// has seen is of one table.
+    fn glance(&self, seat: &mut Seat<u64, View>)
+        requires sits { (seat.old.table_id ≡ self.now.words.shared.table_id) × (seat.old.me.0.threads ≡ self.now.shape.threads) × (seat.old.me.0.rows ≡ self.now.shape.rows) }
+        ensures sits { (seat.new.id ≡ seat.old.id) × Sits self.now seat.new }
+        ensures stays { seat.new.me.0 ≡ seat.old.me.0 }
+    {
+        self.words.shared.load::<Glance>(seat, 0);
     }
 }

@@ -1,7 +1,7 @@
 //! A table's size, and what a pass has seen. No value of `Stage`, `Seen` or `View` is made: contracts
 //! alone read them.
 
-use protocol::{Binding, Joined, NackName, Row};
+use protocol::{Binding, Joined, NackName, Row, Step};
 use std::collections::LinkedList;
 
 /// How large a table is.
@@ -54,4 +54,6 @@ pub struct View {
     pub seat: u8,
     pub stage: Stage,
     pub seen: Seen,
+    /// The steps of the protocol that the pass has made, the last one first.
+    pub made: LinkedList<Step>,
 }

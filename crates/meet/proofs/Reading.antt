@@ -23,13 +23,13 @@ pub record Reads (s t : Seen) (r : Row) (offers : List (Option Offer)) (n : ℕ)
 -- a row has no offers from the first that it lacks
 pub none_behind : (threads rows : ℕ) (s : Seen) (r : Row) (n k : ℕ) (o : Offer) → Coherent threads rows s → LackOffer s.words r n → SeesOffer s r k o → k < n
 none_behind threads rows s r n k o agree lack (inl have) =
-    let same = agree.one_word r 1 have.0 lack.0 have.5 lack.1 in
-    let below : k < unwrap_or (count_of lack.0) 0 = subst (λ (c : ℕ). k < unwrap_or (count_of c) 0) same have.6 in
+    let same = agree.one_word r 1 have.count lack.0 have.counted lack.1 in
+    let below : k < unwrap_or (count_of lack.0) 0 = subst (λ (c : ℕ). k < unwrap_or (count_of c) 0) same have.below in
     let behind = lack.2 in
     omega arith
 none_behind threads rows s r n k o agree lack (inr have) =
-    let same = agree.as_drafted r 1 have.1.0 lack.0 have.1.5 lack.1 in
-    let below : k < unwrap_or (count_of lack.0) 0 = subst (λ (c : ℕ). k < unwrap_or (count_of c) 0) same have.1.6 in
+    let same = agree.as_drafted r 1 have.1.count lack.0 have.1.counted lack.1 in
+    let below : k < unwrap_or (count_of lack.0) 0 = subst (λ (c : ℕ). k < unwrap_or (count_of c) 0) same have.1.below in
     let behind = lack.2 in
     omega arith
 

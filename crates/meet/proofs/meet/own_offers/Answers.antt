@@ -18,7 +18,7 @@ returns-in_default-clause-whole c n o sees =
     let grows = grows_then s t u c.loop-n.invariant.1 (grows_by _ _ t u c.offer.ensures.learns) in
     let none : c.offer.result ≡ None = (search rules) in
     let lacks = from_none c.offer.result (IsKnownOpen t c.args.row → LackOffer u.words c.args.row c.loop-n.n) c.offer.ensures.none none (inl (c.loop-n.invariant.1.opened.0 c.args.row c.requires.opened)) in
-    c.loop-n.invariant.2.whole n o (none_behind _ _ u c.args.row c.loop-n.n n o c.offer.ensures.coherent lacks (offer_more s u c.args.row n o grows sees)) sees
+    c.loop-n.invariant.2.whole n o (none_behind _ _ u c.args.row c.loop-n.n n o c.offer.ensures.here.4 lacks (offer_more s u c.args.row n o grows sees)) sees
 
 pub loop-n-preserved : goal.loop-n-preserved
 loop-n-preserved c =
@@ -29,7 +29,7 @@ loop-n-preserved c =
       c.offer.ensures.here,
       grows_then s t u c.loop-n.invariant.1 grows,
       reads_more s t u c.args.row c.loop-n.offers c.loop-n.n c.from.result c.in-Some.offer c.loop-n.invariant.2 c.from.ensures c.loop-n-test.true c.loop-n.invariant.1 grows
-          c.in-Some.ensures.some.1 (λ o sees. sym c.in-Some.is ∙ c.offer.ensures.same o sees),
+          c.in-Some.ensures.some.1 (λ o sees. sym c.in-Some.is ∙ c.offer.ensures.same o (offer_more t u c.args.row c.loop-n.n o grows sees)),
     )
 
 pub returns-clause-whole : goal.returns-clause-whole

@@ -1,10 +1,11 @@
-use Rattle.std.proofs.Common.{rules, subst, sym, ℕ, eqb}
+use Rattle.std.proofs.Common.{rules, ap, subst, sym, ℕ, eqb}
 use mathlib.Core.Option.{none}
 use prog.Atomic.{either}
 use Rattle.atomic_table.specs.Table.{Allows, step}
 use Rattle.cell.specs.declared.view.Shape.{Shape}
 use Rattle.cell.specs.Rule.{Keeps}
 use Rattle.cell.specs.Told.{tried_bind}
+use Rattle.cell.proofs.Allowing.{sits_still}
 use Rattle.cell.proofs.Binding.{bind_allowed}
 use Rattle.cell.proofs.board.Board.bind_nack.Goals as goal
 
@@ -15,3 +16,15 @@ compare_exchange-found-requires c = (
   subst (λ (z : Shape × ℕ × ℕ). Allows (Keeps z.0) c.args.self.now.words.shared.table_id.slots c.args.seat.now.id c.args.seat.now.me c.nack_place.result (λ n. either (eqb n z.1) z.2 n) (tried_bind (step c.args.self.now.words.shared.table_id.slots c.nack_place.result z.1 z.2 none) c.args.seat.now.me)) (λ i. (sym c.args.self.now.keyed i, sym c.pack_nack-free.ensures i, sym c.pack_nack-word.ensures i))
       (bind_allowed c.args.self.now.shape c.args.self.now.words.shared.table_id.slots c.args.seat.now.id c.nack_place.result c.args.seat.now.me c.args.nack (search rules) (search rules) (search rules) c.args.bound c.requires.range (search rules) (search rules) (search rules)),
 )
+
+pub returns-in-Some-clause-sits : goal.returns-in-Some-clause-sits
+returns-in-Some-clause-sits c =
+    let told = c.compare_exchange-found.ensures.2 c.args.nack c.args.bound (search rules) c.requires.range c.pack_nack-word.ensures in
+    let found = told.1 c.in-Some.bound (search rules) in
+    ((search rules), sits_still c.args.self.now c.args.seat.now c.compare_exchange-found.new.seat (search rules) (search rules) (ap (λ z. z.0.threads) found.0) (ap (λ z. z.0.rows) found.0) told.2)
+
+pub returns-in-Some-clause-found : goal.returns-in-Some-clause-found
+returns-in-Some-clause-found c =
+    let told = c.compare_exchange-found.ensures.2 c.args.nack c.args.bound (search rules) c.requires.range c.pack_nack-word.ensures in
+    let found = told.1 c.in-Some.bound (search rules) in
+    (ap (λ z. z.0) found.0, found.1, found.2)

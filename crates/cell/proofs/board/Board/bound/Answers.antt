@@ -17,5 +17,5 @@ there b v n (Some x) agree inside = let i = agree.bound n x (inl refl) in (insid
 pub returns-clause-there : goal.returns-clause-there
 returns-clause-there c =
     there c.args.self.now c.args.seat.now.me.0 c.args.nack c.look_nack.result
-    (subst (λ (v : View). Coherent c.args.self.now.shape.threads c.args.self.now.shape.rows v.seen) c.look_nack.ensures.saw c.look_nack.ensures.coherent)
+    (subst (λ (v : View). Coherent c.args.self.now.shape.threads c.args.self.now.shape.rows v.seen) c.look_nack.ensures.saw c.look_nack.ensures.sits.1.3)
     (search rules)

@@ -2,8 +2,9 @@ use Rattle.std.proofs.Common.{rules, true, ◌≡◌, ◌<◌, ℕ, length, sym,
 use Rattle.std.proofs.lemmas.Option.{slice_get-get_or}
 use Rattle.words.specs.Words.{is_word_for}
 use Rattle.cell.specs.declared.view.View.{View}
+use Rattle.cell.specs.Attempts.{OnlyDrafts}
 use Rattle.cell.specs.Views.{drafted_word}
-use Rattle.cell.proofs.Redrafting.{IsDraftedTo, count_place, drafted_none, drafted_more, drafted_all}
+use Rattle.cell.proofs.Redrafting.{IsDraftedTo, count_place, drafted_none, drafted_more, drafted_all, drafts_then, one_draft}
 use Rattle.cell.proofs.board.Board.draft_offers.Goals as goal
 
 pub draft-requires-clause-place : goal.draft-requires-clause-place
@@ -15,6 +16,7 @@ loop-n-init c =
       same = (search rules);
       sits = (search rules);
       stays = (search rules);
+      made = subst (λ (v : View). OnlyDrafts c.args.row c.args.seat.now.me.0.made v.made) (sym c.draft.ensures.drafted) (one_draft c.args.row 1 _ c.args.seat.now.me.0.made);
       drafted = subst (λ (v : View). IsDraftedTo c.args.row c.args.offers.now 0 c.args.seat.now.me.0.seen v.seen) (sym c.draft.ensures.drafted)
           (subst (λ (n : ℕ). IsDraftedTo c.args.row c.args.offers.now 0 c.args.seat.now.me.0.seen (drafted_word c.args.row 1 n c.args.seat.now.me.0).seen) (sym c.pack_count.ensures)
           (drafted_none c.args.row c.args.offers.now c.args.seat.now.me.0.seen));
@@ -33,6 +35,7 @@ loop-n-preserved c =
       same = (search rules);
       sits = (search rules);
       stays = (search rules);
+      made = drafts_then c.args.row c.args.seat.now.me.0.made _ _ c.loop-n.invariant.made c.draft_offer.ensures.made;
       drafted = drafted_more c.args.row c.args.offers.now c.loop-n.n _ _ _ _ c.requires.offers.0 below (slice_get-get_or c.args.offers.now c.loop-n.n _ below) c.loop-n.invariant.drafted c.draft_offer.ensures.others c.draft_offer.ensures.drafted;
     }
 

@@ -1,7 +1,8 @@
 -- The offers before this one are drafted.
 use Rattle.std.proofs.Common.{◌≡◌}
 use Rattle.cell.specs.Seats.{Sits}
-use Rattle.cell.specs.Views.{at_stage}
+use Rattle.cell.specs.Attempts.{OnlyDrafts}
+use Rattle.cell.specs.Views.{worked}
 use Rattle.cell.proofs.Redrafting.{IsDraftedTo}
 use Rattle.cell.proofs.board.Board.draft_offers.Given as goal
 
@@ -10,6 +11,7 @@ invariant-loop-n l =
     record {
       same : l.seat.id ≡ l.fn.seat.id;
       sits : Sits l.self l.seat;
-      stays : l.seat.me.0 ≡ at_stage l.fn.seat.me.0.stage l.seat.me.0.seen l.fn.seat.me.0;
+      stays : l.seat.me.0 ≡ worked l.fn.seat.me.0.stage l.seat.me.0.seen l.seat.me.0.made l.fn.seat.me.0;
+      made : OnlyDrafts l.row l.fn.seat.me.0.made l.seat.me.0.made;
       drafted : IsDraftedTo l.row l.offers l.n l.fn.seat.me.0.seen l.seat.me.0.seen;
     }

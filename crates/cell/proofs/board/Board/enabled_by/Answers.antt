@@ -1,26 +1,26 @@
-use Rattle.std.proofs.Common.{rules, ◌≡◌, true, Option, Some, None, IfNone, ap, sym, ◌∙◌, subst}
+use Rattle.std.proofs.Common.{rules, ◌≡◌, true, Option, Some, None, IfNone, ap, sym, ◌∙◌, refl, subst}
 use Rattle.std.proofs.lemmas.Bool.{true≢false}
 use Rattle.words.specs.declared.Joined.{Joined}
 use Rattle.words.specs.declared.Row.{Row}
 use Rattle.protocol.specs.Tables.{bound_row, has_scope}
 use Rattle.protocol.proofs.Linking.{some_inj}
 use Rattle.cell.specs.Nacks.{SawEnabled}
-use Rattle.cell.specs.Sight.{SeesOffer}
-use Rattle.cell.proofs.Meeting.{sees_more}
+use Rattle.cell.specs.Sight.{Has, SeesOffer}
+use Rattle.cell.proofs.Meeting.{from_some, sees_more}
+use Rattle.cell.proofs.Alone.{bound_then}
 use Rattle.cell.proofs.board.Board.enabled_by.Goals as goal
 use Rattle.cell.proofs.board.Board.enabled_by.Goals.{After-offer}
 
 -- a nack that was seen enabled is found so: the offer that was chosen is the one that was seen
 found : (c : After-offer) (j : Joined) (e : SawEnabled c.args.seat.now.me.0.seen c.args.nack j) → (e.binding ≡ c.in_ok-bound.bound) × (c.offer.result ≡ Some e.offer)
 found c j e =
-    let inside = c.requires.coherent.bound c.args.nack e.binding e.bound in
     let bound : c.bound.result ≡ Some c.in_ok-bound.bound = (search rules) in
-    let same : e.binding ≡ c.in_ok-bound.bound = some_inj _ _ (sym (c.bound.ensures.same (inside.0, inside.1) e.binding e.bound) ∙ bound) in
+    let same : e.binding ≡ c.in_ok-bound.bound = some_inj _ _ (sym (c.bound.ensures.same e.binding e.bound) ∙ bound) in
     let row : bound_row c.args.nack e.binding ≡ bound_row c.args.nack c.in_ok-bound.bound = ap (bound_row c.args.nack) same in
     let joined : c.committed.result ≡ Some c.in_ok-joined.joined = (search rules) in
-    let way : j ≡ c.in_ok-joined.joined = some_inj _ _ (sym (c.committed.ensures.same j (c.bound.ensures.learns.joined.0 (bound_row c.args.nack c.in_ok-bound.bound, j) (subst (λ (r : Row). Rattle.cell.specs.Sight.Has c.args.seat.now.me.0.seen.joined (r, j)) row e.joined))) ∙ joined) in
+    let way : j ≡ c.in_ok-joined.joined = some_inj _ _ (sym (c.committed.ensures.same j (c.bound.ensures.learns.joined.0 (bound_row c.args.nack c.in_ok-bound.bound, j) (subst (λ (r : Row). Has c.args.seat.now.me.0.seen.joined (r, j)) row e.joined))) ∙ joined) in
     let sees = sees_more _ _ _ _ _ e.offer c.committed.ensures.learns (sees_more _ _ _ (bound_row c.args.nack e.binding) j.own e.offer c.bound.ensures.learns e.chosen) in
-    (same, c.offer.ensures.same e.offer (subst (λ (z : Row × Joined). SeesOffer c.committed.new.seat.me.0.seen z.0 z.1.own e.offer) (λ i. (row i, way i)) sees))
+    (same, c.offer.ensures.same e.offer (sees_more _ _ _ _ _ e.offer c.offer.ensures.learns (subst (λ (z : Row × Joined). SeesOffer c.committed.new.seat.me.0.seen z.0 z.1.own e.offer) (λ i. (row i, way i)) sees)))
 
 pub returns-in_err-chosen-clause-none : goal.returns-in_err-chosen-clause-none
 returns-in_err-chosen-clause-none c =
@@ -38,3 +38,17 @@ returns-then-has_scope-clause-none c j e =
     let is = found c.before.before.before.before j e in
     let offer : e.offer ≡ c.in_ok-chosen.chosen = some_inj e.offer c.in_ok-chosen.chosen (sym is.1 ∙ some) in
     true≢false (sym set ∙ (λ i. has_scope (sym offer i).scopes (sym is.0 i).scope) ∙ e.outside)
+
+-- the nack's word was looked at, and then the row to which it is bound
+pub returns-clause-learns : goal.returns-clause-learns
+returns-clause-learns c =
+    let nack = c.args.nack in
+    let s = c.args.seat.now.me.0.seen in
+    let t = c.bound.new.seat.me.0.seen in
+    let u = c.committed.new.seat.me.0.seen in
+    let v = c.offer.new.seat.me.0.seen in
+    let row = bound_row nack c.in_ok-bound.bound in
+    let is : c.bound.result ≡ Some c.in_ok-bound.bound = (search rules) in
+    let bound : Has v.bound (nack, c.in_ok-bound.bound) =
+    c.offer.ensures.learns.bound.0 _ (c.committed.ensures.learns.bound.0 _ (from_some c.bound.result (λ b. Has t.bound (nack, b)) c.in_ok-bound.bound c.bound.ensures.some is)) in
+    bound_then nack row s t u v c.in_ok-bound.bound refl bound c.bound.ensures.learns c.committed.ensures.learns c.offer.ensures.learns

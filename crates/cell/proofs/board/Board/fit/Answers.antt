@@ -1,15 +1,16 @@
-use Rattle.std.proofs.Common.{rules, ◌≡◌, ◌+◌, ℕ, true, false, Some, sym, ◌∙◌, subst, max}
+use Rattle.std.proofs.Common.{rules, ◌≡◌, ◌+◌, ℕ, true, false, Some, sym, ◌∙◌, ap, subst, max}
+use Rattle.words.specs.declared.Row.{Row}
 use Rattle.words.specs.Words.{IsJoinedInRange}
 use Rattle.protocol.specs.Tables.{offers_meet}
 use Rattle.cell.specs.Sight.{Has, HaveOffer, CanJoin}
-use Rattle.cell.proofs.Meeting.{from_some, sees_more, can_join, join_ranged}
+use Rattle.cell.proofs.Meeting.{from_some, sees_apart, can_join, join_ranged}
 use Rattle.cell.proofs.Truths.{meeting_own, meeting_other}
 use Rattle.cell.proofs.board.Board.fit.Goals as goal
 
 pub returns-then-not-offers_meet-clause-unfit : goal.returns-then-not-offers_meet-clause-unfit
 returns-then-not-offers_meet-clause-unfit c (apart, a, b, sees_mine, sees_theirs, meet) =
-    let mine = c.offer-my_offer.ensures.same a sees_mine in
-    let theirs = c.offer-offer.ensures.same b (sees_more _ _ _ _ _ b c.offer-my_offer.ensures.learns sees_theirs) in
+    let mine = c.offer-my_offer.ensures.same a (sees_apart (λ q. q ≡ c.args.other.0) _ _ c.args.mine.0 c.args.mine.1 a c.offer-offer.ensures.learns (λ e. apart (ap (λ (r : Row). r.thread) e)) sees_mine) in
+    let theirs = c.offer-offer.ensures.same b sees_theirs in
     let found : c.offers_meet.result ≡ true = c.offers_meet.ensures ∙ (λ i. offers_meet (mine i) (theirs i)) ∙ meet in
     let not_found : c.offers_meet.result ≡ false = (search rules) in
     let bad : true ≡ false = sym found ∙ not_found in

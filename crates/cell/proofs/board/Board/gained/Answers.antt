@@ -10,7 +10,7 @@ pub returns-in_err-message-clause-got : goal.returns-in_err-message-clause-got
 returns-in_err-message-clause-got c =
     let none : c.offer.result ≡ None = (search rules) in
     let lack = from_none c.offer.result (IsKnownOpen c.args.seat.now.me.0.seen c.args.row → LackOffer c.offer.new.seat.me.0.seen.words c.args.row c.args.joined.own) c.offer.ensures.none none (inl c.requires.committed.1) in
-    absurd (chosen_not_lacking _ _ c.offer.new.seat.me.0.seen c.args.row c.args.joined.own c.offer.ensures.coherent
+    absurd (chosen_not_lacking _ _ c.offer.new.seat.me.0.seen c.args.row c.args.joined.own c.offer.ensures.sits.1.3
     (inl (c.args.joined, c.offer.ensures.learns.joined.0 (c.args.row, c.args.joined) c.requires.committed.0, refl)) lack)
 
 pub returns-in-Recv-clause-got : goal.returns-in-Recv-clause-got

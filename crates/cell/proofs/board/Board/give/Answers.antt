@@ -6,8 +6,8 @@ use Rattle.words.specs.Words.{cell_word}
 use Rattle.words.specs.declared.Cell.TheVariants.{Waiting}
 use Rattle.cell.specs.declared.view.Shape.{Shape}
 use Rattle.cell.specs.Rule.{Keeps}
-use Rattle.cell.specs.Told.{Agrees, granted}
-use Rattle.cell.proofs.Allowing.{grant_allowed, at_view, place_view, not_waiting}
+use Rattle.cell.specs.Told.{Agrees, finds, granted}
+use Rattle.cell.proofs.Allowing.{grant_allowed, at_view, place_view, not_waiting, sits_still}
 use Rattle.cell.proofs.board.Board.give.Goals as goal
 
 pub compare_exchange-found-requires : goal.compare_exchange-found-requires
@@ -18,8 +18,32 @@ compare_exchange-found-requires c = (
       (grant_allowed c.args.self.now.shape c.args.self.now.words.shared.table_id.slots c.args.seat.now.id c.place.result c.args.seat.now.me c.args.row (search rules) (search rules) (search rules) c.args.joined.own c.args.joined (search rules) c.requires.can.0 c.requires.can.1 (search rules)),
 )
 
+pub returns-then-found-waiting-clause-sits : goal.returns-then-found-waiting-clause-sits
+returns-then-found-waiting-clause-sits c =
+    let told = c.compare_exchange-found.ensures.2 c.args.row c.args.joined c.requires.resting
+    (at_view c.args.self.now.shape c.args.seat.now.me.0 c.args.row (search rules) (search rules) (search rules), place_view c.args.self.now.shape c.args.seat.now.me.0 c.args.row 0 c.place.result (search rules) (search rules)) c.requires.can.1 c.pack_cell-granted.ensures in
+    let is = told.0 (c.if-found-waiting.true ∙ c.pack_cell-waiting.ensures) in
+    ((search rules), sits_still c.args.self.now c.args.seat.now c.compare_exchange-found.new.seat (search rules) (search rules) (ap (λ z. z.0.threads) is.0) (ap (λ z. z.0.rows) is.0) told.2)
+
+pub returns-then-found-waiting-clause-given : goal.returns-then-found-waiting-clause-given
+returns-then-found-waiting-clause-given c =
+    let told = c.compare_exchange-found.ensures.2 c.args.row c.args.joined c.requires.resting
+    (at_view c.args.self.now.shape c.args.seat.now.me.0 c.args.row (search rules) (search rules) (search rules), place_view c.args.self.now.shape c.args.seat.now.me.0 c.args.row 0 c.place.result (search rules) (search rules)) c.requires.can.1 c.pack_cell-granted.ensures in
+    let is = told.0 (c.if-found-waiting.true ∙ c.pack_cell-waiting.ensures) in
+    (ap (λ z. z.0) is.0, is.1)
+
+pub returns-else-found-waiting-clause-sits : goal.returns-else-found-waiting-clause-sits
+returns-else-found-waiting-clause-sits c =
+    let told = c.compare_exchange-found.ensures.2 c.args.row c.args.joined c.requires.resting
+    (at_view c.args.self.now.shape c.args.seat.now.me.0 c.args.row (search rules) (search rules) (search rules), place_view c.args.self.now.shape c.args.seat.now.me.0 c.args.row 0 c.place.result (search rules) (search rules)) c.requires.can.1 c.pack_cell-granted.ensures in
+    let other : c.compare_exchange-found.result ≢ cell_word Waiting = (λ e. c.if-found-waiting.false (e ∙ sym c.pack_cell-waiting.ensures)) in
+    let found : finds c.args.seat.now.me c.args.row c.compare_exchange-found.result c.compare_exchange-found.new.seat.me = told.1 other in
+    ((search rules), sits_still c.args.self.now c.args.seat.now c.compare_exchange-found.new.seat (search rules) (search rules) (ap (λ z. z.0.threads) found.0) (ap (λ z. z.0.rows) found.0) told.2)
+
 pub returns-else-found-waiting-clause-found : goal.returns-else-found-waiting-clause-found
 returns-else-found-waiting-clause-found c =
+    let told = c.compare_exchange-found.ensures.2 c.args.row c.args.joined c.requires.resting
+    (at_view c.args.self.now.shape c.args.seat.now.me.0 c.args.row (search rules) (search rules) (search rules), place_view c.args.self.now.shape c.args.seat.now.me.0 c.args.row 0 c.place.result (search rules) (search rules)) c.requires.can.1 c.pack_cell-granted.ensures in
     let other : c.compare_exchange-found.result ≢ cell_word Waiting = (λ e. c.if-found-waiting.false (e ∙ sym c.pack_cell-waiting.ensures)) in
-    let told = (c.compare_exchange-found.ensures.2 c.args.row c.args.joined (search rules) (at_view c.args.self.now.shape c.args.seat.now.me.0 c.args.row (search rules) (search rules) (search rules), place_view c.args.self.now.shape c.args.seat.now.me.0 c.args.row 0 c.place.result (search rules) (search rules)) c.requires.can.1 c.pack_cell-granted.ensures).1 other in
-    (λ e. not_waiting c.compare_exchange-found.result other (sym c.cell_in.ensures ∙ e), ap (λ z. z.0) told.0 ∙ (search rules), subst (Agrees c.args.seat.now.me.0 c.args.row) (sym c.cell_in.ensures) told.1)
+    let found : finds c.args.seat.now.me c.args.row c.compare_exchange-found.result c.compare_exchange-found.new.seat.me = told.1 other in
+    (λ e. not_waiting c.compare_exchange-found.result other (sym c.cell_in.ensures ∙ e), ap (λ z. z.0) found.0 ∙ (search rules), subst (Agrees c.args.seat.now.me.0 c.args.row) (sym c.cell_in.ensures) found.1)

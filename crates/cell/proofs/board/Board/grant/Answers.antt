@@ -6,20 +6,21 @@ use Rattle.cell.specs.Attempts.{IsNearGrant}
 use Rattle.cell.specs.Nacks.{CanGrant, SawCause}
 use Rattle.cell.specs.Sight.{Has, HaveOffer}
 use Rattle.cell.proofs.Learning.{learns_then, learns_nothing}
-use Rattle.cell.proofs.Meeting.{from_none, from_some}
+use Rattle.cell.proofs.Meeting.{from_none, from_some, sees_more}
 use Rattle.cell.proofs.Alone.{IsReady, can, cause_more, given_is, late_is, near_cause, near_offer}
 use Rattle.cell.proofs.board.Board.grant.Goals as goal
 use Rattle.cell.proofs.board.Board.grant.Goals.{After-cause, After-last_stamp-last}
 
 -- the row has no such offer
 pub returns-in_default-clause-granted : goal.returns-in_default-clause-granted
-returns-in_default-clause-granted c (o, stamp, sees, caused) = c.in_default.not-Some o (c.offer.ensures.same o sees)
+returns-in_default-clause-granted c (o, stamp, sees, caused) =
+    c.in_default.not-Some o (c.offer.ensures.same o (sees_more _ _ _ _ _ o c.offer.ensures.learns sees))
 
 -- nothing lets the offer commit its row alone
 pub returns-in_default-cause-clause-granted : goal.returns-in_default-cause-clause-granted
 returns-in_default-cause-clause-granted c (o, stamp, sees, caused) =
     let some : c.offer.result ≡ Some c.in-Some.offer = (search rules) in
-    let same : o ≡ c.in-Some.offer = some_inj o c.in-Some.offer (sym (c.offer.ensures.same o sees) ∙ some) in
+    let same : o ≡ c.in-Some.offer = some_inj o c.in-Some.offer (sym (c.offer.ensures.same o (sees_more _ _ _ _ _ o c.offer.ensures.learns sees)) ∙ some) in
     let none : c.cause.result ≡ None = (search rules) in
     let later : SawCause c.offer.new.seat.me.0.seen c.in-Some.offer.base stamp =
     subst (λ (p : Offer). SawCause c.offer.new.seat.me.0.seen p.base stamp) same (cause_more (λ q. q ≡ c.args.row) c.args.seat.now.me.0.seen c.offer.new.seat.me.0.seen o.base stamp c.offer.ensures.learns caused) in
@@ -45,7 +46,7 @@ ready c =
     let cause = from_some c.cause.result (λ stamp. SawCause c.cause.new.seat.me.0.seen c.in-Some.offer.base stamp × (stamp ≤ 65536)) c.in-Some-cause.cause c.cause.ensures.some caused in
     record {
       offer = c.offer.ensures.learns;
-      same = λ p sees. some_inj c.in-Some.offer p (sym some ∙ c.offer.ensures.same p sees);
+      same = λ p sees. some_inj c.in-Some.offer p (sym some ∙ c.offer.ensures.same p (sees_more _ _ _ _ _ p c.offer.ensures.learns sees));
       opened = have.0;
       have = have.1;
       nack = c.cause.ensures.learns;

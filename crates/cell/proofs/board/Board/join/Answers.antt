@@ -6,9 +6,9 @@ use Rattle.words.specs.Words.{cell_word}
 use Rattle.words.specs.declared.Cell.TheVariants.{Waiting}
 use Rattle.cell.specs.declared.view.Shape.{Shape}
 use Rattle.cell.specs.Rule.{Keeps}
-use Rattle.cell.specs.Told.{Agrees, joined, joining, cell_read}
-use Rattle.cell.specs.Views.{saw}
-use Rattle.cell.proofs.Allowing.{join_allowed, at_view, place_view, not_waiting}
+use Rattle.words.specs.declared.Joined.{Joined}
+use Rattle.cell.specs.Told.{Agrees, finds, joined, joining}
+use Rattle.cell.proofs.Allowing.{join_allowed, at_view, place_view, not_waiting, sits_still}
 use Rattle.cell.proofs.board.Board.join.Goals as goal
 
 pub compare_exchange-found-requires : goal.compare_exchange-found-requires
@@ -20,13 +20,31 @@ compare_exchange-found-requires c = (
 )
 
 pub returns-then-found-waiting-clause-sits : goal.returns-then-found-waiting-clause-sits
-returns-then-found-waiting-clause-sits c = let is : c.compare_exchange-found.result ≡ cell_word Waiting = c.if-found-waiting.true ∙ c.pack_cell-waiting.ensures in let told : c.compare_exchange-found.new.seat.me ≡ (joining c.args.mine c.args.row c.args.joined c.args.seat.now.me.0, c.args.seat.now.me.1) = (c.compare_exchange-found.ensures.2 c.args.mine c.args.row c.args.joined (search rules) (at_view c.args.self.now.shape c.args.seat.now.me.0 c.args.row (search rules) (search rules) (search rules), place_view c.args.self.now.shape c.args.seat.now.me.0 c.args.row 0 c.place.result (search rules) (search rules)) (search rules) (search rules)).0 is in ((search rules), ((search rules), ap (λ z. z.0.threads) told ∙ (search rules), ap (λ z. z.0.rows) told ∙ (search rules)))
+returns-then-found-waiting-clause-sits c =
+    let told = c.compare_exchange-found.ensures.2 c.args.mine c.args.own c.args.row c.args.joined (search rules) (ap (λ (j : Joined). j.partner) c.requires.can.0.is)
+    (at_view c.args.self.now.shape c.args.seat.now.me.0 c.args.row (search rules) (search rules) (search rules), place_view c.args.self.now.shape c.args.seat.now.me.0 c.args.row 0 c.place.result (search rules) (search rules)) c.requires.can.1 c.pack_cell-synched.ensures in
+    let is : c.compare_exchange-found.new.seat.me ≡ (joining c.args.mine c.args.own c.args.row c.args.joined c.args.seat.now.me.0, c.args.seat.now.me.1) = told.0 (c.if-found-waiting.true ∙ c.pack_cell-waiting.ensures) in
+    ((search rules), sits_still c.args.self.now c.args.seat.now c.compare_exchange-found.new.seat (search rules) (search rules) (ap (λ z. z.0.threads) is) (ap (λ z. z.0.rows) is) told.2)
 
 pub returns-then-found-waiting-clause-joined : goal.returns-then-found-waiting-clause-joined
-returns-then-found-waiting-clause-joined c = let is : c.compare_exchange-found.result ≡ cell_word Waiting = c.if-found-waiting.true ∙ c.pack_cell-waiting.ensures in let told : c.compare_exchange-found.new.seat.me ≡ (joining c.args.mine c.args.row c.args.joined c.args.seat.now.me.0, c.args.seat.now.me.1) = (c.compare_exchange-found.ensures.2 c.args.mine c.args.row c.args.joined (search rules) (at_view c.args.self.now.shape c.args.seat.now.me.0 c.args.row (search rules) (search rules) (search rules), place_view c.args.self.now.shape c.args.seat.now.me.0 c.args.row 0 c.place.result (search rules) (search rules)) (search rules) (search rules)).0 is in ap (λ z. z.0) told
+returns-then-found-waiting-clause-joined c =
+    let told = c.compare_exchange-found.ensures.2 c.args.mine c.args.own c.args.row c.args.joined (search rules) (ap (λ (j : Joined). j.partner) c.requires.can.0.is)
+    (at_view c.args.self.now.shape c.args.seat.now.me.0 c.args.row (search rules) (search rules) (search rules), place_view c.args.self.now.shape c.args.seat.now.me.0 c.args.row 0 c.place.result (search rules) (search rules)) c.requires.can.1 c.pack_cell-synched.ensures in
+    let is : c.compare_exchange-found.new.seat.me ≡ (joining c.args.mine c.args.own c.args.row c.args.joined c.args.seat.now.me.0, c.args.seat.now.me.1) = told.0 (c.if-found-waiting.true ∙ c.pack_cell-waiting.ensures) in
+    ap (λ z. z.0) is
 
 pub returns-else-found-waiting-clause-sits : goal.returns-else-found-waiting-clause-sits
-returns-else-found-waiting-clause-sits c = let other : c.compare_exchange-found.result ≢ cell_word Waiting = (λ e. c.if-found-waiting.false (e ∙ sym c.pack_cell-waiting.ensures)) in let both = (c.compare_exchange-found.ensures.2 c.args.mine c.args.row c.args.joined (search rules) (at_view c.args.self.now.shape c.args.seat.now.me.0 c.args.row (search rules) (search rules) (search rules), place_view c.args.self.now.shape c.args.seat.now.me.0 c.args.row 0 c.place.result (search rules) (search rules)) (search rules) (search rules)).1 other in let told : c.compare_exchange-found.new.seat.me ≡ (saw c.args.row (cell_read c.compare_exchange-found.result) c.args.seat.now.me.0, c.args.seat.now.me.1) = both.0 in ((search rules), ((search rules), ap (λ z. z.0.threads) told ∙ (search rules), ap (λ z. z.0.rows) told ∙ (search rules)))
+returns-else-found-waiting-clause-sits c =
+    let told = c.compare_exchange-found.ensures.2 c.args.mine c.args.own c.args.row c.args.joined (search rules) (ap (λ (j : Joined). j.partner) c.requires.can.0.is)
+    (at_view c.args.self.now.shape c.args.seat.now.me.0 c.args.row (search rules) (search rules) (search rules), place_view c.args.self.now.shape c.args.seat.now.me.0 c.args.row 0 c.place.result (search rules) (search rules)) c.requires.can.1 c.pack_cell-synched.ensures in
+    let other : c.compare_exchange-found.result ≢ cell_word Waiting = (λ e. c.if-found-waiting.false (e ∙ sym c.pack_cell-waiting.ensures)) in
+    let found : finds c.args.seat.now.me c.args.row c.compare_exchange-found.result c.compare_exchange-found.new.seat.me = told.1 other in
+    ((search rules), sits_still c.args.self.now c.args.seat.now c.compare_exchange-found.new.seat (search rules) (search rules) (ap (λ z. z.0.threads) found.0) (ap (λ z. z.0.rows) found.0) told.2)
 
 pub returns-else-found-waiting-clause-found : goal.returns-else-found-waiting-clause-found
-returns-else-found-waiting-clause-found c = let other : c.compare_exchange-found.result ≢ cell_word Waiting = (λ e. c.if-found-waiting.false (e ∙ sym c.pack_cell-waiting.ensures)) in let both = (c.compare_exchange-found.ensures.2 c.args.mine c.args.row c.args.joined (search rules) (at_view c.args.self.now.shape c.args.seat.now.me.0 c.args.row (search rules) (search rules) (search rules), place_view c.args.self.now.shape c.args.seat.now.me.0 c.args.row 0 c.place.result (search rules) (search rules)) (search rules) (search rules)).1 other in let told : c.compare_exchange-found.new.seat.me ≡ (saw c.args.row (cell_read c.compare_exchange-found.result) c.args.seat.now.me.0, c.args.seat.now.me.1) = both.0 in (λ e. not_waiting c.compare_exchange-found.result other (sym c.cell_in.ensures ∙ e), ap (λ z. z.0) told ∙ (search rules), subst (Agrees c.args.seat.now.me.0 c.args.row) (sym c.cell_in.ensures) both.1)
+returns-else-found-waiting-clause-found c =
+    let told = c.compare_exchange-found.ensures.2 c.args.mine c.args.own c.args.row c.args.joined (search rules) (ap (λ (j : Joined). j.partner) c.requires.can.0.is)
+    (at_view c.args.self.now.shape c.args.seat.now.me.0 c.args.row (search rules) (search rules) (search rules), place_view c.args.self.now.shape c.args.seat.now.me.0 c.args.row 0 c.place.result (search rules) (search rules)) c.requires.can.1 c.pack_cell-synched.ensures in
+    let other : c.compare_exchange-found.result ≢ cell_word Waiting = (λ e. c.if-found-waiting.false (e ∙ sym c.pack_cell-waiting.ensures)) in
+    let found : finds c.args.seat.now.me c.args.row c.compare_exchange-found.result c.compare_exchange-found.new.seat.me = told.1 other in
+    (λ e. not_waiting c.compare_exchange-found.result other (sym c.cell_in.ensures ∙ e), ap (λ z. z.0) found.0 ∙ (search rules), subst (Agrees c.args.seat.now.me.0 c.args.row) (sym c.cell_in.ensures) found.1)

@@ -7,14 +7,14 @@ use Rattle.cell.proofs.board.Board.offer.Goals.{After-unpack_offer}
 
 pub returns-in_err-count-clause-same : goal.returns-in_err-count-clause-same
 returns-in_err-count-clause-same c o seen =
-    let below = seen_below _ _ _ _ _ c.args.row c.args.n c.look.result c.read.result o c.look.ensures.saw c.read.ensures.read c.read.ensures.coherent seen in
+    let below = seen_below _ _ c.look.new.seat.me.0 _ c.args.row c.args.n c.read.result o c.read.ensures.read c.read.ensures.sits.1.3 seen in
     let none : count_of c.read.result ≡ None = (search rules) in
     let bad : c.args.n < 0 = subst (λ (x : Option ℕ). c.args.n < unwrap_or x 0) none below in
     absurd (omega arith)
 
 pub returns-then-n-count-clause-same : goal.returns-then-n-count-clause-same
 returns-then-n-count-clause-same c o seen =
-    let below = seen_below _ _ _ _ _ c.args.row c.args.n c.look.result c.read.result o c.look.ensures.saw c.read.ensures.read c.read.ensures.coherent seen in
+    let below = seen_below _ _ c.look.new.seat.me.0 _ c.args.row c.args.n c.read.result o c.read.ensures.read c.read.ensures.sits.1.3 seen in
     let some : count_of c.read.result ≡ Some c.in_ok-count.count = (search rules) in
     let bad : c.args.n < c.in_ok-count.count = subst (λ (x : Option ℕ). c.args.n < unwrap_or x 0) some below in
     absurd (omega (arith, c.if-n-count.true))
@@ -35,10 +35,10 @@ returns-clause-some c = if_some c.unpack_offer.result _ (λ o e. (is_opened c, f
 
 pub returns-clause-none : goal.returns-clause-none
 returns-clause-none c = if_none c.unpack_offer.result _ (λ e.
-    let formed = five_formed _ _ _ c.read-third.new.seat.me.0 c.args.row c.args.n _ _ _ _ _ c.read-third.ensures.coherent (five c) in
+    let formed = five_formed _ _ _ c.read-third.new.seat.me.0 c.args.row c.args.n _ _ _ _ _ c.read-third.ensures.sits.1.3 (five c) in
     let bad : true ≡ false = sym formed ∙ ap is_some (sym c.unpack_offer.ensures.value ∙ e) in
     cc)
 
 pub returns-clause-same : goal.returns-clause-same
 returns-clause-same c o seen =
-    c.unpack_offer.ensures.value ∙ seen_same _ _ _ _ c.read-third.new.seat.me.0 c.args.row c.args.n _ _ _ _ _ c.look.result o c.look.ensures.saw (five c) c.read-third.ensures.coherent seen
+    c.unpack_offer.ensures.value ∙ seen_same _ _ c.look.new.seat.me.0 c.read-third.new.seat.me.0 c.args.row c.args.n _ _ _ _ _ o (five c) c.read-third.ensures.sits.1.3 seen

@@ -1,12 +1,11 @@
-use Rattle.std.proofs.Common.{rules, subst, sym, ap, ◌∙◌, ◌≡◌, ℕ}
+use Rattle.std.proofs.Common.{rules, subst, sym, ap, ◌≡◌}
 use mathlib.Core.Option.{none}
 use Rattle.atomic_table.specs.Table.{Allows, step}
 use Rattle.cell.specs.declared.view.Shape.{Shape}
 use Rattle.cell.specs.Rule.{Keeps}
-use Rattle.cell.specs.Told.{has_read}
-use Rattle.cell.specs.Sight.{Coherent}
+use Rattle.cell.specs.Told.{AgreesWithItself, has_read}
 use Rattle.cell.specs.Views.{read_word}
-use Rattle.cell.proofs.Allowing.{read_allowed, at_view, place_view}
+use Rattle.cell.proofs.Allowing.{read_allowed, at_view, place_view, sits_still}
 use Rattle.cell.proofs.board.Board.read.Goals as goal
 
 pub load-requires : goal.load-requires
@@ -17,17 +16,11 @@ load-requires c = (
       (read_allowed c.args.self.now.shape c.args.self.now.words.shared.table_id.slots c.args.seat.now.id c.place.result c.args.seat.now.me c.args.row (search rules) (search rules) (search rules) c.args.place (search rules) (search rules) (search rules) (search rules)),
 )
 
-told : (c : goal.After-load) → (c.load.new.seat.me ≡ (read_word c.args.row c.args.place c.load.result c.args.seat.now.me.0, c.args.seat.now.me.1)) × Coherent c.args.seat.now.me.0.threads c.args.seat.now.me.0.rows c.load.new.seat.me.0.seen
+told : (c : goal.After-load) → (c.load.new.seat.me ≡ (read_word c.args.row c.args.place c.load.result c.args.seat.now.me.0, c.args.seat.now.me.1)) × AgreesWithItself c.load.new.seat.me.0
 told c = c.load.ensures.2 c.args.row c.args.place (search rules) (at_view c.args.self.now.shape c.args.seat.now.me.0 c.args.row (search rules) (search rules) (search rules), place_view c.args.self.now.shape c.args.seat.now.me.0 c.args.row c.args.place c.place.result (search rules) (search rules))
 
 pub returns-clause-sits : goal.returns-clause-sits
-returns-clause-sits c = ((search rules), ((search rules), ap (λ z. z.0.threads) (told c).0 ∙ (search rules), ap (λ z. z.0.rows) (told c).0 ∙ (search rules)))
+returns-clause-sits c = ((search rules), sits_still c.args.self.now c.args.seat.now c.load.new.seat (search rules) (search rules) (ap (λ z. z.0.threads) (told c).0) (ap (λ z. z.0.rows) (told c).0) (told c).1)
 
 pub returns-clause-read : goal.returns-clause-read
 returns-clause-read c = ap (λ z. z.0) (told c).0
-
-sizes : (c : goal.After-load) → (c.args.seat.now.me.0.threads ≡ c.args.self.now.shape.threads) × (c.args.seat.now.me.0.rows ≡ c.args.self.now.shape.rows)
-sizes c = (search rules, search rules)
-
-pub returns-clause-coherent : goal.returns-clause-coherent
-returns-clause-coherent c = subst (λ (z : ℕ × ℕ). Coherent z.0 z.1 c.load.new.seat.me.0.seen) (λ i. ((sizes c).0 i, (sizes c).1 i)) (told c).1

@@ -12,7 +12,7 @@ returns-in_err-message-clause-sent c =
     let none : c.offer.result ≡ None = (search rules) in
     let lack = from_none c.offer.result (IsKnownOpen c.args.seat.now.me.0.seen c.in_ok-partner.partner → LackOffer c.offer.new.seat.me.0.seen.words c.in_ok-partner.partner c.in_ok-partner.offer) c.offer.ensures.none none
     (partner_known_open c.args.seat.now.me.0.seen c.args.row c.args.joined c.in_ok-partner.partner c.in_ok-partner.offer c.requires.committed partner) in
-    absurd (chosen_not_lacking _ _ c.offer.new.seat.me.0.seen c.in_ok-partner.partner c.in_ok-partner.offer c.offer.ensures.coherent
+    absurd (chosen_not_lacking _ _ c.offer.new.seat.me.0.seen c.in_ok-partner.partner c.in_ok-partner.offer c.offer.ensures.sits.1.3
     (inr (c.args.row, c.args.joined, c.offer.ensures.learns.joined.0 (c.args.row, c.args.joined) c.requires.committed, partner)) lack)
 
 pub returns-in_default : goal.returns-in_default
@@ -21,7 +21,7 @@ returns-in_default c =
     let some : c.offer.result ≡ Some c.in_ok-message.field-0 = (search rules) in
     let have = (from_some c.offer.result (λ o. Has c.offer.new.seat.me.0.seen.opened c.in_ok-partner.partner × HaveOffer c.offer.new.seat.me.0.seen.words c.in_ok-partner.partner c.in_ok-partner.offer o) c.in_ok-message.field-0 c.offer.ensures.some some).1 in
     let mine = c.requires.receives.0 in
-    let meet = c.offer.ensures.coherent.meet c.args.row c.args.joined (c.in_ok-partner.partner, c.in_ok-partner.offer) mine c.in_ok-message.field-0
+    let meet = c.offer.ensures.sits.1.3.meet c.args.row c.args.joined (c.in_ok-partner.partner, c.in_ok-partner.offer) mine c.in_ok-message.field-0
     (c.offer.ensures.learns.joined.0 (c.args.row, c.args.joined) c.requires.committed) partner
     (have_more c.args.seat.now.me.0.seen.words c.offer.new.seat.me.0.seen.words c.args.row c.args.joined.own mine c.offer.ensures.learns.words.0 c.requires.receives.2) have in
     let sends = recv_meets mine c.in_ok-message.field-0 c.requires.receives.1 c.requires.receives.3 meet in
@@ -32,11 +32,11 @@ pub returns-in_err-partner-clause-sent : goal.returns-in_err-partner-clause-sent
 returns-in_err-partner-clause-sent c =
     let none : c.args.joined.partner ≡ None = (search rules) in
     let mine = c.requires.receives.0 in
-    let alone : needs_none mine.base ≡ true = c.requires.coherent.alone c.args.row c.args.joined mine c.requires.committed none c.requires.receives.2 in
+    let alone : needs_none mine.base ≡ true = c.requires.sits.0.3.alone c.args.row c.args.joined mine c.requires.committed none c.requires.receives.2 in
     absurd (false≢true (sym (ap needs_none c.requires.receives.3) ∙ alone))
 
 pub offer-requires : goal.offer-requires
 offer-requires c =
     let partner : c.args.joined.partner ≡ Some (c.in_ok-partner.partner, c.in_ok-partner.offer) = (search rules) in
-    let inside = c.requires.coherent.inside c.args.row c.args.joined (c.in_ok-partner.partner, c.in_ok-partner.offer) c.requires.committed partner in
+    let inside = c.requires.sits.0.3.inside c.args.row c.args.joined (c.in_ok-partner.partner, c.in_ok-partner.offer) c.requires.committed partner in
     (c.requires.sits.0, inside)

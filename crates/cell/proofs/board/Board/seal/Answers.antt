@@ -1,14 +1,13 @@
-use Rattle.std.proofs.Common.{rules, subst, sym, ap, ◌∙◌, ◌≡◌, ℕ}
+use Rattle.std.proofs.Common.{rules, subst, sym, ap, ◌≡◌, ℕ}
 use mathlib.Core.Option.{none}
 use Rattle.atomic_table.specs.Table.{Allows, step}
-use Rattle.words.specs.declared.Cell.TheVariants.{Synched}
+use Rattle.words.specs.declared.Step.TheVariants.{Seal}
 use Rattle.protocol.specs.Worlds.{mirrored}
 use Rattle.cell.specs.declared.view.Shape.{Shape}
-use Rattle.cell.specs.declared.view.Stage.TheVariants.{Resting}
 use Rattle.cell.specs.Rule.{Keeps}
-use Rattle.cell.specs.Told.{sealed}
-use Rattle.cell.specs.Views.{saw, turned}
-use Rattle.cell.proofs.Allowing.{seal_allowed, at_view, place_view}
+use Rattle.cell.specs.Told.{AgreesWithItself, sealed, settled}
+use Rattle.cell.specs.Views.{did}
+use Rattle.cell.proofs.Allowing.{seal_allowed, at_view, place_view, sits_still}
 use Rattle.cell.proofs.board.Board.seal.Goals as goal
 
 pub store-requires : goal.store-requires
@@ -19,11 +18,13 @@ store-requires c = (
       (seal_allowed c.args.self.now.shape c.args.self.now.words.shared.table_id.slots c.args.seat.now.id c.place.result c.args.seat.now.me c.args.row (search rules) (search rules) (search rules) c.args.other c.args.own c.args.joined (search rules) (search rules) (search rules) (search rules) (search rules)),
 )
 
-told : (c : goal.After-store) → c.store.new.seat.me ≡ (saw c.args.row (Synched (mirrored c.args.other c.args.joined c.args.own)) (turned Resting c.args.row c.args.seat.now.me.0), c.args.seat.now.me.1)
-told c = c.store.ensures.2 c.args.row (mirrored c.args.other c.args.joined c.args.own) (at_view c.args.self.now.shape c.args.seat.now.me.0 c.args.row (search rules) (search rules) (search rules), place_view c.args.self.now.shape c.args.seat.now.me.0 c.args.row 0 c.place.result (search rules) (search rules)) (search rules) (search rules)
+told : (c : goal.After-store)
+    → (c.store.new.seat.me ≡ (did (Seal c.args.row) (settled c.args.row (mirrored c.args.other c.args.joined c.args.own) c.args.seat.now.me.0), c.args.seat.now.me.1)) × AgreesWithItself c.store.new.seat.me.0
+told c = c.store.ensures.2 c.args.row (mirrored c.args.other c.args.joined c.args.own)
+    (at_view c.args.self.now.shape c.args.seat.now.me.0 c.args.row (search rules) (search rules) (search rules), place_view c.args.self.now.shape c.args.seat.now.me.0 c.args.row 0 c.place.result (search rules) (search rules)) (search rules) (search rules)
 
 pub returns-clause-sits : goal.returns-clause-sits
-returns-clause-sits c = ((search rules), ((search rules), ap (λ z. z.0.threads) (told c) ∙ (search rules), ap (λ z. z.0.rows) (told c) ∙ (search rules)))
+returns-clause-sits c = ((search rules), sits_still c.args.self.now c.args.seat.now c.store.new.seat (search rules) (search rules) (ap (λ z. z.0.threads) (told c).0) (ap (λ z. z.0.rows) (told c).0) (told c).1)
 
 pub returns-clause-sealed : goal.returns-clause-sealed
-returns-clause-sealed c = ap (λ z. z.0) (told c)
+returns-clause-sealed c = ap (λ z. z.0) (told c).0

@@ -11,7 +11,7 @@ use Rattle.cell.proofs.board.Board.take.Goals as goal
 pub take_committed-requires-clause-range : goal.take_committed-requires-clause-range
 take_committed-requires-clause-range c =
     let saw_it : c.look.new.seat.me.0 ≡ saw c.args.row (Synched c.in-Synched.joined) c.args.seat.now.me.0 = (search rules) in
-    (c.look.ensures.coherent.in_range c.args.row c.in-Synched.joined (subst (λ (v : View). Has v.seen.joined (c.args.row, c.in-Synched.joined)) (sym saw_it) (inl refl))).0
+    (c.look.ensures.sits.1.3.in_range c.args.row c.in-Synched.joined (subst (λ (v : View). Has v.seen.joined (c.args.row, c.in-Synched.joined)) (sym saw_it) (inl refl))).0
 
 pub returns-in-Err-clause-none : goal.returns-in-Err-clause-none
 returns-in-Err-clause-none c =

@@ -6,9 +6,8 @@ use Rattle.words.specs.Words.{cell_word}
 use Rattle.words.specs.declared.Cell.TheVariants.{Fresh, Synched}
 use Rattle.cell.specs.declared.view.Shape.{Shape}
 use Rattle.cell.specs.Rule.{Keeps}
-use Rattle.cell.specs.Told.{Agrees, taken, cell_read}
-use Rattle.cell.specs.Views.{saw, took}
-use Rattle.cell.proofs.Allowing.{take_allowed, at_view, place_view, not_cell}
+use Rattle.cell.specs.Told.{Agrees, finds, taken}
+use Rattle.cell.proofs.Allowing.{take_allowed, at_view, place_view, not_cell, sits_still}
 use Rattle.cell.proofs.board.Board.take_committed.Goals as goal
 
 pub compare_exchange-found-requires : goal.compare_exchange-found-requires
@@ -21,25 +20,30 @@ compare_exchange-found-requires c = (
 
 pub returns-then-found-committed-clause-sits : goal.returns-then-found-committed-clause-sits
 returns-then-found-committed-clause-sits c =
-    let told = (c.compare_exchange-found.ensures.2 c.args.row c.args.joined (at_view c.args.self.now.shape c.args.seat.now.me.0 c.args.row (search rules) (search rules) (search rules), place_view c.args.self.now.shape c.args.seat.now.me.0 c.args.row 0 c.place.result (search rules) (search rules)) c.requires.range c.pack_cell-taken.ensures).0 (c.if-found-committed.true ∙ c.pack_cell-committed.ensures) in
-    let is : c.compare_exchange-found.new.seat.me ≡ (took c.args.row c.args.joined c.args.seat.now.me.0, c.args.seat.now.me.1) = told.0 in
-    ((search rules), ((search rules), ap (λ z. z.0.threads) is ∙ (search rules), ap (λ z. z.0.rows) is ∙ (search rules)))
+    let told = c.compare_exchange-found.ensures.2 c.args.row c.args.joined
+    (at_view c.args.self.now.shape c.args.seat.now.me.0 c.args.row (search rules) (search rules) (search rules), place_view c.args.self.now.shape c.args.seat.now.me.0 c.args.row 0 c.place.result (search rules) (search rules)) c.requires.range c.pack_cell-taken.ensures in
+    let is = told.0 (c.if-found-committed.true ∙ c.pack_cell-committed.ensures) in
+    ((search rules), sits_still c.args.self.now c.args.seat.now c.compare_exchange-found.new.seat (search rules) (search rules) (ap (λ z. z.0.threads) is.0) (ap (λ z. z.0.rows) is.0) told.2)
 
 pub returns-then-found-committed-clause-took : goal.returns-then-found-committed-clause-took
 returns-then-found-committed-clause-took c =
-    let told = (c.compare_exchange-found.ensures.2 c.args.row c.args.joined (at_view c.args.self.now.shape c.args.seat.now.me.0 c.args.row (search rules) (search rules) (search rules), place_view c.args.self.now.shape c.args.seat.now.me.0 c.args.row 0 c.place.result (search rules) (search rules)) c.requires.range c.pack_cell-taken.ensures).0 (c.if-found-committed.true ∙ c.pack_cell-committed.ensures) in
-    (ap (λ z. z.0) told.0, told.1, told.2)
+    let told = c.compare_exchange-found.ensures.2 c.args.row c.args.joined
+    (at_view c.args.self.now.shape c.args.seat.now.me.0 c.args.row (search rules) (search rules) (search rules), place_view c.args.self.now.shape c.args.seat.now.me.0 c.args.row 0 c.place.result (search rules) (search rules)) c.requires.range c.pack_cell-taken.ensures in
+    let is = told.0 (c.if-found-committed.true ∙ c.pack_cell-committed.ensures) in
+    (ap (λ z. z.0) is.0, is.1, is.2)
 
 pub returns-else-found-committed-clause-sits : goal.returns-else-found-committed-clause-sits
 returns-else-found-committed-clause-sits c =
+    let told = c.compare_exchange-found.ensures.2 c.args.row c.args.joined
+    (at_view c.args.self.now.shape c.args.seat.now.me.0 c.args.row (search rules) (search rules) (search rules), place_view c.args.self.now.shape c.args.seat.now.me.0 c.args.row 0 c.place.result (search rules) (search rules)) c.requires.range c.pack_cell-taken.ensures in
     let other : c.compare_exchange-found.result ≢ cell_word (Synched c.args.joined) = (λ e. c.if-found-committed.false (e ∙ sym c.pack_cell-committed.ensures)) in
-    let told = (c.compare_exchange-found.ensures.2 c.args.row c.args.joined (at_view c.args.self.now.shape c.args.seat.now.me.0 c.args.row (search rules) (search rules) (search rules), place_view c.args.self.now.shape c.args.seat.now.me.0 c.args.row 0 c.place.result (search rules) (search rules)) c.requires.range c.pack_cell-taken.ensures).1 other in
-    let is : c.compare_exchange-found.new.seat.me ≡ (saw c.args.row (cell_read c.compare_exchange-found.result) c.args.seat.now.me.0, c.args.seat.now.me.1) = told.0 in
-    ((search rules), ((search rules), ap (λ z. z.0.threads) is ∙ (search rules), ap (λ z. z.0.rows) is ∙ (search rules)))
+    let found : finds c.args.seat.now.me c.args.row c.compare_exchange-found.result c.compare_exchange-found.new.seat.me = told.1 other in
+    ((search rules), sits_still c.args.self.now c.args.seat.now c.compare_exchange-found.new.seat (search rules) (search rules) (ap (λ z. z.0.threads) found.0) (ap (λ z. z.0.rows) found.0) told.2)
 
 pub returns-else-found-committed-clause-found : goal.returns-else-found-committed-clause-found
 returns-else-found-committed-clause-found c =
+    let told = c.compare_exchange-found.ensures.2 c.args.row c.args.joined
+    (at_view c.args.self.now.shape c.args.seat.now.me.0 c.args.row (search rules) (search rules) (search rules), place_view c.args.self.now.shape c.args.seat.now.me.0 c.args.row 0 c.place.result (search rules) (search rules)) c.requires.range c.pack_cell-taken.ensures in
     let other : c.compare_exchange-found.result ≢ cell_word (Synched c.args.joined) = (λ e. c.if-found-committed.false (e ∙ sym c.pack_cell-committed.ensures)) in
-    let told = (c.compare_exchange-found.ensures.2 c.args.row c.args.joined (at_view c.args.self.now.shape c.args.seat.now.me.0 c.args.row (search rules) (search rules) (search rules), place_view c.args.self.now.shape c.args.seat.now.me.0 c.args.row 0 c.place.result (search rules) (search rules)) c.requires.range c.pack_cell-taken.ensures).1 other in
-    let is : c.compare_exchange-found.new.seat.me ≡ (saw c.args.row (cell_read c.compare_exchange-found.result) c.args.seat.now.me.0, c.args.seat.now.me.1) = told.0 in
-    (λ e. not_cell (Synched c.args.joined) c.compare_exchange-found.result (λ f. let bad : Synched c.args.joined ≡ Fresh = f in cc) other (sym c.cell_in.ensures ∙ e), ap (λ z. z.0) is ∙ (search rules), subst (Agrees c.args.seat.now.me.0 c.args.row) (sym c.cell_in.ensures) told.1)
+    let found : finds c.args.seat.now.me c.args.row c.compare_exchange-found.result c.compare_exchange-found.new.seat.me = told.1 other in
+    (λ e. not_cell (Synched c.args.joined) c.compare_exchange-found.result (λ f. let bad : Synched c.args.joined ≡ Fresh = f in cc) other (sym c.cell_in.ensures ∙ e), ap (λ z. z.0) found.0 ∙ (search rules), subst (Agrees c.args.seat.now.me.0 c.args.row) (sym c.cell_in.ensures) found.1)
