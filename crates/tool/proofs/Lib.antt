@@ -1,4 +1,5 @@
 pub mod Passes
+pub mod Emitting
 pub mod Parts
 pub mod MeetingLedger
 pub mod Playing

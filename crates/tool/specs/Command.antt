@@ -1,5 +1,6 @@
 -- What the program prints for what is asked, and what its faults say.
-use Rattle.std.specs.Prelude.{◌≡◌, ◌⊎◌, ℕ, List}
+use Rattle.std.specs.Prelude.{◌≡◌, ◌⊎◌, ℕ, List, Option, take}
+use Rattle.std.specs.Io.KnownBytes.{Appends}
 use Rattle.tool.specs.declared.request.Request.{Request}
 use Rattle.tool.specs.declared.request.Request.TheVariants.{Meet, Play, Check, Replay, Run}
 use Rattle.tool.specs.Meet.{PrintsMeeting}
@@ -19,51 +20,59 @@ use Rattle.script.specs.Spelling.{Spells}
 use Rattle.script.specs.FirstFaults.{Tells}
 use Rattle.script.specs.declared.fault.ScriptFault.TheVariants as scripts
 
--- of a script that some file spells, and some file of a journal
-abbrev pub OfFiles : (Script → List ℕ → Type 0) → Type 0
-OfFiles Says = (bytes : List ℕ) × (s : Script) × Spells bytes s × (journal : List ℕ) × Says s journal
+-- Which bytes the file of a name holds. No contract says more of it than the source of the files does.
+abbrev pub Files : Type 1
+Files = List ℕ → List ℕ → Type 0
 
--- The line of the one pair (or none), what comes of some file's schedule, script or run, or where some file's journal leads: no
--- contract says what a file holds.
-abbrev pub Answers : Request → Verdict → List ℕ → Type 0
-Answers (Meet value) Done text = PrintsMeeting value text
-Answers (Play name) Done text = (bytes : List ℕ) × IsPlayed bytes text
-Answers (Check name) Done text = (bytes : List ℕ) × IsChecked bytes text
-Answers (Replay script journal rows) Done text = OfFiles (λ s bytes. IsReplayed s rows bytes text)
-Answers (Replay script journal rows) Unlawful text = OfFiles (λ s bytes. IsNoRun s rows bytes text)
-Answers (Run script workers rows) Done text = (bytes : List ℕ) × (s : Script) × Spells bytes s × IsRan s rows text
-Answers asked Unlawful text = ⊥
+-- of the script that the one file spells, and the journal that the other holds
+abbrev pub OfFiles : Files → List ℕ → List ℕ → (Script → List ℕ → Type 0) → Type 0
+OfFiles Holds script journal Says = (bytes : List ℕ) × Holds script bytes × (s : Script) × Spells bytes s × (read : List ℕ) × Holds journal read × Says s read
 
--- what a fault of a script says: some file's text has it as its first
-abbrev pub FailsScript : Fault → Type 0
-FailsScript (faults.Syntax line) = (bytes : List ℕ) × Tells bytes (scripts.Syntax line)
-FailsScript (faults.UnknownName line) = (bytes : List ℕ) × Tells bytes (scripts.UnknownName line)
-FailsScript (faults.Twice line) = (bytes : List ℕ) × Tells bytes (scripts.Twice line)
-FailsScript (faults.TooMany line) = (bytes : List ℕ) × Tells bytes (scripts.TooMany line)
-FailsScript (faults.LoopWithoutSync line) = (bytes : List ℕ) × Tells bytes (scripts.LoopWithoutSync line)
-FailsScript faults.TooLong = (bytes : List ℕ) × Tells bytes scripts.TooLong
-FailsScript fault = ⊥
+-- The line of the one pair (or none), what comes of the schedule, the script or the run that is asked for, or where the journal
+-- leads the script.
+abbrev pub Answers : Files → Request → Verdict → List ℕ → Type 0
+Answers Holds (Meet value) Done text = PrintsMeeting value text
+Answers Holds (Play name) Done text = (bytes : List ℕ) × Holds name.now bytes × IsPlayed bytes text
+Answers Holds (Check name) Done text = (bytes : List ℕ) × Holds name.now bytes × IsChecked bytes text
+Answers Holds (Replay script journal rows) Done text = OfFiles Holds script.now journal.now (λ s read. IsReplayed s rows read text)
+Answers Holds (Replay script journal rows) Unlawful text = OfFiles Holds script.now journal.now (λ s read. IsNoRun s rows read text)
+Answers Holds (Run script workers rows) Done text = (bytes : List ℕ) × Holds script.now bytes × (s : Script) × Spells bytes s × IsRan s rows text
+Answers Holds asked Unlawful text = ⊥
+
+-- what a fault of a script says: the file's text has it as its first
+abbrev pub FailsScript : Files → List ℕ → Fault → Type 0
+FailsScript Holds name (faults.Syntax line) = (bytes : List ℕ) × Holds name bytes × Tells bytes (scripts.Syntax line)
+FailsScript Holds name (faults.UnknownName line) = (bytes : List ℕ) × Holds name bytes × Tells bytes (scripts.UnknownName line)
+FailsScript Holds name (faults.Twice line) = (bytes : List ℕ) × Holds name bytes × Tells bytes (scripts.Twice line)
+FailsScript Holds name (faults.TooMany line) = (bytes : List ℕ) × Holds name bytes × Tells bytes (scripts.TooMany line)
+FailsScript Holds name (faults.LoopWithoutSync line) = (bytes : List ℕ) × Holds name bytes × Tells bytes (scripts.LoopWithoutSync line)
+FailsScript Holds name faults.TooLong = (bytes : List ℕ) × Holds name bytes × Tells bytes scripts.TooLong
+FailsScript Holds name fault = ⊥
 
 -- what a fault says of the request: `meet` lacks only memory or a thread, and the others may also fail by a file or by what it holds
-abbrev pub Fails : Request → Fault → Type 0
-Fails (Meet value) fault = (fault ≡ faults.Memory) ⊎ (fault ≡ faults.NoThread)
-Fails (Play name) faults.Memory = Unit {0}
-Fails (Play name) faults.Unread = Unit {0}
-Fails (Play name) (faults.BadStep line) = (bytes : List ℕ) × IsFirstBadLine bytes line
-Fails (Play name) (faults.NotAllowed step) = (bytes : List ℕ) × IsFirstRefused bytes step
-Fails (Play name) fault = ⊥
-Fails (Check name) faults.Memory = Unit {0}
-Fails (Check name) faults.Unread = Unit {0}
-Fails (Check name) fault = FailsScript fault
-Fails (Replay script journal rows) faults.Memory = Unit {0}
-Fails (Replay script journal rows) faults.Unread = Unit {0}
-Fails (Replay script journal rows) (faults.BadLine line) = OfFiles (λ s bytes. journals.IsFirstBadLine s bytes line)
-Fails (Replay script journal rows) fault = FailsScript fault
-Fails (Run script workers rows) faults.Memory = Unit {0}
-Fails (Run script workers rows) faults.Unread = Unit {0}
-Fails (Run script workers rows) faults.NoThread = Unit {0}
-Fails (Run script workers rows) faults.Workers = ¬ AreWorkers workers
-Fails (Run script workers rows) faults.Rows = ¬ AreRows rows
-Fails (Run script workers rows) faults.Lost = Unit {0}
-Fails (Run script workers rows) faults.Unlawful = Unit {0}
-Fails (Run script workers rows) fault = FailsScript fault
+abbrev pub Fails : Files → Request → Fault → Type 0
+Fails Holds (Meet value) fault = (fault ≡ faults.Memory) ⊎ (fault ≡ faults.NoThread)
+Fails Holds (Play name) faults.Memory = Unit {0}
+Fails Holds (Play name) faults.Unread = Unit {0}
+Fails Holds (Play name) (faults.BadStep line) = (bytes : List ℕ) × Holds name.now bytes × IsFirstBadLine bytes line
+Fails Holds (Play name) (faults.NotAllowed step) = (bytes : List ℕ) × Holds name.now bytes × IsFirstRefused bytes step
+Fails Holds (Play name) fault = ⊥
+Fails Holds (Check name) faults.Memory = Unit {0}
+Fails Holds (Check name) faults.Unread = Unit {0}
+Fails Holds (Check name) fault = FailsScript Holds name.now fault
+Fails Holds (Replay script journal rows) faults.Memory = Unit {0}
+Fails Holds (Replay script journal rows) faults.Unread = Unit {0}
+Fails Holds (Replay script journal rows) (faults.BadLine line) = OfFiles Holds script.now journal.now (λ s read. journals.IsFirstBadLine s read line)
+Fails Holds (Replay script journal rows) fault = FailsScript Holds script.now fault
+Fails Holds (Run script workers rows) faults.Memory = Unit {0}
+Fails Holds (Run script workers rows) faults.Unread = Unit {0}
+Fails Holds (Run script workers rows) faults.NoThread = Unit {0}
+Fails Holds (Run script workers rows) faults.Workers = ¬ AreWorkers workers
+Fails Holds (Run script workers rows) faults.Rows = ¬ AreRows rows
+Fails Holds (Run script workers rows) faults.Lost = Unit {0}
+Fails Holds (Run script workers rows) faults.Unlawful = Unit {0}
+Fails Holds (Run script workers rows) fault = FailsScript Holds script.now fault
+
+-- The output has grown by the first n bytes of a text, and where there is one byte at least, the text answers the request.
+abbrev pub Began : Files → Request → Option (List ℕ) → Option (List ℕ) → Type 0
+Began Holds asked old new = (n : ℕ) × (verdict : Verdict) × (text : List ℕ) × ((n ≡ 0) ⊎ Answers Holds asked verdict text) × Appends old new (take n text)

@@ -1,11 +1,11 @@
 //! The program, over any files and any two streams.
 
-ghost use Rattle.std.specs.Prelude.{◌≡◌, ◌⊎◌, List, ℕ, IfOk, IfErr, OnOk};
+ghost use Rattle.std.specs.Prelude.{◌≡◌, ◌≤◌, ◌⊎◌, List, ℕ, IfOk, IfErr, OnOk, take};
 ghost use Rattle.std.specs.Io.KnownBytes.{Appends};
 ghost use Rattle.tool.specs.declared.request.Request.{Request};
 ghost use Rattle.tool.specs.declared.fault.Fault.TheVariants.{Unwritten};
 ghost use Rattle.tool.specs.declared.program.Verdict.TheVariants.{Done};
-ghost use Rattle.tool.specs.Command.{Answers, Fails};
+ghost use Rattle.tool.specs.Command.{Answers, Began, Fails};
 
 use crate::check::check_text;
 use crate::fault::Fault;
@@ -46,8 +46,8 @@ fn answer<R: Threads + Wait + Sync, S: Source>(
     asked: Request<'_>,
     source: &mut S,
 ) -> Result<(Verdict, Vec<u8>), Fault>
-    ensures done { IfOk result (λ answer. Answers asked.entry answer.0 answer.1.items) }
-    ensures fault { IfErr result (Fails asked.entry) }
+    ensures done { IfOk result (λ answer. Answers (S.holds source.old) asked.entry answer.0 answer.1.items) }
+    ensures fault { IfErr result (Fails (S.holds source.old) asked.entry) }
 {
     match asked {
         Request::Meet(value) => Ok((Verdict::Done, meet_text(rt, alloc, value)?)),
@@ -85,18 +85,27 @@ fn answer<R: Threads + Wait + Sync, S: Source>(
     }
 }
 
-/// Writes the whole text.
-fn write_text<O: Write>(out: &mut O, text: &[u8]) -> Result<(), Fault>
+/// Writes the whole text. After a fault the output has taken a beginning of it, which may be all: a
+/// write failed or took nothing, or the output would not let go of what it holds back.
+fn emit<O: Write>(out: &mut O, text: &[u8]) -> Result<(), Fault>
     ensures done { OnOk result (Appends (O.contents out.old) (O.contents out.new) text.now) }
-    ensures fault { IfErr result (λ fault. fault ≡ Unwritten) }
+    ensures fault { IfErr result (λ fault. (fault ≡ Unwritten) × (n : ℕ) × Appends (O.contents out.old) (O.contents out.new) (take n text.now)) }
 {
-    if out.write_all(text).is_err() || out.flush().is_err() {
-        return Err(Fault::Unwritten);
+    let mut taken = 0;
+    while taken < text.len() {
+        match out.write(&text[taken..]) {
+            Ok(0) | Err(_) => return Err(Fault::Unwritten),
+            Ok(count) => taken += count,
+        }
     }
-    Ok(())
+    match out.flush() {
+        Ok(()) => Ok(()),
+        Err(_) => Err(Fault::Unwritten),
+    }
 }
 
-/// Answers a request on the output. After a fault nothing was written, but for that of the output.
+/// Answers a request on the output. After a fault nothing was written, but for that of the output,
+/// which may have taken a beginning of the answer.
 fn respond<R: Threads + Wait + Sync, S: Source, O: Write>(
     rt: &R,
     alloc: Global,
@@ -104,12 +113,14 @@ fn respond<R: Threads + Wait + Sync, S: Source, O: Write>(
     source: &mut S,
     out: &mut O,
 ) -> Result<Verdict, Fault>
-    ensures done { IfOk result (λ verdict. (text : List ℕ) × Answers asked.entry verdict text
+    ensures done { IfOk result (λ verdict. (text : List ℕ) × Answers (S.holds source.old) asked.entry verdict text
         × Appends (O.contents out.old) (O.contents out.new) text) }
-    ensures fault { IfErr result (λ fault. (fault ≡ Unwritten) ⊎ (Fails asked.entry fault × (out.new ≡ out.old))) }
+    ensures fault { IfErr result (λ fault.
+        ((fault ≡ Unwritten) × Began (S.holds source.old) asked.entry (O.contents out.old) (O.contents out.new))
+        ⊎ (Fails (S.holds source.old) asked.entry fault × (out.new ≡ out.old))) }
 {
     let (verdict, text) = answer(rt, alloc, asked, source)?;
-    write_text(out, text.as_slice())?;
+    emit(out, text.as_slice())?;
     Ok(verdict)
 }
 
@@ -124,9 +135,12 @@ pub fn command<R: Threads + Wait + Sync, S: Source, O: Write, E: Write>(
     out: &mut O,
     err: &mut E,
 ) -> u8
+    ensures status { result ≤ 2 }
     // Where all went well, the output has grown by the answer to some request.
-    ensures done { result ≡ 0 → (asked : Request) × (text : List ℕ) × Answers asked Done text
+    ensures done { result ≡ 0 → (asked : Request) × (text : List ℕ) × Answers (S.holds source.old) asked Done text
         × Appends (O.contents out.old) (O.contents out.new) text }
+    // Where not, it has grown by a beginning of such an answer at most.
+    ensures fault { result ≡ 1 → (asked : Request) × Began (S.holds source.old) asked (O.contents out.old) (O.contents out.new) }
     ensures bad_words { result ≡ 2 → out.new ≡ out.old }
 {
     let asked = match read_words(alloc, words) {

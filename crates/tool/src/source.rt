@@ -1,5 +1,7 @@
 //! Where the program's files come from.
 
+ghost use Rattle.std.specs.Prelude.{ℕ, List, IfOk};
+
 use std::fs;
 use std::io::ErrorKind;
 use std::rt::Files;
@@ -13,7 +15,13 @@ pub enum SourceFault {
 
 /// Gives whole files by their names.
 pub trait Source {
-    fn read(&mut self, name: &str) -> Result<Vec<u8>, SourceFault>;
+    // A file of this name holds these bytes. A source that says nothing of its files leaves it open.
+    ghost holds: { Self → List ℕ → List ℕ → Type 0 } = { λ _ _ _. Unit {0} };
+
+    /// The whole file. Reading one changes none.
+    fn read(&mut self, name: &str) -> Result<Vec<u8>, SourceFault>
+        ensures file { IfOk result (λ bytes. holds self.old name.now bytes.items) }
+        ensures kept { (name bytes : List ℕ) → holds self.new name bytes → holds self.old name bytes };
 }
 
 /// The files that the process sees.
