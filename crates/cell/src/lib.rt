@@ -37,12 +37,17 @@ mod taking;
 mod telling;
 mod view;
 
+use crate::board::Law;
+use crate::view::{Shape, View};
+use atomic_table::TableRule;
+
 pub use crate::attempt::{Attempt, CLAIM, JOIN, NoGate, SEAL, StepGate, YIELD};
 pub use crate::cells::{Cells, Pass};
 pub use crate::granting::Grant;
 pub use crate::view::Seen;
 
-/// The rule holds between any two atomic steps of any callers' threads. So at each moment:
+/// What the rule of the table, the very one that it has (`holds` of `Law`), says of any moment between
+/// two atomic steps, whatever threads call:
 ///
 /// - the ledger of the words is lawful;
 /// - the words are what the passes' own steps, interleaved, have made of the table's start by the
@@ -52,11 +57,11 @@ pub use crate::view::Seen;
 /// - a pending row is named by one row;
 /// - where no pass has made a step, every row is Fresh and no nack is bound.
 pub fn every_moment_is_lawful()
-    ensures lawful { (shape : Shape) (s : State ℕ View) → Keeps shape s → IsLawful (ledger_of (table_of shape s)) }
-    ensures played { (shape : Shape) (s : State ℕ View) → Keeps shape s → (moves : List Move) × (world : World) × Plays (start_world shape.threads shape.rows shape.passes) (in_order moves) world × (world.table ≡ table_of shape s) × Interleaves moves s.views }
-    ensures known { (shape : Shape) (s : State ℕ View) → Keeps shape s → (world : World) × (owner : Row → ℕ) × (world.table ≡ table_of shape s) × ((id : ℕ) (v : View) → IsAt s id v → Knows world owner id v) }
-    ensures one_holder { (shape : Shape) (s : State ℕ View) (i j : ℕ) (u v : View) (r : Row) → Keeps shape s → IsAt s i u → IsAt s j v → Has u.seen.held r → Has v.seen.held r → i ≡ j }
-    ensures one_taker { (shape : Shape) (s : State ℕ View) (i j : ℕ) (u v : View) (r : Row) → Keeps shape s → IsAt s i u → IsAt s j v → Has u.made (Take r) → Has v.made (Take r) → i ≡ j }
-    ensures named_once { (shape : Shape) (s : State ℕ View) (q r p : Row) → Keeps shape s → names (joined_at (table_of shape s) q) p ≡ true → names (joined_at (table_of shape s) r) p ≡ true → q ≡ r }
-    ensures untouched { (shape : Shape) (s : State ℕ View) → Keeps shape s → ((i : ℕ) (v : View) → get_elem? s.views i ≡ some v → v.made ≡ []) → ((r : Row) → cell_at (table_of shape s) r ≡ Fresh) × ((n : NackName) → binding_at (table_of shape s) n ≡ None) }
+    ensures lawful { (shape : Shape) (s : State ℕ View) → ⟦<Law as TableRule<u64, View, Shape>>⟧.holds shape s → IsLawful (ledger_of (table_of shape s)) }
+    ensures played { (shape : Shape) (s : State ℕ View) → ⟦<Law as TableRule<u64, View, Shape>>⟧.holds shape s → (moves : List Move) × (world : World) × Plays (start_world shape.threads shape.rows shape.passes) (in_order moves) world × (world.table ≡ table_of shape s) × Interleaves moves s.views }
+    ensures known { (shape : Shape) (s : State ℕ View) → ⟦<Law as TableRule<u64, View, Shape>>⟧.holds shape s → (world : World) × (owner : Row → ℕ) × (world.table ≡ table_of shape s) × ((id : ℕ) (v : View) → IsAt s id v → Knows world owner id v) }
+    ensures one_holder { (shape : Shape) (s : State ℕ View) (i j : ℕ) (u v : View) (r : Row) → ⟦<Law as TableRule<u64, View, Shape>>⟧.holds shape s → IsAt s i u → IsAt s j v → Has u.seen.held r → Has v.seen.held r → i ≡ j }
+    ensures one_taker { (shape : Shape) (s : State ℕ View) (i j : ℕ) (u v : View) (r : Row) → ⟦<Law as TableRule<u64, View, Shape>>⟧.holds shape s → IsAt s i u → IsAt s j v → Has u.made (Take r) → Has v.made (Take r) → i ≡ j }
+    ensures named_once { (shape : Shape) (s : State ℕ View) (q r p : Row) → ⟦<Law as TableRule<u64, View, Shape>>⟧.holds shape s → names (joined_at (table_of shape s) q) p ≡ true → names (joined_at (table_of shape s) r) p ≡ true → q ≡ r }
+    ensures untouched { (shape : Shape) (s : State ℕ View) → ⟦<Law as TableRule<u64, View, Shape>>⟧.holds shape s → ((i : ℕ) (v : View) → get_elem? s.views i ≡ some v → v.made ≡ []) → ((r : Row) → cell_at (table_of shape s) r ≡ Fresh) × ((n : NackName) → binding_at (table_of shape s) n ≡ None) }
 {}
