@@ -1,6 +1,6 @@
 -- The ledger of a table has what the table reads as; the start is kept; so every schedule's ledger is lawful.
-use Rattle.std.proofs.Common.{◌≡◌, ℕ, zero, suc, ◌+◌, ◌-◌, ◌*◌, ◌%◌, ◌<◌, ◌≤◌, true, false, cond, ltb, List, [], ◌∷◌, length, get_or, map, replicate, sym, ap, ◌∙◌, subst, ⊎_elim, arith, Option, Some, None, is_some}
-use Rattle.std.specs.Prelude.{unwrap_or}
+use Rattle.std.proofs.Common.{◌≡◌, ℕ, zero, suc, ◌+◌, ◌-◌, ◌*◌, ◌%◌, ◌<◌, ◌≤◌, true, false, cond, ltb, List, [], ◌∷◌, length, get_or, map, replicate, ◌++◌, sym, refl, ap, ◌∙◌, subst, ⊎_elim, arith, Option, Some, None, is_some}
+use Rattle.std.specs.Prelude.{unwrap_or, option_to_list}
 use Rattle.std.specs.List.{range_with_len}
 use Rattle.std.proofs.lemmas.Bool.{cases_eq, cases_Bool, cases_lt, false≢true, true≢false, and_from, and_parts, lt-ltb, ltb-true, ne_eqb}
 use Rattle.std.proofs.lemmas.List.{get_or_append_left, get_or-append_right, get_or-map, get_or_past, get_or-replicate, length-append, length-replicate, length-map}
@@ -18,7 +18,7 @@ use Rattle.words.specs.Words.{cell_of, nack_of, is_word_for}
 use Rattle.words.proofs.WordLemmas.{cell_of-zero, nack_of-zero, is_word_for-zero}
 use Rattle.protocol.specs.Tables.{Table, thread_len, place_of, nack_place, is_row, is_nack, all_rows, rows_below, number_of, word_at, nack_at, cell_at, is_fresh, joined_of, joined_at, count_at, offer_at, binding_at, names}
 use Rattle.protocol.specs.Worlds.{World, start_world, first_holder, holder_at, Plays}
-use Rattle.protocol.specs.Ledgers.{Entry, ledger_of, entry_at, no_entry, entry_in, joined_in, offer_in, binding_in, all_nacks, nacks_below, Lawful, IsLawful}
+use Rattle.protocol.specs.Ledgers.{Entry, ledger_of, entry_at, no_entry, entry_in, joined_in, offer_in, binding_in, all_nacks, nacks_below, commits_in, commits_of, rows_in, told_at, told_by, Lawful, IsLawful}
 use Rattle.protocol.specs.Kept.{Linked, Kept}
 use Rattle.protocol.proofs.Places.{block_inside, row_inside}
 use Rattle.protocol.proofs.Readings.{cell_outside, cell_inside, binding_inside, binding_outside, offer_none, count_fresh}
@@ -185,6 +185,19 @@ start_cell threads rows r = ⊎_elim
     ∙ ap (λ (o : Option Cell). unwrap_or o Fresh) cell_of-zero)
     (λ (e : is_row (start_table threads rows) r ≡ false). cell_outside (start_table threads rows) r e)
     (cases_Bool (is_row (start_table threads rows) r))
+
+-- where no row is joined there are no commits
+none_told : (rows : List Row) (joined : Row → Option Joined) (offer : Row → ℕ → Option Offer) → ((r : Row) → joined r ≡ None) → commits_of rows joined offer ≡ []
+unfolding told_at
+none_told [] joined offer none = refl
+none_told (r ∷ rows) joined offer none =
+    ap (λ (o : Option Joined). option_to_list (told_by joined offer r o) ++ commits_of rows joined offer) (none r) ∙ none_told rows joined offer none
+
+pub start_empty : (threads rows seats : ℕ) → commits_in (ledger_of (start_world threads rows seats).table) ≡ []
+unfolding start_world
+start_empty threads rows seats =
+    none_told (rows_in (ledger_of (start_table threads rows))) (joined_in (ledger_of (start_table threads rows))) (offer_in (ledger_of (start_table threads rows)))
+    (λ r. ap (λ (f : Row → Option Joined). f r) (joined_in_ledger (start_table threads rows)) ∙ ap joined_of (start_cell threads rows r))
 
 pub start_holder : (threads rows seats : ℕ) (r : Row) → r.thread < threads → r.sync < rows → holder_at (start_world threads rows seats) r ≡ first_holder seats r
 unfolding holder_at start_world is_row

@@ -1,8 +1,8 @@
 //! Worlds, and the schedules that are played on them.
 
-ghost use Rattle.std.specs.Prelude.{◌≡◌, ◌≤◌, IfOk, IfErr};
+ghost use Rattle.std.specs.Prelude.{◌≡◌, ◌≤◌, [], IfOk, IfErr};
 ghost use Rattle.protocol.specs.Worlds.{Plays, start_world};
-ghost use Rattle.protocol.specs.Ledgers.{ledger_of};
+ghost use Rattle.protocol.specs.Ledgers.{commits_in, ledger_of};
 ghost use Rattle.protocol.specs.States.{Refuses};
 
 use crate::ProtoFault;
@@ -31,7 +31,8 @@ impl Model for World {
 }
 
 impl World {
-    /// All rows Fresh and no nack bound; row 0 of thread t is held by seat t mod `seats`.
+    /// All rows Fresh and no nack bound, so that the ledger has no commits; row 0 of thread t is held by
+    /// seat t mod `seats`.
     pub fn start(alloc: Global, threads: u8, rows: u16, seats: u8) -> Result<World, ProtoFault>
         requires some_threads { 1 ≤ threads }
         requires few_threads { threads ≤ 64 }
@@ -40,6 +41,7 @@ impl World {
         requires some_seats { 1 ≤ seats }
         requires few_seats { seats ≤ 16 }
         ensures started { IfOk result (λ w. w ≡ start_world threads rows seats) }
+        ensures empty { IfOk result (λ w. commits_in (ledger_of w.table) ≡ []) }
         ensures refused { IfErr result (λ e. e ≡ ProtoFault.Memory) }
     {
         let state = State::start(
