@@ -64,7 +64,7 @@ abbrev pub ResultsOf : (Atom → Type 0) → List Chosen → Type 0
 ResultsOf P [] = ⊤
 ResultsOf P (r ∷ more) = MessageOf P r.1 × ResultsOf P more
 
-abbrev PlaceOf : (Atom → Type 0) → Option Atom → Type 0
+abbrev pub PlaceOf : (Atom → Type 0) → Option Atom → Type 0
 PlaceOf P None = ⊤
 PlaceOf P (Some a) = P a
 
@@ -183,12 +183,12 @@ module _ (r : Rule) where
   any_expr : AnyText → (e : Expr) → ExprOf e
   any_expr h e = (any_operand h e.first, any_terms h e.more)
 
-  any_list : AnyText → (es : List Expr) → ListOf es
+  pub any_list : AnyText → (es : List Expr) → ListOf es
   any_list h [] = tt
   any_list h (e ∷ es) = (any_expr h e, any_list h es)
 
   mutual
-    any_event : AnyText → (event : Event) → EventOf event
+    pub any_event : AnyText → (event : Event) → EventOf event
     any_event h (Sends channel list) = (any_name h channel, any_list h list)
     any_event h (Receives channel) = any_name h channel
     any_event h (IsReady list) = any_list h list
@@ -199,7 +199,7 @@ module _ (r : Rule) where
     any_event h (Guards body event) = (any_block h body, any_event h event)
     any_event h (Nacks name body event) = (any_block h body, any_event h event)
 
-    any_members : AnyText → (members : Events) → MembersOf members
+    pub any_members : AnyText → (members : Events) → MembersOf members
     any_members h NoMembers = tt
     any_members h (Members event others) = (any_event h event, any_members h others)
 
@@ -429,7 +429,7 @@ module _ (r : Rule) where
       bind_keeps (wrapped_once (slice_get wraps n) m s) _ HavingIs HavingIs (wrapped_once_keeps (slice_get wraps n) m s (wrap_at wraps n v) k h) (λ g l.
       wrapped_keeps wraps ns g.message g.state v l.message l.state)
 
-  committed_keeps : (names : Option (List ℕ)) (f : Formed) (numbers : Option (List ℕ)) (m : Message) (s : State) → WrapsAre f.wraps → MessageOf r.Good m → StateIs s → Keeps (committed names f numbers m s) StateIs
+  pub committed_keeps : (names : Option (List ℕ)) (f : Formed) (numbers : Option (List ℕ)) (m : Message) (s : State) → WrapsAre f.wraps → MessageOf r.Good m → StateIs s → Keeps (committed names f numbers m s) StateIs
   committed_keeps names f None m s v k h = tt
   committed_keeps names f (Some numbers) m s v k h =
       bind_keeps (wrapped f.wraps numbers m s) _ HavingIs StateIs (wrapped_keeps f.wraps numbers m s v k h) (λ g l.
@@ -442,7 +442,7 @@ module _ (r : Rule) where
       committed_keeps names f (wraps_at f.tree c.0) c.1 s h.wraps k.0
       (record { thread = h.state.thread; nacks = h.state.nacks; store = h.state.store; printed = h.state.printed; left = k.1 })
 
-  synced_keeps : (n : ℕ) (names : Option (List ℕ)) (f : Formed) → r.Small n → FormedIs n f → Keeps (synced names f) StateIs
+  pub synced_keeps : (n : ℕ) (names : Option (List ℕ)) (f : Formed) → r.Small n → FormedIs n f → Keeps (synced names f) StateIs
   synced_keeps n names f small h = synced_with_keeps n names f f.state.left small h.state.left h
 
   times_keeps : (n : ℕ) (turn : State → Outcome State) → ((s : State) → StateIs s → Keeps (turn s) StateIs) → (s : State) → StateIs s → Keeps (times n turn s) StateIs
@@ -500,7 +500,7 @@ module _ (r : Rule) where
         times_keeps (suc (length s.left)) (λ t. resolve event [] t >>= synced names >>= run_block rest) (turn_keeps (bases_of event) names (resolve event []) (run_block rest) w.0.1 (λ t k. event_keeps event [] t w.0.0 tt k) (λ t k. block_keeps rest t w.1 k)) s h
     stmt_keeps Ends s w h = h.printed
 
-    event_keeps : (event : Event) (wraps : List Wrapping) (s : State) → EventOf event → WrapsAre wraps → StateIs s → Keeps (resolve event wraps s) (FormedIs (bases_of event))
+    pub event_keeps : (event : Event) (wraps : List Wrapping) (s : State) → EventOf event → WrapsAre wraps → StateIs s → Keeps (resolve event wraps s) (FormedIs (bases_of event))
     event_keeps (Sends channel list) wraps s w v h = base_keeps wraps s (send_value s.store channel list) v (send_fine s.store channel list h.store w.0 w.1) h
     event_keeps (Receives channel) wraps s w v h = base_keeps wraps s (recv_value s.store channel) v (recv_fine s.store channel h.store w) h
     event_keeps (IsReady list) wraps s w v h = base_keeps wraps s (always_value s.store list) v (always_fine s.store list h.store w) h
@@ -525,7 +525,7 @@ module _ (r : Rule) where
           state = k.0.state;
         })
 
-    members_keep : (members : Events) (wraps : List Wrapping) (s : State) → MembersOf members → WrapsAre wraps → StateIs s → Keeps (resolve_all members wraps s) (FormedIs (bases_of_all members))
+    pub members_keep : (members : Events) (wraps : List Wrapping) (s : State) → MembersOf members → WrapsAre wraps → StateIs s → Keeps (resolve_all members wraps s) (FormedIs (bases_of_all members))
     members_keep NoMembers wraps s w v h = record { tree = tt; count = refl; wraps = v; state = h }
     members_keep (Members event others) wraps s w v h =
         bind_keeps (resolve event wraps s) _ (FormedIs (bases_of event)) (FormedIs (bases_of event + bases_of_all others)) (event_keeps event wraps s w.0 v h) (λ f k.

@@ -5,4 +5,5 @@ pub mod Commits
 pub mod Standing
 pub mod Keeping
 pub mod Ranging
+pub mod Nacks
 pub mod Crossing
