@@ -1,0 +1,11 @@
+//! A run of a script has a text: a law. No code runs here.
+#![tactic(auto)]
+
+ghost use Rattle.lines.specs.Laws.{PrintedHasNames, RunHasLines};
+
+/// The commits of a run of a script that was read have lines: their threads and channels are declared, and
+/// their numbers are in range. And what its processes print is named by the script.
+pub fn run_text_law()
+    ensures lines { RunHasLines }
+    ensures printed { PrintedHasNames }
+{}
