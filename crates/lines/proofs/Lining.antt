@@ -1,5 +1,5 @@
 -- A run of a script that was read has a text.
-use Rattle.std.proofs.Common.{List, [], ◌∷◌}
+use Rattle.std.proofs.Common.{refl, List, [], ◌∷◌}
 use Rattle.std.specs.List.{AllByRecursion, AllByRecursion-prop}
 use Rattle.std.specs.Coded.{×_prop, Unit-prop, le_prop}
 use Rattle.words.specs.declared.Atom.{Atom}
@@ -11,9 +11,11 @@ use Rattle.words.specs.declared.Commit.TheVariants.{Pair, Alone}
 use Rattle.words.specs.declared.Message.{Message}
 use Rattle.words.specs.declared.Message.TheVariants.{Empty, One, Two, Three}
 use Rattle.thread.proofs.Keeping.{AtomsOf}
-use Rattle.journal_text.specs.Names.{Declared, names_of}
-use Rattle.journal_text.specs.Journals.{HasAtom, HasCause, HasLine, HasMessage}
-use Rattle.lines.specs.Laws.{RunHasLines, PrintedHasNames}
+use Rattle.journal_text.specs.Names.{Declared, names_of, naming}
+use Rattle.journal_text.specs.Journals.{HasAtom, HasCause, HasLine, HasMessage, Spells}
+use Rattle.journal_text.specs.Texts.{commits_text}
+use Rattle.journal_text.proofs.Journals.{spells_or_is_bad}
+use Rattle.lines.specs.Laws.{RunHasLines, RunIsReadAgain, PrintedHasNames}
 use Rattle.lines.proofs.Text.{has_text}
 use Rattle.lines.proofs.Running.{printed_fine, run_lines}
 
@@ -55,3 +57,9 @@ printed_has_names s spelled rows few journal run t end printed ends =
     (λ w.
     let text = has_text w.0 s w.1 in
     all_atoms (names_of s) printed (printed_fine s rows few text _ t end printed (run_lines s rows few text journal run).1 ends)) spelled
+
+pub run_is_read_again : RunIsReadAgain
+run_is_read_again s spelled rows few journal run =
+    let bytes = commits_text (naming (names_of s)) journal in
+    let spells : Spells s bytes journal = record { lines = run_has_lines s spelled rows few journal run; text = refl } in
+    (spells, λ k bad. spells_or_is_bad s spelled bytes journal k spells bad)

@@ -5,8 +5,9 @@ use Rattle.words.specs.declared.Atom.{Atom}
 use Rattle.words.specs.declared.Commit.{Commit}
 use Rattle.script.specs.Sources.{Script}
 use Rattle.script.specs.Spelling.{IsSpelled}
-use Rattle.journal_text.specs.Journals.{HasAtom, HasLine}
-use Rattle.journal_text.specs.Names.{names_of}
+use Rattle.journal_text.specs.Journals.{HasAtom, HasLine, IsFirstBadLine, Spells}
+use Rattle.journal_text.specs.Names.{names_of, naming}
+use Rattle.journal_text.specs.Texts.{commits_text}
 use Rattle.sequential.specs.declared.end.End.{End}
 use Rattle.sequential.specs.Runs.{EndsAs, IsRun, config_of}
 
@@ -22,3 +23,9 @@ PrintedHasNames =
     (s : Script) → IsSpelled s → (rows : ℕ) → rows ≤ 1024 → (journal : List Commit) → IsRun s.processes rows journal →
     (t : ℕ) (end : End) (printed : List Atom) → EndsAs s.processes rows t (config_of journal) end printed →
     AllByRecursion (HasAtom (names_of s)) printed
+
+-- so the text of its journal is read as that journal again, and none of its lines is bad
+abbrev pub RunIsReadAgain : Type 0
+RunIsReadAgain =
+    (s : Script) → IsSpelled s → (rows : ℕ) → rows ≤ 1024 → (journal : List Commit) → IsRun s.processes rows journal →
+    Spells s (commits_text (naming (names_of s)) journal) journal × ((k : ℕ) → IsFirstBadLine s (commits_text (naming (names_of s)) journal) k → ⊥)
