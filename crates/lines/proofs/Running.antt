@@ -163,8 +163,7 @@ module _ (s : Script) (rows : ℕ) (few : rows ≤ 1024) (text : HasText s) wher
   commit_line : (config : Config) (c : Commit) → Fine config → IsLegal s.processes rows config c → HasLineAt c × Fine (applied config c)
   commit_line config (Pair sender receiver chan msg stamp) fine legal =
       let one = may_take config sender (Send chan msg) fine legal.1 in
-      let two = may_take config receiver (Recv chan) fine legal.2 in
-      (
+      let two = may_take config receiver (Recv chan) fine legal.2 in (
         ((one.place, two.place), one.base.0, has_message d msg one.base.1),
         with_fine receiver.0.thread (receiver.1, msg) (with_result sender.0.thread (sender.1, Empty) config) one.base.1
             (with_fine sender.0.thread (sender.1, Empty) config tt fine),
@@ -231,8 +230,7 @@ module _ (s : Script) (rows : ℕ) (few : rows ≤ 1024) (text : HasText s) wher
       let line = commit_line config c sound.fine f.legal in
       let grew = grows config c sound.short f.legal in
       let below : f.greatest ≤ all_syncs config = ⊎_elim (λ z. omega (arith, z)) (λ w. omega (arith, sound.stamps w.0 w.1, w.3)) f.is.there in
-      let bound = total_within (length s.processes) (applied config c) grew.short in
-      (
+      let bound = total_within (length s.processes) (applied config c) grew.short in (
         stamped c line.0 (omega (arith, f.stamp)) (omega (arith, f.stamp, below, grew.more, bound, text.few)),
         record {
           fine = line.1;

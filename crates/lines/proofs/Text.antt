@@ -71,6 +71,7 @@ module _ (d : Declared) (t : ℕ) (below : t < length d.threads) where
 
   mutual
     unfolding term_meaning AllGood Good terms_meaning
+
     term_text : (w : written.Term) (ns : Names) (x : Parts) (rest : List Token) → Fits ns → term_meaning ns w ≡ Some x → AllGood (term_tokens w rest) → PartsOf x × AllGood rest
     term_text (written.OfNumber n) ns x rest f e g = subst (λ (p : Parts). PartsOf p × AllGood rest) (some_is _ _ e) ((g.0, tt), g.1)
     term_text (written.OfName text) ns x rest f e g =
@@ -206,6 +207,7 @@ module _ (d : Declared) (t : ℕ) (below : t < length d.threads) where
 
   mutual
     unfolding event_meaning AllGood events_meaning stmt_meaning block_meaning
+
     event_text : (w : written.Event) (ns : Names) (x : trees.Event × Names) (rest : List Token) → Fits ns → event_meaning ns w ≡ Some x → AllGood (event_tokens w rest) → Told (EventOf rule) rest x
     event_text (written.Send channel list) ns x rest f e g =
         let p = part (name_meaning ns channel) _ x e in

@@ -464,14 +464,16 @@ module _ (r : Rule) where
       if_keeps (nat_le 64 s.nacks) _ _ (λ t. StateIs t × r.Scoped s.nacks) (λ full. h.printed) (λ few.
       let below : s.nacks < 64 = grind (arith, nat_tests, few) in
       let taken = r.nack s.nacks below h.nacks in
-      let good : r.Good (Nack (record { thread = s.thread; k = s.nacks })) = subst (λ (t : ℕ). r.Good (Nack (record { thread = t; k = s.nacks }))) (sym h.thread) taken.0 in
-      (record {
-        thread = h.thread;
-        nacks = taken.1;
-        store = with_atom_fine name (Nack (record { thread = s.thread; k = s.nacks })) s.store good h.store;
-        printed = h.printed;
-        left = h.left;
-      }, taken.2))
+      let good : r.Good (Nack (record { thread = s.thread; k = s.nacks })) = subst (λ (t : ℕ). r.Good (Nack (record { thread = t; k = s.nacks }))) (sym h.thread) taken.0 in (
+        record {
+          thread = h.thread;
+          nacks = taken.1;
+          store = with_atom_fine name (Nack (record { thread = s.thread; k = s.nacks })) s.store good h.store;
+          printed = h.printed;
+          left = h.left;
+        },
+        taken.2,
+      ))
 
   base_keeps : (wraps : List Wrapping) (s : State) (x : Result Base Fault) → WrapsAre wraps → IfFine x (BaseOf r.Good) → StateIs s → Keeps (given s x >>= formed wraps s) (FormedIs 1)
   base_keeps wraps s x v k h =
