@@ -14,7 +14,7 @@ use Rattle.sequential.specs.Replays.{Refuses, StandsAfter}
 use Rattle.sequential.specs.Runs.{BreaksOffAt, Config, IsMaximal, IsRun, config_of}
 use Rattle.sequential.proofs.Telling.{ends-both}
 use Rattle.order.specs.Laws.{IsOrderOf}
-use Rattle.order.proofs.LedgerOrder.{one-ledger-order}
+use Rattle.order.proofs.Sending.{named-is-received, received-is-sent}
 use Rattle.order.proofs.Ordering.{ordered-is-run}
 use Rattle.journal.specs.Records.{EndsOf, OutputsOf, TellsEnds, IsCompletion, RefusesLedger}
 
@@ -29,10 +29,6 @@ tells-ends ps rows journal s ends outputs stands ended printed = record {
       ends-both ps rows t (config_of journal) end two.0 told one.0 one.1 two.1;
 }
 
--- what is said of the ledger's commits in order is said of each list of them in order
-of-order : (l : Ledger) (P : List Commit → Type 0) (commits : List Commit) → IsLawful l → IsOrderOf l commits → P commits → (others : List Commit) → IsOrderOf l others → P others
-of-order l P commits law order h others other = subst P (one-ledger-order l commits others law order other) h
-
 pub completes : (ps : List Proc) (rows : ℕ) (l : Ledger) (commits added journal : List Commit) (s : State) (ends : List End) (outputs : List (List Atom)) (tail : ℕ) →
     IsLawful l → IsOrderOf l commits → IsRun ps rows commits → StandsAfter ps rows (commits ++ added) s → IsMaximal ps rows (config_of (commits ++ added)) →
     IsPermutation (commits ++ added) journal → IsInOrder journal → EndsOf s ends → OutputsOf s outputs → length added ≡ tail → IsCompletion ps rows l journal ends outputs tail
@@ -43,7 +39,8 @@ completes ps rows l commits added journal s ends outputs tail law order run stan
       in_order = sorted;
       maximal = subst (IsMaximal ps rows) (sym ordered.1) maximal;
       ends_are = subst (λ (config : Config). TellsEnds ps rows config ends outputs) (sym ordered.1) (tells-ends ps rows (commits ++ added) s ends outputs stands ended printed);
-      ledger = of-order l (IsRun ps rows) commits law order run;
+      ledger = (commits, order, run);
+      received = λ t chan. named-is-received ps rows journal ordered.0 t chan ∙ received-is-sent ps rows journal ordered.0 t chan;
       added = added;
       whole = IsPermutation-trans (commits_in l ++ added) (commits ++ added) journal (IsPermutation-append_left added (commits_in l) commits order.all) moved;
       tail_is = count;
@@ -51,4 +48,4 @@ completes ps rows l commits added journal s ends outputs tail law order run stan
 
 pub refuses : (ps : List Proc) (rows : ℕ) (l : Ledger) (commits : List Commit) (fault : ReplayFault) → IsLawful l → IsOrderOf l commits → Refuses ps rows commits fault → RefusesLedger ps rows l fault
 refuses ps rows l commits Memory law order h = tt
-refuses ps rows l commits (Unlawful index) law order h = of-order l (λ cs. BreaksOffAt ps rows cs index) commits law order h
+refuses ps rows l commits (Unlawful index) law order h = (commits, order, h)

@@ -11,6 +11,7 @@ use Rattle.sequential.specs.declared.state.ReplayFault.TheVariants.{Memory, Unla
 use Rattle.sequential.specs.Replays.{TellsEnd, TellsOutput, thread_count}
 use Rattle.sequential.specs.Runs.{BreaksOffAt, Config, EndsAs, IsMaximal, IsRun, config_of}
 use Rattle.order.specs.Laws.{IsOrderOf}
+use Rattle.order.specs.Messages.{named, sent}
 use Rattle.journal.specs.declared.record.Record.{Record}
 
 -- one end for each thread of a state, and one output
@@ -35,7 +36,9 @@ pub record IsCompletion (ps : List Proc) (rows : ℕ) (l : Ledger) (journal : Li
   pub maximal : IsMaximal ps rows (config_of journal)
   pub ends_are : TellsEnds ps rows (config_of journal) ends outputs
   -- the ledger's commits in order are a run
-  pub ledger : (commits : List Commit) → IsOrderOf l commits → IsRun ps rows commits
+  pub ledger : (commits : List Commit) × IsOrderOf l commits × IsRun ps rows commits
+  -- one thread's messages on a channel were received in sending order
+  pub received : (t chan : ℕ) → named t chan journal ≡ sent ps t chan (config_of journal t)
   -- the journal has each of them, and so many others
   pub added : List Commit
   pub whole : IsPermutation (commits_in l ++ added) journal
@@ -47,4 +50,4 @@ Completes ps rows l r = IsCompletion ps rows l r.journal.items r.ends.items (map
 -- the first so many of the ledger's commits in order are a run, and with the next they are none
 abbrev pub RefusesLedger : List Proc → ℕ → Ledger → ReplayFault → Type 0
 RefusesLedger ps rows l Memory = ⊤
-RefusesLedger ps rows l (Unlawful index) = (commits : List Commit) → IsOrderOf l commits → BreaksOffAt ps rows commits index
+RefusesLedger ps rows l (Unlawful index) = (commits : List Commit) × IsOrderOf l commits × BreaksOffAt ps rows commits index

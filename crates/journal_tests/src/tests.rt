@@ -227,6 +227,49 @@ fn a_ledger_of_another_script_is_refused(rt: HostRuntime) -> Result<(), Fail> {
     }
 }
 
+/// The ledger in which two threads were granted an always of the empty message, each its first sync.
+fn two_alone(alloc: Global) -> Result<Ledger, Fail> {
+    let mut world = World::start(alloc, 2, 1, 2)?;
+    for (seat, row) in [(Seat(0), SENDER), (Seat(1), RECEIVER)] {
+        let steps = [
+            (
+                seat,
+                Step::Draft {
+                    row,
+                    place: 1,
+                    value: 1,
+                },
+            ),
+            (
+                seat,
+                Step::Draft {
+                    row,
+                    place: 2,
+                    value: 3,
+                },
+            ),
+            (seat, Step::Open { row }),
+            (seat, Step::Grant { row, offer: 0 }),
+        ];
+        world = play(world, &steps)?;
+    }
+    Ok(world.ledger())
+}
+
+#[test]
+fn the_first_commit_that_is_not_lawful_is_named(rt: HostRuntime) -> Result<(), Fail> {
+    let alloc = rt.alloc();
+    let text = "channel c; process a { sync always (); } process b { sync recv c; }";
+    let script = parse(alloc, text.as_bytes())?;
+    match complete(alloc, script.processes(), 256, &two_alone(alloc)?) {
+        Ok(_) => Err(Fail::from("lawful")),
+        Err(fault) => {
+            assert_eq!(rt; fault, ReplayFault::Unlawful(1));
+            Ok(())
+        }
+    }
+}
+
 #[test]
 fn no_process_at_all(rt: HostRuntime) -> Result<(), Fail> {
     let alloc = rt.alloc();

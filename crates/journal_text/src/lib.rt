@@ -7,9 +7,10 @@
 #![tactic(auto)]
 
 ghost use Rattle.std.specs.Prelude.{◌≡◌, ◌++◌, OnOk, IfOk, IfErr, map};
+ghost use Rattle.std.specs.List.{AllByRecursion};
 ghost use Rattle.std.specs.String.{string_bytes};
 ghost use Rattle.journal_text.specs.Answers.{Explains};
-ghost use Rattle.journal_text.specs.Journals.{Spells, SpellsOnlyOne, SpellsOrIsBad, HasOneFirstBadLine};
+ghost use Rattle.journal_text.specs.Journals.{HasLine, Spells, SpellsOnlyOne, SpellsOrIsBad, HasOneFirstBadLine};
 ghost use Rattle.journal_text.specs.Names.{names_of, naming, numbers};
 ghost use Rattle.journal_text.specs.Texts.{atom_text, commits_text};
 ghost use Rattle.journal_text.specs.declared.JournalFault.TheVariants.{Memory};
@@ -53,14 +54,15 @@ impl From<AllocError> for JournalFault {
     }
 }
 
-/// The text of the commits in their order, a line for each, with the names of the script. A name that it
-/// does not declare is left out.
+/// The text of the commits in their order, a line for each, with the names of the script. Each has to have
+/// a line: its threads and channels are declared, and its numbers are in range.
 pub fn write_journal(
     alloc: Global,
     script: &Script,
     commits: &[Commit],
 ) -> Result<Vec<u8>, AllocError>
-    ensures { IfOk result (λ text. text.items ≡ commits_text (naming (names_of (script_of script.now))) commits.now) }
+    requires { AllByRecursion (HasLine (names_of (script_of script.now))) commits.now }
+    ensures { IfOk result (λ text. Spells (script_of script.now) text.items commits.now) }
 {
     let mut out = String::new(alloc);
     for commit in commits {

@@ -1,5 +1,5 @@
 pub mod Stamps
-pub mod Deciding
+pub mod Nacks
 pub mod Swapping
 pub mod Keys
 pub mod Runs

@@ -1,11 +1,11 @@
 -- Each commit of a run is a meeting: what its syncs offered they took, and it stays so.
-use Rattle.std.proofs.Common.{◌≡◌, ℕ, ◌+◌, ◌≤◌, List, [], ◌∷◌, ◌++◌, length, take, slice_get, Some, refl, sym, ap, ◌∙◌, append_assoc, append-nil, subst, arith}
+use Rattle.std.proofs.Common.{◌≡◌, ℕ, List, [], ◌∷◌, ◌++◌, length, take, refl, sym, ap, ◌∙◌, append_assoc, append-nil, subst, arith}
 use Rattle.std.proofs.lemmas.List.{take_all, take_at}
 use Rattle.std.proofs.lemmas.Option.{slice_get_within}
 use Rattle.syntax.specs.Processes.{Proc}
 use Rattle.thread.specs.After.{Chosen}
 use Rattle.words.specs.declared.Base.{Base}
-use Rattle.words.specs.declared.Base.TheVariants.{Send, Recv, Always, OnNack}
+use Rattle.words.specs.declared.Base.TheVariants.{Always, OnNack}
 use Rattle.words.specs.declared.Cause.{Cause}
 use Rattle.words.specs.declared.Cause.TheVariants as cause
 use Rattle.words.specs.declared.Commit.{Commit}
@@ -14,7 +14,7 @@ use Rattle.words.specs.declared.Message.{Message}
 use Rattle.words.specs.declared.Message.TheVariants.{Empty}
 use Rattle.words.specs.declared.NackName.{NackName}
 use Rattle.words.specs.declared.Row.{Row}
-use Rattle.sequential.specs.Runs.{Config, FiredAt, IsFiredAt, IsLegal, IsOffering, IsRun, MayTake, applied, with_result, config_from, config_of, no_results}
+use Rattle.sequential.specs.Runs.{Config, FiredAt, IsFiredAt, IsLegal, IsOffering, MayTake, applied, with_result, config_from, config_of, no_results}
 use Rattle.sequential.proofs.Firing.{fired-kept}
 use Rattle.sequential.proofs.Greatest.{more}
 use Rattle.sequential.proofs.Standing.{config_from-append, config_of-more, result-at, result-other}

@@ -12,12 +12,11 @@ use Rattle.words.specs.declared.Commit.TheVariants.{Pair, Alone}
 use Rattle.words.specs.declared.Message.TheVariants.{Empty}
 use Rattle.words.specs.declared.NackName.{NackName}
 use Rattle.words.specs.declared.Row.{Row}
-use Rattle.sequential.specs.Runs.{Config, CanTake, MayTake, IsLegal, IsFiredAt, FiredAt, FiredFirst, Fires, CountsFor, HasRow, HasThread, IsGreatest, Follows, applied, with_result, message_by, config_of, stamp_of}
+use Rattle.sequential.specs.Runs.{Config, CanTake, MayTake, IsLegal, IsFiredAt, FiredAt, Fires, CountsFor, HasRow, HasThread, IsGreatest, Follows, applied, with_result, message_by, config_of, stamp_of}
 use Rattle.sequential.proofs.Firing.{fired-kept, fired-cases}
 use Rattle.sequential.proofs.Greatest.{more, in-more, last-more, more-cases, greatest-other, greatest-same}
-use Rattle.sequential.proofs.Growing.{first-kept, first-before}
 use Rattle.sequential.proofs.Standing.{next-alone, result-at, result-other}
-use Rattle.order.proofs.Deciding.{first-of}
+use Rattle.order.proofs.Nacks.{fired-once}
 use Rattle.order.proofs.Stamps.{counts}
 
 -- WHAT A COMMIT DOES TO A THREAD
@@ -81,30 +80,15 @@ fired-forward ps rows config c n g legal f = ⊎_elim
     (λ grew. subst (λ (rs : List Chosen). FiredAt ps n.thread rs n.k g) (sym grew.is) (fired-kept ps n.thread (config n.thread) grew.result n.k g f))
     (touches ps rows config c n.thread legal)
 
-first-forward : (ps : List Proc) (rows : ℕ) (config : Config) (c : Commit) (n : NackName) (g : ℕ) → IsLegal ps rows config c → FiredFirst ps n.thread (config n.thread) n.k g → FiredFirst ps n.thread (applied config c n.thread) n.k g
-first-forward ps rows config c n g legal f = ⊎_elim
-    (λ same. subst (λ (rs : List Chosen). FiredFirst ps n.thread rs n.k g) (sym same) f)
-    (λ grew. subst (λ (rs : List Chosen). FiredFirst ps n.thread rs n.k g) (sym grew.is) (first-kept ps n.thread (config n.thread) grew.result n.k g f))
-    (touches ps rows config c n.thread legal)
-
-first-backward : (ps : List Proc) (rows : ℕ) (config : Config) (c : Commit) (n : NackName) (g : ℕ) → IsLegal ps rows config c → ((h : ℕ) × IsFiredAt ps config n h) →
-    FiredFirst ps n.thread (applied config c n.thread) n.k g → FiredFirst ps n.thread (config n.thread) n.k g
-first-backward ps rows config c n g legal known f = ⊎_elim
-    (λ same. subst (λ (rs : List Chosen). FiredFirst ps n.thread rs n.k g) same f)
-    (λ grew. first-before ps n.thread (config n.thread) grew.result n.k g known (subst (λ (rs : List Chosen). FiredFirst ps n.thread rs n.k g) grew.is f))
-    (touches ps rows config c n.thread legal)
-
 -- a nack that is fired after a commit which did not fire it was fired before
 cause-backward : (ps : List Proc) (rows : ℕ) (config : Config) (c : Commit) (n : NackName) (g : ℕ) → IsLegal ps rows config c → (Fires ps (applied config c) n c → ⊥) →
     IsFiredAt ps (applied config c) n g → (h : ℕ) × IsFiredAt ps config n h
 cause-backward ps rows config c n g legal none f = ⊎_elim
     (λ same. (g, subst (λ (rs : List Chosen). FiredAt ps n.thread rs n.k g) same f))
-    (λ grew.
-    let w = first-of ps n.thread (applied config c n.thread) n.k g f in
-    ⊎_elim
-    (λ old. (w.0, old))
-    (λ now. absurd (none (w.0, w.1, subst (HasRow c n.thread) (sym now.0) grew.row)))
-    (fired-cases ps n.thread (config n.thread) grew.result n.k w.0 (subst (λ (rs : List Chosen). FiredAt ps n.thread rs n.k w.0) grew.is w.1.at)))
+    (λ grew. ⊎_elim
+    (λ old. (g, old))
+    (λ now. absurd (none (g, f, subst (HasRow c n.thread) (sym now.0) grew.row)))
+    (fired-cases ps n.thread (config n.thread) grew.result n.k g (subst (λ (rs : List Chosen). FiredAt ps n.thread rs n.k g) grew.is f)))
     (touches ps rows config c n.thread legal)
 
 -- WHAT COUNTS, WHERE A COMMIT IS ADDED THAT DOES NOT
@@ -112,8 +96,11 @@ cause-backward ps rows config c n g legal none f = ⊎_elim
 fires-same : (ps : List Proc) (rows : ℕ) (config : Config) (c e : Commit) (n : NackName) → IsLegal ps rows config c → ((h : ℕ) × IsFiredAt ps config n h) →
     (Fires ps config n e → Fires ps (applied config c) n e) × (Fires ps (applied config c) n e → Fires ps config n e)
 fires-same ps rows config c e n legal known = (
-  λ w. (w.0, first-forward ps rows config c n w.0 legal w.1, w.2),
-  λ w. (w.0, first-backward ps rows config c n w.0 legal known w.1, w.2),
+  λ w. (w.0, fired-forward ps rows config c n w.0 legal w.1, w.2),
+  λ w.
+      let kept = fired-forward ps rows config c n known.0 legal known.1 in
+      let same : w.0 ≡ known.0 = fired-once ps n.thread (applied config c n.thread) n.k w.0 known.0 w.1 kept in
+      (known.0, known.1, subst (HasRow e n.thread) same w.2),
 )
 
 -- the nack that a commit stands for was fired
@@ -243,7 +230,7 @@ second-uncounted ps rows config (Alone at (cause.Nack n) stamp) d legal other ap
     let known = legal.1 in
     let kept = fired-forward ps rows config d n known.0 other known.1 in
     let within = slice_get_within (config n.thread) known.0 known.1.chosen known.1.result in
-    omega (arith, w.1.first known.0 kept, within, row-within ps rows config d n.thread w.0 other w.2))
+    omega (arith, fired-once ps n.thread (applied config d n.thread) n.k w.0 known.0 w.1 kept, within, row-within ps rows config d n.thread w.0 other w.2))
     h
 
 -- and the first may stand second

@@ -1,9 +1,11 @@
 -- Laws of runs.
-use Rattle.std.specs.Prelude.{◌≡◌, ℕ, ◌<◌, List, Some, slice_get, IsPermutation}
+use Rattle.std.specs.Prelude.{◌≡◌, ℕ, ◌<◌, ◌≤◌, List, Some, length, take, slice_get, Contains, IsPermutation}
+use Rattle.event.specs.Tree.{Tree, scope_nacks}
 use Rattle.syntax.specs.Processes.{Proc}
+use Rattle.thread.specs.After.{Chosen}
 use Rattle.words.specs.declared.Commit.{Commit}
 use Rattle.protocol.specs.Ledgers.{Ledger, IsInOrder, IsLawful, commits_in}
-use Rattle.sequential.specs.Runs.{HasRow, HasThread, IsRun, config_of, stamp_of}
+use Rattle.sequential.specs.Runs.{HasRow, HasThread, IsOffering, IsRun, config_of, stamp_of}
 use Rattle.order.specs.Meetings.{Meets}
 use Rattle.order.specs.Messages.{named, received, sent}
 
@@ -31,6 +33,20 @@ OneRowOneCommit =
     (ps : List Proc) (rows : ℕ) (journal : List Commit) → IsRun ps rows journal →
     (i j : ℕ) (c d : Commit) (t g : ℕ) → slice_get journal i ≡ Some c → slice_get journal j ≡ Some d →
     HasRow c t g → HasRow d t g → i ≡ j
+
+-- NACKS
+
+-- of a thread with these results, sync g offers, or offered, an event with a scope for nack k
+pub record HasScopeAt (ps : List Proc) (t : ℕ) (results : List Chosen) (k g : ℕ) : Type 0 where
+  pub within : g ≤ length results
+  pub event : Tree
+  pub offered : IsOffering ps t (take g results) event
+  pub scope : Contains (scope_nacks event) k
+
+-- a nack stands in the scopes of at most one sync of its thread
+abbrev pub OneSyncOneNack : Type 0
+OneSyncOneNack =
+    (ps : List Proc) (t : ℕ) (results : List Chosen) (k g h : ℕ) → HasScopeAt ps t results k g → HasScopeAt ps t results k h → g ≡ h
 
 -- MEETINGS
 

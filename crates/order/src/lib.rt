@@ -1,7 +1,7 @@
 //! The order of a journal: laws of runs in sequential CML. No code runs here.
 #![tactic(auto)]
 
-ghost use Rattle.order.specs.Laws.{EachMeets, HasOrder, NamedIsReceived, OneLedgerOrder, OneOrder, OneRowOneCommit, OneStampOneThread, OrderedIsRun, ReceivedIsSent, StampsRise};
+ghost use Rattle.order.specs.Laws.{EachMeets, HasOrder, NamedIsReceived, OneLedgerOrder, OneOrder, OneRowOneCommit, OneStampOneThread, OneSyncOneNack, OrderedIsRun, ReceivedIsSent, StampsRise};
 
 /// In a run the stamps of a thread's commits rise, so two commits of one stamp share no thread.
 pub fn stamp_laws()
@@ -12,6 +12,12 @@ pub fn stamp_laws()
 /// In a run each sync is in at most one commit.
 pub fn row_law()
     ensures { OneRowOneCommit }
+{}
+
+/// Whatever results a thread has, a nack stands in the scopes of at most one of its syncs: so at most one
+/// sync fires it.
+pub fn nack_law()
+    ensures { OneSyncOneNack }
 {}
 
 /// In a run each commit is a meeting of the syncs that it names: a pair is of two threads, of which one

@@ -35,18 +35,12 @@ more-total t stamp r old new w =
     let same : syncs (get_or old t w.before) ≡ syncs w.before = ap syncs here in
     omega (arith, sums, count, total_is, same)
 
-fired-next : (k stamp : ℕ) (r : Chosen) (old new : Strand) (limit : ℕ) → Grows r stamp old new → stamp ≤ limit →
-    (o : Option ℕ) → get_or old.fired k None ≡ o → ((s : ℕ) → get_or old.fired k None ≡ Some s → s ≤ limit) → (s : ℕ) → get_or new.fired k None ≡ Some s → s ≤ limit
-fired-next k stamp r old new limit grows le (Some before) e known s is =
-    let same : before ≡ s = same_Some before s (sym (grows.fired.keeps k before e) ∙ is) in omega (arith, same, known before e)
-fired-next k stamp r old new limit grows le None e known s is = ⊎_elim
-    (λ fires. let same : stamp ≡ s = same_Some stamp s (sym (grows.fired.fires k fires.0 fires.1 fires.2 e) ∙ is) in omega (arith, same, le))
-    (λ all. absurd (none-some s (sym (grows.fired.stays k all ∙ e) ∙ is)))
-    (decide (nacks_in old.machine.phase) (has_scope grows.offer.scopes) k)
-
 fired-one : (t k stamp : ℕ) (r : Chosen) (old new : Strand) (limit : ℕ) → Grows r stamp old new → stamp ≤ limit →
     ((s : ℕ) → get_or old.fired k None ≡ Some s → s ≤ limit) → (s : ℕ) → get_or new.fired k None ≡ Some s → s ≤ limit
-fired-one t k stamp r old new limit grows le known s is = fired-next k stamp r old new limit grows le (get_or old.fired k None) refl known s is
+fired-one t k stamp r old new limit grows le known s is = ⊎_elim
+    (λ fires. let same : stamp ≡ s = same_Some stamp s (sym (grows.fired.fires k fires.0 fires.1 fires.2) ∙ is) in omega (arith, same, le))
+    (λ all. known s (sym (grows.fired.stays k all) ∙ is))
+    (decide (nacks_in old.machine.phase) (has_scope grows.offer.scopes) k)
 
 at-thread : (t u stamp : ℕ) (r : Chosen) (old new : List Strand) (s : Strand) (w : OneGrows t r stamp old new) → slice_get new u ≡ Some s → u ≡ t → w.behind ≡ s
 at-thread t u stamp r old new s w is e = same_Some w.behind s (sym (at-same t stamp r old new w) ∙ ap (slice_get new) (sym e) ∙ is)

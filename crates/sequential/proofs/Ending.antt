@@ -42,8 +42,8 @@ strand-ends ps rows t config earlier s stands =
     }
 
 -- a thread's end and its output, as its strand tells them
-pub thread-ends : (ps : List Proc) (rows t : ℕ) (journal : List Commit) (state : State) (s : Strand) → StandsAfter ps rows journal state → slice_get state.strands.items t ≡ Some s →
-    EndsAs ps rows t (config_of journal) (end_at state.rows s) s.machine.output
+pub thread-ends : (ps : List Proc) (rows t : ℕ) (journal : List Commit) (state : State) (s : Strand) → StandsAfter ps rows journal state → slice_get state.threads.strands.items t ≡ Some s →
+    EndsAs ps rows t (config_of journal) (end_at state.threads.rows s) s.machine.output
 thread-ends ps rows t journal state s stands is =
     subst (λ (n : ℕ). EndsAs ps rows t (config_of journal) (end_at n s) s.machine.output) (sym stands.rows_are)
     (strand-ends ps rows t (config_of journal) journal s (stands.strands.each t s is))

@@ -1,5 +1,5 @@
 -- A thread's memory of a run, as the run grows by a commit.
-use Rattle.std.proofs.Common.{◌≡◌, ℕ, ◌<◌, ◌≤◌, true, false, List, [], ◌∷◌, ◌++◌, length, get_or, slice_get, Option, Some, None, Contains, refl, sym, ap, ◌∙◌, subst, arith, ⊎_elim}
+use Rattle.std.proofs.Common.{◌≡◌, ℕ, ◌<◌, ◌≤◌, true, false, List, [], ◌∷◌, ◌++◌, length, get_or, slice_get, Option, Some, None, Contains, sym, ap, ◌∙◌, subst, arith, ⊎_elim}
 use Rattle.std.proofs.lemmas.Bool.{false≢true, eq-eqb, eqb-true}
 use Rattle.std.proofs.lemmas.Option.{same_Some, slice_get_within}
 use Rattle.event.proofs.TreeLemmas.{mask-bits}
@@ -12,7 +12,7 @@ use Rattle.thread.specs.Machines.{nacks_in}
 use Rattle.words.specs.declared.Commit.{Commit}
 use Rattle.words.specs.declared.Offer.{Offer}
 use Rattle.sequential.specs.declared.strand.Strand.{Strand}
-use Rattle.sequential.specs.Runs.{FiredAt, FiredFirst, HasRow, HasThread, IsGreatest, stamp_of}
+use Rattle.sequential.specs.Runs.{FiredAt, HasRow, HasThread, IsGreatest, stamp_of}
 use Rattle.sequential.specs.Standing.{FiresOf, KnowsNack, StrandStands, Grows}
 use Rattle.sequential.proofs.Firing.{FiredNow, AllPass, decide, fired-kept, fired-cases, fired-now}
 use Rattle.sequential.proofs.Greatest.{more, greatest-other, greatest-this, greatest-same}
@@ -38,52 +38,33 @@ inside-mask scopes s e = (mask-bits scopes s).0 (eqb-true _ 1 e)
 abbrev grown : List Chosen → Chosen → List Chosen
 grown results r = results ++ r ∷ []
 
--- a nack that was not fired before is fired by the last sync
+-- a nack that is fired by the last sync
 knows-fired : (ps : List Proc) (t : ℕ) (results : List Chosen) (earlier : List Commit) (r : Chosen) (c : Commit) (k stamp : ℕ) →
-    TakesPart earlier t (length results) stamp c → ((g : ℕ) → FiredAt ps t results k g → ⊥) → FiredNow ps t results r k → KnowsNack ps t (grown results r) (more earlier c) k (Some stamp)
-knows-fired ps t results earlier r c k stamp part none now =
-    let f = fired-now ps t results r k now in
-    let first : FiredFirst ps t (grown results r) k (length results) = record {
-      at = f;
-      first = λ h g. ⊎_elim (λ old. absurd (none h old)) (λ last. omega (arith, last.0)) (fired-cases ps t results r k h g);
-    } in (
+    TakesPart earlier t (length results) stamp c → FiredNow ps t results r k → KnowsNack ps t (grown results r) (more earlier c) k (Some stamp)
+knows-fired ps t results earlier r c k stamp part now =
+    let f = fired-now ps t results r k now in (
       (length results, f),
       greatest-this earlier c (FiresOf ps t (grown results r) k) stamp
-          (λ d there w. part.above d there (part.rows_are d w.0 w.2)) (length results, first, part.row) part.stamp_is,
+          (λ d there w. part.above d there (part.rows_are d w.0 w.2)) (length results, f, part.row) part.stamp_is,
     )
 
 fired-within : (ps : List Proc) (t : ℕ) (results : List Chosen) (k g : ℕ) → FiredAt ps t results k g → g < length results
 fired-within ps t results k g f = slice_get_within results g f.chosen f.result
 
--- the first sync that fired a nack stays the first
-pub first-kept : (ps : List Proc) (t : ℕ) (results : List Chosen) (r : Chosen) (k g : ℕ) → FiredFirst ps t results k g → FiredFirst ps t (grown results r) k g
-first-kept ps t results r k g f = record {
-  at = fired-kept ps t results r k g f.at;
-  first = λ h later. ⊎_elim
-      (λ old. f.first h old)
-      (λ last. omega (arith, last.0, fired-within ps t results k g f.at))
-      (fired-cases ps t results r k h later);
-}
+-- a nack that the last sync did not fire was fired before
+fired-then : (ps : List Proc) (t : ℕ) (results : List Chosen) (r : Chosen) (k g : ℕ) → (FiredNow ps t results r k → ⊥) → FiredAt ps t (grown results r) k g → FiredAt ps t results k g
+fired-then ps t results r k g none f = ⊎_elim (λ old. old) (λ now. absurd (none now.1)) (fired-cases ps t results r k g f)
 
-pub first-before : (ps : List Proc) (t : ℕ) (results : List Chosen) (r : Chosen) (k g : ℕ) → ((h : ℕ) × FiredAt ps t results k h) → FiredFirst ps t (grown results r) k g → FiredFirst ps t results k g
-first-before ps t results r k g known f = record {
-  at = ⊎_elim
-      (λ old. old)
-      (λ last. absurd (omega (arith, last.0, fired-within ps t results k known.0 known.1, f.first known.0 (fired-kept ps t results r k known.0 known.1))))
-      (fired-cases ps t results r k g f.at);
-  first = λ h old. f.first h (fired-kept ps t results r k h old);
-}
-
--- what was known of a nack that was fired stays so
-knows-kept : (ps : List Proc) (t : ℕ) (results : List Chosen) (earlier : List Commit) (r : Chosen) (c : Commit) (k stamp last : ℕ) →
-    TakesPart earlier t (length results) stamp c → KnowsNack ps t results earlier k (Some last) → KnowsNack ps t (grown results r) (more earlier c) k (Some last)
-knows-kept ps t results earlier r c k stamp last part knows =
+-- what was known of a nack that the last sync did not fire stays so
+knows-kept : (ps : List Proc) (t : ℕ) (results : List Chosen) (earlier : List Commit) (r : Chosen) (c : Commit) (k stamp : ℕ) (o : Option ℕ) →
+    TakesPart earlier t (length results) stamp c → (FiredNow ps t results r k → ⊥) → KnowsNack ps t results earlier k o → KnowsNack ps t (grown results r) (more earlier c) k o
+knows-kept ps t results earlier r c k stamp None part none knows = λ g f. knows g (fired-then ps t results r k g none f)
+knows-kept ps t results earlier r c k stamp (Some last) part none knows =
     let same = greatest-same earlier (FiresOf ps t results k) (FiresOf ps t (grown results r) k) last
-    (λ d w. (w.0, first-kept ps t results r k w.0 w.1, w.2))
-    (λ d w. (w.0, first-before ps t results r k w.0 knows.0 w.1, w.2)) knows.1 in
+    (λ d w. (w.0, fired-kept ps t results r k w.0 w.1, w.2))
+    (λ d w. (w.0, fired-then ps t results r k w.0 none w.1, w.2)) knows.1 in
     let late : FiresOf ps t (grown results r) k c → ⊥ = λ w.
-    let old = first-before ps t results r k w.0 knows.0 w.1 in
-    omega (arith, fired-within ps t results k w.0 old.at, part.only w.0 w.2) in
+    omega (arith, fired-within ps t results k w.0 (fired-then ps t results r k w.0 none w.1), part.only w.0 w.2) in
     ((knows.0.0, fired-kept ps t results r k knows.0.0 knows.0.1), greatest-other earlier c (FiresOf ps t (grown results r) k) last same late)
 
 fires-now : (ps : List Proc) (t : ℕ) (results : List Chosen) (r : Chosen) (k s : ℕ) (o : Offer) (nacks : List ℕ) →
@@ -120,17 +101,15 @@ Knows ps t results earlier r c k o = KnowsNack ps t (grown results r) (more earl
 
 knows-next : (ps : List Proc) (t : ℕ) (results : List Chosen) (earlier : List Commit) (r : Chosen) (c : Commit) (stamp : ℕ) (old new : Strand) →
     StrandStands ps t results earlier old → Grows r stamp old new → TakesPart earlier t (length results) stamp c →
-    (k : ℕ) (o : Option ℕ) → get_or old.fired k None ≡ o → KnowsNack ps t results earlier k o → Knows ps t results earlier r c k (get_or new.fired k None)
-knows-next ps t results earlier r c stamp old new stands grows part k (Some last) e knows =
-    subst (Knows ps t results earlier r c k) (sym (grows.fired.keeps k last e)) (knows-kept ps t results earlier r c k stamp last part knows)
-knows-next ps t results earlier r c stamp old new stands grows part k None e knows =
+    (k : ℕ) → KnowsNack ps t results earlier k (get_or old.fired k None) → Knows ps t results earlier r c k (get_or new.fired k None)
+knows-next ps t results earlier r c stamp old new stands grows part k knows =
     let w = open-at ps t results old.machine r.0 grows.offer stands.machine grows.was in
     let nacks = nacks_in old.machine.phase in
     ⊎_elim
-    (λ fires. subst (Knows ps t results earlier r c k) (sym (grows.fired.fires k fires.0 fires.1 fires.2 e))
-    (knows-fired ps t results earlier r c k stamp part knows (fires-now ps t results r k fires.0 grows.offer nacks w fires.1 fires.2)))
-    (λ all. subst (Knows ps t results earlier r c k) (sym (grows.fired.stays k all ∙ e))
-    (λ g f. ⊎_elim (λ before. knows g before) (λ now. fires-not ps t results r k grows.offer nacks w all now.1) (fired-cases ps t results r k g f)))
+    (λ fires. subst (Knows ps t results earlier r c k) (sym (grows.fired.fires k fires.0 fires.1 fires.2))
+    (knows-fired ps t results earlier r c k stamp part (fires-now ps t results r k fires.0 grows.offer nacks w fires.1 fires.2)))
+    (λ all. subst (Knows ps t results earlier r c k) (sym (grows.fired.stays k all))
+    (knows-kept ps t results earlier r c k stamp (get_or old.fired k None) part (fires-not ps t results r k grows.offer nacks w all) knows))
     (decide nacks (has_scope grows.offer.scopes) k)
 
 -- a thread that takes part in the commit
@@ -151,7 +130,7 @@ strand-grows ps t results earlier r c stamp old new stands grows part = record {
   stop = grows.stop;
   last = subst (IsGreatest (more earlier c) (λ d. HasThread d t)) (sym grows.last)
       (greatest-this earlier c (λ d. HasThread d t) stamp part.above part.thread part.stamp_is);
-  fired = λ k. knows-next ps t results earlier r c stamp old new stands grows part k (get_or old.fired k None) refl (stands.fired k);
+  fired = λ k. knows-next ps t results earlier r c stamp old new stands grows part k (stands.fired k);
 }
 
 knows-still : (ps : List Proc) (t : ℕ) (results : List Chosen) (earlier : List Commit) (c : Commit) (k : ℕ) →

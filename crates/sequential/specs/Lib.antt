@@ -1,4 +1,5 @@
 pub mod Runs
 pub mod Standing
+pub mod Reaching
 pub mod Replays
 pub mod Searching

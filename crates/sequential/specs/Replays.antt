@@ -1,5 +1,5 @@
 -- What a replay answers.
-use Rattle.std.specs.Prelude.{◌≡◌, ◌<◌, ◌≤◌, ℕ, List, ◌++◌, length, Option, Some, None, ⊤}
+use Rattle.std.specs.Prelude.{ℕ, List, ◌++◌, length, Option, Some, None, ⊤}
 use Rattle.syntax.specs.Processes.{Proc}
 use Rattle.words.specs.declared.Atom.{Atom}
 use Rattle.words.specs.declared.Commit.{Commit}
@@ -7,26 +7,16 @@ use Rattle.sequential.specs.declared.end.End.{End}
 use Rattle.sequential.specs.declared.state.State.{State}
 use Rattle.sequential.specs.declared.state.ReplayFault.{ReplayFault}
 use Rattle.sequential.specs.declared.state.ReplayFault.TheVariants.{Memory, Unlawful}
-use Rattle.sequential.specs.Runs.{IsRun, IsMaximal, Follows, BreaksOffAt, EndsAs, config_of}
-use Rattle.sequential.specs.Searching.{Bounded}
-use Rattle.sequential.specs.Standing.{Stands}
+use Rattle.sequential.specs.Reaching.{AreAfter}
+use Rattle.sequential.specs.Runs.{IsMaximal, Follows, BreaksOffAt, EndsAs, config_of}
 
 -- the commits are a run of the processes in so many rows each, and the state stands where they lead
-pub record StandsAfter (ps : List Proc) (rows : ℕ) (journal : List Commit) (s : State) : Type 0 where
-  pub rows_are : s.rows ≡ rows
-  pub few : length ps ≤ 64
-  pub low : rows < 65536
-  pub run : IsRun ps rows journal
-  pub strands : Stands ps journal s.strands.items
-  pub bounded : Bounded rows s.strands.items
+abbrev pub StandsAfter : List Proc → ℕ → List Commit → State → Type 0
+StandsAfter ps rows journal s = AreAfter ps rows journal s.threads
 
 abbrev pub Refuses : List Proc → ℕ → List Commit → ReplayFault → Type 0
 Refuses ps rows commits Memory = ⊤
 Refuses ps rows commits (Unlawful index) = BreaksOffAt ps rows commits index
-
--- the state of a run of some processes, each of so many rows
-abbrev pub IsReached : State → Type 0
-IsReached s = (ps : List Proc) × (rows : ℕ) × (journal : List Commit) × StandsAfter ps rows journal s
 
 -- what a state says of a thread's end, and of what it printed
 abbrev pub TellsEnd : State → ℕ → End → Type 0
@@ -39,7 +29,7 @@ TellsOutput s t printed =
 
 -- how many threads a state has
 abbrev pub thread_count : State → ℕ
-thread_count s = length s.strands.items
+thread_count s = length s.threads.strands.items
 
 -- a commit that may come next, or none where the run is maximal
 abbrev pub TellsEnabled : State → Option Commit → Type 0

@@ -111,14 +111,9 @@ abbrev pub HasRow : Commit → ℕ → ℕ → Type 0
 HasRow (Pair sender receiver chan msg stamp) t g = IsRow sender t g ⊎ IsRow receiver t g
 HasRow (Alone at why stamp) t g = IsRow at t g
 
--- of the syncs that fired the nack, it was the first
-pub record FiredFirst (ps : List Proc) (t : ℕ) (results : List Chosen) (k g : ℕ) : Type 0 where
-  pub at : FiredAt ps t results k g
-  pub first : (h : ℕ) → FiredAt ps t results k h → g ≤ h
-
--- commit d fired the nack: with it the first such sync was committed
+-- commit d fired the nack: with it a sync was committed that fired it
 abbrev pub Fires : List Proc → Config → NackName → Commit → Type 0
-Fires ps config n d = (g : ℕ) × FiredFirst ps n.thread (config n.thread) n.k g × HasRow d n.thread g
+Fires ps config n d = (g : ℕ) × IsFiredAt ps config n g × HasRow d n.thread g
 
 abbrev pub CausedBy : List Proc → Config → Cause → Commit → Type 0
 CausedBy ps config (cause.Always m) d = ⊥

@@ -20,7 +20,7 @@ use Rattle.sequential.specs.declared.end.End.TheVariants as end
 use Rattle.sequential.specs.declared.strand.Stop.{Stop}
 use Rattle.sequential.specs.declared.strand.Stop.TheVariants.{Offering, Ended, Faulted}
 use Rattle.sequential.specs.declared.strand.Strand.{Strand}
-use Rattle.sequential.specs.Runs.{FiredAt, FiredFirst, HasThread, HasRow, IsGreatest, config_of, message_by, stamp_of}
+use Rattle.sequential.specs.Runs.{FiredAt, HasThread, HasRow, IsGreatest, config_of, message_by, stamp_of}
 
 -- WHAT IS TRUE OF A THREAD
 
@@ -44,7 +44,7 @@ pub record MachineStands (ps : List Proc) (t : ℕ) (results : List Chosen) (m :
 
 -- the commit that fired nack k of a thread with these results
 abbrev pub FiresOf : List Proc → ℕ → List Chosen → ℕ → Commit → Type 0
-FiresOf ps t results k d = (g : ℕ) × FiredFirst ps t results k g × HasRow d t g
+FiresOf ps t results k d = (g : ℕ) × FiredAt ps t results k g × HasRow d t g
 
 -- what is remembered of a nack: nothing where it is not fired, else the stamp of the commit that fired it
 abbrev pub KnowsNack : List Proc → ℕ → List Chosen → List Commit → ℕ → Option ℕ → Type 0
@@ -120,11 +120,9 @@ pub record MayBe (strands : List Strand) (rows : ℕ) (c : Commit) : Type 0 wher
   pub may : MayFollow strands rows c below
   pub stamp : stamp_of c ≡ below + 1
 
--- Of an open sync with these nacks, that was committed inside the scopes of the mask, at this stamp: nacks of the other
--- scopes are fired, if they were not before.
+-- of an open sync with these nacks, that was committed inside the scopes of the mask, at this stamp: nacks of the other scopes are fired
 pub record FiresMore (nacks : List ℕ) (scopes stamp : ℕ) (old new : List (Option ℕ)) : Type 0 where
-  pub fires : (k s : ℕ) → slice_get nacks s ≡ Some k → has_scope scopes s ≡ false → slice_index_or old k None ≡ None → slice_index_or new k None ≡ Some stamp
-  pub keeps : (k before : ℕ) → slice_index_or old k None ≡ Some before → slice_index_or new k None ≡ Some before
+  pub fires : (k s : ℕ) → slice_get nacks s ≡ Some k → has_scope scopes s ≡ false → slice_index_or new k None ≡ Some stamp
   pub stays : (k : ℕ) → ((s : ℕ) → slice_get nacks s ≡ Some k → has_scope scopes s ≡ true) → slice_index_or new k None ≡ slice_index_or old k None
 
 -- the thread's open sync is committed by this result at this stamp, and the thread went on

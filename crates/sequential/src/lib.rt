@@ -7,11 +7,13 @@
 
 mod end;
 mod receivers;
+mod runs;
 mod same;
 mod search;
 mod state;
 mod strand;
+mod threads;
 
 pub use crate::end::End;
-pub use crate::search::settle;
-pub use crate::state::{ReplayFault, State, replay};
+pub use crate::runs::{replay, settle};
+pub use crate::state::{ReplayFault, State};

@@ -1,15 +1,15 @@
 //! Looks for commits that may come next.
 
-ghost use Rattle.std.specs.Prelude.{◌≡◌, ℕ, ◌+◌, ◌≤◌, IfOk, IfSome, OnOk, List, length, MatchOption, Some, slice_get};
+ghost use Rattle.std.specs.Prelude.{◌≡◌, ℕ, ◌+◌, ◌≤◌, IfOk, OnOk, List, length, MatchOption, Some, slice_get};
 ghost use Rattle.words.specs.declared.Commit.{Commit};
 ghost use Rattle.sequential.specs.declared.strand.Strand.{Strand};
 ghost use Rattle.sequential.specs.Searching.{HasRoom, IsAlone, IsIndex, IsPair, ListsAll, ListsTo, NoCause, NoReceiver, NoneMay, NoneMayBy, Offered};
-ghost use Rattle.sequential.specs.Replays.{IsReached, Settles, TellsEnabled};
+ghost use Rattle.sequential.specs.Reaching.{IsReached};
 ghost use Rattle.sequential.specs.Standing.{Finds, MayBe};
 
 use crate::receivers::Receivers;
-use crate::state::State;
 use crate::strand::Strand;
+use crate::threads::Threads;
 use std::alloc::{AllocError, Global};
 use words::{Base, Cause, Commit, Message, Row};
 
@@ -33,7 +33,7 @@ fn push_offers(
     Ok(())
 }
 
-impl State {
+impl Threads {
     /// All that the threads offer at their next syncs, by row and number.
     fn open_offers(&self, alloc: Global) -> Result<Vec<((Row, u8), Base)>, AllocError>
         requires { length self.now.strands.items ≤ 64 }
@@ -110,26 +110,12 @@ impl State {
     }
 
     /// Some commit that may come next, with its stamp.
-    pub fn enabled(&self, alloc: Global) -> Result<Option<Commit>, AllocError>
+    pub(crate) fn find(&self, alloc: Global) -> Result<Option<Commit>, AllocError>
         requires { IsReached self.now }
-        ensures tells { IfOk result (TellsEnabled self.now) }
-        ensures finds { IfOk result (λ found. IfSome found (MayBe self.now.strands.items self.now.rows)) }
+        ensures { IfOk result (λ found. MatchOption found (NoneMay self.now.strands.items self.now.rows) (MayBe self.now.strands.items self.now.rows)) }
     {
         let offers = self.open_offers(alloc)?;
         let receivers = Receivers::of(&offers);
         Ok(self.first_by(&receivers, &offers))
     }
-}
-
-/// Adds commits that may come next, until there is none. Which ones is open.
-pub fn settle(alloc: Global, mut state: State) -> Result<(State, Vec<Commit>), AllocError>
-    requires { IsReached state }
-    ensures { IfOk result (λ settled. Settles state settled.0 settled.1.items) }
-{
-    let mut added = Vec::new(alloc);
-    while let Some(commit) = state.enabled(alloc)? {
-        state.apply(alloc, &commit)?;
-        added.push(commit)?;
-    }
-    Ok((state, added))
 }

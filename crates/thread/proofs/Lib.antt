@@ -3,5 +3,7 @@ pub mod Taking
 pub mod Choices
 pub mod Commits
 pub mod Standing
+pub mod Keeping
 pub mod Ranging
+pub mod Nacks
 pub mod Crossing

@@ -1,8 +1,10 @@
 -- What running a script prints.
-use Rattle.std.specs.Prelude.{◌≡◌, ◌≤◌, ℕ, List, [], ◌∷◌, ◌++◌, length, codes, map}
+use Rattle.std.specs.Prelude.{◌≡◌, ◌≤◌, ℕ, List, [], ◌∷◌, ◌++◌, length, codes, map, Some, slice_get}
+use Rattle.std.specs.List.{AllByRecursion}
 use Rattle.std.specs.Fmt.{decimal}
 use Rattle.words.specs.declared.Commit.{Commit}
 use Rattle.script.specs.Sources.{Script}
+use Rattle.journal_text.specs.Journals.{HasAtom, Spells}
 use Rattle.journal_text.specs.Names.{names_of, naming}
 use Rattle.journal_text.specs.Texts.{commits_text}
 use Rattle.sequential.specs.Runs.{config_of}
@@ -21,12 +23,15 @@ pub record TellsRecord (s : Script) (r : Record) (text : List ℕ) : Type 0 wher
   pub is : text ≡ commits_text (naming (names_of s)) r.journal.items ++ process_lines (naming (names_of s)) standing ++ tail_line (length r.journal.items) r.tail
 
 -- The text tells the commits of a maximal run of the script's processes, of so many rows each, in stamp order and in the script's
--- names, then how each process stands where they lead, and how many commits there are.
+-- names, then how each process stands where they lead, and how many commits there are. The lines of the commits are read as those
+-- commits again, and each atom that is printed has a name.
 pub record IsRan (s : Script) (rows : ℕ) (text : List ℕ) : Type 0 where
   pub journal : List Commit
   pub run : IsMaximalRun s.processes rows journal
+  pub spells : Spells s (commits_text (naming (names_of s)) journal) journal
   pub standing : List Standing
   pub stand : StandAs s.processes rows (config_of journal) standing
+  pub named : (t : ℕ) (p : Standing) → slice_get standing t ≡ Some p → AllByRecursion (HasAtom (names_of s)) p.printed
   pub tail : ℕ
   pub few : tail ≤ length journal
   pub is : text ≡ commits_text (naming (names_of s)) journal ++ process_lines (naming (names_of s)) standing ++ tail_line (length journal) tail

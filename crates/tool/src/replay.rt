@@ -5,7 +5,7 @@ ghost use Rattle.std.specs.String.{string_bytes};
 ghost use Rattle.script.specs.Scripts.{script_of};
 ghost use Rattle.journal_text.specs.Answers.{Explains};
 ghost use Rattle.journal_text.specs.Names.{names_of, naming};
-ghost use Rattle.sequential.specs.Replays.{IsReached, thread_count};
+ghost use Rattle.sequential.specs.Replays.{thread_count};
 ghost use Rattle.tool.specs.Replay.{lawful_line, reach_text, unlawful_line, TellsProcesses, TellsReplayed, TellsState, IsReplayedToOne, IsReplayedOrNoRun, HasOneUnlawfulLine};
 
 use crate::processes::push_process;
@@ -68,8 +68,7 @@ fn state_text(
     state: &State,
     commits: usize,
 ) -> Result<Vec<u8>, AllocError>
-    requires reached { IsReached state.now }
-    requires threads { thread_count state.now ≡ length (script_of script.now).processes }
+    requires { thread_count state.now ≡ length (script_of script.now).processes }
     ensures { IfOk result (λ text. TellsState (naming (names_of (script_of script.now))) state.now commits text.items) }
 {
     let mut text = process_lines(alloc, script, state)?;

@@ -1,8 +1,10 @@
 //! What `run` prints.
 
 ghost use Rattle.std.specs.Prelude.{◌≡◌, ◌↔◌, Err, IfOk, length, map};
+ghost use Rattle.std.specs.List.{AllByRecursion};
 ghost use Rattle.std.specs.String.{string_bytes};
 ghost use Rattle.script.specs.Scripts.{script_of};
+ghost use Rattle.journal_text.specs.Journals.{HasLine};
 ghost use Rattle.journal_text.specs.Names.{names_of, naming};
 ghost use Rattle.runtime.specs.Limits.{AreRows, AreWorkers};
 ghost use Rattle.runtime.specs.declared.fault.RunFault.TheVariants.{Workers, Rows};
@@ -47,6 +49,7 @@ fn tail_line(alloc: Global, commits: usize, tail: usize) -> Result<String, Alloc
 
 /// The journal, a line for each process, and the counts.
 fn record_text(alloc: Global, script: &Script, ran: &Record) -> Result<Vec<u8>, AllocError>
+    requires lines { AllByRecursion (HasLine (names_of (script_of script.now))) ran.now.journal.items }
     requires ends { length ran.now.ends.items ≡ length (script_of script.now).processes }
     requires outputs { length ran.now.outputs.items ≡ length (script_of script.now).processes }
     ensures { IfOk result (λ text. TellsRecord (script_of script.now) ran.now text.items) }

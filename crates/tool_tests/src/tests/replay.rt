@@ -284,6 +284,42 @@ fn a_nack_too_many(rt: HostRuntime) -> Result<(), Fail> {
     Ok(())
 }
 
+/// A journal of some thousand lines is read and replayed whole.
+#[test]
+fn a_long_journal(rt: HostRuntime) -> Result<(), Fault> {
+    let mut journal = String::new(rt.alloc());
+    for name in ["a", "b", "e"] {
+        for sync in 0..1024 {
+            write!(&mut journal, "{} {name}.{sync}.0 always ()\n", sync + 1)?;
+        }
+    }
+    leads_in_rows(
+        &rt,
+        "1024",
+        "process a { loop 1024 { sync always (); } } process b { loop 1024 { sync always (); } } process e { loop 1024 { sync always (); } }",
+        journal.as_str(),
+        "a ended\nb ended\ne ended\nlawful 3072 maximal\n",
+    )
+}
+
+/// Each of the 64 processes that a script may have is told of.
+#[test]
+fn as_many_processes_as_there_may_be(rt: HostRuntime) -> Result<(), Fault> {
+    let mut script = String::new(rt.alloc());
+    let mut journal = String::new(rt.alloc());
+    let mut expected = String::new(rt.alloc());
+    for number in 0..64 {
+        write!(
+            &mut script,
+            "process p{number} {{ x <- sync always ({number}); print x; }}\n"
+        )?;
+        write!(&mut journal, "1 p{number}.0.0 always ({number})\n")?;
+        write!(&mut expected, "p{number} ended {number}\n")?;
+    }
+    expected.push_str("lawful 64 maximal\n")?;
+    leads(&rt, script.as_str(), journal.as_str(), expected.as_str())
+}
+
 /// a sends three numbers to b.
 const THREE_SENDS: &str =
     "channel c; process a { sync send c (1); sync send c (2); sync send c (3); } process b { loop 3 { x <- sync recv c; print x; } }";

@@ -1,7 +1,7 @@
 //! What the workers do by themselves.
 
 use super::scripts::{EXAMPLES, TWO_PAIRS};
-use journal_text::write_journal;
+use journal_text::read_journal;
 use runtime::{OpenGate, RunFault, run, work};
 use script::parse;
 use std::test::Fail;
@@ -13,12 +13,12 @@ fn workers_alone(rt: HostRuntime) -> Result<(), Fail> {
         let script = parse(rt.alloc(), example.script.as_bytes())?;
         assert!(rt; !script.processes().is_empty());
         let rows: u16 = example.rows.parse()?;
+        let expected = read_journal(rt.alloc(), &script, example.journal.as_bytes())?;
         for workers in [1, 2, 16] {
             let ledger = work(&rt, rt.alloc(), &script, workers, rows, &OpenGate)?;
-            let text = write_journal(rt.alloc(), &script, &ledger.commits()?)?;
             assert_eq!(rt;
-                text.as_slice(),
-                example.journal.as_bytes(),
+                ledger.commits()?.as_slice(),
+                expected.as_slice(),
                 "{}",
                 example.name
             );

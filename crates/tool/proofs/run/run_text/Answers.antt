@@ -1,6 +1,17 @@
+use Rattle.std.proofs.Common.{◌≤◌}
 use Rattle.script.specs.Scripts.{script_of}
-use Rattle.tool.proofs.Running.{is_ran}
+use Rattle.lines.proofs.Lining.{run_has_lines}
+use Rattle.tool.proofs.Running.{is_ran, rows_are_few}
 use Rattle.tool.proofs.run.run_text.Goals as goal
 
+pub record_text-requires-clause-lines : goal.record_text-requires-clause-lines
+record_text-requires-clause-lines g c =
+    let told = c.in_ok-record.ensures in
+    let few : c.args.rows ≤ 1024 = rows_are_few c.args.workers c.args.rows _ _ told.workers.1 told.rows.1 (λ e. absurd cc) (λ e. absurd cc) in
+    run_has_lines (script_of c.args.script.now) c.args.script.now.spelled c.args.rows few c.in_ok-record.record.journal.items told.headline.journal.run
+
 pub returns-in-Ok-clause-ran : goal.returns-in-Ok-clause-ran
-returns-in-Ok-clause-ran g c = is_ran (script_of c.args.script.now) c.args.rows c.in_ok-record.record c.in-Ok.text.items c.in_ok-record.ensures.headline c.in-Ok.ensures
+returns-in-Ok-clause-ran g c =
+    let told = c.in_ok-record.ensures in
+    let few : c.args.rows ≤ 1024 = rows_are_few c.args.workers c.args.rows _ _ told.workers.1 told.rows.1 (λ e. absurd cc) (λ e. absurd cc) in
+    is_ran (script_of c.args.script.now) c.args.rows c.in_ok-record.record c.in-Ok.text.items c.args.script.now.spelled few told.headline c.in-Ok.ensures

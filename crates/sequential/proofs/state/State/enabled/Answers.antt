@@ -1,11 +1,9 @@
-use Rattle.sequential.proofs.Replaying.{reached-room, tells-enabled}
+use Rattle.std.proofs.lemmas.Result.{IfOk-weaker}
+use Rattle.sequential.proofs.Replaying.{tells-enabled}
 use Rattle.sequential.proofs.state.State.enabled.Goals as goal
 
-pub open_offers-requires : goal.open_offers-requires
-open_offers-requires c = (reached-room c.args.self.now c.requires).1
+pub find-requires : goal.find-requires
+find-requires c = c.args.self.now.reached
 
-pub first_by-requires-clause-room : goal.first_by-requires-clause-room
-first_by-requires-clause-room c = (reached-room c.args.self.now c.requires).0
-
-pub returns-clause-tells : goal.returns-clause-tells
-returns-clause-tells c = tells-enabled c.args.self.now c.first_by.result c.first_by.ensures
+pub returns : goal.returns
+returns c = IfOk-weaker c.find.result _ _ (tells-enabled c.args.self.now) c.find.ensures

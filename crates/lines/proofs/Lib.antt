@@ -1,0 +1,4 @@
+pub mod Rules
+pub mod Text
+pub mod Running
+pub mod Lining
