@@ -37,14 +37,13 @@ mod taking;
 mod telling;
 mod view;
 
-use crate::board::Law;
-use crate::view::{Shape, View};
-use atomic_table::TableRule;
-
 pub use crate::attempt::{Attempt, CLAIM, JOIN, NoGate, SEAL, StepGate, YIELD};
+use crate::board::Law;
 pub use crate::cells::{Cells, Pass};
 pub use crate::granting::Grant;
 pub use crate::view::Seen;
+use crate::view::{Shape, View};
+use atomic_table::TableRule;
 
 /// What the rule of the table, the very one that it has (`holds` of `Law`), says of any moment between
 /// two atomic steps, whatever threads call:
