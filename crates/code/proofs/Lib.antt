@@ -1,0 +1,3 @@
+pub mod Growing
+pub mod Chains
+pub mod Limits
