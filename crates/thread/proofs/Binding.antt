@@ -34,6 +34,13 @@ bind_same (Finishes printed left) f g P h same = refl
 bind_same (Fails fault printed left) f g P h same = refl
 bind_same Strays f g P h same = refl
 
+pub bind_each : {A B : Type 0} (x : Outcome A) (f g : A → Outcome B) → ((a : A) → f a ≡ g a) → (x >>= f) ≡ (x >>= g)
+bind_each (Goes a) f g same = same a
+bind_each (Offers tree printed) f g same = refl
+bind_each (Finishes printed left) f g same = refl
+bind_each (Fails fault printed left) f g same = refl
+bind_each Strays f g same = refl
+
 pub given_goes : {A : Type 0} (s : State) (r : Result A Fault) → IfGoes (given s r) (λ a. ⊤)
 given_goes s (Ok a) = tt
 given_goes s (Err fault) = tt
@@ -48,3 +55,10 @@ goes_weaker (Offers tree printed) P Q weaker h = tt
 goes_weaker (Finishes printed left) P Q weaker h = tt
 goes_weaker (Fails fault printed left) P Q weaker h = tt
 goes_weaker Strays P Q weaker h = tt
+
+pub goes_anyhow : {A : Type 0} (x : Outcome A) → IfGoes x (λ _. ⊤)
+goes_anyhow (Goes a) = tt
+goes_anyhow (Offers tree printed) = tt
+goes_anyhow (Finishes printed left) = tt
+goes_anyhow (Fails fault printed left) = tt
+goes_anyhow Strays = tt

@@ -6,7 +6,7 @@ use Rattle.thread.specs.declared.Fault.{Fault}
 use Rattle.thread.specs.declared.memory.Memory.{Memory}
 use Rattle.thread.specs.Values.{list_value}
 use Rattle.thread.specs.After.{State, Chosen, Goes, Fails, ◌>>=◌, given, received, Wrapping, wrapped_once}
-use Rattle.thread.specs.Plans.{state_of, message_after}
+use Rattle.thread.specs.Stacks.{state_of, message_after}
 
 -- the list is evaluated once the names are set
 list_after : (r : Result Message Fault) (m : Memory) (rs : List Chosen) → (given (state_of m rs) r >>= λ changed. Goes (record { message = changed; state = state_of m rs })) ≡ message_after r m rs

@@ -1,7 +1,15 @@
 pub mod Binding
 pub mod Taking
-pub mod Choices
 pub mod Commits
+pub mod Stacking
+pub mod Staging
+pub mod Beginning
+pub mod Looping
+pub mod Statements
+pub mod Opening
+pub mod Committing
+pub mod Shaping
+pub mod Passing
 pub mod Standing
 pub mod Keeping
 pub mod Ranging

@@ -68,12 +68,12 @@ offers_in_range : (t : Tree) → TreeOf AtomIsIn (λ k. ⊤) t → OffersAreIn (
 offers_in_range t h = All-map (λ o. BaseIsIn o.base) offer_of (bases t) (bases_in_range 0 t h)
 
 phase_in_range : (m : Thread) (phase : Phase) → IsAfterAt m phase → m.thread < 64 → ResultsAreIn m.results → OffersAreIn (offers_in phase)
-phase_in_range m (Open event) is below r =
+phase_in_range m (Open os ns) is below r =
     let rule = in_range m.thread below in
     let P : Outcome State → Type 0 = λ x. Keeps rule x (λ s. ⊤) in
     let block = any_block rule (record { literal = λ n. tt; named = λ c. tt; small = λ n. tt }) (block_of m.body) in
-    let offered = subst P is (after_keeps rule (block_of m.body) m.variables m.results tt block (results_in m.results r)) in
-    offers_in_range (tree_of event) offered.parts
+    let offered = subst P is.after (after_keeps rule (block_of m.body) m.variables m.results tt block (results_in m.results r)) in
+    subst OffersAreIn is.offers (offers_in_range is.tree offered.parts)
 phase_in_range m Ready is below r = All-nil (λ o. BaseIsIn o.base)
 phase_in_range m Over is below r = All-nil (λ o. BaseIsIn o.base)
 phase_in_range m (Stuck fault) is below r = All-nil (λ o. BaseIsIn o.base)

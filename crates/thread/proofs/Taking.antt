@@ -6,7 +6,7 @@ use Rattle.syntax.specs.Trees.{Event, Sends, Receives, IsReady, IsNever, IsCance
 use Rattle.words.specs.declared.Message.{Message}
 use Rattle.thread.specs.Values.{expr_value, list_value, test_value, with_names}
 use Rattle.thread.specs.After.{State, Chosen, Outcome, ◌>>=◌, given, received, Wrapping, wrapped_once, wrapped, Formed, committed, synced_with, synced, times, endless, formed, with_nack, as_wrap, as_scope, as_first, run_block, run_stmt, resolve, resolve_all}
-use Rattle.thread.specs.Plans.{turn_on}
+use Rattle.thread.specs.Stacks.{turn_on}
 use Rattle.thread.proofs.Binding.{IfGoes, bind_goes, bind_same, bind_assoc, given_goes, goes_weaker, if_goes}
 
 abbrev pub NoMore : State → State → Type 0

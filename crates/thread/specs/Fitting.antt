@@ -1,115 +1,75 @@
--- Each sync that is open or still to come has at most 8 base events and 4 nacks.
-use Rattle.std.specs.Prelude.{ℕ, ◌+◌, ◌≤◌, ⊤, map}
-use Rattle.event.specs.Resolved.{tree_of}
-use Rattle.event.specs.Tree.{Fits, choose, base_count as bases_in, scope_count as scopes_in}
-use Rattle.syntax.specs.Trees.{Event, Sends, Receives, IsReady, IsNever, IsCancelled, Chooses, Wraps, Guards, Nacks, Events, NoMembers, Members, Stmt, Lets, Prints, Syncs, Branches, Loops, LoopsForever, Ends, Block, Stops, Runs, Turn, block_of, event_of, events_of, turn_of}
-use Rattle.syntax.specs.Limits.{IsSmall, base_count, nack_count, bases_of_all, nacks_of_all}
-use Rattle.thread.specs.declared.plan.Rest.{Rest, Nothing, Block', Times', Endless', Resolve'}
-use Rattle.thread.specs.declared.plan.Pending.{Pending, Member', Wrap', Scope', Sync'}
-use Rattle.thread.specs.declared.plan.Now.{Now}
-use Rattle.thread.specs.declared.plan.Now.TheVariants.{Go, Run, Resolve, ResolveAll, Give}
-use Rattle.thread.specs.declared.plan.Offered.{Offered}
-use Rattle.thread.specs.declared.plan.Stop.{Stop}
-use Rattle.thread.specs.declared.plan.Stop.TheVariants.{Offering, Ended, Faulted}
-use Rattle.thread.specs.declared.plan.Step.{Step}
-use Rattle.thread.specs.declared.plan.Step.TheVariants.{On, To}
+-- What is left to do fits its code, and the lists of offers and nacks.
+use Rattle.std.specs.Prelude.{◌≡◌, ℕ, zero, suc, ◌+◌, ◌≤◌, List, [], ◌∷◌, drop, length, map, take, Some, slice_get, ⊤}
+use Rattle.code.specs.Codes.{HasPlan}
+use Rattle.code.specs.Stages.{Stage, Offered, Performed, Made, stages}
+use Rattle.code.specs.declared.Code.{Code}
+use Rattle.code.specs.declared.Place.{Place}
+use Rattle.thread.specs.declared.stack.Frame.{Frame}
+use Rattle.thread.specs.declared.stack.Frame.TheVariants.{Rest, Times, Endless, Event}
+use Rattle.thread.specs.declared.stack.Opening.{Opening}
+use Rattle.thread.specs.declared.stack.Stack.{Stack}
+use Rattle.thread.specs.declared.stack.Now.{Now}
+use Rattle.thread.specs.declared.stack.Now.TheVariants.{At, Open, Back}
+use Rattle.thread.specs.declared.stack.Stop.{Stop}
+use Rattle.thread.specs.declared.stack.Stop.TheVariants.{Offering, Ended, Faulted}
+use Rattle.thread.specs.declared.stack.Step.{Step}
+use Rattle.thread.specs.declared.stack.Step.TheVariants.{On, To}
+use Rattle.thread.specs.Resolving.{Lists}
+use Rattle.thread.specs.Stacks.{lists_of, others, own, stacked, sync_at}
 
--- each sync in the bodies of its guards and nacks is small
-abbrev mutual
-  pub EventFits : Event → Type 0
-  EventFits (Sends channel list) = ⊤
-  EventFits (Receives channel) = ⊤
-  EventFits (IsReady list) = ⊤
-  EventFits IsNever = ⊤
-  EventFits (IsCancelled nack) = ⊤
-  EventFits (Chooses members) = MembersFit members
-  EventFits (Wraps event names list) = EventFits event
-  EventFits (Guards body event) = BlockFits body × EventFits event
-  EventFits (Nacks name body event) = BlockFits body × EventFits event
+-- the code has the place, or the plan
+pub record HasPlace (c : Code) (at : ℕ) : Type 0 where
+  pub place : Place
+  pub there : slice_get c.places.items at ≡ Some place
 
-  pub MembersFit : Events → Type 0
-  MembersFit NoMembers = ⊤
-  MembersFit (Members event others) = EventFits event × MembersFit others
+abbrev pub HasSync : Code → ℕ → Type 0
+HasSync c number = HasPlan c number (sync_at c number).names (sync_at c number).event (sync_at c number).rest
 
-  pub StmtFits : Stmt → Type 0
-  StmtFits (Lets name value) = ⊤
-  StmtFits (Prints value) = ⊤
-  StmtFits (Syncs names event) = EventFits event × IsSmall event
-  StmtFits (Branches test first second) = BlockFits first × BlockFits second
-  StmtFits (Loops number names event rest) = EventFits event × (IsSmall event × BlockFits rest)
-  StmtFits (LoopsForever names event rest) = EventFits event × (IsSmall event × BlockFits rest)
-  StmtFits Ends = ⊤
+-- the masks of the offers that stages make, and how many nacks they make
+abbrev pub masks : List Stage → List ℕ
+masks [] = []
+masks (Offered event scopes ∷ more) = scopes ∷ masks more
+masks (Performed body ∷ more) = masks more
+masks (Made name ∷ more) = masks more
 
-  pub BlockFits : Block → Type 0
-  BlockFits Stops = ⊤
-  BlockFits (Runs stmt rest) = StmtFits stmt × BlockFits rest
+abbrev pub nacks_made : List Stage → ℕ
+nacks_made [] = 0
+nacks_made (Offered event scopes ∷ more) = nacks_made more
+nacks_made (Performed body ∷ more) = nacks_made more
+nacks_made (Made name ∷ more) = 1 + nacks_made more
 
-abbrev pub TurnFits : Turn → Type 0
-TurnFits t = EventFits t.event × (IsSmall t.event × BlockFits t.rest)
+-- a sync's own offers and nacks are what its stages so far made
+pub record IsOpening (c : Code) (l : Lists) (o : Opening) : Type 0 where
+  pub sync : HasSync c o.plan
+  pub stage : o.stage ≤ length (stages 0 0 (sync_at c o.plan).event)
+  pub first_offer : o.offers ≤ length l.offers
+  pub first_nack : o.nacks ≤ length l.nacks
+  pub masks : map (λ offer. offer.scopes) (own o l).offers ≡ masks (take o.stage (stages 0 0 (sync_at c o.plan).event))
+  pub nacks : length (own o l).nacks ≡ nacks_made (take o.stage (stages 0 0 (sync_at c o.plan).event))
 
--- how many base events and nacks a sync has beside the event that is being resolved
-abbrev pub other_bases : Pending → ℕ
-other_bases (Member' first others p pending) =
-    bases_in (choose (map tree_of first.items)) + bases_of_all (events_of others.value) + other_bases pending
-other_bases (Wrap' number p pending) = other_bases pending
-other_bases (Scope' nack p pending) = other_bases pending
-other_bases (Sync' names p rest) = 0
+abbrev pub FrameFits : Code → Frame → (Lists → Type 0) → Lists → Type 0
+FrameFits c (Rest at) Below l = HasPlace c at × Below l
+FrameFits c (Times left plan) Below l = HasSync c plan × Below l
+FrameFits c (Endless plan) Below l = HasSync c plan × Below l
+FrameFits c (Event o) Below l = IsOpening c l o × Below (others o l)
 
-abbrev pub other_nacks : Pending → ℕ
-other_nacks (Member' first others p pending) =
-    scopes_in (choose (map tree_of first.items)) + nacks_of_all (events_of others.value) + other_nacks pending
-other_nacks (Wrap' number p pending) = other_nacks pending
-other_nacks (Scope' nack p pending) = 1 + other_nacks pending
-other_nacks (Sync' names p rest) = 0
+abbrev pub FramesFit : Code → List Frame → Lists → Type 0
+FramesFit c frames = stacked (FrameFits c) (λ l. ⊤) frames
 
--- a sync with so many more base events and nacks is small
-abbrev pub HasRoom : Pending → ℕ → ℕ → Type 0
-HasRoom pending bases nacks = (bases + other_bases pending ≤ 8) × (nacks + other_nacks pending ≤ 4)
+abbrev pub NowFits : Code → Stack → Now → Type 0
+NowFits c stack (At at) = HasPlace c at × FramesFit c stack.frames.items (lists_of stack)
+NowFits c stack (Open o) = IsOpening c (lists_of stack) o × FramesFit c stack.frames.items (others o (lists_of stack))
+NowFits c stack Back = FramesFit c stack.frames.items (lists_of stack)
 
-abbrev mutual
-  pub RestFits : Rest → Type 0
-  RestFits Nothing = ⊤
-  RestFits (Block' block p rest) = BlockFits (block_of block.value) × RestFits rest
-  RestFits (Times' number turn p rest) = TurnFits (turn_of turn.value) × RestFits rest
-  RestFits (Endless' turn p rest) = TurnFits (turn_of turn.value) × RestFits rest
-  RestFits (Resolve' event wraps p pending) =
-      EventFits (event_of event.value)
-      × (HasRoom pending (base_count (event_of event.value)) (nack_count (event_of event.value))
-      × PendingFits pending)
+-- the event of an open sync is resolved
+abbrev pub StopFits : Code → Stack → Stop → Type 0
+StopFits c stack (Offering o) =
+    IsOpening c (lists_of stack) o
+    × ((o.stage ≡ length (stages 0 0 (sync_at c o.plan).event))
+    × FramesFit c stack.frames.items (others o (lists_of stack)))
+StopFits c stack Ended = ⊤
+StopFits c stack (Faulted fault) = ⊤
 
-  pub PendingFits : Pending → Type 0
-  PendingFits (Member' first others p pending) = MembersFit (events_of others.value) × PendingFits pending
-  PendingFits (Wrap' number p pending) = PendingFits pending
-  PendingFits (Scope' nack p pending) = PendingFits pending
-  PendingFits (Sync' names p rest) = RestFits rest
-
-abbrev pub NowFits : Now → Type 0
-NowFits (Go rest) = RestFits rest
-NowFits (Run block rest) = BlockFits (block_of block.value) × RestFits rest
-NowFits (Resolve event wraps pending) =
-    EventFits (event_of event.value)
-    × (HasRoom pending (base_count (event_of event.value)) (nack_count (event_of event.value))
-    × PendingFits pending)
-NowFits (ResolveAll first others wraps pending) =
-    MembersFit (events_of others.value)
-    × (HasRoom pending
-    (bases_in (choose (map tree_of first.items)) + bases_of_all (events_of others.value))
-    (scopes_in (choose (map tree_of first.items)) + nacks_of_all (events_of others.value))
-    × PendingFits pending)
-NowFits (Give tree wraps pending) = HasRoom pending (bases_in (tree_of tree)) (scopes_in (tree_of tree)) × PendingFits pending
-
-abbrev pub OfferedFits : Offered → Type 0
-OfferedFits o = Fits (tree_of o.tree) × RestFits o.rest
-
-abbrev pub StopFits : Stop → Type 0
-StopFits (Offering o) = OfferedFits o
-StopFits Ended = ⊤
-StopFits (Faulted fault) = ⊤
-
-abbrev pub StepFits : Step → Type 0
-StepFits (On now) = NowFits now
-StepFits (To stop) = StopFits stop
-
--- a sync with this event besides is small
-abbrev pub EventHasRoom : Pending → Event → Type 0
-EventHasRoom pending event = HasRoom pending (base_count event) (nack_count event)
+abbrev pub StepFits : Code → Stack → Step → Type 0
+StepFits c stack (On now) = NowFits c stack now
+StepFits c stack (To stop) = StopFits c stack stop

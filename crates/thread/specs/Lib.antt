@@ -1,10 +1,13 @@
 pub mod Values
 pub mod Memories
 pub mod After
-pub mod Plans
+pub mod Shapes
+pub mod Resolving
+pub mod Passing
+pub mod Stacks
+pub mod Passages
 pub mod Fitting
 pub mod Reaches
 pub mod Machines
-pub mod Turns
 pub mod Places
 pub mod Ranges

@@ -1,20 +1,20 @@
 -- A machine, as it is seen from outside: its process, what was given to it, and what it came to.
 use Rattle.std.specs.Prelude.{◌≡◌, ℕ, List, [], length, ⊤}
-use Rattle.event.specs.Resolved.{tree_of}
-use Rattle.event.specs.Tree.{offers, scope_nacks}
-use Rattle.event.specs.declared.Resolved.{Resolved}
+use Rattle.event.specs.Tree.{Tree, offers, scope_nacks}
 use Rattle.syntax.specs.Processes.{Proc}
 use Rattle.syntax.specs.Trees.{block_of}
 use Rattle.syntax.specs.declared.tree.Block.{Block}
 use Rattle.words.specs.declared.Atom.{Atom}
 use Rattle.words.specs.declared.Offer.{Offer}
 use Rattle.thread.specs.declared.Fault.{Fault}
+use Rattle.thread.specs.declared.machine.Turn.{Turn}
+use Rattle.thread.specs.declared.machine.Turn.TheVariants as turn
 use Rattle.thread.specs.After.{Chosen, Offers, Finishes, Fails, after}
 
 -- before its process, at an open sync, at an end, at a fault; or memory ran out while it moved
 pub data Phase : Type 0 where
   Ready : Phase
-  Open : (event : Resolved) → Phase
+  Open : (offers : List Offer) (nacks : List ℕ) → Phase
   Over : Phase
   Stuck : (fault : Fault) → Phase
   Broken : Phase
@@ -27,10 +27,17 @@ pub record Thread : Type 0 where
   pub phase : Phase
   pub output : List Atom
 
+-- the process comes to an event that makes these offers, with the nacks of its scopes
+pub record OpensWith (m : Thread) (os : List Offer) (ns : List ℕ) : Type 0 where
+  pub tree : Tree
+  pub after : after (block_of m.body) m.variables m.thread m.results ≡ Offers tree m.output
+  pub offers : offers tree ≡ os
+  pub nacks : scope_nacks tree ≡ ns
+
 -- the phase and the output are what the process comes to after the results
 abbrev pub IsAfterAt : Thread → Phase → Type 0
 IsAfterAt m Ready = (m.results ≡ []) × (m.output ≡ [])
-IsAfterAt m (Open event) = after (block_of m.body) m.variables m.thread m.results ≡ Offers (tree_of event) m.output
+IsAfterAt m (Open os ns) = OpensWith m os ns
 IsAfterAt m Over = after (block_of m.body) m.variables m.thread m.results ≡ Finishes m.output []
 IsAfterAt m (Stuck fault) = after (block_of m.body) m.variables m.thread m.results ≡ Fails fault m.output []
 IsAfterAt m Broken = ⊤
@@ -44,16 +51,23 @@ HasStopped Broken = ⊥
 HasStopped phase = ⊤
 
 abbrev pub IsOpen : Phase → Type 0
-IsOpen (Open event) = ⊤
+IsOpen (Open os ns) = ⊤
 IsOpen phase = ⊥
 
 abbrev pub offers_in : Phase → List Offer
-offers_in (Open event) = offers (tree_of event)
+offers_in (Open os ns) = os
 offers_in phase = []
 
 abbrev pub nacks_in : Phase → List ℕ
-nacks_in (Open event) = scope_nacks (tree_of event)
+nacks_in (Open os ns) = ns
 nacks_in phase = []
+
+-- the turn tells the phase
+abbrev pub Tells : Turn → Phase → Type 0
+Tells turn.Offering (Open os ns) = ⊤
+Tells turn.Ended Over = ⊤
+Tells (turn.Faulted fault) (Stuck found) = fault ≡ found
+Tells turn phase = ⊥
 
 -- the same process runs as the same thread
 pub record SameProcess (old new : Thread) : Type 0 where

@@ -1,91 +1,106 @@
 //! What a commit does: the wraps round the chosen offer change its message, and names are set.
 
-ghost use Rattle.std.specs.Prelude.{◌≡◌, ◌+◌, ◌∷◌, ◌<◌, IfOk, List, Some, slice_get};
-ghost use Rattle.event.specs.Resolved.{tree_of};
-ghost use Rattle.event.specs.Tree.{base_count};
-ghost use Rattle.thread.specs.After.{Chosen, wrapped, wrapped_once};
-ghost use Rattle.thread.specs.Plans.{message_after, offered_on, state_of, step_on, wrapping_of, wrappings};
-ghost use Rattle.thread.specs.Fitting.{OfferedFits, StepFits};
+ghost use Rattle.std.specs.Prelude.{◌≡◌, ◌<◌, ◌∷◌, List, Some, length};
+ghost use Rattle.std.specs.Option.{option_map};
+ghost use Rattle.code.specs.Codes.{IsLinked};
+ghost use Rattle.syntax.specs.Trees.{event_of, exprs_of, names_of};
+ghost use Rattle.thread.specs.After.{Chosen, wrapped_once};
+ghost use Rattle.thread.specs.Fitting.{StepFits, StopFits};
+ghost use Rattle.thread.specs.Passages.{Passes};
+ghost use Rattle.thread.specs.Stacks.{lists_of, message_after, own, state_of, step_on, stop_on};
+ghost use Rattle.thread.specs.declared.stack.Stop.TheVariants as stop;
 
 use crate::Fault;
 use crate::memory::Memory;
-use crate::plan::{Now, Offered, Step, Stop};
+use crate::stack::{Now, Opening, Stack, Step, Stop, plan_of};
 use crate::value::message_of;
-use event::wraps_of;
-use std::alloc::{AllocError, Global};
-use std::sync::Arc;
-use syntax::Event;
+use code::Code;
+use syntax::{Event, Events, Exprs, Names};
 use words::Message;
 
+/// Where the base event that was chosen lies: within the event that was searched, so that its message
+/// came through, or so many base events behind it.
+pub(crate) enum Passage {
+    Through(Message),
+    Past(u8),
+}
+
 /// Sets the names of a wrap, and gives what its list comes to.
-fn apply_wrap(wrap: &Event, message: Message, memory: &mut Memory) -> Result<Message, Fault>
-    ensures { (rs : List Chosen) → wrapped_once (Some (wrapping_of wrap.now)) message (state_of memory.old rs) ≡ message_after result memory.new rs }
+fn wrap(
+    names: Option<Names>,
+    list: &Exprs,
+    message: Message,
+    memory: &mut Memory,
+) -> Result<Message, Fault>
+    ensures { (rs : List Chosen) → wrapped_once (Some (record { names = option_map names_of names; list = exprs_of list.now })) message (state_of memory.old rs) ≡ message_after result memory.new rs }
 {
-    let Event::Wrap(_, names, list) = wrap else {
-        return Ok(Message::Empty);
-    };
-    match memory.set_names(*names, message) {
+    match memory.set_names(names, message) {
         Ok(()) => message_of(list, &memory.variables),
         Err(fault) => Err(fault),
     }
 }
 
-/// Applies the wrap with this number, if there is one.
-fn apply_numbered(
-    wraps: &[Arc<Event>],
-    number: u32,
+/// Takes a message from base event n, if it lies within the event, out through the wraps round that.
+fn pass(
+    event: &Event,
+    mut n: u8,
     message: Message,
     memory: &mut Memory,
-) -> Result<Message, Fault>
-    ensures { (rs : List Chosen) → wrapped_once (slice_get (wrappings wraps.now) number) message (state_of memory.old rs) ≡ message_after result memory.new rs }
+) -> Result<Passage, Fault>
+    ensures { Passes (event_of event.now) n message memory.old memory.new result }
 {
-    match wraps.get(number as usize) {
-        Some(wrap) => apply_wrap(wrap, message, memory),
-        None => Ok(message),
+    match event {
+        Event::Choose(members) => {
+            let mut rest: &Events = members;
+            while let Events::More(member, others) = rest {
+                match pass(member, n, message, memory)? {
+                    Passage::Through(changed) => return Ok(Passage::Through(changed)),
+                    Passage::Past(left) => n = left,
+                }
+                rest = others;
+            }
+            Ok(Passage::Past(n))
+        }
+        Event::Wrap(inner, names, list) => match pass(inner, n, message, memory)? {
+            Passage::Through(inner) => match wrap(*names, list, inner, memory) {
+                Ok(changed) => Ok(Passage::Through(changed)),
+                Err(fault) => Err(fault),
+            },
+            Passage::Past(left) => Ok(Passage::Past(left)),
+        },
+        Event::Guard(_, inner) => pass(inner, n, message, memory),
+        Event::Nack(_, _, inner) => pass(inner, n, message, memory),
+        _ => match n.checked_sub(1) {
+            None => Ok(Passage::Through(message)),
+            Some(left) => Ok(Passage::Past(left)),
+        },
     }
-}
-
-/// Applies the wraps with these numbers, one after another.
-fn apply_wraps(
-    wraps: &[Arc<Event>],
-    numbers: &[u32],
-    mut message: Message,
-    memory: &mut Memory,
-) -> Result<Message, Fault>
-    ensures { (rs : List Chosen) → wrapped (wrappings wraps.now) numbers.now message (state_of memory.old rs) ≡ message_after result memory.new rs }
-{
-    for number in numbers {
-        message = apply_numbered(wraps, *number, message, memory)?;
-    }
-    Ok(message)
 }
 
 /// Commits an open sync by one of its offers.
 pub(crate) fn commit(
-    alloc: Global,
-    offered: Offered,
+    code: &Code,
+    opening: Opening,
     chosen: u8,
     message: Message,
     memory: &mut Memory,
-) -> Result<Step, AllocError>
-    requires there { chosen < base_count (tree_of offered.tree) }
-    requires fits { OfferedFits offered }
-    ensures does { IfOk result (λ step. (rs : List Chosen) → step_on step (state_of memory.new rs) ≡ offered_on offered (state_of memory.old ((chosen, message) ∷ rs))) }
-    ensures fits { IfOk result StepFits }
+    stack: &mut Stack,
+) -> Step
+    requires linked { IsLinked code.now }
+    requires fits { StopFits code.now stack.old (stop.Offering opening) }
+    requires there { chosen < length (own opening (lists_of stack.old)).offers }
+    ensures does { (rs : List Chosen) → step_on code.now stack.new result (state_of memory.new rs) ≡ stop_on code.now stack.old (stop.Offering opening) (state_of memory.old ((chosen, message) ∷ rs)) }
+    ensures fits { StepFits code.now stack.new result }
 {
-    let Offered {
-        tree,
-        wraps,
-        names,
-        rest,
-    } = offered;
-    let numbers = wraps_of(alloc, &tree, chosen)?;
-    let message = match apply_wraps(&wraps, &numbers, message, memory) {
-        Ok(message) => message,
-        Err(fault) => return Ok(Step::To(Stop::Faulted(fault))),
-    };
-    match memory.set_names(names, message) {
-        Ok(()) => Ok(Step::On(Now::Go(rest))),
-        Err(fault) => Ok(Step::To(Stop::Faulted(fault))),
+    stack.offers.truncate(opening.offers);
+    stack.nacks.truncate(opening.nacks);
+    let plan = plan_of(code, opening.plan);
+    match pass(&plan.event, chosen, message, memory) {
+        Ok(Passage::Through(message)) => match memory.set_names(plan.names, message) {
+            Ok(()) => Step::On(Now::At(plan.then)),
+            Err(fault) => Step::To(Stop::Faulted(fault)),
+        },
+        Ok(Passage::Past(_)) => unreachable!(),
+        Err(fault) => Step::To(Stop::Faulted(fault)),
     }
 }

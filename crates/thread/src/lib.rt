@@ -10,9 +10,8 @@ ghost use Rattle.thread.specs.contracts.machine.Machine as machine;
 mod commit;
 mod machine;
 mod memory;
-mod plan;
 mod resolving;
-mod scopes;
+mod stack;
 mod statement;
 mod value;
 

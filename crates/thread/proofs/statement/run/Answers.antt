@@ -1,0 +1,165 @@
+use Rattle.std.proofs.Common.{◌≡◌, ◌∙◌, Ok, true, false, sym, ap, subst, arith}
+use Rattle.code.specs.Codes.{HasPlan, StmtLeads}
+use Rattle.syntax.specs.Trees.{Block, Branches, Event, Loops, LoopsForever, Runs, Stmt, block_of, event_of, names_of, stmt_of, test_of, turn_of}
+use Rattle.thread.specs.declared.stack.Frame.TheVariants.{Rest, Times, Endless}
+use Rattle.thread.specs.Reaches.{event_reach}
+use Rattle.thread.specs.Stacks.{frames_on, lists_of, state_of}
+use Rattle.thread.specs.Values.{test_value}
+use Rattle.thread.proofs.Stacking.{at_there, frame_put, has_sync, leads_at, sync_is}
+use Rattle.thread.proofs.Statements.{branch_does, branch_falls, branch_false, branch_fits, branch_true, endless_on, loop_does, loop_steps, next_there, sync_does, sync_falls, sync_fits, times_on}
+use Rattle.thread.proofs.statement.run.Goals as goal
+
+pub returns-in-Ok-clause-fits : goal.returns-in-Ok-clause-fits
+returns-in-Ok-clause-fits c =
+    let p = c.place_at-place.result.now in
+    let rest = block_of c.in-Then.field-1.value in
+    let runs = ap block_of (sym c.deref.ensures ∙ c.in-Then.is) ∙ ap (λ st. Runs (stmt_of st) (block_of c.in-Then.field-1.value)) c.in-Let.is in
+    (next_there c.args.code.now c.args.at p _ rest c.requires.linked c.place_at-place.ensures runs, c.requires.fits.1)
+
+pub returns-in_ok-push-in-Ok-value_of-clause-fits : goal.returns-in_ok-push-in-Ok-value_of-clause-fits
+returns-in_ok-push-in-Ok-value_of-clause-fits c =
+    let p = c.place_at-place.result.now in
+    let rest = block_of c.in-Then.field-1.value in
+    let runs = ap block_of (sym c.deref.ensures ∙ c.in-Then.is) ∙ ap (λ st. Runs (stmt_of st) (block_of c.in-Then.field-1.value)) c.in-Print.is in
+    (next_there c.args.code.now c.args.at p _ rest c.requires.linked c.place_at-place.ensures runs, c.requires.fits.1)
+
+pub returns-in-Sync-clause-does : goal.returns-in-Sync-clause-does
+returns-in-Sync-clause-does c = λ rs.
+    let p = c.place_at-place.result.now in
+    let rest = block_of c.in-Then.field-1.value in
+    let runs = ap block_of (sym c.deref.ensures ∙ c.in-Then.is) ∙ ap (λ st. Runs (stmt_of st) (block_of c.in-Then.field-1.value)) c.in-Sync.is in
+    sync_does c.args.code.now c.args.at p _ _ rest c.requires.linked c.place_at-place.ensures runs (lists_of c.args.stack.now) c.opening.result c.opening.ensures (frames_on c.args.code.now c.args.stack.now.frames.items) (state_of c.args.memory.now rs)
+
+pub returns-in-Sync-clause-falls : goal.returns-in-Sync-clause-falls
+returns-in-Sync-clause-falls c =
+    let p = c.place_at-place.result.now in
+    let rest = block_of c.in-Then.field-1.value in
+    let runs = ap block_of (sym c.deref.ensures ∙ c.in-Then.is) ∙ ap (λ st. Runs (stmt_of st) (block_of c.in-Then.field-1.value)) c.in-Sync.is in
+    sync_falls c.args.code.now c.args.at p _ _ rest c.requires.linked c.place_at-place.ensures runs (lists_of c.args.stack.now) c.opening.result c.opening.ensures _
+
+pub returns-in-Sync-clause-fits : goal.returns-in-Sync-clause-fits
+returns-in-Sync-clause-fits c =
+    let p = c.place_at-place.result.now in
+    let rest = block_of c.in-Then.field-1.value in
+    let runs = ap block_of (sym c.deref.ensures ∙ c.in-Then.is) ∙ ap (λ st. Runs (stmt_of st) (block_of c.in-Then.field-1.value)) c.in-Sync.is in
+    sync_fits c.args.code.now c.args.at p _ _ rest c.requires.linked c.place_at-place.ensures runs (lists_of c.args.stack.now) c.opening.result c.opening.ensures c.args.stack.now.frames.items c.requires.fits.1
+
+pub returns-in_ok-push-in-Ok-true-clause-does : goal.returns-in_ok-push-in-Ok-true-clause-does
+returns-in_ok-push-in-Ok-true-clause-does c = λ rs.
+    let p = c.place_at-place.result.now in
+    let rest = block_of c.in-Then.field-1.value in
+    let runs = ap block_of (sym c.deref.ensures ∙ c.in-Then.is) ∙ ap (λ st. Runs (stmt_of st) (block_of c.in-Then.field-1.value)) c.in-If.is in
+    let led = (leads_at c.args.code.now c.args.at p _ rest c.requires.linked c.place_at-place.ensures runs).1.0 in
+    let is = c.in_ok-push-in-Ok-true.ensures.items in
+    let s = state_of c.args.memory.now rs in
+    let test = sym c.holds.ensures ∙ c.in-Ok-true.is ∙ ap (λ b. Ok b) c.in-Ok-true.field-0-test in
+    branch_does c.args.code.now c.args.at p _ rest c.requires.linked c.place_at-place.ensures runs c.push-in-Ok-true.new.self.items c.args.stack.now.frames.items (lists_of c.args.stack.now) is p.first _ s led (branch_true (test_of c.in-If.test) (block_of c.in-If.field-1.value) (block_of c.in-If.field-2.value) s (ap (λ v. test_value v (test_of c.in-If.test)) (sym c.deref-in-If.ensures.value) ∙ test))
+
+pub returns-in_ok-push-in-Ok-true-clause-falls : goal.returns-in_ok-push-in-Ok-true-clause-falls
+returns-in_ok-push-in-Ok-true-clause-falls c =
+    let p = c.place_at-place.result.now in
+    let rest = block_of c.in-Then.field-1.value in
+    let runs = ap block_of (sym c.deref.ensures ∙ c.in-Then.is) ∙ ap (λ st. Runs (stmt_of st) (block_of c.in-Then.field-1.value)) c.in-If.is in
+    let led = (leads_at c.args.code.now c.args.at p _ rest c.requires.linked c.place_at-place.ensures runs).1.0 in
+    let is = c.in_ok-push-in-Ok-true.ensures.items in
+    branch_falls c.args.code.now c.args.at p _ rest c.requires.linked c.place_at-place.ensures runs c.push-in-Ok-true.new.self.items c.args.stack.now.frames.items (lists_of c.args.stack.now) is p.first _ led (omega arith)
+
+pub returns-in_ok-push-in-Ok-true-clause-fits : goal.returns-in_ok-push-in-Ok-true-clause-fits
+returns-in_ok-push-in-Ok-true-clause-fits c =
+    let p = c.place_at-place.result.now in
+    let rest = block_of c.in-Then.field-1.value in
+    let runs = ap block_of (sym c.deref.ensures ∙ c.in-Then.is) ∙ ap (λ st. Runs (stmt_of st) (block_of c.in-Then.field-1.value)) c.in-If.is in
+    let led = (leads_at c.args.code.now c.args.at p _ rest c.requires.linked c.place_at-place.ensures runs).1.0 in
+    let is = c.in_ok-push-in-Ok-true.ensures.items in
+    (at_there c.args.code.now p.first _ led, branch_fits c.args.code.now c.args.at p _ rest c.requires.linked c.place_at-place.ensures runs c.push-in-Ok-true.new.self.items c.args.stack.now.frames.items (lists_of c.args.stack.now) is c.requires.fits.1)
+
+pub returns-in_ok-push-in-Ok-false-clause-does : goal.returns-in_ok-push-in-Ok-false-clause-does
+returns-in_ok-push-in-Ok-false-clause-does c = λ rs.
+    let p = c.place_at-place.result.now in
+    let rest = block_of c.in-Then.field-1.value in
+    let runs = ap block_of (sym c.deref.ensures ∙ c.in-Then.is) ∙ ap (λ st. Runs (stmt_of st) (block_of c.in-Then.field-1.value)) c.in-If.is in
+    let led = (leads_at c.args.code.now c.args.at p _ rest c.requires.linked c.place_at-place.ensures runs).1.1 in
+    let is = c.in_ok-push-in-Ok-false.ensures.items in
+    let s = state_of c.args.memory.now rs in
+    let test = sym c.holds.ensures ∙ c.in-Ok-false.is ∙ ap (λ b. Ok b) c.in-Ok-false.field-0-test in
+    branch_does c.args.code.now c.args.at p _ rest c.requires.linked c.place_at-place.ensures runs c.push-in-Ok-false.new.self.items c.args.stack.now.frames.items (lists_of c.args.stack.now) is p.second _ s led (branch_false (test_of c.in-If.test) (block_of c.in-If.field-1.value) (block_of c.in-If.field-2.value) s (ap (λ v. test_value v (test_of c.in-If.test)) (sym c.deref-in-If.ensures.value) ∙ test))
+
+pub returns-in_ok-push-in-Ok-false-clause-falls : goal.returns-in_ok-push-in-Ok-false-clause-falls
+returns-in_ok-push-in-Ok-false-clause-falls c =
+    let p = c.place_at-place.result.now in
+    let rest = block_of c.in-Then.field-1.value in
+    let runs = ap block_of (sym c.deref.ensures ∙ c.in-Then.is) ∙ ap (λ st. Runs (stmt_of st) (block_of c.in-Then.field-1.value)) c.in-If.is in
+    let led = (leads_at c.args.code.now c.args.at p _ rest c.requires.linked c.place_at-place.ensures runs).1.1 in
+    let is = c.in_ok-push-in-Ok-false.ensures.items in
+    branch_falls c.args.code.now c.args.at p _ rest c.requires.linked c.place_at-place.ensures runs c.push-in-Ok-false.new.self.items c.args.stack.now.frames.items (lists_of c.args.stack.now) is p.second _ led (omega arith)
+
+pub returns-in_ok-push-in-Ok-false-clause-fits : goal.returns-in_ok-push-in-Ok-false-clause-fits
+returns-in_ok-push-in-Ok-false-clause-fits c =
+    let p = c.place_at-place.result.now in
+    let rest = block_of c.in-Then.field-1.value in
+    let runs = ap block_of (sym c.deref.ensures ∙ c.in-Then.is) ∙ ap (λ st. Runs (stmt_of st) (block_of c.in-Then.field-1.value)) c.in-If.is in
+    let led = (leads_at c.args.code.now c.args.at p _ rest c.requires.linked c.place_at-place.ensures runs).1.1 in
+    let is = c.in_ok-push-in-Ok-false.ensures.items in
+    (at_there c.args.code.now p.second _ led, branch_fits c.args.code.now c.args.at p _ rest c.requires.linked c.place_at-place.ensures runs c.push-in-Ok-false.new.self.items c.args.stack.now.frames.items (lists_of c.args.stack.now) is c.requires.fits.1)
+
+pub returns-in_ok-push-in-Loop-2-clause-does : goal.returns-in_ok-push-in-Loop-2-clause-does
+returns-in_ok-push-in-Loop-2-clause-does c = λ rs.
+    let p = c.place_at-place.result.now in
+    let rest = block_of c.in-Then.field-1.value in
+    let runs = ap block_of (sym c.deref.ensures ∙ c.in-Then.is) ∙ ap (λ st. Runs (stmt_of st) (block_of c.in-Then.field-1.value)) c.in-Loop.is in
+    let has = (leads_at c.args.code.now c.args.at p _ rest c.requires.linked c.place_at-place.ensures runs).1 in
+    let is = c.in_ok-push-in-Loop.ensures.items in
+    let put = c.in_ok-push-in-Loop-2.ensures.items in
+    let s = state_of c.args.memory.now rs in
+    loop_does c.args.code.now c.args.at p _ rest c.requires.linked c.place_at-place.ensures runs c.push-in-Loop.new.self.items c.args.stack.now.frames.items (lists_of c.args.stack.now) is c.push-in-Loop-2.new.self.items (Times c.in-Loop.times p.first) put s (λ below. times_on c.args.code.now p.first _ _ _ has below (lists_of c.args.stack.now) s c.in-Loop.times)
+
+pub returns-in_ok-push-in-Loop-2-clause-falls : goal.returns-in_ok-push-in-Loop-2-clause-falls
+returns-in_ok-push-in-Loop-2-clause-falls c =
+    let p = c.place_at-place.result.now in
+    let rest = block_of c.in-Then.field-1.value in
+    let runs = ap block_of (sym c.deref.ensures ∙ c.in-Then.is) ∙ ap (λ st. Runs (stmt_of st) (block_of c.in-Then.field-1.value)) c.in-Loop.is in
+    let has = (leads_at c.args.code.now c.args.at p _ rest c.requires.linked c.place_at-place.ensures runs).1 in
+    let is = c.in_ok-push-in-Loop.ensures.items in
+    let put = c.in_ok-push-in-Loop-2.ensures.items in
+    loop_steps c.args.code.now c.args.at p _ rest c.requires.linked c.place_at-place.ensures runs c.push-in-Loop.new.self.items c.args.stack.now.frames.items (lists_of c.args.stack.now) is c.push-in-Loop-2.new.self.items (Times c.in-Loop.times p.first) put (λ r. omega (arith, ap (λ t. event_reach t.event) (sync_is c.args.code.now p.first _ _ _ has)))
+
+pub returns-in_ok-push-in-Loop-2-clause-fits : goal.returns-in_ok-push-in-Loop-2-clause-fits
+returns-in_ok-push-in-Loop-2-clause-fits c =
+    let p = c.place_at-place.result.now in
+    let rest = block_of c.in-Then.field-1.value in
+    let runs = ap block_of (sym c.deref.ensures ∙ c.in-Then.is) ∙ ap (λ st. Runs (stmt_of st) (block_of c.in-Then.field-1.value)) c.in-Loop.is in
+    let has = (leads_at c.args.code.now c.args.at p _ rest c.requires.linked c.place_at-place.ensures runs).1 in
+    let is = c.in_ok-push-in-Loop.ensures.items in
+    let put = c.in_ok-push-in-Loop-2.ensures.items in
+    frame_put c.args.code.now c.push-in-Loop-2.new.self.items c.push-in-Loop.new.self.items (Times c.in-Loop.times p.first) (lists_of c.args.stack.now) put (has_sync c.args.code.now p.first _ _ _ has, branch_fits c.args.code.now c.args.at p _ rest c.requires.linked c.place_at-place.ensures runs c.push-in-Loop.new.self.items c.args.stack.now.frames.items (lists_of c.args.stack.now) is c.requires.fits.1)
+
+pub returns-in_ok-push-in-Forever-2-clause-does : goal.returns-in_ok-push-in-Forever-2-clause-does
+returns-in_ok-push-in-Forever-2-clause-does c = λ rs.
+    let p = c.place_at-place.result.now in
+    let rest = block_of c.in-Then.field-1.value in
+    let runs = ap block_of (sym c.deref.ensures ∙ c.in-Then.is) ∙ ap (λ st. Runs (stmt_of st) (block_of c.in-Then.field-1.value)) c.in-Forever.is in
+    let has = (leads_at c.args.code.now c.args.at p _ rest c.requires.linked c.place_at-place.ensures runs).1 in
+    let is = c.in_ok-push-in-Forever.ensures.items in
+    let put = c.in_ok-push-in-Forever-2.ensures.items in
+    let s = state_of c.args.memory.now rs in
+    loop_does c.args.code.now c.args.at p _ rest c.requires.linked c.place_at-place.ensures runs c.push-in-Forever.new.self.items c.args.stack.now.frames.items (lists_of c.args.stack.now) is c.push-in-Forever-2.new.self.items (Endless p.first) put s (λ below. endless_on c.args.code.now p.first _ _ _ has below (lists_of c.args.stack.now) s)
+
+pub returns-in_ok-push-in-Forever-2-clause-falls : goal.returns-in_ok-push-in-Forever-2-clause-falls
+returns-in_ok-push-in-Forever-2-clause-falls c =
+    let p = c.place_at-place.result.now in
+    let rest = block_of c.in-Then.field-1.value in
+    let runs = ap block_of (sym c.deref.ensures ∙ c.in-Then.is) ∙ ap (λ st. Runs (stmt_of st) (block_of c.in-Then.field-1.value)) c.in-Forever.is in
+    let has = (leads_at c.args.code.now c.args.at p _ rest c.requires.linked c.place_at-place.ensures runs).1 in
+    let is = c.in_ok-push-in-Forever.ensures.items in
+    let put = c.in_ok-push-in-Forever-2.ensures.items in
+    loop_steps c.args.code.now c.args.at p _ rest c.requires.linked c.place_at-place.ensures runs c.push-in-Forever.new.self.items c.args.stack.now.frames.items (lists_of c.args.stack.now) is c.push-in-Forever-2.new.self.items (Endless p.first) put (λ r. omega (arith, ap (λ t. event_reach t.event) (sync_is c.args.code.now p.first _ _ _ has)))
+
+pub returns-in_ok-push-in-Forever-2-clause-fits : goal.returns-in_ok-push-in-Forever-2-clause-fits
+returns-in_ok-push-in-Forever-2-clause-fits c =
+    let p = c.place_at-place.result.now in
+    let rest = block_of c.in-Then.field-1.value in
+    let runs = ap block_of (sym c.deref.ensures ∙ c.in-Then.is) ∙ ap (λ st. Runs (stmt_of st) (block_of c.in-Then.field-1.value)) c.in-Forever.is in
+    let has = (leads_at c.args.code.now c.args.at p _ rest c.requires.linked c.place_at-place.ensures runs).1 in
+    let is = c.in_ok-push-in-Forever.ensures.items in
+    let put = c.in_ok-push-in-Forever-2.ensures.items in
+    frame_put c.args.code.now c.push-in-Forever-2.new.self.items c.push-in-Forever.new.self.items (Endless p.first) (lists_of c.args.stack.now) put (has_sync c.args.code.now p.first _ _ _ has, branch_fits c.args.code.now c.args.at p _ rest c.requires.linked c.place_at-place.ensures runs c.push-in-Forever.new.self.items c.args.stack.now.frames.items (lists_of c.args.stack.now) is c.requires.fits.1)

@@ -1,0 +1,114 @@
+-- What is left to do, as numbers of a code: what the thread comes to that does it.
+use Rattle.std.specs.Prelude.{◌≡◌, ℕ, List, [], ◌∷◌, drop, take, Option, None, Some, Result, Ok, Err, slice_get}
+use Rattle.std.specs.Option.{option_map}
+use Rattle.code.specs.Codes.{block_at}
+use Rattle.code.specs.Stages.{stages}
+use Rattle.code.specs.declared.Code.{Code}
+use Rattle.code.specs.declared.Plan.{Plan}
+use Rattle.syntax.specs.Trees.{Block, Stops, IsNever, Turn, event_of, names_of}
+use Rattle.words.specs.declared.Message.{Message}
+use Rattle.thread.specs.declared.Fault.{Fault}
+use Rattle.thread.specs.declared.memory.Memory.{Memory}
+use Rattle.thread.specs.declared.stack.Frame.{Frame}
+use Rattle.thread.specs.declared.stack.Frame.TheVariants.{Rest, Times, Endless, Event}
+use Rattle.thread.specs.declared.stack.Opening.{Opening}
+use Rattle.thread.specs.declared.stack.Stack.{Stack}
+use Rattle.thread.specs.declared.stack.Now.{Now}
+use Rattle.thread.specs.declared.stack.Now.TheVariants.{At, Open, Back}
+use Rattle.thread.specs.declared.stack.Stop.{Stop}
+use Rattle.thread.specs.declared.stack.Stop.TheVariants.{Offering, Ended, Faulted}
+use Rattle.thread.specs.declared.stack.Step.{Step}
+use Rattle.thread.specs.declared.stack.Step.TheVariants.{On, To}
+use Rattle.thread.specs.After.{State, Chosen, Outcome, Goes, Fails, ◌>>=◌, Having, synced, times, endless, run_block, resolve, finished}
+use Rattle.thread.specs.Resolving.{Lists, Listed, formed_as, run_stages}
+
+-- THREADS
+
+-- the thread with this memory, and these results to come
+abbrev pub state_of : Memory → List Chosen → State
+state_of m left = record { thread = m.thread; store = m.variables.items; nacks = m.nacks; printed = m.printed.items; left = left }
+
+-- the thread after names were set, or the fault
+abbrev pub state_after : {A : Type 0} → Result A Fault → Memory → List Chosen → Outcome State
+state_after (Ok done) m left = Goes (state_of m left)
+state_after (Err fault) m left = Fails fault m.printed.items left
+
+-- the message after wraps were applied, or the fault
+abbrev pub message_after : Result Message Fault → Memory → List Chosen → Outcome Having
+message_after (Ok message) m left = Goes (record { message = message; state = state_of m left })
+message_after (Err fault) m left = Fails fault m.printed.items left
+
+-- PLACES AND PLANS
+
+abbrev pub or_stops : Option Block → Block
+or_stops (Some block) = block
+or_stops None = Stops
+
+-- what stands at a place of the code
+abbrev pub place_block : Code → ℕ → Block
+place_block c at = or_stops (block_at c at)
+
+-- a sync, and what stands behind it: a loop's turn is no more than that
+abbrev pub planned : Code → Option Plan → Turn
+planned c (Some plan) = record { names = option_map names_of plan.names; event = event_of plan.event.value; rest = place_block c plan.then }
+planned c None = record { names = None; event = IsNever; rest = Stops }
+
+abbrev pub sync_at : Code → ℕ → Turn
+sync_at c number = planned c (slice_get c.plans.items number)
+
+abbrev pub turn_on : Turn → State → Outcome State
+turn_on turn s = resolve turn.event [] s >>= synced turn.names >>= run_block turn.rest
+
+-- FRAMES
+
+-- each frame on what is below it
+abbrev pub stacked {ℓ} : {K : Type ℓ} → (Frame → K → K) → K → List Frame → K
+stacked on below [] = below
+stacked on below (f ∷ frames) = stacked on (on f below) frames
+
+-- the lists of a sync that has begun, and those of what it stands in
+abbrev pub own : Opening → Lists → Lists
+own o l = record { offers = drop o.offers l.offers; nacks = drop o.nacks l.nacks }
+
+abbrev pub others : Opening → Lists → Lists
+others o l = record { offers = take o.offers l.offers; nacks = take o.nacks l.nacks }
+
+abbrev pub Further : Type 0
+Further = Lists → State → Outcome State
+
+-- a resolved sync takes the next result, or offers its event
+abbrev pub offered : Turn → Listed → Outcome State
+offered sync r = synced sync.names (formed_as sync.event r.lists r.state) >>= run_block sync.rest
+
+abbrev pub opening_on : Code → Opening → Further → Further
+opening_on c o below l s =
+    run_stages (drop o.stage (stages 0 0 (sync_at c o.plan).event)) (own o l) s >>= offered (sync_at c o.plan) >>= below (others o l)
+
+abbrev pub frame_on : Code → Frame → Further → Further
+frame_on c (Rest at) below l s = run_block (place_block c at) s >>= below l
+frame_on c (Times left plan) below l s = times left (turn_on (sync_at c plan)) s >>= below l
+frame_on c (Endless plan) below l s = endless (turn_on (sync_at c plan)) s >>= below l
+frame_on c (Event o) below l s = opening_on c o below l s
+
+abbrev pub frames_on : Code → List Frame → Further
+frames_on c frames = stacked (frame_on c) (λ l s. finished s) frames
+
+-- STEPS
+
+abbrev pub lists_of : Stack → Lists
+lists_of stack = record { offers = stack.offers.items; nacks = stack.nacks.items }
+
+abbrev pub now_on : Code → Stack → Now → State → Outcome State
+now_on c stack (At at) s = run_block (place_block c at) s >>= frames_on c stack.frames.items (lists_of stack)
+now_on c stack (Open o) s = opening_on c o (frames_on c stack.frames.items) (lists_of stack) s
+now_on c stack Back s = frames_on c stack.frames.items (lists_of stack) s
+
+abbrev pub stop_on : Code → Stack → Stop → State → Outcome State
+stop_on c stack (Offering o) s =
+    offered (sync_at c o.plan) (record { lists = own o (lists_of stack); state = s }) >>= frames_on c stack.frames.items (others o (lists_of stack))
+stop_on c stack Ended s = finished s
+stop_on c stack (Faulted fault) s = Fails fault s.printed s.left
+
+abbrev pub step_on : Code → Stack → Step → State → Outcome State
+step_on c stack (On now) s = now_on c stack now s
+step_on c stack (To stop) s = stop_on c stack stop s
