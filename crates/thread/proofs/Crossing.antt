@@ -1,8 +1,10 @@
 -- A machine may cross threads, as its parts may.
+use denote.Builtin.{u8}
 use denote.Param.Send.{IsSend, IsSync, sendable, view_send}
 use denote.Param.SendFields.{variants_send, declared_send}
 use Rattle.std.proofs.Crossing.{crosses}
 use Rattle.code.specs.contracts.Code as Code
+use Rattle.words.specs.contracts.Base as Base
 use Rattle.words.specs.contracts.Message as Message
 use Rattle.words.specs.contracts.Offer as Offer
 use Rattle.thread.specs.contracts.memory.Memory as Memory
@@ -26,8 +28,14 @@ code_sync =
 message_send : IsSend Message.the_row
 message_send = search (sendable, crosses) depth 30
 
+base_send : IsSend Base.the_row
+base_send =
+    let m = message_send in
+    let n : IsSend u8 = search sendable in
+    variants_send Base.enum ((n, (m, tt)), ((n, tt), ((m, tt), ((search sendable depth 20, tt), (tt, tt)))))
+
 offer_send : IsSend Offer.the_row
-offer_send = let a = message_send in search (sendable, crosses) depth 30
+offer_send = declared_send Offer.the_type (base_send, (search sendable depth 20, tt))
 
 frame_send : IsSend Frame.the_row
 frame_send = search (sendable, crosses) depth 30
