@@ -7,7 +7,7 @@ use Rattle.words.specs.declared.NackName.{NackName}
 use Rattle.words.specs.declared.Row.{Row}
 use Rattle.words.specs.declared.Joined.{Joined}
 use Rattle.words.specs.declared.Cell.{Cell}
-use Rattle.protocol.specs.Tables.{Table, is_fresh, cell_at, joined_at, joined_of, offers_meet, offer_at, count_at, stamp_of, last_stamp, word_at, stands_alone, binding_at, bound_row, encloses, nack_by, stamped, cause_by, cause_of, cause_at}
+use Rattle.protocol.specs.Tables.{Table, is_fresh, cell_at, joined_at, joined_of, offers_meet, offer_at, count_at, row_stamp, last_stamp, word_at, stands_alone, binding_at, bound_row, encloses, nack_by, stamped, cause_by, cause_of, cause_at}
 use Rattle.words.specs.declared.Base.{Base}
 use Rattle.words.specs.declared.Base.TheVariants.{Send, Recv, Always, OnNack, Never}
 use Rattle.protocol.specs.Worlds.{World, joined_with, granted_by}
@@ -74,10 +74,10 @@ module _ (w : World) (owner : Row → ℕ) (id : ℕ) (v : View) (k : Knows w ow
       (λ x. offers_meet (a x) (b x)) ∙ can.meet
 
   last_known : (r : Row) (stamp : ℕ) → HasSeenLast v.seen r stamp → last_stamp (joined_at w.table) r ≡ stamp
-  last_known r stamp (inl h) = ap (λ (n : ℕ). cond (eqb n 0) 0 (stamp_of (joined_at w.table (record { thread = r.thread; sync = n - 1 })))) h.0 ∙ sym h.1
+  last_known r stamp (inl h) = ap (λ (n : ℕ). cond (eqb n 0) 0 (row_stamp (joined_at w.table (record { thread = r.thread; sync = n - 1 })))) h.0 ∙ sym h.1
   last_known r stamp (inr h) =
-      ap (λ (y : Bool). cond y 0 (stamp_of (joined_at w.table (record { thread = r.thread; sync = r.sync - 1 })))) (ne_eqb r.sync 0 h.1)
-      ∙ ap stamp_of (k.joined (record { thread = r.thread; sync = r.sync - 1 }) h.0 h.2) ∙ sym h.3
+      ap (λ (y : Bool). cond y 0 (row_stamp (joined_at w.table (record { thread = r.thread; sync = r.sync - 1 })))) (ne_eqb r.sync 0 h.1)
+      ∙ ap row_stamp (k.joined (record { thread = r.thread; sync = r.sync - 1 }) h.0 h.2) ∙ sym h.3
 
   pub joined_known : (m : Row) (i : ℕ) (o : Row) (n : ℕ) (j : Joined) → CanJoin v.seen m i o n j → joined_with w.table m i o n ≡ j
   unfolding joined_with

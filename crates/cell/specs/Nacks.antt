@@ -7,7 +7,8 @@ use Rattle.words.specs.declared.Binding.{Binding}
 use Rattle.words.specs.declared.Offer.{Offer}
 use Rattle.words.specs.declared.Row.{Row}
 use Rattle.words.specs.declared.Joined.{Joined}
-use Rattle.protocol.specs.Tables.{bound_row, has_scope}
+use Rattle.words.specs.Scopes.{has_scope}
+use Rattle.protocol.specs.Tables.{bound_row}
 use Rattle.cell.specs.declared.view.Seen.{Seen}
 use Rattle.cell.specs.Sight.{Has, HaveOffer, SeesOffer, HasSeenLast}
 

@@ -16,7 +16,7 @@ ghost use Rattle.cell.specs.Views.{at_stage, worked};
 use crate::board::Board;
 use crate::view::View;
 use atomic_table::Seat;
-use protocol::{Base, Binding, Cell, Joined, NackName, Row, has_scope};
+use protocol::{Base, Binding, Cell, Joined, NackName, Row};
 
 impl Board {
     /// Where the nack is bound, by a look at its word. A nack that the table has not is not bound.
@@ -98,7 +98,7 @@ impl Board {
         };
         let joined = self.committed(seat, row)?;
         let chosen = self.offer(seat, row, joined.own)?;
-        if has_scope(chosen.scopes, bound.scope) {
+        if chosen.has_scope(bound.scope) {
             return None;
         }
         Some(joined)

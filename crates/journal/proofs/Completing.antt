@@ -1,17 +1,18 @@
 -- A ledger's commits, led on to their end and put in order.
-use Rattle.std.proofs.Common.{◌≡◌, ℕ, List, ◌++◌, length, sym, ap, ◌∙◌, subst}
+use Rattle.std.proofs.Common.{◌≡◌, ℕ, List, ◌++◌, length, sym, ◌∙◌, subst}
 use Rattle.std.specs.Prelude.{IsPermutation}
 use Rattle.std.proofs.lemmas.List.Sorted.{IsPermutation-append_left, IsPermutation-trans}
 use Rattle.syntax.specs.Processes.{Proc}
 use Rattle.words.specs.declared.Atom.{Atom}
 use Rattle.words.specs.declared.Commit.{Commit}
-use Rattle.protocol.specs.Ledgers.{Ledger, IsInOrder, IsLawful, commits_in}
+use Rattle.words.specs.Commits.{IsInOrder}
+use Rattle.protocol.specs.Ledgers.{Ledger, IsLawful, commits_in}
 use Rattle.sequential.specs.declared.end.End.{End}
 use Rattle.sequential.specs.declared.state.State.{State}
 use Rattle.sequential.specs.declared.state.ReplayFault.{ReplayFault}
 use Rattle.sequential.specs.declared.state.ReplayFault.TheVariants.{Memory, Unlawful}
 use Rattle.sequential.specs.Replays.{Refuses, StandsAfter}
-use Rattle.sequential.specs.Runs.{BreaksOffAt, Config, IsMaximal, IsRun, config_of}
+use Rattle.sequential.specs.Runs.{Config, IsMaximal, IsRun, config_of}
 use Rattle.sequential.proofs.Telling.{ends-both}
 use Rattle.order.specs.Laws.{IsOrderOf}
 use Rattle.order.proofs.Sending.{named-is-received, received-is-sent}

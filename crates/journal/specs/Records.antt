@@ -3,7 +3,8 @@ use Rattle.std.specs.Prelude.{◌≡◌, ℕ, ⊤, List, ◌++◌, length, map, 
 use Rattle.syntax.specs.Processes.{Proc}
 use Rattle.words.specs.declared.Atom.{Atom}
 use Rattle.words.specs.declared.Commit.{Commit}
-use Rattle.protocol.specs.Ledgers.{Ledger, IsInOrder, commits_in}
+use Rattle.words.specs.Commits.{IsInOrder}
+use Rattle.protocol.specs.Ledgers.{Ledger, commits_in}
 use Rattle.sequential.specs.declared.end.End.{End}
 use Rattle.sequential.specs.declared.state.State.{State}
 use Rattle.sequential.specs.declared.state.ReplayFault.{ReplayFault}

@@ -19,11 +19,12 @@ use Rattle.words.specs.declared.Commit.TheVariants.{Pair, Alone}
 use Rattle.words.specs.declared.Message.{Message}
 use Rattle.words.specs.declared.Message.TheVariants.{Empty, One, Two, Three}
 use Rattle.words.specs.declared.Row.{Row}
+use Rattle.words.specs.Commits.{stamp_of}
 use Rattle.script.specs.Sources.{Script}
 use Rattle.journal_text.specs.Names.{Declared, names_of}
 use Rattle.journal_text.specs.Journals.{HasAtom, HasMessage, HasPlace, HasCause, HasLine}
 use Rattle.sequential.specs.declared.end.End.{End}
-use Rattle.sequential.specs.Runs.{Config, CanTake, EndsAs, Follows, IsCaused, IsLegal, IsRun, MayTake, applied, config_from, config_of, end_of, no_results, stamp_of, with_result}
+use Rattle.sequential.specs.Runs.{Config, CanTake, EndsAs, Follows, IsCaused, IsLegal, IsRun, MayTake, applied, config_from, config_of, end_of, no_results, with_result}
 use Rattle.sequential.proofs.Greatest.{more, more-cases}
 use Rattle.sequential.proofs.Standing.{config_of-more, result-at, result-other}
 use Rattle.order.proofs.Runs.{RunsOn, runs-on}

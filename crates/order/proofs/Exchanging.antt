@@ -2,7 +2,8 @@
 use Rattle.std.proofs.Common.{◌≡◌, ℕ, ◌≤◌, List, [], ◌∷◌, Contains, refl, sym, ap, ◌∙◌, subst, inl, inr, ⊎_elim}
 use Rattle.syntax.specs.Processes.{Proc}
 use Rattle.words.specs.declared.Commit.{Commit}
-use Rattle.sequential.specs.Runs.{Config, CountsFor, HasThread, IsGreatest, Follows, applied, config_of, stamp_of}
+use Rattle.words.specs.Commits.{stamp_of}
+use Rattle.sequential.specs.Runs.{Config, CountsFor, HasThread, IsGreatest, Follows, applied, config_of}
 use Rattle.sequential.proofs.Greatest.{more, in-more, last-more, more-cases}
 use Rattle.sequential.proofs.Standing.{config_of-more}
 use Rattle.order.proofs.Runs.{RunsOn}

@@ -5,7 +5,7 @@ use Rattle.std.specs.Cmp.{nat_cmp_is}
 use Rattle.std.specs.Ordering.{nat_cmp, ordering_then, is_lt}
 use Rattle.std.specs.declared.cmp.Ordering.{Ordering}
 use Rattle.std.specs.declared.cmp.Ordering.TheVariants.{Less, Equal, Greater}
-use Rattle.protocol.specs.Ledgers.{order_cmp}
+use Rattle.words.specs.Commits.{order_cmp}
 
 abbrev pub Key : Type 0
 Key = ℕ × ℕ

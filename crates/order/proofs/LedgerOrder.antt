@@ -8,7 +8,8 @@ use Rattle.std.proofs.lemmas.Map.Keys.{IsDistinct-from_apart}
 use Rattle.std.proofs.lemmas.Option.{slice_get-get_or}
 use Rattle.words.specs.declared.Commit.{Commit}
 use Rattle.words.specs.declared.Row.{Row}
-use Rattle.protocol.specs.Ledgers.{Ledger, HasCommit, Involves, IsLawful, commits_in, first_row, first_thread, joined_in, offer_in, rows_in, stamp_in}
+use Rattle.words.specs.Commits.{first_row, first_thread, stamp_of}
+use Rattle.protocol.specs.Ledgers.{Ledger, HasCommit, Involves, IsLawful, commits_in, joined_in, offer_in, rows_in}
 use Rattle.protocol.proofs.CommitLemmas.{commit_told}
 use Rattle.protocol.proofs.Ordering.{causal_ledger, first_involved}
 use Rattle.order.specs.Laws.{IsOrderOf, OneLedgerOrder}
@@ -18,11 +19,11 @@ abbrev row : ℕ → ℕ → Row
 row t g = record { thread = t; sync = g }
 
 -- the later commit of a thread has the greater stamp
-stamps-rise : (l : Ledger) → IsLawful l → (c d : Commit) (t g h : ℕ) → HasCommit l c → HasCommit l d → Involves c (row t g) → Involves d (row t h) → g < h → stamp_in c < stamp_in d
+stamps-rise : (l : Ledger) → IsLawful l → (c d : Commit) (t g h : ℕ) → HasCommit l c → HasCommit l d → Involves c (row t g) → Involves d (row t h) → g < h → stamp_of c < stamp_of d
 stamps-rise l law c d t g h in_c in_d has_c has_d lt = (law.stamps d in_d).above c in_c (inl (t, h, g, lt, has_c, has_d))
 
 -- two commits of one key are one
-one-key : (l : Ledger) → IsLawful l → (c d : Commit) → HasCommit l c → HasCommit l d → stamp_in c ≡ stamp_in d → first_thread c ≡ first_thread d → c ≡ d
+one-key : (l : Ledger) → IsLawful l → (c d : Commit) → HasCommit l c → HasCommit l d → stamp_of c ≡ stamp_of d → first_thread c ≡ first_thread d → c ≡ d
 one-key l law c d in_c in_d stamps threads =
     let t = first_thread d in
     let g = (first_row c).sync in
@@ -45,9 +46,9 @@ distinct l law cs order = IsDistinct-from_apart same_key cs (λ i j x lt within.
     let c = get_or cs i x in
     let d = get_or cs j x in
     let before : i < length cs = omega (arith, lt, within) in
-    let parts = and_parts (eqb (stamp_in c) (stamp_in d)) (eqb (first_thread c) (first_thread d)) same in
+    let parts = and_parts (eqb (stamp_of c) (stamp_of d)) (eqb (first_thread c) (first_thread d)) same in
     let one : c ≡ d = one-key l law c d (member l cs c order (Contains-get_or cs i x before)) (member l cs d order (Contains-get_or cs j x within))
-    (eqb-true (stamp_in c) (stamp_in d) parts.0) (eqb-true (first_thread c) (first_thread d) parts.1) in
+    (eqb-true (stamp_of c) (stamp_of d) parts.0) (eqb-true (first_thread c) (first_thread d) parts.1) in
     let place : i ≡ j = (causal_ledger l law cs order.all order.ordered).once i j d
     (slice_get-get_or cs i x before ∙ ap (λ (e : Commit). Some e) one) (slice_get-get_or cs j x within) in
     absurd (omega (arith, lt, place))))

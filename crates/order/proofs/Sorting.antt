@@ -6,9 +6,8 @@ use Rattle.std.proofs.lemmas.List.Elements.{All-nil, All-cons, All-weaker}
 use Rattle.std.proofs.lemmas.List.Sorted.{All-permutation, IsPermutation-refl, IsPermutation-cons, IsPermutation-middle, IsPermutation-trans}
 use Rattle.syntax.specs.Processes.{Proc}
 use Rattle.words.specs.declared.Commit.{Commit}
-use Rattle.words.specs.declared.Commit.TheVariants.{Pair, Alone}
-use Rattle.protocol.specs.Ledgers.{order_of, stamp_in}
-use Rattle.sequential.specs.Runs.{Config, Follows, applied, config_from, config_of, stamp_of}
+use Rattle.words.specs.Commits.{order_of, stamp_of}
+use Rattle.sequential.specs.Runs.{Config, Follows, applied, config_from, config_of}
 use Rattle.sequential.proofs.Greatest.{more}
 use Rattle.sequential.proofs.Standing.{config_of-more}
 use Rattle.order.proofs.Exchanging.{swap, runs-alike}
@@ -23,10 +22,6 @@ Before c d = UpTo (order_of c) (order_of d)
 abbrev pub Ascends : List Commit → Type 0
 Ascends [] = ⊤
 Ascends (c ∷ cs) = All (Before c) cs × Ascends cs
-
-pub same-stamp : (c : Commit) → stamp_in c ≡ stamp_of c
-same-stamp (Pair sender receiver chan msg stamp) = refl
-same-stamp (Alone at why stamp) = refl
 
 -- these commits in order, behind earlier ones
 pub record Ordered (ps : List Proc) (rows : ℕ) (es cs : List Commit) : Type 0 where
@@ -66,7 +61,7 @@ put ps rows es c [] f runs up =
 put ps rows es c (d ∷ ds) f runs up = ⊎_elim
     (λ before. stays ps rows es c d ds f runs up before)
     (λ behind.
-    let le : stamp_of d ≤ stamp_of c = omega (arith, up-to-stamps (order_of d) (order_of c) behind, same-stamp c, same-stamp d) in
+    let le : stamp_of d ≤ stamp_of c = omega (arith, up-to-stamps (order_of d) (order_of c) behind) in
     let s = swap ps rows es c d f runs.0 le in
     goes ps rows es c d ds s.first s.alike.config up.0 behind
     (put ps rows (more es d) c ds s.second (runs-alike ps rows (more (more es c) d) (more (more es d) c) ds s.alike runs.1) up.1))

@@ -12,7 +12,8 @@ use Rattle.words.specs.declared.Commit.TheVariants.{Pair, Alone}
 use Rattle.words.specs.declared.Message.TheVariants.{Empty}
 use Rattle.words.specs.declared.NackName.{NackName}
 use Rattle.words.specs.declared.Row.{Row}
-use Rattle.sequential.specs.Runs.{Config, CanTake, MayTake, IsLegal, IsFiredAt, FiredAt, Fires, CountsFor, HasRow, HasThread, IsGreatest, Follows, applied, with_result, message_by, config_of, stamp_of}
+use Rattle.words.specs.Commits.{stamp_of}
+use Rattle.sequential.specs.Runs.{Config, CanTake, MayTake, IsLegal, IsFiredAt, FiredAt, Fires, CountsFor, HasRow, HasThread, IsGreatest, Follows, applied, with_result, message_by, config_of}
 use Rattle.sequential.proofs.Firing.{fired-kept, fired-cases}
 use Rattle.sequential.proofs.Greatest.{more, in-more, last-more, more-cases, greatest-other, greatest-same}
 use Rattle.sequential.proofs.Standing.{next-alone, result-at, result-other}

@@ -12,10 +12,10 @@ use Rattle.std.proofs.lemmas.Option.{slice_get-get_or}
 use Rattle.syntax.specs.Processes.{Proc}
 use Rattle.words.specs.declared.Commit.{Commit}
 use Rattle.words.specs.declared.Commit.TheVariants.{Pair, Alone}
-use Rattle.protocol.specs.Ledgers.{IsInOrder, first_thread, order_cmp, order_of, stamp_in}
-use Rattle.sequential.specs.Runs.{HasThread, IsRun, stamp_of}
+use Rattle.words.specs.Commits.{IsInOrder, first_thread, order_cmp, order_of, stamp_of}
+use Rattle.sequential.specs.Runs.{HasThread, IsRun}
 use Rattle.order.proofs.Keys.{Key, up-to-both, up-to-from-test, test-from-up-to}
-use Rattle.order.proofs.Sorting.{Ascends, Before, same-stamp}
+use Rattle.order.proofs.Sorting.{Ascends, Before}
 use Rattle.order.proofs.Stamps.{one-stamp}
 
 -- IN ORDER, as a sort says it, and from the front
@@ -50,15 +50,15 @@ order-from-ascends cs up = λ k d low within.
 -- EACH KEY ONCE
 
 abbrev pub same_key : Commit → Commit → Bool
-same_key c d = eqb (stamp_in c) (stamp_in d) && eqb (first_thread c) (first_thread d)
+same_key c d = eqb (stamp_of c) (stamp_of d) && eqb (first_thread c) (first_thread d)
 
 pub key-flips : (c d : Commit) → same_key c d ≡ same_key d c
 key-flips c d =
-    ap (λ (b : Bool). b && eqb (first_thread c) (first_thread d)) (nat_eq_equiv.symm (stamp_in c) (stamp_in d))
-    ∙ ap (λ (b : Bool). eqb (stamp_in d) (stamp_in c) && b) (nat_eq_equiv.symm (first_thread c) (first_thread d))
+    ap (λ (b : Bool). b && eqb (first_thread c) (first_thread d)) (nat_eq_equiv.symm (stamp_of c) (stamp_of d))
+    ∙ ap (λ (b : Bool). eqb (stamp_of d) (stamp_of c) && b) (nat_eq_equiv.symm (first_thread c) (first_thread d))
 
 key-itself : (c : Commit) → same_key c c ≡ true
-key-itself c = and_from _ _ (eq-eqb (stamp_in c) (stamp_in c) refl) (eq-eqb (first_thread c) (first_thread c) refl)
+key-itself c = and_from _ _ (eq-eqb (stamp_of c) (stamp_of c) refl) (eq-eqb (first_thread c) (first_thread c) refl)
 
 has-first : (c : Commit) → HasThread c (first_thread c)
 has-first (Pair sender receiver chan msg stamp) = inl refl
@@ -69,8 +69,8 @@ pub distinct : (ps : List Proc) (rows : ℕ) (journal : List Commit) → IsRun p
 distinct ps rows journal run = IsDistinct-from_apart same_key journal (λ i j x lt within. false_from_ne_true _ (λ same.
     let c = get_or journal i x in
     let d = get_or journal j x in
-    let parts = and_parts (eqb (stamp_in c) (stamp_in d)) (eqb (first_thread c) (first_thread d)) same in
-    let stamps : stamp_of c ≡ stamp_of d = sym (same-stamp c) ∙ eqb-true (stamp_in c) (stamp_in d) parts.0 ∙ same-stamp d in
+    let parts = and_parts (eqb (stamp_of c) (stamp_of d)) (eqb (first_thread c) (first_thread d)) same in
+    let stamps : stamp_of c ≡ stamp_of d = eqb-true (stamp_of c) (stamp_of d) parts.0 in
     let threads : first_thread d ≡ first_thread c = sym (eqb-true (first_thread c) (first_thread d) parts.1) in
     let place : i ≡ j = one-stamp ps rows journal run i j c d (first_thread c)
     (slice_get-get_or journal i x (omega (arith, lt, within))) (slice_get-get_or journal j x within)
@@ -101,7 +101,7 @@ same-first x y xs ys up down apart h k = ⊎_elim
     (λ e. e)
     (λ there.
     let keys = up-to-both (order_of x) (order_of y) (All-contains (Before x) xs y up.0 there) (All-contains (Before y) ys x down.0 behind) in
-    absurd (other-keys x y xs apart there (and_from _ _ (eq-eqb (stamp_in x) (stamp_in y) keys.0) (eq-eqb (first_thread x) (first_thread y) keys.1))))
+    absurd (other-keys x y xs apart there (and_from _ _ (eq-eqb (stamp_of x) (stamp_of y) keys.0) (eq-eqb (first_thread x) (first_thread y) keys.1))))
     (in-front x y xs k))
     (in-front y x ys h)
 

@@ -4,8 +4,9 @@ use Rattle.event.specs.Tree.{Tree, scope_nacks}
 use Rattle.syntax.specs.Processes.{Proc}
 use Rattle.thread.specs.After.{Chosen}
 use Rattle.words.specs.declared.Commit.{Commit}
-use Rattle.protocol.specs.Ledgers.{Ledger, IsInOrder, IsLawful, commits_in}
-use Rattle.sequential.specs.Runs.{HasRow, HasThread, IsOffering, IsRun, config_of, stamp_of}
+use Rattle.words.specs.Commits.{IsInOrder, stamp_of}
+use Rattle.protocol.specs.Ledgers.{Ledger, IsLawful, commits_in}
+use Rattle.sequential.specs.Runs.{HasRow, HasThread, IsOffering, IsRun, config_of}
 use Rattle.order.specs.Meetings.{Meets}
 use Rattle.order.specs.Messages.{named, received, sent}
 

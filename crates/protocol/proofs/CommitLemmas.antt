@@ -12,8 +12,9 @@ use Rattle.words.specs.declared.Base.{Base}
 use Rattle.words.specs.declared.Base.TheVariants.{Send, Recv, Always, OnNack, Never}
 use Rattle.words.specs.declared.Commit.{Commit}
 use Rattle.words.specs.declared.Commit.TheVariants.{Pair, Alone}
+use Rattle.words.specs.Commits.{stamp_of}
 use Rattle.protocol.specs.Tables.{row_eq, all_rows, names, is_partner}
-use Rattle.protocol.specs.Ledgers.{IsIn, Takes, Involves, stamp_in, Lawful, Fits, commit_named, commit_by, alone_by, pair_by, received_by, told_at, told_by, tells, is_send, sends, commits_of}
+use Rattle.protocol.specs.Ledgers.{IsIn, Takes, Involves, Lawful, Fits, commit_named, commit_by, alone_by, pair_by, received_by, told_at, told_by, tells, is_send, sends, commits_of}
 use Rattle.protocol.proofs.RowLemmas.{row_eq-refl, IsOnce, once_all}
 use Rattle.protocol.proofs.Linking.{some_inj, some_parts}
 
@@ -23,7 +24,7 @@ pub record IsNamedBy (r : Row) (j : Joined) (partner : Option (Row × ℕ)) (c :
   pub own : Takes c r j.own
   pub rows : (x : Row) → Involves c x → (r ≡ x) ⊎ (is_partner partner x ≡ true)
   pub other : (p : Row × ℕ) → partner ≡ Some p → Takes c p.0 p.1
-  pub stamp : stamp_in c ≡ j.stamp
+  pub stamp : stamp_of c ≡ j.stamp
 
 alone_rows : (r : Row) (j : Joined) (c d : Commit) (k : Rattle.words.specs.declared.Cause.Cause) → d ≡ Alone (r, j.own) k j.stamp → Some d ≡ Some c → IsNamedBy r j None c
 alone_rows r j c d k e h =
@@ -32,7 +33,7 @@ alone_rows r j c d k e h =
       own = subst (λ (x : Commit). Takes x r j.own) (sym is) refl;
       rows = λ x v. inl (ap (λ (z : Row × ℕ). z.0) (subst (λ (y : Commit). Takes y x v.0) is v.1));
       other = λ p e. let bad : None ≡ Some p = e in cc;
-      stamp = ap stamp_in is;
+      stamp = ap stamp_of is;
     }
 
 by_alone : (r : Row) (j : Joined) (b : Base) (c : Commit) → alone_by r j b ≡ Some c → IsNamedBy r j None c
@@ -50,7 +51,7 @@ sent_rows r j p c chan m (inl is) = record {
       (λ (e : p ≡ (x, v.0)). inr (ap (λ (z : Row × ℕ). row_eq z.0 x) e ∙ row_eq-refl x))
       (subst (λ (y : Commit). Takes y x v.0) is v.1);
   other = λ q e. subst (λ (x : Commit). Takes x q.0 q.1) (sym is) (inr (some_inj p q e));
-  stamp = ap stamp_in is;
+  stamp = ap stamp_of is;
 }
 sent_rows r j p c chan m (inr is) = record {
   own = subst (λ (x : Commit). Takes x r j.own) (sym is) (inr refl);
@@ -59,7 +60,7 @@ sent_rows r j p c chan m (inr is) = record {
       (λ (e : (r, j.own) ≡ (x, v.0)). inl (ap (λ (z : Row × ℕ). z.0) e))
       (subst (λ (y : Commit). Takes y x v.0) is v.1);
   other = λ q e. subst (λ (x : Commit). Takes x q.0 q.1) (sym is) (inl (some_inj p q e));
-  stamp = ap stamp_in is;
+  stamp = ap stamp_of is;
 }
 
 by_received : (r : Row) (j : Joined) (p : Row × ℕ) (b : Base) (c : Commit) → received_by r j p b ≡ Some c → IsNamedBy r j (Some p) c

@@ -14,9 +14,10 @@ use Rattle.words.specs.declared.Cause.TheVariants as cause
 use Rattle.words.specs.declared.Commit.TheVariants.{Pair, Alone}
 use Rattle.words.specs.declared.Cell.{Cell}
 use Rattle.words.specs.declared.Cell.TheVariants.{Claimed}
-use Rattle.protocol.specs.Tables.{all_rows, is_fresh, joined_of, names, is_partner, offers_meet, stands_alone, encloses, bound_row, cause_of, bases_meet, last_stamp, stamp_of}
+use Rattle.words.specs.Commits.{stamp_of}
+use Rattle.protocol.specs.Tables.{all_rows, is_fresh, joined_of, names, is_partner, offers_meet, stands_alone, encloses, bound_row, cause_of, bases_meet, last_stamp, row_stamp}
 use Rattle.protocol.specs.Worlds.{mirrored}
-use Rattle.protocol.specs.Ledgers.{IsIn, IsEnabled, Involves, CausedBy, stamp_in, Offers, Fits, Enables, CountsFor, Lawful, commit_named, commit_by, alone_by, pair_by, received_by, commits_of}
+use Rattle.protocol.specs.Ledgers.{IsIn, IsEnabled, Involves, CausedBy, Offers, Fits, Enables, CountsFor, Lawful, commit_named, commit_by, alone_by, pair_by, received_by, commits_of}
 use Rattle.protocol.specs.Kept.{joined_by, IsSideOf, IsAlone, Linked}
 use Rattle.protocol.proofs.Linking.{cases_Option, some_parts, some_inj, some_is_some, names_from, partner_parts, fresh_not_joined, taken_joined, partner_open, alone_there, named_some, named_alone}
 use Rattle.protocol.proofs.Causes.{IsEnabling, IsAlways, IsOnEnabled, enabling, cause_is, cause_alone}
@@ -147,7 +148,7 @@ module _ (threads rows : ℕ) (cell : Row → Cell) (offer : Row → ℕ → Opt
   involves_own : (r : Row) (j : Joined) (e : joined_of (cell r) ≡ Some j) → Involves (commit_of_joined r j e).0 r
   involves_own r j e = (j.own, (named_rows offer r j (commit_of_joined r j e).0 (commit_of_joined r j e).1).own)
 
-  stamp_own : (r : Row) (j : Joined) (e : joined_of (cell r) ≡ Some j) → stamp_in (commit_of_joined r j e).0 ≡ j.stamp
+  stamp_own : (r : Row) (j : Joined) (e : joined_of (cell r) ≡ Some j) → stamp_of (commit_of_joined r j e).0 ≡ j.stamp
   stamp_own r j e = (named_rows offer r j (commit_of_joined r j e).0 (commit_of_joined r j e).1).stamp
 
   -- a row in a commit is the one that names it, or its partner
@@ -284,10 +285,10 @@ module _ (threads rows : ℕ) (cell : Row → Cell) (offer : Row → ℕ → Opt
       (λ (n : h ≡ g → ⊥). joined_before t g h (open_before t g f) (omega (arith, n)))
       (cases_eq h g)
 
-  last_suc : (t g : ℕ) → last_stamp (joined_by cell) (row_at t (suc g)) ≡ stamp_of (joined_of (cell (row_at t g)))
+  last_suc : (t g : ℕ) → last_stamp (joined_by cell) (row_at t (suc g)) ≡ row_stamp (joined_of (cell (row_at t g)))
   last_suc t g =
-      ap (λ b. cond b 0 (stamp_of (joined_of (cell (row_at t (suc g - 1)))))) (ne_eqb (suc g) 0 (λ e. absurd (omega arith)))
-      ∙ ap (λ n. stamp_of (joined_of (cell (row_at t n)))) (omega arith)
+      ap (λ b. cond b 0 (row_stamp (joined_of (cell (row_at t (suc g - 1)))))) (ne_eqb (suc g) 0 (λ e. absurd (omega arith)))
+      ∙ ap (λ n. row_stamp (joined_of (cell (row_at t n)))) (omega arith)
 
   stamp_above : (r : Row) (j : Joined) → joined_of (cell r) ≡ Some j → last_stamp (joined_by cell) r < j.stamp
   stamp_above r j e = ⊎_elim
@@ -295,24 +296,24 @@ module _ (threads rows : ℕ) (cell : Row → Cell) (offer : Row → ℕ → Opt
       (λ (p : (p : Row × ℕ) × (j.partner ≡ Some p)). let s = (l.sides r j p.0 e p.1).stamp in omega arith)
       (cases_Option j.partner)
 
-  rising : (t g h : ℕ) → is_fresh (cell (row_at t g)) ≡ false → h < g → stamp_of (joined_of (cell (row_at t h))) ≤ last_stamp (joined_by cell) (row_at t g)
+  rising : (t g h : ℕ) → is_fresh (cell (row_at t g)) ≡ false → h < g → row_stamp (joined_of (cell (row_at t h))) ≤ last_stamp (joined_by cell) (row_at t g)
   rising t zero h f b = absurd (omega arith)
   rising t (suc g) h f b =
       let last = last_suc t g in
       ⊎_elim
       (λ (e : h ≡ g).
-      let same : stamp_of (joined_of (cell (row_at t h))) ≡ stamp_of (joined_of (cell (row_at t g))) = ap (λ n. stamp_of (joined_of (cell (row_at t n)))) e in
+      let same : row_stamp (joined_of (cell (row_at t h))) ≡ row_stamp (joined_of (cell (row_at t g))) = ap (λ n. row_stamp (joined_of (cell (row_at t n)))) e in
       omega arith)
       (λ (n : h ≡ g → ⊥).
       let under = rising t g h (open_before t g f) (omega (arith, n)) in
       let j = some_parts _ (open_suc t g f) in
       let above = stamp_above (row_at t g) j.0 j.1 in
-      let is : stamp_of (joined_of (cell (row_at t g))) ≡ j.0.stamp = ap stamp_of j.1 in
+      let is : row_stamp (joined_of (cell (row_at t g))) ≡ j.0.stamp = ap row_stamp j.1 in
       omega arith)
       (cases_eq h g)
 
   -- the stamp of a commit that an open row is in is above its last stamp
-  stamp_over : (c : Commit) (x : Row) → (h : IsIn (joined_by cell) offer c) → Involves c x → last_stamp (joined_by cell) x < stamp_in c
+  stamp_over : (c : Commit) (x : Row) → (h : IsIn (joined_by cell) offer c) → Involves c x → last_stamp (joined_by cell) x < stamp_of c
   stamp_over c x h v =
       let is = (named_rows offer h.row h.way c h.is_named).stamp in
       ⊎_elim
@@ -327,7 +328,7 @@ module _ (threads rows : ℕ) (cell : Row → Cell) (offer : Row → ℕ → Opt
       (rows_in c x h v)
 
   -- the commit that enabled another has a lower stamp
-  enabler_below : (c d : Commit) → IsIn (joined_by cell) offer c → IsIn (joined_by cell) offer d → Enables bound d c → stamp_in d < stamp_in c
+  enabler_below : (c d : Commit) → IsIn (joined_by cell) offer c → IsIn (joined_by cell) offer d → Enables bound d c → stamp_of d < stamp_of c
   enabler_below c d h k e = ⊎_elim
       (λ (n : h.way.partner ≡ None).
       let alone = l.alone h.row h.way h.is_joined n in
@@ -340,7 +341,7 @@ module _ (threads rows : ℕ) (cell : Row → Cell) (offer : Row → ℕ → Opt
       let row : Row = bound_row a.name a.enabled.binding in
       let inside = subst (λ (b : Binding). Involves d (bound_row a.name b)) same by.2 in
       let mine : (commit_of_joined row a.by a.enabled.is_joined).0 ≡ d = some_inj _ d (sym (commit_of_joined row a.by a.enabled.is_joined).1 ∙ same_named row a.by d a.enabled.is_joined k inside) in
-      let stamp : stamp_in d ≡ a.by.stamp = ap stamp_in (sym mine) ∙ stamp_own row a.by a.enabled.is_joined in
+      let stamp : stamp_of d ≡ a.by.stamp = ap stamp_of (sym mine) ∙ stamp_own row a.by a.enabled.is_joined in
       let due = alone.stamp in
       let caused : alone.cause ≡ a.by.stamp = a.stamp in
       omega arith)
@@ -353,7 +354,7 @@ module _ (threads rows : ℕ) (cell : Row → Cell) (offer : Row → ℕ → Opt
       (pair_of_named offer h.row h.way p.0 c p.1 side.meets h.is_named))
       (cases_Option h.way.partner)
 
-  above_in : (c : Commit) → (h : IsIn (joined_by cell) offer c) → (d : Commit) → IsIn (joined_by cell) offer d → CountsFor bound d c → stamp_in d < stamp_in c
+  above_in : (c : Commit) → (h : IsIn (joined_by cell) offer c) → (d : Commit) → IsIn (joined_by cell) offer d → CountsFor bound d c → stamp_of d < stamp_of c
   above_in c h d k (inl e) =
       let t : ℕ = e.0 in
       let g : ℕ = e.1 in
@@ -362,35 +363,35 @@ module _ (threads rows : ℕ) (cell : Row → Cell) (offer : Row → ℕ → Opt
       let j = some_parts _ (joined_before t g b open_g e.3) in
       let named = same_named (row_at t b) j.0 d j.1 k e.4 in
       let mine : (commit_of_joined (row_at t b) j.0 j.1).0 ≡ d = some_inj _ d (sym (commit_of_joined (row_at t b) j.0 j.1).1 ∙ named) in
-      let stamp : stamp_in d ≡ j.0.stamp = ap stamp_in (sym mine) ∙ stamp_own (row_at t b) j.0 j.1 in
-      let is : stamp_of (joined_of (cell (row_at t b))) ≡ j.0.stamp = ap stamp_of j.1 in
+      let stamp : stamp_of d ≡ j.0.stamp = ap stamp_of (sym mine) ∙ stamp_own (row_at t b) j.0 j.1 in
+      let is : row_stamp (joined_of (cell (row_at t b))) ≡ j.0.stamp = ap row_stamp j.1 in
       let up = rising t g b open_g e.3 in
       let over = stamp_over c (row_at t g) h e.5 in
       omega arith
   above_in c h d k (inr e) = enabler_below c d h k e
 
   -- the commit before, where a row has a last stamp
-  last_commit : (c : Commit) (r : Row) → Involves c r → 0 < last_stamp (joined_by cell) r → (d : Commit) × IsIn (joined_by cell) offer d × CountsFor bound d c × (stamp_in d ≡ last_stamp (joined_by cell) r)
+  last_commit : (c : Commit) (r : Row) → Involves c r → 0 < last_stamp (joined_by cell) r → (d : Commit) × IsIn (joined_by cell) offer d × CountsFor bound d c × (stamp_of d ≡ last_stamp (joined_by cell) r)
   last_commit c r v b = by_sync r.sync refl
     where
-      by_sync : (n : ℕ) → r.sync ≡ n → (d : Commit) × IsIn (joined_by cell) offer d × CountsFor bound d c × (stamp_in d ≡ last_stamp (joined_by cell) r)
+      by_sync : (n : ℕ) → r.sync ≡ n → (d : Commit) × IsIn (joined_by cell) offer d × CountsFor bound d c × (stamp_of d ≡ last_stamp (joined_by cell) r)
       by_sync zero e =
-          let none : last_stamp (joined_by cell) r ≡ 0 = ap (λ n. cond (eqb n 0) 0 (stamp_of (joined_of (cell (row_at r.thread (r.sync - 1)))))) e in
+          let none : last_stamp (joined_by cell) r ≡ 0 = ap (λ n. cond (eqb n 0) 0 (row_stamp (joined_of (cell (row_at r.thread (r.sync - 1)))))) e in
           absurd (omega arith)
       by_sync (suc n) e =
-          let last : last_stamp (joined_by cell) r ≡ stamp_of (joined_of (cell (row_at r.thread n))) = ap (λ m. last_stamp (joined_by cell) (row_at r.thread m)) e ∙ last_suc r.thread n in
+          let last : last_stamp (joined_by cell) r ≡ row_stamp (joined_of (cell (row_at r.thread n))) = ap (λ m. last_stamp (joined_by cell) (row_at r.thread m)) e ∙ last_suc r.thread n in
           ⊎_elim
-          (λ (z : joined_of (cell (row_at r.thread n)) ≡ None). let none : stamp_of (joined_of (cell (row_at r.thread n))) ≡ 0 = ap stamp_of z in absurd (omega arith))
+          (λ (z : joined_of (cell (row_at r.thread n)) ≡ None). let none : row_stamp (joined_of (cell (row_at r.thread n))) ≡ 0 = ap row_stamp z in absurd (omega arith))
           (λ (j : (j : Joined) × (joined_of (cell (row_at r.thread n)) ≡ Some j)). (
             (commit_of_joined (row_at r.thread n) j.0 j.1).0,
             in_of_joined (row_at r.thread n) j.0 j.1,
             inl (r.thread, suc n, n, omega arith, involves_own (row_at r.thread n) j.0 j.1, subst (λ m. Involves c (row_at r.thread m)) e v),
-            stamp_own (row_at r.thread n) j.0 j.1 ∙ sym (ap stamp_of j.1) ∙ sym last,
+            stamp_own (row_at r.thread n) j.0 j.1 ∙ sym (ap row_stamp j.1) ∙ sym last,
           ))
           (cases_Option (joined_of (cell (row_at r.thread n))))
 
   -- the commit that enabled the nack, where the cause has a stamp
-  cause_commit : (c : Commit) (r : Row) (j : Joined) (s : ℕ) → IsByAlways c r j s ⊎ IsByNack c r j s → 0 < s → (d : Commit) × IsIn (joined_by cell) offer d × CountsFor bound d c × (stamp_in d ≡ s)
+  cause_commit : (c : Commit) (r : Row) (j : Joined) (s : ℕ) → IsByAlways c r j s ⊎ IsByNack c r j s → 0 < s → (d : Commit) × IsIn (joined_by cell) offer d × CountsFor bound d c × (stamp_of d ≡ s)
   cause_commit c r j s (inl a) b = let z : s ≡ 0 = a.stamp in absurd (omega arith)
   cause_commit c r j s (inr a) b =
       let row : Row = bound_row a.name a.enabled.binding in
@@ -401,7 +402,7 @@ module _ (threads rows : ℕ) (cell : Row → Cell) (offer : Row → ℕ → Opt
         stamp_own row a.by a.enabled.is_joined ∙ sym a.stamp,
       )
 
-  next_in : (c : Commit) → IsIn (joined_by cell) offer c → (stamp_in c ≡ 1) ⊎ ((d : Commit) × IsIn (joined_by cell) offer d × CountsFor bound d c × (stamp_in c ≡ stamp_in d + 1))
+  next_in : (c : Commit) → IsIn (joined_by cell) offer c → (stamp_of c ≡ 1) ⊎ ((d : Commit) × IsIn (joined_by cell) offer d × CountsFor bound d c × (stamp_of c ≡ stamp_of d + 1))
   next_in c h =
       let at = named_rows offer h.row h.way c h.is_named in
       ⊎_elim
@@ -413,12 +414,12 @@ module _ (threads rows : ℕ) (cell : Row → Cell) (offer : Row → ℕ → Opt
       pick (last_stamp (joined_by cell) h.row) (last_stamp (joined_by cell) p.0.0) (at.stamp ∙ s) (last_commit c h.row (h.way.own, at.own)) (last_commit c p.0.0 (p.0.1, at.other p.0 p.1)))
       (cases_Option h.way.partner)
     where
-      pick : (a b : ℕ) → stamp_in c ≡ 1 + max a b → (0 < a → (d : Commit) × IsIn (joined_by cell) offer d × CountsFor bound d c × (stamp_in d ≡ a)) → (0 < b → (d : Commit) × IsIn (joined_by cell) offer d × CountsFor bound d c × (stamp_in d ≡ b)) → (stamp_in c ≡ 1) ⊎ ((d : Commit) × IsIn (joined_by cell) offer d × CountsFor bound d c × (stamp_in c ≡ stamp_in d + 1))
+      pick : (a b : ℕ) → stamp_of c ≡ 1 + max a b → (0 < a → (d : Commit) × IsIn (joined_by cell) offer d × CountsFor bound d c × (stamp_of d ≡ a)) → (0 < b → (d : Commit) × IsIn (joined_by cell) offer d × CountsFor bound d c × (stamp_of d ≡ b)) → (stamp_of c ≡ 1) ⊎ ((d : Commit) × IsIn (joined_by cell) offer d × CountsFor bound d c × (stamp_of c ≡ stamp_of d + 1))
       pick a b s f g = ⊎_elim
-          (λ (lt : a < b). let d = g (omega arith) in let at : stamp_in d.0 ≡ b = d.3 in inr (d.0, d.1, d.2, omega arith))
+          (λ (lt : a < b). let d = g (omega arith) in let at : stamp_of d.0 ≡ b = d.3 in inr (d.0, d.1, d.2, omega arith))
           (λ (le : b ≤ a). ⊎_elim
           (λ (z : a ≡ 0). inl (omega arith))
-          (λ (z : a ≡ 0 → ⊥). let d = f (omega (arith, z)) in let at : stamp_in d.0 ≡ a = d.3 in inr (d.0, d.1, d.2, omega arith))
+          (λ (z : a ≡ 0 → ⊥). let d = f (omega (arith, z)) in let at : stamp_of d.0 ≡ a = d.3 in inr (d.0, d.1, d.2, omega arith))
           (cases_eq a 0))
           (cases_lt a b)
 

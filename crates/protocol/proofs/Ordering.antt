@@ -20,8 +20,9 @@ use Rattle.words.specs.declared.Commit.{Commit}
 use Rattle.words.specs.declared.Commit.TheVariants.{Pair, Alone}
 use Rattle.words.specs.declared.NackName.{NackName}
 use Rattle.words.specs.declared.Binding.{Binding}
+use Rattle.words.specs.Commits.{first_row, first_thread, stamp_of, IsInOrder}
 use Rattle.protocol.specs.Tables.{row_eq, all_rows, is_partner}
-use Rattle.protocol.specs.Ledgers.{Ledger, IsLawful, joined_in, offer_in, binding_in, commits_in, Involves, Lawful, IsIn, commit_named, commit_by, pair_by, tells, told_at, is_send, sends, commits_of, first_row, first_thread, stamp_in, IsInOrder, IsCausal}
+use Rattle.protocol.specs.Ledgers.{Ledger, IsLawful, joined_in, offer_in, binding_in, commits_in, Involves, Lawful, IsIn, commit_named, commit_by, pair_by, tells, told_at, is_send, sends, commits_of, IsCausal}
 use Rattle.protocol.proofs.RowLemmas.{row_eq-refl, row_eq-false, row_eq_flips, row_ne, all_distinct}
 use Rattle.protocol.proofs.Linking.{some_inj, partner_parts}
 use Rattle.protocol.proofs.CommitLemmas.{named_rows, told_named, told_parts, commit_told}
@@ -100,13 +101,13 @@ module _ (told : Row → Option Commit) (apart : (r q : Row) (c d : Commit) → 
   distinct_told (r ∷ rs) d = distinct_more r rs (told r) refl d.0 (distinct_told rs d.1)
 
 -- IN ORDER, stamps do not fall
-stamps_rise : (cs : List Commit) → IsInOrder cs → IsNonDecreasingBy stamp_in cs
-stamps_rise cs sorted = IsNonDecreasingBy-from_all_adjacent stamp_in cs (λ k d b. ⊎_elim
-    (λ (e : stamp_in (get_or cs (k + 1) d) < stamp_in (get_or cs k d)).
-    let less : Less ≡ nat_cmp (stamp_in (get_or cs (k + 1) d)) (stamp_in (get_or cs k d)) = nat_cmp_is _ _ Less e in
+stamps_rise : (cs : List Commit) → IsInOrder cs → IsNonDecreasingBy stamp_of cs
+stamps_rise cs sorted = IsNonDecreasingBy-from_all_adjacent stamp_of cs (λ k d b. ⊎_elim
+    (λ (e : stamp_of (get_or cs (k + 1) d) < stamp_of (get_or cs k d)).
+    let less : Less ≡ nat_cmp (stamp_of (get_or cs (k + 1) d)) (stamp_of (get_or cs k d)) = nat_cmp_is _ _ Less e in
     absurd (true≢false (ap (λ (o : Ordering). is_lt (ordering_then o (nat_cmp (first_thread (get_or cs (k + 1) d)) (first_thread (get_or cs k d))))) less ∙ sorted k d (omega arith) b)))
-    (λ (e : stamp_in (get_or cs k d) ≤ stamp_in (get_or cs (k + 1) d)). e)
-    (cases_lt (stamp_in (get_or cs (k + 1) d)) (stamp_in (get_or cs k d))))
+    (λ (e : stamp_of (get_or cs k d) ≤ stamp_of (get_or cs (k + 1) d)). e)
+    (cases_lt (stamp_of (get_or cs (k + 1) d)) (stamp_of (get_or cs k d))))
 
 module _ (threads rows : ℕ) (joined : Row → Option Joined) (offer : Row → ℕ → Option Offer) (bound : NackName → Option Binding)
     (law : Lawful (all_rows threads rows) joined offer bound)
@@ -147,10 +148,10 @@ module _ (threads rows : ℕ) (joined : Row → Option Joined) (offer : Row → 
     behind = λ i k c d h e counts. ⊎_elim
         (λ (b : i < k). b)
         (λ (b : k ≤ i).
-        let above : stamp_in d < stamp_in c = (law.stamps c (member k c e)).above d (member i d h) counts in
-        let rise : stamp_in (get_or cs k c) ≤ stamp_in (get_or cs i c) = stamps_rise cs sorted k i c b (slice_get_within cs i d h) in
-        let at_k : stamp_in (get_or cs k c) ≡ stamp_in c = ap stamp_in (get_or_from_slice_get cs k c c e) in
-        let at_i : stamp_in (get_or cs i c) ≡ stamp_in d = ap stamp_in (get_or_from_slice_get cs i d c h) in
+        let above : stamp_of d < stamp_of c = (law.stamps c (member k c e)).above d (member i d h) counts in
+        let rise : stamp_of (get_or cs k c) ≤ stamp_of (get_or cs i c) = stamps_rise cs sorted k i c b (slice_get_within cs i d h) in
+        let at_k : stamp_of (get_or cs k c) ≡ stamp_of c = ap stamp_of (get_or_from_slice_get cs k c c e) in
+        let at_i : stamp_of (get_or cs i c) ≡ stamp_of d = ap stamp_of (get_or_from_slice_get cs i d c h) in
         absurd (omega arith))
         (cases_lt i k);
   }

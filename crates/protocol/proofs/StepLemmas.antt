@@ -11,7 +11,7 @@ use Rattle.words.specs.declared.Offer.{Offer}
 use Rattle.words.specs.declared.Commit.{Commit}
 use Rattle.words.specs.declared.Cell.{Cell}
 use Rattle.words.specs.declared.Cell.TheVariants.{Waiting, Claimed, Synched}
-use Rattle.protocol.specs.Tables.{row_eq, all_rows, is_fresh, is_taken, joined_of, names, is_partner, offers_meet, last_stamp, stamp_of, bound_row, cause_of}
+use Rattle.protocol.specs.Tables.{row_eq, all_rows, is_fresh, is_taken, joined_of, names, is_partner, offers_meet, last_stamp, row_stamp, bound_row, cause_of}
 use Rattle.protocol.specs.Worlds.{mirrored}
 use Rattle.protocol.specs.Ledgers.{commits_of, told_at, told_by, tells, is_send, commit_named}
 use Rattle.protocol.specs.Kept.{joined_by, IsSideOf, IsAlone, Linked}
@@ -37,10 +37,10 @@ last_kept : {bound : NackName → Option Binding} (threads rows : ℕ) (cell : R
 last_kept threads rows cell offer x r c l j f =
     ⊎_elim
     (λ (z : r.sync ≡ 0).
-    let P : ℕ → Type 0 = λ k. cond (eqb k 0) 0 (stamp_of (joined_of (put cell x c (before r)))) ≡ cond (eqb k 0) 0 (stamp_of (joined_of (cell (before r)))) in
+    let P : ℕ → Type 0 = λ k. cond (eqb k 0) 0 (row_stamp (joined_of (put cell x c (before r)))) ≡ cond (eqb k 0) 0 (row_stamp (joined_of (cell (before r)))) in
     subst P (sym z) refl)
     (λ (n : r.sync ≡ 0 → ⊥).
-    ap (λ (d : Cell). cond (eqb r.sync 0) 0 (stamp_of (joined_of d))) (put_other cell x c (before r) (before_ne threads rows cell offer x r l j f n)))
+    ap (λ (d : Cell). cond (eqb r.sync 0) 0 (row_stamp (joined_of d))) (put_other cell x c (before r) (before_ne threads rows cell offer x r l j f n)))
     (cases_eq r.sync 0)
 
 -- a step that joins nothing anew: open, claim, yield and take
@@ -164,20 +164,20 @@ apart_rows r s h = row_ne r s (λ e. h (ap (λ (y : Row). y.thread) e))
 pub last_bounded : {bound : NackName → Option Binding} (threads rows : ℕ) (cell : Row → Cell) (offer : Row → ℕ → Option Offer) (r : Row) → Linked threads rows cell offer bound → last_stamp (joined_by cell) r ≤ length (commits_of (all_rows threads rows) (joined_by cell) offer)
 last_bounded threads rows cell offer r l =
     let n : ℕ = length (commits_of (all_rows threads rows) (joined_by cell) offer) in
-    let stamped : stamp_of (joined_of (cell (before r))) ≤ n =
+    let stamped : row_stamp (joined_of (cell (before r))) ≤ n =
     ⊎_elim
-    (λ (e : joined_of (cell (before r)) ≡ None). let z : stamp_of (joined_of (cell (before r))) ≡ 0 = ap stamp_of e in omega arith)
+    (λ (e : joined_of (cell (before r)) ≡ None). let z : row_stamp (joined_of (cell (before r))) ≡ 0 = ap row_stamp e in omega arith)
     (λ (w : (j : Joined) × (joined_of (cell (before r)) ≡ Some j)).
-    let z : stamp_of (joined_of (cell (before r))) ≡ w.0.stamp = ap stamp_of w.1 in
+    let z : row_stamp (joined_of (cell (before r))) ≡ w.0.stamp = ap row_stamp w.1 in
     let b : w.0.stamp ≤ n = l.bounded (before r) w.0 w.1 in
     omega arith)
     (cases_Option (joined_of (cell (before r)))) in
     ⊎_elim
     (λ (z : r.sync ≡ 0).
-    let P : ℕ → Type 0 = λ k. cond (eqb k 0) 0 (stamp_of (joined_of (cell (before r)))) ≤ n in
+    let P : ℕ → Type 0 = λ k. cond (eqb k 0) 0 (row_stamp (joined_of (cell (before r)))) ≤ n in
     subst P (sym z) (omega arith))
     (λ (z : r.sync ≡ 0 → ⊥).
-    let P : Bool → Type 0 = λ b. cond b 0 (stamp_of (joined_of (cell (before r)))) ≤ n in
+    let P : Bool → Type 0 = λ b. cond b 0 (row_stamp (joined_of (cell (before r)))) ≤ n in
     subst P (sym (Rattle.std.proofs.lemmas.Bool.ne_eqb r.sync 0 z)) stamped)
     (cases_eq r.sync 0)
 

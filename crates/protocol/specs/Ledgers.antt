@@ -1,9 +1,6 @@
 -- Ledgers: the commits that a table's words name, and when they are lawful.
 use Rattle.std.specs.Prelude.{zero, suc, ◌⊎◌, ◌≡◌, ℕ, ◌+◌, ◌*◌, ◌<◌, ◌≤◌, ◌≢◌, Bool, true, false, ◌||◌, ◌&&◌, nat_lt, if◌then◌else◌, Option, Some, None, is_some, is_none, option_and_then, option_to_list, List, [], ◌++◌, map, length, count_by, slice_get, slice_index_or}
 use Rattle.std.specs.List.{range_with_len, flat_map}
-use Rattle.std.specs.List.Sorted.{IsSortedByKey}
-use Rattle.std.specs.Ordering.{nat_cmp, ordering_then}
-use Rattle.std.specs.declared.cmp.Ordering.{Ordering}
 use Rattle.words.specs.declared.NackName.{NackName}
 use Rattle.words.specs.declared.Base.{Base}
 use Rattle.words.specs.declared.Base.TheVariants.{Send, Recv, Always, OnNack, Never}
@@ -15,7 +12,9 @@ use Rattle.words.specs.declared.Cause.{Cause}
 use Rattle.words.specs.declared.Cause.TheVariants as cause
 use Rattle.words.specs.declared.Commit.{Commit}
 use Rattle.words.specs.declared.Commit.TheVariants.{Pair, Alone}
-use Rattle.protocol.specs.Tables.{Table, all_rows, number_of, joined_at, count_at, offer_at, binding_at, namer_of, has_scope}
+use Rattle.words.specs.Commits.{stamp_of}
+use Rattle.words.specs.Scopes.{has_scope}
+use Rattle.protocol.specs.Tables.{Table, all_rows, number_of, joined_at, count_at, offer_at, binding_at, namer_of}
 
 -- What a ledger has of a row: its offers, once it is opened, and how it is committed.
 pub record Entry : Type 0 where
@@ -175,10 +174,6 @@ Takes (Alone at k s) r n = at ≡ (r, n)
 abbrev pub Involves : Commit → Row → Type 0
 Involves c r = (n : ℕ) × Takes c r n
 
-abbrev pub stamp_in : Commit → ℕ
-stamp_in (Pair sender receiver c m s) = s
-stamp_in (Alone at k s) = s
-
 abbrev pub Offers : (Row → ℕ → Option Offer) → Row × ℕ → Base → Type 0
 Offers offer at b = (o : Offer) × (offer at.0 at.1 ≡ Some o) × (o.base ≡ b)
 
@@ -220,8 +215,8 @@ CountsFor bound d c = IsEarlier d c ⊎ Enables bound d c
 
 -- The stamp is one more than the greatest stamp of the commits that count for it, where a missing one counts 0.
 pub record IsStampDue (joined : Row → Option Joined) (offer : Row → ℕ → Option Offer) (bound : NackName → Option Binding) (c : Commit) : Type 0 where
-  pub above : (d : Commit) → IsIn joined offer d → CountsFor bound d c → stamp_in d < stamp_in c
-  pub next : (stamp_in c ≡ 1) ⊎ ((d : Commit) × IsIn joined offer d × CountsFor bound d c × (stamp_in c ≡ stamp_in d + 1))
+  pub above : (d : Commit) → IsIn joined offer d → CountsFor bound d c → stamp_of d < stamp_of c
+  pub next : (stamp_of c ≡ 1) ⊎ ((d : Commit) × IsIn joined offer d × CountsFor bound d c × (stamp_of c ≡ stamp_of d + 1))
 
 pub record Lawful (rows : List Row) (joined : Row → Option Joined) (offer : Row → ℕ → Option Offer) (bound : NackName → Option Binding) : Type 0 where
   -- a committed row names a commit
@@ -234,7 +229,7 @@ pub record Lawful (rows : List Row) (joined : Row → Option Joined) (offer : Ro
   pub in_turn : (c : Commit) (thread g h : ℕ) → IsIn joined offer c → Involves c (record { thread = thread; sync = g }) → h < g → (d : Commit) × IsIn joined offer d × Involves d (record { thread = thread; sync = h })
   pub stamps : (c : Commit) → IsIn joined offer c → IsStampDue joined offer bound c
   -- no stamp exceeds the number of commits
-  pub bounded : (c : Commit) → IsIn joined offer c → stamp_in c ≤ length (commits_of rows joined offer)
+  pub bounded : (c : Commit) → IsIn joined offer c → stamp_of c ≤ length (commits_of rows joined offer)
 
 abbrev pub IsLawful : Ledger → Type 0
 IsLawful l = Lawful (rows_in l) (joined_in l) (offer_in l) (binding_in l)
@@ -249,23 +244,7 @@ commits_in l = commits_of (rows_in l) (joined_in l) (offer_in l)
 abbrev pub pending_in : Ledger → ℕ
 pending_in l = pending_of (rows_in l) (joined_in l)
 
--- THE JOURNAL'S ORDER: by stamp, and then by the thread named first
-
-abbrev pub first_row : Commit → Row
-first_row (Pair sender receiver c m s) = sender.0
-first_row (Alone at k s) = at.0
-
-abbrev pub first_thread : Commit → ℕ
-first_thread c = (first_row c).thread
-
-abbrev pub order_of : Commit → ℕ × ℕ
-order_of c = (stamp_in c, first_thread c)
-
-abbrev pub order_cmp : ℕ × ℕ → ℕ × ℕ → Ordering
-order_cmp x y = ordering_then (nat_cmp x.0 y.0) (nat_cmp x.1 y.1)
-
-abbrev pub IsInOrder : List Commit → Type 0
-IsInOrder cs = IsSortedByKey order_of order_cmp cs
+-- A LIST OF COMMITS
 
 -- each commit stands once, and behind each that counts for it: those of the earlier rows of its threads, and the one
 -- that enabled its nack

@@ -1,5 +1,6 @@
 -- The table of words: where each word lies, and what a row or a nack reads as.
-use Rattle.std.specs.Prelude.{ℕ, zero, suc, ◌+◌, ◌-◌, ◌*◌, Bool, true, false, ◌/◌, ◌%◌, ◌^◌, ◌==◌, ◌&&◌, nat_lt, if◌then◌else◌, Option, Some, None, unwrap_or, List, [], ◌∷◌, ◌++◌, find, slice_index}
+use Rattle.std.specs.Prelude.{ℕ, zero, suc, ◌+◌, ◌-◌, ◌*◌, Bool, true, false, ◌==◌, ◌&&◌, nat_lt, if◌then◌else◌, Option, Some, None, unwrap_or, List, [], ◌∷◌, ◌++◌, find, slice_index}
+use Rattle.words.specs.Scopes.{has_scope}
 use Rattle.words.specs.Words.{cell_of, count_of, offer_of, nack_of}
 use Rattle.words.specs.declared.NackName.{NackName}
 use Rattle.words.specs.declared.Offer.{Offer}
@@ -149,24 +150,20 @@ abbrev pub namer_of : List Row → (Row → Option Joined) → Row → Option Ro
 namer_of rows joined r = find (λ q. names (joined q) r) rows
 
 -- the stamp of a committed row, and 0 where it is not
-abbrev pub stamp_of : Option Joined → ℕ
-stamp_of None = 0
-stamp_of (Some j) = j.stamp
+abbrev pub row_stamp : Option Joined → ℕ
+row_stamp None = 0
+row_stamp (Some j) = j.stamp
 
 -- the stamp of the row before this one in its thread, and 0 where there is none
 abbrev pub last_stamp : (Row → Option Joined) → Row → ℕ
 last_stamp joined r =
-    if r.sync == 0 then 0 else stamp_of (joined (record { thread = r.thread; sync = r.sync - 1 }))
+    if r.sync == 0 then 0 else row_stamp (joined (record { thread = r.thread; sync = r.sync - 1 }))
 
 -- how the rows of a table are committed
 abbrev pub joined_at : Table → Row → Option Joined
 joined_at t r = joined_of (cell_at t r)
 
 -- WHEN A NACK IS ENABLED, where rows are joined, offer, and nacks are bound as these functions say
-
--- bit k of a mask of scopes
-abbrev pub has_scope : ℕ → ℕ → Bool
-has_scope scopes k = scopes / 2 ^ k % 2 == 1
 
 -- whether the scope encloses the offer; one that is not there is enclosed by none
 abbrev pub encloses : ℕ → Option Offer → Bool

@@ -268,15 +268,7 @@ impl Board {
     }
 }
 
-ghost use Rattle.protocol.specs.Tables.{encloses, has_scope};
-
-/// Whether the scope, 0 to 7, encloses an offer of this mask.
-pub fn has_scope(scopes: u8, scope: u8) -> bool
-    requires { scope < 8 }
-    ensures { result ≡ has_scope scopes scope }
-{
-    (scopes >> scope) % 2 == 1
-}
+ghost use Rattle.protocol.specs.Tables.{encloses};
 
 /// Whether the scope encloses the offer.
 fn encloses(scope: u8, offer: Option<Offer>) -> bool
@@ -284,7 +276,7 @@ fn encloses(scope: u8, offer: Option<Offer>) -> bool
     ensures { result ≡ encloses scope offer }
 {
     match offer {
-        Some(offer) => has_scope(offer.scopes, scope),
+        Some(offer) => offer.has_scope(scope),
         None => false,
     }
 }

@@ -27,7 +27,8 @@ impl Model for Ledger {
     ghost invariant = { λ l. IsLawful (ledger_of (table_of l.board)) };
 }
 
-ghost use Rattle.protocol.specs.Ledgers.{ledger_of, IsLawful, HasCommit, Involves, IsInOrder, IsCausal, binding_in, commits_in, pending_in, order_of};
+ghost use Rattle.protocol.specs.Ledgers.{ledger_of, IsLawful, HasCommit, Involves, IsCausal, binding_in, commits_in, pending_in};
+ghost use Rattle.words.specs.Commits.{IsInOrder};
 ghost use Rattle.protocol.specs.Tables.{thread_len};
 ghost use Rattle.protocol.specs.States.{table_of};
 ghost use Rattle.words.specs.declared.Commit.{Commit};
@@ -77,7 +78,7 @@ impl Ledger {
         ensures lawful { IsLawful self.now }
     {
         let mut commits = self.board.commits()?;
-        commits.sort_by_key(|commit| order_of(commit))?;
+        commits.sort_by_key(|commit| commit.order())?;
         Ok(commits)
     }
 
@@ -86,15 +87,5 @@ impl Ledger {
         ensures { result ≡ pending_in self.now }
     {
         self.board.pending()
-    }
-}
-
-/// By what commits are in order: the stamp, and the thread named first.
-pub fn order_of(commit: &Commit) -> (u32, u8)
-    ensures { result ≡ order_of commit.now }
-{
-    match commit {
-        Commit::Pair { sender, stamp, .. } => (*stamp, sender.0.thread),
-        Commit::Alone { at, stamp, .. } => (*stamp, at.0.thread),
     }
 }

@@ -13,8 +13,7 @@ mod ledger;
 mod state;
 mod world;
 
-pub use crate::board::has_scope;
-pub use crate::ledger::{Ledger, order_of};
+pub use crate::ledger::Ledger;
 pub use crate::state::offers_meet;
 pub use crate::world::{World, play};
 use thiserror::Error;

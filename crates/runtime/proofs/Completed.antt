@@ -1,10 +1,11 @@
 -- The record of a completed ledger tells a maximal run.
-use Rattle.std.proofs.Common.{◌≡◌, ◌≤◌, ◌+◌, ℕ, List, ◌++◌, length, arith, sym, ◌∙◌}
+use Rattle.std.proofs.Common.{ℕ, List, ◌++◌, arith}
 use Rattle.std.proofs.lemmas.List.{length-append}
 use Rattle.std.proofs.lemmas.List.Sorted.{length_permutation}
 use Rattle.syntax.specs.Processes.{Proc}
 use Rattle.words.specs.declared.Commit.{Commit}
-use Rattle.protocol.specs.Ledgers.{Ledger, IsInOrder, commits_in}
+use Rattle.words.specs.Commits.{IsInOrder}
+use Rattle.protocol.specs.Ledgers.{Ledger, commits_in}
 use Rattle.sequential.specs.Runs.{IsMaximal, IsRun, config_of}
 use Rattle.order.proofs.Meeting.{each-meets}
 use Rattle.order.proofs.Results.{one-row}

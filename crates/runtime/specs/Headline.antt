@@ -2,7 +2,7 @@
 use Rattle.std.specs.Prelude.{◌≡◌, ◌≤◌, ℕ, List, length, map, Some, slice_get}
 use Rattle.syntax.specs.Processes.{Proc}
 use Rattle.words.specs.declared.Commit.{Commit}
-use Rattle.protocol.specs.Ledgers.{IsInOrder}
+use Rattle.words.specs.Commits.{IsInOrder}
 use Rattle.sequential.specs.Runs.{HasRow, IsMaximal, IsRun, config_of}
 use Rattle.order.specs.Meetings.{Meets}
 use Rattle.order.specs.Messages.{named, received, sent}

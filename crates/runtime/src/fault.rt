@@ -1,5 +1,8 @@
 //! Why a run gave no answer.
 
+ghost use Rattle.std.specs.Prelude.{◌≡◌};
+ghost use Rattle.runtime.specs.declared.fault.Halt.TheVariants.{Memory};
+
 use std::alloc::{AllocError, AllocFailed};
 use thiserror::Error;
 
@@ -34,12 +37,16 @@ pub(crate) enum Halt {
 }
 
 impl From<AllocError> for Halt {
+    ghost from_gives = { λ _ halt. halt ≡ Memory };
+
     fn from(_error: AllocError) -> Halt {
         Halt::Memory
     }
 }
 
 impl<T: Drop> From<AllocFailed<T>> for Halt {
+    ghost from_gives = { λ _ halt. halt ≡ Memory };
+
     fn from(_error: AllocFailed<T>) -> Halt {
         Halt::Memory
     }

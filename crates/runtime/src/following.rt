@@ -5,7 +5,6 @@ ghost use Rattle.cell.specs.Calls.{IsPassOf};
 use crate::fault::Halt;
 use crate::turns::Shared;
 use cell::{Cells, NoGate, Pass};
-use protocol::has_scope;
 use std::sync::Wait;
 use words::{Cell, NackName, Row};
 
@@ -100,7 +99,7 @@ fn is_enabled_by(cells: &Cells, pass: &mut Pass, row: Row, nack: NackName) -> bo
         return false;
     };
     match cells.offer(pass, bound, joined.own) {
-        Some(chosen) => !has_scope(chosen.scopes, scope),
+        Some(chosen) => !chosen.has_scope(scope),
         None => false,
     }
 }

@@ -4,7 +4,6 @@ use Rattle.std.proofs.lemmas.Bool.{cases_eq}
 use Rattle.std.proofs.lemmas.List.{length_push}
 use Rattle.std.proofs.lemmas.List.Sums.{sum_by-set, sum_by-le}
 use Rattle.std.proofs.lemmas.Option.{none-some, same_Some, slice_get_within, slice_get-get_or, get_or_from_slice_get, option_and_then_some}
-use Rattle.protocol.specs.Tables.{has_scope}
 use Rattle.thread.specs.After.{Chosen}
 use Rattle.thread.specs.Machines.{nacks_in}
 use Rattle.words.specs.declared.Cause.{Cause}
@@ -14,6 +13,7 @@ use Rattle.words.specs.declared.Commit.TheVariants.{Pair, Alone}
 use Rattle.words.specs.declared.Message.TheVariants.{Empty}
 use Rattle.words.specs.declared.Base.{Base}
 use Rattle.words.specs.declared.Row.{Row}
+use Rattle.words.specs.Scopes.{has_scope}
 use Rattle.sequential.specs.declared.strand.Strand.{Strand}
 use Rattle.sequential.specs.Runs.{message_by}
 use Rattle.sequential.specs.Standing.{CauseIsAt, Commits, Finds, Grows, MayBe, MayFollow, OneGrows, last_in, last_of}

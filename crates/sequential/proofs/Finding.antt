@@ -16,8 +16,9 @@ use Rattle.words.specs.declared.Commit.TheVariants.{Pair, Alone}
 use Rattle.words.specs.declared.NackName.{NackName}
 use Rattle.words.specs.declared.Offer.{Offer}
 use Rattle.words.specs.declared.Row.{Row}
+use Rattle.words.specs.Commits.{stamp_of}
 use Rattle.sequential.specs.declared.strand.Strand.{Strand}
-use Rattle.sequential.specs.Runs.{FiredAt, IsFiredAt, CanTake, MayTake, IsLegal, IsCaused, Fires, CausedBy, CountsFor, HasThread, IsGreatest, Follows, config_of, stamp_of}
+use Rattle.sequential.specs.Runs.{FiredAt, IsFiredAt, CanTake, MayTake, IsLegal, IsCaused, Fires, CausedBy, CountsFor, HasThread, IsGreatest, Follows, config_of}
 use Rattle.sequential.specs.Standing.{KnowsNack, FiresOf, StrandStands, Stands, next_offer, last_of, last_in, fired_in, Finds, base_for, CauseIsAt, MayFollow}
 use Rattle.sequential.proofs.Greatest.{greatest-either, greatest-one, greatest-same}
 use Rattle.sequential.proofs.Opening.{open-at, offers-are}

@@ -2,7 +2,8 @@
 use Rattle.std.proofs.Common.{◌≡◌, ◌⊎◌, ℕ, ◌≤◌, max, List, [], ◌∷◌, ◌++◌, Contains, refl, sym, subst, arith, inl, inr, ⊎_elim}
 use Rattle.std.proofs.lemmas.Bool.{cases_lt}
 use Rattle.words.specs.declared.Commit.{Commit}
-use Rattle.sequential.specs.Runs.{IsGreatest, stamp_of}
+use Rattle.words.specs.Commits.{stamp_of}
+use Rattle.sequential.specs.Runs.{IsGreatest}
 use Rattle.sequential.proofs.Lists.{contains-before, contains-last, contains-cases}
 
 -- one more commit

@@ -4,15 +4,16 @@ use Rattle.std.proofs.lemmas.Bool.{false≢true, eq-eqb, eqb-true}
 use Rattle.std.proofs.lemmas.Option.{same_Some, slice_get_within}
 use Rattle.event.proofs.TreeLemmas.{mask-bits}
 use Rattle.event.specs.Tree.{Tree, BaseEvent, bases, mask, scope_nacks}
-use Rattle.protocol.specs.Tables.{has_scope}
 use Rattle.syntax.specs.Processes.{Proc}
 use Rattle.syntax.specs.Trees.{block_of}
 use Rattle.thread.specs.After.{Chosen}
 use Rattle.thread.specs.Machines.{nacks_in}
 use Rattle.words.specs.declared.Commit.{Commit}
 use Rattle.words.specs.declared.Offer.{Offer}
+use Rattle.words.specs.Scopes.{has_scope}
+use Rattle.words.specs.Commits.{stamp_of}
 use Rattle.sequential.specs.declared.strand.Strand.{Strand}
-use Rattle.sequential.specs.Runs.{FiredAt, HasRow, HasThread, IsGreatest, stamp_of}
+use Rattle.sequential.specs.Runs.{FiredAt, HasRow, HasThread, IsGreatest}
 use Rattle.sequential.specs.Standing.{FiresOf, KnowsNack, StrandStands, Grows}
 use Rattle.sequential.proofs.Firing.{FiredNow, AllPass, decide, fired-kept, fired-cases, fired-now}
 use Rattle.sequential.proofs.Greatest.{more, greatest-other, greatest-this, greatest-same}

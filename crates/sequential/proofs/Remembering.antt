@@ -2,7 +2,7 @@
 use Rattle.std.proofs.Common.{◌≡◌, ◌⊎◌, ℕ, ◌+◌, ◌<◌, true, false, List, length, get_or, set, slice_get, Option, Some, None, refl, sym, ap, ◌∙◌, arith, inl, inr, ◌≤◌, ⊎_elim, get_or-set_same, get_or-set_other}
 use Rattle.std.proofs.lemmas.Bool.{cases_eq, false≢true}
 use Rattle.std.proofs.lemmas.Option.{same_Some, slice_get_within}
-use Rattle.protocol.specs.Tables.{has_scope}
+use Rattle.words.specs.Scopes.{has_scope}
 use Rattle.sequential.specs.Standing.{FiresMore}
 
 -- the first so many scopes are done

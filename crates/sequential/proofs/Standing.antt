@@ -12,8 +12,9 @@ use Rattle.words.specs.declared.Commit.TheVariants.{Pair, Alone}
 use Rattle.words.specs.declared.Message.{Message}
 use Rattle.words.specs.declared.Message.TheVariants.{Empty}
 use Rattle.words.specs.declared.Row.{Row}
+use Rattle.words.specs.Commits.{stamp_of}
 use Rattle.sequential.specs.declared.strand.Strand.{Strand}
-use Rattle.sequential.specs.Runs.{Config, applied, with_result, message_by, IsCaused, HasRow, HasThread, CountsFor, IsGreatest, Follows, config_of, config_from, no_results, stamp_of}
+use Rattle.sequential.specs.Runs.{Config, applied, with_result, message_by, IsCaused, HasRow, HasThread, CountsFor, IsGreatest, Follows, config_of, config_from, no_results}
 use Rattle.sequential.specs.Standing.{KnowsNack, StrandStands, Stands, Begins, OneGrows, Commits}
 use Rattle.sequential.proofs.Greatest.{more, greatest-none}
 use Rattle.sequential.proofs.Lists.{nothing-there, slice_get-more}

@@ -14,6 +14,7 @@ use Rattle.words.specs.declared.Message.{Message}
 use Rattle.words.specs.declared.Message.TheVariants.{Empty}
 use Rattle.words.specs.declared.NackName.{NackName}
 use Rattle.words.specs.declared.Row.{Row}
+use Rattle.words.specs.Commits.{stamp_of}
 use Rattle.sequential.specs.declared.end.End.{End}
 use Rattle.sequential.specs.declared.end.End.TheVariants as ends
 
@@ -94,10 +95,6 @@ abbrev pub config_of : List Commit → Config
 config_of journal = config_from no_results journal
 
 -- STAMPS
-
-abbrev pub stamp_of : Commit → ℕ
-stamp_of (Pair sender receiver chan msg stamp) = stamp
-stamp_of (Alone at why stamp) = stamp
 
 abbrev pub HasThread : Commit → ℕ → Type 0
 HasThread (Pair sender receiver chan msg stamp) t = (sender.0.thread ≡ t) ⊎ (receiver.0.thread ≡ t)

@@ -1,6 +1,5 @@
 -- What a replay remembers, and when that is true of a run.
 use Rattle.std.specs.Prelude.{◌≡◌, ◌≢◌, ◌==◌, ◌&&◌, ℕ, ◌+◌, if◌then◌else◌, max, List, [], ◌∷◌, ◌++◌, length, replicate, ⊤, true, false, Option, Some, None, option_and_then, nat_lt, slice_get, slice_index_or, slice_set}
-use Rattle.protocol.specs.Tables.{has_scope}
 use Rattle.syntax.specs.Processes.{Proc}
 use Rattle.syntax.specs.Trees.{block_of}
 use Rattle.thread.specs.After.{Chosen}
@@ -15,12 +14,14 @@ use Rattle.words.specs.declared.Message.TheVariants.{Empty}
 use Rattle.words.specs.declared.NackName.{NackName}
 use Rattle.words.specs.declared.Offer.{Offer}
 use Rattle.words.specs.declared.Row.{Row}
+use Rattle.words.specs.Scopes.{has_scope}
+use Rattle.words.specs.Commits.{stamp_of}
 use Rattle.sequential.specs.declared.end.End.{End}
 use Rattle.sequential.specs.declared.end.End.TheVariants as end
 use Rattle.sequential.specs.declared.strand.Stop.{Stop}
 use Rattle.sequential.specs.declared.strand.Stop.TheVariants.{Offering, Ended, Faulted}
 use Rattle.sequential.specs.declared.strand.Strand.{Strand}
-use Rattle.sequential.specs.Runs.{FiredAt, HasThread, HasRow, IsGreatest, config_of, message_by, stamp_of}
+use Rattle.sequential.specs.Runs.{FiredAt, HasThread, HasRow, IsGreatest, config_of, message_by}
 
 -- WHAT IS TRUE OF A THREAD
 

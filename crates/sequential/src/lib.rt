@@ -8,7 +8,6 @@
 mod end;
 mod receivers;
 mod runs;
-mod same;
 mod search;
 mod state;
 mod strand;

@@ -4,15 +4,13 @@ use Rattle.std.proofs.lemmas.List.{same_lists}
 use Rattle.std.proofs.lemmas.Option.{slice_get-get_or}
 use Rattle.syntax.specs.Processes.{Proc}
 use Rattle.words.specs.declared.Commit.{Commit}
-use Rattle.script.specs.Sources.{Script}
-use Rattle.script.specs.Spelling.{IsSpelled}
 use Rattle.journal_text.specs.Names.{names_of, naming}
 use Rattle.journal_text.proofs.Journals.{spells_only_one}
 use Rattle.sequential.specs.Runs.{BreaksOffAt, Config, config_of}
 use Rattle.sequential.proofs.Fronts.{breaks-not-run, breaks-once}
 use Rattle.sequential.proofs.Telling.{ends-one}
 use Rattle.tool.specs.Standings.{Standing, StandAs, process_lines}
-use Rattle.tool.specs.Replay.{IsAt, IsReplayed, IsReplayedToOne, IsReplayedOrNoRun, HasOneUnlawfulLine, lawful_line, unlawful_line}
+use Rattle.tool.specs.Replay.{IsAt, IsReplayedToOne, IsReplayedOrNoRun, HasOneUnlawfulLine, lawful_line, unlawful_line}
 
 same_standing : (p q : Standing) → p.thread ≡ q.thread → (p.end ≡ q.end) × (p.printed ≡ q.printed) → p ≡ q
 same_standing p q thread rest = λ i. record { thread = thread i; end = rest.0 i; printed = rest.1 i }

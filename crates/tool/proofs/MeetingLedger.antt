@@ -12,7 +12,8 @@ use Rattle.words.specs.declared.Message.{Message}
 use Rattle.words.specs.declared.Message.TheVariants.{One}
 use Rattle.words.specs.declared.Offer.{Offer}
 use Rattle.words.specs.declared.Row.{Row}
-use Rattle.protocol.specs.Ledgers.{Ledger, IsLawful, HasCommit, IsIn, Offers, Takes, CountsFor, commits_in, commits_of, commit_by, commit_named, pair_by, told_at, told_by, tells, is_send, sends, rows_in, joined_in, offer_in, binding_in, has_row, entry_in, no_entry, stamp_in}
+use Rattle.words.specs.Commits.{stamp_of}
+use Rattle.protocol.specs.Ledgers.{Ledger, IsLawful, HasCommit, IsIn, Offers, Takes, CountsFor, commits_in, commits_of, commit_by, commit_named, pair_by, told_at, told_by, tells, is_send, sends, rows_in, joined_in, offer_in, binding_in, has_row, entry_in, no_entry}
 use Rattle.std.specs.Prelude.{IsPermutation}
 use Rattle.std.specs.Fmt.{digits}
 use Rattle.std.specs.List.{All}
@@ -120,7 +121,7 @@ module _ (value : ℕ) (l : Ledger) (h : HasTwoOffers value l) where
       let b = receiver_is receiver chan f.2 in
       let stamp : s ≡ 1 = ⊎_elim
       (λ (e : s ≡ 1). e)
-      (λ (d : (d : Commit) × HasCommit l d × CountsFor (binding_in l) d (Pair sender receiver chan m s) × (s ≡ stamp_in d + 1)). absurd (first sender receiver chan m s d.0 a.0 b d.2))
+      (λ (d : (d : Commit) × HasCommit l d × CountsFor (binding_in l) d (Pair sender receiver chan m s) × (s ≡ stamp_of d + 1)). absurd (first sender receiver chan m s d.0 a.0 b d.2))
       (h.lawful.stamps (Pair sender receiver chan m s) c).next in
       (λ i. Pair (a.0 i) (b i) (a.1 i) (a.2 i) (stamp i))
     where

@@ -1,5 +1,5 @@
 -- What the text of a replay says: of the state that a journal leads to, and of the journal itself.
-use Rattle.std.proofs.Common.{◌≡◌, ℕ, ◌+◌, List, [], ◌∷◌, ◌++◌, length, slice_get, Option, Some, None, is_none, sym, ap, ◌∙◌}
+use Rattle.std.proofs.Common.{◌≡◌, ℕ, List, ◌++◌, length, Option, Some, None, is_none, ap, ◌∙◌}
 use Rattle.words.specs.declared.Commit.{Commit}
 use Rattle.script.specs.Sources.{Script}
 use Rattle.journal_text.specs.Journals.{Spells}
@@ -9,7 +9,7 @@ use Rattle.sequential.specs.Replays.{StandsAfter, TellsEnabled, TellsEnd, TellsO
 use Rattle.sequential.specs.Runs.{config_of}
 use Rattle.sequential.specs.declared.state.State.{State}
 use Rattle.sequential.proofs.Telling.{ends-both}
-use Rattle.tool.specs.Standings.{Standing, StandAs, process_line, process_lines}
+use Rattle.tool.specs.Standings.{Standing, StandAs}
 use Rattle.tool.specs.Replay.{TellsStanding, TellsProcesses, TellsState, IsAt, IsReplayed, lawful_line}
 use Rattle.tool.proofs.Lines.{LinesTo}
 

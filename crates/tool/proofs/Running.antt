@@ -1,5 +1,5 @@
 -- What the text of a run says, from what the run says of its record.
-use Rattle.std.proofs.Common.{◌≡◌, ◌⊎◌, ℕ, ◌≤◌, List, ◌∙◌, arith, inl, inr, ⊎_elim}
+use Rattle.std.proofs.Common.{◌⊎◌, ℕ, ◌≤◌, List, ◌∙◌, arith, inl, inr, ⊎_elim}
 use Rattle.std.proofs.lemmas.Bool.{cases_lt}
 use Rattle.journal.specs.declared.record.Record.{Record}
 use Rattle.script.specs.Sources.{Script}

@@ -2,8 +2,9 @@
 use Rattle.std.specs.Prelude.{◌≡◌, ℕ, ◌+◌, List, [], ◌∷◌, ◌++◌, length, codes, IsPermutation}
 use Rattle.std.specs.Fmt.{decimal}
 use Rattle.words.specs.declared.Commit.{Commit}
+use Rattle.words.specs.Commits.{IsInOrder}
 use Rattle.protocol.specs.Worlds.{World, Plays, IsRefused, start_world}
-use Rattle.protocol.specs.Ledgers.{Ledger, ledger_of, commits_in, pending_in, IsInOrder}
+use Rattle.protocol.specs.Ledgers.{Ledger, ledger_of, commits_in, pending_in}
 use Rattle.schedule.specs.declared.Size.{Size}
 use Rattle.tool.specs.declared.play.PlayFault.{PlayFault}
 use Rattle.tool.specs.declared.play.PlayFault.TheVariants.{Memory, BadStep, NotAllowed}

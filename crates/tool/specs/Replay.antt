@@ -1,5 +1,5 @@
 -- What replaying a journal prints.
-use Rattle.std.specs.Prelude.{◌≡◌, ℕ, ◌+◌, Bool, true, false, List, [], ◌∷◌, ◌++◌, length, codes, Option, Some, None, is_none, slice_get}
+use Rattle.std.specs.Prelude.{◌≡◌, ℕ, ◌+◌, Bool, true, false, List, [], ◌∷◌, ◌++◌, length, codes, Option, Some, is_none, slice_get}
 use Rattle.std.specs.Fmt.{decimal}
 use Rattle.words.specs.declared.Commit.{Commit}
 use Rattle.syntax.specs.Processes.{Proc}

@@ -33,6 +33,10 @@ pub enum MeetFault {
 }
 
 impl From<AllocError> for MeetFault {
+    ghost use Rattle.tool.specs.declared.meeting.MeetFault.TheVariants.{Memory};
+
+    ghost from_gives = { λ _ fault. fault ≡ Memory };
+
     fn from(_error: AllocError) -> MeetFault {
         MeetFault::Memory
     }

@@ -1,1 +1,4 @@
 pub mod Words
+pub mod Scopes
+pub mod Commits
+pub mod Equality

@@ -1,7 +1,10 @@
 //! The values that the protocol speaks of, and the words in which the table keeps them.
 #![tactic(auto)]
 
-ghost use Rattle.std.specs.Prelude.{◌≡◌};
+ghost use Rattle.std.specs.Prelude.{◌≡◌, ◌<◌};
+ghost use Rattle.words.specs.Commits.{order_of};
+ghost use Rattle.words.specs.Equality.{IsEquality};
+ghost use Rattle.words.specs.Scopes.{has_scope};
 
 mod packing;
 
@@ -9,6 +12,13 @@ pub use packing::{
     is_word_for, pack_atom, pack_cell, pack_count, pack_head, pack_nack, pack_offer, unpack_atom,
     unpack_cell, unpack_count, unpack_head, unpack_nack, unpack_offer,
 };
+
+/// What a message is made of, and what an offer is: two are equal by `==` exactly where they are the same.
+pub fn equality_laws()
+    ensures atoms { IsEquality ⟦<Atom as PartialEq>⟧.eq }
+    ensures messages { IsEquality ⟦<Message as PartialEq>⟧.eq }
+    ensures bases { IsEquality ⟦<Base as PartialEq>⟧.eq }
+{}
 
 /// A nack by its thread and its number in that thread, each 0 to 63.
 #[derive(Clone, Copy, Debug, PartialEq, Eq)]
@@ -50,6 +60,16 @@ pub enum Base {
 pub struct Offer {
     pub base: Base,
     pub scopes: u8,
+}
+
+impl Offer {
+    /// Whether this scope of the sync, 0 to 7, encloses the offer.
+    pub fn has_scope(&self, scope: u8) -> bool
+        requires { scope < 8 }
+        ensures { result ≡ has_scope self.now.scopes scope }
+    {
+        (self.scopes >> scope) % 2 == 1
+    }
 }
 
 /// The offer of `never`, in no scope: what the unused places of a list in place hold.
@@ -138,6 +158,18 @@ pub enum Commit {
         cause: Cause,
         stamp: u32,
     },
+}
+
+impl Commit {
+    /// By what the commits of a journal are in order: the stamp, and the thread named first.
+    pub fn order(&self) -> (u32, u8)
+        ensures { result ≡ order_of self.now }
+    {
+        match self {
+            Commit::Pair { sender, stamp, .. } => (*stamp, sender.0.thread),
+            Commit::Alone { at, stamp, .. } => (*stamp, at.0.thread),
+        }
+    }
 }
 
 /// Who makes a step: one of 1 to 16 seats, numbered from 0.

@@ -4,7 +4,7 @@ use Rattle.std.proofs.lemmas.List.Sorted.{answers_always}
 use Rattle.std.proofs.lemmas.Result.{err_from_is_err_and}
 use Rattle.syntax.specs.Processes.{proc_of}
 use Rattle.words.specs.declared.Commit.{Commit}
-use Rattle.protocol.specs.Ledgers.{order_of}
+use Rattle.words.specs.Commits.{order_of}
 use Rattle.sequential.specs.Replays.{Refuses, StandsAfter}
 use Rattle.journal.proofs.Completing.{completes, refuses}
 use Rattle.journal.proofs.record.complete.Goals as goal

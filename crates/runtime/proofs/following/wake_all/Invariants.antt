@@ -1,4 +1,3 @@
-use Rattle.std.proofs.Common.{◌≡◌}
 use Rattle.cell.specs.Calls.{IsPassOf}
 use Rattle.runtime.proofs.following.wake_all.Given as goal
 

@@ -1,4 +1,4 @@
-use Rattle.std.proofs.Common.{◌≡◌, List, subst}
+use Rattle.std.proofs.Common.{List, subst}
 use Rattle.syntax.specs.Processes.{Proc}
 use Rattle.script.specs.Scripts.{script_of}
 use Rattle.journal.specs.Records.{Completes}

@@ -1,4 +1,4 @@
-use Rattle.std.proofs.Common.{rules, ◌≡◌, ℕ, List, [], length, inl, inr, ⊎_elim, refl, sym, subst}
+use Rattle.std.proofs.Common.{[], length, inl, inr, ⊎_elim, refl, sym, subst}
 use Rattle.std.specs.Io.KnownBytes.{Appends}
 use Rattle.tool.specs.declared.request.Request.TheVariants.{Meet}
 use Rattle.tool.specs.declared.program.Verdict.TheVariants.{Done}

@@ -2,7 +2,8 @@ use Rattle.std.proofs.Common.{rules, ◌≡◌, true, Option, Some, None, IfNone
 use Rattle.std.proofs.lemmas.Bool.{true≢false}
 use Rattle.words.specs.declared.Joined.{Joined}
 use Rattle.words.specs.declared.Row.{Row}
-use Rattle.protocol.specs.Tables.{bound_row, has_scope}
+use Rattle.words.specs.Scopes.{has_scope}
+use Rattle.protocol.specs.Tables.{bound_row}
 use Rattle.protocol.proofs.Linking.{some_inj}
 use Rattle.cell.specs.Nacks.{SawEnabled}
 use Rattle.cell.specs.Sight.{Has, SeesOffer}
@@ -35,7 +36,7 @@ pub returns-then-has_scope-clause-none : goal.returns-then-has_scope-clause-none
 returns-then-has_scope-clause-none c j e =
     let some : c.offer.result ≡ Some c.in_ok-chosen.chosen = (search rules) in
     let set : has_scope c.in_ok-chosen.chosen.scopes c.in_ok-bound.bound.scope ≡ true = (search rules) in
-    let is = found c.before.before.before.before j e in
+    let is = found c.before.before.before.before.before j e in
     let offer : e.offer ≡ c.in_ok-chosen.chosen = some_inj e.offer c.in_ok-chosen.chosen (sym is.1 ∙ some) in
     true≢false (sym set ∙ (λ i. has_scope (sym offer i).scopes (sym is.0 i).scope) ∙ e.outside)
 

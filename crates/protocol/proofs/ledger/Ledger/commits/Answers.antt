@@ -2,7 +2,8 @@ use Rattle.std.proofs.Common.{◌≡◌, ap, subst, ◌∙◌, List, rules, IsPe
 use Rattle.std.specs.Prelude.{Contains, ◌↔◌}
 use Rattle.std.proofs.lemmas.List.Sorted.{Contains-permutation, IsPermutation-sym, answers_always}
 use Rattle.words.specs.declared.Commit.{Commit}
-use Rattle.protocol.specs.Ledgers.{Ledger, ledger_of, binding_in, commits_in, HasCommit, order_of, IsCausal, IsLawful}
+use Rattle.words.specs.Commits.{order_of}
+use Rattle.protocol.specs.Ledgers.{Ledger, ledger_of, binding_in, commits_in, HasCommit, IsCausal, IsLawful}
 use Rattle.protocol.specs.States.{table_of}
 use Rattle.protocol.proofs.LedgerReadings.{commits_in_ledger, members_in_ledger}
 use Rattle.protocol.proofs.Ordering.{causal_ledger}

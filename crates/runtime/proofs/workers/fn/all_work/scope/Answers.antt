@@ -6,16 +6,15 @@ use Rattle.cell.proofs.cells.Cells.TheSendSync.{the_sync as cells_sync}
 use Rattle.cell.proofs.cells.Pass.TheSendSync.{the_send as pass_send}
 use Rattle.runtime.proofs.workers.fn.all_work.scope.Given.{Over}
 use Rattle.runtime.proofs.workers.fn.all_work.scope.Lts as lts
-use Rattle.std.proofs.Crossing.{crosses}
 use Rattle.runtime.proofs.Crossing.{shared_sync}
-use Rattle.std.proofs.Common.{◌≡◌, ◌∙◌, ap, rules}
-use Rattle.std.specs.Prelude.{All, is_ok}
+use Rattle.std.proofs.Common.{◌≡◌, ◌∙◌, ap}
+use Rattle.std.specs.Prelude.{is_ok}
 use Rattle.std.specs.Vec.Iter.{into_iter_items}
 use Rattle.std.specs.declared.thread.PromisedHandle.{PromisedHandle}
-use Rattle.cell.specs.Calls.{Grid, IsPassOf, PassView}
+use Rattle.cell.specs.Calls.{IsPassOf, PassView}
 use Rattle.runtime.specs.declared.worker.Worked.{Worked}
 use Rattle.runtime.specs.declared.workers.GivesBack.{GivesBack}
-use Rattle.runtime.proofs.Lists.{all_is, all_head, all_rest, all_pushed}
+use Rattle.runtime.proofs.Lists.{all_is, all_rest, all_pushed}
 use Rattle.runtime.proofs.workers.fn.all_work.scope.Goals as goal
 
 -- the closure of a worker may be sent
