@@ -3,9 +3,10 @@
 #![tactic(auto)]
 
 ghost use Rattle.std.specs.Prelude.{◌≡◌, ◌≤◌, ◌<◌, ◌⊎◌, IfSome, OnSome};
-ghost use Rattle.digits.specs.Reading.{Gives, digit_of, with_digit, number_at, count_at};
+ghost use Rattle.digits.specs.Reading.{Gives, digit_of, with_digit, leading_at, number_at, count_at};
 
 /// What a byte says as a decimal digit.
+#[inline]
 fn digit(byte: u8) -> Option<u64>
     ensures { result ≡ digit_of byte }
 {
@@ -16,6 +17,7 @@ fn digit(byte: u8) -> Option<u64>
 }
 
 /// The value with one more digit behind it, where that is at most the limit. Behind a 0 there is none.
+#[inline]
 fn with_more(limit: u64, value: u64, byte: u8) -> Option<u64>
     ensures { result ≡ with_digit limit value byte }
 {
@@ -27,11 +29,13 @@ fn with_more(limit: u64, value: u64, byte: u8) -> Option<u64>
     if more <= limit { Some(more) } else { None }
 }
 
-/// The number at the front of the bytes, if it is at most the limit, and the bytes behind the one that ends it.
-#[tactic(auto, unfolding(crate::specs::Reading::number_at, crate::specs::Reading::digits_at))]
-pub fn number(bytes: &[u8], limit: u64, end: u8) -> Option<(u64, &[u8])>
-    ensures value { Gives (λ x. (x.0, x.1.now)) result (number_at limit end bytes.now) }
-    ensures within { IfSome result (λ x. x.0 ≤ limit) }
+/// The number at the front of the bytes, if it is at most the limit, with the byte behind it, which is one
+/// of those before `0`; and the bytes behind that.
+#[inline]
+#[tactic(auto, unfolding(crate::specs::Reading::leading_at, crate::specs::Reading::digits_at))]
+pub fn leading(bytes: &[u8], limit: u64) -> Option<((u64, u8), &[u8])>
+    ensures value { Gives (λ x. (x.0, x.1.now)) result (leading_at limit bytes.now) }
+    ensures within { IfSome result (λ x. x.0.0 ≤ limit) }
 {
     let [first, after @ ..] = bytes else {
         return None;
@@ -41,15 +45,32 @@ pub fn number(bytes: &[u8], limit: u64, end: u8) -> Option<(u64, &[u8])>
         return None;
     }
     for (i, byte) in after.iter().enumerate() {
-        if *byte == end {
-            return Some((value, &after[i + 1..]));
+        if *byte < b'0' {
+            return Some(((value, *byte), &after[i + 1..]));
         }
         value = with_more(limit, value, *byte)?;
     }
     None
 }
 
+/// The number at the front of the bytes, if it is at most the limit and the byte behind it is the end; and
+/// the bytes behind that.
+#[inline]
+#[tactic(auto, unfolding(crate::specs::Reading::number_at))]
+pub fn number(bytes: &[u8], limit: u64, end: u8) -> Option<(u64, &[u8])>
+    ensures value { Gives (λ x. (x.0, x.1.now)) result (number_at limit end bytes.now) }
+    ensures within { IfSome result (λ x. x.0 ≤ limit) }
+{
+    let ((value, behind), rest) = leading(bytes, limit)?;
+    if behind == end {
+        Some((value, rest))
+    } else {
+        None
+    }
+}
+
 /// A number from 1 on.
+#[inline]
 #[tactic(auto, unfolding(crate::specs::Reading::count_at))]
 pub fn count(bytes: &[u8], limit: u64, end: u8) -> Option<(u64, &[u8])>
     ensures value { Gives (λ x. (x.0, x.1.now)) result (count_at limit end bytes.now) }

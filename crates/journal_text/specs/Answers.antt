@@ -13,7 +13,7 @@ use Rattle.journal_text.specs.declared.JournalFault.{JournalFault}
 use Rattle.journal_text.specs.declared.JournalFault.TheVariants.{Memory, BadLine}
 
 abbrev pub listed : Names → Declared
-listed n = record { threads = texts n.threads.items; channels = texts n.channels.items }
+listed n = record { threads = texts n.threads.names.items; channels = texts n.channels.names.items }
 
 abbrev pub Explains : Script → List ℕ → JournalFault → Type 0
 Explains s bytes Memory = Unit {0}

@@ -1,5 +1,6 @@
 pub mod Names
 pub mod Texts
+pub mod Slots
 pub mod Journals
 pub mod Reading
 pub mod Answers

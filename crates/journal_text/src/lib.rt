@@ -17,6 +17,7 @@ ghost use Rattle.journal_text.specs.declared.JournalFault.TheVariants.{Memory};
 ghost use Rattle.script.specs.Scripts.{script_of};
 
 mod line;
+mod listing;
 mod names;
 mod writing;
 

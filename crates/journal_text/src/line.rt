@@ -1,13 +1,13 @@
 //! The line of a commit, read from the front of the bytes.
 
-ghost use Rattle.std.specs.Prelude.{◌≤◌, IfSome, length};
-ghost use Rattle.digits.specs.Reading.{Gives};
+ghost use Rattle.digits.specs.Reading.{Gives, ended_by};
 ghost use Rattle.phrase.specs.Places.{texts};
 ghost use Rattle.journal_text.specs.Answers.{listed};
-ghost use Rattle.journal_text.specs.Reading.{after_byte, after_name, named_at, row_at, place_at, nack_at, num_at, chan_at, cancel_at, atom_at, later_at, one_at, two_at, pair_at, three_at, none_at, atoms_at, closed_at, message_at, partner_at, told_at, meets_at, always_at, cancelled_at, deed_at, head_at, line_at};
+ghost use Rattle.journal_text.specs.Reading.{after_byte, word_at, named_at, row_at, place_at, nack_at, num_at, chan_at, cancel_at, atom_at, later_at, one_at, two_at, three_at, none_at, atoms_at, closed_at, message_at, partner_at, told_at, meets_at, always_at, cancelled_at, deed_at, head_at, line_at};
 
+use crate::listing::{Listing, Word, next_slot};
 use crate::names::Names;
-use digits::{count, number};
+use digits::{count, leading, number};
 use words::{Atom, Cause, Commit, Message, NackName, Row};
 
 const LINE_END: u8 = b'\n';
@@ -31,32 +31,55 @@ fn after_byte(end: u8, bytes: &[u8]) -> Option<&[u8]>
     }
 }
 
-fn after_name<'a>(end: u8, name: &str, bytes: &'a [u8]) -> Option<&'a [u8]>
-    ensures { Gives (λ rest. rest.now) result (after_name end name.now bytes.now) }
+/// What may be a name, and the byte behind it, the first of those before `0`.
+#[inline]
+#[tactic(auto, unfolding(crate::specs::Reading::word_at))]
+fn word(bytes: &[u8]) -> Option<((Word<'_>, u8), &[u8])>
+    ensures { Gives (λ x. ((x.0.0.text.now, x.0.1), x.1.now)) result (word_at bytes.now) }
 {
-    let rest = bytes.strip_prefix(name.as_bytes())?;
-    after_byte(end, rest)
-}
-
-/// The number of the name that stands in front, and the bytes behind the one that ends it.
-#[tactic(auto, unfolding(crate::specs::Reading::named_from))]
-fn named<'a>(names: &[&str], end: u8, bytes: &'a [u8]) -> Option<(u8, &'a [u8])>
-    requires { length names.now ≤ 256 }
-    ensures { Gives (λ x. (x.0, x.1.now)) result (named_at end (texts names.now) bytes.now) }
-{
-    for (number, name) in names.iter().enumerate() {
-        if let Some(rest) = after_name(end, name, bytes) {
-            return Some((number as u8, rest));
+    let mut slot = 0;
+    for (at, byte) in bytes.iter().enumerate() {
+        if *byte < b'0' {
+            let word = Word {
+                text: &bytes[..at],
+                slot,
+            };
+            return Some(((word, *byte), &bytes[at + 1..]));
         }
+        slot = next_slot(slot, *byte);
     }
     None
+}
+
+/// The number of the name that stands in front, with the byte behind it.
+#[inline]
+#[tactic(auto, unfolding(crate::specs::Reading::named_at))]
+fn named<'a>(names: &Listing<'_>, bytes: &'a [u8]) -> Option<((u8, u8), &'a [u8])>
+    ensures { Gives (λ x. (x.0, x.1.now)) result (named_at (texts names.now.names.items) bytes.now) }
+{
+    let ((word, behind), rest) = word(bytes)?;
+    let number = names.number(word)?;
+    Some(((number, behind), rest))
+}
+
+/// The number of the name that stands in front, where the byte behind it is the end.
+#[inline]
+fn name<'a>(names: &Listing<'_>, end: u8, bytes: &'a [u8]) -> Option<(u8, &'a [u8])>
+    ensures { Gives (λ x. (x.0, x.1.now)) result (ended_by end (named_at (texts names.now.names.items) bytes.now)) }
+{
+    let ((number, behind), rest) = named(names, bytes)?;
+    if behind == end {
+        Some((number, rest))
+    } else {
+        None
+    }
 }
 
 #[tactic(auto, unfolding(crate::specs::Reading::row_at))]
 fn row<'a>(names: &Names<'_>, bytes: &'a [u8]) -> Option<(Row, &'a [u8])>
     ensures { Gives (λ x. (x.0, x.1.now)) result (row_at (listed names.now) bytes.now) }
 {
-    let (thread, rest) = named(&names.threads, b'.', bytes)?;
+    let (thread, rest) = name(&names.threads, b'.', bytes)?;
     let (sync, rest) = number(rest, 1023, b'.')?;
     let row = Row {
         thread,
@@ -74,99 +97,113 @@ fn place<'a>(names: &Names<'_>, bytes: &'a [u8]) -> Option<((Row, u8), &'a [u8])
     Some(((row, offer as u8), rest))
 }
 
+/// A nack, with the byte behind it.
 #[tactic(auto, unfolding(crate::specs::Reading::nack_at))]
-fn nack<'a>(names: &Names<'_>, end: u8, bytes: &'a [u8]) -> Option<(NackName, &'a [u8])>
-    ensures { Gives (λ x. (x.0, x.1.now)) result (nack_at (listed names.now) end bytes.now) }
+fn nack<'a>(names: &Names<'_>, bytes: &'a [u8]) -> Option<((NackName, u8), &'a [u8])>
+    ensures { Gives (λ x. (x.0, x.1.now)) result (nack_at (listed names.now) bytes.now) }
 {
-    let (thread, rest) = named(&names.threads, b'.', bytes)?;
-    let (k, rest) = number(rest, 63, end)?;
+    let (thread, rest) = name(&names.threads, b'.', bytes)?;
+    let ((k, behind), rest) = leading(rest, 63)?;
     let nack = NackName { thread, k: k as u8 };
-    Some((nack, rest))
+    Some(((nack, behind), rest))
 }
 
 #[tactic(auto, unfolding(crate::specs::Reading::num_at))]
-fn num(end: u8, bytes: &[u8]) -> Option<(Atom, &[u8])>
-    ensures { Gives (λ x. (x.0, x.1.now)) result (num_at end bytes.now) }
+fn num(bytes: &[u8]) -> Option<((Atom, u8), &[u8])>
+    ensures { Gives (λ x. (x.0, x.1.now)) result (num_at bytes.now) }
 {
-    let (value, rest) = number(bytes, u64::from(u32::MAX), end)?;
-    Some((Atom::Num(value as u32), rest))
+    let ((value, behind), rest) = leading(bytes, u64::from(u32::MAX))?;
+    Some(((Atom::Num(value as u32), behind), rest))
 }
 
 #[tactic(auto, unfolding(crate::specs::Reading::chan_at))]
-fn chan<'a>(names: &Names<'_>, end: u8, bytes: &'a [u8]) -> Option<(Atom, &'a [u8])>
-    ensures { Gives (λ x. (x.0, x.1.now)) result (chan_at (listed names.now) end bytes.now) }
+fn chan<'a>(names: &Names<'_>, bytes: &'a [u8]) -> Option<((Atom, u8), &'a [u8])>
+    ensures { Gives (λ x. (x.0, x.1.now)) result (chan_at (listed names.now) bytes.now) }
 {
     let rest = bytes.strip_prefix(b"#")?;
-    let (chan, rest) = named(&names.channels, end, rest)?;
-    Some((Atom::Chan(chan), rest))
+    let ((chan, behind), rest) = named(&names.channels, rest)?;
+    Some(((Atom::Chan(chan), behind), rest))
 }
 
 #[tactic(auto, unfolding(crate::specs::Reading::cancel_at))]
-fn cancel<'a>(names: &Names<'_>, end: u8, bytes: &'a [u8]) -> Option<(Atom, &'a [u8])>
-    ensures { Gives (λ x. (x.0, x.1.now)) result (cancel_at (listed names.now) end bytes.now) }
+fn cancel<'a>(names: &Names<'_>, bytes: &'a [u8]) -> Option<((Atom, u8), &'a [u8])>
+    ensures { Gives (λ x. (x.0, x.1.now)) result (cancel_at (listed names.now) bytes.now) }
 {
     let rest = bytes.strip_prefix(b"!")?;
-    let (nack, rest) = nack(names, end, rest)?;
-    Some((Atom::Nack(nack), rest))
+    let ((nack, behind), rest) = nack(names, rest)?;
+    Some(((Atom::Nack(nack), behind), rest))
 }
 
-/// An atom, and the bytes behind the one that ends it.
+/// An atom, with the byte behind it.
 #[tactic(auto, unfolding(crate::specs::Reading::atom_at))]
-fn atom<'a>(names: &Names<'_>, end: u8, bytes: &'a [u8]) -> Option<(Atom, &'a [u8])>
-    ensures { Gives (λ x. (x.0, x.1.now)) result (atom_at (listed names.now) end bytes.now) }
+fn atom<'a>(names: &Names<'_>, bytes: &'a [u8]) -> Option<((Atom, u8), &'a [u8])>
+    ensures { Gives (λ x. (x.0, x.1.now)) result (atom_at (listed names.now) bytes.now) }
 {
-    if let Some(found) = num(end, bytes) {
+    if let Some(found) = num(bytes) {
         return Some(found);
     }
-    if let Some(found) = chan(names, end, bytes) {
+    if let Some(found) = chan(names, bytes) {
         return Some(found);
     }
-    cancel(names, end, bytes)
+    cancel(names, bytes)
 }
 
-/// An atom behind a space.
+/// One more atom, where a comma stood behind the one before it.
 #[tactic(auto, unfolding(crate::specs::Reading::later_at))]
-fn later<'a>(names: &Names<'_>, end: u8, bytes: &'a [u8]) -> Option<(Atom, &'a [u8])>
-    ensures { Gives (λ x. (x.0, x.1.now)) result (later_at (listed names.now) end bytes.now) }
+fn later<'a>(names: &Names<'_>, behind: u8, bytes: &'a [u8]) -> Option<((Atom, u8), &'a [u8])>
+    ensures { Gives (λ x. (x.0, x.1.now)) result (later_at (listed names.now) behind bytes.now) }
 {
+    if behind != b',' {
+        return None;
+    }
     let rest = bytes.strip_prefix(b" ")?;
-    let (atom, rest) = atom(names, end, rest)?;
-    Some((atom, rest))
+    atom(names, rest)
+}
+
+/// A message of which two atoms have been read, with the byte behind them.
+#[tactic(auto, unfolding(crate::specs::Reading::three_at))]
+fn three<'a>(
+    names: &Names<'_>,
+    front: (Atom, Atom),
+    behind: u8,
+    bytes: &'a [u8],
+) -> Option<(Message, &'a [u8])>
+    ensures { Gives (λ x. (x.0, x.1.now)) result (three_at (listed names.now) front behind bytes.now) }
+{
+    let ((third, behind), rest) = later(names, behind, bytes)?;
+    if behind == b')' {
+        let (first, second) = front;
+        return Some((Message::Three(first, second, third), rest));
+    }
+    None
+}
+
+/// A message of which one atom has been read, with the byte behind it.
+#[tactic(auto, unfolding(crate::specs::Reading::two_at))]
+fn two<'a>(
+    names: &Names<'_>,
+    first: Atom,
+    behind: u8,
+    bytes: &'a [u8],
+) -> Option<(Message, &'a [u8])>
+    ensures { Gives (λ x. (x.0, x.1.now)) result (two_at (listed names.now) first behind bytes.now) }
+{
+    let ((second, behind), rest) = later(names, behind, bytes)?;
+    if behind == b')' {
+        return Some((Message::Two(first, second), rest));
+    }
+    three(names, (first, second), behind, rest)
 }
 
 #[tactic(auto, unfolding(crate::specs::Reading::one_at))]
 fn one<'a>(names: &Names<'_>, bytes: &'a [u8]) -> Option<(Message, &'a [u8])>
     ensures { Gives (λ x. (x.0, x.1.now)) result (one_at (listed names.now) bytes.now) }
 {
-    let (first, rest) = atom(names, b')', bytes)?;
-    Some((Message::One(first), rest))
-}
-
-#[tactic(auto, unfolding(crate::specs::Reading::two_at))]
-fn two<'a>(names: &Names<'_>, bytes: &'a [u8]) -> Option<(Message, &'a [u8])>
-    ensures { Gives (λ x. (x.0, x.1.now)) result (two_at (listed names.now) bytes.now) }
-{
-    let (first, rest) = atom(names, b',', bytes)?;
-    let (second, rest) = later(names, b')', rest)?;
-    Some((Message::Two(first, second), rest))
-}
-
-#[tactic(auto, unfolding(crate::specs::Reading::pair_at))]
-fn pair<'a>(names: &Names<'_>, bytes: &'a [u8]) -> Option<((Atom, Atom), &'a [u8])>
-    ensures { Gives (λ x. (x.0, x.1.now)) result (pair_at (listed names.now) bytes.now) }
-{
-    let (first, rest) = atom(names, b',', bytes)?;
-    let (second, rest) = later(names, b',', rest)?;
-    Some(((first, second), rest))
-}
-
-#[tactic(auto, unfolding(crate::specs::Reading::three_at))]
-fn three<'a>(names: &Names<'_>, bytes: &'a [u8]) -> Option<(Message, &'a [u8])>
-    ensures { Gives (λ x. (x.0, x.1.now)) result (three_at (listed names.now) bytes.now) }
-{
-    let ((first, second), rest) = pair(names, bytes)?;
-    let (third, rest) = later(names, b')', rest)?;
-    Some((Message::Three(first, second, third), rest))
+    let ((first, behind), rest) = atom(names, bytes)?;
+    if behind == b')' {
+        return Some((Message::One(first), rest));
+    }
+    two(names, first, behind, rest)
 }
 
 #[tactic(auto, unfolding(crate::specs::Reading::none_at))]
@@ -183,12 +220,6 @@ fn atoms<'a>(names: &Names<'_>, bytes: &'a [u8]) -> Option<(Message, &'a [u8])>
     ensures { Gives (λ x. (x.0, x.1.now)) result (atoms_at (listed names.now) bytes.now) }
 {
     if let Some(found) = one(names, bytes) {
-        return Some(found);
-    }
-    if let Some(found) = two(names, bytes) {
-        return Some(found);
-    }
-    if let Some(found) = three(names, bytes) {
         return Some(found);
     }
     none(bytes)
@@ -219,7 +250,7 @@ fn partner<'a>(names: &Names<'_>, bytes: &'a [u8]) -> Option<(((Row, u8), u8), &
     ensures { Gives (λ x. (x.0, x.1.now)) result (partner_at (listed names.now) bytes.now) }
 {
     let (receiver, rest) = place(names, bytes)?;
-    let (chan, rest) = named(&names.channels, b' ', rest)?;
+    let (chan, rest) = name(&names.channels, b' ', rest)?;
     Some(((receiver, chan), rest))
 }
 
@@ -260,7 +291,10 @@ fn cancelled<'a>(names: &Names<'_>, bytes: &'a [u8]) -> Option<(Deed, &'a [u8])>
     ensures { Gives (λ x. (x.0, x.1.now)) result (cancelled_at (listed names.now) bytes.now) }
 {
     let rest = bytes.strip_prefix(b"cancelled ")?;
-    let (nack, rest) = nack(names, LINE_END, rest)?;
+    let ((nack, behind), rest) = nack(names, rest)?;
+    if behind != LINE_END {
+        return None;
+    }
     Some((Deed::Alone(Cause::Nack(nack)), rest))
 }
 
