@@ -6,7 +6,7 @@ ghost use Rattle.std.specs.Prelude.{◌≡◌, ◌≤◌, ◌<◌, ◌⊎◌, If
 ghost use Rattle.digits.specs.Reading.{Gives, digit_of, with_digit, leading_at, number_at, count_at};
 
 /// What a byte says as a decimal digit.
-#[inline]
+#[inline(always)]
 fn digit(byte: u8) -> Option<u64>
     ensures { result ≡ digit_of byte }
 {
@@ -17,7 +17,7 @@ fn digit(byte: u8) -> Option<u64>
 }
 
 /// The value with one more digit behind it, where that is at most the limit. Behind a 0 there is none.
-#[inline]
+#[inline(always)]
 fn with_more(limit: u64, value: u64, byte: u8) -> Option<u64>
     ensures { result ≡ with_digit limit value byte }
 {
@@ -31,7 +31,7 @@ fn with_more(limit: u64, value: u64, byte: u8) -> Option<u64>
 
 /// The number at the front of the bytes, if it is at most the limit, with the byte behind it, which is one
 /// of those before `0`; and the bytes behind that.
-#[inline]
+#[inline(always)]
 #[tactic(auto, unfolding(crate::specs::Reading::leading_at, crate::specs::Reading::digits_at))]
 pub fn leading(bytes: &[u8], limit: u64) -> Option<((u64, u8), &[u8])>
     ensures value { Gives (λ x. (x.0, x.1.now)) result (leading_at limit bytes.now) }
@@ -55,7 +55,7 @@ pub fn leading(bytes: &[u8], limit: u64) -> Option<((u64, u8), &[u8])>
 
 /// The number at the front of the bytes, if it is at most the limit and the byte behind it is the end; and
 /// the bytes behind that.
-#[inline]
+#[inline(always)]
 #[tactic(auto, unfolding(crate::specs::Reading::number_at))]
 pub fn number(bytes: &[u8], limit: u64, end: u8) -> Option<(u64, &[u8])>
     ensures value { Gives (λ x. (x.0, x.1.now)) result (number_at limit end bytes.now) }
@@ -70,7 +70,7 @@ pub fn number(bytes: &[u8], limit: u64, end: u8) -> Option<(u64, &[u8])>
 }
 
 /// A number from 1 on.
-#[inline]
+#[inline(always)]
 #[tactic(auto, unfolding(crate::specs::Reading::count_at))]
 pub fn count(bytes: &[u8], limit: u64, end: u8) -> Option<(u64, &[u8])>
     ensures value { Gives (λ x. (x.0, x.1.now)) result (count_at limit end bytes.now) }

@@ -1,5 +1,5 @@
 -- The chains of the names in one slot.
-use Rattle.std.proofs.Common.{◌≡◌, ◌≢◌, ◌⊎◌, ℕ, zero, suc, ◌+◌, ◌-◌, ◌*◌, ◌%◌, ◌<◌, ◌≤◌, Bool, true, false, cond, eqb, List, [], ◌∷◌, ◌++◌, length, get_or, set, replicate, Option, Some, None, refl, sym, ap, ◌∙◌, arith, rules, inl, inr}
+use Rattle.std.proofs.Common.{◌≡◌, ◌≢◌, ◌⊎◌, ℕ, zero, suc, ◌+◌, ◌-◌, ◌*◌, ◌%◌, ◌<◌, ◌≤◌, Bool, true, false, cond, eqb, List, [], ◌∷◌, ◌++◌, length, take, get_or, set, replicate, Option, Some, None, refl, sym, ap, ◌∙◌, arith, rules, inl, inr}
 use Rattle.std.specs.Option.{option_map}
 use Rattle.std.specs.List.{AllByRecursion}
 use Rattle.std.specs.Str.{bytes_eq}
@@ -8,11 +8,11 @@ use Rattle.std.proofs.lemmas.Slice.Eq.{bytes_eq-Decides}
 use Rattle.std.proofs.Math.ListN.{get_or-append}
 use Rattle.std.proofs.Math.Seq.{get_or-append_seam}
 use Rattle.std.proofs.lemmas.Grind.{get_or-set_at}
-use Rattle.std.proofs.lemmas.List.{get_or-map, get_or-replicate, get_or-set_other, length-append, length-map, length-replicate, length-set}
+use Rattle.std.proofs.lemmas.List.{get_or-map, get_or-replicate, get_or-set_other, length-append, length-map, length-replicate, length-set, take_more}
 use denote.Ref.{Bor}
 use Rattle.phrase.specs.Places.{place, texts}
 use Rattle.script.specs.Names.{AreDistinct}
-use Rattle.journal_text.specs.Slots.{slot_step, slot_from, slot_of, last_in, AreHeads, AreLinks, AreApart}
+use Rattle.journal_text.specs.Slots.{hash_step, hash_from, hash_of, slot_of, last_in, AreHeads, AreLinks, AreApart}
 
 unlike : (x y : List ℕ) → (x ≡ y → ⊥) → bytes_eq x y ≡ false
 unlike x y h = by_test (bytes_eq x y) refl
@@ -23,10 +23,19 @@ unlike x y h = by_test (bytes_eq x y) refl
 
 -- SLOTS
 
-pub slot_more : (text : List ℕ) (slot byte : ℕ) → slot_from slot (text ++ byte ∷ []) ≡ slot_step (slot_from slot text) byte
-unfolding slot_from
-slot_more [] slot byte = refl
-slot_more (b ∷ text) slot byte = slot_more text (slot_step slot b) byte
+hash_more : (text : List ℕ) (hash byte : ℕ) → hash_from hash (text ++ byte ∷ []) ≡ hash_step (hash_from hash text) byte
+unfolding hash_from
+hash_more [] hash byte = refl
+hash_more (b ∷ text) hash byte = hash_more text (hash_step hash b) byte
+
+-- the hash of a text byte by byte, as a loop takes it
+pub hash_begun : 0 ≡ hash_of []
+unfolding hash_from
+hash_begun = refl
+
+pub hash_on : (text : List ℕ) (at hash next : ℕ) → at < length text → hash ≡ hash_of (take at text) → next ≡ hash_step hash (get_or text at 0) → next ≡ hash_of (take (at + 1) text)
+hash_on text at hash next h e step =
+    step ∙ ap (λ (n : ℕ). hash_step n (get_or text at 0)) e ∙ sym (hash_more (take at text) 0 (get_or text at 0)) ∙ ap hash_of (sym (take_more text at 0 h))
 
 -- CHAINS
 

@@ -1,16 +1,23 @@
 -- Where a name is looked up: names whose bytes come to one slot are chained, from the last to the first.
-use Rattle.std.specs.Prelude.{◌≡◌, ℕ, suc, zero, ◌+◌, ◌*◌, ◌%◌, ◌<◌, List, [], ◌∷◌, length, get_or, ◌==◌, if◌then◌else◌}
+use Rattle.std.specs.Prelude.{◌≡◌, ℕ, suc, zero, ◌+◌, ◌*◌, ◌/◌, ◌%◌, ◌^◌, ◌<◌, List, [], ◌∷◌, length, get_or, ◌==◌, if◌then◌else◌}
 
--- the slot with one more byte
-abbrev pub slot_step : ℕ → ℕ → ℕ
-slot_step slot byte = (slot * 33 + byte) % 1024
+-- the hash with one more byte
+abbrev pub hash_step : ℕ → ℕ → ℕ
+hash_step hash byte = ((hash * 8) % 2 ^ 64 + byte) % 2 ^ 64
 
-unfoldable pub slot_from : ℕ → List ℕ → ℕ
-slot_from slot [] = slot
-slot_from slot (byte ∷ text) = slot_from (slot_step slot byte) text
+unfoldable pub hash_from : ℕ → List ℕ → ℕ
+hash_from hash [] = hash
+hash_from hash (byte ∷ text) = hash_from (hash_step hash byte) text
+
+abbrev pub hash_of : List ℕ → ℕ
+hash_of text = hash_from 0 text
+
+-- one of 1,024 slots
+unfoldable pub slot_at : ℕ → ℕ
+slot_at hash = (hash * 11400714819323198485) % 2 ^ 64 / 2 ^ 54
 
 abbrev pub slot_of : List ℕ → ℕ
-slot_of text = slot_from 0 text
+slot_of text = slot_at (hash_of text)
 
 -- the number of the last of the first n names in the slot, counted from 1, or 0 where none is in it
 unfoldable pub last_in : ℕ → List (List ℕ) → ℕ → ℕ

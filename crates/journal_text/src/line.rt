@@ -5,7 +5,7 @@ ghost use Rattle.phrase.specs.Places.{texts};
 ghost use Rattle.journal_text.specs.Answers.{listed};
 ghost use Rattle.journal_text.specs.Reading.{after_byte, word_at, named_at, row_at, place_at, nack_at, num_at, chan_at, cancel_at, atom_at, later_at, one_at, two_at, three_at, none_at, atoms_at, closed_at, message_at, partner_at, told_at, meets_at, always_at, cancelled_at, deed_at, head_at, line_at};
 
-use crate::listing::{Listing, Word, next_slot};
+use crate::listing::{Listing, Word, next_hash};
 use crate::names::Names;
 use digits::{count, leading, number};
 use words::{Atom, Cause, Commit, Message, NackName, Row};
@@ -22,6 +22,7 @@ pub(crate) enum Deed {
     Alone(Cause),
 }
 
+#[inline(always)]
 fn after_byte(end: u8, bytes: &[u8]) -> Option<&[u8]>
     ensures { Gives (λ rest. rest.now) result (after_byte end bytes.now) }
 {
@@ -32,27 +33,27 @@ fn after_byte(end: u8, bytes: &[u8]) -> Option<&[u8]>
 }
 
 /// What may be a name, and the byte behind it, the first of those before `0`.
-#[inline]
+#[inline(always)]
 #[tactic(auto, unfolding(crate::specs::Reading::word_at))]
 fn word(bytes: &[u8]) -> Option<((Word<'_>, u8), &[u8])>
     ensures { Gives (λ x. ((x.0.0.text.now, x.0.1), x.1.now)) result (word_at bytes.now) }
 {
-    let mut slot = 0;
+    let mut hash = 0;
     for (at, byte) in bytes.iter().enumerate() {
         if *byte < b'0' {
             let word = Word {
                 text: &bytes[..at],
-                slot,
+                hash,
             };
             return Some(((word, *byte), &bytes[at + 1..]));
         }
-        slot = next_slot(slot, *byte);
+        hash = next_hash(hash, *byte);
     }
     None
 }
 
 /// The number of the name that stands in front, with the byte behind it.
-#[inline]
+#[inline(always)]
 #[tactic(auto, unfolding(crate::specs::Reading::named_at))]
 fn named<'a>(names: &Listing<'_>, bytes: &'a [u8]) -> Option<((u8, u8), &'a [u8])>
     ensures { Gives (λ x. (x.0, x.1.now)) result (named_at (texts names.now.names.items) bytes.now) }
@@ -63,7 +64,7 @@ fn named<'a>(names: &Listing<'_>, bytes: &'a [u8]) -> Option<((u8, u8), &'a [u8]
 }
 
 /// The number of the name that stands in front, where the byte behind it is the end.
-#[inline]
+#[inline(always)]
 fn name<'a>(names: &Listing<'_>, end: u8, bytes: &'a [u8]) -> Option<(u8, &'a [u8])>
     ensures { Gives (λ x. (x.0, x.1.now)) result (ended_by end (named_at (texts names.now.names.items) bytes.now)) }
 {
@@ -75,6 +76,7 @@ fn name<'a>(names: &Listing<'_>, end: u8, bytes: &'a [u8]) -> Option<(u8, &'a [u
     }
 }
 
+#[inline(always)]
 #[tactic(auto, unfolding(crate::specs::Reading::row_at))]
 fn row<'a>(names: &Names<'_>, bytes: &'a [u8]) -> Option<(Row, &'a [u8])>
     ensures { Gives (λ x. (x.0, x.1.now)) result (row_at (listed names.now) bytes.now) }
@@ -88,6 +90,7 @@ fn row<'a>(names: &Names<'_>, bytes: &'a [u8]) -> Option<(Row, &'a [u8])>
     Some((row, rest))
 }
 
+#[inline(always)]
 #[tactic(auto, unfolding(crate::specs::Reading::place_at))]
 fn place<'a>(names: &Names<'_>, bytes: &'a [u8]) -> Option<((Row, u8), &'a [u8])>
     ensures { Gives (λ x. (x.0, x.1.now)) result (place_at (listed names.now) bytes.now) }
@@ -108,6 +111,7 @@ fn nack<'a>(names: &Names<'_>, bytes: &'a [u8]) -> Option<((NackName, u8), &'a [
     Some(((nack, behind), rest))
 }
 
+#[inline(always)]
 #[tactic(auto, unfolding(crate::specs::Reading::num_at))]
 fn num(bytes: &[u8]) -> Option<((Atom, u8), &[u8])>
     ensures { Gives (λ x. (x.0, x.1.now)) result (num_at bytes.now) }
@@ -135,6 +139,7 @@ fn cancel<'a>(names: &Names<'_>, bytes: &'a [u8]) -> Option<((Atom, u8), &'a [u8
 }
 
 /// An atom, with the byte behind it.
+#[inline(always)]
 #[tactic(auto, unfolding(crate::specs::Reading::atom_at))]
 fn atom<'a>(names: &Names<'_>, bytes: &'a [u8]) -> Option<((Atom, u8), &'a [u8])>
     ensures { Gives (λ x. (x.0, x.1.now)) result (atom_at (listed names.now) bytes.now) }
@@ -195,6 +200,7 @@ fn two<'a>(
     three(names, (first, second), behind, rest)
 }
 
+#[inline(always)]
 #[tactic(auto, unfolding(crate::specs::Reading::one_at))]
 fn one<'a>(names: &Names<'_>, bytes: &'a [u8]) -> Option<(Message, &'a [u8])>
     ensures { Gives (λ x. (x.0, x.1.now)) result (one_at (listed names.now) bytes.now) }
@@ -206,6 +212,7 @@ fn one<'a>(names: &Names<'_>, bytes: &'a [u8]) -> Option<(Message, &'a [u8])>
     two(names, first, behind, rest)
 }
 
+#[inline(always)]
 #[tactic(auto, unfolding(crate::specs::Reading::none_at))]
 fn none(bytes: &[u8]) -> Option<(Message, &[u8])>
     ensures { Gives (λ x. (x.0, x.1.now)) result (none_at bytes.now) }
@@ -215,6 +222,7 @@ fn none(bytes: &[u8]) -> Option<(Message, &[u8])>
 }
 
 /// The atoms of a message, up to the parenthesis.
+#[inline(always)]
 #[tactic(auto, unfolding(crate::specs::Reading::atoms_at))]
 fn atoms<'a>(names: &Names<'_>, bytes: &'a [u8]) -> Option<(Message, &'a [u8])>
     ensures { Gives (λ x. (x.0, x.1.now)) result (atoms_at (listed names.now) bytes.now) }
@@ -225,6 +233,7 @@ fn atoms<'a>(names: &Names<'_>, bytes: &'a [u8]) -> Option<(Message, &'a [u8])>
     none(bytes)
 }
 
+#[inline(always)]
 #[tactic(auto, unfolding(crate::specs::Reading::closed_at))]
 fn closed<'a>(names: &Names<'_>, bytes: &'a [u8]) -> Option<(Message, &'a [u8])>
     ensures { Gives (λ x. (x.0, x.1.now)) result (closed_at (listed names.now) bytes.now) }
@@ -235,6 +244,7 @@ fn closed<'a>(names: &Names<'_>, bytes: &'a [u8]) -> Option<(Message, &'a [u8])>
 }
 
 /// The rest of a line that a message ends.
+#[inline(always)]
 #[tactic(auto, unfolding(crate::specs::Reading::message_at))]
 fn message<'a>(names: &Names<'_>, bytes: &'a [u8]) -> Option<(Message, &'a [u8])>
     ensures { Gives (λ x. (x.0, x.1.now)) result (message_at (listed names.now) bytes.now) }
@@ -245,6 +255,7 @@ fn message<'a>(names: &Names<'_>, bytes: &'a [u8]) -> Option<(Message, &'a [u8])
 }
 
 /// A receiver, and the channel.
+#[inline(always)]
 #[tactic(auto, unfolding(crate::specs::Reading::partner_at))]
 fn partner<'a>(names: &Names<'_>, bytes: &'a [u8]) -> Option<(((Row, u8), u8), &'a [u8])>
     ensures { Gives (λ x. (x.0, x.1.now)) result (partner_at (listed names.now) bytes.now) }
@@ -254,6 +265,7 @@ fn partner<'a>(names: &Names<'_>, bytes: &'a [u8]) -> Option<(((Row, u8), u8), &
     Some(((receiver, chan), rest))
 }
 
+#[inline(always)]
 #[tactic(auto, unfolding(crate::specs::Reading::told_at))]
 fn told<'a>(names: &Names<'_>, bytes: &'a [u8]) -> Option<(Deed, &'a [u8])>
     ensures { Gives (λ x. (x.0, x.1.now)) result (told_at (listed names.now) bytes.now) }
@@ -268,6 +280,7 @@ fn told<'a>(names: &Names<'_>, bytes: &'a [u8]) -> Option<(Deed, &'a [u8])>
     Some((deed, rest))
 }
 
+#[inline(always)]
 #[tactic(auto, unfolding(crate::specs::Reading::meets_at))]
 fn meets<'a>(names: &Names<'_>, bytes: &'a [u8]) -> Option<(Deed, &'a [u8])>
     ensures { Gives (λ x. (x.0, x.1.now)) result (meets_at (listed names.now) bytes.now) }
@@ -299,6 +312,7 @@ fn cancelled<'a>(names: &Names<'_>, bytes: &'a [u8]) -> Option<(Deed, &'a [u8])>
 }
 
 /// What the row did, up to the line's end.
+#[inline(always)]
 #[tactic(auto, unfolding(crate::specs::Reading::deed_at))]
 fn done<'a>(names: &Names<'_>, bytes: &'a [u8]) -> Option<(Deed, &'a [u8])>
     ensures { Gives (λ x. (x.0, x.1.now)) result (deed_at (listed names.now) bytes.now) }
@@ -313,6 +327,7 @@ fn done<'a>(names: &Names<'_>, bytes: &'a [u8]) -> Option<(Deed, &'a [u8])>
 }
 
 /// The stamp, and the row that is named first.
+#[inline(always)]
 #[tactic(auto, unfolding(crate::specs::Reading::head_at))]
 fn head<'a>(names: &Names<'_>, bytes: &'a [u8]) -> Option<((u32, (Row, u8)), &'a [u8])>
     ensures { Gives (λ x. (x.0, x.1.now)) result (head_at (listed names.now) bytes.now) }
@@ -323,6 +338,7 @@ fn head<'a>(names: &Names<'_>, bytes: &'a [u8]) -> Option<((u32, (Row, u8)), &'a
 }
 
 /// The line of a commit, and the bytes behind it.
+#[inline(always)]
 #[tactic(auto, unfolding(crate::specs::Reading::line_at))]
 pub(crate) fn line<'a>(names: &Names<'_>, bytes: &'a [u8]) -> Option<(Commit, &'a [u8])>
     ensures { Gives (λ x. (x.0, x.1.now)) result (line_at (listed names.now) bytes.now) }

@@ -4,40 +4,49 @@
 ghost use Rattle.std.specs.Prelude.{◌≡◌, ◌<◌, ◌≤◌, IfOk, length};
 ghost use Rattle.std.proofs.Props.{props};
 ghost use Rattle.phrase.specs.Places.{place, texts};
-ghost use Rattle.journal_text.specs.Slots.{slot_step, slot_of, AreHeads, AreLinks, AreApart};
+ghost use Rattle.journal_text.specs.Slots.{hash_step, hash_of, slot_of, AreHeads, AreLinks, AreApart};
 
 use std::alloc::{AllocError, Global};
 
 const SLOTS: usize = 1024;
 
-/// The slot with one more byte.
+/// Odd, and near the golden part of 2^64: it spreads hashes that differ in their low bits alone.
+const SPREAD: u64 = 11_400_714_819_323_198_485;
+
+/// The hash with one more byte.
 #[inline(always)]
-pub(crate) fn next_slot(slot: usize, byte: u8) -> usize
-    requires { slot < 1024 }
-    ensures value { result ≡ slot_step slot byte }
-    ensures small { result < 1024 }
+pub(crate) fn next_hash(hash: u64, byte: u8) -> u64
+    ensures { result ≡ hash_step hash byte }
 {
-    (slot * 33 + usize::from(byte)) % SLOTS
+    hash.wrapping_mul(8).wrapping_add(u64::from(byte))
 }
 
-/// A text that may be a name, and its slot.
+/// A text that may be a name, and its hash.
 #[derive(Clone, Copy)]
 pub(crate) struct Word<'a> {
     pub(crate) text: &'a [u8],
-    pub(crate) slot: usize,
-    ghost hashed: { slot ≡ slot_of text.now },
-    ghost small: { slot < 1024 },
+    pub(crate) hash: u64,
+    ghost hashed: { hash ≡ hash_of text.now },
 }
 
 impl<'a> Word<'a> {
     fn new(text: &'a [u8]) -> Word<'a>
         ensures { result.text.now ≡ text.now }
     {
-        let mut slot = 0;
+        let mut hash = 0;
         for byte in text {
-            slot = next_slot(slot, *byte);
+            hash = next_hash(hash, *byte);
         }
-        Word { text, slot }
+        Word { text, hash }
+    }
+
+    #[inline(always)]
+    #[tactic(auto, unfolding(crate::specs::Slots::slot_at))]
+    fn slot(self) -> usize
+        ensures value { result ≡ slot_of self.entry.text.now }
+        ensures small { result < 1024 }
+    {
+        (self.hash.wrapping_mul(SPREAD) >> 54) as usize
     }
 }
 
@@ -64,9 +73,9 @@ impl<'a> Listing<'a> {
         let mut heads = vec![in alloc; 0u16; SLOTS]?;
         let mut links = Vec::with_capacity(alloc, names.len())?;
         for (number, name) in names.iter().enumerate() {
-            let word = Word::new(name.as_bytes());
-            links.push(heads[word.slot])?;
-            heads[word.slot] = number as u16 + 1;
+            let slot = Word::new(name.as_bytes()).slot();
+            links.push(heads[slot])?;
+            heads[slot] = number as u16 + 1;
         }
         Ok(Listing {
             names,
@@ -76,11 +85,11 @@ impl<'a> Listing<'a> {
     }
 
     /// The number of the name with this text.
-    #[inline]
+    #[inline(always)]
     pub(crate) fn number(&self, word: Word<'_>) -> Option<u8>
         ensures { result ≡ place word.entry.text.now (texts self.now.names.items) }
     {
-        let mut next = self.heads[word.slot];
+        let mut next = self.heads[word.slot()];
         while next > 0 {
             let number = usize::from(next) - 1;
             if self.names[number].as_bytes() == word.text {

@@ -17,7 +17,7 @@ pub(crate) struct Names<'a> {
     pub(crate) channels: Listing<'a>,
 }
 
-fn thread_names<'a>(alloc: Global, script: &'a Script) -> Result<Vec<&'a str>, AllocError>
+pub(crate) fn thread_names<'a>(alloc: Global, script: &'a Script) -> Result<Vec<&'a str>, AllocError>
     ensures value { IfOk result (λ names. texts names.items ≡ (names_of (script_of script.now)).threads) }
     ensures few { IfOk result (λ names. length names.items ≤ 256) }
 {
@@ -28,7 +28,7 @@ fn thread_names<'a>(alloc: Global, script: &'a Script) -> Result<Vec<&'a str>, A
     Ok(names)
 }
 
-fn channel_names<'a>(alloc: Global, script: &'a Script) -> Result<Vec<&'a str>, AllocError>
+pub(crate) fn channel_names<'a>(alloc: Global, script: &'a Script) -> Result<Vec<&'a str>, AllocError>
     ensures value { IfOk result (λ names. texts names.items ≡ (names_of (script_of script.now)).channels) }
     ensures few { IfOk result (λ names. length names.items ≤ 256) }
 {

@@ -17,14 +17,15 @@ loop-number-preserved c =
     let names = texts c.args.names.items in
     let n = c.loop-number.number in
     let heads = c.loop-number.heads.items in
-    let word = c.new-word.result in
+    let slot = c.slot-slot.result in
+    let small = c.slot-slot.ensures.small in
     let nowhere : Bor (List ℕ) = record { ref_ptr = (0, 0); now = [] } in
     let slice : c.deref-name-items.result.now ≡ c.args.names.items = c.deref-name-items.ensures.value in
     let within : n < length c.args.names.items = omega (arith, ap length slice) in
     let name = ap (λ (all : List (Bor (List ℕ))). (get_or all n nowhere).now) slice ∙ sym (get_or-map (λ (x : Bor (List ℕ)). x.now) c.args.names.items n nowhere [] within) in
-    let is : word.slot ≡ slot_of (get_or names n []) = word.hashed ∙ ap slot_of (c.new-word.ensures ∙ c.as_bytes.ensures.value ∙ name) in
-    let read = get_or_read heads word.slot _ (omega (arith, c.loop-number.invariant.0.count, word.small)) c.index.ensures 0 ∙ c.loop-number.invariant.0.each word.slot word.small ∙ ap (λ slot. last_in slot names n) is in
-    (heads_more names n heads word.slot c.loop-number.invariant.0 is word.small, rw c.in_ok-push.ensures.items (links_more names n c.loop-number.links.items _ c.loop-number.invariant.1 read))
+    let is : slot ≡ slot_of (get_or names n []) = c.slot-slot.ensures.value ∙ ap slot_of (c.new.ensures ∙ c.as_bytes.ensures.value ∙ name) in
+    let read = get_or_read heads slot _ (omega (arith, c.loop-number.invariant.0.count, small)) c.index.ensures 0 ∙ c.loop-number.invariant.0.each slot small ∙ ap (λ slot. last_in slot names n) is in
+    (heads_more names n heads slot c.loop-number.invariant.0 is small, rw c.in_ok-push.ensures.items (links_more names n c.loop-number.links.items _ c.loop-number.invariant.1 read))
 
 pub invariant_of-result : goal.invariant_of-result
 invariant_of-result c =

@@ -10,10 +10,11 @@ use Rattle.journal_text.proofs.listing.Listing.number.Goals as goal
 pub loop-next-init : goal.loop-next-init
 loop-next-init c =
     let self = c.args.self.now in
-    let word = c.args.word in
+    let text = c.args.word.text.now in
     let names = texts self.names.items in
-    let read = get_or_read self.heads.items word.slot _ (omega (arith, self.headed.count, word.small)) c.index-next.ensures 0 ∙ self.headed.each word.slot word.small in
-    begun names word.text.now _ (read ∙ ap (λ slot. last_in slot names (length self.names.items)) word.hashed ∙ ap (last_in (slot_of word.text.now) names) (sym (texts_length self.names.items)))
+    let slot = c.slot.result in
+    let read = get_or_read self.heads.items slot _ (omega (arith, self.headed.count, c.slot.ensures.small)) c.index-next.ensures 0 ∙ self.headed.each slot c.slot.ensures.small in
+    begun names text _ (read ∙ ap (λ slot. last_in slot names (length self.names.items)) c.slot.ensures.value ∙ ap (last_in (slot_of text) names) (sym (texts_length self.names.items)))
 
 pub returns-then-eq : goal.returns-then-eq
 returns-then-eq c =
