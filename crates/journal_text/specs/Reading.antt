@@ -1,5 +1,5 @@
 -- Reading from left to right: the commit whose line stands at the front of the bytes, and the bytes after it.
-use Rattle.std.specs.Prelude.{ℕ, List, [], ◌∷◌, ◌++◌, codes, Option, Some, None, nat_lt, ◌==◌, if◌then◌else◌}
+use Rattle.std.specs.Prelude.{◌≡◌, ℕ, List, [], ◌∷◌, ◌++◌, codes, Option, Some, None, nat_lt, ◌==◌, if◌then◌else◌}
 use Rattle.digits.specs.Reading.{◌>>=◌, or_else, leading_at, ended_by, number_at, count_at, after_word}
 use Rattle.phrase.specs.Places.{place}
 use Rattle.words.specs.declared.NackName.{NackName}
@@ -18,6 +18,16 @@ use Rattle.journal_text.specs.declared.line.Deed.TheVariants.{Meets, Alone}
 -- what is read, and the bytes behind it
 abbrev pub Reads : Type 0 → Type 0
 Reads A = Option (A × List ℕ)
+
+-- What a function read, and what it left, are what reading gives.
+abbrev pub Leads : {X : Type 0} → Option X → List ℕ → Reads X → Type 0
+Leads None left read = read ≡ None
+Leads (Some x) left read = read ≡ Some (x, left)
+
+-- the same, where nothing is read but what is expected
+abbrev pub Passes : Option (Unit {0}) → List ℕ → Option (List ℕ) → Type 0
+Passes None left read = read ≡ None
+Passes (Some done) left read = read ≡ Some left
 
 -- NAMES
 

@@ -26,7 +26,7 @@ mod writing;
 pub use crate::atom::push_atom;
 
 use crate::labels::Labels;
-use crate::line::line;
+use crate::line::Front;
 use crate::names::Names;
 use crate::writing::{LINE_NAMES, LINE_ROOM, LONGEST_NUMBER, put_line};
 use script::Script;
@@ -127,13 +127,12 @@ pub fn read_journal(
 {
     let names = Names::new(alloc, script)?;
     let mut commits = Vec::new(alloc);
-    let mut rest = bytes;
-    while !rest.is_empty() {
-        let Some((commit, after)) = line(&names, rest) else {
+    let mut front = Front { bytes };
+    while !front.bytes.is_empty() {
+        let Some(commit) = front.line(&names) else {
             return Err(JournalFault::BadLine(commits.len() + 1));
         };
         commits.push(commit)?;
-        rest = after;
     }
     Ok(commits)
 }
