@@ -5,6 +5,9 @@
 ghost use Rattle.std.specs.Prelude.{◌≡◌, ◌≤◌, ◌<◌, ◌⊎◌, IfSome, OnSome};
 ghost use Rattle.digits.specs.Reading.{Gives, digit_of, with_digit, leading_at, number_at, count_at};
 
+/// Ten times a number below this, with a digit, fits.
+const NO_OVERFLOW: u64 = 1 << 60;
+
 /// What a byte says as a decimal digit.
 #[inline(always)]
 fn digit(byte: u8) -> Option<u64>
@@ -19,13 +22,18 @@ fn digit(byte: u8) -> Option<u64>
 /// The value with one more digit behind it, where that is at most the limit. Behind a 0 there is none.
 #[inline(always)]
 fn with_more(limit: u64, value: u64, byte: u8) -> Option<u64>
+    requires { value ≤ limit }
     ensures { result ≡ with_digit limit value byte }
 {
     let digit = digit(byte)?;
     if value == 0 {
         return None;
     }
-    let more = value.checked_mul(10)?.checked_add(digit)?;
+    let more = if limit < NO_OVERFLOW {
+        value * 10 + digit
+    } else {
+        value.checked_mul(10)?.checked_add(digit)?
+    };
     if more <= limit { Some(more) } else { None }
 }
 
@@ -37,18 +45,20 @@ pub fn leading(bytes: &[u8], limit: u64) -> Option<((u64, u8), &[u8])>
     ensures value { Gives (λ x. (x.0, x.1.now)) result (leading_at limit bytes.now) }
     ensures within { IfSome result (λ x. x.0.0 ≤ limit) }
 {
-    let [first, after @ ..] = bytes else {
+    let [first, rest @ ..] = bytes else {
         return None;
     };
     let mut value = digit(*first)?;
     if value > limit {
         return None;
     }
-    for (i, byte) in after.iter().enumerate() {
+    let mut rest = rest;
+    while let [byte, after @ ..] = rest {
         if *byte < b'0' {
-            return Some(((value, *byte), &after[i + 1..]));
+            return Some(((value, *byte), after));
         }
         value = with_more(limit, value, *byte)?;
+        rest = after;
     }
     None
 }

@@ -51,6 +51,7 @@ pub(crate) struct Front<'a> {
 }
 
 impl Front<'_> {
+    #[inline(always)]
     fn byte(&mut self, byte: u8) -> Option<()>
         ensures { Passes result self.new.bytes.now (after_byte byte self.old.bytes.now) }
     {
@@ -92,6 +93,7 @@ impl Front<'_> {
         Some(value)
     }
 
+    #[inline(always)]
     fn stamp(&mut self) -> Option<u64>
         ensures value { Leads result self.new.bytes.now (count_at 4294967295 32 self.old.bytes.now) }
         ensures within { IfSome result (λ x. x ≤ 4294967295) }
@@ -114,7 +116,7 @@ impl Front<'_> {
     }
 
     /// The number of a name, where the byte behind it is the end.
-    #[inline(never)]
+    #[inline(always)]
     fn name(&mut self, names: &Listing<'_>, end: u8) -> Option<u8>
         ensures { Leads result self.new.bytes.now (ended_by end (named_at (texts names.now.names.items) self.old.bytes.now)) }
     {
@@ -122,6 +124,7 @@ impl Front<'_> {
         if behind == end { Some(number) } else { None }
     }
 
+    #[inline(always)]
     #[tactic(auto, unfolding(crate::specs::Reading::row_at))]
     fn row(&mut self, names: &Names<'_>) -> Option<Row>
         ensures { Leads result self.new.bytes.now (row_at (listed names.now) self.old.bytes.now) }
@@ -134,6 +137,7 @@ impl Front<'_> {
         })
     }
 
+    #[inline(always)]
     #[tactic(auto, unfolding(crate::specs::Reading::place_at))]
     fn place(&mut self, names: &Names<'_>) -> Option<(Row, u8)>
         ensures { Leads result self.new.bytes.now (place_at (listed names.now) self.old.bytes.now) }
@@ -154,6 +158,7 @@ impl Front<'_> {
         Some((nack, behind))
     }
 
+    #[inline(always)]
     #[tactic(auto, unfolding(crate::specs::Reading::num_at))]
     fn num(&mut self) -> Option<(Atom, u8)>
         ensures { Leads result self.new.bytes.now (num_at self.old.bytes.now) }
@@ -181,6 +186,7 @@ impl Front<'_> {
     }
 
     /// An atom, and the byte behind it.
+    #[inline(always)]
     #[tactic(auto, unfolding(crate::specs::Reading::atom_at))]
     fn atom(&mut self, names: &Names<'_>) -> Option<(Atom, u8)>
         ensures { Leads result self.new.bytes.now (atom_at (listed names.now) self.old.bytes.now) }
@@ -234,6 +240,7 @@ impl Front<'_> {
         self.three(names, (first, second), behind)
     }
 
+    #[inline(always)]
     #[tactic(auto, unfolding(crate::specs::Reading::one_at))]
     fn one(&mut self, names: &Names<'_>) -> Option<Message>
         ensures { Leads result self.new.bytes.now (one_at (listed names.now) self.old.bytes.now) }
@@ -245,6 +252,7 @@ impl Front<'_> {
         self.two(names, first, behind)
     }
 
+    #[inline(always)]
     #[tactic(auto, unfolding(crate::specs::Reading::none_at))]
     fn none(&mut self) -> Option<Message>
         ensures { Leads result self.new.bytes.now (none_at self.old.bytes.now) }
@@ -254,6 +262,7 @@ impl Front<'_> {
     }
 
     /// The atoms of a message, up to the parenthesis.
+    #[inline(always)]
     #[tactic(auto, unfolding(crate::specs::Reading::atoms_at))]
     fn atoms(&mut self, names: &Names<'_>) -> Option<Message>
         ensures { Leads result self.new.bytes.now (atoms_at (listed names.now) self.old.bytes.now) }
@@ -266,6 +275,7 @@ impl Front<'_> {
         self.none()
     }
 
+    #[inline(always)]
     #[tactic(auto, unfolding(crate::specs::Reading::closed_at))]
     fn closed(&mut self, names: &Names<'_>) -> Option<Message>
         ensures { Leads result self.new.bytes.now (closed_at (listed names.now) self.old.bytes.now) }
@@ -276,6 +286,7 @@ impl Front<'_> {
     }
 
     /// The rest of a line that a message ends.
+    #[inline(always)]
     #[tactic(auto, unfolding(crate::specs::Reading::message_at))]
     fn message(&mut self, names: &Names<'_>) -> Option<Message>
         ensures { Leads result self.new.bytes.now (message_at (listed names.now) self.old.bytes.now) }
@@ -285,6 +296,7 @@ impl Front<'_> {
     }
 
     /// A receiver, and the channel.
+    #[inline(always)]
     #[tactic(auto, unfolding(crate::specs::Reading::partner_at))]
     fn partner(&mut self, names: &Names<'_>) -> Option<((Row, u8), u8)>
         ensures { Leads result self.new.bytes.now (partner_at (listed names.now) self.old.bytes.now) }
@@ -294,6 +306,7 @@ impl Front<'_> {
         Some((receiver, chan))
     }
 
+    #[inline(always)]
     #[tactic(auto, unfolding(crate::specs::Reading::told_at))]
     fn told(&mut self, names: &Names<'_>) -> Option<Deed>
         ensures { Leads result self.new.bytes.now (told_at (listed names.now) self.old.bytes.now) }
@@ -307,6 +320,7 @@ impl Front<'_> {
         })
     }
 
+    #[inline(always)]
     #[tactic(auto, unfolding(crate::specs::Reading::meets_at))]
     fn meets(&mut self, names: &Names<'_>) -> Option<Deed>
         ensures { Leads result self.new.bytes.now (meets_at (listed names.now) self.old.bytes.now) }
@@ -337,6 +351,7 @@ impl Front<'_> {
     }
 
     /// What the row did, up to the line's end.
+    #[inline(always)]
     #[tactic(auto, unfolding(crate::specs::Reading::deed_at))]
     fn deed(&mut self, names: &Names<'_>) -> Option<Deed>
         ensures { Leads result self.new.bytes.now (deed_at (listed names.now) self.old.bytes.now) }
@@ -354,6 +369,7 @@ impl Front<'_> {
     }
 
     /// The stamp, and the row that is named first.
+    #[inline(always)]
     #[tactic(auto, unfolding(crate::specs::Reading::head_at))]
     fn head(&mut self, names: &Names<'_>) -> Option<(u32, (Row, u8))>
         ensures { Leads result self.new.bytes.now (head_at (listed names.now) self.old.bytes.now) }
@@ -364,6 +380,7 @@ impl Front<'_> {
     }
 
     /// The line of a commit.
+    #[inline(always)]
     #[tactic(auto, unfolding(crate::specs::Reading::line_at))]
     pub(crate) fn line(&mut self, names: &Names<'_>) -> Option<Commit>
         ensures { Leads result self.new.bytes.now (line_at (listed names.now) self.old.bytes.now) }
