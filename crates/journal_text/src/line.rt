@@ -73,7 +73,7 @@ impl Front<'_> {
     }
 
     /// A number, and the byte behind it.
-    #[inline(never)]
+    #[inline(always)]
     fn leading(&mut self, limit: u64) -> Option<(u64, u8)>
         ensures value { Leads result self.new.bytes.now (leading_at limit self.old.bytes.now) }
         ensures within { IfSome result (λ x. x.0 ≤ limit) }
@@ -89,6 +89,17 @@ impl Front<'_> {
         ensures within { IfSome result (λ x. x ≤ limit) }
     {
         let (value, rest) = number(self.bytes, limit, end)?;
+        self.bytes = rest;
+        Some(value)
+    }
+
+    /// The number of an offer: one digit.
+    #[inline(always)]
+    fn offer(&mut self) -> Option<u64>
+        ensures value { Leads result self.new.bytes.now (number_at 7 32 self.old.bytes.now) }
+        ensures within { IfSome result (λ x. x ≤ 7) }
+    {
+        let (value, rest) = number(self.bytes, 7, b' ')?;
         self.bytes = rest;
         Some(value)
     }
@@ -143,7 +154,7 @@ impl Front<'_> {
         ensures { Leads result self.new.bytes.now (place_at (listed names.now) self.old.bytes.now) }
     {
         let row = self.row(names)?;
-        let offer = self.number(7, b' ')?;
+        let offer = self.offer()?;
         Some((row, offer as u8))
     }
 
