@@ -19,24 +19,6 @@ fn digit(byte: u8) -> Option<u64>
     }
 }
 
-/// The value with one more digit behind it, where that is at most the limit. Behind a 0 there is none.
-#[inline(always)]
-fn with_more(limit: u64, value: u64, byte: u8) -> Option<u64>
-    requires { value ≤ limit }
-    ensures { result ≡ with_digit limit value byte }
-{
-    let digit = digit(byte)?;
-    if value == 0 {
-        return None;
-    }
-    let more = if limit < NO_OVERFLOW {
-        value * 10 + digit
-    } else {
-        value.checked_mul(10)?.checked_add(digit)?
-    };
-    if more <= limit { Some(more) } else { None }
-}
-
 /// The number at the front of the bytes, if it is at most the limit, with the byte behind it, which is one
 /// of those before `0`; and the bytes behind that.
 #[inline(always)]
@@ -57,7 +39,19 @@ pub fn leading(bytes: &[u8], limit: u64) -> Option<((u64, u8), &[u8])>
         if *byte < b'0' {
             return Some(((value, *byte), after));
         }
-        value = with_more(limit, value, *byte)?;
+        let digit = digit(*byte)?;
+        if value == 0 {
+            return None;
+        }
+        let more = if limit < NO_OVERFLOW {
+            value * 10 + digit
+        } else {
+            value.checked_mul(10)?.checked_add(digit)?
+        };
+        if more > limit {
+            return None;
+        }
+        value = more;
         rest = after;
     }
     None

@@ -1,6 +1,5 @@
 -- The chains of the names in one slot.
-use Rattle.std.proofs.Common.{◌≡◌, ◌≢◌, ◌⊎◌, ℕ, zero, suc, ◌+◌, ◌-◌, ◌*◌, ◌%◌, ◌<◌, ◌≤◌, Bool, true, false, cond, eqb, List, [], ◌∷◌, ◌++◌, length, take, get_or, set, replicate, Option, Some, None, refl, sym, ap, ◌∙◌, arith, rules, inl, inr}
-use Rattle.std.specs.Option.{option_map}
+use Rattle.std.proofs.Common.{◌≡◌, ◌≢◌, ◌⊎◌, ℕ, zero, suc, ◌+◌, ◌-◌, ◌<◌, ◌≤◌, Bool, true, false, cond, eqb, List, [], ◌∷◌, ◌++◌, length, take, get_or, set, replicate, Some, None, refl, sym, ap, subst, ◌∙◌, arith, rules, inl, inr}
 use Rattle.std.specs.List.{AllByRecursion}
 use Rattle.std.specs.Str.{bytes_eq}
 use Rattle.std.proofs.lemmas.Bool.{eqb-true, eqb-false}
@@ -12,6 +11,7 @@ use Rattle.std.proofs.lemmas.List.{get_or-map, get_or-replicate, get_or-set_othe
 use denote.Ref.{Bor}
 use Rattle.phrase.specs.Places.{place, texts}
 use Rattle.script.specs.Names.{AreDistinct}
+use Rattle.journal_text.specs.Names.{AreWithin}
 use Rattle.journal_text.specs.Slots.{hash_step, hash_from, hash_of, slot_of, last_in, AreHeads, AreLinks, AreApart}
 
 unlike : (x y : List ℕ) → (x ≡ y → ⊥) → bytes_eq x y ≡ false
@@ -167,3 +167,7 @@ texts_length names = length-map names (λ x. x.now)
 -- what a read of the names gives
 pub texts_at : (names : List (Bor (List ℕ))) (k : ℕ) (name : Bor (List ℕ)) → k < length names → name ≡ get_or names k name → get_or (texts names) k [] ≡ name.now
 texts_at names k name h e = get_or-map (λ x. x.now) names k name [] h ∙ ap (λ (x : Bor (List ℕ)). x.now) (sym e)
+
+-- a name that is read is not longer than the longest
+pub within_at : (longest : ℕ) (names : List (Bor (List ℕ))) (k : ℕ) (name : Bor (List ℕ)) → AreWithin longest (texts names) → k < length names → name ≡ get_or names k name → length name.now ≤ longest
+within_at longest names k name h less e = subst (λ (text : List ℕ). length text ≤ longest) (texts_at names k name less e) (h k)

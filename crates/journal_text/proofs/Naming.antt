@@ -1,7 +1,7 @@
 -- A name that is looked up stands in front, and a name that stands in front is found, where names are names
 -- and no two are the same.
-use Rattle.std.proofs.Common.{◌≡◌, ◌≢◌, ◌⊎◌, ◌||◌, ℕ, zero, suc, ◌+◌, ◌<◌, ◌≤◌, Bool, true, false, cond, eqb, ltb, leb, List, [], ◌∷◌, ◌++◌, length, take, drop, get_or, Option, Some, None, refl, sym, ap, ◌∙◌, append_assoc, arith, tests, inl, inr}
-use Rattle.std.specs.List.{AllByRecursion, list_all}
+use Rattle.std.proofs.Common.{◌≡◌, ℕ, suc, ◌+◌, ◌<◌, Bool, true, false, eqb, ltb, leb, List, [], ◌∷◌, ◌++◌, length, take, drop, get_or, Option, Some, None, refl, sym, ap, ◌∙◌, append_assoc, arith, tests, inl, inr}
+use Rattle.std.specs.List.{list_all}
 use Rattle.std.specs.Option.{option_map}
 use Rattle.std.specs.Str.{bytes_eq}
 use Rattle.std.proofs.lemmas.Bool.{and_parts, eqb-true, ltb-true}
@@ -13,7 +13,7 @@ use Rattle.phrase.specs.Places.{place}
 use Rattle.digits.specs.Reading.{◌>>=◌}
 use Rattle.digits.proofs.Numbers.{bind_some, chosen, chosen_some}
 use Rattle.digits.proofs.Forms.{Reads}
-use Rattle.script.specs.Names.{AreDistinct, AreNames}
+use Rattle.script.specs.Names.{AreNames}
 use Rattle.journal_text.specs.Reading.{after_byte, before_word, word_at, named_at}
 use Rattle.journal_text.proofs.Chains.{are_apart, at_place, place_apart}
 

@@ -24,7 +24,6 @@ mod names;
 mod writing;
 
 pub use crate::atom::push_atom;
-
 use crate::labels::Labels;
 use crate::line::Front;
 use crate::names::Names;

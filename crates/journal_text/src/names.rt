@@ -17,7 +17,10 @@ pub(crate) struct Names<'a> {
     pub(crate) channels: Listing<'a>,
 }
 
-pub(crate) fn thread_names<'a>(alloc: Global, script: &'a Script) -> Result<Vec<&'a str>, AllocError>
+pub(crate) fn thread_names<'a>(
+    alloc: Global,
+    script: &'a Script,
+) -> Result<Vec<&'a str>, AllocError>
     ensures value { IfOk result (λ names. texts names.items ≡ (names_of (script_of script.now)).threads) }
     ensures few { IfOk result (λ names. length names.items ≤ 256) }
 {
@@ -28,7 +31,10 @@ pub(crate) fn thread_names<'a>(alloc: Global, script: &'a Script) -> Result<Vec<
     Ok(names)
 }
 
-pub(crate) fn channel_names<'a>(alloc: Global, script: &'a Script) -> Result<Vec<&'a str>, AllocError>
+pub(crate) fn channel_names<'a>(
+    alloc: Global,
+    script: &'a Script,
+) -> Result<Vec<&'a str>, AllocError>
     ensures value { IfOk result (λ names. texts names.items ≡ (names_of (script_of script.now)).channels) }
     ensures few { IfOk result (λ names. length names.items ≤ 256) }
 {

@@ -144,12 +144,7 @@ fn put_earlier(line: &mut [u8], at: usize, labels: Option<&Labels<'_>>, atom: At
 }
 
 #[inline(always)]
-fn put_message(
-    line: &mut [u8],
-    at: usize,
-    labels: Option<&Labels<'_>>,
-    message: Message,
-) -> usize
+fn put_message(line: &mut [u8], at: usize, labels: Option<&Labels<'_>>, message: Message) -> usize
     requires { (3 * reach labels + 36 ≤ at) × (at ≤ length line.old) }
     ensures text { drop result line.new ≡ message_text (naming_of labels.entry) message ++ drop at line.old }
     ensures room { (result ≤ at) × (at ≤ result + (3 * reach labels.entry + 36)) }
@@ -211,7 +206,11 @@ fn put_commit(line: &mut [u8], at: usize, labels: Option<&Labels<'_>>, commit: &
             let at = put_byte(line, at, b' ');
             put_number(line, at, stamp)
         }
-        Commit::Alone { at: row, cause, stamp } => {
+        Commit::Alone {
+            at: row,
+            cause,
+            stamp,
+        } => {
             let at = put_cause(line, at, labels, cause);
             let at = put_byte(line, at, b' ');
             let at = put_place(line, at, labels, row);

@@ -1,5 +1,5 @@
 -- Readers of rows, and of what stands behind them.
-use Rattle.std.proofs.Common.{◌≡◌, ℕ, ◌^◌, ◌<◌, ◌≤◌, None, refl, ◌++◌, arith}
+use Rattle.std.proofs.Common.{ℕ, ◌^◌, ◌<◌, ◌≤◌, ◌++◌, arith}
 use Rattle.digits.proofs.Forms.{Reads, both, ended, numbers}
 use Rattle.schedule.specs.Reading.{row_at, placed_at}
 

@@ -1,7 +1,5 @@
-use Rattle.std.proofs.Common.{◌≡◌, ◌∙◌, map, length, ap, sym, arith}
-use Rattle.std.proofs.lemmas.List.{take_all, length-map}
-use Rattle.phrase.specs.Places.{texts}
-use Rattle.script.specs.Scripts.{script_of}
+use Rattle.std.proofs.Common.{◌∙◌, map, ap, arith}
+use Rattle.std.proofs.lemmas.List.{take_all}
 use Rattle.syntax.specs.Processes.{proc_of}
 use Rattle.journal_text.proofs.Lookup.{map_twice}
 use Rattle.journal_text.proofs.names.thread_names.Goals as goal

@@ -1,23 +1,20 @@
-use Rattle.std.proofs.Common.{◌≡◌, ◌≤◌, ◌<◌, ◌∙◌, [], ap, sym, get_or, length, arith, rules, tests}
-use Rattle.phrase.specs.Places.{texts}
+use Rattle.std.proofs.Common.{◌≡◌, ◌<◌, ap, get_or, length, arith, rules, tests}
 use Rattle.journal_text.specs.Labels.{reach}
-use Rattle.journal_text.proofs.Chains.{texts_at}
+use Rattle.journal_text.proofs.Chains.{within_at}
 use Rattle.journal_text.proofs.writing.put_channel.Goals as goal
 
 pub put_text-requires : goal.put_text-requires
 put_text-requires c =
     let labels = c.in-Some.labels.now in
-    let far : reach c.args.labels ≡ labels.longest = ap reach c.in-Some.is in
     let read : c.in-Some-get.name.now ≡ get_or labels.channels.items c.args.chan c.in-Some-get.name.now = search rules in
-    let within : c.args.chan < length labels.channels.items = search (rules, arith, tests) in
-    let name : get_or (texts labels.channels.items) c.args.chan [] ≡ c.as_bytes.result.now = texts_at labels.channels.items c.args.chan c.in-Some-get.name.now within read ∙ sym c.as_bytes.ensures.value in
-    (omega (arith, labels.channels_fit c.args.chan, ap length name), omega arith)
+    let less : c.args.chan < length labels.channels.items = search (rules, arith, tests) in
+    let fits = within_at labels.longest labels.channels.items c.args.chan c.in-Some-get.name.now labels.channels_fit less read in
+    (omega (arith, fits, ap length c.as_bytes.ensures.value, ap reach c.in-Some.is), omega arith)
 
 pub returns-in-Some-get-clause-room : goal.returns-in-Some-get-clause-room
 returns-in-Some-get-clause-room c =
     let labels = c.in-Some.labels.now in
-    let far : reach c.args.labels ≡ labels.longest = ap reach c.in-Some.is in
     let read : c.in-Some-get.name.now ≡ get_or labels.channels.items c.args.chan c.in-Some-get.name.now = search rules in
-    let within : c.args.chan < length labels.channels.items = search (rules, arith, tests) in
-    let name : get_or (texts labels.channels.items) c.args.chan [] ≡ c.as_bytes.result.now = texts_at labels.channels.items c.args.chan c.in-Some-get.name.now within read ∙ sym c.as_bytes.ensures.value in
-    (omega arith, omega (arith, labels.channels_fit c.args.chan, ap length name))
+    let less : c.args.chan < length labels.channels.items = search (rules, arith, tests) in
+    let fits = within_at labels.longest labels.channels.items c.args.chan c.in-Some-get.name.now labels.channels_fit less read in
+    (omega arith, omega (arith, fits, ap length c.as_bytes.ensures.value, ap reach c.in-Some.is))

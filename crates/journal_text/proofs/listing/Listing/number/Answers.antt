@@ -1,4 +1,4 @@
-use Rattle.std.proofs.Common.{◌≡◌, ◌≢◌, ◌∙◌, ◌<◌, ◌+◌, ◌-◌, ℕ, [], true, false, ap, sym, subst, arith, get_or, length}
+use Rattle.std.proofs.Common.{◌≡◌, ◌≢◌, ◌∙◌, ◌<◌, ◌+◌, ◌-◌, [], true, false, ap, sym, subst, arith, get_or, length}
 use Rattle.std.proofs.lemmas.Bool.Decides.{Decides-eqb}
 use Rattle.std.proofs.lemmas.List.{get_or_read}
 use Rattle.std.proofs.lemmas.Slice.Eq.{slice_eq-Decides}
@@ -43,8 +43,8 @@ loop-next-preserved c =
     let read = get_or_read self.links.items number _ (omega (arith, self.linked.count)) c.index-next-in-loop-next.ensures 0 ∙ self.linked.each number within in
     let next : c.loop-next.next ≡ number + 1 = omega arith in
     let other : get_or (texts self.names.items) number [] ≢ text = λ same.
-        let met = (slice_eq-Decides Decides-eqb _ _ _ c.eq.ensures).1 (c.as_bytes.ensures.value ∙ sym (texts_at self.names.items number _ within c.index.ensures) ∙ same) in
-        let clash : true ≡ false = sym met ∙ c.if-eq.false in absurd cc in
+    let met = (slice_eq-Decides Decides-eqb _ _ _ c.eq.ensures).1 (c.as_bytes.ensures.value ∙ sym (texts_at self.names.items number _ within c.index.ensures) ∙ same) in
+    let clash : true ≡ false = sym met ∙ c.if-eq.false in absurd cc in
     goes_on (texts self.names.items) text number _ (subst (IsSought (texts self.names.items) text) next c.loop-next.invariant) other read
 
 pub returns : goal.returns

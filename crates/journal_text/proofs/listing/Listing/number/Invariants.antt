@@ -1,4 +1,3 @@
-use Rattle.std.proofs.Common.{ℕ}
 use Rattle.phrase.specs.Places.{texts}
 use Rattle.journal_text.proofs.Chains.{IsSought}
 use Rattle.journal_text.proofs.listing.Listing.number.Given as goal

@@ -1,4 +1,4 @@
-use Rattle.std.proofs.Common.{◌≡◌, ◌∙◌, ℕ, List, ap, ap₂, sym, subst}
+use Rattle.std.proofs.Common.{◌∙◌, ℕ, List, ap, ap₂, sym, subst}
 use Rattle.phrase.specs.Places.{texts}
 use Rattle.script.specs.Scripts.{script_of}
 use Rattle.script.proofs.Declared.{declares_names}
