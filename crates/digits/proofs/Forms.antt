@@ -4,10 +4,10 @@ use Rattle.std.specs.Fmt.{decimal}
 use Rattle.std.specs.Prelude.{nat_eq}
 use Rattle.std.specs.Cmp.Lexicographic.{same_text, pointwise}
 use Rattle.std.proofs.Math.Seq.{take-append_seam, drop-append_seam}
-use Rattle.std.proofs.lemmas.Bool.{eqb-false}
+use Rattle.std.proofs.lemmas.Bool.{eqb-false, eqb-true}
 use Rattle.std.proofs.lemmas.Option.{some_pair_parts}
 use Rattle.std.proofs.lemmas.List.{take-append-drop}
-use Rattle.digits.specs.Reading.{◌>>=◌, digit_of, number_at, count_at, begins, after_word, or_else}
+use Rattle.digits.specs.Reading.{◌>>=◌, leading_at, ended_by, number_at, count_at, begins, after_word, or_else}
 use Rattle.digits.proofs.Numbers.{bind_some, chosen, chosen_some, number_takes, number_again}
 
 -- what a reader took from the front: the value that was made of x, whose text stood there
@@ -66,16 +66,40 @@ made make {m} {read} {t} h = record {
 
 -- ---- numbers
 
+-- what was read with the byte behind it, where that is the end
+pub ending : {A : Type 0} (end : ℕ) (t : A → List ℕ) (F : A → Type 0) {read : List ℕ → Option ((A × ℕ) × List ℕ)} → end < 48
+    → Reads {X = A × ℕ} (λ p. p) read (λ p. t p.0 ++ p.1 ∷ []) (λ p. F p.0 × (p.1 < 48)) → Reads {X = A} (λ a. a) (λ bytes. ended_by end (read bytes)) (λ a. t a ++ end ∷ []) F
+ending {A = A} end t F {read} low h = record {
+  takes = λ bytes y rest e.
+      let a = bind_some (read bytes) (λ x. cond (eqb x.0.1 end) (Some (x.0.0, x.1)) None) (y, rest) e in
+      let c = chosen_some (eqb a.0.0.1 end) (a.0.0.0, a.0.1) (y, rest) a.2 in
+      let p = h.takes bytes a.0.0 a.0.1 a.1 in
+      let behind : p.from.1 ≡ end = sym (ap (λ (x : A × ℕ). x.1) p.value) ∙ eqb-true a.0.0.1 end c.0 in
+      let after : a.0.1 ≡ rest = ap (λ (x : A × List ℕ). x.1) c.1 in
+      record {
+        from = p.from.0;
+        value = sym (ap (λ (x : A × List ℕ). x.0) c.1) ∙ ap (λ (x : A × ℕ). x.0) p.value;
+        parts = p.parts ∙ ap (λ (b : ℕ). (t p.from.0 ++ b ∷ []) ++ a.0.1) behind ∙ ap (λ (s : List ℕ). (t p.from.0 ++ end ∷ []) ++ s) after;
+        fits = p.fits.0;
+      };
+  again = λ a rest fits. let same : eqb end end ≡ true = search arith in rw (h.again (a, end) rest (fits, low), same) refl;
+}
+
 abbrev pub ended : ℕ → ℕ → List ℕ
 ended end n = decimal n ++ end ∷ []
 
-pub numbers : (limit end : ℕ) → limit < 2 ^ 64 → digit_of end ≡ None → Reads {X = ℕ} (λ n. n) (number_at limit end) (ended end) (λ n. n ≤ limit)
-numbers limit end small no_digit = record {
+-- a number, and the byte behind it
+pub leadings : (limit : ℕ) → limit < 2 ^ 64 → Reads {X = ℕ × ℕ} (λ p. p) (leading_at limit) (λ p. ended p.1 p.0) (λ p. (p.0 ≤ limit) × (p.1 < 48))
+leadings limit small = record {
   takes = λ bytes n rest e.
-      let t = number_takes limit end bytes n rest small e in
-      record { from = n; value = refl; parts = t.parts ∙ sym (append_assoc (decimal n) (end ∷ []) rest); fits = t.within };
-  again = λ n rest le. ap (number_at limit end) (append_assoc (decimal n) (end ∷ []) rest) ∙ number_again limit end n rest small no_digit le;
+      let t = number_takes limit bytes n.0 n.1 rest small e in
+      record { from = n; value = refl; parts = t.parts ∙ sym (append_assoc (decimal n.0) (n.1 ∷ []) rest); fits = (t.within, t.ends) };
+  again = λ n rest fits. ap (leading_at limit) (append_assoc (decimal n.0) (n.1 ∷ []) rest) ∙ number_again limit n.0 n.1 rest small fits.1 fits.0;
 }
+
+pub numbers : (limit end : ℕ) → limit < 2 ^ 64 → end < 48 → Reads {X = ℕ} (λ n. n) (number_at limit end) (ended end) (λ n. n ≤ limit)
+unfolding number_at
+numbers limit end small low = ending end decimal (λ n. n ≤ limit) low (leadings limit small)
 
 not_zero : (x y : ℕ × List ℕ) → cond (eqb x.0 0) None (Some x) ≡ Some y → (1 ≤ x.0) × (Some x ≡ Some y)
 not_zero x y e =
@@ -87,18 +111,18 @@ not_zero x y e =
 positive_test : (n : ℕ) → 1 ≤ n → eqb n 0 ≡ false
 positive_test n h = search (arith, tests)
 
-pub counts : (limit end : ℕ) → limit < 2 ^ 64 → digit_of end ≡ None → Reads {X = ℕ} (λ n. n) (count_at limit end) (ended end) (λ n. (1 ≤ n) × (n ≤ limit))
+pub counts : (limit end : ℕ) → limit < 2 ^ 64 → end < 48 → Reads {X = ℕ} (λ n. n) (count_at limit end) (ended end) (λ n. (1 ≤ n) × (n ≤ limit))
 unfolding count_at
-counts limit end small no_digit = record {
+counts limit end small low = record {
   takes = λ bytes n rest e.
       let a = bind_some (number_at limit end bytes) (λ n. cond (eqb n.0 0) None (Some n)) (n, rest) e in
       let g = not_zero a.0 (n, rest) a.2 in
       let same = some_pair_parts a.0.0 n a.0.1 rest g.1 in
-      let p = (numbers limit end small no_digit).takes bytes n rest (a.1 ∙ g.1) in
+      let p = (numbers limit end small low).takes bytes n rest (a.1 ∙ g.1) in
       record { from = p.from; value = p.value; parts = p.parts; fits = (omega (arith, g.0, same.0, p.value), p.fits) };
   again = λ n rest fits.
       let positive : eqb n 0 ≡ false = positive_test n fits.0 in
-      rw ((numbers limit end small no_digit).again n rest fits.1, positive) refl;
+      rw ((numbers limit end small low).again n rest fits.1, positive) refl;
 }
 
 -- ---- words

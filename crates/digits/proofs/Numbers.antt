@@ -1,10 +1,10 @@
 -- A number that is read is written so, and a number that is written so is read.
-use Rattle.std.proofs.Common.{◌≡◌, ℕ, ◌+◌, ◌*◌, ◌-◌, ◌/◌, ◌%◌, ◌^◌, ◌<◌, ◌≤◌, ◌⊎◌, ◌&&◌, Bool, true, false, cond, eqb, ltb, leb, List, [], ◌∷◌, ◌++◌, Option, Some, None, refl, sym, ap, ◌∙◌, append_assoc, arith, inl, inr}
+use Rattle.std.proofs.Common.{◌≡◌, ℕ, ◌+◌, ◌*◌, ◌-◌, ◌/◌, ◌%◌, ◌^◌, ◌<◌, ◌≤◌, ◌⊎◌, ◌&&◌, Bool, true, false, cond, ltb, leb, List, [], ◌∷◌, ◌++◌, Option, Some, None, refl, sym, ap, ◌∙◌, append_assoc, arith, tests, inl, inr}
 use Rattle.std.specs.Fmt.{decimal}
-use Rattle.std.proofs.lemmas.Bool.{and_parts, leb-true, ltb-true, eqb-true, le-leb}
+use Rattle.std.proofs.lemmas.Bool.{and_parts, leb-true, ltb-true, le-leb}
 use Rattle.std.proofs.lemmas.Option.{some_pair_parts}
 use Rattle.std.proofs.lemmas.Fmt.{decimal_step, decimal_digit, decimal_by_steps}
-use Rattle.digits.specs.Reading.{◌>>=◌, digit_of, with_digit, digits_at, number_at}
+use Rattle.digits.specs.Reading.{◌>>=◌, digit_of, with_digit, digits_at, leading_at}
 
 -- ---- cases
 
@@ -19,10 +19,6 @@ chosen false x y z e = inr (refl, e)
 pub chosen_some : {A : Type 0} (b : Bool) (x y : A) → cond b (Some x) None ≡ Some y → (b ≡ true) × (x ≡ y)
 chosen_some true x y e = (refl, cc)
 chosen_some false x y e = absurd cc
-
-not_true : (b : Bool) → (b ≡ true → ⊥) → b ≡ false
-not_true true h = absurd (h refl)
-not_true false h = refl
 
 -- ---- a digit
 
@@ -82,73 +78,65 @@ decimal_more limit n b k small m =
     let e : decimal k ≡ decimal (k / 10) ++ (48 + k % 10) ∷ [] = decimal_step k (omega (arith, m.value, m.positive)) (omega (arith, m.within)) in
     e ∙ ap (λ (n : ℕ). decimal n ++ (48 + k % 10) ∷ []) front ∙ ap (λ (c : ℕ). decimal n ++ c ∷ []) last
 
+-- the number m, and a byte that stands before the digits
 pub record IsNumber (limit end : ℕ) (bytes : List ℕ) (m : ℕ) (rest : List ℕ) : Type 0 where
   pub parts : bytes ≡ decimal m ++ end ∷ rest
   pub within : m ≤ limit
+  pub ends : end < 48
 
-digits_takes : (limit end n : ℕ) (bytes : List ℕ) (m : ℕ) (rest : List ℕ) → limit < 2 ^ 64 → n ≤ limit → digits_at limit end n bytes ≡ Some (m, rest) → IsNumber limit end (decimal n ++ bytes) m rest
+digits_takes : (limit n : ℕ) (bytes : List ℕ) (m end : ℕ) (rest : List ℕ) → limit < 2 ^ 64 → n ≤ limit → digits_at limit n bytes ≡ Some ((m, end), rest) → IsNumber limit end (decimal n ++ bytes) m rest
 unfolding digits_at
-digits_takes limit end n [] m rest small le e = absurd cc
-digits_takes limit end n (b ∷ bytes) m rest small le e =
-    elim (chosen (eqb b end) (Some (n, bytes)) (with_digit limit n b >>= λ k. digits_at limit end k bytes) (Some (m, rest)) e) [
+digits_takes limit n [] m end rest small le e = absurd cc
+digits_takes limit n (b ∷ bytes) m end rest small le e =
+    elim (chosen (ltb b 48) (Some ((n, b), bytes)) (with_digit limit n b >>= λ k. digits_at limit k bytes) (Some ((m, end), rest)) e) [
       | inl h ↦
-          let is_end : b ≡ end = eqb-true b end h.0 in
-          let same = some_pair_parts n m bytes rest h.1 in
-          let n-is : n ≡ m = same.0 in
+          let low : b < 48 = ltb-true b 48 h.0 in
+          let same = some_pair_parts (n, b) (m, end) bytes rest h.1 in
+          let n-is : n ≡ m = ap (λ (p : ℕ × ℕ). p.0) same.0 in
+          let is_end : b ≡ end = ap (λ (p : ℕ × ℕ). p.1) same.0 in
           let rest-is : bytes ≡ rest = same.1 in
-          record { parts = rw (is_end, n-is, rest-is) refl; within = omega arith }
+          record { parts = rw (is_end, n-is, rest-is) refl; within = omega arith; ends = omega arith }
       | inr h ↦
-          let k = bind_some (with_digit limit n b) (λ k. digits_at limit end k bytes) (m, rest) h.1 in
+          let k = bind_some (with_digit limit n b) (λ k. digits_at limit k bytes) ((m, end), rest) h.1 in
           let more = more_takes limit n b k.0 k.1 in
-          let after = digits_takes limit end k.0 bytes m rest small more.within k.2 in
+          let after = digits_takes limit k.0 bytes m end rest small more.within k.2 in
           let front : decimal n ++ b ∷ bytes ≡ decimal k.0 ++ bytes = rw (decimal_more limit n b k.0 small more, append_assoc) refl in
-          record { parts = front ∙ after.parts; within = after.within }
+          record { parts = front ∙ after.parts; within = after.within; ends = after.ends }
     ]
 
-pub number_takes : (limit end : ℕ) (bytes : List ℕ) (m : ℕ) (rest : List ℕ) → limit < 2 ^ 64 → number_at limit end bytes ≡ Some (m, rest) → IsNumber limit end bytes m rest
-unfolding number_at
-number_takes limit end [] m rest small e = absurd cc
-number_takes limit end (b ∷ bytes) m rest small e =
-    let d = bind_some (digit_of b) (λ d. cond (leb d limit) (digits_at limit end d bytes) None) (m, rest) e in
+pub number_takes : (limit : ℕ) (bytes : List ℕ) (m end : ℕ) (rest : List ℕ) → limit < 2 ^ 64 → leading_at limit bytes ≡ Some ((m, end), rest) → IsNumber limit end bytes m rest
+unfolding leading_at
+number_takes limit [] m end rest small e = absurd cc
+number_takes limit (b ∷ bytes) m end rest small e =
+    let d = bind_some (digit_of b) (λ d. cond (leb d limit) (digits_at limit d bytes) None) ((m, end), rest) e in
     let digit = digit_takes b d.0 d.1 in
-    elim (chosen (leb d.0 limit) (digits_at limit end d.0 bytes) None (Some (m, rest)) d.2) [
+    elim (chosen (leb d.0 limit) (digits_at limit d.0 bytes) None (Some ((m, end), rest)) d.2) [
       | inl h ↦
           let le : d.0 ≤ limit = leb-true _ _ h.0 in
           let front = digit_text b d.0 bytes digit in
-          let after = digits_takes limit end d.0 bytes m rest small le h.1 in
-          record { parts = front ∙ after.parts; within = after.within }
+          let after = digits_takes limit d.0 bytes m end rest small le h.1 in
+          record { parts = front ∙ after.parts; within = after.within; ends = after.ends }
       | inr h ↦ absurd cc
     ]
 
-not_end : (b d end : ℕ) → digit_of b ≡ Some d → digit_of end ≡ None → eqb b end ≡ false
-not_end b d end p q = not_true (eqb b end) (λ e. let same : b ≡ end = eqb-true b end e in let r : Some d ≡ None = sym p ∙ ap digit_of same ∙ q in absurd cc)
+abbrev ReadsOn : ℕ → ℕ → List ℕ → Type 0
+ReadsOn limit n text = n ≤ limit → (bytes : List ℕ) → leading_at limit (text ++ bytes) ≡ digits_at limit n bytes
 
-abbrev ReadsOn : ℕ → ℕ → ℕ → List ℕ → Type 0
-ReadsOn limit end n text = n ≤ limit → (bytes : List ℕ) → number_at limit end (text ++ bytes) ≡ digits_at limit end n bytes
-
-reads_on : (limit end : ℕ) → digit_of end ≡ None → (n : ℕ) → n < 2 ^ 64 → ReadsOn limit end n (decimal n)
-unfolding number_at digits_at
-reads_on limit end no_digit =
-    decimal_by_steps (ReadsOn limit end)
+reads_on : (limit n : ℕ) → n < 2 ^ 64 → ReadsOn limit n (decimal n)
+unfolding leading_at digits_at
+reads_on limit =
+    decimal_by_steps (ReadsOn limit)
     (λ n lt le bytes. let q : leb n limit ≡ true = le-leb n limit le in rw (digit_again n lt, q) refl)
     (λ n ds ge before le bytes.
-    let other : eqb (48 + n % 10) end ≡ false = not_end (48 + n % 10) (n % 10) end (digit_again (n % 10) (omega arith)) no_digit in
+    let other : ltb (48 + n % 10) 48 ≡ false = search (arith, tests) in
     let step : with_digit limit (n / 10) (48 + n % 10) ≡ Some n = more_again limit (n / 10) (n % 10) (omega arith) (omega arith) (omega arith) ∙ ap (λ (m : ℕ). Some m) (omega arith) in
-    ap (λ (t : List ℕ). number_at limit end t) (append_assoc ds ((48 + n % 10) ∷ []) bytes) ∙ before (omega arith) ((48 + n % 10) ∷ bytes) ∙ rw (other, step) refl)
+    ap (λ (t : List ℕ). leading_at limit t) (append_assoc ds ((48 + n % 10) ∷ []) bytes) ∙ before (omega arith) ((48 + n % 10) ∷ bytes) ∙ rw (other, step) refl)
 
-pub number_again : (limit end n : ℕ) (rest : List ℕ) → limit < 2 ^ 64 → digit_of end ≡ None → n ≤ limit → number_at limit end (decimal n ++ end ∷ rest) ≡ Some (n, rest)
+pub number_again : (limit n end : ℕ) (rest : List ℕ) → limit < 2 ^ 64 → end < 48 → n ≤ limit → leading_at limit (decimal n ++ end ∷ rest) ≡ Some ((n, end), rest)
 unfolding digits_at
-number_again limit end n rest small no_digit le =
-    reads_on limit end no_digit n (omega arith) le (end ∷ rest) ∙ rw same refl
-  where
-    same : eqb end end ≡ true
-    same = search arith
-
--- no number stands before another byte than the one that ends it
-pub number_stops : (limit end other n : ℕ) (rest : List ℕ) → limit < 2 ^ 64 → digit_of end ≡ None → digit_of other ≡ None → eqb other end ≡ false → n ≤ limit → number_at limit end (decimal n ++ other ∷ rest) ≡ None
-unfolding digits_at
-number_stops limit end other n rest small no_digit no_other apart le =
-    reads_on limit end no_digit n (omega arith) le (other ∷ rest) ∙ rw (apart, no_other) refl
+number_again limit n end rest small low le =
+    let same : ltb end 48 ≡ true = search (arith, tests) in
+    reads_on limit n (omega arith) le (end ∷ rest) ∙ rw same refl
 
 -- a number begins with a digit
 pub record BeginsWithDigit (text : List ℕ) : Type 0 where

@@ -28,18 +28,26 @@ with_digit limit n b = do
   d ← digit_of b
   if nat_lt 0 n && nat_le (n * 10 + d) limit then Some (n * 10 + d) else None
 
--- the digits that go on from the number n, up to the byte that ends it
-unfoldable pub digits_at : ℕ → ℕ → ℕ → List ℕ → Option (ℕ × List ℕ)
-digits_at limit end n [] = None
-digits_at limit end n (b ∷ bytes) =
-    if b == end then Some (n, bytes) else (with_digit limit n b >>= λ m. digits_at limit end m bytes)
+-- The digits that go on from the number n, and the byte behind them, one of those before `0`.
+unfoldable pub digits_at : ℕ → ℕ → List ℕ → Option ((ℕ × ℕ) × List ℕ)
+digits_at limit n [] = None
+digits_at limit n (b ∷ bytes) =
+    if nat_lt b 48 then Some ((n, b), bytes) else (with_digit limit n b >>= λ m. digits_at limit m bytes)
+
+-- a number of at most the limit, and the byte behind it
+unfoldable pub leading_at : ℕ → List ℕ → Option ((ℕ × ℕ) × List ℕ)
+leading_at limit [] = None
+leading_at limit (b ∷ bytes) = do
+  d ← digit_of b
+  if nat_le d limit then digits_at limit d bytes else None
+
+-- what is read with the byte behind it, where that is the one that ends it
+abbrev pub ended_by : {A : Type 0} → ℕ → Option ((A × ℕ) × List ℕ) → Option (A × List ℕ)
+ended_by end read = read >>= λ x. if x.0.1 == end then Some (x.0.0, x.1) else None
 
 -- a number of at most the limit, and the byte that ends it
 unfoldable pub number_at : ℕ → ℕ → List ℕ → Option (ℕ × List ℕ)
-number_at limit end [] = None
-number_at limit end (b ∷ bytes) = do
-  d ← digit_of b
-  if nat_le d limit then digits_at limit end d bytes else None
+number_at limit end bytes = ended_by end (leading_at limit bytes)
 
 -- a count from 1 on
 unfoldable pub count_at : ℕ → ℕ → List ℕ → Option (ℕ × List ℕ)

@@ -3,9 +3,13 @@
 #![tactic(auto)]
 
 ghost use Rattle.std.specs.Prelude.{◌≡◌, ◌≤◌, ◌<◌, ◌⊎◌, IfSome, OnSome};
-ghost use Rattle.digits.specs.Reading.{Gives, digit_of, with_digit, number_at, count_at};
+ghost use Rattle.digits.specs.Reading.{Gives, digit_of, with_digit, leading_at, number_at, count_at};
+
+/// Ten times a number below this, with a digit, fits.
+const NO_OVERFLOW: u64 = 1 << 60;
 
 /// What a byte says as a decimal digit.
+#[inline(always)]
 fn digit(byte: u8) -> Option<u64>
     ensures { result ≡ digit_of byte }
 {
@@ -15,41 +19,62 @@ fn digit(byte: u8) -> Option<u64>
     }
 }
 
-/// The value with one more digit behind it, where that is at most the limit. Behind a 0 there is none.
-fn with_more(limit: u64, value: u64, byte: u8) -> Option<u64>
-    ensures { result ≡ with_digit limit value byte }
+/// The number at the front of the bytes, if it is at most the limit, with the byte behind it, which is one
+/// of those before `0`; and the bytes behind that.
+#[inline(always)]
+#[tactic(auto, unfolding(crate::specs::Reading::leading_at, crate::specs::Reading::digits_at))]
+pub fn leading(bytes: &[u8], limit: u64) -> Option<((u64, u8), &[u8])>
+    ensures value { Gives (λ x. (x.0, x.1.now)) result (leading_at limit bytes.now) }
+    ensures within { IfSome result (λ x. x.0.0 ≤ limit) }
 {
-    let digit = digit(byte)?;
-    if value == 0 {
-        return None;
-    }
-    let more = value.checked_mul(10)?.checked_add(digit)?;
-    if more <= limit { Some(more) } else { None }
-}
-
-/// The number at the front of the bytes, if it is at most the limit, and the bytes behind the one that ends it.
-#[tactic(auto, unfolding(crate::specs::Reading::number_at, crate::specs::Reading::digits_at))]
-pub fn number(bytes: &[u8], limit: u64, end: u8) -> Option<(u64, &[u8])>
-    ensures value { Gives (λ x. (x.0, x.1.now)) result (number_at limit end bytes.now) }
-    ensures within { IfSome result (λ x. x.0 ≤ limit) }
-{
-    let [first, after @ ..] = bytes else {
+    let [first, rest @ ..] = bytes else {
         return None;
     };
     let mut value = digit(*first)?;
     if value > limit {
         return None;
     }
-    for (i, byte) in after.iter().enumerate() {
-        if *byte == end {
-            return Some((value, &after[i + 1..]));
+    let mut rest = rest;
+    while let [byte, after @ ..] = rest {
+        if *byte < b'0' {
+            return Some(((value, *byte), after));
         }
-        value = with_more(limit, value, *byte)?;
+        let digit = digit(*byte)?;
+        if value == 0 {
+            return None;
+        }
+        let more = if limit < NO_OVERFLOW {
+            value * 10 + digit
+        } else {
+            value.checked_mul(10)?.checked_add(digit)?
+        };
+        if more > limit {
+            return None;
+        }
+        value = more;
+        rest = after;
     }
     None
 }
 
+/// The number at the front of the bytes, if it is at most the limit and the byte behind it is the end; and
+/// the bytes behind that.
+#[inline(always)]
+#[tactic(auto, unfolding(crate::specs::Reading::number_at))]
+pub fn number(bytes: &[u8], limit: u64, end: u8) -> Option<(u64, &[u8])>
+    ensures value { Gives (λ x. (x.0, x.1.now)) result (number_at limit end bytes.now) }
+    ensures within { IfSome result (λ x. x.0 ≤ limit) }
+{
+    let ((value, behind), rest) = leading(bytes, limit)?;
+    if behind == end {
+        Some((value, rest))
+    } else {
+        None
+    }
+}
+
 /// A number from 1 on.
+#[inline(always)]
 #[tactic(auto, unfolding(crate::specs::Reading::count_at))]
 pub fn count(bytes: &[u8], limit: u64, end: u8) -> Option<(u64, &[u8])>
     ensures value { Gives (λ x. (x.0, x.1.now)) result (count_at limit end bytes.now) }

@@ -1,7 +1,6 @@
 -- A line that is read is that of its commit, and the line of a commit is read as it.
-use Rattle.std.proofs.Common.{◌≡◌, ◌⊎◌, ℕ, ◌+◌, ◌<◌, ◌≤◌, false, eqb, List, [], ◌∷◌, ◌++◌, length, get_or, codes, Option, Some, None, refl, sym, ap, ◌∙◌, append_assoc, arith, tests, inl, inr}
-use Rattle.std.specs.Fmt.{decimal}
-use Rattle.std.proofs.lemmas.Bool.{eqb-false}
+use Rattle.std.proofs.Common.{◌≡◌, ◌⊎◌, ℕ, ◌<◌, ◌≤◌, cond, eqb, List, [], ◌∷◌, ◌++◌, length, drop, get_or, codes, Some, None, refl, sym, ap, subst, ◌∙◌, append_assoc, arith, inl, inr}
+use Rattle.std.proofs.lemmas.Bool.{eqb-true}
 use Rattle.std.proofs.lemmas.Option.{some_pair_parts}
 use Rattle.words.specs.declared.NackName.{NackName}
 use Rattle.words.specs.declared.Row.{Row}
@@ -12,252 +11,253 @@ use Rattle.words.specs.declared.Message.TheVariants.{Empty, One, Two, Three}
 use Rattle.words.specs.declared.Cause.TheVariants as causes
 use Rattle.words.specs.declared.Commit.{Commit}
 use Rattle.words.specs.declared.Commit.TheVariants.{Pair, Alone}
-use Rattle.token.specs.Tokens.{is_word}
-use Rattle.digits.specs.Reading.{◌>>=◌, digit_of, number_at}
-use Rattle.digits.proofs.Numbers.{bind_some, number_stops, decimal_begins}
-use Rattle.digits.proofs.Forms.{Reads, both, made, ended, numbers, counts, worded, either, Either, choice, settled}
+use Rattle.digits.specs.Reading.{◌>>=◌, leading_at, ended_by, begins, after_word}
+use Rattle.digits.proofs.Numbers.{bind_some, chosen, chosen_some}
+use Rattle.digits.proofs.Forms.{Reads, both, made, ended, ending, leadings, numbers, counts, word_takes, worded, first_or_second, either, Either, choice, settled}
 use Rattle.script.specs.Names.{AreNames}
 use Rattle.journal_text.specs.Names.{Declared, naming}
 use Rattle.journal_text.specs.Texts.{place_text, nack_text, atom_text, message_text, commit_line}
 use Rattle.journal_text.specs.Journals.{HasPlace, HasNack, HasAtom, HasMessage, HasLine, IsStamp}
-use Rattle.journal_text.specs.Reading.{after_byte, named_at, row_at, place_at, nack_at, num_at, chan_at, cancel_at, atom_at, later_at, one_at, two_at, pair_at, three_at, none_at, atoms_at, closed_at, message_at, partner_at, told_at, meets_at, always_at, cancelled_at, deed_at, head_at, commit_of, line_at}
+use Rattle.journal_text.specs.Reading.{after_byte, named_at, row_at, place_at, nack_at, num_at, chan_at, cancel_at, atom_at, later_at, one_at, two_at, three_at, none_at, atoms_at, closed_at, message_at, partner_at, told_at, meets_at, always_at, cancelled_at, deed_at, head_at, commit_of, line_at}
 use Rattle.journal_text.specs.declared.line.Deed.{Deed}
 use Rattle.journal_text.specs.declared.line.Deed.TheVariants as deeds
-use Rattle.journal_text.proofs.Naming.{byte_takes, names_read, ended_name, named_stops, word_at}
+use Rattle.journal_text.proofs.Naming.{byte_takes, names_read, ended_name}
 
 module _ (d : Declared) (threads : AreNames d.threads) (channels : AreNames d.channels) where
   -- PLACES AND NACKS
 
-  thread_names : Reads {X = ℕ} (λ n. n) (named_at 46 d.threads) (ended_name d.threads 46) (λ n. n < length d.threads)
-  thread_names = names_read d.threads 46 threads refl
+  thread_names : Reads {X = ℕ} (λ n. n) (λ bytes. ended_by 46 (named_at d.threads bytes)) (ended_name d.threads 46) (λ n. n < length d.threads)
+  thread_names = ending 46 (λ n. get_or d.threads n []) (λ n. n < length d.threads) (omega arith) (names_read d.threads threads)
+
+  channel_names : Reads {X = ℕ} (λ n. n) (λ bytes. ended_by 32 (named_at d.channels bytes)) (ended_name d.channels 32) (λ n. n < length d.channels)
+  channel_names = ending 32 (λ n. get_or d.channels n []) (λ n. n < length d.channels) (omega arith) (names_read d.channels channels)
 
   rows : Reads {X = ℕ × ℕ} (λ p. record { thread = p.0; sync = p.1 }) (row_at d) (λ p. ended_name d.threads 46 p.0 ++ ended 46 p.1) (λ p. (p.0 < length d.threads) × (p.1 ≤ 1023))
   unfolding row_at
-  rows = both (λ thread sync. record { thread = thread; sync = sync }) thread_names (numbers 1023 46 (omega arith) refl)
+  rows = both (λ thread sync. record { thread = thread; sync = sync }) thread_names (numbers 1023 46 (omega arith) (omega arith))
 
   places_in_parts : Reads {X = (ℕ × ℕ) × ℕ} (λ p. (record { thread = p.0.0; sync = p.0.1 }, p.1)) (place_at d) (λ p. (ended_name d.threads 46 p.0.0 ++ ended 46 p.0.1) ++ ended 32 p.1) (λ p. ((p.0.0 < length d.threads) × (p.0.1 ≤ 1023)) × (p.1 ≤ 7))
   unfolding place_at
-  places_in_parts = both (λ row offer. (row, offer)) rows (numbers 7 32 (omega arith) refl)
+  places_in_parts = both (λ row offer. (row, offer)) rows (numbers 7 32 (omega arith) (omega arith))
 
   places : Reads {X = Row × ℕ} (λ p. p) (place_at d) (λ p. place_text (naming d) p ++ 32 ∷ []) (HasPlace d)
   places = settled (λ p. place_text (naming d) p ++ 32 ∷ []) (HasPlace d) places_in_parts (λ x fits. (simp append_assoc, (fits.0.0, fits.0.1, fits.1))) (λ p fits. (((p.0.thread, p.0.sync), p.1), refl, ((fits.0, fits.1), fits.2)))
 
-  nacks : (end : ℕ) → digit_of end ≡ None → Reads {X = NackName} (λ n. n) (nack_at d end) (λ n. nack_text (naming d) n ++ end ∷ []) (HasNack d)
+  -- a nack, and the byte behind it
+  nacks_in_parts : Reads {X = ℕ × (ℕ × ℕ)} (λ p. (record { thread = p.0; k = p.1.0 }, p.1.1)) (nack_at d) (λ p. ended_name d.threads 46 p.0 ++ ended p.1.1 p.1.0) (λ p. (p.0 < length d.threads) × ((p.1.0 ≤ 63) × (p.1.1 < 48)))
   unfolding nack_at
-  nacks end no_digit =
-      settled (λ n. nack_text (naming d) n ++ end ∷ []) (HasNack d) (both (λ thread k. record { thread = thread; k = k }) thread_names (numbers 63 end (omega arith) no_digit))
-      (λ x fits. (simp append_assoc, fits)) (λ n fits. ((n.thread, n.k), refl, fits))
+  nacks_in_parts = both (λ thread k. (record { thread = thread; k = k.0 }, k.1)) thread_names (leadings 63 (omega arith))
 
-  -- ATOMS
+  nacks : Reads {X = NackName × ℕ} (λ p. p) (nack_at d) (λ p. nack_text (naming d) p.0 ++ p.1 ∷ []) (λ p. HasNack d p.0 × (p.1 < 48))
+  nacks = settled (λ p. nack_text (naming d) p.0 ++ p.1 ∷ []) (λ p. HasNack d p.0 × (p.1 < 48)) nacks_in_parts (λ x fits. (simp append_assoc, ((fits.0, fits.1.0), fits.1.1))) (λ p fits. ((p.0.thread, (p.0.k, p.1)), refl, (fits.0.0, (fits.0.1, fits.1))))
 
-  nums : (end : ℕ) → digit_of end ≡ None → Reads {X = ℕ} (λ n. Num n) (num_at end) (ended end) (λ n. n ≤ 4294967295)
+  -- ATOMS, each with the byte behind it
+
+  nums : Reads {X = ℕ × ℕ} (λ p. (Num p.0, p.1)) num_at (λ p. ended p.1 p.0) (λ p. (p.0 ≤ 4294967295) × (p.1 < 48))
   unfolding num_at
-  nums end no_digit = made (λ n. Num n) (numbers 4294967295 end (omega arith) no_digit)
+  nums = made (λ p. (Num p.0, p.1)) (leadings 4294967295 (omega arith))
 
-  chans : (end : ℕ) → is_word end ≡ false → Reads {X = ℕ} (λ c. Chan c) (chan_at d end) (λ c. codes "#" ++ ended_name d.channels end c) (λ c. c < length d.channels)
+  chans : Reads {X = ℕ × ℕ} (λ p. (Chan p.0, p.1)) (chan_at d) (λ p. codes "#" ++ ended_name d.channels p.1 p.0) (λ p. (p.0 < length d.channels) × (p.1 < 48))
   unfolding chan_at
-  chans end no_word = worded (codes "#") (λ c. Chan c) (names_read d.channels end channels no_word)
+  chans = worded (codes "#") (λ p. (Chan p.0, p.1)) (names_read d.channels channels)
 
-  cancels : (end : ℕ) → digit_of end ≡ None → Reads {X = NackName} (λ n. Nack n) (cancel_at d end) (λ n. codes "!" ++ (nack_text (naming d) n ++ end ∷ [])) (HasNack d)
+  cancels : Reads {X = NackName × ℕ} (λ p. (Nack p.0, p.1)) (cancel_at d) (λ p. codes "!" ++ (nack_text (naming d) p.0 ++ p.1 ∷ [])) (λ p. HasNack d p.0 × (p.1 < 48))
   unfolding cancel_at
-  cancels end no_digit = worded (codes "!") (λ n. Nack n) (nacks end no_digit)
+  cancels = worded (codes "!") (λ p. (Nack p.0, p.1)) nacks
 
-  -- what ends an atom: no digit, and no byte of a name
-  record Ends (end : ℕ) : Type 0 where
-    no_digit : digit_of end ≡ None
-    no_word : is_word end ≡ false
-
-  kinds_apart : (end : ℕ) (z : NackName) (rest : List ℕ) → HasNack d z → chan_at d end ((codes "!" ++ (nack_text (naming d) z ++ end ∷ [])) ++ rest) ≡ None
+  kinds_apart : (z : NackName × ℕ) (rest : List ℕ) → HasNack d z.0 × (z.1 < 48) → chan_at d ((codes "!" ++ (nack_text (naming d) z.0 ++ z.1 ∷ [])) ++ rest) ≡ None
   unfolding chan_at
-  kinds_apart end z rest fits = refl
+  kinds_apart z rest fits = refl
 
-  number_apart : (end : ℕ) (z : ℕ ⊎ NackName) (rest : List ℕ) → Either (λ c. c < length d.channels) (HasNack d) z
-      → num_at end (either (λ c. codes "#" ++ ended_name d.channels end c) (λ n. codes "!" ++ (nack_text (naming d) n ++ end ∷ [])) z ++ rest) ≡ None
-  unfolding num_at number_at
-  number_apart end (inl c) rest fits = refl
-  number_apart end (inr n) rest fits = refl
+  abbrev Kinds : Type 0
+  Kinds = (ℕ × ℕ) ⊎ ((ℕ × ℕ) ⊎ (NackName × ℕ))
 
-  atoms_in_parts : (end : ℕ) → Ends end → Reads {X = ℕ ⊎ (ℕ ⊎ NackName)} (either (λ n. Num n) (either (λ c. Chan c) (λ n. Nack n))) (atom_at d end)
-      (either (ended end) (either (λ c. codes "#" ++ ended_name d.channels end c) (λ n. codes "!" ++ (nack_text (naming d) n ++ end ∷ [])))) (Either (λ n. n ≤ 4294967295) (Either (λ c. c < length d.channels) (HasNack d)))
+  abbrev kind_text : (ℕ × ℕ) ⊎ (NackName × ℕ) → List ℕ
+  kind_text z = either (λ p. codes "#" ++ ended_name d.channels p.1 p.0) (λ p. codes "!" ++ (nack_text (naming d) p.0 ++ p.1 ∷ [])) z
+
+  abbrev HasKind : (ℕ × ℕ) ⊎ (NackName × ℕ) → Type 0
+  HasKind z = Either (λ p. (p.0 < length d.channels) × (p.1 < 48)) (λ p. HasNack d p.0 × (p.1 < 48)) z
+
+  number_apart : (z : (ℕ × ℕ) ⊎ (NackName × ℕ)) (rest : List ℕ) → HasKind z → num_at (kind_text z ++ rest) ≡ None
+  unfolding num_at leading_at
+  number_apart (inl c) rest fits = refl
+  number_apart (inr n) rest fits = refl
+
+  abbrev atom_of : Kinds → Atom × ℕ
+  atom_of x = either (λ p. (Num p.0, p.1)) (either (λ p. (Chan p.0, p.1)) (λ p. (Nack p.0, p.1))) x
+
+  atoms_in_parts : Reads {X = Kinds} atom_of (atom_at d) (either (λ p. ended p.1 p.0) kind_text) (Either (λ p. (p.0 ≤ 4294967295) × (p.1 < 48)) HasKind)
   unfolding atom_at
-  atoms_in_parts end e = choice (nums end e.no_digit) (choice (chans end e.no_word) (cancels end e.no_digit) (kinds_apart end)) (number_apart end)
+  atoms_in_parts = choice nums (choice chans cancels kinds_apart) number_apart
 
-  atoms : (end : ℕ) → Ends end → Reads {X = Atom} (λ a. a) (atom_at d end) (λ a. atom_text (naming d) a ++ end ∷ []) (HasAtom d)
-  atoms end e = settled (λ a. atom_text (naming d) a ++ end ∷ []) (HasAtom d) (atoms_in_parts end e) there back
+  abbrev atom_ended : Atom × ℕ → List ℕ
+  atom_ended p = atom_text (naming d) p.0 ++ p.1 ∷ []
+
+  abbrev HasAtomEnded : Atom × ℕ → Type 0
+  HasAtomEnded p = HasAtom d p.0 × (p.1 < 48)
+
+  atoms : Reads {X = Atom × ℕ} (λ p. p) (atom_at d) atom_ended HasAtomEnded
+  atoms = settled atom_ended HasAtomEnded atoms_in_parts there back
     where
-      there : (x : ℕ ⊎ (ℕ ⊎ NackName)) → Either (λ n. n ≤ 4294967295) (Either (λ c. c < length d.channels) (HasNack d)) x
-          → (either (ended end) (either (λ c. codes "#" ++ ended_name d.channels end c) (λ n. codes "!" ++ (nack_text (naming d) n ++ end ∷ []))) x ≡ atom_text (naming d) (either (λ n. Num n) (either (λ c. Chan c) (λ n. Nack n)) x) ++ end ∷ [])
-          × HasAtom d (either (λ n. Num n) (either (λ c. Chan c) (λ n. Nack n)) x)
-      there (inl n) fits = (refl, fits)
-      there (inr (inl c)) fits = (refl, fits)
-      there (inr (inr n)) fits = (refl, fits)
+      there : (x : Kinds) → Either (λ p. (p.0 ≤ 4294967295) × (p.1 < 48)) HasKind x → (either (λ p. ended p.1 p.0) kind_text x ≡ atom_ended (atom_of x)) × HasAtomEnded (atom_of x)
+      there (inl p) fits = (refl, fits)
+      there (inr (inl p)) fits = (refl, fits)
+      there (inr (inr p)) fits = (refl, fits)
 
-      back : (a : Atom) → HasAtom d a → (x : ℕ ⊎ (ℕ ⊎ NackName)) × (either (λ n. Num n) (either (λ c. Chan c) (λ n. Nack n)) x ≡ a) × Either (λ n. n ≤ 4294967295) (Either (λ c. c < length d.channels) (HasNack d)) x
-      back (Num n) fits = (inl n, refl, fits)
-      back (Chan c) fits = (inr (inl c), refl, fits)
-      back (Nack n) fits = (inr (inr n), refl, fits)
-
-  -- no atom is found where another byte ends the one in front
-  no_chan : (end b : ℕ) (bytes : List ℕ) → eqb b 35 ≡ false → chan_at d end (b ∷ bytes) ≡ None
-  unfolding chan_at
-  no_chan end b bytes e = rw e refl
-
-  no_cancel : (end b : ℕ) (bytes : List ℕ) → eqb b 33 ≡ false → cancel_at d end (b ∷ bytes) ≡ None
-  unfolding cancel_at
-  no_cancel end b bytes e = rw e refl
-
-  atom_stops : (end other : ℕ) → Ends end → Ends other → eqb other end ≡ false → (a : Atom) (rest : List ℕ) → HasAtom d a → atom_at d end (atom_text (naming d) a ++ other ∷ rest) ≡ None
-  unfolding atom_at num_at chan_at cancel_at nack_at number_at
-  atom_stops end other e o apart (Num n) rest fits =
-      let t = decimal_begins n (omega (arith, fits)) in
-      let front : decimal n ++ other ∷ rest ≡ (48 + t.first) ∷ (t.others ++ other ∷ rest) = ap (λ (x : List ℕ). x ++ other ∷ rest) t.is in
-      let stop : number_at 4294967295 end (decimal n ++ other ∷ rest) ≡ None = number_stops 4294967295 end other n rest (omega arith) e.no_digit o.no_digit apart fits in
-      let hash : eqb (48 + t.first) 35 ≡ false = search (arith, tests) in
-      let mark : eqb (48 + t.first) 33 ≡ false = search (arith, tests) in
-      let c : chan_at d end (decimal n ++ other ∷ rest) ≡ None = ap (chan_at d end) front ∙ no_chan end (48 + t.first) (t.others ++ other ∷ rest) hash in
-      let k : cancel_at d end (decimal n ++ other ∷ rest) ≡ None = ap (cancel_at d end) front ∙ no_cancel end (48 + t.first) (t.others ++ other ∷ rest) mark in
-      rw (stop, c, k) refl
-  atom_stops end other e o apart (Chan c) rest fits =
-      let unlike : other ≡ end → ⊥ = eqb-false other end apart in
-      rw (named_stops end other 0 d.channels (get_or d.channels c []) rest e.no_word o.no_word unlike channels.0 (word_at d.channels c channels fits)) refl
-  atom_stops end other e o apart (Nack n) rest fits =
-      let thread = thread_names.again n.thread (decimal n.k ++ other ∷ rest) fits.0 in
-      let whole : nack_text (naming d) n ++ other ∷ rest ≡ ended_name d.threads 46 n.thread ++ (decimal n.k ++ other ∷ rest) = simp append_assoc in
-      let stop : number_at 63 end (decimal n.k ++ other ∷ rest) ≡ None = number_stops 63 end other n.k rest (omega arith) e.no_digit o.no_digit apart fits.1 in
-      let none : nack_at d end (nack_text (naming d) n ++ other ∷ rest) ≡ None = ap (nack_at d end) whole ∙ rw (thread, stop) refl in
-      ap (λ (x : Option (NackName × List ℕ)). x >>= λ n. Some (Nack n.0, n.1)) none
+      back : (p : Atom × ℕ) → HasAtomEnded p → (x : Kinds) × (atom_of x ≡ p) × Either (λ p. (p.0 ≤ 4294967295) × (p.1 < 48)) HasKind x
+      back (Num n, e) fits = (inl (n, e), refl, fits)
+      back (Chan c, e) fits = (inr (inl (c, e)), refl, fits)
+      back (Nack n, e) fits = (inr (inr (n, e)), refl, fits)
 
   -- MESSAGES
 
-  space : Ends 32
-  space = record { no_digit = refl; no_word = refl }
+  -- one more atom, which stands behind a comma and a space
+  record TakesLater (behind : ℕ) (bytes : List ℕ) (p : Atom × ℕ) (rest : List ℕ) : Type 0 where
+    comma : behind ≡ 44
+    parts : bytes ≡ codes " " ++ (atom_ended p ++ rest)
+    fits : HasAtomEnded p
 
-  comma : Ends 44
-  comma = record { no_digit = refl; no_word = refl }
-
-  close : Ends 41
-  close = record { no_digit = refl; no_word = refl }
-
-  later : (end : ℕ) → Ends end → Reads {X = Atom} (λ a. a) (later_at d end) (λ a. codes " " ++ (atom_text (naming d) a ++ end ∷ [])) (HasAtom d)
+  later_takes : (behind : ℕ) (bytes : List ℕ) (p : Atom × ℕ) (rest : List ℕ) → later_at d behind bytes ≡ Some (p, rest) → TakesLater behind bytes p rest
   unfolding later_at
-  later end e = worded (codes " ") (λ a. a) (atoms end e)
+  later_takes behind bytes p rest e =
+      elim (chosen (eqb behind 44) (after_word (codes " ") bytes >>= λ rest. atom_at d rest) None (Some (p, rest)) e) [
+        | inl h ↦
+            let a = bind_some (after_word (codes " ") bytes) (λ rest. atom_at d rest) (p, rest) h.1 in
+            let w = chosen_some (begins bytes (codes " ")) (drop 1 bytes) a.0 a.1 in
+            let t = atoms.takes a.0 p rest a.2 in
+            record {
+              comma = eqb-true behind 44 h.0;
+              parts = word_takes (codes " ") bytes w.0 ∙ ap (λ (x : List ℕ). codes " " ++ x) (w.1 ∙ t.parts ∙ ap (λ (q : Atom × ℕ). atom_ended q ++ rest) (sym t.value));
+              fits = subst HasAtomEnded (sym t.value) t.fits;
+            }
+        | inr h ↦ absurd cc
+      ]
 
-  one : Reads {X = Atom} (λ a. One a) (one_at d) (λ a. atom_text (naming d) a ++ 41 ∷ []) (HasAtom d)
-  unfolding one_at
-  one = made (λ a. One a) (atoms 41 close)
-
-  abbrev two_text : Atom × Atom → List ℕ
-  two_text p = (atom_text (naming d) p.0 ++ 44 ∷ []) ++ (codes " " ++ (atom_text (naming d) p.1 ++ 41 ∷ []))
-
-  two : Reads {X = Atom × Atom} (λ p. Two p.0 p.1) (two_at d) two_text (λ p. HasAtom d p.0 × HasAtom d p.1)
-  unfolding two_at
-  two = both (λ a b. Two a b) (atoms 44 comma) (later 41 close)
-
-  abbrev pair_text : Atom × Atom → List ℕ
-  pair_text p = (atom_text (naming d) p.0 ++ 44 ∷ []) ++ (codes " " ++ (atom_text (naming d) p.1 ++ 44 ∷ []))
-
-  pair : Reads {X = Atom × Atom} (λ p. (p.0, p.1)) (pair_at d) pair_text (λ p. HasAtom d p.0 × HasAtom d p.1)
-  unfolding pair_at
-  pair = both {Y = Atom × Atom} (λ a b. (a, b)) (atoms 44 comma) (later 44 comma)
-
-  abbrev three_text : (Atom × Atom) × Atom → List ℕ
-  three_text p = pair_text p.0 ++ (codes " " ++ (atom_text (naming d) p.1 ++ 41 ∷ []))
-
-  three : Reads {X = (Atom × Atom) × Atom} (λ p. Three p.0.0 p.0.1 p.1) (three_at d) three_text (λ p. (HasAtom d p.0.0 × HasAtom d p.0.1) × HasAtom d p.1)
-  unfolding three_at
-  three = both (λ p c. Three p.0 p.1 c) pair (later 41 close)
-
-  none : Reads {X = Unit {0}} (λ _. Empty) none_at (λ _. 41 ∷ []) (λ _. Unit {0})
-  unfolding none_at
-  none = record {
-    takes = λ bytes y rest e.
-        let a = bind_some (after_byte 41 bytes) (λ rest. Some (Empty, rest)) (y, rest) e in
-        let same = some_pair_parts Empty y a.0 rest a.2 in
-        record { from = tt; value = sym same.0; parts = byte_takes 41 bytes a.0 a.1 ∙ ap (λ (x : List ℕ). 41 ∷ x) same.1; fits = tt };
-    again = λ x rest fits. refl;
-  }
-
-  -- a list of another length is passed by
-  three_not_none : (z : Unit {0}) (rest : List ℕ) → Unit {0} → three_at d (41 ∷ [] ++ rest) ≡ None
-  unfolding three_at pair_at atom_at num_at chan_at cancel_at number_at
-  three_not_none z rest fits = refl
-
-  two_not_none : (rest : List ℕ) → two_at d (41 ∷ rest) ≡ None
-  unfolding two_at atom_at num_at chan_at cancel_at number_at
-  two_not_none rest = refl
-
-  one_not_none : (rest : List ℕ) → one_at d (41 ∷ rest) ≡ None
-  unfolding one_at atom_at num_at chan_at cancel_at number_at
-  one_not_none rest = refl
-
-  later_stops : (text : List ℕ) → atom_at d 41 text ≡ None → later_at d 41 (codes " " ++ text) ≡ None
+  later_again : (p : Atom × ℕ) (rest : List ℕ) → HasAtomEnded p → later_at d 44 (codes " " ++ (atom_ended p ++ rest)) ≡ Some (p, rest)
   unfolding later_at
-  later_stops text e = rw e refl
-
-  two_not_more : (z : ((Atom × Atom) × Atom) ⊎ Unit {0}) (rest : List ℕ) → Either (λ p. (HasAtom d p.0.0 × HasAtom d p.0.1) × HasAtom d p.1) (λ _. Unit {0}) z → two_at d (either three_text (λ _. 41 ∷ []) z ++ rest) ≡ None
-  unfolding two_at
-  two_not_more (inl p) rest fits =
-      let behind : List ℕ = codes " " ++ (atom_text (naming d) p.1 ++ 41 ∷ []) ++ rest in
-      let first = (atoms 44 comma).again p.0.0 (codes " " ++ (atom_text (naming d) p.0.1 ++ 44 ∷ behind)) fits.0.0 in
-      let stop = later_stops (atom_text (naming d) p.0.1 ++ 44 ∷ behind) (atom_stops 41 44 close comma refl p.0.1 behind fits.0.1) in
-      let whole : three_text p ++ rest ≡ (atom_text (naming d) p.0.0 ++ 44 ∷ []) ++ (codes " " ++ (atom_text (naming d) p.0.1 ++ 44 ∷ behind)) = simp append_assoc in
-      ap (two_at d) whole ∙ rw (first, stop) refl
-  two_not_more (inr z) rest fits = two_not_none rest
-
-  abbrev More : Type 0
-  More = (Atom × Atom) ⊎ (((Atom × Atom) × Atom) ⊎ Unit {0})
-
-  abbrev more_text : More → List ℕ
-  more_text z = either two_text (either three_text (λ _. 41 ∷ [])) z
-
-  abbrev HasMore : More → Type 0
-  HasMore z = Either (λ p. HasAtom d p.0 × HasAtom d p.1) (Either (λ p. (HasAtom d p.0.0 × HasAtom d p.0.1) × HasAtom d p.1) (λ _. Unit {0})) z
-
-  one_not_more : (z : More) (rest : List ℕ) → HasMore z → one_at d (more_text z ++ rest) ≡ None
-  unfolding one_at
-  one_not_more (inl p) rest fits =
-      let behind : List ℕ = (codes " " ++ (atom_text (naming d) p.1 ++ 41 ∷ [])) ++ rest in
-      let stop = atom_stops 41 44 close comma refl p.0 behind fits.0 in
-      let whole : two_text p ++ rest ≡ atom_text (naming d) p.0 ++ 44 ∷ behind = simp append_assoc in
-      ap (one_at d) whole ∙ rw stop refl
-  one_not_more (inr (inl p)) rest fits =
-      let behind : List ℕ = (codes " " ++ (atom_text (naming d) p.0.1 ++ 44 ∷ [])) ++ (codes " " ++ (atom_text (naming d) p.1 ++ 41 ∷ [])) ++ rest in
-      let stop = atom_stops 41 44 close comma refl p.0.0 behind fits.0.0 in
-      let whole : three_text p ++ rest ≡ atom_text (naming d) p.0.0 ++ 44 ∷ behind = simp append_assoc in
-      ap (one_at d) whole ∙ rw stop refl
-  one_not_more (inr (inr z)) rest fits = one_not_none rest
+  later_again p rest fits = atoms.again p rest fits
 
   -- the atoms and the parenthesis behind them
   abbrev inside_text : Message → List ℕ
   inside_text Empty = 41 ∷ []
   inside_text (One a) = atom_text (naming d) a ++ 41 ∷ []
-  inside_text (Two a b) = two_text (a, b)
-  inside_text (Three a b c) = three_text ((a, b), c)
+  inside_text (Two a b) = (atom_text (naming d) a ++ 44 ∷ []) ++ (codes " " ++ (atom_text (naming d) b ++ 41 ∷ []))
+  inside_text (Three a b c) = ((atom_text (naming d) a ++ 44 ∷ []) ++ (codes " " ++ (atom_text (naming d) b ++ 44 ∷ []))) ++ (codes " " ++ (atom_text (naming d) c ++ 41 ∷ []))
 
-  abbrev Parts : Type 0
-  Parts = Atom ⊎ More
+  close_low : 41 < 48
+  close_low = omega arith
 
-  abbrev parts_of : Parts → Message
-  parts_of x = either (λ a. One a) (either (λ p. Two p.0 p.1) (either (λ p. Three p.0.0 p.0.1 p.1) (λ _. Empty))) x
+  comma_low : 44 < 48
+  comma_low = omega arith
 
-  messages_in_parts : Reads {X = Parts} parts_of (atoms_at d) (either (λ a. atom_text (naming d) a ++ 41 ∷ []) more_text) (Either (HasAtom d) HasMore)
-  unfolding atoms_at
-  messages_in_parts = choice one (choice two (choice three none three_not_none) two_not_more) one_not_more
+  -- what was read of a message of which atoms had been read, whose text is the front
+  record TakesMore (front bytes : List ℕ) (had : Type 0) (m : Message) (rest : List ℕ) : Type 0 where
+    parts : front ++ bytes ≡ inside_text m ++ rest
+    fits : had → HasMessage d m
+
+  abbrev text_of : Atom → List ℕ
+  text_of a = atom_text (naming d) a
+
+  three_takes : (a b : Atom) (behind : ℕ) (bytes : List ℕ) (m : Message) (rest : List ℕ) → three_at d (a, b) behind bytes ≡ Some (m, rest)
+      → TakesMore ((text_of a ++ 44 ∷ []) ++ (codes " " ++ (text_of b ++ behind ∷ []))) bytes (HasAtom d a × HasAtom d b) m rest
+  unfolding three_at
+  three_takes a b behind bytes m rest e =
+      let c = bind_some (later_at d behind bytes) (λ c. cond (eqb c.0.1 41) (Some (Three a b c.0.0, c.1)) None) (m, rest) e in
+      let w = chosen_some (eqb c.0.0.1 41) (Three a b c.0.0.0, c.0.1) (m, rest) c.2 in
+      let t = later_takes behind bytes c.0.0 c.0.1 c.1 in
+      let value : Three a b c.0.0.0 ≡ m = ap (λ (x : Message × List ℕ). x.0) w.1 in
+      let after : c.0.1 ≡ rest = ap (λ (x : Message × List ℕ). x.1) w.1 in
+      let close : c.0.0.1 ≡ 41 = eqb-true c.0.0.1 41 w.0 in
+      let front : ℕ → List ℕ = λ e. (text_of a ++ 44 ∷ []) ++ (codes " " ++ (text_of b ++ e ∷ [])) in
+      let whole : front 44 ++ (codes " " ++ ((text_of c.0.0.0 ++ 41 ∷ []) ++ rest)) ≡ inside_text (Three a b c.0.0.0) ++ rest = simp append_assoc in
+      record {
+        parts =
+            ap (λ (e : ℕ). front e ++ bytes) t.comma ∙ ap (λ (s : List ℕ). front 44 ++ s) (t.parts ∙ ap (λ (e : ℕ). codes " " ++ ((text_of c.0.0.0 ++ e ∷ []) ++ c.0.1)) close ∙ ap (λ (s : List ℕ). codes " " ++ ((text_of c.0.0.0 ++ 41 ∷ []) ++ s)) after)
+            ∙ whole ∙ ap (λ (x : Message). inside_text x ++ rest) value;
+        fits = λ had. subst (HasMessage d) value (had, t.fits.0);
+      }
+
+  two_takes : (a : Atom) (behind : ℕ) (bytes : List ℕ) (m : Message) (rest : List ℕ) → two_at d a behind bytes ≡ Some (m, rest) → TakesMore (text_of a ++ behind ∷ []) bytes (HasAtom d a) m rest
+  unfolding two_at
+  two_takes a behind bytes m rest e =
+      let b = bind_some (later_at d behind bytes) (λ b. cond (eqb b.0.1 41) (Some (Two a b.0.0, b.1)) (three_at d (a, b.0.0) b.0.1 b.1)) (m, rest) e in
+      let t = later_takes behind bytes b.0.0 b.0.1 b.1 in
+      let front = ap (λ (e : ℕ). (text_of a ++ e ∷ []) ++ bytes) t.comma ∙ ap (λ (s : List ℕ). (text_of a ++ 44 ∷ []) ++ s) t.parts in
+      elim (chosen (eqb b.0.0.1 41) (Some (Two a b.0.0.0, b.0.1)) (three_at d (a, b.0.0.0) b.0.0.1 b.0.1) (Some (m, rest)) b.2) [
+        | inl h ↦
+            let same = some_pair_parts (Two a b.0.0.0) m b.0.1 rest h.1 in
+            let close : b.0.0.1 ≡ 41 = eqb-true b.0.0.1 41 h.0 in
+            let whole : (text_of a ++ 44 ∷ []) ++ (codes " " ++ ((text_of b.0.0.0 ++ 41 ∷ []) ++ rest)) ≡ inside_text (Two a b.0.0.0) ++ rest = simp append_assoc in
+            record {
+              parts =
+                  front ∙ ap (λ (e : ℕ). (text_of a ++ 44 ∷ []) ++ (codes " " ++ ((text_of b.0.0.0 ++ e ∷ []) ++ b.0.1))) close
+                  ∙ ap (λ (s : List ℕ). (text_of a ++ 44 ∷ []) ++ (codes " " ++ ((text_of b.0.0.0 ++ 41 ∷ []) ++ s))) same.1
+                  ∙ whole ∙ ap (λ (x : Message). inside_text x ++ rest) same.0;
+              fits = λ had. subst (HasMessage d) same.0 (had, t.fits.0);
+            }
+        | inr h ↦
+            let more = three_takes a b.0.0.0 b.0.0.1 b.0.1 m rest h.1 in
+            let whole : (text_of a ++ 44 ∷ []) ++ (codes " " ++ ((text_of b.0.0.0 ++ b.0.0.1 ∷ []) ++ b.0.1)) ≡ ((text_of a ++ 44 ∷ []) ++ (codes " " ++ (text_of b.0.0.0 ++ b.0.0.1 ∷ []))) ++ b.0.1 = simp append_assoc in
+            record { parts = front ∙ whole ∙ more.parts; fits = λ had. more.fits (had, t.fits.0) }
+      ]
+
+  one_takes : (bytes : List ℕ) (m : Message) (rest : List ℕ) → one_at d bytes ≡ Some (m, rest) → TakesMore [] bytes (Unit {0}) m rest
+  unfolding one_at
+  one_takes bytes m rest e =
+      let a = bind_some (atom_at d bytes) (λ a. cond (eqb a.0.1 41) (Some (One a.0.0, a.1)) (two_at d a.0.0 a.0.1 a.1)) (m, rest) e in
+      let t = atoms.takes bytes a.0.0 a.0.1 a.1 in
+      let front = t.parts ∙ ap (λ (p : Atom × ℕ). atom_ended p ++ a.0.1) (sym t.value) in
+      let has : HasAtom d a.0.0.0 = (subst HasAtomEnded (sym t.value) t.fits).0 in
+      elim (chosen (eqb a.0.0.1 41) (Some (One a.0.0.0, a.0.1)) (two_at d a.0.0.0 a.0.0.1 a.0.1) (Some (m, rest)) a.2) [
+        | inl h ↦
+            let same = some_pair_parts (One a.0.0.0) m a.0.1 rest h.1 in
+            let close : a.0.0.1 ≡ 41 = eqb-true a.0.0.1 41 h.0 in
+            record {
+              parts = front ∙ ap (λ (e : ℕ). (text_of a.0.0.0 ++ e ∷ []) ++ a.0.1) close ∙ ap (λ (s : List ℕ). (text_of a.0.0.0 ++ 41 ∷ []) ++ s) same.1 ∙ ap (λ (x : Message). inside_text x ++ rest) same.0;
+              fits = λ had. subst (HasMessage d) same.0 has;
+            }
+        | inr h ↦
+            let more = two_takes a.0.0.0 a.0.0.1 a.0.1 m rest h.1 in
+            record { parts = front ∙ more.parts; fits = λ had. more.fits has }
+      ]
+
+  none_takes : (bytes : List ℕ) (m : Message) (rest : List ℕ) → none_at bytes ≡ Some (m, rest) → TakesMore [] bytes (Unit {0}) m rest
+  unfolding none_at
+  none_takes bytes m rest e =
+      let a = bind_some (after_byte 41 bytes) (λ rest. Some (Empty, rest)) (m, rest) e in
+      let same = some_pair_parts Empty m a.0 rest a.2 in
+      record {
+        parts = byte_takes 41 bytes a.0 a.1 ∙ ap (λ (x : List ℕ). 41 ∷ x) same.1 ∙ ap (λ (x : Message). inside_text x ++ rest) same.0;
+        fits = λ had. subst (HasMessage d) same.0 tt;
+      }
+
+  nothing_read : (rest : List ℕ) → one_at d (41 ∷ rest) ≡ None
+  unfolding one_at atom_at num_at chan_at cancel_at leading_at
+  nothing_read rest = refl
+
+  inside_again : (m : Message) (rest : List ℕ) → HasMessage d m → atoms_at d (inside_text m ++ rest) ≡ Some (m, rest)
+  unfolding atoms_at one_at two_at three_at none_at
+  inside_again Empty rest fits = rw (nothing_read rest) refl
+  inside_again (One a) rest fits = rw (atoms.again (a, 41) rest (fits, close_low)) refl
+  inside_again (Two a b) rest fits =
+      let whole : inside_text (Two a b) ++ rest ≡ atom_ended (a, 44) ++ (codes " " ++ (atom_ended (b, 41) ++ rest)) = simp append_assoc in
+      ap (atoms_at d) whole ∙ rw (atoms.again (a, 44) (codes " " ++ (atom_ended (b, 41) ++ rest)) (fits.0, comma_low), later_again (b, 41) rest (fits.1, close_low)) refl
+  inside_again (Three a b c) rest fits =
+      let third : List ℕ = codes " " ++ (atom_ended (c, 41) ++ rest) in
+      let whole : inside_text (Three a b c) ++ rest ≡ atom_ended (a, 44) ++ (codes " " ++ (atom_ended (b, 44) ++ third)) = simp append_assoc in
+      ap (atoms_at d) whole
+      ∙ rw (atoms.again (a, 44) (codes " " ++ (atom_ended (b, 44) ++ third)) (fits.0.0, comma_low), later_again (b, 44) third (fits.0.1, comma_low), later_again (c, 41) rest (fits.1, close_low)) refl
 
   inside : Reads {X = Message} (λ m. m) (atoms_at d) inside_text (HasMessage d)
-  inside = settled inside_text (HasMessage d) messages_in_parts there back
-    where
-      there : (x : Parts) → Either (HasAtom d) HasMore x → (either (λ a. atom_text (naming d) a ++ 41 ∷ []) more_text x ≡ inside_text (parts_of x)) × HasMessage d (parts_of x)
-      there (inl a) fits = (refl, fits)
-      there (inr (inl p)) fits = (refl, fits)
-      there (inr (inr (inl p))) fits = (refl, fits)
-      there (inr (inr (inr z))) fits = (refl, tt)
-
-      back : (m : Message) → HasMessage d m → (x : Parts) × (parts_of x ≡ m) × Either (HasAtom d) HasMore x
-      back Empty fits = (inr (inr (inr tt)), refl, tt)
-      back (One a) fits = (inl a, refl, fits)
-      back (Two a b) fits = (inr (inl (a, b)), refl, fits)
-      back (Three a b c) fits = (inr (inr (inl ((a, b), c))), refl, fits)
+  unfolding atoms_at
+  inside = record {
+    takes = λ bytes m rest e.
+        elim (first_or_second (one_at d bytes) (none_at bytes) (m, rest) e) [
+          | inl h ↦ (let t = one_takes bytes m rest h in record { from = m; value = refl; parts = t.parts; fits = t.fits tt })
+          | inr h ↦ (let t = none_takes bytes m rest h in record { from = m; value = refl; parts = t.parts; fits = t.fits tt })
+        ];
+    again = inside_again;
+  }
 
   closed : Reads {X = Message} (λ m. m) (closed_at d) (λ m. inside_text m ++ 10 ∷ []) (HasMessage d)
   unfolding closed_at
@@ -291,7 +291,7 @@ module _ (d : Declared) (threads : AreNames d.threads) (channels : AreNames d.ch
 
   partners : Reads {X = (Row × ℕ) × ℕ} (λ p. (p.0, p.1)) (partner_at d) (λ p. (place_text (naming d) p.0 ++ 32 ∷ []) ++ ended_name d.channels 32 p.1) (λ p. HasPlace d p.0 × (p.1 < length d.channels))
   unfolding partner_at
-  partners = both {Y = (Row × ℕ) × ℕ} (λ receiver chan. (receiver, chan)) places (names_read d.channels 32 channels refl)
+  partners = both {Y = (Row × ℕ) × ℕ} (λ receiver chan. (receiver, chan)) places channel_names
 
   abbrev Meeting : Type 0
   Meeting = ((Row × ℕ) × ℕ) × Message
@@ -316,7 +316,7 @@ module _ (d : Declared) (threads : AreNames d.threads) (channels : AreNames d.ch
 
   cancelled : Reads {X = NackName} (λ n. deeds.Alone (causes.Nack n)) (cancelled_at d) (λ n. codes "cancelled " ++ (nack_text (naming d) n ++ 10 ∷ [])) (HasNack d)
   unfolding cancelled_at
-  cancelled = worded (codes "cancelled ") (λ n. deeds.Alone (causes.Nack n)) (nacks 10 refl)
+  cancelled = worded (codes "cancelled ") (λ n. deeds.Alone (causes.Nack n)) (ending 10 (nack_text (naming d)) (HasNack d) (omega arith) nacks)
 
   abbrev alone_text : Message ⊎ NackName → List ℕ
   alone_text z = either (λ m. codes "always " ++ (message_text (naming d) m ++ 10 ∷ [])) (λ n. codes "cancelled " ++ (nack_text (naming d) n ++ 10 ∷ [])) z
@@ -348,7 +348,7 @@ module _ (d : Declared) (threads : AreNames d.threads) (channels : AreNames d.ch
 
   heads : Reads {X = ℕ × (Row × ℕ)} (λ h. (h.0, h.1)) (head_at d) (λ h. ended 32 h.0 ++ (place_text (naming d) h.1 ++ 32 ∷ [])) (λ h. IsStamp h.0 × HasPlace d h.1)
   unfolding head_at
-  heads = both {Y = ℕ × (Row × ℕ)} (λ stamp place. (stamp, place)) (counts 4294967295 32 (omega arith) refl) places
+  heads = both {Y = ℕ × (Row × ℕ)} (λ stamp place. (stamp, place)) (counts 4294967295 32 (omega arith) (omega arith)) places
 
   abbrev Whole : Type 0
   Whole = (ℕ × (Row × ℕ)) × Done

@@ -1,16 +1,9 @@
--- Names are looked up one by one, as the loop does.
-use Rattle.std.proofs.Common.{◌≡◌, ℕ, zero, suc, ◌+◌, ◌<◌, List, [], ◌∷◌, ◌++◌, map, length, take, drop, get_or, Some, refl, sym, ap, ◌∙◌, arith}
+-- Names that are listed one by one.
+use Rattle.std.proofs.Common.{◌≡◌, ℕ, zero, suc, ◌+◌, List, [], ◌∷◌, ◌++◌, map, take, Some, refl, sym, ap, ◌∙◌, arith}
 use Rattle.std.specs.Prelude.{slice_get}
-use Rattle.std.proofs.lemmas.List.{drop_more, map-append}
-use Rattle.digits.specs.Reading.{◌>>=◌, or_else}
+use Rattle.std.proofs.lemmas.List.{map-append}
 use Rattle.phrase.specs.Places.{texts}
-use Rattle.journal_text.specs.Reading.{after_name, named_from}
 use denote.Ref.{Bor}
-
-pub named_step : (end n : ℕ) (names : List (Bor (List ℕ))) (bytes : List ℕ) (d : Bor (List ℕ)) → n < length names
-    → named_from end n (texts (drop n names)) bytes ≡ or_else (after_name end (get_or names n d).now bytes >>= λ rest. Some (n, rest)) (named_from end (n + 1) (texts (drop (n + 1) names)) bytes)
-unfolding named_from
-named_step end n names bytes d h = ap (λ (x : List (Bor (List ℕ))). named_from end n (texts x) bytes) (drop_more names n d h)
 
 take_more : (all : List (List ℕ)) (n : ℕ) (x : List ℕ) → Some x ≡ slice_get all n → take (suc n) all ≡ take n all ++ x ∷ []
 take_more [] n x e = absurd cc

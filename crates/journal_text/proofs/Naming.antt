@@ -1,17 +1,21 @@
 -- A name that is looked up stands in front, and a name that stands in front is found, where names are names
 -- and no two are the same.
-use Rattle.std.proofs.Common.{◌≡◌, ◌≢◌, ◌⊎◌, ℕ, zero, suc, ◌+◌, ◌<◌, true, false, eqb, List, [], ◌∷◌, ◌++◌, length, get_or, Option, Some, None, refl, sym, ap, ◌∙◌, append_assoc, arith, inl, inr}
-use Rattle.std.specs.List.{AllByRecursion, list_all}
-use Rattle.std.proofs.lemmas.Bool.{and_parts, eqb-true}
+use Rattle.std.proofs.Common.{◌≡◌, ℕ, suc, ◌+◌, ◌<◌, Bool, true, false, eqb, ltb, leb, List, [], ◌∷◌, ◌++◌, length, take, drop, get_or, Option, Some, None, refl, sym, ap, ◌∙◌, append_assoc, arith, tests, inl, inr}
+use Rattle.std.specs.List.{list_all}
+use Rattle.std.specs.Option.{option_map}
+use Rattle.std.specs.Str.{bytes_eq}
+use Rattle.std.proofs.lemmas.Bool.{and_parts, eqb-true, ltb-true}
+use Rattle.std.proofs.lemmas.List.{drop_more, take_more}
 use Rattle.std.proofs.lemmas.Option.{some_pair_parts}
+use Rattle.std.proofs.lemmas.Slice.Eq.{bytes_eq-Decides}
 use Rattle.token.specs.Tokens.{is_word, is_letter, is_name}
-use Rattle.digits.specs.Reading.{◌>>=◌, or_else, begins, after_word}
-use Rattle.digits.proofs.Numbers.{bind_some, chosen_some}
-use Rattle.digits.proofs.Forms.{first_or_second, Reads, word_takes, after_again}
-use Rattle.script.specs.Names.{AreDistinct, AreNames}
-use Rattle.journal_text.specs.Reading.{after_byte, after_name, named_from, named_at}
-
--- ONE NAME
+use Rattle.phrase.specs.Places.{place}
+use Rattle.digits.specs.Reading.{◌>>=◌}
+use Rattle.digits.proofs.Numbers.{bind_some, chosen, chosen_some}
+use Rattle.digits.proofs.Forms.{Reads}
+use Rattle.script.specs.Names.{AreNames}
+use Rattle.journal_text.specs.Reading.{after_byte, before_word, word_at, named_at}
+use Rattle.journal_text.proofs.Chains.{are_apart, at_place, place_apart}
 
 pub byte_takes : (end : ℕ) (bytes rest : List ℕ) → after_byte end bytes ≡ Some rest → bytes ≡ end ∷ rest
 byte_takes end [] rest e = absurd cc
@@ -20,115 +24,122 @@ byte_takes end (b ∷ bytes) rest e =
     let is : b ≡ end = eqb-true b end c.0 in
     ap (λ (x : ℕ). x ∷ bytes) is ∙ ap (λ (x : List ℕ). end ∷ x) c.1
 
-pub name_takes : (end : ℕ) (name bytes rest : List ℕ) → after_name end name bytes ≡ Some rest → bytes ≡ name ++ end ∷ rest
-name_takes end name bytes rest e =
-    let a = bind_some (after_word name bytes) (after_byte end) rest e in
-    let w = chosen_some (begins bytes name) _ a.0 a.1 in
-    word_takes name bytes w.0 ∙ ap (λ (x : List ℕ). name ++ x) (w.1 ∙ byte_takes end a.0 rest a.2)
+-- WORDS
 
-pub name_again : (end : ℕ) (name rest : List ℕ) → after_name end name (name ++ end ∷ rest) ≡ Some rest
-name_again end name rest = (let same : eqb end end ≡ true = search arith in rw (after_again name (end ∷ rest), same) refl)
+-- what stands in front up to the first byte before `0`, and that byte
+record IsInFront (bytes word : List ℕ) (behind : ℕ) (rest : List ℕ) : Type 0 where
+  parts : bytes ≡ word ++ behind ∷ rest
+  ends : behind < 48
 
-none_unless : {A : Type 0} (o : Option A) → ((x : A) → o ≡ Some x → ⊥) → o ≡ None
-none_unless None h = refl
-none_unless (Some x) h = absurd (h x refl)
-
-abbrev pub IsWord : List ℕ → Type 0
-IsWord w = list_all is_word w ≡ true
-
-pub name_is_word : (w : List ℕ) → is_name w ≡ true → IsWord w
-name_is_word w e = (and_parts (is_letter (get_or w 0 0)) (list_all is_word w) e).1
-
-heads : (a b : ℕ) (x y : List ℕ) → a ∷ x ≡ b ∷ y → (a ≡ b) × (x ≡ y)
-heads a b x y e = (ap (λ (l : List ℕ). get_or l 0 0) e, ap (λ (l : List ℕ). others l) e)
-  where
-    others : List ℕ → List ℕ
-    others [] = []
-    others (c ∷ cs) = cs
-
-clash : (a b : ℕ) → a ≡ b → is_word a ≡ true → is_word b ≡ false → ⊥
-clash a b e p q = (let met : true ≡ false = sym p ∙ ap is_word e ∙ q in absurd cc)
-
--- where two words end with bytes that stand in no word, the words are one, and so are the bytes
-same_word : (x w : List ℕ) (e f : ℕ) (r s : List ℕ) → IsWord x → IsWord w → is_word e ≡ false → is_word f ≡ false → w ++ f ∷ s ≡ x ++ e ∷ r → (w ≡ x) × (f ≡ e)
-same_word [] [] e f r s p q n m h = (refl, (heads f e s r h).0)
-same_word [] (b ∷ w) e f r s p q n m h = absurd (clash b e (heads b e (w ++ f ∷ s) r h).0 (and_parts (is_word b) (list_all is_word w) q).0 n)
-same_word (a ∷ x) [] e f r s p q n m h = absurd (clash a f (sym (heads f a s (x ++ e ∷ r) h).0) (and_parts (is_word a) (list_all is_word x) p).0 m)
-same_word (a ∷ x) (b ∷ w) e f r s p q n m h =
-    let g = heads b a (w ++ f ∷ s) (x ++ e ∷ r) h in
-    let t = same_word x w e f r s (and_parts (is_word a) (list_all is_word x) p).1 (and_parts (is_word b) (list_all is_word w) q).1 n m g.1 in
-    (ap (λ (y : ℕ). y ∷ w) g.0 ∙ ap (λ (y : List ℕ). a ∷ y) t.0, t.1)
-
--- another name, or another byte behind it, is passed by
-passed : (end other : ℕ) (x w rest : List ℕ) → IsWord x → IsWord w → is_word end ≡ false → is_word other ≡ false → ((w ≡ x) × (other ≡ end) → ⊥) → after_name end x (w ++ other ∷ rest) ≡ None
-passed end other x w rest p q n m apart =
-    none_unless (after_name end x (w ++ other ∷ rest)) (λ r e. apart (same_word x w end other r rest p q n m (name_takes end x (w ++ other ∷ rest) r e)))
-
--- ONE OF MANY
-
--- the name with the number k, behind i others
-record TakesName (end i : ℕ) (names : List (List ℕ)) (bytes : List ℕ) (n : ℕ) (rest : List ℕ) : Type 0 where
-  place : ℕ
-  count : n ≡ i + place
-  there : place < length names
-  parts : bytes ≡ get_or names place [] ++ end ∷ rest
-
-named_takes : (end i : ℕ) (names : List (List ℕ)) (bytes : List ℕ) (n : ℕ) (rest : List ℕ) → named_from end i names bytes ≡ Some (n, rest) → TakesName end i names bytes n rest
-unfolding named_from
-named_takes end i [] bytes n rest e = absurd cc
-named_takes end i (x ∷ names) bytes n rest e =
-    elim (first_or_second (after_name end x bytes >>= λ rest. Some (i, rest)) (named_from end (i + 1) names bytes) (n, rest) e) [
+word_takes : (bytes word : List ℕ) (behind : ℕ) (rest : List ℕ) → word_at bytes ≡ Some ((word, behind), rest) → IsInFront bytes word behind rest
+unfolding word_at
+word_takes [] word behind rest e = absurd cc
+word_takes (b ∷ bytes) word behind rest e =
+    elim (chosen (ltb b 48) (Some (([], b), bytes)) (before_word (b ∷ []) (word_at bytes)) (Some ((word, behind), rest)) e) [
       | inl h ↦
-          let a = bind_some (after_name end x bytes) (λ rest. Some (i, rest)) (n, rest) h in
-          let same = some_pair_parts i n a.0 rest a.2 in
-          record { place = 0; count = omega (arith, same.0); there = omega arith; parts = name_takes end x bytes a.0 a.1 ∙ ap (λ (y : List ℕ). x ++ end ∷ y) same.1 }
+          let same = some_pair_parts ([], b) (word, behind) bytes rest h.1 in
+          let none : [] ≡ word = ap (λ (p : List ℕ × ℕ). p.0) same.0 in
+          let is : b ≡ behind = ap (λ (p : List ℕ × ℕ). p.1) same.0 in
+          let after : bytes ≡ rest = same.1 in
+          let low : b < 48 = ltb-true b 48 h.0 in
+          record { parts = ap (λ (x : ℕ). x ∷ bytes) is ∙ ap (λ (x : List ℕ). behind ∷ x) after ∙ ap (λ (x : List ℕ). x ++ behind ∷ rest) none; ends = omega arith }
       | inr h ↦
-          let t = named_takes end (i + 1) names bytes n rest h in
-          record { place = suc t.place; count = omega (arith, t.count); there = omega (arith, t.there); parts = t.parts }
+          let w = bind_some (word_at bytes) (λ w. Some ((b ∷ w.0.0, w.0.1), w.1)) ((word, behind), rest) h.1 in
+          let t = word_takes bytes w.0.0.0 w.0.0.1 w.0.1 w.1 in
+          let same = some_pair_parts (b ∷ w.0.0.0, w.0.0.1) (word, behind) w.0.1 rest w.2 in
+          let front : b ∷ w.0.0.0 ≡ word = ap (λ (p : List ℕ × ℕ). p.0) same.0 in
+          let is : w.0.0.1 ≡ behind = ap (λ (p : List ℕ × ℕ). p.1) same.0 in
+          record {
+            parts = ap (λ (x : List ℕ). b ∷ x) t.parts ∙ ap (λ (x : ℕ). b ∷ w.0.0.0 ++ x ∷ w.0.1) is ∙ ap (λ (x : List ℕ). b ∷ w.0.0.0 ++ behind ∷ x) same.1 ∙ ap (λ (x : List ℕ). x ++ behind ∷ rest) front;
+            ends = omega (arith, t.ends, is);
+          }
     ]
 
--- what is so of each is so of the one with the number k
-at_place : (P : List ℕ → Type 0) (names : List (List ℕ)) (k : ℕ) → AllByRecursion P names → k < length names → P (get_or names k [])
-at_place P [] k h l = absurd (omega (arith, l))
-at_place P (x ∷ names) zero h l = h.0
-at_place P (x ∷ names) (suc k) h l = at_place P names k h.1 (omega (arith, l))
+word_byte : (b : ℕ) → is_word b ≡ true → ltb b 48 ≡ false
+word_byte b e = by_test (ltb b 48) refl
+  where
+    above : (n : ℕ) → b < n → leb n b ≡ false
+    above n h = search (arith, tests)
 
-abbrev AreWords : List (List ℕ) → Type 0
-AreWords names = AllByRecursion (λ w. is_name w ≡ true) names
+    by_test : (t : Bool) → ltb b 48 ≡ t → t ≡ false
+    by_test true h =
+        let low : b < 48 = ltb-true b 48 h in
+        let last : eqb b 95 ≡ false = search (arith, tests) in
+        let none : is_word b ≡ false = rw (above 97 (omega arith), above 65 (omega arith), above 48 low, last) refl in
+        let clash : true ≡ false = sym e ∙ none in absurd cc
+    by_test false h = refl
 
-named_again : (end i : ℕ) (names : List (List ℕ)) (k : ℕ) (rest : List ℕ) → is_word end ≡ false → AreWords names → AreDistinct names → k < length names
-    → named_from end i names (get_or names k [] ++ end ∷ rest) ≡ Some (i + k, rest)
-unfolding named_from
-named_again end i [] k rest n h d l = absurd (omega (arith, l))
-named_again end i (x ∷ names) zero rest n h d l = rw (name_again end x rest) (ap (λ (m : ℕ). Some (m, rest)) (omega arith))
-named_again end i (x ∷ names) (suc k) rest n h d l =
-    let less : k < length names = omega (arith, l) in
-    let w = get_or names k [] in
-    let other : x ≢ w = at_place (λ y. x ≢ y) names k d.0 less in
-    let word : IsWord w = name_is_word w (at_place (λ y. is_name y ≡ true) names k h.1 less) in
-    let by : after_name end x (w ++ end ∷ rest) ≡ None = passed end end x w rest (name_is_word x h.0) word n n (λ same. other (sym same.0)) in
-    rw by (named_again end (i + 1) names k rest n h.1 d.1 less ∙ ap (λ (m : ℕ). Some (m, rest)) (omega arith))
+word_again : (word : List ℕ) (behind : ℕ) (rest : List ℕ) → list_all is_word word ≡ true → behind < 48 → word_at (word ++ behind ∷ rest) ≡ Some ((word, behind), rest)
+unfolding word_at
+word_again [] behind rest h low = (let ends : ltb behind 48 ≡ true = search (arith, tests) in rw ends refl)
+word_again (b ∷ word) behind rest h low =
+    let p = and_parts (is_word b) (list_all is_word word) h in
+    rw (word_byte b p.0, word_again word behind rest p.1 low) refl
 
--- no name is found where another byte stands behind the one in front
-pub named_stops : (end other i : ℕ) (names : List (List ℕ)) (w rest : List ℕ) → is_word end ≡ false → is_word other ≡ false → (other ≡ end → ⊥) → AreWords names → IsWord w
-    → named_from end i names (w ++ other ∷ rest) ≡ None
-unfolding named_from
-named_stops end other i [] w rest n m apart h word = refl
-named_stops end other i (x ∷ names) w rest n m apart h word =
-    rw (passed end other x w rest (name_is_word x h.0) word n m (λ same. apart same.1)) (named_stops end other (i + 1) names w rest n m apart h.1 word)
+-- a word byte by byte, as the loop reads it
 
-pub word_at : (names : List (List ℕ)) (k : ℕ) → AreNames names → k < length names → IsWord (get_or names k [])
-word_at names k h l = name_is_word (get_or names k []) (at_place (λ y. is_name y ≡ true) names k h.0 l)
+pub before_nothing : (read : Option ((List ℕ × ℕ) × List ℕ)) → before_word [] read ≡ read
+before_nothing None = refl
+before_nothing (Some w) = refl
+
+before_both : (x y : List ℕ) (read : Option ((List ℕ × ℕ) × List ℕ)) → before_word x (before_word y read) ≡ before_word (x ++ y) read
+before_both x y None = refl
+before_both x y (Some w) = ap (λ (front : List ℕ). Some ((front, w.0.1), w.1)) (sym (append_assoc x y w.0.0))
+
+pub word_on : (bytes : List ℕ) (at : ℕ) → at < length bytes → ltb (get_or bytes at 0) 48 ≡ false → before_word (take at bytes) (word_at (drop at bytes)) ≡ before_word (take (at + 1) bytes) (word_at (drop (at + 1) bytes))
+unfolding word_at
+word_on bytes at h e =
+    let b = get_or bytes at 0 in
+    let step : word_at (b ∷ drop (at + 1) bytes) ≡ before_word (b ∷ []) (word_at (drop (at + 1) bytes)) = rw e refl in
+    ap (λ (rest : List ℕ). before_word (take at bytes) (word_at rest)) (drop_more bytes at 0 h) ∙ ap (before_word (take at bytes)) step ∙ before_both (take at bytes) (b ∷ []) (word_at (drop (at + 1) bytes))
+    ∙ ap (λ (front : List ℕ). before_word front (word_at (drop (at + 1) bytes))) (sym (take_more bytes at 0 h))
+
+-- NAMES
+
+record IsPlace (text : List ℕ) (names : List (List ℕ)) (n : ℕ) : Type 0 where
+  within : n < length names
+  is : text ≡ get_or names n []
+
+map_some : (o : Option ℕ) (n : ℕ) → option_map (λ k. k + 1) o ≡ Some n → (k : ℕ) × (o ≡ Some k) × (k + 1 ≡ n)
+map_some None n e = absurd cc
+map_some (Some k) n e = (k, refl, cc)
+
+place_takes : (text : List ℕ) (names : List (List ℕ)) (n : ℕ) → place text names ≡ Some n → IsPlace text names n
+place_takes text [] n e = absurd cc
+place_takes text (x ∷ names) n e =
+    elim (chosen (bytes_eq text x) (Some 0) (option_map (λ k. k + 1) (place text names)) (Some n) e) [
+      | inl h ↦
+          let zero-is : 0 ≡ n = cc (h.1) in
+          record { within = omega (arith, zero-is); is = (bytes_eq-Decides text x).0 h.0 ∙ ap (λ (k : ℕ). get_or (x ∷ names) k []) zero-is }
+      | inr h ↦
+          let k = map_some (place text names) n h.1 in
+          let t = place_takes text names k.0 k.1 in
+          let next : suc k.0 ≡ n = omega (arith, k.2) in
+          record { within = omega (arith, t.within, k.2); is = t.is ∙ ap (λ (m : ℕ). get_or (x ∷ names) m []) next }
+    ]
 
 -- a name and the byte that ends it
 abbrev pub ended_name : List (List ℕ) → ℕ → ℕ → List ℕ
 ended_name names end n = get_or names n [] ++ end ∷ []
 
-pub names_read : (names : List (List ℕ)) (end : ℕ) → AreNames names → is_word end ≡ false → Reads {X = ℕ} (λ n. n) (named_at end names) (ended_name names end) (λ n. n < length names)
-names_read names end h no_word = record {
-  takes = λ bytes n rest e.
-      let t = named_takes end 0 names bytes n rest e in
-      let is : n ≡ t.place = omega (arith, t.count) in
-      record { from = t.place; value = is; parts = t.parts ∙ sym (append_assoc (get_or names t.place []) (end ∷ []) rest); fits = t.there };
-  again = λ n rest fits. ap (named_at end names) (append_assoc (get_or names n []) (end ∷ []) rest) ∙ named_again end 0 names n rest no_word h.0 h.1 fits ∙ ap (λ (m : ℕ). Some (m, rest)) (omega arith);
+-- the number of a name, and the byte behind it
+pub names_read : (names : List (List ℕ)) → AreNames names → Reads {X = ℕ × ℕ} (λ p. p) (named_at names) (λ p. ended_name names p.1 p.0) (λ p. (p.0 < length names) × (p.1 < 48))
+unfolding named_at
+names_read names h = record {
+  takes = λ bytes p rest e.
+      let w = bind_some (word_at bytes) (λ word. place word.0.0 names >>= λ n. Some ((n, word.0.1), word.1)) (p, rest) e in
+      let n = bind_some (place w.0.0.0 names) (λ n. Some ((n, w.0.0.1), w.0.1)) (p, rest) w.2 in
+      let same = some_pair_parts (n.0, w.0.0.1) p w.0.1 rest n.2 in
+      let t = word_takes bytes w.0.0.0 w.0.0.1 w.0.1 w.1 in
+      let at = place_takes w.0.0.0 names n.0 n.1 in
+      record {
+        from = (n.0, w.0.0.1);
+        value = sym same.0;
+        parts = t.parts ∙ ap (λ (x : List ℕ). x ++ w.0.0.1 ∷ w.0.1) at.is ∙ ap (λ (x : List ℕ). get_or names n.0 [] ++ w.0.0.1 ∷ x) same.1 ∙ sym (append_assoc (get_or names n.0 []) (w.0.0.1 ∷ []) rest);
+        fits = (at.within, t.ends);
+      };
+  again = λ p rest fits.
+      let name = get_or names p.0 [] in
+      let word = (and_parts (is_letter (get_or name 0 0)) (list_all is_word name) (at_place (λ y. is_name y ≡ true) names p.0 h.0 fits.0)).1 in
+      ap (named_at names) (append_assoc name (p.1 ∷ []) rest) ∙ rw (word_again name p.1 rest word fits.1, place_apart names name p.0 (are_apart names h.1) fits.0 refl) refl;
 }

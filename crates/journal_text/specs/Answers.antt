@@ -1,11 +1,7 @@
 -- The names as the code holds them, and what a fault of reading says of the bytes.
-use Rattle.std.specs.Prelude.{ℕ, List, Option}
-use Rattle.std.specs.Option.{option_map}
-use denote.Ref.{Bor}
+use Rattle.std.specs.Prelude.{ℕ, List}
 use Rattle.phrase.specs.Places.{texts}
 use Rattle.script.specs.Sources.{Script}
-use Rattle.script.specs.Scripts.{script_of}
-use Rattle.script.specs.declared.script.Script.{Script as SeenScript}
 use Rattle.journal_text.specs.Names.{Declared}
 use Rattle.journal_text.specs.Journals.{IsFirstBadLine}
 use Rattle.journal_text.specs.declared.names.Names.{Names}
@@ -13,12 +9,8 @@ use Rattle.journal_text.specs.declared.JournalFault.{JournalFault}
 use Rattle.journal_text.specs.declared.JournalFault.TheVariants.{Memory, BadLine}
 
 abbrev pub listed : Names → Declared
-listed n = record { threads = texts n.threads.items; channels = texts n.channels.items }
+listed n = record { threads = texts n.threads.names.items; channels = texts n.channels.names.items }
 
 abbrev pub Explains : Script → List ℕ → JournalFault → Type 0
 Explains s bytes Memory = Unit {0}
 Explains s bytes (BadLine k) = IsFirstBadLine s bytes k
-
--- the script behind a reference to it
-abbrev pub source : Option (Bor SeenScript) → Option Script
-source o = option_map (λ s. script_of s.now) o

@@ -1,5 +1,5 @@
 -- How the threads and the channels of a text are named.
-use Rattle.std.specs.Prelude.{ℕ, List, [], map, get_or, Option, Some, None}
+use Rattle.std.specs.Prelude.{ℕ, ◌≤◌, List, [], map, length, get_or}
 use Rattle.std.specs.Fmt.{decimal}
 use Rattle.script.specs.Sources.{Script}
 
@@ -23,7 +23,6 @@ names_of s = record { threads = map (λ p. p.name) s.processes; channels = s.cha
 abbrev pub naming : Declared → Naming
 naming d = record { thread = λ t. get_or d.threads t []; channel = λ c. get_or d.channels c [] }
 
--- a script's names, or numbers where there is none
-abbrev pub naming_by : Option Script → Naming
-naming_by None = numbers
-naming_by (Some s) = naming (names_of s)
+-- none of the names is longer
+abbrev pub AreWithin : ℕ → List (List ℕ) → Type 0
+AreWithin longest names = (k : ℕ) → length (get_or names k []) ≤ longest

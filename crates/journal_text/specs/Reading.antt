@@ -1,6 +1,7 @@
 -- Reading from left to right: the commit whose line stands at the front of the bytes, and the bytes after it.
-use Rattle.std.specs.Prelude.{ℕ, ◌+◌, List, [], ◌∷◌, codes, Option, Some, None, ◌==◌, if◌then◌else◌}
-use Rattle.digits.specs.Reading.{◌>>=◌, or_else, number_at, count_at, after_word}
+use Rattle.std.specs.Prelude.{◌≡◌, ℕ, List, [], ◌∷◌, ◌++◌, codes, Option, Some, None, nat_lt, ◌==◌, if◌then◌else◌}
+use Rattle.digits.specs.Reading.{◌>>=◌, or_else, leading_at, ended_by, number_at, count_at, after_word}
+use Rattle.phrase.specs.Places.{place}
 use Rattle.words.specs.declared.NackName.{NackName}
 use Rattle.words.specs.declared.Row.{Row}
 use Rattle.words.specs.declared.Atom.{Atom}
@@ -18,6 +19,16 @@ use Rattle.journal_text.specs.declared.line.Deed.TheVariants.{Meets, Alone}
 abbrev pub Reads : Type 0 → Type 0
 Reads A = Option (A × List ℕ)
 
+-- What a function read, and what it left, are what reading gives.
+abbrev pub Leads : {X : Type 0} → Option X → List ℕ → Reads X → Type 0
+Leads None left read = read ≡ None
+Leads (Some x) left read = read ≡ Some (x, left)
+
+-- the same, where nothing is read but what is expected
+abbrev pub Passes : Option (Unit {0}) → List ℕ → Option (List ℕ) → Type 0
+Passes None left read = read ≡ None
+Passes (Some done) left read = read ≡ Some left
+
 -- NAMES
 
 -- the byte stands in front
@@ -25,24 +36,28 @@ abbrev pub after_byte : ℕ → List ℕ → Option (List ℕ)
 after_byte end [] = None
 after_byte end (b ∷ bytes) = if b == end then Some bytes else None
 
--- what stands behind the name and the byte that ends it
-abbrev pub after_name : ℕ → List ℕ → List ℕ → Option (List ℕ)
-after_name end name bytes = after_word name bytes >>= after_byte end
+-- more in front of a word
+abbrev pub before_word : List ℕ → Reads (List ℕ × ℕ) → Reads (List ℕ × ℕ)
+before_word front read = read >>= λ w. Some ((front ++ w.0.0, w.0.1), w.1)
 
--- the number of the first of these names that stands in front, where the first of them has the number i
-unfoldable pub named_from : ℕ → ℕ → List (List ℕ) → List ℕ → Reads ℕ
-named_from end i [] bytes = None
-named_from end i (name ∷ names) bytes = or_else (after_name end name bytes >>= λ rest. Some (i, rest)) (named_from end (i + 1) names bytes)
+-- what may be a name, and the byte behind it, the first of those before `0`
+unfoldable pub word_at : List ℕ → Reads (List ℕ × ℕ)
+word_at [] = None
+word_at (b ∷ bytes) = if nat_lt b 48 then Some (([], b), bytes) else before_word (b ∷ []) (word_at bytes)
 
-abbrev pub named_at : ℕ → List (List ℕ) → List ℕ → Reads ℕ
-named_at end names bytes = named_from end 0 names bytes
+-- the number of the name in front, and the byte behind it
+unfoldable pub named_at : List (List ℕ) → List ℕ → Reads (ℕ × ℕ)
+named_at names bytes = do
+  word ← word_at bytes
+  n ← place word.0.0 names
+  Some ((n, word.0.1), word.1)
 
 -- PLACES AND NACKS
 
 -- a thread's name and the number of its sync, each ended by a `.`
 unfoldable pub row_at : Declared → List ℕ → Reads Row
 row_at d bytes = do
-  thread ← named_at 46 d.threads bytes
+  thread ← ended_by 46 (named_at d.threads bytes)
   sync ← number_at 1023 46 thread.1
   Some (record { thread = thread.0; sync = sync.0 }, sync.1)
 
@@ -53,67 +68,52 @@ place_at d bytes = do
   offer ← number_at 7 32 row.1
   Some ((row.0, offer.0), offer.1)
 
-unfoldable pub nack_at : Declared → ℕ → List ℕ → Reads NackName
-nack_at d end bytes = do
-  thread ← named_at 46 d.threads bytes
-  k ← number_at 63 end thread.1
-  Some (record { thread = thread.0; k = k.0 }, k.1)
+-- a nack, and the byte behind it
+unfoldable pub nack_at : Declared → List ℕ → Reads (NackName × ℕ)
+nack_at d bytes = do
+  thread ← ended_by 46 (named_at d.threads bytes)
+  k ← leading_at 63 thread.1
+  Some ((record { thread = thread.0; k = k.0.0 }, k.0.1), k.1)
 
--- ATOMS AND MESSAGES
+-- ATOMS AND MESSAGES: an atom is read with the byte behind it
 
-unfoldable pub num_at : ℕ → List ℕ → Reads Atom
-num_at end bytes = number_at 4294967295 end bytes >>= λ n. Some (Num n.0, n.1)
+unfoldable pub num_at : List ℕ → Reads (Atom × ℕ)
+num_at bytes = leading_at 4294967295 bytes >>= λ n. Some ((Num n.0.0, n.0.1), n.1)
 
-unfoldable pub chan_at : Declared → ℕ → List ℕ → Reads Atom
-chan_at d end bytes = do
+unfoldable pub chan_at : Declared → List ℕ → Reads (Atom × ℕ)
+chan_at d bytes = do
   rest ← after_word (codes "#") bytes
-  c ← named_at end d.channels rest
-  Some (Chan c.0, c.1)
+  c ← named_at d.channels rest
+  Some ((Chan c.0.0, c.0.1), c.1)
 
-unfoldable pub cancel_at : Declared → ℕ → List ℕ → Reads Atom
-cancel_at d end bytes = do
+unfoldable pub cancel_at : Declared → List ℕ → Reads (Atom × ℕ)
+cancel_at d bytes = do
   rest ← after_word (codes "!") bytes
-  n ← nack_at d end rest
-  Some (Nack n.0, n.1)
+  n ← nack_at d rest
+  Some ((Nack n.0.0, n.0.1), n.1)
 
--- an atom, and the byte that ends it
-unfoldable pub atom_at : Declared → ℕ → List ℕ → Reads Atom
-atom_at d end bytes = or_else (num_at end bytes) (or_else (chan_at d end bytes) (cancel_at d end bytes))
+unfoldable pub atom_at : Declared → List ℕ → Reads (Atom × ℕ)
+atom_at d bytes = or_else (num_at bytes) (or_else (chan_at d bytes) (cancel_at d bytes))
 
--- an atom behind a space
-unfoldable pub later_at : Declared → ℕ → List ℕ → Reads Atom
-later_at d end bytes = do
-  rest ← after_word (codes " ") bytes
-  a ← atom_at d end rest
-  Some (a.0, a.1)
+-- one more atom, where a comma stood behind the one before it: behind a space
+unfoldable pub later_at : Declared → ℕ → List ℕ → Reads (Atom × ℕ)
+later_at d behind bytes = if behind == 44 then (after_word (codes " ") bytes >>= λ rest. atom_at d rest) else None
 
 -- one atom, or two or three with `, ` between them, up to the parenthesis
+unfoldable pub three_at : Declared → Atom × Atom → ℕ → List ℕ → Reads Message
+three_at d p behind bytes = later_at d behind bytes >>= λ c. if c.0.1 == 41 then Some (Three p.0 p.1 c.0.0, c.1) else None
+
+unfoldable pub two_at : Declared → Atom → ℕ → List ℕ → Reads Message
+two_at d a behind bytes = later_at d behind bytes >>= λ b. if b.0.1 == 41 then Some (Two a b.0.0, b.1) else three_at d (a, b.0.0) b.0.1 b.1
+
 unfoldable pub one_at : Declared → List ℕ → Reads Message
-one_at d bytes = atom_at d 41 bytes >>= λ a. Some (One a.0, a.1)
-
-unfoldable pub two_at : Declared → List ℕ → Reads Message
-two_at d bytes = do
-  a ← atom_at d 44 bytes
-  b ← later_at d 41 a.1
-  Some (Two a.0 b.0, b.1)
-
-unfoldable pub pair_at : Declared → List ℕ → Reads (Atom × Atom)
-pair_at d bytes = do
-  a ← atom_at d 44 bytes
-  b ← later_at d 44 a.1
-  Some ((a.0, b.0), b.1)
-
-unfoldable pub three_at : Declared → List ℕ → Reads Message
-three_at d bytes = do
-  p ← pair_at d bytes
-  c ← later_at d 41 p.1
-  Some (Three p.0.0 p.0.1 c.0, c.1)
+one_at d bytes = atom_at d bytes >>= λ a. if a.0.1 == 41 then Some (One a.0.0, a.1) else two_at d a.0.0 a.0.1 a.1
 
 unfoldable pub none_at : List ℕ → Reads Message
 none_at bytes = after_byte 41 bytes >>= λ rest. Some (Empty, rest)
 
 unfoldable pub atoms_at : Declared → List ℕ → Reads Message
-atoms_at d bytes = or_else (one_at d bytes) (or_else (two_at d bytes) (or_else (three_at d bytes) (none_at bytes)))
+atoms_at d bytes = or_else (one_at d bytes) (none_at bytes)
 
 -- a message behind its parenthesis, and the line's end
 unfoldable pub closed_at : Declared → List ℕ → Reads Message
@@ -135,7 +135,7 @@ message_at d bytes = do
 unfoldable pub partner_at : Declared → List ℕ → Reads ((Row × ℕ) × ℕ)
 partner_at d bytes = do
   receiver ← place_at d bytes
-  chan ← named_at 32 d.channels receiver.1
+  chan ← ended_by 32 (named_at d.channels receiver.1)
   Some ((receiver.0, chan.0), chan.1)
 
 unfoldable pub told_at : Declared → List ℕ → Reads Deed
@@ -159,7 +159,7 @@ always_at d bytes = do
 unfoldable pub cancelled_at : Declared → List ℕ → Reads Deed
 cancelled_at d bytes = do
   rest ← after_word (codes "cancelled ") bytes
-  n ← nack_at d 10 rest
+  n ← ended_by 10 (nack_at d rest)
   Some (Alone (causes.Nack n.0), n.1)
 
 -- what happened to the row, up to the line's end

@@ -6,27 +6,32 @@
 //!   first line that is not of the form (`journal_text_laws`).
 #![tactic(auto)]
 
-ghost use Rattle.std.specs.Prelude.{◌≡◌, ◌++◌, OnOk, IfOk, IfErr, map};
+ghost use Rattle.std.specs.Prelude.{◌≡◌, ◌+◌, ◌*◌, ◌≤◌, IfOk, IfErr, length, map};
 ghost use Rattle.std.specs.List.{AllByRecursion};
-ghost use Rattle.std.specs.String.{string_bytes};
 ghost use Rattle.journal_text.specs.Answers.{Explains};
 ghost use Rattle.journal_text.specs.Journals.{HasLine, Spells, SpellsOnlyOne, SpellsOrIsBad, HasOneFirstBadLine};
-ghost use Rattle.journal_text.specs.Names.{names_of, naming, numbers};
-ghost use Rattle.journal_text.specs.Texts.{atom_text, commits_text};
+ghost use Rattle.journal_text.specs.Labels.{naming_of, reach};
+ghost use Rattle.journal_text.specs.Names.{names_of, numbers};
+ghost use Rattle.journal_text.specs.Texts.{commits_text};
 ghost use Rattle.journal_text.specs.declared.JournalFault.TheVariants.{Memory};
 ghost use Rattle.script.specs.Scripts.{script_of};
 
+mod atom;
+mod labels;
 mod line;
+mod listing;
 mod names;
 mod writing;
 
-use crate::line::line;
+pub use crate::atom::push_atom;
+use crate::labels::Labels;
+use crate::line::Front;
 use crate::names::Names;
-use crate::writing::{put_atom, put_line};
+use crate::writing::{LINE_NAMES, LINE_ROOM, LONGEST_NUMBER, put_line};
 use script::Script;
 use std::alloc::{AllocError, AllocFailed, Global};
 use thiserror::Error;
-use words::{Atom, Commit};
+use words::Commit;
 
 /// Why a journal could not be read.
 #[derive(Debug, Drop, Error)]
@@ -54,6 +59,39 @@ impl From<AllocError> for JournalFault {
     }
 }
 
+/// Room for a line, with the labels or with numbers.
+fn line_room(alloc: Global, labels: Option<&Labels<'_>>) -> Result<Vec<u8>, AllocError>
+    ensures { IfOk result (λ line. 6 * reach labels.entry + 78 ≤ length line.items) }
+{
+    let longest = match labels {
+        Some(labels) => labels.longest,
+        None => LONGEST_NUMBER,
+    };
+    let name = vec![in alloc; 0u8; longest]?;
+    let mut line = vec![in alloc; 0u8; LINE_ROOM]?;
+    for _ in 0..LINE_NAMES {
+        line.extend_from_slice(&name)?;
+    }
+    Ok(line)
+}
+
+/// The lines of the commits in their order, with the labels, or with numbers where there are none.
+fn write_lines(
+    alloc: Global,
+    labels: Option<&Labels<'_>>,
+    commits: &[Commit],
+) -> Result<Vec<u8>, AllocError>
+    ensures { IfOk result (λ text. text.items ≡ commits_text (naming_of labels.entry) commits.now) }
+{
+    let mut line = line_room(alloc, labels)?;
+    let mut out = Vec::new(alloc);
+    for commit in commits {
+        let from = put_line(&mut line, labels, commit);
+        out.extend_from_slice(&line[from..])?;
+    }
+    Ok(out)
+}
+
 /// The text of the commits in their order, a line for each, with the names of the script. Each has to have
 /// a line: its threads and channels are declared, and its numbers are in range.
 pub fn write_journal(
@@ -64,18 +102,8 @@ pub fn write_journal(
     requires { AllByRecursion (HasLine (names_of (script_of script.now))) commits.now }
     ensures { IfOk result (λ text. Spells (script_of script.now) text.items commits.now) }
 {
-    let mut out = String::new(alloc);
-    for commit in commits {
-        put_line(&mut out, Some(script), commit)?;
-    }
-    Ok(out.into_bytes())
-}
-
-/// Appends the atom as it stands in a journal, with the names of the script.
-pub fn push_atom(out: &mut String, script: &Script, atom: Atom) -> Result<(), AllocError>
-    ensures { OnOk result (string_bytes out.new ≡ string_bytes out.old ++ atom_text (naming (names_of (script_of script.now))) atom) }
-{
-    put_atom(out, Some(script), atom)
+    let labels = Labels::new(alloc, script)?;
+    write_lines(alloc, Some(&labels), commits)
 }
 
 /// The text of the commits in their order, a line for each, with numbers for the names of threads and
@@ -83,11 +111,7 @@ pub fn push_atom(out: &mut String, script: &Script, atom: Atom) -> Result<(), Al
 pub fn write_numbered(alloc: Global, commits: &[Commit]) -> Result<Vec<u8>, AllocError>
     ensures { IfOk result (λ text. text.items ≡ commits_text numbers commits.now) }
 {
-    let mut out = String::new(alloc);
-    for commit in commits {
-        put_line(&mut out, None, commit)?;
-    }
-    Ok(out.into_bytes())
+    write_lines(alloc, None, commits)
 }
 
 /// The commits that the bytes spell in the names of the script. A fault names the first line that is not
@@ -102,13 +126,12 @@ pub fn read_journal(
 {
     let names = Names::new(alloc, script)?;
     let mut commits = Vec::new(alloc);
-    let mut rest = bytes;
-    while !rest.is_empty() {
-        let Some((commit, after)) = line(&names, rest) else {
+    let mut front = Front { bytes };
+    while !front.bytes.is_empty() {
+        let Some(commit) = front.line(&names) else {
             return Err(JournalFault::BadLine(commits.len() + 1));
         };
         commits.push(commit)?;
-        rest = after;
     }
     Ok(commits)
 }

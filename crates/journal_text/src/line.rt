@@ -1,13 +1,14 @@
 //! The line of a commit, read from the front of the bytes.
 
-ghost use Rattle.std.specs.Prelude.{◌≤◌, IfSome, length};
-ghost use Rattle.digits.specs.Reading.{Gives};
+ghost use Rattle.std.specs.Prelude.{◌≤◌, IfSome};
+ghost use Rattle.digits.specs.Reading.{Gives, ended_by, leading_at, number_at, count_at, after_word};
 ghost use Rattle.phrase.specs.Places.{texts};
 ghost use Rattle.journal_text.specs.Answers.{listed};
-ghost use Rattle.journal_text.specs.Reading.{after_byte, after_name, named_at, row_at, place_at, nack_at, num_at, chan_at, cancel_at, atom_at, later_at, one_at, two_at, pair_at, three_at, none_at, atoms_at, closed_at, message_at, partner_at, told_at, meets_at, always_at, cancelled_at, deed_at, head_at, line_at};
+ghost use Rattle.journal_text.specs.Reading.{Leads, Passes, after_byte, word_at, named_at, row_at, place_at, nack_at, num_at, chan_at, cancel_at, atom_at, later_at, one_at, two_at, three_at, none_at, atoms_at, closed_at, message_at, partner_at, told_at, meets_at, always_at, cancelled_at, deed_at, head_at, line_at};
 
+use crate::listing::{Listing, Word, next_hash};
 use crate::names::Names;
-use digits::{count, number};
+use digits::{count, leading, number};
 use words::{Atom, Cause, Commit, Message, NackName, Row};
 
 const LINE_END: u8 = b'\n';
@@ -22,292 +23,394 @@ pub(crate) enum Deed {
     Alone(Cause),
 }
 
-fn after_byte(end: u8, bytes: &[u8]) -> Option<&[u8]>
-    ensures { Gives (λ rest. rest.now) result (after_byte end bytes.now) }
+/// What may be a name, the byte behind it, the first of those before `0`, and the bytes behind that.
+#[inline(always)]
+#[tactic(auto, unfolding(crate::specs::Reading::word_at))]
+fn word(bytes: &[u8]) -> Option<((Word<'_>, u8), &[u8])>
+    ensures { Gives (λ x. ((x.0.0.text.now, x.0.1), x.1.now)) result (word_at bytes.now) }
 {
-    match bytes {
-        [first, rest @ ..] if *first == end => Some(rest),
-        _ => None,
-    }
-}
-
-fn after_name<'a>(end: u8, name: &str, bytes: &'a [u8]) -> Option<&'a [u8]>
-    ensures { Gives (λ rest. rest.now) result (after_name end name.now bytes.now) }
-{
-    let rest = bytes.strip_prefix(name.as_bytes())?;
-    after_byte(end, rest)
-}
-
-/// The number of the name that stands in front, and the bytes behind the one that ends it.
-#[tactic(auto, unfolding(crate::specs::Reading::named_from))]
-fn named<'a>(names: &[&str], end: u8, bytes: &'a [u8]) -> Option<(u8, &'a [u8])>
-    requires { length names.now ≤ 256 }
-    ensures { Gives (λ x. (x.0, x.1.now)) result (named_at end (texts names.now) bytes.now) }
-{
-    for (number, name) in names.iter().enumerate() {
-        if let Some(rest) = after_name(end, name, bytes) {
-            return Some((number as u8, rest));
+    let mut hash = 0;
+    for (at, byte) in bytes.iter().enumerate() {
+        if *byte < b'0' {
+            let word = Word {
+                text: &bytes[..at],
+                hash,
+            };
+            return Some(((word, *byte), &bytes[at + 1..]));
         }
+        hash = next_hash(hash, *byte);
     }
     None
 }
 
-#[tactic(auto, unfolding(crate::specs::Reading::row_at))]
-fn row<'a>(names: &Names<'_>, bytes: &'a [u8]) -> Option<(Row, &'a [u8])>
-    ensures { Gives (λ x. (x.0, x.1.now)) result (row_at (listed names.now) bytes.now) }
-{
-    let (thread, rest) = named(&names.threads, b'.', bytes)?;
-    let (sync, rest) = number(rest, 1023, b'.')?;
-    let row = Row {
-        thread,
-        sync: sync as u16,
-    };
-    Some((row, rest))
+/// The bytes that are left to be read. Each function reads what it names from their front, and leaves what
+/// stands behind it; where it fails, it may leave anything.
+#[derive(Drop)]
+pub(crate) struct Front<'a> {
+    pub(crate) bytes: &'a [u8],
 }
 
-#[tactic(auto, unfolding(crate::specs::Reading::place_at))]
-fn place<'a>(names: &Names<'_>, bytes: &'a [u8]) -> Option<((Row, u8), &'a [u8])>
-    ensures { Gives (λ x. (x.0, x.1.now)) result (place_at (listed names.now) bytes.now) }
-{
-    let (row, rest) = row(names, bytes)?;
-    let (offer, rest) = number(rest, 7, b' ')?;
-    Some(((row, offer as u8), rest))
-}
-
-#[tactic(auto, unfolding(crate::specs::Reading::nack_at))]
-fn nack<'a>(names: &Names<'_>, end: u8, bytes: &'a [u8]) -> Option<(NackName, &'a [u8])>
-    ensures { Gives (λ x. (x.0, x.1.now)) result (nack_at (listed names.now) end bytes.now) }
-{
-    let (thread, rest) = named(&names.threads, b'.', bytes)?;
-    let (k, rest) = number(rest, 63, end)?;
-    let nack = NackName { thread, k: k as u8 };
-    Some((nack, rest))
-}
-
-#[tactic(auto, unfolding(crate::specs::Reading::num_at))]
-fn num(end: u8, bytes: &[u8]) -> Option<(Atom, &[u8])>
-    ensures { Gives (λ x. (x.0, x.1.now)) result (num_at end bytes.now) }
-{
-    let (value, rest) = number(bytes, u64::from(u32::MAX), end)?;
-    Some((Atom::Num(value as u32), rest))
-}
-
-#[tactic(auto, unfolding(crate::specs::Reading::chan_at))]
-fn chan<'a>(names: &Names<'_>, end: u8, bytes: &'a [u8]) -> Option<(Atom, &'a [u8])>
-    ensures { Gives (λ x. (x.0, x.1.now)) result (chan_at (listed names.now) end bytes.now) }
-{
-    let rest = bytes.strip_prefix(b"#")?;
-    let (chan, rest) = named(&names.channels, end, rest)?;
-    Some((Atom::Chan(chan), rest))
-}
-
-#[tactic(auto, unfolding(crate::specs::Reading::cancel_at))]
-fn cancel<'a>(names: &Names<'_>, end: u8, bytes: &'a [u8]) -> Option<(Atom, &'a [u8])>
-    ensures { Gives (λ x. (x.0, x.1.now)) result (cancel_at (listed names.now) end bytes.now) }
-{
-    let rest = bytes.strip_prefix(b"!")?;
-    let (nack, rest) = nack(names, end, rest)?;
-    Some((Atom::Nack(nack), rest))
-}
-
-/// An atom, and the bytes behind the one that ends it.
-#[tactic(auto, unfolding(crate::specs::Reading::atom_at))]
-fn atom<'a>(names: &Names<'_>, end: u8, bytes: &'a [u8]) -> Option<(Atom, &'a [u8])>
-    ensures { Gives (λ x. (x.0, x.1.now)) result (atom_at (listed names.now) end bytes.now) }
-{
-    if let Some(found) = num(end, bytes) {
-        return Some(found);
+impl Front<'_> {
+    #[inline(always)]
+    fn byte(&mut self, byte: u8) -> Option<()>
+        ensures { Passes result self.new.bytes.now (after_byte byte self.old.bytes.now) }
+    {
+        match self.bytes {
+            [first, rest @ ..] if *first == byte => {
+                self.bytes = rest;
+                Some(())
+            }
+            _ => None,
+        }
     }
-    if let Some(found) = chan(names, end, bytes) {
-        return Some(found);
+
+    #[inline(always)]
+    fn text(&mut self, text: &[u8]) -> Option<()>
+        ensures { Passes result self.new.bytes.now (after_word text.now self.old.bytes.now) }
+    {
+        self.bytes = self.bytes.strip_prefix(text)?;
+        Some(())
     }
-    cancel(names, end, bytes)
-}
 
-/// An atom behind a space.
-#[tactic(auto, unfolding(crate::specs::Reading::later_at))]
-fn later<'a>(names: &Names<'_>, end: u8, bytes: &'a [u8]) -> Option<(Atom, &'a [u8])>
-    ensures { Gives (λ x. (x.0, x.1.now)) result (later_at (listed names.now) end bytes.now) }
-{
-    let rest = bytes.strip_prefix(b" ")?;
-    let (atom, rest) = atom(names, end, rest)?;
-    Some((atom, rest))
-}
-
-#[tactic(auto, unfolding(crate::specs::Reading::one_at))]
-fn one<'a>(names: &Names<'_>, bytes: &'a [u8]) -> Option<(Message, &'a [u8])>
-    ensures { Gives (λ x. (x.0, x.1.now)) result (one_at (listed names.now) bytes.now) }
-{
-    let (first, rest) = atom(names, b')', bytes)?;
-    Some((Message::One(first), rest))
-}
-
-#[tactic(auto, unfolding(crate::specs::Reading::two_at))]
-fn two<'a>(names: &Names<'_>, bytes: &'a [u8]) -> Option<(Message, &'a [u8])>
-    ensures { Gives (λ x. (x.0, x.1.now)) result (two_at (listed names.now) bytes.now) }
-{
-    let (first, rest) = atom(names, b',', bytes)?;
-    let (second, rest) = later(names, b')', rest)?;
-    Some((Message::Two(first, second), rest))
-}
-
-#[tactic(auto, unfolding(crate::specs::Reading::pair_at))]
-fn pair<'a>(names: &Names<'_>, bytes: &'a [u8]) -> Option<((Atom, Atom), &'a [u8])>
-    ensures { Gives (λ x. (x.0, x.1.now)) result (pair_at (listed names.now) bytes.now) }
-{
-    let (first, rest) = atom(names, b',', bytes)?;
-    let (second, rest) = later(names, b',', rest)?;
-    Some(((first, second), rest))
-}
-
-#[tactic(auto, unfolding(crate::specs::Reading::three_at))]
-fn three<'a>(names: &Names<'_>, bytes: &'a [u8]) -> Option<(Message, &'a [u8])>
-    ensures { Gives (λ x. (x.0, x.1.now)) result (three_at (listed names.now) bytes.now) }
-{
-    let ((first, second), rest) = pair(names, bytes)?;
-    let (third, rest) = later(names, b')', rest)?;
-    Some((Message::Three(first, second, third), rest))
-}
-
-#[tactic(auto, unfolding(crate::specs::Reading::none_at))]
-fn none(bytes: &[u8]) -> Option<(Message, &[u8])>
-    ensures { Gives (λ x. (x.0, x.1.now)) result (none_at bytes.now) }
-{
-    let rest = after_byte(b')', bytes)?;
-    Some((Message::Empty, rest))
-}
-
-/// The atoms of a message, up to the parenthesis.
-#[tactic(auto, unfolding(crate::specs::Reading::atoms_at))]
-fn atoms<'a>(names: &Names<'_>, bytes: &'a [u8]) -> Option<(Message, &'a [u8])>
-    ensures { Gives (λ x. (x.0, x.1.now)) result (atoms_at (listed names.now) bytes.now) }
-{
-    if let Some(found) = one(names, bytes) {
-        return Some(found);
+    /// A number, and the byte behind it.
+    #[inline(always)]
+    fn leading(&mut self, limit: u64) -> Option<(u64, u8)>
+        ensures value { Leads result self.new.bytes.now (leading_at limit self.old.bytes.now) }
+        ensures within { IfSome result (λ x. x.0 ≤ limit) }
+    {
+        let (found, rest) = leading(self.bytes, limit)?;
+        self.bytes = rest;
+        Some(found)
     }
-    if let Some(found) = two(names, bytes) {
-        return Some(found);
+
+    #[inline(never)]
+    fn number(&mut self, limit: u64, end: u8) -> Option<u64>
+        ensures value { Leads result self.new.bytes.now (number_at limit end self.old.bytes.now) }
+        ensures within { IfSome result (λ x. x ≤ limit) }
+    {
+        let (value, rest) = number(self.bytes, limit, end)?;
+        self.bytes = rest;
+        Some(value)
     }
-    if let Some(found) = three(names, bytes) {
-        return Some(found);
+
+    /// The number of an offer: one digit.
+    #[inline(always)]
+    fn offer(&mut self) -> Option<u64>
+        ensures value { Leads result self.new.bytes.now (number_at 7 32 self.old.bytes.now) }
+        ensures within { IfSome result (λ x. x ≤ 7) }
+    {
+        let (value, rest) = number(self.bytes, 7, b' ')?;
+        self.bytes = rest;
+        Some(value)
     }
-    none(bytes)
-}
 
-#[tactic(auto, unfolding(crate::specs::Reading::closed_at))]
-fn closed<'a>(names: &Names<'_>, bytes: &'a [u8]) -> Option<(Message, &'a [u8])>
-    ensures { Gives (λ x. (x.0, x.1.now)) result (closed_at (listed names.now) bytes.now) }
-{
-    let (message, rest) = atoms(names, bytes)?;
-    let rest = after_byte(LINE_END, rest)?;
-    Some((message, rest))
-}
-
-/// The rest of a line that a message ends.
-#[tactic(auto, unfolding(crate::specs::Reading::message_at))]
-fn message<'a>(names: &Names<'_>, bytes: &'a [u8]) -> Option<(Message, &'a [u8])>
-    ensures { Gives (λ x. (x.0, x.1.now)) result (message_at (listed names.now) bytes.now) }
-{
-    let rest = bytes.strip_prefix(b"(")?;
-    let (message, rest) = closed(names, rest)?;
-    Some((message, rest))
-}
-
-/// A receiver, and the channel.
-#[tactic(auto, unfolding(crate::specs::Reading::partner_at))]
-fn partner<'a>(names: &Names<'_>, bytes: &'a [u8]) -> Option<(((Row, u8), u8), &'a [u8])>
-    ensures { Gives (λ x. (x.0, x.1.now)) result (partner_at (listed names.now) bytes.now) }
-{
-    let (receiver, rest) = place(names, bytes)?;
-    let (chan, rest) = named(&names.channels, b' ', rest)?;
-    Some(((receiver, chan), rest))
-}
-
-#[tactic(auto, unfolding(crate::specs::Reading::told_at))]
-fn told<'a>(names: &Names<'_>, bytes: &'a [u8]) -> Option<(Deed, &'a [u8])>
-    ensures { Gives (λ x. (x.0, x.1.now)) result (told_at (listed names.now) bytes.now) }
-{
-    let ((receiver, chan), rest) = partner(names, bytes)?;
-    let (msg, rest) = message(names, rest)?;
-    let deed = Deed::Meets {
-        receiver,
-        chan,
-        msg,
-    };
-    Some((deed, rest))
-}
-
-#[tactic(auto, unfolding(crate::specs::Reading::meets_at))]
-fn meets<'a>(names: &Names<'_>, bytes: &'a [u8]) -> Option<(Deed, &'a [u8])>
-    ensures { Gives (λ x. (x.0, x.1.now)) result (meets_at (listed names.now) bytes.now) }
-{
-    let rest = bytes.strip_prefix(b"-> ")?;
-    let (deed, rest) = told(names, rest)?;
-    Some((deed, rest))
-}
-
-#[tactic(auto, unfolding(crate::specs::Reading::always_at))]
-fn always<'a>(names: &Names<'_>, bytes: &'a [u8]) -> Option<(Deed, &'a [u8])>
-    ensures { Gives (λ x. (x.0, x.1.now)) result (always_at (listed names.now) bytes.now) }
-{
-    let rest = bytes.strip_prefix(b"always ")?;
-    let (message, rest) = message(names, rest)?;
-    Some((Deed::Alone(Cause::Always(message)), rest))
-}
-
-#[tactic(auto, unfolding(crate::specs::Reading::cancelled_at))]
-fn cancelled<'a>(names: &Names<'_>, bytes: &'a [u8]) -> Option<(Deed, &'a [u8])>
-    ensures { Gives (λ x. (x.0, x.1.now)) result (cancelled_at (listed names.now) bytes.now) }
-{
-    let rest = bytes.strip_prefix(b"cancelled ")?;
-    let (nack, rest) = nack(names, LINE_END, rest)?;
-    Some((Deed::Alone(Cause::Nack(nack)), rest))
-}
-
-/// What the row did, up to the line's end.
-#[tactic(auto, unfolding(crate::specs::Reading::deed_at))]
-fn done<'a>(names: &Names<'_>, bytes: &'a [u8]) -> Option<(Deed, &'a [u8])>
-    ensures { Gives (λ x. (x.0, x.1.now)) result (deed_at (listed names.now) bytes.now) }
-{
-    if let Some(found) = meets(names, bytes) {
-        return Some(found);
+    #[inline(always)]
+    fn stamp(&mut self) -> Option<u64>
+        ensures value { Leads result self.new.bytes.now (count_at 4294967295 32 self.old.bytes.now) }
+        ensures within { IfSome result (λ x. x ≤ 4294967295) }
+    {
+        let (value, rest) = count(self.bytes, u64::from(u32::MAX), b' ')?;
+        self.bytes = rest;
+        Some(value)
     }
-    if let Some(found) = always(names, bytes) {
-        return Some(found);
+
+    /// The number of a name, and the byte behind it.
+    #[inline(always)]
+    #[tactic(auto, unfolding(crate::specs::Reading::named_at))]
+    fn named(&mut self, names: &Listing<'_>) -> Option<(u8, u8)>
+        ensures { Leads result self.new.bytes.now (named_at (texts names.now.names.items) self.old.bytes.now) }
+    {
+        let ((word, behind), rest) = word(self.bytes)?;
+        let number = names.number(word)?;
+        self.bytes = rest;
+        Some((number, behind))
     }
-    cancelled(names, bytes)
-}
 
-/// The stamp, and the row that is named first.
-#[tactic(auto, unfolding(crate::specs::Reading::head_at))]
-fn head<'a>(names: &Names<'_>, bytes: &'a [u8]) -> Option<((u32, (Row, u8)), &'a [u8])>
-    ensures { Gives (λ x. (x.0, x.1.now)) result (head_at (listed names.now) bytes.now) }
-{
-    let (stamp, rest) = count(bytes, u64::from(u32::MAX), b' ')?;
-    let (place, rest) = place(names, rest)?;
-    Some(((stamp as u32, place), rest))
-}
+    /// The number of a name, where the byte behind it is the end.
+    #[inline(always)]
+    fn name(&mut self, names: &Listing<'_>, end: u8) -> Option<u8>
+        ensures { Leads result self.new.bytes.now (ended_by end (named_at (texts names.now.names.items) self.old.bytes.now)) }
+    {
+        let (number, behind) = self.named(names)?;
+        if behind == end { Some(number) } else { None }
+    }
 
-/// The line of a commit, and the bytes behind it.
-#[tactic(auto, unfolding(crate::specs::Reading::line_at))]
-pub(crate) fn line<'a>(names: &Names<'_>, bytes: &'a [u8]) -> Option<(Commit, &'a [u8])>
-    ensures { Gives (λ x. (x.0, x.1.now)) result (line_at (listed names.now) bytes.now) }
-{
-    let ((stamp, at), rest) = head(names, bytes)?;
-    let (deed, rest) = done(names, rest)?;
-    let commit = match deed {
-        Deed::Meets {
+    #[inline(always)]
+    #[tactic(auto, unfolding(crate::specs::Reading::row_at))]
+    fn row(&mut self, names: &Names<'_>) -> Option<Row>
+        ensures { Leads result self.new.bytes.now (row_at (listed names.now) self.old.bytes.now) }
+    {
+        let thread = self.name(&names.threads, b'.')?;
+        let sync = self.number(1023, b'.')?;
+        Some(Row {
+            thread,
+            sync: sync as u16,
+        })
+    }
+
+    #[inline(always)]
+    #[tactic(auto, unfolding(crate::specs::Reading::place_at))]
+    fn place(&mut self, names: &Names<'_>) -> Option<(Row, u8)>
+        ensures { Leads result self.new.bytes.now (place_at (listed names.now) self.old.bytes.now) }
+    {
+        let row = self.row(names)?;
+        let offer = self.offer()?;
+        Some((row, offer as u8))
+    }
+
+    /// A nack, and the byte behind it.
+    #[tactic(auto, unfolding(crate::specs::Reading::nack_at))]
+    fn nack(&mut self, names: &Names<'_>) -> Option<(NackName, u8)>
+        ensures { Leads result self.new.bytes.now (nack_at (listed names.now) self.old.bytes.now) }
+    {
+        let thread = self.name(&names.threads, b'.')?;
+        let (k, behind) = self.leading(63)?;
+        let nack = NackName { thread, k: k as u8 };
+        Some((nack, behind))
+    }
+
+    #[inline(always)]
+    #[tactic(auto, unfolding(crate::specs::Reading::num_at))]
+    fn num(&mut self) -> Option<(Atom, u8)>
+        ensures { Leads result self.new.bytes.now (num_at self.old.bytes.now) }
+    {
+        let (value, behind) = self.leading(u64::from(u32::MAX))?;
+        Some((Atom::Num(value as u32), behind))
+    }
+
+    #[tactic(auto, unfolding(crate::specs::Reading::chan_at))]
+    fn chan(&mut self, names: &Names<'_>) -> Option<(Atom, u8)>
+        ensures { Leads result self.new.bytes.now (chan_at (listed names.now) self.old.bytes.now) }
+    {
+        self.text(b"#")?;
+        let (chan, behind) = self.named(&names.channels)?;
+        Some((Atom::Chan(chan), behind))
+    }
+
+    #[tactic(auto, unfolding(crate::specs::Reading::cancel_at))]
+    fn cancel(&mut self, names: &Names<'_>) -> Option<(Atom, u8)>
+        ensures { Leads result self.new.bytes.now (cancel_at (listed names.now) self.old.bytes.now) }
+    {
+        self.text(b"!")?;
+        let (nack, behind) = self.nack(names)?;
+        Some((Atom::Nack(nack), behind))
+    }
+
+    /// An atom, and the byte behind it.
+    #[inline(always)]
+    #[tactic(auto, unfolding(crate::specs::Reading::atom_at))]
+    fn atom(&mut self, names: &Names<'_>) -> Option<(Atom, u8)>
+        ensures { Leads result self.new.bytes.now (atom_at (listed names.now) self.old.bytes.now) }
+    {
+        let bytes = self.bytes;
+        if let Some(found) = self.num() {
+            return Some(found);
+        }
+        self.bytes = bytes;
+        if let Some(found) = self.chan(names) {
+            return Some(found);
+        }
+        self.bytes = bytes;
+        self.cancel(names)
+    }
+
+    /// One more atom, where a comma stood behind the one before it.
+    #[tactic(auto, unfolding(crate::specs::Reading::later_at))]
+    fn later(&mut self, names: &Names<'_>, behind: u8) -> Option<(Atom, u8)>
+        ensures { Leads result self.new.bytes.now (later_at (listed names.now) behind self.old.bytes.now) }
+    {
+        if behind != b',' {
+            return None;
+        }
+        self.text(b" ")?;
+        self.atom(names)
+    }
+
+    /// A message of which two atoms have been read, with the byte behind them.
+    #[tactic(auto, unfolding(crate::specs::Reading::three_at))]
+    fn three(&mut self, names: &Names<'_>, front: (Atom, Atom), behind: u8) -> Option<Message>
+        ensures { Leads result self.new.bytes.now (three_at (listed names.now) front behind self.old.bytes.now) }
+    {
+        let (third, behind) = self.later(names, behind)?;
+        if behind == b')' {
+            let (first, second) = front;
+            return Some(Message::Three(first, second, third));
+        }
+        None
+    }
+
+    /// A message of which one atom has been read, with the byte behind it.
+    #[tactic(auto, unfolding(crate::specs::Reading::two_at))]
+    fn two(&mut self, names: &Names<'_>, first: Atom, behind: u8) -> Option<Message>
+        ensures { Leads result self.new.bytes.now (two_at (listed names.now) first behind self.old.bytes.now) }
+    {
+        let (second, behind) = self.later(names, behind)?;
+        if behind == b')' {
+            return Some(Message::Two(first, second));
+        }
+        self.three(names, (first, second), behind)
+    }
+
+    #[inline(always)]
+    #[tactic(auto, unfolding(crate::specs::Reading::one_at))]
+    fn one(&mut self, names: &Names<'_>) -> Option<Message>
+        ensures { Leads result self.new.bytes.now (one_at (listed names.now) self.old.bytes.now) }
+    {
+        let (first, behind) = self.atom(names)?;
+        if behind == b')' {
+            return Some(Message::One(first));
+        }
+        self.two(names, first, behind)
+    }
+
+    #[inline(always)]
+    #[tactic(auto, unfolding(crate::specs::Reading::none_at))]
+    fn none(&mut self) -> Option<Message>
+        ensures { Leads result self.new.bytes.now (none_at self.old.bytes.now) }
+    {
+        self.byte(b')')?;
+        Some(Message::Empty)
+    }
+
+    /// The atoms of a message, up to the parenthesis.
+    #[inline(always)]
+    #[tactic(auto, unfolding(crate::specs::Reading::atoms_at))]
+    fn atoms(&mut self, names: &Names<'_>) -> Option<Message>
+        ensures { Leads result self.new.bytes.now (atoms_at (listed names.now) self.old.bytes.now) }
+    {
+        let bytes = self.bytes;
+        if let Some(found) = self.one(names) {
+            return Some(found);
+        }
+        self.bytes = bytes;
+        self.none()
+    }
+
+    #[inline(always)]
+    #[tactic(auto, unfolding(crate::specs::Reading::closed_at))]
+    fn closed(&mut self, names: &Names<'_>) -> Option<Message>
+        ensures { Leads result self.new.bytes.now (closed_at (listed names.now) self.old.bytes.now) }
+    {
+        let message = self.atoms(names)?;
+        self.byte(LINE_END)?;
+        Some(message)
+    }
+
+    /// The rest of a line that a message ends.
+    #[inline(always)]
+    #[tactic(auto, unfolding(crate::specs::Reading::message_at))]
+    fn message(&mut self, names: &Names<'_>) -> Option<Message>
+        ensures { Leads result self.new.bytes.now (message_at (listed names.now) self.old.bytes.now) }
+    {
+        self.text(b"(")?;
+        self.closed(names)
+    }
+
+    /// A receiver, and the channel.
+    #[inline(always)]
+    #[tactic(auto, unfolding(crate::specs::Reading::partner_at))]
+    fn partner(&mut self, names: &Names<'_>) -> Option<((Row, u8), u8)>
+        ensures { Leads result self.new.bytes.now (partner_at (listed names.now) self.old.bytes.now) }
+    {
+        let receiver = self.place(names)?;
+        let chan = self.name(&names.channels, b' ')?;
+        Some((receiver, chan))
+    }
+
+    #[inline(always)]
+    #[tactic(auto, unfolding(crate::specs::Reading::told_at))]
+    fn told(&mut self, names: &Names<'_>) -> Option<Deed>
+        ensures { Leads result self.new.bytes.now (told_at (listed names.now) self.old.bytes.now) }
+    {
+        let (receiver, chan) = self.partner(names)?;
+        let msg = self.message(names)?;
+        Some(Deed::Meets {
             receiver,
             chan,
             msg,
-        } => Commit::Pair {
-            sender: at,
-            receiver,
-            chan,
-            msg,
-            stamp,
-        },
-        Deed::Alone(cause) => Commit::Alone { at, cause, stamp },
-    };
-    Some((commit, rest))
+        })
+    }
+
+    #[inline(always)]
+    #[tactic(auto, unfolding(crate::specs::Reading::meets_at))]
+    fn meets(&mut self, names: &Names<'_>) -> Option<Deed>
+        ensures { Leads result self.new.bytes.now (meets_at (listed names.now) self.old.bytes.now) }
+    {
+        self.text(b"-> ")?;
+        self.told(names)
+    }
+
+    #[tactic(auto, unfolding(crate::specs::Reading::always_at))]
+    fn always(&mut self, names: &Names<'_>) -> Option<Deed>
+        ensures { Leads result self.new.bytes.now (always_at (listed names.now) self.old.bytes.now) }
+    {
+        self.text(b"always ")?;
+        let message = self.message(names)?;
+        Some(Deed::Alone(Cause::Always(message)))
+    }
+
+    #[tactic(auto, unfolding(crate::specs::Reading::cancelled_at))]
+    fn cancelled(&mut self, names: &Names<'_>) -> Option<Deed>
+        ensures { Leads result self.new.bytes.now (cancelled_at (listed names.now) self.old.bytes.now) }
+    {
+        self.text(b"cancelled ")?;
+        let (nack, behind) = self.nack(names)?;
+        if behind != LINE_END {
+            return None;
+        }
+        Some(Deed::Alone(Cause::Nack(nack)))
+    }
+
+    /// What the row did, up to the line's end.
+    #[inline(always)]
+    #[tactic(auto, unfolding(crate::specs::Reading::deed_at))]
+    fn deed(&mut self, names: &Names<'_>) -> Option<Deed>
+        ensures { Leads result self.new.bytes.now (deed_at (listed names.now) self.old.bytes.now) }
+    {
+        let bytes = self.bytes;
+        if let Some(found) = self.meets(names) {
+            return Some(found);
+        }
+        self.bytes = bytes;
+        if let Some(found) = self.always(names) {
+            return Some(found);
+        }
+        self.bytes = bytes;
+        self.cancelled(names)
+    }
+
+    /// The stamp, and the row that is named first.
+    #[inline(always)]
+    #[tactic(auto, unfolding(crate::specs::Reading::head_at))]
+    fn head(&mut self, names: &Names<'_>) -> Option<(u32, (Row, u8))>
+        ensures { Leads result self.new.bytes.now (head_at (listed names.now) self.old.bytes.now) }
+    {
+        let stamp = self.stamp()?;
+        let place = self.place(names)?;
+        Some((stamp as u32, place))
+    }
+
+    /// The line of a commit.
+    #[inline(always)]
+    #[tactic(auto, unfolding(crate::specs::Reading::line_at))]
+    pub(crate) fn line(&mut self, names: &Names<'_>) -> Option<Commit>
+        ensures { Leads result self.new.bytes.now (line_at (listed names.now) self.old.bytes.now) }
+    {
+        let (stamp, at) = self.head(names)?;
+        let commit = match self.deed(names)? {
+            Deed::Meets {
+                receiver,
+                chan,
+                msg,
+            } => Commit::Pair {
+                sender: at,
+                receiver,
+                chan,
+                msg,
+                stamp,
+            },
+            Deed::Alone(cause) => Commit::Alone { at, cause, stamp },
+        };
+        Some(commit)
+    }
 }

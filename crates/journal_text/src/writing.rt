@@ -1,118 +1,192 @@
-//! The line of a commit, written. A name that is not declared is left out.
+//! The line of a commit, written from its end to its front, so that a number's digits fall where they
+//! stand. A name that is not declared is left out.
+//!
+//! Each function writes what it names in front of the place at which it is told that the line begins, and
+//! returns where the line begins then.
 
-ghost use Rattle.std.specs.Prelude.{◌≡◌, ◌++◌, OnOk};
-ghost use Rattle.std.specs.String.{string_bytes};
-ghost use Rattle.journal_text.specs.Names.{naming_by};
+ghost use Rattle.std.specs.Prelude.{◌≡◌, ◌++◌, ◌∷◌, ◌+◌, ◌*◌, ◌≤◌, [], length, drop, codes};
+ghost use Rattle.std.specs.Fmt.{decimal};
+ghost use Rattle.journal_text.specs.Labels.{reach, naming_of};
 ghost use Rattle.journal_text.specs.Texts.{place_text, nack_text, atom_text, message_text, cause_text, commit_text, commit_line};
-ghost use Rattle.journal_text.specs.Answers.{source};
 
-use script::Script;
-use std::alloc::AllocError;
+use crate::labels::Labels;
+use itoa::write_digits;
 use words::{Atom, Cause, Commit, Message, NackName, Row};
 
-fn put_thread(out: &mut String, script: Option<&Script>, thread: u8) -> Result<(), AllocError>
-    ensures { OnOk result (string_bytes out.new ≡ string_bytes out.old ++ (naming_by (source script.entry)).thread thread) }
+/// How much of a line is at most no name.
+pub(crate) const LINE_ROOM: usize = 78;
+
+/// How long a number that stands for a name is at most.
+pub(crate) const LONGEST_NUMBER: usize = 5;
+
+/// How many names stand in a line at most.
+pub(crate) const LINE_NAMES: usize = 6;
+
+#[inline(always)]
+fn put_byte(line: &mut [u8], at: usize, byte: u8) -> usize
+    requires { (1 ≤ at) × (at ≤ length line.old) }
+    ensures text { drop result line.new ≡ byte ∷ drop at line.old }
+    ensures room { at ≡ result + 1 }
 {
-    match script {
-        Some(script) if usize::from(thread) < script.processes().len() => {
-            out.push_str(script.process_name(usize::from(thread)))
-        }
-        Some(_) => Ok(()),
-        None => write!(out, "{thread}"),
+    line[at - 1] = byte;
+    at - 1
+}
+
+#[inline(always)]
+fn put_text(line: &mut [u8], at: usize, text: &[u8]) -> usize
+    requires { (length text.now ≤ at) × (at ≤ length line.old) }
+    ensures text { drop result line.new ≡ text.now ++ drop at line.old }
+    ensures room { at ≡ result + length text.now }
+{
+    let from = at - text.len();
+    line[from..at].copy_from_slice(text);
+    from
+}
+
+#[inline(always)]
+fn put_small(line: &mut [u8], at: usize, number: u16) -> usize
+    requires { (5 ≤ at) × (at ≤ length line.old) }
+    ensures text { drop result line.new ≡ decimal number ++ drop at line.old }
+    ensures room { (result ≤ at) × (at ≤ result + 5) }
+{
+    write_digits(u64::from(number), line, at)
+}
+
+#[inline(always)]
+fn put_number(line: &mut [u8], at: usize, number: u32) -> usize
+    requires { (10 ≤ at) × (at ≤ length line.old) }
+    ensures text { drop result line.new ≡ decimal number ++ drop at line.old }
+    ensures room { (result ≤ at) × (at ≤ result + 10) }
+{
+    write_digits(u64::from(number), line, at)
+}
+
+#[inline(always)]
+fn put_thread(line: &mut [u8], at: usize, labels: Option<&Labels<'_>>, thread: u8) -> usize
+    requires { (reach labels ≤ at) × (at ≤ length line.old) }
+    ensures text { drop result line.new ≡ (naming_of labels.entry).thread thread ++ drop at line.old }
+    ensures room { (result ≤ at) × (at ≤ result + reach labels.entry) }
+{
+    match labels {
+        Some(labels) => match labels.threads.get(usize::from(thread)) {
+            Some(name) => put_text(line, at, name.as_bytes()),
+            None => at,
+        },
+        None => put_small(line, at, u16::from(thread)),
     }
 }
 
-fn put_channel(out: &mut String, script: Option<&Script>, chan: u8) -> Result<(), AllocError>
-    ensures { OnOk result (string_bytes out.new ≡ string_bytes out.old ++ (naming_by (source script.entry)).channel chan) }
+#[inline(always)]
+fn put_channel(line: &mut [u8], at: usize, labels: Option<&Labels<'_>>, chan: u8) -> usize
+    requires { (reach labels ≤ at) × (at ≤ length line.old) }
+    ensures text { drop result line.new ≡ (naming_of labels.entry).channel chan ++ drop at line.old }
+    ensures room { (result ≤ at) × (at ≤ result + reach labels.entry) }
 {
-    match script {
-        Some(script) if usize::from(chan) < script.channels() => {
-            out.push_str(script.channel_name(usize::from(chan)))
-        }
-        Some(_) => Ok(()),
-        None => write!(out, "{chan}"),
+    match labels {
+        Some(labels) => match labels.channels.get(usize::from(chan)) {
+            Some(name) => put_text(line, at, name.as_bytes()),
+            None => at,
+        },
+        None => put_small(line, at, u16::from(chan)),
     }
 }
 
-fn put_place(out: &mut String, script: Option<&Script>, place: (Row, u8)) -> Result<(), AllocError>
-    ensures { OnOk result (string_bytes out.new ≡ string_bytes out.old ++ place_text (naming_by (source script.entry)) place) }
+#[inline(always)]
+fn put_place(line: &mut [u8], at: usize, labels: Option<&Labels<'_>>, place: (Row, u8)) -> usize
+    requires { (reach labels + 12 ≤ at) × (at ≤ length line.old) }
+    ensures text { drop result line.new ≡ place_text (naming_of labels.entry) place ++ drop at line.old }
+    ensures room { (result ≤ at) × (at ≤ result + (reach labels.entry + 12)) }
 {
     let (row, offer) = place;
-    put_thread(out, script, row.thread)?;
-    write!(out, ".{}.{}", row.sync, offer)
+    let at = put_small(line, at, u16::from(offer));
+    let at = put_byte(line, at, b'.');
+    let at = put_small(line, at, row.sync);
+    let at = put_byte(line, at, b'.');
+    put_thread(line, at, labels, row.thread)
 }
 
-fn put_nack(out: &mut String, script: Option<&Script>, nack: NackName) -> Result<(), AllocError>
-    ensures { OnOk result (string_bytes out.new ≡ string_bytes out.old ++ nack_text (naming_by (source script.entry)) nack) }
+fn put_nack(line: &mut [u8], at: usize, labels: Option<&Labels<'_>>, nack: NackName) -> usize
+    requires { (reach labels + 6 ≤ at) × (at ≤ length line.old) }
+    ensures text { drop result line.new ≡ nack_text (naming_of labels.entry) nack ++ drop at line.old }
+    ensures room { (result ≤ at) × (at ≤ result + (reach labels.entry + 6)) }
 {
-    put_thread(out, script, nack.thread)?;
-    write!(out, ".{}", nack.k)
+    let at = put_small(line, at, u16::from(nack.k));
+    let at = put_byte(line, at, b'.');
+    put_thread(line, at, labels, nack.thread)
 }
 
-pub(crate) fn put_atom(
-    out: &mut String,
-    script: Option<&Script>,
-    atom: Atom,
-) -> Result<(), AllocError>
-    ensures { OnOk result (string_bytes out.new ≡ string_bytes out.old ++ atom_text (naming_by (source script.entry)) atom) }
+fn put_atom(line: &mut [u8], at: usize, labels: Option<&Labels<'_>>, atom: Atom) -> usize
+    requires { (reach labels + 10 ≤ at) × (at ≤ length line.old) }
+    ensures text { drop result line.new ≡ atom_text (naming_of labels.entry) atom ++ drop at line.old }
+    ensures room { (result ≤ at) × (at ≤ result + (reach labels.entry + 10)) }
 {
     match atom {
-        Atom::Num(number) => write!(out, "{number}"),
+        Atom::Num(number) => put_number(line, at, number),
         Atom::Chan(chan) => {
-            out.push_str("#")?;
-            put_channel(out, script, chan)
+            let at = put_channel(line, at, labels, chan);
+            put_byte(line, at, b'#')
         }
         Atom::Nack(nack) => {
-            out.push_str("!")?;
-            put_nack(out, script, nack)
+            let at = put_nack(line, at, labels, nack);
+            put_byte(line, at, b'!')
         }
     }
 }
 
-fn put_message(
-    out: &mut String,
-    script: Option<&Script>,
-    message: Message,
-) -> Result<(), AllocError>
-    ensures { OnOk result (string_bytes out.new ≡ string_bytes out.old ++ message_text (naming_by (source script.entry)) message) }
+/// An atom, and what stands between it and the next.
+fn put_earlier(line: &mut [u8], at: usize, labels: Option<&Labels<'_>>, atom: Atom) -> usize
+    requires { (reach labels + 12 ≤ at) × (at ≤ length line.old) }
+    ensures text { drop result line.new ≡ atom_text (naming_of labels.entry) atom ++ codes ", " ++ drop at line.old }
+    ensures room { (result ≤ at) × (at ≤ result + (reach labels.entry + 12)) }
 {
-    out.push_str("(")?;
-    match message {
-        Message::Empty => {}
-        Message::One(first) => put_atom(out, script, first)?,
+    let at = put_text(line, at, b", ");
+    put_atom(line, at, labels, atom)
+}
+
+#[inline(always)]
+fn put_message(line: &mut [u8], at: usize, labels: Option<&Labels<'_>>, message: Message) -> usize
+    requires { (3 * reach labels + 36 ≤ at) × (at ≤ length line.old) }
+    ensures text { drop result line.new ≡ message_text (naming_of labels.entry) message ++ drop at line.old }
+    ensures room { (result ≤ at) × (at ≤ result + (3 * reach labels.entry + 36)) }
+{
+    let at = put_byte(line, at, b')');
+    let at = match message {
+        Message::Empty => at,
+        Message::One(first) => put_atom(line, at, labels, first),
         Message::Two(first, second) => {
-            put_atom(out, script, first)?;
-            out.push_str(", ")?;
-            put_atom(out, script, second)?;
+            let at = put_atom(line, at, labels, second);
+            put_earlier(line, at, labels, first)
         }
         Message::Three(first, second, third) => {
-            put_atom(out, script, first)?;
-            out.push_str(", ")?;
-            put_atom(out, script, second)?;
-            out.push_str(", ")?;
-            put_atom(out, script, third)?;
+            let at = put_atom(line, at, labels, third);
+            let at = put_earlier(line, at, labels, second);
+            put_earlier(line, at, labels, first)
         }
-    }
-    out.push_str(")")
+    };
+    put_byte(line, at, b'(')
 }
 
-fn put_cause(out: &mut String, script: Option<&Script>, cause: Cause) -> Result<(), AllocError>
-    ensures { OnOk result (string_bytes out.new ≡ string_bytes out.old ++ cause_text (naming_by (source script.entry)) cause) }
+fn put_cause(line: &mut [u8], at: usize, labels: Option<&Labels<'_>>, cause: Cause) -> usize
+    requires { (3 * reach labels + 43 ≤ at) × (at ≤ length line.old) }
+    ensures text { drop result line.new ≡ cause_text (naming_of labels.entry) cause ++ drop at line.old }
+    ensures room { (result ≤ at) × (at ≤ result + (3 * reach labels.entry + 43)) }
 {
     match cause {
         Cause::Always(message) => {
-            out.push_str("always ")?;
-            put_message(out, script, message)
+            let at = put_message(line, at, labels, message);
+            put_text(line, at, b"always ")
         }
         Cause::Nack(nack) => {
-            out.push_str("cancelled ")?;
-            put_nack(out, script, nack)
+            let at = put_nack(line, at, labels, nack);
+            put_text(line, at, b"cancelled ")
         }
     }
 }
 
-fn put_commit(out: &mut String, script: Option<&Script>, commit: &Commit) -> Result<(), AllocError>
-    ensures { OnOk result (string_bytes out.new ≡ string_bytes out.old ++ commit_text (naming_by (source script.entry)) commit.now) }
+#[inline(always)]
+fn put_commit(line: &mut [u8], at: usize, labels: Option<&Labels<'_>>, commit: &Commit) -> usize
+    requires { (6 * reach labels + 77 ≤ at) × (at ≤ length line.old) }
+    ensures text { drop result line.new ≡ commit_text (naming_of labels.entry) commit.now ++ drop at line.old }
 {
     match *commit {
         Commit::Pair {
@@ -122,32 +196,36 @@ fn put_commit(out: &mut String, script: Option<&Script>, commit: &Commit) -> Res
             msg,
             stamp,
         } => {
-            write!(out, "{stamp} ")?;
-            put_place(out, script, sender)?;
-            out.push_str(" -> ")?;
-            put_place(out, script, receiver)?;
-            out.push_str(" ")?;
-            put_channel(out, script, chan)?;
-            out.push_str(" ")?;
-            put_message(out, script, msg)
+            let at = put_message(line, at, labels, msg);
+            let at = put_byte(line, at, b' ');
+            let at = put_channel(line, at, labels, chan);
+            let at = put_byte(line, at, b' ');
+            let at = put_place(line, at, labels, receiver);
+            let at = put_text(line, at, b" -> ");
+            let at = put_place(line, at, labels, sender);
+            let at = put_byte(line, at, b' ');
+            put_number(line, at, stamp)
         }
-        Commit::Alone { at, cause, stamp } => {
-            write!(out, "{stamp} ")?;
-            put_place(out, script, at)?;
-            out.push_str(" ")?;
-            put_cause(out, script, cause)
+        Commit::Alone {
+            at: row,
+            cause,
+            stamp,
+        } => {
+            let at = put_cause(line, at, labels, cause);
+            let at = put_byte(line, at, b' ');
+            let at = put_place(line, at, labels, row);
+            let at = put_byte(line, at, b' ');
+            put_number(line, at, stamp)
         }
     }
 }
 
-/// The line of a commit, with the names of the script, or with numbers where there is none.
-pub(crate) fn put_line(
-    out: &mut String,
-    script: Option<&Script>,
-    commit: &Commit,
-) -> Result<(), AllocError>
-    ensures { OnOk result (string_bytes out.new ≡ string_bytes out.old ++ commit_line (naming_by (source script.entry)) commit.now) }
+/// The line of a commit, which ends where the bytes do, with the labels, or with numbers where there are none.
+pub(crate) fn put_line(line: &mut [u8], labels: Option<&Labels<'_>>, commit: &Commit) -> usize
+    requires { 6 * reach labels + 78 ≤ length line.old }
+    ensures { drop result line.new ≡ commit_line (naming_of labels.entry) commit.now }
 {
-    put_commit(out, script, commit)?;
-    out.push_str("\n")
+    let at = line.len();
+    let at = put_byte(line, at, b'\n');
+    put_commit(line, at, labels, commit)
 }

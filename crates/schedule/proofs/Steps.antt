@@ -17,31 +17,31 @@ use Rattle.schedule.proofs.Forms.{rows, placed}
 -- ---- what each kind is done to
 
 alones : (step : Row → Step) → Reads {X = ℕ × ℕ} (λ p. step (record { thread = p.0; sync = p.1 })) (alone_at step) (λ p. ended 46 p.0 ++ ended 10 p.1) (λ p. (p.0 ≤ 63) × (p.1 ≤ 1023))
-alones step = made step (rows 10 refl)
+alones step = made step (rows 10 (omega arith))
 
 drafts : Reads {X = ((ℕ × ℕ) × ℕ) × ℕ} (λ p. Draft (record { thread = p.0.0.0; sync = p.0.0.1 }) p.0.1 p.1) draft_at (λ p. ((ended 46 p.0.0.0 ++ ended 32 p.0.0.1) ++ ended 32 p.0.1) ++ ended 10 p.1)
     (λ p. (((p.0.0.0 ≤ 63) × (p.0.0.1 ≤ 1023)) × (p.0.1 ≤ 33)) × (p.1 ≤ 18446744073709551615))
 unfolding draft_at
-drafts = both (λ to value. Draft to.0 to.1 value) (placed 33 32 (omega arith) refl) (numbers 18446744073709551615 10 (omega arith) refl)
+drafts = both (λ to value. Draft to.0 to.1 value) (placed 33 32 (omega arith) (omega arith)) (numbers 18446744073709551615 10 (omega arith) (omega arith))
 
 reads : Reads {X = (ℕ × ℕ) × ℕ} (λ p. Read (record { thread = p.0.0; sync = p.0.1 }) p.1) read_at (λ p. (ended 46 p.0.0 ++ ended 32 p.0.1) ++ ended 10 p.1) (λ p. ((p.0.0 ≤ 63) × (p.0.1 ≤ 1023)) × (p.1 ≤ 33))
 unfolding read_at
-reads = made (λ from. Read from.0 from.1) (placed 33 10 (omega arith) refl)
+reads = made (λ from. Read from.0 from.1) (placed 33 10 (omega arith) (omega arith))
 
 joins : Reads {X = ((ℕ × ℕ) × ℕ) × ((ℕ × ℕ) × ℕ)} (λ p. Join (record { thread = p.0.0.0; sync = p.0.0.1 }) p.0.1 (record { thread = p.1.0.0; sync = p.1.0.1 }) p.1.1) join_at
     (λ p. ((ended 46 p.0.0.0 ++ ended 32 p.0.0.1) ++ ended 32 p.0.1) ++ ((ended 46 p.1.0.0 ++ ended 32 p.1.0.1) ++ ended 10 p.1.1))
     (λ p. (((p.0.0.0 ≤ 63) × (p.0.0.1 ≤ 1023)) × (p.0.1 ≤ 7)) × (((p.1.0.0 ≤ 63) × (p.1.0.1 ≤ 1023)) × (p.1.1 ≤ 7)))
 unfolding join_at
-joins = both (λ mine other. Join mine.0 mine.1 other.0 other.1) (placed 7 32 (omega arith) refl) (placed 7 10 (omega arith) refl)
+joins = both (λ mine other. Join mine.0 mine.1 other.0 other.1) (placed 7 32 (omega arith) (omega arith)) (placed 7 10 (omega arith) (omega arith))
 
 grants : Reads {X = (ℕ × ℕ) × ℕ} (λ p. Grant (record { thread = p.0.0; sync = p.0.1 }) p.1) grant_at (λ p. (ended 46 p.0.0 ++ ended 32 p.0.1) ++ ended 10 p.1) (λ p. ((p.0.0 ≤ 63) × (p.0.1 ≤ 1023)) × (p.1 ≤ 7))
 unfolding grant_at
-grants = made (λ at. Grant at.0 at.1) (placed 7 10 (omega arith) refl)
+grants = made (λ at. Grant at.0 at.1) (placed 7 10 (omega arith) (omega arith))
 
 binds : Reads {X = ℕ × ((ℕ × ℕ) × ℕ)} (λ p. Bind p.0 (record { thread = p.1.0.0; sync = p.1.0.1 }) p.1.1) bind_at (λ p. ended 32 p.0 ++ ((ended 46 p.1.0.0 ++ ended 32 p.1.0.1) ++ ended 10 p.1.1))
     (λ p. (p.0 ≤ 63) × (((p.1.0.0 ≤ 63) × (p.1.0.1 ≤ 1023)) × (p.1.1 ≤ 3)))
 unfolding bind_at
-binds = both (λ nack to. Bind nack to.0 to.1) (numbers 63 32 (omega arith) refl) (placed 3 10 (omega arith) refl)
+binds = both (λ nack to. Bind nack to.0 to.1) (numbers 63 32 (omega arith) (omega arith)) (placed 3 10 (omega arith) (omega arith))
 
 -- ---- a step
 
@@ -171,7 +171,7 @@ pub record IsReadLine (bytes : List ℕ) (s : Seat × Step) (rest : List ℕ) : 
   pub fits : IsSeatStep s
 
 seats : Reads {X = ℕ} (λ n. n) (number_at 15 32) (ended 32) (λ n. n ≤ 15)
-seats = numbers 15 32 (omega arith) refl
+seats = numbers 15 32 (omega arith) (omega arith)
 
 pub line_takes : (bytes : List ℕ) (s : Seat × Step) (rest : List ℕ) → step_line_at bytes ≡ Some (s, rest) → IsReadLine bytes s rest
 unfolding step_line_at
@@ -198,13 +198,13 @@ pub record IsReadWorld (bytes : List ℕ) (w : Size) (rest : List ℕ) : Type 0 
   pub fits : IsSize w
 
 threads : Reads {X = ℕ} (λ n. n) (count_at 64 32) (ended 32) (λ n. (1 ≤ n) × (n ≤ 64))
-threads = counts 64 32 (omega arith) refl
+threads = counts 64 32 (omega arith) (omega arith)
 
 rows_each : Reads {X = ℕ} (λ n. n) (count_at 1024 32) (ended 32) (λ n. (1 ≤ n) × (n ≤ 1024))
-rows_each = counts 1024 32 (omega arith) refl
+rows_each = counts 1024 32 (omega arith) (omega arith)
 
 seat_count : Reads {X = ℕ} (λ n. n) (count_at 16 10) (ended 10) (λ n. (1 ≤ n) × (n ≤ 16))
-seat_count = counts 16 10 (omega arith) refl
+seat_count = counts 16 10 (omega arith) (omega arith)
 
 word_then : (word bytes x y : List ℕ) → bytes ≡ word ++ x → x ≡ y → bytes ≡ word ++ y
 word_then word bytes x y e f = e ∙ ap (λ (t : List ℕ). word ++ t) f

@@ -1,19 +1,16 @@
-use Rattle.std.proofs.Common.{◌≡◌, ℕ, List, map, ap, ap₂, ◌∙◌, arith}
-use Rattle.std.proofs.lemmas.List.{take_all}
+use Rattle.std.proofs.Common.{◌∙◌, ℕ, List, ap, ap₂, sym, subst}
 use Rattle.phrase.specs.Places.{texts}
 use Rattle.script.specs.Scripts.{script_of}
-use Rattle.syntax.specs.Processes.{proc_of}
-use Rattle.journal_text.proofs.Lookup.{one_more, map_twice}
+use Rattle.script.proofs.Declared.{declares_names}
+use Rattle.journal_text.specs.Slots.{AreApart}
+use Rattle.journal_text.proofs.Chains.{are_apart}
 use Rattle.journal_text.proofs.names.Names.new.Goals as goal
 
-pub loop-c-preserved : goal.loop-c-preserved
-loop-c-preserved c = ap texts c.in_ok-push-2.ensures.items ∙ one_more c.loop-c.channels.items c.channel_name.result (script_of c.args.script.now).channels c.loop-c.c c.loop-c.invariant c.channel_name.ensures
+pub new-requires-clause-apart : goal.new-requires-clause-apart
+new-requires-clause-apart c = (let s = c.args.script.now in subst AreApart (sym c.in_ok-threads.ensures.value) (are_apart _ (declares_names (script_of s) s.spelled).1.1))
+
+pub new-requires-2-clause-apart : goal.new-requires-2-clause-apart
+new-requires-2-clause-apart c = (let s = c.args.script.now in subst AreApart (sym c.in_ok-channels.ensures.value) (are_apart _ (declares_names (script_of s) s.spelled).0.1))
 
 pub returns : goal.returns
-returns c =
-    let processes = c.processes-process-items.result.now in
-    let all = take_all c.loop-process.process-index processes (omega (arith, c.loop-process-test.false)) in
-    let names = take_all c.loop-c.c (script_of c.args.script.now).channels (omega (arith, c.loop-c-test.false, c.channels-c-end.ensures)) in
-    let threads : texts c.loop-process.threads.items ≡ map (λ p. p.name) (script_of c.args.script.now).processes =
-    c.loop-process.invariant ∙ ap (map (λ p. (proc_of p).name)) all ∙ map_twice proc_of (λ p. p.name) processes ∙ ap (map (λ p. p.name)) c.processes-process-items.ensures.value in
-    ap₂ (λ (t : List (List ℕ)) (n : List (List ℕ)). record { threads = t; channels = n }) threads (c.loop-c.invariant ∙ names)
+returns c = ap₂ (λ (threads channels : List (List ℕ)). record { threads = threads; channels = channels }) (ap texts c.in_ok-new.ensures ∙ c.in_ok-threads.ensures.value) (ap texts c.in_ok-new-2.ensures ∙ c.in_ok-channels.ensures.value)
