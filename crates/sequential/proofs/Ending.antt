@@ -3,36 +3,36 @@ use Rattle.std.proofs.Common.{◌≡◌, ℕ, List, length, slice_get, Some, sym
 use Rattle.syntax.specs.Processes.{Proc}
 use Rattle.syntax.specs.Trees.{block_of}
 use Rattle.thread.specs.After.{Chosen, after}
-use Rattle.thread.specs.Machines.{Thread, Phase, Ready, Open, Over, Stuck, Broken, IsAfterAt, HasStopped}
+use Rattle.thread.specs.declared.machine.Turn.{Turn}
+use Rattle.thread.specs.declared.machine.Turn.TheVariants.{Offering, Ended, Faulted}
+use Rattle.thread.specs.Machines.{Thread, Phase, Ready, Open, Over, Stuck, Broken, IsAfterAt, HasStopped, Tells}
 use Rattle.words.specs.declared.Commit.{Commit}
 use Rattle.sequential.specs.declared.state.State.{State}
-use Rattle.sequential.specs.declared.strand.Stop.{Stop}
-use Rattle.sequential.specs.declared.strand.Stop.TheVariants.{Offering, Ended, Faulted}
 use Rattle.sequential.specs.declared.strand.Strand.{Strand}
 use Rattle.sequential.specs.Replays.{StandsAfter}
 use Rattle.sequential.specs.Runs.{Config, EndsAs, config_of, end_of}
-use Rattle.sequential.specs.Standing.{StopTells, StrandStands, end_after, end_at}
+use Rattle.sequential.specs.Standing.{StrandStands, end_after, end_at}
 use Rattle.sequential.proofs.Opening.{moved}
 
-end-in : (rows n : ℕ) (m : Thread) (p : Phase) (stop : Stop) → IsAfterAt m p → HasStopped p → StopTells stop p →
-    end_of rows n (after (block_of m.body) m.variables m.thread m.results) ≡ Some (end_after rows n stop, m.output)
-end-in rows n m Ready stop is stopped tells = absurd stopped
-end-in rows n m (Open event) Offering is stopped tells = ap (end_of rows n) is
-end-in rows n m (Open event) Ended is stopped tells = absurd tells
-end-in rows n m (Open event) (Faulted fault) is stopped tells = absurd tells
+end-in : (rows n : ℕ) (m : Thread) (p : Phase) (turn : Turn) → IsAfterAt m p → HasStopped p → Tells turn p →
+    end_of rows n (after (block_of m.body) m.variables m.thread m.results) ≡ Some (end_after rows n turn, m.output)
+end-in rows n m Ready turn is stopped tells = absurd stopped
+end-in rows n m (Open os ns) Offering is stopped tells = ap (end_of rows n) is.after
+end-in rows n m (Open os ns) Ended is stopped tells = absurd tells
+end-in rows n m (Open os ns) (Faulted fault) is stopped tells = absurd tells
 end-in rows n m Over Offering is stopped tells = absurd tells
 end-in rows n m Over Ended is stopped tells = ap (end_of rows n) is
 end-in rows n m Over (Faulted fault) is stopped tells = absurd tells
 end-in rows n m (Stuck found) Offering is stopped tells = absurd tells
 end-in rows n m (Stuck found) Ended is stopped tells = absurd tells
 end-in rows n m (Stuck found) (Faulted fault) is stopped tells = rw tells (ap (end_of rows n) is)
-end-in rows n m Broken stop is stopped tells = absurd stopped
+end-in rows n m Broken turn is stopped tells = absurd stopped
 
 strand-ends : (ps : List Proc) (rows t : ℕ) (config : Config) (earlier : List Commit) (s : Strand) → StrandStands ps t (config t) earlier s → EndsAs ps rows t config (end_at rows s) s.machine.output
 strand-ends ps rows t config earlier s stands =
     let m = stands.machine in
     let count : length (config t) ≡ length s.machine.results = ap (λ (rs : List Chosen). length rs) (sym m.given) in
-    let here = end-in rows (length s.machine.results) s.machine s.machine.phase s.stop m.after m.stopped stands.stop in
+    let here = end-in rows (length s.machine.results) s.machine s.machine.phase s.turn m.after m.stopped stands.turn in
     record {
       process = m.process;
       is_its = m.is_its;

@@ -128,7 +128,7 @@ strand-grows ps t results earlier r c stamp old new stands grows part = record {
     stopped = grows.stopped;
     after = grows.after;
   };
-  stop = grows.stop;
+  turn = grows.turn;
   last = subst (IsGreatest (more earlier c) (λ d. HasThread d t)) (sym grows.last)
       (greatest-this earlier c (λ d. HasThread d t) stamp part.above part.thread part.stamp_is);
   fired = λ k. knows-next ps t results earlier r c stamp old new stands grows part k (stands.fired k);
@@ -145,7 +145,7 @@ pub strand-stays : (ps : List Proc) (t : ℕ) (results : List Chosen) (earlier :
     StrandStands ps t results earlier s → (HasThread c t → ⊥) → ((g : ℕ) → HasRow c t g → ⊥) → StrandStands ps t results (more earlier c) s
 strand-stays ps t results earlier c s stands other apart = record {
   machine = stands.machine;
-  stop = stands.stop;
+  turn = stands.turn;
   last = greatest-other earlier c (λ d. HasThread d t) s.last stands.last other;
   fired = λ k. knows-still ps t results earlier c k apart (get_or s.fired k None) (stands.fired k);
 }

@@ -2,7 +2,6 @@
 use Rattle.std.proofs.Common.{◌≡◌, ℕ, List, [], length, slice_get, Option, Some, None, refl, sym, ap, ◌∙◌}
 use Rattle.std.specs.Option.{option_map}
 use Rattle.std.proofs.lemmas.Option.{none-some, same_Some, slice_get-map}
-use Rattle.event.specs.Resolved.{tree_of}
 use Rattle.event.specs.Tree.{Tree, BaseEvent, bases, scope_nacks, offers, offer_of}
 use Rattle.syntax.specs.Processes.{Proc}
 use Rattle.syntax.specs.Trees.{Block, block_of}
@@ -44,15 +43,16 @@ moved ps t results m s = same-after _ _ _ _ _ _ _ _ s.body s.variables s.thread 
 
 open-in : (ps : List Proc) (t : ℕ) (results : List Chosen) (m : Thread) (n : ℕ) (o : Offer) (p : Phase) → MachineStands ps t results m → IsAfterAt m p → slice_get (offers_in p) n ≡ Some o → OpenAt ps t results n o (nacks_in p)
 open-in ps t results m n o Ready s is_after e = absurd (none-some o e)
-open-in ps t results m n o (Open event) s is_after e =
-    let w = found offer_of (slice_get (bases (tree_of event)) n) o (sym (slice_get-map offer_of (bases (tree_of event)) n) ∙ e) in
+open-in ps t results m n o (Open os ns) s is_after e =
+    let event = is_after.tree in
+    let w = found offer_of (slice_get (bases event) n) o (sym (slice_get-map offer_of (bases event) n) ∙ ap (λ l. slice_get l n) is_after.offers ∙ e) in
     record {
-      event = tree_of event;
-      offered = record { process = s.process; is_its = s.is_its; printed = m.output; offers = sym (moved ps t results m s) ∙ is_after };
+      event = event;
+      offered = record { process = s.process; is_its = s.is_its; printed = m.output; offers = sym (moved ps t results m s) ∙ is_after.after };
       base = w.0;
       is = w.1;
       made = w.2;
-      nacks_are = refl;
+      nacks_are = sym is_after.nacks;
     }
 open-in ps t results m n o Over s is_after e = absurd (none-some o e)
 open-in ps t results m n o (Stuck fault) s is_after e = absurd (none-some o e)
@@ -63,9 +63,9 @@ open-at ps t results m n o s e = open-in ps t results m n o m.phase s s.after e
 
 offers-now : (ps : List Proc) (t : ℕ) (results : List Chosen) (m : Thread) (p : Phase) (event : Tree) → MachineStands ps t results m → HasStopped p → IsAfterAt m p → IsOffering ps t results event → offers_in p ≡ offers event
 offers-now ps t results m Ready event s stopped is_after offering = absurd stopped
-offers-now ps t results m (Open now) event s stopped is_after offering =
-    let here : IsOffering ps t results (tree_of now) = record { process = s.process; is_its = s.is_its; printed = m.output; offers = sym (moved ps t results m s) ∙ is_after } in
-    ap offers (offering-one ps t results (tree_of now) event here offering)
+offers-now ps t results m (Open os ns) event s stopped is_after offering =
+    let here : IsOffering ps t results is_after.tree = record { process = s.process; is_its = s.is_its; printed = m.output; offers = sym (moved ps t results m s) ∙ is_after.after } in
+    sym is_after.offers ∙ ap offers (offering-one ps t results is_after.tree event here offering)
 offers-now ps t results m Over event s stopped is_after offering =
     let process : s.process ≡ offering.process = same_Some s.process offering.process (sym s.is_its ∙ offering.is_its) in
     let is : Finishes m.output [] ≡ Offers event offering.printed =

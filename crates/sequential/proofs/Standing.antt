@@ -197,7 +197,7 @@ knows-nothing ps t k (Some x) e = absurd (none-some x (sym e))
 pub begin-strand : (ps : List Proc) (p : Proc) (t : ℕ) (s : Strand) → slice_get ps t ≡ Some p → Begins p t s → StrandStands ps t [] [] s
 begin-strand ps p t s is b = record {
   machine = record { process = p; is_its = is; body = b.body; variables = b.variables; thread = b.thread; given = b.results; stopped = b.stopped; after = b.after };
-  stop = b.stop;
+  turn = b.turn;
   last = subst (IsGreatest [] (λ d. HasThread d t)) (sym b.last) (greatest-none (λ d. HasThread d t));
   fired = λ k. knows-nothing ps t k (get_or s.fired k None) (ap (λ (xs : List (Option ℕ)). get_or xs k None) b.fired ∙ nothing-there k);
 }

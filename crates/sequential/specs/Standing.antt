@@ -3,7 +3,9 @@ use Rattle.std.specs.Prelude.{◌≡◌, ◌≢◌, ◌==◌, ◌&&◌, ℕ, ◌
 use Rattle.syntax.specs.Processes.{Proc}
 use Rattle.syntax.specs.Trees.{block_of}
 use Rattle.thread.specs.After.{Chosen}
-use Rattle.thread.specs.Machines.{Thread, Phase, Open, Over, Stuck, HasStopped, IsAfter, SameProcess, offers_in, nacks_in}
+use Rattle.thread.specs.declared.machine.Turn.{Turn}
+use Rattle.thread.specs.declared.machine.Turn.TheVariants.{Offering, Ended, Faulted}
+use Rattle.thread.specs.Machines.{Thread, HasStopped, IsAfter, SameProcess, Tells, offers_in, nacks_in}
 use Rattle.words.specs.declared.Base.{Base}
 use Rattle.words.specs.declared.Base.TheVariants.{Send, Recv, Always, OnNack}
 use Rattle.words.specs.declared.Cause.{Cause}
@@ -18,19 +20,10 @@ use Rattle.words.specs.Scopes.{has_scope}
 use Rattle.words.specs.Commits.{stamp_of}
 use Rattle.sequential.specs.declared.end.End.{End}
 use Rattle.sequential.specs.declared.end.End.TheVariants as end
-use Rattle.sequential.specs.declared.strand.Stop.{Stop}
-use Rattle.sequential.specs.declared.strand.Stop.TheVariants.{Offering, Ended, Faulted}
 use Rattle.sequential.specs.declared.strand.Strand.{Strand}
 use Rattle.sequential.specs.Runs.{FiredAt, HasThread, HasRow, IsGreatest, config_of, message_by}
 
 -- WHAT IS TRUE OF A THREAD
-
--- a stop tells the phase of its machine
-abbrev pub StopTells : Stop → Phase → Type 0
-StopTells Offering (Open event) = ⊤
-StopTells Ended Over = ⊤
-StopTells (Faulted fault) (Stuck found) = fault ≡ found
-StopTells stop phase = ⊥
 
 -- the machine stands where its process stands after these results
 pub record MachineStands (ps : List Proc) (t : ℕ) (results : List Chosen) (m : Thread) : Type 0 where
@@ -55,7 +48,7 @@ KnowsNack ps t results earlier k (Some stamp) =
 
 pub record StrandStands (ps : List Proc) (t : ℕ) (results : List Chosen) (earlier : List Commit) (s : Strand) : Type 0 where
   pub machine : MachineStands ps t results s.machine
-  pub stop : StopTells s.stop s.machine.phase
+  pub turn : Tells s.turn s.machine.phase
   pub last : IsGreatest earlier (λ d. HasThread d t) s.last
   pub fired : (k : ℕ) → KnowsNack ps t results earlier k (slice_index_or s.fired k None)
 
@@ -72,13 +65,13 @@ next_offer rows at s =
     if (at.0.sync == length s.machine.results) && nat_lt at.0.sync rows then slice_get (offers_in s.machine.phase) at.1 else None
 
 -- how the thread stands, of at most so many syncs
-abbrev pub end_after : ℕ → ℕ → Stop → End
+abbrev pub end_after : ℕ → ℕ → Turn → End
 end_after rows count Offering = if nat_lt count rows then end.Waiting else end.Spent
 end_after rows count Ended = end.Ended
 end_after rows count (Faulted fault) = end.Faulted fault
 
 abbrev pub end_at : ℕ → Strand → End
-end_at rows s = end_after rows (length s.machine.results) s.stop
+end_at rows s = end_after rows (length s.machine.results) s.turn
 
 abbrev pub offer_in : List Strand → ℕ → Row × ℕ → Option Offer
 offer_in strands rows at = option_and_then (next_offer rows at) (slice_get strands at.0.thread)
@@ -132,7 +125,7 @@ pub record Grows (chosen : Chosen) (stamp : ℕ) (old new : Strand) : Type 0 whe
   pub results : new.machine.results ≡ old.machine.results ++ chosen ∷ []
   pub stopped : HasStopped new.machine.phase
   pub after : IsAfter new.machine
-  pub stop : StopTells new.stop new.machine.phase
+  pub turn : Tells new.turn new.machine.phase
   pub last : new.last ≡ stamp
   pub offer : Offer
   pub was : slice_get (offers_in old.machine.phase) chosen.0 ≡ Some offer
@@ -159,6 +152,6 @@ pub record Begins (process : Proc) (number : ℕ) (s : Strand) : Type 0 where
   pub results : s.machine.results ≡ []
   pub stopped : HasStopped s.machine.phase
   pub after : IsAfter s.machine
-  pub stop : StopTells s.stop s.machine.phase
+  pub turn : Tells s.turn s.machine.phase
   pub last : s.last ≡ 0
   pub fired : s.fired ≡ replicate 256 None

@@ -23,10 +23,10 @@ pub fn replay(
 {
     let mut threads = Threads::start(alloc, processes, rows)?;
     for (index, commit) in commits.iter().enumerate() {
-        if !threads.may_follow(alloc, commit) {
+        if !threads.may_follow(commit) {
             return Err(ReplayFault::Unlawful(index));
         }
-        threads.apply(alloc, commit)?;
+        threads.apply(commit)?;
     }
     Ok(State { threads })
 }
@@ -38,7 +38,7 @@ pub fn settle(alloc: Global, state: State) -> Result<(State, Vec<Commit>), Alloc
     let mut threads = state.threads;
     let mut added = Vec::new(alloc);
     while let Some(commit) = threads.find(alloc)? {
-        threads.apply(alloc, &commit)?;
+        threads.apply(&commit)?;
         added.push(commit)?;
     }
     Ok((State { threads }, added))

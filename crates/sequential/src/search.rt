@@ -15,7 +15,6 @@ use words::{Base, Cause, Commit, Message, Row};
 
 /// Appends what the thread offers at its next sync.
 fn push_offers(
-    alloc: Global,
     strand: &Strand,
     rows: u16,
     thread: u8,
@@ -27,7 +26,7 @@ fn push_offers(
         return Ok(());
     };
     let row = Row { thread, sync };
-    for (number, offer) in strand.offers(alloc).iter().enumerate() {
+    for (number, offer) in strand.offers().iter().enumerate() {
         offers.push(((row, number as u8), offer.base))?;
     }
     Ok(())
@@ -41,7 +40,7 @@ impl Threads {
     {
         let mut offers = Vec::new(alloc);
         for (thread, strand) in self.strands.iter().enumerate() {
-            push_offers(alloc, strand, self.rows, thread as u8, &mut offers)?;
+            push_offers(strand, self.rows, thread as u8, &mut offers)?;
         }
         Ok(offers)
     }

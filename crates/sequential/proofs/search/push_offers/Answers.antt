@@ -16,10 +16,10 @@ returns-in_default c = λ strands there h.
 pub loop-number-preserved : goal.loop-number-preserved
 loop-number-preserved c = λ strands there h.
     subst (ListsTo strands c.args.rows c.args.thread (c.loop-number.number + 1)) (sym c.in_ok-push.ensures.items)
-    (lists-push strands c.args.rows c.args.thread c.loop-number.number c.in-Some.sync c.loop-number.offers.items c.deref-offer-items.result.now _ c.args.strand.now there
-    c.in-Some.ensures.0 c.in-Some.ensures.1 (c.deref-offer-items.ensures ∙ c.offers.ensures.offers) c.loop-number-test.true (c.loop-number.invariant strands there h))
+    (lists-push strands c.args.rows c.args.thread c.loop-number.number c.in-Some.sync c.loop-number.offers.items c.offers-offer-items.result.now _ c.args.strand.now there
+    c.in-Some.ensures.0 c.in-Some.ensures.1 c.offers-offer-items.ensures.offers c.loop-number-test.true (c.loop-number.invariant strands there h))
 
 pub returns : goal.returns
 returns c = λ strands there h.
     lists-next strands c.args.rows c.args.thread c.loop-number.number c.loop-number.offers.items c.args.strand.now there
-    (subst (λ (os : List Offer). length os ≤ c.loop-number.number) (c.deref-offer-items.ensures ∙ c.offers.ensures.offers) c.loop-number-test.false) (c.loop-number.invariant strands there h)
+    (subst (λ (os : List Offer). length os ≤ c.loop-number.number) c.offers-offer-items.ensures.offers c.loop-number-test.false) (c.loop-number.invariant strands there h)
