@@ -71,8 +71,11 @@ fn add_enabled<R: Wait>(
     requires { IsPassOf cells.now pass.old }
     ensures { IsPassOf cells.now pass.new }
 {
-    let nacks = shared.homes.nacks(rt, shared.alloc, row.thread);
-    for k in nacks.as_slice() {
+    let home = shared.homes.place(row.thread)?.lock(rt);
+    let Some(machine) = &*home else {
+        return Ok(());
+    };
+    for k in machine.nacks() {
         let nack = NackName {
             thread: row.thread,
             k: *k,

@@ -1,16 +1,12 @@
 //! The places of the threads' machines.
 
-ghost use Rattle.std.specs.Prelude.{◌<◌};
-
 use crate::fault::Halt;
-use smallvec::SmallVec;
 use std::alloc::{AllocError, Global};
-use std::sync::{Mutex, Wait};
-use syntax::Proc;
-use thread::{Machine, Turn};
-use words::{Joined, Message, Row};
+use std::sync::Mutex;
+use thread::Machine;
 
-/// A place for each thread's machine, empty before the thread's first turn.
+/// A place for each thread's machine, empty before the thread's first turn. The machine stays at home:
+/// while a turn runs nobody else asks for it, since the thread's next row is not open yet.
 #[derive(Drop)]
 pub(crate) struct Homes {
     places: Vec<Mutex<Option<Machine>>>,
@@ -26,58 +22,11 @@ impl Homes {
         Ok(Homes { places })
     }
 
-    /// The first turn of the thread. Its machine is at home then.
-    pub(crate) fn begin<R: Wait>(
-        &self,
-        rt: &R,
-        alloc: Global,
-        process: &Proc,
-        thread: u8,
-    ) -> Result<Turn, Halt>
-        requires { thread < 64 }
-    {
-        let Some(place) = self.places.get(usize::from(thread)) else {
-            return Err(Halt::Lost);
-        };
-        let mut machine = Machine::new(alloc, process, thread)?;
-        let turn = machine.begin(alloc)?;
-        *place.lock(rt) = Some(machine);
-        Ok(turn)
-    }
-
-    /// The turn of the row's thread after the row was committed so, with this message. The machine stays
-    /// at home: nobody else asks for it before the thread's next row is ready.
-    pub(crate) fn resume<R: Wait>(
-        &self,
-        rt: &R,
-        alloc: Global,
-        row: Row,
-        joined: Joined,
-        message: Message,
-    ) -> Result<Turn, Halt> {
-        let Some(place) = self.places.get(usize::from(row.thread)) else {
-            return Err(Halt::Lost);
-        };
-        let mut home = place.lock(rt);
-        let Some(machine) = &mut *home else {
-            return Err(Halt::Lost);
-        };
-        if machine.results().len() != usize::from(row.sync)
-            || usize::from(joined.own) >= machine.offers(alloc).len()
-        {
-            return Err(Halt::Lost);
-        }
-        Ok(machine.resume(alloc, joined.own, message)?)
-    }
-
-    /// The numbers of the nacks of the thread's open sync.
-    pub(crate) fn nacks<R: Wait>(&self, rt: &R, alloc: Global, thread: u8) -> SmallVec<u8, 4> {
-        let Some(place) = self.places.get(usize::from(thread)) else {
-            return SmallVec::new(alloc);
-        };
-        match &*place.lock(rt) {
-            Some(machine) => machine.nacks(alloc),
-            None => SmallVec::new(alloc),
+    /// The place of the thread's machine.
+    pub(crate) fn place(&self, thread: u8) -> Result<&Mutex<Option<Machine>>, Halt> {
+        match self.places.get(usize::from(thread)) {
+            Some(place) => Ok(place),
+            None => Err(Halt::Lost),
         }
     }
 }

@@ -1,7 +1,7 @@
 //! The turns of threads: a row is taken, its thread's machine runs, and the thread's next row is opened and
 //! searched for.
 
-ghost use Rattle.std.specs.Prelude.{◌≡◌, ◌<◌, ◌≤◌, IfSome, length};
+ghost use Rattle.std.specs.Prelude.{◌≡◌, ◌<◌, ◌≤◌, IfOk, IfSome, IsTrue, length};
 ghost use Rattle.protocol.specs.Tables.{next_row};
 ghost use Rattle.cell.specs.Calls.{IsPassOf, IsRowOf};
 ghost use Rattle.cell.specs.Sight.{Has};
@@ -17,8 +17,8 @@ use meet::{Found, Meet};
 use std::alloc::Global;
 use std::sync::{Mutex, Wait};
 use syntax::Proc;
-use thread::Turn;
-use words::{Cell, Offer, Row};
+use thread::{Machine, Turn};
+use words::{Cell, Joined, Message, Row};
 
 /// What all workers share, beside the cells.
 #[derive(Drop)]
@@ -57,8 +57,8 @@ pub(crate) fn advance<R: Wait, G: Gate>(
         return Ok(());
     };
     gate.before(worker, row.thread);
-    let turn = shared.homes.resume(rt, shared.alloc, row, joined, message);
-    let done = go_on(rt, cells, shared, pass, next, turn);
+    let opened = resume(rt, cells, shared, pass, row, joined, message, next);
+    let done = meet(rt, cells, shared, pass, next, opened);
     gate.after(worker, row.thread);
     done
 }
@@ -97,8 +97,8 @@ fn begin_thread<R: Wait, G: Gate>(
         return Err(Halt::Lost);
     };
     gate.before(worker, thread);
-    let turn = shared.homes.begin(rt, shared.alloc, process, thread);
-    let done = go_on(rt, cells, shared, pass, row, turn);
+    let opened = begin(rt, cells, shared, process, pass, row);
+    let done = meet(rt, cells, shared, pass, row, opened);
     gate.after(worker, thread);
     done
 }
@@ -125,48 +125,106 @@ pub(crate) fn begin_all<R: Wait, G: Gate>(
     Ok(())
 }
 
-/// What the thread came to, at its next row.
-fn go_on<R: Wait>(
+/// Runs the thread to its first stop, and opens its first row where it offers something there. Whether
+/// it does. The row is opened while the machine is held, and searched for when it is at home again.
+fn begin<R: Wait>(
     rt: &R,
     cells: &Cells,
     shared: &Shared,
+    process: &Proc,
     pass: &mut Pass,
     row: Row,
-    turn: Result<Turn, Halt>,
-) -> Result<(), Halt>
+) -> Result<bool, Halt>
     requires here { IsPassOf cells.now pass.old × IsRowOf cells.now row }
     requires fresh { Has pass.old.seen.held row × (¬ Has pass.old.seen.opened row) }
-    ensures { IsPassOf cells.now pass.new }
+    requires thread { row.thread < 64 }
+    ensures here { IsPassOf cells.now pass.new }
+    ensures opened { IfOk result (λ opened. IsTrue opened → Has pass.new.seen.held row × Has pass.new.seen.opened row) }
 {
-    match turn? {
-        Turn::Offering { offers, nacks } => {
-            let (offers, nacks) = (offers.as_slice(), nacks.as_slice());
-            enter(rt, cells, shared, pass, row, offers, nacks)
-        }
-        Turn::Ended | Turn::Faulted(_) => Ok(()),
-    }
+    let place = shared.homes.place(row.thread)?;
+    let mut machine = Machine::new(shared.alloc, process, row.thread)?;
+    let turn = machine.begin()?;
+    let mut home = place.lock(rt);
+    *home = Some(machine);
+    let Some(machine) = &*home else {
+        return Err(Halt::Lost);
+    };
+    enter(cells, pass, row, machine, turn)
 }
 
-/// Opens the row with these offers, and looks for a row that it can meet.
-fn enter<R: Wait>(
+/// Goes on with the row's thread after the row was committed so, with this message, and opens its next
+/// row where it offers something there. Whether it does.
+fn resume<R: Wait>(
     rt: &R,
     cells: &Cells,
     shared: &Shared,
     pass: &mut Pass,
     row: Row,
-    offers: &[Offer],
-    nacks: &[u8],
-) -> Result<(), Halt>
+    joined: Joined,
+    message: Message,
+    next: Row,
+) -> Result<bool, Halt>
+    requires here { IsPassOf cells.now pass.old × IsRowOf cells.now next }
+    requires fresh { Has pass.old.seen.held next × (¬ Has pass.old.seen.opened next) }
+    ensures here { IsPassOf cells.now pass.new }
+    ensures opened { IfOk result (λ opened. IsTrue opened → Has pass.new.seen.held next × Has pass.new.seen.opened next) }
+{
+    let place = shared.homes.place(row.thread)?;
+    let mut home = place.lock(rt);
+    let Some(machine) = &mut *home else {
+        return Err(Halt::Lost);
+    };
+    if machine.results().len() != usize::from(row.sync)
+        || usize::from(joined.own) >= machine.offers().len()
+    {
+        return Err(Halt::Lost);
+    }
+    let turn = machine.resume(joined.own, message)?;
+    enter(cells, pass, next, machine, turn)
+}
+
+/// Opens the row with what the machine offers, if it offers something.
+fn enter(
+    cells: &Cells,
+    pass: &mut Pass,
+    row: Row,
+    machine: &Machine,
+    turn: Turn,
+) -> Result<bool, Halt>
     requires here { IsPassOf cells.now pass.old × IsRowOf cells.now row }
     requires fresh { Has pass.old.seen.held row × (¬ Has pass.old.seen.opened row) }
-    ensures { IsPassOf cells.now pass.new }
+    ensures here { IsPassOf cells.now pass.new }
+    ensures opened { IfOk result (λ opened. IsTrue opened → Has pass.new.seen.held row × Has pass.new.seen.opened row) }
 {
+    let Turn::Offering = turn else {
+        return Ok(false);
+    };
+    let offers = machine.offers();
     if !are_offers(offers) {
         return Err(Halt::Lost);
     }
-    bind_all(cells, pass, row, nacks)?;
+    bind_all(cells, pass, row, machine.nacks())?;
     cells.draft(pass, row, offers);
     cells.open(pass, row);
+    Ok(true)
+}
+
+/// Looks for a row that the opened row can meet.
+fn meet<R: Wait>(
+    rt: &R,
+    cells: &Cells,
+    shared: &Shared,
+    pass: &mut Pass,
+    row: Row,
+    opened: Result<bool, Halt>,
+) -> Result<(), Halt>
+    requires here { IsPassOf cells.now pass.old × IsRowOf cells.now row }
+    requires opened { IfOk opened (λ opened. IsTrue opened → Has pass.old.seen.held row × Has pass.old.seen.opened row) }
+    ensures { IsPassOf cells.now pass.new }
+{
+    if !opened? {
+        return Ok(());
+    }
     match shared.meet.search(rt, cells, pass, &NoGate, row)? {
         Found::Met(other) => follow(rt, cells, shared, pass, row, Some(other)),
         Found::Alone => follow(rt, cells, shared, pass, row, None),
