@@ -25,12 +25,11 @@ fn start(alloc: Global) -> Result<Machine>
 }
 
 /// Takes the one offer, whose message is the number.
-fn resume(alloc: Global, machine: &mut Machine, number: u32) -> Result<Turn> {
-    let offers = machine.offers(alloc);
-    if offers.is_empty() {
+fn resume(machine: &mut Machine, number: u32) -> Result<Turn> {
+    if machine.offers().is_empty() {
         bail!("no offer");
     }
-    let turn = machine.resume(alloc, 0, Message::One(Atom::Num(number)))?;
+    let turn = machine.resume(0, Message::One(Atom::Num(number)))?;
     Ok(turn)
 }
 
@@ -39,9 +38,9 @@ fn run<R: Env + Print + AllocGlobal>(rt: &R) -> Result<()> {
     let count = env::args(rt)?.nth(1).context("how often?")?;
     let count: u32 = count.as_str().parse()?;
     let mut machine = start(alloc)?;
-    let _first = machine.begin(alloc)?;
+    let _first = machine.begin()?;
     for number in 0..count {
-        let _turn = resume(alloc, &mut machine, number)?;
+        let _turn = resume(&mut machine, number)?;
     }
     let printed = machine.output().len();
     println!(rt; "{count} resumes, {printed} numbers printed")?;

@@ -20,39 +20,26 @@ fn machine(alloc: Global, text: &str, process: usize) -> Result<Machine, Fail>
 }
 
 /// Commits the open sync by an offer, which has to be there.
-fn resume(
-    alloc: Global,
-    machine: &mut Machine,
-    chosen: u8,
-    message: Message,
-) -> Result<Turn, Fail> {
-    let offers = machine.offers(alloc);
-    if usize::from(chosen) >= offers.len() {
+fn resume(machine: &mut Machine, chosen: u8, message: Message) -> Result<Turn, Fail> {
+    if usize::from(chosen) >= machine.offers().len() {
         return Err(Fail::from("no such offer"));
     }
-    let turn = machine.resume(alloc, chosen, message)?;
+    let turn = machine.resume(chosen, message)?;
     Ok(turn)
 }
 
 /// The first process of the text, run over these results, and its last turn.
 fn after(alloc: Global, text: &str, results: &[(u8, Message)]) -> Result<(Machine, Turn), Fail> {
     let mut machine = machine(alloc, text, 0)?;
-    let mut turn = machine.begin(alloc)?;
+    let mut turn = machine.begin()?;
     for (chosen, message) in results {
-        turn = resume(alloc, &mut machine, *chosen, *message)?;
+        turn = resume(&mut machine, *chosen, *message)?;
     }
     Ok((machine, turn))
 }
 
 fn one(number: u32) -> Message {
     Message::One(Atom::Num(number))
-}
-
-fn is_fault(turn: &Turn, fault: Fault) -> bool {
-    match turn {
-        Turn::Faulted(found) => *found == fault,
-        _ => false,
-    }
 }
 
 /// Runs the first process over these results, which has to end and to have printed these numbers.
@@ -63,7 +50,7 @@ fn check_ends(
     printed: &[u32],
 ) -> Result<(), Fail> {
     let (machine, turn) = after(rt.alloc(), text, results)?;
-    assert!(rt; matches!(turn, Turn::Ended), "{text}");
+    assert!(rt; turn == Turn::Ended, "{text}");
     check_prints(rt, &machine, printed);
     Ok(())
 }
@@ -85,7 +72,7 @@ fn check_fault(
     printed: &[u32],
 ) -> Result<(), Fail> {
     let (machine, turn) = after(rt.alloc(), text, results)?;
-    assert!(rt; is_fault(&turn, fault), "{text}");
+    assert!(rt; turn == Turn::Faulted(fault), "{text}");
     assert!(rt; !machine.is_offering());
     check_prints(rt, &machine, printed);
     Ok(())
@@ -98,23 +85,21 @@ fn a_message_is_received(rt: HostRuntime) -> Result<(), Fail> {
         "channel c; process a { sync send c (42); } process b { x <- sync recv c; print x; }";
     let mut b = machine(alloc, text, 1)?;
     assert!(rt; !b.is_offering());
-    let turn = b.begin(alloc)?;
+    let turn = b.begin()?;
     assert!(rt; b.is_offering());
-    let Turn::Offering { offers, nacks } = turn else {
-        return Err(Fail::from("no offer"));
-    };
+    assert!(rt; turn == Turn::Offering);
     let recv = Offer {
         base: Base::Recv(0),
         scopes: 0,
     };
-    assert_eq!(rt; offers.as_slice(), [recv].as_slice());
-    assert_eq!(rt; nacks.len(), 0);
-    let turn = resume(alloc, &mut b, 0, one(42))?;
-    assert!(rt; matches!(turn, Turn::Ended));
+    assert_eq!(rt; b.offers(), [recv].as_slice());
+    assert_eq!(rt; b.nacks().len(), 0);
+    let turn = resume(&mut b, 0, one(42))?;
+    assert!(rt; turn == Turn::Ended);
     check_prints(&rt, &b, &[42]);
     assert_eq!(rt; b.results(), [(0, one(42))].as_slice());
-    assert_eq!(rt; b.offers(alloc).len(), 0);
-    assert_eq!(rt; b.nacks(alloc).len(), 0);
+    assert_eq!(rt; b.offers().len(), 0);
+    assert_eq!(rt; b.nacks().len(), 0);
     Ok(())
 }
 
@@ -200,12 +185,8 @@ fn scopes_and_their_nacks(rt: HostRuntime) -> Result<(), Fail> {
         "channel w; channel v; channel u; channel c; process a { sync nack m { sync send w (m); } choose [nack n { sync send v (n); } recv c, always ()]; }";
     let results = [(0, Message::Empty), (0, Message::Empty)];
     let (machine, turn) = after(rt.alloc(), text, &results)?;
-    let Turn::Offering { offers, nacks } = turn else {
-        return Err(Fail::from("no offer"));
-    };
-    assert_eq!(rt; nacks.as_slice(), [0, 1].as_slice());
-    assert_eq!(rt; machine.nacks(rt.alloc()).as_slice(), [0, 1].as_slice());
-    assert_eq!(rt; offers.len(), 2);
+    assert!(rt; turn == Turn::Offering);
+    assert_eq!(rt; machine.nacks(), [0, 1].as_slice());
     let receive = Offer {
         base: Base::Recv(3),
         scopes: 3,
@@ -214,7 +195,7 @@ fn scopes_and_their_nacks(rt: HostRuntime) -> Result<(), Fail> {
         base: Base::Always(Message::Empty),
         scopes: 1,
     };
-    assert_eq!(rt; offers.as_slice(), [receive, always].as_slice());
+    assert_eq!(rt; machine.offers(), [receive, always].as_slice());
     let heads = [
         Head {
             direction: Direction::Recv { chan: 3 },
@@ -235,13 +216,13 @@ fn the_last_nack(rt: HostRuntime) -> Result<(), Fail> {
     let alloc = rt.alloc();
     let text = "process a { forever { sync nack n {} always (); } }";
     let mut machine = machine(alloc, text, 0)?;
-    let _first = machine.begin(alloc)?;
+    let _first = machine.begin()?;
     for _ in 0..63 {
-        let _turn = resume(alloc, &mut machine, 0, Message::Empty)?;
+        let _turn = resume(&mut machine, 0, Message::Empty)?;
     }
-    assert_eq!(rt; machine.nacks(alloc).as_slice(), [63].as_slice());
-    let last = resume(alloc, &mut machine, 0, Message::Empty)?;
-    assert!(rt; is_fault(&last, Fault::Range));
+    assert_eq!(rt; machine.nacks(), [63].as_slice());
+    let last = resume(&mut machine, 0, Message::Empty)?;
+    assert!(rt; last == Turn::Faulted(Fault::Range));
     Ok(())
 }
 
@@ -295,7 +276,7 @@ fn machines_lie_in_slots(rt: HostRuntime) -> Result<(), Fail> {
 fn begun(alloc: Global, mut machine: Machine) -> Result<Machine, AllocError>
     requires { machine.phase ≡ Ready }
 {
-    let _turn = machine.begin(alloc)?;
+    let _turn = machine.begin()?;
     Ok(machine)
 }
 
@@ -334,7 +315,7 @@ fn machines_cross_threads(rt: HostRuntime) -> Result<(), Fail> {
     let b = machine(alloc, text, 1)?;
     let (a, b) = both_begun(&rt, alloc, a, b);
     let mut b = crosses(b?);
-    let _turn = resume(alloc, &mut b, 0, one(42))?;
+    let _turn = resume(&mut b, 0, one(42))?;
     check_prints(&rt, &b, &[42]);
     let mut slots: Vec<Option<Machine>> = Vec::new(alloc);
     slots.push(Some(a?))?;
@@ -349,19 +330,18 @@ fn broken_for_good(rt: HostRuntime) -> Result<(), Fail> {
     let alloc = rt.alloc();
     let text = "process a { sync wrap guard { print 1; } always (2) to (3); print 4; }";
     let mut machine = machine(alloc, text, 0)?;
-    if let Err(error) = machine.begin(alloc) {
-        assert!(rt; machine.begin(alloc).is_err());
-        assert!(rt; machine.resume(alloc, 0, Message::Empty).is_err());
+    if let Err(error) = machine.begin() {
+        assert!(rt; machine.begin().is_err());
+        assert!(rt; machine.resume(0, Message::Empty).is_err());
         assert!(rt; !machine.is_offering());
         return Err(Fail::from(error));
     }
-    let offers = machine.offers(alloc);
-    if offers.is_empty() {
+    if machine.offers().is_empty() {
         return Err(Fail::from("no offer"));
     }
-    if let Err(error) = machine.resume(alloc, 0, one(2)) {
-        assert!(rt; machine.resume(alloc, 0, one(2)).is_err());
-        assert_eq!(rt; machine.offers(alloc).len(), 0);
+    if let Err(error) = machine.resume(0, one(2)) {
+        assert!(rt; machine.resume(0, one(2)).is_err());
+        assert_eq!(rt; machine.offers().len(), 0);
         return Err(Fail::from(error));
     }
     check_prints(&rt, &machine, &[1, 4]);
