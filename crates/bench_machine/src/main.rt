@@ -1,4 +1,4 @@
-//! `bench_machine N`: a process without end, resumed N times.
+//! `bench_machine PART N`: a process without end, resumed N times by its first offer.
 #![tactic(auto)]
 
 ghost use Rattle.std.specs.Prelude.{◌≡◌, IfOk};
@@ -12,13 +12,28 @@ use std::rt::Env;
 use thread::{Machine, Turn};
 use words::{Atom, Message};
 
-const PROCESS: &str =
-    "process a { let x = 0; forever { x <- sync guard { print x; } always (x + 1); } }";
+/// The process of a part, which has no end.
+fn process_text(part: &str) -> Result<&'static str> {
+    match part {
+        "guard" => Ok(
+            "process a { let x = 0; forever { x <- sync guard { print x; } always (x + 1); } }",
+        ),
+        "send" => Ok("channel c; process a { let i = 7; forever { sync send c (i); } }"),
+        "choose" => Ok(
+            "channel c; channel d; process a { let i = 7; forever { sync choose [wrap send c (i) to (1), wrap recv d as x to (x), wrap send c (i) to (2), wrap recv d as x to (x), wrap send c (i) to (3), wrap recv d as x to (x), wrap send c (i) to (4), guard { let i = i; } wrap recv d as x to (x)]; } }",
+        ),
+        "turn" => Ok("process a { let x = 0; forever { sync always (); let x = 0; } }"),
+        "lets" => Ok(
+            "process a { let x = 0; forever { sync always (); let x = 0; let x = x + 1; let x = x + 1; let x = x + 1; let x = x + 1; let x = x + 1; let x = x + 1; let x = x + 1; let x = x + 1; let x = x + 1; let x = x + 1; } }",
+        ),
+        _ => bail!("guard, send, choose, turn or lets?"),
+    }
+}
 
-fn start(alloc: Global) -> Result<Machine>
+fn start(alloc: Global, text: &str) -> Result<Machine>
     ensures { IfOk result (λ m. m.phase ≡ Ready) }
 {
-    let script = parse(alloc, PROCESS.as_bytes())?;
+    let script = parse(alloc, text.as_bytes())?;
     let process = script.processes().first().context("no process")?;
     let machine = Machine::new(alloc, process, 0)?;
     Ok(machine)
@@ -35,9 +50,11 @@ fn resume(machine: &mut Machine, number: u32) -> Result<Turn> {
 
 fn run<R: Env + Print + AllocGlobal>(rt: &R) -> Result<()> {
     let alloc = rt.alloc();
-    let count = env::args(rt)?.nth(1).context("how often?")?;
+    let mut words = env::args(rt)?.skip(1);
+    let part = words.next().context("which part?")?;
+    let count = words.next().context("how often?")?;
     let count: u32 = count.as_str().parse()?;
-    let mut machine = start(alloc)?;
+    let mut machine = start(alloc, process_text(part.as_str())?)?;
     let _first = machine.begin()?;
     for number in 0..count {
         let _turn = resume(&mut machine, number)?;
