@@ -183,7 +183,6 @@ fn put_cause(line: &mut [u8], at: usize, labels: Option<&Labels<'_>>, cause: Cau
     }
 }
 
-#[inline(always)]
 fn put_commit(line: &mut [u8], at: usize, labels: Option<&Labels<'_>>, commit: &Commit) -> usize
     requires { (6 * reach labels + 77 ≤ at) × (at ≤ length line.old) }
     ensures text { drop result line.new ≡ commit_text (naming_of labels.entry) commit.now ++ drop at line.old }
