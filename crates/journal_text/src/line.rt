@@ -104,7 +104,6 @@ impl Front<'_> {
         Some(value)
     }
 
-    #[inline(always)]
     fn stamp(&mut self) -> Option<u64>
         ensures value { Leads result self.new.bytes.now (count_at 4294967295 32 self.old.bytes.now) }
         ensures within { IfSome result (λ x. x ≤ 4294967295) }
@@ -263,7 +262,6 @@ impl Front<'_> {
         self.two(names, first, behind)
     }
 
-    #[inline(always)]
     #[tactic(auto, unfolding(crate::specs::Reading::none_at))]
     fn none(&mut self) -> Option<Message>
         ensures { Leads result self.new.bytes.now (none_at self.old.bytes.now) }
@@ -307,7 +305,6 @@ impl Front<'_> {
     }
 
     /// A receiver, and the channel.
-    #[inline(always)]
     #[tactic(auto, unfolding(crate::specs::Reading::partner_at))]
     fn partner(&mut self, names: &Names<'_>) -> Option<((Row, u8), u8)>
         ensures { Leads result self.new.bytes.now (partner_at (listed names.now) self.old.bytes.now) }
@@ -317,7 +314,6 @@ impl Front<'_> {
         Some((receiver, chan))
     }
 
-    #[inline(always)]
     #[tactic(auto, unfolding(crate::specs::Reading::told_at))]
     fn told(&mut self, names: &Names<'_>) -> Option<Deed>
         ensures { Leads result self.new.bytes.now (told_at (listed names.now) self.old.bytes.now) }
@@ -331,7 +327,6 @@ impl Front<'_> {
         })
     }
 
-    #[inline(always)]
     #[tactic(auto, unfolding(crate::specs::Reading::meets_at))]
     fn meets(&mut self, names: &Names<'_>) -> Option<Deed>
         ensures { Leads result self.new.bytes.now (meets_at (listed names.now) self.old.bytes.now) }
@@ -362,7 +357,6 @@ impl Front<'_> {
     }
 
     /// What the row did, up to the line's end.
-    #[inline(always)]
     #[tactic(auto, unfolding(crate::specs::Reading::deed_at))]
     fn deed(&mut self, names: &Names<'_>) -> Option<Deed>
         ensures { Leads result self.new.bytes.now (deed_at (listed names.now) self.old.bytes.now) }
@@ -380,7 +374,6 @@ impl Front<'_> {
     }
 
     /// The stamp, and the row that is named first.
-    #[inline(always)]
     #[tactic(auto, unfolding(crate::specs::Reading::head_at))]
     fn head(&mut self, names: &Names<'_>) -> Option<(u32, (Row, u8))>
         ensures { Leads result self.new.bytes.now (head_at (listed names.now) self.old.bytes.now) }
@@ -391,7 +384,6 @@ impl Front<'_> {
     }
 
     /// The line of a commit.
-    #[inline(always)]
     #[tactic(auto, unfolding(crate::specs::Reading::line_at))]
     pub(crate) fn line(&mut self, names: &Names<'_>) -> Option<Commit>
         ensures { Leads result self.new.bytes.now (line_at (listed names.now) self.old.bytes.now) }

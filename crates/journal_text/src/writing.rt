@@ -13,10 +13,10 @@ use crate::labels::Labels;
 use itoa::write_digits;
 use words::{Atom, Cause, Commit, Message, NackName, Row};
 
-/// How much of a line is at most no name.
+/// How long a line is at most, but for its names.
 pub(crate) const LINE_ROOM: usize = 78;
 
-/// How long a number that stands for a name is at most.
+/// How much room is kept for a number that stands for a name.
 pub(crate) const LONGEST_NUMBER: usize = 5;
 
 /// How many names stand in a line at most.
@@ -183,7 +183,6 @@ fn put_cause(line: &mut [u8], at: usize, labels: Option<&Labels<'_>>, cause: Cau
     }
 }
 
-#[inline(always)]
 fn put_commit(line: &mut [u8], at: usize, labels: Option<&Labels<'_>>, commit: &Commit) -> usize
     requires { (6 * reach labels + 77 ≤ at) × (at ≤ length line.old) }
     ensures text { drop result line.new ≡ commit_text (naming_of labels.entry) commit.now ++ drop at line.old }
