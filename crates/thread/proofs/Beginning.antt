@@ -10,7 +10,7 @@ use Rattle.words.specs.declared.Offer.{Offer}
 use Rattle.thread.specs.declared.stack.Opening.{Opening}
 use Rattle.thread.specs.After.{State, Goes, ◌>>=◌, run_block, synced}
 use Rattle.thread.specs.Fitting.{HasSync, IsOpening}
-use Rattle.thread.specs.Reaches.{event_reach, members_reach, stages_reach, stmts_reach}
+use Rattle.thread.specs.Reaches.{event_reach, members_reach, stages_reach}
 use Rattle.thread.specs.Resolving.{Lists, formed_as, no_lists, run_stages}
 use Rattle.thread.specs.Stacks.{Further, offered, opening_on, others, own, sync_at, turn_on}
 use Rattle.thread.proofs.Binding.{bind_assoc}

@@ -1,20 +1,20 @@
 -- An open sync: what it offers, and what a commit of it does.
-use Rattle.std.proofs.Common.{◌≡◌, ℕ, ◌+◌, ◌<◌, ◌≤◌, List, [], ◌∷◌, Option, Some, length, map, slice_get, take, refl, sym, ap, ◌∙◌, arith}
+use Rattle.std.proofs.Common.{◌≡◌, ℕ, ◌<◌, ◌≤◌, ◌∷◌, Some, length, slice_get, sym, ap, ◌∙◌, arith}
 use Rattle.std.proofs.lemmas.List.{length-map, take_all}
 use Rattle.std.specs.Option.{option_map}
 use Rattle.code.specs.Stages.{stages}
 use Rattle.code.specs.declared.Code.{Code}
 use Rattle.code.specs.declared.Plan.{Plan}
 use Rattle.event.specs.Tree.{offers, scope_nacks}
-use Rattle.syntax.specs.Limits.{base_count, nack_count}
+use Rattle.syntax.specs.Limits.{base_count}
 use Rattle.syntax.specs.Trees.{Turn, event_of, names_of}
 use Rattle.words.specs.declared.Message.{Message}
 use Rattle.words.specs.declared.Offer.{Offer}
 use Rattle.thread.specs.declared.stack.Opening.{Opening}
 use Rattle.thread.specs.After.{State, Outcome, ◌>>=◌, Having, received, run_block}
 use Rattle.thread.specs.Fitting.{IsOpening, masks, nacks_made}
-use Rattle.thread.specs.Passing.{Passage, Through, Past, pass}
-use Rattle.thread.specs.Resolving.{Lists, Listed, tree_as}
+use Rattle.thread.specs.Passing.{Through, Past, pass}
+use Rattle.thread.specs.Resolving.{Lists, tree_as}
 use Rattle.thread.specs.Stacks.{offered, own, place_block, planned, sync_at}
 use Rattle.thread.proofs.Passing.{pass_commits, passes_through}
 use Rattle.thread.proofs.Shaping.{scopes, tree_nacks, tree_offers}

@@ -1,17 +1,17 @@
 -- A loop that takes one more turn.
-use Rattle.std.proofs.Common.{◌≡◌, ℕ, suc, ◌+◌, ◌<◌, List, [], ◌∷◌, ◌++◌, refl, sym, ap, ◌∙◌, subst, arith}
+use Rattle.std.proofs.Common.{◌≡◌, ℕ, suc, ◌+◌, ◌<◌, List, [], ◌∷◌, ◌++◌, sym, ap, ◌∙◌, subst, arith}
 use Rattle.code.specs.declared.Code.{Code}
 use Rattle.thread.specs.declared.stack.Frame.{Frame}
 use Rattle.thread.specs.declared.stack.Frame.TheVariants.{Times, Endless}
 use Rattle.thread.specs.declared.stack.Opening.{Opening}
-use Rattle.thread.specs.After.{State, endless, times}
+use Rattle.thread.specs.After.{State}
 use Rattle.thread.specs.Fitting.{FramesFit, HasSync, IsOpening}
 use Rattle.thread.specs.Reaches.{frames_reach, loop_reach, opening_reach}
 use Rattle.thread.specs.Resolving.{Lists}
 use Rattle.thread.specs.Stacks.{frames_on, opening_on, others, sync_at, turn_on}
 use Rattle.thread.proofs.Beginning.{begun, opening_begins, opening_fits, others_all, reach_of}
 use Rattle.thread.proofs.Binding.{bind_each}
-use Rattle.thread.proofs.Stacking.{frame_off, frame_put, reach_pushed, with_frame_on}
+use Rattle.thread.proofs.Stacking.{with_frame_on}
 use Rattle.thread.proofs.Taking.{endless_more, times_more}
 
 module _ (c : Code) (whole below again : List Frame) (plan : ℕ) (l : Lists) (o : Opening) (begins : o ≡ begun plan l) where
@@ -36,6 +36,7 @@ module _ (c : Code) (whole below again : List Frame) (plan : ℕ) (l : Lists) (o
 
   -- the frame goes on as it was, or with one turn less
   pub loop_fits : (f : Frame) → again ≡ below ++ f ∷ [] → HasSync c plan → (FramesFit c below l → FramesFit c again l) → FramesFit c below l → IsOpening c l o × FramesFit c again (others o l)
-  loop_fits f put sync goes h =
-      (subst (IsOpening c l) (sym begins) (opening_fits c plan l sync),
-      subst (FramesFit c again) (sym (ap (λ o. others o l) begins ∙ others_all plan l)) (goes h))
+  loop_fits f put sync goes h = (
+    subst (IsOpening c l) (sym begins) (opening_fits c plan l sync),
+    subst (FramesFit c again) (sym (ap (λ o. others o l) begins ∙ others_all plan l)) (goes h),
+  )

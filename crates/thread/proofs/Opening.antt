@@ -1,8 +1,8 @@
 -- A sync that goes through its next stage.
-use Rattle.std.proofs.Common.{◌≡◌, ℕ, zero, suc, ◌+◌, ◌<◌, ◌≤◌, List, [], ◌∷◌, ◌++◌, Option, None, Some, Result, Ok, Err, drop, take, length, map, slice_get, refl, sym, ap, ap₂, ◌∙◌, subst, append-nil, arith, length-append}
+use Rattle.std.proofs.Common.{◌≡◌, ℕ, zero, suc, ◌+◌, ◌<◌, ◌≤◌, List, [], ◌∷◌, ◌++◌, None, Some, Ok, Err, drop, take, length, map, slice_get, refl, sym, ap, ap₂, ◌∙◌, subst, append-nil, arith, length-append}
 use Rattle.std.proofs.lemmas.List.{drop-append-le, map-append, take-append-le}
 use Rattle.std.proofs.lemmas.Option.{none-some, same_Some}
-use Rattle.code.specs.Codes.{AreStages, HasPlan, IsAt, IsStage}
+use Rattle.code.specs.Codes.{AreStages, IsAt, IsStage}
 use Rattle.code.specs.Stages.{Stage, Offered, Performed, Made, stages}
 use Rattle.code.specs.declared.Code.{Code}
 use Rattle.code.specs.declared.Plan.{Plan}
@@ -16,7 +16,7 @@ use Rattle.thread.specs.declared.stack.Frame.{Frame}
 use Rattle.thread.specs.declared.stack.Frame.TheVariants.{Event}
 use Rattle.thread.specs.declared.stack.Opening.{Opening}
 use Rattle.thread.specs.After.{State, Outcome, Goes, Fails, ◌>>=◌, given, run_block, with_nack}
-use Rattle.thread.specs.Fitting.{FramesFit, HasPlace, HasSync, IsOpening, masks, nacks_made}
+use Rattle.thread.specs.Fitting.{FramesFit, HasPlace, IsOpening, masks, nacks_made}
 use Rattle.thread.specs.Reaches.{frames_reach, opening_reach, stages_reach, stmts_reach}
 use Rattle.thread.specs.Resolving.{Lists, Listed, base_value, run_stage, run_stages, with_offer, with_scope}
 use Rattle.thread.specs.Stacks.{Further, frames_on, offered, opening_on, others, own, place_block, sync_at}
@@ -164,18 +164,19 @@ module _ (c : Code) (o : Opening) (l : Lists) (plan : Plan) (fits : IsOpening c 
       pub offer_fits : (frames : List Frame) → FramesFit c frames (others o l) → IsOpening c m (next o) × FramesFit c frames (others (next o) m)
       offer_fits frames h =
           let x : Offer = record { base = base; scopes = mask } in
-          let mine = ap (own o) put ∙ own_offer o l x fits.first_offer in
-          (record {
-            sync = fits.sync;
-            stage = omega (arith, (here (seen.Offer event mask) at).within);
-            first_offer = omega (arith, ap (λ (k : Lists). length k.offers) put, length-append l.offers (x ∷ []), fits.first_offer);
-            first_nack = omega (arith, ap (λ (k : Lists). length k.nacks) put, fits.first_nack);
-            masks =
-                ap (λ (k : Lists). map (λ (p : Offer). p.scopes) k.offers) mine ∙ map-append (λ (p : Offer). p.scopes) (own o l).offers (x ∷ [])
-                ∙ ap (λ ms. ms ++ mask ∷ []) fits.masks ∙ sym (masks_so_far (seen.Offer event mask) at _ offers);
-            nacks = ap (λ (k : Lists). length k.nacks) mine ∙ omega (arith, fits.nacks, nacks_so_far (seen.Offer event mask) at _ offers);
-          },
-          subst (FramesFit c frames) (sym (ap (others o) put ∙ others_offer o l x fits.first_offer)) h)
+          let mine = ap (own o) put ∙ own_offer o l x fits.first_offer in (
+            record {
+              sync = fits.sync;
+              stage = omega (arith, (here (seen.Offer event mask) at).within);
+              first_offer = omega (arith, ap (λ (k : Lists). length k.offers) put, length-append l.offers (x ∷ []), fits.first_offer);
+              first_nack = omega (arith, ap (λ (k : Lists). length k.nacks) put, fits.first_nack);
+              masks =
+                  ap (λ (k : Lists). map (λ (p : Offer). p.scopes) k.offers) mine ∙ map-append (λ (p : Offer). p.scopes) (own o l).offers (x ∷ [])
+                  ∙ ap (λ ms. ms ++ mask ∷ []) fits.masks ∙ sym (masks_so_far (seen.Offer event mask) at _ offers);
+              nacks = ap (λ (k : Lists). length k.nacks) mine ∙ omega (arith, fits.nacks, nacks_so_far (seen.Offer event mask) at _ offers);
+            },
+            subst (FramesFit c frames) (sym (ap (others o) put ∙ others_offer o l x fits.first_offer)) h,
+          )
 
   -- a block
   module _ (q : ℕ) (at : slice_get plan.stages.items o.stage ≡ Some (seen.Body q)) (new old : List Frame) (put : new ≡ old ++ Event (next o) ∷ []) where
@@ -198,16 +199,20 @@ module _ (c : Code) (o : Opening) (l : Lists) (plan : Plan) (fits : IsOpening c 
     body_falls = omega (arith, ap stmts_reach (at_is c q body.0 body.2), reach_pushed c new old (Event (next o)) put, stage_falls (seen.Body q) at _ body.1)
 
     pub body_fits : FramesFit c old (others o l) → HasPlace c q × FramesFit c new l
-    body_fits h =
-        (at_there c q body.0 body.2,
-        frame_put c new old (Event (next o)) l put (record {
+    body_fits h = (
+      at_there c q body.0 body.2,
+      frame_put c new old (Event (next o)) l put (
+        record {
           sync = fits.sync;
           stage = omega (arith, (here (seen.Body q) at).within);
           first_offer = fits.first_offer;
           first_nack = fits.first_nack;
           masks = fits.masks ∙ sym (masks_so_far (seen.Body q) at _ body.1 ∙ append-nil _);
           nacks = omega (arith, fits.nacks, nacks_so_far (seen.Body q) at _ body.1);
-        }, h))
+        },
+        h,
+      ),
+    )
 
   -- a nack
   module _ (name : ℕ) (at : slice_get plan.stages.items o.stage ≡ Some (seen.Nack name)) where
@@ -232,13 +237,14 @@ module _ (c : Code) (o : Opening) (l : Lists) (plan : Plan) (fits : IsOpening c 
 
       pub nack_fits : (frames : List Frame) → FramesFit c frames (others o l) → IsOpening c m (next o) × FramesFit c frames (others (next o) m)
       nack_fits frames h =
-          let mine = ap (own o) put ∙ own_scope o l k fits.first_nack in
-          (record {
-            sync = fits.sync;
-            stage = omega (arith, (here (seen.Nack name) at).within);
-            first_offer = omega (arith, ap (λ (j : Lists). length j.offers) put, fits.first_offer);
-            first_nack = omega (arith, ap (λ (j : Lists). length j.nacks) put, length-append l.nacks (k ∷ []), fits.first_nack);
-            masks = ap (λ (j : Lists). map (λ (p : Offer). p.scopes) j.offers) mine ∙ fits.masks ∙ sym (masks_so_far (seen.Nack name) at _ makes ∙ append-nil _);
-            nacks = omega (arith, ap (λ (j : Lists). length j.nacks) mine, length-append (own o l).nacks (k ∷ []), fits.nacks, nacks_so_far (seen.Nack name) at _ makes);
-          },
-          subst (FramesFit c frames) (sym (ap (others o) put ∙ others_scope o l k fits.first_nack)) h)
+          let mine = ap (own o) put ∙ own_scope o l k fits.first_nack in (
+            record {
+              sync = fits.sync;
+              stage = omega (arith, (here (seen.Nack name) at).within);
+              first_offer = omega (arith, ap (λ (j : Lists). length j.offers) put, fits.first_offer);
+              first_nack = omega (arith, ap (λ (j : Lists). length j.nacks) put, length-append l.nacks (k ∷ []), fits.first_nack);
+              masks = ap (λ (j : Lists). map (λ (p : Offer). p.scopes) j.offers) mine ∙ fits.masks ∙ sym (masks_so_far (seen.Nack name) at _ makes ∙ append-nil _);
+              nacks = omega (arith, ap (λ (j : Lists). length j.nacks) mine, length-append (own o l).nacks (k ∷ []), fits.nacks, nacks_so_far (seen.Nack name) at _ makes);
+            },
+            subst (FramesFit c frames) (sym (ap (others o) put ∙ others_scope o l k fits.first_nack)) h,
+          )

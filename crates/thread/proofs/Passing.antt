@@ -1,9 +1,9 @@
 -- A message that passes out of an event goes through the wraps that the event's tree has round its base event.
-use Rattle.std.proofs.Common.{◌≡◌, ℕ, zero, suc, ◌+◌, ◌≤◌, ◌<◌, List, [], ◌∷◌, ◌++◌, Option, None, Some, drop, get_or, length, slice_get, refl, sym, ap, ◌∙◌, subst, subst₂, arith, append_assoc, append-nil, length-append}
+use Rattle.std.proofs.Common.{◌≡◌, ℕ, zero, suc, ◌+◌, ◌≤◌, List, [], ◌∷◌, ◌++◌, Option, None, Some, drop, get_or, length, slice_get, refl, sym, ap, ◌∙◌, subst, subst₂, arith, append_assoc, append-nil, length-append}
 use Rattle.std.specs.Option.{option_map}
 use Rattle.std.specs.Prelude.{⊤}
 use Rattle.event.proofs.TreeLemmas.{wraps_at-first, wraps_at-second, wraps_at-Wrap, wraps_at-Scope, base_count-Or, base_count-Wrap, base_count-Scope}
-use Rattle.event.specs.Tree.{Tree, Single, Or, Wrap, wraps_at, base_count as bases_in}
+use Rattle.event.specs.Tree.{Tree, Single, Or, wraps_at, base_count as bases_in}
 use Rattle.syntax.specs.Limits.{base_count, bases_of_all, nack_count}
 use Rattle.syntax.specs.Trees.{Event, Sends, Receives, IsReady, IsNever, IsCancelled, Chooses, Wraps, Guards, Nacks, Events, NoMembers, Members}
 use Rattle.words.specs.declared.Base.{Base}
@@ -94,7 +94,7 @@ mutual
       let all = (ws ++ wr ∷ wraps_in e) ++ more in
       let t = tree_with (w + 1) e bs ns in
       let inner = subst₂ (λ every tree. Carries every (base_count e) (pass e n m s) n m s (wraps_at tree n))
-          (ap (λ l. l ++ more) (append_assoc ws (wr ∷ []) (wraps_in e))) (ap (λ k. tree_with k e bs ns) (length-append ws (wr ∷ []))) (carries e (ws ++ wr ∷ []) more bs ns n m s) in
+      (ap (λ l. l ++ more) (append_assoc ws (wr ∷ []) (wraps_in e))) (ap (λ k. tree_with k e bs ns) (length-append ws (wr ∷ []))) (carries e (ws ++ wr ∷ []) more bs ns n m s) in
       let there : slice_get all w ≡ Some wr = ap (λ l. slice_get l w) (append_assoc ws (wr ∷ wraps_in e) more) ∙ at_seam ws wr (wraps_in e ++ more) in
       subst (Carries all (base_count e) (wrapped_in wr (pass e n m s)) n m s) (sym (wraps_at-Wrap w t n)) (wrap_carries all w wr (base_count e) n (pass e n m s) m s (wraps_at t n) there inner)
   carries (Guards body e) ws more bs ns n m s = carries e ws more bs ns n m s
@@ -108,12 +108,12 @@ mutual
       let t = tree_with (length ws) e bs ns in
       let u = choice_with (length ws + length (wraps_in e)) es (drop (base_count e) bs) (drop (nack_count e) ns) in
       let same : (ws ++ wraps_in e) ++ (wraps_in_all es ++ more) ≡ all =
-          sym (append_assoc (ws ++ wraps_in e) (wraps_in_all es) more) ∙ ap (λ l. l ++ more) (append_assoc ws (wraps_in e) (wraps_in_all es)) in
+      sym (append_assoc (ws ++ wraps_in e) (wraps_in_all es) more) ∙ ap (λ l. l ++ more) (append_assoc ws (wraps_in e) (wraps_in_all es)) in
       let first = subst (λ every. Carries every (base_count e) (pass e n m s) n m s (wraps_at t n)) same (carries e ws (wraps_in_all es ++ more) bs ns n m s) in
       let others : (k : ℕ) → Carries all (bases_of_all es) (pass_all es k m s) k m s (wraps_at u k) = λ k.
-          subst₂ (λ every tree. Carries every (bases_of_all es) (pass_all es k m s) k m s (wraps_at tree k))
-          (ap (λ l. l ++ more) (append_assoc ws (wraps_in e) (wraps_in_all es))) (ap (λ w. choice_with w es (drop (base_count e) bs) (drop (nack_count e) ns)) (length-append ws (wraps_in e)))
-          (carries_all es (ws ++ wraps_in e) more (drop (base_count e) bs) (drop (nack_count e) ns) k m s) in
+      subst₂ (λ every tree. Carries every (bases_of_all es) (pass_all es k m s) k m s (wraps_at tree k))
+      (ap (λ l. l ++ more) (append_assoc ws (wraps_in e) (wraps_in_all es))) (ap (λ w. choice_with w es (drop (base_count e) bs) (drop (nack_count e) ns)) (length-append ws (wraps_in e)))
+      (carries_all es (ws ++ wraps_in e) more (drop (base_count e) bs) (drop (nack_count e) ns) k m s) in
       or_carries all t u (base_count e) (bases_of_all es) n (pass e n m s) (λ k. pass_all es k m s) m s (wraps_at t n) refl (bases_with (length ws) e bs ns) first others
 
 -- WHOLE EVENTS

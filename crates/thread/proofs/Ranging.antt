@@ -3,7 +3,6 @@ use Rattle.std.proofs.Common.{ℕ, ◌+◌, ◌<◌, List, [], ◌∷◌, subst}
 use Rattle.std.proofs.lemmas.List.Elements.{All-nil, All-cons, All-head, All-tail, All-append, All-map}
 use Rattle.std.specs.Prelude.{⊤, All}
 use Rattle.event.specs.Tree.{Tree, Single, Nothing, Or, Wrap, Scope, bases, bases_from, offers, offer_of, scope_count, with_scope, with_wrap}
-use Rattle.event.specs.Resolved.{tree_of}
 use Rattle.syntax.specs.Trees.{block_of}
 use Rattle.words.specs.declared.Base.{Base}
 use Rattle.words.specs.declared.Base.TheVariants.{Send, Recv, Always, OnNack, Never}

@@ -1,13 +1,13 @@
 -- The tree that an event's offers and nacks stand for makes these offers, with these nacks.
 use Rattle.std.proofs.Common.{◌≡◌, ℕ, zero, suc, ◌+◌, ◌≤◌, ◌^◌, List, [], ◌∷◌, ◌++◌, drop, get_or, take, length, map, refl, sym, ap, ap₂, ◌∙◌, subst, subst₂, arith}
-use Rattle.std.proofs.lemmas.List.{length-drop, length-map, length-take-le, map-append, nil_from_length, take-append-drop}
+use Rattle.std.proofs.lemmas.List.{length-drop, length-map, length-take-le, nil_from_length, take-append-drop}
 use Rattle.std.proofs.Math.Seq.{drop-append_seam, take-append_seam}
 use Rattle.std.specs.Prelude.{bit_or}
 use Rattle.code.specs.Stages.{stages, stages_of_all}
 use Rattle.event.proofs.StepLemmas.{offers_within-Single, offers_within-Or, offers_within-Wrap, offers_within-Scope, offers_within-offers}
 use Rattle.event.proofs.TreeLemmas.{scope_count-Or}
 use Rattle.event.specs.Steps.{offers_within}
-use Rattle.event.specs.Tree.{Tree, Single, Nothing, Or, Wrap, Scope, offers, scope_count, scope_nacks}
+use Rattle.event.specs.Tree.{Tree, Single, Or, Wrap, offers, scope_count, scope_nacks}
 use Rattle.syntax.specs.Limits.{base_count, nack_count, bases_of_all, nacks_of_all}
 use Rattle.syntax.specs.Trees.{Event, Sends, Receives, IsReady, IsNever, IsCancelled, Chooses, Wraps, Guards, Nacks, Events, NoMembers, Members}
 use Rattle.words.specs.declared.Base.{Base}
@@ -66,12 +66,13 @@ Makes a n t os ns = (offers_within a n t ≡ os) × (scope_nacks t ≡ ns)
 
 base_makes : (a n : ℕ) (e : Event) (os : List Offer) (ns : List ℕ) → ((bs : List Base) (ks : List ℕ) → tree_with 0 e bs ks ≡ Single (get_or bs 0 Never)) → Have 0 (a ∷ []) os ns → Makes a n (Single (get_or (bases os) 0 Never)) os ns
 base_makes a n e os ns is h =
-    let one = one_offer a n os h.0 in
-    (offers_within-Single a n (get_or (bases os) 0 Never)
-    ∙ ap (λ l. record { base = get_or (bases l) 0 Never; scopes = a } ∷ []) one.1
-    ∙ ap (λ m. record { base = one.0.base; scopes = m } ∷ []) (sym one.2)
-    ∙ sym one.1,
-    sym (nil_from_length ns h.1))
+    let one = one_offer a n os h.0 in (
+      offers_within-Single a n (get_or (bases os) 0 Never)
+          ∙ ap (λ l. record { base = get_or (bases l) 0 Never; scopes = a } ∷ []) one.1
+          ∙ ap (λ m. record { base = one.0.base; scopes = m } ∷ []) (sym one.2)
+          ∙ sym one.1,
+      sym (nil_from_length ns h.1),
+    )
 
 wrap_makes : (a n w : ℕ) (t : Tree) (os : List Offer) (ns : List ℕ) → Makes a n t os ns → Makes a n (Wrap w t) os ns
 wrap_makes a n w t os ns h = (offers_within-Wrap a n w t ∙ h.0, h.1)
@@ -132,9 +133,9 @@ mutual
       let first = makes a n w e (take k os) (take j ns) (first_scopes (masks (stages a n e)) (masks (stages_of_all a more es)) k os (offers_of a n e) parted, length-take-le j ns (omega (arith, h.1))) in
       let others = makes_all a more v es (drop k os) (drop j ns) (other_scopes (masks (stages a n e)) (masks (stages_of_all a more es)) k os (offers_of a n e) parted, omega (arith, length-drop j ns, h.1)) in
       let tree : tree_with w e (bases os) ns ≡ tree_with w e (bases (take k os)) (take j ns) =
-          own_tree w e (bases os) ns (omega (arith, many, length-map os (λ (o : Offer). o.base))) (omega (arith, h.1)) ∙ ap (λ bs. tree_with w e bs (take j ns)) (sym (map-take (λ (o : Offer). o.base) k os)) in
+      own_tree w e (bases os) ns (omega (arith, many, length-map os (λ (o : Offer). o.base))) (omega (arith, h.1)) ∙ ap (λ bs. tree_with w e bs (take j ns)) (sym (map-take (λ (o : Offer). o.base) k os)) in
       let choice : choice_with v es (drop k (bases os)) (drop j ns) ≡ choice_with v es (bases (drop k os)) (drop j ns) =
-          ap (λ bs. choice_with v es bs (drop j ns)) (sym (map-drop (λ (o : Offer). o.base) k os)) in
+      ap (λ bs. choice_with v es bs (drop j ns)) (sym (map-drop (λ (o : Offer). o.base) k os)) in
       let count : n + scope_count (tree_with w e (bases os) ns) ≡ more = ap (λ x. n + x) (scopes_with w e (bases os) ns) in
       or_makes a n (tree_with w e (bases os) ns) (choice_with v es (drop k (bases os)) (drop j ns)) (take k os) (drop k os) (take j ns) (drop j ns) os ns
       (subst (λ t. Makes a n t (take k os) (take j ns)) (sym tree) first)

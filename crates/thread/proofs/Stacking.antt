@@ -2,7 +2,7 @@
 use Rattle.std.proofs.Common.{◌≡◌, ℕ, List, [], ◌∷◌, ◌++◌, Option, Some, None, slice_get, refl, sym, ap, ◌∙◌, subst}
 use Rattle.std.proofs.lemmas.Option.{none-some}
 use Rattle.std.specs.Option.{option_map}
-use Rattle.code.specs.Codes.{BlockLeads, HasPlan, IsAt, IsLinked, StmtLeads, block_at}
+use Rattle.code.specs.Codes.{BlockLeads, HasPlan, IsAt, IsLinked, StmtLeads}
 use Rattle.code.specs.declared.Code.{Code}
 use Rattle.code.specs.declared.Place.{Place}
 use Rattle.syntax.specs.Trees.{Block, Runs, Stmt, Event, Turn, block_of}

@@ -5,14 +5,14 @@ use Rattle.std.proofs.Math.Seq.{drop-append_seam}
 use Rattle.std.proofs.Math.ListN.{get_or-append}
 use Rattle.std.specs.Prelude.{⊤, bit_or}
 use Rattle.code.specs.Stages.{Stage, Offered, Performed, Made, stages, stages_of_all}
-use Rattle.event.specs.Tree.{Tree, Single, Nothing, Or, Wrap, Scope}
+use Rattle.event.specs.Tree.{Single, Nothing, Or, Wrap, Scope}
 use Rattle.syntax.specs.Limits.{base_count, nack_count, bases_of_all, nacks_of_all}
-use Rattle.syntax.specs.Trees.{Event, Sends, Receives, IsReady, IsNever, IsCancelled, Chooses, Wraps, Guards, Nacks, Events, NoMembers, Members, Turn, Block}
+use Rattle.syntax.specs.Trees.{Event, Sends, Receives, IsReady, IsNever, IsCancelled, Chooses, Wraps, Guards, Nacks, Events, NoMembers, Members, Block}
 use Rattle.words.specs.declared.Base.{Base}
 use Rattle.words.specs.declared.Base.TheVariants.{Never}
 use Rattle.words.specs.declared.Offer.{Offer}
 use Rattle.thread.specs.declared.Fault.{Fault}
-use Rattle.thread.specs.After.{State, Outcome, Goes, Offers, Finishes, Fails, Strays, ◌>>=◌, Formed, Wrapping, given, formed, with_nack, as_wrap, as_scope, as_first, run_block, resolve, resolve_all}
+use Rattle.thread.specs.After.{State, Outcome, Goes, ◌>>=◌, Formed, Wrapping, given, formed, with_nack, as_wrap, as_scope, as_first, run_block, resolve, resolve_all}
 use Rattle.thread.specs.Fitting.{masks, nacks_made}
 use Rattle.thread.specs.Resolving.{Lists, Listed, base_value, formed_as, no_lists, run_stage, run_stages, with_offer, with_scope}
 use Rattle.thread.specs.Shapes.{choice_with, tree_with, wraps_in, wraps_in_all}

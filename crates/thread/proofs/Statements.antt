@@ -1,15 +1,15 @@
 -- The first statement at a place of a linked code.
-use Rattle.std.proofs.Common.{◌≡◌, ℕ, ◌+◌, ◌<◌, List, [], ◌∷◌, ◌++◌, Option, Some, Ok, true, false, slice_get, refl, sym, ap, ap₂, ◌∙◌, subst, subst₂, arith}
-use Rattle.std.specs.Prelude.{Bool, if◌then◌else◌}
+use Rattle.std.proofs.Common.{◌≡◌, ℕ, ◌+◌, ◌<◌, List, [], ◌∷◌, ◌++◌, Option, Some, Ok, true, false, slice_get, sym, ap, ◌∙◌, subst, arith}
+use Rattle.std.specs.Prelude.{if◌then◌else◌}
 use Rattle.code.specs.Codes.{HasPlan, IsAt, IsLinked}
 use Rattle.code.specs.declared.Code.{Code}
 use Rattle.code.specs.declared.Place.{Place}
-use Rattle.syntax.specs.Trees.{Block, Runs, Stmt, Syncs, Branches, Loops, LoopsForever, Event, Test, Turn, block_of}
+use Rattle.syntax.specs.Trees.{Block, Runs, Stmt, Syncs, Branches, Loops, LoopsForever, Event, Test, block_of}
 use Rattle.thread.specs.declared.stack.Frame.{Frame}
 use Rattle.thread.specs.declared.stack.Frame.TheVariants.{Rest, Times, Endless}
 use Rattle.thread.specs.declared.stack.Opening.{Opening}
-use Rattle.thread.specs.After.{State, Outcome, ◌>>=◌, endless, given, run_block, run_stmt, times}
-use Rattle.thread.specs.Fitting.{FrameFits, FramesFit, HasPlace, HasSync, IsOpening}
+use Rattle.thread.specs.After.{State, ◌>>=◌, endless, given, run_block, run_stmt, times}
+use Rattle.thread.specs.Fitting.{FramesFit, HasPlace, IsOpening}
 use Rattle.thread.specs.Reaches.{event_reach, frame_reach, frames_reach, opening_reach, stmt_reach, stmts_reach}
 use Rattle.thread.specs.Resolving.{Lists}
 use Rattle.thread.specs.Stacks.{Further, frame_on, frames_on, opening_on, others, place_block, sync_at, turn_on}
@@ -79,9 +79,10 @@ module _ (c : Code) (at : ℕ) (p : Place) (names : Option (List ℕ)) (event : 
       omega (arith, ap (opening_reach c) begins, reach_of 0 0 (sync_at c p.first).event, ap (λ t. event_reach t.event) (sync_is c p.first names event rest plan), ap stmts_reach (place_is c at p there ∙ runs))
 
   pub sync_fits : (frames : List Frame) → FramesFit c frames l → IsOpening c l o × FramesFit c frames (others o l)
-  sync_fits frames h =
-      (subst (IsOpening c l) (sym begins) (opening_fits c p.first l (has_sync c p.first names event rest plan)),
-      subst (FramesFit c frames) (sym (ap (λ o. others o l) begins ∙ others_all p.first l)) h)
+  sync_fits frames h = (
+    subst (IsOpening c l) (sym begins) (opening_fits c p.first l (has_sync c p.first names event rest plan)),
+    subst (FramesFit c frames) (sym (ap (λ o. others o l) begins ∙ others_all p.first l)) h,
+  )
 
 -- the block that a test chooses
 pub branch_true : (test : Test) (first second : Block) (s : State) → test_value s.store test ≡ Ok true → run_stmt (Branches test first second) s ≡ run_block first s

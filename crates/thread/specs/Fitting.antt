@@ -1,5 +1,5 @@
 -- What is left to do fits its code, and the lists of offers and nacks.
-use Rattle.std.specs.Prelude.{◌≡◌, ℕ, zero, suc, ◌+◌, ◌≤◌, List, [], ◌∷◌, drop, length, map, take, Some, slice_get, ⊤}
+use Rattle.std.specs.Prelude.{◌≡◌, ℕ, ◌+◌, ◌≤◌, List, [], ◌∷◌, length, map, take, Some, slice_get, ⊤}
 use Rattle.code.specs.Codes.{HasPlan}
 use Rattle.code.specs.Stages.{Stage, Offered, Performed, Made, stages}
 use Rattle.code.specs.declared.Code.{Code}

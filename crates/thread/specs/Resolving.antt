@@ -2,7 +2,7 @@
 use Rattle.std.specs.Prelude.{ℕ, List, [], ◌∷◌, ◌++◌, map, Result, Ok}
 use Rattle.code.specs.Stages.{Stage, Offered, Performed, Made}
 use Rattle.event.specs.Tree.{Tree}
-use Rattle.syntax.specs.Trees.{Event, Sends, Receives, IsReady, IsNever, IsCancelled, Chooses, Wraps, Guards, Nacks}
+use Rattle.syntax.specs.Trees.{Event, Sends, Receives, IsReady, IsCancelled}
 use Rattle.words.specs.declared.Base.{Base}
 use Rattle.words.specs.declared.Base.TheVariants.{Never}
 use Rattle.words.specs.declared.Offer.{Offer}

@@ -1,5 +1,5 @@
 -- What is left to do, as numbers of a code: what the thread comes to that does it.
-use Rattle.std.specs.Prelude.{◌≡◌, ℕ, List, [], ◌∷◌, drop, take, Option, None, Some, Result, Ok, Err, slice_get}
+use Rattle.std.specs.Prelude.{ℕ, List, [], ◌∷◌, drop, take, Option, None, Some, Result, Ok, Err, slice_get}
 use Rattle.std.specs.Option.{option_map}
 use Rattle.code.specs.Codes.{block_at}
 use Rattle.code.specs.Stages.{stages}

@@ -41,12 +41,7 @@ fn wrap(
 }
 
 /// Takes a message from base event n, if it lies within the event, out through the wraps round that.
-fn pass(
-    event: &Event,
-    mut n: u8,
-    message: Message,
-    memory: &mut Memory,
-) -> Result<Passage, Fault>
+fn pass(event: &Event, mut n: u8, message: Message, memory: &mut Memory) -> Result<Passage, Fault>
     ensures { Passes (event_of event.now) n message memory.old memory.new result }
 {
     match event {

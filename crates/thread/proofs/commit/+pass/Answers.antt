@@ -1,4 +1,4 @@
-use Rattle.std.proofs.Common.{◌≡◌, ◌∙◌, Ok, sym, ap, subst}
+use Rattle.std.proofs.Common.{◌∙◌, Ok, sym, ap, subst}
 use Rattle.std.specs.Option.{option_map}
 use Rattle.syntax.specs.Trees.{event_of, exprs_of, names_of}
 use Rattle.thread.specs.Passages.{Passes}

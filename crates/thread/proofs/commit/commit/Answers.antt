@@ -1,11 +1,9 @@
-use Rattle.std.proofs.Common.{◌≡◌, ◌∙◌, ◌∷◌, [], Ok, refl, sym, ap, ap₂, subst, subst₂}
-use Rattle.std.specs.Option.{option_map}
-use Rattle.syntax.specs.Trees.{event_of, names_of}
-use Rattle.thread.specs.After.{Chosen, Outcome, State, Having, ◌>>=◌, received, run_block}
+use Rattle.std.proofs.Common.{◌∙◌, [], Ok, sym, ap, ap₂, subst₂}
+use Rattle.syntax.specs.Trees.{event_of}
+use Rattle.thread.specs.After.{◌>>=◌, run_block}
 use Rattle.thread.specs.Passages.{Passes}
-use Rattle.thread.specs.Passing.{Through, pass}
-use Rattle.thread.specs.Resolving.{Lists}
-use Rattle.thread.specs.Stacks.{frames_on, lists_of, message_after, others, place_block, state_after, state_of}
+use Rattle.thread.specs.Passing.{pass}
+use Rattle.thread.specs.Stacks.{frames_on, lists_of, others, place_block, state_of}
 use Rattle.thread.proofs.Committing.{comes_through, commit_does}
 use Rattle.thread.proofs.commit.commit.Goals as goal
 

@@ -1,12 +1,11 @@
-use Rattle.std.proofs.Common.{rules, ◌≡◌, ◌+◌, ◌<◌, ◌≤◌, ◌∙◌, Ok, Err, Some, None, false, true, length, nat_le, refl, slice_get, sym, ap, ap₂, arith}
+use Rattle.std.proofs.Common.{rules, ◌≡◌, ◌+◌, ◌∙◌, Some, false, true, length, nat_le, refl, slice_get, sym, ap, ap₂}
 use Rattle.std.proofs.lemmas.Bool.Decides.{nat_tests}
 use Rattle.std.proofs.lemmas.Option.{slice_get_past, slice_get_read}
 use Rattle.std.specs.Prelude.{if◌then◌else◌}
-use Rattle.code.specs.declared.Stage.TheVariants as seen
 use Rattle.syntax.specs.Trees.{event_of}
 use Rattle.words.specs.declared.Atom.TheVariants.{Nack}
 use Rattle.thread.specs.declared.Fault.TheVariants.{Range}
-use Rattle.thread.specs.After.{Outcome, State, Goes, Fails, with_nack, with_variable}
+use Rattle.thread.specs.After.{Outcome, State, Goes, Fails, with_variable}
 use Rattle.thread.specs.Resolving.{base_value, with_offer, with_scope}
 use Rattle.thread.specs.Stacks.{frames_on, lists_of, state_of}
 use Rattle.thread.proofs.Opening.{open_does, open_whole, offer_does, offer_fails, offer_falls, offer_fits, body_does, body_falls, body_fits, nack_does, nack_fails, nack_falls, nack_fits}

@@ -1,4 +1,4 @@
-use Rattle.std.proofs.Common.{◌≡◌, ◌++◌, ◌∷◌, [], ◌∙◌, refl, sym, ap, subst, arith}
+use Rattle.std.proofs.Common.{◌≡◌, ◌++◌, ◌∷◌, [], ◌∙◌, sym, ap, arith}
 use Rattle.thread.specs.declared.stack.Frame.TheVariants.{Rest, Times, Endless, Event}
 use Rattle.thread.specs.After.{◌>>=◌, times}
 use Rattle.thread.specs.Stacks.{frames_on, lists_of, state_of, sync_at, turn_on}

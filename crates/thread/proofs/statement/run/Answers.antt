@@ -1,7 +1,6 @@
-use Rattle.std.proofs.Common.{◌≡◌, ◌∙◌, Ok, true, false, sym, ap, subst, arith}
-use Rattle.code.specs.Codes.{HasPlan, StmtLeads}
-use Rattle.syntax.specs.Trees.{Block, Branches, Event, Loops, LoopsForever, Runs, Stmt, block_of, event_of, names_of, stmt_of, test_of, turn_of}
-use Rattle.thread.specs.declared.stack.Frame.TheVariants.{Rest, Times, Endless}
+use Rattle.std.proofs.Common.{◌∙◌, Ok, sym, ap, arith}
+use Rattle.syntax.specs.Trees.{Runs, block_of, stmt_of, test_of}
+use Rattle.thread.specs.declared.stack.Frame.TheVariants.{Times, Endless}
 use Rattle.thread.specs.Reaches.{event_reach}
 use Rattle.thread.specs.Stacks.{frames_on, lists_of, state_of}
 use Rattle.thread.specs.Values.{test_value}
