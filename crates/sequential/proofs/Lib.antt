@@ -9,9 +9,9 @@ pub mod Running
 mod Remembering
 mod Replaying
 mod Ending
-mod Indexing
 mod Listing
+mod Removing
+mod Covering
 mod Bounding
-mod Enabling
 pub mod Telling
 pub mod Fronts

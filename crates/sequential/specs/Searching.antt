@@ -1,77 +1,49 @@
 -- What a search for a commit that may come next looks through.
-use Rattle.std.specs.Prelude.{◌≡◌, ◌≢◌, ◌⊎◌, ◌==◌, Bool, not, false, ℕ, ◌+◌, ◌<◌, ◌≤◌, max, List, length, if◌then◌else◌, nat_lt, Option, Some, None, Contains, slice_get, slice_index_or}
+use Rattle.std.specs.Prelude.{◌≡◌, ◌≢◌, ◌⊎◌, ⊤, ℕ, ◌+◌, ◌<◌, ◌≤◌, max, List, [], length, Option, Some, None, Contains, slice_get, slice_index_or}
 use Rattle.std.specs.List.{sum_by}
 use Rattle.words.specs.declared.Base.{Base}
-use Rattle.words.specs.declared.Base.TheVariants.{Send, Recv}
+use Rattle.words.specs.declared.Base.TheVariants.{Send, Recv, OnNack, Never}
+use Rattle.words.specs.declared.Base.TheVariants as base
 use Rattle.words.specs.declared.Cause.{Cause}
+use Rattle.words.specs.declared.Cause.TheVariants.{Always, Nack}
 use Rattle.words.specs.declared.Commit.{Commit}
 use Rattle.words.specs.declared.Commit.TheVariants.{Pair, Alone}
 use Rattle.words.specs.declared.Message.{Message}
 use Rattle.words.specs.declared.NackName.{NackName}
 use Rattle.words.specs.declared.Row.{Row}
-use Rattle.sequential.specs.declared.receivers.Receivers.{Receivers}
+use Rattle.sequential.specs.declared.openings.Openings.{Openings}
 use Rattle.sequential.specs.declared.strand.Strand.{Strand}
-use Rattle.sequential.specs.Standing.{CauseIsAt, Finds, MayFollow, base_for, last_in, fired_in}
+use Rattle.sequential.specs.declared.waiters.Side.{Side}
+use Rattle.sequential.specs.declared.waiters.Side.TheVariants.{Sends, Receives}
+use Rattle.sequential.specs.Standing.{CauseIsAt, Finds, MayFollow, last_in, fired_in}
 
--- an offer by its row and number, and its base event
-abbrev pub Offered : Type 0
-Offered = (Row × ℕ) × Base
+-- offers by row and number
+abbrev pub Places : Type 0
+Places = List (Row × ℕ)
 
--- the offer stands before number n of thread t
-abbrev pub IsBefore : ℕ → ℕ → Row × ℕ → Type 0
-IsBefore t n at = (at.0.thread < t) ⊎ ((at.0.thread ≡ t) × (at.1 < n))
+-- the base event on one side of a channel; a receive sends nothing
+abbrev pub base_on : Side → ℕ → Message → Base
+base_on Sends c m = Send c m
+base_on Receives c m = Recv c
 
--- the list has what the strands find, of the offers before number n of thread t
-pub record ListsTo (strands : List Strand) (rows t n : ℕ) (offers : List Offered) : Type 0 where
-  pub sound : (x : Offered) → Contains offers x → Finds strands rows x.0 x.1
-  pub full : (at : Row × ℕ) (b : Base) → Finds strands rows at b → IsBefore t n at → Contains offers (at, b)
+-- what is open on this side of the channel stays listed
+abbrev pub KeepsSide : List Strand → ℕ → Side → ℕ → Places → Places → Type 0
+KeepsSide strands rows side c old new =
+    (at : Row × ℕ) (m : Message) → Finds strands rows at (base_on side c m) → Contains old at → Contains new at
 
--- all of them
-pub record ListsAll (strands : List Strand) (rows : ℕ) (offers : List Offered) : Type 0 where
-  pub sound : (x : Offered) → Contains offers x → Finds strands rows x.0 x.1
-  pub full : (at : Row × ℕ) (b : Base) → Finds strands rows at b → Contains offers (at, b)
+abbrev pub KeepsNacks : List Strand → ℕ → Places → Places → Type 0
+KeepsNacks strands rows old new = (at : Row × ℕ) (n : NackName) → Finds strands rows at (OnNack n) → Contains old at → Contains new at
 
--- for each channel a receive on it that is offered, if there is any; its thread is the best, as far as R says
-pub record HasBest (R : ℕ → ℕ → Type 0) (offers : List Offered) (table : List (Option (Row × ℕ))) : Type 0 where
-  pub there : (c : ℕ) (w : Row × ℕ) → slice_index_or table c None ≡ Some w → Contains offers (w, Recv c)
-  pub best : (c : ℕ) (at : Row × ℕ) → Contains offers (at, Recv c) → (w : Row × ℕ) × (slice_index_or table c None ≡ Some w) × R w.0.thread at.0.thread
+-- an offer on this side of the channel by another thread, or none where all that are listed are by this thread
+abbrev pub TakesOther : List Strand → ℕ → Side → ℕ → ℕ → Places → Option ((Row × ℕ) × Message) → Type 0
+TakesOther strands rows side c t listed None =
+    (at : Row × ℕ) (m : Message) → Finds strands rows at (base_on side c m) → Contains listed at → at.0.thread ≡ t
+TakesOther strands rows side c t listed (Some w) = Finds strands rows w.0 (base_on side c w.1) × (w.0.0.thread ≢ t)
 
-abbrev pub IsAbove : ℕ → ℕ → Type 0
-IsAbove m n = n ≤ m
-
--- of the threads that offer a receive on a channel the first and the last
-pub record IsIndex (offers : List Offered) (r : Receivers) : Type 0 where
-  pub first : HasBest ◌≤◌ offers r.first
-  pub last : HasBest IsAbove offers r.last
-
-abbrev pub first_of : Option (Row × ℕ) → Row × ℕ → Row × ℕ
-first_of None at = at
-first_of (Some w) at = if nat_lt w.0.thread at.0.thread then w else at
-
-abbrev pub last_of : Option (Row × ℕ) → Row × ℕ → Row × ℕ
-last_of None at = at
-last_of (Some w) at = if nat_lt at.0.thread w.0.thread then w else at
-
--- a receive by another thread is there
-abbrev pub is_other : Option (Row × ℕ) → ℕ → Bool
-is_other None t = false
-is_other (Some w) t = not (w.0.thread == t)
-
--- a receive by another thread, or none where all are by this thread
-abbrev pub TakesOther : List Offered → ℕ → ℕ → Option (Row × ℕ) → Type 0
-TakesOther offers chan t None = (at : Row × ℕ) → Contains offers (at, Recv chan) → at.0.thread ≡ t
-TakesOther offers chan t (Some w) = Contains offers (w, Recv chan) × (w.0.thread ≢ t)
-
--- the commit's sender, or its only row, took this offer
-abbrev pub IsLedBy : Row × ℕ → Base → Commit → Type 0
-IsLedBy at b (Pair sender receiver chan msg stamp) = (sender ≡ at) × (b ≡ Send chan msg)
-IsLedBy at b (Alone row why stamp) = (row ≡ at) × (b ≡ base_for why)
-
-abbrev pub NoneMay : List Strand → ℕ → Type 0
-NoneMay strands rows = (c : Commit) (below : ℕ) → MayFollow strands rows c below → ⊥
-
-abbrev pub NoneMayBy : List Strand → ℕ → Row × ℕ → Base → Type 0
-NoneMayBy strands rows at b = (c : Commit) (below : ℕ) → MayFollow strands rows c below → IsLedBy at b c → ⊥
+-- the same of all that the threads offer
+abbrev pub FindsOther : List Strand → ℕ → Side → ℕ → ℕ → Option ((Row × ℕ) × Message) → Type 0
+FindsOther strands rows side c t None = (at : Row × ℕ) (m : Message) → Finds strands rows at (base_on side c m) → at.0.thread ≡ t
+FindsOther strands rows side c t (Some w) = Finds strands rows w.0 (base_on side c w.1) × (w.0.0.thread ≢ t)
 
 -- the commit alone, with its stamp
 abbrev pub IsAlone : List Strand → Row × ℕ → Cause → Commit → Type 0
@@ -80,14 +52,75 @@ IsAlone strands at why c = (below : ℕ) × CauseIsAt strands (last_in strands a
 abbrev pub NoCause : List Strand → Row × ℕ → Cause → Type 0
 NoCause strands at why = (below : ℕ) → CauseIsAt strands (last_in strands at.0.thread) why below → ⊥
 
--- the rendezvous with an offered receive of another thread, with its stamp
-abbrev pub IsPair : List Strand → List Offered → Row × ℕ → ℕ → Message → Commit → Type 0
-IsPair strands offers sender chan msg c =
-    (receiver : Row × ℕ) × Contains offers (receiver, Recv chan) × (receiver.0.thread ≢ sender.0.thread)
-    × (c ≡ Pair sender receiver chan msg (max (last_in strands sender.0.thread) (last_in strands receiver.0.thread) + 1))
+-- the rendezvous of two offers, with its stamp
+abbrev pub pair_of : List Strand → Row × ℕ → Row × ℕ → ℕ → Message → Commit
+pair_of strands sender receiver c m = Pair sender receiver c m (max (last_in strands sender.0.thread) (last_in strands receiver.0.thread) + 1)
 
-abbrev pub NoReceiver : List Offered → Row × ℕ → ℕ → Type 0
-NoReceiver offers sender chan = (at : Row × ℕ) → Contains offers (at, Recv chan) → at.0.thread ≡ sender.0.thread
+-- no nack is fired for which a listed offer waits
+abbrev pub NoneByNack : List Strand → ℕ → Places → Type 0
+NoneByNack strands rows listed =
+    (at : Row × ℕ) (n : NackName) → Finds strands rows at (OnNack n) → Contains listed at → NoCause strands at (Nack n)
+
+-- the commit takes this offer, and no nack is its cause
+abbrev pub IsWith : Row × ℕ → Commit → Type 0
+IsWith at (Pair sender receiver c m stamp) = (sender ≡ at) ⊎ (receiver ≡ at)
+IsWith at (Alone row (Always m) stamp) = row ≡ at
+IsWith at (Alone row (Nack n) stamp) = ⊥
+
+abbrev pub NoneMay : List Strand → ℕ → Type 0
+NoneMay strands rows = (c : Commit) (below : ℕ) → MayFollow strands rows c below → ⊥
+
+abbrev pub NoneMayWith : List Strand → ℕ → Row × ℕ → Type 0
+NoneMayWith strands rows at = (c : Commit) (below : ℕ) → MayFollow strands rows c below → IsWith at c → ⊥
+
+-- OPENINGS
+
+-- there is a list for each number of a channel
+abbrev pub HasChannels : Openings → Type 0
+HasChannels o = (length o.senders.items ≡ 256) × (length o.receivers.items ≡ 256)
+
+-- the offer is listed where its base event belongs
+abbrev pub IsListed : Openings → Row × ℕ → Base → Type 0
+IsListed o at (Send c m) = Contains (slice_index_or o.senders.items c []) at
+IsListed o at (Recv c) = Contains (slice_index_or o.receivers.items c []) at
+IsListed o at (OnNack n) = Contains o.nacks at
+IsListed o at (base.Always m) = ⊤
+IsListed o at Never = ⊤
+
+-- an offer that the commit takes is untried, or a nack is its cause
+abbrev pub HasUntried : Openings → Commit → Type 0
+HasUntried o (Pair sender receiver c m stamp) = Contains o.untried sender ⊎ Contains o.untried receiver
+HasUntried o (Alone row (Always m) stamp) = Contains o.untried row
+HasUntried o (Alone row (Nack n) stamp) = ⊤
+
+-- all that the threads offer is listed, and of what is tried no commit comes
+pub record Covers (strands : List Strand) (rows : ℕ) (o : Openings) : Type 0 where
+  pub channels : HasChannels o
+  pub listed : (at : Row × ℕ) (b : Base) → Finds strands rows at b → IsListed o at b
+  pub untried : (c : Commit) (below : ℕ) → MayFollow strands rows c below → HasUntried o c
+
+-- nothing is taken away
+pub record Keeps (old new : Openings) : Type 0 where
+  pub channels : HasChannels old → HasChannels new
+  pub listed : (at : Row × ℕ) (b : Base) → IsListed old at b → IsListed new at b
+  pub untried : (at : Row × ℕ) → Contains old.untried at → Contains new.untried at
+
+pub record Lists (at : Row × ℕ) (b : Base) (old new : Openings) : Type 0 where
+  pub channels : HasChannels old → HasChannels new
+  pub kept : (x : Row × ℕ) (d : Base) → IsListed old x d → IsListed new x d
+  pub there : IsListed new at b
+  pub untried : new.untried ≡ old.untried
+
+pub record Adds (at : Row × ℕ) (b : Base) (old new : Openings) : Type 0 where
+  pub keeps : Keeps old new
+  pub listed : IsListed new at b
+  pub untried : Contains new.untried at
+
+-- what thread t offers is there, and is untried
+pub record Opens (strands : List Strand) (rows t : ℕ) (old new : Openings) : Type 0 where
+  pub keeps : Keeps old new
+  pub listed : (at : Row × ℕ) (b : Base) → at.0.thread ≡ t → Finds strands rows at b → IsListed new at b
+  pub untried : (at : Row × ℕ) (b : Base) → at.0.thread ≡ t → Finds strands rows at b → Contains new.untried at
 
 -- BOUNDS
 

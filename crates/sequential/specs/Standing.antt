@@ -1,5 +1,5 @@
 -- What a replay remembers, and when that is true of a run.
-use Rattle.std.specs.Prelude.{◌≡◌, ◌≢◌, ◌==◌, ◌&&◌, ℕ, ◌+◌, if◌then◌else◌, max, List, [], ◌∷◌, ◌++◌, length, replicate, ⊤, true, false, Option, Some, None, option_and_then, nat_lt, slice_get, slice_index_or, slice_set}
+use Rattle.std.specs.Prelude.{◌≡◌, ◌≢◌, ◌==◌, ◌&&◌, ℕ, ◌+◌, if◌then◌else◌, max, List, [], ◌∷◌, ◌++◌, length, replicate, true, false, Option, Some, None, option_and_then, nat_lt, slice_get, slice_index_or, slice_set}
 use Rattle.syntax.specs.Processes.{Proc}
 use Rattle.syntax.specs.Trees.{block_of}
 use Rattle.thread.specs.After.{Chosen}

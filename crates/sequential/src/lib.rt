@@ -6,12 +6,13 @@
 #![tactic(auto)]
 
 mod end;
-mod receivers;
+mod openings;
 mod runs;
 mod search;
 mod state;
 mod strand;
 mod threads;
+mod waiters;
 
 pub use crate::end::End;
 pub use crate::runs::{replay, settle};

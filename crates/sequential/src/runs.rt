@@ -4,6 +4,7 @@ ghost use Rattle.std.specs.Prelude.{◌≤◌, IfOk, length, map, MatchResult};
 ghost use Rattle.syntax.specs.Processes.{proc_of};
 ghost use Rattle.sequential.specs.Replays.{Refuses, Settles, StandsAfter};
 
+use crate::openings::Openings;
 use crate::state::{ReplayFault, State};
 use crate::threads::Threads;
 use std::alloc::{AllocError, Global};
@@ -36,9 +37,11 @@ pub fn settle(alloc: Global, state: State) -> Result<(State, Vec<Commit>), Alloc
     ensures { IfOk result (λ settled. Settles state settled.0 settled.1.items) }
 {
     let mut threads = state.threads;
+    let mut openings = Openings::of(alloc, &threads)?;
     let mut added = Vec::new(alloc);
-    while let Some(commit) = threads.find(alloc)? {
+    while let Some(commit) = openings.find(&threads) {
         threads.apply(&commit)?;
+        openings.follow(&threads, &commit)?;
         added.push(commit)?;
     }
     Ok((State { threads }, added))

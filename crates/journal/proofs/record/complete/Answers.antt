@@ -1,10 +1,7 @@
-use Rattle.std.proofs.Common.{List, map, sym, subst, ◌∙◌, rules}
-use Rattle.std.specs.Prelude.{IsPermutation}
-use Rattle.std.proofs.lemmas.List.Sorted.{answers_always}
+use Rattle.std.proofs.Common.{List, map, sym, subst, ◌∙◌}
 use Rattle.std.proofs.lemmas.Result.{err_from_is_err_and}
 use Rattle.syntax.specs.Processes.{proc_of}
 use Rattle.words.specs.declared.Commit.{Commit}
-use Rattle.words.specs.Commits.{order_of}
 use Rattle.sequential.specs.Replays.{Refuses, StandsAfter}
 use Rattle.journal.proofs.Completing.{completes, refuses}
 use Rattle.journal.proofs.record.complete.Goals as goal
@@ -13,21 +10,18 @@ pub returns-in_err-replayed : goal.returns-in_err-replayed
 returns-in_err-replayed c =
     let ps = map proc_of c.args.processes.now in
     let fault = c.in_err-replayed.field-0.0 in
-    let told = c.in_ok-journal.ensures in
+    let told = c.in_ok-commits.ensures in
     let refused = subst (λ (cs : List Commit). Refuses ps c.args.rows cs fault) c.deref.ensures.value c.in_err-replayed.ensures in
     let p = err_from_is_err_and c.from_residual-in_err-replayed.result c.from_residual-in_err-replayed.ensures.1 in
-    rw (p.1, p.2) (refuses ps c.args.rows c.args.ledger.now c.in_ok-journal.journal.items fault told.lawful (record { all = told.once; ordered = told.in_order }) refused)
+    rw (p.1, p.2) (refuses ps c.args.rows c.args.ledger.now c.in_ok-commits.commits.items fault told.lawful (record { all = told.once; ordered = told.in_order }) refused)
 
 pub returns : goal.returns
 returns c =
     let ps = map proc_of c.args.processes.now in
-    let commits = c.in_ok-journal.journal.items in
-    let journal = c.sort_by_key.new.self.items in
-    let told = c.in_ok-journal.ensures in
+    let commits = c.in_ok-commits.commits.items in
+    let told = c.in_ok-commits.ensures in
     let stands = subst (λ (cs : List Commit). StandsAfter ps c.args.rows cs c.in_ok-replayed.replayed) c.deref.ensures.value c.in_ok-replayed.ensures in
     let settled = c.in_ok-state.ensures ps c.args.rows commits stands in
-    let moved = subst (λ (cs : List Commit). IsPermutation cs journal) c.in_ok-append.ensures.items c.in_ok-sort_by_key.ensures.permutation in
-    completes ps c.args.rows c.args.ledger.now commits c.in_ok-state.added.items journal c.in_ok-state.state c.in_ok-ends.ends.items _ c.len-tail.result
-    told.lawful (record { all = told.once; ordered = told.in_order }) stands.run settled.0 settled.1 moved
-    (c.in_ok-sort_by_key.ensures.sorted order_of (answers_always _ _ _ (λ f a r g h. search rules)))
+    completes ps c.args.rows c.args.ledger.now commits c.in_ok-state.added.items c.in_ok-journal.journal.items c.in_ok-state.state c.in_ok-ends.ends.items _ c.len-tail.result
+    told.lawful (record { all = told.once; ordered = told.in_order }) stands.run settled.0 settled.1 c.in_ok-journal.ensures.0 c.in_ok-journal.ensures.1
     c.in_ok-ends.ensures c.in_ok-outputs.ensures (sym c.in_ok-state.added.ok.0 ∙ sym c.len-tail.ensures)

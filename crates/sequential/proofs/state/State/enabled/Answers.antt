@@ -1,9 +1,11 @@
-use Rattle.std.proofs.lemmas.Result.{IfOk-weaker}
-use Rattle.sequential.proofs.Replaying.{tells-enabled}
+use Rattle.sequential.proofs.Replaying.{reached-room, tells-enabled}
 use Rattle.sequential.proofs.state.State.enabled.Goals as goal
 
-pub find-requires : goal.find-requires
-find-requires c = c.args.self.now.reached
+pub of-requires : goal.of-requires
+of-requires c = (reached-room c.args.self.now.threads c.args.self.now.reached).1
+
+pub find-requires-clause-room : goal.find-requires-clause-room
+find-requires-clause-room c = (reached-room c.args.self.now.threads c.args.self.now.reached).0
 
 pub returns : goal.returns
-returns c = IfOk-weaker c.find.result _ _ (tells-enabled c.args.self.now) c.find.ensures
+returns c = tells-enabled c.args.self.now c.find.result c.find.ensures.found
