@@ -39,13 +39,12 @@ fn start(alloc: Global, text: &str) -> Result<Machine>
     Ok(machine)
 }
 
-/// Takes the one offer, whose message is the number.
-fn resume(machine: &mut Machine, number: u32) -> Result<Turn> {
+/// Takes the first offer, with the number as its message, if there is one and memory does not run out.
+fn resume(machine: &mut Machine, number: u32) -> Option<Turn> {
     if machine.offers().is_empty() {
-        bail!("no offer");
+        return None;
     }
-    let turn = machine.resume(0, Message::One(Atom::Num(number)))?;
-    Ok(turn)
+    machine.resume(0, Message::One(Atom::Num(number))).ok()
 }
 
 fn run<R: Env + Print + AllocGlobal>(rt: &R) -> Result<()> {
@@ -57,7 +56,9 @@ fn run<R: Env + Print + AllocGlobal>(rt: &R) -> Result<()> {
     let mut machine = start(alloc, process_text(part.as_str())?)?;
     let _first = machine.begin()?;
     for number in 0..count {
-        let _turn = resume(&mut machine, number)?;
+        if resume(&mut machine, number).is_none() {
+            bail!("it does not go on");
+        }
     }
     let printed = machine.output().len();
     println!(rt; "{count} resumes, {printed} numbers printed")?;

@@ -72,7 +72,24 @@ fn pass(event: &Event, mut n: u8, message: Message, memory: &mut Memory) -> Resu
     }
 }
 
+/// The same, with no call where the event is a base event.
+#[inline(always)]
+fn leave(event: &Event, n: u8, message: Message, memory: &mut Memory) -> Result<Passage, Fault>
+    ensures { Passes (event_of event.now) n message memory.old memory.new result }
+{
+    match event {
+        Event::Choose(_) | Event::Wrap(_, _, _) | Event::Guard(_, _) | Event::Nack(_, _, _) => {
+            pass(event, n, message, memory)
+        }
+        _ => match n.checked_sub(1) {
+            None => Ok(Passage::Through(message)),
+            Some(left) => Ok(Passage::Past(left)),
+        },
+    }
+}
+
 /// Commits an open sync by one of its offers.
+#[inline(always)]
 pub(crate) fn commit(
     code: &Code,
     opening: Opening,
@@ -90,7 +107,7 @@ pub(crate) fn commit(
     stack.offers.truncate(opening.offers);
     stack.nacks.truncate(opening.nacks);
     let plan = plan_of(code, opening.plan);
-    match pass(&plan.event, chosen, message, memory) {
+    match leave(&plan.event, chosen, message, memory) {
         Ok(Passage::Through(message)) => match memory.set_names(plan.names, message) {
             Ok(()) => Step::On(Now::At(plan.then)),
             Err(fault) => Step::To(Stop::Faulted(fault)),

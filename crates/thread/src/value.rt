@@ -52,12 +52,12 @@ fn value_of_term(term: &Term, variables: &[Option<Atom>]) -> Result<Atom, Fault>
 {
     match term {
         Term::Operand(operand) => value_of_operand(*operand, variables),
-        Term::Sum(sum) => value_of(sum, variables),
+        Term::Sum(sum) => value_of_sum(sum, variables),
     }
 }
 
 #[cycle(value)]
-pub(crate) fn value_of(expr: &Expr, variables: &[Option<Atom>]) -> Result<Atom, Fault>
+fn value_of_sum(expr: &Expr, variables: &[Option<Atom>]) -> Result<Atom, Fault>
     ensures { result ≡ expr_value variables.now (expr_of expr.now) }
 {
     let mut value = value_of_operand(expr.first, variables)?;
@@ -68,6 +68,17 @@ pub(crate) fn value_of(expr: &Expr, variables: &[Option<Atom>]) -> Result<Atom, 
         terms = more;
     }
     Ok(value)
+}
+
+/// What an expression comes to, with no call where it is one operand.
+#[inline(always)]
+pub(crate) fn value_of(expr: &Expr, variables: &[Option<Atom>]) -> Result<Atom, Fault>
+    ensures { result ≡ expr_value variables.now (expr_of expr.now) }
+{
+    match expr.more {
+        Terms::Nothing => value_of_operand(expr.first, variables),
+        Terms::More(_, _, _) => value_of_sum(expr, variables),
+    }
 }
 
 /// The message that a list comes to.
