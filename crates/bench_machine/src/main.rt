@@ -1,4 +1,5 @@
-//! `bench_machine PART N`: a process without end, resumed N times by its first offer.
+//! `bench_machine PART N`: a process without end, resumed N times by its first offer; or, as
+//! `bench_machine code N FILE`, the first process of a script, made into N machines.
 #![tactic(auto)]
 
 ghost use Rattle.std.specs.Prelude.{◌≡◌, IfOk};
@@ -7,8 +8,8 @@ ghost use Rattle.thread.specs.Machines.{Ready};
 use anyhow::{Context, Result, bail};
 use script::parse;
 use std::alloc::Global;
-use std::env;
-use std::rt::Env;
+use std::rt::{Env, Files};
+use std::{env, fs};
 use thread::{Machine, Turn};
 use words::{Atom, Message};
 
@@ -26,7 +27,7 @@ fn process_text(part: &str) -> Result<&'static str> {
         "lets" => Ok(
             "process a { let x = 0; forever { sync always (); let x = 0; let x = x + 1; let x = x + 1; let x = x + 1; let x = x + 1; let x = x + 1; let x = x + 1; let x = x + 1; let x = x + 1; let x = x + 1; let x = x + 1; } }",
         ),
-        _ => bail!("guard, send, choose, turn or lets?"),
+        _ => bail!("guard, send, choose, turn, lets or code?"),
     }
 }
 
@@ -39,25 +40,45 @@ fn start(alloc: Global, text: &str) -> Result<Machine>
     Ok(machine)
 }
 
-/// Takes the one offer, whose message is the number.
-fn resume(machine: &mut Machine, number: u32) -> Result<Turn> {
+/// Takes the first offer, with the number as its message, if there is one and memory does not run out.
+fn resume(machine: &mut Machine, number: u32) -> Option<Turn> {
     if machine.offers().is_empty() {
-        bail!("no offer");
+        return None;
     }
-    let turn = machine.resume(0, Message::One(Atom::Num(number)))?;
-    Ok(turn)
+    machine.resume(0, Message::One(Atom::Num(number))).ok()
 }
 
-fn run<R: Env + Print + AllocGlobal>(rt: &R) -> Result<()> {
+/// Makes as many machines of a script's first process.
+fn compile<R: Files + AllocGlobal>(rt: &R, name: &str, count: u32) -> Result<usize> {
+    let alloc = rt.alloc();
+    let text = fs::read(rt, name)?;
+    let script = parse(alloc, text.as_slice())?;
+    let process = script.processes().first().context("no process")?;
+    let mut machines = Vec::new(alloc);
+    for _ in 0..count {
+        machines.push(Machine::new(alloc, process, 0)?)?;
+    }
+    Ok(machines.len())
+}
+
+fn run<R: Env + Files + Print + AllocGlobal>(rt: &R) -> Result<()> {
     let alloc = rt.alloc();
     let mut words = env::args(rt)?.skip(1);
     let part = words.next().context("which part?")?;
     let count = words.next().context("how often?")?;
     let count: u32 = count.as_str().parse()?;
+    if part.as_str() == "code" {
+        let file = words.next().context("which file?")?;
+        let machines = compile(rt, file.as_str(), count)?;
+        println!(rt; "{machines} machines")?;
+        return Ok(());
+    }
     let mut machine = start(alloc, process_text(part.as_str())?)?;
     let _first = machine.begin()?;
     for number in 0..count {
-        let _turn = resume(&mut machine, number)?;
+        if resume(&mut machine, number).is_none() {
+            bail!("it does not go on");
+        }
     }
     let printed = machine.output().len();
     println!(rt; "{count} resumes, {printed} numbers printed")?;

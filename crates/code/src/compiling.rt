@@ -140,6 +140,7 @@ fn add_sync(
 {
     let mut stages = Vec::new(alloc);
     add_stages(alloc, code, &mut stages, event, 0, 0)?;
+    stages.shrink_to_fit();
     let plan = Plan {
         names,
         event: Arc::try_clone(event)?,
@@ -216,5 +217,7 @@ pub fn compile(alloc: Global, process: &Proc) -> Result<Code, AllocError>
         start: 0,
     };
     code.start = add_block(alloc, &mut code, process.body())?;
+    code.places.shrink_to_fit();
+    code.plans.shrink_to_fit();
     Ok(code)
 }

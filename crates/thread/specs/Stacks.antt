@@ -112,3 +112,8 @@ stop_on c stack (Faulted fault) s = Fails fault s.printed s.left
 abbrev pub step_on : Code → Stack → Step → State → Outcome State
 step_on c stack (On now) s = now_on c stack now s
 step_on c stack (To stop) s = stop_on c stack stop s
+
+-- on at a place, or to a fault
+abbrev pub step_of : Result ℕ Fault → Step
+step_of (Ok at) = On (At at)
+step_of (Err fault) = To (Faulted fault)

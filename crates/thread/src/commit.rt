@@ -7,12 +7,12 @@ ghost use Rattle.syntax.specs.Trees.{event_of, exprs_of, names_of};
 ghost use Rattle.thread.specs.After.{Chosen, wrapped_once};
 ghost use Rattle.thread.specs.Fitting.{StepFits, StopFits};
 ghost use Rattle.thread.specs.Passages.{Passes};
-ghost use Rattle.thread.specs.Stacks.{lists_of, message_after, own, state_of, step_on, stop_on};
+ghost use Rattle.thread.specs.Stacks.{lists_of, message_after, own, state_of, step_of, step_on, stop_on};
 ghost use Rattle.thread.specs.declared.stack.Stop.TheVariants as stop;
 
 use crate::Fault;
 use crate::memory::Memory;
-use crate::stack::{Now, Opening, Stack, Step, Stop, plan_of};
+use crate::stack::{Opening, Stack, plan_of};
 use crate::value::message_of;
 use code::Code;
 use syntax::{Event, Events, Exprs, Names};
@@ -72,7 +72,24 @@ fn pass(event: &Event, mut n: u8, message: Message, memory: &mut Memory) -> Resu
     }
 }
 
-/// Commits an open sync by one of its offers.
+/// The same, with no call where the event is a base event.
+#[inline(always)]
+fn leave(event: &Event, n: u8, message: Message, memory: &mut Memory) -> Result<Passage, Fault>
+    ensures { Passes (event_of event.now) n message memory.old memory.new result }
+{
+    match event {
+        Event::Choose(_) | Event::Wrap(_, _, _) | Event::Guard(_, _) | Event::Nack(_, _, _) => {
+            pass(event, n, message, memory)
+        }
+        _ => match n.checked_sub(1) {
+            None => Ok(Passage::Through(message)),
+            Some(left) => Ok(Passage::Past(left)),
+        },
+    }
+}
+
+/// Commits an open sync by one of its offers, and gives the place behind it.
+#[inline(always)]
 pub(crate) fn commit(
     code: &Code,
     opening: Opening,
@@ -80,22 +97,22 @@ pub(crate) fn commit(
     message: Message,
     memory: &mut Memory,
     stack: &mut Stack,
-) -> Step
+) -> Result<u32, Fault>
     requires linked { IsLinked code.now }
     requires fits { StopFits code.now stack.old (stop.Offering opening) }
     requires there { chosen < length (own opening (lists_of stack.old)).offers }
-    ensures does { (rs : List Chosen) → step_on code.now stack.new result (state_of memory.new rs) ≡ stop_on code.now stack.old (stop.Offering opening) (state_of memory.old ((chosen, message) ∷ rs)) }
-    ensures fits { StepFits code.now stack.new result }
+    ensures does { (rs : List Chosen) → step_on code.now stack.new (step_of result) (state_of memory.new rs) ≡ stop_on code.now stack.old (stop.Offering opening) (state_of memory.old ((chosen, message) ∷ rs)) }
+    ensures fits { StepFits code.now stack.new (step_of result) }
 {
     stack.offers.truncate(opening.offers);
     stack.nacks.truncate(opening.nacks);
     let plan = plan_of(code, opening.plan);
-    match pass(&plan.event, chosen, message, memory) {
+    match leave(&plan.event, chosen, message, memory) {
         Ok(Passage::Through(message)) => match memory.set_names(plan.names, message) {
-            Ok(()) => Step::On(Now::At(plan.then)),
-            Err(fault) => Step::To(Stop::Faulted(fault)),
+            Ok(()) => Ok(plan.then),
+            Err(fault) => Err(fault),
         },
         Ok(Passage::Past(_)) => unreachable!(),
-        Err(fault) => Step::To(Stop::Faulted(fault)),
+        Err(fault) => Err(fault),
     }
 }

@@ -79,10 +79,11 @@ fn base_of(event: &Event, variables: &[Option<Atom>]) -> Result<Base, Fault>
     }
 }
 
-/// Goes through the next stage of a sync's event, or begins to; behind the last one the sync is open.
+/// Goes through the stages of a sync's event, from the next one up to one whose block runs first; behind
+/// the last one the sync is open.
 pub(crate) fn resolve(
     code: &Code,
-    opening: Opening,
+    mut opening: Opening,
     memory: &mut Memory,
     stack: &mut Stack,
 ) -> Result<Step, AllocError>
@@ -92,37 +93,39 @@ pub(crate) fn resolve(
     ensures falls { IfOk result (Falls code.now (now_reach code.now stack.old (now.Open opening)) stack.new) }
     ensures fits { IfOk result (StepFits code.now stack.new) }
 {
-    let plan = plan_of(code, opening.plan);
-    let Some(stage) = plan.stages.get(opening.stage) else {
-        return Ok(Step::To(Stop::Offering(opening)));
-    };
-    let next = Opening {
-        stage: opening.stage + 1,
-        ..opening
-    };
-    match stage {
-        Stage::Offer(event, scopes) => match base_of(event, &memory.variables) {
-            Ok(base) => {
-                let scopes = *scopes;
-                stack.offers.push(Offer { base, scopes })?;
-                Ok(Step::On(Now::Open(next)))
+    loop {
+        let plan = plan_of(code, opening.plan);
+        let Some(stage) = plan.stages.get(opening.stage) else {
+            return Ok(Step::To(Stop::Offering(opening)));
+        };
+        let next = Opening {
+            stage: opening.stage + 1,
+            ..opening
+        };
+        match stage {
+            Stage::Offer(event, scopes) => match base_of(event, &memory.variables) {
+                Ok(base) => {
+                    let scopes = *scopes;
+                    stack.offers.push(Offer { base, scopes })?;
+                    opening = next;
+                }
+                Err(fault) => return Ok(Step::To(Stop::Faulted(fault))),
+            },
+            Stage::Body(at) => {
+                stack.frames.push(Frame::Event(next))?;
+                return Ok(Step::On(Now::At(*at)));
             }
-            Err(fault) => Ok(Step::To(Stop::Faulted(fault))),
-        },
-        Stage::Body(at) => {
-            stack.frames.push(Frame::Event(next))?;
-            Ok(Step::On(Now::At(*at)))
-        }
-        Stage::Nack(name) => {
-            if memory.nacks >= 64 {
-                return Ok(Step::To(Stop::Faulted(Fault::Range)));
+            Stage::Nack(name) => {
+                if memory.nacks >= 64 {
+                    return Ok(Step::To(Stop::Faulted(Fault::Range)));
+                }
+                let k = memory.nacks;
+                let thread = memory.thread;
+                memory.nacks = k + 1;
+                memory.set(*name, Atom::Nack(NackName { thread, k }));
+                stack.nacks.push(k)?;
+                return Ok(Step::On(Now::Open(next)));
             }
-            let k = memory.nacks;
-            let thread = memory.thread;
-            memory.nacks = k + 1;
-            memory.set(*name, Atom::Nack(NackName { thread, k }));
-            stack.nacks.push(k)?;
-            Ok(Step::On(Now::Open(next)))
         }
     }
 }

@@ -42,7 +42,8 @@ pub(crate) fn run(
 {
     let place = place_at(code, at);
     let Block::Then(stmt, _) = &*place.block else {
-        return Ok(Step::On(Now::Back));
+        let step = back(code, memory, stack)?;
+        return Ok(step);
     };
     match stmt {
         Stmt::Let(name, value) => match value_of(value, &memory.variables) {
@@ -86,6 +87,7 @@ pub(crate) fn run(
 }
 
 /// Goes back to the innermost frame.
+#[inline(always)]
 pub(crate) fn back(code: &Code, memory: &Memory, stack: &mut Stack) -> Result<Step, AllocError>
     requires fits { NowFits code.now stack.old now.Back }
     ensures does { IfOk result (λ step. (rs : List Chosen) → step_on code.now stack.new step (state_of memory.now rs) ≡ now_on code.now stack.old now.Back (state_of memory.now rs)) }

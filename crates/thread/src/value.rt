@@ -1,6 +1,6 @@
 //! What expressions, lists and tests come to.
 
-ghost use Rattle.std.specs.Prelude.{◌≡◌};
+ghost use Rattle.std.specs.Prelude.{◌≡◌, ◌∷◌, []};
 ghost use Rattle.syntax.specs.Trees.{term_of, expr_of, exprs_of, test_of};
 ghost use Rattle.thread.specs.Values.{name_value, operand_value, combined, term_value, expr_value, list_value, is_same, compared, test_value};
 
@@ -52,12 +52,12 @@ fn value_of_term(term: &Term, variables: &[Option<Atom>]) -> Result<Atom, Fault>
 {
     match term {
         Term::Operand(operand) => value_of_operand(*operand, variables),
-        Term::Sum(sum) => value_of(sum, variables),
+        Term::Sum(sum) => value_of_sum(sum, variables),
     }
 }
 
 #[cycle(value)]
-pub(crate) fn value_of(expr: &Expr, variables: &[Option<Atom>]) -> Result<Atom, Fault>
+fn value_of_sum(expr: &Expr, variables: &[Option<Atom>]) -> Result<Atom, Fault>
     ensures { result ≡ expr_value variables.now (expr_of expr.now) }
 {
     let mut value = value_of_operand(expr.first, variables)?;
@@ -70,7 +70,40 @@ pub(crate) fn value_of(expr: &Expr, variables: &[Option<Atom>]) -> Result<Atom, 
     Ok(value)
 }
 
+/// What an expression comes to, with no call where it is one operand.
+#[inline(always)]
+pub(crate) fn value_of(expr: &Expr, variables: &[Option<Atom>]) -> Result<Atom, Fault>
+    ensures { result ≡ expr_value variables.now (expr_of expr.now) }
+{
+    match expr.more {
+        Terms::Nothing => value_of_operand(expr.first, variables),
+        Terms::More(_, _, _) => value_of_sum(expr, variables),
+    }
+}
+
+/// The message of two atoms.
+#[inline(never)]
+fn pair_of(a: &Expr, b: &Expr, variables: &[Option<Atom>]) -> Result<Message, Fault>
+    ensures { result ≡ list_value variables.now (expr_of a.now ∷ expr_of b.now ∷ []) }
+{
+    let a = value_of(a, variables)?;
+    let b = value_of(b, variables)?;
+    Ok(Message::Two(a, b))
+}
+
+/// The message of three atoms.
+#[inline(never)]
+fn triple_of(a: &Expr, b: &Expr, c: &Expr, variables: &[Option<Atom>]) -> Result<Message, Fault>
+    ensures { result ≡ list_value variables.now (expr_of a.now ∷ expr_of b.now ∷ expr_of c.now ∷ []) }
+{
+    let a = value_of(a, variables)?;
+    let b = value_of(b, variables)?;
+    let c = value_of(c, variables)?;
+    Ok(Message::Three(a, b, c))
+}
+
 /// The message that a list comes to.
+#[inline(always)]
 pub(crate) fn message_of(list: &Exprs, variables: &[Option<Atom>]) -> Result<Message, Fault>
     ensures { result ≡ list_value variables.now (exprs_of list.now) }
 {
@@ -80,17 +113,8 @@ pub(crate) fn message_of(list: &Exprs, variables: &[Option<Atom>]) -> Result<Mes
             let a = value_of(a, variables)?;
             Ok(Message::One(a))
         }
-        Exprs::Two(a, b) => {
-            let a = value_of(a, variables)?;
-            let b = value_of(b, variables)?;
-            Ok(Message::Two(a, b))
-        }
-        Exprs::Three(a, b, c) => {
-            let a = value_of(a, variables)?;
-            let b = value_of(b, variables)?;
-            let c = value_of(c, variables)?;
-            Ok(Message::Three(a, b, c))
-        }
+        Exprs::Two(a, b) => pair_of(a, b, variables),
+        Exprs::Three(a, b, c) => triple_of(a, b, c, variables),
     }
 }
 

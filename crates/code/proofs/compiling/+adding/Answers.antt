@@ -86,7 +86,9 @@ add_sync-returns-clause-plan t c rest at = record {
   is = record {
     names = refl;
     event = ap event_of c.in_ok-try_clone.ensures;
-    stages = are_stages_on c.add_stages.new.code c.add_plan.new.code c.add_stages.new.list.items _ c.in_ok-number.ensures.grows (c.in_ok-add_stages.ensures.stages [] (subst (λ l. AreStages c.args.code.now l []) (sym c.new-stages.ensures.items) tt));
+    stages =
+        subst (λ l. AreStages c.add_plan.new.code l (stages 0 0 (event_of c.args.event.now.value))) (sym c.shrink_to_fit.ensures.items)
+        (are_stages_on c.add_stages.new.code c.add_plan.new.code c.add_stages.new.list.items _ c.in_ok-number.ensures.grows (c.in_ok-add_stages.ensures.stages [] (subst (λ l. AreStages c.args.code.now l []) (sym c.new-stages.ensures.items) tt)));
     small = c.requires.fits.1;
     then = is_at_on _ _ c.args.then rest (grows_on _ _ _ c.in_ok-add_stages.ensures.grows c.in_ok-number.ensures.grows) at;
   };

@@ -1,4 +1,4 @@
-use Rattle.std.proofs.Common.{rules, ◌≡◌, ◌+◌, ◌∙◌, Some, false, true, length, nat_le, refl, slice_get, sym, ap, ap₂}
+use Rattle.std.proofs.Common.{rules, ◌≡◌, ◌+◌, ◌∙◌, arith, Some, false, true, length, nat_le, refl, slice_get, sym, ap, ap₂}
 use Rattle.std.proofs.lemmas.Bool.Decides.{nat_tests}
 use Rattle.std.proofs.lemmas.Option.{slice_get_past, slice_get_read}
 use Rattle.std.specs.Prelude.{if◌then◌else◌}
@@ -13,91 +13,95 @@ use Rattle.thread.proofs.resolving.resolve.Goals as goal
 
 pub returns-in_default-clause-does : goal.returns-in_default-clause-does
 returns-in_default-clause-does c = λ rs.
-    let none = ap (λ l. slice_get l c.args.opening.stage) (sym c.deref.ensures.value) ∙ slice_get_past c.deref.result.now c.args.opening.stage c.in_default.ensures.lookup.3 in
-    open_does c.args.code.now c.args.opening (lists_of c.args.stack.now) c.plan_of-plan.result.now c.requires.fits.0 c.plan_of-plan.ensures (frames_on c.args.code.now c.args.stack.now.frames.items) (state_of c.args.memory.now rs) none
+    let none = ap (λ l. slice_get l c.loop-stage.opening.stage) (sym c.deref.ensures.value) ∙ slice_get_past c.deref.result.now c.loop-stage.opening.stage c.in_default.ensures.lookup.3 in
+    open_does c.args.code.now c.loop-stage.opening (lists_of c.loop-stage.stack) c.plan_of-plan.result.now c.loop-stage.invariant.fits.0 c.plan_of-plan.ensures (frames_on c.args.code.now c.loop-stage.stack.frames.items) (state_of c.loop-stage.memory rs) none
+    ∙ c.loop-stage.invariant.does rs
 
 pub returns-in_default-clause-fits : goal.returns-in_default-clause-fits
 returns-in_default-clause-fits c =
-    let none = ap (λ l. slice_get l c.args.opening.stage) (sym c.deref.ensures.value) ∙ slice_get_past c.deref.result.now c.args.opening.stage c.in_default.ensures.lookup.3 in
-    (c.requires.fits.0, (open_whole c.args.code.now c.args.opening (lists_of c.args.stack.now) c.plan_of-plan.result.now c.requires.fits.0 c.plan_of-plan.ensures none, c.requires.fits.1))
+    let none = ap (λ l. slice_get l c.loop-stage.opening.stage) (sym c.deref.ensures.value) ∙ slice_get_past c.deref.result.now c.loop-stage.opening.stage c.in_default.ensures.lookup.3 in
+    (c.loop-stage.invariant.fits.0, (open_whole c.args.code.now c.loop-stage.opening (lists_of c.loop-stage.stack) c.plan_of-plan.result.now c.loop-stage.invariant.fits.0 c.plan_of-plan.ensures none, c.loop-stage.invariant.fits.1))
 
-pub returns-in_ok-push-in-Ok-clause-does : goal.returns-in_ok-push-in-Ok-clause-does
-returns-in_ok-push-in-Ok-clause-does c = λ rs.
+pub loop-stage-smaller : goal.loop-stage-smaller
+loop-stage-smaller c =
     let found = c.in-Some.ensures.lookup in
-    let at = ap (λ l. slice_get l c.args.opening.stage) (sym c.deref.ensures.value) ∙ slice_get_read c.deref.result.now (length c.deref.result.now) c.args.opening.stage c.in-Some.stage.now refl found.3.0 found.1 ∙ ap (λ s. Some s) c.in-Offer.is in
+    let at = ap (λ l. slice_get l c.loop-stage.opening.stage) (sym c.deref.ensures.value) ∙ slice_get_read c.deref.result.now (length c.deref.result.now) c.loop-stage.opening.stage c.in-Some.stage.now refl found.3.0 found.1 ∙ ap (λ s. Some s) c.in-Offer.is in
+    let put : record { offers = c.push.new.self.items; nacks = c.loop-stage.stack.nacks.items } ≡ with_offer c.in-Ok.base c.in-Offer.scopes (lists_of c.loop-stage.stack) = ap (λ os. record { offers = os; nacks = c.loop-stage.stack.nacks.items }) c.in_ok-push-in-Ok.ensures.items in
+    offer_falls c.args.code.now c.loop-stage.opening (lists_of c.loop-stage.stack) c.plan_of-plan.result.now c.loop-stage.invariant.fits.0 c.plan_of-plan.ensures c.in-Offer.event c.in-Offer.scopes at c.in-Ok.base (record { offers = c.push.new.self.items; nacks = c.loop-stage.stack.nacks.items }) put
+
+pub loop-stage-preserved : goal.loop-stage-preserved
+loop-stage-preserved c =
+    let found = c.in-Some.ensures.lookup in
+    let at = ap (λ l. slice_get l c.loop-stage.opening.stage) (sym c.deref.ensures.value) ∙ slice_get_read c.deref.result.now (length c.deref.result.now) c.loop-stage.opening.stage c.in-Some.stage.now refl found.3.0 found.1 ∙ ap (λ s. Some s) c.in-Offer.is in
     let value = ap₂ base_value (sym c.deref-in-Offer-2.ensures.value) (ap event_of (sym c.deref-in-Offer.ensures)) ∙ sym c.base_of.ensures ∙ c.in-Ok.is in
-    let put : record { offers = c.push.new.self.items; nacks = c.args.stack.now.nacks.items } ≡ with_offer c.in-Ok.base c.in-Offer.scopes (lists_of c.args.stack.now) = ap (λ os. record { offers = os; nacks = c.args.stack.now.nacks.items }) c.in_ok-push-in-Ok.ensures.items in
-    offer_does c.args.code.now c.args.opening (lists_of c.args.stack.now) c.plan_of-plan.result.now c.requires.fits.0 c.plan_of-plan.ensures c.in-Offer.event c.in-Offer.scopes at c.in-Ok.base (record { offers = c.push.new.self.items; nacks = c.args.stack.now.nacks.items }) put (frames_on c.args.code.now c.args.stack.now.frames.items) (state_of c.args.memory.now rs) value
-
-pub returns-in_ok-push-in-Ok-clause-falls : goal.returns-in_ok-push-in-Ok-clause-falls
-returns-in_ok-push-in-Ok-clause-falls c =
-    let found = c.in-Some.ensures.lookup in
-    let at = ap (λ l. slice_get l c.args.opening.stage) (sym c.deref.ensures.value) ∙ slice_get_read c.deref.result.now (length c.deref.result.now) c.args.opening.stage c.in-Some.stage.now refl found.3.0 found.1 ∙ ap (λ s. Some s) c.in-Offer.is in
-    let put : record { offers = c.push.new.self.items; nacks = c.args.stack.now.nacks.items } ≡ with_offer c.in-Ok.base c.in-Offer.scopes (lists_of c.args.stack.now) = ap (λ os. record { offers = os; nacks = c.args.stack.now.nacks.items }) c.in_ok-push-in-Ok.ensures.items in
-    offer_falls c.args.code.now c.args.opening (lists_of c.args.stack.now) c.plan_of-plan.result.now c.requires.fits.0 c.plan_of-plan.ensures c.in-Offer.event c.in-Offer.scopes at c.in-Ok.base (record { offers = c.push.new.self.items; nacks = c.args.stack.now.nacks.items }) put
-
-pub returns-in_ok-push-in-Ok-clause-fits : goal.returns-in_ok-push-in-Ok-clause-fits
-returns-in_ok-push-in-Ok-clause-fits c =
-    let found = c.in-Some.ensures.lookup in
-    let at = ap (λ l. slice_get l c.args.opening.stage) (sym c.deref.ensures.value) ∙ slice_get_read c.deref.result.now (length c.deref.result.now) c.args.opening.stage c.in-Some.stage.now refl found.3.0 found.1 ∙ ap (λ s. Some s) c.in-Offer.is in
-    let put : record { offers = c.push.new.self.items; nacks = c.args.stack.now.nacks.items } ≡ with_offer c.in-Ok.base c.in-Offer.scopes (lists_of c.args.stack.now) = ap (λ os. record { offers = os; nacks = c.args.stack.now.nacks.items }) c.in_ok-push-in-Ok.ensures.items in
-    offer_fits c.args.code.now c.args.opening (lists_of c.args.stack.now) c.plan_of-plan.result.now c.requires.fits.0 c.plan_of-plan.ensures c.in-Offer.event c.in-Offer.scopes at c.in-Ok.base (record { offers = c.push.new.self.items; nacks = c.args.stack.now.nacks.items }) put c.args.stack.now.frames.items c.requires.fits.1
+    let put : record { offers = c.push.new.self.items; nacks = c.loop-stage.stack.nacks.items } ≡ with_offer c.in-Ok.base c.in-Offer.scopes (lists_of c.loop-stage.stack) = ap (λ os. record { offers = os; nacks = c.loop-stage.stack.nacks.items }) c.in_ok-push-in-Ok.ensures.items in
+    record {
+      does = λ rs.
+          offer_does c.args.code.now c.loop-stage.opening (lists_of c.loop-stage.stack) c.plan_of-plan.result.now c.loop-stage.invariant.fits.0 c.plan_of-plan.ensures c.in-Offer.event c.in-Offer.scopes at c.in-Ok.base (record { offers = c.push.new.self.items; nacks = c.loop-stage.stack.nacks.items }) put (frames_on c.args.code.now c.loop-stage.stack.frames.items) (state_of c.loop-stage.memory rs) value
+          ∙ c.loop-stage.invariant.does rs;
+      reach = omega (arith, offer_falls c.args.code.now c.loop-stage.opening (lists_of c.loop-stage.stack) c.plan_of-plan.result.now c.loop-stage.invariant.fits.0 c.plan_of-plan.ensures c.in-Offer.event c.in-Offer.scopes at c.in-Ok.base (record { offers = c.push.new.self.items; nacks = c.loop-stage.stack.nacks.items }) put, c.loop-stage.invariant.reach);
+      fits = offer_fits c.args.code.now c.loop-stage.opening (lists_of c.loop-stage.stack) c.plan_of-plan.result.now c.loop-stage.invariant.fits.0 c.plan_of-plan.ensures c.in-Offer.event c.in-Offer.scopes at c.in-Ok.base (record { offers = c.push.new.self.items; nacks = c.loop-stage.stack.nacks.items }) put c.loop-stage.stack.frames.items c.loop-stage.invariant.fits.1;
+    }
 
 pub returns-in-Err-clause-does : goal.returns-in-Err-clause-does
 returns-in-Err-clause-does c = λ rs.
     let found = c.in-Some.ensures.lookup in
-    let at = ap (λ l. slice_get l c.args.opening.stage) (sym c.deref.ensures.value) ∙ slice_get_read c.deref.result.now (length c.deref.result.now) c.args.opening.stage c.in-Some.stage.now refl found.3.0 found.1 ∙ ap (λ s. Some s) c.in-Offer.is in
+    let at = ap (λ l. slice_get l c.loop-stage.opening.stage) (sym c.deref.ensures.value) ∙ slice_get_read c.deref.result.now (length c.deref.result.now) c.loop-stage.opening.stage c.in-Some.stage.now refl found.3.0 found.1 ∙ ap (λ s. Some s) c.in-Offer.is in
     let value = ap₂ base_value (sym c.deref-in-Offer-2.ensures.value) (ap event_of (sym c.deref-in-Offer.ensures)) ∙ sym c.base_of.ensures ∙ c.in-Err.is in
-    offer_fails c.args.code.now c.args.opening (lists_of c.args.stack.now) c.plan_of-plan.result.now c.requires.fits.0 c.plan_of-plan.ensures c.in-Offer.event c.in-Offer.scopes at (frames_on c.args.code.now c.args.stack.now.frames.items) (state_of c.args.memory.now rs) c.in-Err.fault value
+    offer_fails c.args.code.now c.loop-stage.opening (lists_of c.loop-stage.stack) c.plan_of-plan.result.now c.loop-stage.invariant.fits.0 c.plan_of-plan.ensures c.in-Offer.event c.in-Offer.scopes at (frames_on c.args.code.now c.loop-stage.stack.frames.items) (state_of c.loop-stage.memory rs) c.in-Err.fault value
+    ∙ c.loop-stage.invariant.does rs
 
-pub returns-in_ok-push-in-Body-clause-does : goal.returns-in_ok-push-in-Body-clause-does
-returns-in_ok-push-in-Body-clause-does c = λ rs.
+pub returns-in-Body-clause-does : goal.returns-in-Body-clause-does
+returns-in-Body-clause-does c = λ rs.
     let found = c.in-Some.ensures.lookup in
-    let at = ap (λ l. slice_get l c.args.opening.stage) (sym c.deref.ensures.value) ∙ slice_get_read c.deref.result.now (length c.deref.result.now) c.args.opening.stage c.in-Some.stage.now refl found.3.0 found.1 ∙ ap (λ s. Some s) c.in-Body.is in
-    body_does c.args.code.now c.args.opening (lists_of c.args.stack.now) c.plan_of-plan.result.now c.requires.fits.0 c.plan_of-plan.ensures c.in-Body.at at c.push-in-Body.new.self.items c.args.stack.now.frames.items c.in_ok-push-in-Body.ensures.items (state_of c.args.memory.now rs)
+    let at = ap (λ l. slice_get l c.loop-stage.opening.stage) (sym c.deref.ensures.value) ∙ slice_get_read c.deref.result.now (length c.deref.result.now) c.loop-stage.opening.stage c.in-Some.stage.now refl found.3.0 found.1 ∙ ap (λ s. Some s) c.in-Body.is in
+    body_does c.args.code.now c.loop-stage.opening (lists_of c.loop-stage.stack) c.plan_of-plan.result.now c.loop-stage.invariant.fits.0 c.plan_of-plan.ensures c.in-Body.at at c.push-in-Body.new.self.items c.loop-stage.stack.frames.items c.in_ok-push-in-Body.ensures.items (state_of c.loop-stage.memory rs)
+    ∙ c.loop-stage.invariant.does rs
 
-pub returns-in_ok-push-in-Body-clause-falls : goal.returns-in_ok-push-in-Body-clause-falls
-returns-in_ok-push-in-Body-clause-falls c =
+pub returns-in-Body-clause-falls : goal.returns-in-Body-clause-falls
+returns-in-Body-clause-falls c =
     let found = c.in-Some.ensures.lookup in
-    let at = ap (λ l. slice_get l c.args.opening.stage) (sym c.deref.ensures.value) ∙ slice_get_read c.deref.result.now (length c.deref.result.now) c.args.opening.stage c.in-Some.stage.now refl found.3.0 found.1 ∙ ap (λ s. Some s) c.in-Body.is in
-    body_falls c.args.code.now c.args.opening (lists_of c.args.stack.now) c.plan_of-plan.result.now c.requires.fits.0 c.plan_of-plan.ensures c.in-Body.at at c.push-in-Body.new.self.items c.args.stack.now.frames.items c.in_ok-push-in-Body.ensures.items
+    let at = ap (λ l. slice_get l c.loop-stage.opening.stage) (sym c.deref.ensures.value) ∙ slice_get_read c.deref.result.now (length c.deref.result.now) c.loop-stage.opening.stage c.in-Some.stage.now refl found.3.0 found.1 ∙ ap (λ s. Some s) c.in-Body.is in
+    omega (arith, body_falls c.args.code.now c.loop-stage.opening (lists_of c.loop-stage.stack) c.plan_of-plan.result.now c.loop-stage.invariant.fits.0 c.plan_of-plan.ensures c.in-Body.at at c.push-in-Body.new.self.items c.loop-stage.stack.frames.items c.in_ok-push-in-Body.ensures.items, c.loop-stage.invariant.reach)
 
-pub returns-in_ok-push-in-Body-clause-fits : goal.returns-in_ok-push-in-Body-clause-fits
-returns-in_ok-push-in-Body-clause-fits c =
+pub returns-in-Body-clause-fits : goal.returns-in-Body-clause-fits
+returns-in-Body-clause-fits c =
     let found = c.in-Some.ensures.lookup in
-    let at = ap (λ l. slice_get l c.args.opening.stage) (sym c.deref.ensures.value) ∙ slice_get_read c.deref.result.now (length c.deref.result.now) c.args.opening.stage c.in-Some.stage.now refl found.3.0 found.1 ∙ ap (λ s. Some s) c.in-Body.is in
-    body_fits c.args.code.now c.args.opening (lists_of c.args.stack.now) c.plan_of-plan.result.now c.requires.fits.0 c.plan_of-plan.ensures c.in-Body.at at c.push-in-Body.new.self.items c.args.stack.now.frames.items c.in_ok-push-in-Body.ensures.items c.requires.fits.1
+    let at = ap (λ l. slice_get l c.loop-stage.opening.stage) (sym c.deref.ensures.value) ∙ slice_get_read c.deref.result.now (length c.deref.result.now) c.loop-stage.opening.stage c.in-Some.stage.now refl found.3.0 found.1 ∙ ap (λ s. Some s) c.in-Body.is in
+    body_fits c.args.code.now c.loop-stage.opening (lists_of c.loop-stage.stack) c.plan_of-plan.result.now c.loop-stage.invariant.fits.0 c.plan_of-plan.ensures c.in-Body.at at c.push-in-Body.new.self.items c.loop-stage.stack.frames.items c.in_ok-push-in-Body.ensures.items c.loop-stage.invariant.fits.1
 
 pub returns-then-memory-ge64-clause-does : goal.returns-then-memory-ge64-clause-does
 returns-then-memory-ge64-clause-does c = λ rs.
     let found = c.in-Some.ensures.lookup in
-    let at = ap (λ l. slice_get l c.args.opening.stage) (sym c.deref.ensures.value) ∙ slice_get_read c.deref.result.now (length c.deref.result.now) c.args.opening.stage c.in-Some.stage.now refl found.3.0 found.1 ∙ ap (λ s. Some s) c.in-Nack.is in
-    let made : Outcome State = Goes (with_variable c.in-Nack.name (Nack (record { thread = c.args.memory.now.thread; k = c.args.memory.now.nacks })) (record (state_of c.args.memory.now rs) { nacks = c.args.memory.now.nacks + 1 })) in
-    let many : Outcome State = Fails Range c.args.memory.now.printed.items rs in
-    let many_are : nat_le 64 c.args.memory.now.nacks ≡ true = search (rules, nat_tests) in
-    nack_fails c.args.code.now c.args.opening (lists_of c.args.stack.now) c.plan_of-plan.result.now c.requires.fits.0 c.plan_of-plan.ensures c.in-Nack.name at (frames_on c.args.code.now c.args.stack.now.frames.items) (state_of c.args.memory.now rs) Range (ap (λ b. if b then many else made) many_are)
+    let at = ap (λ l. slice_get l c.loop-stage.opening.stage) (sym c.deref.ensures.value) ∙ slice_get_read c.deref.result.now (length c.deref.result.now) c.loop-stage.opening.stage c.in-Some.stage.now refl found.3.0 found.1 ∙ ap (λ s. Some s) c.in-Nack.is in
+    let made : Outcome State = Goes (with_variable c.in-Nack.name (Nack (record { thread = c.loop-stage.memory.thread; k = c.loop-stage.memory.nacks })) (record (state_of c.loop-stage.memory rs) { nacks = c.loop-stage.memory.nacks + 1 })) in
+    let many : Outcome State = Fails Range c.loop-stage.memory.printed.items rs in
+    let many_are : nat_le 64 c.loop-stage.memory.nacks ≡ true = search (rules, nat_tests) in
+    nack_fails c.args.code.now c.loop-stage.opening (lists_of c.loop-stage.stack) c.plan_of-plan.result.now c.loop-stage.invariant.fits.0 c.plan_of-plan.ensures c.in-Nack.name at (frames_on c.args.code.now c.loop-stage.stack.frames.items) (state_of c.loop-stage.memory rs) Range (ap (λ b. if b then many else made) many_are)
+    ∙ c.loop-stage.invariant.does rs
 
-pub returns-in_ok-push-in-Nack-clause-does : goal.returns-in_ok-push-in-Nack-clause-does
-returns-in_ok-push-in-Nack-clause-does c = λ rs.
+pub returns-in-Nack-clause-does : goal.returns-in-Nack-clause-does
+returns-in-Nack-clause-does c = λ rs.
     let found = c.in-Some.ensures.lookup in
-    let at = ap (λ l. slice_get l c.args.opening.stage) (sym c.deref.ensures.value) ∙ slice_get_read c.deref.result.now (length c.deref.result.now) c.args.opening.stage c.in-Some.stage.now refl found.3.0 found.1 ∙ ap (λ s. Some s) c.in-Nack.is in
-    let made : Outcome State = Goes (with_variable c.in-Nack.name (Nack (record { thread = c.args.memory.now.thread; k = c.args.memory.now.nacks })) (record (state_of c.args.memory.now rs) { nacks = c.args.memory.now.nacks + 1 })) in
-    let many : Outcome State = Fails Range c.args.memory.now.printed.items rs in
-    let put : record { offers = c.args.stack.now.offers.items; nacks = c.push-in-Nack.new.self.items } ≡ with_scope c.args.memory.now.nacks (lists_of c.args.stack.now) = ap (λ ns. record { offers = c.args.stack.now.offers.items; nacks = ns }) c.in_ok-push-in-Nack.ensures.items in
-    let few : nat_le 64 c.args.memory.now.nacks ≡ false = search (rules, nat_tests) in
+    let at = ap (λ l. slice_get l c.loop-stage.opening.stage) (sym c.deref.ensures.value) ∙ slice_get_read c.deref.result.now (length c.deref.result.now) c.loop-stage.opening.stage c.in-Some.stage.now refl found.3.0 found.1 ∙ ap (λ s. Some s) c.in-Nack.is in
+    let made : Outcome State = Goes (with_variable c.in-Nack.name (Nack (record { thread = c.loop-stage.memory.thread; k = c.loop-stage.memory.nacks })) (record (state_of c.loop-stage.memory rs) { nacks = c.loop-stage.memory.nacks + 1 })) in
+    let many : Outcome State = Fails Range c.loop-stage.memory.printed.items rs in
+    let put : record { offers = c.loop-stage.stack.offers.items; nacks = c.push-in-Nack.new.self.items } ≡ with_scope c.loop-stage.memory.nacks (lists_of c.loop-stage.stack) = ap (λ ns. record { offers = c.loop-stage.stack.offers.items; nacks = ns }) c.in_ok-push-in-Nack.ensures.items in
+    let few : nat_le 64 c.loop-stage.memory.nacks ≡ false = search (rules, nat_tests) in
     let set : made ≡ Goes (state_of c.set.new.self rs) = rw (c.set.ensures.thread, c.set.ensures.nacks, c.set.ensures.printed, c.set.ensures.variables) refl in
-    nack_does c.args.code.now c.args.opening (lists_of c.args.stack.now) c.plan_of-plan.result.now c.requires.fits.0 c.plan_of-plan.ensures c.in-Nack.name at c.args.memory.now.nacks (record { offers = c.args.stack.now.offers.items; nacks = c.push-in-Nack.new.self.items }) put (frames_on c.args.code.now c.args.stack.now.frames.items) (state_of c.args.memory.now rs) (state_of c.set.new.self rs) refl (ap (λ b. if b then many else made) few ∙ set)
+    nack_does c.args.code.now c.loop-stage.opening (lists_of c.loop-stage.stack) c.plan_of-plan.result.now c.loop-stage.invariant.fits.0 c.plan_of-plan.ensures c.in-Nack.name at c.loop-stage.memory.nacks (record { offers = c.loop-stage.stack.offers.items; nacks = c.push-in-Nack.new.self.items }) put (frames_on c.args.code.now c.loop-stage.stack.frames.items) (state_of c.loop-stage.memory rs) (state_of c.set.new.self rs) refl (ap (λ b. if b then many else made) few ∙ set)
+    ∙ c.loop-stage.invariant.does rs
 
-pub returns-in_ok-push-in-Nack-clause-falls : goal.returns-in_ok-push-in-Nack-clause-falls
-returns-in_ok-push-in-Nack-clause-falls c =
+pub returns-in-Nack-clause-falls : goal.returns-in-Nack-clause-falls
+returns-in-Nack-clause-falls c =
     let found = c.in-Some.ensures.lookup in
-    let at = ap (λ l. slice_get l c.args.opening.stage) (sym c.deref.ensures.value) ∙ slice_get_read c.deref.result.now (length c.deref.result.now) c.args.opening.stage c.in-Some.stage.now refl found.3.0 found.1 ∙ ap (λ s. Some s) c.in-Nack.is in
-    let put : record { offers = c.args.stack.now.offers.items; nacks = c.push-in-Nack.new.self.items } ≡ with_scope c.args.memory.now.nacks (lists_of c.args.stack.now) = ap (λ ns. record { offers = c.args.stack.now.offers.items; nacks = ns }) c.in_ok-push-in-Nack.ensures.items in
-    nack_falls c.args.code.now c.args.opening (lists_of c.args.stack.now) c.plan_of-plan.result.now c.requires.fits.0 c.plan_of-plan.ensures c.in-Nack.name at c.args.memory.now.nacks (record { offers = c.args.stack.now.offers.items; nacks = c.push-in-Nack.new.self.items }) put
+    let at = ap (λ l. slice_get l c.loop-stage.opening.stage) (sym c.deref.ensures.value) ∙ slice_get_read c.deref.result.now (length c.deref.result.now) c.loop-stage.opening.stage c.in-Some.stage.now refl found.3.0 found.1 ∙ ap (λ s. Some s) c.in-Nack.is in
+    let put : record { offers = c.loop-stage.stack.offers.items; nacks = c.push-in-Nack.new.self.items } ≡ with_scope c.loop-stage.memory.nacks (lists_of c.loop-stage.stack) = ap (λ ns. record { offers = c.loop-stage.stack.offers.items; nacks = ns }) c.in_ok-push-in-Nack.ensures.items in
+    omega (arith, nack_falls c.args.code.now c.loop-stage.opening (lists_of c.loop-stage.stack) c.plan_of-plan.result.now c.loop-stage.invariant.fits.0 c.plan_of-plan.ensures c.in-Nack.name at c.loop-stage.memory.nacks (record { offers = c.loop-stage.stack.offers.items; nacks = c.push-in-Nack.new.self.items }) put, c.loop-stage.invariant.reach)
 
-pub returns-in_ok-push-in-Nack-clause-fits : goal.returns-in_ok-push-in-Nack-clause-fits
-returns-in_ok-push-in-Nack-clause-fits c =
+pub returns-in-Nack-clause-fits : goal.returns-in-Nack-clause-fits
+returns-in-Nack-clause-fits c =
     let found = c.in-Some.ensures.lookup in
-    let at = ap (λ l. slice_get l c.args.opening.stage) (sym c.deref.ensures.value) ∙ slice_get_read c.deref.result.now (length c.deref.result.now) c.args.opening.stage c.in-Some.stage.now refl found.3.0 found.1 ∙ ap (λ s. Some s) c.in-Nack.is in
-    let put : record { offers = c.args.stack.now.offers.items; nacks = c.push-in-Nack.new.self.items } ≡ with_scope c.args.memory.now.nacks (lists_of c.args.stack.now) = ap (λ ns. record { offers = c.args.stack.now.offers.items; nacks = ns }) c.in_ok-push-in-Nack.ensures.items in
-    nack_fits c.args.code.now c.args.opening (lists_of c.args.stack.now) c.plan_of-plan.result.now c.requires.fits.0 c.plan_of-plan.ensures c.in-Nack.name at c.args.memory.now.nacks (record { offers = c.args.stack.now.offers.items; nacks = c.push-in-Nack.new.self.items }) put c.args.stack.now.frames.items c.requires.fits.1
+    let at = ap (λ l. slice_get l c.loop-stage.opening.stage) (sym c.deref.ensures.value) ∙ slice_get_read c.deref.result.now (length c.deref.result.now) c.loop-stage.opening.stage c.in-Some.stage.now refl found.3.0 found.1 ∙ ap (λ s. Some s) c.in-Nack.is in
+    let put : record { offers = c.loop-stage.stack.offers.items; nacks = c.push-in-Nack.new.self.items } ≡ with_scope c.loop-stage.memory.nacks (lists_of c.loop-stage.stack) = ap (λ ns. record { offers = c.loop-stage.stack.offers.items; nacks = ns }) c.in_ok-push-in-Nack.ensures.items in
+    nack_fits c.args.code.now c.loop-stage.opening (lists_of c.loop-stage.stack) c.plan_of-plan.result.now c.loop-stage.invariant.fits.0 c.plan_of-plan.ensures c.in-Nack.name at c.loop-stage.memory.nacks (record { offers = c.loop-stage.stack.offers.items; nacks = c.push-in-Nack.new.self.items }) put c.loop-stage.stack.frames.items c.loop-stage.invariant.fits.1

@@ -1,0 +1,18 @@
+use Rattle.std.proofs.Common.{◌≡◌, ◌≤◌, List}
+use Rattle.thread.specs.declared.stack.Now.TheVariants.{Open}
+use Rattle.thread.specs.After.{Chosen}
+use Rattle.thread.specs.Fitting.{NowFits}
+use Rattle.thread.specs.Reaches.{opening_reach}
+use Rattle.thread.specs.Stacks.{now_on, state_of}
+use Rattle.thread.proofs.resolving.resolve.Given as goal
+
+-- the stages that are left come to what the thread comes to, whatever results come
+abbrev pub invariant-loop-stage : goal.invariant-loop-stage
+invariant-loop-stage l = record {
+  does : (rs : List Chosen) → now_on l.code l.stack (Open l.opening) (state_of l.memory rs) ≡ now_on l.code l.fn.stack (Open l.fn.opening) (state_of l.fn.memory rs);
+  reach : opening_reach l.code l.opening ≤ opening_reach l.code l.fn.opening;
+  fits : NowFits l.code l.stack (Open l.opening);
+}
+
+abbrev pub decreases-loop-stage : goal.decreases-loop-stage
+decreases-loop-stage l = opening_reach l.code l.opening
