@@ -13,7 +13,8 @@ ghost use Rattle.cell.specs.Views.{at_stage};
 use crate::board::Board;
 use crate::view::View;
 use atomic_table::Seat;
-use protocol::{Base, Cell, Joined, Message, Offer, Row, unpack_count, unpack_offer};
+use protocol::{Base, Cell, Joined, Message, Offer, Row, unpack_count};
+use words::read_offer;
 
 impl Board {
     /// Offer n of the row, where it is opened and has one.
@@ -38,7 +39,7 @@ impl Board {
         let first = self.read(seat, row, 3 + 4 * n);
         let second = self.read(seat, row, 4 + 4 * n);
         let third = self.read(seat, row, 5 + 4 * n);
-        unpack_offer(head, first, second, third)
+        Some(read_offer(head, first, second, third))
     }
 
     /// The stamp of the row before this one in its thread, and 0 where there is none. The row was
