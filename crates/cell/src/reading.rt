@@ -31,6 +31,24 @@ impl Board {
         if self.look(seat, row) == Cell::Fresh {
             return None;
         }
+        self.opened_offer(seat, row, n)
+    }
+
+    /// Offer n of a row that was seen opened, where it has one.
+    pub(crate) fn opened_offer(
+        &self,
+        seat: &mut Seat<u64, View>,
+        row: Row,
+        n: u8,
+    ) -> Option<Offer>
+        requires { Sits self.now seat.old × HasRow self.now row × Has seat.old.me.0.seen.opened row }
+        ensures sits { (seat.new.id ≡ seat.old.id) × Sits self.now seat.new }
+        ensures stays { seat.new.me.0 ≡ at_stage seat.old.me.0.stage seat.new.me.0.seen seat.old.me.0 }
+        ensures learns { Learns (λ q. q ≡ row) seat.old.me.0.seen seat.new.me.0.seen }
+        ensures some { IfSome result (λ o. Has seat.new.me.0.seen.opened row × HaveOffer seat.new.me.0.seen.words row n o) }
+        ensures none { IfNone result (LackOffer seat.new.me.0.seen.words row n) }
+        ensures same { (o : Offer) → SeesOffer seat.new.me.0.seen row n o → result ≡ Some o }
+    {
         let count = unpack_count(self.read(seat, row, 1))?;
         if n >= count {
             return None;
@@ -92,7 +110,7 @@ impl Board {
         ensures learns { Learns (λ q. (q ≡ row) ⊎ (names (Some joined) q ≡ true)) seat.old.me.0.seen seat.new.me.0.seen }
         ensures got { (got : Message) × (result ≡ Some got) × IsResult seat.new.me.0.seen row got }
     {
-        match self.offer(seat, row, joined.own)?.base {
+        match self.opened_offer(seat, row, joined.own)?.base {
             Base::Always(message) => Some(message),
             Base::Recv(_) => self.received(seat, row, joined),
             Base::Send(..) | Base::OnNack(_) | Base::Never => Some(Message::Empty),
