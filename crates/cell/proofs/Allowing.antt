@@ -8,7 +8,7 @@ use prog.Atomic.{either}
 use Rattle.atomic_table.specs.Table.{State, Me, Allows, Act, Valid, step, keeps, stepped, carried_after}
 use Rattle.atomic_table.proofs.Lists.{exchanged}
 use Rattle.words.specs.Words.{cell_word, cell_of, is_word_for, IsCellInRange, IsJoinedInRange}
-use Rattle.words.proofs.WordLemmas.{cell_of-cell_word, cell_word-cell_of}
+use Rattle.words.proofs.WordLemmas.{cell_is_word, cell_of-cell_word, cell_word-cell_of}
 use Rattle.words.specs.declared.Seat.{Seat as StepSeat}
 use Rattle.atomic_table.specs.declared.shared.Seat.{Seat}
 use Rattle.cell.specs.declared.board.Board.{Board}
@@ -102,6 +102,9 @@ module _ (shape : Shape) (id place : ℕ) (me : Me ℕ View) (r : Row) (p : ℕ)
 
     cell_is : p ≡ 0 → cell_at k.world.table r ≡ cell_read (slice_index s.words place)
     cell_is e = cell_inside k.world.table r is_its_row ∙ ap cell_read (ap (word_at k.world.table r) (sym e) ∙ word_is)
+
+    is_cell : p ≡ 0 → is_some (cell_of (slice_index s.words place)) ≡ true
+    is_cell e = sym (cell_is_word (slice_index s.words place)) ∙ subst (λ (n : ℕ × ℕ). is_word_for n.0 n.1 ≡ true) (λ i. (e i, word_is i)) (kept.formed.rows r p is_its_row low)
 
     -- where it writes a word behind the cell
     wrote_word : (d : ℕ) → Has me.0.seen.held r → ¬ Has me.0.seen.opened r → 1 ≤ p → is_word_for p d ≡ true → Keeps shape (stepped s place d id me.1 (word_drafted r p d me.0) keeps)
@@ -337,7 +340,7 @@ module _ (shape : Shape) (slots id place : ℕ) (me : Me ℕ View) (r : Row)
         learnt shape id place me r 0 threads rows inside (omega arith) here s k view (saw r c me.0) refl refl (learn_cell k.world k.owner id me.0 r c knows read),
         λ q at.
             let there = seen_there k.world k.owner id me r q c (world_kept shape s k) knows read (one_word shape id place me r 0 threads rows inside (omega arith) here q 0 (omega arith) at.0 at.1).0 in
-            (there.0, there.1, coherent k.world k.owner id (saw r c me.0) (learn_cell k.world k.owner id me.0 r c knows read) (world_kept shape s k)),
+            (there.0, there.1, coherent k.world k.owner id (saw r c me.0) (learn_cell k.world k.owner id me.0 r c knows read) (world_kept shape s k), is_cell shape id place me r 0 threads rows inside (omega arith) here s k view refl),
       )
 
   -- whoever learns nothing sees that what he has seen is of one table

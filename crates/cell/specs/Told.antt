@@ -1,5 +1,5 @@
 -- What a step tells the pass that makes it: its view after, by the word that it found.
-use Rattle.std.specs.Prelude.{◌≡◌, ◌≢◌, ℕ, ◌<◌, ◌≤◌, unwrap_or, Option, Some, None}
+use Rattle.std.specs.Prelude.{◌≡◌, ◌≢◌, ℕ, ◌<◌, ◌≤◌, true, is_some, unwrap_or, Option, Some, None}
 use Rattle.atomic_table.specs.Table.{Step, Me}
 use Rattle.words.specs.declared.Step.TheVariants.{Open, Claim, Yield, Join, Seal, Grant, Take}
 use Rattle.words.specs.Words.{cell_word, cell_of, nack_word, nack_of, IsBindingInRange, IsJoinedInRange}
@@ -47,8 +47,9 @@ Agrees v r c = IsExpected v.seen r c × (Has v.seen.held r → c ≡ Claimed →
 abbrev pub AgreesWithItself : View → Type 0
 AgreesWithItself v = Coherent v.threads v.rows v.seen
 
+-- the word that was found is a cell's
 abbrev pub looked : {S : Type 0} → Step S → Me S View → ℕ → Me S View → Type 0
-looked st m n w = (r : Row) → At st m r 0 → (w ≡ (saw r (cell_read n) m.0, m.1)) × Agrees m.0 r (cell_read n) × AgreesWithItself w.0
+looked st m n w = (r : Row) → At st m r 0 → (w ≡ (saw r (cell_read n) m.0, m.1)) × Agrees m.0 r (cell_read n) × AgreesWithItself w.0 × (is_some (cell_of n) ≡ true)
 
 abbrev pub has_read : {S : Type 0} → Step S → Me S View → ℕ → Me S View → Type 0
 has_read st m n w = (r : Row) (p : ℕ) → p < 34 → At st m r p → (w ≡ (read_word r p n m.0, m.1)) × AgreesWithItself w.0

@@ -78,6 +78,7 @@ impl Board {
     /// How the other row would be committed, where the two rows can meet under these offers.
     fn fit(&self, seat: &mut Seat<u64, View>, mine: (Row, u8), other: (Row, u8)) -> Option<Joined>
         requires sits { Sits self.now seat.old × HasRow self.now mine.0 × HasRow self.now other.0 }
+        requires opened { Has seat.old.me.0.seen.opened mine.0 }
         ensures sits { (seat.new.id ≡ seat.old.id) × Sits self.now seat.new }
         ensures stays { seat.new.me.0 ≡ at_stage seat.old.me.0.stage seat.new.me.0.seen seat.old.me.0 }
         ensures learns { Learns (IsNear mine.0 other.0) seat.old.me.0.seen seat.new.me.0.seen }
@@ -89,7 +90,7 @@ impl Board {
         if my_row.thread == row.thread {
             return None;
         }
-        let my_offer = self.offer(seat, my_row, own);
+        let my_offer = self.opened_offer(seat, my_row, own);
         let offer = self.offer(seat, row, partner);
         if !offers_meet(my_offer, offer) {
             return None;

@@ -97,7 +97,7 @@ impl Board {
             sync: bound.sync,
         };
         let joined = self.committed(seat, row)?;
-        let chosen = self.offer(seat, row, joined.own)?;
+        let chosen = self.opened_offer(seat, row, joined.own)?;
         if chosen.has_scope(bound.scope) {
             return None;
         }
@@ -110,7 +110,7 @@ impl Board {
         ensures sits { (seat.new.id ≡ seat.old.id) × Sits self.now seat.new }
         ensures stays { seat.new.me.0 ≡ at_stage seat.old.me.0.stage seat.new.me.0.seen seat.old.me.0 }
         ensures learns { Learns (λ q. q ≡ row) seat.old.me.0.seen seat.new.me.0.seen }
-        ensures some { IfSome result (λ j. Has seat.new.me.0.seen.joined (row, j)) }
+        ensures some { IfSome result (λ j. Has seat.new.me.0.seen.joined (row, j) × Has seat.new.me.0.seen.opened row) }
         ensures same { (j : Joined) → Has seat.old.me.0.seen.joined (row, j) → result ≡ Some j }
     {
         match self.look(seat, row) {

@@ -13,7 +13,8 @@ ghost use Rattle.cell.specs.Views.{at_stage};
 use crate::board::Board;
 use crate::view::View;
 use atomic_table::Seat;
-use protocol::{Base, Cell, Joined, Message, Offer, Row, unpack_count, unpack_offer};
+use protocol::{Base, Cell, Joined, Message, Offer, Row, unpack_count};
+use words::read_offer;
 
 impl Board {
     /// Offer n of the row, where it is opened and has one.
@@ -30,6 +31,24 @@ impl Board {
         if self.look(seat, row) == Cell::Fresh {
             return None;
         }
+        self.opened_offer(seat, row, n)
+    }
+
+    /// Offer n of a row that was seen opened, where it has one.
+    pub(crate) fn opened_offer(
+        &self,
+        seat: &mut Seat<u64, View>,
+        row: Row,
+        n: u8,
+    ) -> Option<Offer>
+        requires { Sits self.now seat.old × HasRow self.now row × Has seat.old.me.0.seen.opened row }
+        ensures sits { (seat.new.id ≡ seat.old.id) × Sits self.now seat.new }
+        ensures stays { seat.new.me.0 ≡ at_stage seat.old.me.0.stage seat.new.me.0.seen seat.old.me.0 }
+        ensures learns { Learns (λ q. q ≡ row) seat.old.me.0.seen seat.new.me.0.seen }
+        ensures some { IfSome result (λ o. Has seat.new.me.0.seen.opened row × HaveOffer seat.new.me.0.seen.words row n o) }
+        ensures none { IfNone result (LackOffer seat.new.me.0.seen.words row n) }
+        ensures same { (o : Offer) → SeesOffer seat.new.me.0.seen row n o → result ≡ Some o }
+    {
         let count = unpack_count(self.read(seat, row, 1))?;
         if n >= count {
             return None;
@@ -38,7 +57,7 @@ impl Board {
         let first = self.read(seat, row, 3 + 4 * n);
         let second = self.read(seat, row, 4 + 4 * n);
         let third = self.read(seat, row, 5 + 4 * n);
-        unpack_offer(head, first, second, third)
+        Some(read_offer(head, first, second, third))
     }
 
     /// The stamp of the row before this one in its thread, and 0 where there is none. The row was
@@ -91,7 +110,7 @@ impl Board {
         ensures learns { Learns (λ q. (q ≡ row) ⊎ (names (Some joined) q ≡ true)) seat.old.me.0.seen seat.new.me.0.seen }
         ensures got { (got : Message) × (result ≡ Some got) × IsResult seat.new.me.0.seen row got }
     {
-        match self.offer(seat, row, joined.own)?.base {
+        match self.opened_offer(seat, row, joined.own)?.base {
             Base::Always(message) => Some(message),
             Base::Recv(_) => self.received(seat, row, joined),
             Base::Send(..) | Base::OnNack(_) | Base::Never => Some(Message::Empty),

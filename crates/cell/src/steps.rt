@@ -29,6 +29,7 @@ use atomic_table::Seat;
 use protocol::{
     Binding, Cell, Joined, NackName, Row, pack_cell, pack_nack, unpack_cell, unpack_nack,
 };
+use words::read_cell;
 
 impl Board {
     // where the word of a row at a place lies
@@ -97,7 +98,7 @@ impl Board {
         ensures saw { seat.new.me.0 ≡ saw row result seat.old.me.0 }
         ensures agrees { Agrees seat.old.me.0 row result }
     {
-        cell_in(self.words.shared.load::<Look>(seat, self.place(row, 0)))
+        read_cell(self.words.shared.load::<Look>(seat, self.place(row, 0)))
     }
 
     /// Reads a word of a row that was seen opened.

@@ -618,3 +618,29 @@ word-lt place w h =
 
     atom : is_some (atom_of w) ≡ true → w < 2 ^ 58
     atom e = let c = some_value (atom_of w) e in let l = atom_word-atom_of w c.0 c.1 in omega (arith, l.1, atom_word-lt c.0 l.0)
+
+-- A WORD THAT IS KNOWN to be well-formed is what its fields say
+
+fields_of_some : {A : Type 0} (b : Bool) (x : A) → is_some (if b then Some x else None) ≡ true → (if b then Some x else None) ≡ Some x
+fields_of_some false x h = absurd (true≢false (sym h))
+fields_of_some true x h = refl
+
+pub cell_of-fields : (w : ℕ) → is_some (cell_of w) ≡ true → cell_of w ≡ Some (cell_fields w)
+unfolding cell_of
+cell_of-fields w h = fields_of_some ((cell_word (cell_fields w) == w) && has_stamp (cell_fields w)) (cell_fields w) h
+
+head_of-fields : (w : ℕ) (h : Head) → head_of w ≡ Some h → head_of w ≡ Some (head_fields w)
+unfolding head_of
+head_of-fields w h e = fields_of_some (head_word (head_fields w) == w) (head_fields w) (ap is_some e)
+
+atom_of-fields : (w : ℕ) (a : Atom) → atom_of w ≡ Some a → atom_of w ≡ Some (atom_fields w)
+unfolding atom_of
+atom_of-fields w a e = fields_of_some (atom_word (atom_fields w) == w) (atom_fields w) (ap is_some e)
+
+pub offer_of-fields : (w x y z : ℕ) → is_some (offer_of w x y z) ≡ true →
+    offer_of w x y z ≡ Some (record { base = base_of (direction_fields w) (atom_fields x) (atom_fields y) (atom_fields z); scopes = field w 25 4 })
+offer_of-fields w x y z h =
+    let o = some_value (offer_of w x y z) h in
+    let p = parts_of_offer w x y z o.0 o.1 in
+    offer_of-parts w x y z (head_fields w) (atom_fields x) (atom_fields y) (atom_fields z) (head_of-fields w p.head p.head_is)
+    (atom_of-fields x p.first p.first_is) (atom_of-fields y p.second p.second_is) (atom_of-fields z p.third p.third_is)

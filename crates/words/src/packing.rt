@@ -1,6 +1,6 @@
 //! The words of the table: values packed into words of 64 bits, and words unpacked again. Which
 //! bit stands for what is at the head of each section of the crate's definitions of words.
-ghost use Rattle.std.specs.Prelude.{ℕ, ◌≡◌, ◌^◌, ◌<◌, ◌≤◌, IfSome, Option, List, [], ◌∷◌, slice_index};
+ghost use Rattle.std.specs.Prelude.{ℕ, ◌≡◌, ◌^◌, ◌<◌, ◌≤◌, true, is_some, IfSome, Some, Option, List, [], ◌∷◌, slice_index};
 ghost use Rattle.words.specs.declared.Atom.{Atom};
 ghost use Rattle.words.specs.declared.Binding.{Binding};
 ghost use Rattle.words.specs.declared.Cell.{Cell};
@@ -155,12 +155,23 @@ pub fn unpack_cell(word: u64) -> Option<Cell>
     ensures sound { IfSome result (λ c. IsCellInRange c × (word ≡ cell_word c)) }
     ensures complete { (c : Cell) → IsCellInRange c → word ≡ cell_word c → result ≡ Some c }
 {
+    if word == 0 {
+        return Some(Cell::Fresh);
+    }
     let cell = cell_fields(word);
     if has_stamp(cell) && pack_cell(cell) == word {
         Some(cell)
     } else {
         None
     }
+}
+
+/// The cell of a word of which it is known that it is a cell's: nothing is tested.
+pub fn read_cell(word: u64) -> Cell
+    requires { is_some (cell_of word) ≡ true }
+    ensures { cell_of word ≡ Some result }
+{
+    cell_fields(word)
 }
 
 // ---- the number of offers
@@ -457,6 +468,45 @@ pub fn unpack_offer(head: u64, first: u64, second: u64, third: u64) -> Option<Of
         base: base_of(head.direction, first, second, third),
         scopes: head.scopes,
     })
+}
+
+fn read_message(count: u8, first: u64, second: u64, third: u64) -> Message
+    ensures { result ≡ message_of count (atom_fields first) (atom_fields second) (atom_fields third) }
+{
+    match count {
+        0 => Message::Empty,
+        1 => Message::One(atom_fields(first)),
+        2 => Message::Two(atom_fields(first), atom_fields(second)),
+        _ => Message::Three(atom_fields(first), atom_fields(second), atom_fields(third)),
+    }
+}
+
+fn read_base(direction: Direction, first: u64, second: u64, third: u64) -> Base
+    ensures { result ≡ base_of direction (atom_fields first) (atom_fields second) (atom_fields third) }
+{
+    match direction {
+        Direction::Never => Base::Never,
+        Direction::Send { chan, atoms } => Base::Send(
+            chan,
+            read_message(atoms, first, second, third),
+        ),
+        Direction::Recv { chan } => Base::Recv(chan),
+        Direction::Always { atoms } => Base::Always(read_message(atoms, first, second, third)),
+        Direction::OnNack(nack) => Base::OnNack(nack),
+    }
+}
+
+/// The offer of four words of which it is known that they are an offer's: nothing is tested, and the
+/// atoms past the number in the head are not unpacked.
+pub fn read_offer(head: u64, first: u64, second: u64, third: u64) -> Offer
+    requires { is_some (offer_of head first second third) ≡ true }
+    ensures { offer_of head first second third ≡ Some result }
+{
+    let said = head_fields(head);
+    Offer {
+        base: read_base(said.direction, first, second, third),
+        scopes: said.scopes,
+    }
 }
 
 // ---- the places of a row

@@ -10,10 +10,10 @@ use Rattle.cell.specs.Sight.{Has, SeesOffer}
 use Rattle.cell.proofs.Meeting.{from_some, sees_more}
 use Rattle.cell.proofs.Alone.{bound_then}
 use Rattle.cell.proofs.board.Board.enabled_by.Goals as goal
-use Rattle.cell.proofs.board.Board.enabled_by.Goals.{After-offer}
+use Rattle.cell.proofs.board.Board.enabled_by.Goals.{After-opened_offer}
 
 -- a nack that was seen enabled is found so: the offer that was chosen is the one that was seen
-found : (c : After-offer) (j : Joined) (e : SawEnabled c.args.seat.now.me.0.seen c.args.nack j) → (e.binding ≡ c.in_ok-bound.bound) × (c.offer.result ≡ Some e.offer)
+found : (c : After-opened_offer) (j : Joined) (e : SawEnabled c.args.seat.now.me.0.seen c.args.nack j) → (e.binding ≡ c.in_ok-bound.bound) × (c.opened_offer.result ≡ Some e.offer)
 found c j e =
     let bound : c.bound.result ≡ Some c.in_ok-bound.bound = (search rules) in
     let same : e.binding ≡ c.in_ok-bound.bound = some_inj _ _ (sym (c.bound.ensures.same e.binding e.bound) ∙ bound) in
@@ -21,12 +21,12 @@ found c j e =
     let joined : c.committed.result ≡ Some c.in_ok-joined.joined = (search rules) in
     let way : j ≡ c.in_ok-joined.joined = some_inj _ _ (sym (c.committed.ensures.same j (c.bound.ensures.learns.joined.0 (bound_row c.args.nack c.in_ok-bound.bound, j) (subst (λ (r : Row). Has c.args.seat.now.me.0.seen.joined (r, j)) row e.joined))) ∙ joined) in
     let sees = sees_more _ _ _ _ _ e.offer c.committed.ensures.learns (sees_more _ _ _ (bound_row c.args.nack e.binding) j.own e.offer c.bound.ensures.learns e.chosen) in
-    (same, c.offer.ensures.same e.offer (sees_more _ _ _ _ _ e.offer c.offer.ensures.learns (subst (λ (z : Row × Joined). SeesOffer c.committed.new.seat.me.0.seen z.0 z.1.own e.offer) (λ i. (row i, way i)) sees)))
+    (same, c.opened_offer.ensures.same e.offer (sees_more _ _ _ _ _ e.offer c.opened_offer.ensures.learns (subst (λ (z : Row × Joined). SeesOffer c.committed.new.seat.me.0.seen z.0 z.1.own e.offer) (λ i. (row i, way i)) sees)))
 
 pub returns-in_err-chosen-clause-none : goal.returns-in_err-chosen-clause-none
 returns-in_err-chosen-clause-none c =
     let left : c.from_residual-in_err-chosen.result ≡ None = (search rules) in
-    let none : c.offer.result ≡ None = (search rules) in
+    let none : c.opened_offer.result ≡ None = (search rules) in
     subst (λ (o : Option Joined). IfNone o ((j : Joined) → ¬ SawEnabled c.args.seat.now.me.0.seen c.args.nack j)) (sym left) (λ j e.
     let is = (found c.before.before.before j e).1 in
     let bad : None ≡ Some e.offer = sym none ∙ is in
@@ -34,7 +34,7 @@ returns-in_err-chosen-clause-none c =
 
 pub returns-then-has_scope-clause-none : goal.returns-then-has_scope-clause-none
 returns-then-has_scope-clause-none c j e =
-    let some : c.offer.result ≡ Some c.in_ok-chosen.chosen = (search rules) in
+    let some : c.opened_offer.result ≡ Some c.in_ok-chosen.chosen = (search rules) in
     let set : has_scope c.in_ok-chosen.chosen.scopes c.in_ok-bound.bound.scope ≡ true = (search rules) in
     let is = found c.before.before.before.before.before j e in
     let offer : e.offer ≡ c.in_ok-chosen.chosen = some_inj e.offer c.in_ok-chosen.chosen (sym is.1 ∙ some) in
@@ -47,9 +47,9 @@ returns-clause-learns c =
     let s = c.args.seat.now.me.0.seen in
     let t = c.bound.new.seat.me.0.seen in
     let u = c.committed.new.seat.me.0.seen in
-    let v = c.offer.new.seat.me.0.seen in
+    let v = c.opened_offer.new.seat.me.0.seen in
     let row = bound_row nack c.in_ok-bound.bound in
     let is : c.bound.result ≡ Some c.in_ok-bound.bound = (search rules) in
     let bound : Has v.bound (nack, c.in_ok-bound.bound) =
-    c.offer.ensures.learns.bound.0 _ (c.committed.ensures.learns.bound.0 _ (from_some c.bound.result (λ b. Has t.bound (nack, b)) c.in_ok-bound.bound c.bound.ensures.some is)) in
-    bound_then nack row s t u v c.in_ok-bound.bound refl bound c.bound.ensures.learns c.committed.ensures.learns c.offer.ensures.learns
+    c.opened_offer.ensures.learns.bound.0 _ (c.committed.ensures.learns.bound.0 _ (from_some c.bound.result (λ b. Has t.bound (nack, b)) c.in_ok-bound.bound c.bound.ensures.some is)) in
+    bound_then nack row s t u v c.in_ok-bound.bound refl bound c.bound.ensures.learns c.committed.ensures.learns c.opened_offer.ensures.learns

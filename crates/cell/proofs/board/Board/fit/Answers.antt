@@ -9,7 +9,7 @@ use Rattle.cell.proofs.board.Board.fit.Goals as goal
 
 pub returns-then-not-offers_meet-clause-unfit : goal.returns-then-not-offers_meet-clause-unfit
 returns-then-not-offers_meet-clause-unfit c (apart, a, b, sees_mine, sees_theirs, meet) =
-    let mine = c.offer-my_offer.ensures.same a (sees_apart (λ q. q ≡ c.args.other.0) _ _ c.args.mine.0 c.args.mine.1 a c.offer-offer.ensures.learns (λ e. apart (ap (λ (r : Row). r.thread) e)) sees_mine) in
+    let mine = c.opened_offer-my_offer.ensures.same a (sees_apart (λ q. q ≡ c.args.other.0) _ _ c.args.mine.0 c.args.mine.1 a c.offer-offer.ensures.learns (λ e. apart (ap (λ (r : Row). r.thread) e)) sees_mine) in
     let theirs = c.offer-offer.ensures.same b sees_theirs in
     let found : c.offers_meet.result ≡ true = c.offers_meet.ensures ∙ (λ i. offers_meet (mine i) (theirs i)) ∙ meet in
     let not_found : c.offers_meet.result ≡ false = (search rules) in
@@ -19,11 +19,11 @@ returns-then-not-offers_meet-clause-unfit c (apart, a, b, sees_mine, sees_theirs
 pub returns-clause-can : goal.returns-clause-can
 returns-clause-can c =
     let found : c.offers_meet.result ≡ true = (search rules) in
-    let meet : offers_meet c.offer-my_offer.result c.offer-offer.result ≡ true = sym c.offers_meet.ensures ∙ found in
+    let meet : offers_meet c.opened_offer-my_offer.result c.offer-offer.result ≡ true = sym c.offers_meet.ensures ∙ found in
     let mine = meeting_own _ _ meet in
     let theirs = meeting_other _ _ meet in
-    let have_mine : HaveOffer c.offer-my_offer.new.seat.me.0.seen.words c.args.mine.0 c.args.mine.1 mine.0 =
-    (from_some c.offer-my_offer.result (λ o. Has c.offer-my_offer.new.seat.me.0.seen.opened c.args.mine.0 × HaveOffer c.offer-my_offer.new.seat.me.0.seen.words c.args.mine.0 c.args.mine.1 o) mine.0 c.offer-my_offer.ensures.some mine.1).1 in
+    let have_mine : HaveOffer c.opened_offer-my_offer.new.seat.me.0.seen.words c.args.mine.0 c.args.mine.1 mine.0 =
+    (from_some c.opened_offer-my_offer.result (λ o. Has c.opened_offer-my_offer.new.seat.me.0.seen.opened c.args.mine.0 × HaveOffer c.opened_offer-my_offer.new.seat.me.0.seen.words c.args.mine.0 c.args.mine.1 o) mine.0 c.opened_offer-my_offer.ensures.some mine.1).1 in
     let have_theirs : HaveOffer c.offer-offer.new.seat.me.0.seen.words c.args.other.0 c.args.other.1 theirs.0 =
     (from_some c.offer-offer.result (λ o. Has c.offer-offer.new.seat.me.0.seen.opened c.args.other.0 × HaveOffer c.offer-offer.new.seat.me.0.seen.words c.args.other.0 c.args.other.1 o) theirs.0 c.offer-offer.ensures.some theirs.1).1 in
     let higher : c.max.result ≡ max c.last_stamp-my_last.result c.last_stamp-last.result = (search rules) in

@@ -1,6 +1,6 @@
 use Rattle.std.proofs.Common.{rules, ◌≡◌, None, Some, inl, refl}
 use Rattle.words.specs.declared.Offer.{Offer}
-use Rattle.cell.specs.Sight.{Has, HaveOffer, LackOffer, IsKnownOpen}
+use Rattle.cell.specs.Sight.{Has, HaveOffer, LackOffer}
 use Rattle.cell.proofs.Meeting.{from_none, from_some, chosen_not_lacking}
 use Rattle.cell.proofs.Results.{gets_received}
 use Rattle.cell.proofs.Offers.{have_more}
@@ -8,23 +8,23 @@ use Rattle.cell.proofs.board.Board.gained.Goals as goal
 
 pub returns-in_err-message-clause-got : goal.returns-in_err-message-clause-got
 returns-in_err-message-clause-got c =
-    let none : c.offer.result ≡ None = (search rules) in
-    let lack = from_none c.offer.result (IsKnownOpen c.args.seat.now.me.0.seen c.args.row → LackOffer c.offer.new.seat.me.0.seen.words c.args.row c.args.joined.own) c.offer.ensures.none none (inl c.requires.committed.1) in
-    absurd (chosen_not_lacking _ _ c.offer.new.seat.me.0.seen c.args.row c.args.joined.own c.offer.ensures.sits.1.3
-    (inl (c.args.joined, c.offer.ensures.learns.joined.0 (c.args.row, c.args.joined) c.requires.committed.0, refl)) lack)
+    let none : c.opened_offer.result ≡ None = (search rules) in
+    let lack = from_none c.opened_offer.result (LackOffer c.opened_offer.new.seat.me.0.seen.words c.args.row c.args.joined.own) c.opened_offer.ensures.none none in
+    absurd (chosen_not_lacking _ _ c.opened_offer.new.seat.me.0.seen c.args.row c.args.joined.own c.opened_offer.ensures.sits.1.3
+    (inl (c.args.joined, c.opened_offer.ensures.learns.joined.0 (c.args.row, c.args.joined) c.requires.committed.0, refl)) lack)
 
 pub returns-in-Recv-clause-got : goal.returns-in-Recv-clause-got
 returns-in-Recv-clause-got c =
     let sent = c.received.ensures.sent in
     let mine : Offer = c.in_ok-message.field-0 in
-    let some : c.offer.result ≡ Some mine = (search rules) in
-    let have = (from_some c.offer.result (λ o. Has c.offer.new.seat.me.0.seen.opened c.args.row × HaveOffer c.offer.new.seat.me.0.seen.words c.args.row c.args.joined.own o) mine c.offer.ensures.some some).1 in (
+    let some : c.opened_offer.result ≡ Some mine = (search rules) in
+    let have = (from_some c.opened_offer.result (λ o. Has c.opened_offer.new.seat.me.0.seen.opened c.args.row × HaveOffer c.opened_offer.new.seat.me.0.seen.words c.args.row c.args.joined.own o) mine c.opened_offer.ensures.some some).1 in (
       sent.3,
       sent.4,
       (
         c.args.joined,
         mine,
-        c.received.ensures.learns.joined.0 _ (c.offer.ensures.learns.joined.0 (c.args.row, c.args.joined) c.requires.committed.0),
+        c.received.ensures.learns.joined.0 _ (c.opened_offer.ensures.learns.joined.0 (c.args.row, c.args.joined) c.requires.committed.0),
         inl (have_more _ _ c.args.row c.args.joined.own mine c.received.ensures.learns.words.0 have),
         gets_received c.received.new.seat.me.0.seen c.args.joined mine.base c.in-Recv.field-0 sent.3 sent.0 sent.1 sent.2 (search rules) sent.5 (inl sent.6) sent.7,
       ),

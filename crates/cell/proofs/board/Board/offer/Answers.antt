@@ -1,44 +1,11 @@
-use Rattle.std.proofs.Common.{rules, ◌≡◌, ◌<◌, None, Some, ℕ, sym, ap, ◌∙◌, subst, arith, unwrap_or, Option, is_some, true, false}
-use Rattle.words.specs.Words.{count_of}
-use Rattle.cell.specs.Sight.{Has}
-use Rattle.cell.proofs.Offers.{ReadFive, read_five, five_offer, five_formed, seen_below, seen_same, if_some, if_none}
+use Rattle.std.proofs.Common.{◌≡◌, subst, sym}
+use Rattle.cell.specs.declared.view.View.{View}
+use Rattle.cell.specs.Sight.{Learns}
+use Rattle.cell.proofs.Learning.{learns_look, learns_then}
 use Rattle.cell.proofs.board.Board.offer.Goals as goal
-use Rattle.cell.proofs.board.Board.offer.Goals.{After-unpack_offer}
 
-pub returns-in_err-count-clause-same : goal.returns-in_err-count-clause-same
-returns-in_err-count-clause-same c o seen =
-    let below = seen_below _ _ c.look.new.seat.me.0 _ c.args.row c.args.n c.read.result o c.read.ensures.read c.read.ensures.sits.1.3 seen in
-    let none : count_of c.read.result ≡ None = (search rules) in
-    let bad : c.args.n < 0 = subst (λ (x : Option ℕ). c.args.n < unwrap_or x 0) none below in
-    absurd (omega arith)
-
-pub returns-then-n-count-clause-same : goal.returns-then-n-count-clause-same
-returns-then-n-count-clause-same c o seen =
-    let below = seen_below _ _ c.look.new.seat.me.0 _ c.args.row c.args.n c.read.result o c.read.ensures.read c.read.ensures.sits.1.3 seen in
-    let some : count_of c.read.result ≡ Some c.in_ok-count.count = (search rules) in
-    let bad : c.args.n < c.in_ok-count.count = subst (λ (x : Option ℕ). c.args.n < unwrap_or x 0) some below in
-    absurd (omega (arith, c.if-n-count.true))
-
-five : (c : After-unpack_offer) → ReadFive c.look.new.seat.me.0 c.read-third.new.seat.me.0 c.args.row c.args.n c.read.result c.read-head.result c.read-first.result c.read-second.result c.read-third.result
-five c = read_five c.look.new.seat.me.0 c.read.new.seat.me.0 c.read-head.new.seat.me.0 c.read-first.new.seat.me.0 c.read-second.new.seat.me.0 c.read-third.new.seat.me.0 c.args.row c.args.n _ _ _ _ _ c.read.ensures.read c.read-head.ensures.read c.read-first.ensures.read c.read-second.ensures.read c.read-third.ensures.read
-
-below_count : (c : After-unpack_offer) → c.args.n < unwrap_or (count_of c.read.result) 0
-below_count c =
-    let some : count_of c.read.result ≡ Some c.in_ok-count.count = (search rules) in
-    subst (λ (x : Option ℕ). c.args.n < unwrap_or x 0) (sym some) (omega (arith, c.if-n-count.false))
-
-is_opened : (c : After-unpack_offer) → Has c.read-third.new.seat.me.0.seen.opened c.args.row
-is_opened c = (search rules)
-
-pub returns-clause-some : goal.returns-clause-some
-returns-clause-some c = if_some c.unpack_offer.result _ (λ o e. (is_opened c, five_offer _ _ c.args.row c.args.n _ _ _ _ _ o (five c) (below_count c) (sym c.unpack_offer.ensures.value ∙ e)))
-
-pub returns-clause-none : goal.returns-clause-none
-returns-clause-none c = if_none c.unpack_offer.result _ (λ e.
-    let formed = five_formed _ _ _ c.read-third.new.seat.me.0 c.args.row c.args.n _ _ _ _ _ c.read-third.ensures.sits.1.3 (five c) in
-    let bad : true ≡ false = sym formed ∙ ap is_some (sym c.unpack_offer.ensures.value ∙ e) in
-    cc)
-
-pub returns-clause-same : goal.returns-clause-same
-returns-clause-same c o seen =
-    c.unpack_offer.ensures.value ∙ seen_same _ _ c.look.new.seat.me.0 c.read-third.new.seat.me.0 c.args.row c.args.n _ _ _ _ _ o (five c) c.read-third.ensures.sits.1.3 seen
+pub returns-clause-learns : goal.returns-clause-learns
+returns-clause-learns c =
+    learns_then (λ q. q ≡ c.args.row) c.args.seat.now.me.0.seen c.look.new.seat.me.0.seen c.opened_offer.new.seat.me.0.seen
+    (subst (λ (v : View). Learns (λ q. q ≡ c.args.row) c.args.seat.now.me.0.seen v.seen) (sym c.look.ensures.saw) (learns_look c.args.row c.look.result c.args.seat.now.me.0.seen))
+    c.opened_offer.ensures.learns
