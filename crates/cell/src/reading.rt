@@ -35,12 +35,7 @@ impl Board {
     }
 
     /// Offer n of a row that was seen opened, where it has one.
-    pub(crate) fn opened_offer(
-        &self,
-        seat: &mut Seat<u64, View>,
-        row: Row,
-        n: u8,
-    ) -> Option<Offer>
+    pub(crate) fn opened_offer(&self, seat: &mut Seat<u64, View>, row: Row, n: u8) -> Option<Offer>
         requires { Sits self.now seat.old × HasRow self.now row × Has seat.old.me.0.seen.opened row }
         ensures sits { (seat.new.id ≡ seat.old.id) × Sits self.now seat.new }
         ensures stays { seat.new.me.0 ≡ at_stage seat.old.me.0.stage seat.new.me.0.seen seat.old.me.0 }
