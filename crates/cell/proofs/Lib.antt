@@ -10,6 +10,7 @@ pub mod Once
 pub mod Allowing
 pub mod Binding
 pub mod Dealing
+pub mod Directions
 pub mod Hearing
 pub mod Endings
 pub mod Playing

@@ -1,7 +1,8 @@
 -- What a pass knows of two rows stays known while it sees more.
-use Rattle.std.proofs.Common.{rules, ◌≡◌, ◌≢◌, ℕ, ◌+◌, ◌^◌, ◌<◌, ◌≤◌, Bool, true, false, List, sym, refl, ap, ◌∙◌, subst, inl, inr, ⊎_elim, arith, max, unwrap_or, Option, Some, None, cond, IfSome, IfNone, IfErr, is_err, Result, Ok, Err}
+use Rattle.std.proofs.Common.{rules, ◌≡◌, ◌≢◌, ℕ, ◌+◌, ◌^◌, ◌<◌, ◌≤◌, Bool, true, false, List, sym, refl, ap, ◌∙◌, subst, inl, inr, arith, max, unwrap_or, Option, Some, None, cond, IfSome, IfNone, IfErr, is_err, Result, Ok, Err}
 use Rattle.std.proofs.lemmas.Bool.{cases_Bool}
 use Rattle.words.specs.Words.{count_of, IsJoinedInRange}
+use Rattle.words.specs.declared.Direction.{Direction}
 use Rattle.words.specs.declared.Offer.{Offer}
 use Rattle.words.specs.declared.NackName.{NackName}
 use Rattle.words.specs.declared.Row.{Row}
@@ -13,7 +14,7 @@ use Rattle.protocol.specs.Tables.{offers_meet, bases_meet, is_partner}
 use Rattle.protocol.proofs.RowLemmas.{row_eq-refl}
 use Rattle.cell.specs.Sight.{Coherent, SawChosen, LackOffer, IsKnownOpen}
 use Rattle.cell.specs.declared.view.Seen.{Seen}
-use Rattle.cell.specs.Sight.{Has, HaveOffer, HasSeenLast, SeesOffer, CanJoin, Learns, LearnsOf, see_opened}
+use Rattle.cell.specs.Sight.{Has, HaveDirection, HaveOffer, HasSeenLast, SeesOffer, CanJoin, Learns, LearnsOf, directions_meet, see_opened}
 use Rattle.words.specs.declared.Cell.{Cell}
 use Rattle.words.specs.declared.Cell.TheVariants.{Fresh, Waiting, Claimed, Synched, Taken}
 use Rattle.protocol.specs.Tables.{is_fresh, joined_of}
@@ -26,7 +27,8 @@ use Rattle.cell.specs.Attempts.{Attempted, CanMeet, Fits, IsNear}
 use Rattle.cell.specs.Sight.{SawCommitted, see_cell}
 use Rattle.cell.specs.Told.{Agrees}
 use Rattle.cell.specs.Views.{IsClaimer}
-use Rattle.cell.proofs.Offers.{have_more, have_row}
+use Rattle.cell.proofs.Directions.{direction_more, sees_direction_more}
+use Rattle.cell.proofs.Offers.{have_more}
 
 pub from_some : {A : Type 0} (x : Option A) (P : A → Type 0) (a : A) → IfSome x P → x ≡ Some a → P a
 from_some None P a h e = let bad : None ≡ Some a = e in cc
@@ -36,23 +38,14 @@ pub sees_more : {Nacks : NackName → Type 0} (About : Row → Type 0) (s t : Se
 sees_more About s t r n o l (inl h) = inl (have_more s.words t.words r n o l.words.0 h)
 sees_more About s t r n o l (inr h) = inr (l.opened.0 r h.0, subst (λ (d : List (Row × ℕ × ℕ)). HaveOffer d r n o) (sym l.drafts) h.1)
 
--- and of other rows nothing more is seen
-pub sees_apart : (About : Row → Type 0) (s t : Seen) (r : Row) (n : ℕ) (o : Offer) → Learns About s t → ¬ About r → SeesOffer t r n o → SeesOffer s r n o
-sees_apart About s t r n o l other (inl h) =
-    inl (have_row t.words s.words r n o (λ p x g. ⊎_elim (λ (old : Has s.words (r, p, x)). old) (λ (new : About r). absurd (other new)) (l.words.1 (r, p, x) g)) h)
-sees_apart About s t r n o l other (inr h) = inr (
-  ⊎_elim (λ (old : Has s.opened r). old) (λ (new : About r). absurd (other new)) (l.opened.1 r h.0),
-  subst (λ (d : List (Row × ℕ × ℕ)). HaveOffer d r n o) l.drafts h.1,
-)
-
 -- rows that can be joined can meet, also once more was learnt
 pub can_meet : (About : Row → Type 0) (s t : Seen) (mine other : Row) (own partner : ℕ) (j : Joined) → Learns About s t → CanJoin s mine own other partner j → CanMeet t mine own other partner
 can_meet About s t mine other own partner j l can = (
   can.apart,
-  can.my_offer,
-  can.their_offer,
-  sees_more About s t mine own can.my_offer l (inl can.read_mine),
-  sees_more About s t other partner can.their_offer l (inl can.read_theirs),
+  can.my_direction,
+  can.their_direction,
+  sees_direction_more About s t mine own can.my_direction l (inl can.read_mine),
+  sees_direction_more About s t other partner can.their_direction l (inl can.read_theirs),
   can.meet,
 )
 
@@ -77,20 +70,20 @@ few count n h = by_case (Rattle.std.proofs.Math.Dec.leb count 8) refl h
     by_case true e h = let l = Rattle.std.proofs.lemmas.Bool.leb-true count 8 e in omega arith
     by_case false e h = absurd (omega arith)
 
--- the two offers were read, and then both last stamps
-pub can_join : (about_other about_mine about_their : Row → Type 0) (s1 s2 s3 s4 : Seen) (mine other : Row) (own partner my_last their_last : ℕ) (a b : Offer)
+-- the heads of the two offers were read, and then both last stamps
+pub can_join : (about_other about_mine about_their : Row → Type 0) (s1 s2 s3 s4 : Seen) (mine other : Row) (own partner my_last their_last : ℕ) (a b : Direction)
     → Learns about_other s1 s2 → Learns about_mine s2 s3 → Learns about_their s3 s4
     → mine.thread ≢ other.thread
-    → HaveOffer s1.words mine own a → HaveOffer s2.words other partner b
-    → offers_meet (Some a) (Some b) ≡ true
+    → HaveDirection s1.words mine own a → HaveDirection s2.words other partner b
+    → directions_meet a b ≡ true
     → HasSeenLast s3 mine my_last → HasSeenLast s4 other their_last
     → CanJoin s4 mine own other partner (record { own = partner; partner = Some (mine, own); stamp = 1 + max my_last their_last })
 can_join _ _ _ s1 s2 s3 s4 mine other own partner my_last their_last a b l m n apart have_mine have_theirs meet last_mine last_theirs = record {
   apart = apart;
-  my_offer = a;
-  their_offer = b;
-  read_mine = have_more s1.words s4.words mine own a (λ x h. n.words.0 x (m.words.0 x (l.words.0 x h))) have_mine;
-  read_theirs = have_more s2.words s4.words other partner b (λ x h. n.words.0 x (m.words.0 x h)) have_theirs;
+  my_direction = a;
+  their_direction = b;
+  read_mine = direction_more s1.words s4.words mine own a (λ x h. n.words.0 x (m.words.0 x (l.words.0 x h))) have_mine;
+  read_theirs = direction_more s2.words s4.words other partner b (λ x h. n.words.0 x (m.words.0 x h)) have_theirs;
   meet = meet;
   my_last = my_last;
   their_last = their_last;
@@ -99,8 +92,8 @@ can_join _ _ _ s1 s2 s3 s4 mine other own partner my_last their_last a b l m n a
   is = refl;
 }
 
-pub join_ranged : (threads rows : ℕ) (words words' : List (Row × ℕ × ℕ)) (mine other : Row) (own partner my_last their_last : ℕ) (a b : Offer) → threads ≤ 64 → rows ≤ 1024 → (mine.thread < threads) × (mine.sync < rows)
-    → HaveOffer words mine own a → HaveOffer words' other partner b → my_last ≤ 65536 → their_last ≤ 65536
+pub join_ranged : (threads rows : ℕ) (words words' : List (Row × ℕ × ℕ)) (mine other : Row) (own partner my_last their_last : ℕ) (a b : Direction) → threads ≤ 64 → rows ≤ 1024 → (mine.thread < threads) × (mine.sync < rows)
+    → HaveDirection words mine own a → HaveDirection words' other partner b → my_last ≤ 65536 → their_last ≤ 65536
     → IsJoinedInRange (record { own = partner; partner = Some (mine, own); stamp = 1 + max my_last their_last })
 join_ranged threads rows words words' mine other own partner my_last their_last a b few_threads few_rows inside have_mine have_theirs low high = record {
   own = few have_theirs.count partner have_theirs.below;
@@ -116,8 +109,8 @@ join_ranged threads rows words words' mine other own partner my_last their_last 
 pub can_join_opened : (s : Seen) (r mine other : Row) (own partner : ℕ) (j : Joined) → CanJoin s mine own other partner j → CanJoin (see_opened r s) mine own other partner j
 can_join_opened s r mine other own partner j can = record {
   apart = can.apart;
-  my_offer = can.my_offer;
-  their_offer = can.their_offer;
+  my_direction = can.my_direction;
+  their_direction = can.their_direction;
   read_mine = can.read_mine;
   read_theirs = can.read_theirs;
   meet = can.meet;

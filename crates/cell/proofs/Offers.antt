@@ -121,7 +121,7 @@ base_same (direction.OnNack n) a b c x y z e f g = refl
 base_same direction.Never a b c x y z e f g = refl
 
 -- what the words of an offer stand for, one by one
-abbrev offer_read : Option Head → Option Atom → Option Atom → Option Atom → Option Offer
+abbrev pub offer_read : Option Head → Option Atom → Option Atom → Option Atom → Option Offer
 offer_read h x y z = option_and_then (λ h. option_and_then (λ x. option_and_then (λ y. option_and_then (λ z. Some (record { base = base_of h.direction x y z; scopes = h.scopes })) z) y) x) h
 
 parts_same : (h : Option Head) (x y z p q r : Option Atom) (o : Offer) → offer_read h x y z ≡ Some o

@@ -1,13 +1,14 @@
 -- What a pass has seen is true of the world, and so agrees with itself and with what it finds.
 use Rattle.std.proofs.Common.{◌≡◌, ◌≢◌, ℕ, ◌+◌, ◌*◌, ◌-◌, ◌<◌, ◌≤◌, Bool, true, false, List, sym, refl, ap, ◌∙◌, subst, inl, inr, ◌⊎◌, ⊎_elim, arith, unwrap_or, Option, Some, None, is_some, eqb, cond, max, length, slice_get}
 use Rattle.std.proofs.lemmas.Bool.{lt-ltb, ne_eqb, true≢false}
-use Rattle.words.specs.Words.{count_of, offer_of, is_word_for}
+use Rattle.words.specs.Words.{count_of, head_of, offer_of, is_word_for}
+use Rattle.words.specs.declared.Direction.{Direction}
 use Rattle.words.specs.declared.Offer.{Offer}
 use Rattle.words.specs.declared.NackName.{NackName}
 use Rattle.words.specs.declared.Row.{Row}
 use Rattle.words.specs.declared.Joined.{Joined}
 use Rattle.words.specs.declared.Cell.{Cell}
-use Rattle.protocol.specs.Tables.{Table, is_fresh, cell_at, joined_at, joined_of, offers_meet, offer_at, count_at, row_stamp, last_stamp, word_at, stands_alone, binding_at, bound_row, encloses, nack_by, stamped, cause_by, cause_of, cause_at}
+use Rattle.protocol.specs.Tables.{Table, is_fresh, cell_at, joined_at, joined_of, bases_meet, offers_meet, offer_at, count_at, row_stamp, last_stamp, word_at, stands_alone, binding_at, bound_row, encloses, nack_by, stamped, cause_by, cause_of, cause_at}
 use Rattle.words.specs.declared.Base.{Base}
 use Rattle.words.specs.declared.Base.TheVariants.{Send, Recv, Always, OnNack, Never}
 use Rattle.protocol.specs.Worlds.{World, joined_with, granted_by}
@@ -20,11 +21,12 @@ use Rattle.protocol.proofs.Lawfulness.{chosen_there}
 use Rattle.protocol.proofs.Keeping.{few_commits, taken_before, held_row, granted_is}
 use Rattle.protocol.proofs.Linking.{cases_Option}
 use Rattle.cell.specs.declared.view.View.{View}
-use Rattle.cell.specs.Sight.{Has, HaveOffer, HasSeenLast, CanJoin, IsDraft, SawChosen, SeesNoOffer, SeesOffer, Coherent}
+use Rattle.cell.specs.Sight.{Has, HaveDirection, HaveOffer, HasSeenLast, CanJoin, IsDraft, SawChosen, SeesNoOffer, SeesOffer, Coherent}
 use Rattle.cell.specs.Nacks.{CanGrant, SawCause, SawEnabled}
 use Rattle.protocol.specs.Tables.{is_taken}
 use Rattle.cell.specs.Views.{Knows}
 use Rattle.cell.specs.Told.{Agrees}
+use Rattle.cell.proofs.Directions.{GoesIn, bases_meet_as, offer_headed}
 use Rattle.cell.proofs.Meeting.{few}
 use Rattle.cell.proofs.Offers.{atom_place, same_read}
 
@@ -48,6 +50,25 @@ offer_there t words r n o formed there open_r h =
       sym (atom_place 3 n (word_at t r (5 + 4 * n)) (omega arith) (omega arith)) ∙ formed.rows r (5 + 4 * n) row (omega arith),
     )
 
+-- the row has an offer in the direction of the head
+direction_there : (t : Table) (words : List (Row × ℕ × ℕ)) (r : Row) (n : ℕ) (d : Direction) → IsFormed t → ((p x : ℕ) → Has words (r, p, x) → word_at t r p ≡ x)
+    → is_fresh (cell_at t r) ≡ false → HaveDirection words r n d → (o : Offer) × (offer_at t r n ≡ Some o) × GoesIn d o
+unfolding offer_at
+direction_there t words r n d formed there open_r h =
+    let counted = count_there t r h.count open_r (there 1 h.count h.counted) in
+    let low : n < 8 = few h.count n h.below in
+    let row = row_of_open t r open_r in
+    let told = offer_headed (word_at t r (2 + 4 * n)) (word_at t r (3 + 4 * n)) (word_at t r (4 + 4 * n)) (word_at t r (5 + 4 * n)) (record { direction = d; scopes = h.scopes })
+    (ap head_of (there (2 + 4 * n) h.head h.has_head) ∙ h.is)
+    (sym (atom_place 1 n (word_at t r (3 + 4 * n)) (omega arith) (omega arith)) ∙ formed.rows r (3 + 4 * n) row (omega arith))
+    (sym (atom_place 2 n (word_at t r (4 + 4 * n)) (omega arith) (omega arith)) ∙ formed.rows r (4 + 4 * n) row (omega arith))
+    (sym (atom_place 3 n (word_at t r (5 + 4 * n)) (omega arith) (omega arith)) ∙ formed.rows r (5 + 4 * n) row (omega arith)) in (
+      told.0,
+      ap (λ (y : Bool). cond y (offer_of (word_at t r (2 + 4 * n)) (word_at t r (3 + 4 * n)) (word_at t r (4 + 4 * n)) (word_at t r (5 + 4 * n))) None) (lt-ltb n (count_at t r) (subst (λ (x : ℕ). n < x) (sym counted) h.below))
+          ∙ told.1,
+      told.2,
+    )
+
 -- an offer that is there stands below the number of offers
 below_count : (t : Table) (r : Row) (n : ℕ) (o : Offer) → offer_at t r n ≡ Some o → n < count_at t r
 below_count t r n o is = Rattle.std.proofs.Math.Nat.lt_of_not-le (λ h. let bad : None ≡ Some o = sym (offer_none t r n h) ∙ is in cc)
@@ -67,11 +88,17 @@ module _ (w : World) (owner : Row → ℕ) (id : ℕ) (v : View) (k : Knows w ow
   pub offer_known : (r : Row) (n : ℕ) (o : Offer) → HaveOffer v.seen.words r n o → offer_at w.table r n ≡ Some o
   offer_known r n o have = offer_there w.table v.seen.words r n o kept.formed (λ p x h. (k.read r p x h).3) (k.read r 1 have.count have.counted).0 have
 
+  direction_known : (r : Row) (n : ℕ) (d : Direction) → HaveDirection v.seen.words r n d → (o : Offer) × (offer_at w.table r n ≡ Some o) × GoesIn d o
+  direction_known r n d have = direction_there w.table v.seen.words r n d kept.formed (λ p x h. (k.read r p x h).3) (k.read r 1 have.count have.counted).0 have
+
   pub offers_known : (m : Row) (i : ℕ) (o : Row) (n : ℕ) (j : Joined) → CanJoin v.seen m i o n j → offers_meet (offer_at w.table m i) (offer_at w.table o n) ≡ true
   offers_known m i o n j can =
-      let a = offer_known m i can.my_offer can.read_mine in
-      let b = offer_known o n can.their_offer can.read_theirs in
-      (λ x. offers_meet (a x) (b x)) ∙ can.meet
+      let a = direction_known m i can.my_direction can.read_mine in
+      let b = direction_known o n can.their_direction can.read_theirs in
+      (λ x. offers_meet (a.1 x) (b.1 x))
+      ∙ (λ x. bases_meet (a.2.3 x) (b.2.3 x))
+      ∙ bases_meet_as can.my_direction can.their_direction a.2.0 a.2.1 a.2.2 b.2.0 b.2.1 b.2.2
+      ∙ can.meet
 
   last_known : (r : Row) (stamp : ℕ) → HasSeenLast v.seen r stamp → last_stamp (joined_at w.table) r ≡ stamp
   last_known r stamp (inl h) = ap (λ (n : ℕ). cond (eqb n 0) 0 (row_stamp (joined_at w.table (record { thread = r.thread; sync = n - 1 })))) h.0 ∙ sym h.1

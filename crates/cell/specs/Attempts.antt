@@ -1,6 +1,7 @@
 -- What the answers of an attempt mean.
 use Rattle.std.specs.Prelude.{◌≡◌, ◌≢◌, ◌⊎◌, ◌≤◌, ℕ, Bool, true, false, Option, Some, None, List, ◌∷◌, ◌++◌}
 use Rattle.words.specs.declared.Base.TheVariants.{OnNack}
+use Rattle.words.specs.declared.Direction.{Direction}
 use Rattle.words.specs.declared.NackName.{NackName}
 use Rattle.words.specs.declared.Binding.{Binding}
 use Rattle.words.specs.declared.Joined.{Joined}
@@ -8,20 +9,20 @@ use Rattle.words.specs.declared.Offer.{Offer}
 use Rattle.words.specs.declared.Row.{Row}
 use Rattle.words.specs.declared.Step.{Step}
 use Rattle.words.specs.declared.Step.TheVariants.{Bind, Claim, Draft, Grant as GrantRow, Join, Seal, Take, Yield}
-use Rattle.protocol.specs.Tables.{bound_row, next_row, offers_meet}
+use Rattle.protocol.specs.Tables.{bound_row, next_row}
 use Rattle.protocol.specs.Worlds.{nack_of_row}
 use Rattle.cell.specs.declared.view.Seen.{Seen}
 use Rattle.cell.specs.declared.attempt.Attempt.{Attempt}
 use Rattle.cell.specs.declared.attempt.Attempt.TheVariants.{Met, Gone, Mine, Busy, Unfit}
 use Rattle.cell.specs.declared.granting.Grant.{Grant}
 use Rattle.cell.specs.declared.granting.Grant.TheVariants.{Given, NotEnabled, Late}
-use Rattle.cell.specs.Sight.{Adds, Has, SeesOffer, SawCommitted, IsBefore, see_bound, see_next}
+use Rattle.cell.specs.Sight.{Adds, Has, SeesDirection, SeesOffer, SawCommitted, directions_meet, IsBefore, see_bound, see_next}
 use Rattle.cell.specs.Nacks.{CanGrant, CanStandAlone}
 
--- the rows of two threads, whose two offers were seen and are a send and a receive on one channel
+-- the rows of two threads, the heads of whose two offers were seen, and are of a send and a receive on one channel
 abbrev pub CanMeet : Seen → Row → ℕ → Row → ℕ → Type 0
 CanMeet s mine own other partner =
-    (mine.thread ≢ other.thread) × (a : Offer) × (b : Offer) × SeesOffer s mine own a × SeesOffer s other partner b × (offers_meet (Some a) (Some b) ≡ true)
+    (mine.thread ≢ other.thread) × (a : Direction) × (b : Direction) × SeesDirection s mine own a × SeesDirection s other partner b × (directions_meet a b ≡ true)
 
 -- both rows were seen committed with each other, under these offers and at this stamp
 abbrev pub AreMet : Seen → Row → ℕ → Row → ℕ → ℕ → Type 0

@@ -1,5 +1,5 @@
 -- What a pass has seen: how it grows, and what it says of offers and of rows that can meet.
-use Rattle.std.specs.Prelude.{◌≡◌, ◌≢◌, ◌⊎◌, ℕ, ◌+◌, ◌-◌, ◌*◌, ◌<◌, ◌≤◌, max, unwrap_or, true, false, Some, None, Option, List, [], ◌∷◌, ◌==◌, ◌&&◌, nat_lt, if◌then◌else◌, length, slice_get}
+use Rattle.std.specs.Prelude.{◌≡◌, ◌≢◌, ◌⊎◌, ℕ, ◌+◌, ◌-◌, ◌*◌, ◌<◌, ◌≤◌, max, unwrap_or, Bool, true, false, Some, None, Option, List, [], ◌∷◌, ◌==◌, ◌&&◌, nat_lt, if◌then◌else◌, length, slice_get}
 use Rattle.words.specs.Words.{count_of, head_of, offer_of, is_word_for, IsJoinedInRange, IsOfferInRange}
 use Rattle.words.specs.declared.Direction.{Direction}
 use Rattle.words.specs.declared.Direction.TheVariants as direction
@@ -129,6 +129,16 @@ pub record HaveOffer (words : List (Row × ℕ × ℕ)) (r : Row) (n : ℕ) (off
   pub has_third : 3 ≤ atoms_behind head → Has words (r, 5 + 4 * n, third)
   pub is : offer_of head first second third ≡ Some offer
 
+-- These words have the head of offer n of the row, and it is of an offer in this direction. The atoms are not asked for.
+pub record HaveDirection (words : List (Row × ℕ × ℕ)) (r : Row) (n : ℕ) (d : Direction) : Type 0 where
+  pub count : ℕ
+  pub counted : Has words (r, 1, count)
+  pub below : n < unwrap_or (count_of count) 0
+  pub head : ℕ
+  pub has_head : Has words (r, 2 + 4 * n, head)
+  pub scopes : ℕ
+  pub is : head_of head ≡ Some (record { direction = d; scopes = scopes })
+
 -- these words say that the row has no offer n
 abbrev pub LackOffer : List (Row × ℕ × ℕ) → Row → ℕ → Type 0
 LackOffer words r n = (count : ℕ) × Has words (r, 1, count) × (unwrap_or (count_of count) 0 ≤ n)
@@ -136,6 +146,16 @@ LackOffer words r n = (count : ℕ) × Has words (r, 1, count) × (unwrap_or (co
 -- offer n of the row was read, or drafted before the row was opened
 abbrev pub SeesOffer : Seen → Row → ℕ → Offer → Type 0
 SeesOffer s r n offer = HaveOffer s.words r n offer ⊎ (Has s.opened r × HaveOffer s.drafts r n offer)
+
+-- and its direction: the head of the offer is enough
+abbrev pub SeesDirection : Seen → Row → ℕ → Direction → Type 0
+SeesDirection s r n d = HaveDirection s.words r n d ⊎ (Has s.opened r × HaveDirection s.drafts r n d)
+
+-- a send and a receive on one channel
+abbrev pub directions_meet : Direction → Direction → Bool
+directions_meet (direction.Send c m) (direction.Recv d) = c == d
+directions_meet (direction.Recv c) (direction.Send d m) = c == d
+directions_meet a b = false
 
 -- the number of the row's offers was read, or drafted before the row was opened, and n is not below it
 abbrev pub SeesNoOffer : Seen → Row → ℕ → Type 0
@@ -184,14 +204,15 @@ HasSeenLast s r stamp =
     ((r.sync ≡ 0) × (stamp ≡ 0))
     ⊎ ((j : Joined) × (r.sync ≢ 0) × Has s.joined (record { thread = r.thread; sync = r.sync - 1 }, j) × (stamp ≡ j.stamp))
 
--- the other row, joined as j by offer `own` of row `mine`, meets it under offer `partner`, at the stamp that both last stamps give
+-- The other row, joined as j by offer `own` of row `mine`, meets it under offer `partner`, at the stamp that both last
+-- stamps give. That they meet is told by their heads.
 pub record CanJoin (s : Seen) (mine : Row) (own : ℕ) (other : Row) (partner : ℕ) (j : Joined) : Type 0 where
   pub apart : mine.thread ≢ other.thread
-  pub my_offer : Offer
-  pub their_offer : Offer
-  pub read_mine : HaveOffer s.words mine own my_offer
-  pub read_theirs : HaveOffer s.words other partner their_offer
-  pub meet : offers_meet (Some my_offer) (Some their_offer) ≡ true
+  pub my_direction : Direction
+  pub their_direction : Direction
+  pub read_mine : HaveDirection s.words mine own my_direction
+  pub read_theirs : HaveDirection s.words other partner their_direction
+  pub meet : directions_meet my_direction their_direction ≡ true
   pub my_last : ℕ
   pub their_last : ℕ
   pub seen_mine : HasSeenLast s mine my_last

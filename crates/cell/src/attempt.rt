@@ -7,13 +7,14 @@ ghost use Rattle.cell.specs.declared.view.Stage.TheVariants.{Resting};
 ghost use Rattle.cell.specs.declared.attempt.Attempt.TheVariants.{Unfit};
 ghost use Rattle.cell.specs.Attempts.{Attempted, CanMeet, Fits, IsNear, attempt_made};
 ghost use Rattle.cell.specs.Seats.{Sits, HasRow};
-ghost use Rattle.cell.specs.Sight.{Has, CanJoin, Learns};
+ghost use Rattle.cell.specs.Sight.{Has, CanJoin, Learns, directions_meet};
 ghost use Rattle.cell.specs.Views.{at_stage, worked};
 
 use crate::board::Board;
 use crate::view::View;
 use atomic_table::Seat;
-use protocol::{Cell, Joined, Row, offers_meet};
+use protocol::{Cell, Joined, Row};
+use words::Direction;
 
 /// The kinds with which a gate is called: before a claim, a yield, a join and a seal.
 pub const CLAIM: u8 = 5;
@@ -90,9 +91,9 @@ impl Board {
         if my_row.thread == row.thread {
             return None;
         }
-        let my_offer = self.opened_offer(seat, my_row, own);
-        let offer = self.offer(seat, row, partner);
-        if !offers_meet(my_offer, offer) {
+        let my_direction = self.opened_direction(seat, my_row, own)?;
+        let direction = self.direction(seat, row, partner)?;
+        if !directions_meet(my_direction, direction) {
             return None;
         }
         let my_last = self.last_stamp(seat, my_row);
@@ -143,5 +144,16 @@ impl Board {
                 }
             }
         }
+    }
+}
+
+/// Whether these are a send and a receive on one channel.
+fn directions_meet(mine: Direction, theirs: Direction) -> bool
+    ensures { result ≡ directions_meet mine theirs }
+{
+    match (mine, theirs) {
+        (Direction::Send { chan, .. }, Direction::Recv { chan: other })
+        | (Direction::Recv { chan }, Direction::Send { chan: other, .. }) => chan == other,
+        _ => false,
     }
 }

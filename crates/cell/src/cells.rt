@@ -1,6 +1,7 @@
 //! The shared table and its passes, as callers use them.
 
 ghost use Rattle.std.specs.Prelude.{◌≡◌, ◌≢◌, ◌⊎◌, ◌+◌, ◌<◌, ◌≤◌, ◌∷◌, [], ℕ, List, None, Some, true, IfOk, IfSome, IfNone, SomeIff, IsTrue, ◌↔◌, length, slice_get};
+ghost use Rattle.words.specs.declared.Direction.{Direction};
 ghost use Rattle.words.specs.declared.Joined.{Joined};
 ghost use Rattle.words.specs.declared.Message.{Message};
 ghost use Rattle.words.specs.declared.Offer.{Offer};
@@ -33,6 +34,7 @@ ghost use Rattle.cell.specs.Rule.{dealt_rows, heard, seen_nothing, told_of};
 ghost use Rattle.cell.specs.Sight.{
   AreOffers,
   Has,
+  HaveDirection,
   HaveOffer,
   IsDraft,
   IsExpected,
@@ -44,6 +46,7 @@ ghost use Rattle.cell.specs.Sight.{
   LearnsOf,
   Redrafts,
   SawCommitted,
+  SeesDirection,
   SeesNoOffer,
   SeesOffer,
   see_cell,
@@ -59,6 +62,7 @@ use atomic_table::Seat;
 use protocol::{Cell, Joined, Ledger, Message, NackName, Offer, Row};
 use std::alloc::{AllocError, Global};
 use std::marker::Model;
+use words::Direction;
 
 /// The shared table: threads may share it, and none of its calls waits.
 #[derive(Drop)]
@@ -182,6 +186,21 @@ impl Cells {
         ensures unopened { Has pass.old.seen.held row → ¬ Has pass.old.seen.opened row → (result ≡ None) × (pass.new.seen ≡ pass.old.seen) }
     {
         self.board.offer(&mut pass.seat, row, n)
+    }
+
+    /// The direction of offer n of a row that was seen opened: none where it has no offer n. It takes one
+    /// look at the number of offers and one at the offer's head.
+    pub fn direction(&self, pass: &mut Pass, row: Row, n: u8) -> Option<Direction>
+        requires here { IsPassOf self.now pass.old × IsRowOf self.now row }
+        requires opened { Has pass.old.seen.opened row }
+        ensures here { IsPassOf self.now pass.new }
+        ensures learns { Learns (λ q. q ≡ row) pass.old.seen pass.new.seen }
+        ensures some { IfSome result (λ d. HaveDirection pass.new.seen.words row n d) }
+        ensures none { IfNone result (LackOffer pass.new.seen.words row n) }
+        ensures same { (d : Direction) → SeesDirection pass.new.seen row n d → result ≡ Some d }
+        ensures made { pass.new.made ≡ pass.old.made }
+    {
+        self.board.opened_direction(&mut pass.seat, row, n)
     }
 
     /// What the row's thread gets, where the row is committed.

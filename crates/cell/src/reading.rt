@@ -1,20 +1,21 @@
 //! What a pass reads of a row by several looks.
 
 ghost use Rattle.std.specs.Prelude.{ℕ, ◌≡◌, ◌⊎◌, ◌+◌, ◌<◌, ◌≤◌, true, IfSome, IfNone, None, Some};
+ghost use Rattle.words.specs.declared.Direction.{Direction};
 ghost use Rattle.words.specs.declared.Message.{Message};
 ghost use Rattle.words.specs.declared.Base.TheVariants.{Recv, Send};
 ghost use Rattle.words.specs.declared.Offer.{Offer};
 ghost use Rattle.words.specs.declared.Row.{Row};
 ghost use Rattle.protocol.specs.Tables.{names};
 ghost use Rattle.cell.specs.Seats.{Sits, HasRow};
-ghost use Rattle.cell.specs.Sight.{Has, HaveOffer, HasSeenLast, IsBefore, IsKnownOpen, IsPartnerOf, IsResult, LackOffer, SawCommitted, SeesOffer, Learns};
+ghost use Rattle.cell.specs.Sight.{Has, HaveDirection, HaveOffer, HasSeenLast, IsBefore, IsKnownOpen, IsPartnerOf, IsResult, LackOffer, SawCommitted, SeesDirection, SeesOffer, Learns};
 ghost use Rattle.cell.specs.Views.{at_stage};
 
 use crate::board::Board;
 use crate::view::View;
 use atomic_table::Seat;
 use protocol::{Base, Cell, Joined, Message, Offer, Row, unpack_count};
-use words::read_offer;
+use words::{Direction, read_head, read_offer};
 
 impl Board {
     /// Offer n of the row, where it is opened and has one.
@@ -53,6 +54,44 @@ impl Board {
         let second = self.read(seat, row, 4 + 4 * n);
         let third = self.read(seat, row, 5 + 4 * n);
         Some(read_offer(head, first, second, third))
+    }
+
+    /// The direction of offer n of the row, where it is opened and has one.
+    pub(crate) fn direction(&self, seat: &mut Seat<u64, View>, row: Row, n: u8) -> Option<Direction>
+        requires { Sits self.now seat.old × HasRow self.now row }
+        ensures sits { (seat.new.id ≡ seat.old.id) × Sits self.now seat.new }
+        ensures stays { seat.new.me.0 ≡ at_stage seat.old.me.0.stage seat.new.me.0.seen seat.old.me.0 }
+        ensures learns { Learns (λ q. q ≡ row) seat.old.me.0.seen seat.new.me.0.seen }
+        ensures some { IfSome result (λ d. Has seat.new.me.0.seen.opened row × HaveDirection seat.new.me.0.seen.words row n d) }
+        ensures same { (d : Direction) → SeesDirection seat.new.me.0.seen row n d → result ≡ Some d }
+    {
+        if self.look(seat, row) == Cell::Fresh {
+            return None;
+        }
+        self.opened_direction(seat, row, n)
+    }
+
+    /// The direction of offer n of a row that was seen opened, where it has one. Its head alone is read.
+    pub(crate) fn opened_direction(
+        &self,
+        seat: &mut Seat<u64, View>,
+        row: Row,
+        n: u8,
+    ) -> Option<Direction>
+        requires { Sits self.now seat.old × HasRow self.now row × Has seat.old.me.0.seen.opened row }
+        ensures sits { (seat.new.id ≡ seat.old.id) × Sits self.now seat.new }
+        ensures stays { seat.new.me.0 ≡ at_stage seat.old.me.0.stage seat.new.me.0.seen seat.old.me.0 }
+        ensures learns { Learns (λ q. q ≡ row) seat.old.me.0.seen seat.new.me.0.seen }
+        ensures some { IfSome result (λ d. Has seat.new.me.0.seen.opened row × HaveDirection seat.new.me.0.seen.words row n d) }
+        ensures none { IfNone result (LackOffer seat.new.me.0.seen.words row n) }
+        ensures same { (d : Direction) → SeesDirection seat.new.me.0.seen row n d → result ≡ Some d }
+    {
+        let count = unpack_count(self.read(seat, row, 1))?;
+        if n >= count {
+            return None;
+        }
+        let head = self.read(seat, row, 2 + 4 * n);
+        Some(read_head(head).direction)
     }
 
     /// The stamp of the row before this one in its thread, and 0 where there is none. The row was

@@ -629,9 +629,9 @@ pub cell_of-fields : (w : ℕ) → is_some (cell_of w) ≡ true → cell_of w �
 unfolding cell_of
 cell_of-fields w h = fields_of_some ((cell_word (cell_fields w) == w) && has_stamp (cell_fields w)) (cell_fields w) h
 
-head_of-fields : (w : ℕ) (h : Head) → head_of w ≡ Some h → head_of w ≡ Some (head_fields w)
+pub head_of-fields : (w : ℕ) → is_some (head_of w) ≡ true → head_of w ≡ Some (head_fields w)
 unfolding head_of
-head_of-fields w h e = fields_of_some (head_word (head_fields w) == w) (head_fields w) (ap is_some e)
+head_of-fields w h = fields_of_some (head_word (head_fields w) == w) (head_fields w) h
 
 atom_of-fields : (w : ℕ) (a : Atom) → atom_of w ≡ Some a → atom_of w ≡ Some (atom_fields w)
 unfolding atom_of
@@ -642,5 +642,5 @@ pub offer_of-fields : (w x y z : ℕ) → is_some (offer_of w x y z) ≡ true �
 offer_of-fields w x y z h =
     let o = some_value (offer_of w x y z) h in
     let p = parts_of_offer w x y z o.0 o.1 in
-    offer_of-parts w x y z (head_fields w) (atom_fields x) (atom_fields y) (atom_fields z) (head_of-fields w p.head p.head_is)
+    offer_of-parts w x y z (head_fields w) (atom_fields x) (atom_fields y) (atom_fields z) (head_of-fields w (ap is_some p.head_is))
     (atom_of-fields x p.first p.first_is) (atom_of-fields y p.second p.second_is) (atom_of-fields z p.third p.third_is)

@@ -270,6 +270,14 @@ pub fn unpack_head(word: u64) -> Option<Head>
     }
 }
 
+/// The head of a word of which it is known that it is a head's: nothing is tested.
+pub fn read_head(word: u64) -> Head
+    requires { is_some (head_of word) ≡ true }
+    ensures { head_of word ≡ Some result }
+{
+    head_fields(word)
+}
+
 // ---- an atom
 
 /// The word of an atom: the thread and the number of a nack are each 0 to 63.

@@ -1,0 +1,32 @@
+use Rattle.std.proofs.Common.{◌≡◌, ◌⊎◌, ℕ, ⊎_elim, subst}
+use Rattle.words.specs.declared.Direction.{Direction}
+use Rattle.words.specs.declared.Direction.TheVariants.{Never, Recv, Send}
+use Rattle.words.specs.declared.Row.{Row}
+use Rattle.cell.specs.Calls.{Grid, IsPassOf, PassView}
+use Rattle.cell.specs.Nacks.{CanStandAlone}
+use Rattle.cell.specs.Sight.{SeesDirection}
+use Rattle.cell.proofs.Offers.{if_none}
+use Rattle.meet.proofs.Growing.{NeedsPartner, stands_never}
+use Rattle.meet.proofs.meet.Meet.look.Goals as goal
+
+-- an offer in such a direction does not let its row stand alone
+never : (g : Grid) (p : PassView) (mine : Row × ℕ) (d e : Direction) → IsPassOf g p → SeesDirection p.seen mine.0 mine.1 d → d ≡ e → NeedsPartner e → ¬ CanStandAlone p.seen mine.0 mine.1
+never g p mine d e here sees is needs = stands_never _ _ p.seen mine.0 mine.1 e here.4 (subst (SeesDirection p.seen mine.0 mine.1) is sees) needs
+
+of_pair : (g : Grid) (p : PassView) (mine : Row × ℕ) (d : Direction) → IsPassOf g p → SeesDirection p.seen mine.0 mine.1 d
+    → ((chan : ℕ) × (atoms : ℕ) × (d ≡ Send chan atoms)) ⊎ ((chan : ℕ) × (d ≡ Recv chan)) → ¬ CanStandAlone p.seen mine.0 mine.1
+of_pair g p mine d here sees is =
+    ⊎_elim (λ w. never g p mine d (Send w.0 w.1) here sees w.2 (λ s x y z stamp h. h)) (λ w. never g p mine d (Recv w.0) here sees w.1 (λ s x y z stamp h. h)) is
+
+pub returns-in_err-other_queue-in-Send-clause-none : goal.returns-in_err-other_queue-in-Send-clause-none
+returns-in_err-other_queue-in-Send-clause-none g c =
+    if_none c.from_residual.result (¬ CanStandAlone c.args.pass.now.seen c.args.mine.0 c.args.mine.1)
+    (λ e. of_pair c.args.cells.now c.args.pass.now c.args.mine c.args.direction c.requires.here.0 c.requires.read c.in-Send.is)
+
+pub returns-in_ok-other_queue-in-Send-clause-none : goal.returns-in_ok-other_queue-in-Send-clause-none
+returns-in_ok-other_queue-in-Send-clause-none g c =
+    if_none c.attempt_each.result (¬ CanStandAlone c.args.pass.now.seen c.args.mine.0 c.args.mine.1)
+    (λ e. of_pair c.args.cells.now c.args.pass.now c.args.mine c.args.direction c.requires.here.0 c.requires.read c.in-Send.is)
+
+pub returns-in-Never-clause-none : goal.returns-in-Never-clause-none
+returns-in-Never-clause-none g c = never c.args.cells.now c.args.pass.now c.args.mine c.args.direction Never c.requires.here.0 c.requires.read c.in-Never.is (λ s x y z stamp h. h)

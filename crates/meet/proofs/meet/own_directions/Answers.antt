@@ -1,0 +1,36 @@
+use Rattle.std.proofs.Common.{rules, ◌≡◌, None, sym, ◌∙◌}
+use Rattle.cell.specs.Sight.{LackOffer}
+use Rattle.cell.proofs.Meeting.{from_none}
+use Rattle.meet.proofs.Growing.{grows_by, grows_then, seen_more}
+use Rattle.meet.proofs.Reading.{none_behind, reads_ended, reads_more}
+use Rattle.meet.proofs.meet.own_directions.Goals as goal
+
+-- the row has no further offer
+pub returns-in_default-clause-seen : goal.returns-in_default-clause-seen
+returns-in_default-clause-seen c n d e =
+    seen_more c.loop-n.pass.seen c.direction.new.pass.seen c.args.row n d (grows_by _ _ c.loop-n.pass.seen c.direction.new.pass.seen c.direction.ensures.learns) (c.loop-n.invariant.2.seen n d e)
+
+pub returns-in_default-clause-whole : goal.returns-in_default-clause-whole
+returns-in_default-clause-whole c n d sees =
+    let s = c.args.pass.now.seen in
+    let t = c.loop-n.pass.seen in
+    let u = c.direction.new.pass.seen in
+    let grows = grows_then s t u c.loop-n.invariant.1 (grows_by _ _ t u c.direction.ensures.learns) in
+    let none : c.direction.result ≡ None = (search rules) in
+    let lacks = from_none c.direction.result (LackOffer u.words c.args.row c.loop-n.n) c.direction.ensures.none none in
+    c.loop-n.invariant.2.whole n d (none_behind _ _ u c.args.row c.loop-n.n n d c.direction.ensures.here.4 lacks (seen_more s u c.args.row n d grows sees)) sees
+
+pub loop-n-preserved : goal.loop-n-preserved
+loop-n-preserved c =
+    let s = c.args.pass.now.seen in
+    let t = c.loop-n.pass.seen in
+    let u = c.direction.new.pass.seen in
+    let grows = grows_by _ _ t u c.direction.ensures.learns in (
+      c.direction.ensures.here,
+      grows_then s t u c.loop-n.invariant.1 grows,
+      reads_more s t u c.args.row c.loop-n.directions c.loop-n.n c.from.result c.in-Some.direction c.loop-n.invariant.2 c.from.ensures c.loop-n-test.true c.loop-n.invariant.1 grows
+          c.in-Some.ensures.some (λ d sees. sym c.in-Some.is ∙ c.direction.ensures.same d (seen_more t u c.args.row c.loop-n.n d grows sees)),
+    )
+
+pub returns-clause-whole : goal.returns-clause-whole
+returns-clause-whole c = reads_ended c.args.pass.now.seen c.loop-n.pass.seen c.args.row c.loop-n.directions c.loop-n.n c.loop-n-test.false c.loop-n.invariant.2
