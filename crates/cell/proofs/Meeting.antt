@@ -1,5 +1,5 @@
 -- What a pass knows of two rows stays known while it sees more.
-use Rattle.std.proofs.Common.{rules, ◌≡◌, ◌≢◌, ℕ, ◌+◌, ◌^◌, ◌<◌, ◌≤◌, Bool, true, false, List, sym, refl, ap, ◌∙◌, subst, inl, inr, arith, max, unwrap_or, Option, Some, None, cond, IfSome, IfNone, IfErr, is_err, Result, Ok, Err}
+use Rattle.std.proofs.Common.{rules, ◌≡◌, ◌≢◌, ℕ, ◌+◌, ◌^◌, ◌<◌, ◌≤◌, Bool, true, false, List, sym, refl, ap, ◌∙◌, subst, inl, inr, arith, max, unwrap_or, Option, Some, None, cond, IfSome, IfNone, IfErr, IfOk, is_err, Result, Ok, Err}
 use Rattle.std.proofs.lemmas.Bool.{cases_Bool}
 use Rattle.words.specs.Words.{count_of, IsJoinedInRange}
 use Rattle.words.specs.declared.Direction.{Direction}
@@ -135,6 +135,19 @@ saw_joined r Waiting j s e = let bad : None ≡ Some j = e in cc
 saw_joined r Claimed j s e = let bad : None ≡ Some j = e in cc
 saw_joined r (Synched i) j s e = inl (ap (λ (k : Joined). (r, k)) (Rattle.protocol.proofs.Linking.some_inj i j e))
 saw_joined r (Taken i) j s e = inl (ap (λ (k : Joined). (r, k)) (Rattle.protocol.proofs.Linking.some_inj i j e))
+
+-- AN EXCHANGE was made, or it found another cell
+pub exchange_made : {A B : Type 0} (x : Result A B) (P : Type 0) (Q : A → Type 0) → ((a : A) → P → Q a) → IfOk x (λ a. P) → IfOk x Q
+exchange_made (Ok a) P Q f h = f a h
+exchange_made (Err b) P Q f h = tt
+
+pub exchange_refused : {A B : Type 0} (x : Result A B) (P Q : B → Type 0) → ((b : B) → P b → Q b) → IfErr x P → IfErr x Q
+exchange_refused (Ok a) P Q f h = tt
+exchange_refused (Err b) P Q f h = f b h
+
+pub exchange_either : {A B : Type 0} (x : Result A B) (P : Type 0) (Q : B → Type 0) (R : Type 0) → (P → R) → ((b : B) → Q b → R) → IfOk x (λ a. P) → IfErr x Q → R
+exchange_either (Ok a) P Q R f g h i = f h
+exchange_either (Err b) P Q R f g h i = g b i
 
 pub err_case : {A B : Type 0} (x : Result A B) (P : B → Type 0) → is_err x ≡ true → IfErr x P → (b : B) × P b
 err_case (Ok a) P e h = let bad : false ≡ true = e in cc

@@ -12,6 +12,10 @@ use Rattle.cell.specs.Told.{Inside, InsideNack}
 abbrev pub Sits : Board → Seat ℕ View → Type 0
 Sits b s = (s.table_id ≡ b.words.shared.table_id) × (s.me.0.threads ≡ b.shape.threads) × (s.me.0.rows ≡ b.shape.rows) × Coherent b.shape.threads b.shape.rows s.me.0.seen
 
+-- the pass is the same one after a call, and still sits at the table
+abbrev pub StaysSeated : Board → Seat ℕ View → Seat ℕ View → Type 0
+StaysSeated b before after = (after.id ≡ before.id) × Sits b after
+
 -- the table has the row
 abbrev pub HasRow : Board → Row → Type 0
 HasRow b r = Inside b.shape.threads b.shape.rows r

@@ -6,7 +6,7 @@ ghost use Rattle.words.specs.Words.{IsJoinedInRange};
 ghost use Rattle.cell.specs.declared.view.Stage.TheVariants.{Resting};
 ghost use Rattle.cell.specs.declared.attempt.Attempt.TheVariants.{Unfit};
 ghost use Rattle.cell.specs.Attempts.{Attempted, CanMeet, Fits, IsNear, attempt_made};
-ghost use Rattle.cell.specs.Seats.{Sits, HasRow};
+ghost use Rattle.cell.specs.Seats.{Sits, HasRow, StaysSeated};
 ghost use Rattle.cell.specs.Sight.{Has, CanJoin, Learns, directions_meet};
 ghost use Rattle.cell.specs.Views.{at_stage, worked};
 
@@ -64,7 +64,7 @@ impl Board {
     ) -> Attempt
         requires sits { Sits self.now seat.old × HasRow self.now mine.0 × HasRow self.now other.0 }
         requires held { Has seat.old.me.0.seen.held mine.0 × Has seat.old.me.0.seen.opened mine.0 × (seat.old.me.0.stage ≡ Resting) }
-        ensures sits { (seat.new.id ≡ seat.old.id) × Sits self.now seat.new }
+        ensures sits { StaysSeated self.now seat.old seat.new }
         ensures stays { seat.new.me.0 ≡ worked Resting seat.new.me.0.seen (attempt_made mine.0 mine.1 other.0 other.1 result seat.old.me.0.made) seat.old.me.0 }
         ensures learns { Learns (IsNear mine.0 other.0) seat.old.me.0.seen seat.new.me.0.seen }
         ensures fits { Fits seat.new.me.0.seen mine.0 mine.1 other.0 other.1 result }
@@ -80,7 +80,7 @@ impl Board {
     fn fit(&self, seat: &mut Seat<u64, View>, mine: (Row, u8), other: (Row, u8)) -> Option<Joined>
         requires sits { Sits self.now seat.old × HasRow self.now mine.0 × HasRow self.now other.0 }
         requires opened { Has seat.old.me.0.seen.opened mine.0 }
-        ensures sits { (seat.new.id ≡ seat.old.id) × Sits self.now seat.new }
+        ensures sits { StaysSeated self.now seat.old seat.new }
         ensures stays { seat.new.me.0 ≡ at_stage seat.old.me.0.stage seat.new.me.0.seen seat.old.me.0 }
         ensures learns { Learns (IsNear mine.0 other.0) seat.old.me.0.seen seat.new.me.0.seen }
         ensures can { IfSome result (λ j. CanJoin seat.new.me.0.seen mine.0 mine.1 other.0 other.1 j × IsJoinedInRange j) }
@@ -117,7 +117,7 @@ impl Board {
         requires sits { Sits self.now seat.old × HasRow self.now mine.0 × HasRow self.now other }
         requires held { Has seat.old.me.0.seen.held mine.0 × Has seat.old.me.0.seen.opened mine.0 × (seat.old.me.0.stage ≡ Resting) }
         requires can { CanJoin seat.old.me.0.seen mine.0 mine.1 other joined.own joined × IsJoinedInRange joined }
-        ensures sits { (seat.new.id ≡ seat.old.id) × Sits self.now seat.new }
+        ensures sits { StaysSeated self.now seat.old seat.new }
         ensures stays { seat.new.me.0 ≡ worked Resting seat.new.me.0.seen (attempt_made mine.0 mine.1 other joined.own result seat.old.me.0.made) seat.old.me.0 }
         ensures learns { Learns (IsNear mine.0 other) seat.old.me.0.seen seat.new.me.0.seen }
         ensures attempted { Attempted seat.old.me.0.seen seat.new.me.0.seen mine.0 mine.1 other joined.own result × (¬ (result ≡ Unfit)) }

@@ -4,7 +4,7 @@ ghost use Rattle.std.specs.Prelude.{◌≡◌, ◌+◌, ◌*◌, ◌<◌, ◌≤
 ghost use Rattle.words.specs.Words.{IsOfferInRange, offer_of};
 ghost use Rattle.words.specs.declared.Offer.{Offer};
 ghost use Rattle.cell.specs.Attempts.{OnlyDrafts};
-ghost use Rattle.cell.specs.Seats.{Sits, HasRow};
+ghost use Rattle.cell.specs.Seats.{Sits, HasRow, StaysSeated};
 ghost use Rattle.cell.specs.Sight.{AreOffers, Has, IsDraft, IsPlaceOf, Redrafts};
 ghost use Rattle.cell.specs.Views.{worked};
 
@@ -20,7 +20,7 @@ impl Board {
         requires sits { Sits self.now seat.old × HasRow self.now row }
         requires held { Has seat.old.me.0.seen.held row × (¬ Has seat.old.me.0.seen.opened row) }
         requires offers { AreOffers offers.now }
-        ensures sits { (seat.new.id ≡ seat.old.id) × Sits self.now seat.new }
+        ensures sits { StaysSeated self.now seat.old seat.new }
         ensures stays { seat.new.me.0 ≡ worked seat.old.me.0.stage seat.new.me.0.seen seat.new.me.0.made seat.old.me.0 }
         ensures made { OnlyDrafts row seat.old.me.0.made seat.new.me.0.made }
         ensures others { Redrafts (λ q p. q ≡ row) seat.old.me.0.seen seat.new.me.0.seen }
@@ -37,7 +37,7 @@ impl Board {
         requires sits { Sits self.now seat.old × HasRow self.now row }
         requires held { Has seat.old.me.0.seen.held row × (¬ Has seat.old.me.0.seen.opened row) }
         requires offer { (n < 8) × IsOfferInRange offer }
-        ensures sits { (seat.new.id ≡ seat.old.id) × Sits self.now seat.new }
+        ensures sits { StaysSeated self.now seat.old seat.new }
         ensures stays { seat.new.me.0 ≡ worked seat.old.me.0.stage seat.new.me.0.seen seat.new.me.0.made seat.old.me.0 }
         ensures made { OnlyDrafts row seat.old.me.0.made seat.new.me.0.made }
         ensures others { Redrafts (λ q p. (q ≡ row) × IsPlaceOf n p) seat.old.me.0.seen seat.new.me.0.seen }

@@ -3,7 +3,7 @@
 ghost use Rattle.std.specs.Prelude.{◌≡◌};
 ghost use Rattle.cell.specs.declared.view.Stage.TheVariants.{Resting};
 ghost use Rattle.cell.specs.Attempts.{Granted, IsNackOf, IsNearGrant, grant_made};
-ghost use Rattle.cell.specs.Seats.{Sits, HasRow};
+ghost use Rattle.cell.specs.Seats.{Sits, HasRow, StaysSeated};
 ghost use Rattle.cell.specs.Sight.{LearnsOf};
 ghost use Rattle.cell.specs.Views.{worked};
 
@@ -29,7 +29,7 @@ impl Board {
     pub(crate) fn grant(&self, seat: &mut Seat<u64, View>, row: Row, n: u8) -> Grant
         requires sits { Sits self.now seat.old × HasRow self.now row }
         requires resting { seat.old.me.0.stage ≡ Resting }
-        ensures sits { (seat.new.id ≡ seat.old.id) × Sits self.now seat.new }
+        ensures sits { StaysSeated self.now seat.old seat.new }
         ensures stays { seat.new.me.0 ≡ worked Resting seat.new.me.0.seen (grant_made row n result seat.old.me.0.made) seat.old.me.0 }
         ensures learns { LearnsOf (IsNearGrant seat.new.me.0.seen row n) (IsNackOf seat.new.me.0.seen row n) seat.old.me.0.seen seat.new.me.0.seen }
         ensures granted { Granted seat.old.me.0.seen seat.new.me.0.seen row n result }

@@ -9,7 +9,7 @@ ghost use Rattle.protocol.specs.Tables.{bound_row};
 ghost use Rattle.protocol.specs.Worlds.{nack_of_row};
 ghost use Rattle.cell.specs.Attempts.{Bound, bind_made};
 ghost use Rattle.cell.specs.Nacks.{IsBoundRow, SawCause, SawEnabled};
-ghost use Rattle.cell.specs.Seats.{HasNack, HasRow, Sits};
+ghost use Rattle.cell.specs.Seats.{HasNack, HasRow, Sits, StaysSeated};
 ghost use Rattle.cell.specs.Sight.{Has, Learns, LearnsOf};
 ghost use Rattle.cell.specs.Views.{at_stage, worked};
 
@@ -22,7 +22,7 @@ impl Board {
     /// Where the nack is bound, by a look at its word. A nack that the table has not is not bound.
     pub(crate) fn bound(&self, seat: &mut Seat<u64, View>, nack: NackName) -> Option<Binding>
         requires { Sits self.now seat.old }
-        ensures sits { (seat.new.id ≡ seat.old.id) × Sits self.now seat.new }
+        ensures sits { StaysSeated self.now seat.old seat.new }
         ensures stays { seat.new.me.0 ≡ at_stage seat.old.me.0.stage seat.new.me.0.seen seat.old.me.0 }
         ensures learns { LearnsOf (λ q. ⊥) (λ n. n ≡ nack) seat.old.me.0.seen seat.new.me.0.seen }
         ensures some { IfSome result (λ b. Has seat.new.me.0.seen.bound (nack, b)) }
@@ -42,7 +42,7 @@ impl Board {
         requires sits { Sits self.now seat.old × HasRow self.now row }
         requires held { Has seat.old.me.0.seen.held row × (¬ Has seat.old.me.0.seen.opened row) }
         requires range { (k < 64) × (scope < 4) }
-        ensures sits { (seat.new.id ≡ seat.old.id) × Sits self.now seat.new }
+        ensures sits { StaysSeated self.now seat.old seat.new }
         ensures stays { seat.new.me.0 ≡ worked seat.old.me.0.stage seat.new.me.0.seen (bind_made k row scope result seat.old.me.0.made) seat.old.me.0 }
         ensures learns { LearnsOf (λ q. ⊥) (λ n. n ≡ nack_of_row row k) seat.old.me.0.seen seat.new.me.0.seen }
         ensures bound { Bound seat.old.me.0.seen seat.new.me.0.seen k row scope result }
@@ -65,7 +65,7 @@ impl Board {
     /// is enabled that of the row which enabled it.
     pub(crate) fn cause(&self, seat: &mut Seat<u64, View>, base: Base) -> Option<u32>
         requires sits { Sits self.now seat.old }
-        ensures sits { (seat.new.id ≡ seat.old.id) × Sits self.now seat.new }
+        ensures sits { StaysSeated self.now seat.old seat.new }
         ensures stays { seat.new.me.0 ≡ at_stage seat.old.me.0.stage seat.new.me.0.seen seat.old.me.0 }
         ensures learns { LearnsOf (IsBoundRow seat.new.me.0.seen base) (λ n. base ≡ OnNack n) seat.old.me.0.seen seat.new.me.0.seen }
         ensures some { IfSome result (λ stamp. SawCause seat.new.me.0.seen base stamp × (stamp ≤ 65536)) }
@@ -85,7 +85,7 @@ impl Board {
     /// outside the nack's scope.
     fn enabled_by(&self, seat: &mut Seat<u64, View>, nack: NackName) -> Option<Joined>
         requires sits { Sits self.now seat.old }
-        ensures sits { (seat.new.id ≡ seat.old.id) × Sits self.now seat.new }
+        ensures sits { StaysSeated self.now seat.old seat.new }
         ensures stays { seat.new.me.0 ≡ at_stage seat.old.me.0.stage seat.new.me.0.seen seat.old.me.0 }
         ensures learns { LearnsOf (λ q. (b : Binding) × Has seat.new.me.0.seen.bound (nack, b) × (q ≡ bound_row nack b)) (λ n. n ≡ nack) seat.old.me.0.seen seat.new.me.0.seen }
         ensures some { IfSome result (SawEnabled seat.new.me.0.seen nack) }
@@ -107,7 +107,7 @@ impl Board {
     /// How the row is committed, if it is.
     fn committed(&self, seat: &mut Seat<u64, View>, row: Row) -> Option<Joined>
         requires { Sits self.now seat.old × HasRow self.now row }
-        ensures sits { (seat.new.id ≡ seat.old.id) × Sits self.now seat.new }
+        ensures sits { StaysSeated self.now seat.old seat.new }
         ensures stays { seat.new.me.0 ≡ at_stage seat.old.me.0.stage seat.new.me.0.seen seat.old.me.0 }
         ensures learns { Learns (λ q. q ≡ row) seat.old.me.0.seen seat.new.me.0.seen }
         ensures some { IfSome result (λ j. Has seat.new.me.0.seen.joined (row, j) × Has seat.new.me.0.seen.opened row) }

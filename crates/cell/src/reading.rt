@@ -7,7 +7,7 @@ ghost use Rattle.words.specs.declared.Base.TheVariants.{Recv, Send};
 ghost use Rattle.words.specs.declared.Offer.{Offer};
 ghost use Rattle.words.specs.declared.Row.{Row};
 ghost use Rattle.protocol.specs.Tables.{names};
-ghost use Rattle.cell.specs.Seats.{Sits, HasRow};
+ghost use Rattle.cell.specs.Seats.{Sits, HasRow, StaysSeated};
 ghost use Rattle.cell.specs.Sight.{Has, HaveDirection, HaveOffer, HasSeenLast, IsBefore, IsKnownOpen, IsPartnerOf, IsResult, LackOffer, SawCommitted, SeesDirection, SeesOffer, Learns};
 ghost use Rattle.cell.specs.Views.{at_stage};
 
@@ -21,7 +21,7 @@ impl Board {
     /// Offer n of the row, where it is opened and has one.
     pub(crate) fn offer(&self, seat: &mut Seat<u64, View>, row: Row, n: u8) -> Option<Offer>
         requires { Sits self.now seat.old × HasRow self.now row }
-        ensures sits { (seat.new.id ≡ seat.old.id) × Sits self.now seat.new }
+        ensures sits { StaysSeated self.now seat.old seat.new }
         ensures stays { seat.new.me.0 ≡ at_stage seat.old.me.0.stage seat.new.me.0.seen seat.old.me.0 }
         ensures learns { Learns (λ q. q ≡ row) seat.old.me.0.seen seat.new.me.0.seen }
         ensures some { IfSome result (λ o. Has seat.new.me.0.seen.opened row × HaveOffer seat.new.me.0.seen.words row n o) }
@@ -38,7 +38,7 @@ impl Board {
     /// Offer n of a row that was seen opened, where it has one.
     pub(crate) fn opened_offer(&self, seat: &mut Seat<u64, View>, row: Row, n: u8) -> Option<Offer>
         requires { Sits self.now seat.old × HasRow self.now row × Has seat.old.me.0.seen.opened row }
-        ensures sits { (seat.new.id ≡ seat.old.id) × Sits self.now seat.new }
+        ensures sits { StaysSeated self.now seat.old seat.new }
         ensures stays { seat.new.me.0 ≡ at_stage seat.old.me.0.stage seat.new.me.0.seen seat.old.me.0 }
         ensures learns { Learns (λ q. q ≡ row) seat.old.me.0.seen seat.new.me.0.seen }
         ensures some { IfSome result (λ o. Has seat.new.me.0.seen.opened row × HaveOffer seat.new.me.0.seen.words row n o) }
@@ -59,7 +59,7 @@ impl Board {
     /// The direction of offer n of the row, where it is opened and has one.
     pub(crate) fn direction(&self, seat: &mut Seat<u64, View>, row: Row, n: u8) -> Option<Direction>
         requires { Sits self.now seat.old × HasRow self.now row }
-        ensures sits { (seat.new.id ≡ seat.old.id) × Sits self.now seat.new }
+        ensures sits { StaysSeated self.now seat.old seat.new }
         ensures stays { seat.new.me.0 ≡ at_stage seat.old.me.0.stage seat.new.me.0.seen seat.old.me.0 }
         ensures learns { Learns (λ q. q ≡ row) seat.old.me.0.seen seat.new.me.0.seen }
         ensures some { IfSome result (λ d. Has seat.new.me.0.seen.opened row × HaveDirection seat.new.me.0.seen.words row n d) }
@@ -79,7 +79,7 @@ impl Board {
         n: u8,
     ) -> Option<Direction>
         requires { Sits self.now seat.old × HasRow self.now row × Has seat.old.me.0.seen.opened row }
-        ensures sits { (seat.new.id ≡ seat.old.id) × Sits self.now seat.new }
+        ensures sits { StaysSeated self.now seat.old seat.new }
         ensures stays { seat.new.me.0 ≡ at_stage seat.old.me.0.stage seat.new.me.0.seen seat.old.me.0 }
         ensures learns { Learns (λ q. q ≡ row) seat.old.me.0.seen seat.new.me.0.seen }
         ensures some { IfSome result (λ d. Has seat.new.me.0.seen.opened row × HaveDirection seat.new.me.0.seen.words row n d) }
@@ -99,7 +99,7 @@ impl Board {
     pub(crate) fn last_stamp(&self, seat: &mut Seat<u64, View>, row: Row) -> u32
         requires sits { Sits self.now seat.old × HasRow self.now row }
         requires opened { Has seat.old.me.0.seen.opened row }
-        ensures sits { (seat.new.id ≡ seat.old.id) × Sits self.now seat.new }
+        ensures sits { StaysSeated self.now seat.old seat.new }
         ensures stays { seat.new.me.0 ≡ at_stage seat.old.me.0.stage seat.new.me.0.seen seat.old.me.0 }
         ensures learns { Learns (IsBefore row) seat.old.me.0.seen seat.new.me.0.seen }
         ensures last { HasSeenLast seat.new.me.0.seen row result }
@@ -121,7 +121,7 @@ impl Board {
     /// What the row's thread gets, where the row is committed.
     pub(crate) fn result(&self, seat: &mut Seat<u64, View>, row: Row) -> Option<Message>
         requires { Sits self.now seat.old × HasRow self.now row }
-        ensures sits { (seat.new.id ≡ seat.old.id) × Sits self.now seat.new }
+        ensures sits { StaysSeated self.now seat.old seat.new }
         ensures stays { seat.new.me.0 ≡ at_stage seat.old.me.0.stage seat.new.me.0.seen seat.old.me.0 }
         ensures learns { Learns (IsPartnerOf seat.new.me.0.seen row) seat.old.me.0.seen seat.new.me.0.seen }
         ensures some { IfSome result (IsResult seat.new.me.0.seen row) }
@@ -139,7 +139,7 @@ impl Board {
     fn gained(&self, seat: &mut Seat<u64, View>, row: Row, joined: Joined) -> Option<Message>
         requires sits { Sits self.now seat.old × HasRow self.now row }
         requires committed { Has seat.old.me.0.seen.joined (row, joined) × Has seat.old.me.0.seen.opened row }
-        ensures sits { (seat.new.id ≡ seat.old.id) × Sits self.now seat.new }
+        ensures sits { StaysSeated self.now seat.old seat.new }
         ensures stays { seat.new.me.0 ≡ at_stage seat.old.me.0.stage seat.new.me.0.seen seat.old.me.0 }
         ensures learns { Learns (λ q. (q ≡ row) ⊎ (names (Some joined) q ≡ true)) seat.old.me.0.seen seat.new.me.0.seen }
         ensures got { (got : Message) × (result ≡ Some got) × IsResult seat.new.me.0.seen row got }
@@ -156,7 +156,7 @@ impl Board {
         requires sits { Sits self.now seat.old × HasRow self.now row }
         requires committed { Has seat.old.me.0.seen.joined (row, joined) }
         requires receives { (mine : Offer) × (chan : ℕ) × HaveOffer seat.old.me.0.seen.words row joined.own mine × (mine.base ≡ Recv chan) }
-        ensures sits { (seat.new.id ≡ seat.old.id) × Sits self.now seat.new }
+        ensures sits { StaysSeated self.now seat.old seat.new }
         ensures stays { seat.new.me.0 ≡ at_stage seat.old.me.0.stage seat.new.me.0.seen seat.old.me.0 }
         ensures learns { Learns (λ q. names (Some joined) q ≡ true) seat.old.me.0.seen seat.new.me.0.seen }
         ensures sent { (partner : Row × ℕ) × (chan : ℕ) × (theirs : Offer) × (got : Message) × (result ≡ Some got) × (joined.partner ≡ Some partner) × HaveOffer seat.new.me.0.seen.words partner.0 partner.1 theirs × (theirs.base ≡ Send chan got) }

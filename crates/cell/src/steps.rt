@@ -16,7 +16,7 @@ ghost use Rattle.protocol.specs.Tables.{bound_row, thread_len, nack_place, place
 ghost use Rattle.protocol.specs.Worlds.{mirrored};
 ghost use Rattle.cell.specs.declared.view.Stage.TheVariants.{Resting, Claims, Joins};
 ghost use Rattle.cell.specs.Told.{Agrees, AgreesNack, cell_read, joining, nack_read, settled};
-ghost use Rattle.cell.specs.Seats.{Sits, HasNack, HasRow};
+ghost use Rattle.cell.specs.Seats.{Sits, HasNack, HasRow, StaysSeated};
 ghost use Rattle.cell.specs.Nacks.{CanGrant};
 ghost use Rattle.cell.specs.Sight.{Has, CanJoin};
 ghost use Rattle.cell.specs.Views.{bind_of, bound_nack, did, saw, saw_nack, took, read_word, turned, word_drafted};
@@ -53,7 +53,7 @@ impl Board {
     /// Reads where the nack is bound.
     pub(crate) fn look_nack(&self, seat: &mut Seat<u64, View>, nack: NackName) -> Option<Binding>
         requires { Sits self.now seat.old × HasNack self.now nack }
-        ensures sits { (seat.new.id ≡ seat.old.id) × Sits self.now seat.new }
+        ensures sits { StaysSeated self.now seat.old seat.new }
         ensures saw { seat.new.me.0 ≡ saw_nack nack result seat.old.me.0 }
         ensures agrees { AgreesNack seat.old.me.0 nack result }
     {
@@ -75,7 +75,7 @@ impl Board {
         requires sits { Sits self.now seat.old × HasNack self.now nack × HasRow self.now (bound_row nack bound) }
         requires held { Has seat.old.me.0.seen.held (bound_row nack bound) × (¬ Has seat.old.me.0.seen.opened (bound_row nack bound)) }
         requires range { IsBindingInRange bound }
-        ensures sits { (seat.new.id ≡ seat.old.id) × Sits self.now seat.new }
+        ensures sits { StaysSeated self.now seat.old seat.new }
         ensures bound { IfOk result (λ _. (seat.new.me.0 ≡ did (bind_of nack bound) (bound_nack nack bound seat.old.me.0)) × ((b : Binding) → ¬ Has seat.old.me.0.seen.bound (nack, b))) }
         ensures found { IfErr result (λ b. (seat.new.me.0 ≡ bound_nack nack b seat.old.me.0) × (b.sync ≤ bound.sync) × (Has seat.old.me.0.seen.held (bound_row nack b) → Has seat.old.me.0.seen.bound (nack, b))) }
     {
@@ -94,7 +94,7 @@ impl Board {
     /// Reads the row's cell.
     pub(crate) fn look(&self, seat: &mut Seat<u64, View>, row: Row) -> Cell
         requires { Sits self.now seat.old × HasRow self.now row }
-        ensures sits { (seat.new.id ≡ seat.old.id) × Sits self.now seat.new }
+        ensures sits { StaysSeated self.now seat.old seat.new }
         ensures saw { seat.new.me.0 ≡ saw row result seat.old.me.0 }
         ensures agrees { Agrees seat.old.me.0 row result }
     {
@@ -105,7 +105,7 @@ impl Board {
     pub(crate) fn read(&self, seat: &mut Seat<u64, View>, row: Row, place: u8) -> u64
         requires sits { Sits self.now seat.old × HasRow self.now row }
         requires place { (1 ≤ place) × (place < 34) × Has seat.old.me.0.seen.opened row }
-        ensures sits { (seat.new.id ≡ seat.old.id) × Sits self.now seat.new }
+        ensures sits { StaysSeated self.now seat.old seat.new }
         ensures read { seat.new.me.0 ≡ read_word row place result seat.old.me.0 }
     {
         self.words.shared.load::<Read>(seat, self.place(row, place))
@@ -116,7 +116,7 @@ impl Board {
         requires sits { Sits self.now seat.old × HasRow self.now row }
         requires place { (1 ≤ place) × (place < 34) × (is_word_for place word ≡ true) }
         requires held { Has seat.old.me.0.seen.held row × (¬ Has seat.old.me.0.seen.opened row) }
-        ensures sits { (seat.new.id ≡ seat.old.id) × Sits self.now seat.new }
+        ensures sits { StaysSeated self.now seat.old seat.new }
         ensures drafted { seat.new.me.0 ≡ word_drafted row place word seat.old.me.0 }
     {
         self.words
@@ -128,7 +128,7 @@ impl Board {
     pub(crate) fn open(&self, seat: &mut Seat<u64, View>, row: Row)
         requires sits { Sits self.now seat.old × HasRow self.now row }
         requires held { Has seat.old.me.0.seen.held row × (¬ Has seat.old.me.0.seen.opened row) × (seat.old.me.0.stage ≡ Resting) }
-        ensures sits { (seat.new.id ≡ seat.old.id) × Sits self.now seat.new }
+        ensures sits { StaysSeated self.now seat.old seat.new }
         ensures opened { seat.new.me.0 ≡ did (OpenStep row) (turned Resting row seat.old.me.0) }
     {
         self.words
@@ -140,7 +140,7 @@ impl Board {
     pub(crate) fn claim(&self, seat: &mut Seat<u64, View>, row: Row) -> Result<(), Cell>
         requires sits { Sits self.now seat.old × HasRow self.now row }
         requires held { Has seat.old.me.0.seen.held row × (seat.old.me.0.stage ≡ Resting) }
-        ensures sits { (seat.new.id ≡ seat.old.id) × Sits self.now seat.new }
+        ensures sits { StaysSeated self.now seat.old seat.new }
         ensures claimed { IfOk result (λ _. seat.new.me.0 ≡ did (ClaimStep row) (turned (Claims row) row seat.old.me.0)) }
         ensures found { IfErr result (λ cell. (cell ≢ Waiting) × (seat.new.me.0 ≡ saw row cell seat.old.me.0) × Agrees seat.old.me.0 row cell) }
     {
@@ -150,18 +150,14 @@ impl Board {
             .words
             .shared
             .compare_exchange::<Claim>(seat, self.place(row, 0), waiting, claimed);
-        if found == waiting {
-            Ok(())
-        } else {
-            Err(cell_in(found))
-        }
+        exchanged(found, waiting)
     }
 
     /// Gives up the row that this call has claimed.
     pub(crate) fn give_up(&self, seat: &mut Seat<u64, View>, row: Row)
         requires sits { Sits self.now seat.old × HasRow self.now row }
         requires held { Has seat.old.me.0.seen.held row × (seat.old.me.0.stage ≡ Claims row) }
-        ensures sits { (seat.new.id ≡ seat.old.id) × Sits self.now seat.new }
+        ensures sits { StaysSeated self.now seat.old seat.new }
         ensures waits { seat.new.me.0 ≡ did (YieldStep row) (turned Resting row seat.old.me.0) }
     {
         self.words
@@ -182,7 +178,7 @@ impl Board {
         requires sits { Sits self.now seat.old × HasRow self.now row }
         requires held { Has seat.old.me.0.seen.held mine × (seat.old.me.0.stage ≡ Claims mine) }
         requires can { CanJoin seat.old.me.0.seen mine own row partner joined × IsJoinedInRange joined }
-        ensures sits { (seat.new.id ≡ seat.old.id) × Sits self.now seat.new }
+        ensures sits { StaysSeated self.now seat.old seat.new }
         ensures joined { IfOk result (λ _. seat.new.me.0 ≡ joining mine own row joined seat.old.me.0) }
         ensures found { IfErr result (λ cell. (cell ≢ Waiting) × (seat.new.me.0 ≡ saw row cell seat.old.me.0) × Agrees seat.old.me.0 row cell) }
     {
@@ -192,11 +188,7 @@ impl Board {
             .words
             .shared
             .compare_exchange::<Join>(seat, self.place(row, 0), waiting, synched);
-        if found == waiting {
-            Ok(())
-        } else {
-            Err(cell_in(found))
-        }
+        exchanged(found, waiting)
     }
 
     /// Commits a row alone, where it is Waiting; else says what it is.
@@ -209,7 +201,7 @@ impl Board {
         requires sits { Sits self.now seat.old × HasRow self.now row }
         requires resting { seat.old.me.0.stage ≡ Resting }
         requires can { CanGrant seat.old.me.0.seen row joined.own joined × IsJoinedInRange joined }
-        ensures sits { (seat.new.id ≡ seat.old.id) × Sits self.now seat.new }
+        ensures sits { StaysSeated self.now seat.old seat.new }
         ensures given { IfOk result (λ _. (seat.new.me.0 ≡ did (GrantStep row joined.own) (settled row joined seat.old.me.0)) × Agrees seat.old.me.0 row Waiting) }
         ensures found { IfErr result (λ cell. (cell ≢ Waiting) × (seat.new.me.0 ≡ saw row cell seat.old.me.0) × Agrees seat.old.me.0 row cell) }
     {
@@ -219,11 +211,7 @@ impl Board {
             .words
             .shared
             .compare_exchange::<Give>(seat, self.place(row, 0), waiting, granted);
-        if found == waiting {
-            Ok(())
-        } else {
-            Err(cell_in(found))
-        }
+        exchanged(found, waiting)
     }
 
     /// Takes a row that is committed so, where nobody has taken it; else says what it is. The pass
@@ -236,7 +224,7 @@ impl Board {
     ) -> Result<(), Cell>
         requires sits { Sits self.now seat.old × HasRow self.now row }
         requires range { IsJoinedInRange joined }
-        ensures sits { (seat.new.id ≡ seat.old.id) × Sits self.now seat.new }
+        ensures sits { StaysSeated self.now seat.old seat.new }
         ensures took { IfOk result (λ _. (seat.new.me.0 ≡ did (TakeStep row) (took row joined seat.old.me.0)) × Agrees seat.old.me.0 row (Synched joined) × (¬ Has seat.old.me.0.seen.opened (next_row row))) }
         ensures found { IfErr result (λ cell. (cell ≢ Synched joined) × (seat.new.me.0 ≡ saw row cell seat.old.me.0) × Agrees seat.old.me.0 row cell) }
     {
@@ -246,11 +234,7 @@ impl Board {
             .words
             .shared
             .compare_exchange::<Take>(seat, self.place(row, 0), committed, taken);
-        if found == committed {
-            Ok(())
-        } else {
-            Err(cell_in(found))
-        }
+        exchanged(found, committed)
     }
 
     /// Commits the claimed row, as the row says that this call has joined with it.
@@ -265,7 +249,7 @@ impl Board {
         requires sits { Sits self.now seat.old × HasRow self.now row }
         requires held { Has seat.old.me.0.seen.held row × (seat.old.me.0.stage ≡ Joins row other joined) }
         requires partner { (joined.partner ≡ Some (row, own)) × IsJoinedInRange (mirrored other joined own) }
-        ensures sits { (seat.new.id ≡ seat.old.id) × Sits self.now seat.new }
+        ensures sits { StaysSeated self.now seat.old seat.new }
         ensures sealed { seat.new.me.0 ≡ did (SealStep row) (settled row (mirrored other joined own) seat.old.me.0) }
     {
         let committed = Joined {
@@ -278,6 +262,18 @@ impl Board {
             self.place(row, 0),
             pack_cell(Cell::Synched(committed)),
         );
+    }
+}
+
+// what an exchange came to: it was made where the word was the expected one; else the cell that was found
+fn exchanged(found: u64, expected: u64) -> Result<(), Cell>
+    ensures made { IfOk result (λ _. found ≡ expected) }
+    ensures refused { IfErr result (λ cell. (found ≢ expected) × (cell ≡ cell_read found)) }
+{
+    if found == expected {
+        Ok(())
+    } else {
+        Err(cell_in(found))
     }
 }
 

@@ -2,7 +2,7 @@
 
 ghost use Rattle.std.specs.Prelude.{◌≡◌, IfSome, IfNone};
 ghost use Rattle.cell.specs.Attempts.{Took, take_made};
-ghost use Rattle.cell.specs.Seats.{Sits, HasRow};
+ghost use Rattle.cell.specs.Seats.{Sits, HasRow, StaysSeated};
 ghost use Rattle.cell.specs.Sight.{Has, Learns, SawCommitted};
 ghost use Rattle.cell.specs.Views.{worked};
 
@@ -15,7 +15,7 @@ impl Board {
     /// Takes the row, where it is committed and nobody has taken it.
     pub(crate) fn take(&self, seat: &mut Seat<u64, View>, row: Row) -> Option<Joined>
         requires { Sits self.now seat.old × HasRow self.now row }
-        ensures sits { (seat.new.id ≡ seat.old.id) × Sits self.now seat.new }
+        ensures sits { StaysSeated self.now seat.old seat.new }
         ensures stays { seat.new.me.0 ≡ worked seat.old.me.0.stage seat.new.me.0.seen (take_made row result seat.old.me.0.made) seat.old.me.0 }
         ensures some { IfSome result (Took self.now.shape.rows seat.old.me.0.seen seat.new.me.0.seen row) }
         ensures none { IfNone result (Learns (λ q. q ≡ row) seat.old.me.0.seen seat.new.me.0.seen × (SawCommitted seat.old.me.0.seen row → Has seat.new.me.0.seen.taken row)) }

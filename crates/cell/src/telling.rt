@@ -2,7 +2,7 @@
 
 ghost use Rattle.std.specs.Prelude.{◌≡◌};
 ghost use Rattle.cell.specs.Rule.{heard_pass, told_pass};
-ghost use Rattle.cell.specs.Seats.{Sits};
+ghost use Rattle.cell.specs.Seats.{Sits, StaysSeated};
 
 use crate::board::{Board, Glance, Tell};
 use crate::view::View;
@@ -25,7 +25,7 @@ impl Board {
     /// has seen is of one table.
     fn glance(&self, seat: &mut Seat<u64, View>)
         requires sits { (seat.old.table_id ≡ self.now.words.shared.table_id) × (seat.old.me.0.threads ≡ self.now.shape.threads) × (seat.old.me.0.rows ≡ self.now.shape.rows) }
-        ensures sits { (seat.new.id ≡ seat.old.id) × Sits self.now seat.new }
+        ensures sits { StaysSeated self.now seat.old seat.new }
         ensures stays { seat.new.me.0 ≡ seat.old.me.0 }
     {
         self.words.shared.load::<Glance>(seat, 0);

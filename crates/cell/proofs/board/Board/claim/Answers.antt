@@ -1,13 +1,16 @@
-use Rattle.std.proofs.Common.{rules, subst, sym, ap, ◌∙◌, ◌≢◌, ℕ, eqb}
+use Rattle.std.proofs.Common.{rules, subst, sym, ap, ◌∙◌, ◌≡◌, ◌≢◌, ℕ, eqb}
 use mathlib.Core.Option.{none}
 use prog.Atomic.{either}
 use Rattle.atomic_table.specs.Table.{Allows, step}
 use Rattle.words.specs.Words.{cell_word}
+use Rattle.words.specs.declared.Cell.{Cell}
+use Rattle.cell.specs.Views.{saw}
 use Rattle.words.specs.declared.Cell.TheVariants.{Waiting}
 use Rattle.cell.specs.declared.view.Shape.{Shape}
 use Rattle.cell.specs.Rule.{Keeps}
-use Rattle.cell.specs.Told.{Agrees, claimed}
+use Rattle.cell.specs.Told.{Agrees, cell_read, claimed, finds}
 use Rattle.cell.proofs.Allowing.{claim_allowed, at_view, place_view, not_waiting}
+use Rattle.cell.proofs.Meeting.{exchange_refused}
 use Rattle.cell.proofs.board.Board.claim.Goals as goal
 
 pub compare_exchange-found-requires : goal.compare_exchange-found-requires
@@ -18,8 +21,12 @@ compare_exchange-found-requires c = (
       (claim_allowed c.args.self.now.shape c.args.self.now.words.shared.table_id.slots c.args.seat.now.id c.place.result c.args.seat.now.me c.args.row (search rules) (search rules) (search rules) (search rules) (search rules) (search rules)),
 )
 
-pub returns-else-found-waiting-clause-found : goal.returns-else-found-waiting-clause-found
-returns-else-found-waiting-clause-found c =
-    let other : c.compare_exchange-found.result ≢ cell_word Waiting = (λ e. c.if-found-waiting.false (e ∙ sym c.pack_cell-waiting.ensures)) in
-    let told = (c.compare_exchange-found.ensures.2 c.args.row (at_view c.args.self.now.shape c.args.seat.now.me.0 c.args.row (search rules) (search rules) (search rules), place_view c.args.self.now.shape c.args.seat.now.me.0 c.args.row 0 c.place.result (search rules) (search rules))).1 other in
-    (λ e. not_waiting c.compare_exchange-found.result other (sym c.cell_in.ensures ∙ e), ap (λ z. z.0) told.0 ∙ (search rules), subst (Agrees c.args.seat.now.me.0 c.args.row) (sym c.cell_in.ensures) told.1)
+pub returns-clause-found : goal.returns-clause-found
+returns-clause-found c =
+    let told = c.compare_exchange-found.ensures.2 c.args.row (at_view c.args.self.now.shape c.args.seat.now.me.0 c.args.row (search rules) (search rules) (search rules), place_view c.args.self.now.shape c.args.seat.now.me.0 c.args.row 0 c.place.result (search rules) (search rules)) in
+    exchange_refused c.exchanged.result (λ cell. (c.compare_exchange-found.result ≢ c.pack_cell-waiting.result) × (cell ≡ cell_read c.compare_exchange-found.result)) (λ cell. (cell ≢ Waiting) × (c.compare_exchange-found.new.seat.me.0 ≡ saw c.args.row cell c.args.seat.now.me.0) × Agrees c.args.seat.now.me.0 c.args.row cell)
+    (λ cell refused.
+        let other : c.compare_exchange-found.result ≢ cell_word Waiting = (λ e. refused.0 (e ∙ sym c.pack_cell-waiting.ensures)) in
+        let found : finds c.args.seat.now.me c.args.row c.compare_exchange-found.result c.compare_exchange-found.new.seat.me = told.1 other in
+        (λ e. not_waiting c.compare_exchange-found.result other (sym refused.1 ∙ e), ap (λ z. z.0) found.0 ∙ ap (λ (x : Cell). saw c.args.row x c.args.seat.now.me.0) (sym refused.1), subst (Agrees c.args.seat.now.me.0 c.args.row) (sym refused.1) found.1))
+    c.exchanged.ensures.refused

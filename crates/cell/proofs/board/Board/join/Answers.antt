@@ -3,12 +3,16 @@ use mathlib.Core.Option.{none}
 use prog.Atomic.{either}
 use Rattle.atomic_table.specs.Table.{Allows, step}
 use Rattle.words.specs.Words.{cell_word}
+use Rattle.words.specs.declared.Cell.{Cell}
+use Rattle.cell.specs.Views.{saw}
+use Rattle.cell.specs.Seats.{StaysSeated}
 use Rattle.words.specs.declared.Cell.TheVariants.{Waiting}
 use Rattle.cell.specs.declared.view.Shape.{Shape}
 use Rattle.cell.specs.Rule.{Keeps}
 use Rattle.words.specs.declared.Joined.{Joined}
-use Rattle.cell.specs.Told.{Agrees, finds, joined, joining}
+use Rattle.cell.specs.Told.{Agrees, cell_read, finds, joined, joining}
 use Rattle.cell.proofs.Allowing.{join_allowed, at_view, place_view, not_waiting, sits_still}
+use Rattle.cell.proofs.Meeting.{exchange_either, exchange_made, exchange_refused}
 use Rattle.cell.proofs.board.Board.join.Goals as goal
 
 pub compare_exchange-found-requires : goal.compare_exchange-found-requires
@@ -19,32 +23,32 @@ compare_exchange-found-requires c = (
       (join_allowed c.args.self.now.shape c.args.self.now.words.shared.table_id.slots c.args.seat.now.id c.place.result c.args.seat.now.me c.args.row (search rules) (search rules) (search rules) c.args.mine c.args.own c.args.partner c.args.joined (search rules) (search rules) (search rules) (search rules) (search rules)),
 )
 
-pub returns-then-found-waiting-clause-sits : goal.returns-then-found-waiting-clause-sits
-returns-then-found-waiting-clause-sits c =
+pub returns-clause-sits : goal.returns-clause-sits
+returns-clause-sits c =
     let told = c.compare_exchange-found.ensures.2 c.args.mine c.args.own c.args.row c.args.joined (search rules) (ap (λ (j : Joined). j.partner) c.requires.can.0.is)
     (at_view c.args.self.now.shape c.args.seat.now.me.0 c.args.row (search rules) (search rules) (search rules), place_view c.args.self.now.shape c.args.seat.now.me.0 c.args.row 0 c.place.result (search rules) (search rules)) c.requires.can.1 c.pack_cell-synched.ensures in
-    let is : c.compare_exchange-found.new.seat.me ≡ (joining c.args.mine c.args.own c.args.row c.args.joined c.args.seat.now.me.0, c.args.seat.now.me.1) = told.0 (c.if-found-waiting.true ∙ c.pack_cell-waiting.ensures) in
-    ((search rules), sits_still c.args.self.now c.args.seat.now c.compare_exchange-found.new.seat (search rules) (search rules) (ap (λ z. z.0.threads) is) (ap (λ z. z.0.rows) is) told.2)
+    exchange_either c.exchanged.result (c.compare_exchange-found.result ≡ c.pack_cell-waiting.result) (λ cell. (c.compare_exchange-found.result ≢ c.pack_cell-waiting.result) × (cell ≡ cell_read c.compare_exchange-found.result)) (StaysSeated c.args.self.now c.args.seat.now c.compare_exchange-found.new.seat)
+    (λ made. let is = told.0 (made ∙ c.pack_cell-waiting.ensures) in ((search rules), sits_still c.args.self.now c.args.seat.now c.compare_exchange-found.new.seat (search rules) (search rules) (ap (λ z. z.0.threads) is) (ap (λ z. z.0.rows) is) told.2))
+    (λ cell refused.
+        let found : finds c.args.seat.now.me c.args.row c.compare_exchange-found.result c.compare_exchange-found.new.seat.me = told.1 (λ e. refused.0 (e ∙ sym c.pack_cell-waiting.ensures)) in
+        ((search rules), sits_still c.args.self.now c.args.seat.now c.compare_exchange-found.new.seat (search rules) (search rules) (ap (λ z. z.0.threads) found.0) (ap (λ z. z.0.rows) found.0) told.2))
+    c.exchanged.ensures.made c.exchanged.ensures.refused
 
-pub returns-then-found-waiting-clause-joined : goal.returns-then-found-waiting-clause-joined
-returns-then-found-waiting-clause-joined c =
+pub returns-clause-joined : goal.returns-clause-joined
+returns-clause-joined c =
     let told = c.compare_exchange-found.ensures.2 c.args.mine c.args.own c.args.row c.args.joined (search rules) (ap (λ (j : Joined). j.partner) c.requires.can.0.is)
     (at_view c.args.self.now.shape c.args.seat.now.me.0 c.args.row (search rules) (search rules) (search rules), place_view c.args.self.now.shape c.args.seat.now.me.0 c.args.row 0 c.place.result (search rules) (search rules)) c.requires.can.1 c.pack_cell-synched.ensures in
-    let is : c.compare_exchange-found.new.seat.me ≡ (joining c.args.mine c.args.own c.args.row c.args.joined c.args.seat.now.me.0, c.args.seat.now.me.1) = told.0 (c.if-found-waiting.true ∙ c.pack_cell-waiting.ensures) in
-    ap (λ z. z.0) is
+    exchange_made c.exchanged.result (c.compare_exchange-found.result ≡ c.pack_cell-waiting.result) (λ u. c.compare_exchange-found.new.seat.me.0 ≡ joining c.args.mine c.args.own c.args.row c.args.joined c.args.seat.now.me.0)
+    (λ u made. let is = told.0 (made ∙ c.pack_cell-waiting.ensures) in ap (λ z. z.0) is)
+    c.exchanged.ensures.made
 
-pub returns-else-found-waiting-clause-sits : goal.returns-else-found-waiting-clause-sits
-returns-else-found-waiting-clause-sits c =
+pub returns-clause-found : goal.returns-clause-found
+returns-clause-found c =
     let told = c.compare_exchange-found.ensures.2 c.args.mine c.args.own c.args.row c.args.joined (search rules) (ap (λ (j : Joined). j.partner) c.requires.can.0.is)
     (at_view c.args.self.now.shape c.args.seat.now.me.0 c.args.row (search rules) (search rules) (search rules), place_view c.args.self.now.shape c.args.seat.now.me.0 c.args.row 0 c.place.result (search rules) (search rules)) c.requires.can.1 c.pack_cell-synched.ensures in
-    let other : c.compare_exchange-found.result ≢ cell_word Waiting = (λ e. c.if-found-waiting.false (e ∙ sym c.pack_cell-waiting.ensures)) in
-    let found : finds c.args.seat.now.me c.args.row c.compare_exchange-found.result c.compare_exchange-found.new.seat.me = told.1 other in
-    ((search rules), sits_still c.args.self.now c.args.seat.now c.compare_exchange-found.new.seat (search rules) (search rules) (ap (λ z. z.0.threads) found.0) (ap (λ z. z.0.rows) found.0) told.2)
-
-pub returns-else-found-waiting-clause-found : goal.returns-else-found-waiting-clause-found
-returns-else-found-waiting-clause-found c =
-    let told = c.compare_exchange-found.ensures.2 c.args.mine c.args.own c.args.row c.args.joined (search rules) (ap (λ (j : Joined). j.partner) c.requires.can.0.is)
-    (at_view c.args.self.now.shape c.args.seat.now.me.0 c.args.row (search rules) (search rules) (search rules), place_view c.args.self.now.shape c.args.seat.now.me.0 c.args.row 0 c.place.result (search rules) (search rules)) c.requires.can.1 c.pack_cell-synched.ensures in
-    let other : c.compare_exchange-found.result ≢ cell_word Waiting = (λ e. c.if-found-waiting.false (e ∙ sym c.pack_cell-waiting.ensures)) in
-    let found : finds c.args.seat.now.me c.args.row c.compare_exchange-found.result c.compare_exchange-found.new.seat.me = told.1 other in
-    (λ e. not_waiting c.compare_exchange-found.result other (sym c.cell_in.ensures ∙ e), ap (λ z. z.0) found.0 ∙ (search rules), subst (Agrees c.args.seat.now.me.0 c.args.row) (sym c.cell_in.ensures) found.1)
+    exchange_refused c.exchanged.result (λ cell. (c.compare_exchange-found.result ≢ c.pack_cell-waiting.result) × (cell ≡ cell_read c.compare_exchange-found.result)) (λ cell. (cell ≢ Waiting) × (c.compare_exchange-found.new.seat.me.0 ≡ saw c.args.row cell c.args.seat.now.me.0) × Agrees c.args.seat.now.me.0 c.args.row cell)
+    (λ cell refused.
+        let other : c.compare_exchange-found.result ≢ cell_word Waiting = (λ e. refused.0 (e ∙ sym c.pack_cell-waiting.ensures)) in
+        let found : finds c.args.seat.now.me c.args.row c.compare_exchange-found.result c.compare_exchange-found.new.seat.me = told.1 other in
+        (λ e. not_waiting c.compare_exchange-found.result other (sym refused.1 ∙ e), ap (λ z. z.0) found.0 ∙ ap (λ (x : Cell). saw c.args.row x c.args.seat.now.me.0) (sym refused.1), subst (Agrees c.args.seat.now.me.0 c.args.row) (sym refused.1) found.1))
+    c.exchanged.ensures.refused

@@ -3,11 +3,18 @@ use mathlib.Core.Option.{none}
 use prog.Atomic.{either}
 use Rattle.atomic_table.specs.Table.{Allows, step}
 use Rattle.words.specs.Words.{cell_word}
+use Rattle.words.specs.declared.Cell.{Cell}
+use Rattle.cell.specs.Views.{did, saw, took}
+use Rattle.words.specs.declared.Step.TheVariants.{Take}
+use Rattle.protocol.specs.Tables.{next_row}
+use Rattle.cell.specs.Sight.{Has}
+use Rattle.cell.specs.Seats.{StaysSeated}
 use Rattle.words.specs.declared.Cell.TheVariants.{Fresh, Synched}
 use Rattle.cell.specs.declared.view.Shape.{Shape}
 use Rattle.cell.specs.Rule.{Keeps}
-use Rattle.cell.specs.Told.{Agrees, finds, taken}
+use Rattle.cell.specs.Told.{Agrees, cell_read, finds, taken}
 use Rattle.cell.proofs.Allowing.{take_allowed, at_view, place_view, not_cell, sits_still}
+use Rattle.cell.proofs.Meeting.{exchange_either, exchange_made, exchange_refused}
 use Rattle.cell.proofs.board.Board.take_committed.Goals as goal
 
 pub compare_exchange-found-requires : goal.compare_exchange-found-requires
@@ -18,32 +25,32 @@ compare_exchange-found-requires c = (
       (take_allowed c.args.self.now.shape c.args.self.now.words.shared.table_id.slots c.args.seat.now.id c.place.result c.args.seat.now.me c.args.row (search rules) (search rules) (search rules) c.args.joined c.requires.range (search rules)),
 )
 
-pub returns-then-found-committed-clause-sits : goal.returns-then-found-committed-clause-sits
-returns-then-found-committed-clause-sits c =
+pub returns-clause-sits : goal.returns-clause-sits
+returns-clause-sits c =
     let told = c.compare_exchange-found.ensures.2 c.args.row c.args.joined
     (at_view c.args.self.now.shape c.args.seat.now.me.0 c.args.row (search rules) (search rules) (search rules), place_view c.args.self.now.shape c.args.seat.now.me.0 c.args.row 0 c.place.result (search rules) (search rules)) c.requires.range c.pack_cell-taken.ensures in
-    let is = told.0 (c.if-found-committed.true ∙ c.pack_cell-committed.ensures) in
-    ((search rules), sits_still c.args.self.now c.args.seat.now c.compare_exchange-found.new.seat (search rules) (search rules) (ap (λ z. z.0.threads) is.0) (ap (λ z. z.0.rows) is.0) told.2)
+    exchange_either c.exchanged.result (c.compare_exchange-found.result ≡ c.pack_cell-committed.result) (λ cell. (c.compare_exchange-found.result ≢ c.pack_cell-committed.result) × (cell ≡ cell_read c.compare_exchange-found.result)) (StaysSeated c.args.self.now c.args.seat.now c.compare_exchange-found.new.seat)
+    (λ made. let is = told.0 (made ∙ c.pack_cell-committed.ensures) in ((search rules), sits_still c.args.self.now c.args.seat.now c.compare_exchange-found.new.seat (search rules) (search rules) (ap (λ z. z.0.threads) is.0) (ap (λ z. z.0.rows) is.0) told.2))
+    (λ cell refused.
+        let found : finds c.args.seat.now.me c.args.row c.compare_exchange-found.result c.compare_exchange-found.new.seat.me = told.1 (λ e. refused.0 (e ∙ sym c.pack_cell-committed.ensures)) in
+        ((search rules), sits_still c.args.self.now c.args.seat.now c.compare_exchange-found.new.seat (search rules) (search rules) (ap (λ z. z.0.threads) found.0) (ap (λ z. z.0.rows) found.0) told.2))
+    c.exchanged.ensures.made c.exchanged.ensures.refused
 
-pub returns-then-found-committed-clause-took : goal.returns-then-found-committed-clause-took
-returns-then-found-committed-clause-took c =
+pub returns-clause-took : goal.returns-clause-took
+returns-clause-took c =
     let told = c.compare_exchange-found.ensures.2 c.args.row c.args.joined
     (at_view c.args.self.now.shape c.args.seat.now.me.0 c.args.row (search rules) (search rules) (search rules), place_view c.args.self.now.shape c.args.seat.now.me.0 c.args.row 0 c.place.result (search rules) (search rules)) c.requires.range c.pack_cell-taken.ensures in
-    let is = told.0 (c.if-found-committed.true ∙ c.pack_cell-committed.ensures) in
-    (ap (λ z. z.0) is.0, is.1, is.2)
+    exchange_made c.exchanged.result (c.compare_exchange-found.result ≡ c.pack_cell-committed.result) (λ u. (c.compare_exchange-found.new.seat.me.0 ≡ did (Take c.args.row) (took c.args.row c.args.joined c.args.seat.now.me.0)) × Agrees c.args.seat.now.me.0 c.args.row (Synched c.args.joined) × (¬ Has c.args.seat.now.me.0.seen.opened (next_row c.args.row)))
+    (λ u made. let is = told.0 (made ∙ c.pack_cell-committed.ensures) in (ap (λ z. z.0) is.0, is.1, is.2))
+    c.exchanged.ensures.made
 
-pub returns-else-found-committed-clause-sits : goal.returns-else-found-committed-clause-sits
-returns-else-found-committed-clause-sits c =
+pub returns-clause-found : goal.returns-clause-found
+returns-clause-found c =
     let told = c.compare_exchange-found.ensures.2 c.args.row c.args.joined
     (at_view c.args.self.now.shape c.args.seat.now.me.0 c.args.row (search rules) (search rules) (search rules), place_view c.args.self.now.shape c.args.seat.now.me.0 c.args.row 0 c.place.result (search rules) (search rules)) c.requires.range c.pack_cell-taken.ensures in
-    let other : c.compare_exchange-found.result ≢ cell_word (Synched c.args.joined) = (λ e. c.if-found-committed.false (e ∙ sym c.pack_cell-committed.ensures)) in
-    let found : finds c.args.seat.now.me c.args.row c.compare_exchange-found.result c.compare_exchange-found.new.seat.me = told.1 other in
-    ((search rules), sits_still c.args.self.now c.args.seat.now c.compare_exchange-found.new.seat (search rules) (search rules) (ap (λ z. z.0.threads) found.0) (ap (λ z. z.0.rows) found.0) told.2)
-
-pub returns-else-found-committed-clause-found : goal.returns-else-found-committed-clause-found
-returns-else-found-committed-clause-found c =
-    let told = c.compare_exchange-found.ensures.2 c.args.row c.args.joined
-    (at_view c.args.self.now.shape c.args.seat.now.me.0 c.args.row (search rules) (search rules) (search rules), place_view c.args.self.now.shape c.args.seat.now.me.0 c.args.row 0 c.place.result (search rules) (search rules)) c.requires.range c.pack_cell-taken.ensures in
-    let other : c.compare_exchange-found.result ≢ cell_word (Synched c.args.joined) = (λ e. c.if-found-committed.false (e ∙ sym c.pack_cell-committed.ensures)) in
-    let found : finds c.args.seat.now.me c.args.row c.compare_exchange-found.result c.compare_exchange-found.new.seat.me = told.1 other in
-    (λ e. not_cell (Synched c.args.joined) c.compare_exchange-found.result (λ f. let bad : Synched c.args.joined ≡ Fresh = f in cc) other (sym c.cell_in.ensures ∙ e), ap (λ z. z.0) found.0 ∙ (search rules), subst (Agrees c.args.seat.now.me.0 c.args.row) (sym c.cell_in.ensures) found.1)
+    exchange_refused c.exchanged.result (λ cell. (c.compare_exchange-found.result ≢ c.pack_cell-committed.result) × (cell ≡ cell_read c.compare_exchange-found.result)) (λ cell. (cell ≢ Synched c.args.joined) × (c.compare_exchange-found.new.seat.me.0 ≡ saw c.args.row cell c.args.seat.now.me.0) × Agrees c.args.seat.now.me.0 c.args.row cell)
+    (λ cell refused.
+        let other : c.compare_exchange-found.result ≢ cell_word (Synched c.args.joined) = (λ e. refused.0 (e ∙ sym c.pack_cell-committed.ensures)) in
+        let found : finds c.args.seat.now.me c.args.row c.compare_exchange-found.result c.compare_exchange-found.new.seat.me = told.1 other in
+        (λ e. not_cell (Synched c.args.joined) c.compare_exchange-found.result (λ f. let bad : Synched c.args.joined ≡ Fresh = f in cc) other (sym refused.1 ∙ e), ap (λ z. z.0) found.0 ∙ ap (λ (x : Cell). saw c.args.row x c.args.seat.now.me.0) (sym refused.1), subst (Agrees c.args.seat.now.me.0 c.args.row) (sym refused.1) found.1))
+    c.exchanged.ensures.refused
