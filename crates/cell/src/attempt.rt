@@ -13,8 +13,7 @@ ghost use Rattle.cell.specs.Views.{at_stage, worked};
 use crate::board::Board;
 use crate::view::View;
 use atomic_table::Seat;
-use protocol::{Cell, Joined, Row};
-use words::Direction;
+use protocol::{Cell, Direction, Joined, Row};
 
 /// The kinds with which a gate is called: before a claim, a yield, a join and a seal.
 pub const CLAIM: u8 = 5;

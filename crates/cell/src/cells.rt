@@ -59,10 +59,9 @@ use crate::granting::Grant;
 use crate::rows::RowSet;
 use crate::view::{Shape, View};
 use atomic_table::Seat;
-use protocol::{Cell, Joined, Ledger, Message, NackName, Offer, Row};
+use protocol::{Cell, Direction, Joined, Ledger, Message, NACKS, NackName, Offer, ROW_LEN, Row};
 use std::alloc::{AllocError, Global};
 use std::marker::Model;
-use words::Direction;
 
 /// The shared table: threads may share it, and none of its calls waits.
 #[derive(Drop)]
@@ -131,7 +130,7 @@ impl Cells {
             rows: u64::from(rows),
             passes: u64::from(passes),
         };
-        let words = usize::from(threads) * (usize::from(rows) * 34 + 64);
+        let words = usize::from(threads) * (usize::from(rows) * ROW_LEN + NACKS);
         let room = vec![in alloc; 0; words]?;
         let (board, mut dealer) = Board::start(alloc, shape, room.as_slice())?;
         let mut dealt = Vec::with_capacity(alloc, usize::from(passes))?;

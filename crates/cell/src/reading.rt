@@ -14,8 +14,8 @@ ghost use Rattle.cell.specs.Views.{at_stage};
 use crate::board::Board;
 use crate::view::View;
 use atomic_table::Seat;
-use protocol::{Base, Cell, Joined, Message, Offer, Row, unpack_count};
-use words::{Direction, read_head, read_offer};
+use protocol::{Base, Cell, Direction, Joined, Message, Offer, Row, unpack_count};
+use words::{read_head, read_offer};
 
 impl Board {
     /// Offer n of the row, where it is opened and has one.

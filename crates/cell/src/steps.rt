@@ -27,18 +27,27 @@ use crate::board::{
 use crate::view::View;
 use atomic_table::Seat;
 use protocol::{
-    Binding, Cell, Joined, NackName, Row, pack_cell, pack_nack, unpack_cell, unpack_nack,
+    Binding, Cell, Joined, NACKS, NackName, ROW_LEN, Row, pack_cell, pack_nack, unpack_cell,
+    unpack_nack,
 };
 use words::read_cell;
 
 impl Board {
+    // how many words a thread has
+    fn thread_len(&self) -> usize
+        ensures { result ≡ thread_len self.now.shape.rows }
+    {
+        self.shape.rows as usize * ROW_LEN + NACKS
+    }
+
     // where the word of a row at a place lies
     fn place(&self, row: Row, place: u8) -> usize
         requires { HasRow self.now row × (place < 34) }
         ensures { (result ≡ place_of self.now.shape.rows row place) × (result < self.now.words.shared.table_id.words) }
     {
-        let len = self.shape.rows * 34 + 64;
-        (u64::from(row.thread) * len + u64::from(row.sync) * 34 + u64::from(place)) as usize
+        usize::from(row.thread) * self.thread_len()
+            + usize::from(row.sync) * ROW_LEN
+            + usize::from(place)
     }
 
     // where the word of a nack lies
@@ -46,8 +55,9 @@ impl Board {
         requires { HasNack self.now nack }
         ensures { (result ≡ nack_place self.now.shape.rows nack) × (result < self.now.words.shared.table_id.words) }
     {
-        let len = self.shape.rows * 34 + 64;
-        (u64::from(nack.thread) * len + self.shape.rows * 34 + u64::from(nack.k)) as usize
+        usize::from(nack.thread) * self.thread_len()
+            + self.shape.rows as usize * ROW_LEN
+            + usize::from(nack.k)
     }
 
     /// Reads where the nack is bound.

@@ -9,10 +9,10 @@ use words::{
 };
 
 /// The words of a row.
-pub(crate) const ROW_LEN: usize = 34;
+pub const ROW_LEN: usize = 34;
 
 /// The nacks of a thread, of one word each.
-pub(crate) const NACKS: usize = 64;
+pub const NACKS: usize = 64;
 
 /// A table's words, thread by thread: a thread's rows first, and then its nacks.
 #[derive(Debug, Drop)]

@@ -13,8 +13,8 @@ mod ledger;
 mod state;
 mod world;
 
+pub use crate::board::{NACKS, ROW_LEN};
 pub use crate::ledger::Ledger;
-pub use crate::state::offers_meet;
 pub use crate::world::{World, play};
 use thiserror::Error;
 pub use words::{

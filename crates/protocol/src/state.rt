@@ -2,7 +2,7 @@
 
 ghost use Rattle.std.specs.Prelude.{Some, ◌≡◌, ◌*◌, ◌<◌, ◌≤◌, ◌↔◌, IfOk, IsTrue, true, length, map, replicate};
 
-use crate::board::Board;
+use crate::board::{Board, NACKS, ROW_LEN};
 use std::alloc::{AllocError, Global};
 use words::{Base, Binding, Cell, Joined, NackName, Offer, Row, Seat, Step, is_word_for};
 
@@ -118,7 +118,7 @@ impl State {
         let Cell::Fresh = self.board.cell(row) else {
             return false;
         };
-        if place < 1 || place > 33 {
+        if place < 1 || usize::from(place) >= ROW_LEN {
             return false;
         }
         if !is_word_for(place, value) {
@@ -185,7 +185,7 @@ impl State {
     fn read(&self, seat: Seat, row: Row, place: u8) -> bool
         ensures { IsTrue result ↔ Condition (world_of self.now) seat (Read row place) }
     {
-        !matches!(self.board.cell(row), Cell::Fresh) && 1 <= place && place <= 33
+        !matches!(self.board.cell(row), Cell::Fresh) && 1 <= place && usize::from(place) < ROW_LEN
     }
 
     fn join(&mut self, seat: Seat, mine: Row, own: u8, other: Row, partner: u8) -> bool
@@ -315,7 +315,7 @@ impl State {
         let Cell::Fresh = self.board.cell(row) else {
             return false;
         };
-        if k >= 64 || scope >= 4 {
+        if usize::from(k) >= NACKS || scope >= 4 {
             return false;
         }
         let nack = NackName {
@@ -390,7 +390,7 @@ fn first_holder(seats: usize, row: Row) -> Option<u8>
 }
 
 /// Whether two offers are a send and a receive on one channel; an offer that is not there meets none.
-pub fn offers_meet(own: Option<Offer>, other: Option<Offer>) -> bool
+fn offers_meet(own: Option<Offer>, other: Option<Offer>) -> bool
     ensures { result ≡ offers_meet own other }
 {
     let (Some(own), Some(other)) = (own, other) else {

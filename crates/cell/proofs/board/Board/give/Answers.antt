@@ -30,8 +30,8 @@ returns-clause-sits c =
     exchange_either c.exchanged.result (c.compare_exchange-found.result ≡ c.pack_cell-waiting.result) (λ cell. (c.compare_exchange-found.result ≢ c.pack_cell-waiting.result) × (cell ≡ cell_read c.compare_exchange-found.result)) (StaysSeated c.args.self.now c.args.seat.now c.compare_exchange-found.new.seat)
     (λ made. let is = told.0 (made ∙ c.pack_cell-waiting.ensures) in ((search rules), sits_still c.args.self.now c.args.seat.now c.compare_exchange-found.new.seat (search rules) (search rules) (ap (λ z. z.0.threads) is.0) (ap (λ z. z.0.rows) is.0) told.2))
     (λ cell refused.
-        let found : finds c.args.seat.now.me c.args.row c.compare_exchange-found.result c.compare_exchange-found.new.seat.me = told.1 (λ e. refused.0 (e ∙ sym c.pack_cell-waiting.ensures)) in
-        ((search rules), sits_still c.args.self.now c.args.seat.now c.compare_exchange-found.new.seat (search rules) (search rules) (ap (λ z. z.0.threads) found.0) (ap (λ z. z.0.rows) found.0) told.2))
+    let found : finds c.args.seat.now.me c.args.row c.compare_exchange-found.result c.compare_exchange-found.new.seat.me = told.1 (λ e. refused.0 (e ∙ sym c.pack_cell-waiting.ensures)) in
+    ((search rules), sits_still c.args.self.now c.args.seat.now c.compare_exchange-found.new.seat (search rules) (search rules) (ap (λ z. z.0.threads) found.0) (ap (λ z. z.0.rows) found.0) told.2))
     c.exchanged.ensures.made c.exchanged.ensures.refused
 
 pub returns-clause-given : goal.returns-clause-given
@@ -48,7 +48,7 @@ returns-clause-found c =
     (at_view c.args.self.now.shape c.args.seat.now.me.0 c.args.row (search rules) (search rules) (search rules), place_view c.args.self.now.shape c.args.seat.now.me.0 c.args.row 0 c.place.result (search rules) (search rules)) c.requires.can.1 c.pack_cell-granted.ensures in
     exchange_refused c.exchanged.result (λ cell. (c.compare_exchange-found.result ≢ c.pack_cell-waiting.result) × (cell ≡ cell_read c.compare_exchange-found.result)) (λ cell. (cell ≢ Waiting) × (c.compare_exchange-found.new.seat.me.0 ≡ saw c.args.row cell c.args.seat.now.me.0) × Agrees c.args.seat.now.me.0 c.args.row cell)
     (λ cell refused.
-        let other : c.compare_exchange-found.result ≢ cell_word Waiting = (λ e. refused.0 (e ∙ sym c.pack_cell-waiting.ensures)) in
-        let found : finds c.args.seat.now.me c.args.row c.compare_exchange-found.result c.compare_exchange-found.new.seat.me = told.1 other in
-        (λ e. not_waiting c.compare_exchange-found.result other (sym refused.1 ∙ e), ap (λ z. z.0) found.0 ∙ ap (λ (x : Cell). saw c.args.row x c.args.seat.now.me.0) (sym refused.1), subst (Agrees c.args.seat.now.me.0 c.args.row) (sym refused.1) found.1))
+    let other : c.compare_exchange-found.result ≢ cell_word Waiting = (λ e. refused.0 (e ∙ sym c.pack_cell-waiting.ensures)) in
+    let found : finds c.args.seat.now.me c.args.row c.compare_exchange-found.result c.compare_exchange-found.new.seat.me = told.1 other in
+    (λ e. not_waiting c.compare_exchange-found.result other (sym refused.1 ∙ e), ap (λ z. z.0) found.0 ∙ ap (λ (x : Cell). saw c.args.row x c.args.seat.now.me.0) (sym refused.1), subst (Agrees c.args.seat.now.me.0 c.args.row) (sym refused.1) found.1))
     c.exchanged.ensures.refused

@@ -1,4 +1,4 @@
-use Rattle.std.proofs.Common.{◌≡◌, ◌<◌, None, sym, refl, ◌∙◌}
+use Rattle.std.proofs.Common.{arith, ◌≡◌, ◌<◌, None, sym, refl, ◌∙◌}
 use Rattle.words.specs.declared.Cell.TheVariants.{Fresh}
 use Rattle.words.specs.declared.Step.TheVariants.{Bind}
 use Rattle.protocol.specs.Tables.{cell_at, binding_at}
@@ -13,7 +13,7 @@ use Rattle.protocol.proofs.state.State.bind.Goals as goal
 pub set_nack-requires-clause-nack : goal.set_nack-requires-clause-nack
 set_nack-requires-clause-nack c =
     let w = world_of c.args.self.now in
-    nack_of_thread w.table c.args.row c.args.k (held_row w c.args.row c.args.seat.0 (c.holds.ensures.0 c.if-not-holds.false)) c.if-k-ge64.false
+    nack_of_thread w.table c.args.row c.args.k (held_row w c.args.row c.args.seat.0 (c.holds.ensures.0 c.if-not-holds.false)) (let below = c.if-from-ge-NACKS.false in let same = c.from.ensures in omega arith)
 
 pub set_nack-requires-clause-range : goal.set_nack-requires-clause-range
 set_nack-requires-clause-range c =
@@ -26,7 +26,7 @@ returns-clause-sound c =
     let held : Holds w c.args.seat c.args.row = c.holds.ensures.0 c.if-not-holds.false in
     let row = held_row w c.args.row c.args.seat.0 held in
     let was : cell_at w.table c.args.row ≡ Fresh = sym c.in-Fresh.ensures in
-    let few : c.args.k < 64 = c.if-k-ge64.false in
+    let few : c.args.k < 64 = (let below = c.if-from-ge-NACKS.false in let same = c.from.ensures in omega arith) in
     let inside : c.args.scope < 4 = c.if-scope-ge4.false in
     let free : binding_at w.table (nack_of_row c.args.row c.args.k) ≡ None = sym c.binding.ensures.value ∙ none_from c.binding.result (sym c.is_some.ensures ∙ c.if-is_some.false) in
     sound_state _ w (with_nack w.table (nack_of_row c.args.row c.args.k) (record { sync = c.args.row.sync; scope = c.args.scope })) c.set_nack.ensures.written refl refl

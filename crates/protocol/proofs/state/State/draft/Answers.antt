@@ -1,4 +1,4 @@
-use Rattle.std.proofs.Common.{◌≡◌, ◌≤◌, ap, sym, refl, ◌∙◌}
+use Rattle.std.proofs.Common.{arith, ◌≡◌, ◌≤◌, ap, sym, refl, ◌∙◌}
 use Rattle.words.specs.declared.Step.TheVariants.{Draft}
 use Rattle.protocol.specs.Worlds.{Holds, with_word, Condition}
 use Rattle.protocol.specs.States.{table_of, world_of}
@@ -15,9 +15,9 @@ returns-clause-sound c =
     let w = world_of c.args.self.now in
     let held : Holds w c.args.seat c.args.row = c.holds.ensures.0 c.if-not-holds.false in
     let low : 1 ≤ c.args.place = c.if-place-lt1.false in
-    let high : c.args.place ≤ 33 = c.if-place-gt33.false in
+    let high : c.args.place ≤ 33 = (let below = c.if-from-ge-ROW_LEN.false in let same = c.from.ensures in omega arith) in
     let written : table_of c.set_word.new.self ≡ with_word w.table c.args.row c.args.place c.args.value =
-    c.set_word.ensures ∙ ap (λ n. with_word w.table c.args.row n c.args.value) c.from.ensures in
+    c.set_word.ensures ∙ ap (λ n. with_word w.table c.args.row n c.args.value) c.from-2.ensures in
     let condition : Condition w c.args.seat (Draft c.args.row c.args.place c.args.value) =
     (held, sym c.in-Fresh.ensures, low, high, sym c.is_word_for.ensures ∙ c.if-not-is_word_for.false) in
     sound_state _ w (with_word w.table c.args.row c.args.place c.args.value) written refl refl
