@@ -1,6 +1,6 @@
 -- Offers, word by word: how the words of one offer are read, and what they agree with.
-use Rattle.std.proofs.Common.{◌≡◌, ℕ, zero, suc, ◌+◌, ◌*◌, ◌-◌, ◌%◌, ◌<◌, ◌≤◌, Bool, true, false, List, sym, refl, ap, ◌∙◌, subst, inl, inr, ◌⊎◌, arith, unwrap_or, Option, Some, None, is_some, eqb, cond, IfSome, IfNone, option_and_then}
-use Rattle.std.proofs.lemmas.Bool.{ne_eqb, false≢true, true≢false}
+use Rattle.std.proofs.Common.{◌≡◌, ℕ, zero, suc, ◌+◌, ◌*◌, ◌-◌, ◌%◌, ◌<◌, ◌≤◌, Bool, true, false, List, sym, refl, ap, ◌∙◌, subst, inl, inr, ◌⊎◌, arith, unwrap_or, Option, Some, None, is_some, eqb, leb, cond, IfSome, IfNone, option_and_then}
+use Rattle.std.proofs.lemmas.Bool.{le-leb, ne_eqb, false≢true, true≢false}
 use Rattle.std.proofs.Math.Nat.{add-mul-mod_self_left}
 use Rattle.words.specs.Words.{count_of, head_of, atom_of, offer_of, base_of, message_of, is_word_for}
 use Rattle.words.specs.declared.Atom.{Atom}
@@ -17,7 +17,7 @@ use Rattle.words.specs.declared.Cell.{Cell}
 use Rattle.words.specs.declared.Cell.TheVariants.{Fresh, Waiting, Claimed, Synched, Taken}
 use Rattle.cell.specs.declared.view.Seen.{Seen}
 use Rattle.cell.specs.declared.view.View.{View}
-use Rattle.cell.specs.Sight.{Has, HaveOffer, SeesOffer, Coherent, atoms_behind, atoms_in, atoms_told, see_cell}
+use Rattle.cell.specs.Sight.{Has, Learns, HaveOffer, SeesOffer, Coherent, atoms_behind, atoms_in, atoms_told, see_cell}
 use Rattle.cell.specs.Views.{read_word}
 
 -- a place that is no cell and no count is a head or an atom, by what is left over 4
@@ -154,76 +154,77 @@ module _ (threads rows : ℕ) (s : Seen) (agree : Coherent threads rows s) (r : 
       from (inl h) = subst (λ (x : ℕ). n < unwrap_or (count_of x) 0) (agree.one_word r 1 h.count count h.counted now) h.below
       from (inr h) = subst (λ (x : ℕ). n < unwrap_or (count_of x) 0) (agree.as_drafted r 1 h.count count h.counted now) h.below
 
-  pub same_offer : (a b c d : ℕ) → Has s.words (r, 2 + 4 * n, a) → Has s.words (r, 3 + 4 * n, b) → Has s.words (r, 4 + 4 * n, c) → Has s.words (r, 5 + 4 * n, d)
+  pub same_offer : (a b c d : ℕ) → Has s.words (r, 2 + 4 * n, a) → (1 ≤ atoms_behind a → Has s.words (r, 3 + 4 * n, b)) → (2 ≤ atoms_behind a → Has s.words (r, 4 + 4 * n, c)) → (3 ≤ atoms_behind a → Has s.words (r, 5 + 4 * n, d))
       → (is_some (atom_of b) ≡ true) × (is_some (atom_of c) ≡ true) × (is_some (atom_of d) ≡ true) → offer_of a b c d ≡ Some o
   same_offer a b c d i j k l formed = from seen
     where
+      told : (x m : ℕ) → x ≡ a → m ≤ atoms_behind x → m ≤ atoms_behind a
+      told x m e h = subst (λ (w : ℕ). m ≤ atoms_behind w) e h
+
       from : HaveOffer s.words r n o ⊎ HaveOffer s.drafts r n o → offer_of a b c d ≡ Some o
-      from (inl h) = same_read h.head h.first h.second h.third a b c d o h.is (agree.one_word r (2 + 4 * n) h.head a h.has_head i)
-          (λ m. agree.one_word r (3 + 4 * n) h.first b (h.has_first m) j) (λ m. agree.one_word r (4 + 4 * n) h.second c (h.has_second m) k) (λ m. agree.one_word r (5 + 4 * n) h.third d (h.has_third m) l) formed
-      from (inr h) = same_read h.head h.first h.second h.third a b c d o h.is (agree.as_drafted r (2 + 4 * n) h.head a h.has_head i)
-          (λ m. agree.as_drafted r (3 + 4 * n) h.first b (h.has_first m) j) (λ m. agree.as_drafted r (4 + 4 * n) h.second c (h.has_second m) k) (λ m. agree.as_drafted r (5 + 4 * n) h.third d (h.has_third m) l) formed
+      from (inl h) =
+          let head = agree.one_word r (2 + 4 * n) h.head a h.has_head i in
+          same_read h.head h.first h.second h.third a b c d o h.is head
+          (λ m. agree.one_word r (3 + 4 * n) h.first b (h.has_first m) (j (told h.head 1 head m))) (λ m. agree.one_word r (4 + 4 * n) h.second c (h.has_second m) (k (told h.head 2 head m)))
+          (λ m. agree.one_word r (5 + 4 * n) h.third d (h.has_third m) (l (told h.head 3 head m))) formed
+      from (inr h) =
+          let head = agree.as_drafted r (2 + 4 * n) h.head a h.has_head i in
+          same_read h.head h.first h.second h.third a b c d o h.is head
+          (λ m. agree.as_drafted r (3 + 4 * n) h.first b (h.has_first m) (j (told h.head 1 head m))) (λ m. agree.as_drafted r (4 + 4 * n) h.second c (h.has_second m) (k (told h.head 2 head m)))
+          (λ m. agree.as_drafted r (5 + 4 * n) h.third d (h.has_third m) (l (told h.head 3 head m))) formed
 
--- FIVE WORDS, READ ONE AFTER ANOTHER
-pub record ReadFive (v w : View) (r : Row) (n count a b c d : ℕ) : Type 0 where
-  pub count_word : Has w.seen.words (r, 1, count)
-  pub head : Has w.seen.words (r, 2 + 4 * n, a)
-  pub first : Has w.seen.words (r, 3 + 4 * n, b)
-  pub second : Has w.seen.words (r, 4 + 4 * n, c)
-  pub third : Has w.seen.words (r, 5 + 4 * n, d)
-  pub kept : (x : Row × ℕ × ℕ) → Has v.seen.words x → Has w.seen.words x
-  pub drafts : w.seen.drafts ≡ v.seen.drafts
-  pub opened : w.seen.opened ≡ v.seen.opened
+-- THE WORDS OF AN OFFER THAT WERE READ: its head, and as many atoms as the head says
+pub record ReadOffer (s : Seen) (r : Row) (n count a b c d : ℕ) : Type 0 where
+  pub count_word : Has s.words (r, 1, count)
+  pub head : Has s.words (r, 2 + 4 * n, a)
+  pub first : 1 ≤ atoms_behind a → Has s.words (r, 3 + 4 * n, b)
+  pub second : 2 ≤ atoms_behind a → Has s.words (r, 4 + 4 * n, c)
+  pub third : 3 ≤ atoms_behind a → Has s.words (r, 5 + 4 * n, d)
+  pub atoms : (is_some (atom_of b) ≡ true) × (is_some (atom_of c) ≡ true) × (is_some (atom_of d) ≡ true)
 
-read_in_turn : (v : View) (r : Row) (n count a b c d : ℕ)
-    → ReadFive v (read_word r (5 + 4 * n) d (read_word r (4 + 4 * n) c (read_word r (3 + 4 * n) b (read_word r (2 + 4 * n) a (read_word r 1 count v))))) r n count a b c d
-read_in_turn v r n count a b c d = record {
-  count_word = inr (inr (inr (inr (inl refl))));
-  head = inr (inr (inr (inl refl)));
-  first = inr (inr (inl refl));
-  second = inr (inl refl);
-  third = inl refl;
-  kept = λ x h. inr (inr (inr (inr (inr h))));
-  drafts = refl;
-  opened = refl;
+-- the number of offers was read, and then the head of one
+pub count_and_head : (v v1 v2 : View) (r : Row) (n count a : ℕ) → v1 ≡ read_word r 1 count v → v2 ≡ read_word r (2 + 4 * n) a v1 → Has v2.seen.words (r, 1, count) × Has v2.seen.words (r, 2 + 4 * n, a)
+count_and_head v v1 v2 r n count a e f =
+    subst (λ (w : View). Has w.seen.words (r, 1, count) × Has w.seen.words (r, 2 + 4 * n, a)) (sym (f ∙ ap (read_word r (2 + 4 * n) a) e)) (inr (inl refl), inl refl)
+
+-- the head was read, and then each atom that it says
+pub offer_words : (s t u v : Seen) (r : Row) (n count a b c d : ℕ) (h : Head) (atoms : ℕ) → Has s.words (r, 1, count) → Has s.words (r, 2 + 4 * n, a) → head_of a ≡ Some h → atoms ≡ atoms_told h.direction
+    → Learns (λ q. q ≡ r) s t → Learns (λ q. q ≡ r) t u → Learns (λ q. q ≡ r) u v
+    → (leb 1 atoms ≡ true → Has t.words (r, 3 + 4 * n, b)) → (leb 2 atoms ≡ true → Has u.words (r, 4 + 4 * n, c)) → (leb 3 atoms ≡ true → Has v.words (r, 5 + 4 * n, d))
+    → (is_some (atom_of b) ≡ true) × (is_some (atom_of c) ≡ true) × (is_some (atom_of d) ≡ true)
+    → ReadOffer v r n count a b c d
+offer_words s t u v r n count a b c d h atoms counted headed is told l m k first second third formed = record {
+  count_word = k.words.0 _ (m.words.0 _ (l.words.0 _ counted));
+  head = k.words.0 _ (m.words.0 _ (l.words.0 _ headed));
+  first = λ i. k.words.0 _ (m.words.0 _ (first (asked 1 i)));
+  second = λ i. k.words.0 _ (second (asked 2 i));
+  third = λ i. third (asked 3 i);
+  atoms = formed;
 }
+  where
+    asked : (j : ℕ) → j ≤ atoms_behind a → leb j atoms ≡ true
+    asked j i = le-leb j atoms (subst (λ (x : ℕ). j ≤ x) (ap atoms_in is ∙ sym told) i)
 
-pub read_five : (v v1 v2 v3 v4 v5 : View) (r : Row) (n count a b c d : ℕ) → v1 ≡ read_word r 1 count v → v2 ≡ read_word r (2 + 4 * n) a v1 → v3 ≡ read_word r (3 + 4 * n) b v2 → v4 ≡ read_word r (4 + 4 * n) c v3 → v5 ≡ read_word r (5 + 4 * n) d v4
-    → ReadFive v v5 r n count a b c d
-read_five v v1 v2 v3 v4 v5 r n count a b c d e1 e2 e3 e4 e5 =
-    subst (λ (w : View). ReadFive v w r n count a b c d)
-    (sym (e5 ∙ ap (read_word r (5 + 4 * n) d) (e4 ∙ ap (read_word r (4 + 4 * n) c) (e3 ∙ ap (read_word r (3 + 4 * n) b) (e2 ∙ ap (read_word r (2 + 4 * n) a) e1)))))
-    (read_in_turn v r n count a b c d)
-
-pub five_offer : (v w : View) (r : Row) (n count a b c d : ℕ) (o : Offer) → ReadFive v w r n count a b c d → n < unwrap_or (count_of count) 0 → offer_of a b c d ≡ Some o → HaveOffer w.seen.words r n o
-five_offer v w r n count a b c d o f below is = record {
+pub read_have : (s : Seen) (r : Row) (n count a b c d : ℕ) (o : Offer) → ReadOffer s r n count a b c d → n < unwrap_or (count_of count) 0 → offer_of a b c d ≡ Some o → HaveOffer s.words r n o
+read_have s r n count a b c d o f below is = record {
   count = count;
   counted = f.count_word;
   below = below;
   head = a;
   has_head = f.head;
   first = b;
-  has_first = λ k. f.first;
+  has_first = f.first;
   second = c;
-  has_second = λ k. f.second;
+  has_second = f.second;
   third = d;
-  has_third = λ k. f.third;
+  has_third = f.third;
   is = is;
 }
 
--- the atoms that were read are well-formed
-pub five_atoms : (threads rows : ℕ) (v w : View) (r : Row) (n count a b c d : ℕ) → Coherent threads rows w.seen → ReadFive v w r n count a b c d → (is_some (atom_of b) ≡ true) × (is_some (atom_of c) ≡ true) × (is_some (atom_of d) ≡ true)
-five_atoms threads rows v w r n count a b c d agree f = (
-  sym (atom_place 1 n b (omega arith) (omega arith)) ∙ agree.formed r (3 + 4 * n) b f.first,
-  sym (atom_place 2 n c (omega arith) (omega arith)) ∙ agree.formed r (4 + 4 * n) c f.second,
-  sym (atom_place 3 n d (omega arith) (omega arith)) ∙ agree.formed r (5 + 4 * n) d f.third,
-)
-
 -- the words that were read are an offer
-pub five_formed : (threads rows : ℕ) (v w : View) (r : Row) (n count a b c d : ℕ) → Coherent threads rows w.seen → ReadFive v w r n count a b c d → is_some (offer_of a b c d) ≡ true
-five_formed threads rows v w r n count a b c d agree f =
-    let atoms = five_atoms threads rows v w r n count a b c d agree f in
-    offer_formed a b c d (sym (head_place n a) ∙ agree.formed r (2 + 4 * n) a f.head) atoms.0 atoms.1 atoms.2
+pub read_formed : (threads rows : ℕ) (s : Seen) (r : Row) (n count a b c d : ℕ) → Coherent threads rows s → ReadOffer s r n count a b c d → is_some (offer_of a b c d) ≡ true
+read_formed threads rows s r n count a b c d agree f =
+    offer_formed a b c d (sym (head_place n a) ∙ agree.formed r (2 + 4 * n) a f.head) f.atoms.0 f.atoms.1 f.atoms.2
 
 pub if_some : {A : Type 0} (x : Option A) (P : A → Type 0) → ((a : A) → x ≡ Some a → P a) → IfSome x P
 if_some None P h = tt
@@ -243,8 +244,8 @@ seen_below threads rows v w r n count o e agree seen =
     same_count threads rows w.seen agree r n o (have_seen w.seen r n o seen) count (subst (λ (u : View). Has u.seen.words (r, 1, count)) (sym e) (inl refl))
 
 -- and that it is the offer that was read
-pub seen_same : (threads rows : ℕ) (v w : View) (r : Row) (n count a b c d : ℕ) (o : Offer) → ReadFive v w r n count a b c d → Coherent threads rows w.seen → SeesOffer w.seen r n o → offer_of a b c d ≡ Some o
-seen_same threads rows v w r n count a b c d o f agree seen = same_offer threads rows w.seen agree r n o (have_seen w.seen r n o seen) a b c d f.head f.first f.second f.third (five_atoms threads rows v w r n count a b c d agree f)
+pub seen_same : (threads rows : ℕ) (s : Seen) (r : Row) (n count a b c d : ℕ) (o : Offer) → ReadOffer s r n count a b c d → Coherent threads rows s → SeesOffer s r n o → offer_of a b c d ≡ Some o
+seen_same threads rows s r n count a b c d o f agree seen = same_offer threads rows s agree r n o (have_seen s r n o seen) a b c d f.head f.first f.second f.third f.atoms
 
 -- the words of an offer are well-formed
 pub offer_parts : (a b c d : ℕ) (o : Offer) → offer_of a b c d ≡ Some o → (is_some (head_of a) ≡ true) × (is_some (atom_of b) ≡ true) × (is_some (atom_of c) ≡ true) × (is_some (atom_of d) ≡ true)

@@ -1,6 +1,7 @@
 //! What a pass reads of a row by several looks.
 
-ghost use Rattle.std.specs.Prelude.{ℕ, ◌≡◌, ◌⊎◌, ◌+◌, ◌<◌, ◌≤◌, true, IfSome, IfNone, None, Some};
+ghost use Rattle.std.specs.Prelude.{ℕ, ◌≡◌, ◌⊎◌, ◌+◌, ◌*◌, ◌<◌, ◌≤◌, true, IfSome, IfNone, IsTrue, None, Some, is_some};
+ghost use Rattle.words.specs.Words.{atom_of};
 ghost use Rattle.words.specs.declared.Direction.{Direction};
 ghost use Rattle.words.specs.declared.Message.{Message};
 ghost use Rattle.words.specs.declared.Base.TheVariants.{Recv, Send};
@@ -8,7 +9,7 @@ ghost use Rattle.words.specs.declared.Offer.{Offer};
 ghost use Rattle.words.specs.declared.Row.{Row};
 ghost use Rattle.protocol.specs.Tables.{names};
 ghost use Rattle.cell.specs.Seats.{Sits, HasRow, StaysSeated};
-ghost use Rattle.cell.specs.Sight.{Has, HaveDirection, HaveOffer, HasSeenLast, IsBefore, IsKnownOpen, IsPartnerOf, IsResult, LackOffer, SawCommitted, SeesDirection, SeesOffer, Learns};
+ghost use Rattle.cell.specs.Sight.{Has, HaveDirection, HaveOffer, HasSeenLast, IsBefore, IsKnownOpen, IsPartnerOf, IsResult, LackOffer, SawCommitted, SeesDirection, SeesOffer, Learns, atoms_told};
 ghost use Rattle.cell.specs.Views.{at_stage};
 
 use crate::board::Board;
@@ -50,10 +51,29 @@ impl Board {
             return None;
         }
         let head = self.read(seat, row, 2 + 4 * n);
-        let first = self.read(seat, row, 3 + 4 * n);
-        let second = self.read(seat, row, 4 + 4 * n);
-        let third = self.read(seat, row, 5 + 4 * n);
+        let atoms = atoms_told(read_head(head).direction);
+        let first = self.read_atom(seat, row, n, 1, atoms >= 1);
+        let second = self.read_atom(seat, row, n, 2, atoms >= 2);
+        let third = self.read_atom(seat, row, n, 3, atoms >= 3);
         Some(read_offer(head, first, second, third))
+    }
+
+    /// The word of atom k, 1 to 3, of offer n of a row that was seen opened, where the offer has it: else 0,
+    /// and nothing is read.
+    fn read_atom(&self, seat: &mut Seat<u64, View>, row: Row, n: u8, k: u8, has: bool) -> u64
+        requires sits { Sits self.now seat.old × HasRow self.now row × Has seat.old.me.0.seen.opened row }
+        requires place { (n < 8) × (1 ≤ k) × (k < 4) }
+        ensures sits { StaysSeated self.now seat.old seat.new }
+        ensures stays { seat.new.me.0 ≡ at_stage seat.old.me.0.stage seat.new.me.0.seen seat.old.me.0 }
+        ensures learns { Learns (λ q. q ≡ row) seat.old.me.0.seen seat.new.me.0.seen }
+        ensures read { IsTrue has → Has seat.new.me.0.seen.words (row, 2 + k + 4 * n, result) }
+        ensures atom { is_some (atom_of result) ≡ true }
+    {
+        if has {
+            self.read(seat, row, 2 + k + 4 * n)
+        } else {
+            0
+        }
     }
 
     /// The direction of offer n of the row, where it is opened and has one.
@@ -167,5 +187,15 @@ impl Board {
             Base::Send(_, message) => Some(message),
             _ => None,
         }
+    }
+}
+
+/// How many atoms an offer in this direction has.
+fn atoms_told(direction: Direction) -> u8
+    ensures { result ≡ atoms_told direction }
+{
+    match direction {
+        Direction::Send { atoms, .. } | Direction::Always { atoms } => atoms,
+        Direction::Recv { .. } | Direction::OnNack(_) | Direction::Never => 0,
     }
 }

@@ -6,7 +6,7 @@ use Rattle.cell.specs.declared.view.View.{View}
 use Rattle.cell.specs.Sight.{Has}
 use Rattle.cell.specs.Views.{read_word}
 use Rattle.cell.proofs.Directions.{direction_below, direction_same}
-use Rattle.cell.proofs.Offers.{head_place}
+use Rattle.cell.proofs.Offers.{count_and_head, head_place}
 use Rattle.cell.proofs.board.Board.opened_direction.Goals as goal
 use Rattle.cell.proofs.board.Board.opened_direction.Goals.{After-read_head}
 
@@ -28,20 +28,13 @@ returns-then-n-count-clause-same c d seen =
     let bad : c.args.n < c.in_ok-count.count = subst (λ (x : Option ℕ). c.args.n < unwrap_or x 0) some below in
     absurd (omega (arith, c.if-n-count.true))
 
-headed : (c : After-read_head) → Has c.read-head.new.seat.me.0.seen.words (c.args.row, 2 + 4 * c.args.n, c.read-head.result)
-headed c = subst (λ (v : View). Has v.seen.words (c.args.row, 2 + 4 * c.args.n, c.read-head.result)) (sym c.read-head.ensures.read) (inl refl)
-
-counted_then : (c : After-read_head) → Has c.read-head.new.seat.me.0.seen.words (c.args.row, 1, c.read.result)
-counted_then c =
-    subst (λ (v : View). Has v.seen.words (c.args.row, 1, c.read.result))
-    (sym (c.read-head.ensures.read ∙ ap (read_word c.args.row (2 + 4 * c.args.n) c.read-head.result) c.read.ensures.read))
-    (inr (inl refl))
+words : (c : After-read_head) → Has c.read-head.new.seat.me.0.seen.words (c.args.row, 1, c.read.result) × Has c.read-head.new.seat.me.0.seen.words (c.args.row, 2 + 4 * c.args.n, c.read-head.result)
+words c = count_and_head _ _ _ c.args.row c.args.n _ _ c.read.ensures.read c.read-head.ensures.read
 
 pub read_head-requires : goal.read_head-requires
 read_head-requires c =
-    let has : Has c.read-head.new.seat.me.0.seen.words (c.args.row, 2 + 4 * c.args.n, c.read-head.result) =
-    subst (λ (v : View). Has v.seen.words (c.args.row, 2 + 4 * c.args.n, c.read-head.result)) (sym c.read-head.ensures.read) (inl refl) in
-    sym (head_place c.args.n c.read-head.result) ∙ c.read-head.ensures.sits.1.3.formed c.args.row (2 + 4 * c.args.n) c.read-head.result has
+    let has = count_and_head _ _ _ c.args.row c.args.n _ _ c.read.ensures.read c.read-head.ensures.read in
+    sym (head_place c.args.n c.read-head.result) ∙ c.read-head.ensures.sits.1.3.formed c.args.row (2 + 4 * c.args.n) c.read-head.result has.1
 
 pub returns-clause-some : goal.returns-clause-some
 returns-clause-some c =
@@ -49,10 +42,10 @@ returns-clause-some c =
       (search rules),
       record {
         count = c.read.result;
-        counted = counted_then c;
+        counted = (words c).0;
         below = subst (λ (x : Option ℕ). c.args.n < unwrap_or x 0) (sym some) (omega (arith, c.if-n-count.false));
         head = c.read-head.result;
-        has_head = headed c;
+        has_head = (words c).1;
         scopes = c.read_head.result.scopes;
         is = c.read_head.ensures;
       },
@@ -61,4 +54,4 @@ returns-clause-some c =
 pub returns-clause-same : goal.returns-clause-same
 returns-clause-same c d seen =
     ap (λ (x : Direction). Some x)
-    (direction_same _ _ c.read-head.new.seat.me.0.seen c.read-head.ensures.sits.1.3 c.args.row c.args.n d c.read-head.result c.read_head.result (headed c) c.read_head.ensures seen)
+    (direction_same _ _ c.read-head.new.seat.me.0.seen c.read-head.ensures.sits.1.3 c.args.row c.args.n d c.read-head.result c.read_head.result (words c).1 c.read_head.ensures seen)

@@ -1,9 +1,15 @@
-use Rattle.std.proofs.Common.{rules, ◌≡◌, ◌<◌, None, Some, ℕ, sym, ◌∙◌, subst, arith, unwrap_or, Option}
-use Rattle.words.specs.Words.{count_of}
-use Rattle.cell.specs.Sight.{Has}
-use Rattle.cell.proofs.Offers.{ReadFive, read_five, five_offer, five_formed, seen_below, seen_same}
+use Rattle.std.proofs.Common.{rules, ◌≡◌, ◌+◌, ◌*◌, ◌<◌, ◌≤◌, None, Some, ℕ, is_some, true, sym, ap, inl, inr, ◌∙◌, subst, arith, refl, unwrap_or, Option}
+use Rattle.words.specs.Words.{atom_of, count_of, head_of}
+use Rattle.words.specs.declared.Head.{Head}
+use Rattle.words.specs.declared.Row.{Row}
+use Rattle.cell.specs.declared.view.View.{View}
+use Rattle.cell.specs.Sight.{Has, Learns, atoms_behind, atoms_in, atoms_told}
+use Rattle.cell.specs.Views.{read_word}
+use Rattle.cell.proofs.Learning.{learns_then}
+use Rattle.cell.proofs.Meeting.{few}
+use Rattle.cell.proofs.Offers.{ReadOffer, count_and_head, head_place, offer_words, read_formed, read_have, seen_below, seen_same}
 use Rattle.cell.proofs.board.Board.opened_offer.Goals as goal
-use Rattle.cell.proofs.board.Board.opened_offer.Goals.{After-read_offer}
+use Rattle.cell.proofs.board.Board.opened_offer.Goals.{After-read_atom-third, After-read_offer}
 
 pub returns-in_err-count-clause-same : goal.returns-in_err-count-clause-same
 returns-in_err-count-clause-same c o seen =
@@ -19,25 +25,33 @@ returns-then-n-count-clause-same c o seen =
     let bad : c.args.n < c.in_ok-count.count = subst (λ (x : Option ℕ). c.args.n < unwrap_or x 0) some below in
     absurd (omega (arith, c.if-n-count.true))
 
-five : (c : After-read_offer) → ReadFive c.args.seat.now.me.0 c.read-third.new.seat.me.0 c.args.row c.args.n c.read.result c.read-head.result c.read-first.result c.read-second.result c.read-third.result
-five c = read_five c.args.seat.now.me.0 c.read.new.seat.me.0 c.read-head.new.seat.me.0 c.read-first.new.seat.me.0 c.read-second.new.seat.me.0 c.read-third.new.seat.me.0 c.args.row c.args.n _ _ _ _ _ c.read.ensures.read c.read-head.ensures.read c.read-first.ensures.read c.read-second.ensures.read c.read-third.ensures.read
+pub read_head-requires : goal.read_head-requires
+read_head-requires c =
+    let has = count_and_head _ _ _ c.args.row c.args.n _ _ c.read.ensures.read c.read-head.ensures.read in
+    sym (head_place c.args.n c.read-head.result) ∙ c.read-head.ensures.sits.1.3.formed c.args.row (2 + 4 * c.args.n) c.read-head.result has.1
+
+words : (c : After-read_atom-third) → ReadOffer c.read_atom-third.new.seat.me.0.seen c.args.row c.args.n c.read.result c.read-head.result c.read_atom-first.result c.read_atom-second.result c.read_atom-third.result
+words c =
+    let has = count_and_head _ _ _ c.args.row c.args.n _ _ c.read.ensures.read c.read-head.ensures.read in
+    offer_words c.read-head.new.seat.me.0.seen c.read_atom-first.new.seat.me.0.seen c.read_atom-second.new.seat.me.0.seen c.read_atom-third.new.seat.me.0.seen c.args.row c.args.n _ _ _ _ _ c.read_head.result c.atoms_told-atoms.result
+    has.0 has.1 c.read_head.ensures c.atoms_told-atoms.ensures
+    c.read_atom-first.ensures.learns c.read_atom-second.ensures.learns c.read_atom-third.ensures.learns
+    c.read_atom-first.ensures.read c.read_atom-second.ensures.read c.read_atom-third.ensures.read
+    (c.read_atom-first.ensures.atom, c.read_atom-second.ensures.atom, c.read_atom-third.ensures.atom)
+
+pub read_offer-requires : goal.read_offer-requires
+read_offer-requires c = read_formed _ _ c.read_atom-third.new.seat.me.0.seen c.args.row c.args.n _ _ _ _ _ c.read_atom-third.ensures.sits.1.3 (words c)
 
 below_count : (c : After-read_offer) → c.args.n < unwrap_or (count_of c.read.result) 0
 below_count c =
     let some : count_of c.read.result ≡ Some c.in_ok-count.count = (search rules) in
     subst (λ (x : Option ℕ). c.args.n < unwrap_or x 0) (sym some) (omega (arith, c.if-n-count.false))
 
-is_opened : (c : After-read_offer) → Has c.read-third.new.seat.me.0.seen.opened c.args.row
+is_opened : (c : After-read_offer) → Has c.read_atom-third.new.seat.me.0.seen.opened c.args.row
 is_opened c = (search rules)
 
-pub read_offer-requires : goal.read_offer-requires
-read_offer-requires c =
-    five_formed _ _ _ c.read-third.new.seat.me.0 c.args.row c.args.n c.read.result c.read-head.result c.read-first.result c.read-second.result c.read-third.result c.read-third.ensures.sits.1.3
-    (read_five c.args.seat.now.me.0 c.read.new.seat.me.0 c.read-head.new.seat.me.0 c.read-first.new.seat.me.0 c.read-second.new.seat.me.0 c.read-third.new.seat.me.0 c.args.row c.args.n _ _ _ _ _ c.read.ensures.read c.read-head.ensures.read c.read-first.ensures.read c.read-second.ensures.read c.read-third.ensures.read)
-
 pub returns-clause-some : goal.returns-clause-some
-returns-clause-some c = (is_opened c, five_offer _ _ c.args.row c.args.n _ _ _ _ _ c.read_offer.result (five c) (below_count c) c.read_offer.ensures)
+returns-clause-some c = (is_opened c, read_have _ c.args.row c.args.n _ _ _ _ _ c.read_offer.result (words c.before) (below_count c) c.read_offer.ensures)
 
 pub returns-clause-same : goal.returns-clause-same
-returns-clause-same c o seen =
-    sym c.read_offer.ensures ∙ seen_same _ _ c.args.seat.now.me.0 c.read-third.new.seat.me.0 c.args.row c.args.n _ _ _ _ _ o (five c) c.read-third.ensures.sits.1.3 seen
+returns-clause-same c o seen = sym c.read_offer.ensures ∙ seen_same _ _ c.read_atom-third.new.seat.me.0.seen c.args.row c.args.n _ _ _ _ _ o (words c.before) c.read_atom-third.ensures.sits.1.3 seen
