@@ -4,7 +4,8 @@ use Rattle.std.proofs.lemmas.Bool.{eqb-true, and_parts, le-leb, true≢false}
 use Rattle.std.proofs.lemmas.List.{append_assoc}
 use Rattle.std.proofs.lemmas.Option.{slice_get_within}
 use Rattle.std.proofs.Math.Nat.{eq-or-lt_of_le}
-use Rattle.words.specs.Words.{count_of, offer_of, is_word_for}
+use Rattle.words.specs.Words.{count_of, head_of, offer_of, is_word_for}
+use Rattle.words.specs.declared.Head.{Head}
 use Rattle.words.specs.declared.Offer.{Offer}
 use Rattle.protocol.proofs.Linking.{some_inj}
 use Rattle.words.specs.declared.Row.{Row}
@@ -15,7 +16,7 @@ use Rattle.protocol.proofs.RowLemmas.{row_eq-true}
 use Rattle.cell.specs.declared.view.Seen.{Seen}
 use Rattle.cell.specs.Attempts.{OnlyDrafts}
 use Rattle.cell.proofs.Hearing.{has_either}
-use Rattle.cell.specs.Sight.{Has, HaveOffer, IsDraft, without, see_draft, Redrafts, IsPlaceOf}
+use Rattle.cell.specs.Sight.{Has, HasDrafted, HaveOffer, IsDraft, without, see_draft, Redrafts, IsPlaceOf, atoms_behind, atoms_in, atoms_told}
 
 -- what is left after a word of (r, p) is gone, and what was there before
 left_one : (r : Row) (p : ℕ) (d : Row × ℕ × ℕ) (ds : List (Row × ℕ × ℕ)) (q : Row) (o x : ℕ) (b : Bool) → (row_eq d.0 r && eqb d.1 p) ≡ b → ¬ ((q ≡ r) × (o ≡ p)) → (Has ds (q, o, x) → Has (without r p ds) (q, o, x))
@@ -80,19 +81,50 @@ redrafts_then Where s t u f g = record {
   only = λ q o x out h. f.only q o x out (g.only q o x out h);
 }
 
--- the four words of offer n
-pub redrafts_offer : (r : Row) (n a b c d : ℕ) (s : Seen) → Redrafts (λ q p. (q ≡ r) × IsPlaceOf n p) s (see_draft r (5 + 4 * n) d (see_draft r (4 + 4 * n) c (see_draft r (3 + 4 * n) b (see_draft r (2 + 4 * n) a s))))
-redrafts_offer r n a b c d s =
-    let one : (p x : ℕ) (t : Seen) → IsPlaceOf n p → Redrafts (λ q o. (q ≡ r) × IsPlaceOf n o) t (see_draft r p x t) =
-    λ p x t here. redrafts_wider (λ q o. (q ≡ r) × (o ≡ p)) (λ q o. (q ≡ r) × IsPlaceOf n o) t (see_draft r p x t) (λ q o i. (i.0, subst (IsPlaceOf n) (sym i.1) here)) (redrafts_word r p x t) in
-    let first = see_draft r (2 + 4 * n) a s in
-    let second = see_draft r (3 + 4 * n) b first in
-    let third = see_draft r (4 + 4 * n) c second in
-    redrafts_then (λ q o. (q ≡ r) × IsPlaceOf n o) s third _
-    (redrafts_then (λ q o. (q ≡ r) × IsPlaceOf n o) s second third
-    (redrafts_then (λ q o. (q ≡ r) × IsPlaceOf n o) s first second (one (2 + 4 * n) a s (omega arith, omega arith)) (one (3 + 4 * n) b first (omega arith, omega arith)))
-    (one (4 + 4 * n) c second (omega arith, omega arith)))
-    (one (5 + 4 * n) d third (omega arith, omega arith))
+-- where nothing was drafted, nothing changed
+pub redrafts_nothing : (Where : Row → ℕ → Type 0) (s : Seen) → Redrafts Where s s
+redrafts_nothing Where s = record {
+  held = refl;
+  opened = refl;
+  words = refl;
+  joined = refl;
+  taken = refl;
+  bound = refl;
+  kept = λ q o x out h. h;
+  only = λ q o x out h. h;
+}
+
+-- THE WORDS OF ONE OFFER: the head and then the atoms, each at a place of its own
+abbrev pub DraftsAt : Row → ℕ → Seen → Seen → Type 0
+DraftsAt r p s t = Redrafts (λ q o. (q ≡ r) × (o ≡ p)) s t
+
+pub redrafts_offer : (r : Row) (n : ℕ) (s t u v w : Seen) → DraftsAt r (2 + 4 * n) s t → DraftsAt r (3 + 4 * n) t u → DraftsAt r (4 + 4 * n) u v → DraftsAt r (5 + 4 * n) v w → Redrafts (λ q p. (q ≡ r) × IsPlaceOf n p) s w
+redrafts_offer r n s t u v w f g h i =
+    let one : (p : ℕ) (x y : Seen) → IsPlaceOf n p → DraftsAt r p x y → Redrafts (λ q o. (q ≡ r) × IsPlaceOf n o) x y =
+    λ p x y here d. redrafts_wider (λ q o. (q ≡ r) × (o ≡ p)) (λ q o. (q ≡ r) × IsPlaceOf n o) x y (λ q o is. (is.0, subst (IsPlaceOf n) (sym is.1) here)) d in
+    redrafts_then (λ q o. (q ≡ r) × IsPlaceOf n o) s v w
+    (redrafts_then (λ q o. (q ≡ r) × IsPlaceOf n o) s u v
+    (redrafts_then (λ q o. (q ≡ r) × IsPlaceOf n o) s t u (one (2 + 4 * n) s t (omega arith, omega arith) f) (one (3 + 4 * n) t u (omega arith, omega arith) g))
+    (one (4 + 4 * n) u v (omega arith, omega arith) h))
+    (one (5 + 4 * n) v w (omega arith, omega arith) i)
+
+pub drafted_offer : (r : Row) (n : ℕ) (o : Offer) (t u v w : Seen) (a b c d atoms : ℕ) (h : Head) → DraftsAt r (3 + 4 * n) t u → DraftsAt r (4 + 4 * n) u v → DraftsAt r (5 + 4 * n) v w
+    → Has t.drafts (r, 2 + 4 * n, a) → (leb 1 atoms ≡ true → Has u.drafts (r, 3 + 4 * n, b)) → (leb 2 atoms ≡ true → Has v.drafts (r, 4 + 4 * n, c)) → (leb 3 atoms ≡ true → Has w.drafts (r, 5 + 4 * n, d))
+    → head_of a ≡ Some h → atoms ≡ atoms_told h.direction → offer_of a b c d ≡ Some o → HasDrafted w r n o
+drafted_offer r n o t u v w a b c d atoms h f g i head first second third is told reads = record {
+  head = a;
+  has_head = i.kept r (2 + 4 * n) a (λ e. let k = e.1 in omega arith) (g.kept r (2 + 4 * n) a (λ e. let k = e.1 in omega arith) (f.kept r (2 + 4 * n) a (λ e. let k = e.1 in omega arith) head));
+  first = b;
+  has_first = λ m. i.kept r (3 + 4 * n) b (λ e. let k = e.1 in omega arith) (g.kept r (3 + 4 * n) b (λ e. let k = e.1 in omega arith) (first (asked 1 m)));
+  second = c;
+  has_second = λ m. i.kept r (4 + 4 * n) c (λ e. let k = e.1 in omega arith) (second (asked 2 m));
+  third = d;
+  has_third = λ m. third (asked 3 m);
+  is = reads;
+}
+  where
+    asked : (j : ℕ) → j ≤ atoms_behind a → leb j atoms ≡ true
+    asked j m = le-leb j atoms (subst (λ (x : ℕ). j ≤ x) (ap atoms_in is ∙ sym told) m)
 
 -- WHAT A DRAFT DID
 pub one_draft : (r : Row) (p x : ℕ) (before : List Step) → OnlyDrafts r before (Draft r p x ∷ before)
@@ -109,11 +141,8 @@ drafts_then r before between after (first, e, f) (second, g, h) = (
   λ step has. ⊎_elim (λ (a : Has second step). h step a) (λ (b : Has first step). f step b) (has_either second first step has),
 )
 
-pub four_drafts : (r : Row) (p q o m a b c d : ℕ) (before : List Step) → OnlyDrafts r before (Draft r m d ∷ Draft r o c ∷ Draft r q b ∷ Draft r p a ∷ before)
-four_drafts r p q o m a b c d before =
-    drafts_then r before (Draft r o c ∷ Draft r q b ∷ Draft r p a ∷ before) _
-    (drafts_then r before (Draft r q b ∷ Draft r p a ∷ before) _ (drafts_then r before (Draft r p a ∷ before) _ (one_draft r p a before) (one_draft r q b _)) (one_draft r o c _))
-    (one_draft r m d _)
+pub no_drafts : (r : Row) (before : List Step) → OnlyDrafts r before before
+no_drafts r before = ([], refl, λ step h. absurd h)
 
 -- A LIST OF OFFERS, drafted one after another
 pub record IsDraftedTo (row : Row) (offers : List Offer) (n : ℕ) (s t : Seen) : Type 0 where
@@ -141,9 +170,9 @@ drafted_none row offers s = record {
 }
 
 pub drafted_more : (row : Row) (offers : List Offer) (n : ℕ) (s t u : Seen) (o : Offer) → length offers ≤ 8 → n < length offers → slice_get offers n ≡ Some o → IsDraftedTo row offers n s t → Redrafts (λ q p. (q ≡ row) × IsPlaceOf n p) t u
-    → ((a : ℕ) × (b : ℕ) × (c : ℕ) × (d : ℕ) × Has u.drafts (row, 2 + 4 * n, a) × Has u.drafts (row, 3 + 4 * n, b) × Has u.drafts (row, 4 + 4 * n, c) × Has u.drafts (row, 5 + 4 * n, d) × (offer_of a b c d ≡ Some o))
+    → HasDrafted u row n o
     → IsDraftedTo row offers (n + 1) s u
-drafted_more row offers n s t u o few below is so_far redraft (a, b, c, d, has_a, has_b, has_c, has_d, reads) = record {
+drafted_more row offers n s t u o few below is so_far redraft drafted = record {
   others = redrafts_then (λ q p. q ≡ row) s t u so_far.others (redrafts_wider (λ q p. (q ≡ row) × IsPlaceOf n p) (λ q p. q ≡ row) t u (λ q p h. h.0) redraft);
   count = count_now;
   each = λ k q low e. ⊎_elim
@@ -160,15 +189,15 @@ drafted_more row offers n s t u o few below is so_far redraft (a, b, c, d, has_a
       count = length offers;
       counted = count_now;
       below = counted (length offers) n few below;
-      head = a;
-      has_head = has_a;
-      first = b;
-      has_first = λ k. has_b;
-      second = c;
-      has_second = λ k. has_c;
-      third = d;
-      has_third = λ k. has_d;
-      is = reads;
+      head = drafted.head;
+      has_head = drafted.has_head;
+      first = drafted.first;
+      has_first = drafted.has_first;
+      second = drafted.second;
+      has_second = drafted.has_second;
+      third = drafted.third;
+      has_third = drafted.has_third;
+      is = drafted.is;
     }
 
     earlier : (k : ℕ) (q : Offer) → k < n → HaveOffer t.drafts row k q → HaveOffer u.drafts row k q

@@ -165,6 +165,18 @@ SeesNoOffer s r n = LackOffer s.words r n ⊎ (Has s.opened r × LackOffer s.dra
 abbrev pub IsCounted : Seen → Row → Type 0
 IsCounted s r = (count : ℕ) × Has s.drafts (r, 1, count)
 
+-- the words of offer n are drafted for the row: its head, and as many atoms as it has
+pub record HasDrafted (s : Seen) (r : Row) (n : ℕ) (offer : Offer) : Type 0 where
+  pub head : ℕ
+  pub has_head : Has s.drafts (r, 2 + 4 * n, head)
+  pub first : ℕ
+  pub has_first : 1 ≤ atoms_behind head → Has s.drafts (r, 3 + 4 * n, first)
+  pub second : ℕ
+  pub has_second : 2 ≤ atoms_behind head → Has s.drafts (r, 4 + 4 * n, second)
+  pub third : ℕ
+  pub has_third : 3 ≤ atoms_behind head → Has s.drafts (r, 5 + 4 * n, third)
+  pub is : offer_of head first second third ≡ Some offer
+
 -- the offers of the list are drafted for the row, and no more
 abbrev pub IsDraft : Seen → Row → List Offer → Type 0
 IsDraft s r offers = Has s.drafts (r, 1, length offers) × ((n : ℕ) (offer : Offer) → slice_get offers n ≡ Some offer → HaveOffer s.drafts r n offer)

@@ -1,17 +1,19 @@
 //! The offers of a row, written word by word before it is opened.
 
-ghost use Rattle.std.specs.Prelude.{◌≡◌, ◌+◌, ◌*◌, ◌<◌, ◌≤◌, ℕ, Some, length, slice_get};
-ghost use Rattle.words.specs.Words.{IsOfferInRange, offer_of};
+ghost use Rattle.std.specs.Prelude.{◌≡◌, ◌+◌, ◌*◌, ◌<◌, ◌≤◌, IsTrue, is_some, true};
+ghost use Rattle.words.specs.Words.{IsOfferInRange, atom_of};
 ghost use Rattle.words.specs.declared.Offer.{Offer};
 ghost use Rattle.cell.specs.Attempts.{OnlyDrafts};
 ghost use Rattle.cell.specs.Seats.{Sits, HasRow, StaysSeated};
-ghost use Rattle.cell.specs.Sight.{AreOffers, Has, IsDraft, IsPlaceOf, Redrafts};
+ghost use Rattle.cell.specs.Sight.{AreOffers, Has, HasDrafted, IsDraft, IsPlaceOf, Redrafts};
 ghost use Rattle.cell.specs.Views.{worked};
 
 use crate::board::Board;
+use crate::reading::atoms_told;
 use crate::view::View;
 use atomic_table::Seat;
 use protocol::{Offer, Row, pack_count, pack_offer};
+use words::read_head;
 
 impl Board {
     /// Writes a list of at most 8 offers for a held row that is not opened yet, in place of what was
@@ -32,7 +34,7 @@ impl Board {
         }
     }
 
-    /// Writes the words of offer n.
+    /// Writes the words of offer n: its head, and as many atoms as it has.
     fn draft_offer(&self, seat: &mut Seat<u64, View>, row: Row, n: u8, offer: Offer)
         requires sits { Sits self.now seat.old × HasRow self.now row }
         requires held { Has seat.old.me.0.seen.held row × (¬ Has seat.old.me.0.seen.opened row) }
@@ -41,12 +43,29 @@ impl Board {
         ensures stays { seat.new.me.0 ≡ worked seat.old.me.0.stage seat.new.me.0.seen seat.new.me.0.made seat.old.me.0 }
         ensures made { OnlyDrafts row seat.old.me.0.made seat.new.me.0.made }
         ensures others { Redrafts (λ q p. (q ≡ row) × IsPlaceOf n p) seat.old.me.0.seen seat.new.me.0.seen }
-        ensures drafted { (a b c d : ℕ) × Has seat.new.me.0.seen.drafts (row, 2 + 4 * n, a) × Has seat.new.me.0.seen.drafts (row, 3 + 4 * n, b) × Has seat.new.me.0.seen.drafts (row, 4 + 4 * n, c) × Has seat.new.me.0.seen.drafts (row, 5 + 4 * n, d) × (offer_of a b c d ≡ Some offer) }
+        ensures drafted { HasDrafted seat.new.me.0.seen row n offer }
     {
         let [head, first, second, third] = pack_offer(offer);
+        let atoms = atoms_told(read_head(head).direction);
         self.draft(seat, row, 2 + 4 * n, head);
-        self.draft(seat, row, 3 + 4 * n, first);
-        self.draft(seat, row, 4 + 4 * n, second);
-        self.draft(seat, row, 5 + 4 * n, third);
+        self.draft_atom(seat, row, n, 1, first, atoms >= 1);
+        self.draft_atom(seat, row, n, 2, second, atoms >= 2);
+        self.draft_atom(seat, row, n, 3, third, atoms >= 3);
+    }
+
+    /// Writes atom k, 1 to 3, of offer n, where the offer has it.
+    fn draft_atom(&self, seat: &mut Seat<u64, View>, row: Row, n: u8, k: u8, word: u64, has: bool)
+        requires sits { Sits self.now seat.old × HasRow self.now row }
+        requires held { Has seat.old.me.0.seen.held row × (¬ Has seat.old.me.0.seen.opened row) }
+        requires atom { (n < 8) × (1 ≤ k) × (k < 4) × (is_some (atom_of word) ≡ true) }
+        ensures sits { StaysSeated self.now seat.old seat.new }
+        ensures stays { seat.new.me.0 ≡ worked seat.old.me.0.stage seat.new.me.0.seen seat.new.me.0.made seat.old.me.0 }
+        ensures made { OnlyDrafts row seat.old.me.0.made seat.new.me.0.made }
+        ensures others { Redrafts (λ q p. (q ≡ row) × (p ≡ 2 + k + 4 * n)) seat.old.me.0.seen seat.new.me.0.seen }
+        ensures drafted { IsTrue has → Has seat.new.me.0.seen.drafts (row, 2 + k + 4 * n, word) }
+    {
+        if has {
+            self.draft(seat, row, 2 + k + 4 * n, word);
+        }
     }
 }

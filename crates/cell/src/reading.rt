@@ -191,7 +191,7 @@ impl Board {
 }
 
 /// How many atoms an offer in this direction has.
-fn atoms_told(direction: Direction) -> u8
+pub(crate) fn atoms_told(direction: Direction) -> u8
     ensures { result ≡ atoms_told direction }
 {
     match direction {

@@ -1,4 +1,4 @@
-use Rattle.std.proofs.Common.{rules, ◌≡◌, ◌+◌, ◌*◌, ◌<◌, None, Some, ℕ, sym, inl, inr, ap, ◌∙◌, subst, arith, refl, unwrap_or, Option}
+use Rattle.std.proofs.Common.{rules, ◌≡◌, ◌+◌, ◌*◌, ◌<◌, None, Some, ℕ, sym, inl, ap, ◌∙◌, subst, arith, refl, unwrap_or, Option}
 use Rattle.words.specs.Words.{count_of}
 use Rattle.words.specs.declared.Direction.{Direction}
 use Rattle.words.specs.declared.Row.{Row}

@@ -1,12 +1,6 @@
-use Rattle.std.proofs.Common.{rules, ◌≡◌, ◌+◌, ◌*◌, ◌<◌, ◌≤◌, None, Some, ℕ, is_some, true, sym, ap, inl, inr, ◌∙◌, subst, arith, refl, unwrap_or, Option}
-use Rattle.words.specs.Words.{atom_of, count_of, head_of}
-use Rattle.words.specs.declared.Head.{Head}
-use Rattle.words.specs.declared.Row.{Row}
-use Rattle.cell.specs.declared.view.View.{View}
-use Rattle.cell.specs.Sight.{Has, Learns, atoms_behind, atoms_in, atoms_told}
-use Rattle.cell.specs.Views.{read_word}
-use Rattle.cell.proofs.Learning.{learns_then}
-use Rattle.cell.proofs.Meeting.{few}
+use Rattle.std.proofs.Common.{rules, ◌≡◌, ◌+◌, ◌*◌, ◌<◌, None, Some, ℕ, sym, ◌∙◌, subst, arith, unwrap_or, Option}
+use Rattle.words.specs.Words.{count_of}
+use Rattle.cell.specs.Sight.{Has}
 use Rattle.cell.proofs.Offers.{ReadOffer, count_and_head, head_place, offer_words, read_formed, read_have, seen_below, seen_same}
 use Rattle.cell.proofs.board.Board.opened_offer.Goals as goal
 use Rattle.cell.proofs.board.Board.opened_offer.Goals.{After-read_atom-third, After-read_offer}
