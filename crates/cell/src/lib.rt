@@ -44,6 +44,7 @@ pub use crate::granting::Grant;
 pub use crate::view::Seen;
 use crate::view::{Shape, View};
 use atomic_table::TableRule;
+pub use protocol::NACKS;
 
 /// What the rule of the table, the very one that it has (`holds` of `Law`), says of any moment between
 /// two atomic steps, whatever threads call:

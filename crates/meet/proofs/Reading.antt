@@ -1,6 +1,7 @@
 -- The directions of a row's offers are read one after another into a list.
-use Rattle.std.proofs.Common.{◌≡◌, ◌≢◌, ◌+◌, ◌<◌, ◌≤◌, ℕ, List, inl, inr, sym, subst, ap, ◌∙◌, get_or, set, length, length-set, arith}
+use Rattle.std.proofs.Common.{refl, Bool, true, false, ◌≡◌, ◌≢◌, ◌+◌, ◌<◌, ◌≤◌, ℕ, List, inl, inr, sym, subst, ap, ◌∙◌, get_or, set, length, length-set, arith}
 use Rattle.std.specs.Prelude.{Option, Some, None, unwrap_or}
+use Rattle.std.proofs.lemmas.Bool.{ltb-false, ltb-true}
 use Rattle.std.proofs.lemmas.Bool.Decides.{eqb_tells}
 use Rattle.std.proofs.lemmas.List.{get_or-set_same, get_or-set_other}
 use Rattle.words.specs.Words.{count_of}
@@ -11,7 +12,7 @@ use Rattle.cell.specs.Sight.{Coherent, HaveDirection, LackOffer, SeesDirection}
 use Rattle.cell.specs.Nacks.{CanStandAlone}
 use Rattle.meet.specs.declared.meet.Found.{Found}
 use Rattle.meet.specs.declared.meet.Found.TheVariants.{Met, Alone, Already, Left}
-use Rattle.meet.specs.Searches.{Finds, Grows, Leaves, Lists}
+use Rattle.meet.specs.Searches.{Finds, Grows, LacksAt, Leaves, Lists}
 use Rattle.cell.proofs.Directions.{sees_direction}
 use Rattle.cell.proofs.Meeting.{few}
 use Rattle.meet.proofs.Growing.{saw_more, seen_more}
@@ -21,6 +22,7 @@ pub record Reads (s t : Seen) (r : Row) (directions : List (Option Direction)) (
   pub sized : length directions ≡ 8
   pub seen : (k : ℕ) (d : Direction) → Lists directions k d → SeesDirection t r k d
   pub whole : (k : ℕ) (d : Direction) → k < n → SeesDirection s r k d → Lists directions k d
+  pub filled : (k : ℕ) → k < n → ¬ LacksAt directions k
 
 direction_few : (s : Seen) (r : Row) (n : ℕ) (d : Direction) → SeesDirection s r n d → n < 8
 direction_few s r n d (inl h) = few h.count n h.below
@@ -42,6 +44,17 @@ none_behind threads rows s r n k d agree lack (inr have) =
 pub reads_ended : (s t : Seen) (r : Row) (directions : List (Option Direction)) (n : ℕ) → 8 ≤ n → Reads s t r directions n → (k : ℕ) (d : Direction) → SeesDirection s r k d → Lists directions k d
 reads_ended s t r directions n all reads k d sees = reads.whole k d (let few = direction_few s r k d sees in omega arith) sees
 
+-- where the list ends, the row has no further offers
+pub reads_short : (s t : Seen) (r : Row) (directions : List (Option Direction)) (n : ℕ) → Reads s t r directions n → ((k : ℕ) (d : Direction) → SeesDirection s r k d → k < n) → (m : ℕ) → LacksAt directions m → (k : ℕ) (d : Direction) → SeesDirection s r k d → k < m
+reads_short s t r directions n reads few m lacks k d sees = by_case (Rattle.std.proofs.Math.Dec.ltb m n) refl
+  where
+    by_case : (b : Bool) → Rattle.std.proofs.Math.Dec.ltb m n ≡ b → k < m
+    by_case true e = absurd (reads.filled m (ltb-true m n e) lacks)
+    by_case false e = let past = ltb-false m n e in let low = few k d sees in omega arith
+
+pub few_directions : (s : Seen) (r : Row) (n : ℕ) → 8 ≤ n → (k : ℕ) (d : Direction) → SeesDirection s r k d → k < n
+few_directions s r n all k d sees = let few = direction_few s r k d sees in omega arith
+
 -- the direction of offer n was read in u, and is put at place n
 pub reads_more : (s t u : Seen) (r : Row) (directions : List (Option Direction)) (n at : ℕ) (read : Direction) → Reads s t r directions n → at ≡ n → n < 8 → Grows s t → Grows t u
     → HaveDirection u.words r n read → ((d : Direction) → SeesDirection t r n d → Some read ≡ Some d) → Reads s u r (set directions at (Some read)) (n + 1)
@@ -49,6 +62,7 @@ reads_more s t u r directions n at read reads same_place low before after have s
   sized = length-set directions at (Some read) ∙ reads.sized;
   seen = seen;
   whole = whole;
+  filled = filled;
 }
   where
     inside : at < length directions
@@ -66,6 +80,12 @@ reads_more s t u r directions n at read reads same_place low before after have s
       | inr other ↦ seen_more t u r k d after (reads.seen k d (sym (get_or-set_other directions at k (Some read) None other.1) ∙ e))
     ]
 
+    filled : (k : ℕ) → k < n + 1 → ¬ LacksAt (set directions at (Some read)) k
+    filled k low_k lacks = elim (eqb_tells k at) [
+      | inl is ↦ (let bad : Some read ≡ None = sym at_n ∙ subst (λ (x : ℕ). LacksAt (set directions at (Some read)) x) is.1 lacks in cc)
+      | inr other ↦ reads.filled k (let apart = other.1 in omega arith) (sym (get_or-set_other directions at k (Some read) None other.1) ∙ lacks)
+    ]
+
     whole : (k : ℕ) (d : Direction) → k < n + 1 → SeesDirection s r k d → Lists (set directions at (Some read)) k d
     whole k d low_k sees = elim (eqb_tells k at) [
       | inl is ↦ subst (λ (x : ℕ). Lists (set directions at (Some read)) x d) (sym is.1) (at_n ∙ same d (seen_more s t r n d before (subst (λ (x : ℕ). SeesDirection s r x d) (is.1 ∙ same_place) sees)))
@@ -79,11 +99,15 @@ stands_to s r n before last k low = elim (eqb_tells k n) [
   | inr other ↦ before k (let apart = other.1 in omega arith)
 ]
 
--- an offer whose direction is not listed was not seen
-pub unlisted : (s : Seen) (r : Row) (directions : List (Option Direction)) (n at : ℕ) → at ≡ n → ((k : ℕ) (d : Direction) → SeesDirection s r k d → Lists directions k d) → ((d : Direction) → get_or directions at None ≢ Some d) → ¬ CanStandAlone s r n
-unlisted s r directions n at same whole none (o, stamp, sees, caused) =
-    let told = sees_direction s r n o sees in
-    none told.0 (subst (λ (k : ℕ). Lists directions k told.0) (sym same) (whole n told.0 told.1))
+pub none_listed : (x : Option Direction) → ((d : Direction) → x ≢ Some d) → x ≡ None
+none_listed None none = refl
+none_listed (Some d) none = absurd (none d refl)
+
+-- and there are no others
+pub stands_nowhere : (s : Seen) (r : Row) (n : ℕ) → ((k : ℕ) (d : Direction) → SeesDirection s r k d → k < n) → ((k : ℕ) → k < n → ¬ CanStandAlone s r k) → (k : ℕ) → ¬ CanStandAlone s r k
+stands_nowhere s r n few before k can =
+    let told = sees_direction s r k can.0 can.2 in
+    before k (few k told.0 told.1) can
 
 -- the row is left, and had not been seen to stand alone
 pub found_left : (s t u : Seen) (r : Row) (found : Found) → Grows s t → Leaves t u r found → ((n : ℕ) → ¬ CanStandAlone s r n) → Finds s u r found

@@ -2,7 +2,7 @@ use Rattle.std.proofs.Common.{rules, ◌≡◌, None, sym, ◌∙◌}
 use Rattle.cell.specs.Sight.{LackOffer}
 use Rattle.cell.proofs.Meeting.{from_none}
 use Rattle.meet.proofs.Growing.{grows_by, grows_then, seen_more}
-use Rattle.meet.proofs.Reading.{none_behind, reads_ended, reads_more}
+use Rattle.meet.proofs.Reading.{few_directions, none_behind, reads_ended, reads_more, reads_short}
 use Rattle.meet.proofs.meet.own_directions.Goals as goal
 
 -- the row has no further offer
@@ -34,3 +34,19 @@ loop-n-preserved c =
 
 pub returns-clause-whole : goal.returns-clause-whole
 returns-clause-whole c = reads_ended c.args.pass.now.seen c.loop-n.pass.seen c.args.row c.loop-n.directions c.loop-n.n c.loop-n-test.false c.loop-n.invariant.2
+
+pub returns-in_default-clause-short : goal.returns-in_default-clause-short
+returns-in_default-clause-short c =
+    let s = c.args.pass.now.seen in
+    let t = c.loop-n.pass.seen in
+    let u = c.direction.new.pass.seen in
+    let grows = grows_then s t u c.loop-n.invariant.1 (grows_by _ _ t u c.direction.ensures.learns) in
+    let none : c.direction.result ≡ None = (search rules) in
+    let lacks = from_none c.direction.result (LackOffer u.words c.args.row c.loop-n.n) c.direction.ensures.none none in
+    reads_short s t c.args.row c.loop-n.directions c.loop-n.n c.loop-n.invariant.2
+    (λ k d sees. none_behind _ _ u c.args.row c.loop-n.n k d c.direction.ensures.here.4 lacks (seen_more s u c.args.row k d grows sees))
+
+pub returns-clause-short : goal.returns-clause-short
+returns-clause-short c =
+    let s = c.args.pass.now.seen in
+    reads_short s c.loop-n.pass.seen c.args.row c.loop-n.directions c.loop-n.n c.loop-n.invariant.2 (few_directions s c.args.row c.loop-n.n c.loop-n-test.false)

@@ -1,10 +1,9 @@
-use Rattle.std.proofs.Common.{ℕ, arith, sym, subst}
-use Rattle.cell.specs.Calls.{IsPassOf, PassView}
-use Rattle.meet.specs.Searches.{Grows, Lists}
-use Rattle.meet.proofs.Growing.{grows_then, offer_few, seen_more, stands_more}
-use Rattle.meet.proofs.Reading.{found_left, stands_to, unlisted}
+use Rattle.std.proofs.Common.{ℕ, subst}
+use Rattle.std.specs.Prelude.{None, get_or}
+use Rattle.meet.specs.Searches.{LacksAt, Lists}
+use Rattle.meet.proofs.Growing.{grows_then, seen_more, stands_more}
+use Rattle.meet.proofs.Reading.{few_directions, found_left, none_listed, stands_nowhere, stands_to}
 use Rattle.meet.proofs.meet.Meet.search.Goals as goal
-use Rattle.meet.proofs.meet.Meet.search.Goals.{in-Some+in_default-look, in_default}
 
 pub look-requires-clause-read : goal.look-requires-clause-read
 look-requires-clause-read g c =
@@ -16,24 +15,25 @@ loop-n-preserved g c =
     let s = c.args.pass.now.seen in
     let t = c.own_directions-directions.new.pass.seen in
     let u = c.loop-n.pass.seen in
-    let grows = grows_then s t u c.own_directions-directions.ensures.grows c.loop-n.invariant.1 in
-    elim c.match-directions-from.branch [
-      | in-Some+in_default-look w ↦ (
-        subst (λ (p : PassView). IsPassOf c.args.cells.now p) (sym w.pass-is) w.look.ensures.here,
-        subst (λ (p : PassView). Grows t p.seen) (sym w.pass-is) (grows_then t u w.look.new.pass.seen c.loop-n.invariant.1 w.look.ensures.grows),
-        stands_to s c.args.row c.loop-n.n c.loop-n.invariant.2 (λ can. w.in_default-look.ensures.none (stands_more s u c.args.row c.loop-n.n grows can)),
-      )
-      | in_default w ↦ (
-        subst (λ (p : PassView). IsPassOf c.args.cells.now p) (sym w.pass-is) c.loop-n.invariant.0,
-        subst (λ (p : PassView). Grows t p.seen) (sym w.pass-is) c.loop-n.invariant.1,
-        stands_to s c.args.row c.loop-n.n c.loop-n.invariant.2
-            (unlisted s c.args.row c.own_directions-directions.result c.loop-n.n c.from.result c.from.ensures c.own_directions-directions.ensures.whole w.in_default.not-Some),
-      )
-    ]
+    let grows = grows_then s t u c.own_directions-directions.ensures.grows c.loop-n.invariant.1 in (
+      c.look.ensures.here,
+      grows_then t u c.look.new.pass.seen c.loop-n.invariant.1 c.look.ensures.grows,
+      stands_to s c.args.row c.loop-n.n c.loop-n.invariant.2 (λ can. c.in_default-look.ensures.none (stands_more s u c.args.row c.loop-n.n grows can)),
+    )
+
+-- the row has no further offers
+pub returns-in_default-clause-found : goal.returns-in_default-clause-found
+returns-in_default-clause-found g c =
+    let s = c.args.pass.now.seen in
+    let u = c.loop-n.pass.seen in
+    let lacks : LacksAt c.own_directions-directions.result c.loop-n.n =
+    subst (LacksAt c.own_directions-directions.result) c.from.ensures (none_listed (get_or c.own_directions-directions.result c.from.result None) c.in_default.not-Some) in
+    found_left s u c.leave.new.pass.seen c.args.row c.leave.result (grows_then s c.own_directions-directions.new.pass.seen u c.own_directions-directions.ensures.grows c.loop-n.invariant.1) c.leave.ensures.left
+    (stands_nowhere s c.args.row c.loop-n.n (c.own_directions-directions.ensures.short c.loop-n.n lacks) c.loop-n.invariant.2)
 
 pub returns-clause-found : goal.returns-clause-found
 returns-clause-found g c =
     let s = c.args.pass.now.seen in
     let u = c.loop-n.pass.seen in
-    found_left s u c.leave.new.pass.seen c.args.row c.leave.result (grows_then s c.own_directions-directions.new.pass.seen u c.own_directions-directions.ensures.grows c.loop-n.invariant.1) c.leave.ensures.left
-    (λ n h. c.loop-n.invariant.2 n (let few = offer_few s c.args.row n h.0 h.2 in omega (arith, c.loop-n-test.false)) h)
+    found_left s u c.leave-2.new.pass.seen c.args.row c.leave-2.result (grows_then s c.own_directions-directions.new.pass.seen u c.own_directions-directions.ensures.grows c.loop-n.invariant.1) c.leave-2.ensures.left
+    (stands_nowhere s c.args.row c.loop-n.n (few_directions s c.args.row c.loop-n.n c.loop-n-test.false) c.loop-n.invariant.2)
