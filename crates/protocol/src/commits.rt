@@ -147,8 +147,8 @@ impl Board {
         None
     }
 
-    /// All commits, thread by thread. There is room at once for half the rows, since a pair has two:
-    /// only where more stand alone the list grows, and then once.
+    /// All commits, thread by thread. There is room at once for half as many as there are rows, since
+    /// a pair has two: only where many stand alone the list grows.
     pub(crate) fn commits(&self) -> Result<Vec<Commit>, AllocError>
         requires { IsLawful (ledger_of (table_of self.now)) }
         ensures { IfOk result (λ cs. cs.items ≡ commits_of (all_rows self.now.threads self.now.rows) (joined_at (table_of self.now)) (offer_at (table_of self.now))) }
