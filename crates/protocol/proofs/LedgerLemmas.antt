@@ -40,7 +40,7 @@ row_in_thread t (suc g) h d b =
     get_or_append_left (rows_below t g) _ d h (omega (arith, n)) ∙ row_in_thread t g h d (omega (arith, n)))
     (cases_eq h g)
 
-pub row_at_number : (t g : ℕ) (r : Row) (d : Row) → r.thread < t → r.sync < g → get_or (all_rows t g) (r.thread * g + r.sync) d ≡ r
+row_at_number : (t g : ℕ) (r : Row) (d : Row) → r.thread < t → r.sync < g → get_or (all_rows t g) (r.thread * g + r.sync) d ≡ r
 row_at_number zero g r d h k = absurd (omega arith)
 row_at_number (suc t) g r d h k =
     let len = length_all t g in
@@ -56,7 +56,7 @@ row_at_number (suc t) g r d h k =
     get_or_append_left (all_rows t g) (rows_below t g) d (r.thread * g + r.sync) (omega arith) ∙ row_at_number t g r d (omega (arith, n)) k)
     (cases_eq r.thread t)
 
-pub number_inside : (t g : ℕ) (r : Row) → r.thread < t → r.sync < g → r.thread * g + r.sync < length (all_rows t g)
+number_inside : (t g : ℕ) (r : Row) → r.thread < t → r.sync < g → r.thread * g + r.sync < length (all_rows t g)
 number_inside t g r h k = let l = length_all t g in let b = block_inside r.thread t r.sync g h k in omega arith
 
 -- a list that a function gives, row by row

@@ -6,13 +6,16 @@ use Rattle.words.specs.declared.Row.{Row}
 use Rattle.words.specs.declared.Joined.{Joined}
 use Rattle.words.specs.declared.Offer.{Offer}
 use Rattle.words.specs.declared.Commit.{Commit}
-use Rattle.protocol.specs.Tables.{Table, all_rows, cell_at, joined_at, offer_at, names, namer_of}
+use Rattle.words.specs.declared.Cell.{Cell}
+use Rattle.words.specs.declared.Cell.TheVariants.{Fresh, Waiting, Claimed, Synched, Taken}
+use Rattle.protocol.specs.Tables.{Table, all_rows, cell_at, is_fresh, joined_of, joined_at, offer_at, names, namer_of}
 use Rattle.protocol.specs.Ledgers.{Ledger, ledger_of, joined_in, offer_in, IsIn, Takes, Involves, HasCommit, IsLawful, commits_of, commits_in, pending_of, pending_in, commit_named, named_at, commit_at}
 use Rattle.protocol.proofs.Linking.{cases_Option, some_parts, none_from, fresh_not_joined, IsNaming, naming}
 use Rattle.protocol.proofs.Places.{row_inside}
 use Rattle.protocol.proofs.Readings.{row_of_open}
-use Rattle.protocol.proofs.Naming.{namer_names, no_namer}
+use Rattle.protocol.proofs.Naming.{namer_names, no_namer, namer_none}
 use Rattle.protocol.proofs.LedgerLemmas.{joined_in_ledger, offer_in_ledger}
+use Rattle.protocol.proofs.Chosen.{law_at, fresh_unnamed}
 use Rattle.protocol.proofs.CommitLemmas.{named_rows, row_in_commit, commit_members}
 
 -- a committed row is one of the table's
@@ -58,6 +61,19 @@ is_own t r e = ap (λ b. cond b (named_at (joined_at t) (offer_at t) r) (option_
 is_namers : (t : Table) (r : Row) → is_some (joined_at t r) ≡ false → commit_at (all_rows t.threads t.rows) (joined_at t) (offer_at t) r ≡ option_and_then (named_at (joined_at t) (offer_at t)) (namer_of (all_rows t.threads t.rows) (joined_at t) r)
 is_namers t r e = ap (λ b. cond b (named_at (joined_at t) (offer_at t) r) (option_and_then (named_at (joined_at t) (offer_at t)) (namer_of (all_rows t.threads t.rows) (joined_at t) r))) e
 
+-- a Fresh row is in none
+pub commit_fresh : (t : Table) (r : Row) → IsLawful (ledger_of t) → is_fresh (cell_at t r) ≡ true → commit_at (all_rows t.threads t.rows) (joined_at t) (offer_at t) r ≡ None
+commit_fresh t r law fresh =
+    is_namers t r (by_cell (cell_at t r) fresh)
+    ∙ ap (option_and_then (named_at (joined_at t) (offer_at t))) (namer_none (all_rows t.threads t.rows) (joined_at t) r (fresh_unnamed t r law fresh))
+  where
+    by_cell : (c : Cell) → is_fresh c ≡ true → is_some (joined_of c) ≡ false
+    by_cell Fresh h = refl
+    by_cell Waiting h = refl
+    by_cell Claimed h = refl
+    by_cell (Synched j) h = absurd (false≢true h)
+    by_cell (Taken j) h = absurd (false≢true h)
+
 -- the commit that is found is one of the ledger's, and has the row
 commit_found : (t : Table) (r : Row) (c : Commit) → commit_at (all_rows t.threads t.rows) (joined_at t) (offer_at t) r ≡ Some c → IsIn (joined_at t) (offer_at t) c × Involves c r
 commit_found t r c h = ⊎_elim
@@ -83,9 +99,7 @@ names_some : (t : Table) → IsLawful (ledger_of t) → (r : Row) → named_at (
 names_some t law r h e =
     let j = some_parts (joined_at t r) e in
     let none : commit_named (offer_at t) r j.0 ≡ None = sym (ap (option_and_then (commit_named (offer_at t) r)) j.1) ∙ h in
-    let some : is_some (commit_named (offer_at t) r j.0) ≡ true =
-    ap (λ (f : Row → ℕ → Option Offer). is_some (commit_named f r j.0)) (sym (offer_in_ledger t))
-    ∙ law.named r j.0 (ap (λ (f : Row → Option Joined). f r) (joined_in_ledger t) ∙ j.1) in
+    let some : is_some (commit_named (offer_at t) r j.0) ≡ true = (law_at t law).named r j.0 j.1 in
     false≢true (sym (ap (λ (o : Option Commit). is_some o) none) ∙ some)
 
 -- where none is found, no commit of the ledger has the row

@@ -13,6 +13,7 @@ pub mod Soundness
 pub mod Playing
 pub mod Loops
 pub mod CommitLemmas
+pub mod Chosen
 pub mod LedgerReadings
 pub mod Starting
 pub mod Ordering

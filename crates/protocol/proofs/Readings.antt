@@ -1,8 +1,8 @@
 -- What a table reads as after a write to one of its words.
-use Rattle.std.proofs.Common.{◌⊎◌, ◌≡◌, ◌≢◌, ℕ, ◌+◌, ◌*◌, ◌<◌, ◌≤◌, true, false, cond, ltb, length, sym, ap, ◌∙◌, inl, inr, ⊎_elim, refl, arith, Option, Some, None, is_some, subst}
+use Rattle.std.proofs.Common.{◌⊎◌, ◌≡◌, ◌≢◌, ℕ, ◌+◌, ◌*◌, ◌<◌, ◌≤◌, true, false, cond, ltb, length, get_or, sym, ap, ◌∙◌, inl, inr, ⊎_elim, refl, arith, Option, Some, None, is_some, subst}
 use Rattle.std.specs.Prelude.{unwrap_or, IfSome}
 use Rattle.std.proofs.lemmas.Bool.{cases_eq, cases_Bool, ltb-true, ltb-false, le-ltb, lt-ltb, false≢true, true≢false}
-use Rattle.std.proofs.lemmas.List.{length-set}
+use Rattle.std.proofs.lemmas.List.{length-set, get_or_read_under}
 use Rattle.words.specs.declared.Row.{Row}
 use Rattle.words.specs.declared.NackName.{NackName}
 use Rattle.words.specs.declared.Binding.{Binding}
@@ -12,12 +12,12 @@ use Rattle.words.specs.declared.Cell.{Cell}
 use Rattle.words.specs.declared.Cell.TheVariants.{Fresh, Waiting, Claimed, Synched, Taken}
 use Rattle.words.specs.Words.{cell_of, cell_word, count_of, offer_of, nack_of, is_word_for, IsBindingInRange, IsCellInRange, IsJoinedInRange}
 use Rattle.words.proofs.WordLemmas.{cell_of-cell_word, count-count_of, cell_is_word, cell_word-cell_of, nack_of-nack_word, nack_word-nack_of}
-use Rattle.protocol.specs.Tables.{Table, thread_len, is_row, is_nack, nack_at, binding_at, word_at, row_eq, cell_at, is_fresh, count_at, offer_at, joined_at, joined_of}
+use Rattle.protocol.specs.Tables.{Table, thread_len, place_of, is_row, is_nack, nack_at, binding_at, word_at, row_eq, cell_at, is_fresh, count_at, offer_at, joined_at, joined_of}
 use Rattle.protocol.specs.Worlds.{with_word, with_cell, with_nack}
 use Rattle.protocol.specs.Kept.{IsFormed}
 use Rattle.protocol.proofs.RowLemmas.{row_cases, put, put_same, put_other}
 use Rattle.protocol.proofs.Linking.{cases_Option, some_inj, fresh_not_joined}
-use Rattle.protocol.proofs.Places.{is_row_after, is_nack_after, word_same, word_other, nack_other, is_row_bound, is_nack_bound, word_bound, nack_bound, nack_bound_other}
+use Rattle.protocol.proofs.Places.{place_inside, is_row_after, is_nack_after, word_same, word_other, nack_other, is_row_bound, is_nack_bound, word_bound, nack_bound, nack_bound_other}
 
 -- a row that the table has not reads as Fresh, with no offers
 pub cell_outside : (t : Table) (r : Row) → is_row t r ≡ false → cell_at t r ≡ Fresh
@@ -169,12 +169,49 @@ cell_is_formed c g = cell_is_word (cell_word c) ∙ ap (λ (o : Option Cell). is
 pub sized_after_word : (t : Table) (x : Row) (p v : ℕ) → length t.words ≡ t.threads * thread_len t.rows → length (with_word t x p v).words ≡ t.threads * thread_len t.rows
 sized_after_word t x p v s = length-set t.words _ v ∙ s
 
--- a row that has offers is one of the table's
-pub row_of_count : (t : Table) (r : Row) (n : ℕ) → n < count_at t r → is_row t r ≡ true
-row_of_count t r n h = row_of_open t r (⊎_elim
+-- an offer that is there is one of a row's count
+pub offer_counted : (t : Table) (r : Row) (n : ℕ) → is_some (offer_at t r n) ≡ true → n < count_at t r
+offer_counted t r n h = ⊎_elim
+    (λ (e : n < count_at t r). e)
+    (λ (e : count_at t r ≤ n). absurd (false≢true (sym (ap (λ (o : Option Offer). is_some o) (offer_none t r n e)) ∙ h)))
+    (Rattle.std.proofs.lemmas.Bool.cases_lt n (count_at t r))
+
+-- a row that has offers is opened, and one of the table's
+pub open_of_count : (t : Table) (r : Row) (n : ℕ) → n < count_at t r → is_fresh (cell_at t r) ≡ false
+open_of_count t r n h = ⊎_elim
     (λ (e : is_fresh (cell_at t r) ≡ true). let z = count_fresh t r e in absurd (omega arith))
     (λ (e : is_fresh (cell_at t r) ≡ false). e)
-    (cases_Bool (is_fresh (cell_at t r))))
+    (cases_Bool (is_fresh (cell_at t r)))
+
+pub row_of_count : (t : Table) (r : Row) (n : ℕ) → n < count_at t r → is_row t r ≡ true
+row_of_count t r n h = row_of_open t r (open_of_count t r n h)
+
+-- an offer that is there lies in four words, one after another
+pub offer_place : (t : Table) (r : Row) (n : ℕ) → is_some (offer_at t r n) ≡ true → (is_row t r ≡ true) × (n < 8)
+offer_place t r n h =
+    let b : n < count_at t r = offer_counted t r n h in
+    let few : count_at t r ≤ 8 = few_offers t r in
+    (row_of_count t r n b, omega arith)
+
+pub offer_end : (t : Table) (r : Row) (n at : ℕ) → is_some (offer_at t r n) ≡ true → at ≡ place_of t.rows r (2 + 4 * n) → at + 3 < t.threads * thread_len t.rows
+offer_end t r n at h e =
+    let there = offer_place t r n h in
+    let last : place_of t.rows r (5 + 4 * n) < t.threads * thread_len t.rows = place_inside t r (5 + 4 * n) there.0 (let b = there.1 in omega arith) in
+    omega (arith, e)
+
+pub offer_from : (t : Table) (r : Row) (n at a b c d : ℕ) → length t.words ≡ t.threads * thread_len t.rows → is_some (offer_at t r n) ≡ true → at ≡ place_of t.rows r (2 + 4 * n) → a ≡ get_or t.words at a → b ≡ get_or t.words (at + 1) b → c ≡ get_or t.words (at + 2) c → d ≡ get_or t.words (at + 3) d → offer_at t r n ≡ offer_of a b c d
+unfolding offer_at word_at
+offer_from t r n at a b c d s h e ea eb ec ed =
+    let counted : n < count_at t r = offer_counted t r n h in
+    let last : at + 3 < t.threads * thread_len t.rows = offer_end t r n at h e in
+    let second : place_of t.rows r (3 + 4 * n) ≡ at + 1 = omega (arith, e) in
+    let third : place_of t.rows r (4 + 4 * n) ≡ at + 2 = omega (arith, e) in
+    let fourth : place_of t.rows r (5 + 4 * n) ≡ at + 3 = omega (arith, e) in
+    let first_is : get_or t.words (place_of t.rows r (2 + 4 * n)) 0 ≡ a = ap (λ k. get_or t.words k 0) (sym e) ∙ sym (get_or_read_under t.words at _ a 0 ea (omega arith) (sym s)) in
+    let second_is : get_or t.words (place_of t.rows r (3 + 4 * n)) 0 ≡ b = ap (λ k. get_or t.words k 0) second ∙ sym (get_or_read_under t.words (at + 1) _ b 0 eb (omega arith) (sym s)) in
+    let third_is : get_or t.words (place_of t.rows r (4 + 4 * n)) 0 ≡ c = ap (λ k. get_or t.words k 0) third ∙ sym (get_or_read_under t.words (at + 2) _ c 0 ec (omega arith) (sym s)) in
+    let fourth_is : get_or t.words (place_of t.rows r (5 + 4 * n)) 0 ≡ d = ap (λ k. get_or t.words k 0) fourth ∙ sym (get_or_read_under t.words (at + 3) _ d 0 ed last (sym s)) in
+    λ i. cond (lt-ltb n (count_at t r) counted i) (offer_of (first_is i) (second_is i) (third_is i) (fourth_is i)) None
 
 pub open_cell : (c : Cell) → c ≢ Fresh → is_fresh c ≡ false
 open_cell Fresh h = absurd (h refl)

@@ -1,11 +1,11 @@
 //! The words of a table, and what its rows read as.
 
-ghost use Rattle.std.specs.Prelude.{◌≡◌, ◌+◌, ◌*◌, ◌≤◌, ◌<◌, IfOk, IfSome, true, length, replicate, vec_len};
+ghost use Rattle.std.specs.Prelude.{◌≡◌, ◌+◌, ◌*◌, ◌≤◌, ◌<◌, IfOk, IfSome, Some, is_some, true, length, replicate, vec_len};
 
 use std::alloc::{AllocError, Global};
 use words::{
-    Base, Binding, Cell, Joined, NackName, Offer, Row, pack_cell, pack_nack, unpack_cell,
-    unpack_count, unpack_nack, unpack_offer,
+    Base, Binding, Cell, Joined, NackName, Offer, Row, pack_cell, pack_nack, read_offer,
+    unpack_cell, unpack_count, unpack_nack, unpack_offer,
 };
 
 /// The words of a row.
@@ -71,18 +71,6 @@ impl Board {
         self.threads * self.rows
     }
 
-    /// The row with a number.
-    pub(crate) fn row(&self, number: usize) -> Row
-        requires { number < self.now.threads * self.now.rows }
-        ensures inside { is_row (table_of self.now) result ≡ true }
-        ensures value { number_of self.now.rows result ≡ number }
-    {
-        Row {
-            thread: (number / self.rows) as u8,
-            sync: (number % self.rows) as u16,
-        }
-    }
-
     /// Where the row's word at a place lies.
     fn place(&self, row: Row, place: usize) -> usize
         requires row { is_row (table_of self.now) row ≡ true }
@@ -144,14 +132,27 @@ impl Board {
         )
     }
 
+    /// Offer n of a row that is known to have it: nothing is tested, and only the atoms that the
+    /// offer has are unpacked.
+    #[tactic(auto, unfolding(crate::specs::Tables::word_at))]
+    pub(crate) fn known_offer(&self, row: Row, n: u8) -> Offer
+        requires { is_some (offer_at (table_of self.now) row n) ≡ true }
+        ensures { offer_at (table_of self.now) row n ≡ Some result }
+    {
+        let head = self.place(row, 2 + 4 * usize::from(n));
+        read_offer(
+            self.words[head],
+            self.words[head + 1],
+            self.words[head + 2],
+            self.words[head + 3],
+        )
+    }
+
     /// How a committed row was committed.
     pub(crate) fn joined(&self, row: Row) -> Option<Joined>
         ensures { result ≡ joined_at (table_of self.now) row }
     {
-        match self.cell(row) {
-            Cell::Synched(joined) | Cell::Taken(joined) => Some(joined),
-            Cell::Fresh | Cell::Waiting | Cell::Claimed => None,
-        }
+        joined_of(self.cell(row))
     }
 
     /// The stamp of the row before this one in its thread, or 0.
@@ -268,7 +269,23 @@ impl Board {
     }
 }
 
-ghost use Rattle.protocol.specs.Tables.{encloses};
+ghost use Rattle.protocol.specs.Tables.{encloses, is_fresh, joined_of};
+
+pub(crate) fn is_fresh(cell: Cell) -> bool
+    ensures { result ≡ is_fresh cell }
+{
+    matches!(cell, Cell::Fresh)
+}
+
+/// How a row with this cell was committed.
+pub(crate) fn joined_of(cell: Cell) -> Option<Joined>
+    ensures { result ≡ joined_of cell }
+{
+    match cell {
+        Cell::Synched(joined) | Cell::Taken(joined) => Some(joined),
+        Cell::Fresh | Cell::Waiting | Cell::Claimed => None,
+    }
+}
 
 /// Whether the scope encloses the offer.
 fn encloses(scope: u8, offer: Option<Offer>) -> bool

@@ -78,7 +78,7 @@ impl Ledger {
         ensures lawful { IsLawful self.now }
     {
         let mut commits = self.board.commits()?;
-        commits.sort_by_key(|commit| commit.order())?;
+        commits.sort_by_cached_key(|commit| commit.order())?;
         Ok(commits)
     }
 

@@ -363,8 +363,14 @@ fn first_holders(alloc: Global, board: &Board, seats: usize) -> Result<Vec<Optio
     ensures { IfOk result (λ v. v.items ≡ map (first_holder seats) (all_rows board.now.threads board.now.rows)) }
 {
     let mut holders = Vec::new(alloc);
-    for number in 0..board.len() {
-        holders.push(first_holder(seats, board.row(number)))?;
+    for thread in 0..board.threads {
+        for sync in 0..board.rows {
+            let row = Row {
+                thread: thread as u8,
+                sync: sync as u16,
+            };
+            holders.push(first_holder(seats, row))?;
+        }
     }
     Ok(holders)
 }

@@ -1,8 +1,11 @@
--- The holders of the rows so far.
-use Rattle.std.proofs.Common.{◌≡◌, take, map}
-use Rattle.protocol.specs.Tables.{all_rows}
+-- The holders of the threads so far, and of the thread's rows so far.
+use Rattle.std.proofs.Common.{◌≡◌, ◌++◌, map}
+use Rattle.protocol.specs.Tables.{all_rows, rows_below}
 use Rattle.protocol.specs.Worlds.{first_holder}
 use Rattle.protocol.proofs.state.first_holders.Given as goal
 
-abbrev pub invariant-loop-number : goal.invariant-loop-number
-invariant-loop-number l = l.holders.items ≡ map (first_holder l.seats) (take l.number (all_rows l.board.threads l.board.rows))
+abbrev pub invariant-loop-thread : goal.invariant-loop-thread
+invariant-loop-thread l = l.holders.items ≡ map (first_holder l.seats) (all_rows l.thread l.board.rows)
+
+abbrev pub invariant-loop-sync : goal.invariant-loop-sync
+invariant-loop-sync l = l.holders.items ≡ map (first_holder l.seats) (all_rows l.thread l.board.rows ++ rows_below l.thread l.sync)

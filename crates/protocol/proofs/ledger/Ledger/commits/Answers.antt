@@ -13,29 +13,29 @@ pub returns-clause-once : goal.returns-clause-once
 returns-clause-once c =
     let told : c.in_ok-commits.commits.items ≡ commits_in c.args.self.now =
     c.in_ok-commits.ensures ∙ commits_in_ledger (table_of c.self.inside.board) ∙ ap (λ (l : Ledger). commits_in l) c.self.view_is in
-    subst (λ (cs : List Commit). IsPermutation cs c.sort_by_key.new.self.items) told c.sort_by_key.ensures.permutation
+    subst (λ (cs : List Commit). IsPermutation cs c.sort_by_cached_key.new.self.items) told c.sort_by_cached_key.ensures.permutation
 
 pub returns-clause-members : goal.returns-clause-members
 returns-clause-members c = λ d.
     let t = table_of c.self.inside.board in
     let told : c.in_ok-commits.commits.items ≡ commits_in c.args.self.now =
     c.in_ok-commits.ensures ∙ commits_in_ledger t ∙ ap (λ (l : Ledger). commits_in l) c.self.view_is in
-    let moved = subst (λ (cs : List Commit). IsPermutation cs c.sort_by_key.new.self.items) told c.sort_by_key.ensures.permutation in
+    let moved = subst (λ (cs : List Commit). IsPermutation cs c.sort_by_cached_key.new.self.items) told c.sort_by_cached_key.ensures.permutation in
     let members = subst (λ (l : Ledger). Contains (commits_in l) d ↔ HasCommit l d) c.self.view_is (members_in_ledger t c.self.invariant d) in (
-      λ h. members.0 (Contains-permutation c.sort_by_key.new.self.items (commits_in c.args.self.now) d (IsPermutation-sym _ _ moved) h),
-      λ h. Contains-permutation (commits_in c.args.self.now) c.sort_by_key.new.self.items d moved (members.1 h),
+      λ h. members.0 (Contains-permutation c.sort_by_cached_key.new.self.items (commits_in c.args.self.now) d (IsPermutation-sym _ _ moved) h),
+      λ h. Contains-permutation (commits_in c.args.self.now) c.sort_by_cached_key.new.self.items d moved (members.1 h),
     )
 
 pub returns-clause-in_order : goal.returns-clause-in_order
-returns-clause-in_order c = c.in_ok-sort_by_key.ensures.sorted order_of (answers_always _ _ _ (λ f a r g h. search rules))
+returns-clause-in_order c = c.in_ok-sort_by_cached_key.ensures.sorted order_of (answers_always _ _ _ (λ f a r g h. search rules))
 
 pub returns-clause-causal : goal.returns-clause-causal
 returns-clause-causal c =
     let t = table_of c.self.inside.board in
     let told : c.in_ok-commits.commits.items ≡ commits_in (ledger_of t) = c.in_ok-commits.ensures ∙ commits_in_ledger t in
-    let sorted = c.in_ok-sort_by_key.ensures.sorted order_of (answers_always _ _ _ (λ f a r g h. search rules)) in
-    subst (λ (l : Ledger). IsCausal (binding_in l) c.sort_by_key.new.self.items) c.self.view_is
-    (causal_ledger (ledger_of t) c.self.invariant c.sort_by_key.new.self.items (subst (λ (cs : List Commit). IsPermutation cs c.sort_by_key.new.self.items) told c.sort_by_key.ensures.permutation) sorted)
+    let sorted = c.in_ok-sort_by_cached_key.ensures.sorted order_of (answers_always _ _ _ (λ f a r g h. search rules)) in
+    subst (λ (l : Ledger). IsCausal (binding_in l) c.sort_by_cached_key.new.self.items) c.self.view_is
+    (causal_ledger (ledger_of t) c.self.invariant c.sort_by_cached_key.new.self.items (subst (λ (cs : List Commit). IsPermutation cs c.sort_by_cached_key.new.self.items) told c.sort_by_cached_key.ensures.permutation) sorted)
 
 pub returns-clause-lawful : goal.returns-clause-lawful
 returns-clause-lawful c = subst IsLawful c.self.view_is c.self.invariant
