@@ -5,6 +5,7 @@ mod fault;
 mod following;
 mod gate;
 mod homes;
+mod nacks;
 mod ranges;
 mod ready;
 mod running;
