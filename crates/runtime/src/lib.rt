@@ -1,6 +1,7 @@
 //! Workers that run a script's processes over the shared cells, and the headline: `run`.
 #![tactic(auto)]
 
+mod bound;
 mod fault;
 mod following;
 mod gate;
