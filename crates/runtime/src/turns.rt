@@ -30,8 +30,8 @@ pub(crate) struct Shared {
     pub(crate) homes: Homes,
 }
 
-/// Takes the row, if nobody has, and goes on with its thread. Where the thread has no next row nothing
-/// runs. The answer is what the turn committed, which is to be put into the ready list.
+/// Takes the row, if nobody has, and goes on with its thread. A thread's last row is not taken: behind it
+/// nothing runs. The answer is what the turn committed, which is to be put into the ready list.
 pub(crate) fn advance<R: Wait, G: Gate>(
     rt: &R,
     cells: &Cells,
@@ -44,17 +44,14 @@ pub(crate) fn advance<R: Wait, G: Gate>(
     requires { IsPassOf cells.now pass.old }
     ensures { IsPassOf cells.now pass.new }
 {
-    if !cells.has(row) {
-        return Err(Halt::Lost);
-    }
+    let Some(next) = row_behind(cells, row) else {
+        return Ok(Committed::Nothing);
+    };
     // Before the row is taken: of the next row, which is held then, nothing more is read.
     let Some(message) = cells.result(pass, row) else {
         return Ok(Committed::Nothing);
     };
     let Some(joined) = cells.take(pass, row) else {
-        return Ok(Committed::Nothing);
-    };
-    let Some(next) = row_behind(cells, row) else {
         return Ok(Committed::Nothing);
     };
     gate.before(worker, row.thread);
@@ -64,9 +61,9 @@ pub(crate) fn advance<R: Wait, G: Gate>(
     done
 }
 
-/// The next row of the row's thread, if the table has it.
+/// The next row of the row's thread, if the table has it. Then it has the row too.
 fn row_behind(cells: &Cells, row: Row) -> Option<Row>
-    ensures { IfSome result (λ next. IsRowOf cells.now next × (next ≡ next_row row)) }
+    ensures { IfSome result (λ next. IsRowOf cells.now row × IsRowOf cells.now next × (next ≡ next_row row)) }
 {
     let next = Row {
         thread: row.thread,
