@@ -10,8 +10,10 @@ use cell::{Cells, NoGate, Pass};
 use std::sync::Wait;
 use words::{Cell, NackName, Offer, Row};
 
-/// Wakes the rows that wait for nacks that the commit of the pair enabled. What is answered, the pair, is
-/// to be put into the ready list.
+/// Wakes the rows that wait for nacks that the commit of the two rows enabled. Neither is in the ready list
+/// yet: from when a row is put in another worker may go on with its thread, whose machine then has the nacks
+/// of its next sync.
+#[inline(always)]
 pub(crate) fn follow_pair<R: Wait>(
     rt: &R,
     cells: &Cells,
@@ -20,24 +22,21 @@ pub(crate) fn follow_pair<R: Wait>(
     row: Row,
     nacks: Nacks,
     partner: Row,
-) -> Result<Committed, Halt>
+) -> Result<(), Halt>
     requires { IsPassOf cells.now pass.old }
     ensures { IsPassOf cells.now pass.new }
 {
-    // The nacks are looked up before either row is put in: from then on another worker may go on with
-    // their threads, whose machines then have the nacks of their next syncs.
-    let others = shared.homes.home(partner.thread)?.nacks(rt);
-    if nacks.is_empty() && others.is_empty() {
-        return Ok(Committed::Pair(row, partner));
+    let home = shared.homes.home(partner.thread)?;
+    if nacks.is_empty() && !home.has_nacks() {
+        return Ok(());
     }
-    let mut enabled = Vec::new(shared.alloc);
-    add_enabled(cells, pass, row, nacks, &mut enabled)?;
-    add_enabled(cells, pass, partner, others, &mut enabled)?;
-    wake_all(rt, cells, shared, pass, enabled)?;
-    Ok(Committed::Pair(row, partner))
+    let others = home.nacks(rt);
+    wake_enabled(rt, cells, shared, pass, &[(row, nacks), (partner, others)])?;
+    Ok(())
 }
 
 /// The same for a row that was committed alone.
+#[inline(always)]
 pub(crate) fn follow_alone<R: Wait>(
     rt: &R,
     cells: &Cells,
@@ -45,17 +44,34 @@ pub(crate) fn follow_alone<R: Wait>(
     pass: &mut Pass,
     row: Row,
     nacks: Nacks,
-) -> Result<Committed, Halt>
+) -> Result<(), Halt>
     requires { IsPassOf cells.now pass.old }
     ensures { IsPassOf cells.now pass.new }
 {
     if nacks.is_empty() {
-        return Ok(Committed::Alone(row));
+        return Ok(());
     }
+    wake_enabled(rt, cells, shared, pass, &[(row, nacks)])?;
+    Ok(())
+}
+
+/// Wakes the rows that wait for those of these rows' nacks that their commit enabled.
+#[inline(never)]
+fn wake_enabled<R: Wait>(
+    rt: &R,
+    cells: &Cells,
+    shared: &Shared,
+    pass: &mut Pass,
+    committed: &[(Row, Nacks)],
+) -> Result<(), Halt>
+    requires { IsPassOf cells.now pass.old }
+    ensures { IsPassOf cells.now pass.new }
+{
     let mut enabled = Vec::new(shared.alloc);
-    add_enabled(cells, pass, row, nacks, &mut enabled)?;
-    wake_all(rt, cells, shared, pass, enabled)?;
-    Ok(Committed::Alone(row))
+    for (row, nacks) in committed {
+        add_enabled(cells, pass, *row, *nacks, &mut enabled)?;
+    }
+    wake_all(rt, cells, shared, pass, enabled)
 }
 
 /// Wakes the rows that wait for these nacks, and follows them in turn: their commits enable nacks too.

@@ -25,9 +25,14 @@ impl Home {
         }
     }
 
+    /// Whether the row that the thread opened last has nacks. No lock is taken.
+    pub(crate) fn has_nacks(&self) -> bool {
+        self.has_nacks.load(Ordering::SeqCst)
+    }
+
     /// The nacks of the row that the thread opened last. Where it has none the machine is not asked.
     pub(crate) fn nacks<R: Wait>(&self, rt: &R) -> Nacks {
-        if !self.has_nacks.load(Ordering::SeqCst) {
+        if !self.has_nacks() {
             return Nacks::none();
         }
         let machine = self.machine.lock(rt);

@@ -40,6 +40,7 @@ impl Ready {
     }
 
     /// Puts in the rows.
+    #[inline(always)]
     pub(crate) fn put(&mut self, committed: Committed) -> Result<(), AllocError> {
         match committed {
             Committed::Nothing => Ok(()),
@@ -56,6 +57,7 @@ impl Ready {
     }
 
     /// The next row, whose turn is under way from then on.
+    #[inline(always)]
     pub(crate) fn next(&mut self) -> Next {
         if self.stopped {
             return Next::Stop;
@@ -71,6 +73,7 @@ impl Ready {
     }
 
     /// A turn has ended, and the rows that it committed are put in; then the next row.
+    #[inline(always)]
     pub(crate) fn end_turn(&mut self, committed: Committed) -> Result<Next, AllocError> {
         self.put(committed)?;
         self.turns = self.turns.saturating_sub(1);

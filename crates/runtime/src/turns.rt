@@ -231,8 +231,14 @@ fn meet<R: Wait>(
         return Ok(Committed::Nothing);
     };
     match shared.meet.search(rt, cells, pass, &NoGate, row)? {
-        Found::Met(other) => follow_pair(rt, cells, shared, pass, row, nacks, other),
-        Found::Alone => follow_alone(rt, cells, shared, pass, row, nacks),
+        Found::Met(other) => {
+            follow_pair(rt, cells, shared, pass, row, nacks, other)?;
+            Ok(Committed::Pair(row, other))
+        }
+        Found::Alone => {
+            follow_alone(rt, cells, shared, pass, row, nacks)?;
+            Ok(Committed::Alone(row))
+        }
         // whoever committed the row follows it
         Found::Already | Found::Left => Ok(Committed::Nothing),
     }
