@@ -3,36 +3,79 @@
 ghost use Rattle.cell.specs.Calls.{IsPassOf};
 
 use crate::fault::Halt;
+use crate::nacks::Nacks;
+use crate::ready::Committed;
 use crate::turns::Shared;
 use cell::{Cells, NoGate, Pass};
 use std::sync::Wait;
-use words::{Cell, NackName, Row};
+use words::{Cell, NackName, Offer, Row};
 
-/// Puts a row that was committed, and the row that it was committed with, into the ready list, and wakes
-/// the rows that wait for nacks that the commit enabled.
-pub(crate) fn follow<R: Wait>(
+/// Wakes the rows that wait for nacks that the commit of the two rows enabled. Neither is in the ready list
+/// yet: from when a row is put in another worker may go on with its thread, whose machine then has the nacks
+/// of its next sync.
+#[inline(always)]
+pub(crate) fn follow_pair<R: Wait>(
     rt: &R,
     cells: &Cells,
     shared: &Shared,
     pass: &mut Pass,
     row: Row,
-    partner: Option<Row>,
+    nacks: Nacks,
+    partner: Row,
 ) -> Result<(), Halt>
     requires { IsPassOf cells.now pass.old }
     ensures { IsPassOf cells.now pass.new }
 {
-    // The nacks are looked up before the rows are put in: from then on another worker may go on with
-    // their threads, whose machines then have the nacks of their next syncs.
-    let mut enabled = Vec::new(shared.alloc);
-    add_enabled(rt, cells, shared, pass, row, &mut enabled)?;
-    if let Some(partner) = partner {
-        add_enabled(rt, cells, shared, pass, partner, &mut enabled)?;
+    let home = shared.homes.home(partner.thread)?;
+    if nacks.is_empty() && !home.has_nacks() {
+        return Ok(());
     }
-    shared.ready.lock(rt).put(row, partner)?;
+    let others = home.nacks(rt);
+    wake_enabled(rt, cells, shared, pass, &[(row, nacks), (partner, others)])?;
+    Ok(())
+}
+
+/// The same for a row that was committed alone.
+#[inline(always)]
+pub(crate) fn follow_alone<R: Wait>(
+    rt: &R,
+    cells: &Cells,
+    shared: &Shared,
+    pass: &mut Pass,
+    row: Row,
+    nacks: Nacks,
+) -> Result<(), Halt>
+    requires { IsPassOf cells.now pass.old }
+    ensures { IsPassOf cells.now pass.new }
+{
+    if nacks.is_empty() {
+        return Ok(());
+    }
+    wake_enabled(rt, cells, shared, pass, &[(row, nacks)])?;
+    Ok(())
+}
+
+/// Wakes the rows that wait for those of these rows' nacks that their commit enabled.
+#[inline(never)]
+fn wake_enabled<R: Wait>(
+    rt: &R,
+    cells: &Cells,
+    shared: &Shared,
+    pass: &mut Pass,
+    committed: &[(Row, Nacks)],
+) -> Result<(), Halt>
+    requires { IsPassOf cells.now pass.old }
+    ensures { IsPassOf cells.now pass.new }
+{
+    let mut enabled = Vec::new(shared.alloc);
+    for (row, nacks) in committed {
+        add_enabled(cells, pass, *row, *nacks, &mut enabled)?;
+    }
     wake_all(rt, cells, shared, pass, enabled)
 }
 
 /// Wakes the rows that wait for these nacks, and follows them in turn: their commits enable nacks too.
+/// Rows that are woken are put into the ready list here.
 fn wake_all<R: Wait>(
     rt: &R,
     cells: &Cells,
@@ -52,57 +95,54 @@ fn wake_all<R: Wait>(
             .meet
             .wake(rt, shared.alloc, cells, pass, &NoGate, nack)?;
         for row in &woken {
-            add_enabled(rt, cells, shared, pass, *row, &mut nacks)?;
-            shared.ready.lock(rt).put(*row, None)?;
+            let others = shared.homes.home(row.thread)?.nacks(rt);
+            add_enabled(cells, pass, *row, others, &mut nacks)?;
+            shared.ready.lock(rt).put(Committed::Alone(*row))?;
         }
     }
     unreachable!()
 }
 
-/// Adds the nacks that the row's commit enabled. The row is in no ready list yet.
-fn add_enabled<R: Wait>(
-    rt: &R,
+/// Adds those of the row's nacks that its commit enabled: of the scopes that do not enclose the offer that
+/// the row chose.
+fn add_enabled(
     cells: &Cells,
-    shared: &Shared,
     pass: &mut Pass,
     row: Row,
+    nacks: Nacks,
     enabled: &mut Vec<NackName>,
 ) -> Result<(), Halt>
     requires { IsPassOf cells.now pass.old }
     ensures { IsPassOf cells.now pass.new }
 {
-    let home = shared.homes.place(row.thread)?.lock(rt);
-    let Some(machine) = &*home else {
+    if nacks.is_empty() {
+        return Ok(());
+    }
+    let Some(chosen) = chosen_offer(cells, pass, row) else {
         return Ok(());
     };
-    for k in machine.nacks() {
-        let nack = NackName {
-            thread: row.thread,
-            k: *k,
+    for scope in 0..4u8 {
+        let Some(k) = nacks.numbers[usize::from(scope)] else {
+            return Ok(());
         };
-        if is_enabled_by(cells, pass, row, nack) {
-            enabled.push(nack)?;
+        if !chosen.has_scope(scope) {
+            let thread = row.thread;
+            enabled.push(NackName { thread, k })?;
         }
     }
     Ok(())
 }
 
-/// Whether the nack is bound to the row, and to a scope that does not enclose the offer that the row chose.
-fn is_enabled_by(cells: &Cells, pass: &mut Pass, row: Row, nack: NackName) -> bool
+/// The offer by which the row was committed.
+fn chosen_offer(cells: &Cells, pass: &mut Pass, row: Row) -> Option<Offer>
     requires { IsPassOf cells.now pass.old }
     ensures { IsPassOf cells.now pass.new }
 {
-    let Some((bound, scope)) = cells.bound(pass, nack) else {
-        return false;
-    };
-    if bound != row {
-        return false;
+    if !cells.has(row) {
+        return None;
     }
-    let (Cell::Synched(joined) | Cell::Taken(joined)) = cells.look(pass, bound) else {
-        return false;
+    let (Cell::Synched(joined) | Cell::Taken(joined)) = cells.look(pass, row) else {
+        return None;
     };
-    match cells.offer(pass, bound, joined.own) {
-        Some(chosen) => !chosen.has_scope(scope),
-        None => false,
-    }
+    cells.offer(pass, row, joined.own)
 }

@@ -6,7 +6,7 @@ pub trait Gate {
     /// The worker is about to begin a turn of the thread.
     fn before(&self, worker: u8, thread: u8);
 
-    /// The turn has ended, by a fault too.
+    /// The turn has ended, by a fault too. What it committed goes on when this has returned.
     fn after(&self, worker: u8, thread: u8);
 }
 

@@ -1,10 +1,12 @@
 //! Workers that run a script's processes over the shared cells, and the headline: `run`.
 #![tactic(auto)]
 
+mod bound;
 mod fault;
 mod following;
 mod gate;
 mod homes;
+mod nacks;
 mod ranges;
 mod ready;
 mod running;

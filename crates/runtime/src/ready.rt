@@ -5,12 +5,20 @@ use std::collections::VecDeque;
 use words::Row;
 
 /// Rows that are committed and not yet taken, and how many turns are under way. Rows are put in within a
-/// turn and before its end: so where no row is left and no turn is under way, none will come.
+/// turn or with its end: so where no row is left and no turn is under way, none will come.
 #[derive(Drop)]
 pub(crate) struct Ready {
     rows: VecDeque<Row>,
     turns: usize,
     stopped: bool,
+}
+
+/// The rows that a turn committed.
+#[derive(Clone, Copy)]
+pub(crate) enum Committed {
+    Nothing,
+    Alone(Row),
+    Pair(Row, Row),
 }
 
 /// What a worker does next.
@@ -31,16 +39,25 @@ impl Ready {
         }
     }
 
-    /// Puts in a row, and the row that it was committed with.
-    pub(crate) fn put(&mut self, row: Row, partner: Option<Row>) -> Result<(), AllocError> {
-        self.rows.push_back(row)?;
-        if let Some(partner) = partner {
-            self.rows.push_back(partner)?;
+    /// Puts in the rows.
+    #[inline(always)]
+    pub(crate) fn put(&mut self, committed: Committed) -> Result<(), AllocError> {
+        match committed {
+            Committed::Nothing => Ok(()),
+            Committed::Alone(row) => {
+                self.rows.push_back(row)?;
+                Ok(())
+            }
+            Committed::Pair(row, partner) => {
+                self.rows.push_back(row)?;
+                self.rows.push_back(partner)?;
+                Ok(())
+            }
         }
-        Ok(())
     }
 
     /// The next row, whose turn is under way from then on.
+    #[inline(always)]
     pub(crate) fn next(&mut self) -> Next {
         if self.stopped {
             return Next::Stop;
@@ -55,10 +72,12 @@ impl Ready {
         }
     }
 
-    /// A turn has ended; then the next row.
-    pub(crate) fn end_turn(&mut self) -> Next {
+    /// A turn has ended, and the rows that it committed are put in; then the next row.
+    #[inline(always)]
+    pub(crate) fn end_turn(&mut self, committed: Committed) -> Result<Next, AllocError> {
+        self.put(committed)?;
         self.turns = self.turns.saturating_sub(1);
-        self.next()
+        Ok(self.next())
     }
 
     /// All workers are to stop.

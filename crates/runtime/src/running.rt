@@ -9,6 +9,7 @@ ghost use Rattle.runtime.specs.Headline.{TellsMaximalRun};
 ghost use Rattle.runtime.specs.Limits.{AreRows, AreWorkers};
 ghost use Rattle.runtime.specs.declared.fault.RunFault.TheVariants.{Workers, Rows, Unlawful};
 
+use crate::bound::rows_used;
 use crate::fault::{Halt, RunFault};
 use crate::gate::Gate;
 use crate::homes::Homes;
@@ -51,7 +52,8 @@ fn check_limits(workers: u8, rows: u16) -> Result<(), RunFault>
     Ok(())
 }
 
-/// The workers over a table of their own, which is closed at their end.
+/// The workers over a table of their own, which is closed at their end. It has no more rows than the
+/// processes can use.
 fn work_within<R: Threads + Wait + Sync, G: Gate + Sync>(
     rt: &R,
     alloc: Global,
@@ -73,7 +75,7 @@ fn work_within<R: Threads + Wait + Sync, G: Gate + Sync>(
         ready: Mutex::new(Ready::new(alloc, usize::from(workers))),
         homes: Homes::new(alloc, processes.len())?,
     };
-    let (cells, passes) = Cells::new(alloc, threads, rows, workers)?;
+    let (cells, passes) = Cells::new(alloc, threads, rows_used(processes, rows), workers)?;
     let passes = all_work(rt, alloc, &cells, &shared, gate, processes, passes)?;
     match told_one(&cells, passes) {
         Some(pass) => Ok(cells.close(pass)),

@@ -7,11 +7,12 @@ ghost use Rattle.cell.specs.Calls.{IsPassOf, IsRowOf};
 ghost use Rattle.cell.specs.Sight.{Has};
 
 use crate::fault::Halt;
-use crate::following::follow;
+use crate::following::{follow_alone, follow_pair};
 use crate::gate::Gate;
-use crate::homes::Homes;
+use crate::homes::{Home, Homes};
+use crate::nacks::Nacks;
 use crate::ranges::are_offers;
-use crate::ready::Ready;
+use crate::ready::{Committed, Ready};
 use cell::{Cells, NoGate, Pass};
 use meet::{Found, Meet};
 use std::alloc::Global;
@@ -29,8 +30,8 @@ pub(crate) struct Shared {
     pub(crate) homes: Homes,
 }
 
-/// Takes the row, if nobody has, and goes on with its thread. Where the thread has no next row nothing
-/// runs.
+/// Takes the row, if nobody has, and goes on with its thread. A thread's last row is not taken: behind it
+/// nothing runs. The answer is what the turn committed, which is to be put into the ready list.
 pub(crate) fn advance<R: Wait, G: Gate>(
     rt: &R,
     cells: &Cells,
@@ -39,22 +40,19 @@ pub(crate) fn advance<R: Wait, G: Gate>(
     pass: &mut Pass,
     worker: u8,
     row: Row,
-) -> Result<(), Halt>
+) -> Result<Committed, Halt>
     requires { IsPassOf cells.now pass.old }
     ensures { IsPassOf cells.now pass.new }
 {
-    if !cells.has(row) {
-        return Err(Halt::Lost);
-    }
+    let Some(next) = row_behind(cells, row) else {
+        return Ok(Committed::Nothing);
+    };
     // Before the row is taken: of the next row, which is held then, nothing more is read.
     let Some(message) = cells.result(pass, row) else {
-        return Ok(());
+        return Ok(Committed::Nothing);
     };
     let Some(joined) = cells.take(pass, row) else {
-        return Ok(());
-    };
-    let Some(next) = row_behind(cells, row) else {
-        return Ok(());
+        return Ok(Committed::Nothing);
     };
     gate.before(worker, row.thread);
     let opened = resume(rt, cells, shared, pass, row, joined, message, next);
@@ -63,9 +61,9 @@ pub(crate) fn advance<R: Wait, G: Gate>(
     done
 }
 
-/// The next row of the row's thread, if the table has it.
+/// The next row of the row's thread, if the table has it. Then it has the row too.
 fn row_behind(cells: &Cells, row: Row) -> Option<Row>
-    ensures { IfSome result (λ next. IsRowOf cells.now next × (next ≡ next_row row)) }
+    ensures { IfSome result (λ next. IsRowOf cells.now row × IsRowOf cells.now next × (next ≡ next_row row)) }
 {
     let next = Row {
         thread: row.thread,
@@ -74,7 +72,8 @@ fn row_behind(cells: &Cells, row: Row) -> Option<Row>
     cells.has(next).then_some(next)
 }
 
-/// The first turn of the thread, where the pass holds its first row.
+/// The first turn of the thread, where the pass holds its first row. What it commits is put into the ready
+/// list.
 fn begin_thread<R: Wait, G: Gate>(
     rt: &R,
     cells: &Cells,
@@ -100,7 +99,8 @@ fn begin_thread<R: Wait, G: Gate>(
     let opened = begin(rt, cells, shared, process, pass, row);
     let done = meet(rt, cells, shared, pass, row, opened);
     gate.after(worker, thread);
-    done
+    shared.ready.lock(rt).put(done?)?;
+    Ok(())
 }
 
 /// The first turns of the threads whose first rows the pass holds.
@@ -125,8 +125,9 @@ pub(crate) fn begin_all<R: Wait, G: Gate>(
     Ok(())
 }
 
-/// Runs the thread to its first stop, and opens its first row where it offers something there. Whether
-/// it does. The row is opened while the machine is held, and searched for when it is at home again.
+/// Runs the thread to its first stop, and opens its first row where it offers something there. The answer
+/// is the row's nacks, if it does. The row is opened while the machine is held, and searched for when it is
+/// at home again.
 fn begin<R: Wait>(
     rt: &R,
     cells: &Cells,
@@ -134,26 +135,26 @@ fn begin<R: Wait>(
     process: &Proc,
     pass: &mut Pass,
     row: Row,
-) -> Result<bool, Halt>
+) -> Result<Option<Nacks>, Halt>
     requires here { IsPassOf cells.now pass.old × IsRowOf cells.now row }
     requires fresh { Has pass.old.seen.held row × (¬ Has pass.old.seen.opened row) }
     requires thread { row.thread < 64 }
     ensures here { IsPassOf cells.now pass.new }
-    ensures opened { IfOk result (λ opened. IsTrue opened → Has pass.new.seen.held row × Has pass.new.seen.opened row) }
+    ensures opened { IfOk result (λ opened. IfSome opened (λ nacks. Has pass.new.seen.held row × Has pass.new.seen.opened row)) }
 {
-    let place = shared.homes.place(row.thread)?;
+    let home = shared.homes.home(row.thread)?;
     let mut machine = Machine::new(shared.alloc, process, row.thread)?;
     let turn = machine.begin()?;
-    let mut home = place.lock(rt);
-    *home = Some(machine);
-    let Some(machine) = &*home else {
+    let mut place = home.machine.lock(rt);
+    *place = Some(machine);
+    let Some(machine) = &*place else {
         return Err(Halt::Lost);
     };
-    enter(cells, pass, row, machine, turn)
+    enter(cells, pass, row, home, machine, turn)
 }
 
 /// Goes on with the row's thread after the row was committed so, with this message, and opens its next
-/// row where it offers something there. Whether it does.
+/// row where it offers something there. The answer is that row's nacks, if it does.
 fn resume<R: Wait>(
     rt: &R,
     cells: &Cells,
@@ -163,15 +164,15 @@ fn resume<R: Wait>(
     joined: Joined,
     message: Message,
     next: Row,
-) -> Result<bool, Halt>
+) -> Result<Option<Nacks>, Halt>
     requires here { IsPassOf cells.now pass.old × IsRowOf cells.now next }
     requires fresh { Has pass.old.seen.held next × (¬ Has pass.old.seen.opened next) }
     ensures here { IsPassOf cells.now pass.new }
-    ensures opened { IfOk result (λ opened. IsTrue opened → Has pass.new.seen.held next × Has pass.new.seen.opened next) }
+    ensures opened { IfOk result (λ opened. IfSome opened (λ nacks. Has pass.new.seen.held next × Has pass.new.seen.opened next)) }
 {
-    let place = shared.homes.place(row.thread)?;
-    let mut home = place.lock(rt);
-    let Some(machine) = &mut *home else {
+    let home = shared.homes.home(row.thread)?;
+    let mut place = home.machine.lock(rt);
+    let Some(machine) = &mut *place else {
         return Err(Halt::Lost);
     };
     if machine.results().len() != usize::from(row.sync)
@@ -180,73 +181,82 @@ fn resume<R: Wait>(
         return Err(Halt::Lost);
     }
     let turn = machine.resume(joined.own, message)?;
-    enter(cells, pass, next, machine, turn)
+    enter(cells, pass, next, home, machine, turn)
 }
 
-/// Opens the row with what the machine offers, if it offers something.
+/// Opens the row with what the machine offers, if it offers something. The answer is its nacks then.
 fn enter(
     cells: &Cells,
     pass: &mut Pass,
     row: Row,
+    home: &Home,
     machine: &Machine,
     turn: Turn,
-) -> Result<bool, Halt>
+) -> Result<Option<Nacks>, Halt>
     requires here { IsPassOf cells.now pass.old × IsRowOf cells.now row }
     requires fresh { Has pass.old.seen.held row × (¬ Has pass.old.seen.opened row) }
     ensures here { IsPassOf cells.now pass.new }
-    ensures opened { IfOk result (λ opened. IsTrue opened → Has pass.new.seen.held row × Has pass.new.seen.opened row) }
+    ensures opened { IfOk result (λ opened. IfSome opened (λ nacks. Has pass.new.seen.held row × Has pass.new.seen.opened row)) }
 {
     let Turn::Offering = turn else {
-        return Ok(false);
+        return Ok(None);
     };
     let offers = machine.offers();
     if !are_offers(offers) {
         return Err(Halt::Lost);
     }
-    bind_all(cells, pass, row, machine.nacks())?;
+    let nacks = Nacks::of(machine.nacks());
+    bind_all(cells, pass, row, nacks)?;
+    home.note(nacks);
     cells.draft(pass, row, offers);
     cells.open(pass, row);
-    Ok(true)
+    Ok(Some(nacks))
 }
 
-/// Looks for a row that the opened row can meet.
+/// Looks for a row that the opened row, of these nacks, can meet. The answer is what came to be committed
+/// here.
 fn meet<R: Wait>(
     rt: &R,
     cells: &Cells,
     shared: &Shared,
     pass: &mut Pass,
     row: Row,
-    opened: Result<bool, Halt>,
-) -> Result<(), Halt>
+    opened: Result<Option<Nacks>, Halt>,
+) -> Result<Committed, Halt>
     requires here { IsPassOf cells.now pass.old × IsRowOf cells.now row }
-    requires opened { IfOk opened (λ opened. IsTrue opened → Has pass.old.seen.held row × Has pass.old.seen.opened row) }
+    requires opened { IfOk opened (λ opened. IfSome opened (λ nacks. Has pass.old.seen.held row × Has pass.old.seen.opened row)) }
     ensures { IsPassOf cells.now pass.new }
 {
-    if !opened? {
-        return Ok(());
-    }
+    let Some(nacks) = opened? else {
+        return Ok(Committed::Nothing);
+    };
     match shared.meet.search(rt, cells, pass, &NoGate, row)? {
-        Found::Met(other) => follow(rt, cells, shared, pass, row, Some(other)),
-        Found::Alone => follow(rt, cells, shared, pass, row, None),
+        Found::Met(other) => {
+            follow_pair(rt, cells, shared, pass, row, nacks, other)?;
+            Ok(Committed::Pair(row, other))
+        }
+        Found::Alone => {
+            follow_alone(rt, cells, shared, pass, row, nacks)?;
+            Ok(Committed::Alone(row))
+        }
         // whoever committed the row follows it
-        Found::Already | Found::Left => Ok(()),
+        Found::Already | Found::Left => Ok(Committed::Nothing),
     }
 }
 
 /// Binds the nacks of the row's scopes. A nack is bound by its own thread alone, when its sync is opened,
 /// so none is bound yet.
-fn bind_all(cells: &Cells, pass: &mut Pass, row: Row, nacks: &[u8]) -> Result<(), Halt>
+fn bind_all(cells: &Cells, pass: &mut Pass, row: Row, nacks: Nacks) -> Result<(), Halt>
     requires here { IsPassOf cells.now pass.old × IsRowOf cells.now row }
     requires fresh { Has pass.old.seen.held row × (¬ Has pass.old.seen.opened row) }
     ensures here { IsPassOf cells.now pass.new }
     ensures fresh { Has pass.new.seen.held row × (¬ Has pass.new.seen.opened row) }
 {
-    if nacks.len() > 4 {
-        return Err(Halt::Lost);
-    }
-    for scope in 0..nacks.len() {
-        let k = nacks[scope];
-        if k >= 64 || !cells.bind(pass, k, row, scope as u8) {
+    for scope in 0..4u8 {
+        let Some(k) = nacks.numbers[usize::from(scope)] else {
+            return Ok(());
+        };
+        if k >= 64 || !cells.bind(pass, k, row, scope) {
             return Err(Halt::Lost);
         }
     }

@@ -4,7 +4,7 @@ ghost use Rattle.cell.specs.Calls.{IsPassOf};
 
 use crate::fault::Halt;
 use crate::gate::Gate;
-use crate::ready::Next;
+use crate::ready::{Committed, Next};
 use crate::turns::{Shared, advance, begin_all};
 use cell::{Cells, Pass};
 use crossbeam_utils::Backoff;
@@ -25,14 +25,14 @@ fn all_turns<R: Wait, G: Gate>(
     ensures { IsPassOf cells.now pass.new }
 {
     begin_all(rt, cells, shared, gate, processes, pass, worker)?;
-    let mut next = shared.ready.lock(rt).end_turn();
+    let mut next = shared.ready.lock(rt).end_turn(Committed::Nothing)?;
     let backoff = Backoff::new();
     for _ in rt.forever() {
         match next {
             Next::Take(row) => {
                 backoff.reset();
-                advance(rt, cells, shared, gate, pass, worker, row)?;
-                next = shared.ready.lock(rt).end_turn();
+                let committed = advance(rt, cells, shared, gate, pass, worker, row)?;
+                next = shared.ready.lock(rt).end_turn(committed)?;
             }
             Next::Wait => {
                 backoff.snooze();

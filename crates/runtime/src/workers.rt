@@ -64,7 +64,30 @@ fn join_all<R: Threads>(
     }
 }
 
-/// All workers work, each with a pass of its own, and give the passes back.
+/// One worker works in the calling thread. Its pass comes back in the list that it stood in.
+fn work_alone<R: Wait, G: Gate>(
+    rt: &R,
+    cells: &Cells,
+    shared: &Shared,
+    gate: &G,
+    processes: &[Proc],
+    passes: Vec<Pass>,
+) -> Result<Vec<Pass>, Halt>
+    requires { All (λ p. IsPassOf cells.now p) passes.items }
+    ensures { IfOk result (λ back. All (λ p. IsPassOf cells.now p) back.items) }
+{
+    let mut passes = passes;
+    let Some(pass) = passes.pop() else {
+        return Ok(passes);
+    };
+    let Worked { pass, done } = work_on(rt, cells, shared, gate, processes, pass, 0);
+    done?;
+    passes.push(pass)?;
+    Ok(passes)
+}
+
+/// All workers work, each with a pass of its own, and give the passes back. For one worker no thread is
+/// started.
 pub(crate) fn all_work<R: Threads + Wait + Sync, G: Gate + Sync>(
     rt: &R,
     alloc: Global,
@@ -77,6 +100,9 @@ pub(crate) fn all_work<R: Threads + Wait + Sync, G: Gate + Sync>(
     requires { All (λ p. IsPassOf cells.now p) passes.items }
     ensures { IfOk result (λ back. All (λ p. IsPassOf cells.now p) back.items) }
 {
+    if passes.len() == 1 {
+        return work_alone(rt, cells, shared, gate, processes, passes);
+    }
     let mut handles: Vec<Handle> = Vec::with_capacity(alloc, passes.len())?;
     thread::scope(
         thread::scope_env(),
