@@ -6,7 +6,8 @@ pub trait Gate {
     /// The worker is about to begin a turn of the thread.
     fn before(&self, worker: u8, thread: u8);
 
-    /// The turn has ended, by a fault too. What it committed goes on when this has returned.
+    /// The turn has ended, by a fault too. The row that it opened and that row's partner, where it committed
+    /// them, go on when this has returned.
     fn after(&self, worker: u8, thread: u8);
 }
 
