@@ -1,6 +1,6 @@
 -- Where words lie: no two of them at one place.
 use Rattle.std.proofs.Common.{Some, ◌≡◌, ℕ, ◌+◌, ◌*◌, ◌<◌, ◌≤◌, true, false, ltb, length, sym, refl, ap, ◌⊎◌, ⊎_elim, arith}
-use Rattle.std.proofs.lemmas.Bool.{cases_order, ltb-true, and_parts}
+use Rattle.std.proofs.lemmas.Bool.{cases_order, ltb-true, lt-ltb, and_parts, and_from}
 use Rattle.std.proofs.lemmas.List.{get_or-set_same, get_or-set_other}
 use Rattle.std.proofs.Math.Nat.{mul-le-mul_right}
 use Rattle.words.specs.declared.Row.{Row}
@@ -16,6 +16,10 @@ unfolding is_row
 row_inside t r h =
     let p = and_parts (ltb r.thread t.threads) (ltb r.sync t.rows) h in
     (ltb-true r.thread t.threads p.0, ltb-true r.sync t.rows p.1)
+
+pub row_from : (t : Table) (r : Row) → r.thread < t.threads → r.sync < t.rows → is_row t r ≡ true
+unfolding is_row
+row_from t r h k = and_from _ _ (lt-ltb r.thread t.threads h) (lt-ltb r.sync t.rows k)
 
 pub nack_inside : (t : Table) (n : NackName) → is_nack t n ≡ true → (n.thread < t.threads) × (n.k < 64)
 unfolding is_nack
