@@ -1,0 +1,95 @@
+// The workloads of bench/workload on goroutines and unbuffered channels, for bench/peers.
+package main
+
+import (
+	"os"
+	"strconv"
+	"sync"
+)
+
+// all runs the functions as goroutines, and waits for them.
+func all(tasks []func()) {
+	var left sync.WaitGroup
+	left.Add(len(tasks))
+	for _, task := range tasks {
+		task := task
+		go func() {
+			task()
+			left.Done()
+		}()
+	}
+	left.Wait()
+}
+
+func channels(count int) []chan int {
+	made := make([]chan int, count)
+	for n := range made {
+		made[n] = make(chan int)
+	}
+	return made
+}
+
+func pairs(rounds int) {
+	var tasks []func()
+	for _, channel := range channels(32) {
+		channel := channel
+		tasks = append(tasks, func() {
+			for i := 0; i < rounds; i++ {
+				channel <- i
+			}
+		}, func() {
+			for i := 0; i < rounds; i++ {
+				<-channel
+			}
+		})
+	}
+	all(tasks)
+}
+
+func ring(rounds int) {
+	made := channels(64)
+	tasks := []func(){func() {
+		for i := 0; i < rounds; i++ {
+			made[0] <- 1
+			<-made[63]
+		}
+	}}
+	for p := 1; p < 64; p++ {
+		from, to := made[p-1], made[p]
+		tasks = append(tasks, func() {
+			for i := 0; i < rounds; i++ {
+				to <- <-from
+			}
+		})
+	}
+	all(tasks)
+}
+
+func pingpong(rounds int) {
+	ping, pong := make(chan int), make(chan int)
+	all([]func(){func() {
+		for i := 0; i < rounds; i++ {
+			ping <- 1
+			<-pong
+		}
+	}, func() {
+		for i := 0; i < rounds; i++ {
+			pong <- <-ping
+		}
+	}})
+}
+
+func main() {
+	rounds, err := strconv.Atoi(os.Args[2])
+	if err != nil {
+		panic(err)
+	}
+	switch os.Args[1] {
+	case "pairs":
+		pairs(rounds)
+	case "ring":
+		ring(rounds)
+	case "pingpong":
+		pingpong(rounds)
+	}
+}
