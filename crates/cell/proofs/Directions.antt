@@ -8,7 +8,7 @@ use Rattle.words.specs.declared.Direction.TheVariants.{Send, Recv, Always, OnNac
 use Rattle.words.specs.declared.Head.{Head}
 use Rattle.words.specs.declared.Offer.{Offer}
 use Rattle.words.specs.declared.Row.{Row}
-use Rattle.protocol.specs.Tables.{bases_meet}
+use Rattle.protocol.specs.Tables.{bases_meet, offers_meet}
 use Rattle.protocol.proofs.Linking.{some_inj}
 use Rattle.cell.specs.declared.view.Seen.{Seen}
 use Rattle.cell.specs.Sight.{Has, HaveDirection, HaveOffer, SeesDirection, SeesOffer, Coherent, Learns, LearnsOf, directions_meet}
@@ -116,7 +116,7 @@ sees_direction s r n o (inl h) = let told = direction_of_offer s.words r n o h i
 sees_direction s r n o (inr (opened, h)) = let told = direction_of_offer s.drafts r n o h in (told.0, inr (opened, told.1), told.2)
 
 -- WHETHER TWO OFFERS MEET is told by their directions
-pub bases_meet_as : (d e : Direction) (x y z u v w : Atom) → bases_meet (base_of d x y z) (base_of e u v w) ≡ directions_meet d e
+bases_meet_as : (d e : Direction) (x y z u v w : Atom) → bases_meet (base_of d x y z) (base_of e u v w) ≡ directions_meet d e
 bases_meet_as (Send c m) (Send k p) x y z u v w = refl
 bases_meet_as (Send c m) (Recv k) x y z u v w = refl
 bases_meet_as (Send c m) (Always p) x y z u v w = refl
@@ -130,3 +130,6 @@ bases_meet_as (Recv c) Never x y z u v w = refl
 bases_meet_as (Always m) e x y z u v w = refl
 bases_meet_as (OnNack k) e x y z u v w = refl
 bases_meet_as Never e x y z u v w = refl
+
+pub offers_meet_as : (d e : Direction) (a b : Offer) → GoesIn d a → GoesIn e b → offers_meet (Some a) (Some b) ≡ directions_meet d e
+offers_meet_as d e a b (x, y, z, is_a) (u, v, w, is_b) = (λ i. bases_meet (is_a i) (is_b i)) ∙ bases_meet_as d e x y z u v w

@@ -23,11 +23,11 @@ use Rattle.cell.specs.declared.view.Stage.{Stage}
 use Rattle.cell.specs.declared.view.Stage.TheVariants.{Resting}
 use Rattle.cell.specs.declared.attempt.Attempt.{Attempt}
 use Rattle.cell.specs.declared.attempt.Attempt.TheVariants.{Busy, Gone, Met, Mine, Unfit}
-use Rattle.cell.specs.Attempts.{Attempted, CanMeet, Fits, IsNear}
+use Rattle.cell.specs.Attempts.{Attempted, CanMeet, Fits, IsNear, OffersFit}
 use Rattle.cell.specs.Sight.{SawCommitted, see_cell}
 use Rattle.cell.specs.Told.{Agrees}
 use Rattle.cell.specs.Views.{IsClaimer}
-use Rattle.cell.proofs.Directions.{direction_more, sees_direction_more}
+use Rattle.cell.proofs.Directions.{direction_more, offers_meet_as, one_direction, sees_direction, sees_direction_more}
 use Rattle.cell.proofs.Offers.{have_more}
 
 pub from_some : {A : Type 0} (x : Option A) (P : A → Type 0) (a : A) → IfSome x P → x ≡ Some a → P a
@@ -56,6 +56,32 @@ fits_as s mine other own partner Gone n can = can
 fits_as s mine other own partner Mine n can = can
 fits_as s mine other own partner Busy n can = can
 fits_as s mine other own partner Unfit n can = absurd (n refl)
+
+-- what another answer says of heads, by what the pass has seen
+fitting : (s : Seen) (mine other : Row) (own partner : ℕ) (a : Attempt) → Fits s mine own other partner a → a ≢ Unfit → CanMeet s mine own other partner
+fitting s mine other own partner (Met stamp) fits n = fits
+fitting s mine other own partner Gone fits n = fits
+fitting s mine other own partner Mine fits n = fits
+fitting s mine other own partner Busy fits n = fits
+fitting s mine other own partner Unfit fits n = absurd (n refl)
+
+-- what an answer says of heads holds of the offers behind them
+pub offers_fit : (threads rows : ℕ) (s : Seen) (mine other : Row) (own partner : ℕ) (answer : Attempt) → Coherent threads rows s → Fits s mine own other partner answer → OffersFit s mine own other partner answer
+offers_fit threads rows s mine other own partner answer agree fits a b sees_a sees_b =
+    let (d, sees_d, goes_a) = sees_direction s mine own a sees_a in
+    let (e, sees_e, goes_b) = sees_direction s other partner b sees_b in
+    let told = offers_meet_as d e a b goes_a goes_b in (
+      λ meet unfit.
+          let denied : ¬ CanMeet s mine own other partner = subst (Fits s mine own other partner) unfit fits in
+          denied (meet.0, d, e, sees_d, sees_e, sym told ∙ meet.1),
+      λ fit.
+          let can = fitting s mine other own partner answer fits fit in (
+            can.0,
+            told
+                ∙ (λ i. directions_meet (one_direction threads rows s mine own d can.1 agree sees_d can.3 i) (one_direction threads rows s other partner e can.2 agree sees_e can.4 i))
+                ∙ can.5,
+          ),
+    )
 
 pub last_more : (s t : Seen) (r : Row) (stamp : ℕ) → ((x : Row × Joined) → Has s.joined x → Has t.joined x) → HasSeenLast s r stamp → HasSeenLast t r stamp
 last_more s t r stamp more (inl h) = inl h

@@ -8,7 +8,7 @@ use Rattle.words.specs.declared.NackName.{NackName}
 use Rattle.words.specs.declared.Row.{Row}
 use Rattle.words.specs.declared.Joined.{Joined}
 use Rattle.words.specs.declared.Cell.{Cell}
-use Rattle.protocol.specs.Tables.{Table, is_fresh, cell_at, joined_at, joined_of, bases_meet, offers_meet, offer_at, count_at, row_stamp, last_stamp, word_at, stands_alone, binding_at, bound_row, encloses, nack_by, stamped, cause_by, cause_of, cause_at}
+use Rattle.protocol.specs.Tables.{Table, is_fresh, cell_at, joined_at, joined_of, offers_meet, offer_at, count_at, row_stamp, last_stamp, word_at, stands_alone, binding_at, bound_row, encloses, nack_by, stamped, cause_by, cause_of, cause_at}
 use Rattle.words.specs.declared.Base.{Base}
 use Rattle.words.specs.declared.Base.TheVariants.{Send, Recv, Always, OnNack, Never}
 use Rattle.protocol.specs.Worlds.{World, joined_with, granted_by}
@@ -26,7 +26,7 @@ use Rattle.cell.specs.Nacks.{CanGrant, SawCause, SawEnabled}
 use Rattle.protocol.specs.Tables.{is_taken}
 use Rattle.cell.specs.Views.{Knows}
 use Rattle.cell.specs.Told.{Agrees}
-use Rattle.cell.proofs.Directions.{GoesIn, bases_meet_as, offer_headed}
+use Rattle.cell.proofs.Directions.{GoesIn, offer_headed, offers_meet_as}
 use Rattle.cell.proofs.Meeting.{few}
 use Rattle.cell.proofs.Offers.{atom_place, same_read}
 
@@ -96,8 +96,7 @@ module _ (w : World) (owner : Row → ℕ) (id : ℕ) (v : View) (k : Knows w ow
       let a = direction_known m i can.my_direction can.read_mine in
       let b = direction_known o n can.their_direction can.read_theirs in
       (λ x. offers_meet (a.1 x) (b.1 x))
-      ∙ (λ x. bases_meet (a.2.3 x) (b.2.3 x))
-      ∙ bases_meet_as can.my_direction can.their_direction a.2.0 a.2.1 a.2.2 b.2.0 b.2.1 b.2.2
+      ∙ offers_meet_as can.my_direction can.their_direction a.0 b.0 a.2 b.2
       ∙ can.meet
 
   last_known : (r : Row) (stamp : ℕ) → HasSeenLast v.seen r stamp → last_stamp (joined_at w.table) r ≡ stamp

@@ -1,5 +1,5 @@
 -- What the answers of an attempt mean.
-use Rattle.std.specs.Prelude.{◌≡◌, ◌≢◌, ◌⊎◌, ◌≤◌, ℕ, Bool, true, false, Option, Some, None, List, ◌∷◌, ◌++◌}
+use Rattle.std.specs.Prelude.{◌≡◌, ◌≢◌, ◌⊎◌, ◌↔◌, ◌≤◌, ℕ, Bool, true, false, Option, Some, None, List, ◌∷◌, ◌++◌}
 use Rattle.words.specs.declared.Base.TheVariants.{OnNack}
 use Rattle.words.specs.declared.Direction.{Direction}
 use Rattle.words.specs.declared.NackName.{NackName}
@@ -9,7 +9,7 @@ use Rattle.words.specs.declared.Offer.{Offer}
 use Rattle.words.specs.declared.Row.{Row}
 use Rattle.words.specs.declared.Step.{Step}
 use Rattle.words.specs.declared.Step.TheVariants.{Bind, Claim, Draft, Grant as GrantRow, Join, Seal, Take, Yield}
-use Rattle.protocol.specs.Tables.{bound_row, next_row}
+use Rattle.protocol.specs.Tables.{bound_row, next_row, offers_meet}
 use Rattle.protocol.specs.Worlds.{nack_of_row}
 use Rattle.cell.specs.declared.view.Seen.{Seen}
 use Rattle.cell.specs.declared.attempt.Attempt.{Attempt}
@@ -45,6 +45,13 @@ Fits after mine own other partner Gone = CanMeet after mine own other partner
 Fits after mine own other partner Mine = CanMeet after mine own other partner
 Fits after mine own other partner Busy = CanMeet after mine own other partner
 Fits after mine own other partner Unfit = ¬ CanMeet after mine own other partner
+
+-- of any two whole offers that the pass has seen there: they meet, and are of two threads, exactly where the answer is another
+-- than that they do not fit
+abbrev pub OffersFit : Seen → Row → ℕ → Row → ℕ → Attempt → Type 0
+OffersFit after mine own other partner answer =
+    (a b : Offer) → SeesOffer after mine own a → SeesOffer after other partner b
+    → ((mine.thread ≢ other.thread) × (offers_meet (Some a) (Some b) ≡ true)) ↔ (answer ≢ Unfit)
 
 -- the steps that a pass has made after an attempt, by those that it had made before, the last one first
 abbrev pub attempt_made : Row → ℕ → Row → ℕ → Attempt → List Step → List Step

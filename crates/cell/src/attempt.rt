@@ -5,7 +5,7 @@ ghost use Rattle.std.specs.Prelude.{◌≡◌, ◌⊎◌, ◌<◌, IfSome, IfNon
 ghost use Rattle.words.specs.Words.{IsJoinedInRange};
 ghost use Rattle.cell.specs.declared.view.Stage.TheVariants.{Resting};
 ghost use Rattle.cell.specs.declared.attempt.Attempt.TheVariants.{Unfit};
-ghost use Rattle.cell.specs.Attempts.{Attempted, CanMeet, Fits, IsNear, attempt_made};
+ghost use Rattle.cell.specs.Attempts.{Attempted, CanMeet, Fits, IsNear, OffersFit, attempt_made};
 ghost use Rattle.cell.specs.Seats.{Sits, HasRow, StaysSeated};
 ghost use Rattle.cell.specs.Sight.{Has, CanJoin, Learns, directions_meet};
 ghost use Rattle.cell.specs.Views.{at_stage, worked};
@@ -67,6 +67,7 @@ impl Board {
         ensures stays { seat.new.me.0 ≡ worked Resting seat.new.me.0.seen (attempt_made mine.0 mine.1 other.0 other.1 result seat.old.me.0.made) seat.old.me.0 }
         ensures learns { Learns (IsNear mine.0 other.0) seat.old.me.0.seen seat.new.me.0.seen }
         ensures fits { Fits seat.new.me.0.seen mine.0 mine.1 other.0 other.1 result }
+        ensures offers { OffersFit seat.new.me.0.seen mine.0 mine.1 other.0 other.1 result }
         ensures attempted { Attempted seat.old.me.0.seen seat.new.me.0.seen mine.0 mine.1 other.0 other.1 result }
     {
         match self.fit(seat, mine, other) {

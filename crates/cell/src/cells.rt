@@ -20,6 +20,7 @@ ghost use Rattle.cell.specs.Attempts.{
   IsNackOf as IsNackOfOffer,
   IsNear,
   IsNearGrant,
+  OffersFit,
   OnlyDrafts,
   Took,
   attempt_made,
@@ -232,6 +233,7 @@ impl Cells {
         ensures here { IsPassOf self.now pass.new }
         ensures learns { Learns (IsNear mine other) pass.old.seen pass.new.seen }
         ensures fits { Fits pass.new.seen mine own other partner result }
+        ensures offers { OffersFit pass.new.seen mine own other partner result }
         ensures attempted { Attempted pass.old.seen pass.new.seen mine own other partner result }
         ensures made { pass.new.made ≡ attempt_made mine own other partner result pass.old.made }
     {

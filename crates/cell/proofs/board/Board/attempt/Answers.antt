@@ -1,10 +1,11 @@
-use Rattle.std.proofs.Common.{rules, ℕ, ap, subst}
+use Rattle.std.proofs.Common.{rules, ◌≡◌, ℕ, None, ap, subst}
 use Rattle.words.specs.declared.Joined.{Joined}
 use Rattle.words.specs.Words.{IsJoinedInRange}
-use Rattle.cell.specs.Attempts.{Attempted, IsNear}
+use Rattle.cell.specs.declared.attempt.Attempt.TheVariants.{Unfit}
+use Rattle.cell.specs.Attempts.{Attempted, CanMeet, IsNear}
 use Rattle.cell.specs.Sight.{CanJoin}
 use Rattle.cell.proofs.Learning.{learns_then}
-use Rattle.cell.proofs.Meeting.{attempted_before, can_meet, fits_as, from_some}
+use Rattle.cell.proofs.Meeting.{attempted_before, can_meet, fits_as, from_none, from_some, offers_fit}
 use Rattle.cell.proofs.board.Board.attempt.Goals as goal
 
 -- src/attempt.rt:54:5
@@ -16,6 +17,16 @@ returns-in-Some-clause-fits g c =
     let can = from_some c.fit.result (λ j. CanJoin c.fit.new.seat.me.0.seen c.args.mine.0 c.args.mine.1 c.args.other.0 c.args.other.1 j × IsJoinedInRange j) c.in-Some.joined c.fit.ensures.can (search rules) in
     fits_as c.meet.new.seat.me.0.seen c.args.mine.0 c.args.other.0 c.args.mine.1 c.args.other.1 c.meet.result c.meet.ensures.attempted.1
     (can_meet (IsNear c.args.mine.0 c.args.other.0) _ _ c.args.mine.0 c.args.other.0 c.args.mine.1 c.args.other.1 c.in-Some.joined c.meet.ensures.learns can.0)
+
+pub returns-in-Some-clause-offers : goal.returns-in-Some-clause-offers
+returns-in-Some-clause-offers g c =
+    offers_fit c.args.self.now.shape.threads c.args.self.now.shape.rows c.meet.new.seat.me.0.seen c.args.mine.0 c.args.other.0 c.args.mine.1 c.args.other.1 c.meet.result c.meet.ensures.sits.1.3 (returns-in-Some-clause-fits g c)
+
+pub returns-in-None-clause-offers : goal.returns-in-None-clause-offers
+returns-in-None-clause-offers g c =
+    let unfit : c.fit.result ≡ None = (search rules) in
+    offers_fit c.args.self.now.shape.threads c.args.self.now.shape.rows c.fit.new.seat.me.0.seen c.args.mine.0 c.args.other.0 c.args.mine.1 c.args.other.1 Unfit c.fit.ensures.sits.1.3
+    (from_none c.fit.result (¬ CanMeet c.fit.new.seat.me.0.seen c.args.mine.0 c.args.mine.1 c.args.other.0 c.args.other.1) c.fit.ensures.unfit unfit)
 
 pub returns-in-Some-clause-attempted : goal.returns-in-Some-clause-attempted
 returns-in-Some-clause-attempted g c =
