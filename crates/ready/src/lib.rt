@@ -1,0 +1,11 @@
+//! Ready queues: a first-in first-out deque for each worker, from which the others steal, and an injector
+//! that takes what a deque refuses.
+#![tactic(auto)]
+
+mod ends;
+mod hands;
+mod ready;
+
+pub use crate::ends::ReadyEnd;
+pub use crate::hands::{Entry, Hand, Rule};
+pub use crate::ready::Ready;
