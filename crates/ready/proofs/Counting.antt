@@ -1,5 +1,5 @@
 -- What an end's count says of its hands, while it puts and gets.
-use Rattle.std.proofs.Common.{◌≡◌, ℕ, ◌+◌, ◌<◌, List, [], ◌∷◌, ◌++◌, sym, ap, ◌∙◌, subst, All, arith}
+use Rattle.std.proofs.Common.{◌≡◌, ℕ, ◌+◌, ◌<◌, List, [], ◌∷◌, sym, subst, All, arith}
 use Rattle.std.proofs.lemmas.List.Elements.{All-push, All-weaker}
 use Rattle.ready.specs.declared.hands.Entry.{Entry}
 use Rattle.ready.specs.declared.hands.Hand.{Hand}

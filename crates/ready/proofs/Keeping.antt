@@ -1,14 +1,14 @@
 -- Each step of a hand keeps the rule.
-use Rattle.std.proofs.Common.{◌≡◌, ◌≢◌, ℕ, zero, suc, ◌+◌, ◌<◌, ◌≤◌, ◌==◌, ◌&&◌, cond, eqb, if◌then◌else◌, Bool, true, false, List, [], ◌∷◌, ◌++◌, length, set, sym, refl, ap, ◌∙◌, subst, ◌⊎◌, ⊎_elim, inl, inr, Option, Some, None, All, arith, append_assoc, rules}
+use Rattle.std.proofs.Common.{◌≡◌, ◌≢◌, ℕ, zero, suc, ◌+◌, ◌<◌, ◌≤◌, ◌==◌, ◌&&◌, cond, eqb, if◌then◌else◌, Bool, true, false, List, [], ◌∷◌, ◌++◌, length, set, sym, refl, ap, ◌∙◌, subst, ◌⊎◌, ⊎_elim, inl, inr, Option, Some, None, All, arith}
 use Rattle.std.proofs.lemmas.Bool.{cases_Bool, and_parts, eqb-true, eqb-false, eq-eqb, ne_eqb}
-use Rattle.std.proofs.lemmas.List.Elements.{All-append, All-head, All-nil, All-push, All-tail}
+use Rattle.std.proofs.lemmas.List.Elements.{All-head, All-nil, All-push, All-tail}
 use mathlib.Core.Option.{some, some-ne-none}
 use lib.ListN.{get_elem?}
 use Rattle.crossbeam_deque.specs.Tasks.{Pushes, Takes, Forks, Admits, Finds, FindsFew, Learns}
-use Rattle.crossbeam_deque.proofs.Lists.{at_set, at_snoc}
+use Rattle.crossbeam_deque.proofs.Lists.{at_set}
 use Rattle.ready.specs.declared.hands.Entry.{Entry}
 use Rattle.ready.specs.declared.hands.Hand.{Hand}
-use Rattle.ready.specs.Hands.{weigh, total, is_of, hand, dealer, thief, following, after_deal, dealt, settled, puts, gets, Fits, HandsOver, Held, WasEmpty}
+use Rattle.ready.specs.Hands.{weigh, total, is_of, dealer, thief, following, after_deal, dealt, settled, puts, gets, Fits, HandsOver, Held, WasEmpty}
 
 some_inj : (a b : Hand) → some a ≡ some b → a ≡ b
 some_inj a b h = cc
@@ -161,12 +161,12 @@ deals port v k is items views r at =
       hand_of = changed r.hand_of r.next (length vs);
       each = each_snoc F vs (dealt v)
           (each_set F views port (after_deal v)
-              (record {
-                dealing = λ n p. (dealing.0, following_is v.next k n is p ∙ ap suc dealing.1);
-                numbered = numbered_still r.next r.hand_of (length vs) port v.number mine.numbered;
-                named = mine.named;
-              })
-              (λ j u other e. others_still r.deals r.next r.hand_of (length vs) j u (λ (same : j ≡ r.deals). other (same ∙ sym dealing.0)) (r.each j u e)))
+          (record {
+            dealing = λ n p. (dealing.0, following_is v.next k n is p ∙ ap suc dealing.1);
+            numbered = numbered_still r.next r.hand_of (length vs) port v.number mine.numbered;
+            named = mine.named;
+          })
+          (λ j u other e. others_still r.deals r.next r.hand_of (length vs) j u (λ (same : j ≡ r.deals). other (same ∙ sym dealing.0)) (r.each j u e)))
           (record {
             dealing = λ n p. absurd (none_some n p);
             numbered = numbered_new r.next r.hand_of (length vs) v.next (is ∙ ap (λ (n : ℕ). Some n) dealing.1);
@@ -188,12 +188,12 @@ settles port v k is nothing items views r at =
       hand_of = changed r.hand_of r.next port;
       each = each_snoc F vs thief
           (each_set F views port (settled v)
-              (record {
-                dealing = λ n p. (dealing.0, following_is v.next k n is p ∙ ap suc dealing.1);
-                numbered = numbered_new r.next r.hand_of port v.next (is ∙ ap (λ (n : ℕ). Some n) dealing.1);
-                named = subst (All (λ (e : Entry). v.next ≡ Some e.end)) (sym nothing) (named_none v.next);
-              })
-              (λ j u other e. others_still r.deals r.next r.hand_of port j u (λ (same : j ≡ r.deals). other (same ∙ sym dealing.0)) (r.each j u e)))
+          (record {
+            dealing = λ n p. (dealing.0, following_is v.next k n is p ∙ ap suc dealing.1);
+            numbered = numbered_new r.next r.hand_of port v.next (is ∙ ap (λ (n : ℕ). Some n) dealing.1);
+            named = subst (All (λ (e : Entry). v.next ≡ Some e.end)) (sym nothing) (named_none v.next);
+          })
+          (λ j u other e. others_still r.deals r.next r.hand_of port j u (λ (same : j ≡ r.deals). other (same ∙ sym dealing.0)) (r.each j u e)))
           (record {
             dealing = λ n p. absurd (none_some n p);
             numbered = λ n p. absurd (none_some n p);
@@ -212,16 +212,16 @@ new_entry items views port v e r at number fewer = total_none (λ (u : Hand). we
     each : (j : ℕ) (u : Hand) → get_elem? views j ≡ some u → weigh (is_of e.end e.count) u.put ≡ 0
     each j u there = ⊎_elim
         (λ (same : eqb j port ≡ true).
-            let is : u ≡ v = some_inj u v (sym there ∙ ap (get_elem? views) (eqb-true j port same) ∙ at) in
-            ap (λ (w : Hand). weigh (is_of e.end e.count) w.put) is
-            ∙ weigh_none (is_of e.end e.count) (λ (x : Entry). x.count < e.count) v.put (λ x less. is_of_other e.end e.count x (λ p q. omega arith)) fewer)
+        let is : u ≡ v = some_inj u v (sym there ∙ ap (get_elem? views) (eqb-true j port same) ∙ at) in
+        ap (λ (w : Hand). weigh (is_of e.end e.count) w.put) is
+        ∙ weigh_none (is_of e.end e.count) (λ (x : Entry). x.count < e.count) v.put (λ x less. is_of_other e.end e.count x (λ p q. omega arith)) fewer)
         (λ (other : eqb j port ≡ false).
-            weigh_none (is_of e.end e.count) (λ (x : Entry). u.number ≡ Some x.end) u.put
-            (λ x named. is_of_other e.end e.count x (λ p q.
-                let theirs = (r.each j u there).numbered e.end (named ∙ ap (λ (n : ℕ). Some n) p) in
-                let mine = (r.each port v at).numbered e.end number in
-                absurd (eqb-false j port other (theirs.1 ∙ sym mine.1))))
-            (r.each j u there).named)
+        weigh_none (is_of e.end e.count) (λ (x : Entry). u.number ≡ Some x.end) u.put
+        (λ x named. is_of_other e.end e.count x (λ p q.
+        let theirs = (r.each j u there).numbered e.end (named ∙ ap (λ (n : ℕ). Some n) p) in
+        let mine = (r.each port v at).numbered e.end number in
+        absurd (eqb-false j port other (theirs.1 ∙ sym mine.1))))
+        (r.each j u there).named)
         (cases_Bool (eqb j port))
 
 pub put_one : (port : ℕ) (v : Hand) (e : Entry) → v.number ≡ Some e.end → All (λ (x : Entry). x.count < e.count) v.put → Pushes HandsOver port v (e ∷ []) (λ w. w ≡ puts v (e ∷ []))
@@ -256,15 +256,15 @@ put_one port v e number fewer items views r at =
         let q = weigh_append (is_of end count) v.put (e ∷ []) in
         let before = r.once end count in
         ⊎_elim
-            (λ (same : ((e.end == end) && (e.count == count)) ≡ true).
-                let parts = and_parts (e.end == end) (e.count == count) same in
-                let none = subst (λ (x : ℕ × ℕ). total (λ (u : Hand). weigh (is_of x.0 x.1) u.put) views ≡ 0) (λ i. (eqb-true e.end end parts.0 i, eqb-true e.count count parts.1 i)) (new_entry items views port v e r at number fewer) in
-                let most = at_most_one end count e in
-                omega arith)
-            (λ (other : ((e.end == end) && (e.count == count)) ≡ false).
-                let none : is_of end count e ≡ 0 = ap (λ (b : Bool). if b then 1 else 0) other in
-                omega arith)
-            (cases_Bool ((e.end == end) && (e.count == count)))
+        (λ (same : ((e.end == end) && (e.count == count)) ≡ true).
+        let parts = and_parts (e.end == end) (e.count == count) same in
+        let none = subst (λ (x : ℕ × ℕ). total (λ (u : Hand). weigh (is_of x.0 x.1) u.put) views ≡ 0) (λ i. (eqb-true e.end end parts.0 i, eqb-true e.count count parts.1 i)) (new_entry items views port v e r at number fewer) in
+        let most = at_most_one end count e in
+        omega arith)
+        (λ (other : ((e.end == end) && (e.count == count)) ≡ false).
+        let none : is_of end count e ≡ 0 = ap (λ (b : Bool). if b then 1 else 0) other in
+        omega arith)
+        (cases_Bool ((e.end == end) && (e.count == count)))
 
 pub get_one : (port : ℕ) (v : Hand) → Takes HandsOver port v 1 (λ entries w. w ≡ gets v entries)
 get_one port v entries items views some_ few r at =

@@ -1,3 +1,4 @@
 pub mod Keeping
 pub mod Counting
 pub mod Stealing
+pub mod Beginning

@@ -1,5 +1,5 @@
 -- Lists of what was got, of which one grows.
-use Rattle.std.proofs.Common.{◌≡◌, ℕ, zero, suc, ◌+◌, List, [], ◌∷◌, ◌++◌, sym, refl, ap, ◌∙◌, subst, map, set, slice_get, slice_set, get_or, length, ◌<◌, Some, arith}
+use Rattle.std.proofs.Common.{◌≡◌, ℕ, zero, suc, List, [], ◌∷◌, ◌++◌, sym, refl, ap, ◌∙◌, subst, map, set, slice_get, slice_set, get_or, length, ◌<◌, Some, arith}
 use Rattle.std.proofs.Math.Seq.{map-set_same}
 use Rattle.std.proofs.lemmas.List.{map-set}
 use Rattle.ready.specs.declared.hands.Entry.{Entry}
@@ -24,7 +24,7 @@ pub stolen : (before others : List Other) (at : ℕ) (o p : Other) (e : Entry) �
     → GotOne (map got_of before) (map got_of (slice_set others at p)) e
 stolen before others at o p e same less is grew =
     subst (λ (l : List (List Entry)). GotOne l (map got_of (slice_set others at p)) e) same
-        (at, got_of o, get_map others at o less is, map-set got_of others at p ∙ ap (λ (l : List Entry). set (map got_of others) at l) grew)
+    (at, got_of o, get_map others at o less is, map-set got_of others at p ∙ ap (λ (l : List Entry). set (map got_of others) at l) grew)
 
 -- nothing was got from it
 pub not_stolen : (others : List Other) (at : ℕ) (o p : Other) → o ≡ get_or others at o → got_of p ≡ got_of o → map got_of (slice_set others at p) ≡ map got_of others

@@ -1,14 +1,17 @@
 -- What clauses say of an end.
-use Rattle.std.specs.Prelude.{◌≡◌, ℕ, ◌+◌, ◌<◌, ◌⊎◌, List, [], ◌∷◌, ◌++◌, Option, Some, None, All, map, slice_get, slice_set}
+use Rattle.std.specs.Prelude.{◌≡◌, ℕ, ◌+◌, ◌<◌, ◌⊎◌, List, [], ◌∷◌, ◌++◌, Some, None, All, map, drop, take, slice_get, slice_set}
 use Rattle.words.specs.declared.Row.{Row}
 use Rattle.crossbeam_deque.specs.Handles.{view, IsPassOf, worker_deque, worker_flavor, worker_view, stealer_deque, stealer_flavor}
+use Rattle.crossbeam_deque.specs.declared.handles.Stealer.{Stealer}
+use Rattle.atomic_blocks.specs.Lent.{RowsId}
+use Rattle.std.specs.declared.alloc.Global.{Global}
 use Rattle.crossbeam_deque.specs.Injected.{injector_view, IsInjectorPassOf}
 use Rattle.ready.specs.declared.hands.Entry.{Entry}
 use Rattle.ready.specs.declared.hands.Hand.{Hand}
 use Rattle.ready.specs.declared.ends.ReadyEnd.{ReadyEnd}
 use Rattle.ready.specs.declared.ends.Other.{Other}
 use Rattle.ready.specs.declared.ready.Ready.{Ready}
-use Rattle.ready.specs.Hands.{WasEmpty}
+use Rattle.ready.specs.Hands.{hand, thief}
 
 abbrev pub end_number : ReadyEnd → ℕ
 end_number e = e.number
@@ -57,7 +60,7 @@ abbrev pub HasPut : ReadyEnd → ReadyEnd → Row → Type 0
 HasPut before after row =
     (after.count ≡ before.count + 1) × (all_got after ≡ all_got before)
     × ((Grows (own_hand before).put (own_hand after).put (entry row before) × ((shared_hand after).put ≡ (shared_hand before).put))
-      ⊎ (((own_hand after).put ≡ (own_hand before).put) × Grows (shared_hand before).put (shared_hand after).put (entry row before)))
+    ⊎ (((own_hand after).put ≡ (own_hand before).put) × Grows (shared_hand before).put (shared_hand after).put (entry row before)))
 
 abbrev pub HasPutNothing : ReadyEnd → ReadyEnd → Type 0
 HasPutNothing before after = (after.count ≡ before.count) × ((own_hand after).put ≡ (own_hand before).put) × ((shared_hand after).put ≡ (shared_hand before).put)
@@ -70,3 +73,44 @@ GotOne before after e =
 -- from one of the queues an entry of that row was got, and no other entry
 abbrev pub HasGot : ReadyEnd → ReadyEnd → Row → Type 0
 HasGot before after row = (e : Entry) × (e.row ≡ row) × GotOne (all_got before) (all_got after) e
+
+-- NEW ENDS
+abbrev pub AllAt : {X : Type 0} → (ℕ → X → Type 0) → List X → Type 0
+AllAt P xs = (n : ℕ) (x : _) → slice_get xs n ≡ Some x → P n x
+
+-- a handle of a deque that is taken from at the front
+abbrev pub IsThief : {T A V P : Type 0} → Stealer T A V P → Type 0
+IsThief t = stealer_flavor t ≡ 0
+
+-- a hand that knows of nothing
+abbrev pub IsNewOther : Other → Type 0
+IsNewOther o = IsOther o × (view o.hand ≡ thief)
+
+-- which deque it is
+abbrev pub deque_of : Other → RowsId × Global
+deque_of o = stealer_deque o.deque
+
+abbrev pub own_deque_of : ReadyEnd → RowsId × Global
+own_deque_of e = worker_deque e.own
+
+-- all of a list but the one with this number, from the next one on
+abbrev pub all_but : {X : Type 0} → ℕ → List X → List X
+all_but n xs = drop (n + 1) xs ++ take n xs
+
+-- an end with this number, of these queues, which knows of nothing; what it steals from is left open
+pub record IsFresh (ready : Ready) (n : ℕ) (e : ReadyEnd) : Type 0 where
+  pub number : e.number ≡ n
+  pub count : e.count ≡ 0
+  pub fifo : worker_flavor e.own ≡ 0
+  pub own : own_hand e ≡ hand (Some n) (Some (n + 1)) [] []
+  pub inlet : IsInjectorPassOf ready.inlet e.inlet
+  pub shared : shared_hand e ≡ hand (Some n) None [] []
+
+abbrev pub IsAlone : Ready → ℕ → ReadyEnd → Type 0
+IsAlone ready n e = IsFresh ready n e × (e.others.items ≡ [])
+
+-- a new end has put and got nothing, and steals from the deques of all the other ends, from the next one on
+abbrev pub IsNewEnd : List ReadyEnd → ℕ → ReadyEnd → Type 0
+IsNewEnd ends n e =
+    (e.number ≡ n) × (e.count ≡ 0) × ((own_hand e).put ≡ []) × ((shared_hand e).put ≡ []) × All (λ (got : List Entry). got ≡ []) (all_got e)
+    × (map deque_of e.others.items ≡ all_but n (map own_deque_of ends))

@@ -13,10 +13,13 @@ use std::alloc::Global;
 /// A deque of an end, from which the others steal.
 pub(crate) type Deque = Worker<Entry, Global, Hand, Stolen>;
 
+/// A handle of a deque for the other ends.
+pub(crate) type Thief = Stealer<Entry, Global, Hand, Stolen>;
+
 /// The deque of another end.
 #[derive(Drop)]
 pub(crate) struct Other {
-    pub(crate) deque: Stealer<Entry, Global, Hand, Stolen>,
+    pub(crate) deque: Thief,
     pub(crate) hand: Pass<Entry, Hand>,
 }
 

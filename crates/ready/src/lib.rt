@@ -4,6 +4,7 @@
 
 mod ends;
 mod hands;
+mod making;
 mod ready;
 
 pub use crate::ends::ReadyEnd;

@@ -8,7 +8,7 @@ use Rattle.ready.proofs.ready.steal_any.Goals as goal
 pub returns-in-Some-clause-got : goal.returns-in-Some-clause-got
 returns-in-Some-clause-got c =
     stolen c.args.others.now.items c.loop-at.others.items c.loop-at.at c.index_mut.result.now c.steal.new.other c.in-Some.entry c.loop-at.invariant.1 (search rules) c.index_mut.ensures.value
-        (ap (λ (v : Hand). v.got) c.in-Some.ensures.got)
+    (ap (λ (v : Hand). v.got) c.in-Some.ensures.got)
 
 pub loop-at-preserved : goal.loop-at-preserved
 loop-at-preserved c = (

@@ -1,4 +1,4 @@
-use Rattle.std.proofs.Common.{◌≡◌, ◌≤◌, ℕ, All, map, length}
+use Rattle.std.proofs.Common.{◌≡◌, All, map, length}
 use Rattle.ready.specs.Ends.{IsOther, got_of}
 use Rattle.ready.proofs.ready.steal_any.Given as goal
 

@@ -15,14 +15,17 @@ push_as-requires-clause-pushes g c = put_one _ _ _ c.requires.here.own.0 c.requi
 pub push_as-requires-2-clause-rule : goal.push_as-requires-2-clause-rule
 push_as-requires-2-clause-rule g c =
     subst (λ (e : Entry). Pushes HandsOver c.args.end.now.inlet.id (injector_view c.args.end.now.inlet) (e ∷ []) (λ w. w ≡ puts (injector_view c.args.end.now.inlet) (e ∷ [])))
-        (sym c.in-Err.ensures.rule.0)
-        (put_one c.args.end.now.inlet.id (injector_view c.args.end.now.inlet) (entry c.args.row c.args.end.now) c.requires.here.shared.0 c.requires.here.shared.1)
+    (sym c.in-Err.ensures.rule.0)
+    (put_one c.args.end.now.inlet.id (injector_view c.args.end.now.inlet) (entry c.args.row c.args.end.now) c.requires.here.shared.0 c.requires.here.shared.1)
 
 pub returns-clause-here : goal.returns-clause-here
-returns-clause-here g c = (record {
-  fifo = c.in-Err.ensures.same.1 ∙ c.requires.here.fifo;
-  own = hand_kept _ _ (worker_view c.args.end.now.own) _ c.requires.here.own c.in-Err.ensures.rule.1;
-  inlet = c.in-Ok.ensures.same.0;
-  shared = hand_put _ _ (injector_view c.args.end.now.inlet) _ c.in-Err.entry c.requires.here.shared c.in-Ok.ensures.rule (ap (λ (e : Entry). e.count) c.in-Err.ensures.rule.0);
-  others = c.requires.here.others;
-}, refl)
+returns-clause-here g c = (
+  record {
+    fifo = c.in-Err.ensures.same.1 ∙ c.requires.here.fifo;
+    own = hand_kept _ _ (worker_view c.args.end.now.own) _ c.requires.here.own c.in-Err.ensures.rule.1;
+    inlet = c.in-Ok.ensures.same.0;
+    shared = hand_put _ _ (injector_view c.args.end.now.inlet) _ c.in-Err.entry c.requires.here.shared c.in-Ok.ensures.rule (ap (λ (e : Entry). e.count) c.in-Err.ensures.rule.0);
+    others = c.requires.here.others;
+  },
+  refl,
+)

@@ -1,4 +1,3 @@
-use Rattle.crossbeam_deque.specs.Injected.{injector_view}
 use Rattle.ready.proofs.Keeping.{get_one, finds_empty}
 use Rattle.ready.proofs.ready.Ready.take_shared.Goals as goal
 
