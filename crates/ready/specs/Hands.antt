@@ -19,6 +19,10 @@ total f (v ∷ vs) = f v + total f vs
 abbrev pub is_of : ℕ → ℕ → Entry → ℕ
 is_of end count e = if (e.end == end) && (e.count == count) then 1 else 0
 
+-- 1 for this entry
+abbrev pub is_entry : Entry → Entry → ℕ
+is_entry e x = if (x.row.thread == e.row.thread) && (x.row.sync == e.row.sync) && (x.end == e.end) && (x.count == e.count) then 1 else 0
+
 abbrev pub hand : Option ℕ → Option ℕ → List Entry → List Entry → Hand
 hand number next put got = record { number = number; next = next; put = put; got = got }
 

@@ -4,9 +4,11 @@
 
 mod ends;
 mod hands;
+mod laws;
 mod making;
 mod ready;
 
 pub use crate::ends::ReadyEnd;
-pub use crate::hands::{Entry, Hand, Rule};
+pub use crate::hands::{Entry, Hand, Rule, Stolen};
+pub use crate::laws::each_entry_is_got_once;
 pub use crate::ready::Ready;
