@@ -70,7 +70,13 @@ pub(crate) fn follow_pair<R: Wait>(
         return Ok(());
     }
     let others = home.nacks(rt);
-    wake_enabled(rt, cells, shared, worker, &[(row, nacks), (partner, others)])?;
+    wake_enabled(
+        rt,
+        cells,
+        shared,
+        worker,
+        &[(row, nacks), (partner, others)],
+    )?;
     Ok(())
 }
 

@@ -73,7 +73,16 @@ pub(crate) fn advance<R: Wait, G: Gate>(
         return Ok(Committed::Nothing);
     };
     gate.before(worker.number, row.thread);
-    let opened = resume(rt, cells, shared, &mut worker.pass, row, joined, message, next);
+    let opened = resume(
+        rt,
+        cells,
+        shared,
+        &mut worker.pass,
+        row,
+        joined,
+        message,
+        next,
+    );
     let done = meet(rt, cells, shared, worker, next, opened);
     gate.after(worker.number, row.thread);
     done
@@ -245,7 +254,10 @@ fn meet<R: Wait>(
     let Some(nacks) = opened? else {
         return Ok(Committed::Nothing);
     };
-    match shared.meet.search(rt, cells, &mut worker.pass, &NoGate, row)? {
+    match shared
+        .meet
+        .search(rt, cells, &mut worker.pass, &NoGate, row)?
+    {
         Found::Met(other) => {
             follow_pair(rt, cells, shared, worker, row, nacks, other)?;
             Ok(Committed::Pair(row, other))

@@ -53,12 +53,7 @@ fn wait_for_row<R: Wait>(rt: &R, shared: &Shared, end: &mut ReadyEnd) -> Option<
 
 /// The row of the next turn: the one that was kept, or else one that is ready. There is none where all workers
 /// are to stop.
-fn next_row<R: Wait>(
-    rt: &R,
-    shared: &Shared,
-    end: &mut ReadyEnd,
-    kept: Option<Row>,
-) -> Option<Row>
+fn next_row<R: Wait>(rt: &R, shared: &Shared, end: &mut ReadyEnd, kept: Option<Row>) -> Option<Row>
     requires { IsEndOf shared.now.ready end.old }
     ensures { IsEndOf shared.now.ready end.new }
 {

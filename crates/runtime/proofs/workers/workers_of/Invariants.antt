@@ -10,4 +10,4 @@ abbrev pub invariant-loop-pass : goal.invariant-loop-pass
 invariant-loop-pass l =
     (goal.iterator-loop-pass).can_next l.pass-iterator × (goal.iterator-loop-pass).is_finite l.pass-iterator
     × ((cells : Grid) (ready : Ready) → All (IsPassOf cells) l.fn.passes.items → All (IsEndOf ready) l.fn.ends.items
-        → All (IsPassOf cells) (into_iter_items l.pass-iterator) × All (IsEndOf ready) l.ends.items × All (IsWorkerOf cells ready) l.workers.items)
+    → All (IsPassOf cells) (into_iter_items l.pass-iterator) × All (IsEndOf ready) l.ends.items × All (IsWorkerOf cells ready) l.workers.items)
