@@ -1,2 +1,3 @@
 pub mod Headline
 pub mod Limits
+pub mod Workers

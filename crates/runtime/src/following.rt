@@ -1,37 +1,82 @@
 //! What becomes ready by a commit: its rows, and the rows that wait for nacks that it enabled.
 
 ghost use Rattle.cell.specs.Calls.{IsPassOf};
+ghost use Rattle.ready.specs.Ends.{IsEndOf};
+ghost use Rattle.runtime.specs.Workers.{IsWorkerOf};
 
 use crate::fault::Halt;
 use crate::nacks::Nacks;
-use crate::ready::Committed;
-use crate::turns::Shared;
+use crate::turns::{Committed, Shared, Worker};
 use cell::{Cells, NoGate, Pass};
+use ready::ReadyEnd;
 use std::sync::Wait;
 use words::{Cell, NackName, Offer, Row};
 
-/// Wakes the rows that wait for nacks that the commit of the two rows enabled. Neither is in the ready list
-/// yet: from when a row is put in another worker may go on with its thread, whose machine then has the nacks
-/// of its next sync.
+/// Puts the row into the ready queues. Where the end has put as many as it can count, the row is left out: what
+/// stands in the queues are hints.
+pub(crate) fn put_ready<R: Wait>(
+    rt: &R,
+    shared: &Shared,
+    end: &mut ReadyEnd,
+    row: Row,
+) -> Result<(), Halt>
+    requires { IsEndOf shared.now.ready end.old }
+    ensures { IsEndOf shared.now.ready end.new }
+{
+    if end.count() < u64::MAX {
+        shared.ready.put(rt, end, row)?;
+    }
+    Ok(())
+}
+
+/// Puts the rows that a turn committed into the ready queues.
+pub(crate) fn put_committed<R: Wait>(
+    rt: &R,
+    shared: &Shared,
+    end: &mut ReadyEnd,
+    committed: Committed,
+) -> Result<(), Halt>
+    requires { IsEndOf shared.now.ready end.old }
+    ensures { IsEndOf shared.now.ready end.new }
+{
+    match committed {
+        Committed::Nothing => Ok(()),
+        Committed::Alone(row) => put_ready(rt, shared, end, row),
+        Committed::Pair(row, partner) => {
+            put_ready(rt, shared, end, row)?;
+            put_ready(rt, shared, end, partner)
+        }
+    }
+}
+
+/// Wakes the rows that wait for nacks that the commit of the two rows enabled. Neither is ready
+/// yet: from when a row is put into the ready queues another worker may go on with its thread, whose machine then
+/// has the nacks of its next sync.
 #[inline(always)]
 pub(crate) fn follow_pair<R: Wait>(
     rt: &R,
     cells: &Cells,
     shared: &Shared,
-    pass: &mut Pass,
+    worker: &mut Worker,
     row: Row,
     nacks: Nacks,
     partner: Row,
 ) -> Result<(), Halt>
-    requires { IsPassOf cells.now pass.old }
-    ensures { IsPassOf cells.now pass.new }
+    requires { IsWorkerOf cells.now shared.now.ready worker.old }
+    ensures { IsWorkerOf cells.now shared.now.ready worker.new }
 {
     let home = shared.homes.home(partner.thread)?;
     if nacks.is_empty() && !home.has_nacks() {
         return Ok(());
     }
     let others = home.nacks(rt);
-    wake_enabled(rt, cells, shared, pass, &[(row, nacks), (partner, others)])?;
+    wake_enabled(
+        rt,
+        cells,
+        shared,
+        worker,
+        &[(row, nacks), (partner, others)],
+    )?;
     Ok(())
 }
 
@@ -41,17 +86,17 @@ pub(crate) fn follow_alone<R: Wait>(
     rt: &R,
     cells: &Cells,
     shared: &Shared,
-    pass: &mut Pass,
+    worker: &mut Worker,
     row: Row,
     nacks: Nacks,
 ) -> Result<(), Halt>
-    requires { IsPassOf cells.now pass.old }
-    ensures { IsPassOf cells.now pass.new }
+    requires { IsWorkerOf cells.now shared.now.ready worker.old }
+    ensures { IsWorkerOf cells.now shared.now.ready worker.new }
 {
     if nacks.is_empty() {
         return Ok(());
     }
-    wake_enabled(rt, cells, shared, pass, &[(row, nacks)])?;
+    wake_enabled(rt, cells, shared, worker, &[(row, nacks)])?;
     Ok(())
 }
 
@@ -61,30 +106,30 @@ fn wake_enabled<R: Wait>(
     rt: &R,
     cells: &Cells,
     shared: &Shared,
-    pass: &mut Pass,
+    worker: &mut Worker,
     committed: &[(Row, Nacks)],
 ) -> Result<(), Halt>
-    requires { IsPassOf cells.now pass.old }
-    ensures { IsPassOf cells.now pass.new }
+    requires { IsWorkerOf cells.now shared.now.ready worker.old }
+    ensures { IsWorkerOf cells.now shared.now.ready worker.new }
 {
     let mut enabled = Vec::new(shared.alloc);
     for (row, nacks) in committed {
-        add_enabled(cells, pass, *row, *nacks, &mut enabled)?;
+        add_enabled(cells, &mut worker.pass, *row, *nacks, &mut enabled)?;
     }
-    wake_all(rt, cells, shared, pass, enabled)
+    wake_all(rt, cells, shared, worker, enabled)
 }
 
 /// Wakes the rows that wait for these nacks, and follows them in turn: their commits enable nacks too.
-/// Rows that are woken are put into the ready list here.
+/// Rows that are woken are put into the ready queues here.
 fn wake_all<R: Wait>(
     rt: &R,
     cells: &Cells,
     shared: &Shared,
-    pass: &mut Pass,
+    worker: &mut Worker,
     nacks: Vec<NackName>,
 ) -> Result<(), Halt>
-    requires { IsPassOf cells.now pass.old }
-    ensures { IsPassOf cells.now pass.new }
+    requires { IsWorkerOf cells.now shared.now.ready worker.old }
+    ensures { IsWorkerOf cells.now shared.now.ready worker.new }
 {
     let mut nacks = nacks;
     for _ in rt.forever() {
@@ -93,11 +138,11 @@ fn wake_all<R: Wait>(
         };
         let woken = shared
             .meet
-            .wake(rt, shared.alloc, cells, pass, &NoGate, nack)?;
+            .wake(rt, shared.alloc, cells, &mut worker.pass, &NoGate, nack)?;
         for row in &woken {
             let others = shared.homes.home(row.thread)?.nacks(rt);
-            add_enabled(cells, pass, *row, others, &mut nacks)?;
-            shared.ready.lock(rt).put(Committed::Alone(*row))?;
+            add_enabled(cells, &mut worker.pass, *row, others, &mut nacks)?;
+            put_ready(rt, shared, &mut worker.end, *row)?;
         }
     }
     unreachable!()

@@ -1,6 +1,7 @@
 //! Workers that run a script's processes over the shared cells, and the headline: `run`.
 #![tactic(auto)]
 
+mod activity;
 mod bound;
 mod fault;
 mod following;
@@ -8,7 +9,6 @@ mod gate;
 mod homes;
 mod nacks;
 mod ranges;
-mod ready;
 mod running;
 mod turns;
 mod worker;

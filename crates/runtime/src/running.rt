@@ -9,21 +9,22 @@ ghost use Rattle.runtime.specs.Headline.{TellsMaximalRun};
 ghost use Rattle.runtime.specs.Limits.{AreRows, AreWorkers};
 ghost use Rattle.runtime.specs.declared.fault.RunFault.TheVariants.{Workers, Rows, Unlawful};
 
+use crate::activity::Activity;
 use crate::bound::rows_used;
 use crate::fault::{Halt, RunFault};
 use crate::gate::Gate;
 use crate::homes::Homes;
-use crate::ready::Ready;
 use crate::turns::Shared;
-use crate::workers::{all_work, told_one};
+use crate::workers::{all_work, told_one, workers_of};
 use cell::Cells;
 use journal::{Record, complete};
 use meet::Meet;
 use protocol::{Ledger, World};
+use ready::Ready;
 use script::Script;
 use sequential::ReplayFault;
 use std::alloc::Global;
-use std::sync::{Mutex, Wait};
+use std::sync::Wait;
 use std::thread::Threads;
 
 fn told(halt: Halt) -> RunFault
@@ -69,14 +70,17 @@ fn work_within<R: Threads + Wait + Sync, G: Gate + Sync>(
 {
     let processes = script.processes();
     let threads = processes.len() as u8;
+    let (ready, ends) = Ready::new(alloc, workers)?;
     let shared = Shared {
         alloc,
         meet: Meet::new(alloc, script.channels() as u16, threads)?,
-        ready: Mutex::new(Ready::new(alloc, usize::from(workers))),
+        ready,
+        activity: Activity::new(usize::from(workers)),
         homes: Homes::new(alloc, processes.len())?,
     };
     let (cells, passes) = Cells::new(alloc, threads, rows_used(processes, rows), workers)?;
-    let passes = all_work(rt, alloc, &cells, &shared, gate, processes, passes)?;
+    let workers = workers_of(alloc, passes, ends)?;
+    let passes = all_work(rt, alloc, &cells, &shared, gate, processes, workers)?;
     match told_one(&cells, passes) {
         Some(pass) => Ok(cells.close(pass)),
         None => Err(Halt::Lost),

@@ -5,18 +5,20 @@ ghost use Rattle.std.specs.Prelude.{◌≡◌, ◌<◌, ◌≤◌, IfOk, IfSome,
 ghost use Rattle.protocol.specs.Tables.{next_row};
 ghost use Rattle.cell.specs.Calls.{IsPassOf, IsRowOf};
 ghost use Rattle.cell.specs.Sight.{Has};
+ghost use Rattle.runtime.specs.Workers.{IsWorkerOf};
 
+use crate::activity::Activity;
 use crate::fault::Halt;
-use crate::following::{follow_alone, follow_pair};
+use crate::following::{follow_alone, follow_pair, put_committed};
 use crate::gate::Gate;
 use crate::homes::{Home, Homes};
 use crate::nacks::Nacks;
 use crate::ranges::are_offers;
-use crate::ready::{Committed, Ready};
 use cell::{Cells, NoGate, Pass};
 use meet::{Found, Meet};
+use ready::{Ready, ReadyEnd};
 use std::alloc::Global;
-use std::sync::{Mutex, Wait};
+use std::sync::Wait;
 use syntax::Proc;
 use thread::{Machine, Turn};
 use words::{Cell, Joined, Message, Row};
@@ -26,38 +28,63 @@ use words::{Cell, Joined, Message, Row};
 pub(crate) struct Shared {
     pub(crate) alloc: Global,
     pub(crate) meet: Meet,
-    pub(crate) ready: Mutex<Ready>,
+    pub(crate) ready: Ready,
+    pub(crate) activity: Activity,
     pub(crate) homes: Homes,
 }
 
+/// What a worker has for itself: its pass of the cells, its end of the ready queues, and its number.
+#[derive(Drop)]
+pub(crate) struct Worker {
+    pub(crate) pass: Pass,
+    pub(crate) end: ReadyEnd,
+    pub(crate) number: u8,
+}
+
+/// The rows that a turn committed.
+#[derive(Clone, Copy)]
+pub(crate) enum Committed {
+    Nothing,
+    Alone(Row),
+    Pair(Row, Row),
+}
+
 /// Takes the row, if nobody has, and goes on with its thread. A thread's last row is not taken: behind it
-/// nothing runs. The answer is what the turn committed, which is to be put into the ready list.
+/// nothing runs. The answer is what the turn committed, which is to go on.
 pub(crate) fn advance<R: Wait, G: Gate>(
     rt: &R,
     cells: &Cells,
     shared: &Shared,
     gate: &G,
-    pass: &mut Pass,
-    worker: u8,
+    worker: &mut Worker,
     row: Row,
 ) -> Result<Committed, Halt>
-    requires { IsPassOf cells.now pass.old }
-    ensures { IsPassOf cells.now pass.new }
+    requires { IsWorkerOf cells.now shared.now.ready worker.old }
+    ensures { IsWorkerOf cells.now shared.now.ready worker.new }
 {
     let Some(next) = row_behind(cells, row) else {
         return Ok(Committed::Nothing);
     };
     // Before the row is taken: of the next row, which is held then, nothing more is read.
-    let Some(message) = cells.result(pass, row) else {
+    let Some(message) = cells.result(&mut worker.pass, row) else {
         return Ok(Committed::Nothing);
     };
-    let Some(joined) = cells.take(pass, row) else {
+    let Some(joined) = cells.take(&mut worker.pass, row) else {
         return Ok(Committed::Nothing);
     };
-    gate.before(worker, row.thread);
-    let opened = resume(rt, cells, shared, pass, row, joined, message, next);
-    let done = meet(rt, cells, shared, pass, next, opened);
-    gate.after(worker, row.thread);
+    gate.before(worker.number, row.thread);
+    let opened = resume(
+        rt,
+        cells,
+        shared,
+        &mut worker.pass,
+        row,
+        joined,
+        message,
+        next,
+    );
+    let done = meet(rt, cells, shared, worker, next, opened);
+    gate.after(worker.number, row.thread);
     done
 }
 
@@ -73,54 +100,51 @@ fn row_behind(cells: &Cells, row: Row) -> Option<Row>
 }
 
 /// The first turn of the thread, where the pass holds its first row. What it commits is put into the ready
-/// list.
+/// queues.
 fn begin_thread<R: Wait, G: Gate>(
     rt: &R,
     cells: &Cells,
     shared: &Shared,
     gate: &G,
     process: &Proc,
-    pass: &mut Pass,
-    worker: u8,
+    worker: &mut Worker,
     thread: u8,
 ) -> Result<(), Halt>
-    requires here { IsPassOf cells.now pass.old }
+    requires here { IsWorkerOf cells.now shared.now.ready worker.old }
     requires thread { thread < 64 }
-    ensures { IsPassOf cells.now pass.new }
+    ensures { IsWorkerOf cells.now shared.now.ready worker.new }
 {
     let row = Row { thread, sync: 0 };
-    if !pass.holds(row) || !cells.has(row) {
+    if !worker.pass.holds(row) || !cells.has(row) {
         return Ok(());
     }
-    let Cell::Fresh = cells.look(pass, row) else {
+    let Cell::Fresh = cells.look(&mut worker.pass, row) else {
         return Err(Halt::Lost);
     };
-    gate.before(worker, thread);
-    let opened = begin(rt, cells, shared, process, pass, row);
-    let done = meet(rt, cells, shared, pass, row, opened);
-    gate.after(worker, thread);
-    shared.ready.lock(rt).put(done?)?;
-    Ok(())
+    gate.before(worker.number, thread);
+    let opened = begin(rt, cells, shared, process, &mut worker.pass, row);
+    let done = meet(rt, cells, shared, worker, row, opened);
+    gate.after(worker.number, thread);
+    put_committed(rt, shared, &mut worker.end, done?)
 }
 
-/// The first turns of the threads whose first rows the pass holds.
+/// The first turns of the threads whose first rows the worker's pass holds.
 pub(crate) fn begin_all<R: Wait, G: Gate>(
     rt: &R,
     cells: &Cells,
     shared: &Shared,
     gate: &G,
     processes: &[Proc],
-    pass: &mut Pass,
-    worker: u8,
+    worker: &mut Worker,
 ) -> Result<(), Halt>
-    requires { IsPassOf cells.now pass.old }
-    ensures { IsPassOf cells.now pass.new }
+    requires { IsWorkerOf cells.now shared.now.ready worker.old }
+    ensures { IsWorkerOf cells.now shared.now.ready worker.new }
 {
     for (at, process) in processes.iter().enumerate() {
         if at >= 64 {
             return Err(Halt::Lost);
         }
-        begin_thread(rt, cells, shared, gate, process, pass, worker, at as u8)?;
+        begin_thread(rt, cells, shared, gate, process, worker, at as u8)?;
     }
     Ok(())
 }
@@ -219,24 +243,27 @@ fn meet<R: Wait>(
     rt: &R,
     cells: &Cells,
     shared: &Shared,
-    pass: &mut Pass,
+    worker: &mut Worker,
     row: Row,
     opened: Result<Option<Nacks>, Halt>,
 ) -> Result<Committed, Halt>
-    requires here { IsPassOf cells.now pass.old × IsRowOf cells.now row }
-    requires opened { IfOk opened (λ opened. IfSome opened (λ nacks. Has pass.old.seen.held row × Has pass.old.seen.opened row)) }
-    ensures { IsPassOf cells.now pass.new }
+    requires here { IsWorkerOf cells.now shared.now.ready worker.old × IsRowOf cells.now row }
+    requires opened { IfOk opened (λ opened. IfSome opened (λ nacks. Has worker.old.pass.seen.held row × Has worker.old.pass.seen.opened row)) }
+    ensures { IsWorkerOf cells.now shared.now.ready worker.new }
 {
     let Some(nacks) = opened? else {
         return Ok(Committed::Nothing);
     };
-    match shared.meet.search(rt, cells, pass, &NoGate, row)? {
+    match shared
+        .meet
+        .search(rt, cells, &mut worker.pass, &NoGate, row)?
+    {
         Found::Met(other) => {
-            follow_pair(rt, cells, shared, pass, row, nacks, other)?;
+            follow_pair(rt, cells, shared, worker, row, nacks, other)?;
             Ok(Committed::Pair(row, other))
         }
         Found::Alone => {
-            follow_alone(rt, cells, shared, pass, row, nacks)?;
+            follow_alone(rt, cells, shared, worker, row, nacks)?;
             Ok(Committed::Alone(row))
         }
         // whoever committed the row follows it

@@ -1,45 +1,119 @@
 //! One worker: turns of threads, one after another.
 
 ghost use Rattle.cell.specs.Calls.{IsPassOf};
+ghost use Rattle.ready.specs.Ends.{IsEndOf};
+ghost use Rattle.runtime.specs.Workers.{IsWorkerOf};
 
 use crate::fault::Halt;
+use crate::following::{put_committed, put_ready};
 use crate::gate::Gate;
-use crate::ready::{Committed, Next};
-use crate::turns::{Shared, advance, begin_all};
+use crate::turns::{Committed, Shared, Worker, advance, begin_all};
 use cell::{Cells, Pass};
 use crossbeam_utils::Backoff;
+use ready::ReadyEnd;
 use std::sync::Wait;
 use syntax::Proc;
+use words::Row;
 
-/// The first turns of the pass's threads, and then whatever is ready.
+/// How many snoozes at most lie between two looks of an idle worker. The more there are, the less it disturbs
+/// those that work.
+const MOST_SNOOZES: u32 = 64;
+
+/// Snoozes so many times, unless all workers are to stop meanwhile. The answer is whether they are.
+fn snooze(shared: &Shared, backoff: &Backoff, times: u32) -> bool {
+    for _ in 0..times {
+        if shared.activity.is_stopped() {
+            return true;
+        }
+        backoff.snooze();
+    }
+    shared.activity.is_stopped()
+}
+
+/// Waits for a row that is ready, where none was found: the worker is idle but for its looks, between which lie
+/// more and more snoozes. There is none where all workers are to stop.
+fn wait_for_row<R: Wait>(rt: &R, shared: &Shared, end: &mut ReadyEnd) -> Option<Row>
+    requires { IsEndOf shared.now.ready end.old }
+    ensures { IsEndOf shared.now.ready end.new }
+{
+    let backoff = Backoff::new();
+    let mut times = 1u32;
+    for _ in rt.forever() {
+        if shared.activity.rest() || snooze(shared, &backoff, times) {
+            return None;
+        }
+        shared.activity.wake();
+        if let Some(row) = shared.ready.get(rt, end) {
+            return Some(row);
+        }
+        times = times.saturating_mul(2).min(MOST_SNOOZES);
+    }
+    unreachable!()
+}
+
+/// The row of the next turn: the one that was kept, or else one that is ready. There is none where all workers
+/// are to stop.
+fn next_row<R: Wait>(rt: &R, shared: &Shared, end: &mut ReadyEnd, kept: Option<Row>) -> Option<Row>
+    requires { IsEndOf shared.now.ready end.old }
+    ensures { IsEndOf shared.now.ready end.new }
+{
+    if shared.activity.is_stopped() {
+        return None;
+    }
+    if let Some(row) = kept {
+        return Some(row);
+    }
+    if let Some(row) = shared.ready.get(rt, end) {
+        return Some(row);
+    }
+    wait_for_row(rt, shared, end)
+}
+
+/// Of the rows that a turn committed one is kept for the next turn, where no row waits in the worker's own
+/// deque: so none is overtaken, and the order is that of a queue. The others are put into the ready queues.
+fn keep_one<R: Wait>(
+    rt: &R,
+    shared: &Shared,
+    end: &mut ReadyEnd,
+    committed: Committed,
+) -> Result<Option<Row>, Halt>
+    requires { IsEndOf shared.now.ready end.old }
+    ensures { IsEndOf shared.now.ready end.new }
+{
+    if !end.is_clear() {
+        put_committed(rt, shared, end, committed)?;
+        return Ok(None);
+    }
+    match committed {
+        Committed::Nothing => Ok(None),
+        Committed::Alone(row) => Ok(Some(row)),
+        Committed::Pair(row, partner) => {
+            put_ready(rt, shared, end, partner)?;
+            Ok(Some(row))
+        }
+    }
+}
+
+/// The first turns of the worker's threads, and then whatever is ready.
 fn all_turns<R: Wait, G: Gate>(
     rt: &R,
     cells: &Cells,
     shared: &Shared,
     gate: &G,
     processes: &[Proc],
-    pass: &mut Pass,
-    worker: u8,
+    worker: &mut Worker,
 ) -> Result<(), Halt>
-    requires { IsPassOf cells.now pass.old }
-    ensures { IsPassOf cells.now pass.new }
+    requires { IsWorkerOf cells.now shared.now.ready worker.old }
+    ensures { IsWorkerOf cells.now shared.now.ready worker.new }
 {
-    begin_all(rt, cells, shared, gate, processes, pass, worker)?;
-    let mut next = shared.ready.lock(rt).end_turn(Committed::Nothing)?;
-    let backoff = Backoff::new();
+    begin_all(rt, cells, shared, gate, processes, worker)?;
+    let mut kept = None;
     for _ in rt.forever() {
-        match next {
-            Next::Take(row) => {
-                backoff.reset();
-                let committed = advance(rt, cells, shared, gate, pass, worker, row)?;
-                next = shared.ready.lock(rt).end_turn(committed)?;
-            }
-            Next::Wait => {
-                backoff.snooze();
-                next = shared.ready.lock(rt).next();
-            }
-            Next::Stop => return Ok(()),
-        }
+        let Some(row) = next_row(rt, shared, &mut worker.end, kept) else {
+            return Ok(());
+        };
+        let committed = advance(rt, cells, shared, gate, worker, row)?;
+        kept = keep_one(rt, shared, &mut worker.end, committed)?;
     }
     unreachable!()
 }
@@ -58,16 +132,18 @@ pub(crate) fn work_on<R: Wait, G: Gate>(
     shared: &Shared,
     gate: &G,
     processes: &[Proc],
-    pass: Pass,
-    worker: u8,
+    worker: Worker,
 ) -> Worked
-    requires { IsPassOf cells.now pass }
+    requires { IsWorkerOf cells.now shared.now.ready worker }
     ensures { IsPassOf cells.now result.pass }
 {
-    let mut pass = pass;
-    let done = all_turns(rt, cells, shared, gate, processes, &mut pass, worker);
+    let mut worker = worker;
+    let done = all_turns(rt, cells, shared, gate, processes, &mut worker);
     if done.is_err() {
-        shared.ready.lock(rt).stop();
+        shared.activity.stop();
     }
-    Worked { pass, done }
+    Worked {
+        pass: worker.pass,
+        done,
+    }
 }

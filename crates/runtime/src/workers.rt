@@ -2,13 +2,17 @@
 
 ghost use Rattle.std.specs.Prelude.{◌≡◌, [], All, IfOk, IfSome};
 ghost use denote.Param.Send.{IsSync};
-ghost use Rattle.cell.specs.Calls.{IsPassOf, PassView};
+ghost use Rattle.cell.specs.Calls.{Grid, IsPassOf, PassView};
+ghost use Rattle.ready.specs.declared.ready.Ready.{Ready};
+ghost use Rattle.ready.specs.Ends.{IsEndOf};
+ghost use Rattle.runtime.specs.Workers.{IsWorkerOf};
 
 use crate::fault::{Halt, told_first};
 use crate::gate::Gate;
-use crate::turns::Shared;
+use crate::turns::{Shared, Worker};
 use crate::worker::{Worked, work_on};
 use cell::{Cells, Pass};
+use ready::ReadyEnd;
 use std::alloc::Global;
 use std::snapshot::Snapshot;
 use std::sync::Wait;
@@ -64,30 +68,52 @@ fn join_all<R: Threads>(
     }
 }
 
-/// One worker works in the calling thread. Its pass comes back in the list that it stood in.
+/// The workers, each with a pass and an end of its own.
+pub(crate) fn workers_of(
+    alloc: Global,
+    passes: Vec<Pass>,
+    ends: Vec<ReadyEnd>,
+) -> Result<Vec<Worker>, Halt>
+    ensures { (cells : Grid) (ready : Ready) → All (IsPassOf cells) passes.items → All (IsEndOf ready) ends.items → IfOk result (λ workers. All (IsWorkerOf cells ready) workers.items) }
+{
+    let mut ends = ends;
+    let mut workers = Vec::with_capacity(alloc, passes.len())?;
+    let mut number = 0u8;
+    for pass in passes {
+        let Some(end) = ends.pop() else {
+            return Err(Halt::Lost);
+        };
+        workers.push(Worker { pass, end, number })?;
+        number = number.saturating_add(1);
+    }
+    Ok(workers)
+}
+
+/// One worker works in the calling thread.
 fn work_alone<R: Wait, G: Gate>(
     rt: &R,
+    alloc: Global,
     cells: &Cells,
     shared: &Shared,
     gate: &G,
     processes: &[Proc],
-    passes: Vec<Pass>,
+    workers: Vec<Worker>,
 ) -> Result<Vec<Pass>, Halt>
-    requires { All (λ p. IsPassOf cells.now p) passes.items }
+    requires { All (λ w. IsWorkerOf cells.now shared.now.ready w) workers.items }
     ensures { IfOk result (λ back. All (λ p. IsPassOf cells.now p) back.items) }
 {
-    let mut passes = passes;
-    let Some(pass) = passes.pop() else {
-        return Ok(passes);
+    let mut workers = workers;
+    let mut back = Vec::with_capacity(alloc, 1)?;
+    let Some(worker) = workers.pop() else {
+        return Ok(back);
     };
-    let Worked { pass, done } = work_on(rt, cells, shared, gate, processes, pass, 0);
+    let Worked { pass, done } = work_on(rt, cells, shared, gate, processes, worker);
     done?;
-    passes.push(pass)?;
-    Ok(passes)
+    back.push(pass)?;
+    Ok(back)
 }
 
-/// All workers work, each with a pass of its own, and give the passes back. For one worker no thread is
-/// started.
+/// All workers work, and give their passes back. For one worker no thread is started.
 pub(crate) fn all_work<R: Threads + Wait + Sync, G: Gate + Sync>(
     rt: &R,
     alloc: Global,
@@ -95,35 +121,33 @@ pub(crate) fn all_work<R: Threads + Wait + Sync, G: Gate + Sync>(
     shared: &Shared,
     gate: &G,
     processes: &[Proc],
-    passes: Vec<Pass>,
+    workers: Vec<Worker>,
 ) -> Result<Vec<Pass>, Halt>
-    requires { All (λ p. IsPassOf cells.now p) passes.items }
+    requires { All (λ w. IsWorkerOf cells.now shared.now.ready w) workers.items }
     ensures { IfOk result (λ back. All (λ p. IsPassOf cells.now p) back.items) }
 {
-    if passes.len() == 1 {
-        return work_alone(rt, cells, shared, gate, processes, passes);
+    if workers.len() == 1 {
+        return work_alone(rt, alloc, cells, shared, gate, processes, workers);
     }
-    let mut handles: Vec<Handle> = Vec::with_capacity(alloc, passes.len())?;
+    let mut handles: Vec<Handle> = Vec::with_capacity(alloc, workers.len())?;
     thread::scope(
         thread::scope_env(),
         rt,
         |scope| -> Result<Vec<Pass>, Halt>
             requires sync { IsSync R.row × IsSync G.row }
-            requires passes { All (λ p. IsPassOf cells.now p) passes.items }
+            requires workers { All (λ w. IsWorkerOf cells.now shared.now.ready w) workers.items }
             requires handles { handles.items ≡ [] }
             ensures { IfOk result (λ back. All (λ p. IsPassOf cells.entry.now p) back.items) }
         {
             let mut halted = None;
-            let mut number = 0u8;
-            for pass in passes {
-                let own_number = number;
+            for worker in workers {
                 let started = scope.spawn_with(
                     gives_back(cells),
                     move || -> Worked
                         requires sync { IsSync R.row × IsSync G.row }
-                        requires here { IsPassOf cells.now pass }
+                        requires here { IsWorkerOf cells.now shared.now.ready worker }
                         ensures { IsPassOf cells.entry.now result.pass }
-                    { work_on(rt, cells, shared, gate, processes, pass, own_number) },
+                    { work_on(rt, cells, shared, gate, processes, worker) },
                 );
                 let Ok(handle) = started else {
                     halted = Some(Halt::NoWorker);
@@ -133,10 +157,9 @@ pub(crate) fn all_work<R: Threads + Wait + Sync, G: Gate + Sync>(
                     halted = Some(Halt::Memory);
                     break;
                 }
-                number = number.saturating_add(1);
             }
             if halted.is_some() {
-                shared.ready.lock(rt).stop();
+                shared.activity.stop();
             }
             join_all(rt, alloc, cells, handles, halted)
         },

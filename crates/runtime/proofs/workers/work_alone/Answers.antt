@@ -1,12 +1,9 @@
-use Rattle.std.proofs.Common.{Some, true}
+use Rattle.std.proofs.Common.{Some}
 use Rattle.std.proofs.lemmas.List.Elements.{All-pop}
-use Rattle.cell.specs.Calls.{IsPassOf, PassView}
-use Rattle.runtime.proofs.Lists.{all_pushed}
+use Rattle.runtime.specs.Workers.{IsWorkerOf}
+use Rattle.runtime.specs.declared.turns.Worker.{Worker}
 use Rattle.runtime.proofs.workers.work_alone.Goals as goal
 
-pub returns : goal.returns
-returns g c =
-    let P = λ (p : PassView). IsPassOf c.args.cells.now p in
-    let left = c.pop.new.self.items in
-    let rest = (All-pop P c.args.passes.items left (Some c.in-Some.pass) c.in-Some.ensures.items c.requires).0 in
-    all_pushed P true left c.push.new.self.items c.work_on-pass.result.pass c.in_ok-push.ensures.items rest c.work_on-pass.ensures
+pub work_on-pass-requires : goal.work_on-pass-requires
+work_on-pass-requires g c =
+    (All-pop (λ (w : Worker). IsWorkerOf c.args.cells.now c.args.shared.now.ready w) c.args.workers.items c.pop.new.self.items (Some c.in-Some.worker) c.in-Some.ensures.items c.requires).1

@@ -1,0 +1,29 @@
+use Rattle.std.proofs.Common.{Some, true}
+use Rattle.std.proofs.lemmas.List.Elements.{All-pop}
+use Rattle.std.specs.Vec.Iter.{into_iter_items}
+use Rattle.cell.specs.Calls.{IsPassOf}
+use Rattle.ready.specs.Ends.{IsEndOf}
+use Rattle.runtime.specs.Workers.{IsWorkerOf}
+use Rattle.runtime.specs.declared.turns.Worker.{Worker}
+use Rattle.runtime.proofs.Lists.{all_is, all_head, all_rest, all_pushed}
+use Rattle.runtime.proofs.workers.workers_of.Goals as goal
+
+pub loop-pass-preserved : goal.loop-pass-preserved
+loop-pass-preserved c = (
+  tt,
+  tt,
+  λ cells ready passes ends.
+      let before = c.loop-pass.invariant.2 cells ready passes ends in
+      let P = IsPassOf cells in
+      let left = into_iter_items c.next.new.self in
+      let all = all_is P _ _ c.in-Some.ensures.steps.0 before.0 in
+      let popped = All-pop (IsEndOf ready) c.loop-pass.ends.items c.pop.new.self.items (Some c.in-Some-pop.end) c.in-Some-pop.ensures.items before.1 in
+      let worker : Worker = record { pass = c.in-Some.pass; end = c.in-Some-pop.end; number = c.loop-pass.number } in (
+        all_rest P c.in-Some.pass left all,
+        popped.0,
+        all_pushed (IsWorkerOf cells ready) true c.loop-pass.workers.items c.push.new.self.items worker c.in_ok-push.ensures.items before.2 (all_head P c.in-Some.pass left all, popped.1),
+      ),
+)
+
+pub returns : goal.returns
+returns c = λ cells ready passes ends. (c.loop-pass.invariant.2 cells ready passes ends).2
