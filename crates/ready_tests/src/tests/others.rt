@@ -74,7 +74,10 @@ fn the_first_end_gets_what_each_put(rt: HostRuntime) -> Result<(), Fail> {
         assert_eq!(rt; ends.len(), usize::from(workers));
         assert!(rt; put_at_each(&rt, &ready, &mut ends));
         let got = get_at_first(&rt, rt.alloc(), &ready, &mut ends)?;
-        assert!(rt; got.iter().copied().eq(0..usize::from(workers)), "{workers} ends");
+        assert!(rt;
+            got.iter().copied().eq(0..usize::from(workers)),
+            "{workers} ends"
+        );
     }
     Ok(())
 }

@@ -63,9 +63,7 @@ impl Getter {
     fn times(&self, number: usize) -> u32
         ensures { result ≤ 255 }
     {
-        self.marks
-            .get(number)
-            .map_or(0, |times| u32::from(*times))
+        self.marks.get(number).map_or(0, |times| u32::from(*times))
     }
 }
 
@@ -201,8 +199,13 @@ fn each_row_is_got_once(rt: HostRuntime) -> Result<(), Fail> {
         let first = last_getter(rt.alloc(), &ready, &mut ends)?;
         let putter = last(&ready, &mut ends);
         let game = Game::new();
-        let (((were_put, mut putter), mut first), (second, third)) =
-            play(&rt, &ready, &game, putter, (first, second, third));
+        let (((were_put, mut putter), mut first), (second, third)) = play(
+            &rt,
+            &ready,
+            &game,
+            putter,
+            (first, second, third),
+        );
         assert!(rt; were_put);
         assert_eq!(rt; putter.count(), u64::from(ROWS));
         assert_eq!(rt; game.got.load(Ordering::SeqCst), u64::from(ROWS));
