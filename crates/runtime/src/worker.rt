@@ -31,29 +31,39 @@ fn snooze(shared: &Shared, backoff: &Backoff, times: u32) -> bool {
 }
 
 /// Waits for a row that is ready, where none was found: the worker is idle but for its looks, between which lie
-/// more and more snoozes. There is none where all workers are to stop.
-fn wait_for_row<R: Wait>(rt: &R, shared: &Shared, end: &mut ReadyEnd) -> Option<Row>
+/// so many snoozes, and more with each look that finds nothing. There is none where all workers are to stop.
+fn wait_for_row<R: Wait>(
+    rt: &R,
+    shared: &Shared,
+    end: &mut ReadyEnd,
+    snoozes: &mut u32,
+) -> Option<Row>
     requires { IsEndOf shared.now.ready end.old }
     ensures { IsEndOf shared.now.ready end.new }
 {
     let backoff = Backoff::new();
-    let mut times = 1u32;
     for _ in rt.forever() {
-        if shared.activity.rest() || snooze(shared, &backoff, times) {
+        if shared.activity.rest() || snooze(shared, &backoff, *snoozes) {
             return None;
         }
         shared.activity.wake();
         if let Some(row) = shared.ready.get(rt, end) {
             return Some(row);
         }
-        times = times.saturating_mul(2).min(MOST_SNOOZES);
+        *snoozes = snoozes.saturating_mul(2).min(MOST_SNOOZES);
     }
     unreachable!()
 }
 
 /// The row of the next turn: the one that was kept, or else one that is ready. There is none where all workers
 /// are to stop.
-fn next_row<R: Wait>(rt: &R, shared: &Shared, end: &mut ReadyEnd, kept: Option<Row>) -> Option<Row>
+fn next_row<R: Wait>(
+    rt: &R,
+    shared: &Shared,
+    end: &mut ReadyEnd,
+    kept: Option<Row>,
+    snoozes: &mut u32,
+) -> Option<Row>
     requires { IsEndOf shared.now.ready end.old }
     ensures { IsEndOf shared.now.ready end.new }
 {
@@ -66,7 +76,7 @@ fn next_row<R: Wait>(rt: &R, shared: &Shared, end: &mut ReadyEnd, kept: Option<R
     if let Some(row) = shared.ready.get(rt, end) {
         return Some(row);
     }
-    wait_for_row(rt, shared, end)
+    wait_for_row(rt, shared, end, snoozes)
 }
 
 /// Of the rows that a turn committed one is kept for the next turn, where no row waits in the worker's own
@@ -108,8 +118,10 @@ fn all_turns<R: Wait, G: Gate>(
 {
     begin_all(rt, cells, shared, gate, processes, worker)?;
     let mut kept = None;
+    // Who has often found nothing looks seldom, also after a row was found.
+    let mut snoozes = 1;
     for _ in rt.forever() {
-        let Some(row) = next_row(rt, shared, &mut worker.end, kept) else {
+        let Some(row) = next_row(rt, shared, &mut worker.end, kept, &mut snoozes) else {
             return Ok(());
         };
         let committed = advance(rt, cells, shared, gate, worker, row)?;
