@@ -1,0 +1,4 @@
+pub mod Ordering
+pub mod Keeping
+pub mod Onceness
+pub mod Positioning
