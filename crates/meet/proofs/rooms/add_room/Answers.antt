@@ -1,0 +1,56 @@
+use Rattle.std.proofs.Common.{◌≡◌, ◌++◌, ◌∷◌, [], ◌+◌, ◌<◌, ◌≤◌, ℕ, List, All, ap, arith, rules, refl, slice_get, Some, subst, sym, length, get_or}
+use Rattle.std.proofs.lemmas.List.Elements.{All-get_or}
+use Rattle.std.proofs.lemmas.Option.{get_or_from_slice_get, slice_get_read, slice_get_within}
+use Rattle.hands.specs.Positions.{AllAt}
+use Rattle.hands.proofs.Positioning.{all_at_set, all_from_at}
+use Rattle.lane.specs.Lanes.{IsLanePassOf}
+use Rattle.meet.specs.declared.rooms.MeetPass.{MeetPass}
+use Rattle.meet.specs.declared.rooms.Room.{Room}
+use Rattle.meet.specs.Rooms.{EachServes, Serves}
+use Rattle.meet.proofs.Serving.{serves_push}
+use Rattle.meet.proofs.rooms.add_room.Goals as goal
+
+abbrev Both : List Room → Room → ℕ → ℕ → MeetPass → Type 0
+Both rooms room at n p = (n < at → Serves (rooms ++ room ∷ []) p.passes.items) × (at ≤ n → Serves rooms p.passes.items)
+
+at_place : (rooms : List Room) (all : List MeetPass) (n : ℕ) (p : MeetPass) → EachServes rooms all → slice_get all n ≡ Some p → Serves rooms p.passes.items
+at_place rooms all n p each is =
+    subst (λ (x : MeetPass). Serves rooms x.passes.items) (get_or_from_slice_get all n p p is) (All-get_or (λ (x : MeetPass). Serves rooms x.passes.items) all n p (slice_get_within all n p is) each)
+
+pub loop-at-init : goal.loop-at-init
+loop-at-init c = (
+  (λ n p is. ((λ less. absurd (omega arith)), (λ _. at_place c.args.rooms.now.items c.args.all.now.items n p c.requires.each is))),
+  c.requires.new.1,
+  search rules,
+  refl,
+  refl,
+)
+
+pub loop-at-preserved : goal.loop-at-preserved
+loop-at-preserved c =
+    let rooms = c.args.rooms.now.items in
+    let room = c.args.room in
+    let at = c.loop-at.at in
+    let old = c.index_mut.result.now in
+    let new : MeetPass = record old { passes = c.push.new.self } in
+    let within : at < length c.loop-at.all.items = (search rules) in
+    let is = slice_get_read c.loop-at.all.items (length c.loop-at.all.items) at old refl within c.index_mut.ensures.value in
+    let lane_is : IsLanePassOf room.lane c.in-Some.lane = ? in
+    let served : Serves (rooms ++ room ∷ []) new.passes.items = subst (Serves (rooms ++ room ∷ [])) (sym c.in_ok-push.ensures.items) (serves_push rooms old.passes.items room c.in-Some.lane ((c.loop-at.invariant.0 at old is).1 (omega arith)) lane_is) in (
+      all_at_set (Both rooms room at) (Both rooms room (at + 1)) c.loop-at.all.items at new c.loop-at.invariant.0
+          ((λ less. served), (λ more. absurd (omega arith)))
+          (λ n p other both. ((λ less. both.0 (omega arith)), (λ more. both.1 (omega arith)))),
+      ?,
+      search rules,
+      search rules,
+      refl,
+    )
+
+pub returns : goal.returns
+returns c =
+    let rooms = c.args.rooms.now.items in
+    let room = c.args.room in (
+      (search rules),
+      subst (λ (all : List Room). EachServes all c.loop-at.all.items) (sym c.in_ok-push-2.ensures.items)
+          (λ n d less. (c.loop-at.invariant.0 n (get_or c.loop-at.all.items n d) (slice_get_read c.loop-at.all.items (length c.loop-at.all.items) n (get_or c.loop-at.all.items n d) refl less ?)).0 (search rules)),
+    )

@@ -1,0 +1,6 @@
+use Rattle.std.proofs.Common.{◌≡◌, get_or, ℕ, Some, slice_get}
+use Rattle.lane.specs.Lanes.{IsLanePassOf}
+use Rattle.meet.proofs.rooms.put_back.Given as goal
+
+abbrev pub invariant-loop-entry : goal.invariant-loop-entry
+invariant-loop-entry g l = IsLanePassOf l.room.lane l.lane

@@ -1,0 +1,13 @@
+use Rattle.std.proofs.Common.{rules}
+use Rattle.meet.proofs.Serving.{serves_here, serves_now, serves_within}
+use Rattle.meet.proofs.rooms.put_into.Goals as goal
+
+pub index_mut-requires : goal.index_mut-requires
+index_mut-requires g c = let less = serves_within c.args.rooms.now c.args.lanes.now.passes.items c.args.at c.requires.lanes c.in-Some.ensures.lookup.3.0 in search rules
+
+pub put_short-requires-clause-lane : goal.put_short-requires-clause-lane
+put_short-requires-clause-lane g c =
+    serves_here c.args.rooms.now c.args.lanes.now.passes.items c.args.at c.in-Some.room.now c.index_mut.result.now c.requires.lanes c.in-Some.ensures.lookup.3.0 c.in-Some.ensures.lookup.1 c.index_mut.ensures.value
+
+pub returns-clause-lanes : goal.returns-clause-lanes
+returns-clause-lanes g c = serves_now c.args.rooms.now c.args.lanes.now.passes.items c.args.at c.in-Some.room.now c.put_short.new.lane c.requires.lanes c.in-Some.ensures.lookup.3.0 c.in-Some.ensures.lookup.1 c.put_short.ensures.lane

@@ -1,0 +1,261 @@
+//! Rooms: lanes of waiting offers, each with counts that tell who has entries of it in hand.
+
+ghost use Rattle.std.specs.Prelude.{◌≡◌, All, IfOk, MatchOption, length};
+ghost use Rattle.cell.specs.Calls.{IsPassOf};
+ghost use Rattle.lane.specs.Lanes.{IsLanePassOf};
+ghost use Rattle.meet.specs.Rooms.{EachServes, Serves};
+ghost use Rattle.meet.specs.Searches.{Grows};
+
+use crate::queue::{Queue, saw_committed};
+use cell::{Cells, Pass};
+use lane::{Lane, LanePass, Waiting};
+use std::alloc::{AllocError, Global};
+use std::sync::Wait;
+use std::sync::atomic::{AtomicU64, Ordering};
+
+/// A lane of offers of one kind, and how often entries were taken up from it and given back.
+#[derive(Drop)]
+pub(crate) struct Room {
+    pub(crate) lane: Lane,
+    taken_up: AtomicU64,
+    given_back: AtomicU64,
+}
+
+/// One caller's passes of all rooms, and the entries that it has in hand.
+#[derive(Drop)]
+pub struct MeetPass {
+    pub(crate) passes: Vec<LanePass>,
+    pub(crate) in_hand: Queue,
+}
+
+impl Room {
+    fn new(lane: Lane) -> Room
+        ensures { result.lane ≡ lane }
+    {
+        Room {
+            lane,
+            taken_up: AtomicU64::new(0),
+            given_back: AtomicU64::new(0),
+        }
+    }
+
+    /// Tells the others that entries of the lane may be in hand from now on.
+    pub(crate) fn take_up(&self) {
+        self.taken_up.fetch_add(1, Ordering::SeqCst);
+    }
+
+    /// Tells the others that what was live of them stands in the lane again.
+    pub(crate) fn give_back(&self) {
+        self.given_back.fetch_add(1, Ordering::SeqCst);
+    }
+
+    /// How often entries were given back.
+    pub(crate) fn returns(&self) -> u64 {
+        self.given_back.load(Ordering::SeqCst)
+    }
+
+    /// Whether others may have had entries in hand since so many returns were read: the caller itself took
+    /// up entries so many times in between.
+    pub(crate) fn was_shared(&self, returns: u64, own: u64) -> bool {
+        // Where nobody else had any at a moment in between, as many were given back then as taken up, but
+        // for the caller's; neither count falls.
+        self.taken_up
+            .load(Ordering::SeqCst)
+            .wrapping_sub(returns)
+            > own
+    }
+
+    /// Whether nothing stood in the lane at a moment of the call, nor was in anybody's hand then.
+    pub(crate) fn is_still(&self, lane: &mut LanePass) -> bool
+        requires { IsLanePassOf self.now.lane lane.old }
+        ensures { IsLanePassOf self.now.lane lane.new }
+    {
+        let returns = self.returns();
+        self.lane.is_empty(lane) && !self.was_shared(returns, 0)
+    }
+
+    /// Puts the entry at the back. A pass that has put as many as its count can tell puts it nowhere.
+    fn put<R: Wait>(
+        &self,
+        rt: &R,
+        lane: &mut LanePass,
+        entry: Waiting,
+    ) -> Result<(), AllocError>
+        requires { IsLanePassOf self.now.lane lane.old }
+        ensures { IsLanePassOf self.now.lane lane.new }
+    {
+        if lane.count() == u64::MAX {
+            return Ok(());
+        }
+        self.lane.put(rt, lane, entry.0, entry.1)
+    }
+
+    /// Takes up to two entries from the front, to the first that is live, which goes to the back. So a lane
+    /// that is only put into stays as short as a few times its live entries.
+    fn shorten<R: Wait>(
+        &self,
+        rt: &R,
+        cells: &Cells,
+        pass: &mut Pass,
+        lane: &mut LanePass,
+    ) -> Result<(), AllocError>
+        requires cells { IsPassOf cells.now pass.old }
+        requires lane { IsLanePassOf self.now.lane lane.old }
+        ensures here { IsPassOf cells.now pass.new }
+        ensures grows { Grows pass.old.seen pass.new.seen }
+        ensures lane { IsLanePassOf self.now.lane lane.new }
+    {
+        for _ in 0..2 {
+            let Some(entry) = self.lane.take_front(rt, lane) else {
+                return Ok(());
+            };
+            if !saw_committed(cells, pass, entry.0) {
+                return self.put(rt, lane, entry);
+            }
+        }
+        Ok(())
+    }
+
+    /// Puts the entry at the back of the lane, which is kept short.
+    fn put_short<R: Wait>(
+        &self,
+        rt: &R,
+        cells: &Cells,
+        pass: &mut Pass,
+        lane: &mut LanePass,
+        entry: Waiting,
+    ) -> Result<(), AllocError>
+        requires cells { IsPassOf cells.now pass.old }
+        requires lane { IsLanePassOf self.now.lane lane.old }
+        ensures here { IsPassOf cells.now pass.new }
+        ensures grows { Grows pass.old.seen pass.new.seen }
+        ensures lane { IsLanePassOf self.now.lane lane.new }
+    {
+        if !self.lane.is_empty(lane) {
+            self.take_up();
+            let shortened = self.shorten(rt, cells, pass, lane);
+            self.give_back();
+            shortened?;
+        }
+        self.put(rt, lane, entry)
+    }
+}
+
+/// So many rooms, all empty, with so many passes of them.
+pub(crate) fn open_rooms(
+    alloc: Global,
+    count: usize,
+    passes: u8,
+) -> Result<(Vec<Room>, Vec<MeetPass>), AllocError>
+    ensures { IfOk result (λ r. (length r.1.items ≡ passes) × EachServes r.0.items r.1.items) }
+{
+    let mut rooms = Vec::with_capacity(alloc, count)?;
+    let mut all = Vec::with_capacity(alloc, usize::from(passes))?;
+    for _ in 0..passes {
+        all.push(MeetPass {
+            passes: Vec::with_capacity(alloc, count)?,
+            in_hand: Queue::new(alloc),
+        })?;
+    }
+    for _ in 0..count {
+        let (lane, lane_passes) = Lane::new(alloc, passes)?;
+        add_room(&mut rooms, &mut all, Room::new(lane), lane_passes)?;
+    }
+    Ok((rooms, all))
+}
+
+/// The room joins the others, and each caller gets one of its passes.
+fn add_room(
+    rooms: &mut Vec<Room>,
+    all: &mut Vec<MeetPass>,
+    room: Room,
+    lane_passes: Vec<LanePass>,
+) -> Result<(), AllocError>
+    requires each { EachServes rooms.old.items all.old.items }
+    requires new { (length lane_passes.items ≡ length all.old.items) × All (IsLanePassOf room.lane) lane_passes.items }
+    ensures { IfOk result (λ _. (length all.new.items ≡ length all.old.items) × EachServes rooms.new.items all.new.items) }
+{
+    let mut lane_passes = lane_passes;
+    for at in 0..all.len() {
+        let Some(lane) = lane_passes.pop() else {
+            unreachable!()
+        };
+        all[at].passes.push(lane)?;
+    }
+    rooms.push(room)?;
+    Ok(())
+}
+
+/// Puts the entry into the room of this number, where there is one.
+pub(crate) fn put_into<R: Wait>(
+    rt: &R,
+    cells: &Cells,
+    pass: &mut Pass,
+    rooms: &[Room],
+    lanes: &mut MeetPass,
+    at: usize,
+    entry: Waiting,
+) -> Result<(), AllocError>
+    requires cells { IsPassOf cells.now pass.old }
+    requires lanes { Serves rooms.now lanes.old.passes.items }
+    ensures here { IsPassOf cells.now pass.new }
+    ensures grows { Grows pass.old.seen pass.new.seen }
+    ensures lanes { Serves rooms.now lanes.new.passes.items }
+{
+    let Some(room) = rooms.get(at) else {
+        return Ok(());
+    };
+    room.put_short(rt, cells, pass, &mut lanes.passes[at], entry)
+}
+
+/// Takes the entry at the front of the room's lane.
+pub(crate) fn take_from<R: Wait>(
+    rt: &R,
+    rooms: &[Room],
+    lanes: &mut MeetPass,
+    at: usize,
+) -> Option<Waiting>
+    requires { Serves rooms.now lanes.old.passes.items }
+    ensures { Serves rooms.now lanes.new.passes.items }
+{
+    let room = rooms.get(at)?;
+    room.lane.take_front(rt, &mut lanes.passes[at])
+}
+
+/// Whether nothing stood in the room's lane at a moment, nor was in anybody's hand then.
+pub(crate) fn is_still(rooms: &[Room], lanes: &mut MeetPass, at: usize) -> bool
+    requires { Serves rooms.now lanes.old.passes.items }
+    ensures { Serves rooms.now lanes.new.passes.items }
+{
+    match rooms.get(at) {
+        Some(room) => room.is_still(&mut lanes.passes[at]),
+        None => true,
+    }
+}
+
+/// Puts the entries in hand whose rows are not committed back into the room's lane, in their order.
+pub(crate) fn put_back<R: Wait>(
+    rt: &R,
+    cells: &Cells,
+    pass: &mut Pass,
+    rooms: &[Room],
+    lanes: &mut MeetPass,
+    at: usize,
+) -> Result<(), AllocError>
+    requires cells { IsPassOf cells.now pass.old }
+    requires lanes { Serves rooms.now lanes.old.passes.items }
+    ensures here { IsPassOf cells.now pass.new }
+    ensures grows { Grows pass.old.seen pass.new.seen }
+    ensures lanes { Serves rooms.now lanes.new.passes.items }
+{
+    lanes.in_hand.tidy(cells, pass);
+    let Some(room) = rooms.get(at) else {
+        return Ok(());
+    };
+    let lane = &mut lanes.passes[at];
+    for entry in lanes.in_hand.entries() {
+        room.put(rt, lane, *entry)?;
+    }
+    lanes.in_hand.clear();
+    Ok(())
+}
