@@ -1,5 +1,4 @@
-pub mod Keeping
-pub mod Counting
+pub mod Steps
+pub mod Naming
 pub mod Stealing
 pub mod Beginning
-pub mod Onceness

@@ -1,17 +1,17 @@
 -- What clauses say of an end.
-use Rattle.std.specs.Prelude.{◌≡◌, ℕ, ◌+◌, ◌<◌, ◌⊎◌, List, [], ◌∷◌, ◌++◌, Some, None, All, map, drop, take, slice_get, slice_set}
+use Rattle.std.specs.Prelude.{◌≡◌, ℕ, ◌+◌, ◌⊎◌, List, [], ◌∷◌, ◌++◌, Some, None, All, map, drop, take, slice_get, slice_set}
 use Rattle.words.specs.declared.Row.{Row}
 use Rattle.crossbeam_deque.specs.Handles.{view, IsPassOf, worker_deque, worker_flavor, worker_view, stealer_deque, stealer_flavor}
 use Rattle.crossbeam_deque.specs.declared.handles.Stealer.{Stealer}
 use Rattle.atomic_blocks.specs.Lent.{RowsId}
 use Rattle.std.specs.declared.alloc.Global.{Global}
 use Rattle.crossbeam_deque.specs.Injected.{injector_view, IsInjectorPassOf}
-use Rattle.ready.specs.declared.hands.Entry.{Entry}
-use Rattle.ready.specs.declared.hands.Hand.{Hand}
+use Rattle.hands.specs.declared.entries.Entry.{Entry}
+use Rattle.hands.specs.declared.entries.Hand.{Hand}
+use Rattle.hands.specs.Hands.{IsHandOf, hand, taker}
 use Rattle.ready.specs.declared.ends.ReadyEnd.{ReadyEnd}
 use Rattle.ready.specs.declared.ends.Other.{Other}
 use Rattle.ready.specs.declared.ready.Ready.{Ready}
-use Rattle.ready.specs.Hands.{hand, thief}
 
 abbrev pub end_number : ReadyEnd → ℕ
 end_number e = e.number
@@ -20,22 +20,18 @@ abbrev pub end_count : ReadyEnd → ℕ
 end_count e = e.count
 
 -- what the end knows of its own deque and of the injector
-abbrev pub own_hand : ReadyEnd → Hand
+abbrev pub own_hand : ReadyEnd → Hand Row
 own_hand e = worker_view e.own
 
-abbrev pub shared_hand : ReadyEnd → Hand
+abbrev pub shared_hand : ReadyEnd → Hand Row
 shared_hand e = injector_view e.inlet
 
-abbrev pub got_of : Other → List Entry
+abbrev pub got_of : Other → List (Entry Row)
 got_of o = (view o.hand).got
 
 -- what it got: from its own deque, from the injector, and from each other's deque
-abbrev pub all_got : ReadyEnd → List (List Entry)
+abbrev pub all_got : ReadyEnd → List (List (Entry Row))
 all_got e = (own_hand e).got ∷ (shared_hand e).got ∷ map got_of e.others.items
-
--- the hand is the end's, which put less than so many entries with it
-abbrev pub IsHandOf : ℕ → ℕ → Hand → Type 0
-IsHandOf number count v = (v.number ≡ Some number) × All (λ (e : Entry). e.count < count) v.put
 
 abbrev pub IsOther : Other → Type 0
 IsOther o = IsPassOf (stealer_deque o.deque) o.hand × (stealer_flavor o.deque ≡ 0)
@@ -48,11 +44,11 @@ pub record IsEndOf (ready : Ready) (e : ReadyEnd) : Type 0 where
   pub shared : IsHandOf e.number e.count (shared_hand e)
   pub others : All IsOther e.others.items
 
-abbrev pub entry : Row → ReadyEnd → Entry
-entry row e = record { row = row; end = e.number; count = e.count }
+abbrev pub entry : Row → ReadyEnd → Entry Row
+entry row e = record { item = row; end = e.number; count = e.count }
 
 -- one list has one entry more at its end
-abbrev pub Grows : List Entry → List Entry → Entry → Type 0
+abbrev pub Grows : List (Entry Row) → List (Entry Row) → Entry Row → Type 0
 Grows before after e = after ≡ before ++ e ∷ []
 
 -- the row was put at the back of the own deque or of the injector, and of one of them only; nothing was got
@@ -66,25 +62,22 @@ abbrev pub HasPutNothing : ReadyEnd → ReadyEnd → Type 0
 HasPutNothing before after = (after.count ≡ before.count) × ((own_hand after).put ≡ (own_hand before).put) × ((shared_hand after).put ≡ (shared_hand before).put)
 
 -- one of the lists has the entry more at its end, and no other list changed
-abbrev pub GotOne : List (List Entry) → List (List Entry) → Entry → Type 0
+abbrev pub GotOne : List (List (Entry Row)) → List (List (Entry Row)) → Entry Row → Type 0
 GotOne before after e =
-    (from : ℕ) × (got : List Entry) × (slice_get before from ≡ Some got) × (after ≡ slice_set before from (got ++ e ∷ []))
+    (from : ℕ) × (got : List (Entry Row)) × (slice_get before from ≡ Some got) × (after ≡ slice_set before from (got ++ e ∷ []))
 
 -- from one of the queues an entry of that row was got, and no other entry
 abbrev pub HasGot : ReadyEnd → ReadyEnd → Row → Type 0
-HasGot before after row = (e : Entry) × (e.row ≡ row) × GotOne (all_got before) (all_got after) e
+HasGot before after row = (e : Entry Row) × (e.item ≡ row) × GotOne (all_got before) (all_got after) e
 
 -- NEW ENDS
-abbrev pub AllAt : {X : Type 0} → (ℕ → X → Type 0) → List X → Type 0
-AllAt P xs = (n : ℕ) (x : _) → slice_get xs n ≡ Some x → P n x
-
 -- a handle of a deque that is taken from at the front
 abbrev pub IsThief : {T A V P : Type 0} → Stealer T A V P → Type 0
 IsThief t = stealer_flavor t ≡ 0
 
 -- a hand that knows of nothing
 abbrev pub IsNewOther : Other → Type 0
-IsNewOther o = IsOther o × (view o.hand ≡ thief)
+IsNewOther o = IsOther o × (view o.hand ≡ taker)
 
 -- which deque it is
 abbrev pub deque_of : Other → RowsId × Global
@@ -102,9 +95,9 @@ pub record IsFresh (ready : Ready) (n : ℕ) (e : ReadyEnd) : Type 0 where
   pub number : e.number ≡ n
   pub count : e.count ≡ 0
   pub fifo : worker_flavor e.own ≡ 0
-  pub own : own_hand e ≡ hand (Some n) (Some (n + 1)) [] []
+  pub own : own_hand e ≡ hand (Some n) (Some (n + 1)) 0 [] []
   pub inlet : IsInjectorPassOf ready.inlet e.inlet
-  pub shared : shared_hand e ≡ hand (Some n) None [] []
+  pub shared : shared_hand e ≡ hand (Some n) None 0 [] []
 
 abbrev pub IsAlone : Ready → ℕ → ReadyEnd → Type 0
 IsAlone ready n e = IsFresh ready n e × (e.others.items ≡ [])
@@ -112,5 +105,5 @@ IsAlone ready n e = IsFresh ready n e × (e.others.items ≡ [])
 -- a new end has put and got nothing, and steals from the deques of all the other ends, from the next one on
 abbrev pub IsNewEnd : List ReadyEnd → ℕ → ReadyEnd → Type 0
 IsNewEnd ends n e =
-    (e.number ≡ n) × (e.count ≡ 0) × ((own_hand e).put ≡ []) × ((shared_hand e).put ≡ []) × All (λ (got : List Entry). got ≡ []) (all_got e)
+    (e.number ≡ n) × (e.count ≡ 0) × ((own_hand e).put ≡ []) × ((shared_hand e).put ≡ []) × All (λ (got : List (Entry Row)). got ≡ []) (all_got e)
     × (map deque_of e.others.items ≡ all_but n (map own_deque_of ends))

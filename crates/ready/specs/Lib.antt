@@ -1,2 +1,2 @@
-pub mod Hands
+pub mod Rule
 pub mod Ends

@@ -1,26 +1,29 @@
 //! The ends of the ready queues, one for each worker.
 
 ghost use Rattle.std.specs.Prelude.{◌≡◌, ◌↔◌, IsTrue, List, []};
-ghost use Rattle.ready.specs.declared.hands.Entry.{Entry};
+ghost use Rattle.words.specs.declared.Row.{Row};
+ghost use Rattle.hands.specs.declared.entries.Entry.{Entry};
+ghost use Rattle.hands.specs.Hands.{Held};
 ghost use Rattle.ready.specs.declared.ready.Ready.{Ready};
 ghost use Rattle.ready.specs.Ends.{HasPutNothing, IsEndOf, all_got, end_count, own_hand};
-ghost use Rattle.ready.specs.Hands.{Held};
 
-use crate::hands::{Entry, Hand, Holding, Rule, Stolen};
+use crate::rule::{Holding, Stolen};
 use crossbeam_deque::{InjectorPass, Pass, Stealer, Worker};
+use hands::{Entry, Hand};
 use std::alloc::Global;
+use words::Row;
 
 /// A deque of an end, from which the others steal.
-pub(crate) type Deque = Worker<Entry, Global, Hand, Stolen>;
+pub(crate) type Deque = Worker<Entry<Row>, Global, Hand<Row>, Stolen>;
 
 /// A handle of a deque for the other ends.
-pub(crate) type Thief = Stealer<Entry, Global, Hand, Stolen>;
+pub(crate) type Thief = Stealer<Entry<Row>, Global, Hand<Row>, Stolen>;
 
 /// The deque of another end.
 #[derive(Drop)]
 pub(crate) struct Other {
     pub(crate) deque: Thief,
-    pub(crate) hand: Pass<Entry, Hand>,
+    pub(crate) hand: Pass<Entry<Row>, Hand<Row>>,
 }
 
 /// One worker's end of the ready queues: it puts rows into its own deque, and gets them from there, from the
@@ -30,7 +33,7 @@ pub struct ReadyEnd {
     pub(crate) number: u8,
     pub(crate) count: u64,
     pub(crate) own: Deque,
-    pub(crate) inlet: InjectorPass<Entry, Hand>,
+    pub(crate) inlet: InjectorPass<Entry<Row>, Hand<Row>>,
     pub(crate) others: Vec<Other>,
 }
 
@@ -46,7 +49,7 @@ impl ReadyEnd {
     pub fn is_clear(&mut self) -> bool
         ensures here { (ready : Ready) → IsEndOf ready self.old → IsEndOf ready self.new }
         ensures nothing { HasPutNothing self.old self.new × (all_got self.new ≡ all_got self.old) }
-        ensures clear { (entries : List Entry) × Held (own_hand self.old) entries × (IsTrue result ↔ (entries ≡ [])) }
+        ensures clear { (entries : List (Entry Row)) × Held (own_hand self.old) entries × (IsTrue result ↔ (entries ≡ [])) }
     {
         self.own.len_as::<Holding>() == 0
     }

@@ -3,12 +3,12 @@
 #![tactic(auto)]
 
 mod ends;
-mod hands;
 mod laws;
 mod making;
 mod ready;
+mod rule;
 
 pub use crate::ends::ReadyEnd;
-pub use crate::hands::{Entry, Hand, Rule, Stolen};
 pub use crate::laws::each_entry_is_got_once;
 pub use crate::ready::Ready;
+pub use crate::rule::{Rule, Stolen};

@@ -3,21 +3,23 @@
 ghost use Rattle.std.specs.Prelude.{◌≡◌, ◌+◌, ◌<◌, ◌++◌, All, IfOk, None, Some, [], length, map};
 ghost use Rattle.crossbeam_deque.specs.Handles.{stealer_deque, worker_flavor, worker_view};
 ghost use Rattle.crossbeam_deque.specs.Injected.{injector_view, IsInjectorPassOf};
-ghost use Rattle.ready.specs.Ends.{AllAt, IsAlone, IsEndOf, IsNewEnd, IsNewOther, IsThief, all_but, deque_of, own_deque_of};
-ghost use Rattle.ready.specs.Hands.{hand};
+ghost use Rattle.hands.specs.Hands.{hand};
+ghost use Rattle.hands.specs.Positions.{AllAt};
+ghost use Rattle.ready.specs.Ends.{IsAlone, IsEndOf, IsNewEnd, IsNewOther, IsThief, all_but, deque_of, own_deque_of};
 
 use crate::ends::{Deque, Other, ReadyEnd, Thief};
-use crate::hands::{Dealt, Entry, Hand, Settled};
 use crate::ready::Ready;
 use crossbeam_deque::{Injector, InjectorPass};
+use hands::{Dealt, Entry, Hand, Settled};
 use std::alloc::{AllocError, Global};
+use words::Row;
 
 /// The slots with which a deque begins. A script has at most 64 threads, each with one row that is ready.
 const SLOTS: usize = 64;
 
 /// The deque of the end with this number: its hand leaves out the lower numbers and takes this one.
 fn own_deque(alloc: Global, number: u8) -> Result<Deque, AllocError>
-    ensures { IfOk result (λ own. (worker_flavor own ≡ 0) × (worker_view own ≡ hand (Some number) (Some (number + 1)) [] [])) }
+    ensures { IfOk result (λ own. (worker_flavor own ≡ 0) × (worker_view own ≡ hand (Some number) (Some (number + 1)) 0 [] [])) }
 {
     let mut own = Deque::fifo_as(alloc, SLOTS)?;
     for _ in 0..number {
@@ -31,11 +33,11 @@ fn own_deque(alloc: Global, number: u8) -> Result<Deque, AllocError>
 fn lone_end(
     alloc: Global,
     ready: &Ready,
-    dealer: &mut InjectorPass<Entry, Hand>,
+    dealer: &mut InjectorPass<Entry<Row>, Hand<Row>>,
     number: u8,
 ) -> Result<ReadyEnd, AllocError>
-    requires dealer { IsInjectorPassOf ready.now.inlet dealer.old × (injector_view dealer.old ≡ hand None (Some number) [] []) }
-    ensures dealer { IsInjectorPassOf ready.now.inlet dealer.new × IfOk result (λ e. injector_view dealer.new ≡ hand None (Some (number + 1)) [] []) }
+    requires dealer { IsInjectorPassOf ready.now.inlet dealer.old × (injector_view dealer.old ≡ hand None (Some number) 0 [] []) }
+    ensures dealer { IsInjectorPassOf ready.now.inlet dealer.new × IfOk result (λ e. injector_view dealer.new ≡ hand None (Some (number + 1)) 0 [] []) }
     ensures alone { IfOk result (IsAlone ready.now number) }
 {
     Ok(ReadyEnd {

@@ -3,12 +3,13 @@
 ghost use Rattle.std.specs.Prelude.{◌≡◌, ◌<◌, ◌^◌, ◌-◌, [], ◌∷◌, MatchOption, MatchResult, All, map};
 ghost use Rattle.crossbeam_deque.specs.Handles.{view};
 ghost use Rattle.crossbeam_deque.specs.Injected.{injector_view, IsInjectorPassOf};
+ghost use Rattle.hands.specs.Hands.{WasEmpty, gets};
 ghost use Rattle.ready.specs.Ends.{IsEndOf, IsOther, GotOne, HasPut, HasPutNothing, HasGot, all_got, got_of, end_count, end_number, own_hand, shared_hand};
-ghost use Rattle.ready.specs.Hands.{WasEmpty, gets};
 
 use crate::ends::{Other, ReadyEnd};
-use crate::hands::{Entry, Got, Hand, Put, Rule};
+use crate::rule::{Got, Put, Rule};
 use crossbeam_deque::{Injector, InjectorPass, Steal};
+use hands::{Entry, Hand};
 use std::alloc::{AllocError, Global};
 use std::sync::Wait;
 use words::Row;
@@ -16,7 +17,7 @@ use words::Row;
 /// What the ends share: the injector.
 #[derive(Drop)]
 pub struct Ready {
-    pub(crate) inlet: Injector<Entry, Global, Hand, Rule>,
+    pub(crate) inlet: Injector<Entry<Row>, Global, Hand<Row>, Rule>,
 }
 
 impl Ready {
@@ -29,7 +30,7 @@ impl Ready {
         ensures put { MatchResult result (λ _. HasPut end.old end.new row) (λ _. HasPutNothing end.old end.new × (all_got end.new ≡ all_got end.old)) }
     {
         let entry = Entry {
-            row,
+            item: row,
             end: end.number,
             count: end.count,
         };
@@ -52,17 +53,21 @@ impl Ready {
         ensures got { MatchOption result ((all_got end.new ≡ all_got end.old) × WasEmpty (own_hand end.old)) (λ row. HasGot end.old end.new row) }
     {
         if let Some(entry) = end.own.pop_as::<Got>() {
-            return Some(entry.row);
+            return Some(entry.item);
         }
         if let Some(entry) = self.take_shared(rt, &mut end.inlet) {
-            return Some(entry.row);
+            return Some(entry.item);
         }
         let entry = steal_any(&mut end.others)?;
-        Some(entry.row)
+        Some(entry.item)
     }
 
     /// The entry at the front of the injector. It tries again while others are at work there.
-    fn take_shared<R: Wait>(&self, rt: &R, inlet: &mut InjectorPass<Entry, Hand>) -> Option<Entry>
+    fn take_shared<R: Wait>(
+        &self,
+        rt: &R,
+        inlet: &mut InjectorPass<Entry<Row>, Hand<Row>>,
+    ) -> Option<Entry<Row>>
         requires { IsInjectorPassOf self.now.inlet inlet.old }
         ensures here { IsInjectorPassOf self.now.inlet inlet.new }
         ensures got { MatchOption result (injector_view inlet.new ≡ injector_view inlet.old) (λ e. injector_view inlet.new ≡ gets (injector_view inlet.old) (e ∷ [])) }
@@ -79,7 +84,7 @@ impl Ready {
 }
 
 /// The entry at the front of another end's deque, unless it is empty or others are at work there.
-fn steal(other: &mut Other) -> Option<Entry>
+fn steal(other: &mut Other) -> Option<Entry<Row>>
     requires { IsOther other.old }
     ensures here { IsOther other.new }
     ensures got { MatchOption result (view other.new.hand ≡ view other.old.hand) (λ e. view other.new.hand ≡ gets (view other.old.hand) (e ∷ [])) }
@@ -91,7 +96,7 @@ fn steal(other: &mut Other) -> Option<Entry>
 }
 
 /// An entry of another end's deque, of the first that gives one.
-fn steal_any(others: &mut Vec<Other>) -> Option<Entry>
+fn steal_any(others: &mut Vec<Other>) -> Option<Entry<Row>>
     requires { All IsOther others.old.items }
     ensures here { All IsOther others.new.items }
     ensures got { MatchOption result (map got_of others.new.items ≡ map got_of others.old.items) (λ e. GotOne (map got_of others.old.items) (map got_of others.new.items) e) }

@@ -1,8 +1,9 @@
-use Rattle.std.proofs.Common.{◌≡◌, ◌++◌, ◌∷◌, [], ◌+◌, ◌<◌, ◌≤◌, ℕ, List, All, ap, arith, rules, refl, slice_get, Some, subst, sym, length, get_or}
-use Rattle.std.proofs.lemmas.List.Elements.{All-get_or}
-use Rattle.std.proofs.lemmas.Option.{get_or_from_slice_get, slice_get_read, slice_get_within}
+use Rattle.std.proofs.Common.{◌≡◌, ◌++◌, ◌∷◌, [], ◌+◌, ◌<◌, ◌≤◌, ℕ, List, All, ap, arith, rules, refl, slice_get, Option, Some, IfSome, subst, sym, length, get_or}
+use Rattle.std.proofs.lemmas.List.Elements.{All-get_or, All-pop}
+use Rattle.std.proofs.lemmas.Option.{get_or_from_slice_get, slice_get-get_or, slice_get_read, slice_get_within}
 use Rattle.hands.specs.Positions.{AllAt}
 use Rattle.hands.proofs.Positioning.{all_at_set, all_from_at}
+use Rattle.lane.specs.declared.lane.LanePass.{LanePass}
 use Rattle.lane.specs.Lanes.{IsLanePassOf}
 use Rattle.meet.specs.declared.rooms.MeetPass.{MeetPass}
 use Rattle.meet.specs.declared.rooms.Room.{Room}
@@ -35,12 +36,13 @@ loop-at-preserved c =
     let new : MeetPass = record old { passes = c.push.new.self } in
     let within : at < length c.loop-at.all.items = (search rules) in
     let is = slice_get_read c.loop-at.all.items (length c.loop-at.all.items) at old refl within c.index_mut.ensures.value in
-    let lane_is : IsLanePassOf room.lane c.in-Some.lane = ? in
+    let popped = All-pop (IsLanePassOf room.lane) c.loop-at.lane_passes.items c.pop.new.self.items c.pop.result c.pop.ensures.items c.loop-at.invariant.1 in
+    let lane_is : IsLanePassOf room.lane c.in-Some.lane = subst (λ (o : Option LanePass). IfSome o (IsLanePassOf room.lane)) c.in-Some.is popped.1 in
     let served : Serves (rooms ++ room ∷ []) new.passes.items = subst (Serves (rooms ++ room ∷ [])) (sym c.in_ok-push.ensures.items) (serves_push rooms old.passes.items room c.in-Some.lane ((c.loop-at.invariant.0 at old is).1 (omega arith)) lane_is) in (
       all_at_set (Both rooms room at) (Both rooms room (at + 1)) c.loop-at.all.items at new c.loop-at.invariant.0
           ((λ less. served), (λ more. absurd (omega arith)))
           (λ n p other both. ((λ less. both.0 (omega arith)), (λ more. both.1 (omega arith)))),
-      ?,
+      popped.0,
       search rules,
       search rules,
       refl,
@@ -52,5 +54,5 @@ returns c =
     let room = c.args.room in (
       (search rules),
       subst (λ (all : List Room). EachServes all c.loop-at.all.items) (sym c.in_ok-push-2.ensures.items)
-          (λ n d less. (c.loop-at.invariant.0 n (get_or c.loop-at.all.items n d) (slice_get_read c.loop-at.all.items (length c.loop-at.all.items) n (get_or c.loop-at.all.items n d) refl less ?)).0 (search rules)),
+          (λ n d less. (c.loop-at.invariant.0 n (get_or c.loop-at.all.items n d) (slice_get-get_or c.loop-at.all.items n d less)).0 (search rules)),
     )

@@ -1,14 +1,15 @@
 use Rattle.std.proofs.Common.{ap}
 use Rattle.crossbeam_deque.specs.Handles.{worker_view}
-use Rattle.ready.specs.declared.hands.Hand.{Hand}
-use Rattle.ready.proofs.Keeping.{begins, deals, settles}
+use Rattle.words.specs.declared.Row.{Row}
+use Rattle.hands.specs.declared.entries.Hand.{Hand}
+use Rattle.hands.proofs.Keeping.{begins, deals, settles}
 use Rattle.ready.proofs.making.own_deque.Goals as goal
 
 pub fifo_as-requires : goal.fifo_as-requires
 fifo_as-requires c = begins
 
 pub another-requires : goal.another-requires
-another-requires c = deals _ (worker_view c.loop.own) _ (ap (λ (v : Hand). v.next) c.loop.invariant.1)
+another-requires c = deals _ (worker_view c.loop.own) _ (ap (λ (v : Hand Row). v.next) c.loop.invariant.1)
 
 pub another-requires-2 : goal.another-requires-2
-another-requires-2 c = settles _ (worker_view c.loop.own) _ (ap (λ (v : Hand). v.next) c.loop.invariant.1) (ap (λ (v : Hand). v.put) c.loop.invariant.1)
+another-requires-2 c = settles _ (worker_view c.loop.own) _ (ap (λ (v : Hand Row). v.next) c.loop.invariant.1) (ap (λ (v : Hand Row). v.put) c.loop.invariant.1) (ap (λ (v : Hand Row). v.below) c.loop.invariant.1)

@@ -1,5 +1,5 @@
 use Rattle.crossbeam_deque.specs.Handles.{view}
-use Rattle.ready.proofs.Keeping.{get_one}
+use Rattle.ready.proofs.Steps.{get_one}
 use Rattle.ready.proofs.ready.steal.Goals as goal
 
 pub steal_as-requires-clause-takes : goal.steal_as-requires-clause-takes

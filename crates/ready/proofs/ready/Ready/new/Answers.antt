@@ -7,9 +7,11 @@ use Rattle.std.specs.declared.alloc.Global.{Global}
 use Rattle.crossbeam_deque.specs.Handles.{stealer_deque, worker_flavor}
 use Rattle.ready.specs.declared.ends.ReadyEnd.{ReadyEnd}
 use Rattle.ready.specs.declared.ready.Ready.{Ready}
-use Rattle.ready.specs.Ends.{AllAt, IsAlone, IsEndOf, IsFresh, IsNewOther, all_but, deque_of, own_deque_of}
-use Rattle.ready.proofs.Beginning.{all_at_pushed, all_at_set, all_from_at, end_of, new_end}
-use Rattle.ready.proofs.Keeping.{begins}
+use Rattle.hands.specs.Positions.{AllAt}
+use Rattle.ready.specs.Ends.{IsAlone, IsEndOf, IsFresh, IsNewOther, all_but, deque_of, own_deque_of}
+use Rattle.hands.proofs.Keeping.{begins}
+use Rattle.hands.proofs.Positioning.{all_at_pushed, all_at_set, all_from_at}
+use Rattle.ready.proofs.Beginning.{end_of, new_end}
 use Rattle.ready.proofs.ready.Ready.new.Goals as goal
 
 pub new_as-requires : goal.new_as-requires

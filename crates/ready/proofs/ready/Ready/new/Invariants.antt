@@ -2,13 +2,14 @@ use Rattle.std.proofs.Common.{◌≡◌, ◌<◌, ◌≤◌, ℕ, None, Some, []
 use Rattle.crossbeam_deque.specs.Handles.{stealer_deque}
 use Rattle.crossbeam_deque.specs.Injected.{injector_view, IsInjectorPassOf}
 use Rattle.ready.specs.declared.ends.ReadyEnd.{ReadyEnd}
-use Rattle.ready.specs.Ends.{AllAt, IsAlone, IsFresh, IsNewOther, IsThief, all_but, deque_of, own_deque_of}
-use Rattle.ready.specs.Hands.{hand}
+use Rattle.hands.specs.Hands.{hand}
+use Rattle.hands.specs.Positions.{AllAt}
+use Rattle.ready.specs.Ends.{IsAlone, IsFresh, IsNewOther, IsThief, all_but, deque_of, own_deque_of}
 use Rattle.ready.proofs.ready.Ready.new.Given as goal
 
 abbrev pub invariant-loop-number : goal.invariant-loop-number
 invariant-loop-number l =
-    IsInjectorPassOf l.ready.inlet l.dealer × (injector_view l.dealer ≡ hand None (Some l.number) [] []) × (length l.ends.items ≡ l.number) × (l.number ≤ l.workers) × AllAt (IsAlone l.ready) l.ends.items
+    IsInjectorPassOf l.ready.inlet l.dealer × (injector_view l.dealer ≡ hand None (Some l.number) 0 [] []) × (length l.ends.items ≡ l.number) × (l.number ≤ l.workers) × AllAt (IsAlone l.ready) l.ends.items
 
 abbrev pub invariant-loop-number-2 : goal.invariant-loop-number-2
 invariant-loop-number-2 l =

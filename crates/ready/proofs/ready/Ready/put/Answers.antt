@@ -1,12 +1,13 @@
-use Rattle.std.proofs.Common.{refl, sym, ap, ◌∙◌, ◌≡◌, [], ◌∷◌, subst}
+use Rattle.std.proofs.Common.{refl, sym, ap, ◌∙◌, [], ◌∷◌, subst}
 use Rattle.crossbeam_deque.specs.Handles.{worker_view}
 use Rattle.crossbeam_deque.specs.Injected.{injector_view}
 use Rattle.crossbeam_deque.specs.Tasks.{Pushes}
-use Rattle.ready.specs.declared.hands.Entry.{Entry}
+use Rattle.words.specs.declared.Row.{Row}
+use Rattle.hands.specs.declared.entries.Entry.{Entry}
+use Rattle.hands.specs.Hands.{HandsOver}
 use Rattle.ready.specs.Ends.{entry}
-use Rattle.ready.specs.Hands.{HandsOver, puts}
-use Rattle.ready.proofs.Counting.{hand_kept, hand_put}
-use Rattle.ready.proofs.Keeping.{put_one}
+use Rattle.ready.specs.Rule.{PutsOne}
+use Rattle.ready.proofs.Steps.{hand_kept, hand_put, put_one}
 use Rattle.ready.proofs.ready.Ready.put.Goals as goal
 
 pub push_as-requires-clause-pushes : goal.push_as-requires-clause-pushes
@@ -14,7 +15,7 @@ push_as-requires-clause-pushes g c = put_one _ _ _ c.requires.here.own.0 c.requi
 
 pub push_as-requires-2-clause-rule : goal.push_as-requires-2-clause-rule
 push_as-requires-2-clause-rule g c =
-    subst (λ (e : Entry). Pushes HandsOver c.args.end.now.inlet.id (injector_view c.args.end.now.inlet) (e ∷ []) (λ w. w ≡ puts (injector_view c.args.end.now.inlet) (e ∷ [])))
+    subst (λ (e : Entry Row). Pushes HandsOver c.args.end.now.inlet.id (injector_view c.args.end.now.inlet) (e ∷ []) (PutsOne (injector_view c.args.end.now.inlet) (e ∷ [])))
     (sym c.in-Err.ensures.rule.0)
     (put_one c.args.end.now.inlet.id (injector_view c.args.end.now.inlet) (entry c.args.row c.args.end.now) c.requires.here.shared.0 c.requires.here.shared.1)
 
@@ -24,7 +25,7 @@ returns-clause-here g c = (
     fifo = c.in-Err.ensures.same.1 ∙ c.requires.here.fifo;
     own = hand_kept _ _ (worker_view c.args.end.now.own) _ c.requires.here.own c.in-Err.ensures.rule.1;
     inlet = c.in-Ok.ensures.same.0;
-    shared = hand_put _ _ (injector_view c.args.end.now.inlet) _ c.in-Err.entry c.requires.here.shared c.in-Ok.ensures.rule (ap (λ (e : Entry). e.count) c.in-Err.ensures.rule.0);
+    shared = hand_put _ _ (injector_view c.args.end.now.inlet) _ c.in-Err.entry c.requires.here.shared c.in-Ok.ensures.rule (ap (λ (e : Entry Row). e.count) c.in-Err.ensures.rule.0);
     others = c.requires.here.others;
   },
   refl,

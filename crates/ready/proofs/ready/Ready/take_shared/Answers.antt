@@ -1,4 +1,4 @@
-use Rattle.ready.proofs.Keeping.{get_one, finds_empty}
+use Rattle.ready.proofs.Steps.{get_one, finds_empty}
 use Rattle.ready.proofs.ready.Ready.take_shared.Goals as goal
 
 pub steal_as-requires-clause-rule : goal.steal_as-requires-clause-rule
