@@ -1,5 +1,5 @@
 -- The passes of rooms: one is read, one is replaced, one joins.
-use Rattle.std.proofs.Common.{◌≡◌, ℕ, zero, suc, ◌+◌, ◌<◌, List, [], ◌∷◌, ◌++◌, Some, None, length, set, slice_get, get_or, sym, subst, refl, ap, arith}
+use Rattle.std.proofs.Common.{◌≡◌, ℕ, zero, suc, ◌<◌, List, [], ◌∷◌, ◌++◌, Some, None, length, set, slice_get, get_or, sym, subst, refl, ap, arith}
 use Rattle.std.proofs.lemmas.Option.{slice_get_read}
 use Rattle.lane.specs.declared.lane.LanePass.{LanePass}
 use Rattle.lane.specs.Lanes.{IsLanePassOf}

@@ -1,4 +1,3 @@
-use Rattle.std.proofs.Common.{◌≡◌, get_or, ℕ, Some, slice_get}
 use Rattle.lane.specs.Lanes.{IsLanePassOf}
 use Rattle.meet.proofs.rooms.put_back.Given as goal
 

@@ -5,8 +5,7 @@ use Rattle.words.specs.declared.Row.{Row}
 use Rattle.cell.specs.Calls.{Grid, IsPassOf, PassView}
 use Rattle.cell.specs.Nacks.{CanStandAlone}
 use Rattle.cell.specs.Sight.{SeesDirection}
-use Rattle.cell.proofs.Offers.{if_none}
-use Rattle.meet.proofs.Growing.{NeedsPartner, stands_never}
+use Rattle.meet.proofs.Growing.{NeedsPartner, ok_none, stands_never}
 use Rattle.meet.proofs.meet.Meet.look.Goals as goal
 
 -- an offer in such a direction does not let its row stand alone
@@ -18,15 +17,12 @@ of_pair : (g : Grid) (p : PassView) (mine : Row × ℕ) (d : Direction) → IsPa
 of_pair g p mine d here sees is =
     ⊎_elim (λ w. never g p mine d (Send w.0 w.1) here sees w.2 (λ s x y z stamp h. h)) (λ w. never g p mine d (Recv w.0) here sees w.1 (λ s x y z stamp h. h)) is
 
-pub returns-in_err-other_queue-in-Send-clause-none : goal.returns-in_err-other_queue-in-Send-clause-none
-returns-in_err-other_queue-in-Send-clause-none g c =
-    if_none c.from_residual.result (¬ CanStandAlone c.args.pass.now.seen c.args.mine.0 c.args.mine.1)
-    (λ e. of_pair c.args.cells.now c.args.pass.now c.args.mine c.args.direction c.requires.here.0 c.requires.read c.in-Send.is)
+pub returns-in_default-clause-none : goal.returns-in_default-clause-none
+returns-in_default-clause-none g c = of_pair c.args.cells.now c.args.pass.now c.args.mine c.args.direction c.requires.here.0 c.requires.read c.in-Send.is
 
-pub returns-in_ok-other_queue-in-Send-clause-none : goal.returns-in_ok-other_queue-in-Send-clause-none
-returns-in_ok-other_queue-in-Send-clause-none g c =
-    if_none c.attempt_each.result (¬ CanStandAlone c.args.pass.now.seen c.args.mine.0 c.args.mine.1)
-    (λ e. of_pair c.args.cells.now c.args.pass.now c.args.mine c.args.direction c.requires.here.0 c.requires.read c.in-Send.is)
+pub returns-in-Some-clause-none : goal.returns-in-Some-clause-none
+returns-in-Some-clause-none g c =
+    ok_none c.look_at.result (of_pair c.args.cells.now c.args.pass.now c.args.mine c.args.direction c.requires.here.0 c.requires.read c.in-Send.is)
 
 pub returns-in-Never-clause-none : goal.returns-in-Never-clause-none
 returns-in-Never-clause-none g c = never c.args.cells.now c.args.pass.now c.args.mine c.args.direction Never c.requires.here.0 c.requires.read c.in-Never.is (λ s x y z stamp h. h)
