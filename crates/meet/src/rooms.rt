@@ -59,10 +59,7 @@ impl Room {
     pub(crate) fn was_shared(&self, returns: u64, own: u64) -> bool {
         // Where nobody else had any at a moment in between, as many were given back then as taken up, but
         // for the caller's; neither count falls.
-        self.taken_up
-            .load(Ordering::SeqCst)
-            .wrapping_sub(returns)
-            > own
+        self.taken_up.load(Ordering::SeqCst).wrapping_sub(returns) > own
     }
 
     /// Whether nothing stood in the lane at a moment of the call, nor was in anybody's hand then.
@@ -75,12 +72,7 @@ impl Room {
     }
 
     /// Puts the entry at the back. A pass that has put as many as its count can tell puts it nowhere.
-    fn put<R: Wait>(
-        &self,
-        rt: &R,
-        lane: &mut LanePass,
-        entry: Waiting,
-    ) -> Result<(), AllocError>
+    fn put<R: Wait>(&self, rt: &R, lane: &mut LanePass, entry: Waiting) -> Result<(), AllocError>
         requires { IsLanePassOf self.now.lane lane.old }
         ensures { IsLanePassOf self.now.lane lane.new }
     {

@@ -62,8 +62,8 @@ pub(crate) fn follow_pair<R: Wait>(
     nacks: Nacks,
     partner: Row,
 ) -> Result<(), Halt>
-    requires { IsWorkerOf cells.now shared.now.ready worker.old }
-    ensures { IsWorkerOf cells.now shared.now.ready worker.new }
+    requires { IsWorkerOf cells.now shared.now worker.old }
+    ensures { IsWorkerOf cells.now shared.now worker.new }
 {
     let home = shared.homes.home(partner.thread)?;
     if nacks.is_empty() && !home.has_nacks() {
@@ -90,8 +90,8 @@ pub(crate) fn follow_alone<R: Wait>(
     row: Row,
     nacks: Nacks,
 ) -> Result<(), Halt>
-    requires { IsWorkerOf cells.now shared.now.ready worker.old }
-    ensures { IsWorkerOf cells.now shared.now.ready worker.new }
+    requires { IsWorkerOf cells.now shared.now worker.old }
+    ensures { IsWorkerOf cells.now shared.now worker.new }
 {
     if nacks.is_empty() {
         return Ok(());
@@ -109,8 +109,8 @@ fn wake_enabled<R: Wait>(
     worker: &mut Worker,
     committed: &[(Row, Nacks)],
 ) -> Result<(), Halt>
-    requires { IsWorkerOf cells.now shared.now.ready worker.old }
-    ensures { IsWorkerOf cells.now shared.now.ready worker.new }
+    requires { IsWorkerOf cells.now shared.now worker.old }
+    ensures { IsWorkerOf cells.now shared.now worker.new }
 {
     let mut enabled = Vec::new(shared.alloc);
     for (row, nacks) in committed {
@@ -128,17 +128,23 @@ fn wake_all<R: Wait>(
     worker: &mut Worker,
     nacks: Vec<NackName>,
 ) -> Result<(), Halt>
-    requires { IsWorkerOf cells.now shared.now.ready worker.old }
-    ensures { IsWorkerOf cells.now shared.now.ready worker.new }
+    requires { IsWorkerOf cells.now shared.now worker.old }
+    ensures { IsWorkerOf cells.now shared.now worker.new }
 {
     let mut nacks = nacks;
     for _ in rt.forever() {
         let Some(nack) = nacks.pop() else {
             return Ok(());
         };
-        let woken = shared
-            .meet
-            .wake(rt, shared.alloc, cells, &mut worker.pass, &NoGate, nack)?;
+        let woken = shared.meet.wake(
+            rt,
+            shared.alloc,
+            cells,
+            &mut worker.pass,
+            &mut worker.lanes,
+            &NoGate,
+            nack,
+        )?;
         for row in &woken {
             let others = shared.homes.home(row.thread)?.nacks(rt);
             add_enabled(cells, &mut worker.pass, *row, others, &mut nacks)?;

@@ -70,16 +70,17 @@ fn work_within<R: Threads + Wait + Sync, G: Gate + Sync>(
 {
     let processes = script.processes();
     let threads = processes.len() as u8;
+    let (meet, lanes) = Meet::new(alloc, script.channels() as u16, threads, workers)?;
     let (ready, ends) = Ready::new(alloc, workers)?;
     let shared = Shared {
         alloc,
-        meet: Meet::new(alloc, script.channels() as u16, threads)?,
+        meet,
         ready,
         activity: Activity::new(usize::from(workers)),
         homes: Homes::new(alloc, processes.len())?,
     };
     let (cells, passes) = Cells::new(alloc, threads, rows_used(processes, rows), workers)?;
-    let workers = workers_of(alloc, passes, ends)?;
+    let workers = workers_of(alloc, passes, lanes, ends)?;
     let passes = all_work(rt, alloc, &cells, &shared, gate, processes, workers)?;
     match told_one(&cells, passes) {
         Some(pass) => Ok(cells.close(pass)),

@@ -15,7 +15,7 @@ use crate::homes::{Home, Homes};
 use crate::nacks::Nacks;
 use crate::ranges::are_offers;
 use cell::{Cells, NoGate, Pass};
-use meet::{Found, Meet};
+use meet::{Found, Meet, MeetPass};
 use ready::{Ready, ReadyEnd};
 use std::alloc::Global;
 use std::sync::Wait;
@@ -33,10 +33,12 @@ pub(crate) struct Shared {
     pub(crate) homes: Homes,
 }
 
-/// What a worker has for itself: its pass of the cells, its end of the ready queues, and its number.
+/// What a worker has for itself: its pass of the cells, its passes of the lanes, its end of the ready queues,
+/// and its number.
 #[derive(Drop)]
 pub(crate) struct Worker {
     pub(crate) pass: Pass,
+    pub(crate) lanes: MeetPass,
     pub(crate) end: ReadyEnd,
     pub(crate) number: u8,
 }
@@ -59,8 +61,8 @@ pub(crate) fn advance<R: Wait, G: Gate>(
     worker: &mut Worker,
     row: Row,
 ) -> Result<Committed, Halt>
-    requires { IsWorkerOf cells.now shared.now.ready worker.old }
-    ensures { IsWorkerOf cells.now shared.now.ready worker.new }
+    requires { IsWorkerOf cells.now shared.now worker.old }
+    ensures { IsWorkerOf cells.now shared.now worker.new }
 {
     let Some(next) = row_behind(cells, row) else {
         return Ok(Committed::Nothing);
@@ -110,9 +112,9 @@ fn begin_thread<R: Wait, G: Gate>(
     worker: &mut Worker,
     thread: u8,
 ) -> Result<(), Halt>
-    requires here { IsWorkerOf cells.now shared.now.ready worker.old }
+    requires here { IsWorkerOf cells.now shared.now worker.old }
     requires thread { thread < 64 }
-    ensures { IsWorkerOf cells.now shared.now.ready worker.new }
+    ensures { IsWorkerOf cells.now shared.now worker.new }
 {
     let row = Row { thread, sync: 0 };
     if !worker.pass.holds(row) || !cells.has(row) {
@@ -137,8 +139,8 @@ pub(crate) fn begin_all<R: Wait, G: Gate>(
     processes: &[Proc],
     worker: &mut Worker,
 ) -> Result<(), Halt>
-    requires { IsWorkerOf cells.now shared.now.ready worker.old }
-    ensures { IsWorkerOf cells.now shared.now.ready worker.new }
+    requires { IsWorkerOf cells.now shared.now worker.old }
+    ensures { IsWorkerOf cells.now shared.now worker.new }
 {
     for (at, process) in processes.iter().enumerate() {
         if at >= 64 {
@@ -247,17 +249,22 @@ fn meet<R: Wait>(
     row: Row,
     opened: Result<Option<Nacks>, Halt>,
 ) -> Result<Committed, Halt>
-    requires here { IsWorkerOf cells.now shared.now.ready worker.old × IsRowOf cells.now row }
+    requires here { IsWorkerOf cells.now shared.now worker.old × IsRowOf cells.now row }
     requires opened { IfOk opened (λ opened. IfSome opened (λ nacks. Has worker.old.pass.seen.held row × Has worker.old.pass.seen.opened row)) }
-    ensures { IsWorkerOf cells.now shared.now.ready worker.new }
+    ensures { IsWorkerOf cells.now shared.now worker.new }
 {
     let Some(nacks) = opened? else {
         return Ok(Committed::Nothing);
     };
-    match shared
-        .meet
-        .search(rt, cells, &mut worker.pass, &NoGate, row)?
-    {
+    let found = shared.meet.search(
+        rt,
+        cells,
+        &mut worker.pass,
+        &mut worker.lanes,
+        &NoGate,
+        row,
+    )?;
+    match found {
         Found::Met(other) => {
             follow_pair(rt, cells, shared, worker, row, nacks, other)?;
             Ok(Committed::Pair(row, other))

@@ -113,8 +113,8 @@ fn all_turns<R: Wait, G: Gate>(
     processes: &[Proc],
     worker: &mut Worker,
 ) -> Result<(), Halt>
-    requires { IsWorkerOf cells.now shared.now.ready worker.old }
-    ensures { IsWorkerOf cells.now shared.now.ready worker.new }
+    requires { IsWorkerOf cells.now shared.now worker.old }
+    ensures { IsWorkerOf cells.now shared.now worker.new }
 {
     begin_all(rt, cells, shared, gate, processes, worker)?;
     let mut kept = None;
@@ -146,7 +146,7 @@ pub(crate) fn work_on<R: Wait, G: Gate>(
     processes: &[Proc],
     worker: Worker,
 ) -> Worked
-    requires { IsWorkerOf cells.now shared.now.ready worker }
+    requires { IsWorkerOf cells.now shared.now worker }
     ensures { IsPassOf cells.now result.pass }
 {
     let mut worker = worker;

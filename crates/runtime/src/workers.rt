@@ -3,15 +3,17 @@
 ghost use Rattle.std.specs.Prelude.{◌≡◌, [], All, IfOk, IfSome};
 ghost use denote.Param.Send.{IsSync};
 ghost use Rattle.cell.specs.Calls.{Grid, IsPassOf, PassView};
-ghost use Rattle.ready.specs.declared.ready.Ready.{Ready};
+ghost use Rattle.meet.specs.Rooms.{IsMeetPassOf};
 ghost use Rattle.ready.specs.Ends.{IsEndOf};
 ghost use Rattle.runtime.specs.Workers.{IsWorkerOf};
+ghost use Rattle.runtime.specs.declared.turns.Shared.{Shared};
 
 use crate::fault::{Halt, told_first};
 use crate::gate::Gate;
 use crate::turns::{Shared, Worker};
 use crate::worker::{Worked, work_on};
 use cell::{Cells, Pass};
+use meet::MeetPass;
 use ready::ReadyEnd;
 use std::alloc::Global;
 use std::snapshot::Snapshot;
@@ -68,22 +70,32 @@ fn join_all<R: Threads>(
     }
 }
 
-/// The workers, each with a pass and an end of its own.
+/// The workers, each with a pass, lanes and an end of its own.
 pub(crate) fn workers_of(
     alloc: Global,
     passes: Vec<Pass>,
+    lanes: Vec<MeetPass>,
     ends: Vec<ReadyEnd>,
 ) -> Result<Vec<Worker>, Halt>
-    ensures { (cells : Grid) (ready : Ready) → All (IsPassOf cells) passes.items → All (IsEndOf ready) ends.items → IfOk result (λ workers. All (IsWorkerOf cells ready) workers.items) }
+    ensures { (cells : Grid) (shared : Shared) → All (IsPassOf cells) passes.items → All (IsMeetPassOf shared.meet) lanes.items → All (IsEndOf shared.ready) ends.items → IfOk result (λ workers. All (IsWorkerOf cells shared) workers.items) }
 {
+    let mut lanes = lanes;
     let mut ends = ends;
     let mut workers = Vec::with_capacity(alloc, passes.len())?;
     let mut number = 0u8;
     for pass in passes {
+        let Some(lanes) = lanes.pop() else {
+            return Err(Halt::Lost);
+        };
         let Some(end) = ends.pop() else {
             return Err(Halt::Lost);
         };
-        workers.push(Worker { pass, end, number })?;
+        workers.push(Worker {
+            pass,
+            lanes,
+            end,
+            number,
+        })?;
         number = number.saturating_add(1);
     }
     Ok(workers)
@@ -99,7 +111,7 @@ fn work_alone<R: Wait, G: Gate>(
     processes: &[Proc],
     workers: Vec<Worker>,
 ) -> Result<Vec<Pass>, Halt>
-    requires { All (λ w. IsWorkerOf cells.now shared.now.ready w) workers.items }
+    requires { All (λ w. IsWorkerOf cells.now shared.now w) workers.items }
     ensures { IfOk result (λ back. All (λ p. IsPassOf cells.now p) back.items) }
 {
     let mut workers = workers;
@@ -123,7 +135,7 @@ pub(crate) fn all_work<R: Threads + Wait + Sync, G: Gate + Sync>(
     processes: &[Proc],
     workers: Vec<Worker>,
 ) -> Result<Vec<Pass>, Halt>
-    requires { All (λ w. IsWorkerOf cells.now shared.now.ready w) workers.items }
+    requires { All (λ w. IsWorkerOf cells.now shared.now w) workers.items }
     ensures { IfOk result (λ back. All (λ p. IsPassOf cells.now p) back.items) }
 {
     if workers.len() == 1 {
@@ -135,7 +147,7 @@ pub(crate) fn all_work<R: Threads + Wait + Sync, G: Gate + Sync>(
         rt,
         |scope| -> Result<Vec<Pass>, Halt>
             requires sync { IsSync R.row × IsSync G.row }
-            requires workers { All (λ w. IsWorkerOf cells.now shared.now.ready w) workers.items }
+            requires workers { All (λ w. IsWorkerOf cells.now shared.now w) workers.items }
             requires handles { handles.items ≡ [] }
             ensures { IfOk result (λ back. All (λ p. IsPassOf cells.entry.now p) back.items) }
         {
@@ -145,7 +157,7 @@ pub(crate) fn all_work<R: Threads + Wait + Sync, G: Gate + Sync>(
                     gives_back(cells),
                     move || -> Worked
                         requires sync { IsSync R.row × IsSync G.row }
-                        requires here { IsWorkerOf cells.now shared.now.ready worker }
+                        requires here { IsWorkerOf cells.now shared.now worker }
                         ensures { IsPassOf cells.entry.now result.pass }
                     { work_on(rt, cells, shared, gate, processes, worker) },
                 );

@@ -2,6 +2,7 @@ use Rattle.std.proofs.Common.{Some, true}
 use Rattle.std.proofs.lemmas.List.Elements.{All-pop}
 use Rattle.std.specs.Vec.Iter.{into_iter_items}
 use Rattle.cell.specs.Calls.{IsPassOf}
+use Rattle.meet.specs.Rooms.{IsMeetPassOf}
 use Rattle.ready.specs.Ends.{IsEndOf}
 use Rattle.runtime.specs.Workers.{IsWorkerOf}
 use Rattle.runtime.specs.declared.turns.Worker.{Worker}
@@ -12,18 +13,20 @@ pub loop-pass-preserved : goal.loop-pass-preserved
 loop-pass-preserved c = (
   tt,
   tt,
-  λ cells ready passes ends.
-      let before = c.loop-pass.invariant.2 cells ready passes ends in
+  λ cells shared passes lanes ends.
+      let before = c.loop-pass.invariant.2 cells shared passes lanes ends in
       let P = IsPassOf cells in
       let left = into_iter_items c.next.new.self in
       let all = all_is P _ _ c.in-Some.ensures.steps.0 before.0 in
-      let popped = All-pop (IsEndOf ready) c.loop-pass.ends.items c.pop.new.self.items (Some c.in-Some-pop.end) c.in-Some-pop.ensures.items before.1 in
-      let worker : Worker = record { pass = c.in-Some.pass; end = c.in-Some-pop.end; number = c.loop-pass.number } in (
+      let room = All-pop (IsMeetPassOf shared.meet) c.loop-pass.lanes.items c.pop.new.self.items (Some c.in-Some-pop.lanes) c.in-Some-pop.ensures.items before.1 in
+      let popped = All-pop (IsEndOf shared.ready) c.loop-pass.ends.items c.pop-2.new.self.items (Some c.in-Some-pop-2.end) c.in-Some-pop-2.ensures.items before.2 in
+      let worker : Worker = record { pass = c.in-Some.pass; lanes = c.in-Some-pop.lanes; end = c.in-Some-pop-2.end; number = c.loop-pass.number } in (
         all_rest P c.in-Some.pass left all,
+        room.0,
         popped.0,
-        all_pushed (IsWorkerOf cells ready) true c.loop-pass.workers.items c.push.new.self.items worker c.in_ok-push.ensures.items before.2 (all_head P c.in-Some.pass left all, popped.1),
+        all_pushed (IsWorkerOf cells shared) true c.loop-pass.workers.items c.push.new.self.items worker c.in_ok-push.ensures.items before.3 (all_head P c.in-Some.pass left all, room.1, popped.1),
       ),
 )
 
 pub returns : goal.returns
-returns c = λ cells ready passes ends. (c.loop-pass.invariant.2 cells ready passes ends).2
+returns c = λ cells shared passes lanes ends. (c.loop-pass.invariant.2 cells shared passes lanes ends).3

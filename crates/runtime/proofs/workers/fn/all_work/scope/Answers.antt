@@ -28,7 +28,7 @@ spawn_with-started-requires-send-F g c κs outlives = param_send 2 (lts.arg-3-2 
 pub loop-worker-preserved : goal.loop-worker-preserved
 loop-worker-preserved g c =
     let H = λ (h : PromisedHandle Worked GivesBack). h.promise.cells.value ≡ c.captures.cells.now in
-    let P = λ (w : Worker). IsWorkerOf c.captures.cells.now c.captures.shared.now.ready w in (
+    let P = λ (w : Worker). IsWorkerOf c.captures.cells.now c.captures.shared.now w in (
       tt,
       tt,
       all_rest P c.in-Some.worker (into_iter_items c.next.new.self) (all_is P _ _ c.in-Some.ensures.steps.0 c.loop-worker.invariant.2),
