@@ -1,9 +1,10 @@
 //! Entries are put into a lane and taken from it.
 
-ghost use Rattle.std.specs.Prelude.{◌≡◌, ◌<◌, ◌^◌, ◌-◌, ◌+◌, All, IfOk, IsTrue, MatchOption, MatchResult, length};
-ghost use Rattle.hands.specs.Hands.{WasEmpty};
+ghost use Rattle.std.specs.Prelude.{◌≡◌, ◌<◌, ◌^◌, ◌-◌, ◌+◌, All, IfOk, IsTrue, MatchOption, MatchResult, List, length};
+ghost use Rattle.hands.specs.declared.entries.Entry.{Entry};
+ghost use Rattle.hands.specs.Hands.{Held, WasEmpty};
 ghost use Rattle.hands.specs.Positions.{AllAt};
-ghost use Rattle.lane.specs.Lanes.{HasPut, HasTaken, IsLanePassOf, IsNewPass, IsSame, hand_of, pass_count};
+ghost use Rattle.lane.specs.Lanes.{HasPut, HasTaken, IsLanePassOf, IsNewPass, IsSame, Offered, hand_of, pass_count};
 
 use crate::rule::{Put, Rule, Taken, Waiting};
 use crossbeam_queue::{RuledSegQueue, SegPass};
@@ -103,5 +104,13 @@ impl Lane {
         ensures empty { IsTrue result → WasEmpty (hand_of pass.old) }
     {
         self.queue.is_empty_as::<Taken>(&mut pass.hand)
+    }
+    /// How many entries stand in the lane at a moment of the call.
+    pub fn len<R: Wait>(&self, rt: &R, pass: &mut LanePass) -> usize
+        requires here { IsLanePassOf self.now pass.old }
+        ensures here { IsLanePassOf self.now pass.new × IsSame pass.old pass.new }
+        ensures length { (entries : List (Entry Offered)) × (length entries ≡ result) × Held (hand_of pass.old) entries }
+    {
+        self.queue.len_as::<Taken, R>(rt, &mut pass.hand)
     }
 }

@@ -225,6 +225,17 @@ pub(crate) fn is_still(rooms: &[Room], lanes: &mut MeetPass, at: usize) -> bool
     }
 }
 
+/// How many entries stand in the room's lane at a moment.
+pub(crate) fn length_of<R: Wait>(rt: &R, rooms: &[Room], lanes: &mut MeetPass, at: usize) -> usize
+    requires { Serves rooms.now lanes.old.passes.items }
+    ensures { Serves rooms.now lanes.new.passes.items }
+{
+    match rooms.get(at) {
+        Some(room) => room.lane.len(rt, &mut lanes.passes[at]),
+        None => 0,
+    }
+}
+
 /// Puts the entries in hand whose rows are not committed back into the room's lane, in their order.
 pub(crate) fn put_back<R: Wait>(
     rt: &R,
