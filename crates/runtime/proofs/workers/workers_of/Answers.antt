@@ -19,7 +19,7 @@ loop-pass-preserved c = (
       let left = into_iter_items c.next.new.self in
       let all = all_is P _ _ c.in-Some.ensures.steps.0 before.0 in
       let room = All-pop (IsMeetPassOf shared.meet) c.loop-pass.lanes.items c.pop.new.self.items (Some c.in-Some-pop.lanes) c.in-Some-pop.ensures.items before.1 in
-      let popped = All-pop (IsEndOf shared.ready) c.loop-pass.ends.items c.pop-2.new.self.items (Some c.in-Some-pop-2.end) c.in-Some-pop-2.ensures.items before.2 in
+      let popped = All-pop (IsEndOf shared.ready) c.loop-pass.ends.items c.pop-in-loop-pass.new.self.items (Some c.in-Some-pop-2.end) c.in-Some-pop-2.ensures.items before.2 in
       let worker : Worker = record { pass = c.in-Some.pass; lanes = c.in-Some-pop.lanes; end = c.in-Some-pop-2.end; number = c.loop-pass.number } in (
         all_rest P c.in-Some.pass left all,
         room.0,
