@@ -2,7 +2,7 @@
 
 ghost use Rattle.std.specs.Prelude.{◌≡◌, ◌+◌, ◌<◌, ◌≤◌, IfOk, IsTrue};
 ghost use Rattle.words.specs.declared.Row.{Row};
-ghost use Rattle.cell.specs.Calls.{IsPassOf, IsRowOf};
+ghost use Rattle.cell.specs.Calls.{IsPassOf};
 ghost use Rattle.cell.specs.Sight.{Has};
 ghost use Rattle.meet.specs.Rooms.{IsMeetPassOf};
 
