@@ -1,4 +1,4 @@
-//! Tests of `meet`: rows that find each other in queues, on one thread and on several.
+//! Tests of `meet`: rows that find each other in lanes, on one thread and on several.
 #![tactic(auto)]
 
 #[cfg(test)]

@@ -1,5 +1,7 @@
-//! What the calls give when they run: queues, searches, wakings, and threads that search at once.
+//! What the calls give when they run: queues, searches, lanes that many rows pass, wakings, and threads that
+//! search at once.
 
+mod lanes;
 mod queues;
 mod searches;
 mod table;

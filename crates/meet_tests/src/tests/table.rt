@@ -1,13 +1,15 @@
 //! A table to play at, and the calls that the tests repeat.
 
-ghost use Rattle.std.specs.Prelude.{◌≡◌, ◌+◌, ◌<◌, ◌≤◌, ℕ, [], ◌∷◌, Some, IfOk, length, slice_get};
+ghost use Rattle.std.specs.Prelude.{◌≡◌, ◌+◌, ◌<◌, ◌≤◌, ℕ, [], ◌∷◌, All, Some, IfOk, length, slice_get};
 ghost use Rattle.words.specs.Words.{IsOfferInRange};
 ghost use Rattle.cell.specs.Calls.{IsPassOf, IsRowOf, PassView};
 ghost use Rattle.cell.specs.Rule.{dealt_rows, seen_nothing};
 ghost use Rattle.cell.specs.Sight.{AreOffers, Has};
 ghost use Rattle.cell.specs.Views.{first_row};
+ghost use Rattle.meet.specs.Rooms.{IsMeetPassOf};
 
 use cell::{Cells, Pass};
+use meet::{Meet, MeetPass};
 use std::alloc::{AllocError, Global};
 use words::{Atom, Base, Message, NackName, Offer, Row};
 
@@ -76,18 +78,19 @@ pub(super) fn table(alloc: Global, threads: u8) -> Result<(Cells, Pass), AllocEr
     Ok((cells, pass))
 }
 
-/// A table of threads with a row each, and for each thread a pass that holds its row.
-pub(super) fn table_of_threads(alloc: Global, threads: u8) -> Result<(Cells, Vec<Pass>), AllocError>
-    requires { (1 ≤ threads) × (threads ≤ 16) }
-    ensures size { IfOk result (λ t. (t.0.threads ≡ threads) × (t.0.rows ≡ 1) × (length t.1.items ≡ threads)) }
+/// A table of threads with so many rows each, and for each thread a pass that holds its first row.
+fn table_of_threads(alloc: Global, threads: u8, rows: u16) -> Result<(Cells, Vec<Pass>), AllocError>
+    requires threads { (1 ≤ threads) × (threads ≤ 16) }
+    requires rows { (1 ≤ rows) × (rows ≤ 1024) }
+    ensures size { IfOk result (λ t. (t.0.threads ≡ threads) × (t.0.rows ≡ rows) × (length t.1.items ≡ threads)) }
     ensures passes { IfOk result (λ t. (number : ℕ) (pass : PassView) → slice_get t.1.items number ≡ Some pass → IsPassOf t.0 pass × Has pass.seen.held (first_row number) × (pass.seen.opened ≡ [])) }
 {
-    let (cells, passes) = Cells::new(alloc, threads, 1, threads)?;
+    let (cells, passes) = Cells::new(alloc, threads, rows, threads)?;
     Ok((cells, passes))
 }
 
 /// Takes the last pass: it holds the row of the last thread, and has not opened it.
-pub(super) fn deal(cells: &Cells, passes: &mut Vec<Pass>, thread: u8) -> Pass
+fn deal(cells: &Cells, passes: &mut Vec<Pass>, thread: u8) -> Pass
     requires count { length passes.old.items ≡ thread + 1 }
     requires passes { (number : ℕ) (pass : PassView) → slice_get passes.old.items number ≡ Some pass → IsPassOf cells.now pass × Has pass.seen.held (first_row number) × (pass.seen.opened ≡ []) }
     ensures count { length passes.new.items ≡ thread }
@@ -99,6 +102,46 @@ pub(super) fn deal(cells: &Cells, passes: &mut Vec<Pass>, thread: u8) -> Pass
         unreachable!()
     };
     pass
+}
+
+/// A table of two threads with so many rows each, and for each a pass that holds its first row.
+pub(super) fn table_of_two(alloc: Global, rows: u16) -> Result<(Cells, Pass, Pass), AllocError>
+    requires { (1 ≤ rows) × (rows ≤ 1024) }
+    ensures size { IfOk result (λ t. (t.0.threads ≡ 2) × (t.0.rows ≡ rows)) }
+    ensures first { IfOk result (λ t. IsPassOf t.0 t.1 × Has t.1.seen.held (first_row 0) × (t.1.seen.opened ≡ [])) }
+    ensures second { IfOk result (λ t. IsPassOf t.0 t.2 × Has t.2.seen.held (first_row 1) × (t.2.seen.opened ≡ [])) }
+{
+    let (cells, mut passes) = table_of_threads(alloc, 2, rows)?;
+    let second = deal(&cells, &mut passes, 1);
+    let first = deal(&cells, &mut passes, 0);
+    Ok((cells, first, second))
+}
+
+/// The rooms of so many channels, and of the nacks of so many threads, with one pass of them.
+pub(super) fn rooms(
+    alloc: Global,
+    channels: u16,
+    threads: u8,
+) -> Result<(Meet, MeetPass), AllocError>
+    ensures { IfOk result (λ m. IsMeetPassOf m.0 m.1) }
+{
+    let (meet, mut all) = Meet::new(alloc, channels, threads, 1)?;
+    let lanes = last(&meet, &mut all);
+    Ok((meet, lanes))
+}
+
+/// Takes the last of the passes of the rooms.
+pub(super) fn last(meet: &Meet, all: &mut Vec<MeetPass>) -> MeetPass
+    requires some { 0 < length all.old.items }
+    requires passes { All (IsMeetPassOf meet.now) all.old.items }
+    ensures count { length all.old.items ≡ length all.new.items + 1 }
+    ensures passes { All (IsMeetPassOf meet.now) all.new.items }
+    ensures here { IsMeetPassOf meet.now result }
+{
+    let Some(lanes) = all.pop() else {
+        unreachable!()
+    };
+    lanes
 }
 
 /// Drafts these offers for a held row, and opens it.

@@ -1,16 +1,17 @@
 //! Two threads that search at once: no pair is missed, and nobody who waits for a nack is. No clause
-//! says so, for what stands in queues are hints.
+//! says so, for what stands in lanes are hints.
 
 ghost use Rattle.std.specs.Prelude.{◌≡◌, [], IfOk};
 ghost use Rattle.words.specs.Words.{IsOfferInRange};
 ghost use Rattle.cell.specs.Calls.{IsPassOf, IsRowOf};
 ghost use Rattle.cell.specs.Sight.{Has};
 ghost use Rattle.cell.specs.Views.{first_row};
+ghost use Rattle.meet.specs.Rooms.{IsMeetPassOf};
 
-use super::table::{NACK, cancelled, deal, enter, receive, row, send, table_of_threads};
+use super::table::{NACK, cancelled, enter, last, receive, row, send, table_of_two};
 use super::wakings::enter_bound;
 use cell::{Cells, NoGate, Pass};
-use meet::{Found, Meet};
+use meet::{Found, Meet, MeetPass};
 use std::alloc::{AllocError, Global};
 use std::sync::Wait;
 use std::sync::atomic::{AtomicU64, Ordering};
@@ -24,16 +25,14 @@ const TABLES: u32 = 300;
 /// How often a thread looks whether the other has arrived.
 const TURNS: u32 = 10_000;
 
-/// A table of two threads with a row each, and for each a pass that holds its row.
-fn table(alloc: Global) -> Result<(Cells, Pass, Pass), AllocError>
-    ensures size { IfOk result (λ t. (t.0.threads ≡ 2) × (t.0.rows ≡ 1)) }
-    ensures first { IfOk result (λ t. IsPassOf t.0 t.1 × Has t.1.seen.held (first_row 0) × (t.1.seen.opened ≡ [])) }
-    ensures second { IfOk result (λ t. IsPassOf t.0 t.2 × Has t.2.seen.held (first_row 1) × (t.2.seen.opened ≡ [])) }
+/// The rooms of one channel and of the nacks of two threads, and a pass of them for each thread.
+fn rooms(alloc: Global) -> Result<(Meet, MeetPass, MeetPass), AllocError>
+    ensures { IfOk result (λ m. IsMeetPassOf m.0 m.1 × IsMeetPassOf m.0 m.2) }
 {
-    let (cells, mut passes) = table_of_threads(alloc, 2)?;
-    let second = deal(&cells, &mut passes, 1);
-    let first = deal(&cells, &mut passes, 0);
-    Ok((cells, first, second))
+    let (meet, mut all) = Meet::new(alloc, 1, 2, 2)?;
+    let second = last(&meet, &mut all);
+    let first = last(&meet, &mut all);
+    Ok((meet, first, second))
 }
 
 /// Waits a little for the other thread, so that they play at once.
@@ -53,6 +52,7 @@ fn search<R: Wait>(
     meet: &Meet,
     cells: &Cells,
     mut pass: Pass,
+    mut lanes: MeetPass,
     thread: u8,
     offer: Offer,
     arrived: &AtomicU64,
@@ -60,11 +60,12 @@ fn search<R: Wait>(
     requires here { IsPassOf cells.now pass × IsRowOf cells.now (first_row thread) }
     requires fresh { Has pass.seen.held (first_row thread) × (pass.seen.opened ≡ []) }
     requires offer { IsOfferInRange offer }
+    requires lanes { IsMeetPassOf meet.now lanes }
     ensures here { IsPassOf cells.now result.1 }
 {
     line_up(arrived);
     enter(cells, &mut pass, row(thread), &[offer]);
-    let found = meet.search(rt, cells, &mut pass, &NoGate, row(thread));
+    let found = meet.search(rt, cells, &mut pass, &mut lanes, &NoGate, row(thread));
     (found, pass)
 }
 
@@ -76,38 +77,53 @@ fn commit_and_wake<R: Wait>(
     meet: &Meet,
     cells: &Cells,
     mut pass: Pass,
+    mut lanes: MeetPass,
     arrived: &AtomicU64,
 ) -> (Result<usize, AllocError>, Pass)
     requires here { IsPassOf cells.now pass × IsRowOf cells.now (first_row 0) }
     requires opened { Has pass.seen.held (first_row 0) × Has pass.seen.opened (first_row 0) }
+    requires lanes { IsMeetPassOf meet.now lanes }
     ensures here { IsPassOf cells.now result.1 }
 {
     line_up(arrived);
-    if let Err(failed) = meet.search(rt, cells, &mut pass, &NoGate, row(0)) {
+    if let Err(failed) = meet.search(rt, cells, &mut pass, &mut lanes, &NoGate, row(0)) {
         return (Err(failed), pass);
     }
-    let woken = meet.wake(rt, alloc, cells, &mut pass, &NoGate, NACK);
+    let woken = meet.wake(rt, alloc, cells, &mut pass, &mut lanes, &NoGate, NACK);
     (woken.map(|rows| rows.len()), pass)
 }
 
 #[test]
 fn no_pair_is_missed(rt: HostRuntime) -> Result<(), Fail> {
     for _ in 0..TABLES {
-        let (cells, sender, receiver) = table(rt.alloc())?;
-        let meet = Meet::new(rt.alloc(), 1, 2)?;
+        let (cells, sender, receiver) = table_of_two(rt.alloc(), 1)?;
+        let (meet, first, second) = rooms(rt.alloc())?;
         let arrived = AtomicU64::new(0);
         let ((sent, mut sender), (received, mut receiver)) = thread::join(
             &rt,
             || -> (Result<Found, AllocError>, Pass)
                 requires here { IsPassOf cells sender × IsRowOf cells (first_row 0) }
+                requires lanes { IsMeetPassOf meet first }
                 requires fresh { Has sender.seen.held (first_row 0) × (sender.seen.opened ≡ []) }
                 ensures here { IsPassOf cells result.1 }
-            { search(&rt, &meet, &cells, sender, 0, send(0, 42), &arrived) },
+            { search(&rt, &meet, &cells, sender, first, 0, send(0, 42), &arrived) },
             || -> (Result<Found, AllocError>, Pass)
                 requires here { IsPassOf cells receiver × IsRowOf cells (first_row 1) }
+                requires lanes { IsMeetPassOf meet second }
                 requires fresh { Has receiver.seen.held (first_row 1) × (receiver.seen.opened ≡ []) }
                 ensures here { IsPassOf cells result.1 }
-            { search(&rt, &meet, &cells, receiver, 1, receive(0, 0), &arrived) },
+            {
+                search(
+                    &rt,
+                    &meet,
+                    &cells,
+                    receiver,
+                    second,
+                    1,
+                    receive(0, 0),
+                    &arrived,
+                )
+            },
         );
         let found = (sent?, received?);
         assert!(rt; found.0 == Found::Met(row(1)) || found.1 == Found::Met(row(0)));
@@ -121,22 +137,24 @@ fn no_pair_is_missed(rt: HostRuntime) -> Result<(), Fail> {
 #[test]
 fn nobody_who_waits_for_a_nack_is_missed(rt: HostRuntime) -> Result<(), Fail> {
     for _ in 0..TABLES {
-        let (cells, mut committer, waiter) = table(rt.alloc())?;
-        let meet = Meet::new(rt.alloc(), 1, 2)?;
+        let (cells, mut committer, waiter) = table_of_two(rt.alloc(), 1)?;
+        let (meet, first, second) = rooms(rt.alloc())?;
         let arrived = AtomicU64::new(0);
         assert!(rt; enter_bound(&cells, &mut committer));
         let ((woken, mut committer), (found, mut waiter)) = thread::join(
             &rt,
             || -> (Result<usize, AllocError>, Pass)
                 requires here { IsPassOf cells committer × IsRowOf cells (first_row 0) }
+                requires lanes { IsMeetPassOf meet first }
                 requires opened { Has committer.seen.held (first_row 0) × Has committer.seen.opened (first_row 0) }
                 ensures here { IsPassOf cells result.1 }
-            { commit_and_wake(&rt, rt.alloc(), &meet, &cells, committer, &arrived) },
+            { commit_and_wake(&rt, rt.alloc(), &meet, &cells, committer, first, &arrived) },
             || -> (Result<Found, AllocError>, Pass)
                 requires here { IsPassOf cells waiter × IsRowOf cells (first_row 1) }
+                requires lanes { IsMeetPassOf meet second }
                 requires fresh { Has waiter.seen.held (first_row 1) × (waiter.seen.opened ≡ []) }
                 ensures here { IsPassOf cells result.1 }
-            { search(&rt, &meet, &cells, waiter, 1, cancelled(), &arrived) },
+            { search(&rt, &meet, &cells, waiter, second, 1, cancelled(), &arrived) },
         );
         let (woken, found) = (woken?, found?);
         assert!(rt; (found == Found::Alone) == (woken == 0));

@@ -5,9 +5,9 @@ ghost use Rattle.cell.specs.Calls.{IsPassOf, IsRowOf};
 ghost use Rattle.cell.specs.Sight.{AreOffers, Has};
 ghost use Rattle.cell.specs.Views.{first_row};
 
-use super::table::{NACK, always, cancelled, enter, receive, row, table};
+use super::table::{NACK, always, cancelled, enter, receive, rooms, row, table};
 use cell::{Cells, NoGate, Pass};
-use meet::{Found, Meet};
+use meet::Found;
 use std::test::Fail;
 use words::{Message, NackName, Offer};
 
@@ -39,15 +39,31 @@ pub(super) fn enter_bound(cells: &Cells, pass: &mut Pass) -> bool
 #[test]
 fn woken(rt: HostRuntime) -> Result<(), Fail> {
     let (cells, mut pass) = table(rt.alloc(), 2)?;
-    let meet = Meet::new(rt.alloc(), 1, 2)?;
+    let (meet, mut lanes) = rooms(rt.alloc(), 1, 2)?;
     assert!(rt; enter_bound(&cells, &mut pass));
     enter(&cells, &mut pass, row(1), &[cancelled()]);
-    assert!(rt; meet.search(&rt, &cells, &mut pass, &NoGate, row(1))? == Found::Left);
-    assert!(rt; meet.search(&rt, &cells, &mut pass, &NoGate, row(0))? == Found::Alone);
-    let woken = meet.wake(&rt, rt.alloc(), &cells, &mut pass, &NoGate, NACK)?;
+    assert!(rt; meet.search(&rt, &cells, &mut pass, &mut lanes, &NoGate, row(1))? == Found::Left);
+    assert!(rt; meet.search(&rt, &cells, &mut pass, &mut lanes, &NoGate, row(0))? == Found::Alone);
+    let woken = meet.wake(
+        &rt,
+        rt.alloc(),
+        &cells,
+        &mut pass,
+        &mut lanes,
+        &NoGate,
+        NACK,
+    )?;
     assert!(rt; woken.as_slice() == [row(1)].as_slice());
     assert!(rt; cells.result(&mut pass, row(1)) == Some(Message::Empty));
-    let again = meet.wake(&rt, rt.alloc(), &cells, &mut pass, &NoGate, NACK)?;
+    let again = meet.wake(
+        &rt,
+        rt.alloc(),
+        &cells,
+        &mut pass,
+        &mut lanes,
+        &NoGate,
+        NACK,
+    )?;
     assert!(rt; again.is_empty());
     Ok(())
 }
@@ -55,22 +71,54 @@ fn woken(rt: HostRuntime) -> Result<(), Fail> {
 #[test]
 fn only_an_enabled_nack_wakes(rt: HostRuntime) -> Result<(), Fail> {
     let (cells, mut pass) = table(rt.alloc(), 3)?;
-    let meet = Meet::new(rt.alloc(), 1, 3)?;
+    let (meet, mut lanes) = rooms(rt.alloc(), 1, 3)?;
     assert!(rt; enter_bound(&cells, &mut pass));
     enter(&cells, &mut pass, row(1), &[cancelled(), cancelled()]);
     enter(&cells, &mut pass, row(2), &[receive(0, 0), cancelled()]);
-    assert!(rt; meet.search(&rt, &cells, &mut pass, &NoGate, row(1))? == Found::Left);
-    assert!(rt; meet.search(&rt, &cells, &mut pass, &NoGate, row(2))? == Found::Left);
-    let early = meet.wake(&rt, rt.alloc(), &cells, &mut pass, &NoGate, NACK)?;
+    assert!(rt; meet.search(&rt, &cells, &mut pass, &mut lanes, &NoGate, row(1))? == Found::Left);
+    assert!(rt; meet.search(&rt, &cells, &mut pass, &mut lanes, &NoGate, row(2))? == Found::Left);
+    let early = meet.wake(
+        &rt,
+        rt.alloc(),
+        &cells,
+        &mut pass,
+        &mut lanes,
+        &NoGate,
+        NACK,
+    )?;
     assert!(rt; early.is_empty());
-    assert!(rt; meet.search(&rt, &cells, &mut pass, &NoGate, row(0))? == Found::Alone);
+    assert!(rt; meet.search(&rt, &cells, &mut pass, &mut lanes, &NoGate, row(0))? == Found::Alone);
     let other = NackName { thread: 0, k: 1 };
-    let none = meet.wake(&rt, rt.alloc(), &cells, &mut pass, &NoGate, other)?;
+    let none = meet.wake(
+        &rt,
+        rt.alloc(),
+        &cells,
+        &mut pass,
+        &mut lanes,
+        &NoGate,
+        other,
+    )?;
     assert!(rt; none.is_empty());
     let unknown = NackName { thread: 3, k: 64 };
-    let none = meet.wake(&rt, rt.alloc(), &cells, &mut pass, &NoGate, unknown)?;
+    let none = meet.wake(
+        &rt,
+        rt.alloc(),
+        &cells,
+        &mut pass,
+        &mut lanes,
+        &NoGate,
+        unknown,
+    )?;
     assert!(rt; none.is_empty());
-    let woken = meet.wake(&rt, rt.alloc(), &cells, &mut pass, &NoGate, NACK)?;
+    let woken = meet.wake(
+        &rt,
+        rt.alloc(),
+        &cells,
+        &mut pass,
+        &mut lanes,
+        &NoGate,
+        NACK,
+    )?;
     assert!(rt; woken.as_slice() == [row(1), row(2)].as_slice());
     assert!(rt; cells.result(&mut pass, row(2)) == Some(Message::Empty));
     Ok(())
