@@ -3,7 +3,7 @@
 ghost use Rattle.std.specs.Prelude.{◌≡◌, All, IfOk, MatchOption, length};
 ghost use Rattle.cell.specs.Calls.{IsPassOf};
 ghost use Rattle.lane.specs.Lanes.{IsLanePassOf};
-ghost use Rattle.meet.specs.Rooms.{EachServes, Serves};
+ghost use Rattle.meet.specs.Rooms.{AllJoin, EachServes, Joins, Serves};
 ghost use Rattle.meet.specs.Searches.{Grows};
 
 use crate::queue::{Queue, saw_committed};
@@ -74,12 +74,30 @@ impl Room {
     /// Puts the entry at the back. A pass that has put as many as its count can tell puts it nowhere.
     fn put<R: Wait>(&self, rt: &R, lane: &mut LanePass, entry: Waiting) -> Result<(), AllocError>
         requires { IsLanePassOf self.now.lane lane.old }
-        ensures { IsLanePassOf self.now.lane lane.new }
+        ensures here { IsLanePassOf self.now.lane lane.new }
+        ensures put { IfOk result (λ _. Joins lane.old lane.new entry) }
     {
         if lane.count() == u64::MAX {
             return Ok(());
         }
         self.lane.put(rt, lane, entry.0, entry.1)
+    }
+
+    /// Puts the entries at the back, in their order.
+    fn put_all<R: Wait>(
+        &self,
+        rt: &R,
+        lane: &mut LanePass,
+        entries: &[Waiting],
+    ) -> Result<(), AllocError>
+        requires { IsLanePassOf self.now.lane lane.old }
+        ensures here { IsLanePassOf self.now.lane lane.new }
+        ensures put { IfOk result (λ _. AllJoin lane.old lane.new entries.now) }
+    {
+        for entry in entries {
+            self.put(rt, lane, *entry)?;
+        }
+        Ok(())
     }
 
     /// Takes up to two entries from the front, to the first that is live, which goes to the back. So a lane
@@ -255,10 +273,7 @@ pub(crate) fn put_back<R: Wait>(
     let Some(room) = rooms.get(at) else {
         return Ok(());
     };
-    let lane = &mut lanes.passes[at];
-    for entry in lanes.in_hand.entries() {
-        room.put(rt, lane, *entry)?;
-    }
+    room.put_all(rt, &mut lanes.passes[at], lanes.in_hand.entries())?;
     lanes.in_hand.clear();
     Ok(())
 }
