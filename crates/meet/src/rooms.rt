@@ -6,19 +6,24 @@ ghost use Rattle.lane.specs.Lanes.{IsLanePassOf};
 ghost use Rattle.meet.specs.Rooms.{AllJoin, EachServes, Joins, Serves};
 ghost use Rattle.meet.specs.Searches.{Grows};
 
-use crate::queue::{Queue, saw_committed};
+use crate::queue::Queue;
 use cell::{Cells, Pass};
 use lane::{Lane, LanePass, Waiting};
 use std::alloc::{AllocError, Global};
 use std::sync::Wait;
-use std::sync::atomic::{AtomicU64, Ordering};
+use std::sync::atomic::{AtomicU64, AtomicUsize, Ordering};
 
-/// A lane of offers of one kind, and how often entries were taken up from it and given back.
+/// How long a lane is at least before it is swept.
+const FEW: usize = 64;
+
+/// A lane of offers of one kind, how often entries were taken up from it and given back, and from which length
+/// on it is swept.
 #[derive(Drop)]
 pub(crate) struct Room {
     pub(crate) lane: Lane,
     taken_up: AtomicU64,
     given_back: AtomicU64,
+    most: AtomicUsize,
 }
 
 /// One caller's passes of all rooms, and the entries that it has in hand.
@@ -36,6 +41,7 @@ impl Room {
             lane,
             taken_up: AtomicU64::new(0),
             given_back: AtomicU64::new(0),
+            most: AtomicUsize::new(FEW),
         }
     }
 
@@ -100,54 +106,18 @@ impl Room {
         Ok(())
     }
 
-    /// Takes up to two entries from the front, to the first that is live, which goes to the back. So a lane
-    /// that is only put into stays as short as a few times its live entries.
-    fn shorten<R: Wait>(
-        &self,
-        rt: &R,
-        cells: &Cells,
-        pass: &mut Pass,
-        lane: &mut LanePass,
-    ) -> Result<(), AllocError>
-        requires cells { IsPassOf cells.now pass.old }
-        requires lane { IsLanePassOf self.now.lane lane.old }
-        ensures here { IsPassOf cells.now pass.new }
-        ensures grows { Grows pass.old.seen pass.new.seen }
-        ensures lane { IsLanePassOf self.now.lane lane.new }
+    /// Whether so many entries stand in the lane that it is to be swept.
+    fn is_long<R: Wait>(&self, rt: &R, lane: &mut LanePass) -> bool
+        requires { IsLanePassOf self.now.lane lane.old }
+        ensures { IsLanePassOf self.now.lane lane.new }
     {
-        for _ in 0..2 {
-            let Some(entry) = self.lane.take_front(rt, lane) else {
-                return Ok(());
-            };
-            if !saw_committed(cells, pass, entry.0) {
-                return self.put(rt, lane, entry);
-            }
-        }
-        Ok(())
+        !self.lane.is_empty(lane) && self.lane.len(rt, lane) >= self.most.load(Ordering::SeqCst)
     }
 
-    /// Puts the entry at the back of the lane, which is kept short.
-    fn put_short<R: Wait>(
-        &self,
-        rt: &R,
-        cells: &Cells,
-        pass: &mut Pass,
-        lane: &mut LanePass,
-        entry: Waiting,
-    ) -> Result<(), AllocError>
-        requires cells { IsPassOf cells.now pass.old }
-        requires lane { IsLanePassOf self.now.lane lane.old }
-        ensures here { IsPassOf cells.now pass.new }
-        ensures grows { Grows pass.old.seen pass.new.seen }
-        ensures lane { IsLanePassOf self.now.lane lane.new }
-    {
-        if !self.lane.is_empty(lane) {
-            self.take_up();
-            let shortened = self.shorten(rt, cells, pass, lane);
-            self.give_back();
-            shortened?;
-        }
-        self.put(rt, lane, entry)
+    /// After a sweep that left so many: the lane is swept again when it is twice as long, and some.
+    fn note_left(&self, left: usize) {
+        let most = left.saturating_mul(2).saturating_add(FEW);
+        self.most.store(most, Ordering::SeqCst);
     }
 }
 
@@ -212,10 +182,85 @@ pub(crate) fn put_into<R: Wait>(
     ensures grows { Grows pass.old.seen pass.new.seen }
     ensures lanes { Serves rooms.now lanes.new.passes.items }
 {
+    if is_long(rt, rooms, lanes, at) {
+        sweep(rt, cells, pass, rooms, lanes, at)?;
+    }
+    put_one(rt, rooms, lanes, at, entry)
+}
+
+/// Whether the room's lane is to be swept.
+fn is_long<R: Wait>(rt: &R, rooms: &[Room], lanes: &mut MeetPass, at: usize) -> bool
+    requires { Serves rooms.now lanes.old.passes.items }
+    ensures { Serves rooms.now lanes.new.passes.items }
+{
+    match rooms.get(at) {
+        Some(room) => room.is_long(rt, &mut lanes.passes[at]),
+        None => false,
+    }
+}
+
+/// Puts the entry at the back of the room's lane.
+fn put_one<R: Wait>(
+    rt: &R,
+    rooms: &[Room],
+    lanes: &mut MeetPass,
+    at: usize,
+    entry: Waiting,
+) -> Result<(), AllocError>
+    requires { Serves rooms.now lanes.old.passes.items }
+    ensures { Serves rooms.now lanes.new.passes.items }
+{
+    match rooms.get(at) {
+        Some(room) => room.put(rt, &mut lanes.passes[at], entry),
+        None => Ok(()),
+    }
+}
+
+/// Removes the entries of committed rows from the room's lane. The others stay in their order.
+fn sweep<R: Wait>(
+    rt: &R,
+    cells: &Cells,
+    pass: &mut Pass,
+    rooms: &[Room],
+    lanes: &mut MeetPass,
+    at: usize,
+) -> Result<(), AllocError>
+    requires cells { IsPassOf cells.now pass.old }
+    requires lanes { Serves rooms.now lanes.old.passes.items }
+    ensures here { IsPassOf cells.now pass.new }
+    ensures grows { Grows pass.old.seen pass.new.seen }
+    ensures lanes { Serves rooms.now lanes.new.passes.items }
+{
     let Some(room) = rooms.get(at) else {
         return Ok(());
     };
-    room.put_short(rt, cells, pass, &mut lanes.passes[at], entry)
+    room.take_up();
+    let taken = take_all(rt, rooms, lanes, at);
+    lanes.in_hand.tidy(cells, pass);
+    room.note_left(lanes.in_hand.entries().len());
+    let put = put_back(rt, cells, pass, rooms, lanes, at);
+    room.give_back();
+    taken?;
+    put
+}
+
+/// Takes all entries of the room's lane in hand.
+fn take_all<R: Wait>(
+    rt: &R,
+    rooms: &[Room],
+    lanes: &mut MeetPass,
+    at: usize,
+) -> Result<(), AllocError>
+    requires { Serves rooms.now lanes.old.passes.items }
+    ensures { Serves rooms.now lanes.new.passes.items }
+{
+    for _ in rt.forever() {
+        let Some((row, n)) = take_from(rt, rooms, lanes, at) else {
+            return Ok(());
+        };
+        lanes.in_hand.add(row, n)?;
+    }
+    unreachable!()
 }
 
 /// Takes the entry at the front of the room's lane.

@@ -256,14 +256,7 @@ fn meet<R: Wait>(
     let Some(nacks) = opened? else {
         return Ok(Committed::Nothing);
     };
-    let found = shared.meet.search(
-        rt,
-        cells,
-        &mut worker.pass,
-        &mut worker.lanes,
-        &NoGate,
-        row,
-    )?;
+    let found = shared.meet.search(rt, cells, &mut worker.pass, &mut worker.lanes, &NoGate, row)?;
     match found {
         Found::Met(other) => {
             follow_pair(rt, cells, shared, worker, row, nacks, other)?;
