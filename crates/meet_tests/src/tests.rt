@@ -4,6 +4,7 @@
 mod lanes;
 mod queues;
 mod searches;
+mod spare;
 mod table;
 mod threads;
 mod wakings;

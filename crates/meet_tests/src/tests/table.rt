@@ -78,6 +78,23 @@ pub(super) fn table(alloc: Global, threads: u8) -> Result<(Cells, Pass), AllocEr
     Ok((cells, pass))
 }
 
+/// A table of threads with so many rows each, and the pass that holds all first rows.
+pub(super) fn table_of_all(
+    alloc: Global,
+    threads: u8,
+    rows: u16,
+) -> Result<(Cells, Pass), AllocError>
+    requires threads { (1 ≤ threads) × (threads ≤ 64) }
+    requires rows { (1 ≤ rows) × (rows ≤ 1024) }
+    ensures { IfOk result (λ t. IsPassOf t.0 t.1) }
+{
+    let (cells, mut passes) = Cells::new(alloc, threads, rows, 1)?;
+    let Some(pass) = passes.pop() else {
+        unreachable!()
+    };
+    Ok((cells, pass))
+}
+
 /// A table of threads with so many rows each, and for each thread a pass that holds its first row.
 fn table_of_threads(alloc: Global, threads: u8, rows: u16) -> Result<(Cells, Vec<Pass>), AllocError>
     requires threads { (1 ≤ threads) × (threads ≤ 16) }
