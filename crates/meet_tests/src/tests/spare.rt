@@ -1,6 +1,6 @@
 //! 30,000 rendezvous of rows that offer on one more channel, where nobody receives: that lane stays short.
 
-ghost use Rattle.std.specs.Prelude.{◌≡◌, IfOk, IsTrue};
+ghost use Rattle.std.specs.Prelude.{IsTrue};
 ghost use Rattle.cell.specs.Calls.{IsPassOf, IsRowOf};
 ghost use Rattle.cell.specs.Sight.{AreOffers, Has};
 ghost use Rattle.meet.specs.Rooms.{IsMeetPassOf};
