@@ -12,10 +12,10 @@ use Rattle.cell.specs.Sight.{Coherent, HaveDirection, LackOffer, SeesDirection}
 use Rattle.cell.specs.Nacks.{CanStandAlone}
 use Rattle.meet.specs.declared.meet.Found.{Found}
 use Rattle.meet.specs.declared.meet.Found.TheVariants.{Met, Alone, Already, Left}
-use Rattle.meet.specs.Searches.{Finds, Grows, LacksAt, Leaves, Lists}
+use Rattle.meet.specs.Searches.{Finds, Grows, LacksAt, Leaves, Lists, StandsByNone}
 use Rattle.cell.proofs.Directions.{sees_direction}
 use Rattle.cell.proofs.Meeting.{few}
-use Rattle.meet.proofs.Growing.{saw_more, seen_more}
+use Rattle.meet.proofs.Growing.{saw_more, seen_more, stands_more}
 
 -- the list has the directions before n that the pass had seen, and none that it has not seen now
 pub record Reads (s t : Seen) (r : Row) (directions : List (Option Direction)) (n : ℕ) : Type 0 where
@@ -99,15 +99,33 @@ stands_to s r n before last k low = elim (eqb_tells k n) [
   | inr other ↦ before k (let apart = other.1 in omega arith)
 ]
 
+pub none_found : (x : Option Found) → ((f : Found) → x ≢ Some f) → x ≡ None
+none_found None none = refl
+none_found (Some f) none = absurd (none f refl)
+
 pub none_listed : (x : Option Direction) → ((d : Direction) → x ≢ Some d) → x ≡ None
 none_listed None none = refl
 none_listed (Some d) none = absurd (none d refl)
 
--- and there are no others
-pub stands_nowhere : (s : Seen) (r : Row) (n : ℕ) → ((k : ℕ) (d : Direction) → SeesDirection s r k d → k < n) → ((k : ℕ) → k < n → ¬ CanStandAlone s r k) → (k : ℕ) → ¬ CanStandAlone s r k
-stands_nowhere s r n few before k can =
-    let told = sees_direction s r k can.0 can.2 in
-    before k (few k told.0 told.1) can
+-- nor does any before the list's end
+pub stands_by_none : (s : Seen) (r : Row) (directions : List (Option Direction)) (n : ℕ) → LacksAt directions n → ((k : ℕ) → k < n → ¬ CanStandAlone s r k) → StandsByNone s r directions
+stands_by_none s r directions n lacks before m listed = by_case (Rattle.std.proofs.Math.Dec.ltb m n) refl
+  where
+    by_case : (b : Bool) → Rattle.std.proofs.Math.Dec.ltb m n ≡ b → ¬ CanStandAlone s r m
+    by_case true e = before m (ltb-true m n e)
+    by_case false e = absurd (listed n (ltb-false m n e) lacks)
+
+-- there are eight at most
+pub stands_by_no_other : (s : Seen) (r : Row) (directions : List (Option Direction)) (n : ℕ) → 8 ≤ n → ((k : ℕ) → k < n → ¬ CanStandAlone s r k) → StandsByNone s r directions
+stands_by_no_other s r directions n all before m listed can =
+    let told = sees_direction s r m can.0 can.2 in
+    before m (few_directions s r n all m told.0 told.1) can
+
+-- the list has all that had been seen before it was read
+pub stands_nowhere : (s t : Seen) (r : Row) (directions : List (Option Direction)) → Grows s t → ((n : ℕ) → LacksAt directions n → (k : ℕ) (d : Direction) → SeesDirection s r k d → k < n) → StandsByNone t r directions → (n : ℕ) → ¬ CanStandAlone s r n
+stands_nowhere s t r directions grows short none n can =
+    let told = sees_direction s r n can.0 can.2 in
+    none n (λ k low lacks. let past = short k lacks n told.0 told.1 in omega arith) (stands_more s t r n grows can)
 
 -- the row is left, and had not been seen to stand alone
 pub found_left : (s t u : Seen) (r : Row) (found : Found) → Grows s t → Leaves t u r found → ((n : ℕ) → ¬ CanStandAlone s r n) → Finds s u r found

@@ -36,11 +36,11 @@ offers_put p = map (λ (e : Entry Offered). e.item) (hand_of p).put
 abbrev pub AllJoin : LanePass → LanePass → List Offered → Type 0
 AllJoin before after entries = (offers_put after ≡ offers_put before ++ entries) ⊎ (pass_count after ≡ 2 ^ 64 - 1)
 
--- the room in which an offer in this direction waits: those who send, those who receive, and each thread's nacks
+-- the room in which an offer in this direction waits: those who send, those who receive, and one for each thread's nacks
 abbrev pub WaitsIn : Meet → Direction → ℕ → Type 0
 WaitsIn meet (Send chan atoms) at = at ≡ chan
 WaitsIn meet (Recv chan) at = at ≡ meet.channels + chan
-WaitsIn meet (OnNack nack) at = at ≡ 2 * meet.channels + nack.thread * 64 + nack.k
+WaitsIn meet (OnNack nack) at = at ≡ 2 * meet.channels + nack.thread
 WaitsIn meet (Always atoms) at = ⊥
 WaitsIn meet Never at = ⊥
 
