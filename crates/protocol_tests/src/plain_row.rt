@@ -1,6 +1,6 @@
-//! A row of the second reading: how far it is, and what its words say.
+//! A row of the second reading: how far it is; and what words say.
 
-use words::{Atom, Cause, Commit, Message, NackName, Row};
+use words::{Atom, Message, NackName, Row};
 
 /// The bits of an offer's head that hold the channel, the nack, the number of atoms and the scopes.
 const CHANNEL: u64 = 0x7f8;
@@ -30,13 +30,12 @@ pub(crate) enum Way {
     OnNack(NackName),
 }
 
-/// A row: place 0 of its words is not used.
+/// How far a row is, and with whom.
 #[derive(Clone, Copy)]
 pub(crate) struct PlainRow {
     pub(crate) row: Row,
     pub(crate) holder: Option<u8>,
     pub(crate) stage: Stage,
-    pub(crate) words: [u64; 34],
     pub(crate) own: u8,
     pub(crate) partner: Option<(Row, u8)>,
     pub(crate) stamp: u32,
@@ -46,47 +45,6 @@ impl PlainRow {
     pub(crate) fn is_committed(&self) -> bool {
         self.stage == Stage::Synched || self.stage == Stage::Taken
     }
-
-    /// The head word of an offer that the row has.
-    pub(crate) fn head(&self, offer: u8) -> Option<u64> {
-        if u64::from(offer) < self.words[1] {
-            self.words.get(2 + 4 * usize::from(offer)).copied()
-        } else {
-            None
-        }
-    }
-
-    pub(crate) fn way(&self, offer: u8) -> Option<Way> {
-        let head = self.head(offer)?;
-        Some(way_of(head))
-    }
-
-    pub(crate) fn message(&self, offer: u8) -> Option<Message> {
-        let head = self.head(offer)?;
-        let at = 2 + 4 * usize::from(offer);
-        let first = atom_of(self.words.get(at + 1).copied()?);
-        let second = atom_of(self.words.get(at + 2).copied()?);
-        let third = atom_of(self.words.get(at + 3).copied()?);
-        Some(match (head & ATOMS) >> 23 {
-            0 => Message::Empty,
-            1 => Message::One(first),
-            2 => Message::Two(first, second),
-            _ => Message::Three(first, second, third),
-        })
-    }
-
-    pub(crate) fn alone(&self, way: Way) -> Option<Commit> {
-        let cause = match way {
-            Way::Always => Cause::Always(self.message(self.own)?),
-            Way::OnNack(nack) => Cause::Nack(nack),
-            _ => return None,
-        };
-        Some(Commit::Alone {
-            at: (self.row, self.own),
-            cause,
-            stamp: self.stamp,
-        })
-    }
 }
 
 pub(crate) fn fresh_row(thread: u8, sync: u16, holder: Option<u8>) -> PlainRow {
@@ -94,7 +52,6 @@ pub(crate) fn fresh_row(thread: u8, sync: u16, holder: Option<u8>) -> PlainRow {
         row: Row { thread, sync },
         holder,
         stage: Stage::Fresh,
-        words: [0; 34],
         own: 0,
         partner: None,
         stamp: 0,
@@ -150,7 +107,7 @@ fn is_atom(word: u64) -> bool {
     }
 }
 
-fn way_of(head: u64) -> Way {
+pub(crate) fn way_of(head: u64) -> Way {
     let chan = ((head >> 3) & 255) as u8;
     match head & 7 {
         1 => Way::Send(chan),
@@ -161,6 +118,16 @@ fn way_of(head: u64) -> Way {
             k: ((head >> 17) & 63) as u8,
         }),
         _ => Way::Never,
+    }
+}
+
+/// What the atoms of an offer with this head say.
+pub(crate) fn message_of(head: u64, first: u64, second: u64, third: u64) -> Message {
+    match (head & ATOMS) >> 23 {
+        0 => Message::Empty,
+        1 => Message::One(atom_of(first)),
+        2 => Message::Two(atom_of(first), atom_of(second)),
+        _ => Message::Three(atom_of(first), atom_of(second), atom_of(third)),
     }
 }
 

@@ -3,14 +3,18 @@
 
 ghost use Rattle.std.specs.Prelude.{◌≤◌};
 
-use crate::plain_row::{PlainRow, Stage, Way, do_meet, fresh_row, is_word, scope_bit};
-use words::{Commit, NackName, Row, Seat, Step};
+use crate::plain_row::{
+    PlainRow, Stage, Way, do_meet, fresh_row, is_word, message_of, scope_bit, way_of,
+};
+use words::{Cause, Commit, Message, NackName, Row, Seat, Step};
 
-/// A world of three threads with two rows each. A nack that is bound has its sync and its scope.
+/// A world of three threads with two rows each, whose words stand apart; place 0 of them is not used.
+/// A nack that is bound has its sync and its scope.
 #[derive(Clone, Copy)]
 pub(crate) struct PlainWorld {
     seats: u8,
     rows: [PlainRow; 6],
+    words: [[u64; 34]; 6],
     nacks: [Option<(u16, u8)>; 192],
 }
 
@@ -29,6 +33,7 @@ impl PlainWorld {
                 fresh_row(2, 0, Some(2 % seats)),
                 fresh_row(2, 1, None),
             ],
+            words: [[0; 34]; 6],
             nacks: [None; 192],
         }
     }
@@ -107,6 +112,31 @@ impl PlainWorld {
         None
     }
 
+    /// The head word of an offer that the row has.
+    fn head(&self, row: Row, offer: u8) -> Option<u64> {
+        let words = self.words.get(place_of(row))?;
+        if u64::from(offer) < words[1] {
+            words.get(2 + 4 * usize::from(offer)).copied()
+        } else {
+            None
+        }
+    }
+
+    fn way(&self, row: Row, offer: u8) -> Option<Way> {
+        let head = self.head(row, offer)?;
+        Some(way_of(head))
+    }
+
+    fn message(&self, row: Row, offer: u8) -> Option<Message> {
+        let head = self.head(row, offer)?;
+        let words = self.words.get(place_of(row))?;
+        let at = 2 + 4 * usize::from(offer);
+        let first = words.get(at + 1).copied()?;
+        let second = words.get(at + 2).copied()?;
+        let third = words.get(at + 3).copied()?;
+        Some(message_of(head, first, second, third))
+    }
+
     fn last_stamp(&self, row: Row) -> u32 {
         if row.sync == 0 {
             return 0;
@@ -129,7 +159,7 @@ impl PlainWorld {
             thread: nack.thread,
             sync,
         })?;
-        let head = line.head(line.own)?;
+        let head = self.head(line.row, line.own)?;
         if line.is_committed() && head & scope_bit(scope) == 0 {
             Some(line.stamp)
         } else {
@@ -138,17 +168,19 @@ impl PlainWorld {
     }
 
     fn draft(&mut self, seat: Seat, row: Row, place: u8, value: u64) -> bool {
-        let Some(mut line) = self.held(seat, row) else {
+        let Some(line) = self.held(seat, row) else {
             return false;
         };
         if line.stage != Stage::Fresh || place < 1 || !is_word(place, value) {
             return false;
         }
-        let Some(word) = line.words.get_mut(usize::from(place)) else {
+        let Some(words) = self.words.get_mut(place_of(row)) else {
+            return false;
+        };
+        let Some(word) = words.get_mut(usize::from(place)) else {
             return false;
         };
         *word = value;
-        self.put(line);
         true
     }
 
@@ -177,7 +209,7 @@ impl PlainWorld {
         if self.namer(mine).is_some() || mine.thread == other.thread {
             return false;
         }
-        if !do_meet(claimed.way(own), joined.way(partner)) {
+        if !do_meet(self.way(mine, own), self.way(other, partner)) {
             return false;
         }
         joined.stage = Stage::Synched;
@@ -216,7 +248,7 @@ impl PlainWorld {
         if line.stage != Stage::Waiting {
             return false;
         }
-        let cause = match line.way(offer) {
+        let cause = match self.way(row, offer) {
             Some(Way::Always) => Some(0),
             Some(Way::OnNack(nack)) => self.enabled(nack),
             _ => None,
@@ -295,23 +327,35 @@ impl PlainWorld {
 
     fn commit_by(&self, line: &PlainRow) -> Option<Commit> {
         let here = (line.row, line.own);
-        let way = line.way(line.own)?;
+        let way = self.way(line.row, line.own)?;
         let Some(there) = line.partner else {
-            return line.alone(way);
+            return self.alone(line, way);
         };
         let (sender, receiver) = match way {
             Way::Send(_) => (here, there),
             _ => (there, here),
         };
-        let source = self.row(sender.0)?;
-        let Some(Way::Send(chan)) = source.way(sender.1) else {
+        let Some(Way::Send(chan)) = self.way(sender.0, sender.1) else {
             return None;
         };
         Some(Commit::Pair {
             sender,
             receiver,
             chan,
-            msg: source.message(sender.1)?,
+            msg: self.message(sender.0, sender.1)?,
+            stamp: line.stamp,
+        })
+    }
+
+    fn alone(&self, line: &PlainRow, way: Way) -> Option<Commit> {
+        let cause = match way {
+            Way::Always => Cause::Always(self.message(line.row, line.own)?),
+            Way::OnNack(nack) => Cause::Nack(nack),
+            _ => return None,
+        };
+        Some(Commit::Alone {
+            at: (line.row, line.own),
+            cause,
             stamp: line.stamp,
         })
     }
