@@ -1,5 +1,14 @@
-//! Tests of `protocol`: worked schedules, and worlds at the ends of their ranges.
+//! Tests of `protocol`: worked schedules, worlds at the ends of their ranges, and merges of lists of
+//! steps, compared with a second reading of the rules.
 #![tactic(auto)]
 
+#[cfg(test)]
+mod merge_lists;
+#[cfg(test)]
+mod merges;
+#[cfg(test)]
+mod plain_row;
+#[cfg(test)]
+mod second_reading;
 #[cfg(test)]
 mod tests;

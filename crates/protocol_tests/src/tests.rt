@@ -3,16 +3,16 @@
 use protocol::*;
 use std::test::Fail;
 
-const SENDER: Row = Row { thread: 0, sync: 0 };
+pub(crate) const SENDER: Row = Row { thread: 0, sync: 0 };
 
-const RECEIVER: Row = Row { thread: 1, sync: 0 };
+pub(crate) const RECEIVER: Row = Row { thread: 1, sync: 0 };
 
 fn draft(seat: u8, row: Row, place: u8, value: u64) -> (Seat, Step) {
     (Seat(seat), Step::Draft { row, place, value })
 }
 
 /// Two rows that offer a send of 42 and a receive on channel 0, both open and both claimed.
-fn crossed() -> [(Seat, Step); 9] {
+pub(crate) fn crossed() -> [(Seat, Step); 9] {
     [
         draft(0, SENDER, 1, 1),
         draft(0, SENDER, 2, 8_388_609),
@@ -26,14 +26,21 @@ fn crossed() -> [(Seat, Step); 9] {
     ]
 }
 
-const JOIN: Step = Step::Join {
+pub(crate) const JOIN: Step = Step::Join {
     mine: SENDER,
     own: 0,
     other: RECEIVER,
     partner: 0,
 };
 
-const RENDEZVOUS: Commit = Commit::Pair {
+pub(crate) const JOIN_BACK: Step = Step::Join {
+    mine: RECEIVER,
+    own: 0,
+    other: SENDER,
+    partner: 0,
+};
+
+pub(crate) const RENDEZVOUS: Commit = Commit::Pair {
     sender: (SENDER, 0),
     receiver: (RECEIVER, 0),
     chan: 0,
@@ -45,15 +52,7 @@ const RENDEZVOUS: Commit = Commit::Pair {
 fn a_claimed_row_is_not_joined(rt: HostRuntime) -> Result<(), Fail> {
     let mut steps = crossed().to_vec(rt.alloc())?;
     steps.push((Seat(0), JOIN))?;
-    steps.push((
-        Seat(1),
-        Step::Join {
-            mine: RECEIVER,
-            own: 0,
-            other: SENDER,
-            partner: 0,
-        },
-    ))?;
+    steps.push((Seat(1), JOIN_BACK))?;
     let world = World::start(rt.alloc(), 2, 1, 2)?;
     let fault = play(world, &steps).expect_err(&rt, "the other row is claimed");
     assert_eq!(rt; fault, ProtoFault::NotAllowed(9));

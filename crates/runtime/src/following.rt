@@ -7,7 +7,7 @@ ghost use Rattle.runtime.specs.Workers.{IsWorkerOf};
 use crate::fault::Halt;
 use crate::nacks::Nacks;
 use crate::turns::{Committed, Shared, Worker};
-use cell::{Cells, NoGate, Pass};
+use cell::{Cells, Pass, StepGate};
 use ready::ReadyEnd;
 use std::sync::Wait;
 use words::{Cell, NackName, Offer, Row};
@@ -53,10 +53,11 @@ pub(crate) fn put_committed<R: Wait>(
 /// yet: from when a row is put into the ready queues another worker may go on with its thread, whose machine then
 /// has the nacks of its next sync.
 #[inline(always)]
-pub(crate) fn follow_pair<R: Wait>(
+pub(crate) fn follow_pair<R: Wait, G: StepGate>(
     rt: &R,
     cells: &Cells,
     shared: &Shared,
+    gate: &G,
     worker: &mut Worker,
     row: Row,
     nacks: Nacks,
@@ -74,6 +75,7 @@ pub(crate) fn follow_pair<R: Wait>(
         rt,
         cells,
         shared,
+        gate,
         worker,
         &[(row, nacks), (partner, others)],
     )?;
@@ -82,10 +84,11 @@ pub(crate) fn follow_pair<R: Wait>(
 
 /// The same for a row that was committed alone.
 #[inline(always)]
-pub(crate) fn follow_alone<R: Wait>(
+pub(crate) fn follow_alone<R: Wait, G: StepGate>(
     rt: &R,
     cells: &Cells,
     shared: &Shared,
+    gate: &G,
     worker: &mut Worker,
     row: Row,
     nacks: Nacks,
@@ -96,16 +99,17 @@ pub(crate) fn follow_alone<R: Wait>(
     if nacks.is_empty() {
         return Ok(());
     }
-    wake_enabled(rt, cells, shared, worker, &[(row, nacks)])?;
+    wake_enabled(rt, cells, shared, gate, worker, &[(row, nacks)])?;
     Ok(())
 }
 
 /// Wakes the rows that wait for those of these rows' nacks that their commit enabled.
 #[inline(never)]
-fn wake_enabled<R: Wait>(
+fn wake_enabled<R: Wait, G: StepGate>(
     rt: &R,
     cells: &Cells,
     shared: &Shared,
+    gate: &G,
     worker: &mut Worker,
     committed: &[(Row, Nacks)],
 ) -> Result<(), Halt>
@@ -116,15 +120,16 @@ fn wake_enabled<R: Wait>(
     for (row, nacks) in committed {
         add_enabled(cells, &mut worker.pass, *row, *nacks, &mut enabled)?;
     }
-    wake_all(rt, cells, shared, worker, enabled)
+    wake_all(rt, cells, shared, gate, worker, enabled)
 }
 
 /// Wakes the rows that wait for these nacks, and follows them in turn: their commits enable nacks too.
 /// Rows that are woken are put into the ready queues here.
-fn wake_all<R: Wait>(
+fn wake_all<R: Wait, G: StepGate>(
     rt: &R,
     cells: &Cells,
     shared: &Shared,
+    gate: &G,
     worker: &mut Worker,
     nacks: Vec<NackName>,
 ) -> Result<(), Halt>
@@ -142,7 +147,7 @@ fn wake_all<R: Wait>(
             cells,
             &mut worker.pass,
             &mut worker.lanes,
-            &NoGate,
+            gate,
             nack,
         )?;
         for row in &woken {

@@ -16,4 +16,4 @@ mod workers;
 
 pub use crate::fault::RunFault;
 pub use crate::gate::{Gate, OpenGate};
-pub use crate::running::{run, work};
+pub use crate::running::{run, run_gated, work};

@@ -12,11 +12,11 @@ ghost use Rattle.runtime.specs.declared.fault.RunFault.TheVariants.{Workers, Row
 use crate::activity::Activity;
 use crate::bound::rows_used;
 use crate::fault::{Halt, RunFault};
-use crate::gate::Gate;
+use crate::gate::{Gate, TurnsOnly};
 use crate::homes::Homes;
 use crate::turns::Shared;
 use crate::workers::{all_work, told_one, workers_of};
-use cell::Cells;
+use cell::{Cells, StepGate};
 use journal::{Record, complete};
 use meet::Meet;
 use protocol::{Ledger, World};
@@ -55,7 +55,7 @@ fn check_limits(workers: u8, rows: u16) -> Result<(), RunFault>
 
 /// The workers over a table of their own, which is closed at their end. It has no more rows than the
 /// processes can use.
-fn work_within<R: Threads + Wait + Sync, G: Gate + Sync>(
+fn work_within<R: Threads + Wait + Sync, G: Gate + StepGate + Sync>(
     rt: &R,
     alloc: Global,
     script: &Script,
@@ -89,8 +89,8 @@ fn work_within<R: Threads + Wait + Sync, G: Gate + Sync>(
 }
 
 /// The workers alone: the ledger of the table that they leave. It waits for its workers, which wait for
-/// one another and for the gate.
-pub fn work<R: Threads + Wait + Sync, G: Gate + Sync>(
+/// one another and for the gate, which is called round each turn and before each step of an attempt.
+pub fn work<R: Threads + Wait + Sync, G: Gate + StepGate + Sync>(
     rt: &R,
     alloc: Global,
     script: &Script,
@@ -122,14 +122,10 @@ fn no_commits(alloc: Global) -> Result<Ledger, RunFault>
     }
 }
 
-/// However the workers' steps fall, a run's commits in stamp order are a maximal run of the script in
-/// sequential CML: each sync commits at most one offer, each committed send meets exactly one receive of
-/// another thread on its channel, giving it its message, one thread's messages on a channel are received
-/// in sending order, and a nack is answered only where its sync committed outside its scope.
-///
-/// The commits are those of `work`, completed: `tail` counts the ones that the workers left to be added.
-/// Where the script has no process nothing is started. It waits as `work` does.
-pub fn run<R: Threads + Wait + Sync, G: Gate + Sync>(
+/// `run` with a gate that is called before each step of an attempt, too, with the step's kind: an attempt is
+/// the only thing that workers do which others can see half done. The same promise holds whatever the gate does,
+/// if it returns.
+pub fn run_gated<R: Threads + Wait + Sync, G: Gate + StepGate + Sync>(
     rt: &R,
     alloc: Global,
     script: &Script,
@@ -154,4 +150,27 @@ pub fn run<R: Threads + Wait + Sync, G: Gate + Sync>(
         Err(ReplayFault::Memory) => Err(RunFault::Memory),
         Err(ReplayFault::Unlawful(_)) => Err(RunFault::Unlawful),
     }
+}
+
+/// However the workers' steps fall, a run's commits in stamp order are a maximal run of the script in
+/// sequential CML: each sync commits at most one offer, each committed send meets exactly one receive of
+/// another thread on its channel, giving it its message, one thread's messages on a channel are received
+/// in sending order, and a nack is answered only where its sync committed outside its scope.
+///
+/// The commits are those of `work`, completed: `tail` counts the ones that the workers left to be added.
+/// Where the script has no process nothing is started. It waits as `work` does.
+pub fn run<R: Threads + Wait + Sync, G: Gate + Sync>(
+    rt: &R,
+    alloc: Global,
+    script: &Script,
+    workers: u8,
+    rows: u16,
+    gate: &G,
+) -> Result<Record, RunFault>
+    ensures headline { IfOk result (TellsMaximalRun (script_of script.now).processes rows) }
+    ensures completes { IfOk result (λ r. (l : Ledger) × IsLawful l × Completes (script_of script.now).processes rows l r) }
+    ensures workers { (result ≡ Err Workers) ↔ (¬ AreWorkers workers) }
+    ensures rows { (result ≡ Err Rows) ↔ (AreWorkers workers × (¬ AreRows rows)) }
+{
+    run_gated(rt, alloc, script, workers, rows, &TurnsOnly { turns: gate })
 }

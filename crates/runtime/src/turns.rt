@@ -14,7 +14,7 @@ use crate::gate::Gate;
 use crate::homes::{Home, Homes};
 use crate::nacks::Nacks;
 use crate::ranges::are_offers;
-use cell::{Cells, NoGate, Pass};
+use cell::{Cells, Pass, StepGate};
 use meet::{Found, Meet, MeetPass};
 use ready::{Ready, ReadyEnd};
 use std::alloc::Global;
@@ -53,7 +53,7 @@ pub(crate) enum Committed {
 
 /// Takes the row, if nobody has, and goes on with its thread. A thread's last row is not taken: behind it
 /// nothing runs. The answer is what the turn committed, which is to go on.
-pub(crate) fn advance<R: Wait, G: Gate>(
+pub(crate) fn advance<R: Wait, G: Gate + StepGate>(
     rt: &R,
     cells: &Cells,
     shared: &Shared,
@@ -85,7 +85,7 @@ pub(crate) fn advance<R: Wait, G: Gate>(
         message,
         next,
     );
-    let done = meet(rt, cells, shared, worker, next, opened);
+    let done = meet(rt, cells, shared, gate, worker, next, opened);
     gate.after(worker.number, row.thread);
     done
 }
@@ -103,7 +103,7 @@ fn row_behind(cells: &Cells, row: Row) -> Option<Row>
 
 /// The first turn of the thread, where the pass holds its first row. What it commits is put into the ready
 /// queues.
-fn begin_thread<R: Wait, G: Gate>(
+fn begin_thread<R: Wait, G: Gate + StepGate>(
     rt: &R,
     cells: &Cells,
     shared: &Shared,
@@ -125,13 +125,13 @@ fn begin_thread<R: Wait, G: Gate>(
     };
     gate.before(worker.number, thread);
     let opened = begin(rt, cells, shared, process, &mut worker.pass, row);
-    let done = meet(rt, cells, shared, worker, row, opened);
+    let done = meet(rt, cells, shared, gate, worker, row, opened);
     gate.after(worker.number, thread);
     put_committed(rt, shared, &mut worker.end, done?)
 }
 
 /// The first turns of the threads whose first rows the worker's pass holds.
-pub(crate) fn begin_all<R: Wait, G: Gate>(
+pub(crate) fn begin_all<R: Wait, G: Gate + StepGate>(
     rt: &R,
     cells: &Cells,
     shared: &Shared,
@@ -241,10 +241,11 @@ fn enter(
 
 /// Looks for a row that the opened row, of these nacks, can meet. The answer is what came to be committed
 /// here.
-fn meet<R: Wait>(
+fn meet<R: Wait, G: StepGate>(
     rt: &R,
     cells: &Cells,
     shared: &Shared,
+    gate: &G,
     worker: &mut Worker,
     row: Row,
     opened: Result<Option<Nacks>, Halt>,
@@ -256,14 +257,16 @@ fn meet<R: Wait>(
     let Some(nacks) = opened? else {
         return Ok(Committed::Nothing);
     };
-    let found = shared.meet.search(rt, cells, &mut worker.pass, &mut worker.lanes, &NoGate, row)?;
+    let found = shared
+        .meet
+        .search(rt, cells, &mut worker.pass, &mut worker.lanes, gate, row)?;
     match found {
         Found::Met(other) => {
-            follow_pair(rt, cells, shared, worker, row, nacks, other)?;
+            follow_pair(rt, cells, shared, gate, worker, row, nacks, other)?;
             Ok(Committed::Pair(row, other))
         }
         Found::Alone => {
-            follow_alone(rt, cells, shared, worker, row, nacks)?;
+            follow_alone(rt, cells, shared, gate, worker, row, nacks)?;
             Ok(Committed::Alone(row))
         }
         // whoever committed the row follows it

@@ -8,7 +8,7 @@ use crate::fault::Halt;
 use crate::following::{put_committed, put_ready};
 use crate::gate::Gate;
 use crate::turns::{Committed, Shared, Worker, advance, begin_all};
-use cell::{Cells, Pass};
+use cell::{Cells, Pass, StepGate};
 use crossbeam_utils::Backoff;
 use ready::ReadyEnd;
 use std::sync::Wait;
@@ -105,7 +105,7 @@ fn keep_one<R: Wait>(
 }
 
 /// The first turns of the worker's threads, and then whatever is ready.
-fn all_turns<R: Wait, G: Gate>(
+fn all_turns<R: Wait, G: Gate + StepGate>(
     rt: &R,
     cells: &Cells,
     shared: &Shared,
@@ -138,7 +138,7 @@ pub(crate) struct Worked {
 }
 
 /// All turns of one worker. Where it halts, all workers stop.
-pub(crate) fn work_on<R: Wait, G: Gate>(
+pub(crate) fn work_on<R: Wait, G: Gate + StepGate>(
     rt: &R,
     cells: &Cells,
     shared: &Shared,

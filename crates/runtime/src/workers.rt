@@ -12,7 +12,7 @@ use crate::fault::{Halt, told_first};
 use crate::gate::Gate;
 use crate::turns::{Shared, Worker};
 use crate::worker::{Worked, work_on};
-use cell::{Cells, Pass};
+use cell::{Cells, Pass, StepGate};
 use meet::MeetPass;
 use ready::ReadyEnd;
 use std::alloc::Global;
@@ -102,7 +102,7 @@ pub(crate) fn workers_of(
 }
 
 /// One worker works in the calling thread.
-fn work_alone<R: Wait, G: Gate>(
+fn work_alone<R: Wait, G: Gate + StepGate>(
     rt: &R,
     alloc: Global,
     cells: &Cells,
@@ -126,7 +126,7 @@ fn work_alone<R: Wait, G: Gate>(
 }
 
 /// All workers work, and give their passes back. For one worker no thread is started.
-pub(crate) fn all_work<R: Threads + Wait + Sync, G: Gate + Sync>(
+pub(crate) fn all_work<R: Threads + Wait + Sync, G: Gate + StepGate + Sync>(
     rt: &R,
     alloc: Global,
     cells: &Cells,

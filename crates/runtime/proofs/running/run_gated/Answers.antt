@@ -3,7 +3,7 @@ use Rattle.syntax.specs.Processes.{Proc}
 use Rattle.script.specs.Scripts.{script_of}
 use Rattle.journal.specs.Records.{Completes}
 use Rattle.runtime.proofs.Completed.{completed}
-use Rattle.runtime.proofs.running.run.Goals as goal
+use Rattle.runtime.proofs.running.run_gated.Goals as goal
 
 pub returns-in-Ok-clause-headline : goal.returns-in-Ok-clause-headline
 returns-in-Ok-clause-headline g c =
