@@ -27,7 +27,7 @@ fn workers_alone(rt: HostRuntime) -> Result<(), Fail> {
     Ok(())
 }
 
-// Each row is put in before its search looks, so that no pair misses each other.
+// Each row is put in before its search looks for the last time, so that no pair misses each other.
 #[test]
 fn no_pair_is_missed(rt: HostRuntime) -> Result<(), Fail> {
     let script = parse(rt.alloc(), TWO_PAIRS.as_bytes())?;
