@@ -13,6 +13,7 @@ use crate::gate::Gate;
 use crate::turns::{Shared, Worker};
 use crate::worker::{Worked, work_on};
 use cell::{Cells, Pass, StepGate};
+use core::thread::Stack;
 use meet::MeetPass;
 use ready::ReadyEnd;
 use std::alloc::Global;
@@ -21,6 +22,10 @@ use std::sync::Wait;
 use std::thread;
 use std::thread::{Promise, PromisedHandle, Threads};
 use syntax::Proc;
+
+/// The bytes of stack that a worker's thread gets, whatever the process gives its first thread. What a worker
+/// does takes stack only where a script is deep, and a script is no deeper than 48.
+const WORKER_STACK: usize = 512 * 1024;
 
 /// A worker gives back a pass of this table.
 #[derive(Drop)]
@@ -153,7 +158,8 @@ pub(crate) fn all_work<R: Threads + Wait + Sync, G: Gate + StepGate + Sync>(
         {
             let mut halted = None;
             for worker in workers {
-                let started = scope.spawn_with(
+                let started = Stack::new().stack_size(WORKER_STACK).spawn_scoped_with(
+                    scope,
                     gives_back(cells),
                     move || -> Worked
                         requires sync { IsSync R.row × IsSync G.row }

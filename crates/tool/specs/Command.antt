@@ -3,6 +3,7 @@ use Rattle.std.specs.Prelude.{◌≡◌, ◌⊎◌, ℕ, List, Option, take}
 use Rattle.std.specs.Io.KnownBytes.{Appends}
 use Rattle.tool.specs.declared.request.Request.{Request}
 use Rattle.tool.specs.declared.request.Request.TheVariants.{Meet, Play, Check, Replay, Run}
+use Rattle.tool.specs.Files.{Fits, IsTooLarge}
 use Rattle.tool.specs.Meet.{PrintsMeeting}
 use Rattle.tool.specs.declared.fault.Fault.{Fault}
 use Rattle.tool.specs.declared.fault.Fault.TheVariants as faults
@@ -24,6 +25,10 @@ use Rattle.script.specs.declared.fault.ScriptFault.TheVariants as scripts
 abbrev pub Files : Type 1
 Files = List ℕ → List ℕ → Type 0
 
+-- a schedule that is not too large
+abbrev pub OfSchedule : Files → List ℕ → (List ℕ → Type 0) → Type 0
+OfSchedule Holds name Says = (bytes : List ℕ) × Holds name bytes × Fits bytes × Says bytes
+
 -- of the script that the one file spells, and the journal that the other holds
 abbrev pub OfFiles : Files → List ℕ → List ℕ → (Script → List ℕ → Type 0) → Type 0
 OfFiles Holds script journal Says = (bytes : List ℕ) × Holds script bytes × (s : Script) × Spells bytes s × (read : List ℕ) × Holds journal read × Says s read
@@ -32,10 +37,10 @@ OfFiles Holds script journal Says = (bytes : List ℕ) × Holds script bytes × 
 -- leads the script.
 abbrev pub Answers : Files → Request → Verdict → List ℕ → Type 0
 Answers Holds (Meet value) Done text = PrintsMeeting value text
-Answers Holds (Play name) Done text = (bytes : List ℕ) × Holds name.now bytes × IsPlayed bytes text
+Answers Holds (Play name) Done text = OfSchedule Holds name.now (λ bytes. IsPlayed bytes text)
 Answers Holds (Check name) Done text = (bytes : List ℕ) × Holds name.now bytes × IsChecked bytes text
-Answers Holds (Replay script journal rows) Done text = OfFiles Holds script.now journal.now (λ s read. IsReplayed s rows read text)
-Answers Holds (Replay script journal rows) Unlawful text = OfFiles Holds script.now journal.now (λ s read. IsNoRun s rows read text)
+Answers Holds (Replay script journal rows) Done text = OfFiles Holds script.now journal.now (λ s read. Fits read × IsReplayed s rows read text)
+Answers Holds (Replay script journal rows) Unlawful text = OfFiles Holds script.now journal.now (λ s read. Fits read × IsNoRun s rows read text)
 Answers Holds (Run script workers rows) Done text = (bytes : List ℕ) × Holds script.now bytes × (s : Script) × Spells bytes s × IsRan s rows text
 Answers Holds asked Unlawful text = ⊥
 
@@ -49,20 +54,33 @@ FailsScript Holds name (faults.LoopWithoutSync line) = (bytes : List ℕ) × Hol
 FailsScript Holds name faults.TooLong = (bytes : List ℕ) × Holds name bytes × Tells bytes scripts.TooLong
 FailsScript Holds name fault = ⊥
 
+-- what a fault of reading a script says
+abbrev pub FailsParse : Files → List ℕ → Fault → Type 0
+FailsParse Holds name faults.Memory = Unit {0}
+FailsParse Holds name faults.Unread = Unit {0}
+FailsParse Holds name fault = FailsScript Holds name fault
+
+-- what a fault of reading a schedule or a journal says of what its file holds
+abbrev pub FailsRead : (List ℕ → Type 0) → Fault → Type 0
+FailsRead Holds faults.Memory = Unit {0}
+FailsRead Holds faults.Unread = Unit {0}
+FailsRead Holds faults.TooLarge = (bytes : List ℕ) × Holds bytes × IsTooLarge bytes
+FailsRead Holds fault = ⊥
+
 -- what a fault says of the request: `meet` lacks only memory or a thread, and the others may also fail by a file or by what it holds
 abbrev pub Fails : Files → Request → Fault → Type 0
 Fails Holds (Meet value) fault = (fault ≡ faults.Memory) ⊎ (fault ≡ faults.NoThread)
 Fails Holds (Play name) faults.Memory = Unit {0}
 Fails Holds (Play name) faults.Unread = Unit {0}
-Fails Holds (Play name) (faults.BadStep line) = (bytes : List ℕ) × Holds name.now bytes × IsFirstBadLine bytes line
-Fails Holds (Play name) (faults.NotAllowed step) = (bytes : List ℕ) × Holds name.now bytes × IsFirstRefused bytes step
+Fails Holds (Play name) faults.TooLarge = (bytes : List ℕ) × Holds name.now bytes × IsTooLarge bytes
+Fails Holds (Play name) (faults.BadStep line) = OfSchedule Holds name.now (λ bytes. IsFirstBadLine bytes line)
+Fails Holds (Play name) (faults.NotAllowed step) = OfSchedule Holds name.now (λ bytes. IsFirstRefused bytes step)
 Fails Holds (Play name) fault = ⊥
-Fails Holds (Check name) faults.Memory = Unit {0}
-Fails Holds (Check name) faults.Unread = Unit {0}
-Fails Holds (Check name) fault = FailsScript Holds name.now fault
+Fails Holds (Check name) fault = FailsParse Holds name.now fault
 Fails Holds (Replay script journal rows) faults.Memory = Unit {0}
 Fails Holds (Replay script journal rows) faults.Unread = Unit {0}
-Fails Holds (Replay script journal rows) (faults.BadLine line) = OfFiles Holds script.now journal.now (λ s read. journals.IsFirstBadLine s read line)
+Fails Holds (Replay script journal rows) faults.TooLarge = OfFiles Holds script.now journal.now (λ s read. IsTooLarge read)
+Fails Holds (Replay script journal rows) (faults.BadLine line) = OfFiles Holds script.now journal.now (λ s read. Fits read × journals.IsFirstBadLine s read line)
 Fails Holds (Replay script journal rows) fault = FailsScript Holds script.now fault
 Fails Holds (Run script workers rows) faults.Memory = Unit {0}
 Fails Holds (Run script workers rows) faults.Unread = Unit {0}

@@ -61,6 +61,9 @@ pub enum Fault {
     /// The first line of a schedule that is not of the form, from 1.
     #[error("fault 22 line {0}")]
     BadStep(usize),
+    /// A journal or a schedule of more than 16,777,216 bytes, told before all else of it.
+    #[error("fault 23")]
+    TooLarge,
     /// A file that cannot be read.
     #[error("fault 31")]
     Unread,

@@ -1,11 +1,15 @@
 //! The program, over any files and any two streams.
 
-ghost use Rattle.std.specs.Prelude.{◌≡◌, ◌≤◌, ◌⊎◌, List, ℕ, IfOk, IfErr, OnOk, take};
-ghost use Rattle.std.specs.Io.KnownBytes.{Appends};
+ghost use Rattle.std.specs.Prelude.{◌≡◌, ◌≤◌, ◌<◌, ◌⊎◌, List, ℕ, None, IfSome, IfOk, IfErr, OnOk, length, take};
+ghost use Rattle.std.specs.Io.KnownBytes.{Appends, Keeps};
+ghost use Rattle.script.specs.Scripts.{script_of};
+ghost use Rattle.script.specs.Spelling.{Spells};
 ghost use Rattle.tool.specs.declared.request.Request.{Request};
 ghost use Rattle.tool.specs.declared.fault.Fault.TheVariants.{Unwritten};
 ghost use Rattle.tool.specs.declared.program.Verdict.TheVariants.{Done};
-ghost use Rattle.tool.specs.Command.{Answers, Began, Fails};
+ghost use Rattle.tool.specs.Check.{IsChecked};
+ghost use Rattle.tool.specs.Command.{Answers, Began, Fails, FailsParse, FailsRead};
+ghost use Rattle.tool.specs.Files.{Fits};
 
 use crate::check::check_text;
 use crate::fault::Fault;
@@ -14,10 +18,11 @@ use crate::play::play_text;
 use crate::replay::{Replayed, replay_text};
 use crate::request::{Request, read_words};
 use crate::run::run_text;
-use crate::source::Source;
+use crate::source::{MOST_BYTES, Source};
 use clap::error::ErrorKind;
-use script::parse;
+use script::{Script, parse};
 use std::alloc::Global;
+use std::io;
 use std::io::Write;
 use std::sync::Wait;
 use std::thread::Threads;
@@ -39,6 +44,38 @@ enum Verdict {
     Unlawful,
 }
 
+/// The bytes of the schedule or the journal in a file.
+fn read_bounded<S: Source>(source: &mut S, name: &str) -> Result<Vec<u8>, Fault>
+    ensures read { IfOk result (λ bytes. S.holds source.old name.now bytes.items × Fits bytes.items) }
+    ensures fault { IfErr result (FailsRead (S.holds source.old name.now)) }
+    ensures kept { (name bytes : List ℕ) → S.holds source.new name bytes → S.holds source.old name bytes }
+{
+    let bytes = source.read(name)?;
+    if bytes.len() > MOST_BYTES {
+        return Err(Fault::TooLarge);
+    }
+    Ok(bytes)
+}
+
+/// The script in a file.
+fn read_script<S: Source>(alloc: Global, source: &mut S, name: &str) -> Result<Script, Fault>
+    ensures read { IfOk result (λ script. (bytes : List ℕ) × S.holds source.old name.now bytes × Spells bytes (script_of script)) }
+    ensures fault { IfErr result (FailsParse (S.holds source.old) name.now) }
+    ensures kept { (name bytes : List ℕ) → S.holds source.new name bytes → S.holds source.old name bytes }
+{
+    let bytes = source.read(name)?;
+    Ok(parse(alloc, bytes.as_slice())?)
+}
+
+/// How many processes and channels the script in a file has.
+fn check_file<S: Source>(alloc: Global, source: &mut S, name: &str) -> Result<Vec<u8>, Fault>
+    ensures checked { IfOk result (λ text. (bytes : List ℕ) × S.holds source.old name.now bytes × IsChecked bytes text.items) }
+    ensures fault { IfErr result (FailsParse (S.holds source.old) name.now) }
+{
+    let bytes = source.read(name)?;
+    Ok(check_text(alloc, bytes.as_slice())?)
+}
+
 /// The text that a request is answered with.
 fn answer<R: Threads + Wait + Sync, S: Source>(
     rt: &R,
@@ -52,37 +89,52 @@ fn answer<R: Threads + Wait + Sync, S: Source>(
     match asked {
         Request::Meet(value) => Ok((Verdict::Done, meet_text(rt, alloc, value)?)),
         Request::Play(name) => {
-            let bytes = source.read(name)?;
+            let bytes = read_bounded(source, name)?;
             Ok((Verdict::Done, play_text(alloc, bytes.as_slice())?))
         }
-        Request::Check(name) => {
-            let bytes = source.read(name)?;
-            Ok((Verdict::Done, check_text(alloc, bytes.as_slice())?))
-        }
+        Request::Check(name) => Ok((Verdict::Done, check_file(alloc, source, name)?)),
         Request::Run {
             script,
             workers,
             rows,
         } => {
-            let bytes = source.read(script)?;
-            let script = parse(alloc, bytes.as_slice())?;
-            let text = run_text(rt, alloc, &script, workers, rows)?;
-            Ok((Verdict::Done, text))
+            let script = read_script(alloc, source, script)?;
+            Ok((Verdict::Done, run_text(rt, alloc, &script, workers, rows)?))
         }
         Request::Replay {
             script,
             journal,
             rows,
         } => {
-            let bytes = source.read(script)?;
-            let script = parse(alloc, bytes.as_slice())?;
-            let journal = source.read(journal)?;
+            let script = read_script(alloc, source, script)?;
+            let journal = read_bounded(source, journal)?;
             match replay_text(alloc, &script, journal.as_slice(), rows)? {
                 Replayed::Lawful(text) => Ok((Verdict::Done, text)),
                 Replayed::Unlawful(text) => Ok((Verdict::Unlawful, text)),
             }
         }
     }
+}
+
+/// One write, begun again where a signal interrupts it: how many bytes of the text the output took, and
+/// none where it failed or took nothing.
+fn write_some<O: Write>(out: &mut O, text: &[u8]) -> Option<usize>
+    ensures some { IfSome result (λ count. (0 < count) × (count ≤ length text.now) × Appends (O.contents out.old) (O.contents out.new) (take count text.now)) }
+    ensures none { result ≡ None → Keeps (O.contents out.old) (O.contents out.new) }
+{
+    for _ in 0..u64::MAX {
+        match out.write(text) {
+            Ok(count) => {
+                if count == 0 {
+                    return None;
+                }
+                return Some(count);
+            }
+            Err(error) if error.kind() == io::ErrorKind::Interrupted => {}
+            Err(_) => return None,
+        }
+    }
+    None
 }
 
 /// Writes the whole text. After a fault the output has taken a beginning of it, which may be all: a
@@ -93,9 +145,9 @@ fn emit<O: Write>(out: &mut O, text: &[u8]) -> Result<(), Fault>
 {
     let mut taken = 0;
     while taken < text.len() {
-        match out.write(&text[taken..]) {
-            Ok(0) | Err(_) => return Err(Fault::Unwritten),
-            Ok(count) => taken += count,
+        match write_some(out, &text[taken..]) {
+            Some(count) => taken += count,
+            None => return Err(Fault::Unwritten),
         }
     }
     match out.flush() {

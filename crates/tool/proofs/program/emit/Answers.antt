@@ -6,8 +6,8 @@ use Rattle.tool.proofs.program.emit.Goals as goal
 
 pub loop-taken-preserved : goal.loop-taken-preserved
 loop-taken-preserved g c =
-    let low : c.loop-taken.taken + c.in-Ok.count ≤ length c.args.text.now = (search rules) in (
+    let low : c.loop-taken.taken + c.in-Some.count ≤ length c.args.text.now = (search rules) in (
       low,
-      taken_more _ _ _ c.args.text.now c.loop-taken.taken c.in-Ok.count c.loop-taken.invariant.1
-          (subst (λ (l : List ℕ). Appends (g.O.Write.contents c.loop-taken.out) (g.O.Write.contents c.write.new.self) (take c.in-Ok.count l)) (take_rest c.args.text.now c.loop-taken.taken) c.in-Ok.ensures.bytes),
+      taken_more _ _ _ c.args.text.now c.loop-taken.taken c.in-Some.count c.loop-taken.invariant.1
+          (subst (λ (l : List ℕ). Appends (g.O.Write.contents c.loop-taken.out) (g.O.Write.contents c.write_some.new.out) (take c.in-Some.count l)) (take_rest c.args.text.now c.loop-taken.taken) c.in-Some.ensures.some.2),
     )

@@ -19,11 +19,11 @@ use Rattle.runtime.proofs.Lists.{all_is, all_rest, all_pushed}
 use Rattle.runtime.proofs.workers.fn.all_work.scope.Goals as goal
 
 -- the closure of a worker may be sent
-send_closure : (g : Over) (κs : Lfts 11) → IsSync (param 0 g.row.R) → IsSync (param 1 g.row.G) → IsSend (lts.arg-3-2 g.row.R g.row.G g.R.laws g.G.laws g.R.Threads-dict g.R.Wait-dict g.G.Gate-dict g.G.StepGate-dict κs)
+send_closure : (g : Over) (κs : Lfts 11) → IsSync (param 0 g.row.R) → IsSync (param 1 g.row.G) → IsSend (lts.arg-5-2 g.row.R g.row.G g.R.laws g.G.laws g.R.Threads-dict g.R.Wait-dict g.G.Gate-dict g.G.StepGate-dict κs)
 send_closure g κs r s = let a = shared_sync in let b = process_sync in let c = cells_sync in let d = worker_send in search sendable depth 40
 
-pub spawn_with-started-requires-send-F : goal.spawn_with-started-requires-send-F
-spawn_with-started-requires-send-F g c κs outlives = param_send 2 (lts.arg-3-2 g.row.R g.row.G g.R.laws g.G.laws g.R.Threads-dict g.R.Wait-dict g.G.Gate-dict g.G.StepGate-dict κs) (send_closure g κs c.requires.sync.0 c.requires.sync.1)
+pub spawn_scoped_with-started-requires-send-F : goal.spawn_scoped_with-started-requires-send-F
+spawn_scoped_with-started-requires-send-F g c κs outlives = param_send 2 (lts.arg-5-2 g.row.R g.row.G g.R.laws g.G.laws g.R.Threads-dict g.R.Wait-dict g.G.Gate-dict g.G.StepGate-dict κs) (send_closure g κs c.requires.sync.0 c.requires.sync.1)
 
 pub loop-worker-preserved : goal.loop-worker-preserved
 loop-worker-preserved g c =
