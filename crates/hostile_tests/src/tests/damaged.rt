@@ -23,7 +23,8 @@ fn last_line(alloc: Global, text: &[u8]) -> Result<String, AllocError> {
             begins = at + 1;
         }
     }
-    let line = text[begins..].strip_suffix(b"\n").unwrap_or(&[]);
+    let line = text.get(begins..).unwrap_or(&[]);
+    let line = line.strip_suffix(b"\n").unwrap_or(&[]);
     String::from_str(alloc, std::str::from_utf8(line).unwrap_or(""))
 }
 
@@ -92,16 +93,16 @@ fn is_whole(text: &str) -> bool {
 #[test]
 fn beginnings_of_a_script(rt: HostRuntime) -> Result<(), Fail> {
     let alloc = rt.alloc();
-    let mut scripts = 0;
+    let mut scripts = 0usize;
     for length in 0..SERVER.len() {
-        let text = &SERVER[..length];
+        let text = SERVER.get(..length).unwrap_or("");
         match check_text(alloc, text.as_bytes()) {
             Ok(counts) => {
                 assert!(rt; is_whole(text), "{length}");
                 let (processes, channels) = (words(text, "process"), words(text, "channel"));
                 let expected = format!(in alloc; "processes {processes} channels {channels}\n")?;
                 assert_eq!(rt; counts.as_slice(), expected.as_bytes(), "{length}");
-                scripts += 1;
+                scripts = scripts.saturating_add(1);
             }
             Err(fault) => {
                 assert!(rt; !is_whole(text), "{length}");
@@ -120,15 +121,15 @@ fn beginnings_of_a_journal(rt: HostRuntime) -> Result<(), Fail> {
     let alloc = rt.alloc();
     let script = server(alloc)?;
     let whole = journal(alloc, &[0, 1, 2])?;
-    let mut lines = 0;
+    let mut lines = 0usize;
     for length in 0..whole.len() + 1 {
         let text = &whole.as_slice()[..length];
         let ends = length == 0 || text[length - 1] == b'\n';
         if length > 0 && ends {
-            lines += 1;
+            lines = lines.saturating_add(1);
         }
         let expected = match (ends, lines) {
-            (false, _) => Outcome::BadLine(lines + 1),
+            (false, _) => Outcome::BadLine(lines.saturating_add(1)),
             (true, 0) => lawful(alloc, "lawful 0 open")?,
             (true, 1) => lawful(alloc, "lawful 1 open")?,
             (true, 2) => lawful(alloc, "lawful 2 open")?,
@@ -145,7 +146,7 @@ fn each_byte_changed(rt: HostRuntime) -> Result<(), Fail> {
     let alloc = rt.alloc();
     let script = server(alloc)?;
     let mut text = journal(alloc, &[0, 1, 2])?;
-    let mut changes = 0;
+    let mut changes = 0usize;
     for at in 0..text.len() {
         let right = text[at];
         for value in 0..=255u8 {
@@ -156,11 +157,11 @@ fn each_byte_changed(rt: HostRuntime) -> Result<(), Fail> {
             let told = replayed(alloc, &script, text.as_slice())?;
             let refused = matches!(told, Outcome::BadLine(_) | Outcome::Unlawful(_));
             assert!(rt; refused, "{at} {value}");
-            changes += 1;
+            changes = changes.saturating_add(1);
         }
         text[at] = right;
     }
-    assert_eq!(rt; changes, 255 * text.len());
+    assert_eq!(rt; changes, 29_325);
     Ok(())
 }
 

@@ -145,7 +145,7 @@ enum Fate {
 }
 
 /// The fate of a text on so many workers.
-fn fate<R: Threads + Wait + Sync>(rt: &R, alloc: Global, text: &[u8], workers: u8) -> Fate {
+fn fate_of<R: Threads + Wait + Sync>(rt: &R, alloc: Global, text: &[u8], workers: u8) -> Fate {
     let script = match parse(alloc, text) {
         Ok(script) => script,
         Err(fault) => return Fate::Script(fault),

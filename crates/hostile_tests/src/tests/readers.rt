@@ -1,5 +1,7 @@
 //! Files that come in pieces, fail, never end or are too large.
 
+ghost use Rattle.std.specs.Prelude.{◌≤◌, length};
+
 use crate::tests::SERVER;
 use std::alloc::{AllocError, Allocator, Global};
 use std::fs::{Files, Metadata, OpenFile, OpenOptions};
@@ -37,7 +39,9 @@ impl Opened {
         SERVER.as_bytes().get(at..).unwrap_or(&[])
     }
 
-    fn give(&mut self, bytes: &[u8], buffer: &mut [u8]) -> usize {
+    fn give(&mut self, bytes: &[u8], buffer: &mut [u8]) -> usize
+        ensures { result ≤ length buffer.new }
+    {
         let count = bytes.len().min(buffer.len());
         buffer[..count].copy_from_slice(&bytes[..count]);
         self.at = self.at.saturating_add(count as u64);
