@@ -36,9 +36,9 @@ use words::Commit;
 use writer::write;
 
 /// By so many bytes more memory is left each time.
-const FINE: usize = 16;
+const FINE: usize = 32;
 
-const MIDDLING: usize = 64;
+const MIDDLING: usize = 128;
 
 const COARSE: usize = 256;
 

@@ -1,4 +1,4 @@
-//! The deepest scripts, on as little stack as a worker has.
+//! The deepest scripts, on little stack.
 
 use runtime::{OpenGate, RunFault, run};
 use script::{ScriptFault, parse};
@@ -11,8 +11,9 @@ use std::thread::{Builder, Threads};
 use words::Atom;
 use writer::write;
 
-/// The bytes of stack of a worker, which is enough for all that is done with a script.
-const STACK: usize = 512 * 1024;
+/// The bytes of stack that are enough for all that is done with a script, whichever compiler made the program.
+/// Workers get half as many, and run it on them.
+const STACK: usize = 1024 * 1024;
 
 /// A text with so many of one part and, behind its middle, so many of another. Its process prints one number.
 #[derive(Clone, Copy, Debug)]
