@@ -10,7 +10,7 @@ use std::{env, io};
 use tool::{BAD_WORDS, Fault, SystemFiles, command, tell};
 
 /// Runs on the words that the process was given. It fails where they lack memory or are no text.
-fn run<R: Env + Files + Print + AllocGlobal + Threads + Wait + Sync, E: Write>(
+fn run<R: Env + Files + Input + Print + AllocGlobal + Threads + Wait + Sync, E: Write>(
     rt: &R,
     err: &mut E,
 ) -> io::Result<u8> {

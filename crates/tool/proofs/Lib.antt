@@ -1,6 +1,5 @@
 pub mod Passes
 pub mod Emitting
-pub mod Reading
 pub mod Parts
 pub mod MeetingLedger
 pub mod Playing

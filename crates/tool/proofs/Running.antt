@@ -7,10 +7,10 @@ use Rattle.script.specs.Spelling.{IsSpelled}
 use Rattle.runtime.specs.Headline.{TellsMaximalRun}
 use Rattle.runtime.specs.Limits.{AreRows, AreWorkers}
 use Rattle.lines.proofs.Lining.{printed_has_names, run_is_read_again}
-use Rattle.tool.specs.Run.{IsRan, TellsRecord}
+use Rattle.tool.specs.Run.{TellsRecord, TellsRun}
 
-pub is_ran : (s : Script) (rows : ℕ) (r : Record) (text : List ℕ) → IsSpelled s → rows ≤ 1024 → TellsMaximalRun s.processes rows r → TellsRecord s r text → IsRan s rows text
-is_ran s rows r text spelled few run told =
+pub tells_run : (s : Script) (rows : ℕ) (r : Record) (lines rest : List ℕ) → IsSpelled s → rows ≤ 1024 → TellsMaximalRun s.processes rows r → TellsRecord s r lines rest → TellsRun s rows lines rest
+tells_run s rows r lines rest spelled few run told =
     record {
       journal = r.journal.items;
       run = run.journal;
@@ -25,6 +25,7 @@ is_ran s rows r text spelled few run told =
           printed_has_names s spelled rows few r.journal.items run.journal.run t p.end p.printed (run.ends.each t p.end p.printed are.1 are.2);
       tail = r.tail;
       few = run.tail;
+      are = told.are_lines;
       is = told.is;
     }
 

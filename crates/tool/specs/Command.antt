@@ -1,9 +1,9 @@
 -- What the program prints for what is asked, and what its faults say.
-use Rattle.std.specs.Prelude.{◌≡◌, ◌⊎◌, ℕ, List, Option, take}
+use Rattle.std.specs.Prelude.{◌≡◌, ◌≢◌, ◌⊎◌, ℕ, List, Option, None, IfSome, take}
 use Rattle.std.specs.Io.KnownBytes.{Appends}
 use Rattle.tool.specs.declared.request.Request.{Request}
 use Rattle.tool.specs.declared.request.Request.TheVariants.{Meet, Play, Check, Replay, Run}
-use Rattle.tool.specs.Files.{Fits, IsTooLarge}
+use Rattle.files.specs.Files.{Fits, IsTooLarge}
 use Rattle.tool.specs.Meet.{PrintsMeeting}
 use Rattle.tool.specs.declared.fault.Fault.{Fault}
 use Rattle.tool.specs.declared.fault.Fault.TheVariants as faults
@@ -12,7 +12,7 @@ use Rattle.tool.specs.Play.{IsPlayed, IsFirstRefused}
 use Rattle.tool.specs.Check.{IsChecked}
 use Rattle.runtime.specs.Limits.{AreRows, AreWorkers}
 use Rattle.tool.specs.Replay.{IsReplayed, IsNoRun}
-use Rattle.tool.specs.Run.{IsRan}
+use Rattle.tool.specs.Run.{TellsRun, printed}
 use Rattle.tool.specs.declared.program.Verdict.{Verdict}
 use Rattle.tool.specs.declared.program.Verdict.TheVariants.{Done, Unlawful}
 use Rattle.journal_text.specs.Journals as journals
@@ -34,15 +34,16 @@ abbrev pub OfFiles : Files → List ℕ → List ℕ → (Script → List ℕ �
 OfFiles Holds script journal Says = (bytes : List ℕ) × Holds script bytes × (s : Script) × Spells bytes s × (read : List ℕ) × Holds journal read × Says s read
 
 -- The line of the one pair (or none), what comes of the schedule, the script or the run that is asked for, or where the journal
--- leads the script.
-abbrev pub Answers : Files → Request → Verdict → List ℕ → Type 0
-Answers Holds (Meet value) Done text = PrintsMeeting value text
-Answers Holds (Play name) Done text = OfSchedule Holds name.now (λ bytes. IsPlayed bytes text)
-Answers Holds (Check name) Done text = (bytes : List ℕ) × Holds name.now bytes × IsChecked bytes text
-Answers Holds (Replay script journal rows) Done text = OfFiles Holds script.now journal.now (λ s read. Fits read × IsReplayed s rows read text)
-Answers Holds (Replay script journal rows) Unlawful text = OfFiles Holds script.now journal.now (λ s read. Fits read × IsNoRun s rows read text)
-Answers Holds (Run script workers rows) Done text = (bytes : List ℕ) × Holds script.now bytes × (s : Script) × Spells bytes s × IsRan s rows text
-Answers Holds asked Unlawful text = ⊥
+-- leads the script. Where the journal of a run is to go to a file, the file keeps its lines at the end.
+abbrev pub Answers : Files → Files → Request → Verdict → List ℕ → Type 0
+Answers Holds Keeps (Meet value) Done text = PrintsMeeting value text
+Answers Holds Keeps (Play name) Done text = OfSchedule Holds name.now (λ bytes. IsPlayed bytes text)
+Answers Holds Keeps (Check name) Done text = (bytes : List ℕ) × Holds name.now bytes × IsChecked bytes text
+Answers Holds Keeps (Replay script journal rows) Done text = OfFiles Holds script.now journal.now (λ s read. Fits read × IsReplayed s rows read text)
+Answers Holds Keeps (Replay script journal rows) Unlawful text = OfFiles Holds script.now journal.now (λ s read. Fits read × IsNoRun s rows read text)
+Answers Holds Keeps (Run script workers rows journal quiet) Done text = (bytes : List ℕ) × Holds script.now bytes × (s : Script) × Spells bytes s
+    × (lines rest : List ℕ) × TellsRun s rows lines rest × IfSome journal (λ name. Keeps name.now lines) × (text ≡ printed quiet lines rest)
+Answers Holds Keeps asked Unlawful text = ⊥
 
 -- what a fault of a script says: the file's text has it as its first
 abbrev pub FailsScript : Files → List ℕ → Fault → Type 0
@@ -82,15 +83,16 @@ Fails Holds (Replay script journal rows) faults.Unread = Unit {0}
 Fails Holds (Replay script journal rows) faults.TooLarge = OfFiles Holds script.now journal.now (λ s read. IsTooLarge read)
 Fails Holds (Replay script journal rows) (faults.BadLine line) = OfFiles Holds script.now journal.now (λ s read. Fits read × journals.IsFirstBadLine s read line)
 Fails Holds (Replay script journal rows) fault = FailsScript Holds script.now fault
-Fails Holds (Run script workers rows) faults.Memory = Unit {0}
-Fails Holds (Run script workers rows) faults.Unread = Unit {0}
-Fails Holds (Run script workers rows) faults.NoThread = Unit {0}
-Fails Holds (Run script workers rows) faults.Workers = ¬ AreWorkers workers
-Fails Holds (Run script workers rows) faults.Rows = ¬ AreRows rows
-Fails Holds (Run script workers rows) faults.Lost = Unit {0}
-Fails Holds (Run script workers rows) faults.Unlawful = Unit {0}
-Fails Holds (Run script workers rows) fault = FailsScript Holds script.now fault
+Fails Holds (Run script workers rows journal quiet) faults.Memory = Unit {0}
+Fails Holds (Run script workers rows journal quiet) faults.Unread = Unit {0}
+Fails Holds (Run script workers rows journal quiet) faults.NoThread = Unit {0}
+Fails Holds (Run script workers rows journal quiet) faults.Workers = ¬ AreWorkers workers
+Fails Holds (Run script workers rows journal quiet) faults.Rows = ¬ AreRows rows
+Fails Holds (Run script workers rows journal quiet) faults.Lost = Unit {0}
+Fails Holds (Run script workers rows journal quiet) faults.Unlawful = Unit {0}
+Fails Holds (Run script workers rows journal quiet) faults.Unwritten = journal ≢ None
+Fails Holds (Run script workers rows journal quiet) fault = FailsScript Holds script.now fault
 
 -- The output has grown by the first n bytes of a text, and where there is one byte at least, the text answers the request.
-abbrev pub Began : Files → Request → Option (List ℕ) → Option (List ℕ) → Type 0
-Began Holds asked old new = (n : ℕ) × (verdict : Verdict) × (text : List ℕ) × ((n ≡ 0) ⊎ Answers Holds asked verdict text) × Appends old new (take n text)
+abbrev pub Began : Files → Files → Request → Option (List ℕ) → Option (List ℕ) → Type 0
+Began Holds Keeps asked old new = (n : ℕ) × (verdict : Verdict) × (text : List ℕ) × ((n ≡ 0) ⊎ Answers Holds Keeps asked verdict text) × Appends old new (take n text)

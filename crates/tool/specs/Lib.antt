@@ -5,5 +5,4 @@ pub mod Check
 pub mod Standings
 pub mod Replay
 pub mod Run
-pub mod Files
 pub mod Command

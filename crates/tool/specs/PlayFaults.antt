@@ -5,8 +5,8 @@ use Rattle.tool.specs.declared.meeting.MeetFault.{MeetFault}
 use Rattle.tool.specs.declared.meeting.MeetFault.TheVariants as meets
 use Rattle.tool.specs.declared.play.PlayFault.{PlayFault}
 use Rattle.tool.specs.declared.play.PlayFault.TheVariants.{Memory, BadStep, NotAllowed}
-use Rattle.tool.specs.declared.source.SourceFault.{SourceFault}
-use Rattle.tool.specs.declared.source.SourceFault.TheVariants as files
+use Rattle.files.specs.declared.source.SourceFault.{SourceFault}
+use Rattle.files.specs.declared.source.SourceFault.TheVariants as files
 use Rattle.journal_text.specs.declared.JournalFault.{JournalFault}
 use Rattle.journal_text.specs.declared.JournalFault.TheVariants as journals
 use Rattle.runtime.specs.declared.fault.RunFault.{RunFault}
@@ -30,6 +30,7 @@ fault_of_play (NotAllowed step) = faults.NotAllowed step
 abbrev pub fault_of_file : SourceFault → Fault
 fault_of_file files.Memory = faults.Memory
 fault_of_file files.Unread = faults.Unread
+fault_of_file files.Unwritten = faults.Unwritten
 
 abbrev pub fault_of_journal : JournalFault → Fault
 fault_of_journal journals.Memory = faults.Memory

@@ -1,5 +1,5 @@
 -- What running a script prints.
-use Rattle.std.specs.Prelude.{◌≡◌, ◌≤◌, ℕ, List, [], ◌∷◌, ◌++◌, length, codes, map, Some, slice_get}
+use Rattle.std.specs.Prelude.{◌≡◌, ◌≤◌, ℕ, Bool, true, false, List, [], ◌∷◌, ◌++◌, length, codes, map, Some, slice_get}
 use Rattle.std.specs.List.{AllByRecursion}
 use Rattle.std.specs.Fmt.{decimal}
 use Rattle.words.specs.declared.Commit.{Commit}
@@ -16,16 +16,17 @@ use Rattle.tool.specs.Standings.{Standing, AreStandings, StandAs, process_lines}
 abbrev pub tail_line : ℕ → ℕ → List ℕ
 tail_line commits tail = codes "commits " ++ decimal commits ++ codes " tail " ++ decimal tail ++ 10 ∷ []
 
--- the text tells the record's commits, then how each process stands, and how many commits there are
-pub record TellsRecord (s : Script) (r : Record) (text : List ℕ) : Type 0 where
+-- the lines tell the record's commits, and the rest how each process stands, and how many commits there are
+pub record TellsRecord (s : Script) (r : Record) (lines rest : List ℕ) : Type 0 where
   pub standing : List Standing
   pub are : AreStandings r.ends.items (map (λ v. v.items) r.outputs.items) standing
-  pub is : text ≡ commits_text (naming (names_of s)) r.journal.items ++ process_lines (naming (names_of s)) standing ++ tail_line (length r.journal.items) r.tail
+  pub are_lines : lines ≡ commits_text (naming (names_of s)) r.journal.items
+  pub is : rest ≡ process_lines (naming (names_of s)) standing ++ tail_line (length r.journal.items) r.tail
 
--- The text tells the commits of a maximal run of the script's processes, of so many rows each, in stamp order and in the script's
--- names, then how each process stands where they lead, and how many commits there are. The lines of the commits are read as those
+-- The lines tell the commits of a maximal run of the script's processes, of so many rows each, in stamp order and in the script's
+-- names; the rest tells how each process stands where they lead, and how many commits there are. The lines are read as those
 -- commits again, and each atom that is printed has a name.
-pub record IsRan (s : Script) (rows : ℕ) (text : List ℕ) : Type 0 where
+pub record TellsRun (s : Script) (rows : ℕ) (lines rest : List ℕ) : Type 0 where
   pub journal : List Commit
   pub run : IsMaximalRun s.processes rows journal
   pub spells : Spells s (commits_text (naming (names_of s)) journal) journal
@@ -34,4 +35,14 @@ pub record IsRan (s : Script) (rows : ℕ) (text : List ℕ) : Type 0 where
   pub named : (t : ℕ) (p : Standing) → slice_get standing t ≡ Some p → AllByRecursion (HasAtom (names_of s)) p.printed
   pub tail : ℕ
   pub few : tail ≤ length journal
-  pub is : text ≡ commits_text (naming (names_of s)) journal ++ process_lines (naming (names_of s)) standing ++ tail_line (length journal) tail
+  pub are : lines ≡ commits_text (naming (names_of s)) journal
+  pub is : rest ≡ process_lines (naming (names_of s)) standing ++ tail_line (length journal) tail
+
+-- the text tells a run, its journal first
+abbrev pub IsRan : Script → ℕ → List ℕ → Type 0
+IsRan s rows text = (lines rest : List ℕ) × TellsRun s rows lines rest × (text ≡ lines ++ rest)
+
+-- what is printed of the two parts: where it is quiet, not the journal
+abbrev pub printed : Bool → List ℕ → List ℕ → List ℕ
+printed true lines rest = rest
+printed false lines rest = lines ++ rest

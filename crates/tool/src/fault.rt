@@ -7,7 +7,7 @@ ghost use Rattle.tool.specs.declared.fault.Fault.TheVariants.{Memory};
 
 use crate::meeting::MeetFault;
 use crate::play::PlayFault;
-use crate::source::SourceFault;
+use files::SourceFault;
 use journal_text::JournalFault;
 use runtime::RunFault;
 use script::ScriptFault;
@@ -98,6 +98,7 @@ impl From<SourceFault> for Fault {
         match fault {
             SourceFault::Memory => Fault::Memory,
             SourceFault::Unread => Fault::Unread,
+            SourceFault::Unwritten => Fault::Unwritten,
         }
     }
 }

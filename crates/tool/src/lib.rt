@@ -11,7 +11,6 @@ mod program;
 mod replay;
 mod request;
 mod run;
-mod source;
 
 pub use crate::check::check_text;
 pub use crate::fault::Fault;
@@ -20,5 +19,5 @@ pub use crate::play::{PlayFault, play_laws, play_text};
 pub use crate::program::{BAD_WORDS, command, tell};
 pub use crate::replay::{Replayed, replay_laws, replay_text};
 pub use crate::request::Request;
-pub use crate::run::run_text;
-pub use crate::source::{Source, SourceFault, SystemFiles};
+pub use crate::run::{RunText, run_parts, run_text};
+pub use files::{Source, SourceFault, SystemFiles};

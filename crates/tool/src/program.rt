@@ -1,15 +1,16 @@
 //! The program, over any files and any two streams.
 
-ghost use Rattle.std.specs.Prelude.{◌≡◌, ◌≤◌, ◌<◌, ◌⊎◌, List, ℕ, None, IfSome, IfOk, IfErr, OnOk, length, take};
+ghost use Rattle.std.specs.Prelude.{◌≡◌, ◌≢◌, ◌≤◌, ◌<◌, ◌⊎◌, List, ℕ, None, IfSome, IfOk, IfErr, OnOk, length, take, drop};
 ghost use Rattle.std.specs.Io.KnownBytes.{Appends, Keeps};
 ghost use Rattle.script.specs.Scripts.{script_of};
 ghost use Rattle.script.specs.Spelling.{Spells};
 ghost use Rattle.tool.specs.declared.request.Request.{Request};
-ghost use Rattle.tool.specs.declared.fault.Fault.TheVariants.{Unwritten};
+ghost use Rattle.tool.specs.declared.fault.Fault.TheVariants.{Memory, Unwritten};
 ghost use Rattle.tool.specs.declared.program.Verdict.TheVariants.{Done};
 ghost use Rattle.tool.specs.Check.{IsChecked};
 ghost use Rattle.tool.specs.Command.{Answers, Began, Fails, FailsParse, FailsRead};
-ghost use Rattle.tool.specs.Files.{Fits};
+ghost use Rattle.files.specs.Files.{Fits};
+ghost use Rattle.tool.specs.Run.{printed};
 
 use crate::check::check_text;
 use crate::fault::Fault;
@@ -17,9 +18,9 @@ use crate::meeting::meet_text;
 use crate::play::play_text;
 use crate::replay::{Replayed, replay_text};
 use crate::request::{Request, read_words};
-use crate::run::run_text;
-use crate::source::{MOST_BYTES, Source};
+use crate::run::{RunText, run_parts};
 use clap::error::ErrorKind;
+use files::{MOST_BYTES, Source};
 use script::{Script, parse};
 use std::alloc::Global;
 use std::io;
@@ -76,6 +77,31 @@ fn check_file<S: Source>(alloc: Global, source: &mut S, name: &str) -> Result<Ve
     Ok(check_text(alloc, bytes.as_slice())?)
 }
 
+/// Keeps the journal of a run in a file, where one is named, and gives what is printed.
+fn keep_journal<S: Source>(
+    alloc: Global,
+    source: &mut S,
+    ran: RunText,
+    journal: Option<&str>,
+    quiet: bool,
+) -> Result<Vec<u8>, Fault>
+    requires { ran.journal ≤ length ran.text.items }
+    ensures kept { OnOk result (IfSome journal.entry (λ name. S.holds source.new name.now (take ran.journal ran.text.items))) }
+    ensures printed { IfOk result (λ text. text.items ≡ printed quiet (take ran.journal ran.text.items) (drop ran.journal ran.text.items)) }
+    ensures fault { IfErr result (λ fault. (fault ≡ Memory) ⊎ ((fault ≡ Unwritten) × (journal.entry ≢ None))) }
+{
+    let RunText { text, journal: end } = ran;
+    let rest = if quiet {
+        Some(Vec::from_slice(alloc, &text[end..])?)
+    } else {
+        None
+    };
+    if let Some(name) = journal {
+        source.store(name, &text[..end])?;
+    }
+    Ok(rest.unwrap_or(text))
+}
+
 /// The text that a request is answered with.
 fn answer<R: Threads + Wait + Sync, S: Source>(
     rt: &R,
@@ -83,7 +109,7 @@ fn answer<R: Threads + Wait + Sync, S: Source>(
     asked: Request<'_>,
     source: &mut S,
 ) -> Result<(Verdict, Vec<u8>), Fault>
-    ensures done { IfOk result (λ answer. Answers (S.holds source.old) asked.entry answer.0 answer.1.items) }
+    ensures done { IfOk result (λ answer. Answers (S.holds source.old) (S.holds source.new) asked.entry answer.0 answer.1.items) }
     ensures fault { IfErr result (Fails (S.holds source.old) asked.entry) }
 {
     match asked {
@@ -97,9 +123,15 @@ fn answer<R: Threads + Wait + Sync, S: Source>(
             script,
             workers,
             rows,
+            journal,
+            quiet,
         } => {
             let script = read_script(alloc, source, script)?;
-            Ok((Verdict::Done, run_text(rt, alloc, &script, workers, rows)?))
+            let ran = run_parts(rt, alloc, &script, workers, rows)?;
+            Ok((
+                Verdict::Done,
+                keep_journal(alloc, source, ran, journal, quiet)?,
+            ))
         }
         Request::Replay {
             script,
@@ -165,10 +197,10 @@ fn respond<R: Threads + Wait + Sync, S: Source, O: Write>(
     source: &mut S,
     out: &mut O,
 ) -> Result<Verdict, Fault>
-    ensures done { IfOk result (λ verdict. (text : List ℕ) × Answers (S.holds source.old) asked.entry verdict text
+    ensures done { IfOk result (λ verdict. (text : List ℕ) × Answers (S.holds source.old) (S.holds source.new) asked.entry verdict text
         × Appends (O.contents out.old) (O.contents out.new) text) }
     ensures fault { IfErr result (λ fault.
-        ((fault ≡ Unwritten) × Began (S.holds source.old) asked.entry (O.contents out.old) (O.contents out.new))
+        ((fault ≡ Unwritten) × Began (S.holds source.old) (S.holds source.new) asked.entry (O.contents out.old) (O.contents out.new))
         ⊎ (Fails (S.holds source.old) asked.entry fault × (out.new ≡ out.old))) }
 {
     let (verdict, text) = answer(rt, alloc, asked, source)?;
@@ -189,10 +221,10 @@ pub fn command<R: Threads + Wait + Sync, S: Source, O: Write, E: Write>(
 ) -> u8
     ensures status { result ≤ 2 }
     // Where all went well, the output has grown by the answer to some request.
-    ensures done { result ≡ 0 → (asked : Request) × (text : List ℕ) × Answers (S.holds source.old) asked Done text
+    ensures done { result ≡ 0 → (asked : Request) × (text : List ℕ) × Answers (S.holds source.old) (S.holds source.new) asked Done text
         × Appends (O.contents out.old) (O.contents out.new) text }
     // Where not, it has grown by a beginning of such an answer at most.
-    ensures fault { result ≡ 1 → (asked : Request) × Began (S.holds source.old) asked (O.contents out.old) (O.contents out.new) }
+    ensures fault { result ≡ 1 → (asked : Request) × Began (S.holds source.old) (S.holds source.new) asked (O.contents out.old) (O.contents out.new) }
     ensures bad_words { result ≡ 2 → out.new ≡ out.old }
 {
     let asked = match read_words(alloc, words) {

@@ -14,11 +14,14 @@ pub enum Request<'a> {
     /// How many processes and channels the script in the file of this name has.
     Check(&'a str),
     /// What comes of running the script in the file of this name on so many workers, with so many rows a
-    /// process.
+    /// process. The lines of the journal go to a file, where one is named, and are left out of what is
+    /// printed, where it is quiet.
     Run {
         script: &'a str,
         workers: u8,
         rows: u16,
+        journal: Option<&'a str>,
+        quiet: bool,
     },
     /// Where the journal in a file leads the script in another, of so many rows a process.
     Replay {
@@ -80,11 +83,22 @@ fn run_command<'a>(alloc: Global) -> Result<Command<'a>, AllocError> {
         .value_parser(value_parser!(u8).range(1..=16))
         .default_value("4")
         .help("How many workers run the processes");
+    let journal = Arg::new(alloc, "journal")
+        .long("journal")
+        .action(ArgAction::Set)
+        .value_name("FILE")
+        .help("Writes the journal to a file too");
+    let quiet = Arg::new(alloc, "quiet")
+        .long("quiet")
+        .action(ArgAction::SetTrue)
+        .help("Prints no journal");
     Command::new(alloc, "run")
         .about("Runs the processes of a script")
         .arg(file_argument(alloc, "file", "FILE", "The script"))?
         .arg(workers)?
-        .arg(rows_argument(alloc))
+        .arg(rows_argument(alloc))?
+        .arg(journal)?
+        .arg(quiet)
 }
 
 /// The request of `run`, by the words behind it.
@@ -93,6 +107,8 @@ fn run_request<'a>(run: &ArgMatches<'a>) -> Option<Request<'a>> {
         script: run.get_str("file")?,
         workers: run.get_one("workers")?,
         rows: run.get_one("rows")?,
+        journal: run.get_str("journal"),
+        quiet: run.get_flag("quiet"),
     })
 }
 
@@ -126,6 +142,22 @@ fn command_line<'a>(alloc: Global) -> Result<Command<'a>, AllocError> {
         .subcommand(replay_command(alloc)?)
 }
 
+/// Why what the words ask for cannot be had.
+fn objection(asked: &Request<'_>) -> Option<&'static str> {
+    match asked {
+        Request::Replay {
+            script: "-",
+            journal: "-",
+            ..
+        } => Some("only one of the two files can be the standard input"),
+        Request::Run {
+            journal: Some("-"),
+            ..
+        } => Some("the journal goes to a file with a name"),
+        _ => None,
+    }
+}
+
 /// What the words ask for; they begin behind the program's name. A wish for help is an error too.
 pub fn read_words<'a>(alloc: Global, words: &'a [&'a str]) -> Result<Request<'a>, Error> {
     let mut command = command_line(alloc)?;
@@ -139,7 +171,10 @@ pub fn read_words<'a>(alloc: Global, words: &'a [&'a str]) -> Result<Request<'a>
         _ => None,
     };
     match found {
-        Some(request) => Ok(request),
+        Some(asked) => match objection(&asked) {
+            Some(why) => Err(command.error(ErrorKind::ValueValidation, why)?),
+            None => Ok(asked),
+        },
         None => Err(command.error(ErrorKind::MissingSubcommand, "nothing is asked for")?),
     }
 }

@@ -9,6 +9,7 @@ use tool::{Fault, Source, SourceFault, command, play_laws, replay_laws};
 
 mod check;
 mod gates;
+mod keeping;
 mod replay;
 mod running;
 mod scripts;

@@ -1,8 +1,8 @@
 use Rattle.std.proofs.Common.{◌≤◌}
 use Rattle.script.specs.Scripts.{script_of}
 use Rattle.lines.proofs.Lining.{run_has_lines}
-use Rattle.tool.proofs.Running.{is_ran, rows_are_few}
-use Rattle.tool.proofs.run.run_text.Goals as goal
+use Rattle.tool.proofs.Running.{tells_run, rows_are_few}
+use Rattle.tool.proofs.run.run_parts.Goals as goal
 
 pub record_text-requires-clause-lines : goal.record_text-requires-clause-lines
 record_text-requires-clause-lines g c =
@@ -14,4 +14,4 @@ pub returns-in-Ok-clause-ran : goal.returns-in-Ok-clause-ran
 returns-in-Ok-clause-ran g c =
     let told = c.in_ok-record.ensures in
     let few : c.args.rows ≤ 1024 = rows_are_few c.args.workers c.args.rows _ _ told.workers.1 told.rows.1 (λ e. absurd cc) (λ e. absurd cc) in
-    is_ran (script_of c.args.script.now) c.args.rows c.in_ok-record.record c.in-Ok.text.items c.args.script.now.spelled few told.headline c.in-Ok.ensures
+    tells_run (script_of c.args.script.now) c.args.rows c.in_ok-record.record _ _ c.args.script.now.spelled few told.headline c.in-Ok.ensures.tells
