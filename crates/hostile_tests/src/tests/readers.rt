@@ -6,7 +6,7 @@ use crate::tests::SERVER;
 use std::alloc::{AllocError, Allocator, Global};
 use std::fs::{Files, Metadata, OpenFile, OpenOptions};
 use std::io;
-use std::io::{ErrorKind, Read, Seek, SeekFrom, Write};
+use std::io::{BufRead, ErrorKind, Read, Seek, SeekFrom, Write};
 use std::process::Abort;
 use std::sync::Wait;
 use std::test::Fail;
@@ -128,6 +128,23 @@ impl Alloc for Disk {
     }
 }
 
+/// Its standard input has nothing.
+impl Input for Disk {
+    type Reader = io::Empty;
+
+    fn read_line<A: Allocator + Clone>(&self, line: &mut String<A>) -> io::Result<usize> {
+        io::empty().read_line(line)
+    }
+
+    fn lines<A: Allocator>(&self, alloc: A) -> io::Lines<io::Empty, A> {
+        io::empty().lines(alloc)
+    }
+
+    fn reader(&self) -> io::Empty {
+        io::empty()
+    }
+}
+
 impl Files for Disk {
     type File = Opened;
 
@@ -212,6 +229,15 @@ fn files_that_fail(rt: HostRuntime) -> Result<(), Fail> {
     let mut files = SystemFiles::new(&disk);
     let counts = "processes 2 channels 3\n";
     tells(&rt, &mut files, &["check", "pieces"], counts, "")?;
+    tells(
+        &rt,
+        &mut files,
+        &["check", "-"],
+        "processes 0 channels 0\n",
+        "",
+    )?;
+    let keep = ["run", "-", "--journal", "pieces"];
+    tells(&rt, &mut files, keep.as_slice(), "", "fault 32\n")?;
     for name in ["fails", "locked", "none"] {
         tells(&rt, &mut files, &["check", name], "", "fault 31\n")?;
         tells(&rt, &mut files, &["play", name], "", "fault 31\n")?;
