@@ -7,30 +7,30 @@ what to do: run it where there is more, or ask for less, by a smaller file or a 
 ";
 
 pub(crate) const NOT_ALLOWED: &str = "\
-fault 2 step K: step K of the schedule, counted from 1, is not allowed in the world that it is made in
+fault 2 step K: step K of the schedule, from 1, is not allowed
 example: pcml play FILE tells step 1, since a row is claimed only once it is open, where FILE is
   world 1 1 1
   0 claim 0.0
 what to do: make the steps that it needs before step K, or take it out.
-With no step, fault 2 is a number of workers that is not 1 to 16. No words of a command line ask for it.
+With no step it is a number of workers that is not 1 to 16, which no command line can ask for.
 ";
 
 pub(crate) const ROWS: &str = "\
 fault 3: a number of rows that is not 1 to 1024
-comes about: where a program calls the library so. No words of a command line ask for it.
+comes about: where a program calls the library so. No command line can ask for it.
 what to do: ask for 1 to 1024 rows.
 ";
 
 pub(crate) const LOST: &str = "\
 fault 4: a machine of a run is not where its row says
-comes about: a worker tests what it was handed, and a test failed. No file is known that leads to it.
-what to do: keep the script and the words of the command line and report them: the program is wrong.
+comes about: a worker tests what it was handed, and a test failed. No script is known to do it.
+what to do: the program is wrong: keep the script and the command line, and report them.
 ";
 
 pub(crate) const UNLAWFUL: &str = "\
 fault 5: the commits of a run's workers are no run of the script
-comes about: a run replays what its workers did, and it was not lawful. No file is known that leads to it.
-what to do: keep the script and the words of the command line and report them: the program is wrong.
+comes about: a run replays its commits, and they were not lawful. No script is known to do it.
+what to do: the program is wrong: keep the script and the command line, and report them.
 ";
 
 pub(crate) const NO_THREAD: &str = "\
@@ -73,7 +73,7 @@ pub(crate) const LOOP_WITHOUT_SYNC: &str = "\
 fault 15 line L: the loop whose word is on line L of the script does not begin with a sync
 example: pcml check FILE tells line 1, where FILE is
   process a { forever { print 1; } }
-what to do: make a sync the first statement of the loop. One that changes nothing is `sync always ();`.
+what to do: begin the loop with a sync. `sync always ();` is one that waits for nobody.
 ";
 
 pub(crate) const TOO_LONG: &str = "\
@@ -107,12 +107,12 @@ what to do: shorten it.
 
 pub(crate) const UNREAD: &str = "\
 fault 31: a file cannot be read
-comes about: where it is not there, is a folder, is not to be read by you, or fails before it ends.
+comes about: where it is not there, is a folder, may not be read, or fails before it ends.
 what to do: look at how the file is spelled, and at who may read it.
 ";
 
 pub(crate) const UNWRITTEN: &str = "\
 fault 32: an output cannot be written
-comes about: where the disk is full, or the program that reads the output has ended. Part of it may be out.
+comes about: where a disk is full, or whoever reads the output has ended. Part of it may be out.
 what to do: write to where there is room, or let the reader read to the end.
 ";
