@@ -1,13 +1,9 @@
-//! `bench_settle ROWS`: 32 pairs of processes, of which one sends to the other without end, led on from
-//! their beginning until each made so many syncs.
-#![tactic(auto)]
+//! 32 pairs of processes, of which one sends to the other without end.
 
-use anyhow::{Context, Result, bail};
+use anyhow::{Result, bail};
 use script::parse;
 use sequential::{replay, settle};
 use std::alloc::Global;
-use std::env;
-use std::rt::Env;
 
 const PAIRS: usize = 32;
 
@@ -29,20 +25,13 @@ fn script_text(alloc: Global) -> Result<String> {
     Ok(text)
 }
 
-fn run<R: Env + Print + AllocGlobal>(rt: &R) -> Result<()> {
-    let alloc = rt.alloc();
-    let rows = env::args(rt)?.nth(1).context("how many rows?")?;
-    let rows: u16 = rows.as_str().parse()?;
+/// Leads the pairs on from their beginning until each process made so many syncs, and counts the commits.
+pub(crate) fn settle_pairs(alloc: Global, rows: u16) -> Result<usize> {
     let text = script_text(alloc)?;
     let script = parse(alloc, text.as_bytes())?;
     let Ok(state) = replay(alloc, script.processes(), rows, &[]) else {
         bail!("not replayed");
     };
     let (_state, added) = settle(alloc, state)?;
-    println!(rt; "{} commits", added.len())?;
-    Ok(())
-}
-
-fn main(rt: HostRuntime) -> Result<()> {
-    run(&rt)
+    Ok(added.len())
 }

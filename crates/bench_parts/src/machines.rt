@@ -1,6 +1,4 @@
-//! `bench_machine PART N`: a process without end, resumed N times by its first offer; or, as
-//! `bench_machine code N FILE`, the first process of a script, made into N machines.
-#![tactic(auto)]
+//! Processes without end, resumed, and machines that are made.
 
 ghost use Rattle.std.specs.Prelude.{◌≡◌, IfOk};
 ghost use Rattle.thread.specs.Machines.{Ready};
@@ -8,8 +6,8 @@ ghost use Rattle.thread.specs.Machines.{Ready};
 use anyhow::{Context, Result, bail};
 use script::parse;
 use std::alloc::Global;
-use std::rt::{Env, Files};
-use std::{env, fs};
+use std::fs;
+use std::rt::Files;
 use thread::{Machine, Turn};
 use words::{Atom, Message};
 
@@ -48,8 +46,20 @@ fn resume(machine: &mut Machine, number: u32) -> Option<Turn> {
     machine.resume(0, Message::One(Atom::Num(number))).ok()
 }
 
+/// Resumes the process of a part so often, and counts what it printed.
+pub(crate) fn resume_often(alloc: Global, part: &str, count: u32) -> Result<usize> {
+    let mut machine = start(alloc, process_text(part)?)?;
+    let _first = machine.begin()?;
+    for number in 0..count {
+        if resume(&mut machine, number).is_none() {
+            bail!("it does not go on");
+        }
+    }
+    Ok(machine.output().len())
+}
+
 /// Makes as many machines of a script's first process.
-fn compile<R: Files + AllocGlobal>(rt: &R, name: &str, count: u32) -> Result<usize> {
+pub(crate) fn compile<R: Files + AllocGlobal>(rt: &R, name: &str, count: u32) -> Result<usize> {
     let alloc = rt.alloc();
     let text = fs::read(rt, name)?;
     let script = parse(alloc, text.as_slice())?;
@@ -59,32 +69,4 @@ fn compile<R: Files + AllocGlobal>(rt: &R, name: &str, count: u32) -> Result<usi
         machines.push(Machine::new(alloc, process, 0)?)?;
     }
     Ok(machines.len())
-}
-
-fn run<R: Env + Files + Print + AllocGlobal>(rt: &R) -> Result<()> {
-    let alloc = rt.alloc();
-    let mut words = env::args(rt)?.skip(1);
-    let part = words.next().context("which part?")?;
-    let count = words.next().context("how often?")?;
-    let count: u32 = count.as_str().parse()?;
-    if part.as_str() == "code" {
-        let file = words.next().context("which file?")?;
-        let machines = compile(rt, file.as_str(), count)?;
-        println!(rt; "{machines} machines")?;
-        return Ok(());
-    }
-    let mut machine = start(alloc, process_text(part.as_str())?)?;
-    let _first = machine.begin()?;
-    for number in 0..count {
-        if resume(&mut machine, number).is_none() {
-            bail!("it does not go on");
-        }
-    }
-    let printed = machine.output().len();
-    println!(rt; "{count} resumes, {printed} numbers printed")?;
-    Ok(())
-}
-
-fn main(rt: HostRuntime) -> Result<()> {
-    run(&rt)
 }

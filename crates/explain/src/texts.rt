@@ -1,0 +1,118 @@
+//! The texts, one for each fault. An example's file stands by two spaces to the right.
+
+pub(crate) const MEMORY: &str = "\
+fault 1: memory ran out
+comes about: the system, or a limit set on the process, gave the program no more memory.
+what to do: run it where there is more, or ask for less, by a smaller file or a smaller --rows.
+";
+
+pub(crate) const NOT_ALLOWED: &str = "\
+fault 2 step K: step K of the schedule, from 1, is not allowed
+example: pcml play FILE tells step 1, since a row is claimed only once it is open, where FILE is
+  world 1 1 1
+  0 claim 0.0
+what to do: make the steps that it needs before step K, or take it out.
+With no step it is a number of workers that is not 1 to 16, which no command line can ask for.
+";
+
+pub(crate) const ROWS: &str = "\
+fault 3: a number of rows that is not 1 to 1024
+comes about: where a program calls the library so. No command line can ask for it.
+what to do: ask for 1 to 1024 rows.
+";
+
+pub(crate) const LOST: &str = "\
+fault 4: a machine of a run is not where its row says
+comes about: a worker tests what it was handed, and a test failed. No script is known to do it.
+what to do: the program is wrong: keep the script and the command line, and report them.
+";
+
+pub(crate) const UNLAWFUL: &str = "\
+fault 5: the commits of a run's workers are no run of the script
+comes about: a run replays its commits, and they were not lawful. No script is known to do it.
+what to do: the program is wrong: keep the script and the command line, and report them.
+";
+
+pub(crate) const NO_THREAD: &str = "\
+fault 6: a thread could not be started
+comes about: the system gave pcml run or pcml meet fewer threads than it asks for.
+what to do: ask for fewer by --workers, or raise the limit on threads.
+";
+
+pub(crate) const SYNTAX: &str = "\
+fault 11 line L: a token on line L of the script is none, or the grammar does not allow it there
+example: pcml check FILE tells line 2, since a `;` is missing before the `}`, where FILE is
+  process a {
+    print 1 }
+what to do: look at line L, and at what is missing before it. docs/FORMATS.md has the grammar.
+";
+
+pub(crate) const UNKNOWN_NAME: &str = "\
+fault 12 line L: a name on line L of the script stands for nothing
+example: pcml check FILE tells line 1, since nothing binds x, where FILE is
+  process a { print x; }
+what to do: bind the name or declare the channel before it is read, or correct how it is spelled.
+";
+
+pub(crate) const TWICE: &str = "\
+fault 13 line L: a name on line L of the script stands for something already
+example: pcml check FILE tells line 2, since c is a channel already, where FILE is
+  channel c;
+  channel c;
+what to do: give one of the two another name.
+";
+
+pub(crate) const TOO_MANY: &str = "\
+fault 14 line L: on line L of the script is more than its limits allow
+example: pcml check FILE tells line 1, since a list has at most three members, where FILE is
+  process a { sync always (1, 2, 3, 4); }
+what to do: take something out, or split it. docs/FORMATS.md has the limits.
+";
+
+pub(crate) const LOOP_WITHOUT_SYNC: &str = "\
+fault 15 line L: the loop whose word is on line L of the script does not begin with a sync
+example: pcml check FILE tells line 1, where FILE is
+  process a { forever { print 1; } }
+what to do: begin the loop with a sync. `sync always ();` is one that waits for nobody.
+";
+
+pub(crate) const TOO_LONG: &str = "\
+fault 16: the script has more than 65,536 bytes
+comes about: where FILE of pcml check, run or replay is so long, or never ends, as a device.
+what to do: shorten the script.
+";
+
+pub(crate) const BAD_LINE: &str = "\
+fault 21 line L: line L of the journal is not of the form
+example: pcml replay FILE JOURNAL tells line 1, since `( )` has a space, where FILE is
+  process a { sync always (); }
+and JOURNAL is
+  1 a.0.0 always ( )
+what to do: write the line as pcml run does. docs/FORMATS.md has the form.
+";
+
+pub(crate) const BAD_STEP: &str = "\
+fault 22 line L: line L of the schedule is not of the form
+example: pcml play FILE tells line 2, since there is no step of this word, where FILE is
+  world 1 1 1
+  0 jump 0.0
+what to do: write the line as docs/FORMATS.md has it. Line 1 is the world, also of an empty file.
+";
+
+pub(crate) const TOO_LARGE: &str = "\
+fault 23: the journal or the schedule has more than 16,777,216 bytes
+comes about: where a file of pcml replay or pcml play is so long, or never ends, as a device.
+what to do: shorten it.
+";
+
+pub(crate) const UNREAD: &str = "\
+fault 31: a file cannot be read
+comes about: where it is not there, is a folder, may not be read, or fails before it ends.
+what to do: look at how the file is spelled, and at who may read it.
+";
+
+pub(crate) const UNWRITTEN: &str = "\
+fault 32: an output cannot be written
+comes about: where a disk is full, or whoever reads the output has ended. Part of it may be out.
+what to do: write to where there is room, or let the reader read to the end.
+";
