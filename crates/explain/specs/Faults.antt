@@ -1,6 +1,6 @@
 -- The faults of the program, by their numbers.
-use Rattle.std.specs.Prelude.{ℕ, List, [], ◌∷◌, ◌++◌, codes, Bool, ◌||◌, ◌&&◌, ◌==◌, nat_le, if◌then◌else◌}
-use Rattle.std.specs.List.{list_any}
+use Rattle.std.specs.Prelude.{IsTrue, nat_eq, ℕ, List, [], ◌∷◌, ◌++◌, codes, Bool, ◌||◌, ◌&&◌, ◌==◌, nat_le, if◌then◌else◌}
+use Rattle.std.specs.List.{list_any, starts_with, ends_with}
 use Rattle.std.specs.Fmt.{decimal}
 
 abbrev pub fault_numbers : List ℕ
@@ -20,3 +20,7 @@ place n = if n == 2 then codes " step K" else (if has_line n then codes " line L
 -- how the text of a fault begins
 abbrev pub heading : ℕ → List ℕ
 heading n = codes "fault " ++ decimal n ++ place n ++ codes ": "
+
+-- the text of a fault
+abbrev pub Explains : ℕ → List ℕ → Type 0
+Explains n text = IsTrue (is_fault n) × IsTrue (starts_with nat_eq text (heading n)) × IsTrue (ends_with nat_eq text (10 ∷ []))

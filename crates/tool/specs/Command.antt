@@ -1,8 +1,9 @@
 -- What the program prints for what is asked, and what its faults say.
-use Rattle.std.specs.Prelude.{◌≡◌, ◌≢◌, ◌⊎◌, ℕ, List, Option, None, IfSome, take}
+use Rattle.std.specs.Prelude.{◌≡◌, ◌≢◌, ◌⊎◌, IsTrue, ℕ, List, Option, None, IfSome, take}
 use Rattle.std.specs.Io.KnownBytes.{Appends}
 use Rattle.tool.specs.declared.request.Request.{Request}
-use Rattle.tool.specs.declared.request.Request.TheVariants.{Meet, Play, Check, Replay, Run}
+use Rattle.tool.specs.declared.request.Request.TheVariants.{Meet, Play, Check, Explain, Replay, Run}
+use Rattle.explain.specs.Faults.{Explains, is_fault}
 use Rattle.files.specs.Files.{Fits, IsTooLarge}
 use Rattle.tool.specs.Meet.{PrintsMeeting}
 use Rattle.tool.specs.declared.fault.Fault.{Fault}
@@ -33,8 +34,13 @@ OfSchedule Holds name Says = (bytes : List ℕ) × Holds name bytes × Fits byte
 abbrev pub OfFiles : Files → List ℕ → List ℕ → (Script → List ℕ → Type 0) → Type 0
 OfFiles Holds script journal Says = (bytes : List ℕ) × Holds script bytes × (s : Script) × Spells bytes s × (read : List ℕ) × Holds journal read × Says s read
 
--- The line of the one pair (or none), what comes of the schedule, the script or the run that is asked for, or where the journal
--- leads the script. Where the journal of a run is to go to a file, the file keeps its lines at the end.
+-- of a fault that is to be explained there is one
+abbrev pub CanBeAnswered : Request → Type 0
+CanBeAnswered (Explain number) = IsTrue (is_fault number)
+CanBeAnswered asked = Unit {0}
+
+-- The line of the one pair (or none), what comes of the schedule, the script or the run that is asked for, where the journal
+-- leads the script, or what a fault means. Where the journal of a run is to go to a file, the file keeps its lines at the end.
 abbrev pub Answers : Files → Files → Request → Verdict → List ℕ → Type 0
 Answers Holds Keeps (Meet value) Done text = PrintsMeeting value text
 Answers Holds Keeps (Play name) Done text = OfSchedule Holds name.now (λ bytes. IsPlayed bytes text)
@@ -43,6 +49,7 @@ Answers Holds Keeps (Replay script journal rows) Done text = OfFiles Holds scrip
 Answers Holds Keeps (Replay script journal rows) Unlawful text = OfFiles Holds script.now journal.now (λ s read. Fits read × IsNoRun s rows read text)
 Answers Holds Keeps (Run script workers rows journal quiet) Done text = (bytes : List ℕ) × Holds script.now bytes × (s : Script) × Spells bytes s
     × (lines rest : List ℕ) × TellsRun s rows lines rest × IfSome journal (λ name. Keeps name.now lines) × (text ≡ printed quiet lines rest)
+Answers Holds Keeps (Explain number) Done text = Explains number text
 Answers Holds Keeps asked Unlawful text = ⊥
 
 -- what a fault of a script says: the file's text has it as its first
@@ -78,6 +85,7 @@ Fails Holds (Play name) (faults.BadStep line) = OfSchedule Holds name.now (λ by
 Fails Holds (Play name) (faults.NotAllowed step) = OfSchedule Holds name.now (λ bytes. IsFirstRefused bytes step)
 Fails Holds (Play name) fault = ⊥
 Fails Holds (Check name) fault = FailsParse Holds name.now fault
+Fails Holds (Explain number) fault = fault ≡ faults.Memory
 Fails Holds (Replay script journal rows) faults.Memory = Unit {0}
 Fails Holds (Replay script journal rows) faults.Unread = Unit {0}
 Fails Holds (Replay script journal rows) faults.TooLarge = OfFiles Holds script.now journal.now (λ s read. IsTooLarge read)

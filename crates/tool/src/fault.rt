@@ -1,6 +1,7 @@
 //! The faults of the program, each with its number.
 
-ghost use Rattle.std.specs.Prelude.{◌≡◌};
+ghost use Rattle.std.specs.Prelude.{◌≡◌, IsTrue};
+ghost use Rattle.explain.specs.Faults.{is_fault};
 ghost use Rattle.tool.specs.Check.{fault_of_script};
 ghost use Rattle.tool.specs.PlayFaults.{fault_of_meet, fault_of_play, fault_of_file, fault_of_journal, fault_of_run};
 ghost use Rattle.tool.specs.declared.fault.Fault.TheVariants.{Memory};
@@ -70,6 +71,33 @@ pub enum Fault {
     /// An output that cannot be written.
     #[error("fault 32")]
     Unwritten,
+}
+
+impl Fault {
+    /// The number that it is told with.
+    pub fn number(self) -> u16
+        ensures { IsTrue (is_fault result) }
+    {
+        match self {
+            Fault::Memory => 1,
+            Fault::NotAllowed(_) | Fault::Workers => 2,
+            Fault::Rows => 3,
+            Fault::Lost => 4,
+            Fault::Unlawful => 5,
+            Fault::NoThread => 6,
+            Fault::Syntax(_) => 11,
+            Fault::UnknownName(_) => 12,
+            Fault::Twice(_) => 13,
+            Fault::TooMany(_) => 14,
+            Fault::LoopWithoutSync(_) => 15,
+            Fault::TooLong => 16,
+            Fault::BadLine(_) => 21,
+            Fault::BadStep(_) => 22,
+            Fault::TooLarge => 23,
+            Fault::Unread => 31,
+            Fault::Unwritten => 32,
+        }
+    }
 }
 
 impl From<AllocError> for Fault {

@@ -1,6 +1,6 @@
 //! The program, over any files and any two streams.
 
-ghost use Rattle.std.specs.Prelude.{◌≡◌, ◌≢◌, ◌≤◌, ◌<◌, ◌⊎◌, List, ℕ, None, IfSome, IfOk, IfErr, OnOk, length, take, drop};
+ghost use Rattle.std.specs.Prelude.{◌≡◌, ◌≢◌, IsTrue, ◌≤◌, ◌<◌, ◌⊎◌, List, ℕ, None, IfSome, IfOk, IfErr, OnOk, length, take, drop};
 ghost use Rattle.std.specs.Io.KnownBytes.{Appends, Keeps};
 ghost use Rattle.script.specs.Scripts.{script_of};
 ghost use Rattle.script.specs.Spelling.{Spells};
@@ -8,7 +8,8 @@ ghost use Rattle.tool.specs.declared.request.Request.{Request};
 ghost use Rattle.tool.specs.declared.fault.Fault.TheVariants.{Memory, Unwritten};
 ghost use Rattle.tool.specs.declared.program.Verdict.TheVariants.{Done};
 ghost use Rattle.tool.specs.Check.{IsChecked};
-ghost use Rattle.tool.specs.Command.{Answers, Began, Fails, FailsParse, FailsRead};
+ghost use Rattle.tool.specs.Command.{Answers, Began, CanBeAnswered, Fails, FailsParse, FailsRead};
+ghost use Rattle.explain.specs.Faults.{Explains, is_fault};
 ghost use Rattle.files.specs.Files.{Fits};
 ghost use Rattle.tool.specs.Run.{printed};
 
@@ -20,9 +21,10 @@ use crate::replay::{Replayed, replay_text};
 use crate::request::{Request, read_words};
 use crate::run::{RunText, run_parts};
 use clap::error::ErrorKind;
+use explain::explanation;
 use files::{MOST_BYTES, Source};
 use script::{Script, parse};
-use std::alloc::Global;
+use std::alloc::{AllocError, Global};
 use std::io;
 use std::io::Write;
 use std::sync::Wait;
@@ -102,6 +104,15 @@ fn keep_journal<S: Source>(
     Ok(rest.unwrap_or(text))
 }
 
+/// What a fault means.
+fn explain_text(alloc: Global, number: u16) -> Result<Vec<u8>, AllocError>
+    requires { IsTrue (is_fault number) }
+    ensures { IfOk result (λ text. Explains number text.items) }
+{
+    let text = explanation(number).unwrap_or("");
+    Vec::from_slice(alloc, text.as_bytes())
+}
+
 /// The text that a request is answered with.
 fn answer<R: Threads + Wait + Sync, S: Source>(
     rt: &R,
@@ -109,6 +120,7 @@ fn answer<R: Threads + Wait + Sync, S: Source>(
     asked: Request<'_>,
     source: &mut S,
 ) -> Result<(Verdict, Vec<u8>), Fault>
+    requires { CanBeAnswered asked }
     ensures done { IfOk result (λ answer. Answers (S.holds source.old) (S.holds source.new) asked.entry answer.0 answer.1.items) }
     ensures fault { IfErr result (Fails (S.holds source.old) asked.entry) }
 {
@@ -118,6 +130,7 @@ fn answer<R: Threads + Wait + Sync, S: Source>(
             let bytes = read_bounded(source, name)?;
             Ok((Verdict::Done, play_text(alloc, bytes.as_slice())?))
         }
+        Request::Explain(number) => Ok((Verdict::Done, explain_text(alloc, number)?)),
         Request::Check(name) => Ok((Verdict::Done, check_file(alloc, source, name)?)),
         Request::Run {
             script,
@@ -197,6 +210,7 @@ fn respond<R: Threads + Wait + Sync, S: Source, O: Write>(
     source: &mut S,
     out: &mut O,
 ) -> Result<Verdict, Fault>
+    requires { CanBeAnswered asked }
     ensures done { IfOk result (λ verdict. (text : List ℕ) × Answers (S.holds source.old) (S.holds source.new) asked.entry verdict text
         × Appends (O.contents out.old) (O.contents out.new) text) }
     ensures fault { IfErr result (λ fault.

@@ -1,7 +1,11 @@
 //! What the words of the command line ask for.
 
+ghost use Rattle.std.specs.Prelude.{◌≡◌, None, IfOk};
+ghost use Rattle.tool.specs.Command.{CanBeAnswered};
+
 use clap::error::ErrorKind;
 use clap::{Arg, ArgAction, ArgMatches, Command, Error, value_parser};
+use explain::explanation;
 use std::alloc::{AllocError, Global};
 
 /// What to print.
@@ -23,6 +27,8 @@ pub enum Request<'a> {
         journal: Option<&'a str>,
         quiet: bool,
     },
+    /// What the fault of this number means.
+    Explain(u16),
     /// Where the journal in a file leads the script in another, of so many rows a process.
     Replay {
         script: &'a str,
@@ -101,6 +107,18 @@ fn run_command<'a>(alloc: Global) -> Result<Command<'a>, AllocError> {
         .arg(quiet)
 }
 
+fn explain_command<'a>(alloc: Global) -> Result<Command<'a>, AllocError> {
+    let number = Arg::new(alloc, "number")
+        .required(true)
+        .action(ArgAction::Set)
+        .value_name("N")
+        .value_parser(value_parser!(u16))
+        .help("The fault's number");
+    Command::new(alloc, "explain")
+        .about("Explains a fault")
+        .arg(number)
+}
+
 /// The request of `run`, by the words behind it.
 fn run_request<'a>(run: &ArgMatches<'a>) -> Option<Request<'a>> {
     Some(Request::Run {
@@ -139,12 +157,19 @@ fn command_line<'a>(alloc: Global) -> Result<Command<'a>, AllocError> {
         .subcommand(play_command(alloc)?)?
         .subcommand(check_command(alloc)?)?
         .subcommand(run_command(alloc)?)?
-        .subcommand(replay_command(alloc)?)
+        .subcommand(replay_command(alloc)?)?
+        .subcommand(explain_command(alloc)?)
 }
 
 /// Why what the words ask for cannot be had.
-fn objection(asked: &Request<'_>) -> Option<&'static str> {
+fn objection(asked: &Request<'_>) -> Option<&'static str>
+    ensures { result ≡ None → CanBeAnswered asked.now }
+{
     match asked {
+        Request::Explain(number) => match explanation(*number) {
+            Some(_) => None,
+            None => Some("no fault has this number"),
+        },
         Request::Replay {
             script: "-",
             journal: "-",
@@ -159,7 +184,9 @@ fn objection(asked: &Request<'_>) -> Option<&'static str> {
 }
 
 /// What the words ask for; they begin behind the program's name. A wish for help is an error too.
-pub fn read_words<'a>(alloc: Global, words: &'a [&'a str]) -> Result<Request<'a>, Error> {
+pub fn read_words<'a>(alloc: Global, words: &'a [&'a str]) -> Result<Request<'a>, Error>
+    ensures { IfOk result CanBeAnswered }
+{
     let mut command = command_line(alloc)?;
     let matches = command.try_get_matches_from_mut(words)?;
     let found = match matches.subcommand() {
@@ -168,6 +195,11 @@ pub fn read_words<'a>(alloc: Global, words: &'a [&'a str]) -> Result<Request<'a>
         Some(("check", check)) => check.get_str("file").map(|name| Request::Check(name)),
         Some(("run", run)) => run_request(run),
         Some(("replay", replay)) => replay_request(replay),
+        Some(("explain", explain)) => {
+            explain
+                .get_one("number")
+                .map(|number| Request::Explain(number))
+        }
         _ => None,
     };
     match found {

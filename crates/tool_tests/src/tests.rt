@@ -8,6 +8,7 @@ use std::thread::Threads;
 use tool::{Fault, Source, SourceFault, command, play_laws, replay_laws};
 
 mod check;
+mod explaining;
 mod gates;
 mod keeping;
 mod replay;
