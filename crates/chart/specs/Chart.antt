@@ -39,17 +39,17 @@ page_width threads = 140 * threads + 140
 abbrev pub page_height : ℕ → ℕ
 page_height low = low + 32
 
-abbrev pub style : List ℕ
+unfoldable pub style : List ℕ
 style =
     codes "<style>text{stroke:white;stroke-width:3px;paint-order:stroke}.s{text-anchor:start}path{stroke:black;fill:none}.n{stroke-dasharray:4 4}.a{marker-start:url(#tail);marker-end:url(#head)}</style>\n"
 
 -- how an arrow begins and ends
-abbrev pub arrow_ends : List ℕ
+unfoldable pub arrow_ends : List ℕ
 arrow_ends =
     codes "<defs><marker id='tail' viewBox='-4 -4 8 8' markerWidth='8' markerHeight='8'><circle r='2.5' fill='white' stroke='black'/></marker>"
     ++ codes "<marker id='head' viewBox='0 0 9 8' refX='9' refY='4' markerWidth='9' markerHeight='8'><path d='M0 0L9 4L0 8z' style='fill:black;stroke:none'/></marker></defs>\n"
 
-abbrev pub page : ℕ → ℕ → List ℕ
+unfoldable pub page : ℕ → ℕ → List ℕ
 page width tall =
     codes "<svg xmlns='http://www.w3.org/2000/svg' width='" ++ decimal width ++ codes "' height='" ++ decimal tall ++ codes "' viewBox='0 0 " ++ decimal width ++ codes " " ++ decimal tall
     ++ codes "' font-family='monospace' font-size='12' text-anchor='middle'>\n"
@@ -76,7 +76,7 @@ heading p = heading_of (length p.commits) p.total p.from (greatest p.commits) p.
 -- THE LINES OF LIFE
 
 -- a line down from the top
-abbrev pub line : ℕ → ℕ → List ℕ
+unfoldable pub line : ℕ → ℕ → List ℕ
 line x low = codes "<path d='M" ++ decimal x ++ codes " 52V" ++ decimal low ++ codes "'/>\n"
 
 -- the name of the thread, and its line

@@ -11,26 +11,26 @@ use Rattle.journal_text.specs.Texts.{cause_text, message_text}
 use Rattle.chart.specs.Places.{column, gap, height}
 
 -- a text round the place, and a text from the place on
-abbrev pub centered : ℕ → ℕ → List ℕ
+unfoldable pub centered : ℕ → ℕ → List ℕ
 centered x y = codes "<text x='" ++ decimal x ++ codes "' y='" ++ decimal y ++ codes "'>"
 
-abbrev pub starting : ℕ → ℕ → List ℕ
+unfoldable pub starting : ℕ → ℕ → List ℕ
 starting x y = codes "<text class='s' x='" ++ decimal x ++ codes "' y='" ++ decimal y ++ codes "'>"
 
-abbrev pub text_end : List ℕ
+unfoldable pub text_end : List ℕ
 text_end = codes "</text>\n"
 
 -- the stamp at the left margin
 abbrev pub stamp_text : ℕ → ℕ → List ℕ
 stamp_text y stamp = starting 8 (y + 4) ++ decimal stamp ++ text_end
 
-abbrev pub arrow : ℕ → ℕ → ℕ → List ℕ
+unfoldable pub arrow : ℕ → ℕ → ℕ → List ℕ
 arrow x other y = codes "<path class='a' d='M" ++ decimal x ++ codes " " ++ decimal y ++ codes "H" ++ decimal other ++ codes "'/>\n"
 
-abbrev pub dot : ℕ → ℕ → List ℕ
+unfoldable pub dot : ℕ → ℕ → List ℕ
 dot x y = codes "<circle r='4' cx='" ++ decimal x ++ codes "' cy='" ++ decimal y ++ codes "'/>\n"
 
-abbrev pub dashes : ℕ → ℕ → ℕ → ℕ → List ℕ
+unfoldable pub dashes : ℕ → ℕ → ℕ → ℕ → List ℕ
 dashes x y other low = codes "<path class='n' d='M" ++ decimal x ++ codes " " ++ decimal y ++ codes "L" ++ decimal other ++ codes " " ++ decimal low ++ codes "'/>\n"
 
 -- from where the nack was enabled, on the line of its thread, to the place

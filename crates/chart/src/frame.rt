@@ -22,6 +22,7 @@ fn push_page(out: &mut String, width: u64, tall: u64) -> Result<(), AllocError>
     )
 }
 
+#[tactic(auto, unfolding(crate::specs::Chart::style))]
 fn push_style(out: &mut String) -> Result<(), AllocError>
     ensures { OnOk result (string_bytes out.new ≡ string_bytes out.old ++ style) }
 {
@@ -87,6 +88,7 @@ pub(crate) fn push_heading(
     push_text_end(out)
 }
 
+#[tactic(auto, unfolding(crate::specs::Chart::line))]
 fn push_line(out: &mut String, x: u64, low: u64) -> Result<(), AllocError>
     ensures { OnOk result (string_bytes out.new ≡ string_bytes out.old ++ line x low) }
 {

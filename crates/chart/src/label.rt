@@ -14,6 +14,7 @@ use std::alloc::AllocError;
 use words::{Cause, Message, NackName};
 
 /// Begins a text round the place.
+#[tactic(auto, unfolding(crate::specs::Marks::centered))]
 pub(crate) fn push_centered(out: &mut String, x: u64, y: u64) -> Result<(), AllocError>
     ensures { OnOk result (string_bytes out.new ≡ string_bytes out.old ++ centered x y) }
 {
@@ -21,12 +22,14 @@ pub(crate) fn push_centered(out: &mut String, x: u64, y: u64) -> Result<(), Allo
 }
 
 /// Begins a text from the place on.
+#[tactic(auto, unfolding(crate::specs::Marks::starting))]
 pub(crate) fn push_starting(out: &mut String, x: u64, y: u64) -> Result<(), AllocError>
     ensures { OnOk result (string_bytes out.new ≡ string_bytes out.old ++ starting x y) }
 {
     write!(out, "<text class='s' x='{x}' y='{y}'>")
 }
 
+#[tactic(auto, unfolding(crate::specs::Marks::text_end))]
 pub(crate) fn push_text_end(out: &mut String) -> Result<(), AllocError>
     ensures { OnOk result (string_bytes out.new ≡ string_bytes out.old ++ text_end) }
 {

@@ -1,6 +1,6 @@
 //! What is drawn for a commit.
 
-ghost use Rattle.std.specs.Prelude.{◌≡◌, ◌++◌, OnOk};
+ghost use Rattle.std.specs.Prelude.{◌≡◌, ◌++◌, ◌<◌, ◌^◌, OnOk};
 ghost use Rattle.std.specs.List.{flat_map};
 ghost use Rattle.std.specs.String.{string_bytes};
 ghost use Rattle.journal_text.specs.Names.{names_of, naming};
@@ -27,6 +27,7 @@ fn push_stamp(out: &mut String, y: u64, stamp: u32) -> Result<(), AllocError>
     push_text_end(out)
 }
 
+#[tactic(auto, unfolding(crate::specs::Marks::arrow))]
 fn push_arrow(out: &mut String, x: u64, other: u64, y: u64) -> Result<(), AllocError>
     ensures { OnOk result (string_bytes out.new ≡ string_bytes out.old ++ arrow x other y) }
 {
