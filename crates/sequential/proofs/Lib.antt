@@ -15,3 +15,4 @@ mod Covering
 mod Bounding
 pub mod Telling
 pub mod Fronts
+pub mod Nacks

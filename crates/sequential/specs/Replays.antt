@@ -3,12 +3,14 @@ use Rattle.std.specs.Prelude.{ℕ, List, ◌++◌, length, Option, Some, None, �
 use Rattle.syntax.specs.Processes.{Proc}
 use Rattle.words.specs.declared.Atom.{Atom}
 use Rattle.words.specs.declared.Commit.{Commit}
+use Rattle.words.specs.declared.NackName.{NackName}
 use Rattle.sequential.specs.declared.end.End.{End}
 use Rattle.sequential.specs.declared.state.State.{State}
 use Rattle.sequential.specs.declared.state.ReplayFault.{ReplayFault}
 use Rattle.sequential.specs.declared.state.ReplayFault.TheVariants.{Memory, Unlawful}
 use Rattle.sequential.specs.Reaching.{AreAfter}
-use Rattle.sequential.specs.Runs.{IsMaximal, Follows, BreaksOffAt, EndsAs, config_of}
+use Rattle.sequential.specs.Runs.{IsMaximal, Follows, BreaksOffAt, EndsAs, Fires, IsFiredAt, IsGreatest, config_of}
+use Rattle.sequential.specs.Standing.{fired_in}
 
 -- the commits are a run of the processes in so many rows each, and the state stands where they lead
 abbrev pub StandsAfter : List Proc → ℕ → List Commit → State → Type 0
@@ -26,6 +28,18 @@ TellsEnd s t end =
 abbrev pub TellsOutput : State → ℕ → List Atom → Type 0
 TellsOutput s t printed =
     (ps : List Proc) (rows : ℕ) (journal : List Commit) → StandsAfter ps rows journal s → (end : End) × EndsAs ps rows t (config_of journal) end printed
+
+-- the stamp that a state has for a nack
+abbrev pub fired_by : State → NackName → Option ℕ
+fired_by s n = fired_in s.threads.strands.items n
+
+-- the greatest stamp of the commits that fired the nack, or none where the nack is not fired
+abbrev pub TellsFired : State → NackName → Option ℕ → Type 0
+TellsFired s n None =
+    (ps : List Proc) (rows : ℕ) (journal : List Commit) → StandsAfter ps rows journal s → ((g : ℕ) × IsFiredAt ps (config_of journal) n g) → ⊥
+TellsFired s n (Some stamp) =
+    (ps : List Proc) (rows : ℕ) (journal : List Commit) → StandsAfter ps rows journal s
+    → ((g : ℕ) × IsFiredAt ps (config_of journal) n g) × IsGreatest journal (Fires ps (config_of journal) n) stamp
 
 -- how many threads a state has
 abbrev pub thread_count : State → ℕ

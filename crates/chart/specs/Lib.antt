@@ -1,0 +1,5 @@
+pub mod Places
+pub mod Range
+pub mod Marks
+pub mod Chart
+pub mod Drawn

@@ -1,0 +1,94 @@
+//! The whole chart.
+
+ghost use Rattle.std.specs.Prelude.{◌≡◌, ◌++◌, ◌≤◌, IfOk, OnOk, length};
+ghost use Rattle.std.specs.String.{string_bytes};
+ghost use Rattle.journal_text.specs.Names.{names_of, naming};
+ghost use Rattle.script.specs.Scripts.{script_of};
+ghost use Rattle.sequential.specs.Replays.{fired_by, thread_count};
+ghost use Rattle.chart.specs.Chart.{IsChart, TellsEnds, picture_text};
+ghost use Rattle.chart.specs.Drawn.{picture_of};
+
+use crate::frame::{push_ends, push_foot, push_front, push_heading, push_lifelines};
+use crate::mark::push_marks;
+use crate::places::bottom;
+use crate::range::{greatest, range_end, shown};
+use script::Script;
+use sequential::{End, State};
+use std::alloc::{AllocError, Global};
+use words::Commit;
+
+/// What is drawn, besides the names.
+#[derive(Drop)]
+struct Drawing<'a> {
+    ends: &'a [End],
+    commits: &'a [Commit],
+    total: usize,
+    from: u32,
+    is_cut: bool,
+}
+
+/// How each process stands.
+fn ends_of(alloc: Global, state: &State) -> Result<Vec<End>, AllocError>
+    ensures { IfOk result (λ ends. TellsEnds state.now ends.items) }
+{
+    let mut ends = Vec::new(alloc);
+    for thread in 0..state.threads() {
+        ends.push(state.end(thread))?;
+    }
+    Ok(ends)
+}
+
+fn picture_text(
+    alloc: Global,
+    script: &Script,
+    state: &State,
+    drawing: &Drawing<'_>,
+) -> Result<String, AllocError>
+    requires { length drawing.now.ends.now ≤ 64 }
+    ensures { IfOk result (λ text. string_bytes text ≡ picture_text (picture_of (naming (names_of (script_of script.now))) (fired_by state.now) drawing.now)) }
+{
+    let last = greatest(drawing.commits);
+    let low = bottom(drawing.from, last);
+    let count = drawing.commits.len();
+    let mut out = String::new(alloc);
+    push_front(&mut out, drawing.ends.len(), low)?;
+    push_heading(
+        &mut out,
+        count,
+        drawing.total,
+        drawing.from,
+        last,
+        drawing.is_cut,
+    )?;
+    push_lifelines(&mut out, script, low, drawing.ends.len())?;
+    push_marks(&mut out, script, state, drawing.from, drawing.commits)?;
+    push_ends(&mut out, drawing.ends, low)?;
+    push_foot(&mut out)?;
+    Ok(out)
+}
+
+/// The chart of the commits with a stamp from `from` to `to`, as SVG. The state is where all the commits
+/// lead the script's processes. Where more than 2,000 commits are in the range, the range is cut.
+pub fn chart_text(
+    alloc: Global,
+    script: &Script,
+    state: &State,
+    commits: &[Commit],
+    from: u32,
+    to: u32,
+) -> Result<String, AllocError>
+    requires { thread_count state.now ≡ length (script_of script.now).processes }
+    ensures { IfOk result (λ text. IsChart (script_of script.now) state.now commits.now from to (string_bytes text)) }
+{
+    let below = range_end(commits, from, to);
+    let found = shown(alloc, commits, from, below)?;
+    let ends = ends_of(alloc, state)?;
+    let drawing = Drawing {
+        ends: &ends,
+        commits: &found,
+        total: commits.len(),
+        from,
+        is_cut: below <= u64::from(to),
+    };
+    picture_text(alloc, script, state, &drawing)
+}

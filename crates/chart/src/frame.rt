@@ -1,0 +1,161 @@
+//! What stands round the marks: the page, the heading, and the lines of life with their ends.
+
+ghost use Rattle.std.specs.Prelude.{◌≡◌, ◌++◌, ◌<◌, ◌≤◌, ◌^◌, OnOk, length};
+ghost use Rattle.std.specs.String.{string_bytes};
+ghost use Rattle.journal_text.specs.Names.{names_of, naming};
+ghost use Rattle.script.specs.Scripts.{script_of};
+ghost use Rattle.chart.specs.Chart.{arrow_ends, cut_text, each_below, end_at, end_mark, end_text, foot, front, heading_of, lifeline, line, page, page_height, page_width, stamps_text, style};
+
+use crate::label::{push_centered, push_starting, push_text_end, push_thread};
+use crate::places::column;
+use script::Script;
+use sequential::End;
+use std::alloc::AllocError;
+use thread::Fault;
+
+fn push_page(out: &mut String, width: u64, tall: u64) -> Result<(), AllocError>
+    ensures { OnOk result (string_bytes out.new ≡ string_bytes out.old ++ page width tall) }
+{
+    write!(
+        out,
+        "<svg xmlns='http://www.w3.org/2000/svg' width='{width}' height='{tall}' viewBox='0 0 {width} {tall}' font-family='monospace' font-size='12' text-anchor='middle'>\n"
+    )
+}
+
+#[tactic(auto, unfolding(crate::specs::Chart::style))]
+fn push_style(out: &mut String) -> Result<(), AllocError>
+    ensures { OnOk result (string_bytes out.new ≡ string_bytes out.old ++ style) }
+{
+    out.push_str(
+        "<style>text{stroke:white;stroke-width:3px;paint-order:stroke}.s{text-anchor:start}path{stroke:black;fill:none}.n{stroke-dasharray:4 4}.a{marker-start:url(#tail);marker-end:url(#head)}</style>\n",
+    )
+}
+
+/// How an arrow begins and ends.
+fn push_arrow_ends(out: &mut String) -> Result<(), AllocError>
+    ensures { OnOk result (string_bytes out.new ≡ string_bytes out.old ++ arrow_ends) }
+{
+    out.push_str(
+        "<defs><marker id='tail' viewBox='-4 -4 8 8' markerWidth='8' markerHeight='8'><circle r='2.5' fill='white' stroke='black'/></marker>",
+    )?;
+    out.push_str(
+        "<marker id='head' viewBox='0 0 9 8' refX='9' refY='4' markerWidth='9' markerHeight='8'><path d='M0 0L9 4L0 8z' style='fill:black;stroke:none'/></marker></defs>\n",
+    )
+}
+
+/// The page of so many threads, whose lines of life end at this height.
+pub(crate) fn push_front(out: &mut String, threads: usize, low: u64) -> Result<(), AllocError>
+    requires threads { threads ≤ 64 }
+    requires low { low < 2 ^ 60 }
+    ensures { OnOk result (string_bytes out.new ≡ string_bytes out.old ++ front threads low) }
+{
+    push_page(out, 140 * threads as u64 + 140, low + 32)?;
+    push_style(out)?;
+    push_arrow_ends(out)?;
+    out.push_str("<rect width='100%' height='100%' fill='white'/>\n")
+}
+
+fn push_stamps(out: &mut String, count: usize, from: u32, last: u32) -> Result<(), AllocError>
+    ensures { OnOk result (string_bytes out.new ≡ string_bytes out.old ++ stamps_text count from last) }
+{
+    if count == 0 {
+        return Ok(());
+    }
+    write!(out, ", stamps {from} to {last}")
+}
+
+fn cut_text(is_cut: bool) -> &'static str
+    ensures { result.now ≡ cut_text is_cut }
+{
+    if is_cut { ", cut at 2000 commits" } else { "" }
+}
+
+/// How many commits are shown of how many, and which stamps.
+pub(crate) fn push_heading(
+    out: &mut String,
+    count: usize,
+    total: usize,
+    from: u32,
+    last: u32,
+    is_cut: bool,
+) -> Result<(), AllocError>
+    ensures { OnOk result (string_bytes out.new ≡ string_bytes out.old ++ heading_of count total from last is_cut) }
+{
+    push_starting(out, 8, 18)?;
+    write!(out, "{count} of {total} commits")?;
+    push_stamps(out, count, from, last)?;
+    out.push_str(cut_text(is_cut))?;
+    push_text_end(out)
+}
+
+#[tactic(auto, unfolding(crate::specs::Chart::line))]
+fn push_line(out: &mut String, x: u64, low: u64) -> Result<(), AllocError>
+    ensures { OnOk result (string_bytes out.new ≡ string_bytes out.old ++ line x low) }
+{
+    write!(out, "<path d='M{x} 52V{low}'/>\n")
+}
+
+fn push_lifeline(out: &mut String, script: &Script, low: u64, thread: u8) -> Result<(), AllocError>
+    ensures { OnOk result (string_bytes out.new ≡ string_bytes out.old ++ lifeline (naming (names_of (script_of script.now))) low thread) }
+{
+    push_centered(out, column(thread), 42)?;
+    push_thread(out, script, thread)?;
+    push_text_end(out)?;
+    push_line(out, column(thread), low)
+}
+
+/// The lines of life of the first so many threads.
+pub(crate) fn push_lifelines(
+    out: &mut String,
+    script: &Script,
+    low: u64,
+    threads: usize,
+) -> Result<(), AllocError>
+    requires { threads ≤ 64 }
+    ensures { OnOk result (string_bytes out.new ≡ string_bytes out.old ++ each_below threads (lifeline (naming (names_of (script_of script.now))) low)) }
+{
+    for thread in 0..threads {
+        push_lifeline(out, script, low, thread as u8)?;
+    }
+    Ok(())
+}
+
+fn end_text(end: End) -> &'static str
+    ensures { result.now ≡ end_text end }
+{
+    match end {
+        End::Ended => "ended",
+        End::Waiting => "waiting",
+        End::Spent => "spent",
+        End::Faulted(Fault::Unset) => "faulted unset",
+        End::Faulted(Fault::Kind) => "faulted kind",
+        End::Faulted(Fault::Range) => "faulted range",
+        End::Faulted(Fault::Shape) => "faulted shape",
+    }
+}
+
+fn push_end(out: &mut String, x: u64, y: u64, end: End) -> Result<(), AllocError>
+    ensures { OnOk result (string_bytes out.new ≡ string_bytes out.old ++ end_at x y end) }
+{
+    push_centered(out, x, y)?;
+    out.push_str(end_text(end))?;
+    push_text_end(out)
+}
+
+/// How each process stands, below its line.
+pub(crate) fn push_ends(out: &mut String, ends: &[End], low: u64) -> Result<(), AllocError>
+    requires threads { length ends.now ≤ 64 }
+    requires low { low < 2 ^ 60 }
+    ensures { OnOk result (string_bytes out.new ≡ string_bytes out.old ++ each_below (length ends.now) (end_mark ends.now low)) }
+{
+    for thread in 0..ends.len() {
+        push_end(out, column(thread as u8), low + 18, ends[thread])?;
+    }
+    Ok(())
+}
+
+pub(crate) fn push_foot(out: &mut String) -> Result<(), AllocError>
+    ensures { OnOk result (string_bytes out.new ≡ string_bytes out.old ++ foot) }
+{
+    out.push_str("</svg>\n")
+}

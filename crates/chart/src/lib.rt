@@ -1,0 +1,15 @@
+//! A journal as a picture: a message sequence chart, as SVG text.
+//!
+//! - `chart_text` draws the commits of a range of stamps between the lines of life of their processes.
+//! - What it draws is a function of the commits, of where they lead, and of the names of the script
+//!   (`specs/Chart.antt`).
+#![tactic(auto)]
+
+mod chart;
+mod frame;
+mod label;
+mod mark;
+mod places;
+mod range;
+
+pub use crate::chart::chart_text;
