@@ -2,7 +2,7 @@
 use Rattle.std.specs.Prelude.{◌≡◌, ◌≢◌, ◌⊎◌, IsTrue, ℕ, List, Option, None, IfSome, take}
 use Rattle.std.specs.Io.KnownBytes.{Appends}
 use Rattle.tool.specs.declared.request.Request.{Request}
-use Rattle.tool.specs.declared.request.Request.TheVariants.{Meet, Play, Check, Explain, Replay, Run}
+use Rattle.tool.specs.declared.request.Request.TheVariants.{Meet, Play, Check, Chart, Explain, Replay, Run}
 use Rattle.explain.specs.Faults.{Explains, is_fault}
 use Rattle.files.specs.Files.{Fits, IsTooLarge}
 use Rattle.tool.specs.Meet.{PrintsMeeting}
@@ -13,7 +13,10 @@ use Rattle.tool.specs.Play.{IsPlayed, IsFirstRefused}
 use Rattle.tool.specs.Check.{IsChecked}
 use Rattle.runtime.specs.Limits.{AreRows, AreWorkers}
 use Rattle.tool.specs.Replay.{IsReplayed, IsNoRun}
+use Rattle.tool.specs.Charting.{IsCharted}
 use Rattle.tool.specs.Run.{TellsRun, printed}
+use Rattle.tool.specs.declared.replay.Replayed.{Replayed}
+use Rattle.tool.specs.declared.replay.Replayed.TheVariants as replays
 use Rattle.tool.specs.declared.program.Verdict.{Verdict}
 use Rattle.tool.specs.declared.program.Verdict.TheVariants.{Done, Unlawful}
 use Rattle.journal_text.specs.Journals as journals
@@ -34,13 +37,18 @@ OfSchedule Holds name Says = (bytes : List ℕ) × Holds name bytes × Fits byte
 abbrev pub OfFiles : Files → List ℕ → List ℕ → (Script → List ℕ → Type 0) → Type 0
 OfFiles Holds script journal Says = (bytes : List ℕ) × Holds script bytes × (s : Script) × Spells bytes s × (read : List ℕ) × Holds journal read × Says s read
 
+-- a text of a journal, with its verdict
+abbrev pub IsJudged : Replayed → Verdict → List ℕ → Type 0
+IsJudged (replays.Lawful text) verdict told = (verdict ≡ Done) × (told ≡ text.items)
+IsJudged (replays.Unlawful text) verdict told = (verdict ≡ Unlawful) × (told ≡ text.items)
+
 -- of a fault that is to be explained there is one
 abbrev pub CanBeAnswered : Request → Type 0
 CanBeAnswered (Explain number) = IsTrue (is_fault number)
 CanBeAnswered asked = Unit {0}
 
 -- The line of the one pair (or none), what comes of the schedule, the script or the run that is asked for, where the journal
--- leads the script, or what a fault means. Where the journal of a run is to go to a file, the file keeps its lines at the end.
+-- leads the script, its chart, or what a fault means. Where the journal of a run is to go to a file, the file keeps its lines at the end.
 abbrev pub Answers : Files → Files → Request → Verdict → List ℕ → Type 0
 Answers Holds Keeps (Meet value) Done text = PrintsMeeting value text
 Answers Holds Keeps (Play name) Done text = OfSchedule Holds name.now (λ bytes. IsPlayed bytes text)
@@ -49,6 +57,8 @@ Answers Holds Keeps (Replay script journal rows) Done text = OfFiles Holds scrip
 Answers Holds Keeps (Replay script journal rows) Unlawful text = OfFiles Holds script.now journal.now (λ s read. Fits read × IsNoRun s rows read text)
 Answers Holds Keeps (Run script workers rows journal quiet) Done text = (bytes : List ℕ) × Holds script.now bytes × (s : Script) × Spells bytes s
     × (lines rest : List ℕ) × TellsRun s rows lines rest × IfSome journal (λ name. Keeps name.now lines) × (text ≡ printed quiet lines rest)
+Answers Holds Keeps (Chart script journal rows from to) Done text = OfFiles Holds script.now journal.now (λ s read. Fits read × IsCharted s rows read from to text)
+Answers Holds Keeps (Chart script journal rows from to) Unlawful text = OfFiles Holds script.now journal.now (λ s read. Fits read × IsNoRun s rows read text)
 Answers Holds Keeps (Explain number) Done text = Explains number text
 Answers Holds Keeps asked Unlawful text = ⊥
 
@@ -75,6 +85,14 @@ FailsRead Holds faults.Unread = Unit {0}
 FailsRead Holds faults.TooLarge = (bytes : List ℕ) × Holds bytes × IsTooLarge bytes
 FailsRead Holds fault = ⊥
 
+-- what a fault of reading a script and a journal of it says
+abbrev pub FailsReplay : Files → List ℕ → List ℕ → Fault → Type 0
+FailsReplay Holds script journal faults.Memory = Unit {0}
+FailsReplay Holds script journal faults.Unread = Unit {0}
+FailsReplay Holds script journal faults.TooLarge = OfFiles Holds script journal (λ s read. IsTooLarge read)
+FailsReplay Holds script journal (faults.BadLine line) = OfFiles Holds script journal (λ s read. Fits read × journals.IsFirstBadLine s read line)
+FailsReplay Holds script journal fault = FailsScript Holds script fault
+
 -- what a fault says of the request: `meet` lacks only memory or a thread, and the others may also fail by a file or by what it holds
 abbrev pub Fails : Files → Request → Fault → Type 0
 Fails Holds (Meet value) fault = (fault ≡ faults.Memory) ⊎ (fault ≡ faults.NoThread)
@@ -86,11 +104,8 @@ Fails Holds (Play name) (faults.NotAllowed step) = OfSchedule Holds name.now (λ
 Fails Holds (Play name) fault = ⊥
 Fails Holds (Check name) fault = FailsParse Holds name.now fault
 Fails Holds (Explain number) fault = fault ≡ faults.Memory
-Fails Holds (Replay script journal rows) faults.Memory = Unit {0}
-Fails Holds (Replay script journal rows) faults.Unread = Unit {0}
-Fails Holds (Replay script journal rows) faults.TooLarge = OfFiles Holds script.now journal.now (λ s read. IsTooLarge read)
-Fails Holds (Replay script journal rows) (faults.BadLine line) = OfFiles Holds script.now journal.now (λ s read. Fits read × journals.IsFirstBadLine s read line)
-Fails Holds (Replay script journal rows) fault = FailsScript Holds script.now fault
+Fails Holds (Chart script journal rows from to) fault = FailsReplay Holds script.now journal.now fault
+Fails Holds (Replay script journal rows) fault = FailsReplay Holds script.now journal.now fault
 Fails Holds (Run script workers rows journal quiet) faults.Memory = Unit {0}
 Fails Holds (Run script workers rows journal quiet) faults.Unread = Unit {0}
 Fails Holds (Run script workers rows journal quiet) faults.NoThread = Unit {0}

@@ -5,4 +5,5 @@ pub mod Check
 pub mod Standings
 pub mod Replay
 pub mod Run
+pub mod Charting
 pub mod Command

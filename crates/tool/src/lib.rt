@@ -2,6 +2,7 @@
 //! and any two streams. What each request prints is a call of its own.
 #![tactic(auto)]
 
+mod charting;
 mod check;
 mod fault;
 mod meeting;
@@ -12,6 +13,7 @@ mod replay;
 mod request;
 mod run;
 
+pub use crate::charting::chart_journal;
 pub use crate::check::check_text;
 pub use crate::fault::Fault;
 pub use crate::meeting::{MeetFault, meet_text};

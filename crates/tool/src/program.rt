@@ -8,11 +8,12 @@ ghost use Rattle.tool.specs.declared.request.Request.{Request};
 ghost use Rattle.tool.specs.declared.fault.Fault.TheVariants.{Memory, Unwritten};
 ghost use Rattle.tool.specs.declared.program.Verdict.TheVariants.{Done};
 ghost use Rattle.tool.specs.Check.{IsChecked};
-ghost use Rattle.tool.specs.Command.{Answers, Began, CanBeAnswered, Fails, FailsParse, FailsRead};
+ghost use Rattle.tool.specs.Command.{Answers, IsJudged, Began, CanBeAnswered, Fails, FailsParse, FailsRead};
 ghost use Rattle.explain.specs.Faults.{Explains, is_fault};
 ghost use Rattle.files.specs.Files.{Fits};
 ghost use Rattle.tool.specs.Run.{printed};
 
+use crate::charting::chart_journal;
 use crate::check::check_text;
 use crate::fault::Fault;
 use crate::meeting::meet_text;
@@ -104,6 +105,16 @@ fn keep_journal<S: Source>(
     Ok(rest.unwrap_or(text))
 }
 
+/// What comes of a journal, with its verdict.
+fn judged(replayed: Replayed) -> (Verdict, Vec<u8>)
+    ensures { IsJudged replayed result.0 result.1.items }
+{
+    match replayed {
+        Replayed::Lawful(text) => (Verdict::Done, text),
+        Replayed::Unlawful(text) => (Verdict::Unlawful, text),
+    }
+}
+
 /// What a fault means.
 fn explain_text(alloc: Global, number: u16) -> Result<Vec<u8>, AllocError>
     requires { IsTrue (is_fault number) }
@@ -130,6 +141,17 @@ fn answer<R: Threads + Wait + Sync, S: Source>(
             let bytes = read_bounded(source, name)?;
             Ok((Verdict::Done, play_text(alloc, bytes.as_slice())?))
         }
+        Request::Chart {
+            script,
+            journal,
+            rows,
+            from,
+            to,
+        } => {
+            let script = read_script(alloc, source, script)?;
+            let journal = read_bounded(source, journal)?;
+            Ok(judged(chart_journal(alloc, &script, journal.as_slice(), rows, from, to)?))
+        }
         Request::Explain(number) => Ok((Verdict::Done, explain_text(alloc, number)?)),
         Request::Check(name) => Ok((Verdict::Done, check_file(alloc, source, name)?)),
         Request::Run {
@@ -153,10 +175,7 @@ fn answer<R: Threads + Wait + Sync, S: Source>(
         } => {
             let script = read_script(alloc, source, script)?;
             let journal = read_bounded(source, journal)?;
-            match replay_text(alloc, &script, journal.as_slice(), rows)? {
-                Replayed::Lawful(text) => Ok((Verdict::Done, text)),
-                Replayed::Unlawful(text) => Ok((Verdict::Unlawful, text)),
-            }
+            Ok(judged(replay_text(alloc, &script, journal.as_slice(), rows)?))
         }
     }
 }

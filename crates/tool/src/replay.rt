@@ -55,7 +55,7 @@ fn push_lawful_line(out: &mut String, commits: usize, maximal: bool) -> Result<(
     out.push_str("\n")
 }
 
-fn unlawful_line(alloc: Global, line: usize) -> Result<String, AllocError>
+pub(crate) fn unlawful_line(alloc: Global, line: usize) -> Result<String, AllocError>
     ensures { IfOk result (λ text. string_bytes text ≡ unlawful_line line) }
 {
     format!(in alloc; "unlawful at line {line}\n")

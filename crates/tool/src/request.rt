@@ -27,6 +27,15 @@ pub enum Request<'a> {
         journal: Option<&'a str>,
         quiet: bool,
     },
+    /// The chart of the journal in a file, against the script in another, of so many rows a process: the
+    /// commits with a stamp from one to another.
+    Chart {
+        script: &'a str,
+        journal: &'a str,
+        rows: u16,
+        from: u32,
+        to: u32,
+    },
     /// What the fault of this number means.
     Explain(u16),
     /// Where the journal in a file leads the script in another, of so many rows a process.
@@ -107,6 +116,42 @@ fn run_command<'a>(alloc: Global) -> Result<Command<'a>, AllocError> {
         .arg(quiet)
 }
 
+fn stamp_argument<'a>(
+    alloc: Global,
+    name: &'a str,
+    stamp: &'a str,
+    help: &'a str,
+) -> Result<Arg<'a>, AllocError> {
+    Arg::new(alloc, name)
+        .long(name)
+        .action(ArgAction::Set)
+        .value_name("S")
+        .value_parser(value_parser!(u32))
+        .default_value(stamp)
+        .help(help)
+}
+
+fn chart_command<'a>(alloc: Global) -> Result<Command<'a>, AllocError> {
+    Command::new(alloc, "chart")
+        .about("Draws a journal as a chart (SVG)")
+        .arg(file_argument(alloc, "file", "FILE", "The script"))?
+        .arg(file_argument(alloc, "journal", "JOURNAL", "The journal"))?
+        .arg(rows_argument(alloc))?
+        .arg(stamp_argument(alloc, "from", "0", "The first stamp that is drawn"))?
+        .arg(stamp_argument(alloc, "to", "4294967295", "The last stamp that is drawn"))
+}
+
+/// The request of `chart`, by the words behind it.
+fn chart_request<'a>(chart: &ArgMatches<'a>) -> Option<Request<'a>> {
+    Some(Request::Chart {
+        script: chart.get_str("file")?,
+        journal: chart.get_str("journal")?,
+        rows: chart.get_one("rows")?,
+        from: chart.get_one("from")?,
+        to: chart.get_one("to")?,
+    })
+}
+
 fn explain_command<'a>(alloc: Global) -> Result<Command<'a>, AllocError> {
     let number = Arg::new(alloc, "number")
         .required(true)
@@ -158,6 +203,7 @@ fn command_line<'a>(alloc: Global) -> Result<Command<'a>, AllocError> {
         .subcommand(check_command(alloc)?)?
         .subcommand(run_command(alloc)?)?
         .subcommand(replay_command(alloc)?)?
+        .subcommand(chart_command(alloc)?)?
         .subcommand(explain_command(alloc)?)
 }
 
@@ -171,6 +217,11 @@ fn objection(asked: &Request<'_>) -> Option<&'static str>
             None => Some("no fault has this number"),
         },
         Request::Replay {
+            script: "-",
+            journal: "-",
+            ..
+        }
+        | Request::Chart {
             script: "-",
             journal: "-",
             ..
@@ -195,6 +246,7 @@ pub fn read_words<'a>(alloc: Global, words: &'a [&'a str]) -> Result<Request<'a>
         Some(("check", check)) => check.get_str("file").map(|name| Request::Check(name)),
         Some(("run", run)) => run_request(run),
         Some(("replay", replay)) => replay_request(replay),
+        Some(("chart", chart)) => chart_request(chart),
         Some(("explain", explain)) => {
             explain
                 .get_one("number")
