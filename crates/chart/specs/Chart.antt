@@ -1,5 +1,5 @@
 -- A chart: what its text is, and of which commits.
-use Rattle.std.specs.Prelude.{◌≡◌, ◌+◌, ◌==◌, ℕ, zero, suc, Bool, true, false, if◌then◌else◌, List, [], ◌∷◌, ◌++◌, length, codes, Option, Some, slice_get, get_or, nat_le}
+use Rattle.std.specs.Prelude.{◌≡◌, ◌+◌, ◌*◌, ◌==◌, ℕ, zero, suc, Bool, true, false, if◌then◌else◌, List, [], ◌++◌, length, codes, Option, Some, slice_get, get_or, nat_le}
 use Rattle.std.specs.Fmt.{decimal}
 use Rattle.std.specs.List.{flat_map}
 use Rattle.thread.specs.declared.Fault.TheVariants.{Unset, Kind, Range, Shape}
@@ -43,11 +43,16 @@ unfoldable pub style : List ℕ
 style =
     codes "<style>text{stroke:white;stroke-width:3px;paint-order:stroke}.s{text-anchor:start}path{stroke:black;fill:none}.n{stroke-dasharray:4 4}.a{marker-start:url(#tail);marker-end:url(#head)}</style>\n"
 
--- how an arrow begins and ends
-unfoldable pub arrow_ends : List ℕ
-arrow_ends =
-    codes "<defs><marker id='tail' viewBox='-4 -4 8 8' markerWidth='8' markerHeight='8'><circle r='2.5' fill='white' stroke='black'/></marker>"
-    ++ codes "<marker id='head' viewBox='0 0 9 8' refX='9' refY='4' markerWidth='9' markerHeight='8'><path d='M0 0L9 4L0 8z' style='fill:black;stroke:none'/></marker></defs>\n"
+-- how an arrow begins
+unfoldable pub arrow_tail : List ℕ
+arrow_tail = codes "<defs><marker id='tail' viewBox='-4 -4 8 8' markerWidth='8' markerHeight='8'><circle r='2.5' fill='white' stroke='black'/></marker>"
+
+-- and how it ends
+unfoldable pub arrow_head : List ℕ
+arrow_head = codes "<marker id='head' viewBox='0 0 9 8' refX='9' refY='4' markerWidth='9' markerHeight='8'><path d='M0 0L9 4L0 8z' style='fill:black;stroke:none'/></marker></defs>\n"
+
+unfoldable pub background : List ℕ
+background = codes "<rect width='100%' height='100%' fill='white'/>\n"
 
 unfoldable pub page : ℕ → ℕ → List ℕ
 page width tall =
@@ -55,7 +60,7 @@ page width tall =
     ++ codes "' font-family='monospace' font-size='12' text-anchor='middle'>\n"
 
 abbrev pub front : ℕ → ℕ → List ℕ
-front threads low = page (page_width threads) (page_height low) ++ style ++ arrow_ends ++ codes "<rect width='100%' height='100%' fill='white'/>\n"
+front threads low = page (page_width threads) (page_height low) ++ style ++ arrow_tail ++ arrow_head ++ background
 
 -- THE HEADING
 

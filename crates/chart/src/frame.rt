@@ -1,10 +1,11 @@
 //! What stands round the marks: the page, the heading, and the lines of life with their ends.
 
-ghost use Rattle.std.specs.Prelude.{◌≡◌, ◌++◌, ◌<◌, ◌≤◌, ◌^◌, OnOk, length};
+ghost use Rattle.std.specs.Prelude.{◌≡◌, ◌++◌, ◌<◌, ◌≤◌, ◌+◌, ◌^◌, OnOk, length};
 ghost use Rattle.std.specs.String.{string_bytes};
 ghost use Rattle.journal_text.specs.Names.{names_of, naming};
 ghost use Rattle.script.specs.Scripts.{script_of};
-ghost use Rattle.chart.specs.Chart.{arrow_ends, cut_text, each_below, end_at, end_mark, end_text, foot, front, heading_of, lifeline, line, page, page_height, page_width, stamps_text, style};
+ghost use Rattle.chart.specs.Chart.{arrow_head, arrow_tail, background, cut_text, each_below, end_at, end_mark, end_text, foot, front, heading_of, lifeline, line, page, page_height, page_width, stamps_text, style};
+ghost use Rattle.chart.specs.Places.{column};
 
 use crate::label::{push_centered, push_starting, push_text_end, push_thread};
 use crate::places::column;
@@ -31,16 +32,29 @@ fn push_style(out: &mut String) -> Result<(), AllocError>
     )
 }
 
-/// How an arrow begins and ends.
-fn push_arrow_ends(out: &mut String) -> Result<(), AllocError>
-    ensures { OnOk result (string_bytes out.new ≡ string_bytes out.old ++ arrow_ends) }
+#[tactic(auto, unfolding(crate::specs::Chart::arrow_tail))]
+fn push_arrow_tail(out: &mut String) -> Result<(), AllocError>
+    ensures { OnOk result (string_bytes out.new ≡ string_bytes out.old ++ arrow_tail) }
 {
     out.push_str(
         "<defs><marker id='tail' viewBox='-4 -4 8 8' markerWidth='8' markerHeight='8'><circle r='2.5' fill='white' stroke='black'/></marker>",
-    )?;
+    )
+}
+
+#[tactic(auto, unfolding(crate::specs::Chart::arrow_head))]
+fn push_arrow_head(out: &mut String) -> Result<(), AllocError>
+    ensures { OnOk result (string_bytes out.new ≡ string_bytes out.old ++ arrow_head) }
+{
     out.push_str(
         "<marker id='head' viewBox='0 0 9 8' refX='9' refY='4' markerWidth='9' markerHeight='8'><path d='M0 0L9 4L0 8z' style='fill:black;stroke:none'/></marker></defs>\n",
     )
+}
+
+#[tactic(auto, unfolding(crate::specs::Chart::background))]
+fn push_background(out: &mut String) -> Result<(), AllocError>
+    ensures { OnOk result (string_bytes out.new ≡ string_bytes out.old ++ background) }
+{
+    out.push_str("<rect width='100%' height='100%' fill='white'/>\n")
 }
 
 /// The page of so many threads, whose lines of life end at this height.
@@ -51,8 +65,9 @@ pub(crate) fn push_front(out: &mut String, threads: usize, low: u64) -> Result<(
 {
     push_page(out, 140 * threads as u64 + 140, low + 32)?;
     push_style(out)?;
-    push_arrow_ends(out)?;
-    out.push_str("<rect width='100%' height='100%' fill='white'/>\n")
+    push_arrow_tail(out)?;
+    push_arrow_head(out)?;
+    push_background(out)
 }
 
 fn push_stamps(out: &mut String, count: usize, from: u32, last: u32) -> Result<(), AllocError>
@@ -134,10 +149,11 @@ fn end_text(end: End) -> &'static str
     }
 }
 
-fn push_end(out: &mut String, x: u64, y: u64, end: End) -> Result<(), AllocError>
-    ensures { OnOk result (string_bytes out.new ≡ string_bytes out.old ++ end_at x y end) }
+fn push_end(out: &mut String, thread: u8, low: u64, end: End) -> Result<(), AllocError>
+    requires { low < 2 ^ 60 }
+    ensures { OnOk result (string_bytes out.new ≡ string_bytes out.old ++ end_at (column thread) (low + 18) end) }
 {
-    push_centered(out, x, y)?;
+    push_centered(out, column(thread), low + 18)?;
     out.push_str(end_text(end))?;
     push_text_end(out)
 }
@@ -149,7 +165,7 @@ pub(crate) fn push_ends(out: &mut String, ends: &[End], low: u64) -> Result<(), 
     ensures { OnOk result (string_bytes out.new ≡ string_bytes out.old ++ each_below (length ends.now) (end_mark ends.now low)) }
 {
     for thread in 0..ends.len() {
-        push_end(out, column(thread as u8), low + 18, ends[thread])?;
+        push_end(out, thread as u8, low, ends[thread])?;
     }
     Ok(())
 }

@@ -1,6 +1,6 @@
 //! The commits that a chart shows.
 
-ghost use Rattle.std.specs.Prelude.{◌≡◌, ◌↔◌, ◌<◌, ◌≤◌, IsTrue, IfOk};
+ghost use Rattle.std.specs.Prelude.{◌≡◌, ◌↔◌, ◌<◌, ◌≤◌, IsTrue, IfOk, max};
 ghost use Rattle.words.specs.Commits.{stamp_of};
 ghost use Rattle.chart.specs.Range.{IsEnd, count_shown, greatest, shown};
 
@@ -68,12 +68,19 @@ pub(crate) fn shown(
     Ok(found)
 }
 
+/// The stamp of the commit, or another where that is greater.
+fn greater(commit: &Commit, other: u32) -> u32
+    ensures { result ≡ max (stamp_of commit.now) other }
+{
+    commit.order().0.max(other)
+}
+
 pub(crate) fn greatest(commits: &[Commit]) -> u32
     ensures { result ≡ greatest commits.now }
 {
     let mut greatest = 0;
     for commit in commits {
-        greatest = commit.order().0.max(greatest);
+        greatest = greater(commit, greatest);
     }
     greatest
 }
