@@ -116,12 +116,7 @@ fn run_command<'a>(alloc: Global) -> Result<Command<'a>, AllocError> {
         .arg(quiet)
 }
 
-fn stamp_argument<'a>(
-    alloc: Global,
-    name: &'a str,
-    stamp: &'a str,
-    help: &'a str,
-) -> Result<Arg<'a>, AllocError> {
+fn stamp_argument<'a>(alloc: Global, name: &'a str, stamp: &'a str, help: &'a str) -> Arg<'a> {
     Arg::new(alloc, name)
         .long(name)
         .action(ArgAction::Set)

@@ -5,8 +5,8 @@ use Rattle.tool.specs.declared.program.Verdict.TheVariants.{Done}
 use Rattle.tool.specs.Command.{Answers}
 use Rattle.tool.proofs.program.answer.Goals as goal
 
-pub returns-in-Run-clause-done : goal.returns-in-Run-clause-done
-returns-in-Run-clause-done g c =
+pub returns-in_ok-keep_journal-in-Run-clause-done : goal.returns-in_ok-keep_journal-in-Run-clause-done
+returns-in_ok-keep_journal-in-Run-clause-done g c =
     let read = c.in_ok-script-in-Run.ensures.read in
     let ran = c.in_ok-ran-in-Run.ran in
     let kept = c.in_ok-keep_journal-in-Run.ensures in
