@@ -49,7 +49,7 @@ arrow_tail = codes "<defs><marker id='tail' viewBox='-4 -4 8 8' markerWidth='8' 
 
 -- and how it ends
 unfoldable pub arrow_head : List ℕ
-arrow_head = codes "<marker id='head' viewBox='0 0 9 8' refX='9' refY='4' markerWidth='9' markerHeight='8'><path d='M0 0L9 4L0 8z' style='fill:black;stroke:none'/></marker></defs>\n"
+arrow_head = codes "<marker id='head' viewBox='0 0 9 8' refX='9' refY='4' markerWidth='9' markerHeight='8' orient='auto'><path d='M0 0L9 4L0 8z' style='fill:black;stroke:none'/></marker></defs>\n"
 
 unfoldable pub background : List ℕ
 background = codes "<rect width='100%' height='100%' fill='white'/>\n"

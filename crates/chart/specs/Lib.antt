@@ -3,3 +3,4 @@ pub mod Range
 pub mod Marks
 pub mod Chart
 pub mod Drawn
+pub mod Plain

@@ -7,6 +7,7 @@ ghost use Rattle.script.specs.Scripts.{script_of};
 ghost use Rattle.sequential.specs.Replays.{fired_by, thread_count};
 ghost use Rattle.chart.specs.Chart.{IsChart, TellsEnds, picture_text};
 ghost use Rattle.chart.specs.Drawn.{picture_of};
+ghost use Rattle.chart.specs.Plain.{NamesArePlain, MessagesArePlain, CausesArePlain};
 
 use crate::frame::{push_ends, push_foot, push_front, push_heading, push_lifelines};
 use crate::mark::push_marks;
@@ -92,3 +93,11 @@ pub fn chart_text(
     };
     picture_text(alloc, script, state, &drawing)
 }
+
+/// Nothing that is written between the marks can be read as markup: in the names of a script that some text
+/// spells, and in the messages and causes of commits that have a line, no byte is `<`, `>`, `&` or a quote.
+pub fn chart_laws()
+    ensures names { NamesArePlain }
+    ensures messages { MessagesArePlain }
+    ensures causes { CausesArePlain }
+{}

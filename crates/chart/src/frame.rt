@@ -46,7 +46,7 @@ fn push_arrow_head(out: &mut String) -> Result<(), AllocError>
     ensures { OnOk result (string_bytes out.new ≡ string_bytes out.old ++ arrow_head) }
 {
     out.push_str(
-        "<marker id='head' viewBox='0 0 9 8' refX='9' refY='4' markerWidth='9' markerHeight='8'><path d='M0 0L9 4L0 8z' style='fill:black;stroke:none'/></marker></defs>\n",
+        "<marker id='head' viewBox='0 0 9 8' refX='9' refY='4' markerWidth='9' markerHeight='8' orient='auto'><path d='M0 0L9 4L0 8z' style='fill:black;stroke:none'/></marker></defs>\n",
     )
 }
 

@@ -12,4 +12,4 @@ mod mark;
 mod places;
 mod range;
 
-pub use crate::chart::chart_text;
+pub use crate::chart::{chart_laws, chart_text};
