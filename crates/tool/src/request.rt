@@ -132,7 +132,7 @@ fn chart_command<'a>(alloc: Global) -> Result<Command<'a>, AllocError> {
         .arg(file_argument(alloc, "file", "FILE", "The script"))?
         .arg(file_argument(alloc, "journal", "JOURNAL", "The journal"))?
         .arg(rows_argument(alloc))?
-        .arg(stamp_argument(alloc, "from", "0", "The first stamp that is drawn"))?
+        .arg(stamp_argument(alloc, "from", "1", "The first stamp that is drawn"))?
         .arg(stamp_argument(alloc, "to", "4294967295", "The last stamp that is drawn"))
 }
 
