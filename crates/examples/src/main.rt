@@ -55,7 +55,7 @@ const WORKERS: u8 = 4;
 const ROWS: u16 = 256;
 
 /// Does what the words ask for. It fails where that is not done.
-fn ask<R: Files + Print + AllocGlobal + Threads + Wait + Sync, E: Write>(
+fn ask<R: Files + Input + Print + AllocGlobal + Threads + Wait + Sync, E: Write>(
     rt: &R,
     words: &[&str],
     err: &mut E,
@@ -70,7 +70,7 @@ fn ask<R: Files + Print + AllocGlobal + Threads + Wait + Sync, E: Write>(
 }
 
 /// Runs the script and replays the journal that came out. It fails where that is no maximal run.
-fn run_and_replay<R: Files + Print + AllocGlobal + Threads + Wait + Sync>(
+fn run_and_replay<R: Files + Input + Print + AllocGlobal + Threads + Wait + Sync>(
     rt: &R,
     name: &str,
 ) -> Result<()> {
@@ -95,7 +95,7 @@ fn is_maximal(replayed: &Replayed) -> bool {
 
 /// Prints the example's name, what its script has, where its journal leads, and what its run prints, if
 /// that is always the same.
-fn show<R: Files + Print + AllocGlobal + Threads + Wait + Sync, E: Write>(
+fn show<R: Files + Input + Print + AllocGlobal + Threads + Wait + Sync, E: Write>(
     rt: &R,
     example: &Example,
     err: &mut E,
