@@ -2,14 +2,14 @@
 use Rattle.std.specs.Prelude.{◌≡◌, ◌+◌, ◌*◌, ◌==◌, ℕ, zero, suc, Bool, true, false, if◌then◌else◌, List, [], ◌++◌, length, codes, Option, Some, slice_get, get_or, nat_le}
 use Rattle.std.specs.Fmt.{decimal}
 use Rattle.std.specs.List.{flat_map}
-use Rattle.thread.specs.declared.Fault.TheVariants.{Unset, Kind, Range, Shape}
 use Rattle.words.specs.declared.Commit.{Commit}
 use Rattle.words.specs.declared.NackName.{NackName}
 use Rattle.script.specs.Sources.{Script}
 use Rattle.journal_text.specs.Names.{Naming, names_of, naming}
+use Rattle.pieces.specs.Ends.{end_text}
 use Rattle.sequential.specs.Replays.{TellsEnd, TellsFired, thread_count}
 use Rattle.sequential.specs.declared.end.End.{End}
-use Rattle.sequential.specs.declared.end.End.TheVariants.{Ended, Waiting, Spent, Faulted}
+use Rattle.sequential.specs.declared.end.End.TheVariants.{Ended}
 use Rattle.sequential.specs.declared.state.State.{State}
 use Rattle.chart.specs.Marks.{centered, mark, starting, text_end}
 use Rattle.chart.specs.Places.{bottom, column}
@@ -87,15 +87,6 @@ line x low = codes "<path d='M" ++ decimal x ++ codes " 52V" ++ decimal low ++ c
 -- the name of the thread, and its line
 abbrev pub lifeline : Naming → ℕ → ℕ → List ℕ
 lifeline names low t = centered (column t) 42 ++ names.thread t ++ text_end ++ line (column t) low
-
-abbrev pub end_text : End → List ℕ
-end_text Ended = codes "ended"
-end_text Waiting = codes "waiting"
-end_text Spent = codes "spent"
-end_text (Faulted Unset) = codes "faulted unset"
-end_text (Faulted Kind) = codes "faulted kind"
-end_text (Faulted Range) = codes "faulted range"
-end_text (Faulted Shape) = codes "faulted shape"
 
 abbrev pub end_at : ℕ → ℕ → End → List ℕ
 end_at x y end = centered x y ++ end_text end ++ text_end

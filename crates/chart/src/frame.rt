@@ -4,15 +4,15 @@ ghost use Rattle.std.specs.Prelude.{◌≡◌, ◌++◌, ◌<◌, ◌≤◌, ◌
 ghost use Rattle.std.specs.String.{string_bytes};
 ghost use Rattle.journal_text.specs.Names.{names_of, naming};
 ghost use Rattle.script.specs.Scripts.{script_of};
-ghost use Rattle.chart.specs.Chart.{arrow_head, arrow_tail, background, cut_text, each_below, end_at, end_mark, end_text, foot, front, heading_of, lifeline, line, page, page_height, page_width, stamps_text, style};
+ghost use Rattle.chart.specs.Chart.{arrow_head, arrow_tail, background, cut_text, each_below, end_at, end_mark, foot, front, heading_of, lifeline, line, page, page_height, page_width, stamps_text, style};
 ghost use Rattle.chart.specs.Places.{column};
 
-use crate::label::{push_centered, push_starting, push_text_end, push_thread};
+use crate::label::{push_centered, push_starting, push_text_end};
 use crate::places::column;
+use pieces::{end_text, push_thread};
 use script::Script;
 use sequential::End;
 use std::alloc::AllocError;
-use thread::Fault;
 
 fn push_page(out: &mut String, width: u64, tall: u64) -> Result<(), AllocError>
     ensures { OnOk result (string_bytes out.new ≡ string_bytes out.old ++ page width tall) }
@@ -133,20 +133,6 @@ pub(crate) fn push_lifelines(
         push_lifeline(out, script, low, thread as u8)?;
     }
     Ok(())
-}
-
-fn end_text(end: End) -> &'static str
-    ensures { result.now ≡ end_text end }
-{
-    match end {
-        End::Ended => "ended",
-        End::Waiting => "waiting",
-        End::Spent => "spent",
-        End::Faulted(Fault::Unset) => "faulted unset",
-        End::Faulted(Fault::Kind) => "faulted kind",
-        End::Faulted(Fault::Range) => "faulted range",
-        End::Faulted(Fault::Shape) => "faulted shape",
-    }
 }
 
 fn push_end(out: &mut String, thread: u8, low: u64, end: End) -> Result<(), AllocError>

@@ -8,10 +8,9 @@ ghost use Rattle.script.specs.Scripts.{script_of};
 ghost use Rattle.sequential.specs.Replays.{fired_by};
 ghost use Rattle.chart.specs.Marks.{arrow, cause_line, dashes, dot, mark, nack_line, stamp_text};
 
-use crate::label::{
-    push_cause, push_centered, push_channel, push_message, push_starting, push_text_end,
-};
+use crate::label::{push_centered, push_starting, push_text_end};
 use crate::places::{column, gap, height};
+use pieces::{push_cause, push_channel, push_message};
 use script::Script;
 use sequential::State;
 use std::alloc::AllocError;

@@ -16,14 +16,12 @@ ghost use Rattle.journal_text.specs.Texts.{commits_text};
 ghost use Rattle.journal_text.specs.declared.JournalFault.TheVariants.{Memory};
 ghost use Rattle.script.specs.Scripts.{script_of};
 
-mod atom;
 mod labels;
 mod line;
 mod listing;
 mod names;
 mod writing;
 
-pub use crate::atom::push_atom;
 use crate::labels::Labels;
 use crate::line::Front;
 use crate::names::Names;

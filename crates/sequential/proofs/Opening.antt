@@ -8,6 +8,7 @@ use Rattle.syntax.specs.Trees.{Block, block_of}
 use Rattle.thread.specs.After.{Chosen, Offers, Finishes, Fails, after}
 use Rattle.thread.specs.Machines.{Thread, Phase, Ready, Open, Over, Stuck, Broken, IsAfterAt, HasStopped, offers_in, nacks_in}
 use Rattle.words.specs.declared.Offer.{Offer}
+use Rattle.sequential.specs.Replays.{OpensAs, offered, scoped}
 use Rattle.sequential.specs.Runs.{IsOffering}
 use Rattle.sequential.specs.Standing.{MachineStands}
 
@@ -81,3 +82,21 @@ offers-now ps t results m Broken event s stopped is_after offering = absurd stop
 -- a thread that offers an event has an open machine with its offers
 pub offers-are : (ps : List Proc) (t : ℕ) (results : List Chosen) (m : Thread) (event : Tree) → MachineStands ps t results m → IsOffering ps t results event → offers_in m.phase ≡ offers event
 offers-are ps t results m event s offering = offers-now ps t results m m.phase event s s.stopped s.after offering
+
+open-now : (ps : List Proc) (t : ℕ) (results : List Chosen) (m : Thread) (p : Phase) → MachineStands ps t results m → HasStopped p → IsAfterAt m p → OpensAs ps t results (offers_in p) (nacks_in p)
+open-now ps t results m Ready s stopped is_after = absurd stopped
+open-now ps t results m (Open os ns) s stopped is_after = record {
+  process = s.process;
+  is_its = s.is_its;
+  offers = sym is_after.offers ∙ ap offered (sym is_after.after ∙ moved ps t results m s);
+  nacks_are = sym is_after.nacks ∙ ap scoped (sym is_after.after ∙ moved ps t results m s);
+}
+open-now ps t results m Over s stopped is_after =
+    record { process = s.process; is_its = s.is_its; offers = ap offered (sym is_after ∙ moved ps t results m s); nacks_are = ap scoped (sym is_after ∙ moved ps t results m s) }
+open-now ps t results m (Stuck fault) s stopped is_after =
+    record { process = s.process; is_its = s.is_its; offers = ap offered (sym is_after ∙ moved ps t results m s); nacks_are = ap scoped (sym is_after ∙ moved ps t results m s) }
+open-now ps t results m Broken s stopped is_after = absurd stopped
+
+-- what a thread's machine offers is what the thread offers
+pub opens-as : (ps : List Proc) (t : ℕ) (results : List Chosen) (m : Thread) → MachineStands ps t results m → OpensAs ps t results (offers_in m.phase) (nacks_in m.phase)
+opens-as ps t results m s = open-now ps t results m m.phase s s.stopped s.after

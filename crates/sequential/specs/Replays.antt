@@ -1,9 +1,12 @@
 -- What a replay answers.
-use Rattle.std.specs.Prelude.{ℕ, List, ◌++◌, length, Option, Some, None, ⊤}
+use Rattle.std.specs.Prelude.{◌≡◌, ℕ, List, [], ◌++◌, length, Option, Some, None, slice_get, ⊤}
+use Rattle.event.specs.Tree.{offers, scope_nacks}
 use Rattle.syntax.specs.Processes.{Proc}
+use Rattle.thread.specs.After.{Chosen, Outcome, Offers, State as Thread, after}
 use Rattle.words.specs.declared.Atom.{Atom}
 use Rattle.words.specs.declared.Commit.{Commit}
 use Rattle.words.specs.declared.NackName.{NackName}
+use Rattle.words.specs.declared.Offer.{Offer}
 use Rattle.sequential.specs.declared.end.End.{End}
 use Rattle.sequential.specs.declared.state.State.{State}
 use Rattle.sequential.specs.declared.state.ReplayFault.{ReplayFault}
@@ -28,6 +31,27 @@ TellsEnd s t end =
 abbrev pub TellsOutput : State → ℕ → List Atom → Type 0
 TellsOutput s t printed =
     (ps : List Proc) (rows : ℕ) (journal : List Commit) → StandsAfter ps rows journal s → (end : End) × EndsAs ps rows t (config_of journal) end printed
+
+-- the offers of the event that a process came to, and the nacks of its scopes; none where it came to no event
+abbrev pub offered : Outcome Thread → List Offer
+offered (Offers event printed) = offers event
+offered outcome = []
+
+abbrev pub scoped : Outcome Thread → List ℕ
+scoped (Offers event printed) = scope_nacks event
+scoped outcome = []
+
+-- after these results the thread of this number makes these offers, and no other, with these nacks
+pub record OpensAs (ps : List Proc) (t : ℕ) (results : List Chosen) (os : List Offer) (nacks : List ℕ) : Type 0 where
+  pub process : Proc
+  pub is_its : slice_get ps t ≡ Some process
+  pub offers : os ≡ offered (after process.body (length process.variables) t results)
+  pub nacks_are : nacks ≡ scoped (after process.body (length process.variables) t results)
+
+-- what a state says of a thread's open sync
+abbrev pub TellsOpen : State → ℕ → List Offer → List ℕ → Type 0
+TellsOpen s t os nacks =
+    (ps : List Proc) (rows : ℕ) (journal : List Commit) → StandsAfter ps rows journal s → OpensAs ps t (config_of journal t) os nacks
 
 -- the stamp that a state has for a nack
 abbrev pub fired_by : State → NackName → Option ℕ

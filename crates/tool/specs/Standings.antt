@@ -3,12 +3,11 @@ use Rattle.std.specs.Prelude.{◌≡◌, ℕ, List, [], ◌∷◌, ◌++◌, len
 use Rattle.std.specs.List.{flat_map}
 use Rattle.words.specs.declared.Atom.{Atom}
 use Rattle.syntax.specs.Processes.{Proc}
-use Rattle.thread.specs.declared.Fault.TheVariants.{Unset, Kind, Range, Shape}
 use Rattle.journal_text.specs.Names.{Naming}
 use Rattle.journal_text.specs.Texts.{atom_text}
+use Rattle.pieces.specs.Ends.{end_text}
 use Rattle.sequential.specs.Runs.{Config, EndsAs}
 use Rattle.sequential.specs.declared.end.End.{End}
-use Rattle.sequential.specs.declared.end.End.TheVariants.{Ended, Waiting, Spent, Faulted}
 
 -- THE LINE OF A PROCESS
 
@@ -17,15 +16,6 @@ pub record Standing : Type 0 where
   pub thread : ℕ
   pub end : End
   pub printed : List Atom
-
-abbrev pub end_text : End → List ℕ
-end_text Ended = codes "ended"
-end_text Waiting = codes "waiting"
-end_text Spent = codes "spent"
-end_text (Faulted Unset) = codes "faulted unset"
-end_text (Faulted Kind) = codes "faulted kind"
-end_text (Faulted Range) = codes "faulted range"
-end_text (Faulted Shape) = codes "faulted shape"
 
 -- each atom behind a space
 abbrev pub printed_text : Naming → List Atom → List ℕ

@@ -4,28 +4,13 @@ ghost use Rattle.std.specs.Prelude.{◌≡◌, ◌++◌, ◌<◌, OnOk, length};
 ghost use Rattle.std.specs.String.{string_bytes};
 ghost use Rattle.script.specs.Scripts.{script_of};
 ghost use Rattle.journal_text.specs.Names.{names_of, naming};
-ghost use Rattle.tool.specs.Standings.{end_text, printed_text, process_line};
+ghost use Rattle.tool.specs.Standings.{printed_text, process_line};
 
-use journal_text::push_atom;
+use pieces::{end_text, push_atom};
 use script::Script;
 use sequential::End;
 use std::alloc::AllocError;
-use thread::Fault;
 use words::Atom;
-
-fn end_text(end: End) -> &'static str
-    ensures { result.now ≡ end_text end }
-{
-    match end {
-        End::Ended => "ended",
-        End::Waiting => "waiting",
-        End::Spent => "spent",
-        End::Faulted(Fault::Unset) => "faulted unset",
-        End::Faulted(Fault::Kind) => "faulted kind",
-        End::Faulted(Fault::Range) => "faulted range",
-        End::Faulted(Fault::Shape) => "faulted shape",
-    }
-}
 
 /// Each atom behind a space.
 fn push_printed(out: &mut String, script: &Script, printed: &[Atom]) -> Result<(), AllocError>

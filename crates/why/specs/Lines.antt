@@ -1,0 +1,29 @@
+-- At which lines of a script statements stand.
+use Rattle.std.specs.Prelude.{ℕ, ◌-◌, Bool, true, false, List, filter, get_or, map, length, Option, Some, slice_get}
+use Rattle.token.specs.Lexemes.{placed_tokens}
+use Rattle.token.specs.Tokens.{Token, Fixed}
+use Rattle.token.specs.declared.kind.Symbol.{Symbol}
+use Rattle.token.specs.declared.kind.Symbol.TheVariants.{Let, Print, Sync, If}
+use Rattle.words.specs.declared.Atom.{Atom}
+use Rattle.words.specs.declared.Atom.TheVariants.{Num}
+
+-- the words of statements at which a process can stand
+abbrev pub is_statement : Token → Bool
+is_statement (Fixed Let) = true
+is_statement (Fixed Print) = true
+is_statement (Fixed Sync) = true
+is_statement (Fixed If) = true
+is_statement token = false
+
+-- the line of each of them in a text, in their order
+abbrev pub statement_lines : List ℕ → List ℕ
+statement_lines bytes = map (λ p. p.1) (filter (λ p. is_statement p.0) (placed_tokens bytes))
+
+-- the line of statement n, counted from 1; 0 where there is none
+abbrev pub line_of_number : List ℕ → Option Atom → ℕ
+line_of_number lines (Some (Num n)) = get_or lines (n - 1) 0
+line_of_number lines other = 0
+
+-- the line of the statement whose number a process printed last
+abbrev pub line_of : List ℕ → List Atom → ℕ
+line_of lines printed = line_of_number lines (slice_get printed (length printed - 1))

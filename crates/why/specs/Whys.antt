@@ -1,0 +1,149 @@
+-- Where each process stands, and with whom it could go on: what is told of a run.
+use Rattle.std.specs.Prelude.{◌≡◌, ◌==◌, ◌&&◌, ℕ, zero, suc, Bool, true, false, not, if◌then◌else◌, List, [], ◌∷◌, ◌++◌, length, codes, Option, Some, None, slice_get}
+use Rattle.std.specs.Fmt.{decimal}
+use Rattle.std.specs.List.{flat_map, list_any}
+use Rattle.thread.specs.declared.Fault.{Fault}
+use Rattle.thread.specs.declared.Fault.TheVariants.{Unset, Kind, Range, Shape}
+use Rattle.words.specs.declared.Atom.{Atom}
+use Rattle.words.specs.declared.Base.{Base}
+use Rattle.words.specs.declared.Base.TheVariants.{Send, Recv, Always, OnNack, Never}
+use Rattle.words.specs.declared.NackName.{NackName}
+use Rattle.words.specs.declared.Offer.{Offer}
+use Rattle.script.specs.Sources.{Script}
+use Rattle.journal_text.specs.Names.{Naming, names_of, naming}
+use Rattle.journal_text.specs.Texts.{message_text, nack_text}
+use Rattle.sequential.specs.Replays.{TellsEnd, TellsFired, TellsOpen, TellsOutput, thread_count}
+use Rattle.sequential.specs.declared.end.End.{End}
+use Rattle.sequential.specs.declared.end.End.TheVariants.{Ended, Waiting, Spent, Faulted}
+use Rattle.sequential.specs.declared.state.State.{State}
+use Rattle.why.specs.Lines.{line_of}
+use Rattle.why.specs.declared.site.Site.{Site}
+use Rattle.why.specs.declared.site.Side.{Side}
+use Rattle.why.specs.declared.site.Side.TheVariants.{Sends, Receives}
+
+-- WHO OFFERS WHAT
+
+-- the base event is on this side of the channel
+abbrev pub is_on : Side → ℕ → Base → Bool
+is_on Sends chan (Send c m) = c == chan
+is_on Receives chan (Recv c) = c == chan
+is_on side chan base = false
+
+abbrev pub is_waiting : End → Bool
+is_waiting Waiting = true
+is_waiting end = false
+
+-- the process waits with such an offer
+abbrev pub offers_on : Side → ℕ → Site → Bool
+offers_on side chan s = is_waiting s.end && list_any (λ o. is_on side chan o.base) s.offers.now
+
+abbrev pub is_other_on : Side → ℕ → ℕ → ℕ → Option Site → Bool
+is_other_on side chan t u None = false
+is_other_on side chan t u (Some s) = not (u == t) && offers_on side chan s
+
+-- of the first so many processes those with such an offer, but for process t
+abbrev pub others_below : List Site → Side → ℕ → ℕ → ℕ → List ℕ
+others_below sites side chan t zero = []
+others_below sites side chan t (suc u) =
+    if is_other_on side chan t u (slice_get sites u) then others_below sites side chan t u ++ u ∷ [] else others_below sites side chan t u
+
+abbrev pub others : List Site → Side → ℕ → ℕ → List ℕ
+others sites side chan t = others_below sites side chan t (length sites)
+
+abbrev pub has_nack : ℕ → Option Site → Bool
+has_nack k None = false
+has_nack k (Some s) = list_any (λ n. n == k) s.nacks.now
+
+-- the nack is of a sync that is open
+abbrev pub is_open : List Site → NackName → Bool
+is_open sites n = has_nack n.k (slice_get sites n.thread)
+
+-- THE TEXT OF AN OFFER
+
+abbrev pub offer_text : Naming → Base → List ℕ
+offer_text names (Send c m) = codes "send " ++ names.channel c ++ codes " " ++ message_text names m
+offer_text names (Recv c) = codes "recv " ++ names.channel c
+offer_text names (Always m) = codes "always " ++ message_text names m
+offer_text names (OnNack n) = codes "cancelled " ++ nack_text names n
+offer_text names Never = codes "never"
+
+-- each name behind a space
+abbrev pub listed : Naming → List ℕ → List ℕ
+listed names threads = flat_map (λ t. codes " " ++ names.thread t) threads
+
+-- who could meet the offer, and who makes the same
+abbrev pub partners_text : Naming → List ℕ → List ℕ → List ℕ
+partners_text names [] [] = codes "nobody offers"
+partners_text names [] (s ∷ same) = codes "the same is offered by" ++ listed names (s ∷ same)
+partners_text names (p ∷ ps) [] = codes "may meet" ++ listed names (p ∷ ps)
+partners_text names (p ∷ ps) (s ∷ same) = codes "may meet" ++ listed names (p ∷ ps) ++ codes ", the same is offered by" ++ listed names (s ∷ same)
+
+abbrev pub unfired_text : Bool → List ℕ
+unfired_text true = codes " is open"
+unfired_text false = codes " is not open"
+
+-- whether the sync of a nack is open, or enabled it at a stamp
+abbrev pub nack_state_text : Naming → List Site → NackName → Option ℕ → List ℕ
+nack_state_text names sites n (Some stamp) = codes "enabled by " ++ names.thread n.thread ++ codes " at " ++ decimal stamp
+nack_state_text names sites n None = codes "the sync of " ++ names.thread n.thread ++ unfired_text (is_open sites n)
+
+-- what would let the offer be taken
+abbrev pub chance_text : Naming → (NackName → Option ℕ) → List Site → ℕ → Base → List ℕ
+chance_text names fired sites t (Send c m) = partners_text names (others sites Receives c t) (others sites Sends c t)
+chance_text names fired sites t (Recv c) = partners_text names (others sites Sends c t) (others sites Receives c t)
+chance_text names fired sites t (Always m) = codes "may be taken"
+chance_text names fired sites t (OnNack n) = nack_state_text names sites n (fired n)
+chance_text names fired sites t Never = codes "is never taken"
+
+abbrev pub offer_line : Naming → (NackName → Option ℕ) → List Site → ℕ → Offer → List ℕ
+offer_line names fired sites t o = codes "  " ++ offer_text names o.base ++ codes ": " ++ chance_text names fired sites t o.base ++ 10 ∷ []
+
+-- THE TEXT OF A PROCESS
+
+abbrev pub fault_text : Fault → List ℕ
+fault_text Unset = codes "a name is read that is not set"
+fault_text Kind = codes "a value is not of the kind that is wanted"
+fault_text Range = codes "a number or a nack is out of range"
+fault_text Shape = codes "a message has more or fewer values than there are names"
+
+-- how a process stands, at a line, of so many syncs at most
+abbrev pub stand_text : ℕ → ℕ → End → List ℕ
+stand_text rows line Ended = codes " ended\n"
+stand_text rows line Waiting = codes " waits at line " ++ decimal line ++ 10 ∷ []
+stand_text rows line Spent = codes " is spent at line " ++ decimal line ++ codes ": it made " ++ decimal rows ++ codes " syncs\n"
+stand_text rows line (Faulted fault) = codes " faulted at line " ++ decimal line ++ codes ": " ++ fault_text fault ++ 10 ∷ []
+
+-- the offers of a process that waits, each on a line of its own
+abbrev pub offers_text : Naming → (NackName → Option ℕ) → List Site → ℕ → Site → List ℕ
+offers_text names fired sites t s = if is_waiting s.end then flat_map (offer_line names fired sites t) s.offers.now else []
+
+abbrev pub site_text : Naming → (NackName → Option ℕ) → ℕ → List Site → ℕ → Option Site → List ℕ
+site_text names fired rows sites t None = []
+site_text names fired rows sites t (Some s) = names.thread t ++ stand_text rows s.line s.end ++ offers_text names fired sites t s
+
+-- the first so many processes
+abbrev pub sites_below : Naming → (NackName → Option ℕ) → ℕ → List Site → ℕ → List ℕ
+sites_below names fired rows sites zero = []
+sites_below names fired rows sites (suc t) = sites_below names fired rows sites t ++ site_text names fired rows sites t (slice_get sites t)
+
+abbrev pub why_text : Naming → (NackName → Option ℕ) → ℕ → List Site → List ℕ
+why_text names fired rows sites = sites_below names fired rows sites (length sites)
+
+-- WHAT IS TOLD
+
+-- a process as the state has it; where it stands is told by a state whose processes print the numbers of their statements
+pub record TellsSite (state standing : State) (lines : List ℕ) (t : ℕ) (s : Site) : Type 0 where
+  pub end : TellsEnd state t s.end
+  pub open : TellsOpen state t s.offers.now s.nacks.now
+  pub printed : List Atom
+  pub tells_printed : TellsOutput standing t printed
+  pub line : s.line ≡ line_of lines printed
+
+-- the text tells of each process of the state, in their order, in the names of the script
+pub record IsWhy (script : Script) (state standing : State) (lines : List ℕ) (rows : ℕ) (text : List ℕ) : Type 0 where
+  pub sites : List Site
+  pub count : length sites ≡ thread_count state
+  pub each : (t : ℕ) (s : Site) → slice_get sites t ≡ Some s → TellsSite state standing lines t s
+  pub fired : NackName → Option ℕ
+  pub tells_fired : (n : NackName) → TellsFired state n (fired n)
+  pub is : text ≡ why_text (naming (names_of script)) fired rows sites

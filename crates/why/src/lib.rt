@@ -1,0 +1,12 @@
+//! Why a run stands where it does: of each process that waits, the line of its sync and its offers, and with
+//! whom each of them could meet; of one that faulted, where and why; of one that is spent, where.
+//!
+//! What is told is a function of how the processes stand (`specs/Whys.antt`).
+#![tactic(auto)]
+
+mod lines;
+mod site;
+mod text;
+
+pub use crate::lines::statement_lines;
+pub use crate::text::why_text;

@@ -1,0 +1,119 @@
+//! Where a process stands.
+
+ghost use Rattle.std.specs.Prelude.{◌≡◌, IfOk, length};
+ghost use Rattle.std.specs.List.{list_any};
+ghost use Rattle.sequential.specs.Replays.{thread_count};
+ghost use Rattle.why.specs.Lines.{line_of};
+ghost use Rattle.why.specs.Whys.{TellsSite, has_nack, is_on, is_open, is_other_on, is_waiting, offers_on, others};
+ghost use Rattle.why.proofs.Telling.{AreSites};
+
+use sequential::{End, State};
+use std::alloc::{AllocError, Global};
+use words::{Atom, Base, NackName, Offer};
+
+/// Where a process stands: its end, the line of its statement, and what its open sync offers.
+#[derive(Drop)]
+pub struct Site<'a> {
+    pub(crate) end: End,
+    pub(crate) line: u32,
+    pub(crate) offers: &'a [Offer],
+    pub(crate) nacks: &'a [u8],
+}
+
+/// The two sides of a channel.
+#[derive(Clone, Copy)]
+pub enum Side {
+    Sends,
+    Receives,
+}
+
+/// The line of the statement whose number was printed last.
+fn line_of(lines: &[u32], printed: &[Atom]) -> u32
+    ensures { result ≡ line_of lines.now printed.now }
+{
+    match printed.last() {
+        Some(Atom::Num(number)) => {
+            let before = number.saturating_sub(1);
+            match lines.get(before as usize) {
+                Some(line) => *line,
+                None => 0,
+            }
+        }
+        _ => 0,
+    }
+}
+
+fn is_waiting(end: End) -> bool
+    ensures { result ≡ is_waiting end }
+{
+    matches!(end, End::Waiting)
+}
+
+fn is_on(side: Side, chan: u8, base: &Base) -> bool
+    ensures { result ≡ is_on side chan base.now }
+{
+    match (side, base) {
+        (Side::Sends, Base::Send(sent, _)) => *sent == chan,
+        (Side::Receives, Base::Recv(received)) => *received == chan,
+        _ => false,
+    }
+}
+
+fn offers_on(side: Side, chan: u8, site: &Site<'_>) -> bool
+    ensures { result ≡ offers_on side chan site.now }
+{
+    is_waiting(site.end) && site.offers.iter().any(|offer| is_on(side, chan, &offer.base))
+}
+
+/// The processes that wait with an offer on this side of the channel, but for one.
+pub(crate) fn others(
+    alloc: Global,
+    sites: &[Site<'_>],
+    side: Side,
+    chan: u8,
+    thread: usize,
+) -> Result<Vec<u8>, AllocError>
+    requires { length sites.now ≤ 64 }
+    ensures { IfOk result (λ found. found.items ≡ others sites.now side chan thread) }
+{
+    let mut found = Vec::new(alloc);
+    for other in 0..sites.len() {
+        if other != thread && offers_on(side, chan, &sites[other]) {
+            found.push(other as u8)?;
+        }
+    }
+    Ok(found)
+}
+
+/// Whether the nack is of a sync that is open.
+pub(crate) fn is_open(sites: &[Site<'_>], nack: NackName) -> bool
+    ensures { result ≡ is_open sites.now nack }
+{
+    match sites.get(usize::from(nack.thread)) {
+        Some(site) => site.nacks.iter().any(|number| *number == nack.k),
+        None => false,
+    }
+}
+
+/// Where each process of the state stands, by the numbers of statements that those of the other print.
+pub(crate) fn sites_of<'a>(
+    alloc: Global,
+    state: &'a State,
+    standing: &State,
+    lines: &[u32],
+) -> Result<Vec<Site<'a>>, AllocError>
+    requires { thread_count standing.now ≡ thread_count state.now }
+    ensures { IfOk result (λ sites. AreSites state.now standing.now lines.now sites.items) }
+{
+    let mut sites = Vec::new(alloc);
+    for thread in 0..state.threads() {
+        let (offers, nacks) = state.open(thread);
+        sites.push(Site {
+            end: state.end(thread),
+            line: line_of(lines, standing.output(thread)),
+            offers,
+            nacks,
+        })?;
+    }
+    Ok(sites)
+}
