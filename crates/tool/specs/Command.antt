@@ -2,7 +2,7 @@
 use Rattle.std.specs.Prelude.{◌≡◌, ◌≢◌, ◌⊎◌, IsTrue, ℕ, List, Option, None, IfSome, take}
 use Rattle.std.specs.Io.KnownBytes.{Appends}
 use Rattle.tool.specs.declared.request.Request.{Request}
-use Rattle.tool.specs.declared.request.Request.TheVariants.{Meet, Play, Check, Chart, Explain, Replay, Run}
+use Rattle.tool.specs.declared.request.Request.TheVariants.{Meet, Play, Check, Chart, Explain, Replay, Run, Why}
 use Rattle.explain.specs.Faults.{Explains, is_fault}
 use Rattle.files.specs.Files.{Fits, IsTooLarge}
 use Rattle.tool.specs.Meet.{PrintsMeeting}
@@ -14,6 +14,7 @@ use Rattle.tool.specs.Check.{IsChecked}
 use Rattle.runtime.specs.Limits.{AreRows, AreWorkers}
 use Rattle.tool.specs.Replay.{IsReplayed, IsNoRun}
 use Rattle.tool.specs.Charting.{IsCharted}
+use Rattle.tool.specs.Telling.{IsTold}
 use Rattle.tool.specs.Run.{TellsRun, printed}
 use Rattle.tool.specs.declared.replay.Replayed.{Replayed}
 use Rattle.tool.specs.declared.replay.Replayed.TheVariants as replays
@@ -48,7 +49,7 @@ CanBeAnswered (Explain number) = IsTrue (is_fault number)
 CanBeAnswered asked = Unit {0}
 
 -- The line of the one pair (or none), what comes of the schedule, the script or the run that is asked for, where the journal
--- leads the script, its chart, or what a fault means. Where the journal of a run is to go to a file, the file keeps its lines at the end.
+-- leads the script, why the processes stand there, its chart, or what a fault means. Where the journal of a run is to go to a file, the file keeps its lines at the end.
 abbrev pub Answers : Files → Files → Request → Verdict → List ℕ → Type 0
 Answers Holds Keeps (Meet value) Done text = PrintsMeeting value text
 Answers Holds Keeps (Play name) Done text = OfSchedule Holds name.now (λ bytes. IsPlayed bytes text)
@@ -57,6 +58,9 @@ Answers Holds Keeps (Replay script journal rows) Done text = OfFiles Holds scrip
 Answers Holds Keeps (Replay script journal rows) Unlawful text = OfFiles Holds script.now journal.now (λ s read. Fits read × IsNoRun s rows read text)
 Answers Holds Keeps (Run script workers rows journal quiet) Done text = (bytes : List ℕ) × Holds script.now bytes × (s : Script) × Spells bytes s
     × (lines rest : List ℕ) × TellsRun s rows lines rest × IfSome journal (λ name. Keeps name.now lines) × (text ≡ printed quiet lines rest)
+Answers Holds Keeps (Why script journal rows) Done text = (source : List ℕ) × Holds script.now source × (s : Script) × Spells source s
+    × (read : List ℕ) × Holds journal.now read × Fits read × IsTold s source rows read text
+Answers Holds Keeps (Why script journal rows) Unlawful text = OfFiles Holds script.now journal.now (λ s read. Fits read × IsNoRun s rows read text)
 Answers Holds Keeps (Chart script journal rows from to) Done text = OfFiles Holds script.now journal.now (λ s read. Fits read × IsCharted s rows read from to text)
 Answers Holds Keeps (Chart script journal rows from to) Unlawful text = OfFiles Holds script.now journal.now (λ s read. Fits read × IsNoRun s rows read text)
 Answers Holds Keeps (Explain number) Done text = Explains number text
@@ -104,6 +108,7 @@ Fails Holds (Play name) (faults.NotAllowed step) = OfSchedule Holds name.now (λ
 Fails Holds (Play name) fault = ⊥
 Fails Holds (Check name) fault = FailsParse Holds name.now fault
 Fails Holds (Explain number) fault = fault ≡ faults.Memory
+Fails Holds (Why script journal rows) fault = FailsReplay Holds script.now journal.now fault
 Fails Holds (Chart script journal rows from to) fault = FailsReplay Holds script.now journal.now fault
 Fails Holds (Replay script journal rows) fault = FailsReplay Holds script.now journal.now fault
 Fails Holds (Run script workers rows journal quiet) faults.Memory = Unit {0}

@@ -6,4 +6,5 @@ pub mod Standings
 pub mod Replay
 pub mod Run
 pub mod Charting
+pub mod Telling
 pub mod Command

@@ -12,6 +12,7 @@ mod program;
 mod replay;
 mod request;
 mod run;
+mod telling;
 
 pub use crate::charting::chart_journal;
 pub use crate::check::check_text;
@@ -21,5 +22,6 @@ pub use crate::play::{PlayFault, play_laws, play_text};
 pub use crate::program::{BAD_WORDS, command, tell};
 pub use crate::replay::{Replayed, replay_laws, replay_text};
 pub use crate::request::Request;
+pub use crate::telling::why_journal;
 pub use crate::run::{RunText, run_parts, run_text};
 pub use files::{Source, SourceFault, SystemFiles};

@@ -21,6 +21,7 @@ use crate::play::play_text;
 use crate::replay::{Replayed, replay_text};
 use crate::request::{Request, read_words};
 use crate::run::{RunText, run_parts};
+use crate::telling::why_journal;
 use clap::error::ErrorKind;
 use explain::explanation;
 use files::{MOST_BYTES, Source};
@@ -61,14 +62,29 @@ fn read_bounded<S: Source>(source: &mut S, name: &str) -> Result<Vec<u8>, Fault>
     Ok(bytes)
 }
 
+/// The text of a script in a file, and the script.
+fn read_source<S: Source>(
+    alloc: Global,
+    source: &mut S,
+    name: &str,
+) -> Result<(Vec<u8>, Script), Fault>
+    ensures read { IfOk result (λ read. S.holds source.old name.now read.0.items × Spells read.0.items (script_of read.1)) }
+    ensures fault { IfErr result (FailsParse (S.holds source.old) name.now) }
+    ensures kept { (name bytes : List ℕ) → S.holds source.new name bytes → S.holds source.old name bytes }
+{
+    let bytes = source.read(name)?;
+    let script = parse(alloc, bytes.as_slice())?;
+    Ok((bytes, script))
+}
+
 /// The script in a file.
 fn read_script<S: Source>(alloc: Global, source: &mut S, name: &str) -> Result<Script, Fault>
     ensures read { IfOk result (λ script. (bytes : List ℕ) × S.holds source.old name.now bytes × Spells bytes (script_of script)) }
     ensures fault { IfErr result (FailsParse (S.holds source.old) name.now) }
     ensures kept { (name bytes : List ℕ) → S.holds source.new name bytes → S.holds source.old name bytes }
 {
-    let bytes = source.read(name)?;
-    Ok(parse(alloc, bytes.as_slice())?)
+    let (_, script) = read_source(alloc, source, name)?;
+    Ok(script)
 }
 
 /// How many processes and channels the script in a file has.
@@ -151,6 +167,15 @@ fn answer<R: Threads + Wait + Sync, S: Source>(
             let script = read_script(alloc, source, script)?;
             let journal = read_bounded(source, journal)?;
             Ok(judged(chart_journal(alloc, &script, journal.as_slice(), rows, from, to)?))
+        }
+        Request::Why {
+            script,
+            journal,
+            rows,
+        } => {
+            let (text, script) = read_source(alloc, source, script)?;
+            let journal = read_bounded(source, journal)?;
+            Ok(judged(why_journal(alloc, &script, &text, &journal, rows)?))
         }
         Request::Explain(number) => Ok((Verdict::Done, explain_text(alloc, number)?)),
         Request::Check(name) => Ok((Verdict::Done, check_file(alloc, source, name)?)),

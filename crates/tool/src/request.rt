@@ -36,6 +36,12 @@ pub enum Request<'a> {
         from: u32,
         to: u32,
     },
+    /// Why the processes of a script stand where the journal in a file leads them, of so many rows each.
+    Why {
+        script: &'a str,
+        journal: &'a str,
+        rows: u16,
+    },
     /// What the fault of this number means.
     Explain(u16),
     /// Where the journal in a file leads the script in another, of so many rows a process.
@@ -147,6 +153,23 @@ fn chart_request<'a>(chart: &ArgMatches<'a>) -> Option<Request<'a>> {
     })
 }
 
+fn why_command<'a>(alloc: Global) -> Result<Command<'a>, AllocError> {
+    Command::new(alloc, "why")
+        .about("Tells why each process stands where it does")
+        .arg(file_argument(alloc, "file", "FILE", "The script"))?
+        .arg(file_argument(alloc, "journal", "JOURNAL", "The journal"))?
+        .arg(rows_argument(alloc))
+}
+
+/// The request of `why`, by the words behind it.
+fn why_request<'a>(why: &ArgMatches<'a>) -> Option<Request<'a>> {
+    Some(Request::Why {
+        script: why.get_str("file")?,
+        journal: why.get_str("journal")?,
+        rows: why.get_one("rows")?,
+    })
+}
+
 fn explain_command<'a>(alloc: Global) -> Result<Command<'a>, AllocError> {
     let number = Arg::new(alloc, "number")
         .required(true)
@@ -198,6 +221,7 @@ fn command_line<'a>(alloc: Global) -> Result<Command<'a>, AllocError> {
         .subcommand(check_command(alloc)?)?
         .subcommand(run_command(alloc)?)?
         .subcommand(replay_command(alloc)?)?
+        .subcommand(why_command(alloc)?)?
         .subcommand(chart_command(alloc)?)?
         .subcommand(explain_command(alloc)?)
 }
@@ -212,6 +236,11 @@ fn objection(asked: &Request<'_>) -> Option<&'static str>
             None => Some("no fault has this number"),
         },
         Request::Replay {
+            script: "-",
+            journal: "-",
+            ..
+        }
+        | Request::Why {
             script: "-",
             journal: "-",
             ..
@@ -241,6 +270,7 @@ pub fn read_words<'a>(alloc: Global, words: &'a [&'a str]) -> Result<Request<'a>
         Some(("check", check)) => check.get_str("file").map(|name| Request::Check(name)),
         Some(("run", run)) => run_request(run),
         Some(("replay", replay)) => replay_request(replay),
+        Some(("why", why)) => why_request(why),
         Some(("chart", chart)) => chart_request(chart),
         Some(("explain", explain)) => {
             explain

@@ -1,8 +1,8 @@
 -- At which lines of a script statements stand.
-use Rattle.std.specs.Prelude.{ℕ, ◌-◌, Bool, true, false, List, filter, get_or, map, length, Option, Some, slice_get}
+use Rattle.std.specs.Prelude.{ℕ, ◌-◌, Bool, true, false, if◌then◌else◌, List, [], ◌∷◌, get_or, length, Option, Some, slice_get}
+use Rattle.std.specs.List.{flat_map}
 use Rattle.token.specs.Lexemes.{placed_tokens}
 use Rattle.token.specs.Tokens.{Token, Fixed}
-use Rattle.token.specs.declared.kind.Symbol.{Symbol}
 use Rattle.token.specs.declared.kind.Symbol.TheVariants.{Let, Print, Sync, If}
 use Rattle.words.specs.declared.Atom.{Atom}
 use Rattle.words.specs.declared.Atom.TheVariants.{Num}
@@ -15,9 +15,13 @@ is_statement (Fixed Sync) = true
 is_statement (Fixed If) = true
 is_statement token = false
 
+-- the line of a token that is one of them
+abbrev pub line_at : Token × ℕ → List ℕ
+line_at p = if is_statement p.0 then p.1 ∷ [] else []
+
 -- the line of each of them in a text, in their order
 abbrev pub statement_lines : List ℕ → List ℕ
-statement_lines bytes = map (λ p. p.1) (filter (λ p. is_statement p.0) (placed_tokens bytes))
+statement_lines bytes = flat_map line_at (placed_tokens bytes)
 
 -- the line of statement n, counted from 1; 0 where there is none
 abbrev pub line_of_number : List ℕ → Option Atom → ℕ

@@ -71,12 +71,29 @@ offer_text names Never = codes "never"
 abbrev pub listed : Naming → List ℕ → List ℕ
 listed names threads = flat_map (λ t. codes " " ++ names.thread t) threads
 
+unfoldable pub nobody_words : List ℕ
+nobody_words = codes "nobody offers"
+
+unfoldable pub same_words : List ℕ
+same_words = codes "the same is offered by"
+
+unfoldable pub also_words : List ℕ
+also_words = codes ", the same is offered by"
+
+-- where nobody could meet the offer: who makes the same
+abbrev pub lone_text : Naming → List ℕ → List ℕ
+lone_text names same = if length same == 0 then nobody_words else same_words ++ listed names same
+
+abbrev pub also_text : Naming → List ℕ → List ℕ
+also_text names same = if length same == 0 then [] else also_words ++ listed names same
+
 -- who could meet the offer, and who makes the same
 abbrev pub partners_text : Naming → List ℕ → List ℕ → List ℕ
-partners_text names [] [] = codes "nobody offers"
-partners_text names [] (s ∷ same) = codes "the same is offered by" ++ listed names (s ∷ same)
-partners_text names (p ∷ ps) [] = codes "may meet" ++ listed names (p ∷ ps)
-partners_text names (p ∷ ps) (s ∷ same) = codes "may meet" ++ listed names (p ∷ ps) ++ codes ", the same is offered by" ++ listed names (s ∷ same)
+partners_text names partners same =
+    if length partners == 0 then lone_text names same else codes "may meet" ++ listed names partners ++ also_text names same
+
+unfoldable pub sync_words : List ℕ
+sync_words = codes "the sync of "
 
 abbrev pub unfired_text : Bool → List ℕ
 unfired_text true = codes " is open"
@@ -85,7 +102,7 @@ unfired_text false = codes " is not open"
 -- whether the sync of a nack is open, or enabled it at a stamp
 abbrev pub nack_state_text : Naming → List Site → NackName → Option ℕ → List ℕ
 nack_state_text names sites n (Some stamp) = codes "enabled by " ++ names.thread n.thread ++ codes " at " ++ decimal stamp
-nack_state_text names sites n None = codes "the sync of " ++ names.thread n.thread ++ unfired_text (is_open sites n)
+nack_state_text names sites n None = sync_words ++ names.thread n.thread ++ unfired_text (is_open sites n)
 
 -- what would let the offer be taken
 abbrev pub chance_text : Naming → (NackName → Option ℕ) → List Site → ℕ → Base → List ℕ
@@ -106,25 +123,34 @@ fault_text Kind = codes "a value is not of the kind that is wanted"
 fault_text Range = codes "a number or a nack is out of range"
 fault_text Shape = codes "a message has more or fewer values than there are names"
 
+unfoldable pub spent_text : ℕ → List ℕ
+spent_text line = codes " is spent at line " ++ decimal line
+
+unfoldable pub syncs_text : ℕ → List ℕ
+syncs_text rows = codes ": it made " ++ decimal rows ++ codes " syncs\n"
+
 -- how a process stands, at a line, of so many syncs at most
 abbrev pub stand_text : ℕ → ℕ → End → List ℕ
 stand_text rows line Ended = codes " ended\n"
 stand_text rows line Waiting = codes " waits at line " ++ decimal line ++ 10 ∷ []
-stand_text rows line Spent = codes " is spent at line " ++ decimal line ++ codes ": it made " ++ decimal rows ++ codes " syncs\n"
+stand_text rows line Spent = spent_text line ++ syncs_text rows
 stand_text rows line (Faulted fault) = codes " faulted at line " ++ decimal line ++ codes ": " ++ fault_text fault ++ 10 ∷ []
 
 -- the offers of a process that waits, each on a line of its own
 abbrev pub offers_text : Naming → (NackName → Option ℕ) → List Site → ℕ → Site → List ℕ
 offers_text names fired sites t s = if is_waiting s.end then flat_map (offer_line names fired sites t) s.offers.now else []
 
-abbrev pub site_text : Naming → (NackName → Option ℕ) → ℕ → List Site → ℕ → Option Site → List ℕ
-site_text names fired rows sites t None = []
-site_text names fired rows sites t (Some s) = names.thread t ++ stand_text rows s.line s.end ++ offers_text names fired sites t s
+abbrev pub site_text : Naming → (NackName → Option ℕ) → ℕ → List Site → ℕ → Site → List ℕ
+site_text names fired rows sites t s = names.thread t ++ stand_text rows s.line s.end ++ offers_text names fired sites t s
+
+abbrev pub text_at : Naming → (NackName → Option ℕ) → ℕ → List Site → ℕ → Option Site → List ℕ
+text_at names fired rows sites t None = []
+text_at names fired rows sites t (Some s) = site_text names fired rows sites t s
 
 -- the first so many processes
 abbrev pub sites_below : Naming → (NackName → Option ℕ) → ℕ → List Site → ℕ → List ℕ
 sites_below names fired rows sites zero = []
-sites_below names fired rows sites (suc t) = sites_below names fired rows sites t ++ site_text names fired rows sites t (slice_get sites t)
+sites_below names fired rows sites (suc t) = sites_below names fired rows sites t ++ text_at names fired rows sites t (slice_get sites t)
 
 abbrev pub why_text : Naming → (NackName → Option ℕ) → ℕ → List Site → List ℕ
 why_text names fired rows sites = sites_below names fired rows sites (length sites)
@@ -134,16 +160,20 @@ why_text names fired rows sites = sites_below names fired rows sites (length sit
 -- a process as the state has it; where it stands is told by a state whose processes print the numbers of their statements
 pub record TellsSite (state standing : State) (lines : List ℕ) (t : ℕ) (s : Site) : Type 0 where
   pub end : TellsEnd state t s.end
-  pub open : TellsOpen state t s.offers.now s.nacks.now
+  pub offers : TellsOpen state t s.offers.now s.nacks.now
   pub printed : List Atom
   pub tells_printed : TellsOutput standing t printed
   pub line : s.line ≡ line_of lines printed
 
--- the text tells of each process of the state, in their order, in the names of the script
-pub record IsWhy (script : Script) (state standing : State) (lines : List ℕ) (rows : ℕ) (text : List ℕ) : Type 0 where
-  pub sites : List Site
+-- one for each process of the state, in their order
+pub record AreSites (state standing : State) (lines : List ℕ) (sites : List Site) : Type 0 where
   pub count : length sites ≡ thread_count state
   pub each : (t : ℕ) (s : Site) → slice_get sites t ≡ Some s → TellsSite state standing lines t s
+
+-- the text tells of each process of the state, in the names of the script
+pub record IsWhy (script : Script) (state standing : State) (lines : List ℕ) (rows : ℕ) (text : List ℕ) : Type 0 where
+  pub sites : List Site
+  pub are : AreSites state standing lines sites
   pub fired : NackName → Option ℕ
   pub tells_fired : (n : NackName) → TellsFired state n (fired n)
   pub is : text ≡ why_text (naming (names_of script)) fired rows sites

@@ -1,11 +1,10 @@
 //! Where a process stands.
 
-ghost use Rattle.std.specs.Prelude.{◌≡◌, IfOk, length};
+ghost use Rattle.std.specs.Prelude.{◌≡◌, ◌==◌, ◌≤◌, IfOk, length};
 ghost use Rattle.std.specs.List.{list_any};
 ghost use Rattle.sequential.specs.Replays.{thread_count};
 ghost use Rattle.why.specs.Lines.{line_of};
-ghost use Rattle.why.specs.Whys.{TellsSite, has_nack, is_on, is_open, is_other_on, is_waiting, offers_on, others};
-ghost use Rattle.why.proofs.Telling.{AreSites};
+ghost use Rattle.why.specs.Whys.{AreSites, is_on, is_open, is_waiting, offers_on, others};
 
 use sequential::{End, State};
 use std::alloc::{AllocError, Global};
@@ -15,7 +14,7 @@ use words::{Atom, Base, NackName, Offer};
 #[derive(Drop)]
 pub struct Site<'a> {
     pub(crate) end: End,
-    pub(crate) line: u32,
+    pub(crate) line: usize,
     pub(crate) offers: &'a [Offer],
     pub(crate) nacks: &'a [u8],
 }
@@ -28,7 +27,7 @@ pub enum Side {
 }
 
 /// The line of the statement whose number was printed last.
-fn line_of(lines: &[u32], printed: &[Atom]) -> u32
+fn line_of(lines: &[usize], printed: &[Atom]) -> usize
     ensures { result ≡ line_of lines.now printed.now }
 {
     match printed.last() {
@@ -62,7 +61,15 @@ fn is_on(side: Side, chan: u8, base: &Base) -> bool
 fn offers_on(side: Side, chan: u8, site: &Site<'_>) -> bool
     ensures { result ≡ offers_on side chan site.now }
 {
-    is_waiting(site.end) && site.offers.iter().any(|offer| is_on(side, chan, &offer.base))
+    if !is_waiting(site.end) {
+        return false;
+    }
+    for offer in site.offers {
+        if is_on(side, chan, &offer.base) {
+            return true;
+        }
+    }
+    false
 }
 
 /// The processes that wait with an offer on this side of the channel, but for one.
@@ -85,12 +92,23 @@ pub(crate) fn others(
     Ok(found)
 }
 
+fn has_nack(site: &Site<'_>, nack: u8) -> bool
+    ensures { result ≡ list_any (λ n. n == nack) site.now.nacks.now }
+{
+    for number in site.nacks {
+        if *number == nack {
+            return true;
+        }
+    }
+    false
+}
+
 /// Whether the nack is of a sync that is open.
 pub(crate) fn is_open(sites: &[Site<'_>], nack: NackName) -> bool
     ensures { result ≡ is_open sites.now nack }
 {
     match sites.get(usize::from(nack.thread)) {
-        Some(site) => site.nacks.iter().any(|number| *number == nack.k),
+        Some(site) => has_nack(site, nack.k),
         None => false,
     }
 }
@@ -100,7 +118,7 @@ pub(crate) fn sites_of<'a>(
     alloc: Global,
     state: &'a State,
     standing: &State,
-    lines: &[u32],
+    lines: &[usize],
 ) -> Result<Vec<Site<'a>>, AllocError>
     requires { thread_count standing.now ≡ thread_count state.now }
     ensures { IfOk result (λ sites. AreSites state.now standing.now lines.now sites.items) }

@@ -1,11 +1,11 @@
 //! The text.
 
-ghost use Rattle.std.specs.Prelude.{◌≡◌, ◌++◌, ◌<◌, ◌≤◌, [], IfOk, OnOk, Some, length};
+ghost use Rattle.std.specs.Prelude.{◌≡◌, ◌++◌, ◌<◌, ◌≤◌, IfOk, OnOk, length, slice_get};
 ghost use Rattle.std.specs.String.{string_bytes};
 ghost use Rattle.journal_text.specs.Names.{names_of, naming};
 ghost use Rattle.script.specs.Scripts.{script_of};
 ghost use Rattle.sequential.specs.Replays.{fired_by, thread_count};
-ghost use Rattle.why.specs.Whys.{IsWhy, chance_text, fault_text, listed, nack_state_text, offer_line, offer_text, offers_text, partners_text, sites_below, site_text, stand_text, unfired_text, why_text};
+ghost use Rattle.why.specs.Whys.{IsWhy, also_text, also_words, chance_text, fault_text, listed, lone_text, nack_state_text, nobody_words, offer_line, offer_text, offers_text, others, partners_text, same_words, site_text, spent_text, stand_text, sync_words, syncs_text, unfired_text, why_text};
 
 use crate::site::{Side, Site, is_open, others, sites_of};
 use pieces::{push_channel, push_message, push_nack, push_thread};
@@ -50,6 +50,34 @@ fn push_offer(out: &mut String, script: &Script, base: Base) -> Result<(), Alloc
     }
 }
 
+#[tactic(auto, unfolding(crate::specs::Whys::nobody_words))]
+fn nobody_words() -> &'static str
+    ensures { result.now ≡ nobody_words }
+{
+    "nobody offers"
+}
+
+#[tactic(auto, unfolding(crate::specs::Whys::same_words))]
+fn same_words() -> &'static str
+    ensures { result.now ≡ same_words }
+{
+    "the same is offered by"
+}
+
+#[tactic(auto, unfolding(crate::specs::Whys::also_words))]
+fn also_words() -> &'static str
+    ensures { result.now ≡ also_words }
+{
+    ", the same is offered by"
+}
+
+#[tactic(auto, unfolding(crate::specs::Whys::sync_words))]
+fn sync_words() -> &'static str
+    ensures { result.now ≡ sync_words }
+{
+    "the sync of "
+}
+
 /// Each name behind a space.
 fn push_listed(out: &mut String, script: &Script, threads: &[u8]) -> Result<(), AllocError>
     ensures { OnOk result (string_bytes out.new ≡ string_bytes out.old ++ listed (naming (names_of (script_of script.now))) threads.now) }
@@ -61,6 +89,27 @@ fn push_listed(out: &mut String, script: &Script, threads: &[u8]) -> Result<(), 
     Ok(())
 }
 
+/// Who makes an offer that nobody could meet.
+fn push_lone(out: &mut String, script: &Script, same: &[u8]) -> Result<(), AllocError>
+    ensures { OnOk result (string_bytes out.new ≡ string_bytes out.old ++ lone_text (naming (names_of (script_of script.now))) same.now) }
+{
+    if same.len() == 0 {
+        return out.push_str(nobody_words());
+    }
+    out.push_str(same_words())?;
+    push_listed(out, script, same)
+}
+
+fn push_also(out: &mut String, script: &Script, same: &[u8]) -> Result<(), AllocError>
+    ensures { OnOk result (string_bytes out.new ≡ string_bytes out.old ++ also_text (naming (names_of (script_of script.now))) same.now) }
+{
+    if same.len() == 0 {
+        return Ok(());
+    }
+    out.push_str(also_words())?;
+    push_listed(out, script, same)
+}
+
 /// Who could meet an offer, and who makes the same.
 fn push_partners(
     out: &mut String,
@@ -70,23 +119,12 @@ fn push_partners(
 ) -> Result<(), AllocError>
     ensures { OnOk result (string_bytes out.new ≡ string_bytes out.old ++ partners_text (naming (names_of (script_of script.now))) partners.now same.now) }
 {
-    match (partners.is_empty(), same.is_empty()) {
-        (true, true) => out.push_str("nobody offers"),
-        (true, false) => {
-            out.push_str("the same is offered by")?;
-            push_listed(out, script, same)
-        }
-        (false, true) => {
-            out.push_str("may meet")?;
-            push_listed(out, script, partners)
-        }
-        (false, false) => {
-            out.push_str("may meet")?;
-            push_listed(out, script, partners)?;
-            out.push_str(", the same is offered by")?;
-            push_listed(out, script, same)
-        }
+    if partners.len() == 0 {
+        return push_lone(out, script, same);
     }
+    out.push_str("may meet")?;
+    push_listed(out, script, partners)?;
+    push_also(out, script, same)
 }
 
 fn unfired_text(is_open: bool) -> &'static str
@@ -106,14 +144,31 @@ fn fault_text(fault: Fault) -> &'static str
     }
 }
 
+#[tactic(auto, unfolding(crate::specs::Whys::spent_text))]
+fn push_spent(out: &mut String, line: usize) -> Result<(), AllocError>
+    ensures { OnOk result (string_bytes out.new ≡ string_bytes out.old ++ spent_text line) }
+{
+    write!(out, " is spent at line {line}")
+}
+
+#[tactic(auto, unfolding(crate::specs::Whys::syncs_text))]
+fn push_syncs(out: &mut String, rows: u16) -> Result<(), AllocError>
+    ensures { OnOk result (string_bytes out.new ≡ string_bytes out.old ++ syncs_text rows) }
+{
+    write!(out, ": it made {rows} syncs\n")
+}
+
 /// How a process stands, at a line, of at most `rows` syncs.
-fn push_stand(out: &mut String, rows: u16, line: u32, end: End) -> Result<(), AllocError>
+fn push_stand(out: &mut String, rows: u16, line: usize, end: End) -> Result<(), AllocError>
     ensures { OnOk result (string_bytes out.new ≡ string_bytes out.old ++ stand_text rows line end) }
 {
     match end {
         End::Ended => out.push_str(" ended\n"),
         End::Waiting => write!(out, " waits at line {line}\n"),
-        End::Spent => write!(out, " is spent at line {line}: it made {rows} syncs\n"),
+        End::Spent => {
+            push_spent(out, line)?;
+            push_syncs(out, rows)
+        }
         End::Faulted(fault) => {
             write!(out, " faulted at line {line}: ")?;
             out.push_str(fault_text(fault))?;
@@ -123,17 +178,23 @@ fn push_stand(out: &mut String, rows: u16, line: u32, end: End) -> Result<(), Al
 }
 
 impl Teller<'_> {
-    fn push_nack_state(&self, out: &mut String, nack: NackName) -> Result<(), AllocError>
-        ensures { OnOk result (string_bytes out.new ≡ string_bytes out.old ++ nack_state_text (naming (names_of (script_of self.now.script.now))) self.now.sites.now nack (fired_by self.now.state.now nack)) }
+    /// Whether the sync of a nack is open, or fired it at a stamp.
+    fn push_nack_state(
+        &self,
+        out: &mut String,
+        nack: NackName,
+        fired: Option<u32>,
+    ) -> Result<(), AllocError>
+        ensures { OnOk result (string_bytes out.new ≡ string_bytes out.old ++ nack_state_text (naming (names_of (script_of self.now.script.now))) self.now.sites.now nack fired) }
     {
-        match self.state.fired(nack) {
+        match fired {
             Some(stamp) => {
                 out.push_str("enabled by ")?;
                 push_thread(out, self.script, nack.thread)?;
                 write!(out, " at {stamp}")
             }
             None => {
-                out.push_str("the sync of ")?;
+                out.push_str(sync_words())?;
                 push_thread(out, self.script, nack.thread)?;
                 out.push_str(unfired_text(is_open(self.sites, nack)))
             }
@@ -170,7 +231,7 @@ impl Teller<'_> {
                 self.push_meeting(out, thread, (Side::Receives, Side::Sends), chan)
             }
             Base::Always(_) => out.push_str("may be taken"),
-            Base::OnNack(nack) => self.push_nack_state(out, nack),
+            Base::OnNack(nack) => self.push_nack_state(out, nack, self.state.fired(nack)),
             Base::Never => out.push_str("is never taken"),
         }
     }
@@ -205,12 +266,17 @@ impl Teller<'_> {
         Ok(())
     }
 
-    fn push_site(&self, out: &mut String, rows: u16, thread: usize) -> Result<(), AllocError>
+    fn push_site(
+        &self,
+        out: &mut String,
+        rows: u16,
+        thread: usize,
+        site: &Site<'_>,
+    ) -> Result<(), AllocError>
         requires few { length self.now.sites.now ≤ 64 }
-        requires there { thread < length self.now.sites.now }
-        ensures { OnOk result (string_bytes out.new ≡ string_bytes out.old ++ site_text (naming (names_of (script_of self.now.script.now))) (fired_by self.now.state.now) rows self.now.sites.now thread (slice_get self.now.sites.now thread)) }
+        requires thread { thread < 64 }
+        ensures { OnOk result (string_bytes out.new ≡ string_bytes out.old ++ site_text (naming (names_of (script_of self.now.script.now))) (fired_by self.now.state.now) rows self.now.sites.now thread site.now) }
     {
-        let site = &self.sites[thread];
         push_thread(out, self.script, thread as u8)?;
         push_stand(out, rows, site.line, site.end)?;
         self.push_offers(out, thread, site)
@@ -221,7 +287,7 @@ impl Teller<'_> {
         ensures { OnOk result (string_bytes out.new ≡ string_bytes out.old ++ why_text (naming (names_of (script_of self.now.script.now))) (fired_by self.now.state.now) rows self.now.sites.now) }
     {
         for thread in 0..self.sites.len() {
-            self.push_site(out, rows, thread)?;
+            self.push_site(out, rows, thread, &self.sites[thread])?;
         }
         Ok(())
     }
@@ -235,7 +301,7 @@ pub fn why_text(
     script: &Script,
     state: &State,
     standing: &State,
-    lines: &[u32],
+    lines: &[usize],
     rows: u16,
 ) -> Result<String, AllocError>
     requires few { thread_count state.now ≤ 64 }

@@ -1,0 +1,6 @@
+pub mod Following
+pub mod Limits
+pub mod Names
+pub mod Parts
+pub mod Running
+pub mod Standing

@@ -1,0 +1,3 @@
+pub mod Numbered
+pub mod Alike
+pub mod Standing
