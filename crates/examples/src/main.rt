@@ -19,7 +19,7 @@ struct Example {
     has_one_run: bool,
 }
 
-const EXAMPLES: [Example; 7] = [
+const EXAMPLES: [Example; 8] = [
     Example {
         name: "ping_pong",
         has_one_run: true,
@@ -47,6 +47,10 @@ const EXAMPLES: [Example; 7] = [
     Example {
         name: "fan_in",
         has_one_run: false,
+    },
+    Example {
+        name: "crossed_sends",
+        has_one_run: true,
     },
 ];
 
@@ -93,8 +97,8 @@ fn is_maximal(replayed: &Replayed) -> bool {
     }
 }
 
-/// Prints the example's name, what its script has, where its journal leads, and what its run prints, if
-/// that is always the same.
+/// Prints the example's name, what its script has, where its journal leads and why, its chart, and what
+/// its run prints, if that is always the same.
 fn show<R: Files + Input + Print + AllocGlobal + Threads + Wait + Sync, E: Write>(
     rt: &R,
     example: &Example,
@@ -104,7 +108,9 @@ fn show<R: Files + Input + Print + AllocGlobal + Threads + Wait + Sync, E: Write
     let journal = format!(in rt.alloc(); "{}.journal", example.name)?;
     println!(rt; "{}", example.name)?;
     ask(rt, &["check", script.as_str()], err)?;
-    ask(rt, &["replay", script.as_str(), journal.as_str()], err)?;
+    for command in ["replay", "why", "chart"] {
+        ask(rt, &[command, script.as_str(), journal.as_str()], err)?;
+    }
     if example.has_one_run {
         ask(rt, &["run", script.as_str()], err)
     } else {

@@ -26,13 +26,13 @@ Both R (Fails fault printed left) (Fails reason told others) = (fault ≡ reason
 Both R Strays Strays = ⊤
 Both R one other = ⊥
 
-abbrev StatesAlike : State → State → Type 0
+abbrev pub StatesAlike : State → State → Type 0
 StatesAlike a b = (printed : List Atom) × (a ≡ told b printed)
 
 abbrev HavingAlike : Having → Having → Type 0
 HavingAlike a b = (printed : List Atom) × (a ≡ record b { state = told b.state printed })
 
-abbrev FormedAlike : Formed → Formed → Type 0
+abbrev pub FormedAlike : Formed → Formed → Type 0
 FormedAlike a b = (printed : List Atom) × (a ≡ record b { state = told b.state printed })
 
 bind_both : {A B : Type 0} (R : A → A → Type 0) (S : B → B → Type 0) (x y : Outcome A) (f g : A → Outcome B) → Both R x y → ((a b : A) → R a b → Both S (f a) (g b)) → Both S (x >>= f) (y >>= g)
@@ -135,7 +135,7 @@ mutual
       let q : List Atom = p ++ Num n ∷ [] in
       bind_states StatesAlike (run_stmt (numbered_stmt n stmt) (told s q)) (run_stmt stmt s) _ _ (stmt_both n stmt s q) (λ t r. block_both (n + count_stmt stmt) rest behind silent t r)
 
-  stmt_both : (n : ℕ) (stmt : Stmt) (s : State) (p : List Atom) → Both StatesAlike (run_stmt (numbered_stmt n stmt) (told s p)) (run_stmt stmt s)
+  pub stmt_both : (n : ℕ) (stmt : Stmt) (s : State) (p : List Atom) → Both StatesAlike (run_stmt (numbered_stmt n stmt) (told s p)) (run_stmt stmt s)
   stmt_both n (Lets name value) s p = given_both StatesAlike s p (expr_value s.store value) _ _ (λ atom. (p, refl))
   stmt_both n (Prints value) s p = given_both StatesAlike s p (expr_value s.store value) _ _ (λ atom. (p ++ atom ∷ [], refl))
   stmt_both n (Syncs names event) s p =
@@ -149,7 +149,7 @@ mutual
       (λ u r. event_both n (n + 1) event [] u r) (λ u r. block_both (n + 1 + count_event event) rest (says_again n) (again_silent n) u r) t q) s p
   stmt_both n Ends s p = refl
 
-  event_both : (at n : ℕ) (e : Event) (wraps : List Wrapping) (s : State) (p : List Atom) → Both FormedAlike (resolve (numbered_event at n e) wraps (told s p)) (resolve e wraps s)
+  pub event_both : (at n : ℕ) (e : Event) (wraps : List Wrapping) (s : State) (p : List Atom) → Both FormedAlike (resolve (numbered_event at n e) wraps (told s p)) (resolve e wraps s)
   event_both at n (Sends channel list) wraps s p = base_both wraps s p (send_value s.store channel list)
   event_both at n (Receives channel) wraps s p = base_both wraps s p (recv_value s.store channel)
   event_both at n (IsReady list) wraps s p = base_both wraps s p (always_value s.store list)

@@ -1,5 +1,6 @@
 pub mod Following
 pub mod Limits
+pub mod Listing
 pub mod Names
 pub mod Parts
 pub mod Running

@@ -25,7 +25,7 @@ use Rattle.numbered.proofs.Following.{after_alike}
 -- WHAT FOLLOWS FROM THE OFFERS ALONE
 
 -- what some processes offer, the others offer too
-abbrev OffersToo : List Proc → List Proc → Type 0
+abbrev pub OffersToo : List Proc → List Proc → Type 0
 OffersToo ps qs = (t : ℕ) (results : List Chosen) (event : Tree) → IsOffering ps t results event → IsOffering qs t results event
 
 fired_too : (ps qs : List Proc) → OffersToo ps qs → (t : ℕ) (results : List Chosen) (k g : ℕ) → FiredAt ps t results k g → FiredAt qs t results k g
@@ -117,7 +117,7 @@ numbered_offers n ps t results event h =
     let told = offers_back (after (numbered_block first p.body Stops) (length p.variables) t results) event h.printed alike in
     record { process = numbered_process first p; is_its = get_numbered n ps t p h.is_its; printed = told.0; offers = told.1 }
 
-offers_unnumbered : (n : ℕ) (ps : List Proc) → OffersToo (numbered_all n ps) ps
+pub offers_unnumbered : (n : ℕ) (ps : List Proc) → OffersToo (numbered_all n ps) ps
 offers_unnumbered n ps t results event h =
     let w = get_process n ps t h.process h.is_its in
     let p = w.0 in

@@ -4,7 +4,8 @@ ghost use Rattle.numbered.specs.Alike.{NumberedIsAlike, NumberedRunsAreSame, Num
 ghost use Rattle.numbered.specs.Standing.{NumberedTellWhere};
 
 /// The numbered processes do what the processes do, whatever they print: they have the same runs and the same ends.
-/// One that waits, made all its syncs or failed printed the number of a statement of its own last.
+/// The last that one of them printed, if it did not end, is the number of the statement at which it stands: the sync
+/// whose event it offers, or a statement that can fail as it failed.
 pub fn numbering_laws()
     ensures alike { NumberedIsAlike }
     ensures runs { NumberedRunsAreSame }

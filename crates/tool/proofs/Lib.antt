@@ -6,5 +6,5 @@ pub mod Playing
 pub mod Lines
 pub mod Replaying
 pub mod Running
-pub mod Telling
+pub mod Numbering
 pub mod Judging

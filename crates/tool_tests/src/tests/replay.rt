@@ -371,3 +371,84 @@ fn words_of_replay(rt: HostRuntime) -> Result<(), Fault> {
     is_bad_words(&rt, &["replay", "script", "journal", "--rows", "1025"])?;
     Ok(())
 }
+
+const STUCK: &str = "channel c; channel d;
+process a {
+  if 1 < 2 { loop 2 { sync choose [recv c,
+    guard { print 1; } recv d]; print 2; } }
+  else { end; }
+}
+process b { sync send c (1); sync send c (2); x <- sync send d (3); }
+process n { sync choose [nack g { sync send d (g); } never, recv d]; }
+process m { y <- sync recv d; sync choose [cancelled y, send d (y)]; }
+process f { let x = 1; let y = y; }
+";
+
+const FIRST: &str = "1 b.0.0 -> a.0.0 c (1)
+";
+
+const SECOND: &str = "1 b.0.0 -> a.0.0 c (1)
+1 n.0.0 -> m.0.0 d (!n.0)
+2 b.1.0 -> a.1.0 c (2)
+3 b.2.0 -> n.1.1 d (3)
+";
+
+const THIRD: &str = "1 n.0.0 -> m.0.0 d (!n.0)
+";
+
+// A sync in a nack's block, in a guard, in the second turn of a loop and behind it, with who could meet it.
+#[test]
+fn tells_why_each_process_stands(rt: HostRuntime) -> Result<(), Fail> {
+    let told = [
+        (
+            "256",
+            FIRST,
+            "a waits at line 3
+  recv c: may meet b
+  recv d: may meet n, the same is offered by m
+b waits at line 7
+  send c (2): may meet a
+n waits at line 8
+  send d (!n.0): may meet a m
+m waits at line 9
+  recv d: may meet n, the same is offered by a
+f faulted at line 10: a name is read that is not set
+",
+        ),
+        (
+            "256",
+            SECOND,
+            "a ended
+b faulted at line 7: a message has more or fewer values than there are names
+n ended
+m waits at line 9
+  cancelled n.0: enabled by n at 3
+  send d (!n.0): nobody offers
+f faulted at line 10: a name is read that is not set
+",
+        ),
+        (
+            "1",
+            THIRD,
+            "a waits at line 3
+  recv c: may meet b
+  recv d: nobody offers
+b waits at line 7
+  send c (1): may meet a
+n is spent at line 8: it made 1 syncs
+m is spent at line 9: it made 1 syncs
+f faulted at line 10: a name is read that is not set
+",
+        ),
+    ];
+    for (rows, journal, text) in told {
+        let words = ["why", "--rows", rows, "script", "journal"];
+        let ran = replay(&rt, &words, STUCK, journal)?;
+        assert_eq!(&rt; ran.out.as_slice(), text.as_bytes());
+        assert_eq!(&rt; ran.status, 0);
+    }
+    let ran = replay(&rt, &["why", "script", "journal"], STUCK, "2 b.0.0 -> a.0.0 c (1)\n")?;
+    assert_eq!(&rt; ran.out.as_slice(), b"unlawful at line 1\n".as_slice());
+    assert_eq!(&rt; ran.status, 1);
+    Ok(())
+}

@@ -18,7 +18,7 @@ length-numbered n (p ∷ ps) = ap suc (length-numbered (n + count_block p.body) 
 
 -- as many of them as processes
 pub length-seen : (seen : List SeenProc) (n : ℕ) (ps : List Proc) → map proc_of seen ≡ numbered_all n ps → length seen ≡ length ps
-length-seen seen n ps is = sym (length-map proc_of seen) ∙ ap (λ (qs : List Proc). length qs) is ∙ length-numbered n ps
+length-seen seen n ps is = sym (length-map seen proc_of) ∙ ap (λ (qs : List Proc). length qs) is ∙ length-numbered n ps
 
 get-take : {A : Type 0} (xs : List A) (n i : ℕ) (x : A) → slice_get (take n xs) i ≡ Some x → (i < n) × (slice_get xs i ≡ Some x)
 get-take [] zero i x e = absurd (none-some x e)
@@ -49,3 +49,6 @@ threads-of ps rows journal state stands = stands.strands.count
 
 pub threads-numbered : (ps : List Proc) (rows : ℕ) (journal : List Commit) (state standing : State) → StandsAfter ps rows journal state → StandsAfter (numbered_all 1 ps) rows journal standing → thread_count standing ≡ thread_count state
 threads-numbered ps rows journal state standing stands follows = follows.strands.count ∙ length-numbered 1 ps ∙ sym stands.strands.count
+
+pub few-seen : (seen : List SeenProc) (n : ℕ) (ps : List Proc) → map proc_of seen ≡ numbered_all n ps → length ps ≤ 64 → length seen ≤ 64
+few-seen seen n ps is few = subst (λ (m : ℕ). m ≤ 64) (sym (length-seen seen n ps is)) few
