@@ -29,11 +29,7 @@ pub fn push_atom(out: &mut String, script: &Script, atom: Atom) -> Result<(), Al
 }
 
 /// The message as it stands in a journal.
-pub fn push_message(
-    out: &mut String,
-    script: &Script,
-    message: Message,
-) -> Result<(), AllocError>
+pub fn push_message(out: &mut String, script: &Script, message: Message) -> Result<(), AllocError>
     ensures { OnOk result (string_bytes out.new ≡ string_bytes out.old ++ message_text (naming (names_of (script_of script.now))) message) }
 {
     out.push_str("(")?;

@@ -36,8 +36,8 @@ take-take (x ∷ xs) (suc n) (suc i) less = ap (λ (ys : List _). x ∷ ys) (tak
 -- a run has no first commit with which it is none
 run-unbroken : (ps : List Proc) (rows : ℕ) (journal : List Commit) (index : ℕ) → IsRun ps rows journal → BreaksOffAt ps rows journal index → ⊥
 run-unbroken ps rows journal index run b = b.broken (λ i c is.
-  let h = get-take journal (index + 1) i c is in
-  subst (λ (earlier : List Commit). Follows ps rows earlier c) (sym (take-take journal (index + 1) i h.0)) (run i c h.1))
+    let h = get-take journal (index + 1) i c is in
+    subst (λ (earlier : List Commit). Follows ps rows earlier c) (sym (take-take journal (index + 1) i h.0)) (run i c h.1))
 
 -- nor is the journal broken for the numbered processes
 pub numbered-unbroken : (ps : List Proc) (rows : ℕ) (journal : List Commit) (state : State) (index : ℕ) → StandsAfter ps rows journal state → BreaksOffAt (numbered_all 1 ps) rows journal index → ⊥

@@ -22,6 +22,6 @@ pub use crate::play::{PlayFault, play_laws, play_text};
 pub use crate::program::{BAD_WORDS, command, tell};
 pub use crate::replay::{Replayed, replay_laws, replay_text};
 pub use crate::request::Request;
-pub use crate::telling::why_journal;
 pub use crate::run::{RunText, run_parts, run_text};
+pub use crate::telling::why_journal;
 pub use files::{Source, SourceFault, SystemFiles};

@@ -253,7 +253,12 @@ impl Teller<'_> {
     }
 
     /// The offers of a process that waits, each on a line of its own.
-    fn push_offers(&self, out: &mut String, thread: usize, site: &Site<'_>) -> Result<(), AllocError>
+    fn push_offers(
+        &self,
+        out: &mut String,
+        thread: usize,
+        site: &Site<'_>,
+    ) -> Result<(), AllocError>
         requires { length self.now.sites.now ≤ 64 }
         ensures { OnOk result (string_bytes out.new ≡ string_bytes out.old ++ offers_text (naming (names_of (script_of self.now.script.now))) (fired_by self.now.state.now) self.now.sites.now thread site.now) }
     {

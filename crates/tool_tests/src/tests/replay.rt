@@ -447,7 +447,12 @@ f faulted at line 10: a name is read that is not set
         assert_eq!(&rt; ran.out.as_slice(), text.as_bytes());
         assert_eq!(&rt; ran.status, 0);
     }
-    let ran = replay(&rt, &["why", "script", "journal"], STUCK, "2 b.0.0 -> a.0.0 c (1)\n")?;
+    let ran = replay(
+        &rt,
+        &["why", "script", "journal"],
+        STUCK,
+        "2 b.0.0 -> a.0.0 c (1)\n",
+    )?;
     assert_eq!(&rt; ran.out.as_slice(), b"unlawful at line 1\n".as_slice());
     assert_eq!(&rt; ran.status, 1);
     Ok(())
