@@ -108,9 +108,9 @@ fn show<R: Files + Input + Print + AllocGlobal + Threads + Wait + Sync, E: Write
     let journal = format!(in rt.alloc(); "{}.journal", example.name)?;
     println!(rt; "{}", example.name)?;
     ask(rt, &["check", script.as_str()], err)?;
-    for command in ["replay", "why", "chart"] {
-        ask(rt, &[command, script.as_str(), journal.as_str()], err)?;
-    }
+    ask(rt, &["replay", script.as_str(), journal.as_str()], err)?;
+    ask(rt, &["why", script.as_str(), journal.as_str()], err)?;
+    ask(rt, &["chart", script.as_str(), journal.as_str()], err)?;
     if example.has_one_run {
         ask(rt, &["run", script.as_str()], err)
     } else {

@@ -6,7 +6,6 @@ use Rattle.journal_text.specs.Journals.{Spells}
 use Rattle.numbered.specs.Numbered.{numbered_all}
 use Rattle.sequential.specs.Replays.{StandsAfter}
 use Rattle.sequential.specs.declared.state.State.{State}
-use Rattle.why.specs.Lines.{statement_lines}
 use Rattle.why.specs.Whys.{IsWhy}
 use Rattle.tool.specs.Replay.{IsNoRun}
 use Rattle.tool.specs.declared.replay.Replayed.{Replayed}
@@ -22,7 +21,7 @@ pub record IsTold (s : Script) (source : List ℕ) (rows : ℕ) (bytes told : Li
   pub stands : StandsAfter s.processes rows commits state
   pub standing : State
   pub numbered : StandsAfter (numbered_all 1 s.processes) rows commits standing
-  pub is : IsWhy s state standing (statement_lines source) rows told
+  pub is : IsWhy s state standing source rows told
 
 abbrev pub TellsWhy : Script → List ℕ → ℕ → List ℕ → Replayed → Type 0
 TellsWhy s source rows bytes (Lawful text) = IsTold s source rows bytes text.items

@@ -11,7 +11,7 @@ use numbered::numbered;
 use script::Script;
 use sequential::{ReplayFault, replay};
 use std::alloc::Global;
-use why::{statement_lines, why_text};
+use why::why_text;
 
 /// Where the processes of the script stand after the journal in the bytes, at which lines of the script's
 /// text, and with whom each could go on.
@@ -34,8 +34,7 @@ pub fn why_journal(
             let processes = numbered(alloc, script.processes())?;
             match replay(alloc, processes.as_slice(), rows, commits.as_slice()) {
                 Ok(standing) => {
-                    let lines = statement_lines(alloc, text)?;
-                    let told = why_text(alloc, script, &state, &standing, &lines, rows)?;
+                    let told = why_text(alloc, script, &state, &standing, text, rows)?;
                     Ok(Replayed::Lawful(told.into_bytes()))
                 }
                 Err(ReplayFault::Memory) => Err(JournalFault::Memory),

@@ -1,2 +1,4 @@
+pub mod Knots
 pub mod Lines
+pub mod Offering
 pub mod Whys

@@ -1,62 +1,29 @@
 -- Where each process stands, and with whom it could go on: what is told of a run.
 use Rattle.std.specs.Prelude.{◌≡◌, ◌==◌, ◌&&◌, ℕ, zero, suc, Bool, true, false, not, if◌then◌else◌, List, [], ◌∷◌, ◌++◌, length, codes, Option, Some, None, slice_get}
 use Rattle.std.specs.Fmt.{decimal}
-use Rattle.std.specs.List.{flat_map, list_any}
+use Rattle.std.specs.List.{flat_map}
 use Rattle.thread.specs.declared.Fault.{Fault}
 use Rattle.thread.specs.declared.Fault.TheVariants.{Unset, Kind, Range, Shape}
 use Rattle.words.specs.declared.Atom.{Atom}
 use Rattle.words.specs.declared.Base.{Base}
 use Rattle.words.specs.declared.Base.TheVariants.{Send, Recv, Always, OnNack, Never}
+use Rattle.words.specs.declared.Commit.{Commit}
 use Rattle.words.specs.declared.NackName.{NackName}
 use Rattle.words.specs.declared.Offer.{Offer}
 use Rattle.script.specs.Sources.{Script}
 use Rattle.journal_text.specs.Names.{Naming, names_of, naming}
 use Rattle.journal_text.specs.Texts.{message_text, nack_text}
-use Rattle.sequential.specs.Replays.{TellsEnd, TellsFired, TellsOpen, TellsOutput, thread_count}
+use Rattle.sequential.specs.Replays.{TellsEnabled, TellsEnd, TellsFired, TellsOpen, TellsOutput, thread_count}
 use Rattle.sequential.specs.declared.end.End.{End}
 use Rattle.sequential.specs.declared.end.End.TheVariants.{Ended, Waiting, Spent, Faulted}
 use Rattle.sequential.specs.declared.state.State.{State}
-use Rattle.why.specs.Lines.{line_of}
+use Rattle.token.specs.Lexemes.{placed_tokens}
+use Rattle.why.specs.Knots.{IsKnot, parts_below, waits_for}
+use Rattle.why.specs.Lines.{line_of, statement_lines}
+use Rattle.why.specs.Offering.{is_open, is_waiting, others}
 use Rattle.why.specs.declared.site.Site.{Site}
 use Rattle.why.specs.declared.site.Side.{Side}
 use Rattle.why.specs.declared.site.Side.TheVariants.{Sends, Receives}
-
--- WHO OFFERS WHAT
-
--- the base event is on this side of the channel
-abbrev pub is_on : Side → ℕ → Base → Bool
-is_on Sends chan (Send c m) = c == chan
-is_on Receives chan (Recv c) = c == chan
-is_on side chan base = false
-
-abbrev pub is_waiting : End → Bool
-is_waiting Waiting = true
-is_waiting end = false
-
--- the process waits with such an offer
-abbrev pub offers_on : Side → ℕ → Site → Bool
-offers_on side chan s = is_waiting s.end && list_any (λ o. is_on side chan o.base) s.offers.now
-
-abbrev pub is_other_on : Side → ℕ → ℕ → ℕ → Option Site → Bool
-is_other_on side chan t u None = false
-is_other_on side chan t u (Some s) = not (u == t) && offers_on side chan s
-
--- of the first so many processes those with such an offer, but for process t
-abbrev pub others_below : List Site → Side → ℕ → ℕ → ℕ → List ℕ
-others_below sites side chan t zero = []
-others_below sites side chan t (suc u) =
-    if is_other_on side chan t u (slice_get sites u) then others_below sites side chan t u ++ u ∷ [] else others_below sites side chan t u
-
-abbrev pub others : List Site → Side → ℕ → ℕ → List ℕ
-others sites side chan t = others_below sites side chan t (length sites)
-
-abbrev pub has_nack : ℕ → Option Site → Bool
-has_nack k None = false
-has_nack k (Some s) = list_any (λ n. n == k) s.nacks.now
-
--- the nack is of a sync that is open
-abbrev pub is_open : List Site → NackName → Bool
-is_open sites n = has_nack n.k (slice_get sites n.thread)
 
 -- THE TEXT OF AN OFFER
 
@@ -155,6 +122,20 @@ sites_below names fired rows sites (suc t) = sites_below names fired rows sites 
 abbrev pub why_text : Naming → (NackName → Option ℕ) → ℕ → List Site → List ℕ
 why_text names fired rows sites = sites_below names fired rows sites (length sites)
 
+-- THE LAST LINE
+
+unfoldable pub knot_words : List ℕ
+knot_words = codes "waiting for one another:"
+
+-- who wait for one another, where some do
+abbrev pub knot_text : Naming → List ℕ → List ℕ
+knot_text names knot = if length knot == 0 then [] else knot_words ++ listed names knot ++ 10 ∷ []
+
+-- told only where no commit may come next
+abbrev pub last_text : Naming → Option Commit → List ℕ → List ℕ
+last_text names (Some commit) knot = []
+last_text names None knot = knot_text names knot
+
 -- WHAT IS TOLD
 
 -- a process as the state has it; where it stands is told by a state whose processes print the numbers of their statements
@@ -170,10 +151,15 @@ pub record AreSites (state standing : State) (lines : List ℕ) (sites : List Si
   pub count : length sites ≡ thread_count state
   pub each : (t : ℕ) (s : Site) → slice_get sites t ≡ Some s → TellsSite state standing lines t s
 
--- the text tells of each process of the state, in the names of the script
-pub record IsWhy (script : Script) (state standing : State) (lines : List ℕ) (rows : ℕ) (text : List ℕ) : Type 0 where
+-- The text tells of each process of the state, in the names of the script, whose source is given; and where no commit
+-- may come next, who wait for one another.
+pub record IsWhy (script : Script) (state standing : State) (source : List ℕ) (rows : ℕ) (text : List ℕ) : Type 0 where
   pub sites : List Site
-  pub are : AreSites state standing lines sites
+  pub are : AreSites state standing (statement_lines source) sites
   pub fired : NackName → Option ℕ
   pub tells_fired : (n : NackName) → TellsFired state n (fired n)
-  pub is : text ≡ why_text (naming (names_of script)) fired rows sites
+  pub next : Option Commit
+  pub tells_next : TellsEnabled state next
+  pub knot : List ℕ
+  pub is_knot : IsKnot (length sites) (waits_for (naming (names_of script)) (parts_below (placed_tokens source) (length sites)) sites) knot
+  pub is : text ≡ why_text (naming (names_of script)) fired rows sites ++ last_text (naming (names_of script)) next knot

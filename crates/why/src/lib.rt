@@ -4,9 +4,10 @@
 //! What is told is a function of how the processes stand (`specs/Whys.antt`).
 #![tactic(auto)]
 
+mod knot;
 mod lines;
+mod parts;
 mod site;
 mod text;
 
-pub use crate::lines::statement_lines;
 pub use crate::text::why_text;

@@ -2,12 +2,12 @@
 
 ghost use Rattle.std.specs.Prelude.{◌≡◌, IfOk};
 ghost use Rattle.std.specs.List.{flat_map};
-ghost use Rattle.token.specs.Lexemes.{seen_at};
+ghost use Rattle.token.specs.Lexemes.{seen};
 ghost use Rattle.token.specs.Tokens.{view};
-ghost use Rattle.why.specs.Lines.{is_statement, line_at, statement_lines};
+ghost use Rattle.why.specs.Lines.{is_statement, line_at};
 
 use std::alloc::{AllocError, Global};
-use token::{Placed, Symbol, Token, scan};
+use token::{Placed, Symbol, Token};
 
 fn is_statement(token: &Token<'_>) -> bool
     ensures { result ≡ is_statement (view token.now) }
@@ -21,9 +21,9 @@ fn is_statement(token: &Token<'_>) -> bool
     )
 }
 
-/// The lines of the words among tokens.
-fn lines_of(alloc: Global, tokens: &[Placed<'_>]) -> Result<Vec<usize>, AllocError>
-    ensures { IfOk result (λ lines. lines.items ≡ flat_map (λ p. line_at (seen_at p)) tokens.now) }
+/// The line of each word `let`, `print`, `sync` and `if` among tokens.
+pub(crate) fn lines_of(alloc: Global, tokens: &[Placed<'_>]) -> Result<Vec<usize>, AllocError>
+    ensures { IfOk result (λ lines. lines.items ≡ flat_map line_at (seen tokens.now)) }
 {
     let mut lines = Vec::new(alloc);
     for placed in tokens {
@@ -32,12 +32,4 @@ fn lines_of(alloc: Global, tokens: &[Placed<'_>]) -> Result<Vec<usize>, AllocErr
         }
     }
     Ok(lines)
-}
-
-/// The line of each word `let`, `print`, `sync` and `if` in the text of a script.
-pub fn statement_lines(alloc: Global, text: &[u8]) -> Result<Vec<usize>, AllocError>
-    ensures { IfOk result (λ lines. lines.items ≡ statement_lines text.now) }
-{
-    let tokens = scan(alloc, text)?;
-    lines_of(alloc, &tokens.placed)
 }

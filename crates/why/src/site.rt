@@ -4,7 +4,8 @@ ghost use Rattle.std.specs.Prelude.{◌≡◌, ◌==◌, ◌≤◌, IfOk, length
 ghost use Rattle.std.specs.List.{list_any};
 ghost use Rattle.sequential.specs.Replays.{thread_count};
 ghost use Rattle.why.specs.Lines.{line_of};
-ghost use Rattle.why.specs.Whys.{AreSites, is_on, is_open, is_waiting, offers_on, others};
+ghost use Rattle.why.specs.Offering.{is_on, is_open, is_waiting, offers_on, others};
+ghost use Rattle.why.specs.Whys.{AreSites};
 
 use sequential::{End, State};
 use std::alloc::{AllocError, Global};
@@ -42,7 +43,7 @@ fn line_of(lines: &[usize], printed: &[Atom]) -> usize
     }
 }
 
-fn is_waiting(end: End) -> bool
+pub(crate) fn is_waiting(end: End) -> bool
     ensures { result ≡ is_waiting end }
 {
     matches!(end, End::Waiting)

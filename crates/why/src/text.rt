@@ -1,19 +1,28 @@
 //! The text.
 
 ghost use Rattle.std.specs.Prelude.{◌≡◌, ◌++◌, ◌<◌, ◌≤◌, IfOk, OnOk, length, slice_get};
+ghost use Rattle.std.specs.List.{flat_map};
 ghost use Rattle.std.specs.String.{string_bytes};
 ghost use Rattle.journal_text.specs.Names.{names_of, naming};
 ghost use Rattle.script.specs.Scripts.{script_of};
 ghost use Rattle.sequential.specs.Replays.{fired_by, thread_count};
-ghost use Rattle.why.specs.Whys.{IsWhy, also_text, also_words, chance_text, fault_text, listed, lone_text, nack_state_text, nobody_words, offer_line, offer_text, offers_text, others, partners_text, same_words, site_text, spent_text, stand_text, sync_words, syncs_text, unfired_text, why_text};
+ghost use Rattle.token.specs.Lexemes.{seen};
+ghost use Rattle.why.specs.Knots.{IsKnot, parts_below, waits_for};
+ghost use Rattle.why.specs.Lines.{line_at};
+ghost use Rattle.why.specs.Offering.{others};
+ghost use Rattle.why.specs.Whys.{AreSites, IsWhy, also_text, also_words, chance_text, fault_text, knot_text, knot_words, last_text, listed, lone_text, nack_state_text, nobody_words, offer_line, offer_text, offers_text, partners_text, same_words, site_text, spent_text, stand_text, sync_words, syncs_text, unfired_text, why_text};
 
+use crate::knot::Waiting;
+use crate::lines::lines_of;
+use crate::parts::parts;
 use crate::site::{Side, Site, is_open, others, sites_of};
 use pieces::{push_channel, push_message, push_nack, push_thread};
 use script::Script;
 use sequential::{End, State};
 use std::alloc::{AllocError, Global};
 use thread::Fault;
-use words::{Base, NackName, Offer};
+use token::{Placed, scan};
+use words::{Base, Commit, NackName, Offer};
 
 /// What is told of a run: the names, what may come next, and where its processes stand.
 #[derive(Drop)]
@@ -298,29 +307,104 @@ impl Teller<'_> {
     }
 }
 
-/// Why each process of the state stands where it does, a line for each process and each of its offers. The
-/// processes of `standing` are those of the script, but print the number of each statement before it
-/// begins; `lines` are the lines of the statements.
+#[tactic(auto, unfolding(crate::specs::Whys::knot_words))]
+fn knot_words() -> &'static str
+    ensures { result.now ≡ knot_words }
+{
+    "waiting for one another:"
+}
+
+/// Who wait for one another, where some do.
+fn push_knot(out: &mut String, script: &Script, knot: &[u8]) -> Result<(), AllocError>
+    ensures { OnOk result (string_bytes out.new ≡ string_bytes out.old ++ knot_text (naming (names_of (script_of script.now))) knot.now) }
+{
+    if knot.len() == 0 {
+        return Ok(());
+    }
+    out.push_str(knot_words())?;
+    push_listed(out, script, knot)?;
+    out.push_str("\n")
+}
+
+/// Who wait for one another, where no commit may come next.
+fn push_last(
+    out: &mut String,
+    script: &Script,
+    next: &Option<Commit>,
+    knot: &[u8],
+) -> Result<(), AllocError>
+    ensures { OnOk result (string_bytes out.new ≡ string_bytes out.old ++ last_text (naming (names_of (script_of script.now))) next.now knot.now) }
+{
+    match next {
+        Some(_) => Ok(()),
+        None => push_knot(out, script, knot),
+    }
+}
+
+/// Those that wait for one another, by the tokens of the script's text.
+fn knot_of(
+    alloc: Global,
+    script: &Script,
+    sites: &[Site<'_>],
+    tokens: &[Placed<'_>],
+) -> Result<Vec<u8>, AllocError>
+    requires { length sites.now ≤ 64 }
+    ensures { IfOk result (λ knot. IsKnot (length sites.now) (waits_for (naming (names_of (script_of script.now))) (parts_below (seen tokens.now) (length sites.now)) sites.now) knot.items) }
+{
+    let parts = parts(alloc, tokens, sites.len())?;
+    let waiting = Waiting {
+        script,
+        sites,
+        parts: &parts,
+    };
+    waiting.knot(alloc)
+}
+
+/// Where each process of the state stands, by the tokens of the script's text.
+fn sites_at<'a>(
+    alloc: Global,
+    state: &'a State,
+    standing: &State,
+    tokens: &[Placed<'_>],
+) -> Result<Vec<Site<'a>>, AllocError>
+    requires { thread_count standing.now ≡ thread_count state.now }
+    ensures { IfOk result (λ sites. AreSites state.now standing.now (flat_map line_at (seen tokens.now)) sites.items) }
+{
+    let lines = lines_of(alloc, tokens)?;
+    sites_of(alloc, state, standing, &lines)
+}
+
+/// Why each process of the state stands where it does, a line for each process and each of its offers; and
+/// where no commit may come next, a line of those that wait for one another. The text of the script is
+/// `source`. The processes of `standing` are those of the script, but print the number of each statement
+/// before it begins. A process waits for another by what the text of that one could offer: a channel that
+/// it holds in a variable is not seen.
 pub fn why_text(
     alloc: Global,
     script: &Script,
     state: &State,
     standing: &State,
-    lines: &[usize],
+    source: &[u8],
     rows: u16,
 ) -> Result<String, AllocError>
     requires few { thread_count state.now ≤ 64 }
     requires same { thread_count standing.now ≡ thread_count state.now }
-    ensures { IfOk result (λ text. IsWhy (script_of script.now) state.now standing.now lines.now rows (string_bytes text)) }
+    ensures { IfOk result (λ text. IsWhy (script_of script.now) state.now standing.now source.now rows (string_bytes text)) }
 {
-    let sites = sites_of(alloc, state, standing, lines)?;
+    let tokens = scan(alloc, source)?;
+    let placed: &[Placed<'_>] = &tokens.placed;
+    let told = sites_at(alloc, state, standing, placed)?;
+    let sites: &[Site<'_>] = &told;
     let teller = Teller {
         alloc,
         script,
         state,
-        sites: &sites,
+        sites,
     };
     let mut out = String::new(alloc);
     teller.push_sites(&mut out, rows)?;
+    let next = state.enabled(alloc)?;
+    let knot = knot_of(alloc, script, sites, placed)?;
+    push_last(&mut out, script, &next, &knot)?;
     Ok(out)
 }

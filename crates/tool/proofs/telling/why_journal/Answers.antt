@@ -49,8 +49,7 @@ returns-in-Ok-replay-clause-told c =
       stands = stands;
       standing = c.in-Ok-replay.standing;
       numbered = follows;
-      is = subst (λ (z : List ℕ × List ℕ). IsWhy s c.in-Ok.state c.in-Ok-replay.standing z.0 c.args.rows z.1)
-          (λ i. ((c.deref.ensures.value ∙ c.in_ok-lines-in-Ok-replay.ensures) i, (sym c.into_bytes.ensures.value i).items)) c.in_ok-told-in-Ok-replay.ensures;
+      is = subst (λ (told : List ℕ). IsWhy s c.in-Ok.state c.in-Ok-replay.standing c.args.text.now c.args.rows told) (λ i. (sym c.into_bytes.ensures.value i).items) c.in_ok-told-in-Ok-replay.ensures;
     }
 
 pub unreachable-requires : goal.unreachable-requires

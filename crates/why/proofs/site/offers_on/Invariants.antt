@@ -1,6 +1,6 @@
 use Rattle.std.proofs.Common.{◌≡◌, take, false}
 use Rattle.std.specs.List.{list_any}
-use Rattle.why.specs.Whys.{is_on}
+use Rattle.why.specs.Offering.{is_on}
 use Rattle.why.proofs.site.offers_on.Given as goal
 
 abbrev pub invariant-loop-offer : goal.invariant-loop-offer

@@ -1,5 +1,5 @@
 use Rattle.std.proofs.Common.{◌≡◌}
-use Rattle.why.specs.Whys.{others_below}
+use Rattle.why.specs.Offering.{others_below}
 use Rattle.why.proofs.site.others.Given as goal
 
 abbrev pub invariant-loop-other : goal.invariant-loop-other
