@@ -3,7 +3,6 @@ use Rattle.std.proofs.Common.{◌≡◌, ℕ, zero, suc, ◌+◌, ◌<◌, ◌�
 use Rattle.std.proofs.lemmas.List.{length-map}
 use Rattle.std.proofs.lemmas.Option.{none-some}
 use Rattle.syntax.specs.Processes.{Proc, proc_of}
-use Rattle.syntax.specs.Trees.{Block}
 use Rattle.syntax.specs.declared.process.Proc.{Proc as SeenProc}
 use Rattle.words.specs.declared.Commit.{Commit}
 use Rattle.numbered.specs.Numbered.{count_block, numbered_all}
