@@ -1,3 +1,4 @@
+mod checks;
 mod events;
 mod journals;
 mod lexemes;

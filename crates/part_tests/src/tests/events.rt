@@ -3,6 +3,7 @@ ghost use Rattle.smallvec.specs.SmallVec.{small_vec_len};
 ghost use Rattle.event.specs.Resolved.{tree_of};
 ghost use Rattle.event.specs.Tree.{base_count};
 
+use super::checks::check_same;
 use event::{Resolved, fits, flatten, wraps_of};
 use smallvec::SmallVec;
 use std::alloc::{AllocError, Global};
@@ -50,7 +51,7 @@ fn wraps_round(
 /// The first word of the only offer, of an event that brings no atoms.
 fn only_head(rt: &(impl AllocGlobal + Abort), event: &Resolved) -> u64 {
     let offers = offers_of(rt, event);
-    assert_eq!(rt; offers.len(), 1);
+    assert!(rt; offers.len() == 1);
     let Offer { base, scopes } = offers[0];
     assert!(rt; scopes < 16);
     let base = match base {
@@ -60,53 +61,74 @@ fn only_head(rt: &(impl AllocGlobal + Abort), event: &Resolved) -> u64 {
     pack_offer(Offer { base, scopes })[0]
 }
 
-#[test]
-fn offers_and_wraps_in_order(rt: HostRuntime) -> Result<(), AllocError> {
-    let alloc = rt.alloc();
-    let inner = choose(alloc, Resolved::Always(always_7()), Resolved::Never)?;
-    let event = choose(alloc, Resolved::Recv(4), wrap(alloc, 0, inner)?)?;
-    let bases = [Base::Recv(4), Base::Always(always_7()), Base::Never];
-    let offers = offers_of(&rt, &event);
-    assert_eq!(rt; offers.len(), 3);
-    for (offered, base) in offers.iter().zip(&bases) {
-        assert_eq!(rt;
-            *offered,
-            Offer {
-                base: *base,
-                scopes: 0
-            }
-        );
-    }
-    assert_eq!(rt; wraps_round(&rt, &event, 0)?.len(), 0);
-    for n in 1..3 {
-        let wraps = wraps_round(&rt, &event, n)?;
-        assert_eq!(rt; wraps.as_slice(), &[0][..]);
-    }
+fn check_offers(rt: &(impl AllocGlobal + Abort), event: &Resolved, wanted: &[Offer]) {
+    check_same(rt, offers_of(rt, event).as_slice(), wanted, "the offers");
+}
+
+fn check_wraps(
+    rt: &(impl AllocGlobal + Abort),
+    event: &Resolved,
+    n: u8,
+    wanted: &[u32],
+) -> Result<(), AllocError> {
+    check_same(
+        rt,
+        wraps_round(rt, event, n)?.as_slice(),
+        wanted,
+        "the wraps",
+    );
     Ok(())
 }
 
+const THREE: [Offer; 3] = [
+    Offer {
+        base: Base::Recv(4),
+        scopes: 0,
+    },
+    Offer {
+        base: Base::Always(Message::One(Atom::Num(7))),
+        scopes: 0,
+    },
+    Offer {
+        base: Base::Never,
+        scopes: 0,
+    },
+];
+
+fn three(alloc: Global) -> Result<Resolved, AllocError> {
+    let inner = choose(alloc, Resolved::Always(always_7()), Resolved::Never)?;
+    choose(alloc, Resolved::Recv(4), wrap(alloc, 0, inner)?)
+}
+
+#[test]
+fn offers_and_wraps_in_order(rt: HostRuntime) -> Result<(), AllocError> {
+    let event = three(rt.alloc())?;
+    check_offers(&rt, &event, &THREE);
+    check_wraps(&rt, &event, 0, &[])?;
+    check_wraps(&rt, &event, 1, &[0])?;
+    check_wraps(&rt, &event, 2, &[0])?;
+    Ok(())
+}
+
+const ATOMS: Message = Message::Three(Atom::Num(1), Atom::Chan(2), Atom::Num(3));
+
+const NACK: NackName = NackName { thread: 5, k: 6 };
+
+const SEND_AND_ON_NACK: [Offer; 2] = [
+    Offer {
+        base: Base::Send(9, ATOMS),
+        scopes: 0,
+    },
+    Offer {
+        base: Base::OnNack(NACK),
+        scopes: 0,
+    },
+];
+
 #[test]
 fn each_kind_of_base_event(rt: HostRuntime) -> Result<(), AllocError> {
-    let alloc = rt.alloc();
-    let atoms = Message::Three(Atom::Num(1), Atom::Chan(2), Atom::Num(3));
-    let nack = NackName { thread: 5, k: 6 };
-    let event = choose(alloc, Resolved::Send(9, atoms), Resolved::OnNack(nack))?;
-    let offers = offers_of(&rt, &event);
-    assert_eq!(rt; offers.len(), 2);
-    assert_eq!(rt;
-        offers[0],
-        Offer {
-            base: Base::Send(9, atoms),
-            scopes: 0
-        }
-    );
-    assert_eq!(rt;
-        offers[1],
-        Offer {
-            base: Base::OnNack(nack),
-            scopes: 0
-        }
-    );
+    let event = choose(rt.alloc(), Resolved::Send(9, ATOMS), Resolved::OnNack(NACK))?;
+    check_offers(&rt, &event, &SEND_AND_ON_NACK);
     Ok(())
 }
 
@@ -114,27 +136,30 @@ fn each_kind_of_base_event(rt: HostRuntime) -> Result<(), AllocError> {
 fn head_words(rt: HostRuntime) -> Result<(), AllocError> {
     let alloc = rt.alloc();
     let in_two = scope(alloc, 8, scope(alloc, 9, Resolved::Recv(3))?)?;
-    assert_eq!(rt; only_head(&rt, &in_two), 100663322);
+    check_same(&rt, only_head(&rt, &in_two), 100663322, "two scopes");
     let in_one = scope(alloc, 0, Resolved::Always(Message::Empty))?;
-    assert_eq!(rt; only_head(&rt, &in_one), 33554435);
-    assert_eq!(rt; only_head(&rt, &Resolved::Recv(5)), 42);
+    check_same(&rt, only_head(&rt, &in_one), 33554435, "one scope");
+    check_same(&rt, only_head(&rt, &Resolved::Recv(5)), 42, "no scope");
     Ok(())
+}
+
+/// An empty choice in two scopes, beside a receive in one.
+fn empty_scopes(alloc: Global) -> Result<Resolved, AllocError> {
+    let empty = scope(alloc, 7, scope(alloc, 8, nothing(alloc))?)?;
+    choose(alloc, empty, scope(alloc, 9, Resolved::Recv(5))?)
 }
 
 #[test]
 fn scopes_count_without_a_base_event(rt: HostRuntime) -> Result<(), AllocError> {
-    let alloc = rt.alloc();
-    let empty = scope(alloc, 7, scope(alloc, 8, nothing(alloc))?)?;
-    let event = choose(alloc, empty, scope(alloc, 9, Resolved::Recv(5))?)?;
+    let event = empty_scopes(rt.alloc())?;
     let offers = offers_of(&rt, &event);
-    assert_eq!(rt; offers.len(), 1);
-    assert_eq!(rt; offers[0].scopes, 4);
+    assert!(rt; offers.len() == 1);
+    check_same(&rt, offers[0].scopes, 4, "the scopes");
     Ok(())
 }
 
-#[test]
-fn limits(rt: HostRuntime) -> Result<(), AllocError> {
-    let alloc = rt.alloc();
+/// Eight events in four scopes.
+fn largest(alloc: Global) -> Result<Resolved, AllocError> {
     let mut members = Vec::new(alloc);
     for _ in 0..8 {
         members.push(Resolved::Never)?;
@@ -143,22 +168,32 @@ fn limits(rt: HostRuntime) -> Result<(), AllocError> {
     for nack in 0..4 {
         event = scope(alloc, nack, event)?;
     }
+    Ok(event)
+}
+
+#[test]
+fn limits(rt: HostRuntime) -> Result<(), AllocError> {
+    let alloc = rt.alloc();
+    let event = largest(alloc)?;
     assert!(rt; fits(&event));
     let nine = choose(alloc, event, Resolved::Never)?;
     assert!(rt; !fits(&nine));
-    let mut empty = nothing(alloc);
+    Ok(())
+}
+
+#[test]
+fn limit_of_scopes(rt: HostRuntime) -> Result<(), AllocError> {
+    let mut empty = nothing(rt.alloc());
     for nack in 0..5 {
         assert!(rt; fits(&empty));
-        empty = scope(alloc, nack, empty)?;
+        empty = scope(rt.alloc(), nack, empty)?;
     }
     assert!(rt; !fits(&empty));
     Ok(())
 }
 
-/// 48 levels: 40 wraps, 4 scopes and 4 choices, the outermost between 8,000 more members.
-#[test]
-fn deep_and_wide(rt: HostRuntime) -> Result<(), AllocError> {
-    let alloc = rt.alloc();
+/// 48 levels: 40 wraps, 4 scopes and 4 choices.
+fn deep_event(alloc: Global) -> Result<Resolved, AllocError> {
     let mut event = Resolved::Recv(1);
     for number in 0..40 {
         event = wrap(alloc, number, event)?;
@@ -166,20 +201,29 @@ fn deep_and_wide(rt: HostRuntime) -> Result<(), AllocError> {
     for nack in 0..4 {
         event = choose(alloc, nothing(alloc), scope(alloc, nack, event)?)?;
     }
+    Ok(event)
+}
+
+/// The deep event, between 8,000 more members.
+fn deep_and_wide_event(alloc: Global) -> Result<Resolved, AllocError> {
     let mut members = Vec::new(alloc);
     for _ in 0..8_000 {
         members.push(nothing(alloc))?;
     }
-    members.push(event)?;
-    let event = Resolved::Choose(members);
-    let offers = offers_of(&rt, &event);
-    assert_eq!(rt; offers.len(), 1);
-    assert_eq!(rt;
-        offers[0],
-        Offer {
+    members.push(deep_event(alloc)?)?;
+    Ok(Resolved::Choose(members))
+}
+
+#[test]
+fn deep_and_wide(rt: HostRuntime) -> Result<(), AllocError> {
+    let event = deep_and_wide_event(rt.alloc())?;
+    check_offers(
+        &rt,
+        &event,
+        &[Offer {
             base: Base::Recv(1),
-            scopes: 15
-        }
+            scopes: 15,
+        }],
     );
     let wraps = wraps_round(&rt, &event, 0)?;
     assert!(rt; wraps.iter().copied().eq(0..40));

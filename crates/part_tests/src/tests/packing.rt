@@ -2,36 +2,37 @@
 ghost use Rattle.std.specs.Prelude.{◌≡◌, IfSome, None, Some};
 ghost use Rattle.words.specs.Words.{IsAtomInRange, IsBindingInRange, IsCellInRange, IsHeadInRange};
 
+use super::checks::check_same;
 use std::process::Abort;
 use words::*;
 
 fn check_cell(rt: &impl Abort, cell: Cell, word: u64)
     requires { IsCellInRange cell }
 {
-    assert_eq!(rt; pack_cell(cell), word);
-    assert_eq!(rt; unpack_cell(word), Some(cell), "at {word}");
+    check_same(rt, pack_cell(cell), word, "the word of a cell");
+    check_same(rt, unpack_cell(word), Some(cell), "the cell of a word");
 }
 
 fn check_head(rt: &impl Abort, direction: Direction, scopes: u8, word: u64)
     requires { IsHeadInRange (record { direction = direction; scopes = scopes }) }
 {
     let head = Head { direction, scopes };
-    assert_eq!(rt; pack_head(head), word);
-    assert_eq!(rt; unpack_head(word), Some(head), "at {word}");
+    check_same(rt, pack_head(head), word, "the word of a head");
+    check_same(rt, unpack_head(word), Some(head), "the head of a word");
 }
 
 fn check_atom(rt: &impl Abort, atom: Atom, word: u64)
     requires { IsAtomInRange atom }
 {
-    assert_eq!(rt; pack_atom(atom), word);
-    assert_eq!(rt; unpack_atom(word), Some(atom), "at {word}");
+    check_same(rt, pack_atom(atom), word, "the word of an atom");
+    check_same(rt, unpack_atom(word), Some(atom), "the atom of a word");
 }
 
 fn check_nack(rt: &impl Abort, binding: Option<Binding>, word: u64)
     requires { IfSome binding IsBindingInRange }
 {
-    assert_eq!(rt; pack_nack(binding), word);
-    assert_eq!(rt; unpack_nack(word), Some(binding), "at {word}");
+    check_same(rt, pack_nack(binding), word, "the word of a nack");
+    check_same(rt, unpack_nack(word), Some(binding), "the nack of a word");
 }
 
 fn met(thread: u8) -> Joined
@@ -65,9 +66,9 @@ fn cells(rt: HostRuntime) {
 
 #[test]
 fn counts(rt: HostRuntime) {
-    assert_eq!(rt; pack_count(8), 8);
-    assert_eq!(rt; unpack_count(8), Some(8));
-    assert_eq!(rt; unpack_count(0), Some(0));
+    check_same(&rt, pack_count(8), 8, "the word of 8");
+    check_same(&rt, unpack_count(8), Some(8), "the count of 8");
+    check_same(&rt, unpack_count(0), Some(0), "the count of 0");
 }
 
 #[test]
@@ -106,67 +107,113 @@ fn nacks(rt: HostRuntime) {
     );
 }
 
+const SENT: Offer = Offer {
+    base: Base::Send(0, Message::One(Atom::Num(42))),
+    scopes: 0,
+};
+
+const RECEIVED: Offer = Offer {
+    base: Base::Recv(3),
+    scopes: 3,
+};
+
+/// The words of an offer, and what they stand for.
+const OFFERS: [([u64; 4], Option<Offer>, &str); 5] = [
+    ([8388609, 168, 0, 0], Some(SENT), "an offer to send"),
+    (
+        [8388609, 168, 1021, 8],
+        Some(SENT),
+        "atoms past the message",
+    ),
+    ([100663322, 0, 0, 0], Some(RECEIVED), "an offer to receive"),
+    ([8388609, 3, 0, 0], None, "an atom of kind 3"),
+    ([5, 168, 0, 0], None, "a head of direction 5"),
+];
+
 #[test]
 fn offers(rt: HostRuntime) {
-    let sent = Offer {
-        base: Base::Send(0, Message::One(Atom::Num(42))),
-        scopes: 0,
-    };
-    assert_eq!(rt; pack_offer(sent), [8388609, 168, 0, 0]);
-    assert_eq!(rt; unpack_offer(8388609, 168, 0, 0), Some(sent));
-    assert_eq!(rt;
-        unpack_offer(8388609, 168, 1021, 8),
-        Some(sent),
-        "atoms past the message"
+    check_same(
+        &rt,
+        pack_offer(SENT),
+        [8388609, 168, 0, 0],
+        "the words of an offer",
     );
-    let received = Offer {
-        base: Base::Recv(3),
-        scopes: 3,
-    };
-    assert_eq!(rt; unpack_offer(100663322, 0, 0, 0), Some(received));
-    assert_eq!(rt; unpack_offer(8388609, 3, 0, 0), None, "an atom of kind 3");
-    assert_eq!(rt; unpack_offer(5, 168, 0, 0), None, "a head of direction 5");
+    for (words, offer, what) in &OFFERS {
+        let [head, first, second, third] = *words;
+        let found = unpack_offer(head, first, second, third);
+        check_same(&rt, found, *offer, what);
+    }
 }
+
+#[derive(Clone, Copy, Debug)]
+enum Form {
+    Cell,
+    Count,
+    Head,
+    Atom,
+    Nack,
+}
+
+fn stands_for_nothing(form: Form, word: u64) -> bool {
+    match form {
+        Form::Cell => unpack_cell(word) == None,
+        Form::Count => unpack_count(word) == None,
+        Form::Head => unpack_head(word) == None,
+        Form::Atom => unpack_atom(word) == None,
+        Form::Nack => unpack_nack(word) == None,
+    }
+}
+
+const ILL_FORMED: [(Form, u64, &str); 17] = [
+    (Form::Cell, 5, "a sixth state"),
+    (Form::Cell, 3, "no stamp"),
+    (Form::Cell, (1 << 63) + 1, "a stray high bit"),
+    (Form::Cell, 9, "fields in Waiting"),
+    (
+        Form::Cell,
+        (1 << 26) + (1 << 7) + 3,
+        "a partner that is not there",
+    ),
+    (Form::Count, 9, "too many"),
+    (Form::Count, 1 << 63, "a stray high bit"),
+    (Form::Head, 5, "a sixth direction"),
+    (Form::Head, 12, "channel bits on OnNack"),
+    (Form::Head, 8, "channel bits on Never"),
+    (Form::Head, 1 << 29, "a stray high bit"),
+    (Form::Atom, 3, "a fourth kind"),
+    (Form::Atom, 1025, "channel 256"),
+    (Form::Atom, 16386, "a nack of thread 64"),
+    (Form::Atom, 1 << 34, "a number of 33 bits"),
+    (Form::Nack, 2, "a sync of no binding"),
+    (Form::Nack, (1 << 13) + 1, "a stray high bit"),
+];
 
 #[test]
 fn ill_formed(rt: HostRuntime) {
-    // a sixth state, no stamp, a stray high bit, fields in Waiting, a partner that is not there
-    for word in [5, 3, (1 << 63) + 1, 9, (1 << 26) + (1 << 7) + 3] {
-        assert_eq!(rt; unpack_cell(word), None, "the cell {word}");
-    }
-    for word in [9, 1 << 63] {
-        assert_eq!(rt; unpack_count(word), None, "the count {word}");
-    }
-    // a sixth direction, channel bits on OnNack and on Never, a stray high bit
-    for word in [5, 12, 8, 1 << 29] {
-        assert_eq!(rt; unpack_head(word), None, "the head {word}");
-    }
-    // a fourth kind, channel 256, a nack of thread 64, a number of 33 bits
-    for word in [3, 1025, 16386, 1 << 34] {
-        assert_eq!(rt; unpack_atom(word), None, "the atom {word}");
-    }
-    // a sync of no binding, a stray high bit
-    for word in [2, (1 << 13) + 1] {
-        assert_eq!(rt; unpack_nack(word), None, "the nack {word}");
+    for (form, word, what) in &ILL_FORMED {
+        assert!(rt; stands_for_nothing(*form, *word), "{form:?} {word}: {what}");
     }
 }
 
+/// Whether a word may stand at a place.
+const PLACES: [(u8, u64, bool); 12] = [
+    (0, 67108931, true),
+    (0, 5, false),
+    (1, 8, true),
+    (1, 9, false),
+    (2, 42, true),
+    (2, 1021, false),
+    (3, 1021, true),
+    (4, 3, false),
+    (5, 168, true),
+    (6, 12, false),
+    (33, 16382, true),
+    (255, 3, false),
+];
+
 #[test]
 fn places(rt: HostRuntime) {
-    for (place, word, fits) in [
-        (0, 67108931, true),
-        (0, 5, false),
-        (1, 8, true),
-        (1, 9, false),
-        (2, 42, true),
-        (2, 1021, false),
-        (3, 1021, true),
-        (4, 3, false),
-        (5, 168, true),
-        (6, 12, false),
-        (33, 16382, true),
-        (255, 3, false),
-    ] {
-        assert_eq!(rt; is_word_for(place, word), fits, "{word} at {place}");
+    for (place, word, fits) in &PLACES {
+        assert!(rt; is_word_for(*place, *word) == *fits, "{word} at {place}");
     }
 }
