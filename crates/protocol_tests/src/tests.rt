@@ -1,7 +1,75 @@
 //! Worked schedules, and worlds at the ends of their ranges.
 
+ghost use Rattle.std.specs.Prelude.{◌≤◌};
+
 use protocol::*;
+use std::alloc::{AllocError, AllocGlobal, Global};
+use std::fmt::Debug;
+use std::process::Abort;
 use std::test::Fail;
+
+pub(crate) type Move = (Seat, Step);
+
+/// Stops the test where the values differ, and prints both.
+pub(crate) fn check_same<T: PartialEq + Debug + Drop>(
+    rt: &impl Abort,
+    found: T,
+    wanted: T,
+    what: &str,
+) {
+    assert!(rt; found == wanted, "{what}: {found:?} is not {wanted:?}");
+}
+
+/// A world of so many threads and rows, with a seat for each thread, plays the steps.
+fn played(alloc: Global, threads: u8, rows: u16, steps: &[Move]) -> Result<Ledger, ProtoFault>
+    requires threads { (1 ≤ threads) × (threads ≤ 16) }
+    requires rows { (1 ≤ rows) × (rows ≤ 1024) }
+{
+    let world = World::start(alloc, threads, rows, threads)?;
+    Ok(play(world, steps)?.ledger())
+}
+
+fn joined(alloc: Global, front: &[Move], back: &[Move]) -> Result<Vec<Move>, AllocError> {
+    let mut steps = Vec::new(alloc);
+    for step in front.iter() {
+        steps.push(*step)?;
+    }
+    for step in back.iter() {
+        steps.push(*step)?;
+    }
+    Ok(steps)
+}
+
+/// The steps are allowed up to the one of this number.
+fn check_refused(
+    rt: &(impl Abort + AllocGlobal),
+    threads: u8,
+    rows: u16,
+    front: &[Move],
+    back: &[Move],
+    number: usize,
+) -> Result<(), Fail>
+    requires threads { (1 ≤ threads) × (threads ≤ 16) }
+    requires rows { (1 ≤ rows) × (rows ≤ 1024) }
+{
+    let steps = joined(rt.alloc(), front, back)?;
+    match played(rt.alloc(), threads, rows, &steps) {
+        Ok(_) => assert!(rt; false, "all steps were allowed"),
+        Err(fault) => check_same(rt, fault, ProtoFault::NotAllowed(number), "the fault"),
+    }
+    Ok(())
+}
+
+fn check_ledger(
+    rt: &(impl Abort + AllocGlobal),
+    ledger: &Ledger,
+    commits: &[Commit],
+    pending: u32,
+) -> Result<(), AllocError> {
+    check_same(rt, ledger.commits()?.as_slice(), commits, "the commits");
+    check_same(rt, ledger.pending(), pending, "the pending");
+    Ok(())
+}
 
 pub(crate) const SENDER: Row = Row { thread: 0, sync: 0 };
 
@@ -48,85 +116,103 @@ pub(crate) const RENDEZVOUS: Commit = Commit::Pair {
     stamp: 1,
 };
 
+const SEAL: Step = Step::Seal { row: SENDER };
+
+const YIELD: Step = Step::Yield { row: RECEIVER };
+
 #[test]
 fn a_claimed_row_is_not_joined(rt: HostRuntime) -> Result<(), Fail> {
-    let mut steps = crossed().to_vec(rt.alloc())?;
-    steps.push((Seat(0), JOIN))?;
-    steps.push((Seat(1), JOIN_BACK))?;
-    let world = World::start(rt.alloc(), 2, 1, 2)?;
-    let fault = play(world, &steps).expect_err(&rt, "the other row is claimed");
-    assert_eq!(rt; fault, ProtoFault::NotAllowed(9));
+    check_refused(
+        &rt,
+        2,
+        1,
+        &crossed(),
+        &[(Seat(0), JOIN), (Seat(1), JOIN_BACK)],
+        9,
+    )
+}
+
+/// After these steps the one commit is there, and so many rows are to be sealed.
+fn check_rendezvous(
+    rt: &(impl Abort + AllocGlobal),
+    back: &[Move],
+    pending: u32,
+) -> Result<(), Fail> {
+    let steps = joined(rt.alloc(), &crossed(), back)?;
+    let ledger = played(rt.alloc(), 2, 1, &steps)?;
+    check_ledger(rt, &ledger, &[RENDEZVOUS], pending)?;
+    check_same(
+        rt,
+        ledger.commit_of(SENDER),
+        Some(RENDEZVOUS),
+        "the sender's",
+    );
+    check_same(
+        rt,
+        ledger.commit_of(RECEIVER),
+        Some(RENDEZVOUS),
+        "the receiver's",
+    );
     Ok(())
 }
 
 #[test]
 fn a_pair_counts_from_the_join_on(rt: HostRuntime) -> Result<(), Fail> {
-    for sealed in [false, true] {
-        let mut steps = crossed().to_vec(rt.alloc())?;
-        steps.push((Seat(1), Step::Yield { row: RECEIVER }))?;
-        steps.push((Seat(0), JOIN))?;
-        if sealed {
-            steps.push((Seat(0), Step::Seal { row: SENDER }))?;
-        }
-        let ledger = play(World::start(rt.alloc(), 2, 1, 2)?, &steps)?.ledger();
-        assert_eq!(rt; ledger.commits()?.as_slice(), [RENDEZVOUS].as_slice());
-        assert_eq!(rt; ledger.pending(), if sealed { 0 } else { 1 });
-        assert_eq!(rt; ledger.commit_of(SENDER), Some(RENDEZVOUS));
-        assert_eq!(rt; ledger.commit_of(RECEIVER), Some(RENDEZVOUS));
-    }
+    check_rendezvous(&rt, &[(Seat(1), YIELD), (Seat(0), JOIN)], 1)?;
+    check_rendezvous(
+        &rt,
+        &[(Seat(1), YIELD), (Seat(0), JOIN), (Seat(0), SEAL)],
+        0,
+    )
+}
+
+/// The last thread's first row is opened, looked at and read, and there are no commits.
+fn check_last_row(
+    rt: &(impl Abort + AllocGlobal),
+    threads: u8,
+    rows: u16,
+    seats: u8,
+) -> Result<(), Fail>
+    requires threads { (1 ≤ threads) × (threads ≤ 64) }
+    requires rows { (1 ≤ rows) × (rows ≤ 1024) }
+    requires seats { (1 ≤ seats) × (seats ≤ 16) }
+{
+    let row = Row {
+        thread: threads - 1,
+        sync: 0,
+    };
+    let seat = Seat((threads - 1) % seats);
+    let steps = [
+        (seat, Step::Open { row }),
+        (seat, Step::Look { row }),
+        (seat, Step::Read { row, place: 33 }),
+    ];
+    let ledger = play(World::start(rt.alloc(), threads, rows, seats)?, &steps)?.ledger();
+    check_ledger(rt, &ledger, &[], 0)?;
+    check_same(rt, ledger.commit_of(row), None, "the last row's");
     Ok(())
 }
 
 #[test]
 fn worlds_start_at_the_ends_of_their_ranges(rt: HostRuntime) -> Result<(), Fail> {
-    for (threads, rows, seats) in [(1, 1, 1), (64, 1024, 16), (1, 1024, 16), (64, 1, 1)] {
-        let last = Row {
-            thread: threads - 1,
-            sync: 0,
-        };
-        let seat = Seat((threads - 1) % seats);
-        let steps = [
-            (seat, Step::Open { row: last }),
-            (seat, Step::Look { row: last }),
-            (
-                seat,
-                Step::Read {
-                    row: last,
-                    place: 33,
-                },
-            ),
-        ];
-        let ledger = play(World::start(rt.alloc(), threads, rows, seats)?, &steps)?.ledger();
-        assert_eq!(rt; ledger.commits()?.len(), 0);
-        assert_eq!(rt; ledger.pending(), 0);
-        assert_eq!(rt; ledger.commit_of(last), None);
-    }
-    Ok(())
+    check_last_row(&rt, 1, 1, 1)?;
+    check_last_row(&rt, 64, 1024, 16)?;
+    check_last_row(&rt, 1, 1024, 16)?;
+    check_last_row(&rt, 64, 1, 1)
 }
 
 #[test]
 fn only_the_holder_opens(rt: HostRuntime) -> Result<(), Fail> {
-    let steps = [(Seat(1), Step::Open { row: SENDER })];
-    let fault = play(World::start(rt.alloc(), 2, 1, 2)?, &steps);
-    assert_eq!(rt;
-        fault.expect_err(&rt, "seat 0 holds the row"),
-        ProtoFault::NotAllowed(0)
-    );
+    check_refused(&rt, 2, 1, &[(Seat(1), Step::Open { row: SENDER })], &[], 0)?;
     let later = Row { thread: 0, sync: 1 };
-    let steps = [(Seat(0), Step::Open { row: later })];
-    let fault = play(World::start(rt.alloc(), 2, 2, 2)?, &steps);
-    assert_eq!(rt;
-        fault.expect_err(&rt, "nobody holds the row"),
-        ProtoFault::NotAllowed(0)
-    );
-    Ok(())
+    check_refused(&rt, 2, 2, &[(Seat(0), Step::Open { row: later })], &[], 0)
 }
 
 #[test]
 fn words_that_name_nothing_make_an_empty_ledger(rt: HostRuntime) -> Result<(), Fail> {
     let words = vec![in rt.alloc(); 0; 98]?;
     let ledger = Ledger::of_words(1, 1, words);
-    assert_eq!(rt; ledger.commits()?.len(), 0);
+    assert!(rt; ledger.commits()?.is_empty());
     Ok(())
 }
 
@@ -168,37 +254,21 @@ fn alone(sync: u16, stamp: u32) -> Commit {
 
 #[test]
 fn a_thread_goes_on_once_its_row_is_taken(rt: HostRuntime) -> Result<(), Fail> {
-    let ledger = play(World::start(rt.alloc(), 1, 2, 1)?, &two_grants())?.ledger();
-    assert_eq!(rt;
-        ledger.commits()?.as_slice(),
-        [alone(0, 1), alone(1, 2)].as_slice()
-    );
-    assert_eq!(rt; ledger.pending(), 0);
+    let ledger = played(rt.alloc(), 1, 2, &two_grants())?;
+    check_ledger(&rt, &ledger, &[alone(0, 1), alone(1, 2)], 0)?;
     Ok(())
 }
 
 #[test]
 fn a_row_that_nobody_took_holds_its_thread(rt: HostRuntime) -> Result<(), Fail> {
-    let mut steps = two_grants().to_vec(rt.alloc())?;
-    steps.remove(4);
-    let fault = play(World::start(rt.alloc(), 1, 2, 1)?, &steps);
-    assert_eq!(rt;
-        fault.expect_err(&rt, "nobody holds the next row"),
-        ProtoFault::NotAllowed(4)
-    );
-    Ok(())
+    let steps = two_grants();
+    check_refused(&rt, 1, 2, &steps[..4], &steps[5..], 4)
 }
 
 #[test]
 fn a_row_is_taken_once(rt: HostRuntime) -> Result<(), Fail> {
-    let mut steps = two_grants().to_vec(rt.alloc())?;
-    steps.push((Seat(0), Step::Take { row: SENDER }))?;
-    let fault = play(World::start(rt.alloc(), 1, 2, 1)?, &steps);
-    assert_eq!(rt;
-        fault.expect_err(&rt, "the row is taken"),
-        ProtoFault::NotAllowed(9)
-    );
-    Ok(())
+    let again = [(Seat(0), Step::Take { row: SENDER })];
+    check_refused(&rt, 1, 2, &two_grants(), &again, 9)
 }
 
 /// Thread 0 binds its first nack to its row and scope 0, and offers a receive inside and an always
@@ -237,66 +307,90 @@ const WAITER: (Seat, Step) = (
     },
 );
 
+const GRANTED: Commit = Commit::Alone {
+    at: (SENDER, 1),
+    cause: Cause::Always(Message::Empty),
+    stamp: 1,
+};
+
+const CANCELLED: Commit = Commit::Alone {
+    at: (RECEIVER, 0),
+    cause: Cause::Nack(NackName { thread: 0, k: 0 }),
+    stamp: 2,
+};
+
 #[test]
 fn a_commit_outside_its_scope_enables_a_nack(rt: HostRuntime) -> Result<(), Fail> {
-    let mut steps = a_nack().to_vec(rt.alloc())?;
-    steps.push(OUTSIDE)?;
-    steps.push(WAITER)?;
-    let ledger = play(World::start(rt.alloc(), 2, 1, 2)?, &steps)?.ledger();
-    let cancelled = Commit::Alone {
-        at: (RECEIVER, 0),
-        cause: Cause::Nack(NackName { thread: 0, k: 0 }),
-        stamp: 2,
-    };
-    let granted = Commit::Alone {
-        at: (SENDER, 1),
-        cause: Cause::Always(Message::Empty),
-        stamp: 1,
-    };
-    assert_eq!(rt;
-        ledger.commits()?.as_slice(),
-        [granted, cancelled].as_slice()
+    let steps = joined(rt.alloc(), &a_nack(), &[OUTSIDE, WAITER])?;
+    let ledger = played(rt.alloc(), 2, 1, &steps)?;
+    let commits = ledger.commits()?;
+    check_same(
+        &rt,
+        commits.as_slice(),
+        &[GRANTED, CANCELLED],
+        "the commits",
     );
     Ok(())
 }
 
 #[test]
 fn a_nack_is_not_enabled_before(rt: HostRuntime) -> Result<(), Fail> {
-    let mut steps = a_nack().to_vec(rt.alloc())?;
-    steps.push(WAITER)?;
-    steps.push(OUTSIDE)?;
-    let fault = play(World::start(rt.alloc(), 2, 1, 2)?, &steps);
-    assert_eq!(rt;
-        fault.expect_err(&rt, "the nack's row waits"),
-        ProtoFault::NotAllowed(8)
-    );
-    Ok(())
+    check_refused(&rt, 2, 1, &a_nack(), &[WAITER, OUTSIDE], 8)
 }
+
+/// Two steps of seat 0 each, of which the second is not allowed.
+const BOUND_TOO_LATE: [[Step; 2]; 4] = [
+    [
+        Step::Bind {
+            k: 0,
+            row: SENDER,
+            scope: 0,
+        },
+        Step::Bind {
+            k: 0,
+            row: SENDER,
+            scope: 1,
+        },
+    ],
+    [
+        Step::Open { row: SENDER },
+        Step::Bind {
+            k: 0,
+            row: SENDER,
+            scope: 0,
+        },
+    ],
+    [
+        Step::Bind {
+            k: 63,
+            row: SENDER,
+            scope: 3,
+        },
+        Step::Bind {
+            k: 64,
+            row: SENDER,
+            scope: 0,
+        },
+    ],
+    [
+        Step::Bind {
+            k: 0,
+            row: SENDER,
+            scope: 3,
+        },
+        Step::Bind {
+            k: 1,
+            row: SENDER,
+            scope: 4,
+        },
+    ],
+];
 
 #[test]
 fn a_nack_is_bound_before_its_row_is_opened(rt: HostRuntime) -> Result<(), Fail> {
-    let bind = |k: u8, scope: u8| -> (Seat, Step) {
-        (
-            Seat(0),
-            Step::Bind {
-                k,
-                row: SENDER,
-                scope,
-            },
-        )
-    };
-    let open = (Seat(0), Step::Open { row: SENDER });
-    for steps in [
-        [bind(0, 0), bind(0, 1)],
-        [open, bind(0, 0)],
-        [bind(63, 3), bind(64, 0)],
-        [bind(0, 3), bind(1, 4)],
-    ] {
-        let fault = play(World::start(rt.alloc(), 1, 1, 1)?, &steps);
-        assert_eq!(rt;
-            fault.expect_err(&rt, "the second step is not allowed"),
-            ProtoFault::NotAllowed(1)
-        );
+    for [first, second] in &BOUND_TOO_LATE {
+        let steps = [(Seat(0), *first), (Seat(0), *second)];
+        check_refused(&rt, 1, 1, &steps, &[], 1)?;
     }
     Ok(())
 }
