@@ -1,9 +1,8 @@
 -- The greatest set of a relation of which the pairs are known.
-use Rattle.std.proofs.Common.{◌≡◌, ◌==◌, ◌&&◌, ◌||◌, ℕ, zero, suc, ◌+◌, ◌<◌, ⊎_elim, ◌⊎◌, inl, inr, Bool, true, false, not, cond, if◌then◌else◌, List, [], ◌∷◌, ◌++◌, length, get_or, refl, sym, ap, ◌∙◌, subst, arith, eq-eqb, Option, Some, None, slice_get, set}
-use Rattle.std.specs.List.{list_any, count_by}
+use Rattle.std.proofs.Common.{◌≡◌, ◌==◌, ◌&&◌, ◌||◌, ℕ, zero, suc, ◌<◌, ⊎_elim, ◌⊎◌, inl, inr, Bool, true, false, not, if◌then◌else◌, List, [], ◌∷◌, ◌++◌, length, get_or, refl, sym, ap, ◌∙◌, subst, arith, eq-eqb, Option, Some, None, slice_get, set}
+use Rattle.std.specs.List.{list_any}
 use Rattle.std.proofs.lemmas.List.Folds.{list_any-append}
 use Rattle.std.proofs.lemmas.List.{get_or-set_other}
-use Rattle.std.proofs.lemmas.List.Sums.{sum_by-set}
 use Rattle.std.proofs.lemmas.Option.{slice_get_within}
 use Rattle.std.proofs.lemmas.Bool.{eqb-true, false≢true}
 use Rattle.journal_text.specs.Names.{Naming}
@@ -96,14 +95,6 @@ pub member-within : (members : List Bool) (a : ℕ) → get_or members a false �
 member-within [] a e = absurd (false≢true e)
 member-within (x ∷ members) zero e = omega arith
 member-within (x ∷ members) (suc a) e = let within = member-within members a e in omega arith
-
-one : (b : Bool) → b ≡ true → cond b 1 0 ≡ suc 0
-one b e = rw e refl
-
-pub fewer : (members : List Bool) (a : ℕ) → get_or members a false ≡ true → count_by (λ b. b) (set members a false) < count_by (λ b. b) members
-fewer members a e =
-    let sums = sum_by-set (λ (b : Bool). cond b 1 0) members a false false (member-within members a e) in
-    omega (arith, sums, one (get_or members a false) e)
 
 -- what is left when nothing is to be taken away
 pub is-knot : (count : ℕ) (pairs : List (ℕ × ℕ)) (members : List Bool) (knot : List ℕ) → length members ≡ count → IsWide count pairs members

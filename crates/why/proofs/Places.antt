@@ -1,5 +1,5 @@
 -- Where a word stands first, in tokens and in what is seen of them.
-use Rattle.std.proofs.Common.{◌≡◌, ℕ, zero, suc, ◌+◌, ◌-◌, ◌<◌, ◌≤◌, Bool, true, false, not, cond, List, [], ◌∷◌, length, map, take, drop, get_or, ◌++◌, add-one, refl, sym, ap, ◌∙◌, arith}
+use Rattle.std.proofs.Common.{◌≡◌, ℕ, zero, suc, ◌+◌, ◌<◌, ◌≤◌, Bool, true, false, not, cond, List, [], ◌∷◌, length, map, take, drop, get_or, ◌++◌, add-one, refl, sym, ap, ◌∙◌, arith}
 use Rattle.std.specs.List.{after_first, before_first, position_or_len}
 use Rattle.std.proofs.lemmas.List.{drop_all, drop-map, length_push, take-map}
 use Rattle.token.specs.Tokens.{Token}

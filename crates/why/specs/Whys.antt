@@ -1,5 +1,5 @@
 -- Where each process stands, and with whom it could go on: what is told of a run.
-use Rattle.std.specs.Prelude.{◌≡◌, ◌==◌, ◌&&◌, ℕ, zero, suc, Bool, true, false, not, if◌then◌else◌, List, [], ◌∷◌, ◌++◌, length, codes, Option, Some, None, slice_get}
+use Rattle.std.specs.Prelude.{◌≡◌, ◌==◌, ℕ, zero, suc, Bool, true, false, if◌then◌else◌, List, [], ◌∷◌, ◌++◌, length, codes, Option, Some, None, slice_get}
 use Rattle.std.specs.Fmt.{decimal}
 use Rattle.std.specs.List.{flat_map}
 use Rattle.thread.specs.declared.Fault.{Fault}
@@ -22,7 +22,6 @@ use Rattle.why.specs.Knots.{IsKnot, parts_below, waits_for}
 use Rattle.why.specs.Lines.{line_of, statement_lines}
 use Rattle.why.specs.Offering.{is_open, is_waiting, others}
 use Rattle.why.specs.declared.site.Site.{Site}
-use Rattle.why.specs.declared.site.Side.{Side}
 use Rattle.why.specs.declared.site.Side.TheVariants.{Sends, Receives}
 
 -- THE TEXT OF AN OFFER

@@ -1,4 +1,4 @@
-use Rattle.std.proofs.Common.{◌≡◌, ℕ, ◌<◌, take, length}
+use Rattle.std.proofs.Common.{◌≡◌, take}
 use Rattle.std.specs.List.{position_or_len}
 use Rattle.token.specs.Tokens.{view}
 use Rattle.why.specs.Knots.{is_process}
