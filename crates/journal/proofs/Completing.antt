@@ -1,5 +1,5 @@
 -- A ledger's commits, led on to their end and put in order.
-use Rattle.std.proofs.Common.{◌≡◌, ℕ, List, ◌++◌, length, sym, ◌∙◌, subst}
+use Rattle.std.proofs.Common.{◌≡◌, ℕ, ◌+◌, ◌≤◌, List, ◌++◌, length, refl, sym, ◌∙◌, subst}
 use Rattle.std.specs.Prelude.{IsPermutation}
 use Rattle.std.proofs.lemmas.List.Sorted.{IsPermutation-append_left, IsPermutation-trans}
 use Rattle.syntax.specs.Processes.{Proc}
@@ -16,7 +16,10 @@ use Rattle.sequential.specs.Runs.{Config, IsMaximal, IsRun, config_of}
 use Rattle.sequential.proofs.Telling.{ends-both}
 use Rattle.order.specs.Laws.{IsOrderOf}
 use Rattle.order.proofs.Sending.{named-is-received, received-is-sent}
+use Rattle.order.proofs.Leading.{ledger-is-run}
 use Rattle.order.proofs.Ordering.{ordered-is-run}
+use Rattle.order.proofs.Runs.{run-front}
+use Rattle.order.specs.Ledgers.{IsLedgerOf}
 use Rattle.journal.specs.Records.{EndsOf, OutputsOf, TellsEnds, IsCompletion, RefusesLedger}
 
 tells-ends : (ps : List Proc) (rows : ℕ) (journal : List Commit) (s : State) (ends : List End) (outputs : List (List Atom)) → StandsAfter ps rows journal s → EndsOf s ends → OutputsOf s outputs →
@@ -50,3 +53,9 @@ completes ps rows l commits added journal s ends outputs tail law order run stan
 pub refuses : (ps : List Proc) (rows : ℕ) (l : Ledger) (commits : List Commit) (fault : ReplayFault) → IsLawful l → IsOrderOf l commits → Refuses ps rows commits fault → RefusesLedger ps rows l fault
 refuses ps rows l commits Memory law order h = tt
 refuses ps rows l commits (Unlawful index) law order h = (commits, order, h)
+
+-- a ledger of these processes is a run of them, whatever part of it is looked at
+pub never-refuses : (ps : List Proc) (rows : ℕ) (l : Ledger) (commits : List Commit) (fault : ReplayFault) → IsLawful l → IsOrderOf l commits → Refuses ps rows commits fault →
+    IsLedgerOf ps l → l.rows ≤ rows → fault ≡ Memory
+never-refuses ps rows l commits Memory law order h of enough = refl
+never-refuses ps rows l commits (Unlawful index) law order h of enough = absurd (h.broken (run-front ps rows commits (index + 1) (ledger-is-run ps rows l commits law of enough order)))

@@ -11,3 +11,5 @@ pub mod Results
 pub mod Sending
 pub mod LedgerOrder
 pub mod Meeting
+pub mod Leading
+pub mod Schedules

@@ -1,7 +1,8 @@
 -- Runs, commit by commit from the front.
-use Rattle.std.proofs.Common.{ℕ, List, [], ◌∷◌, ◌++◌, length, refl, sym, append_assoc, append-nil, subst}
+use Rattle.std.proofs.Common.{◌≡◌, ℕ, zero, suc, ◌<◌, List, [], ◌∷◌, ◌++◌, length, take, slice_get, Some, refl, sym, append_assoc, append-nil, subst, arith}
 use Rattle.std.specs.Prelude.{⊤}
-use Rattle.std.proofs.lemmas.List.{take_at}
+use Rattle.std.proofs.lemmas.List.{take_at, take-take}
+use Rattle.std.proofs.lemmas.Option.{none-some}
 use Rattle.syntax.specs.Processes.{Proc}
 use Rattle.words.specs.declared.Commit.{Commit}
 use Rattle.sequential.specs.Runs.{Follows, IsRun}
@@ -28,3 +29,16 @@ run-from ps rows earlier (c ∷ cs) run on =
 
 pub run-whole : (ps : List Proc) (rows : ℕ) (cs : List Commit) → RunsOn ps rows [] cs → IsRun ps rows cs
 run-whole ps rows cs on = run-from ps rows [] cs (run-none ps rows) on
+
+-- what stands in the front of a list stands in the list
+pub get-take : {A : Type 0} (n : ℕ) (xs : List A) (i : ℕ) (x : A) → slice_get (take n xs) i ≡ Some x → (i < n) × (slice_get xs i ≡ Some x)
+get-take zero xs i x e = absurd (none-some x e)
+get-take (suc n) [] i x e = absurd (none-some x e)
+get-take (suc n) (y ∷ xs) zero x e = (omega arith, e)
+get-take (suc n) (y ∷ xs) (suc i) x e = let h = get-take n xs i x e in (omega (arith, h.0), h.1)
+
+-- the front of a run is one
+pub run-front : (ps : List Proc) (rows : ℕ) (commits : List Commit) (n : ℕ) → IsRun ps rows commits → IsRun ps rows (take n commits)
+run-front ps rows commits n run i c is =
+    let h = get-take n commits i c is in
+    subst (λ (es : List Commit). Follows ps rows es c) (sym (take-take i n commits (omega (arith, h.0)))) (run i c h.1)

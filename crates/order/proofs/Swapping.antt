@@ -17,6 +17,7 @@ use Rattle.sequential.specs.Runs.{Config, CanTake, MayTake, IsLegal, IsFiredAt, 
 use Rattle.sequential.proofs.Firing.{fired-kept, fired-cases}
 use Rattle.sequential.proofs.Greatest.{more, in-more, last-more, more-cases, greatest-other, greatest-same}
 use Rattle.sequential.proofs.Standing.{next-alone, result-at, result-other}
+use Rattle.order.specs.Ledgers.{Gives}
 use Rattle.order.proofs.Nacks.{fired-once}
 use Rattle.order.proofs.Stamps.{counts}
 
@@ -33,6 +34,7 @@ pub record Grew (config : Config) (c : Commit) (t : ℕ) : Type 0 where
   pub result : Chosen
   pub is : applied config c t ≡ config t ++ result ∷ []
   pub row : HasRow c t (length (config t))
+  pub gives : Gives c (record { thread = t; sync = length (config t) }) result
 
 row-at : (config : Config) (at : Row × ℕ) (t : ℕ) → t ≡ at.0.thread → at.0.sync ≡ length (config at.0.thread) → at.0.sync ≡ length (config t)
 row-at config at t e next = next ∙ ap (λ (u : ℕ). length (config u)) (sym e)
@@ -46,18 +48,21 @@ grows ps rows config (Pair sender receiver chan msg stamp) t legal has =
       result = (sender.1, Empty);
       is = result-other u t (receiver.1, msg) (with_result s (sender.1, Empty) config) (λ same. legal.0 (e ∙ same)) ∙ result-at s t (sender.1, Empty) config (sym e);
       row = inl (e, row-at config sender t (sym e) legal.1.next);
+      gives = inl ((λ i. record { thread = e i; sync = row-at config sender t (sym e) legal.1.next i }), refl);
     })
     (λ e. record {
       result = (receiver.1, msg);
       is = result-at u t (receiver.1, msg) (with_result s (sender.1, Empty) config) (sym e)
           ∙ ap (λ (rs : List Chosen). rs ++ (receiver.1, msg) ∷ []) (result-other s t (sender.1, Empty) config (λ same. legal.0 (sym same ∙ sym e)));
       row = inr (e, row-at config receiver t (sym e) legal.2.next);
+      gives = inr ((λ i. record { thread = e i; sync = row-at config receiver t (sym e) legal.2.next i }), refl);
     })
     has
 grows ps rows config (Alone at why stamp) t legal e = record {
   result = (at.1, message_by why);
   is = result-at at.0.thread t (at.1, message_by why) config (sym e);
   row = (e, row-at config at t (sym e) (next-alone ps rows config at why legal));
+  gives = ((λ i. record { thread = e i; sync = row-at config at t (sym e) (next-alone ps rows config at why legal) i }), refl);
 }
 
 pub has-or-not : (c : Commit) (t : ℕ) → HasThread c t ⊎ (HasThread c t → ⊥)

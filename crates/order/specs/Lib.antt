@@ -1,3 +1,5 @@
 pub mod Laws
 pub mod Meetings
 pub mod Messages
+pub mod Ledgers
+pub mod Schedules

@@ -2,6 +2,8 @@
 #![tactic(auto)]
 
 ghost use Rattle.order.specs.Laws.{EachMeets, HasOrder, NamedIsReceived, OneLedgerOrder, OneOrder, OneRowOneCommit, OneStampOneThread, OneSyncOneNack, OrderedIsRun, ReceivedIsSent, StampsRise};
+ghost use Rattle.order.specs.Ledgers.{LedgerIsRun};
+ghost use Rattle.order.specs.Schedules.{ScheduleHasLedger, ScheduleIsRun};
 
 /// In a run the stamps of a thread's commits rise, so two commits of one stamp share no thread.
 pub fn stamp_laws()
@@ -45,4 +47,18 @@ pub fn ledger_order_law()
 pub fn message_laws()
     ensures sent { ReceivedIsSent }
     ensures named { NamedIsReceived }
+{}
+
+/// Where each row of a lawful ledger offers what its process offers after the results of the thread's earlier
+/// rows, and the nacks of each such event's scopes, and no others, are bound to its row, the ledger's commits
+/// in order are a run of the processes.
+pub fn ledger_run_law()
+    ensures { LedgerIsRun }
+{}
+
+/// However the steps of a schedule fall, where each row is opened as its process offers there, the schedule's
+/// ledger is one of the processes, and its commits in order are a run of them.
+pub fn schedule_laws()
+    ensures ledger { ScheduleHasLedger }
+    ensures run { ScheduleIsRun }
 {}

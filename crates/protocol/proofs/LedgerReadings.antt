@@ -22,11 +22,11 @@ use Rattle.protocol.proofs.CommitLemmas.{named_rows, row_in_commit, commit_membe
 joined_inside : (t : Table) (r : Row) (j : Joined) → joined_at t r ≡ Some j → (r.thread < t.threads) × (r.sync < t.rows)
 joined_inside t r j h = row_inside t r (row_of_open t r (fresh_not_joined (cell_at t r) j h))
 
-commits_in_table : (t : Table) → (c : Commit) → IsIn (joined_at t) (offer_at t) c → HasCommit (ledger_of t) c
+pub commits_in_table : (t : Table) → (c : Commit) → IsIn (joined_at t) (offer_at t) c → HasCommit (ledger_of t) c
 commits_in_table t c h =
     subst (λ (z : (Row → Option Joined) × (Row → ℕ → Option Offer)). IsIn z.0 z.1 c) (λ i. (sym (joined_in_ledger t) i, sym (offer_in_ledger t) i)) h
 
-commits_from_table : (t : Table) → (c : Commit) → HasCommit (ledger_of t) c → IsIn (joined_at t) (offer_at t) c
+pub commits_from_table : (t : Table) → (c : Commit) → HasCommit (ledger_of t) c → IsIn (joined_at t) (offer_at t) c
 commits_from_table t c h =
     subst (λ (z : (Row → Option Joined) × (Row → ℕ → Option Offer)). IsIn z.0 z.1 c) (λ i. (joined_in_ledger t i, offer_in_ledger t i)) h
 

@@ -17,3 +17,4 @@ pub mod Chosen
 pub mod LedgerReadings
 pub mod Starting
 pub mod Ordering
+pub mod Onward

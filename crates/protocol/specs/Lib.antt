@@ -4,3 +4,4 @@ pub mod Worlds
 pub mod Ledgers
 pub mod Kept
 pub mod States
+pub mod Growing

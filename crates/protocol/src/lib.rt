@@ -1,6 +1,7 @@
 //! The protocol as a pure machine: worlds, steps and ledgers.
 #![tactic(auto)]
 
+ghost use Rattle.protocol.specs.Growing.{CommitsStay, TablesGrow};
 ghost use Rattle.protocol.specs.Ledgers.{ledger_of, IsLawful};
 ghost use Rattle.protocol.specs.Worlds.{Plays, IsRefused, start_world, World};
 ghost use Rattle.words.specs.declared.Step.{Step};
@@ -54,4 +55,12 @@ pub fn one_answer()
         → IsRefused start steps i
         → IsRefused start steps j
         → i ≡ j }
+{}
+
+/// However a schedule goes on, what is opened, committed and bound stays so: the offers of an opened row, the way
+/// in which a row is committed, each commit of the ledger, and the row to which a nack is bound. To a row that
+/// is opened no nack is bound any more.
+pub fn what_is_committed_stays()
+    ensures tables { TablesGrow }
+    ensures commits { CommitsStay }
 {}

@@ -3,11 +3,11 @@ use Rattle.std.proofs.lemmas.Result.{err_from_is_err_and}
 use Rattle.syntax.specs.Processes.{proc_of}
 use Rattle.words.specs.declared.Commit.{Commit}
 use Rattle.sequential.specs.Replays.{Refuses, StandsAfter}
-use Rattle.journal.proofs.Completing.{completes, refuses}
+use Rattle.journal.proofs.Completing.{completes, never-refuses, refuses}
 use Rattle.journal.proofs.record.complete.Goals as goal
 
-pub returns-in_err-replayed : goal.returns-in_err-replayed
-returns-in_err-replayed c =
+pub returns-in_err-replayed-clause-answer : goal.returns-in_err-replayed-clause-answer
+returns-in_err-replayed-clause-answer c =
     let ps = map proc_of c.args.processes.now in
     let fault = c.in_err-replayed.field-0.0 in
     let told = c.in_ok-commits.ensures in
@@ -15,8 +15,17 @@ returns-in_err-replayed c =
     let p = err_from_is_err_and c.from_residual-in_err-replayed.result c.from_residual-in_err-replayed.ensures.1 in
     rw (p.1, p.2) (refuses ps c.args.rows c.args.ledger.now c.in_ok-commits.commits.items fault told.lawful (record { all = told.once; ordered = told.in_order }) refused)
 
-pub returns : goal.returns
-returns c =
+pub returns-in_err-replayed-clause-sure : goal.returns-in_err-replayed-clause-sure
+returns-in_err-replayed-clause-sure c =
+    let ps = map proc_of c.args.processes.now in
+    let fault = c.in_err-replayed.field-0.0 in
+    let told = c.in_ok-commits.ensures in
+    let refused = subst (λ (cs : List Commit). Refuses ps c.args.rows cs fault) c.deref.ensures.value c.in_err-replayed.ensures in
+    let p = err_from_is_err_and c.from_residual-in_err-replayed.result c.from_residual-in_err-replayed.ensures.1 in
+    rw (p.1, p.2) (never-refuses ps c.args.rows c.args.ledger.now c.in_ok-commits.commits.items fault told.lawful (record { all = told.once; ordered = told.in_order }) refused)
+
+pub returns-clause-answer : goal.returns-clause-answer
+returns-clause-answer c =
     let ps = map proc_of c.args.processes.now in
     let commits = c.in_ok-commits.commits.items in
     let told = c.in_ok-commits.ensures in

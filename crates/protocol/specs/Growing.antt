@@ -1,0 +1,36 @@
+-- What stays of a table, however its schedule goes on.
+use Rattle.std.specs.Prelude.{◌≡◌, ℕ, ◌≤◌, false, List, Some}
+use Rattle.words.specs.declared.Binding.{Binding}
+use Rattle.words.specs.declared.Commit.{Commit}
+use Rattle.words.specs.declared.Joined.{Joined}
+use Rattle.words.specs.declared.NackName.{NackName}
+use Rattle.words.specs.declared.Row.{Row}
+use Rattle.words.specs.declared.Seat.{Seat}
+use Rattle.words.specs.declared.Step.{Step}
+use Rattle.protocol.specs.Tables.{Table, binding_at, bound_row, cell_at, is_fresh, joined_at, offer_at}
+use Rattle.protocol.specs.Ledgers.{HasCommit, ledger_of}
+use Rattle.protocol.specs.Worlds.{Plays, World, start_world}
+
+pub record GrowsTo (t u : Table) : Type 0 where
+  pub threads : u.threads ≡ t.threads
+  pub rows : u.rows ≡ t.rows
+  -- an opened row stays open, and its offers as they are
+  pub opened : (r : Row) → is_fresh (cell_at t r) ≡ false → is_fresh (cell_at u r) ≡ false
+  pub offers : (r : Row) (n : ℕ) → is_fresh (cell_at t r) ≡ false → offer_at u r n ≡ offer_at t r n
+  -- a committed row stays committed in the same way
+  pub joined : (r : Row) (j : Joined) → joined_at t r ≡ Some j → joined_at u r ≡ Some j
+  -- a bound nack stays bound as it is, and to an opened row none is bound anew
+  pub bound : (n : NackName) (b : Binding) → binding_at t n ≡ Some b → binding_at u n ≡ Some b
+  pub unbound : (n : NackName) (b : Binding) → is_fresh (cell_at t (bound_row n b)) ≡ false → binding_at u n ≡ Some b → binding_at t n ≡ Some b
+
+-- whatever steps follow
+abbrev pub TablesGrow : Type 0
+TablesGrow =
+    (threads rows seats : ℕ) (steps more : List (Seat × Step)) (w v : World) → threads ≤ 64 → rows ≤ 1024 →
+    Plays (start_world threads rows seats) steps w → Plays w more v → GrowsTo w.table v.table
+
+-- so a commit stays one
+abbrev pub CommitsStay : Type 0
+CommitsStay =
+    (threads rows seats : ℕ) (steps more : List (Seat × Step)) (w v : World) (c : Commit) → threads ≤ 64 → rows ≤ 1024 →
+    Plays (start_world threads rows seats) steps w → Plays w more v → HasCommit (ledger_of w.table) c → HasCommit (ledger_of v.table) c
