@@ -5,7 +5,7 @@ use Rattle.std.proofs.lemmas.Bool.{and_parts, cases_order, false≢true, ltb-tru
 use Rattle.std.proofs.lemmas.List.{length-append, length-take-le}
 use Rattle.std.proofs.lemmas.List.Sorted.{Contains-permutation, IsPermutation-sym}
 use Rattle.std.proofs.lemmas.Option.{none-some, same_Some, slice_get-get_or, slice_get_within, get_or_from_slice_get}
-use Rattle.event.specs.Tree.{Tree, BaseEvent, bases, mask, offer_of, scope_nacks}
+use Rattle.event.specs.Tree.{Tree, BaseEvent, bases, mask, offer_of, offers, scope_nacks}
 use Rattle.event.proofs.TreeLemmas.{mask-bits}
 use Rattle.syntax.specs.Processes.{Proc}
 use Rattle.thread.specs.After.{Chosen, State, Outcome, Goes, Offers as OffersTree, Finishes, Fails, Strays, after}
@@ -28,12 +28,13 @@ use Rattle.protocol.specs.Ledgers.{Ledger, Entry, HasCommit, Involves, IsEnabled
 use Rattle.protocol.specs.Tables.{number_of}
 use Rattle.protocol.proofs.CommitLemmas.{commit_members}
 use Rattle.protocol.proofs.Ordering.{causal_ledger}
-use Rattle.sequential.specs.Runs.{CausedBy, Config, CountsFor, Follows, HasRow, HasThread, IsCaused, IsFiredAt, IsGreatest, IsLegal, IsOffering, IsRow, IsRun, MayTake, applied, config_of, message_by}
+use Rattle.sequential.specs.Runs.{CausedBy, Config, CountsFor, Follows, HasRow, HasThread, IsCaused, IsFiredAt, IsGreatest, IsLegal, IsOffering, IsRow, IsRun, MayTake, applied, config_of}
 use Rattle.sequential.proofs.Greatest.{in-more, last-more, more, more-cases}
 use Rattle.sequential.proofs.Lists.{slice_get-first, slice_get-middle, slice_get-more}
 use Rattle.sequential.proofs.Standing.{config_of-more}
 use Rattle.order.specs.Laws.{IsOrderOf}
-use Rattle.order.specs.Ledgers.{AreResults, Gives, IsLedgerOf, LedgerIsRun, OffersAsProcess, binding_of}
+use Rattle.protocol.specs.Standing.{AreResults, Gives, OffersAs, binding_of}
+use Rattle.order.specs.Ledgers.{IsLedgerOf, LedgerIsRun, ProcessOffers}
 use Rattle.order.proofs.Runs.{RunsOn, get-take, run-whole}
 use Rattle.order.proofs.Stamps.{counts}
 use Rattle.order.proofs.Swapping.{applied-other, grows, has-or-not}
@@ -56,12 +57,14 @@ record Gift (c : Commit) (r : Row) (n : ℕ) : Type 0 where
 gift : (c : Commit) (r : Row) (n : ℕ) → Takes c r n → Gift c r n
 gift (Pair sender receiver chan msg stamp) r n (inl e) = record { result = (sender.1, Empty); gives = inl (ap (λ (z : Row × ℕ). z.0) e, refl); number = ap (λ (z : Row × ℕ). z.1) e }
 gift (Pair sender receiver chan msg stamp) r n (inr e) = record { result = (receiver.1, msg); gives = inr (ap (λ (z : Row × ℕ). z.0) e, refl); number = ap (λ (z : Row × ℕ). z.1) e }
-gift (Alone at why stamp) r n e = record { result = (at.1, message_by why); gives = (ap (λ (z : Row × ℕ). z.0) e, refl); number = ap (λ (z : Row × ℕ). z.1) e }
+gift (Alone at (cause.Always m) stamp) r n e = record { result = (at.1, m); gives = (ap (λ (z : Row × ℕ). z.0) e, refl); number = ap (λ (z : Row × ℕ). z.1) e }
+gift (Alone at (cause.Nack k) stamp) r n e = record { result = (at.1, Empty); gives = (ap (λ (z : Row × ℕ). z.0) e, refl); number = ap (λ (z : Row × ℕ). z.1) e }
 
 gives-takes : (c : Commit) (r : Row) (x : Chosen) → Gives c r x → Takes c r x.0
 gives-takes (Pair sender receiver chan msg stamp) r x (inl h) = inl (λ i. (h.0 i, ap (λ (z : Chosen). z.0) (sym h.1) i))
 gives-takes (Pair sender receiver chan msg stamp) r x (inr h) = inr (λ i. (h.0 i, ap (λ (z : Chosen). z.0) (sym h.1) i))
-gives-takes (Alone at why stamp) r x h = λ i. (h.0 i, ap (λ (z : Chosen). z.0) (sym h.1) i)
+gives-takes (Alone at (cause.Always m) stamp) r x h = λ i. (h.0 i, ap (λ (z : Chosen). z.0) (sym h.1) i)
+gives-takes (Alone at (cause.Nack k) stamp) r x h = λ i. (h.0 i, ap (λ (z : Chosen). z.0) (sym h.1) i)
 
 gives-involves : (c : Commit) (r : Row) (x : Chosen) → Gives c r x → Involves c r
 gives-involves c r x h = (x.0, gives-takes c r x h)
@@ -71,7 +74,8 @@ one-gift (Pair sender receiver chan msg stamp) r x y apart (inl h) (inl k) = h.1
 one-gift (Pair sender receiver chan msg stamp) r x y apart (inl h) (inr k) = absurd (apart (ap (λ (q : Row). q.thread) (h.0 ∙ sym k.0)))
 one-gift (Pair sender receiver chan msg stamp) r x y apart (inr h) (inl k) = absurd (apart (ap (λ (q : Row). q.thread) (k.0 ∙ sym h.0)))
 one-gift (Pair sender receiver chan msg stamp) r x y apart (inr h) (inr k) = h.1 ∙ sym k.1
-one-gift (Alone at why stamp) r x y apart h k = h.1 ∙ sym k.1
+one-gift (Alone at (cause.Always m) stamp) r x y apart h k = h.1 ∙ sym k.1
+one-gift (Alone at (cause.Nack n) stamp) r x y apart h k = h.1 ∙ sym k.1
 
 -- a thread of a commit is that of one of its rows
 thread-involves : (c : Commit) (t : ℕ) → HasThread c t → (g : ℕ) × Involves c (row t g)
@@ -183,6 +187,10 @@ module _ (ps : List Proc) (rows : ℕ) (l : Ledger) (law : IsLawful l) (of : IsL
   offered-by (Pair sender receiver chan msg stamp) r n h (inr e) = offer-at receiver (Recv chan) r n (law.fits (Pair sender receiver chan msg stamp) h).2 e
   offered-by (Alone at why stamp) r n h e = offered-alone at why r n (law.fits (Alone at why stamp) h) e
 
+  -- an offer of the row is one of its process's event
+  shown : (r : Row) (off : OffersAs (ProcessOffers ps) l r) (n : ℕ) (o : Offer) → offer_in l r n ≡ Some o → slice_get (offers off.standing.event) n ≡ Some o
+  shown r off n o h = ap (λ (os : List Offer). slice_get os n) off.standing.are ∙ off.offered n o h
+
   -- RESULTS
 
   one-result : (c d : Commit) (r : Row) (x y : Chosen) → HasCommit l c → HasCommit l d → Gives c r x → Gives d r y → x ≡ y
@@ -210,20 +218,20 @@ module _ (ps : List Proc) (rows : ℕ) (l : Ledger) (law : IsLawful l) (of : IsL
 
   -- the row's process stands there, where the thread has as many results
   module _ (es : List Commit) (k : Leads es) where
-    before : (r : Row) (off : OffersAsProcess ps l r) → r.sync ≤ length (config_of es r.thread) → off.results ≡ take r.sync (config_of es r.thread)
+    before : (r : Row) (off : OffersAs (ProcessOffers ps) l r) → r.sync ≤ length (config_of es r.thread) → off.results ≡ take r.sync (config_of es r.thread)
     before r off low = one-results r.thread off.results (take r.sync (config_of es r.thread)) (off.count ∙ sym (length-take-le r.sync (config_of es r.thread) low)) off.are (are-first es k r.thread r.sync)
 
-    now : (r : Row) (off : OffersAsProcess ps l r) → r.sync ≡ length (config_of es r.thread) → off.results ≡ config_of es r.thread
+    now : (r : Row) (off : OffersAs (ProcessOffers ps) l r) → r.sync ≡ length (config_of es r.thread) → off.results ≡ config_of es r.thread
     now r off next = one-results r.thread off.results (config_of es r.thread) (off.count ∙ next) off.are (are es k r.thread)
 
     can-take : (at : Row × ℕ) (b : Base) → ledgers.Offers (offer_in l) at b → at.0.sync ≡ length (config_of es at.0.thread) → MayTake ps rows (config_of es) at b
     can-take at b h next =
         let off = of at.0 at.1 h.0 h.1 in
-        let base = offered-base (bases off.event) at.1 h.0 (off.offers at.1 h.0 h.1) in record {
+        let base = offered-base (bases off.standing.event) at.1 h.0 (shown at.0 off at.1 h.0 h.1) in record {
           few = omega (arith, next, offer-inside l at.0 at.1 h.0 h.1, enough);
           next = next;
-          event = off.event;
-          offered = subst (λ (xs : List Chosen). IsOffering ps at.0.thread xs off.event) (now at.0 off next) off.offered;
+          event = off.standing.event;
+          offered = subst (λ (xs : List Chosen). IsOffering ps at.0.thread xs off.standing.event) (now at.0 off next) off.standing.offered;
           base = base.base;
           is = base.there;
           same = ap (λ (o : Offer). o.base) base.is ∙ h.2;
@@ -244,15 +252,15 @@ module _ (ps : List Proc) (rows : ℕ) (l : Ledger) (law : IsLawful l) (of : IsL
         let number : en.chosen ≡ x.0 = sym (ap (λ (z : Chosen). z.0) same ∙ gave.number) in
         let offer = offered-by en.commit r en.chosen en.inside en.takes in
         let off = of r en.chosen offer.0 offer.1 in
-        let base = offered-base (bases off.event) en.chosen offer.0 (off.offers en.chosen offer.0 offer.1) in record {
+        let base = offered-base (bases off.standing.event) en.chosen offer.0 (shown r off en.chosen offer.0 offer.1) in record {
           chosen = x;
           result = at;
-          event = off.event;
-          offered = subst (λ (xs : List Chosen). IsOffering ps n.thread xs off.event) (before r off (omega (arith, low))) off.offered;
+          event = off.standing.event;
+          offered = subst (λ (xs : List Chosen). IsOffering ps n.thread xs off.standing.event) (before r off (omega (arith, low))) off.standing.offered;
           scope = en.binding.scope;
-          nack = off.bound en.binding.scope n.k en.is_bound;
+          nack = ap (λ (ns : List ℕ). slice_get ns en.binding.scope) off.standing.scopes ∙ off.no_others en.binding.scope n.k en.is_bound;
           base = base.base;
-          took = ap (slice_get (bases off.event)) (sym number) ∙ base.there;
+          took = ap (slice_get (bases off.standing.event)) (sym number) ∙ base.there;
           outside = λ has. outside-mask base.base.scopes en.binding.scope (ap (λ (o : Offer). has_scope o.scopes en.binding.scope) base.is ∙ en.outside offer.0 offer.1) has;
         }
 
@@ -263,8 +271,8 @@ module _ (ps : List Proc) (rows : ℕ) (l : Ledger) (law : IsLawful l) (of : IsL
         let offer = offered-by d r has.0 (k.members d there) has.1 in
         let off = of r has.0 offer.0 offer.1 in
         let low = k.inside d n.thread g there has in
-        let same : f.event ≡ off.event = one-event ps n.thread (take g (config_of es n.thread)) off.results f.event off.event (sym (before r off (omega (arith, low)))) f.offered off.offered in
-        (binding_of r f.scope, off.nacks f.scope n.k (ap (λ (e : Tree). slice_get (scope_nacks e) f.scope) (sym same) ∙ f.nack), refl)
+        let same : f.event ≡ off.standing.event = one-event ps n.thread (take g (config_of es n.thread)) off.results f.event off.standing.event (sym (before r off (omega (arith, low)))) f.offered off.standing.offered in
+        (binding_of r f.scope, off.bound f.scope n.k (ap (λ (ns : List ℕ). slice_get ns f.scope) (sym off.standing.scopes) ∙ ap (λ (e : Tree). slice_get (scope_nacks e) f.scope) (sym same) ∙ f.nack), refl)
 
     -- THE NEXT COMMIT: those that count for it are there already, and it is not
     module _ (c : Commit) (in_c : HasCommit l c) (anew : Contains es c → ⊥) (behind : (d : Commit) → HasCommit l d → ledgers.CountsFor (binding_in l) d c → Contains es d) where

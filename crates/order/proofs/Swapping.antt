@@ -6,6 +6,7 @@ use Rattle.std.proofs.lemmas.Option.{slice_get_within}
 use Rattle.syntax.specs.Processes.{Proc}
 use Rattle.thread.specs.After.{Chosen}
 use Rattle.words.specs.declared.Base.{Base}
+use Rattle.words.specs.declared.Cause.{Cause}
 use Rattle.words.specs.declared.Cause.TheVariants as cause
 use Rattle.words.specs.declared.Commit.{Commit}
 use Rattle.words.specs.declared.Commit.TheVariants.{Pair, Alone}
@@ -17,7 +18,7 @@ use Rattle.sequential.specs.Runs.{Config, CanTake, MayTake, IsLegal, IsFiredAt, 
 use Rattle.sequential.proofs.Firing.{fired-kept, fired-cases}
 use Rattle.sequential.proofs.Greatest.{more, in-more, last-more, more-cases, greatest-other, greatest-same}
 use Rattle.sequential.proofs.Standing.{next-alone, result-at, result-other}
-use Rattle.order.specs.Ledgers.{Gives}
+use Rattle.protocol.specs.Standing.{Gives}
 use Rattle.order.proofs.Nacks.{fired-once}
 use Rattle.order.proofs.Stamps.{counts}
 
@@ -38,6 +39,10 @@ pub record Grew (config : Config) (c : Commit) (t : ℕ) : Type 0 where
 
 row-at : (config : Config) (at : Row × ℕ) (t : ℕ) → t ≡ at.0.thread → at.0.sync ≡ length (config at.0.thread) → at.0.sync ≡ length (config t)
 row-at config at t e next = next ∙ ap (λ (u : ℕ). length (config u)) (sym e)
+
+gives-alone : (at : Row × ℕ) (why : Cause) (stamp : ℕ) (r : Row) → at.0 ≡ r → Gives (Alone at why stamp) r (at.1, message_by why)
+gives-alone at (cause.Always m) stamp r e = (e, refl)
+gives-alone at (cause.Nack n) stamp r e = (e, refl)
 
 pub grows : (ps : List Proc) (rows : ℕ) (config : Config) (c : Commit) (t : ℕ) → IsLegal ps rows config c → HasThread c t → Grew config c t
 grows ps rows config (Pair sender receiver chan msg stamp) t legal has =
@@ -62,7 +67,7 @@ grows ps rows config (Alone at why stamp) t legal e = record {
   result = (at.1, message_by why);
   is = result-at at.0.thread t (at.1, message_by why) config (sym e);
   row = (e, row-at config at t (sym e) (next-alone ps rows config at why legal));
-  gives = ((λ i. record { thread = e i; sync = row-at config at t (sym e) (next-alone ps rows config at why legal) i }), refl);
+  gives = gives-alone at why stamp (record { thread = t; sync = length (config t) }) (λ i. record { thread = e i; sync = row-at config at t (sym e) (next-alone ps rows config at why legal) i });
 }
 
 pub has-or-not : (c : Commit) (t : ℕ) → HasThread c t ⊎ (HasThread c t → ⊥)

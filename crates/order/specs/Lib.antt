@@ -2,4 +2,3 @@ pub mod Laws
 pub mod Meetings
 pub mod Messages
 pub mod Ledgers
-pub mod Schedules

@@ -2,8 +2,7 @@
 #![tactic(auto)]
 
 ghost use Rattle.order.specs.Laws.{EachMeets, HasOrder, NamedIsReceived, OneLedgerOrder, OneOrder, OneRowOneCommit, OneStampOneThread, OneSyncOneNack, OrderedIsRun, ReceivedIsSent, StampsRise};
-ghost use Rattle.order.specs.Ledgers.{LedgerIsRun};
-ghost use Rattle.order.specs.Schedules.{ScheduleHasLedger, ScheduleIsRun};
+ghost use Rattle.order.specs.Ledgers.{LedgerIsRun, ScheduleHasLedger, ScheduleIsRun};
 
 /// In a run the stamps of a thread's commits rise, so two commits of one stamp share no thread.
 pub fn stamp_laws()

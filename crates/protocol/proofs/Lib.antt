@@ -18,3 +18,4 @@ pub mod LedgerReadings
 pub mod Starting
 pub mod Ordering
 pub mod Onward
+pub mod Standing

@@ -5,3 +5,4 @@ pub mod Ledgers
 pub mod Kept
 pub mod States
 pub mod Growing
+pub mod Standing

@@ -10,4 +10,4 @@ returns-in-Ok-clause-headline g c =
     let ledger = c.if-is_empty.ledger in
     let record' = c.in-Ok.record in
     completed (script_of c.args.script.now).processes c.args.rows ledger record'
-    (subst (λ (ps : List Proc). Completes ps c.args.rows ledger record') c.processes-processes.ensures.value c.in-Ok.ensures)
+    (subst (λ (ps : List Proc). Completes ps c.args.rows ledger record') c.processes-processes.ensures.value c.in-Ok.ensures.answer)

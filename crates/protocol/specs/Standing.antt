@@ -1,0 +1,73 @@
+-- What rows offer by the results of their threads: whoever stands for a thread offers something after these results.
+use Rattle.std.specs.Prelude.{◌≡◌, ◌⊎◌, ℕ, ⊤, false, List, [], ◌∷◌, length, Some, slice_get}
+use Rattle.words.specs.declared.Binding.{Binding}
+use Rattle.words.specs.declared.Cause.TheVariants as cause
+use Rattle.words.specs.declared.Commit.{Commit}
+use Rattle.words.specs.declared.Commit.TheVariants.{Pair, Alone}
+use Rattle.words.specs.declared.Message.{Message}
+use Rattle.words.specs.declared.Message.TheVariants.{Empty}
+use Rattle.words.specs.declared.Offer.{Offer}
+use Rattle.words.specs.declared.Row.{Row}
+use Rattle.words.specs.declared.Seat.{Seat}
+use Rattle.words.specs.declared.Step.{Step}
+use Rattle.words.specs.declared.Step.TheVariants.{Open}
+use Rattle.protocol.specs.Ledgers.{Ledger, HasCommit, binding_in, ledger_of, offer_in}
+use Rattle.protocol.specs.Tables.{Table, cell_at, is_fresh}
+use Rattle.protocol.specs.Worlds.{World, after_step, nack_of_row}
+
+-- RESULTS
+
+-- the number of the offer that was taken, and a message
+abbrev pub Result : Type 0
+Result = ℕ × Message
+
+-- what a commit gives to the threads of its rows: an always gives its message; a nack, like a send, the empty one
+abbrev pub Gives : Commit → Row → Result → Type 0
+Gives (Pair sender receiver chan msg stamp) r result =
+    ((sender.0 ≡ r) × (result ≡ (sender.1, Empty))) ⊎ ((receiver.0 ≡ r) × (result ≡ (receiver.1, msg)))
+Gives (Alone at (cause.Always m) stamp) r result = (at.0 ≡ r) × (result ≡ (at.1, m))
+Gives (Alone at (cause.Nack n) stamp) r result = (at.0 ≡ r) × (result ≡ (at.1, Empty))
+
+-- these are the results of the first syncs of a thread, by the commits of the ledger
+abbrev pub AreResults : Ledger → ℕ → List Result → Type 0
+AreResults l t results =
+    (g : ℕ) (result : Result) → slice_get results g ≡ Some result → (c : Commit) × HasCommit l c × Gives c (record { thread = t; sync = g }) result
+
+-- OFFERS. `stands t results offers nacks` says: after these results thread t offers these, with these nacks of their scopes.
+
+-- where the nack of a scope of the row is bound
+abbrev pub binding_of : Row → ℕ → Binding
+binding_of r scope = record { sync = r.sync; scope = scope }
+
+-- The row's offers are what its thread offers after the results of the rows before it, and the nacks that are bound to it
+-- are those of their scopes.
+pub record OffersAs (stands : ℕ → List Result → List Offer → List ℕ → Type 0) (l : Ledger) (r : Row) : Type 0 where
+  pub results : List Result
+  pub count : length results ≡ r.sync
+  pub are : AreResults l r.thread results
+  pub offers : List Offer
+  pub nacks : List ℕ
+  pub standing : stands r.thread results offers nacks
+  pub offered : (n : ℕ) (o : Offer) → offer_in l r n ≡ Some o → slice_get offers n ≡ Some o
+  pub bound : (scope k : ℕ) → slice_get nacks scope ≡ Some k → binding_in l (nack_of_row r k) ≡ Some (binding_of r scope)
+  pub no_others : (scope k : ℕ) → binding_in l (nack_of_row r k) ≡ Some (binding_of r scope) → slice_get nacks scope ≡ Some k
+
+-- each row that offers something does so
+abbrev pub EachOffersAs : (ℕ → List Result → List Offer → List ℕ → Type 0) → Ledger → Type 0
+EachOffersAs stands l = (r : Row) (n : ℕ) (o : Offer) → offer_in l r n ≡ Some o → OffersAs stands l r
+
+-- each opened row of a table does so
+abbrev pub EachStands : (ℕ → List Result → List Offer → List ℕ → Type 0) → Table → Type 0
+EachStands stands t = (r : Row) → is_fresh (cell_at t r) ≡ false → OffersAs stands (ledger_of t) r
+
+-- SCHEDULES
+
+-- of a step that led to this table
+abbrev pub OpenedAs : (ℕ → List Result → List Offer → List ℕ → Type 0) → Table → Step → Type 0
+OpenedAs stands t (Open row) = OffersAs stands (ledger_of t) row
+OpenedAs stands t step = ⊤
+
+-- each row is opened so
+abbrev pub EachOpenedAs : (ℕ → List Result → List Offer → List ℕ → Type 0) → World → List (Seat × Step) → Type 0
+EachOpenedAs stands w [] = ⊤
+EachOpenedAs stands w (s ∷ steps) = OpenedAs stands (after_step w s.0 s.1).table s.1 × EachOpenedAs stands (after_step w s.0 s.1) steps
