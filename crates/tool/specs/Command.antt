@@ -1,25 +1,25 @@
 -- What the program prints for what is asked, and what its faults say.
-use Rattle.std.specs.Prelude.{◌≡◌, ◌≢◌, ◌⊎◌, IsTrue, ℕ, List, Option, None, IfSome, take}
+use Rattle.std.specs.Prelude.{◌≡◌, ◌≢◌, ◌⊎◌, IsTrue, ℕ, Bool, true, false, List, ◌++◌, Option, None, IfSome, take}
 use Rattle.std.specs.Io.KnownBytes.{Appends}
 use Rattle.tool.specs.declared.request.Request.{Request}
 use Rattle.tool.specs.declared.request.Request.TheVariants.{Meet, Play, Check, Chart, Explain, Replay, Run, Why}
 use Rattle.explain.specs.Faults.{Explains, is_fault}
 use Rattle.files.specs.Files.{Fits, IsTooLarge}
-use Rattle.tool.specs.Meet.{PrintsMeeting}
+use Rattle.answers.specs.Meet.{PrintsMeeting}
 use Rattle.tool.specs.declared.fault.Fault.{Fault}
 use Rattle.tool.specs.declared.fault.Fault.TheVariants as faults
 use Rattle.schedule.specs.Schedule.{IsFirstBadLine}
-use Rattle.tool.specs.Play.{IsPlayed, IsFirstRefused}
-use Rattle.tool.specs.Check.{IsChecked}
+use Rattle.answers.specs.Play.{IsPlayed, IsFirstRefused}
+use Rattle.answers.specs.Check.{IsChecked}
 use Rattle.runtime.specs.Limits.{AreRows, AreWorkers}
-use Rattle.tool.specs.Replay.{IsReplayed, IsNoRun}
-use Rattle.tool.specs.Charting.{IsCharted}
-use Rattle.tool.specs.Telling.{IsTold}
-use Rattle.tool.specs.Run.{TellsRun, printed}
-use Rattle.tool.specs.declared.replay.Replayed.{Replayed}
-use Rattle.tool.specs.declared.replay.Replayed.TheVariants as replays
-use Rattle.tool.specs.declared.program.Verdict.{Verdict}
-use Rattle.tool.specs.declared.program.Verdict.TheVariants.{Done, Unlawful}
+use Rattle.answers.specs.Replay.{IsReplayed, IsNoRun}
+use Rattle.answers.specs.Charting.{IsCharted}
+use Rattle.answers.specs.Telling.{IsTold}
+use Rattle.answers.specs.Run.{TellsRun}
+use Rattle.answers.specs.declared.replay.Replayed.{Replayed}
+use Rattle.answers.specs.declared.replay.Replayed.TheVariants as replays
+use Rattle.tool.specs.declared.from_files.Verdict.{Verdict}
+use Rattle.tool.specs.declared.from_files.Verdict.TheVariants.{Done, Unlawful}
 use Rattle.journal_text.specs.Journals as journals
 use Rattle.script.specs.Sources.{Script}
 use Rattle.script.specs.Spelling.{Spells}
@@ -48,21 +48,39 @@ abbrev pub CanBeAnswered : Request → Type 0
 CanBeAnswered (Explain number) = IsTrue (is_fault number)
 CanBeAnswered asked = Unit {0}
 
+-- what is printed of the two parts of a run: where it is quiet, not the journal
+abbrev pub printed : Bool → List ℕ → List ℕ → List ℕ
+printed true lines rest = rest
+printed false lines rest = lines ++ rest
+
+-- What is told of the journal in one file and the script in another: of a run what is to be said of the script's text, of the
+-- script and of the journal, and else that it is none.
+abbrev pub OfJournal : Files → List ℕ → List ℕ → ℕ → (List ℕ → Script → List ℕ → List ℕ → Type 0) → Verdict → List ℕ → Type 0
+OfJournal Holds script journal rows Says Done text = (source : List ℕ) × Holds script source × (s : Script) × Spells source s
+    × (read : List ℕ) × Holds journal read × Fits read × Says source s read text
+OfJournal Holds script journal rows Says Unlawful text = OfFiles Holds script journal (λ s read. Fits read × IsNoRun s rows read text)
+
+-- where a journal leads, as text, why the processes stand there, and its chart
+abbrev pub AnswersReplay : Files → List ℕ → List ℕ → ℕ → Verdict → List ℕ → Type 0
+AnswersReplay Holds script journal rows verdict text = OfJournal Holds script journal rows (λ source s read told. IsReplayed s rows read told) verdict text
+
+abbrev pub AnswersWhy : Files → List ℕ → List ℕ → ℕ → Verdict → List ℕ → Type 0
+AnswersWhy Holds script journal rows verdict text = OfJournal Holds script journal rows (λ source s read told. IsTold s source rows read told) verdict text
+
+abbrev pub AnswersChart : Files → List ℕ → List ℕ → ℕ → ℕ → ℕ → Verdict → List ℕ → Type 0
+AnswersChart Holds script journal rows from to verdict text = OfJournal Holds script journal rows (λ source s read told. IsCharted s rows read from to told) verdict text
+
 -- The line of the one pair (or none), what comes of the schedule, the script or the run that is asked for, where the journal
 -- leads the script, why the processes stand there, its chart, or what a fault means. Where the journal of a run is to go to a file, the file keeps its lines at the end.
 abbrev pub Answers : Files → Files → Request → Verdict → List ℕ → Type 0
+Answers Holds Keeps (Replay script journal rows) verdict text = AnswersReplay Holds script.now journal.now rows verdict text
+Answers Holds Keeps (Why script journal rows) verdict text = AnswersWhy Holds script.now journal.now rows verdict text
+Answers Holds Keeps (Chart script journal rows from to) verdict text = AnswersChart Holds script.now journal.now rows from to verdict text
 Answers Holds Keeps (Meet value) Done text = PrintsMeeting value text
 Answers Holds Keeps (Play name) Done text = OfSchedule Holds name.now (λ bytes. IsPlayed bytes text)
 Answers Holds Keeps (Check name) Done text = (bytes : List ℕ) × Holds name.now bytes × IsChecked bytes text
-Answers Holds Keeps (Replay script journal rows) Done text = OfFiles Holds script.now journal.now (λ s read. Fits read × IsReplayed s rows read text)
-Answers Holds Keeps (Replay script journal rows) Unlawful text = OfFiles Holds script.now journal.now (λ s read. Fits read × IsNoRun s rows read text)
 Answers Holds Keeps (Run script workers rows journal quiet) Done text = (bytes : List ℕ) × Holds script.now bytes × (s : Script) × Spells bytes s
     × (lines rest : List ℕ) × TellsRun s rows lines rest × IfSome journal (λ name. Keeps name.now lines) × (text ≡ printed quiet lines rest)
-Answers Holds Keeps (Why script journal rows) Done text = (source : List ℕ) × Holds script.now source × (s : Script) × Spells source s
-    × (read : List ℕ) × Holds journal.now read × Fits read × IsTold s source rows read text
-Answers Holds Keeps (Why script journal rows) Unlawful text = OfFiles Holds script.now journal.now (λ s read. Fits read × IsNoRun s rows read text)
-Answers Holds Keeps (Chart script journal rows from to) Done text = OfFiles Holds script.now journal.now (λ s read. Fits read × IsCharted s rows read from to text)
-Answers Holds Keeps (Chart script journal rows from to) Unlawful text = OfFiles Holds script.now journal.now (λ s read. Fits read × IsNoRun s rows read text)
 Answers Holds Keeps (Explain number) Done text = Explains number text
 Answers Holds Keeps asked Unlawful text = ⊥
 
@@ -89,6 +107,12 @@ FailsRead Holds faults.Unread = Unit {0}
 FailsRead Holds faults.TooLarge = (bytes : List ℕ) × Holds bytes × IsTooLarge bytes
 FailsRead Holds fault = ⊥
 
+-- what a fault of playing the schedule in a file says
+abbrev pub FailsPlay : Files → List ℕ → Fault → Type 0
+FailsPlay Holds name (faults.BadStep line) = OfSchedule Holds name (λ bytes. IsFirstBadLine bytes line)
+FailsPlay Holds name (faults.NotAllowed step) = OfSchedule Holds name (λ bytes. IsFirstRefused bytes step)
+FailsPlay Holds name fault = FailsRead (Holds name) fault
+
 -- what a fault of reading a script and a journal of it says
 abbrev pub FailsReplay : Files → List ℕ → List ℕ → Fault → Type 0
 FailsReplay Holds script journal faults.Memory = Unit {0}
@@ -100,12 +124,7 @@ FailsReplay Holds script journal fault = FailsScript Holds script fault
 -- what a fault says of the request: `meet` lacks only memory or a thread, and the others may also fail by a file or by what it holds
 abbrev pub Fails : Files → Request → Fault → Type 0
 Fails Holds (Meet value) fault = (fault ≡ faults.Memory) ⊎ (fault ≡ faults.NoThread)
-Fails Holds (Play name) faults.Memory = Unit {0}
-Fails Holds (Play name) faults.Unread = Unit {0}
-Fails Holds (Play name) faults.TooLarge = (bytes : List ℕ) × Holds name.now bytes × IsTooLarge bytes
-Fails Holds (Play name) (faults.BadStep line) = OfSchedule Holds name.now (λ bytes. IsFirstBadLine bytes line)
-Fails Holds (Play name) (faults.NotAllowed step) = OfSchedule Holds name.now (λ bytes. IsFirstRefused bytes step)
-Fails Holds (Play name) fault = ⊥
+Fails Holds (Play name) fault = FailsPlay Holds name.now fault
 Fails Holds (Check name) fault = FailsParse Holds name.now fault
 Fails Holds (Explain number) fault = fault ≡ faults.Memory
 Fails Holds (Why script journal rows) fault = FailsReplay Holds script.now journal.now fault

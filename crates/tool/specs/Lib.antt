@@ -1,10 +1,2 @@
-pub mod Meet
-pub mod Play
-pub mod PlayFaults
-pub mod Check
-pub mod Standings
-pub mod Replay
-pub mod Run
-pub mod Charting
-pub mod Telling
+pub mod Faults
 pub mod Command

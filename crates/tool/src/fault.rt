@@ -2,12 +2,10 @@
 
 ghost use Rattle.std.specs.Prelude.{◌≡◌, IsTrue};
 ghost use Rattle.explain.specs.Faults.{is_fault};
-ghost use Rattle.tool.specs.Check.{fault_of_script};
-ghost use Rattle.tool.specs.PlayFaults.{fault_of_meet, fault_of_play, fault_of_file, fault_of_journal, fault_of_run};
+ghost use Rattle.tool.specs.Faults.{fault_of_meet, fault_of_play, fault_of_file, fault_of_journal, fault_of_run, fault_of_script};
 ghost use Rattle.tool.specs.declared.fault.Fault.TheVariants.{Memory};
 
-use crate::meeting::MeetFault;
-use crate::play::PlayFault;
+use answers::{MeetFault, PlayFault};
 use files::SourceFault;
 use journal_text::JournalFault;
 use runtime::RunFault;

@@ -1,0 +1,50 @@
+//! What `why` prints.
+
+ghost use Rattle.std.specs.Prelude.{IfOk, IfErr};
+ghost use Rattle.script.specs.Scripts.{script_of};
+ghost use Rattle.journal_text.specs.Answers.{Explains};
+ghost use Rattle.answers.specs.Telling.{TellsWhy};
+
+use crate::replay::{Replayed, unlawful_line};
+use journal_text::{JournalFault, read_journal};
+use numbered::numbered;
+use script::Script;
+use sequential::{ReplayFault, replay};
+use std::alloc::Global;
+use why::why_text;
+
+/// Where the processes of the script stand after the journal in the bytes, at which lines of the script's
+/// text, and with whom each could go on.
+///
+/// The journal is replayed twice: by the processes, and by processes that print the number of each
+/// statement before they begin it.
+pub fn why_journal(
+    alloc: Global,
+    script: &Script,
+    text: &[u8],
+    journal: &[u8],
+    rows: u16,
+) -> Result<Replayed, JournalFault>
+    ensures told { IfOk result (TellsWhy (script_of script.now) text.now rows journal.now) }
+    ensures fault { IfErr result (Explains (script_of script.now) journal.now) }
+{
+    let commits = read_journal(alloc, script, journal)?;
+    match replay(alloc, script.processes(), rows, commits.as_slice()) {
+        Ok(state) => {
+            let processes = numbered(alloc, script.processes())?;
+            match replay(alloc, processes.as_slice(), rows, commits.as_slice()) {
+                Ok(standing) => {
+                    let told = why_text(alloc, script, &state, &standing, text, rows)?;
+                    Ok(Replayed::Lawful(told.into_bytes()))
+                }
+                Err(ReplayFault::Memory) => Err(JournalFault::Memory),
+                Err(ReplayFault::Unlawful(_)) => unreachable!(),
+            }
+        }
+        Err(ReplayFault::Unlawful(index)) => {
+            let line = unlawful_line(alloc, index + 1)?;
+            Ok(Replayed::Unlawful(line.into_bytes()))
+        }
+        Err(ReplayFault::Memory) => Err(JournalFault::Memory),
+    }
+}

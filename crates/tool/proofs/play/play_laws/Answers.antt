@@ -1,5 +1,0 @@
-use Rattle.tool.proofs.Playing.{played_or_faulty, has_one_first_refused}
-use Rattle.tool.proofs.play.play_laws.Goals as goal
-
-pub returns : goal.returns
-returns c = record { apart = played_or_faulty; first = has_one_first_refused }
