@@ -5,11 +5,13 @@ ghost use Rattle.cell.specs.Calls.{IsPassOf, IsRowOf};
 ghost use Rattle.cell.specs.Sight.{AreOffers, Has};
 ghost use Rattle.cell.specs.Views.{first_row};
 
-use super::table::{NACK, always, cancelled, enter, receive, rooms, row, table};
-use cell::{Cells, NoGate, Pass};
+use super::acts::{Act, Offers, Single};
+use super::searches::check_acts;
+use super::table::{NACK, always, enter, receive, row};
+use cell::{Cells, Pass};
 use meet::Found;
 use std::test::Fail;
-use words::{Message, NackName, Offer};
+use words::{Message, NackName, Offer, Row};
 
 /// A receive inside scope 0, and an always outside it.
 fn two() -> [Offer; 2]
@@ -36,90 +38,46 @@ pub(super) fn enter_bound(cells: &Cells, pass: &mut Pass) -> bool
     true
 }
 
+const FIRST: Row = Row { thread: 0, sync: 0 };
+
+const SECOND: Row = Row { thread: 1, sync: 0 };
+
+const THIRD: Row = Row { thread: 2, sync: 0 };
+
+const WAITER_IS_WOKEN: [Act; 8] = [
+    Act::Bind(FIRST),
+    Act::Enter(FIRST, Offers::Two(Single::ReceiveInside, Single::Always)),
+    Act::Enter(SECOND, Offers::One(Single::Cancelled)),
+    Act::Search(SECOND, Found::Left),
+    Act::Search(FIRST, Found::Alone),
+    Act::Wake(NACK, &[SECOND]),
+    Act::Result(SECOND, Some(Message::Empty)),
+    Act::Wake(NACK, &[]),
+];
+
 #[test]
 fn woken(rt: HostRuntime) -> Result<(), Fail> {
-    let (cells, mut pass) = table(rt.alloc(), 2)?;
-    let (meet, mut lanes) = rooms(rt.alloc(), 1, 2)?;
-    assert!(rt; enter_bound(&cells, &mut pass));
-    enter(&cells, &mut pass, row(1), &[cancelled()]);
-    assert!(rt; meet.search(&rt, &cells, &mut pass, &mut lanes, &NoGate, row(1))? == Found::Left);
-    assert!(rt; meet.search(&rt, &cells, &mut pass, &mut lanes, &NoGate, row(0))? == Found::Alone);
-    let woken = meet.wake(
-        &rt,
-        rt.alloc(),
-        &cells,
-        &mut pass,
-        &mut lanes,
-        &NoGate,
-        NACK,
-    )?;
-    assert!(rt; woken.as_slice() == [row(1)].as_slice());
-    assert!(rt; cells.result(&mut pass, row(1)) == Some(Message::Empty));
-    let again = meet.wake(
-        &rt,
-        rt.alloc(),
-        &cells,
-        &mut pass,
-        &mut lanes,
-        &NoGate,
-        NACK,
-    )?;
-    assert!(rt; again.is_empty());
+    check_acts(&rt, 2, 1, 2, &WAITER_IS_WOKEN, 2)?;
     Ok(())
 }
 
+const ENABLED: [Act; 12] = [
+    Act::Bind(FIRST),
+    Act::Enter(FIRST, Offers::Two(Single::ReceiveInside, Single::Always)),
+    Act::Enter(SECOND, Offers::Two(Single::Cancelled, Single::Cancelled)),
+    Act::Enter(THIRD, Offers::Two(Single::Receive(0), Single::Cancelled)),
+    Act::Search(SECOND, Found::Left),
+    Act::Search(THIRD, Found::Left),
+    Act::Wake(NACK, &[]),
+    Act::Search(FIRST, Found::Alone),
+    Act::Wake(NackName { thread: 0, k: 1 }, &[]),
+    Act::Wake(NackName { thread: 3, k: 64 }, &[]),
+    Act::Wake(NACK, &[SECOND, THIRD]),
+    Act::Result(THIRD, Some(Message::Empty)),
+];
+
 #[test]
 fn only_an_enabled_nack_wakes(rt: HostRuntime) -> Result<(), Fail> {
-    let (cells, mut pass) = table(rt.alloc(), 3)?;
-    let (meet, mut lanes) = rooms(rt.alloc(), 1, 3)?;
-    assert!(rt; enter_bound(&cells, &mut pass));
-    enter(&cells, &mut pass, row(1), &[cancelled(), cancelled()]);
-    enter(&cells, &mut pass, row(2), &[receive(0, 0), cancelled()]);
-    assert!(rt; meet.search(&rt, &cells, &mut pass, &mut lanes, &NoGate, row(1))? == Found::Left);
-    assert!(rt; meet.search(&rt, &cells, &mut pass, &mut lanes, &NoGate, row(2))? == Found::Left);
-    let early = meet.wake(
-        &rt,
-        rt.alloc(),
-        &cells,
-        &mut pass,
-        &mut lanes,
-        &NoGate,
-        NACK,
-    )?;
-    assert!(rt; early.is_empty());
-    assert!(rt; meet.search(&rt, &cells, &mut pass, &mut lanes, &NoGate, row(0))? == Found::Alone);
-    let other = NackName { thread: 0, k: 1 };
-    let none = meet.wake(
-        &rt,
-        rt.alloc(),
-        &cells,
-        &mut pass,
-        &mut lanes,
-        &NoGate,
-        other,
-    )?;
-    assert!(rt; none.is_empty());
-    let unknown = NackName { thread: 3, k: 64 };
-    let none = meet.wake(
-        &rt,
-        rt.alloc(),
-        &cells,
-        &mut pass,
-        &mut lanes,
-        &NoGate,
-        unknown,
-    )?;
-    assert!(rt; none.is_empty());
-    let woken = meet.wake(
-        &rt,
-        rt.alloc(),
-        &cells,
-        &mut pass,
-        &mut lanes,
-        &NoGate,
-        NACK,
-    )?;
-    assert!(rt; woken.as_slice() == [row(1), row(2)].as_slice());
-    assert!(rt; cells.result(&mut pass, row(2)) == Some(Message::Empty));
+    check_acts(&rt, 3, 1, 3, &ENABLED, 3)?;
     Ok(())
 }
