@@ -14,6 +14,7 @@ mod keeping;
 mod replay;
 mod running;
 mod scripts;
+mod standing;
 mod workers;
 
 /// One file, by its name.

@@ -30,7 +30,7 @@ impl Source for TwoFiles<'_> {
 
 const WORDS: [&str; 3] = ["replay", "script", "journal"];
 
-fn replay<R: AllocGlobal + Threads + Wait + Sync>(
+pub(super) fn replay<R: AllocGlobal + Threads + Wait + Sync>(
     rt: &R,
     words: &[&str],
     script: &str,
