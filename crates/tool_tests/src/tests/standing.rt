@@ -2,12 +2,10 @@
 
 use super::Outcome;
 use super::replay::replay;
-use std::io::Write;
 use std::process::Abort;
 use std::sync::Wait;
 use std::test::Fail;
 use std::thread::Threads;
-use tool::Fault;
 
 /// A script, a journal, how many syncs a process may make, and what is told of them.
 #[derive(Clone, Copy)]
