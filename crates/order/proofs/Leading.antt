@@ -1,6 +1,5 @@
 -- The commits of a lawful ledger of processes, in order, are a run of them.
-use Rattle.std.proofs.Common.{◌≡◌, ◌≢◌, ℕ, zero, suc, ◌-◌, ◌<◌, ◌≤◌, Bool, true, false, cond, eqb, ltb, List, [], ◌∷◌, ◌++◌, length, take, map, get_or, slice_get, Some, None, Contains, refl, sym, ap, ◌∙◌, append_assoc, subst, arith, inl, inr, ⊎_elim}
-use Rattle.std.specs.Prelude.{⊤}
+use Rattle.std.proofs.Common.{◌≡◌, ℕ, zero, suc, ◌-◌, ◌<◌, ◌≤◌, Bool, true, false, cond, eqb, ltb, List, [], ◌∷◌, ◌++◌, length, take, map, get_or, slice_get, Some, None, Contains, refl, sym, ap, ◌∙◌, append_assoc, subst, arith, inl, inr, ⊎_elim}
 use Rattle.std.proofs.lemmas.Bool.{and_parts, cases_order, false≢true, ltb-true}
 use Rattle.std.proofs.lemmas.List.{length-append, length-take-le}
 use Rattle.std.proofs.lemmas.List.Sorted.{Contains-permutation, IsPermutation-sym}
@@ -28,6 +27,7 @@ use Rattle.protocol.specs.Ledgers.{Ledger, Entry, HasCommit, Involves, IsEnabled
 use Rattle.protocol.specs.Tables.{number_of}
 use Rattle.protocol.proofs.CommitLemmas.{commit_members}
 use Rattle.protocol.proofs.Ordering.{causal_ledger}
+use Rattle.protocol.proofs.Results.{gift, gives-involves, one-list, one-result}
 use Rattle.sequential.specs.Runs.{CausedBy, Config, CountsFor, Follows, HasRow, HasThread, IsCaused, IsFiredAt, IsGreatest, IsLegal, IsOffering, IsRow, IsRun, MayTake, applied, config_of}
 use Rattle.sequential.proofs.Greatest.{in-more, last-more, more, more-cases}
 use Rattle.sequential.proofs.Lists.{slice_get-first, slice_get-middle, slice_get-more}
@@ -42,40 +42,7 @@ use Rattle.order.proofs.Swapping.{applied-other, grows, has-or-not}
 abbrev row : ℕ → ℕ → Row
 row t g = record { thread = t; sync = g }
 
--- WHAT A COMMIT GIVES
-
--- a pair is of two threads
-abbrev Apart : Commit → Type 0
-Apart (Pair sender receiver chan msg stamp) = sender.0.thread ≢ receiver.0.thread
-Apart (Alone at why stamp) = ⊤
-
-record Gift (c : Commit) (r : Row) (n : ℕ) : Type 0 where
-  result : Chosen
-  gives : Gives c r result
-  number : result.0 ≡ n
-
-gift : (c : Commit) (r : Row) (n : ℕ) → Takes c r n → Gift c r n
-gift (Pair sender receiver chan msg stamp) r n (inl e) = record { result = (sender.1, Empty); gives = inl (ap (λ (z : Row × ℕ). z.0) e, refl); number = ap (λ (z : Row × ℕ). z.1) e }
-gift (Pair sender receiver chan msg stamp) r n (inr e) = record { result = (receiver.1, msg); gives = inr (ap (λ (z : Row × ℕ). z.0) e, refl); number = ap (λ (z : Row × ℕ). z.1) e }
-gift (Alone at (cause.Always m) stamp) r n e = record { result = (at.1, m); gives = (ap (λ (z : Row × ℕ). z.0) e, refl); number = ap (λ (z : Row × ℕ). z.1) e }
-gift (Alone at (cause.Nack k) stamp) r n e = record { result = (at.1, Empty); gives = (ap (λ (z : Row × ℕ). z.0) e, refl); number = ap (λ (z : Row × ℕ). z.1) e }
-
-gives-takes : (c : Commit) (r : Row) (x : Chosen) → Gives c r x → Takes c r x.0
-gives-takes (Pair sender receiver chan msg stamp) r x (inl h) = inl (λ i. (h.0 i, ap (λ (z : Chosen). z.0) (sym h.1) i))
-gives-takes (Pair sender receiver chan msg stamp) r x (inr h) = inr (λ i. (h.0 i, ap (λ (z : Chosen). z.0) (sym h.1) i))
-gives-takes (Alone at (cause.Always m) stamp) r x h = λ i. (h.0 i, ap (λ (z : Chosen). z.0) (sym h.1) i)
-gives-takes (Alone at (cause.Nack k) stamp) r x h = λ i. (h.0 i, ap (λ (z : Chosen). z.0) (sym h.1) i)
-
-gives-involves : (c : Commit) (r : Row) (x : Chosen) → Gives c r x → Involves c r
-gives-involves c r x h = (x.0, gives-takes c r x h)
-
-one-gift : (c : Commit) (r : Row) (x y : Chosen) → Apart c → Gives c r x → Gives c r y → x ≡ y
-one-gift (Pair sender receiver chan msg stamp) r x y apart (inl h) (inl k) = h.1 ∙ sym k.1
-one-gift (Pair sender receiver chan msg stamp) r x y apart (inl h) (inr k) = absurd (apart (ap (λ (q : Row). q.thread) (h.0 ∙ sym k.0)))
-one-gift (Pair sender receiver chan msg stamp) r x y apart (inr h) (inl k) = absurd (apart (ap (λ (q : Row). q.thread) (k.0 ∙ sym h.0)))
-one-gift (Pair sender receiver chan msg stamp) r x y apart (inr h) (inr k) = h.1 ∙ sym k.1
-one-gift (Alone at (cause.Always m) stamp) r x y apart h k = h.1 ∙ sym k.1
-one-gift (Alone at (cause.Nack n) stamp) r x y apart h k = h.1 ∙ sym k.1
+-- THE ROWS OF A COMMIT
 
 -- a thread of a commit is that of one of its rows
 thread-involves : (c : Commit) (t : ℕ) → HasThread c t → (g : ℕ) × Involves c (row t g)
@@ -98,14 +65,6 @@ involves-row (Alone at why stamp) t g (n, e) = is-row at t g n e
 
 involves-thread : (c : Commit) (t g : ℕ) → Involves c (row t g) → HasThread c t
 involves-thread c t g h = Rattle.sequential.proofs.Standing.row-thread c t g (involves-row c t g h)
-
--- LISTS
-
-same-list : (xs ys : List Chosen) → length xs ≡ length ys → ((g : ℕ) (x y : Chosen) → slice_get xs g ≡ Some x → slice_get ys g ≡ Some y → x ≡ y) → xs ≡ ys
-same-list [] [] e h = refl
-same-list [] (y ∷ ys) e h = absurd (omega (arith, e))
-same-list (x ∷ xs) [] e h = absurd (omega (arith, e))
-same-list (x ∷ xs) (y ∷ ys) e h = λ i. h zero x y refl refl i ∷ same-list xs ys (omega (arith, e)) (λ g. h (suc g)) i
 
 -- the base event of an offer
 record OfferedBase (bs : List BaseEvent) (n : ℕ) (o : Offer) : Type 0 where
@@ -170,10 +129,6 @@ module _ (ps : List Proc) (rows : ℕ) (l : Ledger) (law : IsLawful l) (of : IsL
   in-commits : (c : Commit) → HasCommit l c → Contains commits c
   in-commits c h = Contains-permutation (commits_in l) commits c order.all ((commit_members l.threads l.rows (joined_in l) (offer_in l) (binding_in l) law (joined-inside l) c).1 h)
 
-  apart : (c : Commit) → HasCommit l c → Apart c
-  apart (Pair sender receiver chan msg stamp) h = (law.fits (Pair sender receiver chan msg stamp) h).0
-  apart (Alone at why stamp) h = tt
-
   -- what is taken was offered
   offer-at : (at : Row × ℕ) (b : Base) (r : Row) (n : ℕ) → ledgers.Offers (offer_in l) at b → at ≡ (r, n) → (o : Offer) × (offer_in l r n ≡ Some o)
   offer-at at b r n h e = (h.0, ap (λ (z : Row × ℕ). offer_in l z.0 z.1) (sym e) ∙ h.1)
@@ -191,19 +146,6 @@ module _ (ps : List Proc) (rows : ℕ) (l : Ledger) (law : IsLawful l) (of : IsL
   shown : (r : Row) (off : OffersAs (ProcessOffers ps) l r) (n : ℕ) (o : Offer) → offer_in l r n ≡ Some o → slice_get (offers off.standing.event) n ≡ Some o
   shown r off n o h = ap (λ (os : List Offer). slice_get os n) off.standing.are ∙ off.offered n o h
 
-  -- RESULTS
-
-  one-result : (c d : Commit) (r : Row) (x y : Chosen) → HasCommit l c → HasCommit l d → Gives c r x → Gives d r y → x ≡ y
-  one-result c d r x y in_c in_d h k =
-      let same : d ≡ c = law.once r d c in_d in_c (gives-involves d r y k) (gives-involves c r x h) in
-      one-gift c r x y (apart c in_c) h (subst (λ (z : Commit). Gives z r y) same k)
-
-  one-results : (t : ℕ) (xs ys : List Chosen) → length xs ≡ length ys → AreResults l t xs → AreResults l t ys → xs ≡ ys
-  one-results t xs ys size a b = same-list xs ys size (λ g x y h k.
-      let c = a g x h in
-      let d = b g y k in
-      one-result c.0 d.0 (row t g) x y c.1 d.1 c.2 d.2)
-
   -- THESE COMMITS LEAD to the results of the rows that they have
   record Leads (es : List Commit) : Type 0 where
     members : (c : Commit) → Contains es c → HasCommit l c
@@ -219,10 +161,10 @@ module _ (ps : List Proc) (rows : ℕ) (l : Ledger) (law : IsLawful l) (of : IsL
   -- the row's process stands there, where the thread has as many results
   module _ (es : List Commit) (k : Leads es) where
     before : (r : Row) (off : OffersAs (ProcessOffers ps) l r) → r.sync ≤ length (config_of es r.thread) → off.results ≡ take r.sync (config_of es r.thread)
-    before r off low = one-results r.thread off.results (take r.sync (config_of es r.thread)) (off.count ∙ sym (length-take-le r.sync (config_of es r.thread) low)) off.are (are-first es k r.thread r.sync)
+    before r off low = one-list l law r.thread off.results (take r.sync (config_of es r.thread)) (off.count ∙ sym (length-take-le r.sync (config_of es r.thread) low)) off.are (are-first es k r.thread r.sync)
 
     now : (r : Row) (off : OffersAs (ProcessOffers ps) l r) → r.sync ≡ length (config_of es r.thread) → off.results ≡ config_of es r.thread
-    now r off next = one-results r.thread off.results (config_of es r.thread) (off.count ∙ next) off.are (are es k r.thread)
+    now r off next = one-list l law r.thread off.results (config_of es r.thread) (off.count ∙ next) off.are (are es k r.thread)
 
     can-take : (at : Row × ℕ) (b : Base) → ledgers.Offers (offer_in l) at b → at.0.sync ≡ length (config_of es at.0.thread) → MayTake ps rows (config_of es) at b
     can-take at b h next =
@@ -248,7 +190,7 @@ module _ (ps : List Proc) (rows : ℕ) (l : Ledger) (law : IsLawful l) (of : IsL
         let x = get_or config g gave.result in
         let at : slice_get config g ≡ Some x = slice_get-get_or config g gave.result low in
         let giver = are es k n.thread g x at in
-        let same : x ≡ gave.result = one-result giver.0 en.commit r x gave.result giver.1 en.inside giver.2 gave.gives in
+        let same : x ≡ gave.result = one-result l law giver.0 en.commit r x gave.result giver.1 en.inside giver.2 gave.gives in
         let number : en.chosen ≡ x.0 = sym (ap (λ (z : Chosen). z.0) same ∙ gave.number) in
         let offer = offered-by en.commit r en.chosen en.inside en.takes in
         let off = of r en.chosen offer.0 offer.1 in

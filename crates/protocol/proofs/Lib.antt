@@ -19,3 +19,4 @@ pub mod Starting
 pub mod Ordering
 pub mod Onward
 pub mod Standing
+pub mod Results

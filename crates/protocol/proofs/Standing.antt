@@ -1,5 +1,5 @@
 -- An opened row offers what it was opened with, and the results before it stay: so it stands as it was opened.
-use Rattle.std.proofs.Common.{◌⊎◌, ◌≡◌, ℕ, ◌≤◌, true, false, List, [], ◌∷◌, Option, Some, is_some, sym, ap, ◌∙◌, subst, ⊎_elim}
+use Rattle.std.proofs.Common.{◌≡◌, ℕ, ◌≤◌, true, false, List, [], ◌∷◌, Option, is_some, sym, ap, ◌∙◌, subst, ⊎_elim}
 use Rattle.std.proofs.lemmas.Bool.{true≢false}
 use Rattle.words.specs.declared.Binding.{Binding}
 use Rattle.words.specs.declared.NackName.{NackName}

@@ -1,5 +1,5 @@
 -- What rows offer by the results of their threads: whoever stands for a thread offers something after these results.
-use Rattle.std.specs.Prelude.{◌≡◌, ◌⊎◌, ℕ, ⊤, false, List, [], ◌∷◌, length, Some, slice_get}
+use Rattle.std.specs.Prelude.{◌≡◌, ◌⊎◌, ℕ, ◌+◌, ⊤, false, List, [], ◌∷◌, length, Some, slice_get}
 use Rattle.words.specs.declared.Binding.{Binding}
 use Rattle.words.specs.declared.Cause.TheVariants as cause
 use Rattle.words.specs.declared.Commit.{Commit}
@@ -11,7 +11,7 @@ use Rattle.words.specs.declared.Row.{Row}
 use Rattle.words.specs.declared.Seat.{Seat}
 use Rattle.words.specs.declared.Step.{Step}
 use Rattle.words.specs.declared.Step.TheVariants.{Open}
-use Rattle.protocol.specs.Ledgers.{Ledger, HasCommit, binding_in, ledger_of, offer_in}
+use Rattle.protocol.specs.Ledgers.{Ledger, HasCommit, Involves, IsLawful, binding_in, ledger_of, offer_in}
 use Rattle.protocol.specs.Tables.{Table, cell_at, is_fresh}
 use Rattle.protocol.specs.Worlds.{World, after_step, nack_of_row}
 
@@ -71,3 +71,13 @@ OpenedAs stands t step = ⊤
 abbrev pub EachOpenedAs : (ℕ → List Result → List Offer → List ℕ → Type 0) → World → List (Seat × Step) → Type 0
 EachOpenedAs stands w [] = ⊤
 EachOpenedAs stands w (s ∷ steps) = OpenedAs stands (after_step w s.0 s.1).table s.1 × EachOpenedAs stands (after_step w s.0 s.1) steps
+
+-- RESULTS of a lawful ledger: where a row is in a commit, its thread has one result for each row up to it
+abbrev pub HaveResults : Type 0
+HaveResults =
+    (l : Ledger) (c : Commit) (t g : ℕ) → IsLawful l → HasCommit l c → Involves c (record { thread = t; sync = g }) →
+    (results : List Result) × (length results ≡ g + 1) × AreResults l t results
+
+-- and as many results of a thread are the same
+abbrev pub OneResults : Type 0
+OneResults = (l : Ledger) (t : ℕ) (first second : List Result) → IsLawful l → length first ≡ length second → AreResults l t first → AreResults l t second → first ≡ second

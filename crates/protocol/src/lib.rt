@@ -3,6 +3,7 @@
 
 ghost use Rattle.protocol.specs.Growing.{CommitsStay, TablesGrow};
 ghost use Rattle.protocol.specs.Ledgers.{ledger_of, IsLawful};
+ghost use Rattle.protocol.specs.Standing.{HaveResults, OneResults};
 ghost use Rattle.protocol.specs.Worlds.{Plays, IsRefused, start_world, World};
 ghost use Rattle.words.specs.declared.Step.{Step};
 ghost use Rattle.words.specs.declared.Seat.{Seat};
@@ -63,4 +64,11 @@ pub fn one_answer()
 pub fn what_is_committed_stays()
     ensures tables { TablesGrow }
     ensures commits { CommitsStay }
+{}
+
+/// A row that is in a commit of a lawful ledger has its thread's results up to it, one for each row, and as many
+/// results of a thread are the same ones: the number of the offer that each row took, and the message it got.
+pub fn results_of_rows()
+    ensures there { HaveResults }
+    ensures one { OneResults }
 {}
