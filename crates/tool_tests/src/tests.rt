@@ -1,9 +1,9 @@
-use std::alloc::Global;
+use std::alloc::{AllocError, Global};
+use std::fmt::Debug;
 use std::io;
 use std::io::Write;
 use std::process::Abort;
 use std::sync::Wait;
-use std::test::Fail;
 use std::thread::Threads;
 use tool::{Fault, Source, SourceFault, command, play_laws, replay_laws};
 
@@ -92,42 +92,81 @@ fn run_on<R: AllocGlobal + Threads + Wait + Sync, S: Source>(
     Ok(Outcome { status, out, err })
 }
 
-fn prints<R: Abort + AllocGlobal + Threads + Wait + Sync>(
+/// What a call is to do: to print this, or to tell this fault and print nothing.
+#[derive(Clone, Copy)]
+enum Wanted {
+    Printed(&'static str),
+    Fault(&'static str),
+}
+
+/// Stops the test where the values differ, and prints both.
+fn check_same<T: PartialEq + Debug + Drop>(rt: &impl Abort, found: T, wanted: T, what: &str) {
+    assert!(rt; found == wanted, "{what}: {found:?} is not {wanted:?}");
+}
+
+/// The run printed this text, told this fault if any, and ended with this status.
+fn check_outcome(
+    rt: &impl Abort,
+    run: &Outcome,
+    printed: &str,
+    told: &str,
+    status: u8,
+    what: &str,
+) {
+    check_same(rt, run.out.as_slice(), printed.as_bytes(), what);
+    check_same(rt, run.err.as_slice(), told.as_bytes(), what);
+    check_same(rt, run.status, status, what);
+}
+
+fn check_call<R: Abort + AllocGlobal + Threads + Wait + Sync>(
     rt: &R,
     words: &[&str],
     text: &[u8],
-    expected: &[u8],
+    wanted: Wanted,
 ) -> Result<(), Fault> {
     let run = run(rt, words, text)?;
-    assert_eq!(rt; run.out.as_slice(), expected);
-    assert!(rt; run.err.is_empty());
-    assert_eq!(rt; run.status, 0);
+    match wanted {
+        Wanted::Printed(printed) => check_outcome(rt, &run, printed, "", 0, printed),
+        Wanted::Fault(told) => check_outcome(rt, &run, "", told, 1, told),
+    }
     Ok(())
 }
 
-fn faults<R: Abort + AllocGlobal + Threads + Wait + Sync>(
+/// The calls with these words, each with the text of its file.
+fn check_calls<R: Abort + AllocGlobal + Threads + Wait + Sync>(
     rt: &R,
     words: &[&str],
-    text: &[u8],
-    expected: &[u8],
+    table: &[(&str, Wanted)],
 ) -> Result<(), Fault> {
-    let run = run(rt, words, text)?;
-    assert_eq!(rt; run.err.as_slice(), expected);
-    assert!(rt; run.out.is_empty());
-    assert_eq!(rt; run.status, 1);
+    for (text, wanted) in table.iter() {
+        check_call(rt, words, text.as_bytes(), *wanted)?;
+    }
     Ok(())
 }
 
-fn is_bad_words<R: Abort + AllocGlobal + Threads + Wait + Sync>(
+fn check_bad_words<R: Abort + AllocGlobal + Threads + Wait + Sync>(
     rt: &R,
     words: &[&str],
 ) -> Result<(), Fault> {
     let run = run(rt, words, b"world 1 1 1\n")?;
     assert!(rt; run.out.is_empty());
     assert!(rt; !run.err.is_empty());
-    assert_eq!(rt; run.status, 2);
+    check_same(rt, run.status, 2, "the status of bad words");
     Ok(())
 }
+
+/// None of these lists of words is understood.
+fn check_all_bad_words<R: Abort + AllocGlobal + Threads + Wait + Sync>(
+    rt: &R,
+    table: &[&[&str]],
+) -> Result<(), Fault> {
+    for words in table.iter() {
+        check_bad_words(rt, words)?;
+    }
+    Ok(())
+}
+
+const PLAY: [&str; 2] = ["play", "file"];
 
 const CROSSED: [&str; 9] = [
     "world 2 1 2",
@@ -142,7 +181,7 @@ const CROSSED: [&str; 9] = [
 ];
 
 /// The two threads with their offers opened and the first one's row claimed, and then further lines.
-fn crossed(alloc: Global, further: &[&str]) -> Result<String, Fail> {
+fn crossed(alloc: Global, further: &[&str]) -> Result<String, AllocError> {
     let mut text = String::new(alloc);
     for line in CROSSED.iter().chain(further) {
         text.push_str(line)?;
@@ -151,76 +190,71 @@ fn crossed(alloc: Global, further: &[&str]) -> Result<String, Fail> {
     Ok(text)
 }
 
+fn check_crossed<R: Abort + AllocGlobal + Threads + Wait + Sync>(
+    rt: &R,
+    further: &[&str],
+    wanted: Wanted,
+) -> Result<(), Fault> {
+    let text = crossed(rt.alloc(), further)?;
+    check_call(rt, &PLAY, text.as_bytes(), wanted)
+}
+
+/// The numbers that a rendezvous brings over, with its line.
+const MEETINGS: [(&str, Wanted); 3] = [
+    ("0", Wanted::Printed("1 0.0.0 -> 1.0.0 0 (0)\n")),
+    ("42", Wanted::Printed("1 0.0.0 -> 1.0.0 0 (42)\n")),
+    (
+        "4294967295",
+        Wanted::Printed("1 0.0.0 -> 1.0.0 0 (4294967295)\n"),
+    ),
+];
+
 #[test]
 fn meets(rt: HostRuntime) -> Result<(), Fault> {
-    prints(&rt, &["meet", "0"], b"", b"1 0.0.0 -> 1.0.0 0 (0)\n")?;
-    prints(&rt, &["meet", "42"], b"", b"1 0.0.0 -> 1.0.0 0 (42)\n")?;
-    prints(
-        &rt,
-        &["meet", "4294967295"],
-        b"",
-        b"1 0.0.0 -> 1.0.0 0 (4294967295)\n",
-    )?;
+    for (number, wanted) in &MEETINGS {
+        check_call(&rt, &["meet", *number], b"", *wanted)?;
+    }
     Ok(())
 }
 
 /// Which of the two threads claims first differs from run to run; the line does not.
 #[test]
 fn meets_the_same_way_each_time(rt: HostRuntime) -> Result<(), Fault> {
+    let wanted = Wanted::Printed("1 0.0.0 -> 1.0.0 0 (42)\n");
     for _ in 0..200 {
-        prints(&rt, &["meet", "42"], b"", b"1 0.0.0 -> 1.0.0 0 (42)\n")?;
+        check_call(&rt, &["meet", "42"], b"", wanted)?;
     }
     Ok(())
 }
 
 #[test]
-fn plays_crossed_claims(rt: HostRuntime) -> Result<(), Fail> {
-    let both_claim = crossed(
-        rt.alloc(),
+fn plays_crossed_claims(rt: HostRuntime) -> Result<(), Fault> {
+    check_crossed(
+        &rt,
         &["1 claim 1.0", "0 join 0.0 0 1.0 0", "1 join 1.0 0 0.0 0"],
+        Wanted::Fault("fault 2 step 10\n"),
     )?;
-    faults(
+    check_crossed(
         &rt,
-        &["play", "file"],
-        both_claim.as_bytes(),
-        b"fault 2 step 10\n",
-    )?;
-    let yields = crossed(
-        rt.alloc(),
         &["1 claim 1.0", "1 yield 1.0", "0 join 0.0 0 1.0 0"],
+        Wanted::Printed("1 0.0.0 -> 1.0.0 0 (42)\ncommits 1 pending 1\n"),
     )?;
-    prints(
+    check_crossed(
         &rt,
-        &["play", "file"],
-        yields.as_bytes(),
-        b"1 0.0.0 -> 1.0.0 0 (42)\ncommits 1 pending 1\n",
-    )?;
-    let seals = crossed(
-        rt.alloc(),
         &[
             "1 claim 1.0",
             "1 yield 1.0",
             "0 join 0.0 0 1.0 0",
             "0 seal 0.0",
         ],
-    )?;
-    prints(
-        &rt,
-        &["play", "file"],
-        seals.as_bytes(),
-        b"1 0.0.0 -> 1.0.0 0 (42)\ncommits 1 pending 0\n",
-    )?;
-    Ok(())
+        Wanted::Printed("1 0.0.0 -> 1.0.0 0 (42)\ncommits 1 pending 0\n"),
+    )
 }
 
 /// An always is granted, its row is taken, and so is the row behind it opened and granted.
-#[test]
-fn plays_grants_and_takes(rt: HostRuntime) -> Result<(), Fault> {
-    let words = ["play", "file"];
-    prints(
-        &rt,
-        &words,
-        b"world 1 2 1
+const GRANTS_AND_TAKES: [(&str, Wanted); 3] = [
+    (
+        "world 1 2 1
 0 draft 0.0 1 1
 0 draft 0.0 2 8388611
 0 draft 0.0 3 168
@@ -232,21 +266,21 @@ fn plays_grants_and_takes(rt: HostRuntime) -> Result<(), Fault> {
 0 open 0.1
 0 grant 0.1 0
 ",
-        b"1 0.0.0 always (42)\n2 0.1.0 always ()\ncommits 2 pending 0\n",
-    )?;
-    faults(
-        &rt,
-        &words,
-        b"world 1 2 1\n0 open 0.0\n0 grant 0.0 0\n",
-        b"fault 2 step 2\n",
-    )?;
-    faults(
-        &rt,
-        &words,
-        b"world 1 2 1\n0 open 0.0\n0 take 0.0\n",
-        b"fault 2 step 2\n",
-    )?;
-    Ok(())
+        Wanted::Printed("1 0.0.0 always (42)\n2 0.1.0 always ()\ncommits 2 pending 0\n"),
+    ),
+    (
+        "world 1 2 1\n0 open 0.0\n0 grant 0.0 0\n",
+        Wanted::Fault("fault 2 step 2\n"),
+    ),
+    (
+        "world 1 2 1\n0 open 0.0\n0 take 0.0\n",
+        Wanted::Fault("fault 2 step 2\n"),
+    ),
+];
+
+#[test]
+fn plays_grants_and_takes(rt: HostRuntime) -> Result<(), Fault> {
+    check_calls(&rt, &PLAY, &GRANTS_AND_TAKES)
 }
 
 /// A row with a nack bound to its scope 0 commits outside it, and so enables a row that waits for it.
@@ -261,34 +295,37 @@ const A_NACK: &str = "world 2 1 2
 1 open 1.0
 ";
 
+fn check_nack<R: Abort + AllocGlobal + Threads + Wait + Sync>(
+    rt: &R,
+    grants: &str,
+    wanted: Wanted,
+) -> Result<(), Fault> {
+    let text = format!(in rt.alloc(); "{A_NACK}{grants}")?;
+    check_call(rt, &PLAY, text.as_bytes(), wanted)
+}
+
 #[test]
 fn plays_binds_and_grants_of_nacks(rt: HostRuntime) -> Result<(), Fault> {
-    let words = ["play", "file"];
-    let text = format!(in rt.alloc(); "{A_NACK}0 grant 0.0 1\n1 grant 1.0 0\n")?;
-    prints(
+    check_nack(
         &rt,
-        &words,
-        text.as_bytes(),
-        b"1 0.0.1 always ()\n2 1.0.0 cancelled 0.0\ncommits 2 pending 0\n",
+        "0 grant 0.0 1\n1 grant 1.0 0\n",
+        Wanted::Printed("1 0.0.1 always ()\n2 1.0.0 cancelled 0.0\ncommits 2 pending 0\n"),
     )?;
-    let text = format!(in rt.alloc(); "{A_NACK}1 grant 1.0 0\n0 grant 0.0 1\n")?;
-    faults(&rt, &words, text.as_bytes(), b"fault 2 step 9\n")?;
-    faults(
+    check_nack(
         &rt,
-        &words,
+        "1 grant 1.0 0\n0 grant 0.0 1\n",
+        Wanted::Fault("fault 2 step 9\n"),
+    )?;
+    check_call(
+        &rt,
+        &PLAY,
         b"world 1 1 1\n0 bind 0 0.0 0\n0 bind 0 0.0 1\n",
-        b"fault 2 step 2\n",
-    )?;
-    Ok(())
+        Wanted::Fault("fault 2 step 2\n"),
+    )
 }
 
 /// The row that waits has a last stamp of 1, and the row that enables it has stamp 3.
-#[test]
-fn counts_the_stamp_of_the_cause(rt: HostRuntime) -> Result<(), Fault> {
-    prints(
-        &rt,
-        &["play", "file"],
-        b"world 2 3 2
+const STAMPS: &str = "world 2 3 2
 0 draft 0.0 1 1
 0 draft 0.0 2 3
 0 open 0.0
@@ -313,54 +350,56 @@ fn counts_the_stamp_of_the_cause(rt: HostRuntime) -> Result<(), Fault> {
 1 open 1.1
 0 grant 0.2 0
 1 grant 1.1 0
-",
-        b"1 0.0.0 always ()
+";
+
+#[test]
+fn counts_the_stamp_of_the_cause(rt: HostRuntime) -> Result<(), Fault> {
+    check_call(
+        &rt,
+        &PLAY,
+        STAMPS.as_bytes(),
+        Wanted::Printed(
+            "1 0.0.0 always ()
 1 1.0.0 always ()
 2 0.1.0 always ()
 3 0.2.0 always ()
 4 1.1.0 cancelled 0.5
 commits 5 pending 0
 ",
-    )?;
-    Ok(())
+        ),
+    )
 }
+
+const WORLDS_ALONE: [(&str, Wanted); 2] = [
+    ("world 1 1 1\n", Wanted::Printed("commits 0 pending 0\n")),
+    (
+        "world 64 2 16\n15 open 63.0\n",
+        Wanted::Printed("commits 0 pending 0\n"),
+    ),
+];
 
 #[test]
 fn plays_a_world_alone(rt: HostRuntime) -> Result<(), Fault> {
-    prints(
-        &rt,
-        &["play", "file"],
-        b"world 1 1 1\n",
-        b"commits 0 pending 0\n",
-    )?;
-    prints(
-        &rt,
-        &["play", "file"],
-        b"world 64 2 16\n15 open 63.0\n",
-        b"commits 0 pending 0\n",
-    )?;
-    Ok(())
+    check_calls(&rt, &PLAY, &WORLDS_ALONE)
 }
+
+const BAD_LINES: [(&str, Wanted); 5] = [
+    ("", Wanted::Fault("fault 22 line 1\n")),
+    ("world 1 1 1", Wanted::Fault("fault 22 line 1\n")),
+    ("world 1 1 1\n\n", Wanted::Fault("fault 22 line 2\n")),
+    (
+        "world 1 1 1\n9 open 9.9\n0 bind 0.0 0\n",
+        Wanted::Fault("fault 22 line 3\n"),
+    ),
+    (
+        "world 1 1 1\n15 open 0.0\n",
+        Wanted::Fault("fault 2 step 1\n"),
+    ),
+];
 
 #[test]
 fn tells_bad_lines(rt: HostRuntime) -> Result<(), Fault> {
-    let words = ["play", "file"];
-    faults(&rt, &words, b"", b"fault 22 line 1\n")?;
-    faults(&rt, &words, b"world 1 1 1", b"fault 22 line 1\n")?;
-    faults(&rt, &words, b"world 1 1 1\n\n", b"fault 22 line 2\n")?;
-    faults(
-        &rt,
-        &words,
-        b"world 1 1 1\n9 open 9.9\n0 bind 0.0 0\n",
-        b"fault 22 line 3\n",
-    )?;
-    faults(
-        &rt,
-        &words,
-        b"world 1 1 1\n15 open 0.0\n",
-        b"fault 2 step 1\n",
-    )?;
-    Ok(())
+    check_calls(&rt, &PLAY, &BAD_LINES)
 }
 
 #[test]
@@ -371,44 +410,64 @@ fn laws_hold() {
 
 #[test]
 fn tells_unread_files(rt: HostRuntime) -> Result<(), Fault> {
-    faults(&rt, &["play", "none"], b"", b"fault 31\n")?;
+    check_call(&rt, &["play", "none"], b"", Wanted::Fault("fault 31\n"))?;
     let lacking = run(&rt, &["play", "memory"], b"");
     assert!(rt; matches!(lacking, Err(Fault::Memory)));
+    Ok(())
+}
+
+/// Where the output takes only so many bytes of the line, that is told.
+fn check_narrow<R: Abort + AllocGlobal + Threads + Wait + Sync>(
+    rt: &R,
+    room: usize,
+) -> Result<(), Fault> {
+    let alloc = rt.alloc();
+    let mut err = Vec::with_capacity(alloc, 64)?;
+    let status = command(
+        rt,
+        alloc,
+        &["meet", "42"],
+        &mut OneFile { alloc, text: b"" },
+        &mut Narrow { room },
+        &mut err,
+    );
+    if status == 1 && err.as_slice() == b"fault 1\n".as_slice() {
+        return Err(Fault::Memory);
+    }
+    check_same(rt, status, 1, "the status");
+    check_same(
+        rt,
+        err.as_slice(),
+        b"fault 32\n".as_slice(),
+        "what was told",
+    );
     Ok(())
 }
 
 #[test]
 fn tells_unwritten_output(rt: HostRuntime) -> Result<(), Fault> {
     for room in 0..24 {
-        let mut source = OneFile {
-            alloc: rt.alloc(),
-            text: b"",
-        };
-        let mut out = Narrow { room };
-        let mut err = Vec::with_capacity(rt.alloc(), 64)?;
-        let words = ["meet", "42"];
-        let status = command(&rt, rt.alloc(), &words, &mut source, &mut out, &mut err);
-        if status == 1 && err.as_slice() == b"fault 1\n".as_slice() {
-            return Err(Fault::Memory);
-        }
-        assert_eq!(rt; status, 1);
-        assert_eq!(rt; err.as_slice(), b"fault 32\n".as_slice());
+        check_narrow(&rt, room)?;
     }
     Ok(())
 }
 
 #[test]
 fn tells_bad_words(rt: HostRuntime) -> Result<(), Fault> {
-    is_bad_words(&rt, &[])?;
-    is_bad_words(&rt, &["meet"])?;
-    is_bad_words(&rt, &["meet", "1", "2"])?;
-    is_bad_words(&rt, &["meet", "4294967296"])?;
-    is_bad_words(&rt, &["meet", "-1"])?;
-    is_bad_words(&rt, &["meet", "x"])?;
-    is_bad_words(&rt, &["play"])?;
-    is_bad_words(&rt, &["play", "file", "file"])?;
-    is_bad_words(&rt, &["mate", "1"])?;
-    is_bad_words(&rt, &["--help"])?;
-    is_bad_words(&rt, &["meet", "--help"])?;
-    Ok(())
+    check_all_bad_words(
+        &rt,
+        &[
+            &[],
+            &["meet"],
+            &["meet", "1", "2"],
+            &["meet", "4294967296"],
+            &["meet", "-1"],
+            &["meet", "x"],
+            &["play"],
+            &["play", "file", "file"],
+            &["mate", "1"],
+            &["--help"],
+            &["meet", "--help"],
+        ],
+    )
 }

@@ -1,6 +1,6 @@
 //! What `explain` prints.
 
-use super::{Outcome, is_bad_words, run};
+use super::{Outcome, check_all_bad_words, check_same, run};
 use std::alloc::Global;
 use std::process::Abort;
 use std::sync::Wait;
@@ -35,21 +35,39 @@ fn explained<R: AllocGlobal + Threads + Wait + Sync>(rt: &R, number: u16) -> Res
     Ok(run(rt, &["explain", word.as_str()], b"")?)
 }
 
-// Each is told with its number, and under that number it is explained.
+/// The fault is told with its number, and under that number it is explained.
+fn check_explained<R: Abort + AllocGlobal + Threads + Wait + Sync>(
+    rt: &R,
+    fault: Fault,
+) -> Result<(), Fail> {
+    let told = format!(in rt.alloc(); "{fault} ")?;
+    let number = format!(in rt.alloc(); "fault {} ", fault.number())?;
+    assert!(rt; told.as_str().starts_with(number.as_str()));
+    let ran = explained(rt, fault.number())?;
+    check_same(rt, ran.status, 0, &number);
+    assert!(rt; ran.err.is_empty());
+    Ok(())
+}
+
 #[test]
 fn explains_each_fault(rt: HostRuntime) -> Result<(), Fail> {
-    for fault in FAULTS {
-        let told = format!(in rt.alloc(); "{fault} ")?;
-        let number = format!(in rt.alloc(); "fault {} ", fault.number())?;
-        assert!(&rt; told.as_str().starts_with(number.as_str()));
-        let ran = explained(&rt, fault.number())?;
-        assert_eq!(&rt; ran.status, 0);
-        assert!(&rt; ran.err.is_empty());
+    for fault in &FAULTS {
+        check_explained(&rt, *fault)?;
     }
-    for number in ["0", "7", "33", "65535", "65536", "-1", "all"] {
-        is_bad_words(&rt, &["explain", number])?;
-    }
-    Ok(is_bad_words(&rt, &["explain"])?)
+    check_all_bad_words(
+        &rt,
+        &[
+            &["explain", "0"],
+            &["explain", "7"],
+            &["explain", "33"],
+            &["explain", "65535"],
+            &["explain", "65536"],
+            &["explain", "-1"],
+            &["explain", "all"],
+            &["explain"],
+        ],
+    )?;
+    Ok(())
 }
 
 /// The file of an explanation: its lines are two spaces to the right.
@@ -75,15 +93,25 @@ fn gives_its_fault<R: Abort + AllocGlobal + Threads + Wait + Sync>(
     let told = run(rt, &[word, "file"], file.as_slice())?;
     let wanted = format!(in rt.alloc(); "fault {number} ")?;
     assert!(rt; told.err.as_slice().starts_with(wanted.as_bytes()));
-    assert_eq!(rt; told.status, 1);
+    check_same(rt, told.status, 1, &wanted);
     Ok(())
 }
 
+/// Faults, with the command that their examples are for.
+const WITH_EXAMPLES: [(u16, &str); 7] = [
+    (11, "check"),
+    (12, "check"),
+    (13, "check"),
+    (14, "check"),
+    (15, "check"),
+    (2, "play"),
+    (22, "play"),
+];
+
 #[test]
 fn examples_give_their_faults(rt: HostRuntime) -> Result<(), Fail> {
-    for number in [11, 12, 13, 14, 15] {
-        gives_its_fault(&rt, number, "check")?;
+    for (number, word) in &WITH_EXAMPLES {
+        gives_its_fault(&rt, *number, word)?;
     }
-    gives_its_fault(&rt, 2, "play")?;
-    gives_its_fault(&rt, 22, "play")
+    Ok(())
 }

@@ -1,7 +1,7 @@
 //! Where the journal of a run goes.
 
 use super::scripts::EXAMPLES;
-use super::{faults, is_bad_words, run_on};
+use super::{Wanted, check_all_bad_words, check_call, check_outcome, check_same, run_on};
 use std::alloc::Global;
 use std::process::Abort;
 use std::sync::Wait;
@@ -42,24 +42,22 @@ impl Source for Keeper<'_> {
 fn keeps<R: Abort + AllocGlobal + Threads + Wait + Sync>(
     rt: &R,
     words: &[&str],
-    is_quiet: bool,
+    printed: &str,
 ) -> Result<(), Fault> {
     let alloc = rt.alloc();
-    let example = &EXAMPLES[0];
-    let script = example.script;
     let mut keeper = Keeper {
         alloc,
-        script,
+        script: EXAMPLES[0].script,
         kept: None,
     };
     let ran = run_on(rt, words, &mut keeper)?;
-    let journal = if is_quiet { "" } else { example.journal };
-    let text = format!(in alloc; "{}{}", journal, example.ends)?;
-    assert_eq!(rt; ran.out.as_slice(), text.as_bytes());
-    assert!(rt; ran.err.is_empty());
-    assert_eq!(rt; ran.status, 0);
+    let text = format!(in alloc; "{}{}", printed, EXAMPLES[0].ends)?;
+    check_outcome(rt, &ran, &text, "", 0, "the run");
     match keeper.kept {
-        Some(kept) => assert_eq!(rt; kept.as_slice(), example.journal.as_bytes()),
+        Some(kept) => {
+            let journal = EXAMPLES[0].journal.as_bytes();
+            check_same(rt, kept.as_slice(), journal, "what was kept");
+        }
         None => assert!(rt; false),
     }
     Ok(())
@@ -67,25 +65,28 @@ fn keeps<R: Abort + AllocGlobal + Threads + Wait + Sync>(
 
 #[test]
 fn keeps_journals(rt: HostRuntime) -> Result<(), Fault> {
-    keeps(&rt, &["run", "file", "--journal", "journal"], false)?;
-    keeps(
-        &rt,
-        &["run", "file", "--quiet", "--journal", "journal"],
-        true,
-    )
+    let words = ["run", "file", "--journal", "journal"];
+    keeps(&rt, &words, EXAMPLES[0].journal)?;
+    keeps(&rt, &["run", "file", "--quiet", "--journal", "journal"], "")
 }
 
 // A source that keeps no files refuses, before anything is printed.
 #[test]
 fn is_kept_before_it_is_printed(rt: HostRuntime) -> Result<(), Fault> {
     let words = ["run", "file", "--journal", "journal"];
-    faults(&rt, words.as_slice(), b"process a { }", b"fault 32\n")
+    let wanted = Wanted::Fault("fault 32\n");
+    check_call(&rt, &words, b"process a { }", wanted)
 }
 
 #[test]
 fn words_with_standard_input(rt: HostRuntime) -> Result<(), Fault> {
-    is_bad_words(&rt, &["replay", "-", "-"])?;
-    is_bad_words(&rt, &["run", "file", "--journal", "-"])?;
-    is_bad_words(&rt, &["run", "file", "--journal"])?;
-    is_bad_words(&rt, &["replay", "file", "journal", "--quiet"])
+    check_all_bad_words(
+        &rt,
+        &[
+            &["replay", "-", "-"],
+            &["run", "file", "--journal", "-"],
+            &["run", "file", "--journal"],
+            &["replay", "file", "journal", "--quiet"],
+        ],
+    )
 }

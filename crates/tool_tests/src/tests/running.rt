@@ -1,10 +1,9 @@
 //! What `run` prints.
 
 use super::scripts::{EITHER_WAY, EXAMPLES, Example, TOO_MANY_NACKS, WITHOUT_COMMITS};
-use super::{Outcome, faults, is_bad_words, run};
+use super::{Outcome, Wanted, check_all_bad_words, check_call, check_outcome, check_same, run};
 use std::process::Abort;
 use std::sync::Wait;
-use std::test::Fail;
 use std::thread::Threads;
 use tool::Fault;
 
@@ -25,33 +24,22 @@ fn run_script<R: AllocGlobal + Threads + Wait + Sync>(
 }
 
 /// With 1, 2 and 16 workers alike the journal is printed, and then the ends.
-fn prints_the_same<R: Abort + AllocGlobal + Threads + Wait + Sync>(
+fn check_example<R: Abort + AllocGlobal + Threads + Wait + Sync>(
     rt: &R,
     example: &Example,
 ) -> Result<(), Fault> {
-    for workers in WORKERS {
+    let text = format!(in rt.alloc(); "{}{}", example.journal, example.ends)?;
+    for workers in &WORKERS {
         let run = run_script(rt, example.script, workers, example.rows)?;
-        let text = format!(in rt.alloc(); "{}{}", example.journal, example.ends)?;
-        assert_eq!(rt;
-            run.out.as_slice(),
-            text.as_bytes(),
-            "{} on {}",
-            example.name,
-            workers
-        );
-        assert!(rt; run.err.is_empty());
-        assert_eq!(rt; run.status, 0);
+        check_outcome(rt, &run, &text, "", 0, example.name);
     }
     Ok(())
 }
 
 #[test]
 fn prints_journals_and_ends(rt: HostRuntime) -> Result<(), Fault> {
-    for example in WITHOUT_COMMITS.iter() {
-        prints_the_same(&rt, example)?;
-    }
-    for example in EXAMPLES.iter() {
-        prints_the_same(&rt, example)?;
+    for example in WITHOUT_COMMITS.iter().chain(EXAMPLES.iter()) {
+        check_example(&rt, example)?;
     }
     Ok(())
 }
@@ -59,10 +47,10 @@ fn prints_journals_and_ends(rt: HostRuntime) -> Result<(), Fault> {
 // Either of the two sends, and never both.
 #[test]
 fn either_sends(rt: HostRuntime) -> Result<(), Fault> {
-    for workers in WORKERS {
+    for workers in &WORKERS {
         let run = run_script(&rt, EITHER_WAY, workers, "256")?;
-        let is_first = run.out.as_slice() == FIRST_SENDS;
-        assert!(rt; is_first || run.out.as_slice() == SECOND_SENDS);
+        let out = run.out.as_slice();
+        assert!(rt; out == FIRST_SENDS || out == SECOND_SENDS);
     }
     Ok(())
 }
@@ -70,33 +58,33 @@ fn either_sends(rt: HostRuntime) -> Result<(), Fault> {
 // Each turn of the loop makes a nack; for the last one there is no number left.
 #[test]
 fn runs_out_of_nacks(rt: HostRuntime) -> Result<(), Fault> {
-    for workers in WORKERS {
+    let end = b"\na faulted range\ncommits 64 tail 0\n";
+    for workers in &WORKERS {
         let run = run_script(&rt, TOO_MANY_NACKS, workers, "256")?;
-        let lines = run.out.as_slice().split(|byte| *byte == b'\n').count();
-        assert_eq!(rt; lines, 67);
-        assert!(rt;
-            run.out
-                .as_slice()
-                .ends_with(b"\na faulted range\ncommits 64 tail 0\n")
-        );
+        let out = run.out.as_slice();
+        let lines = out.split(|byte| *byte == b'\n').count();
+        check_same(&rt, lines, 67, "the lines");
+        assert!(rt; out.ends_with(end));
     }
     Ok(())
 }
 
 #[test]
 fn words_of_run(rt: HostRuntime) -> Result<(), Fault> {
-    is_bad_words(&rt, &["run"])?;
-    for number in ["0", "17", "-1", "many"] {
-        is_bad_words(&rt, &["run", "file", "--workers", number])?;
-    }
-    for number in ["0", "1025", "x"] {
-        is_bad_words(&rt, &["run", "file", "--rows", number])?;
-    }
-    faults(
+    check_all_bad_words(
         &rt,
-        &["run", "file"],
-        b"process a { print x; }",
-        b"fault 12 line 1\n",
+        &[
+            &["run"],
+            &["run", "file", "--workers", "0"],
+            &["run", "file", "--workers", "17"],
+            &["run", "file", "--workers", "-1"],
+            &["run", "file", "--workers", "many"],
+            &["run", "file", "--rows", "0"],
+            &["run", "file", "--rows", "1025"],
+            &["run", "file", "--rows", "x"],
+        ],
     )?;
-    faults(&rt, &["run", "nothing"], b"", b"fault 31\n")
+    let unknown = Wanted::Fault("fault 12 line 1\n");
+    check_call(&rt, &["run", "file"], b"process a { print x; }", unknown)?;
+    check_call(&rt, &["run", "nothing"], b"", Wanted::Fault("fault 31\n"))
 }

@@ -1,28 +1,49 @@
 //! What the workers do by themselves.
 
-use super::scripts::{EXAMPLES, TWO_PAIRS};
+use super::check_same;
+use super::scripts::{EXAMPLES, Example, TWO_PAIRS};
 use journal_text::read_journal;
 use runtime::{OpenGate, RunFault, run, work};
-use script::parse;
+use script::{Script, parse};
+use std::process::Abort;
+use std::sync::Wait;
 use std::test::Fail;
+use std::thread::Threads;
+use words::Commit;
+
+/// The workers make these commits, in this order.
+fn check_workers<R: Abort + AllocGlobal + Threads + Wait + Sync>(
+    rt: &R,
+    script: &Script,
+    workers: u8,
+    rows: u16,
+    expected: &[Commit],
+    name: &str,
+) -> Result<(), Fail> {
+    assert!(rt; !script.processes().is_empty());
+    let ledger = work(rt, rt.alloc(), script, workers, rows, &OpenGate)?;
+    check_same(rt, ledger.commits()?.as_slice(), expected, name);
+    Ok(())
+}
+
+fn check_example<R: Abort + AllocGlobal + Threads + Wait + Sync>(
+    rt: &R,
+    example: &Example,
+) -> Result<(), Fail> {
+    let rows: u16 = example.rows.parse()?;
+    let script = parse(rt.alloc(), example.script.as_bytes())?;
+    let expected = read_journal(rt.alloc(), &script, example.journal.as_bytes())?;
+    for workers in &[1, 2, 16] {
+        check_workers(rt, &script, *workers, rows, &expected, example.name)?;
+    }
+    Ok(())
+}
 
 // All commits are made by the workers, and none by settling.
 #[test]
 fn workers_alone(rt: HostRuntime) -> Result<(), Fail> {
     for example in EXAMPLES.iter() {
-        let script = parse(rt.alloc(), example.script.as_bytes())?;
-        assert!(rt; !script.processes().is_empty());
-        let rows: u16 = example.rows.parse()?;
-        let expected = read_journal(rt.alloc(), &script, example.journal.as_bytes())?;
-        for workers in [1, 2, 16] {
-            let ledger = work(&rt, rt.alloc(), &script, workers, rows, &OpenGate)?;
-            assert_eq!(rt;
-                ledger.commits()?.as_slice(),
-                expected.as_slice(),
-                "{}",
-                example.name
-            );
-        }
+        check_example(&rt, example)?;
     }
     Ok(())
 }
@@ -33,24 +54,30 @@ fn no_pair_is_missed(rt: HostRuntime) -> Result<(), Fail> {
     let script = parse(rt.alloc(), TWO_PAIRS.as_bytes())?;
     for _ in 0..1000 {
         let record = run(&rt, rt.alloc(), &script, 16, 1, &OpenGate)?;
-        assert_eq!(rt; record.journal.len(), 2);
-        assert_eq!(rt; record.tail, 0);
+        check_same(&rt, record.journal.len(), 2, "the commits");
+        check_same(&rt, record.tail, 0, "the tail");
     }
     Ok(())
 }
 
+/// Workers and rows outside their limits.
+const OUTSIDE: [(u8, u16, RunFault); 4] = [
+    (0, 1, RunFault::Workers),
+    (17, 0, RunFault::Workers),
+    (1, 0, RunFault::Rows),
+    (16, 1025, RunFault::Rows),
+];
+
 #[test]
 fn refuses_numbers_outside_their_limits(rt: HostRuntime) -> Result<(), Fail> {
-    let script = parse(rt.alloc(), TWO_PAIRS.as_bytes())?;
+    let alloc = rt.alloc();
+    let script = parse(alloc, TWO_PAIRS.as_bytes())?;
     assert!(rt; !script.processes().is_empty());
-    for (workers, rows, fault) in [
-        (0, 1, RunFault::Workers),
-        (17, 0, RunFault::Workers),
-        (1, 0, RunFault::Rows),
-        (16, 1025, RunFault::Rows),
-    ] {
-        assert!(rt; run(&rt, rt.alloc(), &script, workers, rows, &OpenGate).err() == Some(fault));
-        assert!(rt; work(&rt, rt.alloc(), &script, workers, rows, &OpenGate).err() == Some(fault));
+    for (workers, rows, fault) in &OUTSIDE {
+        let ran = run(&rt, alloc, &script, *workers, *rows, &OpenGate).err();
+        check_same(&rt, ran, Some(*fault), "the fault of run");
+        let worked = work(&rt, alloc, &script, *workers, *rows, &OpenGate).err();
+        check_same(&rt, worked, Some(*fault), "the fault of work");
     }
     Ok(())
 }
