@@ -7,7 +7,7 @@ ghost use Rattle.cell.specs.Calls.{IsPassOf, IsRowOf};
 ghost use Rattle.cell.specs.Sight.{Has};
 ghost use Rattle.answers.specs.Meet.{first_row, send_of, receive_offer, HasTakenPart, HasTwoOffers, IsReady, PrintsMeeting};
 
-use cell::{Cells, NoGate, Pass};
+use cell::{Bare, Cells, NoGate, Pass};
 use journal_text::write_numbered;
 use protocol::Ledger;
 use std::alloc::{AllocError, Global};
@@ -56,7 +56,7 @@ pub fn meet_text<R: Threads + Wait>(rt: &R, alloc: Global, value: u32) -> Result
 }
 
 /// Makes one more attempt for the sender, if its row is not committed.
-fn try_again(cells: &Cells, sender: &mut Pass)
+fn try_again(cells: &Cells<Bare>, sender: &mut Pass<Bare>)
     requires here { IsPassOf cells.now sender.old × IsRowOf cells.now (first_row 0) × IsRowOf cells.now (first_row 1) }
     requires opened { Has sender.old.seen.held (first_row 0) × Has sender.old.seen.opened (first_row 0) }
     ensures { (offer : Offer) → HasTakenPart cells.now sender.old (first_row 0) offer → HasTakenPart cells.now sender.new (first_row 0) offer }
@@ -67,7 +67,7 @@ fn try_again(cells: &Cells, sender: &mut Pass)
 }
 
 /// The ledger at the end, after the receiver has told the sender what it has seen.
-fn end(cells: Cells, sender: Pass, receiver: Pass) -> Ledger
+fn end(cells: Cells<Bare>, sender: Pass<Bare>, receiver: Pass<Bare>) -> Ledger
     requires here { IsPassOf cells sender × IsPassOf cells receiver }
     ensures { (value : ℕ) → (cells.threads ≡ 2) × (cells.rows ≡ 1) → HasTakenPart cells sender (first_row 0) (send_of value) → HasTakenPart cells receiver (first_row 1) receive_offer → HasTwoOffers value result }
 {
@@ -85,7 +85,7 @@ fn is_committed(cell: Cell) -> bool {
 }
 
 /// Cells for two threads of one row, and a pass for each.
-fn two_passes(alloc: Global) -> Result<(Cells, Pass, Pass), AllocError>
+fn two_passes(alloc: Global) -> Result<(Cells<Bare>, Pass<Bare>, Pass<Bare>), AllocError>
     ensures size { IfOk result (λ t. (t.0.threads ≡ 2) × (t.0.rows ≡ 1)) }
     ensures passes { IfOk result (λ t. IsReady t.0 t.1 (first_row 0) × IsReady t.0 t.2 (first_row 1)) }
 {
@@ -102,16 +102,16 @@ fn two_passes(alloc: Global) -> Result<(Cells, Pass, Pass), AllocError>
 /// What a thread promises of the pass that it gives back: its row is opened with this one offer.
 #[derive(Drop)]
 struct TookPart {
-    cells: Snapshot<Cells>,
+    cells: Snapshot<Cells<Bare>>,
     row: Row,
     offer: Offer,
 }
 
-impl Promise<Pass> for TookPart {
+impl Promise<Pass<Bare>> for TookPart {
     ghost kept_by = { λ side pass. HasTakenPart side.cells.value pass side.row side.offer };
 }
 
-fn promise(cells: &Cells, row: Row, offer: Offer) -> TookPart
+fn promise(cells: &Cells<Bare>, row: Row, offer: Offer) -> TookPart
     ensures { (result.cells.value ≡ cells.now) × (result.row ≡ row) × (result.offer ≡ offer) }
 {
     TookPart {
@@ -122,7 +122,13 @@ fn promise(cells: &Cells, row: Row, offer: Offer) -> TookPart
 }
 
 /// Drafts and opens the pass's row, and makes one attempt.
-fn take_part(cells: &Cells, pass: Pass, row: Row, offer: Offer, other: Row) -> Pass
+fn take_part(
+    cells: &Cells<Bare>,
+    pass: Pass<Bare>,
+    row: Row,
+    offer: Offer,
+    other: Row,
+) -> Pass<Bare>
     requires ready { IsReady cells.now pass row × IsRowOf cells.now other }
     requires offer { IsOfferInRange offer }
     ensures { HasTakenPart cells.now result row offer }
@@ -137,11 +143,11 @@ fn take_part(cells: &Cells, pass: Pass, row: Row, offer: Offer, other: Row) -> P
 /// Both threads take part, each with its own pass, and give the passes back.
 fn both_take_part<R: Threads + Wait>(
     rt: &R,
-    cells: &Cells,
-    sender: Pass,
-    receiver: Pass,
+    cells: &Cells<Bare>,
+    sender: Pass<Bare>,
+    receiver: Pass<Bare>,
     value: u32,
-) -> Result<(Pass, Pass), MeetFault>
+) -> Result<(Pass<Bare>, Pass<Bare>), MeetFault>
     requires ready { IsReady cells.now sender (first_row 0) × IsReady cells.now receiver (first_row 1) }
     ensures { IfOk result (λ p. HasTakenPart cells.now p.0 (first_row 0) (send_of value) × HasTakenPart cells.now p.1 (first_row 1) receive_offer) }
 {
@@ -152,7 +158,7 @@ fn both_take_part<R: Threads + Wait>(
     thread::scope(
         thread::scope_env(),
         rt,
-        |scope| -> Result<(Pass, Pass), MeetFault>
+        |scope| -> Result<(Pass<Bare>, Pass<Bare>), MeetFault>
             requires ready { IsReady cells.now sender (first_row 0) × IsReady cells.now receiver (first_row 1) }
             requires offers { IsOfferInRange send × IsOfferInRange receive }
             requires sends { (sends.cells.value ≡ cells.now) × (sends.row ≡ first_row 0) × (sends.offer ≡ send) }
@@ -161,7 +167,7 @@ fn both_take_part<R: Threads + Wait>(
         {
             let sending = scope.spawn_with(
                 sends,
-                move || -> Pass
+                move || -> Pass<Bare>
                     requires { IsReady cells.now sender (first_row 0) × IsRowOf cells.now (first_row 1) × IsOfferInRange send }
                     ensures { HasTakenPart cells.entry.now result (first_row 0) send }
                 { take_part(cells, sender, SENDER, send, RECEIVER) },
@@ -171,7 +177,7 @@ fn both_take_part<R: Threads + Wait>(
             };
             let receiving = scope.spawn_with(
                 receives,
-                move || -> Pass
+                move || -> Pass<Bare>
                     requires { IsReady cells.now receiver (first_row 1) × IsRowOf cells.now (first_row 0) × IsOfferInRange receive }
                     ensures { HasTakenPart cells.entry.now result (first_row 1) receive }
                 { take_part(cells, receiver, RECEIVER, receive, SENDER) },

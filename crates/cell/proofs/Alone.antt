@@ -115,87 +115,88 @@ near_last s u t r n l =
     nacks_wider (IsNearGrant t r n) (λ m. ⊥) (IsNackOf t r n) s u (λ m h. absurd h)
     (learns_wider (IsBefore r) (IsNearGrant t r n) s u (λ q e. inr (inl e)) l)
 
--- A GRANT BEFORE ITS STEP: the offer was read in s, what lets it commit its row in u, and the last stamp in the view v
-pub record IsReady (before s u : Seen) (v : View) (r : Row) (n : ℕ) (o : Offer) (cause last : ℕ) : Type 0 where
-  pub offer : Learns (λ q. q ≡ r) before s
-  pub same : (p : Offer) → SeesOffer before r n p → o ≡ p
-  pub opened : Has s.opened r
-  pub have : HaveOffer s.words r n o
-  pub nack : LearnsOf (IsBoundRow u o.base) (λ m. o.base ≡ OnNack m) s u
-  pub caused : SawCause u o.base cause
-  pub low_cause : cause ≤ 65536
-  pub before_row : Learns (IsBefore r) u v.seen
-  pub seen_last : HasSeenLast v.seen r last
-  pub low : last ≤ 65536
+module _ {M : Type 0} where
+  -- A GRANT BEFORE ITS STEP: the offer was read in s, what lets it commit its row in u, and the last stamp in the view v
+  pub record IsReady (before s u : Seen) (v : View M) (r : Row) (n : ℕ) (o : Offer) (cause last : ℕ) : Type 0 where
+    pub offer : Learns (λ q. q ≡ r) before s
+    pub same : (p : Offer) → SeesOffer before r n p → o ≡ p
+    pub opened : Has s.opened r
+    pub have : HaveOffer s.words r n o
+    pub nack : LearnsOf (IsBoundRow u o.base) (λ m. o.base ≡ OnNack m) s u
+    pub caused : SawCause u o.base cause
+    pub low_cause : cause ≤ 65536
+    pub before_row : Learns (IsBefore r) u v.seen
+    pub seen_last : HasSeenLast v.seen r last
+    pub low : last ≤ 65536
 
-module _ (before s u : Seen) (v w : View) (r : Row) (n : ℕ) (o : Offer) (cause last : ℕ) (ready : IsReady before s u v r n o cause last) where
-  abbrev pub alone_as : Joined
-  alone_as = record { own = n; partner = None; stamp = 1 + max last cause }
+  module _ (before s u : Seen) (v w : View M) (r : Row) (n : ℕ) (o : Offer) (cause last : ℕ) (ready : IsReady before s u v r n o cause last) where
+    abbrev pub alone_as : Joined
+    alone_as = record { own = n; partner = None; stamp = 1 + max last cause }
 
-  pub can : CanGrant v.seen r n alone_as × IsJoinedInRange alone_as
-  can = (
-    can_grant (IsBoundRow u o.base) s u v.seen r n last cause o ready.nack ready.before_row ready.have ready.caused ready.seen_last,
-    grant_ranged s.words r n last cause o ready.have ready.low ready.low_cause,
-  )
+    pub can : CanGrant v.seen r n alone_as × IsJoinedInRange alone_as
+    can = (
+      can_grant (IsBoundRow u o.base) s u v.seen r n last cause o ready.nack ready.before_row ready.have ready.caused ready.seen_last,
+      grant_ranged s.words r n last cause o ready.have ready.low ready.low_cause,
+    )
 
-  -- what is learnt up to the step, and by it
-  pub learns_near : Learns (λ q. q ≡ r) v.seen w.seen → LearnsOf (IsNearGrant w.seen r n) (IsNackOf w.seen r n) before w.seen
-  learns_near step =
-      let later : LearnsOf (λ q. IsBefore r q ⊎ (q ≡ r)) (λ m. ⊥) u w.seen = learns_then (λ q. IsBefore r q ⊎ (q ≡ r)) u v.seen w.seen
-      (learns_wider (IsBefore r) (λ q. IsBefore r q ⊎ (q ≡ r)) u v.seen (λ q e. inl e) ready.before_row)
-      (learns_wider (λ q. q ≡ r) (λ q. IsBefore r q ⊎ (q ≡ r)) v.seen w.seen (λ q e. inr e) step) in
-      learns_then (IsNearGrant w.seen r n) before s w.seen
-      (near_offer before s w.seen r n ready.offer)
-      (learns_then (IsNearGrant w.seen r n) s u w.seen
-      (near_cause s u w.seen r n o ready.have ready.nack later)
-      (learns_then (IsNearGrant w.seen r n) u v.seen w.seen
-      (near_last u v.seen w.seen r n ready.before_row)
-      (near_offer v.seen w.seen w.seen r n step)))
+    -- what is learnt up to the step, and by it
+    pub learns_near : Learns (λ q. q ≡ r) v.seen w.seen → LearnsOf (IsNearGrant w.seen r n) (IsNackOf w.seen r n) before w.seen
+    learns_near step =
+        let later : LearnsOf (λ q. IsBefore r q ⊎ (q ≡ r)) (λ m. ⊥) u w.seen = learns_then (λ q. IsBefore r q ⊎ (q ≡ r)) u v.seen w.seen
+        (learns_wider (IsBefore r) (λ q. IsBefore r q ⊎ (q ≡ r)) u v.seen (λ q e. inl e) ready.before_row)
+        (learns_wider (λ q. q ≡ r) (λ q. IsBefore r q ⊎ (q ≡ r)) v.seen w.seen (λ q e. inr e) step) in
+        learns_then (IsNearGrant w.seen r n) before s w.seen
+        (near_offer before s w.seen r n ready.offer)
+        (learns_then (IsNearGrant w.seen r n) s u w.seen
+        (near_cause s u w.seen r n o ready.have ready.nack later)
+        (learns_then (IsNearGrant w.seen r n) u v.seen w.seen
+        (near_last u v.seen w.seen r n ready.before_row)
+        (near_offer v.seen w.seen w.seen r n step)))
 
-  seen_before : (i : Joined) → Has before.joined (r, i) → Has v.seen.joined (r, i)
-  seen_before i h = ready.before_row.joined.0 (r, i) (ready.nack.joined.0 (r, i) (ready.offer.joined.0 (r, i) h))
+    seen_before : (i : Joined) → Has before.joined (r, i) → Has v.seen.joined (r, i)
+    seen_before i h = ready.before_row.joined.0 (r, i) (ready.nack.joined.0 (r, i) (ready.offer.joined.0 (r, i) h))
 
-  given_learns : w ≡ did (Grant r n) (settled r alone_as v) → Learns (λ q. q ≡ r) v.seen w.seen
-  given_learns e = subst (λ (x : View). Learns (λ q. q ≡ r) v.seen x.seen) (sym e)
-      (learns_then (λ q. q ≡ r) v.seen (see_opened r v.seen) _ (learns_open r v.seen) (learns_look r (Synched alone_as) (see_opened r v.seen)))
+    given_learns : w ≡ did (Grant r n) (settled r alone_as v) → Learns (λ q. q ≡ r) v.seen w.seen
+    given_learns e = subst (λ (x : View M). Learns (λ q. q ≡ r) v.seen x.seen) (sym e)
+        (learns_then (λ q. q ≡ r) v.seen (see_opened r v.seen) _ (learns_open r v.seen) (learns_look r (Synched alone_as) (see_opened r v.seen)))
 
-  late_learns : (c : Cell) → w ≡ saw r c v → Learns (λ q. q ≡ r) v.seen w.seen
-  late_learns c e = subst (λ (x : View). Learns (λ q. q ≡ r) v.seen x.seen) (sym e) (learns_look r c v.seen)
+    late_learns : (c : Cell) → w ≡ saw r c v → Learns (λ q. q ≡ r) v.seen w.seen
+    late_learns c e = subst (λ (x : View M). Learns (λ q. q ≡ r) v.seen x.seen) (sym e) (learns_look r c v.seen)
 
-  pub given_is : w ≡ did (Grant r n) (settled r alone_as v) → Agrees v r Waiting → Granted before w.seen r n Given × LearnsOf (IsNearGrant w.seen r n) (IsNackOf w.seen r n) before w.seen
-  unfolding can can_more can_grant
-  given_is e agree = (
-    (
-      (λ c. let bad : None ≡ Some c.0 = agree.0.joined c.0 (seen_before c.0 c.1) in cc),
+    pub given_is : w ≡ did (Grant r n) (settled r alone_as v) → Agrees v r Waiting → Granted before w.seen r n Given × LearnsOf (IsNearGrant w.seen r n) (IsNackOf w.seen r n) before w.seen
+    unfolding can can_more can_grant
+    given_is e agree = (
       (
-        alone_as,
-        can_more (λ q. q ≡ r) v.seen w.seen r n alone_as (given_learns e) can.0,
-        subst (λ (x : View). Has x.seen.joined (r, alone_as)) (sym e) (inl refl),
-        ready.same,
-      ),
-    ),
-    learns_near (given_learns e),
-  )
-
-  pub late_is : (c : Cell) → v.stage ≡ Resting → c ≢ Waiting → w ≡ saw r c v → Agrees v r c → Granted before w.seen r n Late × LearnsOf (IsNearGrant w.seen r n) (IsNackOf w.seen r n) before w.seen
-  late_is c resting not_waiting e agree =
-      let later = can_more (λ q. q ≡ r) v.seen w.seen r n alone_as (late_learns c e) can.0 in
-      let opened : Has v.seen.opened r = ready.before_row.opened.0 r (ready.nack.opened.0 r ready.opened) in
-      let held : v.seen.held ≡ before.held = ready.before_row.held ∙ ready.nack.held ∙ ready.offer.held in (
+        (λ c. let bad : None ≡ Some c.0 = agree.0.joined c.0 (seen_before c.0 c.1) in cc),
         (
-          (later.offer, later.cause, inl later.read, later.caused),
-          λ h. subst (λ (x : View). SawCommitted x.seen r) (sym e) (claim_found v r c (subst (λ (rows : List Row). Has rows r) (sym held) h) opened resting not_waiting agree),
+          alone_as,
+          can_more (λ q. q ≡ r) v.seen w.seen r n alone_as (given_learns e) can.0,
+          subst (λ (x : View M). Has x.seen.joined (r, alone_as)) (sym e) (inl refl),
+          ready.same,
         ),
-        learns_near (late_learns c e),
-      )
+      ),
+      learns_near (given_learns e),
+    )
 
--- WHAT A TAKE FINDS: the row was Synched, and is not any more
-pub taken_found : (v : View) (r : Row) (j : Joined) (c : Cell) → Has v.seen.joined (r, j) → c ≢ Synched j → Agrees v r c → Has (see_cell r c v.seen).taken r
-taken_found v r j c has other agree = by_cell c other (agree.0.joined j has)
-  where
-    by_cell : (c : Cell) → c ≢ Synched j → joined_of c ≡ Some j → Has (see_cell r c v.seen).taken r
-    by_cell Fresh n e = let bad : None ≡ Some j = e in cc
-    by_cell Waiting n e = let bad : None ≡ Some j = e in cc
-    by_cell Claimed n e = let bad : None ≡ Some j = e in cc
-    by_cell (Synched i) n e = absurd (n (ap Synched (some_inj i j e)))
-    by_cell (Taken i) n e = inl refl
+    pub late_is : (c : Cell) → v.stage ≡ Resting → c ≢ Waiting → w ≡ saw r c v → Agrees v r c → Granted before w.seen r n Late × LearnsOf (IsNearGrant w.seen r n) (IsNackOf w.seen r n) before w.seen
+    late_is c resting not_waiting e agree =
+        let later = can_more (λ q. q ≡ r) v.seen w.seen r n alone_as (late_learns c e) can.0 in
+        let opened : Has v.seen.opened r = ready.before_row.opened.0 r (ready.nack.opened.0 r ready.opened) in
+        let held : v.seen.held ≡ before.held = ready.before_row.held ∙ ready.nack.held ∙ ready.offer.held in (
+          (
+            (later.offer, later.cause, inl later.read, later.caused),
+            λ h. subst (λ (x : View M). SawCommitted x.seen r) (sym e) (claim_found v r c (subst (λ (rows : List Row). Has rows r) (sym held) h) opened resting not_waiting agree),
+          ),
+          learns_near (late_learns c e),
+        )
+
+  -- WHAT A TAKE FINDS: the row was Synched, and is not any more
+  pub taken_found : (v : View M) (r : Row) (j : Joined) (c : Cell) → Has v.seen.joined (r, j) → c ≢ Synched j → Agrees v r c → Has (see_cell r c v.seen).taken r
+  taken_found v r j c has other agree = by_cell c other (agree.0.joined j has)
+    where
+      by_cell : (c : Cell) → c ≢ Synched j → joined_of c ≡ Some j → Has (see_cell r c v.seen).taken r
+      by_cell Fresh n e = let bad : None ≡ Some j = e in cc
+      by_cell Waiting n e = let bad : None ≡ Some j = e in cc
+      by_cell Claimed n e = let bad : None ≡ Some j = e in cc
+      by_cell (Synched i) n e = absurd (n (ap Synched (some_inj i j e)))
+      by_cell (Taken i) n e = inl refl

@@ -41,24 +41,25 @@ one_binding b c g h e =
     let both : Some (Some b) ≡ Some (Some c) = sym (nack_of-nack_word (Some b) g) ∙ ap nack_of e ∙ nack_of-nack_word (Some c) h in
     some_inj b c (some_inj (Some b) (Some c) both)
 
--- what was seen by then agrees with itself
-coherent_nack : (w : World) (owner : Row → ℕ) (id : ℕ) (v : View) (n : NackName) (o : Option Binding) → Knows w owner id (saw_nack n o v) → Kept w → AgreesWithItself (saw_nack n o v)
-coherent_nack w owner id v n None k kept = coherent w owner id v k kept
-coherent_nack w owner id v n (Some b) k kept = coherent w owner id (bound_nack n b v) k kept
+module _ {M : Type 0} where
+  -- what was seen by then agrees with itself
+  coherent_nack : (w : World) (owner : Row → ℕ) (id : ℕ) (v : View M) (n : NackName) (o : Option Binding) → Knows w owner id (saw_nack n o v) → Kept w → AgreesWithItself (saw_nack n o v)
+  coherent_nack w owner id v n None k kept = coherent w owner id v k kept
+  coherent_nack w owner id v n (Some b) k kept = coherent w owner id (bound_nack n b v) k kept
 
--- a nack is bound to no row behind a held Fresh one
-not_behind : (w : World) (owner : Row → ℕ) (id : ℕ) (v : View) → Knows w owner id v → Kept w → (nack : NackName) (b c : Binding) → binding_at w.table nack ≡ Some c
-    → Has v.seen.held (bound_row nack b) → ¬ Has v.seen.opened (bound_row nack b) → c.sync ≤ b.sync
-not_behind w owner id v knows kept nack b c is held unopened =
-    let low : c.sync < b.sync + 1 = Rattle.std.proofs.Math.Nat.lt_of_not-le (λ (above : b.sync + 1 ≤ c.sync).
-    let below : b.sync < c.sync = omega arith in ⊎_elim
-    (λ (none : holder_at w (bound_row nack c) ≡ None). kept.bound nack c is none)
-    (λ (some : (seat : ℕ) × (holder_at w (bound_row nack c) ≡ Some seat)).
-    let taken : is_taken (cell_at w.table (bound_row nack b)) ≡ true = taken_before w kept (bound_row nack b) (bound_row nack c) refl below (inr some) in
-    let bad : false ≡ true = sym (ap is_taken (knows.fresh (bound_row nack b) held unopened)) ∙ taken in
-    cc)
-    (cases_Option (holder_at w (bound_row nack c)))) in
-    omega arith
+  -- a nack is bound to no row behind a held Fresh one
+  not_behind : (w : World) (owner : Row → ℕ) (id : ℕ) (v : View M) → Knows w owner id v → Kept w → (nack : NackName) (b c : Binding) → binding_at w.table nack ≡ Some c
+      → Has v.seen.held (bound_row nack b) → ¬ Has v.seen.opened (bound_row nack b) → c.sync ≤ b.sync
+  not_behind w owner id v knows kept nack b c is held unopened =
+      let low : c.sync < b.sync + 1 = Rattle.std.proofs.Math.Nat.lt_of_not-le (λ (above : b.sync + 1 ≤ c.sync).
+      let below : b.sync < c.sync = omega arith in ⊎_elim
+      (λ (none : holder_at w (bound_row nack c) ≡ None). kept.bound nack c is none)
+      (λ (some : (seat : ℕ) × (holder_at w (bound_row nack c) ≡ Some seat)).
+      let taken : is_taken (cell_at w.table (bound_row nack b)) ≡ true = taken_before w kept (bound_row nack b) (bound_row nack c) refl below (inr some) in
+      let bad : false ≡ true = sym (ap is_taken (knows.fresh (bound_row nack b) held unopened)) ∙ taken in
+      cc)
+      (cases_Option (holder_at w (bound_row nack c)))) in
+      omega arith
 
 -- THE WORLD AFTER A BIND
 pub follows_bind : (w : World) (m : NackName) (b : Binding) → is_nack w.table m ≡ true → binding_at w.table m ≡ None → Follows w (with_table w (with_nack w.table m b))
@@ -78,181 +79,182 @@ follows_bind w m b nack free = record {
   bound = λ n c e. binding_kept w.table m b nack free n c e;
 }
 
--- A pass that makes a step on the word of a nack
-module _ (shape : Shape) (id place : ℕ) (me : Me ℕ View) (nack : NackName)
-    (threads : me.0.threads ≡ shape.threads) (rows : me.0.rows ≡ shape.rows)
-    (inside : InsideNack shape.threads nack) (here : place ≡ nack_place shape.rows nack) where
-  at_table : 0 < me.0.threads
-  at_table = let i = inside.0 in omega arith
+module _ {M : Type 0} where
+  -- A pass that makes a step on the word of a nack
+  module _ {S : Type 0} (shape : Shape) (id place : ℕ) (me : Me S (View M)) (nack : NackName)
+      (threads : me.0.threads ≡ shape.threads) (rows : me.0.rows ≡ shape.rows)
+      (inside : InsideNack shape.threads nack) (here : place ≡ nack_place shape.rows nack) where
+    at_table : 0 < me.0.threads
+    at_table = let i = inside.0 in omega arith
 
-  one_nack : (m : NackName) → InsideNack me.0.threads m → place ≡ nack_place me.0.rows m → nack ≡ m
-  one_nack m i e =
-      let t : Table = record { threads = shape.threads; rows = shape.rows; words = [] } in
-      let at : nack_place shape.rows nack ≡ nack_place shape.rows m = sym here ∙ e ∙ ap (λ (n : ℕ). nack_place n m) rows in
-      let there : m.thread < shape.threads = subst (λ (n : ℕ). m.thread < n) threads i.0 in
-      let same = same_nack_place t nack m (nack_from t nack inside.0 inside.1) (nack_from t m there i.1) at in
-      λ x. record { thread = same.0 x; k = same.1 x }
+    one_nack : (m : NackName) → InsideNack me.0.threads m → place ≡ nack_place me.0.rows m → nack ≡ m
+    one_nack m i e =
+        let t : Table = record { threads = shape.threads; rows = shape.rows; words = [] } in
+        let at : nack_place shape.rows nack ≡ nack_place shape.rows m = sym here ∙ e ∙ ap (λ (n : ℕ). nack_place n m) rows in
+        let there : m.thread < shape.threads = subst (λ (n : ℕ). m.thread < n) threads i.0 in
+        let same = same_nack_place t nack m (nack_from t nack inside.0 inside.1) (nack_from t m there i.1) at in
+        λ x. record { thread = same.0 x; k = same.1 x }
 
-  module _ (s : State ℕ View) (k : Keeps shape s) (view : get_elem? s.views id ≡ some me.0) where
-    known : Knows k.world k.owner id me.0
-    known = k.knows id me.0 view at_table
+    module _ (s : State S (View M)) (k : Keeps shape s) (view : get_elem? s.views id ≡ some me.0) where
+      known : Knows k.world k.owner id me.0
+      known = k.knows id me.0 view at_table
 
-    kept : Kept k.world
-    kept = world_kept shape s k
+      kept : Kept k.world
+      kept = world_kept shape s k
 
-    is_its_nack : is_nack k.world.table nack ≡ true
-    is_its_nack = ap (λ (t : Table). is_nack t nack) k.table ∙ nack_from (sized shape s.words) nack inside.0 inside.1
+      is_its_nack : is_nack k.world.table nack ≡ true
+      is_its_nack = ap (λ (t : Table). is_nack t nack) k.table ∙ nack_from (sized shape s.words) nack inside.0 inside.1
 
-    word_is : nack_at k.world.table nack ≡ slice_index s.words place
-    unfolding nack_at
-    word_is = ap (λ (t : Table). nack_at t nack) k.table ∙ ap (slice_index s.words) (sym here)
+      word_is : nack_at k.world.table nack ≡ slice_index s.words place
+      unfolding nack_at
+      word_is = ap (λ (t : Table). nack_at t nack) k.table ∙ ap (slice_index s.words) (sym here)
 
-    binding_is : binding_at k.world.table nack ≡ nack_read (slice_index s.words place)
-    binding_is = binding_inside k.world.table nack is_its_nack ∙ ap nack_read word_is
+      binding_is : binding_at k.world.table nack ≡ nack_read (slice_index s.words place)
+      binding_is = binding_inside k.world.table nack is_its_nack ∙ ap nack_read word_is
 
-    -- where it only learns
-    learnt : (w : View) → w.seat ≡ me.0.seat → w.made ≡ me.0.made → Knows k.world k.owner id w → Keeps shape (stepped s place (slice_index s.words place) id me.1 w keeps)
-    learnt w seat made knows = keeps_view shape s k id me.0 w _ _ view seat made (set-get_or s.words place 0) knows
+      -- where it only learns
+      learnt : (w : View M) → w.seat ≡ me.0.seat → w.made ≡ me.0.made → Knows k.world k.owner id w → Keeps shape (stepped s place (slice_index s.words place) id me.1 w keeps)
+      learnt w seat made knows = keeps_view shape s k id me.0 w _ _ view seat made (set-get_or s.words place 0) knows
 
-    -- what the pass has seen then agrees with itself
-    agreed : (x : ℕ) (w : View) → w.threads ≡ me.0.threads → Keeps shape (stepped s place x id me.1 w keeps) → AgreesWithItself w
-    agreed x w size after = moved_coherent shape s.views _ _ id me.0 w view size at_table after
+      -- what the pass has seen then agrees with itself
+      agreed : (x : ℕ) (w : View M) → w.threads ≡ me.0.threads → Keeps shape (stepped s place x id me.1 w keeps) → AgreesWithItself w
+      agreed x w size after = moved_coherent shape s.views _ _ id me.0 w view size at_table after
 
-    -- a look at a nack makes no step
-    seat_kept : (o : Option Binding) → (saw_nack nack o me.0).seat ≡ me.0.seat
-    seat_kept None = refl
-    seat_kept (Some b) = refl
+      -- a look at a nack makes no step
+      seat_kept : (o : Option Binding) → (saw_nack nack o me.0).seat ≡ me.0.seat
+      seat_kept None = refl
+      seat_kept (Some b) = refl
 
-    made_kept : (o : Option Binding) → (saw_nack nack o me.0).made ≡ me.0.made
-    made_kept None = refl
-    made_kept (Some b) = refl
+      made_kept : (o : Option Binding) → (saw_nack nack o me.0).made ≡ me.0.made
+      made_kept None = refl
+      made_kept (Some b) = refl
 
-    sees : Knows k.world k.owner id (saw_nack nack (nack_read (slice_index s.words place)) me.0)
-    sees = learn_nack k.world k.owner id me.0 nack (nack_read (slice_index s.words place)) known binding_is
+      sees : Knows k.world k.owner id (saw_nack nack (nack_read (slice_index s.words place)) me.0)
+      sees = learn_nack k.world k.owner id me.0 nack (nack_read (slice_index s.words place)) known binding_is
 
-    agrees_nack : (m : NackName) → nack ≡ m → AgreesNack me.0 m (nack_read (slice_index s.words place))
-    agrees_nack m e = subst (λ (n : NackName). AgreesNack me.0 n (nack_read (slice_index s.words place))) e (λ b h. sym binding_is ∙ known.bound nack b h)
+      agrees_nack : (m : NackName) → nack ≡ m → AgreesNack me.0 m (nack_read (slice_index s.words place))
+      agrees_nack m e = subst (λ (n : NackName). AgreesNack me.0 n (nack_read (slice_index s.words place))) e (λ b h. sym binding_is ∙ known.bound nack b h)
 
-    -- a word that is not that of an unbound nack says where the nack is bound
-    bound_there : slice_index s.words place ≢ nack_word None → (c : Binding) × (nack_read (slice_index s.words place) ≡ Some c)
-    bound_there other =
-        let o = some_parts (nack_of (nack_at k.world.table nack)) (kept.formed.nacks nack is_its_nack) in
-        by_word o.0 (ap nack_of (sym word_is) ∙ o.1)
-      where
-        by_word : (o : Option Binding) → nack_of (slice_index s.words place) ≡ Some o → (c : Binding) × (nack_read (slice_index s.words place) ≡ Some c)
-        by_word None e = absurd (other (nack_word-nack_of (slice_index s.words place) None e).1)
-        by_word (Some c) e = (c, ap (λ (p : Option (Option Binding)). unwrap_or p None) e)
-
-    -- the nack is bound to a held row that is not opened
-    module _ (b : Binding) (range : IsBindingInRange b) (held : Has me.0.seen.held (bound_row nack b)) (unopened : ¬ Has me.0.seen.opened (bound_row nack b))
-        (free : binding_at k.world.table nack ≡ None) where
-      abbrev later : World
-      later = with_table k.world (with_nack k.world.table nack b)
-
-      follows : Follows k.world later
-      follows = follows_bind k.world nack b is_its_nack free
-
-      was : (n : NackName) (c : Binding) → binding_at later.table n ≡ Some c → (binding_at k.world.table n ≡ Some c) ⊎ ((nack ≡ n) × (b ≡ c))
-      was n c e = binding_was k.world.table nack b kept.sized is_its_nack range n c e
-
-      others : (j : ℕ) (u : View) → j ≢ id → Knows k.world k.owner j u → Knows later k.owner j u
-      others j u n knows = knows_follows k.world later k.owner j u follows (λ m c e o. ⊎_elim
-          (λ (old : binding_at k.world.table m ≡ Some c). inl old)
-          (λ (new : (nack ≡ m) × (b ≡ c)). absurd (n (sym o ∙ (λ i. k.owner (bound_row (sym new.0 i) (sym new.1 i))) ∙ (known.mine (bound_row nack b) held).0)))
-          (was m c e)) knows
-
-      own : Knows later k.owner id (bound_nack nack b me.0)
-      own = knows_bound k.world later k.owner id me.0 ((nack, b) ∷ me.0.seen.bound) follows
-          (λ n c h. inr h)
-          (λ n c h. there n c h)
-          (λ n c e o. ⊎_elim
-          (λ (old : binding_at k.world.table n ≡ Some c). inl old)
-          (λ (new : (nack ≡ n) × (b ≡ c)). inr (inl (λ i. (new.0 i, new.1 i))))
-          (was n c e))
-          known
+      -- a word that is not that of an unbound nack says where the nack is bound
+      bound_there : slice_index s.words place ≢ nack_word None → (c : Binding) × (nack_read (slice_index s.words place) ≡ Some c)
+      bound_there other =
+          let o = some_parts (nack_of (nack_at k.world.table nack)) (kept.formed.nacks nack is_its_nack) in
+          by_word o.0 (ap nack_of (sym word_is) ∙ o.1)
         where
-          there : (n : NackName) (c : Binding) → Has ((nack, b) ∷ me.0.seen.bound) (n, c) → binding_at later.table n ≡ Some c
-          there n c (inl e) = subst (λ (z : NackName × Binding). binding_at later.table z.0 ≡ Some z.1) e (binding_bound k.world.table nack b kept.sized is_its_nack range)
-          there n c (inr h) = follows.bound n c (known.bound n c h)
+          by_word : (o : Option Binding) → nack_of (slice_index s.words place) ≡ Some o → (c : Binding) × (nack_read (slice_index s.words place) ≡ Some c)
+          by_word None e = absurd (other (nack_word-nack_of (slice_index s.words place) None e).1)
+          by_word (Some c) e = (c, ap (λ (p : Option (Option Binding)). unwrap_or p None) e)
 
-      binds : Keeps shape (stepped s place (nack_word (Some b)) id me.1 (did (bind_of nack b) (bound_nack nack b me.0)) keeps)
-      unfolding with_nack
-      binds =
-          let mine = known.mine (bound_row nack b) held in
-          keeps_step shape s k id me.0 (bound_nack nack b me.0) _ _ k.owner view refl refl (bind_of nack b)
-          (known.seat, (mine.1, known.fresh (bound_row nack b) held unopened, inside.1, range.scope, free))
-          (ap (λ (t : Table). with_nack t nack b) k.table ∙ ap (λ (n : ℕ). sized shape (slice_set s.words n (nack_word (Some b)))) (sym here))
-          (λ j u n e t. others j u n (k.knows j u e t))
-          own
+      -- the nack is bound to a held row that is not opened
+      module _ (b : Binding) (range : IsBindingInRange b) (held : Has me.0.seen.held (bound_row nack b)) (unopened : ¬ Has me.0.seen.opened (bound_row nack b))
+          (free : binding_at k.world.table nack ≡ None) where
+        abbrev later : World
+        later = with_table k.world (with_nack k.world.table nack b)
 
-module _ (shape : Shape) (slots id place : ℕ) (me : Me ℕ View) (nack : NackName)
-    (threads : me.0.threads ≡ shape.threads) (rows : me.0.rows ≡ shape.rows)
-    (inside : InsideNack shape.threads nack) where
-  pub look_nack_allowed : place ≡ nack_place shape.rows nack → Allows (Keeps shape) slots id me place (λ n. n) (looked_nack (step slots place 0 0 none) me)
-  look_nack_allowed here s k homes view range =
-      let o = nack_read (slice_index s.words place) in (
-        saw_nack nack o me.0,
-        keeps,
-        tt,
-        learnt shape id place me nack threads rows inside here s k view (saw_nack nack o me.0) (seat_kept shape id place me nack threads rows inside here s k view o) (made_kept shape id place me nack threads rows inside here s k view o) (sees shape id place me nack threads rows inside here s k view),
-        λ m at.
-            let same = one_nack shape id place me nack threads rows inside here m at.0 at.1 in (
-              ap (λ (n : NackName). (saw_nack n o me.0, me.1)) same,
-              agrees_nack shape id place me nack threads rows inside here s k view m same,
-              coherent_nack k.world k.owner id me.0 nack o (sees shape id place me nack threads rows inside here s k view) (world_kept shape s k),
-            ),
-      )
+        follows : Follows k.world later
+        follows = follows_bind k.world nack b is_its_nack free
 
-  -- a nack of a held row's thread: where it is not bound, it is bound to the row
-  pub bind_allowed : (b : Binding) → IsBindingInRange b → Has me.0.seen.held (bound_row nack b) → ¬ Has me.0.seen.opened (bound_row nack b) → place ≡ nack_place shape.rows nack
-      → Allows (Keeps shape) slots id me place (λ x. either (eqb x (nack_word None)) (nack_word (Some b)) x) (tried_bind (step slots place (nack_word None) (nack_word (Some b)) none) me)
-  bind_allowed b in_range held unopened here s k homes view range =
-      let x = slice_index s.words place in
-      let read = binding_is shape id place me nack threads rows inside here s k view in
-      let knows = known shape id place me nack threads rows inside here s k view in
-      let one : (m : NackName) → AtNack (step {S = ℕ} slots place (nack_word None) (nack_word (Some b)) none) me m → nack ≡ m = λ m at. one_nack shape id place me nack threads rows inside here m at.0 at.1 in
-      exchanged x (nack_word None) (nack_word (Some b))
-      (λ y. (w : View) × (a : Act ℕ) × Valid s.homes me.1 a × Keeps shape (stepped s place y id me.1 w a) × tried_bind (step slots place (nack_word None) (nack_word (Some b)) none) me x (w, carried_after me.1 a))
-      (λ e.
-      let none_read : nack_read x ≡ None = ap nack_read e ∙ ap (λ (p : Option (Option Binding)). unwrap_or p None) (nack_of-nack_word None tt) in
-      let free : binding_at k.world.table nack ≡ None = read ∙ none_read in
-      let after = did (bind_of nack b) (bound_nack nack b me.0) in
-      let moved : Keeps shape (stepped s place (nack_word (Some b)) id me.1 after keeps) = binds shape id place me nack threads rows inside here s k view b in_range held unopened free in (
-        after,
-        keeps,
-        tt,
-        moved,
-        λ m c at c_range second. (
-          λ f. let same = one_binding b c in_range c_range second in
-              let nack_same = one m at in (
-                (λ z. (did (bind_of (nack_same z) (same z)) (bound_nack (nack_same z) (same z) me.0), me.1)),
-                λ d h. let bad : None ≡ Some d = sym free ∙ knows.bound nack d (subst (λ (n : NackName). Has me.0.seen.bound (n, d)) (sym nack_same) h) in cc,
+        was : (n : NackName) (c : Binding) → binding_at later.table n ≡ Some c → (binding_at k.world.table n ≡ Some c) ⊎ ((nack ≡ n) × (b ≡ c))
+        was n c e = binding_was k.world.table nack b kept.sized is_its_nack range n c e
+
+        others : (j : ℕ) (u : View M) → j ≢ id → Knows k.world k.owner j u → Knows later k.owner j u
+        others j u n knows = knows_follows k.world later k.owner j u follows (λ m c e o. ⊎_elim
+            (λ (old : binding_at k.world.table m ≡ Some c). inl old)
+            (λ (new : (nack ≡ m) × (b ≡ c)). absurd (n (sym o ∙ (λ i. k.owner (bound_row (sym new.0 i) (sym new.1 i))) ∙ (known.mine (bound_row nack b) held).0)))
+            (was m c e)) knows
+
+        own : Knows later k.owner id (bound_nack nack b me.0)
+        own = knows_bound k.world later k.owner id me.0 ((nack, b) ∷ me.0.seen.bound) follows
+            (λ n c h. inr h)
+            (λ n c h. there n c h)
+            (λ n c e o. ⊎_elim
+            (λ (old : binding_at k.world.table n ≡ Some c). inl old)
+            (λ (new : (nack ≡ n) × (b ≡ c)). inr (inl (λ i. (new.0 i, new.1 i))))
+            (was n c e))
+            known
+          where
+            there : (n : NackName) (c : Binding) → Has ((nack, b) ∷ me.0.seen.bound) (n, c) → binding_at later.table n ≡ Some c
+            there n c (inl e) = subst (λ (z : NackName × Binding). binding_at later.table z.0 ≡ Some z.1) e (binding_bound k.world.table nack b kept.sized is_its_nack range)
+            there n c (inr h) = follows.bound n c (known.bound n c h)
+
+        binds : Keeps shape (stepped s place (nack_word (Some b)) id me.1 (did (bind_of nack b) (bound_nack nack b me.0)) keeps)
+        unfolding with_nack
+        binds =
+            let mine = known.mine (bound_row nack b) held in
+            keeps_step shape s k id me.0 (bound_nack nack b me.0) _ _ k.owner view refl refl (bind_of nack b)
+            (known.seat, (mine.1, known.fresh (bound_row nack b) held unopened, inside.1, range.scope, free))
+            (ap (λ (t : Table). with_nack t nack b) k.table ∙ ap (λ (n : ℕ). sized shape (slice_set s.words n (nack_word (Some b)))) (sym here))
+            (λ j u n e t. others j u n (k.knows j u e t))
+            own
+
+  module _ {S : Type 0} (shape : Shape) (slots id place : ℕ) (me : Me S (View M)) (nack : NackName)
+      (threads : me.0.threads ≡ shape.threads) (rows : me.0.rows ≡ shape.rows)
+      (inside : InsideNack shape.threads nack) where
+    pub look_nack_allowed : place ≡ nack_place shape.rows nack → Allows (Keeps shape) slots id me place (λ n. n) (looked_nack (step slots place 0 0 none) me)
+    look_nack_allowed here s k homes view range =
+        let o = nack_read (slice_index s.words place) in (
+          saw_nack nack o me.0,
+          keeps,
+          tt,
+          learnt shape id place me nack threads rows inside here s k view (saw_nack nack o me.0) (seat_kept shape id place me nack threads rows inside here s k view o) (made_kept shape id place me nack threads rows inside here s k view o) (sees shape id place me nack threads rows inside here s k view),
+          λ m at.
+              let same = one_nack shape id place me nack threads rows inside here m at.0 at.1 in (
+                ap (λ (n : NackName). (saw_nack n o me.0, me.1)) same,
+                agrees_nack shape id place me nack threads rows inside here s k view m same,
+                coherent_nack k.world k.owner id me.0 nack o (sees shape id place me nack threads rows inside here s k view) (world_kept shape s k),
               ),
-          λ d f. let bad : None ≡ Some d = sym none_read ∙ f in cc,
-          agreed shape id place me nack threads rows inside here s k view (nack_word (Some b)) after refl moved,
-        ),
-      ))
-      (λ f.
-      let found = bound_there shape id place me nack threads rows inside here s k view f in
-      let is : binding_at k.world.table nack ≡ Some found.0 = read ∙ found.1 in
-      let after = bound_nack nack found.0 me.0 in
-      let moved : Keeps shape (stepped s place x id me.1 after keeps) =
-      learnt shape id place me nack threads rows inside here s k view after refl refl (learn_nack k.world k.owner id me.0 nack (Some found.0) knows is) in (
-        after,
-        keeps,
-        tt,
-        moved,
-        λ m c at c_range second. (
-          λ g. let bad : None ≡ Some found.0 = sym g ∙ found.1 in cc,
-          λ d g. let same : found.0 ≡ d = some_inj found.0 d (sym found.1 ∙ g) in
-              let nack_same = one m at in
-              let tried : b ≡ c = one_binding b c in_range c_range second in (
-                (λ z. (bound_nack (nack_same z) (same z) me.0, me.1)),
-                subst (λ (z : Binding × Binding). z.0.sync ≤ z.1.sync) (λ i. (same i, tried i))
-                    (not_behind k.world k.owner id me.0 knows (world_kept shape s k) nack b found.0 is held unopened),
-                λ h. subst (λ (z : NackName × Binding). Has me.0.seen.bound z) (λ i. (nack_same i, same i))
-                    (knows.binds nack found.0 is (subst (λ (z : NackName × Binding). Has me.0.seen.held (bound_row z.0 z.1)) (λ i. (sym nack_same i, sym same i)) h)),
-              ),
-          agreed shape id place me nack threads rows inside here s k view x after refl moved,
-        ),
-      ))
+        )
+
+    -- a nack of a held row's thread: where it is not bound, it is bound to the row
+    pub bind_allowed : (b : Binding) → IsBindingInRange b → Has me.0.seen.held (bound_row nack b) → ¬ Has me.0.seen.opened (bound_row nack b) → place ≡ nack_place shape.rows nack
+        → Allows (Keeps shape) slots id me place (λ x. either (eqb x (nack_word None)) (nack_word (Some b)) x) (tried_bind (step slots place (nack_word None) (nack_word (Some b)) none) me)
+    bind_allowed b in_range held unopened here s k homes view range =
+        let x = slice_index s.words place in
+        let read = binding_is shape id place me nack threads rows inside here s k view in
+        let knows = known shape id place me nack threads rows inside here s k view in
+        let one : (m : NackName) → AtNack (step {S = S} slots place (nack_word None) (nack_word (Some b)) none) me m → nack ≡ m = λ m at. one_nack shape id place me nack threads rows inside here m at.0 at.1 in
+        exchanged x (nack_word None) (nack_word (Some b))
+        (λ y. (w : View M) × (a : Act S) × Valid s.homes me.1 a × Keeps shape (stepped s place y id me.1 w a) × tried_bind (step slots place (nack_word None) (nack_word (Some b)) none) me x (w, carried_after me.1 a))
+        (λ e.
+        let none_read : nack_read x ≡ None = ap nack_read e ∙ ap (λ (p : Option (Option Binding)). unwrap_or p None) (nack_of-nack_word None tt) in
+        let free : binding_at k.world.table nack ≡ None = read ∙ none_read in
+        let after = did (bind_of nack b) (bound_nack nack b me.0) in
+        let moved : Keeps shape (stepped s place (nack_word (Some b)) id me.1 after keeps) = binds shape id place me nack threads rows inside here s k view b in_range held unopened free in (
+          after,
+          keeps,
+          tt,
+          moved,
+          λ m c at c_range second. (
+            λ f. let same = one_binding b c in_range c_range second in
+                let nack_same = one m at in (
+                  (λ z. (did (bind_of (nack_same z) (same z)) (bound_nack (nack_same z) (same z) me.0), me.1)),
+                  λ d h. let bad : None ≡ Some d = sym free ∙ knows.bound nack d (subst (λ (n : NackName). Has me.0.seen.bound (n, d)) (sym nack_same) h) in cc,
+                ),
+            λ d f. let bad : None ≡ Some d = sym none_read ∙ f in cc,
+            agreed shape id place me nack threads rows inside here s k view (nack_word (Some b)) after refl moved,
+          ),
+        ))
+        (λ f.
+        let found = bound_there shape id place me nack threads rows inside here s k view f in
+        let is : binding_at k.world.table nack ≡ Some found.0 = read ∙ found.1 in
+        let after = bound_nack nack found.0 me.0 in
+        let moved : Keeps shape (stepped s place x id me.1 after keeps) =
+        learnt shape id place me nack threads rows inside here s k view after refl refl (learn_nack k.world k.owner id me.0 nack (Some found.0) knows is) in (
+          after,
+          keeps,
+          tt,
+          moved,
+          λ m c at c_range second. (
+            λ g. let bad : None ≡ Some found.0 = sym g ∙ found.1 in cc,
+            λ d g. let same : found.0 ≡ d = some_inj found.0 d (sym found.1 ∙ g) in
+                let nack_same = one m at in
+                let tried : b ≡ c = one_binding b c in_range c_range second in (
+                  (λ z. (bound_nack (nack_same z) (same z) me.0, me.1)),
+                  subst (λ (z : Binding × Binding). z.0.sync ≤ z.1.sync) (λ i. (same i, tried i))
+                      (not_behind k.world k.owner id me.0 knows (world_kept shape s k) nack b found.0 is held unopened),
+                  λ h. subst (λ (z : NackName × Binding). Has me.0.seen.bound z) (λ i. (nack_same i, same i))
+                      (knows.binds nack found.0 is (subst (λ (z : NackName × Binding). Has me.0.seen.held (bound_row z.0 z.1)) (λ i. (sym nack_same i, sym same i)) h)),
+                ),
+            agreed shape id place me nack threads rows inside here s k view x after refl moved,
+          ),
+        ))

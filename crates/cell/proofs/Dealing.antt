@@ -25,56 +25,57 @@ use Rattle.cell.specs.Rule.{Interleaves, Keeps, Move, at_seat, dealer, dealt_row
 use Rattle.cell.proofs.Following.{knows_owned}
 use Rattle.cell.proofs.Turning.{same_made, world_kept}
 
--- a pass that has seen nothing
-knows_nothing : (w : World) (owner : Row → ℕ) (id : ℕ) (shape : Shape) (k : ℕ) → shape.threads ≡ w.table.threads → shape.rows ≡ w.table.rows → shape.passes ≡ w.seats → 0 < w.seats
-    → ((t : ℕ) → t < w.table.threads → k ≤ t % w.seats → (owner (first_row t) ≡ id) × (holder_at w (first_row t) ≡ Some (t % w.seats)) × (cell_at w.table (first_row t) ≡ Fresh) × (word_at w.table (first_row t) 1 ≡ 0) × ((n : NackName) (b : Binding) → binding_at w.table n ≡ Some b → bound_row n b ≢ first_row t))
-    → Knows w owner id (dealer shape k)
-knows_nothing w owner id shape k threads rows passes one_seat undealt = record {
-  threads = threads;
-  rows = rows;
-  passes = passes;
-  seat = one_seat;
-  undealt = λ t h d. let u = undealt t h d in (u.0, u.1, (λ n. u.2), (λ n. u.3), λ n b e same. absurd (u.4 n b e same));
-  mine = λ r h. absurd h;
-  calm = λ r h e. absurd h;
-  staged = tt;
-  fresh = λ r h n. absurd h;
-  drafted = λ r p x h. absurd h;
-  opened = λ r h. absurd h;
-  read = λ r p x h. absurd h;
-  joined = λ r j h. absurd h;
-  taken = λ r h. absurd h;
-  bound = λ n b h. absurd h;
-  binds = λ n b e h. absurd h;
-}
+module _ {M : Type 0} where
+  -- a pass that has seen nothing
+  knows_nothing : (w : World) (owner : Row → ℕ) (id : ℕ) (shape : Shape) (k : ℕ) → shape.threads ≡ w.table.threads → shape.rows ≡ w.table.rows → shape.passes ≡ w.seats → 0 < w.seats
+      → ((t : ℕ) → t < w.table.threads → k ≤ t % w.seats → (owner (first_row t) ≡ id) × (holder_at w (first_row t) ≡ Some (t % w.seats)) × (cell_at w.table (first_row t) ≡ Fresh) × (word_at w.table (first_row t) 1 ≡ 0) × ((n : NackName) (b : Binding) → binding_at w.table n ≡ Some b → bound_row n b ≢ first_row t))
+      → Knows {M = M} w owner id (dealer shape k)
+  knows_nothing w owner id shape k threads rows passes one_seat undealt = record {
+    threads = threads;
+    rows = rows;
+    passes = passes;
+    seat = one_seat;
+    undealt = λ t h d. let u = undealt t h d in (u.0, u.1, (λ n. u.2), (λ n. u.3), λ n b e same. absurd (u.4 n b e same));
+    mine = λ r h. absurd h;
+    calm = λ r h e. absurd h;
+    staged = tt;
+    fresh = λ r h n. absurd h;
+    drafted = λ r p x h. absurd h;
+    opened = λ r h. absurd h;
+    read = λ r p x h. absurd h;
+    joined = λ r j h. absurd h;
+    taken = λ r h. absurd h;
+    bound = λ n b h. absurd h;
+    binds = λ n b e h. absurd h;
+  }
 
--- THE START
-pub keeps_start : (shape : Shape) (ws xs : List ℕ) → shape.threads ≤ 64 → 1 ≤ shape.rows → shape.rows ≤ 1024 → 1 ≤ shape.passes → ws ≡ replicate (shape.threads * thread_len shape.rows) 0
-    → Keeps shape (opening ws xs (dealer shape 0))
-unfolding start_world
-keeps_start shape ws xs few one_row few_rows one_pass zeros = record {
-  few_threads = few;
-  few_rows = few_rows;
-  moves = [];
-  interleaved = record { made = λ id v e. one_view id v e; no_others = λ id h. refl };
-  world = start_world shape.threads shape.rows shape.passes;
-  played = refl;
-  table = ap (λ (z : List ℕ). record { threads = shape.threads; rows = shape.rows; words = z }) (sym zeros);
-  owner = λ r. 0;
-  knows = knows_at;
-}
-  where
-    one_view : (id : ℕ) (v : View) → get_elem? (dealer shape 0 ∷ []) id ≡ some v → steps_by id [] ≡ at_seat v.seat v.made
-    one_view zero v e = ap (λ (u : View). at_seat u.seat u.made) (mathlib.Core.Option.some-injective _ _ e)
-    one_view (suc id) v e = absurd (mathlib.Core.Option.some-ne-none v (sym e))
+  -- THE START
+  pub keeps_start : {S : Type 0} (shape : Shape) (ws : List ℕ) (xs : List S) → shape.threads ≤ 64 → 1 ≤ shape.rows → shape.rows ≤ 1024 → 1 ≤ shape.passes → ws ≡ replicate (shape.threads * thread_len shape.rows) 0
+      → Keeps {M = M} shape (opening ws xs (dealer shape 0))
+  unfolding start_world
+  keeps_start shape ws xs few one_row few_rows one_pass zeros = record {
+    few_threads = few;
+    few_rows = few_rows;
+    moves = [];
+    interleaved = record { made = λ id v e. one_view id v e; no_others = λ id h. refl };
+    world = start_world shape.threads shape.rows shape.passes;
+    played = refl;
+    table = ap (λ (z : List ℕ). record { threads = shape.threads; rows = shape.rows; words = z }) (sym zeros);
+    owner = λ r. 0;
+    knows = knows_at;
+  }
+    where
+      one_view : (id : ℕ) (v : View M) → get_elem? (dealer shape 0 ∷ []) id ≡ some v → steps_by id [] ≡ at_seat v.seat v.made
+      one_view zero v e = ap (λ (u : View M). at_seat u.seat u.made) (mathlib.Core.Option.some-injective _ _ e)
+      one_view (suc id) v e = absurd (mathlib.Core.Option.some-ne-none v (sym e))
 
-    first : Knows (start_world shape.threads shape.rows shape.passes) (λ r. 0) 0 (dealer shape 0)
-    first = knows_nothing (start_world shape.threads shape.rows shape.passes) (λ r. 0) 0 shape 0 refl refl refl one_pass
-        (λ t h d. (refl, start_holder shape.threads shape.rows shape.passes (first_row t) h one_row, start_cell shape.threads shape.rows (first_row t), start_word shape.threads shape.rows (first_row t) 1, λ n b e same. let bad : None ≡ Some b = sym (start_binding shape.threads shape.rows n) ∙ e in cc))
+      first : Knows {M = M} (start_world shape.threads shape.rows shape.passes) (λ r. 0) 0 (dealer shape 0)
+      first = knows_nothing (start_world shape.threads shape.rows shape.passes) (λ r. 0) 0 shape 0 refl refl refl one_pass
+          (λ t h d. (refl, start_holder shape.threads shape.rows shape.passes (first_row t) h one_row, start_cell shape.threads shape.rows (first_row t), start_word shape.threads shape.rows (first_row t) 1, λ n b e same. let bad : None ≡ Some b = sym (start_binding shape.threads shape.rows n) ∙ e in cc))
 
-    knows_at : (id : ℕ) (v : View) → get_elem? (dealer shape 0 ∷ []) id ≡ some v → 0 < v.threads → Knows (start_world shape.threads shape.rows shape.passes) (λ r. 0) id v
-    knows_at zero v e t = subst (λ (u : View). Knows (start_world shape.threads shape.rows shape.passes) (λ r. 0) 0 u) (mathlib.Core.Option.some-injective _ _ e) first
-    knows_at (suc id) v e t = absurd (mathlib.Core.Option.some-ne-none v (sym e))
+      knows_at : (id : ℕ) (v : View M) → get_elem? (dealer shape 0 ∷ []) id ≡ some v → 0 < v.threads → Knows (start_world shape.threads shape.rows shape.passes) (λ r. 0) id v
+      knows_at zero v e t = subst (λ (u : View M). Knows (start_world shape.threads shape.rows shape.passes) (λ r. 0) 0 u) (mathlib.Core.Option.some-injective _ _ e) first
+      knows_at (suc id) v e t = absurd (mathlib.Core.Option.some-ne-none v (sym e))
 
 -- THE ROWS OF ONE SEAT
 abbrev IsDealt : ℕ → ℕ → ℕ → Row → Type 0
@@ -134,119 +135,120 @@ at_end [] a b (suc j) e = absurd (mathlib.Core.Option.some-ne-none b (sym e))
 at_end (x ∷ xs) a b zero e = inl e
 at_end (x ∷ xs) a b (suc j) e = ⊎_elim (λ h. inl h) (λ h. inr (ap suc h.0, h.1)) (at_end xs a b j e)
 
--- a new pass has made nothing yet
-pub one_more_pass : (moves : List Move) (vs : List View) (v : View) → Interleaves moves vs → v.made ≡ [] → Interleaves moves (vs ++ v ∷ [])
-one_more_pass moves vs v before nothing = record {
-  made = λ j u e. ⊎_elim
-      (λ (old : get_elem? vs j ≡ some u). before.made j u old)
-      (λ (new : (j ≡ length vs) × (v ≡ u)).
-      let past : length vs ≤ j = let h = new.0 in omega arith in
-      before.no_others j past ∙ ap (at_seat v.seat) (sym nothing) ∙ ap (λ (z : View). at_seat z.seat z.made) new.1)
-      (at_end vs v u j e);
-  no_others = λ j h.
-      let size : length (vs ++ v ∷ []) ≡ length vs + 1 = length-append vs (v ∷ []) in
-      before.no_others j (omega arith);
-}
-
-module _ {S : Type 0} (shape : Shape) (id k : ℕ) (below : k < shape.passes) (some_threads : 0 < shape.threads) (s : State S View) (h : Keeps shape s) (view : get_elem? s.views id ≡ some (dealer shape k)) where
-  was : Knows h.world h.owner id (dealer shape k)
-  was = h.knows id (dealer shape k) view some_threads
-
-  abbrev new : ℕ
-  new = length s.views
-
-  abbrev is_dealt : Row → Bool
-  is_dealt r = eqb r.sync 0 && (ltb r.thread shape.threads && eqb (r.thread % shape.passes) k)
-
-  abbrev owner' : Row → ℕ
-  owner' r = cond (is_dealt r) new (h.owner r)
-
-  mod_seats : (t : ℕ) → t % h.world.seats ≡ t % shape.passes
-  mod_seats t = ap (λ (n : ℕ). t % n) (sym was.passes)
-
-  -- the rows that are dealt were the dealer's
-  dealt_his : (r : Row) → is_dealt r ≡ true → h.owner r ≡ id
-  dealt_his r e =
-      let a = and_parts (eqb r.sync 0) _ e in
-      let b = and_parts (ltb r.thread shape.threads) (eqb (r.thread % shape.passes) k) a.1 in
-      let m : k ≡ r.thread % h.world.seats = sym (mod_seats r.thread ∙ eqb-true _ _ b.1) in
-      let u = was.undealt r.thread (subst (λ (n : ℕ). r.thread < n) was.threads (ltb-true _ _ b.0)) (omega arith) in
-      ap h.owner (same_row r (first_row r.thread) refl (eqb-true r.sync 0 a.0)) ∙ u.0
-
-  kept_owner : (j : ℕ) → j ≢ id → (r : Row) → h.owner r ≡ j → owner' r ≡ j
-  kept_owner j n r e = ⊎_elim
-      (λ (d : is_dealt r ≡ true). absurd (n (sym e ∙ dealt_his r d)))
-      (λ (d : is_dealt r ≡ false). ap (λ (b : Bool). cond b new (h.owner r)) d ∙ e)
-      (cases_Bool (is_dealt r))
-
-  some_seats : 0 < h.world.seats
-  some_seats = was.seat
-
-  left : Knows h.world owner' id (dealer shape (k + 1))
-  left = knows_nothing h.world owner' id shape (k + 1) was.threads was.rows was.passes some_seats (λ t i d.
-      let u = was.undealt t i (omega arith) in
-      let m = mod_seats t in
-      (ap (λ (b : Bool). cond b new (h.owner (first_row t))) (ap (λ (b : Bool). ltb t shape.threads && b) (ne_eqb (t % shape.passes) k (λ e. omega arith)) ∙ and-false (ltb t shape.threads)) ∙ u.0, u.1, u.2 (λ z. z), u.3 (λ l. l.1), u.4))
-
-  dealt_row : (r : Row) → Has (dealt_rows shape.threads shape.passes k) r → (owner' r ≡ new) × (holder_at h.world r ≡ Some k) × (cell_at h.world.table r ≡ Fresh) × (word_at h.world.table r 1 ≡ 0) × ((n : NackName) (b : Binding) → binding_at h.world.table n ≡ Some b → bound_row n b ≢ r)
-  dealt_row r i =
-      let d = has_dealt shape.threads shape.passes k r i in
-      let m : r.thread % h.world.seats ≡ k = mod_seats r.thread ∙ d.2 in
-      let same : first_row r.thread ≡ r = same_row (first_row r.thread) r refl (sym d.0) in
-      let u = was.undealt r.thread (subst (λ (n : ℕ). r.thread < n) was.threads d.1) (omega arith) in (
-        ap (λ (b : Bool). cond b new (h.owner r)) (and_from _ _ (eq-eqb r.sync 0 d.0) (and_from _ _ (lt-ltb r.thread shape.threads d.1) (eq-eqb _ _ d.2))),
-        ap (holder_at h.world) (sym same) ∙ u.1 ∙ ap Some m,
-        ap (cell_at h.world.table) (sym same) ∙ u.2 (λ z. z),
-        ap (λ (q : Row). word_at h.world.table q 1) (sym same) ∙ u.3 (λ l. l.1),
-        λ n b e is. u.4 n b e (is ∙ sym same),
-      )
-
-  its_pass : Knows h.world owner' new (dealt_pass (dealer shape k))
-  its_pass = record {
-    threads = was.threads;
-    rows = was.rows;
-    passes = was.passes;
-    seat = subst (λ (n : ℕ). k < n) was.passes below;
-    undealt = λ t i d. let m = mod-lt t some_seats in let p = was.passes in absurd (omega arith);
-    mine = λ r i. let g = dealt_row r i in (g.0, g.1);
-    calm = λ r i e. let g = dealt_row r i in let bad : Fresh ≡ Claimed = sym g.2 ∙ e in cc;
-    staged = tt;
-    fresh = λ r i n. (dealt_row r i).2;
-    drafted = λ r p x i.
-        let n = no_offers_of (dealt_rows shape.threads shape.passes k) r p x i in
-        let g = dealt_row r n.0 in
-        let q = n.1 in
-        (g.0, (omega arith), (omega arith), g.1, ap (word_at h.world.table r) n.1 ∙ g.3 ∙ sym n.2);
-    opened = λ r i. absurd i;
-    read = λ r p x i. absurd i;
-    joined = λ r j i. absurd i;
-    taken = λ r i. absurd i;
-    bound = λ n b i. absurd i;
-    binds = λ n b e i. absurd ((dealt_row (bound_row n b) i).4 n b e refl);
+module _ {M : Type 0} where
+  -- a new pass has made nothing yet
+  pub one_more_pass : (moves : List Move) (vs : List (View M)) (v : View M) → Interleaves moves vs → v.made ≡ [] → Interleaves moves (vs ++ v ∷ [])
+  one_more_pass moves vs v before nothing = record {
+    made = λ j u e. ⊎_elim
+        (λ (old : get_elem? vs j ≡ some u). before.made j u old)
+        (λ (new : (j ≡ length vs) × (v ≡ u)).
+        let past : length vs ≤ j = let h = new.0 in omega arith in
+        before.no_others j past ∙ ap (at_seat v.seat) (sym nothing) ∙ ap (λ (z : View M). at_seat z.seat z.made) new.1)
+        (at_end vs v u j e);
+    no_others = λ j h.
+        let size : length (vs ++ v ∷ []) ≡ length vs + 1 = length-append vs (v ∷ []) in
+        before.no_others j (omega arith);
   }
 
-  at_old : (j : ℕ) (u : View) → get_elem? (slice_set s.views id (dealer shape (k + 1))) j ≡ some u → 0 < u.threads → Knows h.world owner' j u
-  at_old j u e t = ⊎_elim
-      (λ (a : (j ≡ id) × (dealer shape (k + 1) ≡ u)). subst (λ (z : ℕ × View). Knows h.world owner' z.0 z.1) (λ i. (sym a.0 i, a.1 i)) left)
-      (λ (a : (j ≢ id) × (get_elem? s.views j ≡ some u)). knows_owned h.world h.owner owner' j u (world_kept shape s h) (λ r held o. kept_owner j a.0 r o) (h.knows j u a.1 t))
-      (at_set s.views id j (dealer shape (k + 1)) u e)
+  module _ {S : Type 0} (shape : Shape) (id k : ℕ) (below : k < shape.passes) (some_threads : 0 < shape.threads) (s : State S (View M)) (h : Keeps shape s) (view : get_elem? s.views id ≡ some (dealer shape k)) where
+    was : Knows {M = M} h.world h.owner id (dealer shape k)
+    was = h.knows id (dealer shape k) view some_threads
 
-  deals : Keeps shape (record { words = s.words; homes = s.homes; views = slice_set s.views id (dealer shape (k + 1)) ++ dealt_pass (dealer shape k) ∷ [] })
-  deals = record {
-    few_threads = h.few_threads;
-    few_rows = h.few_rows;
-    moves = h.moves;
-    interleaved = one_more_pass h.moves (slice_set s.views id (dealer shape (k + 1))) (dealt_pass (dealer shape k))
-        (same_made h.moves s.views id (dealer shape k) (dealer shape (k + 1)) view h.interleaved refl) refl;
-    world = h.world;
-    played = h.played;
-    table = h.table;
-    owner = owner';
-    knows = λ j u e t. ⊎_elim (λ old. at_old j u old t) (λ now. subst (λ (z : ℕ × View). Knows h.world owner' z.0 z.1) (λ i. (sym (now.0 ∙ length-set s.views id (dealer shape (k + 1))) i, now.1 i)) its_pass) (at_end (slice_set s.views id (dealer shape (k + 1))) (dealt_pass (dealer shape k)) u j e);
-  }
+    abbrev new : ℕ
+    new = length s.views
 
-pub deal_allowed : {S : Type 0} (shape : Shape) (id k : ℕ) → k < shape.passes → 0 < shape.threads → Splits {S = S} (Keeps shape) id (dealer shape k) (dealer shape (k + 1)) (dealt_pass (dealer shape k))
-deal_allowed shape id k below some_threads s h view = deals shape id k below some_threads s h view
+    abbrev is_dealt : Row → Bool
+    is_dealt r = eqb r.sync 0 && (ltb r.thread shape.threads && eqb (r.thread % shape.passes) k)
+
+    abbrev owner' : Row → ℕ
+    owner' r = cond (is_dealt r) new (h.owner r)
+
+    mod_seats : (t : ℕ) → t % h.world.seats ≡ t % shape.passes
+    mod_seats t = ap (λ (n : ℕ). t % n) (sym was.passes)
+
+    -- the rows that are dealt were the dealer's
+    dealt_his : (r : Row) → is_dealt r ≡ true → h.owner r ≡ id
+    dealt_his r e =
+        let a = and_parts (eqb r.sync 0) _ e in
+        let b = and_parts (ltb r.thread shape.threads) (eqb (r.thread % shape.passes) k) a.1 in
+        let m : k ≡ r.thread % h.world.seats = sym (mod_seats r.thread ∙ eqb-true _ _ b.1) in
+        let u = was.undealt r.thread (subst (λ (n : ℕ). r.thread < n) was.threads (ltb-true _ _ b.0)) (omega arith) in
+        ap h.owner (same_row r (first_row r.thread) refl (eqb-true r.sync 0 a.0)) ∙ u.0
+
+    kept_owner : (j : ℕ) → j ≢ id → (r : Row) → h.owner r ≡ j → owner' r ≡ j
+    kept_owner j n r e = ⊎_elim
+        (λ (d : is_dealt r ≡ true). absurd (n (sym e ∙ dealt_his r d)))
+        (λ (d : is_dealt r ≡ false). ap (λ (b : Bool). cond b new (h.owner r)) d ∙ e)
+        (cases_Bool (is_dealt r))
+
+    some_seats : 0 < h.world.seats
+    some_seats = was.seat
+
+    left : Knows {M = M} h.world owner' id (dealer shape (k + 1))
+    left = knows_nothing h.world owner' id shape (k + 1) was.threads was.rows was.passes some_seats (λ t i d.
+        let u = was.undealt t i (omega arith) in
+        let m = mod_seats t in
+        (ap (λ (b : Bool). cond b new (h.owner (first_row t))) (ap (λ (b : Bool). ltb t shape.threads && b) (ne_eqb (t % shape.passes) k (λ e. omega arith)) ∙ and-false (ltb t shape.threads)) ∙ u.0, u.1, u.2 (λ z. z), u.3 (λ l. l.1), u.4))
+
+    dealt_row : (r : Row) → Has (dealt_rows shape.threads shape.passes k) r → (owner' r ≡ new) × (holder_at h.world r ≡ Some k) × (cell_at h.world.table r ≡ Fresh) × (word_at h.world.table r 1 ≡ 0) × ((n : NackName) (b : Binding) → binding_at h.world.table n ≡ Some b → bound_row n b ≢ r)
+    dealt_row r i =
+        let d = has_dealt shape.threads shape.passes k r i in
+        let m : r.thread % h.world.seats ≡ k = mod_seats r.thread ∙ d.2 in
+        let same : first_row r.thread ≡ r = same_row (first_row r.thread) r refl (sym d.0) in
+        let u = was.undealt r.thread (subst (λ (n : ℕ). r.thread < n) was.threads d.1) (omega arith) in (
+          ap (λ (b : Bool). cond b new (h.owner r)) (and_from _ _ (eq-eqb r.sync 0 d.0) (and_from _ _ (lt-ltb r.thread shape.threads d.1) (eq-eqb _ _ d.2))),
+          ap (holder_at h.world) (sym same) ∙ u.1 ∙ ap Some m,
+          ap (cell_at h.world.table) (sym same) ∙ u.2 (λ z. z),
+          ap (λ (q : Row). word_at h.world.table q 1) (sym same) ∙ u.3 (λ l. l.1),
+          λ n b e is. u.4 n b e (is ∙ sym same),
+        )
+
+    its_pass : Knows {M = M} h.world owner' new (dealt_pass (dealer shape k))
+    its_pass = record {
+      threads = was.threads;
+      rows = was.rows;
+      passes = was.passes;
+      seat = subst (λ (n : ℕ). k < n) was.passes below;
+      undealt = λ t i d. let m = mod-lt t some_seats in let p = was.passes in absurd (omega arith);
+      mine = λ r i. let g = dealt_row r i in (g.0, g.1);
+      calm = λ r i e. let g = dealt_row r i in let bad : Fresh ≡ Claimed = sym g.2 ∙ e in cc;
+      staged = tt;
+      fresh = λ r i n. (dealt_row r i).2;
+      drafted = λ r p x i.
+          let n = no_offers_of (dealt_rows shape.threads shape.passes k) r p x i in
+          let g = dealt_row r n.0 in
+          let q = n.1 in
+          (g.0, (omega arith), (omega arith), g.1, ap (word_at h.world.table r) n.1 ∙ g.3 ∙ sym n.2);
+      opened = λ r i. absurd i;
+      read = λ r p x i. absurd i;
+      joined = λ r j i. absurd i;
+      taken = λ r i. absurd i;
+      bound = λ n b i. absurd i;
+      binds = λ n b e i. absurd ((dealt_row (bound_row n b) i).4 n b e refl);
+    }
+
+    at_old : (j : ℕ) (u : View M) → get_elem? (slice_set s.views id (dealer shape (k + 1))) j ≡ some u → 0 < u.threads → Knows h.world owner' j u
+    at_old j u e t = ⊎_elim
+        (λ (a : (j ≡ id) × (dealer shape (k + 1) ≡ u)). subst (λ (z : ℕ × (View M)). Knows h.world owner' z.0 z.1) (λ i. (sym a.0 i, a.1 i)) left)
+        (λ (a : (j ≢ id) × (get_elem? s.views j ≡ some u)). knows_owned h.world h.owner owner' j u (world_kept shape s h) (λ r held o. kept_owner j a.0 r o) (h.knows j u a.1 t))
+        (at_set s.views id j (dealer shape (k + 1)) u e)
+
+    deals : Keeps shape (record { words = s.words; homes = s.homes; views = slice_set s.views id (dealer shape (k + 1)) ++ dealt_pass (dealer shape k) ∷ [] })
+    deals = record {
+      few_threads = h.few_threads;
+      few_rows = h.few_rows;
+      moves = h.moves;
+      interleaved = one_more_pass h.moves (slice_set s.views id (dealer shape (k + 1))) (dealt_pass (dealer shape k))
+          (same_made h.moves s.views id (dealer shape k) (dealer shape (k + 1)) view h.interleaved refl) refl;
+      world = h.world;
+      played = h.played;
+      table = h.table;
+      owner = owner';
+      knows = λ j u e t. ⊎_elim (λ old. at_old j u old t) (λ now. subst (λ (z : ℕ × (View M)). Knows h.world owner' z.0 z.1) (λ i. (sym (now.0 ∙ length-set s.views id (dealer shape (k + 1))) i, now.1 i)) its_pass) (at_end (slice_set s.views id (dealer shape (k + 1))) (dealt_pass (dealer shape k)) u j e);
+    }
+
+  pub deal_allowed : {S : Type 0} (shape : Shape) (id k : ℕ) → k < shape.passes → 0 < shape.threads → Splits {S = S} (Keeps {M = M} shape) id (dealer shape k) (dealer shape (k + 1)) (dealt_pass (dealer shape k))
+  deal_allowed shape id k below some_threads s h view = deals shape id k below some_threads s h view
 
 -- a table has some words
 pub some_words : (threads rows : ℕ) → 1 ≤ threads → 0 < threads * thread_len rows

@@ -37,40 +37,41 @@ copied_more xs ys n at x len low is before i below = ⊎_elim
 pub copied_all : (xs ys : List ℕ) (n at : ℕ) → length xs ≡ n → length ys ≡ n → n ≤ at → ((i : ℕ) → i < at → slice_index xs i ≡ slice_index ys i) → xs ≡ ys
 copied_all xs ys n at len same past each = ext_get_or 0 xs ys (len ∙ sym same) (λ i h. each i (omega arith))
 
-pub ended : (key shape : Shape) (id : ℕ) (v : View) (ws copy slots : List ℕ) → key ≡ shape → copy ≡ ws → Final (SeenWith (Keeps {S = ℕ} key) id v) ws slots → Final (SeenWith (Keeps {S = ℕ} shape) id v) copy slots
-ended key shape id v ws copy slots keyed copied = subst (λ (z : Shape × List ℕ). Final (SeenWith (Keeps {S = ℕ} z.0) id v) z.1 slots) (λ i. (keyed i, sym copied i))
+module _ {M : Type 0} where
+  pub ended : {S : Type 0} (key shape : Shape) (id : ℕ) (v : View M) (ws copy : List ℕ) (slots : List S) → key ≡ shape → copy ≡ ws → Final (SeenWith (Keeps {S = S} key) id v) ws slots → Final (SeenWith (Keeps {S = S} shape) id v) copy slots
+  ended {S} key shape id v ws copy slots keyed copied = subst (λ (z : Shape × List ℕ). Final (SeenWith (Keeps {S = S} z.0) id v) z.1 slots) (λ i. (keyed i, sym copied i))
 
--- THE STATE AT THE END meets the rule, and the pass that closes it has seen what it has seen
-module _ (shape : Shape) (id : ℕ) (v : View) (at_table : 0 < v.threads) (ws slots : List ℕ) (final : Final (SeenWith (Keeps {S = ℕ} shape) id v) ws slots) where
-  kept : Keeps {S = ℕ} shape final.0
-  kept = final.1.0
+  -- THE STATE AT THE END meets the rule, and the pass that closes it has seen what it has seen
+  module _ {S : Type 0} (shape : Shape) (id : ℕ) (v : View M) (at_table : 0 < v.threads) (ws : List ℕ) (slots : List S) (final : Final (SeenWith (Keeps {S = S} shape) id v) ws slots) where
+    kept : Keeps {S = S} shape final.0
+    kept = final.1.0
 
-  table_is : kept.world.table ≡ sized shape ws
-  table_is = kept.table ∙ ap (sized shape) final.2
+    table_is : kept.world.table ≡ sized shape ws
+    table_is = kept.table ∙ ap (sized shape) final.2
 
-  known : Knows kept.world kept.owner id v
-  known = kept.knows id v final.1.1 at_table
+    known : Knows kept.world kept.owner id v
+    known = kept.knows id v final.1.1 at_table
 
-  pub final_lawful : IsLawful (ledger_of (sized shape ws))
-  final_lawful = subst (λ (t : Table). IsLawful (ledger_of t)) table_is (lawful_ledger kept.world.table (world_kept shape final.0 kept).linked)
+    pub final_lawful : IsLawful (ledger_of (sized shape ws))
+    final_lawful = subst (λ (t : Table). IsLawful (ledger_of t)) table_is (lawful_ledger kept.world.table (world_kept shape final.0 kept).linked)
 
-  pub final_joined : (r : Row) (j : Joined) → Has v.seen.joined (r, j) → joined_in (ledger_of (sized shape ws)) r ≡ Some j
-  final_joined r j h = subst (λ (t : Table). joined_in (ledger_of t) r ≡ Some j) table_is (ap (λ (f : Row → _). f r) (joined_in_ledger kept.world.table) ∙ known.joined r j h)
+    pub final_joined : (r : Row) (j : Joined) → Has v.seen.joined (r, j) → joined_in (ledger_of (sized shape ws)) r ≡ Some j
+    final_joined r j h = subst (λ (t : Table). joined_in (ledger_of t) r ≡ Some j) table_is (ap (λ (f : Row → _). f r) (joined_in_ledger kept.world.table) ∙ known.joined r j h)
 
-  pub final_bound : (n : NackName) (b : Binding) → Has v.seen.bound (n, b) → binding_in (ledger_of (sized shape ws)) n ≡ Some b
-  final_bound n b h = subst (λ (t : Table). binding_in (ledger_of t) n ≡ Some b) table_is (ap (λ (f : NackName → _). f n) (binding_in_ledger kept.world.table) ∙ known.bound n b h)
+    pub final_bound : (n : NackName) (b : Binding) → Has v.seen.bound (n, b) → binding_in (ledger_of (sized shape ws)) n ≡ Some b
+    final_bound n b h = subst (λ (t : Table). binding_in (ledger_of t) n ≡ Some b) table_is (ap (λ (f : NackName → _). f n) (binding_in_ledger kept.world.table) ∙ known.bound n b h)
 
-  pub final_own : (r : Row) (j : Joined) (offers : List Offer) → IsDraft v.seen r offers → joined_in (ledger_of (sized shape ws)) r ≡ Some j
-      → (j.own < length offers) × (offer_in (ledger_of (sized shape ws)) r j.own ≡ slice_get offers j.own)
-  final_own r j offers draft e =
-      let here : joined_at kept.world.table r ≡ Some j = ap (λ (f : Row → _). f r) (sym (joined_in_ledger kept.world.table)) ∙ subst (λ (t : Table). joined_in (ledger_of t) r ≡ Some j) (sym table_is) e in
-      let chose = own_chose kept.world kept.owner id v r j offers known (world_kept shape final.0 kept) draft here in
-      (chose.0, subst (λ (t : Table). offer_in (ledger_of t) r j.own ≡ slice_get offers j.own) table_is (ap (λ (f : Row → ℕ → _). f r j.own) (offer_in_ledger kept.world.table) ∙ chose.1))
+    pub final_own : (r : Row) (j : Joined) (offers : List Offer) → IsDraft v.seen r offers → joined_in (ledger_of (sized shape ws)) r ≡ Some j
+        → (j.own < length offers) × (offer_in (ledger_of (sized shape ws)) r j.own ≡ slice_get offers j.own)
+    final_own r j offers draft e =
+        let here : joined_at kept.world.table r ≡ Some j = ap (λ (f : Row → _). f r) (sym (joined_in_ledger kept.world.table)) ∙ subst (λ (t : Table). joined_in (ledger_of t) r ≡ Some j) (sym table_is) e in
+        let chose = own_chose kept.world kept.owner id v r j offers known (world_kept shape final.0 kept) draft here in
+        (chose.0, subst (λ (t : Table). offer_in (ledger_of t) r j.own ≡ slice_get offers j.own) table_is (ap (λ (f : Row → ℕ → _). f r j.own) (offer_in_ledger kept.world.table) ∙ chose.1))
 
-  pub final_offer : (r : Row) (n : ℕ) (o : Offer) → SeesOffer v.seen r n o → offer_in (ledger_of (sized shape ws)) r n ≡ Some o
-  final_offer r n o sees =
-      subst (λ (t : Table). offer_in (ledger_of t) r n ≡ Some o) table_is (ap (λ (f : Row → ℕ → _). f r n) (offer_in_ledger kept.world.table) ∙ sees_known kept.world kept.owner id v r n o known (world_kept shape final.0 kept) sees)
+    pub final_offer : (r : Row) (n : ℕ) (o : Offer) → SeesOffer v.seen r n o → offer_in (ledger_of (sized shape ws)) r n ≡ Some o
+    final_offer r n o sees =
+        subst (λ (t : Table). offer_in (ledger_of t) r n ≡ Some o) table_is (ap (λ (f : Row → ℕ → _). f r n) (offer_in_ledger kept.world.table) ∙ sees_known kept.world kept.owner id v r n o known (world_kept shape final.0 kept) sees)
 
-  pub final_lack : (r : Row) (n : ℕ) → SeesNoOffer v.seen r n → offer_in (ledger_of (sized shape ws)) r n ≡ None
-  final_lack r n sees =
-      subst (λ (t : Table). offer_in (ledger_of t) r n ≡ None) table_is (ap (λ (f : Row → ℕ → _). f r n) (offer_in_ledger kept.world.table) ∙ lacks_known kept.world kept.owner id v r n known sees)
+    pub final_lack : (r : Row) (n : ℕ) → SeesNoOffer v.seen r n → offer_in (ledger_of (sized shape ws)) r n ≡ None
+    final_lack r n sees =
+        subst (λ (t : Table). offer_in (ledger_of t) r n ≡ None) table_is (ap (λ (f : Row → ℕ → _). f r n) (offer_in_ledger kept.world.table) ∙ lacks_known kept.world kept.owner id v r n known sees)

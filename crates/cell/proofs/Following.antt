@@ -41,45 +41,46 @@ staged_follows w u owner id Resting f h = tt
 staged_follows w u owner id (Claims m) f h = (h.0, f.claimed m h.1, λ q. ap (λ (o : Option Joined). names o m) (f.joined q) ∙ h.2 q)
 staged_follows w u owner id (Joins m o j) f h = (h.0, f.claimed m h.1, f.joined o ∙ h.2, h.3)
 
--- A pass knows the world that follows, where it has seen by then all nacks that are bound anew to rows of its own.
-module _ (w u : World) (owner : Row → ℕ) (id : ℕ) (v : View) (bs : List (NackName × Binding)) (f : Follows w u)
-    (more : (n : NackName) (b : Binding) → Has v.seen.bound (n, b) → Has bs (n, b))
-    (there : (n : NackName) (b : Binding) → Has bs (n, b) → binding_at u.table n ≡ Some b)
-    (anew : (n : NackName) (b : Binding) → binding_at u.table n ≡ Some b → owner (bound_row n b) ≡ id → (binding_at w.table n ≡ Some b) ⊎ Has bs (n, b)) where
-  seen_bound : (n : NackName) (b : Binding) → (binding_at w.table n ≡ Some b) ⊎ Has bs (n, b) → (binding_at w.table n ≡ Some b → Has v.seen.bound (n, b)) → Has bs (n, b)
-  seen_bound n b (inl e) old = more n b (old e)
-  seen_bound n b (inr h) old = h
+module _ {M : Type 0} where
+  -- A pass knows the world that follows, where it has seen by then all nacks that are bound anew to rows of its own.
+  module _ (w u : World) (owner : Row → ℕ) (id : ℕ) (v : View M) (bs : List (NackName × Binding)) (f : Follows w u)
+      (more : (n : NackName) (b : Binding) → Has v.seen.bound (n, b) → Has bs (n, b))
+      (there : (n : NackName) (b : Binding) → Has bs (n, b) → binding_at u.table n ≡ Some b)
+      (anew : (n : NackName) (b : Binding) → binding_at u.table n ≡ Some b → owner (bound_row n b) ≡ id → (binding_at w.table n ≡ Some b) ⊎ Has bs (n, b)) where
+    seen_bound : (n : NackName) (b : Binding) → (binding_at w.table n ≡ Some b) ⊎ Has bs (n, b) → (binding_at w.table n ≡ Some b → Has v.seen.bound (n, b)) → Has bs (n, b)
+    seen_bound n b (inl e) old = more n b (old e)
+    seen_bound n b (inr h) old = h
 
-  pub knows_bound : Knows w owner id v → Knows u owner id (at_stage v.stage (record { held = v.seen.held; drafts = v.seen.drafts; opened = v.seen.opened; words = v.seen.words; joined = v.seen.joined; taken = v.seen.taken; bound = bs }) v)
-  knows_bound k = record {
-    threads = k.threads ∙ sym f.threads;
-    rows = k.rows ∙ sym f.rows;
-    passes = k.passes ∙ sym f.seats;
-    seat = subst (λ (n : ℕ). v.seat < n) (sym f.seats) k.seat;
-    undealt = λ t h d.
-        let m : t % u.seats ≡ t % w.seats = ap (λ (n : ℕ). t % n) f.seats in
-        let a = k.undealt t (subst (λ (n : ℕ). t < n) f.threads h) (subst (λ (n : ℕ). v.dealt ≤ n) m d) in (
-          a.0,
-          f.held (first_row t) _ a.1 ∙ ap Some (sym m),
-          (λ n. f.fresh (first_row t) (a.2 n)),
-          (λ n. f.words (first_row t) 1 (held_row w (first_row t) _ a.1) (omega arith) (omega arith) ∙ a.3 n),
-          λ n b e same. seen_bound n b (anew n b e (ap owner same ∙ a.0)) (λ old. a.4 n b old same),
-        );
-    mine = λ r h. let a = k.mine r h in (a.0, f.held r v.seat a.1);
-    calm = λ r h e. k.calm r h (f.unclaimed r e);
-    staged = staged_follows w u owner id v.stage f k.staged;
-    fresh = λ r h n. f.fresh r (k.fresh r h n);
-    drafted = λ r p x h. let a = k.drafted r p x h in (a.0, a.1, a.2, f.held r v.seat a.3, f.words r p (held_row w r v.seat a.3) a.2 a.1 ∙ a.4);
-    opened = λ r h. f.opened r (k.opened r h);
-    read = λ r p x h. let a = k.read r p x h in (f.opened r a.0, a.1, a.2, f.words r p (row_of_open w.table r a.0) a.2 a.1 ∙ a.3);
-    joined = λ r j h. f.joined r ∙ k.joined r j h;
-    taken = λ r h. f.taken r (k.taken r h);
-    bound = there;
-    binds = λ n b e h. seen_bound n b (anew n b e (k.mine (bound_row n b) h).0) (λ old. k.binds n b old h);
-  }
+    pub knows_bound : Knows w owner id v → Knows u owner id (at_stage v.stage (record { held = v.seen.held; drafts = v.seen.drafts; opened = v.seen.opened; words = v.seen.words; joined = v.seen.joined; taken = v.seen.taken; bound = bs }) v)
+    knows_bound k = record {
+      threads = k.threads ∙ sym f.threads;
+      rows = k.rows ∙ sym f.rows;
+      passes = k.passes ∙ sym f.seats;
+      seat = subst (λ (n : ℕ). v.seat < n) (sym f.seats) k.seat;
+      undealt = λ t h d.
+          let m : t % u.seats ≡ t % w.seats = ap (λ (n : ℕ). t % n) f.seats in
+          let a = k.undealt t (subst (λ (n : ℕ). t < n) f.threads h) (subst (λ (n : ℕ). v.dealt ≤ n) m d) in (
+            a.0,
+            f.held (first_row t) _ a.1 ∙ ap Some (sym m),
+            (λ n. f.fresh (first_row t) (a.2 n)),
+            (λ n. f.words (first_row t) 1 (held_row w (first_row t) _ a.1) (omega arith) (omega arith) ∙ a.3 n),
+            λ n b e same. seen_bound n b (anew n b e (ap owner same ∙ a.0)) (λ old. a.4 n b old same),
+          );
+      mine = λ r h. let a = k.mine r h in (a.0, f.held r v.seat a.1);
+      calm = λ r h e. k.calm r h (f.unclaimed r e);
+      staged = staged_follows w u owner id v.stage f k.staged;
+      fresh = λ r h n. f.fresh r (k.fresh r h n);
+      drafted = λ r p x h. let a = k.drafted r p x h in (a.0, a.1, a.2, f.held r v.seat a.3, f.words r p (held_row w r v.seat a.3) a.2 a.1 ∙ a.4);
+      opened = λ r h. f.opened r (k.opened r h);
+      read = λ r p x h. let a = k.read r p x h in (f.opened r a.0, a.1, a.2, f.words r p (row_of_open w.table r a.0) a.2 a.1 ∙ a.3);
+      joined = λ r j h. f.joined r ∙ k.joined r j h;
+      taken = λ r h. f.taken r (k.taken r h);
+      bound = there;
+      binds = λ n b e h. seen_bound n b (anew n b e (k.mine (bound_row n b) h).0) (λ old. k.binds n b old h);
+    }
 
-pub knows_follows : (w u : World) (owner : Row → ℕ) (id : ℕ) (v : View) → Follows w u → ((n : NackName) (b : Binding) → binding_at u.table n ≡ Some b → owner (bound_row n b) ≡ id → (binding_at w.table n ≡ Some b) ⊎ Has v.seen.bound (n, b)) → Knows w owner id v → Knows u owner id v
-knows_follows w u owner id v f anew k = knows_bound w u owner id v v.seen.bound f (λ n b h. h) (λ n b h. f.bound n b (k.bound n b h)) anew k
+  pub knows_follows : (w u : World) (owner : Row → ℕ) (id : ℕ) (v : View M) → Follows w u → ((n : NackName) (b : Binding) → binding_at u.table n ≡ Some b → owner (bound_row n b) ≡ id → (binding_at w.table n ≡ Some b) ⊎ Has v.seen.bound (n, b)) → Knows w owner id v → Knows u owner id v
+  knows_follows w u owner id v f anew k = knows_bound w u owner id v v.seen.bound f (λ n b h. h) (λ n b h. f.bound n b (k.bound n b h)) anew k
 
 -- WHO OWNS WHAT may change for rows that nobody holds
 staged_owned : (w : World) (owner owner' : Row → ℕ) (j : ℕ) (stage : Stage) → Kept w → ((r : Row) → holder_at w r ≢ None → owner r ≡ j → owner' r ≡ j) → Staged w owner j stage → Staged w owner' j stage
@@ -90,69 +91,70 @@ staged_owned w owner owner' j (Joins m q i) k o h = (o m (open_held w m k (ap is
 some_seat : (w : World) (r : Row) (seat : ℕ) → holder_at w r ≡ Some seat → holder_at w r ≢ None
 some_seat w r seat h n = let bad : Some seat ≡ None = sym h ∙ n in cc
 
-pub knows_owned : (w : World) (owner owner' : Row → ℕ) (j : ℕ) (u : View) → Kept w → ((r : Row) → holder_at w r ≢ None → owner r ≡ j → owner' r ≡ j) → Knows w owner j u → Knows w owner' j u
-knows_owned w owner owner' j u kept o k = record {
-  threads = k.threads;
-  rows = k.rows;
-  passes = k.passes;
-  seat = k.seat;
-  undealt = λ t h d. let a = k.undealt t h d in (o (first_row t) (some_seat w (first_row t) _ a.1) a.0, a.1, a.2, a.3, a.4);
-  mine = λ r h. let a = k.mine r h in (o r (some_seat w r _ a.1) a.0, a.1);
-  calm = k.calm;
-  staged = staged_owned w owner owner' j u.stage kept o k.staged;
-  fresh = k.fresh;
-  drafted = λ r p x h. let a = k.drafted r p x h in (o r (some_seat w r _ a.3) a.0, a.1, a.2, a.3, a.4);
-  opened = k.opened;
-  read = k.read;
-  joined = k.joined;
-  taken = k.taken;
-  bound = k.bound;
-  binds = k.binds;
-}
+module _ {M : Type 0} where
+  pub knows_owned : (w : World) (owner owner' : Row → ℕ) (j : ℕ) (u : View M) → Kept w → ((r : Row) → holder_at w r ≢ None → owner r ≡ j → owner' r ≡ j) → Knows w owner j u → Knows w owner' j u
+  knows_owned w owner owner' j u kept o k = record {
+    threads = k.threads;
+    rows = k.rows;
+    passes = k.passes;
+    seat = k.seat;
+    undealt = λ t h d. let a = k.undealt t h d in (o (first_row t) (some_seat w (first_row t) _ a.1) a.0, a.1, a.2, a.3, a.4);
+    mine = λ r h. let a = k.mine r h in (o r (some_seat w r _ a.1) a.0, a.1);
+    calm = k.calm;
+    staged = staged_owned w owner owner' j u.stage kept o k.staged;
+    fresh = k.fresh;
+    drafted = λ r p x h. let a = k.drafted r p x h in (o r (some_seat w r _ a.3) a.0, a.1, a.2, a.3, a.4);
+    opened = k.opened;
+    read = k.read;
+    joined = k.joined;
+    taken = k.taken;
+    bound = k.bound;
+    binds = k.binds;
+  }
 
--- A PASS HOLDS ONE ROW MORE, which is Fresh and has no offers, and to which no nack is bound
-pub hold_more : (w : World) (owner : Row → ℕ) (id : ℕ) (v : View) (x : Row) → Knows w owner id v → owner x ≡ id → holder_at w x ≡ Some v.seat → cell_at w.table x ≡ Fresh → word_at w.table x 1 ≡ 0 → ((n : NackName) (b : Binding) → binding_at w.table n ≡ Some b → bound_row n b ≢ x)
-    → Knows w owner id (at_stage v.stage (record { held = x ∷ v.seen.held; drafts = (x, 1, 0) ∷ v.seen.drafts; opened = v.seen.opened; words = v.seen.words; joined = v.seen.joined; taken = v.seen.taken; bound = v.seen.bound }) v)
-hold_more w owner id v x k mine held fresh none unbound = record {
-  threads = k.threads;
-  rows = k.rows;
-  passes = k.passes;
-  seat = k.seat;
-  undealt = λ t h d. let a = k.undealt t h d in (a.0, a.1, a.2, (λ n. a.3 (λ l. n (l.0, inr l.1))), a.4);
-  mine = λ r h. mine_now r h;
-  calm = λ r h e. calm_now r h e;
-  staged = k.staged;
-  fresh = λ r h n. fresh_now r h n;
-  drafted = λ r p d h. drafted_now r p d h;
-  opened = k.opened;
-  read = k.read;
-  joined = k.joined;
-  taken = k.taken;
-  bound = k.bound;
-  binds = λ n b e h. binds_now n b e h;
-}
-  where
-    binds_now : (n : NackName) (b : Binding) → binding_at w.table n ≡ Some b → Has (x ∷ v.seen.held) (bound_row n b) → Has v.seen.bound (n, b)
-    binds_now n b e (inl same) = absurd (unbound n b e (sym same))
-    binds_now n b e (inr h) = k.binds n b e h
+  -- A PASS HOLDS ONE ROW MORE, which is Fresh and has no offers, and to which no nack is bound
+  pub hold_more : (w : World) (owner : Row → ℕ) (id : ℕ) (v : View M) (x : Row) → Knows w owner id v → owner x ≡ id → holder_at w x ≡ Some v.seat → cell_at w.table x ≡ Fresh → word_at w.table x 1 ≡ 0 → ((n : NackName) (b : Binding) → binding_at w.table n ≡ Some b → bound_row n b ≢ x)
+      → Knows w owner id (at_stage v.stage (record { held = x ∷ v.seen.held; drafts = (x, 1, 0) ∷ v.seen.drafts; opened = v.seen.opened; words = v.seen.words; joined = v.seen.joined; taken = v.seen.taken; bound = v.seen.bound }) v)
+  hold_more w owner id v x k mine held fresh none unbound = record {
+    threads = k.threads;
+    rows = k.rows;
+    passes = k.passes;
+    seat = k.seat;
+    undealt = λ t h d. let a = k.undealt t h d in (a.0, a.1, a.2, (λ n. a.3 (λ l. n (l.0, inr l.1))), a.4);
+    mine = λ r h. mine_now r h;
+    calm = λ r h e. calm_now r h e;
+    staged = k.staged;
+    fresh = λ r h n. fresh_now r h n;
+    drafted = λ r p d h. drafted_now r p d h;
+    opened = k.opened;
+    read = k.read;
+    joined = k.joined;
+    taken = k.taken;
+    bound = k.bound;
+    binds = λ n b e h. binds_now n b e h;
+  }
+    where
+      binds_now : (n : NackName) (b : Binding) → binding_at w.table n ≡ Some b → Has (x ∷ v.seen.held) (bound_row n b) → Has v.seen.bound (n, b)
+      binds_now n b e (inl same) = absurd (unbound n b e (sym same))
+      binds_now n b e (inr h) = k.binds n b e h
 
-    mine_now : (r : Row) → Has (x ∷ v.seen.held) r → (owner r ≡ id) × (holder_at w r ≡ Some v.seat)
-    mine_now r (inl e) = (ap owner (sym e) ∙ mine, ap (holder_at w) (sym e) ∙ held)
-    mine_now r (inr h) = k.mine r h
+      mine_now : (r : Row) → Has (x ∷ v.seen.held) r → (owner r ≡ id) × (holder_at w r ≡ Some v.seat)
+      mine_now r (inl e) = (ap owner (sym e) ∙ mine, ap (holder_at w) (sym e) ∙ held)
+      mine_now r (inr h) = k.mine r h
 
-    calm_now : (r : Row) → Has (x ∷ v.seen.held) r → cell_at w.table r ≡ Claimed → Rattle.cell.specs.Views.IsClaimer v.stage r
-    calm_now r (inl e) h = let bad : Fresh ≡ Claimed = sym fresh ∙ ap (cell_at w.table) e ∙ h in cc
-    calm_now r (inr i) h = k.calm r i h
+      calm_now : (r : Row) → Has (x ∷ v.seen.held) r → cell_at w.table r ≡ Claimed → Rattle.cell.specs.Views.IsClaimer v.stage r
+      calm_now r (inl e) h = let bad : Fresh ≡ Claimed = sym fresh ∙ ap (cell_at w.table) e ∙ h in cc
+      calm_now r (inr i) h = k.calm r i h
 
-    fresh_now : (r : Row) → Has (x ∷ v.seen.held) r → ¬ Has v.seen.opened r → cell_at w.table r ≡ Fresh
-    fresh_now r (inl e) n = ap (cell_at w.table) (sym e) ∙ fresh
-    fresh_now r (inr i) n = k.fresh r i n
+      fresh_now : (r : Row) → Has (x ∷ v.seen.held) r → ¬ Has v.seen.opened r → cell_at w.table r ≡ Fresh
+      fresh_now r (inl e) n = ap (cell_at w.table) (sym e) ∙ fresh
+      fresh_now r (inr i) n = k.fresh r i n
 
-    drafted_now : (r : Row) (p d : ℕ) → Has ((x, 1, 0) ∷ v.seen.drafts) (r, p, d) → (owner r ≡ id) × (p < 34) × (1 ≤ p) × (holder_at w r ≡ Some v.seat) × (word_at w.table r p ≡ d)
-    drafted_now r p d (inl e) =
-        subst (λ (z : Row × ℕ × ℕ). (owner z.0 ≡ id) × (z.1 < 34) × (1 ≤ z.1) × (holder_at w z.0 ≡ Some v.seat) × (word_at w.table z.0 z.1 ≡ z.2)) e
-        (mine, omega arith, omega arith, held, none)
-    drafted_now r p d (inr h) = k.drafted r p d h
+      drafted_now : (r : Row) (p d : ℕ) → Has ((x, 1, 0) ∷ v.seen.drafts) (r, p, d) → (owner r ≡ id) × (p < 34) × (1 ≤ p) × (holder_at w r ≡ Some v.seat) × (word_at w.table r p ≡ d)
+      drafted_now r p d (inl e) =
+          subst (λ (z : Row × ℕ × ℕ). (owner z.0 ≡ id) × (z.1 < 34) × (1 ≤ z.1) × (holder_at w z.0 ≡ Some v.seat) × (word_at w.table z.0 z.1 ≡ z.2)) e
+          (mine, omega arith, omega arith, held, none)
+      drafted_now r p d (inr h) = k.drafted r p d h
 
 -- A ROW IS TAKEN
 module _ (w : World) (seat : Seat) (x : Row) (j : Joined) (k : Kept w) (is : cell_at w.table x ≡ Synched j) where

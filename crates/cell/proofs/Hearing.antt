@@ -92,102 +92,104 @@ pub told_bound : (s t : Seen) (n : NackName) (b : Binding) → Has s.bound (n, b
 told_bound s t n b h = has_right t.bound s.bound (n, b) h
 
 module _ (w : World) (owner : Row → ℕ) where
-  knows_told : (id new : ℕ) (v : View) → Knows w owner id v → Knows w owner new (told_pass v)
-  knows_told id new v k = record {
-    threads = k.threads;
-    rows = k.rows;
-    passes = k.passes;
-    seat = k.seat;
-    undealt = λ t h d. let m = mod-lt t (some_seats k.seat) in let p = k.passes in absurd (omega arith);
-    mine = λ r h. absurd h;
-    calm = λ r h e. absurd h;
-    staged = tt;
-    fresh = λ r h n. absurd h;
-    drafted = λ r p x h. absurd h;
-    opened = k.opened;
-    read = λ r p x h. ⊎_elim
-        (λ (a : Has v.seen.words (r, p, x)). k.read r p x a)
-        (λ (b : Has (drafts_of v.seen.opened v.seen.drafts) (r, p, x)).
-        let t = told_draft v.seen.opened v.seen.drafts (r, p, x) b in
-        let d = k.drafted r p x t.0 in
-        (k.opened r t.1, d.1, d.2, d.4))
-        (has_either v.seen.words (drafts_of v.seen.opened v.seen.drafts) (r, p, x) h);
-    joined = k.joined;
-    taken = k.taken;
-    bound = k.bound;
-    binds = λ n b e h. absurd h;
+  module _ {M : Type 0} where
+    knows_told : (id new : ℕ) (v : View M) → Knows w owner id v → Knows w owner new (told_pass v)
+    knows_told id new v k = record {
+      threads = k.threads;
+      rows = k.rows;
+      passes = k.passes;
+      seat = k.seat;
+      undealt = λ t h d. let m = mod-lt t (some_seats k.seat) in let p = k.passes in absurd (omega arith);
+      mine = λ r h. absurd h;
+      calm = λ r h e. absurd h;
+      staged = tt;
+      fresh = λ r h n. absurd h;
+      drafted = λ r p x h. absurd h;
+      opened = k.opened;
+      read = λ r p x h. ⊎_elim
+          (λ (a : Has v.seen.words (r, p, x)). k.read r p x a)
+          (λ (b : Has (drafts_of v.seen.opened v.seen.drafts) (r, p, x)).
+          let t = told_draft v.seen.opened v.seen.drafts (r, p, x) b in
+          let d = k.drafted r p x t.0 in
+          (k.opened r t.1, d.1, d.2, d.4))
+          (has_either v.seen.words (drafts_of v.seen.opened v.seen.drafts) (r, p, x) h);
+      joined = k.joined;
+      taken = k.taken;
+      bound = k.bound;
+      binds = λ n b e h. absurd h;
+    }
+      where
+        some_seats : v.seat < w.seats → 0 < w.seats
+        some_seats h = omega arith
+
+    knows_heard : (id other : ℕ) (v u : View M) → Knows w owner id v → Knows w owner other u → Knows w owner id (heard_pass v u)
+    knows_heard id other v u k l = record {
+      threads = k.threads;
+      rows = k.rows;
+      passes = k.passes;
+      seat = k.seat;
+      undealt = λ t h d. let a = k.undealt t h d in (a.0, a.1, (λ n. a.2 (λ o. n (has_left v.seen.opened u.seen.opened _ o))), a.3, λ n b e same. has_left v.seen.bound u.seen.bound (n, b) (a.4 n b e same));
+      mine = k.mine;
+      calm = k.calm;
+      staged = k.staged;
+      fresh = λ r h n. k.fresh r h (λ o. n (has_left v.seen.opened u.seen.opened r o));
+      drafted = k.drafted;
+      opened = λ r h. ⊎_elim (λ (a : Has v.seen.opened r). k.opened r a) (λ (b : Has u.seen.opened r). l.opened r b) (has_either v.seen.opened u.seen.opened r h);
+      read = λ r p x h. ⊎_elim (λ (a : Has v.seen.words (r, p, x)). k.read r p x a) (λ (b : Has u.seen.words (r, p, x)). l.read r p x b) (has_either v.seen.words u.seen.words (r, p, x) h);
+      joined = λ r j h. ⊎_elim (λ (a : Has v.seen.joined (r, j)). k.joined r j a) (λ (b : Has u.seen.joined (r, j)). l.joined r j b) (has_either v.seen.joined u.seen.joined (r, j) h);
+      taken = λ r h. ⊎_elim (λ (a : Has v.seen.taken r). k.taken r a) (λ (b : Has u.seen.taken r). l.taken r b) (has_either v.seen.taken u.seen.taken r h);
+      bound = λ n b h. ⊎_elim (λ (a : Has v.seen.bound (n, b)). k.bound n b a) (λ (c : Has u.seen.bound (n, b)). l.bound n b c) (has_either v.seen.bound u.seen.bound (n, b) h);
+      binds = λ n b e h. has_left v.seen.bound u.seen.bound (n, b) (k.binds n b e h);
+    }
+
+module _ {M : Type 0} where
+  pub tell_allowed : {S : Type 0} (shape : Shape) (id : ℕ) (v : View M) → 0 < v.threads → Splits {S = S} (Keeps shape) id v v (told_pass v)
+  tell_allowed shape id v at_table s k view = record {
+    few_threads = k.few_threads;
+    few_rows = k.few_rows;
+    moves = k.moves;
+    interleaved = one_more_pass k.moves (slice_set s.views id v) (told_pass v) (same_made k.moves s.views id v v view k.interleaved refl) refl;
+    world = k.world;
+    played = k.played;
+    table = k.table;
+    owner = k.owner;
+    knows = λ j u e t. ⊎_elim
+        (λ old. before j u old t)
+        (λ (now : (j ≡ length (slice_set s.views id v)) × (told_pass v ≡ u)). subst (λ (z : View M). Knows k.world k.owner j z) now.1 (knows_told k.world k.owner id j v (k.knows id v view at_table)))
+        (at_end (slice_set s.views id v) (told_pass v) u j e);
   }
     where
-      some_seats : v.seat < w.seats → 0 < w.seats
-      some_seats h = omega arith
+      before : (j : ℕ) (u : View M) → get_elem? (slice_set s.views id v) j ≡ some u → 0 < u.threads → Knows k.world k.owner j u
+      before j u e t = ⊎_elim
+          (λ (a : (j ≡ id) × (v ≡ u)). subst (λ (z : ℕ × (View M)). Knows k.world k.owner z.0 z.1) (λ i. (sym a.0 i, a.1 i)) (k.knows id v view at_table))
+          (λ (a : (j ≢ id) × (get_elem? s.views j ≡ some u)). k.knows j u a.1 t)
+          (at_set s.views id j v u e)
 
-  knows_heard : (id other : ℕ) (v u : View) → Knows w owner id v → Knows w owner other u → Knows w owner id (heard_pass v u)
-  knows_heard id other v u k l = record {
-    threads = k.threads;
-    rows = k.rows;
-    passes = k.passes;
-    seat = k.seat;
-    undealt = λ t h d. let a = k.undealt t h d in (a.0, a.1, (λ n. a.2 (λ o. n (has_left v.seen.opened u.seen.opened _ o))), a.3, λ n b e same. has_left v.seen.bound u.seen.bound (n, b) (a.4 n b e same));
-    mine = k.mine;
-    calm = k.calm;
-    staged = k.staged;
-    fresh = λ r h n. k.fresh r h (λ o. n (has_left v.seen.opened u.seen.opened r o));
-    drafted = k.drafted;
-    opened = λ r h. ⊎_elim (λ (a : Has v.seen.opened r). k.opened r a) (λ (b : Has u.seen.opened r). l.opened r b) (has_either v.seen.opened u.seen.opened r h);
-    read = λ r p x h. ⊎_elim (λ (a : Has v.seen.words (r, p, x)). k.read r p x a) (λ (b : Has u.seen.words (r, p, x)). l.read r p x b) (has_either v.seen.words u.seen.words (r, p, x) h);
-    joined = λ r j h. ⊎_elim (λ (a : Has v.seen.joined (r, j)). k.joined r j a) (λ (b : Has u.seen.joined (r, j)). l.joined r j b) (has_either v.seen.joined u.seen.joined (r, j) h);
-    taken = λ r h. ⊎_elim (λ (a : Has v.seen.taken r). k.taken r a) (λ (b : Has u.seen.taken r). l.taken r b) (has_either v.seen.taken u.seen.taken r h);
-    bound = λ n b h. ⊎_elim (λ (a : Has v.seen.bound (n, b)). k.bound n b a) (λ (c : Has u.seen.bound (n, b)). l.bound n b c) (has_either v.seen.bound u.seen.bound (n, b) h);
-    binds = λ n b e h. has_left v.seen.bound u.seen.bound (n, b) (k.binds n b e h);
+  pub hear_allowed : {S : Type 0} (shape : Shape) (id : ℕ) (v : View M) (other : ℕ) (w : View M) → 0 < v.threads → 0 < w.threads → w.made ≡ [] → Joins {S = S} (Keeps shape) id v other w (heard_pass v w) spent_pass
+  hear_allowed shape id v other w at_table told_at nothing s k view apart told = record {
+    few_threads = k.few_threads;
+    few_rows = k.few_rows;
+    moves = k.moves;
+    interleaved = same_made k.moves (slice_set s.views id (heard_pass v w)) other w spent_pass told
+        (same_made k.moves s.views id v (heard_pass v w) view k.interleaved refl) (ap (at_seat w.seat) nothing);
+    world = k.world;
+    played = k.played;
+    table = k.table;
+    owner = k.owner;
+    knows = λ j u e t. ⊎_elim
+        (λ (a : (j ≡ other) × (spent_pass ≡ u)). let z : u.threads ≡ 0 = ap (λ (y : View M). y.threads) (sym a.1) in absurd (omega arith))
+        (λ (a : (j ≢ other) × (get_elem? (slice_set s.views id (heard_pass v w)) j ≡ some u)). before j u a.1 t)
+        (at_set (slice_set s.views id (heard_pass v w)) other j spent_pass u e);
   }
+    where
+      his : Knows k.world k.owner other w
+      his = ⊎_elim
+          (λ (a : (other ≡ id) × (heard_pass v w ≡ w)). absurd (apart a.0))
+          (λ (a : (other ≢ id) × (get_elem? s.views other ≡ some w)). k.knows other w a.1 told_at)
+          (at_set s.views id other (heard_pass v w) w told)
 
-pub tell_allowed : {S : Type 0} (shape : Shape) (id : ℕ) (v : View) → 0 < v.threads → Splits {S = S} (Keeps shape) id v v (told_pass v)
-tell_allowed shape id v at_table s k view = record {
-  few_threads = k.few_threads;
-  few_rows = k.few_rows;
-  moves = k.moves;
-  interleaved = one_more_pass k.moves (slice_set s.views id v) (told_pass v) (same_made k.moves s.views id v v view k.interleaved refl) refl;
-  world = k.world;
-  played = k.played;
-  table = k.table;
-  owner = k.owner;
-  knows = λ j u e t. ⊎_elim
-      (λ old. before j u old t)
-      (λ (now : (j ≡ length (slice_set s.views id v)) × (told_pass v ≡ u)). subst (λ (z : View). Knows k.world k.owner j z) now.1 (knows_told k.world k.owner id j v (k.knows id v view at_table)))
-      (at_end (slice_set s.views id v) (told_pass v) u j e);
-}
-  where
-    before : (j : ℕ) (u : View) → get_elem? (slice_set s.views id v) j ≡ some u → 0 < u.threads → Knows k.world k.owner j u
-    before j u e t = ⊎_elim
-        (λ (a : (j ≡ id) × (v ≡ u)). subst (λ (z : ℕ × View). Knows k.world k.owner z.0 z.1) (λ i. (sym a.0 i, a.1 i)) (k.knows id v view at_table))
-        (λ (a : (j ≢ id) × (get_elem? s.views j ≡ some u)). k.knows j u a.1 t)
-        (at_set s.views id j v u e)
-
-pub hear_allowed : {S : Type 0} (shape : Shape) (id : ℕ) (v : View) (other : ℕ) (w : View) → 0 < v.threads → 0 < w.threads → w.made ≡ [] → Joins {S = S} (Keeps shape) id v other w (heard_pass v w) spent_pass
-hear_allowed shape id v other w at_table told_at nothing s k view apart told = record {
-  few_threads = k.few_threads;
-  few_rows = k.few_rows;
-  moves = k.moves;
-  interleaved = same_made k.moves (slice_set s.views id (heard_pass v w)) other w spent_pass told
-      (same_made k.moves s.views id v (heard_pass v w) view k.interleaved refl) (ap (at_seat w.seat) nothing);
-  world = k.world;
-  played = k.played;
-  table = k.table;
-  owner = k.owner;
-  knows = λ j u e t. ⊎_elim
-      (λ (a : (j ≡ other) × (spent_pass ≡ u)). let z : u.threads ≡ 0 = ap (λ (y : View). y.threads) (sym a.1) in absurd (omega arith))
-      (λ (a : (j ≢ other) × (get_elem? (slice_set s.views id (heard_pass v w)) j ≡ some u)). before j u a.1 t)
-      (at_set (slice_set s.views id (heard_pass v w)) other j spent_pass u e);
-}
-  where
-    his : Knows k.world k.owner other w
-    his = ⊎_elim
-        (λ (a : (other ≡ id) × (heard_pass v w ≡ w)). absurd (apart a.0))
-        (λ (a : (other ≢ id) × (get_elem? s.views other ≡ some w)). k.knows other w a.1 told_at)
-        (at_set s.views id other (heard_pass v w) w told)
-
-    before : (j : ℕ) (u : View) → get_elem? (slice_set s.views id (heard_pass v w)) j ≡ some u → 0 < u.threads → Knows k.world k.owner j u
-    before j u e t = ⊎_elim
-        (λ (a : (j ≡ id) × (heard_pass v w ≡ u)). subst (λ (z : ℕ × View). Knows k.world k.owner z.0 z.1) (λ i. (sym a.0 i, a.1 i)) (knows_heard k.world k.owner id other v w (k.knows id v view at_table) his))
-        (λ (a : (j ≢ id) × (get_elem? s.views j ≡ some u)). k.knows j u a.1 t)
-        (at_set s.views id j (heard_pass v w) u e)
+      before : (j : ℕ) (u : View M) → get_elem? (slice_set s.views id (heard_pass v w)) j ≡ some u → 0 < u.threads → Knows k.world k.owner j u
+      before j u e t = ⊎_elim
+          (λ (a : (j ≡ id) × (heard_pass v w ≡ u)). subst (λ (z : ℕ × (View M)). Knows k.world k.owner z.0 z.1) (λ i. (sym a.0 i, a.1 i)) (knows_heard k.world k.owner id other v w (k.knows id v view at_table) his))
+          (λ (a : (j ≢ id) × (get_elem? s.views j ≡ some u)). k.knows j u a.1 t)
+          (at_set s.views id j (heard_pass v w) u e)

@@ -79,9 +79,10 @@ learns_bound n b s = record {
     only x (inl e) = inr (ap (λ (z : NackName × Binding). z.0) (sym e))
     only x (inr h) = inl h
 
-pub learns_nack : (n : NackName) (o : Option Binding) (v : View) → LearnsOf (λ q. ⊥) (λ m. m ≡ n) v.seen (saw_nack n o v).seen
-learns_nack n None v = learns_nothing (λ q. ⊥) (λ m. m ≡ n) v.seen
-learns_nack n (Some b) v = learns_bound n b v.seen
+module _ {M : Type 0} where
+  pub learns_nack : (n : NackName) (o : Option Binding) (v : View M) → LearnsOf (λ q. ⊥) (λ m. m ≡ n) v.seen (saw_nack n o v).seen
+  learns_nack n None v = learns_nothing (λ q. ⊥) (λ m. m ≡ n) v.seen
+  learns_nack n (Some b) v = learns_bound n b v.seen
 
 -- a look adds what it finds of its row
 pub learns_look : (r : Row) (c : Cell) (s : Seen) → Learns (λ q. q ≡ r) s (see_cell r c s)

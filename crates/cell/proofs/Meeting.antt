@@ -202,14 +202,15 @@ attempted_before About s t u mine own other partner Mine l h = h
 attempted_before About s t u mine own other partner Busy l h = (subst (λ (rows : List Row). ¬ Has rows other) l.held h.0, λ seen. h.1 (seen.0, l.joined.0 (other, seen.0) seen.1))
 attempted_before About s t u mine own other partner Unfit l h = h
 
--- a claim that found its row not Waiting found it committed
-pub claim_found : (v : View) (r : Row) (c : Cell) → Has v.seen.held r → Has v.seen.opened r → v.stage ≡ Resting → c ≢ Waiting → Agrees v r c → SawCommitted (see_cell r c v.seen) r
-claim_found v r c held opened resting w agree =
-    saw_committed r c v.seen (agree.0.opened opened) w (λ e. subst (λ (s : Stage). IsClaimer s r) resting (agree.1 held e))
+module _ {M : Type 0} where
+  -- a claim that found its row not Waiting found it committed
+  pub claim_found : (v : View M) (r : Row) (c : Cell) → Has v.seen.held r → Has v.seen.opened r → v.stage ≡ Resting → c ≢ Waiting → Agrees v r c → SawCommitted (see_cell r c v.seen) r
+  claim_found v r c held opened resting w agree =
+      saw_committed r c v.seen (agree.0.opened opened) w (λ e. subst (λ (s : Stage). IsClaimer s r) resting (agree.1 held e))
 
--- a join that found its row neither Waiting nor Claimed found it committed
-pub join_found : (v : View) (mine r : Row) (own partner : ℕ) (j : Joined) (c : Cell) → CanJoin v.seen mine own r partner j → c ≢ Waiting → c ≢ Claimed → Agrees v r c → SawCommitted (see_cell r c v.seen) r
-join_found v mine r own partner j c can w h agree = saw_committed r c v.seen (agree.0.read 1 can.read_theirs.count can.read_theirs.counted) w h
+  -- a join that found its row neither Waiting nor Claimed found it committed
+  pub join_found : (v : View M) (mine r : Row) (own partner : ℕ) (j : Joined) (c : Cell) → CanJoin v.seen mine own r partner j → c ≢ Waiting → c ≢ Claimed → Agrees v r c → SawCommitted (see_cell r c v.seen) r
+  join_found v mine r own partner j c can w h agree = saw_committed r c v.seen (agree.0.read 1 can.read_theirs.count can.read_theirs.counted) w h
 
 -- A RESULT
 pub from_none : {A : Type 0} (x : Option A) (P : Type 0) → IfNone x P → x ≡ None → P

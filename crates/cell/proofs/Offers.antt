@@ -182,10 +182,11 @@ pub record ReadOffer (s : Seen) (r : Row) (n count a b c d : ℕ) : Type 0 where
   pub third : 3 ≤ atoms_behind a → Has s.words (r, 5 + 4 * n, d)
   pub atoms : (is_some (atom_of b) ≡ true) × (is_some (atom_of c) ≡ true) × (is_some (atom_of d) ≡ true)
 
--- the number of offers was read, and then the head of one
-pub count_and_head : (v v1 v2 : View) (r : Row) (n count a : ℕ) → v1 ≡ read_word r 1 count v → v2 ≡ read_word r (2 + 4 * n) a v1 → Has v2.seen.words (r, 1, count) × Has v2.seen.words (r, 2 + 4 * n, a)
-count_and_head v v1 v2 r n count a e f =
-    subst (λ (w : View). Has w.seen.words (r, 1, count) × Has w.seen.words (r, 2 + 4 * n, a)) (sym (f ∙ ap (read_word r (2 + 4 * n) a) e)) (inr (inl refl), inl refl)
+module _ {M : Type 0} where
+  -- the number of offers was read, and then the head of one
+  pub count_and_head : (v v1 v2 : View M) (r : Row) (n count a : ℕ) → v1 ≡ read_word r 1 count v → v2 ≡ read_word r (2 + 4 * n) a v1 → Has v2.seen.words (r, 1, count) × Has v2.seen.words (r, 2 + 4 * n, a)
+  count_and_head v v1 v2 r n count a e f =
+      subst (λ (w : View M). Has w.seen.words (r, 1, count) × Has w.seen.words (r, 2 + 4 * n, a)) (sym (f ∙ ap (read_word r (2 + 4 * n) a) e)) (inr (inl refl), inl refl)
 
 -- the head was read, and then each atom that it says
 pub offer_words : (s t u v : Seen) (r : Row) (n count a b c d : ℕ) (h : Head) (atoms : ℕ) → Has s.words (r, 1, count) → Has s.words (r, 2 + 4 * n, a) → head_of a ≡ Some h → atoms ≡ atoms_told h.direction
@@ -239,9 +240,10 @@ have_seen : (s : Seen) (r : Row) (n : ℕ) (o : Offer) → SeesOffer s r n o →
 have_seen s r n o (inl h) = inl h
 have_seen s r n o (inr h) = inr h.1
 
-pub seen_below : (threads rows : ℕ) (v w : View) (r : Row) (n : ℕ) (count : ℕ) (o : Offer) → w ≡ read_word r 1 count v → Coherent threads rows w.seen → SeesOffer w.seen r n o → n < unwrap_or (count_of count) 0
-seen_below threads rows v w r n count o e agree seen =
-    same_count threads rows w.seen agree r n o (have_seen w.seen r n o seen) count (subst (λ (u : View). Has u.seen.words (r, 1, count)) (sym e) (inl refl))
+module _ {M : Type 0} where
+  pub seen_below : (threads rows : ℕ) (v w : View M) (r : Row) (n : ℕ) (count : ℕ) (o : Offer) → w ≡ read_word r 1 count v → Coherent threads rows w.seen → SeesOffer w.seen r n o → n < unwrap_or (count_of count) 0
+  seen_below threads rows v w r n count o e agree seen =
+      same_count threads rows w.seen agree r n o (have_seen w.seen r n o seen) count (subst (λ (u : View M). Has u.seen.words (r, 1, count)) (sym e) (inl refl))
 
 -- and that it is the offer that was read
 pub seen_same : (threads rows : ℕ) (s : Seen) (r : Row) (n count a b c d : ℕ) (o : Offer) → ReadOffer s r n count a b c d → Coherent threads rows s → SeesOffer s r n o → offer_of a b c d ≡ Some o

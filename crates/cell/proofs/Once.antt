@@ -134,30 +134,31 @@ taken_by : (moves : List Move) (id : ℕ) (at : Seat) (r : Row) → Has (steps_b
 taken_by [] id at r h = absurd h
 taken_by (m ∷ moves) id at r h = taken_case m moves id at r (eqb m.pass id) refl (λ g. taken_by moves id at r g) h
 
-pub taken_once : (w v : World) (moves : List Move) (views : List View) (i j : ℕ) (a b : View) (r : Row) → Kept w → Plays w (in_order moves) v → Interleaves moves views
-    → get_elem? views i ≡ some a → get_elem? views j ≡ some b → Has a.made (Take r) → Has b.made (Take r) → i ≡ j
-taken_once w v moves views i j a b r kept p history at also g h =
-    let mine : Has (steps_by i moves) (record { 0 = a.seat }, Take r) = subst (λ (l : List (Seat × Step)). Has l (record { 0 = a.seat }, Take r)) (sym (history.made i a at)) (has_at_seat a.seat a.made (Take r) g) in
-    let theirs : Has (steps_by j moves) (record { 0 = b.seat }, Take r) = subst (λ (l : List (Seat × Step)). Has l (record { 0 = b.seat }, Take r)) (sym (history.made j b also)) (has_at_seat b.seat b.made (Take r) h) in
-    one_taker w v moves i j r kept p (taken_by moves i _ r mine) (taken_by moves j _ r theirs)
+module _ {M : Type 0} where
+  pub taken_once : (w v : World) (moves : List Move) (views : List (View M)) (i j : ℕ) (a b : View M) (r : Row) → Kept w → Plays w (in_order moves) v → Interleaves moves views
+      → get_elem? views i ≡ some a → get_elem? views j ≡ some b → Has a.made (Take r) → Has b.made (Take r) → i ≡ j
+  taken_once w v moves views i j a b r kept p history at also g h =
+      let mine : Has (steps_by i moves) (record { 0 = a.seat }, Take r) = subst (λ (l : List (Seat × Step)). Has l (record { 0 = a.seat }, Take r)) (sym (history.made i a at)) (has_at_seat a.seat a.made (Take r) g) in
+      let theirs : Has (steps_by j moves) (record { 0 = b.seat }, Take r) = subst (λ (l : List (Seat × Step)). Has l (record { 0 = b.seat }, Take r)) (sym (history.made j b also)) (has_at_seat b.seat b.made (Take r) h) in
+      one_taker w v moves i j r kept p (taken_by moves i _ r mine) (taken_by moves j _ r theirs)
 
--- WHERE NO PASS HAS MADE A STEP, there is no history
-view_there : (views : List View) (id : ℕ) → ((v : View) × (get_elem? views id ≡ some v)) ⊎ (length views ≤ id)
-view_there [] id = inr (omega arith)
-view_there (v ∷ views) zero = inl (v, refl)
-view_there (v ∷ views) (suc id) = ⊎_elim (λ h. inl h) (λ (h : length views ≤ id). inr (omega arith)) (view_there views id)
+  -- WHERE NO PASS HAS MADE A STEP, there is no history
+  view_there : (views : List (View M)) (id : ℕ) → ((v : View M) × (get_elem? views id ≡ some v)) ⊎ (length views ≤ id)
+  view_there [] id = inr (omega arith)
+  view_there (v ∷ views) zero = inl (v, refl)
+  view_there (v ∷ views) (suc id) = ⊎_elim (λ h. inl h) (λ (h : length views ≤ id). inr (omega arith)) (view_there views id)
 
-pub nothing_yet : (moves : List Move) (views : List View) → Interleaves moves views → ((id : ℕ) (v : View) → get_elem? views id ≡ some v → v.made ≡ []) → moves ≡ []
-nothing_yet [] views history none = refl
-nothing_yet (m ∷ moves) views history none =
-    let by_nobody : steps_by m.pass (m ∷ moves) ≡ [] = ⊎_elim
-    (λ (h : (v : View) × (get_elem? views m.pass ≡ some v)). history.made m.pass h.0 h.1 ∙ ap (at_seat h.0.seat) (none m.pass h.0 h.1))
-    (λ (h : length views ≤ m.pass). history.no_others m.pass h)
-    (view_there views m.pass) in
-    let own : steps_by m.pass (m ∷ moves) ≡ (m.seat, m.step) ∷ steps_by m.pass moves =
-    ap (λ (b : Bool). cond b ((m.seat, m.step) ∷ steps_by m.pass moves) (steps_by m.pass moves)) (eq-eqb m.pass m.pass refl) in
-    let bad : (m.seat, m.step) ∷ steps_by m.pass moves ≡ [] = sym own ∙ by_nobody in
-    cc
+  pub nothing_yet : (moves : List Move) (views : List (View M)) → Interleaves moves views → ((id : ℕ) (v : View M) → get_elem? views id ≡ some v → v.made ≡ []) → moves ≡ []
+  nothing_yet [] views history none = refl
+  nothing_yet (m ∷ moves) views history none =
+      let by_nobody : steps_by m.pass (m ∷ moves) ≡ [] = ⊎_elim
+      (λ (h : (v : View M) × (get_elem? views m.pass ≡ some v)). history.made m.pass h.0 h.1 ∙ ap (at_seat h.0.seat) (none m.pass h.0 h.1))
+      (λ (h : length views ≤ m.pass). history.no_others m.pass h)
+      (view_there views m.pass) in
+      let own : steps_by m.pass (m ∷ moves) ≡ (m.seat, m.step) ∷ steps_by m.pass moves =
+      ap (λ (b : Bool). cond b ((m.seat, m.step) ∷ steps_by m.pass moves) (steps_by m.pass moves)) (eq-eqb m.pass m.pass refl) in
+      let bad : (m.seat, m.step) ∷ steps_by m.pass moves ≡ [] = sym own ∙ by_nobody in
+      cc
 
 -- the words of the start
 pub first_cell : (threads rows passes : ℕ) (r : Row) → cell_at (start_world threads rows passes).table r ≡ Fresh

@@ -86,73 +86,74 @@ module _ (w : World) (x : Row) (c : Cell) (owner : Row → ℕ) (k : Kept w)
   stays_claimed : (m : Row) → cell_at w.table m ≡ Claimed → row_eq m x ≡ false → cell_at (with_cell w.table x c) m ≡ Claimed
   stays_claimed m h e = same_cell m e ∙ h
 
-  module _ (id : ℕ) (v : View) (knows : Knows w owner id v)
-      -- where the pass owns x, its open row is joined by another
-      (joined_by_other : owner x ≡ id → (cell_at w.table x ≡ Waiting) × (is_some (joined_of c) ≡ true))
-      -- no claimed row of the pass is named by the new cell
-      (unnamed : (m : Row) → owner m ≡ id → cell_at w.table m ≡ Claimed → names (joined_of c) m ≡ false) where
-    claimed_other : (m : Row) → owner m ≡ id → cell_at w.table m ≡ Claimed → row_eq m x ≡ false
-    claimed_other m o h = row_ne m x (λ e.
-        let waits = (joined_by_other (ap owner (sym e) ∙ o)).0 in
-        let bad : Waiting ≡ Claimed = sym waits ∙ ap (cell_at w.table) (sym e) ∙ h in
-        cc)
-
-    staged_kept : (stage : Stage) → Staged w owner id stage → Staged (with_table w (with_cell w.table x c)) owner id stage
-    staged_kept Resting h = tt
-    staged_kept (Claims m) h = (
-      h.0,
-      stays_claimed m h.1 (claimed_other m h.0 h.1),
-      λ q. ⊎_elim
-          (λ (e : q ≡ x). ap (λ (y : Row). names (joined_at (with_cell w.table x c) y) m) e ∙ ap (λ (d : Cell). names (joined_of d) m) at_x ∙ unnamed m h.0 h.1)
-          (λ (e : row_eq q x ≡ false). ap (λ (d : Cell). names (joined_of d) m) (same_cell q e) ∙ h.2 q)
-          (row_cases q x),
-    )
-    staged_kept (Joins m o j) h = (h.0, stays_claimed m h.1 (claimed_other m h.0 h.1), stays_joined o j h.2, h.3)
-
-    pub others_cell : Knows (with_table w (with_cell w.table x c)) owner id v
-    others_cell = record {
-      threads = knows.threads ∙ sym size_kept.0;
-      rows = knows.rows ∙ sym size_kept.1;
-      passes = knows.passes;
-      seat = knows.seat;
-      undealt = λ t h d.
-          let u = knows.undealt t (subst (λ (n : ℕ). t < n) size_kept.0 h) d in (
-            u.0,
-            holder_kept w (with_cell w.table x c) (first_row t) size_kept.0 size_kept.1 ∙ u.1,
-            λ n. ⊎_elim
-                (λ (y : first_row t ≡ x).
-                let waits = (joined_by_other (ap owner (sym y) ∙ u.0)).0 in
-                let bad : Fresh ≡ Waiting = sym (u.2 n) ∙ ap (cell_at w.table) y ∙ waits in
-                cc)
-                (λ (y : row_eq (first_row t) x ≡ false). same_cell (first_row t) y ∙ u.2 n)
-                (row_cases (first_row t) x),
-            (λ n. stays_count (first_row t) _ u.1 (u.3 n)),
-            λ n b e. u.4 n b (sym (stays_bound n) ∙ e),
-          );
-      mine = λ r h. let m = knows.mine r h in (m.0, holder_kept w (with_cell w.table x c) r size_kept.0 size_kept.1 ∙ m.1);
-      calm = λ r h e. knows.calm r h (⊎_elim
-          (λ (y : r ≡ x).
-          let some = (joined_by_other (ap owner (sym y) ∙ (knows.mine r h).0)).1 in
-          let none : joined_of c ≡ None = ap joined_of (sym at_x ∙ ap (cell_at (with_cell w.table x c)) (sym y) ∙ e) in
-          absurd (false≢true (sym (ap (λ (o : Option Joined). is_some o) none) ∙ some)))
-          (λ (y : row_eq r x ≡ false). sym (same_cell r y) ∙ e)
-          (row_cases r x));
-      staged = staged_kept v.stage knows.staged;
-      fresh = λ r h n. ⊎_elim
-          (λ (y : r ≡ x).
-          let waits = (joined_by_other (ap owner (sym y) ∙ (knows.mine r h).0)).0 in
-          let bad : Fresh ≡ Waiting = sym (knows.fresh r h n) ∙ ap (cell_at w.table) y ∙ waits in
+  module _ {M : Type 0} where
+    module _ (id : ℕ) (v : View M) (knows : Knows w owner id v)
+        -- where the pass owns x, its open row is joined by another
+        (joined_by_other : owner x ≡ id → (cell_at w.table x ≡ Waiting) × (is_some (joined_of c) ≡ true))
+        -- no claimed row of the pass is named by the new cell
+        (unnamed : (m : Row) → owner m ≡ id → cell_at w.table m ≡ Claimed → names (joined_of c) m ≡ false) where
+      claimed_other : (m : Row) → owner m ≡ id → cell_at w.table m ≡ Claimed → row_eq m x ≡ false
+      claimed_other m o h = row_ne m x (λ e.
+          let waits = (joined_by_other (ap owner (sym e) ∙ o)).0 in
+          let bad : Waiting ≡ Claimed = sym waits ∙ ap (cell_at w.table) (sym e) ∙ h in
           cc)
-          (λ (y : row_eq r x ≡ false). same_cell r y ∙ knows.fresh r h n)
-          (row_cases r x);
-      drafted = λ r p d h. let k = knows.drafted r p d h in (k.0, k.1, k.2, holder_kept w (with_cell w.table x c) r size_kept.0 size_kept.1 ∙ k.3, stays_word r p (held_row w r _ k.3) k.2 k.1 ∙ k.4);
-      opened = λ r h. stays_open r (knows.opened r h);
-      read = λ r p d h. let k = knows.read r p d h in (stays_open r k.0, k.1, k.2, stays_word r p (row_of_open w.table r k.0) k.2 k.1 ∙ k.3);
-      joined = λ r j h. stays_joined r j (knows.joined r j h);
-      taken = λ r h. stays_taken r (knows.taken r h);
-      bound = λ n b h. stays_bound n ∙ knows.bound n b h;
-      binds = λ n b e. knows.binds n b (sym (stays_bound n) ∙ e);
-    }
+
+      staged_kept : (stage : Stage) → Staged w owner id stage → Staged (with_table w (with_cell w.table x c)) owner id stage
+      staged_kept Resting h = tt
+      staged_kept (Claims m) h = (
+        h.0,
+        stays_claimed m h.1 (claimed_other m h.0 h.1),
+        λ q. ⊎_elim
+            (λ (e : q ≡ x). ap (λ (y : Row). names (joined_at (with_cell w.table x c) y) m) e ∙ ap (λ (d : Cell). names (joined_of d) m) at_x ∙ unnamed m h.0 h.1)
+            (λ (e : row_eq q x ≡ false). ap (λ (d : Cell). names (joined_of d) m) (same_cell q e) ∙ h.2 q)
+            (row_cases q x),
+      )
+      staged_kept (Joins m o j) h = (h.0, stays_claimed m h.1 (claimed_other m h.0 h.1), stays_joined o j h.2, h.3)
+
+      pub others_cell : Knows (with_table w (with_cell w.table x c)) owner id v
+      others_cell = record {
+        threads = knows.threads ∙ sym size_kept.0;
+        rows = knows.rows ∙ sym size_kept.1;
+        passes = knows.passes;
+        seat = knows.seat;
+        undealt = λ t h d.
+            let u = knows.undealt t (subst (λ (n : ℕ). t < n) size_kept.0 h) d in (
+              u.0,
+              holder_kept w (with_cell w.table x c) (first_row t) size_kept.0 size_kept.1 ∙ u.1,
+              λ n. ⊎_elim
+                  (λ (y : first_row t ≡ x).
+                  let waits = (joined_by_other (ap owner (sym y) ∙ u.0)).0 in
+                  let bad : Fresh ≡ Waiting = sym (u.2 n) ∙ ap (cell_at w.table) y ∙ waits in
+                  cc)
+                  (λ (y : row_eq (first_row t) x ≡ false). same_cell (first_row t) y ∙ u.2 n)
+                  (row_cases (first_row t) x),
+              (λ n. stays_count (first_row t) _ u.1 (u.3 n)),
+              λ n b e. u.4 n b (sym (stays_bound n) ∙ e),
+            );
+        mine = λ r h. let m = knows.mine r h in (m.0, holder_kept w (with_cell w.table x c) r size_kept.0 size_kept.1 ∙ m.1);
+        calm = λ r h e. knows.calm r h (⊎_elim
+            (λ (y : r ≡ x).
+            let some = (joined_by_other (ap owner (sym y) ∙ (knows.mine r h).0)).1 in
+            let none : joined_of c ≡ None = ap joined_of (sym at_x ∙ ap (cell_at (with_cell w.table x c)) (sym y) ∙ e) in
+            absurd (false≢true (sym (ap (λ (o : Option Joined). is_some o) none) ∙ some)))
+            (λ (y : row_eq r x ≡ false). sym (same_cell r y) ∙ e)
+            (row_cases r x));
+        staged = staged_kept v.stage knows.staged;
+        fresh = λ r h n. ⊎_elim
+            (λ (y : r ≡ x).
+            let waits = (joined_by_other (ap owner (sym y) ∙ (knows.mine r h).0)).0 in
+            let bad : Fresh ≡ Waiting = sym (knows.fresh r h n) ∙ ap (cell_at w.table) y ∙ waits in
+            cc)
+            (λ (y : row_eq r x ≡ false). same_cell r y ∙ knows.fresh r h n)
+            (row_cases r x);
+        drafted = λ r p d h. let k = knows.drafted r p d h in (k.0, k.1, k.2, holder_kept w (with_cell w.table x c) r size_kept.0 size_kept.1 ∙ k.3, stays_word r p (held_row w r _ k.3) k.2 k.1 ∙ k.4);
+        opened = λ r h. stays_open r (knows.opened r h);
+        read = λ r p d h. let k = knows.read r p d h in (stays_open r k.0, k.1, k.2, stays_word r p (row_of_open w.table r k.0) k.2 k.1 ∙ k.3);
+        joined = λ r j h. stays_joined r j (knows.joined r j h);
+        taken = λ r h. stays_taken r (knows.taken r h);
+        bound = λ n b h. stays_bound n ∙ knows.bound n b h;
+        binds = λ n b e. knows.binds n b (sym (stays_bound n) ∙ e);
+      }
 
   -- the cells after it
   pub cell_now : cell_at (with_cell w.table x c) x ≡ c
@@ -161,130 +162,132 @@ module _ (w : World) (x : Row) (c : Cell) (owner : Row → ℕ) (k : Kept w)
   pub cell_else : (r : Row) → row_eq r x ≡ false → cell_at (with_cell w.table x c) r ≡ cell_at w.table r
   cell_else = same_cell
 
-  -- the pass that writes the cell
-  pub own_cell : (id : ℕ) (v : View) (stage : Stage) → Knows w owner id v
-      → Staged (with_table w (with_cell w.table x c)) owner id stage
-      → ((r : Row) → Has v.seen.held r → cell_at (with_cell w.table x c) r ≡ Claimed → IsClaimer stage r)
-      → Knows (with_table w (with_cell w.table x c)) owner id (turned stage x v)
-  own_cell id v stage knows staged calm = record {
-    threads = knows.threads ∙ sym size_kept.0;
-    rows = knows.rows ∙ sym size_kept.1;
-    passes = knows.passes;
-    seat = knows.seat;
-    undealt = λ t h d.
-        let u = knows.undealt t (subst (λ (n : ℕ). t < n) size_kept.0 h) d in
-        (u.0, holder_kept w (with_cell w.table x c) (first_row t) size_kept.0 size_kept.1 ∙ u.1, λ n. same_cell (first_row t) (row_ne (first_row t) x (λ e. n (inl (sym e)))) ∙ u.2 (λ o. n (inr o)), (λ n. stays_count (first_row t) _ u.1 (u.3 n)), λ n b e. u.4 n b (sym (stays_bound n) ∙ e));
-    mine = λ r h. let m = knows.mine r h in (m.0, holder_kept w (with_cell w.table x c) r size_kept.0 size_kept.1 ∙ m.1);
-    calm = calm;
-    staged = staged;
-    fresh = λ r h n. same_cell r (row_ne r x (λ e. n (inl (sym e)))) ∙ knows.fresh r h (λ o. n (inr o));
-    drafted = λ r p d h. let k = knows.drafted r p d h in (k.0, k.1, k.2, holder_kept w (with_cell w.table x c) r size_kept.0 size_kept.1 ∙ k.3, stays_word r p (held_row w r _ k.3) k.2 k.1 ∙ k.4);
-    opened = λ r h. opened_now r h;
-    read = λ r p d h. let k = knows.read r p d h in (stays_open r k.0, k.1, k.2, stays_word r p (row_of_open w.table r k.0) k.2 k.1 ∙ k.3);
-    joined = λ r j h. stays_joined r j (knows.joined r j h);
-    taken = λ r h. stays_taken r (knows.taken r h);
-    bound = λ n b h. stays_bound n ∙ knows.bound n b h;
-    binds = λ n b e. knows.binds n b (sym (stays_bound n) ∙ e);
+  module _ {M : Type 0} where
+    -- the pass that writes the cell
+    pub own_cell : (id : ℕ) (v : View M) (stage : Stage) → Knows w owner id v
+        → Staged (with_table w (with_cell w.table x c)) owner id stage
+        → ((r : Row) → Has v.seen.held r → cell_at (with_cell w.table x c) r ≡ Claimed → IsClaimer stage r)
+        → Knows (with_table w (with_cell w.table x c)) owner id (turned stage x v)
+    own_cell id v stage knows staged calm = record {
+      threads = knows.threads ∙ sym size_kept.0;
+      rows = knows.rows ∙ sym size_kept.1;
+      passes = knows.passes;
+      seat = knows.seat;
+      undealt = λ t h d.
+          let u = knows.undealt t (subst (λ (n : ℕ). t < n) size_kept.0 h) d in
+          (u.0, holder_kept w (with_cell w.table x c) (first_row t) size_kept.0 size_kept.1 ∙ u.1, λ n. same_cell (first_row t) (row_ne (first_row t) x (λ e. n (inl (sym e)))) ∙ u.2 (λ o. n (inr o)), (λ n. stays_count (first_row t) _ u.1 (u.3 n)), λ n b e. u.4 n b (sym (stays_bound n) ∙ e));
+      mine = λ r h. let m = knows.mine r h in (m.0, holder_kept w (with_cell w.table x c) r size_kept.0 size_kept.1 ∙ m.1);
+      calm = calm;
+      staged = staged;
+      fresh = λ r h n. same_cell r (row_ne r x (λ e. n (inl (sym e)))) ∙ knows.fresh r h (λ o. n (inr o));
+      drafted = λ r p d h. let k = knows.drafted r p d h in (k.0, k.1, k.2, holder_kept w (with_cell w.table x c) r size_kept.0 size_kept.1 ∙ k.3, stays_word r p (held_row w r _ k.3) k.2 k.1 ∙ k.4);
+      opened = λ r h. opened_now r h;
+      read = λ r p d h. let k = knows.read r p d h in (stays_open r k.0, k.1, k.2, stays_word r p (row_of_open w.table r k.0) k.2 k.1 ∙ k.3);
+      joined = λ r j h. stays_joined r j (knows.joined r j h);
+      taken = λ r h. stays_taken r (knows.taken r h);
+      bound = λ n b h. stays_bound n ∙ knows.bound n b h;
+      binds = λ n b e. knows.binds n b (sym (stays_bound n) ∙ e);
+    }
+      where
+        opened_now : (r : Row) → Has (x ∷ v.seen.opened) r → is_fresh (cell_at (with_cell w.table x c) r) ≡ false
+        opened_now r (inl e) = ap (λ (y : Row). is_fresh (cell_at (with_cell w.table x c) y)) (sym e) ∙ ap is_fresh at_x ∙ open_c
+        opened_now r (inr h) = stays_open r (knows.opened r h)
+
+module _ {M : Type 0} where
+  -- LEARNING, with no change of the table
+
+  know_more : (w : World) (owner : Row → ℕ) (id : ℕ) (v : View M) (r : Row) (js : List (Row × Joined)) (ts : List Row) → Knows w owner id v → is_fresh (cell_at w.table r) ≡ false
+      → ((q : Row) (j : Joined) → Has js (q, j) → joined_at w.table q ≡ Some j)
+      → ((q : Row) → Has ts q → is_taken (cell_at w.table q) ≡ true)
+      → Knows w owner id (at_stage v.stage (record { held = v.seen.held; drafts = v.seen.drafts; opened = r ∷ v.seen.opened; words = v.seen.words; joined = js; taken = ts; bound = v.seen.bound }) v)
+  know_more w owner id v r js ts k f js_true ts_true = record {
+    threads = k.threads;
+    rows = k.rows;
+    passes = k.passes;
+    seat = k.seat;
+    undealt = λ t h d. let u = k.undealt t h d in (u.0, u.1, (λ n. u.2 (λ o. n (inr o))), u.3, u.4);
+    mine = k.mine;
+    calm = k.calm;
+    staged = k.staged;
+    fresh = λ q h n. k.fresh q h (λ o. n (inr o));
+    drafted = k.drafted;
+    opened = λ q h. ⊎_elim (λ (e : r ≡ q). ap (λ (y : Row). is_fresh (cell_at w.table y)) (sym e) ∙ f) (λ (o : Has v.seen.opened q). k.opened q o) h;
+    read = k.read;
+    joined = js_true;
+    taken = ts_true;
+    bound = k.bound;
+    binds = k.binds;
+  }
+
+  pub learn_cell : (w : World) (owner : Row → ℕ) (id : ℕ) (v : View M) (r : Row) (c : Cell) → Knows w owner id v → cell_at w.table r ≡ c → Knows w owner id (saw r c v)
+  learn_cell w owner id v r Fresh k e = k
+  learn_cell w owner id v r Waiting k e = know_more w owner id v r v.seen.joined v.seen.taken k (ap is_fresh e) k.joined k.taken
+  learn_cell w owner id v r Claimed k e = know_more w owner id v r v.seen.joined v.seen.taken k (ap is_fresh e) k.joined k.taken
+  learn_cell w owner id v r (Synched j) k e =
+      know_more w owner id v r ((r, j) ∷ v.seen.joined) v.seen.taken k (ap is_fresh e) (λ q i h. seen q i h) k.taken
+    where
+      seen : (q : Row) (i : Joined) → Has ((r, j) ∷ v.seen.joined) (q, i) → joined_at w.table q ≡ Some i
+      seen q i (inl p) = ap (λ (z : Row × Joined). joined_at w.table z.0) (sym p) ∙ ap joined_of e ∙ ap (λ (z : Row × Joined). Some z.1) p
+      seen q i (inr h) = k.joined q i h
+  learn_cell w owner id v r (Taken j) k e =
+      know_more w owner id v r ((r, j) ∷ v.seen.joined) (r ∷ v.seen.taken) k (ap is_fresh e) (λ q i h. seen q i h) (λ q h. took q h)
+    where
+      seen : (q : Row) (i : Joined) → Has ((r, j) ∷ v.seen.joined) (q, i) → joined_at w.table q ≡ Some i
+      seen q i (inl p) = ap (λ (z : Row × Joined). joined_at w.table z.0) (sym p) ∙ ap joined_of e ∙ ap (λ (z : Row × Joined). Some z.1) p
+      seen q i (inr h) = k.joined q i h
+
+      took : (q : Row) → Has (r ∷ v.seen.taken) q → is_taken (cell_at w.table q) ≡ true
+      took q (inl p) = ap (λ (y : Row). is_taken (cell_at w.table y)) (sym p) ∙ ap is_taken e
+      took q (inr h) = k.taken q h
+
+  pub learn_word : (w : World) (owner : Row → ℕ) (id : ℕ) (v : View M) (r : Row) (p x : ℕ) → Knows w owner id v → is_fresh (cell_at w.table r) ≡ false → 1 ≤ p → p < 34 → word_at w.table r p ≡ x → Knows w owner id (read_word r p x v)
+  learn_word w owner id v r p x k f a b e = record {
+    threads = k.threads;
+    rows = k.rows;
+    passes = k.passes;
+    seat = k.seat;
+    undealt = k.undealt;
+    mine = k.mine;
+    calm = k.calm;
+    staged = k.staged;
+    fresh = k.fresh;
+    drafted = k.drafted;
+    opened = k.opened;
+    read = λ q o y h. seen q o y h;
+    joined = k.joined;
+    taken = k.taken;
+    bound = k.bound;
+    binds = k.binds;
   }
     where
-      opened_now : (r : Row) → Has (x ∷ v.seen.opened) r → is_fresh (cell_at (with_cell w.table x c) r) ≡ false
-      opened_now r (inl e) = ap (λ (y : Row). is_fresh (cell_at (with_cell w.table x c) y)) (sym e) ∙ ap is_fresh at_x ∙ open_c
-      opened_now r (inr h) = stays_open r (knows.opened r h)
+      seen : (q : Row) (o y : ℕ) → Has ((r, p, x) ∷ v.seen.words) (q, o, y) → (is_fresh (cell_at w.table q) ≡ false) × (o < 34) × (1 ≤ o) × (word_at w.table q o ≡ y)
+      seen q o y (inl i) = subst (λ (z : Row × ℕ × ℕ). (is_fresh (cell_at w.table z.0) ≡ false) × (z.1 < 34) × (1 ≤ z.1) × (word_at w.table z.0 z.1 ≡ z.2)) i (f, b, a, e)
+      seen q o y (inr h) = k.read q o y h
 
--- LEARNING, with no change of the table
-
-know_more : (w : World) (owner : Row → ℕ) (id : ℕ) (v : View) (r : Row) (js : List (Row × Joined)) (ts : List Row) → Knows w owner id v → is_fresh (cell_at w.table r) ≡ false
-    → ((q : Row) (j : Joined) → Has js (q, j) → joined_at w.table q ≡ Some j)
-    → ((q : Row) → Has ts q → is_taken (cell_at w.table q) ≡ true)
-    → Knows w owner id (at_stage v.stage (record { held = v.seen.held; drafts = v.seen.drafts; opened = r ∷ v.seen.opened; words = v.seen.words; joined = js; taken = ts; bound = v.seen.bound }) v)
-know_more w owner id v r js ts k f js_true ts_true = record {
-  threads = k.threads;
-  rows = k.rows;
-  passes = k.passes;
-  seat = k.seat;
-  undealt = λ t h d. let u = k.undealt t h d in (u.0, u.1, (λ n. u.2 (λ o. n (inr o))), u.3, u.4);
-  mine = k.mine;
-  calm = k.calm;
-  staged = k.staged;
-  fresh = λ q h n. k.fresh q h (λ o. n (inr o));
-  drafted = k.drafted;
-  opened = λ q h. ⊎_elim (λ (e : r ≡ q). ap (λ (y : Row). is_fresh (cell_at w.table y)) (sym e) ∙ f) (λ (o : Has v.seen.opened q). k.opened q o) h;
-  read = k.read;
-  joined = js_true;
-  taken = ts_true;
-  bound = k.bound;
-  binds = k.binds;
-}
-
-pub learn_cell : (w : World) (owner : Row → ℕ) (id : ℕ) (v : View) (r : Row) (c : Cell) → Knows w owner id v → cell_at w.table r ≡ c → Knows w owner id (saw r c v)
-learn_cell w owner id v r Fresh k e = k
-learn_cell w owner id v r Waiting k e = know_more w owner id v r v.seen.joined v.seen.taken k (ap is_fresh e) k.joined k.taken
-learn_cell w owner id v r Claimed k e = know_more w owner id v r v.seen.joined v.seen.taken k (ap is_fresh e) k.joined k.taken
-learn_cell w owner id v r (Synched j) k e =
-    know_more w owner id v r ((r, j) ∷ v.seen.joined) v.seen.taken k (ap is_fresh e) (λ q i h. seen q i h) k.taken
-  where
-    seen : (q : Row) (i : Joined) → Has ((r, j) ∷ v.seen.joined) (q, i) → joined_at w.table q ≡ Some i
-    seen q i (inl p) = ap (λ (z : Row × Joined). joined_at w.table z.0) (sym p) ∙ ap joined_of e ∙ ap (λ (z : Row × Joined). Some z.1) p
-    seen q i (inr h) = k.joined q i h
-learn_cell w owner id v r (Taken j) k e =
-    know_more w owner id v r ((r, j) ∷ v.seen.joined) (r ∷ v.seen.taken) k (ap is_fresh e) (λ q i h. seen q i h) (λ q h. took q h)
-  where
-    seen : (q : Row) (i : Joined) → Has ((r, j) ∷ v.seen.joined) (q, i) → joined_at w.table q ≡ Some i
-    seen q i (inl p) = ap (λ (z : Row × Joined). joined_at w.table z.0) (sym p) ∙ ap joined_of e ∙ ap (λ (z : Row × Joined). Some z.1) p
-    seen q i (inr h) = k.joined q i h
-
-    took : (q : Row) → Has (r ∷ v.seen.taken) q → is_taken (cell_at w.table q) ≡ true
-    took q (inl p) = ap (λ (y : Row). is_taken (cell_at w.table y)) (sym p) ∙ ap is_taken e
-    took q (inr h) = k.taken q h
-
-pub learn_word : (w : World) (owner : Row → ℕ) (id : ℕ) (v : View) (r : Row) (p x : ℕ) → Knows w owner id v → is_fresh (cell_at w.table r) ≡ false → 1 ≤ p → p < 34 → word_at w.table r p ≡ x → Knows w owner id (read_word r p x v)
-learn_word w owner id v r p x k f a b e = record {
-  threads = k.threads;
-  rows = k.rows;
-  passes = k.passes;
-  seat = k.seat;
-  undealt = k.undealt;
-  mine = k.mine;
-  calm = k.calm;
-  staged = k.staged;
-  fresh = k.fresh;
-  drafted = k.drafted;
-  opened = k.opened;
-  read = λ q o y h. seen q o y h;
-  joined = k.joined;
-  taken = k.taken;
-  bound = k.bound;
-  binds = k.binds;
-}
-  where
-    seen : (q : Row) (o y : ℕ) → Has ((r, p, x) ∷ v.seen.words) (q, o, y) → (is_fresh (cell_at w.table q) ≡ false) × (o < 34) × (1 ≤ o) × (word_at w.table q o ≡ y)
-    seen q o y (inl i) = subst (λ (z : Row × ℕ × ℕ). (is_fresh (cell_at w.table z.0) ≡ false) × (z.1 < 34) × (1 ≤ z.1) × (word_at w.table z.0 z.1 ≡ z.2)) i (f, b, a, e)
-    seen q o y (inr h) = k.read q o y h
-
-pub learn_nack : (w : World) (owner : Row → ℕ) (id : ℕ) (v : View) (n : NackName) (o : Option Binding) → Knows w owner id v → binding_at w.table n ≡ o → Knows w owner id (saw_nack n o v)
-learn_nack w owner id v n None k e = k
-learn_nack w owner id v n (Some b) k e = record {
-  threads = k.threads;
-  rows = k.rows;
-  passes = k.passes;
-  seat = k.seat;
-  undealt = λ t h d. let u = k.undealt t h d in (u.0, u.1, u.2, u.3, λ m c f g. inr (u.4 m c f g));
-  mine = k.mine;
-  calm = k.calm;
-  staged = k.staged;
-  fresh = k.fresh;
-  drafted = k.drafted;
-  opened = k.opened;
-  read = k.read;
-  joined = k.joined;
-  taken = k.taken;
-  bound = λ m c h. seen m c h;
-  binds = λ m c f h. inr (k.binds m c f h);
-}
-  where
-    seen : (m : NackName) (c : Binding) → Has ((n, b) ∷ v.seen.bound) (m, c) → binding_at w.table m ≡ Some c
-    seen m c (inl p) = ap (λ (z : NackName × Binding). binding_at w.table z.0) (sym p) ∙ e ∙ ap (λ (z : NackName × Binding). Some z.1) p
-    seen m c (inr h) = k.bound m c h
+  pub learn_nack : (w : World) (owner : Row → ℕ) (id : ℕ) (v : View M) (n : NackName) (o : Option Binding) → Knows w owner id v → binding_at w.table n ≡ o → Knows w owner id (saw_nack n o v)
+  learn_nack w owner id v n None k e = k
+  learn_nack w owner id v n (Some b) k e = record {
+    threads = k.threads;
+    rows = k.rows;
+    passes = k.passes;
+    seat = k.seat;
+    undealt = λ t h d. let u = k.undealt t h d in (u.0, u.1, u.2, u.3, λ m c f g. inr (u.4 m c f g));
+    mine = k.mine;
+    calm = k.calm;
+    staged = k.staged;
+    fresh = k.fresh;
+    drafted = k.drafted;
+    opened = k.opened;
+    read = k.read;
+    joined = k.joined;
+    taken = k.taken;
+    bound = λ m c h. seen m c h;
+    binds = λ m c f h. inr (k.binds m c f h);
+  }
+    where
+      seen : (m : NackName) (c : Binding) → Has ((n, b) ∷ v.seen.bound) (m, c) → binding_at w.table m ≡ Some c
+      seen m c (inl p) = ap (λ (z : NackName × Binding). binding_at w.table z.0) (sym p) ∙ e ∙ ap (λ (z : NackName × Binding). Some z.1) p
+      seen m c (inr h) = k.bound m c h
 
 -- A WORD OF A FRESH ROW IS DRAFTED by its owner
 module _ (w : World) (x : Row) (p d : ℕ) (owner : Row → ℕ) (k : Kept w)
@@ -312,35 +315,36 @@ module _ (w : World) (x : Row) (p d : ℕ) (owner : Row → ℕ) (k : Kept w)
   read_kept : (r : Row) (q y : ℕ) → (is_fresh (cell_at w.table r) ≡ false) × (q < 34) × (1 ≤ q) × (word_at w.table r q ≡ y) → (is_fresh (cell_at (with_word w.table x p d) r) ≡ false) × (q < 34) × (1 ≤ q) × (word_at (with_word w.table x p d) r q ≡ y)
   read_kept r q y h = (ap is_fresh (cells_stay r) ∙ h.0, h.1, h.2, words_stay r q (row_of_open w.table r h.0) h.1 (inl (open_not_x r h.0)) ∙ h.3)
 
-  after_draft : (id : ℕ) (v : View) (ds : List (Row × ℕ × ℕ)) → Knows w owner id v
-      → ((t : ℕ) (r : Row) → owner r ≡ id → is_row w.table r ≡ true → (¬ IsCounted v.seen r → word_at w.table r 1 ≡ 0) → ¬ ((count : ℕ) × Has ds (r, 1, count)) → word_at (with_word w.table x p d) r 1 ≡ 0)
-      → ((r : Row) (q y : ℕ) → Has ds (r, q, y) → (owner r ≡ id) × (q < 34) × (1 ≤ q) × (holder_at w r ≡ Some v.seat) × (word_at (with_word w.table x p d) r q ≡ y))
-      → Knows (with_table w (with_word w.table x p d)) owner id (at_stage v.stage (record { held = v.seen.held; drafts = ds; opened = v.seen.opened; words = v.seen.words; joined = v.seen.joined; taken = v.seen.taken; bound = v.seen.bound }) v)
-  after_draft id v ds knows counts drafted = record {
-    threads = knows.threads;
-    rows = knows.rows;
-    passes = knows.passes;
-    seat = knows.seat;
-    undealt = λ t h e. let u = knows.undealt t h e in (u.0, holder_kept w (with_word w.table x p d) (first_row t) refl refl ∙ u.1, (λ n. cells_stay (first_row t) ∙ u.2 n), (λ n. counts t (first_row t) u.0 (held_row w (first_row t) _ u.1) u.3 n), λ n b g. u.4 n b (sym (nacks_stay n) ∙ g));
-    mine = λ r h. let m = knows.mine r h in (m.0, holder_kept w (with_word w.table x p d) r refl refl ∙ m.1);
-    calm = λ r h e. knows.calm r h (sym (cells_stay r) ∙ e);
-    staged = staged_draft id v.stage knows.staged;
-    fresh = λ r h n. cells_stay r ∙ knows.fresh r h n;
-    drafted = λ r q y h. let k = drafted r q y h in (k.0, k.1, k.2, holder_kept w (with_word w.table x p d) r refl refl ∙ k.3, k.4);
-    opened = λ r h. ap is_fresh (cells_stay r) ∙ knows.opened r h;
-    read = λ r q y h. read_kept r q y (knows.read r q y h);
-    joined = λ r j h. ap joined_of (cells_stay r) ∙ knows.joined r j h;
-    taken = λ r h. ap is_taken (cells_stay r) ∙ knows.taken r h;
-    bound = λ n b h. nacks_stay n ∙ knows.bound n b h;
-    binds = λ n b g. knows.binds n b (sym (nacks_stay n) ∙ g);
-  }
+  module _ {M : Type 0} where
+    after_draft : (id : ℕ) (v : View M) (ds : List (Row × ℕ × ℕ)) → Knows w owner id v
+        → ((t : ℕ) (r : Row) → owner r ≡ id → is_row w.table r ≡ true → (¬ IsCounted v.seen r → word_at w.table r 1 ≡ 0) → ¬ ((count : ℕ) × Has ds (r, 1, count)) → word_at (with_word w.table x p d) r 1 ≡ 0)
+        → ((r : Row) (q y : ℕ) → Has ds (r, q, y) → (owner r ≡ id) × (q < 34) × (1 ≤ q) × (holder_at w r ≡ Some v.seat) × (word_at (with_word w.table x p d) r q ≡ y))
+        → Knows (with_table w (with_word w.table x p d)) owner id (at_stage v.stage (record { held = v.seen.held; drafts = ds; opened = v.seen.opened; words = v.seen.words; joined = v.seen.joined; taken = v.seen.taken; bound = v.seen.bound }) v)
+    after_draft id v ds knows counts drafted = record {
+      threads = knows.threads;
+      rows = knows.rows;
+      passes = knows.passes;
+      seat = knows.seat;
+      undealt = λ t h e. let u = knows.undealt t h e in (u.0, holder_kept w (with_word w.table x p d) (first_row t) refl refl ∙ u.1, (λ n. cells_stay (first_row t) ∙ u.2 n), (λ n. counts t (first_row t) u.0 (held_row w (first_row t) _ u.1) u.3 n), λ n b g. u.4 n b (sym (nacks_stay n) ∙ g));
+      mine = λ r h. let m = knows.mine r h in (m.0, holder_kept w (with_word w.table x p d) r refl refl ∙ m.1);
+      calm = λ r h e. knows.calm r h (sym (cells_stay r) ∙ e);
+      staged = staged_draft id v.stage knows.staged;
+      fresh = λ r h n. cells_stay r ∙ knows.fresh r h n;
+      drafted = λ r q y h. let k = drafted r q y h in (k.0, k.1, k.2, holder_kept w (with_word w.table x p d) r refl refl ∙ k.3, k.4);
+      opened = λ r h. ap is_fresh (cells_stay r) ∙ knows.opened r h;
+      read = λ r q y h. read_kept r q y (knows.read r q y h);
+      joined = λ r j h. ap joined_of (cells_stay r) ∙ knows.joined r j h;
+      taken = λ r h. ap is_taken (cells_stay r) ∙ knows.taken r h;
+      bound = λ n b h. nacks_stay n ∙ knows.bound n b h;
+      binds = λ n b g. knows.binds n b (sym (nacks_stay n) ∙ g);
+    }
 
-  pub others_draft : (id : ℕ) (v : View) → Knows w owner id v → (owner x ≡ id → ⊥) → Knows (with_table w (with_word w.table x p d)) owner id v
-  others_draft id v knows other = after_draft id v v.seen.drafts knows
-      (λ t r o i was n. words_stay r 1 i (omega arith) (inl (row_ne r x (λ e. other (ap owner (sym e) ∙ o)))) ∙ was n)
-      (λ r q y h.
-      let k = knows.drafted r q y h in
-      (k.0, k.1, k.2, k.3, words_stay r q (held_row w r _ k.3) k.1 (inl (row_ne r x (λ e. other (ap owner (sym e) ∙ k.0)))) ∙ k.4))
+    pub others_draft : (id : ℕ) (v : View M) → Knows w owner id v → (owner x ≡ id → ⊥) → Knows (with_table w (with_word w.table x p d)) owner id v
+    others_draft id v knows other = after_draft id v v.seen.drafts knows
+        (λ t r o i was n. words_stay r 1 i (omega arith) (inl (row_ne r x (λ e. other (ap owner (sym e) ∙ o)))) ∙ was n)
+        (λ r q y h.
+        let k = knows.drafted r q y h in
+        (k.0, k.1, k.2, k.3, words_stay r q (held_row w r _ k.3) k.1 (inl (row_ne r x (λ e. other (ap owner (sym e) ∙ k.0)))) ∙ k.4))
 
   -- what was drafted at other places stays
   abbrev Elsewhere : List (Row × ℕ × ℕ) → Row → ℕ → ℕ → Type 0
@@ -362,24 +366,25 @@ module _ (w : World) (x : Row) (p d : ℕ) (owner : Row → ℕ) (k : Kept w)
   kept_drafts [] r q y h = absurd h
   kept_drafts (e ∷ ds) r q y h = kept_entry e ds (without x p ds) r q y (row_eq e.0 x) (eqb e.1 p) refl refl (λ i. kept_drafts ds r q y i) h
 
-  pub own_draft : (id : ℕ) (v : View) → Knows w owner id v → owner x ≡ id → holder_at w x ≡ Some v.seat → Knows (with_table w (with_word w.table x p d)) owner id (drafted_word x p d v)
-  own_draft id v knows mine holds = after_draft id v ((x, p, d) ∷ without x p v.seen.drafts) knows (λ t r o i was n. counts_now r i was n) (λ r q y h. drafted_now r q y h)
-    where
-      elsewhere : (r : Row) → is_row w.table r ≡ true → (¬ IsCounted v.seen r → word_at w.table r 1 ≡ 0) → ¬ ((count : ℕ) × Has ((x, p, d) ∷ without x p v.seen.drafts) (r, 1, count))
-          → (row_eq r x ≡ false) ⊎ (1 ≡ p → ⊥) → ¬ ((r ≡ x) × (1 ≡ p)) → word_at (with_word w.table x p d) r 1 ≡ 0
-      elsewhere r i was n apart not_it = words_stay r 1 i (omega arith) apart ∙ was (λ l. n (l.0, inr (left x p v.seen.drafts r 1 l.0 not_it l.1)))
+  module _ {M : Type 0} where
+    pub own_draft : (id : ℕ) (v : View M) → Knows w owner id v → owner x ≡ id → holder_at w x ≡ Some v.seat → Knows (with_table w (with_word w.table x p d)) owner id (drafted_word x p d v)
+    own_draft id v knows mine holds = after_draft id v ((x, p, d) ∷ without x p v.seen.drafts) knows (λ t r o i was n. counts_now r i was n) (λ r q y h. drafted_now r q y h)
+      where
+        elsewhere : (r : Row) → is_row w.table r ≡ true → (¬ IsCounted v.seen r → word_at w.table r 1 ≡ 0) → ¬ ((count : ℕ) × Has ((x, p, d) ∷ without x p v.seen.drafts) (r, 1, count))
+            → (row_eq r x ≡ false) ⊎ (1 ≡ p → ⊥) → ¬ ((r ≡ x) × (1 ≡ p)) → word_at (with_word w.table x p d) r 1 ≡ 0
+        elsewhere r i was n apart not_it = words_stay r 1 i (omega arith) apart ∙ was (λ l. n (l.0, inr (left x p v.seen.drafts r 1 l.0 not_it l.1)))
 
-      counts_now : (r : Row) → is_row w.table r ≡ true → (¬ IsCounted v.seen r → word_at w.table r 1 ≡ 0) → ¬ ((count : ℕ) × Has ((x, p, d) ∷ without x p v.seen.drafts) (r, 1, count)) → word_at (with_word w.table x p d) r 1 ≡ 0
-      counts_now r i was n = ⊎_elim
-          (λ (e : r ≡ x). elsewhere r i was n (inr (λ (f : 1 ≡ p). n (d, inl (λ k. (sym e k, sym f k, d))))) (λ h. n (d, inl (λ k. (sym h.0 k, sym h.1 k, d)))))
-          (λ (e : row_eq r x ≡ false). elsewhere r i was n (inl e) (λ h. row_eq-false r x e h.0))
-          (row_cases r x)
+        counts_now : (r : Row) → is_row w.table r ≡ true → (¬ IsCounted v.seen r → word_at w.table r 1 ≡ 0) → ¬ ((count : ℕ) × Has ((x, p, d) ∷ without x p v.seen.drafts) (r, 1, count)) → word_at (with_word w.table x p d) r 1 ≡ 0
+        counts_now r i was n = ⊎_elim
+            (λ (e : r ≡ x). elsewhere r i was n (inr (λ (f : 1 ≡ p). n (d, inl (λ k. (sym e k, sym f k, d))))) (λ h. n (d, inl (λ k. (sym h.0 k, sym h.1 k, d)))))
+            (λ (e : row_eq r x ≡ false). elsewhere r i was n (inl e) (λ h. row_eq-false r x e h.0))
+            (row_cases r x)
 
-      drafted_now : (r : Row) (q y : ℕ) → Has ((x, p, d) ∷ without x p v.seen.drafts) (r, q, y) → (owner r ≡ id) × (q < 34) × (1 ≤ q) × (holder_at w r ≡ Some v.seat) × (word_at (with_word w.table x p d) r q ≡ y)
-      drafted_now r q y (inl e) =
-          subst (λ (z : Row × ℕ × ℕ). (owner z.0 ≡ id) × (z.1 < 34) × (1 ≤ z.1) × (holder_at w z.0 ≡ Some v.seat) × (word_at (with_word w.table x p d) z.0 z.1 ≡ z.2)) e
-          (mine, high, low, holds, Rattle.protocol.proofs.Places.word_same w.table x p d k.sized row high)
-      drafted_now r q y (inr h) =
-          let was = kept_drafts v.seen.drafts r q y h in
-          let k = knows.drafted r q y was.0 in
-          (k.0, k.1, k.2, k.3, words_stay r q (held_row w r _ k.3) k.1 was.1 ∙ k.4)
+        drafted_now : (r : Row) (q y : ℕ) → Has ((x, p, d) ∷ without x p v.seen.drafts) (r, q, y) → (owner r ≡ id) × (q < 34) × (1 ≤ q) × (holder_at w r ≡ Some v.seat) × (word_at (with_word w.table x p d) r q ≡ y)
+        drafted_now r q y (inl e) =
+            subst (λ (z : Row × ℕ × ℕ). (owner z.0 ≡ id) × (z.1 < 34) × (1 ≤ z.1) × (holder_at w z.0 ≡ Some v.seat) × (word_at (with_word w.table x p d) z.0 z.1 ≡ z.2)) e
+            (mine, high, low, holds, Rattle.protocol.proofs.Places.word_same w.table x p d k.sized row high)
+        drafted_now r q y (inr h) =
+            let was = kept_drafts v.seen.drafts r q y h in
+            let k = knows.drafted r q y was.0 in
+            (k.0, k.1, k.2, k.3, words_stay r q (held_row w r _ k.3) k.1 was.1 ∙ k.4)

@@ -21,124 +21,125 @@ use Rattle.protocol.proofs.Keeping.{kept_schedule}
 use Rattle.protocol.proofs.LedgerLemmas.{kept_start}
 use Rattle.cell.specs.Rule.{Interleaves, Keeps, Move, at_seat, in_order, steps_by}
 
--- the world of the rule is one that all steps keep
-pub world_kept : {S : Type 0} (shape : Shape) (s : State S View) (k : Keeps shape s) → Kept k.world
-world_kept shape s k = kept_schedule _ k.world (in_order k.moves) (kept_start shape.threads shape.rows shape.passes k.few_threads k.few_rows) k.played
+module _ {M : Type 0} where
+  -- the world of the rule is one that all steps keep
+  pub world_kept : {S : Type 0} (shape : Shape) (s : State S (View M)) (k : Keeps shape s) → Kept k.world
+  world_kept shape s k = kept_schedule _ k.world (in_order k.moves) (kept_start shape.threads shape.rows shape.passes k.few_threads k.few_rows) k.played
 
--- what all views say of a world, one of them being new
-views_with : (vs : List View) (id : ℕ) (w : View) (world : World) (owner : Row → ℕ)
-    → ((j : ℕ) (u : View) → j ≢ id → get_elem? vs j ≡ some u → 0 < u.threads → Knows world owner j u)
-    → Knows world owner id w
-    → (j : ℕ) (u : View) → get_elem? (slice_set vs id w) j ≡ some u → 0 < u.threads → Knows world owner j u
-views_with vs id w world owner others mine j u e at_table = ⊎_elim
-    (λ (h : (j ≡ id) × (w ≡ u)). subst (λ (z : ℕ × View). Knows world owner z.0 z.1) (λ i. (sym h.0 i, h.1 i)) mine)
-    (λ (h : (j ≢ id) × (get_elem? vs j ≡ some u)). others j u h.0 h.1 at_table)
-    (at_set vs id j w u e)
+  -- what all views say of a world, one of them being new
+  views_with : (vs : List (View M)) (id : ℕ) (w : View M) (world : World) (owner : Row → ℕ)
+      → ((j : ℕ) (u : View M) → j ≢ id → get_elem? vs j ≡ some u → 0 < u.threads → Knows world owner j u)
+      → Knows world owner id w
+      → (j : ℕ) (u : View M) → get_elem? (slice_set vs id w) j ≡ some u → 0 < u.threads → Knows world owner j u
+  views_with vs id w world owner others mine j u e at_table = ⊎_elim
+      (λ (h : (j ≡ id) × (w ≡ u)). subst (λ (z : ℕ × (View M)). Knows world owner z.0 z.1) (λ i. (sym h.0 i, h.1 i)) mine)
+      (λ (h : (j ≢ id) × (get_elem? vs j ≡ some u)). others j u h.0 h.1 at_table)
+      (at_set vs id j w u e)
 
--- THE HISTORY AND THE PASSES' STEPS
--- a pass that is among the views has a number below theirs
-pub below_views : (vs : List View) (id : ℕ) (v : View) → get_elem? vs id ≡ some v → id < length vs
-below_views [] id v e = absurd (mathlib.Core.Option.some-ne-none v (sym e))
-below_views (u ∷ vs) zero v e = omega arith
-below_views (u ∷ vs) (suc id) v e = let h = below_views vs id v e in omega arith
+  -- THE HISTORY AND THE PASSES' STEPS
+  -- a pass that is among the views has a number below theirs
+  pub below_views : (vs : List (View M)) (id : ℕ) (v : View M) → get_elem? vs id ≡ some v → id < length vs
+  below_views [] id v e = absurd (mathlib.Core.Option.some-ne-none v (sym e))
+  below_views (u ∷ vs) zero v e = omega arith
+  below_views (u ∷ vs) (suc id) v e = let h = below_views vs id v e in omega arith
 
--- one pass has seen more, and made what it had made
-pub same_made : (moves : List Move) (vs : List View) (id : ℕ) (v w : View) → get_elem? vs id ≡ some v → Interleaves moves vs → at_seat v.seat v.made ≡ at_seat w.seat w.made → Interleaves moves (slice_set vs id w)
-same_made moves vs id v w view before same = record {
-  made = λ j u e. ⊎_elim
-      (λ (h : (j ≡ id) × (w ≡ u)). ap (λ (n : ℕ). steps_by n moves) h.0 ∙ before.made id v view ∙ same ∙ ap (λ (z : View). at_seat z.seat z.made) h.1)
-      (λ (h : (j ≢ id) × (get_elem? vs j ≡ some u)). before.made j u h.1)
-      (at_set vs id j w u e);
-  no_others = λ j h. before.no_others j (subst (λ (n : ℕ). n ≤ j) (length-set vs id w) h);
-}
+  -- one pass has seen more, and made what it had made
+  pub same_made : (moves : List Move) (vs : List (View M)) (id : ℕ) (v w : View M) → get_elem? vs id ≡ some v → Interleaves moves vs → at_seat v.seat v.made ≡ at_seat w.seat w.made → Interleaves moves (slice_set vs id w)
+  same_made moves vs id v w view before same = record {
+    made = λ j u e. ⊎_elim
+        (λ (h : (j ≡ id) × (w ≡ u)). ap (λ (n : ℕ). steps_by n moves) h.0 ∙ before.made id v view ∙ same ∙ ap (λ (z : View M). at_seat z.seat z.made) h.1)
+        (λ (h : (j ≢ id) × (get_elem? vs j ≡ some u)). before.made j u h.1)
+        (at_set vs id j w u e);
+    no_others = λ j h. before.no_others j (subst (λ (n : ℕ). n ≤ j) (length-set vs id w) h);
+  }
 
--- it has made one step more
-pub one_more : (moves : List Move) (vs : List View) (id : ℕ) (v w : View) (step : Step) → get_elem? vs id ≡ some v → Interleaves moves vs → w.seat ≡ v.seat → w.made ≡ v.made
-    → Interleaves (record { pass = id; seat = record { 0 = v.seat }; step = step } ∷ moves) (slice_set vs id (did step w))
-one_more moves vs id v w step view before seat made = record {
-  made = λ j u e. ⊎_elim
-      (λ (h : (j ≡ id) × (did step w ≡ u)).
-      ap (λ (b : Bool). cond b ((record { 0 = v.seat }, step) ∷ steps_by j moves) (steps_by j moves)) (eq-eqb id j (sym h.0))
-      ∙ ap (λ (l : List (Seat × Step)). (record { 0 = v.seat }, step) ∷ l) (ap (λ (n : ℕ). steps_by n moves) h.0 ∙ before.made id v view)
-      ∙ (λ i. at_seat (sym seat i) (step ∷ sym made i)) ∙ ap (λ (z : View). at_seat z.seat z.made) h.1)
-      (λ (h : (j ≢ id) × (get_elem? vs j ≡ some u)).
-      ap (λ (b : Bool). cond b ((record { 0 = v.seat }, step) ∷ steps_by j moves) (steps_by j moves)) (ne_eqb id j (λ f. h.0 (sym f))) ∙ before.made j u h.1)
-      (at_set vs id j (did step w) u e);
-  no_others = λ j h.
-      let size = length-set vs id (did step w) in
-      let low = below_views vs id v view in
-      let above : length vs ≤ j = subst (λ (n : ℕ). n ≤ j) size h in
-      ap (λ (b : Bool). cond b ((record { 0 = v.seat }, step) ∷ steps_by j moves) (steps_by j moves)) (ne_eqb id j (λ f. let g : id ≡ j = f in omega arith)) ∙ before.no_others j above;
-}
+  -- it has made one step more
+  pub one_more : (moves : List Move) (vs : List (View M)) (id : ℕ) (v w : View M) (step : Step) → get_elem? vs id ≡ some v → Interleaves moves vs → w.seat ≡ v.seat → w.made ≡ v.made
+      → Interleaves (record { pass = id; seat = record { 0 = v.seat }; step = step } ∷ moves) (slice_set vs id (did step w))
+  one_more moves vs id v w step view before seat made = record {
+    made = λ j u e. ⊎_elim
+        (λ (h : (j ≡ id) × (did step w ≡ u)).
+        ap (λ (b : Bool). cond b ((record { 0 = v.seat }, step) ∷ steps_by j moves) (steps_by j moves)) (eq-eqb id j (sym h.0))
+        ∙ ap (λ (l : List (Seat × Step)). (record { 0 = v.seat }, step) ∷ l) (ap (λ (n : ℕ). steps_by n moves) h.0 ∙ before.made id v view)
+        ∙ (λ i. at_seat (sym seat i) (step ∷ sym made i)) ∙ ap (λ (z : View M). at_seat z.seat z.made) h.1)
+        (λ (h : (j ≢ id) × (get_elem? vs j ≡ some u)).
+        ap (λ (b : Bool). cond b ((record { 0 = v.seat }, step) ∷ steps_by j moves) (steps_by j moves)) (ne_eqb id j (λ f. h.0 (sym f))) ∙ before.made j u h.1)
+        (at_set vs id j (did step w) u e);
+    no_others = λ j h.
+        let size = length-set vs id (did step w) in
+        let low = below_views vs id v view in
+        let above : length vs ≤ j = subst (λ (n : ℕ). n ≤ j) size h in
+        ap (λ (b : Bool). cond b ((record { 0 = v.seat }, step) ∷ steps_by j moves) (steps_by j moves)) (ne_eqb id j (λ f. let g : id ≡ j = f in omega arith)) ∙ before.no_others j above;
+  }
 
--- the table stays, and one pass knows more
-pub keeps_view : {S : Type 0} (shape : Shape) (s : State S View) (k : Keeps shape s) (id : ℕ) (v w : View) (ws : List ℕ) (hs : List (Option S)) → get_elem? s.views id ≡ some v → w.seat ≡ v.seat → w.made ≡ v.made
-    → ws ≡ s.words → Knows k.world k.owner id w → Keeps shape (record { words = ws; homes = hs; views = slice_set s.views id w })
-keeps_view shape s k id v w ws hs view seat made same knows = record {
-  few_threads = k.few_threads;
-  few_rows = k.few_rows;
-  moves = k.moves;
-  interleaved = same_made k.moves s.views id v w view k.interleaved (λ i. at_seat (sym seat i) (sym made i));
-  world = k.world;
-  played = k.played;
-  table = k.table ∙ ap (λ (z : List ℕ). record { threads = shape.threads; rows = shape.rows; words = z }) (sym same);
-  owner = k.owner;
-  knows = views_with s.views id w k.world k.owner (λ j u n e t. k.knows j u e t) knows;
-}
+  -- the table stays, and one pass knows more
+  pub keeps_view : {S : Type 0} (shape : Shape) (s : State S (View M)) (k : Keeps shape s) (id : ℕ) (v w : View M) (ws : List ℕ) (hs : List (Option S)) → get_elem? s.views id ≡ some v → w.seat ≡ v.seat → w.made ≡ v.made
+      → ws ≡ s.words → Knows k.world k.owner id w → Keeps shape (record { words = ws; homes = hs; views = slice_set s.views id w })
+  keeps_view shape s k id v w ws hs view seat made same knows = record {
+    few_threads = k.few_threads;
+    few_rows = k.few_rows;
+    moves = k.moves;
+    interleaved = same_made k.moves s.views id v w view k.interleaved (λ i. at_seat (sym seat i) (sym made i));
+    world = k.world;
+    played = k.played;
+    table = k.table ∙ ap (λ (z : List ℕ). record { threads = shape.threads; rows = shape.rows; words = z }) (sym same);
+    owner = k.owner;
+    knows = views_with s.views id w k.world k.owner (λ j u n e t. k.knows j u e t) knows;
+  }
 
--- what a pass knows does not ask what it did
-pub knows_did : (world : World) (owner : Row → ℕ) (id : ℕ) (w : View) (step : Step) → Knows world owner id w → Knows world owner id (did step w)
-knows_did world owner id w step k = record {
-  threads = k.threads;
-  rows = k.rows;
-  passes = k.passes;
-  seat = k.seat;
-  undealt = k.undealt;
-  mine = k.mine;
-  calm = k.calm;
-  staged = k.staged;
-  fresh = k.fresh;
-  drafted = k.drafted;
-  opened = k.opened;
-  read = k.read;
-  joined = k.joined;
-  taken = k.taken;
-  bound = k.bound;
-  binds = k.binds;
-}
+  -- what a pass knows does not ask what it did
+  pub knows_did : (world : World) (owner : Row → ℕ) (id : ℕ) (w : View M) (step : Step) → Knows world owner id w → Knows world owner id (did step w)
+  knows_did world owner id w step k = record {
+    threads = k.threads;
+    rows = k.rows;
+    passes = k.passes;
+    seat = k.seat;
+    undealt = k.undealt;
+    mine = k.mine;
+    calm = k.calm;
+    staged = k.staged;
+    fresh = k.fresh;
+    drafted = k.drafted;
+    opened = k.opened;
+    read = k.read;
+    joined = k.joined;
+    taken = k.taken;
+    bound = k.bound;
+    binds = k.binds;
+  }
 
--- the protocol's step is made by the pass at its seat, and it knows more
-pub keeps_step : {S : Type 0} (shape : Shape) (s : State S View) (k : Keeps shape s) (id : ℕ) (v w : View) (ws : List ℕ) (hs : List (Option S)) (owner : Row → ℕ) → get_elem? s.views id ≡ some v → w.seat ≡ v.seat → w.made ≡ v.made
-    → (step : Step) → Allowed k.world (record { 0 = v.seat }) step
-    → (after_step k.world (record { 0 = v.seat }) step).table ≡ record { threads = shape.threads; rows = shape.rows; words = ws }
-    → ((j : ℕ) (u : View) → j ≢ id → get_elem? s.views j ≡ some u → 0 < u.threads → Knows (after_step k.world (record { 0 = v.seat }) step) owner j u)
-    → Knows (after_step k.world (record { 0 = v.seat }) step) owner id w
-    → Keeps shape (record { words = ws; homes = hs; views = slice_set s.views id (did step w) })
-keeps_step shape s k id v w ws hs owner view seat made step allowed same others knows =
-    let at : Seat = record { 0 = v.seat } in
-    record {
-      few_threads = k.few_threads;
-      few_rows = k.few_rows;
-      moves = record { pass = id; seat = at; step = step } ∷ k.moves;
-      interleaved = one_more k.moves s.views id v w step view k.interleaved seat made;
-      world = after_step k.world at step;
-      played = plays_more (start_world shape.threads shape.rows shape.passes) k.world (in_order k.moves) (at, step) k.played allowed;
-      table = same;
-      owner = owner;
-      knows = views_with s.views id (did step w) (after_step k.world at step) owner others (knows_did (after_step k.world at step) owner id w step knows);
-    }
+  -- the protocol's step is made by the pass at its seat, and it knows more
+  pub keeps_step : {S : Type 0} (shape : Shape) (s : State S (View M)) (k : Keeps shape s) (id : ℕ) (v w : View M) (ws : List ℕ) (hs : List (Option S)) (owner : Row → ℕ) → get_elem? s.views id ≡ some v → w.seat ≡ v.seat → w.made ≡ v.made
+      → (step : Step) → Allowed k.world (record { 0 = v.seat }) step
+      → (after_step k.world (record { 0 = v.seat }) step).table ≡ record { threads = shape.threads; rows = shape.rows; words = ws }
+      → ((j : ℕ) (u : View M) → j ≢ id → get_elem? s.views j ≡ some u → 0 < u.threads → Knows (after_step k.world (record { 0 = v.seat }) step) owner j u)
+      → Knows (after_step k.world (record { 0 = v.seat }) step) owner id w
+      → Keeps shape (record { words = ws; homes = hs; views = slice_set s.views id (did step w) })
+  keeps_step shape s k id v w ws hs owner view seat made step allowed same others knows =
+      let at : Seat = record { 0 = v.seat } in
+      record {
+        few_threads = k.few_threads;
+        few_rows = k.few_rows;
+        moves = record { pass = id; seat = at; step = step } ∷ k.moves;
+        interleaved = one_more k.moves s.views id v w step view k.interleaved seat made;
+        world = after_step k.world at step;
+        played = plays_more (start_world shape.threads shape.rows shape.passes) k.world (in_order k.moves) (at, step) k.played allowed;
+        table = same;
+        owner = owner;
+        knows = views_with s.views id (did step w) (after_step k.world at step) owner others (knows_did (after_step k.world at step) owner id w step knows);
+      }
 
--- WHAT A PASS HAS SEEN agrees with itself, at any moment
-pub pass_coherent : {S : Type 0} (shape : Shape) (s : State S View) (k : Keeps shape s) (id : ℕ) (v : View) → get_elem? s.views id ≡ some v → 0 < v.threads → Coherent v.threads v.rows v.seen
-pass_coherent shape s k id v view at_table = coherent k.world k.owner id v (k.knows id v view at_table) (world_kept shape s k)
+  -- WHAT A PASS HAS SEEN agrees with itself, at any moment
+  pub pass_coherent : {S : Type 0} (shape : Shape) (s : State S (View M)) (k : Keeps shape s) (id : ℕ) (v : View M) → get_elem? s.views id ≡ some v → 0 < v.threads → Coherent v.threads v.rows v.seen
+  pass_coherent shape s k id v view at_table = coherent k.world k.owner id v (k.knows id v view at_table) (world_kept shape s k)
 
--- and so does what the pass that moved has seen since
-pub moved_coherent : (shape : Shape) (vs : List View) (ws : List ℕ) (hs : List (Option ℕ)) (id : ℕ) (v w : View) → get_elem? vs id ≡ some v → w.threads ≡ v.threads → 0 < v.threads
-    → Keeps {S = ℕ} shape (record { words = ws; homes = hs; views = slice_set vs id w }) → Coherent w.threads w.rows w.seen
-moved_coherent shape vs ws hs id v w view size at_table k =
-    pass_coherent shape (record { words = ws; homes = hs; views = slice_set vs id w }) k id w (get_set vs id w (below_views vs id v view)) (subst (λ (n : ℕ). 0 < n) (sym size) at_table)
-  where
-    get_set : (us : List View) (j : ℕ) (u : View) → j < length us → get_elem? (slice_set us j u) j ≡ some u
-    get_set [] j u h = absurd (omega arith)
-    get_set (x ∷ us) zero u h = refl
-    get_set (x ∷ us) (suc j) u h = get_set us j u (omega arith)
+  -- and so does what the pass that moved has seen since
+  pub moved_coherent : {S : Type 0} (shape : Shape) (vs : List (View M)) (ws : List ℕ) (hs : List (Option S)) (id : ℕ) (v w : View M) → get_elem? vs id ≡ some v → w.threads ≡ v.threads → 0 < v.threads
+      → Keeps {S = S} shape (record { words = ws; homes = hs; views = slice_set vs id w }) → Coherent w.threads w.rows w.seen
+  moved_coherent shape vs ws hs id v w view size at_table k =
+      pass_coherent shape (record { words = ws; homes = hs; views = slice_set vs id w }) k id w (get_set vs id w (below_views vs id v view)) (subst (λ (n : ℕ). 0 < n) (sym size) at_table)
+    where
+      get_set : (us : List (View M)) (j : ℕ) (u : View M) → j < length us → get_elem? (slice_set us j u) j ≡ some u
+      get_set [] j u h = absurd (omega arith)
+      get_set (x ∷ us) zero u h = refl
+      get_set (x ∷ us) (suc j) u h = get_set us j u (omega arith)

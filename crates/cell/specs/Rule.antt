@@ -35,32 +35,33 @@ abbrev pub at_seat : ℕ → List Step → List (Seat × Step)
 at_seat seat [] = []
 at_seat seat (step ∷ steps) = (record { 0 = seat }, step) ∷ at_seat seat steps
 
--- The history is the steps that the passes made, interleaved: each pass made its own at its seat, and nobody else any.
-pub record Interleaves (moves : List Move) (views : List View) : Type 0 where
-  pub made : (id : ℕ) (v : View) → get_elem? views id ≡ some v → steps_by id moves ≡ at_seat v.seat v.made
-  pub no_others : (id : ℕ) → length views ≤ id → steps_by id moves ≡ []
+module _ {M : Type 0} where
+  -- The history is the steps that the passes made, interleaved: each pass made its own at its seat, and nobody else any.
+  pub record Interleaves (moves : List Move) (views : List (View M)) : Type 0 where
+    pub made : (id : ℕ) (v : View M) → get_elem? views id ≡ some v → steps_by id moves ≡ at_seat v.seat v.made
+    pub no_others : (id : ℕ) → length views ≤ id → steps_by id moves ≡ []
 
--- the words at this moment, as a table
-abbrev pub table_of : {S : Type 0} → Shape → State S View → Table
-table_of shape s = record { threads = shape.threads; rows = shape.rows; words = s.words }
+  -- the words at this moment, as a table
+  abbrev pub table_of : {S : Type 0} → Shape → State S (View M) → Table
+  table_of shape s = record { threads = shape.threads; rows = shape.rows; words = s.words }
 
--- The history is the passes' steps interleaved, and leads from the start to the words as they stand. What each pass has
--- seen is true of the world that the history leads to. Nothing else ever happens to the table.
-pub record Keeps {S : Type 0} (shape : Shape) (s : State S View) : Type 0 where
-  pub few_threads : shape.threads ≤ 64
-  pub few_rows : shape.rows ≤ 1024
-  pub moves : List Move
-  pub interleaved : Interleaves moves s.views
-  pub world : World
-  pub played : Plays (start_world shape.threads shape.rows shape.passes) (in_order moves) world
-  pub table : world.table ≡ table_of shape s
-  pub owner : Row → ℕ
-  -- a pass that is of no table any more knows nothing
-  pub knows : (id : ℕ) (v : View) → get_elem? s.views id ≡ some v → 0 < v.threads → Knows world owner id v
+  -- The history is the passes' steps interleaved, and leads from the start to the words as they stand. What each pass has
+  -- seen is true of the world that the history leads to. Nothing else ever happens to the table.
+  pub record Keeps {S : Type 0} (shape : Shape) (s : State S (View M)) : Type 0 where
+    pub few_threads : shape.threads ≤ 64
+    pub few_rows : shape.rows ≤ 1024
+    pub moves : List Move
+    pub interleaved : Interleaves moves s.views
+    pub world : World
+    pub played : Plays (start_world shape.threads shape.rows shape.passes) (in_order moves) world
+    pub table : world.table ≡ table_of shape s
+    pub owner : Row → ℕ
+    -- a pass that is of no table any more knows nothing
+    pub knows : (id : ℕ) (v : View M) → get_elem? s.views id ≡ some v → 0 < v.threads → Knows world owner id v
 
--- the pass with this number is of the table, and knows this
-abbrev pub IsAt : {S : Type 0} → State S View → ℕ → View → Type 0
-IsAt s id v = (get_elem? s.views id ≡ some v) × (0 < v.threads)
+  -- the pass with this number is of the table, and knows this
+  abbrev pub IsAt : {S : Type 0} → State S (View M) → ℕ → View M → Type 0
+  IsAt s id v = (get_elem? s.views id ≡ some v) × (0 < v.threads)
 
 -- the number of a Fresh row's offers is 0 until one is drafted
 abbrev pub no_offers : List Row → List (Row × ℕ × ℕ)
@@ -71,30 +72,33 @@ no_offers (r ∷ rs) = (r, 1, 0) ∷ no_offers rs
 abbrev pub seen_nothing : List Row → Seen
 seen_nothing rows = record { held = rows; drafts = no_offers rows; opened = []; words = []; joined = []; taken = []; bound = [] }
 
--- the first pass: it has dealt the seats below this one, and holds nothing itself
-abbrev pub dealer : Shape → ℕ → View
-dealer shape k = record { threads = shape.threads; rows = shape.rows; passes = shape.passes; dealt = k; seat = 0; stage = Resting; seen = seen_nothing []; made = [] }
+module _ {M : Type 0} where
+  -- the first pass: it has dealt the seats below this one, and holds nothing itself
+  abbrev pub dealer : Shape → ℕ → View M
+  dealer shape k = record { threads = shape.threads; rows = shape.rows; passes = shape.passes; first = []; dealt = k; seat = 0; stage = Resting; seen = seen_nothing []; made = [] }
 
 -- the first rows of the threads below this one that fall to seat k
 abbrev pub dealt_rows : ℕ → ℕ → ℕ → List Row
 dealt_rows zero passes k = []
 dealt_rows (suc t) passes k = if t % passes == k then first_row t ∷ dealt_rows t passes k else dealt_rows t passes k
 
--- the pass of the next seat: it holds the rows that fall to it
-abbrev pub dealt_pass : View → View
-dealt_pass v = record {
-  threads = v.threads;
-  rows = v.rows;
-  passes = v.passes;
-  dealt = v.passes;
-  seat = v.dealt;
-  stage = Resting;
-  seen = seen_nothing (dealt_rows v.threads v.passes v.dealt);
-  made = [];
-}
+module _ {M : Type 0} where
+  -- the pass of the next seat: it holds the rows that fall to it
+  abbrev pub dealt_pass : View M → View M
+  dealt_pass v = record {
+    threads = v.threads;
+    rows = v.rows;
+    passes = v.passes;
+    first = v.first;
+    dealt = v.passes;
+    seat = v.dealt;
+    stage = Resting;
+    seen = seen_nothing (dealt_rows v.threads v.passes v.dealt);
+    made = [];
+  }
 
-abbrev pub dealt_one : View → View
-dealt_one v = record { threads = v.threads; rows = v.rows; passes = v.passes; dealt = v.dealt + 1; seat = v.seat; stage = v.stage; seen = v.seen; made = v.made }
+  abbrev pub dealt_one : View M → View M
+  dealt_one v = record { threads = v.threads; rows = v.rows; passes = v.passes; first = v.first; dealt = v.dealt + 1; seat = v.seat; stage = v.stage; seen = v.seen; made = v.made }
 
 -- WHAT ONE PASS TELLS ANOTHER
 
@@ -124,12 +128,13 @@ heard s told = record {
   bound = s.bound ++ told.bound;
 }
 
-abbrev pub told_pass : View → View
-told_pass v = record { threads = v.threads; rows = v.rows; passes = v.passes; dealt = v.passes; seat = v.seat; stage = Resting; seen = told_of v.seen; made = [] }
+module _ {M : Type 0} where
+  abbrev pub told_pass : View M → View M
+  told_pass v = record { threads = v.threads; rows = v.rows; passes = v.passes; first = v.first; dealt = v.passes; seat = v.seat; stage = Resting; seen = told_of v.seen; made = [] }
 
-abbrev pub heard_pass : View → View → View
-heard_pass v told = at_stage v.stage (heard v.seen told.seen) v
+  abbrev pub heard_pass : View M → View M → View M
+  heard_pass v told = at_stage v.stage (heard v.seen told.seen) v
 
--- the pass that has told all that it had seen: it is of no table any more
-abbrev pub spent_pass : View
-spent_pass = record { threads = 0; rows = 0; passes = 0; dealt = 0; seat = 0; stage = Resting; seen = seen_nothing []; made = [] }
+  -- the pass that has told all that it had seen: it is of no table any more
+  abbrev pub spent_pass : View M
+  spent_pass = record { threads = 0; rows = 0; passes = 0; first = []; dealt = 0; seat = 0; stage = Resting; seen = seen_nothing []; made = [] }

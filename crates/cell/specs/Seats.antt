@@ -1,5 +1,5 @@
 -- A pass at its table.
-use Rattle.std.specs.Prelude.{◌≡◌, ℕ}
+use Rattle.std.specs.Prelude.{◌≡◌, Option}
 use Rattle.atomic_table.specs.declared.shared.Seat.{Seat}
 use Rattle.words.specs.declared.NackName.{NackName}
 use Rattle.words.specs.declared.Row.{Row}
@@ -8,18 +8,19 @@ use Rattle.cell.specs.declared.view.View.{View}
 use Rattle.cell.specs.Sight.{Coherent}
 use Rattle.cell.specs.Told.{Inside, InsideNack}
 
--- the seat is one of this table's, its pass knows the table's size, and what it has seen agrees with itself
-abbrev pub Sits : Board → Seat ℕ View → Type 0
-Sits b s = (s.table_id ≡ b.words.shared.table_id) × (s.me.0.threads ≡ b.shape.threads) × (s.me.0.rows ≡ b.shape.rows) × Coherent b.shape.threads b.shape.rows s.me.0.seen
+module _ {M : Type 0} where
+  -- the seat is one of this table's, its pass knows the table's size, and what it has seen agrees with itself
+  abbrev pub Sits : Board M → Seat (Option M) (View M) → Type 0
+  Sits b s = (s.table_id ≡ b.words.shared.table_id) × (s.me.0.threads ≡ b.shape.threads) × (s.me.0.rows ≡ b.shape.rows) × Coherent b.shape.threads b.shape.rows s.me.0.seen
 
--- the pass is the same one after a call, and still sits at the table
-abbrev pub StaysSeated : Board → Seat ℕ View → Seat ℕ View → Type 0
-StaysSeated b before after = (after.id ≡ before.id) × Sits b after
+  -- the pass is the same one after a call, and still sits at the table
+  abbrev pub StaysSeated : Board M → Seat (Option M) (View M) → Seat (Option M) (View M) → Type 0
+  StaysSeated b before after = (after.id ≡ before.id) × Sits b after
 
 -- the table has the row
-abbrev pub HasRow : Board → Row → Type 0
+abbrev pub HasRow : {M : Type 0} → Board M → Row → Type 0
 HasRow b r = Inside b.shape.threads b.shape.rows r
 
 -- the table has the nack
-abbrev pub HasNack : Board → NackName → Type 0
+abbrev pub HasNack : {M : Type 0} → Board M → NackName → Type 0
 HasNack b n = InsideNack b.shape.threads n

@@ -19,17 +19,19 @@ use Rattle.cell.specs.Views.{IsClaimer, bind_of, bound_nack, did, saw, saw_nack,
 abbrev pub Inside : ℕ → ℕ → Row → Type 0
 Inside threads rows r = (r.thread < threads) × (r.sync < rows)
 
--- the step is on this word of this row
-abbrev pub At : {S : Type 0} → Step S → Me S View → Row → ℕ → Type 0
-At st m r p = Inside m.0.threads m.0.rows r × (st.word ≡ place_of m.0.rows r p)
+module _ {M : Type 0} where
+  -- the step is on this word of this row
+  abbrev pub At : {S : Type 0} → Step S → Me S (View M) → Row → ℕ → Type 0
+  At st m r p = Inside m.0.threads m.0.rows r × (st.word ≡ place_of m.0.rows r p)
 
 -- the table has the nack
 abbrev pub InsideNack : ℕ → NackName → Type 0
 InsideNack threads n = (n.thread < threads) × (n.k < 64)
 
--- the step is on the word of this nack
-abbrev pub AtNack : {S : Type 0} → Step S → Me S View → NackName → Type 0
-AtNack st m n = InsideNack m.0.threads n × (st.word ≡ nack_place m.0.rows n)
+module _ {M : Type 0} where
+  -- the step is on the word of this nack
+  abbrev pub AtNack : {S : Type 0} → Step S → Me S (View M) → NackName → Type 0
+  AtNack st m n = InsideNack m.0.threads n × (st.word ≡ nack_place m.0.rows n)
 
 -- where a word says that a nack is bound
 abbrev pub nack_read : ℕ → Option Binding
@@ -39,83 +41,84 @@ nack_read n = unwrap_or (nack_of n) None
 abbrev pub cell_read : ℕ → Cell
 cell_read n = unwrap_or (cell_of n) Fresh
 
--- what a pass knows of a row's cell before it looks: what it has seen of it, and that only its holder claims it
-abbrev pub Agrees : View → Row → Cell → Type 0
-Agrees v r c = IsExpected v.seen r c × (Has v.seen.held r → c ≡ Claimed → IsClaimer v.stage r)
+module _ {M : Type 0} where
+  -- what a pass knows of a row's cell before it looks: what it has seen of it, and that only its holder claims it
+  abbrev pub Agrees : View M → Row → Cell → Type 0
+  Agrees v r c = IsExpected v.seen r c × (Has v.seen.held r → c ≡ Claimed → IsClaimer v.stage r)
 
--- what the pass has seen agrees with itself
-abbrev pub AgreesWithItself : View → Type 0
-AgreesWithItself v = Coherent v.threads v.rows v.seen
+  -- what the pass has seen agrees with itself
+  abbrev pub AgreesWithItself : View M → Type 0
+  AgreesWithItself v = Coherent v.threads v.rows v.seen
 
--- the word that was found is a cell's
-abbrev pub looked : {S : Type 0} → Step S → Me S View → ℕ → Me S View → Type 0
-looked st m n w = (r : Row) → At st m r 0 → (w ≡ (saw r (cell_read n) m.0, m.1)) × Agrees m.0 r (cell_read n) × AgreesWithItself w.0 × (is_some (cell_of n) ≡ true)
+  -- the word that was found is a cell's
+  abbrev pub looked : {S : Type 0} → Step S → Me S (View M) → ℕ → Me S (View M) → Type 0
+  looked st m n w = (r : Row) → At st m r 0 → (w ≡ (saw r (cell_read n) m.0, m.1)) × Agrees m.0 r (cell_read n) × AgreesWithItself w.0 × (is_some (cell_of n) ≡ true)
 
-abbrev pub has_read : {S : Type 0} → Step S → Me S View → ℕ → Me S View → Type 0
-has_read st m n w = (r : Row) (p : ℕ) → p < 34 → At st m r p → (w ≡ (read_word r p n m.0, m.1)) × AgreesWithItself w.0
+  abbrev pub has_read : {S : Type 0} → Step S → Me S (View M) → ℕ → Me S (View M) → Type 0
+  has_read st m n w = (r : Row) (p : ℕ) → p < 34 → At st m r p → (w ≡ (read_word r p n m.0, m.1)) × AgreesWithItself w.0
 
--- a glance finds nothing new: the pass has heard of one table only, so what it has heard agrees with what it had seen
-abbrev pub glanced : {S : Type 0} → Step S → Me S View → ℕ → Me S View → Type 0
-glanced st m n w = (w ≡ m) × AgreesWithItself w.0
+  -- a glance finds nothing new: the pass has heard of one table only, so what it has heard agrees with what it had seen
+  abbrev pub glanced : {S : Type 0} → Step S → Me S (View M) → ℕ → Me S (View M) → Type 0
+  glanced st m n w = (w ≡ m) × AgreesWithItself w.0
 
-abbrev pub drafted : {S : Type 0} → Step S → Me S View → ℕ → Me S View → Type 0
-drafted st m n w = (r : Row) (p : ℕ) → p < 34 → At st m r p → (w ≡ (word_drafted r p n m.0, m.1)) × AgreesWithItself w.0
+  abbrev pub drafted : {S : Type 0} → Step S → Me S (View M) → ℕ → Me S (View M) → Type 0
+  drafted st m n w = (r : Row) (p : ℕ) → p < 34 → At st m r p → (w ≡ (word_drafted r p n m.0, m.1)) × AgreesWithItself w.0
 
--- the row is Waiting now, and the call rests: the row is opened, or given up
-abbrev pub opened : {S : Type 0} → Step S → Me S View → ℕ → Me S View → Type 0
-opened st m n w = (r : Row) → At st m r 0 → (w ≡ (did (Open r) (turned Resting r m.0), m.1)) × AgreesWithItself w.0
+  -- the row is Waiting now, and the call rests: the row is opened, or given up
+  abbrev pub opened : {S : Type 0} → Step S → Me S (View M) → ℕ → Me S (View M) → Type 0
+  opened st m n w = (r : Row) → At st m r 0 → (w ≡ (did (Open r) (turned Resting r m.0), m.1)) × AgreesWithItself w.0
 
-abbrev pub yielded : {S : Type 0} → Step S → Me S View → ℕ → Me S View → Type 0
-yielded st m n w = (r : Row) → At st m r 0 → (w ≡ (did (Yield r) (turned Resting r m.0), m.1)) × AgreesWithItself w.0
+  abbrev pub yielded : {S : Type 0} → Step S → Me S (View M) → ℕ → Me S (View M) → Type 0
+  yielded st m n w = (r : Row) → At st m r 0 → (w ≡ (did (Yield r) (turned Resting r m.0), m.1)) × AgreesWithItself w.0
 
--- the pass has found the cell that the word stands for
-abbrev pub finds : {S : Type 0} → Me S View → Row → ℕ → Me S View → Type 0
-finds m r n w = (w ≡ (saw r (cell_read n) m.0, m.1)) × Agrees m.0 r (cell_read n)
+  -- the pass has found the cell that the word stands for
+  abbrev pub finds : {S : Type 0} → Me S (View M) → Row → ℕ → Me S (View M) → Type 0
+  finds m r n w = (w ≡ (saw r (cell_read n) m.0, m.1)) × Agrees m.0 r (cell_read n)
 
--- where the cell was Waiting it is Claimed; else the pass has seen what it is
-abbrev pub claimed : {S : Type 0} → Step S → Me S View → ℕ → Me S View → Type 0
-claimed st m n w = (r : Row) → At st m r 0
-    → (n ≡ cell_word Waiting → w ≡ (did (Claim r) (turned (Claims r) r m.0), m.1)) × (n ≢ cell_word Waiting → finds m r n w) × AgreesWithItself w.0
+  -- where the cell was Waiting it is Claimed; else the pass has seen what it is
+  abbrev pub claimed : {S : Type 0} → Step S → Me S (View M) → ℕ → Me S (View M) → Type 0
+  claimed st m n w = (r : Row) → At st m r 0
+      → (n ≡ cell_word Waiting → w ≡ (did (Claim r) (turned (Claims r) r m.0), m.1)) × (n ≢ cell_word Waiting → finds m r n w) × AgreesWithItself w.0
 
--- the pass has joined row o with offer `own` of its row, and is to seal its own
-abbrev pub joining : Row → ℕ → Row → Joined → View → View
-joining mine own o j v = did (Join mine own o j.own) (saw o (Synched j) (turned (Joins mine o j) o v))
+  -- the pass has joined row o with offer `own` of its row, and is to seal its own
+  abbrev pub joining : Row → ℕ → Row → Joined → View M → View M
+  joining mine own o j v = did (Join mine own o j.own) (saw o (Synched j) (turned (Joins mine o j) o v))
 
-abbrev pub joined : {S : Type 0} → Step S → Me S View → ℕ → Me S View → Type 0
-joined st m n w = (mine : Row) (own : ℕ) (o : Row) (j : Joined) → m.0.stage ≡ Claims mine → j.partner ≡ Some (mine, own) → At st m o 0 → IsJoinedInRange j → st.second ≡ cell_word (Synched j)
-    → (n ≡ cell_word Waiting → w ≡ (joining mine own o j m.0, m.1)) × (n ≢ cell_word Waiting → finds m o n w) × AgreesWithItself w.0
+  abbrev pub joined : {S : Type 0} → Step S → Me S (View M) → ℕ → Me S (View M) → Type 0
+  joined st m n w = (mine : Row) (own : ℕ) (o : Row) (j : Joined) → m.0.stage ≡ Claims mine → j.partner ≡ Some (mine, own) → At st m o 0 → IsJoinedInRange j → st.second ≡ cell_word (Synched j)
+      → (n ≡ cell_word Waiting → w ≡ (joining mine own o j m.0, m.1)) × (n ≢ cell_word Waiting → finds m o n w) × AgreesWithItself w.0
 
--- the row is committed so, as the last thing that the call does
-abbrev pub settled : Row → Joined → View → View
-settled r j v = saw r (Synched j) (turned Resting r v)
+  -- the row is committed so, as the last thing that the call does
+  abbrev pub settled : Row → Joined → View M → View M
+  settled r j v = saw r (Synched j) (turned Resting r v)
 
-abbrev pub sealed : {S : Type 0} → Step S → Me S View → ℕ → Me S View → Type 0
-sealed st m n w = (r : Row) (j : Joined) → At st m r 0 → IsJoinedInRange j → n ≡ cell_word (Synched j)
-    → (w ≡ (did (Seal r) (settled r j m.0), m.1)) × AgreesWithItself w.0
+  abbrev pub sealed : {S : Type 0} → Step S → Me S (View M) → ℕ → Me S (View M) → Type 0
+  sealed st m n w = (r : Row) (j : Joined) → At st m r 0 → IsJoinedInRange j → n ≡ cell_word (Synched j)
+      → (w ≡ (did (Seal r) (settled r j m.0), m.1)) × AgreesWithItself w.0
 
--- where the cell was Waiting it is committed alone; else the pass has seen what it is
-abbrev pub granted : {S : Type 0} → Step S → Me S View → ℕ → Me S View → Type 0
-granted st m n w = (r : Row) (j : Joined) → m.0.stage ≡ Resting → At st m r 0 → IsJoinedInRange j → st.second ≡ cell_word (Synched j)
-    → (n ≡ cell_word Waiting → (w ≡ (did (Grant r j.own) (settled r j m.0), m.1)) × Agrees m.0 r Waiting) × (n ≢ cell_word Waiting → finds m r n w) × AgreesWithItself w.0
+  -- where the cell was Waiting it is committed alone; else the pass has seen what it is
+  abbrev pub granted : {S : Type 0} → Step S → Me S (View M) → ℕ → Me S (View M) → Type 0
+  granted st m n w = (r : Row) (j : Joined) → m.0.stage ≡ Resting → At st m r 0 → IsJoinedInRange j → st.second ≡ cell_word (Synched j)
+      → (n ≡ cell_word Waiting → (w ≡ (did (Grant r j.own) (settled r j m.0), m.1)) × Agrees m.0 r Waiting) × (n ≢ cell_word Waiting → finds m r n w) × AgreesWithItself w.0
 
--- where the cell was Synched it is Taken, and nobody has opened the row behind it; else the pass has seen what it is
-abbrev pub taken : {S : Type 0} → Step S → Me S View → ℕ → Me S View → Type 0
-taken st m n w = (r : Row) (j : Joined) → At st m r 0 → IsJoinedInRange j → st.second ≡ cell_word (Taken j)
-    → (n ≡ cell_word (Synched j) → (w ≡ (did (Take r) (took r j m.0), m.1)) × Agrees m.0 r (Synched j) × (¬ Has m.0.seen.opened (next_row r)))
-    × (n ≢ cell_word (Synched j) → finds m r n w) × AgreesWithItself w.0
+  -- where the cell was Synched it is Taken, and nobody has opened the row behind it; else the pass has seen what it is
+  abbrev pub taken : {S : Type 0} → Step S → Me S (View M) → ℕ → Me S (View M) → Type 0
+  taken st m n w = (r : Row) (j : Joined) → At st m r 0 → IsJoinedInRange j → st.second ≡ cell_word (Taken j)
+      → (n ≡ cell_word (Synched j) → (w ≡ (did (Take r) (took r j m.0), m.1)) × Agrees m.0 r (Synched j) × (¬ Has m.0.seen.opened (next_row r)))
+      × (n ≢ cell_word (Synched j) → finds m r n w) × AgreesWithItself w.0
 
--- what a pass knows of a nack before it looks: where it saw it bound
-abbrev pub AgreesNack : View → NackName → Option Binding → Type 0
-AgreesNack v n found = (b : Binding) → Has v.seen.bound (n, b) → found ≡ Some b
+  -- what a pass knows of a nack before it looks: where it saw it bound
+  abbrev pub AgreesNack : View M → NackName → Option Binding → Type 0
+  AgreesNack v n found = (b : Binding) → Has v.seen.bound (n, b) → found ≡ Some b
 
-abbrev pub looked_nack : {S : Type 0} → Step S → Me S View → ℕ → Me S View → Type 0
-looked_nack st m n w = (nack : NackName) → AtNack st m nack
-    → (w ≡ (saw_nack nack (nack_read n) m.0, m.1)) × AgreesNack m.0 nack (nack_read n) × AgreesWithItself w.0
+  abbrev pub looked_nack : {S : Type 0} → Step S → Me S (View M) → ℕ → Me S (View M) → Type 0
+  looked_nack st m n w = (nack : NackName) → AtNack st m nack
+      → (w ≡ (saw_nack nack (nack_read n) m.0, m.1)) × AgreesNack m.0 nack (nack_read n) × AgreesWithItself w.0
 
--- where the nack was not bound it is bound so, and the pass had not seen it bound; else the pass has seen where it is: not
--- behind the row that it tried to bind it to, and where it is a row that the pass holds, the pass had seen it
-abbrev pub tried_bind : {S : Type 0} → Step S → Me S View → ℕ → Me S View → Type 0
-tried_bind st m n w = (nack : NackName) (b : Binding) → AtNack st m nack → IsBindingInRange b → st.second ≡ nack_word (Some b)
-    → (nack_read n ≡ None → (w ≡ (did (bind_of nack b) (bound_nack nack b m.0), m.1)) × ((c : Binding) → ¬ Has m.0.seen.bound (nack, c)))
-    × ((c : Binding) → nack_read n ≡ Some c → (w ≡ (bound_nack nack c m.0, m.1)) × (c.sync ≤ b.sync) × (Has m.0.seen.held (bound_row nack c) → Has m.0.seen.bound (nack, c)))
-    × AgreesWithItself w.0
+  -- where the nack was not bound it is bound so, and the pass had not seen it bound; else the pass has seen where it is: not
+  -- behind the row that it tried to bind it to, and where it is a row that the pass holds, the pass had seen it
+  abbrev pub tried_bind : {S : Type 0} → Step S → Me S (View M) → ℕ → Me S (View M) → Type 0
+  tried_bind st m n w = (nack : NackName) (b : Binding) → AtNack st m nack → IsBindingInRange b → st.second ≡ nack_word (Some b)
+      → (nack_read n ≡ None → (w ≡ (did (bind_of nack b) (bound_nack nack b m.0), m.1)) × ((c : Binding) → ¬ Has m.0.seen.bound (nack, c)))
+      × ((c : Binding) → nack_read n ≡ Some c → (w ≡ (bound_nack nack c m.0, m.1)) × (c.sync ≤ b.sync) × (Has m.0.seen.held (bound_row nack c) → Has m.0.seen.bound (nack, c)))
+      × AgreesWithItself w.0

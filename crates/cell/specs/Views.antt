@@ -32,73 +32,75 @@ Staged w owner id Resting = Unit {0}
 Staged w owner id (Claims m) = (owner m ≡ id) × (cell_at w.table m ≡ Claimed) × ((q : Row) → names (joined_at w.table q) m ≡ false)
 Staged w owner id (Joins m o j) = (owner m ≡ id) × (cell_at w.table m ≡ Claimed) × (joined_at w.table o ≡ Some j) × (names (Some j) m ≡ true)
 
--- What the pass with this number has seen is true of the world. Each row has one owner, so it is held by one pass at most.
-pub record Knows (w : World) (owner : Row → ℕ) (id : ℕ) (v : View) : Type 0 where
-  pub threads : v.threads ≡ w.table.threads
-  pub rows : v.rows ≡ w.table.rows
-  pub passes : v.passes ≡ w.seats
-  pub seat : v.seat < w.seats
-  -- the first rows of the seats that are not dealt yet are this pass's to deal
-  pub undealt : (t : ℕ) → t < w.table.threads → v.dealt ≤ t % w.seats
-      → (owner (first_row t) ≡ id) × (holder_at w (first_row t) ≡ Some (t % w.seats)) × (¬ Has v.seen.opened (first_row t) → cell_at w.table (first_row t) ≡ Fresh)
-      × (¬ IsCounted v.seen (first_row t) → word_at w.table (first_row t) 1 ≡ 0)
-      × ((n : NackName) (b : Binding) → binding_at w.table n ≡ Some b → bound_row n b ≡ first_row t → Has v.seen.bound (n, b))
-  pub mine : (r : Row) → Has v.seen.held r → (owner r ≡ id) × (holder_at w r ≡ Some v.seat)
-  pub calm : (r : Row) → Has v.seen.held r → cell_at w.table r ≡ Claimed → IsClaimer v.stage r
-  pub staged : Staged w owner id v.stage
-  pub fresh : (r : Row) → Has v.seen.held r → ¬ Has v.seen.opened r → cell_at w.table r ≡ Fresh
-  pub drafted : (r : Row) (p x : ℕ) → Has v.seen.drafts (r, p, x) → (owner r ≡ id) × (p < 34) × (1 ≤ p) × (holder_at w r ≡ Some v.seat) × (word_at w.table r p ≡ x)
-  pub opened : (r : Row) → Has v.seen.opened r → is_fresh (cell_at w.table r) ≡ false
-  pub read : (r : Row) (p x : ℕ) → Has v.seen.words (r, p, x) → (is_fresh (cell_at w.table r) ≡ false) × (p < 34) × (1 ≤ p) × (word_at w.table r p ≡ x)
-  pub joined : (r : Row) (j : Joined) → Has v.seen.joined (r, j) → joined_at w.table r ≡ Some j
-  pub taken : (r : Row) → Has v.seen.taken r → is_taken (cell_at w.table r) ≡ true
-  pub bound : (n : NackName) (b : Binding) → Has v.seen.bound (n, b) → binding_at w.table n ≡ Some b
-  -- whoever holds a row has seen all nacks that are bound to it
-  pub binds : (n : NackName) (b : Binding) → binding_at w.table n ≡ Some b → Has v.seen.held (bound_row n b) → Has v.seen.bound (n, b)
+module _ {M : Type 0} where
+  -- What the pass with this number has seen is true of the world. Each row has one owner, so it is held by one pass at most.
+  pub record Knows (w : World) (owner : Row → ℕ) (id : ℕ) (v : View M) : Type 0 where
+    pub threads : v.threads ≡ w.table.threads
+    pub rows : v.rows ≡ w.table.rows
+    pub passes : v.passes ≡ w.seats
+    pub seat : v.seat < w.seats
+    -- the first rows of the seats that are not dealt yet are this pass's to deal
+    pub undealt : (t : ℕ) → t < w.table.threads → v.dealt ≤ t % w.seats
+        → (owner (first_row t) ≡ id) × (holder_at w (first_row t) ≡ Some (t % w.seats)) × (¬ Has v.seen.opened (first_row t) → cell_at w.table (first_row t) ≡ Fresh)
+        × (¬ IsCounted v.seen (first_row t) → word_at w.table (first_row t) 1 ≡ 0)
+        × ((n : NackName) (b : Binding) → binding_at w.table n ≡ Some b → bound_row n b ≡ first_row t → Has v.seen.bound (n, b))
+    pub mine : (r : Row) → Has v.seen.held r → (owner r ≡ id) × (holder_at w r ≡ Some v.seat)
+    pub calm : (r : Row) → Has v.seen.held r → cell_at w.table r ≡ Claimed → IsClaimer v.stage r
+    pub staged : Staged w owner id v.stage
+    pub fresh : (r : Row) → Has v.seen.held r → ¬ Has v.seen.opened r → cell_at w.table r ≡ Fresh
+    pub drafted : (r : Row) (p x : ℕ) → Has v.seen.drafts (r, p, x) → (owner r ≡ id) × (p < 34) × (1 ≤ p) × (holder_at w r ≡ Some v.seat) × (word_at w.table r p ≡ x)
+    pub opened : (r : Row) → Has v.seen.opened r → is_fresh (cell_at w.table r) ≡ false
+    pub read : (r : Row) (p x : ℕ) → Has v.seen.words (r, p, x) → (is_fresh (cell_at w.table r) ≡ false) × (p < 34) × (1 ≤ p) × (word_at w.table r p ≡ x)
+    pub joined : (r : Row) (j : Joined) → Has v.seen.joined (r, j) → joined_at w.table r ≡ Some j
+    pub taken : (r : Row) → Has v.seen.taken r → is_taken (cell_at w.table r) ≡ true
+    pub bound : (n : NackName) (b : Binding) → Has v.seen.bound (n, b) → binding_at w.table n ≡ Some b
+    -- whoever holds a row has seen all nacks that are bound to it
+    pub binds : (n : NackName) (b : Binding) → binding_at w.table n ≡ Some b → Has v.seen.held (bound_row n b) → Has v.seen.bound (n, b)
 
--- HOW A VIEW GROWS
+  -- HOW A VIEW GROWS
 
--- the call stands here now, and has seen this
-abbrev pub at_stage : Stage → Seen → View → View
-at_stage stage seen v = record { threads = v.threads; rows = v.rows; passes = v.passes; dealt = v.dealt; seat = v.seat; stage = stage; seen = seen; made = v.made }
+  -- the call stands here now, and has seen this
+  abbrev pub at_stage : Stage → Seen → View M → View M
+  at_stage stage seen v = record { threads = v.threads; rows = v.rows; passes = v.passes; first = v.first; dealt = v.dealt; seat = v.seat; stage = stage; seen = seen; made = v.made }
 
--- and has made these steps
-abbrev pub worked : Stage → Seen → List Step → View → View
-worked stage seen made v = record { threads = v.threads; rows = v.rows; passes = v.passes; dealt = v.dealt; seat = v.seat; stage = stage; seen = seen; made = made }
+  -- and has made these steps
+  abbrev pub worked : Stage → Seen → List Step → View M → View M
+  worked stage seen made v = record { threads = v.threads; rows = v.rows; passes = v.passes; first = v.first; dealt = v.dealt; seat = v.seat; stage = stage; seen = seen; made = made }
 
--- the pass has made this step of the protocol
-abbrev pub did : Step → View → View
-did step v = record { threads = v.threads; rows = v.rows; passes = v.passes; dealt = v.dealt; seat = v.seat; stage = v.stage; seen = v.seen; made = step ∷ v.made }
+  -- the pass has made this step of the protocol
+  abbrev pub did : Step → View M → View M
+  did step v = record { threads = v.threads; rows = v.rows; passes = v.passes; first = v.first; dealt = v.dealt; seat = v.seat; stage = v.stage; seen = v.seen; made = step ∷ v.made }
 
--- the call stands here now, and the row is open
-abbrev pub turned : Stage → Row → View → View
-turned stage r v = at_stage stage (see_opened r v.seen) v
+  -- the call stands here now, and the row is open
+  abbrev pub turned : Stage → Row → View M → View M
+  turned stage r v = at_stage stage (see_opened r v.seen) v
 
-abbrev pub saw : Row → Cell → View → View
-saw r c v = at_stage v.stage (see_cell r c v.seen) v
+  abbrev pub saw : Row → Cell → View M → View M
+  saw r c v = at_stage v.stage (see_cell r c v.seen) v
 
--- the row, committed so, was taken by the pass
-abbrev pub took : Row → Joined → View → View
-took r j v = at_stage v.stage (see_next v.rows r (see_cell r (Taken j) v.seen)) v
+  -- the row, committed so, was taken by the pass
+  abbrev pub took : Row → Joined → View M → View M
+  took r j v = at_stage v.stage (see_next v.rows r (see_cell r (Taken j) v.seen)) v
 
-abbrev pub read_word : Row → ℕ → ℕ → View → View
-read_word r p x v = at_stage v.stage (see_word r p x v.seen) v
+  abbrev pub read_word : Row → ℕ → ℕ → View M → View M
+  read_word r p x v = at_stage v.stage (see_word r p x v.seen) v
 
-abbrev pub drafted_word : Row → ℕ → ℕ → View → View
-drafted_word r p x v = at_stage v.stage (see_draft r p x v.seen) v
+  abbrev pub drafted_word : Row → ℕ → ℕ → View M → View M
+  drafted_word r p x v = at_stage v.stage (see_draft r p x v.seen) v
 
--- and the step that it takes
-abbrev pub word_drafted : Row → ℕ → ℕ → View → View
-word_drafted r p x v = did (Draft r p x) (drafted_word r p x v)
+  -- and the step that it takes
+  abbrev pub word_drafted : Row → ℕ → ℕ → View M → View M
+  word_drafted r p x v = did (Draft r p x) (drafted_word r p x v)
 
 -- the step that binds the nack so
 abbrev pub bind_of : NackName → Binding → Step
 bind_of n b = Bind n.k (bound_row n b) b.scope
 
--- the nack is bound so
-abbrev pub bound_nack : NackName → Binding → View → View
-bound_nack n b v = at_stage v.stage (see_bound n b v.seen) v
+module _ {M : Type 0} where
+  -- the nack is bound so
+  abbrev pub bound_nack : NackName → Binding → View M → View M
+  bound_nack n b v = at_stage v.stage (see_bound n b v.seen) v
 
-abbrev pub saw_nack : NackName → Option Binding → View → View
-saw_nack n None v = v
-saw_nack n (Some b) v = bound_nack n b v
+  abbrev pub saw_nack : NackName → Option Binding → View M → View M
+  saw_nack n None v = v
+  saw_nack n (Some b) v = bound_nack n b v

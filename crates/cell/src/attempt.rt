@@ -52,11 +52,11 @@ pub enum Attempt {
     Unfit,
 }
 
-impl Board {
+impl<M> Board<M> {
     /// Tries to commit a held opened row with another row, each under one of its offers.
     pub(crate) fn attempt<G: StepGate>(
         &self,
-        seat: &mut Seat<u64, View>,
+        seat: &mut Seat<Option<M>, View<M>>,
         gate: &G,
         mine: (Row, u8),
         other: (Row, u8),
@@ -77,7 +77,12 @@ impl Board {
     }
 
     /// How the other row would be committed, where the two rows can meet under these offers.
-    fn fit(&self, seat: &mut Seat<u64, View>, mine: (Row, u8), other: (Row, u8)) -> Option<Joined>
+    fn fit(
+        &self,
+        seat: &mut Seat<Option<M>, View<M>>,
+        mine: (Row, u8),
+        other: (Row, u8),
+    ) -> Option<Joined>
         requires sits { Sits self.now seat.old × HasRow self.now mine.0 × HasRow self.now other.0 }
         requires opened { Has seat.old.me.0.seen.opened mine.0 }
         ensures sits { StaysSeated self.now seat.old seat.new }
@@ -108,7 +113,7 @@ impl Board {
     /// Claims the row `mine`, and then joins the other and seals, or gives up.
     fn meet<G: StepGate>(
         &self,
-        seat: &mut Seat<u64, View>,
+        seat: &mut Seat<Option<M>, View<M>>,
         gate: &G,
         mine: (Row, u8),
         other: Row,

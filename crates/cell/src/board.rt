@@ -10,7 +10,7 @@ use std::alloc::Global;
 /// The rule of the cells.
 pub struct Law;
 
-impl TableRule<u64, View, Shape> for Law {
+impl<M> TableRule<Option<M>, View<M>, Shape> for Law {
     ghost use Rattle.cell.specs.Rule.{Keeps};
     ghost use Rattle.cell.specs.Rule.{dealer};
 
@@ -19,12 +19,12 @@ impl TableRule<u64, View, Shape> for Law {
     ghost first = { λ shape. dealer shape 0 };
 }
 
-pub(crate) type Words = Table<u64, View, Shape, Law, Global>;
+pub(crate) type Words<M> = Table<Option<M>, View<M>, Shape, Law, Global>;
 
 /// The words, and how many threads and rows they are for.
 #[derive(Drop)]
-pub struct Board {
-    pub(crate) words: Words,
+pub struct Board<M> {
+    pub(crate) words: Words<M>,
     pub(crate) shape: Shape,
     ghost keyed: { words.shared.key ≡ shape },
     ghost sized: { words.shared.table_id.words ≡ shape.threads * thread_len shape.rows },
@@ -35,7 +35,7 @@ pub struct Board {
 /// The row's cell is read.
 pub struct Look;
 
-impl Play<u64, View> for Look {
+impl<M> Play<Option<M>, View<M>> for Look {
     ghost use Rattle.cell.specs.Told.{looked};
 
     ghost then = { λ st m n w. looked st m n w };
@@ -44,7 +44,7 @@ impl Play<u64, View> for Look {
 /// A word is read, and nothing is learnt by it.
 pub struct Glance;
 
-impl Play<u64, View> for Glance {
+impl<M> Play<Option<M>, View<M>> for Glance {
     ghost use Rattle.cell.specs.Told.{glanced};
 
     ghost then = { λ st m n w. glanced st m n w };
@@ -53,7 +53,7 @@ impl Play<u64, View> for Glance {
 /// A word of an opened row is read.
 pub struct Read;
 
-impl Play<u64, View> for Read {
+impl<M> Play<Option<M>, View<M>> for Read {
     ghost use Rattle.cell.specs.Told.{has_read};
 
     ghost then = { λ st m n w. has_read st m n w };
@@ -62,7 +62,7 @@ impl Play<u64, View> for Read {
 /// A word of a held Fresh row is written.
 pub struct Draft;
 
-impl Play<u64, View> for Draft {
+impl<M> Play<Option<M>, View<M>> for Draft {
     ghost use Rattle.cell.specs.Told.{drafted};
 
     ghost then = { λ st m n w. drafted st m n w };
@@ -71,7 +71,7 @@ impl Play<u64, View> for Draft {
 /// A held Fresh row is opened.
 pub struct Open;
 
-impl Play<u64, View> for Open {
+impl<M> Play<Option<M>, View<M>> for Open {
     ghost use Rattle.cell.specs.Told.{opened};
 
     ghost then = { λ st m n w. opened st m n w };
@@ -80,7 +80,7 @@ impl Play<u64, View> for Open {
 /// A claimed row is given up: it is Waiting again.
 pub struct GiveUp;
 
-impl Play<u64, View> for GiveUp {
+impl<M> Play<Option<M>, View<M>> for GiveUp {
     ghost use Rattle.cell.specs.Told.{yielded};
 
     ghost then = { λ st m n w. yielded st m n w };
@@ -89,7 +89,7 @@ impl Play<u64, View> for GiveUp {
 /// A held row is claimed, where it is Waiting.
 pub struct Claim;
 
-impl Play<u64, View> for Claim {
+impl<M> Play<Option<M>, View<M>> for Claim {
     ghost use Rattle.cell.specs.Told.{claimed};
 
     ghost then = { λ st m n w. claimed st m n w };
@@ -98,7 +98,7 @@ impl Play<u64, View> for Claim {
 /// Another row is joined with the claimed one, where it is Waiting.
 pub struct Join;
 
-impl Play<u64, View> for Join {
+impl<M> Play<Option<M>, View<M>> for Join {
     ghost use Rattle.cell.specs.Told.{joined};
 
     ghost then = { λ st m n w. joined st m n w };
@@ -107,7 +107,7 @@ impl Play<u64, View> for Join {
 /// A claimed row is committed, as the row that it joined says.
 pub struct Seal;
 
-impl Play<u64, View> for Seal {
+impl<M> Play<Option<M>, View<M>> for Seal {
     ghost use Rattle.cell.specs.Told.{sealed};
 
     ghost then = { λ st m n w. sealed st m n w };
@@ -116,7 +116,7 @@ impl Play<u64, View> for Seal {
 /// A row is committed alone, where it is Waiting.
 pub struct Give;
 
-impl Play<u64, View> for Give {
+impl<M> Play<Option<M>, View<M>> for Give {
     ghost use Rattle.cell.specs.Told.{granted};
 
     ghost then = { λ st m n w. granted st m n w };
@@ -125,7 +125,7 @@ impl Play<u64, View> for Give {
 /// A committed row is taken, where it is Synched.
 pub struct Take;
 
-impl Play<u64, View> for Take {
+impl<M> Play<Option<M>, View<M>> for Take {
     ghost use Rattle.cell.specs.Told.{taken};
 
     ghost then = { λ st m n w. taken st m n w };
@@ -134,7 +134,7 @@ impl Play<u64, View> for Take {
 /// The word of a nack is read.
 pub struct LookNack;
 
-impl Play<u64, View> for LookNack {
+impl<M> Play<Option<M>, View<M>> for LookNack {
     ghost use Rattle.cell.specs.Told.{looked_nack};
 
     ghost then = { λ st m n w. looked_nack st m n w };
@@ -143,7 +143,7 @@ impl Play<u64, View> for LookNack {
 /// A nack is bound to a held Fresh row, where it was not bound.
 pub struct Bind;
 
-impl Play<u64, View> for Bind {
+impl<M> Play<Option<M>, View<M>> for Bind {
     ghost use Rattle.cell.specs.Told.{tried_bind};
 
     ghost then = { λ st m n w. tried_bind st m n w };
@@ -152,7 +152,7 @@ impl Play<u64, View> for Bind {
 /// The first pass deals the rows of the next seat to a pass of their own.
 pub struct Deal;
 
-impl Split<View> for Deal {
+impl<M> Split<View<M>> for Deal {
     ghost use Rattle.cell.specs.Rule.{dealt_one};
     ghost use Rattle.cell.specs.Rule.{dealt_pass};
 
@@ -164,7 +164,7 @@ impl Split<View> for Deal {
 /// A pass tells what it has seen: the right part has seen it too, and holds no row.
 pub struct Tell;
 
-impl Split<View> for Tell {
+impl<M> Split<View<M>> for Tell {
     ghost use Rattle.cell.specs.Rule.{told_pass};
 
     ghost left = { λ v. v };
@@ -172,7 +172,7 @@ impl Split<View> for Tell {
     ghost right = { λ v. told_pass v };
 }
 
-impl JoinSeats<View> for Tell {
+impl<M> JoinSeats<View<M>> for Tell {
     ghost use Rattle.cell.specs.Rule.{heard_pass, spent_pass};
 
     ghost both = { λ v w. heard_pass v w };

@@ -60,18 +60,20 @@ use crate::granting::Grant;
 use crate::rows::RowSet;
 use crate::view::{Shape, View};
 use atomic_table::Seat;
-use protocol::{Cell, Direction, Joined, Ledger, Message, NACKS, NackName, Offer, ROW_LEN, Row};
+use protocol::{
+    Bare, Cell, Direction, Joined, Ledger, Message, NACKS, NackName, Offer, ROW_LEN, Row,
+};
 use std::alloc::{AllocError, Global};
 use std::marker::Model;
 
 /// The shared table: threads may share it, and none of its calls waits.
 #[derive(Drop)]
-pub struct Cells {
-    board: Board,
+pub struct Cells<M> {
+    board: Board<M>,
     room: Vec<u64>,
 }
 
-impl Model for Cells {
+impl<M> Model for Cells<M> {
     ghost use Rattle.std.specs.Prelude.{◌≡◌, length};
     ghost use Rattle.cell.specs.Calls.{Grid};
 
@@ -84,12 +86,12 @@ impl Model for Cells {
 
 /// What a thread calls the table with. It holds rows, and its value is what it has seen.
 #[derive(Drop)]
-pub struct Pass {
-    seat: Seat<u64, View>,
+pub struct Pass<M> {
+    seat: Seat<Option<M>, View<M>>,
     rows: RowSet,
 }
 
-impl Model for Pass {
+impl<M> Model for Pass<M> {
     ghost use Rattle.std.specs.Prelude.{◌≡◌};
     ghost use Rattle.cell.specs.declared.view.Stage.TheVariants.{Resting};
     ghost use Rattle.cell.specs.Calls.{PassView};
@@ -102,7 +104,7 @@ impl Model for Pass {
     ghost invariant = { λ p. (p.seat.me.0.stage ≡ Resting) × (p.seat.me.0.threads ≡ p.rows.threads) × (p.seat.me.0.rows ≡ p.rows.rows) × AreFlags p.rows.threads p.rows.rows p.rows.flags.items p.seat.me.0.seen.held };
 }
 
-impl Pass {
+impl<M> Pass<M> {
     /// Whether the pass holds the row.
     pub fn holds(&self, row: Row) -> bool
         ensures { IsTrue result ↔ Has self.now.seen.held row }
@@ -111,15 +113,15 @@ impl Pass {
     }
 }
 
-impl Cells {
-    /// A table for 1 to 64 threads of 1 to 1024 rows, and 1 to 16 passes. Row 0 of thread t is held
+impl Cells<Bare> {
+    /// A table over no machines, for 1 to 64 threads of 1 to 1024 rows, and 1 to 16 passes. Row 0 of thread t is held
     /// by pass `t mod passes`. All memory that the calls need is taken here.
     pub fn new(
         alloc: Global,
         threads: u8,
         rows: u16,
         passes: u8,
-    ) -> Result<(Cells, Vec<Pass>), AllocError>
+    ) -> Result<(Cells<Bare>, Vec<Pass<Bare>>), AllocError>
         requires threads { (1 ≤ threads) × (threads ≤ 64) }
         requires rows { (1 ≤ rows) × (rows ≤ 1024) }
         requires passes { (1 ≤ passes) × (passes ≤ 16) }
@@ -142,7 +144,9 @@ impl Cells {
         }
         Ok((Cells { board, room }, dealt))
     }
+}
 
+impl<M> Cells<M> {
     /// Whether the table has the row.
     pub fn has(&self, row: Row) -> bool
         ensures { IsTrue result ↔ IsRowOf self.now row }
@@ -152,7 +156,7 @@ impl Cells {
     }
 
     /// Opens a held row that is Fresh: its offers stand from now on.
-    pub fn open(&self, pass: &mut Pass, row: Row)
+    pub fn open(&self, pass: &mut Pass<M>, row: Row)
         requires here { IsPassOf self.now pass.old × IsRowOf self.now row }
         requires fresh { Has pass.old.seen.held row × (¬ Has pass.old.seen.opened row) }
         ensures here { IsPassOf self.now pass.new }
@@ -163,7 +167,7 @@ impl Cells {
     }
 
     /// The row's cell.
-    pub fn look(&self, pass: &mut Pass, row: Row) -> Cell
+    pub fn look(&self, pass: &mut Pass<M>, row: Row) -> Cell
         requires here { IsPassOf self.now pass.old × IsRowOf self.now row }
         ensures here { IsPassOf self.now pass.new }
         ensures saw { pass.new.seen ≡ see_cell row result pass.old.seen }
@@ -175,7 +179,7 @@ impl Cells {
     }
 
     /// Offer n of the row: none where the row is Fresh or has no offer n.
-    pub fn offer(&self, pass: &mut Pass, row: Row, n: u8) -> Option<Offer>
+    pub fn offer(&self, pass: &mut Pass<M>, row: Row, n: u8) -> Option<Offer>
         requires here { IsPassOf self.now pass.old × IsRowOf self.now row }
         ensures here { IsPassOf self.now pass.new }
         ensures learns { Learns (λ q. q ≡ row) pass.old.seen pass.new.seen }
@@ -190,7 +194,7 @@ impl Cells {
 
     /// The direction of offer n of a row that was seen opened: none where it has no offer n. It takes one
     /// look at the number of offers and one at the offer's head.
-    pub fn direction(&self, pass: &mut Pass, row: Row, n: u8) -> Option<Direction>
+    pub fn direction(&self, pass: &mut Pass<M>, row: Row, n: u8) -> Option<Direction>
         requires here { IsPassOf self.now pass.old × IsRowOf self.now row }
         requires opened { Has pass.old.seen.opened row }
         ensures here { IsPassOf self.now pass.new }
@@ -204,7 +208,7 @@ impl Cells {
     }
 
     /// What the row's thread gets, where the row is committed.
-    pub fn result(&self, pass: &mut Pass, row: Row) -> Option<Message>
+    pub fn result(&self, pass: &mut Pass<M>, row: Row) -> Option<Message>
         requires here { IsPassOf self.now pass.old × IsRowOf self.now row }
         ensures here { IsPassOf self.now pass.new }
         ensures learns { Learns (IsPartnerOf pass.new.seen row) pass.old.seen pass.new.seen }
@@ -221,7 +225,7 @@ impl Cells {
     /// `partner` of the other. No row stays claimed.
     pub fn attempt<G: StepGate>(
         &self,
-        pass: &mut Pass,
+        pass: &mut Pass<M>,
         gate: &G,
         mine: Row,
         own: u8,
@@ -243,7 +247,7 @@ impl Cells {
 
     /// Binds nack k of the row's thread to the row, which is held and not opened yet, and to its scope
     /// 0 to 3. False where the nack was bound before: it stays bound as it was.
-    pub fn bind(&self, pass: &mut Pass, k: u8, row: Row, scope: u8) -> bool
+    pub fn bind(&self, pass: &mut Pass<M>, k: u8, row: Row, scope: u8) -> bool
         requires here { IsPassOf self.now pass.old × IsRowOf self.now row }
         requires fresh { Has pass.old.seen.held row × (¬ Has pass.old.seen.opened row) }
         requires range { (k < 64) × (scope < 4) }
@@ -257,7 +261,7 @@ impl Cells {
 
     /// The row and the scope to which the nack is bound. A nack of a thread that the table has not, or
     /// with a number above 63, is not bound.
-    pub fn bound(&self, pass: &mut Pass, nack: NackName) -> Option<(Row, u8)>
+    pub fn bound(&self, pass: &mut Pass<M>, nack: NackName) -> Option<(Row, u8)>
         requires here { IsPassOf self.now pass.old }
         ensures here { IsPassOf self.now pass.new }
         ensures learns { LearnsOf (λ q. ⊥) (λ n. n ≡ nack) pass.old.seen pass.new.seen }
@@ -276,7 +280,7 @@ impl Cells {
 
     /// Commits the row alone by its offer n, where that is an always or an enabled nack, and the row
     /// waits. The row may be held by any pass.
-    pub fn grant(&self, pass: &mut Pass, row: Row, n: u8) -> Grant
+    pub fn grant(&self, pass: &mut Pass<M>, row: Row, n: u8) -> Grant
         requires here { IsPassOf self.now pass.old × IsRowOf self.now row }
         ensures here { IsPassOf self.now pass.new }
         ensures learns { LearnsOf (IsNearGrant pass.new.seen row n) (IsNackOfOffer pass.new.seen row n) pass.old.seen pass.new.seen }
@@ -288,7 +292,7 @@ impl Cells {
 
     /// Takes the row, where it is committed and nobody has taken it: the pass holds the thread's next
     /// row from then on, if there is one. The row may be held by any pass.
-    pub fn take(&self, pass: &mut Pass, row: Row) -> Option<Joined>
+    pub fn take(&self, pass: &mut Pass<M>, row: Row) -> Option<Joined>
         requires here { IsPassOf self.now pass.old × IsRowOf self.now row }
         ensures here { IsPassOf self.now pass.new }
         ensures some { IfSome result (Took self.now.rows pass.old.seen pass.new.seen row) }
@@ -309,7 +313,7 @@ impl Cells {
 
     /// Writes a list of at most 8 offers for a held row that is not opened yet, in place of the list
     /// that was written before.
-    pub fn draft(&self, pass: &mut Pass, row: Row, offers: &[Offer])
+    pub fn draft(&self, pass: &mut Pass<M>, row: Row, offers: &[Offer])
         requires here { IsPassOf self.now pass.old × IsRowOf self.now row }
         requires fresh { Has pass.old.seen.held row × (¬ Has pass.old.seen.opened row) }
         requires offers { AreOffers offers.now }
@@ -322,7 +326,7 @@ impl Cells {
     }
 
     /// Tells `to` all that `from` has seen, and the offers that it drafted for its opened rows.
-    pub fn tell(&self, from: &mut Pass, to: &mut Pass)
+    pub fn tell(&self, from: &mut Pass<M>, to: &mut Pass<M>)
         requires here { IsPassOf self.now from.old × IsPassOf self.now to.old }
         ensures here { IsPassOf self.now from.new × IsPassOf self.now to.new }
         ensures kept { from.new.seen ≡ from.old.seen }
@@ -336,7 +340,7 @@ impl Cells {
     }
 
     /// Ends the table: its ledger has all that the pass has seen or was told.
-    pub fn close(self, pass: Pass) -> Ledger
+    pub fn close(self, pass: Pass<M>) -> Ledger
         requires here { IsPassOf self pass }
         ensures size { (result.threads ≡ self.threads) × (result.rows ≡ self.rows) }
         ensures lawful { IsLawful result }

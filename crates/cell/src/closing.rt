@@ -17,9 +17,9 @@ use atomic_table::{Closed, Seat};
 use protocol::Ledger;
 use std::alloc::Global;
 
-impl Board {
+impl<M> Board<M> {
     /// The ledger of the words at the end. They are copied into the room that was made for them.
-    pub(crate) fn close(self, seat: Seat<u64, View>, room: Vec<u64>) -> Ledger
+    pub(crate) fn close(self, seat: Seat<Option<M>, View<M>>, room: Vec<u64>) -> Ledger
         requires sits { Sits self seat }
         requires room { length room.items ≡ self.words.shared.table_id.words }
         ensures size { (result.threads ≡ self.shape.threads) × (result.rows ≡ self.shape.rows) }
@@ -39,7 +39,7 @@ impl Board {
 }
 
 /// The words, in a room that has as many.
-fn copy_words(closed: &Closed<u64, Global>, room: Vec<u64>) -> Vec<u64>
+fn copy_words<M>(closed: &Closed<Option<M>, Global>, room: Vec<u64>) -> Vec<u64>
     requires full { IsFull closed.now.words }
     requires room { length room.items ≡ slots_len closed.now.words }
     ensures { result.items ≡ slots_items closed.now.words }

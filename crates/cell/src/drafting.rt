@@ -15,10 +15,15 @@ use atomic_table::Seat;
 use protocol::{Offer, Row, pack_count, pack_offer};
 use words::read_head;
 
-impl Board {
+impl<M> Board<M> {
     /// Writes a list of at most 8 offers for a held row that is not opened yet, in place of what was
     /// written before.
-    pub(crate) fn draft_offers(&self, seat: &mut Seat<u64, View>, row: Row, offers: &[Offer])
+    pub(crate) fn draft_offers(
+        &self,
+        seat: &mut Seat<Option<M>, View<M>>,
+        row: Row,
+        offers: &[Offer],
+    )
         requires sits { Sits self.now seat.old × HasRow self.now row }
         requires held { Has seat.old.me.0.seen.held row × (¬ Has seat.old.me.0.seen.opened row) }
         requires offers { AreOffers offers.now }
@@ -35,7 +40,7 @@ impl Board {
     }
 
     /// Writes the words of offer n: its head, and as many atoms as it has.
-    fn draft_offer(&self, seat: &mut Seat<u64, View>, row: Row, n: u8, offer: Offer)
+    fn draft_offer(&self, seat: &mut Seat<Option<M>, View<M>>, row: Row, n: u8, offer: Offer)
         requires sits { Sits self.now seat.old × HasRow self.now row }
         requires held { Has seat.old.me.0.seen.held row × (¬ Has seat.old.me.0.seen.opened row) }
         requires offer { (n < 8) × IsOfferInRange offer }
@@ -54,7 +59,15 @@ impl Board {
     }
 
     /// Writes atom k, 1 to 3, of offer n, where the offer has it.
-    fn draft_atom(&self, seat: &mut Seat<u64, View>, row: Row, n: u8, k: u8, word: u64, has: bool)
+    fn draft_atom(
+        &self,
+        seat: &mut Seat<Option<M>, View<M>>,
+        row: Row,
+        n: u8,
+        k: u8,
+        word: u64,
+        has: bool,
+    )
         requires sits { Sits self.now seat.old × HasRow self.now row }
         requires held { Has seat.old.me.0.seen.held row × (¬ Has seat.old.me.0.seen.opened row) }
         requires atom { (n < 8) × (1 ≤ k) × (k < 4) × (is_some (atom_of word) ≡ true) }

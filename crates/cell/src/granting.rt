@@ -23,10 +23,10 @@ pub enum Grant {
     Late,
 }
 
-impl Board {
+impl<M> Board<M> {
     /// Commits the row alone by its offer n, where that is an always or an enabled nack, and the row
     /// waits.
-    pub(crate) fn grant(&self, seat: &mut Seat<u64, View>, row: Row, n: u8) -> Grant
+    pub(crate) fn grant(&self, seat: &mut Seat<Option<M>, View<M>>, row: Row, n: u8) -> Grant
         requires sits { Sits self.now seat.old × HasRow self.now row }
         requires resting { seat.old.me.0.stage ≡ Resting }
         ensures sits { StaysSeated self.now seat.old seat.new }

@@ -5,7 +5,7 @@
 //! `steps` makes one atomic step; that the rule admits it is proved where it is called.
 #![tactic(auto)]
 
-ghost use Rattle.std.specs.Prelude.{◌≡◌, ℕ, List, [], None, true};
+ghost use Rattle.std.specs.Prelude.{◌≡◌, ℕ, List, [], Option, None, true};
 ghost use mathlib.Core.Option.{some};
 ghost use lib.ListN.{get_elem?};
 ghost use Rattle.atomic_table.specs.Table.{State};
@@ -44,7 +44,7 @@ pub use crate::granting::Grant;
 pub use crate::view::Seen;
 use crate::view::{Shape, View};
 use atomic_table::TableRule;
-pub use protocol::NACKS;
+pub use protocol::{Bare, NACKS};
 
 /// What the rule of the table, the very one that it has (`holds` of `Law`), says of any moment between
 /// two atomic steps, whatever threads call:
@@ -56,12 +56,12 @@ pub use protocol::NACKS;
 /// - no row is held by two passes, and none was taken by two;
 /// - a pending row is named by one row;
 /// - where no pass has made a step, every row is Fresh and no nack is bound.
-pub fn every_moment_is_lawful()
-    ensures lawful { (shape : Shape) (s : State ℕ View) → ⟦<Law as TableRule<u64, View, Shape>>⟧.holds shape s → IsLawful (ledger_of (table_of shape s)) }
-    ensures played { (shape : Shape) (s : State ℕ View) → ⟦<Law as TableRule<u64, View, Shape>>⟧.holds shape s → (moves : List Move) × (world : World) × Plays (start_world shape.threads shape.rows shape.passes) (in_order moves) world × (world.table ≡ table_of shape s) × Interleaves moves s.views }
-    ensures known { (shape : Shape) (s : State ℕ View) → ⟦<Law as TableRule<u64, View, Shape>>⟧.holds shape s → (world : World) × (owner : Row → ℕ) × (world.table ≡ table_of shape s) × ((id : ℕ) (v : View) → IsAt s id v → Knows world owner id v) }
-    ensures one_holder { (shape : Shape) (s : State ℕ View) (i j : ℕ) (u v : View) (r : Row) → ⟦<Law as TableRule<u64, View, Shape>>⟧.holds shape s → IsAt s i u → IsAt s j v → Has u.seen.held r → Has v.seen.held r → i ≡ j }
-    ensures one_taker { (shape : Shape) (s : State ℕ View) (i j : ℕ) (u v : View) (r : Row) → ⟦<Law as TableRule<u64, View, Shape>>⟧.holds shape s → IsAt s i u → IsAt s j v → Has u.made (Take r) → Has v.made (Take r) → i ≡ j }
-    ensures named_once { (shape : Shape) (s : State ℕ View) (q r p : Row) → ⟦<Law as TableRule<u64, View, Shape>>⟧.holds shape s → names (joined_at (table_of shape s) q) p ≡ true → names (joined_at (table_of shape s) r) p ≡ true → q ≡ r }
-    ensures untouched { (shape : Shape) (s : State ℕ View) → ⟦<Law as TableRule<u64, View, Shape>>⟧.holds shape s → ((i : ℕ) (v : View) → get_elem? s.views i ≡ some v → v.made ≡ []) → ((r : Row) → cell_at (table_of shape s) r ≡ Fresh) × ((n : NackName) → binding_at (table_of shape s) n ≡ None) }
+pub fn every_moment_is_lawful<M>()
+    ensures lawful { (shape : Shape) (s : State (Option M) (View M)) → ⟦<Law as TableRule<Option<M>, View<M>, Shape>>⟧.holds shape s → IsLawful (ledger_of (table_of shape s)) }
+    ensures played { (shape : Shape) (s : State (Option M) (View M)) → ⟦<Law as TableRule<Option<M>, View<M>, Shape>>⟧.holds shape s → (moves : List Move) × (world : World) × Plays (start_world shape.threads shape.rows shape.passes) (in_order moves) world × (world.table ≡ table_of shape s) × Interleaves moves s.views }
+    ensures known { (shape : Shape) (s : State (Option M) (View M)) → ⟦<Law as TableRule<Option<M>, View<M>, Shape>>⟧.holds shape s → (world : World) × (owner : Row → ℕ) × (world.table ≡ table_of shape s) × ((id : ℕ) (v : View M) → IsAt s id v → Knows world owner id v) }
+    ensures one_holder { (shape : Shape) (s : State (Option M) (View M)) (i j : ℕ) (u v : View M) (r : Row) → ⟦<Law as TableRule<Option<M>, View<M>, Shape>>⟧.holds shape s → IsAt s i u → IsAt s j v → Has u.seen.held r → Has v.seen.held r → i ≡ j }
+    ensures one_taker { (shape : Shape) (s : State (Option M) (View M)) (i j : ℕ) (u v : View M) (r : Row) → ⟦<Law as TableRule<Option<M>, View<M>, Shape>>⟧.holds shape s → IsAt s i u → IsAt s j v → Has u.made (Take r) → Has v.made (Take r) → i ≡ j }
+    ensures named_once { (shape : Shape) (s : State (Option M) (View M)) (q r p : Row) → ⟦<Law as TableRule<Option<M>, View<M>, Shape>>⟧.holds shape s → names (joined_at (table_of shape s) q) p ≡ true → names (joined_at (table_of shape s) r) p ≡ true → q ≡ r }
+    ensures untouched { (shape : Shape) (s : State (Option M) (View M)) → ⟦<Law as TableRule<Option<M>, View<M>, Shape>>⟧.holds shape s → ((i : ℕ) (v : View M) → get_elem? s.views i ≡ some v → v.made ≡ []) → ((r : Row) → cell_at (table_of shape s) r ≡ Fresh) × ((n : NackName) → binding_at (table_of shape s) n ≡ None) }
 {}

@@ -18,9 +18,13 @@ use crate::view::View;
 use atomic_table::Seat;
 use protocol::{Base, Binding, Cell, Joined, NackName, Row};
 
-impl Board {
+impl<M> Board<M> {
     /// Where the nack is bound, by a look at its word. A nack that the table has not is not bound.
-    pub(crate) fn bound(&self, seat: &mut Seat<u64, View>, nack: NackName) -> Option<Binding>
+    pub(crate) fn bound(
+        &self,
+        seat: &mut Seat<Option<M>, View<M>>,
+        nack: NackName,
+    ) -> Option<Binding>
         requires { Sits self.now seat.old }
         ensures sits { StaysSeated self.now seat.old seat.new }
         ensures stays { seat.new.me.0 ≡ at_stage seat.old.me.0.stage seat.new.me.0.seen seat.old.me.0 }
@@ -38,7 +42,13 @@ impl Board {
     /// Binds nack k of the row's thread to the row, which is held and not opened yet, and to one of
     /// its scopes. False where the nack was bound before.
     #[tactic(auto, using(crate::proofs::Learning::learns_bound))]
-    pub(crate) fn bind(&self, seat: &mut Seat<u64, View>, k: u8, row: Row, scope: u8) -> bool
+    pub(crate) fn bind(
+        &self,
+        seat: &mut Seat<Option<M>, View<M>>,
+        k: u8,
+        row: Row,
+        scope: u8,
+    ) -> bool
         requires sits { Sits self.now seat.old × HasRow self.now row }
         requires held { Has seat.old.me.0.seen.held row × (¬ Has seat.old.me.0.seen.opened row) }
         requires range { (k < 64) × (scope < 4) }
@@ -63,7 +73,7 @@ impl Board {
 
     /// The stamp of what lets a base event commit its row alone: 0 for an always, and for a nack that
     /// is enabled that of the row which enabled it.
-    pub(crate) fn cause(&self, seat: &mut Seat<u64, View>, base: Base) -> Option<u32>
+    pub(crate) fn cause(&self, seat: &mut Seat<Option<M>, View<M>>, base: Base) -> Option<u32>
         requires sits { Sits self.now seat.old }
         ensures sits { StaysSeated self.now seat.old seat.new }
         ensures stays { seat.new.me.0 ≡ at_stage seat.old.me.0.stage seat.new.me.0.seen seat.old.me.0 }
@@ -83,7 +93,7 @@ impl Board {
 
     /// How the row that enabled the nack is committed: the nack is bound to it, and it chose an offer
     /// outside the nack's scope.
-    fn enabled_by(&self, seat: &mut Seat<u64, View>, nack: NackName) -> Option<Joined>
+    fn enabled_by(&self, seat: &mut Seat<Option<M>, View<M>>, nack: NackName) -> Option<Joined>
         requires sits { Sits self.now seat.old }
         ensures sits { StaysSeated self.now seat.old seat.new }
         ensures stays { seat.new.me.0 ≡ at_stage seat.old.me.0.stage seat.new.me.0.seen seat.old.me.0 }
@@ -105,7 +115,7 @@ impl Board {
     }
 
     /// How the row is committed, if it is.
-    fn committed(&self, seat: &mut Seat<u64, View>, row: Row) -> Option<Joined>
+    fn committed(&self, seat: &mut Seat<Option<M>, View<M>>, row: Row) -> Option<Joined>
         requires { Sits self.now seat.old × HasRow self.now row }
         ensures sits { StaysSeated self.now seat.old seat.new }
         ensures stays { seat.new.me.0 ≡ at_stage seat.old.me.0.stage seat.new.me.0.seen seat.old.me.0 }

@@ -18,9 +18,14 @@ use atomic_table::Seat;
 use protocol::{Base, Cell, Direction, Joined, Message, Offer, Row, unpack_count};
 use words::{read_head, read_offer};
 
-impl Board {
+impl<M> Board<M> {
     /// Offer n of the row, where it is opened and has one.
-    pub(crate) fn offer(&self, seat: &mut Seat<u64, View>, row: Row, n: u8) -> Option<Offer>
+    pub(crate) fn offer(
+        &self,
+        seat: &mut Seat<Option<M>, View<M>>,
+        row: Row,
+        n: u8,
+    ) -> Option<Offer>
         requires { Sits self.now seat.old × HasRow self.now row }
         ensures sits { StaysSeated self.now seat.old seat.new }
         ensures stays { seat.new.me.0 ≡ at_stage seat.old.me.0.stage seat.new.me.0.seen seat.old.me.0 }
@@ -37,7 +42,12 @@ impl Board {
     }
 
     /// Offer n of a row that was seen opened, where it has one.
-    pub(crate) fn opened_offer(&self, seat: &mut Seat<u64, View>, row: Row, n: u8) -> Option<Offer>
+    pub(crate) fn opened_offer(
+        &self,
+        seat: &mut Seat<Option<M>, View<M>>,
+        row: Row,
+        n: u8,
+    ) -> Option<Offer>
         requires { Sits self.now seat.old × HasRow self.now row × Has seat.old.me.0.seen.opened row }
         ensures sits { StaysSeated self.now seat.old seat.new }
         ensures stays { seat.new.me.0 ≡ at_stage seat.old.me.0.stage seat.new.me.0.seen seat.old.me.0 }
@@ -60,7 +70,14 @@ impl Board {
 
     /// The word of atom k, 1 to 3, of offer n of a row that was seen opened, where the offer has it: else 0,
     /// and nothing is read.
-    fn read_atom(&self, seat: &mut Seat<u64, View>, row: Row, n: u8, k: u8, has: bool) -> u64
+    fn read_atom(
+        &self,
+        seat: &mut Seat<Option<M>, View<M>>,
+        row: Row,
+        n: u8,
+        k: u8,
+        has: bool,
+    ) -> u64
         requires sits { Sits self.now seat.old × HasRow self.now row × Has seat.old.me.0.seen.opened row }
         requires place { (n < 8) × (1 ≤ k) × (k < 4) }
         ensures sits { StaysSeated self.now seat.old seat.new }
@@ -77,7 +94,12 @@ impl Board {
     }
 
     /// The direction of offer n of the row, where it is opened and has one.
-    pub(crate) fn direction(&self, seat: &mut Seat<u64, View>, row: Row, n: u8) -> Option<Direction>
+    pub(crate) fn direction(
+        &self,
+        seat: &mut Seat<Option<M>, View<M>>,
+        row: Row,
+        n: u8,
+    ) -> Option<Direction>
         requires { Sits self.now seat.old × HasRow self.now row }
         ensures sits { StaysSeated self.now seat.old seat.new }
         ensures stays { seat.new.me.0 ≡ at_stage seat.old.me.0.stage seat.new.me.0.seen seat.old.me.0 }
@@ -94,7 +116,7 @@ impl Board {
     /// The direction of offer n of a row that was seen opened, where it has one. Its head alone is read.
     pub(crate) fn opened_direction(
         &self,
-        seat: &mut Seat<u64, View>,
+        seat: &mut Seat<Option<M>, View<M>>,
         row: Row,
         n: u8,
     ) -> Option<Direction>
@@ -116,7 +138,7 @@ impl Board {
 
     /// The stamp of the row before this one in its thread, and 0 where there is none. The row was
     /// seen opened, so the one before it is committed.
-    pub(crate) fn last_stamp(&self, seat: &mut Seat<u64, View>, row: Row) -> u32
+    pub(crate) fn last_stamp(&self, seat: &mut Seat<Option<M>, View<M>>, row: Row) -> u32
         requires sits { Sits self.now seat.old × HasRow self.now row }
         requires opened { Has seat.old.me.0.seen.opened row }
         ensures sits { StaysSeated self.now seat.old seat.new }
@@ -139,7 +161,7 @@ impl Board {
     }
 
     /// What the row's thread gets, where the row is committed.
-    pub(crate) fn result(&self, seat: &mut Seat<u64, View>, row: Row) -> Option<Message>
+    pub(crate) fn result(&self, seat: &mut Seat<Option<M>, View<M>>, row: Row) -> Option<Message>
         requires { Sits self.now seat.old × HasRow self.now row }
         ensures sits { StaysSeated self.now seat.old seat.new }
         ensures stays { seat.new.me.0 ≡ at_stage seat.old.me.0.stage seat.new.me.0.seen seat.old.me.0 }
@@ -156,7 +178,12 @@ impl Board {
     }
 
     /// What the thread of a committed row gets.
-    fn gained(&self, seat: &mut Seat<u64, View>, row: Row, joined: Joined) -> Option<Message>
+    fn gained(
+        &self,
+        seat: &mut Seat<Option<M>, View<M>>,
+        row: Row,
+        joined: Joined,
+    ) -> Option<Message>
         requires sits { Sits self.now seat.old × HasRow self.now row }
         requires committed { Has seat.old.me.0.seen.joined (row, joined) × Has seat.old.me.0.seen.opened row }
         ensures sits { StaysSeated self.now seat.old seat.new }
@@ -172,7 +199,12 @@ impl Board {
     }
 
     /// What the partner of a committed row sent to it.
-    fn received(&self, seat: &mut Seat<u64, View>, row: Row, joined: Joined) -> Option<Message>
+    fn received(
+        &self,
+        seat: &mut Seat<Option<M>, View<M>>,
+        row: Row,
+        joined: Joined,
+    ) -> Option<Message>
         requires sits { Sits self.now seat.old × HasRow self.now row }
         requires committed { Has seat.old.me.0.seen.joined (row, joined) }
         requires receives { (mine : Offer) × (chan : ℕ) × HaveOffer seat.old.me.0.seen.words row joined.own mine × (mine.base ≡ Recv chan) }

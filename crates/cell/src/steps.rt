@@ -32,7 +32,7 @@ use protocol::{
 };
 use words::read_cell;
 
-impl Board {
+impl<M> Board<M> {
     // how many words a thread has
     fn thread_len(&self) -> usize
         ensures { result ≡ thread_len self.now.shape.rows }
@@ -61,7 +61,11 @@ impl Board {
     }
 
     /// Reads where the nack is bound.
-    pub(crate) fn look_nack(&self, seat: &mut Seat<u64, View>, nack: NackName) -> Option<Binding>
+    pub(crate) fn look_nack(
+        &self,
+        seat: &mut Seat<Option<M>, View<M>>,
+        nack: NackName,
+    ) -> Option<Binding>
         requires { Sits self.now seat.old × HasNack self.now nack }
         ensures sits { StaysSeated self.now seat.old seat.new }
         ensures saw { seat.new.me.0 ≡ saw_nack nack result seat.old.me.0 }
@@ -78,7 +82,7 @@ impl Board {
     /// says where it is.
     pub(crate) fn bind_nack(
         &self,
-        seat: &mut Seat<u64, View>,
+        seat: &mut Seat<Option<M>, View<M>>,
         nack: NackName,
         bound: Binding,
     ) -> Result<(), Binding>
@@ -102,7 +106,7 @@ impl Board {
     }
 
     /// Reads the row's cell.
-    pub(crate) fn look(&self, seat: &mut Seat<u64, View>, row: Row) -> Cell
+    pub(crate) fn look(&self, seat: &mut Seat<Option<M>, View<M>>, row: Row) -> Cell
         requires { Sits self.now seat.old × HasRow self.now row }
         ensures sits { StaysSeated self.now seat.old seat.new }
         ensures saw { seat.new.me.0 ≡ saw row result seat.old.me.0 }
@@ -112,7 +116,7 @@ impl Board {
     }
 
     /// Reads a word of a row that was seen opened.
-    pub(crate) fn read(&self, seat: &mut Seat<u64, View>, row: Row, place: u8) -> u64
+    pub(crate) fn read(&self, seat: &mut Seat<Option<M>, View<M>>, row: Row, place: u8) -> u64
         requires sits { Sits self.now seat.old × HasRow self.now row }
         requires place { (1 ≤ place) × (place < 34) × Has seat.old.me.0.seen.opened row }
         ensures sits { StaysSeated self.now seat.old seat.new }
@@ -122,7 +126,7 @@ impl Board {
     }
 
     /// Writes a word of a held row that is not opened yet.
-    pub(crate) fn draft(&self, seat: &mut Seat<u64, View>, row: Row, place: u8, word: u64)
+    pub(crate) fn draft(&self, seat: &mut Seat<Option<M>, View<M>>, row: Row, place: u8, word: u64)
         requires sits { Sits self.now seat.old × HasRow self.now row }
         requires place { (1 ≤ place) × (place < 34) × (is_word_for place word ≡ true) }
         requires held { Has seat.old.me.0.seen.held row × (¬ Has seat.old.me.0.seen.opened row) }
@@ -135,7 +139,7 @@ impl Board {
     }
 
     /// Opens a held row that is Fresh.
-    pub(crate) fn open(&self, seat: &mut Seat<u64, View>, row: Row)
+    pub(crate) fn open(&self, seat: &mut Seat<Option<M>, View<M>>, row: Row)
         requires sits { Sits self.now seat.old × HasRow self.now row }
         requires held { Has seat.old.me.0.seen.held row × (¬ Has seat.old.me.0.seen.opened row) × (seat.old.me.0.stage ≡ Resting) }
         ensures sits { StaysSeated self.now seat.old seat.new }
@@ -147,7 +151,7 @@ impl Board {
     }
 
     /// Claims a held row, where it is Waiting; else says what it is.
-    pub(crate) fn claim(&self, seat: &mut Seat<u64, View>, row: Row) -> Result<(), Cell>
+    pub(crate) fn claim(&self, seat: &mut Seat<Option<M>, View<M>>, row: Row) -> Result<(), Cell>
         requires sits { Sits self.now seat.old × HasRow self.now row }
         requires held { Has seat.old.me.0.seen.held row × (seat.old.me.0.stage ≡ Resting) }
         ensures sits { StaysSeated self.now seat.old seat.new }
@@ -164,7 +168,7 @@ impl Board {
     }
 
     /// Gives up the row that this call has claimed.
-    pub(crate) fn give_up(&self, seat: &mut Seat<u64, View>, row: Row)
+    pub(crate) fn give_up(&self, seat: &mut Seat<Option<M>, View<M>>, row: Row)
         requires sits { Sits self.now seat.old × HasRow self.now row }
         requires held { Has seat.old.me.0.seen.held row × (seat.old.me.0.stage ≡ Claims row) }
         ensures sits { StaysSeated self.now seat.old seat.new }
@@ -178,7 +182,7 @@ impl Board {
     /// Joins another row with the claimed one, where it is Waiting; else says what it is.
     pub(crate) fn join(
         &self,
-        seat: &mut Seat<u64, View>,
+        seat: &mut Seat<Option<M>, View<M>>,
         mine: Row,
         own: u8,
         row: Row,
@@ -204,7 +208,7 @@ impl Board {
     /// Commits a row alone, where it is Waiting; else says what it is.
     pub(crate) fn give(
         &self,
-        seat: &mut Seat<u64, View>,
+        seat: &mut Seat<Option<M>, View<M>>,
         row: Row,
         joined: Joined,
     ) -> Result<(), Cell>
@@ -228,7 +232,7 @@ impl Board {
     /// holds the thread's next row then, if there is one.
     pub(crate) fn take_committed(
         &self,
-        seat: &mut Seat<u64, View>,
+        seat: &mut Seat<Option<M>, View<M>>,
         row: Row,
         joined: Joined,
     ) -> Result<(), Cell>
@@ -250,7 +254,7 @@ impl Board {
     /// Commits the claimed row, as the row says that this call has joined with it.
     pub(crate) fn seal(
         &self,
-        seat: &mut Seat<u64, View>,
+        seat: &mut Seat<Option<M>, View<M>>,
         row: Row,
         own: u8,
         other: Row,

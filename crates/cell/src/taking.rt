@@ -11,9 +11,9 @@ use crate::view::View;
 use atomic_table::Seat;
 use protocol::{Cell, Joined, Row};
 
-impl Board {
+impl<M> Board<M> {
     /// Takes the row, where it is committed and nobody has taken it.
-    pub(crate) fn take(&self, seat: &mut Seat<u64, View>, row: Row) -> Option<Joined>
+    pub(crate) fn take(&self, seat: &mut Seat<Option<M>, View<M>>, row: Row) -> Option<Joined>
         requires { Sits self.now seat.old × HasRow self.now row }
         ensures sits { StaysSeated self.now seat.old seat.new }
         ensures stays { seat.new.me.0 ≡ worked seat.old.me.0.stage seat.new.me.0.seen (take_made row result seat.old.me.0.made) seat.old.me.0 }

@@ -8,9 +8,13 @@ use crate::board::{Board, Glance, Tell};
 use crate::view::View;
 use atomic_table::Seat;
 
-impl Board {
+impl<M> Board<M> {
     /// What `from` has seen, and what it drafted for its opened rows, is seen by `to` from now on.
-    pub(crate) fn tell(&self, from: &mut Seat<u64, View>, to: &mut Seat<u64, View>)
+    pub(crate) fn tell(
+        &self,
+        from: &mut Seat<Option<M>, View<M>>,
+        to: &mut Seat<Option<M>, View<M>>,
+    )
         requires { Sits self.now from.old × Sits self.now to.old }
         ensures sits { (from.new.id ≡ from.old.id) × Sits self.now from.new × (to.new.id ≡ to.old.id) × Sits self.now to.new }
         ensures from { from.new.me.0 ≡ from.old.me.0 }
@@ -23,7 +27,7 @@ impl Board {
 
     /// Reads a word and learns nothing by it: a pass that was told something sees so that all that it
     /// has seen is of one table.
-    fn glance(&self, seat: &mut Seat<u64, View>)
+    fn glance(&self, seat: &mut Seat<Option<M>, View<M>>)
         requires sits { (seat.old.table_id ≡ self.now.words.shared.table_id) × (seat.old.me.0.threads ≡ self.now.shape.threads) × (seat.old.me.0.rows ≡ self.now.shape.rows) }
         ensures sits { StaysSeated self.now seat.old seat.new }
         ensures stays { seat.new.me.0 ≡ seat.old.me.0 }

@@ -43,11 +43,13 @@ pub struct Seen {
 
 /// What the table's rule knows of a pass.
 #[derive(Debug, Drop)]
-pub struct View {
+pub struct View<M> {
     /// The table's size.
     pub threads: u64,
     pub rows: u64,
     pub passes: u64,
+    /// The values that stood for the threads at first, thread by thread; none where none stand for them.
+    pub first: LinkedList<M>,
     /// The seats below this one have their rows already; this pass deals the others.
     pub dealt: u64,
     /// The seat of the protocol that makes this pass's steps.

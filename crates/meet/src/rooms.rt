@@ -167,10 +167,10 @@ fn add_room(
 }
 
 /// Puts the entry into the room of this number, where there is one.
-pub(crate) fn put_into<R: Wait>(
+pub(crate) fn put_into<R: Wait, M>(
     rt: &R,
-    cells: &Cells,
-    pass: &mut Pass,
+    cells: &Cells<M>,
+    pass: &mut Pass<M>,
     rooms: &[Room],
     lanes: &mut MeetPass,
     at: usize,
@@ -217,10 +217,10 @@ fn put_one<R: Wait>(
 }
 
 /// Removes the entries of committed rows from the room's lane. The others stay in their order.
-fn sweep<R: Wait>(
+fn sweep<R: Wait, M>(
     rt: &R,
-    cells: &Cells,
-    pass: &mut Pass,
+    cells: &Cells<M>,
+    pass: &mut Pass<M>,
     rooms: &[Room],
     lanes: &mut MeetPass,
     at: usize,
@@ -300,10 +300,10 @@ pub(crate) fn length_of<R: Wait>(rt: &R, rooms: &[Room], lanes: &mut MeetPass, a
 }
 
 /// Puts the entries in hand whose rows are not committed back into the room's lane, in their order.
-pub(crate) fn put_back<R: Wait>(
+pub(crate) fn put_back<R: Wait, M>(
     rt: &R,
-    cells: &Cells,
-    pass: &mut Pass,
+    cells: &Cells<M>,
+    pass: &mut Pass<M>,
     rooms: &[Room],
     lanes: &mut MeetPass,
     at: usize,

@@ -12,11 +12,13 @@ ghost use Rattle.std.specs.Prelude.{◌≡◌, ℕ, ◌≤◌, List};
 mod board;
 mod commits;
 mod ledger;
+mod resident;
 mod state;
 mod world;
 
 pub use crate::board::{NACKS, ROW_LEN};
 pub use crate::ledger::Ledger;
+pub use crate::resident::Bare;
 pub use crate::world::{World, play};
 use thiserror::Error;
 pub use words::{

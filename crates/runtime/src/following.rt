@@ -7,7 +7,7 @@ ghost use Rattle.runtime.specs.Workers.{IsWorkerOf};
 use crate::fault::Halt;
 use crate::nacks::Nacks;
 use crate::turns::{Committed, Shared, Worker};
-use cell::{Cells, Pass, StepGate};
+use cell::{Bare, Cells, Pass, StepGate};
 use ready::ReadyEnd;
 use std::sync::Wait;
 use words::{Cell, NackName, Offer, Row};
@@ -55,7 +55,7 @@ pub(crate) fn put_committed<R: Wait>(
 #[inline(always)]
 pub(crate) fn follow_pair<R: Wait, G: StepGate>(
     rt: &R,
-    cells: &Cells,
+    cells: &Cells<Bare>,
     shared: &Shared,
     gate: &G,
     worker: &mut Worker,
@@ -86,7 +86,7 @@ pub(crate) fn follow_pair<R: Wait, G: StepGate>(
 #[inline(always)]
 pub(crate) fn follow_alone<R: Wait, G: StepGate>(
     rt: &R,
-    cells: &Cells,
+    cells: &Cells<Bare>,
     shared: &Shared,
     gate: &G,
     worker: &mut Worker,
@@ -107,7 +107,7 @@ pub(crate) fn follow_alone<R: Wait, G: StepGate>(
 #[inline(never)]
 fn wake_enabled<R: Wait, G: StepGate>(
     rt: &R,
-    cells: &Cells,
+    cells: &Cells<Bare>,
     shared: &Shared,
     gate: &G,
     worker: &mut Worker,
@@ -127,7 +127,7 @@ fn wake_enabled<R: Wait, G: StepGate>(
 /// Rows that are woken are put into the ready queues here.
 fn wake_all<R: Wait, G: StepGate>(
     rt: &R,
-    cells: &Cells,
+    cells: &Cells<Bare>,
     shared: &Shared,
     gate: &G,
     worker: &mut Worker,
@@ -162,8 +162,8 @@ fn wake_all<R: Wait, G: StepGate>(
 /// Adds those of the row's nacks that its commit enabled: of the scopes that do not enclose the offer that
 /// the row chose.
 fn add_enabled(
-    cells: &Cells,
-    pass: &mut Pass,
+    cells: &Cells<Bare>,
+    pass: &mut Pass<Bare>,
     row: Row,
     nacks: Nacks,
     enabled: &mut Vec<NackName>,
@@ -190,7 +190,7 @@ fn add_enabled(
 }
 
 /// The offer by which the row was committed.
-fn chosen_offer(cells: &Cells, pass: &mut Pass, row: Row) -> Option<Offer>
+fn chosen_offer(cells: &Cells<Bare>, pass: &mut Pass<Bare>, row: Row) -> Option<Offer>
     requires { IsPassOf cells.now pass.old }
     ensures { IsPassOf cells.now pass.new }
 {

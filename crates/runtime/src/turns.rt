@@ -14,7 +14,7 @@ use crate::gate::Gate;
 use crate::homes::{Home, Homes};
 use crate::nacks::Nacks;
 use crate::ranges::are_offers;
-use cell::{Cells, Pass, StepGate};
+use cell::{Bare, Cells, Pass, StepGate};
 use meet::{Found, Meet, MeetPass};
 use ready::{Ready, ReadyEnd};
 use std::alloc::Global;
@@ -37,7 +37,7 @@ pub(crate) struct Shared {
 /// and its number.
 #[derive(Drop)]
 pub(crate) struct Worker {
-    pub(crate) pass: Pass,
+    pub(crate) pass: Pass<Bare>,
     pub(crate) lanes: MeetPass,
     pub(crate) end: ReadyEnd,
     pub(crate) number: u8,
@@ -55,7 +55,7 @@ pub(crate) enum Committed {
 /// nothing runs. The answer is what the turn committed, which is to go on.
 pub(crate) fn advance<R: Wait, G: Gate + StepGate>(
     rt: &R,
-    cells: &Cells,
+    cells: &Cells<Bare>,
     shared: &Shared,
     gate: &G,
     worker: &mut Worker,
@@ -91,7 +91,7 @@ pub(crate) fn advance<R: Wait, G: Gate + StepGate>(
 }
 
 /// The next row of the row's thread, if the table has it. Then it has the row too.
-fn row_behind(cells: &Cells, row: Row) -> Option<Row>
+fn row_behind(cells: &Cells<Bare>, row: Row) -> Option<Row>
     ensures { IfSome result (λ next. IsRowOf cells.now row × IsRowOf cells.now next × (next ≡ next_row row)) }
 {
     let next = Row {
@@ -105,7 +105,7 @@ fn row_behind(cells: &Cells, row: Row) -> Option<Row>
 /// queues.
 fn begin_thread<R: Wait, G: Gate + StepGate>(
     rt: &R,
-    cells: &Cells,
+    cells: &Cells<Bare>,
     shared: &Shared,
     gate: &G,
     process: &Proc,
@@ -133,7 +133,7 @@ fn begin_thread<R: Wait, G: Gate + StepGate>(
 /// The first turns of the threads whose first rows the worker's pass holds.
 pub(crate) fn begin_all<R: Wait, G: Gate + StepGate>(
     rt: &R,
-    cells: &Cells,
+    cells: &Cells<Bare>,
     shared: &Shared,
     gate: &G,
     processes: &[Proc],
@@ -156,10 +156,10 @@ pub(crate) fn begin_all<R: Wait, G: Gate + StepGate>(
 /// at home again.
 fn begin<R: Wait>(
     rt: &R,
-    cells: &Cells,
+    cells: &Cells<Bare>,
     shared: &Shared,
     process: &Proc,
-    pass: &mut Pass,
+    pass: &mut Pass<Bare>,
     row: Row,
 ) -> Result<Option<Nacks>, Halt>
     requires here { IsPassOf cells.now pass.old × IsRowOf cells.now row }
@@ -183,9 +183,9 @@ fn begin<R: Wait>(
 /// row where it offers something there. The answer is that row's nacks, if it does.
 fn resume<R: Wait>(
     rt: &R,
-    cells: &Cells,
+    cells: &Cells<Bare>,
     shared: &Shared,
-    pass: &mut Pass,
+    pass: &mut Pass<Bare>,
     row: Row,
     joined: Joined,
     message: Message,
@@ -212,8 +212,8 @@ fn resume<R: Wait>(
 
 /// Opens the row with what the machine offers, if it offers something. The answer is its nacks then.
 fn enter(
-    cells: &Cells,
-    pass: &mut Pass,
+    cells: &Cells<Bare>,
+    pass: &mut Pass<Bare>,
     row: Row,
     home: &Home,
     machine: &Machine,
@@ -243,7 +243,7 @@ fn enter(
 /// here.
 fn meet<R: Wait, G: StepGate>(
     rt: &R,
-    cells: &Cells,
+    cells: &Cells<Bare>,
     shared: &Shared,
     gate: &G,
     worker: &mut Worker,
@@ -276,7 +276,7 @@ fn meet<R: Wait, G: StepGate>(
 
 /// Binds the nacks of the row's scopes. A nack is bound by its own thread alone, when its sync is opened,
 /// so none is bound yet.
-fn bind_all(cells: &Cells, pass: &mut Pass, row: Row, nacks: Nacks) -> Result<(), Halt>
+fn bind_all(cells: &Cells<Bare>, pass: &mut Pass<Bare>, row: Row, nacks: Nacks) -> Result<(), Halt>
     requires here { IsPassOf cells.now pass.old × IsRowOf cells.now row }
     requires fresh { Has pass.old.seen.held row × (¬ Has pass.old.seen.opened row) }
     ensures here { IsPassOf cells.now pass.new }

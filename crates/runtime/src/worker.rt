@@ -8,7 +8,7 @@ use crate::fault::Halt;
 use crate::following::{put_committed, put_ready};
 use crate::gate::Gate;
 use crate::turns::{Committed, Shared, Worker, advance, begin_all};
-use cell::{Cells, Pass, StepGate};
+use cell::{Bare, Cells, Pass, StepGate};
 use crossbeam_utils::Backoff;
 use ready::ReadyEnd;
 use std::sync::Wait;
@@ -107,7 +107,7 @@ fn keep_one<R: Wait>(
 /// The first turns of the worker's threads, and then whatever is ready.
 fn all_turns<R: Wait, G: Gate + StepGate>(
     rt: &R,
-    cells: &Cells,
+    cells: &Cells<Bare>,
     shared: &Shared,
     gate: &G,
     processes: &[Proc],
@@ -133,14 +133,14 @@ fn all_turns<R: Wait, G: Gate + StepGate>(
 /// What a worker gives back: its pass, and whether it came to the end.
 #[derive(Drop)]
 pub(crate) struct Worked {
-    pub(crate) pass: Pass,
+    pub(crate) pass: Pass<Bare>,
     pub(crate) done: Result<(), Halt>,
 }
 
 /// All turns of one worker. Where it halts, all workers stop.
 pub(crate) fn work_on<R: Wait, G: Gate + StepGate>(
     rt: &R,
-    cells: &Cells,
+    cells: &Cells<Bare>,
     shared: &Shared,
     gate: &G,
     processes: &[Proc],

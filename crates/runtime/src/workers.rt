@@ -12,7 +12,7 @@ use crate::fault::{Halt, told_first};
 use crate::gate::Gate;
 use crate::turns::{Shared, Worker};
 use crate::worker::{Worked, work_on};
-use cell::{Cells, Pass, StepGate};
+use cell::{Bare, Cells, Pass, StepGate};
 use core::thread::Stack;
 use meet::MeetPass;
 use ready::ReadyEnd;
@@ -30,14 +30,14 @@ const WORKER_STACK: usize = 512 * 1024;
 /// A worker gives back a pass of this table.
 #[derive(Drop)]
 struct GivesBack {
-    cells: Snapshot<Cells>,
+    cells: Snapshot<Cells<Bare>>,
 }
 
 impl Promise<Worked> for GivesBack {
     ghost kept_by = { λ side worked. IsPassOf side.cells.value worked.pass };
 }
 
-fn gives_back(cells: &Cells) -> GivesBack
+fn gives_back(cells: &Cells<Bare>) -> GivesBack
     ensures { result.cells.value ≡ cells.now }
 {
     GivesBack {
@@ -51,10 +51,10 @@ type Handle = PromisedHandle<Worked, GivesBack>;
 fn join_all<R: Threads>(
     rt: &R,
     alloc: Global,
-    cells: &Cells,
+    cells: &Cells<Bare>,
     handles: Vec<Handle>,
     halted: Option<Halt>,
-) -> Result<Vec<Pass>, Halt>
+) -> Result<Vec<Pass<Bare>>, Halt>
     requires { All (λ h. h.promise.cells.value ≡ cells.now) handles.items }
     ensures { IfOk result (λ back. All (λ p. IsPassOf cells.now p) back.items) }
 {
@@ -78,7 +78,7 @@ fn join_all<R: Threads>(
 /// The workers, each with a pass, lanes and an end of its own.
 pub(crate) fn workers_of(
     alloc: Global,
-    passes: Vec<Pass>,
+    passes: Vec<Pass<Bare>>,
     lanes: Vec<MeetPass>,
     ends: Vec<ReadyEnd>,
 ) -> Result<Vec<Worker>, Halt>
@@ -110,12 +110,12 @@ pub(crate) fn workers_of(
 fn work_alone<R: Wait, G: Gate + StepGate>(
     rt: &R,
     alloc: Global,
-    cells: &Cells,
+    cells: &Cells<Bare>,
     shared: &Shared,
     gate: &G,
     processes: &[Proc],
     workers: Vec<Worker>,
-) -> Result<Vec<Pass>, Halt>
+) -> Result<Vec<Pass<Bare>>, Halt>
     requires { All (λ w. IsWorkerOf cells.now shared.now w) workers.items }
     ensures { IfOk result (λ back. All (λ p. IsPassOf cells.now p) back.items) }
 {
@@ -134,12 +134,12 @@ fn work_alone<R: Wait, G: Gate + StepGate>(
 pub(crate) fn all_work<R: Threads + Wait + Sync, G: Gate + StepGate + Sync>(
     rt: &R,
     alloc: Global,
-    cells: &Cells,
+    cells: &Cells<Bare>,
     shared: &Shared,
     gate: &G,
     processes: &[Proc],
     workers: Vec<Worker>,
-) -> Result<Vec<Pass>, Halt>
+) -> Result<Vec<Pass<Bare>>, Halt>
     requires { All (λ w. IsWorkerOf cells.now shared.now w) workers.items }
     ensures { IfOk result (λ back. All (λ p. IsPassOf cells.now p) back.items) }
 {
@@ -150,7 +150,7 @@ pub(crate) fn all_work<R: Threads + Wait + Sync, G: Gate + StepGate + Sync>(
     thread::scope(
         thread::scope_env(),
         rt,
-        |scope| -> Result<Vec<Pass>, Halt>
+        |scope| -> Result<Vec<Pass<Bare>>, Halt>
             requires sync { IsSync R.row × IsSync G.row }
             requires workers { All (λ w. IsWorkerOf cells.now shared.now w) workers.items }
             requires handles { handles.items ≡ [] }
@@ -185,7 +185,7 @@ pub(crate) fn all_work<R: Threads + Wait + Sync, G: Gate + StepGate + Sync>(
 }
 
 /// One of the passes, which all others have told what they saw.
-pub(crate) fn told_one(cells: &Cells, passes: Vec<Pass>) -> Option<Pass>
+pub(crate) fn told_one(cells: &Cells<Bare>, passes: Vec<Pass<Bare>>) -> Option<Pass<Bare>>
     requires { All (λ p. IsPassOf cells.now p) passes.items }
     ensures { IfSome result (λ p. IsPassOf cells.now p) }
 {

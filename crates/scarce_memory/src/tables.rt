@@ -11,7 +11,7 @@ ghost use Rattle.meet.specs.Rooms.{IsMeetPassOf};
 use crate::hoard::Hoard;
 use crate::sweep::{Answer, Call, judged};
 use anyhow::Result;
-use cell::{Cells, NoGate, Pass};
+use cell::{Bare, Cells, NoGate, Pass};
 use meet::{Found, Meet, MeetPass};
 use std::alloc::{AllocError, Global};
 use std::sync::Wait;
@@ -109,7 +109,7 @@ fn cancelled() -> Offer
 }
 
 /// A table of two threads with a row each, and the pass that holds both rows.
-fn table(alloc: Global) -> Result<(Cells, Pass), AllocError>
+fn table(alloc: Global) -> Result<(Cells<Bare>, Pass<Bare>), AllocError>
     ensures size { IfOk result (λ t. (t.0.threads ≡ 2) × (t.0.rows ≡ 1)) }
     ensures here { IfOk result (λ t. IsPassOf t.0 t.1) }
     ensures seen { IfOk result (λ t. t.1.seen ≡ seen_nothing (dealt_rows 2 1 0)) }
@@ -133,7 +133,7 @@ fn lanes(alloc: Global) -> Result<(Meet, MeetPass), AllocError>
 }
 
 /// Drafts these offers for a held row, and opens it.
-fn enter(cells: &Cells, pass: &mut Pass, row: Row, offers: &[Offer])
+fn enter(cells: &Cells<Bare>, pass: &mut Pass<Bare>, row: Row, offers: &[Offer])
     requires here { IsPassOf cells.now pass.old × IsRowOf cells.now row }
     requires fresh { Has pass.old.seen.held row × (¬ Has pass.old.seen.opened row) }
     requires offers { AreOffers offers.now }
@@ -146,7 +146,7 @@ fn enter(cells: &Cells, pass: &mut Pass, row: Row, offers: &[Offer])
 }
 
 /// The commits that the table comes to.
-fn commits_of(cells: Cells, pass: Pass) -> Result<Vec<Commit>, AllocError>
+fn commits_of(cells: Cells<Bare>, pass: Pass<Bare>) -> Result<Vec<Commit>, AllocError>
     requires { IsPassOf cells pass }
 {
     let ledger = cells.close(pass);
@@ -213,7 +213,7 @@ pub(crate) struct Waking<'a, R> {
 
 /// Binds the nack to the first row and scope 0, and opens the row with a receive inside the scope and an
 /// always outside it. Opens the other row to wait for the nack.
-fn enter_bound(cells: &Cells, pass: &mut Pass) -> bool
+fn enter_bound(cells: &Cells<Bare>, pass: &mut Pass<Bare>) -> bool
     requires here { IsPassOf cells.now pass.old × IsRowOf cells.now (first_row 0) × IsRowOf cells.now (first_row 1) }
     requires held { Has pass.old.seen.held (first_row 0) × Has pass.old.seen.held (first_row 1) }
     requires fresh { pass.old.seen.opened ≡ [] }

@@ -9,28 +9,28 @@ use Rattle.cell.proofs.Turning.{world_kept}
 use Rattle.cell.proofs.every_moment_is_lawful.Goals as goal
 
 pub returns-clause-lawful : goal.returns-clause-lawful
-returns-clause-lawful c shape s k = subst (λ (t : Table). IsLawful (ledger_of t)) k.table (lawful_ledger k.world.table (world_kept shape s k).linked)
+returns-clause-lawful g c shape s k = subst (λ (t : Table). IsLawful (ledger_of t)) k.table (lawful_ledger k.world.table (world_kept shape s k).linked)
 
 pub returns-clause-played : goal.returns-clause-played
-returns-clause-played c shape s k = (k.moves, k.world, k.played, k.table, k.interleaved)
+returns-clause-played g c shape s k = (k.moves, k.world, k.played, k.table, k.interleaved)
 
 pub returns-clause-known : goal.returns-clause-known
-returns-clause-known c shape s k = (k.world, k.owner, k.table, λ id v at. k.knows id v at.0 at.1)
+returns-clause-known g c shape s k = (k.world, k.owner, k.table, λ id v at. k.knows id v at.0 at.1)
 
 pub returns-clause-one_holder : goal.returns-clause-one_holder
-returns-clause-one_holder c shape s i j u v r k at also held too = sym ((k.knows i u at.0 at.1).mine r held).0 ∙ ((k.knows j v also.0 also.1).mine r too).0
+returns-clause-one_holder g c shape s i j u v r k at also held too = sym ((k.knows i u at.0 at.1).mine r held).0 ∙ ((k.knows j v also.0 also.1).mine r too).0
 
 pub returns-clause-one_taker : goal.returns-clause-one_taker
-returns-clause-one_taker c shape s i j u v r k at also took too =
+returns-clause-one_taker g c shape s i j u v r k at also took too =
     taken_once (start_world shape.threads shape.rows shape.passes) k.world k.moves s.views i j u v r (kept_start shape.threads shape.rows shape.passes k.few_threads k.few_rows) k.played k.interleaved at.0 also.0 took too
 
 pub returns-clause-named_once : goal.returns-clause-named_once
-returns-clause-named_once c shape s q r p k =
+returns-clause-named_once g c shape s q r p k =
     subst (λ (t : Table). names (joined_at t q) p ≡ true → names (joined_at t r) p ≡ true → q ≡ r) k.table ((world_kept shape s k).linked.once q r p)
 
 -- where nothing was done, the words are those of the start
 pub returns-clause-untouched : goal.returns-clause-untouched
-returns-clause-untouched c shape s k nothing =
+returns-clause-untouched g c shape s k nothing =
     let start = start_world shape.threads shape.rows shape.passes in
     let still : Plays start [] k.world = subst (λ (moves : List Move). Plays start (in_order moves) k.world) (nothing_yet k.moves s.views k.interleaved nothing) k.played in
     let words = sym k.table ∙ ap (λ (w : World). w.table) still in (

@@ -7,7 +7,7 @@ ghost use Rattle.cell.specs.Sight.{Has};
 ghost use Rattle.meet.specs.Rooms.{IsMeetPassOf};
 
 use super::table::{always, cancelled, enter, receive, send};
-use cell::{Cells, NoGate, Pass};
+use cell::{Bare, Cells, NoGate, Pass};
 use meet::{Found, Meet, MeetPass};
 use std::alloc::AllocError;
 use std::fmt::Debug;
@@ -76,8 +76,8 @@ fn check_row<T: PartialEq + Debug + Drop>(
 /// Ends the table: its ledger has so many commits.
 pub(super) fn check_closed(
     rt: &impl Abort,
-    cells: Cells,
-    pass: Pass,
+    cells: Cells<Bare>,
+    pass: Pass<Bare>,
     commits: usize,
 ) -> Result<(), AllocError>
     requires { IsPassOf cells pass }
@@ -100,7 +100,7 @@ fn offer_of(single: Single) -> Offer
 }
 
 /// The row is one of the table.
-fn expect_row(rt: &impl Abort, cells: &Cells, row: Row)
+fn expect_row(rt: &impl Abort, cells: &Cells<Bare>, row: Row)
     ensures { IsRowOf cells.now row }
 {
     if !cells.has(row) {
@@ -109,7 +109,7 @@ fn expect_row(rt: &impl Abort, cells: &Cells, row: Row)
 }
 
 /// The pass holds the row of the table, and has not opened it.
-fn expect_fresh(rt: &impl Abort, cells: &Cells, pass: &mut Pass, row: Row)
+fn expect_fresh(rt: &impl Abort, cells: &Cells<Bare>, pass: &mut Pass<Bare>, row: Row)
     requires { IsPassOf cells.now pass.old }
     ensures here { IsPassOf cells.now pass.new × IsRowOf cells.now row }
     ensures fresh { Has pass.new.seen.held row × (¬ Has pass.new.seen.opened row) }
@@ -123,7 +123,7 @@ fn expect_fresh(rt: &impl Abort, cells: &Cells, pass: &mut Pass, row: Row)
 }
 
 /// The pass holds the row of the table, and it is open.
-fn expect_opened(rt: &impl Abort, cells: &Cells, pass: &mut Pass, row: Row)
+fn expect_opened(rt: &impl Abort, cells: &Cells<Bare>, pass: &mut Pass<Bare>, row: Row)
     requires { IsPassOf cells.now pass.old }
     ensures here { IsPassOf cells.now pass.new × IsRowOf cells.now row }
     ensures opened { Has pass.new.seen.held row × Has pass.new.seen.opened row }
@@ -140,7 +140,7 @@ fn expect_opened(rt: &impl Abort, cells: &Cells, pass: &mut Pass, row: Row)
     }
 }
 
-fn enter_all(rt: &impl Abort, cells: &Cells, pass: &mut Pass, row: Row, offers: Offers)
+fn enter_all(rt: &impl Abort, cells: &Cells<Bare>, pass: &mut Pass<Bare>, row: Row, offers: Offers)
     requires { IsPassOf cells.now pass.old }
     ensures { IsPassOf cells.now pass.new }
 {
@@ -160,9 +160,9 @@ fn enter_all(rt: &impl Abort, cells: &Cells, pass: &mut Pass, row: Row, offers: 
 fn wake<R: AllocGlobal + Abort + Wait>(
     rt: &R,
     meet: &Meet,
-    cells: &Cells,
+    cells: &Cells<Bare>,
     lanes: &mut MeetPass,
-    pass: &mut Pass,
+    pass: &mut Pass<Bare>,
     nack: NackName,
     wanted: &[Row],
 ) -> Result<(), AllocError>
@@ -177,9 +177,9 @@ fn wake<R: AllocGlobal + Abort + Wait>(
 fn carry_out<R: AllocGlobal + Abort + Wait>(
     rt: &R,
     meet: &Meet,
-    cells: &Cells,
+    cells: &Cells<Bare>,
     lanes: &mut MeetPass,
-    pass: &mut Pass,
+    pass: &mut Pass<Bare>,
     act: Act,
 ) -> Result<(), AllocError>
     requires { IsPassOf cells.now pass.old × IsMeetPassOf meet.now lanes.old }
@@ -209,9 +209,9 @@ fn carry_out<R: AllocGlobal + Abort + Wait>(
 pub(super) fn play<R: AllocGlobal + Abort + Wait>(
     rt: &R,
     meet: &Meet,
-    cells: &Cells,
+    cells: &Cells<Bare>,
     lanes: &mut MeetPass,
-    pass: &mut Pass,
+    pass: &mut Pass<Bare>,
     acts: &[Act],
 ) -> Result<(), AllocError>
     requires { IsPassOf cells.now pass.old × IsMeetPassOf meet.now lanes.old }

@@ -7,7 +7,7 @@ ghost use Rattle.cell.specs.Sight.{Has};
 ghost use Rattle.meet.specs.Rooms.{IsMeetPassOf};
 
 use super::table::{enter, receive, rooms, send, table_of_two};
-use cell::{Cells, NoGate, Pass, StepGate, YIELD};
+use cell::{Bare, Cells, NoGate, Pass, StepGate, YIELD};
 use meet::{Found, Meet, MeetPass};
 use std::alloc::AllocError;
 use std::cell::Cell as Kept;
@@ -37,10 +37,10 @@ impl StepGate for Yields {
 fn meet_on_first<R: Wait>(
     rt: &R,
     meet: &Meet,
-    cells: &Cells,
+    cells: &Cells<Bare>,
     lanes: &mut MeetPass,
-    waiter: &mut Pass,
-    sender: &mut Pass,
+    waiter: &mut Pass<Bare>,
+    sender: &mut Pass<Bare>,
     sync: u16,
 ) -> Result<bool, AllocError>
     requires here { IsPassOf cells.now waiter.old × IsPassOf cells.now sender.old × (cells.now.threads ≡ 2) × (sync + 1 < cells.now.rows) × (cells.now.rows ≤ 1024) }
@@ -72,10 +72,10 @@ fn meet_on_first<R: Wait>(
 fn meet_all<R: Wait>(
     rt: &R,
     meet: &Meet,
-    cells: &Cells,
+    cells: &Cells<Bare>,
     lanes: &mut MeetPass,
-    waiter: &mut Pass,
-    sender: &mut Pass,
+    waiter: &mut Pass<Bare>,
+    sender: &mut Pass<Bare>,
 ) -> Result<bool, AllocError>
     requires here { IsPassOf cells.now waiter.old × IsPassOf cells.now sender.old × (cells.now.threads ≡ 2) × (cells.now.rows ≡ 1001) }
     requires waiter { Has waiter.old.seen.held (record { thread = 0; sync = 0 }) × (¬ Has waiter.old.seen.opened (record { thread = 0; sync = 0 })) }

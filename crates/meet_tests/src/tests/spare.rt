@@ -6,7 +6,7 @@ ghost use Rattle.cell.specs.Sight.{AreOffers, Has};
 ghost use Rattle.meet.specs.Rooms.{IsMeetPassOf};
 
 use super::table::{receive, rooms, send, table_of_all};
-use cell::{Cells, NoGate, Pass};
+use cell::{Bare, Cells, NoGate, Pass};
 use meet::{Found, Meet, MeetPass};
 use std::alloc::AllocError;
 use std::sync::Wait;
@@ -23,7 +23,7 @@ const ROUNDS: u16 = 940;
 const SPARE: u8 = 32;
 
 /// Opens the row with these offers, if the pass holds it and it is not open.
-fn opens(cells: &Cells, pass: &mut Pass, row: Row, offers: &[Offer]) -> bool
+fn opens(cells: &Cells<Bare>, pass: &mut Pass<Bare>, row: Row, offers: &[Offer]) -> bool
     requires here { IsPassOf cells.now pass.old }
     requires offers { AreOffers offers.now }
     ensures here { IsPassOf cells.now pass.new }
@@ -41,7 +41,7 @@ fn opens(cells: &Cells, pass: &mut Pass, row: Row, offers: &[Offer]) -> bool
 }
 
 /// Takes the committed row, so that its thread can go on.
-fn takes(cells: &Cells, pass: &mut Pass, row: Row) -> bool
+fn takes(cells: &Cells<Bare>, pass: &mut Pass<Bare>, row: Row) -> bool
     requires { IsPassOf cells.now pass.old }
     ensures { IsPassOf cells.now pass.new }
 {
@@ -55,9 +55,9 @@ fn takes(cells: &Cells, pass: &mut Pass, row: Row) -> bool
 fn meets<R: Wait>(
     rt: &R,
     meet: &Meet,
-    cells: &Cells,
+    cells: &Cells<Bare>,
     lanes: &mut MeetPass,
-    pass: &mut Pass,
+    pass: &mut Pass<Bare>,
     pair: u8,
     sync: u16,
 ) -> Result<bool, AllocError>
@@ -91,9 +91,9 @@ fn meets<R: Wait>(
 fn all_meet<R: Wait>(
     rt: &R,
     meet: &Meet,
-    cells: &Cells,
+    cells: &Cells<Bare>,
     lanes: &mut MeetPass,
-    pass: &mut Pass,
+    pass: &mut Pass<Bare>,
     sync: u16,
 ) -> Result<bool, AllocError>
     requires here { IsPassOf cells.now pass.old × IsMeetPassOf meet.now lanes.old }
@@ -111,9 +111,9 @@ fn all_meet<R: Wait>(
 fn longest_lane<R: Wait>(
     rt: &R,
     meet: &Meet,
-    cells: &Cells,
+    cells: &Cells<Bare>,
     lanes: &mut MeetPass,
-    pass: &mut Pass,
+    pass: &mut Pass<Bare>,
 ) -> Result<Option<usize>, AllocError>
     requires here { IsPassOf cells.now pass.old × IsMeetPassOf meet.now lanes.old }
     ensures here { IsPassOf cells.now pass.new × IsMeetPassOf meet.now lanes.new }

@@ -8,7 +8,7 @@ ghost use Rattle.cell.specs.Sight.{AreOffers, Has};
 ghost use Rattle.cell.specs.Views.{first_row};
 ghost use Rattle.meet.specs.Rooms.{IsMeetPassOf};
 
-use cell::{Cells, Pass};
+use cell::{Bare, Cells, Pass};
 use meet::{Meet, MeetPass};
 use std::alloc::{AllocError, Global};
 use words::{Atom, Base, Message, NackName, Offer, Row};
@@ -65,7 +65,7 @@ pub(super) fn cancelled() -> Offer
 }
 
 /// A table of threads with a row each, and the pass that holds all rows.
-pub(super) fn table(alloc: Global, threads: u8) -> Result<(Cells, Pass), AllocError>
+pub(super) fn table(alloc: Global, threads: u8) -> Result<(Cells<Bare>, Pass<Bare>), AllocError>
     requires { (1 ≤ threads) × (threads ≤ 16) }
     ensures size { IfOk result (λ t. (t.0.threads ≡ threads) × (t.0.rows ≡ 1)) }
     ensures here { IfOk result (λ t. IsPassOf t.0 t.1) }
@@ -83,7 +83,7 @@ pub(super) fn table_of_all(
     alloc: Global,
     threads: u8,
     rows: u16,
-) -> Result<(Cells, Pass), AllocError>
+) -> Result<(Cells<Bare>, Pass<Bare>), AllocError>
     requires threads { (1 ≤ threads) × (threads ≤ 64) }
     requires rows { (1 ≤ rows) × (rows ≤ 1024) }
     ensures { IfOk result (λ t. IsPassOf t.0 t.1) }
@@ -96,7 +96,11 @@ pub(super) fn table_of_all(
 }
 
 /// A table of threads with so many rows each, and for each thread a pass that holds its first row.
-fn table_of_threads(alloc: Global, threads: u8, rows: u16) -> Result<(Cells, Vec<Pass>), AllocError>
+fn table_of_threads(
+    alloc: Global,
+    threads: u8,
+    rows: u16,
+) -> Result<(Cells<Bare>, Vec<Pass<Bare>>), AllocError>
     requires threads { (1 ≤ threads) × (threads ≤ 16) }
     requires rows { (1 ≤ rows) × (rows ≤ 1024) }
     ensures size { IfOk result (λ t. (t.0.threads ≡ threads) × (t.0.rows ≡ rows) × (length t.1.items ≡ threads)) }
@@ -107,7 +111,7 @@ fn table_of_threads(alloc: Global, threads: u8, rows: u16) -> Result<(Cells, Vec
 }
 
 /// Takes the last pass: it holds the row of the last thread, and has not opened it.
-fn deal(cells: &Cells, passes: &mut Vec<Pass>, thread: u8) -> Pass
+fn deal(cells: &Cells<Bare>, passes: &mut Vec<Pass<Bare>>, thread: u8) -> Pass<Bare>
     requires count { length passes.old.items ≡ thread + 1 }
     requires passes { (number : ℕ) (pass : PassView) → slice_get passes.old.items number ≡ Some pass → IsPassOf cells.now pass × Has pass.seen.held (first_row number) × (pass.seen.opened ≡ []) }
     ensures count { length passes.new.items ≡ thread }
@@ -122,7 +126,10 @@ fn deal(cells: &Cells, passes: &mut Vec<Pass>, thread: u8) -> Pass
 }
 
 /// A table of two threads with so many rows each, and for each a pass that holds its first row.
-pub(super) fn table_of_two(alloc: Global, rows: u16) -> Result<(Cells, Pass, Pass), AllocError>
+pub(super) fn table_of_two(
+    alloc: Global,
+    rows: u16,
+) -> Result<(Cells<Bare>, Pass<Bare>, Pass<Bare>), AllocError>
     requires { (1 ≤ rows) × (rows ≤ 1024) }
     ensures size { IfOk result (λ t. (t.0.threads ≡ 2) × (t.0.rows ≡ rows)) }
     ensures first { IfOk result (λ t. IsPassOf t.0 t.1 × Has t.1.seen.held (first_row 0) × (t.1.seen.opened ≡ [])) }
@@ -162,7 +169,7 @@ pub(super) fn last(meet: &Meet, all: &mut Vec<MeetPass>) -> MeetPass
 }
 
 /// Drafts these offers for a held row, and opens it.
-pub(super) fn enter(cells: &Cells, pass: &mut Pass, row: Row, offers: &[Offer])
+pub(super) fn enter(cells: &Cells<Bare>, pass: &mut Pass<Bare>, row: Row, offers: &[Offer])
     requires here { IsPassOf cells.now pass.old × IsRowOf cells.now row }
     requires fresh { Has pass.old.seen.held row × (¬ Has pass.old.seen.opened row) }
     requires offers { AreOffers offers.now }

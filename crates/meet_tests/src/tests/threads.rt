@@ -10,7 +10,7 @@ ghost use Rattle.meet.specs.Rooms.{IsMeetPassOf};
 
 use super::table::{NACK, cancelled, enter, last, receive, row, send, table_of_two};
 use super::wakings::enter_bound;
-use cell::{Cells, NoGate, Pass};
+use cell::{Bare, Cells, NoGate, Pass};
 use meet::{Found, Meet, MeetPass};
 use std::alloc::{AllocError, Global};
 use std::sync::Wait;
@@ -50,13 +50,13 @@ fn line_up(arrived: &AtomicU64) {
 fn search<R: Wait>(
     rt: &R,
     meet: &Meet,
-    cells: &Cells,
-    mut pass: Pass,
+    cells: &Cells<Bare>,
+    mut pass: Pass<Bare>,
     mut lanes: MeetPass,
     thread: u8,
     offer: Offer,
     arrived: &AtomicU64,
-) -> (Result<Found, AllocError>, Pass)
+) -> (Result<Found, AllocError>, Pass<Bare>)
     requires here { IsPassOf cells.now pass × IsRowOf cells.now (first_row thread) }
     requires fresh { Has pass.seen.held (first_row thread) × (pass.seen.opened ≡ []) }
     requires offer { IsOfferInRange offer }
@@ -75,11 +75,11 @@ fn commit_and_wake<R: Wait>(
     rt: &R,
     alloc: Global,
     meet: &Meet,
-    cells: &Cells,
-    mut pass: Pass,
+    cells: &Cells<Bare>,
+    mut pass: Pass<Bare>,
     mut lanes: MeetPass,
     arrived: &AtomicU64,
-) -> (Result<usize, AllocError>, Pass)
+) -> (Result<usize, AllocError>, Pass<Bare>)
     requires here { IsPassOf cells.now pass × IsRowOf cells.now (first_row 0) }
     requires opened { Has pass.seen.held (first_row 0) × Has pass.seen.opened (first_row 0) }
     requires lanes { IsMeetPassOf meet.now lanes }
@@ -101,13 +101,13 @@ fn no_pair_is_missed(rt: HostRuntime) -> Result<(), Fail> {
         let arrived = AtomicU64::new(0);
         let ((sent, mut sender), (received, mut receiver)) = thread::join(
             &rt,
-            || -> (Result<Found, AllocError>, Pass)
+            || -> (Result<Found, AllocError>, Pass<Bare>)
                 requires here { IsPassOf cells sender × IsRowOf cells (first_row 0) }
                 requires lanes { IsMeetPassOf meet first }
                 requires fresh { Has sender.seen.held (first_row 0) × (sender.seen.opened ≡ []) }
                 ensures here { IsPassOf cells result.1 }
             { search(&rt, &meet, &cells, sender, first, 0, send(0, 42), &arrived) },
-            || -> (Result<Found, AllocError>, Pass)
+            || -> (Result<Found, AllocError>, Pass<Bare>)
                 requires here { IsPassOf cells receiver × IsRowOf cells (first_row 1) }
                 requires lanes { IsMeetPassOf meet second }
                 requires fresh { Has receiver.seen.held (first_row 1) × (receiver.seen.opened ≡ []) }
@@ -143,13 +143,13 @@ fn nobody_who_waits_for_a_nack_is_missed(rt: HostRuntime) -> Result<(), Fail> {
         assert!(rt; enter_bound(&cells, &mut committer));
         let ((woken, mut committer), (found, mut waiter)) = thread::join(
             &rt,
-            || -> (Result<usize, AllocError>, Pass)
+            || -> (Result<usize, AllocError>, Pass<Bare>)
                 requires here { IsPassOf cells committer × IsRowOf cells (first_row 0) }
                 requires lanes { IsMeetPassOf meet first }
                 requires opened { Has committer.seen.held (first_row 0) × Has committer.seen.opened (first_row 0) }
                 ensures here { IsPassOf cells result.1 }
             { commit_and_wake(&rt, rt.alloc(), &meet, &cells, committer, first, &arrived) },
-            || -> (Result<Found, AllocError>, Pass)
+            || -> (Result<Found, AllocError>, Pass<Bare>)
                 requires here { IsPassOf cells waiter × IsRowOf cells (first_row 1) }
                 requires lanes { IsMeetPassOf meet second }
                 requires fresh { Has waiter.seen.held (first_row 1) × (waiter.seen.opened ≡ []) }

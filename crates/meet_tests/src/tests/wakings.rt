@@ -8,7 +8,7 @@ ghost use Rattle.cell.specs.Views.{first_row};
 use super::acts::{Act, Offers, Single};
 use super::searches::check_acts;
 use super::table::{NACK, always, enter, receive, row};
-use cell::{Cells, Pass};
+use cell::{Bare, Cells, Pass};
 use meet::Found;
 use std::test::Fail;
 use words::{Message, NackName, Offer, Row};
@@ -22,7 +22,7 @@ fn two() -> [Offer; 2]
 
 /// Binds the first nack of thread 0 to its first row and scope 0, and opens the row with a receive
 /// inside the scope and an always outside it.
-pub(super) fn enter_bound(cells: &Cells, pass: &mut Pass) -> bool
+pub(super) fn enter_bound(cells: &Cells<Bare>, pass: &mut Pass<Bare>) -> bool
     requires here { IsPassOf cells.now pass.old × IsRowOf cells.now (first_row 0) }
     requires fresh { Has pass.old.seen.held (first_row 0) × (pass.old.seen.opened ≡ []) }
     ensures here { IsPassOf cells.now pass.new }

@@ -4,4 +4,4 @@ use Rattle.cell.proofs.closing.copy_words.Given as goal
 
 -- the words so far are those of the table
 abbrev pub invariant-loop-at : goal.invariant-loop-at
-invariant-loop-at l = (length l.words.items ≡ slots_len l.closed.words) × ((i : ℕ) → i < l.at → slice_index l.words.items i ≡ slice_index (slots_items l.closed.words) i)
+invariant-loop-at g l = (length l.words.items ≡ slots_len l.closed.words) × ((i : ℕ) → i < l.at → slice_index l.words.items i ≡ slice_index (slots_items l.closed.words) i)

@@ -7,11 +7,11 @@ use Rattle.meet.proofs.meet.own_directions.Goals as goal
 
 -- the row has no further offer
 pub returns-in_default-clause-seen : goal.returns-in_default-clause-seen
-returns-in_default-clause-seen c n d e =
+returns-in_default-clause-seen g c n d e =
     seen_more c.loop-n.pass.seen c.direction.new.pass.seen c.args.row n d (grows_by _ _ c.loop-n.pass.seen c.direction.new.pass.seen c.direction.ensures.learns) (c.loop-n.invariant.2.seen n d e)
 
 pub returns-in_default-clause-whole : goal.returns-in_default-clause-whole
-returns-in_default-clause-whole c n d sees =
+returns-in_default-clause-whole g c n d sees =
     let s = c.args.pass.now.seen in
     let t = c.loop-n.pass.seen in
     let u = c.direction.new.pass.seen in
@@ -21,7 +21,7 @@ returns-in_default-clause-whole c n d sees =
     c.loop-n.invariant.2.whole n d (none_behind _ _ u c.args.row c.loop-n.n n d c.direction.ensures.here.4 lacks (seen_more s u c.args.row n d grows sees)) sees
 
 pub loop-n-preserved : goal.loop-n-preserved
-loop-n-preserved c =
+loop-n-preserved g c =
     let s = c.args.pass.now.seen in
     let t = c.loop-n.pass.seen in
     let u = c.direction.new.pass.seen in
@@ -33,10 +33,10 @@ loop-n-preserved c =
     )
 
 pub returns-clause-whole : goal.returns-clause-whole
-returns-clause-whole c = reads_ended c.args.pass.now.seen c.loop-n.pass.seen c.args.row c.loop-n.directions c.loop-n.n c.loop-n-test.false c.loop-n.invariant.2
+returns-clause-whole g c = reads_ended c.args.pass.now.seen c.loop-n.pass.seen c.args.row c.loop-n.directions c.loop-n.n c.loop-n-test.false c.loop-n.invariant.2
 
 pub returns-in_default-clause-short : goal.returns-in_default-clause-short
-returns-in_default-clause-short c =
+returns-in_default-clause-short g c =
     let s = c.args.pass.now.seen in
     let t = c.loop-n.pass.seen in
     let u = c.direction.new.pass.seen in
@@ -47,6 +47,6 @@ returns-in_default-clause-short c =
     (λ k d sees. none_behind _ _ u c.args.row c.loop-n.n k d c.direction.ensures.here.4 lacks (seen_more s u c.args.row k d grows sees))
 
 pub returns-clause-short : goal.returns-clause-short
-returns-clause-short c =
+returns-clause-short g c =
     let s = c.args.pass.now.seen in
     reads_short s c.loop-n.pass.seen c.args.row c.loop-n.directions c.loop-n.n c.loop-n.invariant.2 (few_directions s c.args.row c.loop-n.n c.loop-n-test.false)

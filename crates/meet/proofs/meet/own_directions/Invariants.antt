@@ -4,5 +4,5 @@ use Rattle.meet.proofs.Reading.{Reads}
 use Rattle.meet.proofs.meet.own_directions.Given as goal
 
 abbrev pub invariant-loop-n : goal.invariant-loop-n
-invariant-loop-n l =
+invariant-loop-n g l =
     IsPassOf l.cells l.pass × Grows l.fn.pass.seen l.pass.seen × Reads l.fn.pass.seen l.pass.seen l.row l.directions l.n

@@ -10,7 +10,7 @@ use Rattle.cell.proofs.Binding.{bind_allowed}
 use Rattle.cell.proofs.board.Board.bind_nack.Goals as goal
 
 pub compare_exchange-found-requires : goal.compare_exchange-found-requires
-compare_exchange-found-requires c = (
+compare_exchange-found-requires g c = (
   search rules,
   search rules,
   subst (λ (z : Shape × ℕ × ℕ). Allows (Keeps z.0) c.args.self.now.words.shared.table_id.slots c.args.seat.now.id c.args.seat.now.me c.nack_place.result (λ n. either (eqb n z.1) z.2 n) (tried_bind (step c.args.self.now.words.shared.table_id.slots c.nack_place.result z.1 z.2 none) c.args.seat.now.me)) (λ i. (sym c.args.self.now.keyed i, sym c.pack_nack-free.ensures i, sym c.pack_nack-word.ensures i))
@@ -18,13 +18,13 @@ compare_exchange-found-requires c = (
 )
 
 pub returns-in-Some-clause-sits : goal.returns-in-Some-clause-sits
-returns-in-Some-clause-sits c =
+returns-in-Some-clause-sits g c =
     let told = c.compare_exchange-found.ensures.2 c.args.nack c.args.bound (search rules) c.requires.range c.pack_nack-word.ensures in
     let found = told.1 c.in-Some.bound (search rules) in
     ((search rules), sits_still c.args.self.now c.args.seat.now c.compare_exchange-found.new.seat (search rules) (search rules) (ap (λ z. z.0.threads) found.0) (ap (λ z. z.0.rows) found.0) told.2)
 
 pub returns-in-Some-clause-found : goal.returns-in-Some-clause-found
-returns-in-Some-clause-found c =
+returns-in-Some-clause-found g c =
     let told = c.compare_exchange-found.ensures.2 c.args.nack c.args.bound (search rules) c.requires.range c.pack_nack-word.ensures in
     let found = told.1 c.in-Some.bound (search rules) in
     (ap (λ z. z.0) found.0, found.1, found.2)

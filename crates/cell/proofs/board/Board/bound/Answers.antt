@@ -10,12 +10,12 @@ use Rattle.cell.specs.Views.{saw_nack}
 use Rattle.cell.proofs.board.Board.bound.Goals as goal
 
 -- what a look at a nack finds is a nack of the table, bound to one of its rows
-there : (b : Board) (v : View) (n : NackName) (o : Option Binding) → Coherent b.shape.threads b.shape.rows (saw_nack n o v).seen → HasNack b n → IfSome o (λ x. HasNack b n × HasRow b (bound_row n x) × x.scope < 4)
+there : {M : Type 0} (b : Board M) (v : View M) (n : NackName) (o : Option Binding) → Coherent b.shape.threads b.shape.rows (saw_nack n o v).seen → HasNack b n → IfSome o (λ x. HasNack b n × HasRow b (bound_row n x) × x.scope < 4)
 there b v n None agree inside = tt
 there b v n (Some x) agree inside = let i = agree.bound n x (inl refl) in (inside, (inside.0, i.2), i.3)
 
 pub returns-clause-there : goal.returns-clause-there
-returns-clause-there c =
+returns-clause-there g c =
     there c.args.self.now c.args.seat.now.me.0 c.args.nack c.look_nack.result
-    (subst (λ (v : View). Coherent c.args.self.now.shape.threads c.args.self.now.shape.rows v.seen) c.look_nack.ensures.saw c.look_nack.ensures.sits.1.3)
+    (subst (λ (v : View _). Coherent c.args.self.now.shape.threads c.args.self.now.shape.rows v.seen) c.look_nack.ensures.saw c.look_nack.ensures.sits.1.3)
     (search rules)

@@ -4,7 +4,7 @@ use Rattle.cell.proofs.Endings.{ended, final_bound, final_lawful, final_joined, 
 use Rattle.cell.proofs.board.Board.close.Goals as goal
 
 pub of_words-requires-clause-lawful : goal.of_words-requires-clause-lawful
-of_words-requires-clause-lawful c =
+of_words-requires-clause-lawful g c =
     let size : c.args.seat.me.0.threads ≡ c.args.self.shape.threads = (search rules) in
     let some = c.args.self.small.0 in
     final_lawful c.args.self.shape c.args.seat.id c.args.seat.me.0 (omega arith) c.copy_words-words.result.items _
@@ -12,10 +12,10 @@ of_words-requires-clause-lawful c =
 
 pub returns-clause-size : goal.returns-clause-size
 unfolding ledger_of
-returns-clause-size c = (ap (λ (l : Ledger). l.threads) c.of_words.ensures, ap (λ (l : Ledger). l.rows) c.of_words.ensures)
+returns-clause-size g c = (ap (λ (l : Ledger). l.threads) c.of_words.ensures, ap (λ (l : Ledger). l.rows) c.of_words.ensures)
 
 pub returns-clause-seen : goal.returns-clause-seen
-returns-clause-seen c r j h =
+returns-clause-seen g c r j h =
     let size : c.args.seat.me.0.threads ≡ c.args.self.shape.threads = (search rules) in
     let some = c.args.self.small.0 in
     subst (λ (l : Ledger). joined_in l r ≡ Some j) (sym c.of_words.ensures)
@@ -23,7 +23,7 @@ returns-clause-seen c r j h =
     (ended _ _ _ _ _ _ _ c.args.self.keyed c.copy_words-words.ensures c.close_with-closed.ensures.values.2) r j h)
 
 pub returns-clause-own : goal.returns-clause-own
-returns-clause-own c r j offers draft e =
+returns-clause-own g c r j offers draft e =
     let size : c.args.seat.me.0.threads ≡ c.args.self.shape.threads = (search rules) in
     let some = c.args.self.small.0 in
     subst (λ (l : Ledger). (j.own < length offers) × (offer_in l r j.own ≡ slice_get offers j.own)) (sym c.of_words.ensures)
@@ -31,7 +31,7 @@ returns-clause-own c r j offers draft e =
     (ended _ _ _ _ _ _ _ c.args.self.keyed c.copy_words-words.ensures c.close_with-closed.ensures.values.2) r j offers draft (subst (λ (l : Ledger). joined_in l r ≡ Some j) c.of_words.ensures e))
 
 pub returns-clause-offers : goal.returns-clause-offers
-returns-clause-offers c r n o sees =
+returns-clause-offers g c r n o sees =
     let size : c.args.seat.me.0.threads ≡ c.args.self.shape.threads = (search rules) in
     let some = c.args.self.small.0 in
     subst (λ (l : Ledger). offer_in l r n ≡ Some o) (sym c.of_words.ensures)
@@ -39,7 +39,7 @@ returns-clause-offers c r n o sees =
     (ended _ _ _ _ _ _ _ c.args.self.keyed c.copy_words-words.ensures c.close_with-closed.ensures.values.2) r n o sees)
 
 pub returns-clause-lacks : goal.returns-clause-lacks
-returns-clause-lacks c r n sees =
+returns-clause-lacks g c r n sees =
     let size : c.args.seat.me.0.threads ≡ c.args.self.shape.threads = (search rules) in
     let some = c.args.self.small.0 in
     subst (λ (l : Ledger). offer_in l r n ≡ None) (sym c.of_words.ensures)
@@ -47,7 +47,7 @@ returns-clause-lacks c r n sees =
     (ended _ _ _ _ _ _ _ c.args.self.keyed c.copy_words-words.ensures c.close_with-closed.ensures.values.2) r n sees)
 
 pub returns-clause-lawful : goal.returns-clause-lawful
-returns-clause-lawful c =
+returns-clause-lawful g c =
     let size : c.args.seat.me.0.threads ≡ c.args.self.shape.threads = (search rules) in
     let some = c.args.self.small.0 in
     subst IsLawful (sym c.of_words.ensures)
@@ -55,7 +55,7 @@ returns-clause-lawful c =
     (ended _ _ _ _ _ _ _ c.args.self.keyed c.copy_words-words.ensures c.close_with-closed.ensures.values.2))
 
 pub returns-clause-bound : goal.returns-clause-bound
-returns-clause-bound c n b h =
+returns-clause-bound g c n b h =
     let size : c.args.seat.me.0.threads ≡ c.args.self.shape.threads = (search rules) in
     let some = c.args.self.small.0 in
     subst (λ (l : Ledger). binding_in l n ≡ Some b) (sym c.of_words.ensures)

@@ -9,38 +9,38 @@ use Rattle.cell.proofs.Redrafting.{DraftsAt, drafted_offer, drafts_then, one_dra
 use Rattle.cell.proofs.board.Board.draft_offer.Goals as goal
 
 pub read_head-requires : goal.read_head-requires
-read_head-requires c = (offer_parts _ _ _ _ c.args.offer c.pack_offer.ensures.back).0
+read_head-requires g c = (offer_parts _ _ _ _ c.args.offer c.pack_offer.ensures.back).0
 
 pub draft-requires-clause-place : goal.draft-requires-clause-place
-draft-requires-clause-place c = let low = c.requires.offer.0 in (omega arith, omega arith, (offer_places c.args.n _ _ _ _ c.args.offer c.pack_offer.ensures.back).0)
+draft-requires-clause-place g c = let low = c.requires.offer.0 in (omega arith, omega arith, (offer_places c.args.n _ _ _ _ c.args.offer c.pack_offer.ensures.back).0)
 
 pub draft_atom-requires-clause-atom : goal.draft_atom-requires-clause-atom
-draft_atom-requires-clause-atom c = (c.requires.offer.0, omega arith, omega arith, (offer_parts _ _ _ _ c.args.offer c.pack_offer.ensures.back).1)
+draft_atom-requires-clause-atom g c = (c.requires.offer.0, omega arith, omega arith, (offer_parts _ _ _ _ c.args.offer c.pack_offer.ensures.back).1)
 
 pub draft_atom-requires-2-clause-atom : goal.draft_atom-requires-2-clause-atom
-draft_atom-requires-2-clause-atom c = (c.requires.offer.0, omega arith, omega arith, (offer_parts _ _ _ _ c.args.offer c.pack_offer.ensures.back).2)
+draft_atom-requires-2-clause-atom g c = (c.requires.offer.0, omega arith, omega arith, (offer_parts _ _ _ _ c.args.offer c.pack_offer.ensures.back).2)
 
 pub draft_atom-requires-3-clause-atom : goal.draft_atom-requires-3-clause-atom
-draft_atom-requires-3-clause-atom c = (c.requires.offer.0, omega arith, omega arith, (offer_parts _ _ _ _ c.args.offer c.pack_offer.ensures.back).3)
+draft_atom-requires-3-clause-atom g c = (c.requires.offer.0, omega arith, omega arith, (offer_parts _ _ _ _ c.args.offer c.pack_offer.ensures.back).3)
 
-there : (r : Row) (p x : ℕ) (v w : View) → w ≡ word_drafted r p x v → Has w.seen.drafts (r, p, x)
-there r p x v w e = subst (λ (u : View). Has u.seen.drafts (r, p, x)) (sym e) (inl refl)
+there : {M : Type 0} (r : Row) (p x : ℕ) (v w : View M) → w ≡ word_drafted r p x v → Has w.seen.drafts (r, p, x)
+there r p x v w e = subst (λ (u : View _). Has u.seen.drafts (r, p, x)) (sym e) (inl refl)
 
-head_drafted : (c : goal.After-draft_atom-3) → DraftsAt c.args.row (2 + 4 * c.args.n) c.args.seat.now.me.0.seen c.draft.new.seat.me.0.seen
-head_drafted c = subst (λ (v : View). DraftsAt c.args.row (2 + 4 * c.args.n) c.args.seat.now.me.0.seen v.seen) (sym c.draft.ensures.drafted) (redrafts_word c.args.row (2 + 4 * c.args.n) _ c.args.seat.now.me.0.seen)
+head_drafted : {g : _} (c : goal.After-draft_atom-3 g) → DraftsAt c.args.row (2 + 4 * c.args.n) c.args.seat.now.me.0.seen c.draft.new.seat.me.0.seen
+head_drafted c = subst (λ (v : View _). DraftsAt c.args.row (2 + 4 * c.args.n) c.args.seat.now.me.0.seen v.seen) (sym c.draft.ensures.drafted) (redrafts_word c.args.row (2 + 4 * c.args.n) _ c.args.seat.now.me.0.seen)
 
 pub returns-clause-others : goal.returns-clause-others
-returns-clause-others c =
+returns-clause-others g c =
     redrafts_offer c.args.row c.args.n _ _ _ _ _ (head_drafted c) c.draft_atom.ensures.others c.draft_atom-2.ensures.others c.draft_atom-3.ensures.others
 
 pub returns-clause-made : goal.returns-clause-made
-returns-clause-made c =
+returns-clause-made g c =
     let r = c.args.row in
-    let head = subst (λ (v : View). OnlyDrafts r c.args.seat.now.me.0.made v.made) (sym c.draft.ensures.drafted) (one_draft r (2 + 4 * c.args.n) _ c.args.seat.now.me.0.made) in
+    let head = subst (λ (v : View _). OnlyDrafts r c.args.seat.now.me.0.made v.made) (sym c.draft.ensures.drafted) (one_draft r (2 + 4 * c.args.n) _ c.args.seat.now.me.0.made) in
     drafts_then r _ _ _ (drafts_then r _ _ _ (drafts_then r _ _ _ head c.draft_atom.ensures.made) c.draft_atom-2.ensures.made) c.draft_atom-3.ensures.made
 
 pub returns-clause-drafted : goal.returns-clause-drafted
-returns-clause-drafted c =
+returns-clause-drafted g c =
     let r = c.args.row in
     let n = c.args.n in
     drafted_offer r n c.args.offer _ _ _ _ _ _ _ _ c.atoms_told-atoms.result c.read_head.result

@@ -8,28 +8,28 @@ use Rattle.cell.proofs.Redrafting.{IsDraftedTo, count_place, drafted_none, draft
 use Rattle.cell.proofs.board.Board.draft_offers.Goals as goal
 
 pub draft-requires-clause-place : goal.draft-requires-clause-place
-draft-requires-clause-place c = (omega arith, omega arith, subst (λ (n : ℕ). is_word_for 1 n ≡ true) (sym c.pack_count.ensures) (count_place _ c.requires.offers.0))
+draft-requires-clause-place g c = (omega arith, omega arith, subst (λ (n : ℕ). is_word_for 1 n ≡ true) (sym c.pack_count.ensures) (count_place _ c.requires.offers.0))
 
 pub loop-n-init : goal.loop-n-init
-loop-n-init c =
+loop-n-init g c =
     record {
       same = (search rules);
       sits = (search rules);
       stays = (search rules);
-      made = subst (λ (v : View). OnlyDrafts c.args.row c.args.seat.now.me.0.made v.made) (sym c.draft.ensures.drafted) (one_draft c.args.row 1 _ c.args.seat.now.me.0.made);
-      drafted = subst (λ (v : View). IsDraftedTo c.args.row c.args.offers.now 0 c.args.seat.now.me.0.seen v.seen) (sym c.draft.ensures.drafted)
+      made = subst (λ (v : View _). OnlyDrafts c.args.row c.args.seat.now.me.0.made v.made) (sym c.draft.ensures.drafted) (one_draft c.args.row 1 _ c.args.seat.now.me.0.made);
+      drafted = subst (λ (v : View _). IsDraftedTo c.args.row c.args.offers.now 0 c.args.seat.now.me.0.seen v.seen) (sym c.draft.ensures.drafted)
           (subst (λ (n : ℕ). IsDraftedTo c.args.row c.args.offers.now 0 c.args.seat.now.me.0.seen (drafted_word c.args.row 1 n c.args.seat.now.me.0).seen) (sym c.pack_count.ensures)
           (drafted_none c.args.row c.args.offers.now c.args.seat.now.me.0.seen));
     }
 
 pub draft_offer-requires-clause-offer : goal.draft_offer-requires-clause-offer
-draft_offer-requires-clause-offer c =
+draft_offer-requires-clause-offer g c =
     let few = c.requires.offers.0 in
     let below : c.loop-n.n < length c.args.offers.now = (search rules) in
     (omega arith, c.requires.offers.1 c.loop-n.n _ (slice_get-get_or c.args.offers.now c.loop-n.n _ below))
 
 pub loop-n-preserved : goal.loop-n-preserved
-loop-n-preserved c =
+loop-n-preserved g c =
     let below : c.loop-n.n < length c.args.offers.now = (search rules) in
     record {
       same = (search rules);
@@ -40,4 +40,4 @@ loop-n-preserved c =
     }
 
 pub returns-clause-drafted : goal.returns-clause-drafted
-returns-clause-drafted c = drafted_all c.args.row c.args.offers.now c.loop-n.n c.args.seat.now.me.0.seen c.loop-n.seat.me.0.seen (search rules) c.loop-n.invariant.drafted
+returns-clause-drafted g c = drafted_all c.args.row c.args.offers.now c.loop-n.n c.args.seat.now.me.0.seen c.loop-n.seat.me.0.seen (search rules) c.loop-n.invariant.drafted

@@ -7,7 +7,7 @@ use Rattle.cell.proofs.Redrafting.{IsDraftedTo}
 use Rattle.cell.proofs.board.Board.draft_offers.Given as goal
 
 abbrev pub invariant-loop-n : goal.invariant-loop-n
-invariant-loop-n l =
+invariant-loop-n g l =
     record {
       same : l.seat.id ≡ l.fn.seat.id;
       sits : Sits l.self l.seat;

@@ -6,14 +6,16 @@ use Rattle.words.specs.Scopes.{has_scope}
 use Rattle.protocol.specs.Tables.{bound_row}
 use Rattle.protocol.proofs.Linking.{some_inj}
 use Rattle.cell.specs.Nacks.{SawEnabled}
-use Rattle.cell.specs.Sight.{Has, SeesOffer}
+use Rattle.words.specs.declared.Binding.{Binding}
+use Rattle.words.specs.declared.NackName.{NackName}
+use Rattle.cell.specs.Sight.{Has, LearnsOf, SeesOffer}
 use Rattle.cell.proofs.Meeting.{from_some, sees_more}
 use Rattle.cell.proofs.Alone.{bound_then}
 use Rattle.cell.proofs.board.Board.enabled_by.Goals as goal
 use Rattle.cell.proofs.board.Board.enabled_by.Goals.{After-opened_offer}
 
 -- a nack that was seen enabled is found so: the offer that was chosen is the one that was seen
-found : (c : After-opened_offer) (j : Joined) (e : SawEnabled c.args.seat.now.me.0.seen c.args.nack j) → (e.binding ≡ c.in_ok-bound.bound) × (c.opened_offer.result ≡ Some e.offer)
+found : {g : _} (c : After-opened_offer g) (j : Joined) (e : SawEnabled c.args.seat.now.me.0.seen c.args.nack j) → (e.binding ≡ c.in_ok-bound.bound) × (c.opened_offer.result ≡ Some e.offer)
 found c j e =
     let bound : c.bound.result ≡ Some c.in_ok-bound.bound = (search rules) in
     let same : e.binding ≡ c.in_ok-bound.bound = some_inj _ _ (sym (c.bound.ensures.same e.binding e.bound) ∙ bound) in
@@ -24,7 +26,7 @@ found c j e =
     (same, c.opened_offer.ensures.same e.offer (sees_more _ _ _ _ _ e.offer c.opened_offer.ensures.learns (subst (λ (z : Row × Joined). SeesOffer c.committed.new.seat.me.0.seen z.0 z.1.own e.offer) (λ i. (row i, way i)) sees)))
 
 pub returns-in_err-chosen-clause-none : goal.returns-in_err-chosen-clause-none
-returns-in_err-chosen-clause-none c =
+returns-in_err-chosen-clause-none g c =
     let left : c.from_residual-in_err-chosen.result ≡ None = (search rules) in
     let none : c.opened_offer.result ≡ None = (search rules) in
     subst (λ (o : Option Joined). IfNone o ((j : Joined) → ¬ SawEnabled c.args.seat.now.me.0.seen c.args.nack j)) (sym left) (λ j e.
@@ -33,7 +35,7 @@ returns-in_err-chosen-clause-none c =
     cc)
 
 pub returns-then-has_scope-clause-none : goal.returns-then-has_scope-clause-none
-returns-then-has_scope-clause-none c j e =
+returns-then-has_scope-clause-none g c j e =
     let some : c.opened_offer.result ≡ Some c.in_ok-chosen.chosen = (search rules) in
     let set : has_scope c.in_ok-chosen.chosen.scopes c.in_ok-bound.bound.scope ≡ true = (search rules) in
     let is = found c.before.before.before.before.before j e in
@@ -41,8 +43,8 @@ returns-then-has_scope-clause-none c j e =
     true≢false (sym set ∙ (λ i. has_scope (sym offer i).scopes (sym is.0 i).scope) ∙ e.outside)
 
 -- the nack's word was looked at, and then the row to which it is bound
-pub returns-clause-learns : goal.returns-clause-learns
-returns-clause-learns c =
+learnt : {g : _} (c : After-opened_offer g) → LearnsOf (λ q. (b : Binding) × Has c.opened_offer.new.seat.me.0.seen.bound (c.args.nack, b) × (q ≡ bound_row c.args.nack b)) (λ n. n ≡ c.args.nack) c.args.seat.now.me.0.seen c.opened_offer.new.seat.me.0.seen
+learnt c =
     let nack = c.args.nack in
     let s = c.args.seat.now.me.0.seen in
     let t = c.bound.new.seat.me.0.seen in
@@ -53,3 +55,9 @@ returns-clause-learns c =
     let bound : Has v.bound (nack, c.in_ok-bound.bound) =
     c.opened_offer.ensures.learns.bound.0 _ (c.committed.ensures.learns.bound.0 _ (from_some c.bound.result (λ b. Has t.bound (nack, b)) c.in_ok-bound.bound c.bound.ensures.some is)) in
     bound_then nack row s t u v c.in_ok-bound.bound refl bound c.bound.ensures.learns c.committed.ensures.learns c.opened_offer.ensures.learns
+
+pub returns-then-has_scope-clause-learns : goal.returns-then-has_scope-clause-learns
+returns-then-has_scope-clause-learns g c = learnt c.before.before.before.before.before
+
+pub returns-clause-learns : goal.returns-clause-learns
+returns-clause-learns g c = learnt c.before.before.before.before.before

@@ -18,19 +18,19 @@ unseen found s r n d none same sees = let bad : None ≡ Some d = sym none ∙ s
 
 -- the row has no such offer, or the other has none
 pub returns-in_err-my_direction-clause-unfit : goal.returns-in_err-my_direction-clause-unfit
-returns-in_err-my_direction-clause-unfit c =
+returns-in_err-my_direction-clause-unfit g c =
     let none : c.opened_direction.result ≡ None = (search rules) in
     if_none c.from_residual.result (¬ CanMeet c.opened_direction.new.seat.me.0.seen c.args.mine.0 c.args.mine.1 c.args.other.0 c.args.other.1)
     (λ e can. unseen c.opened_direction.result c.opened_direction.new.seat.me.0.seen c.args.mine.0 c.args.mine.1 can.1 none c.opened_direction.ensures.same can.3)
 
 pub returns-in_err-direction-clause-unfit : goal.returns-in_err-direction-clause-unfit
-returns-in_err-direction-clause-unfit c =
+returns-in_err-direction-clause-unfit g c =
     let none : c.direction.result ≡ None = (search rules) in
     if_none c.from_residual-in_err-direction.result (¬ CanMeet c.direction.new.seat.me.0.seen c.args.mine.0 c.args.mine.1 c.args.other.0 c.args.other.1)
     (λ e can. unseen c.direction.result c.direction.new.seat.me.0.seen c.args.other.0 c.args.other.1 can.2 none c.direction.ensures.same can.4)
 
 pub returns-then-not-directions_meet-clause-unfit : goal.returns-then-not-directions_meet-clause-unfit
-returns-then-not-directions_meet-clause-unfit c (apart, a, b, sees_mine, sees_theirs, meet) =
+returns-then-not-directions_meet-clause-unfit g c (apart, a, b, sees_mine, sees_theirs, meet) =
     let found_mine = c.opened_direction.ensures.same a (sees_direction_apart (λ q. q ≡ c.args.other.0) _ _ c.args.mine.0 c.args.mine.1 a c.direction.ensures.learns (λ e. apart (ap (λ (r : Row). r.thread) e)) sees_mine) in
     let found_theirs = c.direction.ensures.same b sees_theirs in
     let some_mine : c.opened_direction.result ≡ Some c.in_ok-my_direction.my_direction = (search rules) in
@@ -43,7 +43,7 @@ returns-then-not-directions_meet-clause-unfit c (apart, a, b, sees_mine, sees_th
     cc
 
 pub returns-clause-can : goal.returns-clause-can
-returns-clause-can c =
+returns-clause-can g c =
     let found : c.directions_meet.result ≡ true = (search rules) in
     let meet : directions_meet c.in_ok-my_direction.my_direction c.in_ok-direction.direction ≡ true = sym c.directions_meet.ensures ∙ found in
     let some_mine : c.opened_direction.result ≡ Some c.in_ok-my_direction.my_direction = (search rules) in

@@ -7,14 +7,14 @@ use Rattle.cell.proofs.Offers.{have_more}
 use Rattle.cell.proofs.board.Board.gained.Goals as goal
 
 pub returns-in_err-message-clause-got : goal.returns-in_err-message-clause-got
-returns-in_err-message-clause-got c =
+returns-in_err-message-clause-got g c =
     let none : c.opened_offer.result ≡ None = (search rules) in
     let lack = from_none c.opened_offer.result (LackOffer c.opened_offer.new.seat.me.0.seen.words c.args.row c.args.joined.own) c.opened_offer.ensures.none none in
     absurd (chosen_not_lacking _ _ c.opened_offer.new.seat.me.0.seen c.args.row c.args.joined.own c.opened_offer.ensures.sits.1.3
     (inl (c.args.joined, c.opened_offer.ensures.learns.joined.0 (c.args.row, c.args.joined) c.requires.committed.0, refl)) lack)
 
 pub returns-in-Recv-clause-got : goal.returns-in-Recv-clause-got
-returns-in-Recv-clause-got c =
+returns-in-Recv-clause-got g c =
     let sent = c.received.ensures.sent in
     let mine : Offer = c.in_ok-message.field-0 in
     let some : c.opened_offer.result ≡ Some mine = (search rules) in

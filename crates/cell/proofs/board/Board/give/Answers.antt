@@ -16,7 +16,7 @@ use Rattle.cell.proofs.Meeting.{exchange_either, exchange_made, exchange_refused
 use Rattle.cell.proofs.board.Board.give.Goals as goal
 
 pub compare_exchange-found-requires : goal.compare_exchange-found-requires
-compare_exchange-found-requires c = (
+compare_exchange-found-requires g c = (
   search rules,
   search rules,
   subst (λ (z : Shape × ℕ × ℕ). Allows (Keeps z.0) c.args.self.now.words.shared.table_id.slots c.args.seat.now.id c.args.seat.now.me c.place.result (λ n. either (eqb n z.1) z.2 n) (granted (step c.args.self.now.words.shared.table_id.slots c.place.result z.1 z.2 none) c.args.seat.now.me)) (λ i. (sym c.args.self.now.keyed i, sym c.pack_cell-waiting.ensures i, sym c.pack_cell-granted.ensures i))
@@ -24,7 +24,7 @@ compare_exchange-found-requires c = (
 )
 
 pub returns-clause-sits : goal.returns-clause-sits
-returns-clause-sits c =
+returns-clause-sits g c =
     let told = c.compare_exchange-found.ensures.2 c.args.row c.args.joined c.requires.resting
     (at_view c.args.self.now.shape c.args.seat.now.me.0 c.args.row (search rules) (search rules) (search rules), place_view c.args.self.now.shape c.args.seat.now.me.0 c.args.row 0 c.place.result (search rules) (search rules)) c.requires.can.1 c.pack_cell-granted.ensures in
     exchange_either c.exchanged.result (c.compare_exchange-found.result ≡ c.pack_cell-waiting.result) (λ cell. (c.compare_exchange-found.result ≢ c.pack_cell-waiting.result) × (cell ≡ cell_read c.compare_exchange-found.result)) (StaysSeated c.args.self.now c.args.seat.now c.compare_exchange-found.new.seat)
@@ -35,7 +35,7 @@ returns-clause-sits c =
     c.exchanged.ensures.made c.exchanged.ensures.refused
 
 pub returns-clause-given : goal.returns-clause-given
-returns-clause-given c =
+returns-clause-given g c =
     let told = c.compare_exchange-found.ensures.2 c.args.row c.args.joined c.requires.resting
     (at_view c.args.self.now.shape c.args.seat.now.me.0 c.args.row (search rules) (search rules) (search rules), place_view c.args.self.now.shape c.args.seat.now.me.0 c.args.row 0 c.place.result (search rules) (search rules)) c.requires.can.1 c.pack_cell-granted.ensures in
     exchange_made c.exchanged.result (c.compare_exchange-found.result ≡ c.pack_cell-waiting.result) (λ u. (c.compare_exchange-found.new.seat.me.0 ≡ did (Grant c.args.row c.args.joined.own) (settled c.args.row c.args.joined c.args.seat.now.me.0)) × Agrees c.args.seat.now.me.0 c.args.row Waiting)
@@ -43,7 +43,7 @@ returns-clause-given c =
     c.exchanged.ensures.made
 
 pub returns-clause-found : goal.returns-clause-found
-returns-clause-found c =
+returns-clause-found g c =
     let told = c.compare_exchange-found.ensures.2 c.args.row c.args.joined c.requires.resting
     (at_view c.args.self.now.shape c.args.seat.now.me.0 c.args.row (search rules) (search rules) (search rules), place_view c.args.self.now.shape c.args.seat.now.me.0 c.args.row 0 c.place.result (search rules) (search rules)) c.requires.can.1 c.pack_cell-granted.ensures in
     exchange_refused c.exchanged.result (λ cell. (c.compare_exchange-found.result ≢ c.pack_cell-waiting.result) × (cell ≡ cell_read c.compare_exchange-found.result)) (λ cell. (cell ≢ Waiting) × (c.compare_exchange-found.new.seat.me.0 ≡ saw c.args.row cell c.args.seat.now.me.0) × Agrees c.args.seat.now.me.0 c.args.row cell)

@@ -8,7 +8,7 @@ use Rattle.cell.proofs.Allowing.{yield_allowed}
 use Rattle.cell.proofs.board.Board.give_up.Goals as goal
 
 pub store-requires : goal.store-requires
-store-requires c = (
+store-requires g c = (
   search rules,
   search rules,
   subst (λ (z : Shape × ℕ). Allows (Keeps z.0) c.args.self.now.words.shared.table_id.slots c.args.seat.now.id c.args.seat.now.me c.place.result (λ n. z.1) (λ n. yielded (step c.args.self.now.words.shared.table_id.slots c.place.result z.1 0 none) c.args.seat.now.me z.1)) (λ i. (sym c.args.self.now.keyed i, sym c.pack_cell.ensures i))

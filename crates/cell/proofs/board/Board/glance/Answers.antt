@@ -10,7 +10,7 @@ use Rattle.cell.proofs.Dealing.{some_words}
 use Rattle.cell.proofs.board.Board.glance.Goals as goal
 
 pub load-requires : goal.load-requires
-load-requires c =
+load-requires g c =
     let size = c.args.self.now.small in (
       search rules,
       subst (λ (n : _). 0 < n) (sym c.args.self.now.sized) (some_words c.args.self.now.shape.threads c.args.self.now.shape.rows size.0),

@@ -13,12 +13,12 @@ use Rattle.cell.proofs.board.Board.grant.Goals.{After-cause, After-last_stamp-la
 
 -- the row has no such offer
 pub returns-in_default-clause-granted : goal.returns-in_default-clause-granted
-returns-in_default-clause-granted c (o, stamp, sees, caused) =
+returns-in_default-clause-granted g c (o, stamp, sees, caused) =
     c.in_default.not-Some o (c.offer.ensures.same o (sees_more _ _ _ _ _ o c.offer.ensures.learns sees))
 
 -- nothing lets the offer commit its row alone
 pub returns-in_default-cause-clause-granted : goal.returns-in_default-cause-clause-granted
-returns-in_default-cause-clause-granted c (o, stamp, sees, caused) =
+returns-in_default-cause-clause-granted g c (o, stamp, sees, caused) =
     let some : c.offer.result ≡ Some c.in-Some.offer = (search rules) in
     let same : o ≡ c.in-Some.offer = some_inj o c.in-Some.offer (sym (c.offer.ensures.same o (sees_more _ _ _ _ _ o c.offer.ensures.learns sees)) ∙ some) in
     let none : c.cause.result ≡ None = (search rules) in
@@ -27,18 +27,18 @@ returns-in_default-cause-clause-granted c (o, stamp, sees, caused) =
     from_none c.cause.result ((stamp : ℕ) → ¬ SawCause c.offer.new.seat.me.0.seen c.in-Some.offer.base stamp) c.cause.ensures.none none stamp later
 
 -- what was read of the offer
-read : (c : After-cause) → Has c.offer.new.seat.me.0.seen.opened c.args.row × HaveOffer c.offer.new.seat.me.0.seen.words c.args.row c.args.n c.in-Some.offer
+read : {g : _} (c : After-cause g) → Has c.offer.new.seat.me.0.seen.opened c.args.row × HaveOffer c.offer.new.seat.me.0.seen.words c.args.row c.args.n c.in-Some.offer
 read c =
     let some : c.offer.result ≡ Some c.in-Some.offer = (search rules) in
     from_some c.offer.result (λ o. Has c.offer.new.seat.me.0.seen.opened c.args.row × HaveOffer c.offer.new.seat.me.0.seen.words c.args.row c.args.n o) c.in-Some.offer c.offer.ensures.some some
 
 pub returns-in_default-cause-clause-learns : goal.returns-in_default-cause-clause-learns
-returns-in_default-cause-clause-learns c =
+returns-in_default-cause-clause-learns g c =
     learns_then (IsNearGrant c.cause.new.seat.me.0.seen c.args.row c.args.n) c.args.seat.now.me.0.seen c.offer.new.seat.me.0.seen c.cause.new.seat.me.0.seen
     (near_offer c.args.seat.now.me.0.seen c.offer.new.seat.me.0.seen c.cause.new.seat.me.0.seen c.args.row c.args.n c.offer.ensures.learns)
     (near_cause c.offer.new.seat.me.0.seen c.cause.new.seat.me.0.seen c.cause.new.seat.me.0.seen c.args.row c.args.n c.in-Some.offer (read c.before).1 c.cause.ensures.learns (learns_nothing (λ q. ⊥) (λ m. ⊥) c.cause.new.seat.me.0.seen))
 
-ready : (c : After-last_stamp-last) → IsReady c.args.seat.now.me.0.seen c.offer.new.seat.me.0.seen c.cause.new.seat.me.0.seen c.last_stamp-last.new.seat.me.0 c.args.row c.args.n c.in-Some.offer c.in-Some-cause.cause c.last_stamp-last.result
+ready : {g : _} (c : After-last_stamp-last g) → IsReady c.args.seat.now.me.0.seen c.offer.new.seat.me.0.seen c.cause.new.seat.me.0.seen c.last_stamp-last.new.seat.me.0 c.args.row c.args.n c.in-Some.offer c.in-Some-cause.cause c.last_stamp-last.result
 ready c =
     let some : c.offer.result ≡ Some c.in-Some.offer = (search rules) in
     let have = from_some c.offer.result (λ o. Has c.offer.new.seat.me.0.seen.opened c.args.row × HaveOffer c.offer.new.seat.me.0.seen.words c.args.row c.args.n o) c.in-Some.offer c.offer.ensures.some some in
@@ -58,18 +58,18 @@ ready c =
     }
 
 pub give-requires-clause-can : goal.give-requires-clause-can
-give-requires-clause-can c =
+give-requires-clause-can g c =
     subst (λ (k : ℕ). CanGrant c.last_stamp-last.new.seat.me.0.seen c.args.row c.args.n (record { own = c.args.n; partner = None; stamp = 1 + k }) × IsJoinedInRange (record { own = c.args.n; partner = None; stamp = 1 + k })) (sym c.max.ensures)
     (can _ _ _ _ c.last_stamp-last.new.seat.me.0 _ _ _ _ _ (ready c.before.before))
 
 pub returns-in-Ok-clause-granted : goal.returns-in-Ok-clause-granted
-returns-in-Ok-clause-granted c = (given_is _ _ _ _ c.give.new.seat.me.0 _ _ _ _ _ (ready c.before.before.before.before) (search rules) (search rules)).0
+returns-in-Ok-clause-granted g c = (given_is _ _ _ _ c.give.new.seat.me.0 _ _ _ _ _ (ready c.before.before.before.before) (search rules) (search rules)).0
 
 pub returns-in-Ok-clause-learns : goal.returns-in-Ok-clause-learns
-returns-in-Ok-clause-learns c = (given_is _ _ _ _ c.give.new.seat.me.0 _ _ _ _ _ (ready c.before.before.before.before) (search rules) (search rules)).1
+returns-in-Ok-clause-learns g c = (given_is _ _ _ _ c.give.new.seat.me.0 _ _ _ _ _ (ready c.before.before.before.before) (search rules) (search rules)).1
 
 pub returns-in-Err-clause-granted : goal.returns-in-Err-clause-granted
-returns-in-Err-clause-granted c = (late_is _ _ _ _ c.give.new.seat.me.0 _ _ _ _ _ (ready c.before.before.before.before) c.in-Err.field-0 (search rules) (search rules) (search rules) (search rules)).0
+returns-in-Err-clause-granted g c = (late_is _ _ _ _ c.give.new.seat.me.0 _ _ _ _ _ (ready c.before.before.before.before) c.in-Err.field-0 (search rules) (search rules) (search rules) (search rules)).0
 
 pub returns-in-Err-clause-learns : goal.returns-in-Err-clause-learns
-returns-in-Err-clause-learns c = (late_is _ _ _ _ c.give.new.seat.me.0 _ _ _ _ _ (ready c.before.before.before.before) c.in-Err.field-0 (search rules) (search rules) (search rules) (search rules)).1
+returns-in-Err-clause-learns g c = (late_is _ _ _ _ c.give.new.seat.me.0 _ _ _ _ _ (ready c.before.before.before.before) c.in-Err.field-0 (search rules) (search rules) (search rules) (search rules)).1

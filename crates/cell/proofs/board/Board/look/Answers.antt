@@ -8,7 +8,7 @@ use Rattle.cell.proofs.Allowing.{look_allowed}
 use Rattle.cell.proofs.board.Board.look.Goals as goal
 
 pub load-requires : goal.load-requires
-load-requires c = (
+load-requires g c = (
   search rules,
   search rules,
   subst (λ (z : Shape). Allows (Keeps z) c.args.self.now.words.shared.table_id.slots c.args.seat.now.id c.args.seat.now.me c.place.result (λ n. n) (looked (step c.args.self.now.words.shared.table_id.slots c.place.result 0 0 none) c.args.seat.now.me)) (sym c.args.self.now.keyed)

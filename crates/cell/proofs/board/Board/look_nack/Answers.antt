@@ -8,7 +8,7 @@ use Rattle.cell.proofs.Binding.{look_nack_allowed}
 use Rattle.cell.proofs.board.Board.look_nack.Goals as goal
 
 pub load-requires : goal.load-requires
-load-requires c = (
+load-requires g c = (
   search rules,
   search rules,
   subst (λ (z : Shape). Allows (Keeps z) c.args.self.now.words.shared.table_id.slots c.args.seat.now.id c.args.seat.now.me c.nack_place.result (λ n. n) (looked_nack (step c.args.self.now.words.shared.table_id.slots c.nack_place.result 0 0 none) c.args.seat.now.me)) (sym c.args.self.now.keyed)

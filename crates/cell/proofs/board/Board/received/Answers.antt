@@ -7,7 +7,7 @@ use Rattle.cell.proofs.Offers.{have_more}
 use Rattle.cell.proofs.board.Board.received.Goals as goal
 
 pub returns-in_err-message-clause-sent : goal.returns-in_err-message-clause-sent
-returns-in_err-message-clause-sent c =
+returns-in_err-message-clause-sent g c =
     let partner : c.args.joined.partner ≡ Some (c.in_ok-partner.partner, c.in_ok-partner.offer) = (search rules) in
     let none : c.offer.result ≡ None = (search rules) in
     let lack = from_none c.offer.result (IsKnownOpen c.args.seat.now.me.0.seen c.in_ok-partner.partner → LackOffer c.offer.new.seat.me.0.seen.words c.in_ok-partner.partner c.in_ok-partner.offer) c.offer.ensures.none none
@@ -16,7 +16,7 @@ returns-in_err-message-clause-sent c =
     (inr (c.args.row, c.args.joined, c.offer.ensures.learns.joined.0 (c.args.row, c.args.joined) c.requires.committed, partner)) lack)
 
 pub returns-in_default : goal.returns-in_default
-returns-in_default c =
+returns-in_default g c =
     let partner : c.args.joined.partner ≡ Some (c.in_ok-partner.partner, c.in_ok-partner.offer) = (search rules) in
     let some : c.offer.result ≡ Some c.in_ok-message.field-0 = (search rules) in
     let have = (from_some c.offer.result (λ o. Has c.offer.new.seat.me.0.seen.opened c.in_ok-partner.partner × HaveOffer c.offer.new.seat.me.0.seen.words c.in_ok-partner.partner c.in_ok-partner.offer o) c.in_ok-message.field-0 c.offer.ensures.some some).1 in
@@ -29,14 +29,14 @@ returns-in_default c =
 
 -- a row that receives is not committed alone
 pub returns-in_err-partner-clause-sent : goal.returns-in_err-partner-clause-sent
-returns-in_err-partner-clause-sent c =
+returns-in_err-partner-clause-sent g c =
     let none : c.args.joined.partner ≡ None = (search rules) in
     let mine = c.requires.receives.0 in
     let alone : needs_none mine.base ≡ true = c.requires.sits.0.3.alone c.args.row c.args.joined mine c.requires.committed none c.requires.receives.2 in
     absurd (false≢true (sym (ap needs_none c.requires.receives.3) ∙ alone))
 
 pub offer-requires : goal.offer-requires
-offer-requires c =
+offer-requires g c =
     let partner : c.args.joined.partner ≡ Some (c.in_ok-partner.partner, c.in_ok-partner.offer) = (search rules) in
     let inside = c.requires.sits.0.3.inside c.args.row c.args.joined (c.in_ok-partner.partner, c.in_ok-partner.offer) c.requires.committed partner in
     (c.requires.sits.0, inside)

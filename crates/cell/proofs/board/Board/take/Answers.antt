@@ -9,19 +9,19 @@ use Rattle.cell.proofs.Alone.{taken_found}
 use Rattle.cell.proofs.board.Board.take.Goals as goal
 
 pub take_committed-requires-clause-range : goal.take_committed-requires-clause-range
-take_committed-requires-clause-range c =
+take_committed-requires-clause-range g c =
     let saw_it : c.look.new.seat.me.0 ≡ saw c.args.row (Synched c.in-Synched.joined) c.args.seat.now.me.0 = (search rules) in
-    (c.look.ensures.sits.1.3.in_range c.args.row c.in-Synched.joined (subst (λ (v : View). Has v.seen.joined (c.args.row, c.in-Synched.joined)) (sym saw_it) (inl refl))).0
+    (c.look.ensures.sits.1.3.in_range c.args.row c.in-Synched.joined (subst (λ (v : View _). Has v.seen.joined (c.args.row, c.in-Synched.joined)) (sym saw_it) (inl refl))).0
 
 pub returns-in-Err-clause-none : goal.returns-in-Err-clause-none
-returns-in-Err-clause-none c =
+returns-in-Err-clause-none g c =
     let saw_it : c.look.new.seat.me.0 ≡ saw c.args.row (Synched c.in-Synched.joined) c.args.seat.now.me.0 = (search rules) in
     let found : c.take_committed.new.seat.me.0 ≡ saw c.args.row c.in-Err.field-0 c.look.new.seat.me.0 = (search rules) in
     let other : c.in-Err.field-0 ≢ Synched c.in-Synched.joined = (search rules) in
     let agree : Agrees c.look.new.seat.me.0 c.args.row c.in-Err.field-0 = (search rules) in
-    let has : Has c.look.new.seat.me.0.seen.joined (c.args.row, c.in-Synched.joined) = subst (λ (v : View). Has v.seen.joined (c.args.row, c.in-Synched.joined)) (sym saw_it) (inl refl) in (
+    let has : Has c.look.new.seat.me.0.seen.joined (c.args.row, c.in-Synched.joined) = subst (λ (v : View _). Has v.seen.joined (c.args.row, c.in-Synched.joined)) (sym saw_it) (inl refl) in (
       learns_then (λ q. q ≡ c.args.row) c.args.seat.now.me.0.seen c.look.new.seat.me.0.seen c.take_committed.new.seat.me.0.seen
-          (subst (λ (v : View). Learns (λ q. q ≡ c.args.row) c.args.seat.now.me.0.seen v.seen) (sym saw_it) (learns_look c.args.row (Synched c.in-Synched.joined) c.args.seat.now.me.0.seen))
-          (subst (λ (v : View). Learns (λ q. q ≡ c.args.row) c.look.new.seat.me.0.seen v.seen) (sym found) (learns_look c.args.row c.in-Err.field-0 c.look.new.seat.me.0.seen)),
-      λ committed. subst (λ (v : View). Has v.seen.taken c.args.row) (sym found) (taken_found c.look.new.seat.me.0 c.args.row c.in-Synched.joined c.in-Err.field-0 has other agree),
+          (subst (λ (v : View _). Learns (λ q. q ≡ c.args.row) c.args.seat.now.me.0.seen v.seen) (sym saw_it) (learns_look c.args.row (Synched c.in-Synched.joined) c.args.seat.now.me.0.seen))
+          (subst (λ (v : View _). Learns (λ q. q ≡ c.args.row) c.look.new.seat.me.0.seen v.seen) (sym found) (learns_look c.args.row c.in-Err.field-0 c.look.new.seat.me.0.seen)),
+      λ committed. subst (λ (v : View _). Has v.seen.taken c.args.row) (sym found) (taken_found c.look.new.seat.me.0 c.args.row c.in-Synched.joined c.in-Err.field-0 has other agree),
     )

@@ -18,7 +18,7 @@ use Rattle.cell.proofs.Meeting.{exchange_either, exchange_made, exchange_refused
 use Rattle.cell.proofs.board.Board.take_committed.Goals as goal
 
 pub compare_exchange-found-requires : goal.compare_exchange-found-requires
-compare_exchange-found-requires c = (
+compare_exchange-found-requires g c = (
   search rules,
   search rules,
   subst (λ (z : Shape × ℕ × ℕ). Allows (Keeps z.0) c.args.self.now.words.shared.table_id.slots c.args.seat.now.id c.args.seat.now.me c.place.result (λ n. either (eqb n z.1) z.2 n) (taken (step c.args.self.now.words.shared.table_id.slots c.place.result z.1 z.2 none) c.args.seat.now.me)) (λ i. (sym c.args.self.now.keyed i, sym c.pack_cell-committed.ensures i, sym c.pack_cell-taken.ensures i))
@@ -26,7 +26,7 @@ compare_exchange-found-requires c = (
 )
 
 pub returns-clause-sits : goal.returns-clause-sits
-returns-clause-sits c =
+returns-clause-sits g c =
     let told = c.compare_exchange-found.ensures.2 c.args.row c.args.joined
     (at_view c.args.self.now.shape c.args.seat.now.me.0 c.args.row (search rules) (search rules) (search rules), place_view c.args.self.now.shape c.args.seat.now.me.0 c.args.row 0 c.place.result (search rules) (search rules)) c.requires.range c.pack_cell-taken.ensures in
     exchange_either c.exchanged.result (c.compare_exchange-found.result ≡ c.pack_cell-committed.result) (λ cell. (c.compare_exchange-found.result ≢ c.pack_cell-committed.result) × (cell ≡ cell_read c.compare_exchange-found.result)) (StaysSeated c.args.self.now c.args.seat.now c.compare_exchange-found.new.seat)
@@ -37,7 +37,7 @@ returns-clause-sits c =
     c.exchanged.ensures.made c.exchanged.ensures.refused
 
 pub returns-clause-took : goal.returns-clause-took
-returns-clause-took c =
+returns-clause-took g c =
     let told = c.compare_exchange-found.ensures.2 c.args.row c.args.joined
     (at_view c.args.self.now.shape c.args.seat.now.me.0 c.args.row (search rules) (search rules) (search rules), place_view c.args.self.now.shape c.args.seat.now.me.0 c.args.row 0 c.place.result (search rules) (search rules)) c.requires.range c.pack_cell-taken.ensures in
     exchange_made c.exchanged.result (c.compare_exchange-found.result ≡ c.pack_cell-committed.result) (λ u. (c.compare_exchange-found.new.seat.me.0 ≡ did (Take c.args.row) (took c.args.row c.args.joined c.args.seat.now.me.0)) × Agrees c.args.seat.now.me.0 c.args.row (Synched c.args.joined) × (¬ Has c.args.seat.now.me.0.seen.opened (next_row c.args.row)))
@@ -45,7 +45,7 @@ returns-clause-took c =
     c.exchanged.ensures.made
 
 pub returns-clause-found : goal.returns-clause-found
-returns-clause-found c =
+returns-clause-found g c =
     let told = c.compare_exchange-found.ensures.2 c.args.row c.args.joined
     (at_view c.args.self.now.shape c.args.seat.now.me.0 c.args.row (search rules) (search rules) (search rules), place_view c.args.self.now.shape c.args.seat.now.me.0 c.args.row 0 c.place.result (search rules) (search rules)) c.requires.range c.pack_cell-taken.ensures in
     exchange_refused c.exchanged.result (λ cell. (c.compare_exchange-found.result ≢ c.pack_cell-committed.result) × (cell ≡ cell_read c.compare_exchange-found.result)) (λ cell. (cell ≢ Synched c.args.joined) × (c.compare_exchange-found.new.seat.me.0 ≡ saw c.args.row cell c.args.seat.now.me.0) × Agrees c.args.seat.now.me.0 c.args.row cell)

@@ -5,10 +5,10 @@ use Rattle.cell.proofs.cells.Cells.close.Goals as goal
 
 -- src/cells.rt:188:5
 pub returns-clause-own : goal.returns-clause-own
-returns-clause-own c r j offers draft e = c.close.ensures.own r j offers (subst (λ (p : PassView). IsDraft p.seen r offers) (sym c.pass.view_is) draft) e
+returns-clause-own g c r j offers draft e = c.close.ensures.own r j offers (subst (λ (p : PassView). IsDraft p.seen r offers) (sym c.pass.view_is) draft) e
 
 pub returns-clause-offers : goal.returns-clause-offers
-returns-clause-offers c r n o sees = c.close.ensures.offers r n o (subst (λ (p : PassView). SeesOffer p.seen r n o) (sym c.pass.view_is) sees)
+returns-clause-offers g c r n o sees = c.close.ensures.offers r n o (subst (λ (p : PassView). SeesOffer p.seen r n o) (sym c.pass.view_is) sees)
 
 pub returns-clause-lacks : goal.returns-clause-lacks
-returns-clause-lacks c r n sees = c.close.ensures.lacks r n (subst (λ (p : PassView). SeesNoOffer p.seen r n) (sym c.pass.view_is) sees)
+returns-clause-lacks g c r n sees = c.close.ensures.lacks r n (subst (λ (p : PassView). SeesNoOffer p.seen r n) (sym c.pass.view_is) sees)

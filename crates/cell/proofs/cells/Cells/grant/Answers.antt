@@ -4,5 +4,5 @@ use Rattle.cell.specs.Calls.{PassView}
 use Rattle.cell.proofs.cells.Cells.grant.Goals as goal
 
 pub returns-clause-granted : goal.returns-clause-granted
-returns-clause-granted c =
+returns-clause-granted g c =
     subst (λ (p : PassView). Granted p.seen c.grant.new.seat.me.0.seen c.args.row c.args.n c.grant.result) c.pass.view_is c.grant.ensures.granted

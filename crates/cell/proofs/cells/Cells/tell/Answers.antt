@@ -6,16 +6,16 @@ use Rattle.cell.proofs.Hearing.{told_bound, told_lack, told_offer}
 use Rattle.cell.proofs.cells.Cells.tell.Goals as goal
 
 pub returns-clause-offers : goal.returns-clause-offers
-returns-clause-offers c r n o sees =
+returns-clause-offers g c r n o sees =
     let told : c.tell.new.to.me.0.seen ≡ heard c.args.to.now.seen (told_of c.args.from.now.seen) = (search rules) in
     subst (λ (s : Seen). SeesOffer s r n o) (sym told) (told_offer c.args.from.now.seen c.args.to.now.seen r n o sees)
 
 pub returns-clause-lacks : goal.returns-clause-lacks
-returns-clause-lacks c r n sees =
+returns-clause-lacks g c r n sees =
     let told : c.tell.new.to.me.0.seen ≡ heard c.args.to.now.seen (told_of c.args.from.now.seen) = (search rules) in
     subst (λ (s : Seen). SeesNoOffer s r n) (sym told) (told_lack c.args.from.now.seen c.args.to.now.seen r n sees)
 
 pub returns-clause-bound : goal.returns-clause-bound
-returns-clause-bound c n b h =
+returns-clause-bound g c n b h =
     let told : c.tell.new.to.me.0.seen ≡ heard c.args.to.now.seen (told_of c.args.from.now.seen) = (search rules) in
     subst (λ (s : Seen). Has s.bound (n, b)) (sym told) (told_bound c.args.from.now.seen c.args.to.now.seen n b h)

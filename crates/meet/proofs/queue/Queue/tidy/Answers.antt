@@ -6,7 +6,7 @@ use Rattle.meet.proofs.queue.Queue.tidy.Goals as goal
 use Rattle.meet.proofs.queue.Queue.tidy.Goals.{then-not-saw_committed, else-not-saw_committed}
 
 pub loop-at-preserved : goal.loop-at-preserved
-loop-at-preserved c =
+loop-at-preserved g c =
     let g = c.args.cells.now in
     let s = c.args.pass.now.seen in
     let t = c.loop-at.pass.seen in

@@ -2,7 +2,7 @@
 use Rattle.std.proofs.Common.{◌≡◌, ℕ, [], length, slice_get, Some}
 use Rattle.cell.specs.Calls.{PassView}
 use Rattle.cell.specs.Rule.{dealer, dealt_rows, seen_nothing}
-use Rattle.cell.proofs.cells.Cells.new.Given as goal
+use Rattle.cell.proofs.cells.Cells+Bare.new.Given as goal
 
 abbrev pub invariant-loop-number : goal.invariant-loop-number
 invariant-loop-number l =

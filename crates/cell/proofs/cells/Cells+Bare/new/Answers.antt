@@ -4,7 +4,7 @@ use Rattle.cell.specs.Calls.{PassView}
 use Rattle.cell.specs.Rule.{dealer, dealt_pass, dealt_rows, seen_nothing}
 use Rattle.cell.specs.Sight.{Coherent}
 use Rattle.cell.proofs.Dealing.{each_more, nothing_agrees}
-use Rattle.cell.proofs.cells.Cells.new.Goals as goal
+use Rattle.cell.proofs.cells.Cells+Bare.new.Goals as goal
 
 pub loop-number-preserved : goal.loop-number-preserved
 loop-number-preserved c =
