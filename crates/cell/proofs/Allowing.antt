@@ -1,5 +1,5 @@
 -- Each atomic step is admitted by the rule.
-use Rattle.std.proofs.Common.{inl, ◌∷◌, cond, ◌+◌, slice_index, slice_set, ◌≡◌, ◌≢◌, ℕ, ◌<◌, ◌≤◌, true, false, List, [], sym, refl, ap, ◌∙◌, subst, ⊎_elim, arith, unwrap_or, Option, Some, None, is_some, eqb, Bool, ltb}
+use Rattle.std.proofs.Common.{inl, inr, ◌∷◌, cond, ◌+◌, slice_index, slice_set, ◌≡◌, ◌≢◌, ℕ, ◌<◌, ◌≤◌, true, false, List, [], sym, refl, ap, ◌∙◌, subst, ⊎_elim, arith, unwrap_or, Option, Some, None, is_some, eqb, Bool, ltb}
 use Rattle.std.proofs.lemmas.List.{set-get_or}
 use Rattle.std.proofs.lemmas.Bool.{false≢true, ltb-true}
 use mathlib.Core.Option.{some, none}
@@ -33,15 +33,22 @@ use Rattle.cell.specs.declared.view.Shape.{Shape}
 use Rattle.cell.specs.declared.view.Stage.{Stage}
 use Rattle.cell.specs.declared.view.Stage.TheVariants.{Resting, Claims, Joins}
 use Rattle.cell.specs.Sight.{Has, CanJoin, Coherent}
+use Rattle.protocol.specs.Standing.{AreResults, Result}
+use Rattle.protocol.specs.Ledgers.{joined_in as ledger_joined, ledger_of}
+use Rattle.protocol.specs.Worlds.{Allowed}
+use Rattle.protocol.proofs.LedgerLemmas.{joined_in_ledger, lawful_ledger}
+use Rattle.protocol.proofs.Onward.{grows-step}
+use Rattle.protocol.proofs.Results.{joined-results}
+use Rattle.protocol.proofs.Standing.{results-stay}
 use Rattle.cell.specs.Nacks.{CanGrant}
 use Rattle.protocol.specs.Tables.{is_taken}
 use Rattle.cell.proofs.Following.{knows_follows, knows_owned, hold_more, taken_world, not_held, next_unopened, follows_taken, bindings_after, next_unbound, taken_at, next_held}
-use Rattle.cell.specs.Views.{Knows, Staged, IsClaimer, at_stage, did, took, saw, read_word, drafted_word, turned, word_drafted}
+use Rattle.cell.specs.Views.{Knows, Staged, IsClaimer, at_stage, did, took, took_with, saw, read_word, drafted_word, turned, word_drafted}
 use Rattle.cell.proofs.Truths.{offers_known, joined_known, granted_known, agrees, coherent}
 use Rattle.cell.specs.Rule.{Keeps}
 use Rattle.cell.specs.Told.{Agrees, AgreesWithItself, Inside, At, cell_read, looked, has_read, glanced, drafted, opened, yielded, claimed, joined, granted, settled, taken, sealed}
 use Rattle.cell.proofs.Others.{learn_cell, learn_word, others_cell, own_cell, cell_now, cell_else, others_draft, own_draft}
-use Rattle.cell.proofs.Turning.{world_kept, keeps_view, keeps_step, moved_coherent}
+use Rattle.cell.proofs.Turning.{world_kept, keeps_view, keeps_step, knows_results, moved_coherent}
 
 -- the table with these words
 abbrev pub sized : Shape → List ℕ → Table
@@ -94,8 +101,8 @@ module _ {M : Type 0} where
       is_its_row = ap (λ (t : Table). is_row t r) k.table ∙ row_from (sized shape s.words) r inside.0 inside.1
 
       -- where it only learns
-      learnt : (w : View M) → w.seat ≡ me.0.seat → w.made ≡ me.0.made → Knows k.world k.owner id w → Keeps shape (stepped s place (slice_index s.words place) id me.1 w keeps)
-      learnt w seat_same made knows = keeps_view shape s k id me.0 w _ _ view seat_same made (set-get_or s.words place 0) knows
+      learnt : (w : View M) → w.seat ≡ me.0.seat → w.made ≡ me.0.made → w.results ≡ me.0.results → Knows k.world k.owner id w → Keeps shape (stepped s place (slice_index s.words place) id me.1 w keeps)
+      learnt w seat_same made seen knows = keeps_view shape s k id me.0 w _ _ view seat_same made seen (set-get_or s.words place 0) knows
 
       -- what the pass has seen then agrees with itself
       agreed : (x : ℕ) (w : View M) → w.threads ≡ me.0.threads → Keeps shape (stepped s place x id me.1 w keeps) → AgreesWithItself w
@@ -112,7 +119,7 @@ module _ {M : Type 0} where
       wrote_word d held unopened high formed =
           let mine = known.mine r held in
           let fresh = known.fresh r held unopened in
-          keeps_step shape s k id me.0 (drafted_word r p d me.0) _ _ k.owner view refl refl (Draft r p d) (known.seat, (mine.1, fresh, high, omega arith, formed))
+          keeps_step shape s k id me.0 (drafted_word r p d me.0) _ _ k.owner view refl refl (Draft r p d) (known.seat, (mine.1, fresh, high, omega arith, formed)) (λ t rs h. inl h)
           (ap (λ (t : Table). with_word t r p d) k.table ∙ ap (λ (n : ℕ). sized shape (slice_set s.words n d)) (sym here))
           (λ j u n e t. others_draft k.world r p d k.owner kept is_its_row high low fresh j u (k.knows j u e t) (λ o. n (sym o ∙ mine.0)))
           (own_draft k.world r p d k.owner kept is_its_row high low fresh id me.0 known mine.0 mine.1)
@@ -148,11 +155,12 @@ module _ {M : Type 0} where
             → ((j : ℕ) (m : Row) → j ≢ id → k.owner m ≡ j → cell_at k.world.table m ≡ Claimed → names (joined_of c) m ≡ false)
             → w.seat ≡ me.0.seat
             → w.made ≡ me.0.made
+            → w.results ≡ me.0.results
             → Knows later k.owner id w
             → Keeps shape (stepped s place (cell_word c) id me.1 (did done w) keeps)
         unfolding with_cell
-        wrote_cell done w condition after by_other unnamed seat_same made knows =
-            keeps_step shape s k id me.0 w _ _ k.owner view seat_same made done (known.seat, condition)
+        wrote_cell done w condition after by_other unnamed seat_same made seen knows =
+            keeps_step shape s k id me.0 w _ _ k.owner view seat_same made done (known.seat, condition) (λ t rs h. inl (subst (λ (l : List (ℕ × List Result)). Has l (t, rs)) seen h))
             (ap (λ (v : World). v.table) after ∙ ap (λ (t : Table). with_cell t r c) k.table ∙ ap (λ (n : ℕ). sized shape (slice_set s.words n (cell_word c))) (ap (place_of shape.rows r) (sym zero) ∙ sym here))
             (λ j u n e t. subst (λ (v : World). Knows v k.owner j u) (sym after)
             (others_cell k.world r c k.owner kept is_its_row range open_c was untaken j u (k.knows j u e t) (λ o. by_other j n o) (λ m o h. unnamed j m n o h)))
@@ -166,7 +174,7 @@ module _ {M : Type 0} where
           let was : joined_of (cell_at k.world.table r) ≡ None = ap joined_of fresh in
           let untaken : is_taken (cell_at k.world.table r) ≡ false = ap is_taken fresh in
           wrote_cell Waiting zero tt refl was untaken (Open r) (turned Resting r me.0) (mine.1, fresh) refl
-          (λ j n o. absurd (n (sym o ∙ mine.0))) (λ j m n o h. refl) refl refl
+          (λ j n o. absurd (n (sym o ∙ mine.0))) (λ j m n o h. refl) refl refl refl
           (knows_now Waiting zero tt refl was untaken Resting tt (λ e. let bad : Waiting ≡ Claimed = e in cc) (λ q e h. subst (λ (z : Stage). IsClaimer z q) resting h))
 
       -- a held row that waits
@@ -178,7 +186,7 @@ module _ {M : Type 0} where
           let unnamed = idle_unnamed k.world r kept (λ e. let bad : Waiting ≡ Claimed = sym waits ∙ e in cc) was in
           let now = own_now Claimed zero tt refl was untaken in
           wrote_cell Claimed zero tt refl was untaken (Claim r) (turned (Claims r) r me.0) (mine.1, waits) refl
-          (λ j n o. absurd (n (sym o ∙ mine.0))) (λ j m n o h. refl) refl refl
+          (λ j n o. absurd (n (sym o ∙ mine.0))) (λ j m n o h. refl) refl refl refl
           (knows_now Claimed zero tt refl was untaken (Claims r) (
             mine.0,
             now,
@@ -199,7 +207,7 @@ module _ {M : Type 0} where
           let untaken : is_taken (cell_at k.world.table r) ≡ false = ap is_taken staged.1 in
           wrote_cell Waiting zero tt refl was untaken (Yield r) (turned Resting r me.0)
           (mine.1, staged.1, namer_none _ (joined_at k.world.table) r staged.2) refl
-          (λ j n o. absurd (n (sym o ∙ mine.0))) (λ j m n o h. refl) refl refl
+          (λ j n o. absurd (n (sym o ∙ mine.0))) (λ j m n o h. refl) refl refl refl
           (knows_now Waiting zero tt refl was untaken Resting tt (λ e. let bad : Waiting ≡ Claimed = e in cc)
           (λ q e h. false≢true (sym e ∙ ap (row_eq q) (subst (λ (z : Stage). IsClaimer z q) claiming h) ∙ row_eq-refl q)))
 
@@ -225,7 +233,7 @@ module _ {M : Type 0} where
           (ap (λ (y : Joined). with_table k.world (with_cell k.world.table r (Synched y))) is)
           (λ i n o. (waits, refl))
           (λ i m n o h. ap (λ (y : Option (Row × ℕ)). is_partner y m) partner_is ∙ row_ne mine m (λ e. n (sym o ∙ ap k.owner (sym e) ∙ staged.0)))
-          refl refl
+          refl refl refl
           (learn_cell _ k.owner id (turned (Joins mine r j) r me.0) r (Synched j)
           (knows_now (Synched j) zero range refl was untaken (Joins mine r j)
           (staged.0, else_now (Synched j) zero range refl was untaken mine apart ∙ staged.1, ap joined_of now, ap (λ (y : Option (Row × ℕ)). is_partner y mine) partner_is ∙ row_eq-refl mine)
@@ -247,7 +255,7 @@ module _ {M : Type 0} where
           (waits, ap (λ (o : Option ℕ). is_some o) known_grant.0)
           (ap (λ (y : Joined). with_table k.world (with_cell k.world.table r (Synched y))) known_grant.1)
           (λ i n o. (waits, refl))
-          (λ i m n o h. ap (λ (y : Option (Row × ℕ)). is_partner y m) nobody) refl refl
+          (λ i m n o h. ap (λ (y : Option (Row × ℕ)). is_partner y m) nobody) refl refl refl
           (learn_cell _ k.owner id (turned Resting r me.0) r (Synched j)
           (knows_now (Synched j) zero range refl was untaken Resting tt
           (λ e. let bad : Synched j ≡ Claimed = e in cc)
@@ -291,15 +299,20 @@ module _ {M : Type 0} where
                 subst (λ (b : Bool). Knows later_taken owner' id (at_stage me.0.stage (cond b (record { held = next_row r ∷ (saw r (Taken j) me.0).seen.held; drafts = (next_row r, 1, 0) ∷ (saw r (Taken j) me.0).seen.drafts; opened = (saw r (Taken j) me.0).seen.opened; words = (saw r (Taken j) me.0).seen.words; joined = (saw r (Taken j) me.0).seen.joined; taken = (saw r (Taken j) me.0).seen.taken; bound = (saw r (Taken j) me.0).seen.bound }) (saw r (Taken j) me.0).seen) me.0)) (sym e)
                 saw_it
 
-        takes : p ≡ 0 → Keeps shape (stepped s place (cell_word (Taken j)) id me.1 (did (Take r) (took r j me.0)) keeps)
+        takes : p ≡ 0 → (results : List Result) → AreResults (ledger_of k.world.table) r.thread results → Keeps shape (stepped s place (cell_word (Taken j)) id me.1 (did (Take r) (took_with r j results me.0)) keeps)
         unfolding with_cell
-        takes zero =
+        takes zero results are =
             let synched : synched_of (cell_at k.world.table r) ≡ Some j = ap synched_of is in
             let after : after_step k.world seat (Take r) ≡ later_taken = ap (λ (o : Option Joined). with_holders (with_table k.world (with_take k.world.table r o)) (handed k.world.table k.world.holders seat r)) synched in
-            keeps_step shape s k id me.0 (took r j me.0) _ _ owner' view refl refl (Take r) (known.seat, ap (λ (o : Option Joined). is_some o) synched)
+            let allowed : Allowed k.world seat (Take r) = (known.seat, ap (λ (o : Option Joined). is_some o) synched) in
+            let stay = results-stay k.world (after_step k.world seat (Take r)).table r.thread results kept (grows-step k.world seat (Take r) kept allowed) are in
+            keeps_step shape s k id me.0 (took_with r j results me.0) _ _ owner' view refl refl (Take r) allowed
+            (λ t rs. ⊎_elim
+            (λ (e : (r.thread, results) ≡ (t, rs)). inr (subst (λ (z : ℕ × List Result). AreResults (ledger_of (after_step k.world seat (Take r)).table) z.0 z.1) e stay))
+            (λ (old : Has me.0.results (t, rs)). inl old))
             (ap (λ (v : World). v.table) after ∙ ap (λ (t : Table). with_cell t r (Taken j)) k.table ∙ ap (λ (n : ℕ). sized shape (slice_set s.words n (cell_word (Taken j)))) (ap (place_of shape.rows r) (sym zero) ∙ sym here))
             (λ i u n e t. subst (λ (v : World). Knows v owner' i u) (sym after) (still_knows i u (k.knows i u e t)))
-            (subst (λ (v : World). Knows v owner' id (took r j me.0)) (sym after) took_knows)
+            (subst (λ (v : World). Knows v owner' id (took_with r j results me.0)) (sym after) (knows_results later_taken owner' id (took r j me.0) ((r.thread, results) ∷ me.0.results) took_knows))
 
       -- a claimed row: it is committed as the row that this call joined says
       seals : p ≡ 0 → (other : Row) (own : ℕ) (j : Joined) → me.0.stage ≡ Joins r other j → j.partner ≡ Some (r, own) → Has me.0.seen.held r
@@ -320,7 +333,7 @@ module _ {M : Type 0} where
           (mine.1, staged.1, ap (λ (y : Option Row). is_some y) namer)
           (ap (λ (y : Option Joined). with_table k.world (with_seal k.world.table r y)) (sealed_is k.world.table r other (namer_at k.world r) sealing namer))
           (λ i n o. absurd (n (sym o ∙ mine.0)))
-          (λ i m n o h. row_ne other m (λ e. let bad : None ≡ Some j = sym (ap joined_of h) ∙ ap (joined_at k.world.table) (sym e) ∙ staged.2 in cc)) refl refl
+          (λ i m n o h. row_ne other m (λ e. let bad : None ≡ Some j = sym (ap joined_of h) ∙ ap (joined_at k.world.table) (sym e) ∙ staged.2 in cc)) refl refl refl
           (learn_cell _ k.owner id (turned Resting r me.0) r (Synched (mirrored other j own))
           (knows_now (Synched (mirrored other j own)) zero range refl was untaken Resting tt
           (λ e. let bad : Synched (mirrored other j own) ≡ Claimed = e in cc)
@@ -338,7 +351,7 @@ module _ {M : Type 0} where
           saw r c me.0,
           keeps,
           tt,
-          learnt shape id place me r 0 threads rows inside (omega arith) here s k view (saw r c me.0) refl refl (learn_cell k.world k.owner id me.0 r c knows read),
+          learnt shape id place me r 0 threads rows inside (omega arith) here s k view (saw r c me.0) refl refl refl (learn_cell k.world k.owner id me.0 r c knows read),
           λ q at.
               let there = seen_there k.world k.owner id me r q c (world_kept shape s k) knows read (one_word shape id place me r 0 threads rows inside (omega arith) here q 0 (omega arith) at.0 at.1).0 in
               (there.0, there.1, coherent k.world k.owner id (saw r c me.0) (learn_cell k.world k.owner id me.0 r c knows read) (world_kept shape s k), is_cell shape id place me r 0 threads rows inside (omega arith) here s k view refl),
@@ -351,7 +364,7 @@ module _ {M : Type 0} where
           me.0,
           keeps,
           tt,
-          learnt shape id place me r 0 threads rows inside (omega arith) here s k view me.0 refl refl knows,
+          learnt shape id place me r 0 threads rows inside (omega arith) here s k view me.0 refl refl refl knows,
           (refl, coherent k.world k.owner id me.0 knows (world_kept shape s k)),
         )
 
@@ -362,7 +375,7 @@ module _ {M : Type 0} where
           read_word r p x me.0,
           keeps,
           tt,
-          learnt shape id place me r p threads rows inside low here s k view (read_word r p x me.0) refl refl
+          learnt shape id place me r p threads rows inside low here s k view (read_word r p x me.0) refl refl refl
               (learn_word k.world k.owner id me.0 r p x knows (knows.opened r seen) high low (word_is shape id place me r p threads rows inside low here s k view)),
           λ q o h at. (
             ap (λ (z : Row × ℕ). (read_word z.0 z.1 x me.0, me.1)) (let e = one_word shape id place me r p threads rows inside low here q o h at.0 at.1 in λ i. (e.0 i, e.1 i)),
@@ -442,7 +455,7 @@ module _ {M : Type 0} where
         ))
         (λ f.
         let moved : Keeps shape (stepped s place n id me.1 (saw r (cell_read n) me.0) keeps) =
-        learnt shape id place me r 0 threads rows inside (omega arith) here s k view (saw r (cell_read n) me.0) refl refl (learn_cell k.world k.owner id me.0 r (cell_read n) knows read) in
+        learnt shape id place me r 0 threads rows inside (omega arith) here s k view (saw r (cell_read n) me.0) refl refl refl (learn_cell k.world k.owner id me.0 r (cell_read n) knows read) in
         let agrees_now = agreed shape id place me r 0 threads rows inside (omega arith) here s k view n (saw r (cell_read n) me.0) refl moved in (
           saw r (cell_read n) me.0,
           keeps,
@@ -502,7 +515,7 @@ module _ {M : Type 0} where
         ))
         (λ f.
         let moved : Keeps shape (stepped s place n id me.1 (saw r (cell_read n) me.0) keeps) =
-        learnt shape id place me r 0 threads rows inside (omega arith) here s k view (saw r (cell_read n) me.0) refl refl (learn_cell k.world k.owner id me.0 r (cell_read n) knows read) in
+        learnt shape id place me r 0 threads rows inside (omega arith) here s k view (saw r (cell_read n) me.0) refl refl refl (learn_cell k.world k.owner id me.0 r (cell_read n) knows read) in
         let agrees_now = agreed shape id place me r 0 threads rows inside (omega arith) here s k view n (saw r (cell_read n) me.0) refl moved in (
           saw r (cell_read n) me.0,
           keeps,
@@ -549,7 +562,7 @@ module _ {M : Type 0} where
         ))
         (λ f.
         let moved : Keeps shape (stepped s place x id me.1 (saw r (cell_read x) me.0) keeps) =
-        learnt shape id place me r 0 threads rows inside (omega arith) here s k view (saw r (cell_read x) me.0) refl refl (learn_cell k.world k.owner id me.0 r (cell_read x) knows read) in
+        learnt shape id place me r 0 threads rows inside (omega arith) here s k view (saw r (cell_read x) me.0) refl refl refl (learn_cell k.world k.owner id me.0 r (cell_read x) knows read) in
         let agrees_now = agreed shape id place me r 0 threads rows inside (omega arith) here s k view x (saw r (cell_read x) me.0) refl moved in (
           saw r (cell_read x) me.0,
           keeps,
@@ -570,9 +583,11 @@ module _ {M : Type 0} where
         (λ y. (w : View M) × (a : Act S) × Valid s.homes me.1 a × Keeps shape (stepped s place y id me.1 w a) × taken (step slots place (cell_word (Synched j)) (cell_word (Taken j)) none) me x (w, carried_after me.1 a))
         (λ e.
         let synched : cell_at k.world.table r ≡ Synched j = read ∙ ap cell_read e ∙ ap (λ (o : Option Cell). unwrap_or o Fresh) (cell_of-cell_word (Synched j) in_range) in
-        let after = did (Take r) (took r j me.0) in
+        let joined_here : ledger_joined (ledger_of k.world.table) r ≡ Some j = ap (λ (f : Row → Option Joined). f r) (joined_in_ledger k.world.table) ∙ ap joined_of synched in
+        let has = joined-results (ledger_of k.world.table) r j (lawful_ledger k.world.table (world_kept shape s k).linked) joined_here in
+        let after = did (Take r) (took_with r j has.0 me.0) in
         let moved : Keeps shape (stepped s place (cell_word (Taken j)) id me.1 after keeps) =
-        takes shape id place me r 0 threads rows inside (omega arith) here s k view j synched refl in (
+        takes shape id place me r 0 threads rows inside (omega arith) here s k view j synched refl has.0 has.2 in (
           after,
           keeps,
           tt,
@@ -580,7 +595,9 @@ module _ {M : Type 0} where
           λ q i at i_range second. (
             λ f. let same = one_taken j i in_range i_range second in
                 let row = one q at in (
-                  (λ z. (did (Take (row z)) (took (row z) (same z) me.0), me.1)),
+                  has.0,
+                  has.1 ∙ ap (λ (z : Row). z.sync + 1) row,
+                  (λ z. (did (Take (row z)) (took_with (row z) (same z) has.0 me.0), me.1)),
                   subst (λ (z : Joined). Agrees me.0 q (Synched z)) same (seen_there k.world k.owner id me r q (Synched j) (world_kept shape s k) knows synched row).1,
                   λ o. let open_next : is_fresh (cell_at k.world.table (next_row r)) ≡ false = knows.opened (next_row r) (subst (λ (z : Row). Has me.0.seen.opened (next_row z)) (sym row) o) in
                       false≢true (sym open_next ∙ next_unopened k.world (record { 0 = me.0.seat }) r j (world_kept shape s k) synched),
@@ -591,7 +608,7 @@ module _ {M : Type 0} where
         ))
         (λ f.
         let moved : Keeps shape (stepped s place x id me.1 (saw r (cell_read x) me.0) keeps) =
-        learnt shape id place me r 0 threads rows inside (omega arith) here s k view (saw r (cell_read x) me.0) refl refl (learn_cell k.world k.owner id me.0 r (cell_read x) knows read) in
+        learnt shape id place me r 0 threads rows inside (omega arith) here s k view (saw r (cell_read x) me.0) refl refl refl (learn_cell k.world k.owner id me.0 r (cell_read x) knows read) in
         let agrees_now = agreed shape id place me r 0 threads rows inside (omega arith) here s k view x (saw r (cell_read x) me.0) refl moved in (
           saw r (cell_read x) me.0,
           keeps,

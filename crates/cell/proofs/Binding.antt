@@ -113,8 +113,8 @@ module _ {M : Type 0} where
       binding_is = binding_inside k.world.table nack is_its_nack ∙ ap nack_read word_is
 
       -- where it only learns
-      learnt : (w : View M) → w.seat ≡ me.0.seat → w.made ≡ me.0.made → Knows k.world k.owner id w → Keeps shape (stepped s place (slice_index s.words place) id me.1 w keeps)
-      learnt w seat made knows = keeps_view shape s k id me.0 w _ _ view seat made (set-get_or s.words place 0) knows
+      learnt : (w : View M) → w.seat ≡ me.0.seat → w.made ≡ me.0.made → w.results ≡ me.0.results → Knows k.world k.owner id w → Keeps shape (stepped s place (slice_index s.words place) id me.1 w keeps)
+      learnt w seat made seen knows = keeps_view shape s k id me.0 w _ _ view seat made seen (set-get_or s.words place 0) knows
 
       -- what the pass has seen then agrees with itself
       agreed : (x : ℕ) (w : View M) → w.threads ≡ me.0.threads → Keeps shape (stepped s place x id me.1 w keeps) → AgreesWithItself w
@@ -128,6 +128,10 @@ module _ {M : Type 0} where
       made_kept : (o : Option Binding) → (saw_nack nack o me.0).made ≡ me.0.made
       made_kept None = refl
       made_kept (Some b) = refl
+
+      results_kept : (o : Option Binding) → (saw_nack nack o me.0).results ≡ me.0.results
+      results_kept None = refl
+      results_kept (Some b) = refl
 
       sees : Knows k.world k.owner id (saw_nack nack (nack_read (slice_index s.words place)) me.0)
       sees = learn_nack k.world k.owner id me.0 nack (nack_read (slice_index s.words place)) known binding_is
@@ -182,7 +186,7 @@ module _ {M : Type 0} where
         binds =
             let mine = known.mine (bound_row nack b) held in
             keeps_step shape s k id me.0 (bound_nack nack b me.0) _ _ k.owner view refl refl (bind_of nack b)
-            (known.seat, (mine.1, known.fresh (bound_row nack b) held unopened, inside.1, range.scope, free))
+            (known.seat, (mine.1, known.fresh (bound_row nack b) held unopened, inside.1, range.scope, free)) (λ t rs h. inl h)
             (ap (λ (t : Table). with_nack t nack b) k.table ∙ ap (λ (n : ℕ). sized shape (slice_set s.words n (nack_word (Some b)))) (sym here))
             (λ j u n e t. others j u n (k.knows j u e t))
             own
@@ -196,7 +200,7 @@ module _ {M : Type 0} where
           saw_nack nack o me.0,
           keeps,
           tt,
-          learnt shape id place me nack threads rows inside here s k view (saw_nack nack o me.0) (seat_kept shape id place me nack threads rows inside here s k view o) (made_kept shape id place me nack threads rows inside here s k view o) (sees shape id place me nack threads rows inside here s k view),
+          learnt shape id place me nack threads rows inside here s k view (saw_nack nack o me.0) (seat_kept shape id place me nack threads rows inside here s k view o) (made_kept shape id place me nack threads rows inside here s k view o) (results_kept shape id place me nack threads rows inside here s k view o) (sees shape id place me nack threads rows inside here s k view),
           λ m at.
               let same = one_nack shape id place me nack threads rows inside here m at.0 at.1 in (
                 ap (λ (n : NackName). (saw_nack n o me.0, me.1)) same,
@@ -239,7 +243,7 @@ module _ {M : Type 0} where
         let is : binding_at k.world.table nack ≡ Some found.0 = read ∙ found.1 in
         let after = bound_nack nack found.0 me.0 in
         let moved : Keeps shape (stepped s place x id me.1 after keeps) =
-        learnt shape id place me nack threads rows inside here s k view after refl refl (learn_nack k.world k.owner id me.0 nack (Some found.0) knows is) in (
+        learnt shape id place me nack threads rows inside here s k view after refl refl refl (learn_nack k.world k.owner id me.0 nack (Some found.0) knows is) in (
           after,
           keeps,
           tt,

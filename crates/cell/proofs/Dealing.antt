@@ -17,6 +17,8 @@ use Rattle.protocol.specs.Tables.{thread_len, cell_at, word_at, binding_at, boun
 use Rattle.protocol.specs.Worlds.{World, start_world, holder_at}
 use Rattle.protocol.proofs.LedgerLemmas.{start_binding, start_cell, start_holder, start_word}
 use Rattle.protocol.proofs.RowLemmas.{same_row}
+use Rattle.protocol.specs.Standing.{AreResults, Result}
+use Rattle.protocol.specs.Ledgers.{ledger_of}
 use Rattle.cell.specs.declared.view.View.{View}
 use Rattle.cell.specs.declared.view.Shape.{Shape}
 use Rattle.cell.specs.Sight.{Coherent, Has}
@@ -63,8 +65,13 @@ module _ {M : Type 0} where
     table = ap (λ (z : List ℕ). record { threads = shape.threads; rows = shape.rows; words = z }) (sym zeros);
     owner = λ r. 0;
     knows = knows_at;
+    results = no_results;
   }
     where
+      no_results : (id : ℕ) (v : View M) (t : ℕ) (rs : List Result) → get_elem? (dealer shape 0 ∷ []) id ≡ some v → Has v.results (t, rs) → AreResults (ledger_of (start_world shape.threads shape.rows shape.passes).table) t rs
+      no_results zero v t rs e h = absurd (subst (λ (u : View M). Has u.results (t, rs)) (sym (mathlib.Core.Option.some-injective _ _ e)) h)
+      no_results (suc id) v t rs e h = absurd (mathlib.Core.Option.some-ne-none v (sym e))
+
       one_view : (id : ℕ) (v : View M) → get_elem? (dealer shape 0 ∷ []) id ≡ some v → steps_by id [] ≡ at_seat v.seat v.made
       one_view zero v e = ap (λ (u : View M). at_seat u.seat u.made) (mathlib.Core.Option.some-injective _ _ e)
       one_view (suc id) v e = absurd (mathlib.Core.Option.some-ne-none v (sym e))
@@ -245,6 +252,13 @@ module _ {M : Type 0} where
       table = h.table;
       owner = owner';
       knows = λ j u e t. ⊎_elim (λ old. at_old j u old t) (λ now. subst (λ (z : ℕ × (View M)). Knows h.world owner' z.0 z.1) (λ i. (sym (now.0 ∙ length-set s.views id (dealer shape (k + 1))) i, now.1 i)) its_pass) (at_end (slice_set s.views id (dealer shape (k + 1))) (dealt_pass (dealer shape k)) u j e);
+      results = λ j u t rs e i. ⊎_elim
+          (λ old. ⊎_elim
+          (λ (a : (j ≡ id) × (dealer shape (k + 1) ≡ u)). absurd (subst (λ (z : View M). Has z.results (t, rs)) (sym a.1) i))
+          (λ (a : (j ≢ id) × (get_elem? s.views j ≡ some u)). h.results j u t rs a.1 i)
+          (at_set s.views id j (dealer shape (k + 1)) u old))
+          (λ now. absurd (subst (λ (z : View M). Has z.results (t, rs)) (sym now.1) i))
+          (at_end (slice_set s.views id (dealer shape (k + 1))) (dealt_pass (dealer shape k)) u j e);
     }
 
   pub deal_allowed : {S : Type 0} (shape : Shape) (id k : ℕ) → k < shape.passes → 0 < shape.threads → Splits {S = S} (Keeps {M = M} shape) id (dealer shape k) (dealer shape (k + 1)) (dealt_pass (dealer shape k))

@@ -12,6 +12,7 @@ use Rattle.words.specs.declared.Row.{Row}
 use Rattle.protocol.specs.Tables.{Table, joined_at}
 use Rattle.protocol.specs.Ledgers.{ledger_of, IsLawful, binding_in, joined_in, offer_in}
 use Rattle.protocol.proofs.LedgerLemmas.{binding_in_ledger, lawful_ledger, joined_in_ledger, offer_in_ledger}
+use Rattle.protocol.specs.Standing.{AreResults, Result}
 use Rattle.cell.specs.declared.view.View.{View}
 use Rattle.cell.specs.declared.view.Shape.{Shape}
 use Rattle.cell.specs.Sight.{Has, IsDraft, SeesOffer, SeesNoOffer}
@@ -57,6 +58,9 @@ module _ {M : Type 0} where
 
     pub final_joined : (r : Row) (j : Joined) → Has v.seen.joined (r, j) → joined_in (ledger_of (sized shape ws)) r ≡ Some j
     final_joined r j h = subst (λ (t : Table). joined_in (ledger_of t) r ≡ Some j) table_is (ap (λ (f : Row → _). f r) (joined_in_ledger kept.world.table) ∙ known.joined r j h)
+
+    pub final_results : (t : ℕ) (rs : List Result) → Has v.results (t, rs) → AreResults (ledger_of (sized shape ws)) t rs
+    final_results t rs h = subst (λ (z : Table). AreResults (ledger_of z) t rs) table_is (kept.results id v t rs final.1.1 h)
 
     pub final_bound : (n : NackName) (b : Binding) → Has v.seen.bound (n, b) → binding_in (ledger_of (sized shape ws)) n ≡ Some b
     final_bound n b h = subst (λ (t : Table). binding_in (ledger_of t) n ≡ Some b) table_is (ap (λ (f : NackName → _). f n) (binding_in_ledger kept.world.table) ∙ known.bound n b h)

@@ -13,6 +13,8 @@ use Rattle.protocol.specs.Tables.{row_eq}
 use Rattle.protocol.specs.Worlds.{World}
 use Rattle.protocol.proofs.RowLemmas.{row_eq-refl, row_eq-true}
 use Rattle.words.specs.declared.Offer.{Offer}
+use Rattle.protocol.specs.Standing.{AreResults, Result}
+use Rattle.protocol.specs.Ledgers.{ledger_of}
 use Rattle.cell.specs.declared.view.Seen.{Seen}
 use Rattle.cell.specs.declared.view.View.{View}
 use Rattle.cell.specs.declared.view.Shape.{Shape}
@@ -157,6 +159,13 @@ module _ {M : Type 0} where
         (λ old. before j u old t)
         (λ (now : (j ≡ length (slice_set s.views id v)) × (told_pass v ≡ u)). subst (λ (z : View M). Knows k.world k.owner j z) now.1 (knows_told k.world k.owner id j v (k.knows id v view at_table)))
         (at_end (slice_set s.views id v) (told_pass v) u j e);
+    results = λ j u t rs e h. ⊎_elim
+        (λ old. ⊎_elim
+        (λ (a : (j ≡ id) × (v ≡ u)). k.results id v t rs view (subst (λ (z : View M). Has z.results (t, rs)) (sym a.1) h))
+        (λ (a : (j ≢ id) × (get_elem? s.views j ≡ some u)). k.results j u t rs a.1 h)
+        (at_set s.views id j v u old))
+        (λ (now : (j ≡ length (slice_set s.views id v)) × (told_pass v ≡ u)). k.results id v t rs view (subst (λ (z : View M). Has z.results (t, rs)) (sym now.1) h))
+        (at_end (slice_set s.views id v) (told_pass v) u j e);
   }
     where
       before : (j : ℕ) (u : View M) → get_elem? (slice_set s.views id v) j ≡ some u → 0 < u.threads → Knows k.world k.owner j u
@@ -180,8 +189,22 @@ module _ {M : Type 0} where
         (λ (a : (j ≡ other) × (spent_pass ≡ u)). let z : u.threads ≡ 0 = ap (λ (y : View M). y.threads) (sym a.1) in absurd (omega arith))
         (λ (a : (j ≢ other) × (get_elem? (slice_set s.views id (heard_pass v w)) j ≡ some u)). before j u a.1 t)
         (at_set (slice_set s.views id (heard_pass v w)) other j spent_pass u e);
+    results = λ j u t rs e h. ⊎_elim
+        (λ (a : (j ≡ other) × (spent_pass ≡ u)). absurd (subst (λ (z : View M). Has z.results (t, rs)) (sym a.1) h))
+        (λ (a : (j ≢ other) × (get_elem? (slice_set s.views id (heard_pass v w)) j ≡ some u)). ⊎_elim
+        (λ (b : (j ≡ id) × (heard_pass v w ≡ u)). both t rs (has_either v.results w.results (t, rs) (subst (λ (z : View M). Has z.results (t, rs)) (sym b.1) h)))
+        (λ (b : (j ≢ id) × (get_elem? s.views j ≡ some u)). k.results j u t rs b.1 h)
+        (at_set s.views id j (heard_pass v w) u a.1))
+        (at_set (slice_set s.views id (heard_pass v w)) other j spent_pass u e);
   }
     where
+      both : (t : ℕ) (rs : List Result) → Has v.results (t, rs) ⊎ Has w.results (t, rs) → AreResults (ledger_of k.world.table) t rs
+      both t rs (inl h) = k.results id v t rs view h
+      both t rs (inr h) = ⊎_elim
+          (λ (a : (other ≡ id) × (heard_pass v w ≡ w)). absurd (apart a.0))
+          (λ (a : (other ≢ id) × (get_elem? s.views other ≡ some w)). k.results other w t rs a.1 h)
+          (at_set s.views id other (heard_pass v w) w told)
+
       his : Knows k.world k.owner other w
       his = ⊎_elim
           (λ (a : (other ≡ id) × (heard_pass v w ≡ w)). absurd (apart a.0))

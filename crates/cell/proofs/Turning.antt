@@ -1,5 +1,5 @@
 -- The rule of the table is kept by a call that learns, and by a step of the protocol.
-use Rattle.std.proofs.Common.{slice_set, ◌≡◌, ◌≢◌, ◌<◌, ◌≤◌, ℕ, zero, suc, Bool, cond, List, [], ◌∷◌, length, sym, refl, ap, ◌∙◌, subst, ⊎_elim, arith}
+use Rattle.std.proofs.Common.{slice_set, ◌⊎◌, ◌≡◌, ◌≢◌, ◌<◌, ◌≤◌, ℕ, zero, suc, Bool, cond, List, [], ◌∷◌, length, sym, refl, ap, ◌∙◌, subst, ⊎_elim, arith}
 use Rattle.std.proofs.lemmas.Bool.{eq-eqb, ne_eqb}
 use Rattle.std.proofs.lemmas.List.{length-set}
 use mathlib.Core.Option.{Option, some}
@@ -9,12 +9,16 @@ use Rattle.atomic_table.proofs.Lists.{at_set}
 use Rattle.words.specs.declared.Seat.{Seat}
 use Rattle.words.specs.declared.Step.{Step}
 use Rattle.words.specs.declared.Row.{Row}
+use Rattle.protocol.specs.Ledgers.{Ledger, ledger_of}
+use Rattle.protocol.specs.Standing.{AreResults, Result}
 use Rattle.protocol.specs.Worlds.{World, start_world, Allowed, after_step}
+use Rattle.protocol.proofs.Onward.{grows-step}
+use Rattle.protocol.proofs.Standing.{results-stay}
 use Rattle.protocol.proofs.Playing.{plays_more}
 use Rattle.cell.specs.declared.view.View.{View}
 use Rattle.cell.specs.declared.view.Shape.{Shape}
-use Rattle.cell.specs.Sight.{Coherent}
-use Rattle.cell.specs.Views.{Knows, did}
+use Rattle.cell.specs.Sight.{Coherent, Has}
+use Rattle.cell.specs.Views.{Knows, did, with_results}
 use Rattle.cell.proofs.Truths.{coherent}
 use Rattle.protocol.specs.Kept.{Kept}
 use Rattle.protocol.proofs.Keeping.{kept_schedule}
@@ -34,6 +38,16 @@ module _ {M : Type 0} where
   views_with vs id w world owner others mine j u e at_table = ⊎_elim
       (λ (h : (j ≡ id) × (w ≡ u)). subst (λ (z : ℕ × (View M)). Knows world owner z.0 z.1) (λ i. (sym h.0 i, h.1 i)) mine)
       (λ (h : (j ≢ id) × (get_elem? vs j ≡ some u)). others j u h.0 h.1 at_table)
+      (at_set vs id j w u e)
+
+  -- what all views have of results, one of them being new
+  pub results_with : (vs : List (View M)) (id : ℕ) (w : View M) (l : Ledger)
+      → ((j : ℕ) (u : View M) (t : ℕ) (rs : List Result) → j ≢ id → get_elem? vs j ≡ some u → Has u.results (t, rs) → AreResults l t rs)
+      → ((t : ℕ) (rs : List Result) → Has w.results (t, rs) → AreResults l t rs)
+      → (j : ℕ) (u : View M) (t : ℕ) (rs : List Result) → get_elem? (slice_set vs id w) j ≡ some u → Has u.results (t, rs) → AreResults l t rs
+  results_with vs id w l others mine j u t rs e h = ⊎_elim
+      (λ (a : (j ≡ id) × (w ≡ u)). mine t rs (subst (λ (z : View M). Has z.results (t, rs)) (sym a.1) h))
+      (λ (a : (j ≢ id) × (get_elem? vs j ≡ some u)). others j u t rs a.0 a.1 h)
       (at_set vs id j w u e)
 
   -- THE HISTORY AND THE PASSES' STEPS
@@ -73,9 +87,9 @@ module _ {M : Type 0} where
   }
 
   -- the table stays, and one pass knows more
-  pub keeps_view : {S : Type 0} (shape : Shape) (s : State S (View M)) (k : Keeps shape s) (id : ℕ) (v w : View M) (ws : List ℕ) (hs : List (Option S)) → get_elem? s.views id ≡ some v → w.seat ≡ v.seat → w.made ≡ v.made
+  pub keeps_view : {S : Type 0} (shape : Shape) (s : State S (View M)) (k : Keeps shape s) (id : ℕ) (v w : View M) (ws : List ℕ) (hs : List (Option S)) → get_elem? s.views id ≡ some v → w.seat ≡ v.seat → w.made ≡ v.made → w.results ≡ v.results
       → ws ≡ s.words → Knows k.world k.owner id w → Keeps shape (record { words = ws; homes = hs; views = slice_set s.views id w })
-  keeps_view shape s k id v w ws hs view seat made same knows = record {
+  keeps_view shape s k id v w ws hs view seat made seen same knows = record {
     few_threads = k.few_threads;
     few_rows = k.few_rows;
     moves = k.moves;
@@ -85,6 +99,7 @@ module _ {M : Type 0} where
     table = k.table ∙ ap (λ (z : List ℕ). record { threads = shape.threads; rows = shape.rows; words = z }) (sym same);
     owner = k.owner;
     knows = views_with s.views id w k.world k.owner (λ j u n e t. k.knows j u e t) knows;
+    results = results_with s.views id w (ledger_of k.world.table) (λ j u t rs n e h. k.results j u t rs e h) (λ t rs h. k.results id v t rs view (subst (λ (l : List (ℕ × List Result)). Has l (t, rs)) seen h));
   }
 
   -- what a pass knows does not ask what it did
@@ -108,15 +123,41 @@ module _ {M : Type 0} where
     binds = k.binds;
   }
 
+  -- nor which results it has seen
+  pub knows_results : (world : World) (owner : Row → ℕ) (id : ℕ) (w : View M) (results : List (ℕ × List Result)) → Knows world owner id w → Knows world owner id (with_results results w)
+  knows_results world owner id w results k = record {
+    threads = k.threads;
+    rows = k.rows;
+    passes = k.passes;
+    seat = k.seat;
+    undealt = k.undealt;
+    mine = k.mine;
+    calm = k.calm;
+    staged = k.staged;
+    fresh = k.fresh;
+    drafted = k.drafted;
+    opened = k.opened;
+    read = k.read;
+    joined = k.joined;
+    taken = k.taken;
+    bound = k.bound;
+    binds = k.binds;
+  }
+
   -- the protocol's step is made by the pass at its seat, and it knows more
   pub keeps_step : {S : Type 0} (shape : Shape) (s : State S (View M)) (k : Keeps shape s) (id : ℕ) (v w : View M) (ws : List ℕ) (hs : List (Option S)) (owner : Row → ℕ) → get_elem? s.views id ≡ some v → w.seat ≡ v.seat → w.made ≡ v.made
       → (step : Step) → Allowed k.world (record { 0 = v.seat }) step
+      → ((t : ℕ) (rs : List Result) → Has w.results (t, rs) → Has v.results (t, rs) ⊎ AreResults (ledger_of (after_step k.world (record { 0 = v.seat }) step).table) t rs)
       → (after_step k.world (record { 0 = v.seat }) step).table ≡ record { threads = shape.threads; rows = shape.rows; words = ws }
       → ((j : ℕ) (u : View M) → j ≢ id → get_elem? s.views j ≡ some u → 0 < u.threads → Knows (after_step k.world (record { 0 = v.seat }) step) owner j u)
       → Knows (after_step k.world (record { 0 = v.seat }) step) owner id w
       → Keeps shape (record { words = ws; homes = hs; views = slice_set s.views id (did step w) })
-  keeps_step shape s k id v w ws hs owner view seat made step allowed same others knows =
+  keeps_step shape s k id v w ws hs owner view seat made step allowed seen same others knows =
       let at : Seat = record { 0 = v.seat } in
+      let kept = world_kept shape s k in
+      let grows = grows-step k.world at step kept allowed in
+      let stays : (j t : ℕ) (u : View M) (rs : List Result) → get_elem? s.views j ≡ some u → Has u.results (t, rs) → AreResults (ledger_of (after_step k.world at step).table) t rs =
+      λ j t u rs e h. results-stay k.world (after_step k.world at step).table t rs kept grows (k.results j u t rs e h) in
       record {
         few_threads = k.few_threads;
         few_rows = k.few_rows;
@@ -127,6 +168,8 @@ module _ {M : Type 0} where
         table = same;
         owner = owner;
         knows = views_with s.views id (did step w) (after_step k.world at step) owner others (knows_did (after_step k.world at step) owner id w step knows);
+        results = results_with s.views id (did step w) (ledger_of (after_step k.world at step).table) (λ j u t rs n e h. stays j t u rs e h)
+            (λ t rs h. ⊎_elim (λ (old : Has v.results (t, rs)). stays id t v rs view old) (λ (new : AreResults (ledger_of (after_step k.world at step).table) t rs). new) (seen t rs h));
       }
 
   -- WHAT A PASS HAS SEEN agrees with itself, at any moment

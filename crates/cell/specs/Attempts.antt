@@ -1,5 +1,5 @@
 -- What the answers of an attempt mean.
-use Rattle.std.specs.Prelude.{◌≡◌, ◌≢◌, ◌⊎◌, ◌↔◌, ◌≤◌, ℕ, Bool, true, false, Option, Some, None, List, ◌∷◌, ◌++◌}
+use Rattle.std.specs.Prelude.{◌≡◌, ◌≢◌, ◌⊎◌, ◌↔◌, ◌≤◌, ℕ, Bool, true, false, Option, Some, None, List, ◌∷◌, ◌++◌, ◌+◌, length}
 use Rattle.words.specs.declared.Base.TheVariants.{OnNack}
 use Rattle.words.specs.declared.Direction.{Direction}
 use Rattle.words.specs.declared.NackName.{NackName}
@@ -9,6 +9,7 @@ use Rattle.words.specs.declared.Offer.{Offer}
 use Rattle.words.specs.declared.Row.{Row}
 use Rattle.words.specs.declared.Step.{Step}
 use Rattle.words.specs.declared.Step.TheVariants.{Bind, Claim, Draft, Grant as GrantRow, Join, Seal, Take, Yield}
+use Rattle.protocol.specs.Standing.{Result}
 use Rattle.protocol.specs.Tables.{bound_row, next_row, offers_meet}
 use Rattle.protocol.specs.Worlds.{nack_of_row}
 use Rattle.cell.specs.declared.view.Seen.{Seen}
@@ -100,6 +101,11 @@ IsNackOf s r n nack = (o : Offer) × SeesOffer s r n o × (o.base ≡ OnNack nac
 abbrev pub IsNearGrant : Seen → Row → ℕ → Row → Type 0
 IsNearGrant s r n q =
     (q ≡ r) ⊎ (IsBefore r q ⊎ ((nack : NackName) × (b : Binding) × IsNackOf s r n nack × Has s.bound (nack, b) × (q ≡ bound_row nack b)))
+
+-- the pass that took a row has seen the results of its thread up to this row, and no others
+abbrev pub ResultsTold : Row → Option Joined → List (ℕ × List Result) → List (ℕ × List Result) → Type 0
+ResultsTold r (Some j) before after = (results : List Result) × (length results ≡ r.sync + 1) × (after ≡ (r.thread, results) ∷ before)
+ResultsTold r None before after = after ≡ before
 
 -- The pass took the row, committed so: it holds the thread's next row from now on, if there is one, which has no offers
 -- and is not opened, and it has seen nothing else anew but of the row.

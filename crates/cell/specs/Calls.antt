@@ -4,6 +4,7 @@ use Rattle.atomic_table.specs.Seated.{TableId}
 use Rattle.words.specs.declared.NackName.{NackName}
 use Rattle.words.specs.declared.Row.{Row}
 use Rattle.words.specs.declared.Step.{Step}
+use Rattle.protocol.specs.Standing.{Result}
 use Rattle.cell.specs.declared.view.Seen.{Seen}
 use Rattle.cell.specs.Sight.{Coherent}
 
@@ -19,6 +20,8 @@ pub record PassView : Type 0 where
   pub of : Grid
   pub seen : Seen
   pub made : List Step
+  -- of a thread, the results of its first rows, once the pass has taken one of them or was told so
+  pub results : List (ℕ × List Result)
 
 -- the pass is one of this table's, and what it has seen agrees with itself
 abbrev pub IsPassOf : Grid → PassView → Type 0

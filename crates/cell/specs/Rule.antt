@@ -9,9 +9,12 @@ use Rattle.words.specs.declared.Step.{Step}
 use Rattle.cell.specs.declared.view.View.{View}
 use Rattle.cell.specs.declared.view.Shape.{Shape}
 use Rattle.cell.specs.declared.view.Stage.TheVariants.{Resting}
+use Rattle.protocol.specs.Ledgers.{ledger_of}
+use Rattle.protocol.specs.Standing.{AreResults, Result}
 use Rattle.protocol.specs.Worlds.{World, start_world, Plays}
 use Rattle.cell.specs.declared.view.Seen.{Seen}
-use Rattle.cell.specs.Views.{Knows, first_row, at_stage}
+use Rattle.cell.specs.Sight.{Has}
+use Rattle.cell.specs.Views.{Knows, first_row, at_stage, with_results}
 use Rattle.protocol.specs.Tables.{Table, row_eq}
 
 -- One change of the table: which pass made it, at which seat, by which step of the protocol.
@@ -58,6 +61,8 @@ module _ {M : Type 0} where
     pub owner : Row → ℕ
     -- a pass that is of no table any more knows nothing
     pub knows : (id : ℕ) (v : View M) → get_elem? s.views id ≡ some v → 0 < v.threads → Knows world owner id v
+    -- the results that a pass has seen are results of the rows
+    pub results : (id : ℕ) (v : View M) (t : ℕ) (rs : List Result) → get_elem? s.views id ≡ some v → Has v.results (t, rs) → AreResults (ledger_of world.table) t rs
 
   -- the pass with this number is of the table, and knows this
   abbrev pub IsAt : {S : Type 0} → State S (View M) → ℕ → View M → Type 0
@@ -75,7 +80,7 @@ seen_nothing rows = record { held = rows; drafts = no_offers rows; opened = []; 
 module _ {M : Type 0} where
   -- the first pass: it has dealt the seats below this one, and holds nothing itself
   abbrev pub dealer : Shape → ℕ → View M
-  dealer shape k = record { threads = shape.threads; rows = shape.rows; passes = shape.passes; first = []; dealt = k; seat = 0; stage = Resting; seen = seen_nothing []; made = [] }
+  dealer shape k = record { threads = shape.threads; rows = shape.rows; passes = shape.passes; first = []; results = []; dealt = k; seat = 0; stage = Resting; seen = seen_nothing []; made = [] }
 
 -- the first rows of the threads below this one that fall to seat k
 abbrev pub dealt_rows : ℕ → ℕ → ℕ → List Row
@@ -90,6 +95,7 @@ module _ {M : Type 0} where
     rows = v.rows;
     passes = v.passes;
     first = v.first;
+    results = v.results;
     dealt = v.passes;
     seat = v.dealt;
     stage = Resting;
@@ -98,7 +104,7 @@ module _ {M : Type 0} where
   }
 
   abbrev pub dealt_one : View M → View M
-  dealt_one v = record { threads = v.threads; rows = v.rows; passes = v.passes; first = v.first; dealt = v.dealt + 1; seat = v.seat; stage = v.stage; seen = v.seen; made = v.made }
+  dealt_one v = record { threads = v.threads; rows = v.rows; passes = v.passes; first = v.first; results = v.results; dealt = v.dealt + 1; seat = v.seat; stage = v.stage; seen = v.seen; made = v.made }
 
 -- WHAT ONE PASS TELLS ANOTHER
 
@@ -130,11 +136,11 @@ heard s told = record {
 
 module _ {M : Type 0} where
   abbrev pub told_pass : View M → View M
-  told_pass v = record { threads = v.threads; rows = v.rows; passes = v.passes; first = v.first; dealt = v.passes; seat = v.seat; stage = Resting; seen = told_of v.seen; made = [] }
+  told_pass v = record { threads = v.threads; rows = v.rows; passes = v.passes; first = v.first; results = v.results; dealt = v.passes; seat = v.seat; stage = Resting; seen = told_of v.seen; made = [] }
 
   abbrev pub heard_pass : View M → View M → View M
-  heard_pass v told = at_stage v.stage (heard v.seen told.seen) v
+  heard_pass v told = with_results (v.results ++ told.results) (at_stage v.stage (heard v.seen told.seen) v)
 
   -- the pass that has told all that it had seen: it is of no table any more
   abbrev pub spent_pass : View M
-  spent_pass = record { threads = 0; rows = 0; passes = 0; first = []; dealt = 0; seat = 0; stage = Resting; seen = seen_nothing []; made = [] }
+  spent_pass = record { threads = 0; rows = 0; passes = 0; first = []; results = []; dealt = 0; seat = 0; stage = Resting; seen = seen_nothing []; made = [] }

@@ -1,5 +1,5 @@
 -- What a step tells the pass that makes it: its view after, by the word that it found.
-use Rattle.std.specs.Prelude.{◌≡◌, ◌≢◌, ℕ, ◌<◌, ◌≤◌, true, is_some, unwrap_or, Option, Some, None}
+use Rattle.std.specs.Prelude.{◌≡◌, ◌≢◌, ℕ, ◌+◌, List, length, ◌<◌, ◌≤◌, true, is_some, unwrap_or, Option, Some, None}
 use Rattle.atomic_table.specs.Table.{Step, Me}
 use Rattle.words.specs.declared.Step.TheVariants.{Open, Claim, Yield, Join, Seal, Grant, Take}
 use Rattle.words.specs.Words.{cell_word, cell_of, nack_word, nack_of, IsBindingInRange, IsJoinedInRange}
@@ -9,11 +9,12 @@ use Rattle.words.specs.declared.Row.{Row}
 use Rattle.words.specs.declared.Joined.{Joined}
 use Rattle.words.specs.declared.Cell.{Cell}
 use Rattle.words.specs.declared.Cell.TheVariants.{Fresh, Waiting, Claimed, Synched, Taken}
+use Rattle.protocol.specs.Standing.{Result}
 use Rattle.protocol.specs.Tables.{bound_row, nack_place, place_of, next_row}
 use Rattle.cell.specs.declared.view.View.{View}
 use Rattle.cell.specs.declared.view.Stage.TheVariants.{Resting, Claims, Joins}
 use Rattle.cell.specs.Sight.{Has, IsExpected, Coherent}
-use Rattle.cell.specs.Views.{IsClaimer, bind_of, bound_nack, did, saw, saw_nack, took, read_word, turned, word_drafted}
+use Rattle.cell.specs.Views.{IsClaimer, bind_of, bound_nack, did, saw, saw_nack, took_with, read_word, turned, word_drafted}
 
 -- the table has the row
 abbrev pub Inside : ℕ → ℕ → Row → Type 0
@@ -104,7 +105,7 @@ module _ {M : Type 0} where
   -- where the cell was Synched it is Taken, and nobody has opened the row behind it; else the pass has seen what it is
   abbrev pub taken : {S : Type 0} → Step S → Me S (View M) → ℕ → Me S (View M) → Type 0
   taken st m n w = (r : Row) (j : Joined) → At st m r 0 → IsJoinedInRange j → st.second ≡ cell_word (Taken j)
-      → (n ≡ cell_word (Synched j) → (w ≡ (did (Take r) (took r j m.0), m.1)) × Agrees m.0 r (Synched j) × (¬ Has m.0.seen.opened (next_row r)))
+      → (n ≡ cell_word (Synched j) → (results : List Result) × (length results ≡ r.sync + 1) × (w ≡ (did (Take r) (took_with r j results m.0), m.1)) × Agrees m.0 r (Synched j) × (¬ Has m.0.seen.opened (next_row r)))
       × (n ≢ cell_word (Synched j) → finds m r n w) × AgreesWithItself w.0
 
   -- what a pass knows of a nack before it looks: where it saw it bound

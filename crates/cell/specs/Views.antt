@@ -13,6 +13,7 @@ use Rattle.cell.specs.declared.view.View.{View}
 use Rattle.cell.specs.declared.view.Stage.{Stage}
 use Rattle.cell.specs.declared.view.Stage.TheVariants.{Resting, Claims, Joins}
 use Rattle.protocol.specs.Tables.{is_fresh, is_taken, names, word_at, cell_at, joined_at, binding_at, bound_row}
+use Rattle.protocol.specs.Standing.{Result}
 use Rattle.protocol.specs.Worlds.{World, holder_at}
 use Rattle.cell.specs.Sight.{Has, IsCounted, see_opened, see_cell, see_word, see_draft, see_next, see_bound}
 
@@ -61,15 +62,19 @@ module _ {M : Type 0} where
 
   -- the call stands here now, and has seen this
   abbrev pub at_stage : Stage → Seen → View M → View M
-  at_stage stage seen v = record { threads = v.threads; rows = v.rows; passes = v.passes; first = v.first; dealt = v.dealt; seat = v.seat; stage = stage; seen = seen; made = v.made }
+  at_stage stage seen v = record { threads = v.threads; rows = v.rows; passes = v.passes; first = v.first; results = v.results; dealt = v.dealt; seat = v.seat; stage = stage; seen = seen; made = v.made }
 
   -- and has made these steps
   abbrev pub worked : Stage → Seen → List Step → View M → View M
-  worked stage seen made v = record { threads = v.threads; rows = v.rows; passes = v.passes; first = v.first; dealt = v.dealt; seat = v.seat; stage = stage; seen = seen; made = made }
+  worked stage seen made v = record { threads = v.threads; rows = v.rows; passes = v.passes; first = v.first; results = v.results; dealt = v.dealt; seat = v.seat; stage = stage; seen = seen; made = made }
+
+  -- and has seen these results
+  abbrev pub with_results : List (ℕ × List Result) → View M → View M
+  with_results results v = record { threads = v.threads; rows = v.rows; passes = v.passes; first = v.first; results = results; dealt = v.dealt; seat = v.seat; stage = v.stage; seen = v.seen; made = v.made }
 
   -- the pass has made this step of the protocol
   abbrev pub did : Step → View M → View M
-  did step v = record { threads = v.threads; rows = v.rows; passes = v.passes; first = v.first; dealt = v.dealt; seat = v.seat; stage = v.stage; seen = v.seen; made = step ∷ v.made }
+  did step v = record { threads = v.threads; rows = v.rows; passes = v.passes; first = v.first; results = v.results; dealt = v.dealt; seat = v.seat; stage = v.stage; seen = v.seen; made = step ∷ v.made }
 
   -- the call stands here now, and the row is open
   abbrev pub turned : Stage → Row → View M → View M
@@ -81,6 +86,10 @@ module _ {M : Type 0} where
   -- the row, committed so, was taken by the pass
   abbrev pub took : Row → Joined → View M → View M
   took r j v = at_stage v.stage (see_next v.rows r (see_cell r (Taken j) v.seen)) v
+
+  -- and has seen the results of its thread up to this row
+  abbrev pub took_with : Row → Joined → List Result → View M → View M
+  took_with r j results v = with_results ((r.thread, results) ∷ v.results) (took r j v)
 
   abbrev pub read_word : Row → ℕ → ℕ → View M → View M
   read_word r p x v = at_stage v.stage (see_word r p x v.seen) v

@@ -1,6 +1,6 @@
 //! The shared table and its passes, as callers use them.
 
-ghost use Rattle.std.specs.Prelude.{◌≡◌, ◌≢◌, ◌⊎◌, ◌+◌, ◌<◌, ◌≤◌, ◌∷◌, [], ℕ, List, None, Some, true, IfOk, IfSome, IfNone, SomeIff, IsTrue, ◌↔◌, length, slice_get};
+ghost use Rattle.std.specs.Prelude.{◌≡◌, ◌≢◌, ◌⊎◌, ◌+◌, ◌<◌, ◌≤◌, ◌∷◌, ◌++◌, [], ℕ, List, None, Some, true, IfOk, IfSome, IfNone, SomeIff, IsTrue, ◌↔◌, length, slice_get};
 ghost use Rattle.words.specs.declared.Direction.{Direction};
 ghost use Rattle.words.specs.declared.Joined.{Joined};
 ghost use Rattle.words.specs.declared.Message.{Message};
@@ -11,6 +11,7 @@ ghost use Rattle.words.specs.declared.Step.TheVariants.{Open};
 ghost use Rattle.words.specs.declared.NackName.{NackName};
 ghost use Rattle.words.specs.declared.Binding.{Binding};
 ghost use Rattle.protocol.specs.Ledgers.{IsLawful, binding_in, joined_in, offer_in};
+ghost use Rattle.protocol.specs.Standing.{AreResults, Result};
 ghost use Rattle.protocol.specs.Worlds.{nack_of_row};
 ghost use Rattle.cell.specs.Attempts.{
   Attempted,
@@ -22,6 +23,7 @@ ghost use Rattle.cell.specs.Attempts.{
   IsNearGrant,
   OffersFit,
   OnlyDrafts,
+  ResultsTold,
   Took,
   attempt_made,
   bind_made,
@@ -99,7 +101,7 @@ impl<M> Model for Pass<M> {
 
     ghost Value = { PassView };
 
-    ghost view = { λ p. record { of = record { id = p.seat.table_id; threads = p.seat.me.0.threads; rows = p.seat.me.0.rows; passes = p.seat.me.0.passes }; seen = p.seat.me.0.seen; made = p.seat.me.0.made } };
+    ghost view = { λ p. record { of = record { id = p.seat.table_id; threads = p.seat.me.0.threads; rows = p.seat.me.0.rows; passes = p.seat.me.0.passes }; seen = p.seat.me.0.seen; made = p.seat.me.0.made; results = p.seat.me.0.results } };
 
     ghost invariant = { λ p. (p.seat.me.0.stage ≡ Resting) × (p.seat.me.0.threads ≡ p.rows.threads) × (p.seat.me.0.rows ≡ p.rows.rows) × AreFlags p.rows.threads p.rows.rows p.rows.flags.items p.seat.me.0.seen.held };
 }
@@ -126,7 +128,7 @@ impl Cells<Bare> {
         requires rows { (1 ≤ rows) × (rows ≤ 1024) }
         requires passes { (1 ≤ passes) × (passes ≤ 16) }
         ensures size { IfOk result (λ t. (t.0.threads ≡ threads) × (t.0.rows ≡ rows) × (t.0.passes ≡ passes) × (length t.1.items ≡ passes)) }
-        ensures passes { IfOk result (λ t. (number : ℕ) (pass : PassView) → slice_get t.1.items number ≡ Some pass → IsPassOf t.0 pass × (pass.seen ≡ seen_nothing (dealt_rows threads passes number)) × (pass.made ≡ [])) }
+        ensures passes { IfOk result (λ t. (number : ℕ) (pass : PassView) → slice_get t.1.items number ≡ Some pass → IsPassOf t.0 pass × (pass.seen ≡ seen_nothing (dealt_rows threads passes number)) × (pass.made ≡ []) × (pass.results ≡ [])) }
     {
         let shape = Shape {
             threads: u64::from(threads),
@@ -162,6 +164,7 @@ impl<M> Cells<M> {
         ensures here { IsPassOf self.now pass.new }
         ensures opened { pass.new.seen ≡ see_opened row pass.old.seen }
         ensures made { pass.new.made ≡ Open row ∷ pass.old.made }
+        ensures results { pass.new.results ≡ pass.old.results }
     {
         self.board.open(&mut pass.seat, row);
     }
@@ -174,6 +177,7 @@ impl<M> Cells<M> {
         ensures expected { IsExpected pass.old.seen row result }
         ensures unclaimed { Has pass.old.seen.held row → result ≢ Claimed }
         ensures made { pass.new.made ≡ pass.old.made }
+        ensures results { pass.new.results ≡ pass.old.results }
     {
         self.board.look(&mut pass.seat, row)
     }
@@ -187,6 +191,7 @@ impl<M> Cells<M> {
         ensures none { IfNone result (IsKnownOpen pass.old.seen row → LackOffer pass.new.seen.words row n) }
         ensures same { (o : Offer) → SeesOffer pass.new.seen row n o → result ≡ Some o }
         ensures made { pass.new.made ≡ pass.old.made }
+        ensures results { pass.new.results ≡ pass.old.results }
         ensures unopened { Has pass.old.seen.held row → ¬ Has pass.old.seen.opened row → (result ≡ None) × (pass.new.seen ≡ pass.old.seen) }
     {
         self.board.offer(&mut pass.seat, row, n)
@@ -203,6 +208,7 @@ impl<M> Cells<M> {
         ensures none { IfNone result (LackOffer pass.new.seen.words row n) }
         ensures same { (d : Direction) → SeesDirection pass.new.seen row n d → result ≡ Some d }
         ensures made { pass.new.made ≡ pass.old.made }
+        ensures results { pass.new.results ≡ pass.old.results }
     {
         self.board.opened_direction(&mut pass.seat, row, n)
     }
@@ -216,6 +222,7 @@ impl<M> Cells<M> {
         ensures none { IfNone result (¬ SawCommitted pass.old.seen row) }
         ensures same { (got : Message) → IsResult pass.old.seen row got → result ≡ Some got }
         ensures made { pass.new.made ≡ pass.old.made }
+        ensures results { pass.new.results ≡ pass.old.results }
         ensures unopened { Has pass.old.seen.held row → ¬ Has pass.old.seen.opened row → (result ≡ None) × (pass.new.seen ≡ pass.old.seen) }
     {
         self.board.result(&mut pass.seat, row)
@@ -240,6 +247,7 @@ impl<M> Cells<M> {
         ensures offers { OffersFit pass.new.seen mine own other partner result }
         ensures attempted { Attempted pass.old.seen pass.new.seen mine own other partner result }
         ensures made { pass.new.made ≡ attempt_made mine own other partner result pass.old.made }
+        ensures results { pass.new.results ≡ pass.old.results }
     {
         self.board
             .attempt(&mut pass.seat, gate, (mine, own), (other, partner))
@@ -255,6 +263,7 @@ impl<M> Cells<M> {
         ensures learns { LearnsOf (λ q. ⊥) (λ n. n ≡ nack_of_row row k) pass.old.seen pass.new.seen }
         ensures bound { Bound pass.old.seen pass.new.seen k row scope result }
         ensures made { pass.new.made ≡ bind_made k row scope result pass.old.made }
+        ensures results { pass.new.results ≡ pass.old.results }
     {
         self.board.bind(&mut pass.seat, k, row, scope)
     }
@@ -269,6 +278,7 @@ impl<M> Cells<M> {
         ensures there { IfSome result (λ p. IsNackOf self.now nack) }
         ensures same { (r : Row) (scope : ℕ) → IsSeenBound pass.old.seen nack r scope → result ≡ Some (r, scope) }
         ensures made { pass.new.made ≡ pass.old.made }
+        ensures results { pass.new.results ≡ pass.old.results }
     {
         let bound = self.board.bound(&mut pass.seat, nack)?;
         let row = Row {
@@ -286,6 +296,7 @@ impl<M> Cells<M> {
         ensures learns { LearnsOf (IsNearGrant pass.new.seen row n) (IsNackOfOffer pass.new.seen row n) pass.old.seen pass.new.seen }
         ensures granted { Granted pass.old.seen pass.new.seen row n result }
         ensures made { pass.new.made ≡ grant_made row n result pass.old.made }
+        ensures results { pass.new.results ≡ pass.old.results }
     {
         self.board.grant(&mut pass.seat, row, n)
     }
@@ -298,6 +309,7 @@ impl<M> Cells<M> {
         ensures some { IfSome result (Took self.now.rows pass.old.seen pass.new.seen row) }
         ensures none { IfNone result (Learns (λ q. q ≡ row) pass.old.seen pass.new.seen × (SawCommitted pass.old.seen row → Has pass.new.seen.taken row)) }
         ensures made { pass.new.made ≡ take_made row result pass.old.made }
+        ensures results { ResultsTold row result pass.old.results pass.new.results }
     {
         let Pass { seat, rows } = pass;
         let joined = self.board.take(seat, row)?;
@@ -321,6 +333,7 @@ impl<M> Cells<M> {
         ensures others { Redrafts (λ q p. q ≡ row) pass.old.seen pass.new.seen }
         ensures drafted { IsDraft pass.new.seen row offers.now }
         ensures made { OnlyDrafts row pass.old.made pass.new.made }
+        ensures results { pass.new.results ≡ pass.old.results }
     {
         self.board.draft_offers(&mut pass.seat, row, offers);
     }
@@ -332,6 +345,7 @@ impl<M> Cells<M> {
         ensures kept { from.new.seen ≡ from.old.seen }
         ensures made { (from.new.made ≡ from.old.made) × (to.new.made ≡ to.old.made) }
         ensures told { to.new.seen ≡ heard to.old.seen (told_of from.old.seen) }
+        ensures results { (from.new.results ≡ from.old.results) × (to.new.results ≡ to.old.results ++ from.old.results) }
         ensures offers { (r : Row) (n : ℕ) (o : Offer) → SeesOffer from.old.seen r n o → SeesOffer to.new.seen r n o }
         ensures lacks { (r : Row) (n : ℕ) → SeesNoOffer from.old.seen r n → SeesNoOffer to.new.seen r n }
         ensures bound { (n : NackName) (b : Binding) → Has from.old.seen.bound (n, b) → Has to.new.seen.bound (n, b) }
@@ -348,6 +362,7 @@ impl<M> Cells<M> {
         ensures offers { (r : Row) (n : ℕ) (o : Offer) → SeesOffer pass.seen r n o → offer_in result r n ≡ Some o }
         ensures lacks { (r : Row) (n : ℕ) → SeesNoOffer pass.seen r n → offer_in result r n ≡ None }
         ensures bound { (n : NackName) (b : Binding) → Has pass.seen.bound (n, b) → binding_in result n ≡ Some b }
+        ensures results { (t : ℕ) (results : List Result) → Has pass.results (t, results) → AreResults result t results }
         ensures own { (r : Row) (j : Joined) (offers : List Offer) → IsDraft pass.seen r offers → joined_in result r ≡ Some j → (j.own < length offers) × (offer_in result r j.own ≡ slice_get offers j.own) }
     {
         let Cells { board, room } = self;

@@ -8,6 +8,7 @@ ghost use Rattle.words.specs.declared.Row.{Row};
 ghost use Rattle.words.specs.declared.NackName.{NackName};
 ghost use Rattle.words.specs.declared.Binding.{Binding};
 ghost use Rattle.protocol.specs.Ledgers.{IsLawful, binding_in, joined_in, offer_in};
+ghost use Rattle.protocol.specs.Standing.{AreResults, Result};
 ghost use Rattle.cell.specs.Seats.{Sits};
 ghost use Rattle.cell.specs.Sight.{Has, IsDraft, SeesNoOffer, SeesOffer};
 
@@ -28,6 +29,7 @@ impl<M> Board<M> {
         ensures offers { (r : Row) (n : ℕ) (o : Offer) → SeesOffer seat.me.0.seen r n o → offer_in result r n ≡ Some o }
         ensures lacks { (r : Row) (n : ℕ) → SeesNoOffer seat.me.0.seen r n → offer_in result r n ≡ None }
         ensures bound { (n : NackName) (b : Binding) → Has seat.me.0.seen.bound (n, b) → binding_in result n ≡ Some b }
+        ensures results { (t : ℕ) (results : List Result) → Has seat.me.0.results (t, results) → AreResults result t results }
         ensures own { (r : Row) (j : Joined) (offers : List Offer) → IsDraft seat.me.0.seen r offers → joined_in result r ≡ Some j → (j.own < length offers) × (offer_in result r j.own ≡ slice_get offers j.own) }
     {
         let Board { words, shape } = self;

@@ -15,6 +15,7 @@ ghost use Rattle.words.specs.declared.Cell.TheVariants.{Fresh};
 ghost use Rattle.words.specs.declared.Step.TheVariants.{Take};
 ghost use Rattle.protocol.specs.Tables.{binding_at, cell_at, joined_at, names};
 ghost use Rattle.protocol.specs.Ledgers.{ledger_of, IsLawful};
+ghost use Rattle.protocol.specs.Standing.{AreResults, Result};
 ghost use Rattle.protocol.specs.Worlds.{Plays, start_world, World};
 ghost use Rattle.cell.specs.declared.view.Shape.{Shape};
 ghost use Rattle.cell.specs.declared.view.View.{View};
@@ -53,6 +54,7 @@ pub use protocol::{Bare, NACKS};
 /// - the words are what the passes' own steps, interleaved, have made of the table's start by the
 ///   rules of the protocol, and nobody has made any other step;
 /// - what each pass has seen is true of that one world;
+/// - the results of threads that a pass has seen are those that the commits of their rows give;
 /// - no row is held by two passes, and none was taken by two;
 /// - a pending row is named by one row;
 /// - where no pass has made a step, every row is Fresh and no nack is bound.
@@ -60,6 +62,7 @@ pub fn every_moment_is_lawful<M>()
     ensures lawful { (shape : Shape) (s : State (Option M) (View M)) → ⟦<Law as TableRule<Option<M>, View<M>, Shape>>⟧.holds shape s → IsLawful (ledger_of (table_of shape s)) }
     ensures played { (shape : Shape) (s : State (Option M) (View M)) → ⟦<Law as TableRule<Option<M>, View<M>, Shape>>⟧.holds shape s → (moves : List Move) × (world : World) × Plays (start_world shape.threads shape.rows shape.passes) (in_order moves) world × (world.table ≡ table_of shape s) × Interleaves moves s.views }
     ensures known { (shape : Shape) (s : State (Option M) (View M)) → ⟦<Law as TableRule<Option<M>, View<M>, Shape>>⟧.holds shape s → (world : World) × (owner : Row → ℕ) × (world.table ≡ table_of shape s) × ((id : ℕ) (v : View M) → IsAt s id v → Knows world owner id v) }
+    ensures results { (shape : Shape) (s : State (Option M) (View M)) → ⟦<Law as TableRule<Option<M>, View<M>, Shape>>⟧.holds shape s → (id : ℕ) (v : View M) (t : ℕ) (results : List Result) → IsAt s id v → Has v.results (t, results) → AreResults (ledger_of (table_of shape s)) t results }
     ensures one_holder { (shape : Shape) (s : State (Option M) (View M)) (i j : ℕ) (u v : View M) (r : Row) → ⟦<Law as TableRule<Option<M>, View<M>, Shape>>⟧.holds shape s → IsAt s i u → IsAt s j v → Has u.seen.held r → Has v.seen.held r → i ≡ j }
     ensures one_taker { (shape : Shape) (s : State (Option M) (View M)) (i j : ℕ) (u v : View M) (r : Row) → ⟦<Law as TableRule<Option<M>, View<M>, Shape>>⟧.holds shape s → IsAt s i u → IsAt s j v → Has u.made (Take r) → Has v.made (Take r) → i ≡ j }
     ensures named_once { (shape : Shape) (s : State (Option M) (View M)) (q r p : Row) → ⟦<Law as TableRule<Option<M>, View<M>, Shape>>⟧.holds shape s → names (joined_at (table_of shape s) q) p ≡ true → names (joined_at (table_of shape s) r) p ≡ true → q ≡ r }

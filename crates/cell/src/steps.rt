@@ -1,6 +1,7 @@
 //! One function for each atomic step.
 
-ghost use Rattle.std.specs.Prelude.{◌≡◌, ◌≢◌, ◌*◌, ◌+◌, ◌<◌, ◌≤◌, [], true, IfOk, IfErr, Some};
+ghost use Rattle.std.specs.Prelude.{◌≡◌, ◌≢◌, ◌*◌, ◌+◌, ◌<◌, ◌≤◌, List, [], length, true, IfOk, IfErr, Some};
+ghost use Rattle.protocol.specs.Standing.{Result};
 ghost use Rattle.words.specs.Words.{is_word_for, IsBindingInRange, IsJoinedInRange};
 ghost use Rattle.words.specs.declared.Binding.{Binding};
 ghost use Rattle.words.specs.declared.Cell.TheVariants.{Waiting, Synched};
@@ -19,7 +20,7 @@ ghost use Rattle.cell.specs.Told.{Agrees, AgreesNack, cell_read, joining, nack_r
 ghost use Rattle.cell.specs.Seats.{Sits, HasNack, HasRow, StaysSeated};
 ghost use Rattle.cell.specs.Nacks.{CanGrant};
 ghost use Rattle.cell.specs.Sight.{Has, CanJoin};
-ghost use Rattle.cell.specs.Views.{bind_of, bound_nack, did, saw, saw_nack, took, read_word, turned, word_drafted};
+ghost use Rattle.cell.specs.Views.{bind_of, bound_nack, did, saw, saw_nack, took_with, read_word, turned, word_drafted};
 
 use crate::board::{
     Bind, Board, Claim, Draft, Give, GiveUp, Join, Look, LookNack, Open, Read, Seal, Take,
@@ -239,7 +240,7 @@ impl<M> Board<M> {
         requires sits { Sits self.now seat.old × HasRow self.now row }
         requires range { IsJoinedInRange joined }
         ensures sits { StaysSeated self.now seat.old seat.new }
-        ensures took { IfOk result (λ _. (seat.new.me.0 ≡ did (TakeStep row) (took row joined seat.old.me.0)) × Agrees seat.old.me.0 row (Synched joined) × (¬ Has seat.old.me.0.seen.opened (next_row row))) }
+        ensures took { IfOk result (λ _. (results : List Result) × (length results ≡ row.sync + 1) × (seat.new.me.0 ≡ did (TakeStep row) (took_with row joined results seat.old.me.0)) × Agrees seat.old.me.0 row (Synched joined) × (¬ Has seat.old.me.0.seen.opened (next_row row))) }
         ensures found { IfErr result (λ cell. (cell ≢ Synched joined) × (seat.new.me.0 ≡ saw row cell seat.old.me.0) × Agrees seat.old.me.0 row cell) }
     {
         let committed = pack_cell(Cell::Synched(joined));

@@ -1,10 +1,10 @@
 //! A committed row is taken, and its thread goes on.
 
 ghost use Rattle.std.specs.Prelude.{◌≡◌, IfSome, IfNone};
-ghost use Rattle.cell.specs.Attempts.{Took, take_made};
+ghost use Rattle.cell.specs.Attempts.{ResultsTold, Took, take_made};
 ghost use Rattle.cell.specs.Seats.{Sits, HasRow, StaysSeated};
 ghost use Rattle.cell.specs.Sight.{Has, Learns, SawCommitted};
-ghost use Rattle.cell.specs.Views.{worked};
+ghost use Rattle.cell.specs.Views.{with_results, worked};
 
 use crate::board::Board;
 use crate::view::View;
@@ -16,7 +16,8 @@ impl<M> Board<M> {
     pub(crate) fn take(&self, seat: &mut Seat<Option<M>, View<M>>, row: Row) -> Option<Joined>
         requires { Sits self.now seat.old × HasRow self.now row }
         ensures sits { StaysSeated self.now seat.old seat.new }
-        ensures stays { seat.new.me.0 ≡ worked seat.old.me.0.stage seat.new.me.0.seen (take_made row result seat.old.me.0.made) seat.old.me.0 }
+        ensures stays { seat.new.me.0 ≡ with_results seat.new.me.0.results (worked seat.old.me.0.stage seat.new.me.0.seen (take_made row result seat.old.me.0.made) seat.old.me.0) }
+        ensures results { ResultsTold row result seat.old.me.0.results seat.new.me.0.results }
         ensures some { IfSome result (Took self.now.shape.rows seat.old.me.0.seen seat.new.me.0.seen row) }
         ensures none { IfNone result (Learns (λ q. q ≡ row) seat.old.me.0.seen seat.new.me.0.seen × (SawCommitted seat.old.me.0.seen row → Has seat.new.me.0.seen.taken row)) }
     {

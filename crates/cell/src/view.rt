@@ -1,7 +1,7 @@
 //! A table's size, and what a pass has seen. No value of `Stage`, `Seen` or `View` is made: contracts
 //! alone read them.
 
-use protocol::{Binding, Joined, NackName, Row, Step};
+use protocol::{Binding, Joined, Message, NackName, Row, Step};
 use std::collections::LinkedList;
 
 /// How large a table is.
@@ -50,6 +50,8 @@ pub struct View<M> {
     pub passes: u64,
     /// The values that stood for the threads at first, thread by thread; none where none stand for them.
     pub first: LinkedList<M>,
+    /// The results of threads that the pass has seen: of each, those of its first rows.
+    pub results: LinkedList<(u8, LinkedList<(u8, Message)>)>,
     /// The seats below this one have their rows already; this pass deals the others.
     pub dealt: u64,
     /// The seat of the protocol that makes this pass's steps.

@@ -8,7 +8,10 @@ use Rattle.words.specs.declared.Commit.{Commit}
 use Rattle.words.specs.declared.Commit.TheVariants.{Pair, Alone}
 use Rattle.words.specs.declared.Message.TheVariants.{Empty}
 use Rattle.words.specs.declared.Row.{Row}
-use Rattle.protocol.specs.Ledgers.{Ledger, HasCommit, Involves, IsLawful, Takes}
+use Rattle.words.specs.declared.Joined.{Joined}
+use Rattle.protocol.specs.Ledgers.{Ledger, HasCommit, Involves, IsLawful, Takes, commit_named, joined_in, offer_in}
+use Rattle.protocol.proofs.CommitLemmas.{named_rows}
+use Rattle.protocol.proofs.Linking.{some_parts}
 use Rattle.protocol.specs.Standing.{AreResults, Gives, HaveResults, OneResults, Result}
 
 abbrev row : ℕ → ℕ → Row
@@ -106,3 +109,9 @@ have-results l c t g law in_c has = there l law t g c in_c has
 
 pub one-results : OneResults
 one-results l t first second law size a b = one-list l law t first second size a b
+
+-- a committed row has results
+pub joined-results : (l : Ledger) (r : Row) (j : Joined) → IsLawful l → joined_in l r ≡ Some j → (results : List Result) × (length results ≡ r.sync + 1) × AreResults l r.thread results
+joined-results l r j law is =
+    let c = some_parts (commit_named (offer_in l) r j) (law.named r j is) in
+    have-results l c.0 r.thread r.sync law (record { row = r; way = j; is_joined = is; is_named = c.1 }) (j.own, (named_rows (offer_in l) r j c.0 c.1).own)

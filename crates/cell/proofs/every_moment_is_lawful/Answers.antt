@@ -2,6 +2,7 @@ use Rattle.std.proofs.Common.{◌≡◌, List, [], true, sym, ap, ◌∙◌, sub
 use Rattle.protocol.specs.Tables.{Table, binding_at, cell_at, joined_at, names}
 use Rattle.protocol.specs.Worlds.{Plays, World, start_world}
 use Rattle.protocol.specs.Ledgers.{ledger_of, IsLawful}
+use Rattle.protocol.specs.Standing.{AreResults}
 use Rattle.protocol.proofs.LedgerLemmas.{kept_start, lawful_ledger}
 use Rattle.cell.specs.Rule.{Move, in_order}
 use Rattle.cell.proofs.Once.{first_binding, first_cell, nothing_yet, taken_once}
@@ -16,6 +17,9 @@ returns-clause-played g c shape s k = (k.moves, k.world, k.played, k.table, k.in
 
 pub returns-clause-known : goal.returns-clause-known
 returns-clause-known g c shape s k = (k.world, k.owner, k.table, λ id v at. k.knows id v at.0 at.1)
+
+pub returns-clause-results : goal.returns-clause-results
+returns-clause-results g c shape s k id v t rs at h = subst (λ (z : Table). AreResults (ledger_of z) t rs) k.table (k.results id v t rs at.0 h)
 
 pub returns-clause-one_holder : goal.returns-clause-one_holder
 returns-clause-one_holder g c shape s i j u v r k at also held too = sym ((k.knows i u at.0 at.1).mine r held).0 ∙ ((k.knows j v also.0 also.1).mine r too).0

@@ -1,6 +1,7 @@
 use Rattle.std.proofs.Common.{rules, ◌≡◌, ◌<◌, length, None, Some, slice_get, sym, subst, ap, arith}
 use Rattle.protocol.specs.Ledgers.{IsLawful, Ledger, ledger_of, binding_in, joined_in, offer_in}
-use Rattle.cell.proofs.Endings.{ended, final_bound, final_lawful, final_joined, final_lack, final_offer, final_own}
+use Rattle.protocol.specs.Standing.{AreResults}
+use Rattle.cell.proofs.Endings.{ended, final_bound, final_lawful, final_joined, final_lack, final_offer, final_own, final_results}
 use Rattle.cell.proofs.board.Board.close.Goals as goal
 
 pub of_words-requires-clause-lawful : goal.of_words-requires-clause-lawful
@@ -61,3 +62,11 @@ returns-clause-bound g c n b h =
     subst (λ (l : Ledger). binding_in l n ≡ Some b) (sym c.of_words.ensures)
     (final_bound c.args.self.shape c.args.seat.id c.args.seat.me.0 (omega arith) c.copy_words-words.result.items _
     (ended _ _ _ _ _ _ _ c.args.self.keyed c.copy_words-words.ensures c.close_with-closed.ensures.values.2) n b h)
+
+pub returns-clause-results : goal.returns-clause-results
+returns-clause-results g c t rs h =
+    let size : c.args.seat.me.0.threads ≡ c.args.self.shape.threads = (search rules) in
+    let some = c.args.self.small.0 in
+    subst (λ (l : Ledger). AreResults l t rs) (sym c.of_words.ensures)
+    (final_results c.args.self.shape c.args.seat.id c.args.seat.me.0 (omega arith) c.copy_words-words.result.items _
+    (ended _ _ _ _ _ _ _ c.args.self.keyed c.copy_words-words.ensures c.close_with-closed.ensures.values.2) t rs h)

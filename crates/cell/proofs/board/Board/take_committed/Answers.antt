@@ -1,10 +1,11 @@
-use Rattle.std.proofs.Common.{rules, subst, sym, ap, ◌∙◌, ◌≡◌, ◌≢◌, ℕ, eqb}
+use Rattle.std.proofs.Common.{rules, List, length, ◌+◌, subst, sym, ap, ◌∙◌, ◌≡◌, ◌≢◌, ℕ, eqb}
 use mathlib.Core.Option.{none}
 use prog.Atomic.{either}
 use Rattle.atomic_table.specs.Table.{Allows, step}
 use Rattle.words.specs.Words.{cell_word}
 use Rattle.words.specs.declared.Cell.{Cell}
-use Rattle.cell.specs.Views.{did, saw, took}
+use Rattle.protocol.specs.Standing.{Result}
+use Rattle.cell.specs.Views.{did, saw, took_with}
 use Rattle.words.specs.declared.Step.TheVariants.{Take}
 use Rattle.protocol.specs.Tables.{next_row}
 use Rattle.cell.specs.Sight.{Has}
@@ -30,7 +31,7 @@ returns-clause-sits g c =
     let told = c.compare_exchange-found.ensures.2 c.args.row c.args.joined
     (at_view c.args.self.now.shape c.args.seat.now.me.0 c.args.row (search rules) (search rules) (search rules), place_view c.args.self.now.shape c.args.seat.now.me.0 c.args.row 0 c.place.result (search rules) (search rules)) c.requires.range c.pack_cell-taken.ensures in
     exchange_either c.exchanged.result (c.compare_exchange-found.result ≡ c.pack_cell-committed.result) (λ cell. (c.compare_exchange-found.result ≢ c.pack_cell-committed.result) × (cell ≡ cell_read c.compare_exchange-found.result)) (StaysSeated c.args.self.now c.args.seat.now c.compare_exchange-found.new.seat)
-    (λ made. let is = told.0 (made ∙ c.pack_cell-committed.ensures) in ((search rules), sits_still c.args.self.now c.args.seat.now c.compare_exchange-found.new.seat (search rules) (search rules) (ap (λ z. z.0.threads) is.0) (ap (λ z. z.0.rows) is.0) told.2))
+    (λ made. let is = told.0 (made ∙ c.pack_cell-committed.ensures) in ((search rules), sits_still c.args.self.now c.args.seat.now c.compare_exchange-found.new.seat (search rules) (search rules) (ap (λ z. z.0.threads) is.2) (ap (λ z. z.0.rows) is.2) told.2))
     (λ cell refused.
     let found : finds c.args.seat.now.me c.args.row c.compare_exchange-found.result c.compare_exchange-found.new.seat.me = told.1 (λ e. refused.0 (e ∙ sym c.pack_cell-committed.ensures)) in
     ((search rules), sits_still c.args.self.now c.args.seat.now c.compare_exchange-found.new.seat (search rules) (search rules) (ap (λ z. z.0.threads) found.0) (ap (λ z. z.0.rows) found.0) told.2))
@@ -40,8 +41,8 @@ pub returns-clause-took : goal.returns-clause-took
 returns-clause-took g c =
     let told = c.compare_exchange-found.ensures.2 c.args.row c.args.joined
     (at_view c.args.self.now.shape c.args.seat.now.me.0 c.args.row (search rules) (search rules) (search rules), place_view c.args.self.now.shape c.args.seat.now.me.0 c.args.row 0 c.place.result (search rules) (search rules)) c.requires.range c.pack_cell-taken.ensures in
-    exchange_made c.exchanged.result (c.compare_exchange-found.result ≡ c.pack_cell-committed.result) (λ u. (c.compare_exchange-found.new.seat.me.0 ≡ did (Take c.args.row) (took c.args.row c.args.joined c.args.seat.now.me.0)) × Agrees c.args.seat.now.me.0 c.args.row (Synched c.args.joined) × (¬ Has c.args.seat.now.me.0.seen.opened (next_row c.args.row)))
-    (λ u made. let is = told.0 (made ∙ c.pack_cell-committed.ensures) in (ap (λ z. z.0) is.0, is.1, is.2))
+    exchange_made c.exchanged.result (c.compare_exchange-found.result ≡ c.pack_cell-committed.result) (λ u. (results : List Result) × (length results ≡ c.args.row.sync + 1) × (c.compare_exchange-found.new.seat.me.0 ≡ did (Take c.args.row) (took_with c.args.row c.args.joined results c.args.seat.now.me.0)) × Agrees c.args.seat.now.me.0 c.args.row (Synched c.args.joined) × (¬ Has c.args.seat.now.me.0.seen.opened (next_row c.args.row)))
+    (λ u made. let is = told.0 (made ∙ c.pack_cell-committed.ensures) in (is.0, is.1, ap (λ z. z.0) is.2, is.3, is.4))
     c.exchanged.ensures.made
 
 pub returns-clause-found : goal.returns-clause-found

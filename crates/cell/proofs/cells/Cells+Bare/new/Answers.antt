@@ -14,15 +14,15 @@ loop-number-preserved c =
     ∙ ap (λ (n : ℕ). dealt_pass (dealer c.in_ok-board.board.shape n)) (let e : c.from-in-loop-number.result ≡ c.loop-number.number = (search rules) in e)
     ∙ ap (λ (s : Shape). dealt_pass (dealer s c.loop-number.number)) (let e : c.in_ok-board.board.shape ≡ shape = (search rules) in e) in
     let id : c.deal-seat.result.table_id ≡ c.in_ok-board.board.words.shared.table_id = (search rules) in
-    let pass : PassView = record { of = record { id = c.deal-seat.result.table_id; threads = c.deal-seat.result.me.0.threads; rows = c.deal-seat.result.me.0.rows; passes = c.deal-seat.result.me.0.passes }; seen = c.deal-seat.result.me.0.seen; made = c.deal-seat.result.me.0.made } in
+    let pass : PassView = record { of = record { id = c.deal-seat.result.table_id; threads = c.deal-seat.result.me.0.threads; rows = c.deal-seat.result.me.0.rows; passes = c.deal-seat.result.me.0.passes }; seen = c.deal-seat.result.me.0.seen; made = c.deal-seat.result.me.0.made; results = c.deal-seat.result.me.0.results } in
     let pushed : c.push.new.self.items ≡ c.loop-number.dealt.items ++ pass ∷ [] = (search rules) in
     record {
       here = (search rules);
       dealer = (search rules);
       count = (search rules);
-      each = each_more (λ (k : ℕ) (p : PassView). p ≡ record { of = record { id = c.in_ok-board.board.words.shared.table_id; threads = c.args.threads; rows = c.args.rows; passes = c.args.passes }; seen = seen_nothing (dealt_rows c.args.threads c.args.passes k); made = [] })
+      each = each_more (λ (k : ℕ) (p : PassView). p ≡ record { of = record { id = c.in_ok-board.board.words.shared.table_id; threads = c.args.threads; rows = c.args.rows; passes = c.args.passes }; seen = seen_nothing (dealt_rows c.args.threads c.args.passes k); made = []; results = [] })
           c.loop-number.dealt.items c.push.new.self.items pass c.loop-number.number c.loop-number.invariant.count pushed
-          (λ i. record { of = record { id = id i; threads = (dealt i).threads; rows = (dealt i).rows; passes = (dealt i).passes }; seen = (dealt i).seen; made = (dealt i).made })
+          (λ i. record { of = record { id = id i; threads = (dealt i).threads; rows = (dealt i).rows; passes = (dealt i).passes }; seen = (dealt i).seen; made = (dealt i).made; results = (dealt i).results })
           c.loop-number.invariant.each;
     }
 
@@ -40,4 +40,5 @@ returns-clause-passes c number pass e =
       ),
       ap (λ (p : PassView). p.seen) is,
       ap (λ (p : PassView). p.made) is,
+      ap (λ (p : PassView). p.results) is,
     )

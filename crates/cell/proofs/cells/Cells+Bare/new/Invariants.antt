@@ -10,5 +10,5 @@ invariant-loop-number l =
       here : l.dealer.table_id ≡ l.board.words.shared.table_id;
       dealer : l.dealer.me.0 ≡ dealer (record { threads = l.threads; rows = l.fn.rows; passes = l.passes }) l.number;
       count : length l.dealt.items ≡ l.number;
-      each : (k : ℕ) (p : PassView) → slice_get l.dealt.items k ≡ Some p → p ≡ record { of = record { id = l.board.words.shared.table_id; threads = l.threads; rows = l.fn.rows; passes = l.passes }; seen = seen_nothing (dealt_rows l.threads l.passes k); made = [] };
+      each : (k : ℕ) (p : PassView) → slice_get l.dealt.items k ≡ Some p → p ≡ record { of = record { id = l.board.words.shared.table_id; threads = l.threads; rows = l.fn.rows; passes = l.passes }; seen = seen_nothing (dealt_rows l.threads l.passes k); made = []; results = [] };
     }

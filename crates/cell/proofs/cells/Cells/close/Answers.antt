@@ -1,6 +1,6 @@
 use Rattle.std.proofs.Common.{sym, subst}
 use Rattle.cell.specs.Calls.{PassView}
-use Rattle.cell.specs.Sight.{IsDraft, SeesNoOffer, SeesOffer}
+use Rattle.cell.specs.Sight.{Has, IsDraft, SeesNoOffer, SeesOffer}
 use Rattle.cell.proofs.cells.Cells.close.Goals as goal
 
 -- src/cells.rt:188:5
@@ -12,3 +12,6 @@ returns-clause-offers g c r n o sees = c.close.ensures.offers r n o (subst (λ (
 
 pub returns-clause-lacks : goal.returns-clause-lacks
 returns-clause-lacks g c r n sees = c.close.ensures.lacks r n (subst (λ (p : PassView). SeesNoOffer p.seen r n) (sym c.pass.view_is) sees)
+
+pub returns-clause-results : goal.returns-clause-results
+returns-clause-results g c t rs h = c.close.ensures.results t rs (subst (λ (p : PassView). Has p.results (t, rs)) (sym c.pass.view_is) h)

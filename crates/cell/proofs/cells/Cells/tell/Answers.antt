@@ -1,5 +1,7 @@
-use Rattle.std.proofs.Common.{rules, ◌≡◌, sym, subst}
+use Rattle.std.proofs.Common.{rules, ◌≡◌, ◌++◌, ap, ◌∙◌, sym, subst}
+use Rattle.cell.specs.Calls.{PassView}
 use Rattle.cell.specs.declared.view.Seen.{Seen}
+use Rattle.cell.specs.declared.view.View.{View}
 use Rattle.cell.specs.Sight.{Has, SeesNoOffer, SeesOffer}
 use Rattle.cell.specs.Rule.{heard, told_of}
 use Rattle.cell.proofs.Hearing.{told_bound, told_lack, told_offer}
@@ -19,3 +21,11 @@ pub returns-clause-bound : goal.returns-clause-bound
 returns-clause-bound g c n b h =
     let told : c.tell.new.to.me.0.seen ≡ heard c.args.to.now.seen (told_of c.args.from.now.seen) = (search rules) in
     subst (λ (s : Seen). Has s.bound (n, b)) (sym told) (told_bound c.args.from.now.seen c.args.to.now.seen n b h)
+
+pub returns-clause-results : goal.returns-clause-results
+returns-clause-results g c =
+    let from = ap (λ (p : PassView). p.results) c.from.view_is in
+    let to = ap (λ (p : PassView). p.results) c.to.view_is in (
+      ap (λ (v : View _). v.results) c.tell.ensures.from ∙ from,
+      ap (λ (v : View _). v.results) c.tell.ensures.to ∙ (λ i. to i ++ from i),
+    )
