@@ -40,5 +40,7 @@ returns-clause-passes c number pass e =
       ),
       ap (λ (p : PassView). p.seen) is,
       ap (λ (p : PassView). p.made) is,
-      ap (λ (p : PassView). p.results) is,
     )
+
+pub returns-clause-results : goal.returns-clause-results
+returns-clause-results c number pass e = ap (λ (p : PassView). p.results) (c.loop-number.invariant.each number pass e)
