@@ -4,7 +4,7 @@ use Rattle.std.proofs.lemmas.Bool.{true≢false}
 use Rattle.words.specs.Words.{IsCellInRange}
 use Rattle.words.specs.declared.Binding.{Binding}
 use Rattle.words.specs.declared.Cell.{Cell}
-use Rattle.words.specs.declared.Cell.TheVariants.{Waiting, Claimed, Synched, Taken}
+use Rattle.words.specs.declared.Cell.TheVariants.{Fresh, Waiting, Claimed, Synched, Taken}
 use Rattle.words.specs.declared.Commit.{Commit}
 use Rattle.words.specs.declared.Joined.{Joined}
 use Rattle.words.specs.declared.NackName.{NackName}
@@ -16,7 +16,7 @@ use Rattle.words.specs.declared.Step.TheVariants.{Draft, Open, Look, Read, Claim
 use Rattle.protocol.specs.Growing.{CommitsStay, GrowsTo, TablesGrow}
 use Rattle.protocol.specs.Kept.{Kept}
 use Rattle.protocol.specs.Ledgers.{HasCommit, commit_by, commit_named, pair_by, ledger_of}
-use Rattle.protocol.specs.Tables.{Table, all_rows, binding_at, bound_row, cause_at, cell_at, is_fresh, is_row, joined_at, joined_of, offer_at, row_eq, synched_of}
+use Rattle.protocol.specs.Tables.{Table, all_rows, binding_at, bound_row, cause_at, cell_at, is_fresh, is_row, is_taken, joined_at, joined_of, offer_at, row_eq, synched_of}
 use Rattle.protocol.specs.Worlds.{Allowed, Condition, Plays, World, after_step, granted_by, joined_with, mirrored, nack_of_row, namer_at, sealed_by, with_cell, with_nack, with_seal, with_take, with_word}
 use Rattle.protocol.proofs.Keeping.{bind_in_range, grant_in_range, held_row, join_in_range, kept_schedule, kept_step, nack_of_thread, seal_in_range, sealed_is, sealing, synched_is}
 use Rattle.protocol.proofs.LedgerLemmas.{kept_start}
@@ -255,3 +255,51 @@ opens-condition w seat (Bind n x scope) k a r h = inl (ap is_fresh (sym (cell_af
 -- a row that is opened after a step was opened before it, or the step opens it
 pub opens-step : (w : World) (seat : Seat) (step : Step) → Kept w → Allowed w seat step → (r : Row) → is_fresh (cell_at (after_step w seat step).table r) ≡ false → (is_fresh (cell_at w.table r) ≡ false) ⊎ (step ≡ Open r)
 opens-step w seat step k a r h = opens-condition w seat step k a.1 r h
+
+-- WHAT IS TAKEN STAYS TAKEN
+abbrev WasTaken : World → Row → Type 0
+WasTaken w r = is_taken (cell_at w.table r) ≡ true
+
+cell-taken : (w : World) (x : Row) (c : Cell) → Kept w → is_row w.table x ≡ true → IsCellInRange c → (WasTaken w x → is_taken c ≡ true) → (r : Row) → WasTaken w r → is_taken (cell_at (with_cell w.table x c) r) ≡ true
+cell-taken w x c k row range stays r h =
+    let cells : cell_at (with_cell w.table x c) r ≡ put (cell_at w.table) x c r = ap (λ (f : Row → Cell). f r) (cell_after_cell w.table x c k.sized row range) in
+    ⊎_elim
+    (λ (e : r ≡ x). ap is_taken (cells ∙ ap (put (cell_at w.table) x c) e ∙ put_same (cell_at w.table) x c) ∙ stays (subst (WasTaken w) e h))
+    (λ (e : row_eq r x ≡ false). ap is_taken (cells ∙ put_other (cell_at w.table) x c r e) ∙ h)
+    (row_cases r x)
+
+untaken-cell : (w : World) (x : Row) (c d : Cell) → cell_at w.table x ≡ c → is_taken c ≡ false → WasTaken w x → is_taken d ≡ true
+untaken-cell w x c d is none h = absurd (true≢false (sym h ∙ ap is_taken is ∙ none))
+
+seal-taken : (w : World) (x : Row) → Kept w → cell_at w.table x ≡ Claimed → is_some (namer_at w x) ≡ true → (r : Row) → WasTaken w r → is_taken (cell_at (with_seal w.table x (sealed_by w.table (namer_at w x))) r) ≡ true
+seal-taken w x k f h r =
+    let q = some_parts (namer_at w x) h in
+    let s = sealing w.table x q.0 (namer_names (all_rows w.table.threads w.table.rows) (joined_at w.table) x q.0 q.1) in
+    subst (λ (o : Option Joined). WasTaken w r → is_taken (cell_at (with_seal w.table x o) r) ≡ true) (sym (sealed_is w.table x q.0 (namer_at w x) s q.1))
+    (cell-taken w x (Synched (mirrored q.0 s.way s.offer)) k (row_of_open w.table x (ap is_fresh f)) (seal_in_range w x q.0 s k) (untaken-cell w x Claimed (Synched (mirrored q.0 s.way s.offer)) f refl) r)
+
+take-taken : (w : World) (x : Row) → Kept w → is_some (synched_of (cell_at w.table x)) ≡ true → (r : Row) → WasTaken w r → is_taken (cell_at (with_take w.table x (synched_of (cell_at w.table x))) r) ≡ true
+take-taken w x k h r =
+    let j = some_parts (synched_of (cell_at w.table x)) h in
+    let is = synched_is (cell_at w.table x) j.0 j.1 in
+    subst (λ (o : Option Joined). WasTaken w r → is_taken (cell_at (with_take w.table x o) r) ≡ true) (sym j.1)
+    (cell-taken w x (Taken j.0) k (row_of_open w.table x (ap is_fresh is)) (joined_ranged w.table x j.0 (ap joined_of is)) (λ e. refl) r)
+
+taken-condition : (w : World) (seat : Seat) (step : Step) → Kept w → Condition w seat step → (r : Row) → WasTaken w r → is_taken (cell_at (after_step w seat step).table r) ≡ true
+taken-condition w seat (Draft x p v) k (held, f, a, b, g) r h = ap is_taken (cell_after_word w.table x r p v (held_row w x seat.0 held) a (omega arith)) ∙ h
+taken-condition w seat (Open x) k a r h = cell-taken w x Waiting k (held_row w x seat.0 a.0) tt (untaken-cell w x Fresh Waiting a.1 refl) r h
+taken-condition w seat (Look x) k a r h = h
+taken-condition w seat (Read x p) k a r h = h
+taken-condition w seat (Claim x) k a r h = cell-taken w x Claimed k (held_row w x seat.0 a.0) tt (untaken-cell w x Waiting Claimed a.1 refl) r h
+taken-condition w seat (Yield x) k a r h = cell-taken w x Waiting k (held_row w x seat.0 a.0) tt (untaken-cell w x Claimed Waiting a.1 refl) r h
+taken-condition w seat (Join mine own other partner) k a r h =
+    cell-taken w other (Synched (joined_with w.table mine own other partner)) k (row_of_open w.table other (ap is_fresh a.3)) (join_in_range w mine own other partner k (held_row w mine seat.0 a.0) a.5) (untaken-cell w other Waiting (Synched (joined_with w.table mine own other partner)) a.3 refl) r h
+taken-condition w seat (Seal x) k a r h = seal-taken w x k a.1 a.2 r h
+taken-condition w seat (Grant x n) k a r h =
+    let s = some_parts (cause_at w.table x n) a.1 in
+    cell-taken w x (Synched (granted_by w.table x n)) k (row_of_open w.table x (ap is_fresh a.0)) (grant_in_range w x n s.0 k s.1) (untaken-cell w x Waiting (Synched (granted_by w.table x n)) a.0 refl) r h
+taken-condition w seat (Take x) k a r h = take-taken w x k a r h
+taken-condition w seat (Bind n x scope) k a r h = ap is_taken (cell_after_bind w.table (nack_of_row x n) (record { sync = x.sync; scope = scope }) r (nack_of_thread w.table x n (held_row w x seat.0 a.0) a.2)) ∙ h
+
+pub taken-step : (w : World) (seat : Seat) (step : Step) → Kept w → Allowed w seat step → (r : Row) → is_taken (cell_at w.table r) ≡ true → is_taken (cell_at (after_step w seat step).table r) ≡ true
+taken-step w seat step k a r h = taken-condition w seat step k a.1 r h

@@ -1,18 +1,22 @@
 -- The results of a thread, by the commits of a lawful ledger.
-use Rattle.std.proofs.Common.{◌≡◌, ◌≢◌, ◌⊎◌, ℕ, zero, suc, ◌+◌, List, [], ◌∷◌, ◌++◌, length, slice_get, Some, refl, sym, ap, ◌∙◌, subst, arith, inl, inr, ⊎_elim}
+use Rattle.std.proofs.Common.{◌≡◌, ◌≢◌, ◌⊎◌, ℕ, zero, suc, ◌+◌, List, [], ◌∷◌, ◌++◌, length, slice_get, Option, Some, None, refl, sym, ap, ◌∙◌, subst, arith, inl, inr, ⊎_elim}
 use Rattle.std.specs.Prelude.{⊤}
 use Rattle.std.proofs.lemmas.List.{length-append}
 use Rattle.std.proofs.lemmas.Option.{none-some, same_Some}
+use Rattle.words.specs.declared.Base.{Base}
+use Rattle.words.specs.declared.Base.TheVariants.{Send, Recv, Always, OnNack, Never}
 use Rattle.words.specs.declared.Cause.TheVariants as cause
 use Rattle.words.specs.declared.Commit.{Commit}
 use Rattle.words.specs.declared.Commit.TheVariants.{Pair, Alone}
+use Rattle.words.specs.declared.Message.{Message}
 use Rattle.words.specs.declared.Message.TheVariants.{Empty}
+use Rattle.words.specs.declared.Offer.{Offer}
 use Rattle.words.specs.declared.Row.{Row}
 use Rattle.words.specs.declared.Joined.{Joined}
-use Rattle.protocol.specs.Ledgers.{Ledger, HasCommit, Involves, IsLawful, Takes, commit_named, joined_in, offer_in}
+use Rattle.protocol.specs.Ledgers.{Ledger, HasCommit, Involves, IsLawful, Takes, alone_by, commit_by, commit_named, joined_in, offer_in, pair_by, received_by}
 use Rattle.protocol.proofs.CommitLemmas.{named_rows}
 use Rattle.protocol.proofs.Linking.{some_parts}
-use Rattle.protocol.specs.Standing.{AreResults, Gives, HaveResults, OneResults, Result}
+use Rattle.protocol.specs.Standing.{AreResults, Gives, HaveResults, OneResults, Receives, Result}
 
 abbrev row : ℕ → ℕ → Row
 row t g = record { thread = t; sync = g }
@@ -103,6 +107,81 @@ module _ (l : Ledger) (law : IsLawful l) where
         length-append before.0 (x.result ∷ []) ∙ ap (λ n. n + 1) (sym at),
         more-results t before.0 c x.result before.2 in_c (subst (λ (n : ℕ). Gives c (row t n) x.result) at x.gives),
       )
+
+-- WHAT A JOINED ROW GIVES ITS THREAD
+
+alone-gives : (offer : Row → ℕ → Option Offer) (r : Row) (j : Joined) (b : Base) (c : Commit) (got : Message) → alone_by r j b ≡ Some c → Receives offer None b got → Gives c r (j.own, got)
+alone-gives offer r j (Send d m) c got e h = absurd (none-some c e)
+alone-gives offer r j (Recv d) c got e h = absurd (none-some c e)
+alone-gives offer r j (Always m) c got e h = subst (λ (z : Commit). Gives z r (j.own, got)) (same_Some _ c e) (refl, λ i. (j.own, h i))
+alone-gives offer r j (OnNack n) c got e h = subst (λ (z : Commit). Gives z r (j.own, got)) (same_Some _ c e) (refl, λ i. (j.own, h i))
+alone-gives offer r j Never c got e h = absurd (none-some c e)
+
+pair-gives : (offer : Row → ℕ → Option Offer) (r : Row) (j : Joined) (p : Row × ℕ) (b : Base) (other : Option Offer) (c : Commit) (got : Message) → offer p.0 p.1 ≡ other → pair_by r j p b other ≡ Some c → Receives offer (Some p) b got → Gives c r (j.own, got)
+pair-gives offer r j p (Send d m) other c got is e h = subst (λ (z : Commit). Gives z r (j.own, got)) (same_Some _ c e) (inl (refl, λ i. (j.own, h i)))
+pair-gives offer r j p (Recv d) None c got is e h = absurd (none-some c e)
+pair-gives offer r j p (Recv d) (Some o) c got is e (q, d', o', partner, offered, sends) =
+    let same : p ≡ q = same_Some p q partner in
+    let one : o ≡ o' = same_Some o o' (sym is ∙ ap (λ (z : Row × ℕ). offer z.0 z.1) same ∙ offered) in
+    let named : received_by r j p (Send d' got) ≡ Some c = ap (received_by r j p) (sym (ap (λ (z : Offer). z.base) one ∙ sends)) ∙ e in
+    subst (λ (z : Commit). Gives z r (j.own, got)) (same_Some _ c named) (inr (refl, refl))
+pair-gives offer r j p (Always m) other c got is e h = absurd (none-some c e)
+pair-gives offer r j p (OnNack n) other c got is e h = absurd (none-some c e)
+pair-gives offer r j p Never other c got is e h = absurd (none-some c e)
+
+named-gives : (offer : Row → ℕ → Option Offer) (r : Row) (j : Joined) (partner : Option (Row × ℕ)) (own : Offer) (c : Commit) (got : Message) → commit_by offer r j partner (Some own) ≡ Some c → Receives offer partner own.base got → Gives c r (j.own, got)
+named-gives offer r j None own c got e h = alone-gives offer r j own.base c got e h
+named-gives offer r j (Some p) own c got e h = pair-gives offer r j p own.base (offer p.0 p.1) c got refl e h
+
+last-split : (xs : List Result) (n : ℕ) → length xs ≡ n + 1 → (ys : List Result) × (y : Result) × (xs ≡ ys ++ y ∷ []) × (length ys ≡ n)
+last-split [] n e = absurd (omega (arith, e))
+last-split (x ∷ []) n e = ([], x, refl, omega (arith, e))
+last-split (x ∷ y ∷ xs) zero e = absurd (omega (arith, e))
+last-split (x ∷ y ∷ xs) (suc n) e =
+    let rest = last-split (y ∷ xs) n (omega (arith, e)) in
+    (x ∷ rest.0, rest.1, (λ i. x ∷ rest.2 i), ap suc rest.3)
+
+get-at-end : (xs : List Result) (y : Result) → slice_get (xs ++ y ∷ []) (length xs) ≡ Some y
+get-at-end [] y = refl
+get-at-end (x ∷ xs) y = get-at-end xs y
+
+get-before : (xs : List Result) (y z : Result) (k : ℕ) → slice_get xs k ≡ Some z → slice_get (xs ++ y ∷ []) k ≡ Some z
+get-before [] y z k e = absurd (none-some z e)
+get-before (x ∷ xs) y z zero e = e
+get-before (x ∷ xs) y z (suc k) e = get-before xs y z k e
+
+-- of the results of a row's thread up to the row, the last is that of the row
+pub record Ends (l : Ledger) (r : Row) (j : Joined) (results : List Result) : Type 0 where
+  pub earlier : List Result
+  pub count : length earlier ≡ r.sync
+  pub are : AreResults l r.thread earlier
+  pub got : Message
+  pub whole : results ≡ earlier ++ (j.own, got) ∷ []
+  -- and its message is what the row gets
+  pub message : (own : Offer) (m : Message) → offer_in l r j.own ≡ Some own → Receives (offer_in l) j.partner own.base m → m ≡ got
+
+pub results-end : (l : Ledger) (r : Row) (j : Joined) (results : List Result) → IsLawful l → joined_in l r ≡ Some j → length results ≡ r.sync + 1 → AreResults l r.thread results → Ends l r j results
+unfolding commit_named
+results-end l r j results law is size are =
+    let split = last-split results r.sync size in
+    let c = some_parts (commit_named (offer_in l) r j) (law.named r j is) in
+    let in_c : HasCommit l c.0 = record { row = r; way = j; is_joined = is; is_named = c.1 } in
+    let x = gift c.0 r j.own (named_rows (offer_in l) r j c.0 c.1).own in
+    let there : slice_get results r.sync ≡ Some split.1 = ap (λ (zs : List Result). slice_get zs r.sync) split.2 ∙ ap (slice_get (split.0 ++ split.1 ∷ [])) (sym split.3) ∙ get-at-end split.0 split.1 in
+    let d = are r.sync split.1 there in
+    let one : (y : Result) → Gives c.0 r y → y ≡ split.1 = λ y h. one-result l law c.0 d.0 r y split.1 in_c d.1 h d.2 in
+    let own : split.1.0 ≡ j.own = ap (λ (y : Result). y.0) (sym (one x.result x.gives)) ∙ x.number in
+    let last : split.1 ≡ (j.own, split.1.1) = λ i. (own i, split.1.1) in
+    record {
+      earlier = split.0;
+      count = split.3;
+      are = λ g y e. are g y (ap (λ (zs : List Result). slice_get zs g) split.2 ∙ get-before split.0 split.1 y g e);
+      got = split.1.1;
+      whole = split.2 ∙ ap (λ (y : Result). split.0 ++ y ∷ []) last;
+      message = λ o m offered receives.
+          let named : commit_by (offer_in l) r j j.partner (Some o) ≡ Some c.0 = ap (commit_by (offer_in l) r j j.partner) (sym offered) ∙ c.1 in
+          ap (λ (y : Result). y.1) (one (j.own, m) (named-gives (offer_in l) r j j.partner o c.0 m named receives));
+    }
 
 pub have-results : HaveResults
 have-results l c t g law in_c has = there l law t g c in_c has

@@ -1,5 +1,7 @@
 -- What rows offer by the results of their threads: whoever stands for a thread offers something after these results.
-use Rattle.std.specs.Prelude.{◌≡◌, ◌⊎◌, ℕ, ◌+◌, ⊤, false, List, [], ◌∷◌, length, Some, slice_get}
+use Rattle.std.specs.Prelude.{◌≡◌, ◌⊎◌, ℕ, ◌+◌, ◌<◌, ⊤, false, Option, Some, None, List, [], ◌∷◌, ◌++◌, length, slice_get}
+use Rattle.words.specs.declared.Base.{Base}
+use Rattle.words.specs.declared.Base.TheVariants.{Send, Recv, Always, OnNack, Never}
 use Rattle.words.specs.declared.Binding.{Binding}
 use Rattle.words.specs.declared.Cause.TheVariants as cause
 use Rattle.words.specs.declared.Commit.{Commit}
@@ -33,6 +35,15 @@ abbrev pub AreResults : Ledger → ℕ → List Result → Type 0
 AreResults l t results =
     (g : ℕ) (result : Result) → slice_get results g ≡ Some result → (c : Commit) × HasCommit l c × Gives c (record { thread = t; sync = g }) result
 
+-- what a row that is committed with this partner gets, by the base event that it chose: the message that it received, or that
+-- of its own always, else none
+abbrev pub Receives : (Row → ℕ → Option Offer) → Option (Row × ℕ) → Base → Message → Type 0
+Receives offer partner (Send c m) got = got ≡ Empty
+Receives offer partner (Recv c) got = (p : Row × ℕ) × (d : ℕ) × (o : Offer) × (partner ≡ Some p) × (offer p.0 p.1 ≡ Some o) × (o.base ≡ Send d got)
+Receives offer partner (Always m) got = got ≡ m
+Receives offer partner (OnNack n) got = got ≡ Empty
+Receives offer partner Never got = got ≡ Empty
+
 -- OFFERS. `stands t results offers nacks` says: after these results thread t offers these, with these nacks of their scopes.
 
 -- where the nack of a scope of the row is bound
@@ -59,6 +70,27 @@ EachOffersAs stands l = (r : Row) (n : ℕ) (o : Offer) → offer_in l r n ≡ S
 -- each opened row of a table does so
 abbrev pub EachStands : (ℕ → List Result → List Offer → List ℕ → Type 0) → Table → Type 0
 EachStands stands t = (r : Row) → is_fresh (cell_at t r) ≡ false → OffersAs stands (ledger_of t) r
+
+-- VALUES THAT STAND FOR THREADS. Where the values `first` stood for them at first, thread by thread, this value stands for the
+-- thread after these results, and offers these, with these nacks of its scopes.
+abbrev pub Stands : Type 0 → Type 1
+Stands M = List M → M → ℕ → List Result → List Offer → List ℕ → Type 0
+
+module _ {M : Type 0} (stands : Stands M) where
+  -- some value stands so
+  abbrev pub SomeStands : List M → ℕ → List Result → List Offer → List ℕ → Type 0
+  SomeStands first t results offers nacks = (value : M) × stands first value t results offers nacks
+
+  -- what the value that comes out with a taken row, joined as j, is still to be given: it stands after the earlier results of
+  -- the row's thread, of which the last one is left, and offered what the row took
+  pub record IsLeft (first : List M) (value : M) (r : Row) (own : ℕ) (results : List Result) (got : Message) : Type 0 where
+    pub earlier : List Result
+    pub whole : results ≡ earlier ++ (own, got) ∷ []
+    pub count : length earlier ≡ r.sync
+    pub offers : List Offer
+    pub nacks : List ℕ
+    pub standing : stands first value r.thread earlier offers nacks
+    pub below : own < length offers
 
 -- SCHEDULES
 

@@ -18,7 +18,7 @@ mod world;
 
 pub use crate::board::{NACKS, ROW_LEN};
 pub use crate::ledger::Ledger;
-pub use crate::resident::Bare;
+pub use crate::resident::{Bare, Resident};
 pub use crate::world::{World, play};
 use thiserror::Error;
 pub use words::{
