@@ -1,7 +1,7 @@
 -- A look at a nack, and a bind, are admitted by the rule.
-use Rattle.std.proofs.Common.{◌+◌, ◌≤◌, false, ◌∷◌, inl, inr, ◌⊎◌, slice_index, slice_set, ◌≡◌, ◌≢◌, ℕ, ◌<◌, true, [], sym, refl, ap, ◌∙◌, subst, ⊎_elim, arith, unwrap_or, Option, Some, None, eqb}
+use Rattle.std.proofs.Common.{List, length, ◌+◌, ◌≤◌, false, ◌∷◌, inl, inr, ◌⊎◌, slice_index, slice_set, ◌≡◌, ◌≢◌, ℕ, ◌<◌, true, [], sym, refl, ap, ◌∙◌, subst, ⊎_elim, arith, unwrap_or, Option, Some, None, eqb}
 use Rattle.std.proofs.lemmas.List.{set-get_or}
-use Rattle.std.proofs.lemmas.Bool.{and_from, lt-ltb}
+use Rattle.std.proofs.lemmas.Bool.{and_from, false≢true, lt-ltb}
 use mathlib.Core.Option.{some, none}
 use lib.ListN.{get_elem?}
 use prog.Atomic.{either}
@@ -23,8 +23,14 @@ use Rattle.cell.specs.declared.view.View.{View}
 use Rattle.cell.specs.declared.view.Shape.{Shape}
 use Rattle.cell.specs.Sight.{Has}
 use Rattle.cell.specs.Views.{Knows, bind_of, bound_nack, did, saw_nack}
-use Rattle.cell.specs.Rule.{Keeps}
-use Rattle.cell.specs.Told.{AgreesNack, AgreesWithItself, AtNack, InsideNack, looked_nack, nack_read, tried_bind}
+use Rattle.cell.specs.Rule.{IsToBegin, Keeps}
+use Rattle.cell.proofs.Standing.{is_earlier}
+use Rattle.protocol.specs.Standing.{Stands}
+use Rattle.words.specs.declared.Step.TheVariants.{Open}
+use Rattle.words.specs.declared.Joined.{Joined}
+use Rattle.words.specs.declared.Cell.{Cell}
+use Rattle.words.specs.declared.Cell.TheVariants.{Fresh, Waiting, Claimed, Synched, Taken}
+use Rattle.cell.specs.Told.{AgreesNack, AgreesWithItself, AtNack, InsideNack, IsEarlier, looked_nack, nack_read, tried_bind}
 use Rattle.cell.proofs.Allowing.{sized}
 use Rattle.cell.proofs.Following.{Follows, knows_bound, knows_follows}
 use Rattle.cell.proofs.Others.{learn_nack}
@@ -79,9 +85,16 @@ follows_bind w m b nack free = record {
   bound = λ n c e. binding_kept w.table m b nack free n c e;
 }
 
-module _ {M : Type 0} where
+taken_opened : (c : Cell) → is_taken c ≡ true → is_fresh c ≡ false
+taken_opened Fresh e = absurd (false≢true e)
+taken_opened Waiting e = refl
+taken_opened Claimed e = refl
+taken_opened (Synched j) e = refl
+taken_opened (Taken j) e = refl
+
+module _ {M : Type 0} (stands : Stands M) where
   -- A pass that makes a step on the word of a nack
-  module _ {S : Type 0} (shape : Shape) (id place : ℕ) (me : Me S (View M)) (nack : NackName)
+  module _ (shape : Shape M) (id place : ℕ) (me : Me (Option M) (View M)) (nack : NackName)
       (threads : me.0.threads ≡ shape.threads) (rows : me.0.rows ≡ shape.rows)
       (inside : InsideNack shape.threads nack) (here : place ≡ nack_place shape.rows nack) where
     at_table : 0 < me.0.threads
@@ -95,12 +108,12 @@ module _ {M : Type 0} where
         let same = same_nack_place t nack m (nack_from t nack inside.0 inside.1) (nack_from t m there i.1) at in
         λ x. record { thread = same.0 x; k = same.1 x }
 
-    module _ (s : State S (View M)) (k : Keeps shape s) (view : get_elem? s.views id ≡ some me.0) where
+    module _ (s : State (Option M) (View M)) (k : Keeps stands shape s) (view : get_elem? s.views id ≡ some me.0) where
       known : Knows k.world k.owner id me.0
       known = k.knows id me.0 view at_table
 
       kept : Kept k.world
-      kept = world_kept shape s k
+      kept = world_kept stands shape s k
 
       is_its_nack : is_nack k.world.table nack ≡ true
       is_its_nack = ap (λ (t : Table). is_nack t nack) k.table ∙ nack_from (sized shape s.words) nack inside.0 inside.1
@@ -113,12 +126,20 @@ module _ {M : Type 0} where
       binding_is = binding_inside k.world.table nack is_its_nack ∙ ap nack_read word_is
 
       -- where it only learns
-      learnt : (w : View M) → w.seat ≡ me.0.seat → w.made ≡ me.0.made → w.results ≡ me.0.results → Knows k.world k.owner id w → Keeps shape (stepped s place (slice_index s.words place) id me.1 w keeps)
-      learnt w seat made seen knows = keeps_view shape s k id me.0 w _ _ view seat made seen (set-get_or s.words place 0) knows
+      learnt : (w : View M) → w.seat ≡ me.0.seat → w.made ≡ me.0.made → w.results ≡ me.0.results → w.first ≡ me.0.first → ((r : Row) → IsToBegin w r → IsToBegin me.0 r) → Knows k.world k.owner id w → Keeps stands shape (stepped s place (slice_index s.words place) id me.1 w keeps)
+      learnt w seat made seen first begins knows = keeps_view stands shape s k id me.0 w _ view at_table seat made seen first begins (set-get_or s.words place 0) knows
+
+      first_kept : (o : Option Binding) → (saw_nack nack o me.0).first ≡ me.0.first
+      first_kept None = refl
+      first_kept (Some b) = refl
+
+      begins_kept : (o : Option Binding) (r : Row) → IsToBegin (saw_nack nack o me.0) r → IsToBegin me.0 r
+      begins_kept None r h = h
+      begins_kept (Some b) r h = h
 
       -- what the pass has seen then agrees with itself
-      agreed : (x : ℕ) (w : View M) → w.threads ≡ me.0.threads → Keeps shape (stepped s place x id me.1 w keeps) → AgreesWithItself w
-      agreed x w size after = moved_coherent shape s.views _ _ id me.0 w view size at_table after
+      agreed : (x : ℕ) (w : View M) → w.threads ≡ me.0.threads → Keeps stands shape (stepped s place x id me.1 w keeps) → AgreesWithItself w
+      agreed x w size after = moved_coherent stands shape s.views _ _ id me.0 w view size at_table after
 
       -- a look at a nack makes no step
       seat_kept : (o : Option Binding) → (saw_nack nack o me.0).seat ≡ me.0.seat
@@ -148,6 +169,15 @@ module _ {M : Type 0} where
           by_word : (o : Option Binding) → nack_of (slice_index s.words place) ≡ Some o → (c : Binding) × (nack_read (slice_index s.words place) ≡ Some c)
           by_word None e = absurd (other (nack_word-nack_of (slice_index s.words place) None e).1)
           by_word (Some c) e = (c, ap (λ (p : Option (Option Binding)). unwrap_or p None) e)
+
+      -- a nack that is bound to an earlier row of a held row's thread
+      earlier_there : (b : Binding) → Has me.0.seen.held (bound_row nack b) → (c : Binding) → binding_at k.world.table nack ≡ Some c → c.sync < b.sync → 0 < length me.0.first → IsEarlier stands me.0.first me.0.results nack c
+      earlier_there b held c is below filled =
+          let firsts : me.0.first ≡ shape.first.value.items = k.firsts id me.0 view at_table in
+          let taken : is_taken (cell_at k.world.table (bound_row nack c)) ≡ true = taken_before k.world kept (bound_row nack c) (bound_row nack b) refl below (inr (me.0.seat, (known.mine (bound_row nack b) held).1)) in
+          subst (λ (l : List M). IsEarlier stands l me.0.results nack c) (sym firsts)
+          (is_earlier stands shape.first.value.items k.world k.owner id me.0 known kept nack c (k.housed (subst (λ (l : List M). 0 < length l) firsts filled)).rows (λ t rs h. k.results id me.0 t rs view h)
+          (taken_opened (cell_at k.world.table (bound_row nack c)) taken) is)
 
       -- the nack is bound to a held row that is not opened
       module _ (b : Binding) (range : IsBindingInRange b) (held : Has me.0.seen.held (bound_row nack b)) (unopened : ¬ Has me.0.seen.opened (bound_row nack b))
@@ -181,49 +211,49 @@ module _ {M : Type 0} where
             there n c (inl e) = subst (λ (z : NackName × Binding). binding_at later.table z.0 ≡ Some z.1) e (binding_bound k.world.table nack b kept.sized is_its_nack range)
             there n c (inr h) = follows.bound n c (known.bound n c h)
 
-        binds : Keeps shape (stepped s place (nack_word (Some b)) id me.1 (did (bind_of nack b) (bound_nack nack b me.0)) keeps)
+        binds : Keeps stands shape (stepped s place (nack_word (Some b)) id me.1 (did (bind_of nack b) (bound_nack nack b me.0)) keeps)
         unfolding with_nack
         binds =
             let mine = known.mine (bound_row nack b) held in
-            keeps_step shape s k id me.0 (bound_nack nack b me.0) _ _ k.owner view refl refl (bind_of nack b)
+            keeps_step stands shape s k id me.0 (bound_nack nack b me.0) _ k.owner view at_table refl refl refl (λ q h. h) (bind_of nack b) (λ q e. let bad : bind_of nack b ≡ Open q = e in cc)
             (known.seat, (mine.1, known.fresh (bound_row nack b) held unopened, inside.1, range.scope, free)) (λ t rs h. inl h)
             (ap (λ (t : Table). with_nack t nack b) k.table ∙ ap (λ (n : ℕ). sized shape (slice_set s.words n (nack_word (Some b)))) (sym here))
             (λ j u n e t. others j u n (k.knows j u e t))
             own
 
-  module _ {S : Type 0} (shape : Shape) (slots id place : ℕ) (me : Me S (View M)) (nack : NackName)
+  module _ (shape : Shape M) (slots id place : ℕ) (me : Me (Option M) (View M)) (nack : NackName)
       (threads : me.0.threads ≡ shape.threads) (rows : me.0.rows ≡ shape.rows)
       (inside : InsideNack shape.threads nack) where
-    pub look_nack_allowed : place ≡ nack_place shape.rows nack → Allows (Keeps shape) slots id me place (λ n. n) (looked_nack (step slots place 0 0 none) me)
+    pub look_nack_allowed : place ≡ nack_place shape.rows nack → Allows (Keeps stands shape) slots id me place (λ n. n) (looked_nack (step slots place 0 0 none) me)
     look_nack_allowed here s k homes view range =
         let o = nack_read (slice_index s.words place) in (
           saw_nack nack o me.0,
           keeps,
           tt,
-          learnt shape id place me nack threads rows inside here s k view (saw_nack nack o me.0) (seat_kept shape id place me nack threads rows inside here s k view o) (made_kept shape id place me nack threads rows inside here s k view o) (results_kept shape id place me nack threads rows inside here s k view o) (sees shape id place me nack threads rows inside here s k view),
+          learnt shape id place me nack threads rows inside here s k view (saw_nack nack o me.0) (seat_kept shape id place me nack threads rows inside here s k view o) (made_kept shape id place me nack threads rows inside here s k view o) (results_kept shape id place me nack threads rows inside here s k view o) (first_kept shape id place me nack threads rows inside here s k view o) (begins_kept shape id place me nack threads rows inside here s k view o) (sees shape id place me nack threads rows inside here s k view),
           λ m at.
               let same = one_nack shape id place me nack threads rows inside here m at.0 at.1 in (
                 ap (λ (n : NackName). (saw_nack n o me.0, me.1)) same,
                 agrees_nack shape id place me nack threads rows inside here s k view m same,
-                coherent_nack k.world k.owner id me.0 nack o (sees shape id place me nack threads rows inside here s k view) (world_kept shape s k),
+                coherent_nack k.world k.owner id me.0 nack o (sees shape id place me nack threads rows inside here s k view) (world_kept stands shape s k),
               ),
         )
 
     -- a nack of a held row's thread: where it is not bound, it is bound to the row
     pub bind_allowed : (b : Binding) → IsBindingInRange b → Has me.0.seen.held (bound_row nack b) → ¬ Has me.0.seen.opened (bound_row nack b) → place ≡ nack_place shape.rows nack
-        → Allows (Keeps shape) slots id me place (λ x. either (eqb x (nack_word None)) (nack_word (Some b)) x) (tried_bind (step slots place (nack_word None) (nack_word (Some b)) none) me)
+        → Allows (Keeps stands shape) slots id me place (λ x. either (eqb x (nack_word None)) (nack_word (Some b)) x) (tried_bind stands (step slots place (nack_word None) (nack_word (Some b)) none) me)
     bind_allowed b in_range held unopened here s k homes view range =
         let x = slice_index s.words place in
         let read = binding_is shape id place me nack threads rows inside here s k view in
         let knows = known shape id place me nack threads rows inside here s k view in
-        let one : (m : NackName) → AtNack (step {S = S} slots place (nack_word None) (nack_word (Some b)) none) me m → nack ≡ m = λ m at. one_nack shape id place me nack threads rows inside here m at.0 at.1 in
+        let one : (m : NackName) → AtNack (step {S = Option M} slots place (nack_word None) (nack_word (Some b)) none) me m → nack ≡ m = λ m at. one_nack shape id place me nack threads rows inside here m at.0 at.1 in
         exchanged x (nack_word None) (nack_word (Some b))
-        (λ y. (w : View M) × (a : Act S) × Valid s.homes me.1 a × Keeps shape (stepped s place y id me.1 w a) × tried_bind (step slots place (nack_word None) (nack_word (Some b)) none) me x (w, carried_after me.1 a))
+        (λ y. (w : View M) × (a : Act (Option M)) × Valid s.homes me.1 a × Keeps stands shape (stepped s place y id me.1 w a) × tried_bind stands (step slots place (nack_word None) (nack_word (Some b)) none) me x (w, carried_after me.1 a))
         (λ e.
         let none_read : nack_read x ≡ None = ap nack_read e ∙ ap (λ (p : Option (Option Binding)). unwrap_or p None) (nack_of-nack_word None tt) in
         let free : binding_at k.world.table nack ≡ None = read ∙ none_read in
         let after = did (bind_of nack b) (bound_nack nack b me.0) in
-        let moved : Keeps shape (stepped s place (nack_word (Some b)) id me.1 after keeps) = binds shape id place me nack threads rows inside here s k view b in_range held unopened free in (
+        let moved : Keeps stands shape (stepped s place (nack_word (Some b)) id me.1 after keeps) = binds shape id place me nack threads rows inside here s k view b in_range held unopened free in (
           after,
           keeps,
           tt,
@@ -242,8 +272,8 @@ module _ {M : Type 0} where
         let found = bound_there shape id place me nack threads rows inside here s k view f in
         let is : binding_at k.world.table nack ≡ Some found.0 = read ∙ found.1 in
         let after = bound_nack nack found.0 me.0 in
-        let moved : Keeps shape (stepped s place x id me.1 after keeps) =
-        learnt shape id place me nack threads rows inside here s k view after refl refl refl (learn_nack k.world k.owner id me.0 nack (Some found.0) knows is) in (
+        let moved : Keeps stands shape (stepped s place x id me.1 after keeps) =
+        learnt shape id place me nack threads rows inside here s k view after refl refl refl refl (λ q h. h) (learn_nack k.world k.owner id me.0 nack (Some found.0) knows is) in (
           after,
           keeps,
           tt,
@@ -255,9 +285,11 @@ module _ {M : Type 0} where
                 let tried : b ≡ c = one_binding b c in_range c_range second in (
                   (λ z. (bound_nack (nack_same z) (same z) me.0, me.1)),
                   subst (λ (z : Binding × Binding). z.0.sync ≤ z.1.sync) (λ i. (same i, tried i))
-                      (not_behind k.world k.owner id me.0 knows (world_kept shape s k) nack b found.0 is held unopened),
+                      (not_behind k.world k.owner id me.0 knows (world_kept stands shape s k) nack b found.0 is held unopened),
                   λ h. subst (λ (z : NackName × Binding). Has me.0.seen.bound z) (λ i. (nack_same i, same i))
                       (knows.binds nack found.0 is (subst (λ (z : NackName × Binding). Has me.0.seen.held (bound_row z.0 z.1)) (λ i. (sym nack_same i, sym same i)) h)),
+                  λ below filled. subst (λ (z : NackName × Binding). IsEarlier stands me.0.first me.0.results z.0 z.1) (λ i. (nack_same i, same i))
+                      (earlier_there shape id place me nack threads rows inside here s k view b held found.0 is (subst (λ (z : Binding × Binding). z.0.sync < z.1.sync) (λ i. (sym same i, sym tried i)) below) filled),
                 ),
             agreed shape id place me nack threads rows inside here s k view x after refl moved,
           ),

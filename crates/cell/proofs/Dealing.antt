@@ -1,6 +1,6 @@
 -- The rule holds at the start, and while the first pass deals the rows.
-use Rattle.std.proofs.Common.{slice_set, ◌≡◌, ◌≢◌, ℕ, zero, suc, ◌+◌, ◌*◌, ◌%◌, ◌<◌, ◌≤◌, Bool, true, false, cond, eqb, ◌&&◌, List, [], ◌∷◌, ◌++◌, length, replicate, sym, refl, ap, ◌∙◌, subst, ◌⊎◌, inl, inr, ⊎_elim, arith, Some, None, slice_get}
-use Rattle.std.proofs.lemmas.Bool.{cases_Bool, lt-ltb, ltb-true, eq-eqb, eqb-true, ne_eqb, and_parts, and_from}
+use Rattle.std.proofs.Common.{slice_set, ◌≡◌, ◌≢◌, ℕ, zero, suc, ◌+◌, ◌*◌, ◌%◌, ◌<◌, ◌≤◌, Bool, true, false, cond, eqb, ◌&&◌, List, [], ◌∷◌, ◌++◌, map, length, replicate, Option, sym, refl, ap, ◌∙◌, subst, ◌⊎◌, inl, inr, ⊎_elim, arith, Some, None, slice_get}
+use Rattle.std.proofs.lemmas.Bool.{true≢false, cases_Bool, lt-ltb, ltb-true, eq-eqb, eqb-true, ne_eqb, and_parts, and_from}
 use Rattle.std.proofs.Math.Bool.{and-false}
 use Rattle.std.proofs.Math.Dec.{ltb}
 use Rattle.std.proofs.lemmas.List.{length-append, length-set}
@@ -17,19 +17,22 @@ use Rattle.protocol.specs.Tables.{thread_len, cell_at, word_at, binding_at, boun
 use Rattle.protocol.specs.Worlds.{World, start_world, holder_at}
 use Rattle.protocol.proofs.LedgerLemmas.{start_binding, start_cell, start_holder, start_word}
 use Rattle.protocol.proofs.RowLemmas.{same_row}
-use Rattle.protocol.specs.Standing.{AreResults, Result}
+use Rattle.protocol.specs.Standing.{AreResults, Result, SomeStands, Stands}
 use Rattle.protocol.specs.Ledgers.{ledger_of}
 use Rattle.cell.specs.declared.view.View.{View}
 use Rattle.cell.specs.declared.view.Shape.{Shape}
 use Rattle.cell.specs.Sight.{Coherent, Has}
 use Rattle.cell.specs.Views.{Knows, first_row}
-use Rattle.cell.specs.Rule.{Interleaves, Keeps, Move, at_seat, dealer, dealt_rows, dealt_pass, no_offers, seen_nothing, steps_by}
+use Rattle.cell.specs.Rule.{Housed, Interleaves, IsToBegin, Keeps, Move, Waits, at_seat, dealer, dealt_rows, dealt_pass, no_offers, seen_nothing, steps_by}
 use Rattle.cell.proofs.Following.{knows_owned}
-use Rattle.cell.proofs.Turning.{same_made, world_kept}
+use Rattle.cell.proofs.Housing.{housed_more, housed_view}
+use Rattle.cell.proofs.Turning.{firsts_with, same_made, world_kept}
+use Rattle.protocol.proofs.Standing.{stands-start}
+use Rattle.protocol.specs.Tables.{is_fresh}
 
 module _ {M : Type 0} where
   -- a pass that has seen nothing
-  knows_nothing : (w : World) (owner : Row → ℕ) (id : ℕ) (shape : Shape) (k : ℕ) → shape.threads ≡ w.table.threads → shape.rows ≡ w.table.rows → shape.passes ≡ w.seats → 0 < w.seats
+  knows_nothing : (w : World) (owner : Row → ℕ) (id : ℕ) (shape : Shape M) (k : ℕ) → shape.threads ≡ w.table.threads → shape.rows ≡ w.table.rows → shape.passes ≡ w.seats → 0 < w.seats
       → ((t : ℕ) → t < w.table.threads → k ≤ t % w.seats → (owner (first_row t) ≡ id) × (holder_at w (first_row t) ≡ Some (t % w.seats)) × (cell_at w.table (first_row t) ≡ Fresh) × (word_at w.table (first_row t) 1 ≡ 0) × ((n : NackName) (b : Binding) → binding_at w.table n ≡ Some b → bound_row n b ≢ first_row t))
       → Knows {M = M} w owner id (dealer shape k)
   knows_nothing w owner id shape k threads rows passes one_seat undealt = record {
@@ -51,11 +54,12 @@ module _ {M : Type 0} where
     binds = λ n b e h. absurd h;
   }
 
+module _ {M : Type 0} (stands : Stands M) where
   -- THE START
-  pub keeps_start : {S : Type 0} (shape : Shape) (ws : List ℕ) (xs : List S) → shape.threads ≤ 64 → 1 ≤ shape.rows → shape.rows ≤ 1024 → 1 ≤ shape.passes → ws ≡ replicate (shape.threads * thread_len shape.rows) 0
-      → Keeps {M = M} shape (opening ws xs (dealer shape 0))
+  pub keeps_start : (shape : Shape M) (ws : List ℕ) (xs : List (Option M)) → xs ≡ map Some shape.first.value.items → (0 < length shape.first.value.items → length shape.first.value.items ≡ shape.threads) → shape.threads ≤ 64 → 1 ≤ shape.rows → shape.rows ≤ 1024 → 1 ≤ shape.passes → ws ≡ replicate (shape.threads * thread_len shape.rows) 0
+      → Keeps stands shape (opening ws xs (dealer shape 0))
   unfolding start_world
-  keeps_start shape ws xs few one_row few_rows one_pass zeros = record {
+  keeps_start shape ws xs slots full few one_row few_rows one_pass zeros = record {
     few_threads = few;
     few_rows = few_rows;
     moves = [];
@@ -65,9 +69,45 @@ module _ {M : Type 0} where
     table = ap (λ (z : List ℕ). record { threads = shape.threads; rows = shape.rows; words = z }) (sym zeros);
     owner = λ r. 0;
     knows = knows_at;
+    firsts = λ id v e t. first_there id v e;
+    housed = house;
     results = no_results;
   }
     where
+      first_there : (id : ℕ) (v : View M) → get_elem? (dealer shape 0 ∷ []) id ≡ some v → v.first ≡ shape.first.value.items
+      first_there zero v e = ap (λ (u : View M). u.first) (sym (mathlib.Core.Option.some-injective _ _ e))
+      first_there (suc id) v e = absurd (mathlib.Core.Option.some-ne-none v (sym e))
+
+      lies : (fs : List M) (t : ℕ) → t < length fs → (value : M) × (slice_get fs t ≡ Some value) × (get_elem? (map some (map Some fs)) t ≡ some (some (Some value)))
+      lies [] t h = absurd (omega arith)
+      lies (f ∷ fs) zero h = (f, refl, refl)
+      lies (f ∷ fs) (suc t) h = lies fs t (omega arith)
+
+      house : 0 < length shape.first.value.items → Housed stands shape.first.value.items (start_world shape.threads shape.rows shape.passes) (map some xs) (dealer shape 0 ∷ [])
+      house some_first = record {
+        rows = stands-start (SomeStands stands shape.first.value.items) shape.threads shape.rows shape.passes;
+        at_home = λ r open_r untaken. absurd (true≢false (sym (ap is_fresh (start_cell shape.threads shape.rows r)) ∙ open_r));
+        waiting = λ id v r e t b. waits id v r e b;
+      }
+        where
+          waits_at : (r : Row) → r.thread < shape.threads → Waits shape.first.value.items (start_world shape.threads shape.rows shape.passes) (map some xs) r
+          waits_at r low =
+              let f = full some_first in
+              let there = lies shape.first.value.items r.thread (omega arith) in
+              record {
+                fresh = ap is_fresh (start_cell shape.threads shape.rows r);
+                value = there.0;
+                is_first = there.1;
+                home = ap (λ (ys : List (Option M)). get_elem? (map some ys) r.thread) slots ∙ there.2;
+              }
+
+          waits : (id : ℕ) (v : View M) (r : Row) → get_elem? (dealer shape 0 ∷ []) id ≡ some v → IsToBegin v r → Waits shape.first.value.items (start_world shape.threads shape.rows shape.passes) (map some xs) r
+          waits zero v r e b = ⊎_elim
+              (λ (h : ⊥). absurd h)
+              (λ (d : (r.thread < shape.threads) × (0 ≤ r.thread % shape.passes)). waits_at r d.0)
+              (subst (λ (u : View M). IsToBegin u r) (sym (mathlib.Core.Option.some-injective _ _ e)) b).1
+          waits (suc id) v r e b = absurd (mathlib.Core.Option.some-ne-none v (sym e))
+
       no_results : (id : ℕ) (v : View M) (t : ℕ) (rs : List Result) → get_elem? (dealer shape 0 ∷ []) id ≡ some v → Has v.results (t, rs) → AreResults (ledger_of (start_world shape.threads shape.rows shape.passes).table) t rs
       no_results zero v t rs e h = absurd (subst (λ (u : View M). Has u.results (t, rs)) (sym (mathlib.Core.Option.some-injective _ _ e)) h)
       no_results (suc id) v t rs e h = absurd (mathlib.Core.Option.some-ne-none v (sym e))
@@ -157,7 +197,8 @@ module _ {M : Type 0} where
         before.no_others j (omega arith);
   }
 
-  module _ {S : Type 0} (shape : Shape) (id k : ℕ) (below : k < shape.passes) (some_threads : 0 < shape.threads) (s : State S (View M)) (h : Keeps shape s) (view : get_elem? s.views id ≡ some (dealer shape k)) where
+module _ {M : Type 0} (stands : Stands M) where
+  module _ (shape : Shape M) (id k : ℕ) (below : k < shape.passes) (some_threads : 0 < shape.threads) (s : State (Option M) (View M)) (h : Keeps stands shape s) (view : get_elem? s.views id ≡ some (dealer shape k)) where
     was : Knows {M = M} h.world h.owner id (dealer shape k)
     was = h.knows id (dealer shape k) view some_threads
 
@@ -234,13 +275,18 @@ module _ {M : Type 0} where
       binds = λ n b e i. absurd ((dealt_row (bound_row n b) i).4 n b e refl);
     }
 
+    -- the rows of the new pass were the dealer's to deal
+    begins : (r : Row) → Has (dealt_rows shape.threads shape.passes k) r ⊎ ((r.thread < shape.threads) × (shape.passes ≤ r.thread % shape.passes)) → (r.thread < shape.threads) × (k ≤ r.thread % shape.passes)
+    begins r (inl held) = let d = has_dealt shape.threads shape.passes k r held in (d.1, let e = d.2 in omega arith)
+    begins r (inr d) = let one_pass : 0 < shape.passes = omega arith in let m = mod-lt r.thread one_pass in let far = d.1 in absurd (omega arith)
+
     at_old : (j : ℕ) (u : View M) → get_elem? (slice_set s.views id (dealer shape (k + 1))) j ≡ some u → 0 < u.threads → Knows h.world owner' j u
     at_old j u e t = ⊎_elim
         (λ (a : (j ≡ id) × (dealer shape (k + 1) ≡ u)). subst (λ (z : ℕ × (View M)). Knows h.world owner' z.0 z.1) (λ i. (sym a.0 i, a.1 i)) left)
-        (λ (a : (j ≢ id) × (get_elem? s.views j ≡ some u)). knows_owned h.world h.owner owner' j u (world_kept shape s h) (λ r held o. kept_owner j a.0 r o) (h.knows j u a.1 t))
+        (λ (a : (j ≢ id) × (get_elem? s.views j ≡ some u)). knows_owned h.world h.owner owner' j u (world_kept stands shape s h) (λ r held o. kept_owner j a.0 r o) (h.knows j u a.1 t))
         (at_set s.views id j (dealer shape (k + 1)) u e)
 
-    deals : Keeps shape (record { words = s.words; homes = s.homes; views = slice_set s.views id (dealer shape (k + 1)) ++ dealt_pass (dealer shape k) ∷ [] })
+    deals : Keeps stands shape (record { words = s.words; homes = s.homes; views = slice_set s.views id (dealer shape (k + 1)) ++ dealt_pass (dealer shape k) ∷ [] })
     deals = record {
       few_threads = h.few_threads;
       few_rows = h.few_rows;
@@ -252,6 +298,15 @@ module _ {M : Type 0} where
       table = h.table;
       owner = owner';
       knows = λ j u e t. ⊎_elim (λ old. at_old j u old t) (λ now. subst (λ (z : ℕ × (View M)). Knows h.world owner' z.0 z.1) (λ i. (sym (now.0 ∙ length-set s.views id (dealer shape (k + 1))) i, now.1 i)) its_pass) (at_end (slice_set s.views id (dealer shape (k + 1))) (dealt_pass (dealer shape k)) u j e);
+      firsts = λ j u e t. ⊎_elim
+          (λ old. firsts_with s.views id (dealer shape k) (dealer shape (k + 1)) shape.first.value.items view refl some_threads h.firsts j u old t)
+          (λ now. ap (λ (z : View M). z.first) (sym now.1))
+          (at_end (slice_set s.views id (dealer shape (k + 1))) (dealt_pass (dealer shape k)) u j e);
+      housed = λ some_first.
+          let before = h.housed some_first in
+          housed_more stands shape.first.value.items h.world s.homes (slice_set s.views id (dealer shape (k + 1))) (dealt_pass (dealer shape k))
+          (housed_view stands shape.first.value.items h.world s.homes s.views id (dealer shape k) (dealer shape (k + 1)) view some_threads (λ r b. (b.0, ⊎_elim (λ (no : ⊥). absurd no) (λ (d : (r.thread < shape.threads) × (k + 1 ≤ r.thread % shape.passes)). inr (d.0, (let far = d.1 in omega arith))) b.1, b.2)) before)
+          (λ r b. before.waiting id (dealer shape k) r view some_threads (b.0, inr (begins r b.1), λ no. no));
       results = λ j u t rs e i. ⊎_elim
           (λ old. ⊎_elim
           (λ (a : (j ≡ id) × (dealer shape (k + 1) ≡ u)). absurd (subst (λ (z : View M). Has z.results (t, rs)) (sym a.1) i))
@@ -261,7 +316,7 @@ module _ {M : Type 0} where
           (at_end (slice_set s.views id (dealer shape (k + 1))) (dealt_pass (dealer shape k)) u j e);
     }
 
-  pub deal_allowed : {S : Type 0} (shape : Shape) (id k : ℕ) → k < shape.passes → 0 < shape.threads → Splits {S = S} (Keeps {M = M} shape) id (dealer shape k) (dealer shape (k + 1)) (dealt_pass (dealer shape k))
+  pub deal_allowed : (shape : Shape M) (id k : ℕ) → k < shape.passes → 0 < shape.threads → Splits {S = Option M} (Keeps stands shape) id (dealer shape k) (dealer shape (k + 1)) (dealt_pass (dealer shape k))
   deal_allowed shape id k below some_threads s h view = deals shape id k below some_threads s h view
 
 -- a table has some words

@@ -51,7 +51,7 @@ module _ {M : Type 0} where
     seen_bound n b (inl e) old = more n b (old e)
     seen_bound n b (inr h) old = h
 
-    pub knows_bound : Knows w owner id v → Knows u owner id (at_stage v.stage (record { held = v.seen.held; drafts = v.seen.drafts; opened = v.seen.opened; words = v.seen.words; joined = v.seen.joined; taken = v.seen.taken; bound = bs }) v)
+    pub knows_bound : Knows w owner id v → Knows u owner id (at_stage v.stage (record { held = v.seen.held; drafts = v.seen.drafts; opened = v.seen.opened; words = v.seen.words; joined = v.seen.joined; taken = v.seen.taken; bound = bs; begun = v.seen.begun }) v)
     knows_bound k = record {
       threads = k.threads ∙ sym f.threads;
       rows = k.rows ∙ sym f.rows;
@@ -114,7 +114,7 @@ module _ {M : Type 0} where
 
   -- A PASS HOLDS ONE ROW MORE, which is Fresh and has no offers, and to which no nack is bound
   pub hold_more : (w : World) (owner : Row → ℕ) (id : ℕ) (v : View M) (x : Row) → Knows w owner id v → owner x ≡ id → holder_at w x ≡ Some v.seat → cell_at w.table x ≡ Fresh → word_at w.table x 1 ≡ 0 → ((n : NackName) (b : Binding) → binding_at w.table n ≡ Some b → bound_row n b ≢ x)
-      → Knows w owner id (at_stage v.stage (record { held = x ∷ v.seen.held; drafts = (x, 1, 0) ∷ v.seen.drafts; opened = v.seen.opened; words = v.seen.words; joined = v.seen.joined; taken = v.seen.taken; bound = v.seen.bound }) v)
+      → Knows w owner id (at_stage v.stage (record { held = x ∷ v.seen.held; drafts = (x, 1, 0) ∷ v.seen.drafts; opened = v.seen.opened; words = v.seen.words; joined = v.seen.joined; taken = v.seen.taken; bound = v.seen.bound; begun = v.seen.begun }) v)
   hold_more w owner id v x k mine held fresh none unbound = record {
     threads = k.threads;
     rows = k.rows;

@@ -1,5 +1,5 @@
 -- What a pass has seen is true for whoever is told it.
-use Rattle.std.proofs.Common.{slice_set, ◌≡◌, ◌≢◌, ℕ, ◌<◌, Bool, true, false, cond, ◌||◌, List, [], ◌∷◌, ◌++◌, length, sym, refl, ap, ◌∙◌, subst, inl, inr, ◌⊎◌, ⊎_elim, arith}
+use Rattle.std.proofs.Common.{slice_set, ◌≡◌, ◌≢◌, ℕ, ◌<◌, ◌≤◌, ◌%◌, Option, Bool, true, false, cond, ◌||◌, List, [], ◌∷◌, ◌++◌, length, sym, refl, ap, ◌∙◌, subst, inl, inr, ◌⊎◌, ⊎_elim, arith}
 use Rattle.std.proofs.lemmas.Bool.{cases_Bool, true≢false}
 use Rattle.std.proofs.Math.Nat.{mod-lt}
 use mathlib.Core.Option.{some}
@@ -23,7 +23,9 @@ use Rattle.cell.specs.Views.{Knows}
 use Rattle.cell.specs.Rule.{Keeps, at_seat, is_among, drafts_of, told_of, told_pass, heard, heard_pass, spent_pass}
 use Rattle.cell.proofs.Dealing.{at_end, one_more_pass}
 use Rattle.cell.proofs.Offers.{have_row}
-use Rattle.cell.proofs.Turning.{same_made}
+use Rattle.cell.proofs.Housing.{housed_more, housed_spent, housed_view}
+use Rattle.cell.proofs.Turning.{firsts_with, same_made}
+use Rattle.protocol.specs.Standing.{Stands}
 
 pub has_either : {A : Type 0} (xs ys : List A) (x : A) → Has (xs ++ ys) x → Has xs x ⊎ Has ys x
 has_either [] ys x h = inr h
@@ -144,8 +146,8 @@ module _ (w : World) (owner : Row → ℕ) where
       binds = λ n b e h. has_left v.seen.bound u.seen.bound (n, b) (k.binds n b e h);
     }
 
-module _ {M : Type 0} where
-  pub tell_allowed : {S : Type 0} (shape : Shape) (id : ℕ) (v : View M) → 0 < v.threads → Splits {S = S} (Keeps shape) id v v (told_pass v)
+module _ {M : Type 0} (stands : Stands M) where
+  pub tell_allowed : (shape : Shape M) (id : ℕ) (v : View M) → 0 < v.threads → Splits {S = Option M} (Keeps stands shape) id v v (told_pass v)
   tell_allowed shape id v at_table s k view = record {
     few_threads = k.few_threads;
     few_rows = k.few_rows;
@@ -159,6 +161,16 @@ module _ {M : Type 0} where
         (λ old. before j u old t)
         (λ (now : (j ≡ length (slice_set s.views id v)) × (told_pass v ≡ u)). subst (λ (z : View M). Knows k.world k.owner j z) now.1 (knows_told k.world k.owner id j v (k.knows id v view at_table)))
         (at_end (slice_set s.views id v) (told_pass v) u j e);
+    firsts = λ j u e t. ⊎_elim
+        (λ old. firsts_with s.views id v v shape.first.value.items view refl at_table k.firsts j u old t)
+        (λ (now : (j ≡ length (slice_set s.views id v)) × (told_pass v ≡ u)). ap (λ (z : View M). z.first) (sym now.1) ∙ k.firsts id v view at_table)
+        (at_end (slice_set s.views id v) (told_pass v) u j e);
+    housed = λ some_first.
+        let before = housed_view stands shape.first.value.items k.world s.homes s.views id v v view at_table (λ r b. b) (k.housed some_first) in
+        housed_more stands shape.first.value.items k.world s.homes (slice_set s.views id v) (told_pass v) before (λ r b. absurd (⊎_elim
+        (λ (h : ⊥). h)
+        (λ (d : (r.thread < v.threads) × (v.passes ≤ r.thread % v.passes)). let m = mod-lt r.thread (some_passes (k.knows id v view at_table)) in let far = d.1 in omega arith)
+        b.1));
     results = λ j u t rs e h. ⊎_elim
         (λ old. ⊎_elim
         (λ (a : (j ≡ id) × (v ≡ u)). k.results id v t rs view (subst (λ (z : View M). Has z.results (t, rs)) (sym a.1) h))
@@ -168,13 +180,16 @@ module _ {M : Type 0} where
         (at_end (slice_set s.views id v) (told_pass v) u j e);
   }
     where
+      some_passes : Knows k.world k.owner id v → 0 < v.passes
+      some_passes knows = let p = knows.passes in let h = knows.seat in omega arith
+
       before : (j : ℕ) (u : View M) → get_elem? (slice_set s.views id v) j ≡ some u → 0 < u.threads → Knows k.world k.owner j u
       before j u e t = ⊎_elim
           (λ (a : (j ≡ id) × (v ≡ u)). subst (λ (z : ℕ × (View M)). Knows k.world k.owner z.0 z.1) (λ i. (sym a.0 i, a.1 i)) (k.knows id v view at_table))
           (λ (a : (j ≢ id) × (get_elem? s.views j ≡ some u)). k.knows j u a.1 t)
           (at_set s.views id j v u e)
 
-  pub hear_allowed : {S : Type 0} (shape : Shape) (id : ℕ) (v : View M) (other : ℕ) (w : View M) → 0 < v.threads → 0 < w.threads → w.made ≡ [] → Joins {S = S} (Keeps shape) id v other w (heard_pass v w) spent_pass
+  pub hear_allowed : (shape : Shape M) (id : ℕ) (v : View M) (other : ℕ) (w : View M) → 0 < v.threads → 0 < w.threads → w.made ≡ [] → Joins {S = Option M} (Keeps stands shape) id v other w (heard_pass v w) spent_pass
   hear_allowed shape id v other w at_table told_at nothing s k view apart told = record {
     few_threads = k.few_threads;
     few_rows = k.few_rows;
@@ -189,6 +204,13 @@ module _ {M : Type 0} where
         (λ (a : (j ≡ other) × (spent_pass ≡ u)). let z : u.threads ≡ 0 = ap (λ (y : View M). y.threads) (sym a.1) in absurd (omega arith))
         (λ (a : (j ≢ other) × (get_elem? (slice_set s.views id (heard_pass v w)) j ≡ some u)). before j u a.1 t)
         (at_set (slice_set s.views id (heard_pass v w)) other j spent_pass u e);
+    firsts = λ j u e t. ⊎_elim
+        (λ (a : (j ≡ other) × (spent_pass ≡ u)). let z : u.threads ≡ 0 = ap (λ (y : View M). y.threads) (sym a.1) in absurd (omega arith))
+        (λ (a : (j ≢ other) × (get_elem? (slice_set s.views id (heard_pass v w)) j ≡ some u)). firsts_with s.views id v (heard_pass v w) shape.first.value.items view refl at_table k.firsts j u a.1 t)
+        (at_set (slice_set s.views id (heard_pass v w)) other j spent_pass u e);
+    housed = λ some_first.
+        let before = housed_view stands shape.first.value.items k.world s.homes s.views id v (heard_pass v w) view at_table (λ r b. b) (k.housed some_first) in
+        housed_spent stands shape.first.value.items k.world s.homes (slice_set s.views id (heard_pass v w)) other spent_pass refl before;
     results = λ j u t rs e h. ⊎_elim
         (λ (a : (j ≡ other) × (spent_pass ≡ u)). absurd (subst (λ (z : View M). Has z.results (t, rs)) (sym a.1) h))
         (λ (a : (j ≢ other) × (get_elem? (slice_set s.views id (heard_pass v w)) j ≡ some u)). ⊎_elim

@@ -22,6 +22,7 @@ learns_then {Nacks} About s t u f g = record {
   joined = adds_then (λ x. About x.0) s.joined t.joined u.joined f.joined g.joined;
   taken = adds_then About s.taken t.taken u.taken f.taken g.taken;
   bound = adds_then (λ x. Nacks x.0) s.bound t.bound u.bound f.bound g.bound;
+  begun = g.begun ∙ f.begun;
 }
 
 -- what is learnt of some rows is learnt of more
@@ -37,6 +38,7 @@ learns_wider About About' s t w l = record {
   joined = adds_wider (λ x. About x.0) (λ x. About' x.0) s.joined t.joined (λ x. w x.0) l.joined;
   taken = adds_wider About About' s.taken t.taken w l.taken;
   bound = l.bound;
+  begun = l.begun;
 }
 
 -- and of more nacks
@@ -49,6 +51,7 @@ nacks_wider About Nacks Nacks' s t w l = record {
   joined = l.joined;
   taken = l.taken;
   bound = adds_wider (λ x. Nacks x.0) (λ x. Nacks' x.0) s.bound t.bound (λ x. w x.0) l.bound;
+  begun = l.begun;
 }
 
 -- nothing is learnt
@@ -61,6 +64,7 @@ learns_nothing About Nacks s = record {
   joined = ((λ x h. h), λ x h. inl h);
   taken = ((λ x h. h), λ x h. inl h);
   bound = ((λ x h. h), λ x h. inl h);
+  begun = refl;
 }
 
 -- a nack is seen bound
@@ -73,6 +77,7 @@ learns_bound n b s = record {
   joined = ((λ x h. h), λ x h. inl h);
   taken = ((λ x h. h), λ x h. inl h);
   bound = ((λ x h. inr h), λ x h. only x h);
+  begun = refl;
 }
   where
     only : (x : NackName × Binding) → Has ((n, b) ∷ s.bound) x → Has s.bound x ⊎ (x.0 ≡ n)

@@ -5,8 +5,10 @@ pub mod Offers
 pub mod Meeting
 pub mod Results
 pub mod Others
+pub mod Housing
 pub mod Turning
 pub mod Once
+pub mod Standing
 pub mod Allowing
 pub mod Binding
 pub mod Dealing
@@ -17,3 +19,4 @@ pub mod Playing
 pub mod Following
 pub mod Alone
 pub mod Flagging
+pub mod Crossing

@@ -19,7 +19,7 @@ use Rattle.protocol.proofs.RowLemmas.{row_cases, row_eq-false, row_ne, put, put_
 use Rattle.cell.proofs.Redrafting.{left}
 use Rattle.protocol.proofs.Places.{word_other, is_row_after}
 use Rattle.protocol.proofs.Readings.{cell_after_cell, cell_after_word, row_of_open, binding_after_cell, binding_after_word}
-use Rattle.cell.specs.Sight.{Has, IsCounted, without}
+use Rattle.cell.specs.Sight.{Has, IsCounted, see_begun, without}
 use Rattle.protocol.specs.Tables.{is_taken}
 use Rattle.cell.specs.Views.{first_row, IsClaimer, Staged, Knows, at_stage, turned, saw, saw_nack, read_word, drafted_word}
 
@@ -199,7 +199,7 @@ module _ {M : Type 0} where
   know_more : (w : World) (owner : Row → ℕ) (id : ℕ) (v : View M) (r : Row) (js : List (Row × Joined)) (ts : List Row) → Knows w owner id v → is_fresh (cell_at w.table r) ≡ false
       → ((q : Row) (j : Joined) → Has js (q, j) → joined_at w.table q ≡ Some j)
       → ((q : Row) → Has ts q → is_taken (cell_at w.table q) ≡ true)
-      → Knows w owner id (at_stage v.stage (record { held = v.seen.held; drafts = v.seen.drafts; opened = r ∷ v.seen.opened; words = v.seen.words; joined = js; taken = ts; bound = v.seen.bound }) v)
+      → Knows w owner id (at_stage v.stage (record { held = v.seen.held; drafts = v.seen.drafts; opened = r ∷ v.seen.opened; words = v.seen.words; joined = js; taken = ts; bound = v.seen.bound; begun = v.seen.begun }) v)
   know_more w owner id v r js ts k f js_true ts_true = record {
     threads = k.threads;
     rows = k.rows;
@@ -215,6 +215,27 @@ module _ {M : Type 0} where
     read = k.read;
     joined = js_true;
     taken = ts_true;
+    bound = k.bound;
+    binds = k.binds;
+  }
+
+  -- what stood for a thread at first was fetched
+  pub knows_begun : (w : World) (owner : Row → ℕ) (id : ℕ) (v : View M) (r : Row) → Knows w owner id v → Knows w owner id (at_stage v.stage (see_begun r v.seen) v)
+  knows_begun w owner id v r k = record {
+    threads = k.threads;
+    rows = k.rows;
+    passes = k.passes;
+    seat = k.seat;
+    undealt = k.undealt;
+    mine = k.mine;
+    calm = k.calm;
+    staged = k.staged;
+    fresh = k.fresh;
+    drafted = k.drafted;
+    opened = k.opened;
+    read = k.read;
+    joined = k.joined;
+    taken = k.taken;
     bound = k.bound;
     binds = k.binds;
   }
@@ -319,7 +340,7 @@ module _ (w : World) (x : Row) (p d : ℕ) (owner : Row → ℕ) (k : Kept w)
     after_draft : (id : ℕ) (v : View M) (ds : List (Row × ℕ × ℕ)) → Knows w owner id v
         → ((t : ℕ) (r : Row) → owner r ≡ id → is_row w.table r ≡ true → (¬ IsCounted v.seen r → word_at w.table r 1 ≡ 0) → ¬ ((count : ℕ) × Has ds (r, 1, count)) → word_at (with_word w.table x p d) r 1 ≡ 0)
         → ((r : Row) (q y : ℕ) → Has ds (r, q, y) → (owner r ≡ id) × (q < 34) × (1 ≤ q) × (holder_at w r ≡ Some v.seat) × (word_at (with_word w.table x p d) r q ≡ y))
-        → Knows (with_table w (with_word w.table x p d)) owner id (at_stage v.stage (record { held = v.seen.held; drafts = ds; opened = v.seen.opened; words = v.seen.words; joined = v.seen.joined; taken = v.seen.taken; bound = v.seen.bound }) v)
+        → Knows (with_table w (with_word w.table x p d)) owner id (at_stage v.stage (record { held = v.seen.held; drafts = ds; opened = v.seen.opened; words = v.seen.words; joined = v.seen.joined; taken = v.seen.taken; bound = v.seen.bound; begun = v.seen.begun }) v)
     after_draft id v ds knows counts drafted = record {
       threads = knows.threads;
       rows = knows.rows;

@@ -49,6 +49,7 @@ redrafts_word r p x s = record {
   joined = refl;
   taken = refl;
   bound = refl;
+  begun = refl;
   kept = λ q o y else_where h. inr (left r p s.drafts q o y else_where h);
   only = λ q o y else_where h. only q o y else_where h;
 }
@@ -65,6 +66,7 @@ redrafts_wider Where Wider s t wider f = record {
   joined = f.joined;
   taken = f.taken;
   bound = f.bound;
+  begun = f.begun;
   kept = λ q o x out h. f.kept q o x (λ i. out (wider q o i)) h;
   only = λ q o x out h. f.only q o x (λ i. out (wider q o i)) h;
 }
@@ -77,6 +79,7 @@ redrafts_then Where s t u f g = record {
   joined = g.joined ∙ f.joined;
   taken = g.taken ∙ f.taken;
   bound = g.bound ∙ f.bound;
+  begun = g.begun ∙ f.begun;
   kept = λ q o x out h. g.kept q o x out (f.kept q o x out h);
   only = λ q o x out h. f.only q o x out (g.only q o x out h);
 }
@@ -90,6 +93,7 @@ redrafts_nothing Where s = record {
   joined = refl;
   taken = refl;
   bound = refl;
+  begun = refl;
   kept = λ q o x out h. h;
   only = λ q o x out h. h;
 }

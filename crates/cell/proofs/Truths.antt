@@ -226,9 +226,9 @@ module _ {M : Type 0} where
   lacks_known w owner id v r n k (inr (opened, lack)) =
       offer_none w.table r n (subst (λ (m : ℕ). m ≤ n) (sym (count_there w.table r lack.0 (k.opened r opened) (k.drafted r 1 lack.0 lack.1).4)) lack.2)
 
-few_offers : (count n : ℕ) → n < unwrap_or (count_of count) 0 → n < count
+pub few_counted : (count n : ℕ) → n < unwrap_or (count_of count) 0 → n < count
 unfolding count_of
-few_offers count n h = by_case (Rattle.std.proofs.Math.Dec.leb count 8) h
+few_counted count n h = by_case (Rattle.std.proofs.Math.Dec.leb count 8) h
   where
     by_case : (b : Bool) → n < unwrap_or (cond b (Some count) None) 0 → n < count
     by_case true h = h
@@ -242,7 +242,7 @@ module _ {M : Type 0} where
       let o = chosen_there w.table.threads w.table.rows (cell_at w.table) (offer_at w.table) r j kept.linked e in
       let open_r = fresh_not_joined (cell_at w.table r) j e in
       let counted = count_there w.table r (length offers) open_r (k.drafted r 1 (length offers) draft.0).4 in
-      let below = few_offers (length offers) j.own (subst (λ (n : ℕ). j.own < n) counted (below_count w.table r j.own o.0 o.1)) in
+      let below = few_counted (length offers) j.own (subst (λ (n : ℕ). j.own < n) counted (below_count w.table r j.own o.0 o.1)) in
       let some = there (slice_get offers j.own) refl (Rattle.std.proofs.lemmas.Option.slice_get_cases offers j.own).1 below in
       (below, offer_there w.table v.seen.drafts r j.own some.0 kept.formed (λ p x h. (k.drafted r p x h).4) open_r (draft.1 j.own some.0 some.1) ∙ sym some.1)
     where

@@ -1,16 +1,17 @@
 -- The rule of the table is kept by a call that learns, and by a step of the protocol.
-use Rattle.std.proofs.Common.{slice_set, ◌⊎◌, ◌≡◌, ◌≢◌, ◌<◌, ◌≤◌, ℕ, zero, suc, Bool, cond, List, [], ◌∷◌, length, sym, refl, ap, ◌∙◌, subst, ⊎_elim, arith}
+use Rattle.std.proofs.Common.{slice_set, Option, inl, inr, ◌⊎◌, ◌≡◌, ◌≢◌, ◌<◌, ◌≤◌, ℕ, zero, suc, Bool, cond, List, [], ◌∷◌, length, sym, refl, ap, ◌∙◌, subst, ⊎_elim, arith}
 use Rattle.std.proofs.lemmas.Bool.{eq-eqb, ne_eqb}
 use Rattle.std.proofs.lemmas.List.{length-set}
-use mathlib.Core.Option.{Option, some}
+use mathlib.Core.Option.{Option as Maybe, some}
 use lib.ListN.{get_elem?}
 use Rattle.atomic_table.specs.Table.{State}
 use Rattle.atomic_table.proofs.Lists.{at_set}
 use Rattle.words.specs.declared.Seat.{Seat}
 use Rattle.words.specs.declared.Step.{Step}
+use Rattle.words.specs.declared.Step.TheVariants.{Open}
 use Rattle.words.specs.declared.Row.{Row}
 use Rattle.protocol.specs.Ledgers.{Ledger, ledger_of}
-use Rattle.protocol.specs.Standing.{AreResults, Result}
+use Rattle.protocol.specs.Standing.{AreResults, OpenedAs, Result, SomeStands, Stands}
 use Rattle.protocol.specs.Worlds.{World, start_world, Allowed, after_step}
 use Rattle.protocol.proofs.Onward.{grows-step}
 use Rattle.protocol.proofs.Standing.{results-stay}
@@ -23,13 +24,10 @@ use Rattle.cell.proofs.Truths.{coherent}
 use Rattle.protocol.specs.Kept.{Kept}
 use Rattle.protocol.proofs.Keeping.{kept_schedule}
 use Rattle.protocol.proofs.LedgerLemmas.{kept_start}
-use Rattle.cell.specs.Rule.{Interleaves, Keeps, Move, at_seat, in_order, steps_by}
+use Rattle.cell.specs.Rule.{Housed, Interleaves, IsToBegin, Keeps, Move, at_seat, in_order, steps_by}
+use Rattle.cell.proofs.Housing.{housed_step, housed_view}
 
 module _ {M : Type 0} where
-  -- the world of the rule is one that all steps keep
-  pub world_kept : {S : Type 0} (shape : Shape) (s : State S (View M)) (k : Keeps shape s) → Kept k.world
-  world_kept shape s k = kept_schedule _ k.world (in_order k.moves) (kept_start shape.threads shape.rows shape.passes k.few_threads k.few_rows) k.played
-
   -- what all views say of a world, one of them being new
   views_with : (vs : List (View M)) (id : ℕ) (w : View M) (world : World) (owner : Row → ℕ)
       → ((j : ℕ) (u : View M) → j ≢ id → get_elem? vs j ≡ some u → 0 < u.threads → Knows world owner j u)
@@ -86,21 +84,14 @@ module _ {M : Type 0} where
         ap (λ (b : Bool). cond b ((record { 0 = v.seat }, step) ∷ steps_by j moves) (steps_by j moves)) (ne_eqb id j (λ f. let g : id ≡ j = f in omega arith)) ∙ before.no_others j above;
   }
 
-  -- the table stays, and one pass knows more
-  pub keeps_view : {S : Type 0} (shape : Shape) (s : State S (View M)) (k : Keeps shape s) (id : ℕ) (v w : View M) (ws : List ℕ) (hs : List (Option S)) → get_elem? s.views id ≡ some v → w.seat ≡ v.seat → w.made ≡ v.made → w.results ≡ v.results
-      → ws ≡ s.words → Knows k.world k.owner id w → Keeps shape (record { words = ws; homes = hs; views = slice_set s.views id w })
-  keeps_view shape s k id v w ws hs view seat made seen same knows = record {
-    few_threads = k.few_threads;
-    few_rows = k.few_rows;
-    moves = k.moves;
-    interleaved = same_made k.moves s.views id v w view k.interleaved (λ i. at_seat (sym seat i) (sym made i));
-    world = k.world;
-    played = k.played;
-    table = k.table ∙ ap (λ (z : List ℕ). record { threads = shape.threads; rows = shape.rows; words = z }) (sym same);
-    owner = k.owner;
-    knows = views_with s.views id w k.world k.owner (λ j u n e t. k.knows j u e t) knows;
-    results = results_with s.views id w (ledger_of k.world.table) (λ j u t rs n e h. k.results j u t rs e h) (λ t rs h. k.results id v t rs view (subst (λ (l : List (ℕ × List Result)). Has l (t, rs)) seen h));
-  }
+  -- what all views have at first, one of them being new
+  pub firsts_with : (vs : List (View M)) (id : ℕ) (v w : View M) (first : List M) → get_elem? vs id ≡ some v → w.first ≡ v.first → 0 < v.threads
+      → ((j : ℕ) (u : View M) → get_elem? vs j ≡ some u → 0 < u.threads → u.first ≡ first)
+      → (j : ℕ) (u : View M) → get_elem? (slice_set vs id w) j ≡ some u → 0 < u.threads → u.first ≡ first
+  firsts_with vs id v w first view same at_table all j u e t = ⊎_elim
+      (λ (a : (j ≡ id) × (w ≡ u)). ap (λ (z : View M). z.first) (sym a.1) ∙ same ∙ all id v view at_table)
+      (λ (a : (j ≢ id) × (get_elem? vs j ≡ some u)). all j u a.1 t)
+      (at_set vs id j w u e)
 
   -- what a pass knows does not ask what it did
   pub knows_did : (world : World) (owner : Row → ℕ) (id : ℕ) (w : View M) (step : Step) → Knows world owner id w → Knows world owner id (did step w)
@@ -144,15 +135,48 @@ module _ {M : Type 0} where
     binds = k.binds;
   }
 
-  -- the protocol's step is made by the pass at its seat, and it knows more
-  pub keeps_step : {S : Type 0} (shape : Shape) (s : State S (View M)) (k : Keeps shape s) (id : ℕ) (v w : View M) (ws : List ℕ) (hs : List (Option S)) (owner : Row → ℕ) → get_elem? s.views id ≡ some v → w.seat ≡ v.seat → w.made ≡ v.made
+module _ {M : Type 0} (stands : Stands M) where
+  -- the world of the rule is one that all steps keep
+  pub world_kept : (shape : Shape M) (s : State (Option M) (View M)) (k : Keeps stands shape s) → Kept k.world
+  world_kept shape s k = kept_schedule _ k.world (in_order k.moves) (kept_start shape.threads shape.rows shape.passes k.few_threads k.few_rows) k.played
+
+  -- the table stays, and one pass knows more; what the slots hold then is given
+  pub keeps_seen : (shape : Shape M) (s : State (Option M) (View M)) (k : Keeps stands shape s) (id : ℕ) (v w : View M) (ws : List ℕ) (hs : List (Maybe (Option M))) → get_elem? s.views id ≡ some v → 0 < v.threads → w.seat ≡ v.seat → w.made ≡ v.made → w.results ≡ v.results → w.first ≡ v.first
+      → ws ≡ s.words → Knows k.world k.owner id w
+      → (0 < length shape.first.value.items → Housed stands shape.first.value.items k.world hs (slice_set s.views id w))
+      → Keeps stands shape (record { words = ws; homes = hs; views = slice_set s.views id w })
+  keeps_seen shape s k id v w ws hs view at_table seat made seen first same knows house = record {
+    few_threads = k.few_threads;
+    few_rows = k.few_rows;
+    moves = k.moves;
+    interleaved = same_made k.moves s.views id v w view k.interleaved (λ i. at_seat (sym seat i) (sym made i));
+    world = k.world;
+    played = k.played;
+    table = k.table ∙ ap (λ (z : List ℕ). record { threads = shape.threads; rows = shape.rows; words = z }) (sym same);
+    owner = k.owner;
+    knows = views_with s.views id w k.world k.owner (λ j u n e t. k.knows j u e t) knows;
+    firsts = firsts_with s.views id v w shape.first.value.items view first at_table k.firsts;
+    housed = house;
+    results = results_with s.views id w (ledger_of k.world.table) (λ j u t rs n e h. k.results j u t rs e h) (λ t rs h. k.results id v t rs view (subst (λ (l : List (ℕ × List Result)). Has l (t, rs)) seen h));
+  }
+
+  -- where the slots are as they were
+  pub keeps_view : (shape : Shape M) (s : State (Option M) (View M)) (k : Keeps stands shape s) (id : ℕ) (v w : View M) (ws : List ℕ) → get_elem? s.views id ≡ some v → 0 < v.threads → w.seat ≡ v.seat → w.made ≡ v.made → w.results ≡ v.results → w.first ≡ v.first
+      → ((r : Row) → IsToBegin w r → IsToBegin v r) → ws ≡ s.words → Knows k.world k.owner id w → Keeps stands shape (record { words = ws; homes = s.homes; views = slice_set s.views id w })
+  keeps_view shape s k id v w ws view at_table seat made seen first begins same knows =
+      keeps_seen shape s k id v w ws s.homes view at_table seat made seen first same knows
+      (λ some_first. housed_view stands shape.first.value.items k.world s.homes s.views id v w view at_table begins (k.housed some_first))
+
+  -- the protocol's step is made by the pass at its seat, and it knows more; what the slots hold then is given
+  pub keeps_housed : (shape : Shape M) (s : State (Option M) (View M)) (k : Keeps stands shape s) (id : ℕ) (v w : View M) (ws : List ℕ) (hs : List (Maybe (Option M))) (owner : Row → ℕ) → get_elem? s.views id ≡ some v → 0 < v.threads → w.seat ≡ v.seat → w.made ≡ v.made → w.first ≡ v.first
       → (step : Step) → Allowed k.world (record { 0 = v.seat }) step
       → ((t : ℕ) (rs : List Result) → Has w.results (t, rs) → Has v.results (t, rs) ⊎ AreResults (ledger_of (after_step k.world (record { 0 = v.seat }) step).table) t rs)
       → (after_step k.world (record { 0 = v.seat }) step).table ≡ record { threads = shape.threads; rows = shape.rows; words = ws }
       → ((j : ℕ) (u : View M) → j ≢ id → get_elem? s.views j ≡ some u → 0 < u.threads → Knows (after_step k.world (record { 0 = v.seat }) step) owner j u)
       → Knows (after_step k.world (record { 0 = v.seat }) step) owner id w
-      → Keeps shape (record { words = ws; homes = hs; views = slice_set s.views id (did step w) })
-  keeps_step shape s k id v w ws hs owner view seat made step allowed seen same others knows =
+      → (0 < length shape.first.value.items → Housed stands shape.first.value.items (after_step k.world (record { 0 = v.seat }) step) hs (slice_set s.views id (did step w)))
+      → Keeps stands shape (record { words = ws; homes = hs; views = slice_set s.views id (did step w) })
+  keeps_housed shape s k id v w ws hs owner view at_table seat made first step allowed seen same others knows house =
       let at : Seat = record { 0 = v.seat } in
       let kept = world_kept shape s k in
       let grows = grows-step k.world at step kept allowed in
@@ -168,17 +192,32 @@ module _ {M : Type 0} where
         table = same;
         owner = owner;
         knows = views_with s.views id (did step w) (after_step k.world at step) owner others (knows_did (after_step k.world at step) owner id w step knows);
+        firsts = firsts_with s.views id v (did step w) shape.first.value.items view first at_table k.firsts;
+        housed = house;
         results = results_with s.views id (did step w) (ledger_of (after_step k.world at step).table) (λ j u t rs n e h. stays j t u rs e h)
             (λ t rs h. ⊎_elim (λ (old : Has v.results (t, rs)). stays id t v rs view old) (λ (new : AreResults (ledger_of (after_step k.world at step).table) t rs). new) (seen t rs h));
       }
 
+  -- where the step opens no row, and leaves the slots as they are
+  pub keeps_step : (shape : Shape M) (s : State (Option M) (View M)) (k : Keeps stands shape s) (id : ℕ) (v w : View M) (ws : List ℕ) (owner : Row → ℕ) → get_elem? s.views id ≡ some v → 0 < v.threads → w.seat ≡ v.seat → w.made ≡ v.made → w.first ≡ v.first
+      → ((r : Row) → IsToBegin w r → IsToBegin v r)
+      → (step : Step) → ((r : Row) → step ≡ Open r → ⊥) → Allowed k.world (record { 0 = v.seat }) step
+      → ((t : ℕ) (rs : List Result) → Has w.results (t, rs) → Has v.results (t, rs) ⊎ AreResults (ledger_of (after_step k.world (record { 0 = v.seat }) step).table) t rs)
+      → (after_step k.world (record { 0 = v.seat }) step).table ≡ record { threads = shape.threads; rows = shape.rows; words = ws }
+      → ((j : ℕ) (u : View M) → j ≢ id → get_elem? s.views j ≡ some u → 0 < u.threads → Knows (after_step k.world (record { 0 = v.seat }) step) owner j u)
+      → Knows (after_step k.world (record { 0 = v.seat }) step) owner id w
+      → Keeps stands shape (record { words = ws; homes = s.homes; views = slice_set s.views id (did step w) })
+  keeps_step shape s k id v w ws owner view at_table seat made first begins step opens_none allowed seen same others knows =
+      keeps_housed shape s k id v w ws s.homes owner view at_table seat made first step allowed seen same others knows
+      (λ some_first. housed_step stands shape.first.value.items k.world (record { 0 = v.seat }) step s.homes s.views id v (did step w) (world_kept shape s k) allowed opens_none view at_table begins (k.housed some_first))
+
   -- WHAT A PASS HAS SEEN agrees with itself, at any moment
-  pub pass_coherent : {S : Type 0} (shape : Shape) (s : State S (View M)) (k : Keeps shape s) (id : ℕ) (v : View M) → get_elem? s.views id ≡ some v → 0 < v.threads → Coherent v.threads v.rows v.seen
+  pub pass_coherent : (shape : Shape M) (s : State (Option M) (View M)) (k : Keeps stands shape s) (id : ℕ) (v : View M) → get_elem? s.views id ≡ some v → 0 < v.threads → Coherent v.threads v.rows v.seen
   pass_coherent shape s k id v view at_table = coherent k.world k.owner id v (k.knows id v view at_table) (world_kept shape s k)
 
   -- and so does what the pass that moved has seen since
-  pub moved_coherent : {S : Type 0} (shape : Shape) (vs : List (View M)) (ws : List ℕ) (hs : List (Option S)) (id : ℕ) (v w : View M) → get_elem? vs id ≡ some v → w.threads ≡ v.threads → 0 < v.threads
-      → Keeps {S = S} shape (record { words = ws; homes = hs; views = slice_set vs id w }) → Coherent w.threads w.rows w.seen
+  pub moved_coherent : (shape : Shape M) (vs : List (View M)) (ws : List ℕ) (hs : List (Maybe (Option M))) (id : ℕ) (v w : View M) → get_elem? vs id ≡ some v → w.threads ≡ v.threads → 0 < v.threads
+      → Keeps stands shape (record { words = ws; homes = hs; views = slice_set vs id w }) → Coherent w.threads w.rows w.seen
   moved_coherent shape vs ws hs id v w view size at_table k =
       pass_coherent shape (record { words = ws; homes = hs; views = slice_set vs id w }) k id w (get_set vs id w (below_views vs id v view)) (subst (λ (n : ℕ). 0 < n) (sym size) at_table)
     where

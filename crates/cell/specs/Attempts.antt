@@ -1,5 +1,5 @@
 -- What the answers of an attempt mean.
-use Rattle.std.specs.Prelude.{◌≡◌, ◌≢◌, ◌⊎◌, ◌↔◌, ◌≤◌, ℕ, Bool, true, false, Option, Some, None, List, ◌∷◌, ◌++◌, ◌+◌, length}
+use Rattle.std.specs.Prelude.{◌≡◌, ◌≢◌, ◌⊎◌, ◌↔◌, ◌<◌, ◌≤◌, ℕ, Bool, true, false, Option, Some, None, List, ◌∷◌, ◌++◌, ◌+◌, length}
 use Rattle.words.specs.declared.Base.TheVariants.{OnNack}
 use Rattle.words.specs.declared.Direction.{Direction}
 use Rattle.words.specs.declared.NackName.{NackName}
@@ -9,7 +9,7 @@ use Rattle.words.specs.declared.Offer.{Offer}
 use Rattle.words.specs.declared.Row.{Row}
 use Rattle.words.specs.declared.Step.{Step}
 use Rattle.words.specs.declared.Step.TheVariants.{Bind, Claim, Draft, Grant as GrantRow, Join, Seal, Take, Yield}
-use Rattle.protocol.specs.Standing.{Result}
+use Rattle.protocol.specs.Standing.{Result, Stands}
 use Rattle.protocol.specs.Tables.{bound_row, next_row, offers_meet}
 use Rattle.protocol.specs.Worlds.{nack_of_row}
 use Rattle.cell.specs.declared.view.Seen.{Seen}
@@ -19,6 +19,7 @@ use Rattle.cell.specs.declared.granting.Grant.{Grant}
 use Rattle.cell.specs.declared.granting.Grant.TheVariants.{Given, NotEnabled, Late}
 use Rattle.cell.specs.Sight.{Adds, Has, SeesDirection, SeesOffer, SawCommitted, directions_meet, IsBefore, see_bound, see_next}
 use Rattle.cell.specs.Nacks.{CanGrant, CanStandAlone}
+use Rattle.cell.specs.Told.{ComesOut, IsEarlier}
 
 -- the rows of two threads, the heads of whose two offers were seen, and are of a send and a receive on one channel
 abbrev pub CanMeet : Seen → Row → ℕ → Row → ℕ → Type 0
@@ -107,6 +108,15 @@ abbrev pub ResultsTold : Row → Option Joined → List (ℕ × List Result) →
 ResultsTold r (Some j) before after = (results : List Result) × (length results ≡ r.sync + 1) × (after ≡ (r.thread, results) ∷ before)
 ResultsTold r None before after = after ≡ before
 
+-- What stands for the row's thread came out with the row: it is still to be given the last of the results that the pass has now.
+abbrev pub Hands : {M : Type 0} → Stands M → List M → Seen → Row → Option Joined → List (ℕ × List Result) → List (ℕ × Option M) → List (ℕ × Option M) → Type 0
+Hands stands first seen r (Some j) results before after = (told : List Result) × Has results (r.thread, told) × (length told ≡ r.sync + 1) × ComesOut stands first seen r j.own told before after
+Hands stands first seen r None results before after = after ≡ before
+
+-- where the nack is bound instead: to this row, or to an earlier one of its thread, as a scope's of that row
+abbrev pub BoundBefore : {M : Type 0} → Stands M → List M → List (ℕ × List Result) → Seen → ℕ → Row → Type 0
+BoundBefore stands first results s k r = (b : Binding) × Has s.bound (nack_of_row r k, b) × ((b.sync < r.sync) → IsEarlier stands first results (nack_of_row r k) b)
+
 -- The pass took the row, committed so: it holds the thread's next row from now on, if there is one, which has no offers
 -- and is not opened, and it has seen nothing else anew but of the row.
 pub record Took (rows : ℕ) (before after : Seen) (r : Row) (j : Joined) : Type 0 where
@@ -116,11 +126,14 @@ pub record Took (rows : ℕ) (before after : Seen) (r : Row) (j : Joined) : Type
   pub held : after.held ≡ (see_next rows r before).held
   pub drafts : after.drafts ≡ (see_next rows r before).drafts
   pub next : ¬ Has after.opened (next_row r)
+  -- no nack is bound to it either
+  pub free : (n : NackName) (b : Binding) → Has after.bound (n, b) → bound_row n b ≢ next_row r
   pub opened : Adds (λ q. q ≡ r) before.opened after.opened
   pub words : after.words ≡ before.words
   pub joins : Adds (λ q. q.0 ≡ r) before.joined after.joined
   pub takes : Adds (λ q. q ≡ r) before.taken after.taken
   pub bound : after.bound ≡ before.bound
+  pub begun : after.begun ≡ before.begun
 
 -- The answer of a bind. True: the pass had not seen the nack bound, and has now seen it bound to this row and scope.
 -- False: it has now seen where the nack is bound: to this row, as it had seen before, or to an earlier one. Nothing else is new.

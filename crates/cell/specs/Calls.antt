@@ -1,36 +1,81 @@
 -- The table and a pass, as callers see them.
-use Rattle.std.specs.Prelude.{◌≡◌, ℕ, ◌<◌, List}
+use Rattle.std.specs.Prelude.{◌≡◌, ℕ, ◌<◌, zero, suc, List, ◌∷◌, Option, Some, None, length, slice_get}
 use Rattle.atomic_table.specs.Seated.{TableId}
+use Rattle.atomic_table.specs.Table.{rest}
 use Rattle.words.specs.declared.NackName.{NackName}
 use Rattle.words.specs.declared.Row.{Row}
 use Rattle.words.specs.declared.Step.{Step}
-use Rattle.protocol.specs.Standing.{Result}
+use Rattle.protocol.specs.Standing.{Result, Stands}
+use Rattle.protocol.specs.declared.resident.Bare.{Bare}
 use Rattle.cell.specs.declared.view.Seen.{Seen}
-use Rattle.cell.specs.Sight.{Coherent}
+use Rattle.cell.specs.Rule.{IsReady}
+use Rattle.cell.specs.Sight.{Coherent, Has, see_begun}
 
--- which table it is, and its size
-pub record Grid : Type 0 where
+-- which table it is, its size, and what stood for its threads at first, thread by thread; none in a table of no machines
+pub record GridOf (M : Type 0) : Type 0 where
   pub id : TableId
   pub threads : ℕ
   pub rows : ℕ
   pub passes : ℕ
+  pub first : List M
 
 -- of which table a pass is, what it has seen, and the steps of the protocol that it has made, the last one first
-pub record PassView : Type 0 where
-  pub of : Grid
+pub record PassOf (M : Type 0) : Type 0 where
+  pub of : GridOf M
   pub seen : Seen
   pub made : List Step
   -- of a thread, the results of its first rows, once the pass has taken one of them or was told so
   pub results : List (ℕ × List Result)
+  -- the threads whose slots are out with the pass, the last one first, and what lies in each: none where it was fetched
+  pub out : List (ℕ × Option M)
 
--- the pass is one of this table's, and what it has seen agrees with itself
-abbrev pub IsPassOf : Grid → PassView → Type 0
-IsPassOf g p = (p.of.id ≡ g.id) × (p.of.threads ≡ g.threads) × (p.of.rows ≡ g.rows) × (p.of.passes ≡ g.passes) × Coherent g.threads g.rows p.seen
+-- those of a table of no machines
+abbrev pub Grid : Type 0
+Grid = GridOf Bare
 
--- the table has the row
-abbrev pub IsRowOf : Grid → Row → Type 0
-IsRowOf g r = (r.thread < g.threads) × (r.sync < g.rows)
+abbrev pub PassView : Type 0
+PassView = PassOf Bare
 
--- the table has the nack
-abbrev pub IsNackOf : Grid → NackName → Type 0
-IsNackOf g n = (n.thread < g.threads) × (n.k < 64)
+module _ {M : Type 0} where
+  -- the pass is one of this table's, and what it has seen agrees with itself
+  abbrev pub IsPassOf : GridOf M → PassOf M → Type 0
+  IsPassOf g p = (p.of.id ≡ g.id) × (p.of.threads ≡ g.threads) × (p.of.rows ≡ g.rows) × (p.of.passes ≡ g.passes) × Coherent g.threads g.rows p.seen × (p.of.first ≡ g.first)
+
+  -- the table has the row
+  abbrev pub IsRowOf : GridOf M → Row → Type 0
+  IsRowOf g r = (r.thread < g.threads) × (r.sync < g.rows)
+
+  -- the table has the nack
+  abbrev pub IsNackOf : GridOf M → NackName → Type 0
+  IsNackOf g n = (n.thread < g.threads) × (n.k < 64)
+
+  -- it is a table of machines
+  abbrev pub IsHousing : GridOf M → Type 0
+  IsHousing g = 0 < length g.first
+
+  -- MACHINES: the slot that came out last is the row's thread's, and holds this
+  abbrev pub Holds : PassOf M → Row → Option M → Type 0
+  Holds p r value = p.out ≡ (r.thread, value) ∷ rest p.out
+
+  -- What may be fetched: for the first row of a thread what stood for it at first, unless this pass has fetched it; for
+  -- another what came out with the row before, if that was taken last.
+  abbrev pub CanFetchAt : GridOf M → PassOf M → Row → ℕ → Type 0
+  CanFetchAt g p r zero = IsHousing g × (¬ Has p.seen.begun r)
+  CanFetchAt g p r (suc sync) = (value : M) × Holds p r (Some value)
+
+  abbrev pub CanFetch : GridOf M → PassOf M → Row → Type 0
+  CanFetch g p r = CanFetchAt g p r r.sync
+
+  -- what was fetched, and what is left
+  abbrev pub FetchedAt : GridOf M → PassOf M → PassOf M → Row → M → ℕ → Type 0
+  FetchedAt g before after r value zero =
+      (slice_get g.first r.thread ≡ Some value) × (after.seen ≡ see_begun r before.seen) × (after.out ≡ (r.thread, None) ∷ before.out)
+  FetchedAt g before after r value (suc sync) =
+      Holds before r (Some value) × (after.seen ≡ before.seen) × (after.out ≡ (r.thread, None) ∷ rest before.out)
+
+  abbrev pub Fetched : GridOf M → PassOf M → PassOf M → Row → M → Type 0
+  Fetched g before after r value = FetchedAt g before after r value r.sync
+
+  -- in a table of machines the row's machine is parked, stands where its thread's results lead, and offers what was drafted for the row
+  abbrev pub IsParked : Stands M → GridOf M → PassOf M → Row → Type 0
+  IsParked stands g p r = IsHousing g → (value : M) × Holds p r (Some value) × IsReady stands g.first p.results p.seen r value

@@ -1,6 +1,6 @@
 -- The rule of the shared table.
-use Rattle.std.specs.Prelude.{◌≡◌, ℕ, zero, suc, ◌+◌, ◌%◌, ◌≤◌, ◌==◌, ◌<◌, ◌||◌, Bool, false, if◌then◌else◌, List, [], ◌∷◌, ◌++◌, length}
-use mathlib.Core.Option.{some}
+use Rattle.std.specs.Prelude.{◌≡◌, ◌⊎◌, ℕ, zero, suc, ◌+◌, ◌%◌, ◌≤◌, ◌==◌, ◌<◌, ◌||◌, Bool, true, false, if◌then◌else◌, List, [], ◌∷◌, ◌++◌, length, Option, Some, slice_get}
+use mathlib.Core.Option.{Option as Maybe, some}
 use lib.ListN.{get_elem?}
 use Rattle.atomic_table.specs.Table.{State}
 use Rattle.words.specs.declared.Row.{Row}
@@ -9,13 +9,14 @@ use Rattle.words.specs.declared.Step.{Step}
 use Rattle.cell.specs.declared.view.View.{View}
 use Rattle.cell.specs.declared.view.Shape.{Shape}
 use Rattle.cell.specs.declared.view.Stage.TheVariants.{Resting}
-use Rattle.protocol.specs.Ledgers.{ledger_of}
-use Rattle.protocol.specs.Standing.{AreResults, Result}
-use Rattle.protocol.specs.Worlds.{World, start_world, Plays}
+use Rattle.words.specs.declared.Offer.{Offer}
+use Rattle.protocol.specs.Ledgers.{Ledger, ledger_of}
+use Rattle.protocol.specs.Standing.{AreResults, EachStands, OffersAs, Result, SomeStands, Stands, binding_of}
+use Rattle.protocol.specs.Worlds.{World, start_world, Plays, nack_of_row}
 use Rattle.cell.specs.declared.view.Seen.{Seen}
-use Rattle.cell.specs.Sight.{Has}
+use Rattle.cell.specs.Sight.{Has, IsDraft}
 use Rattle.cell.specs.Views.{Knows, first_row, at_stage, with_results}
-use Rattle.protocol.specs.Tables.{Table, row_eq}
+use Rattle.protocol.specs.Tables.{Table, cell_at, is_fresh, is_taken, row_eq}
 
 -- One change of the table: which pass made it, at which seat, by which step of the protocol.
 pub record Move : Type 0 where
@@ -45,12 +46,55 @@ module _ {M : Type 0} where
     pub no_others : (id : ℕ) → length views ≤ id → steps_by id moves ≡ []
 
   -- the words at this moment, as a table
-  abbrev pub table_of : {S : Type 0} → Shape → State S (View M) → Table
+  abbrev pub table_of : {S : Type 0} → Shape M → State S (View M) → Table
   table_of shape s = record { threads = shape.threads; rows = shape.rows; words = s.words }
+
+-- WHAT STANDS FOR THE THREADS, in a table of machines: it lies in the thread's slot, which is out with a pass from when that takes
+-- the thread's row to when it opens the next
+module _ {M : Type 0} where
+  -- the pass is to begin with the row: it is the first of a thread, which the pass holds or is to deal, and has not begun with
+  abbrev pub IsToBegin : View M → Row → Type 0
+  IsToBegin v r = (r.sync ≡ 0) × (Has v.seen.held r ⊎ ((r.thread < v.threads) × (v.dealt ≤ r.thread % v.passes))) × (¬ Has v.seen.begun r)
+
+  -- then what stood for the thread at first is at home
+  pub record Waits (first : List M) (w : World) (homes : List (Maybe (Option M))) (r : Row) : Type 0 where
+    pub fresh : is_fresh (cell_at w.table r) ≡ true
+    pub value : M
+    pub is_first : slice_get first r.thread ≡ Some value
+    pub home : get_elem? homes r.thread ≡ some (some (Some value))
+
+module _ {M : Type 0} (stands : Stands M) where
+  -- The value is at home, and the row offers what it offers after the results of the rows before.
+  pub record IsHome (first : List M) (l : Ledger) (homes : List (Maybe (Option M))) (r : Row) : Type 0 where
+    pub value : M
+    pub home : get_elem? homes r.thread ≡ some (some (Some value))
+    pub offers : OffersAs (stands first value) l r
+
+  pub record Housed (first : List M) (w : World) (homes : List (Maybe (Option M))) (views : List (View M)) : Type 0 where
+    -- each opened row offers what somebody offers who stands for its thread after the results of the rows before, and has his nacks
+    pub rows : EachStands (SomeStands stands first) w.table
+    -- and he is at home until the row is taken
+    pub at_home : (r : Row) → is_fresh (cell_at w.table r) ≡ false → is_taken (cell_at w.table r) ≡ false → IsHome first (ledger_of w.table) homes r
+    pub waiting : (id : ℕ) (v : View M) (r : Row) → get_elem? views id ≡ some v → 0 < v.threads → IsToBegin v r → Waits first w homes r
+
+  -- The value stands for the row's thread after the results of the rows before, as the pass has them; its offers are drafted for the
+  -- row, and its nacks, and no others, are bound to it.
+  pub record IsReady (first : List M) (results : List (ℕ × List Result)) (s : Seen) (r : Row) (value : M) : Type 0 where
+    pub earlier : List Result
+    pub count : length earlier ≡ r.sync
+    pub seen : (earlier ≡ []) ⊎ Has results (r.thread, earlier)
+    pub offers : List Offer
+    pub nacks : List ℕ
+    pub standing : stands first value r.thread earlier offers nacks
+    pub drafted : IsDraft s r offers
+    pub bound : (scope k : ℕ) → slice_get nacks scope ≡ Some k → Has s.bound (nack_of_row r k, binding_of r scope)
+    pub no_others : (scope k : ℕ) → Has s.bound (nack_of_row r k, binding_of r scope) → slice_get nacks scope ≡ Some k
+    -- the pass has begun with the thread
+    pub begun : r.sync ≡ 0 → Has s.begun r
 
   -- The history is the passes' steps interleaved, and leads from the start to the words as they stand. What each pass has
   -- seen is true of the world that the history leads to. Nothing else ever happens to the table.
-  pub record Keeps {S : Type 0} (shape : Shape) (s : State S (View M)) : Type 0 where
+  pub record Keeps (shape : Shape M) (s : State (Option M) (View M)) : Type 0 where
     pub few_threads : shape.threads ≤ 64
     pub few_rows : shape.rows ≤ 1024
     pub moves : List Move
@@ -61,9 +105,14 @@ module _ {M : Type 0} where
     pub owner : Row → ℕ
     -- a pass that is of no table any more knows nothing
     pub knows : (id : ℕ) (v : View M) → get_elem? s.views id ≡ some v → 0 < v.threads → Knows world owner id v
+    -- a pass knows what stood for the threads at first
+    pub firsts : (id : ℕ) (v : View M) → get_elem? s.views id ≡ some v → 0 < v.threads → v.first ≡ shape.first.value.items
+    -- in a table of machines
+    pub housed : 0 < length shape.first.value.items → Housed shape.first.value.items world s.homes s.views
     -- the results that a pass has seen are results of the rows
     pub results : (id : ℕ) (v : View M) (t : ℕ) (rs : List Result) → get_elem? s.views id ≡ some v → Has v.results (t, rs) → AreResults (ledger_of world.table) t rs
 
+module _ {M : Type 0} where
   -- the pass with this number is of the table, and knows this
   abbrev pub IsAt : {S : Type 0} → State S (View M) → ℕ → View M → Type 0
   IsAt s id v = (get_elem? s.views id ≡ some v) × (0 < v.threads)
@@ -75,12 +124,12 @@ no_offers (r ∷ rs) = (r, 1, 0) ∷ no_offers rs
 
 -- a pass that holds these rows and has seen nothing
 abbrev pub seen_nothing : List Row → Seen
-seen_nothing rows = record { held = rows; drafts = no_offers rows; opened = []; words = []; joined = []; taken = []; bound = [] }
+seen_nothing rows = record { held = rows; drafts = no_offers rows; opened = []; words = []; joined = []; taken = []; bound = []; begun = [] }
 
 module _ {M : Type 0} where
   -- the first pass: it has dealt the seats below this one, and holds nothing itself
-  abbrev pub dealer : Shape → ℕ → View M
-  dealer shape k = record { threads = shape.threads; rows = shape.rows; passes = shape.passes; first = []; results = []; dealt = k; seat = 0; stage = Resting; seen = seen_nothing []; made = [] }
+  abbrev pub dealer : Shape M → ℕ → View M
+  dealer shape k = record { threads = shape.threads; rows = shape.rows; passes = shape.passes; first = shape.first.value.items; results = []; dealt = k; seat = 0; stage = Resting; seen = seen_nothing []; made = [] }
 
 -- the first rows of the threads below this one that fall to seat k
 abbrev pub dealt_rows : ℕ → ℕ → ℕ → List Row
@@ -120,7 +169,7 @@ drafts_of rows (d ∷ ds) = if is_among rows d.0 then d ∷ drafts_of rows ds el
 
 -- what is told: all that was seen, and the words drafted for opened rows, but no row is handed over
 abbrev pub told_of : Seen → Seen
-told_of s = record { held = []; drafts = []; opened = s.opened; words = s.words ++ drafts_of s.opened s.drafts; joined = s.joined; taken = s.taken; bound = s.bound }
+told_of s = record { held = []; drafts = []; opened = s.opened; words = s.words ++ drafts_of s.opened s.drafts; joined = s.joined; taken = s.taken; bound = s.bound; begun = [] }
 
 -- what a pass has seen once it was told this
 abbrev pub heard : Seen → Seen → Seen
@@ -132,6 +181,7 @@ heard s told = record {
   joined = s.joined ++ told.joined;
   taken = s.taken ++ told.taken;
   bound = s.bound ++ told.bound;
+  begun = s.begun;
 }
 
 module _ {M : Type 0} where

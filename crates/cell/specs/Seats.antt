@@ -11,11 +11,15 @@ use Rattle.cell.specs.Told.{Inside, InsideNack}
 module _ {M : Type 0} where
   -- the seat is one of this table's, its pass knows the table's size, and what it has seen agrees with itself
   abbrev pub Sits : Board M → Seat (Option M) (View M) → Type 0
-  Sits b s = (s.table_id ≡ b.words.shared.table_id) × (s.me.0.threads ≡ b.shape.threads) × (s.me.0.rows ≡ b.shape.rows) × Coherent b.shape.threads b.shape.rows s.me.0.seen
+  Sits b s = (s.table_id ≡ b.words.shared.table_id) × (s.me.0.threads ≡ b.shape.threads) × (s.me.0.rows ≡ b.shape.rows) × Coherent b.shape.threads b.shape.rows s.me.0.seen × (s.me.0.first ≡ b.shape.first.value.items)
 
   -- the pass is the same one after a call, and still sits at the table
+  abbrev pub StaysAtTable : Board M → Seat (Option M) (View M) → Seat (Option M) (View M) → Type 0
+  StaysAtTable b before after = (after.id ≡ before.id) × Sits b after
+
+  -- and the same slots are out with it
   abbrev pub StaysSeated : Board M → Seat (Option M) (View M) → Seat (Option M) (View M) → Type 0
-  StaysSeated b before after = (after.id ≡ before.id) × Sits b after
+  StaysSeated b before after = (after.id ≡ before.id) × Sits b after × (after.me.1 ≡ before.me.1)
 
 -- the table has the row
 abbrev pub HasRow : {M : Type 0} → Board M → Row → Type 0

@@ -27,19 +27,19 @@ Has (y ∷ ys) x = (y ≡ x) ⊎ Has ys x
 
 -- the row was seen opened
 abbrev pub see_opened : Row → Seen → Seen
-see_opened r s = record { held = s.held; drafts = s.drafts; opened = r ∷ s.opened; words = s.words; joined = s.joined; taken = s.taken; bound = s.bound }
+see_opened r s = record { held = s.held; drafts = s.drafts; opened = r ∷ s.opened; words = s.words; joined = s.joined; taken = s.taken; bound = s.bound; begun = s.begun }
 
 -- the row's cell was seen
 abbrev pub see_cell : Row → Cell → Seen → Seen
 see_cell r Fresh s = s
 see_cell r Waiting s = see_opened r s
 see_cell r Claimed s = see_opened r s
-see_cell r (Synched j) s = record { held = s.held; drafts = s.drafts; opened = r ∷ s.opened; words = s.words; joined = (r, j) ∷ s.joined; taken = s.taken; bound = s.bound }
-see_cell r (Taken j) s = record { held = s.held; drafts = s.drafts; opened = r ∷ s.opened; words = s.words; joined = (r, j) ∷ s.joined; taken = r ∷ s.taken; bound = s.bound }
+see_cell r (Synched j) s = record { held = s.held; drafts = s.drafts; opened = r ∷ s.opened; words = s.words; joined = (r, j) ∷ s.joined; taken = s.taken; bound = s.bound; begun = s.begun }
+see_cell r (Taken j) s = record { held = s.held; drafts = s.drafts; opened = r ∷ s.opened; words = s.words; joined = (r, j) ∷ s.joined; taken = r ∷ s.taken; bound = s.bound; begun = s.begun }
 
 -- a word of an opened row was read
 abbrev pub see_word : Row → ℕ → ℕ → Seen → Seen
-see_word r p x s = record { held = s.held; drafts = s.drafts; opened = s.opened; words = (r, p, x) ∷ s.words; joined = s.joined; taken = s.taken; bound = s.bound }
+see_word r p x s = record { held = s.held; drafts = s.drafts; opened = s.opened; words = (r, p, x) ∷ s.words; joined = s.joined; taken = s.taken; bound = s.bound; begun = s.begun }
 
 -- a word of a held Fresh row was drafted: what was drafted there before is gone
 abbrev pub without : Row → ℕ → List (Row × ℕ × ℕ) → List (Row × ℕ × ℕ)
@@ -47,18 +47,22 @@ without r p [] = []
 without r p (d ∷ ds) = if row_eq d.0 r && (d.1 == p) then without r p ds else d ∷ without r p ds
 
 abbrev pub see_draft : Row → ℕ → ℕ → Seen → Seen
-see_draft r p x s = record { held = s.held; drafts = (r, p, x) ∷ without r p s.drafts; opened = s.opened; words = s.words; joined = s.joined; taken = s.taken; bound = s.bound }
+see_draft r p x s = record { held = s.held; drafts = (r, p, x) ∷ without r p s.drafts; opened = s.opened; words = s.words; joined = s.joined; taken = s.taken; bound = s.bound; begun = s.begun }
 
 -- the row was taken by the pass, which holds the thread's next row from then on, if there is one: a Fresh row
 abbrev pub see_next : ℕ → Row → Seen → Seen
 see_next rows r s =
     if nat_lt (r.sync + 1) rows
-    then record { held = next_row r ∷ s.held; drafts = (next_row r, 1, 0) ∷ s.drafts; opened = s.opened; words = s.words; joined = s.joined; taken = s.taken; bound = s.bound }
+    then record { held = next_row r ∷ s.held; drafts = (next_row r, 1, 0) ∷ s.drafts; opened = s.opened; words = s.words; joined = s.joined; taken = s.taken; bound = s.bound; begun = s.begun }
     else s
 
 -- the nack was seen bound so
 abbrev pub see_bound : NackName → Binding → Seen → Seen
-see_bound n b s = record { held = s.held; drafts = s.drafts; opened = s.opened; words = s.words; joined = s.joined; taken = s.taken; bound = (n, b) ∷ s.bound }
+see_bound n b s = record { held = s.held; drafts = s.drafts; opened = s.opened; words = s.words; joined = s.joined; taken = s.taken; bound = (n, b) ∷ s.bound; begun = s.begun }
+
+-- what stood for the thread of this first row at first was fetched
+abbrev pub see_begun : Row → Seen → Seen
+see_begun r s = record { held = s.held; drafts = s.drafts; opened = s.opened; words = s.words; joined = s.joined; taken = s.taken; bound = s.bound; begun = r ∷ s.begun }
 
 -- nothing is lost, and what is new is of rows such as these
 abbrev pub Adds : {A : Type 0} → (A → Type 0) → List A → List A → Type 0
@@ -73,6 +77,7 @@ pub record LearnsOf (About : Row → Type 0) (Nacks : NackName → Type 0) (s t 
   pub joined : Adds (λ x. About x.0) s.joined t.joined
   pub taken : Adds About s.taken t.taken
   pub bound : Adds (λ x. Nacks x.0) s.bound t.bound
+  pub begun : t.begun ≡ s.begun
 
 -- what is new is of such rows, and of no nack
 abbrev pub Learns : (Row → Type 0) → Seen → Seen → Type 0
@@ -86,6 +91,7 @@ pub record Redrafts (Where : Row → ℕ → Type 0) (s t : Seen) : Type 0 where
   pub joined : t.joined ≡ s.joined
   pub taken : t.taken ≡ s.taken
   pub bound : t.bound ≡ s.bound
+  pub begun : t.begun ≡ s.begun
   pub kept : (r : Row) (p x : ℕ) → ¬ Where r p → Has s.drafts (r, p, x) → Has t.drafts (r, p, x)
   pub only : (r : Row) (p x : ℕ) → ¬ Where r p → Has t.drafts (r, p, x) → Has s.drafts (r, p, x)
 

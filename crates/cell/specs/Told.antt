@@ -1,6 +1,6 @@
 -- What a step tells the pass that makes it: its view after, by the word that it found.
-use Rattle.std.specs.Prelude.{◌≡◌, ◌≢◌, ℕ, ◌+◌, List, length, ◌<◌, ◌≤◌, true, is_some, unwrap_or, Option, Some, None}
-use Rattle.atomic_table.specs.Table.{Step, Me}
+use Rattle.std.specs.Prelude.{◌≡◌, ◌≢◌, ℕ, ◌+◌, List, [], ◌∷◌, length, take, ◌<◌, ◌≤◌, true, is_some, unwrap_or, Option, Some, None, slice_get}
+use Rattle.atomic_table.specs.Table.{Step, Me, rest}
 use Rattle.words.specs.declared.Step.TheVariants.{Open, Claim, Yield, Join, Seal, Grant, Take}
 use Rattle.words.specs.Words.{cell_word, cell_of, nack_word, nack_of, IsBindingInRange, IsJoinedInRange}
 use Rattle.words.specs.declared.NackName.{NackName}
@@ -9,12 +9,15 @@ use Rattle.words.specs.declared.Row.{Row}
 use Rattle.words.specs.declared.Joined.{Joined}
 use Rattle.words.specs.declared.Cell.{Cell}
 use Rattle.words.specs.declared.Cell.TheVariants.{Fresh, Waiting, Claimed, Synched, Taken}
-use Rattle.protocol.specs.Standing.{Result}
+use Rattle.words.specs.declared.Message.{Message}
+use Rattle.words.specs.declared.Offer.{Offer}
+use Rattle.protocol.specs.Standing.{IsLeft, Result, Stands}
 use Rattle.protocol.specs.Tables.{bound_row, nack_place, place_of, next_row}
 use Rattle.cell.specs.declared.view.View.{View}
 use Rattle.cell.specs.declared.view.Stage.TheVariants.{Resting, Claims, Joins}
-use Rattle.cell.specs.Sight.{Has, IsExpected, Coherent}
-use Rattle.cell.specs.Views.{IsClaimer, bind_of, bound_nack, did, saw, saw_nack, took_with, read_word, turned, word_drafted}
+use Rattle.cell.specs.declared.view.Seen.{Seen}
+use Rattle.cell.specs.Sight.{Has, IsExpected, IsResult, Coherent, see_begun}
+use Rattle.cell.specs.Views.{IsClaimer, at_stage, bind_of, bound_nack, did, saw, saw_nack, took_with, read_word, turned, word_drafted}
 
 -- the table has the row
 abbrev pub Inside : ℕ → ℕ → Row → Type 0
@@ -65,9 +68,21 @@ module _ {M : Type 0} where
   abbrev pub drafted : {S : Type 0} → Step S → Me S (View M) → ℕ → Me S (View M) → Type 0
   drafted st m n w = (r : Row) (p : ℕ) → p < 34 → At st m r p → (w ≡ (word_drafted r p n m.0, m.1)) × AgreesWithItself w.0
 
+  -- the slot that came out last goes home, in a table that has slots
+  abbrev pub GoesHome : {S : Type 0} → List M → List (ℕ × S) → List (ℕ × S) → Type 0
+  GoesHome first before after = (length first ≡ 0 → after ≡ before) × (0 < length first → after ≡ rest before)
+
   -- the row is Waiting now, and the call rests: the row is opened, or given up
   abbrev pub opened : {S : Type 0} → Step S → Me S (View M) → ℕ → Me S (View M) → Type 0
-  opened st m n w = (r : Row) → At st m r 0 → (w ≡ (did (Open r) (turned Resting r m.0), m.1)) × AgreesWithItself w.0
+  opened st m n w = (r : Row) → At st m r 0 → (w.0 ≡ did (Open r) (turned Resting r m.0)) × GoesHome m.0.first m.1 w.1 × AgreesWithItself w.0
+
+  -- what stood for the row's thread at first came out of its slot
+  abbrev pub began : Row → View M → View M
+  began r v = at_stage v.stage (see_begun r v.seen) v
+
+  abbrev pub has_begun : Step (Option M) → Me (Option M) (View M) → ℕ → Me (Option M) (View M) → Type 0
+  has_begun st m n w = (r : Row) → At st m r 0
+      → (value : M) × (slice_get m.0.first r.thread ≡ Some value) × (w ≡ (began r m.0, (r.thread, Some value) ∷ m.1)) × AgreesWithItself w.0
 
   abbrev pub yielded : {S : Type 0} → Step S → Me S (View M) → ℕ → Me S (View M) → Type 0
   yielded st m n w = (r : Row) → At st m r 0 → (w ≡ (did (Yield r) (turned Resting r m.0), m.1)) × AgreesWithItself w.0
@@ -102,10 +117,17 @@ module _ {M : Type 0} where
   granted st m n w = (r : Row) (j : Joined) → m.0.stage ≡ Resting → At st m r 0 → IsJoinedInRange j → st.second ≡ cell_word (Synched j)
       → (n ≡ cell_word Waiting → (w ≡ (did (Grant r j.own) (settled r j m.0), m.1)) × Agrees m.0 r Waiting) × (n ≢ cell_word Waiting → finds m r n w) × AgreesWithItself w.0
 
+  -- The value of the row's thread comes out with the row, in a table that has slots. It is still to be given the last of the
+  -- results: that of the row, with the message that the row gets.
+  abbrev pub ComesOut : Stands M → List M → Seen → Row → ℕ → List Result → List (ℕ × Option M) → List (ℕ × Option M) → Type 0
+  ComesOut stands first seen r own results before after =
+      (length first ≡ 0 → after ≡ before)
+      × (0 < length first → (value : M) × (got : Message) × (after ≡ (r.thread, Some value) ∷ before) × IsLeft stands first value r own results got × ((m : Message) → IsResult seen r m → m ≡ got))
+
   -- where the cell was Synched it is Taken, and nobody has opened the row behind it; else the pass has seen what it is
-  abbrev pub taken : {S : Type 0} → Step S → Me S (View M) → ℕ → Me S (View M) → Type 0
-  taken st m n w = (r : Row) (j : Joined) → At st m r 0 → IsJoinedInRange j → st.second ≡ cell_word (Taken j)
-      → (n ≡ cell_word (Synched j) → (results : List Result) × (length results ≡ r.sync + 1) × (w ≡ (did (Take r) (took_with r j results m.0), m.1)) × Agrees m.0 r (Synched j) × (¬ Has m.0.seen.opened (next_row r)))
+  abbrev pub taken : Stands M → Step (Option M) → Me (Option M) (View M) → ℕ → Me (Option M) (View M) → Type 0
+  taken stands st m n w = (r : Row) (j : Joined) → At st m r 0 → IsJoinedInRange j → st.second ≡ cell_word (Taken j)
+      → (n ≡ cell_word (Synched j) → (results : List Result) × (length results ≡ r.sync + 1) × (w.0 ≡ did (Take r) (took_with r j results m.0)) × ComesOut stands m.0.first m.0.seen r j.own results m.1 w.1 × Agrees m.0 r (Synched j) × (¬ Has m.0.seen.opened (next_row r)) × ((nack : NackName) (b : Binding) → Has m.0.seen.bound (nack, b) → bound_row nack b ≢ next_row r))
       × (n ≢ cell_word (Synched j) → finds m r n w) × AgreesWithItself w.0
 
   -- what a pass knows of a nack before it looks: where it saw it bound
@@ -116,10 +138,22 @@ module _ {M : Type 0} where
   looked_nack st m n w = (nack : NackName) → AtNack st m nack
       → (w ≡ (saw_nack nack (nack_read n) m.0, m.1)) × AgreesNack m.0 nack (nack_read n) × AgreesWithItself w.0
 
+  -- The nack is a scope's of an earlier row of its thread: some value stands for the thread after the results of the rows before
+  -- that row, with this nack for the scope to which it is bound. Whatever further results of the thread the pass has, they begin with those.
+  pub record IsEarlier (stands : Stands M) (first : List M) (all : List (ℕ × List Result)) (n : NackName) (b : Binding) : Type 0 where
+    pub results : List Result
+    pub count : length results ≡ b.sync
+    pub value : M
+    pub offers : List Offer
+    pub nacks : List ℕ
+    pub standing : stands first value n.thread results offers nacks
+    pub scope : slice_get nacks b.scope ≡ Some n.k
+    pub begins : (longer : List Result) → Has all (n.thread, longer) → b.sync ≤ length longer → results ≡ take b.sync longer
+
   -- where the nack was not bound it is bound so, and the pass had not seen it bound; else the pass has seen where it is: not
   -- behind the row that it tried to bind it to, and where it is a row that the pass holds, the pass had seen it
-  abbrev pub tried_bind : {S : Type 0} → Step S → Me S (View M) → ℕ → Me S (View M) → Type 0
-  tried_bind st m n w = (nack : NackName) (b : Binding) → AtNack st m nack → IsBindingInRange b → st.second ≡ nack_word (Some b)
+  abbrev pub tried_bind : Stands M → Step (Option M) → Me (Option M) (View M) → ℕ → Me (Option M) (View M) → Type 0
+  tried_bind stands st m n w = (nack : NackName) (b : Binding) → AtNack st m nack → IsBindingInRange b → st.second ≡ nack_word (Some b)
       → (nack_read n ≡ None → (w ≡ (did (bind_of nack b) (bound_nack nack b m.0), m.1)) × ((c : Binding) → ¬ Has m.0.seen.bound (nack, c)))
-      × ((c : Binding) → nack_read n ≡ Some c → (w ≡ (bound_nack nack c m.0, m.1)) × (c.sync ≤ b.sync) × (Has m.0.seen.held (bound_row nack c) → Has m.0.seen.bound (nack, c)))
+      × ((c : Binding) → nack_read n ≡ Some c → (w ≡ (bound_nack nack c m.0, m.1)) × (c.sync ≤ b.sync) × (Has m.0.seen.held (bound_row nack c) → Has m.0.seen.bound (nack, c)) × (c.sync < b.sync → 0 < length m.0.first → IsEarlier stands m.0.first m.0.results nack c))
       × AgreesWithItself w.0

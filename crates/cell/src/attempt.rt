@@ -13,7 +13,7 @@ ghost use Rattle.cell.specs.Views.{at_stage, worked};
 use crate::board::Board;
 use crate::view::View;
 use atomic_table::Seat;
-use protocol::{Cell, Direction, Joined, Row};
+use protocol::{Cell, Direction, Joined, Resident, Row};
 
 /// The kinds with which a gate is called: before a claim, a yield, a join and a seal.
 pub const CLAIM: u8 = 5;
@@ -52,7 +52,7 @@ pub enum Attempt {
     Unfit,
 }
 
-impl<M> Board<M> {
+impl<M: Resident> Board<M> {
     /// Tries to commit a held opened row with another row, each under one of its offers.
     pub(crate) fn attempt<G: StepGate>(
         &self,

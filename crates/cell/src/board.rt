@@ -1,34 +1,36 @@
 //! The table and its rule.
 
-ghost use Rattle.std.specs.Prelude.{◌≡◌, ◌*◌, ◌<◌, ◌≤◌, []};
+ghost use Rattle.std.specs.Prelude.{◌≡◌, ◌*◌, ◌<◌, ◌≤◌, length};
 ghost use Rattle.protocol.specs.Tables.{thread_len};
 
 use crate::view::{Shape, View};
 use atomic_table::{Join as JoinSeats, Play, Split, Table, TableRule};
+use protocol::Resident;
 use std::alloc::Global;
 
 /// The rule of the cells.
 pub struct Law;
 
-impl<M> TableRule<Option<M>, View<M>, Shape> for Law {
+impl<M: Resident> TableRule<Option<M>, View<M>, Shape<M>> for Law {
     ghost use Rattle.cell.specs.Rule.{Keeps};
     ghost use Rattle.cell.specs.Rule.{dealer};
 
-    ghost holds = { λ shape s. Keeps shape s };
+    ghost holds = { λ shape s. Keeps M.stands shape s };
 
     ghost first = { λ shape. dealer shape 0 };
 }
 
-pub(crate) type Words<M> = Table<Option<M>, View<M>, Shape, Law, Global>;
+pub(crate) type Words<M> = Table<Option<M>, View<M>, Shape<M>, Law, Global>;
 
 /// The words, and how many threads and rows they are for.
 #[derive(Drop)]
-pub struct Board<M> {
+pub struct Board<M: Resident> {
     pub(crate) words: Words<M>,
-    pub(crate) shape: Shape,
+    pub(crate) shape: Shape<M>,
     ghost keyed: { words.shared.key ≡ shape },
     ghost sized: { words.shared.table_id.words ≡ shape.threads * thread_len shape.rows },
-    ghost slotless: { words.shared.table_id.slots ≡ 0 },
+    ghost slots: { words.shared.table_id.slots ≡ length shape.first.value.items },
+    ghost full: { 0 < length shape.first.value.items → length shape.first.value.items ≡ shape.threads },
     ghost small: { (1 ≤ shape.threads) × (shape.threads ≤ 64) × (1 ≤ shape.rows) × (shape.rows ≤ 1024) },
 }
 
@@ -66,6 +68,15 @@ impl<M> Play<Option<M>, View<M>> for Draft {
     ghost use Rattle.cell.specs.Told.{drafted};
 
     ghost then = { λ st m n w. drafted st m n w };
+}
+
+/// What stood for a thread at first is taken out of its slot, by a look at the thread's first row.
+pub struct Begin;
+
+impl<M> Play<Option<M>, View<M>> for Begin {
+    ghost use Rattle.cell.specs.Told.{has_begun};
+
+    ghost then = { λ st m n w. has_begun st m n w };
 }
 
 /// A held Fresh row is opened.
@@ -125,10 +136,10 @@ impl<M> Play<Option<M>, View<M>> for Give {
 /// A committed row is taken, where it is Synched.
 pub struct Take;
 
-impl<M> Play<Option<M>, View<M>> for Take {
+impl<M: Resident> Play<Option<M>, View<M>> for Take {
     ghost use Rattle.cell.specs.Told.{taken};
 
-    ghost then = { λ st m n w. taken st m n w };
+    ghost then = { λ st m n w. taken M.stands st m n w };
 }
 
 /// The word of a nack is read.
@@ -143,10 +154,10 @@ impl<M> Play<Option<M>, View<M>> for LookNack {
 /// A nack is bound to a held Fresh row, where it was not bound.
 pub struct Bind;
 
-impl<M> Play<Option<M>, View<M>> for Bind {
+impl<M: Resident> Play<Option<M>, View<M>> for Bind {
     ghost use Rattle.cell.specs.Told.{tried_bind};
 
-    ghost then = { λ st m n w. tried_bind st m n w };
+    ghost then = { λ st m n w. tried_bind M.stands st m n w };
 }
 
 /// The first pass deals the rows of the next seat to a pass of their own.

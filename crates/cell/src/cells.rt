@@ -1,6 +1,6 @@
 //! The shared table and its passes, as callers use them.
 
-ghost use Rattle.std.specs.Prelude.{◌≡◌, ◌≢◌, ◌⊎◌, ◌+◌, ◌<◌, ◌≤◌, ◌∷◌, ◌++◌, [], ℕ, List, None, Some, true, IfOk, IfSome, IfNone, SomeIff, IsTrue, ◌↔◌, length, slice_get};
+ghost use Rattle.std.specs.Prelude.{◌≡◌, ◌≢◌, ◌⊎◌, ◌+◌, ◌<◌, ◌≤◌, ◌∷◌, ◌++◌, [], ℕ, List, None, Some, true, IfOk, IfSome, IfNone, SomeIff, IsTrue, ◌↔◌, length, map, slice_get, IsFalse};
 ghost use Rattle.words.specs.declared.Direction.{Direction};
 ghost use Rattle.words.specs.declared.Joined.{Joined};
 ghost use Rattle.words.specs.declared.Message.{Message};
@@ -11,13 +11,15 @@ ghost use Rattle.words.specs.declared.Step.TheVariants.{Open};
 ghost use Rattle.words.specs.declared.NackName.{NackName};
 ghost use Rattle.words.specs.declared.Binding.{Binding};
 ghost use Rattle.protocol.specs.Ledgers.{IsLawful, binding_in, joined_in, offer_in};
-ghost use Rattle.protocol.specs.Standing.{AreResults, Result};
+ghost use Rattle.protocol.specs.Standing.{AreResults, EachOffersAs, Result, SomeStands};
 ghost use Rattle.protocol.specs.Worlds.{nack_of_row};
 ghost use Rattle.cell.specs.Attempts.{
   Attempted,
   Bound,
+  BoundBefore,
   Fits,
   Granted,
+  Hands,
   IsNackOf as IsNackOfOffer,
   IsNear,
   IsNearGrant,
@@ -30,7 +32,10 @@ ghost use Rattle.cell.specs.Attempts.{
   grant_made,
   take_made,
 };
-ghost use Rattle.cell.specs.Calls.{IsNackOf, IsPassOf, IsRowOf, PassView};
+ghost use Rattle.cell.specs.Calls.{CanFetch, Fetched, Holds, IsHousing, IsNackOf, IsParked, IsPassOf, IsRowOf, PassOf, PassView};
+ghost use Rattle.cell.specs.Told.{GoesHome};
+ghost use Rattle.cell.specs.Rule.{IsReady};
+ghost use Rattle.atomic_table.specs.Table.{rest};
 ghost use Rattle.cell.specs.Nacks.{IsSeenBound};
 ghost use Rattle.cell.specs.Flags.{AreFlags};
 ghost use Rattle.cell.specs.Rule.{dealt_rows, heard, seen_nothing, told_of};
@@ -63,27 +68,28 @@ use crate::rows::RowSet;
 use crate::view::{Shape, View};
 use atomic_table::Seat;
 use protocol::{
-    Bare, Cell, Direction, Joined, Ledger, Message, NACKS, NackName, Offer, ROW_LEN, Row,
+    Bare, Cell, Direction, Joined, Ledger, Message, NACKS, NackName, Offer, ROW_LEN, Resident, Row,
 };
 use std::alloc::{AllocError, Global};
 use std::marker::Model;
+use std::snapshot::Snapshot;
 
 /// The shared table: threads may share it, and none of its calls waits.
 #[derive(Drop)]
-pub struct Cells<M> {
+pub struct Cells<M: Resident> {
     board: Board<M>,
     room: Vec<u64>,
 }
 
-impl<M> Model for Cells<M> {
-    ghost use Rattle.std.specs.Prelude.{◌≡◌, length};
-    ghost use Rattle.cell.specs.Calls.{Grid};
+impl<M: Resident> Model for Cells<M> {
+    ghost use Rattle.std.specs.Prelude.{◌≡◌, ◌<◌, true, length};
+    ghost use Rattle.cell.specs.Calls.{GridOf};
 
-    ghost Value = { Grid };
+    ghost Value = { GridOf M };
 
-    ghost view = { λ c. record { id = c.board.words.shared.table_id; threads = c.board.shape.threads; rows = c.board.shape.rows; passes = c.board.shape.passes } };
+    ghost view = { λ c. record { id = c.board.words.shared.table_id; threads = c.board.shape.threads; rows = c.board.shape.rows; passes = c.board.shape.passes; first = c.board.shape.first.value.items } };
 
-    ghost invariant = { λ c. length c.room.items ≡ c.board.words.shared.table_id.words };
+    ghost invariant = { λ c. (length c.room.items ≡ c.board.words.shared.table_id.words) × (0 < length c.board.shape.first.value.items → M.houses ≡ true) };
 }
 
 /// What a thread calls the table with. It holds rows, and its value is what it has seen.
@@ -96,12 +102,12 @@ pub struct Pass<M> {
 impl<M> Model for Pass<M> {
     ghost use Rattle.std.specs.Prelude.{◌≡◌};
     ghost use Rattle.cell.specs.declared.view.Stage.TheVariants.{Resting};
-    ghost use Rattle.cell.specs.Calls.{PassView};
+    ghost use Rattle.cell.specs.Calls.{PassOf};
     ghost use Rattle.cell.specs.Flags.{AreFlags};
 
-    ghost Value = { PassView };
+    ghost Value = { PassOf M };
 
-    ghost view = { λ p. record { of = record { id = p.seat.table_id; threads = p.seat.me.0.threads; rows = p.seat.me.0.rows; passes = p.seat.me.0.passes }; seen = p.seat.me.0.seen; made = p.seat.me.0.made; results = p.seat.me.0.results } };
+    ghost view = { λ p. record { of = record { id = p.seat.table_id; threads = p.seat.me.0.threads; rows = p.seat.me.0.rows; passes = p.seat.me.0.passes; first = p.seat.me.0.first }; seen = p.seat.me.0.seen; made = p.seat.me.0.made; results = p.seat.me.0.results; out = p.seat.me.1 } };
 
     ghost invariant = { λ p. (p.seat.me.0.stage ≡ Resting) × (p.seat.me.0.threads ≡ p.rows.threads) × (p.seat.me.0.rows ≡ p.rows.rows) × AreFlags p.rows.threads p.rows.rows p.rows.flags.items p.seat.me.0.seen.held };
 }
@@ -128,17 +134,64 @@ impl Cells<Bare> {
         requires rows { (1 ≤ rows) × (rows ≤ 1024) }
         requires passes { (1 ≤ passes) × (passes ≤ 16) }
         ensures size { IfOk result (λ t. (t.0.threads ≡ threads) × (t.0.rows ≡ rows) × (t.0.passes ≡ passes) × (length t.1.items ≡ passes)) }
+        ensures first { IfOk result (λ t. t.0.first ≡ []) }
         ensures passes { IfOk result (λ t. (number : ℕ) (pass : PassView) → slice_get t.1.items number ≡ Some pass → IsPassOf t.0 pass × (pass.seen ≡ seen_nothing (dealt_rows threads passes number)) × (pass.made ≡ [])) }
-        ensures results { IfOk result (λ t. (number : ℕ) (pass : PassView) → slice_get t.1.items number ≡ Some pass → pass.results ≡ []) }
+        ensures results { IfOk result (λ t. (number : ℕ) (pass : PassView) → slice_get t.1.items number ≡ Some pass → (pass.results ≡ []) × (pass.out ≡ [])) }
+    {
+        Cells::over(alloc, Vec::new(alloc), threads, rows, passes)
+    }
+}
+
+impl<M: Resident + Drop> Cells<M> {
+    /// A table of machines, one for each of 1 to 64 threads: what stands for it at first. After a want of memory the
+    /// machines are gone. All memory that the calls need is taken here.
+    pub fn with_machines(
+        alloc: Global,
+        first: Vec<M>,
+        rows: u16,
+        passes: u8,
+    ) -> Result<(Cells<M>, Vec<Pass<M>>), AllocError>
+        requires housed { M.houses ≡ true }
+        requires threads { (1 ≤ length first.items) × (length first.items ≤ 64) }
+        requires rows { (1 ≤ rows) × (rows ≤ 1024) }
+        requires passes { (1 ≤ passes) × (passes ≤ 16) }
+        ensures size { IfOk result (λ t. (t.0.threads ≡ length first.items) × (t.0.rows ≡ rows) × (t.0.passes ≡ passes) × (length t.1.items ≡ passes)) }
+        ensures first { IfOk result (λ t. t.0.first ≡ first.items) }
+        ensures passes { IfOk result (λ t. (number : ℕ) (pass : PassOf M) → slice_get t.1.items number ≡ Some pass → IsPassOf t.0 pass × (pass.seen ≡ seen_nothing (dealt_rows (length first.items) passes number)) × (pass.made ≡ [])) }
+        ensures results { IfOk result (λ t. (number : ℕ) (pass : PassOf M) → slice_get t.1.items number ≡ Some pass → (pass.results ≡ []) × (pass.out ≡ [])) }
+    {
+        let threads = first.len() as u8;
+        Cells::over(alloc, first, threads, rows, passes)
+    }
+
+    /// A table over these, or over none.
+    fn over(
+        alloc: Global,
+        first: Vec<M>,
+        threads: u8,
+        rows: u16,
+        passes: u8,
+    ) -> Result<(Cells<M>, Vec<Pass<M>>), AllocError>
+        requires housed { 0 < length first.items → M.houses ≡ true }
+        requires first { 0 < length first.items → length first.items ≡ threads }
+        requires threads { (1 ≤ threads) × (threads ≤ 64) }
+        requires rows { (1 ≤ rows) × (rows ≤ 1024) }
+        requires passes { (1 ≤ passes) × (passes ≤ 16) }
+        ensures size { IfOk result (λ t. (t.0.threads ≡ threads) × (t.0.rows ≡ rows) × (t.0.passes ≡ passes) × (length t.1.items ≡ passes)) }
+        ensures first { IfOk result (λ t. t.0.first ≡ first.items) }
+        ensures passes { IfOk result (λ t. (number : ℕ) (pass : PassOf M) → slice_get t.1.items number ≡ Some pass → IsPassOf t.0 pass × (pass.seen ≡ seen_nothing (dealt_rows threads passes number)) × (pass.made ≡ [])) }
+        ensures results { IfOk result (λ t. (number : ℕ) (pass : PassOf M) → slice_get t.1.items number ≡ Some pass → (pass.results ≡ []) × (pass.out ≡ [])) }
     {
         let shape = Shape {
             threads: u64::from(threads),
             rows: u64::from(rows),
             passes: u64::from(passes),
+            first: Snapshot::of(&first),
         };
         let words = usize::from(threads) * (usize::from(rows) * ROW_LEN + NACKS);
         let room = vec![in alloc; 0; words]?;
-        let (board, mut dealer) = Board::start(alloc, shape, room.as_slice())?;
+        let slots = slots_of(alloc, first)?;
+        let (board, mut dealer) = Board::start(alloc, shape, room.as_slice(), slots)?;
         let mut dealt = Vec::with_capacity(alloc, usize::from(passes))?;
         for number in 0..passes {
             let seat = board.deal(&mut dealer, u64::from(number));
@@ -147,9 +200,27 @@ impl Cells<Bare> {
         }
         Ok((Cells { board, room }, dealt))
     }
+
+    /// Ends the table: its ledger has all that the pass has seen or was told. What lies in its slots goes with it.
+    pub fn close(self, pass: Pass<M>) -> Ledger
+        requires here { IsPassOf self pass }
+        ensures size { (result.threads ≡ self.threads) × (result.rows ≡ self.rows) }
+        ensures lawful { IsLawful result }
+        ensures seen { (r : Row) (j : Joined) → Has pass.seen.joined (r, j) → joined_in result r ≡ Some j }
+        ensures offers { (r : Row) (n : ℕ) (o : Offer) → SeesOffer pass.seen r n o → offer_in result r n ≡ Some o }
+        ensures lacks { (r : Row) (n : ℕ) → SeesNoOffer pass.seen r n → offer_in result r n ≡ None }
+        ensures bound { (n : NackName) (b : Binding) → Has pass.seen.bound (n, b) → binding_in result n ≡ Some b }
+        ensures results { (t : ℕ) (results : List Result) → Has pass.results (t, results) → AreResults result t results }
+        ensures own { (r : Row) (j : Joined) (offers : List Offer) → IsDraft pass.seen r offers → joined_in result r ≡ Some j → (j.own < length offers) × (offer_in result r j.own ≡ slice_get offers j.own) }
+        ensures stand { IsHousing self → EachOffersAs (SomeStands M.stands self.first) result }
+    {
+        let Cells { board, room } = self;
+        let Pass { seat, .. } = pass;
+        board.close(seat, room)
+    }
 }
 
-impl<M> Cells<M> {
+impl<M: Resident> Cells<M> {
     /// Whether the table has the row.
     pub fn has(&self, row: Row) -> bool
         ensures { IsTrue result ↔ IsRowOf self.now row }
@@ -158,14 +229,17 @@ impl<M> Cells<M> {
             && u64::from(row.sync) < self.board.shape.rows
     }
 
-    /// Opens a held row that is Fresh: its offers stand from now on.
+    /// Opens a held row that is Fresh: its offers stand from now on. In a table of machines the row's machine
+    /// was parked for it, and nothing was drafted or bound for it since.
     pub fn open(&self, pass: &mut Pass<M>, row: Row)
         requires here { IsPassOf self.now pass.old × IsRowOf self.now row }
         requires fresh { Has pass.old.seen.held row × (¬ Has pass.old.seen.opened row) }
+        requires parked { M.houses ≡ true → IsParked M.stands self.now pass.old row }
         ensures here { IsPassOf self.now pass.new }
         ensures opened { pass.new.seen ≡ see_opened row pass.old.seen }
         ensures made { pass.new.made ≡ Open row ∷ pass.old.made }
         ensures results { pass.new.results ≡ pass.old.results }
+        ensures home { GoesHome self.now.first pass.old.out pass.new.out }
     {
         self.board.open(&mut pass.seat, row);
     }
@@ -178,7 +252,7 @@ impl<M> Cells<M> {
         ensures expected { IsExpected pass.old.seen row result }
         ensures unclaimed { Has pass.old.seen.held row → result ≢ Claimed }
         ensures made { pass.new.made ≡ pass.old.made }
-        ensures results { pass.new.results ≡ pass.old.results }
+        ensures results { (pass.new.results ≡ pass.old.results) × (pass.new.out ≡ pass.old.out) }
     {
         self.board.look(&mut pass.seat, row)
     }
@@ -192,7 +266,7 @@ impl<M> Cells<M> {
         ensures none { IfNone result (IsKnownOpen pass.old.seen row → LackOffer pass.new.seen.words row n) }
         ensures same { (o : Offer) → SeesOffer pass.new.seen row n o → result ≡ Some o }
         ensures made { pass.new.made ≡ pass.old.made }
-        ensures results { pass.new.results ≡ pass.old.results }
+        ensures results { (pass.new.results ≡ pass.old.results) × (pass.new.out ≡ pass.old.out) }
         ensures unopened { Has pass.old.seen.held row → ¬ Has pass.old.seen.opened row → (result ≡ None) × (pass.new.seen ≡ pass.old.seen) }
     {
         self.board.offer(&mut pass.seat, row, n)
@@ -209,7 +283,7 @@ impl<M> Cells<M> {
         ensures none { IfNone result (LackOffer pass.new.seen.words row n) }
         ensures same { (d : Direction) → SeesDirection pass.new.seen row n d → result ≡ Some d }
         ensures made { pass.new.made ≡ pass.old.made }
-        ensures results { pass.new.results ≡ pass.old.results }
+        ensures results { (pass.new.results ≡ pass.old.results) × (pass.new.out ≡ pass.old.out) }
     {
         self.board.opened_direction(&mut pass.seat, row, n)
     }
@@ -223,7 +297,7 @@ impl<M> Cells<M> {
         ensures none { IfNone result (¬ SawCommitted pass.old.seen row) }
         ensures same { (got : Message) → IsResult pass.old.seen row got → result ≡ Some got }
         ensures made { pass.new.made ≡ pass.old.made }
-        ensures results { pass.new.results ≡ pass.old.results }
+        ensures results { (pass.new.results ≡ pass.old.results) × (pass.new.out ≡ pass.old.out) }
         ensures unopened { Has pass.old.seen.held row → ¬ Has pass.old.seen.opened row → (result ≡ None) × (pass.new.seen ≡ pass.old.seen) }
     {
         self.board.result(&mut pass.seat, row)
@@ -248,7 +322,7 @@ impl<M> Cells<M> {
         ensures offers { OffersFit pass.new.seen mine own other partner result }
         ensures attempted { Attempted pass.old.seen pass.new.seen mine own other partner result }
         ensures made { pass.new.made ≡ attempt_made mine own other partner result pass.old.made }
-        ensures results { pass.new.results ≡ pass.old.results }
+        ensures results { (pass.new.results ≡ pass.old.results) × (pass.new.out ≡ pass.old.out) }
     {
         self.board
             .attempt(&mut pass.seat, gate, (mine, own), (other, partner))
@@ -263,8 +337,9 @@ impl<M> Cells<M> {
         ensures here { IsPassOf self.now pass.new }
         ensures learns { LearnsOf (λ q. ⊥) (λ n. n ≡ nack_of_row row k) pass.old.seen pass.new.seen }
         ensures bound { Bound pass.old.seen pass.new.seen k row scope result }
+        ensures earlier { IsFalse result → IsHousing self.now → BoundBefore M.stands self.now.first pass.old.results pass.new.seen k row }
         ensures made { pass.new.made ≡ bind_made k row scope result pass.old.made }
-        ensures results { pass.new.results ≡ pass.old.results }
+        ensures results { (pass.new.results ≡ pass.old.results) × (pass.new.out ≡ pass.old.out) }
     {
         self.board.bind(&mut pass.seat, k, row, scope)
     }
@@ -279,7 +354,7 @@ impl<M> Cells<M> {
         ensures there { IfSome result (λ p. IsNackOf self.now nack) }
         ensures same { (r : Row) (scope : ℕ) → IsSeenBound pass.old.seen nack r scope → result ≡ Some (r, scope) }
         ensures made { pass.new.made ≡ pass.old.made }
-        ensures results { pass.new.results ≡ pass.old.results }
+        ensures results { (pass.new.results ≡ pass.old.results) × (pass.new.out ≡ pass.old.out) }
     {
         let bound = self.board.bound(&mut pass.seat, nack)?;
         let row = Row {
@@ -297,7 +372,7 @@ impl<M> Cells<M> {
         ensures learns { LearnsOf (IsNearGrant pass.new.seen row n) (IsNackOfOffer pass.new.seen row n) pass.old.seen pass.new.seen }
         ensures granted { Granted pass.old.seen pass.new.seen row n result }
         ensures made { pass.new.made ≡ grant_made row n result pass.old.made }
-        ensures results { pass.new.results ≡ pass.old.results }
+        ensures results { (pass.new.results ≡ pass.old.results) × (pass.new.out ≡ pass.old.out) }
     {
         self.board.grant(&mut pass.seat, row, n)
     }
@@ -311,6 +386,7 @@ impl<M> Cells<M> {
         ensures none { IfNone result (Learns (λ q. q ≡ row) pass.old.seen pass.new.seen × (SawCommitted pass.old.seen row → Has pass.new.seen.taken row)) }
         ensures made { pass.new.made ≡ take_made row result pass.old.made }
         ensures results { ResultsTold row result pass.old.results pass.new.results }
+        ensures out { Hands M.stands self.now.first pass.old.seen row result pass.new.results pass.old.out pass.new.out }
     {
         let Pass { seat, rows } = pass;
         let joined = self.board.take(seat, row)?;
@@ -334,7 +410,7 @@ impl<M> Cells<M> {
         ensures others { Redrafts (λ q p. q ≡ row) pass.old.seen pass.new.seen }
         ensures drafted { IsDraft pass.new.seen row offers.now }
         ensures made { OnlyDrafts row pass.old.made pass.new.made }
-        ensures results { pass.new.results ≡ pass.old.results }
+        ensures results { (pass.new.results ≡ pass.old.results) × (pass.new.out ≡ pass.old.out) }
     {
         self.board.draft_offers(&mut pass.seat, row, offers);
     }
@@ -347,6 +423,7 @@ impl<M> Cells<M> {
         ensures made { (from.new.made ≡ from.old.made) × (to.new.made ≡ to.old.made) }
         ensures told { to.new.seen ≡ heard to.old.seen (told_of from.old.seen) }
         ensures results { (from.new.results ≡ from.old.results) × (to.new.results ≡ to.old.results ++ from.old.results) }
+        ensures out { (from.new.out ≡ from.old.out) × (to.new.out ≡ to.old.out) }
         ensures offers { (r : Row) (n : ℕ) (o : Offer) → SeesOffer from.old.seen r n o → SeesOffer to.new.seen r n o }
         ensures lacks { (r : Row) (n : ℕ) → SeesNoOffer from.old.seen r n → SeesNoOffer to.new.seen r n }
         ensures bound { (n : NackName) (b : Binding) → Has from.old.seen.bound (n, b) → Has to.new.seen.bound (n, b) }
@@ -354,22 +431,43 @@ impl<M> Cells<M> {
         self.board.tell(&mut from.seat, &mut to.seat);
     }
 
-    /// Ends the table: its ledger has all that the pass has seen or was told.
-    pub fn close(self, pass: Pass<M>) -> Ledger
-        requires here { IsPassOf self pass }
-        ensures size { (result.threads ≡ self.threads) × (result.rows ≡ self.rows) }
-        ensures lawful { IsLawful result }
-        ensures seen { (r : Row) (j : Joined) → Has pass.seen.joined (r, j) → joined_in result r ≡ Some j }
-        ensures offers { (r : Row) (n : ℕ) (o : Offer) → SeesOffer pass.seen r n o → offer_in result r n ≡ Some o }
-        ensures lacks { (r : Row) (n : ℕ) → SeesNoOffer pass.seen r n → offer_in result r n ≡ None }
-        ensures bound { (n : NackName) (b : Binding) → Has pass.seen.bound (n, b) → binding_in result n ≡ Some b }
-        ensures results { (t : ℕ) (results : List Result) → Has pass.results (t, results) → AreResults result t results }
-        ensures own { (r : Row) (j : Joined) (offers : List Offer) → IsDraft pass.seen r offers → joined_in result r ≡ Some j → (j.own < length offers) × (offer_in result r j.own ≡ slice_get offers j.own) }
+    /// Hands out what stands for the row's thread: for the first row of a thread what stood for it at first, and
+    /// for another what came out of its slot when the row before was taken. The pass has it alone.
+    pub fn fetch(&self, pass: &mut Pass<M>, row: Row) -> M
+        requires here { IsPassOf self.now pass.old × IsRowOf self.now row }
+        requires fresh { Has pass.old.seen.held row × (¬ Has pass.old.seen.opened row) }
+        requires can { CanFetch self.now pass.old row }
+        ensures here { IsPassOf self.now pass.new }
+        ensures fetched { Fetched self.now pass.old pass.new row result }
+        ensures made { (pass.new.made ≡ pass.old.made) × (pass.new.results ≡ pass.old.results) }
     {
-        let Cells { board, room } = self;
-        let Pass { seat, .. } = pass;
-        board.close(seat, room)
+        if row.sync == 0 {
+            self.board.begin(&mut pass.seat, row);
+        }
+        self.board.lift(&mut pass.seat, row)
     }
+
+    /// Lays down what stands for the row's thread now, for the row to be opened: it stands after the results of the
+    /// rows before, as the pass has them, what it offers was drafted for the row, and its nacks, and no others, are
+    /// bound to it.
+    pub fn park(&self, pass: &mut Pass<M>, row: Row, value: M)
+        requires here { IsPassOf self.now pass.old × IsRowOf self.now row }
+        requires fetched { Holds pass.old row None }
+        requires ready { IsReady M.stands self.now.first pass.old.results pass.old.seen row value }
+        ensures here { IsPassOf self.now pass.new }
+        ensures parked { pass.new.out ≡ (row.thread, Some value) ∷ rest pass.old.out }
+        ensures seen { pass.new.seen ≡ pass.old.seen }
+        ensures made { (pass.new.made ≡ pass.old.made) × (pass.new.results ≡ pass.old.results) }
+    {
+        self.board.lay(&mut pass.seat, row, value);
+    }
+}
+
+/// A slot for each of these, in which it lies.
+fn slots_of<M: Drop>(alloc: Global, first: Vec<M>) -> Result<Vec<Option<M>>, AllocError>
+    ensures { IfOk result (λ slots. slots.items ≡ map Some first.items) }
+{
+    first.into_iter().map(Some).collect(alloc)
 }
 
 /// The rows that pass `number` holds at the start.

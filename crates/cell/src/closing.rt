@@ -8,17 +8,17 @@ ghost use Rattle.words.specs.declared.Row.{Row};
 ghost use Rattle.words.specs.declared.NackName.{NackName};
 ghost use Rattle.words.specs.declared.Binding.{Binding};
 ghost use Rattle.protocol.specs.Ledgers.{IsLawful, binding_in, joined_in, offer_in};
-ghost use Rattle.protocol.specs.Standing.{AreResults, Result};
+ghost use Rattle.protocol.specs.Standing.{AreResults, EachOffersAs, Result, SomeStands};
 ghost use Rattle.cell.specs.Seats.{Sits};
 ghost use Rattle.cell.specs.Sight.{Has, IsDraft, SeesNoOffer, SeesOffer};
 
 use crate::board::Board;
 use crate::view::View;
 use atomic_table::{Closed, Seat};
-use protocol::Ledger;
+use protocol::{Ledger, Resident};
 use std::alloc::Global;
 
-impl<M> Board<M> {
+impl<M: Resident + Drop> Board<M> {
     /// The ledger of the words at the end. They are copied into the room that was made for them.
     pub(crate) fn close(self, seat: Seat<Option<M>, View<M>>, room: Vec<u64>) -> Ledger
         requires sits { Sits self seat }
@@ -31,13 +31,27 @@ impl<M> Board<M> {
         ensures bound { (n : NackName) (b : Binding) → Has seat.me.0.seen.bound (n, b) → binding_in result n ≡ Some b }
         ensures results { (t : ℕ) (results : List Result) → Has seat.me.0.results (t, results) → AreResults result t results }
         ensures own { (r : Row) (j : Joined) (offers : List Offer) → IsDraft seat.me.0.seen r offers → joined_in result r ≡ Some j → (j.own < length offers) × (offer_in result r j.own ≡ slice_get offers j.own) }
+        ensures stand { 0 < length self.shape.first.value.items → EachOffersAs (SomeStands M.stands self.shape.first.value.items) result }
     {
         let Board { words, shape } = self;
         let closed = words.close_with(seat);
         let words = copy_words(&closed, room);
-        closed.free();
+        free(closed);
         Ledger::of_words(shape.threads as u8, shape.rows as u16, words)
     }
+}
+
+/// What lies in the slots goes.
+fn free<M: Drop>(closed: Closed<Option<M>, Global>)
+    requires { IsFull closed.slots }
+{
+    let mut closed = closed;
+    let mut at = 0;
+    while at < closed.slot_count() {
+        drop(closed.take(at));
+        at += 1;
+    }
+    closed.free();
 }
 
 /// The words, in a room that has as many.

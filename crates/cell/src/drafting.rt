@@ -12,10 +12,10 @@ use crate::board::Board;
 use crate::reading::atoms_told;
 use crate::view::View;
 use atomic_table::Seat;
-use protocol::{Offer, Row, pack_count, pack_offer};
+use protocol::{Offer, Resident, Row, pack_count, pack_offer};
 use words::read_head;
 
-impl<M> Board<M> {
+impl<M: Resident> Board<M> {
     /// Writes a list of at most 8 offers for a held row that is not opened yet, in place of what was
     /// written before.
     pub(crate) fn draft_offers(

@@ -10,7 +10,7 @@ ghost use Rattle.cell.specs.Views.{worked};
 use crate::board::Board;
 use crate::view::View;
 use atomic_table::Seat;
-use protocol::{Joined, Row};
+use protocol::{Joined, Resident, Row};
 
 /// What became of a grant.
 #[derive(Clone, Copy, Debug, PartialEq, Eq)]
@@ -23,7 +23,7 @@ pub enum Grant {
     Late,
 }
 
-impl<M> Board<M> {
+impl<M: Resident> Board<M> {
     /// Commits the row alone by its offer n, where that is an always or an enabled nack, and the row
     /// waits.
     pub(crate) fn grant(&self, seat: &mut Seat<Option<M>, View<M>>, row: Row, n: u8) -> Grant

@@ -1,13 +1,13 @@
 //! Nacks: where they are bound, and which are enabled.
 
-ghost use Rattle.std.specs.Prelude.{◌≡◌, ℕ, ◌<◌, ◌≤◌, IfSome, IfNone, Some};
+ghost use Rattle.std.specs.Prelude.{◌≡◌, ℕ, ◌<◌, ◌≤◌, IfSome, IfNone, Some, IsFalse, length};
 ghost use Rattle.words.specs.declared.Base.TheVariants.{OnNack};
 ghost use Rattle.words.specs.declared.Binding.{Binding};
 ghost use Rattle.words.specs.declared.Joined.{Joined};
 ghost use Rattle.words.specs.declared.NackName.{NackName};
 ghost use Rattle.protocol.specs.Tables.{bound_row};
 ghost use Rattle.protocol.specs.Worlds.{nack_of_row};
-ghost use Rattle.cell.specs.Attempts.{Bound, bind_made};
+ghost use Rattle.cell.specs.Attempts.{Bound, BoundBefore, bind_made};
 ghost use Rattle.cell.specs.Nacks.{IsBoundRow, SawCause, SawEnabled};
 ghost use Rattle.cell.specs.Seats.{HasNack, HasRow, Sits, StaysSeated};
 ghost use Rattle.cell.specs.Sight.{Has, Learns, LearnsOf};
@@ -16,9 +16,9 @@ ghost use Rattle.cell.specs.Views.{at_stage, worked};
 use crate::board::Board;
 use crate::view::View;
 use atomic_table::Seat;
-use protocol::{Base, Binding, Cell, Joined, NackName, Row};
+use protocol::{Base, Binding, Cell, Joined, NackName, Resident, Row};
 
-impl<M> Board<M> {
+impl<M: Resident> Board<M> {
     /// Where the nack is bound, by a look at its word. A nack that the table has not is not bound.
     pub(crate) fn bound(
         &self,
@@ -56,6 +56,7 @@ impl<M> Board<M> {
         ensures stays { seat.new.me.0 ≡ worked seat.old.me.0.stage seat.new.me.0.seen (bind_made k row scope result seat.old.me.0.made) seat.old.me.0 }
         ensures learns { LearnsOf (λ q. ⊥) (λ n. n ≡ nack_of_row row k) seat.old.me.0.seen seat.new.me.0.seen }
         ensures bound { Bound seat.old.me.0.seen seat.new.me.0.seen k row scope result }
+        ensures earlier { IsFalse result → 0 < length self.now.shape.first.value.items → BoundBefore M.stands self.now.shape.first.value.items seat.old.me.0.results seat.new.me.0.seen k row }
     {
         let nack = NackName {
             thread: row.thread,

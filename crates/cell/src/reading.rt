@@ -15,10 +15,10 @@ ghost use Rattle.cell.specs.Views.{at_stage};
 use crate::board::Board;
 use crate::view::View;
 use atomic_table::Seat;
-use protocol::{Base, Cell, Direction, Joined, Message, Offer, Row, unpack_count};
+use protocol::{Base, Cell, Direction, Joined, Message, Offer, Resident, Row, unpack_count};
 use words::{read_head, read_offer};
 
-impl<M> Board<M> {
+impl<M: Resident> Board<M> {
     /// Offer n of the row, where it is opened and has one.
     pub(crate) fn offer(
         &self,

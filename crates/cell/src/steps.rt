@@ -1,9 +1,10 @@
 //! One function for each atomic step.
 
-ghost use Rattle.std.specs.Prelude.{◌≡◌, ◌≢◌, ◌*◌, ◌+◌, ◌<◌, ◌≤◌, List, [], length, true, IfOk, IfErr, Some};
+ghost use Rattle.std.specs.Prelude.{◌≡◌, ◌≢◌, ◌*◌, ◌+◌, ◌<◌, ◌≤◌, List, [], ◌∷◌, length, slice_get, true, IfOk, IfErr, None, Some};
 ghost use Rattle.protocol.specs.Standing.{Result};
 ghost use Rattle.words.specs.Words.{is_word_for, IsBindingInRange, IsJoinedInRange};
 ghost use Rattle.words.specs.declared.Binding.{Binding};
+ghost use Rattle.words.specs.declared.NackName.{NackName};
 ghost use Rattle.words.specs.declared.Cell.TheVariants.{Waiting, Synched};
 ghost use Rattle.words.specs.declared.Step.TheVariants.{
   Claim as ClaimStep,
@@ -16,24 +17,26 @@ ghost use Rattle.words.specs.declared.Step.TheVariants.{
 ghost use Rattle.protocol.specs.Tables.{bound_row, thread_len, nack_place, place_of, next_row};
 ghost use Rattle.protocol.specs.Worlds.{mirrored};
 ghost use Rattle.cell.specs.declared.view.Stage.TheVariants.{Resting, Claims, Joins};
-ghost use Rattle.cell.specs.Told.{Agrees, AgreesNack, cell_read, joining, nack_read, settled};
-ghost use Rattle.cell.specs.Seats.{Sits, HasNack, HasRow, StaysSeated};
+ghost use Rattle.atomic_table.specs.Table.{rest};
+ghost use Rattle.cell.specs.Rule.{IsReady};
+ghost use Rattle.cell.specs.Told.{Agrees, AgreesNack, ComesOut, GoesHome, IsEarlier, began, cell_read, joining, nack_read, settled};
+ghost use Rattle.cell.specs.Seats.{Sits, HasNack, HasRow, StaysAtTable, StaysSeated};
 ghost use Rattle.cell.specs.Nacks.{CanGrant};
 ghost use Rattle.cell.specs.Sight.{Has, CanJoin};
 ghost use Rattle.cell.specs.Views.{bind_of, bound_nack, did, saw, saw_nack, took_with, read_word, turned, word_drafted};
 
 use crate::board::{
-    Bind, Board, Claim, Draft, Give, GiveUp, Join, Look, LookNack, Open, Read, Seal, Take,
+    Begin, Bind, Board, Claim, Draft, Give, GiveUp, Join, Look, LookNack, Open, Read, Seal, Take,
 };
 use crate::view::View;
 use atomic_table::Seat;
 use protocol::{
-    Binding, Cell, Joined, NACKS, NackName, ROW_LEN, Row, pack_cell, pack_nack, unpack_cell,
-    unpack_nack,
+    Binding, Cell, Joined, NACKS, NackName, ROW_LEN, Resident, Row, pack_cell, pack_nack,
+    unpack_cell, unpack_nack,
 };
 use words::read_cell;
 
-impl<M> Board<M> {
+impl<M: Resident> Board<M> {
     // how many words a thread has
     fn thread_len(&self) -> usize
         ensures { result ≡ thread_len self.now.shape.rows }
@@ -92,7 +95,7 @@ impl<M> Board<M> {
         requires range { IsBindingInRange bound }
         ensures sits { StaysSeated self.now seat.old seat.new }
         ensures bound { IfOk result (λ _. (seat.new.me.0 ≡ did (bind_of nack bound) (bound_nack nack bound seat.old.me.0)) × ((b : Binding) → ¬ Has seat.old.me.0.seen.bound (nack, b))) }
-        ensures found { IfErr result (λ b. (seat.new.me.0 ≡ bound_nack nack b seat.old.me.0) × (b.sync ≤ bound.sync) × (Has seat.old.me.0.seen.held (bound_row nack b) → Has seat.old.me.0.seen.bound (nack, b))) }
+        ensures found { IfErr result (λ b. (seat.new.me.0 ≡ bound_nack nack b seat.old.me.0) × (b.sync ≤ bound.sync) × (Has seat.old.me.0.seen.held (bound_row nack b) → Has seat.old.me.0.seen.bound (nack, b)) × (b.sync < bound.sync → 0 < length self.now.shape.first.value.items → IsEarlier M.stands self.now.shape.first.value.items seat.old.me.0.results nack b)) }
     {
         let free = pack_nack(None);
         let word = pack_nack(Some(bound));
@@ -143,12 +146,59 @@ impl<M> Board<M> {
     pub(crate) fn open(&self, seat: &mut Seat<Option<M>, View<M>>, row: Row)
         requires sits { Sits self.now seat.old × HasRow self.now row }
         requires held { Has seat.old.me.0.seen.held row × (¬ Has seat.old.me.0.seen.opened row) × (seat.old.me.0.stage ≡ Resting) }
-        ensures sits { StaysSeated self.now seat.old seat.new }
+        requires parked { 0 < length self.now.shape.first.value.items → (value : M) × (seat.old.me.1 ≡ (row.thread, Some value) ∷ rest seat.old.me.1) × IsReady M.stands self.now.shape.first.value.items seat.old.me.0.results seat.old.me.0.seen row value }
+        ensures sits { StaysAtTable self.now seat.old seat.new }
         ensures opened { seat.new.me.0 ≡ did (OpenStep row) (turned Resting row seat.old.me.0) }
+        ensures home { GoesHome self.now.shape.first.value.items seat.old.me.1 seat.new.me.1 }
     {
         self.words
             .shared
             .store::<Open>(seat, self.place(row, 0), pack_cell(Cell::Waiting));
+    }
+
+    /// Takes what stood for the row's thread at first out of its slot. The row is the thread's first, and held.
+    pub(crate) fn begin(&self, seat: &mut Seat<Option<M>, View<M>>, row: Row)
+        requires sits { Sits self.now seat.old × HasRow self.now row }
+        requires first { (row.sync ≡ 0) × Has seat.old.me.0.seen.held row × (¬ Has seat.old.me.0.seen.begun row) }
+        requires some { 0 < length self.now.shape.first.value.items }
+        ensures sits { StaysAtTable self.now seat.old seat.new }
+        ensures began { seat.new.me.0 ≡ began row seat.old.me.0 }
+        ensures out { (value : M) × (slice_get self.now.shape.first.value.items row.thread ≡ Some value) × (seat.new.me.1 ≡ (row.thread, Some value) ∷ seat.old.me.1) }
+    {
+        self.words.shared.load::<Begin>(seat, self.place(row, 0));
+    }
+
+    /// Takes the value out of the slot of the row's thread, which came out last.
+    pub(crate) fn lift(&self, seat: &mut Seat<Option<M>, View<M>>, row: Row) -> M
+        requires sits { Sits self.now seat.old }
+        requires out { (value : M) × (seat.old.me.1 ≡ (row.thread, Some value) ∷ rest seat.old.me.1) }
+        ensures sits { StaysAtTable self.now seat.old seat.new }
+        ensures same { seat.new.me.0 ≡ seat.old.me.0 }
+        ensures lifted { (seat.old.me.1 ≡ (row.thread, Some result) ∷ rest seat.old.me.1) × (seat.new.me.1 ≡ (row.thread, None) ∷ rest seat.old.me.1) }
+    {
+        match self
+            .words
+            .shared
+            .exchange(seat, usize::from(row.thread), None)
+        {
+            Some(value) => value,
+            None => unreachable!(),
+        }
+    }
+
+    /// Lays the value into the slot of the row's thread, which came out last and is empty.
+    pub(crate) fn lay(&self, seat: &mut Seat<Option<M>, View<M>>, row: Row, value: M)
+        requires sits { Sits self.now seat.old }
+        requires out { seat.old.me.1 ≡ (row.thread, None) ∷ rest seat.old.me.1 }
+        ensures sits { StaysAtTable self.now seat.old seat.new }
+        ensures same { seat.new.me.0 ≡ seat.old.me.0 }
+        ensures laid { seat.new.me.1 ≡ (row.thread, Some value) ∷ rest seat.old.me.1 }
+    {
+        let before = self
+            .words
+            .shared
+            .exchange(seat, usize::from(row.thread), Some(value));
+        let None = before else { unreachable!() };
     }
 
     /// Claims a held row, where it is Waiting; else says what it is.
@@ -239,9 +289,9 @@ impl<M> Board<M> {
     ) -> Result<(), Cell>
         requires sits { Sits self.now seat.old × HasRow self.now row }
         requires range { IsJoinedInRange joined }
-        ensures sits { StaysSeated self.now seat.old seat.new }
-        ensures took { IfOk result (λ _. (results : List Result) × (length results ≡ row.sync + 1) × (seat.new.me.0 ≡ did (TakeStep row) (took_with row joined results seat.old.me.0)) × Agrees seat.old.me.0 row (Synched joined) × (¬ Has seat.old.me.0.seen.opened (next_row row))) }
-        ensures found { IfErr result (λ cell. (cell ≢ Synched joined) × (seat.new.me.0 ≡ saw row cell seat.old.me.0) × Agrees seat.old.me.0 row cell) }
+        ensures sits { StaysAtTable self.now seat.old seat.new }
+        ensures took { IfOk result (λ _. (results : List Result) × (length results ≡ row.sync + 1) × (seat.new.me.0 ≡ did (TakeStep row) (took_with row joined results seat.old.me.0)) × ComesOut M.stands self.now.shape.first.value.items seat.old.me.0.seen row joined.own results seat.old.me.1 seat.new.me.1 × Agrees seat.old.me.0 row (Synched joined) × (¬ Has seat.old.me.0.seen.opened (next_row row)) × ((n : NackName) (b : Binding) → Has seat.old.me.0.seen.bound (n, b) → bound_row n b ≢ next_row row)) }
+        ensures found { IfErr result (λ cell. (cell ≢ Synched joined) × (seat.new.me ≡ (saw row cell seat.old.me.0, seat.old.me.1)) × Agrees seat.old.me.0 row cell) }
     {
         let committed = pack_cell(Cell::Synched(joined));
         let taken = pack_cell(Cell::Taken(joined));

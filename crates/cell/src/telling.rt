@@ -7,8 +7,9 @@ ghost use Rattle.cell.specs.Seats.{Sits, StaysSeated};
 use crate::board::{Board, Glance, Tell};
 use crate::view::View;
 use atomic_table::Seat;
+use protocol::Resident;
 
-impl<M> Board<M> {
+impl<M: Resident> Board<M> {
     /// What `from` has seen, and what it drafted for its opened rows, is seen by `to` from now on.
     pub(crate) fn tell(
         &self,
@@ -18,6 +19,7 @@ impl<M> Board<M> {
         requires { Sits self.now from.old × Sits self.now to.old }
         ensures sits { (from.new.id ≡ from.old.id) × Sits self.now from.new × (to.new.id ≡ to.old.id) × Sits self.now to.new }
         ensures from { from.new.me.0 ≡ from.old.me.0 }
+        ensures out { (from.new.me.1 ≡ from.old.me.1) × (to.new.me.1 ≡ to.old.me.1) }
         ensures to { to.new.me.0 ≡ heard_pass to.old.me.0 (told_pass from.old.me.0) }
     {
         let told = self.words.shared.split_seat::<Tell>(from);
@@ -28,7 +30,7 @@ impl<M> Board<M> {
     /// Reads a word and learns nothing by it: a pass that was told something sees so that all that it
     /// has seen is of one table.
     fn glance(&self, seat: &mut Seat<Option<M>, View<M>>)
-        requires sits { (seat.old.table_id ≡ self.now.words.shared.table_id) × (seat.old.me.0.threads ≡ self.now.shape.threads) × (seat.old.me.0.rows ≡ self.now.shape.rows) }
+        requires sits { (seat.old.table_id ≡ self.now.words.shared.table_id) × (seat.old.me.0.threads ≡ self.now.shape.threads) × (seat.old.me.0.rows ≡ self.now.shape.rows) × (seat.old.me.0.first ≡ self.now.shape.first.value.items) }
         ensures sits { StaysSeated self.now seat.old seat.new }
         ensures stays { seat.new.me.0 ≡ seat.old.me.0 }
     {

@@ -3,13 +3,16 @@
 
 use protocol::{Binding, Joined, Message, NackName, Row, Step};
 use std::collections::LinkedList;
+use std::snapshot::Snapshot;
 
-/// How large a table is.
-#[derive(Clone, Copy, Debug, Drop)]
-pub struct Shape {
+/// How large a table is, and what stood for its threads at first.
+#[derive(Drop)]
+pub struct Shape<M> {
     pub threads: u64,
     pub rows: u64,
     pub passes: u64,
+    /// Thread by thread; none where nothing stands for them.
+    pub first: Snapshot<Vec<M>>,
 }
 
 /// Where a call is between two steps.
@@ -39,6 +42,8 @@ pub struct Seen {
     pub taken: LinkedList<Row>,
     /// The nacks that it bound or saw bound, and where.
     pub bound: LinkedList<(NackName, Binding)>,
+    /// The first rows of threads whose first value it fetched.
+    pub begun: LinkedList<Row>,
 }
 
 /// What the table's rule knows of a pass.

@@ -17,8 +17,8 @@ pub compare_exchange-found-requires : goal.compare_exchange-found-requires
 compare_exchange-found-requires g c = (
   search rules,
   search rules,
-  subst (λ (z : Shape × ℕ × ℕ). Allows (Keeps z.0) c.args.self.now.words.shared.table_id.slots c.args.seat.now.id c.args.seat.now.me c.place.result (λ n. either (eqb n z.1) z.2 n) (claimed (step c.args.self.now.words.shared.table_id.slots c.place.result z.1 z.2 none) c.args.seat.now.me)) (λ i. (sym c.args.self.now.keyed i, sym c.pack_cell-waiting.ensures i, sym c.pack_cell-claimed.ensures i))
-      (claim_allowed c.args.self.now.shape c.args.self.now.words.shared.table_id.slots c.args.seat.now.id c.place.result c.args.seat.now.me c.args.row (search rules) (search rules) (search rules) (search rules) (search rules) (search rules)),
+  subst (λ (z : Shape g.row.M.Denot × ℕ × ℕ). Allows (Keeps g.M.Resident.stands z.0) c.args.self.now.words.shared.table_id.slots c.args.seat.now.id c.args.seat.now.me c.place.result (λ n. either (eqb n z.1) z.2 n) (claimed (step c.args.self.now.words.shared.table_id.slots c.place.result z.1 z.2 none) c.args.seat.now.me)) (λ i. (sym c.args.self.now.keyed i, sym c.pack_cell-waiting.ensures i, sym c.pack_cell-claimed.ensures i))
+      (claim_allowed g.M.Resident.stands c.args.self.now.shape c.args.self.now.words.shared.table_id.slots c.args.seat.now.id c.place.result c.args.seat.now.me c.args.row (search rules) (search rules) (search rules) (search rules) (search rules) (search rules)),
 )
 
 pub returns-clause-found : goal.returns-clause-found

@@ -26,12 +26,12 @@ draft_atom-requires-3-clause-atom g c = (c.requires.offer.0, omega arith, omega 
 there : {M : Type 0} (r : Row) (p x : ℕ) (v w : View M) → w ≡ word_drafted r p x v → Has w.seen.drafts (r, p, x)
 there r p x v w e = subst (λ (u : View _). Has u.seen.drafts (r, p, x)) (sym e) (inl refl)
 
-head_drafted : {g : _} (c : goal.After-draft_atom-3 g) → DraftsAt c.args.row (2 + 4 * c.args.n) c.args.seat.now.me.0.seen c.draft.new.seat.me.0.seen
-head_drafted c = subst (λ (v : View _). DraftsAt c.args.row (2 + 4 * c.args.n) c.args.seat.now.me.0.seen v.seen) (sym c.draft.ensures.drafted) (redrafts_word c.args.row (2 + 4 * c.args.n) _ c.args.seat.now.me.0.seen)
+head_drafted : (g : _) (c : goal.After-draft_atom-3 g) → DraftsAt c.args.row (2 + 4 * c.args.n) c.args.seat.now.me.0.seen c.draft.new.seat.me.0.seen
+head_drafted g c = subst (λ (v : View _). DraftsAt c.args.row (2 + 4 * c.args.n) c.args.seat.now.me.0.seen v.seen) (sym c.draft.ensures.drafted) (redrafts_word c.args.row (2 + 4 * c.args.n) _ c.args.seat.now.me.0.seen)
 
 pub returns-clause-others : goal.returns-clause-others
 returns-clause-others g c =
-    redrafts_offer c.args.row c.args.n _ _ _ _ _ (head_drafted c) c.draft_atom.ensures.others c.draft_atom-2.ensures.others c.draft_atom-3.ensures.others
+    redrafts_offer c.args.row c.args.n _ _ _ _ _ (head_drafted g c) c.draft_atom.ensures.others c.draft_atom-2.ensures.others c.draft_atom-3.ensures.others
 
 pub returns-clause-made : goal.returns-clause-made
 returns-clause-made g c =

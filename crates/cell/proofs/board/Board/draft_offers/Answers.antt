@@ -14,6 +14,7 @@ pub loop-n-init : goal.loop-n-init
 loop-n-init g c =
     record {
       same = (search rules);
+      out = (search rules);
       sits = (search rules);
       stays = (search rules);
       made = subst (λ (v : View _). OnlyDrafts c.args.row c.args.seat.now.me.0.made v.made) (sym c.draft.ensures.drafted) (one_draft c.args.row 1 _ c.args.seat.now.me.0.made);
@@ -33,6 +34,7 @@ loop-n-preserved g c =
     let below : c.loop-n.n < length c.args.offers.now = (search rules) in
     record {
       same = (search rules);
+      out = (search rules);
       sits = (search rules);
       stays = (search rules);
       made = drafts_then c.args.row c.args.seat.now.me.0.made _ _ c.loop-n.invariant.made c.draft_offer.ensures.made;

@@ -10,6 +10,7 @@ abbrev pub invariant-loop-n : goal.invariant-loop-n
 invariant-loop-n g l =
     record {
       same : l.seat.id ≡ l.fn.seat.id;
+      out : l.seat.me.1 ≡ l.fn.seat.me.1;
       sits : Sits l.self l.seat;
       stays : l.seat.me.0 ≡ worked l.fn.seat.me.0.stage l.seat.me.0.seen l.seat.me.0.made l.fn.seat.me.0;
       made : OnlyDrafts l.row l.fn.seat.me.0.made l.seat.me.0.made;

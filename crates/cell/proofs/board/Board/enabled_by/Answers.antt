@@ -15,8 +15,8 @@ use Rattle.cell.proofs.board.Board.enabled_by.Goals as goal
 use Rattle.cell.proofs.board.Board.enabled_by.Goals.{After-opened_offer}
 
 -- a nack that was seen enabled is found so: the offer that was chosen is the one that was seen
-found : {g : _} (c : After-opened_offer g) (j : Joined) (e : SawEnabled c.args.seat.now.me.0.seen c.args.nack j) → (e.binding ≡ c.in_ok-bound.bound) × (c.opened_offer.result ≡ Some e.offer)
-found c j e =
+found : (g : _) (c : After-opened_offer g) (j : Joined) (e : SawEnabled c.args.seat.now.me.0.seen c.args.nack j) → (e.binding ≡ c.in_ok-bound.bound) × (c.opened_offer.result ≡ Some e.offer)
+found g c j e =
     let bound : c.bound.result ≡ Some c.in_ok-bound.bound = (search rules) in
     let same : e.binding ≡ c.in_ok-bound.bound = some_inj _ _ (sym (c.bound.ensures.same e.binding e.bound) ∙ bound) in
     let row : bound_row c.args.nack e.binding ≡ bound_row c.args.nack c.in_ok-bound.bound = ap (bound_row c.args.nack) same in
@@ -30,7 +30,7 @@ returns-in_err-chosen-clause-none g c =
     let left : c.from_residual-in_err-chosen.result ≡ None = (search rules) in
     let none : c.opened_offer.result ≡ None = (search rules) in
     subst (λ (o : Option Joined). IfNone o ((j : Joined) → ¬ SawEnabled c.args.seat.now.me.0.seen c.args.nack j)) (sym left) (λ j e.
-    let is = (found c.before.before.before j e).1 in
+    let is = (found g c.before.before.before j e).1 in
     let bad : None ≡ Some e.offer = sym none ∙ is in
     cc)
 
@@ -38,13 +38,13 @@ pub returns-then-has_scope-clause-none : goal.returns-then-has_scope-clause-none
 returns-then-has_scope-clause-none g c j e =
     let some : c.opened_offer.result ≡ Some c.in_ok-chosen.chosen = (search rules) in
     let set : has_scope c.in_ok-chosen.chosen.scopes c.in_ok-bound.bound.scope ≡ true = (search rules) in
-    let is = found c.before.before.before.before.before j e in
+    let is = found g c.before.before.before.before.before j e in
     let offer : e.offer ≡ c.in_ok-chosen.chosen = some_inj e.offer c.in_ok-chosen.chosen (sym is.1 ∙ some) in
     true≢false (sym set ∙ (λ i. has_scope (sym offer i).scopes (sym is.0 i).scope) ∙ e.outside)
 
 -- the nack's word was looked at, and then the row to which it is bound
-learnt : {g : _} (c : After-opened_offer g) → LearnsOf (λ q. (b : Binding) × Has c.opened_offer.new.seat.me.0.seen.bound (c.args.nack, b) × (q ≡ bound_row c.args.nack b)) (λ n. n ≡ c.args.nack) c.args.seat.now.me.0.seen c.opened_offer.new.seat.me.0.seen
-learnt c =
+learnt : (g : _) (c : After-opened_offer g) → LearnsOf (λ q. (b : Binding) × Has c.opened_offer.new.seat.me.0.seen.bound (c.args.nack, b) × (q ≡ bound_row c.args.nack b)) (λ n. n ≡ c.args.nack) c.args.seat.now.me.0.seen c.opened_offer.new.seat.me.0.seen
+learnt g c =
     let nack = c.args.nack in
     let s = c.args.seat.now.me.0.seen in
     let t = c.bound.new.seat.me.0.seen in
@@ -57,7 +57,7 @@ learnt c =
     bound_then nack row s t u v c.in_ok-bound.bound refl bound c.bound.ensures.learns c.committed.ensures.learns c.opened_offer.ensures.learns
 
 pub returns-then-has_scope-clause-learns : goal.returns-then-has_scope-clause-learns
-returns-then-has_scope-clause-learns g c = learnt c.before.before.before.before.before
+returns-then-has_scope-clause-learns g c = learnt g c.before.before.before.before.before
 
 pub returns-clause-learns : goal.returns-clause-learns
-returns-clause-learns g c = learnt c.before.before.before.before.before
+returns-clause-learns g c = learnt g c.before.before.before.before.before

@@ -27,8 +27,8 @@ returns-in_default-cause-clause-granted g c (o, stamp, sees, caused) =
     from_none c.cause.result ((stamp : ℕ) → ¬ SawCause c.offer.new.seat.me.0.seen c.in-Some.offer.base stamp) c.cause.ensures.none none stamp later
 
 -- what was read of the offer
-read : {g : _} (c : After-cause g) → Has c.offer.new.seat.me.0.seen.opened c.args.row × HaveOffer c.offer.new.seat.me.0.seen.words c.args.row c.args.n c.in-Some.offer
-read c =
+read : (g : _) (c : After-cause g) → Has c.offer.new.seat.me.0.seen.opened c.args.row × HaveOffer c.offer.new.seat.me.0.seen.words c.args.row c.args.n c.in-Some.offer
+read g c =
     let some : c.offer.result ≡ Some c.in-Some.offer = (search rules) in
     from_some c.offer.result (λ o. Has c.offer.new.seat.me.0.seen.opened c.args.row × HaveOffer c.offer.new.seat.me.0.seen.words c.args.row c.args.n o) c.in-Some.offer c.offer.ensures.some some
 
@@ -36,10 +36,10 @@ pub returns-in_default-cause-clause-learns : goal.returns-in_default-cause-claus
 returns-in_default-cause-clause-learns g c =
     learns_then (IsNearGrant c.cause.new.seat.me.0.seen c.args.row c.args.n) c.args.seat.now.me.0.seen c.offer.new.seat.me.0.seen c.cause.new.seat.me.0.seen
     (near_offer c.args.seat.now.me.0.seen c.offer.new.seat.me.0.seen c.cause.new.seat.me.0.seen c.args.row c.args.n c.offer.ensures.learns)
-    (near_cause c.offer.new.seat.me.0.seen c.cause.new.seat.me.0.seen c.cause.new.seat.me.0.seen c.args.row c.args.n c.in-Some.offer (read c.before).1 c.cause.ensures.learns (learns_nothing (λ q. ⊥) (λ m. ⊥) c.cause.new.seat.me.0.seen))
+    (near_cause c.offer.new.seat.me.0.seen c.cause.new.seat.me.0.seen c.cause.new.seat.me.0.seen c.args.row c.args.n c.in-Some.offer (read g c.before).1 c.cause.ensures.learns (learns_nothing (λ q. ⊥) (λ m. ⊥) c.cause.new.seat.me.0.seen))
 
-ready : {g : _} (c : After-last_stamp-last g) → IsReady c.args.seat.now.me.0.seen c.offer.new.seat.me.0.seen c.cause.new.seat.me.0.seen c.last_stamp-last.new.seat.me.0 c.args.row c.args.n c.in-Some.offer c.in-Some-cause.cause c.last_stamp-last.result
-ready c =
+ready : (g : _) (c : After-last_stamp-last g) → IsReady c.args.seat.now.me.0.seen c.offer.new.seat.me.0.seen c.cause.new.seat.me.0.seen c.last_stamp-last.new.seat.me.0 c.args.row c.args.n c.in-Some.offer c.in-Some-cause.cause c.last_stamp-last.result
+ready g c =
     let some : c.offer.result ≡ Some c.in-Some.offer = (search rules) in
     let have = from_some c.offer.result (λ o. Has c.offer.new.seat.me.0.seen.opened c.args.row × HaveOffer c.offer.new.seat.me.0.seen.words c.args.row c.args.n o) c.in-Some.offer c.offer.ensures.some some in
     let caused : c.cause.result ≡ Some c.in-Some-cause.cause = (search rules) in
@@ -60,16 +60,16 @@ ready c =
 pub give-requires-clause-can : goal.give-requires-clause-can
 give-requires-clause-can g c =
     subst (λ (k : ℕ). CanGrant c.last_stamp-last.new.seat.me.0.seen c.args.row c.args.n (record { own = c.args.n; partner = None; stamp = 1 + k }) × IsJoinedInRange (record { own = c.args.n; partner = None; stamp = 1 + k })) (sym c.max.ensures)
-    (can _ _ _ _ c.last_stamp-last.new.seat.me.0 _ _ _ _ _ (ready c.before.before))
+    (can _ _ _ _ c.last_stamp-last.new.seat.me.0 _ _ _ _ _ (ready g c.before.before))
 
 pub returns-in-Ok-clause-granted : goal.returns-in-Ok-clause-granted
-returns-in-Ok-clause-granted g c = (given_is _ _ _ _ c.give.new.seat.me.0 _ _ _ _ _ (ready c.before.before.before.before) (search rules) (search rules)).0
+returns-in-Ok-clause-granted g c = (given_is _ _ _ _ c.give.new.seat.me.0 _ _ _ _ _ (ready g c.before.before.before.before) (search rules) (search rules)).0
 
 pub returns-in-Ok-clause-learns : goal.returns-in-Ok-clause-learns
-returns-in-Ok-clause-learns g c = (given_is _ _ _ _ c.give.new.seat.me.0 _ _ _ _ _ (ready c.before.before.before.before) (search rules) (search rules)).1
+returns-in-Ok-clause-learns g c = (given_is _ _ _ _ c.give.new.seat.me.0 _ _ _ _ _ (ready g c.before.before.before.before) (search rules) (search rules)).1
 
 pub returns-in-Err-clause-granted : goal.returns-in-Err-clause-granted
-returns-in-Err-clause-granted g c = (late_is _ _ _ _ c.give.new.seat.me.0 _ _ _ _ _ (ready c.before.before.before.before) c.in-Err.field-0 (search rules) (search rules) (search rules) (search rules)).0
+returns-in-Err-clause-granted g c = (late_is _ _ _ _ c.give.new.seat.me.0 _ _ _ _ _ (ready g c.before.before.before.before) c.in-Err.field-0 (search rules) (search rules) (search rules) (search rules)).0
 
 pub returns-in-Err-clause-learns : goal.returns-in-Err-clause-learns
-returns-in-Err-clause-learns g c = (late_is _ _ _ _ c.give.new.seat.me.0 _ _ _ _ _ (ready c.before.before.before.before) c.in-Err.field-0 (search rules) (search rules) (search rules) (search rules)).1
+returns-in-Err-clause-learns g c = (late_is _ _ _ _ c.give.new.seat.me.0 _ _ _ _ _ (ready g c.before.before.before.before) c.in-Err.field-0 (search rules) (search rules) (search rules) (search rules)).1

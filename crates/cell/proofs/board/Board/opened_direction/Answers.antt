@@ -28,8 +28,8 @@ returns-then-n-count-clause-same g c d seen =
     let bad : c.args.n < c.in_ok-count.count = subst (λ (x : Option ℕ). c.args.n < unwrap_or x 0) some below in
     absurd (omega (arith, c.if-n-count.true))
 
-words : {g : _} (c : After-read_head g) → Has c.read-head.new.seat.me.0.seen.words (c.args.row, 1, c.read.result) × Has c.read-head.new.seat.me.0.seen.words (c.args.row, 2 + 4 * c.args.n, c.read-head.result)
-words c = count_and_head _ _ _ c.args.row c.args.n _ _ c.read.ensures.read c.read-head.ensures.read
+words : (g : _) (c : After-read_head g) → Has c.read-head.new.seat.me.0.seen.words (c.args.row, 1, c.read.result) × Has c.read-head.new.seat.me.0.seen.words (c.args.row, 2 + 4 * c.args.n, c.read-head.result)
+words g c = count_and_head _ _ _ c.args.row c.args.n _ _ c.read.ensures.read c.read-head.ensures.read
 
 pub read_head-requires : goal.read_head-requires
 read_head-requires g c =
@@ -42,10 +42,10 @@ returns-clause-some g c =
       (search rules),
       record {
         count = c.read.result;
-        counted = (words c).0;
+        counted = (words g c).0;
         below = subst (λ (x : Option ℕ). c.args.n < unwrap_or x 0) (sym some) (omega (arith, c.if-n-count.false));
         head = c.read-head.result;
-        has_head = (words c).1;
+        has_head = (words g c).1;
         scopes = c.read_head.result.scopes;
         is = c.read_head.ensures;
       },
@@ -54,4 +54,4 @@ returns-clause-some g c =
 pub returns-clause-same : goal.returns-clause-same
 returns-clause-same g c d seen =
     ap (λ (x : Direction). Some x)
-    (direction_same _ _ c.read-head.new.seat.me.0.seen c.read-head.ensures.sits.1.3 c.args.row c.args.n d c.read-head.result c.read_head.result (words c).1 c.read_head.ensures seen)
+    (direction_same _ _ c.read-head.new.seat.me.0.seen c.read-head.ensures.sits.1.3 c.args.row c.args.n d c.read-head.result c.read_head.result (words g c).1 c.read_head.ensures seen)

@@ -6,6 +6,7 @@ use Rattle.cell.specs.Told.{Agrees}
 use Rattle.cell.specs.Views.{saw}
 use Rattle.cell.proofs.Learning.{learns_then, learns_look}
 use Rattle.cell.proofs.Alone.{taken_found}
+use Rattle.cell.proofs.Standing.{comes_from}
 use Rattle.cell.proofs.board.Board.take.Goals as goal
 
 pub take_committed-requires-clause-range : goal.take_committed-requires-clause-range
@@ -24,4 +25,16 @@ returns-in-Err-clause-none g c =
           (subst (λ (v : View _). Learns (λ q. q ≡ c.args.row) c.args.seat.now.me.0.seen v.seen) (sym saw_it) (learns_look c.args.row (Synched c.in-Synched.joined) c.args.seat.now.me.0.seen))
           (subst (λ (v : View _). Learns (λ q. q ≡ c.args.row) c.look.new.seat.me.0.seen v.seen) (sym found) (learns_look c.args.row c.in-Err.field-0 c.look.new.seat.me.0.seen)),
       λ committed. subst (λ (v : View _). Has v.seen.taken c.args.row) (sym found) (taken_found c.look.new.seat.me.0 c.args.row c.in-Synched.joined c.in-Err.field-0 has other agree),
+    )
+
+pub returns-in-Ok-clause-out : goal.returns-in-Ok-clause-out
+returns-in-Ok-clause-out g c =
+    let saw_it : c.look.new.seat.me.0 ≡ saw c.args.row (Synched c.in-Synched.joined) c.args.seat.now.me.0 = (search rules) in
+    let took = c.in-Ok.ensures.took in (
+      took.0,
+      subst (λ (v : View _). Has v.results (c.args.row.thread, took.0)) (sym took.2) (inl refl),
+      took.1,
+      comes_from g.M.Resident.stands c.args.self.now.shape.first.value.items c.args.seat.now.me.0.seen c.look.new.seat.me.0.seen c.args.row c.in-Synched.joined.own took.0 c.look.new.seat.me.1 c.args.seat.now.me.1 c.take_committed.new.seat.me.1
+          (subst (λ (v : View _). Learns (λ q. q ≡ c.args.row) c.args.seat.now.me.0.seen v.seen) (sym saw_it) (learns_look c.args.row (Synched c.in-Synched.joined) c.args.seat.now.me.0.seen))
+          c.look.ensures.sits.2 took.3,
     )

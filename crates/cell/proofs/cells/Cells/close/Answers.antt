@@ -1,17 +1,17 @@
 use Rattle.std.proofs.Common.{sym, subst}
-use Rattle.cell.specs.Calls.{PassView}
+use Rattle.cell.specs.Calls.{PassOf}
 use Rattle.cell.specs.Sight.{Has, IsDraft, SeesNoOffer, SeesOffer}
 use Rattle.cell.proofs.cells.Cells.close.Goals as goal
 
 -- src/cells.rt:188:5
 pub returns-clause-own : goal.returns-clause-own
-returns-clause-own g c r j offers draft e = c.close.ensures.own r j offers (subst (λ (p : PassView). IsDraft p.seen r offers) (sym c.pass.view_is) draft) e
+returns-clause-own g c r j offers draft e = c.close.ensures.own r j offers (subst (λ (p : PassOf g.row.M.Denot). IsDraft p.seen r offers) (sym c.pass.view_is) draft) e
 
 pub returns-clause-offers : goal.returns-clause-offers
-returns-clause-offers g c r n o sees = c.close.ensures.offers r n o (subst (λ (p : PassView). SeesOffer p.seen r n o) (sym c.pass.view_is) sees)
+returns-clause-offers g c r n o sees = c.close.ensures.offers r n o (subst (λ (p : PassOf g.row.M.Denot). SeesOffer p.seen r n o) (sym c.pass.view_is) sees)
 
 pub returns-clause-lacks : goal.returns-clause-lacks
-returns-clause-lacks g c r n sees = c.close.ensures.lacks r n (subst (λ (p : PassView). SeesNoOffer p.seen r n) (sym c.pass.view_is) sees)
+returns-clause-lacks g c r n sees = c.close.ensures.lacks r n (subst (λ (p : PassOf g.row.M.Denot). SeesNoOffer p.seen r n) (sym c.pass.view_is) sees)
 
 pub returns-clause-results : goal.returns-clause-results
-returns-clause-results g c t rs h = c.close.ensures.results t rs (subst (λ (p : PassView). Has p.results (t, rs)) (sym c.pass.view_is) h)
+returns-clause-results g c t rs h = c.close.ensures.results t rs (subst (λ (p : PassOf g.row.M.Denot). Has p.results (t, rs)) (sym c.pass.view_is) h)

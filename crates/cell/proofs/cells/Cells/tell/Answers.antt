@@ -1,5 +1,5 @@
 use Rattle.std.proofs.Common.{rules, ◌≡◌, ◌++◌, ap, ◌∙◌, sym, subst}
-use Rattle.cell.specs.Calls.{PassView}
+use Rattle.cell.specs.Calls.{PassOf}
 use Rattle.cell.specs.declared.view.Seen.{Seen}
 use Rattle.cell.specs.declared.view.View.{View}
 use Rattle.cell.specs.Sight.{Has, SeesNoOffer, SeesOffer}
@@ -24,8 +24,8 @@ returns-clause-bound g c n b h =
 
 pub returns-clause-results : goal.returns-clause-results
 returns-clause-results g c =
-    let from = ap (λ (p : PassView). p.results) c.from.view_is in
-    let to = ap (λ (p : PassView). p.results) c.to.view_is in (
+    let from = ap (λ (p : PassOf g.row.M.Denot). p.results) c.from.view_is in
+    let to = ap (λ (p : PassOf g.row.M.Denot). p.results) c.to.view_is in (
       ap (λ (v : View _). v.results) c.tell.ensures.from ∙ from,
       ap (λ (v : View _). v.results) c.tell.ensures.to ∙ (λ i. to i ++ from i),
     )

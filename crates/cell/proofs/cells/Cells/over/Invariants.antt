@@ -1,0 +1,15 @@
+-- The passes so far hold the rows that fall to them, and the dealer goes on with the next.
+use Rattle.std.proofs.Common.{◌≡◌, ℕ, [], length, slice_get, Some}
+use Rattle.cell.specs.Calls.{PassOf}
+use Rattle.cell.specs.Rule.{dealer, dealt_rows, seen_nothing}
+use Rattle.cell.proofs.cells.Cells.over.Given as goal
+
+abbrev pub invariant-loop-number : goal.invariant-loop-number
+invariant-loop-number g l =
+    record {
+      here : l.dealer.table_id ≡ l.board.words.shared.table_id;
+      dealer : l.dealer.me ≡ (dealer l.board.shape l.number, []);
+      passes : l.board.shape.passes ≡ l.fn.passes;
+      count : length l.dealt.items ≡ l.number;
+      each : (k : ℕ) (p : PassOf g.row.M.Denot) → slice_get l.dealt.items k ≡ Some p → p ≡ record { of = record { id = l.board.words.shared.table_id; threads = l.board.shape.threads; rows = l.board.shape.rows; passes = l.board.shape.passes; first = l.board.shape.first.value.items }; seen = seen_nothing (dealt_rows l.board.shape.threads l.board.shape.passes k); made = []; results = []; out = [] };
+    }
