@@ -7,7 +7,7 @@ ghost use Rattle.meet.specs.Rooms.{AllJoin, EachServes, Joins, Serves};
 ghost use Rattle.meet.specs.Searches.{Grows};
 
 use crate::queue::Queue;
-use cell::{Cells, Pass};
+use cell::{Cells, Pass, Resident};
 use lane::{Lane, LanePass, Waiting};
 use std::alloc::{AllocError, Global};
 use std::sync::Wait;
@@ -167,7 +167,7 @@ fn add_room(
 }
 
 /// Puts the entry into the room of this number, where there is one.
-pub(crate) fn put_into<R: Wait, M>(
+pub(crate) fn put_into<R: Wait, M: Resident>(
     rt: &R,
     cells: &Cells<M>,
     pass: &mut Pass<M>,
@@ -217,7 +217,7 @@ fn put_one<R: Wait>(
 }
 
 /// Removes the entries of committed rows from the room's lane. The others stay in their order.
-fn sweep<R: Wait, M>(
+fn sweep<R: Wait, M: Resident>(
     rt: &R,
     cells: &Cells<M>,
     pass: &mut Pass<M>,
@@ -300,7 +300,7 @@ pub(crate) fn length_of<R: Wait>(rt: &R, rooms: &[Room], lanes: &mut MeetPass, a
 }
 
 /// Puts the entries in hand whose rows are not committed back into the room's lane, in their order.
-pub(crate) fn put_back<R: Wait, M>(
+pub(crate) fn put_back<R: Wait, M: Resident>(
     rt: &R,
     cells: &Cells<M>,
     pass: &mut Pass<M>,

@@ -2,17 +2,17 @@ use Rattle.std.proofs.Common.{◌≡◌, ◌⊎◌, ℕ, ⊎_elim, subst}
 use Rattle.words.specs.declared.Direction.{Direction}
 use Rattle.words.specs.declared.Direction.TheVariants.{Never, Recv, Send}
 use Rattle.words.specs.declared.Row.{Row}
-use Rattle.cell.specs.Calls.{Grid, IsPassOf, PassView}
+use Rattle.cell.specs.Calls.{GridOf, IsPassOf, PassOf}
 use Rattle.cell.specs.Nacks.{CanStandAlone}
 use Rattle.cell.specs.Sight.{SeesDirection}
 use Rattle.meet.proofs.Growing.{NeedsPartner, ok_none, stands_never}
 use Rattle.meet.proofs.meet.Meet.look.Goals as goal
 
 -- an offer in such a direction does not let its row stand alone
-never : (g : Grid) (p : PassView) (mine : Row × ℕ) (d e : Direction) → IsPassOf g p → SeesDirection p.seen mine.0 mine.1 d → d ≡ e → NeedsPartner e → ¬ CanStandAlone p.seen mine.0 mine.1
+never : {M : Type 0} (g : GridOf M) (p : PassOf M) (mine : Row × ℕ) (d e : Direction) → IsPassOf g p → SeesDirection p.seen mine.0 mine.1 d → d ≡ e → NeedsPartner e → ¬ CanStandAlone p.seen mine.0 mine.1
 never g p mine d e here sees is needs = stands_never _ _ p.seen mine.0 mine.1 e here.4 (subst (SeesDirection p.seen mine.0 mine.1) is sees) needs
 
-of_pair : (g : Grid) (p : PassView) (mine : Row × ℕ) (d : Direction) → IsPassOf g p → SeesDirection p.seen mine.0 mine.1 d
+of_pair : {M : Type 0} (g : GridOf M) (p : PassOf M) (mine : Row × ℕ) (d : Direction) → IsPassOf g p → SeesDirection p.seen mine.0 mine.1 d
     → ((chan : ℕ) × (atoms : ℕ) × (d ≡ Send chan atoms)) ⊎ ((chan : ℕ) × (d ≡ Recv chan)) → ¬ CanStandAlone p.seen mine.0 mine.1
 of_pair g p mine d here sees is =
     ⊎_elim (λ w. never g p mine d (Send w.0 w.1) here sees w.2 (λ s x y z stamp h. h)) (λ w. never g p mine d (Recv w.0) here sees w.1 (λ s x y z stamp h. h)) is
