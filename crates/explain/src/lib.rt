@@ -18,8 +18,6 @@ pub fn explanation(number: u16) -> Option<&'static str>
         1 => Some(texts::MEMORY),
         2 => Some(texts::NOT_ALLOWED),
         3 => Some(texts::ROWS),
-        4 => Some(texts::LOST),
-        5 => Some(texts::UNLAWFUL),
         6 => Some(texts::NO_THREAD),
         11 => Some(texts::SYNTAX),
         12 => Some(texts::UNKNOWN_NAME),

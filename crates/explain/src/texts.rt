@@ -21,18 +21,6 @@ comes about: where a program calls the library so. No command line can ask for i
 what to do: ask for 1 to 1024 rows.
 ";
 
-pub(crate) const LOST: &str = "\
-fault 4: a machine of a run is not where its row says
-comes about: a worker tests what it was handed, and a test failed. No script is known to do it.
-what to do: the program is wrong: keep the script and the command line, and report them.
-";
-
-pub(crate) const UNLAWFUL: &str = "\
-fault 5: the commits of a run's workers are no run of the script
-comes about: a run replays its commits, and they were not lawful. No script is known to do it.
-what to do: the program is wrong: keep the script and the command line, and report them.
-";
-
 pub(crate) const NO_THREAD: &str = "\
 fault 6: a thread could not be started
 comes about: the system gave pcml run or pcml meet fewer threads than it asks for.

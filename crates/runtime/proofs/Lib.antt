@@ -1,3 +1,4 @@
 pub mod Completed
 pub mod Crossing
 pub mod Lists
+pub mod Machines

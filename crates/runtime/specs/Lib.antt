@@ -1,3 +1,4 @@
 pub mod Headline
 pub mod Limits
+pub mod Machines
 pub mod Workers

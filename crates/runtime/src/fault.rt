@@ -17,12 +17,6 @@ pub enum RunFault {
     /// The number of rows is not 1 to 1024.
     #[error("the number of rows is not 1 to 1024")]
     Rows,
-    /// A machine is not where its row says, or a nack that it needs is bound already.
-    #[error("a machine is not where its row says")]
-    Lost,
-    /// The commits of the workers are no run of the script.
-    #[error("the commits are no run")]
-    Unlawful,
     /// A worker could not be started.
     #[error("a worker could not be started")]
     NoWorker,
@@ -32,7 +26,6 @@ pub enum RunFault {
 #[derive(Clone, Copy, Debug, Drop)]
 pub(crate) enum Halt {
     Memory,
-    Lost,
     NoWorker,
 }
 
@@ -52,12 +45,10 @@ impl<T: Drop> From<AllocFailed<T>> for Halt {
     }
 }
 
-/// Of two reasons the one that is told: want of memory before a worker that could not be started, and that
-/// before a machine that was lost.
+/// Of two reasons the one that is told: want of memory before a worker that could not be started.
 pub(crate) fn told_first(before: Option<Halt>, halt: Halt) -> Halt {
     match (before, halt) {
         (Some(Halt::Memory), _) | (_, Halt::Memory) => Halt::Memory,
-        (Some(Halt::NoWorker), _) | (_, Halt::NoWorker) => Halt::NoWorker,
-        (Some(Halt::Lost) | None, Halt::Lost) => Halt::Lost,
+        (Some(Halt::NoWorker) | None, Halt::NoWorker) => Halt::NoWorker,
     }
 }

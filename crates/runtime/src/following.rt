@@ -6,8 +6,9 @@ ghost use Rattle.runtime.specs.Workers.{IsWorkerOf};
 
 use crate::fault::Halt;
 use crate::nacks::Nacks;
+use crate::resident::Suspended;
 use crate::turns::{Committed, Shared, Worker};
-use cell::{Bare, Cells, Pass, StepGate};
+use cell::{Cells, Pass, StepGate};
 use ready::ReadyEnd;
 use std::sync::Wait;
 use words::{Cell, NackName, Offer, Row};
@@ -50,12 +51,12 @@ pub(crate) fn put_committed<R: Wait>(
 }
 
 /// Wakes the rows that wait for nacks that the commit of the two rows enabled. Neither is ready
-/// yet: from when a row is put into the ready queues another worker may go on with its thread, whose machine then
-/// has the nacks of its next sync.
+/// yet: from when a row is put into the ready queues another worker may go on with its thread, and then the
+/// nacks of its next sync are noted.
 #[inline(always)]
 pub(crate) fn follow_pair<R: Wait, G: StepGate>(
     rt: &R,
-    cells: &Cells<Bare>,
+    cells: &Cells<Suspended>,
     shared: &Shared,
     gate: &G,
     worker: &mut Worker,
@@ -66,11 +67,10 @@ pub(crate) fn follow_pair<R: Wait, G: StepGate>(
     requires { IsWorkerOf cells.now shared.now worker.old }
     ensures { IsWorkerOf cells.now shared.now worker.new }
 {
-    let home = shared.homes.home(partner.thread)?;
-    if nacks.is_empty() && !home.has_nacks() {
+    if nacks.is_empty() && !shared.notes.has_nacks(partner.thread) {
         return Ok(());
     }
-    let others = home.nacks(rt);
+    let others = shared.notes.nacks(rt, partner.thread);
     wake_enabled(
         rt,
         cells,
@@ -86,7 +86,7 @@ pub(crate) fn follow_pair<R: Wait, G: StepGate>(
 #[inline(always)]
 pub(crate) fn follow_alone<R: Wait, G: StepGate>(
     rt: &R,
-    cells: &Cells<Bare>,
+    cells: &Cells<Suspended>,
     shared: &Shared,
     gate: &G,
     worker: &mut Worker,
@@ -107,7 +107,7 @@ pub(crate) fn follow_alone<R: Wait, G: StepGate>(
 #[inline(never)]
 fn wake_enabled<R: Wait, G: StepGate>(
     rt: &R,
-    cells: &Cells<Bare>,
+    cells: &Cells<Suspended>,
     shared: &Shared,
     gate: &G,
     worker: &mut Worker,
@@ -127,7 +127,7 @@ fn wake_enabled<R: Wait, G: StepGate>(
 /// Rows that are woken are put into the ready queues here.
 fn wake_all<R: Wait, G: StepGate>(
     rt: &R,
-    cells: &Cells<Bare>,
+    cells: &Cells<Suspended>,
     shared: &Shared,
     gate: &G,
     worker: &mut Worker,
@@ -151,7 +151,7 @@ fn wake_all<R: Wait, G: StepGate>(
             nack,
         )?;
         for row in &woken {
-            let others = shared.homes.home(row.thread)?.nacks(rt);
+            let others = shared.notes.nacks(rt, row.thread);
             add_enabled(cells, &mut worker.pass, *row, others, &mut nacks)?;
             put_ready(rt, shared, &mut worker.end, *row)?;
         }
@@ -162,8 +162,8 @@ fn wake_all<R: Wait, G: StepGate>(
 /// Adds those of the row's nacks that its commit enabled: of the scopes that do not enclose the offer that
 /// the row chose.
 fn add_enabled(
-    cells: &Cells<Bare>,
-    pass: &mut Pass<Bare>,
+    cells: &Cells<Suspended>,
+    pass: &mut Pass<Suspended>,
     row: Row,
     nacks: Nacks,
     enabled: &mut Vec<NackName>,
@@ -190,7 +190,7 @@ fn add_enabled(
 }
 
 /// The offer by which the row was committed.
-fn chosen_offer(cells: &Cells<Bare>, pass: &mut Pass<Bare>, row: Row) -> Option<Offer>
+fn chosen_offer(cells: &Cells<Suspended>, pass: &mut Pass<Suspended>, row: Row) -> Option<Offer>
     requires { IsPassOf cells.now pass.old }
     ensures { IsPassOf cells.now pass.new }
 {

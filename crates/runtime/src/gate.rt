@@ -9,7 +9,7 @@ pub trait Gate {
     fn before(&self, worker: u8, thread: u8);
 
     /// The turn has ended, by a fault too. The row that it opened and that row's partner, where it committed
-    /// them, go on when this has returned.
+    /// them, go on when this has returned. A thread's first turn ends before its first row is searched for.
     fn after(&self, worker: u8, thread: u8);
 }
 

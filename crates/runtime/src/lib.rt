@@ -2,13 +2,15 @@
 #![tactic(auto)]
 
 mod activity;
+mod binding;
 mod bound;
 mod fault;
 mod following;
 mod gate;
-mod homes;
 mod nacks;
+mod notes;
 mod ranges;
+mod resident;
 mod running;
 mod turns;
 mod worker;

@@ -4,16 +4,19 @@ ghost use Rattle.std.specs.Prelude.{◌≡◌, ◌≢◌, ◌<◌, ◌≤◌, �
 ghost use Rattle.syntax.specs.Processes.{proc_of};
 ghost use Rattle.protocol.specs.Ledgers.{Ledger, IsLawful};
 ghost use Rattle.script.specs.Scripts.{script_of};
+ghost use Rattle.order.specs.Ledgers.{IsLedgerOf};
 ghost use Rattle.journal.specs.Records.{Completes};
 ghost use Rattle.runtime.specs.Headline.{TellsMaximalRun};
 ghost use Rattle.runtime.specs.Limits.{AreRows, AreWorkers};
-ghost use Rattle.runtime.specs.declared.fault.RunFault.TheVariants.{Workers, Rows, Unlawful};
+ghost use Rattle.runtime.specs.Machines.{AreFirst, IsOfAny};
+ghost use Rattle.runtime.specs.declared.fault.RunFault.TheVariants.{Workers, Rows};
 
 use crate::activity::Activity;
 use crate::bound::rows_used;
 use crate::fault::{Halt, RunFault};
 use crate::gate::{Gate, TurnsOnly};
-use crate::homes::Homes;
+use crate::notes::Notes;
+use crate::resident::Suspended;
 use crate::turns::Shared;
 use crate::workers::{all_work, told_one, workers_of};
 use cell::{Cells, StepGate};
@@ -26,13 +29,14 @@ use sequential::ReplayFault;
 use std::alloc::Global;
 use std::sync::Wait;
 use std::thread::Threads;
+use syntax::Proc;
+use thread::Machine;
 
 fn told(halt: Halt) -> RunFault
-    ensures { (result ≢ Workers) × (result ≢ Rows) × (result ≢ Unlawful) }
+    ensures { (result ≢ Workers) × (result ≢ Rows) }
 {
     match halt {
         Halt::Memory => RunFault::Memory,
-        Halt::Lost => RunFault::Lost,
         Halt::NoWorker => RunFault::NoWorker,
     }
 }
@@ -42,7 +46,6 @@ fn check_limits(workers: u8, rows: u16) -> Result<(), RunFault>
     ensures within { IfOk result (λ u. AreWorkers workers × AreRows rows) }
     ensures workers { (result ≡ Err Workers) ↔ (¬ AreWorkers workers) }
     ensures rows { (result ≡ Err Rows) ↔ (AreWorkers workers × (¬ AreRows rows)) }
-    ensures never_unlawful { result ≢ Err Unlawful }
 {
     if workers < 1 || workers > 16 {
         return Err(RunFault::Workers);
@@ -53,8 +56,23 @@ fn check_limits(workers: u8, rows: u16) -> Result<(), RunFault>
     Ok(())
 }
 
+/// A machine for each process, each before its process.
+fn first_machines(alloc: Global, processes: &[Proc]) -> Result<Vec<Suspended>, Halt>
+    requires { length processes.now ≤ 64 }
+    ensures { IfOk result (λ first. AreFirst (map proc_of processes.now) first.items) }
+{
+    let mut first = Vec::with_capacity(alloc, processes.len())?;
+    for (thread, process) in processes.iter().enumerate() {
+        let machine = Machine::new(alloc, process, thread as u8)?;
+        first.push(Suspended {
+            machine: Box::new(alloc, machine)?,
+        })?;
+    }
+    Ok(first)
+}
+
 /// The workers over a table of their own, which is closed at their end. It has no more rows than the
-/// processes can use.
+/// processes can use. Each of its rows was opened as its process offers there.
 fn work_within<R: Threads + Wait + Sync, G: Gate + StepGate + Sync>(
     rt: &R,
     alloc: Global,
@@ -66,9 +84,11 @@ fn work_within<R: Threads + Wait + Sync, G: Gate + StepGate + Sync>(
     requires workers { AreWorkers workers }
     requires rows { AreRows rows }
     requires some { 1 ≤ length (script_of script.now).processes }
-    ensures { IfOk result IsLawful }
+    ensures lawful { IfOk result IsLawful }
+    ensures run { IfOk result (λ l. IsLedgerOf (script_of script.now).processes l × (l.rows ≤ rows)) }
 {
     let processes = script.processes();
+    let first = first_machines(alloc, processes)?;
     let threads = processes.len() as u8;
     let (meet, lanes) = Meet::new(alloc, script.channels() as u16, threads, workers)?;
     let (ready, ends) = Ready::new(alloc, workers)?;
@@ -77,18 +97,20 @@ fn work_within<R: Threads + Wait + Sync, G: Gate + StepGate + Sync>(
         meet,
         ready,
         activity: Activity::new(usize::from(workers)),
-        homes: Homes::new(alloc, processes.len())?,
+        notes: Notes::new(alloc, processes.len())?,
     };
-    let (cells, passes) = Cells::new(alloc, threads, rows_used(processes, rows), workers)?;
+    let used = rows_used(processes, rows);
+    let (cells, passes) = Cells::with_machines(alloc, first, used, workers)?;
     let workers = workers_of(alloc, passes, lanes, ends)?;
-    let passes = all_work(rt, alloc, &cells, &shared, gate, processes, workers)?;
+    let passes = all_work(rt, alloc, &cells, &shared, gate, threads, workers)?;
     match told_one(&cells, passes) {
         Some(pass) => Ok(cells.close(pass)),
-        None => Err(Halt::Lost),
+        None => Err(Halt::NoWorker),
     }
 }
 
-/// The workers alone: the ledger of the table that they leave. It waits for its workers, which wait for
+/// The workers alone: the ledger of the table that they leave. However their steps fall, each of its rows offers what
+/// its process offers after the results of the thread's rows before, so its commits in order are a run of the script. It waits for its workers, which wait for
 /// one another and for the gate, which is called round each turn and before each step of an attempt.
 pub fn work<R: Threads + Wait + Sync, G: Gate + StepGate + Sync>(
     rt: &R,
@@ -100,9 +122,9 @@ pub fn work<R: Threads + Wait + Sync, G: Gate + StepGate + Sync>(
 ) -> Result<Ledger, RunFault>
     requires { 1 ≤ length (script_of script.now).processes }
     ensures lawful { IfOk result IsLawful }
+    ensures run { IfOk result (λ l. IsLedgerOf (script_of script.now).processes l × (l.rows ≤ rows)) }
     ensures workers { (result ≡ Err Workers) ↔ (¬ AreWorkers workers) }
     ensures rows { (result ≡ Err Rows) ↔ (AreWorkers workers × (¬ AreRows rows)) }
-    ensures never_unlawful { result ≢ Err Unlawful }
 {
     check_limits(workers, rows)?;
     match work_within(rt, alloc, script, workers, rows, gate) {
@@ -113,7 +135,7 @@ pub fn work<R: Threads + Wait + Sync, G: Gate + StepGate + Sync>(
 
 /// A ledger with no commit.
 fn no_commits(alloc: Global) -> Result<Ledger, RunFault>
-    ensures lawful { IfOk result IsLawful }
+    ensures lawful { IfOk result (λ l. IsLawful l × IsOfAny l × (l.rows ≡ 1)) }
     ensures faults { (result ≢ Err Workers) × (result ≢ Err Rows) }
 {
     match World::start(alloc, 1, 1, 1) {
@@ -148,7 +170,8 @@ pub fn run_gated<R: Threads + Wait + Sync, G: Gate + StepGate + Sync>(
     match complete(alloc, processes, rows, &ledger) {
         Ok(record) => Ok(record),
         Err(ReplayFault::Memory) => Err(RunFault::Memory),
-        Err(ReplayFault::Unlawful(_)) => Err(RunFault::Unlawful),
+        // each row of the ledger was opened as its process offers there
+        Err(ReplayFault::Unlawful(_)) => unreachable!(),
     }
 }
 

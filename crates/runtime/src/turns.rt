@@ -1,26 +1,33 @@
 //! The turns of threads: a row is taken, its thread's machine runs, and the thread's next row is opened and
 //! searched for.
 
-ghost use Rattle.std.specs.Prelude.{◌≡◌, ◌<◌, ◌≤◌, IfOk, IfSome, IsTrue, length};
-ghost use Rattle.protocol.specs.Tables.{next_row};
-ghost use Rattle.cell.specs.Calls.{IsPassOf, IsRowOf};
+ghost use Rattle.std.specs.Prelude.{◌≡◌, ◌≢◌, ◌∷◌, ◌<◌, ◌≤◌, IfOk, IfSome, IsTrue, None, length};
+ghost use Rattle.atomic_table.specs.Table.{rest};
+ghost use Rattle.words.specs.declared.Binding.{Binding};
+ghost use Rattle.words.specs.declared.NackName.{NackName};
+ghost use Rattle.protocol.specs.Tables.{bound_row, next_row};
+ghost use Rattle.thread.specs.Machines.{Tells};
+ghost use Rattle.cell.specs.Calls.{Holds, IsPassOf, IsRowOf};
 ghost use Rattle.cell.specs.Sight.{Has};
+ghost use Rattle.cell.specs.Views.{first_row};
+ghost use Rattle.runtime.specs.Machines.{IsNow, IsTable, IsToResume, IsUntouched, LeavesOthers};
 ghost use Rattle.runtime.specs.Workers.{IsWorkerOf};
 
 use crate::activity::Activity;
+use crate::binding::bind_all;
 use crate::fault::Halt;
 use crate::following::{follow_alone, follow_pair, put_committed};
 use crate::gate::Gate;
-use crate::homes::{Home, Homes};
 use crate::nacks::Nacks;
+use crate::notes::Notes;
 use crate::ranges::are_offers;
-use cell::{Bare, Cells, Pass, StepGate};
+use crate::resident::Suspended;
+use cell::{Cells, Pass, StepGate};
 use meet::{Found, Meet, MeetPass};
 use ready::{Ready, ReadyEnd};
 use std::alloc::Global;
 use std::sync::Wait;
-use syntax::Proc;
-use thread::{Machine, Turn};
+use thread::Turn;
 use words::{Cell, Joined, Message, Row};
 
 /// What all workers share, beside the cells.
@@ -30,14 +37,14 @@ pub(crate) struct Shared {
     pub(crate) meet: Meet,
     pub(crate) ready: Ready,
     pub(crate) activity: Activity,
-    pub(crate) homes: Homes,
+    pub(crate) notes: Notes,
 }
 
 /// What a worker has for itself: its pass of the cells, its passes of the lanes, its end of the ready queues,
 /// and its number.
 #[derive(Drop)]
 pub(crate) struct Worker {
-    pub(crate) pass: Pass<Bare>,
+    pub(crate) pass: Pass<Suspended>,
     pub(crate) lanes: MeetPass,
     pub(crate) end: ReadyEnd,
     pub(crate) number: u8,
@@ -55,7 +62,7 @@ pub(crate) enum Committed {
 /// nothing runs. The answer is what the turn committed, which is to go on.
 pub(crate) fn advance<R: Wait, G: Gate + StepGate>(
     rt: &R,
-    cells: &Cells<Bare>,
+    cells: &Cells<Suspended>,
     shared: &Shared,
     gate: &G,
     worker: &mut Worker,
@@ -91,7 +98,7 @@ pub(crate) fn advance<R: Wait, G: Gate + StepGate>(
 }
 
 /// The next row of the row's thread, if the table has it. Then it has the row too.
-fn row_behind(cells: &Cells<Bare>, row: Row) -> Option<Row>
+fn row_behind(cells: &Cells<Suspended>, row: Row) -> Option<Row>
     ensures { IfSome result (λ next. IsRowOf cells.now row × IsRowOf cells.now next × (next ≡ next_row row)) }
 {
     let next = Row {
@@ -101,140 +108,160 @@ fn row_behind(cells: &Cells<Bare>, row: Row) -> Option<Row>
     cells.has(next).then_some(next)
 }
 
-/// The first turn of the thread, where the pass holds its first row. What it commits is put into the ready
-/// queues.
+/// The first turn of the thread, where the pass holds its first row: the row is opened, and not searched for yet.
 fn begin_thread<R: Wait, G: Gate + StepGate>(
     rt: &R,
-    cells: &Cells<Bare>,
+    cells: &Cells<Suspended>,
     shared: &Shared,
     gate: &G,
-    process: &Proc,
     worker: &mut Worker,
     thread: u8,
 ) -> Result<(), Halt>
     requires here { IsWorkerOf cells.now shared.now worker.old }
-    requires thread { thread < 64 }
+    requires untouched { IsUntouched worker.old.pass.seen (first_row thread) }
+    ensures here { IsWorkerOf cells.now shared.now worker.new }
+    ensures others { LeavesOthers thread worker.old.pass.seen worker.new.pass.seen }
+{
+    let row = Row { thread, sync: 0 };
+    if !worker.pass.holds(row) || !cells.has(row) {
+        return Ok(());
+    }
+    gate.before(worker.number, thread);
+    let opened = begin(rt, cells, shared, &mut worker.pass, row);
+    gate.after(worker.number, thread);
+    opened?;
+    Ok(())
+}
+
+/// Searches for a row that the thread's first one can meet, where the pass holds that and has opened it. What
+/// comes to be committed is put into the ready queues.
+fn search_first<R: Wait, G: Gate + StepGate>(
+    rt: &R,
+    cells: &Cells<Suspended>,
+    shared: &Shared,
+    gate: &G,
+    worker: &mut Worker,
+    thread: u8,
+) -> Result<(), Halt>
+    requires { IsWorkerOf cells.now shared.now worker.old }
     ensures { IsWorkerOf cells.now shared.now worker.new }
 {
     let row = Row { thread, sync: 0 };
     if !worker.pass.holds(row) || !cells.has(row) {
         return Ok(());
     }
-    let Cell::Fresh = cells.look(&mut worker.pass, row) else {
-        return Err(Halt::Lost);
-    };
-    gate.before(worker.number, thread);
-    let opened = begin(rt, cells, shared, process, &mut worker.pass, row);
-    let done = meet(rt, cells, shared, gate, worker, row, opened);
-    gate.after(worker.number, thread);
-    put_committed(rt, shared, &mut worker.end, done?)
+    match cells.look(&mut worker.pass, row) {
+        Cell::Fresh => Ok(()),
+        Cell::Waiting | Cell::Claimed | Cell::Synched(_) | Cell::Taken(_) => {
+            let nacks = shared.notes.nacks(rt, thread);
+            let done = meet(rt, cells, shared, gate, worker, row, Ok(Some(nacks)))?;
+            put_committed(rt, shared, &mut worker.end, done)
+        }
+    }
 }
 
-/// The first turns of the threads whose first rows the worker's pass holds.
+/// The first turns of the threads whose first rows the worker's pass holds. All of these rows are opened before
+/// the first of them is searched for.
 pub(crate) fn begin_all<R: Wait, G: Gate + StepGate>(
     rt: &R,
-    cells: &Cells<Bare>,
+    cells: &Cells<Suspended>,
     shared: &Shared,
     gate: &G,
-    processes: &[Proc],
+    threads: u8,
     worker: &mut Worker,
 ) -> Result<(), Halt>
-    requires { IsWorkerOf cells.now shared.now worker.old }
+    requires here { IsWorkerOf cells.now shared.now worker.old }
+    requires untouched { (r : Row) → IsUntouched worker.old.pass.seen r }
     ensures { IsWorkerOf cells.now shared.now worker.new }
 {
-    for (at, process) in processes.iter().enumerate() {
-        if at >= 64 {
-            return Err(Halt::Lost);
-        }
-        begin_thread(rt, cells, shared, gate, process, worker, at as u8)?;
+    for thread in 0..threads {
+        begin_thread(rt, cells, shared, gate, worker, thread)?;
+    }
+    for first in 0..threads {
+        search_first(rt, cells, shared, gate, worker, first)?;
     }
     Ok(())
 }
 
 /// Runs the thread to its first stop, and opens its first row where it offers something there. The answer
-/// is the row's nacks, if it does. The row is opened while the machine is held, and searched for when it is
-/// at home again.
+/// is the row's nacks, if it does.
 fn begin<R: Wait>(
     rt: &R,
-    cells: &Cells<Bare>,
+    cells: &Cells<Suspended>,
     shared: &Shared,
-    process: &Proc,
-    pass: &mut Pass<Bare>,
+    pass: &mut Pass<Suspended>,
     row: Row,
 ) -> Result<Option<Nacks>, Halt>
-    requires here { IsPassOf cells.now pass.old × IsRowOf cells.now row }
-    requires fresh { Has pass.old.seen.held row × (¬ Has pass.old.seen.opened row) }
-    requires thread { row.thread < 64 }
+    requires here { IsPassOf cells.now pass.old × IsRowOf cells.now row × IsTable cells.now }
+    requires first { (row.sync ≡ 0) × Has pass.old.seen.held row }
+    requires untouched { IsUntouched pass.old.seen row }
     ensures here { IsPassOf cells.now pass.new }
-    ensures opened { IfOk result (λ opened. IfSome opened (λ nacks. Has pass.new.seen.held row × Has pass.new.seen.opened row)) }
+    ensures others { LeavesOthers row.thread pass.old.seen pass.new.seen }
 {
-    let home = shared.homes.home(row.thread)?;
-    let mut machine = Machine::new(shared.alloc, process, row.thread)?;
-    let turn = machine.begin()?;
-    let mut place = home.machine.lock(rt);
-    *place = Some(machine);
-    let Some(machine) = &*place else {
-        return Err(Halt::Lost);
-    };
-    enter(cells, pass, row, home, machine, turn)
+    let mut suspended = cells.fetch(pass, row);
+    let turn = suspended.machine.begin()?;
+    enter(rt, cells, shared, pass, row, suspended, turn)
 }
 
-/// Goes on with the row's thread after the row was committed so, with this message, and opens its next
+/// Goes on with the row's thread after the row was taken, committed so, with this message, and opens its next
 /// row where it offers something there. The answer is that row's nacks, if it does.
 fn resume<R: Wait>(
     rt: &R,
-    cells: &Cells<Bare>,
+    cells: &Cells<Suspended>,
     shared: &Shared,
-    pass: &mut Pass<Bare>,
+    pass: &mut Pass<Suspended>,
     row: Row,
     joined: Joined,
     message: Message,
     next: Row,
 ) -> Result<Option<Nacks>, Halt>
-    requires here { IsPassOf cells.now pass.old × IsRowOf cells.now next }
+    requires here { IsPassOf cells.now pass.old × IsRowOf cells.now next × IsTable cells.now }
+    requires next { next ≡ next_row row }
     requires fresh { Has pass.old.seen.held next × (¬ Has pass.old.seen.opened next) }
+    requires free { (n : NackName) (b : Binding) → Has pass.old.seen.bound (n, b) → bound_row n b ≢ next }
+    requires resumes { IsToResume cells.now.first pass.old row joined.own message }
     ensures here { IsPassOf cells.now pass.new }
     ensures opened { IfOk result (λ opened. IfSome opened (λ nacks. Has pass.new.seen.held next × Has pass.new.seen.opened next)) }
 {
-    let home = shared.homes.home(row.thread)?;
-    let mut place = home.machine.lock(rt);
-    let Some(machine) = &mut *place else {
-        return Err(Halt::Lost);
-    };
-    if machine.results().len() != usize::from(row.sync)
-        || usize::from(joined.own) >= machine.offers().len()
-    {
-        return Err(Halt::Lost);
-    }
-    let turn = machine.resume(joined.own, message)?;
-    enter(cells, pass, next, home, machine, turn)
+    let mut suspended = cells.fetch(pass, next);
+    let turn = suspended.machine.resume(joined.own, message)?;
+    enter(rt, cells, shared, pass, next, suspended, turn)
 }
 
-/// Opens the row with what the machine offers, if it offers something. The answer is its nacks then.
-fn enter(
-    cells: &Cells<Bare>,
-    pass: &mut Pass<Bare>,
+/// Opens the row with what the machine offers, if it offers something, and the machine goes home. The answer is its
+/// nacks then. A machine that has come to its end is done with.
+fn enter<R: Wait>(
+    rt: &R,
+    cells: &Cells<Suspended>,
+    shared: &Shared,
+    pass: &mut Pass<Suspended>,
     row: Row,
-    home: &Home,
-    machine: &Machine,
+    suspended: Suspended,
     turn: Turn,
 ) -> Result<Option<Nacks>, Halt>
-    requires here { IsPassOf cells.now pass.old × IsRowOf cells.now row }
+    requires here { IsPassOf cells.now pass.old × IsRowOf cells.now row × IsTable cells.now }
     requires fresh { Has pass.old.seen.held row × (¬ Has pass.old.seen.opened row) }
+    requires free { (n : NackName) (b : Binding) → Has pass.old.seen.bound (n, b) → bound_row n b ≢ row }
+    requires out { Holds pass.old row None }
+    requires turn { Tells turn suspended.machine.value.phase }
+    requires stands { IsNow cells.now.first pass.old row suspended }
     ensures here { IsPassOf cells.now pass.new }
+    ensures others { LeavesOthers row.thread pass.old.seen pass.new.seen }
     ensures opened { IfOk result (λ opened. IfSome opened (λ nacks. Has pass.new.seen.held row × Has pass.new.seen.opened row)) }
 {
     let Turn::Offering = turn else {
         return Ok(None);
     };
-    let offers = machine.offers();
-    if !are_offers(offers) {
-        return Err(Halt::Lost);
+    if !are_offers(suspended.machine.offers()) {
+        return Ok(None);
     }
-    let nacks = Nacks::of(machine.nacks());
-    bind_all(cells, pass, row, nacks)?;
-    home.note(nacks);
-    cells.draft(pass, row, offers);
+    let nacks = Nacks::of(suspended.machine.nacks());
+    if !bind_all(cells, pass, row, suspended.machine.nacks()) {
+        return Ok(None);
+    }
+    shared.notes.note(rt, row.thread, nacks);
+    cells.draft(pass, row, suspended.machine.offers());
+    cells.park(pass, row, suspended);
     cells.open(pass, row);
     Ok(Some(nacks))
 }
@@ -243,7 +270,7 @@ fn enter(
 /// here.
 fn meet<R: Wait, G: StepGate>(
     rt: &R,
-    cells: &Cells<Bare>,
+    cells: &Cells<Suspended>,
     shared: &Shared,
     gate: &G,
     worker: &mut Worker,
@@ -272,23 +299,4 @@ fn meet<R: Wait, G: StepGate>(
         // whoever committed the row follows it
         Found::Already | Found::Left => Ok(Committed::Nothing),
     }
-}
-
-/// Binds the nacks of the row's scopes. A nack is bound by its own thread alone, when its sync is opened,
-/// so none is bound yet.
-fn bind_all(cells: &Cells<Bare>, pass: &mut Pass<Bare>, row: Row, nacks: Nacks) -> Result<(), Halt>
-    requires here { IsPassOf cells.now pass.old × IsRowOf cells.now row }
-    requires fresh { Has pass.old.seen.held row × (¬ Has pass.old.seen.opened row) }
-    ensures here { IsPassOf cells.now pass.new }
-    ensures fresh { Has pass.new.seen.held row × (¬ Has pass.new.seen.opened row) }
-{
-    for scope in 0..4u8 {
-        let Some(k) = nacks.numbers[usize::from(scope)] else {
-            return Ok(());
-        };
-        if k >= 64 || !cells.bind(pass, k, row, scope) {
-            return Err(Halt::Lost);
-        }
-    }
-    Ok(())
 }

@@ -2,17 +2,17 @@
 
 ghost use Rattle.cell.specs.Calls.{IsPassOf};
 ghost use Rattle.ready.specs.Ends.{IsEndOf};
-ghost use Rattle.runtime.specs.Workers.{IsWorkerOf};
+ghost use Rattle.runtime.specs.Workers.{IsNewWorkerOf, IsWorkerOf};
 
 use crate::fault::Halt;
 use crate::following::{put_committed, put_ready};
 use crate::gate::Gate;
+use crate::resident::Suspended;
 use crate::turns::{Committed, Shared, Worker, advance, begin_all};
-use cell::{Bare, Cells, Pass, StepGate};
+use cell::{Cells, Pass, StepGate};
 use crossbeam_utils::Backoff;
 use ready::ReadyEnd;
 use std::sync::Wait;
-use syntax::Proc;
 use words::Row;
 
 /// How many snoozes at most lie between two looks of an idle worker. The more there are, the less it disturbs
@@ -107,16 +107,16 @@ fn keep_one<R: Wait>(
 /// The first turns of the worker's threads, and then whatever is ready.
 fn all_turns<R: Wait, G: Gate + StepGate>(
     rt: &R,
-    cells: &Cells<Bare>,
+    cells: &Cells<Suspended>,
     shared: &Shared,
     gate: &G,
-    processes: &[Proc],
+    threads: u8,
     worker: &mut Worker,
 ) -> Result<(), Halt>
-    requires { IsWorkerOf cells.now shared.now worker.old }
+    requires { IsNewWorkerOf cells.now shared.now worker.old }
     ensures { IsWorkerOf cells.now shared.now worker.new }
 {
-    begin_all(rt, cells, shared, gate, processes, worker)?;
+    begin_all(rt, cells, shared, gate, threads, worker)?;
     let mut kept = None;
     // Who has often found nothing looks seldom, also after a row was found.
     let mut snoozes = 1;
@@ -133,24 +133,24 @@ fn all_turns<R: Wait, G: Gate + StepGate>(
 /// What a worker gives back: its pass, and whether it came to the end.
 #[derive(Drop)]
 pub(crate) struct Worked {
-    pub(crate) pass: Pass<Bare>,
+    pub(crate) pass: Pass<Suspended>,
     pub(crate) done: Result<(), Halt>,
 }
 
 /// All turns of one worker. Where it halts, all workers stop.
 pub(crate) fn work_on<R: Wait, G: Gate + StepGate>(
     rt: &R,
-    cells: &Cells<Bare>,
+    cells: &Cells<Suspended>,
     shared: &Shared,
     gate: &G,
-    processes: &[Proc],
+    threads: u8,
     worker: Worker,
 ) -> Worked
-    requires { IsWorkerOf cells.now shared.now worker }
+    requires { IsNewWorkerOf cells.now shared.now worker }
     ensures { IsPassOf cells.now result.pass }
 {
     let mut worker = worker;
-    let done = all_turns(rt, cells, shared, gate, processes, &mut worker);
+    let done = all_turns(rt, cells, shared, gate, threads, &mut worker);
     if done.is_err() {
         shared.activity.stop();
     }

@@ -2,17 +2,19 @@
 
 ghost use Rattle.std.specs.Prelude.{◌≡◌, [], All, IfOk, IfSome};
 ghost use denote.Param.Send.{IsSync};
-ghost use Rattle.cell.specs.Calls.{Grid, IsPassOf, PassView};
+ghost use Rattle.cell.specs.Calls.{GridOf, IsPassOf};
 ghost use Rattle.meet.specs.Rooms.{IsMeetPassOf};
 ghost use Rattle.ready.specs.Ends.{IsEndOf};
-ghost use Rattle.runtime.specs.Workers.{IsWorkerOf};
+ghost use Rattle.runtime.specs.Workers.{IsNewPassOf, IsNewWorkerOf};
+ghost use Rattle.runtime.specs.declared.resident.Suspended.{Suspended};
 ghost use Rattle.runtime.specs.declared.turns.Shared.{Shared};
 
 use crate::fault::{Halt, told_first};
 use crate::gate::Gate;
+use crate::resident::Suspended;
 use crate::turns::{Shared, Worker};
 use crate::worker::{Worked, work_on};
-use cell::{Bare, Cells, Pass, StepGate};
+use cell::{Cells, Pass, StepGate};
 use core::thread::Stack;
 use meet::MeetPass;
 use ready::ReadyEnd;
@@ -21,7 +23,6 @@ use std::snapshot::Snapshot;
 use std::sync::Wait;
 use std::thread;
 use std::thread::{Promise, PromisedHandle, Threads};
-use syntax::Proc;
 
 /// The bytes of stack that a worker's thread gets, whatever the process gives its first thread. What a worker
 /// does takes stack only where a script is deep, and a script is no deeper than 48.
@@ -30,14 +31,14 @@ const WORKER_STACK: usize = 512 * 1024;
 /// A worker gives back a pass of this table.
 #[derive(Drop)]
 struct GivesBack {
-    cells: Snapshot<Cells<Bare>>,
+    cells: Snapshot<Cells<Suspended>>,
 }
 
 impl Promise<Worked> for GivesBack {
     ghost kept_by = { λ side worked. IsPassOf side.cells.value worked.pass };
 }
 
-fn gives_back(cells: &Cells<Bare>) -> GivesBack
+fn gives_back(cells: &Cells<Suspended>) -> GivesBack
     ensures { result.cells.value ≡ cells.now }
 {
     GivesBack {
@@ -51,10 +52,10 @@ type Handle = PromisedHandle<Worked, GivesBack>;
 fn join_all<R: Threads>(
     rt: &R,
     alloc: Global,
-    cells: &Cells<Bare>,
+    cells: &Cells<Suspended>,
     handles: Vec<Handle>,
     halted: Option<Halt>,
-) -> Result<Vec<Pass<Bare>>, Halt>
+) -> Result<Vec<Pass<Suspended>>, Halt>
     requires { All (λ h. h.promise.cells.value ≡ cells.now) handles.items }
     ensures { IfOk result (λ back. All (λ p. IsPassOf cells.now p) back.items) }
 {
@@ -78,11 +79,11 @@ fn join_all<R: Threads>(
 /// The workers, each with a pass, lanes and an end of its own.
 pub(crate) fn workers_of(
     alloc: Global,
-    passes: Vec<Pass<Bare>>,
+    passes: Vec<Pass<Suspended>>,
     lanes: Vec<MeetPass>,
     ends: Vec<ReadyEnd>,
 ) -> Result<Vec<Worker>, Halt>
-    ensures { (cells : Grid) (shared : Shared) → All (IsPassOf cells) passes.items → All (IsMeetPassOf shared.meet) lanes.items → All (IsEndOf shared.ready) ends.items → IfOk result (λ workers. All (IsWorkerOf cells shared) workers.items) }
+    ensures { (cells : GridOf Suspended) (shared : Shared) → All (IsNewPassOf cells) passes.items → All (IsMeetPassOf shared.meet) lanes.items → All (IsEndOf shared.ready) ends.items → IfOk result (λ workers. All (IsNewWorkerOf cells shared) workers.items) }
 {
     let mut lanes = lanes;
     let mut ends = ends;
@@ -90,10 +91,10 @@ pub(crate) fn workers_of(
     let mut number = 0u8;
     for pass in passes {
         let Some(lanes) = lanes.pop() else {
-            return Err(Halt::Lost);
+            return Err(Halt::NoWorker);
         };
         let Some(end) = ends.pop() else {
-            return Err(Halt::Lost);
+            return Err(Halt::NoWorker);
         };
         workers.push(Worker {
             pass,
@@ -110,13 +111,13 @@ pub(crate) fn workers_of(
 fn work_alone<R: Wait, G: Gate + StepGate>(
     rt: &R,
     alloc: Global,
-    cells: &Cells<Bare>,
+    cells: &Cells<Suspended>,
     shared: &Shared,
     gate: &G,
-    processes: &[Proc],
+    threads: u8,
     workers: Vec<Worker>,
-) -> Result<Vec<Pass<Bare>>, Halt>
-    requires { All (λ w. IsWorkerOf cells.now shared.now w) workers.items }
+) -> Result<Vec<Pass<Suspended>>, Halt>
+    requires { All (λ w. IsNewWorkerOf cells.now shared.now w) workers.items }
     ensures { IfOk result (λ back. All (λ p. IsPassOf cells.now p) back.items) }
 {
     let mut workers = workers;
@@ -124,7 +125,7 @@ fn work_alone<R: Wait, G: Gate + StepGate>(
     let Some(worker) = workers.pop() else {
         return Ok(back);
     };
-    let Worked { pass, done } = work_on(rt, cells, shared, gate, processes, worker);
+    let Worked { pass, done } = work_on(rt, cells, shared, gate, threads, worker);
     done?;
     back.push(pass)?;
     Ok(back)
@@ -134,25 +135,25 @@ fn work_alone<R: Wait, G: Gate + StepGate>(
 pub(crate) fn all_work<R: Threads + Wait + Sync, G: Gate + StepGate + Sync>(
     rt: &R,
     alloc: Global,
-    cells: &Cells<Bare>,
+    cells: &Cells<Suspended>,
     shared: &Shared,
     gate: &G,
-    processes: &[Proc],
+    threads: u8,
     workers: Vec<Worker>,
-) -> Result<Vec<Pass<Bare>>, Halt>
-    requires { All (λ w. IsWorkerOf cells.now shared.now w) workers.items }
+) -> Result<Vec<Pass<Suspended>>, Halt>
+    requires { All (λ w. IsNewWorkerOf cells.now shared.now w) workers.items }
     ensures { IfOk result (λ back. All (λ p. IsPassOf cells.now p) back.items) }
 {
     if workers.len() == 1 {
-        return work_alone(rt, alloc, cells, shared, gate, processes, workers);
+        return work_alone(rt, alloc, cells, shared, gate, threads, workers);
     }
     let mut handles: Vec<Handle> = Vec::with_capacity(alloc, workers.len())?;
     thread::scope(
         thread::scope_env(),
         rt,
-        |scope| -> Result<Vec<Pass<Bare>>, Halt>
+        |scope| -> Result<Vec<Pass<Suspended>>, Halt>
             requires sync { IsSync R.row × IsSync G.row }
-            requires workers { All (λ w. IsWorkerOf cells.now shared.now w) workers.items }
+            requires workers { All (λ w. IsNewWorkerOf cells.now shared.now w) workers.items }
             requires handles { handles.items ≡ [] }
             ensures { IfOk result (λ back. All (λ p. IsPassOf cells.entry.now p) back.items) }
         {
@@ -163,9 +164,9 @@ pub(crate) fn all_work<R: Threads + Wait + Sync, G: Gate + StepGate + Sync>(
                     gives_back(cells),
                     move || -> Worked
                         requires sync { IsSync R.row × IsSync G.row }
-                        requires here { IsWorkerOf cells.now shared.now worker }
+                        requires here { IsNewWorkerOf cells.now shared.now worker }
                         ensures { IsPassOf cells.entry.now result.pass }
-                    { work_on(rt, cells, shared, gate, processes, worker) },
+                    { work_on(rt, cells, shared, gate, threads, worker) },
                 );
                 let Ok(handle) = started else {
                     halted = Some(Halt::NoWorker);
@@ -185,7 +186,10 @@ pub(crate) fn all_work<R: Threads + Wait + Sync, G: Gate + StepGate + Sync>(
 }
 
 /// One of the passes, which all others have told what they saw.
-pub(crate) fn told_one(cells: &Cells<Bare>, passes: Vec<Pass<Bare>>) -> Option<Pass<Bare>>
+pub(crate) fn told_one(
+    cells: &Cells<Suspended>,
+    passes: Vec<Pass<Suspended>>,
+) -> Option<Pass<Suspended>>
     requires { All (λ p. IsPassOf cells.now p) passes.items }
     ensures { IfSome result (λ p. IsPassOf cells.now p) }
 {

@@ -135,8 +135,6 @@ Fails Holds (Run script workers rows journal quiet) faults.Unread = Unit {0}
 Fails Holds (Run script workers rows journal quiet) faults.NoThread = Unit {0}
 Fails Holds (Run script workers rows journal quiet) faults.Workers = ¬ AreWorkers workers
 Fails Holds (Run script workers rows journal quiet) faults.Rows = ¬ AreRows rows
-Fails Holds (Run script workers rows journal quiet) faults.Lost = Unit {0}
-Fails Holds (Run script workers rows journal quiet) faults.Unlawful = Unit {0}
 Fails Holds (Run script workers rows journal quiet) faults.Unwritten = journal ≢ None
 Fails Holds (Run script workers rows journal quiet) fault = FailsScript Holds script.now fault
 

@@ -36,8 +36,6 @@ abbrev pub fault_of_run : RunFault → Fault
 fault_of_run runs.Memory = faults.Memory
 fault_of_run runs.Workers = faults.Workers
 fault_of_run runs.Rows = faults.Rows
-fault_of_run runs.Lost = faults.Lost
-fault_of_run runs.Unlawful = faults.Unlawful
 fault_of_run runs.NoWorker = faults.NoThread
 
 abbrev pub fault_of_script : ScriptFault → Fault

@@ -27,12 +27,6 @@ pub enum Fault {
     /// A number of rows that is not 1 to 1024. No words of a command line ask for it.
     #[error("fault 3")]
     Rows,
-    /// A machine of a run that is not where its row says.
-    #[error("fault 4")]
-    Lost,
-    /// Commits of a run's workers that are no run of the script.
-    #[error("fault 5")]
-    Unlawful,
     /// A thread that could not be started.
     #[error("fault 6")]
     NoThread,
@@ -80,8 +74,6 @@ impl Fault {
             Fault::Memory => 1,
             Fault::NotAllowed(_) | Fault::Workers => 2,
             Fault::Rows => 3,
-            Fault::Lost => 4,
-            Fault::Unlawful => 5,
             Fault::NoThread => 6,
             Fault::Syntax(_) => 11,
             Fault::UnknownName(_) => 12,
@@ -160,8 +152,6 @@ impl From<RunFault> for Fault {
             RunFault::Memory => Fault::Memory,
             RunFault::Workers => Fault::Workers,
             RunFault::Rows => Fault::Rows,
-            RunFault::Lost => Fault::Lost,
-            RunFault::Unlawful => Fault::Unlawful,
             RunFault::NoWorker => Fault::NoThread,
         }
     }

@@ -9,13 +9,11 @@ use std::thread::Threads;
 use tool::Fault;
 
 /// Every fault: a match over them in `Fault::number` has no other.
-const FAULTS: [Fault; 18] = [
+const FAULTS: [Fault; 16] = [
     Fault::Memory,
     Fault::NotAllowed(7),
     Fault::Workers,
     Fault::Rows,
-    Fault::Lost,
-    Fault::Unlawful,
     Fault::NoThread,
     Fault::Syntax(7),
     Fault::UnknownName(7),
@@ -58,6 +56,8 @@ fn explains_each_fault(rt: HostRuntime) -> Result<(), Fail> {
         &rt,
         &[
             &["explain", "0"],
+            &["explain", "4"],
+            &["explain", "5"],
             &["explain", "7"],
             &["explain", "33"],
             &["explain", "65535"],

@@ -81,3 +81,29 @@ fn refuses_numbers_outside_their_limits(rt: HostRuntime) -> Result<(), Fail> {
     }
     Ok(())
 }
+
+/// What went wrong in a run. The match has no other arm: a fifth fault would not compile.
+fn text_of(fault: RunFault) -> &'static str {
+    match fault {
+        RunFault::Memory => "out of memory",
+        RunFault::Workers => "the number of workers is not 1 to 16",
+        RunFault::Rows => "the number of rows is not 1 to 1024",
+        RunFault::NoWorker => "a worker could not be started",
+    }
+}
+
+const FAULTS: [RunFault; 4] = [
+    RunFault::Memory,
+    RunFault::Workers,
+    RunFault::Rows,
+    RunFault::NoWorker,
+];
+
+#[test]
+fn a_run_has_four_faults(rt: HostRuntime) -> Result<(), Fail> {
+    for fault in &FAULTS {
+        let told = format!(in rt.alloc(); "{fault}")?;
+        check_same(&rt, told.as_str(), text_of(*fault), "the text of the fault");
+    }
+    Ok(())
+}

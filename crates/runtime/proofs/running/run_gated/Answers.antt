@@ -1,9 +1,13 @@
-use Rattle.std.proofs.Common.{List, subst}
-use Rattle.syntax.specs.Processes.{Proc}
+use Rattle.std.proofs.Common.{◌≡◌, ◌≤◌, ◌∙◌, List, arith, map, subst, sym}
+use Rattle.syntax.specs.Processes.{Proc, proc_of}
+use Rattle.protocol.specs.Ledgers.{Ledger}
+use Rattle.order.specs.Ledgers.{IsLedgerOf}
+use Rattle.sequential.specs.declared.state.ReplayFault.TheVariants.{Memory, Unlawful}
 use Rattle.script.specs.Scripts.{script_of}
 use Rattle.journal.specs.Records.{Completes}
 use Rattle.runtime.proofs.Completed.{completed}
 use Rattle.runtime.proofs.running.run_gated.Goals as goal
+use Rattle.runtime.proofs.running.run_gated.Goals.{then-is_empty+in_ok-ledger, else-is_empty+in_ok-ledger-2}
 
 pub returns-in-Ok-clause-headline : goal.returns-in-Ok-clause-headline
 returns-in-Ok-clause-headline g c =
@@ -11,3 +15,17 @@ returns-in-Ok-clause-headline g c =
     let record' = c.in-Ok.record in
     completed (script_of c.args.script.now).processes c.args.rows ledger record'
     (subst (λ (ps : List Proc). Completes ps c.args.rows ledger record') c.processes-processes.ensures.value c.in-Ok.ensures.answer)
+
+-- each row of the ledger was opened as its process offers there
+pub unreachable-requires : goal.unreachable-requires
+unreachable-requires g c =
+    let F : Ledger → Type 0 = λ l. IsLedgerOf (map proc_of c.processes-processes.result.now) l × (l.rows ≤ c.args.rows) in
+    let value = c.processes-processes.ensures.value in
+    let rows = c.in_ok-check_limits.ensures.within.1 in
+    let facts : F c.if-is_empty.ledger = elim c.if-is_empty.branch [
+      | then-is_empty+in_ok-ledger w ↦ subst F (sym w.ledger-is) (w.in_ok-ledger.ensures.lawful.1 (map proc_of c.processes-processes.result.now), (let one = w.in_ok-ledger.ensures.lawful.2 in let low = rows.0 in omega (arith, one, low)))
+      | else-is_empty+in_ok-ledger-2 w ↦ subst F (sym w.ledger-is) (subst (λ (ps : List Proc). IsLedgerOf ps w.in_ok-ledger-2.ledger) (sym value) w.in_ok-ledger-2.ensures.run.0, w.in_ok-ledger-2.ensures.run.1)
+    ] in
+    let fault = c.in-Err-Unlawful.ensures.sure facts.0 facts.1 in
+    let bad : Memory ≡ Unlawful c.in-Err-Unlawful.field-0-0 = sym fault ∙ c.in-Err-Unlawful.field-0-is in
+    cc

@@ -1,10 +1,29 @@
+use contract.Lifetimes.{Lfts}
+use denote.Param.Send.{IsSend, sendable, param_send}
+use Rattle.std.proofs.Crossing.{crosses}
 use Rattle.std.proofs.Common.{rules, ◌≡◌, sym, ap, ◌∙◌, subst}
 use Rattle.words.specs.declared.Offer.{Offer}
 use Rattle.words.specs.declared.Row.{Row}
 use Rattle.cell.specs.Calls.{Grid, PassView}
 use Rattle.answers.specs.declared.meeting.TookPart.{TookPart}
 use Rattle.answers.specs.Meet.{first_row, HasTakenPart}
+use Rattle.answers.proofs.Crossing.{bare_cells_sync, bare_pass_send}
+use Rattle.answers.proofs.meeting.fn.both_take_part.scope.Given.{Over}
+use Rattle.answers.proofs.meeting.fn.both_take_part.scope.Lts as lts
 use Rattle.answers.proofs.meeting.fn.both_take_part.scope.Goals as goal
+
+-- the closures of the two threads may be sent
+send_sending : (g : Over) (κs : Lfts 6) → IsSend (lts.arg-0-2 g.row.R g.R.laws g.R.Threads-dict g.R.Wait-dict κs)
+send_sending g κs = search (sendable, crosses, bare_cells_sync, bare_pass_send) depth 40 fits 5000
+
+send_receiving : (g : Over) (κs : Lfts 6) → IsSend (lts.arg-4-2 g.row.R g.R.laws g.R.Threads-dict g.R.Wait-dict κs)
+send_receiving g κs = search (sendable, crosses, bare_cells_sync, bare_pass_send) depth 40 fits 5000
+
+pub spawn_with-sending-requires-send-F : goal.spawn_with-sending-requires-send-F
+spawn_with-sending-requires-send-F g c κs = param_send 2 (lts.arg-0-2 g.row.R g.R.laws g.R.Threads-dict g.R.Wait-dict κs) (send_sending g κs)
+
+pub spawn_with-receiving-requires-send-F : goal.spawn_with-receiving-requires-send-F
+spawn_with-receiving-requires-send-F g c κs = param_send 2 (lts.arg-4-2 g.row.R g.R.laws g.R.Threads-dict g.R.Wait-dict κs) (send_receiving g κs)
 
 -- what is promised of a pass, and what is known of the promise
 kept : (promise side : TookPart) (cells : Grid) (row : Row) (offer : Offer) (pass : PassView) → promise ≡ side → (side.cells.value ≡ cells) × (side.row ≡ row) × (side.offer ≡ offer)

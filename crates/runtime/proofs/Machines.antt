@@ -1,0 +1,244 @@
+-- What a worker does with a machine keeps what is known of it.
+use Rattle.std.proofs.Common.{◌⊎◌, ◌≡◌, ◌≢◌, ◌<◌, ◌≤◌, ◌+◌, ℕ, zero, suc, List, [], ◌∷◌, ◌++◌, length, Option, Some, None, slice_get, sym, refl, ap, ◌∙◌, subst, inl, inr, ⊎_elim, arith}
+use Rattle.std.proofs.lemmas.List.{length-append}
+use Rattle.std.proofs.lemmas.Option.{none-some, same_Some}
+use Rattle.atomic_table.specs.Table.{rest}
+use Rattle.words.specs.declared.Binding.{Binding}
+use Rattle.words.specs.declared.NackName.{NackName}
+use Rattle.words.specs.declared.Offer.{Offer}
+use Rattle.words.specs.declared.Row.{Row}
+use Rattle.syntax.specs.Processes.{Proc}
+use Rattle.thread.specs.After.{Chosen}
+use Rattle.thread.specs.Machines.{Broken, IsAfter, Open, Over, Phase, Ready, SameProcess, StartsAs, Stuck, Tells, Thread, nacks_in, offers_in}
+use Rattle.thread.specs.declared.machine.Turn.TheVariants as turn
+use Rattle.protocol.specs.Ledgers.{IsLawful, Ledger, ledger_of}
+use Rattle.protocol.specs.Standing.{EachOffersAs, SomeStands, binding_of}
+use Rattle.protocol.specs.Tables.{bound_row}
+use Rattle.protocol.specs.Worlds.{nack_of_row, start_world}
+use Rattle.protocol.proofs.LedgerLemmas.{kept_start, lawful_ledger}
+use Rattle.protocol.proofs.Standing.{stands-ledger, stands-start}
+use Rattle.order.specs.Ledgers.{IsLedgerOf, ProcessOffers}
+use Rattle.cell.specs.Calls.{CanFetch, CanFetchAt, Fetched, FetchedAt, GridOf, Holds, PassOf}
+use Rattle.cell.specs.declared.view.Seen.{Seen}
+use Rattle.cell.specs.Rule.{IsReady}
+use Rattle.cell.specs.Sight.{Has, IsDraft, see_begun, see_bound, see_opened}
+use Rattle.runtime.specs.declared.resident.Suspended.{Suspended}
+use Rattle.runtime.specs.Machines.{AreBound, AreFirst, IsMachineOf, IsNow, IsOfAny, IsTable, IsUntouched, LeavesOthers, StandsFor}
+
+-- WHAT OTHER THREADS ARE LEFT WITH
+
+pub new_untouched : (s : Seen) (r : Row) → s.opened ≡ [] → s.begun ≡ [] → s.bound ≡ [] → IsUntouched s r
+new_untouched s r opened begun bound = (
+  λ h. subst (λ (l : List Row). Has l r) opened h,
+  λ h. subst (λ (l : List Row). Has l r) begun h,
+  λ n b h e. subst (λ (l : List (NackName × Binding)). Has l (n, b)) bound h,
+)
+
+pub leaves_then : (t : ℕ) (s u v : Seen) → LeavesOthers t s u → LeavesOthers t u v → LeavesOthers t s v
+leaves_then t s u v f g r apart h = g r apart (f r apart h)
+
+pub leaves_same : (t : ℕ) (s u : Seen) → u.opened ≡ s.opened → u.begun ≡ s.begun → u.bound ≡ s.bound → LeavesOthers t s u
+leaves_same t s u opened begun bound r apart h = (
+  λ i. h.0 (subst (λ (l : List Row). Has l r) opened i),
+  λ i. h.1 (subst (λ (l : List Row). Has l r) begun i),
+  λ n b i. h.2 n b (subst (λ (l : List (NackName × Binding)). Has l (n, b)) bound i),
+)
+
+pub leaves_begun : (r : Row) (s : Seen) → LeavesOthers r.thread s (see_begun r s)
+leaves_begun r s x apart h = (
+  h.0,
+  λ i. ⊎_elim (λ (e : r ≡ x). apart (ap (λ (y : Row). y.thread) (sym e))) (λ (old : Has s.begun x). h.1 old) i,
+  h.2,
+)
+
+pub leaves_opened : (r : Row) (s : Seen) → LeavesOthers r.thread s (see_opened r s)
+leaves_opened r s x apart h = (
+  λ i. ⊎_elim (λ (e : r ≡ x). apart (ap (λ (y : Row). y.thread) (sym e))) (λ (old : Has s.opened x). h.0 old) i,
+  h.1,
+  h.2,
+)
+
+pub leaves_bound : (r : Row) (k : ℕ) (b : Binding) (s : Seen) → LeavesOthers r.thread s (see_bound (nack_of_row r k) b s)
+leaves_bound r k b s x apart h = (
+  h.0,
+  h.1,
+  λ n c i. ⊎_elim
+      (λ (e : (nack_of_row r k, b) ≡ (n, c)). λ at. apart (ap (λ (y : Row). y.thread) (sym at) ∙ ap (λ (z : NackName × Binding). z.0.thread) (sym e)))
+      (λ (old : Has s.bound (n, c)). h.2 n c old)
+      i,
+)
+
+-- BINDING
+
+pub bound_none : (r : Row) (nacks : List ℕ) (s : Seen) → AreBound r nacks 0 s s
+bound_none r nacks s = record { bound = λ scope k below e. absurd (omega arith); only = λ n b h. inl h }
+
+pub bound_more : (r : Row) (nacks : List ℕ) (count k : ℕ) (s t u : Seen) → AreBound r nacks count s t → slice_get nacks count ≡ Some k → u ≡ see_bound (nack_of_row r k) (record { sync = r.sync; scope = count }) t → AreBound r nacks (count + 1) s u
+bound_more r nacks count k s t u before at is = record {
+  bound = λ scope n below e. subst (λ (z : Seen). Has z.bound (nack_of_row r n, binding_of r scope)) (sym is) (there scope n below e);
+  only = λ n b h. ⊎_elim
+      (λ (e : (nack_of_row r k, record { sync = r.sync; scope = count }) ≡ (n, b)). inr (count, k, at, ap (λ (z : NackName × Binding). z.0) (sym e), ap (λ (z : NackName × Binding). z.1) (sym e)))
+      (λ (old : Has t.bound (n, b)). before.only n b old)
+      (subst (λ (z : Seen). Has z.bound (n, b)) is h);
+}
+  where
+    there : (scope n : ℕ) → scope < count + 1 → slice_get nacks scope ≡ Some n → Has (see_bound (nack_of_row r k) (record { sync = r.sync; scope = count }) t).bound (nack_of_row r n, binding_of r scope)
+    there scope n below e = ⊎_elim
+        (λ (same : scope ≡ count).
+        let one : k ≡ n = same_Some k n (sym at ∙ ap (slice_get nacks) (sym same) ∙ e) in
+        inl (λ i. (nack_of_row r (one i), binding_of r (sym same i))))
+        (λ (lower : scope < count). inr (before.bound scope n lower e))
+        (Rattle.std.proofs.Math.Nat.eq-or-lt_of_le (let h : scope ≤ count = omega arith in h))
+
+-- FETCHING
+
+pub can_fetch_first : (g : GridOf Suspended) (p : PassOf Suspended) (r : Row) → r.sync ≡ 0 → 0 < length g.first → (¬ Has p.seen.begun r) → CanFetch g p r
+can_fetch_first g p r e some unbegun = subst (λ (n : ℕ). CanFetchAt g p r n) (sym e) (some, unbegun)
+
+pub fetched_first : (g : GridOf Suspended) (p q : PassOf Suspended) (r : Row) (m : Suspended) → r.sync ≡ 0 → Fetched g p q r m → FetchedAt g p q r m 0
+fetched_first g p q r m e f = subst (λ (n : ℕ). FetchedAt g p q r m n) e f
+
+pub can_fetch_next : (g : GridOf Suspended) (p : PassOf Suspended) (r : Row) (n : ℕ) (m : Suspended) → r.sync ≡ n + 1 → Holds p r (Some m) → CanFetch g p r
+can_fetch_next g p r n m e holds = subst (λ (k : ℕ). CanFetchAt g p r k) (sym (let s : r.sync ≡ suc n = omega (arith, e) in s)) (m, holds)
+
+pub fetched_next : (g : GridOf Suspended) (p q : PassOf Suspended) (r : Row) (n : ℕ) (m : Suspended) → r.sync ≡ n + 1 → Fetched g p q r m → FetchedAt g p q r m (suc n)
+fetched_next g p q r n m e f = subst (λ (k : ℕ). FetchedAt g p q r m k) (let s : r.sync ≡ suc n = omega (arith, e) in s) f
+
+pub one_held : (p : PassOf Suspended) (r : Row) (m n : Suspended) → Holds p r (Some m) → Holds p r (Some n) → m ≡ n
+one_held p r m n one two = same_Some m n (ap head_of (sym one ∙ two))
+  where
+    head_of : List (ℕ × Option Suspended) → Option Suspended
+    head_of [] = None
+    head_of (x ∷ xs) = x.1
+
+-- MACHINES
+
+same_then : (a b c : Thread) → SameProcess a b → SameProcess b c → SameProcess a c
+same_then a b c f g = record { body = g.body ∙ f.body; variables = g.variables ∙ f.variables; thread = g.thread ∙ f.thread }
+
+pub begun_machine : (first : List Suspended) (m n : Suspended) (t : ℕ) → slice_get first t ≡ Some m → SameProcess m.machine.value n.machine.value → n.machine.value.results ≡ [] → IsAfter n.machine.value → IsMachineOf first n t []
+begun_machine first m n t is same none after = record { start = m; is_first = is; process = same; given = none; after = after }
+
+pub resumed_machine : (first : List Suspended) (m n : Suspended) (t : ℕ) (earlier told : List Chosen) (last : Chosen) → IsMachineOf first m t earlier → told ≡ earlier ++ last ∷ [] → SameProcess m.machine.value n.machine.value → n.machine.value.results ≡ m.machine.value.results ++ last ∷ [] → IsAfter n.machine.value
+    → IsMachineOf first n t told
+resumed_machine first m n t earlier told last stands whole same results after = record {
+  start = stands.start;
+  is_first = stands.is_first;
+  process = same_then stands.start.machine.value m.machine.value n.machine.value stands.process same;
+  given = results ∙ ap (λ (rs : List Chosen). rs ++ last ∷ []) stands.given ∙ sym whole;
+  after = after;
+}
+
+pub offers_of_open : (p : Phase) (os : List Offer) (ns : List ℕ) → p ≡ Open os ns → offers_in p ≡ os
+offers_of_open p os ns e = ap offers_in e
+
+-- a machine whose turn is an offering is at an open sync
+pub open_phase : (p : Phase) → Tells turn.Offering p → p ≡ Open (offers_in p) (nacks_in p)
+open_phase Ready h = absurd h
+open_phase (Open os ns) h = refl
+open_phase Over h = absurd h
+open_phase (Stuck fault) h = absurd h
+open_phase Broken h = absurd h
+
+-- so it may be parked for its row
+pub is_ready : (first : List Suspended) (p : PassOf Suspended) (before now : Seen) (results : List (ℕ × List Chosen)) (r : Row) (m : Suspended) (os : List Offer) (ns : List ℕ)
+    → IsNow first p r m → ((n : NackName) (b : Binding) → Has before.bound (n, b) → bound_row n b ≢ r) → m.machine.value.phase ≡ Open os ns → results ≡ p.results → now.begun ≡ p.seen.begun → IsDraft now r os → AreBound r ns (length ns) before now
+    → IsReady StandsFor first results now r m
+is_ready first p before now results r m os ns is free open_now same begun drafted bound = record {
+  earlier = is.earlier;
+  count = is.count;
+  seen = subst (λ (l : List (ℕ × List Chosen)). (is.earlier ≡ []) ⊎ Has l (r.thread, is.earlier)) (sym same) is.seen;
+  offers = os;
+  nacks = ns;
+  standing = (is.machine, open_now);
+  drafted = drafted;
+  bound = λ scope k e. bound.bound scope k (Rattle.std.proofs.lemmas.Option.slice_get_within ns scope k e) e;
+  no_others = λ scope k h. ⊎_elim
+      (λ (old : Has before.bound (nack_of_row r k, binding_of r scope)). absurd (free (nack_of_row r k) (binding_of r scope) old refl))
+      (λ (new : (s : ℕ) × (n : ℕ) × (slice_get ns s ≡ Some n) × (nack_of_row r k ≡ nack_of_row r n) × (binding_of r scope ≡ binding_of r s)).
+      let number : k ≡ new.1 = ap (λ (x : NackName). x.k) new.3 in
+      let at : scope ≡ new.0 = ap (λ (b : Binding). b.scope) new.4 in
+      ap (slice_get ns) at ∙ new.2 ∙ ap Some (sym number))
+      (bound.only (nack_of_row r k) (binding_of r scope) h);
+  begun = λ zero. subst (λ (l : List Row). Has l r) (sym begun) (is.begun zero);
+}
+
+-- THE LEDGER
+
+offers_as : (ps : List Proc) (first : List Suspended) (t : ℕ) (results : List Chosen) (os : List Offer) (ns : List ℕ) → AreFirst ps first → SomeStands StandsFor first t results os ns → ProcessOffers ps t results os ns
+offers_as ps first t results os ns are (m, (is, phase)) =
+    let f = are.1 t is.start is.is_first in
+    let starts = f.2 in
+    let opens = subst (λ (p : Phase). Rattle.thread.specs.Machines.IsAfterAt m.machine.value p) phase is.after in
+    record {
+      event = opens.tree;
+      offered = record {
+        process = f.0;
+        is_its = f.1;
+        printed = m.machine.value.output;
+        offers = offers_there f.0 m.machine.value is.start.machine.value starts is.process is.given opens;
+      };
+      are = opens.offers;
+      scopes = opens.nacks;
+    }
+  where
+    offers_there : (p : Proc) (m s : Thread) → StartsAs p t s → SameProcess s m → m.results ≡ results → (o : Rattle.thread.specs.Machines.OpensWith m os ns) → Rattle.thread.specs.After.after p.body (length p.variables) t results ≡ Rattle.thread.specs.After.Offers o.tree m.output
+    offers_there p m s starts same given o =
+        let body = ap Rattle.syntax.specs.Trees.block_of same.body ∙ starts.body in
+        let variables = same.variables ∙ starts.variables in
+        let thread = same.thread ∙ starts.thread in
+        (λ i. Rattle.thread.specs.After.after (sym body i) (sym variables i) (sym thread i) (sym given i)) ∙ o.after
+
+pub ledger_of_processes : (ps : List Proc) (first : List Suspended) (l : Ledger) → AreFirst ps first → EachOffersAs (SomeStands StandsFor first) l → IsLedgerOf ps l
+ledger_of_processes ps first l are each r n o h =
+    let s = each r n o h in
+    record {
+      results = s.results;
+      count = s.count;
+      are = s.are;
+      offers = s.offers;
+      nacks = s.nacks;
+      standing = offers_as ps first r.thread s.results s.offers s.nacks are s.standing;
+      offered = s.offered;
+      bound = s.bound;
+      no_others = s.no_others;
+    }
+
+-- the ledger of a world in which nothing was done is one of any processes
+pub empty_ledger : IsLawful (ledger_of (start_world 1 1 1).table) × IsOfAny (ledger_of (start_world 1 1 1).table) × ((ledger_of (start_world 1 1 1).table).rows ≡ 1)
+unfolding ledger_of start_world
+empty_ledger = (
+  lawful_ledger (start_world 1 1 1).table (kept_start 1 1 1 (omega arith) (omega arith)).linked,
+  λ ps. stands-ledger (ProcessOffers ps) (start_world 1 1 1).table (stands-start (ProcessOffers ps) 1 1 1),
+  refl,
+)
+
+-- one machine more, of the next process
+pub first_more : (ps : List Proc) (first : List Suspended) (t : ℕ) (p : Proc) (m : Suspended)
+    → (length first ≡ t) × ((i : ℕ) (n : Suspended) → slice_get first i ≡ Some n → (q : Proc) × (slice_get ps i ≡ Some q) × StartsAs q i n.machine.value)
+    → slice_get ps t ≡ Some p → StartsAs p t m.machine.value
+    → (length (first ++ m ∷ []) ≡ t + 1) × ((i : ℕ) (n : Suspended) → slice_get (first ++ m ∷ []) i ≡ Some n → (q : Proc) × (slice_get ps i ≡ Some q) × StartsAs q i n.machine.value)
+first_more ps first t p m before at starts = (
+  length-append first (m ∷ []) ∙ ap (λ (n : ℕ). n + 1) before.0,
+  λ i n e. ⊎_elim
+      (λ (old : slice_get first i ≡ Some n). before.1 i n old)
+      (λ (new : (i ≡ length first) × (m ≡ n)). (p, ap (slice_get ps) (new.0 ∙ before.0) ∙ at, subst (λ (z : ℕ × Suspended). StartsAs p z.0 z.1.machine.value) (λ j. (sym (new.0 ∙ before.0) j, new.1 j)) starts))
+      (get_end first m n i e),
+)
+  where
+    get_end : (l : List Suspended) (a b : Suspended) (j : ℕ) → slice_get (l ++ a ∷ []) j ≡ Some b → (slice_get l j ≡ Some b) ⊎ ((j ≡ length l) × (a ≡ b))
+    get_end [] a b zero e = inr (refl, same_Some a b e)
+    get_end [] a b (suc j) e = absurd (none-some b e)
+    get_end (x ∷ xs) a b zero e = inl e
+    get_end (x ∷ xs) a b (suc j) e = ⊎_elim (λ h. inl h) (λ h. inr (ap suc h.0, h.1)) (get_end xs a b j e)
+
+-- what came out last
+pub holds_from : (p : PassOf Suspended) (r : Row) (value : Option Suspended) (c : List (ℕ × Option Suspended)) → p.out ≡ (r.thread, value) ∷ c → Holds p r value
+holds_from p r value c e = e ∙ ap (λ (l : List (ℕ × Option Suspended)). (r.thread, value) ∷ l) (sym (ap rest e))
+
+-- so the machines are before their processes
+pub table_of_first : (cells : GridOf Suspended) (ps : List Proc) (first : List Suspended) → cells.first ≡ first → AreFirst ps first → 1 ≤ length ps → IsTable cells
+table_of_first cells ps first is are some = (
+  (let size = are.0 in let same : length cells.first ≡ length first = ap (λ (l : List Suspended). length l) is in omega (arith, size, same, some)),
+  λ t m e. (are.1 t m (ap (λ (l : List Suspended). slice_get l t) (sym is) ∙ e)).2.phase,
+)

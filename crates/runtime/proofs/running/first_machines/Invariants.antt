@@ -1,0 +1,10 @@
+use Rattle.std.proofs.Common.{◌≡◌, ℕ, map, length, slice_get, Some}
+use Rattle.syntax.specs.Processes.{Proc, proc_of}
+use Rattle.thread.specs.Machines.{StartsAs}
+use Rattle.runtime.specs.declared.resident.Suspended.{Suspended}
+use Rattle.runtime.proofs.running.first_machines.Given as goal
+
+-- the machines so far are those of the first processes
+abbrev pub invariant-loop-thread : goal.invariant-loop-thread
+invariant-loop-thread l =
+    (length l.first.items ≡ l.thread) × ((i : ℕ) (n : Suspended) → slice_get l.first.items i ≡ Some n → (q : Proc) × (slice_get (map proc_of l.processes) i ≡ Some q) × StartsAs q i n.machine.value)

@@ -1,0 +1,78 @@
+-- The machines that stand for the threads, and what a worker knows of one.
+use Rattle.std.specs.Prelude.{◌≡◌, ◌≢◌, ◌⊎◌, ◌<◌, ℕ, List, [], ◌∷◌, length, Some, slice_get}
+use Rattle.words.specs.declared.Binding.{Binding}
+use Rattle.words.specs.declared.Message.{Message}
+use Rattle.words.specs.declared.NackName.{NackName}
+use Rattle.words.specs.declared.Offer.{Offer}
+use Rattle.words.specs.declared.Row.{Row}
+use Rattle.syntax.specs.Processes.{Proc}
+use Rattle.thread.specs.After.{Chosen}
+use Rattle.thread.specs.Machines.{IsAfter, Open, Ready, SameProcess, StartsAs}
+use Rattle.protocol.specs.Standing.{IsLeft, binding_of}
+use Rattle.protocol.specs.Worlds.{nack_of_row}
+use Rattle.protocol.specs.Ledgers.{Ledger}
+use Rattle.protocol.specs.Tables.{bound_row}
+use Rattle.order.specs.Ledgers.{IsLedgerOf}
+use Rattle.atomic_table.specs.Table.{rest}
+use Rattle.cell.specs.Calls.{GridOf, PassOf}
+use Rattle.cell.specs.declared.view.Seen.{Seen}
+use Rattle.cell.specs.Sight.{Has}
+use Rattle.runtime.specs.declared.resident.Suspended.{Suspended}
+
+-- the machine runs the process of the thread's first one, and stands where it leads after these results
+pub record IsMachineOf (first : List Suspended) (m : Suspended) (t : ℕ) (results : List Chosen) : Type 0 where
+  pub start : Suspended
+  pub is_first : slice_get first t ≡ Some start
+  pub process : SameProcess start.machine.value m.machine.value
+  pub given : m.machine.value.results ≡ results
+  pub after : IsAfter m.machine.value
+
+-- and offers these there, with these nacks of its scopes
+abbrev pub StandsFor : List Suspended → Suspended → ℕ → List Chosen → List Offer → List ℕ → Type 0
+StandsFor first m t results offers nacks = IsMachineOf first m t results × (m.machine.value.phase ≡ Open offers nacks)
+
+-- a table of machines, each of which has its process before it
+abbrev pub IsTable : GridOf Suspended → Type 0
+IsTable cells = (0 < length cells.first) × ((t : ℕ) (m : Suspended) → slice_get cells.first t ≡ Some m → m.machine.value.phase ≡ Ready)
+
+-- these machines are those of the processes, thread by thread
+abbrev pub AreFirst : List Proc → List Suspended → Type 0
+AreFirst ps first = (length first ≡ length ps) × ((t : ℕ) (m : Suspended) → slice_get first t ≡ Some m → (p : Proc) × (slice_get ps t ≡ Some p) × StartsAs p t m.machine.value)
+
+-- the pass has not seen the row opened, nor begun with it, and no nack that it has seen is bound to it
+abbrev pub IsUntouched : Seen → Row → Type 0
+IsUntouched s r = (¬ Has s.opened r) × (¬ Has s.begun r) × ((n : NackName) (b : Binding) → Has s.bound (n, b) → bound_row n b ≢ r)
+
+-- what was untouched of other threads still is
+abbrev pub LeavesOthers : ℕ → Seen → Seen → Type 0
+LeavesOthers thread s t = (r : Row) → r.thread ≢ thread → IsUntouched s r → IsUntouched t r
+
+-- the pass has taken the row, and what stands for its thread came out last: it is to be given this message last
+abbrev pub IsToResume : List Suspended → PassOf Suspended → Row → ℕ → Message → Type 0
+IsToResume first p r own message =
+    (told : List Chosen) × Has p.results (r.thread, told) × (value : Suspended) × (p.out ≡ (r.thread, Some value) ∷ rest p.out) × IsLeft StandsFor first value r own told message
+
+-- a machine stands for the row's thread after the results of the rows before, as the pass has them
+pub record IsNow (first : List Suspended) (p : PassOf Suspended) (r : Row) (m : Suspended) : Type 0 where
+  pub earlier : List Chosen
+  pub count : length earlier ≡ r.sync
+  pub seen : (earlier ≡ []) ⊎ Has p.results (r.thread, earlier)
+  pub machine : IsMachineOf first m r.thread earlier
+  pub begun : r.sync ≡ 0 → Has p.seen.begun r
+
+-- nothing but nacks was bound, or seen bound
+pub record OnlyBinds (p q : PassOf Suspended) : Type 0 where
+  pub held : q.seen.held ≡ p.seen.held
+  pub opened : q.seen.opened ≡ p.seen.opened
+  pub begun : q.seen.begun ≡ p.seen.begun
+  pub results : q.results ≡ p.results
+  pub out : q.out ≡ p.out
+
+-- the nacks of the first so many scopes are bound to the row under them, and nothing else was seen bound anew
+pub record AreBound (r : Row) (nacks : List ℕ) (count : ℕ) (s t : Seen) : Type 0 where
+  pub bound : (scope k : ℕ) → scope < count → slice_get nacks scope ≡ Some k → Has t.bound (nack_of_row r k, binding_of r scope)
+  pub only : (n : NackName) (b : Binding) → Has t.bound (n, b) → Has s.bound (n, b) ⊎ ((scope : ℕ) × (k : ℕ) × (slice_get nacks scope ≡ Some k) × (n ≡ nack_of_row r k) × (b ≡ binding_of r scope))
+
+-- whatever the processes, it is a ledger of them: it has no offer
+abbrev pub IsOfAny : Ledger → Type 0
+IsOfAny l = (ps : List Proc) → IsLedgerOf ps l

@@ -1,0 +1,19 @@
+//! A machine as it lies in the table's slots.
+
+use cell::Resident;
+use thread::Machine;
+
+/// A suspended machine. It lies in a box, so what goes from hand to hand is a pointer.
+#[derive(Drop)]
+pub(crate) struct Suspended {
+    pub(crate) machine: Box<Machine>,
+}
+
+impl Resident for Suspended {
+    ghost use Rattle.std.specs.Prelude.{true};
+    ghost use Rattle.runtime.specs.Machines.{StandsFor};
+
+    ghost houses = { true };
+
+    ghost stands = { λ first value thread results offers nacks. StandsFor first value thread results offers nacks };
+}
