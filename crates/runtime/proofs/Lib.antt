@@ -2,3 +2,5 @@ pub mod Completed
 pub mod Crossing
 pub mod Lists
 pub mod Machines
+pub mod Ranging
+pub mod Rising

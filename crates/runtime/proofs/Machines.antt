@@ -1,7 +1,11 @@
 -- What a worker does with a machine keeps what is known of it.
-use Rattle.std.proofs.Common.{◌⊎◌, ◌≡◌, ◌≢◌, ◌<◌, ◌≤◌, ◌+◌, ℕ, zero, suc, List, [], ◌∷◌, ◌++◌, length, Option, Some, None, slice_get, sym, refl, ap, ◌∙◌, subst, inl, inr, ⊎_elim, arith}
+use Rattle.std.proofs.Common.{◌⊎◌, ◌≡◌, ◌≢◌, ◌<◌, ◌≤◌, ◌+◌, ℕ, zero, suc, Bool, true, false, List, [], ◌∷◌, ◌++◌, length, take, Option, Some, None, get_or, slice_get, sym, refl, ap, ◌∙◌, subst, inl, inr, ⊎_elim, arith}
+use Rattle.std.specs.Prelude.{IsFalse}
+use Rattle.std.proofs.Math.Seq.{take-length}
+use Rattle.std.proofs.lemmas.List.Elements.{All-append, All-cons, All-nil}
 use Rattle.std.proofs.lemmas.List.{length-append}
-use Rattle.std.proofs.lemmas.Option.{none-some, same_Some}
+use Rattle.std.proofs.lemmas.Option.{get_or_from_slice_get, none-some, same_Some, slice_get-get_or, slice_get_within}
+use Rattle.event.specs.Tree.{scope_nacks}
 use Rattle.atomic_table.specs.Table.{rest}
 use Rattle.words.specs.declared.Binding.{Binding}
 use Rattle.words.specs.declared.NackName.{NackName}
@@ -9,7 +13,8 @@ use Rattle.words.specs.declared.Offer.{Offer}
 use Rattle.words.specs.declared.Row.{Row}
 use Rattle.syntax.specs.Processes.{Proc}
 use Rattle.thread.specs.After.{Chosen}
-use Rattle.thread.specs.Machines.{Broken, IsAfter, Open, Over, Phase, Ready, SameProcess, StartsAs, Stuck, Tells, Thread, nacks_in, offers_in}
+use Rattle.thread.specs.Machines.{Broken, IsAfter, IsOpen, Open, Over, Phase, Ready, SameProcess, StartsAs, Stuck, Tells, Thread, nacks_in, offers_in}
+use Rattle.thread.specs.Ranges.{MessageIsIn, ResultsAreIn}
 use Rattle.thread.specs.declared.machine.Turn.TheVariants as turn
 use Rattle.protocol.specs.Ledgers.{IsLawful, Ledger, ledger_of}
 use Rattle.protocol.specs.Standing.{EachOffersAs, SomeStands, binding_of}
@@ -17,12 +22,18 @@ use Rattle.protocol.specs.Tables.{bound_row}
 use Rattle.protocol.specs.Worlds.{nack_of_row, start_world}
 use Rattle.protocol.proofs.LedgerLemmas.{kept_start, lawful_ledger}
 use Rattle.protocol.proofs.Standing.{stands-ledger, stands-start}
+use Rattle.sequential.specs.Runs.{IsOffering}
+use Rattle.order.specs.Laws.{HasScopeAt}
 use Rattle.order.specs.Ledgers.{IsLedgerOf, ProcessOffers}
+use Rattle.order.proofs.Nacks.{one-sync}
+use Rattle.cell.specs.Attempts.{Bound, BoundBefore}
+use Rattle.cell.specs.Told.{IsEarlier}
 use Rattle.cell.specs.Calls.{CanFetch, CanFetchAt, Fetched, FetchedAt, GridOf, Holds, PassOf}
 use Rattle.cell.specs.declared.view.Seen.{Seen}
 use Rattle.cell.specs.Rule.{IsReady}
 use Rattle.cell.specs.Sight.{Has, IsDraft, see_begun, see_bound, see_opened}
 use Rattle.runtime.specs.declared.resident.Suspended.{Suspended}
+use Rattle.runtime.proofs.Rising.{after_rises, Rises, rises_once}
 use Rattle.runtime.specs.Machines.{AreBound, AreFirst, IsMachineOf, IsNow, IsOfAny, IsTable, IsUntouched, LeavesOthers, StandsFor}
 
 -- WHAT OTHER THREADS ARE LEFT WITH
@@ -70,6 +81,10 @@ leaves_bound r k b s x apart h = (
 
 -- BINDING
 
+-- the nack of a scope, as it is read
+pub at_scope : (ns items : List ℕ) (i : ℕ) → items ≡ ns → i < length items → slice_get ns i ≡ Some (get_or items i 0)
+at_scope ns items i same within = ap (λ (l : List ℕ). slice_get l i) (sym same) ∙ slice_get-get_or items i 0 within
+
 pub bound_none : (r : Row) (nacks : List ℕ) (s : Seen) → AreBound r nacks 0 s s
 bound_none r nacks s = record { bound = λ scope k below e. absurd (omega arith); only = λ n b h. inl h }
 
@@ -77,11 +92,16 @@ pub bound_more : (r : Row) (nacks : List ℕ) (count k : ℕ) (s t u : Seen) →
 bound_more r nacks count k s t u before at is = record {
   bound = λ scope n below e. subst (λ (z : Seen). Has z.bound (nack_of_row r n, binding_of r scope)) (sym is) (there scope n below e);
   only = λ n b h. ⊎_elim
-      (λ (e : (nack_of_row r k, record { sync = r.sync; scope = count }) ≡ (n, b)). inr (count, k, at, ap (λ (z : NackName × Binding). z.0) (sym e), ap (λ (z : NackName × Binding). z.1) (sym e)))
-      (λ (old : Has t.bound (n, b)). before.only n b old)
+      (λ (e : (nack_of_row r k, record { sync = r.sync; scope = count }) ≡ (n, b)). inr (count, k, at, (omega arith), ap (λ (z : NackName × Binding). z.0) (sym e), ap (λ (z : NackName × Binding). z.1) (sym e)))
+      (λ (old : Has t.bound (n, b)). further (before.only n b old))
       (subst (λ (z : Seen). Has z.bound (n, b)) is h);
 }
   where
+    further : {n : NackName} {b : Binding} → Has s.bound (n, b) ⊎ ((scope : ℕ) × (m : ℕ) × (slice_get nacks scope ≡ Some m) × (scope < count) × (n ≡ nack_of_row r m) × (b ≡ binding_of r scope))
+        → Has s.bound (n, b) ⊎ ((scope : ℕ) × (m : ℕ) × (slice_get nacks scope ≡ Some m) × (scope < count + 1) × (n ≡ nack_of_row r m) × (b ≡ binding_of r scope))
+    further (inl old) = inl old
+    further (inr new) = inr (new.0, new.1, new.2, (let below = new.3 in omega (arith, below)), new.4, new.5)
+
     there : (scope n : ℕ) → scope < count + 1 → slice_get nacks scope ≡ Some n → Has (see_bound (nack_of_row r k) (record { sync = r.sync; scope = count }) t).bound (nack_of_row r n, binding_of r scope)
     there scope n below e = ⊎_elim
         (λ (same : scope ≡ count).
@@ -117,16 +137,17 @@ same_then : (a b c : Thread) → SameProcess a b → SameProcess b c → SamePro
 same_then a b c f g = record { body = g.body ∙ f.body; variables = g.variables ∙ f.variables; thread = g.thread ∙ f.thread }
 
 pub begun_machine : (first : List Suspended) (m n : Suspended) (t : ℕ) → slice_get first t ≡ Some m → SameProcess m.machine.value n.machine.value → n.machine.value.results ≡ [] → IsAfter n.machine.value → IsMachineOf first n t []
-begun_machine first m n t is same none after = record { start = m; is_first = is; process = same; given = none; after = after }
+begun_machine first m n t is same none after = record { start = m; is_first = is; process = same; given = none; after = after; in_range = All-nil (λ r. MessageIsIn r.1) }
 
-pub resumed_machine : (first : List Suspended) (m n : Suspended) (t : ℕ) (earlier told : List Chosen) (last : Chosen) → IsMachineOf first m t earlier → told ≡ earlier ++ last ∷ [] → SameProcess m.machine.value n.machine.value → n.machine.value.results ≡ m.machine.value.results ++ last ∷ [] → IsAfter n.machine.value
+pub resumed_machine : (first : List Suspended) (m n : Suspended) (t : ℕ) (earlier told : List Chosen) (last : Chosen) → MessageIsIn last.1 → IsMachineOf first m t earlier → told ≡ earlier ++ last ∷ [] → SameProcess m.machine.value n.machine.value → n.machine.value.results ≡ m.machine.value.results ++ last ∷ [] → IsAfter n.machine.value
     → IsMachineOf first n t told
-resumed_machine first m n t earlier told last stands whole same results after = record {
+resumed_machine first m n t earlier told last ranged stands whole same results after = record {
   start = stands.start;
   is_first = stands.is_first;
   process = same_then stands.start.machine.value m.machine.value n.machine.value stands.process same;
   given = results ∙ ap (λ (rs : List Chosen). rs ++ last ∷ []) stands.given ∙ sym whole;
   after = after;
+  in_range = subst ResultsAreIn (sym whole) (All-append (λ r. MessageIsIn r.1) earlier (last ∷ []) stands.in_range (All-cons (λ r. MessageIsIn r.1) last [] ranged (All-nil (λ r. MessageIsIn r.1))));
 }
 
 pub offers_of_open : (p : Phase) (os : List Offer) (ns : List ℕ) → p ≡ Open os ns → offers_in p ≡ os
@@ -139,6 +160,20 @@ open_phase (Open os ns) h = refl
 open_phase Over h = absurd h
 open_phase (Stuck fault) h = absurd h
 open_phase Broken h = absurd h
+
+pub open_is : (p : Phase) → IsOpen p → p ≡ Open (offers_in p) (nacks_in p)
+open_is Ready h = absurd h
+open_is (Open os ns) h = refl
+open_is Over h = absurd h
+open_is (Stuck fault) h = absurd h
+open_is Broken h = absurd h
+
+pub offering_is_open : (p : Phase) → Tells turn.Offering p → IsOpen p
+offering_is_open Ready h = absurd h
+offering_is_open (Open os ns) h = tt
+offering_is_open Over h = absurd h
+offering_is_open (Stuck fault) h = absurd h
+offering_is_open Broken h = absurd h
 
 -- so it may be parked for its row
 pub is_ready : (first : List Suspended) (p : PassOf Suspended) (before now : Seen) (results : List (ℕ × List Chosen)) (r : Row) (m : Suspended) (os : List Offer) (ns : List ℕ)
@@ -155,9 +190,9 @@ is_ready first p before now results r m os ns is free open_now same begun drafte
   bound = λ scope k e. bound.bound scope k (Rattle.std.proofs.lemmas.Option.slice_get_within ns scope k e) e;
   no_others = λ scope k h. ⊎_elim
       (λ (old : Has before.bound (nack_of_row r k, binding_of r scope)). absurd (free (nack_of_row r k) (binding_of r scope) old refl))
-      (λ (new : (s : ℕ) × (n : ℕ) × (slice_get ns s ≡ Some n) × (nack_of_row r k ≡ nack_of_row r n) × (binding_of r scope ≡ binding_of r s)).
-      let number : k ≡ new.1 = ap (λ (x : NackName). x.k) new.3 in
-      let at : scope ≡ new.0 = ap (λ (b : Binding). b.scope) new.4 in
+      (λ (new : (s : ℕ) × (n : ℕ) × (slice_get ns s ≡ Some n) × (s < length ns) × (nack_of_row r k ≡ nack_of_row r n) × (binding_of r scope ≡ binding_of r s)).
+      let number : k ≡ new.1 = ap (λ (x : NackName). x.k) new.4 in
+      let at : scope ≡ new.0 = ap (λ (b : Binding). b.scope) new.5 in
       ap (slice_get ns) at ∙ new.2 ∙ ap Some (sym number))
       (bound.only (nack_of_row r k) (binding_of r scope) h);
   begun = λ zero. subst (λ (l : List Row). Has l r) (sym begun) (is.begun zero);
@@ -165,7 +200,7 @@ is_ready first p before now results r m os ns is free open_now same begun drafte
 
 -- THE LEDGER
 
-offers_as : (ps : List Proc) (first : List Suspended) (t : ℕ) (results : List Chosen) (os : List Offer) (ns : List ℕ) → AreFirst ps first → SomeStands StandsFor first t results os ns → ProcessOffers ps t results os ns
+pub offers_as : (ps : List Proc) (first : List Suspended) (t : ℕ) (results : List Chosen) (os : List Offer) (ns : List ℕ) → AreFirst ps first → SomeStands StandsFor first t results os ns → ProcessOffers ps t results os ns
 offers_as ps first t results os ns are (m, (is, phase)) =
     let f = are.1 t is.start is.is_first in
     let starts = f.2 in
@@ -237,8 +272,75 @@ pub holds_from : (p : PassOf Suspended) (r : Row) (value : Option Suspended) (c 
 holds_from p r value c e = e ∙ ap (λ (l : List (ℕ × Option Suspended)). (r.thread, value) ∷ l) (sym (ap rest e))
 
 -- so the machines are before their processes
-pub table_of_first : (cells : GridOf Suspended) (ps : List Proc) (first : List Suspended) → cells.first ≡ first → AreFirst ps first → 1 ≤ length ps → IsTable cells
-table_of_first cells ps first is are some = (
-  (let size = are.0 in let same : length cells.first ≡ length first = ap (λ (l : List Suspended). length l) is in omega (arith, size, same, some)),
-  λ t m e. (are.1 t m (ap (λ (l : List Suspended). slice_get l t) (sym is) ∙ e)).2.phase,
-)
+pub table_of_first : (cells : GridOf Suspended) (ps : List Proc) (first : List Suspended) → cells.first ≡ first → AreFirst ps first → 1 ≤ length ps → length ps ≤ 64 → IsTable cells
+table_of_first cells ps first is are some few = record { processes = ps; some = some; few = few; first = subst (AreFirst ps) (sym is) are }
+
+pub is_housing : (cells : GridOf Suspended) → IsTable cells → 0 < length cells.first
+is_housing cells table = (let same = table.first.0 in let some = table.some in omega (arith, same, some))
+
+pub first_ready : (cells : GridOf Suspended) (t : ℕ) (m : Suspended) → IsTable cells → slice_get cells.first t ≡ Some m → m.machine.value.phase ≡ Ready
+first_ready cells t m table e = (table.first.1 t m e).2.phase
+
+-- NACKS ARE NEW. A machine that stands for the row's thread comes there to an event with such nacks of its scopes.
+module _ (cells : GridOf Suspended) (table : IsTable cells) (t : ℕ) where
+  offered : (results : List Chosen) (m : Suspended) (os : List Offer) (ns : List ℕ) → StandsFor cells.first m t results os ns → ProcessOffers table.processes t results os ns
+  offered results m os ns stands = offers_as table.processes cells.first t results os ns table.first (m, stands)
+
+  pub nacks_rise : (results : List Chosen) (m : Suspended) (os : List Offer) (ns : List ℕ) → StandsFor cells.first m t results os ns → Rises 0 64 ns
+  nacks_rise results m os ns stands =
+      let o = offered results m os ns stands in
+      subst (Rises 0 64) o.scopes (after_rises o.offered.process.body (length o.offered.process.variables) t results o.event o.offered.printed o.offered.offers)
+
+  has_scope : (earlier results : List Chosen) (m : Suspended) (os : List Offer) (ns : List ℕ) (g scope k : ℕ) → StandsFor cells.first m t results os ns → results ≡ take g earlier → g ≤ length earlier → slice_get ns scope ≡ Some k → HasScopeAt table.processes t earlier k g
+  has_scope earlier results m os ns g scope k stands begins within e =
+      let o = offered results m os ns stands in
+      let at : slice_get (scope_nacks o.event) scope ≡ Some k = ap (λ (l : List ℕ). slice_get l scope) o.scopes ∙ e in
+      record {
+        within = within;
+        event = o.event;
+        offered = subst (λ (rs : List Chosen). IsOffering table.processes t rs o.event) begins o.offered;
+        scope = (scope, slice_get_within (scope_nacks o.event) scope k at, get_or_from_slice_get (scope_nacks o.event) scope k k at);
+      }
+
+  -- so no earlier row has one of them
+  pub none_earlier : (all : List (ℕ × List Chosen)) (earlier : List Chosen) (m : Suspended) (os : List Offer) (ns : List ℕ) (scope k : ℕ) (b : Binding) → StandsFor cells.first m t earlier os ns → slice_get ns scope ≡ Some k
+      → (earlier ≡ []) ⊎ Has all (t, earlier) → b.sync < length earlier → IsEarlier StandsFor cells.first all (record { thread = t; k = k }) b → ⊥
+  none_earlier all earlier m os ns scope k b stands e seen below before =
+      let one : b.sync ≡ length earlier =
+      one-sync table.processes t earlier k b.sync (length earlier)
+      (has_scope earlier before.results before.value before.offers before.nacks b.sync b.scope k before.standing (before.begins earlier has (omega (arith, below))) (omega (arith, below)) before.scope)
+      (has_scope earlier earlier m os ns (length earlier) scope k stands (sym (take-length earlier)) (omega arith) e) in
+      omega (arith, one, below)
+    where
+      has : Has all (t, earlier)
+      has = ⊎_elim (λ none. absurd (let no : length earlier ≡ 0 = ap (λ (l : List Chosen). length l) none in omega (arith, no, below))) (λ h. h) seen
+
+-- so a nack that the row needs is not bound before
+pub binds : (cells : GridOf Suspended) (p : PassOf Suspended) (r : Row) (m : Suspended) (scope k : ℕ) (s t : Seen) (answer : Bool)
+    → IsTable cells → IsNow cells.first p r m → (open_now : m.machine.value.phase ≡ Open (offers_in m.machine.value.phase) (nacks_in m.machine.value.phase)) → slice_get (nacks_in m.machine.value.phase) scope ≡ Some k
+    → ((n : NackName) (b : Binding) → Has p.seen.bound (n, b) → bound_row n b ≢ r) → AreBound r (nacks_in m.machine.value.phase) scope p.seen s
+    → ((n : NackName) (a b : Binding) → Has t.bound (n, a) → Has t.bound (n, b) → a ≡ b)
+    → Bound s t k r scope answer → (IsFalse answer → BoundBefore StandsFor cells.first p.results t k r)
+    → t ≡ see_bound (nack_of_row r k) (record { sync = r.sync; scope = scope }) s
+binds cells p r m scope k s t true table now open_now e free before one bound earlier = bound.0
+binds cells p r m scope k s t false table now open_now e free before one bound earlier =
+    let b = bound.0 in
+    let other = earlier refl in
+    let same : b ≡ other.0 = one (nack_of_row r k) b other.0 (subst (λ (z : Seen). Has z.bound (nack_of_row r k, b)) (sym bound.1) (inl refl)) other.1 in
+    let at : b.sync ≡ other.0.sync = ap (λ (c : Binding). c.sync) same in
+    absurd (⊎_elim
+    (λ (here : b.sync ≡ r.sync). twice b here (before.only (nack_of_row r k) b (bound.3 here)))
+    (λ (below : b.sync < r.sync).
+    none_earlier cells table r.thread p.results now.earlier m (offers_in m.machine.value.phase) (nacks_in m.machine.value.phase) scope k other.0 (now.machine, open_now) e now.seen
+    (let size = now.count in omega (arith, at, below, size)) (other.2 (omega (arith, at, below))))
+    (Rattle.std.proofs.Math.Nat.eq-or-lt_of_le bound.2))
+  where
+    -- it is no other scope's
+    twice : (b : Binding) → b.sync ≡ r.sync → Has p.seen.bound (nack_of_row r k, b) ⊎ ((q : ℕ) × (n : ℕ) × (slice_get (nacks_in m.machine.value.phase) q ≡ Some n) × (q < scope) × (nack_of_row r k ≡ nack_of_row r n) × (b ≡ binding_of r q)) → ⊥
+    twice b here (inl old) = free (nack_of_row r k) b old (λ i. record { thread = r.thread; sync = here i })
+    twice b here (inr new) =
+        let number : k ≡ new.1 = ap (λ (x : NackName). x.k) new.4 in
+        let rise = nacks_rise cells table r.thread now.earlier m (offers_in m.machine.value.phase) (nacks_in m.machine.value.phase) (now.machine, open_now) in
+        let place : scope ≡ new.0 = rises_once 0 64 (nacks_in m.machine.value.phase) scope new.0 k rise e (new.2 ∙ ap Some (sym number)) in
+        let below = new.3 in
+        omega (arith, place, below)

@@ -1,5 +1,5 @@
 -- The machines that stand for the threads, and what a worker knows of one.
-use Rattle.std.specs.Prelude.{◌≡◌, ◌≢◌, ◌⊎◌, ◌<◌, ℕ, List, [], ◌∷◌, length, Some, slice_get}
+use Rattle.std.specs.Prelude.{◌≡◌, ◌≢◌, ◌⊎◌, ◌<◌, ◌≤◌, ℕ, List, [], ◌∷◌, length, Some, slice_get}
 use Rattle.words.specs.declared.Binding.{Binding}
 use Rattle.words.specs.declared.Message.{Message}
 use Rattle.words.specs.declared.NackName.{NackName}
@@ -7,7 +7,8 @@ use Rattle.words.specs.declared.Offer.{Offer}
 use Rattle.words.specs.declared.Row.{Row}
 use Rattle.syntax.specs.Processes.{Proc}
 use Rattle.thread.specs.After.{Chosen}
-use Rattle.thread.specs.Machines.{IsAfter, Open, Ready, SameProcess, StartsAs}
+use Rattle.thread.specs.Machines.{IsAfter, Open, SameProcess, StartsAs}
+use Rattle.thread.specs.Ranges.{BaseIsIn, ResultsAreIn}
 use Rattle.protocol.specs.Standing.{IsLeft, binding_of}
 use Rattle.protocol.specs.Worlds.{nack_of_row}
 use Rattle.protocol.specs.Ledgers.{Ledger}
@@ -19,25 +20,29 @@ use Rattle.cell.specs.declared.view.Seen.{Seen}
 use Rattle.cell.specs.Sight.{Has}
 use Rattle.runtime.specs.declared.resident.Suspended.{Suspended}
 
--- the machine runs the process of the thread's first one, and stands where it leads after these results
+-- the machine runs the process of the thread's first one, and stands where it leads after these results, which words have room for
 pub record IsMachineOf (first : List Suspended) (m : Suspended) (t : ℕ) (results : List Chosen) : Type 0 where
   pub start : Suspended
   pub is_first : slice_get first t ≡ Some start
   pub process : SameProcess start.machine.value m.machine.value
   pub given : m.machine.value.results ≡ results
   pub after : IsAfter m.machine.value
+  pub in_range : ResultsAreIn results
 
 -- and offers these there, with these nacks of its scopes
 abbrev pub StandsFor : List Suspended → Suspended → ℕ → List Chosen → List Offer → List ℕ → Type 0
 StandsFor first m t results offers nacks = IsMachineOf first m t results × (m.machine.value.phase ≡ Open offers nacks)
 
--- a table of machines, each of which has its process before it
-abbrev pub IsTable : GridOf Suspended → Type 0
-IsTable cells = (0 < length cells.first) × ((t : ℕ) (m : Suspended) → slice_get cells.first t ≡ Some m → m.machine.value.phase ≡ Ready)
-
 -- these machines are those of the processes, thread by thread
 abbrev pub AreFirst : List Proc → List Suspended → Type 0
 AreFirst ps first = (length first ≡ length ps) × ((t : ℕ) (m : Suspended) → slice_get first t ≡ Some m → (p : Proc) × (slice_get ps t ≡ Some p) × StartsAs p t m.machine.value)
+
+-- a table of machines, each of which has its process before it
+pub record IsTable (cells : GridOf Suspended) : Type 0 where
+  pub processes : List Proc
+  pub some : 1 ≤ length processes
+  pub few : length processes ≤ 64
+  pub first : AreFirst processes cells.first
 
 -- the pass has not seen the row opened, nor begun with it, and no nack that it has seen is bound to it
 abbrev pub IsUntouched : Seen → Row → Type 0
@@ -51,6 +56,14 @@ LeavesOthers thread s t = (r : Row) → r.thread ≢ thread → IsUntouched s r 
 abbrev pub IsToResume : List Suspended → PassOf Suspended → Row → ℕ → Message → Type 0
 IsToResume first p r own message =
     (told : List Chosen) × Has p.results (r.thread, told) × (value : Suspended) × (p.out ≡ (r.thread, Some value) ∷ rest p.out) × IsLeft StandsFor first value r own told message
+
+-- the nacks that an offer names, and the scopes round it, are in the range of words
+abbrev pub IsIn : Offer → Type 0
+IsIn o = BaseIsIn o.base × (o.scopes < 16)
+
+-- so it is with each of these offers
+abbrev pub NamesInRange : List Offer → Type 0
+NamesInRange offers = (n : ℕ) (o : Offer) → slice_get offers n ≡ Some o → IsIn o
 
 -- a machine stands for the row's thread after the results of the rows before, as the pass has them
 pub record IsNow (first : List Suspended) (p : PassOf Suspended) (r : Row) (m : Suspended) : Type 0 where
@@ -71,7 +84,7 @@ pub record OnlyBinds (p q : PassOf Suspended) : Type 0 where
 -- the nacks of the first so many scopes are bound to the row under them, and nothing else was seen bound anew
 pub record AreBound (r : Row) (nacks : List ℕ) (count : ℕ) (s t : Seen) : Type 0 where
   pub bound : (scope k : ℕ) → scope < count → slice_get nacks scope ≡ Some k → Has t.bound (nack_of_row r k, binding_of r scope)
-  pub only : (n : NackName) (b : Binding) → Has t.bound (n, b) → Has s.bound (n, b) ⊎ ((scope : ℕ) × (k : ℕ) × (slice_get nacks scope ≡ Some k) × (n ≡ nack_of_row r k) × (b ≡ binding_of r scope))
+  pub only : (n : NackName) (b : Binding) → Has t.bound (n, b) → Has s.bound (n, b) ⊎ ((scope : ℕ) × (k : ℕ) × (slice_get nacks scope ≡ Some k) × (scope < count) × (n ≡ nack_of_row r k) × (b ≡ binding_of r scope))
 
 -- whatever the processes, it is a ledger of them: it has no offer
 abbrev pub IsOfAny : Ledger → Type 0

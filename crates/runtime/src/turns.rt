@@ -1,12 +1,14 @@
 //! The turns of threads: a row is taken, its thread's machine runs, and the thread's next row is opened and
 //! searched for.
 
-ghost use Rattle.std.specs.Prelude.{◌≡◌, ◌≢◌, ◌∷◌, ◌<◌, ◌≤◌, IfOk, IfSome, IsTrue, None, length};
+ghost use Rattle.std.specs.Prelude.{◌≡◌, ◌≢◌, ◌∷◌, ◌<◌, ◌≤◌, IfOk, IfSome, None, is_some, true};
 ghost use Rattle.atomic_table.specs.Table.{rest};
 ghost use Rattle.words.specs.declared.Binding.{Binding};
 ghost use Rattle.words.specs.declared.NackName.{NackName};
 ghost use Rattle.protocol.specs.Tables.{bound_row, next_row};
 ghost use Rattle.thread.specs.Machines.{Tells};
+ghost use Rattle.thread.specs.declared.machine.Turn.TheVariants.{Offering};
+ghost use Rattle.thread.specs.Ranges.{MessageIsIn};
 ghost use Rattle.cell.specs.Calls.{Holds, IsPassOf, IsRowOf};
 ghost use Rattle.cell.specs.Sight.{Has};
 ghost use Rattle.cell.specs.Views.{first_row};
@@ -20,7 +22,7 @@ use crate::following::{follow_alone, follow_pair, put_committed};
 use crate::gate::Gate;
 use crate::nacks::Nacks;
 use crate::notes::Notes;
-use crate::ranges::are_offers;
+use crate::ranges::offers_fit;
 use crate::resident::Suspended;
 use cell::{Cells, Pass, StepGate};
 use meet::{Found, Meet, MeetPass};
@@ -200,7 +202,7 @@ fn begin<R: Wait>(
 {
     let mut suspended = cells.fetch(pass, row);
     let turn = suspended.machine.begin()?;
-    enter(rt, cells, shared, pass, row, suspended, turn)
+    Ok(enter(rt, cells, shared, pass, row, suspended, turn))
 }
 
 /// Goes on with the row's thread after the row was taken, committed so, with this message, and opens its next
@@ -220,16 +222,17 @@ fn resume<R: Wait>(
     requires fresh { Has pass.old.seen.held next × (¬ Has pass.old.seen.opened next) }
     requires free { (n : NackName) (b : Binding) → Has pass.old.seen.bound (n, b) → bound_row n b ≢ next }
     requires resumes { IsToResume cells.now.first pass.old row joined.own message }
+    requires message { MessageIsIn message }
     ensures here { IsPassOf cells.now pass.new }
     ensures opened { IfOk result (λ opened. IfSome opened (λ nacks. Has pass.new.seen.held next × Has pass.new.seen.opened next)) }
 {
     let mut suspended = cells.fetch(pass, next);
     let turn = suspended.machine.resume(joined.own, message)?;
-    enter(rt, cells, shared, pass, next, suspended, turn)
+    Ok(enter(rt, cells, shared, pass, next, suspended, turn))
 }
 
-/// Opens the row with what the machine offers, if it offers something, and the machine goes home. The answer is its
-/// nacks then. A machine that has come to its end is done with.
+/// Opens the row with what the machine offers, where it has come to an event, and the machine goes home. The answer is
+/// its nacks then. A machine that has come to its end is done with.
 fn enter<R: Wait>(
     rt: &R,
     cells: &Cells<Suspended>,
@@ -238,7 +241,7 @@ fn enter<R: Wait>(
     row: Row,
     suspended: Suspended,
     turn: Turn,
-) -> Result<Option<Nacks>, Halt>
+) -> Option<Nacks>
     requires here { IsPassOf cells.now pass.old × IsRowOf cells.now row × IsTable cells.now }
     requires fresh { Has pass.old.seen.held row × (¬ Has pass.old.seen.opened row) }
     requires free { (n : NackName) (b : Binding) → Has pass.old.seen.bound (n, b) → bound_row n b ≢ row }
@@ -247,23 +250,20 @@ fn enter<R: Wait>(
     requires stands { IsNow cells.now.first pass.old row suspended }
     ensures here { IsPassOf cells.now pass.new }
     ensures others { LeavesOthers row.thread pass.old.seen pass.new.seen }
-    ensures opened { IfOk result (λ opened. IfSome opened (λ nacks. Has pass.new.seen.held row × Has pass.new.seen.opened row)) }
+    ensures opened { IfSome result (λ nacks. Has pass.new.seen.held row × Has pass.new.seen.opened row) }
+    ensures offered { turn ≡ Offering → is_some result ≡ true }
 {
     let Turn::Offering = turn else {
-        return Ok(None);
+        return None;
     };
-    if !are_offers(suspended.machine.offers()) {
-        return Ok(None);
-    }
     let nacks = Nacks::of(suspended.machine.nacks());
-    if !bind_all(cells, pass, row, suspended.machine.nacks()) {
-        return Ok(None);
-    }
+    bind_all(cells, pass, row, &suspended);
     shared.notes.note(rt, row.thread, nacks);
+    offers_fit(suspended.machine.offers());
     cells.draft(pass, row, suspended.machine.offers());
     cells.park(pass, row, suspended);
     cells.open(pass, row);
-    Ok(Some(nacks))
+    Some(nacks)
 }
 
 /// Looks for a row that the opened row, of these nacks, can meet. The answer is what came to be committed

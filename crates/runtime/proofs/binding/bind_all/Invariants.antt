@@ -1,4 +1,5 @@
 use Rattle.std.proofs.Common.{◌≡◌}
+use Rattle.thread.specs.Machines.{nacks_in}
 use Rattle.cell.specs.Calls.{IsPassOf}
 use Rattle.runtime.specs.Machines.{AreBound, LeavesOthers, OnlyBinds}
 use Rattle.runtime.proofs.binding.bind_all.Given as goal
@@ -11,5 +12,5 @@ invariant-loop-k l =
       only : OnlyBinds l.fn.pass l.pass;
       others : LeavesOthers l.row.thread l.fn.pass.seen l.pass.seen;
       scope : l.scope ≡ l.k-index;
-      bound : AreBound l.row l.nacks l.scope l.fn.pass.seen l.pass.seen;
+      bound : AreBound l.row (nacks_in l.suspended.machine.value.phase) l.scope l.fn.pass.seen l.pass.seen;
     }
