@@ -13,8 +13,8 @@ use crate::resident::Suspended;
 use cell::{Cells, Pass};
 use words::Row;
 
-/// Binds the nacks of the machine's event, scope by scope, to the row, which is held and not opened yet. None of
-/// them was bound before: a thread takes its nacks in turn, so those of its earlier rows are others.
+/// Binds the nacks of the machine's event, scope by scope, to the row, which is held and not opened yet. `bind` cannot
+/// answer false of one: a thread takes its nacks in turn, so those that its earlier rows bound are others.
 pub(crate) fn bind_all(
     cells: &Cells<Suspended>,
     pass: &mut Pass<Suspended>,

@@ -110,8 +110,9 @@ fn work_within<R: Threads + Wait + Sync, G: Gate + StepGate + Sync>(
 }
 
 /// The workers alone: the ledger of the table that they leave. However their steps fall, each of its rows offers what
-/// its process offers after the results of the thread's rows before, so its commits in order are a run of the script. It waits for its workers, which wait for
-/// one another and for the gate, which is called round each turn and before each step of an attempt.
+/// its process offers after the results of the thread's rows before, so its commits in order are a run of the script.
+/// It waits for its workers, which wait for one another and for the gate, which is called round each turn and before
+/// each step of an attempt.
 pub fn work<R: Threads + Wait + Sync, G: Gate + StepGate + Sync>(
     rt: &R,
     alloc: Global,
