@@ -1,9 +1,9 @@
 -- What the program prints for what is asked, and what its faults say.
-use Rattle.std.specs.Prelude.{◌≡◌, ◌≢◌, ◌⊎◌, IsTrue, ℕ, Bool, true, false, List, ◌++◌, Option, None, IfSome, take}
+use Rattle.std.specs.Prelude.{◌≡◌, ◌≢◌, ◌⊎◌, ℕ, Bool, true, false, List, ◌++◌, Option, None, IfSome, take}
 use Rattle.std.specs.Io.KnownBytes.{Appends}
-use Rattle.tool.specs.declared.request.Request.{Request}
-use Rattle.tool.specs.declared.request.Request.TheVariants.{Meet, Play, Check, Chart, Explain, Replay, Run, Why}
-use Rattle.explain.specs.Faults.{Explains, is_fault}
+use Rattle.request.specs.declared.request.Request.{Request}
+use Rattle.request.specs.declared.request.Request.TheVariants.{Meet, Play, Check, Chart, Explain, Replay, Run, Why}
+use Rattle.explain.specs.Faults.{Explains}
 use Rattle.files.specs.Files.{Fits, IsTooLarge}
 use Rattle.answers.specs.Meet.{PrintsMeeting}
 use Rattle.tool.specs.declared.fault.Fault.{Fault}
@@ -42,11 +42,6 @@ OfFiles Holds script journal Says = (bytes : List ℕ) × Holds script bytes × 
 abbrev pub IsJudged : Replayed → Verdict → List ℕ → Type 0
 IsJudged (replays.Lawful text) verdict told = (verdict ≡ Done) × (told ≡ text.items)
 IsJudged (replays.Unlawful text) verdict told = (verdict ≡ Unlawful) × (told ≡ text.items)
-
--- of a fault that is to be explained there is one
-abbrev pub CanBeAnswered : Request → Type 0
-CanBeAnswered (Explain number) = IsTrue (is_fault number)
-CanBeAnswered asked = Unit {0}
 
 -- what is printed of the two parts of a run: where it is quiet, not the journal
 abbrev pub printed : Bool → List ℕ → List ℕ → List ℕ

@@ -3,10 +3,10 @@
 ghost use Rattle.std.specs.Prelude.{◌≡◌, IsTrue};
 ghost use Rattle.explain.specs.Faults.{is_fault};
 ghost use Rattle.tool.specs.Faults.{fault_of_meet, fault_of_play, fault_of_file, fault_of_journal, fault_of_run, fault_of_script};
-ghost use Rattle.tool.specs.declared.fault.Fault.TheVariants.{Memory};
+ghost use Rattle.tool.specs.declared.fault.Fault.TheVariants.{Memory, Unwritten};
 
 use answers::{MeetFault, PlayFault};
-use files::SourceFault;
+use files::{SourceFault, Unwritten};
 use journal_text::JournalFault;
 use runtime::RunFault;
 use script::ScriptFault;
@@ -118,6 +118,14 @@ impl From<SourceFault> for Fault {
             SourceFault::Unread => Fault::Unread,
             SourceFault::Unwritten => Fault::Unwritten,
         }
+    }
+}
+
+impl From<Unwritten> for Fault {
+    ghost from_gives = { λ _ fault. fault ≡ Unwritten };
+
+    fn from(_fault: Unwritten) -> Fault {
+        Fault::Unwritten
     }
 }
 

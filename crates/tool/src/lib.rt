@@ -4,15 +4,13 @@
 
 mod fault;
 mod from_files;
-mod output;
 mod program;
-mod request;
 
 pub use crate::fault::Fault;
 pub use crate::program::{BAD_WORDS, command, tell};
-pub use crate::request::Request;
 pub use answers::{
     MeetFault, PlayFault, Replayed, RunText, chart_journal, check_text, meet_text, play_laws,
     play_text, replay_laws, replay_text, run_parts, run_text, why_journal,
 };
 pub use files::{Source, SourceFault, SystemFiles};
+pub use request::Request;

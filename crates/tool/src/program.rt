@@ -2,20 +2,19 @@
 
 ghost use Rattle.std.specs.Prelude.{◌≡◌, ◌≤◌, ◌⊎◌, List, ℕ, IfOk, IfErr};
 ghost use Rattle.std.specs.Io.KnownBytes.{Appends};
-ghost use Rattle.tool.specs.declared.request.Request.{Request};
+ghost use Rattle.request.specs.declared.request.Request.{Request};
 ghost use Rattle.tool.specs.declared.fault.Fault.TheVariants.{Unwritten};
 ghost use Rattle.tool.specs.declared.from_files.Verdict.TheVariants.{Done};
-ghost use Rattle.tool.specs.Command.{Answers, Began, CanBeAnswered, Fails};
+ghost use Rattle.request.specs.Requests.{CanBeAnswered};
+ghost use Rattle.tool.specs.Command.{Answers, Began, Fails};
 
 use crate::fault::Fault;
 use crate::from_files::{
     Verdict, chart_files, check_file, keep_journal, play_file, read_script, replay_files, why_files,
 };
-use crate::output::emit;
-use crate::request::{Request, read_words};
 use answers::{explain_text, meet_text, run_parts};
-use clap::error::ErrorKind;
-use files::Source;
+use files::{Source, emit};
+use request::{Request, WordsFault, read_words};
 use std::alloc::Global;
 use std::io::Write;
 use std::sync::Wait;
@@ -120,11 +119,9 @@ pub fn command<R: Threads + Wait + Sync, S: Source, O: Write, E: Write>(
 {
     let asked = match read_words(alloc, words) {
         Ok(asked) => asked,
-        Err(error) if error.kind() == ErrorKind::OutOfMemory => {
-            return tell(err, Fault::Memory);
-        }
-        Err(error) => {
-            let _ = write!(err, "{error}");
+        Err(WordsFault::Memory) => return tell(err, Fault::Memory),
+        Err(WordsFault::NotUnderstood(text)) => {
+            let _ = write!(err, "{text}");
             return BAD_WORDS;
         }
     };

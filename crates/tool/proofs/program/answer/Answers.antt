@@ -1,6 +1,6 @@
 use Rattle.std.proofs.Common.{subst, sym, take, drop}
 use Rattle.script.specs.Scripts.{script_of}
-use Rattle.tool.specs.declared.request.Request.{Request}
+use Rattle.request.specs.declared.request.Request.{Request}
 use Rattle.tool.specs.declared.from_files.Verdict.TheVariants.{Done}
 use Rattle.tool.specs.Command.{Answers}
 use Rattle.tool.proofs.program.answer.Goals as goal

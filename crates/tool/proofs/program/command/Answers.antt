@@ -1,8 +1,8 @@
 use Rattle.std.proofs.Common.{[], length, inl, inr, ⊎_elim, refl, sym, subst}
 use Rattle.std.specs.Io.KnownBytes.{Appends}
-use Rattle.tool.specs.declared.request.Request.TheVariants.{Meet}
+use Rattle.request.specs.declared.request.Request.TheVariants.{Meet}
 use Rattle.tool.specs.declared.from_files.Verdict.TheVariants.{Done}
-use Rattle.tool.proofs.Emitting.{all_taken, nothing_taken}
+use Rattle.files.proofs.Emitting.{all_taken, nothing_taken}
 use Rattle.tool.proofs.program.command.Goals as goal
 
 -- memory lacked before anything was asked: nothing of any answer was written
