@@ -1,6 +1,9 @@
+//! Machines: one process, event by event.
+
 ghost use Rattle.std.specs.Prelude.{◌≡◌, IfOk};
 ghost use Rattle.thread.specs.Machines.{Ready};
 
+use super::check_same;
 use script::parse;
 use std::alloc::{AllocError, Global};
 use std::process::Abort;
@@ -56,9 +59,9 @@ fn check_ends(
 }
 
 fn check_prints(rt: &(impl Abort + AllocGlobal), machine: &Machine, printed: &[u32]) {
-    assert_eq!(rt; machine.output().len(), printed.len());
+    check_same(rt, machine.output().len(), printed.len());
     for (atom, number) in machine.output().iter().zip(printed) {
-        assert_eq!(rt; *atom, Atom::Num(*number));
+        check_same(rt, *atom, Atom::Num(*number));
     }
 }
 
@@ -92,14 +95,14 @@ fn a_message_is_received(rt: HostRuntime) -> Result<(), Fail> {
         base: Base::Recv(0),
         scopes: 0,
     };
-    assert_eq!(rt; b.offers(), [recv].as_slice());
-    assert_eq!(rt; b.nacks().len(), 0);
+    check_same(&rt, b.offers(), [recv].as_slice());
+    check_same(&rt, b.nacks().len(), 0);
     let turn = resume(&mut b, 0, one(42))?;
     assert!(rt; turn == Turn::Ended);
     check_prints(&rt, &b, &[42]);
-    assert_eq!(rt; b.results(), [(0, one(42))].as_slice());
-    assert_eq!(rt; b.offers().len(), 0);
-    assert_eq!(rt; b.nacks().len(), 0);
+    check_same(&rt, b.results(), [(0, one(42))].as_slice());
+    check_same(&rt, b.offers().len(), 0);
+    check_same(&rt, b.nacks().len(), 0);
     Ok(())
 }
 
@@ -186,7 +189,7 @@ fn scopes_and_their_nacks(rt: HostRuntime) -> Result<(), Fail> {
     let results = [(0, Message::Empty), (0, Message::Empty)];
     let (machine, turn) = after(rt.alloc(), text, &results)?;
     assert!(rt; turn == Turn::Offering);
-    assert_eq!(rt; machine.nacks(), [0, 1].as_slice());
+    check_same(&rt, machine.nacks(), [0, 1].as_slice());
     let receive = Offer {
         base: Base::Recv(3),
         scopes: 3,
@@ -195,7 +198,7 @@ fn scopes_and_their_nacks(rt: HostRuntime) -> Result<(), Fail> {
         base: Base::Always(Message::Empty),
         scopes: 1,
     };
-    assert_eq!(rt; machine.offers(), [receive, always].as_slice());
+    check_same(&rt, machine.offers(), [receive, always].as_slice());
     let heads = [
         Head {
             direction: Direction::Recv { chan: 3 },
@@ -220,7 +223,7 @@ fn the_last_nack(rt: HostRuntime) -> Result<(), Fail> {
     for _ in 0..63 {
         let _turn = resume(&mut machine, 0, Message::Empty)?;
     }
-    assert_eq!(rt; machine.nacks(), [63].as_slice());
+    check_same(&rt, machine.nacks(), [63].as_slice());
     let last = resume(&mut machine, 0, Message::Empty)?;
     assert!(rt; last == Turn::Faulted(Fault::Range));
     Ok(())
@@ -320,7 +323,7 @@ fn machines_cross_threads(rt: HostRuntime) -> Result<(), Fail> {
     let mut slots: Vec<Option<Machine>> = Vec::new(alloc);
     slots.push(Some(a?))?;
     let slots = crosses(slots);
-    assert_eq!(rt; slots.len(), 1);
+    check_same(&rt, slots.len(), 1);
     Ok(())
 }
 
@@ -341,7 +344,7 @@ fn broken_for_good(rt: HostRuntime) -> Result<(), Fail> {
     }
     if let Err(error) = machine.resume(0, one(2)) {
         assert!(rt; machine.resume(0, one(2)).is_err());
-        assert_eq!(rt; machine.offers().len(), 0);
+        check_same(&rt, machine.offers().len(), 0);
         return Err(Fail::from(error));
     }
     check_prints(&rt, &machine, &[1, 4]);

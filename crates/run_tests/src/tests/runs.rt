@@ -1,3 +1,6 @@
+//! Sequential runs: what follows what, and where a script ends.
+
+use super::{INDEPENDENT, ONE_SEND, check_same};
 use script::parse;
 use sequential::{End, ReplayFault, State, replay, settle};
 use std::alloc::Global;
@@ -6,17 +9,9 @@ use std::test::Fail;
 use thread::Fault;
 use words::{Atom, Cause, Commit, Message, NackName, Row};
 
-/// Process a sends 42 to b.
-const ONE_SEND: &str =
-    "channel c; process a { sync send c (42); } process b { x <- sync recv c; print x; }";
-
 /// a sends to b, which sends to e.
 const DEPENDENT: &str =
     "channel c; channel d; process a { sync send c (5); } process b { x <- sync recv c; sync send d (x + 1); } process e { y <- sync recv d; print y; }";
-
-/// a sends to b, and f to g.
-const INDEPENDENT: &str =
-    "channel c; channel d; process a { sync send c (1); } process b { sync recv c; } process f { sync send d (2); } process g { sync recv d; }";
 
 /// Each of two processes offers a send and a receive.
 const EITHER: &str =
@@ -92,7 +87,7 @@ fn check_unlawful(
         Ok(_) => Err(Fail::from("lawful")),
         Err(ReplayFault::Memory) => Err(Fail::from("Memory")),
         Err(ReplayFault::Unlawful(found)) => {
-            assert_eq!(rt; found, index);
+            check_same(rt, found, index);
             Ok(())
         }
     }
@@ -119,7 +114,7 @@ fn one_send(rt: HostRuntime) -> Result<(), Fail> {
     let alloc = rt.alloc();
     let send = pair(1, at(0, 0, 0), at(1, 0, 0), 0, one(42));
     let state = run(alloc, ONE_SEND, 256, &[send])?;
-    assert_eq!(rt; state.threads(), 2);
+    check_same(&rt, state.threads(), 2);
     check_end(&rt, &state, 0, End::Ended, &[])?;
     check_end(&rt, &state, 1, End::Ended, &[Atom::Num(42)])?;
     let before = run(alloc, ONE_SEND, 256, &[])?;
@@ -307,17 +302,17 @@ fn settling_adds_what_is_enabled(rt: HostRuntime) -> Result<(), Fail> {
     let sends =
         "channel c; process a { sync send c (1); sync send c (2); sync send c (3); } process b { loop 3 { x <- sync recv c; print x; } }";
     let (state, added) = settled(alloc, sends, 256)?;
-    assert_eq!(rt; added.len(), 3);
+    check_same(&rt, added.len(), 3);
     let printed = [Atom::Num(1), Atom::Num(2), Atom::Num(3)];
     check_end(&rt, &state, 1, End::Ended, &printed)?;
     let (_, nested) = settled(alloc, NESTED, 256)?;
-    assert_eq!(rt; nested.len(), 6);
+    check_same(&rt, nested.len(), 6);
     let (_, served) = settled(alloc, SERVER, 256)?;
-    assert_eq!(rt; served.len(), 3);
+    check_same(&rt, served.len(), 3);
     let alone = "channel c; process a { sync choose [send c (1), recv c]; }";
     let (_, none) = settled(alloc, alone, 256)?;
-    assert_eq!(rt; none.len(), 0);
+    check_same(&rt, none.len(), 0);
     let (spent, three) = settled(alloc, "process a { forever { sync always (); } }", 3)?;
-    assert_eq!(rt; three.len(), 3);
+    check_same(&rt, three.len(), 3);
     check_end(&rt, &spent, 0, End::Spent, &[])
 }

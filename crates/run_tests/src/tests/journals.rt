@@ -1,3 +1,6 @@
+//! Journals of ledgers.
+
+use super::{INDEPENDENT, ONE_SEND, check_same};
 use journal::{Record, complete, received_from};
 use protocol::{Ledger, World, play};
 use script::parse;
@@ -7,10 +10,6 @@ use std::process::Abort;
 use std::test::Fail;
 use words::{Atom, Commit, Message, Row, Seat, Step};
 
-/// Process a sends 42 to b.
-const ONE_SEND: &str =
-    "channel c; process a { sync send c (42); } process b { x <- sync recv c; print x; }";
-
 /// Process a sends 43 to b.
 const OTHER_SEND: &str =
     "channel c; process a { sync send c (43); } process b { x <- sync recv c; print x; }";
@@ -18,10 +17,6 @@ const OTHER_SEND: &str =
 /// a sends 42 to b, which sends to e.
 const DEPENDENT: &str =
     "channel c; channel d; process a { sync send c (42); } process b { x <- sync recv c; sync send d (x + 1); } process e { y <- sync recv d; print y; }";
-
-/// a sends to b, and f to g.
-const INDEPENDENT: &str =
-    "channel c; channel d; process a { sync send c (1); } process b { sync recv c; } process f { sync send d (2); } process g { sync recv d; }";
 
 /// a sends three numbers to b.
 const THREE_SENDS: &str =
@@ -159,13 +154,14 @@ fn check_end(
 fn a_ledger_that_is_complete(rt: HostRuntime) -> Result<(), Fail> {
     let alloc = rt.alloc();
     let record = completed(alloc, ONE_SEND, 256, &one_rendezvous(alloc)?)?;
-    assert_eq!(rt;
+    check_same(
+        &rt,
         record.journal.as_slice(),
-        [pair(1, SENDER, RECEIVER, 0, 42)].as_slice()
+        [pair(1, SENDER, RECEIVER, 0, 42)].as_slice(),
     );
-    assert_eq!(rt; record.tail, 0);
-    assert_eq!(rt; record.ends.len(), 2);
-    assert_eq!(rt; record.outputs.len(), 2);
+    check_same(&rt, record.tail, 0);
+    check_same(&rt, record.ends.len(), 2);
+    check_same(&rt, record.outputs.len(), 2);
     check_end(&rt, &record, 0, End::Ended, &[])?;
     check_end(&rt, &record, 1, End::Ended, &[Atom::Num(42)])
 }
@@ -174,8 +170,8 @@ fn a_ledger_that_is_complete(rt: HostRuntime) -> Result<(), Fail> {
 fn a_pair_that_is_joined_is_in_the_ledger(rt: HostRuntime) -> Result<(), Fail> {
     let alloc = rt.alloc();
     let record = completed(alloc, ONE_SEND, 256, &rendezvous(alloc, false)?)?;
-    assert_eq!(rt; record.journal.len(), 1);
-    assert_eq!(rt; record.tail, 0);
+    check_same(&rt, record.journal.len(), 1);
+    check_same(&rt, record.tail, 0);
     check_end(&rt, &record, 1, End::Ended, &[Atom::Num(42)])
 }
 
@@ -187,14 +183,14 @@ fn what_the_ledger_lacks_is_the_tail(rt: HostRuntime) -> Result<(), Fail> {
         pair(2, row(1, 1), row(2, 0), 1, 43),
     ];
     let begun = completed(alloc, DEPENDENT, 256, &one_rendezvous(alloc)?)?;
-    assert_eq!(rt; begun.journal.as_slice(), commits.as_slice());
-    assert_eq!(rt; begun.tail, 1);
+    check_same(&rt, begun.journal.as_slice(), commits.as_slice());
+    check_same(&rt, begun.tail, 1);
     check_end(&rt, &begun, 2, End::Ended, &[Atom::Num(43)])?;
     let unbegun = completed(alloc, DEPENDENT, 256, &empty_ledger(alloc)?)?;
-    assert_eq!(rt; unbegun.journal.as_slice(), commits.as_slice());
-    assert_eq!(rt; unbegun.tail, 2);
+    check_same(&rt, unbegun.journal.as_slice(), commits.as_slice());
+    check_same(&rt, unbegun.tail, 2);
     let spent = completed(alloc, DEPENDENT, 1, &empty_ledger(alloc)?)?;
-    assert_eq!(rt; spent.journal.len(), 1);
+    check_same(&rt, spent.journal.len(), 1);
     check_end(&rt, &spent, 1, End::Spent, &[])?;
     check_end(&rt, &spent, 2, End::Waiting, &[])
 }
@@ -203,13 +199,14 @@ fn what_the_ledger_lacks_is_the_tail(rt: HostRuntime) -> Result<(), Fail> {
 fn commits_of_one_stamp_stand_by_their_senders(rt: HostRuntime) -> Result<(), Fail> {
     let alloc = rt.alloc();
     let record = completed(alloc, INDEPENDENT, 256, &empty_ledger(alloc)?)?;
-    assert_eq!(rt;
+    check_same(
+        &rt,
         record.journal.as_slice(),
         [
             pair(1, row(0, 0), row(1, 0), 0, 1),
-            pair(1, row(2, 0), row(3, 0), 1, 2)
+            pair(1, row(2, 0), row(3, 0), 1, 2),
         ]
-        .as_slice()
+        .as_slice(),
     );
     Ok(())
 }
@@ -221,7 +218,7 @@ fn a_ledger_of_another_script_is_refused(rt: HostRuntime) -> Result<(), Fail> {
     match complete(alloc, script.processes(), 256, &one_rendezvous(alloc)?) {
         Ok(_) => Err(Fail::from("lawful")),
         Err(fault) => {
-            assert_eq!(rt; fault, ReplayFault::Unlawful(0));
+            check_same(&rt, fault, ReplayFault::Unlawful(0));
             Ok(())
         }
     }
@@ -264,7 +261,7 @@ fn the_first_commit_that_is_not_lawful_is_named(rt: HostRuntime) -> Result<(), F
     match complete(alloc, script.processes(), 256, &two_alone(alloc)?) {
         Ok(_) => Err(Fail::from("lawful")),
         Err(fault) => {
-            assert_eq!(rt; fault, ReplayFault::Unlawful(1));
+            check_same(&rt, fault, ReplayFault::Unlawful(1));
             Ok(())
         }
     }
@@ -274,9 +271,9 @@ fn the_first_commit_that_is_not_lawful_is_named(rt: HostRuntime) -> Result<(), F
 fn no_process_at_all(rt: HostRuntime) -> Result<(), Fail> {
     let alloc = rt.alloc();
     let record = completed(alloc, "", 256, &empty_ledger(alloc)?)?;
-    assert_eq!(rt; record.journal.len(), 0);
-    assert_eq!(rt; record.ends.len(), 0);
-    assert_eq!(rt; record.tail, 0);
+    check_same(&rt, record.journal.len(), 0);
+    check_same(&rt, record.ends.len(), 0);
+    check_same(&rt, record.tail, 0);
     Ok(())
 }
 
@@ -285,26 +282,34 @@ fn messages_are_received_in_sending_order(rt: HostRuntime) -> Result<(), Fail> {
     let alloc = rt.alloc();
     let record = completed(alloc, THREE_SENDS, 256, &empty_ledger(alloc)?)?;
     let messages = received_from(alloc, &record.journal, 0, 0)?;
-    assert_eq!(rt; messages.as_slice(), [one(1), one(2), one(3)].as_slice());
-    assert_eq!(rt; received_from(alloc, &record.journal, 1, 0)?.len(), 0);
-    assert_eq!(rt; received_from(alloc, &record.journal, 0, 1)?.len(), 0);
+    check_same(
+        &rt,
+        messages.as_slice(),
+        [one(1), one(2), one(3)].as_slice(),
+    );
+    check_same(&rt, received_from(alloc, &record.journal, 1, 0)?.len(), 0);
+    check_same(&rt, received_from(alloc, &record.journal, 0, 1)?.len(), 0);
     let crossing = completed(alloc, TWO_SENDERS, 256, &empty_ledger(alloc)?)?;
     let journal = &crossing.journal;
-    assert_eq!(rt;
+    check_same(
+        &rt,
         received_from(alloc, journal, 0, 0)?.as_slice(),
-        [one(1), one(3)].as_slice()
+        [one(1), one(3)].as_slice(),
     );
-    assert_eq!(rt;
+    check_same(
+        &rt,
         received_from(alloc, journal, 1, 0)?.as_slice(),
-        [one(2)].as_slice()
+        [one(2)].as_slice(),
     );
-    assert_eq!(rt;
+    check_same(
+        &rt,
         received_from(alloc, journal, 0, 1)?.as_slice(),
-        [one(4)].as_slice()
+        [one(4)].as_slice(),
     );
-    assert_eq!(rt;
+    check_same(
+        &rt,
         received_from(alloc, journal, 1, 1)?.as_slice(),
-        [one(5)].as_slice()
+        [one(5)].as_slice(),
     );
     Ok(())
 }

@@ -1,5 +1,0 @@
-//! Tests of `sequential` on scripts that are read from text.
-#![tactic(auto)]
-
-#[cfg(test)]
-mod tests;
