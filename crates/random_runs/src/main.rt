@@ -6,6 +6,7 @@
 mod maker;
 
 use crate::maker::Maker;
+use answers::{Replayed, replay_text};
 use anyhow::{Context, Result, ensure};
 use journal_text::write_journal;
 use runtime::{OpenGate, run};
@@ -13,7 +14,6 @@ use script::parse;
 use std::env;
 use std::sync::Wait;
 use std::thread::Threads;
-use tool::{Replayed, replay_text};
 use words::{Cause, Commit};
 
 const WORKERS: u8 = 4;

@@ -114,13 +114,11 @@ fn run_command<'a>(alloc: Global) -> Result<Command<'a>, AllocError> {
         .long("quiet")
         .action(ArgAction::SetTrue)
         .help("Prints no journal");
+    let file = file_argument(alloc, "file", "FILE", "The script");
+    let arguments = vec![in alloc; file, workers, rows_argument(alloc), journal, quiet]?;
     Command::new(alloc, "run")
         .about("Runs the processes of a script")
-        .arg(file_argument(alloc, "file", "FILE", "The script"))?
-        .arg(workers)?
-        .arg(rows_argument(alloc))?
-        .arg(journal)?
-        .arg(quiet)
+        .args(arguments)
 }
 
 fn stamp_argument<'a>(alloc: Global, name: &'a str, stamp: &'a str, help: &'a str) -> Arg<'a> {
@@ -134,13 +132,14 @@ fn stamp_argument<'a>(alloc: Global, name: &'a str, stamp: &'a str, help: &'a st
 }
 
 fn chart_command<'a>(alloc: Global) -> Result<Command<'a>, AllocError> {
+    let file = file_argument(alloc, "file", "FILE", "The script");
+    let journal = file_argument(alloc, "journal", "JOURNAL", "The journal");
+    let from = stamp_argument(alloc, "from", "1", "The first stamp that is drawn");
+    let to = stamp_argument(alloc, "to", "4294967295", "The last stamp that is drawn");
+    let arguments = vec![in alloc; file, journal, rows_argument(alloc), from, to]?;
     Command::new(alloc, "chart")
         .about("Draws a journal as a chart (SVG)")
-        .arg(file_argument(alloc, "file", "FILE", "The script"))?
-        .arg(file_argument(alloc, "journal", "JOURNAL", "The journal"))?
-        .arg(rows_argument(alloc))?
-        .arg(stamp_argument(alloc, "from", "1", "The first stamp that is drawn"))?
-        .arg(stamp_argument(alloc, "to", "4294967295", "The last stamp that is drawn"))
+        .args(arguments)
 }
 
 /// The request of `chart`, by the words behind it.
@@ -154,12 +153,18 @@ fn chart_request<'a>(chart: &ArgMatches<'a>) -> Option<Request<'a>> {
     })
 }
 
+/// The arguments of what goes through a journal: its script, the journal, and how many rows a process has.
+fn arguments_of_journal<'a>(alloc: Global) -> Result<Vec<Arg<'a>>, AllocError> {
+    let file = file_argument(alloc, "file", "FILE", "The script");
+    let journal = file_argument(alloc, "journal", "JOURNAL", "The journal");
+    Ok(vec![in alloc; file, journal, rows_argument(alloc)]?)
+}
+
 fn why_command<'a>(alloc: Global) -> Result<Command<'a>, AllocError> {
+    let arguments = arguments_of_journal(alloc)?;
     Command::new(alloc, "why")
         .about("Tells why each process stands where it does")
-        .arg(file_argument(alloc, "file", "FILE", "The script"))?
-        .arg(file_argument(alloc, "journal", "JOURNAL", "The journal"))?
-        .arg(rows_argument(alloc))
+        .args(arguments)
 }
 
 /// The request of `why`, by the words behind it.
@@ -195,11 +200,10 @@ fn run_request<'a>(run: &ArgMatches<'a>) -> Option<Request<'a>> {
 }
 
 fn replay_command<'a>(alloc: Global) -> Result<Command<'a>, AllocError> {
+    let arguments = arguments_of_journal(alloc)?;
     Command::new(alloc, "replay")
         .about("Replays a journal against its script")
-        .arg(file_argument(alloc, "file", "FILE", "The script"))?
-        .arg(file_argument(alloc, "journal", "JOURNAL", "The journal"))?
-        .arg(rows_argument(alloc))
+        .args(arguments)
 }
 
 /// The request of `replay`, by the words behind it.
@@ -211,20 +215,33 @@ fn replay_request<'a>(replay: &ArgMatches<'a>) -> Option<Request<'a>> {
     })
 }
 
+/// The command with one more below it.
+fn with<'a>(
+    command: Result<Command<'a>, AllocError>,
+    below: Result<Command<'a>, AllocError>,
+) -> Result<Command<'a>, AllocError> {
+    command?.subcommand(below?)
+}
+
+fn bare_command<'a>(alloc: Global) -> Result<Command<'a>, AllocError> {
+    let command = Command::new(alloc, "pcml").bin_name("pcml")?;
+    Ok(
+        command
+            .about("First-class events and selective rendezvous")
+            .no_binary_name(true)
+            .subcommand_required(true),
+    )
+}
+
 fn command_line<'a>(alloc: Global) -> Result<Command<'a>, AllocError> {
-    Command::new(alloc, "pcml")
-        .bin_name("pcml")?
-        .about("First-class events and selective rendezvous")
-        .no_binary_name(true)
-        .subcommand_required(true)
-        .subcommand(meet_command(alloc)?)?
-        .subcommand(play_command(alloc)?)?
-        .subcommand(check_command(alloc)?)?
-        .subcommand(run_command(alloc)?)?
-        .subcommand(replay_command(alloc)?)?
-        .subcommand(why_command(alloc)?)?
-        .subcommand(chart_command(alloc)?)?
-        .subcommand(explain_command(alloc)?)
+    let command = with(bare_command(alloc), meet_command(alloc));
+    let command = with(command, play_command(alloc));
+    let command = with(command, check_command(alloc));
+    let command = with(command, run_command(alloc));
+    let command = with(command, replay_command(alloc));
+    let command = with(command, why_command(alloc));
+    let command = with(command, chart_command(alloc));
+    with(command, explain_command(alloc))
 }
 
 /// Why what the words ask for cannot be had.
@@ -259,33 +276,49 @@ fn objection(asked: &Request<'_>) -> Option<&'static str>
     }
 }
 
+/// The request of the subcommand of this name, by the words behind it.
+fn request_of<'a>(name: &str, behind: &ArgMatches<'a>) -> Option<Request<'a>> {
+    match name {
+        "meet" => behind.get_one("value").map(|value| Request::Meet(value)),
+        "play" => behind.get_str("file").map(|name| Request::Play(name)),
+        "check" => behind.get_str("file").map(|name| Request::Check(name)),
+        "run" => run_request(behind),
+        "replay" => replay_request(behind),
+        "why" => why_request(behind),
+        "chart" => chart_request(behind),
+        "explain" => {
+            behind
+                .get_one("number")
+                .map(|number| Request::Explain(number))
+        }
+        _ => None,
+    }
+}
+
+/// The request that can be answered, or what is wrong with it.
+fn answerable<'a>(matches: &ArgMatches<'a>) -> Result<Request<'a>, (ErrorKind, &'static str)>
+    ensures { IfOk result CanBeAnswered }
+{
+    let nothing = (ErrorKind::MissingSubcommand, "nothing is asked for");
+    let Some((name, behind)) = matches.subcommand() else {
+        return Err(nothing);
+    };
+    let asked = request_of(name, behind).ok_or(nothing)?;
+    match objection(&asked) {
+        Some(why) => Err((ErrorKind::ValueValidation, why)),
+        None => Ok(asked),
+    }
+}
+
 /// What the words ask for, as `clap` has it. A wish for help is an error too.
 fn understood<'a>(alloc: Global, words: &'a [&'a str]) -> Result<Request<'a>, Error>
     ensures { IfOk result CanBeAnswered }
 {
     let mut command = command_line(alloc)?;
     let matches = command.try_get_matches_from_mut(words)?;
-    let found = match matches.subcommand() {
-        Some(("meet", meet)) => meet.get_one("value").map(|value| Request::Meet(value)),
-        Some(("play", play)) => play.get_str("file").map(|name| Request::Play(name)),
-        Some(("check", check)) => check.get_str("file").map(|name| Request::Check(name)),
-        Some(("run", run)) => run_request(run),
-        Some(("replay", replay)) => replay_request(replay),
-        Some(("why", why)) => why_request(why),
-        Some(("chart", chart)) => chart_request(chart),
-        Some(("explain", explain)) => {
-            explain
-                .get_one("number")
-                .map(|number| Request::Explain(number))
-        }
-        _ => None,
-    };
-    match found {
-        Some(asked) => match objection(&asked) {
-            Some(why) => Err(command.error(ErrorKind::ValueValidation, why)?),
-            None => Ok(asked),
-        },
-        None => Err(command.error(ErrorKind::MissingSubcommand, "nothing is asked for")?),
+    match answerable(&matches) {
+        Ok(asked) => Ok(asked),
+        Err((kind, why)) => Err(command.error(kind, why)?),
     }
 }
 
