@@ -1,6 +1,6 @@
 //! Outputs that take little, fail or are interrupted.
 
-use crate::tests::{LINES, SERVER};
+use crate::tests::{LINES, SERVER, check_same};
 use std::alloc::{AllocError, Global};
 use std::io;
 use std::io::{ErrorKind, Write};
@@ -114,9 +114,14 @@ fn takes_all<R: Abort + AllocGlobal + Threads + Wait + Sync>(
     out: &mut Hostile,
 ) -> Result<(), AllocError> {
     let (status, err) = replays_onto(rt, out)?;
-    assert_eq!(rt; out.taken.as_slice(), EXPECTED.as_bytes());
-    assert!(rt; err.is_empty());
-    assert_eq!(rt; status, 0);
+    check_same(
+        rt,
+        out.taken.as_slice(),
+        EXPECTED.as_bytes(),
+        "what is taken",
+    );
+    check_same(rt, err.as_slice(), b"".as_slice(), "what is told");
+    check_same(rt, status, 0, "the status");
     Ok(())
 }
 
@@ -128,9 +133,9 @@ fn takes_a_beginning<R: Abort + AllocGlobal + Threads + Wait + Sync>(
 ) -> Result<(), AllocError> {
     let (status, err) = replays_onto(rt, out)?;
     let beginning = EXPECTED.as_bytes().get(..length).unwrap_or(&[]);
-    assert_eq!(rt; out.taken.as_slice(), beginning);
-    assert_eq!(rt; err.as_slice(), b"fault 32\n".as_slice());
-    assert_eq!(rt; status, 1);
+    check_same(rt, out.taken.as_slice(), beginning, "what is taken");
+    check_same(rt, err.as_slice(), b"fault 32\n".as_slice(), "what is told");
+    check_same(rt, status, 1, "the status");
     Ok(())
 }
 

@@ -2,7 +2,7 @@
 
 ghost use Rattle.std.specs.Prelude.{◌≤◌, length};
 
-use crate::tests::SERVER;
+use crate::tests::{SERVER, check_same};
 use std::alloc::{AllocError, Allocator, Global};
 use std::fs::{Files, Metadata, OpenFile, OpenOptions};
 use std::io;
@@ -204,6 +204,9 @@ impl Files for Disk {
     }
 }
 
+/// Words, and what the program prints and tells of them.
+type Asked = (&'static [&'static str], &'static str, &'static str);
+
 /// What the program tells of a request over files, on either stream.
 fn tells<R: Abort + AllocGlobal + Threads + Wait + Sync, S: Source>(
     rt: &R,
@@ -217,76 +220,68 @@ fn tells<R: Abort + AllocGlobal + Threads + Wait + Sync, S: Source>(
     let mut told = Vec::with_capacity(alloc, 64)?;
     let status = command(rt, alloc, words, source, &mut printed, &mut told);
     let request = words.last().copied().unwrap_or("");
-    assert_eq!(rt; told.as_slice(), err.as_bytes(), "{request}");
-    assert_eq!(rt; printed.as_slice(), out.as_bytes(), "{request}");
-    assert_eq!(rt; status, u8::from(!err.is_empty()));
+    check_same(rt, told.as_slice(), err.as_bytes(), request);
+    check_same(rt, printed.as_slice(), out.as_bytes(), request);
+    check_same(rt, status, u8::from(!err.is_empty()), request);
     Ok(())
 }
 
-#[test]
-fn files_that_fail(rt: HostRuntime) -> Result<(), Fail> {
+/// Asks for each of these in turn, over the files of a disk.
+fn tells_each<R: Abort + AllocGlobal + Threads + Wait + Sync>(
+    rt: &R,
+    all: &[Asked],
+) -> Result<(), AllocError> {
     let disk = Disk { alloc: rt.alloc() };
     let mut files = SystemFiles::new(&disk);
-    let counts = "processes 2 channels 3\n";
-    tells(&rt, &mut files, &["check", "pieces"], counts, "")?;
-    tells(
-        &rt,
-        &mut files,
-        &["check", "-"],
-        "processes 0 channels 0\n",
-        "",
-    )?;
-    let keep = ["run", "-", "--journal", "pieces"];
-    tells(&rt, &mut files, keep.as_slice(), "", "fault 32\n")?;
-    for name in ["fails", "locked", "none"] {
-        tells(&rt, &mut files, &["check", name], "", "fault 31\n")?;
-        tells(&rt, &mut files, &["play", name], "", "fault 31\n")?;
-        tells(&rt, &mut files, &["run", name], "", "fault 31\n")?;
-        tells(
-            &rt,
-            &mut files,
-            &["replay", "pieces", name],
-            "",
-            "fault 31\n",
-        )?;
+    for (words, out, err) in all {
+        tells(rt, &mut files, words, out, err)?;
     }
     Ok(())
+}
+
+const OF_FAILING_FILES: [Asked; 15] = [
+    (&["check", "pieces"], "processes 2 channels 3\n", ""),
+    (&["check", "-"], "processes 0 channels 0\n", ""),
+    (&["run", "-", "--journal", "pieces"], "", "fault 32\n"),
+    (&["check", "fails"], "", "fault 31\n"),
+    (&["play", "fails"], "", "fault 31\n"),
+    (&["run", "fails"], "", "fault 31\n"),
+    (&["replay", "pieces", "fails"], "", "fault 31\n"),
+    (&["check", "locked"], "", "fault 31\n"),
+    (&["play", "locked"], "", "fault 31\n"),
+    (&["run", "locked"], "", "fault 31\n"),
+    (&["replay", "pieces", "locked"], "", "fault 31\n"),
+    (&["check", "none"], "", "fault 31\n"),
+    (&["play", "none"], "", "fault 31\n"),
+    (&["run", "none"], "", "fault 31\n"),
+    (&["replay", "pieces", "none"], "", "fault 31\n"),
+];
+
+#[test]
+fn files_that_fail(rt: HostRuntime) -> Result<(), AllocError> {
+    tells_each(&rt, &OF_FAILING_FILES)
 }
 
 /// The length is told before the first line, which is no line of a schedule or a journal. A script that is too
 /// long comes first.
+const OF_LARGE_FILES: [Asked; 12] = [
+    (&["play", "largest"], "", "fault 22 line 1\n"),
+    (&["replay", "pieces", "largest"], "", "fault 21 line 1\n"),
+    (&["play", "too large"], "", "fault 23\n"),
+    (&["replay", "pieces", "too large"], "", "fault 23\n"),
+    (&["check", "too large"], "", "fault 16\n"),
+    (&["run", "too large"], "", "fault 16\n"),
+    (&["replay", "too large", "too large"], "", "fault 16\n"),
+    (&["play", "endless"], "", "fault 23\n"),
+    (&["replay", "pieces", "endless"], "", "fault 23\n"),
+    (&["check", "endless"], "", "fault 16\n"),
+    (&["run", "endless"], "", "fault 16\n"),
+    (&["replay", "endless", "endless"], "", "fault 16\n"),
+];
+
 #[test]
-fn files_that_are_too_large(rt: HostRuntime) -> Result<(), Fail> {
-    let disk = Disk { alloc: rt.alloc() };
-    let mut files = SystemFiles::new(&disk);
-    tells(
-        &rt,
-        &mut files,
-        &["play", "largest"],
-        "",
-        "fault 22 line 1\n",
-    )?;
-    tells(
-        &rt,
-        &mut files,
-        &["replay", "pieces", "largest"],
-        "",
-        "fault 21 line 1\n",
-    )?;
-    for name in ["too large", "endless"] {
-        tells(&rt, &mut files, &["play", name], "", "fault 23\n")?;
-        tells(
-            &rt,
-            &mut files,
-            &["replay", "pieces", name],
-            "",
-            "fault 23\n",
-        )?;
-        tells(&rt, &mut files, &["check", name], "", "fault 16\n")?;
-        tells(&rt, &mut files, &["run", name], "", "fault 16\n")?;
-        tells(&rt, &mut files, &["replay", name, name], "", "fault 16\n")?;
-    }
-    Ok(())
+fn files_that_are_too_large(rt: HostRuntime) -> Result<(), AllocError> {
+    tells_each(&rt, &OF_LARGE_FILES)
 }
 
 /// Of a file of the system that never ends no more is held than of one that is too large.
