@@ -3,6 +3,7 @@
 #![tactic(auto)]
 
 mod output;
+mod place;
 mod source;
 mod system;
 

@@ -1,5 +1,6 @@
 mod damaged;
 mod depth;
+mod keeping;
 mod outputs;
 mod readers;
 
