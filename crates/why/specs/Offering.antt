@@ -37,9 +37,10 @@ others_below sites side chan t (suc u) =
 abbrev pub others : List Site → Side → ℕ → ℕ → List ℕ
 others sites side chan t = others_below sites side chan t (length sites)
 
+-- the process waits in a sync that has this nack; a process that is spent has not opened the sync that it came to
 abbrev pub has_nack : ℕ → Option Site → Bool
 has_nack k None = false
-has_nack k (Some s) = list_any (λ n. n == k) s.nacks.now
+has_nack k (Some s) = is_waiting s.end && list_any (λ n. n == k) s.nacks.now
 
 -- the nack is of a sync that is open
 abbrev pub is_open : List Site → NackName → Bool

@@ -92,8 +92,11 @@ fault_text Shape = codes "a message has more or fewer values than there are name
 unfoldable pub spent_text : ℕ → List ℕ
 spent_text line = codes " is spent at line " ++ decimal line
 
+abbrev pub syncs_word : ℕ → List ℕ
+syncs_word rows = if rows == 1 then codes " sync\n" else codes " syncs\n"
+
 unfoldable pub syncs_text : ℕ → List ℕ
-syncs_text rows = codes ": it made " ++ decimal rows ++ codes " syncs\n"
+syncs_text rows = codes ": it made " ++ decimal rows ++ syncs_word rows
 
 -- how a process stands, at a line, of so many syncs at most
 abbrev pub stand_text : ℕ → ℕ → End → List ℕ

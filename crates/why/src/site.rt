@@ -1,6 +1,6 @@
 //! Where a process stands.
 
-ghost use Rattle.std.specs.Prelude.{◌≡◌, ◌==◌, ◌≤◌, IfOk, length};
+ghost use Rattle.std.specs.Prelude.{◌≡◌, ◌==◌, ◌&&◌, ◌≤◌, IfOk, length};
 ghost use Rattle.std.specs.List.{list_any};
 ghost use Rattle.sequential.specs.Replays.{thread_count};
 ghost use Rattle.why.specs.Lines.{line_of};
@@ -93,9 +93,13 @@ pub(crate) fn others(
     Ok(found)
 }
 
+/// Whether the process waits in a sync with this nack.
 fn has_nack(site: &Site<'_>, nack: u8) -> bool
-    ensures { result ≡ list_any (λ n. n == nack) site.now.nacks.now }
+    ensures { result ≡ (is_waiting site.now.end && list_any (λ n. n == nack) site.now.nacks.now) }
 {
+    if !is_waiting(site.end) {
+        return false;
+    }
     for number in site.nacks {
         if *number == nack {
             return true;

@@ -10,7 +10,7 @@ ghost use Rattle.token.specs.Lexemes.{seen};
 ghost use Rattle.why.specs.Knots.{IsKnot, parts_below, waits_for};
 ghost use Rattle.why.specs.Lines.{line_at};
 ghost use Rattle.why.specs.Offering.{others};
-ghost use Rattle.why.specs.Whys.{AreSites, IsWhy, also_text, also_words, chance_text, fault_text, knot_text, knot_words, last_text, listed, lone_text, nack_state_text, nobody_words, offer_line, offer_text, offers_text, partners_text, same_words, site_text, spent_text, stand_text, sync_words, syncs_text, unfired_text, why_text};
+ghost use Rattle.why.specs.Whys.{AreSites, IsWhy, also_text, also_words, chance_text, fault_text, knot_text, knot_words, last_text, listed, lone_text, nack_state_text, nobody_words, offer_line, offer_text, offers_text, partners_text, same_words, site_text, spent_text, stand_text, sync_words, syncs_text, syncs_word, unfired_text, why_text};
 
 use crate::knot::Waiting;
 use crate::lines::lines_of;
@@ -160,11 +160,18 @@ fn push_spent(out: &mut String, line: usize) -> Result<(), AllocError>
     write!(out, " is spent at line {line}")
 }
 
+fn syncs_word(rows: u16) -> &'static str
+    ensures { result.now ≡ syncs_word rows }
+{
+    if rows == 1 { " sync\n" } else { " syncs\n" }
+}
+
 #[tactic(auto, unfolding(crate::specs::Whys::syncs_text))]
 fn push_syncs(out: &mut String, rows: u16) -> Result<(), AllocError>
     ensures { OnOk result (string_bytes out.new ≡ string_bytes out.old ++ syncs_text rows) }
 {
-    write!(out, ": it made {rows} syncs\n")
+    write!(out, ": it made {rows}")?;
+    out.push_str(syncs_word(rows))
 }
 
 /// How a process stands, at a line, of at most `rows` syncs.
