@@ -1,13 +1,17 @@
 //! `pcml`: the program of `tool`, over the files, words and streams of the process.
 #![tactic(auto)]
 
+use std::alloc::{AllocError, Global};
 use std::io::{ErrorKind, Write};
 use std::process::ExitCode;
 use std::rt::{Env, Files};
 use std::sync::Wait;
-use std::thread::Threads;
-use std::{env, io};
+use std::thread::{Builder, Threads};
+use std::{env, io, thread};
 use tool::{BAD_WORDS, Fault, SystemFiles, command, tell};
+
+/// The bytes of stack for which a script may be as deep as its limit lets it.
+const STACK: usize = 1 << 20;
 
 /// Runs on the words that the process was given. It fails where they lack memory or are no text.
 fn run<R: Env + Files + Input + Print + AllocGlobal + Threads + Wait + Sync, E: Write>(
@@ -21,16 +25,43 @@ fn run<R: Env + Files + Input + Print + AllocGlobal + Threads + Wait + Sync, E: 
     Ok(command(rt, rt.alloc(), words.as_slice(), &mut files, &mut out, err))
 }
 
-fn main(rt: HostRuntime) -> ExitCode {
-    let errors = rt.stderr();
-    let mut err = io::writer(&errors);
-    let status = match run(&rt, &mut err) {
+/// Runs, and tells why where that fails. It answers the status.
+fn ended<R: Env + Files + Input + Print + AllocGlobal + Threads + Wait + Sync, E: Print>(
+    rt: &R,
+    errors: &E,
+) -> u8 {
+    let mut err = io::writer(errors);
+    match run(rt, &mut err) {
         Ok(status) => status,
-        Err(error) if error.kind() == ErrorKind::OutOfMemory => { tell(&mut err, Fault::Memory) }
+        Err(error) if error.kind() == ErrorKind::OutOfMemory => tell(&mut err, Fault::Memory),
         Err(_) => {
             let _ = writeln!(err, "error: a word is no text");
             BAD_WORDS
         }
-    };
+    }
+}
+
+/// Whether there is memory for the stack.
+fn ask_for_stack(alloc: Global) -> Result<(), AllocError> {
+    let _room: Vec<u8> = Vec::with_capacity(alloc, STACK)?;
+    Ok(())
+}
+
+/// Runs on a thread whose stack is asked for before it starts, since the first thread's grows as it is used,
+/// and a process that gets no more of it is killed. Where no thread can be had the first one has to do.
+fn main(rt: HostRuntime) -> ExitCode {
+    let errors = rt.stderr();
+    if ask_for_stack(rt.alloc()).is_err() {
+        return ExitCode::from(tell(&mut io::writer(&errors), Fault::Memory));
+    }
+    let status = thread::scope(thread::scope_env(), &rt, |scope| -> u8 {
+        match Builder::new()
+            .stack_size(STACK)
+            .spawn_scoped(scope, || ended(&rt, &errors))
+        {
+            Ok(handle) => handle.join(&rt),
+            Err(_) => ended(&rt, &errors),
+        }
+    });
     ExitCode::from(status)
 }
