@@ -94,7 +94,7 @@ fn rows_argument<'a>(alloc: Global) -> Arg<'a> {
         .value_name("G")
         .value_parser(value_parser!(u16).range(1..=1024))
         .default_value("256")
-        .help("How many syncs a process may make")
+        .help("How many syncs a process may make, 1 to 1024")
 }
 
 fn run_command<'a>(alloc: Global) -> Result<Command<'a>, AllocError> {
@@ -104,11 +104,11 @@ fn run_command<'a>(alloc: Global) -> Result<Command<'a>, AllocError> {
         .value_name("N")
         .value_parser(value_parser!(u8).range(1..=16))
         .default_value("4")
-        .help("How many workers run the processes");
+        .help("How many workers run the processes, 1 to 16");
     let journal = Arg::new(alloc, "journal")
         .long("journal")
         .action(ArgAction::Set)
-        .value_name("FILE")
+        .value_name("TO")
         .help("Writes the journal to a file too");
     let quiet = Arg::new(alloc, "quiet")
         .long("quiet")
@@ -126,7 +126,7 @@ fn stamp_argument<'a>(alloc: Global, name: &'a str, stamp: &'a str, help: &'a st
         .long(name)
         .action(ArgAction::Set)
         .value_name("S")
-        .value_parser(value_parser!(u32))
+        .value_parser(value_parser!(u32).range(1..))
         .default_value(stamp)
         .help(help)
 }
