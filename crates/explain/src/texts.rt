@@ -32,7 +32,8 @@ fault 11 line L: a token on line L of the script is none, or the grammar does no
 example: pcml check FILE tells line 2, since a `;` is missing before the `}`, where FILE is
   process a {
     print 1 }
-what to do: look at line L, and at what is missing before it. docs/FORMATS.md has the grammar.
+what to do: look at line L, and at what is missing before it: a missing `;` is told of the line where the
+next token stands. There are no comments, and each `if` has an `else`. docs/FORMATS.md has the grammar.
 ";
 
 pub(crate) const UNKNOWN_NAME: &str = "\
@@ -66,7 +67,7 @@ what to do: begin the loop with a sync. `sync always ();` is one that waits for 
 
 pub(crate) const TOO_LONG: &str = "\
 fault 16: the script has more than 65,536 bytes
-comes about: where FILE of pcml check, run or replay is so long, or never ends, as a device.
+comes about: where FILE of pcml check, run, replay, why or chart is so long, or never ends, as a device.
 what to do: shorten the script.
 ";
 
@@ -76,7 +77,8 @@ example: pcml replay FILE JOURNAL tells line 1, since `( )` has a space, where F
   process a { sync always (); }
 and JOURNAL is
   1 a.0.0 always ( )
-what to do: write the line as pcml run does. docs/FORMATS.md has the form.
+what to do: write the line as pcml run does, with names that the script declares. docs/FORMATS.md has the
+form. Where the script and its journal are exchanged, the script is what cannot be read: fault 11.
 ";
 
 pub(crate) const BAD_STEP: &str = "\
@@ -89,7 +91,8 @@ what to do: write the line as docs/FORMATS.md has it. Line 1 is the world, also 
 
 pub(crate) const TOO_LARGE: &str = "\
 fault 23: the journal or the schedule has more than 16,777,216 bytes
-comes about: where a file of pcml replay or pcml play is so long, or never ends, as a device.
+comes about: where JOURNAL of pcml replay, why or chart, or FILE of pcml play, is so long, or never ends,
+as a device.
 what to do: shorten it.
 ";
 
@@ -101,6 +104,9 @@ what to do: look at how the file is spelled, and at who may read it.
 
 pub(crate) const UNWRITTEN: &str = "\
 fault 32: an output cannot be written
-comes about: where a disk is full, or whoever reads the output has ended. Part of it may be out.
-what to do: write to where there is room, or let the reader read to the end.
+comes about: where a disk is full, or whoever reads the output has ended: part of it may be out.
+Or the file TO of --journal, and then nothing is out: TO is a folder, a device or a link that leads to none
+but such, the script itself, or where the output goes; or it may not be written, or its folder is not there,
+may not be written or is full.
+what to do: write to where there is room, or let the reader read to the end; name another TO.
 ";
