@@ -1,0 +1,75 @@
+//! What a call comes to, beside what it is to come to.
+
+use crate::blocks::Block;
+use std::alloc::{AllocError, Global};
+
+/// What a call came to.
+#[derive(Drop)]
+pub(crate) struct Outcome {
+    pub(crate) status: u8,
+    pub(crate) out: Vec<u8>,
+    pub(crate) err: Vec<u8>,
+}
+
+/// Which of the two streams a call writes on, and with which status.
+#[derive(Clone, Copy)]
+pub(crate) enum Wanted {
+    Prints,
+    Fails,
+    /// A journal that is no run.
+    Unlawful,
+    /// Words that are not understood, with whatever text.
+    Refuses,
+}
+
+impl Outcome {
+    /// Whether it is what is wanted, with this text.
+    pub(crate) fn is(&self, wanted: Wanted, text: &str) -> bool {
+        let (status, out, err) = match wanted {
+            Wanted::Prints => (0, text, ""),
+            Wanted::Unlawful => (1, text, ""),
+            Wanted::Fails => (1, "", text),
+            Wanted::Refuses => {
+                return self.status == 2 && self.out.is_empty() && !self.err.is_empty();
+            }
+        };
+        self.status == status
+            && self.out.as_slice() == out.as_bytes()
+            && self.err.as_slice() == err.as_bytes()
+    }
+
+    /// What was found in place of what is wanted.
+    pub(crate) fn text(&self, alloc: Global) -> Result<String, AllocError> {
+        let out = str::from_utf8(self.out.as_slice()).unwrap_or("(no text)\n");
+        let err = str::from_utf8(self.err.as_slice()).unwrap_or("(no text)\n");
+        format!(in alloc; "status {}\n{out}{err}", self.status)
+    }
+}
+
+/// How a replay tells the end of a run: by the lines of its processes, and then by the number of commits.
+/// None where the text is none of a run.
+pub(crate) fn replayed(alloc: Global, run: &Block<'_>) -> Result<Option<String>, AllocError> {
+    let mut text = String::new(alloc);
+    let mut counts = "";
+    for line in run.body.lines() {
+        if !counts.is_empty() {
+            text.push_str(counts)?;
+            text.push_str("\n")?;
+        }
+        let is_commit = line
+            .as_bytes()
+            .first()
+            .is_some_and(|byte| byte.is_ascii_digit());
+        counts = if is_commit { "" } else { line };
+    }
+    let Some(behind) = counts.strip_prefix("commits ") else {
+        return Ok(None);
+    };
+    let Some((count, _)) = behind.split_once(' ') else {
+        return Ok(None);
+    };
+    text.push_str("lawful ")?;
+    text.push_str(count)?;
+    text.push_str(" maximal\n")?;
+    Ok(Some(text))
+}

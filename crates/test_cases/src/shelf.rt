@@ -1,0 +1,71 @@
+//! The files of a case file: those that it made so far, and else those beside it.
+
+use std::alloc::{AllocError, Global};
+use std::fs::Files;
+use tool::{Source, SourceFault, SystemFiles};
+
+/// A file that was made.
+#[derive(Drop)]
+struct Made {
+    name: String,
+    text: Vec<u8>,
+}
+
+/// The files that were made, and behind them those of the system. Of two of one name the later one counts.
+#[derive(Drop)]
+pub(crate) struct Shelf<'a, R> {
+    alloc: Global,
+    made: Vec<Made>,
+    others: SystemFiles<'a, R>,
+}
+
+impl<'a, R: Files + Input + AllocGlobal> Shelf<'a, R> {
+    pub(crate) fn new(rt: &'a R) -> Shelf<'a, R> {
+        Shelf {
+            alloc: rt.alloc(),
+            made: Vec::new(rt.alloc()),
+            others: SystemFiles::new(rt),
+        }
+    }
+
+    /// Makes the bytes, so many times, the whole file of this name.
+    pub(crate) fn make(&mut self, name: &str, text: &[u8], times: usize) -> Result<(), AllocError> {
+        let name = String::from_str(self.alloc, name)?;
+        let mut whole = Vec::new(self.alloc);
+        for _ in 0..times {
+            whole.extend_from_slice(text)?;
+        }
+        self.made.push(Made { name, text: whole })?;
+        Ok(())
+    }
+
+    /// The file that was made under this name last.
+    pub(crate) fn find(&self, name: &str) -> Option<&[u8]> {
+        let mut found = None;
+        for file in &self.made {
+            if file.name.as_str() == name {
+                found = Some(file.text.as_slice());
+            }
+        }
+        found
+    }
+}
+
+impl<R: Files + Input + AllocGlobal> Source for Shelf<'_, R> {
+    fn read(&mut self, name: &str) -> Result<Vec<u8>, SourceFault> {
+        let Some(found) = self.find(name) else {
+            return self.others.read(name);
+        };
+        match Vec::from_slice(self.alloc, found) {
+            Ok(text) => Ok(text),
+            Err(_) => Err(SourceFault::Memory),
+        }
+    }
+
+    fn store(&mut self, name: &str, text: &[u8]) -> Result<(), SourceFault> {
+        match self.make(name, text, 1) {
+            Ok(()) => Ok(()),
+            Err(_) => Err(SourceFault::Memory),
+        }
+    }
+}
