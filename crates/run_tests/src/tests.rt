@@ -3,7 +3,6 @@
 use std::fmt::Debug;
 use std::process::Abort;
 
-mod charts;
 mod journals;
 mod processes;
 mod runs;

@@ -157,6 +157,15 @@ impl<'a, R: AllocGlobal + Files + Input + Threads + Wait + Sync> Player<'a, R> {
         Ok(())
     }
 
+    /// Puts a text, so many times, behind what was made under a name.
+    fn append(&mut self, name: &str, text: &str, times: &str) -> Result<()> {
+        let Ok(times) = times.parse::<usize>() else {
+            bail!("no such number: {times}");
+        };
+        self.files.append(name, text.as_bytes(), times)?;
+        Ok(())
+    }
+
     /// Does once what the words of a block say, with the other answers behind it that will do.
     fn play_words(
         &mut self,
@@ -170,6 +179,8 @@ impl<'a, R: AllocGlobal + Files + Input + Threads + Wait + Sync> Player<'a, R> {
             ["file", name, times] => self.make(name, block.body, times),
             ["text", name] => self.make(name, text, "1"),
             ["text", name, times] => self.make(name, text, times),
+            ["more", name] => self.append(name, text, "1"),
+            ["more", name, times] => self.append(name, text, times),
             ["holds", name] => self.check_file(name, block),
             ["prints", call @ ..] => self.check(call, Wanted::Prints, block, others),
             ["unlawful", call @ ..] => self.check(call, Wanted::Unlawful, block, others),

@@ -39,6 +39,23 @@ impl<'a, R: Files + Input + AllocGlobal> Shelf<'a, R> {
         Ok(())
     }
 
+    /// Puts the bytes, so many times, behind the file that was made last, which has to have this name.
+    pub(crate) fn append(
+        &mut self,
+        name: &str,
+        text: &[u8],
+        times: usize,
+    ) -> Result<(), AllocError> {
+        if let Some(file) = self.made.last_mut() {
+            if file.name.as_str() == name {
+                for _ in 0..times {
+                    file.text.extend_from_slice(text)?;
+                }
+            }
+        }
+        Ok(())
+    }
+
     /// The file that was made under this name last.
     pub(crate) fn find(&self, name: &str) -> Option<&[u8]> {
         let mut found = None;

@@ -1,5 +1,5 @@
 use super::checks::check_same;
-use journal_text::{JournalFault, read_journal, write_journal, write_numbered};
+use journal_text::{read_journal, write_journal, write_numbered};
 use script::{Script, parse};
 use std::alloc::Global;
 use std::process::Abort;
@@ -91,59 +91,12 @@ const LARGEST: [Commit; 3] = [
     },
 ];
 
-/// Texts, with the first line that cannot be read, or 0.
-const TEXTS: [(&str, usize); 25] = [
-    ("", 0),
-    (JOURNAL, 0),
-    ("\n", 1),
-    ("1 a.0.0 -> b.0", 1),
-    ("1 a.0.0 always ()", 1),
-    ("0 a.0.0 always ()\n", 1),
-    ("01 a.0.0 always ()\n", 1),
-    ("4294967296 a.0.0 always ()\n", 1),
-    ("1 a.1024.0 always ()\n", 1),
-    ("1 a.0.8 always ()\n", 1),
-    ("1 a.00.0 always ()\n", 1),
-    ("1 c.0.0 always ()\n", 1),
-    ("1 aa.0.0 always ()\n", 1),
-    ("1 a.0.0 -> b.0.0 a ()\n", 1),
-    ("1 a.0.0 -> b.0.0  c ()\n", 1),
-    ("1 a.0.0 -> b.0.0 c (4294967296)\n", 1),
-    ("1 a.0.0 -> b.0.0 c (1,2)\n", 1),
-    ("1 a.0.0 -> b.0.0 c (1, 2, 3, 4)\n", 1),
-    ("1 a.0.0 -> b.0.0 c (#x)\n", 1),
-    ("1 a.0.0 -> b.0.0 c (!a.64)\n", 1),
-    ("1 a.0.0 -> b.0.0 c (1) \n", 1),
-    ("1 a.0.0 cancelled a.64\n", 1),
-    ("1 a.0.0 sometimes ()\n", 1),
-    ("1 a.0.0 always ()\r\n", 1),
-    ("1 a.0.0 always ()\n1 ab.0.0 always ()\n\n", 3),
-];
-
-/// The first line of the text that cannot be read, or 0.
-fn bad_line(alloc: Global, text: &str) -> Result<usize, Fail> {
-    let script = names(alloc)?;
-    match read_journal(alloc, &script, text.as_bytes()) {
-        Ok(_) => Ok(0),
-        Err(JournalFault::BadLine(line)) => Ok(line),
-        Err(memory) => Err(memory.into()),
-    }
-}
-
 #[test]
 fn every_kind_of_line_is_read(rt: HostRuntime) -> Result<(), Fail> {
     let alloc = rt.alloc();
     let script = names(alloc)?;
     let commits = read_journal(alloc, &script, JOURNAL.as_bytes())?;
     check_same(&rt, commits.as_slice(), &COMMITS, "the journal");
-    Ok(())
-}
-
-#[test]
-fn the_first_bad_line_is_told(rt: HostRuntime) -> Result<(), Fail> {
-    for (text, line) in &TEXTS {
-        check_same(&rt, bad_line(rt.alloc(), text)?, *line, text);
-    }
     Ok(())
 }
 

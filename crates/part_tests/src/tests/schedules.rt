@@ -1,6 +1,5 @@
 use super::checks::check_same;
-use schedule::{ReadFault, Size, read_schedule, schedule_text_laws};
-use std::alloc::{AllocError, Global};
+use schedule::{Size, read_schedule, schedule_text_laws};
 use std::process::Abort;
 use std::test::Fail;
 use words::{Row, Seat, Step};
@@ -130,81 +129,11 @@ const STEPS: [(Seat, Step); 12] = [
     ),
 ];
 
-/// Texts whose first line is not of the form.
-const BAD_FIRST_LINES: [&str; 12] = [
-    "",
-    "\n",
-    "world 65 1 1\n",
-    "world 0 1 1\n",
-    "world 1 1025 1\n",
-    "world 1 1 17\n",
-    "world 1 1 1",
-    "world 1 01 1\n",
-    "world 1  1 1\n",
-    "world 1 1 1 \n",
-    " world 1 1 1\n",
-    "0 open 0.0\n",
-];
-
-/// Third lines that are not of the form.
-const BAD_STEPS: [&str; 22] = [
-    "\n",
-    "0 claim 0.0",
-    "16 claim 0.0\n",
-    "0 claim 64.0\n",
-    "0 claim 0.1024\n",
-    "0 claim 0.0\r\n",
-    "0 claim  0.0\n",
-    "0 claim 0.0 0\n",
-    "0 claim 00.0\n",
-    "0 bind 0.0 0\n",
-    "0 bind 64 0.0 0\n",
-    "0 bind 0 0.0 4\n",
-    "0 bind 0 0.0\n",
-    "0 draft 0.0 34 0\n",
-    "0 draft 0.0 1 18446744073709551616\n",
-    "0 read 0.0 34\n",
-    "0 join 0.0 8 1.0 0\n",
-    "0 join 0.0 0 1.0 8\n",
-    "0 grant 0.0 8\n",
-    "0 grant 0.0\n",
-    "0 take 0.0 0\n",
-    "world 1 1 1\n",
-];
-
-/// The first line of the text that is not of the form, if there is one.
-fn first_bad_line(alloc: Global, text: &[u8]) -> Result<Option<usize>, AllocError> {
-    match read_schedule(alloc, text) {
-        Ok(_) => Ok(None),
-        Err(ReadFault::BadStep(line)) => Ok(Some(line)),
-        Err(ReadFault::Memory) => Err(AllocError),
-    }
-}
-
 #[test]
 fn reads_every_kind_of_step(rt: HostRuntime) -> Result<(), Fail> {
     let schedule = read_schedule(rt.alloc(), TEXT)?;
     check_same(&rt, schedule.size, SIZE, "the size");
     check_same(&rt, schedule.steps.as_slice(), &STEPS, "the steps");
-    Ok(())
-}
-
-#[test]
-fn tells_a_bad_first_line(rt: HostRuntime) -> Result<(), AllocError> {
-    for text in &BAD_FIRST_LINES {
-        let line = first_bad_line(rt.alloc(), text.as_bytes())?;
-        check_same(&rt, line, Some(1), text);
-    }
-    Ok(())
-}
-
-#[test]
-fn tells_a_bad_step(rt: HostRuntime) -> Result<(), AllocError> {
-    for line in &BAD_STEPS {
-        let text = format!(in rt.alloc(); "world 1 1 1\n9 open 9.9\n{line}")?;
-        let found = first_bad_line(rt.alloc(), text.as_bytes())?;
-        check_same(&rt, found, Some(3), line);
-    }
     Ok(())
 }
 

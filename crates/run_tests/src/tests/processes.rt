@@ -45,40 +45,11 @@ fn one(number: u32) -> Message {
     Message::One(Atom::Num(number))
 }
 
-/// Runs the first process over these results, which has to end and to have printed these numbers.
-fn check_ends(
-    rt: &(impl Abort + AllocGlobal),
-    text: &str,
-    results: &[(u8, Message)],
-    printed: &[u32],
-) -> Result<(), Fail> {
-    let (machine, turn) = after(rt.alloc(), text, results)?;
-    assert!(rt; turn == Turn::Ended, "{text}");
-    check_prints(rt, &machine, printed);
-    Ok(())
-}
-
 fn check_prints(rt: &(impl Abort + AllocGlobal), machine: &Machine, printed: &[u32]) {
     check_same(rt, machine.output().len(), printed.len());
     for (atom, number) in machine.output().iter().zip(printed) {
         check_same(rt, *atom, Atom::Num(*number));
     }
-}
-
-/// Runs the first process over these results, which has to stop at this fault, having printed these
-/// numbers.
-fn check_fault(
-    rt: &(impl Abort + AllocGlobal),
-    text: &str,
-    results: &[(u8, Message)],
-    fault: Fault,
-    printed: &[u32],
-) -> Result<(), Fail> {
-    let (machine, turn) = after(rt.alloc(), text, results)?;
-    assert!(rt; turn == Turn::Faulted(fault), "{text}");
-    assert!(rt; !machine.is_offering());
-    check_prints(rt, &machine, printed);
-    Ok(())
 }
 
 #[test]
@@ -104,82 +75,6 @@ fn a_message_is_received(rt: HostRuntime) -> Result<(), Fail> {
     check_same(&rt, b.offers().len(), 0);
     check_same(&rt, b.nacks().len(), 0);
     Ok(())
-}
-
-#[test]
-fn sums_and_tests(rt: HostRuntime) -> Result<(), Fail> {
-    check_ends(&rt, "process a { print (5-3)-1; }", &[], &[1])?;
-    check_ends(&rt, "process a { print 5-(3-1); }", &[], &[3])?;
-    check_ends(
-        &rt,
-        "process a { print 4294967295 - 4294967294 + 7; }",
-        &[],
-        &[8],
-    )?;
-    check_fault(
-        &rt,
-        "process a { print 1; print 4294967295 + 1; }",
-        &[],
-        Fault::Range,
-        &[1],
-    )?;
-    check_fault(&rt, "process a { print 1 - 2; }", &[], Fault::Range, &[])?;
-    check_fault(
-        &rt,
-        "channel c; process a { let x = x; print c + x; }",
-        &[],
-        Fault::Unset,
-        &[],
-    )?;
-    check_fault(
-        &rt,
-        "channel c; process a { print c + 1; }",
-        &[],
-        Fault::Kind,
-        &[],
-    )?;
-    check_fault(
-        &rt,
-        "channel c; process a { if c < 1 {} else {} }",
-        &[],
-        Fault::Kind,
-        &[],
-    )?;
-    let text =
-        "channel c; process a { if c = 0 { print 1; } else { print 2; } if c = c { print 3; } else {} }";
-    check_ends(&rt, text, &[], &[2, 3])
-}
-
-#[test]
-fn guards_and_wraps(rt: HostRuntime) -> Result<(), Fail> {
-    let guard =
-        "process a { let n = 0; loop 2 { sync guard { let n = n + 1; print n; } always (); } }";
-    check_ends(
-        &rt,
-        guard,
-        &[(0, Message::Empty), (0, Message::Empty)],
-        &[1, 2],
-    )?;
-    let wraps =
-        "process a { x <- sync wrap wrap always (3) as p to (p + 1) as q to (q + q); print x; }";
-    check_ends(&rt, wraps, &[(0, one(3))], &[8])?;
-    let chosen =
-        "channel c; process a { x <- sync choose [wrap recv c as p to (p + 1), wrap recv c as p to (p + 2)]; print x; print p; }";
-    check_ends(&rt, chosen, &[(1, one(5))], &[7, 5])?;
-    let shape = "process a { print 7; x, y <- sync always (1); }";
-    check_fault(&rt, shape, &[(0, one(1))], Fault::Shape, &[7])?;
-    let dropped = "process a { x <- sync wrap always (1, 2) to (4); print x; }";
-    let two = Message::Two(Atom::Num(1), Atom::Num(2));
-    check_ends(&rt, dropped, &[(0, two)], &[4])
-}
-
-#[test]
-fn bodies_sync_and_end(rt: HostRuntime) -> Result<(), Fail> {
-    let body =
-        "channel c; process a { y <- sync guard { x <- sync recv c; print x; } always (x); print y; }";
-    check_ends(&rt, body, &[(0, one(9)), (0, one(9))], &[9, 9])?;
-    let ends = "process a { sync nack n { print 1; end; } always (); print 2; }";
-    check_ends(&rt, ends, &[], &[1])
 }
 
 #[test]
@@ -227,41 +122,6 @@ fn the_last_nack(rt: HostRuntime) -> Result<(), Fail> {
     let last = resume(&mut machine, 0, Message::Empty)?;
     assert!(rt; last == Turn::Faulted(Fault::Range));
     Ok(())
-}
-
-/// The text made of a head, so many times a part, and an end.
-fn repeated(alloc: Global, head: &str, part: &str, times: u32, end: &str) -> Result<String, Fail> {
-    let mut text = String::from_str(alloc, head)?;
-    for _ in 0..times {
-        text.push_str(part)?;
-    }
-    text.push_str(end)?;
-    Ok(text)
-}
-
-#[test]
-fn long_scripts_run(rt: HostRuntime) -> Result<(), Fail> {
-    let alloc = rt.alloc();
-    let sum = repeated(alloc, "process a{print 0", "+1", 32000, ";}")?;
-    check_ends(&rt, sum.as_str(), &[], &[32000])?;
-    let row = repeated(alloc, "process a{", "end;", 16000, "}")?;
-    check_ends(&rt, row.as_str(), &[], &[])?;
-    let run = repeated(alloc, "process a{", "let x=1;", 8000, "print x;}")?;
-    check_ends(&rt, run.as_str(), &[], &[1])?;
-    let choices = repeated(
-        alloc,
-        "process a{sync choose[",
-        "choose[],",
-        6000,
-        "always(1)];print 5;}",
-    )?;
-    check_ends(&rt, choices.as_str(), &[(0, one(1))], &[5])?;
-    let wraps = repeated(alloc, "process a{x<-sync ", "wrap ", 45, "always(1)")?;
-    let wraps = repeated(alloc, wraps.as_str(), "as p to(p+1)", 45, ";print x;}")?;
-    check_ends(&rt, wraps.as_str(), &[(0, one(1))], &[46])?;
-    let deep = repeated(alloc, "process a{", "if 0=0{", 47, "print 6;")?;
-    let deep = repeated(alloc, deep.as_str(), "}else{}", 47, "}")?;
-    check_ends(&rt, deep.as_str(), &[], &[6])
 }
 
 #[test]
