@@ -79,7 +79,11 @@ impl<R: Files + Input + AllocGlobal> Source for Shelf<'_, R> {
         }
     }
 
+    /// There are no folders to keep a file in.
     fn store(&mut self, name: &str, text: &[u8]) -> Result<(), SourceFault> {
+        if name.contains('/') {
+            return Err(SourceFault::Unwritten);
+        }
         match self.make(name, text, 1) {
             Ok(()) => Ok(()),
             Err(_) => Err(SourceFault::Memory),
