@@ -1,0 +1,65 @@
+# Completion for pcml in bash: install -Dm644 editors/pcml.bash ~/.local/share/bash-completion/completions/pcml
+# shellcheck shell=bash
+
+# _pcml_give WORDS FLAGS..: those of the words, or of what compgen finds, that begin as the word at the cursor.
+_pcml_give() {
+  mapfile -t COMPREPLY < <(compgen -W "$1" "${@:2}" -- "$now")
+}
+
+_pcml_files() {
+  compopt -o filenames 2>/dev/null
+  _pcml_give '' -f
+}
+
+# The options of a command.
+_pcml_options() {
+  case $1 in
+    run) echo --workers --rows --journal --quiet --help ;;
+    replay | why) echo --rows --help ;;
+    chart) echo --rows --from --to --help ;;
+    *) echo --help ;;
+  esac
+}
+
+_pcml() {
+  local now=${COMP_WORDS[COMP_CWORD]} before=${COMP_WORDS[COMP_CWORD - 1]} command=${COMP_WORDS[1]-}
+  local commands='run check why chart replay explain play meet help'
+  COMPREPLY=()
+  if [ "$COMP_CWORD" -eq 1 ]; then
+    case $now in
+      -*) _pcml_give '--help --prove' ;;
+      *) _pcml_give "$commands" ;;
+    esac
+    return
+  fi
+  # --rows=4 is three words here.
+  [ "$now" != = ] || now=
+  [ "$before" != = ] || before=${COMP_WORDS[COMP_CWORD - 2]}
+  if [[ " ${COMP_WORDS[*]:1:COMP_CWORD-1} " == *' -- '* ]]; then
+    _pcml_files
+    return
+  fi
+  case $before in
+    --workers) _pcml_give '1 2 4 8 16' ;;
+    --rows) _pcml_give '256 1024' ;;
+    --from | --to) ;;
+    --journal) _pcml_files ;;
+    *) _pcml_argument ;;
+  esac
+}
+
+# A word that is no option's value.
+_pcml_argument() {
+  if [[ $now == -?* ]]; then
+    _pcml_give "$(_pcml_options "$command")"
+    return
+  fi
+  case $command in
+    explain) _pcml_give '1 2 3 6 11 12 13 14 15 16 21 22 23 31 32' ;;
+    help) _pcml_give "$commands" ;;
+    meet) ;;
+    *) _pcml_files ;;
+  esac
+}
+
+complete -F _pcml pcml
