@@ -224,13 +224,11 @@ fn with<'a>(
 }
 
 fn bare_command<'a>(alloc: Global) -> Result<Command<'a>, AllocError> {
-    let command = Command::new(alloc, "pcml").bin_name("pcml")?;
-    Ok(
-        command
-            .about("First-class events and selective rendezvous")
-            .no_binary_name(true)
-            .subcommand_required(true),
-    )
+    Command::new(alloc, "pcml")
+        .about("First-class events and selective rendezvous")
+        .no_binary_name(true)
+        .subcommand_required(true)
+        .bin_name("pcml")
 }
 
 fn command_line<'a>(alloc: Global) -> Result<Command<'a>, AllocError> {
