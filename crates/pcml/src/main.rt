@@ -13,6 +13,9 @@ use tool::{BAD_WORDS, Fault, SystemFiles, command, tell};
 /// The bytes of stack for which a script may be as deep as its limit lets it.
 const STACK: usize = 1 << 20;
 
+/// So many bytes of memory that no limit on them is near.
+const AMPLE: usize = 64 << 20;
+
 /// Runs on the words that the process was given. It fails where they lack memory or are no text.
 fn run<R: Env + Files + Input + Print + AllocGlobal + Threads + Wait + Sync, E: Write>(
     rt: &R,
@@ -41,17 +44,21 @@ fn ended<R: Env + Files + Input + Print + AllocGlobal + Threads + Wait + Sync, E
     }
 }
 
-/// Whether there is memory for the stack.
-fn ask_for_stack(alloc: Global) -> Result<(), AllocError> {
-    let _room: Vec<u8> = Vec::with_capacity(alloc, STACK)?;
+/// Whether the system gives so many bytes.
+fn ask_for(alloc: Global, bytes: usize) -> Result<(), AllocError> {
+    let _room: Vec<u8> = Vec::with_capacity(alloc, bytes)?;
     Ok(())
 }
 
-/// Runs on a thread whose stack is asked for before it starts, since the first thread's grows as it is used,
-/// and a process that gets no more of it is killed. Where no thread can be had the first one has to do.
+/// Where a limit on memory is near, it runs on a thread whose stack is asked for before it starts: the first
+/// thread's grows as it is used, and a process that gets no more of it is killed. Where no thread can be had
+/// either, the first one has to do.
 fn main(rt: HostRuntime) -> ExitCode {
     let errors = rt.stderr();
-    if ask_for_stack(rt.alloc()).is_err() {
+    if ask_for(rt.alloc(), AMPLE).is_ok() {
+        return ExitCode::from(ended(&rt, &errors));
+    }
+    if ask_for(rt.alloc(), STACK).is_err() {
         return ExitCode::from(tell(&mut io::writer(&errors), Fault::Memory));
     }
     let status = thread::scope(thread::scope_env(), &rt, |scope| -> u8 {
