@@ -9,7 +9,7 @@ use Rattle.code.specs.declared.Stage.{Stage as SeenStage}
 use Rattle.code.specs.declared.Stage.TheVariants as seen
 use Rattle.code.specs.declared.Code.{Code}
 use Rattle.code.specs.Stages.{Stage, Offered, Performed, Made}
-use Rattle.code.specs.Codes.{AreStages, BlockLeads, Grows, HasPlan, IsAt, IsLinked, IsPlan, IsStage, Leads, LeadsTo, StmtLeads}
+use Rattle.code.specs.Codes.{AreStages, BlockLeads, Grows, HasPlan, IsAt, IsLinked, IsPlan, IsStage, Leads, StmtLeads}
 
 -- LISTS
 
@@ -29,9 +29,6 @@ get_either (a ∷ xs) y zero x h = inl h
 get_either (a ∷ xs) y (suc i) x h = get_either xs y i x h
 
 -- CODES
-
-pub grows_same : (c : Code) → Grows c c
-grows_same c = record { places = λ at p h. h; plans = λ number plan h. h }
 
 pub grows_on : (a b c : Code) → Grows a b → Grows b c → Grows a c
 grows_on a b c g h = record {
@@ -116,10 +113,6 @@ stmt_leads_on c d p Ends rest g h = tt
 block_leads_on : (c d : Code) (p : Place) (block : Block) → Grows c d → BlockLeads c p block → BlockLeads d p block
 block_leads_on c d p Stops g h = tt
 block_leads_on c d p (Runs stmt rest) g h = (is_at_on c d p.next rest g h.0, stmt_leads_on c d p stmt rest g h.1)
-
-pub leads_to_on : (c d : Code) (next : ℕ) (block : Block) → Grows c d → LeadsTo c next block → LeadsTo d next block
-leads_to_on c d next Stops g h = tt
-leads_to_on c d next (Runs stmt rest) g h = is_at_on c d next rest g h
 
 -- PUTTING IN
 

@@ -1,6 +1,6 @@
 -- Each sync has at most 8 base events and 4 nacks, also those in the bodies of guards and nacks.
 use Rattle.std.specs.Prelude.{⊤}
-use Rattle.syntax.specs.Trees.{Event, Sends, Receives, IsReady, IsNever, IsCancelled, Chooses, Wraps, Guards, Nacks, Events, NoMembers, Members, Stmt, Lets, Prints, Syncs, Branches, Loops, LoopsForever, Ends, Block, Stops, Runs, Turn}
+use Rattle.syntax.specs.Trees.{Event, Sends, Receives, IsReady, IsNever, IsCancelled, Chooses, Wraps, Guards, Nacks, Events, NoMembers, Members, Stmt, Lets, Prints, Syncs, Branches, Loops, LoopsForever, Ends, Block, Stops, Runs}
 use Rattle.syntax.specs.Limits.{IsSmall}
 
 -- each sync in the bodies of its guards and nacks is small
@@ -32,6 +32,3 @@ abbrev mutual
   pub BlockFits : Block → Type 0
   BlockFits Stops = ⊤
   BlockFits (Runs stmt rest) = StmtFits stmt × BlockFits rest
-
-abbrev pub TurnFits : Turn → Type 0
-TurnFits t = EventFits t.event × (IsSmall t.event × BlockFits t.rest)

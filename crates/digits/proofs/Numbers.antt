@@ -137,16 +137,3 @@ unfolding digits_at
 number_again limit n end rest small low le =
     let same : ltb end 48 ≡ true = search (arith, tests) in
     reads_on limit n (omega arith) le (end ∷ rest) ∙ rw same refl
-
--- a number begins with a digit
-pub record BeginsWithDigit (text : List ℕ) : Type 0 where
-  pub first : ℕ
-  pub others : List ℕ
-  pub is : text ≡ (48 + first) ∷ others
-  pub small : first < 10
-
-pub decimal_begins : (n : ℕ) → n < 2 ^ 64 → BeginsWithDigit (decimal n)
-decimal_begins =
-    decimal_by_steps (λ n text. BeginsWithDigit text)
-    (λ n lt. record { first = n; others = []; is = refl; small = lt })
-    (λ n ds ge before. record { first = before.first; others = before.others ++ (48 + n % 10) ∷ []; is = ap (λ (t : List ℕ). t ++ (48 + n % 10) ∷ []) before.is; small = before.small })

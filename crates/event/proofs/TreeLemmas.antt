@@ -59,10 +59,6 @@ base_count-Scope nack t = length-map _ (with_scope 0) ∙ length-bases_from (0 +
 pub scope_count-Or : (a b : Tree) → scope_count (Or a b) ≡ scope_count a + scope_count b
 scope_count-Or a b = length-append (scope_nacks a) (scope_nacks b)
 
--- there are as many offers as base events
-pub length-offers : (t : Tree) → length (offers t) ≡ base_count t
-length-offers t = length-map (bases t) offer_of
-
 -- WRAPS
 
 abbrev wrap_lists : ℕ → Tree → List (List ℕ)

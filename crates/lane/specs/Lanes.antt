@@ -12,9 +12,6 @@ use Rattle.lane.specs.declared.lane.LanePass.{LanePass}
 abbrev pub Offered : Type 0
 Offered = Row × ℕ
 
-abbrev pub pass_number : LanePass → ℕ
-pass_number p = p.number
-
 abbrev pub pass_count : LanePass → ℕ
 pass_count p = p.count
 

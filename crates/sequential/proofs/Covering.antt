@@ -136,14 +136,6 @@ opens-all strands rows t n s o p there le to = record {
       subst (λ (r : Row). Contains p.untried (r, at.1)) row (to.untried at.1 f.offer (omega (arith, le, within)) f.is);
 }
 
--- a thread that offers nothing
-pub opens-nothing : (strands : List Strand) (rows t : ℕ) (o : Openings) → ((at : Row × ℕ) (b : Base) → at.0.thread ≡ t → Finds strands rows at b → ⊥) → Opens strands rows t o o
-opens-nothing strands rows t o none = record {
-  keeps = keeps-all o;
-  listed = λ at b mine finds. absurd (none at b mine finds);
-  untried = λ at b mine finds. absurd (none at b mine finds);
-}
-
 pub spent : (strands : List Strand) (rows t : ℕ) (s : Strand) → slice_get strands t ≡ Some s → rows ≤ length s.machine.results →
     (at : Row × ℕ) (b : Base) → at.0.thread ≡ t → Finds strands rows at b → ⊥
 spent strands rows t s there le at b mine finds =
@@ -341,13 +333,6 @@ pub record OpensBelow (strands : List Strand) (rows t : ℕ) (o : Openings) : Ty
   pub channels : HasChannels o
   pub listed : (at : Row × ℕ) (b : Base) → at.0.thread < t → Finds strands rows at b → IsListed o at b
   pub untried : (at : Row × ℕ) (b : Base) → at.0.thread < t → Finds strands rows at b → Contains o.untried at
-
-pub below-none : (strands : List Strand) (rows : ℕ) (o : Openings) → HasChannels o → OpensBelow strands rows 0 o
-below-none strands rows o channels = record {
-  channels = channels;
-  listed = λ at b lt finds. absurd (omega (arith, lt));
-  untried = λ at b lt finds. absurd (omega (arith, lt));
-}
 
 pub below-more : (strands : List Strand) (rows t : ℕ) (o p : Openings) → OpensBelow strands rows t o → Opens strands rows t o p → OpensBelow strands rows (t + 1) p
 below-more strands rows t o p before opened = record {

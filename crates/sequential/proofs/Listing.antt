@@ -1,12 +1,12 @@
 -- A list of what the threads offer.
-use Rattle.std.proofs.Common.{◌≡◌, ℕ, ◌<◌, Bool, cond, List, length, slice_get, option_and_then, Some, None, sym, ap, ◌∙◌}
+use Rattle.std.proofs.Common.{◌≡◌, ℕ, ◌<◌, List, length, slice_get, option_and_then, Some, sym, ap, ◌∙◌}
 use Rattle.thread.specs.Machines.{offers_in}
 use Rattle.words.specs.declared.Base.{Base}
 use Rattle.words.specs.declared.Offer.{Offer}
 use Rattle.words.specs.declared.Row.{Row}
 use Rattle.sequential.specs.declared.strand.Strand.{Strand}
 use Rattle.sequential.specs.Standing.{Finds, next_offer}
-use Rattle.sequential.proofs.Finding.{if-some, both-tests, tests-both}
+use Rattle.sequential.proofs.Finding.{if-some, both-tests}
 
 -- what is found of a thread
 pub record FoundOf (s : Strand) (rows : ℕ) (at : Row × ℕ) (b : Base) : Type 0 where
@@ -22,12 +22,3 @@ found-of strands rows at b s finds there =
     let found = if-some _ (slice_get (offers_in s.machine.phase) at.1) finds.offer here in
     let tests = both-tests at.0.sync (length s.machine.results) at.0.sync rows found.0 in
     record { sync = tests.0; few = tests.1; offer = finds.offer; is = found.1; base = finds.base }
-
-pub finds-of : (strands : List Strand) (rows : ℕ) (at : Row × ℕ) (b : Base) (s : Strand) → slice_get strands at.0.thread ≡ Some s → FoundOf s rows at b → Finds strands rows at b
-finds-of strands rows at b s there f =
-    let tests = tests-both at.0.sync (length s.machine.results) at.0.sync rows f.sync f.few in
-    record {
-      offer = f.offer;
-      is = ap (option_and_then (next_offer rows at)) there ∙ ap (λ (t : Bool). cond t (slice_get (offers_in s.machine.phase) at.1) None) tests ∙ f.is;
-      base = f.base;
-    }

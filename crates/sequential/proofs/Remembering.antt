@@ -1,5 +1,5 @@
 -- The nacks that a commit fires, remembered one after another.
-use Rattle.std.proofs.Common.{◌≡◌, ◌⊎◌, ℕ, ◌+◌, ◌<◌, true, false, List, length, get_or, set, slice_get, Option, Some, None, refl, sym, ap, ◌∙◌, arith, inl, inr, ◌≤◌, ⊎_elim, get_or-set_same, get_or-set_other}
+use Rattle.std.proofs.Common.{◌≡◌, ◌⊎◌, ℕ, ◌+◌, ◌<◌, true, false, List, length, get_or, set, slice_get, Option, Some, None, sym, ap, ◌∙◌, arith, inl, inr, ◌≤◌, ⊎_elim, get_or-set_same, get_or-set_other}
 use Rattle.std.proofs.lemmas.Bool.{cases_eq, false≢true}
 use Rattle.std.proofs.lemmas.Option.{same_Some, slice_get_within}
 use Rattle.words.specs.Scopes.{has_scope}
@@ -9,12 +9,6 @@ use Rattle.sequential.specs.Standing.{FiresMore}
 pub record FiresUpTo (n : ℕ) (nacks : List ℕ) (scopes stamp : ℕ) (old new : List (Option ℕ)) : Type 0 where
   pub fires : (k s : ℕ) → s < n → slice_get nacks s ≡ Some k → has_scope scopes s ≡ false → get_or new k None ≡ Some stamp
   pub stays : (k : ℕ) → ((s : ℕ) → s < n → slice_get nacks s ≡ Some k → has_scope scopes s ≡ true) → get_or new k None ≡ get_or old k None
-
-pub fires-none-yet : (nacks : List ℕ) (scopes stamp : ℕ) (old : List (Option ℕ)) → FiresUpTo 0 nacks scopes stamp old old
-fires-none-yet nacks scopes stamp old = record {
-  fires = λ k s lt e out. absurd (omega (arith, lt));
-  stays = λ k all. refl;
-}
 
 late : (s n : ℕ) → s < n + 1 → (s < n) ⊎ (s ≡ n)
 late s n lt = ⊎_elim (λ e. inr e) (λ ne. inl (omega (arith, lt, ne))) (cases_eq s n)

@@ -191,9 +191,6 @@ event_row_send =
     let e = event_hole_send in
     variants_send Event.enum ((n, (l, tt)), ((n, tt), ((l, tt), (tt, ((n, tt), ((events_hole_send, tt), ((e, (bound_send, (l, tt))), ((b, (e, tt)), ((search sendable, (b, (e, tt))), tt)))))))))
 
-pub events_row_send : IsSend Events.the_row
-events_row_send = variants_send Events.enum (tt, ((event_hole_send, (events_hole_send, tt)), tt))
-
 pub stmt_row_send : IsSend Stmt.the_row
 stmt_row_send =
     let x = expr_row_send in
@@ -203,9 +200,6 @@ stmt_row_send =
 
 pub block_row_send : IsSend Block.the_row
 block_row_send = variants_send Block.enum (tt, ((stmt_row_send, (block_hole_send, tt)), tt))
-
-pub turn_row_send : IsSend Turn.the_row
-turn_row_send = declared_send Turn.the_type (bound_send, (event_hole_send, (block_hole_send, tt)))
 
 block_hole_sync : IsSync (Arc (holes Block.the_ring Block.the_member))
 block_hole_sync = let a = tree_send Block.the_member in let b = tree_sync Block.the_member in search (sendable, crosses) depth 20
@@ -227,9 +221,6 @@ event_row_sync =
     let e = event_hole_sync in
     variants_sync Event.enum ((n, (l, tt)), ((n, tt), ((l, tt), (tt, ((n, tt), ((events_hole_sync, tt), ((e, (bound_sync, (l, tt))), ((b, (e, tt)), ((search sendable, (b, (e, tt))), tt)))))))))
 
-pub events_row_sync : IsSync Events.the_row
-events_row_sync = variants_sync Events.enum (tt, ((event_hole_sync, (events_hole_sync, tt)), tt))
-
 pub stmt_row_sync : IsSync Stmt.the_row
 stmt_row_sync =
     let x = expr_row_sync in
@@ -239,9 +230,6 @@ stmt_row_sync =
 
 pub block_row_sync : IsSync Block.the_row
 block_row_sync = variants_sync Block.enum (tt, ((stmt_row_sync, (block_hole_sync, tt)), tt))
-
-pub turn_row_sync : IsSync Turn.the_row
-turn_row_sync = declared_sync Turn.the_type (bound_sync, (event_hole_sync, (block_hole_sync, tt)))
 
 pub process_send : IsSend Proc.the_row
 process_send =

@@ -1,6 +1,6 @@
 -- What other crates cite of the words: each value has its word, and each well-formed word is the word of its value.
 use Rattle.std.proofs.Common.{◌≡◌, ℕ, ◌+◌, ◌*◌, ◌%◌, ◌^◌, ◌<◌, ◌≤◌, Bool, true, false, ◌==◌, ◌&&◌, nat_le, if◌then◌else◌, Option, Some, None, IfSome, is_some, option_and_then, ◌-◌, refl, sym, ap, ◌∙◌, arith, eqb-true, eq-eqb, leb-true, le-leb, subst}
-use Rattle.std.proofs.lemmas.Bool.{true≢false, and_parts, and_from, cond-true, ne_eqb}
+use Rattle.std.proofs.lemmas.Bool.{true≢false, and_parts, and_from, cond-true}
 use Rattle.std.proofs.lemmas.Option.{none-some, same_Some, cond_some}
 use Rattle.words.specs.declared.Row.{Row}
 use Rattle.words.specs.declared.Joined.{Joined}
@@ -38,9 +38,6 @@ some_value (Some x) h = (x, refl)
 
 -- THE CELL
 
-field-state : (state own bits stamp : ℕ) → state < 8 → field (state + (own * 2 ^ 3 + 64 * bits + stamp * 2 ^ 26)) 0 3 ≡ state
-field-state state own bits stamp h = omega arith
-
 joined_fields-at : (state own stamp : ℕ) (p : Option (Row × ℕ)) → state < 8 → own < 8 →
     IfSome p (λ p. IsRowInRange p.0 × (p.1 < 8)) → stamp < 2 ^ 32 →
     joined_fields (state + (own * 2 ^ 3 + partner_bits p + stamp * 2 ^ 26)) ≡ record { own = own; partner = p; stamp = stamp }
@@ -66,10 +63,6 @@ joined_fields-at state own stamp (Some (row, offer)) a b c d =
 partner_bits_whole : (p : Option (Row × ℕ)) → (k : ℕ) × (partner_bits p ≡ 64 * k)
 partner_bits_whole None = (0, refl)
 partner_bits_whole (Some (row, offer)) = (1 + offer * 2 + row.sync * 2 ^ 4 + row.thread * 2 ^ 14, omega arith)
-
-partner_bits-lt : (p : Option (Row × ℕ)) → IfSome p (λ p. IsRowInRange p.0 × (p.1 < 8)) → partner_bits p + 64 ≤ 2 ^ 26
-partner_bits-lt None r = omega arith
-partner_bits-lt (Some (row, offer)) r = omega (arith, r.0.sync, r.0.thread, r.1)
 
 state_of_joined : (state : ℕ) (j : Joined) → state < 8 → field (state + joined_bits j) 0 3 ≡ state
 state_of_joined state j h = let k = partner_bits_whole j.partner in omega (arith, k.1)
@@ -143,15 +136,6 @@ cell_word-cell_of w c e =
     let t = and_parts _ _ h.0 in
     (subst IsCellInRange h.1 (IsCellInRange-cell_fields w t.1), sym (eqb-true _ _ t.0) ∙ ap cell_word h.1)
 
--- Each word of a cell fits 58 bits.
-pub cell_word-lt : (c : Cell) → IsCellInRange c → cell_word c < 2 ^ 58
-unfolding cell_word
-cell_word-lt Fresh r = omega arith
-cell_word-lt Waiting r = omega arith
-cell_word-lt Claimed r = omega arith
-cell_word-lt (Synched j) r = let h = partner_bits-lt j.partner r.partner in omega (arith, h, r.own, r.stamp_high)
-cell_word-lt (Taken j) r = let h = partner_bits-lt j.partner r.partner in omega (arith, h, r.own, r.stamp_high)
-
 -- A new table is all zeros.
 pub cell_of-zero : cell_of 0 ≡ Some Fresh
 unfolding cell_of cell_word
@@ -162,10 +146,6 @@ pub cell_of_only : (o : Option Cell) (w : ℕ) → o ≡ cell_of w → (c : Cell
 cell_of_only o w e c r h = e ∙ ap cell_of h ∙ cell_of-cell_word c r
 
 -- THE NUMBER OF OFFERS
-
-pub count_of-count : (n : ℕ) → n ≤ 8 → count_of n ≡ Some n
-unfolding count_of
-count_of-count n h = cond-true _ _ _ (le-leb _ _ h)
 
 pub count-count_of : (w n : ℕ) → count_of w ≡ Some n → (n ≤ 8) × (w ≡ n)
 unfolding count_of
@@ -226,13 +206,6 @@ scopes_of_direction (OnNack n) scopes r h =
     let k : n.k < 64 = r.k in
     omega arith
 
-direction_bits-lt : (d : Direction) → IsDirectionInRange d → direction_bits d < 2 ^ 25
-direction_bits-lt Never r = omega arith
-direction_bits-lt (Send chan atoms) r = omega (arith, r.0, r.1)
-direction_bits-lt (Recv chan) r = omega (arith, r)
-direction_bits-lt (Always atoms) r = omega (arith, r)
-direction_bits-lt (OnNack n) r = omega (arith, r.thread, r.k)
-
 pub head_fields-head_word : (h : Head) → IsHeadInRange h → head_fields (head_word h) ≡ h
 unfolding head_word
 head_fields-head_word h r =
@@ -270,11 +243,6 @@ unfolding head_of
 head_word-head_of w h e =
     let s = word_of_same head_word head_fields w h e in
     (subst IsHeadInRange s.0 (IsHeadInRange-head_fields w), s.1)
-
--- Each word of a head fits 29 bits.
-pub head_word-lt : (h : Head) → IsHeadInRange h → head_word h < 2 ^ 29
-unfolding head_word
-head_word-lt h r = let d = direction_bits-lt h.direction r.direction in omega (arith, d, r.scopes)
 
 pub head_of-zero : head_of 0 ≡ Some (record { direction = Never; scopes = 0 })
 unfolding head_of head_word
@@ -326,13 +294,6 @@ atom_word-atom_of w a e =
     let s = word_of_same atom_word atom_fields w a e in
     (subst IsAtomInRange s.0 (IsAtomInRange-atom_fields w), s.1)
 
--- Each word of an atom fits 34 bits.
-pub atom_word-lt : (a : Atom) → IsAtomInRange a → atom_word a < 2 ^ 34
-unfolding atom_word
-atom_word-lt (Num n) r = omega (arith, r)
-atom_word-lt (Chan c) r = omega (arith, r)
-atom_word-lt (Nack n) r = omega (arith, r.thread, r.k)
-
 pub atom_of-zero : atom_of 0 ≡ Some (Num 0)
 unfolding atom_of atom_word
 atom_of-zero = refl
@@ -372,12 +333,6 @@ unfolding nack_of
 nack_word-nack_of w o e =
     let s = word_of_same nack_word nack_fields w o e in
     (subst (λ (p : Option Binding). IfSome p IsBindingInRange) s.0 (IsBindingInRange-nack_fields w), s.1)
-
--- Each word of a nack fits 13 bits.
-pub nack_word-lt : (o : Option Binding) → IfSome o IsBindingInRange → nack_word o < 2 ^ 13
-unfolding nack_word
-nack_word-lt None r = omega arith
-nack_word-lt (Some b) r = omega (arith, r.sync, r.scope)
 
 pub nack_of-zero : nack_of 0 ≡ Some None
 unfolding nack_of nack_word
@@ -543,27 +498,6 @@ pub cell_is_word : (w : ℕ) → is_word_for 0 w ≡ is_some (cell_of w)
 unfolding is_word_for
 cell_is_word w = refl
 
-pub count_is_word : (w : ℕ) → is_word_for 1 w ≡ is_some (count_of w)
-unfolding is_word_for
-count_is_word w = refl
-
-pub head_is_word : (n w : ℕ) → is_word_for (2 + 4 * n) w ≡ is_some (head_of w)
-unfolding is_word_for
-head_is_word n w =
-    let e₁ : (2 + 4 * n == 0) ≡ false = ne_eqb _ _ (λ h. omega arith) in
-    let e₂ : (2 + 4 * n == 1) ≡ false = ne_eqb _ _ (λ h. omega arith) in
-    let e₃ : ((2 + 4 * n - 2) % 4 == 0) ≡ true = eq-eqb _ _ (omega arith) in
-    simp (e₁, e₂, e₃)
-
--- The three places behind a head take the words of atoms.
-pub atom_is_word : (place w : ℕ) → 2 ≤ place → ((place - 2) % 4 ≡ 0 → ⊥) → is_word_for place w ≡ is_some (atom_of w)
-unfolding is_word_for
-atom_is_word place w h g =
-    let e₁ : (place == 0) ≡ false = ne_eqb _ _ (λ e. omega arith) in
-    let e₂ : (place == 1) ≡ false = ne_eqb _ _ (λ e. omega arith) in
-    let e₃ : ((place - 2) % 4 == 0) ≡ false = ne_eqb _ _ g in
-    simp (e₁, e₂, e₃)
-
 some_at : (a b c : Bool) (p q r s : Bool) → p ≡ true → q ≡ true → r ≡ true → s ≡ true →
     (if a then p else (if b then q else (if c then r else s))) ≡ true
 some_at true b c p q r s hp hq hr hs = hp
@@ -577,47 +511,6 @@ unfolding is_word_for
 is_word_for-zero place =
     some_at (place == 0) (place == 1) ((place - 2) % 4 == 0) _ _ _ _ (ap is_some cell_of-zero) (ap is_some count_of-zero)
     (ap is_some head_of-zero) (ap is_some atom_of-zero)
-
--- Four well-formed words are an offer.
-pub offer_of-some : (head first second third : ℕ) → is_some (head_of head) ≡ true → is_some (atom_of first) ≡ true →
-    is_some (atom_of second) ≡ true → is_some (atom_of third) ≡ true → is_some (offer_of head first second third) ≡ true
-unfolding offer_of
-offer_of-some head first second third h a b c =
-    simp ((some_value (head_of head) h).1, (some_value (atom_of first) a).1, (some_value (atom_of second) b).1, (some_value (atom_of third) c).1)
-
-pub offer_is_words : (n head first second third : ℕ) → is_word_for (2 + 4 * n) head ≡ true →
-    is_word_for (3 + 4 * n) first ≡ true → is_word_for (4 + 4 * n) second ≡ true →
-    is_word_for (5 + 4 * n) third ≡ true → is_some (offer_of head first second third) ≡ true
-offer_is_words n head first second third h a b c =
-    offer_of-some head first second third (sym (head_is_word n head) ∙ h)
-    (sym (atom_is_word (3 + 4 * n) first (omega arith) (λ e. omega arith)) ∙ a)
-    (sym (atom_is_word (4 + 4 * n) second (omega arith) (λ e. omega arith)) ∙ b)
-    (sym (atom_is_word (5 + 4 * n) third (omega arith) (λ e. omega arith)) ∙ c)
-
-by_place : (a b c : Bool) (p q r s : Bool) {X : Type 0} → (if a then p else (if b then q else (if c then r else s))) ≡ true →
-    (p ≡ true → X) → (q ≡ true → X) → (r ≡ true → X) → (s ≡ true → X) → X
-by_place true b c p q r s h hp hq hr hs = hp h
-by_place false true c p q r s h hp hq hr hs = hq h
-by_place false false true p q r s h hp hq hr hs = hr h
-by_place false false false p q r s h hp hq hr hs = hs h
-
--- A word that is well-formed at its place fits 58 bits.
-pub word-lt : (place w : ℕ) → is_word_for place w ≡ true → w < 2 ^ 58
-unfolding is_word_for
-word-lt place w h =
-    by_place (place == 0) (place == 1) ((place - 2) % 4 == 0) _ _ _ _ h cell count head atom
-  where
-    cell : is_some (cell_of w) ≡ true → w < 2 ^ 58
-    cell e = let c = some_value (cell_of w) e in let l = cell_word-cell_of w c.0 c.1 in omega (arith, l.1, cell_word-lt c.0 l.0)
-
-    count : is_some (count_of w) ≡ true → w < 2 ^ 58
-    count e = let c = some_value (count_of w) e in let l = count-count_of w c.0 c.1 in omega (arith, l.1, l.0)
-
-    head : is_some (head_of w) ≡ true → w < 2 ^ 58
-    head e = let c = some_value (head_of w) e in let l = head_word-head_of w c.0 c.1 in omega (arith, l.1, head_word-lt c.0 l.0)
-
-    atom : is_some (atom_of w) ≡ true → w < 2 ^ 58
-    atom e = let c = some_value (atom_of w) e in let l = atom_word-atom_of w c.0 c.1 in omega (arith, l.1, atom_word-lt c.0 l.0)
 
 -- A WORD THAT IS KNOWN to be well-formed is what its fields say
 

@@ -29,9 +29,6 @@ white_first c bytes e f = mark_one (c ∷ bytes) (omega arith) e (rw f refl)
 space_cut : (bytes : List ℕ) → lexemes (32 ∷ bytes) ≡ (32 ∷ []) ∷ lexemes bytes
 space_cut bytes = white_first 32 bytes refl refl
 
-line_cut : (bytes : List ℕ) → lexemes (10 ∷ bytes) ≡ (10 ∷ []) ∷ lexemes bytes
-line_cut bytes = white_first 10 bytes refl refl
-
 word_cut : (w : List ℕ) → 0 < length w → list_all is_word w ≡ true → (bytes : List ℕ) → lexemes (w ++ 32 ∷ bytes) ≡ w ∷ (32 ∷ []) ∷ lexemes bytes
 word_cut w some all bytes = run_parts w (32 ∷ bytes) some all refl ∙ ap (λ (ws : List (List ℕ)). w ∷ ws) (space_cut bytes)
 
