@@ -42,10 +42,6 @@ run-unbroken ps rows journal index run b = b.broken (λ i c is.
 pub numbered-unbroken : (ps : List Proc) (rows : ℕ) (journal : List Commit) (state : State) (index : ℕ) → StandsAfter ps rows journal state → BreaksOffAt (numbered_all 1 ps) rows journal index → ⊥
 numbered-unbroken ps rows journal state index stands = run-unbroken (numbered_all 1 ps) rows journal index ((same_runs 1 ps rows journal).0 stands.run)
 
--- as many threads as processes
-pub threads-of : (ps : List Proc) (rows : ℕ) (journal : List Commit) (state : State) → StandsAfter ps rows journal state → thread_count state ≡ length ps
-threads-of ps rows journal state stands = stands.strands.count
-
 pub threads-numbered : (ps : List Proc) (rows : ℕ) (journal : List Commit) (state standing : State) → StandsAfter ps rows journal state → StandsAfter (numbered_all 1 ps) rows journal standing → thread_count standing ≡ thread_count state
 threads-numbered ps rows journal state standing stands follows = follows.strands.count ∙ length-numbered 1 ps ∙ sym stands.strands.count
 

@@ -1,5 +1,5 @@
 -- What the text of a replay says: of the state that a journal leads to, and of the journal itself.
-use Rattle.std.proofs.Common.{◌≡◌, ℕ, List, ◌++◌, length, Option, Some, None, is_none, ap, ◌∙◌}
+use Rattle.std.proofs.Common.{◌≡◌, ℕ, List, length, Option, Some, None, is_none, ◌∙◌}
 use Rattle.words.specs.declared.Commit.{Commit}
 use Rattle.script.specs.Sources.{Script}
 use Rattle.journal_text.specs.Journals.{Spells}
@@ -10,7 +10,7 @@ use Rattle.sequential.specs.Runs.{config_of}
 use Rattle.sequential.specs.declared.state.State.{State}
 use Rattle.sequential.proofs.Telling.{ends-both}
 use Rattle.answers.specs.Standings.{Standing, StandAs}
-use Rattle.answers.specs.Replay.{TellsStanding, TellsProcesses, TellsState, IsAt, IsReplayed, lawful_line}
+use Rattle.answers.specs.Replay.{TellsStanding, TellsProcesses, TellsState, IsAt, IsReplayed}
 use Rattle.answers.proofs.Lines.{LinesTo}
 
 -- PROCESS BY PROCESS
@@ -24,16 +24,6 @@ all_processes names s n text (standing, holds, is) all = record {
   standing = standing;
   tells = record { count = holds.0 ∙ all; each = holds.1 };
   is = is;
-}
-
-pub tells_state : (names : Naming) (s : State) (commits : ℕ) (lines text : List ℕ) (next : Option Commit) → TellsProcesses names s lines → TellsEnabled s next
-    → text ≡ lines ++ lawful_line commits (is_none next) → TellsState names s commits text
-tells_state names s commits lines text next processes enabled is = record {
-  standing = processes.standing;
-  tells = processes.tells;
-  next = next;
-  enabled = enabled;
-  is = is ∙ ap (λ (l : List ℕ). l ++ lawful_line commits (is_none next)) processes.is;
 }
 
 -- WHERE THE JOURNAL LEADS

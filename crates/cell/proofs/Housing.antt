@@ -52,10 +52,6 @@ ordered m n = ⊎_elim
     (λ (above : n ≤ m). inr (⊎_elim (λ (e : n ≡ m). inl (sym e)) (λ (h : n < m). inr h) (eq-or-lt_of_le above)))
     (cases_lt m n)
 
--- another thread's slot
-other_home : {A : Type 0} (homes : List (Maybe A)) (i j : ℕ) (x : Maybe A) (y : Maybe A) → j ≢ i → get_elem? homes j ≡ some y → get_elem? (slice_set homes i x) j ≡ some y
-other_home homes i j x y apart e = set_else homes i j x apart ∙ e
-
 module _ (w : World) (k : Kept w) where
   abbrev IsOpen : Row → Type 0
   IsOpen r = is_fresh (cell_at w.table r) ≡ false

@@ -13,11 +13,9 @@ use Rattle.words.specs.declared.Message.TheVariants.{Empty, One, Two, Three}
 use Rattle.protocol.proofs.Linking.{some_inj}
 use Rattle.words.specs.declared.Offer.{Offer}
 use Rattle.words.specs.declared.Row.{Row}
-use Rattle.words.specs.declared.Cell.{Cell}
-use Rattle.words.specs.declared.Cell.TheVariants.{Fresh, Waiting, Claimed, Synched, Taken}
 use Rattle.cell.specs.declared.view.Seen.{Seen}
 use Rattle.cell.specs.declared.view.View.{View}
-use Rattle.cell.specs.Sight.{Has, Learns, HaveOffer, SeesOffer, Coherent, atoms_behind, atoms_in, atoms_told, see_cell}
+use Rattle.cell.specs.Sight.{Has, Learns, HaveOffer, SeesOffer, Coherent, atoms_behind, atoms_in, atoms_told}
 use Rattle.cell.specs.Views.{read_word}
 
 -- a place that is no cell and no count is a head or an atom, by what is left over 4
@@ -50,21 +48,6 @@ offer_formed a b c d = four (head_of a) (atom_of b) (atom_of c) (atom_of d)
     four (Some h) (Some x) None z p q r s = absurd (true≢false (sym r))
     four (Some h) (Some x) (Some y) None p q r s = absurd (true≢false (sym s))
     four (Some h) (Some x) (Some y) (Some z) p q r s = refl
-
--- a look adds no words
-pub cell_words : (r : Row) (c : Cell) (s : Seen) → (see_cell r c s).words ≡ s.words
-cell_words r Fresh s = refl
-cell_words r Waiting s = refl
-cell_words r Claimed s = refl
-cell_words r (Synched j) s = refl
-cell_words r (Taken j) s = refl
-
-pub cell_drafts : (r : Row) (c : Cell) (s : Seen) → (see_cell r c s).drafts ≡ s.drafts
-cell_drafts r Fresh s = refl
-cell_drafts r Waiting s = refl
-cell_drafts r Claimed s = refl
-cell_drafts r (Synched j) s = refl
-cell_drafts r (Taken j) s = refl
 
 -- the words of one row are enough
 pub have_row : (xs ys : List (Row × ℕ × ℕ)) (r : Row) (n : ℕ) (o : Offer) → ((p x : ℕ) → Has xs (r, p, x) → Has ys (r, p, x)) → HaveOffer xs r n o → HaveOffer ys r n o

@@ -84,20 +84,6 @@ redrafts_then Where s t u f g = record {
   only = λ q o x out h. f.only q o x out (g.only q o x out h);
 }
 
--- where nothing was drafted, nothing changed
-pub redrafts_nothing : (Where : Row → ℕ → Type 0) (s : Seen) → Redrafts Where s s
-redrafts_nothing Where s = record {
-  held = refl;
-  opened = refl;
-  words = refl;
-  joined = refl;
-  taken = refl;
-  bound = refl;
-  begun = refl;
-  kept = λ q o x out h. h;
-  only = λ q o x out h. h;
-}
-
 -- THE WORDS OF ONE OFFER: the head and then the atoms, each at a place of its own
 abbrev pub DraftsAt : Row → ℕ → Seen → Seen → Type 0
 DraftsAt r p s t = Redrafts (λ q o. (q ≡ r) × (o ≡ p)) s t
@@ -144,9 +130,6 @@ drafts_then r before between after (first, e, f) (second, g, h) = (
   g ∙ ap (λ (l : List Step). second ++ l) e ∙ sym (append_assoc second first before),
   λ step has. ⊎_elim (λ (a : Has second step). h step a) (λ (b : Has first step). f step b) (has_either second first step has),
 )
-
-pub no_drafts : (r : Row) (before : List Step) → OnlyDrafts r before before
-no_drafts r before = ([], refl, λ step h. absurd h)
 
 -- A LIST OF OFFERS, drafted one after another
 pub record IsDraftedTo (row : Row) (offers : List Offer) (n : ℕ) (s t : Seen) : Type 0 where

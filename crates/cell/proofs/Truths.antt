@@ -73,11 +73,6 @@ direction_there t words r n d formed there open_r h =
 below_count : (t : Table) (r : Row) (n : ℕ) (o : Offer) → offer_at t r n ≡ Some o → n < count_at t r
 below_count t r n o is = Rattle.std.proofs.Math.Nat.lt_of_not-le (λ h. let bad : None ≡ Some o = sym (offer_none t r n h) ∙ is in cc)
 
--- offers that meet are there
-pub meeting_own : (a b : Option Offer) → offers_meet a b ≡ true → (o : Offer) × (a ≡ Some o)
-meeting_own None b h = absurd (true≢false (sym h))
-meeting_own (Some o) b h = (o, refl)
-
 pub meeting_other : (a b : Option Offer) → offers_meet a b ≡ true → (o : Offer) × (b ≡ Some o)
 meeting_other None b h = absurd (true≢false (sym h))
 meeting_other (Some a) None h = absurd (true≢false (sym h))

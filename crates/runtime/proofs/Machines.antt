@@ -1,8 +1,7 @@
 -- What a worker does with a machine keeps what is known of it.
-use Rattle.std.proofs.Common.{◌⊎◌, ◌≡◌, ◌≢◌, ◌<◌, ◌≤◌, ◌+◌, ℕ, zero, suc, Bool, true, false, List, [], ◌∷◌, ◌++◌, length, take, Option, Some, None, get_or, slice_get, sym, refl, ap, ◌∙◌, subst, inl, inr, ⊎_elim, arith}
+use Rattle.std.proofs.Common.{◌⊎◌, ◌≡◌, ◌≢◌, ◌<◌, ◌≤◌, ◌+◌, ℕ, zero, suc, Bool, true, false, List, [], ◌∷◌, ◌++◌, length, take, Option, Some, get_or, slice_get, sym, refl, ap, ◌∙◌, subst, inl, inr, ⊎_elim, arith}
 use Rattle.std.specs.Prelude.{IsFalse}
 use Rattle.std.proofs.Math.Seq.{take-length}
-use Rattle.std.proofs.lemmas.List.Elements.{All-append, All-cons, All-nil}
 use Rattle.std.proofs.lemmas.List.{length-append}
 use Rattle.std.proofs.lemmas.Option.{get_or_from_slice_get, none-some, same_Some, slice_get-get_or, slice_get_within}
 use Rattle.event.specs.Tree.{scope_nacks}
@@ -13,8 +12,7 @@ use Rattle.words.specs.declared.Offer.{Offer}
 use Rattle.words.specs.declared.Row.{Row}
 use Rattle.syntax.specs.Processes.{Proc}
 use Rattle.thread.specs.After.{Chosen}
-use Rattle.thread.specs.Machines.{Broken, IsAfter, IsOpen, Open, Over, Phase, Ready, SameProcess, StartsAs, Stuck, Tells, Thread, nacks_in, offers_in}
-use Rattle.thread.specs.Ranges.{MessageIsIn, ResultsAreIn}
+use Rattle.thread.specs.Machines.{Broken, IsOpen, Open, Over, Phase, Ready, SameProcess, StartsAs, Stuck, Tells, Thread, nacks_in, offers_in}
 use Rattle.thread.specs.declared.machine.Turn.TheVariants as turn
 use Rattle.protocol.specs.Ledgers.{IsLawful, Ledger, ledger_of}
 use Rattle.protocol.specs.Standing.{EachOffersAs, SomeStands, binding_of}
@@ -28,46 +26,17 @@ use Rattle.order.specs.Ledgers.{IsLedgerOf, ProcessOffers}
 use Rattle.order.proofs.Nacks.{one-sync}
 use Rattle.cell.specs.Attempts.{Bound, BoundBefore}
 use Rattle.cell.specs.Told.{IsEarlier}
-use Rattle.cell.specs.Calls.{CanFetch, CanFetchAt, Fetched, FetchedAt, GridOf, Holds, PassOf}
+use Rattle.cell.specs.Calls.{GridOf, Holds, PassOf}
 use Rattle.cell.specs.declared.view.Seen.{Seen}
-use Rattle.cell.specs.Rule.{IsReady}
-use Rattle.cell.specs.Sight.{Has, IsDraft, see_begun, see_bound, see_opened}
+use Rattle.cell.specs.Sight.{Has, see_bound}
 use Rattle.runtime.specs.declared.resident.Suspended.{Suspended}
 use Rattle.runtime.proofs.Rising.{after_rises, Rises, rises_once}
-use Rattle.runtime.specs.Machines.{AreBound, AreFirst, IsMachineOf, IsNow, IsOfAny, IsTable, IsUntouched, LeavesOthers, StandsFor}
+use Rattle.runtime.specs.Machines.{AreBound, AreFirst, IsNow, IsOfAny, IsTable, LeavesOthers, StandsFor}
 
 -- WHAT OTHER THREADS ARE LEFT WITH
 
-pub new_untouched : (s : Seen) (r : Row) → s.opened ≡ [] → s.begun ≡ [] → s.bound ≡ [] → IsUntouched s r
-new_untouched s r opened begun bound = (
-  λ h. subst (λ (l : List Row). Has l r) opened h,
-  λ h. subst (λ (l : List Row). Has l r) begun h,
-  λ n b h e. subst (λ (l : List (NackName × Binding)). Has l (n, b)) bound h,
-)
-
 pub leaves_then : (t : ℕ) (s u v : Seen) → LeavesOthers t s u → LeavesOthers t u v → LeavesOthers t s v
 leaves_then t s u v f g r apart h = g r apart (f r apart h)
-
-pub leaves_same : (t : ℕ) (s u : Seen) → u.opened ≡ s.opened → u.begun ≡ s.begun → u.bound ≡ s.bound → LeavesOthers t s u
-leaves_same t s u opened begun bound r apart h = (
-  λ i. h.0 (subst (λ (l : List Row). Has l r) opened i),
-  λ i. h.1 (subst (λ (l : List Row). Has l r) begun i),
-  λ n b i. h.2 n b (subst (λ (l : List (NackName × Binding)). Has l (n, b)) bound i),
-)
-
-pub leaves_begun : (r : Row) (s : Seen) → LeavesOthers r.thread s (see_begun r s)
-leaves_begun r s x apart h = (
-  h.0,
-  λ i. ⊎_elim (λ (e : r ≡ x). apart (ap (λ (y : Row). y.thread) (sym e))) (λ (old : Has s.begun x). h.1 old) i,
-  h.2,
-)
-
-pub leaves_opened : (r : Row) (s : Seen) → LeavesOthers r.thread s (see_opened r s)
-leaves_opened r s x apart h = (
-  λ i. ⊎_elim (λ (e : r ≡ x). apart (ap (λ (y : Row). y.thread) (sym e))) (λ (old : Has s.opened x). h.0 old) i,
-  h.1,
-  h.2,
-)
 
 pub leaves_bound : (r : Row) (k : ℕ) (b : Binding) (s : Seen) → LeavesOthers r.thread s (see_bound (nack_of_row r k) b s)
 leaves_bound r k b s x apart h = (
@@ -84,9 +53,6 @@ leaves_bound r k b s x apart h = (
 -- the nack of a scope, as it is read
 pub at_scope : (ns items : List ℕ) (i : ℕ) → items ≡ ns → i < length items → slice_get ns i ≡ Some (get_or items i 0)
 at_scope ns items i same within = ap (λ (l : List ℕ). slice_get l i) (sym same) ∙ slice_get-get_or items i 0 within
-
-pub bound_none : (r : Row) (nacks : List ℕ) (s : Seen) → AreBound r nacks 0 s s
-bound_none r nacks s = record { bound = λ scope k below e. absurd (omega arith); only = λ n b h. inl h }
 
 pub bound_more : (r : Row) (nacks : List ℕ) (count k : ℕ) (s t u : Seen) → AreBound r nacks count s t → slice_get nacks count ≡ Some k → u ≡ see_bound (nack_of_row r k) (record { sync = r.sync; scope = count }) t → AreBound r nacks (count + 1) s u
 bound_more r nacks count k s t u before at is = record {
@@ -110,45 +76,7 @@ bound_more r nacks count k s t u before at is = record {
         (λ (lower : scope < count). inr (before.bound scope n lower e))
         (Rattle.std.proofs.Math.Nat.eq-or-lt_of_le (let h : scope ≤ count = omega arith in h))
 
--- FETCHING
-
-pub can_fetch_first : (g : GridOf Suspended) (p : PassOf Suspended) (r : Row) → r.sync ≡ 0 → 0 < length g.first → (¬ Has p.seen.begun r) → CanFetch g p r
-can_fetch_first g p r e some unbegun = subst (λ (n : ℕ). CanFetchAt g p r n) (sym e) (some, unbegun)
-
-pub fetched_first : (g : GridOf Suspended) (p q : PassOf Suspended) (r : Row) (m : Suspended) → r.sync ≡ 0 → Fetched g p q r m → FetchedAt g p q r m 0
-fetched_first g p q r m e f = subst (λ (n : ℕ). FetchedAt g p q r m n) e f
-
-pub can_fetch_next : (g : GridOf Suspended) (p : PassOf Suspended) (r : Row) (n : ℕ) (m : Suspended) → r.sync ≡ n + 1 → Holds p r (Some m) → CanFetch g p r
-can_fetch_next g p r n m e holds = subst (λ (k : ℕ). CanFetchAt g p r k) (sym (let s : r.sync ≡ suc n = omega (arith, e) in s)) (m, holds)
-
-pub fetched_next : (g : GridOf Suspended) (p q : PassOf Suspended) (r : Row) (n : ℕ) (m : Suspended) → r.sync ≡ n + 1 → Fetched g p q r m → FetchedAt g p q r m (suc n)
-fetched_next g p q r n m e f = subst (λ (k : ℕ). FetchedAt g p q r m k) (let s : r.sync ≡ suc n = omega (arith, e) in s) f
-
-pub one_held : (p : PassOf Suspended) (r : Row) (m n : Suspended) → Holds p r (Some m) → Holds p r (Some n) → m ≡ n
-one_held p r m n one two = same_Some m n (ap head_of (sym one ∙ two))
-  where
-    head_of : List (ℕ × Option Suspended) → Option Suspended
-    head_of [] = None
-    head_of (x ∷ xs) = x.1
-
 -- MACHINES
-
-same_then : (a b c : Thread) → SameProcess a b → SameProcess b c → SameProcess a c
-same_then a b c f g = record { body = g.body ∙ f.body; variables = g.variables ∙ f.variables; thread = g.thread ∙ f.thread }
-
-pub begun_machine : (first : List Suspended) (m n : Suspended) (t : ℕ) → slice_get first t ≡ Some m → SameProcess m.machine.value n.machine.value → n.machine.value.results ≡ [] → IsAfter n.machine.value → IsMachineOf first n t []
-begun_machine first m n t is same none after = record { start = m; is_first = is; process = same; given = none; after = after; in_range = All-nil (λ r. MessageIsIn r.1) }
-
-pub resumed_machine : (first : List Suspended) (m n : Suspended) (t : ℕ) (earlier told : List Chosen) (last : Chosen) → MessageIsIn last.1 → IsMachineOf first m t earlier → told ≡ earlier ++ last ∷ [] → SameProcess m.machine.value n.machine.value → n.machine.value.results ≡ m.machine.value.results ++ last ∷ [] → IsAfter n.machine.value
-    → IsMachineOf first n t told
-resumed_machine first m n t earlier told last ranged stands whole same results after = record {
-  start = stands.start;
-  is_first = stands.is_first;
-  process = same_then stands.start.machine.value m.machine.value n.machine.value stands.process same;
-  given = results ∙ ap (λ (rs : List Chosen). rs ++ last ∷ []) stands.given ∙ sym whole;
-  after = after;
-  in_range = subst ResultsAreIn (sym whole) (All-append (λ r. MessageIsIn r.1) earlier (last ∷ []) stands.in_range (All-cons (λ r. MessageIsIn r.1) last [] ranged (All-nil (λ r. MessageIsIn r.1))));
-}
 
 pub offers_of_open : (p : Phase) (os : List Offer) (ns : List ℕ) → p ≡ Open os ns → offers_in p ≡ os
 offers_of_open p os ns e = ap offers_in e
@@ -167,36 +95,6 @@ open_is (Open os ns) h = refl
 open_is Over h = absurd h
 open_is (Stuck fault) h = absurd h
 open_is Broken h = absurd h
-
-pub offering_is_open : (p : Phase) → Tells turn.Offering p → IsOpen p
-offering_is_open Ready h = absurd h
-offering_is_open (Open os ns) h = tt
-offering_is_open Over h = absurd h
-offering_is_open (Stuck fault) h = absurd h
-offering_is_open Broken h = absurd h
-
--- so it may be parked for its row
-pub is_ready : (first : List Suspended) (p : PassOf Suspended) (before now : Seen) (results : List (ℕ × List Chosen)) (r : Row) (m : Suspended) (os : List Offer) (ns : List ℕ)
-    → IsNow first p r m → ((n : NackName) (b : Binding) → Has before.bound (n, b) → bound_row n b ≢ r) → m.machine.value.phase ≡ Open os ns → results ≡ p.results → now.begun ≡ p.seen.begun → IsDraft now r os → AreBound r ns (length ns) before now
-    → IsReady StandsFor first results now r m
-is_ready first p before now results r m os ns is free open_now same begun drafted bound = record {
-  earlier = is.earlier;
-  count = is.count;
-  seen = subst (λ (l : List (ℕ × List Chosen)). (is.earlier ≡ []) ⊎ Has l (r.thread, is.earlier)) (sym same) is.seen;
-  offers = os;
-  nacks = ns;
-  standing = (is.machine, open_now);
-  drafted = drafted;
-  bound = λ scope k e. bound.bound scope k (Rattle.std.proofs.lemmas.Option.slice_get_within ns scope k e) e;
-  no_others = λ scope k h. ⊎_elim
-      (λ (old : Has before.bound (nack_of_row r k, binding_of r scope)). absurd (free (nack_of_row r k) (binding_of r scope) old refl))
-      (λ (new : (s : ℕ) × (n : ℕ) × (slice_get ns s ≡ Some n) × (s < length ns) × (nack_of_row r k ≡ nack_of_row r n) × (binding_of r scope ≡ binding_of r s)).
-      let number : k ≡ new.1 = ap (λ (x : NackName). x.k) new.4 in
-      let at : scope ≡ new.0 = ap (λ (b : Binding). b.scope) new.5 in
-      ap (slice_get ns) at ∙ new.2 ∙ ap Some (sym number))
-      (bound.only (nack_of_row r k) (binding_of r scope) h);
-  begun = λ zero. subst (λ (l : List Row). Has l r) (sym begun) (is.begun zero);
-}
 
 -- THE LEDGER
 
@@ -277,9 +175,6 @@ table_of_first cells ps first is are some few = record { processes = ps; some = 
 
 pub is_housing : (cells : GridOf Suspended) → IsTable cells → 0 < length cells.first
 is_housing cells table = (let same = table.first.0 in let some = table.some in omega (arith, same, some))
-
-pub first_ready : (cells : GridOf Suspended) (t : ℕ) (m : Suspended) → IsTable cells → slice_get cells.first t ≡ Some m → m.machine.value.phase ≡ Ready
-first_ready cells t m table e = (table.first.1 t m e).2.phase
 
 -- NACKS ARE NEW. A machine that stands for the row's thread comes there to an event with such nacks of its scopes.
 module _ (cells : GridOf Suspended) (table : IsTable cells) (t : ℕ) where
