@@ -48,9 +48,10 @@ fn workers_alone(rt: HostRuntime) -> Result<(), Fail> {
     Ok(())
 }
 
-// Each row is put in before its search looks for the last time, so that no pair misses each other.
+// A search that only looks before it puts its offers in misses a partner that does so at the same time. Each
+// row is put in before its search looks for the last time.
 #[test]
-fn no_pair_is_missed(rt: HostRuntime) -> Result<(), Fail> {
+fn looks_before_putting(rt: HostRuntime) -> Result<(), Fail> {
     let script = parse(rt.alloc(), TWO_PAIRS.as_bytes())?;
     for _ in 0..1000 {
         let record = run(&rt, rt.alloc(), &script, 16, 1, &OpenGate)?;
