@@ -46,28 +46,37 @@ impl Outcome {
     }
 }
 
+fn is_commit(line: &str) -> bool {
+    match line.as_bytes().first() {
+        Some(byte) => byte.is_ascii_digit(),
+        None => false,
+    }
+}
+
+/// Puts the lines of a run's processes behind a text: those that are no commit's.
+fn push_processes(text: &mut String, lines: &str) -> Result<(), AllocError> {
+    for line in lines.lines() {
+        if !is_commit(line) {
+            text.push_str(line)?;
+            text.push_str("\n")?;
+        }
+    }
+    Ok(())
+}
+
 /// How a replay tells the end of a run: by the lines of its processes, and then by the number of commits.
 /// None where the text is none of a run.
 pub(crate) fn replayed(alloc: Global, run: &Block<'_>) -> Result<Option<String>, AllocError> {
-    let mut text = String::new(alloc);
-    let mut counts = "";
-    for line in run.body.lines() {
-        if !counts.is_empty() {
-            text.push_str(counts)?;
-            text.push_str("\n")?;
-        }
-        let is_commit = line
-            .as_bytes()
-            .first()
-            .is_some_and(|byte| byte.is_ascii_digit());
-        counts = if is_commit { "" } else { line };
-    }
+    let body = run.body.strip_suffix("\n").unwrap_or(run.body);
+    let (lines, counts) = body.rsplit_once('\n').unwrap_or(("", body));
     let Some(behind) = counts.strip_prefix("commits ") else {
         return Ok(None);
     };
     let Some((count, _)) = behind.split_once(' ') else {
         return Ok(None);
     };
+    let mut text = String::new(alloc);
+    push_processes(&mut text, lines)?;
     text.push_str("lawful ")?;
     text.push_str(count)?;
     text.push_str(" maximal\n")?;

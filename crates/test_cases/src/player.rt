@@ -78,7 +78,12 @@ impl<'a, R: AllocGlobal + Files + Input + Threads + Wait + Sync> Player<'a, R> {
     }
 
     /// The journal that was kept leads to the end that its run had.
-    fn check_kept(&mut self, script: &str, words: &[&str], block: &Block<'_>) -> Result<()> {
+    fn check_kept<'w>(
+        &mut self,
+        script: &'w str,
+        words: &[&'w str],
+        block: &Block<'_>,
+    ) -> Result<()> {
         let alloc = self.rt.alloc();
         let Some(text) = replayed(alloc, block)? else {
             return self.note(block, "it does not end with the counts of a run", "");
@@ -99,11 +104,11 @@ impl<'a, R: AllocGlobal + Files + Input + Threads + Wait + Sync> Player<'a, R> {
 
     /// Runs a script with some workers, and replays the journal. The run has to print what the block has, or
     /// one of the others behind it.
-    fn check_run(
+    fn check_run<'w>(
         &mut self,
-        workers: &str,
-        script: &str,
-        words: &[&str],
+        workers: &'w str,
+        script: &'w str,
+        words: &[&'w str],
         blocks: &[Block<'_>],
     ) -> Result<()> {
         let alloc = self.rt.alloc();
@@ -130,7 +135,12 @@ impl<'a, R: AllocGlobal + Files + Input + Threads + Wait + Sync> Player<'a, R> {
         }
     }
 
-    fn check_runs(&mut self, script: &str, words: &[&str], blocks: &[Block<'_>]) -> Result<()> {
+    fn check_runs<'w>(
+        &mut self,
+        script: &'w str,
+        words: &[&'w str],
+        blocks: &[Block<'_>],
+    ) -> Result<()> {
         for workers in &WORKERS {
             self.check_run(workers, script, words, blocks)?;
         }
@@ -139,12 +149,10 @@ impl<'a, R: AllocGlobal + Files + Input + Threads + Wait + Sync> Player<'a, R> {
 
     /// The file of this name that was made last, or that a call kept, has this text.
     fn check_file(&mut self, name: &str, block: &Block<'_>) -> Result<()> {
-        let alloc = self.rt.alloc();
-        let found = self.files.find(name).unwrap_or(b"(there is none)\n");
-        if found == block.body.as_bytes() {
+        let found = self.files.text_of(name)?;
+        if found.as_str() == block.body {
             return Ok(());
         }
-        let found = String::from_str(alloc, str::from_utf8(found).unwrap_or("(no text)\n"))?;
         self.note(block, "the file holds", found.as_str())
     }
 
@@ -167,11 +175,11 @@ impl<'a, R: AllocGlobal + Files + Input + Threads + Wait + Sync> Player<'a, R> {
     }
 
     /// Does once what the words of a block say, with the other answers behind it that will do.
-    fn play_words(
+    fn play_words<'w, 'b>(
         &mut self,
-        words: &[&str],
-        block: &Block<'_>,
-        others: &[Block<'_>],
+        words: &[&'w str],
+        block: &Block<'b>,
+        others: &[Block<'b>],
     ) -> Result<()> {
         let text = block.body.strip_suffix("\n").unwrap_or(block.body);
         match words {
@@ -196,7 +204,7 @@ impl<'a, R: AllocGlobal + Files + Input + Threads + Wait + Sync> Player<'a, R> {
     }
 
     /// Plays one block, as often as its first word says where that is a number.
-    fn play_block(&mut self, block: &Block<'_>, others: &[Block<'_>]) -> Result<()> {
+    fn play_block<'b>(&mut self, block: &Block<'b>, others: &[Block<'b>]) -> Result<()> {
         let words: Vec<&str> = block.head.split_whitespace().collect(self.rt.alloc())?;
         let Some((first, behind)) = words.as_slice().split_first() else {
             return Ok(());

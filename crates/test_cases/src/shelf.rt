@@ -56,8 +56,14 @@ impl<'a, R: Files + Input + AllocGlobal> Shelf<'a, R> {
         Ok(())
     }
 
+    /// What the file holds that was made under this name last, as text.
+    pub(crate) fn text_of(&self, name: &str) -> Result<String, AllocError> {
+        let found = self.find(name).unwrap_or(b"(there is none)\n");
+        String::from_str(self.alloc, str::from_utf8(found).unwrap_or("(no text)\n"))
+    }
+
     /// The file that was made under this name last.
-    pub(crate) fn find(&self, name: &str) -> Option<&[u8]> {
+    fn find(&self, name: &str) -> Option<&[u8]> {
         let mut found = None;
         for file in &self.made {
             if file.name.as_str() == name {
