@@ -4,12 +4,12 @@ ghost use Rattle.std.specs.Prelude.{◌≡◌, IfOk};
 ghost use Rattle.thread.specs.Machines.{Ready};
 
 use anyhow::{Context, Result, bail};
+use protocol_values::{Atom, Message};
 use script::parse;
 use std::alloc::Global;
 use std::fs;
 use std::rt::Files;
 use thread::{Machine, Turn};
-use words::{Atom, Message};
 
 /// The process of a part, which has no end.
 fn process_text(part: &str) -> Result<&'static str> {

@@ -1,8 +1,8 @@
 //! 32 pairs of processes, of which one sends to the other without end.
 
 use anyhow::{Result, bail};
+use journal_replay::{replay, settle};
 use script::parse;
-use sequential::{replay, settle};
 use std::alloc::Global;
 
 const PAIRS: usize = 32;

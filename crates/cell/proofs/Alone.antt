@@ -1,30 +1,31 @@
 -- What a pass knows of a row that it grants or takes.
 use Rattle.std.proofs.Common.{rules, ◌⊎◌, ◌≡◌, ◌≢◌, ℕ, ◌+◌, ◌≤◌, ◌<◌, ◌^◌, max, List, sym, refl, ap, ◌∙◌, subst, inl, inr, arith, Some, None}
-use Rattle.words.specs.Words.{IsJoinedInRange}
-use Rattle.words.specs.declared.Base.{Base}
-use Rattle.words.specs.declared.Base.TheVariants.{Send, Recv, Always, OnNack, Never}
-use Rattle.words.specs.declared.Binding.{Binding}
-use Rattle.words.specs.declared.NackName.{NackName}
-use Rattle.words.specs.declared.Offer.{Offer}
-use Rattle.words.specs.declared.Row.{Row}
-use Rattle.words.specs.declared.Joined.{Joined}
-use Rattle.words.specs.declared.Cell.{Cell}
-use Rattle.words.specs.declared.Cell.TheVariants.{Fresh, Waiting, Claimed, Synched, Taken}
+use Rattle.protocol_values.specs.Words.{IsJoinedInRange}
+use Rattle.protocol_values.specs.declared.Base.{Base}
+use Rattle.protocol_values.specs.declared.Base.TheVariants.{Send, Recv, Always, OnNack, Never}
+use Rattle.protocol_values.specs.declared.Binding.{Binding}
+use Rattle.protocol_values.specs.declared.NackName.{NackName}
+use Rattle.protocol_values.specs.declared.Offer.{Offer}
+use Rattle.protocol_values.specs.declared.Row.{Row}
+use Rattle.protocol_values.specs.declared.Joined.{Joined}
+use Rattle.protocol_values.specs.declared.Cell.{Cell}
+use Rattle.protocol_values.specs.declared.Cell.TheVariants.{Fresh, Waiting, Claimed, Synched, Taken}
 use Rattle.protocol.proofs.Linking.{some_inj}
-use Rattle.cell.specs.declared.view.View.{View}
-use Rattle.cell.specs.declared.view.Stage.TheVariants.{Resting}
+use Rattle.cell_table.specs.declared.view.View.{View}
+use Rattle.cell_table.specs.declared.view.Stage.TheVariants.{Resting}
 use Rattle.cell.specs.declared.granting.Grant.TheVariants.{Given, Late}
-use Rattle.cell.specs.Told.{Agrees, settled}
-use Rattle.cell.specs.Views.{did, saw}
-use Rattle.words.specs.declared.Step.TheVariants.{Grant}
-use Rattle.protocol.specs.Tables.{bound_row, joined_of}
-use Rattle.cell.specs.declared.view.Seen.{Seen}
-use Rattle.cell.specs.Sight.{Has, HaveOffer, HasSeenLast, Learns, LearnsOf, IsBefore, SawCommitted, SeesOffer, see_cell, see_opened}
-use Rattle.cell.specs.Nacks.{CanGrant, IsBoundRow, SawCause, SawEnabled}
+use Rattle.cell_table.specs.Told.{Agrees, settled}
+use Rattle.cell_table.specs.Views.{did, saw}
+use Rattle.protocol_values.specs.declared.Step.TheVariants.{Grant}
+use Rattle.protocol.specs.Tables.{bound_row}
+use Rattle.protocol_values.specs.Values.{joined_of}
+use Rattle.cell_table.specs.declared.view.Seen.{Seen}
+use Rattle.cell_table.specs.Sight.{Has, HaveOffer, HasSeenLast, Learns, LearnsOf, IsBefore, SawCommitted, SeesOffer, see_cell, see_opened}
+use Rattle.cell_table.specs.Nacks.{CanGrant, IsBoundRow, SawCause, SawEnabled}
 use Rattle.cell.proofs.Learning.{learns_look, learns_then, learns_wider, nacks_wider}
 use Rattle.cell.specs.Attempts.{Granted, IsNackOf, IsNearGrant}
-use Rattle.cell.proofs.Offers.{have_more}
-use Rattle.cell.proofs.Meeting.{few, claim_found, last_more, sees_more}
+use Rattle.cell_table.proofs.Offers.{few, have_more, sees_more}
+use Rattle.cell.proofs.Meeting.{claim_found, last_more}
 
 -- WHAT LETS A ROW STAND ALONE stays known
 pub enabled_more : {Nacks : NackName → Type 0} (About : Row → Type 0) (s t : Seen) (n : NackName) (j : Joined) → LearnsOf About Nacks s t → SawEnabled s n j → SawEnabled t n j

@@ -5,11 +5,11 @@ use denote.Param.SendFields.{declared_sync}
 use Rattle.std.proofs.Crossing.{crosses, frees, send, sync}
 use Rattle.atomic_table.proofs.owned.Table.TheSendSync.{the_sync as table_sync}
 use Rattle.protocol.specs.declared.resident.Resident.{Ghosts}
-use Rattle.cell.specs.contracts.view.Shape as Shape
-use Rattle.cell.specs.contracts.board.Board as Board
-use Rattle.cell.specs.contracts.board.Law as Law
-use Rattle.cell.specs.contracts.board.LawTableRuleOptionViewShape.TheImpl as rule
-use Rattle.cell.specs.contracts.view.View as View
+use Rattle.cell_table.specs.contracts.view.Shape as Shape
+use Rattle.cell_table.specs.contracts.board.Board as Board
+use Rattle.cell_table.specs.contracts.board.Law as Law
+use Rattle.cell_table.specs.contracts.board.LawTableRuleOptionViewShape.TheImpl as rule
+use Rattle.cell_table.specs.contracts.view.View as View
 use Rattle.cell.specs.contracts.cells.Cells as Cells
 use Rattle.cell.specs.contracts.cells.Cells.TheInside as Inside
 use Rattle.std.specs.contracts.option.Option as Option

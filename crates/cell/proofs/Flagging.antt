@@ -1,12 +1,12 @@
 -- Flags that stand for a set of rows.
 use Rattle.std.proofs.Common.{◌≡◌, ℕ, ◌*◌, ◌<◌, Bool, true, false, List, ◌∷◌, length, get_or, set, sym, ap, ◌∙◌, subst, inl, inr, ⊎_elim, arith}
 use Rattle.std.proofs.lemmas.List.{get_or-set_same, get_or-set_other}
-use Rattle.words.specs.declared.Row.{Row}
+use Rattle.protocol_values.specs.declared.Row.{Row}
 use Rattle.protocol.specs.Tables.{row_eq, number_of}
 use Rattle.protocol.proofs.RowLemmas.{row_cases, row_eq-false, same_row}
 use Rattle.protocol.proofs.Places.{same_block, same_rest, block_inside}
 use Rattle.cell.specs.Flags.{AreFlags}
-use Rattle.cell.specs.Sight.{Has}
+use Rattle.cell_table.specs.Sight.{Has}
 
 pub one_flag : (threads rows : ℕ) (flags : List Bool) (held : List Row) (x : Row) → length flags ≡ threads * rows → x.thread < threads → x.sync < rows → AreFlags threads rows flags held → AreFlags threads rows (set flags (number_of rows x) true) (x ∷ held)
 one_flag threads rows flags held x sized a b f = record {

@@ -1,14 +1,14 @@
 -- What is learnt in two calls, and of more rows.
 use Rattle.std.proofs.Common.{inl, rules, ◌≡◌, ◌∷◌, ◌⊎◌, List, Option, Some, None, ap, sym, refl, ◌∙◌, inr, ⊎_elim}
-use Rattle.words.specs.declared.NackName.{NackName}
-use Rattle.words.specs.declared.Binding.{Binding}
-use Rattle.words.specs.declared.Row.{Row}
-use Rattle.cell.specs.declared.view.Seen.{Seen}
-use Rattle.cell.specs.Sight.{Has, Adds, Learns, LearnsOf, see_bound, see_cell}
-use Rattle.cell.specs.declared.view.View.{View}
-use Rattle.cell.specs.Views.{saw_nack}
-use Rattle.words.specs.declared.Cell.{Cell}
-use Rattle.words.specs.declared.Cell.TheVariants.{Fresh, Waiting, Claimed, Synched, Taken}
+use Rattle.protocol_values.specs.declared.NackName.{NackName}
+use Rattle.protocol_values.specs.declared.Binding.{Binding}
+use Rattle.protocol_values.specs.declared.Row.{Row}
+use Rattle.cell_table.specs.declared.view.Seen.{Seen}
+use Rattle.cell_table.specs.Sight.{Has, Adds, Learns, LearnsOf, see_bound, see_cell}
+use Rattle.cell_table.specs.declared.view.View.{View}
+use Rattle.cell_table.specs.Views.{saw_nack}
+use Rattle.protocol_values.specs.declared.Cell.{Cell}
+use Rattle.protocol_values.specs.declared.Cell.TheVariants.{Fresh, Waiting, Claimed, Synched, Taken}
 
 adds_then : {A : Type 0} (About : A → Type 0) (xs ys zs : List A) → Adds About xs ys → Adds About ys zs → Adds About xs zs
 adds_then About xs ys zs f g = (λ x h. g.0 x (f.0 x h), λ x h. ⊎_elim (λ (i : Has ys x). f.1 x i) (λ (a : About x). inr a) (g.1 x h))

@@ -1,42 +1,35 @@
 -- What a pass knows of two rows stays known while it sees more.
-use Rattle.std.proofs.Common.{rules, ◌≡◌, ◌≢◌, ℕ, ◌+◌, ◌^◌, ◌<◌, ◌≤◌, Bool, true, false, List, sym, refl, ap, ◌∙◌, subst, inl, inr, arith, max, unwrap_or, Option, Some, None, cond, IfSome, IfNone, IfErr, IfOk, is_err, Result, Ok, Err}
-use Rattle.std.proofs.lemmas.Bool.{cases_Bool}
-use Rattle.words.specs.Words.{count_of, IsJoinedInRange}
-use Rattle.words.specs.declared.Direction.{Direction}
-use Rattle.words.specs.declared.Offer.{Offer}
-use Rattle.words.specs.declared.NackName.{NackName}
-use Rattle.words.specs.declared.Row.{Row}
-use Rattle.words.specs.declared.Joined.{Joined}
-use Rattle.words.specs.declared.Base.{Base}
-use Rattle.words.specs.declared.Base.TheVariants.{Send, Recv, Always, OnNack, Never}
-use Rattle.words.specs.declared.Message.{Message}
-use Rattle.protocol.specs.Tables.{offers_meet, bases_meet, is_partner}
+use Rattle.std.proofs.Common.{rules, ◌≡◌, ◌≢◌, ℕ, ◌+◌, ◌^◌, ◌<◌, ◌≤◌, true, false, List, sym, refl, ap, ◌∙◌, subst, inl, inr, arith, max, Option, Some, None, IfSome, IfNone, IfErr, is_err, Result, Ok, Err}
+use Rattle.protocol_values.specs.Words.{IsJoinedInRange}
+use Rattle.protocol_values.specs.declared.Direction.{Direction}
+use Rattle.protocol_values.specs.declared.Offer.{Offer}
+use Rattle.protocol_values.specs.declared.Row.{Row}
+use Rattle.protocol_values.specs.declared.Joined.{Joined}
+use Rattle.protocol_values.specs.declared.Base.{Base}
+use Rattle.protocol_values.specs.declared.Base.TheVariants.{Send, Recv, Always, OnNack, Never}
+use Rattle.protocol_values.specs.declared.Message.{Message}
+use Rattle.protocol.specs.Tables.{offers_meet, is_partner, is_fresh}
+use Rattle.protocol_values.specs.Values.{bases_meet, joined_of}
 use Rattle.protocol.proofs.RowLemmas.{row_eq-refl}
-use Rattle.cell.specs.Sight.{Coherent, SawChosen, LackOffer, IsKnownOpen}
-use Rattle.cell.specs.declared.view.Seen.{Seen}
-use Rattle.cell.specs.Sight.{Has, HaveDirection, HaveOffer, HasSeenLast, SeesOffer, CanJoin, Learns, LearnsOf, directions_meet, see_opened}
-use Rattle.words.specs.declared.Cell.{Cell}
-use Rattle.words.specs.declared.Cell.TheVariants.{Fresh, Waiting, Claimed, Synched, Taken}
-use Rattle.protocol.specs.Tables.{is_fresh, joined_of}
-use Rattle.cell.specs.declared.view.View.{View}
-use Rattle.cell.specs.declared.view.Stage.{Stage}
-use Rattle.cell.specs.declared.view.Stage.TheVariants.{Resting}
+use Rattle.cell_table.specs.Sight.{Coherent, SawChosen, LackOffer, IsKnownOpen, Has, HaveDirection, HasSeenLast, CanJoin, Learns, see_opened, SawCommitted, see_cell}
+use Rattle.protocol_values.specs.Values.{directions_meet}
+use Rattle.cell_table.specs.declared.view.Seen.{Seen}
+use Rattle.protocol_values.specs.declared.Cell.{Cell}
+use Rattle.protocol_values.specs.declared.Cell.TheVariants.{Fresh, Waiting, Claimed, Synched, Taken}
+use Rattle.cell_table.specs.declared.view.View.{View}
+use Rattle.cell_table.specs.declared.view.Stage.{Stage}
+use Rattle.cell_table.specs.declared.view.Stage.TheVariants.{Resting}
 use Rattle.cell.specs.declared.attempt.Attempt.{Attempt}
 use Rattle.cell.specs.declared.attempt.Attempt.TheVariants.{Busy, Gone, Met, Mine, Unfit}
 use Rattle.cell.specs.Attempts.{Attempted, CanMeet, Fits, IsNear, OffersFit}
-use Rattle.cell.specs.Sight.{SawCommitted, see_cell}
-use Rattle.cell.specs.Told.{Agrees}
-use Rattle.cell.specs.Views.{IsClaimer}
-use Rattle.cell.proofs.Directions.{direction_more, offers_meet_as, one_direction, sees_direction, sees_direction_more}
-use Rattle.cell.proofs.Offers.{have_more}
+use Rattle.cell_table.specs.Told.{Agrees}
+use Rattle.cell_table.specs.Views.{IsClaimer}
+use Rattle.cell_table.proofs.Directions.{direction_more, offers_meet_as, one_direction, sees_direction, sees_direction_more}
+use Rattle.cell_table.proofs.Offers.{few}
 
 pub from_some : {A : Type 0} (x : Option A) (P : A → Type 0) (a : A) → IfSome x P → x ≡ Some a → P a
 from_some None P a h e = let bad : None ≡ Some a = e in cc
 from_some (Some b) P a h e = subst P (Rattle.protocol.proofs.Linking.some_inj b a e) h
-
-pub sees_more : {Nacks : NackName → Type 0} (About : Row → Type 0) (s t : Seen) (r : Row) (n : ℕ) (o : Offer) → LearnsOf About Nacks s t → SeesOffer s r n o → SeesOffer t r n o
-sees_more About s t r n o l (inl h) = inl (have_more s.words t.words r n o l.words.0 h)
-sees_more About s t r n o l (inr h) = inr (l.opened.0 r h.0, subst (λ (d : List (Row × ℕ × ℕ)). HaveOffer d r n o) (sym l.drafts) h.1)
 
 -- rows that can be joined can meet, also once more was learnt
 pub can_meet : (About : Row → Type 0) (s t : Seen) (mine other : Row) (own partner : ℕ) (j : Joined) → Learns About s t → CanJoin s mine own other partner j → CanMeet t mine own other partner
@@ -86,15 +79,6 @@ offers_fit threads rows s mine other own partner answer agree fits a b sees_a se
 pub last_more : (s t : Seen) (r : Row) (stamp : ℕ) → ((x : Row × Joined) → Has s.joined x → Has t.joined x) → HasSeenLast s r stamp → HasSeenLast t r stamp
 last_more s t r stamp more (inl h) = inl h
 last_more s t r stamp more (inr h) = inr (h.0, h.1, more _ h.2, h.3)
-
--- an offer that was read has a number below 8
-pub few : (count n : ℕ) → n < unwrap_or (count_of count) 0 → n < 8
-unfolding count_of
-few count n h = by_case (Rattle.std.proofs.Math.Dec.leb count 8) refl h
-  where
-    by_case : (b : Bool) → Rattle.std.proofs.Math.Dec.leb count 8 ≡ b → n < unwrap_or (cond b (Some count) None) 0 → n < 8
-    by_case true e h = let l = Rattle.std.proofs.lemmas.Bool.leb-true count 8 e in omega arith
-    by_case false e h = absurd (omega arith)
 
 -- the heads of the two offers were read, and then both last stamps
 pub can_join : (about_other about_mine about_their : Row → Type 0) (s1 s2 s3 s4 : Seen) (mine other : Row) (own partner my_last their_last : ℕ) (a b : Direction)
@@ -161,19 +145,6 @@ saw_joined r Waiting j s e = let bad : None ≡ Some j = e in cc
 saw_joined r Claimed j s e = let bad : None ≡ Some j = e in cc
 saw_joined r (Synched i) j s e = inl (ap (λ (k : Joined). (r, k)) (Rattle.protocol.proofs.Linking.some_inj i j e))
 saw_joined r (Taken i) j s e = inl (ap (λ (k : Joined). (r, k)) (Rattle.protocol.proofs.Linking.some_inj i j e))
-
--- AN EXCHANGE was made, or it found another cell
-pub exchange_made : {A B : Type 0} (x : Result A B) (P : Type 0) (Q : A → Type 0) → ((a : A) → P → Q a) → IfOk x (λ a. P) → IfOk x Q
-exchange_made (Ok a) P Q f h = f a h
-exchange_made (Err b) P Q f h = tt
-
-pub exchange_refused : {A B : Type 0} (x : Result A B) (P Q : B → Type 0) → ((b : B) → P b → Q b) → IfErr x P → IfErr x Q
-exchange_refused (Ok a) P Q f h = tt
-exchange_refused (Err b) P Q f h = f b h
-
-pub exchange_either : {A B : Type 0} (x : Result A B) (P : Type 0) (Q : B → Type 0) (R : Type 0) → (P → R) → ((b : B) → Q b → R) → IfOk x (λ a. P) → IfErr x Q → R
-exchange_either (Ok a) P Q R f g h i = f h
-exchange_either (Err b) P Q R f g h i = g b i
 
 pub err_case : {A B : Type 0} (x : Result A B) (P : B → Type 0) → is_err x ≡ true → IfErr x P → (b : B) × P b
 err_case (Ok a) P e h = let bad : false ≡ true = e in cc

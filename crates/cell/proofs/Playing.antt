@@ -3,13 +3,13 @@ use Rattle.std.proofs.Common.{◌≡◌, ℕ, zero, suc, ◌+◌, ◌<◌, Bool,
 use Rattle.std.proofs.lemmas.Bool.{cases_Bool, true≢false, or_left, or_right}
 use Rattle.std.proofs.lemmas.List.{length-append}
 use Rattle.std.proofs.Math.Nat.{mod-eq_of_lt}
-use Rattle.words.specs.declared.Row.{Row}
+use Rattle.protocol_values.specs.declared.Row.{Row}
 use Rattle.protocol.specs.Tables.{row_eq}
 use Rattle.protocol.proofs.RowLemmas.{row_eq-refl, row_eq-true}
-use Rattle.cell.specs.Sight.{Has}
-use Rattle.cell.specs.Views.{first_row}
-use Rattle.cell.specs.Rule.{is_among, dealt_rows}
-use Rattle.cell.proofs.Dealing.{dealt_has}
+use Rattle.cell_table.specs.Sight.{Has}
+use Rattle.cell_table.specs.Views.{first_row}
+use Rattle.cell_table.specs.Rule.{is_among, dealt_rows}
+use Rattle.cell_table.proofs.Dealing.{dealt_has}
 
 -- A ROW AMONG ROWS, as a test
 pub among_has : (rows : List Row) (r : Row) → is_among rows r ≡ true → Has rows r

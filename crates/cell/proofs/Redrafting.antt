@@ -1,36 +1,22 @@
 -- Drafting words of one row leaves what was drafted elsewhere.
 use Rattle.std.proofs.Common.{◌≡◌, ℕ, ◌+◌, ◌*◌, ◌<◌, ◌≤◌, Bool, true, false, cond, eqb, ◌&&◌, List, [], ◌∷◌, ◌++◌, sym, refl, ap, ◌∙◌, subst, inl, inr, ⊎_elim, arith, length, slice_get, unwrap_or, Some, None, is_some, leb}
-use Rattle.std.proofs.lemmas.Bool.{eqb-true, and_parts, le-leb, true≢false}
+use Rattle.std.proofs.lemmas.Bool.{le-leb, true≢false}
 use Rattle.std.proofs.lemmas.List.{append_assoc}
 use Rattle.std.proofs.lemmas.Option.{slice_get_within}
 use Rattle.std.proofs.Math.Nat.{eq-or-lt_of_le}
-use Rattle.words.specs.Words.{count_of, head_of, offer_of, is_word_for}
-use Rattle.words.specs.declared.Head.{Head}
-use Rattle.words.specs.declared.Offer.{Offer}
+use Rattle.protocol_values.specs.Words.{count_of, head_of, offer_of, is_word_for}
+use Rattle.protocol_values.specs.declared.Head.{Head}
+use Rattle.protocol_values.specs.declared.Offer.{Offer}
 use Rattle.protocol.proofs.Linking.{some_inj}
-use Rattle.words.specs.declared.Row.{Row}
-use Rattle.words.specs.declared.Step.{Step}
-use Rattle.words.specs.declared.Step.TheVariants.{Draft}
+use Rattle.protocol_values.specs.declared.Row.{Row}
+use Rattle.protocol_values.specs.declared.Step.{Step}
+use Rattle.protocol_values.specs.declared.Step.TheVariants.{Draft}
 use Rattle.protocol.specs.Tables.{row_eq}
-use Rattle.protocol.proofs.RowLemmas.{row_eq-true}
-use Rattle.cell.specs.declared.view.Seen.{Seen}
+use Rattle.cell_table.specs.declared.view.Seen.{Seen}
 use Rattle.cell.specs.Attempts.{OnlyDrafts}
-use Rattle.cell.proofs.Hearing.{has_either}
-use Rattle.cell.specs.Sight.{Has, HasDrafted, HaveOffer, IsDraft, without, see_draft, Redrafts, IsPlaceOf, atoms_behind, atoms_in, atoms_told}
-
--- what is left after a word of (r, p) is gone, and what was there before
-left_one : (r : Row) (p : ℕ) (d : Row × ℕ × ℕ) (ds : List (Row × ℕ × ℕ)) (q : Row) (o x : ℕ) (b : Bool) → (row_eq d.0 r && eqb d.1 p) ≡ b → ¬ ((q ≡ r) × (o ≡ p)) → (Has ds (q, o, x) → Has (without r p ds) (q, o, x))
-    → Has (d ∷ ds) (q, o, x) → Has (cond b (without r p ds) (d ∷ without r p ds)) (q, o, x)
-left_one r p d ds q o x true e else_where rest (inl f) =
-    let a = and_parts (row_eq d.0 r) (eqb d.1 p) e in
-    absurd (else_where (ap (λ (z : Row × ℕ × ℕ). z.0) (sym f) ∙ row_eq-true d.0 r a.0, ap (λ (z : Row × ℕ × ℕ). z.1) (sym f) ∙ eqb-true d.1 p a.1))
-left_one r p d ds q o x true e else_where rest (inr h) = rest h
-left_one r p d ds q o x false e else_where rest (inl f) = inl f
-left_one r p d ds q o x false e else_where rest (inr h) = inr (rest h)
-
-pub left : (r : Row) (p : ℕ) (ds : List (Row × ℕ × ℕ)) (q : Row) (o x : ℕ) → ¬ ((q ≡ r) × (o ≡ p)) → Has ds (q, o, x) → Has (without r p ds) (q, o, x)
-left r p [] q o x else_where h = absurd h
-left r p (d ∷ ds) q o x else_where h = left_one r p d ds q o x (row_eq d.0 r && eqb d.1 p) refl else_where (λ i. left r p ds q o x else_where i) h
+use Rattle.cell_table.proofs.Hearing.{has_either}
+use Rattle.cell_table.proofs.Others.{left}
+use Rattle.cell_table.specs.Sight.{Has, HasDrafted, HaveOffer, IsDraft, without, see_draft, Redrafts, IsPlaceOf, atoms_behind, atoms_in, atoms_told}
 
 was_one : (r : Row) (p : ℕ) (d : Row × ℕ × ℕ) (ds : List (Row × ℕ × ℕ)) (y : Row × ℕ × ℕ) (b : Bool) → (Has (without r p ds) y → Has ds y) → Has (cond b (without r p ds) (d ∷ without r p ds)) y → Has (d ∷ ds) y
 was_one r p d ds y true rest h = inr (rest h)

@@ -1,25 +1,27 @@
 -- What the answers of an attempt mean.
 use Rattle.std.specs.Prelude.{◌≡◌, ◌≢◌, ◌⊎◌, ◌↔◌, ◌<◌, ◌≤◌, ℕ, Bool, true, false, Option, Some, None, List, ◌∷◌, ◌++◌, ◌+◌, length}
-use Rattle.words.specs.declared.Base.TheVariants.{OnNack}
-use Rattle.words.specs.declared.Direction.{Direction}
-use Rattle.words.specs.declared.NackName.{NackName}
-use Rattle.words.specs.declared.Binding.{Binding}
-use Rattle.words.specs.declared.Joined.{Joined}
-use Rattle.words.specs.declared.Offer.{Offer}
-use Rattle.words.specs.declared.Row.{Row}
-use Rattle.words.specs.declared.Step.{Step}
-use Rattle.words.specs.declared.Step.TheVariants.{Bind, Claim, Draft, Grant as GrantRow, Join, Seal, Take, Yield}
+use Rattle.protocol_values.specs.declared.Base.TheVariants.{OnNack}
+use Rattle.protocol_values.specs.declared.Direction.{Direction}
+use Rattle.protocol_values.specs.declared.NackName.{NackName}
+use Rattle.protocol_values.specs.declared.Binding.{Binding}
+use Rattle.protocol_values.specs.declared.Joined.{Joined}
+use Rattle.protocol_values.specs.declared.Offer.{Offer}
+use Rattle.protocol_values.specs.declared.Row.{Row}
+use Rattle.protocol_values.specs.declared.Step.{Step}
+use Rattle.protocol_values.specs.declared.Step.TheVariants.{Bind, Claim, Draft, Grant as GrantRow, Join, Seal, Take, Yield}
 use Rattle.protocol.specs.Standing.{Result, Stands}
-use Rattle.protocol.specs.Tables.{bound_row, next_row, offers_meet}
+use Rattle.protocol.specs.Tables.{bound_row, offers_meet}
+use Rattle.protocol_values.specs.Values.{next_row}
 use Rattle.protocol.specs.Worlds.{nack_of_row}
-use Rattle.cell.specs.declared.view.Seen.{Seen}
+use Rattle.cell_table.specs.declared.view.Seen.{Seen}
 use Rattle.cell.specs.declared.attempt.Attempt.{Attempt}
 use Rattle.cell.specs.declared.attempt.Attempt.TheVariants.{Met, Gone, Mine, Busy, Unfit}
 use Rattle.cell.specs.declared.granting.Grant.{Grant}
 use Rattle.cell.specs.declared.granting.Grant.TheVariants.{Given, NotEnabled, Late}
-use Rattle.cell.specs.Sight.{Adds, Has, SeesDirection, SeesOffer, SawCommitted, directions_meet, IsBefore, see_bound, see_next}
-use Rattle.cell.specs.Nacks.{CanGrant, CanStandAlone}
-use Rattle.cell.specs.Told.{ComesOut, IsEarlier}
+use Rattle.cell_table.specs.Sight.{Adds, Has, SeesDirection, SeesOffer, SawCommitted, IsBefore, see_bound, see_next}
+use Rattle.protocol_values.specs.Values.{directions_meet}
+use Rattle.cell_table.specs.Nacks.{CanGrant, CanStandAlone}
+use Rattle.cell_table.specs.Told.{ComesOut, IsEarlier}
 
 -- the rows of two threads, the heads of whose two offers were seen, and are of a send and a receive on one channel
 abbrev pub CanMeet : Seen → Row → ℕ → Row → ℕ → Type 0

@@ -2,14 +2,14 @@
 use Rattle.std.specs.Prelude.{◌≡◌, ℕ, ◌<◌, zero, suc, List, ◌∷◌, Option, Some, None, length, slice_get}
 use Rattle.atomic_table.specs.Seated.{TableId}
 use Rattle.atomic_table.specs.Table.{rest}
-use Rattle.words.specs.declared.NackName.{NackName}
-use Rattle.words.specs.declared.Row.{Row}
-use Rattle.words.specs.declared.Step.{Step}
+use Rattle.protocol_values.specs.declared.NackName.{NackName}
+use Rattle.protocol_values.specs.declared.Row.{Row}
+use Rattle.protocol_values.specs.declared.Step.{Step}
 use Rattle.protocol.specs.Standing.{Result, Stands}
 use Rattle.protocol.specs.declared.resident.Bare.{Bare}
-use Rattle.cell.specs.declared.view.Seen.{Seen}
-use Rattle.cell.specs.Rule.{IsReady}
-use Rattle.cell.specs.Sight.{Coherent, Has, see_begun}
+use Rattle.cell_table.specs.declared.view.Seen.{Seen}
+use Rattle.cell_table.specs.Rule.{IsReady}
+use Rattle.cell_table.specs.Sight.{Coherent, Has, see_begun}
 
 -- which table it is, its size, and what stood for its threads at first, thread by thread; none in a table of no machines
 pub record GridOf (M : Type 0) : Type 0 where
@@ -40,6 +40,10 @@ module _ {M : Type 0} where
   -- the pass is one of this table's, and what it has seen agrees with itself
   abbrev pub IsPassOf : GridOf M → PassOf M → Type 0
   IsPassOf g p = (p.of.id ≡ g.id) × (p.of.threads ≡ g.threads) × (p.of.rows ≡ g.rows) × (p.of.passes ≡ g.passes) × Coherent g.threads g.rows p.seen × (p.of.first ≡ g.first)
+
+  -- the pass has the results and the slots that it had
+  abbrev pub KeepsResults : PassOf M → PassOf M → Type 0
+  KeepsResults old new = (new.results ≡ old.results) × (new.out ≡ old.out)
 
   -- the table has the row
   abbrev pub IsRowOf : GridOf M → Row → Type 0

@@ -1,8 +1,8 @@
 -- A set of rows as flags, row by row.
 use Rattle.std.specs.Prelude.{◌≡◌, ℕ, ◌<◌, ◌↔◌, Bool, true, false, List, slice_index_or}
-use Rattle.words.specs.declared.Row.{Row}
+use Rattle.protocol_values.specs.declared.Row.{Row}
 use Rattle.protocol.specs.Tables.{number_of}
-use Rattle.cell.specs.Sight.{Has}
+use Rattle.cell_table.specs.Sight.{Has}
 
 -- the flags of these rows are set, and no others
 pub record AreFlags (threads rows : ℕ) (flags : List Bool) (held : List Row) : Type 0 where

@@ -1,9 +1,3 @@
-pub mod Sight
-pub mod Nacks
 pub mod Attempts
-pub mod Views
-pub mod Rule
-pub mod Told
-pub mod Seats
 pub mod Calls
 pub mod Flags

@@ -2,18 +2,19 @@
 //! that is given up.
 
 ghost use Rattle.std.specs.Prelude.{◌≡◌, ◌⊎◌, ◌<◌, IfSome, IfNone};
-ghost use Rattle.words.specs.Words.{IsJoinedInRange};
-ghost use Rattle.cell.specs.declared.view.Stage.TheVariants.{Resting};
+ghost use Rattle.protocol_values.specs.Words.{IsJoinedInRange};
+ghost use Rattle.cell_table.specs.declared.view.Stage.TheVariants.{Resting};
 ghost use Rattle.cell.specs.declared.attempt.Attempt.TheVariants.{Unfit};
 ghost use Rattle.cell.specs.Attempts.{Attempted, CanMeet, Fits, IsNear, OffersFit, attempt_made};
-ghost use Rattle.cell.specs.Seats.{Sits, HasRow, StaysSeated};
-ghost use Rattle.cell.specs.Sight.{Has, CanJoin, Learns, directions_meet};
-ghost use Rattle.cell.specs.Views.{at_stage, worked};
+ghost use Rattle.cell_table.specs.Seats.{Sits, HasRow, StaysSeated};
+ghost use Rattle.cell_table.specs.Sight.{Has, CanJoin, Learns};
+ghost use Rattle.cell_table.specs.Views.{at_stage, worked};
 
-use crate::board::Board;
-use crate::view::View;
+use crate::reading::{direction_of, last_stamp, opened_direction};
 use atomic_table::Seat;
-use protocol::{Cell, Direction, Joined, Resident, Row};
+use cell_table::{Board, View};
+use protocol::Resident;
+use protocol_values::{Cell, Joined, Row};
 
 /// The kinds with which a gate is called: before a claim, a yield, a join and a seal.
 pub const CLAIM: u8 = 5;
@@ -52,113 +53,99 @@ pub enum Attempt {
     Unfit,
 }
 
-impl<M: Resident> Board<M> {
-    /// Tries to commit a held opened row with another row, each under one of its offers.
-    pub(crate) fn attempt<G: StepGate>(
-        &self,
-        seat: &mut Seat<Option<M>, View<M>>,
-        gate: &G,
-        mine: (Row, u8),
-        other: (Row, u8),
-    ) -> Attempt
-        requires sits { Sits self.now seat.old × HasRow self.now mine.0 × HasRow self.now other.0 }
-        requires held { Has seat.old.me.0.seen.held mine.0 × Has seat.old.me.0.seen.opened mine.0 × (seat.old.me.0.stage ≡ Resting) }
-        ensures sits { StaysSeated self.now seat.old seat.new }
-        ensures stays { seat.new.me.0 ≡ worked Resting seat.new.me.0.seen (attempt_made mine.0 mine.1 other.0 other.1 result seat.old.me.0.made) seat.old.me.0 }
-        ensures learns { Learns (IsNear mine.0 other.0) seat.old.me.0.seen seat.new.me.0.seen }
-        ensures fits { Fits seat.new.me.0.seen mine.0 mine.1 other.0 other.1 result }
-        ensures offers { OffersFit seat.new.me.0.seen mine.0 mine.1 other.0 other.1 result }
-        ensures attempted { Attempted seat.old.me.0.seen seat.new.me.0.seen mine.0 mine.1 other.0 other.1 result }
-    {
-        match self.fit(seat, mine, other) {
-            Some(joined) => self.meet(seat, gate, mine, other.0, joined),
-            None => Attempt::Unfit,
-        }
-    }
-
-    /// How the other row would be committed, where the two rows can meet under these offers.
-    fn fit(
-        &self,
-        seat: &mut Seat<Option<M>, View<M>>,
-        mine: (Row, u8),
-        other: (Row, u8),
-    ) -> Option<Joined>
-        requires sits { Sits self.now seat.old × HasRow self.now mine.0 × HasRow self.now other.0 }
-        requires opened { Has seat.old.me.0.seen.opened mine.0 }
-        ensures sits { StaysSeated self.now seat.old seat.new }
-        ensures stays { seat.new.me.0 ≡ at_stage seat.old.me.0.stage seat.new.me.0.seen seat.old.me.0 }
-        ensures learns { Learns (IsNear mine.0 other.0) seat.old.me.0.seen seat.new.me.0.seen }
-        ensures can { IfSome result (λ j. CanJoin seat.new.me.0.seen mine.0 mine.1 other.0 other.1 j × IsJoinedInRange j) }
-        ensures unfit { IfNone result (¬ CanMeet seat.new.me.0.seen mine.0 mine.1 other.0 other.1) }
-    {
-        let (my_row, own) = mine;
-        let (row, partner) = other;
-        if my_row.thread == row.thread {
-            return None;
-        }
-        let my_direction = self.opened_direction(seat, my_row, own)?;
-        let direction = self.direction(seat, row, partner)?;
-        if !directions_meet(my_direction, direction) {
-            return None;
-        }
-        let my_last = self.last_stamp(seat, my_row);
-        let last = self.last_stamp(seat, row);
-        Some(Joined {
-            own: partner,
-            partner: Some(mine),
-            stamp: 1 + my_last.max(last),
-        })
-    }
-
-    /// Claims the row `mine`, and then joins the other and seals, or gives up.
-    fn meet<G: StepGate>(
-        &self,
-        seat: &mut Seat<Option<M>, View<M>>,
-        gate: &G,
-        mine: (Row, u8),
-        other: Row,
-        joined: Joined,
-    ) -> Attempt
-        requires sits { Sits self.now seat.old × HasRow self.now mine.0 × HasRow self.now other }
-        requires held { Has seat.old.me.0.seen.held mine.0 × Has seat.old.me.0.seen.opened mine.0 × (seat.old.me.0.stage ≡ Resting) }
-        requires can { CanJoin seat.old.me.0.seen mine.0 mine.1 other joined.own joined × IsJoinedInRange joined }
-        ensures sits { StaysSeated self.now seat.old seat.new }
-        ensures stays { seat.new.me.0 ≡ worked Resting seat.new.me.0.seen (attempt_made mine.0 mine.1 other joined.own result seat.old.me.0.made) seat.old.me.0 }
-        ensures learns { Learns (IsNear mine.0 other) seat.old.me.0.seen seat.new.me.0.seen }
-        ensures attempted { Attempted seat.old.me.0.seen seat.new.me.0.seen mine.0 mine.1 other joined.own result × (¬ (result ≡ Unfit)) }
-    {
-        let (row, own) = mine;
-        gate.step(CLAIM);
-        if self.claim(seat, row).is_err() {
-            return Attempt::Mine;
-        }
-        gate.step(JOIN);
-        match self.join(seat, row, own, other, joined.own, joined) {
-            Ok(()) => {
-                gate.step(SEAL);
-                self.seal(seat, row, own, other, joined);
-                Attempt::Met(joined.stamp)
-            }
-            Err(found) => {
-                gate.step(YIELD);
-                self.give_up(seat, row);
-                match found {
-                    Cell::Claimed => Attempt::Busy,
-                    Cell::Fresh | Cell::Waiting | Cell::Synched(_) | Cell::Taken(_) =>
-                        Attempt::Gone,
-                }
-            }
-        }
+/// Tries to commit a held opened row with another row, each under one of its offers.
+pub(crate) fn attempt_rows<M: Resident, G: StepGate>(
+    board: &Board<M>,
+    seat: &mut Seat<Option<M>, View<M>>,
+    gate: &G,
+    mine: (Row, u8),
+    other: (Row, u8),
+) -> Attempt
+    requires sits { Sits board.now seat.old × HasRow board.now mine.0 × HasRow board.now other.0 }
+    requires held { Has seat.old.me.0.seen.held mine.0 × Has seat.old.me.0.seen.opened mine.0 × (seat.old.me.0.stage ≡ Resting) }
+    ensures sits { StaysSeated board.now seat.old seat.new }
+    ensures stays { seat.new.me.0 ≡ worked Resting seat.new.me.0.seen (attempt_made mine.0 mine.1 other.0 other.1 result seat.old.me.0.made) seat.old.me.0 }
+    ensures learns { Learns (IsNear mine.0 other.0) seat.old.me.0.seen seat.new.me.0.seen }
+    ensures fits { Fits seat.new.me.0.seen mine.0 mine.1 other.0 other.1 result }
+    ensures offers { OffersFit seat.new.me.0.seen mine.0 mine.1 other.0 other.1 result }
+    ensures attempted { Attempted seat.old.me.0.seen seat.new.me.0.seen mine.0 mine.1 other.0 other.1 result }
+{
+    match fit(board, seat, mine, other) {
+        Some(joined) => meet(board, seat, gate, mine, other.0, joined),
+        None => Attempt::Unfit,
     }
 }
 
-/// Whether these are a send and a receive on one channel.
-fn directions_meet(mine: Direction, theirs: Direction) -> bool
-    ensures { result ≡ directions_meet mine theirs }
+/// How the other row would be committed, where the two rows can meet under these offers.
+fn fit<M: Resident>(
+    board: &Board<M>,
+    seat: &mut Seat<Option<M>, View<M>>,
+    mine: (Row, u8),
+    other: (Row, u8),
+) -> Option<Joined>
+    requires sits { Sits board.now seat.old × HasRow board.now mine.0 × HasRow board.now other.0 }
+    requires opened { Has seat.old.me.0.seen.opened mine.0 }
+    ensures sits { StaysSeated board.now seat.old seat.new }
+    ensures stays { seat.new.me.0 ≡ at_stage seat.old.me.0.stage seat.new.me.0.seen seat.old.me.0 }
+    ensures learns { Learns (IsNear mine.0 other.0) seat.old.me.0.seen seat.new.me.0.seen }
+    ensures can { IfSome result (λ j. CanJoin seat.new.me.0.seen mine.0 mine.1 other.0 other.1 j × IsJoinedInRange j) }
+    ensures unfit { IfNone result (¬ CanMeet seat.new.me.0.seen mine.0 mine.1 other.0 other.1) }
 {
-    match (mine, theirs) {
-        (Direction::Send { chan, .. }, Direction::Recv { chan: other })
-        | (Direction::Recv { chan }, Direction::Send { chan: other, .. }) => chan == other,
-        _ => false,
+    let (my_row, own) = mine;
+    let (row, partner) = other;
+    if my_row.thread == row.thread {
+        return None;
+    }
+    let my_direction = opened_direction(board, seat, my_row, own)?;
+    let direction = direction_of(board, seat, row, partner)?;
+    if !my_direction.meets(direction) {
+        return None;
+    }
+    let my_last = last_stamp(board, seat, my_row);
+    let last = last_stamp(board, seat, row);
+    Some(Joined {
+        own: partner,
+        partner: Some(mine),
+        stamp: 1 + my_last.max(last),
+    })
+}
+
+/// Claims the row `mine`, and then joins the other and seals, or gives up.
+fn meet<M: Resident, G: StepGate>(
+    board: &Board<M>,
+    seat: &mut Seat<Option<M>, View<M>>,
+    gate: &G,
+    mine: (Row, u8),
+    other: Row,
+    joined: Joined,
+) -> Attempt
+    requires sits { Sits board.now seat.old × HasRow board.now mine.0 × HasRow board.now other }
+    requires held { Has seat.old.me.0.seen.held mine.0 × Has seat.old.me.0.seen.opened mine.0 × (seat.old.me.0.stage ≡ Resting) }
+    requires can { CanJoin seat.old.me.0.seen mine.0 mine.1 other joined.own joined × IsJoinedInRange joined }
+    ensures sits { StaysSeated board.now seat.old seat.new }
+    ensures stays { seat.new.me.0 ≡ worked Resting seat.new.me.0.seen (attempt_made mine.0 mine.1 other joined.own result seat.old.me.0.made) seat.old.me.0 }
+    ensures learns { Learns (IsNear mine.0 other) seat.old.me.0.seen seat.new.me.0.seen }
+    ensures attempted { Attempted seat.old.me.0.seen seat.new.me.0.seen mine.0 mine.1 other joined.own result × (¬ (result ≡ Unfit)) }
+{
+    let (row, own) = mine;
+    gate.step(CLAIM);
+    if board.claim(seat, row).is_err() {
+        return Attempt::Mine;
+    }
+    gate.step(JOIN);
+    match board.join(seat, row, own, other, joined.own, joined) {
+        Ok(()) => {
+            gate.step(SEAL);
+            board.seal(seat, row, own, other, joined);
+            Attempt::Met(joined.stamp)
+        }
+        Err(found) => {
+            gate.step(YIELD);
+            board.give_up(seat, row);
+            match found {
+                Cell::Claimed => Attempt::Busy,
+                Cell::Fresh | Cell::Waiting | Cell::Synched(_) | Cell::Taken(_) => Attempt::Gone,
+            }
+        }
     }
 }

@@ -1,15 +1,17 @@
-//! The shared table and its passes, as callers use them.
+//! The shared table and its passes, as callers use them. A pass is at rest between two calls, which its invariant
+//! says; within a call its seat may stand between a claim and a seal, so what a call does is written over the board
+//! and the seat, in the modules beside this one, and told here again of the pass.
 
 ghost use Rattle.std.specs.Prelude.{◌≡◌, ◌≢◌, ◌⊎◌, ◌+◌, ◌<◌, ◌≤◌, ◌∷◌, ◌++◌, [], ℕ, List, None, Some, true, IfOk, IfSome, IfNone, SomeIff, IsTrue, ◌↔◌, length, map, slice_get, IsFalse};
-ghost use Rattle.words.specs.declared.Direction.{Direction};
-ghost use Rattle.words.specs.declared.Joined.{Joined};
-ghost use Rattle.words.specs.declared.Message.{Message};
-ghost use Rattle.words.specs.declared.Offer.{Offer};
-ghost use Rattle.words.specs.declared.Row.{Row};
-ghost use Rattle.words.specs.declared.Cell.TheVariants.{Claimed};
-ghost use Rattle.words.specs.declared.Step.TheVariants.{Open};
-ghost use Rattle.words.specs.declared.NackName.{NackName};
-ghost use Rattle.words.specs.declared.Binding.{Binding};
+ghost use Rattle.protocol_values.specs.declared.Direction.{Direction};
+ghost use Rattle.protocol_values.specs.declared.Joined.{Joined};
+ghost use Rattle.protocol_values.specs.declared.Message.{Message};
+ghost use Rattle.protocol_values.specs.declared.Offer.{Offer};
+ghost use Rattle.protocol_values.specs.declared.Row.{Row};
+ghost use Rattle.protocol_values.specs.declared.Cell.TheVariants.{Claimed};
+ghost use Rattle.protocol_values.specs.declared.Step.TheVariants.{Open};
+ghost use Rattle.protocol_values.specs.declared.NackName.{NackName};
+ghost use Rattle.protocol_values.specs.declared.Binding.{Binding};
 ghost use Rattle.protocol.specs.Ledgers.{IsLawful, binding_in, joined_in, offer_in};
 ghost use Rattle.protocol.specs.Standing.{AreResults, EachOffersAs, Result, SomeStands};
 ghost use Rattle.protocol.specs.Worlds.{nack_of_row};
@@ -32,14 +34,13 @@ ghost use Rattle.cell.specs.Attempts.{
   grant_made,
   take_made,
 };
-ghost use Rattle.cell.specs.Calls.{CanFetch, Fetched, Holds, IsHousing, IsNackOf, IsParked, IsPassOf, IsRowOf, PassOf, PassView};
-ghost use Rattle.cell.specs.Told.{GoesHome};
-ghost use Rattle.cell.specs.Rule.{IsReady};
+ghost use Rattle.cell.specs.Calls.{CanFetch, Fetched, Holds, IsHousing, IsNackOf, IsParked, IsPassOf, IsRowOf, KeepsResults, PassOf, PassView};
+ghost use Rattle.cell_table.specs.Told.{GoesHome};
+ghost use Rattle.cell_table.specs.Rule.{IsReady, dealt_rows, heard, seen_nothing, told_of};
 ghost use Rattle.atomic_table.specs.Table.{rest};
-ghost use Rattle.cell.specs.Nacks.{IsSeenBound};
+ghost use Rattle.cell_table.specs.Nacks.{IsSeenBound};
 ghost use Rattle.cell.specs.Flags.{AreFlags};
-ghost use Rattle.cell.specs.Rule.{dealt_rows, heard, seen_nothing, told_of};
-ghost use Rattle.cell.specs.Sight.{
+ghost use Rattle.cell_table.specs.Sight.{
   AreOffers,
   Has,
   HaveDirection,
@@ -61,15 +62,16 @@ ghost use Rattle.cell.specs.Sight.{
   see_opened,
 };
 
-use crate::attempt::{Attempt, StepGate};
-use crate::board::Board;
-use crate::granting::Grant;
+use crate::attempt::{Attempt, StepGate, attempt_rows};
+use crate::drafting::draft_offers;
+use crate::granting::{Grant, grant_row};
 use crate::rows::RowSet;
-use crate::view::{Shape, View};
+use crate::taking::take_row;
+use crate::{nacks, reading};
 use atomic_table::Seat;
-use protocol::{
-    Bare, Cell, Direction, Joined, Ledger, Message, NACKS, NackName, Offer, ROW_LEN, Resident, Row,
-};
+use cell_table::{Board, Shape, View};
+use protocol::{Bare, Ledger, NACKS, ROW_LEN, Resident};
+use protocol_values::{Cell, Direction, Joined, Message, NackName, Offer, Row};
 use std::alloc::{AllocError, Global};
 use std::marker::Model;
 use std::snapshot::Snapshot;
@@ -78,7 +80,7 @@ use std::snapshot::Snapshot;
 #[derive(Drop)]
 pub struct Cells<M: Resident> {
     board: Board<M>,
-    room: Vec<u64>,
+    spare: Vec<u64>,
 }
 
 impl<M: Resident> Model for Cells<M> {
@@ -89,7 +91,7 @@ impl<M: Resident> Model for Cells<M> {
 
     ghost view = { λ c. record { id = c.board.words.shared.table_id; threads = c.board.shape.threads; rows = c.board.shape.rows; passes = c.board.shape.passes; first = c.board.shape.first.value.items } };
 
-    ghost invariant = { λ c. (length c.room.items ≡ c.board.words.shared.table_id.words) × (0 < length c.board.shape.first.value.items → M.houses ≡ true) };
+    ghost invariant = { λ c. (length c.spare.items ≡ c.board.words.shared.table_id.words) × (0 < length c.board.shape.first.value.items → M.houses ≡ true) };
 }
 
 /// What a thread calls the table with. It holds rows, and its value is what it has seen.
@@ -101,7 +103,7 @@ pub struct Pass<M> {
 
 impl<M> Model for Pass<M> {
     ghost use Rattle.std.specs.Prelude.{◌≡◌};
-    ghost use Rattle.cell.specs.declared.view.Stage.TheVariants.{Resting};
+    ghost use Rattle.cell_table.specs.declared.view.Stage.TheVariants.{Resting};
     ghost use Rattle.cell.specs.Calls.{PassOf};
     ghost use Rattle.cell.specs.Flags.{AreFlags};
 
@@ -189,16 +191,16 @@ impl<M: Resident + Drop> Cells<M> {
             first: Snapshot::of(&first),
         };
         let words = usize::from(threads) * (usize::from(rows) * ROW_LEN + NACKS);
-        let room = vec![in alloc; 0; words]?;
+        let spare = vec![in alloc; 0; words]?;
         let slots = slots_of(alloc, first)?;
-        let (board, mut dealer) = Board::start(alloc, shape, room.as_slice(), slots)?;
+        let (board, mut dealer) = Board::start(alloc, shape, spare.as_slice(), slots)?;
         let mut dealt = Vec::with_capacity(alloc, usize::from(passes))?;
         for number in 0..passes {
             let seat = board.deal(&mut dealer, u64::from(number));
             let rows = first_rows(alloc, threads, rows, passes, number)?;
             dealt.push(Pass { seat, rows })?;
         }
-        Ok((Cells { board, room }, dealt))
+        Ok((Cells { board, spare }, dealt))
     }
 
     /// Ends the table: its ledger has all that the pass has seen or was told. What lies in its slots goes with it.
@@ -214,9 +216,9 @@ impl<M: Resident + Drop> Cells<M> {
         ensures own { (r : Row) (j : Joined) (offers : List Offer) → IsDraft pass.seen r offers → joined_in result r ≡ Some j → (j.own < length offers) × (offer_in result r j.own ≡ slice_get offers j.own) }
         ensures stand { IsHousing self → EachOffersAs (SomeStands M.stands self.first) result }
     {
-        let Cells { board, room } = self;
+        let Cells { board, spare } = self;
         let Pass { seat, .. } = pass;
-        board.close(seat, room)
+        board.close(seat, spare)
     }
 }
 
@@ -225,8 +227,7 @@ impl<M: Resident> Cells<M> {
     pub fn has(&self, row: Row) -> bool
         ensures { IsTrue result ↔ IsRowOf self.now row }
     {
-        u64::from(row.thread) < self.board.shape.threads
-            && u64::from(row.sync) < self.board.shape.rows
+        self.board.has(row)
     }
 
     /// Opens a held row that is Fresh: its offers stand from now on. In a table of machines the row's machine
@@ -252,7 +253,7 @@ impl<M: Resident> Cells<M> {
         ensures expected { IsExpected pass.old.seen row result }
         ensures unclaimed { Has pass.old.seen.held row → result ≢ Claimed }
         ensures made { pass.new.made ≡ pass.old.made }
-        ensures results { (pass.new.results ≡ pass.old.results) × (pass.new.out ≡ pass.old.out) }
+        ensures results { KeepsResults pass.old pass.new }
     {
         self.board.look(&mut pass.seat, row)
     }
@@ -266,10 +267,10 @@ impl<M: Resident> Cells<M> {
         ensures none { IfNone result (IsKnownOpen pass.old.seen row → LackOffer pass.new.seen.words row n) }
         ensures same { (o : Offer) → SeesOffer pass.new.seen row n o → result ≡ Some o }
         ensures made { pass.new.made ≡ pass.old.made }
-        ensures results { (pass.new.results ≡ pass.old.results) × (pass.new.out ≡ pass.old.out) }
+        ensures results { KeepsResults pass.old pass.new }
         ensures unopened { Has pass.old.seen.held row → ¬ Has pass.old.seen.opened row → (result ≡ None) × (pass.new.seen ≡ pass.old.seen) }
     {
-        self.board.offer(&mut pass.seat, row, n)
+        reading::offer_of(&self.board, &mut pass.seat, row, n)
     }
 
     /// The direction of offer n of a row that was seen opened: none where it has no offer n. It takes one
@@ -283,9 +284,9 @@ impl<M: Resident> Cells<M> {
         ensures none { IfNone result (LackOffer pass.new.seen.words row n) }
         ensures same { (d : Direction) → SeesDirection pass.new.seen row n d → result ≡ Some d }
         ensures made { pass.new.made ≡ pass.old.made }
-        ensures results { (pass.new.results ≡ pass.old.results) × (pass.new.out ≡ pass.old.out) }
+        ensures results { KeepsResults pass.old pass.new }
     {
-        self.board.opened_direction(&mut pass.seat, row, n)
+        reading::opened_direction(&self.board, &mut pass.seat, row, n)
     }
 
     /// What the row's thread gets, where the row is committed.
@@ -297,10 +298,10 @@ impl<M: Resident> Cells<M> {
         ensures none { IfNone result (¬ SawCommitted pass.old.seen row) }
         ensures same { (got : Message) → IsResult pass.old.seen row got → result ≡ Some got }
         ensures made { pass.new.made ≡ pass.old.made }
-        ensures results { (pass.new.results ≡ pass.old.results) × (pass.new.out ≡ pass.old.out) }
+        ensures results { KeepsResults pass.old pass.new }
         ensures unopened { Has pass.old.seen.held row → ¬ Has pass.old.seen.opened row → (result ≡ None) × (pass.new.seen ≡ pass.old.seen) }
     {
-        self.board.result(&mut pass.seat, row)
+        reading::result_of(&self.board, &mut pass.seat, row)
     }
 
     /// Tries to commit the held opened row `mine` with `other`, by offer `own` of the one and
@@ -322,10 +323,15 @@ impl<M: Resident> Cells<M> {
         ensures offers { OffersFit pass.new.seen mine own other partner result }
         ensures attempted { Attempted pass.old.seen pass.new.seen mine own other partner result }
         ensures made { pass.new.made ≡ attempt_made mine own other partner result pass.old.made }
-        ensures results { (pass.new.results ≡ pass.old.results) × (pass.new.out ≡ pass.old.out) }
+        ensures results { KeepsResults pass.old pass.new }
     {
-        self.board
-            .attempt(&mut pass.seat, gate, (mine, own), (other, partner))
+        attempt_rows(
+            &self.board,
+            &mut pass.seat,
+            gate,
+            (mine, own),
+            (other, partner),
+        )
     }
 
     /// Binds nack k of the row's thread to the row, which is held and not opened yet, and to its scope
@@ -339,9 +345,9 @@ impl<M: Resident> Cells<M> {
         ensures bound { Bound pass.old.seen pass.new.seen k row scope result }
         ensures earlier { IsFalse result → IsHousing self.now → BoundBefore M.stands self.now.first pass.old.results pass.new.seen k row }
         ensures made { pass.new.made ≡ bind_made k row scope result pass.old.made }
-        ensures results { (pass.new.results ≡ pass.old.results) × (pass.new.out ≡ pass.old.out) }
+        ensures results { KeepsResults pass.old pass.new }
     {
-        self.board.bind(&mut pass.seat, k, row, scope)
+        nacks::bind(&self.board, &mut pass.seat, k, row, scope)
     }
 
     /// The row and the scope to which the nack is bound. A nack of a thread that the table has not, or
@@ -354,9 +360,9 @@ impl<M: Resident> Cells<M> {
         ensures there { IfSome result (λ p. IsNackOf self.now nack) }
         ensures same { (r : Row) (scope : ℕ) → IsSeenBound pass.old.seen nack r scope → result ≡ Some (r, scope) }
         ensures made { pass.new.made ≡ pass.old.made }
-        ensures results { (pass.new.results ≡ pass.old.results) × (pass.new.out ≡ pass.old.out) }
+        ensures results { KeepsResults pass.old pass.new }
     {
-        let bound = self.board.bound(&mut pass.seat, nack)?;
+        let bound = nacks::binding_of(&self.board, &mut pass.seat, nack)?;
         let row = Row {
             thread: nack.thread,
             sync: bound.sync,
@@ -372,9 +378,9 @@ impl<M: Resident> Cells<M> {
         ensures learns { LearnsOf (IsNearGrant pass.new.seen row n) (IsNackOfOffer pass.new.seen row n) pass.old.seen pass.new.seen }
         ensures granted { Granted pass.old.seen pass.new.seen row n result }
         ensures made { pass.new.made ≡ grant_made row n result pass.old.made }
-        ensures results { (pass.new.results ≡ pass.old.results) × (pass.new.out ≡ pass.old.out) }
+        ensures results { KeepsResults pass.old pass.new }
     {
-        self.board.grant(&mut pass.seat, row, n)
+        grant_row(&self.board, &mut pass.seat, row, n)
     }
 
     /// Takes the row, where it is committed and nobody has taken it: the pass holds the thread's next
@@ -389,11 +395,8 @@ impl<M: Resident> Cells<M> {
         ensures out { Hands M.stands self.now.first pass.old.seen row result pass.new.results pass.old.out pass.new.out }
     {
         let Pass { seat, rows } = pass;
-        let joined = self.board.take(seat, row)?;
-        let next = Row {
-            thread: row.thread,
-            sync: row.sync + 1,
-        };
+        let joined = take_row(&self.board, seat, row)?;
+        let next = row.next();
         if next.sync < rows.rows {
             rows.insert(next);
         }
@@ -410,9 +413,9 @@ impl<M: Resident> Cells<M> {
         ensures others { Redrafts (λ q p. q ≡ row) pass.old.seen pass.new.seen }
         ensures drafted { IsDraft pass.new.seen row offers.now }
         ensures made { OnlyDrafts row pass.old.made pass.new.made }
-        ensures results { (pass.new.results ≡ pass.old.results) × (pass.new.out ≡ pass.old.out) }
+        ensures results { KeepsResults pass.old pass.new }
     {
-        self.board.draft_offers(&mut pass.seat, row, offers);
+        draft_offers(&self.board, &mut pass.seat, row, offers);
     }
 
     /// Tells `to` all that `from` has seen, and the offers that it drafted for its opened rows.

@@ -1,16 +1,18 @@
 //! A row that is committed alone.
 
 ghost use Rattle.std.specs.Prelude.{◌≡◌};
-ghost use Rattle.cell.specs.declared.view.Stage.TheVariants.{Resting};
+ghost use Rattle.cell_table.specs.declared.view.Stage.TheVariants.{Resting};
 ghost use Rattle.cell.specs.Attempts.{Granted, IsNackOf, IsNearGrant, grant_made};
-ghost use Rattle.cell.specs.Seats.{Sits, HasRow, StaysSeated};
-ghost use Rattle.cell.specs.Sight.{LearnsOf};
-ghost use Rattle.cell.specs.Views.{worked};
+ghost use Rattle.cell_table.specs.Seats.{Sits, HasRow, StaysSeated};
+ghost use Rattle.cell_table.specs.Sight.{LearnsOf};
+ghost use Rattle.cell_table.specs.Views.{worked};
 
-use crate::board::Board;
-use crate::view::View;
+use crate::nacks::cause_of;
+use crate::reading::{last_stamp, offer_of};
 use atomic_table::Seat;
-use protocol::{Joined, Resident, Row};
+use cell_table::{Board, View};
+use protocol::Resident;
+use protocol_values::{Joined, Row};
 
 /// What became of a grant.
 #[derive(Clone, Copy, Debug, PartialEq, Eq)]
@@ -23,32 +25,35 @@ pub enum Grant {
     Late,
 }
 
-impl<M: Resident> Board<M> {
-    /// Commits the row alone by its offer n, where that is an always or an enabled nack, and the row
-    /// waits.
-    pub(crate) fn grant(&self, seat: &mut Seat<Option<M>, View<M>>, row: Row, n: u8) -> Grant
-        requires sits { Sits self.now seat.old × HasRow self.now row }
-        requires resting { seat.old.me.0.stage ≡ Resting }
-        ensures sits { StaysSeated self.now seat.old seat.new }
-        ensures stays { seat.new.me.0 ≡ worked Resting seat.new.me.0.seen (grant_made row n result seat.old.me.0.made) seat.old.me.0 }
-        ensures learns { LearnsOf (IsNearGrant seat.new.me.0.seen row n) (IsNackOf seat.new.me.0.seen row n) seat.old.me.0.seen seat.new.me.0.seen }
-        ensures granted { Granted seat.old.me.0.seen seat.new.me.0.seen row n result }
-    {
-        let Some(offer) = self.offer(seat, row, n) else {
-            return Grant::NotEnabled;
-        };
-        let Some(cause) = self.cause(seat, offer.base) else {
-            return Grant::NotEnabled;
-        };
-        let last = self.last_stamp(seat, row);
-        let joined = Joined {
-            own: n,
-            partner: None,
-            stamp: 1 + last.max(cause),
-        };
-        match self.give(seat, row, joined) {
-            Ok(()) => Grant::Given,
-            Err(_) => Grant::Late,
-        }
+/// Commits the row alone by its offer n, where that is an always or an enabled nack, and the row
+/// waits.
+pub(crate) fn grant_row<M: Resident>(
+    board: &Board<M>,
+    seat: &mut Seat<Option<M>, View<M>>,
+    row: Row,
+    n: u8,
+) -> Grant
+    requires sits { Sits board.now seat.old × HasRow board.now row }
+    requires resting { seat.old.me.0.stage ≡ Resting }
+    ensures sits { StaysSeated board.now seat.old seat.new }
+    ensures stays { seat.new.me.0 ≡ worked Resting seat.new.me.0.seen (grant_made row n result seat.old.me.0.made) seat.old.me.0 }
+    ensures learns { LearnsOf (IsNearGrant seat.new.me.0.seen row n) (IsNackOf seat.new.me.0.seen row n) seat.old.me.0.seen seat.new.me.0.seen }
+    ensures granted { Granted seat.old.me.0.seen seat.new.me.0.seen row n result }
+{
+    let Some(offer) = offer_of(board, seat, row, n) else {
+        return Grant::NotEnabled;
+    };
+    let Some(cause) = cause_of(board, seat, offer.base) else {
+        return Grant::NotEnabled;
+    };
+    let last = last_stamp(board, seat, row);
+    let joined = Joined {
+        own: n,
+        partner: None,
+        stamp: 1 + last.max(cause),
+    };
+    match board.give(seat, row, joined) {
+        Ok(()) => Grant::Given,
+        Err(_) => Grant::Late,
     }
 }

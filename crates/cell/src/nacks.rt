@@ -1,132 +1,143 @@
 //! Nacks: where they are bound, and which are enabled.
 
 ghost use Rattle.std.specs.Prelude.{◌≡◌, ℕ, ◌<◌, ◌≤◌, IfSome, IfNone, Some, IsFalse, length};
-ghost use Rattle.words.specs.declared.Base.TheVariants.{OnNack};
-ghost use Rattle.words.specs.declared.Binding.{Binding};
-ghost use Rattle.words.specs.declared.Joined.{Joined};
-ghost use Rattle.words.specs.declared.NackName.{NackName};
+ghost use Rattle.protocol_values.specs.declared.Base.TheVariants.{OnNack};
+ghost use Rattle.protocol_values.specs.declared.Binding.{Binding};
+ghost use Rattle.protocol_values.specs.declared.Joined.{Joined};
+ghost use Rattle.protocol_values.specs.declared.NackName.{NackName};
 ghost use Rattle.protocol.specs.Tables.{bound_row};
 ghost use Rattle.protocol.specs.Worlds.{nack_of_row};
 ghost use Rattle.cell.specs.Attempts.{Bound, BoundBefore, bind_made};
-ghost use Rattle.cell.specs.Nacks.{IsBoundRow, SawCause, SawEnabled};
-ghost use Rattle.cell.specs.Seats.{HasNack, HasRow, Sits, StaysSeated};
-ghost use Rattle.cell.specs.Sight.{Has, Learns, LearnsOf};
-ghost use Rattle.cell.specs.Views.{at_stage, worked};
+ghost use Rattle.cell_table.specs.Nacks.{IsBoundRow, SawCause, SawEnabled};
+ghost use Rattle.cell_table.specs.Seats.{HasNack, HasRow, Sits, StaysSeated};
+ghost use Rattle.cell_table.specs.Sight.{Has, Learns, LearnsOf};
+ghost use Rattle.cell_table.specs.Views.{at_stage, worked};
 
-use crate::board::Board;
-use crate::view::View;
+use crate::reading::opened_offer;
 use atomic_table::Seat;
-use protocol::{Base, Binding, Cell, Joined, NackName, Resident, Row};
+use cell_table::{Board, View};
+use protocol::Resident;
+use protocol_values::{Base, Binding, Cell, Joined, NackName, Row};
 
-impl<M: Resident> Board<M> {
-    /// Where the nack is bound, by a look at its word. A nack that the table has not is not bound.
-    pub(crate) fn bound(
-        &self,
-        seat: &mut Seat<Option<M>, View<M>>,
-        nack: NackName,
-    ) -> Option<Binding>
-        requires { Sits self.now seat.old }
-        ensures sits { StaysSeated self.now seat.old seat.new }
-        ensures stays { seat.new.me.0 ≡ at_stage seat.old.me.0.stage seat.new.me.0.seen seat.old.me.0 }
-        ensures learns { LearnsOf (λ q. ⊥) (λ n. n ≡ nack) seat.old.me.0.seen seat.new.me.0.seen }
-        ensures some { IfSome result (λ b. Has seat.new.me.0.seen.bound (nack, b)) }
-        ensures there { IfSome result (λ b. HasNack self.now nack × HasRow self.now (bound_row nack b) × (b.scope < 4)) }
-        ensures same { (b : Binding) → Has seat.old.me.0.seen.bound (nack, b) → result ≡ Some b }
-    {
-        if u64::from(nack.thread) >= self.shape.threads || nack.k >= 64 {
-            return None;
-        }
-        self.look_nack(seat, nack)
+/// Where the nack is bound, by a look at its word. A nack that the table has not is not bound.
+pub(crate) fn binding_of<M: Resident>(
+    board: &Board<M>,
+    seat: &mut Seat<Option<M>, View<M>>,
+    nack: NackName,
+) -> Option<Binding>
+    requires { Sits board.now seat.old }
+    ensures sits { StaysSeated board.now seat.old seat.new }
+    ensures stays { seat.new.me.0 ≡ at_stage seat.old.me.0.stage seat.new.me.0.seen seat.old.me.0 }
+    ensures learns { LearnsOf (λ q. ⊥) (λ n. n ≡ nack) seat.old.me.0.seen seat.new.me.0.seen }
+    ensures some { IfSome result (λ b. Has seat.new.me.0.seen.bound (nack, b)) }
+    ensures there { IfSome result (λ b. HasNack board.now nack × HasRow board.now (bound_row nack b) × (b.scope < 4)) }
+    ensures same { (b : Binding) → Has seat.old.me.0.seen.bound (nack, b) → result ≡ Some b }
+{
+    if !board.has_nack(nack) {
+        return None;
     }
+    board.look_nack(seat, nack)
+}
 
-    /// Binds nack k of the row's thread to the row, which is held and not opened yet, and to one of
-    /// its scopes. False where the nack was bound before.
-    #[tactic(auto, using(crate::proofs::Learning::learns_bound))]
-    pub(crate) fn bind(
-        &self,
-        seat: &mut Seat<Option<M>, View<M>>,
-        k: u8,
-        row: Row,
-        scope: u8,
-    ) -> bool
-        requires sits { Sits self.now seat.old × HasRow self.now row }
-        requires held { Has seat.old.me.0.seen.held row × (¬ Has seat.old.me.0.seen.opened row) }
-        requires range { (k < 64) × (scope < 4) }
-        ensures sits { StaysSeated self.now seat.old seat.new }
-        ensures stays { seat.new.me.0 ≡ worked seat.old.me.0.stage seat.new.me.0.seen (bind_made k row scope result seat.old.me.0.made) seat.old.me.0 }
-        ensures learns { LearnsOf (λ q. ⊥) (λ n. n ≡ nack_of_row row k) seat.old.me.0.seen seat.new.me.0.seen }
-        ensures bound { Bound seat.old.me.0.seen seat.new.me.0.seen k row scope result }
-        ensures earlier { IsFalse result → 0 < length self.now.shape.first.value.items → BoundBefore M.stands self.now.shape.first.value.items seat.old.me.0.results seat.new.me.0.seen k row }
-    {
-        let nack = NackName {
-            thread: row.thread,
-            k,
-        };
-        let bound = Binding {
-            sync: row.sync,
-            scope,
-        };
-        match self.bind_nack(seat, nack, bound) {
-            Ok(()) => true,
-            Err(_) => false,
-        }
+/// Binds nack k of the row's thread to the row, which is held and not opened yet, and to one of
+/// its scopes. False where the nack was bound before.
+#[tactic(auto, using(crate::proofs::Learning::learns_bound))]
+pub(crate) fn bind<M: Resident>(
+    board: &Board<M>,
+    seat: &mut Seat<Option<M>, View<M>>,
+    k: u8,
+    row: Row,
+    scope: u8,
+) -> bool
+    requires sits { Sits board.now seat.old × HasRow board.now row }
+    requires held { Has seat.old.me.0.seen.held row × (¬ Has seat.old.me.0.seen.opened row) }
+    requires range { (k < 64) × (scope < 4) }
+    ensures sits { StaysSeated board.now seat.old seat.new }
+    ensures stays { seat.new.me.0 ≡ worked seat.old.me.0.stage seat.new.me.0.seen (bind_made k row scope result seat.old.me.0.made) seat.old.me.0 }
+    ensures learns { LearnsOf (λ q. ⊥) (λ n. n ≡ nack_of_row row k) seat.old.me.0.seen seat.new.me.0.seen }
+    ensures bound { Bound seat.old.me.0.seen seat.new.me.0.seen k row scope result }
+    ensures earlier { IsFalse result → 0 < length board.now.shape.first.value.items → BoundBefore M.stands board.now.shape.first.value.items seat.old.me.0.results seat.new.me.0.seen k row }
+{
+    let nack = NackName {
+        thread: row.thread,
+        k,
+    };
+    let bound = Binding {
+        sync: row.sync,
+        scope,
+    };
+    match board.bind_nack(seat, nack, bound) {
+        Ok(()) => true,
+        Err(_) => false,
     }
+}
 
-    /// The stamp of what lets a base event commit its row alone: 0 for an always, and for a nack that
-    /// is enabled that of the row which enabled it.
-    pub(crate) fn cause(&self, seat: &mut Seat<Option<M>, View<M>>, base: Base) -> Option<u32>
-        requires sits { Sits self.now seat.old }
-        ensures sits { StaysSeated self.now seat.old seat.new }
-        ensures stays { seat.new.me.0 ≡ at_stage seat.old.me.0.stage seat.new.me.0.seen seat.old.me.0 }
-        ensures learns { LearnsOf (IsBoundRow seat.new.me.0.seen base) (λ n. base ≡ OnNack n) seat.old.me.0.seen seat.new.me.0.seen }
-        ensures some { IfSome result (λ stamp. SawCause seat.new.me.0.seen base stamp × (stamp ≤ 65536)) }
-        ensures none { IfNone result ((stamp : ℕ) → ¬ SawCause seat.old.me.0.seen base stamp) }
-    {
-        match base {
-            Base::Always(_) => Some(0),
-            Base::OnNack(nack) => {
-                let joined = self.enabled_by(seat, nack)?;
-                Some(joined.stamp)
-            }
-            Base::Send(..) | Base::Recv(_) | Base::Never => None,
+/// The stamp of what lets a base event commit its row alone: 0 for an always, and for a nack that
+/// is enabled that of the row which enabled it.
+pub(crate) fn cause_of<M: Resident>(
+    board: &Board<M>,
+    seat: &mut Seat<Option<M>, View<M>>,
+    base: Base,
+) -> Option<u32>
+    requires sits { Sits board.now seat.old }
+    ensures sits { StaysSeated board.now seat.old seat.new }
+    ensures stays { seat.new.me.0 ≡ at_stage seat.old.me.0.stage seat.new.me.0.seen seat.old.me.0 }
+    ensures learns { LearnsOf (IsBoundRow seat.new.me.0.seen base) (λ n. base ≡ OnNack n) seat.old.me.0.seen seat.new.me.0.seen }
+    ensures some { IfSome result (λ stamp. SawCause seat.new.me.0.seen base stamp × (stamp ≤ 65536)) }
+    ensures none { IfNone result ((stamp : ℕ) → ¬ SawCause seat.old.me.0.seen base stamp) }
+{
+    match base {
+        Base::Always(_) => Some(0),
+        Base::OnNack(nack) => {
+            let joined = enabled_by(board, seat, nack)?;
+            Some(joined.stamp)
         }
+        Base::Send(..) | Base::Recv(_) | Base::Never => None,
     }
+}
 
-    /// How the row that enabled the nack is committed: the nack is bound to it, and it chose an offer
-    /// outside the nack's scope.
-    fn enabled_by(&self, seat: &mut Seat<Option<M>, View<M>>, nack: NackName) -> Option<Joined>
-        requires sits { Sits self.now seat.old }
-        ensures sits { StaysSeated self.now seat.old seat.new }
-        ensures stays { seat.new.me.0 ≡ at_stage seat.old.me.0.stage seat.new.me.0.seen seat.old.me.0 }
-        ensures learns { LearnsOf (λ q. (b : Binding) × Has seat.new.me.0.seen.bound (nack, b) × (q ≡ bound_row nack b)) (λ n. n ≡ nack) seat.old.me.0.seen seat.new.me.0.seen }
-        ensures some { IfSome result (SawEnabled seat.new.me.0.seen nack) }
-        ensures none { IfNone result ((j : Joined) → ¬ SawEnabled seat.old.me.0.seen nack j) }
-    {
-        let bound = self.bound(seat, nack)?;
-        let row = Row {
-            thread: nack.thread,
-            sync: bound.sync,
-        };
-        let joined = self.committed(seat, row)?;
-        let chosen = self.opened_offer(seat, row, joined.own)?;
-        if chosen.has_scope(bound.scope) {
-            return None;
-        }
-        Some(joined)
+/// How the row that enabled the nack is committed: the nack is bound to it, and it chose an offer
+/// outside the nack's scope.
+fn enabled_by<M: Resident>(
+    board: &Board<M>,
+    seat: &mut Seat<Option<M>, View<M>>,
+    nack: NackName,
+) -> Option<Joined>
+    requires sits { Sits board.now seat.old }
+    ensures sits { StaysSeated board.now seat.old seat.new }
+    ensures stays { seat.new.me.0 ≡ at_stage seat.old.me.0.stage seat.new.me.0.seen seat.old.me.0 }
+    ensures learns { LearnsOf (λ q. (b : Binding) × Has seat.new.me.0.seen.bound (nack, b) × (q ≡ bound_row nack b)) (λ n. n ≡ nack) seat.old.me.0.seen seat.new.me.0.seen }
+    ensures some { IfSome result (SawEnabled seat.new.me.0.seen nack) }
+    ensures none { IfNone result ((j : Joined) → ¬ SawEnabled seat.old.me.0.seen nack j) }
+{
+    let bound = binding_of(board, seat, nack)?;
+    let row = Row {
+        thread: nack.thread,
+        sync: bound.sync,
+    };
+    let joined = committed(board, seat, row)?;
+    let chosen = opened_offer(board, seat, row, joined.own)?;
+    if chosen.has_scope(bound.scope) {
+        return None;
     }
+    Some(joined)
+}
 
-    /// How the row is committed, if it is.
-    fn committed(&self, seat: &mut Seat<Option<M>, View<M>>, row: Row) -> Option<Joined>
-        requires { Sits self.now seat.old × HasRow self.now row }
-        ensures sits { StaysSeated self.now seat.old seat.new }
-        ensures stays { seat.new.me.0 ≡ at_stage seat.old.me.0.stage seat.new.me.0.seen seat.old.me.0 }
-        ensures learns { Learns (λ q. q ≡ row) seat.old.me.0.seen seat.new.me.0.seen }
-        ensures some { IfSome result (λ j. Has seat.new.me.0.seen.joined (row, j) × Has seat.new.me.0.seen.opened row) }
-        ensures same { (j : Joined) → Has seat.old.me.0.seen.joined (row, j) → result ≡ Some j }
-    {
-        match self.look(seat, row) {
-            Cell::Synched(joined) | Cell::Taken(joined) => Some(joined),
-            Cell::Fresh | Cell::Waiting | Cell::Claimed => None,
-        }
+/// How the row is committed, if it is.
+fn committed<M: Resident>(
+    board: &Board<M>,
+    seat: &mut Seat<Option<M>, View<M>>,
+    row: Row,
+) -> Option<Joined>
+    requires { Sits board.now seat.old × HasRow board.now row }
+    ensures sits { StaysSeated board.now seat.old seat.new }
+    ensures stays { seat.new.me.0 ≡ at_stage seat.old.me.0.stage seat.new.me.0.seen seat.old.me.0 }
+    ensures learns { Learns (λ q. q ≡ row) seat.old.me.0.seen seat.new.me.0.seen }
+    ensures some { IfSome result (λ j. Has seat.new.me.0.seen.joined (row, j) × Has seat.new.me.0.seen.opened row) }
+    ensures same { (j : Joined) → Has seat.old.me.0.seen.joined (row, j) → result ≡ Some j }
+{
+    match board.look(seat, row) {
+        Cell::Synched(joined) | Cell::Taken(joined) => Some(joined),
+        Cell::Fresh | Cell::Waiting | Cell::Claimed => None,
     }
 }

@@ -1,224 +1,231 @@
 //! What a pass reads of a row by several looks.
 
 ghost use Rattle.std.specs.Prelude.{ℕ, ◌≡◌, ◌⊎◌, ◌+◌, ◌*◌, ◌<◌, ◌≤◌, true, IfSome, IfNone, IsTrue, None, Some, is_some};
-ghost use Rattle.words.specs.Words.{atom_of};
-ghost use Rattle.words.specs.declared.Direction.{Direction};
-ghost use Rattle.words.specs.declared.Message.{Message};
-ghost use Rattle.words.specs.declared.Base.TheVariants.{Recv, Send};
-ghost use Rattle.words.specs.declared.Offer.{Offer};
-ghost use Rattle.words.specs.declared.Row.{Row};
+ghost use Rattle.protocol_values.specs.Words.{atom_of};
+ghost use Rattle.protocol_values.specs.declared.Direction.{Direction};
+ghost use Rattle.protocol_values.specs.declared.Message.{Message};
+ghost use Rattle.protocol_values.specs.declared.Base.TheVariants.{Recv, Send};
+ghost use Rattle.protocol_values.specs.declared.Offer.{Offer};
+ghost use Rattle.protocol_values.specs.declared.Row.{Row};
 ghost use Rattle.protocol.specs.Tables.{names};
-ghost use Rattle.cell.specs.Seats.{Sits, HasRow, StaysSeated};
-ghost use Rattle.cell.specs.Sight.{Has, HaveDirection, HaveOffer, HasSeenLast, IsBefore, IsKnownOpen, IsPartnerOf, IsResult, LackOffer, SawCommitted, SeesDirection, SeesOffer, Learns, atoms_told};
-ghost use Rattle.cell.specs.Views.{at_stage};
+ghost use Rattle.cell_table.specs.Seats.{Sits, HasRow, StaysSeated};
+ghost use Rattle.cell_table.specs.Sight.{Has, HaveDirection, HaveOffer, HasSeenLast, IsBefore, IsKnownOpen, IsPartnerOf, IsResult, LackOffer, SawCommitted, SeesDirection, SeesOffer, Learns, atoms_told};
+ghost use Rattle.cell_table.specs.Views.{at_stage};
 
-use crate::board::Board;
-use crate::view::View;
 use atomic_table::Seat;
-use protocol::{Base, Cell, Direction, Joined, Message, Offer, Resident, Row, unpack_count};
-use words::{read_head, read_offer};
+use cell_table::{Board, View};
+use protocol::Resident;
+use protocol_values::{
+    Base, Cell, Direction, Joined, Message, Offer, Row, read_head, read_offer, unpack_count,
+};
 
-impl<M: Resident> Board<M> {
-    /// Offer n of the row, where it is opened and has one.
-    pub(crate) fn offer(
-        &self,
-        seat: &mut Seat<Option<M>, View<M>>,
-        row: Row,
-        n: u8,
-    ) -> Option<Offer>
-        requires { Sits self.now seat.old × HasRow self.now row }
-        ensures sits { StaysSeated self.now seat.old seat.new }
-        ensures stays { seat.new.me.0 ≡ at_stage seat.old.me.0.stage seat.new.me.0.seen seat.old.me.0 }
-        ensures learns { Learns (λ q. q ≡ row) seat.old.me.0.seen seat.new.me.0.seen }
-        ensures some { IfSome result (λ o. Has seat.new.me.0.seen.opened row × HaveOffer seat.new.me.0.seen.words row n o) }
-        ensures none { IfNone result (IsKnownOpen seat.old.me.0.seen row → LackOffer seat.new.me.0.seen.words row n) }
-        ensures same { (o : Offer) → SeesOffer seat.new.me.0.seen row n o → result ≡ Some o }
-        ensures unopened { Has seat.old.me.0.seen.held row → ¬ Has seat.old.me.0.seen.opened row → (result ≡ None) × (seat.new.me.0.seen ≡ seat.old.me.0.seen) }
-    {
-        if self.look(seat, row) == Cell::Fresh {
-            return None;
-        }
-        self.opened_offer(seat, row, n)
+/// Offer n of the row, where it is opened and has one.
+pub(crate) fn offer_of<M: Resident>(
+    board: &Board<M>,
+    seat: &mut Seat<Option<M>, View<M>>,
+    row: Row,
+    n: u8,
+) -> Option<Offer>
+    requires { Sits board.now seat.old × HasRow board.now row }
+    ensures sits { StaysSeated board.now seat.old seat.new }
+    ensures stays { seat.new.me.0 ≡ at_stage seat.old.me.0.stage seat.new.me.0.seen seat.old.me.0 }
+    ensures learns { Learns (λ q. q ≡ row) seat.old.me.0.seen seat.new.me.0.seen }
+    ensures some { IfSome result (λ o. Has seat.new.me.0.seen.opened row × HaveOffer seat.new.me.0.seen.words row n o) }
+    ensures none { IfNone result (IsKnownOpen seat.old.me.0.seen row → LackOffer seat.new.me.0.seen.words row n) }
+    ensures same { (o : Offer) → SeesOffer seat.new.me.0.seen row n o → result ≡ Some o }
+    ensures unopened { Has seat.old.me.0.seen.held row → ¬ Has seat.old.me.0.seen.opened row → (result ≡ None) × (seat.new.me.0.seen ≡ seat.old.me.0.seen) }
+{
+    if board.look(seat, row) == Cell::Fresh {
+        return None;
     }
+    opened_offer(board, seat, row, n)
+}
 
-    /// Offer n of a row that was seen opened, where it has one.
-    pub(crate) fn opened_offer(
-        &self,
-        seat: &mut Seat<Option<M>, View<M>>,
-        row: Row,
-        n: u8,
-    ) -> Option<Offer>
-        requires { Sits self.now seat.old × HasRow self.now row × Has seat.old.me.0.seen.opened row }
-        ensures sits { StaysSeated self.now seat.old seat.new }
-        ensures stays { seat.new.me.0 ≡ at_stage seat.old.me.0.stage seat.new.me.0.seen seat.old.me.0 }
-        ensures learns { Learns (λ q. q ≡ row) seat.old.me.0.seen seat.new.me.0.seen }
-        ensures some { IfSome result (λ o. Has seat.new.me.0.seen.opened row × HaveOffer seat.new.me.0.seen.words row n o) }
-        ensures none { IfNone result (LackOffer seat.new.me.0.seen.words row n) }
-        ensures same { (o : Offer) → SeesOffer seat.new.me.0.seen row n o → result ≡ Some o }
-    {
-        let count = unpack_count(self.read(seat, row, 1))?;
-        if n >= count {
-            return None;
-        }
-        let head = self.read(seat, row, 2 + 4 * n);
-        let atoms = atoms_told(read_head(head).direction);
-        let first = self.read_atom(seat, row, n, 1, atoms >= 1);
-        let second = self.read_atom(seat, row, n, 2, atoms >= 2);
-        let third = self.read_atom(seat, row, n, 3, atoms >= 3);
-        Some(read_offer(head, first, second, third))
+/// Offer n of a row that was seen opened, where it has one.
+pub(crate) fn opened_offer<M: Resident>(
+    board: &Board<M>,
+    seat: &mut Seat<Option<M>, View<M>>,
+    row: Row,
+    n: u8,
+) -> Option<Offer>
+    requires { Sits board.now seat.old × HasRow board.now row × Has seat.old.me.0.seen.opened row }
+    ensures sits { StaysSeated board.now seat.old seat.new }
+    ensures stays { seat.new.me.0 ≡ at_stage seat.old.me.0.stage seat.new.me.0.seen seat.old.me.0 }
+    ensures learns { Learns (λ q. q ≡ row) seat.old.me.0.seen seat.new.me.0.seen }
+    ensures some { IfSome result (λ o. Has seat.new.me.0.seen.opened row × HaveOffer seat.new.me.0.seen.words row n o) }
+    ensures none { IfNone result (LackOffer seat.new.me.0.seen.words row n) }
+    ensures same { (o : Offer) → SeesOffer seat.new.me.0.seen row n o → result ≡ Some o }
+{
+    let count = unpack_count(board.read(seat, row, 1))?;
+    if n >= count {
+        return None;
     }
+    let head = board.read(seat, row, 2 + 4 * n);
+    let atoms = atoms_told(read_head(head).direction);
+    let first = read_atom(board, seat, row, n, 1, atoms >= 1);
+    let second = read_atom(board, seat, row, n, 2, atoms >= 2);
+    let third = read_atom(board, seat, row, n, 3, atoms >= 3);
+    Some(read_offer(head, first, second, third))
+}
 
-    /// The word of atom k, 1 to 3, of offer n of a row that was seen opened, where the offer has it: else 0,
-    /// and nothing is read.
-    fn read_atom(
-        &self,
-        seat: &mut Seat<Option<M>, View<M>>,
-        row: Row,
-        n: u8,
-        k: u8,
-        has: bool,
-    ) -> u64
-        requires sits { Sits self.now seat.old × HasRow self.now row × Has seat.old.me.0.seen.opened row }
-        requires place { (n < 8) × (1 ≤ k) × (k < 4) }
-        ensures sits { StaysSeated self.now seat.old seat.new }
-        ensures stays { seat.new.me.0 ≡ at_stage seat.old.me.0.stage seat.new.me.0.seen seat.old.me.0 }
-        ensures learns { Learns (λ q. q ≡ row) seat.old.me.0.seen seat.new.me.0.seen }
-        ensures read { IsTrue has → Has seat.new.me.0.seen.words (row, 2 + k + 4 * n, result) }
-        ensures atom { is_some (atom_of result) ≡ true }
-    {
-        if has {
-            self.read(seat, row, 2 + k + 4 * n)
-        } else {
-            0
-        }
+/// The word of atom k, 1 to 3, of offer n of a row that was seen opened, where the offer has it: else 0,
+/// and nothing is read.
+fn read_atom<M: Resident>(
+    board: &Board<M>,
+    seat: &mut Seat<Option<M>, View<M>>,
+    row: Row,
+    n: u8,
+    k: u8,
+    has: bool,
+) -> u64
+    requires sits { Sits board.now seat.old × HasRow board.now row × Has seat.old.me.0.seen.opened row }
+    requires place { (n < 8) × (1 ≤ k) × (k < 4) }
+    ensures sits { StaysSeated board.now seat.old seat.new }
+    ensures stays { seat.new.me.0 ≡ at_stage seat.old.me.0.stage seat.new.me.0.seen seat.old.me.0 }
+    ensures learns { Learns (λ q. q ≡ row) seat.old.me.0.seen seat.new.me.0.seen }
+    ensures read { IsTrue has → Has seat.new.me.0.seen.words (row, 2 + k + 4 * n, result) }
+    ensures atom { is_some (atom_of result) ≡ true }
+{
+    if has {
+        board.read(seat, row, 2 + k + 4 * n)
+    } else {
+        0
     }
+}
 
-    /// The direction of offer n of the row, where it is opened and has one.
-    pub(crate) fn direction(
-        &self,
-        seat: &mut Seat<Option<M>, View<M>>,
-        row: Row,
-        n: u8,
-    ) -> Option<Direction>
-        requires { Sits self.now seat.old × HasRow self.now row }
-        ensures sits { StaysSeated self.now seat.old seat.new }
-        ensures stays { seat.new.me.0 ≡ at_stage seat.old.me.0.stage seat.new.me.0.seen seat.old.me.0 }
-        ensures learns { Learns (λ q. q ≡ row) seat.old.me.0.seen seat.new.me.0.seen }
-        ensures some { IfSome result (λ d. Has seat.new.me.0.seen.opened row × HaveDirection seat.new.me.0.seen.words row n d) }
-        ensures same { (d : Direction) → SeesDirection seat.new.me.0.seen row n d → result ≡ Some d }
-    {
-        if self.look(seat, row) == Cell::Fresh {
-            return None;
-        }
-        self.opened_direction(seat, row, n)
+/// The direction of offer n of the row, where it is opened and has one.
+pub(crate) fn direction_of<M: Resident>(
+    board: &Board<M>,
+    seat: &mut Seat<Option<M>, View<M>>,
+    row: Row,
+    n: u8,
+) -> Option<Direction>
+    requires { Sits board.now seat.old × HasRow board.now row }
+    ensures sits { StaysSeated board.now seat.old seat.new }
+    ensures stays { seat.new.me.0 ≡ at_stage seat.old.me.0.stage seat.new.me.0.seen seat.old.me.0 }
+    ensures learns { Learns (λ q. q ≡ row) seat.old.me.0.seen seat.new.me.0.seen }
+    ensures some { IfSome result (λ d. Has seat.new.me.0.seen.opened row × HaveDirection seat.new.me.0.seen.words row n d) }
+    ensures same { (d : Direction) → SeesDirection seat.new.me.0.seen row n d → result ≡ Some d }
+{
+    if board.look(seat, row) == Cell::Fresh {
+        return None;
     }
+    opened_direction(board, seat, row, n)
+}
 
-    /// The direction of offer n of a row that was seen opened, where it has one. Its head alone is read.
-    pub(crate) fn opened_direction(
-        &self,
-        seat: &mut Seat<Option<M>, View<M>>,
-        row: Row,
-        n: u8,
-    ) -> Option<Direction>
-        requires { Sits self.now seat.old × HasRow self.now row × Has seat.old.me.0.seen.opened row }
-        ensures sits { StaysSeated self.now seat.old seat.new }
-        ensures stays { seat.new.me.0 ≡ at_stage seat.old.me.0.stage seat.new.me.0.seen seat.old.me.0 }
-        ensures learns { Learns (λ q. q ≡ row) seat.old.me.0.seen seat.new.me.0.seen }
-        ensures some { IfSome result (λ d. Has seat.new.me.0.seen.opened row × HaveDirection seat.new.me.0.seen.words row n d) }
-        ensures none { IfNone result (LackOffer seat.new.me.0.seen.words row n) }
-        ensures same { (d : Direction) → SeesDirection seat.new.me.0.seen row n d → result ≡ Some d }
-    {
-        let count = unpack_count(self.read(seat, row, 1))?;
-        if n >= count {
-            return None;
-        }
-        let head = self.read(seat, row, 2 + 4 * n);
-        Some(read_head(head).direction)
+/// The direction of offer n of a row that was seen opened, where it has one. Its head alone is read.
+pub(crate) fn opened_direction<M: Resident>(
+    board: &Board<M>,
+    seat: &mut Seat<Option<M>, View<M>>,
+    row: Row,
+    n: u8,
+) -> Option<Direction>
+    requires { Sits board.now seat.old × HasRow board.now row × Has seat.old.me.0.seen.opened row }
+    ensures sits { StaysSeated board.now seat.old seat.new }
+    ensures stays { seat.new.me.0 ≡ at_stage seat.old.me.0.stage seat.new.me.0.seen seat.old.me.0 }
+    ensures learns { Learns (λ q. q ≡ row) seat.old.me.0.seen seat.new.me.0.seen }
+    ensures some { IfSome result (λ d. Has seat.new.me.0.seen.opened row × HaveDirection seat.new.me.0.seen.words row n d) }
+    ensures none { IfNone result (LackOffer seat.new.me.0.seen.words row n) }
+    ensures same { (d : Direction) → SeesDirection seat.new.me.0.seen row n d → result ≡ Some d }
+{
+    let count = unpack_count(board.read(seat, row, 1))?;
+    if n >= count {
+        return None;
     }
+    let head = board.read(seat, row, 2 + 4 * n);
+    Some(read_head(head).direction)
+}
 
-    /// The stamp of the row before this one in its thread, and 0 where there is none. The row was
-    /// seen opened, so the one before it is committed.
-    pub(crate) fn last_stamp(&self, seat: &mut Seat<Option<M>, View<M>>, row: Row) -> u32
-        requires sits { Sits self.now seat.old × HasRow self.now row }
-        requires opened { Has seat.old.me.0.seen.opened row }
-        ensures sits { StaysSeated self.now seat.old seat.new }
-        ensures stays { seat.new.me.0 ≡ at_stage seat.old.me.0.stage seat.new.me.0.seen seat.old.me.0 }
-        ensures learns { Learns (IsBefore row) seat.old.me.0.seen seat.new.me.0.seen }
-        ensures last { HasSeenLast seat.new.me.0.seen row result }
-        ensures small { result ≤ 65536 }
-    {
-        if row.sync == 0 {
-            return 0;
-        }
-        let before = Row {
-            thread: row.thread,
-            sync: row.sync - 1,
-        };
-        match self.look(seat, before) {
-            Cell::Synched(joined) | Cell::Taken(joined) => joined.stamp,
-            Cell::Fresh | Cell::Waiting | Cell::Claimed => 0,
-        }
+/// The stamp of the row before this one in its thread, and 0 where there is none. The row was
+/// seen opened, so the one before it is committed.
+pub(crate) fn last_stamp<M: Resident>(
+    board: &Board<M>,
+    seat: &mut Seat<Option<M>, View<M>>,
+    row: Row,
+) -> u32
+    requires sits { Sits board.now seat.old × HasRow board.now row }
+    requires opened { Has seat.old.me.0.seen.opened row }
+    ensures sits { StaysSeated board.now seat.old seat.new }
+    ensures stays { seat.new.me.0 ≡ at_stage seat.old.me.0.stage seat.new.me.0.seen seat.old.me.0 }
+    ensures learns { Learns (IsBefore row) seat.old.me.0.seen seat.new.me.0.seen }
+    ensures last { HasSeenLast seat.new.me.0.seen row result }
+    ensures small { result ≤ 65536 }
+{
+    if row.sync == 0 {
+        return 0;
     }
-
-    /// What the row's thread gets, where the row is committed.
-    pub(crate) fn result(&self, seat: &mut Seat<Option<M>, View<M>>, row: Row) -> Option<Message>
-        requires { Sits self.now seat.old × HasRow self.now row }
-        ensures sits { StaysSeated self.now seat.old seat.new }
-        ensures stays { seat.new.me.0 ≡ at_stage seat.old.me.0.stage seat.new.me.0.seen seat.old.me.0 }
-        ensures learns { Learns (IsPartnerOf seat.new.me.0.seen row) seat.old.me.0.seen seat.new.me.0.seen }
-        ensures some { IfSome result (IsResult seat.new.me.0.seen row) }
-        ensures none { IfNone result (¬ SawCommitted seat.old.me.0.seen row) }
-        ensures same { (got : Message) → IsResult seat.old.me.0.seen row got → result ≡ Some got }
-        ensures unopened { Has seat.old.me.0.seen.held row → ¬ Has seat.old.me.0.seen.opened row → (result ≡ None) × (seat.new.me.0.seen ≡ seat.old.me.0.seen) }
-    {
-        match self.look(seat, row) {
-            Cell::Synched(joined) | Cell::Taken(joined) => self.gained(seat, row, joined),
-            Cell::Fresh | Cell::Waiting | Cell::Claimed => None,
-        }
+    let before = Row {
+        thread: row.thread,
+        sync: row.sync - 1,
+    };
+    match board.look(seat, before) {
+        Cell::Synched(joined) | Cell::Taken(joined) => joined.stamp,
+        Cell::Fresh | Cell::Waiting | Cell::Claimed => 0,
     }
+}
 
-    /// What the thread of a committed row gets.
-    fn gained(
-        &self,
-        seat: &mut Seat<Option<M>, View<M>>,
-        row: Row,
-        joined: Joined,
-    ) -> Option<Message>
-        requires sits { Sits self.now seat.old × HasRow self.now row }
-        requires committed { Has seat.old.me.0.seen.joined (row, joined) × Has seat.old.me.0.seen.opened row }
-        ensures sits { StaysSeated self.now seat.old seat.new }
-        ensures stays { seat.new.me.0 ≡ at_stage seat.old.me.0.stage seat.new.me.0.seen seat.old.me.0 }
-        ensures learns { Learns (λ q. (q ≡ row) ⊎ (names (Some joined) q ≡ true)) seat.old.me.0.seen seat.new.me.0.seen }
-        ensures got { (got : Message) × (result ≡ Some got) × IsResult seat.new.me.0.seen row got }
-    {
-        match self.opened_offer(seat, row, joined.own)?.base {
-            Base::Always(message) => Some(message),
-            Base::Recv(_) => self.received(seat, row, joined),
-            Base::Send(..) | Base::OnNack(_) | Base::Never => Some(Message::Empty),
-        }
+/// What the row's thread gets, where the row is committed.
+pub(crate) fn result_of<M: Resident>(
+    board: &Board<M>,
+    seat: &mut Seat<Option<M>, View<M>>,
+    row: Row,
+) -> Option<Message>
+    requires { Sits board.now seat.old × HasRow board.now row }
+    ensures sits { StaysSeated board.now seat.old seat.new }
+    ensures stays { seat.new.me.0 ≡ at_stage seat.old.me.0.stage seat.new.me.0.seen seat.old.me.0 }
+    ensures learns { Learns (IsPartnerOf seat.new.me.0.seen row) seat.old.me.0.seen seat.new.me.0.seen }
+    ensures some { IfSome result (IsResult seat.new.me.0.seen row) }
+    ensures none { IfNone result (¬ SawCommitted seat.old.me.0.seen row) }
+    ensures same { (got : Message) → IsResult seat.old.me.0.seen row got → result ≡ Some got }
+    ensures unopened { Has seat.old.me.0.seen.held row → ¬ Has seat.old.me.0.seen.opened row → (result ≡ None) × (seat.new.me.0.seen ≡ seat.old.me.0.seen) }
+{
+    match board.look(seat, row) {
+        Cell::Synched(joined) | Cell::Taken(joined) => gained(board, seat, row, joined),
+        Cell::Fresh | Cell::Waiting | Cell::Claimed => None,
     }
+}
 
-    /// What the partner of a committed row sent to it.
-    fn received(
-        &self,
-        seat: &mut Seat<Option<M>, View<M>>,
-        row: Row,
-        joined: Joined,
-    ) -> Option<Message>
-        requires sits { Sits self.now seat.old × HasRow self.now row }
-        requires committed { Has seat.old.me.0.seen.joined (row, joined) }
-        requires receives { (mine : Offer) × (chan : ℕ) × HaveOffer seat.old.me.0.seen.words row joined.own mine × (mine.base ≡ Recv chan) }
-        ensures sits { StaysSeated self.now seat.old seat.new }
-        ensures stays { seat.new.me.0 ≡ at_stage seat.old.me.0.stage seat.new.me.0.seen seat.old.me.0 }
-        ensures learns { Learns (λ q. names (Some joined) q ≡ true) seat.old.me.0.seen seat.new.me.0.seen }
-        ensures sent { (partner : Row × ℕ) × (chan : ℕ) × (theirs : Offer) × (got : Message) × (result ≡ Some got) × (joined.partner ≡ Some partner) × HaveOffer seat.new.me.0.seen.words partner.0 partner.1 theirs × (theirs.base ≡ Send chan got) }
-    {
-        let _ = row;
-        let (partner, offer) = joined.partner?;
-        match self.offer(seat, partner, offer)?.base {
-            Base::Send(_, message) => Some(message),
-            _ => None,
-        }
+/// What the thread of a committed row gets.
+fn gained<M: Resident>(
+    board: &Board<M>,
+    seat: &mut Seat<Option<M>, View<M>>,
+    row: Row,
+    joined: Joined,
+) -> Option<Message>
+    requires sits { Sits board.now seat.old × HasRow board.now row }
+    requires committed { Has seat.old.me.0.seen.joined (row, joined) × Has seat.old.me.0.seen.opened row }
+    ensures sits { StaysSeated board.now seat.old seat.new }
+    ensures stays { seat.new.me.0 ≡ at_stage seat.old.me.0.stage seat.new.me.0.seen seat.old.me.0 }
+    ensures learns { Learns (λ q. (q ≡ row) ⊎ (names (Some joined) q ≡ true)) seat.old.me.0.seen seat.new.me.0.seen }
+    ensures got { (got : Message) × (result ≡ Some got) × IsResult seat.new.me.0.seen row got }
+{
+    match opened_offer(board, seat, row, joined.own)?.base {
+        Base::Always(message) => Some(message),
+        Base::Recv(_) => received(board, seat, row, joined),
+        Base::Send(..) | Base::OnNack(_) | Base::Never => Some(Message::Empty),
+    }
+}
+
+/// What the partner of a committed row sent to it.
+fn received<M: Resident>(
+    board: &Board<M>,
+    seat: &mut Seat<Option<M>, View<M>>,
+    row: Row,
+    joined: Joined,
+) -> Option<Message>
+    requires sits { Sits board.now seat.old × HasRow board.now row }
+    requires committed { Has seat.old.me.0.seen.joined (row, joined) }
+    requires receives { (mine : Offer) × (chan : ℕ) × HaveOffer seat.old.me.0.seen.words row joined.own mine × (mine.base ≡ Recv chan) }
+    ensures sits { StaysSeated board.now seat.old seat.new }
+    ensures stays { seat.new.me.0 ≡ at_stage seat.old.me.0.stage seat.new.me.0.seen seat.old.me.0 }
+    ensures learns { Learns (λ q. names (Some joined) q ≡ true) seat.old.me.0.seen seat.new.me.0.seen }
+    ensures sent { (partner : Row × ℕ) × (chan : ℕ) × (theirs : Offer) × (got : Message) × (result ≡ Some got) × (joined.partner ≡ Some partner) × HaveOffer seat.new.me.0.seen.words partner.0 partner.1 theirs × (theirs.base ≡ Send chan got) }
+{
+    let _ = row;
+    let (partner, offer) = joined.partner?;
+    match offer_of(board, seat, partner, offer)?.base {
+        Base::Send(_, message) => Some(message),
+        _ => None,
     }
 }
 

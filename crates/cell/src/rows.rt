@@ -1,12 +1,12 @@
 //! A set of rows of a table. Its room is taken when it is made.
 
 ghost use Rattle.std.specs.Prelude.{◌≡◌, ◌*◌, ◌<◌, ◌↔◌, IfOk, IsTrue, List, [], ◌∷◌, length};
-ghost use Rattle.words.specs.declared.Row.{Row};
+ghost use Rattle.protocol_values.specs.declared.Row.{Row};
 ghost use Rattle.protocol.specs.Tables.{number_of};
 ghost use Rattle.cell.specs.Flags.{AreFlags};
-ghost use Rattle.cell.specs.Sight.{Has};
+ghost use Rattle.cell_table.specs.Sight.{Has};
 
-use protocol::Row;
+use protocol_values::Row;
 use std::alloc::{AllocError, Global};
 
 /// A flag for each row of the table, one thread's rows after another's.

@@ -10,10 +10,10 @@ use Rattle.event.specs.declared.Resolved.TheOpen.{Resolved-F}
 use Rattle.event.specs.declared.Resolved.TheOpen as level
 use Rattle.event.specs.declared.Resolved.TheVariants.{outs-Send, outs-Recv, outs-Always, outs-Never, outs-OnNack, outs-Choose, outs-Wrap, outs-Scope, rolls-Choose, rolls-Wrap, rolls-Scope}
 use Rattle.event.specs.declared.Resolved.TheViews.{out-Resolved, roll-Resolved, roll-out-Resolved}
-use Rattle.words.specs.declared.Base.{Base}
-use Rattle.words.specs.declared.Base.TheVariants as base
-use Rattle.words.specs.declared.Message.{Message}
-use Rattle.words.specs.declared.NackName.{NackName}
+use Rattle.protocol_values.specs.declared.Base.{Base}
+use Rattle.protocol_values.specs.declared.Base.TheVariants as base
+use Rattle.protocol_values.specs.declared.Message.{Message}
+use Rattle.protocol_values.specs.declared.NackName.{NackName}
 
 tree_of_level : (e : Resolved) (x : Resolved-F Resolved) → out-Resolved e ≡ x → tree_of e ≡ tree_level (map-Resolved Resolved Tree tree_of x)
 unfolding tree_of

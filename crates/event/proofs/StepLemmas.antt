@@ -10,32 +10,32 @@ use Rattle.std.proofs.lemmas.Option.{none-some, same_Some}
 use Rattle.event.proofs.TreeLemmas.{map-same, map-map, length-bases_from, base_count-Wrap, base_count-Scope, wraps_at-first, wraps_at-Wrap, wraps_at-Scope, mask-bits}
 use Rattle.event.specs.Steps.{LeavesRoom, LacksRoom, offer_within, offers_within, Searches}
 use Rattle.event.specs.Tree.{Tree, Single, Or, Wrap, Scope, BaseEvent, with_wrap, with_scope, bases_from, bases, base_count, scope_count, mask, IsMaskOf, offer_of, offers, wraps_at}
-use Rattle.event.specs.declared.Place.{Place}
-use Rattle.event.specs.declared.Place.TheVariants.{Within, Behind}
-use Rattle.event.specs.declared.Room.{Room}
-use Rattle.words.specs.declared.Base.{Base}
-use Rattle.words.specs.declared.Offer.{Offer}
+use Rattle.event.specs.declared.Offset.{Offset}
+use Rattle.event.specs.declared.Offset.TheVariants.{Within, Behind}
+use Rattle.event.specs.declared.Spare.{Spare}
+use Rattle.protocol_values.specs.declared.Base.{Base}
+use Rattle.protocol_values.specs.declared.Offer.{Offer}
 
 -- ROOM
 
-pub leaves-Wrap : (room : Room) (r : Option Room) (wrap : ℕ) (t : Tree) → IfSome r (LeavesRoom room t) → IfSome r (LeavesRoom room (Wrap wrap t))
-leaves-Wrap room None wrap t h = tt
-leaves-Wrap room (Some left) wrap t h = (omega (arith, h.0, base_count-Wrap wrap t), h.1)
+pub leaves-Wrap : (spare : Spare) (r : Option Spare) (wrap : ℕ) (t : Tree) → IfSome r (LeavesRoom spare t) → IfSome r (LeavesRoom spare (Wrap wrap t))
+leaves-Wrap spare None wrap t h = tt
+leaves-Wrap spare (Some left) wrap t h = (omega (arith, h.0, base_count-Wrap wrap t), h.1)
 
-pub lacks-Wrap : (room : Room) (r : Option Room) (wrap : ℕ) (t : Tree) → IfNone r (LacksRoom room t) → IfNone r (LacksRoom room (Wrap wrap t))
-lacks-Wrap room None wrap t h = ⊎_elim (λ less. inl (omega (arith, less, base_count-Wrap wrap t))) inr h
-lacks-Wrap room (Some left) wrap t h = tt
+pub lacks-Wrap : (spare : Spare) (r : Option Spare) (wrap : ℕ) (t : Tree) → IfNone r (LacksRoom spare t) → IfNone r (LacksRoom spare (Wrap wrap t))
+lacks-Wrap spare None wrap t h = ⊎_elim (λ less. inl (omega (arith, less, base_count-Wrap wrap t))) inr h
+lacks-Wrap spare (Some left) wrap t h = tt
 
-module _ (room inner : Room) (r : Option Room) (nack : ℕ) (t : Tree) (bases : inner.bases ≡ room.bases)
-    (scopes : inner.scopes + 1 ≡ room.scopes) where
-  pub leaves-Scope : IfSome r (LeavesRoom inner t) → IfSome r (LeavesRoom room (Scope nack t))
-  leaves-Scope = elim r as (λ r. IfSome r (LeavesRoom inner t) → IfSome r (LeavesRoom room (Scope nack t))) [
+module _ (spare inner : Spare) (r : Option Spare) (nack : ℕ) (t : Tree) (bases : inner.bases ≡ spare.bases)
+    (scopes : inner.scopes + 1 ≡ spare.scopes) where
+  pub leaves-Scope : IfSome r (LeavesRoom inner t) → IfSome r (LeavesRoom spare (Scope nack t))
+  leaves-Scope = elim r as (λ r. IfSome r (LeavesRoom inner t) → IfSome r (LeavesRoom spare (Scope nack t))) [
     | None ↦ λ h. tt
     | Some left ↦ λ h. (omega (arith, h.0, bases, base_count-Scope nack t), omega (arith, h.1, scopes))
   ]
 
-  pub lacks-Scope : IfNone r (LacksRoom inner t) → IfNone r (LacksRoom room (Scope nack t))
-  lacks-Scope = elim r as (λ r. IfNone r (LacksRoom inner t) → IfNone r (LacksRoom room (Scope nack t))) [
+  pub lacks-Scope : IfNone r (LacksRoom inner t) → IfNone r (LacksRoom spare (Scope nack t))
+  lacks-Scope = elim r as (λ r. IfNone r (LacksRoom inner t) → IfNone r (LacksRoom spare (Scope nack t))) [
     | None ↦ λ h. ⊎_elim (λ less. inl (omega (arith, less, bases, base_count-Scope nack t))) (λ less. inr (omega (arith, less, scopes))) h
     | Some left ↦ λ h. tt
   ]
@@ -117,7 +117,7 @@ pub searches_past-Wrap : (wrap : ℕ) (t : Tree) (n left : ℕ) (old new : List 
     Searches (Wrap wrap t) n old new (Behind left)
 searches_past-Wrap wrap t n left old new h = (omega (arith, h.0, base_count-Wrap wrap t), h.1)
 
-pub searches-Scope : (nack : ℕ) (t : Tree) (n : ℕ) (old new : List ℕ) (place : Place) → Searches t n old new place →
+pub searches-Scope : (nack : ℕ) (t : Tree) (n : ℕ) (old new : List ℕ) (place : Offset) → Searches t n old new place →
     Searches (Scope nack t) n old new place
 searches-Scope nack t n old new Within h = ap (option_map (λ ws. old ++ ws)) (wraps_at-Scope nack t n) ∙ h
 searches-Scope nack t n old new (Behind left) h = (omega (arith, h.0, base_count-Scope nack t), h.1)
@@ -127,7 +127,7 @@ searches-none b zero old h = ap Some (append-nil old)
 searches-none b (suc n) old h = absurd (h (omega arith))
 
 -- a search for a base event of the whole event finds it
-pub searches-whole : (t : Tree) (n : ℕ) (new : List ℕ) (place : Place) → n < base_count t → Searches t n [] new place → wraps_at t n ≡ Some new
+pub searches-whole : (t : Tree) (n : ℕ) (new : List ℕ) (place : Offset) → n < base_count t → Searches t n [] new place → wraps_at t n ≡ Some new
 searches-whole t n new Within lt h =
     let found = found_in (λ ws. [] ++ ws) (wraps_at t n) new h in found.1 ∙ ap Some found.2
 searches-whole t n new (Behind left) lt h = absurd (omega (arith, h.0))

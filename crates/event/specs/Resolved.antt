@@ -3,7 +3,7 @@ use Rattle.event.specs.declared.Resolved.{Resolved}
 use Rattle.event.specs.declared.Resolved.TheOpen.{Resolved-F, Send, Recv, Always, Never, OnNack, Choose, Wrap, Scope}
 use Rattle.event.specs.declared.Resolved.TheFolds.{fold-Resolved}
 use Rattle.event.specs.Tree.{Tree, Single, choose, Wrap as TreeWrap, Scope as TreeScope}
-use Rattle.words.specs.declared.Base.TheVariants as base
+use Rattle.protocol_values.specs.declared.Base.TheVariants as base
 
 -- one level, with the trees of its members in their places
 abbrev pub tree_level : Resolved-F Tree → Tree

@@ -2,19 +2,19 @@
 use Rattle.std.specs.Prelude.{◌≡◌, ℕ, ◌+◌, ◌<◌, ◌⊎◌, List, ◌++◌, map, Some, bit_or}
 use Rattle.std.specs.Option.{option_map}
 use Rattle.event.specs.Tree.{Tree, BaseEvent, bases_from, base_count, scope_count, mask, wraps_at}
-use Rattle.event.specs.declared.Place.{Place}
-use Rattle.event.specs.declared.Place.TheVariants.{Within, Behind}
-use Rattle.event.specs.declared.Room.{Room}
-use Rattle.words.specs.declared.Offer.{Offer}
+use Rattle.event.specs.declared.Offset.{Offset}
+use Rattle.event.specs.declared.Offset.TheVariants.{Within, Behind}
+use Rattle.event.specs.declared.Spare.{Spare}
+use Rattle.protocol_values.specs.declared.Offer.{Offer}
 
--- what is left of the room for base events and scopes
-abbrev pub LeavesRoom : Room → Tree → Room → Type 0
-LeavesRoom room event left =
-    (left.bases + base_count event ≡ room.bases) × (left.scopes + scope_count event ≡ room.scopes)
+-- what is left of the spare for base events and scopes
+abbrev pub LeavesRoom : Spare → Tree → Spare → Type 0
+LeavesRoom spare event left =
+    (left.bases + base_count event ≡ spare.bases) × (left.scopes + scope_count event ≡ spare.scopes)
 
--- the room is too small
-abbrev pub LacksRoom : Room → Tree → Type 0
-LacksRoom room event = (room.bases < base_count event) ⊎ (room.scopes < scope_count event)
+-- the spare is too small
+abbrev pub LacksRoom : Spare → Tree → Type 0
+LacksRoom spare event = (spare.bases < base_count event) ⊎ (spare.scopes < scope_count event)
 
 -- the offers of a part of an event: the scopes round it have the mask `around`, its first scope the number `next`
 abbrev pub offer_within : ℕ → BaseEvent → Offer
@@ -25,6 +25,6 @@ offers_within around next event = map (offer_within around) (bases_from next eve
 
 -- A search for base event n. Where it lies within the event, the wraps round it were appended; else nothing was, and
 -- it is base event `left` of what comes behind.
-abbrev pub Searches : Tree → ℕ → List ℕ → List ℕ → Place → Type 0
+abbrev pub Searches : Tree → ℕ → List ℕ → List ℕ → Offset → Type 0
 Searches event n old new Within = option_map (λ wraps. old ++ wraps) (wraps_at event n) ≡ Some new
 Searches event n old new (Behind left) = (n ≡ base_count event + left) × (new ≡ old)

@@ -2,8 +2,8 @@
 use Rattle.std.specs.Prelude.{◌≡◌, ℕ, ◌+◌, ◌^◌, ◌≤◌, ◌↔◌, List, [], ◌∷◌, ◌++◌, map, length, Contains, Option, slice_get, bit_or}
 use Rattle.std.specs.Int.{bit_at}
 use Rattle.std.specs.Option.{option_map}
-use Rattle.words.specs.declared.Base.{Base}
-use Rattle.words.specs.declared.Offer.{Offer}
+use Rattle.protocol_values.specs.declared.Base.{Base}
+use Rattle.protocol_values.specs.declared.Offer.{Offer}
 
 -- An event whose guards have run: a base event, a choice of nothing, a choice between two, a wrap round an event
 -- (by its number in the process's text), or a scope round one (by the number of its nack).

@@ -8,9 +8,9 @@ ghost use Rattle.event.specs.Resolved.{tree_of};
 ghost use Rattle.event.specs.Steps.{LeavesRoom, LacksRoom, offers_within, Searches};
 ghost use Rattle.event.specs.Tree.{Fits, IsMaskOf, bases, base_count, scope_count, offers, wraps_at};
 
+use protocol_values::{Base, Message, NackName, Offer};
 use smallvec::SmallVec;
 use std::alloc::{AllocError, Global};
-use words::{Base, Message, NackName, Offer};
 
 /// An event whose guards have run. A wrap carries its number in the process's text, a scope the
 /// number of its nack.
@@ -26,38 +26,38 @@ pub enum Resolved {
     Scope(u8, Box<Resolved>),
 }
 
-/// How many more base events and scopes a sync has room for.
+/// How many more base events and scopes a sync has spare for.
 #[derive(Clone, Copy)]
-struct Room {
+struct Spare {
     bases: u8,
     scopes: u8,
 }
 
-const LIMITS: Room = Room {
+const LIMITS: Spare = Spare {
     bases: 8,
     scopes: 4,
 };
 
-/// The room that is left behind the event, or none where there is too little for it.
-fn room_behind(event: &Resolved, mut room: Room) -> Option<Room>
-    ensures left { IfSome result (LeavesRoom room (tree_of event.now)) }
-    ensures full { IfNone result (LacksRoom room (tree_of event.now)) }
+/// The spare that is left behind the event, or none where there is too little for it.
+fn spare_behind(event: &Resolved, mut spare: Spare) -> Option<Spare>
+    ensures left { IfSome result (LeavesRoom spare (tree_of event.now)) }
+    ensures full { IfNone result (LacksRoom spare (tree_of event.now)) }
 {
     match event {
         Resolved::Choose(members) => {
             for member in members {
-                room = room_behind(member, room)?;
+                spare = spare_behind(member, spare)?;
             }
-            Some(room)
+            Some(spare)
         }
-        Resolved::Wrap(_, inner) => room_behind(inner, room),
+        Resolved::Wrap(_, inner) => spare_behind(inner, spare),
         Resolved::Scope(_, inner) => {
-            let scopes = room.scopes.checked_sub(1)?;
-            room_behind(inner, Room { scopes, ..room })
+            let scopes = spare.scopes.checked_sub(1)?;
+            spare_behind(inner, Spare { scopes, ..spare })
         }
         _ => {
-            let bases = room.bases.checked_sub(1)?;
-            Some(Room { bases, ..room })
+            let bases = spare.bases.checked_sub(1)?;
+            Some(Spare { bases, ..spare })
         }
     }
 }
@@ -66,14 +66,14 @@ fn room_behind(event: &Resolved, mut room: Room) -> Option<Room>
 pub fn fits(event: &Resolved) -> bool
     ensures { IsTrue result ↔ Fits (tree_of event.now) }
 {
-    room_behind(event, LIMITS).is_some()
+    spare_behind(event, LIMITS).is_some()
 }
 
 /// Appends the offers of the event's base events, which lie in the scopes `around` too. The first
 /// scope that begins in the event has the number `next`; the answer is the number of the first
 /// scope behind it.
 fn push_offers(event: &Resolved, around: u8, mut next: u8, offers: &mut SmallVec<Offer, 8>) -> u8
-    requires room { HasRoomFor offers.old (base_count (tree_of event.now)) }
+    requires spare { HasRoomFor offers.old (base_count (tree_of event.now)) }
     requires scopes { next + scope_count (tree_of event.now) ≤ 4 }
     ensures offers { offers.new.items ≡ offers.old.items ++ offers_within around next (tree_of event.now) }
     ensures next { result ≡ next + scope_count (tree_of event.now) }
@@ -122,36 +122,36 @@ pub fn flatten(alloc: Global, event: &Resolved) -> SmallVec<Offer, 8>
 /// Where the base event that is looked for lies: within the event that was searched, or so many base
 /// events behind it.
 #[derive(Clone, Copy)]
-enum Place {
+enum Offset {
     Within,
     Behind(u8),
 }
 
 /// Appends the wraps round base event n, innermost first, where it lies within the event.
-fn push_wraps(event: &Resolved, mut n: u8, wraps: &mut Vec<u32>) -> Result<Place, AllocError>
+fn push_wraps(event: &Resolved, mut n: u8, wraps: &mut Vec<u32>) -> Result<Offset, AllocError>
     ensures { IfOk result (Searches (tree_of event.now) n wraps.old.items wraps.new.items) }
 {
     match event {
         Resolved::Choose(members) => {
             for member in members {
                 match push_wraps(member, n, wraps)? {
-                    Place::Within => return Ok(Place::Within),
-                    Place::Behind(left) => n = left,
+                    Offset::Within => return Ok(Offset::Within),
+                    Offset::Behind(left) => n = left,
                 }
             }
-            Ok(Place::Behind(n))
+            Ok(Offset::Behind(n))
         }
         Resolved::Wrap(wrap, inner) => {
             let place = push_wraps(inner, n, wraps)?;
-            if let Place::Within = place {
+            if let Offset::Within = place {
                 wraps.push(*wrap)?;
             }
             Ok(place)
         }
         Resolved::Scope(_, inner) => push_wraps(inner, n, wraps),
         _ => match n.checked_sub(1) {
-            None => Ok(Place::Within),
-            Some(left) => Ok(Place::Behind(left)),
+            None => Ok(Offset::Within),
+            Some(left) => Ok(Offset::Behind(left)),
         },
     }
 }

@@ -2,25 +2,25 @@
 use Rattle.std.proofs.Common.{◌≡◌, ℕ, ◌+◌, ◌≤◌, List, ◌++◌, length, refl, sym, ◌∙◌, subst}
 use Rattle.std.specs.Prelude.{IsPermutation}
 use Rattle.std.proofs.lemmas.List.Sorted.{IsPermutation-append_left, IsPermutation-trans}
-use Rattle.syntax.specs.Processes.{Proc}
-use Rattle.words.specs.declared.Atom.{Atom}
-use Rattle.words.specs.declared.Commit.{Commit}
-use Rattle.words.specs.Commits.{IsInOrder}
+use Rattle.script_tree.specs.Processes.{Proc}
+use Rattle.protocol_values.specs.declared.Atom.{Atom}
+use Rattle.protocol_values.specs.declared.Commit.{Commit}
+use Rattle.protocol_values.specs.Commits.{IsInOrder}
 use Rattle.protocol.specs.Ledgers.{Ledger, IsLawful, commits_in}
-use Rattle.sequential.specs.declared.end.End.{End}
-use Rattle.sequential.specs.declared.state.State.{State}
-use Rattle.sequential.specs.declared.state.ReplayFault.{ReplayFault}
-use Rattle.sequential.specs.declared.state.ReplayFault.TheVariants.{Memory, Unlawful}
-use Rattle.sequential.specs.Replays.{Refuses, StandsAfter}
-use Rattle.sequential.specs.Runs.{Config, IsMaximal, IsRun, config_of}
-use Rattle.sequential.proofs.Telling.{ends-both}
-use Rattle.order.specs.Laws.{IsOrderOf}
-use Rattle.order.proofs.Sending.{named-is-received, received-is-sent}
-use Rattle.order.proofs.Leading.{ledger-is-run}
-use Rattle.order.proofs.Ordering.{ordered-is-run}
-use Rattle.order.proofs.Runs.{run-front}
-use Rattle.order.specs.Ledgers.{IsLedgerOf}
-use Rattle.journal.specs.Records.{EndsOf, OutputsOf, TellsEnds, IsCompletion, RefusesLedger}
+use Rattle.journal_replay.specs.declared.end.End.{End}
+use Rattle.journal_replay.specs.declared.state.State.{State}
+use Rattle.journal_replay.specs.declared.state.ReplayFault.{ReplayFault}
+use Rattle.journal_replay.specs.declared.state.ReplayFault.TheVariants.{Memory, Unlawful}
+use Rattle.journal_replay.specs.Replays.{EndsOf, OutputsOf, Refuses, StandsAfter}
+use Rattle.journal_replay.specs.Runs.{Config, IsMaximal, IsRun, TellsEnds, config_of}
+use Rattle.journal_replay.proofs.Telling.{ends-both}
+use Rattle.journal_order.specs.Laws.{IsOrderOf}
+use Rattle.journal_order.proofs.Sending.{named-is-received, received-is-sent}
+use Rattle.journal_order.proofs.Leading.{ledger-is-run}
+use Rattle.journal_order.proofs.Ordering.{ordered-is-run}
+use Rattle.journal_order.proofs.Runs.{run-front}
+use Rattle.journal_order.specs.Ledgers.{IsLedgerOf}
+use Rattle.journal.specs.Records.{IsCompletion, RefusesLedger}
 
 tells-ends : (ps : List Proc) (rows : ℕ) (journal : List Commit) (s : State) (ends : List End) (outputs : List (List Atom)) → StandsAfter ps rows journal s → EndsOf s ends → OutputsOf s outputs →
     TellsEnds ps rows (config_of journal) ends outputs

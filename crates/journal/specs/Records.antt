@@ -1,34 +1,17 @@
 -- What a ledger's commits come to, once they are led on to their end.
-use Rattle.std.specs.Prelude.{◌≡◌, ℕ, ⊤, List, ◌++◌, length, map, Some, slice_get, IsPermutation}
-use Rattle.syntax.specs.Processes.{Proc}
-use Rattle.words.specs.declared.Atom.{Atom}
-use Rattle.words.specs.declared.Commit.{Commit}
-use Rattle.words.specs.Commits.{IsInOrder}
+use Rattle.std.specs.Prelude.{◌≡◌, ℕ, ⊤, List, ◌++◌, length, map, IsPermutation}
+use Rattle.script_tree.specs.Processes.{Proc}
+use Rattle.protocol_values.specs.declared.Atom.{Atom}
+use Rattle.protocol_values.specs.declared.Commit.{Commit}
+use Rattle.protocol_values.specs.Commits.{IsInOrder}
 use Rattle.protocol.specs.Ledgers.{Ledger, commits_in}
-use Rattle.sequential.specs.declared.end.End.{End}
-use Rattle.sequential.specs.declared.state.State.{State}
-use Rattle.sequential.specs.declared.state.ReplayFault.{ReplayFault}
-use Rattle.sequential.specs.declared.state.ReplayFault.TheVariants.{Memory, Unlawful}
-use Rattle.sequential.specs.Replays.{TellsEnd, TellsOutput, thread_count}
-use Rattle.sequential.specs.Runs.{BreaksOffAt, Config, EndsAs, IsMaximal, IsRun, config_of}
-use Rattle.order.specs.Laws.{IsOrderOf}
-use Rattle.order.specs.Messages.{named, sent}
+use Rattle.journal_replay.specs.declared.end.End.{End}
+use Rattle.journal_replay.specs.declared.state.ReplayFault.{ReplayFault}
+use Rattle.journal_replay.specs.declared.state.ReplayFault.TheVariants.{Memory, Unlawful}
+use Rattle.journal_replay.specs.Runs.{BreaksOffAt, IsMaximal, IsRun, TellsEnds, config_of}
+use Rattle.journal_order.specs.Laws.{IsOrderOf}
+use Rattle.journal_order.specs.Messages.{named, sent}
 use Rattle.journal.specs.declared.record.Record.{Record}
-
--- one end for each thread of a state, and one output
-pub record EndsOf (s : State) (ends : List End) : Type 0 where
-  pub count : length ends ≡ thread_count s
-  pub each : (t : ℕ) (end : End) → slice_get ends t ≡ Some end → TellsEnd s t end
-
-pub record OutputsOf (s : State) (outputs : List (List Atom)) : Type 0 where
-  pub count : length outputs ≡ thread_count s
-  pub each : (t : ℕ) (printed : List Atom) → slice_get outputs t ≡ Some printed → TellsOutput s t printed
-
--- how each process ended and what it printed, where its results are these
-pub record TellsEnds (ps : List Proc) (rows : ℕ) (config : Config) (ends : List End) (outputs : List (List Atom)) : Type 0 where
-  pub ends_count : length ends ≡ length ps
-  pub outputs_count : length outputs ≡ length ps
-  pub each : (t : ℕ) (end : End) (printed : List Atom) → slice_get ends t ≡ Some end → slice_get outputs t ≡ Some printed → EndsAs ps rows t config end printed
 
 -- The journal is a run in order, which can go no further.
 pub record IsCompletion (ps : List Proc) (rows : ℕ) (l : Ledger) (journal : List Commit) (ends : List End) (outputs : List (List Atom)) (tail : ℕ) : Type 0 where

@@ -7,9 +7,9 @@
 //!   to which it leads.
 //! - `received_from` gives the messages of the pairs on a channel with one sender, in their order. Of a
 //!   run these are what the receivers got, and what the sender sent, in its own order
-//!   (`order::message_laws`); of a record this is told by `complete`.
+//!   (`journal_order::message_laws`); of a record this is told by `complete`.
 //!
-//! What replays and settles, and what it answers, is passed on from `sequential`. The text of a journal is
+//! What replays and settles, and what it answers, is passed on from `journal_replay`. The text of a journal is
 //! read and written by `journal_text`.
 #![tactic(auto)]
 
@@ -18,4 +18,4 @@ mod record;
 
 pub use crate::messages::received_from;
 pub use crate::record::{Record, complete};
-pub use sequential::{End, ReplayFault, State, replay, settle};
+pub use journal_replay::{End, ReplayFault, State, replay, settle};

@@ -1,10 +1,10 @@
 //! The messages of one thread on a channel.
 
 ghost use Rattle.std.specs.Prelude.{◌≡◌, IfOk};
-ghost use Rattle.order.specs.Messages.{named};
+ghost use Rattle.journal_order.specs.Messages.{named};
 
+use protocol_values::{Commit, Message};
 use std::alloc::{AllocError, Global};
-use words::{Commit, Message};
 
 /// The messages of the pairs on the channel that have this sender, in the order of the commits.
 pub fn received_from(

@@ -9,7 +9,8 @@ use Rattle.std.proofs.Math.Seq.{get_or-append_seam}
 use Rattle.std.proofs.lemmas.Grind.{get_or-set_at}
 use Rattle.std.proofs.lemmas.List.{get_or-map, get_or-replicate, get_or-set_other, length-append, length-map, length-replicate, length-set, take_more}
 use denote.Ref.{Bor}
-use Rattle.phrase.specs.Places.{place, texts}
+use Rattle.script_reader.specs.Places.{texts}
+use Rattle.script_grammar.specs.Meaning.{place}
 use Rattle.script.specs.Names.{AreDistinct}
 use Rattle.journal_text.specs.Names.{AreWithin}
 use Rattle.journal_text.specs.Slots.{hash_step, hash_from, hash_of, slot_of, last_in, AreHeads, AreLinks, AreApart}

@@ -5,12 +5,12 @@ use Rattle.std.specs.List.{AllByRecursion}
 use Rattle.std.proofs.lemmas.List.{append-nil}
 use Rattle.std.proofs.lemmas.List.Concat.{flat_map-append}
 use Rattle.std.proofs.lemmas.Option.{some_pair_parts}
-use Rattle.words.specs.declared.Commit.{Commit}
+use Rattle.protocol_values.specs.declared.Commit.{Commit}
 use Rattle.script.specs.Sources.{Script}
 use Rattle.script.specs.Spelling.{IsSpelled}
 use Rattle.digits.proofs.Forms.{Reads}
 use Rattle.script.proofs.Declared.{declares_names}
-use Rattle.journal_text.specs.Names.{names_of, naming}
+use Rattle.journal_text.specs.Names.{names_of, named}
 use Rattle.journal_text.specs.Texts.{commit_line, commits_text}
 use Rattle.journal_text.specs.Journals.{HasLine, Spells, NoLineBegins, IsFirstBadLine, SpellsOnlyOne, SpellsOrIsBad, HasOneFirstBadLine}
 use Rattle.journal_text.specs.Reading.{line_at}
@@ -19,7 +19,7 @@ use Rattle.journal_text.proofs.Lines.{lines}
 -- what was read so far, and the rest of the bytes
 pub record IsSoFar (s : Script) (bytes : List ℕ) (cs : List Commit) (rest : List ℕ) : Type 0 where
   pub lines : AllByRecursion (HasLine (names_of s)) cs
-  pub text : bytes ≡ commits_text (naming (names_of s)) cs ++ rest
+  pub text : bytes ≡ commits_text (named s) cs ++ rest
 
 pub begun : (s : Script) (bytes : List ℕ) → IsSoFar s bytes [] bytes
 begun s bytes = record { lines = tt; text = refl }
@@ -29,14 +29,14 @@ all_push P [] x h k = (k, tt)
 all_push P (y ∷ xs) x h k = (h.0, all_push P xs x h.1 k)
 
 module _ (s : Script) (spelled : IsSpelled s) where
-  line_reads : Reads {X = Commit} (λ c. c) (line_at (names_of s)) (commit_line (naming (names_of s))) (HasLine (names_of s))
+  line_reads : Reads {X = Commit} (λ c. c) (line_at (names_of s)) (commit_line (named s)) (HasLine (names_of s))
   line_reads = (let n = declares_names s spelled in lines (names_of s) n.1 n.0)
 
   abbrev line : Commit → List ℕ
-  line c = commit_line (naming (names_of s)) c
+  line c = commit_line (named s) c
 
   abbrev text : List Commit → List ℕ
-  text cs = commits_text (naming (names_of s)) cs
+  text cs = commits_text (named s) cs
 
   -- LINE BY LINE
 

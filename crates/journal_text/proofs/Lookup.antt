@@ -2,7 +2,7 @@
 use Rattle.std.proofs.Common.{◌≡◌, ℕ, zero, suc, ◌+◌, List, [], ◌∷◌, ◌++◌, map, take, Some, refl, sym, ap, ◌∙◌, arith}
 use Rattle.std.specs.Prelude.{slice_get}
 use Rattle.std.proofs.lemmas.List.{map-append}
-use Rattle.phrase.specs.Places.{texts}
+use Rattle.script_reader.specs.Places.{texts}
 use denote.Ref.{Bor}
 
 take_more : (all : List (List ℕ)) (n : ℕ) (x : List ℕ) → Some x ≡ slice_get all n → take (suc n) all ≡ take n all ++ x ∷ []

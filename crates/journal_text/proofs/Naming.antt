@@ -8,8 +8,8 @@ use Rattle.std.proofs.lemmas.Bool.{and_parts, eqb-true, ltb-true}
 use Rattle.std.proofs.lemmas.List.{drop_more, take_more}
 use Rattle.std.proofs.lemmas.Option.{some_pair_parts}
 use Rattle.std.proofs.lemmas.Slice.Eq.{bytes_eq-Decides}
-use Rattle.token.specs.Tokens.{is_word, is_letter, is_name}
-use Rattle.phrase.specs.Places.{place}
+use Rattle.script_token.specs.Tokens.{is_word, is_letter, is_name}
+use Rattle.script_grammar.specs.Meaning.{place}
 use Rattle.digits.specs.Reading.{◌>>=◌}
 use Rattle.digits.proofs.Numbers.{bind_some, chosen, chosen_some}
 use Rattle.digits.proofs.Forms.{Reads}

@@ -1,6 +1,6 @@
 -- The names as the code holds them, and what a fault of reading says of the bytes.
 use Rattle.std.specs.Prelude.{ℕ, List}
-use Rattle.phrase.specs.Places.{texts}
+use Rattle.script_reader.specs.Places.{texts}
 use Rattle.script.specs.Sources.{Script}
 use Rattle.journal_text.specs.Names.{Declared}
 use Rattle.journal_text.specs.Journals.{IsFirstBadLine}

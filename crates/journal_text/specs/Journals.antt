@@ -1,19 +1,19 @@
 -- Which commits have a line in the names of a script, and what the bytes of a journal say.
 use Rattle.std.specs.Prelude.{◌≡◌, ◌≢◌, ℕ, ◌+◌, ◌<◌, ◌≤◌, List, [], ◌++◌, length}
 use Rattle.std.specs.List.{AllByRecursion}
-use Rattle.words.specs.declared.NackName.{NackName}
-use Rattle.words.specs.declared.Row.{Row}
-use Rattle.words.specs.declared.Atom.{Atom}
-use Rattle.words.specs.declared.Atom.TheVariants.{Num, Chan, Nack}
-use Rattle.words.specs.declared.Message.{Message}
-use Rattle.words.specs.declared.Message.TheVariants.{Empty, One, Two, Three}
-use Rattle.words.specs.declared.Cause.{Cause}
-use Rattle.words.specs.declared.Cause.TheVariants as causes
-use Rattle.words.specs.declared.Commit.{Commit}
-use Rattle.words.specs.declared.Commit.TheVariants.{Pair, Alone}
+use Rattle.protocol_values.specs.declared.NackName.{NackName}
+use Rattle.protocol_values.specs.declared.Row.{Row}
+use Rattle.protocol_values.specs.declared.Atom.{Atom}
+use Rattle.protocol_values.specs.declared.Atom.TheVariants.{Num, Chan, Nack}
+use Rattle.protocol_values.specs.declared.Message.{Message}
+use Rattle.protocol_values.specs.declared.Message.TheVariants.{Empty, One, Two, Three}
+use Rattle.protocol_values.specs.declared.Cause.{Cause}
+use Rattle.protocol_values.specs.declared.Cause.TheVariants as causes
+use Rattle.protocol_values.specs.declared.Commit.{Commit}
+use Rattle.protocol_values.specs.declared.Commit.TheVariants.{Pair, Alone}
 use Rattle.script.specs.Sources.{Script}
 use Rattle.script.specs.Spelling.{IsSpelled}
-use Rattle.journal_text.specs.Names.{Declared, names_of, naming}
+use Rattle.journal_text.specs.Names.{Declared, names_of, named}
 use Rattle.journal_text.specs.Texts.{commit_line, commits_text}
 
 -- WHAT HAS A LINE
@@ -53,16 +53,16 @@ HasLine d (Alone at cause stamp) = (IsStamp stamp × HasPlace d at) × HasCause 
 -- the bytes are the text of these commits, all of them
 pub record Spells (s : Script) (bytes : List ℕ) (cs : List Commit) : Type 0 where
   pub lines : AllByRecursion (HasLine (names_of s)) cs
-  pub text : bytes ≡ commits_text (naming (names_of s)) cs
+  pub text : bytes ≡ commits_text (named s) cs
 
 -- no commit's line begins the bytes
 abbrev pub NoLineBegins : Script → List ℕ → Type 0
-NoLineBegins s bytes = (c : Commit) (after : List ℕ) → HasLine (names_of s) c → bytes ≢ commit_line (naming (names_of s)) c ++ after
+NoLineBegins s bytes = (c : Commit) (after : List ℕ) → HasLine (names_of s) c → bytes ≢ commit_line (named s) c ++ after
 
 -- the bytes are the text of these commits, and then a rest with which no commit's line begins
 pub record BreaksOffAfter (s : Script) (bytes : List ℕ) (cs : List Commit) (rest : List ℕ) : Type 0 where
   pub lines : AllByRecursion (HasLine (names_of s)) cs
-  pub text : bytes ≡ commits_text (naming (names_of s)) cs ++ rest
+  pub text : bytes ≡ commits_text (named s) cs ++ rest
   pub more : rest ≢ []
   pub bad : NoLineBegins s rest
 

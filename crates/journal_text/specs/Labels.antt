@@ -1,7 +1,7 @@
 -- The names as the code that writes them holds them.
 use Rattle.std.specs.Prelude.{ℕ, Option, Some, None}
 use denote.Ref.{Bor}
-use Rattle.phrase.specs.Places.{texts}
+use Rattle.script_reader.specs.Places.{texts}
 use Rattle.journal_text.specs.Names.{Declared, Naming, naming, numbers}
 use Rattle.journal_text.specs.declared.labels.Labels.{Labels}
 

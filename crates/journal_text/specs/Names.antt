@@ -23,6 +23,10 @@ names_of s = record { threads = map (λ p. p.name) s.processes; channels = s.cha
 abbrev pub naming : Declared → Naming
 naming d = record { thread = λ t. get_or d.threads t []; channel = λ c. get_or d.channels c [] }
 
+-- how a script names its threads and channels
+abbrev pub named : Script → Naming
+named s = naming (names_of s)
+
 -- none of the names is longer
 abbrev pub AreWithin : ℕ → List (List ℕ) → Type 0
 AreWithin longest names = (k : ℕ) → length (get_or names k []) ≤ longest

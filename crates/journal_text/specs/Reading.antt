@@ -1,16 +1,16 @@
 -- Reading from left to right: the commit whose line stands at the front of the bytes, and the bytes after it.
 use Rattle.std.specs.Prelude.{◌≡◌, ℕ, List, [], ◌∷◌, ◌++◌, codes, Option, Some, None, nat_lt, ◌==◌, if◌then◌else◌}
 use Rattle.digits.specs.Reading.{◌>>=◌, or_else, leading_at, ended_by, number_at, count_at, after_word}
-use Rattle.phrase.specs.Places.{place}
-use Rattle.words.specs.declared.NackName.{NackName}
-use Rattle.words.specs.declared.Row.{Row}
-use Rattle.words.specs.declared.Atom.{Atom}
-use Rattle.words.specs.declared.Atom.TheVariants.{Num, Chan, Nack}
-use Rattle.words.specs.declared.Message.{Message}
-use Rattle.words.specs.declared.Message.TheVariants.{Empty, One, Two, Three}
-use Rattle.words.specs.declared.Cause.TheVariants as causes
-use Rattle.words.specs.declared.Commit.{Commit}
-use Rattle.words.specs.declared.Commit.TheVariants as commits
+use Rattle.script_grammar.specs.Meaning.{place}
+use Rattle.protocol_values.specs.declared.NackName.{NackName}
+use Rattle.protocol_values.specs.declared.Row.{Row}
+use Rattle.protocol_values.specs.declared.Atom.{Atom}
+use Rattle.protocol_values.specs.declared.Atom.TheVariants.{Num, Chan, Nack}
+use Rattle.protocol_values.specs.declared.Message.{Message}
+use Rattle.protocol_values.specs.declared.Message.TheVariants.{Empty, One, Two, Three}
+use Rattle.protocol_values.specs.declared.Cause.TheVariants as causes
+use Rattle.protocol_values.specs.declared.Commit.{Commit}
+use Rattle.protocol_values.specs.declared.Commit.TheVariants as commits
 use Rattle.journal_text.specs.Names.{Declared}
 use Rattle.journal_text.specs.declared.line.Deed.{Deed}
 use Rattle.journal_text.specs.declared.line.Deed.TheVariants.{Meets, Alone}

@@ -2,16 +2,16 @@
 use Rattle.std.specs.Prelude.{ℕ, List, [], ◌∷◌, ◌++◌, codes}
 use Rattle.std.specs.Fmt.{decimal}
 use Rattle.std.specs.List.{flat_map}
-use Rattle.words.specs.declared.NackName.{NackName}
-use Rattle.words.specs.declared.Row.{Row}
-use Rattle.words.specs.declared.Atom.{Atom}
-use Rattle.words.specs.declared.Atom.TheVariants.{Num, Chan, Nack}
-use Rattle.words.specs.declared.Message.{Message}
-use Rattle.words.specs.declared.Message.TheVariants.{Empty, One, Two, Three}
-use Rattle.words.specs.declared.Cause.{Cause}
-use Rattle.words.specs.declared.Cause.TheVariants as causes
-use Rattle.words.specs.declared.Commit.{Commit}
-use Rattle.words.specs.declared.Commit.TheVariants.{Pair, Alone}
+use Rattle.protocol_values.specs.declared.NackName.{NackName}
+use Rattle.protocol_values.specs.declared.Row.{Row}
+use Rattle.protocol_values.specs.declared.Atom.{Atom}
+use Rattle.protocol_values.specs.declared.Atom.TheVariants.{Num, Chan, Nack}
+use Rattle.protocol_values.specs.declared.Message.{Message}
+use Rattle.protocol_values.specs.declared.Message.TheVariants.{Empty, One, Two, Three}
+use Rattle.protocol_values.specs.declared.Cause.{Cause}
+use Rattle.protocol_values.specs.declared.Cause.TheVariants as causes
+use Rattle.protocol_values.specs.declared.Commit.{Commit}
+use Rattle.protocol_values.specs.declared.Commit.TheVariants.{Pair, Alone}
 use Rattle.journal_text.specs.Names.{Naming}
 
 -- a row and the number of its offer

@@ -3,7 +3,7 @@
 ghost use Rattle.std.specs.Prelude.{◌≡◌, ◌≤◌, IfOk, length};
 ghost use Rattle.std.specs.List.{AllByRecursion};
 ghost use Rattle.std.proofs.Props.{props};
-ghost use Rattle.phrase.specs.Places.{texts};
+ghost use Rattle.script_reader.specs.Places.{texts};
 ghost use Rattle.journal_text.specs.Names.{AreWithin};
 
 use crate::names::{channel_names, thread_names};

@@ -4,6 +4,8 @@
 //!   in place of the names.
 //! - `read_journal` reads them again: Ok exactly where the bytes are the text of commits, else it names the
 //!   first line that is not of the form (`journal_text_laws`).
+//! - `push_thread`, `push_atom`, `push_message` and the like append names and values to a text, as they stand in a
+//!   journal. A name that is not declared is left out.
 #![tactic(auto)]
 
 ghost use Rattle.std.specs.Prelude.{◌≡◌, ◌+◌, ◌*◌, ◌≤◌, IfOk, IfErr, length, map};
@@ -19,17 +21,21 @@ ghost use Rattle.script.specs.Scripts.{script_of};
 mod labels;
 mod line;
 mod listing;
+mod name;
 mod names;
+mod value;
 mod writing;
 
 use crate::labels::Labels;
 use crate::line::Front;
+pub use crate::name::{push_channel, push_nack, push_thread};
 use crate::names::Names;
-use crate::writing::{LINE_NAMES, LINE_ROOM, LONGEST_NUMBER, put_line};
+pub use crate::value::{push_atom, push_cause, push_message};
+use crate::writing::{LINE_LEN, LINE_NAMES, LONGEST_NUMBER, put_line};
+use protocol_values::Commit;
 use script::Script;
 use std::alloc::{AllocError, AllocFailed, Global};
 use thiserror::Error;
-use words::Commit;
 
 /// Why a journal could not be read.
 #[derive(Debug, Drop, Error)]
@@ -58,7 +64,7 @@ impl From<AllocError> for JournalFault {
 }
 
 /// Room for a line, with the labels or with numbers.
-fn line_room(alloc: Global, labels: Option<&Labels<'_>>) -> Result<Vec<u8>, AllocError>
+fn blank_line(alloc: Global, labels: Option<&Labels<'_>>) -> Result<Vec<u8>, AllocError>
     ensures { IfOk result (λ line. 6 * reach labels.entry + 78 ≤ length line.items) }
 {
     let longest = match labels {
@@ -66,7 +72,7 @@ fn line_room(alloc: Global, labels: Option<&Labels<'_>>) -> Result<Vec<u8>, Allo
         None => LONGEST_NUMBER,
     };
     let name = vec![in alloc; 0u8; longest]?;
-    let mut line = vec![in alloc; 0u8; LINE_ROOM]?;
+    let mut line = vec![in alloc; 0u8; LINE_LEN]?;
     for _ in 0..LINE_NAMES {
         line.extend_from_slice(&name)?;
     }
@@ -81,7 +87,7 @@ fn write_lines(
 ) -> Result<Vec<u8>, AllocError>
     ensures { IfOk result (λ text. text.items ≡ commits_text (naming_of labels.entry) commits.now) }
 {
-    let mut line = line_room(alloc, labels)?;
+    let mut line = blank_line(alloc, labels)?;
     let mut out = Vec::new(alloc);
     for commit in commits {
         let from = put_line(&mut line, labels, commit);

@@ -2,14 +2,14 @@
 
 ghost use Rattle.std.specs.Prelude.{◌≤◌, IfSome};
 ghost use Rattle.digits.specs.Reading.{Gives, ended_by, leading_at, number_at, count_at, after_word};
-ghost use Rattle.phrase.specs.Places.{texts};
+ghost use Rattle.script_reader.specs.Places.{texts};
 ghost use Rattle.journal_text.specs.Answers.{listed};
 ghost use Rattle.journal_text.specs.Reading.{Leads, Passes, after_byte, word_at, named_at, row_at, place_at, nack_at, num_at, chan_at, cancel_at, atom_at, later_at, one_at, two_at, three_at, none_at, atoms_at, closed_at, message_at, partner_at, told_at, meets_at, always_at, cancelled_at, deed_at, head_at, line_at};
 
 use crate::listing::{Listing, Word, next_hash};
 use crate::names::Names;
 use digits::{count, leading, number};
-use words::{Atom, Cause, Commit, Message, NackName, Row};
+use protocol_values::{Atom, Cause, Commit, Message, NackName, Row};
 
 const LINE_END: u8 = b'\n';
 

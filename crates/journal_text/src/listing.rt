@@ -3,7 +3,8 @@
 
 ghost use Rattle.std.specs.Prelude.{◌≡◌, ◌<◌, ◌≤◌, IfOk, length};
 ghost use Rattle.std.proofs.Props.{props};
-ghost use Rattle.phrase.specs.Places.{place, texts};
+ghost use Rattle.script_reader.specs.Places.{texts};
+ghost use Rattle.script_grammar.specs.Meaning.{place};
 ghost use Rattle.journal_text.specs.Slots.{hash_step, hash_of, slot_of, AreHeads, AreLinks, AreApart};
 
 use std::alloc::{AllocError, Global};

@@ -1,7 +1,7 @@
 //! The names that a script declares.
 
 ghost use Rattle.std.specs.Prelude.{◌≡◌, ◌≤◌, IfOk, length};
-ghost use Rattle.phrase.specs.Places.{texts};
+ghost use Rattle.script_reader.specs.Places.{texts};
 ghost use Rattle.journal_text.specs.Answers.{listed};
 ghost use Rattle.journal_text.specs.Names.{names_of};
 ghost use Rattle.script.specs.Scripts.{script_of};

@@ -11,10 +11,10 @@ ghost use Rattle.journal_text.specs.Texts.{place_text, nack_text, atom_text, mes
 
 use crate::labels::Labels;
 use itoa::write_digits;
-use words::{Atom, Cause, Commit, Message, NackName, Row};
+use protocol_values::{Atom, Cause, Commit, Message, NackName, Row};
 
 /// How long a line is at most, but for its names.
-pub(crate) const LINE_ROOM: usize = 78;
+pub(crate) const LINE_LEN: usize = 78;
 
 /// How much room is kept for a number that stands for a name.
 pub(crate) const LONGEST_NUMBER: usize = 5;
@@ -26,7 +26,7 @@ pub(crate) const LINE_NAMES: usize = 6;
 fn put_byte(line: &mut [u8], at: usize, byte: u8) -> usize
     requires { (1 ≤ at) × (at ≤ length line.old) }
     ensures text { drop result line.new ≡ byte ∷ drop at line.old }
-    ensures room { at ≡ result + 1 }
+    ensures width { at ≡ result + 1 }
 {
     line[at - 1] = byte;
     at - 1
@@ -36,7 +36,7 @@ fn put_byte(line: &mut [u8], at: usize, byte: u8) -> usize
 fn put_text(line: &mut [u8], at: usize, text: &[u8]) -> usize
     requires { (length text.now ≤ at) × (at ≤ length line.old) }
     ensures text { drop result line.new ≡ text.now ++ drop at line.old }
-    ensures room { at ≡ result + length text.now }
+    ensures width { at ≡ result + length text.now }
 {
     let from = at - text.len();
     line[from..at].copy_from_slice(text);
@@ -47,7 +47,7 @@ fn put_text(line: &mut [u8], at: usize, text: &[u8]) -> usize
 fn put_small(line: &mut [u8], at: usize, number: u16) -> usize
     requires { (5 ≤ at) × (at ≤ length line.old) }
     ensures text { drop result line.new ≡ decimal number ++ drop at line.old }
-    ensures room { (result ≤ at) × (at ≤ result + 5) }
+    ensures width { (result ≤ at) × (at ≤ result + 5) }
 {
     write_digits(u64::from(number), line, at)
 }
@@ -56,7 +56,7 @@ fn put_small(line: &mut [u8], at: usize, number: u16) -> usize
 fn put_number(line: &mut [u8], at: usize, number: u32) -> usize
     requires { (10 ≤ at) × (at ≤ length line.old) }
     ensures text { drop result line.new ≡ decimal number ++ drop at line.old }
-    ensures room { (result ≤ at) × (at ≤ result + 10) }
+    ensures width { (result ≤ at) × (at ≤ result + 10) }
 {
     write_digits(u64::from(number), line, at)
 }
@@ -65,7 +65,7 @@ fn put_number(line: &mut [u8], at: usize, number: u32) -> usize
 fn put_thread(line: &mut [u8], at: usize, labels: Option<&Labels<'_>>, thread: u8) -> usize
     requires { (reach labels ≤ at) × (at ≤ length line.old) }
     ensures text { drop result line.new ≡ (naming_of labels.entry).thread thread ++ drop at line.old }
-    ensures room { (result ≤ at) × (at ≤ result + reach labels.entry) }
+    ensures width { (result ≤ at) × (at ≤ result + reach labels.entry) }
 {
     match labels {
         Some(labels) => match labels.threads.get(usize::from(thread)) {
@@ -80,7 +80,7 @@ fn put_thread(line: &mut [u8], at: usize, labels: Option<&Labels<'_>>, thread: u
 fn put_channel(line: &mut [u8], at: usize, labels: Option<&Labels<'_>>, chan: u8) -> usize
     requires { (reach labels ≤ at) × (at ≤ length line.old) }
     ensures text { drop result line.new ≡ (naming_of labels.entry).channel chan ++ drop at line.old }
-    ensures room { (result ≤ at) × (at ≤ result + reach labels.entry) }
+    ensures width { (result ≤ at) × (at ≤ result + reach labels.entry) }
 {
     match labels {
         Some(labels) => match labels.channels.get(usize::from(chan)) {
@@ -95,7 +95,7 @@ fn put_channel(line: &mut [u8], at: usize, labels: Option<&Labels<'_>>, chan: u8
 fn put_place(line: &mut [u8], at: usize, labels: Option<&Labels<'_>>, place: (Row, u8)) -> usize
     requires { (reach labels + 12 ≤ at) × (at ≤ length line.old) }
     ensures text { drop result line.new ≡ place_text (naming_of labels.entry) place ++ drop at line.old }
-    ensures room { (result ≤ at) × (at ≤ result + (reach labels.entry + 12)) }
+    ensures width { (result ≤ at) × (at ≤ result + (reach labels.entry + 12)) }
 {
     let (row, offer) = place;
     let at = put_small(line, at, u16::from(offer));
@@ -108,7 +108,7 @@ fn put_place(line: &mut [u8], at: usize, labels: Option<&Labels<'_>>, place: (Ro
 fn put_nack(line: &mut [u8], at: usize, labels: Option<&Labels<'_>>, nack: NackName) -> usize
     requires { (reach labels + 6 ≤ at) × (at ≤ length line.old) }
     ensures text { drop result line.new ≡ nack_text (naming_of labels.entry) nack ++ drop at line.old }
-    ensures room { (result ≤ at) × (at ≤ result + (reach labels.entry + 6)) }
+    ensures width { (result ≤ at) × (at ≤ result + (reach labels.entry + 6)) }
 {
     let at = put_small(line, at, u16::from(nack.k));
     let at = put_byte(line, at, b'.');
@@ -118,7 +118,7 @@ fn put_nack(line: &mut [u8], at: usize, labels: Option<&Labels<'_>>, nack: NackN
 fn put_atom(line: &mut [u8], at: usize, labels: Option<&Labels<'_>>, atom: Atom) -> usize
     requires { (reach labels + 10 ≤ at) × (at ≤ length line.old) }
     ensures text { drop result line.new ≡ atom_text (naming_of labels.entry) atom ++ drop at line.old }
-    ensures room { (result ≤ at) × (at ≤ result + (reach labels.entry + 10)) }
+    ensures width { (result ≤ at) × (at ≤ result + (reach labels.entry + 10)) }
 {
     match atom {
         Atom::Num(number) => put_number(line, at, number),
@@ -137,7 +137,7 @@ fn put_atom(line: &mut [u8], at: usize, labels: Option<&Labels<'_>>, atom: Atom)
 fn put_earlier(line: &mut [u8], at: usize, labels: Option<&Labels<'_>>, atom: Atom) -> usize
     requires { (reach labels + 12 ≤ at) × (at ≤ length line.old) }
     ensures text { drop result line.new ≡ atom_text (naming_of labels.entry) atom ++ codes ", " ++ drop at line.old }
-    ensures room { (result ≤ at) × (at ≤ result + (reach labels.entry + 12)) }
+    ensures width { (result ≤ at) × (at ≤ result + (reach labels.entry + 12)) }
 {
     let at = put_text(line, at, b", ");
     put_atom(line, at, labels, atom)
@@ -147,7 +147,7 @@ fn put_earlier(line: &mut [u8], at: usize, labels: Option<&Labels<'_>>, atom: At
 fn put_message(line: &mut [u8], at: usize, labels: Option<&Labels<'_>>, message: Message) -> usize
     requires { (3 * reach labels + 36 ≤ at) × (at ≤ length line.old) }
     ensures text { drop result line.new ≡ message_text (naming_of labels.entry) message ++ drop at line.old }
-    ensures room { (result ≤ at) × (at ≤ result + (3 * reach labels.entry + 36)) }
+    ensures width { (result ≤ at) × (at ≤ result + (3 * reach labels.entry + 36)) }
 {
     let at = put_byte(line, at, b')');
     let at = match message {
@@ -169,7 +169,7 @@ fn put_message(line: &mut [u8], at: usize, labels: Option<&Labels<'_>>, message:
 fn put_cause(line: &mut [u8], at: usize, labels: Option<&Labels<'_>>, cause: Cause) -> usize
     requires { (3 * reach labels + 43 ≤ at) × (at ≤ length line.old) }
     ensures text { drop result line.new ≡ cause_text (naming_of labels.entry) cause ++ drop at line.old }
-    ensures room { (result ≤ at) × (at ≤ result + (3 * reach labels.entry + 43)) }
+    ensures width { (result ≤ at) × (at ≤ result + (3 * reach labels.entry + 43)) }
 {
     match cause {
         Cause::Always(message) => {

@@ -1,10 +1,10 @@
 -- Entries join a lane one after another.
 use Rattle.std.proofs.Common.{◌≡◌, ◌<◌, ◌+◌, ℕ, List, [], ◌∷◌, ◌++◌, inl, inr, ap, sym, ◌∙◌, map, take, get_or, length, arith}
 use Rattle.std.proofs.lemmas.List.{append_assoc, map-append, take_more}
-use Rattle.hands.specs.declared.entries.Entry.{Entry}
-use Rattle.hands.specs.declared.entries.Hand.{Hand}
-use Rattle.lane.specs.declared.lane.LanePass.{LanePass}
-use Rattle.lane.specs.Lanes.{Offered, entry, hand_of}
+use Rattle.meet_queues.specs.declared.entries.Entry.{Entry}
+use Rattle.meet_queues.specs.declared.entries.Hand.{Hand}
+use Rattle.meet_queues.specs.declared.lane.LanePass.{LanePass}
+use Rattle.meet_queues.specs.Lanes.{Offered, entry, hand_of}
 use Rattle.meet.specs.Rooms.{AllJoin, Joins, offers_put}
 
 pub joins_next : (before now after : LanePass) (entries : List Offered) (n : ℕ) (e : Offered) → AllJoin before now (take n entries) → Joins now after e → n < length entries → e ≡ get_or entries n e → AllJoin before after (take (n + 1) entries)

@@ -4,17 +4,17 @@ use Rattle.std.specs.Prelude.{Option, Some, None, unwrap_or}
 use Rattle.std.proofs.lemmas.Bool.{ltb-false, ltb-true}
 use Rattle.std.proofs.lemmas.Bool.Decides.{eqb_tells}
 use Rattle.std.proofs.lemmas.List.{get_or-set_same, get_or-set_other}
-use Rattle.words.specs.Words.{count_of}
-use Rattle.words.specs.declared.Direction.{Direction}
-use Rattle.words.specs.declared.Row.{Row}
-use Rattle.cell.specs.declared.view.Seen.{Seen}
-use Rattle.cell.specs.Sight.{Coherent, HaveDirection, LackOffer, SeesDirection}
-use Rattle.cell.specs.Nacks.{CanStandAlone}
+use Rattle.protocol_values.specs.Words.{count_of}
+use Rattle.protocol_values.specs.declared.Direction.{Direction}
+use Rattle.protocol_values.specs.declared.Row.{Row}
+use Rattle.cell_table.specs.declared.view.Seen.{Seen}
+use Rattle.cell_table.specs.Sight.{Coherent, HaveDirection, LackOffer, SeesDirection}
+use Rattle.cell_table.specs.Nacks.{CanStandAlone}
 use Rattle.meet.specs.declared.meet.Found.{Found}
 use Rattle.meet.specs.declared.meet.Found.TheVariants.{Met, Alone, Already, Left}
 use Rattle.meet.specs.Searches.{Finds, Grows, LacksAt, Leaves, Lists, StandsByNone}
-use Rattle.cell.proofs.Directions.{sees_direction}
-use Rattle.cell.proofs.Meeting.{few}
+use Rattle.cell_table.proofs.Directions.{sees_direction}
+use Rattle.cell_table.proofs.Offers.{few}
 use Rattle.meet.proofs.Growing.{saw_more, seen_more, stands_more}
 
 -- the list has the directions before n that the pass had seen, and none that it has not seen now

@@ -1,8 +1,8 @@
 -- The passes of rooms: one is read, one is replaced, one joins.
 use Rattle.std.proofs.Common.{◌≡◌, ℕ, zero, suc, ◌<◌, List, [], ◌∷◌, ◌++◌, Some, None, length, set, slice_get, get_or, sym, subst, refl, ap, arith}
 use Rattle.std.proofs.lemmas.Option.{slice_get_read}
-use Rattle.lane.specs.declared.lane.LanePass.{LanePass}
-use Rattle.lane.specs.Lanes.{IsLanePassOf}
+use Rattle.meet_queues.specs.declared.lane.LanePass.{LanePass}
+use Rattle.meet_queues.specs.Lanes.{IsLanePassOf}
 use Rattle.meet.specs.declared.rooms.Room.{Room}
 use Rattle.meet.specs.Rooms.{Serves}
 

@@ -2,10 +2,10 @@
 use Rattle.std.proofs.Common.{◌≡◌, ◌<◌, ◌≤◌, ◌+◌, ℕ, List, [], ◌∷◌, ◌++◌, inl, inr, refl, ap, sym, subst, ◌∙◌, length, take, drop, set, get_or, arith, length-set}
 use Rattle.std.proofs.lemmas.List.{drop-set-lt, take_more, take_more_set, drop_more}
 use Rattle.std.proofs.lemmas.Grind.{drop_more_same}
-use Rattle.words.specs.declared.Row.{Row}
-use Rattle.cell.specs.declared.view.Seen.{Seen}
+use Rattle.protocol_values.specs.declared.Row.{Row}
+use Rattle.cell_table.specs.declared.view.Seen.{Seen}
 use Rattle.cell.specs.Calls.{GridOf, IsRowOf}
-use Rattle.cell.specs.Sight.{SawCommitted}
+use Rattle.cell_table.specs.Sight.{SawCommitted}
 use Rattle.meet.specs.Queues.{Tidies}
 use Rattle.meet.specs.Searches.{Grows}
 use Rattle.meet.proofs.Growing.{saw_more}

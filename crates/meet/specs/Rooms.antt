@@ -1,10 +1,10 @@
 -- Which passes are of which rooms.
 use Rattle.std.specs.Prelude.{◌≡◌, ◌⊎◌, ℕ, ◌+◌, ◌*◌, ◌<◌, ◌^◌, ◌-◌, ⊤, List, [], ◌∷◌, ◌++◌, All, map}
-use Rattle.words.specs.declared.Direction.{Direction}
-use Rattle.words.specs.declared.Direction.TheVariants.{Always, Never, OnNack, Recv, Send}
-use Rattle.hands.specs.declared.entries.Entry.{Entry}
-use Rattle.lane.specs.declared.lane.LanePass.{LanePass}
-use Rattle.lane.specs.Lanes.{HasPut, IsLanePassOf, IsSame, Offered, hand_of, pass_count}
+use Rattle.protocol_values.specs.declared.Direction.{Direction}
+use Rattle.protocol_values.specs.declared.Direction.TheVariants.{Always, Never, OnNack, Recv, Send}
+use Rattle.meet_queues.specs.declared.entries.Entry.{Entry}
+use Rattle.meet_queues.specs.declared.lane.LanePass.{LanePass}
+use Rattle.meet_queues.specs.Lanes.{HasPut, IsLanePassOf, IsSame, Offered, hand_of, pass_count}
 use Rattle.meet.specs.declared.meet.Meet.{Meet}
 use Rattle.meet.specs.declared.rooms.MeetPass.{MeetPass}
 use Rattle.meet.specs.declared.rooms.Room.{Room}

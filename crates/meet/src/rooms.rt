@@ -2,13 +2,13 @@
 
 ghost use Rattle.std.specs.Prelude.{◌≡◌, All, IfOk, MatchOption, length};
 ghost use Rattle.cell.specs.Calls.{IsPassOf};
-ghost use Rattle.lane.specs.Lanes.{IsLanePassOf};
+ghost use Rattle.meet_queues.specs.Lanes.{IsLanePassOf};
 ghost use Rattle.meet.specs.Rooms.{AllJoin, EachServes, Joins, Serves};
 ghost use Rattle.meet.specs.Searches.{Grows};
 
 use crate::queue::Queue;
 use cell::{Cells, Pass, Resident};
-use lane::{Lane, LanePass, Waiting};
+use meet_queues::{Lane, LanePass, WaitingOffer};
 use std::alloc::{AllocError, Global};
 use std::sync::Wait;
 use std::sync::atomic::{AtomicU64, AtomicUsize, Ordering};
@@ -78,7 +78,12 @@ impl Room {
     }
 
     /// Puts the entry at the back. A pass that has put as many as its count can tell puts it nowhere.
-    fn put<R: Wait>(&self, rt: &R, lane: &mut LanePass, entry: Waiting) -> Result<(), AllocError>
+    fn put<R: Wait>(
+        &self,
+        rt: &R,
+        lane: &mut LanePass,
+        entry: WaitingOffer,
+    ) -> Result<(), AllocError>
         requires { IsLanePassOf self.now.lane lane.old }
         ensures here { IsLanePassOf self.now.lane lane.new }
         ensures put { IfOk result (λ _. Joins lane.old lane.new entry) }
@@ -94,7 +99,7 @@ impl Room {
         &self,
         rt: &R,
         lane: &mut LanePass,
-        entries: &[Waiting],
+        entries: &[WaitingOffer],
     ) -> Result<(), AllocError>
         requires { IsLanePassOf self.now.lane lane.old }
         ensures here { IsLanePassOf self.now.lane lane.new }
@@ -174,7 +179,7 @@ pub(crate) fn put_into<R: Wait, M: Resident>(
     rooms: &[Room],
     lanes: &mut MeetPass,
     at: usize,
-    entry: Waiting,
+    entry: WaitingOffer,
 ) -> Result<(), AllocError>
     requires cells { IsPassOf cells.now pass.old }
     requires lanes { Serves rooms.now lanes.old.passes.items }
@@ -205,7 +210,7 @@ fn put_one<R: Wait>(
     rooms: &[Room],
     lanes: &mut MeetPass,
     at: usize,
-    entry: Waiting,
+    entry: WaitingOffer,
 ) -> Result<(), AllocError>
     requires { Serves rooms.now lanes.old.passes.items }
     ensures { Serves rooms.now lanes.new.passes.items }
@@ -269,7 +274,7 @@ pub(crate) fn take_from<R: Wait>(
     rooms: &[Room],
     lanes: &mut MeetPass,
     at: usize,
-) -> Option<Waiting>
+) -> Option<WaitingOffer>
     requires { Serves rooms.now lanes.old.passes.items }
     ensures { Serves rooms.now lanes.new.passes.items }
 {

@@ -1,6 +1,7 @@
-//! `pcml`: the program of `tool`, over the files, words and streams of the process.
+//! `pcml`: the program of `pcml_tool`, over the files, words and streams of the process.
 #![tactic(auto)]
 
+use pcml_tool::{BAD_WORDS, Fault, SystemFiles, command, tell};
 use std::alloc::{AllocError, Global};
 use std::io::{ErrorKind, Write};
 use std::process::ExitCode;
@@ -8,7 +9,6 @@ use std::rt::{Env, Files};
 use std::sync::Wait;
 use std::thread::{Builder, Threads};
 use std::{env, io, thread};
-use tool::{BAD_WORDS, Fault, SystemFiles, command, tell};
 
 /// The bytes of stack for which a script may be as deep as its limit lets it.
 const STACK: usize = 1 << 20;

@@ -3,16 +3,16 @@ use Rattle.std.proofs.Common.{◌≡◌, ℕ, zero, suc, ◌<◌, Bool, true, fa
 use Rattle.std.specs.Prelude.{is_none, option_to_list, ◌↔◌, Contains}
 use Rattle.std.specs.List.{flat_map}
 use Rattle.std.proofs.lemmas.Bool.{cases_Bool, true≢false}
-use Rattle.words.specs.declared.Row.{Row}
-use Rattle.words.specs.declared.NackName.{NackName}
-use Rattle.words.specs.declared.Binding.{Binding}
-use Rattle.words.specs.declared.Joined.{Joined}
-use Rattle.words.specs.declared.Offer.{Offer}
-use Rattle.words.specs.declared.Base.{Base}
-use Rattle.words.specs.declared.Base.TheVariants.{Send, Recv, Always, OnNack, Never}
-use Rattle.words.specs.declared.Commit.{Commit}
-use Rattle.words.specs.declared.Commit.TheVariants.{Pair, Alone}
-use Rattle.words.specs.Commits.{stamp_of}
+use Rattle.protocol_values.specs.declared.Row.{Row}
+use Rattle.protocol_values.specs.declared.NackName.{NackName}
+use Rattle.protocol_values.specs.declared.Binding.{Binding}
+use Rattle.protocol_values.specs.declared.Joined.{Joined}
+use Rattle.protocol_values.specs.declared.Offer.{Offer}
+use Rattle.protocol_values.specs.declared.Base.{Base}
+use Rattle.protocol_values.specs.declared.Base.TheVariants.{Send, Recv, Always, OnNack, Never}
+use Rattle.protocol_values.specs.declared.Commit.{Commit}
+use Rattle.protocol_values.specs.declared.Commit.TheVariants.{Pair, Alone}
+use Rattle.protocol_values.specs.Commits.{stamp_of}
 use Rattle.protocol.specs.Tables.{row_eq, all_rows, names, is_partner}
 use Rattle.protocol.specs.Ledgers.{IsIn, Takes, Involves, Lawful, Fits, commit_named, commit_by, alone_by, pair_by, received_by, told_at, told_by, tells, is_send, sends, commits_of}
 use Rattle.protocol.proofs.RowLemmas.{row_eq-refl, IsOnce, once_all}
@@ -26,7 +26,7 @@ pub record IsNamedBy (r : Row) (j : Joined) (partner : Option (Row × ℕ)) (c :
   pub other : (p : Row × ℕ) → partner ≡ Some p → Takes c p.0 p.1
   pub stamp : stamp_of c ≡ j.stamp
 
-alone_rows : (r : Row) (j : Joined) (c d : Commit) (k : Rattle.words.specs.declared.Cause.Cause) → d ≡ Alone (r, j.own) k j.stamp → Some d ≡ Some c → IsNamedBy r j None c
+alone_rows : (r : Row) (j : Joined) (c d : Commit) (k : Rattle.protocol_values.specs.declared.Cause.Cause) → d ≡ Alone (r, j.own) k j.stamp → Some d ≡ Some c → IsNamedBy r j None c
 alone_rows r j c d k e h =
     let is : c ≡ Alone (r, j.own) k j.stamp = sym (some_inj d c h) ∙ e in
     record {
@@ -43,7 +43,7 @@ by_alone r j (Send d m) c h = let bad : None ≡ Some c = h in cc
 by_alone r j (Recv d) c h = let bad : None ≡ Some c = h in cc
 by_alone r j Never c h = let bad : None ≡ Some c = h in cc
 
-sent_rows : (r : Row) (j : Joined) (p : Row × ℕ) (c : Commit) (chan : ℕ) (m : Rattle.words.specs.declared.Message.Message) → (c ≡ Pair (r, j.own) p chan m j.stamp) ⊎ (c ≡ Pair p (r, j.own) chan m j.stamp) → IsNamedBy r j (Some p) c
+sent_rows : (r : Row) (j : Joined) (p : Row × ℕ) (c : Commit) (chan : ℕ) (m : Rattle.protocol_values.specs.declared.Message.Message) → (c ≡ Pair (r, j.own) p chan m j.stamp) ⊎ (c ≡ Pair p (r, j.own) chan m j.stamp) → IsNamedBy r j (Some p) c
 sent_rows r j p c chan m (inl is) = record {
   own = subst (λ (x : Commit). Takes x r j.own) (sym is) (inl refl);
   rows = λ x v. ⊎_elim
@@ -191,19 +191,19 @@ silent joined own (Some p) h =
     joined_some (Some k) h = (k, refl)
 
 -- a pair seen from a row that offered no send: the row receives
-receives : (offer : Row → ℕ → Option Offer) (r : Row) (j : Joined) (p : Row × ℕ) (c : Commit) → j.partner ≡ Some p → is_send (offer r j.own) ≡ false → commit_named offer r j ≡ Some c → (chan : ℕ) × (m : Rattle.words.specs.declared.Message.Message) × (c ≡ Pair p (r, j.own) chan m j.stamp)
+receives : (offer : Row → ℕ → Option Offer) (r : Row) (j : Joined) (p : Row × ℕ) (c : Commit) → j.partner ≡ Some p → is_send (offer r j.own) ≡ false → commit_named offer r j ≡ Some c → (chan : ℕ) × (m : Rattle.protocol_values.specs.declared.Message.Message) × (c ≡ Pair p (r, j.own) chan m j.stamp)
 unfolding commit_named
 receives offer r j p c e s h =
     by_own (offer r j.own) s (sym (ap (λ (v : Option (Row × ℕ)). commit_by offer r j v (offer r j.own)) e) ∙ h)
   where
-    by_other : (b : Base) → received_by r j p b ≡ Some c → (chan : ℕ) × (m : Rattle.words.specs.declared.Message.Message) × (c ≡ Pair p (r, j.own) chan m j.stamp)
+    by_other : (b : Base) → received_by r j p b ≡ Some c → (chan : ℕ) × (m : Rattle.protocol_values.specs.declared.Message.Message) × (c ≡ Pair p (r, j.own) chan m j.stamp)
     by_other (Send d m) k = (d, m, sym (some_inj _ c k))
     by_other (Recv d) k = let bad : None ≡ Some c = k in cc
     by_other (Always m) k = let bad : None ≡ Some c = k in cc
     by_other (OnNack n) k = let bad : None ≡ Some c = k in cc
     by_other Never k = let bad : None ≡ Some c = k in cc
 
-    by_base : (b : Base) (o : Option Offer) → sends b ≡ false → pair_by r j p b o ≡ Some c → (chan : ℕ) × (m : Rattle.words.specs.declared.Message.Message) × (c ≡ Pair p (r, j.own) chan m j.stamp)
+    by_base : (b : Base) (o : Option Offer) → sends b ≡ false → pair_by r j p b o ≡ Some c → (chan : ℕ) × (m : Rattle.protocol_values.specs.declared.Message.Message) × (c ≡ Pair p (r, j.own) chan m j.stamp)
     by_base (Send d m) o s k = absurd (true≢false s)
     by_base (Recv d) None s k = let bad : None ≡ Some c = k in cc
     by_base (Recv d) (Some o) s k = by_other o.base k
@@ -211,7 +211,7 @@ receives offer r j p c e s h =
     by_base (OnNack n) o s k = let bad : None ≡ Some c = k in cc
     by_base Never o s k = let bad : None ≡ Some c = k in cc
 
-    by_own : (o : Option Offer) → is_send o ≡ false → commit_by offer r j (Some p) o ≡ Some c → (chan : ℕ) × (m : Rattle.words.specs.declared.Message.Message) × (c ≡ Pair p (r, j.own) chan m j.stamp)
+    by_own : (o : Option Offer) → is_send o ≡ false → commit_by offer r j (Some p) o ≡ Some c → (chan : ℕ) × (m : Rattle.protocol_values.specs.declared.Message.Message) × (c ≡ Pair p (r, j.own) chan m j.stamp)
     by_own None s k = let bad : None ≡ Some c = k in cc
     by_own (Some o) s k = by_base o.base (offer p.0 p.1) s k
 

@@ -1,21 +1,22 @@
 -- What all steps keep makes a ledger lawful.
 use Rattle.std.proofs.Common.{◌≡◌, ◌≢◌, ℕ, zero, suc, ◌+◌, ◌-◌, ◌<◌, ◌≤◌, true, false, cond, eqb, length, Option, Some, None, sym, refl, ap, ◌∙◌, subst, ◌⊎◌, inl, inr, ⊎_elim, arith, is_some, max}
 use Rattle.std.proofs.lemmas.Bool.{cases_eq, cases_lt, false≢true, eqb-true, ne_eqb}
-use Rattle.words.specs.declared.Message.{Message}
-use Rattle.words.specs.declared.NackName.{NackName}
-use Rattle.words.specs.declared.Binding.{Binding}
-use Rattle.words.specs.declared.Base.{Base}
-use Rattle.words.specs.declared.Base.TheVariants.{Send, Recv, Always, OnNack, Never}
-use Rattle.words.specs.declared.Row.{Row}
-use Rattle.words.specs.declared.Joined.{Joined}
-use Rattle.words.specs.declared.Offer.{Offer}
-use Rattle.words.specs.declared.Commit.{Commit}
-use Rattle.words.specs.declared.Cause.TheVariants as cause
-use Rattle.words.specs.declared.Commit.TheVariants.{Pair, Alone}
-use Rattle.words.specs.declared.Cell.{Cell}
-use Rattle.words.specs.declared.Cell.TheVariants.{Claimed}
-use Rattle.words.specs.Commits.{stamp_of}
-use Rattle.protocol.specs.Tables.{all_rows, is_fresh, joined_of, names, is_partner, offers_meet, stands_alone, encloses, bound_row, cause_of, bases_meet, last_stamp, row_stamp}
+use Rattle.protocol_values.specs.declared.Message.{Message}
+use Rattle.protocol_values.specs.declared.NackName.{NackName}
+use Rattle.protocol_values.specs.declared.Binding.{Binding}
+use Rattle.protocol_values.specs.declared.Base.{Base}
+use Rattle.protocol_values.specs.declared.Base.TheVariants.{Send, Recv, Always, OnNack, Never}
+use Rattle.protocol_values.specs.declared.Row.{Row}
+use Rattle.protocol_values.specs.declared.Joined.{Joined}
+use Rattle.protocol_values.specs.declared.Offer.{Offer}
+use Rattle.protocol_values.specs.declared.Commit.{Commit}
+use Rattle.protocol_values.specs.declared.Cause.TheVariants as cause
+use Rattle.protocol_values.specs.declared.Commit.TheVariants.{Pair, Alone}
+use Rattle.protocol_values.specs.declared.Cell.{Cell}
+use Rattle.protocol_values.specs.declared.Cell.TheVariants.{Claimed}
+use Rattle.protocol_values.specs.Commits.{stamp_of}
+use Rattle.protocol.specs.Tables.{all_rows, is_fresh, names, is_partner, offers_meet, stands_alone, encloses, bound_row, cause_of, last_stamp, row_stamp}
+use Rattle.protocol_values.specs.Values.{joined_of, bases_meet}
 use Rattle.protocol.specs.Worlds.{mirrored}
 use Rattle.protocol.specs.Ledgers.{IsIn, IsEnabled, Involves, CausedBy, Offers, Fits, Enables, CountsFor, Lawful, commit_named, commit_by, alone_by, pair_by, received_by, commits_of}
 use Rattle.protocol.specs.Kept.{joined_by, IsSideOf, IsAlone, Linked}

@@ -2,13 +2,14 @@
 use Rattle.std.proofs.Common.{◌≡◌, ℕ, ◌<◌, true, false, cond, sym, refl, ap, ◌∙◌, subst, ⊎_elim, Option, Some, None, is_some}
 use Rattle.std.specs.Prelude.{IfSome, IfNone, ◌↔◌, Contains, option_and_then}
 use Rattle.std.proofs.lemmas.Bool.{cases_Bool, false≢true, true≢false}
-use Rattle.words.specs.declared.Row.{Row}
-use Rattle.words.specs.declared.Joined.{Joined}
-use Rattle.words.specs.declared.Offer.{Offer}
-use Rattle.words.specs.declared.Commit.{Commit}
-use Rattle.words.specs.declared.Cell.{Cell}
-use Rattle.words.specs.declared.Cell.TheVariants.{Fresh, Waiting, Claimed, Synched, Taken}
-use Rattle.protocol.specs.Tables.{Table, all_rows, cell_at, is_fresh, joined_of, joined_at, offer_at, names, namer_of}
+use Rattle.protocol_values.specs.declared.Row.{Row}
+use Rattle.protocol_values.specs.declared.Joined.{Joined}
+use Rattle.protocol_values.specs.declared.Offer.{Offer}
+use Rattle.protocol_values.specs.declared.Commit.{Commit}
+use Rattle.protocol_values.specs.declared.Cell.{Cell}
+use Rattle.protocol_values.specs.declared.Cell.TheVariants.{Fresh, Waiting, Claimed, Synched, Taken}
+use Rattle.protocol.specs.Tables.{Table, all_rows, cell_at, is_fresh, joined_at, offer_at, names, namer_of}
+use Rattle.protocol_values.specs.Values.{joined_of}
 use Rattle.protocol.specs.Ledgers.{Ledger, ledger_of, joined_in, offer_in, IsIn, Takes, Involves, HasCommit, IsLawful, commits_of, commits_in, pending_of, pending_in, commit_named, named_at, commit_at}
 use Rattle.protocol.proofs.Linking.{cases_Option, some_parts, none_from, fresh_not_joined, IsNaming, naming}
 use Rattle.protocol.proofs.Places.{row_inside}

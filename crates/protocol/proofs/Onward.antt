@@ -1,22 +1,23 @@
 -- Whatever step is made, what is opened, committed and bound stays so.
 use Rattle.std.proofs.Common.{◌⊎◌, ◌≡◌, ℕ, ◌<◌, true, false, List, [], ◌∷◌, Option, Some, None, is_some, sym, refl, ap, ◌∙◌, subst, arith, inl, inr, ⊎_elim}
 use Rattle.std.proofs.lemmas.Bool.{true≢false}
-use Rattle.words.specs.Words.{IsCellInRange}
-use Rattle.words.specs.declared.Binding.{Binding}
-use Rattle.words.specs.declared.Cell.{Cell}
-use Rattle.words.specs.declared.Cell.TheVariants.{Fresh, Waiting, Claimed, Synched, Taken}
-use Rattle.words.specs.declared.Commit.{Commit}
-use Rattle.words.specs.declared.Joined.{Joined}
-use Rattle.words.specs.declared.NackName.{NackName}
-use Rattle.words.specs.declared.Offer.{Offer}
-use Rattle.words.specs.declared.Row.{Row}
-use Rattle.words.specs.declared.Seat.{Seat}
-use Rattle.words.specs.declared.Step.{Step}
-use Rattle.words.specs.declared.Step.TheVariants.{Draft, Open, Look, Read, Claim, Yield, Join, Seal, Grant, Take, Bind}
+use Rattle.protocol_values.specs.Words.{IsCellInRange}
+use Rattle.protocol_values.specs.declared.Binding.{Binding}
+use Rattle.protocol_values.specs.declared.Cell.{Cell}
+use Rattle.protocol_values.specs.declared.Cell.TheVariants.{Fresh, Waiting, Claimed, Synched, Taken}
+use Rattle.protocol_values.specs.declared.Commit.{Commit}
+use Rattle.protocol_values.specs.declared.Joined.{Joined}
+use Rattle.protocol_values.specs.declared.NackName.{NackName}
+use Rattle.protocol_values.specs.declared.Offer.{Offer}
+use Rattle.protocol_values.specs.declared.Row.{Row}
+use Rattle.protocol_values.specs.declared.Seat.{Seat}
+use Rattle.protocol_values.specs.declared.Step.{Step}
+use Rattle.protocol_values.specs.declared.Step.TheVariants.{Draft, Open, Look, Read, Claim, Yield, Join, Seal, Grant, Take, Bind}
 use Rattle.protocol.specs.Growing.{CommitsStay, GrowsTo, TablesGrow}
 use Rattle.protocol.specs.Kept.{Kept}
 use Rattle.protocol.specs.Ledgers.{HasCommit, commit_by, commit_named, pair_by, ledger_of}
-use Rattle.protocol.specs.Tables.{Table, all_rows, binding_at, bound_row, cause_at, cell_at, is_fresh, is_row, is_taken, joined_at, joined_of, offer_at, row_eq, synched_of}
+use Rattle.protocol.specs.Tables.{Table, all_rows, binding_at, bound_row, cause_at, cell_at, is_fresh, is_row, is_taken, joined_at, offer_at, row_eq, synched_of}
+use Rattle.protocol_values.specs.Values.{joined_of}
 use Rattle.protocol.specs.Worlds.{Allowed, Condition, Plays, World, after_step, granted_by, joined_with, mirrored, nack_of_row, namer_at, sealed_by, with_cell, with_nack, with_seal, with_take, with_word}
 use Rattle.protocol.proofs.Keeping.{bind_in_range, grant_in_range, held_row, join_in_range, kept_schedule, kept_step, nack_of_thread, seal_in_range, sealed_is, sealing, synched_is}
 use Rattle.protocol.proofs.LedgerLemmas.{kept_start}

@@ -3,10 +3,10 @@ use Rattle.std.proofs.Common.{Some, ◌≡◌, ℕ, ◌+◌, ◌*◌, ◌<◌, �
 use Rattle.std.proofs.lemmas.Bool.{cases_order, ltb-true, lt-ltb, and_parts, and_from}
 use Rattle.std.proofs.lemmas.List.{get_or-set_same, get_or-set_other}
 use Rattle.std.proofs.Math.Nat.{mul-le-mul_right}
-use Rattle.words.specs.declared.Row.{Row}
-use Rattle.words.specs.declared.NackName.{NackName}
-use Rattle.words.specs.declared.Binding.{Binding}
-use Rattle.words.specs.Words.{nack_word}
+use Rattle.protocol_values.specs.declared.Row.{Row}
+use Rattle.protocol_values.specs.declared.NackName.{NackName}
+use Rattle.protocol_values.specs.declared.Binding.{Binding}
+use Rattle.protocol_values.specs.Words.{nack_word}
 use Rattle.protocol.specs.Tables.{Table, thread_len, place_of, nack_place, is_row, is_nack, word_at, nack_at, row_eq}
 use Rattle.protocol.specs.Worlds.{with_word, with_nack}
 use Rattle.protocol.proofs.RowLemmas.{row_eq-false, same_row}

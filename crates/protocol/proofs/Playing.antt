@@ -1,8 +1,8 @@
 -- Schedules: one step more, the first step that is refused, and that a schedule has one answer.
 use Rattle.std.proofs.Common.{◌≡◌, ℕ, suc, ◌+◌, ◌<◌, List, [], ◌∷◌, ◌++◌, length, get_or, take, drop, sym, refl, ap, ◌∙◌, subst, arith}
 use Rattle.std.proofs.lemmas.List.{take_more, drop_more, take-append-drop, length-take-le}
-use Rattle.words.specs.declared.Seat.{Seat}
-use Rattle.words.specs.declared.Step.{Step}
+use Rattle.protocol_values.specs.declared.Seat.{Seat}
+use Rattle.protocol_values.specs.declared.Step.{Step}
 use Rattle.protocol.specs.Worlds.{World, Allowed, after_step, Plays, IsRefused}
 
 pub plays_more : (w v : World) (xs : List (Seat × Step)) (s : Seat × Step) → Plays w xs v → Allowed v s.0 s.1 → Plays w (xs ++ s ∷ []) (after_step v s.0 s.1)

@@ -3,16 +3,17 @@ use Rattle.std.proofs.Common.{◌⊎◌, ◌≡◌, ◌≢◌, ℕ, ◌+◌, ◌
 use Rattle.std.specs.Prelude.{unwrap_or, IfSome}
 use Rattle.std.proofs.lemmas.Bool.{cases_eq, cases_Bool, ltb-true, ltb-false, le-ltb, lt-ltb, false≢true, true≢false}
 use Rattle.std.proofs.lemmas.List.{length-set, get_or_read_under}
-use Rattle.words.specs.declared.Row.{Row}
-use Rattle.words.specs.declared.NackName.{NackName}
-use Rattle.words.specs.declared.Binding.{Binding}
-use Rattle.words.specs.declared.Offer.{Offer}
-use Rattle.words.specs.declared.Joined.{Joined}
-use Rattle.words.specs.declared.Cell.{Cell}
-use Rattle.words.specs.declared.Cell.TheVariants.{Fresh, Waiting, Claimed, Synched, Taken}
-use Rattle.words.specs.Words.{cell_of, cell_word, count_of, offer_of, nack_of, is_word_for, IsBindingInRange, IsCellInRange, IsJoinedInRange}
-use Rattle.words.proofs.WordLemmas.{cell_of-cell_word, count-count_of, cell_is_word, cell_word-cell_of, nack_of-nack_word, nack_word-nack_of}
-use Rattle.protocol.specs.Tables.{Table, thread_len, place_of, is_row, is_nack, nack_at, binding_at, word_at, row_eq, cell_at, is_fresh, count_at, offer_at, joined_at, joined_of}
+use Rattle.protocol_values.specs.declared.Row.{Row}
+use Rattle.protocol_values.specs.declared.NackName.{NackName}
+use Rattle.protocol_values.specs.declared.Binding.{Binding}
+use Rattle.protocol_values.specs.declared.Offer.{Offer}
+use Rattle.protocol_values.specs.declared.Joined.{Joined}
+use Rattle.protocol_values.specs.declared.Cell.{Cell}
+use Rattle.protocol_values.specs.declared.Cell.TheVariants.{Fresh, Waiting, Claimed, Synched, Taken}
+use Rattle.protocol_values.specs.Words.{cell_of, cell_word, count_of, offer_of, nack_of, is_word_for, IsBindingInRange, IsCellInRange, IsJoinedInRange}
+use Rattle.protocol_values.proofs.WordLemmas.{cell_of-cell_word, count-count_of, cell_is_word, cell_word-cell_of, nack_of-nack_word, nack_word-nack_of}
+use Rattle.protocol.specs.Tables.{Table, thread_len, place_of, is_row, is_nack, nack_at, binding_at, word_at, row_eq, cell_at, is_fresh, count_at, offer_at, joined_at}
+use Rattle.protocol_values.specs.Values.{joined_of}
 use Rattle.protocol.specs.Worlds.{with_word, with_cell, with_nack}
 use Rattle.protocol.specs.Kept.{IsFormed}
 use Rattle.protocol.proofs.RowLemmas.{row_cases, put, put_same, put_other}

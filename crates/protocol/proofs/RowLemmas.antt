@@ -5,7 +5,7 @@ use Rattle.std.specs.List.{IsDistinct, list_any}
 use Rattle.std.specs.Cmp.{IsEquivalence}
 use Rattle.std.proofs.lemmas.Map.Keys.{IsDistinct-push}
 use Rattle.std.proofs.lemmas.List.{append-nil}
-use Rattle.words.specs.declared.Row.{Row}
+use Rattle.protocol_values.specs.declared.Row.{Row}
 use Rattle.protocol.specs.Tables.{row_eq, rows_below, all_rows}
 
 pub row_eq-refl : (r : Row) → row_eq r r ≡ true

@@ -1,13 +1,13 @@
 -- An opened row offers what it was opened with, and the results before it stay: so it stands as it was opened.
 use Rattle.std.proofs.Common.{◌≡◌, ℕ, ◌≤◌, true, false, List, [], ◌∷◌, Option, is_some, sym, ap, ◌∙◌, subst, ⊎_elim}
 use Rattle.std.proofs.lemmas.Bool.{true≢false}
-use Rattle.words.specs.declared.Binding.{Binding}
-use Rattle.words.specs.declared.NackName.{NackName}
-use Rattle.words.specs.declared.Offer.{Offer}
-use Rattle.words.specs.declared.Row.{Row}
-use Rattle.words.specs.declared.Seat.{Seat}
-use Rattle.words.specs.declared.Step.{Step}
-use Rattle.words.specs.declared.Step.TheVariants.{Open}
+use Rattle.protocol_values.specs.declared.Binding.{Binding}
+use Rattle.protocol_values.specs.declared.NackName.{NackName}
+use Rattle.protocol_values.specs.declared.Offer.{Offer}
+use Rattle.protocol_values.specs.declared.Row.{Row}
+use Rattle.protocol_values.specs.declared.Seat.{Seat}
+use Rattle.protocol_values.specs.declared.Step.{Step}
+use Rattle.protocol_values.specs.declared.Step.TheVariants.{Open}
 use Rattle.protocol.specs.Growing.{GrowsTo}
 use Rattle.protocol.specs.Kept.{Kept}
 use Rattle.protocol.specs.Ledgers.{binding_in, ledger_of, offer_in}

@@ -2,10 +2,11 @@
 use Rattle.std.proofs.Common.{◌≡◌, ℕ, ◌<◌, ◌≤◌, List, get_or, replicate, sym, ap, ◌∙◌, subst, ⊎_elim, Option, None, arith}
 use Rattle.std.proofs.lemmas.Bool.{cases_lt}
 use Rattle.std.proofs.lemmas.List.{get_or-replicate, get_or_past, length-replicate}
-use Rattle.words.specs.declared.Row.{Row}
-use Rattle.words.specs.declared.Cell.{Cell}
+use Rattle.protocol_values.specs.declared.Row.{Row}
+use Rattle.protocol_values.specs.declared.Cell.{Cell}
 use Rattle.protocol.specs.declared.state.State.{State}
-use Rattle.protocol.specs.Tables.{all_rows, number_of, joined_of, names}
+use Rattle.protocol.specs.Tables.{all_rows, number_of, names}
+use Rattle.protocol_values.specs.Values.{joined_of}
 use Rattle.protocol.specs.Worlds.{World, start_world}
 use Rattle.protocol.specs.Kept.{Kept}
 use Rattle.protocol.specs.States.{world_of, IsSound, Tells}

@@ -3,14 +3,15 @@ use Rattle.std.proofs.Common.{◌≡◌, ℕ, ◌*◌, ◌≤◌, true, false, l
 use Rattle.std.specs.List.{find}
 use Rattle.std.proofs.lemmas.Bool.{cases_Bool, false≢true}
 use Rattle.std.proofs.lemmas.List.{get_or-set_same, get_or-set_other}
-use Rattle.words.specs.declared.Row.{Row}
-use Rattle.words.specs.declared.NackName.{NackName}
-use Rattle.words.specs.declared.Binding.{Binding}
-use Rattle.words.specs.declared.Joined.{Joined}
-use Rattle.words.specs.declared.Cell.{Cell}
-use Rattle.words.specs.declared.Cell.TheVariants.{Waiting, Claimed, Synched}
-use Rattle.words.specs.Words.{is_word_for}
-use Rattle.protocol.specs.Tables.{Table, is_row, is_nack, row_eq, all_rows, number_of, cell_at, is_fresh, joined_of, joined_at, offer_at, offers_meet, names, is_partner, namer_of, cause_at}
+use Rattle.protocol_values.specs.declared.Row.{Row}
+use Rattle.protocol_values.specs.declared.NackName.{NackName}
+use Rattle.protocol_values.specs.declared.Binding.{Binding}
+use Rattle.protocol_values.specs.declared.Joined.{Joined}
+use Rattle.protocol_values.specs.declared.Cell.{Cell}
+use Rattle.protocol_values.specs.declared.Cell.TheVariants.{Waiting, Claimed, Synched}
+use Rattle.protocol_values.specs.Words.{is_word_for}
+use Rattle.protocol.specs.Tables.{Table, is_row, is_nack, row_eq, all_rows, number_of, cell_at, is_fresh, joined_at, offer_at, offers_meet, names, is_partner, namer_of, cause_at}
+use Rattle.protocol_values.specs.Values.{joined_of}
 use Rattle.protocol.specs.Worlds.{World, namer_at, with_word, with_cell, with_table, joined_with, mirrored, granted_by, with_nack}
 use Rattle.protocol.specs.Kept.{Kept, joined_by}
 use Rattle.protocol.specs.States.{Tells}
@@ -75,7 +76,7 @@ pub tells_draft : (w : World) (x : Row) (p v : ℕ) (namers : List (Option Row))
 tells_draft w x p v namers h a b =
     tells_same w (with_word w.table x p v) namers refl refl (λ q r. ap (λ (c : Cell). names (joined_of c) r) (cell_after_word w.table x q p v h a (omega arith)))
 
-pub tells_plain : (w : World) (x : Row) (c : Cell) (namers : List (Option Row)) → Kept w → is_row w.table x ≡ true → Rattle.words.specs.Words.IsCellInRange c → ((r : Row) → names (joined_of c) r ≡ names (joined_of (cell_at w.table x)) r) → Tells w namers → Tells (with_table w (with_cell w.table x c)) namers
+pub tells_plain : (w : World) (x : Row) (c : Cell) (namers : List (Option Row)) → Kept w → is_row w.table x ≡ true → Rattle.protocol_values.specs.Words.IsCellInRange c → ((r : Row) → names (joined_of c) r ≡ names (joined_of (cell_at w.table x)) r) → Tells w namers → Tells (with_table w (with_cell w.table x c)) namers
 unfolding with_cell
 tells_plain w x c namers k h g same = tells_same w (with_cell w.table x c) namers refl refl (λ q r. after q r ∙ at q r)
   where

@@ -1,12 +1,12 @@
 -- What stays of a table, however its schedule goes on.
 use Rattle.std.specs.Prelude.{◌≡◌, ℕ, ◌≤◌, false, List, Some}
-use Rattle.words.specs.declared.Binding.{Binding}
-use Rattle.words.specs.declared.Commit.{Commit}
-use Rattle.words.specs.declared.Joined.{Joined}
-use Rattle.words.specs.declared.NackName.{NackName}
-use Rattle.words.specs.declared.Row.{Row}
-use Rattle.words.specs.declared.Seat.{Seat}
-use Rattle.words.specs.declared.Step.{Step}
+use Rattle.protocol_values.specs.declared.Binding.{Binding}
+use Rattle.protocol_values.specs.declared.Commit.{Commit}
+use Rattle.protocol_values.specs.declared.Joined.{Joined}
+use Rattle.protocol_values.specs.declared.NackName.{NackName}
+use Rattle.protocol_values.specs.declared.Row.{Row}
+use Rattle.protocol_values.specs.declared.Seat.{Seat}
+use Rattle.protocol_values.specs.declared.Step.{Step}
 use Rattle.protocol.specs.Tables.{Table, binding_at, bound_row, cell_at, is_fresh, joined_at, offer_at}
 use Rattle.protocol.specs.Ledgers.{HasCommit, ledger_of}
 use Rattle.protocol.specs.Worlds.{Plays, World, start_world}

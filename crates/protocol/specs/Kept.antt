@@ -1,14 +1,15 @@
 -- What all steps keep. The laws of ledgers follow from it.
 use Rattle.std.specs.Prelude.{◌≡◌, ◌≢◌, ℕ, ◌+◌, ◌*◌, ◌<◌, ◌≤◌, ◌⊎◌, true, false, Option, Some, None, is_some, length, max}
-use Rattle.words.specs.Words.{is_word_for, nack_of}
-use Rattle.words.specs.declared.NackName.{NackName}
-use Rattle.words.specs.declared.Binding.{Binding}
-use Rattle.words.specs.declared.Offer.{Offer}
-use Rattle.words.specs.declared.Row.{Row}
-use Rattle.words.specs.declared.Joined.{Joined}
-use Rattle.words.specs.declared.Cell.{Cell}
-use Rattle.words.specs.declared.Cell.TheVariants.{Claimed}
-use Rattle.protocol.specs.Tables.{Table, thread_len, all_rows, is_row, is_nack, word_at, nack_at, cell_at, offer_at, is_fresh, is_taken, joined_of, names, offers_meet, last_stamp, binding_at, bound_row, cause_of}
+use Rattle.protocol_values.specs.Words.{is_word_for, nack_of}
+use Rattle.protocol_values.specs.declared.NackName.{NackName}
+use Rattle.protocol_values.specs.declared.Binding.{Binding}
+use Rattle.protocol_values.specs.declared.Offer.{Offer}
+use Rattle.protocol_values.specs.declared.Row.{Row}
+use Rattle.protocol_values.specs.declared.Joined.{Joined}
+use Rattle.protocol_values.specs.declared.Cell.{Cell}
+use Rattle.protocol_values.specs.declared.Cell.TheVariants.{Claimed}
+use Rattle.protocol.specs.Tables.{Table, thread_len, all_rows, is_row, is_nack, word_at, nack_at, cell_at, offer_at, is_fresh, is_taken, names, offers_meet, last_stamp, binding_at, bound_row, cause_of}
+use Rattle.protocol_values.specs.Values.{joined_of}
 use Rattle.protocol.specs.Worlds.{World, holder_at, mirrored}
 use Rattle.protocol.specs.Ledgers.{commits_of}
 

@@ -1,19 +1,19 @@
 -- Ledgers: the commits that a table's words name, and when they are lawful.
 use Rattle.std.specs.Prelude.{zero, suc, ◌⊎◌, ◌≡◌, ℕ, ◌+◌, ◌*◌, ◌<◌, ◌≤◌, ◌≢◌, Bool, true, false, ◌||◌, ◌&&◌, nat_lt, if◌then◌else◌, Option, Some, None, is_some, is_none, option_and_then, option_to_list, List, [], ◌++◌, map, length, count_by, slice_get, slice_index_or}
 use Rattle.std.specs.List.{range_with_len, flat_map}
-use Rattle.words.specs.declared.NackName.{NackName}
-use Rattle.words.specs.declared.Base.{Base}
-use Rattle.words.specs.declared.Base.TheVariants.{Send, Recv, Always, OnNack, Never}
-use Rattle.words.specs.declared.Offer.{Offer}
-use Rattle.words.specs.declared.Row.{Row}
-use Rattle.words.specs.declared.Joined.{Joined}
-use Rattle.words.specs.declared.Binding.{Binding}
-use Rattle.words.specs.declared.Cause.{Cause}
-use Rattle.words.specs.declared.Cause.TheVariants as cause
-use Rattle.words.specs.declared.Commit.{Commit}
-use Rattle.words.specs.declared.Commit.TheVariants.{Pair, Alone}
-use Rattle.words.specs.Commits.{stamp_of}
-use Rattle.words.specs.Scopes.{has_scope}
+use Rattle.protocol_values.specs.declared.NackName.{NackName}
+use Rattle.protocol_values.specs.declared.Base.{Base}
+use Rattle.protocol_values.specs.declared.Base.TheVariants.{Send, Recv, Always, OnNack, Never}
+use Rattle.protocol_values.specs.declared.Offer.{Offer}
+use Rattle.protocol_values.specs.declared.Row.{Row}
+use Rattle.protocol_values.specs.declared.Joined.{Joined}
+use Rattle.protocol_values.specs.declared.Binding.{Binding}
+use Rattle.protocol_values.specs.declared.Cause.{Cause}
+use Rattle.protocol_values.specs.declared.Cause.TheVariants as cause
+use Rattle.protocol_values.specs.declared.Commit.{Commit}
+use Rattle.protocol_values.specs.declared.Commit.TheVariants.{Pair, Alone}
+use Rattle.protocol_values.specs.Commits.{stamp_of}
+use Rattle.protocol_values.specs.Scopes.{has_scope}
 use Rattle.protocol.specs.Tables.{Table, all_rows, number_of, joined_at, count_at, offer_at, binding_at, namer_of}
 
 -- What a ledger has of a row: its offers, once it is opened, and how it is committed.

@@ -1,4 +1,4 @@
-pub use Rattle.words.specs.Words
+pub use Rattle.protocol_values.specs.Words
 pub mod Tables
 pub mod Worlds
 pub mod Ledgers

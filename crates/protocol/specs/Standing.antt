@@ -1,18 +1,18 @@
 -- What rows offer by the results of their threads: whoever stands for a thread offers something after these results.
 use Rattle.std.specs.Prelude.{◌≡◌, ◌⊎◌, ℕ, ◌+◌, ◌<◌, ⊤, false, Option, Some, None, List, [], ◌∷◌, ◌++◌, length, slice_get}
-use Rattle.words.specs.declared.Base.{Base}
-use Rattle.words.specs.declared.Base.TheVariants.{Send, Recv, Always, OnNack, Never}
-use Rattle.words.specs.declared.Binding.{Binding}
-use Rattle.words.specs.declared.Cause.TheVariants as cause
-use Rattle.words.specs.declared.Commit.{Commit}
-use Rattle.words.specs.declared.Commit.TheVariants.{Pair, Alone}
-use Rattle.words.specs.declared.Message.{Message}
-use Rattle.words.specs.declared.Message.TheVariants.{Empty}
-use Rattle.words.specs.declared.Offer.{Offer}
-use Rattle.words.specs.declared.Row.{Row}
-use Rattle.words.specs.declared.Seat.{Seat}
-use Rattle.words.specs.declared.Step.{Step}
-use Rattle.words.specs.declared.Step.TheVariants.{Open}
+use Rattle.protocol_values.specs.declared.Base.{Base}
+use Rattle.protocol_values.specs.declared.Base.TheVariants.{Send, Recv, Always, OnNack, Never}
+use Rattle.protocol_values.specs.declared.Binding.{Binding}
+use Rattle.protocol_values.specs.declared.Cause.TheVariants as cause
+use Rattle.protocol_values.specs.declared.Commit.{Commit}
+use Rattle.protocol_values.specs.declared.Commit.TheVariants.{Pair, Alone}
+use Rattle.protocol_values.specs.declared.Message.{Message}
+use Rattle.protocol_values.specs.declared.Message.TheVariants.{Empty}
+use Rattle.protocol_values.specs.declared.Offer.{Offer}
+use Rattle.protocol_values.specs.declared.Row.{Row}
+use Rattle.protocol_values.specs.declared.Seat.{Seat}
+use Rattle.protocol_values.specs.declared.Step.{Step}
+use Rattle.protocol_values.specs.declared.Step.TheVariants.{Open}
 use Rattle.protocol.specs.Ledgers.{Ledger, HasCommit, Involves, IsLawful, binding_in, ledger_of, offer_in}
 use Rattle.protocol.specs.Tables.{Table, cell_at, is_fresh}
 use Rattle.protocol.specs.Worlds.{World, after_step, nack_of_row}

@@ -1,9 +1,9 @@
 -- What the code's own tables and worlds stand for.
 use Rattle.std.specs.Prelude.{◌≡◌, Bool, true, false, Option, None, List, slice_index_or}
-use Rattle.words.specs.declared.Row.{Row}
-use Rattle.words.specs.declared.Seat.{Seat}
-use Rattle.words.specs.declared.Step.{Step}
-use Rattle.protocol.specs.declared.board.Board.{Board}
+use Rattle.protocol_values.specs.declared.Row.{Row}
+use Rattle.protocol_values.specs.declared.Seat.{Seat}
+use Rattle.protocol_values.specs.declared.Step.{Step}
+use Rattle.protocol.specs.declared.sheet.Sheet.{Sheet}
 use Rattle.protocol.specs.declared.state.State.{State}
 use Rattle.protocol.specs.Tables.{Table, is_row, number_of}
 use Rattle.protocol.specs.Worlds.{World, Condition, Allowed, after_step, namer_at, IsRefused}
@@ -11,12 +11,12 @@ use Rattle.protocol.specs.Kept.{Kept}
 use Rattle.protocol.specs.declared.ProtoFault.{ProtoFault}
 use Rattle.protocol.specs.declared.ProtoFault.TheVariants.{Memory, NotAllowed}
 
--- the table that a board's words are
-abbrev pub table_of : Board → Table
+-- the table that a sheet's words are
+abbrev pub table_of : Sheet → Table
 table_of b = record { threads = b.threads; rows = b.rows; words = b.words.items }
 
 abbrev pub world_of : State → World
-world_of s = record { table = table_of s.board; seats = s.seats; holders = s.holders.items }
+world_of s = record { table = table_of s.sheet; seats = s.seats; holders = s.holders.items }
 
 -- the list has, row by row, the row that names each
 abbrev pub Tells : World → List (Option Row) → Type 0

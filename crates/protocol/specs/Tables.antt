@@ -1,16 +1,17 @@
 -- The table of words: where each word lies, and what a row or a nack reads as.
 use Rattle.std.specs.Prelude.{ℕ, zero, suc, ◌+◌, ◌-◌, ◌*◌, Bool, true, false, ◌==◌, ◌&&◌, nat_lt, if◌then◌else◌, Option, Some, None, unwrap_or, List, [], ◌∷◌, ◌++◌, find, slice_index}
-use Rattle.words.specs.Scopes.{has_scope}
-use Rattle.words.specs.Words.{cell_of, count_of, offer_of, nack_of}
-use Rattle.words.specs.declared.NackName.{NackName}
-use Rattle.words.specs.declared.Offer.{Offer}
-use Rattle.words.specs.declared.Base.{Base}
-use Rattle.words.specs.declared.Base.TheVariants.{Send, Recv, Always, OnNack, Never}
-use Rattle.words.specs.declared.Row.{Row}
-use Rattle.words.specs.declared.Joined.{Joined}
-use Rattle.words.specs.declared.Cell.{Cell}
-use Rattle.words.specs.declared.Cell.TheVariants.{Fresh, Waiting, Claimed, Synched, Taken}
-use Rattle.words.specs.declared.Binding.{Binding}
+use Rattle.protocol_values.specs.Scopes.{has_scope}
+use Rattle.protocol_values.specs.Values.{bases_meet, joined_of}
+use Rattle.protocol_values.specs.Words.{cell_of, count_of, offer_of, nack_of}
+use Rattle.protocol_values.specs.declared.NackName.{NackName}
+use Rattle.protocol_values.specs.declared.Offer.{Offer}
+use Rattle.protocol_values.specs.declared.Base.{Base}
+use Rattle.protocol_values.specs.declared.Base.TheVariants.{Send, Recv, Always, OnNack, Never}
+use Rattle.protocol_values.specs.declared.Row.{Row}
+use Rattle.protocol_values.specs.declared.Joined.{Joined}
+use Rattle.protocol_values.specs.declared.Cell.{Cell}
+use Rattle.protocol_values.specs.declared.Cell.TheVariants.{Fresh, Waiting, Claimed, Synched, Taken}
+use Rattle.protocol_values.specs.declared.Binding.{Binding}
 
 -- The words lie thread by thread: a thread's rows first, 34 words each, then its 64 nack words.
 pub record Table : Type 0 where
@@ -71,14 +72,6 @@ is_fresh Claimed = false
 is_fresh (Synched j) = false
 is_fresh (Taken j) = false
 
--- how a committed row was committed
-abbrev pub joined_of : Cell → Option Joined
-joined_of Fresh = None
-joined_of Waiting = None
-joined_of Claimed = None
-joined_of (Synched j) = Some j
-joined_of (Taken j) = Some j
-
 -- how a committed row was committed that nobody has taken
 abbrev pub synched_of : Cell → Option Joined
 synched_of Fresh = None
@@ -93,10 +86,6 @@ is_taken Waiting = false
 is_taken Claimed = false
 is_taken (Synched j) = false
 is_taken (Taken j) = true
-
--- the row behind this one in its thread
-abbrev pub next_row : Row → Row
-next_row r = record { thread = r.thread; sync = r.sync + 1 }
 
 -- how many offers an opened row has
 unfoldable pub count_at : Table → Row → ℕ
@@ -114,11 +103,6 @@ unfoldable pub binding_at : Table → NackName → Option Binding
 binding_at t n = if is_nack t n then unwrap_or (nack_of (nack_at t n)) None else None
 
 -- a send and a receive on one channel
-abbrev pub bases_meet : Base → Base → Bool
-bases_meet (Send c m) (Recv d) = c == d
-bases_meet (Recv c) (Send d m) = c == d
-bases_meet a b = false
-
 abbrev pub offers_meet : Option Offer → Option Offer → Bool
 offers_meet (Some a) (Some b) = bases_meet a.base b.base
 offers_meet (Some a) None = false

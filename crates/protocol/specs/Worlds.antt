@@ -1,16 +1,17 @@
 -- Worlds: who holds which row, each step's condition and effect, and whole schedules.
 use Rattle.std.specs.Prelude.{◌≡◌, ℕ, ◌+◌, ◌*◌, ◌%◌, ◌<◌, ◌≤◌, ◌≢◌, true, ◌==◌, if◌then◌else◌, Option, Some, None, is_some, unwrap_or, List, [], ◌∷◌, ◌++◌, length, map, max, replicate, slice_index_or, slice_set}
-use Rattle.words.specs.Words.{cell_word, is_word_for, nack_word}
-use Rattle.words.specs.declared.Row.{Row}
-use Rattle.words.specs.declared.NackName.{NackName}
-use Rattle.words.specs.declared.Binding.{Binding}
-use Rattle.words.specs.declared.Joined.{Joined}
-use Rattle.words.specs.declared.Cell.{Cell}
-use Rattle.words.specs.declared.Cell.TheVariants.{Fresh, Waiting, Claimed, Synched, Taken}
-use Rattle.words.specs.declared.Seat.{Seat}
-use Rattle.words.specs.declared.Step.{Step}
-use Rattle.words.specs.declared.Step.TheVariants.{Draft, Open, Look, Read, Claim, Yield, Join, Seal, Grant, Take, Bind}
-use Rattle.protocol.specs.Tables.{Table, thread_len, place_of, nack_place, number_of, all_rows, is_row, next_row, cell_at, synched_of, offer_at, offers_meet, binding_at, cause_at, joined_at, namer_of, last_stamp}
+use Rattle.protocol_values.specs.Words.{cell_word, is_word_for, nack_word}
+use Rattle.protocol_values.specs.declared.Row.{Row}
+use Rattle.protocol_values.specs.declared.NackName.{NackName}
+use Rattle.protocol_values.specs.declared.Binding.{Binding}
+use Rattle.protocol_values.specs.declared.Joined.{Joined}
+use Rattle.protocol_values.specs.declared.Cell.{Cell}
+use Rattle.protocol_values.specs.declared.Cell.TheVariants.{Fresh, Waiting, Claimed, Synched, Taken}
+use Rattle.protocol_values.specs.declared.Seat.{Seat}
+use Rattle.protocol_values.specs.declared.Step.{Step}
+use Rattle.protocol_values.specs.declared.Step.TheVariants.{Draft, Open, Look, Read, Claim, Yield, Join, Seal, Grant, Take, Bind}
+use Rattle.protocol.specs.Tables.{Table, thread_len, place_of, nack_place, number_of, all_rows, is_row, cell_at, synched_of, offer_at, offers_meet, binding_at, cause_at, joined_at, namer_of, last_stamp}
+use Rattle.protocol_values.specs.Values.{next_row}
 
 -- The words, and for each row, one after another, the seat that holds it.
 pub record World : Type 0 where

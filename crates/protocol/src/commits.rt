@@ -1,4 +1,4 @@
-//! The commits that a board's words name.
+//! The commits that a sheet's words name.
 
 ghost use Rattle.std.specs.Prelude.{◌≡◌, ◌≤◌, ◌++◌, IfOk, IsOk, IfSome, IfNone, Some, true, is_some, option_and_then, option_to_list};
 ghost use Rattle.std.specs.List.{flat_map};
@@ -6,11 +6,11 @@ ghost use Rattle.protocol.specs.Tables.{all_rows, rows_below, cell_at, joined_at
 ghost use Rattle.protocol.specs.Ledgers.{alone_by, pair_by, commit_by, commit_named, named_at, commit_at, told_at, tells, sends, commits_of, pending_of, is_pending, ledger_of, IsLawful};
 ghost use Rattle.protocol.specs.States.{table_of};
 
-use crate::board::{Board, is_fresh, joined_of};
+use crate::sheet::{Sheet, is_fresh};
+use protocol_values::{Base, Cause, Cell, Commit, Joined, Offer, Row};
 use std::alloc::AllocError;
-use words::{Base, Cause, Cell, Commit, Joined, Offer, Row};
 
-impl Board {
+impl Sheet {
     /// The commit of a row by its own offer. A partner's offer is read only where the own one is no
     /// send.
     fn commit_by(&self, row: Row, joined: Joined, own: Offer) -> Option<Commit>
@@ -64,7 +64,7 @@ impl Board {
         requires cell { cell_at (table_of self.now) row ≡ cell }
         ensures { result ≡ told_at (joined_at (table_of self.now)) (offer_at (table_of self.now)) row }
     {
-        let joined = joined_of(cell)?;
+        let joined = cell.joined()?;
         let own = self.known_offer(row, joined.own);
         if self.tells(own, joined.partner) {
             self.commit_by(row, joined, own)
@@ -92,7 +92,7 @@ impl Board {
         if is_fresh(cell) {
             return None;
         }
-        match joined_of(cell) {
+        match cell.joined() {
             Some(joined) => self.commit_named(row, joined),
             None => self.commit_naming(row),
         }
@@ -138,7 +138,7 @@ impl Board {
             if is_fresh(cell) {
                 return None;
             }
-            if let Some(joined) = joined_of(cell) {
+            if let Some(joined) = cell.joined() {
                 if is_partner(joined.partner, row) {
                     return Some((namer, joined));
                 }
@@ -211,7 +211,7 @@ impl Board {
             if is_fresh(cell) {
                 return pending;
             }
-            if self.is_pending(joined_of(cell)) {
+            if self.is_pending(cell.joined()) {
                 pending += 1;
             }
         }

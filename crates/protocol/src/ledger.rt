@@ -2,16 +2,16 @@
 
 ghost use Rattle.std.specs.Prelude.{◌≡◌, ◌*◌, ◌≤◌, ◌↔◌, IfOk, IfSome, IfNone, IsPermutation, Contains, length};
 
-use crate::board::Board;
+use crate::sheet::Sheet;
+use protocol_values::{Commit, Row};
 use std::alloc::AllocError;
 use std::marker::Model;
-use words::{Commit, Row};
 
 /// The commits that words name, with the offers of the opened rows and the bound nacks. Every
 /// ledger is lawful.
 #[derive(Debug, Drop)]
 pub struct Ledger {
-    board: Board,
+    sheet: Sheet,
 }
 
 impl Model for Ledger {
@@ -22,23 +22,23 @@ impl Model for Ledger {
     ghost use Rattle.protocol.specs.Ledgers.{ledger_of, IsLawful};
     ghost use Rattle.protocol.specs.States.{table_of};
 
-    ghost view = { λ l. ledger_of (table_of l.board) };
+    ghost view = { λ l. ledger_of (table_of l.sheet) };
 
-    ghost invariant = { λ l. IsLawful (ledger_of (table_of l.board)) };
+    ghost invariant = { λ l. IsLawful (ledger_of (table_of l.sheet)) };
 }
 
 ghost use Rattle.protocol.specs.Ledgers.{ledger_of, IsLawful, HasCommit, Involves, IsCausal, binding_in, commits_in, pending_in};
-ghost use Rattle.words.specs.Commits.{IsInOrder};
+ghost use Rattle.protocol_values.specs.Commits.{IsInOrder};
 ghost use Rattle.protocol.specs.Tables.{thread_len};
 ghost use Rattle.protocol.specs.States.{table_of};
-ghost use Rattle.words.specs.declared.Commit.{Commit};
+ghost use Rattle.protocol_values.specs.declared.Commit.{Commit};
 
 impl Ledger {
-    pub(crate) fn of_board(board: Board) -> Ledger
-        requires { IsLawful (ledger_of (table_of board)) }
-        ensures { result ≡ ledger_of (table_of board) }
+    pub(crate) fn of_sheet(sheet: Sheet) -> Ledger
+        requires { IsLawful (ledger_of (table_of sheet)) }
+        ensures { result ≡ ledger_of (table_of sheet) }
     {
-        Ledger { board }
+        Ledger { sheet }
     }
 
     /// The ledger of words that lie thread by thread: a thread's rows first, 34 words each, and
@@ -53,7 +53,7 @@ impl Ledger {
         ensures { result ≡ ledger_of (record { threads = threads; rows = rows; words = words.items }) }
     {
         Ledger {
-            board: Board {
+            sheet: Sheet {
                 threads: usize::from(threads),
                 rows: usize::from(rows),
                 words,
@@ -66,7 +66,7 @@ impl Ledger {
         ensures found { IfSome result (λ c. HasCommit self.now c × Involves c row) }
         ensures none { IfNone result ((c : Commit) → HasCommit self.now c → Involves c row → ⊥) }
     {
-        self.board.commit_of(row)
+        self.sheet.commit_of(row)
     }
 
     /// All commits, by stamp and then by the thread named first.
@@ -77,7 +77,7 @@ impl Ledger {
         ensures causal { IfOk result (λ cs. IsCausal (binding_in self.now) cs.items) }
         ensures lawful { IsLawful self.now }
     {
-        let mut commits = self.board.commits()?;
+        let mut commits = self.sheet.commits()?;
         commits.sort_by_cached_key(|commit| commit.order())?;
         Ok(commits)
     }
@@ -86,6 +86,6 @@ impl Ledger {
     pub fn pending(&self) -> u32
         ensures { result ≡ pending_in self.now }
     {
-        self.board.pending()
+        self.sheet.pending()
     }
 }

@@ -5,27 +5,27 @@ ghost use Rattle.protocol.specs.Growing.{CommitsStay, TablesGrow};
 ghost use Rattle.protocol.specs.Ledgers.{ledger_of, IsLawful};
 ghost use Rattle.protocol.specs.Standing.{HaveResults, OneResults};
 ghost use Rattle.protocol.specs.Worlds.{Plays, IsRefused, start_world, World};
-ghost use Rattle.words.specs.declared.Step.{Step};
-ghost use Rattle.words.specs.declared.Seat.{Seat};
+ghost use Rattle.protocol_values.specs.declared.Step.{Step};
+ghost use Rattle.protocol_values.specs.declared.Seat.{Seat};
 ghost use Rattle.std.specs.Prelude.{◌≡◌, ℕ, ◌≤◌, List};
 
-mod board;
 mod commits;
 mod ledger;
 mod resident;
+mod sheet;
 mod state;
 mod world;
 
-pub use crate::board::{NACKS, ROW_LEN};
 pub use crate::ledger::Ledger;
 pub use crate::resident::{Bare, Resident};
+pub use crate::sheet::{NACKS, ROW_LEN};
 pub use crate::world::{World, play};
-use thiserror::Error;
-pub use words::{
+pub use protocol_values::{
     Atom, Base, Binding, Cause, Cell, Commit, Direction, Head, Joined, Message, NackName, Offer,
     Row, Seat, Step, is_word_for, pack_atom, pack_cell, pack_count, pack_head, pack_nack,
     pack_offer, unpack_atom, unpack_cell, unpack_count, unpack_head, unpack_nack, unpack_offer,
 };
+use thiserror::Error;
 
 /// What starting or playing a world can refuse.
 #[derive(Clone, Copy, Debug, PartialEq, Eq, Error)]

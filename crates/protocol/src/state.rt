@@ -2,24 +2,24 @@
 
 ghost use Rattle.std.specs.Prelude.{Some, ◌≡◌, ◌*◌, ◌<◌, ◌≤◌, ◌↔◌, IfOk, IsTrue, true, length, map, replicate};
 
-use crate::board::{Board, NACKS, ROW_LEN};
+use crate::sheet::{NACKS, ROW_LEN, Sheet};
+use protocol_values::{Binding, Cell, Joined, NackName, Offer, Row, Seat, Step, is_word_for};
 use std::alloc::{AllocError, Global};
-use words::{Base, Binding, Cell, Joined, NackName, Offer, Row, Seat, Step, is_word_for};
 
-/// A world: the board, and for each row the seat that holds it and the row that is committed with
+/// A world: the sheet, and for each row the seat that holds it and the row that is committed with
 /// it as its partner, so that neither is searched for.
 #[derive(Debug, Drop)]
 pub(crate) struct State {
-    pub(crate) board: Board,
+    pub(crate) sheet: Sheet,
     pub(crate) seats: usize,
     pub(crate) holders: Vec<Option<u8>>,
     pub(crate) namers: Vec<Option<Row>>,
-    ghost held: { length holders.items ≡ board.threads * board.rows },
-    ghost named: { length namers.items ≡ board.threads * board.rows },
+    ghost held: { length holders.items ≡ sheet.threads * sheet.rows },
+    ghost named: { length namers.items ≡ sheet.threads * sheet.rows },
 }
 
 impl State {
-    ghost use Rattle.words.specs.declared.Step.TheVariants.{Draft, Open, Look, Read, Claim, Yield, Join, Seal, Grant, Take, Bind};
+    ghost use Rattle.protocol_values.specs.declared.Step.TheVariants.{Draft, Open, Look, Read, Claim, Yield, Join, Seal, Grant, Take, Bind};
     ghost use Rattle.protocol.specs.Tables.{is_row, offer_at, offers_meet, cause_at};
     ghost use Rattle.protocol.specs.Worlds.{start_world, Holds, holder_at, namer_at, joined_with, granted_by, handed, Condition};
     ghost use Rattle.protocol.specs.States.{table_of, world_of, IsSound, Tries, Decides};
@@ -38,11 +38,11 @@ impl State {
         ensures world { IfOk result (λ s. world_of s ≡ start_world threads rows seats) }
         ensures sound { IfOk result IsSound }
     {
-        let board = Board::new(alloc, threads, rows)?;
-        let holders = first_holders(alloc, &board, seats)?;
-        let namers = no_namers(alloc, board.len())?;
+        let sheet = Sheet::new(alloc, threads, rows)?;
+        let holders = first_holders(alloc, &sheet, seats)?;
+        let namers = no_namers(alloc, sheet.len())?;
         Ok(State {
-            board,
+            sheet,
             seats,
             holders,
             namers,
@@ -54,10 +54,10 @@ impl State {
     fn holder(&self, row: Row) -> Option<u8>
         ensures { result ≡ holder_at (world_of self.now) row }
     {
-        if !self.board.contains(row) {
+        if !self.sheet.contains(row) {
             return None;
         }
-        let at = self.board.number(row);
+        let at = self.sheet.number(row);
         self.holders[at]
     }
 
@@ -71,10 +71,10 @@ impl State {
     /// The row that is committed with this one as its partner.
     fn namer(&self, row: Row) -> Option<Row>
         requires sound { IsSound self.now }
-        requires row { is_row (table_of self.now.board) row ≡ true }
+        requires row { is_row (table_of self.now.sheet) row ≡ true }
         ensures { result ≡ namer_at (world_of self.now) row }
     {
-        let at = self.board.number(row);
+        let at = self.sheet.number(row);
         self.namers[at]
     }
 
@@ -115,7 +115,7 @@ impl State {
         if !self.holds(seat, row) {
             return false;
         }
-        let Cell::Fresh = self.board.cell(row) else {
+        let Cell::Fresh = self.sheet.cell(row) else {
             return false;
         };
         if place < 1 || usize::from(place) >= ROW_LEN {
@@ -124,7 +124,7 @@ impl State {
         if !is_word_for(place, value) {
             return false;
         }
-        self.board.set_word(row, usize::from(place), value);
+        self.sheet.set_word(row, usize::from(place), value);
         true
     }
 
@@ -136,10 +136,10 @@ impl State {
         if !self.holds(seat, row) {
             return false;
         }
-        let Cell::Fresh = self.board.cell(row) else {
+        let Cell::Fresh = self.sheet.cell(row) else {
             return false;
         };
-        self.board.set_cell(row, Cell::Waiting);
+        self.sheet.set_cell(row, Cell::Waiting);
         true
     }
 
@@ -151,10 +151,10 @@ impl State {
         if !self.holds(seat, row) {
             return false;
         }
-        let Cell::Waiting = self.board.cell(row) else {
+        let Cell::Waiting = self.sheet.cell(row) else {
             return false;
         };
-        self.board.set_cell(row, Cell::Claimed);
+        self.sheet.set_cell(row, Cell::Claimed);
         true
     }
 
@@ -166,26 +166,26 @@ impl State {
         if !self.holds(seat, row) {
             return false;
         }
-        let Cell::Claimed = self.board.cell(row) else {
+        let Cell::Claimed = self.sheet.cell(row) else {
             return false;
         };
         if self.namer(row).is_some() {
             return false;
         }
-        self.board.set_cell(row, Cell::Waiting);
+        self.sheet.set_cell(row, Cell::Waiting);
         true
     }
 
     fn look(&self, seat: Seat, row: Row) -> bool
         ensures { IsTrue result ↔ Condition (world_of self.now) seat (Look row) }
     {
-        self.board.contains(row)
+        self.sheet.contains(row)
     }
 
     fn read(&self, seat: Seat, row: Row, place: u8) -> bool
         ensures { IsTrue result ↔ Condition (world_of self.now) seat (Read row place) }
     {
-        !matches!(self.board.cell(row), Cell::Fresh) && 1 <= place && usize::from(place) < ROW_LEN
+        !matches!(self.sheet.cell(row), Cell::Fresh) && 1 <= place && usize::from(place) < ROW_LEN
     }
 
     fn join(&mut self, seat: Seat, mine: Row, own: u8, other: Row, partner: u8) -> bool
@@ -196,27 +196,27 @@ impl State {
         if !self.holds(seat, mine) {
             return false;
         }
-        let Cell::Claimed = self.board.cell(mine) else {
+        let Cell::Claimed = self.sheet.cell(mine) else {
             return false;
         };
         if self.namer(mine).is_some() {
             return false;
         }
-        let Cell::Waiting = self.board.cell(other) else {
+        let Cell::Waiting = self.sheet.cell(other) else {
             return false;
         };
         if mine.thread == other.thread {
             return false;
         }
         if !offers_meet(
-            self.board.offer(mine, own),
-            self.board.offer(other, partner),
+            self.sheet.offer(mine, own),
+            self.sheet.offer(other, partner),
         ) {
             return false;
         }
         let joined = self.joined_with(mine, own, other, partner);
-        let at = self.board.number(mine);
-        self.board.set_cell(other, Cell::Synched(joined));
+        let at = self.sheet.number(mine);
+        self.sheet.set_cell(other, Cell::Synched(joined));
         self.namers[at] = Some(other);
         true
     }
@@ -225,11 +225,11 @@ impl State {
     #[tactic(auto, unfolding(crate::specs::Worlds::joined_with))]
     fn joined_with(&self, mine: Row, own: u8, other: Row, partner: u8) -> Joined
         requires sound { IsSound self.now }
-        requires meet { offers_meet (offer_at (table_of self.now.board) mine own) (offer_at (table_of self.now.board) other partner) ≡ true }
-        ensures { result ≡ joined_with (table_of self.now.board) mine own other partner }
+        requires meet { offers_meet (offer_at (table_of self.now.sheet) mine own) (offer_at (table_of self.now.sheet) other partner) ≡ true }
+        ensures { result ≡ joined_with (table_of self.now.sheet) mine own other partner }
     {
-        let mine_stamp = self.board.last_stamp(mine);
-        let other_stamp = self.board.last_stamp(other);
+        let mine_stamp = self.sheet.last_stamp(mine);
+        let other_stamp = self.sheet.last_stamp(other);
         Joined {
             own: partner,
             partner: Some((mine, own)),
@@ -245,17 +245,17 @@ impl State {
         if !self.holds(seat, row) {
             return false;
         }
-        let Cell::Claimed = self.board.cell(row) else {
+        let Cell::Claimed = self.sheet.cell(row) else {
             return false;
         };
         let Some(other) = self.namer(row) else {
             return false;
         };
-        let Some(joined) = side_of(other, self.board.joined(other)) else {
+        let Some(joined) = side_of(other, self.sheet.joined(other)) else {
             return false;
         };
-        let at = self.board.number(other);
-        self.board.set_cell(row, Cell::Synched(joined));
+        let at = self.sheet.number(other);
+        self.sheet.set_cell(row, Cell::Synched(joined));
         self.namers[at] = Some(row);
         true
     }
@@ -265,14 +265,14 @@ impl State {
         ensures tried { Tries (world_of self.old) seat (Grant row offer) result (world_of self.new) }
         ensures sound { IsSound self.new }
     {
-        let Cell::Waiting = self.board.cell(row) else {
+        let Cell::Waiting = self.sheet.cell(row) else {
             return false;
         };
-        let Some(cause) = self.board.cause(self.board.offer(row, offer)) else {
+        let Some(cause) = self.sheet.cause(self.sheet.offer(row, offer)) else {
             return false;
         };
         let joined = self.granted_by(row, offer, cause);
-        self.board.set_cell(row, Cell::Synched(joined));
+        self.sheet.set_cell(row, Cell::Synched(joined));
         true
     }
 
@@ -280,10 +280,10 @@ impl State {
     #[tactic(auto, unfolding(crate::specs::Worlds::granted_by))]
     fn granted_by(&self, row: Row, offer: u8, cause: u32) -> Joined
         requires sound { IsSound self.now }
-        requires cause { cause_at (table_of self.now.board) row offer ≡ Some cause }
-        ensures { result ≡ granted_by (table_of self.now.board) row offer }
+        requires cause { cause_at (table_of self.now.sheet) row offer ≡ Some cause }
+        ensures { result ≡ granted_by (table_of self.now.sheet) row offer }
     {
-        let last = self.board.last_stamp(row);
+        let last = self.sheet.last_stamp(row);
         Joined {
             own: offer,
             partner: None,
@@ -296,10 +296,10 @@ impl State {
         ensures tried { Tries (world_of self.old) seat (Take row) result (world_of self.new) }
         ensures sound { IsSound self.new }
     {
-        let Cell::Synched(joined) = self.board.cell(row) else {
+        let Cell::Synched(joined) = self.sheet.cell(row) else {
             return false;
         };
-        self.board.set_cell(row, Cell::Taken(joined));
+        self.sheet.set_cell(row, Cell::Taken(joined));
         self.hand(seat, row);
         true
     }
@@ -312,7 +312,7 @@ impl State {
         if !self.holds(seat, row) {
             return false;
         }
-        let Cell::Fresh = self.board.cell(row) else {
+        let Cell::Fresh = self.sheet.cell(row) else {
             return false;
         };
         if usize::from(k) >= NACKS || scope >= 4 {
@@ -322,32 +322,29 @@ impl State {
             thread: row.thread,
             k,
         };
-        if self.board.binding(nack).is_some() {
+        if self.sheet.binding(nack).is_some() {
             return false;
         }
         let bound = Binding {
             sync: row.sync,
             scope,
         };
-        self.board.set_nack(nack, bound);
+        self.sheet.set_nack(nack, bound);
         true
     }
 
     /// Lets the seat hold the row behind this one, if the table has it.
     #[tactic(auto, unfolding(crate::specs::Worlds::handed))]
     fn hand(&mut self, seat: Seat, row: Row)
-        requires { is_row (table_of self.old.board) row ≡ true }
-        ensures board { self.new.board ≡ self.old.board }
+        requires { is_row (table_of self.old.sheet) row ≡ true }
+        ensures sheet { self.new.sheet ≡ self.old.sheet }
         ensures seats { self.new.seats ≡ self.old.seats }
         ensures namers { self.new.namers.items ≡ self.old.namers.items }
-        ensures holders { self.new.holders.items ≡ handed (table_of self.old.board) self.old.holders.items seat row }
+        ensures holders { self.new.holders.items ≡ handed (table_of self.old.sheet) self.old.holders.items seat row }
     {
-        let next = Row {
-            thread: row.thread,
-            sync: row.sync + 1,
-        };
-        if self.board.contains(next) {
-            let at = self.board.number(next);
+        let next = row.next();
+        if self.sheet.contains(next) {
+            let at = self.sheet.number(next);
             self.holders[at] = Some(seat.0);
         }
     }
@@ -357,14 +354,14 @@ ghost use Rattle.protocol.specs.Tables.{all_rows, offers_meet};
 ghost use Rattle.protocol.specs.Worlds.{first_holder, side_of};
 
 /// The holders at the start, row by row.
-fn first_holders(alloc: Global, board: &Board, seats: usize) -> Result<Vec<Option<u8>>, AllocError>
+fn first_holders(alloc: Global, sheet: &Sheet, seats: usize) -> Result<Vec<Option<u8>>, AllocError>
     requires some_seats { 1 ≤ seats }
     requires few_seats { seats ≤ 16 }
-    ensures { IfOk result (λ v. v.items ≡ map (first_holder seats) (all_rows board.now.threads board.now.rows)) }
+    ensures { IfOk result (λ v. v.items ≡ map (first_holder seats) (all_rows sheet.now.threads sheet.now.rows)) }
 {
     let mut holders = Vec::new(alloc);
-    for thread in 0..board.threads {
-        for sync in 0..board.rows {
+    for thread in 0..sheet.threads {
+        for sync in 0..sheet.rows {
             let row = Row {
                 thread: thread as u8,
                 sync: sync as u16,
@@ -402,12 +399,7 @@ fn offers_meet(own: Option<Offer>, other: Option<Offer>) -> bool
     let (Some(own), Some(other)) = (own, other) else {
         return false;
     };
-    match (own.base, other.base) {
-        (Base::Send(chan, _), Base::Recv(other)) | (Base::Recv(chan), Base::Send(other, _)) => {
-            chan == other
-        }
-        _ => false,
-    }
+    own.base.meets(other.base)
 }
 
 /// A joined row as its partner sees it.

@@ -8,9 +8,9 @@ ghost use Rattle.protocol.specs.States.{Refuses};
 use crate::ProtoFault;
 use crate::ledger::Ledger;
 use crate::state::State;
+use protocol_values::{Seat, Step};
 use std::alloc::Global;
 use std::marker::Model;
-use words::{Seat, Step};
 
 /// A world: the words of a table, and who holds which row.
 #[derive(Debug, Drop)]
@@ -59,8 +59,8 @@ impl World {
         ensures { result ≡ ledger_of self.table }
     {
         let World { state } = self;
-        let State { board, .. } = state;
-        Ledger::of_board(board)
+        let State { sheet, .. } = state;
+        Ledger::of_sheet(sheet)
     }
 }
 

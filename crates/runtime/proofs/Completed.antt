@@ -2,14 +2,14 @@
 use Rattle.std.proofs.Common.{ℕ, List, ◌++◌, arith}
 use Rattle.std.proofs.lemmas.List.{length-append}
 use Rattle.std.proofs.lemmas.List.Sorted.{length_permutation}
-use Rattle.syntax.specs.Processes.{Proc}
-use Rattle.words.specs.declared.Commit.{Commit}
-use Rattle.words.specs.Commits.{IsInOrder}
+use Rattle.script_tree.specs.Processes.{Proc}
+use Rattle.protocol_values.specs.declared.Commit.{Commit}
+use Rattle.protocol_values.specs.Commits.{IsInOrder}
 use Rattle.protocol.specs.Ledgers.{Ledger, commits_in}
-use Rattle.sequential.specs.Runs.{IsMaximal, IsRun, config_of}
-use Rattle.order.proofs.Meeting.{each-meets}
-use Rattle.order.proofs.Results.{one-row}
-use Rattle.order.proofs.Sending.{named-is-received, received-is-sent}
+use Rattle.journal_replay.specs.Runs.{IsMaximal, IsRun, config_of}
+use Rattle.journal_order.proofs.Meeting.{each-meets}
+use Rattle.journal_order.proofs.Results.{one-row}
+use Rattle.journal_order.proofs.Sending.{named-is-received, received-is-sent}
 use Rattle.journal.specs.Records.{Completes}
 use Rattle.journal.specs.declared.record.Record.{Record}
 use Rattle.runtime.specs.Headline.{IsMaximalRun, TellsMaximalRun}

@@ -6,11 +6,11 @@ use Rattle.std.proofs.lemmas.List.{length-append}
 use Rattle.std.proofs.lemmas.Option.{get_or_from_slice_get, none-some, same_Some, slice_get-get_or, slice_get_within}
 use Rattle.event.specs.Tree.{scope_nacks}
 use Rattle.atomic_table.specs.Table.{rest}
-use Rattle.words.specs.declared.Binding.{Binding}
-use Rattle.words.specs.declared.NackName.{NackName}
-use Rattle.words.specs.declared.Offer.{Offer}
-use Rattle.words.specs.declared.Row.{Row}
-use Rattle.syntax.specs.Processes.{Proc}
+use Rattle.protocol_values.specs.declared.Binding.{Binding}
+use Rattle.protocol_values.specs.declared.NackName.{NackName}
+use Rattle.protocol_values.specs.declared.Offer.{Offer}
+use Rattle.protocol_values.specs.declared.Row.{Row}
+use Rattle.script_tree.specs.Processes.{Proc}
 use Rattle.thread.specs.After.{Chosen}
 use Rattle.thread.specs.Machines.{Broken, IsOpen, Open, Over, Phase, Ready, SameProcess, StartsAs, Stuck, Tells, Thread, nacks_in, offers_in}
 use Rattle.thread.specs.declared.machine.Turn.TheVariants as turn
@@ -20,15 +20,15 @@ use Rattle.protocol.specs.Tables.{bound_row}
 use Rattle.protocol.specs.Worlds.{nack_of_row, start_world}
 use Rattle.protocol.proofs.LedgerLemmas.{kept_start, lawful_ledger}
 use Rattle.protocol.proofs.Standing.{stands-ledger, stands-start}
-use Rattle.sequential.specs.Runs.{IsOffering}
-use Rattle.order.specs.Laws.{HasScopeAt}
-use Rattle.order.specs.Ledgers.{IsLedgerOf, ProcessOffers}
-use Rattle.order.proofs.Nacks.{one-sync}
+use Rattle.journal_replay.specs.Runs.{IsOffering}
+use Rattle.journal_order.specs.Laws.{HasScopeAt}
+use Rattle.journal_order.specs.Ledgers.{IsLedgerOf, ProcessOffers}
+use Rattle.journal_order.proofs.Nacks.{one-sync}
 use Rattle.cell.specs.Attempts.{Bound, BoundBefore}
-use Rattle.cell.specs.Told.{IsEarlier}
+use Rattle.cell_table.specs.Told.{IsEarlier}
 use Rattle.cell.specs.Calls.{GridOf, Holds, PassOf}
-use Rattle.cell.specs.declared.view.Seen.{Seen}
-use Rattle.cell.specs.Sight.{Has, see_bound}
+use Rattle.cell_table.specs.declared.view.Seen.{Seen}
+use Rattle.cell_table.specs.Sight.{Has, see_bound}
 use Rattle.runtime.specs.declared.resident.Suspended.{Suspended}
 use Rattle.runtime.proofs.Rising.{after_rises, Rises, rises_once}
 use Rattle.runtime.specs.Machines.{AreBound, AreFirst, IsNow, IsOfAny, IsTable, LeavesOthers, StandsFor}
@@ -117,7 +117,7 @@ offers_as ps first t results os ns are (m, (is, phase)) =
   where
     offers_there : (p : Proc) (m s : Thread) → StartsAs p t s → SameProcess s m → m.results ≡ results → (o : Rattle.thread.specs.Machines.OpensWith m os ns) → Rattle.thread.specs.After.after p.body (length p.variables) t results ≡ Rattle.thread.specs.After.Offers o.tree m.output
     offers_there p m s starts same given o =
-        let body = ap Rattle.syntax.specs.Trees.block_of same.body ∙ starts.body in
+        let body = ap Rattle.script_tree.specs.Trees.block_of same.body ∙ starts.body in
         let variables = same.variables ∙ starts.variables in
         let thread = same.thread ∙ starts.thread in
         (λ i. Rattle.thread.specs.After.after (sym body i) (sym variables i) (sym thread i) (sym given i)) ∙ o.after

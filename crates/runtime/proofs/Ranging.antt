@@ -7,26 +7,26 @@ use Rattle.std.proofs.lemmas.Option.{none-some, same_Some, slice_get_within}
 use Rattle.std.proofs.lemmas.Nat.{or_lt}
 use Rattle.std.specs.Prelude.{⊤, All}
 use Rattle.event.specs.Tree.{Tree, Single, Nothing, Or, Wrap, Scope, BaseEvent, bases, bases_from, mask, offers, offer_of, scope_count, scope_nacks, with_scope, with_wrap}
-use Rattle.words.specs.Words.{IsAtomInRange, IsBaseInRange, IsMessageInRange, IsOfferInRange}
-use Rattle.words.proofs.WordLemmas.{IsOfferInRange-offer_of}
-use Rattle.words.specs.declared.Atom.{Atom}
-use Rattle.words.specs.declared.Atom.TheVariants.{Num, Chan, Nack}
-use Rattle.words.specs.declared.Base.{Base}
-use Rattle.words.specs.declared.Base.TheVariants.{Send, Recv, Always, OnNack, Never}
-use Rattle.words.specs.declared.Joined.{Joined}
-use Rattle.words.specs.declared.Message.{Message}
-use Rattle.words.specs.declared.Message.TheVariants.{Empty, One, Two, Three}
-use Rattle.words.specs.declared.Offer.{Offer}
-use Rattle.words.specs.declared.Row.{Row}
+use Rattle.protocol_values.specs.Words.{IsAtomInRange, IsBaseInRange, IsMessageInRange, IsOfferInRange}
+use Rattle.protocol_values.proofs.WordLemmas.{IsOfferInRange-offer_of}
+use Rattle.protocol_values.specs.declared.Atom.{Atom}
+use Rattle.protocol_values.specs.declared.Atom.TheVariants.{Num, Chan, Nack}
+use Rattle.protocol_values.specs.declared.Base.{Base}
+use Rattle.protocol_values.specs.declared.Base.TheVariants.{Send, Recv, Always, OnNack, Never}
+use Rattle.protocol_values.specs.declared.Joined.{Joined}
+use Rattle.protocol_values.specs.declared.Message.{Message}
+use Rattle.protocol_values.specs.declared.Message.TheVariants.{Empty, One, Two, Three}
+use Rattle.protocol_values.specs.declared.Offer.{Offer}
+use Rattle.protocol_values.specs.declared.Row.{Row}
 use Rattle.thread.specs.After.{Chosen}
 use Rattle.thread.specs.Ranges.{AtomIsIn, BaseIsIn, MessageIsIn, OffersAreIn, ResultsAreIn}
 use Rattle.thread.proofs.Ranging.{machine_in_range}
 use Rattle.cell.specs.Calls.{GridOf}
-use Rattle.cell.specs.declared.view.Seen.{Seen}
+use Rattle.cell_table.specs.declared.view.Seen.{Seen}
 use Rattle.runtime.specs.declared.resident.Suspended.{Suspended}
 use Rattle.runtime.specs.Machines.{IsMachineOf, IsTable, NamesInRange, StandsFor}
 use Rattle.runtime.proofs.Machines.{offers_as, offers_of_open}
-use Rattle.cell.specs.Sight.{Gets, HaveOffer, IsResult, SeesOffer}
+use Rattle.cell_table.specs.Sight.{Gets, HaveOffer, IsResult, SeesOffer}
 
 -- MESSAGES that were read from words
 

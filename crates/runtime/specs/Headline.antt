@@ -1,12 +1,11 @@
 -- The headline: what the record of a run is.
 use Rattle.std.specs.Prelude.{◌≡◌, ◌≤◌, ℕ, List, length, map, Some, slice_get}
-use Rattle.syntax.specs.Processes.{Proc}
-use Rattle.words.specs.declared.Commit.{Commit}
-use Rattle.words.specs.Commits.{IsInOrder}
-use Rattle.sequential.specs.Runs.{HasRow, IsMaximal, IsRun, config_of}
-use Rattle.order.specs.Meetings.{Meets}
-use Rattle.order.specs.Messages.{named, received, sent}
-use Rattle.journal.specs.Records.{TellsEnds}
+use Rattle.script_tree.specs.Processes.{Proc}
+use Rattle.protocol_values.specs.declared.Commit.{Commit}
+use Rattle.protocol_values.specs.Commits.{IsInOrder}
+use Rattle.journal_replay.specs.Runs.{HasRow, IsMaximal, IsRun, TellsEnds, config_of}
+use Rattle.journal_order.specs.Meetings.{Meets}
+use Rattle.journal_order.specs.Messages.{named, received, sent}
 use Rattle.journal.specs.declared.record.Record.{Record}
 
 -- the commits, in stamp order, are a maximal run of the processes, each of so many rows

@@ -1,11 +1,10 @@
 -- The machines that stand for the threads, and what a worker knows of one.
 use Rattle.std.specs.Prelude.{◌≡◌, ◌≢◌, ◌⊎◌, ◌<◌, ◌≤◌, ℕ, List, [], ◌∷◌, length, Some, slice_get}
-use Rattle.words.specs.declared.Binding.{Binding}
-use Rattle.words.specs.declared.Message.{Message}
-use Rattle.words.specs.declared.NackName.{NackName}
-use Rattle.words.specs.declared.Offer.{Offer}
-use Rattle.words.specs.declared.Row.{Row}
-use Rattle.syntax.specs.Processes.{Proc}
+use Rattle.protocol_values.specs.declared.Binding.{Binding}
+use Rattle.protocol_values.specs.declared.NackName.{NackName}
+use Rattle.protocol_values.specs.declared.Offer.{Offer}
+use Rattle.protocol_values.specs.declared.Row.{Row}
+use Rattle.script_tree.specs.Processes.{Proc}
 use Rattle.thread.specs.After.{Chosen}
 use Rattle.thread.specs.Machines.{IsAfter, Open, SameProcess, StartsAs}
 use Rattle.thread.specs.Ranges.{BaseIsIn, ResultsAreIn}
@@ -13,12 +12,13 @@ use Rattle.protocol.specs.Standing.{IsLeft, binding_of}
 use Rattle.protocol.specs.Worlds.{nack_of_row}
 use Rattle.protocol.specs.Ledgers.{Ledger}
 use Rattle.protocol.specs.Tables.{bound_row}
-use Rattle.order.specs.Ledgers.{IsLedgerOf}
+use Rattle.journal_order.specs.Ledgers.{IsLedgerOf}
 use Rattle.atomic_table.specs.Table.{rest}
 use Rattle.cell.specs.Calls.{GridOf, PassOf}
-use Rattle.cell.specs.declared.view.Seen.{Seen}
-use Rattle.cell.specs.Sight.{Has}
+use Rattle.cell_table.specs.declared.view.Seen.{Seen}
+use Rattle.cell_table.specs.Sight.{Has}
 use Rattle.runtime.specs.declared.resident.Suspended.{Suspended}
+use Rattle.runtime.specs.declared.turns.Taken.{Taken}
 
 -- the machine runs the process of the thread's first one, and stands where it leads after these results, which words have room for
 pub record IsMachineOf (first : List Suspended) (m : Suspended) (t : ℕ) (results : List Chosen) : Type 0 where
@@ -52,10 +52,10 @@ IsUntouched s r = (¬ Has s.opened r) × (¬ Has s.begun r) × ((n : NackName) (
 abbrev pub LeavesOthers : ℕ → Seen → Seen → Type 0
 LeavesOthers thread s t = (r : Row) → r.thread ≢ thread → IsUntouched s r → IsUntouched t r
 
--- the pass has taken the row, and what stands for its thread came out last: it is to be given this message last
-abbrev pub IsToResume : List Suspended → PassOf Suspended → Row → ℕ → Message → Type 0
-IsToResume first p r own message =
-    (told : List Chosen) × Has p.results (r.thread, told) × (value : Suspended) × (p.out ≡ (r.thread, Some value) ∷ rest p.out) × IsLeft StandsFor first value r own told message
+-- the pass has taken the row, and what stands for its thread came out last: it is to be given the row's message last
+abbrev pub IsToResume : List Suspended → PassOf Suspended → Taken → Type 0
+IsToResume first p t =
+    (told : List Chosen) × Has p.results (t.row.thread, told) × (value : Suspended) × (p.out ≡ (t.row.thread, Some value) ∷ rest p.out) × IsLeft StandsFor first value t.row t.joined.own told t.message
 
 -- the nacks that an offer names, and the scopes round it, are in the range of words
 abbrev pub IsIn : Offer → Type 0

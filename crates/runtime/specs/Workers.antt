@@ -2,15 +2,16 @@
 use Rattle.std.specs.Prelude.{◌≡◌, []}
 use Rattle.cell.specs.Calls.{GridOf, IsPassOf, PassOf}
 use Rattle.meet.specs.Rooms.{IsMeetPassOf}
-use Rattle.ready.specs.Ends.{IsEndOf}
+use Rattle.meet_queues.specs.Ends.{IsEndOf}
+use Rattle.runtime.specs.declared.crew.Crew.{Crew}
+use Rattle.runtime.specs.declared.crew.Shared.{Shared}
 use Rattle.runtime.specs.declared.resident.Suspended.{Suspended}
-use Rattle.runtime.specs.declared.turns.Shared.{Shared}
-use Rattle.runtime.specs.declared.turns.Worker.{Worker}
+use Rattle.runtime.specs.declared.worker.Worker.{Worker}
 use Rattle.runtime.specs.Machines.{IsTable}
 
--- its pass is one of this table of machines, and its lanes and its end are of what all workers share
-abbrev pub IsWorkerOf : GridOf Suspended → Shared → Worker → Type 0
-IsWorkerOf cells shared w = IsPassOf cells w.pass × IsMeetPassOf shared.meet w.lanes × IsEndOf shared.ready w.end × IsTable cells
+-- its pass is one of the crew's table of machines, and its lanes and its end are of what the crew shares
+abbrev pub IsWorkerOf : {R G : Type 0} → Crew R G → Worker → Type 0
+IsWorkerOf crew w = IsPassOf crew.cells.now w.pass × IsMeetPassOf crew.shared.now.meet w.lanes × IsEndOf crew.shared.now.ready w.end × IsTable crew.cells.now
 
 -- a pass of the table that has seen nothing opened or bound, and has begun with no thread
 abbrev pub IsNewPassOf : GridOf Suspended → PassOf Suspended → Type 0

@@ -1,5 +1,6 @@
 //! When the workers are done.
 
+use crossbeam_utils::Backoff;
 use std::sync::atomic::{AtomicBool, AtomicUsize, Ordering};
 
 /// How many workers are active, and whether all are to stop. It is touched only where a worker becomes idle or
@@ -29,6 +30,17 @@ impl Activity {
     pub(crate) fn rest(&self) -> bool {
         if self.active.fetch_sub(1, Ordering::SeqCst) <= 1 {
             self.stop();
+        }
+        self.is_stopped()
+    }
+
+    /// An idle worker snoozes so many times, unless all are to stop meanwhile. The answer is whether they are.
+    pub(crate) fn snooze(&self, backoff: &Backoff, times: u32) -> bool {
+        for _ in 0..times {
+            if self.is_stopped() {
+                return true;
+            }
+            backoff.snooze();
         }
         self.is_stopped()
     }

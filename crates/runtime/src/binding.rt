@@ -1,17 +1,17 @@
 //! The nacks of a row's scopes are bound to it.
 
 ghost use Rattle.std.specs.Prelude.{◌≡◌, ◌≢◌, length};
-ghost use Rattle.words.specs.declared.Binding.{Binding};
-ghost use Rattle.words.specs.declared.NackName.{NackName};
+ghost use Rattle.protocol_values.specs.declared.Binding.{Binding};
+ghost use Rattle.protocol_values.specs.declared.NackName.{NackName};
 ghost use Rattle.protocol.specs.Tables.{bound_row};
 ghost use Rattle.thread.specs.Machines.{IsOpen, nacks_in};
 ghost use Rattle.cell.specs.Calls.{IsPassOf, IsRowOf};
-ghost use Rattle.cell.specs.Sight.{Has};
+ghost use Rattle.cell_table.specs.Sight.{Has};
 ghost use Rattle.runtime.specs.Machines.{AreBound, IsNow, IsTable, LeavesOthers, OnlyBinds};
 
 use crate::resident::Suspended;
 use cell::{Cells, Pass};
-use words::Row;
+use protocol_values::Row;
 
 /// Binds the nacks of the machine's event, scope by scope, to the row, which is held and not opened yet. `bind` cannot
 /// answer false of one: a thread takes its nacks in turn, so those that its earlier rows bound are others.

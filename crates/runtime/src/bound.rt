@@ -11,7 +11,7 @@
 
 ghost use Rattle.std.specs.Prelude.{◌≤◌};
 
-use syntax::{Block, Event, Events, Proc, Stmt, Turn};
+use script_tree::{Block, Event, Events, LoopBody, Proc, Stmt};
 
 /// The syncs of the statements.
 #[cycle(counting)]
@@ -38,7 +38,7 @@ fn statement_syncs(statement: &Stmt) -> u32 {
 
 /// The syncs of one turn of a loop, with the one that it begins with.
 #[cycle(counting)]
-fn turn_syncs(turn: &Turn) -> u32 {
+fn turn_syncs(turn: &LoopBody) -> u32 {
     1u32.saturating_add(event_syncs(&turn.event))
         .saturating_add(block_syncs(&turn.rest))
 }

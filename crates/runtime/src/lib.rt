@@ -4,6 +4,7 @@
 mod activity;
 mod binding;
 mod bound;
+mod crew;
 mod fault;
 mod following;
 mod gate;

@@ -1,10 +1,10 @@
-//! `work` and `run`.
+//! A run: its table and its workers are made, the workers work, and what they leave is completed.
 
 ghost use Rattle.std.specs.Prelude.{◌≡◌, ◌≢◌, ◌<◌, ◌≤◌, ◌↔◌, Err, IfOk, length, map};
-ghost use Rattle.syntax.specs.Processes.{proc_of};
+ghost use Rattle.script_tree.specs.Processes.{proc_of};
 ghost use Rattle.protocol.specs.Ledgers.{Ledger, IsLawful};
 ghost use Rattle.script.specs.Scripts.{script_of};
-ghost use Rattle.order.specs.Ledgers.{IsLedgerOf};
+ghost use Rattle.journal_order.specs.Ledgers.{IsLedgerOf};
 ghost use Rattle.journal.specs.Records.{Completes};
 ghost use Rattle.runtime.specs.Headline.{TellsMaximalRun};
 ghost use Rattle.runtime.specs.Limits.{AreRows, AreWorkers};
@@ -13,23 +13,23 @@ ghost use Rattle.runtime.specs.declared.fault.RunFault.TheVariants.{Workers, Row
 
 use crate::activity::Activity;
 use crate::bound::rows_used;
+use crate::crew::{Crew, Shared};
 use crate::fault::{Halt, RunFault};
 use crate::gate::{Gate, TurnsOnly};
 use crate::notes::Notes;
 use crate::resident::Suspended;
-use crate::turns::Shared;
 use crate::workers::{all_work, told_one, workers_of};
 use cell::{Cells, StepGate};
 use journal::{Record, complete};
+use journal_replay::ReplayFault;
 use meet::Meet;
+use meet_queues::Ready;
 use protocol::{Ledger, World};
-use ready::Ready;
 use script::Script;
-use sequential::ReplayFault;
+use script_tree::Proc;
 use std::alloc::Global;
 use std::sync::Wait;
 use std::thread::Threads;
-use syntax::Proc;
 use thread::Machine;
 
 fn told(halt: Halt) -> RunFault
@@ -101,8 +101,15 @@ fn work_within<R: Threads + Wait + Sync, G: Gate + StepGate + Sync>(
     };
     let used = rows_used(processes, rows);
     let (cells, passes) = Cells::with_machines(alloc, first, used, workers)?;
-    let workers = workers_of(alloc, passes, lanes, ends)?;
-    let passes = all_work(rt, alloc, &cells, &shared, gate, threads, workers)?;
+    let crew = Crew {
+        rt,
+        cells: &cells,
+        shared: &shared,
+        gate,
+        threads,
+    };
+    let workers = workers_of(&crew, passes, lanes, ends)?;
+    let passes = all_work(&crew, workers)?;
     match told_one(&cells, passes) {
         Some(pass) => Ok(cells.close(pass)),
         None => Err(Halt::NoWorker),

@@ -5,16 +5,16 @@ use Rattle.std.specs.Str.{bytes_eq}
 use Rattle.std.specs.Coded.{×_prop, Unit-prop, Coded-set, coded_bool}
 use Rattle.std.proofs.lemmas.List.{append-nil}
 use Rattle.std.proofs.lemmas.Slice.Eq.{bytes_eq-Decides}
-use Rattle.phrase.specs.Places.{place}
-use Rattle.phrase.specs.Steps.{start}
-use Rattle.token.specs.Tokens.{Token, is_name}
-use Rattle.syntax.specs.Processes.{Proc}
-use Rattle.grammar.specs.Written as written
-use Rattle.grammar.specs.Written.{block_tokens, channels_tokens, processes_tokens}
-use Rattle.grammar.specs.Meaning.{block_meaning, declare, channels_meaning, processes_meaning}
-use Rattle.phrase.proofs.Placing.{not_first}
-use Rattle.grammar.proofs.Names.{neither, part, some_is, unless_some}
-use Rattle.faults.proofs.Shapes.{block_shape}
+use Rattle.script_grammar.specs.Meaning.{place, block_meaning, declare, channels_meaning, processes_meaning}
+use Rattle.script_reader.specs.Steps.{start}
+use Rattle.script_token.specs.Tokens.{Token, is_name}
+use Rattle.script_tree.specs.Processes.{Proc}
+use Rattle.script_grammar.specs.Written as written
+use Rattle.script_grammar.specs.Written.{block_tokens, channels_tokens, processes_tokens}
+use Rattle.script_reader.proofs.Placing.{not_first}
+use Rattle.script_grammar.proofs.Parts.{part, some_is, unless_some}
+use Rattle.script_reader.proofs.ReadNames.{neither}
+use Rattle.script_faults.proofs.Shapes.{block_shape}
 use Rattle.script.specs.Scripts.{Script}
 use Rattle.script.specs.Spelling.{script_meaning, Spells}
 use Rattle.script.specs.Names.{AreDistinct, AreNames, DeclaresNames}

@@ -1,21 +1,21 @@
 -- Names that are declared, and the channels of a script: what is written, and where reading it stops.
 use Rattle.std.proofs.Common.{◌≡◌, ◌⊎◌, inl, inr, ℕ, suc, ◌≤◌, Bool, true, false, cond, ◌||◌, leb, ltb, List, [], ◌∷◌, ◌++◌, length, Some, None, Result, Ok, Err, is_some, refl, sym, ap, ◌∙◌, arith, append_assoc, append-nil}
-use Rattle.token.specs.Tokens.{Token, Fixed, Name, Number}
-use Rattle.token.specs.Tokens as tokens
-use Rattle.token.specs.declared.kind.Symbol.TheVariants.{Channel, Semicolon}
-use Rattle.phrase.specs.Places.{place}
-use Rattle.phrase.specs.Steps.{Told, ◌>>=◌, repeated, next_is, accept_at, expect_at}
-use Rattle.phrase.specs.declared.fault.Problem.TheVariants.{Syntax, Twice, TooMany}
-use Rattle.grammar.specs.Written.{channels_tokens}
-use Rattle.grammar.proofs.Fronts.{is_next, accept_ok}
+use Rattle.script_token.specs.Tokens.{Token, Fixed, Name, Number}
+use Rattle.script_token.specs.Tokens as tokens
+use Rattle.script_token.specs.declared.kind.Symbol.TheVariants.{Channel, Semicolon}
+use Rattle.script_grammar.specs.Meaning.{place}
+use Rattle.script_reader.specs.Steps.{Told, ◌>>=◌, repeated, next_is, accept_at, expect_at}
+use Rattle.script_reader.specs.declared.fault.Problem.TheVariants.{Syntax, Twice, TooMany}
+use Rattle.script_grammar.specs.Written.{channels_tokens}
+use Rattle.script_reader.proofs.ReadFronts.{is_next, accept_ok}
 use Rattle.script.specs.Scripts.{declare_at, channel_next, channel_step, channels_at}
-use Rattle.faults.specs.Laws.{Any}
-use Rattle.faults.specs.Notes.{Note, plain}
-use Rattle.faults.specs.BlockNotes.{declare_note, channels_notes}
-use Rattle.faults.proofs.Facts.{Shape, shape_none, shape_one, shape_seq, Lang, Facts, Takes, Faults, token, one_token, seq, then, turned, giving, give, next_same}
-use Rattle.faults.proofs.Words.{word, accept_facts, expect_facts}
-use Rattle.faults.proofs.Loops.{spell_all, notes_all, after_all, all_lang, all_facts, same_steps}
-use Rattle.faults.proofs.Shapes.{in_front}
+use Rattle.script_faults.specs.Laws.{Any}
+use Rattle.script_faults.specs.Notes.{Note, plain}
+use Rattle.script_faults.specs.BlockNotes.{declare_note, channels_notes}
+use Rattle.script_faults.proofs.Facts.{Shape, shape_none, shape_one, shape_seq, Lang, Facts, Takes, Faults, token, one_token, seq, then, turned, giving, give, next_same}
+use Rattle.script_faults.proofs.Words.{word, accept_facts, expect_facts}
+use Rattle.script_faults.proofs.Loops.{spell_all, notes_all, after_all, all_lang, all_facts, same_steps}
+use Rattle.script_faults.proofs.Shapes.{in_front}
 
 -- A NAME THAT IS DECLARED
 

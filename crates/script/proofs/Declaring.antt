@@ -1,9 +1,9 @@
 -- Declarations and processes, one after another.
 use Rattle.std.proofs.Common.{◌≡◌, ℕ, true, false, eqb, List, length, Some, None, refl, sym}
-use Rattle.token.specs.Tokens.{Token}
-use Rattle.phrase.specs.Steps.{next_is}
+use Rattle.script_token.specs.Tokens.{Token}
+use Rattle.script_reader.specs.Steps.{next_is}
 use Rattle.script.specs.Scripts.{Drawn, channel_step, channel_next, process_step, process_next}
-use Rattle.token.specs.declared.kind.Symbol.TheVariants.{Channel}
+use Rattle.script_token.specs.declared.kind.Symbol.TheVariants.{Channel}
 
 pub channel_step-some : (s : List (List ℕ) × List Token) → true ≡ next_is Channel s.1 → channel_step s ≡ Some (channel_next s)
 channel_step-some s e = rw (sym e) refl

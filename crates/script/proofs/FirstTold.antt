@@ -1,6 +1,6 @@
 -- What a text is answered is its first fault, told with its line.
 use Rattle.std.proofs.Common.{◌≡◌, ◌⊎◌, inl, inr, ℕ, ◌≤◌, Bool, true, false, ltb, List, length, Result, Ok, Err, IfErr, refl, sym, ap, ◌∙◌, arith, tests}
-use Rattle.phrase.specs.Steps.{Told}
+use Rattle.script_reader.specs.Steps.{Told}
 use Rattle.script.specs.Scripts.{Script, script_of, script_at, text_at, tokens_of, with_line, IsFault, Answers}
 use Rattle.script.specs.FirstFaults.{IsFirstFault, told_fault, TellsFirst, Tells, FirstIsTold}
 use Rattle.script.specs.declared.script.Script.{Script as SeenScript}

@@ -2,9 +2,9 @@
 use Rattle.std.proofs.Common.{◌≡◌, ℕ, ◌≤◌, Bool, true, false, cond, ◌&&◌, leb, get_or, List, [], ◌∷◌, ◌++◌, map, Option, Some, None, refl, arith}
 use Rattle.std.specs.List.{list_all}
 use Rattle.std.proofs.lemmas.Bool.Decides.{nat_tests}
-use Rattle.token.specs.Tokens.{Token, Fixed, Name, Number, Bad, keyword_of, mark_of, or_else, symbol_or, is_digit, is_name, value_from, has_leading_zero, numeral_from, number_of, number_token, name_or_number, token_of}
-use Rattle.token.specs.Lexemes.{lexemes, is_white, line_after, tokens_from}
-use Rattle.token.specs.declared.kind.Symbol.{Symbol}
+use Rattle.script_token.specs.Tokens.{Token, Fixed, Name, Number, Bad, keyword_of, mark_of, or_else, symbol_or, is_digit, is_name, value_from, has_leading_zero, numeral_from, number_of, number_token, name_or_number, token_of}
+use Rattle.script_token.specs.Lexemes.{lexemes, is_white, line_after, tokens_from}
+use Rattle.script_token.specs.declared.kind.Symbol.{Symbol}
 use Rattle.script.specs.Scripts.{tokens_of}
 
 -- A name and a number are good where they are what their spelling says.

@@ -1,17 +1,17 @@
 -- What is read keeps the limits: declarations and scripts.
 use Rattle.std.proofs.Common.{◌≡◌, ℕ, ◌+◌, ◌<◌, ◌≤◌, Bool, true, false, cond, ◌||◌, eqb, ltb, leb, List, [], ◌∷◌, ◌++◌, length, Some, None, Ok, is_some, refl, sym, ◌∙◌, subst, arith, length-append}
 use Rattle.std.proofs.lemmas.Bool.Decides.{nat_tests}
-use Rattle.token.specs.Tokens.{Token}
-use Rattle.token.specs.declared.kind.Symbol.TheVariants.{Channel, Process, Semicolon}
-use Rattle.syntax.specs.Limits.{Known}
-use Rattle.syntax.specs.Processes.{Proc, ShareChannels}
-use Rattle.phrase.specs.Places.{place}
-use Rattle.phrase.specs.Steps.{name_at, next_is, accept_at, expect_at, start}
-use Rattle.phrase.proofs.Keeping.{bound_ok, ok_is, no_ok, if_ok, some_ok, repeated_keeps}
-use Rattle.block.specs.Blocks.{block_at}
+use Rattle.script_token.specs.Tokens.{Token}
+use Rattle.script_token.specs.declared.kind.Symbol.TheVariants.{Channel, Process, Semicolon}
+use Rattle.script_tree.specs.Limits.{Known}
+use Rattle.script_tree.specs.Processes.{Proc, ShareChannels}
+use Rattle.script_grammar.specs.Meaning.{place}
+use Rattle.script_reader.specs.Steps.{name_at, next_is, accept_at, expect_at, start}
+use Rattle.script_reader.proofs.Keeping.{bound_ok, ok_is, no_ok, if_ok, some_ok, repeated_keeps}
+use Rattle.script_reader.specs.Blocks.{block_at}
 use Rattle.script.specs.Scripts.{Script, IsScript, script_at, proc_from, declare_at, channel_next, channel_step, channels_at, Drawn, process_next, process_step, processes_at}
-use Rattle.block.specs.declared.process.Loops.TheVariants.{Allowed}
-use Rattle.block.proofs.Keeping.{blocks_read}
+use Rattle.script_reader.specs.declared.process.Loops.TheVariants.{Allowed}
+use Rattle.script_reader.proofs.KeepingBlocks.{blocks_read}
 
 neither : (a b : Bool) → (a || b) ≡ false → a ≡ false
 neither false b e = refl

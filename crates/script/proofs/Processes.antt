@@ -1,24 +1,24 @@
 -- The processes of a script, and whole scripts: what is written, and where reading it stops.
 use Rattle.std.proofs.Common.{◌≡◌, ℕ, suc, ◌≤◌, Bool, true, false, cond, eqb, List, [], ◌∷◌, ◌++◌, length, Option, Some, None, Result, Ok, refl, sym, ◌∙◌, arith, tests}
-use Rattle.token.specs.Tokens.{Token, Fixed, Name}
-use Rattle.token.specs.declared.kind.Symbol.TheVariants.{Process}
-use Rattle.syntax.specs.Processes.{Proc}
-use Rattle.phrase.specs.Places.{place}
-use Rattle.phrase.specs.Steps.{Told, ◌>>=◌, if_some, repeated, expect_at, Here, start, bound}
-use Rattle.grammar.specs.Written as written
-use Rattle.grammar.specs.Written.{block_tokens, channels_tokens, processes_tokens, script_tokens}
-use Rattle.block.specs.Blocks.{block_at}
-use Rattle.block.specs.declared.process.Loops.TheVariants.{Allowed}
+use Rattle.script_token.specs.Tokens.{Token, Fixed, Name}
+use Rattle.script_token.specs.declared.kind.Symbol.TheVariants.{Process}
+use Rattle.script_tree.specs.Processes.{Proc}
+use Rattle.script_grammar.specs.Meaning.{place, if_some}
+use Rattle.script_reader.specs.Steps.{Told, ◌>>=◌, repeated, expect_at, Here, start, bound}
+use Rattle.script_grammar.specs.Written as written
+use Rattle.script_grammar.specs.Written.{block_tokens, channels_tokens, processes_tokens, script_tokens}
+use Rattle.script_reader.specs.Blocks.{block_at}
+use Rattle.script_reader.specs.declared.process.Loops.TheVariants.{Allowed}
 use Rattle.script.specs.Scripts.{Drawn, proc_from, declare_at, process_next, process_step, processes_at}
-use Rattle.faults.specs.Laws.{Any}
-use Rattle.faults.specs.Notes.{Note, SameFront, plain, names_after}
-use Rattle.faults.specs.BlockNotes.{declare_note, one_nack, uncounted, event_after, events_after, stmt_after, block_after, block_notes}
-use Rattle.faults.proofs.Facts.{Shape, Lang, Facts, seq, then, turned, instead, giving, give}
-use Rattle.faults.proofs.Words.{word, expect_facts}
-use Rattle.faults.proofs.Loops.{all_lang, all_facts, same_steps}
-use Rattle.faults.proofs.Shapes.{in_front, block_shape}
-use Rattle.faults.proofs.Events.{block_lang}
-use Rattle.faults.proofs.Knots.{blocks_together}
+use Rattle.script_faults.specs.Laws.{Any}
+use Rattle.script_faults.specs.Notes.{Note, SameFront, plain, names_after}
+use Rattle.script_faults.specs.BlockNotes.{declare_note, one_nack, uncounted, event_after, events_after, stmt_after, block_after, block_notes}
+use Rattle.script_faults.proofs.Facts.{Shape, Lang, Facts, seq, then, turned, instead, giving, give}
+use Rattle.script_faults.proofs.Words.{word, expect_facts}
+use Rattle.script_faults.proofs.Loops.{all_lang, all_facts, same_steps}
+use Rattle.script_faults.proofs.Shapes.{in_front, block_shape}
+use Rattle.script_faults.proofs.Events.{block_lang}
+use Rattle.script_faults.proofs.Knots.{blocks_together}
 use Rattle.script.proofs.Declares.{declared, declared_facts, NoChannel}
 
 -- THE CHANNELS STAY

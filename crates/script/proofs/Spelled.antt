@@ -2,31 +2,31 @@
 use Rattle.std.proofs.Common.{◌≡◌, ℕ, zero, suc, ◌<◌, ◌≤◌, Bool, true, false, cond, ◌||◌, eqb, ltb, leb, List, [], ◌∷◌, ◌++◌, length, Some, None, Result, Ok, Err, IfOk, IfErr, OnOk, is_some, refl, sym, ap, ap₂, ◌∙◌, subst, arith, tests, append_assoc}
 use Rattle.std.proofs.lemmas.Bool.Decides.{nat_tests}
 use Rattle.std.proofs.lemmas.List.{append-nil}
-use Rattle.token.specs.Tokens.{Token, Fixed, Name}
-use Rattle.token.specs.declared.kind.Symbol.TheVariants.{Channel, Process, Semicolon}
-use Rattle.syntax.specs.Trees as trees
-use Rattle.syntax.specs.Processes.{Proc}
-use Rattle.phrase.specs.Places.{place}
-use Rattle.phrase.specs.Steps.{Told, ◌>>=◌, if_some, repeated, name_at, next_is, accept_at, expect_at, Here, start}
-use Rattle.phrase.proofs.Keeping.{bound_ok, ok_is, no_ok, if_ok, some_ok}
-use Rattle.grammar.specs.Written as written
-use Rattle.grammar.specs.Written.{block_tokens, body_tokens, channels_tokens, processes_tokens, script_tokens}
-use Rattle.grammar.specs.Depths.{block_depth, processes_depth, script_depth}
-use Rattle.grammar.specs.Meaning.{Names, block_meaning, declare, channels_meaning, processes_meaning}
-use Rattle.grammar.specs.Laws.{names_at, at}
-use Rattle.grammar.proofs.Fronts.{accept_ok, expect_ok, is_next, next_found, name_found, accept_found, expect_found, no_step, one_step}
-use Rattle.grammar.proofs.Names.{part, some_is, unless_some, neither}
-use Rattle.grammar.proofs.Growing.{block_grows}
-use Rattle.block.specs.Blocks.{block_at}
+use Rattle.script_token.specs.Tokens.{Token, Fixed, Name}
+use Rattle.script_token.specs.declared.kind.Symbol.TheVariants.{Channel, Process, Semicolon}
+use Rattle.script_tree.specs.Trees as trees
+use Rattle.script_tree.specs.Processes.{Proc}
+use Rattle.script_grammar.specs.Meaning.{place, if_some, Names, block_meaning, declare, channels_meaning, processes_meaning}
+use Rattle.script_reader.specs.Steps.{Told, ◌>>=◌, repeated, name_at, next_is, accept_at, expect_at, Here, start}
+use Rattle.script_reader.proofs.Keeping.{bound_ok, ok_is, no_ok, if_ok, some_ok}
+use Rattle.script_grammar.specs.Written as written
+use Rattle.script_grammar.specs.Written.{block_tokens, body_tokens, channels_tokens, processes_tokens, script_tokens}
+use Rattle.script_grammar.specs.Depths.{block_depth, processes_depth, script_depth}
+use Rattle.script_reader.specs.Laws.{names_at, at}
+use Rattle.script_reader.proofs.ReadFronts.{accept_ok, expect_ok, is_next, next_found, name_found, accept_found, expect_found, no_step, one_step}
+use Rattle.script_grammar.proofs.Parts.{part, some_is, unless_some}
+use Rattle.script_reader.proofs.ReadNames.{neither}
+use Rattle.script_grammar.proofs.Growing.{block_grows}
+use Rattle.script_reader.specs.Blocks.{block_at}
 use Rattle.script.specs.Scripts.{Script, proc_from, declare_at, channel_next, channel_step, channels_at, Drawn, process_next, process_step, processes_at, script_at, tokens_of, with_line, text_at, script_of, Answers}
 use Rattle.script.specs.Spelling.{script_meaning, Spells, SpellsOnlyOne, SpellsNothing, Refuses}
 use Rattle.script.specs.declared.script.Script.{Script as SeenScript}
-use Rattle.phrase.specs.declared.fault.Problem.TheVariants.{Syntax, UnknownName, Twice, TooMany, LoopWithoutSync}
-use Rattle.block.specs.declared.process.Loops.TheVariants.{Allowed}
+use Rattle.script_reader.specs.declared.fault.Problem.TheVariants.{Syntax, UnknownName, Twice, TooMany, LoopWithoutSync}
+use Rattle.script_reader.specs.declared.process.Loops.TheVariants.{Allowed}
 use Rattle.script.specs.declared.fault.ScriptFault.{ScriptFault}
 use Rattle.script.specs.declared.fault.ScriptFault.TheVariants as faults
-use Rattle.block.proofs.Found.{blocks_found}
-use Rattle.block.proofs.Again.{no_counts, block_again, body_longer}
+use Rattle.script_reader.proofs.Found.{blocks_found}
+use Rattle.script_reader.proofs.Again.{no_counts, block_again, body_longer}
 
 le_self : (n : ℕ) → n ≤ n
 le_self n = omega arith

@@ -1,13 +1,13 @@
 -- What a text is told to say, and the line of its fault.
 use Rattle.std.proofs.Common.{◌≡◌, ℕ, zero, suc, ◌-◌, ◌<◌, ◌≤◌, false, eqb, ltb, List, [], ◌∷◌, map, length, get_or, Result, Ok, Err, refl, sym, ap, ◌∙◌, arith, tests}
 use Rattle.std.proofs.lemmas.List.{length-map}
-use Rattle.token.specs.Tokens.{Token}
-use Rattle.token.specs.Lexemes.{placed_tokens, last_line, seen, seen_at}
-use Rattle.phrase.specs.Steps.{bare}
+use Rattle.script_token.specs.Tokens.{Token}
+use Rattle.script_token.specs.Lexemes.{placed_tokens, last_line, seen, seen_at}
+use Rattle.script_reader.specs.Steps.{bare}
 use Rattle.script.specs.Scripts.{Script, script_at, text_at, tokens_of, with_line, line_left, fault_at, IsFault}
-use Rattle.token.specs.declared.lexeme.Placed.{Placed}
-use Rattle.phrase.specs.declared.fault.Problem.{Problem}
-use Rattle.phrase.specs.declared.fault.Problem.TheVariants.{Syntax, UnknownName, Twice, TooMany, LoopWithoutSync}
+use Rattle.script_token.specs.declared.lexeme.Placed.{Placed}
+use Rattle.script_reader.specs.declared.fault.Problem.{Problem}
+use Rattle.script_reader.specs.declared.fault.Problem.TheVariants.{Syntax, UnknownName, Twice, TooMany, LoopWithoutSync}
 use Rattle.script.specs.declared.fault.ScriptFault.{ScriptFault}
 
 pub line_of : (ps : List Placed) (i : ℕ) (p : Placed) → i < length ps → p ≡ get_or ps i p → get_or (map (λ (q : Token × ℕ). q.1) (seen ps)) i 0 ≡ p.line

@@ -1,23 +1,23 @@
 -- Whole scripts: the fault that reading tells is the one that is demanded.
 use Rattle.std.proofs.Common.{◌≡◌, ℕ, true, false, cond, ◌||◌, leb, ltb, List, [], ◌∷◌, ◌++◌, length, Some, None, Result, Ok, is_some, refl, sym, ap, ap₂, ◌∙◌, subst, arith, length-append, append_assoc}
-use Rattle.token.specs.Tokens.{Token, Fixed, Name}
-use Rattle.token.specs.declared.kind.Symbol.TheVariants.{Channel, Process}
-use Rattle.syntax.specs.Processes.{Proc}
-use Rattle.phrase.specs.Places.{place}
-use Rattle.phrase.specs.Steps.{Told, ◌>>=◌, next_is, start}
-use Rattle.phrase.specs.declared.fault.Problem.TheVariants.{Twice, TooMany}
-use Rattle.grammar.specs.Written as written
-use Rattle.grammar.specs.Written.{block_tokens, channels_tokens, processes_tokens, script_tokens}
+use Rattle.script_token.specs.Tokens.{Token, Fixed, Name}
+use Rattle.script_token.specs.declared.kind.Symbol.TheVariants.{Channel, Process}
+use Rattle.script_tree.specs.Processes.{Proc}
+use Rattle.script_grammar.specs.Meaning.{place}
+use Rattle.script_reader.specs.Steps.{Told, ◌>>=◌, next_is, start}
+use Rattle.script_reader.specs.declared.fault.Problem.TheVariants.{Twice, TooMany}
+use Rattle.script_grammar.specs.Written as written
+use Rattle.script_grammar.specs.Written.{block_tokens, channels_tokens, processes_tokens, script_tokens}
 use Rattle.script.specs.Scripts.{Script, Drawn, channels_at, processes_at, script_at}
-use Rattle.faults.specs.Laws.{Any}
-use Rattle.faults.specs.Notes.{Note, SameFront}
-use Rattle.faults.specs.BlockNotes.{declare_note, block_notes, channels_notes, processes_notes, script_notes}
-use Rattle.faults.proofs.Facts.{Shape, Lang, Facts, seq, bind, turned, ending, ended, giving, give, next_same, spelled_length}
-use Rattle.faults.proofs.Loops.{spell_all, notes_all, after_all}
-use Rattle.faults.proofs.Shapes.{block_shape}
-use Rattle.faults.proofs.Places.{Agree, Agrees, IsHere, agrees_none, agrees_seq, here_agrees, either_here}
-use Rattle.faults.proofs.Agreeing.{front, block_agrees}
-use Rattle.faults.proofs.Demanding.{answered}
+use Rattle.script_faults.specs.Laws.{Any}
+use Rattle.script_faults.specs.Notes.{Note, SameFront}
+use Rattle.script_faults.specs.BlockNotes.{declare_note, block_notes, channels_notes, processes_notes, script_notes}
+use Rattle.script_faults.proofs.Facts.{Shape, Lang, Facts, seq, bind, turned, ending, ended, giving, give, next_same, spelled_length}
+use Rattle.script_faults.proofs.Loops.{spell_all, notes_all, after_all}
+use Rattle.script_faults.proofs.Shapes.{block_shape}
+use Rattle.script_faults.proofs.Places.{Agree, Agrees, IsHere, agrees_none, agrees_seq, here_agrees, either_here}
+use Rattle.script_faults.proofs.Agreeing.{front, block_agrees}
+use Rattle.script_faults.proofs.Demanding.{answered}
 use Rattle.script.specs.FirstFaults.{Ended, script_spell, ScriptsAreAnswered}
 use Rattle.script.proofs.Declares.{NoChannel, channel_spell, channel_notes, one_more, channel_shape, channels_lang, channels_facts}
 use Rattle.script.proofs.Processes.{Before, AtEnd, process_spell, process_notes, process_after, all_processes, process_facts_all, left_none, none_left, block_channels}

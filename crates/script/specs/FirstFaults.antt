@@ -1,12 +1,12 @@
 -- Which fault of a text is to be told: by the grammar and the notes of what is written, apart from how it is
 -- read.
 use Rattle.std.specs.Prelude.{◌≡◌, ◌⊎◌, ℕ, ◌<◌, ◌≤◌, List, [], ◌++◌, length, Result, Err}
-use Rattle.token.specs.Tokens.{Token}
-use Rattle.token.specs.Lexemes.{placed_tokens, last_line}
-use Rattle.phrase.specs.Steps.{Told}
-use Rattle.grammar.specs.Written.{Script as Written, script_tokens}
-use Rattle.faults.specs.BlockNotes.{script_notes}
-use Rattle.faults.specs.Laws.{Demanded, Answered}
+use Rattle.script_token.specs.Tokens.{Token}
+use Rattle.script_token.specs.Lexemes.{placed_tokens, last_line}
+use Rattle.script_reader.specs.Steps.{Told}
+use Rattle.script_grammar.specs.Written.{Script as Written, script_tokens}
+use Rattle.script_faults.specs.BlockNotes.{script_notes}
+use Rattle.script_faults.specs.Laws.{Demanded, Answered}
 use Rattle.script.specs.Scripts.{script_at, tokens_of, line_left, fault_at}
 use Rattle.script.specs.declared.script.Script.{Script}
 use Rattle.script.specs.declared.fault.ScriptFault.{ScriptFault}

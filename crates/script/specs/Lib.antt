@@ -3,3 +3,4 @@ pub mod Scripts
 pub mod Spelling
 pub mod FirstFaults
 pub mod Names
+pub mod Appending

@@ -1,7 +1,7 @@
 -- The names that a script declares.
 use Rattle.std.specs.Prelude.{◌≡◌, ◌≢◌, ℕ, true, List, [], ◌∷◌, map}
 use Rattle.std.specs.List.{AllByRecursion}
-use Rattle.token.specs.Tokens.{is_name}
+use Rattle.script_token.specs.Tokens.{is_name}
 use Rattle.script.specs.Sources.{Script}
 use Rattle.script.specs.Spelling.{IsSpelled}
 

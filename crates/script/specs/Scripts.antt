@@ -1,21 +1,22 @@
 -- Reading from left to right: declarations, processes, and whole texts.
 use Rattle.std.specs.Prelude.{◌≡◌, ℕ, ◌-◌, List, [], ◌∷◌, ◌++◌, map, length, ◌||◌, Option, Some, None, Result, Ok, Err, is_some, nat_lt, nat_le, ◌==◌, slice_index, if◌then◌else◌}
-use Rattle.token.specs.Tokens.{Token}
-use Rattle.token.specs.Lexemes.{placed_tokens, last_line}
-use Rattle.phrase.specs.Places.{place, texts}
-use Rattle.phrase.specs.Steps.{Told, ◌>>=◌, stop_at, if_some, repeated, name_at, next_is, accept_at, expect_at, Here, here, start}
-use Rattle.syntax.specs.Trees.{Block}
-use Rattle.syntax.specs.Processes.{Proc, proc_of, string_texts}
-use Rattle.block.specs.Blocks.{block_at}
-use Rattle.block.specs.declared.process.Loops.TheVariants.{Allowed}
+use Rattle.script_token.specs.Tokens.{Token}
+use Rattle.script_token.specs.Lexemes.{placed_tokens, last_line}
+use Rattle.script_reader.specs.Places.{texts}
+use Rattle.script_grammar.specs.Meaning.{place, if_some}
+use Rattle.script_reader.specs.Steps.{Told, ◌>>=◌, stop_at, repeated, name_at, next_is, accept_at, expect_at, Here, here, start}
+use Rattle.script_tree.specs.Trees.{Block}
+use Rattle.script_tree.specs.Processes.{Proc, proc_of, string_texts}
+use Rattle.script_reader.specs.Blocks.{block_at}
+use Rattle.script_reader.specs.declared.process.Loops.TheVariants.{Allowed}
 pub use Rattle.script.specs.Sources.{Script, IsScript, tokens_of}
 use Rattle.script.specs.declared.script.Script.{Script as SeenScript}
 use Rattle.script.specs.declared.reading.Draft.{Draft}
-use Rattle.phrase.specs.declared.fault.Problem.{Problem}
-use Rattle.phrase.specs.declared.fault.Problem.TheVariants.{Syntax, UnknownName, Twice, TooMany, LoopWithoutSync}
+use Rattle.script_reader.specs.declared.fault.Problem.{Problem}
+use Rattle.script_reader.specs.declared.fault.Problem.TheVariants.{Syntax, UnknownName, Twice, TooMany, LoopWithoutSync}
 use Rattle.script.specs.declared.fault.ScriptFault.{ScriptFault}
 use Rattle.script.specs.declared.fault.ScriptFault.TheVariants as faults
-use Rattle.token.specs.declared.kind.Symbol.TheVariants.{Channel, Process, Semicolon}
+use Rattle.script_token.specs.declared.kind.Symbol.TheVariants.{Channel, Process, Semicolon}
 
 abbrev pub proc_from : List ℕ → Block → Here → Proc
 proc_from name body h = record { name = name; body = body; variables = h.variables; channels = length h.channels }

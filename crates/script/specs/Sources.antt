@@ -1,8 +1,8 @@
 -- Scripts without where they lie in memory, and the tokens of a text.
 use Rattle.std.specs.Prelude.{ℕ, ◌≤◌, List, map, length}
-use Rattle.token.specs.Tokens.{Token}
-use Rattle.token.specs.Lexemes.{placed_tokens}
-use Rattle.syntax.specs.Processes.{Proc, ShareChannels}
+use Rattle.script_token.specs.Tokens.{Token}
+use Rattle.script_token.specs.Lexemes.{placed_tokens}
+use Rattle.script_tree.specs.Processes.{Proc, ShareChannels}
 
 -- the names of the channels by their numbers, and the processes
 pub record Script : Type 0 where

@@ -1,9 +1,9 @@
 -- What a text spells: the grammar, apart from how it is read.
 use Rattle.std.specs.Prelude.{◌≡◌, ℕ, ◌≤◌, List, [], Option, Some}
-use Rattle.grammar.specs.Written as written
-use Rattle.grammar.specs.Written.{script_tokens}
-use Rattle.grammar.specs.Depths.{script_depth}
-use Rattle.grammar.specs.Meaning.{◌>>=◌, channels_meaning, processes_meaning}
+use Rattle.script_grammar.specs.Written as written
+use Rattle.script_grammar.specs.Written.{script_tokens}
+use Rattle.script_grammar.specs.Depths.{script_depth}
+use Rattle.script_grammar.specs.Meaning.{◌>>=◌, channels_meaning, processes_meaning}
 use Rattle.script.specs.Sources.{Script, tokens_of}
 use Rattle.script.specs.declared.fault.ScriptFault.{ScriptFault}
 use Rattle.script.specs.declared.fault.ScriptFault.TheVariants as faults

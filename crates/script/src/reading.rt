@@ -3,27 +3,27 @@
 ghost use Rattle.std.specs.Prelude.{◌≡◌, ◌<◌, ◌≤◌, ◌∷◌, ◌++◌, IfOk, IfErr, OnOk, length, map, slice_get};
 ghost use Rattle.std.specs.Option.{option_map};
 ghost use Rattle.std.specs.String.{string_bytes};
-ghost use Rattle.token.specs.Lexemes.{placed_tokens, last_line, seen};
-ghost use Rattle.phrase.specs.Places.{texts};
-ghost use Rattle.phrase.specs.Steps.{Gives, bare, here, start};
+ghost use Rattle.script_token.specs.Lexemes.{placed_tokens, last_line, seen};
+ghost use Rattle.script_reader.specs.Places.{texts};
+ghost use Rattle.script_reader.specs.Steps.{Gives, bare, here, start};
 ghost use Rattle.script.specs.Scripts.{drawn, proc_from, declare_at, channel_next, channels_at, process_next, processes_at, script_at, script_of, line_left, fault_at, text_at, Answers};
 ghost use Rattle.script.specs.FirstFaults.{Tells, FirstIsTold};
 ghost use Rattle.script.specs.Spelling.{Spells, Refuses};
-ghost use Rattle.syntax.specs.Processes.{proc_of, string_texts};
-ghost use Rattle.syntax.specs.Limits.{KeepsLimits};
-ghost use Rattle.syntax.specs.Trees.{block_of};
+ghost use Rattle.script_tree.specs.Processes.{proc_of, string_texts};
+ghost use Rattle.script_tree.specs.Limits.{KeepsLimits};
+ghost use Rattle.script_tree.specs.Trees.{block_of};
 
 use crate::fault::ScriptFault;
 use crate::script::Script;
-use block::{Loops, read_block};
-use phrase::fault::{Problem, Stop};
-use phrase::scope::{Counts, NAME_LEN, Scope};
-use phrase::step::{accept, begin, expect, is_end, is_next, name_at, stop};
-use phrase::table::Table;
+use script_reader::fault::{Problem, Stop};
+use script_reader::scope::{Counts, NAME_LEN, Scope};
+use script_reader::step::{accept, begin, expect, is_end, is_next, name_at, stop};
+use script_reader::table::Table;
+use script_reader::{Loops, read_block};
+use script_token::{Placed, Symbol, Tokens, scan};
+use script_tree::{Block, Proc};
 use std::alloc::{AllocError, Global};
 use std::sync::Arc;
-use syntax::{Block, Proc};
-use token::{Placed, Symbol, Tokens, scan};
 
 /// The most bytes of a text.
 const TEXT_LEN: usize = 65536;

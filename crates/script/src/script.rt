@@ -2,9 +2,9 @@
 
 ghost use Rattle.std.specs.Prelude.{◌≤◌, length, map};
 ghost use Rattle.script.specs.Spelling.{IsSpelled, IsSpelled-prop};
-ghost use Rattle.syntax.specs.Processes.{proc_of, string_texts, ShareChannels, ShareChannels-prop};
+ghost use Rattle.script_tree.specs.Processes.{proc_of, string_texts, ShareChannels, ShareChannels-prop};
 
-use syntax::Proc;
+use script_tree::Proc;
 
 /// A script: its channels and its processes, in the order in which they are declared. It is made by
 /// `parse` alone, and some text spells it.
@@ -34,7 +34,7 @@ impl Script {
     }
 
     /// How many channels are declared.
-    #[tactic(auto, using(syntax::proofs::Texts::length_texts))]
+    #[tactic(auto, using(script_tree::proofs::Texts::length_texts))]
     pub fn channels(&self) -> usize
         ensures { result ≡ length (script_of self.now).channels }
     {
@@ -50,7 +50,7 @@ impl Script {
     }
 
     /// The name of channel c, which has to be declared.
-    #[tactic(auto, using(syntax::proofs::Texts::get_texts, syntax::proofs::Texts::length_texts))]
+    #[tactic(auto, using(script_tree::proofs::Texts::get_texts, script_tree::proofs::Texts::length_texts))]
     pub fn channel_name(&self, c: usize) -> &str
         requires { c < length (script_of self.now).channels }
         ensures { Some result.now ≡ slice_get (script_of self.now).channels c }

@@ -4,10 +4,10 @@ use crate::blocks::{Block, Blocks};
 use crate::calls::{Outcome, Wanted, replayed};
 use crate::shelf::Shelf;
 use anyhow::{Result, bail};
+use pcml_tool::command;
 use std::fs::Files;
 use std::sync::Wait;
 use std::thread::Threads;
-use tool::command;
 
 /// Numbers of workers with which a script is run.
 const WORKERS: [&str; 3] = ["1", "2", "16"];

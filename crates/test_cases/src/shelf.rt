@@ -1,8 +1,8 @@
 //! The files of a case file: those that it made so far, and else those beside it.
 
+use pcml_tool::{Source, SourceFault, SystemFiles};
 use std::alloc::{AllocError, Global};
 use std::fs::Files;
-use tool::{Source, SourceFault, SystemFiles};
 
 /// A file that was made.
 #[derive(Drop)]

@@ -2,11 +2,11 @@
 use Rattle.std.proofs.Common.{◌≡◌, ℕ, ◌+◌, ◌^◌, List, [], ◌∷◌, ◌++◌, length, map, refl, sym, ap, ap₂, ◌∙◌, arith}
 use Rattle.std.proofs.Math.Seq.{drop-length, take-length}
 use Rattle.std.specs.Prelude.{bit_or}
-use Rattle.code.specs.Stages.{Stage, Offered, Performed, Made, stages, stages_of_all}
-use Rattle.code.specs.declared.Code.{Code}
-use Rattle.syntax.specs.Limits.{nack_count}
-use Rattle.syntax.specs.Trees.{Event, Sends, Receives, IsReady, IsNever, IsCancelled, Chooses, Wraps, Guards, Nacks, Events, NoMembers, Members, Turn}
-use Rattle.words.specs.declared.Offer.{Offer}
+use Rattle.thread_code.specs.Stages.{Stage, Offered, Performed, Made, stages, stages_of_all}
+use Rattle.thread_code.specs.declared.Code.{Code}
+use Rattle.script_tree.specs.Limits.{nack_count}
+use Rattle.script_tree.specs.Trees.{Event, Sends, Receives, IsReady, IsNever, IsCancelled, Chooses, Wraps, Guards, Nacks, Events, NoMembers, Members, LoopBody}
+use Rattle.protocol_values.specs.declared.Offer.{Offer}
 use Rattle.thread.specs.declared.stack.Opening.{Opening}
 use Rattle.thread.specs.After.{State, Goes, ◌>>=◌, run_block, synced}
 use Rattle.thread.specs.Fitting.{HasSync, IsOpening}
@@ -27,7 +27,7 @@ pub others_all : (plan : ℕ) (l : Lists) → others (begun plan l) l ≡ l
 others_all plan l = ap₂ (λ os ns. record { offers = os; nacks = ns }) (take-length l.offers) (take-length l.nacks)
 
 -- a turn, stage by stage
-turn_begins : (t : Turn) (s : State) → turn_on t s ≡ (run_stages (stages 0 0 t.event) no_lists s >>= offered t)
+turn_begins : (t : LoopBody) (s : State) → turn_on t s ≡ (run_stages (stages 0 0 t.event) no_lists s >>= offered t)
 turn_begins t s =
     let r = run_stages (stages 0 0 t.event) no_lists s in
     ap (λ x. x >>= synced t.names >>= run_block t.rest) (resolves_whole t.event s)

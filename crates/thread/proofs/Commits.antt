@@ -1,7 +1,7 @@
 -- What a wrap does.
 use Rattle.std.proofs.Common.{◌≡◌, List, Result, Ok, Err, Some, refl, sym, ap, ◌∙◌}
-use Rattle.words.specs.declared.Message.{Message}
-use Rattle.words.specs.declared.Atom.{Atom}
+use Rattle.protocol_values.specs.declared.Message.{Message}
+use Rattle.protocol_values.specs.declared.Atom.{Atom}
 use Rattle.thread.specs.declared.Fault.{Fault}
 use Rattle.thread.specs.declared.memory.Memory.{Memory}
 use Rattle.thread.specs.Values.{list_value}

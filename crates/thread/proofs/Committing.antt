@@ -2,14 +2,14 @@
 use Rattle.std.proofs.Common.{◌≡◌, ℕ, ◌<◌, ◌≤◌, ◌∷◌, Some, length, slice_get, sym, ap, ◌∙◌, arith}
 use Rattle.std.proofs.lemmas.List.{length-map, take_all}
 use Rattle.std.specs.Option.{option_map}
-use Rattle.code.specs.Stages.{stages}
-use Rattle.code.specs.declared.Code.{Code}
-use Rattle.code.specs.declared.Plan.{Plan}
+use Rattle.thread_code.specs.Stages.{stages}
+use Rattle.thread_code.specs.declared.Code.{Code}
+use Rattle.thread_code.specs.declared.Plan.{Plan}
 use Rattle.event.specs.Tree.{offers, scope_nacks}
-use Rattle.syntax.specs.Limits.{base_count}
-use Rattle.syntax.specs.Trees.{Turn, event_of, names_of}
-use Rattle.words.specs.declared.Message.{Message}
-use Rattle.words.specs.declared.Offer.{Offer}
+use Rattle.script_tree.specs.Limits.{base_count}
+use Rattle.script_tree.specs.Trees.{LoopBody, event_of, names_of}
+use Rattle.protocol_values.specs.declared.Message.{Message}
+use Rattle.protocol_values.specs.declared.Offer.{Offer}
 use Rattle.thread.specs.declared.stack.Opening.{Opening}
 use Rattle.thread.specs.After.{State, Outcome, ◌>>=◌, Having, received, run_block}
 use Rattle.thread.specs.Fitting.{IsOpening, masks, nacks_made}
@@ -51,7 +51,7 @@ module _ (c : Code) (l : Lists) (o : Opening) (fits : IsOpening c l o) (whole : 
     -- a message from one of its offers comes through
     pub comes_through : (n k : ℕ) (m : Message) (s : State) → n < length (own o l).offers → pass (event_of plan.event.value) n m s ≡ Past k → ⊥
     comes_through n k m s less past =
-        omega (arith, less, own_count, ap (λ (t : Turn). base_count t.event) is, passes_through (event_of plan.event.value) n k m s past)
+        omega (arith, less, own_count, ap (λ (t : LoopBody). base_count t.event) is, passes_through (event_of plan.event.value) n k m s past)
 
     -- and is what its names are set to
     pub commit_does : (n : ℕ) (m : Message) (s : State) (left : Outcome Having) → pass (event_of plan.event.value) n m s ≡ Through left →

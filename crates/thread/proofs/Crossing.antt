@@ -3,17 +3,17 @@ use denote.Builtin.{u8}
 use denote.Param.Send.{IsSend, IsSync, sendable, view_send}
 use denote.Param.SendFields.{variants_send, declared_send}
 use Rattle.std.proofs.Crossing.{crosses}
-use Rattle.code.specs.contracts.Code as Code
-use Rattle.words.specs.contracts.Base as Base
-use Rattle.words.specs.contracts.Message as Message
-use Rattle.words.specs.contracts.Offer as Offer
+use Rattle.thread_code.specs.contracts.Code as Code
+use Rattle.protocol_values.specs.contracts.Base as Base
+use Rattle.protocol_values.specs.contracts.Message as Message
+use Rattle.protocol_values.specs.contracts.Offer as Offer
 use Rattle.thread.specs.contracts.memory.Memory as Memory
 use Rattle.thread.specs.contracts.stack.Frame as Frame
 use Rattle.thread.specs.contracts.stack.Stack as Stack
-use Rattle.thread.specs.contracts.machine.Place as Place
+use Rattle.thread.specs.contracts.machine.Position as Position
 use Rattle.thread.specs.contracts.machine.Machine as Machine
 use Rattle.thread.specs.contracts.machine.Machine.TheInside as Inside
-use Rattle.syntax.proofs.Crossing.{event_row_send, event_row_sync, block_row_send, block_row_sync}
+use Rattle.script_tree.proofs.Crossing.{event_row_send, event_row_sync, block_row_send, block_row_sync}
 
 code_send : IsSend Code.the_row
 code_send =
@@ -43,7 +43,7 @@ frame_send = search (sendable, crosses) depth 30
 stack_send : IsSend Stack.the_row
 stack_send = let a = frame_send in let b = offer_send in search (sendable, crosses) depth 30
 
-place_send : IsSend Place.the_row
+place_send : IsSend Position.the_row
 place_send = search (sendable, crosses) depth 30
 
 memory_send : IsSend Memory.the_row

@@ -6,23 +6,22 @@ use Rattle.std.proofs.lemmas.List.{length-append, length-map}
 use Rattle.std.proofs.lemmas.List.Elements.{All-head, All-tail, All-set, All-replicate}
 use Rattle.std.specs.Prelude.{⊤, All, if◌then◌else◌}
 use Rattle.event.specs.Tree.{Tree, Single, Nothing, Or, Wrap, Scope, bases_from, base_count, scope_count, with_scope, with_wrap, wraps_at}
-use Rattle.syntax.specs.Limits.{base_count as bases_of, bases_of_all}
-use Rattle.syntax.specs.Trees.{Term, Single as SingleTerm, Sum, Terms, Nothing as NoTerms, More, Expr, Event, Sends, Receives, IsReady, IsNever, IsCancelled, Chooses, Wraps, Guards, Nacks, Events, NoMembers, Members, Stmt, Lets, Prints, Syncs, Branches, Loops, LoopsForever, Ends, Block, Stops, Runs}
-use Rattle.syntax.specs.declared.tree.Name.{Name}
-use Rattle.syntax.specs.declared.tree.Name.TheVariants.{Variable, Channel}
-use Rattle.syntax.specs.declared.tree.Operand.{Operand}
-use Rattle.syntax.specs.declared.tree.Operand.TheVariants.{Number, Named}
-use Rattle.syntax.specs.declared.tree.Sign.{Sign}
-use Rattle.syntax.specs.declared.tree.Sign.TheVariants.{Plus, Minus}
-use Rattle.words.specs.declared.Atom.{Atom}
-use Rattle.words.specs.declared.Atom.TheVariants.{Num, Chan, Nack}
-use Rattle.words.specs.declared.Base.{Base}
-use Rattle.words.specs.declared.Base.TheVariants.{Send, Recv, Always, OnNack, Never}
-use Rattle.words.specs.declared.Message.{Message}
-use Rattle.words.specs.declared.Message.TheVariants.{Empty, One, Two, Three}
+use Rattle.script_tree.specs.Limits.{base_count as bases_of, bases_of_all}
+use Rattle.script_tree.specs.Trees.{Term, Single as SingleTerm, Sum, Terms, Nothing as NoTerms, More, Expr, Event, Sends, Receives, IsReady, IsNever, IsCancelled, Chooses, Wraps, Guards, Nacks, Events, NoMembers, Members, Stmt, Lets, Prints, Syncs, Branches, Loops, LoopsForever, Ends, Block, Stops, Runs}
+use Rattle.script_tree.specs.declared.tree.Name.{Name}
+use Rattle.script_tree.specs.declared.tree.Name.TheVariants.{Variable, Channel}
+use Rattle.script_tree.specs.declared.tree.Operand.{Operand}
+use Rattle.script_tree.specs.declared.tree.Operand.TheVariants.{Number, Named}
+use Rattle.script_tree.specs.declared.tree.Sign.{Sign}
+use Rattle.script_tree.specs.declared.tree.Sign.TheVariants.{Plus, Minus}
+use Rattle.protocol_values.specs.declared.Atom.{Atom}
+use Rattle.protocol_values.specs.declared.Atom.TheVariants.{Num, Chan, Nack}
+use Rattle.protocol_values.specs.declared.Base.{Base}
+use Rattle.protocol_values.specs.declared.Base.TheVariants.{Send, Recv, Always, OnNack, Never}
+use Rattle.protocol_values.specs.declared.Message.{Message}
+use Rattle.protocol_values.specs.declared.Message.TheVariants.{Empty, One, Two, Three}
 use Rattle.thread.specs.declared.Fault.{Fault}
-use Rattle.thread.specs.Values.{Store, name_value, operand_value, combined, term_value, sum_value, expr_value, exprs_value, message_of, list_value, test_value, with_atom, atoms, with_all, with_names}
-use Rattle.thread.specs.Values.{◌>>=◌ as ◌>>>◌}
+use Rattle.thread.specs.Values.{Store, name_value, operand_value, combined, term_value, sum_value, expr_value, exprs_value, message_of, list_value, test_value, with_atom, atoms, with_all, with_names, ◌>>=◌ as ◌>>>◌}
 use Rattle.thread.specs.After.{State, Chosen, Outcome, Goes, Offers, Finishes, Fails, Strays, ◌>>=◌, given, received, Wrapping, Having, wrapped_once, wrapped, Formed, committed, synced_with, synced, times, channel_in, nack_in, channel_value, nack_value, send_value, recv_value, always_value, cancelled_value, formed, with_variable, with_nack, as_wrap, as_scope, as_first, run_block, run_stmt, resolve, resolve_all, start, finished, after}
 
 -- What is kept of one thread: of each atom (Good) and of the number of nacks that it took (Taken); of the nack of a scope

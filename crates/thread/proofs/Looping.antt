@@ -1,6 +1,6 @@
 -- A loop that takes one more turn.
 use Rattle.std.proofs.Common.{◌≡◌, ℕ, suc, ◌+◌, ◌<◌, List, [], ◌∷◌, ◌++◌, sym, ap, ◌∙◌, subst, arith}
-use Rattle.code.specs.declared.Code.{Code}
+use Rattle.thread_code.specs.declared.Code.{Code}
 use Rattle.thread.specs.declared.stack.Frame.{Frame}
 use Rattle.thread.specs.declared.stack.Frame.TheVariants.{Times, Endless}
 use Rattle.thread.specs.declared.stack.Opening.{Opening}

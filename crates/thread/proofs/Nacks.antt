@@ -5,14 +5,14 @@ use Rattle.std.proofs.lemmas.List.{length-append}
 use Rattle.std.proofs.lemmas.List.Elements.{All-nil, All-cons}
 use Rattle.std.specs.Prelude.{⊤, All, if◌then◌else◌}
 use Rattle.event.specs.Tree.{Tree, Single, Nothing, Or, Wrap, Scope, base_count, wraps_at}
-use Rattle.syntax.specs.Limits.{base_count as bases_of}
-use Rattle.syntax.specs.Trees.{Event, Sends, Receives, IsReady, IsNever, IsCancelled, Chooses, Wraps, Guards, Nacks, Events, NoMembers, Members, Stmt, Lets, Prints, Syncs, Branches, Loops, LoopsForever, Ends, Block, Stops, Runs, Turn}
-use Rattle.words.specs.declared.Atom.{Atom}
-use Rattle.words.specs.declared.Atom.TheVariants.{Nack}
-use Rattle.words.specs.declared.Base.{Base}
-use Rattle.words.specs.declared.Base.TheVariants.{Send, Recv, Always, OnNack, Never}
-use Rattle.words.specs.declared.Message.{Message}
-use Rattle.words.specs.declared.Message.TheVariants.{Empty, One, Two, Three}
+use Rattle.script_tree.specs.Limits.{base_count as bases_of}
+use Rattle.script_tree.specs.Trees.{Event, Sends, Receives, IsReady, IsNever, IsCancelled, Chooses, Wraps, Guards, Nacks, Events, NoMembers, Members, Stmt, Lets, Prints, Syncs, Branches, Loops, LoopsForever, Ends, Block, Stops, Runs, LoopBody}
+use Rattle.protocol_values.specs.declared.Atom.{Atom}
+use Rattle.protocol_values.specs.declared.Atom.TheVariants.{Nack}
+use Rattle.protocol_values.specs.declared.Base.{Base}
+use Rattle.protocol_values.specs.declared.Base.TheVariants.{Send, Recv, Always, OnNack, Never}
+use Rattle.protocol_values.specs.declared.Message.{Message}
+use Rattle.protocol_values.specs.declared.Message.TheVariants.{Empty, One, Two, Three}
 use Rattle.thread.specs.declared.Fault.{Fault}
 use Rattle.thread.specs.declared.Fault.TheVariants.{Range}
 use Rattle.thread.specs.Values.{Store, expr_value, list_value, test_value, with_names}
@@ -135,13 +135,13 @@ module _ (k : ℕ) where
       quiet_of s.thread (committed names f numbers m s) (StateIs (behind s.thread)) Behind (λ t i. i.nacks)
       (committed_keeps (behind s.thread) names f numbers m s (any_wraps s.thread f.wraps) (any_message m) (is_behind s h))
 
-  quiet_turn : (turn : Turn) (s : State) → Behind s → Quiet (turn_on turn s) Behind
+  quiet_turn : (turn : LoopBody) (s : State) → Behind s → Quiet (turn_on turn s) Behind
   quiet_turn turn s h =
       quiet_bind (resolve turn.event [] s >>= synced turn.names) (run_block turn.rest) Behind Behind
       (quiet_bind (resolve turn.event [] s) (synced turn.names) FormedBehind Behind (quiet_event turn.event [] s h) (λ f i. quiet_synced turn.names f i))
       (λ t i. quiet_block turn.rest t i)
 
-  quiet_times : (n : ℕ) (turn : Turn) (s : State) → Behind s → Quiet (times n (turn_on turn) s) Behind
+  quiet_times : (n : ℕ) (turn : LoopBody) (s : State) → Behind s → Quiet (times n (turn_on turn) s) Behind
   quiet_times zero turn s h = h
   quiet_times (suc n) turn s h = quiet_bind (turn_on turn s) (times n (turn_on turn)) Behind Behind (quiet_turn turn s h) (λ t i. quiet_times n turn t i)
 
@@ -281,10 +281,10 @@ module _ (k : ℕ) where
 
     -- LOOPS
 
-    abbrev TurnBoth : Turn → Type 0
+    abbrev TurnBoth : LoopBody → Type 0
     TurnBoth turn = (low : ℕ) (s : State) → low ≤ s.nacks → Both low (turn_on turn s) (turn_on turn (longer s)) (Longer low) Behind
 
-    times_both : (n : ℕ) (turn : Turn) → TurnBoth turn → (low : ℕ) (s : State) → low ≤ s.nacks → Both low (times n (turn_on turn) s) (times n (turn_on turn) (longer s)) (Longer low) Behind
+    times_both : (n : ℕ) (turn : LoopBody) → TurnBoth turn → (low : ℕ) (s : State) → low ≤ s.nacks → Both low (times n (turn_on turn) s) (times n (turn_on turn) (longer s)) (Longer low) Behind
     times_both zero turn both low s le = (longer s, refl, (refl, le))
     times_both (suc n) turn both low s le =
         bind_both low (turn_on turn s) (turn_on turn (longer s)) (times n (turn_on turn)) (times n (turn_on turn)) (Longer low) Behind (Longer low) Behind (both low s le)
@@ -292,7 +292,7 @@ module _ (k : ℕ) where
         (λ _ b h. quiet_times n turn b h)
 
     -- with more turns than the short run has results
-    endless_both : (n m : ℕ) (turn : Turn) → TurnBoth turn → (low : ℕ) (s : State) → low ≤ s.nacks → length s.left < n → n ≤ m →
+    endless_both : (n m : ℕ) (turn : LoopBody) → TurnBoth turn → (low : ℕ) (s : State) → low ≤ s.nacks → length s.left < n → n ≤ m →
         Both low (times n (turn_on turn) s) (times m (turn_on turn) (longer s)) (Longer low) Behind
     endless_both zero m turn both low s le few more = absurd (omega (arith, few))
     endless_both (suc n) zero turn both low s le few more = absurd (omega (arith, more))
@@ -303,7 +303,7 @@ module _ (k : ℕ) where
         (endless_both n m turn both low a h.0.1 (omega (arith, h.1, few)) (omega (arith, more))))
         (λ _ b h. quiet_times m turn b h)
 
-    turn_both : (turn : Turn) → ((low : ℕ) (s : State) → low ≤ s.nacks → Both low (resolve turn.event [] s) (resolve turn.event [] (longer s)) (FormedLonger low) FormedBehind) →
+    turn_both : (turn : LoopBody) → ((low : ℕ) (s : State) → low ≤ s.nacks → Both low (resolve turn.event [] s) (resolve turn.event [] (longer s)) (FormedLonger low) FormedBehind) →
         ((low : ℕ) (s : State) → low ≤ s.nacks → Both low (run_block turn.rest s) (run_block turn.rest (longer s)) (Longer low) Behind) → TurnBoth turn
     turn_both turn forms keeps low s le =
         bind_both low (resolve turn.event [] s >>= synced turn.names) (resolve turn.event [] (longer s) >>= synced turn.names) (run_block turn.rest) (run_block turn.rest) (Longer low) Behind (Longer low) Behind
@@ -362,10 +362,10 @@ module _ (k : ℕ) where
           (if_both a low (run_block first s) (run_block first (longer s)) (run_block second s) (run_block second (longer s)) (Longer low) Behind (block_both first low s le) (block_both second low s le)))
           (λ _ b h. absurd h)
       stmt_both (Loops number names event rest) low s le =
-          let turn : Turn = record { names = names; event = event; rest = rest } in
+          let turn : LoopBody = record { names = names; event = event; rest = rest } in
           times_both number turn (turn_both turn (event_both event []) (block_both rest)) low s le
       stmt_both (LoopsForever names event rest) low s le =
-          let turn : Turn = record { names = names; event = event; rest = rest } in
+          let turn : LoopBody = record { names = names; event = event; rest = rest } in
           endless_both (suc (length s.left)) (suc (length (s.left ++ r ∷ others))) turn (turn_both turn (event_both event []) (block_both rest)) low s le (omega arith)
           (omega (arith, length-append s.left (r ∷ others)))
       stmt_both Ends low s le = tt

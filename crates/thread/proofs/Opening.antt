@@ -2,15 +2,15 @@
 use Rattle.std.proofs.Common.{◌≡◌, ℕ, zero, suc, ◌+◌, ◌<◌, ◌≤◌, List, [], ◌∷◌, ◌++◌, None, Some, Ok, Err, drop, take, length, map, slice_get, refl, sym, ap, ap₂, ◌∙◌, subst, append-nil, arith, length-append}
 use Rattle.std.proofs.lemmas.List.{drop-append-le, map-append, take-append-le}
 use Rattle.std.proofs.lemmas.Option.{none-some, same_Some}
-use Rattle.code.specs.Codes.{AreStages, IsAt, IsStage}
-use Rattle.code.specs.Stages.{Stage, Offered, Performed, Made, stages}
-use Rattle.code.specs.declared.Code.{Code}
-use Rattle.code.specs.declared.Plan.{Plan}
-use Rattle.code.specs.declared.Stage.{Stage as SeenStage}
-use Rattle.code.specs.declared.Stage.TheVariants as seen
-use Rattle.syntax.specs.Trees.{Block, event_of}
-use Rattle.words.specs.declared.Base.{Base}
-use Rattle.words.specs.declared.Offer.{Offer}
+use Rattle.thread_code.specs.Codes.{AreStages, IsAt, IsStage}
+use Rattle.thread_code.specs.Stages.{Stage, Offered, Performed, Made, stages}
+use Rattle.thread_code.specs.declared.Code.{Code}
+use Rattle.thread_code.specs.declared.Plan.{Plan}
+use Rattle.thread_code.specs.declared.Stage.{Stage as SeenStage}
+use Rattle.thread_code.specs.declared.Stage.TheVariants as seen
+use Rattle.script_tree.specs.Trees.{Block, event_of}
+use Rattle.protocol_values.specs.declared.Base.{Base}
+use Rattle.protocol_values.specs.declared.Offer.{Offer}
 use Rattle.thread.specs.declared.Fault.{Fault}
 use Rattle.thread.specs.declared.stack.Frame.{Frame}
 use Rattle.thread.specs.declared.stack.Frame.TheVariants.{Event}

@@ -4,11 +4,11 @@ use Rattle.std.specs.Option.{option_map}
 use Rattle.std.specs.Prelude.{⊤}
 use Rattle.event.proofs.TreeLemmas.{wraps_at-first, wraps_at-second, wraps_at-Wrap, wraps_at-Scope, base_count-Or, base_count-Wrap, base_count-Scope}
 use Rattle.event.specs.Tree.{Tree, Single, Or, wraps_at, base_count as bases_in}
-use Rattle.syntax.specs.Limits.{base_count, bases_of_all, nack_count}
-use Rattle.syntax.specs.Trees.{Event, Sends, Receives, IsReady, IsNever, IsCancelled, Chooses, Wraps, Guards, Nacks, Events, NoMembers, Members}
-use Rattle.words.specs.declared.Base.{Base}
-use Rattle.words.specs.declared.Base.TheVariants.{Never}
-use Rattle.words.specs.declared.Message.{Message}
+use Rattle.script_tree.specs.Limits.{base_count, bases_of_all, nack_count}
+use Rattle.script_tree.specs.Trees.{Event, Sends, Receives, IsReady, IsNever, IsCancelled, Chooses, Wraps, Guards, Nacks, Events, NoMembers, Members}
+use Rattle.protocol_values.specs.declared.Base.{Base}
+use Rattle.protocol_values.specs.declared.Base.TheVariants.{Never}
+use Rattle.protocol_values.specs.declared.Message.{Message}
 use Rattle.thread.specs.After.{State, Outcome, Goes, Offers, Finishes, Fails, Strays, ◌>>=◌, Having, Wrapping, committed, received, wrapped, wrapped_once}
 use Rattle.thread.specs.Passing.{Passage, Through, Past, or_else, pass, pass_all, passed, wrapped_in}
 use Rattle.thread.specs.Resolving.{Lists, formed_as, tree_as}

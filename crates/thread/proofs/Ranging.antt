@@ -3,11 +3,11 @@ use Rattle.std.proofs.Common.{ℕ, ◌+◌, ◌<◌, List, [], ◌∷◌, subst}
 use Rattle.std.proofs.lemmas.List.Elements.{All-nil, All-cons, All-head, All-tail, All-append, All-map}
 use Rattle.std.specs.Prelude.{⊤, All}
 use Rattle.event.specs.Tree.{Tree, Single, Nothing, Or, Wrap, Scope, bases, bases_from, offers, offer_of, scope_count, with_scope, with_wrap}
-use Rattle.syntax.specs.Trees.{block_of}
-use Rattle.words.specs.declared.Base.{Base}
-use Rattle.words.specs.declared.Base.TheVariants.{Send, Recv, Always, OnNack, Never}
-use Rattle.words.specs.declared.Message.{Message}
-use Rattle.words.specs.declared.Message.TheVariants.{Empty, One, Two, Three}
+use Rattle.script_tree.specs.Trees.{block_of}
+use Rattle.protocol_values.specs.declared.Base.{Base}
+use Rattle.protocol_values.specs.declared.Base.TheVariants.{Send, Recv, Always, OnNack, Never}
+use Rattle.protocol_values.specs.declared.Message.{Message}
+use Rattle.protocol_values.specs.declared.Message.TheVariants.{Empty, One, Two, Three}
 use Rattle.thread.specs.After.{Chosen, Outcome, State}
 use Rattle.thread.specs.Machines.{Thread, Phase, Ready, Open, Over, Stuck, Broken, IsAfter, IsAfterAt, offers_in}
 use Rattle.thread.specs.Ranges.{AtomIsIn, MessageIsIn, BaseIsIn, OffersAreIn, ResultsAreIn}

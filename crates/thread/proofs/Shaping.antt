@@ -3,16 +3,16 @@ use Rattle.std.proofs.Common.{◌≡◌, ℕ, zero, suc, ◌+◌, ◌≤◌, ◌
 use Rattle.std.proofs.lemmas.List.{length-drop, length-map, length-take-le, nil_from_length, take-append-drop}
 use Rattle.std.proofs.Math.Seq.{drop-append_seam, take-append_seam}
 use Rattle.std.specs.Prelude.{bit_or}
-use Rattle.code.specs.Stages.{stages, stages_of_all}
+use Rattle.thread_code.specs.Stages.{stages, stages_of_all}
 use Rattle.event.proofs.StepLemmas.{offers_within-Single, offers_within-Or, offers_within-Wrap, offers_within-Scope, offers_within-offers}
 use Rattle.event.proofs.TreeLemmas.{scope_count-Or}
 use Rattle.event.specs.Steps.{offers_within}
 use Rattle.event.specs.Tree.{Tree, Single, Or, Wrap, offers, scope_count, scope_nacks}
-use Rattle.syntax.specs.Limits.{base_count, nack_count, bases_of_all, nacks_of_all}
-use Rattle.syntax.specs.Trees.{Event, Sends, Receives, IsReady, IsNever, IsCancelled, Chooses, Wraps, Guards, Nacks, Events, NoMembers, Members}
-use Rattle.words.specs.declared.Base.{Base}
-use Rattle.words.specs.declared.Base.TheVariants.{Never}
-use Rattle.words.specs.declared.Offer.{Offer}
+use Rattle.script_tree.specs.Limits.{base_count, nack_count, bases_of_all, nacks_of_all}
+use Rattle.script_tree.specs.Trees.{Event, Sends, Receives, IsReady, IsNever, IsCancelled, Chooses, Wraps, Guards, Nacks, Events, NoMembers, Members}
+use Rattle.protocol_values.specs.declared.Base.{Base}
+use Rattle.protocol_values.specs.declared.Base.TheVariants.{Never}
+use Rattle.protocol_values.specs.declared.Offer.{Offer}
 use Rattle.thread.specs.Fitting.{masks, nacks_made}
 use Rattle.thread.specs.Resolving.{Lists, tree_as}
 use Rattle.thread.specs.Shapes.{choice_with, tree_with, wraps_in}

@@ -2,10 +2,10 @@
 use Rattle.std.proofs.Common.{◌≡◌, ℕ, List, [], ◌∷◌, ◌++◌, Option, Some, None, slice_get, refl, sym, ap, ◌∙◌, subst}
 use Rattle.std.proofs.lemmas.Option.{none-some}
 use Rattle.std.specs.Option.{option_map}
-use Rattle.code.specs.Codes.{BlockLeads, HasPlan, IsAt, IsLinked, StmtLeads}
-use Rattle.code.specs.declared.Code.{Code}
-use Rattle.code.specs.declared.Place.{Place}
-use Rattle.syntax.specs.Trees.{Block, Runs, Stmt, Event, Turn, block_of}
+use Rattle.thread_code.specs.Codes.{BlockLeads, HasPlan, IsAt, IsLinked, StmtLeads}
+use Rattle.thread_code.specs.declared.Code.{Code}
+use Rattle.thread_code.specs.declared.Place.{Place}
+use Rattle.script_tree.specs.Trees.{Block, Runs, Stmt, Event, LoopBody, block_of}
 use Rattle.thread.specs.declared.stack.Frame.{Frame}
 use Rattle.thread.specs.Fitting.{FrameFits, FramesFit, HasPlace, HasSync}
 use Rattle.thread.specs.Reaches.{frame_reach, frames_reach}
@@ -49,7 +49,7 @@ sync_is c number names event rest h =
 
 pub has_sync : (c : Code) (number : ℕ) (names : Option (List ℕ)) (event : Event) (rest : Block) → HasPlan c number names event rest → HasSync c number
 has_sync c number names event rest h =
-    subst (λ (t : Turn). HasPlan c number t.names t.event t.rest) (sym (sync_is c number names event rest h)) h
+    subst (λ (t : LoopBody). HasPlan c number t.names t.event t.rest) (sym (sync_is c number names event rest h)) h
 
 -- what a place of a linked code leads to
 pub leads_at : (c : Code) (at : ℕ) (p : Place) (stmt : Stmt) (rest : Block) → IsLinked c → slice_get c.places.items at ≡ Some p → block_of p.block.value ≡ Runs stmt rest → IsAt c p.next rest × StmtLeads c p stmt rest

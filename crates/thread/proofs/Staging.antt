@@ -4,13 +4,13 @@ use Rattle.std.proofs.lemmas.List.{drop-append-le, length-drop, length-map, map-
 use Rattle.std.proofs.Math.Seq.{drop-append_seam}
 use Rattle.std.proofs.Math.ListN.{get_or-append}
 use Rattle.std.specs.Prelude.{⊤, bit_or}
-use Rattle.code.specs.Stages.{Stage, Offered, Performed, Made, stages, stages_of_all}
+use Rattle.thread_code.specs.Stages.{Stage, Offered, Performed, Made, stages, stages_of_all}
 use Rattle.event.specs.Tree.{Single, Nothing, Or, Wrap, Scope}
-use Rattle.syntax.specs.Limits.{base_count, nack_count, bases_of_all, nacks_of_all}
-use Rattle.syntax.specs.Trees.{Event, Sends, Receives, IsReady, IsNever, IsCancelled, Chooses, Wraps, Guards, Nacks, Events, NoMembers, Members, Block}
-use Rattle.words.specs.declared.Base.{Base}
-use Rattle.words.specs.declared.Base.TheVariants.{Never}
-use Rattle.words.specs.declared.Offer.{Offer}
+use Rattle.script_tree.specs.Limits.{base_count, nack_count, bases_of_all, nacks_of_all}
+use Rattle.script_tree.specs.Trees.{Event, Sends, Receives, IsReady, IsNever, IsCancelled, Chooses, Wraps, Guards, Nacks, Events, NoMembers, Members, Block}
+use Rattle.protocol_values.specs.declared.Base.{Base}
+use Rattle.protocol_values.specs.declared.Base.TheVariants.{Never}
+use Rattle.protocol_values.specs.declared.Offer.{Offer}
 use Rattle.thread.specs.declared.Fault.{Fault}
 use Rattle.thread.specs.After.{State, Outcome, Goes, ◌>>=◌, Formed, Wrapping, given, formed, with_nack, as_wrap, as_scope, as_first, run_block, resolve, resolve_all}
 use Rattle.thread.specs.Fitting.{masks, nacks_made}

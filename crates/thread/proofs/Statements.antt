@@ -1,10 +1,10 @@
 -- The first statement at a place of a linked code.
 use Rattle.std.proofs.Common.{◌≡◌, ℕ, ◌+◌, ◌<◌, List, [], ◌∷◌, ◌++◌, Option, Some, Ok, true, false, slice_get, sym, ap, ◌∙◌, subst, arith}
 use Rattle.std.specs.Prelude.{if◌then◌else◌}
-use Rattle.code.specs.Codes.{HasPlan, IsAt, IsLinked}
-use Rattle.code.specs.declared.Code.{Code}
-use Rattle.code.specs.declared.Place.{Place}
-use Rattle.syntax.specs.Trees.{Block, Runs, Stmt, Syncs, Branches, Loops, LoopsForever, Event, Test, block_of}
+use Rattle.thread_code.specs.Codes.{HasPlan, IsAt, IsLinked}
+use Rattle.thread_code.specs.declared.Code.{Code}
+use Rattle.thread_code.specs.declared.Place.{Place}
+use Rattle.script_tree.specs.Trees.{Block, Runs, Stmt, Syncs, Branches, Loops, LoopsForever, Event, Test, block_of}
 use Rattle.thread.specs.declared.stack.Frame.{Frame}
 use Rattle.thread.specs.declared.stack.Frame.TheVariants.{Rest, Times, Endless}
 use Rattle.thread.specs.declared.stack.Opening.{Opening}

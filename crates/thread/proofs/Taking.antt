@@ -2,8 +2,8 @@
 use Rattle.std.proofs.Common.{◌≡◌, ℕ, zero, suc, ◌<◌, ◌≤◌, List, [], ◌∷◌, Option, Some, None, length, slice_get, refl, ap, ◌∙◌, subst, arith, nat_le}
 use Rattle.std.specs.Prelude.{⊤}
 use Rattle.event.specs.Tree.{wraps_at}
-use Rattle.syntax.specs.Trees.{Event, Sends, Receives, IsReady, IsNever, IsCancelled, Chooses, Wraps, Guards, Nacks, Events, NoMembers, Members, Stmt, Lets, Prints, Syncs, Branches, Loops, LoopsForever, Ends, Block, Stops, Runs, Turn}
-use Rattle.words.specs.declared.Message.{Message}
+use Rattle.script_tree.specs.Trees.{Event, Sends, Receives, IsReady, IsNever, IsCancelled, Chooses, Wraps, Guards, Nacks, Events, NoMembers, Members, Stmt, Lets, Prints, Syncs, Branches, Loops, LoopsForever, Ends, Block, Stops, Runs, LoopBody}
+use Rattle.protocol_values.specs.declared.Message.{Message}
 use Rattle.thread.specs.Values.{expr_value, list_value, test_value, with_names}
 use Rattle.thread.specs.After.{State, Chosen, Outcome, ◌>>=◌, given, received, Wrapping, wrapped_once, wrapped, Formed, committed, synced_with, synced, times, endless, formed, with_nack, as_wrap, as_scope, as_first, run_block, run_stmt, resolve, resolve_all}
 use Rattle.thread.specs.Stacks.{turn_on}
@@ -129,25 +129,25 @@ mutual
 
 -- ENDLESS LOOPS
 
-pub turn_takes : (turn : Turn) (s : State) → IfGoes (turn_on turn s) (λ t. length t.left < length s.left)
+pub turn_takes : (turn : LoopBody) (s : State) → IfGoes (turn_on turn s) (λ t. length t.left < length s.left)
 turn_takes turn s =
     turn_keeps turn.names (resolve turn.event []) (run_block turn.rest) (event_keeps turn.event []) (block_keeps turn.rest) s
 
 -- more turns than there are results make no difference
-enough : (turn : Turn) (n m : ℕ) (s : State) → length s.left < n → length s.left < m → times n (turn_on turn) s ≡ times m (turn_on turn) s
+enough : (turn : LoopBody) (n m : ℕ) (s : State) → length s.left < n → length s.left < m → times n (turn_on turn) s ≡ times m (turn_on turn) s
 enough turn zero m s first second = absurd (omega (arith, first))
 enough turn (suc n) zero s first second = absurd (omega (arith, second))
 enough turn (suc n) (suc m) s first second =
     bind_same (turn_on turn s) (times n (turn_on turn)) (times m (turn_on turn)) (λ t. length t.left < length s.left) (turn_takes turn s) (λ t h.
     enough turn n m t (omega (arith, h, first)) (omega (arith, h, second)))
 
-pub endless_more : (turn : Turn) (s : State) (f : State → Outcome State) → endless (turn_on turn) s >>= f ≡ (turn_on turn s >>= λ t. endless (turn_on turn) t >>= f)
+pub endless_more : (turn : LoopBody) (s : State) (f : State → Outcome State) → endless (turn_on turn) s >>= f ≡ (turn_on turn s >>= λ t. endless (turn_on turn) t >>= f)
 endless_more turn s f =
     ap (λ x. x >>= f)
     (bind_same (turn_on turn s) (times (length s.left) (turn_on turn)) (endless (turn_on turn)) (λ t. length t.left < length s.left) (turn_takes turn s)
     (λ t h. enough turn (length s.left) (suc (length t.left)) t h (omega arith)))
     ∙ bind_assoc (turn_on turn s) (endless (turn_on turn)) f
 
-pub times_more : (turn : Turn) (n left : ℕ) (s : State) (f : State → Outcome State) → n ≡ suc left → times n (turn_on turn) s >>= f ≡ (turn_on turn s >>= λ t. times left (turn_on turn) t >>= f)
+pub times_more : (turn : LoopBody) (n left : ℕ) (s : State) (f : State → Outcome State) → n ≡ suc left → times n (turn_on turn) s >>= f ≡ (turn_on turn s >>= λ t. times left (turn_on turn) t >>= f)
 times_more turn n left s f e =
     ap (λ k. times k (turn_on turn) s >>= f) e ∙ bind_assoc (turn_on turn s) (times left (turn_on turn)) f

@@ -1,9 +1,9 @@
 -- What is left to do fits its code, and the lists of offers and nacks.
 use Rattle.std.specs.Prelude.{◌≡◌, ℕ, ◌+◌, ◌≤◌, List, [], ◌∷◌, length, map, take, Some, slice_get, ⊤}
-use Rattle.code.specs.Codes.{HasPlan}
-use Rattle.code.specs.Stages.{Stage, Offered, Performed, Made, stages}
-use Rattle.code.specs.declared.Code.{Code}
-use Rattle.code.specs.declared.Place.{Place}
+use Rattle.thread_code.specs.Codes.{HasPlan}
+use Rattle.thread_code.specs.Stages.{Stage, Offered, Performed, Made, stages}
+use Rattle.thread_code.specs.declared.Code.{Code}
+use Rattle.thread_code.specs.declared.Place.{Place}
 use Rattle.thread.specs.declared.stack.Frame.{Frame}
 use Rattle.thread.specs.declared.stack.Frame.TheVariants.{Rest, Times, Endless, Event}
 use Rattle.thread.specs.declared.stack.Opening.{Opening}

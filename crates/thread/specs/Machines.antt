@@ -1,11 +1,11 @@
 -- A machine, as it is seen from outside: its process, what was given to it, and what it came to.
 use Rattle.std.specs.Prelude.{◌≡◌, ℕ, List, [], length, ⊤}
 use Rattle.event.specs.Tree.{Tree, offers, scope_nacks}
-use Rattle.syntax.specs.Processes.{Proc}
-use Rattle.syntax.specs.Trees.{block_of}
-use Rattle.syntax.specs.declared.tree.Block.{Block}
-use Rattle.words.specs.declared.Atom.{Atom}
-use Rattle.words.specs.declared.Offer.{Offer}
+use Rattle.script_tree.specs.Processes.{Proc}
+use Rattle.script_tree.specs.Trees.{block_of}
+use Rattle.script_tree.specs.declared.tree.Block.{Block}
+use Rattle.protocol_values.specs.declared.Atom.{Atom}
+use Rattle.protocol_values.specs.declared.Offer.{Offer}
 use Rattle.thread.specs.declared.Fault.{Fault}
 use Rattle.thread.specs.declared.machine.Turn.{Turn}
 use Rattle.thread.specs.declared.machine.Turn.TheVariants as turn

@@ -1,7 +1,7 @@
 -- A message on its way out of an event, from one of its base events through the wraps round that.
 use Rattle.std.specs.Prelude.{ℕ, zero, suc, Some}
-use Rattle.syntax.specs.Trees.{Event, Sends, Receives, IsReady, IsNever, IsCancelled, Chooses, Wraps, Guards, Nacks, Events, NoMembers, Members}
-use Rattle.words.specs.declared.Message.{Message}
+use Rattle.script_tree.specs.Trees.{Event, Sends, Receives, IsReady, IsNever, IsCancelled, Chooses, Wraps, Guards, Nacks, Events, NoMembers, Members}
+use Rattle.protocol_values.specs.declared.Message.{Message}
 use Rattle.thread.specs.After.{State, Outcome, Goes, ◌>>=◌, Having, Wrapping, wrapped_once}
 
 -- it came through; or the base event lies so many behind this event

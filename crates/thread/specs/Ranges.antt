@@ -1,13 +1,13 @@
 -- Nacks in the range that the words have room for. Numbers and channels are in theirs by their types.
 use Rattle.std.specs.Prelude.{List, All, ⊤}
-use Rattle.words.specs.Words.{IsNackInRange}
-use Rattle.words.specs.declared.Atom.{Atom}
-use Rattle.words.specs.declared.Atom.TheVariants.{Num, Chan, Nack}
-use Rattle.words.specs.declared.Message.{Message}
-use Rattle.words.specs.declared.Message.TheVariants.{Empty, One, Two, Three}
-use Rattle.words.specs.declared.Base.{Base}
-use Rattle.words.specs.declared.Base.TheVariants.{Send, Recv, Always, OnNack, Never}
-use Rattle.words.specs.declared.Offer.{Offer}
+use Rattle.protocol_values.specs.Words.{IsNackInRange}
+use Rattle.protocol_values.specs.declared.Atom.{Atom}
+use Rattle.protocol_values.specs.declared.Atom.TheVariants.{Num, Chan, Nack}
+use Rattle.protocol_values.specs.declared.Message.{Message}
+use Rattle.protocol_values.specs.declared.Message.TheVariants.{Empty, One, Two, Three}
+use Rattle.protocol_values.specs.declared.Base.{Base}
+use Rattle.protocol_values.specs.declared.Base.TheVariants.{Send, Recv, Always, OnNack, Never}
+use Rattle.protocol_values.specs.declared.Offer.{Offer}
 use Rattle.thread.specs.After.{Chosen}
 
 abbrev pub AtomIsIn : Atom → Type 0

@@ -1,8 +1,8 @@
 -- How many steps there are at most to the next stop. What stands behind a sync does not count.
 use Rattle.std.specs.Prelude.{ℕ, ◌+◌, ◌<◌, List, [], ◌∷◌, drop, ⊤}
-use Rattle.code.specs.Stages.{Stage, Offered, Performed, Made, stages}
-use Rattle.code.specs.declared.Code.{Code}
-use Rattle.syntax.specs.Trees.{Event, Sends, Receives, IsReady, IsNever, IsCancelled, Chooses, Wraps, Guards, Nacks, Events, NoMembers, Members, Stmt, Lets, Prints, Syncs, Branches, Loops, LoopsForever, Ends, Block, Stops, Runs}
+use Rattle.thread_code.specs.Stages.{Stage, Offered, Performed, Made, stages}
+use Rattle.thread_code.specs.declared.Code.{Code}
+use Rattle.script_tree.specs.Trees.{Event, Sends, Receives, IsReady, IsNever, IsCancelled, Chooses, Wraps, Guards, Nacks, Events, NoMembers, Members, Stmt, Lets, Prints, Syncs, Branches, Loops, LoopsForever, Ends, Block, Stops, Runs}
 use Rattle.thread.specs.declared.stack.Frame.{Frame}
 use Rattle.thread.specs.declared.stack.Frame.TheVariants as frame
 use Rattle.thread.specs.declared.stack.Opening.{Opening}

@@ -1,11 +1,11 @@
 -- An event resolved stage by stage: its offers and its nacks are put one behind another.
 use Rattle.std.specs.Prelude.{ℕ, List, [], ◌∷◌, ◌++◌, map, Result, Ok}
-use Rattle.code.specs.Stages.{Stage, Offered, Performed, Made}
+use Rattle.thread_code.specs.Stages.{Stage, Offered, Performed, Made}
 use Rattle.event.specs.Tree.{Tree}
-use Rattle.syntax.specs.Trees.{Event, Sends, Receives, IsReady, IsCancelled}
-use Rattle.words.specs.declared.Base.{Base}
-use Rattle.words.specs.declared.Base.TheVariants.{Never}
-use Rattle.words.specs.declared.Offer.{Offer}
+use Rattle.script_tree.specs.Trees.{Event, Sends, Receives, IsReady, IsCancelled}
+use Rattle.protocol_values.specs.declared.Base.{Base}
+use Rattle.protocol_values.specs.declared.Base.TheVariants.{Never}
+use Rattle.protocol_values.specs.declared.Offer.{Offer}
 use Rattle.thread.specs.declared.Fault.{Fault}
 use Rattle.thread.specs.Values.{Store}
 use Rattle.thread.specs.After.{State, Outcome, Goes, ◌>>=◌, Formed, given, send_value, recv_value, always_value, cancelled_value, with_nack, run_block}

@@ -2,10 +2,10 @@
 -- stands in the text.
 use Rattle.std.specs.Prelude.{ℕ, ◌+◌, List, [], ◌∷◌, ◌++◌, drop, get_or, length}
 use Rattle.event.specs.Tree.{Tree, Single, Nothing, Or, Wrap, Scope}
-use Rattle.syntax.specs.Limits.{base_count, nack_count}
-use Rattle.syntax.specs.Trees.{Event, Sends, Receives, IsReady, IsNever, IsCancelled, Chooses, Wraps, Guards, Nacks, Events, NoMembers, Members}
-use Rattle.words.specs.declared.Base.{Base}
-use Rattle.words.specs.declared.Base.TheVariants.{Never}
+use Rattle.script_tree.specs.Limits.{base_count, nack_count}
+use Rattle.script_tree.specs.Trees.{Event, Sends, Receives, IsReady, IsNever, IsCancelled, Chooses, Wraps, Guards, Nacks, Events, NoMembers, Members}
+use Rattle.protocol_values.specs.declared.Base.{Base}
+use Rattle.protocol_values.specs.declared.Base.TheVariants.{Never}
 use Rattle.thread.specs.After.{Wrapping}
 
 -- the wraps of an event, from left to right

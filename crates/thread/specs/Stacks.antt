@@ -1,12 +1,12 @@
 -- What is left to do, as numbers of a code: what the thread comes to that does it.
 use Rattle.std.specs.Prelude.{ℕ, List, [], ◌∷◌, drop, take, Option, None, Some, Result, Ok, Err, slice_get}
 use Rattle.std.specs.Option.{option_map}
-use Rattle.code.specs.Codes.{block_at}
-use Rattle.code.specs.Stages.{stages}
-use Rattle.code.specs.declared.Code.{Code}
-use Rattle.code.specs.declared.Plan.{Plan}
-use Rattle.syntax.specs.Trees.{Block, Stops, IsNever, Turn, event_of, names_of}
-use Rattle.words.specs.declared.Message.{Message}
+use Rattle.thread_code.specs.Codes.{block_at}
+use Rattle.thread_code.specs.Stages.{stages}
+use Rattle.thread_code.specs.declared.Code.{Code}
+use Rattle.thread_code.specs.declared.Plan.{Plan}
+use Rattle.script_tree.specs.Trees.{Block, Stops, IsNever, LoopBody, event_of, names_of}
+use Rattle.protocol_values.specs.declared.Message.{Message}
 use Rattle.thread.specs.declared.Fault.{Fault}
 use Rattle.thread.specs.declared.memory.Memory.{Memory}
 use Rattle.thread.specs.declared.stack.Frame.{Frame}
@@ -49,14 +49,14 @@ abbrev pub place_block : Code → ℕ → Block
 place_block c at = or_stops (block_at c at)
 
 -- a sync, and what stands behind it: a loop's turn is no more than that
-abbrev pub planned : Code → Option Plan → Turn
+abbrev pub planned : Code → Option Plan → LoopBody
 planned c (Some plan) = record { names = option_map names_of plan.names; event = event_of plan.event.value; rest = place_block c plan.then }
 planned c None = record { names = None; event = IsNever; rest = Stops }
 
-abbrev pub sync_at : Code → ℕ → Turn
+abbrev pub sync_at : Code → ℕ → LoopBody
 sync_at c number = planned c (slice_get c.plans.items number)
 
-abbrev pub turn_on : Turn → State → Outcome State
+abbrev pub turn_on : LoopBody → State → Outcome State
 turn_on turn s = resolve turn.event [] s >>= synced turn.names >>= run_block turn.rest
 
 -- FRAMES
@@ -77,7 +77,7 @@ abbrev pub Further : Type 0
 Further = Lists → State → Outcome State
 
 -- a resolved sync takes the next result, or offers its event
-abbrev pub offered : Turn → Listed → Outcome State
+abbrev pub offered : LoopBody → Listed → Outcome State
 offered sync r = synced sync.names (formed_as sync.event r.lists r.state) >>= run_block sync.rest
 
 abbrev pub opening_on : Code → Opening → Further → Further

@@ -1,18 +1,18 @@
 -- What names, expressions, lists and tests come to, with the variables as they stand.
 use Rattle.std.specs.Prelude.{ℕ, ◌+◌, ◌-◌, ◌^◌, Bool, false, ◌==◌, ◌&&◌, nat_lt, nat_le, if◌then◌else◌, List, [], ◌∷◌, Option, Some, None, Result, Ok, Err, slice_get, slice_set}
-use Rattle.syntax.specs.Trees.{Term, Single, Sum, Terms, Nothing, More, Expr, Test}
-use Rattle.syntax.specs.declared.tree.Name.{Name}
-use Rattle.syntax.specs.declared.tree.Name.TheVariants.{Variable, Channel}
-use Rattle.syntax.specs.declared.tree.Operand.{Operand}
-use Rattle.syntax.specs.declared.tree.Operand.TheVariants.{Number, Named}
-use Rattle.syntax.specs.declared.tree.Sign.{Sign}
-use Rattle.syntax.specs.declared.tree.Sign.TheVariants.{Plus, Minus}
-use Rattle.syntax.specs.declared.tree.Relation.{Relation}
-use Rattle.syntax.specs.declared.tree.Relation.TheVariants.{Equal, Less}
-use Rattle.words.specs.declared.Atom.{Atom}
-use Rattle.words.specs.declared.Atom.TheVariants.{Num, Chan, Nack}
-use Rattle.words.specs.declared.Message.{Message}
-use Rattle.words.specs.declared.Message.TheVariants.{Empty, One, Two, Three}
+use Rattle.script_tree.specs.Trees.{Term, Single, Sum, Terms, Nothing, More, Expr, Test}
+use Rattle.script_tree.specs.declared.tree.Name.{Name}
+use Rattle.script_tree.specs.declared.tree.Name.TheVariants.{Variable, Channel}
+use Rattle.script_tree.specs.declared.tree.Operand.{Operand}
+use Rattle.script_tree.specs.declared.tree.Operand.TheVariants.{Number, Named}
+use Rattle.script_tree.specs.declared.tree.Sign.{Sign}
+use Rattle.script_tree.specs.declared.tree.Sign.TheVariants.{Plus, Minus}
+use Rattle.script_tree.specs.declared.tree.Relation.{Relation}
+use Rattle.script_tree.specs.declared.tree.Relation.TheVariants.{Equal, Less}
+use Rattle.protocol_values.specs.declared.Atom.{Atom}
+use Rattle.protocol_values.specs.declared.Atom.TheVariants.{Num, Chan, Nack}
+use Rattle.protocol_values.specs.declared.Message.{Message}
+use Rattle.protocol_values.specs.declared.Message.TheVariants.{Empty, One, Two, Three}
 use Rattle.thread.specs.declared.Fault.{Fault}
 use Rattle.thread.specs.declared.Fault.TheVariants.{Unset, Kind, Range, Shape}
 

@@ -2,8 +2,8 @@
 
 ghost use Rattle.std.specs.Prelude.{◌≡◌, ◌<◌, ◌∷◌, List, Some, length};
 ghost use Rattle.std.specs.Option.{option_map};
-ghost use Rattle.code.specs.Codes.{IsLinked};
-ghost use Rattle.syntax.specs.Trees.{event_of, exprs_of, names_of};
+ghost use Rattle.thread_code.specs.Codes.{IsLinked};
+ghost use Rattle.script_tree.specs.Trees.{event_of, exprs_of, names_of};
 ghost use Rattle.thread.specs.After.{Chosen, wrapped_once};
 ghost use Rattle.thread.specs.Fitting.{StepFits, StopFits};
 ghost use Rattle.thread.specs.Passages.{Passes};
@@ -14,9 +14,9 @@ use crate::Fault;
 use crate::memory::Memory;
 use crate::stack::{Opening, Stack, plan_of};
 use crate::value::message_of;
-use code::Code;
-use syntax::{Event, Events, Exprs, Names};
-use words::Message;
+use protocol_values::Message;
+use script_tree::{Event, Events, Exprs, Names};
+use thread_code::Code;
 
 /// Where the base event that was chosen lies: within the event that was searched, so that its message
 /// came through, or so many base events behind it.

@@ -1,8 +1,8 @@
 //! Events, a stage at a time: their guards run, and their channels and lists are evaluated.
 
 ghost use Rattle.std.specs.Prelude.{◌≡◌, IfOk, List};
-ghost use Rattle.code.specs.Codes.{IsLinked};
-ghost use Rattle.syntax.specs.Trees.{event_of, exprs_of};
+ghost use Rattle.thread_code.specs.Codes.{IsLinked};
+ghost use Rattle.script_tree.specs.Trees.{event_of, exprs_of};
 ghost use Rattle.thread.specs.After.{Chosen, channel_value, nack_value, send_value, recv_value, always_value, cancelled_value};
 ghost use Rattle.thread.specs.Fitting.{NowFits, StepFits};
 ghost use Rattle.thread.specs.Reaches.{Falls, now_reach};
@@ -14,10 +14,10 @@ use crate::Fault;
 use crate::memory::Memory;
 use crate::stack::{Frame, Now, Opening, Stack, Step, Stop, plan_of};
 use crate::value::{message_of, value_of_name};
-use code::{Code, Stage};
+use protocol_values::{Atom, Base, NackName, Offer};
+use script_tree::{Event, Exprs, Name};
 use std::alloc::AllocError;
-use syntax::{Event, Exprs, Name};
-use words::{Atom, Base, NackName, Offer};
+use thread_code::{Code, Stage};
 
 fn channel_of(name: Name, variables: &[Option<Atom>]) -> Result<u8, Fault>
     ensures { result ≡ channel_value variables.now name }

@@ -1,7 +1,7 @@
 //! Statements, a step at a time.
 
 ghost use Rattle.std.specs.Prelude.{◌≡◌, IfOk, List, length};
-ghost use Rattle.code.specs.Codes.{IsLinked};
+ghost use Rattle.thread_code.specs.Codes.{IsLinked};
 ghost use Rattle.thread.specs.After.{Chosen};
 ghost use Rattle.thread.specs.Fitting.{NowFits, StepFits};
 ghost use Rattle.thread.specs.Reaches.{Falls, now_reach};
@@ -11,9 +11,9 @@ ghost use Rattle.thread.specs.declared.stack.Now.TheVariants as now;
 use crate::memory::Memory;
 use crate::stack::{Frame, Now, Opening, Stack, Step, Stop, place_at};
 use crate::value::{holds, value_of};
-use code::Code;
+use script_tree::{Block, Stmt};
 use std::alloc::AllocError;
-use syntax::{Block, Stmt};
+use thread_code::Code;
 
 /// A sync of this plan that begins now.
 fn opening(stack: &Stack, plan: u32) -> Opening

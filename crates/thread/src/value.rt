@@ -1,12 +1,12 @@
 //! What expressions, lists and tests come to.
 
 ghost use Rattle.std.specs.Prelude.{◌≡◌, ◌∷◌, []};
-ghost use Rattle.syntax.specs.Trees.{term_of, expr_of, exprs_of, test_of};
+ghost use Rattle.script_tree.specs.Trees.{term_of, expr_of, exprs_of, test_of};
 ghost use Rattle.thread.specs.Values.{name_value, operand_value, combined, term_value, expr_value, list_value, is_same, compared, test_value};
 
 use crate::Fault;
-use syntax::{Expr, Exprs, Name, Operand, Relation, Sign, Term, Terms, Test};
-use words::{Atom, Message};
+use protocol_values::{Atom, Message};
+use script_tree::{Expr, Exprs, Name, Operand, Relation, Sign, Term, Terms, Test};
 
 pub(crate) fn value_of_name(name: Name, variables: &[Option<Atom>]) -> Result<Atom, Fault>
     ensures { result ≡ name_value variables.now name }

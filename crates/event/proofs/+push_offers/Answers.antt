@@ -35,7 +35,7 @@ pub push_offers-requires : goal.push_offers-requires
 push_offers-requires t c =
     let is = tree_at-Wrap _ _ _ _ c.in-Wrap.is c.deref.ensures in
     let count = base_count-Wrap c.in-Wrap.field-0 (tree_of c.deref.result.now) in
-    (search (rules, the_lemmas), (omega (arith, rw is at c.requires.room, count), rw is at c.requires.scopes))
+    (search (rules, the_lemmas), (omega (arith, rw is at c.requires.spare, count), rw is at c.requires.scopes))
 
 pub returns-in-Wrap-clause-offers : goal.returns-in-Wrap-clause-offers
 returns-in-Wrap-clause-offers t c =
@@ -51,7 +51,7 @@ pub push_offers-requires-in-Scope : goal.push_offers-requires-in-Scope
 push_offers-requires-in-Scope t c =
     let is = tree_at-Scope _ _ _ _ c.in-Scope.is c.deref-in-Scope.ensures in
     let count = base_count-Scope c.in-Scope.field-0 (tree_of c.deref-in-Scope.result.now) in
-    (search (rules, the_lemmas), (omega (arith, rw is at c.requires.room, count), omega (arith, rw is at c.requires.scopes)))
+    (search (rules, the_lemmas), (omega (arith, rw is at c.requires.spare, count), omega (arith, rw is at c.requires.scopes)))
 
 pub returns-in-Scope-clause-offers : goal.returns-in-Scope-clause-offers
 returns-in-Scope-clause-offers t c =
@@ -72,7 +72,7 @@ push_reserved-requires t c =
       | in-OnNack w ↦ ap tree_of w.in-OnNack.is ∙ tree_of-OnNack _ ∙ ap Single (sym w.base-is)
       | in-Never w ↦ ap tree_of w.in-Never.is ∙ tree_of-Never ∙ ap Single (sym w.base-is)
     ] in
-    (omega arith, rw single at c.requires.room)
+    (omega arith, rw single at c.requires.spare)
 
 single : (t : ℕ) (c : goal.After-push_reserved t) → tree_of c.args.event.now ≡ Single c.match-event.base
 single t c = elim c.match-event.branch [

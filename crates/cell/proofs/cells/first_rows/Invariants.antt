@@ -1,7 +1,7 @@
 -- The set has the first rows of the threads so far that fall to the pass.
 use Rattle.std.proofs.Common.{◌≡◌}
 use Rattle.cell.specs.Flags.{AreFlags}
-use Rattle.cell.specs.Rule.{dealt_rows}
+use Rattle.cell_table.specs.Rule.{dealt_rows}
 use Rattle.cell.proofs.cells.first_rows.Given as goal
 
 abbrev pub invariant-loop-thread : goal.invariant-loop-thread

@@ -1,5 +1,5 @@
 use Rattle.std.proofs.Common.{◌≡◌, take}
-use Rattle.order.specs.Messages.{named}
+use Rattle.journal_order.specs.Messages.{named}
 use Rattle.journal.proofs.messages.received_from.Given as goal
 
 abbrev pub invariant-loop-commit : goal.invariant-loop-commit

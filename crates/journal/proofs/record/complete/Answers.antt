@@ -1,8 +1,8 @@
 use Rattle.std.proofs.Common.{List, map, sym, subst, ◌∙◌}
 use Rattle.std.proofs.lemmas.Result.{err_from_is_err_and}
-use Rattle.syntax.specs.Processes.{proc_of}
-use Rattle.words.specs.declared.Commit.{Commit}
-use Rattle.sequential.specs.Replays.{Refuses, StandsAfter}
+use Rattle.script_tree.specs.Processes.{proc_of}
+use Rattle.protocol_values.specs.declared.Commit.{Commit}
+use Rattle.journal_replay.specs.Replays.{Refuses, StandsAfter}
 use Rattle.journal.proofs.Completing.{completes, never-refuses, refuses}
 use Rattle.journal.proofs.record.complete.Goals as goal
 

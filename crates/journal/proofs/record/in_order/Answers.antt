@@ -1,8 +1,8 @@
 use Rattle.std.proofs.Common.{List, subst, rules}
 use Rattle.std.specs.Prelude.{IsPermutation}
 use Rattle.std.proofs.lemmas.List.Sorted.{answers_always}
-use Rattle.words.specs.declared.Commit.{Commit}
-use Rattle.words.specs.Commits.{order_of}
+use Rattle.protocol_values.specs.declared.Commit.{Commit}
+use Rattle.protocol_values.specs.Commits.{order_of}
 use Rattle.journal.proofs.record.in_order.Goals as goal
 
 pub returns : goal.returns

@@ -1,5 +1,5 @@
 use Rattle.std.proofs.Common.{take}
-use Rattle.phrase.specs.Places.{texts}
+use Rattle.script_reader.specs.Places.{texts}
 use Rattle.journal_text.specs.Names.{AreWithin}
 use Rattle.journal_text.proofs.labels.longest.Given as goal
 

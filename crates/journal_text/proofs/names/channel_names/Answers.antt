@@ -1,6 +1,6 @@
 use Rattle.std.proofs.Common.{◌∙◌, ap, arith}
 use Rattle.std.proofs.lemmas.List.{take_all}
-use Rattle.phrase.specs.Places.{texts}
+use Rattle.script_reader.specs.Places.{texts}
 use Rattle.script.specs.Scripts.{script_of}
 use Rattle.journal_text.proofs.Lookup.{one_more}
 use Rattle.journal_text.proofs.names.channel_names.Goals as goal

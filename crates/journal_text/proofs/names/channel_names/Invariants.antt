@@ -1,5 +1,5 @@
 use Rattle.std.proofs.Common.{◌≡◌, take}
-use Rattle.phrase.specs.Places.{texts}
+use Rattle.script_reader.specs.Places.{texts}
 use Rattle.script.specs.Scripts.{script_of}
 use Rattle.journal_text.proofs.names.channel_names.Given as goal
 

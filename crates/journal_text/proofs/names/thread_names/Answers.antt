@@ -1,6 +1,6 @@
 use Rattle.std.proofs.Common.{◌∙◌, map, ap, arith}
 use Rattle.std.proofs.lemmas.List.{take_all}
-use Rattle.syntax.specs.Processes.{proc_of}
+use Rattle.script_tree.specs.Processes.{proc_of}
 use Rattle.journal_text.proofs.Lookup.{map_twice}
 use Rattle.journal_text.proofs.names.thread_names.Goals as goal
 

@@ -1,6 +1,6 @@
 use Rattle.std.proofs.Common.{◌≡◌, take, map}
-use Rattle.phrase.specs.Places.{texts}
-use Rattle.syntax.specs.Processes.{proc_of}
+use Rattle.script_reader.specs.Places.{texts}
+use Rattle.script_tree.specs.Processes.{proc_of}
 use Rattle.journal_text.proofs.names.thread_names.Given as goal
 
 abbrev pub invariant-loop-process : goal.invariant-loop-process

@@ -11,8 +11,8 @@ put_text-requires c =
     let fits = within_at labels.longest labels.channels.items c.args.chan c.in-Some-get.name.now labels.channels_fit less read in
     (omega (arith, fits, ap length c.as_bytes.ensures.value, ap reach c.in-Some.is), omega arith)
 
-pub returns-in-Some-get-clause-room : goal.returns-in-Some-get-clause-room
-returns-in-Some-get-clause-room c =
+pub returns-in-Some-get-clause-width : goal.returns-in-Some-get-clause-width
+returns-in-Some-get-clause-width c =
     let labels = c.in-Some.labels.now in
     let read : c.in-Some-get.name.now ≡ get_or labels.channels.items c.args.chan c.in-Some-get.name.now = search rules in
     let less : c.args.chan < length labels.channels.items = search (rules, arith, tests) in

@@ -1,5 +1,5 @@
 use Rattle.std.proofs.Common.{rules, ◌≡◌, None, sym, ◌∙◌}
-use Rattle.cell.specs.Sight.{LackOffer}
+use Rattle.cell_table.specs.Sight.{LackOffer}
 use Rattle.cell.proofs.Meeting.{from_none}
 use Rattle.meet.proofs.Growing.{grows_by, grows_then, seen_more}
 use Rattle.meet.proofs.Reading.{few_directions, none_behind, reads_ended, reads_more, reads_short}

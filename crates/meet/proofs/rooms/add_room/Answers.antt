@@ -1,9 +1,9 @@
 use Rattle.std.proofs.Common.{◌≡◌, ◌++◌, ◌∷◌, [], ◌+◌, ◌<◌, ◌≤◌, ℕ, List, arith, rules, refl, slice_get, Option, Some, IfSome, subst, sym, length, get_or}
 use Rattle.std.proofs.lemmas.List.Elements.{All-get_or, All-pop}
 use Rattle.std.proofs.lemmas.Option.{get_or_from_slice_get, slice_get-get_or, slice_get_read, slice_get_within}
-use Rattle.hands.proofs.Positioning.{all_at_set}
-use Rattle.lane.specs.declared.lane.LanePass.{LanePass}
-use Rattle.lane.specs.Lanes.{IsLanePassOf}
+use Rattle.meet_queues.proofs.Positioning.{all_at_set}
+use Rattle.meet_queues.specs.declared.lane.LanePass.{LanePass}
+use Rattle.meet_queues.specs.Lanes.{IsLanePassOf}
 use Rattle.meet.specs.declared.rooms.MeetPass.{MeetPass}
 use Rattle.meet.specs.declared.rooms.Room.{Room}
 use Rattle.meet.specs.Rooms.{EachServes, Serves}

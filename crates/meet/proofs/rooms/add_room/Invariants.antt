@@ -1,6 +1,6 @@
 use Rattle.std.proofs.Common.{◌≡◌, ◌≤◌, ◌<◌, ◌+◌, ◌++◌, ◌∷◌, [], ℕ, All, length}
-use Rattle.hands.specs.Positions.{AllAt}
-use Rattle.lane.specs.Lanes.{IsLanePassOf}
+use Rattle.meet_queues.specs.Positions.{AllAt}
+use Rattle.meet_queues.specs.Lanes.{IsLanePassOf}
 use Rattle.meet.specs.declared.rooms.MeetPass.{MeetPass}
 use Rattle.meet.specs.Rooms.{Serves}
 use Rattle.meet.proofs.rooms.add_room.Given as goal

@@ -2,8 +2,8 @@ use Rattle.std.proofs.Common.{rules, ◌≡◌, ℕ, ◌+◌, List, Some, get_or
 use Rattle.thread.specs.After.{Chosen}
 use Rattle.thread.specs.Machines.{nacks_in, offers_in}
 use Rattle.cell.specs.Attempts.{BoundBefore}
-use Rattle.cell.specs.declared.view.Seen.{Seen}
-use Rattle.cell.specs.Sight.{see_bound}
+use Rattle.cell_table.specs.declared.view.Seen.{Seen}
+use Rattle.cell_table.specs.Sight.{see_bound}
 use Rattle.protocol.specs.Worlds.{nack_of_row}
 use Rattle.runtime.specs.Machines.{LeavesOthers, StandsFor}
 use Rattle.runtime.proofs.Machines.{at_scope, binds, bound_more, is_housing, leaves_bound, leaves_then, nacks_rise, open_is}

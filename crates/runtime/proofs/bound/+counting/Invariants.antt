@@ -1,7 +1,7 @@
 use Rattle.std.proofs.Common.{◌≤◌, ◌<◌}
-use Rattle.syntax.specs.declared.tree.Block.{size-Block}
-use Rattle.syntax.specs.declared.tree.Event.{size-Event}
-use Rattle.syntax.specs.declared.tree.Events.{size-Events}
+use Rattle.script_tree.specs.declared.tree.Block.{size-Block}
+use Rattle.script_tree.specs.declared.tree.Event.{size-Event}
+use Rattle.script_tree.specs.declared.tree.Events.{size-Events}
 use Rattle.runtime.proofs.bound.+counting.Given as goal
 
 abbrev pub invariant-block_syncs-loop-rest : goal.invariant-block_syncs-loop-rest

@@ -1,8 +1,8 @@
 use Rattle.std.proofs.Common.{◌≡◌, ◌≤◌, ◌∙◌, List, arith, map, subst, sym}
-use Rattle.syntax.specs.Processes.{Proc, proc_of}
+use Rattle.script_tree.specs.Processes.{Proc, proc_of}
 use Rattle.protocol.specs.Ledgers.{Ledger}
-use Rattle.order.specs.Ledgers.{IsLedgerOf}
-use Rattle.sequential.specs.declared.state.ReplayFault.TheVariants.{Memory, Unlawful}
+use Rattle.journal_order.specs.Ledgers.{IsLedgerOf}
+use Rattle.journal_replay.specs.declared.state.ReplayFault.TheVariants.{Memory, Unlawful}
 use Rattle.script.specs.Scripts.{script_of}
 use Rattle.journal.specs.Records.{Completes}
 use Rattle.runtime.proofs.Completed.{completed}

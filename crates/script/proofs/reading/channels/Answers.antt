@@ -1,9 +1,9 @@
 use Rattle.std.proofs.Common.{◌≡◌, ◌+◌, ◌-◌, ℕ, List, length, ap, arith}
-use Rattle.phrase.specs.Places.{texts}
-use Rattle.token.specs.Tokens.{Token}
-use Rattle.phrase.specs.Steps.{bare, repeated}
+use Rattle.script_reader.specs.Places.{texts}
+use Rattle.script_token.specs.Tokens.{Token}
+use Rattle.script_reader.specs.Steps.{bare, repeated}
 use Rattle.script.specs.Scripts.{channel_step, channels_at}
-use Rattle.phrase.proofs.Giving.{gives_err, fails_same, fails_bind, repeated_step, repeated_none, repeated_all, goes_on}
+use Rattle.script_reader.proofs.Giving.{gives_err, fails_same, fails_bind, repeated_step, repeated_none, repeated_all, goes_on}
 use Rattle.script.proofs.Declaring.{channel_step-some, channel_step-none}
 use Rattle.script.proofs.reading.channels.Goals as goal
 

@@ -1,6 +1,6 @@
 use Rattle.std.proofs.Common.{◌≡◌, ◌-◌, length}
-use Rattle.phrase.specs.Places.{texts}
-use Rattle.phrase.specs.Steps.{bare, repeated}
+use Rattle.script_reader.specs.Places.{texts}
+use Rattle.script_reader.specs.Steps.{bare, repeated}
 use Rattle.script.specs.Scripts.{channel_step, channels_at}
 use Rattle.script.proofs.reading.channels.Given as goal
 

@@ -1,6 +1,6 @@
 use Rattle.std.proofs.Common.{◌≡◌, take}
-use Rattle.phrase.specs.Places.{texts}
-use Rattle.syntax.specs.Processes.{string_texts}
+use Rattle.script_reader.specs.Places.{texts}
+use Rattle.script_tree.specs.Processes.{string_texts}
 use Rattle.script.proofs.reading.owned.Given as goal
 
 abbrev pub invariant-loop-name : goal.invariant-loop-name

@@ -1,4 +1,4 @@
-use Rattle.block.proofs.Keeping.{process_read}
+use Rattle.script_reader.proofs.KeepingBlocks.{process_read}
 use Rattle.script.proofs.reading.process.Goals as goal
 
 pub proc_with-requires : goal.proc_with-requires

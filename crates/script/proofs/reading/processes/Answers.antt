@@ -1,9 +1,9 @@
 use Rattle.std.proofs.Common.{◌≡◌, ◌+◌, ◌-◌, ℕ, List, [], map, length, ap, ◌∙◌, arith}
-use Rattle.phrase.specs.Places.{texts}
-use Rattle.phrase.specs.Steps.{Here, bare, here, repeated}
-use Rattle.syntax.specs.Processes.{Proc, proc_of}
+use Rattle.script_reader.specs.Places.{texts}
+use Rattle.script_reader.specs.Steps.{Here, bare, here, repeated}
+use Rattle.script_tree.specs.Processes.{Proc, proc_of}
 use Rattle.script.specs.Scripts.{drawn, process_step, processes_at}
-use Rattle.phrase.proofs.Giving.{gives_err, fails_same, fails_bind, repeated_step, repeated_none, repeated_all, goes_on}
+use Rattle.script_reader.proofs.Giving.{gives_err, fails_same, fails_bind, repeated_step, repeated_none, repeated_all, goes_on}
 use Rattle.script.proofs.Declaring.{process_step-some, process_step-none}
 use Rattle.script.proofs.reading.processes.Goals as goal
 

@@ -1,14 +1,14 @@
 use Rattle.std.proofs.Common.{◌≡◌, ℕ, List, length, map, Ok, Err, sym, ap, ◌∙◌, subst, arith}
 use Rattle.std.proofs.lemmas.List.{length-map}
-use Rattle.syntax.specs.Processes.{proc_of, string_texts, ShareChannels}
-use Rattle.syntax.proofs.Texts.{length_texts}
-use Rattle.token.specs.Lexemes.{placed_tokens, last_line}
-use Rattle.phrase.specs.Steps.{bare}
+use Rattle.script_tree.specs.Processes.{proc_of, string_texts, ShareChannels}
+use Rattle.script_tree.proofs.Texts.{length_texts}
+use Rattle.script_token.specs.Lexemes.{placed_tokens, last_line}
+use Rattle.script_reader.specs.Steps.{bare}
 use Rattle.script.specs.Scripts.{Script, script_at, line_left}
 use Rattle.script.proofs.KeepingScripts.{script_keeps}
 use Rattle.script.proofs.Spelled.{spells_found}
-use Rattle.token.specs.Tokens.{Token}
-use Rattle.token.specs.declared.lexeme.Placed.{Placed}
+use Rattle.script_token.specs.Tokens.{Token}
+use Rattle.script_token.specs.declared.lexeme.Placed.{Placed}
 use Rattle.script.proofs.Telling.{text_ok, text_err}
 use Rattle.script.proofs.reading.read_text.Goals as goal
 

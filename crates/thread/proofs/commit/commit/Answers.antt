@@ -1,5 +1,5 @@
 use Rattle.std.proofs.Common.{◌∙◌, [], Ok, sym, ap, ap₂, subst₂}
-use Rattle.syntax.specs.Trees.{event_of}
+use Rattle.script_tree.specs.Trees.{event_of}
 use Rattle.thread.specs.After.{◌>>=◌, run_block}
 use Rattle.thread.specs.Passages.{Passes}
 use Rattle.thread.specs.Passing.{pass}

@@ -1,5 +1,5 @@
 use Rattle.std.specs.Option.{option_map}
-use Rattle.syntax.specs.Trees.{exprs_of, names_of}
+use Rattle.script_tree.specs.Trees.{exprs_of, names_of}
 use Rattle.thread.specs.After.{Wrapping}
 use Rattle.thread.specs.Stacks.{state_of}
 use Rattle.thread.proofs.Commits.{wrap_gives, wrap_fails}

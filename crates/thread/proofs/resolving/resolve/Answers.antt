@@ -2,8 +2,8 @@ use Rattle.std.proofs.Common.{rules, ◌≡◌, ◌+◌, ◌∙◌, arith, Some,
 use Rattle.std.proofs.lemmas.Bool.Decides.{nat_tests}
 use Rattle.std.proofs.lemmas.Option.{slice_get_past, slice_get_read}
 use Rattle.std.specs.Prelude.{if◌then◌else◌}
-use Rattle.syntax.specs.Trees.{event_of}
-use Rattle.words.specs.declared.Atom.TheVariants.{Nack}
+use Rattle.script_tree.specs.Trees.{event_of}
+use Rattle.protocol_values.specs.declared.Atom.TheVariants.{Nack}
 use Rattle.thread.specs.declared.Fault.TheVariants.{Range}
 use Rattle.thread.specs.After.{Outcome, State, Goes, Fails, with_variable}
 use Rattle.thread.specs.Resolving.{base_value, with_offer, with_scope}

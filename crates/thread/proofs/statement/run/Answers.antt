@@ -1,5 +1,5 @@
 use Rattle.std.proofs.Common.{◌∙◌, Ok, sym, ap, arith}
-use Rattle.syntax.specs.Trees.{Runs, block_of, stmt_of, test_of}
+use Rattle.script_tree.specs.Trees.{Runs, block_of, stmt_of, test_of}
 use Rattle.thread.specs.declared.stack.Frame.TheVariants.{Times, Endless}
 use Rattle.thread.specs.Reaches.{event_reach}
 use Rattle.thread.specs.Stacks.{frames_on, lists_of, state_of}

@@ -1,6 +1,6 @@
 use Rattle.std.proofs.Common.{◌≡◌, ◌≤◌}
-use Rattle.syntax.specs.Trees.{expr_of, terms_of}
-use Rattle.syntax.specs.declared.tree.Terms.{size-Terms}
+use Rattle.script_tree.specs.Trees.{expr_of, terms_of}
+use Rattle.script_tree.specs.declared.tree.Terms.{size-Terms}
 use Rattle.thread.specs.Values.{expr_value, sum_value}
 use Rattle.thread.proofs.value.+value.Given as goal
 

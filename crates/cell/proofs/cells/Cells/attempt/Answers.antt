@@ -6,4 +6,4 @@ use Rattle.cell.proofs.cells.Cells.attempt.Goals as goal
 -- src/cells.rt:145:5
 pub returns-clause-attempted : goal.returns-clause-attempted
 returns-clause-attempted g c =
-    subst (λ (p : PassOf g.row.M.Denot). Attempted p.seen c.attempt.new.seat.me.0.seen c.args.mine c.args.own c.args.other c.args.partner c.attempt.result) c.pass.view_is c.attempt.ensures.attempted
+    subst (λ (p : PassOf g.row.M.Denot). Attempted p.seen c.attempt_rows.new.seat.me.0.seen c.args.mine c.args.own c.args.other c.args.partner c.attempt_rows.result) c.pass.view_is c.attempt_rows.ensures.attempted

@@ -1,6 +1,6 @@
 use Rattle.std.proofs.Common.{sym, subst}
 use Rattle.cell.specs.Calls.{PassOf}
-use Rattle.cell.specs.Sight.{Has, IsDraft, SeesNoOffer, SeesOffer}
+use Rattle.cell_table.specs.Sight.{Has, IsDraft, SeesNoOffer, SeesOffer}
 use Rattle.cell.proofs.cells.Cells.close.Goals as goal
 
 -- src/cells.rt:188:5

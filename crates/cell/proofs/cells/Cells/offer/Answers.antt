@@ -1,4 +1,4 @@
 use Rattle.cell.proofs.cells.Cells.offer.Goals as goal
 
 pub returns-clause-same : goal.returns-clause-same
-returns-clause-same g c o sees = c.offer.ensures.same o sees
+returns-clause-same g c o sees = c.offer_of.ensures.same o sees

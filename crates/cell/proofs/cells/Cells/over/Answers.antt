@@ -1,9 +1,9 @@
 use Rattle.std.proofs.Common.{rules, ◌≡◌, ℕ, ◌++◌, ◌∷◌, [], sym, ap, subst, ◌∙◌}
-use Rattle.cell.specs.declared.view.Shape.{Shape}
+use Rattle.cell_table.specs.declared.view.Shape.{Shape}
 use Rattle.cell.specs.Calls.{PassOf}
-use Rattle.cell.specs.Rule.{dealer, dealt_pass, dealt_rows, seen_nothing}
-use Rattle.cell.specs.Sight.{Coherent}
-use Rattle.cell.proofs.Dealing.{each_more, nothing_agrees}
+use Rattle.cell_table.specs.Rule.{dealer, dealt_pass, dealt_rows, seen_nothing}
+use Rattle.cell_table.specs.Sight.{Coherent}
+use Rattle.cell_table.proofs.Dealing.{each_more, nothing_agrees}
 use Rattle.cell.proofs.cells.Cells.over.Goals as goal
 
 pub loop-number-preserved : goal.loop-number-preserved

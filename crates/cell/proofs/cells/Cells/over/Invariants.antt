@@ -1,7 +1,7 @@
 -- The passes so far hold the rows that fall to them, and the dealer goes on with the next.
 use Rattle.std.proofs.Common.{◌≡◌, ℕ, [], length, slice_get, Some}
 use Rattle.cell.specs.Calls.{PassOf}
-use Rattle.cell.specs.Rule.{dealer, dealt_rows, seen_nothing}
+use Rattle.cell_table.specs.Rule.{dealer, dealt_rows, seen_nothing}
 use Rattle.cell.proofs.cells.Cells.over.Given as goal
 
 abbrev pub invariant-loop-number : goal.invariant-loop-number

@@ -1,10 +1,10 @@
 use Rattle.std.proofs.Common.{rules, ◌≡◌, ◌++◌, ap, ◌∙◌, sym, subst}
 use Rattle.cell.specs.Calls.{PassOf}
-use Rattle.cell.specs.declared.view.Seen.{Seen}
-use Rattle.cell.specs.declared.view.View.{View}
-use Rattle.cell.specs.Sight.{Has, SeesNoOffer, SeesOffer}
-use Rattle.cell.specs.Rule.{heard, told_of}
-use Rattle.cell.proofs.Hearing.{told_bound, told_lack, told_offer}
+use Rattle.cell_table.specs.declared.view.Seen.{Seen}
+use Rattle.cell_table.specs.declared.view.View.{View}
+use Rattle.cell_table.specs.Sight.{Has, SeesNoOffer, SeesOffer}
+use Rattle.cell_table.specs.Rule.{heard, told_of}
+use Rattle.cell_table.proofs.Hearing.{told_bound, told_lack, told_offer}
 use Rattle.cell.proofs.cells.Cells.tell.Goals as goal
 
 pub returns-clause-offers : goal.returns-clause-offers

@@ -1,7 +1,7 @@
 use Rattle.std.proofs.Common.{rules, ◌≡◌, ℕ, [], length, slice_get, Some, subst}
 use Rattle.std.specs.Prelude.{IfOk}
 use Rattle.cell.specs.Calls.{IsPassOf, PassOf}
-use Rattle.cell.specs.Rule.{dealt_rows, seen_nothing}
+use Rattle.cell_table.specs.Rule.{dealt_rows, seen_nothing}
 use Rattle.cell.proofs.cells.Cells.with_machines.Goals as goal
 
 pub returns-clause-passes : goal.returns-clause-passes

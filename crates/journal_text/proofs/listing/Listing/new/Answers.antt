@@ -1,7 +1,7 @@
 use Rattle.std.proofs.Common.{◌≡◌, ◌∙◌, ◌<◌, ℕ, List, [], ap, sym, subst, arith, length, get_or, replicate, rules}
 use Rattle.std.proofs.lemmas.List.{get_or-map, get_or_read}
 use denote.Ref.{Bor}
-use Rattle.phrase.specs.Places.{texts}
+use Rattle.script_reader.specs.Places.{texts}
 use Rattle.journal_text.specs.Slots.{slot_of, last_in, AreHeads, AreLinks}
 use Rattle.journal_text.proofs.Chains.{heads_begun, heads_more, links_begun, links_more}
 use Rattle.journal_text.proofs.listing.Listing.new.Goals as goal

@@ -1,4 +1,4 @@
-use Rattle.phrase.specs.Places.{texts}
+use Rattle.script_reader.specs.Places.{texts}
 use Rattle.journal_text.specs.Slots.{AreHeads, AreLinks}
 use Rattle.journal_text.proofs.listing.Listing.new.Given as goal
 

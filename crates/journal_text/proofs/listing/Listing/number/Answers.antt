@@ -2,7 +2,7 @@ use Rattle.std.proofs.Common.{◌≡◌, ◌≢◌, ◌∙◌, ◌<◌, ◌+◌,
 use Rattle.std.proofs.lemmas.Bool.Decides.{Decides-eqb}
 use Rattle.std.proofs.lemmas.List.{get_or_read}
 use Rattle.std.proofs.lemmas.Slice.Eq.{slice_eq-Decides}
-use Rattle.phrase.specs.Places.{texts}
+use Rattle.script_reader.specs.Places.{texts}
 use Rattle.journal_text.specs.Slots.{slot_of, last_in}
 use Rattle.journal_text.proofs.Chains.{IsSought, is_last, begun, goes_on, place_apart, place_none, texts_at, texts_length}
 use Rattle.journal_text.proofs.listing.Listing.number.Goals as goal

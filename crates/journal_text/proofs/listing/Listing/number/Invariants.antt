@@ -1,4 +1,4 @@
-use Rattle.phrase.specs.Places.{texts}
+use Rattle.script_reader.specs.Places.{texts}
 use Rattle.journal_text.proofs.Chains.{IsSought}
 use Rattle.journal_text.proofs.listing.Listing.number.Given as goal
 

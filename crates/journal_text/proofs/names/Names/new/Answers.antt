@@ -1,5 +1,5 @@
 use Rattle.std.proofs.Common.{◌∙◌, ℕ, List, ap, ap₂, sym, subst}
-use Rattle.phrase.specs.Places.{texts}
+use Rattle.script_reader.specs.Places.{texts}
 use Rattle.script.specs.Scripts.{script_of}
 use Rattle.script.proofs.Declared.{declares_names}
 use Rattle.journal_text.specs.Slots.{AreApart}

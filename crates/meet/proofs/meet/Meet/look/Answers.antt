@@ -1,10 +1,10 @@
 use Rattle.std.proofs.Common.{◌≡◌, ◌⊎◌, ℕ, ⊎_elim, subst}
-use Rattle.words.specs.declared.Direction.{Direction}
-use Rattle.words.specs.declared.Direction.TheVariants.{Never, Recv, Send}
-use Rattle.words.specs.declared.Row.{Row}
+use Rattle.protocol_values.specs.declared.Direction.{Direction}
+use Rattle.protocol_values.specs.declared.Direction.TheVariants.{Never, Recv, Send}
+use Rattle.protocol_values.specs.declared.Row.{Row}
 use Rattle.cell.specs.Calls.{GridOf, IsPassOf, PassOf}
-use Rattle.cell.specs.Nacks.{CanStandAlone}
-use Rattle.cell.specs.Sight.{SeesDirection}
+use Rattle.cell_table.specs.Nacks.{CanStandAlone}
+use Rattle.cell_table.specs.Sight.{SeesDirection}
 use Rattle.meet.proofs.Growing.{NeedsPartner, ok_none, stands_never}
 use Rattle.meet.proofs.meet.Meet.look.Goals as goal
 

@@ -1,6 +1,6 @@
 use Rattle.std.proofs.Common.{◌≡◌, ℕ, rules, subst}
 use Rattle.std.specs.Prelude.{None, get_or}
-use Rattle.cell.specs.Nacks.{CanStandAlone}
+use Rattle.cell_table.specs.Nacks.{CanStandAlone}
 use Rattle.cell.proofs.Meeting.{from_none}
 use Rattle.meet.specs.Searches.{LacksAt, Lists}
 use Rattle.meet.proofs.Growing.{grows_then, seen_more, stands_more}

@@ -1,5 +1,5 @@
 use Rattle.cell.specs.Calls.{IsPassOf}
-use Rattle.cell.specs.declared.view.Seen.{Seen}
+use Rattle.cell_table.specs.declared.view.Seen.{Seen}
 use Rattle.meet.specs.Rooms.{IsMeetPassOf}
 use Rattle.meet.specs.Searches.{Grows, Names}
 use Rattle.meet.proofs.meet.Meet.wake_each.Given as goal

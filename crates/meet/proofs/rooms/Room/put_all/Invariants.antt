@@ -1,5 +1,5 @@
 use Rattle.std.proofs.Common.{take}
-use Rattle.lane.specs.Lanes.{IsLanePassOf}
+use Rattle.meet_queues.specs.Lanes.{IsLanePassOf}
 use Rattle.meet.specs.Rooms.{AllJoin}
 use Rattle.meet.proofs.rooms.Room.put_all.Given as goal
 

@@ -1,8 +1,8 @@
 use Rattle.std.proofs.Common.{◌≡◌, ap, subst, ◌∙◌, List, rules, IsPermutation}
 use Rattle.std.specs.Prelude.{Contains, ◌↔◌}
 use Rattle.std.proofs.lemmas.List.Sorted.{Contains-permutation, IsPermutation-sym, answers_always}
-use Rattle.words.specs.declared.Commit.{Commit}
-use Rattle.words.specs.Commits.{order_of}
+use Rattle.protocol_values.specs.declared.Commit.{Commit}
+use Rattle.protocol_values.specs.Commits.{order_of}
 use Rattle.protocol.specs.Ledgers.{Ledger, ledger_of, binding_in, commits_in, HasCommit, IsCausal, IsLawful}
 use Rattle.protocol.specs.States.{table_of}
 use Rattle.protocol.proofs.LedgerReadings.{commits_in_ledger, members_in_ledger}
@@ -12,12 +12,12 @@ use Rattle.protocol.proofs.ledger.Ledger.commits.Goals as goal
 pub returns-clause-once : goal.returns-clause-once
 returns-clause-once c =
     let told : c.in_ok-commits.commits.items ≡ commits_in c.args.self.now =
-    c.in_ok-commits.ensures ∙ commits_in_ledger (table_of c.self.inside.board) ∙ ap (λ (l : Ledger). commits_in l) c.self.view_is in
+    c.in_ok-commits.ensures ∙ commits_in_ledger (table_of c.self.inside.sheet) ∙ ap (λ (l : Ledger). commits_in l) c.self.view_is in
     subst (λ (cs : List Commit). IsPermutation cs c.sort_by_cached_key.new.self.items) told c.sort_by_cached_key.ensures.permutation
 
 pub returns-clause-members : goal.returns-clause-members
 returns-clause-members c = λ d.
-    let t = table_of c.self.inside.board in
+    let t = table_of c.self.inside.sheet in
     let told : c.in_ok-commits.commits.items ≡ commits_in c.args.self.now =
     c.in_ok-commits.ensures ∙ commits_in_ledger t ∙ ap (λ (l : Ledger). commits_in l) c.self.view_is in
     let moved = subst (λ (cs : List Commit). IsPermutation cs c.sort_by_cached_key.new.self.items) told c.sort_by_cached_key.ensures.permutation in
@@ -31,7 +31,7 @@ returns-clause-in_order c = c.in_ok-sort_by_cached_key.ensures.sorted order_of (
 
 pub returns-clause-causal : goal.returns-clause-causal
 returns-clause-causal c =
-    let t = table_of c.self.inside.board in
+    let t = table_of c.self.inside.sheet in
     let told : c.in_ok-commits.commits.items ≡ commits_in (ledger_of t) = c.in_ok-commits.ensures ∙ commits_in_ledger t in
     let sorted = c.in_ok-sort_by_cached_key.ensures.sorted order_of (answers_always _ _ _ (λ f a r g h. search rules)) in
     subst (λ (l : Ledger). IsCausal (binding_in l) c.sort_by_cached_key.new.self.items) c.self.view_is

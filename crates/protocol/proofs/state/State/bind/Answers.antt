@@ -1,6 +1,6 @@
 use Rattle.std.proofs.Common.{arith, ◌≡◌, ◌<◌, None, sym, refl, ◌∙◌}
-use Rattle.words.specs.declared.Cell.TheVariants.{Fresh}
-use Rattle.words.specs.declared.Step.TheVariants.{Bind}
+use Rattle.protocol_values.specs.declared.Cell.TheVariants.{Fresh}
+use Rattle.protocol_values.specs.declared.Step.TheVariants.{Bind}
 use Rattle.protocol.specs.Tables.{cell_at, binding_at}
 use Rattle.protocol.specs.Worlds.{Holds, with_nack, nack_of_row}
 use Rattle.protocol.specs.States.{world_of}

@@ -1,8 +1,9 @@
 use Rattle.std.proofs.Common.{◌≡◌, ap, sym, refl}
-use Rattle.words.specs.declared.Cell.TheVariants.{Waiting, Claimed}
-use Rattle.words.specs.declared.Step.TheVariants.{Claim}
-use Rattle.words.specs.declared.Cell.{Cell}
-use Rattle.protocol.specs.Tables.{joined_of, names, cell_at}
+use Rattle.protocol_values.specs.declared.Cell.TheVariants.{Waiting, Claimed}
+use Rattle.protocol_values.specs.declared.Step.TheVariants.{Claim}
+use Rattle.protocol_values.specs.declared.Cell.{Cell}
+use Rattle.protocol.specs.Tables.{names, cell_at}
+use Rattle.protocol_values.specs.Values.{joined_of}
 use Rattle.protocol.specs.Worlds.{Holds, with_cell}
 use Rattle.protocol.specs.States.{world_of}
 use Rattle.protocol.proofs.Keeping.{held_row, kept_condition}

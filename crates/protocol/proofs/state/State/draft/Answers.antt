@@ -1,5 +1,5 @@
 use Rattle.std.proofs.Common.{arith, ◌≡◌, ◌≤◌, ap, sym, refl, ◌∙◌}
-use Rattle.words.specs.declared.Step.TheVariants.{Draft}
+use Rattle.protocol_values.specs.declared.Step.TheVariants.{Draft}
 use Rattle.protocol.specs.Worlds.{Holds, with_word, Condition}
 use Rattle.protocol.specs.States.{table_of, world_of}
 use Rattle.protocol.proofs.Keeping.{held_row, kept_condition}

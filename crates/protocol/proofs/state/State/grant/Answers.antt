@@ -1,11 +1,11 @@
 use Rattle.std.proofs.Common.{◌≡◌, ℕ, Option, Some, is_some, ap, sym, subst, refl, ◌∙◌}
-use Rattle.words.specs.declared.Joined.{Joined}
-use Rattle.words.specs.declared.Offer.{Offer}
-use Rattle.words.specs.declared.Cell.TheVariants.{Waiting, Synched}
-use Rattle.words.specs.declared.Step.TheVariants.{Grant}
-use Rattle.words.specs.Words.{IsJoinedInRange}
+use Rattle.protocol_values.specs.declared.Joined.{Joined}
+use Rattle.protocol_values.specs.declared.Offer.{Offer}
+use Rattle.protocol_values.specs.declared.Cell.TheVariants.{Waiting, Synched}
+use Rattle.protocol_values.specs.declared.Step.TheVariants.{Grant}
+use Rattle.protocol_values.specs.Words.{IsJoinedInRange}
 use Rattle.protocol.specs.Tables.{Table, is_fresh, cell_at, joined_at, offer_at, binding_at, cause_of, cause_at}
-use Rattle.words.specs.declared.Row.{Row}
+use Rattle.protocol_values.specs.declared.Row.{Row}
 use Rattle.protocol.specs.Worlds.{with_cell, granted_by}
 use Rattle.protocol.specs.States.{table_of, world_of}
 use Rattle.protocol.proofs.Keeping.{kept_condition, grant_in_range}
@@ -19,7 +19,7 @@ caused : (t : Table) (r : Row) (n : ℕ) (o : Option Offer) (s : ℕ) → o ≡ 
 caused t r n o s e h = ap (cause_of (joined_at t) (offer_at t) (binding_at t)) (sym e) ∙ sym h
 
 pub granted_by-joined-requires-clause-cause : goal.granted_by-joined-requires-clause-cause
-granted_by-joined-requires-clause-cause c = caused (table_of c.args.self.now.board) c.args.row c.args.offer c.offer.result c.in-Some.cause c.offer.ensures c.in-Some.ensures
+granted_by-joined-requires-clause-cause c = caused (table_of c.args.self.now.sheet) c.args.row c.args.offer c.offer.result c.in-Some.cause c.offer.ensures c.in-Some.ensures
 
 pub set_cell-requires-clause-row : goal.set_cell-requires-clause-row
 set_cell-requires-clause-row c = row_of_open (world_of c.args.self.now).table c.args.row (ap is_fresh (sym c.in-Waiting.ensures))

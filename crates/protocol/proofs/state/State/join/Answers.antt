@@ -1,8 +1,8 @@
 use Rattle.std.proofs.Common.{◌≡◌, ◌≢◌, ℕ, true, None, Some, set, ap, sym, subst, refl, ◌∙◌}
-use Rattle.words.specs.declared.Joined.{Joined}
-use Rattle.words.specs.declared.Cell.TheVariants.{Waiting, Claimed, Synched}
-use Rattle.words.specs.declared.Step.TheVariants.{Join}
-use Rattle.words.specs.Words.{IsJoinedInRange}
+use Rattle.protocol_values.specs.declared.Joined.{Joined}
+use Rattle.protocol_values.specs.declared.Cell.TheVariants.{Waiting, Claimed, Synched}
+use Rattle.protocol_values.specs.declared.Step.TheVariants.{Join}
+use Rattle.protocol_values.specs.Words.{IsJoinedInRange}
 use Rattle.protocol.specs.Tables.{is_fresh, cell_at, offer_at, offers_meet}
 use Rattle.protocol.specs.Worlds.{Holds, with_cell, with_table, namer_at, joined_with}
 use Rattle.protocol.specs.States.{table_of, world_of, Tells}

@@ -1,9 +1,9 @@
 use Rattle.std.proofs.Common.{◌≡◌, ℕ, None, Some, is_some, set, Option, ap, sym, subst, refl, ◌∙◌}
-use Rattle.words.specs.declared.Row.{Row}
-use Rattle.words.specs.declared.Joined.{Joined}
-use Rattle.words.specs.declared.Cell.TheVariants.{Claimed, Synched}
-use Rattle.words.specs.declared.Step.TheVariants.{Seal}
-use Rattle.words.specs.Words.{IsJoinedInRange}
+use Rattle.protocol_values.specs.declared.Row.{Row}
+use Rattle.protocol_values.specs.declared.Joined.{Joined}
+use Rattle.protocol_values.specs.declared.Cell.TheVariants.{Claimed, Synched}
+use Rattle.protocol_values.specs.declared.Step.TheVariants.{Seal}
+use Rattle.protocol_values.specs.Words.{IsJoinedInRange}
 use Rattle.protocol.specs.Tables.{cell_at, all_rows, joined_at}
 use Rattle.protocol.specs.Worlds.{World, Holds, with_cell, with_table, with_seal, sealed_by, namer_at, side_of, mirrored}
 use Rattle.protocol.specs.States.{table_of, world_of, Tells}

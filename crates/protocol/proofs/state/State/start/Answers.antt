@@ -1,7 +1,7 @@
 use Rattle.std.proofs.Common.{None, ap, ◌∙◌, List, length, map}
 use Rattle.std.proofs.lemmas.List.{length-replicate}
 use Rattle.std.specs.Prelude.{Option, ℕ}
-use Rattle.words.specs.declared.Row.{Row}
+use Rattle.protocol_values.specs.declared.Row.{Row}
 use Rattle.protocol.specs.Tables.{all_rows}
 use Rattle.protocol.specs.Worlds.{start_world, first_holder}
 use Rattle.protocol.proofs.Starting.{start_sound}
@@ -10,16 +10,16 @@ use Rattle.protocol.proofs.state.State.start.Goals as goal
 
 pub invariant_of-result : goal.invariant_of-result
 invariant_of-result c = record {
-  held = ap (λ (xs : List (Option ℕ)). length xs) c.in_ok-holders.ensures ∙ length_holders c.in_ok-board.board.threads c.in_ok-board.board.rows c.args.seats;
+  held = ap (λ (xs : List (Option ℕ)). length xs) c.in_ok-holders.ensures ∙ length_holders c.in_ok-sheet.sheet.threads c.in_ok-sheet.sheet.rows c.args.seats;
   named = ap (λ (xs : List (Option Row)). length xs) c.in_ok-namers.ensures ∙ length-replicate {A = Option Row} c.len.result None ∙ c.len.ensures;
 }
 
 pub returns-clause-world : goal.returns-clause-world
 unfolding start_world
 returns-clause-world c = λ i. record {
-  table = record { threads = c.in_ok-board.ensures.threads i; rows = c.in_ok-board.ensures.rows i; words = c.in_ok-board.ensures.words i };
+  table = record { threads = c.in_ok-sheet.ensures.threads i; rows = c.in_ok-sheet.ensures.rows i; words = c.in_ok-sheet.ensures.words i };
   seats = c.args.seats;
-  holders = (c.in_ok-holders.ensures ∙ (λ j. map (first_holder c.args.seats) (all_rows (c.in_ok-board.ensures.threads j) (c.in_ok-board.ensures.rows j)))) i;
+  holders = (c.in_ok-holders.ensures ∙ (λ j. map (first_holder c.args.seats) (all_rows (c.in_ok-sheet.ensures.threads j) (c.in_ok-sheet.ensures.rows j)))) i;
 }
 
 pub returns-clause-sound : goal.returns-clause-sound
@@ -27,9 +27,9 @@ unfolding start_world
 returns-clause-sound c =
     start_sound _ c.args.threads c.args.rows c.args.seats c.len.result
     (λ i. record {
-      table = record { threads = c.in_ok-board.ensures.threads i; rows = c.in_ok-board.ensures.rows i; words = c.in_ok-board.ensures.words i };
+      table = record { threads = c.in_ok-sheet.ensures.threads i; rows = c.in_ok-sheet.ensures.rows i; words = c.in_ok-sheet.ensures.words i };
       seats = c.args.seats;
-      holders = (c.in_ok-holders.ensures ∙ (λ j. map (first_holder c.args.seats) (all_rows (c.in_ok-board.ensures.threads j) (c.in_ok-board.ensures.rows j)))) i;
+      holders = (c.in_ok-holders.ensures ∙ (λ j. map (first_holder c.args.seats) (all_rows (c.in_ok-sheet.ensures.threads j) (c.in_ok-sheet.ensures.rows j)))) i;
     })
     c.in_ok-namers.ensures
     c.requires.few_threads

@@ -3,5 +3,5 @@ use Rattle.protocol.specs.States.{world_of}
 use Rattle.protocol.proofs.LedgerLemmas.{lawful_ledger}
 use Rattle.protocol.proofs.world.World.ledger.Goals as goal
 
-pub of_board-requires : goal.of_board-requires
-of_board-requires c = lawful_ledger (world_of c.self.inside.state).table c.self.invariant.kept.linked
+pub of_sheet-requires : goal.of_sheet-requires
+of_sheet-requires c = lawful_ledger (world_of c.self.inside.state).table c.self.invariant.kept.linked

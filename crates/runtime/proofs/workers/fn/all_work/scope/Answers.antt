@@ -9,7 +9,7 @@ use Rattle.std.specs.Prelude.{is_ok}
 use Rattle.std.specs.Vec.Iter.{into_iter_items}
 use Rattle.std.specs.declared.thread.PromisedHandle.{PromisedHandle}
 use Rattle.runtime.specs.Workers.{IsNewWorkerOf}
-use Rattle.runtime.specs.declared.turns.Worker.{Worker}
+use Rattle.runtime.specs.declared.worker.Worker.{Worker}
 use Rattle.runtime.specs.declared.worker.Worked.{Worked}
 use Rattle.runtime.specs.declared.workers.GivesBack.{GivesBack}
 use Rattle.runtime.proofs.Lists.{all_head, all_is, all_none, all_rest, all_pushed}

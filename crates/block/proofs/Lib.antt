@@ -1,4 +1,0 @@
-pub mod Blocking
-pub mod Keeping
-pub mod Found
-pub mod Again

@@ -1,0 +1,296 @@
+-- A look at a nack, and a bind, are admitted by the rule.
+use Rattle.std.proofs.Common.{List, length, ◌+◌, ◌≤◌, false, ◌∷◌, inl, inr, ◌⊎◌, slice_index, slice_set, ◌≡◌, ◌≢◌, ℕ, ◌<◌, true, [], sym, refl, ap, ◌∙◌, subst, ⊎_elim, arith, unwrap_or, Option, Some, None, eqb}
+use Rattle.std.proofs.lemmas.List.{set-get_or}
+use Rattle.std.proofs.lemmas.Bool.{and_from, false≢true, lt-ltb}
+use mathlib.Core.Option.{some, none}
+use lib.ListN.{get_elem?}
+use prog.Atomic.{either}
+use Rattle.atomic_table.specs.Table.{State, Me, Allows, Act, Valid, step, keeps, stepped, carried_after}
+use Rattle.atomic_table.proofs.Lists.{exchanged}
+use Rattle.protocol_values.specs.Words.{nack_of, nack_word, IsBindingInRange}
+use Rattle.protocol_values.proofs.WordLemmas.{nack_of-nack_word, nack_word-nack_of}
+use Rattle.protocol_values.specs.declared.NackName.{NackName}
+use Rattle.protocol_values.specs.declared.Binding.{Binding}
+use Rattle.protocol_values.specs.declared.Row.{Row}
+use Rattle.protocol.specs.Tables.{Table, bound_row, cell_at, is_fresh, is_nack, is_taken, nack_at, nack_place, binding_at}
+use Rattle.protocol_values.specs.Values.{joined_of}
+use Rattle.protocol.specs.Worlds.{World, holder_at, with_nack, with_table}
+use Rattle.protocol.specs.Kept.{Kept}
+use Rattle.protocol.proofs.Linking.{cases_Option, some_inj, some_parts}
+use Rattle.protocol.proofs.Places.{same_nack_place, word_bound}
+use Rattle.protocol.proofs.Readings.{binding_inside, binding_bound, binding_kept, binding_was, cell_after_bind}
+use Rattle.protocol.proofs.Keeping.{holder_same, taken_before}
+use Rattle.cell_table.specs.declared.view.View.{View}
+use Rattle.cell_table.specs.declared.view.Shape.{Shape}
+use Rattle.cell_table.specs.Sight.{Has}
+use Rattle.cell_table.specs.Views.{Knows, bind_of, bound_nack, did, saw_nack}
+use Rattle.cell_table.specs.Rule.{IsToBegin, Keeps}
+use Rattle.cell_table.proofs.Standing.{is_earlier}
+use Rattle.protocol.specs.Standing.{Stands}
+use Rattle.protocol_values.specs.declared.Step.TheVariants.{Open}
+use Rattle.protocol_values.specs.declared.Cell.{Cell}
+use Rattle.protocol_values.specs.declared.Cell.TheVariants.{Fresh, Waiting, Claimed, Synched, Taken}
+use Rattle.cell_table.specs.Told.{AgreesNack, AgreesWithItself, AtNack, InsideNack, IsEarlier, looked_nack, nack_read, tried_bind}
+use Rattle.cell_table.proofs.Allowing.{sized}
+use Rattle.cell_table.proofs.Following.{Follows, knows_bound, knows_follows}
+use Rattle.cell_table.proofs.Others.{learn_nack}
+use Rattle.cell_table.proofs.Truths.{coherent}
+use Rattle.cell_table.proofs.Turning.{world_kept, keeps_view, keeps_step, moved_coherent}
+
+pub nack_from : (t : Table) (n : NackName) → n.thread < t.threads → n.k < 64 → is_nack t n ≡ true
+unfolding is_nack
+nack_from t n h k = and_from _ _ (lt-ltb n.thread t.threads h) (lt-ltb n.k 64 k)
+
+-- one word stands for one binding
+one_binding : (b c : Binding) → IsBindingInRange b → IsBindingInRange c → nack_word (Some b) ≡ nack_word (Some c) → b ≡ c
+one_binding b c g h e =
+    let both : Some (Some b) ≡ Some (Some c) = sym (nack_of-nack_word (Some b) g) ∙ ap nack_of e ∙ nack_of-nack_word (Some c) h in
+    some_inj b c (some_inj (Some b) (Some c) both)
+
+module _ {M : Type 0} where
+  -- what was seen by then agrees with itself
+  coherent_nack : (w : World) (owner : Row → ℕ) (id : ℕ) (v : View M) (n : NackName) (o : Option Binding) → Knows w owner id (saw_nack n o v) → Kept w → AgreesWithItself (saw_nack n o v)
+  coherent_nack w owner id v n None k kept = coherent w owner id v k kept
+  coherent_nack w owner id v n (Some b) k kept = coherent w owner id (bound_nack n b v) k kept
+
+  -- a nack is bound to no row behind a held Fresh one
+  not_behind : (w : World) (owner : Row → ℕ) (id : ℕ) (v : View M) → Knows w owner id v → Kept w → (nack : NackName) (b c : Binding) → binding_at w.table nack ≡ Some c
+      → Has v.seen.held (bound_row nack b) → ¬ Has v.seen.opened (bound_row nack b) → c.sync ≤ b.sync
+  not_behind w owner id v knows kept nack b c is held unopened =
+      let low : c.sync < b.sync + 1 = Rattle.std.proofs.Math.Nat.lt_of_not-le (λ (above : b.sync + 1 ≤ c.sync).
+      let below : b.sync < c.sync = omega arith in ⊎_elim
+      (λ (none : holder_at w (bound_row nack c) ≡ None). kept.bound nack c is none)
+      (λ (some : (seat : ℕ) × (holder_at w (bound_row nack c) ≡ Some seat)).
+      let taken : is_taken (cell_at w.table (bound_row nack b)) ≡ true = taken_before w kept (bound_row nack b) (bound_row nack c) refl below (inr some) in
+      let bad : false ≡ true = sym (ap is_taken (knows.fresh (bound_row nack b) held unopened)) ∙ taken in
+      cc)
+      (cases_Option (holder_at w (bound_row nack c)))) in
+      omega arith
+
+-- THE WORLD AFTER A BIND
+pub follows_bind : (w : World) (m : NackName) (b : Binding) → is_nack w.table m ≡ true → binding_at w.table m ≡ None → Follows w (with_table w (with_nack w.table m b))
+unfolding with_nack
+follows_bind w m b nack free = record {
+  threads = refl;
+  rows = refl;
+  seats = refl;
+  fresh = λ r h. cell_after_bind w.table m b r nack ∙ h;
+  opened = λ r h. ap is_fresh (cell_after_bind w.table m b r nack) ∙ h;
+  joined = λ r. ap joined_of (cell_after_bind w.table m b r nack);
+  taken = λ r h. ap is_taken (cell_after_bind w.table m b r nack) ∙ h;
+  claimed = λ r h. cell_after_bind w.table m b r nack ∙ h;
+  unclaimed = λ r h. sym (cell_after_bind w.table m b r nack) ∙ h;
+  words = λ r p i low high. word_bound w.table m b r p nack i high;
+  held = λ r s h. holder_same w (with_nack w.table m b) r refl refl ∙ h;
+  bound = λ n c e. binding_kept w.table m b nack free n c e;
+}
+
+taken_opened : (c : Cell) → is_taken c ≡ true → is_fresh c ≡ false
+taken_opened Fresh e = absurd (false≢true e)
+taken_opened Waiting e = refl
+taken_opened Claimed e = refl
+taken_opened (Synched j) e = refl
+taken_opened (Taken j) e = refl
+
+module _ {M : Type 0} (stands : Stands M) where
+  -- A pass that makes a step on the word of a nack
+  module _ (shape : Shape M) (id place : ℕ) (me : Me (Option M) (View M)) (nack : NackName)
+      (threads : me.0.threads ≡ shape.threads) (rows : me.0.rows ≡ shape.rows)
+      (inside : InsideNack shape.threads nack) (here : place ≡ nack_place shape.rows nack) where
+    at_table : 0 < me.0.threads
+    at_table = let i = inside.0 in omega arith
+
+    one_nack : (m : NackName) → InsideNack me.0.threads m → place ≡ nack_place me.0.rows m → nack ≡ m
+    one_nack m i e =
+        let t : Table = record { threads = shape.threads; rows = shape.rows; words = [] } in
+        let at : nack_place shape.rows nack ≡ nack_place shape.rows m = sym here ∙ e ∙ ap (λ (n : ℕ). nack_place n m) rows in
+        let there : m.thread < shape.threads = subst (λ (n : ℕ). m.thread < n) threads i.0 in
+        let same = same_nack_place t nack m (nack_from t nack inside.0 inside.1) (nack_from t m there i.1) at in
+        λ x. record { thread = same.0 x; k = same.1 x }
+
+    module _ (s : State (Option M) (View M)) (k : Keeps stands shape s) (view : get_elem? s.views id ≡ some me.0) where
+      known : Knows k.world k.owner id me.0
+      known = k.knows id me.0 view at_table
+
+      kept : Kept k.world
+      kept = world_kept stands shape s k
+
+      is_its_nack : is_nack k.world.table nack ≡ true
+      is_its_nack = ap (λ (t : Table). is_nack t nack) k.table ∙ nack_from (sized shape s.words) nack inside.0 inside.1
+
+      word_is : nack_at k.world.table nack ≡ slice_index s.words place
+      unfolding nack_at
+      word_is = ap (λ (t : Table). nack_at t nack) k.table ∙ ap (slice_index s.words) (sym here)
+
+      binding_is : binding_at k.world.table nack ≡ nack_read (slice_index s.words place)
+      binding_is = binding_inside k.world.table nack is_its_nack ∙ ap nack_read word_is
+
+      -- where it only learns
+      learnt : (w : View M) → w.seat ≡ me.0.seat → w.made ≡ me.0.made → w.results ≡ me.0.results → w.first ≡ me.0.first → ((r : Row) → IsToBegin w r → IsToBegin me.0 r) → Knows k.world k.owner id w → Keeps stands shape (stepped s place (slice_index s.words place) id me.1 w keeps)
+      learnt w seat made seen first begins knows = keeps_view stands shape s k id me.0 w _ view at_table seat made seen first begins (set-get_or s.words place 0) knows
+
+      first_kept : (o : Option Binding) → (saw_nack nack o me.0).first ≡ me.0.first
+      first_kept None = refl
+      first_kept (Some b) = refl
+
+      begins_kept : (o : Option Binding) (r : Row) → IsToBegin (saw_nack nack o me.0) r → IsToBegin me.0 r
+      begins_kept None r h = h
+      begins_kept (Some b) r h = h
+
+      -- what the pass has seen then agrees with itself
+      agreed : (x : ℕ) (w : View M) → w.threads ≡ me.0.threads → Keeps stands shape (stepped s place x id me.1 w keeps) → AgreesWithItself w
+      agreed x w size after = moved_coherent stands shape s.views _ _ id me.0 w view size at_table after
+
+      -- a look at a nack makes no step
+      seat_kept : (o : Option Binding) → (saw_nack nack o me.0).seat ≡ me.0.seat
+      seat_kept None = refl
+      seat_kept (Some b) = refl
+
+      made_kept : (o : Option Binding) → (saw_nack nack o me.0).made ≡ me.0.made
+      made_kept None = refl
+      made_kept (Some b) = refl
+
+      results_kept : (o : Option Binding) → (saw_nack nack o me.0).results ≡ me.0.results
+      results_kept None = refl
+      results_kept (Some b) = refl
+
+      sees : Knows k.world k.owner id (saw_nack nack (nack_read (slice_index s.words place)) me.0)
+      sees = learn_nack k.world k.owner id me.0 nack (nack_read (slice_index s.words place)) known binding_is
+
+      agrees_nack : (m : NackName) → nack ≡ m → AgreesNack me.0 m (nack_read (slice_index s.words place))
+      agrees_nack m e = subst (λ (n : NackName). AgreesNack me.0 n (nack_read (slice_index s.words place))) e (λ b h. sym binding_is ∙ known.bound nack b h)
+
+      -- a word that is not that of an unbound nack says where the nack is bound
+      bound_there : slice_index s.words place ≢ nack_word None → (c : Binding) × (nack_read (slice_index s.words place) ≡ Some c)
+      bound_there other =
+          let o = some_parts (nack_of (nack_at k.world.table nack)) (kept.formed.nacks nack is_its_nack) in
+          by_word o.0 (ap nack_of (sym word_is) ∙ o.1)
+        where
+          by_word : (o : Option Binding) → nack_of (slice_index s.words place) ≡ Some o → (c : Binding) × (nack_read (slice_index s.words place) ≡ Some c)
+          by_word None e = absurd (other (nack_word-nack_of (slice_index s.words place) None e).1)
+          by_word (Some c) e = (c, ap (λ (p : Option (Option Binding)). unwrap_or p None) e)
+
+      -- a nack that is bound to an earlier row of a held row's thread
+      earlier_there : (b : Binding) → Has me.0.seen.held (bound_row nack b) → (c : Binding) → binding_at k.world.table nack ≡ Some c → c.sync < b.sync → 0 < length me.0.first → IsEarlier stands me.0.first me.0.results nack c
+      earlier_there b held c is below filled =
+          let firsts : me.0.first ≡ shape.first.value.items = k.firsts id me.0 view at_table in
+          let taken : is_taken (cell_at k.world.table (bound_row nack c)) ≡ true = taken_before k.world kept (bound_row nack c) (bound_row nack b) refl below (inr (me.0.seat, (known.mine (bound_row nack b) held).1)) in
+          subst (λ (l : List M). IsEarlier stands l me.0.results nack c) (sym firsts)
+          (is_earlier stands shape.first.value.items k.world k.owner id me.0 known kept nack c (k.housed (subst (λ (l : List M). 0 < length l) firsts filled)).rows (λ t rs h. k.results id me.0 t rs view h)
+          (taken_opened (cell_at k.world.table (bound_row nack c)) taken) is)
+
+      -- the nack is bound to a held row that is not opened
+      module _ (b : Binding) (range : IsBindingInRange b) (held : Has me.0.seen.held (bound_row nack b)) (unopened : ¬ Has me.0.seen.opened (bound_row nack b))
+          (free : binding_at k.world.table nack ≡ None) where
+        abbrev later : World
+        later = with_table k.world (with_nack k.world.table nack b)
+
+        follows : Follows k.world later
+        follows = follows_bind k.world nack b is_its_nack free
+
+        was : (n : NackName) (c : Binding) → binding_at later.table n ≡ Some c → (binding_at k.world.table n ≡ Some c) ⊎ ((nack ≡ n) × (b ≡ c))
+        was n c e = binding_was k.world.table nack b kept.sized is_its_nack range n c e
+
+        others : (j : ℕ) (u : View M) → j ≢ id → Knows k.world k.owner j u → Knows later k.owner j u
+        others j u n knows = knows_follows k.world later k.owner j u follows (λ m c e o. ⊎_elim
+            (λ (old : binding_at k.world.table m ≡ Some c). inl old)
+            (λ (new : (nack ≡ m) × (b ≡ c)). absurd (n (sym o ∙ (λ i. k.owner (bound_row (sym new.0 i) (sym new.1 i))) ∙ (known.mine (bound_row nack b) held).0)))
+            (was m c e)) knows
+
+        own : Knows later k.owner id (bound_nack nack b me.0)
+        own = knows_bound k.world later k.owner id me.0 ((nack, b) ∷ me.0.seen.bound) follows
+            (λ n c h. inr h)
+            (λ n c h. there n c h)
+            (λ n c e o. ⊎_elim
+            (λ (old : binding_at k.world.table n ≡ Some c). inl old)
+            (λ (new : (nack ≡ n) × (b ≡ c)). inr (inl (λ i. (new.0 i, new.1 i))))
+            (was n c e))
+            known
+          where
+            there : (n : NackName) (c : Binding) → Has ((nack, b) ∷ me.0.seen.bound) (n, c) → binding_at later.table n ≡ Some c
+            there n c (inl e) = subst (λ (z : NackName × Binding). binding_at later.table z.0 ≡ Some z.1) e (binding_bound k.world.table nack b kept.sized is_its_nack range)
+            there n c (inr h) = follows.bound n c (known.bound n c h)
+
+        binds : Keeps stands shape (stepped s place (nack_word (Some b)) id me.1 (did (bind_of nack b) (bound_nack nack b me.0)) keeps)
+        unfolding with_nack
+        binds =
+            let mine = known.mine (bound_row nack b) held in
+            keeps_step stands shape s k id me.0 (bound_nack nack b me.0) _ k.owner view at_table refl refl refl (λ q h. h) (bind_of nack b) (λ q e. let bad : bind_of nack b ≡ Open q = e in cc)
+            (known.seat, (mine.1, known.fresh (bound_row nack b) held unopened, inside.1, range.scope, free)) (λ t rs h. inl h)
+            (ap (λ (t : Table). with_nack t nack b) k.table ∙ ap (λ (n : ℕ). sized shape (slice_set s.words n (nack_word (Some b)))) (sym here))
+            (λ j u n e t. others j u n (k.knows j u e t))
+            own
+
+  module _ (shape : Shape M) (slots id place : ℕ) (me : Me (Option M) (View M)) (nack : NackName)
+      (threads : me.0.threads ≡ shape.threads) (rows : me.0.rows ≡ shape.rows)
+      (inside : InsideNack shape.threads nack) where
+    pub look_nack_allowed : place ≡ nack_place shape.rows nack → Allows (Keeps stands shape) slots id me place (λ n. n) (looked_nack (step slots place 0 0 none) me)
+    look_nack_allowed here s k homes view range =
+        let o = nack_read (slice_index s.words place) in (
+          saw_nack nack o me.0,
+          keeps,
+          tt,
+          learnt shape id place me nack threads rows inside here s k view (saw_nack nack o me.0) (seat_kept shape id place me nack threads rows inside here s k view o) (made_kept shape id place me nack threads rows inside here s k view o) (results_kept shape id place me nack threads rows inside here s k view o) (first_kept shape id place me nack threads rows inside here s k view o) (begins_kept shape id place me nack threads rows inside here s k view o) (sees shape id place me nack threads rows inside here s k view),
+          λ m at.
+              let same = one_nack shape id place me nack threads rows inside here m at.0 at.1 in (
+                ap (λ (n : NackName). (saw_nack n o me.0, me.1)) same,
+                agrees_nack shape id place me nack threads rows inside here s k view m same,
+                coherent_nack k.world k.owner id me.0 nack o (sees shape id place me nack threads rows inside here s k view) (world_kept stands shape s k),
+              ),
+        )
+
+    -- a nack of a held row's thread: where it is not bound, it is bound to the row
+    pub bind_allowed : (b : Binding) → IsBindingInRange b → Has me.0.seen.held (bound_row nack b) → ¬ Has me.0.seen.opened (bound_row nack b) → place ≡ nack_place shape.rows nack
+        → Allows (Keeps stands shape) slots id me place (λ x. either (eqb x (nack_word None)) (nack_word (Some b)) x) (tried_bind stands (step slots place (nack_word None) (nack_word (Some b)) none) me)
+    bind_allowed b in_range held unopened here s k homes view range =
+        let x = slice_index s.words place in
+        let read = binding_is shape id place me nack threads rows inside here s k view in
+        let knows = known shape id place me nack threads rows inside here s k view in
+        let one : (m : NackName) → AtNack (step {S = Option M} slots place (nack_word None) (nack_word (Some b)) none) me m → nack ≡ m = λ m at. one_nack shape id place me nack threads rows inside here m at.0 at.1 in
+        exchanged x (nack_word None) (nack_word (Some b))
+        (λ y. (w : View M) × (a : Act (Option M)) × Valid s.homes me.1 a × Keeps stands shape (stepped s place y id me.1 w a) × tried_bind stands (step slots place (nack_word None) (nack_word (Some b)) none) me x (w, carried_after me.1 a))
+        (λ e.
+        let none_read : nack_read x ≡ None = ap nack_read e ∙ ap (λ (p : Option (Option Binding)). unwrap_or p None) (nack_of-nack_word None tt) in
+        let free : binding_at k.world.table nack ≡ None = read ∙ none_read in
+        let after = did (bind_of nack b) (bound_nack nack b me.0) in
+        let moved : Keeps stands shape (stepped s place (nack_word (Some b)) id me.1 after keeps) = binds shape id place me nack threads rows inside here s k view b in_range held unopened free in (
+          after,
+          keeps,
+          tt,
+          moved,
+          λ m c at c_range second. (
+            λ f. let same = one_binding b c in_range c_range second in
+                let nack_same = one m at in (
+                  (λ z. (did (bind_of (nack_same z) (same z)) (bound_nack (nack_same z) (same z) me.0), me.1)),
+                  λ d h. let bad : None ≡ Some d = sym free ∙ knows.bound nack d (subst (λ (n : NackName). Has me.0.seen.bound (n, d)) (sym nack_same) h) in cc,
+                ),
+            λ d f. let bad : None ≡ Some d = sym none_read ∙ f in cc,
+            agreed shape id place me nack threads rows inside here s k view (nack_word (Some b)) after refl moved,
+          ),
+        ))
+        (λ f.
+        let found = bound_there shape id place me nack threads rows inside here s k view f in
+        let is : binding_at k.world.table nack ≡ Some found.0 = read ∙ found.1 in
+        let after = bound_nack nack found.0 me.0 in
+        let moved : Keeps stands shape (stepped s place x id me.1 after keeps) =
+        learnt shape id place me nack threads rows inside here s k view after refl refl refl refl (λ q h. h) (learn_nack k.world k.owner id me.0 nack (Some found.0) knows is) in (
+          after,
+          keeps,
+          tt,
+          moved,
+          λ m c at c_range second. (
+            λ g. let bad : None ≡ Some found.0 = sym g ∙ found.1 in cc,
+            λ d g. let same : found.0 ≡ d = some_inj found.0 d (sym found.1 ∙ g) in
+                let nack_same = one m at in
+                let tried : b ≡ c = one_binding b c in_range c_range second in (
+                  (λ z. (bound_nack (nack_same z) (same z) me.0, me.1)),
+                  subst (λ (z : Binding × Binding). z.0.sync ≤ z.1.sync) (λ i. (same i, tried i))
+                      (not_behind k.world k.owner id me.0 knows (world_kept stands shape s k) nack b found.0 is held unopened),
+                  λ h. subst (λ (z : NackName × Binding). Has me.0.seen.bound z) (λ i. (nack_same i, same i))
+                      (knows.binds nack found.0 is (subst (λ (z : NackName × Binding). Has me.0.seen.held (bound_row z.0 z.1)) (λ i. (sym nack_same i, sym same i)) h)),
+                  λ below filled. subst (λ (z : NackName × Binding). IsEarlier stands me.0.first me.0.results z.0 z.1) (λ i. (nack_same i, same i))
+                      (earlier_there shape id place me nack threads rows inside here s k view b held found.0 is (subst (λ (z : Binding × Binding). z.0.sync < z.1.sync) (λ i. (sym same i, sym tried i)) below) filled),
+                ),
+            agreed shape id place me nack threads rows inside here s k view x after refl moved,
+          ),
+        ))

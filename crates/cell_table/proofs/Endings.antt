@@ -1,0 +1,86 @@
+-- The words of a table at its end, and what their ledger says.
+use Rattle.std.proofs.Common.{Option, ◌≡◌, ℕ, zero, suc, ◌+◌, ◌<◌, ◌≤◌, List, [], ◌∷◌, length, slice_index, slice_set, slice_get, get_or, sym, ap, ◌∙◌, subst, ⊎_elim, arith, Some, None}
+use Rattle.std.proofs.lemmas.List.{ext_get_or, get_or-set_same, get_or-set_other}
+use mathlib.Core.Option.{some, none}
+use lib.ListN.{get_elem?}
+use Rattle.atomic_table.specs.Table.{Seen as SeenWith, Final}
+use Rattle.protocol_values.specs.declared.Joined.{Joined}
+use Rattle.protocol_values.specs.declared.Offer.{Offer}
+use Rattle.protocol_values.specs.declared.NackName.{NackName}
+use Rattle.protocol_values.specs.declared.Binding.{Binding}
+use Rattle.protocol_values.specs.declared.Row.{Row}
+use Rattle.protocol.specs.Tables.{Table, joined_at}
+use Rattle.protocol.specs.Ledgers.{ledger_of, IsLawful, binding_in, joined_in, offer_in}
+use Rattle.protocol.proofs.LedgerLemmas.{binding_in_ledger, lawful_ledger, joined_in_ledger, offer_in_ledger}
+use Rattle.protocol.specs.Standing.{AreResults, EachOffersAs, Result, SomeStands, Stands}
+use Rattle.protocol.proofs.Standing.{stands-ledger}
+use Rattle.cell_table.specs.declared.view.View.{View}
+use Rattle.cell_table.specs.declared.view.Shape.{Shape}
+use Rattle.cell_table.specs.Sight.{Has, IsDraft, SeesOffer, SeesNoOffer}
+use Rattle.cell_table.specs.Views.{Knows}
+use Rattle.cell_table.specs.Rule.{Keeps}
+use Rattle.cell_table.proofs.Allowing.{sized}
+use Rattle.cell_table.proofs.Turning.{world_kept}
+use Rattle.cell_table.proofs.Truths.{own_chose, sees_known, lacks_known}
+
+read_there : (xs : List ℕ) (i x : ℕ) → get_elem? xs i ≡ some x → get_or xs i 0 ≡ x
+read_there [] i x e = absurd (mathlib.Core.Option.some-ne-none x (sym e))
+read_there (y ∷ ys) zero x e = mathlib.Core.Option.some-injective y x e
+read_there (y ∷ ys) (suc i) x e = read_there ys i x e
+
+-- one more word is copied
+pub copied_more : (xs ys : List ℕ) (n at x : ℕ) → length xs ≡ n → at < n → get_elem? ys at ≡ some x → ((i : ℕ) → i < at → slice_index xs i ≡ slice_index ys i)
+    → (i : ℕ) → i < at + 1 → slice_index (slice_set xs at x) i ≡ slice_index ys i
+copied_more xs ys n at x len low is before i below = ⊎_elim
+    (λ (e : i ≡ at). ap (λ (k : ℕ). get_or (slice_set xs at x) k 0) e ∙ get_or-set_same xs at x 0 (subst (λ (k : ℕ). at < k) (sym len) low) ∙ sym (read_there ys at x is) ∙ ap (λ (k : ℕ). get_or ys k 0) (sym e))
+    (λ (h : i < at). get_or-set_other xs at i x 0 (λ e. omega arith) ∙ before i h)
+    (Rattle.std.proofs.Math.Nat.eq-or-lt_of_le (let l : i ≤ at = omega arith in l))
+
+pub copied_all : (xs ys : List ℕ) (n at : ℕ) → length xs ≡ n → length ys ≡ n → n ≤ at → ((i : ℕ) → i < at → slice_index xs i ≡ slice_index ys i) → xs ≡ ys
+copied_all xs ys n at len same past each = ext_get_or 0 xs ys (len ∙ sym same) (λ i h. each i (omega arith))
+
+module _ {M : Type 0} (stands : Stands M) where
+  pub ended : (key shape : Shape M) (id : ℕ) (v : View M) (ws copy : List ℕ) (slots : List (Option M)) → key ≡ shape → copy ≡ ws → Final (SeenWith (Keeps stands key) id v) ws slots → Final (SeenWith (Keeps stands shape) id v) copy slots
+  ended key shape id v ws copy slots keyed copied = subst (λ (z : Shape M × List ℕ). Final (SeenWith (Keeps stands z.0) id v) z.1 slots) (λ i. (keyed i, sym copied i))
+
+  -- THE STATE AT THE END meets the rule, and the pass that closes it has seen what it has seen
+  module _ (shape : Shape M) (id : ℕ) (v : View M) (at_table : 0 < v.threads) (ws : List ℕ) (slots : List (Option M)) (final : Final (SeenWith (Keeps stands shape) id v) ws slots) where
+    kept : Keeps stands shape final.0
+    kept = final.1.0
+
+    table_is : kept.world.table ≡ sized shape ws
+    table_is = kept.table ∙ ap (sized shape) final.2
+
+    known : Knows kept.world kept.owner id v
+    known = kept.knows id v final.1.1 at_table
+
+    pub final_lawful : IsLawful (ledger_of (sized shape ws))
+    final_lawful = subst (λ (t : Table). IsLawful (ledger_of t)) table_is (lawful_ledger kept.world.table (world_kept stands shape final.0 kept).linked)
+
+    pub final_joined : (r : Row) (j : Joined) → Has v.seen.joined (r, j) → joined_in (ledger_of (sized shape ws)) r ≡ Some j
+    final_joined r j h = subst (λ (t : Table). joined_in (ledger_of t) r ≡ Some j) table_is (ap (λ (f : Row → _). f r) (joined_in_ledger kept.world.table) ∙ known.joined r j h)
+
+    pub final_results : (t : ℕ) (rs : List Result) → Has v.results (t, rs) → AreResults (ledger_of (sized shape ws)) t rs
+    final_results t rs h = subst (λ (z : Table). AreResults (ledger_of z) t rs) table_is (kept.results id v t rs final.1.1 h)
+
+    pub final_bound : (n : NackName) (b : Binding) → Has v.seen.bound (n, b) → binding_in (ledger_of (sized shape ws)) n ≡ Some b
+    final_bound n b h = subst (λ (t : Table). binding_in (ledger_of t) n ≡ Some b) table_is (ap (λ (f : NackName → _). f n) (binding_in_ledger kept.world.table) ∙ known.bound n b h)
+
+    pub final_own : (r : Row) (j : Joined) (offers : List Offer) → IsDraft v.seen r offers → joined_in (ledger_of (sized shape ws)) r ≡ Some j
+        → (j.own < length offers) × (offer_in (ledger_of (sized shape ws)) r j.own ≡ slice_get offers j.own)
+    final_own r j offers draft e =
+        let here : joined_at kept.world.table r ≡ Some j = ap (λ (f : Row → _). f r) (sym (joined_in_ledger kept.world.table)) ∙ subst (λ (t : Table). joined_in (ledger_of t) r ≡ Some j) (sym table_is) e in
+        let chose = own_chose kept.world kept.owner id v r j offers known (world_kept stands shape final.0 kept) draft here in
+        (chose.0, subst (λ (t : Table). offer_in (ledger_of t) r j.own ≡ slice_get offers j.own) table_is (ap (λ (f : Row → ℕ → _). f r j.own) (offer_in_ledger kept.world.table) ∙ chose.1))
+
+    pub final_offer : (r : Row) (n : ℕ) (o : Offer) → SeesOffer v.seen r n o → offer_in (ledger_of (sized shape ws)) r n ≡ Some o
+    final_offer r n o sees =
+        subst (λ (t : Table). offer_in (ledger_of t) r n ≡ Some o) table_is (ap (λ (f : Row → ℕ → _). f r n) (offer_in_ledger kept.world.table) ∙ sees_known kept.world kept.owner id v r n o known (world_kept stands shape final.0 kept) sees)
+
+    pub final_lack : (r : Row) (n : ℕ) → SeesNoOffer v.seen r n → offer_in (ledger_of (sized shape ws)) r n ≡ None
+    final_lack r n sees =
+        subst (λ (t : Table). offer_in (ledger_of t) r n ≡ None) table_is (ap (λ (f : Row → ℕ → _). f r n) (offer_in_ledger kept.world.table) ∙ lacks_known kept.world kept.owner id v r n known sees)
+
+    -- in a table of machines each row that offers something offers what somebody offers who stands for its thread there
+    pub final_stand : 0 < length shape.first.value.items → EachOffersAs (SomeStands stands shape.first.value.items) (ledger_of (sized shape ws))
+    final_stand some_first = subst (λ (t : Table). EachOffersAs (SomeStands stands shape.first.value.items) (ledger_of t)) table_is (stands-ledger (SomeStands stands shape.first.value.items) kept.world.table (kept.housed some_first).rows)

@@ -1,0 +1,328 @@
+-- What stands for the threads lies at home, and comes out and goes home, as the rule says.
+use Rattle.std.proofs.Common.{slice_set, ◌⊎◌, ◌≡◌, ◌≢◌, ◌<◌, ◌≤◌, ◌%◌, ℕ, Bool, true, false, cond, ◌+◌, List, [], ◌∷◌, ◌++◌, length, Option, Some, sym, refl, ap, ◌∙◌, subst, inl, inr, ⊎_elim, arith}
+use Rattle.std.proofs.lemmas.Bool.{cases_Bool, cases_lt, true≢false, false≢true}
+use Rattle.std.proofs.Math.Nat.{eq-or-lt_of_le}
+use mathlib.Core.Option.{Option as Maybe, some, none}
+use lib.ListN.{get_elem?}
+use Rattle.atomic_table.proofs.Lists.{at_set, at_snoc, set_else, set_here}
+use Rattle.protocol_values.specs.declared.Cell.{Cell}
+use Rattle.protocol_values.specs.declared.Cell.TheVariants.{Fresh, Waiting, Claimed, Synched, Taken}
+use Rattle.protocol_values.specs.declared.Joined.{Joined}
+use Rattle.protocol_values.specs.declared.Row.{Row}
+use Rattle.protocol_values.specs.declared.Seat.{Seat}
+use Rattle.protocol_values.specs.declared.Step.{Step}
+use Rattle.protocol_values.specs.declared.Step.TheVariants.{Draft, Open, Look, Read, Claim, Yield, Join, Seal, Grant, Take, Bind}
+use Rattle.protocol.specs.Growing.{GrowsTo}
+use Rattle.protocol.specs.Kept.{Kept}
+use Rattle.protocol.specs.Ledgers.{ledger_of}
+use Rattle.protocol.specs.Standing.{OffersAs, OpenedAs, Result, SomeStands, Stands}
+use Rattle.protocol_values.specs.declared.Offer.{Offer}
+use Rattle.protocol.specs.Tables.{Table, cell_at, is_fresh, is_taken}
+use Rattle.protocol_values.specs.Values.{next_row}
+use Rattle.protocol.specs.Worlds.{Allowed, World, after_step, holder_at}
+use Rattle.protocol.proofs.Keeping.{taken_before}
+use Rattle.protocol.proofs.Onward.{grows-step, opens-step, taken-step}
+use Rattle.protocol.proofs.RowLemmas.{same_row}
+use Rattle.protocol.proofs.Standing.{offers-stay, stands-step}
+use Rattle.cell_table.specs.declared.view.View.{View}
+use Rattle.cell_table.specs.declared.view.Seen.{Seen}
+use Rattle.cell_table.specs.Sight.{Has, see_next}
+use Rattle.std.proofs.Math.Dec.{ltb}
+use Rattle.cell_table.specs.Rule.{Housed, IsHome, IsToBegin, Waits}
+
+-- a list has a first element or none
+pub some_or_none : {A : Type 0} (xs : List A) → (length xs ≡ 0) ⊎ (0 < length xs)
+some_or_none [] = inl refl
+some_or_none (x ∷ xs) = inr (omega arith)
+
+-- CELLS
+fresh_untaken : (c : Cell) → is_fresh c ≡ true → is_taken c ≡ false
+fresh_untaken Fresh e = refl
+fresh_untaken Waiting e = absurd (false≢true e)
+fresh_untaken Claimed e = absurd (false≢true e)
+fresh_untaken (Synched j) e = absurd (false≢true e)
+fresh_untaken (Taken j) e = absurd (false≢true e)
+
+-- of two numbers
+abbrev Ordered : ℕ → ℕ → Type 0
+Ordered m n = (m < n) ⊎ ((m ≡ n) ⊎ (n < m))
+
+ordered : (m n : ℕ) → Ordered m n
+ordered m n = ⊎_elim
+    (λ (below : m < n). inl below)
+    (λ (above : n ≤ m). inr (⊎_elim (λ (e : n ≡ m). inl (sym e)) (λ (h : n < m). inr h) (eq-or-lt_of_le above)))
+    (cases_lt m n)
+
+module _ (w : World) (k : Kept w) where
+  abbrev IsOpen : Row → Type 0
+  IsOpen r = is_fresh (cell_at w.table r) ≡ false
+
+  abbrev IsUntaken : Row → Type 0
+  IsUntaken r = is_taken (cell_at w.table r) ≡ false
+
+  -- a thread has one opened row at most that nobody has taken
+  one_open : (q r : Row) → q.thread ≡ r.thread → IsOpen q → IsUntaken q → IsOpen r → IsUntaken r → q ≡ r
+  one_open q r same open_q untaken_q open_r untaken_r = ⊎_elim
+      (λ (below : q.sync < r.sync). absurd (true≢false (sym (taken_before w k q r (sym same) below (inl open_r)) ∙ untaken_q)))
+      (λ (other : (q.sync ≡ r.sync) ⊎ (r.sync < q.sync)). ⊎_elim
+      (λ (e : q.sync ≡ r.sync). same_row q r same e)
+      (λ (above : r.sync < q.sync). absurd (true≢false (sym (taken_before w k r q same above (inl open_q)) ∙ untaken_r)))
+      other)
+      (ordered q.sync r.sync)
+
+  -- where the first row of a thread is Fresh, no row of the thread is opened
+  none_open : (first r : Row) → first.sync ≡ 0 → first.thread ≡ r.thread → is_fresh (cell_at w.table first) ≡ true → IsOpen r → ⊥
+  none_open first r zero same fresh open_r = ⊎_elim
+      (λ (below : first.sync < r.sync). true≢false (sym (taken_before w k first r (sym same) below (inl open_r)) ∙ fresh_untaken (cell_at w.table first) fresh))
+      (λ (other : (first.sync ≡ r.sync) ⊎ (r.sync < first.sync)). ⊎_elim
+      (λ (e : first.sync ≡ r.sync). true≢false (sym fresh ∙ ap (λ (x : Row). is_fresh (cell_at w.table x)) (same_row first r same e) ∙ open_r))
+      (λ (above : r.sync < first.sync). let z = zero in absurd (omega arith))
+      other)
+      (ordered first.sync r.sync)
+
+  -- and none but the first is held
+  none_held : (first r : Row) (seat : ℕ) → first.sync ≡ 0 → first.thread ≡ r.thread → is_fresh (cell_at w.table first) ≡ true → holder_at w r ≡ Some seat → first ≡ r
+  none_held first r seat zero same fresh held = ⊎_elim
+      (λ (below : first.sync < r.sync). absurd (true≢false (sym (taken_before w k first r (sym same) below (inr (seat, held))) ∙ fresh_untaken (cell_at w.table first) fresh)))
+      (λ (other : (first.sync ≡ r.sync) ⊎ (r.sync < first.sync)). ⊎_elim
+      (λ (e : first.sync ≡ r.sync). same_row first r same e)
+      (λ (above : r.sync < first.sync). let z = zero in absurd (omega arith))
+      other)
+      (ordered first.sync r.sync)
+
+  -- beside a held row that is Fresh its thread has no opened row that nobody has taken
+  all_taken : (q r : Row) (seat : ℕ) → q.thread ≡ r.thread → IsOpen q → IsUntaken q → is_fresh (cell_at w.table r) ≡ true → holder_at w r ≡ Some seat → ⊥
+  all_taken q r seat same open_q untaken_q fresh held = ⊎_elim
+      (λ (below : q.sync < r.sync). true≢false (sym (taken_before w k q r (sym same) below (inr (seat, held))) ∙ untaken_q))
+      (λ (other : (q.sync ≡ r.sync) ⊎ (r.sync < q.sync)). ⊎_elim
+      (λ (e : q.sync ≡ r.sync). true≢false (sym fresh ∙ ap (λ (x : Row). is_fresh (cell_at w.table x)) (sym (same_row q r same e)) ∙ open_q))
+      (λ (above : r.sync < q.sync). true≢false (sym (taken_before w k r q same above (inl open_q)) ∙ fresh_untaken (cell_at w.table r) fresh))
+      other)
+      (ordered q.sync r.sync)
+
+  module _ (seat : Seat) (step : Step) (allowed : Allowed w seat step) where
+    -- what is not taken after a step was not before
+    untaken_before : (r : Row) → is_taken (cell_at (after_step w seat step).table r) ≡ false → IsUntaken r
+    untaken_before r h = ⊎_elim
+        (λ (e : is_taken (cell_at w.table r) ≡ true). absurd (true≢false (sym (taken-step w seat step k allowed r e) ∙ h)))
+        (λ (e : is_taken (cell_at w.table r) ≡ false). e)
+        (cases_Bool (is_taken (cell_at w.table r)))
+
+    -- what is Fresh stays so, but for the row that the step opens
+    fresh_after : (r : Row) → is_fresh (cell_at w.table r) ≡ true → (step ≡ Open r → ⊥) → is_fresh (cell_at (after_step w seat step).table r) ≡ true
+    fresh_after r fresh opens_other = ⊎_elim
+        (λ (e : is_fresh (cell_at (after_step w seat step).table r) ≡ true). e)
+        (λ (e : is_fresh (cell_at (after_step w seat step).table r) ≡ false). absurd (⊎_elim
+        (λ (old : IsOpen r). true≢false (sym fresh ∙ old))
+        (λ (new : step ≡ Open r). opens_other new)
+        (opens-step w seat step k allowed r e)))
+        (cases_Bool (is_fresh (cell_at (after_step w seat step).table r)))
+
+-- a step that opens no row asks for nothing of what is opened
+opened_none : (stands : ℕ → List Result → List Offer → List ℕ → Type 0) (t : Table) (step : Step) → ((r : Row) → step ≡ Open r → ⊥) → OpenedAs stands t step
+opened_none stands t (Draft r p v) never = tt
+opened_none stands t (Open r) never = absurd (never r refl)
+opened_none stands t (Look r) never = tt
+opened_none stands t (Read r p) never = tt
+opened_none stands t (Claim r) never = tt
+opened_none stands t (Yield r) never = tt
+opened_none stands t (Join r n q m) never = tt
+opened_none stands t (Seal r) never = tt
+opened_none stands t (Grant r n) never = tt
+opened_none stands t (Take r) never = tt
+opened_none stands t (Bind n r scope) never = tt
+
+-- A ROW IS TAKEN: its pass is to begin with no other row than before, since a thread's next row is not its first
+held_case : (b : Bool) (t s : Seen) (x q : Row) → t.held ≡ x ∷ s.held → (x ≡ q → ⊥) → Has (cond b t s).held q → Has s.held q
+held_case true t s x q e apart h = ⊎_elim (λ (same : x ≡ q). absurd (apart same)) (λ (old : Has s.held q). old) (subst (λ (l : List Row). Has l q) e h)
+held_case false t s x q e apart h = h
+
+begun_case : (b : Bool) (t s : Seen) → t.begun ≡ s.begun → (cond b t s).begun ≡ s.begun
+begun_case true t s e = e
+begun_case false t s e = refl
+
+pub took_begins : {M : Type 0} (rows : ℕ) (r : Row) (s : Seen) (v : View M) (q : Row)
+    → (q.sync ≡ 0) × (Has (see_next rows r s).held q ⊎ ((q.thread < v.threads) × (v.dealt ≤ q.thread % v.passes))) × (¬ Has (see_next rows r s).begun q)
+    → (q.sync ≡ 0) × (Has s.held q ⊎ ((q.thread < v.threads) × (v.dealt ≤ q.thread % v.passes))) × (¬ Has s.begun q)
+took_begins rows r s v q b =
+    let more : Seen = record s { held = next_row r ∷ s.held; drafts = (next_row r, 1, 0) ∷ s.drafts } in (
+      b.0,
+      ⊎_elim
+          (λ (h : Has (see_next rows r s).held q). inl (held_case (ltb (r.sync + 1) rows) more s (next_row r) q refl (λ e. let z = b.0 in let y : r.sync + 1 ≡ q.sync = ap (λ (x : Row). x.sync) e in absurd (omega arith)) h))
+          (λ (d : (q.thread < v.threads) × (v.dealt ≤ q.thread % v.passes)). inr d)
+          b.1,
+      λ h. b.2 (subst (λ (l : List Row). Has l q) (sym (begun_case (ltb (r.sync + 1) rows) more s refl)) h),
+    )
+
+module _ {M : Type 0} (stands : Stands M) (first : List M) where
+  -- A pass knows more, or other slots are out, or the world went on: what a pass is to begin with waits as it did
+  waits_on : (w u : World) (homes homes' : List (Maybe (Option M))) (r : Row) → Waits first w homes r → is_fresh (cell_at u.table r) ≡ true → get_elem? homes' r.thread ≡ get_elem? homes r.thread → Waits first u homes' r
+  waits_on w u homes homes' r h fresh same = record { fresh = fresh; value = h.value; is_first = h.is_first; home = same ∙ h.home }
+
+  home_on : (w : World) (u : Table) (homes homes' : List (Maybe (Option M))) (r : Row) → Kept w → GrowsTo w.table u → is_fresh (cell_at w.table r) ≡ false → IsHome stands first (ledger_of w.table) homes r → get_elem? homes' r.thread ≡ get_elem? homes r.thread → IsHome stands first (ledger_of u) homes' r
+  home_on w u homes homes' r k grows open_r h same = record { value = h.value; home = same ∙ h.home; offers = offers-stay (stands first h.value) w u r k grows open_r h.offers }
+
+  pub housed_view : (w : World) (homes : List (Maybe (Option M))) (vs : List (View M)) (id : ℕ) (v u : View M) → get_elem? vs id ≡ some v → 0 < v.threads → ((r : Row) → IsToBegin u r → IsToBegin v r) → Housed stands first w homes vs → Housed stands first w homes (slice_set vs id u)
+  housed_view w homes vs id v u view at_table begins h = record {
+    rows = h.rows;
+    at_home = h.at_home;
+    waiting = λ j x r e t b. ⊎_elim
+        (λ (a : (j ≡ id) × (u ≡ x)). h.waiting id v r view at_table (begins r (subst (λ (z : View M). IsToBegin z r) (sym a.1) b)))
+        (λ (a : (j ≢ id) × (get_elem? vs j ≡ some x)). h.waiting j x r a.1 t b)
+        (at_set vs id j u x e);
+  }
+
+  -- a pass more, which is to begin with nothing
+  pub housed_more : (w : World) (homes : List (Maybe (Option M))) (vs : List (View M)) (u : View M) → Housed stands first w homes vs → ((r : Row) → IsToBegin u r → Waits first w homes r) → Housed stands first w homes (vs ++ u ∷ [])
+  housed_more w homes vs u h no_more = record {
+    rows = h.rows;
+    at_home = h.at_home;
+    waiting = λ j x r e t b. ⊎_elim
+        (λ (old : get_elem? vs j ≡ some x). h.waiting j x r old t b)
+        (λ (new : u ≡ x). no_more r (subst (λ (z : View M). IsToBegin z r) (sym new) b))
+        (at_snoc vs u x j e);
+  }
+
+  -- a pass that is of no table any more
+  pub housed_spent : (w : World) (homes : List (Maybe (Option M))) (vs : List (View M)) (id : ℕ) (u : View M) → u.threads ≡ 0 → Housed stands first w homes vs → Housed stands first w homes (slice_set vs id u)
+  housed_spent w homes vs id u gone h = record {
+    rows = h.rows;
+    at_home = h.at_home;
+    waiting = λ j x r e t b. ⊎_elim
+        (λ (a : (j ≡ id) × (u ≡ x)). let z : x.threads ≡ 0 = ap (λ (y : View M). y.threads) (sym a.1) ∙ gone in absurd (omega arith))
+        (λ (a : (j ≢ id) × (get_elem? vs j ≡ some x)). h.waiting j x r a.1 t b)
+        (at_set vs id j u x e);
+  }
+
+  -- a step that opens no row
+  pub housed_step : (w : World) (seat : Seat) (step : Step) (homes : List (Maybe (Option M))) (vs : List (View M)) (id : ℕ) (v u : View M) → Kept w → Allowed w seat step → ((r : Row) → step ≡ Open r → ⊥) → get_elem? vs id ≡ some v → 0 < v.threads → ((r : Row) → IsToBegin u r → IsToBegin v r)
+      → Housed stands first w homes vs → Housed stands first (after_step w seat step) homes (slice_set vs id u)
+  housed_step w seat step homes vs id v u k allowed never view at_table begins h =
+      let one = housed_view w homes vs id v u view at_table begins h in
+      record {
+        rows = stands-step (SomeStands stands first) w seat step k allowed h.rows (opened_none (SomeStands stands first) (after_step w seat step).table step never);
+        at_home = λ r open_r untaken.
+            let was : is_fresh (cell_at w.table r) ≡ false = ⊎_elim (λ (old : is_fresh (cell_at w.table r) ≡ false). old) (λ (e : step ≡ Open r). absurd (never r e)) (opens-step w seat step k allowed r open_r) in
+            home_on w (after_step w seat step).table homes homes r k (grows-step w seat step k allowed) was (h.at_home r was (untaken_before w k seat step allowed r untaken)) refl;
+        waiting = λ j x r e t b.
+            let waits = one.waiting j x r e t b in
+            waits_on w (after_step w seat step) homes homes r waits (fresh_after w k seat step allowed r waits.fresh (never r)) refl;
+      }
+
+  -- A ROW IS TAKEN: what stood for its thread comes out
+  module _ (w : World) (seat : Seat) (r : Row) (j : Joined) (homes : List (Maybe (Option M))) (vs : List (View M)) (id : ℕ) (v u : View M) (k : Kept w) (allowed : Allowed w seat (Take r))
+      (is : cell_at w.table r ≡ Synched j) (after_is : is_taken (cell_at (after_step w seat (Take r)).table r) ≡ true) (view : get_elem? vs id ≡ some v) (at_table : 0 < v.threads) (begins : (q : Row) → IsToBegin u q → IsToBegin v q) (h : Housed stands first w homes vs) where
+    open_r : is_fresh (cell_at w.table r) ≡ false
+    open_r = ap is_fresh is
+
+    untaken_r : is_taken (cell_at w.table r) ≡ false
+    untaken_r = ap is_taken is
+
+    pub value_out : IsHome stands first (ledger_of w.table) homes r
+    value_out = h.at_home r open_r untaken_r
+
+    none_opens : (q : Row) → Take r ≡ Open q → ⊥
+    none_opens q e = let bad : Take r ≡ Open q = e in cc
+
+    pub housed_take : Housed stands first (after_step w seat (Take r)) (slice_set homes r.thread none) (slice_set vs id u)
+    housed_take =
+        let before = housed_step w seat (Take r) homes vs id v u k allowed none_opens view at_table begins h in
+        record {
+          rows = before.rows;
+          at_home = λ q open_q untaken_q.
+              let was : is_fresh (cell_at w.table q) ≡ false = ⊎_elim (λ (old : is_fresh (cell_at w.table q) ≡ false). old) (λ (e : Take r ≡ Open q). absurd (none_opens q e)) (opens-step w seat (Take r) k allowed q open_q) in
+              let untaken = untaken_before w k seat (Take r) allowed q untaken_q in
+              let apart : q.thread ≢ r.thread = λ same. let e = one_open w k q r same was untaken open_r untaken_r in true≢false (sym after_is ∙ ap (λ (x : Row). is_taken (cell_at (after_step w seat (Take r)).table x)) (sym e) ∙ untaken_q) in
+              home_on w (after_step w seat (Take r)).table homes (slice_set homes r.thread none) q k (grows-step w seat (Take r) k allowed) was (h.at_home q was untaken) (set_else homes r.thread q.thread none apart);
+          waiting = λ i x q e t b.
+              let waits = before.waiting i x q e t b in
+              let one = housed_view w homes vs id v u view at_table begins h in
+              let was = one.waiting i x q e t b in
+              let apart : q.thread ≢ r.thread = λ same. none_open w k q r b.0 same was.fresh open_r in
+              waits_on (after_step w seat (Take r)) (after_step w seat (Take r)) homes (slice_set homes r.thread none) q waits waits.fresh (set_else homes r.thread q.thread none apart);
+        }
+
+  -- A PASS BEGINS with a thread: what stood for it at first comes out
+  module _ (w : World) (r : Row) (homes : List (Maybe (Option M))) (vs : List (View M)) (id : ℕ) (v u : View M) (k : Kept w)
+      (to_begin : IsToBegin v r) (others : (j : ℕ) (x : View M) → j ≢ id → get_elem? vs j ≡ some x → 0 < x.threads → IsToBegin x r → ⊥) (view : get_elem? vs id ≡ some v) (at_table : 0 < v.threads)
+      (begins : (q : Row) → IsToBegin u q → IsToBegin v q × (q ≢ r)) (h : Housed stands first w homes vs) where
+    pub first_out : Waits first w homes r
+    first_out = h.waiting id v r view at_table to_begin
+
+    pub housed_begin : Housed stands first w (slice_set homes r.thread none) (slice_set vs id u)
+    housed_begin = record {
+      rows = h.rows;
+      at_home = λ q open_q untaken_q.
+          let apart : q.thread ≢ r.thread = λ same. none_open w k r q to_begin.0 (sym same) first_out.fresh open_q in
+          let home = h.at_home q open_q untaken_q in
+          record { value = home.value; home = set_else homes r.thread q.thread none apart ∙ home.home; offers = home.offers };
+      waiting = λ j x q e t b. ⊎_elim
+          (λ (a : (j ≡ id) × (u ≡ x)).
+          let both = begins q (subst (λ (z : View M). IsToBegin z q) (sym a.1) b) in
+          still q b.0 (λ same. both.1 same) (h.waiting id v q view at_table both.0))
+          (λ (a : (j ≢ id) × (get_elem? vs j ≡ some x)). still q b.0 (λ same. others j x a.0 a.1 t (subst (IsToBegin x) same b)) (h.waiting j x q a.1 t b))
+          (at_set vs id j u x e);
+    }
+      where
+        still : (q : Row) → q.sync ≡ 0 → q ≢ r → Waits first w homes q → Waits first w (slice_set homes r.thread none) q
+        still q zero apart waits = waits_on w w homes (slice_set homes r.thread none) q waits waits.fresh
+            (set_else homes r.thread q.thread none (λ same. apart (same_row q r same (zero ∙ sym to_begin.0))))
+
+  -- A ROW IS OPENED: what stands for its thread goes home
+  module _ (w : World) (seat : Seat) (r : Row) (value : M) (homes : List (Maybe (Option M))) (vs : List (View M)) (id : ℕ) (v u : View M) (k : Kept w) (allowed : Allowed w seat (Open r))
+      (room : r.thread < length homes) (fresh_r : is_fresh (cell_at w.table r) ≡ true) (held_r : holder_at w r ≡ Some seat.0)
+      (offers : OffersAs (stands first value) (ledger_of (after_step w seat (Open r)).table) r)
+      (others : (j : ℕ) (x : View M) → j ≢ id → get_elem? vs j ≡ some x → 0 < x.threads → IsToBegin x r → ⊥) (mine : IsToBegin u r → ⊥)
+      (view : get_elem? vs id ≡ some v) (at_table : 0 < v.threads) (begins : (q : Row) → IsToBegin u q → IsToBegin v q) (h : Housed stands first w homes vs) where
+    abbrev opened_world : World
+    opened_world = after_step w seat (Open r)
+
+    abbrev filled : List (Maybe (Option M))
+    filled = slice_set homes r.thread (some (Some value))
+
+    one_opens : (q : Row) → Open r ≡ Open q → r ≡ q
+    one_opens q e = ap (λ (s : Step). row_in s) e
+      where
+        row_in : Step → Row
+        row_in (Draft x p n) = r
+        row_in (Open x) = x
+        row_in (Look x) = r
+        row_in (Read x p) = r
+        row_in (Claim x) = r
+        row_in (Yield x) = r
+        row_in (Join x n y m) = r
+        row_in (Seal x) = r
+        row_in (Grant x n) = r
+        row_in (Take x) = r
+        row_in (Bind n x scope) = r
+
+    pub housed_open : Housed stands first opened_world filled (slice_set vs id u)
+    housed_open = record {
+      rows = stands-step (SomeStands stands first) w seat (Open r) k allowed h.rows (record {
+        results = offers.results;
+        count = offers.count;
+        are = offers.are;
+        offers = offers.offers;
+        nacks = offers.nacks;
+        standing = (value, offers.standing);
+        offered = offers.offered;
+        bound = offers.bound;
+        no_others = offers.no_others;
+      });
+      at_home = λ q open_q untaken_q. ⊎_elim
+          (λ (was : is_fresh (cell_at w.table q) ≡ false).
+          let untaken = untaken_before w k seat (Open r) allowed q untaken_q in
+          let apart : q.thread ≢ r.thread = λ same. all_taken w k q r seat.0 same was untaken fresh_r held_r in
+          home_on w opened_world.table homes filled q k (grows-step w seat (Open r) k allowed) was (h.at_home q was untaken) (set_else homes r.thread q.thread (some (Some value)) apart))
+          (λ (e : Open r ≡ Open q). subst (IsHome stands first (ledger_of opened_world.table) filled) (one_opens q e) (record { value = value; home = set_here homes r.thread (some (Some value)) room; offers = offers }))
+          (opens-step w seat (Open r) k allowed q open_q);
+      waiting = λ j x q e t b.
+          let one = housed_view w homes vs id v u view at_table begins h in
+          let was = one.waiting j x q e t b in
+          let other : q ≢ r = λ same. ⊎_elim
+          (λ (a : (j ≡ id) × (u ≡ x)). mine (subst (λ (z : View M). IsToBegin z r) (sym a.1) (subst (IsToBegin x) same b)))
+          (λ (a : (j ≢ id) × (get_elem? vs j ≡ some x)). others j x a.0 a.1 t (subst (IsToBegin x) same b))
+          (at_set vs id j u x e) in
+          let apart : q.thread ≢ r.thread = λ same. other (none_held w k q r seat.0 b.0 same was.fresh held_r) in
+          waits_on w opened_world homes filled q was (fresh_after w k seat (Open r) allowed q was.fresh (λ o. other (sym (one_opens q o)))) (set_else homes r.thread q.thread (some (Some value)) apart);
+    }

@@ -1,0 +1,16 @@
+pub mod Truths
+pub mod Offers
+pub mod Results
+pub mod Others
+pub mod Housing
+pub mod Turning
+pub mod Once
+pub mod Standing
+pub mod Allowing
+pub mod Binding
+pub mod Dealing
+pub mod Directions
+pub mod Hearing
+pub mod Endings
+pub mod Following
+pub mod Exchanging

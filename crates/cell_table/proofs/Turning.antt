@@ -1,0 +1,185 @@
+-- The rule of the table is kept by a call that learns, and by a step of the protocol.
+use Rattle.std.proofs.Common.{slice_set, Option, ◌⊎◌, ◌≡◌, ◌≢◌, ◌<◌, ◌≤◌, ℕ, zero, suc, Bool, cond, List, [], ◌∷◌, length, sym, refl, ap, ◌∙◌, subst, ⊎_elim, arith}
+use Rattle.std.proofs.lemmas.Bool.{eq-eqb, ne_eqb}
+use Rattle.std.proofs.lemmas.List.{length-set}
+use mathlib.Core.Option.{Option as Maybe, some}
+use lib.ListN.{get_elem?}
+use Rattle.atomic_table.specs.Table.{State}
+use Rattle.atomic_table.proofs.Lists.{at_set}
+use Rattle.protocol_values.specs.declared.Seat.{Seat}
+use Rattle.protocol_values.specs.declared.Step.{Step}
+use Rattle.protocol_values.specs.declared.Step.TheVariants.{Open}
+use Rattle.protocol_values.specs.declared.Row.{Row}
+use Rattle.protocol.specs.Ledgers.{Ledger, ledger_of}
+use Rattle.protocol.specs.Standing.{AreResults, Result, Stands}
+use Rattle.protocol.specs.Worlds.{World, start_world, Allowed, after_step}
+use Rattle.protocol.proofs.Onward.{grows-step}
+use Rattle.protocol.proofs.Standing.{results-stay}
+use Rattle.protocol.proofs.Playing.{plays_more}
+use Rattle.cell_table.specs.declared.view.View.{View}
+use Rattle.cell_table.specs.declared.view.Shape.{Shape}
+use Rattle.cell_table.specs.Sight.{Coherent, Has}
+use Rattle.cell_table.specs.Views.{Knows, did}
+use Rattle.cell_table.proofs.Truths.{coherent}
+use Rattle.protocol.specs.Kept.{Kept}
+use Rattle.protocol.proofs.Keeping.{kept_schedule}
+use Rattle.protocol.proofs.LedgerLemmas.{kept_start}
+use Rattle.cell_table.specs.Rule.{Housed, Interleaves, IsToBegin, Keeps, Move, at_seat, in_order, steps_by}
+use Rattle.cell_table.proofs.Housing.{housed_step, housed_view}
+
+module _ {M : Type 0} where
+  -- what all views say of a world, one of them being new
+  views_with : (vs : List (View M)) (id : ℕ) (w : View M) (world : World) (owner : Row → ℕ)
+      → ((j : ℕ) (u : View M) → j ≢ id → get_elem? vs j ≡ some u → 0 < u.threads → Knows world owner j u)
+      → Knows world owner id w
+      → (j : ℕ) (u : View M) → get_elem? (slice_set vs id w) j ≡ some u → 0 < u.threads → Knows world owner j u
+  views_with vs id w world owner others mine j u e at_table = ⊎_elim
+      (λ (h : (j ≡ id) × (w ≡ u)). subst (λ (z : ℕ × (View M)). Knows world owner z.0 z.1) (λ i. (sym h.0 i, h.1 i)) mine)
+      (λ (h : (j ≢ id) × (get_elem? vs j ≡ some u)). others j u h.0 h.1 at_table)
+      (at_set vs id j w u e)
+
+  -- what all views have of results, one of them being new
+  pub results_with : (vs : List (View M)) (id : ℕ) (w : View M) (l : Ledger)
+      → ((j : ℕ) (u : View M) (t : ℕ) (rs : List Result) → j ≢ id → get_elem? vs j ≡ some u → Has u.results (t, rs) → AreResults l t rs)
+      → ((t : ℕ) (rs : List Result) → Has w.results (t, rs) → AreResults l t rs)
+      → (j : ℕ) (u : View M) (t : ℕ) (rs : List Result) → get_elem? (slice_set vs id w) j ≡ some u → Has u.results (t, rs) → AreResults l t rs
+  results_with vs id w l others mine j u t rs e h = ⊎_elim
+      (λ (a : (j ≡ id) × (w ≡ u)). mine t rs (subst (λ (z : View M). Has z.results (t, rs)) (sym a.1) h))
+      (λ (a : (j ≢ id) × (get_elem? vs j ≡ some u)). others j u t rs a.0 a.1 h)
+      (at_set vs id j w u e)
+
+  -- THE HISTORY AND THE PASSES' STEPS
+  -- a pass that is among the views has a number below theirs
+  pub below_views : (vs : List (View M)) (id : ℕ) (v : View M) → get_elem? vs id ≡ some v → id < length vs
+  below_views [] id v e = absurd (mathlib.Core.Option.some-ne-none v (sym e))
+  below_views (u ∷ vs) zero v e = omega arith
+  below_views (u ∷ vs) (suc id) v e = let h = below_views vs id v e in omega arith
+
+  -- one pass has seen more, and made what it had made
+  pub same_made : (moves : List Move) (vs : List (View M)) (id : ℕ) (v w : View M) → get_elem? vs id ≡ some v → Interleaves moves vs → at_seat v.seat v.made ≡ at_seat w.seat w.made → Interleaves moves (slice_set vs id w)
+  same_made moves vs id v w view before same = record {
+    made = λ j u e. ⊎_elim
+        (λ (h : (j ≡ id) × (w ≡ u)). ap (λ (n : ℕ). steps_by n moves) h.0 ∙ before.made id v view ∙ same ∙ ap (λ (z : View M). at_seat z.seat z.made) h.1)
+        (λ (h : (j ≢ id) × (get_elem? vs j ≡ some u)). before.made j u h.1)
+        (at_set vs id j w u e);
+    no_others = λ j h. before.no_others j (subst (λ (n : ℕ). n ≤ j) (length-set vs id w) h);
+  }
+
+  -- it has made one step more
+  pub one_more : (moves : List Move) (vs : List (View M)) (id : ℕ) (v w : View M) (step : Step) → get_elem? vs id ≡ some v → Interleaves moves vs → w.seat ≡ v.seat → w.made ≡ v.made
+      → Interleaves (record { pass = id; seat = record { 0 = v.seat }; step = step } ∷ moves) (slice_set vs id (did step w))
+  one_more moves vs id v w step view before seat made = record {
+    made = λ j u e. ⊎_elim
+        (λ (h : (j ≡ id) × (did step w ≡ u)).
+        ap (λ (b : Bool). cond b ((record { 0 = v.seat }, step) ∷ steps_by j moves) (steps_by j moves)) (eq-eqb id j (sym h.0))
+        ∙ ap (λ (l : List (Seat × Step)). (record { 0 = v.seat }, step) ∷ l) (ap (λ (n : ℕ). steps_by n moves) h.0 ∙ before.made id v view)
+        ∙ (λ i. at_seat (sym seat i) (step ∷ sym made i)) ∙ ap (λ (z : View M). at_seat z.seat z.made) h.1)
+        (λ (h : (j ≢ id) × (get_elem? vs j ≡ some u)).
+        ap (λ (b : Bool). cond b ((record { 0 = v.seat }, step) ∷ steps_by j moves) (steps_by j moves)) (ne_eqb id j (λ f. h.0 (sym f))) ∙ before.made j u h.1)
+        (at_set vs id j (did step w) u e);
+    no_others = λ j h.
+        let size = length-set vs id (did step w) in
+        let low = below_views vs id v view in
+        let above : length vs ≤ j = subst (λ (n : ℕ). n ≤ j) size h in
+        ap (λ (b : Bool). cond b ((record { 0 = v.seat }, step) ∷ steps_by j moves) (steps_by j moves)) (ne_eqb id j (λ f. let g : id ≡ j = f in omega arith)) ∙ before.no_others j above;
+  }
+
+  -- what all views have at first, one of them being new
+  pub firsts_with : (vs : List (View M)) (id : ℕ) (v w : View M) (first : List M) → get_elem? vs id ≡ some v → w.first ≡ v.first → 0 < v.threads
+      → ((j : ℕ) (u : View M) → get_elem? vs j ≡ some u → 0 < u.threads → u.first ≡ first)
+      → (j : ℕ) (u : View M) → get_elem? (slice_set vs id w) j ≡ some u → 0 < u.threads → u.first ≡ first
+  firsts_with vs id v w first view same at_table all j u e t = ⊎_elim
+      (λ (a : (j ≡ id) × (w ≡ u)). ap (λ (z : View M). z.first) (sym a.1) ∙ same ∙ all id v view at_table)
+      (λ (a : (j ≢ id) × (get_elem? vs j ≡ some u)). all j u a.1 t)
+      (at_set vs id j w u e)
+
+module _ {M : Type 0} (stands : Stands M) where
+  -- the world of the rule is one that all steps keep
+  pub world_kept : (shape : Shape M) (s : State (Option M) (View M)) (k : Keeps stands shape s) → Kept k.world
+  world_kept shape s k = kept_schedule _ k.world (in_order k.moves) (kept_start shape.threads shape.rows shape.passes k.few_threads k.few_rows) k.played
+
+  -- the table stays, and one pass knows more; what the slots hold then is given
+  pub keeps_seen : (shape : Shape M) (s : State (Option M) (View M)) (k : Keeps stands shape s) (id : ℕ) (v w : View M) (ws : List ℕ) (hs : List (Maybe (Option M))) → get_elem? s.views id ≡ some v → 0 < v.threads → w.seat ≡ v.seat → w.made ≡ v.made → w.results ≡ v.results → w.first ≡ v.first
+      → ws ≡ s.words → Knows k.world k.owner id w
+      → (0 < length shape.first.value.items → Housed stands shape.first.value.items k.world hs (slice_set s.views id w))
+      → Keeps stands shape (record { words = ws; homes = hs; views = slice_set s.views id w })
+  keeps_seen shape s k id v w ws hs view at_table seat made seen first same knows house = record {
+    few_threads = k.few_threads;
+    few_rows = k.few_rows;
+    moves = k.moves;
+    interleaved = same_made k.moves s.views id v w view k.interleaved (λ i. at_seat (sym seat i) (sym made i));
+    world = k.world;
+    played = k.played;
+    table = k.table ∙ ap (λ (z : List ℕ). record { threads = shape.threads; rows = shape.rows; words = z }) (sym same);
+    owner = k.owner;
+    knows = views_with s.views id w k.world k.owner (λ j u n e t. k.knows j u e t) knows;
+    firsts = firsts_with s.views id v w shape.first.value.items view first at_table k.firsts;
+    housed = house;
+    results = results_with s.views id w (ledger_of k.world.table) (λ j u t rs n e h. k.results j u t rs e h) (λ t rs h. k.results id v t rs view (subst (λ (l : List (ℕ × List Result)). Has l (t, rs)) seen h));
+  }
+
+  -- where the slots are as they were
+  pub keeps_view : (shape : Shape M) (s : State (Option M) (View M)) (k : Keeps stands shape s) (id : ℕ) (v w : View M) (ws : List ℕ) → get_elem? s.views id ≡ some v → 0 < v.threads → w.seat ≡ v.seat → w.made ≡ v.made → w.results ≡ v.results → w.first ≡ v.first
+      → ((r : Row) → IsToBegin w r → IsToBegin v r) → ws ≡ s.words → Knows k.world k.owner id w → Keeps stands shape (record { words = ws; homes = s.homes; views = slice_set s.views id w })
+  keeps_view shape s k id v w ws view at_table seat made seen first begins same knows =
+      keeps_seen shape s k id v w ws s.homes view at_table seat made seen first same knows
+      (λ some_first. housed_view stands shape.first.value.items k.world s.homes s.views id v w view at_table begins (k.housed some_first))
+
+  -- the protocol's step is made by the pass at its seat, and it knows more; what the slots hold then is given
+  pub keeps_housed : (shape : Shape M) (s : State (Option M) (View M)) (k : Keeps stands shape s) (id : ℕ) (v w : View M) (ws : List ℕ) (hs : List (Maybe (Option M))) (owner : Row → ℕ) → get_elem? s.views id ≡ some v → 0 < v.threads → w.seat ≡ v.seat → w.made ≡ v.made → w.first ≡ v.first
+      → (step : Step) → Allowed k.world (record { 0 = v.seat }) step
+      → ((t : ℕ) (rs : List Result) → Has w.results (t, rs) → Has v.results (t, rs) ⊎ AreResults (ledger_of (after_step k.world (record { 0 = v.seat }) step).table) t rs)
+      → (after_step k.world (record { 0 = v.seat }) step).table ≡ record { threads = shape.threads; rows = shape.rows; words = ws }
+      → ((j : ℕ) (u : View M) → j ≢ id → get_elem? s.views j ≡ some u → 0 < u.threads → Knows (after_step k.world (record { 0 = v.seat }) step) owner j u)
+      → Knows (after_step k.world (record { 0 = v.seat }) step) owner id w
+      → (0 < length shape.first.value.items → Housed stands shape.first.value.items (after_step k.world (record { 0 = v.seat }) step) hs (slice_set s.views id (did step w)))
+      → Keeps stands shape (record { words = ws; homes = hs; views = slice_set s.views id (did step w) })
+  keeps_housed shape s k id v w ws hs owner view at_table seat made first step allowed seen same others knows house =
+      let at : Seat = record { 0 = v.seat } in
+      let kept = world_kept shape s k in
+      let grows = grows-step k.world at step kept allowed in
+      let stays : (j t : ℕ) (u : View M) (rs : List Result) → get_elem? s.views j ≡ some u → Has u.results (t, rs) → AreResults (ledger_of (after_step k.world at step).table) t rs =
+      λ j t u rs e h. results-stay k.world (after_step k.world at step).table t rs kept grows (k.results j u t rs e h) in
+      record {
+        few_threads = k.few_threads;
+        few_rows = k.few_rows;
+        moves = record { pass = id; seat = at; step = step } ∷ k.moves;
+        interleaved = one_more k.moves s.views id v w step view k.interleaved seat made;
+        world = after_step k.world at step;
+        played = plays_more (start_world shape.threads shape.rows shape.passes) k.world (in_order k.moves) (at, step) k.played allowed;
+        table = same;
+        owner = owner;
+        knows = views_with s.views id (did step w) (after_step k.world at step) owner others knows;
+        firsts = firsts_with s.views id v (did step w) shape.first.value.items view first at_table k.firsts;
+        housed = house;
+        results = results_with s.views id (did step w) (ledger_of (after_step k.world at step).table) (λ j u t rs n e h. stays j t u rs e h)
+            (λ t rs h. ⊎_elim (λ (old : Has v.results (t, rs)). stays id t v rs view old) (λ (new : AreResults (ledger_of (after_step k.world at step).table) t rs). new) (seen t rs h));
+      }
+
+  -- where the step opens no row, and leaves the slots as they are
+  pub keeps_step : (shape : Shape M) (s : State (Option M) (View M)) (k : Keeps stands shape s) (id : ℕ) (v w : View M) (ws : List ℕ) (owner : Row → ℕ) → get_elem? s.views id ≡ some v → 0 < v.threads → w.seat ≡ v.seat → w.made ≡ v.made → w.first ≡ v.first
+      → ((r : Row) → IsToBegin w r → IsToBegin v r)
+      → (step : Step) → ((r : Row) → step ≡ Open r → ⊥) → Allowed k.world (record { 0 = v.seat }) step
+      → ((t : ℕ) (rs : List Result) → Has w.results (t, rs) → Has v.results (t, rs) ⊎ AreResults (ledger_of (after_step k.world (record { 0 = v.seat }) step).table) t rs)
+      → (after_step k.world (record { 0 = v.seat }) step).table ≡ record { threads = shape.threads; rows = shape.rows; words = ws }
+      → ((j : ℕ) (u : View M) → j ≢ id → get_elem? s.views j ≡ some u → 0 < u.threads → Knows (after_step k.world (record { 0 = v.seat }) step) owner j u)
+      → Knows (after_step k.world (record { 0 = v.seat }) step) owner id w
+      → Keeps stands shape (record { words = ws; homes = s.homes; views = slice_set s.views id (did step w) })
+  keeps_step shape s k id v w ws owner view at_table seat made first begins step opens_none allowed seen same others knows =
+      keeps_housed shape s k id v w ws s.homes owner view at_table seat made first step allowed seen same others knows
+      (λ some_first. housed_step stands shape.first.value.items k.world (record { 0 = v.seat }) step s.homes s.views id v (did step w) (world_kept shape s k) allowed opens_none view at_table begins (k.housed some_first))
+
+  -- WHAT A PASS HAS SEEN agrees with itself, at any moment
+  pub pass_coherent : (shape : Shape M) (s : State (Option M) (View M)) (k : Keeps stands shape s) (id : ℕ) (v : View M) → get_elem? s.views id ≡ some v → 0 < v.threads → Coherent v.threads v.rows v.seen
+  pass_coherent shape s k id v view at_table = coherent k.world k.owner id v (k.knows id v view at_table) (world_kept shape s k)
+
+  -- and so does what the pass that moved has seen since
+  pub moved_coherent : (shape : Shape M) (vs : List (View M)) (ws : List ℕ) (hs : List (Maybe (Option M))) (id : ℕ) (v w : View M) → get_elem? vs id ≡ some v → w.threads ≡ v.threads → 0 < v.threads
+      → Keeps stands shape (record { words = ws; homes = hs; views = slice_set vs id w }) → Coherent w.threads w.rows w.seen
+  moved_coherent shape vs ws hs id v w view size at_table k =
+      pass_coherent shape (record { words = ws; homes = hs; views = slice_set vs id w }) k id w (get_set vs id w (below_views vs id v view)) (subst (λ (n : ℕ). 0 < n) (sym size) at_table)
+    where
+      get_set : (us : List (View M)) (j : ℕ) (u : View M) → j < length us → get_elem? (slice_set us j u) j ≡ some u
+      get_set [] j u h = absurd (omega arith)
+      get_set (x ∷ us) zero u h = refl
+      get_set (x ∷ us) (suc j) u h = get_set us j u (omega arith)

@@ -1,0 +1,80 @@
+use Rattle.std.proofs.Common.{rules, ◌≡◌, ◌<◌, length, None, Some, slice_get, sym, subst, ap, arith}
+use Rattle.protocol.specs.Ledgers.{IsLawful, Ledger, ledger_of, binding_in, joined_in, offer_in}
+use Rattle.protocol.specs.Standing.{AreResults, EachOffersAs, SomeStands}
+use Rattle.cell_table.proofs.Endings.{ended, final_bound, final_lawful, final_joined, final_lack, final_offer, final_own, final_results, final_stand}
+use Rattle.cell_table.proofs.board.Board.close.Goals as goal
+
+pub of_words-requires-clause-lawful : goal.of_words-requires-clause-lawful
+of_words-requires-clause-lawful g c =
+    let size : c.args.seat.me.0.threads ≡ c.args.self.shape.threads = (search rules) in
+    let some = c.args.self.small.0 in
+    final_lawful g.M.Resident.stands c.args.self.shape c.args.seat.id c.args.seat.me.0 (omega arith) c.copy_words-words.result.items _
+    (ended g.M.Resident.stands _ _ _ _ _ _ _ c.args.self.keyed c.copy_words-words.ensures c.close_with-closed.ensures.values.2)
+
+pub returns-clause-size : goal.returns-clause-size
+unfolding ledger_of
+returns-clause-size g c = (ap (λ (l : Ledger). l.threads) c.of_words.ensures, ap (λ (l : Ledger). l.rows) c.of_words.ensures)
+
+pub returns-clause-seen : goal.returns-clause-seen
+returns-clause-seen g c r j h =
+    let size : c.args.seat.me.0.threads ≡ c.args.self.shape.threads = (search rules) in
+    let some = c.args.self.small.0 in
+    subst (λ (l : Ledger). joined_in l r ≡ Some j) (sym c.of_words.ensures)
+    (final_joined g.M.Resident.stands c.args.self.shape c.args.seat.id c.args.seat.me.0 (omega arith) c.copy_words-words.result.items _
+    (ended g.M.Resident.stands _ _ _ _ _ _ _ c.args.self.keyed c.copy_words-words.ensures c.close_with-closed.ensures.values.2) r j h)
+
+pub returns-clause-own : goal.returns-clause-own
+returns-clause-own g c r j offers draft e =
+    let size : c.args.seat.me.0.threads ≡ c.args.self.shape.threads = (search rules) in
+    let some = c.args.self.small.0 in
+    subst (λ (l : Ledger). (j.own < length offers) × (offer_in l r j.own ≡ slice_get offers j.own)) (sym c.of_words.ensures)
+    (final_own g.M.Resident.stands c.args.self.shape c.args.seat.id c.args.seat.me.0 (omega arith) c.copy_words-words.result.items _
+    (ended g.M.Resident.stands _ _ _ _ _ _ _ c.args.self.keyed c.copy_words-words.ensures c.close_with-closed.ensures.values.2) r j offers draft (subst (λ (l : Ledger). joined_in l r ≡ Some j) c.of_words.ensures e))
+
+pub returns-clause-offers : goal.returns-clause-offers
+returns-clause-offers g c r n o sees =
+    let size : c.args.seat.me.0.threads ≡ c.args.self.shape.threads = (search rules) in
+    let some = c.args.self.small.0 in
+    subst (λ (l : Ledger). offer_in l r n ≡ Some o) (sym c.of_words.ensures)
+    (final_offer g.M.Resident.stands c.args.self.shape c.args.seat.id c.args.seat.me.0 (omega arith) c.copy_words-words.result.items _
+    (ended g.M.Resident.stands _ _ _ _ _ _ _ c.args.self.keyed c.copy_words-words.ensures c.close_with-closed.ensures.values.2) r n o sees)
+
+pub returns-clause-lacks : goal.returns-clause-lacks
+returns-clause-lacks g c r n sees =
+    let size : c.args.seat.me.0.threads ≡ c.args.self.shape.threads = (search rules) in
+    let some = c.args.self.small.0 in
+    subst (λ (l : Ledger). offer_in l r n ≡ None) (sym c.of_words.ensures)
+    (final_lack g.M.Resident.stands c.args.self.shape c.args.seat.id c.args.seat.me.0 (omega arith) c.copy_words-words.result.items _
+    (ended g.M.Resident.stands _ _ _ _ _ _ _ c.args.self.keyed c.copy_words-words.ensures c.close_with-closed.ensures.values.2) r n sees)
+
+pub returns-clause-lawful : goal.returns-clause-lawful
+returns-clause-lawful g c =
+    let size : c.args.seat.me.0.threads ≡ c.args.self.shape.threads = (search rules) in
+    let some = c.args.self.small.0 in
+    subst IsLawful (sym c.of_words.ensures)
+    (final_lawful g.M.Resident.stands c.args.self.shape c.args.seat.id c.args.seat.me.0 (omega arith) c.copy_words-words.result.items _
+    (ended g.M.Resident.stands _ _ _ _ _ _ _ c.args.self.keyed c.copy_words-words.ensures c.close_with-closed.ensures.values.2))
+
+pub returns-clause-bound : goal.returns-clause-bound
+returns-clause-bound g c n b h =
+    let size : c.args.seat.me.0.threads ≡ c.args.self.shape.threads = (search rules) in
+    let some = c.args.self.small.0 in
+    subst (λ (l : Ledger). binding_in l n ≡ Some b) (sym c.of_words.ensures)
+    (final_bound g.M.Resident.stands c.args.self.shape c.args.seat.id c.args.seat.me.0 (omega arith) c.copy_words-words.result.items _
+    (ended g.M.Resident.stands _ _ _ _ _ _ _ c.args.self.keyed c.copy_words-words.ensures c.close_with-closed.ensures.values.2) n b h)
+
+pub returns-clause-results : goal.returns-clause-results
+returns-clause-results g c t rs h =
+    let size : c.args.seat.me.0.threads ≡ c.args.self.shape.threads = (search rules) in
+    let some = c.args.self.small.0 in
+    subst (λ (l : Ledger). AreResults l t rs) (sym c.of_words.ensures)
+    (final_results g.M.Resident.stands c.args.self.shape c.args.seat.id c.args.seat.me.0 (omega arith) c.copy_words-words.result.items _
+    (ended g.M.Resident.stands _ _ _ _ _ _ _ c.args.self.keyed c.copy_words-words.ensures c.close_with-closed.ensures.values.2) t rs h)
+
+pub returns-clause-stand : goal.returns-clause-stand
+returns-clause-stand g c some_first =
+    let size : c.args.seat.me.0.threads ≡ c.args.self.shape.threads = (search rules) in
+    let some = c.args.self.small.0 in
+    subst (λ (l : Ledger). EachOffersAs (SomeStands g.M.Resident.stands c.args.self.shape.first.value.items) l) (sym c.of_words.ensures)
+    (final_stand g.M.Resident.stands c.args.self.shape c.args.seat.id c.args.seat.me.0 (omega arith) c.copy_words-words.result.items _
+    (ended g.M.Resident.stands _ _ _ _ _ _ _ c.args.self.keyed c.copy_words-words.ensures c.close_with-closed.ensures.values.2) some_first)

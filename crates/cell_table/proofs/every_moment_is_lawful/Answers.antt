@@ -1,0 +1,37 @@
+use Rattle.std.proofs.Common.{◌≡◌, List, [], true, false, sym, ap, ◌∙◌, subst}
+use Rattle.protocol_values.specs.declared.Row.{Row}
+use Rattle.protocol.specs.Tables.{Table, binding_at, cell_at, is_fresh, is_taken, joined_at, names}
+use Rattle.protocol.specs.Worlds.{Plays, World, start_world}
+use Rattle.protocol.specs.Kept.{Kept}
+use Rattle.protocol.specs.Ledgers.{ledger_of, IsLawful}
+use Rattle.protocol.specs.Standing.{AreResults, EachStands, SomeStands}
+use Rattle.protocol.proofs.LedgerLemmas.{kept_start, lawful_ledger}
+use Rattle.cell_table.specs.Rule.{IsHome, Move, in_order}
+use Rattle.cell_table.proofs.Once.{first_binding, first_cell, nothing_yet, taken_once}
+use Rattle.cell_table.proofs.Turning.{world_kept}
+use Rattle.cell_table.proofs.every_moment_is_lawful.Goals as goal
+
+pub returns : goal.returns
+returns g c shape s k =
+    let start : World = start_world shape.threads shape.rows shape.passes in
+    let kept : Kept k.world = world_kept g.M.Resident.stands shape s k in
+    record {
+      lawful = subst (λ (t : Table). IsLawful (ledger_of t)) k.table (lawful_ledger k.world.table kept.linked);
+      played = (k.moves, k.world, k.played, k.table, k.interleaved);
+      known = (k.world, k.owner, k.table, λ id v at. k.knows id v at.0 at.1);
+      results = λ id v t rs at h. subst (λ (z : Table). AreResults (ledger_of z) t rs) k.table (k.results id v t rs at.0 h);
+      machines = λ some_first.
+          let house = k.housed some_first in
+          subst (λ (t : Table). EachStands (SomeStands g.M.Resident.stands shape.first.value.items) t × ((r : Row) → is_fresh (cell_at t r) ≡ false → is_taken (cell_at t r) ≡ false → IsHome g.M.Resident.stands shape.first.value.items (ledger_of t) s.homes r)) k.table (house.rows, house.at_home);
+      one_holder = λ i j u v r at also held too. sym ((k.knows i u at.0 at.1).mine r held).0 ∙ ((k.knows j v also.0 also.1).mine r too).0;
+      one_taker = λ i j u v r at also took too.
+          taken_once start k.world k.moves s.views i j u v r (kept_start shape.threads shape.rows shape.passes k.few_threads k.few_rows) k.played k.interleaved at.0 also.0 took too;
+      named_once = λ q r p. subst (λ (t : Table). names (joined_at t q) p ≡ true → names (joined_at t r) p ≡ true → q ≡ r) k.table (kept.linked.once q r p);
+      -- where nothing was done, the words are those of the start
+      untouched = λ nothing.
+          let still : Plays start [] k.world = subst (λ (moves : List Move). Plays start (in_order moves) k.world) (nothing_yet k.moves s.views k.interleaved nothing) k.played in
+          let words = sym k.table ∙ ap (λ (w : World). w.table) still in (
+            λ r. ap (λ (t : Table). cell_at t r) words ∙ first_cell shape.threads shape.rows shape.passes r,
+            λ n. ap (λ (t : Table). binding_at t n) words ∙ first_binding shape.threads shape.rows shape.passes n,
+          );
+    }

@@ -1,0 +1,39 @@
+-- What the rule of the table says of a moment between two atomic steps.
+use Rattle.std.specs.Prelude.{◌≡◌, ◌<◌, ℕ, List, [], Option, None, true, false, length}
+use mathlib.Core.Option.{some}
+use lib.ListN.{get_elem?}
+use Rattle.atomic_table.specs.Table.{State}
+use Rattle.protocol_values.specs.declared.Cell.TheVariants.{Fresh}
+use Rattle.protocol_values.specs.declared.NackName.{NackName}
+use Rattle.protocol_values.specs.declared.Row.{Row}
+use Rattle.protocol_values.specs.declared.Step.TheVariants.{Take}
+use Rattle.protocol.specs.Ledgers.{ledger_of, IsLawful}
+use Rattle.protocol.specs.Standing.{AreResults, EachStands, Result, SomeStands, Stands}
+use Rattle.protocol.specs.Tables.{binding_at, cell_at, is_fresh, is_taken, joined_at, names}
+use Rattle.protocol.specs.Worlds.{Plays, start_world, World}
+use Rattle.cell_table.specs.declared.view.Shape.{Shape}
+use Rattle.cell_table.specs.declared.view.View.{View}
+use Rattle.cell_table.specs.Rule.{Interleaves, IsAt, IsHome, Move, in_order, table_of}
+use Rattle.cell_table.specs.Sight.{Has}
+use Rattle.cell_table.specs.Views.{Knows}
+
+pub record IsLawfulMoment {M : Type 0} (stands : Stands M) (shape : Shape M) (s : State (Option M) (View M)) : Type 0 where
+  -- the ledger of the words is lawful
+  pub lawful : IsLawful (ledger_of (table_of shape s))
+  -- the words are what the passes' own steps, interleaved, have made of the table's start, and nobody has made any other step
+  pub played : (moves : List Move) × (world : World) × Plays (start_world shape.threads shape.rows shape.passes) (in_order moves) world × (world.table ≡ table_of shape s) × Interleaves moves s.views
+  -- what each pass has seen is true of one world, with these words
+  pub known : (world : World) × (owner : Row → ℕ) × (world.table ≡ table_of shape s) × ((id : ℕ) (v : View M) → IsAt s id v → Knows world owner id v)
+  -- the results of threads that a pass has seen are those that the commits of their rows give
+  pub results : (id : ℕ) (v : View M) (t : ℕ) (results : List Result) → IsAt s id v → Has v.results (t, results) → AreResults (ledger_of (table_of shape s)) t results
+  -- in a table of machines each opened row offers what somebody offers who stands for its thread after the results of the rows
+  -- before, with his nacks and no others, and he lies in the thread's slot until the row is taken
+  pub machines : 0 < length shape.first.value.items → EachStands (SomeStands stands shape.first.value.items) (table_of shape s)
+      × ((r : Row) → is_fresh (cell_at (table_of shape s) r) ≡ false → is_taken (cell_at (table_of shape s) r) ≡ false → IsHome stands shape.first.value.items (ledger_of (table_of shape s)) s.homes r)
+  -- no row is held by two passes, and none was taken by two
+  pub one_holder : (i j : ℕ) (u v : View M) (r : Row) → IsAt s i u → IsAt s j v → Has u.seen.held r → Has v.seen.held r → i ≡ j
+  pub one_taker : (i j : ℕ) (u v : View M) (r : Row) → IsAt s i u → IsAt s j v → Has u.made (Take r) → Has v.made (Take r) → i ≡ j
+  -- a pending row is named by one row
+  pub named_once : (q r p : Row) → names (joined_at (table_of shape s) q) p ≡ true → names (joined_at (table_of shape s) r) p ≡ true → q ≡ r
+  -- where no pass has made a step, every row is Fresh and no nack is bound
+  pub untouched : ((i : ℕ) (v : View M) → get_elem? s.views i ≡ some v → v.made ≡ []) → ((r : Row) → cell_at (table_of shape s) r ≡ Fresh) × ((n : NackName) → binding_at (table_of shape s) n ≡ None)

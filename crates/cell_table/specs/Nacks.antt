@@ -1,0 +1,53 @@
+-- What a pass knows of nacks, and of a row before it grants it.
+use Rattle.std.specs.Prelude.{◌≡◌, ℕ, ◌+◌, max, false, None}
+use Rattle.protocol_values.specs.declared.Base.{Base}
+use Rattle.protocol_values.specs.declared.Base.TheVariants.{Send, Recv, Always, OnNack, Never}
+use Rattle.protocol_values.specs.declared.NackName.{NackName}
+use Rattle.protocol_values.specs.declared.Binding.{Binding}
+use Rattle.protocol_values.specs.declared.Offer.{Offer}
+use Rattle.protocol_values.specs.declared.Row.{Row}
+use Rattle.protocol_values.specs.declared.Joined.{Joined}
+use Rattle.protocol_values.specs.Scopes.{has_scope}
+use Rattle.protocol.specs.Tables.{bound_row}
+use Rattle.cell_table.specs.declared.view.Seen.{Seen}
+use Rattle.cell_table.specs.Sight.{Has, HaveOffer, SeesOffer, HasSeenLast}
+
+-- the nack was seen bound to this row and scope
+abbrev pub IsSeenBound : Seen → NackName → Row → ℕ → Type 0
+IsSeenBound s n r scope = (r.thread ≡ n.thread) × Has s.bound (n, record { sync = r.sync; scope = scope })
+
+-- the nack was seen bound to a row that was seen committed as j, by an offer outside the nack's scope
+pub record SawEnabled (s : Seen) (n : NackName) (j : Joined) : Type 0 where
+  pub binding : Binding
+  pub bound : Has s.bound (n, binding)
+  pub joined : Has s.joined (bound_row n binding, j)
+  pub offer : Offer
+  pub chosen : SeesOffer s (bound_row n binding) j.own offer
+  pub outside : has_scope offer.scopes binding.scope ≡ false
+
+-- what lets a base event commit its row alone was seen, with its stamp: 0 for an always, and for a nack the stamp of
+-- the row that enabled it
+abbrev pub SawCause : Seen → Base → ℕ → Type 0
+SawCause s (Send c m) stamp = ⊥
+SawCause s (Recv c) stamp = ⊥
+SawCause s (Always m) stamp = stamp ≡ 0
+SawCause s (OnNack n) stamp = (j : Joined) × SawEnabled s n j × (stamp ≡ j.stamp)
+SawCause s Never stamp = ⊥
+
+-- offer n of the row was seen, and what lets it commit the row alone
+abbrev pub CanStandAlone : Seen → Row → ℕ → Type 0
+CanStandAlone s r n = (o : Offer) × (stamp : ℕ) × SeesOffer s r n o × SawCause s o.base stamp
+
+-- the row, committed alone as j by its offer n, at the stamp that its last stamp and the cause's give
+pub record CanGrant (s : Seen) (r : Row) (n : ℕ) (j : Joined) : Type 0 where
+  pub offer : Offer
+  pub read : HaveOffer s.words r n offer
+  pub cause : ℕ
+  pub caused : SawCause s offer.base cause
+  pub last : ℕ
+  pub seen_last : HasSeenLast s r last
+  pub is : j ≡ record { own = n; partner = None; stamp = 1 + max last cause }
+
+-- the row to which the nack of a base event was seen bound
+abbrev pub IsBoundRow : Seen → Base → Row → Type 0
+IsBoundRow s base q = (n : NackName) × (b : Binding) × (base ≡ OnNack n) × Has s.bound (n, b) × (q ≡ bound_row n b)

@@ -1,0 +1,176 @@
+-- The rule of the shared table.
+use Rattle.std.specs.Prelude.{◌≡◌, ◌⊎◌, ℕ, zero, suc, ◌+◌, ◌%◌, ◌≤◌, ◌==◌, ◌<◌, ◌||◌, Bool, true, false, if◌then◌else◌, List, [], ◌∷◌, ◌++◌, length, Option, Some, slice_get}
+use mathlib.Core.Option.{Option as Maybe, some}
+use lib.ListN.{get_elem?}
+use Rattle.atomic_table.specs.Table.{State}
+use Rattle.protocol_values.specs.declared.Row.{Row}
+use Rattle.protocol_values.specs.declared.Seat.{Seat}
+use Rattle.protocol_values.specs.declared.Step.{Step}
+use Rattle.cell_table.specs.declared.view.View.{View}
+use Rattle.cell_table.specs.declared.view.Shape.{Shape}
+use Rattle.cell_table.specs.declared.view.Stage.TheVariants.{Resting}
+use Rattle.protocol_values.specs.declared.Offer.{Offer}
+use Rattle.protocol.specs.Ledgers.{Ledger, ledger_of}
+use Rattle.protocol.specs.Standing.{AreResults, EachStands, OffersAs, Result, SomeStands, Stands, binding_of}
+use Rattle.protocol.specs.Worlds.{World, start_world, Plays, nack_of_row}
+use Rattle.cell_table.specs.declared.view.Seen.{Seen}
+use Rattle.cell_table.specs.Sight.{Has, IsDraft}
+use Rattle.cell_table.specs.Views.{Knows, first_row, at_stage, with_results}
+use Rattle.protocol.specs.Tables.{Table, cell_at, is_fresh, is_taken, row_eq}
+
+-- One change of the table: which pass made it, at which seat, by which step of the protocol.
+pub record Move : Type 0 where
+  pub pass : ℕ
+  pub seat : Seat
+  pub step : Step
+
+-- a history, its last move first, as a schedule of the protocol
+abbrev pub in_order : List Move → List (Seat × Step)
+in_order [] = []
+in_order (m ∷ moves) = in_order moves ++ (m.seat, m.step) ∷ []
+
+-- what this pass did of it
+abbrev pub steps_by : ℕ → List Move → List (Seat × Step)
+steps_by id [] = []
+steps_by id (m ∷ moves) = if m.pass == id then (m.seat, m.step) ∷ steps_by id moves else steps_by id moves
+
+-- all these steps, at one seat
+abbrev pub at_seat : ℕ → List Step → List (Seat × Step)
+at_seat seat [] = []
+at_seat seat (step ∷ steps) = (record { 0 = seat }, step) ∷ at_seat seat steps
+
+module _ {M : Type 0} where
+  -- The history is the steps that the passes made, interleaved: each pass made its own at its seat, and nobody else any.
+  pub record Interleaves (moves : List Move) (views : List (View M)) : Type 0 where
+    pub made : (id : ℕ) (v : View M) → get_elem? views id ≡ some v → steps_by id moves ≡ at_seat v.seat v.made
+    pub no_others : (id : ℕ) → length views ≤ id → steps_by id moves ≡ []
+
+  -- the words at this moment, as a table
+  abbrev pub table_of : {S : Type 0} → Shape M → State S (View M) → Table
+  table_of shape s = record { threads = shape.threads; rows = shape.rows; words = s.words }
+
+-- WHAT STANDS FOR THE THREADS, in a table of machines: it lies in the thread's slot, which is out with a pass from when that takes
+-- the thread's row to when it opens the next
+module _ {M : Type 0} where
+  -- the pass is to begin with the row: it is the first of a thread, which the pass holds or is to deal, and has not begun with
+  abbrev pub IsToBegin : View M → Row → Type 0
+  IsToBegin v r = (r.sync ≡ 0) × (Has v.seen.held r ⊎ ((r.thread < v.threads) × (v.dealt ≤ r.thread % v.passes))) × (¬ Has v.seen.begun r)
+
+  -- then what stood for the thread at first is at home
+  pub record Waits (first : List M) (w : World) (homes : List (Maybe (Option M))) (r : Row) : Type 0 where
+    pub fresh : is_fresh (cell_at w.table r) ≡ true
+    pub value : M
+    pub is_first : slice_get first r.thread ≡ Some value
+    pub home : get_elem? homes r.thread ≡ some (some (Some value))
+
+module _ {M : Type 0} (stands : Stands M) where
+  -- The value is at home, and the row offers what it offers after the results of the rows before.
+  pub record IsHome (first : List M) (l : Ledger) (homes : List (Maybe (Option M))) (r : Row) : Type 0 where
+    pub value : M
+    pub home : get_elem? homes r.thread ≡ some (some (Some value))
+    pub offers : OffersAs (stands first value) l r
+
+  pub record Housed (first : List M) (w : World) (homes : List (Maybe (Option M))) (views : List (View M)) : Type 0 where
+    -- each opened row offers what somebody offers who stands for its thread after the results of the rows before, and has his nacks
+    pub rows : EachStands (SomeStands stands first) w.table
+    -- and he is at home until the row is taken
+    pub at_home : (r : Row) → is_fresh (cell_at w.table r) ≡ false → is_taken (cell_at w.table r) ≡ false → IsHome first (ledger_of w.table) homes r
+    pub waiting : (id : ℕ) (v : View M) (r : Row) → get_elem? views id ≡ some v → 0 < v.threads → IsToBegin v r → Waits first w homes r
+
+  -- The value stands for the row's thread after the results of the rows before, as the pass has them; its offers are drafted for the
+  -- row, and its nacks, and no others, are bound to it.
+  pub record IsReady (first : List M) (results : List (ℕ × List Result)) (s : Seen) (r : Row) (value : M) : Type 0 where
+    pub earlier : List Result
+    pub count : length earlier ≡ r.sync
+    pub seen : (earlier ≡ []) ⊎ Has results (r.thread, earlier)
+    pub offers : List Offer
+    pub nacks : List ℕ
+    pub standing : stands first value r.thread earlier offers nacks
+    pub drafted : IsDraft s r offers
+    pub bound : (scope k : ℕ) → slice_get nacks scope ≡ Some k → Has s.bound (nack_of_row r k, binding_of r scope)
+    pub no_others : (scope k : ℕ) → Has s.bound (nack_of_row r k, binding_of r scope) → slice_get nacks scope ≡ Some k
+    -- the pass has begun with the thread
+    pub begun : r.sync ≡ 0 → Has s.begun r
+
+  -- The history is the passes' steps interleaved, and leads from the start to the words as they stand. What each pass has
+  -- seen is true of the world that the history leads to. Nothing else ever happens to the table.
+  pub record Keeps (shape : Shape M) (s : State (Option M) (View M)) : Type 0 where
+    pub few_threads : shape.threads ≤ 64
+    pub few_rows : shape.rows ≤ 1024
+    pub moves : List Move
+    pub interleaved : Interleaves moves s.views
+    pub world : World
+    pub played : Plays (start_world shape.threads shape.rows shape.passes) (in_order moves) world
+    pub table : world.table ≡ table_of shape s
+    pub owner : Row → ℕ
+    -- a pass that is of no table any more knows nothing
+    pub knows : (id : ℕ) (v : View M) → get_elem? s.views id ≡ some v → 0 < v.threads → Knows world owner id v
+    -- a pass knows what stood for the threads at first
+    pub firsts : (id : ℕ) (v : View M) → get_elem? s.views id ≡ some v → 0 < v.threads → v.first ≡ shape.first.value.items
+    -- in a table of machines
+    pub housed : 0 < length shape.first.value.items → Housed shape.first.value.items world s.homes s.views
+    -- the results that a pass has seen are results of the rows
+    pub results : (id : ℕ) (v : View M) (t : ℕ) (rs : List Result) → get_elem? s.views id ≡ some v → Has v.results (t, rs) → AreResults (ledger_of world.table) t rs
+
+module _ {M : Type 0} where
+  -- the pass with this number is of the table, and knows this
+  abbrev pub IsAt : {S : Type 0} → State S (View M) → ℕ → View M → Type 0
+  IsAt s id v = (get_elem? s.views id ≡ some v) × (0 < v.threads)
+
+-- the number of a Fresh row's offers is 0 until one is drafted
+abbrev pub no_offers : List Row → List (Row × ℕ × ℕ)
+no_offers [] = []
+no_offers (r ∷ rs) = (r, 1, 0) ∷ no_offers rs
+
+-- a pass that holds these rows and has seen nothing
+abbrev pub seen_nothing : List Row → Seen
+seen_nothing rows = record { held = rows; drafts = no_offers rows; opened = []; words = []; joined = []; taken = []; bound = []; begun = [] }
+
+module _ {M : Type 0} where
+  -- the first pass: it has dealt the seats below this one, and holds nothing itself
+  abbrev pub dealer : Shape M → ℕ → View M
+  dealer shape k = record { threads = shape.threads; rows = shape.rows; passes = shape.passes; first = shape.first.value.items; results = []; dealt = k; seat = 0; stage = Resting; seen = seen_nothing []; made = [] }
+
+-- the first rows of the threads below this one that fall to seat k
+abbrev pub dealt_rows : ℕ → ℕ → ℕ → List Row
+dealt_rows zero passes k = []
+dealt_rows (suc t) passes k = if t % passes == k then first_row t ∷ dealt_rows t passes k else dealt_rows t passes k
+
+module _ {M : Type 0} where
+  -- the pass of the next seat: it holds the rows that fall to it
+  abbrev pub dealt_pass : View M → View M
+  dealt_pass v = record v { dealt = v.passes; seat = v.dealt; stage = Resting; seen = seen_nothing (dealt_rows v.threads v.passes v.dealt); made = [] }
+
+  abbrev pub dealt_one : View M → View M
+  dealt_one v = record v { dealt = v.dealt + 1 }
+
+-- WHAT ONE PASS TELLS ANOTHER
+
+-- whether the row is in the list
+abbrev pub is_among : List Row → Row → Bool
+is_among [] r = false
+is_among (q ∷ qs) r = row_eq q r || is_among qs r
+
+-- the words that were drafted for these rows
+abbrev pub drafts_of : List Row → List (Row × ℕ × ℕ) → List (Row × ℕ × ℕ)
+drafts_of rows [] = []
+drafts_of rows (d ∷ ds) = if is_among rows d.0 then d ∷ drafts_of rows ds else drafts_of rows ds
+
+-- what is told: all that was seen, and the words drafted for opened rows, but no row is handed over
+abbrev pub told_of : Seen → Seen
+told_of s = record s { held = []; drafts = []; words = s.words ++ drafts_of s.opened s.drafts; begun = [] }
+
+-- what a pass has seen once it was told this
+abbrev pub heard : Seen → Seen → Seen
+heard s told = record s { opened = s.opened ++ told.opened; words = s.words ++ told.words; joined = s.joined ++ told.joined; taken = s.taken ++ told.taken; bound = s.bound ++ told.bound }
+
+module _ {M : Type 0} where
+  abbrev pub told_pass : View M → View M
+  told_pass v = record v { dealt = v.passes; stage = Resting; seen = told_of v.seen; made = [] }
+
+  abbrev pub heard_pass : View M → View M → View M
+  heard_pass v told = with_results (v.results ++ told.results) (at_stage v.stage (heard v.seen told.seen) v)
+
+  -- the pass that has told all that it had seen: it is of no table any more
+  abbrev pub spent_pass : View M
+  spent_pass = record { threads = 0; rows = 0; passes = 0; first = []; results = []; dealt = 0; seat = 0; stage = Resting; seen = seen_nothing []; made = [] }

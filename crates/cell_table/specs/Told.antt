@@ -1,0 +1,160 @@
+-- What a step tells the pass that makes it: its view after, by the word that it found.
+use Rattle.std.specs.Prelude.{◌≡◌, ◌≢◌, ℕ, ◌+◌, List, ◌∷◌, length, take, ◌<◌, ◌≤◌, true, is_some, unwrap_or, Option, Some, None, slice_get}
+use Rattle.atomic_table.specs.Table.{Step, Me, rest}
+use Rattle.protocol_values.specs.declared.Step.TheVariants.{Open, Claim, Yield, Join, Seal, Grant, Take}
+use Rattle.protocol_values.specs.Words.{cell_word, cell_of, nack_word, nack_of, IsBindingInRange, IsJoinedInRange}
+use Rattle.protocol_values.specs.declared.NackName.{NackName}
+use Rattle.protocol_values.specs.declared.Binding.{Binding}
+use Rattle.protocol_values.specs.declared.Row.{Row}
+use Rattle.protocol_values.specs.declared.Joined.{Joined}
+use Rattle.protocol_values.specs.declared.Cell.{Cell}
+use Rattle.protocol_values.specs.declared.Cell.TheVariants.{Fresh, Waiting, Claimed, Synched, Taken}
+use Rattle.protocol_values.specs.declared.Message.{Message}
+use Rattle.protocol_values.specs.declared.Offer.{Offer}
+use Rattle.protocol.specs.Standing.{IsLeft, Result, Stands}
+use Rattle.protocol.specs.Tables.{bound_row, nack_place, place_of}
+use Rattle.protocol_values.specs.Values.{next_row}
+use Rattle.cell_table.specs.declared.view.View.{View}
+use Rattle.cell_table.specs.declared.view.Stage.TheVariants.{Resting, Claims, Joins}
+use Rattle.cell_table.specs.declared.view.Seen.{Seen}
+use Rattle.cell_table.specs.Sight.{Has, IsExpected, IsResult, Coherent, see_begun}
+use Rattle.cell_table.specs.Views.{IsClaimer, at_stage, bind_of, bound_nack, did, saw, saw_nack, took_with, read_word, turned, word_drafted}
+
+-- the table has the row
+abbrev pub Inside : ℕ → ℕ → Row → Type 0
+Inside threads rows r = (r.thread < threads) × (r.sync < rows)
+
+module _ {M : Type 0} where
+  -- the step is on this word of this row
+  abbrev pub At : {S : Type 0} → Step S → Me S (View M) → Row → ℕ → Type 0
+  At st m r p = Inside m.0.threads m.0.rows r × (st.word ≡ place_of m.0.rows r p)
+
+-- the table has the nack
+abbrev pub InsideNack : ℕ → NackName → Type 0
+InsideNack threads n = (n.thread < threads) × (n.k < 64)
+
+module _ {M : Type 0} where
+  -- the step is on the word of this nack
+  abbrev pub AtNack : {S : Type 0} → Step S → Me S (View M) → NackName → Type 0
+  AtNack st m n = InsideNack m.0.threads n × (st.word ≡ nack_place m.0.rows n)
+
+-- where a word says that a nack is bound
+abbrev pub nack_read : ℕ → Option Binding
+nack_read n = unwrap_or (nack_of n) None
+
+-- the cell that a word stands for
+abbrev pub cell_read : ℕ → Cell
+cell_read n = unwrap_or (cell_of n) Fresh
+
+module _ {M : Type 0} where
+  -- what a pass knows of a row's cell before it looks: what it has seen of it, and that only its holder claims it
+  abbrev pub Agrees : View M → Row → Cell → Type 0
+  Agrees v r c = IsExpected v.seen r c × (Has v.seen.held r → c ≡ Claimed → IsClaimer v.stage r)
+
+  -- what the pass has seen agrees with itself
+  abbrev pub AgreesWithItself : View M → Type 0
+  AgreesWithItself v = Coherent v.threads v.rows v.seen
+
+  -- the word that was found is a cell's
+  abbrev pub looked : {S : Type 0} → Step S → Me S (View M) → ℕ → Me S (View M) → Type 0
+  looked st m n w = (r : Row) → At st m r 0 → (w ≡ (saw r (cell_read n) m.0, m.1)) × Agrees m.0 r (cell_read n) × AgreesWithItself w.0 × (is_some (cell_of n) ≡ true)
+
+  abbrev pub has_read : {S : Type 0} → Step S → Me S (View M) → ℕ → Me S (View M) → Type 0
+  has_read st m n w = (r : Row) (p : ℕ) → p < 34 → At st m r p → (w ≡ (read_word r p n m.0, m.1)) × AgreesWithItself w.0
+
+  -- a glance finds nothing new: the pass has heard of one table only, so what it has heard agrees with what it had seen
+  abbrev pub glanced : {S : Type 0} → Step S → Me S (View M) → ℕ → Me S (View M) → Type 0
+  glanced st m n w = (w ≡ m) × AgreesWithItself w.0
+
+  abbrev pub drafted : {S : Type 0} → Step S → Me S (View M) → ℕ → Me S (View M) → Type 0
+  drafted st m n w = (r : Row) (p : ℕ) → p < 34 → At st m r p → (w ≡ (word_drafted r p n m.0, m.1)) × AgreesWithItself w.0
+
+  -- the slot that came out last goes home, in a table that has slots
+  abbrev pub GoesHome : {S : Type 0} → List M → List (ℕ × S) → List (ℕ × S) → Type 0
+  GoesHome first before after = (length first ≡ 0 → after ≡ before) × (0 < length first → after ≡ rest before)
+
+  -- the row is Waiting now, and the call rests: the row is opened, or given up
+  abbrev pub opened : {S : Type 0} → Step S → Me S (View M) → ℕ → Me S (View M) → Type 0
+  opened st m n w = (r : Row) → At st m r 0 → (w.0 ≡ did (Open r) (turned Resting r m.0)) × GoesHome m.0.first m.1 w.1 × AgreesWithItself w.0
+
+  -- what stood for the row's thread at first came out of its slot
+  abbrev pub began : Row → View M → View M
+  began r v = at_stage v.stage (see_begun r v.seen) v
+
+  abbrev pub has_begun : Step (Option M) → Me (Option M) (View M) → ℕ → Me (Option M) (View M) → Type 0
+  has_begun st m n w = (r : Row) → At st m r 0
+      → (value : M) × (slice_get m.0.first r.thread ≡ Some value) × (w ≡ (began r m.0, (r.thread, Some value) ∷ m.1)) × AgreesWithItself w.0
+
+  abbrev pub yielded : {S : Type 0} → Step S → Me S (View M) → ℕ → Me S (View M) → Type 0
+  yielded st m n w = (r : Row) → At st m r 0 → (w ≡ (did (Yield r) (turned Resting r m.0), m.1)) × AgreesWithItself w.0
+
+  -- the pass has found the cell that the word stands for
+  abbrev pub finds : {S : Type 0} → Me S (View M) → Row → ℕ → Me S (View M) → Type 0
+  finds m r n w = (w ≡ (saw r (cell_read n) m.0, m.1)) × Agrees m.0 r (cell_read n)
+
+  -- where the cell was Waiting it is Claimed; else the pass has seen what it is
+  abbrev pub claimed : {S : Type 0} → Step S → Me S (View M) → ℕ → Me S (View M) → Type 0
+  claimed st m n w = (r : Row) → At st m r 0
+      → (n ≡ cell_word Waiting → w ≡ (did (Claim r) (turned (Claims r) r m.0), m.1)) × (n ≢ cell_word Waiting → finds m r n w) × AgreesWithItself w.0
+
+  -- the pass has joined row o with offer `own` of its row, and is to seal its own
+  abbrev pub joining : Row → ℕ → Row → Joined → View M → View M
+  joining mine own o j v = did (Join mine own o j.own) (saw o (Synched j) (turned (Joins mine o j) o v))
+
+  abbrev pub joined : {S : Type 0} → Step S → Me S (View M) → ℕ → Me S (View M) → Type 0
+  joined st m n w = (mine : Row) (own : ℕ) (o : Row) (j : Joined) → m.0.stage ≡ Claims mine → j.partner ≡ Some (mine, own) → At st m o 0 → IsJoinedInRange j → st.second ≡ cell_word (Synched j)
+      → (n ≡ cell_word Waiting → w ≡ (joining mine own o j m.0, m.1)) × (n ≢ cell_word Waiting → finds m o n w) × AgreesWithItself w.0
+
+  -- the row is committed so, as the last thing that the call does
+  abbrev pub settled : Row → Joined → View M → View M
+  settled r j v = saw r (Synched j) (turned Resting r v)
+
+  abbrev pub sealed : {S : Type 0} → Step S → Me S (View M) → ℕ → Me S (View M) → Type 0
+  sealed st m n w = (r : Row) (j : Joined) → At st m r 0 → IsJoinedInRange j → n ≡ cell_word (Synched j)
+      → (w ≡ (did (Seal r) (settled r j m.0), m.1)) × AgreesWithItself w.0
+
+  -- where the cell was Waiting it is committed alone; else the pass has seen what it is
+  abbrev pub granted : {S : Type 0} → Step S → Me S (View M) → ℕ → Me S (View M) → Type 0
+  granted st m n w = (r : Row) (j : Joined) → m.0.stage ≡ Resting → At st m r 0 → IsJoinedInRange j → st.second ≡ cell_word (Synched j)
+      → (n ≡ cell_word Waiting → (w ≡ (did (Grant r j.own) (settled r j m.0), m.1)) × Agrees m.0 r Waiting) × (n ≢ cell_word Waiting → finds m r n w) × AgreesWithItself w.0
+
+  -- The value of the row's thread comes out with the row, in a table that has slots. It is still to be given the last of the
+  -- results: that of the row, with the message that the row gets.
+  abbrev pub ComesOut : Stands M → List M → Seen → Row → ℕ → List Result → List (ℕ × Option M) → List (ℕ × Option M) → Type 0
+  ComesOut stands first seen r own results before after =
+      (length first ≡ 0 → after ≡ before)
+      × (0 < length first → (value : M) × (got : Message) × (after ≡ (r.thread, Some value) ∷ before) × IsLeft stands first value r own results got × ((m : Message) → IsResult seen r m → m ≡ got))
+
+  -- where the cell was Synched it is Taken, and nobody has opened the row behind it; else the pass has seen what it is
+  abbrev pub taken : Stands M → Step (Option M) → Me (Option M) (View M) → ℕ → Me (Option M) (View M) → Type 0
+  taken stands st m n w = (r : Row) (j : Joined) → At st m r 0 → IsJoinedInRange j → st.second ≡ cell_word (Taken j)
+      → (n ≡ cell_word (Synched j) → (results : List Result) × (length results ≡ r.sync + 1) × (w.0 ≡ did (Take r) (took_with r j results m.0)) × ComesOut stands m.0.first m.0.seen r j.own results m.1 w.1 × Agrees m.0 r (Synched j) × (¬ Has m.0.seen.opened (next_row r)) × ((nack : NackName) (b : Binding) → Has m.0.seen.bound (nack, b) → bound_row nack b ≢ next_row r))
+      × (n ≢ cell_word (Synched j) → finds m r n w) × AgreesWithItself w.0
+
+  -- what a pass knows of a nack before it looks: where it saw it bound
+  abbrev pub AgreesNack : View M → NackName → Option Binding → Type 0
+  AgreesNack v n found = (b : Binding) → Has v.seen.bound (n, b) → found ≡ Some b
+
+  abbrev pub looked_nack : {S : Type 0} → Step S → Me S (View M) → ℕ → Me S (View M) → Type 0
+  looked_nack st m n w = (nack : NackName) → AtNack st m nack
+      → (w ≡ (saw_nack nack (nack_read n) m.0, m.1)) × AgreesNack m.0 nack (nack_read n) × AgreesWithItself w.0
+
+  -- The nack is a scope's of an earlier row of its thread: some value stands for the thread after the results of the rows before
+  -- that row, with this nack for the scope to which it is bound. Whatever further results of the thread the pass has, they begin with those.
+  pub record IsEarlier (stands : Stands M) (first : List M) (all : List (ℕ × List Result)) (n : NackName) (b : Binding) : Type 0 where
+    pub results : List Result
+    pub count : length results ≡ b.sync
+    pub value : M
+    pub offers : List Offer
+    pub nacks : List ℕ
+    pub standing : stands first value n.thread results offers nacks
+    pub scope : slice_get nacks b.scope ≡ Some n.k
+    pub begins : (longer : List Result) → Has all (n.thread, longer) → b.sync ≤ length longer → results ≡ take b.sync longer
+
+  -- where the nack was not bound it is bound so, and the pass had not seen it bound; else the pass has seen where it is: not
+  -- behind the row that it tried to bind it to, and where it is a row that the pass holds, the pass had seen it
+  abbrev pub tried_bind : Stands M → Step (Option M) → Me (Option M) (View M) → ℕ → Me (Option M) (View M) → Type 0
+  tried_bind stands st m n w = (nack : NackName) (b : Binding) → AtNack st m nack → IsBindingInRange b → st.second ≡ nack_word (Some b)
+      → (nack_read n ≡ None → (w ≡ (did (bind_of nack b) (bound_nack nack b m.0), m.1)) × ((c : Binding) → ¬ Has m.0.seen.bound (nack, c)))
+      × ((c : Binding) → nack_read n ≡ Some c → (w ≡ (bound_nack nack c m.0, m.1)) × (c.sync ≤ b.sync) × (Has m.0.seen.held (bound_row nack c) → Has m.0.seen.bound (nack, c)) × (c.sync < b.sync → 0 < length m.0.first → IsEarlier stands m.0.first m.0.results nack c))
+      × AgreesWithItself w.0

@@ -1,0 +1,131 @@
+-- What the rule knows of a pass, and when it is true of the table.
+use Rattle.std.specs.Prelude.{◌≡◌, ℕ, ◌%◌, ◌<◌, ◌≤◌, ◌∷◌, true, false, Option, Some, None, List}
+use Rattle.protocol_values.specs.declared.NackName.{NackName}
+use Rattle.protocol_values.specs.declared.Binding.{Binding}
+use Rattle.protocol_values.specs.declared.Row.{Row}
+use Rattle.protocol_values.specs.declared.Step.{Step}
+use Rattle.protocol_values.specs.declared.Step.TheVariants.{Bind, Draft}
+use Rattle.protocol_values.specs.declared.Joined.{Joined}
+use Rattle.protocol_values.specs.declared.Cell.{Cell}
+use Rattle.protocol_values.specs.declared.Cell.TheVariants.{Fresh, Claimed, Taken}
+use Rattle.cell_table.specs.declared.view.Seen.{Seen}
+use Rattle.cell_table.specs.declared.view.View.{View}
+use Rattle.cell_table.specs.declared.view.Stage.{Stage}
+use Rattle.cell_table.specs.declared.view.Stage.TheVariants.{Resting, Claims, Joins}
+use Rattle.protocol.specs.Tables.{is_fresh, is_taken, names, word_at, cell_at, joined_at, binding_at, bound_row}
+use Rattle.protocol.specs.Standing.{Result}
+use Rattle.protocol.specs.Worlds.{World, holder_at}
+use Rattle.cell_table.specs.Sight.{Has, IsCounted, see_opened, see_cell, see_word, see_draft, see_next, see_bound}
+
+-- a thread's first row
+abbrev pub first_row : ℕ → Row
+first_row t = record { thread = t; sync = 0 }
+
+-- the call has claimed this row
+abbrev pub IsClaimer : Stage → Row → Type 0
+IsClaimer Resting r = ⊥
+IsClaimer (Claims m) r = m ≡ r
+IsClaimer (Joins m o j) r = m ≡ r
+
+-- where a call is between two steps
+abbrev pub Staged : World → (Row → ℕ) → ℕ → Stage → Type 0
+Staged w owner id Resting = Unit {0}
+Staged w owner id (Claims m) = (owner m ≡ id) × (cell_at w.table m ≡ Claimed) × ((q : Row) → names (joined_at w.table q) m ≡ false)
+Staged w owner id (Joins m o j) = (owner m ≡ id) × (cell_at w.table m ≡ Claimed) × (joined_at w.table o ≡ Some j) × (names (Some j) m ≡ true)
+
+-- Where a pass stands, and what it has seen: what it knows is by these, and not by what it has made.
+pub record Vantage : Type 0 where
+  pub threads : ℕ
+  pub rows : ℕ
+  pub passes : ℕ
+  pub dealt : ℕ
+  pub seat : ℕ
+  pub stage : Stage
+  pub seen : Seen
+
+abbrev pub vantage : {M : Type 0} → View M → Vantage
+vantage v = record { threads = v.threads; rows = v.rows; passes = v.passes; dealt = v.dealt; seat = v.seat; stage = v.stage; seen = v.seen }
+
+-- What the pass with this number has seen is true of the world. Each row has one owner, so it is held by one pass at most.
+pub record KnowsFrom (w : World) (owner : Row → ℕ) (id : ℕ) (from : Vantage) : Type 0 where
+  pub threads : from.threads ≡ w.table.threads
+  pub rows : from.rows ≡ w.table.rows
+  pub passes : from.passes ≡ w.seats
+  pub seat : from.seat < w.seats
+  -- the first rows of the seats that are not dealt yet are this pass's to deal
+  pub undealt : (t : ℕ) → t < w.table.threads → from.dealt ≤ t % w.seats
+      → (owner (first_row t) ≡ id) × (holder_at w (first_row t) ≡ Some (t % w.seats)) × (¬ Has from.seen.opened (first_row t) → cell_at w.table (first_row t) ≡ Fresh)
+      × (¬ IsCounted from.seen (first_row t) → word_at w.table (first_row t) 1 ≡ 0)
+      × ((n : NackName) (b : Binding) → binding_at w.table n ≡ Some b → bound_row n b ≡ first_row t → Has from.seen.bound (n, b))
+  pub mine : (r : Row) → Has from.seen.held r → (owner r ≡ id) × (holder_at w r ≡ Some from.seat)
+  pub calm : (r : Row) → Has from.seen.held r → cell_at w.table r ≡ Claimed → IsClaimer from.stage r
+  pub staged : Staged w owner id from.stage
+  pub fresh : (r : Row) → Has from.seen.held r → ¬ Has from.seen.opened r → cell_at w.table r ≡ Fresh
+  pub drafted : (r : Row) (p x : ℕ) → Has from.seen.drafts (r, p, x) → (owner r ≡ id) × (p < 34) × (1 ≤ p) × (holder_at w r ≡ Some from.seat) × (word_at w.table r p ≡ x)
+  pub opened : (r : Row) → Has from.seen.opened r → is_fresh (cell_at w.table r) ≡ false
+  pub read : (r : Row) (p x : ℕ) → Has from.seen.words (r, p, x) → (is_fresh (cell_at w.table r) ≡ false) × (p < 34) × (1 ≤ p) × (word_at w.table r p ≡ x)
+  pub joined : (r : Row) (j : Joined) → Has from.seen.joined (r, j) → joined_at w.table r ≡ Some j
+  pub taken : (r : Row) → Has from.seen.taken r → is_taken (cell_at w.table r) ≡ true
+  pub bound : (n : NackName) (b : Binding) → Has from.seen.bound (n, b) → binding_at w.table n ≡ Some b
+  -- whoever holds a row has seen all nacks that are bound to it
+  pub binds : (n : NackName) (b : Binding) → binding_at w.table n ≡ Some b → Has from.seen.held (bound_row n b) → Has from.seen.bound (n, b)
+
+abbrev pub Knows : {M : Type 0} → World → (Row → ℕ) → ℕ → View M → Type 0
+Knows w owner id v = KnowsFrom w owner id (vantage v)
+
+module _ {M : Type 0} where
+  -- HOW A VIEW GROWS
+
+  -- the call stands here now, and has seen this
+  abbrev pub at_stage : Stage → Seen → View M → View M
+  at_stage stage seen v = record v { stage = stage; seen = seen }
+
+  -- and has made these steps
+  abbrev pub worked : Stage → Seen → List Step → View M → View M
+  worked stage seen made v = record v { stage = stage; seen = seen; made = made }
+
+  -- and has seen these results
+  abbrev pub with_results : List (ℕ × List Result) → View M → View M
+  with_results results v = record v { results = results }
+
+  -- the pass has made this step of the protocol
+  abbrev pub did : Step → View M → View M
+  did step v = record v { made = step ∷ v.made }
+
+  -- the call stands here now, and the row is open
+  abbrev pub turned : Stage → Row → View M → View M
+  turned stage r v = at_stage stage (see_opened r v.seen) v
+
+  abbrev pub saw : Row → Cell → View M → View M
+  saw r c v = at_stage v.stage (see_cell r c v.seen) v
+
+  -- the row, committed so, was taken by the pass
+  abbrev pub took : Row → Joined → View M → View M
+  took r j v = at_stage v.stage (see_next v.rows r (see_cell r (Taken j) v.seen)) v
+
+  -- and has seen the results of its thread up to this row
+  abbrev pub took_with : Row → Joined → List Result → View M → View M
+  took_with r j results v = with_results ((r.thread, results) ∷ v.results) (took r j v)
+
+  abbrev pub read_word : Row → ℕ → ℕ → View M → View M
+  read_word r p x v = at_stage v.stage (see_word r p x v.seen) v
+
+  abbrev pub drafted_word : Row → ℕ → ℕ → View M → View M
+  drafted_word r p x v = at_stage v.stage (see_draft r p x v.seen) v
+
+  -- and the step that it takes
+  abbrev pub word_drafted : Row → ℕ → ℕ → View M → View M
+  word_drafted r p x v = did (Draft r p x) (drafted_word r p x v)
+
+-- the step that binds the nack so
+abbrev pub bind_of : NackName → Binding → Step
+bind_of n b = Bind n.k (bound_row n b) b.scope
+
+module _ {M : Type 0} where
+  -- the nack is bound so
+  abbrev pub bound_nack : NackName → Binding → View M → View M
+  bound_nack n b v = at_stage v.stage (see_bound n b v.seen) v
+
+  abbrev pub saw_nack : NackName → Option Binding → View M → View M
+  saw_nack n None v = v
+  saw_nack n (Some b) v = bound_nack n b v

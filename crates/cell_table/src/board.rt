@@ -1,0 +1,34 @@
+//! The table and its rule.
+
+ghost use Rattle.std.specs.Prelude.{◌≡◌, ◌*◌, ◌<◌, ◌≤◌, length};
+ghost use Rattle.protocol.specs.Tables.{thread_len};
+
+use crate::view::{Shape, View};
+use atomic_table::{Table, TableRule};
+use protocol::Resident;
+use std::alloc::Global;
+
+/// The rule of the cells.
+pub struct Law;
+
+impl<M: Resident> TableRule<Option<M>, View<M>, Shape<M>> for Law {
+    ghost use Rattle.cell_table.specs.Rule.{Keeps, dealer};
+
+    ghost holds = { λ shape s. Keeps M.stands shape s };
+
+    ghost first = { λ shape. dealer shape 0 };
+}
+
+pub(crate) type Words<M> = Table<Option<M>, View<M>, Shape<M>, Law, Global>;
+
+/// The words, and how many threads and rows they are for.
+#[derive(Drop)]
+pub struct Board<M: Resident> {
+    pub(crate) words: Words<M>,
+    pub(crate) shape: Shape<M>,
+    ghost keyed: { words.shared.key ≡ shape },
+    ghost sized: { words.shared.table_id.words ≡ shape.threads * thread_len shape.rows },
+    ghost slots: { words.shared.table_id.slots ≡ length shape.first.value.items },
+    ghost full: { 0 < length shape.first.value.items → length shape.first.value.items ≡ shape.threads },
+    ghost small: { (1 ≤ shape.threads) × (shape.threads ≤ 64) × (1 ≤ shape.rows) × (shape.rows ≤ 1024) },
+}

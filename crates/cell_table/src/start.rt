@@ -1,0 +1,48 @@
+//! How a table begins, and how its rows are dealt.
+
+ghost use Rattle.std.specs.Prelude.{◌≡◌, ◌*◌, ◌+◌, ◌<◌, ◌≤◌, [], IfOk, Some, length, map, replicate};
+ghost use Rattle.protocol.specs.Tables.{thread_len};
+ghost use Rattle.cell_table.specs.Rule.{dealer, dealt_pass};
+
+use crate::board::{Board, Words};
+use crate::plays::Deal;
+use crate::view::{Shape, View};
+use atomic_table::Seat;
+use protocol::Resident;
+use std::alloc::{AllocError, Global};
+
+impl<M: Resident + Drop> Board<M> {
+    /// A table of Fresh rows, and the seat that deals them. `zeros` are as many zeros as the table
+    /// has words.
+    pub fn start(
+        alloc: Global,
+        shape: Shape<M>,
+        zeros: &[u64],
+        slots: Vec<Option<M>>,
+    ) -> Result<(Board<M>, Seat<Option<M>, View<M>>), AllocError>
+        requires shape { (1 ≤ shape.threads) × (shape.threads ≤ 64) × (1 ≤ shape.rows) × (shape.rows ≤ 1024) × (1 ≤ shape.passes) }
+        requires zeros { zeros.now ≡ replicate (shape.threads * thread_len shape.rows) 0 }
+        requires slots { slots.items ≡ map Some shape.first.value.items }
+        requires full { 0 < length shape.first.value.items → length shape.first.value.items ≡ shape.threads }
+        ensures board { IfOk result (λ b. (b.0.shape ≡ shape) × (b.1.table_id ≡ b.0.words.shared.table_id)) }
+        ensures seat { IfOk result (λ b. b.1.me ≡ (dealer shape 0, [])) }
+    {
+        match Words::new(alloc, zeros, slots, &shape) {
+            Ok((words, seat)) => Ok((Board { words, shape }, seat)),
+            Err(_) => Err(AllocError),
+        }
+    }
+
+    /// The seat of pass `number`, which holds the first rows of the threads that fall to it. The
+    /// passes are dealt in order.
+    pub fn deal(&self, seat: &mut Seat<Option<M>, View<M>>, number: u64) -> Seat<Option<M>, View<M>>
+        requires seat { (seat.old.table_id ≡ self.now.words.shared.table_id) × (seat.old.me ≡ (dealer self.now.shape number, [])) }
+        requires number { number < self.now.shape.passes }
+        requires some_words { 1 ≤ self.now.shape.threads }
+        ensures seat { (seat.new.table_id ≡ seat.old.table_id) × (seat.new.id ≡ seat.old.id) × (seat.new.me ≡ (dealer self.now.shape (number + 1), [])) }
+        ensures pass { (result.table_id ≡ seat.old.table_id) × (result.me ≡ (dealt_pass (dealer self.now.shape number), [])) }
+    {
+        let _ = number;
+        self.words.shared.split_seat::<Deal>(seat)
+    }
+}

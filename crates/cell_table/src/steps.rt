@@ -1,0 +1,371 @@
+//! One function for each atomic step, and what the table has.
+
+ghost use Rattle.std.specs.Prelude.{◌≡◌, ◌≢◌, ◌*◌, ◌+◌, ◌<◌, ◌≤◌, ◌↔◌, List, [], ◌∷◌, length, slice_get, true, IfOk, IfErr, IsTrue, None, Some};
+ghost use Rattle.protocol.specs.Standing.{Result};
+ghost use Rattle.protocol_values.specs.Words.{is_word_for, IsBindingInRange, IsJoinedInRange};
+ghost use Rattle.protocol_values.specs.declared.Binding.{Binding};
+ghost use Rattle.protocol_values.specs.declared.NackName.{NackName};
+ghost use Rattle.protocol_values.specs.declared.Cell.TheVariants.{Waiting, Synched};
+ghost use Rattle.protocol_values.specs.declared.Step.TheVariants.{
+  Claim as ClaimStep,
+  Grant as GrantStep,
+  Open as OpenStep,
+  Seal as SealStep,
+  Take as TakeStep,
+  Yield as YieldStep,
+};
+ghost use Rattle.protocol.specs.Tables.{bound_row, thread_len, nack_place, place_of};
+ghost use Rattle.protocol_values.specs.Values.{next_row};
+ghost use Rattle.protocol.specs.Worlds.{mirrored};
+ghost use Rattle.cell_table.specs.declared.view.Stage.TheVariants.{Resting, Claims, Joins};
+ghost use Rattle.atomic_table.specs.Table.{rest};
+ghost use Rattle.cell_table.specs.Rule.{IsReady};
+ghost use Rattle.cell_table.specs.Told.{Agrees, AgreesNack, ComesOut, GoesHome, IsEarlier, began, cell_read, joining, nack_read, settled};
+ghost use Rattle.cell_table.specs.Seats.{Sits, HasNack, HasRow, StaysAtTable, StaysSeated};
+ghost use Rattle.cell_table.specs.Nacks.{CanGrant};
+ghost use Rattle.cell_table.specs.Sight.{Has, CanJoin};
+ghost use Rattle.cell_table.specs.Views.{bind_of, bound_nack, did, saw, saw_nack, took_with, read_word, turned, word_drafted};
+
+use crate::board::Board;
+use crate::plays::{
+    Begin, Bind, Claim, Draft, Give, GiveUp, Join, Look, LookNack, Open, Read, Seal, Take,
+};
+use crate::view::View;
+use atomic_table::Seat;
+use protocol::{NACKS, ROW_LEN, Resident};
+use protocol_values::{
+    Binding, Cell, Joined, NackName, Row, pack_cell, pack_nack, read_cell, unpack_cell, unpack_nack,
+};
+
+impl<M: Resident> Board<M> {
+    /// Whether the table has the row.
+    pub fn has(&self, row: Row) -> bool
+        ensures { IsTrue result ↔ HasRow self.now row }
+    {
+        u64::from(row.thread) < self.shape.threads && u64::from(row.sync) < self.shape.rows
+    }
+
+    /// Whether the table has the nack.
+    pub fn has_nack(&self, nack: NackName) -> bool
+        ensures { IsTrue result ↔ HasNack self.now nack }
+    {
+        u64::from(nack.thread) < self.shape.threads && usize::from(nack.k) < NACKS
+    }
+
+    // how many words a thread has
+    fn thread_len(&self) -> usize
+        ensures { result ≡ thread_len self.now.shape.rows }
+    {
+        self.shape.rows as usize * ROW_LEN + NACKS
+    }
+
+    // where the word of a row at a place lies
+    fn place(&self, row: Row, place: u8) -> usize
+        requires { HasRow self.now row × (place < 34) }
+        ensures { (result ≡ place_of self.now.shape.rows row place) × (result < self.now.words.shared.table_id.words) }
+    {
+        usize::from(row.thread) * self.thread_len()
+            + usize::from(row.sync) * ROW_LEN
+            + usize::from(place)
+    }
+
+    // where the word of a nack lies
+    fn nack_place(&self, nack: NackName) -> usize
+        requires { HasNack self.now nack }
+        ensures { (result ≡ nack_place self.now.shape.rows nack) × (result < self.now.words.shared.table_id.words) }
+    {
+        usize::from(nack.thread) * self.thread_len()
+            + self.shape.rows as usize * ROW_LEN
+            + usize::from(nack.k)
+    }
+
+    /// Reads where the nack is bound.
+    pub fn look_nack(&self, seat: &mut Seat<Option<M>, View<M>>, nack: NackName) -> Option<Binding>
+        requires { Sits self.now seat.old × HasNack self.now nack }
+        ensures sits { StaysSeated self.now seat.old seat.new }
+        ensures saw { seat.new.me.0 ≡ saw_nack nack result seat.old.me.0 }
+        ensures agrees { AgreesNack seat.old.me.0 nack result }
+    {
+        nack_in(
+            self.words
+                .shared
+                .load::<LookNack>(seat, self.nack_place(nack)),
+        )
+    }
+
+    /// Binds a nack to a held row of its thread that is not opened yet, where it is not bound; else
+    /// says where it is.
+    pub fn bind_nack(
+        &self,
+        seat: &mut Seat<Option<M>, View<M>>,
+        nack: NackName,
+        bound: Binding,
+    ) -> Result<(), Binding>
+        requires sits { Sits self.now seat.old × HasNack self.now nack × HasRow self.now (bound_row nack bound) }
+        requires held { Has seat.old.me.0.seen.held (bound_row nack bound) × (¬ Has seat.old.me.0.seen.opened (bound_row nack bound)) }
+        requires range { IsBindingInRange bound }
+        ensures sits { StaysSeated self.now seat.old seat.new }
+        ensures bound { IfOk result (λ _. (seat.new.me.0 ≡ did (bind_of nack bound) (bound_nack nack bound seat.old.me.0)) × ((b : Binding) → ¬ Has seat.old.me.0.seen.bound (nack, b))) }
+        ensures found { IfErr result (λ b. (seat.new.me.0 ≡ bound_nack nack b seat.old.me.0) × (b.sync ≤ bound.sync) × (Has seat.old.me.0.seen.held (bound_row nack b) → Has seat.old.me.0.seen.bound (nack, b)) × (b.sync < bound.sync → 0 < length self.now.shape.first.value.items → IsEarlier M.stands self.now.shape.first.value.items seat.old.me.0.results nack b)) }
+    {
+        let free = pack_nack(None);
+        let word = pack_nack(Some(bound));
+        let found = self
+            .words
+            .shared
+            .compare_exchange::<Bind>(seat, self.nack_place(nack), free, word);
+        match nack_in(found) {
+            None => Ok(()),
+            Some(bound) => Err(bound),
+        }
+    }
+
+    /// Reads the row's cell.
+    pub fn look(&self, seat: &mut Seat<Option<M>, View<M>>, row: Row) -> Cell
+        requires { Sits self.now seat.old × HasRow self.now row }
+        ensures sits { StaysSeated self.now seat.old seat.new }
+        ensures saw { seat.new.me.0 ≡ saw row result seat.old.me.0 }
+        ensures agrees { Agrees seat.old.me.0 row result }
+    {
+        read_cell(self.words.shared.load::<Look>(seat, self.place(row, 0)))
+    }
+
+    /// Reads a word of a row that was seen opened.
+    pub fn read(&self, seat: &mut Seat<Option<M>, View<M>>, row: Row, place: u8) -> u64
+        requires sits { Sits self.now seat.old × HasRow self.now row }
+        requires place { (1 ≤ place) × (place < 34) × Has seat.old.me.0.seen.opened row }
+        ensures sits { StaysSeated self.now seat.old seat.new }
+        ensures read { seat.new.me.0 ≡ read_word row place result seat.old.me.0 }
+    {
+        self.words.shared.load::<Read>(seat, self.place(row, place))
+    }
+
+    /// Writes a word of a held row that is not opened yet.
+    pub fn draft(&self, seat: &mut Seat<Option<M>, View<M>>, row: Row, place: u8, word: u64)
+        requires sits { Sits self.now seat.old × HasRow self.now row }
+        requires place { (1 ≤ place) × (place < 34) × (is_word_for place word ≡ true) }
+        requires held { Has seat.old.me.0.seen.held row × (¬ Has seat.old.me.0.seen.opened row) }
+        ensures sits { StaysSeated self.now seat.old seat.new }
+        ensures drafted { seat.new.me.0 ≡ word_drafted row place word seat.old.me.0 }
+    {
+        self.words
+            .shared
+            .store::<Draft>(seat, self.place(row, place), word);
+    }
+
+    /// Opens a held row that is Fresh.
+    pub fn open(&self, seat: &mut Seat<Option<M>, View<M>>, row: Row)
+        requires sits { Sits self.now seat.old × HasRow self.now row }
+        requires held { Has seat.old.me.0.seen.held row × (¬ Has seat.old.me.0.seen.opened row) × (seat.old.me.0.stage ≡ Resting) }
+        requires parked { 0 < length self.now.shape.first.value.items → (value : M) × (seat.old.me.1 ≡ (row.thread, Some value) ∷ rest seat.old.me.1) × IsReady M.stands self.now.shape.first.value.items seat.old.me.0.results seat.old.me.0.seen row value }
+        ensures sits { StaysAtTable self.now seat.old seat.new }
+        ensures opened { seat.new.me.0 ≡ did (OpenStep row) (turned Resting row seat.old.me.0) }
+        ensures home { GoesHome self.now.shape.first.value.items seat.old.me.1 seat.new.me.1 }
+    {
+        self.words
+            .shared
+            .store::<Open>(seat, self.place(row, 0), pack_cell(Cell::Waiting));
+    }
+
+    /// Takes what stood for the row's thread at first out of its slot. The row is the thread's first, and held.
+    pub fn begin(&self, seat: &mut Seat<Option<M>, View<M>>, row: Row)
+        requires sits { Sits self.now seat.old × HasRow self.now row }
+        requires first { (row.sync ≡ 0) × Has seat.old.me.0.seen.held row × (¬ Has seat.old.me.0.seen.begun row) }
+        requires some { 0 < length self.now.shape.first.value.items }
+        ensures sits { StaysAtTable self.now seat.old seat.new }
+        ensures began { seat.new.me.0 ≡ began row seat.old.me.0 }
+        ensures out { (value : M) × (slice_get self.now.shape.first.value.items row.thread ≡ Some value) × (seat.new.me.1 ≡ (row.thread, Some value) ∷ seat.old.me.1) }
+    {
+        self.words.shared.load::<Begin>(seat, self.place(row, 0));
+    }
+
+    /// Takes the value out of the slot of the row's thread, which came out last.
+    pub fn lift(&self, seat: &mut Seat<Option<M>, View<M>>, row: Row) -> M
+        requires sits { Sits self.now seat.old }
+        requires out { (value : M) × (seat.old.me.1 ≡ (row.thread, Some value) ∷ rest seat.old.me.1) }
+        ensures sits { StaysAtTable self.now seat.old seat.new }
+        ensures same { seat.new.me.0 ≡ seat.old.me.0 }
+        ensures lifted { (seat.old.me.1 ≡ (row.thread, Some result) ∷ rest seat.old.me.1) × (seat.new.me.1 ≡ (row.thread, None) ∷ rest seat.old.me.1) }
+    {
+        match self
+            .words
+            .shared
+            .exchange(seat, usize::from(row.thread), None)
+        {
+            Some(value) => value,
+            None => unreachable!(),
+        }
+    }
+
+    /// Lays the value into the slot of the row's thread, which came out last and is empty.
+    pub fn lay(&self, seat: &mut Seat<Option<M>, View<M>>, row: Row, value: M)
+        requires sits { Sits self.now seat.old }
+        requires out { seat.old.me.1 ≡ (row.thread, None) ∷ rest seat.old.me.1 }
+        ensures sits { StaysAtTable self.now seat.old seat.new }
+        ensures same { seat.new.me.0 ≡ seat.old.me.0 }
+        ensures laid { seat.new.me.1 ≡ (row.thread, Some value) ∷ rest seat.old.me.1 }
+    {
+        let before = self
+            .words
+            .shared
+            .exchange(seat, usize::from(row.thread), Some(value));
+        let None = before else { unreachable!() };
+    }
+
+    /// Claims a held row, where it is Waiting; else says what it is.
+    pub fn claim(&self, seat: &mut Seat<Option<M>, View<M>>, row: Row) -> Result<(), Cell>
+        requires sits { Sits self.now seat.old × HasRow self.now row }
+        requires held { Has seat.old.me.0.seen.held row × (seat.old.me.0.stage ≡ Resting) }
+        ensures sits { StaysSeated self.now seat.old seat.new }
+        ensures claimed { IfOk result (λ _. seat.new.me.0 ≡ did (ClaimStep row) (turned (Claims row) row seat.old.me.0)) }
+        ensures found { IfErr result (λ cell. (cell ≢ Waiting) × (seat.new.me.0 ≡ saw row cell seat.old.me.0) × Agrees seat.old.me.0 row cell) }
+    {
+        let waiting = pack_cell(Cell::Waiting);
+        let claimed = pack_cell(Cell::Claimed);
+        let found = self
+            .words
+            .shared
+            .compare_exchange::<Claim>(seat, self.place(row, 0), waiting, claimed);
+        exchanged(found, waiting)
+    }
+
+    /// Gives up the row that this call has claimed.
+    pub fn give_up(&self, seat: &mut Seat<Option<M>, View<M>>, row: Row)
+        requires sits { Sits self.now seat.old × HasRow self.now row }
+        requires held { Has seat.old.me.0.seen.held row × (seat.old.me.0.stage ≡ Claims row) }
+        ensures sits { StaysSeated self.now seat.old seat.new }
+        ensures waits { seat.new.me.0 ≡ did (YieldStep row) (turned Resting row seat.old.me.0) }
+    {
+        self.words
+            .shared
+            .store::<GiveUp>(seat, self.place(row, 0), pack_cell(Cell::Waiting));
+    }
+
+    /// Joins another row with the claimed one, where it is Waiting; else says what it is.
+    pub fn join(
+        &self,
+        seat: &mut Seat<Option<M>, View<M>>,
+        mine: Row,
+        own: u8,
+        row: Row,
+        partner: u8,
+        joined: Joined,
+    ) -> Result<(), Cell>
+        requires sits { Sits self.now seat.old × HasRow self.now row }
+        requires held { Has seat.old.me.0.seen.held mine × (seat.old.me.0.stage ≡ Claims mine) }
+        requires can { CanJoin seat.old.me.0.seen mine own row partner joined × IsJoinedInRange joined }
+        ensures sits { StaysSeated self.now seat.old seat.new }
+        ensures joined { IfOk result (λ _. seat.new.me.0 ≡ joining mine own row joined seat.old.me.0) }
+        ensures found { IfErr result (λ cell. (cell ≢ Waiting) × (seat.new.me.0 ≡ saw row cell seat.old.me.0) × Agrees seat.old.me.0 row cell) }
+    {
+        let waiting = pack_cell(Cell::Waiting);
+        let synched = pack_cell(Cell::Synched(joined));
+        let found = self
+            .words
+            .shared
+            .compare_exchange::<Join>(seat, self.place(row, 0), waiting, synched);
+        exchanged(found, waiting)
+    }
+
+    /// Commits a row alone, where it is Waiting; else says what it is.
+    pub fn give(
+        &self,
+        seat: &mut Seat<Option<M>, View<M>>,
+        row: Row,
+        joined: Joined,
+    ) -> Result<(), Cell>
+        requires sits { Sits self.now seat.old × HasRow self.now row }
+        requires resting { seat.old.me.0.stage ≡ Resting }
+        requires can { CanGrant seat.old.me.0.seen row joined.own joined × IsJoinedInRange joined }
+        ensures sits { StaysSeated self.now seat.old seat.new }
+        ensures given { IfOk result (λ _. (seat.new.me.0 ≡ did (GrantStep row joined.own) (settled row joined seat.old.me.0)) × Agrees seat.old.me.0 row Waiting) }
+        ensures found { IfErr result (λ cell. (cell ≢ Waiting) × (seat.new.me.0 ≡ saw row cell seat.old.me.0) × Agrees seat.old.me.0 row cell) }
+    {
+        let waiting = pack_cell(Cell::Waiting);
+        let granted = pack_cell(Cell::Synched(joined));
+        let found = self
+            .words
+            .shared
+            .compare_exchange::<Give>(seat, self.place(row, 0), waiting, granted);
+        exchanged(found, waiting)
+    }
+
+    /// Takes a row that is committed so, where nobody has taken it; else says what it is. The pass
+    /// holds the thread's next row then, if there is one.
+    pub fn take_committed(
+        &self,
+        seat: &mut Seat<Option<M>, View<M>>,
+        row: Row,
+        joined: Joined,
+    ) -> Result<(), Cell>
+        requires sits { Sits self.now seat.old × HasRow self.now row }
+        requires range { IsJoinedInRange joined }
+        ensures sits { StaysAtTable self.now seat.old seat.new }
+        ensures took { IfOk result (λ _. (results : List Result) × (length results ≡ row.sync + 1) × (seat.new.me.0 ≡ did (TakeStep row) (took_with row joined results seat.old.me.0)) × ComesOut M.stands self.now.shape.first.value.items seat.old.me.0.seen row joined.own results seat.old.me.1 seat.new.me.1 × Agrees seat.old.me.0 row (Synched joined) × (¬ Has seat.old.me.0.seen.opened (next_row row)) × ((n : NackName) (b : Binding) → Has seat.old.me.0.seen.bound (n, b) → bound_row n b ≢ next_row row)) }
+        ensures found { IfErr result (λ cell. (cell ≢ Synched joined) × (seat.new.me ≡ (saw row cell seat.old.me.0, seat.old.me.1)) × Agrees seat.old.me.0 row cell) }
+    {
+        let committed = pack_cell(Cell::Synched(joined));
+        let taken = pack_cell(Cell::Taken(joined));
+        let found = self
+            .words
+            .shared
+            .compare_exchange::<Take>(seat, self.place(row, 0), committed, taken);
+        exchanged(found, committed)
+    }
+
+    /// Commits the claimed row, as the row says that this call has joined with it.
+    pub fn seal(
+        &self,
+        seat: &mut Seat<Option<M>, View<M>>,
+        row: Row,
+        own: u8,
+        other: Row,
+        joined: Joined,
+    )
+        requires sits { Sits self.now seat.old × HasRow self.now row }
+        requires held { Has seat.old.me.0.seen.held row × (seat.old.me.0.stage ≡ Joins row other joined) }
+        requires partner { (joined.partner ≡ Some (row, own)) × IsJoinedInRange (mirrored other joined own) }
+        ensures sits { StaysSeated self.now seat.old seat.new }
+        ensures sealed { seat.new.me.0 ≡ did (SealStep row) (settled row (mirrored other joined own) seat.old.me.0) }
+    {
+        let committed = Joined {
+            own,
+            partner: Some((other, joined.own)),
+            stamp: joined.stamp,
+        };
+        self.words.shared.store::<Seal>(
+            seat,
+            self.place(row, 0),
+            pack_cell(Cell::Synched(committed)),
+        );
+    }
+}
+
+// what an exchange came to: it was made where the word was the expected one; else the cell that was found
+fn exchanged(found: u64, expected: u64) -> Result<(), Cell>
+    ensures made { IfOk result (λ _. found ≡ expected) }
+    ensures refused { IfErr result (λ cell. (found ≢ expected) × (cell ≡ cell_read found)) }
+{
+    if found == expected {
+        Ok(())
+    } else {
+        Err(cell_in(found))
+    }
+}
+
+// the cell that a word of the table stands for
+fn cell_in(word: u64) -> Cell
+    ensures { result ≡ cell_read word }
+{
+    match unpack_cell(word) {
+        Some(cell) => cell,
+        None => Cell::Fresh,
+    }
+}
+
+// where a word of the table says that a nack is bound
+fn nack_in(word: u64) -> Option<Binding>
+    ensures { result ≡ nack_read word }
+{
+    unpack_nack(word).unwrap_or(None)
+}

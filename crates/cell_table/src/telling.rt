@@ -1,0 +1,36 @@
+//! One pass tells another what it has seen.
+
+ghost use Rattle.std.specs.Prelude.{◌≡◌};
+ghost use Rattle.cell_table.specs.Rule.{heard_pass, told_pass};
+ghost use Rattle.cell_table.specs.Seats.{Sits, StaysSeated};
+
+use crate::board::Board;
+use crate::plays::{Glance, Tell};
+use crate::view::View;
+use atomic_table::Seat;
+use protocol::Resident;
+
+impl<M: Resident> Board<M> {
+    /// What `from` has seen, and what it drafted for its opened rows, is seen by `to` from now on.
+    pub fn tell(&self, from: &mut Seat<Option<M>, View<M>>, to: &mut Seat<Option<M>, View<M>>)
+        requires { Sits self.now from.old × Sits self.now to.old }
+        ensures sits { (from.new.id ≡ from.old.id) × Sits self.now from.new × (to.new.id ≡ to.old.id) × Sits self.now to.new }
+        ensures from { from.new.me.0 ≡ from.old.me.0 }
+        ensures out { (from.new.me.1 ≡ from.old.me.1) × (to.new.me.1 ≡ to.old.me.1) }
+        ensures to { to.new.me.0 ≡ heard_pass to.old.me.0 (told_pass from.old.me.0) }
+    {
+        let told = self.words.shared.split_seat::<Tell>(from);
+        self.words.shared.join_seat::<Tell>(to, told);
+        self.glance(to);
+    }
+
+    /// Reads a word and learns nothing by it: a pass that was told something sees so that all that it
+    /// has seen is of one table.
+    fn glance(&self, seat: &mut Seat<Option<M>, View<M>>)
+        requires sits { (seat.old.table_id ≡ self.now.words.shared.table_id) × (seat.old.me.0.threads ≡ self.now.shape.threads) × (seat.old.me.0.rows ≡ self.now.shape.rows) × (seat.old.me.0.first ≡ self.now.shape.first.value.items) }
+        ensures sits { StaysSeated self.now seat.old seat.new }
+        ensures stays { seat.new.me.0 ≡ seat.old.me.0 }
+    {
+        self.words.shared.load::<Glance>(seat, 0);
+    }
+}

@@ -1,0 +1,68 @@
+//! A table's size, and what a pass has seen. No value of `Stage`, `Seen` or `View` is made: contracts
+//! alone read them.
+
+use protocol_values::{Binding, Joined, Message, NackName, Row, Step};
+use std::collections::LinkedList;
+use std::snapshot::Snapshot;
+
+/// How large a table is, and what stood for its threads at first.
+#[derive(Drop)]
+pub struct Shape<M> {
+    pub threads: u64,
+    pub rows: u64,
+    pub passes: u64,
+    /// Thread by thread; none where nothing stands for them.
+    pub first: Snapshot<Vec<M>>,
+}
+
+/// Where a call is between two steps.
+#[derive(Debug, Drop)]
+pub enum Stage {
+    Resting,
+    /// It has claimed the row.
+    Claims(Row),
+    /// It has claimed the first row, and joined the second so.
+    Joins(Row, Row, Joined),
+}
+
+/// What a pass has seen. It only grows, but for the drafts of a held row that is not opened yet.
+#[derive(Debug, Drop)]
+pub struct Seen {
+    /// The rows that the pass holds. Those that it did not see opened are Fresh.
+    pub held: LinkedList<Row>,
+    /// The words that it drafted: of a row, at a place.
+    pub drafts: LinkedList<(Row, u8, u64)>,
+    /// The rows that it saw opened.
+    pub opened: LinkedList<Row>,
+    /// The words of opened rows that it read.
+    pub words: LinkedList<(Row, u8, u64)>,
+    /// The rows that it saw committed, and how.
+    pub joined: LinkedList<(Row, Joined)>,
+    /// The rows that it saw taken.
+    pub taken: LinkedList<Row>,
+    /// The nacks that it bound or saw bound, and where.
+    pub bound: LinkedList<(NackName, Binding)>,
+    /// The first rows of threads whose first value it fetched.
+    pub begun: LinkedList<Row>,
+}
+
+/// What the table's rule knows of a pass.
+#[derive(Debug, Drop)]
+pub struct View<M> {
+    /// The table's size.
+    pub threads: u64,
+    pub rows: u64,
+    pub passes: u64,
+    /// The values that stood for the threads at first, thread by thread; none where none stand for them.
+    pub first: LinkedList<M>,
+    /// The results of threads that the pass has seen: of each, those of its first rows.
+    pub results: LinkedList<(u8, LinkedList<(u8, Message)>)>,
+    /// The seats below this one have their rows already; this pass deals the others.
+    pub dealt: u64,
+    /// The seat of the protocol that makes this pass's steps.
+    pub seat: u8,
+    pub stage: Stage,
+    pub seen: Seen,
+    /// The steps of the protocol that the pass has made, the last one first.
+    pub made: LinkedList<Step>,
+}

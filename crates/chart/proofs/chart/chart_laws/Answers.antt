@@ -1,5 +1,0 @@
-use Rattle.chart.proofs.Plainly.{names_plain, messages_plain, causes_plain}
-use Rattle.chart.proofs.chart.chart_laws.Goals as goal
-
-pub returns : goal.returns
-returns c = record { names = names_plain; messages = messages_plain; causes = causes_plain }

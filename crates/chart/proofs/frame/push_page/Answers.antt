@@ -1,8 +1,0 @@
-use Rattle.std.proofs.Common.{◌∙◌, append_assoc}
-use Rattle.std.proofs.lemmas.Result.{on_ok_weaker}
-use Rattle.chart.specs.Chart.{page}
-use Rattle.chart.proofs.frame.push_page.Goals as goal
-
-pub returns : goal.returns
-unfolding page
-returns c = on_ok_weaker c.write.result (λ e. e ∙ simp append_assoc) c.write.ensures.bytes

@@ -1,8 +1,0 @@
-use Rattle.std.proofs.Common.{◌∙◌, append_assoc}
-use Rattle.std.proofs.lemmas.Result.{on_ok_weaker}
-use Rattle.chart.specs.Marks.{dot}
-use Rattle.chart.proofs.mark.push_dot.Goals as goal
-
-pub returns : goal.returns
-unfolding dot
-returns c = on_ok_weaker c.write.result (λ e. e ∙ simp append_assoc) c.write.ensures.bytes

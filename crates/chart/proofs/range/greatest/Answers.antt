@@ -1,6 +1,0 @@
-use Rattle.chart.proofs.Ranging.{greatest_step}
-use Rattle.chart.proofs.range.greatest.Goals as goal
-
-pub loop-commit-preserved : goal.loop-commit-preserved
-loop-commit-preserved c =
-    greatest_step c.args.commits.now c.loop-commit.commit-index _ c.loop-commit.greatest c.greater-greatest.result c.loop-commit-test.true c.loop-commit.invariant c.greater-greatest.ensures

@@ -1,4 +1,0 @@
-pub mod Written
-pub mod Meaning
-pub mod Depths
-pub mod Laws

@@ -1,4 +1,0 @@
-pub mod Ordering
-pub mod Keeping
-pub mod Onceness
-pub mod Positioning

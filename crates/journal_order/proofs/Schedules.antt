@@ -1,0 +1,29 @@
+-- The ledger of a schedule whose rows are opened as their processes offer is one of the processes.
+use Rattle.std.proofs.Common.{◌≡◌, ℕ, refl, ◌∙◌, arith}
+use Rattle.protocol.specs.Ledgers.{ledger_of}
+use Rattle.protocol.specs.Tables.{Table}
+use Rattle.protocol.specs.Worlds.{start_world}
+use Rattle.protocol.proofs.LedgerLemmas.{kept_start, lawful_schedule}
+use Rattle.protocol.proofs.Onward.{grows-schedule}
+use Rattle.protocol.proofs.Standing.{rows-stand, stands-ledger}
+use Rattle.journal_order.specs.Ledgers.{ProcessOffers, ScheduleHasLedger, ScheduleIsRun}
+use Rattle.journal_order.proofs.Leading.{ledger-is-run}
+
+pub schedule-has-ledger : ScheduleHasLedger
+schedule-has-ledger ps threads rows seats steps w few_threads few_rows plays opens =
+    stands-ledger (ProcessOffers ps) w.table (rows-stand (ProcessOffers ps) threads rows seats steps w few_threads few_rows plays opens)
+
+ledger-rows : (t : Table) → (ledger_of t).rows ≡ t.rows
+unfolding ledger_of
+ledger-rows t = refl
+
+start-rows : (threads rows seats : ℕ) → (start_world threads rows seats).table.rows ≡ rows
+unfolding start_world
+start-rows threads rows seats = refl
+
+pub schedule-is-run : ScheduleIsRun
+schedule-is-run ps threads rows seats steps w commits few_threads few_rows plays opens order =
+    let size : (ledger_of w.table).rows ≡ rows = ledger-rows w.table ∙ (grows-schedule (start_world threads rows seats) w steps (kept_start threads rows seats few_threads few_rows) plays).rows ∙ start-rows threads rows seats in
+    ledger-is-run ps rows (ledger_of w.table) commits (lawful_schedule threads rows seats steps w few_threads few_rows plays)
+    (schedule-has-ledger ps threads rows seats steps w few_threads few_rows plays opens)
+    (omega (arith, size)) order

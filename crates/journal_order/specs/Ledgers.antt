@@ -1,0 +1,47 @@
+-- Ledgers of processes: each row offers what its process offers after the results of the thread's earlier rows.
+use Rattle.std.specs.Prelude.{◌≡◌, ℕ, ◌≤◌, List}
+use Rattle.event.specs.Tree.{Tree, offers, scope_nacks}
+use Rattle.script_tree.specs.Processes.{Proc}
+use Rattle.thread.specs.After.{Chosen}
+use Rattle.protocol_values.specs.declared.Commit.{Commit}
+use Rattle.protocol_values.specs.declared.Offer.{Offer}
+use Rattle.protocol_values.specs.declared.Seat.{Seat}
+use Rattle.protocol_values.specs.declared.Step.{Step}
+use Rattle.protocol.specs.Ledgers.{Ledger, IsLawful, ledger_of}
+use Rattle.protocol.specs.Standing.{EachOffersAs, EachOpenedAs}
+use Rattle.protocol.specs.Worlds.{Plays, World, start_world}
+use Rattle.journal_replay.specs.Runs.{IsOffering, IsRun}
+use Rattle.journal_order.specs.Laws.{IsOrderOf}
+
+-- after these results the thread's process offers an event that makes these offers, with these nacks of its scopes
+pub record ProcessOffers (ps : List Proc) (t : ℕ) (results : List Chosen) (made : List Offer) (nacks : List ℕ) : Type 0 where
+  pub event : Tree
+  pub offered : IsOffering ps t results event
+  pub are : offers event ≡ made
+  pub scopes : scope_nacks event ≡ nacks
+
+-- each row that offers something does so as its process, and has its nacks
+abbrev pub IsLedgerOf : List Proc → Ledger → Type 0
+IsLedgerOf ps l = EachOffersAs (ProcessOffers ps) l
+
+-- the commits of a lawful ledger of processes, in order, are a run of them
+abbrev pub LedgerIsRun : Type 0
+LedgerIsRun =
+    (ps : List Proc) (rows : ℕ) (l : Ledger) (commits : List Commit) → IsLawful l → IsLedgerOf ps l → l.rows ≤ rows →
+    IsOrderOf l commits → IsRun ps rows commits
+
+-- SCHEDULES
+
+-- however the steps of a schedule fall, where each row is opened as its process offers there, its ledger is one of them
+abbrev pub ScheduleHasLedger : Type 0
+ScheduleHasLedger =
+    (ps : List Proc) (threads rows seats : ℕ) (steps : List (Seat × Step)) (w : World) → threads ≤ 64 → rows ≤ 1024 →
+    Plays (start_world threads rows seats) steps w → EachOpenedAs (ProcessOffers ps) (start_world threads rows seats) steps →
+    IsLedgerOf ps (ledger_of w.table)
+
+-- so its commits in order are a run of them
+abbrev pub ScheduleIsRun : Type 0
+ScheduleIsRun =
+    (ps : List Proc) (threads rows seats : ℕ) (steps : List (Seat × Step)) (w : World) (commits : List Commit) → threads ≤ 64 → rows ≤ 1024 →
+    Plays (start_world threads rows seats) steps w → EachOpenedAs (ProcessOffers ps) (start_world threads rows seats) steps →
+    IsOrderOf (ledger_of w.table) commits → IsRun ps rows commits

@@ -1,0 +1,63 @@
+//! The order of a journal: laws of runs in sequential CML. No code runs here.
+#![tactic(auto)]
+
+ghost use Rattle.journal_order.specs.Laws.{EachMeets, HasOrder, NamedIsReceived, OneLedgerOrder, OneOrder, OneRowOneCommit, OneStampOneThread, OneSyncOneNack, OrderedIsRun, ReceivedIsSent, StampsRise};
+ghost use Rattle.journal_order.specs.Ledgers.{LedgerIsRun, ScheduleHasLedger, ScheduleIsRun};
+
+/// In a run the stamps of a thread's commits rise, so two commits of one stamp share no thread.
+pub fn stamp_laws()
+    ensures rise { StampsRise }
+    ensures one { OneStampOneThread }
+{}
+
+/// In a run each sync is in at most one commit.
+pub fn row_law()
+    ensures { OneRowOneCommit }
+{}
+
+/// Whatever results a thread has, a nack stands in the scopes of at most one of its syncs: so at most one
+/// sync fires it.
+pub fn nack_law()
+    ensures { OneSyncOneNack }
+{}
+
+/// In a run each commit is a meeting of the syncs that it names: a pair is of two threads, of which one
+/// sent the message on the channel and the other received and got it; a sync that was committed alone took
+/// an always, or a nack whose own sync chose outside its scope.
+pub fn meeting_law()
+    ensures { EachMeets }
+{}
+
+/// The commits of a run, put in order by stamp and then by the thread named first, are a run too, and
+/// lead to the same configuration. They can be put in order, and in one way.
+pub fn ordering_laws()
+    ensures run { OrderedIsRun }
+    ensures there { HasOrder }
+    ensures one { OneOrder }
+{}
+
+/// The commits of a lawful ledger stand in this order in one way.
+pub fn ledger_order_law()
+    ensures { OneLedgerOrder }
+{}
+
+/// In a run the messages of one thread on a channel are received in the order in which it sent them. They
+/// are those that the pairs of the thread on that channel name.
+pub fn message_laws()
+    ensures sent { ReceivedIsSent }
+    ensures named { NamedIsReceived }
+{}
+
+/// Where each row of a lawful ledger offers what its process offers after the results of the thread's earlier
+/// rows, and the nacks of each such event's scopes, and no others, are bound to its row, the ledger's commits
+/// in order are a run of the processes.
+pub fn ledger_run_law()
+    ensures { LedgerIsRun }
+{}
+
+/// However the steps of a schedule fall, where each row is opened as its process offers there, the schedule's
+/// ledger is one of the processes, and its commits in order are a run of them.
+pub fn schedule_laws()
+    ensures ledger { ScheduleHasLedger }
+    ensures run { ScheduleIsRun }
+{}

@@ -1,0 +1,14 @@
+-- How a process stands, in words.
+use Rattle.std.specs.Prelude.{ℕ, List, codes}
+use Rattle.thread.specs.declared.Fault.TheVariants.{Unset, Kind, Range, Shape}
+use Rattle.journal_replay.specs.declared.end.End.{End}
+use Rattle.journal_replay.specs.declared.end.End.TheVariants.{Ended, Waiting, Spent, Faulted}
+
+abbrev pub end_text : End → List ℕ
+end_text Ended = codes "ended"
+end_text Waiting = codes "waiting"
+end_text Spent = codes "spent"
+end_text (Faulted Unset) = codes "faulted unset"
+end_text (Faulted Kind) = codes "faulted kind"
+end_text (Faulted Range) = codes "faulted range"
+end_text (Faulted Shape) = codes "faulted shape"

@@ -1,0 +1,6 @@
+pub mod Runs
+pub mod Standing
+pub mod Reaching
+pub mod Replays
+pub mod Searching
+pub mod Ends

@@ -1,0 +1,36 @@
+//! How a thread ends.
+
+ghost use Rattle.std.specs.Prelude.{◌≡◌};
+ghost use Rattle.journal_replay.specs.Ends.{end_text};
+
+use thread::Fault;
+
+/// How a thread stands where a run leads.
+#[derive(Clone, Copy, Debug, PartialEq, Eq)]
+pub enum End {
+    /// Its process came to an end.
+    Ended,
+    /// It offers a sync that was not committed.
+    Waiting,
+    /// It reached a sync, and made as many before as it may.
+    Spent,
+    /// It stopped at a fault.
+    Faulted(Fault),
+}
+
+impl End {
+    /// The words for an end, as they stand in the line of a process.
+    pub fn text(self) -> &'static str
+        ensures { result.now ≡ end_text self }
+    {
+        match self {
+            End::Ended => "ended",
+            End::Waiting => "waiting",
+            End::Spent => "spent",
+            End::Faulted(Fault::Unset) => "faulted unset",
+            End::Faulted(Fault::Kind) => "faulted kind",
+            End::Faulted(Fault::Range) => "faulted range",
+            End::Faulted(Fault::Shape) => "faulted shape",
+        }
+    }
+}

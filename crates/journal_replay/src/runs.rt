@@ -1,0 +1,48 @@
+//! Runs, replayed commit by commit and led on to their end.
+
+ghost use Rattle.std.specs.Prelude.{◌≤◌, IfOk, length, map, MatchResult};
+ghost use Rattle.script_tree.specs.Processes.{proc_of};
+ghost use Rattle.journal_replay.specs.Replays.{Refuses, Settles, StandsAfter};
+
+use crate::openings::Openings;
+use crate::state::{ReplayFault, State};
+use crate::threads::Threads;
+use protocol_values::Commit;
+use script_tree::Proc;
+use std::alloc::{AllocError, Global};
+
+/// Adds the commits one after another, from the beginning of the processes, each of which makes at
+/// most `rows` syncs.
+pub fn replay(
+    alloc: Global,
+    processes: &[Proc],
+    rows: u16,
+    commits: &[Commit],
+) -> Result<State, ReplayFault>
+    requires { length processes.now ≤ 64 }
+    ensures { MatchResult result (StandsAfter (map proc_of processes.now) rows commits.now) (Refuses (map proc_of processes.now) rows commits.now) }
+{
+    let mut threads = Threads::start(alloc, processes, rows)?;
+    for (index, commit) in commits.iter().enumerate() {
+        if !threads.may_follow(commit) {
+            return Err(ReplayFault::Unlawful(index));
+        }
+        threads.apply(commit)?;
+    }
+    Ok(State { threads })
+}
+
+/// Adds commits that may come next, until there is none. Which ones is open.
+pub fn settle(alloc: Global, state: State) -> Result<(State, Vec<Commit>), AllocError>
+    ensures { IfOk result (λ settled. Settles state settled.0 settled.1.items) }
+{
+    let mut threads = state.threads;
+    let mut openings = Openings::of(alloc, &threads)?;
+    let mut added = Vec::new(alloc);
+    while let Some(commit) = openings.find(&threads) {
+        threads.apply(&commit)?;
+        openings.follow(&threads, &commit)?;
+        added.push(commit)?;
+    }
+    Ok((State { threads }, added))
+}

@@ -1,7 +1,0 @@
-use Rattle.lane.specs.Lanes.{IsLanePassOf}
-use Rattle.lane_tests.proofs.tests.threads.take_all.Given as goal
-
-abbrev pub invariant-loop : goal.invariant-loop
-invariant-loop g l =
-    (goal.iterator-loop g).can_next l.iterator' × (goal.iterator-loop g).is_finite l.iterator'
-    × IsLanePassOf l.lane l.taker.pass

@@ -1,6 +1,0 @@
-use Rattle.cell.specs.Calls.{IsPassOf}
-use Rattle.meet.specs.Rooms.{IsMeetPassOf}
-use Rattle.meet_tests.proofs.tests.spare.longest_lane.Given as goal
-
-abbrev pub invariant-loop-sync : goal.invariant-loop-sync
-invariant-loop-sync g l = IsPassOf l.cells l.pass × IsMeetPassOf l.meet l.lanes

@@ -1,0 +1,130 @@
+-- A chart: what its text is, and of which commits.
+use Rattle.std.specs.Prelude.{◌≡◌, ◌+◌, ◌*◌, ◌==◌, ℕ, zero, suc, Bool, true, false, if◌then◌else◌, List, [], ◌++◌, length, codes, Option, Some, slice_get, get_or, nat_le}
+use Rattle.std.specs.Fmt.{decimal}
+use Rattle.std.specs.List.{flat_map}
+use Rattle.protocol_values.specs.declared.Commit.{Commit}
+use Rattle.protocol_values.specs.declared.NackName.{NackName}
+use Rattle.script.specs.Sources.{Script}
+use Rattle.journal_text.specs.Names.{Naming, named}
+use Rattle.journal_replay.specs.Ends.{end_text}
+use Rattle.journal_replay.specs.Replays.{EndsOf, TellsFired}
+use Rattle.journal_replay.specs.declared.end.End.{End}
+use Rattle.journal_replay.specs.declared.end.End.TheVariants.{Ended}
+use Rattle.journal_replay.specs.declared.state.State.{State}
+use Rattle.pcml_chart.specs.Marks.{centered, mark, starting, text_end}
+use Rattle.pcml_chart.specs.Places.{bottom, column}
+use Rattle.pcml_chart.specs.Range.{IsEnd, greatest, shown}
+
+-- what is drawn: the names, how each process stands, the stamps at which nacks were enabled, the commits that are shown of how many,
+-- and whether the range was cut
+pub record Picture : Type 0 where
+  pub names : Naming
+  pub ends : List End
+  pub fired : NackName → Option ℕ
+  pub commits : List Commit
+  pub total : ℕ
+  pub from : ℕ
+  pub is_cut : Bool
+
+-- THE FRAME
+
+-- what is drawn for each number below n
+abbrev pub each_below : ℕ → (ℕ → List ℕ) → List ℕ
+each_below zero f = []
+each_below (suc n) f = each_below n f ++ f n
+
+abbrev pub page_width : ℕ → ℕ
+page_width threads = 140 * threads + 140
+
+abbrev pub page_height : ℕ → ℕ
+page_height low = low + 32
+
+unfoldable pub style : List ℕ
+style =
+    codes "<style>text{stroke:white;stroke-width:3px;paint-order:stroke}.s{text-anchor:start}path{stroke:black;fill:none}.n{stroke-dasharray:4 4}.a{marker-start:url(#tail);marker-end:url(#head)}</style>\n"
+
+-- how an arrow begins
+unfoldable pub arrow_tail : List ℕ
+arrow_tail = codes "<defs><marker id='tail' viewBox='-4 -4 8 8' markerWidth='8' markerHeight='8'><circle r='2.5' fill='white' stroke='black'/></marker>"
+
+-- and how it ends
+unfoldable pub arrow_head : List ℕ
+arrow_head = codes "<marker id='head' viewBox='0 0 9 8' refX='9' refY='4' markerWidth='9' markerHeight='8' orient='auto'><path d='M0 0L9 4L0 8z' style='fill:black;stroke:none'/></marker></defs>\n"
+
+unfoldable pub background : List ℕ
+background = codes "<rect width='100%' height='100%' fill='white'/>\n"
+
+unfoldable pub page : ℕ → ℕ → List ℕ
+page width tall =
+    codes "<svg xmlns='http://www.w3.org/2000/svg' width='" ++ decimal width ++ codes "' height='" ++ decimal tall ++ codes "' viewBox='0 0 " ++ decimal width ++ codes " " ++ decimal tall
+    ++ codes "' font-family='monospace' font-size='12' text-anchor='middle'>\n"
+
+abbrev pub front : ℕ → ℕ → List ℕ
+front threads low = page (page_width threads) (page_height low) ++ style ++ arrow_tail ++ arrow_head ++ background
+
+-- THE HEADING
+
+abbrev pub stamps_text : ℕ → ℕ → ℕ → List ℕ
+stamps_text count from last = if count == 0 then [] else codes ", stamps " ++ decimal from ++ codes " to " ++ decimal last
+
+abbrev pub cut_text : Bool → List ℕ
+cut_text true = codes ", cut at 2000 commits"
+cut_text false = []
+
+abbrev pub heading_of : ℕ → ℕ → ℕ → ℕ → Bool → List ℕ
+heading_of count total from last is_cut =
+    starting 8 18 ++ decimal count ++ codes " of " ++ decimal total ++ codes " commits" ++ stamps_text count from last ++ cut_text is_cut ++ text_end
+
+abbrev pub heading : Picture → List ℕ
+heading p = heading_of (length p.commits) p.total p.from (greatest p.commits) p.is_cut
+
+-- THE LINES OF LIFE
+
+-- a line down from the top
+unfoldable pub line : ℕ → ℕ → List ℕ
+line x low = codes "<path d='M" ++ decimal x ++ codes " 52V" ++ decimal low ++ codes "'/>\n"
+
+-- the name of the thread, and its line
+abbrev pub lifeline : Naming → ℕ → ℕ → List ℕ
+lifeline names low t = centered (column t) 42 ++ names.thread t ++ text_end ++ line (column t) low
+
+abbrev pub end_at : ℕ → ℕ → End → List ℕ
+end_at x y end = centered x y ++ end_text end ++ text_end
+
+-- how the process stands, below its line
+abbrev pub end_mark : List End → ℕ → ℕ → List ℕ
+end_mark ends low t = end_at (column t) (low + 18) (get_or ends t Ended)
+
+abbrev pub foot : List ℕ
+foot = codes "</svg>\n"
+
+-- THE WHOLE
+
+abbrev pub low_of : Picture → ℕ
+low_of p = bottom p.from (greatest p.commits)
+
+abbrev pub lifelines : Picture → List ℕ
+lifelines p = each_below (length p.ends) (lifeline p.names (low_of p))
+
+-- one for each commit that is shown, in their order
+abbrev pub marks : Picture → List ℕ
+marks p = flat_map (mark p.names p.fired p.from) p.commits
+
+abbrev pub end_marks : Picture → List ℕ
+end_marks p = each_below (length p.ends) (end_mark p.ends (low_of p))
+
+abbrev pub picture_text : Picture → List ℕ
+picture_text p = front (length p.ends) (low_of p) ++ heading p ++ lifelines p ++ marks p ++ end_marks p ++ foot
+
+-- WHAT A CHART SHOWS
+
+-- The text draws the commits with a stamp from `from` to `to`, or to an earlier one where they are too many, with the names of the
+-- script, and how the processes stand where the state does.
+pub record IsChart (s : Script) (state : State) (commits : List Commit) (from to : ℕ) (text : List ℕ) : Type 0 where
+  pub below : ℕ
+  pub range : IsEnd from to commits below
+  pub ends : List End
+  pub tells_ends : EndsOf state ends
+  pub fired : NackName → Option ℕ
+  pub tells_fired : (n : NackName) → TellsFired state n (fired n)
+  pub is : text ≡ picture_text (record { names = named s; ends = ends; fired = fired; commits = shown from below commits; total = length commits; from = from; is_cut = nat_le below to })

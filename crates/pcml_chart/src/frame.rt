@@ -1,0 +1,163 @@
+//! What stands round the marks: the page, the heading, and the lines of life with their ends.
+
+ghost use Rattle.std.specs.Prelude.{◌≡◌, ◌<◌, ◌≤◌, ◌+◌, ◌^◌, OnOk, length};
+ghost use Rattle.script.specs.Scripts.{script_of};
+ghost use Rattle.pcml_chart.specs.Chart.{arrow_head, arrow_tail, background, cut_text, each_below, end_at, end_mark, foot, front, heading_of, lifeline, line, page, page_height, page_width, stamps_text, style};
+ghost use Rattle.pcml_chart.specs.Places.{column};
+ghost use Rattle.journal_text.specs.Names.{named};
+ghost use Rattle.script.specs.Appending.{Adds};
+
+use crate::label::{push_centered, push_starting, push_text_end};
+use crate::places::column;
+use journal_replay::End;
+use journal_text::push_thread;
+use script::Script;
+use std::alloc::AllocError;
+
+fn push_page(out: &mut String, width: u64, tall: u64) -> Result<(), AllocError>
+    ensures { OnOk result (Adds out.old out.new (page width tall)) }
+{
+    write!(
+        out,
+        "<svg xmlns='http://www.w3.org/2000/svg' width='{width}' height='{tall}' viewBox='0 0 {width} {tall}' font-family='monospace' font-size='12' text-anchor='middle'>\n"
+    )
+}
+
+#[tactic(auto, unfolding(crate::specs::Chart::style))]
+fn push_style(out: &mut String) -> Result<(), AllocError>
+    ensures { OnOk result (Adds out.old out.new style) }
+{
+    out.push_str(
+        "<style>text{stroke:white;stroke-width:3px;paint-order:stroke}.s{text-anchor:start}path{stroke:black;fill:none}.n{stroke-dasharray:4 4}.a{marker-start:url(#tail);marker-end:url(#head)}</style>\n",
+    )
+}
+
+#[tactic(auto, unfolding(crate::specs::Chart::arrow_tail))]
+fn push_arrow_tail(out: &mut String) -> Result<(), AllocError>
+    ensures { OnOk result (Adds out.old out.new arrow_tail) }
+{
+    out.push_str(
+        "<defs><marker id='tail' viewBox='-4 -4 8 8' markerWidth='8' markerHeight='8'><circle r='2.5' fill='white' stroke='black'/></marker>",
+    )
+}
+
+#[tactic(auto, unfolding(crate::specs::Chart::arrow_head))]
+fn push_arrow_head(out: &mut String) -> Result<(), AllocError>
+    ensures { OnOk result (Adds out.old out.new arrow_head) }
+{
+    out.push_str(
+        "<marker id='head' viewBox='0 0 9 8' refX='9' refY='4' markerWidth='9' markerHeight='8' orient='auto'><path d='M0 0L9 4L0 8z' style='fill:black;stroke:none'/></marker></defs>\n",
+    )
+}
+
+#[tactic(auto, unfolding(crate::specs::Chart::background))]
+fn push_background(out: &mut String) -> Result<(), AllocError>
+    ensures { OnOk result (Adds out.old out.new background) }
+{
+    out.push_str("<rect width='100%' height='100%' fill='white'/>\n")
+}
+
+/// The page of so many threads, whose lines of life end at this height.
+pub(crate) fn push_front(out: &mut String, threads: usize, low: u64) -> Result<(), AllocError>
+    requires threads { threads ≤ 64 }
+    requires low { low < 2 ^ 60 }
+    ensures { OnOk result (Adds out.old out.new (front threads low)) }
+{
+    push_page(out, 140 * threads as u64 + 140, low + 32)?;
+    push_style(out)?;
+    push_arrow_tail(out)?;
+    push_arrow_head(out)?;
+    push_background(out)
+}
+
+fn push_stamps(out: &mut String, count: usize, from: u32, last: u32) -> Result<(), AllocError>
+    ensures { OnOk result (Adds out.old out.new (stamps_text count from last)) }
+{
+    if count == 0 {
+        return Ok(());
+    }
+    write!(out, ", stamps {from} to {last}")
+}
+
+fn cut_text(is_cut: bool) -> &'static str
+    ensures { result.now ≡ cut_text is_cut }
+{
+    if is_cut { ", cut at 2000 commits" } else { "" }
+}
+
+/// How many commits are shown of how many, and which stamps.
+pub(crate) fn push_heading(
+    out: &mut String,
+    count: usize,
+    total: usize,
+    from: u32,
+    last: u32,
+    is_cut: bool,
+) -> Result<(), AllocError>
+    ensures { OnOk result (Adds out.old out.new (heading_of count total from last is_cut)) }
+{
+    push_starting(out, 8, 18)?;
+    write!(out, "{count} of {total} commits")?;
+    push_stamps(out, count, from, last)?;
+    out.push_str(cut_text(is_cut))?;
+    push_text_end(out)
+}
+
+#[tactic(auto, unfolding(crate::specs::Chart::line))]
+fn push_line(out: &mut String, x: u64, low: u64) -> Result<(), AllocError>
+    ensures { OnOk result (Adds out.old out.new (line x low)) }
+{
+    write!(out, "<path d='M{x} 52V{low}'/>\n")
+}
+
+fn push_lifeline(out: &mut String, script: &Script, low: u64, thread: u8) -> Result<(), AllocError>
+    ensures { OnOk result (Adds out.old out.new (lifeline (named (script_of script.now)) low thread)) }
+{
+    push_centered(out, column(thread), 42)?;
+    push_thread(out, script, thread)?;
+    push_text_end(out)?;
+    push_line(out, column(thread), low)
+}
+
+/// The lines of life of the first so many threads.
+pub(crate) fn push_lifelines(
+    out: &mut String,
+    script: &Script,
+    low: u64,
+    threads: usize,
+) -> Result<(), AllocError>
+    requires { threads ≤ 64 }
+    ensures { OnOk result (Adds out.old out.new (each_below threads (lifeline (named (script_of script.now)) low))) }
+{
+    for thread in 0..threads {
+        push_lifeline(out, script, low, thread as u8)?;
+    }
+    Ok(())
+}
+
+fn push_end(out: &mut String, thread: u8, low: u64, end: End) -> Result<(), AllocError>
+    requires { low < 2 ^ 60 }
+    ensures { OnOk result (Adds out.old out.new (end_at (column thread) (low + 18) end)) }
+{
+    push_centered(out, column(thread), low + 18)?;
+    out.push_str(end.text())?;
+    push_text_end(out)
+}
+
+/// How each process stands, below its line.
+pub(crate) fn push_ends(out: &mut String, ends: &[End], low: u64) -> Result<(), AllocError>
+    requires threads { length ends.now ≤ 64 }
+    requires low { low < 2 ^ 60 }
+    ensures { OnOk result (Adds out.old out.new (each_below (length ends.now) (end_mark ends.now low))) }
+{
+    for thread in 0..ends.len() {
+        push_end(out, thread as u8, low, ends[thread])?;
+    }
+    Ok(())
+}
+
+pub(crate) fn push_foot(out: &mut String) -> Result<(), AllocError>
+    ensures { OnOk result (Adds out.old out.new foot) }
+{
+    out.push_str("</svg>\n")
+}

@@ -1,0 +1,44 @@
+-- What the text of a run says, from what the run says of its record.
+use Rattle.std.proofs.Common.{◌⊎◌, ℕ, ◌≤◌, List, ◌∙◌, arith, inl, inr, ⊎_elim}
+use Rattle.std.proofs.lemmas.Bool.{cases_lt}
+use Rattle.journal.specs.declared.record.Record.{Record}
+use Rattle.script.specs.Sources.{Script}
+use Rattle.script.specs.Spelling.{IsSpelled}
+use Rattle.runtime.specs.Headline.{TellsMaximalRun}
+use Rattle.runtime.specs.Limits.{AreRows, AreWorkers}
+use Rattle.journal_lines.proofs.Lining.{printed_has_names, run_is_read_again}
+use Rattle.pcml_tool.specs.Run.{TellsRecord, TellsRun}
+
+pub tells_run : (s : Script) (rows : ℕ) (r : Record) (lines rest : List ℕ) → IsSpelled s → rows ≤ 1024 → TellsMaximalRun s.processes rows r → TellsRecord s r lines rest → TellsRun s rows lines rest
+tells_run s rows r lines rest spelled few run told =
+    record {
+      journal = r.journal.items;
+      run = run.journal;
+      spells = (run_is_read_again s spelled rows few r.journal.items run.journal.run).0;
+      standing = told.standing;
+      stand = record {
+        count = told.are.count ∙ run.ends.ends_count;
+        each = λ t p is. let are = told.are.each t p is in (are.0, run.ends.each t p.end p.printed are.1 are.2);
+      };
+      nameable = λ t p is.
+          let are = told.are.each t p is in
+          printed_has_names s spelled rows few r.journal.items run.journal.run t p.end p.printed (run.ends.each t p.end p.printed are.1 are.2);
+      tail = r.tail;
+      few = run.tail;
+      are = told.are_lines;
+      is = told.is;
+    }
+
+-- a number is within two others, or not
+within_or_not : (low high n : ℕ) → ((low ≤ n) × (n ≤ high)) ⊎ ((low ≤ n) × (n ≤ high) → ⊥)
+within_or_not low high n = ⊎_elim
+    (λ lt. inr (λ h. omega (arith, lt, h.0)))
+    (λ ge. ⊎_elim (λ gt. inr (λ h. omega (arith, gt, h.1))) (λ le. inl (omega (arith, ge), omega (arith, le))) (cases_lt high n))
+    (cases_lt n low)
+
+-- where neither fault of the numbers is told, there are so many rows
+pub rows_are_few : (workers rows : ℕ) (W R : Type 0) → ((AreWorkers workers → ⊥) → W) → (AreWorkers workers × (AreRows rows → ⊥) → R) → (W → ⊥) → (R → ⊥) → rows ≤ 1024
+rows_are_few workers rows W R first second no_first no_second = ⊎_elim
+    (λ are. ⊎_elim (λ h. h.1) (λ none. absurd (no_second (second (are, none)))) (within_or_not 1 1024 rows))
+    (λ none. absurd (no_first (first none)))
+    (within_or_not 1 16 workers)

@@ -1,0 +1,138 @@
+-- What the program prints for what is asked, and what its faults say.
+use Rattle.std.specs.Prelude.{◌≡◌, ◌≢◌, ◌⊎◌, ℕ, Bool, true, false, List, ◌++◌, Option, None, IfSome, take}
+use Rattle.std.specs.Io.KnownBytes.{Appends}
+use Rattle.pcml_request.specs.declared.request.Request.{Request}
+use Rattle.pcml_request.specs.declared.request.Request.TheVariants.{Meet, Play, Check, Chart, Explain, Replay, Run, Why}
+use Rattle.pcml_explain.specs.Faults.{Explains}
+use Rattle.pcml_files.specs.Files.{Fits, IsTooLarge}
+use Rattle.pcml_tool.specs.Meet.{PrintsMeeting}
+use Rattle.pcml_tool.specs.declared.fault.Fault.{Fault}
+use Rattle.pcml_tool.specs.declared.fault.Fault.TheVariants as faults
+use Rattle.protocol_schedule.specs.Schedule.{IsFirstBadLine}
+use Rattle.pcml_tool.specs.Play.{IsPlayed, IsFirstRefused}
+use Rattle.pcml_tool.specs.Check.{IsChecked}
+use Rattle.runtime.specs.Limits.{AreRows, AreWorkers}
+use Rattle.pcml_tool.specs.Replay.{IsReplayed, IsNoRun}
+use Rattle.pcml_tool.specs.Chart.{IsCharted}
+use Rattle.pcml_tool.specs.Why.{IsTold}
+use Rattle.pcml_tool.specs.Run.{TellsRun}
+use Rattle.pcml_tool.specs.declared.replay.Replayed.{Replayed}
+use Rattle.pcml_tool.specs.declared.replay.Replayed.TheVariants as replays
+use Rattle.pcml_tool.specs.declared.from_files.Verdict.{Verdict}
+use Rattle.pcml_tool.specs.declared.from_files.Verdict.TheVariants.{Done, Unlawful}
+use Rattle.journal_text.specs.Journals as journals
+use Rattle.script.specs.Sources.{Script}
+use Rattle.script.specs.Spelling.{Spells}
+use Rattle.script.specs.FirstFaults.{Tells}
+use Rattle.script.specs.declared.fault.ScriptFault.TheVariants as scripts
+
+-- Which bytes the file of a name holds. No contract says more of it than the source of the files does.
+abbrev pub Files : Type 1
+Files = List ℕ → List ℕ → Type 0
+
+-- a schedule that is not too large
+abbrev pub OfSchedule : Files → List ℕ → (List ℕ → Type 0) → Type 0
+OfSchedule Holds name Says = (bytes : List ℕ) × Holds name bytes × Fits bytes × Says bytes
+
+-- of the script that the one file spells, and the journal that the other holds
+abbrev pub OfFiles : Files → List ℕ → List ℕ → (Script → List ℕ → Type 0) → Type 0
+OfFiles Holds script journal Says = (bytes : List ℕ) × Holds script bytes × (s : Script) × Spells bytes s × (read : List ℕ) × Holds journal read × Says s read
+
+-- a text of a journal, with its verdict
+abbrev pub IsJudged : Replayed → Verdict → List ℕ → Type 0
+IsJudged (replays.Lawful text) verdict told = (verdict ≡ Done) × (told ≡ text.items)
+IsJudged (replays.Unlawful text) verdict told = (verdict ≡ Unlawful) × (told ≡ text.items)
+
+-- what is printed of the two parts of a run: where it is quiet, not the journal
+abbrev pub printed : Bool → List ℕ → List ℕ → List ℕ
+printed true lines rest = rest
+printed false lines rest = lines ++ rest
+
+-- What is told of the journal in one file and the script in another: of a run what is to be said of the script's text, of the
+-- script and of the journal, and else that it is none.
+abbrev pub OfJournal : Files → List ℕ → List ℕ → ℕ → (List ℕ → Script → List ℕ → List ℕ → Type 0) → Verdict → List ℕ → Type 0
+OfJournal Holds script journal rows Says Done text = (source : List ℕ) × Holds script source × (s : Script) × Spells source s
+    × (read : List ℕ) × Holds journal read × Fits read × Says source s read text
+OfJournal Holds script journal rows Says Unlawful text = OfFiles Holds script journal (λ s read. Fits read × IsNoRun s rows read text)
+
+-- where a journal leads, as text, why the processes stand there, and its chart
+abbrev pub AnswersReplay : Files → List ℕ → List ℕ → ℕ → Verdict → List ℕ → Type 0
+AnswersReplay Holds script journal rows verdict text = OfJournal Holds script journal rows (λ source s read told. IsReplayed s rows read told) verdict text
+
+abbrev pub AnswersWhy : Files → List ℕ → List ℕ → ℕ → Verdict → List ℕ → Type 0
+AnswersWhy Holds script journal rows verdict text = OfJournal Holds script journal rows (λ source s read told. IsTold s source rows read told) verdict text
+
+abbrev pub AnswersChart : Files → List ℕ → List ℕ → ℕ → ℕ → ℕ → Verdict → List ℕ → Type 0
+AnswersChart Holds script journal rows from to verdict text = OfJournal Holds script journal rows (λ source s read told. IsCharted s rows read from to told) verdict text
+
+-- The line of the one pair (or none), what comes of the schedule, the script or the run that is asked for, where the journal
+-- leads the script, why the processes stand there, its chart, or what a fault means. Where the journal of a run is to go to a file, the file keeps its lines at the end.
+abbrev pub Answers : Files → Files → Request → Verdict → List ℕ → Type 0
+Answers Holds Keeps (Replay script journal rows) verdict text = AnswersReplay Holds script.now journal.now rows verdict text
+Answers Holds Keeps (Why script journal rows) verdict text = AnswersWhy Holds script.now journal.now rows verdict text
+Answers Holds Keeps (Chart script journal rows from to) verdict text = AnswersChart Holds script.now journal.now rows from to verdict text
+Answers Holds Keeps (Meet value) Done text = PrintsMeeting value text
+Answers Holds Keeps (Play name) Done text = OfSchedule Holds name.now (λ bytes. IsPlayed bytes text)
+Answers Holds Keeps (Check name) Done text = (bytes : List ℕ) × Holds name.now bytes × IsChecked bytes text
+Answers Holds Keeps (Run script workers rows journal quiet) Done text = (bytes : List ℕ) × Holds script.now bytes × (s : Script) × Spells bytes s
+    × (lines rest : List ℕ) × TellsRun s rows lines rest × IfSome journal (λ name. Keeps name.now lines) × (text ≡ printed quiet lines rest)
+Answers Holds Keeps (Explain number) Done text = Explains number text
+Answers Holds Keeps asked Unlawful text = ⊥
+
+-- what a fault of a script says: the file's text has it as its first
+abbrev pub FailsScript : Files → List ℕ → Fault → Type 0
+FailsScript Holds name (faults.Syntax line) = (bytes : List ℕ) × Holds name bytes × Tells bytes (scripts.Syntax line)
+FailsScript Holds name (faults.UnknownName line) = (bytes : List ℕ) × Holds name bytes × Tells bytes (scripts.UnknownName line)
+FailsScript Holds name (faults.Twice line) = (bytes : List ℕ) × Holds name bytes × Tells bytes (scripts.Twice line)
+FailsScript Holds name (faults.TooMany line) = (bytes : List ℕ) × Holds name bytes × Tells bytes (scripts.TooMany line)
+FailsScript Holds name (faults.LoopWithoutSync line) = (bytes : List ℕ) × Holds name bytes × Tells bytes (scripts.LoopWithoutSync line)
+FailsScript Holds name faults.TooLong = (bytes : List ℕ) × Holds name bytes × Tells bytes scripts.TooLong
+FailsScript Holds name fault = ⊥
+
+-- what a fault of reading a script says
+abbrev pub FailsParse : Files → List ℕ → Fault → Type 0
+FailsParse Holds name faults.Memory = Unit {0}
+FailsParse Holds name faults.Unread = Unit {0}
+FailsParse Holds name fault = FailsScript Holds name fault
+
+-- what a fault of reading a schedule or a journal says of what its file holds
+abbrev pub FailsRead : (List ℕ → Type 0) → Fault → Type 0
+FailsRead Holds faults.Memory = Unit {0}
+FailsRead Holds faults.Unread = Unit {0}
+FailsRead Holds faults.TooLarge = (bytes : List ℕ) × Holds bytes × IsTooLarge bytes
+FailsRead Holds fault = ⊥
+
+-- what a fault of playing the schedule in a file says
+abbrev pub FailsPlay : Files → List ℕ → Fault → Type 0
+FailsPlay Holds name (faults.BadStep line) = OfSchedule Holds name (λ bytes. IsFirstBadLine bytes line)
+FailsPlay Holds name (faults.NotAllowed step) = OfSchedule Holds name (λ bytes. IsFirstRefused bytes step)
+FailsPlay Holds name fault = FailsRead (Holds name) fault
+
+-- what a fault of reading a script and a journal of it says
+abbrev pub FailsReplay : Files → List ℕ → List ℕ → Fault → Type 0
+FailsReplay Holds script journal faults.Memory = Unit {0}
+FailsReplay Holds script journal faults.Unread = Unit {0}
+FailsReplay Holds script journal faults.TooLarge = OfFiles Holds script journal (λ s read. IsTooLarge read)
+FailsReplay Holds script journal (faults.BadLine line) = OfFiles Holds script journal (λ s read. Fits read × journals.IsFirstBadLine s read line)
+FailsReplay Holds script journal fault = FailsScript Holds script fault
+
+-- what a fault says of the request: `meet` lacks only memory or a thread, and the others may also fail by a file or by what it holds
+abbrev pub Fails : Files → Request → Fault → Type 0
+Fails Holds (Meet value) fault = (fault ≡ faults.Memory) ⊎ (fault ≡ faults.NoThread)
+Fails Holds (Play name) fault = FailsPlay Holds name.now fault
+Fails Holds (Check name) fault = FailsParse Holds name.now fault
+Fails Holds (Explain number) fault = fault ≡ faults.Memory
+Fails Holds (Why script journal rows) fault = FailsReplay Holds script.now journal.now fault
+Fails Holds (Chart script journal rows from to) fault = FailsReplay Holds script.now journal.now fault
+Fails Holds (Replay script journal rows) fault = FailsReplay Holds script.now journal.now fault
+Fails Holds (Run script workers rows journal quiet) faults.Memory = Unit {0}
+Fails Holds (Run script workers rows journal quiet) faults.Unread = Unit {0}
+Fails Holds (Run script workers rows journal quiet) faults.NoThread = Unit {0}
+Fails Holds (Run script workers rows journal quiet) faults.Workers = ¬ AreWorkers workers
+Fails Holds (Run script workers rows journal quiet) faults.Rows = ¬ AreRows rows
+Fails Holds (Run script workers rows journal quiet) faults.Unwritten = journal ≢ None
+Fails Holds (Run script workers rows journal quiet) fault = FailsScript Holds script.now fault
+
+-- The output has grown by the first n bytes of a text, and where there is one byte at least, the text answers the request.
+abbrev pub Began : Files → Files → Request → Option (List ℕ) → Option (List ℕ) → Type 0
+Began Holds Keeps asked old new = (n : ℕ) × (verdict : Verdict) × (text : List ℕ) × ((n ≡ 0) ⊎ Answers Holds Keeps asked verdict text) × Appends old new (take n text)

@@ -1,0 +1,43 @@
+-- What running a script prints.
+use Rattle.std.specs.Prelude.{◌≡◌, ◌≤◌, ℕ, List, [], ◌∷◌, ◌++◌, length, codes, map, Some, slice_get}
+use Rattle.std.specs.List.{AllByRecursion}
+use Rattle.std.specs.Fmt.{decimal}
+use Rattle.protocol_values.specs.declared.Commit.{Commit}
+use Rattle.script.specs.Sources.{Script}
+use Rattle.journal_text.specs.Journals.{HasAtom, Spells}
+use Rattle.journal_text.specs.Names.{names_of, named}
+use Rattle.journal_text.specs.Texts.{commits_text}
+use Rattle.journal_replay.specs.Runs.{config_of}
+use Rattle.runtime.specs.Headline.{IsMaximalRun}
+use Rattle.journal.specs.declared.record.Record.{Record}
+use Rattle.pcml_tool.specs.Standings.{Standing, AreStandings, StandAs, process_lines}
+
+-- the last line: how many commits there are, and how many of them the workers left to be added
+abbrev pub tail_line : ℕ → ℕ → List ℕ
+tail_line commits tail = codes "commits " ++ decimal commits ++ codes " tail " ++ decimal tail ++ 10 ∷ []
+
+-- the lines tell the record's commits, and the rest how each process stands, and how many commits there are
+pub record TellsRecord (s : Script) (r : Record) (lines rest : List ℕ) : Type 0 where
+  pub standing : List Standing
+  pub are : AreStandings r.ends.items (map (λ v. v.items) r.outputs.items) standing
+  pub are_lines : lines ≡ commits_text (named s) r.journal.items
+  pub is : rest ≡ process_lines (named s) standing ++ tail_line (length r.journal.items) r.tail
+
+-- The lines tell the commits of a maximal run of the script's processes, of so many rows each, in stamp order and in the script's
+-- names; the rest tells how each process stands where they lead, and how many commits there are. The lines are read as those
+-- commits again, and each atom that is printed has a name.
+pub record TellsRun (s : Script) (rows : ℕ) (lines rest : List ℕ) : Type 0 where
+  pub journal : List Commit
+  pub run : IsMaximalRun s.processes rows journal
+  pub spells : Spells s (commits_text (named s) journal) journal
+  pub standing : List Standing
+  pub stand : StandAs s.processes rows (config_of journal) standing
+  pub nameable : (t : ℕ) (p : Standing) → slice_get standing t ≡ Some p → AllByRecursion (HasAtom (names_of s)) p.printed
+  pub tail : ℕ
+  pub few : tail ≤ length journal
+  pub are : lines ≡ commits_text (named s) journal
+  pub is : rest ≡ process_lines (named s) standing ++ tail_line (length journal) tail
+
+-- the text tells a run, its journal first
+abbrev pub IsRan : Script → ℕ → List ℕ → Type 0
+IsRan s rows text = (lines rest : List ℕ) × TellsRun s rows lines rest × (text ≡ lines ++ rest)

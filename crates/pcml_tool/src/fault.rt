@@ -1,0 +1,182 @@
+//! The faults of the program, each with its number.
+
+ghost use Rattle.std.specs.Prelude.{◌≡◌, IsTrue};
+ghost use Rattle.pcml_explain.specs.Faults.{is_fault};
+ghost use Rattle.pcml_tool.specs.Faults.{fault_of_meet, fault_of_play, fault_of_file, fault_of_journal, fault_of_run, fault_of_script};
+ghost use Rattle.pcml_tool.specs.declared.fault.Fault.TheVariants.{Memory, Unwritten};
+
+use crate::{MeetFault, PlayFault};
+use journal_text::JournalFault;
+use pcml_files::{SourceFault, Unwritten};
+use runtime::RunFault;
+use script::ScriptFault;
+use std::alloc::AllocError;
+use thiserror::Error;
+
+/// Why the program printed nothing, or not all. What it shows is the line on the error stream.
+#[derive(Clone, Copy, Debug, PartialEq, Eq, Error)]
+pub enum Fault {
+    #[error("fault 1")]
+    Memory,
+    /// The first step of a schedule that is not allowed, from 1.
+    #[error("fault 2 step {0}")]
+    NotAllowed(usize),
+    /// A number of workers that is not 1 to 16. No words of a command line ask for it.
+    #[error("fault 2")]
+    Workers,
+    /// A number of rows that is not 1 to 1024. No words of a command line ask for it.
+    #[error("fault 3")]
+    Rows,
+    /// A thread that could not be started.
+    #[error("fault 6")]
+    NoThread,
+    /// A token of a script that the grammar does not allow, by its line, from 1.
+    #[error("fault 11 line {0}")]
+    Syntax(usize),
+    /// A name of a script that stands for nothing.
+    #[error("fault 12 line {0}")]
+    UnknownName(usize),
+    /// A name of a script that stands for something already.
+    #[error("fault 13 line {0}")]
+    Twice(usize),
+    /// More than the limits of a script allow.
+    #[error("fault 14 line {0}")]
+    TooMany(usize),
+    /// A loop of a script, by the line of its word, that does not begin with a sync.
+    #[error("fault 15 line {0}")]
+    LoopWithoutSync(usize),
+    /// A script of more than 65,536 bytes.
+    #[error("fault 16")]
+    TooLong,
+    /// The first line of a journal that is not of the form, from 1.
+    #[error("fault 21 line {0}")]
+    BadLine(usize),
+    /// The first line of a schedule that is not of the form, from 1.
+    #[error("fault 22 line {0}")]
+    BadStep(usize),
+    /// A journal or a schedule of more than 16,777,216 bytes, told before all else of it.
+    #[error("fault 23")]
+    TooLarge,
+    /// A file that cannot be read.
+    #[error("fault 31")]
+    Unread,
+    /// An output that cannot be written.
+    #[error("fault 32")]
+    Unwritten,
+}
+
+impl Fault {
+    /// The number that it is told with.
+    pub fn number(self) -> u16
+        ensures { IsTrue (is_fault result) }
+    {
+        match self {
+            Fault::Memory => 1,
+            Fault::NotAllowed(_) | Fault::Workers => 2,
+            Fault::Rows => 3,
+            Fault::NoThread => 6,
+            Fault::Syntax(_) => 11,
+            Fault::UnknownName(_) => 12,
+            Fault::Twice(_) => 13,
+            Fault::TooMany(_) => 14,
+            Fault::LoopWithoutSync(_) => 15,
+            Fault::TooLong => 16,
+            Fault::BadLine(_) => 21,
+            Fault::BadStep(_) => 22,
+            Fault::TooLarge => 23,
+            Fault::Unread => 31,
+            Fault::Unwritten => 32,
+        }
+    }
+}
+
+impl From<AllocError> for Fault {
+    ghost from_gives = { λ _ fault. fault ≡ Memory };
+
+    fn from(_error: AllocError) -> Fault {
+        Fault::Memory
+    }
+}
+
+impl From<MeetFault> for Fault {
+    ghost from_gives = { λ meet fault. fault ≡ fault_of_meet meet };
+
+    fn from(fault: MeetFault) -> Fault {
+        match fault {
+            MeetFault::Memory => Fault::Memory,
+            MeetFault::NoThread => Fault::NoThread,
+        }
+    }
+}
+
+impl From<SourceFault> for Fault {
+    ghost from_gives = { λ file fault. fault ≡ fault_of_file file };
+
+    fn from(fault: SourceFault) -> Fault {
+        match fault {
+            SourceFault::Memory => Fault::Memory,
+            SourceFault::Unread => Fault::Unread,
+            SourceFault::Unwritten => Fault::Unwritten,
+        }
+    }
+}
+
+impl From<Unwritten> for Fault {
+    ghost from_gives = { λ _ fault. fault ≡ Unwritten };
+
+    fn from(_fault: Unwritten) -> Fault {
+        Fault::Unwritten
+    }
+}
+
+impl From<PlayFault> for Fault {
+    ghost from_gives = { λ play fault. fault ≡ fault_of_play play };
+
+    fn from(fault: PlayFault) -> Fault {
+        match fault {
+            PlayFault::Memory => Fault::Memory,
+            PlayFault::NotAllowed(step) => Fault::NotAllowed(step),
+            PlayFault::BadStep(line) => Fault::BadStep(line),
+        }
+    }
+}
+
+impl From<JournalFault> for Fault {
+    ghost from_gives = { λ journal fault. fault ≡ fault_of_journal journal };
+
+    fn from(fault: JournalFault) -> Fault {
+        match fault {
+            JournalFault::Memory => Fault::Memory,
+            JournalFault::BadLine(line) => Fault::BadLine(line),
+        }
+    }
+}
+
+impl From<RunFault> for Fault {
+    ghost from_gives = { λ run fault. fault ≡ fault_of_run run };
+
+    fn from(fault: RunFault) -> Fault {
+        match fault {
+            RunFault::Memory => Fault::Memory,
+            RunFault::Workers => Fault::Workers,
+            RunFault::Rows => Fault::Rows,
+            RunFault::NoWorker => Fault::NoThread,
+        }
+    }
+}
+
+impl From<ScriptFault> for Fault {
+    ghost from_gives = { λ script fault. fault ≡ fault_of_script script };
+
+    fn from(fault: ScriptFault) -> Fault {
+        match fault {
+            ScriptFault::Memory => Fault::Memory,
+            ScriptFault::Syntax(line) => Fault::Syntax(line),
+            ScriptFault::UnknownName(line) => Fault::UnknownName(line),
+            ScriptFault::Twice(line) => Fault::Twice(line),
+            ScriptFault::TooMany(line) => Fault::TooMany(line),
+            ScriptFault::LoopWithoutSync(line) => Fault::LoopWithoutSync(line),
+            ScriptFault::TooLong => Fault::TooLong,
+        }
+    }
+}

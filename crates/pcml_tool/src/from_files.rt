@@ -1,0 +1,177 @@
+//! What comes of the files that a request names.
+
+ghost use Rattle.std.specs.Prelude.{◌≡◌, ◌≢◌, ◌≤◌, ◌⊎◌, List, ℕ, None, IfSome, IfOk, IfErr, OnOk, length, take, drop};
+ghost use Rattle.script.specs.Scripts.{script_of};
+ghost use Rattle.script.specs.Spelling.{Spells};
+ghost use Rattle.pcml_tool.specs.declared.fault.Fault.TheVariants.{Memory, Unwritten};
+ghost use Rattle.pcml_tool.specs.Check.{IsChecked};
+ghost use Rattle.pcml_tool.specs.Play.{IsPlayed};
+ghost use Rattle.pcml_tool.specs.Command.{AnswersChart, AnswersReplay, AnswersWhy, IsJudged, FailsParse, FailsPlay, FailsRead, FailsReplay, OfSchedule, printed};
+ghost use Rattle.pcml_files.specs.Files.{Fits};
+
+use crate::fault::Fault;
+use crate::{Replayed, RunText, chart_journal, check_text, play_text, replay_text, why_journal};
+use pcml_files::{MOST_BYTES, Source};
+use script::{Script, parse};
+use std::alloc::Global;
+
+/// What an answer says of its request.
+#[derive(Clone, Copy, Debug)]
+pub(crate) enum Verdict {
+    Done,
+    /// The journal that was to be replayed is no run.
+    Unlawful,
+}
+
+/// The bytes of the schedule or the journal in a file.
+fn read_bounded<S: Source>(source: &mut S, name: &str) -> Result<Vec<u8>, Fault>
+    ensures read { IfOk result (λ bytes. S.holds source.old name.now bytes.items × Fits bytes.items) }
+    ensures fault { IfErr result (FailsRead (S.holds source.old name.now)) }
+    ensures kept { (name bytes : List ℕ) → S.holds source.new name bytes → S.holds source.old name bytes }
+{
+    let bytes = source.read(name)?;
+    if bytes.len() > MOST_BYTES {
+        return Err(Fault::TooLarge);
+    }
+    Ok(bytes)
+}
+
+/// The text of a script in a file, and the script.
+fn read_source<S: Source>(
+    alloc: Global,
+    source: &mut S,
+    name: &str,
+) -> Result<(Vec<u8>, Script), Fault>
+    ensures read { IfOk result (λ read. S.holds source.old name.now read.0.items × Spells read.0.items (script_of read.1)) }
+    ensures fault { IfErr result (FailsParse (S.holds source.old) name.now) }
+    ensures kept { (name bytes : List ℕ) → S.holds source.new name bytes → S.holds source.old name bytes }
+{
+    let bytes = source.read(name)?;
+    let script = parse(alloc, bytes.as_slice())?;
+    Ok((bytes, script))
+}
+
+/// The script in a file.
+pub(crate) fn read_script<S: Source>(
+    alloc: Global,
+    source: &mut S,
+    name: &str,
+) -> Result<Script, Fault>
+    ensures read { IfOk result (λ script. (bytes : List ℕ) × S.holds source.old name.now bytes × Spells bytes (script_of script)) }
+    ensures fault { IfErr result (FailsParse (S.holds source.old) name.now) }
+    ensures kept { (name bytes : List ℕ) → S.holds source.new name bytes → S.holds source.old name bytes }
+{
+    let (_, script) = read_source(alloc, source, name)?;
+    Ok(script)
+}
+
+/// What comes of the schedule in a file.
+pub(crate) fn play_file<S: Source>(
+    alloc: Global,
+    source: &mut S,
+    name: &str,
+) -> Result<Vec<u8>, Fault>
+    ensures played { IfOk result (λ text. OfSchedule (S.holds source.old) name.now (λ bytes. IsPlayed bytes text.items)) }
+    ensures fault { IfErr result (FailsPlay (S.holds source.old) name.now) }
+{
+    let bytes = read_bounded(source, name)?;
+    Ok(play_text(alloc, bytes.as_slice())?)
+}
+
+/// How many processes and channels the script in a file has.
+pub(crate) fn check_file<S: Source>(
+    alloc: Global,
+    source: &mut S,
+    name: &str,
+) -> Result<Vec<u8>, Fault>
+    ensures checked { IfOk result (λ text. (bytes : List ℕ) × S.holds source.old name.now bytes × IsChecked bytes text.items) }
+    ensures fault { IfErr result (FailsParse (S.holds source.old) name.now) }
+{
+    let bytes = source.read(name)?;
+    Ok(check_text(alloc, bytes.as_slice())?)
+}
+
+/// What comes of a journal, with its verdict.
+fn judged(replayed: Replayed) -> (Verdict, Vec<u8>)
+    ensures { IsJudged replayed result.0 result.1.items }
+{
+    match replayed {
+        Replayed::Lawful(text) => (Verdict::Done, text),
+        Replayed::Unlawful(text) => (Verdict::Unlawful, text),
+    }
+}
+
+/// Where the journal in a file leads the script in another.
+pub(crate) fn replay_files<S: Source>(
+    alloc: Global,
+    source: &mut S,
+    script: &str,
+    journal: &str,
+    rows: u16,
+) -> Result<(Verdict, Vec<u8>), Fault>
+    ensures done { IfOk result (λ answer. AnswersReplay (S.holds source.old) script.now journal.now rows answer.0 answer.1.items) }
+    ensures fault { IfErr result (FailsReplay (S.holds source.old) script.now journal.now) }
+{
+    let script = read_script(alloc, source, script)?;
+    let journal = read_bounded(source, journal)?;
+    Ok(judged(replay_text(alloc, &script, journal.as_slice(), rows)?))
+}
+
+/// Why the processes of the script in a file stand where the journal in another leads them.
+pub(crate) fn why_files<S: Source>(
+    alloc: Global,
+    source: &mut S,
+    script: &str,
+    journal: &str,
+    rows: u16,
+) -> Result<(Verdict, Vec<u8>), Fault>
+    ensures done { IfOk result (λ answer. AnswersWhy (S.holds source.old) script.now journal.now rows answer.0 answer.1.items) }
+    ensures fault { IfErr result (FailsReplay (S.holds source.old) script.now journal.now) }
+{
+    let (text, script) = read_source(alloc, source, script)?;
+    let journal = read_bounded(source, journal)?;
+    Ok(judged(why_journal(alloc, &script, &text, &journal, rows)?))
+}
+
+/// The chart of the journal in a file, against the script in another.
+pub(crate) fn chart_files<S: Source>(
+    alloc: Global,
+    source: &mut S,
+    script: &str,
+    journal: &str,
+    rows: u16,
+    from: u32,
+    to: u32,
+) -> Result<(Verdict, Vec<u8>), Fault>
+    ensures done { IfOk result (λ answer. AnswersChart (S.holds source.old) script.now journal.now rows from to answer.0 answer.1.items) }
+    ensures fault { IfErr result (FailsReplay (S.holds source.old) script.now journal.now) }
+{
+    let script = read_script(alloc, source, script)?;
+    let journal = read_bounded(source, journal)?;
+    Ok(judged(chart_journal(alloc, &script, journal.as_slice(), rows, from, to)?))
+}
+
+/// Keeps the journal of a run in a file, where one is named, and gives what is printed.
+pub(crate) fn keep_journal<S: Source>(
+    alloc: Global,
+    source: &mut S,
+    ran: RunText,
+    journal: Option<&str>,
+    quiet: bool,
+) -> Result<Vec<u8>, Fault>
+    requires { ran.journal ≤ length ran.text.items }
+    ensures kept { OnOk result (IfSome journal.entry (λ name. S.holds source.new name.now (take ran.journal ran.text.items))) }
+    ensures printed { IfOk result (λ text. text.items ≡ printed quiet (take ran.journal ran.text.items) (drop ran.journal ran.text.items)) }
+    ensures fault { IfErr result (λ fault. (fault ≡ Memory) ⊎ ((fault ≡ Unwritten) × (journal.entry ≢ None))) }
+{
+    let RunText { text, journal: end } = ran;
+    let rest = if quiet {
+        Some(Vec::from_slice(alloc, &text[end..])?)
+    } else {
+        None
+    };
+    if let Some(name) = journal {
+        source.store(name, &text[..end])?;
+    }
+    Ok(rest.unwrap_or(text))
+}

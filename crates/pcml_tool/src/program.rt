@@ -1,0 +1,141 @@
+//! The program, over any files and any two streams.
+
+ghost use Rattle.std.specs.Prelude.{◌≡◌, ◌≤◌, ◌⊎◌, List, ℕ, IfOk, IfErr};
+ghost use Rattle.std.specs.Io.KnownBytes.{Appends};
+ghost use Rattle.pcml_request.specs.declared.request.Request.{Request};
+ghost use Rattle.pcml_tool.specs.declared.fault.Fault.TheVariants.{Unwritten};
+ghost use Rattle.pcml_tool.specs.declared.from_files.Verdict.TheVariants.{Done};
+ghost use Rattle.pcml_request.specs.Requests.{CanBeAnswered};
+ghost use Rattle.pcml_tool.specs.Command.{Answers, Began, Fails};
+
+use crate::fault::Fault;
+use crate::from_files::{
+    Verdict, chart_files, check_file, keep_journal, play_file, read_script, replay_files, why_files,
+};
+use crate::{explain_text, meet_text, run_parts};
+use pcml_files::{Source, emit};
+use pcml_request::{Request, WordsFault, read_words};
+use std::alloc::Global;
+use std::io::Write;
+use std::sync::Wait;
+use std::thread::Threads;
+
+const DONE: u8 = 0;
+
+const FAULT: u8 = 1;
+
+const UNLAWFUL: u8 = 1;
+
+/// The status after words that are not understood.
+pub const BAD_WORDS: u8 = 2;
+
+/// The text that a request is answered with.
+fn answer<R: Threads + Wait + Sync, S: Source>(
+    rt: &R,
+    alloc: Global,
+    asked: Request<'_>,
+    source: &mut S,
+) -> Result<(Verdict, Vec<u8>), Fault>
+    requires { CanBeAnswered asked }
+    ensures done { IfOk result (λ answer. Answers (S.holds source.old) (S.holds source.new) asked.entry answer.0 answer.1.items) }
+    ensures fault { IfErr result (Fails (S.holds source.old) asked.entry) }
+{
+    match asked {
+        Request::Meet(value) => Ok((Verdict::Done, meet_text(rt, alloc, value)?)),
+        Request::Play(name) => Ok((Verdict::Done, play_file(alloc, source, name)?)),
+        Request::Check(name) => Ok((Verdict::Done, check_file(alloc, source, name)?)),
+        Request::Explain(number) => Ok((Verdict::Done, explain_text(alloc, number)?)),
+        Request::Run {
+            script,
+            workers,
+            rows,
+            journal,
+            quiet,
+        } => {
+            let script = read_script(alloc, source, script)?;
+            let ran = run_parts(rt, alloc, &script, workers, rows)?;
+            let text = keep_journal(alloc, source, ran, journal, quiet)?;
+            Ok((Verdict::Done, text))
+        }
+        Request::Replay {
+            script,
+            journal,
+            rows,
+        } => replay_files(alloc, source, script, journal, rows),
+        Request::Why {
+            script,
+            journal,
+            rows,
+        } => why_files(alloc, source, script, journal, rows),
+        Request::Chart {
+            script,
+            journal,
+            rows,
+            from,
+            to,
+        } => chart_files(alloc, source, script, journal, rows, from, to),
+    }
+}
+
+/// Answers a request on the output. After a fault nothing was written, but for that of the output,
+/// which may have taken a beginning of the answer.
+fn respond<R: Threads + Wait + Sync, S: Source, O: Write>(
+    rt: &R,
+    alloc: Global,
+    asked: Request<'_>,
+    source: &mut S,
+    out: &mut O,
+) -> Result<Verdict, Fault>
+    requires { CanBeAnswered asked }
+    ensures done { IfOk result (λ verdict. (text : List ℕ) × Answers (S.holds source.old) (S.holds source.new) asked.entry verdict text
+        × Appends (O.contents out.old) (O.contents out.new) text) }
+    ensures fault { IfErr result (λ fault.
+        ((fault ≡ Unwritten) × Began (S.holds source.old) (S.holds source.new) asked.entry (O.contents out.old) (O.contents out.new))
+        ⊎ (Fails (S.holds source.old) asked.entry fault × (out.new ≡ out.old))) }
+{
+    let (verdict, text) = answer(rt, alloc, asked, source)?;
+    emit(out, text.as_slice())?;
+    Ok(verdict)
+}
+
+/// Does what the words behind the program's name ask for, and answers the status: 0, or 1 after a
+/// fault or for a journal that is no run, or 2 after words that are not understood and after a wish for
+/// help. A fault is a line on the error stream; whether that stream takes it changes nothing.
+pub fn command<R: Threads + Wait + Sync, S: Source, O: Write, E: Write>(
+    rt: &R,
+    alloc: Global,
+    words: &[&str],
+    source: &mut S,
+    out: &mut O,
+    err: &mut E,
+) -> u8
+    ensures status { result ≤ 2 }
+    // Where all went well, the output has grown by the answer to some request.
+    ensures done { result ≡ 0 → (asked : Request) × (text : List ℕ) × Answers (S.holds source.old) (S.holds source.new) asked Done text
+        × Appends (O.contents out.old) (O.contents out.new) text }
+    // Where not, it has grown by a beginning of such an answer at most.
+    ensures fault { result ≡ 1 → (asked : Request) × Began (S.holds source.old) (S.holds source.new) asked (O.contents out.old) (O.contents out.new) }
+    ensures bad_words { result ≡ 2 → out.new ≡ out.old }
+{
+    let asked = match read_words(alloc, words) {
+        Ok(asked) => asked,
+        Err(WordsFault::Memory) => return tell(err, Fault::Memory),
+        Err(WordsFault::NotUnderstood(text)) => {
+            let _ = write!(err, "{text}");
+            return BAD_WORDS;
+        }
+    };
+    match respond(rt, alloc, asked, source, out) {
+        Ok(Verdict::Done) => DONE,
+        Ok(Verdict::Unlawful) => UNLAWFUL,
+        Err(fault) => tell(err, fault),
+    }
+}
+
+/// Tells the fault on a line of its own, and answers its status.
+pub fn tell<E: Write>(err: &mut E, fault: Fault) -> u8
+    ensures { result ≡ 1 }
+{
+    let _ = writeln!(err, "{fault}");
+    FAULT
+}

@@ -1,0 +1,49 @@
+//! A journal read and replayed, for each request that asks where one leads.
+
+ghost use Rattle.std.specs.Prelude.{◌≡◌, IfOk, IfErr};
+ghost use Rattle.std.specs.String.{string_bytes};
+ghost use Rattle.script.specs.Scripts.{script_of};
+ghost use Rattle.journal_text.specs.Answers.{Explains};
+ghost use Rattle.pcml_tool.specs.Replay.{Reaches, unlawful_line};
+
+use journal_replay::{ReplayFault, State, replay};
+use journal_text::{JournalFault, read_journal};
+use protocol_values::Commit;
+use script::Script;
+use std::alloc::{AllocError, Global};
+
+/// Where a journal leads.
+#[derive(Drop)]
+pub(crate) enum Reached {
+    /// It is a run, of these commits, and leads to that state.
+    Run(Vec<Commit>, State),
+    /// The text tells the first line with which it is no run.
+    NoRun(Vec<u8>),
+}
+
+fn unlawful_line(alloc: Global, line: usize) -> Result<String, AllocError>
+    ensures { IfOk result (λ text. string_bytes text ≡ unlawful_line line) }
+{
+    format!(in alloc; "unlawful at line {line}\n")
+}
+
+/// Where the journal in the bytes leads the script's processes, of so many rows each.
+pub(crate) fn reach(
+    alloc: Global,
+    script: &Script,
+    journal: &[u8],
+    rows: u16,
+) -> Result<Reached, JournalFault>
+    ensures reached { IfOk result (Reaches (script_of script.now) rows journal.now) }
+    ensures fault { IfErr result (Explains (script_of script.now) journal.now) }
+{
+    let commits = read_journal(alloc, script, journal)?;
+    match replay(alloc, script.processes(), rows, commits.as_slice()) {
+        Ok(state) => Ok(Reached::Run(commits, state)),
+        Err(ReplayFault::Unlawful(index)) => {
+            let line = unlawful_line(alloc, index + 1)?;
+            Ok(Reached::NoRun(line.into_bytes()))
+        }
+        Err(ReplayFault::Memory) => Err(JournalFault::Memory),
+    }
+}

@@ -1,0 +1,112 @@
+//! What `run` prints.
+
+ghost use Rattle.std.specs.Prelude.{◌≡◌, ◌↔◌, ◌≤◌, Err, IfOk, length, map, take, drop};
+ghost use Rattle.std.specs.List.{AllByRecursion};
+ghost use Rattle.std.specs.String.{string_bytes};
+ghost use Rattle.script.specs.Scripts.{script_of};
+ghost use Rattle.journal_text.specs.Journals.{HasLine};
+ghost use Rattle.journal_text.specs.Names.{names_of, named};
+ghost use Rattle.runtime.specs.Limits.{AreRows, AreWorkers};
+ghost use Rattle.runtime.specs.declared.fault.RunFault.TheVariants.{Workers, Rows};
+ghost use Rattle.pcml_tool.specs.Run.{tail_line, IsRan, TellsRecord, TellsRun};
+ghost use Rattle.pcml_tool.specs.Standings.{TellsStandings};
+
+use crate::processes::push_process;
+use journal::Record;
+use journal_replay::End;
+use journal_text::write_journal;
+use protocol_values::Atom;
+use runtime::{OpenGate, RunFault, run};
+use script::Script;
+use std::alloc::{AllocError, Global};
+use std::sync::Wait;
+use std::thread::Threads;
+
+/// A line for each process, by how it ended and what it printed.
+fn standing_lines(
+    alloc: Global,
+    script: &Script,
+    ends: &[End],
+    outputs: &[Vec<Atom>],
+) -> Result<String, AllocError>
+    requires ends { length ends.now ≡ length (script_of script.now).processes }
+    requires outputs { length outputs.now ≡ length (script_of script.now).processes }
+    ensures { IfOk result (λ lines. TellsStandings (named (script_of script.now)) ends.now (map (λ v. v.items) outputs.now) (string_bytes lines)) }
+{
+    let mut lines = String::new(alloc);
+    for thread in 0..ends.len() {
+        let printed = outputs[thread].as_slice();
+        push_process(&mut lines, script, thread, ends[thread], printed)?;
+    }
+    Ok(lines)
+}
+
+fn tail_line(alloc: Global, commits: usize, tail: usize) -> Result<String, AllocError>
+    ensures { IfOk result (λ line. string_bytes line ≡ tail_line commits tail) }
+{
+    format!(in alloc; "commits {commits} tail {tail}\n")
+}
+
+/// What a run prints.
+#[derive(Debug, Drop)]
+pub struct RunText {
+    /// A line for each commit of the journal, then a line for each process, and the counts.
+    pub text: Vec<u8>,
+    /// How many bytes the lines of the journal take.
+    pub journal: usize,
+}
+
+/// The journal, a line for each process, and the counts.
+fn record_text(alloc: Global, script: &Script, ran: &Record) -> Result<RunText, AllocError>
+    requires lines { AllByRecursion (HasLine (names_of (script_of script.now))) ran.now.journal.items }
+    requires ends { length ran.now.ends.items ≡ length (script_of script.now).processes }
+    requires outputs { length ran.now.outputs.items ≡ length (script_of script.now).processes }
+    ensures tells { IfOk result (λ t. TellsRecord (script_of script.now) ran.now (take t.journal t.text.items) (drop t.journal t.text.items)) }
+    ensures within { IfOk result (λ t. t.journal ≤ length t.text.items) }
+{
+    let mut text = write_journal(alloc, script, ran.journal.as_slice())?;
+    let journal = text.len();
+    let lines = standing_lines(alloc, script, ran.ends.as_slice(), ran.outputs.as_slice())?;
+    let last = tail_line(alloc, ran.journal.len(), ran.tail)?;
+    text.extend_from_slice(lines.as_bytes())?;
+    text.extend_from_slice(last.as_bytes())?;
+    Ok(RunText { text, journal })
+}
+
+/// What comes of running the script's processes on so many workers, in so many rows each, in two parts. It
+/// waits for its workers.
+pub fn run_parts<R: Threads + Wait + Sync>(
+    rt: &R,
+    alloc: Global,
+    script: &Script,
+    workers: u8,
+    rows: u16,
+) -> Result<RunText, RunFault>
+    ensures ran { IfOk result (λ t. TellsRun (script_of script.now) rows (take t.journal t.text.items) (drop t.journal t.text.items)) }
+    ensures within { IfOk result (λ t. t.journal ≤ length t.text.items) }
+    ensures workers { (result ≡ Err Workers) ↔ (¬ AreWorkers workers) }
+    ensures rows { (result ≡ Err Rows) ↔ (AreWorkers workers × (¬ AreRows rows)) }
+{
+    let record = run(rt, alloc, script, workers, rows, &OpenGate)?;
+    match record_text(alloc, script, &record) {
+        Ok(text) => Ok(text),
+        Err(_) => Err(RunFault::Memory),
+    }
+}
+
+/// What comes of running the script's processes on so many workers, in so many rows each. It waits for its
+/// workers.
+pub fn run_text<R: Threads + Wait + Sync>(
+    rt: &R,
+    alloc: Global,
+    script: &Script,
+    workers: u8,
+    rows: u16,
+) -> Result<Vec<u8>, RunFault>
+    ensures ran { IfOk result (λ text. IsRan (script_of script.now) rows text.items) }
+    ensures workers { (result ≡ Err Workers) ↔ (¬ AreWorkers workers) }
+    ensures rows { (result ≡ Err Rows) ↔ (AreWorkers workers × (¬ AreRows rows)) }
+{
+    let RunText { text, .. } = run_parts(rt, alloc, script, workers, rows)?;
+    Ok(text)
+}

@@ -1,0 +1,6 @@
+use Rattle.journal_replay.proofs.Telling.{HoldsOf}
+use Rattle.pcml_why.specs.Whys.{TellsSite}
+use Rattle.pcml_why.proofs.site.sites_of.Given as goal
+
+abbrev pub invariant-loop-thread : goal.invariant-loop-thread
+invariant-loop-thread l = HoldsOf (TellsSite l.state l.standing l.lines) l.thread l.sites.items

@@ -1,0 +1,126 @@
+//! Where a process stands.
+
+ghost use Rattle.std.specs.Prelude.{◌≡◌, ◌==◌, ◌&&◌, ◌≤◌, IfOk, length};
+ghost use Rattle.std.specs.List.{list_any};
+ghost use Rattle.journal_replay.specs.Replays.{thread_count};
+ghost use Rattle.pcml_why.specs.Lines.{line_of};
+ghost use Rattle.pcml_why.specs.Offering.{is_open, is_waiting, offers_on, others};
+ghost use Rattle.protocol_values.specs.Values.{is_on};
+ghost use Rattle.pcml_why.specs.Whys.{AreSites};
+
+use journal_replay::{End, State};
+use protocol_values::{Atom, NackName, Offer, Side};
+use std::alloc::{AllocError, Global};
+
+/// Where a process stands: its end, the line of its statement, and what its open sync offers.
+#[derive(Drop)]
+pub struct Site<'a> {
+    pub(crate) end: End,
+    pub(crate) line: usize,
+    pub(crate) offers: &'a [Offer],
+    pub(crate) nacks: &'a [u8],
+}
+
+/// The line of the statement whose number was printed last.
+fn line_of(lines: &[usize], printed: &[Atom]) -> usize
+    ensures { result ≡ line_of lines.now printed.now }
+{
+    match printed.last() {
+        Some(Atom::Num(number)) => {
+            let before = number.saturating_sub(1);
+            match lines.get(before as usize) {
+                Some(line) => *line,
+                None => 0,
+            }
+        }
+        _ => 0,
+    }
+}
+
+pub(crate) fn is_waiting(end: End) -> bool
+    ensures { result ≡ is_waiting end }
+{
+    matches!(end, End::Waiting)
+}
+
+fn offers_on(side: Side, chan: u8, site: &Site<'_>) -> bool
+    ensures { result ≡ offers_on side chan site.now }
+{
+    if !is_waiting(site.end) {
+        return false;
+    }
+    for offer in site.offers {
+        if offer.base.is_on(side, chan) {
+            return true;
+        }
+    }
+    false
+}
+
+/// The processes that wait with an offer on this side of the channel, but for one.
+pub(crate) fn others(
+    alloc: Global,
+    sites: &[Site<'_>],
+    side: Side,
+    chan: u8,
+    thread: usize,
+) -> Result<Vec<u8>, AllocError>
+    requires { length sites.now ≤ 64 }
+    ensures { IfOk result (λ found. found.items ≡ others sites.now side chan thread) }
+{
+    let mut found = Vec::new(alloc);
+    for other in 0..sites.len() {
+        if other != thread && offers_on(side, chan, &sites[other]) {
+            found.push(other as u8)?;
+        }
+    }
+    Ok(found)
+}
+
+/// Whether the process waits in a sync with this nack.
+fn has_nack(site: &Site<'_>, nack: u8) -> bool
+    ensures { result ≡ (is_waiting site.now.end && list_any (λ n. n == nack) site.now.nacks.now) }
+{
+    if !is_waiting(site.end) {
+        return false;
+    }
+    for number in site.nacks {
+        if *number == nack {
+            return true;
+        }
+    }
+    false
+}
+
+/// Whether the nack is of a sync that is open.
+pub(crate) fn is_open(sites: &[Site<'_>], nack: NackName) -> bool
+    ensures { result ≡ is_open sites.now nack }
+{
+    match sites.get(usize::from(nack.thread)) {
+        Some(site) => has_nack(site, nack.k),
+        None => false,
+    }
+}
+
+/// Where each process of the state stands, by the numbers of statements that those of the other print.
+pub(crate) fn sites_of<'a>(
+    alloc: Global,
+    state: &'a State,
+    standing: &State,
+    lines: &[usize],
+) -> Result<Vec<Site<'a>>, AllocError>
+    requires { thread_count standing.now ≡ thread_count state.now }
+    ensures { IfOk result (λ sites. AreSites state.now standing.now lines.now sites.items) }
+{
+    let mut sites = Vec::new(alloc);
+    for thread in 0..state.threads() {
+        let (offers, nacks) = state.open(thread);
+        sites.push(Site {
+            end: state.end(thread),
+            line: line_of(lines, standing.output(thread)),
+            offers,
+            nacks,
+        })?;
+    }
+    Ok(sites)
+}

@@ -1,0 +1,418 @@
+//! The text.
+
+ghost use Rattle.std.specs.Prelude.{◌≡◌, ◌<◌, ◌≤◌, IfOk, OnOk, length, slice_get};
+ghost use Rattle.std.specs.List.{flat_map};
+ghost use Rattle.std.specs.String.{string_bytes};
+ghost use Rattle.script.specs.Scripts.{script_of};
+ghost use Rattle.journal_replay.specs.Replays.{fired_by, thread_count};
+ghost use Rattle.script_token.specs.Lexemes.{seen};
+ghost use Rattle.pcml_why.specs.Knots.{IsKnot, parts_below, waits_for};
+ghost use Rattle.pcml_why.specs.Lines.{line_at};
+ghost use Rattle.pcml_why.specs.Offering.{others};
+ghost use Rattle.pcml_why.specs.Whys.{AreSites, IsWhy, also_text, also_words, chance_text, fault_text, knot_text, knot_words, last_text, listed, lone_text, nack_state_text, nobody_words, offer_line, offer_text, offers_text, partners_text, same_words, site_text, spent_text, stand_text, sync_words, syncs_text, syncs_word, unfired_text, why_text};
+ghost use Rattle.journal_text.specs.Names.{named};
+ghost use Rattle.script.specs.Appending.{Adds};
+
+use crate::knot::WaitGraph;
+use crate::lines::lines_of;
+use crate::parts::parts;
+use crate::site::{Site, is_open, others, sites_of};
+use journal_replay::{End, State};
+use journal_text::{push_channel, push_message, push_nack, push_thread};
+use protocol_values::{Base, Commit, NackName, Offer, Side};
+use script::Script;
+use script_token::{Placed, scan};
+use std::alloc::{AllocError, Global};
+use thread::Fault;
+
+/// What is told of a run: the names, what may come next, and where its processes stand.
+#[derive(Drop)]
+struct Teller<'a> {
+    alloc: Global,
+    script: &'a Script,
+    state: &'a State,
+    sites: &'a [Site<'a>],
+}
+
+fn push_offer(out: &mut String, script: &Script, base: Base) -> Result<(), AllocError>
+    ensures { OnOk result (Adds out.old out.new (offer_text (named (script_of script.now)) base)) }
+{
+    match base {
+        Base::Send(chan, message) => {
+            out.push_str("send ")?;
+            push_channel(out, script, chan)?;
+            out.push_str(" ")?;
+            push_message(out, script, message)
+        }
+        Base::Recv(chan) => {
+            out.push_str("recv ")?;
+            push_channel(out, script, chan)
+        }
+        Base::Always(message) => {
+            out.push_str("always ")?;
+            push_message(out, script, message)
+        }
+        Base::OnNack(nack) => {
+            out.push_str("cancelled ")?;
+            push_nack(out, script, nack)
+        }
+        Base::Never => out.push_str("never"),
+    }
+}
+
+#[tactic(auto, unfolding(crate::specs::Whys::nobody_words))]
+fn nobody_words() -> &'static str
+    ensures { result.now ≡ nobody_words }
+{
+    "nobody offers"
+}
+
+#[tactic(auto, unfolding(crate::specs::Whys::same_words))]
+fn same_words() -> &'static str
+    ensures { result.now ≡ same_words }
+{
+    "the same is offered by"
+}
+
+#[tactic(auto, unfolding(crate::specs::Whys::also_words))]
+fn also_words() -> &'static str
+    ensures { result.now ≡ also_words }
+{
+    ", the same is offered by"
+}
+
+#[tactic(auto, unfolding(crate::specs::Whys::sync_words))]
+fn sync_words() -> &'static str
+    ensures { result.now ≡ sync_words }
+{
+    "the sync of "
+}
+
+/// Each name behind a space.
+fn push_listed(out: &mut String, script: &Script, threads: &[u8]) -> Result<(), AllocError>
+    ensures { OnOk result (Adds out.old out.new (listed (named (script_of script.now)) threads.now)) }
+{
+    for thread in threads {
+        out.push_str(" ")?;
+        push_thread(out, script, *thread)?;
+    }
+    Ok(())
+}
+
+/// Who makes an offer that nobody could meet.
+fn push_lone(out: &mut String, script: &Script, same: &[u8]) -> Result<(), AllocError>
+    ensures { OnOk result (Adds out.old out.new (lone_text (named (script_of script.now)) same.now)) }
+{
+    if same.len() == 0 {
+        return out.push_str(nobody_words());
+    }
+    out.push_str(same_words())?;
+    push_listed(out, script, same)
+}
+
+fn push_also(out: &mut String, script: &Script, same: &[u8]) -> Result<(), AllocError>
+    ensures { OnOk result (Adds out.old out.new (also_text (named (script_of script.now)) same.now)) }
+{
+    if same.len() == 0 {
+        return Ok(());
+    }
+    out.push_str(also_words())?;
+    push_listed(out, script, same)
+}
+
+/// Who could meet an offer, and who makes the same.
+fn push_partners(
+    out: &mut String,
+    script: &Script,
+    partners: &[u8],
+    same: &[u8],
+) -> Result<(), AllocError>
+    ensures { OnOk result (Adds out.old out.new (partners_text (named (script_of script.now)) partners.now same.now)) }
+{
+    if partners.len() == 0 {
+        return push_lone(out, script, same);
+    }
+    out.push_str("may meet")?;
+    push_listed(out, script, partners)?;
+    push_also(out, script, same)
+}
+
+fn unfired_text(is_open: bool) -> &'static str
+    ensures { result.now ≡ unfired_text is_open }
+{
+    if is_open { " is open" } else { " is not open" }
+}
+
+fn fault_text(fault: Fault) -> &'static str
+    ensures { result.now ≡ fault_text fault }
+{
+    match fault {
+        Fault::Unset => "a name is read that is not set",
+        Fault::Kind => "a value is not of the kind that is wanted",
+        Fault::Range => "a number or a nack is out of range",
+        Fault::Shape => "a message has more or fewer values than there are names",
+    }
+}
+
+#[tactic(auto, unfolding(crate::specs::Whys::spent_text))]
+fn push_spent(out: &mut String, line: usize) -> Result<(), AllocError>
+    ensures { OnOk result (Adds out.old out.new (spent_text line)) }
+{
+    write!(out, " is spent at line {line}")
+}
+
+fn syncs_word(rows: u16) -> &'static str
+    ensures { result.now ≡ syncs_word rows }
+{
+    if rows == 1 { " sync\n" } else { " syncs\n" }
+}
+
+#[tactic(auto, unfolding(crate::specs::Whys::syncs_text))]
+fn push_syncs(out: &mut String, rows: u16) -> Result<(), AllocError>
+    ensures { OnOk result (Adds out.old out.new (syncs_text rows)) }
+{
+    write!(out, ": it made {rows}")?;
+    out.push_str(syncs_word(rows))
+}
+
+/// How a process stands, at a line, of at most `rows` syncs.
+fn push_stand(out: &mut String, rows: u16, line: usize, end: End) -> Result<(), AllocError>
+    ensures { OnOk result (Adds out.old out.new (stand_text rows line end)) }
+{
+    match end {
+        End::Ended => out.push_str(" ended\n"),
+        End::Waiting => write!(out, " waits at line {line}\n"),
+        End::Spent => {
+            push_spent(out, line)?;
+            push_syncs(out, rows)
+        }
+        End::Faulted(fault) => {
+            write!(out, " faulted at line {line}: ")?;
+            out.push_str(fault_text(fault))?;
+            out.push_str("\n")
+        }
+    }
+}
+
+impl Teller<'_> {
+    /// Whether the sync of a nack is open, or fired it at a stamp.
+    fn push_nack_state(
+        &self,
+        out: &mut String,
+        nack: NackName,
+        fired: Option<u32>,
+    ) -> Result<(), AllocError>
+        ensures { OnOk result (Adds out.old out.new (nack_state_text (named (script_of self.now.script.now)) self.now.sites.now nack fired)) }
+    {
+        match fired {
+            Some(stamp) => {
+                out.push_str("enabled by ")?;
+                push_thread(out, self.script, nack.thread)?;
+                write!(out, " at {stamp}")
+            }
+            None => {
+                out.push_str(sync_words())?;
+                push_thread(out, self.script, nack.thread)?;
+                out.push_str(unfired_text(is_open(self.sites, nack)))
+            }
+        }
+    }
+
+    /// What would let an offer on this side of the channel meet another.
+    fn push_meeting(
+        &self,
+        out: &mut String,
+        thread: usize,
+        sides: (Side, Side),
+        chan: u8,
+    ) -> Result<(), AllocError>
+        requires { length self.now.sites.now ≤ 64 }
+        ensures { OnOk result (Adds out.old out.new (partners_text (named (script_of self.now.script.now)) (others self.now.sites.now sides.1 chan thread) (others self.now.sites.now sides.0 chan thread))) }
+    {
+        let (own, other) = sides;
+        let partners = others(self.alloc, self.sites, other, chan, thread)?;
+        let same = others(self.alloc, self.sites, own, chan, thread)?;
+        push_partners(out, self.script, &partners, &same)
+    }
+
+    /// What would let the offer be taken.
+    fn push_chance(&self, out: &mut String, thread: usize, base: Base) -> Result<(), AllocError>
+        requires { length self.now.sites.now ≤ 64 }
+        ensures { OnOk result (Adds out.old out.new (chance_text (named (script_of self.now.script.now)) (fired_by self.now.state.now) self.now.sites.now thread base)) }
+    {
+        match base {
+            Base::Send(chan, _) => {
+                self.push_meeting(out, thread, (Side::Sends, Side::Receives), chan)
+            }
+            Base::Recv(chan) => {
+                self.push_meeting(out, thread, (Side::Receives, Side::Sends), chan)
+            }
+            Base::Always(_) => out.push_str("may be taken"),
+            Base::OnNack(nack) => self.push_nack_state(out, nack, self.state.fired(nack)),
+            Base::Never => out.push_str("is never taken"),
+        }
+    }
+
+    fn push_offer_line(
+        &self,
+        out: &mut String,
+        thread: usize,
+        offer: &Offer,
+    ) -> Result<(), AllocError>
+        requires { length self.now.sites.now ≤ 64 }
+        ensures { OnOk result (Adds out.old out.new (offer_line (named (script_of self.now.script.now)) (fired_by self.now.state.now) self.now.sites.now thread offer.now)) }
+    {
+        out.push_str("  ")?;
+        push_offer(out, self.script, offer.base)?;
+        out.push_str(": ")?;
+        self.push_chance(out, thread, offer.base)?;
+        out.push_str("\n")
+    }
+
+    /// The offers of a process that waits, each on a line of its own.
+    fn push_offers(
+        &self,
+        out: &mut String,
+        thread: usize,
+        site: &Site<'_>,
+    ) -> Result<(), AllocError>
+        requires { length self.now.sites.now ≤ 64 }
+        ensures { OnOk result (Adds out.old out.new (offers_text (named (script_of self.now.script.now)) (fired_by self.now.state.now) self.now.sites.now thread site.now)) }
+    {
+        if !matches!(site.end, End::Waiting) {
+            return Ok(());
+        }
+        for offer in site.offers {
+            self.push_offer_line(out, thread, offer)?;
+        }
+        Ok(())
+    }
+
+    fn push_site(
+        &self,
+        out: &mut String,
+        rows: u16,
+        thread: usize,
+        site: &Site<'_>,
+    ) -> Result<(), AllocError>
+        requires few { length self.now.sites.now ≤ 64 }
+        requires thread { thread < 64 }
+        ensures { OnOk result (Adds out.old out.new (site_text (named (script_of self.now.script.now)) (fired_by self.now.state.now) rows self.now.sites.now thread site.now)) }
+    {
+        push_thread(out, self.script, thread as u8)?;
+        push_stand(out, rows, site.line, site.end)?;
+        self.push_offers(out, thread, site)
+    }
+
+    fn push_sites(&self, out: &mut String, rows: u16) -> Result<(), AllocError>
+        requires { length self.now.sites.now ≤ 64 }
+        ensures { OnOk result (Adds out.old out.new (why_text (named (script_of self.now.script.now)) (fired_by self.now.state.now) rows self.now.sites.now)) }
+    {
+        for thread in 0..self.sites.len() {
+            self.push_site(out, rows, thread, &self.sites[thread])?;
+        }
+        Ok(())
+    }
+}
+
+#[tactic(auto, unfolding(crate::specs::Whys::knot_words))]
+fn knot_words() -> &'static str
+    ensures { result.now ≡ knot_words }
+{
+    "waiting for one another:"
+}
+
+/// Who wait for one another, where some do.
+fn push_knot(out: &mut String, script: &Script, knot: &[u8]) -> Result<(), AllocError>
+    ensures { OnOk result (Adds out.old out.new (knot_text (named (script_of script.now)) knot.now)) }
+{
+    if knot.len() == 0 {
+        return Ok(());
+    }
+    out.push_str(knot_words())?;
+    push_listed(out, script, knot)?;
+    out.push_str("\n")
+}
+
+/// Who wait for one another, where no commit may come next.
+fn push_last(
+    out: &mut String,
+    script: &Script,
+    next: &Option<Commit>,
+    knot: &[u8],
+) -> Result<(), AllocError>
+    ensures { OnOk result (Adds out.old out.new (last_text (named (script_of script.now)) next.now knot.now)) }
+{
+    match next {
+        Some(_) => Ok(()),
+        None => push_knot(out, script, knot),
+    }
+}
+
+/// Those that wait for one another, by the tokens of the script's text.
+fn knot_of(
+    alloc: Global,
+    script: &Script,
+    sites: &[Site<'_>],
+    tokens: &[Placed<'_>],
+) -> Result<Vec<u8>, AllocError>
+    requires { length sites.now ≤ 64 }
+    ensures { IfOk result (λ knot. IsKnot (length sites.now) (waits_for (named (script_of script.now)) (parts_below (seen tokens.now) (length sites.now)) sites.now) knot.items) }
+{
+    let parts = parts(alloc, tokens, sites.len())?;
+    let waits = WaitGraph {
+        script,
+        sites,
+        parts: &parts,
+    };
+    waits.knot(alloc)
+}
+
+/// Where each process of the state stands, by the tokens of the script's text.
+fn sites_at<'a>(
+    alloc: Global,
+    state: &'a State,
+    standing: &State,
+    tokens: &[Placed<'_>],
+) -> Result<Vec<Site<'a>>, AllocError>
+    requires { thread_count standing.now ≡ thread_count state.now }
+    ensures { IfOk result (λ sites. AreSites state.now standing.now (flat_map line_at (seen tokens.now)) sites.items) }
+{
+    let lines = lines_of(alloc, tokens)?;
+    sites_of(alloc, state, standing, &lines)
+}
+
+/// Why each process of the state stands where it does, a line for each process and each of its offers; and
+/// where no commit may come next, a line of those that wait for one another. The text of the script is
+/// `source`. The processes of `standing` are those of the script, but print the number of each statement
+/// before it begins. A process waits for another by what the text of that one could offer: a channel that
+/// it holds in a variable is not seen.
+pub fn why_text(
+    alloc: Global,
+    script: &Script,
+    state: &State,
+    standing: &State,
+    source: &[u8],
+    rows: u16,
+) -> Result<String, AllocError>
+    requires few { thread_count state.now ≤ 64 }
+    requires same { thread_count standing.now ≡ thread_count state.now }
+    ensures { IfOk result (λ text. IsWhy (script_of script.now) state.now standing.now source.now rows (string_bytes text)) }
+{
+    let tokens = scan(alloc, source)?;
+    let placed: &[Placed<'_>] = &tokens.placed;
+    let told = sites_at(alloc, state, standing, placed)?;
+    let sites: &[Site<'_>] = &told;
+    let teller = Teller {
+        alloc,
+        script,
+        state,
+        sites,
+    };
+    let mut out = String::new(alloc);
+    teller.push_sites(&mut out, rows)?;
+    let next = state.enabled(alloc)?;
+    let knot = knot_of(alloc, script, sites, placed)?;
+    push_last(&mut out, script, &next, &knot)?;
+    Ok(out)
+}

@@ -1,6 +1,0 @@
-pub mod Placing
-pub mod Fronts
-pub mod Linking
-pub mod Giving
-pub mod Keeping
-pub mod KeepingExprs

@@ -1,0 +1,289 @@
+//! The words of a table, and what its rows read as.
+
+ghost use Rattle.std.specs.Prelude.{◌≡◌, ◌+◌, ◌*◌, ◌≤◌, ◌<◌, IfOk, IfSome, Some, is_some, true, length, replicate, vec_len};
+
+use protocol_values::{
+    Base, Binding, Cell, Joined, NackName, Offer, Row, pack_cell, pack_nack, read_offer,
+    unpack_cell, unpack_count, unpack_nack, unpack_offer,
+};
+use std::alloc::{AllocError, Global};
+
+/// The words of a row.
+pub const ROW_LEN: usize = 34;
+
+/// The nacks of a thread, of one word each.
+pub const NACKS: usize = 64;
+
+/// A table's words, thread by thread: a thread's rows first, and then its nacks.
+#[derive(Debug, Drop)]
+pub(crate) struct Sheet {
+    pub(crate) threads: usize,
+    pub(crate) rows: usize,
+    pub(crate) words: Vec<u64>,
+    ghost sized: { length words.items ≡ threads * (rows * 34 + 64) },
+    ghost few_threads: { threads ≤ 64 },
+    ghost few_rows: { rows ≤ 1024 },
+}
+
+impl Sheet {
+    ghost use Rattle.protocol_values.specs.Words.{IsBindingInRange, IsCellInRange};
+    ghost use Rattle.protocol.specs.Tables.{is_row, number_of, place_of, is_nack, nack_place, word_at, cell_at, count_at, offer_at, joined_at, last_stamp, binding_at, nack_by, cause_of};
+    ghost use Rattle.protocol.specs.Worlds.{with_word, with_cell, with_nack};
+    ghost use Rattle.protocol.specs.States.{table_of};
+
+    /// The words of a table at the start.
+    pub(crate) fn new(alloc: Global, threads: usize, rows: usize) -> Result<Sheet, AllocError>
+        requires few_threads { threads ≤ 64 }
+        requires few_rows { rows ≤ 1024 }
+        ensures words { IfOk result (λ b. b.words.items ≡ replicate (threads * (rows * 34 + 64)) 0) }
+        ensures threads { IfOk result (λ b. b.threads ≡ threads) }
+        ensures rows { IfOk result (λ b. b.rows ≡ rows) }
+    {
+        let words = vec![in alloc; 0; threads * (rows * ROW_LEN + NACKS)]?;
+        Ok(Sheet {
+            threads,
+            rows,
+            words,
+        })
+    }
+
+    /// Whether the table has the row.
+    #[tactic(auto, unfolding(crate::specs::Tables::is_row))]
+    pub(crate) fn contains(&self, row: Row) -> bool
+        ensures { result ≡ is_row (table_of self.now) row }
+    {
+        usize::from(row.thread) < self.threads && usize::from(row.sync) < self.rows
+    }
+
+    /// The row's place among all rows.
+    pub(crate) fn number(&self, row: Row) -> usize
+        requires { is_row (table_of self.now) row ≡ true }
+        ensures value { result ≡ number_of self.now.rows row }
+        ensures inside { result < self.now.threads * self.now.rows }
+    {
+        usize::from(row.thread) * self.rows + usize::from(row.sync)
+    }
+
+    /// How many rows the table has.
+    pub(crate) fn len(&self) -> usize
+        ensures { result ≡ self.now.threads * self.now.rows }
+    {
+        self.threads * self.rows
+    }
+
+    /// Where the row's word at a place lies.
+    fn place(&self, row: Row, place: usize) -> usize
+        requires row { is_row (table_of self.now) row ≡ true }
+        requires place { place < 34 }
+        ensures value { result ≡ place_of self.now.rows row place }
+        ensures inside { result < vec_len self.now.words }
+    {
+        usize::from(row.thread) * (self.rows * ROW_LEN + NACKS)
+            + usize::from(row.sync) * ROW_LEN
+            + place
+    }
+
+    #[tactic(auto, unfolding(crate::specs::Tables::word_at))]
+    fn word(&self, row: Row, place: usize) -> u64
+        requires row { is_row (table_of self.now) row ≡ true }
+        requires place { place < 34 }
+        ensures { result ≡ word_at (table_of self.now) row place }
+    {
+        let at = self.place(row, place);
+        self.words[at]
+    }
+
+    /// The row's cell. A row that the table has not is Fresh.
+    #[tactic(auto, unfolding(crate::specs::Tables::cell_at))]
+    pub(crate) fn cell(&self, row: Row) -> Cell
+        ensures { result ≡ cell_at (table_of self.now) row }
+    {
+        if !self.contains(row) {
+            return Cell::Fresh;
+        }
+        unpack_cell(self.word(row, 0)).unwrap_or(Cell::Fresh)
+    }
+
+    /// How many offers an opened row has: 0 to 8.
+    #[tactic(auto, unfolding(crate::specs::Tables::count_at))]
+    fn count(&self, row: Row) -> u8
+        ensures { result ≡ count_at (table_of self.now) row }
+    {
+        match self.cell(row) {
+            Cell::Fresh => 0,
+            _ => unpack_count(self.word(row, 1)).unwrap_or(0),
+        }
+    }
+
+    /// Offer n of an opened row.
+    #[tactic(auto, unfolding(crate::specs::Tables::offer_at))]
+    pub(crate) fn offer(&self, row: Row, n: u8) -> Option<Offer>
+        ensures { result ≡ offer_at (table_of self.now) row n }
+    {
+        if n >= self.count(row) {
+            return None;
+        }
+        let head = 2 + 4 * usize::from(n);
+        unpack_offer(
+            self.word(row, head),
+            self.word(row, head + 1),
+            self.word(row, head + 2),
+            self.word(row, head + 3),
+        )
+    }
+
+    /// Offer n of a row that is known to have it: nothing is tested, and only the atoms that the
+    /// offer has are unpacked.
+    #[tactic(auto, unfolding(crate::specs::Tables::word_at))]
+    pub(crate) fn known_offer(&self, row: Row, n: u8) -> Offer
+        requires { is_some (offer_at (table_of self.now) row n) ≡ true }
+        ensures { offer_at (table_of self.now) row n ≡ Some result }
+    {
+        let head = self.place(row, 2 + 4 * usize::from(n));
+        read_offer(
+            self.words[head],
+            self.words[head + 1],
+            self.words[head + 2],
+            self.words[head + 3],
+        )
+    }
+
+    /// How a committed row was committed.
+    pub(crate) fn joined(&self, row: Row) -> Option<Joined>
+        ensures { result ≡ joined_at (table_of self.now) row }
+    {
+        self.cell(row).joined()
+    }
+
+    /// The stamp of the row before this one in its thread, or 0.
+    pub(crate) fn last_stamp(&self, row: Row) -> u32
+        ensures { result ≡ last_stamp (joined_at (table_of self.now)) row }
+    {
+        if row.sync == 0 {
+            return 0;
+        }
+        let before = Row {
+            thread: row.thread,
+            sync: row.sync - 1,
+        };
+        match self.joined(before) {
+            Some(joined) => joined.stamp,
+            None => 0,
+        }
+    }
+
+    /// Whether the table has the nack.
+    #[tactic(auto, unfolding(crate::specs::Tables::is_nack))]
+    fn contains_nack(&self, nack: NackName) -> bool
+        ensures { result ≡ is_nack (table_of self.now) nack }
+    {
+        usize::from(nack.thread) < self.threads && usize::from(nack.k) < NACKS
+    }
+
+    /// Where the nack's word lies.
+    fn nack_place(&self, nack: NackName) -> usize
+        requires { is_nack (table_of self.now) nack ≡ true }
+        ensures value { result ≡ nack_place self.now.rows nack }
+        ensures inside { result < vec_len self.now.words }
+    {
+        usize::from(nack.thread) * (self.rows * ROW_LEN + NACKS)
+            + self.rows * ROW_LEN
+            + usize::from(nack.k)
+    }
+
+    /// Where the nack is bound. A nack that the table has not is not.
+    #[tactic(auto, unfolding(crate::specs::Tables::binding_at, crate::specs::Tables::nack_at))]
+    pub(crate) fn binding(&self, nack: NackName) -> Option<Binding>
+        ensures value { result ≡ binding_at (table_of self.now) nack }
+        ensures in_range { IfSome result IsBindingInRange }
+    {
+        if !self.contains_nack(nack) {
+            return None;
+        }
+        let at = self.nack_place(nack);
+        unpack_nack(self.words[at]).unwrap_or(None)
+    }
+
+    /// How the row that enabled the nack is committed: the nack's own row, by an offer outside its
+    /// scope.
+    #[tactic(auto, unfolding(crate::specs::Tables::nack_by))]
+    fn enabled_by(&self, nack: NackName) -> Option<Joined>
+        ensures { result ≡ nack_by (joined_at (table_of self.now)) (offer_at (table_of self.now)) (binding_at (table_of self.now)) nack }
+    {
+        let bound = self.binding(nack)?;
+        let row = Row {
+            thread: nack.thread,
+            sync: bound.sync,
+        };
+        let joined = self.joined(row)?;
+        if encloses(bound.scope, self.offer(row, joined.own)) {
+            return None;
+        }
+        Some(joined)
+    }
+
+    /// The stamp of what lets the offer commit its row alone, 0 for an always.
+    pub(crate) fn cause(&self, offer: Option<Offer>) -> Option<u32>
+        ensures { result ≡ cause_of (joined_at (table_of self.now)) (offer_at (table_of self.now)) (binding_at (table_of self.now)) offer }
+    {
+        match offer?.base {
+            Base::Always(_) => Some(0),
+            Base::OnNack(nack) => Some(self.enabled_by(nack)?.stamp),
+            Base::Send(..) | Base::Recv(_) | Base::Never => None,
+        }
+    }
+
+    /// Binds the nack.
+    #[tactic(auto, unfolding(crate::specs::Worlds::with_nack))]
+    pub(crate) fn set_nack(&mut self, nack: NackName, bound: Binding)
+        requires nack { is_nack (table_of self.old) nack ≡ true }
+        requires range { IsBindingInRange bound }
+        ensures written { table_of self.new ≡ with_nack (table_of self.old) nack bound }
+        ensures threads { self.new.threads ≡ self.old.threads }
+        ensures rows { self.new.rows ≡ self.old.rows }
+    {
+        let at = self.nack_place(nack);
+        self.words[at] = pack_nack(Some(bound));
+    }
+
+    /// Writes the row's word at a place.
+    pub(crate) fn set_word(&mut self, row: Row, place: usize, word: u64)
+        requires row { is_row (table_of self.old) row ≡ true }
+        requires place { place < 34 }
+        ensures { table_of self.new ≡ with_word (table_of self.old) row place word }
+    {
+        let at = self.place(row, place);
+        self.words[at] = word;
+    }
+
+    /// Writes the row's cell.
+    #[tactic(auto, unfolding(crate::specs::Worlds::with_cell))]
+    pub(crate) fn set_cell(&mut self, row: Row, cell: Cell)
+        requires row { is_row (table_of self.old) row ≡ true }
+        requires range { IsCellInRange cell }
+        ensures written { table_of self.new ≡ with_cell (table_of self.old) row cell }
+        ensures threads { self.new.threads ≡ self.old.threads }
+        ensures rows { self.new.rows ≡ self.old.rows }
+    {
+        self.set_word(row, 0, pack_cell(cell));
+    }
+}
+
+ghost use Rattle.protocol.specs.Tables.{encloses, is_fresh};
+
+pub(crate) fn is_fresh(cell: Cell) -> bool
+    ensures { result ≡ is_fresh cell }
+{
+    matches!(cell, Cell::Fresh)
+}
+
+/// Whether the scope encloses the offer.
+fn encloses(scope: u8, offer: Option<Offer>) -> bool
+    requires { scope < 8 }
+    ensures { result ≡ encloses scope offer }
+{
+    match offer {
+        Some(offer) => offer.has_scope(scope),
+        None => false,
+    }
+}

@@ -1,0 +1,74 @@
+//! Schedules as text: the size of a world, and the steps that seats make in it.
+#![tactic(auto)]
+
+ghost use Rattle.std.specs.Prelude.{◌≡◌, IfOk, IfErr};
+ghost use Rattle.protocol_schedule.specs.declared.ReadFault.TheVariants.{Memory};
+ghost use Rattle.protocol_schedule.specs.Schedule.{Spells, SpellsOnlyOne, SpellsOrIsBad, HasOneFirstBadLine};
+ghost use Rattle.protocol_schedule.specs.ReadFaults.{plan_of, Explains};
+
+mod line;
+
+use crate::line::{step_line, world_line};
+use protocol_values::{Seat, Step};
+use std::alloc::{AllocFailed, Global};
+use thiserror::Error;
+
+/// How large a world is: its threads, the rows of each thread, and its seats.
+#[derive(Clone, Copy, Debug, PartialEq, Eq)]
+pub struct Size {
+    pub threads: u8,
+    pub rows: u16,
+    pub seats: u8,
+}
+
+/// A world's size, and the steps in order, each with the seat that makes it.
+#[derive(Debug, Drop)]
+pub struct Schedule {
+    pub size: Size,
+    pub steps: Vec<(Seat, Step)>,
+}
+
+/// Why a schedule could not be read.
+#[derive(Debug, Drop, Error)]
+pub enum ReadFault {
+    #[error("out of memory")]
+    Memory,
+    /// The first line that is not of the form, from 1.
+    #[error("line {0} is not of the form")]
+    BadStep(usize),
+}
+
+impl<T: Drop> From<AllocFailed<T>> for ReadFault {
+    ghost from_gives = { λ _ e. e ≡ Memory };
+
+    fn from(_e: AllocFailed<T>) -> ReadFault {
+        ReadFault::Memory
+    }
+}
+
+/// The schedule that the bytes spell, each of them. A fault names the first line that is not of the form.
+pub fn read_schedule(alloc: Global, bytes: &[u8]) -> Result<Schedule, ReadFault>
+    ensures found { IfOk result (λ s. Spells bytes.now (plan_of s)) }
+    ensures fault { IfErr result (Explains bytes.now) }
+{
+    let Some((size, mut rest)) = world_line(bytes) else {
+        return Err(ReadFault::BadStep(1));
+    };
+    let mut steps = Vec::new(alloc);
+    while !rest.is_empty() {
+        let Some((step, after)) = step_line(rest) else {
+            return Err(ReadFault::BadStep(steps.len() + 2));
+        };
+        steps.push(step)?;
+        rest = after;
+    }
+    Ok(Schedule { size, steps })
+}
+
+/// Bytes spell one schedule at most, or else one line is their first bad one: so each answer of
+/// `read_schedule` but for want of memory is the only one.
+pub fn schedule_text_laws()
+    ensures one { SpellsOnlyOne }
+    ensures apart { SpellsOrIsBad }
+    ensures first { HasOneFirstBadLine }
+{}

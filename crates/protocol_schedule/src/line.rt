@@ -1,0 +1,169 @@
+//! The lines of a schedule's text, each read from the front of the bytes.
+
+ghost use Rattle.protocol_schedule.specs.Reading.{Gives, number_at, row_at, placed_at, draft_at, read_at, join_at, grant_at, bind_at, row_step_at, step_at, step_line_at, world_line_at};
+
+use crate::Size;
+use digits::{count, number};
+use protocol_values::{Row, Seat, Step};
+
+const LINE_END: u8 = b'\n';
+
+fn byte_number(bytes: &[u8], limit: u8, end: u8) -> Option<(u8, &[u8])>
+    ensures { Gives (λ x. (x.0, x.1.now)) result (number_at limit end bytes.now) }
+{
+    let (value, rest) = number(bytes, u64::from(limit), end)?;
+    Some((value as u8, rest))
+}
+
+#[tactic(auto, unfolding(crate::specs::Reading::row_at))]
+fn row_of(bytes: &[u8], end: u8) -> Option<(Row, &[u8])>
+    ensures { Gives (λ x. (x.0, x.1.now)) result (row_at end bytes.now) }
+{
+    let (thread, rest) = byte_number(bytes, 63, b'.')?;
+    let (sync, rest) = number(rest, 1023, end)?;
+    let row = Row {
+        thread,
+        sync: sync as u16,
+    };
+    Some((row, rest))
+}
+
+/// A row and a number behind it.
+#[tactic(auto, unfolding(crate::specs::Reading::placed_at))]
+fn placed(bytes: &[u8], limit: u8, end: u8) -> Option<((Row, u8), &[u8])>
+    ensures { Gives (λ x. (x.0, x.1.now)) result (placed_at limit end bytes.now) }
+{
+    let (row, rest) = row_of(bytes, b' ')?;
+    let (place, rest) = byte_number(rest, limit, end)?;
+    Some(((row, place), rest))
+}
+
+#[tactic(auto, unfolding(crate::specs::Reading::draft_at))]
+fn draft(bytes: &[u8]) -> Option<(Step, &[u8])>
+    ensures { Gives (λ x. (x.0, x.1.now)) result (draft_at bytes.now) }
+{
+    let ((row, place), rest) = placed(bytes, 33, b' ')?;
+    let (value, rest) = number(rest, u64::MAX, LINE_END)?;
+    Some((Step::Draft { row, place, value }, rest))
+}
+
+#[tactic(auto, unfolding(crate::specs::Reading::read_at))]
+fn read(bytes: &[u8]) -> Option<(Step, &[u8])>
+    ensures { Gives (λ x. (x.0, x.1.now)) result (read_at bytes.now) }
+{
+    let ((row, place), rest) = placed(bytes, 33, LINE_END)?;
+    Some((Step::Read { row, place }, rest))
+}
+
+#[tactic(auto, unfolding(crate::specs::Reading::join_at))]
+fn join(bytes: &[u8]) -> Option<(Step, &[u8])>
+    ensures { Gives (λ x. (x.0, x.1.now)) result (join_at bytes.now) }
+{
+    let ((mine, own), rest) = placed(bytes, 7, b' ')?;
+    let ((other, partner), rest) = placed(rest, 7, LINE_END)?;
+    let step = Step::Join {
+        mine,
+        own,
+        other,
+        partner,
+    };
+    Some((step, rest))
+}
+
+#[tactic(auto, unfolding(crate::specs::Reading::grant_at))]
+fn grant(bytes: &[u8]) -> Option<(Step, &[u8])>
+    ensures { Gives (λ x. (x.0, x.1.now)) result (grant_at bytes.now) }
+{
+    let ((row, offer), rest) = placed(bytes, 7, LINE_END)?;
+    Some((Step::Grant { row, offer }, rest))
+}
+
+#[tactic(auto, unfolding(crate::specs::Reading::bind_at))]
+fn bind(bytes: &[u8]) -> Option<(Step, &[u8])>
+    ensures { Gives (λ x. (x.0, x.1.now)) result (bind_at bytes.now) }
+{
+    let (k, rest) = byte_number(bytes, 63, b' ')?;
+    let ((row, scope), rest) = placed(rest, 3, LINE_END)?;
+    Some((Step::Bind { k, row, scope }, rest))
+}
+
+/// A step that is done to a row alone.
+#[tactic(auto, unfolding(crate::specs::Reading::row_step_at))]
+fn row_step(bytes: &[u8]) -> Option<(Step, &[u8])>
+    ensures { Gives (λ x. (x.0, x.1.now)) result (row_step_at bytes.now) }
+{
+    if let Some(rest) = bytes.strip_prefix(b"open ") {
+        let (row, rest) = row_of(rest, LINE_END)?;
+        return Some((Step::Open { row }, rest));
+    }
+    if let Some(rest) = bytes.strip_prefix(b"look ") {
+        let (row, rest) = row_of(rest, LINE_END)?;
+        return Some((Step::Look { row }, rest));
+    }
+    if let Some(rest) = bytes.strip_prefix(b"claim ") {
+        let (row, rest) = row_of(rest, LINE_END)?;
+        return Some((Step::Claim { row }, rest));
+    }
+    if let Some(rest) = bytes.strip_prefix(b"yield ") {
+        let (row, rest) = row_of(rest, LINE_END)?;
+        return Some((Step::Yield { row }, rest));
+    }
+    if let Some(rest) = bytes.strip_prefix(b"seal ") {
+        let (row, rest) = row_of(rest, LINE_END)?;
+        return Some((Step::Seal { row }, rest));
+    }
+    if let Some(rest) = bytes.strip_prefix(b"take ") {
+        let (row, rest) = row_of(rest, LINE_END)?;
+        return Some((Step::Take { row }, rest));
+    }
+    None
+}
+
+#[tactic(auto, unfolding(crate::specs::Reading::step_at))]
+fn step(bytes: &[u8]) -> Option<(Step, &[u8])>
+    ensures { Gives (λ x. (x.0, x.1.now)) result (step_at bytes.now) }
+{
+    if let Some(rest) = bytes.strip_prefix(b"draft ") {
+        return draft(rest);
+    }
+    if let Some(rest) = bytes.strip_prefix(b"read ") {
+        return read(rest);
+    }
+    if let Some(rest) = bytes.strip_prefix(b"join ") {
+        return join(rest);
+    }
+    if let Some(rest) = bytes.strip_prefix(b"grant ") {
+        return grant(rest);
+    }
+    if let Some(rest) = bytes.strip_prefix(b"bind ") {
+        return bind(rest);
+    }
+    row_step(bytes)
+}
+
+/// The line of a step, and the bytes behind it.
+#[tactic(auto, unfolding(crate::specs::Reading::step_line_at))]
+pub fn step_line(bytes: &[u8]) -> Option<((Seat, Step), &[u8])>
+    ensures { Gives (λ x. (x.0, x.1.now)) result (step_line_at bytes.now) }
+{
+    let (seat, rest) = byte_number(bytes, 15, b' ')?;
+    let (step, rest) = step(rest)?;
+    Some(((Seat(seat), step), rest))
+}
+
+/// The line of the world, and the bytes behind it.
+#[tactic(auto, unfolding(crate::specs::Reading::world_line_at))]
+pub fn world_line(bytes: &[u8]) -> Option<(Size, &[u8])>
+    ensures { Gives (λ x. (x.0, x.1.now)) result (world_line_at bytes.now) }
+{
+    let rest = bytes.strip_prefix(b"world ")?;
+    let (threads, rest) = count(rest, 64, b' ')?;
+    let (rows, rest) = count(rest, 1024, b' ')?;
+    let (seats, rest) = count(rest, 16, LINE_END)?;
+    let size = Size {
+        threads: threads as u8,
+        rows: rows as u16,
+        seats: seats as u8,
+    };
+    Some((size, rest))
+}

@@ -1,0 +1,5 @@
+pub mod Words
+pub mod Values
+pub mod Scopes
+pub mod Commits
+pub mod Equality

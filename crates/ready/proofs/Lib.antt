@@ -1,4 +1,0 @@
-pub mod Steps
-pub mod Naming
-pub mod Stealing
-pub mod Beginning

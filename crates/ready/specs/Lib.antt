@@ -1,2 +1,0 @@
-pub mod Rule
-pub mod Ends

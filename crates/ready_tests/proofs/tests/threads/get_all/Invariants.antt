@@ -1,7 +1,0 @@
-use Rattle.ready.specs.Ends.{IsEndOf}
-use Rattle.ready_tests.proofs.tests.threads.get_all.Given as goal
-
-abbrev pub invariant-loop : goal.invariant-loop
-invariant-loop g l =
-    (goal.iterator-loop g).can_next l.iterator' × (goal.iterator-loop g).is_finite l.iterator'
-    × IsEndOf l.ready l.getter.end

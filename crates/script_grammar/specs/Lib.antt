@@ -1,0 +1,3 @@
+pub mod Written
+pub mod Depths
+pub mod Meaning

@@ -1,0 +1,14 @@
+pub mod Placing
+pub mod Fronts
+pub mod Linking
+pub mod Giving
+pub mod Keeping
+pub mod KeepingExprs
+pub mod ReadFronts
+pub mod ReadNames
+pub mod ReadExprs
+pub mod ReadLists
+pub mod Blocking
+pub mod KeepingBlocks
+pub mod Found
+pub mod Again

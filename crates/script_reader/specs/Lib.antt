@@ -1,0 +1,5 @@
+pub mod Places
+pub mod Steps
+pub mod Exprs
+pub mod Blocks
+pub mod Laws

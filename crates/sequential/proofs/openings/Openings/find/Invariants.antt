@@ -1,9 +1,0 @@
-use Rattle.std.proofs.Common.{length}
-use Rattle.sequential.specs.Searching.{Covers}
-use Rattle.sequential.proofs.openings.Openings.find.Given as goal
-
-abbrev pub invariant-loop-at : goal.invariant-loop-at
-invariant-loop-at l = Covers l.threads.strands.items l.threads.rows l.self
-
-abbrev pub decreases-loop-at : goal.decreases-loop-at
-decreases-loop-at l = length l.self.untried

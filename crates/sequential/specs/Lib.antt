@@ -1,5 +1,0 @@
-pub mod Runs
-pub mod Standing
-pub mod Reaching
-pub mod Replays
-pub mod Searching

@@ -1,5 +1,0 @@
-use Rattle.syntax.proofs.Crossing.{process_send, process_sync}
-use Rattle.syntax.proofs.processes_cross_threads.Goals as goal
-
-pub returns : goal.returns
-returns c = record { moved = process_send; shared = process_sync }

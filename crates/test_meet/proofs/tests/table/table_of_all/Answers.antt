@@ -1,0 +1,10 @@
+use Rattle.std.proofs.Common.{◌≡◌, ℕ, []}
+use Rattle.cell.specs.Calls.{IsPassOf, PassView}
+use Rattle.cell_table.specs.Rule.{seen_nothing, dealt_rows}
+use Rattle.cell.proofs.Playing.{popped}
+use Rattle.test_meet.proofs.tests.table.table_of_all.Goals as goal
+
+pub returns : goal.returns
+returns c =
+    (popped (λ (n : ℕ) (p : PassView). IsPassOf c.in_ok-cells.cells p × (p.seen ≡ seen_nothing (dealt_rows c.args.threads 1 n)) × (p.made ≡ []))
+    c.in_ok-cells.passes.items c.pop.new.self.items c.in-Some.pass 0 c.in-Some.ensures.items c.in_ok-cells.ensures.size.3 c.in_ok-cells.ensures.passes).0.0

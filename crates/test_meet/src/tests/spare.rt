@@ -1,0 +1,142 @@
+//! 30,000 rendezvous of rows that offer on one more channel, where nobody receives: that lane stays short.
+
+ghost use Rattle.std.specs.Prelude.{IsTrue};
+ghost use Rattle.cell.specs.Calls.{IsPassOf, IsRowOf};
+ghost use Rattle.cell_table.specs.Sight.{AreOffers, Has};
+ghost use Rattle.meet.specs.Rooms.{IsMeetPassOf};
+
+use super::table::{receive, rooms, send, table_of_all};
+use cell::{Bare, Cells, NoGate, Pass};
+use meet::{Found, Meet, MeetPass};
+use protocol_values::{Cell, Offer, Row};
+use std::alloc::AllocError;
+use std::sync::Wait;
+use std::test::Fail;
+
+/// Each of so many pairs of threads meets on a channel of its own.
+const PAIRS: u8 = 32;
+
+/// So often.
+const ROUNDS: u16 = 940;
+
+/// The channel of which nobody receives.
+const SPARE: u8 = 32;
+
+/// Opens the row with these offers, if the pass holds it and it is not open.
+fn opens(cells: &Cells<Bare>, pass: &mut Pass<Bare>, row: Row, offers: &[Offer]) -> bool
+    requires here { IsPassOf cells.now pass.old }
+    requires offers { AreOffers offers.now }
+    ensures here { IsPassOf cells.now pass.new }
+    ensures opened { IsTrue result → IsRowOf cells.now row × Has pass.new.seen.held row × Has pass.new.seen.opened row }
+{
+    if !pass.holds(row) || !cells.has(row) {
+        return false;
+    }
+    let Cell::Fresh = cells.look(pass, row) else {
+        return false;
+    };
+    cells.draft(pass, row, offers);
+    cells.open(pass, row);
+    true
+}
+
+/// Takes the committed row, so that its thread can go on.
+fn takes(cells: &Cells<Bare>, pass: &mut Pass<Bare>, row: Row) -> bool
+    requires { IsPassOf cells.now pass.old }
+    ensures { IsPassOf cells.now pass.new }
+{
+    if !cells.has(row) {
+        return false;
+    }
+    cells.take(pass, row).is_some()
+}
+
+/// The pair meets on its channel, and both threads go on. Whether it came so.
+fn meets<R: Wait>(
+    rt: &R,
+    meet: &Meet,
+    cells: &Cells<Bare>,
+    lanes: &mut MeetPass,
+    pass: &mut Pass<Bare>,
+    pair: u8,
+    sync: u16,
+) -> Result<bool, AllocError>
+    requires here { IsPassOf cells.now pass.old × IsMeetPassOf meet.now lanes.old }
+    ensures here { IsPassOf cells.now pass.new × IsMeetPassOf meet.now lanes.new }
+{
+    let sending = Row { thread: pair, sync };
+    let receiving = Row {
+        thread: pair.saturating_add(PAIRS),
+        sync,
+    };
+    if !opens(cells, pass, sending, &[send(pair, 42), send(SPARE, 42)]) {
+        return Ok(false);
+    }
+    if meet.search(rt, cells, pass, lanes, &NoGate, sending)? != Found::Left {
+        return Ok(false);
+    }
+    if !opens(cells, pass, receiving, &[receive(pair, 0)]) {
+        return Ok(false);
+    }
+    if meet.search(rt, cells, pass, lanes, &NoGate, receiving)? != Found::Met(sending) {
+        return Ok(false);
+    }
+    if !takes(cells, pass, sending) {
+        return Ok(false);
+    }
+    Ok(takes(cells, pass, receiving))
+}
+
+/// All pairs meet once. Whether they did.
+fn all_meet<R: Wait>(
+    rt: &R,
+    meet: &Meet,
+    cells: &Cells<Bare>,
+    lanes: &mut MeetPass,
+    pass: &mut Pass<Bare>,
+    sync: u16,
+) -> Result<bool, AllocError>
+    requires here { IsPassOf cells.now pass.old × IsMeetPassOf meet.now lanes.old }
+    ensures here { IsPassOf cells.now pass.new × IsMeetPassOf meet.now lanes.new }
+{
+    for pair in 0..PAIRS {
+        if !meets(rt, meet, cells, lanes, pass, pair, sync)? {
+            return Ok(false);
+        }
+    }
+    Ok(true)
+}
+
+/// All pairs meet so often. The answer is how long the longest lane was, of some looks, where all went so.
+fn longest_lane<R: Wait>(
+    rt: &R,
+    meet: &Meet,
+    cells: &Cells<Bare>,
+    lanes: &mut MeetPass,
+    pass: &mut Pass<Bare>,
+) -> Result<Option<usize>, AllocError>
+    requires here { IsPassOf cells.now pass.old × IsMeetPassOf meet.now lanes.old }
+    ensures here { IsPassOf cells.now pass.new × IsMeetPassOf meet.now lanes.new }
+{
+    let mut longest = 0;
+    for sync in 0..ROUNDS {
+        if !all_meet(rt, meet, cells, lanes, pass, sync)? {
+            return Ok(None);
+        }
+        if sync % 94 == 93 {
+            longest = meet.longest_lane(rt, lanes).max(longest);
+        }
+    }
+    Ok(Some(longest))
+}
+
+#[test]
+fn a_lane_that_nobody_looks_at_stays_short(rt: HostRuntime) -> Result<(), Fail> {
+    let (cells, mut pass) = table_of_all(rt.alloc(), 64, 1024)?;
+    let (meet, mut lanes) = rooms(rt.alloc(), 33, 64)?;
+    let Some(longest) = longest_lane(&rt, &meet, &cells, &mut lanes, &mut pass)? else {
+        panic!(&rt; "a pair did not meet")
+    };
+    assert!(rt; longest >= 1 && longest <= 128, "{} entries", longest);
+    Ok(())
+}

@@ -1,0 +1,384 @@
+//! The rules of the steps, read a second time and in the plainest way, so that tests can compare with
+//! them. Steps and commits have the product's types; nothing here calls a function of the product.
+
+ghost use Rattle.std.specs.Prelude.{◌≤◌};
+
+use crate::plain_row::{
+    PlainRow, Stage, Way, do_meet, fresh_row, is_word, message_of, scope_bit, way_of,
+};
+use protocol_values::{Cause, Commit, Message, NackName, Row, Seat, Step};
+
+/// A world of three threads with two rows each, whose words stand apart; place 0 of them is not used.
+/// A nack that is bound has its sync and its scope.
+#[derive(Clone, Copy)]
+pub(crate) struct PlainWorld {
+    seats: u8,
+    rows: [PlainRow; 6],
+    words: [[u64; 34]; 6],
+    nacks: [Option<(u16, u8)>; 192],
+}
+
+impl PlainWorld {
+    /// All rows Fresh and no nack bound; row 0 of thread t is held by seat t mod `seats`.
+    pub(crate) fn start(seats: u8) -> PlainWorld
+        requires some_seats { 1 ≤ seats }
+    {
+        PlainWorld {
+            seats,
+            rows: [
+                fresh_row(0, 0, Some(0)),
+                fresh_row(0, 1, None),
+                fresh_row(1, 0, Some(1 % seats)),
+                fresh_row(1, 1, None),
+                fresh_row(2, 0, Some(2 % seats)),
+                fresh_row(2, 1, None),
+            ],
+            words: [[0; 34]; 6],
+            nacks: [None; 192],
+        }
+    }
+
+    /// Plays the steps up to the first that is not allowed, and tells its number.
+    pub(crate) fn play(&mut self, steps: &[(Seat, Step)]) -> Option<usize> {
+        for (index, (seat, step)) in steps.iter().enumerate() {
+            if !self.step(*seat, *step) {
+                return Some(index);
+            }
+        }
+        None
+    }
+
+    fn step(&mut self, seat: Seat, step: Step) -> bool {
+        if seat.0 >= self.seats {
+            return false;
+        }
+        match step {
+            Step::Draft { row, place, value } => self.draft(seat, row, place, value),
+            Step::Open { row } => self.change(seat, row, Stage::Fresh, Stage::Waiting),
+            Step::Look { row } => self.row(row).is_some(),
+            Step::Read { row, place } => self.is_open(row) && 1 <= place && place <= 33,
+            Step::Claim { row } => self.change(seat, row, Stage::Waiting, Stage::Claimed),
+            Step::Yield { row } => {
+                self.namer(row).is_none() && self.change(seat, row, Stage::Claimed, Stage::Waiting)
+            }
+            Step::Join {
+                mine,
+                own,
+                other,
+                partner,
+            } => self.join(seat, mine, own, other, partner),
+            Step::Seal { row } => self.seal(seat, row),
+            Step::Grant { row, offer } => self.grant(row, offer),
+            Step::Take { row } => self.take(seat, row),
+            Step::Bind { k, row, scope } => self.bind(seat, k, row, scope),
+        }
+    }
+
+    fn row(&self, row: Row) -> Option<PlainRow> {
+        self.rows.get(place_of(row)).copied()
+    }
+
+    fn put(&mut self, line: PlainRow) {
+        if let Some(place) = self.rows.get_mut(place_of(line.row)) {
+            *place = line;
+        }
+    }
+
+    fn held(&self, seat: Seat, row: Row) -> Option<PlainRow> {
+        let line = self.row(row)?;
+        if line.holder == Some(seat.0) {
+            Some(line)
+        } else {
+            None
+        }
+    }
+
+    fn is_open(&self, row: Row) -> bool {
+        match self.row(row) {
+            Some(line) => line.stage != Stage::Fresh,
+            None => false,
+        }
+    }
+
+    /// The committed row that names this one as its partner.
+    fn namer(&self, row: Row) -> Option<PlainRow> {
+        for line in self.rows.iter() {
+            if let Some((named, _)) = line.partner {
+                if line.is_committed() && named == row {
+                    return Some(*line);
+                }
+            }
+        }
+        None
+    }
+
+    /// The head word of an offer that the row has.
+    fn head(&self, row: Row, offer: u8) -> Option<u64> {
+        let words = self.words.get(place_of(row))?;
+        if u64::from(offer) < words[1] {
+            words.get(2 + 4 * usize::from(offer)).copied()
+        } else {
+            None
+        }
+    }
+
+    fn way(&self, row: Row, offer: u8) -> Option<Way> {
+        let head = self.head(row, offer)?;
+        Some(way_of(head))
+    }
+
+    fn message(&self, row: Row, offer: u8) -> Option<Message> {
+        let head = self.head(row, offer)?;
+        let words = self.words.get(place_of(row))?;
+        let at = 2 + 4 * usize::from(offer);
+        let first = words.get(at + 1).copied()?;
+        let second = words.get(at + 2).copied()?;
+        let third = words.get(at + 3).copied()?;
+        Some(message_of(head, first, second, third))
+    }
+
+    fn last_stamp(&self, row: Row) -> u32 {
+        if row.sync == 0 {
+            return 0;
+        }
+        let before = Row {
+            thread: row.thread,
+            sync: row.sync.wrapping_sub(1),
+        };
+        match self.row(before) {
+            Some(line) => line.stamp,
+            None => 0,
+        }
+    }
+
+    /// The stamp of the commit that enabled the nack.
+    fn enabled(&self, nack: NackName) -> Option<u32> {
+        let bound = self.nacks.get(nack_place(nack)).copied()?;
+        let (sync, scope) = bound?;
+        let line = self.row(Row {
+            thread: nack.thread,
+            sync,
+        })?;
+        let head = self.head(line.row, line.own)?;
+        if line.is_committed() && head & scope_bit(scope) == 0 {
+            Some(line.stamp)
+        } else {
+            None
+        }
+    }
+
+    fn draft(&mut self, seat: Seat, row: Row, place: u8, value: u64) -> bool {
+        let Some(line) = self.held(seat, row) else {
+            return false;
+        };
+        if line.stage != Stage::Fresh || place < 1 || !is_word(place, value) {
+            return false;
+        }
+        let Some(words) = self.words.get_mut(place_of(row)) else {
+            return false;
+        };
+        let Some(word) = words.get_mut(usize::from(place)) else {
+            return false;
+        };
+        *word = value;
+        true
+    }
+
+    fn change(&mut self, seat: Seat, row: Row, from: Stage, to: Stage) -> bool {
+        let Some(mut line) = self.held(seat, row) else {
+            return false;
+        };
+        if line.stage != from {
+            return false;
+        }
+        line.stage = to;
+        self.put(line);
+        true
+    }
+
+    fn join(&mut self, seat: Seat, mine: Row, own: u8, other: Row, partner: u8) -> bool {
+        let Some(claimed) = self.held(seat, mine) else {
+            return false;
+        };
+        let Some(mut joined) = self.row(other) else {
+            return false;
+        };
+        if claimed.stage != Stage::Claimed || joined.stage != Stage::Waiting {
+            return false;
+        }
+        if self.namer(mine).is_some() || mine.thread == other.thread {
+            return false;
+        }
+        if !do_meet(self.way(mine, own), self.way(other, partner)) {
+            return false;
+        }
+        joined.stage = Stage::Synched;
+        joined.own = partner;
+        joined.partner = Some((mine, own));
+        joined.stamp = above(self.last_stamp(mine), self.last_stamp(other));
+        self.put(joined);
+        true
+    }
+
+    fn seal(&mut self, seat: Seat, row: Row) -> bool {
+        let Some(mut line) = self.held(seat, row) else {
+            return false;
+        };
+        let Some(other) = self.namer(row) else {
+            return false;
+        };
+        let Some((_, own)) = other.partner else {
+            return false;
+        };
+        if line.stage != Stage::Claimed {
+            return false;
+        }
+        line.stage = Stage::Synched;
+        line.own = own;
+        line.partner = Some((other.row, other.own));
+        line.stamp = other.stamp;
+        self.put(line);
+        true
+    }
+
+    fn grant(&mut self, row: Row, offer: u8) -> bool {
+        let Some(mut line) = self.row(row) else {
+            return false;
+        };
+        if line.stage != Stage::Waiting {
+            return false;
+        }
+        let cause = match self.way(row, offer) {
+            Some(Way::Always) => Some(0),
+            Some(Way::OnNack(nack)) => self.enabled(nack),
+            _ => None,
+        };
+        let Some(cause) = cause else {
+            return false;
+        };
+        line.stage = Stage::Synched;
+        line.own = offer;
+        line.stamp = above(self.last_stamp(row), cause);
+        self.put(line);
+        true
+    }
+
+    fn take(&mut self, seat: Seat, row: Row) -> bool {
+        let Some(mut line) = self.row(row) else {
+            return false;
+        };
+        if line.stage != Stage::Synched {
+            return false;
+        }
+        line.stage = Stage::Taken;
+        self.put(line);
+        let next = Row {
+            thread: row.thread,
+            sync: row.sync.wrapping_add(1),
+        };
+        if let Some(mut line) = self.row(next) {
+            line.holder = Some(seat.0);
+            self.put(line);
+        }
+        true
+    }
+
+    fn bind(&mut self, seat: Seat, k: u8, row: Row, scope: u8) -> bool {
+        let Some(line) = self.held(seat, row) else {
+            return false;
+        };
+        if line.stage != Stage::Fresh || scope > 3 {
+            return false;
+        }
+        let nack = NackName {
+            thread: row.thread,
+            k,
+        };
+        let Some(bound) = self.nacks.get_mut(nack_place(nack)) else {
+            return false;
+        };
+        if bound.is_some() {
+            return false;
+        }
+        *bound = Some((row.sync, scope));
+        true
+    }
+
+    /// How many claimed rows are named as a partner.
+    pub(crate) fn pending(&self) -> u32 {
+        let mut count: u32 = 0;
+        for line in self.rows.iter() {
+            if line.stage == Stage::Claimed && self.namer(line.row).is_some() {
+                count = count.wrapping_add(1);
+            }
+        }
+        count
+    }
+
+    /// The commit of the row, also of one that is joined and not yet sealed.
+    pub(crate) fn commit_of(&self, row: Row) -> Option<Commit> {
+        let line = self.row(row)?;
+        if line.is_committed() {
+            return self.commit_by(&line);
+        }
+        let namer = self.namer(row)?;
+        self.commit_by(&namer)
+    }
+
+    fn commit_by(&self, line: &PlainRow) -> Option<Commit> {
+        let here = (line.row, line.own);
+        let way = self.way(line.row, line.own)?;
+        let Some(there) = line.partner else {
+            return self.alone(line, way);
+        };
+        let (sender, receiver) = match way {
+            Way::Send(_) => (here, there),
+            _ => (there, here),
+        };
+        let Some(Way::Send(chan)) = self.way(sender.0, sender.1) else {
+            return None;
+        };
+        Some(Commit::Pair {
+            sender,
+            receiver,
+            chan,
+            msg: self.message(sender.0, sender.1)?,
+            stamp: line.stamp,
+        })
+    }
+
+    fn alone(&self, line: &PlainRow, way: Way) -> Option<Commit> {
+        let cause = match way {
+            Way::Always => Cause::Always(self.message(line.row, line.own)?),
+            Way::OnNack(nack) => Cause::Nack(nack),
+            _ => return None,
+        };
+        Some(Commit::Alone {
+            at: (line.row, line.own),
+            cause,
+            stamp: line.stamp,
+        })
+    }
+}
+
+/// Where the row stands among the six, and 6 for any other.
+fn place_of(row: Row) -> usize {
+    if row.thread < 3 && row.sync < 2 {
+        2 * usize::from(row.thread) + usize::from(row.sync)
+    } else {
+        6
+    }
+}
+
+/// Where the nack stands among the 192, and 192 for any other.
+fn nack_place(nack: NackName) -> usize {
+    if nack.thread < 3 && nack.k < 64 {
+        64 * usize::from(nack.thread) + usize::from(nack.k)
+    } else {
+        192
+    }
+}
+
+fn above(one: u32, other: u32) -> u32 {
+    one.max(other).saturating_add(1)
+}

@@ -1,0 +1,7 @@
+use Rattle.meet_queues.specs.Ends.{IsEndOf}
+use Rattle.test_queues.proofs.tests.ready_threads.get_all.Given as goal
+
+abbrev pub invariant-loop : goal.invariant-loop
+invariant-loop g l =
+    (goal.iterator-loop g).can_next l.iterator' × (goal.iterator-loop g).is_finite l.iterator'
+    × IsEndOf l.ready l.getter.end

@@ -1,0 +1,110 @@
+//! What the workers do by themselves.
+
+use super::check_same;
+use super::scripts::{EXAMPLES, Example, TWO_PAIRS};
+use journal_text::read_journal;
+use protocol_values::Commit;
+use runtime::{OpenGate, RunFault, run, work};
+use script::{Script, parse};
+use std::process::Abort;
+use std::sync::Wait;
+use std::test::Fail;
+use std::thread::Threads;
+
+/// The workers make these commits, in this order.
+fn check_workers<R: Abort + AllocGlobal + Threads + Wait + Sync>(
+    rt: &R,
+    script: &Script,
+    workers: u8,
+    rows: u16,
+    expected: &[Commit],
+    name: &str,
+) -> Result<(), Fail> {
+    assert!(rt; !script.processes().is_empty());
+    let ledger = work(rt, rt.alloc(), script, workers, rows, &OpenGate)?;
+    check_same(rt, ledger.commits()?.as_slice(), expected, name);
+    Ok(())
+}
+
+fn check_example<R: Abort + AllocGlobal + Threads + Wait + Sync>(
+    rt: &R,
+    example: &Example,
+) -> Result<(), Fail> {
+    let rows: u16 = example.rows.parse()?;
+    let script = parse(rt.alloc(), example.script.as_bytes())?;
+    let expected = read_journal(rt.alloc(), &script, example.journal.as_bytes())?;
+    for workers in &[1, 2, 16] {
+        check_workers(rt, &script, *workers, rows, &expected, example.name)?;
+    }
+    Ok(())
+}
+
+// All commits are made by the workers, and none by settling.
+#[test]
+fn workers_alone(rt: HostRuntime) -> Result<(), Fail> {
+    for example in EXAMPLES.iter() {
+        check_example(&rt, example)?;
+    }
+    Ok(())
+}
+
+// A search that only looks before it puts its offers in misses a partner that does so at the same time. Each
+// row is put in before its search looks for the last time.
+#[test]
+fn looks_before_putting(rt: HostRuntime) -> Result<(), Fail> {
+    let script = parse(rt.alloc(), TWO_PAIRS.as_bytes())?;
+    for _ in 0..1000 {
+        let record = run(&rt, rt.alloc(), &script, 16, 1, &OpenGate)?;
+        check_same(&rt, record.journal.len(), 2, "the commits");
+        check_same(&rt, record.tail, 0, "the tail");
+    }
+    Ok(())
+}
+
+/// Workers and rows outside their limits.
+const OUTSIDE: [(u8, u16, RunFault); 4] = [
+    (0, 1, RunFault::Workers),
+    (17, 0, RunFault::Workers),
+    (1, 0, RunFault::Rows),
+    (16, 1025, RunFault::Rows),
+];
+
+#[test]
+fn refuses_numbers_outside_their_limits(rt: HostRuntime) -> Result<(), Fail> {
+    let alloc = rt.alloc();
+    let script = parse(alloc, TWO_PAIRS.as_bytes())?;
+    assert!(rt; !script.processes().is_empty());
+    for (workers, rows, fault) in &OUTSIDE {
+        let ran = run(&rt, alloc, &script, *workers, *rows, &OpenGate).err();
+        check_same(&rt, ran, Some(*fault), "the fault of run");
+        let worked = work(&rt, alloc, &script, *workers, *rows, &OpenGate).err();
+        check_same(&rt, worked, Some(*fault), "the fault of work");
+    }
+    Ok(())
+}
+
+/// What went wrong in a run. The match has no other arm: a fifth fault would not compile.
+fn text_of(fault: RunFault) -> &'static str {
+    match fault {
+        RunFault::Memory => "out of memory",
+        RunFault::Workers => "the number of workers is not 1 to 16",
+        RunFault::Rows => "the number of rows is not 1 to 1024",
+        RunFault::NoWorker => "a worker could not be started",
+    }
+}
+
+const FAULTS: [RunFault; 4] = [
+    RunFault::Memory,
+    RunFault::Workers,
+    RunFault::Rows,
+    RunFault::NoWorker,
+];
+
+#[test]
+fn a_run_has_four_faults(rt: HostRuntime) -> Result<(), Fail> {
+    for fault in &FAULTS {
+        let told = format!(in rt.alloc(); "{fault}")?;
+        check_same(&rt, told.as_str(), text_of(*fault), "the text of the fault");
+    }
+    Ok(())
+}

@@ -1,0 +1,69 @@
+use super::checks::check_same;
+use script_tree::{Block, Event, Events, Expr, Operand, Proc, Sign, Stmt, Term, Terms};
+use std::alloc::{AllocError, Global};
+use std::process::Abort;
+use std::sync::Arc;
+use std::test::Fail;
+
+const MANY: usize = 30000;
+
+fn long_block(alloc: Global) -> Result<Block, AllocError> {
+    let mut block = Block::Done;
+    for _ in 0..MANY {
+        block = Block::Then(Stmt::End, Arc::new(alloc, block)?);
+    }
+    Ok(block)
+}
+
+fn long_choice(alloc: Global) -> Result<Event, AllocError> {
+    let mut members = Events::Nothing;
+    for _ in 0..MANY {
+        let member = Arc::new(alloc, Event::Choose(Arc::new(alloc, Events::Nothing)?))?;
+        members = Events::More(member, Arc::new(alloc, members)?);
+    }
+    Ok(Event::Choose(Arc::new(alloc, members)?))
+}
+
+fn long_sum(alloc: Global) -> Result<Expr, AllocError> {
+    let mut terms = Terms::Nothing;
+    for _ in 0..MANY {
+        let one = Term::Operand(Operand::Number(1));
+        terms = Terms::More(Sign::Plus, one, Arc::new(alloc, terms)?);
+    }
+    Ok(Expr {
+        first: Operand::Number(0),
+        more: terms,
+    })
+}
+
+#[test]
+fn long_lists_drop(rt: HostRuntime) -> Result<(), Fail> {
+    let alloc = rt.alloc();
+    let _ = long_choice(alloc)?;
+    let print = Stmt::Print(long_sum(alloc)?);
+    let _ = Block::Then(print, Arc::new(alloc, long_block(alloc)?)?);
+    Ok(())
+}
+
+fn crosses_threads<T: Send + Sync>(_value: &T) {}
+
+fn process_of_one_variable(alloc: Global) -> Result<Proc, AllocError> {
+    let body = Arc::new(alloc, Block::Done)?;
+    let mut variables = Vec::new(alloc);
+    variables.push(String::from_str(alloc, "x")?)?;
+    Ok(Proc::new(String::from_str(alloc, "a")?, body, variables, 2))
+}
+
+#[test]
+fn processes(rt: HostRuntime) -> Result<(), Fail> {
+    let process = process_of_one_variable(rt.alloc())?;
+    crosses_threads(&process);
+    check_same(&rt, process.name(), "a", "the name");
+    check_same(&rt, process.channels(), 2, "the channels");
+    check_same(&rt, process.variables(), 1, "the variables");
+    check_same(&rt, process.variable_name(0), Some("x"), "variable 0");
+    check_same(&rt, process.variable_name(1), None, "variable 1");
+    let body: &Block = process.body();
+    assert!(rt; matches!(body, Block::Done));
+    Ok(())
+}

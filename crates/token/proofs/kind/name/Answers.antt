@@ -1,6 +1,0 @@
-use Rattle.std.proofs.Common.{sym}
-use Rattle.token.proofs.Names.{IsUtf8-from_name}
-use Rattle.token.proofs.kind.name.Goals as goal
-
-pub returns-in-Err : goal.returns-in-Err
-returns-in-Err c = absurd (c.in-Err.ensures.cases.0 (IsUtf8-from_name c.args.text.now (sym c.if-not-is_name.ensures)))

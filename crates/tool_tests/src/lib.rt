@@ -1,5 +1,0 @@
-//! Tests of `tool`: the command, on texts in memory.
-#![tactic(auto)]
-
-#[cfg(test)]
-mod tests;

@@ -1,7 +1,0 @@
-use Rattle.std.proofs.Common.{◌∙◌, sym, ap, Some}
-use Rattle.words.specs.declared.Head.{Head}
-use Rattle.words.proofs.WordLemmas.{head_of-fields}
-use Rattle.words.proofs.packing.read_head.Goals as goal
-
-pub returns : goal.returns
-returns c = head_of-fields c.args.word c.requires ∙ ap (λ (x : Head). Some x) (sym c.head_fields.ensures.value)

@@ -1,7 +1,0 @@
-use Rattle.words.proofs.WordLemmas.{offer_of-fields}
-use Rattle.words.proofs.packing.read_offer.Goals as goal
-
-pub returns : goal.returns
-returns c =
-    rw (c.read_base.ensures, c.head_fields-said.ensures.value)
-    (offer_of-fields c.args.head c.args.first c.args.second c.args.third c.requires)

@@ -1,4 +1,0 @@
-pub mod Words
-pub mod Scopes
-pub mod Commits
-pub mod Equality

@@ -1,5 +1,0 @@
-use Rattle.writer.proofs.PlainTrees.{spelled_by_canon, read_again, own_canon}
-use Rattle.writer.proofs.writing.writing_laws.Goals as goal
-
-pub returns : goal.returns
-returns c = record { spelled = spelled_by_canon; again = read_again; own = own_canon }
