@@ -306,6 +306,7 @@ module _ {M : Type 0} (stands : Stands M) (first : List M) where
         nacks = offers.nacks;
         standing = (value, offers.standing);
         offered = offers.offered;
+        whole = offers.whole;
         bound = offers.bound;
         no_others = offers.no_others;
       });

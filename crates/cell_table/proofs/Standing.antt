@@ -119,6 +119,7 @@ module _ {M : Type 0} (stands : Stands M) (first : List M) where
       nacks = ready.nacks;
       standing = ready.standing;
       offered = λ n o e. offered n o (sym (offers-of w.table r n) ∙ e) (cases_lt n (length ready.offers));
+      whole = λ n o e. offers-of w.table r n ∙ sees_known w owner id v r n o known k (inr (opened, ready.drafted.1 n o e));
       bound = λ scope number e. binding-of w.table (nack_of_row r number) ∙ known.bound (nack_of_row r number) (binding_of r scope) (ready.bound scope number e);
       no_others = λ scope number e. ready.no_others scope number (known.binds (nack_of_row r number) (binding_of r scope) (sym (binding-of w.table (nack_of_row r number)) ∙ e) held);
     }

@@ -38,6 +38,7 @@ module _ (stands : ℕ → List Result → List Offer → List ℕ → Type 0) w
     nacks = o.nacks;
     standing = o.standing;
     offered = λ n x h. o.offered n x (offers-of w.table r n ∙ sym (g.offers r n open_r) ∙ sym (offers-of u r n) ∙ h);
+    whole = λ n x h. offers-of u r n ∙ g.offers r n open_r ∙ sym (offers-of w.table r n) ∙ o.whole n x h;
     bound = λ scope n h. binding-of u (nack_of_row r n) ∙ g.bound (nack_of_row r n) (binding_of r scope) (sym (binding-of w.table (nack_of_row r n)) ∙ o.bound scope n h);
     no_others = λ scope n h. o.no_others scope n (binding-of w.table (nack_of_row r n) ∙ g.unbound (nack_of_row r n) (binding_of r scope) open_r (sym (binding-of u (nack_of_row r n)) ∙ h));
   }

@@ -50,8 +50,8 @@ Receives offer partner Never got = got ≡ Empty
 abbrev pub binding_of : Row → ℕ → Binding
 binding_of r scope = record { sync = r.sync; scope = scope }
 
--- The row's offers are what its thread offers after the results of the rows before it, and the nacks that are bound to it
--- are those of their scopes.
+-- The row's offers are what its thread offers after the results of the rows before it, no others and no fewer, and the nacks that
+-- are bound to it are those of their scopes.
 pub record OffersAs (stands : ℕ → List Result → List Offer → List ℕ → Type 0) (l : Ledger) (r : Row) : Type 0 where
   pub results : List Result
   pub count : length results ≡ r.sync
@@ -60,6 +60,7 @@ pub record OffersAs (stands : ℕ → List Result → List Offer → List ℕ �
   pub nacks : List ℕ
   pub standing : stands r.thread results offers nacks
   pub offered : (n : ℕ) (o : Offer) → offer_in l r n ≡ Some o → slice_get offers n ≡ Some o
+  pub whole : (n : ℕ) (o : Offer) → slice_get offers n ≡ Some o → offer_in l r n ≡ Some o
   pub bound : (scope k : ℕ) → slice_get nacks scope ≡ Some k → binding_in l (nack_of_row r k) ≡ Some (binding_of r scope)
   pub no_others : (scope k : ℕ) → binding_in l (nack_of_row r k) ≡ Some (binding_of r scope) → slice_get nacks scope ≡ Some k
 

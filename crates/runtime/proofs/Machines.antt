@@ -133,6 +133,7 @@ ledger_of_processes ps first l are each r n o h =
       nacks = s.nacks;
       standing = offers_as ps first r.thread s.results s.offers s.nacks are s.standing;
       offered = s.offered;
+      whole = s.whole;
       bound = s.bound;
       no_others = s.no_others;
     }
