@@ -1,5 +1,5 @@
 -- What the rule of the table says of a moment between two atomic steps.
-use Rattle.std.specs.Prelude.{◌≡◌, ◌<◌, ℕ, List, [], Option, None, true, false, length}
+use Rattle.std.specs.Prelude.{◌≡◌, ◌<◌, ℕ, List, [], Option, None, Some, true, false, length, slice_get}
 use mathlib.Core.Option.{some}
 use lib.ListN.{get_elem?}
 use Rattle.atomic_table.specs.Table.{State}
@@ -13,23 +13,26 @@ use Rattle.protocol.specs.Tables.{binding_at, cell_at, is_fresh, is_taken, joine
 use Rattle.protocol.specs.Worlds.{Plays, start_world, World}
 use Rattle.cell_table.specs.declared.view.Shape.{Shape}
 use Rattle.cell_table.specs.declared.view.View.{View}
-use Rattle.cell_table.specs.Rule.{Interleaves, IsAt, IsHome, Move, in_order, table_of}
+use Rattle.cell_table.specs.Rule.{Interleaves, IsAt, IsHome, IsToBegin, Move, in_order, table_of}
 use Rattle.cell_table.specs.Sight.{Has}
 use Rattle.cell_table.specs.Views.{Knows}
 
 pub record IsLawfulMoment {M : Type 0} (stands : Stands M) (shape : Shape M) (s : State (Option M) (View M)) : Type 0 where
   -- the ledger of the words is lawful
   pub lawful : IsLawful (ledger_of (table_of shape s))
-  -- the words are what the passes' own steps, interleaved, have made of the table's start, and nobody has made any other step
-  pub played : (moves : List Move) × (world : World) × Plays (start_world shape.threads shape.rows shape.passes) (in_order moves) world × (world.table ≡ table_of shape s) × Interleaves moves s.views
-  -- what each pass has seen is true of one world, with these words
-  pub known : (world : World) × (owner : Row → ℕ) × (world.table ≡ table_of shape s) × ((id : ℕ) (v : View M) → IsAt s id v → Knows world owner id v)
+  -- There is one world with these words, and one owner for each row. The passes' own steps, interleaved, lead to it from the table's
+  -- start, and nobody has made any other step; and what each pass has seen is true of it.
+  pub played_and_known : (moves : List Move) × (world : World) × (owner : Row → ℕ) × Plays (start_world shape.threads shape.rows shape.passes) (in_order moves) world × (world.table ≡ table_of shape s)
+      × Interleaves moves s.views × ((id : ℕ) (v : View M) → IsAt s id v → Knows world owner id v)
   -- the results of threads that a pass has seen are those that the commits of their rows give
   pub results : (id : ℕ) (v : View M) (t : ℕ) (results : List Result) → IsAt s id v → Has v.results (t, results) → AreResults (ledger_of (table_of shape s)) t results
   -- in a table of machines each opened row offers what somebody offers who stands for its thread after the results of the rows
   -- before, with his nacks and no others, and he lies in the thread's slot until the row is taken
   pub machines : 0 < length shape.first.value.items → EachStands (SomeStands stands shape.first.value.items) (table_of shape s)
       × ((r : Row) → is_fresh (cell_at (table_of shape s) r) ≡ false → is_taken (cell_at (table_of shape s) r) ≡ false → IsHome stands shape.first.value.items (ledger_of (table_of shape s)) s.homes r)
+  -- and where a pass is to begin with a thread, its first row is Fresh, and what stood for the thread at first is at home
+  pub waiting : 0 < length shape.first.value.items → (id : ℕ) (v : View M) (r : Row) → IsAt s id v → IsToBegin v r
+      → (is_fresh (cell_at (table_of shape s) r) ≡ true) × (value : M) × (slice_get shape.first.value.items r.thread ≡ Some value) × (get_elem? s.homes r.thread ≡ some (some (Some value)))
   -- no row is held by two passes, and none was taken by two
   pub one_holder : (i j : ℕ) (u v : View M) (r : Row) → IsAt s i u → IsAt s j v → Has u.seen.held r → Has v.seen.held r → i ≡ j
   pub one_taker : (i j : ℕ) (u v : View M) (r : Row) → IsAt s i u → IsAt s j v → Has u.made (Take r) → Has v.made (Take r) → i ≡ j

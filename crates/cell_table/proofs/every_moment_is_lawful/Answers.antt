@@ -17,12 +17,14 @@ returns g c shape s k =
     let kept : Kept k.world = world_kept g.M.Resident.stands shape s k in
     record {
       lawful = subst (λ (t : Table). IsLawful (ledger_of t)) k.table (lawful_ledger k.world.table kept.linked);
-      played = (k.moves, k.world, k.played, k.table, k.interleaved);
-      known = (k.world, k.owner, k.table, λ id v at. k.knows id v at.0 at.1);
+      played_and_known = (k.moves, k.world, k.owner, k.played, k.table, k.interleaved, λ id v at. k.knows id v at.0 at.1);
       results = λ id v t rs at h. subst (λ (z : Table). AreResults (ledger_of z) t rs) k.table (k.results id v t rs at.0 h);
       machines = λ some_first.
           let house = k.housed some_first in
           subst (λ (t : Table). EachStands (SomeStands g.M.Resident.stands shape.first.value.items) t × ((r : Row) → is_fresh (cell_at t r) ≡ false → is_taken (cell_at t r) ≡ false → IsHome g.M.Resident.stands shape.first.value.items (ledger_of t) s.homes r)) k.table (house.rows, house.at_home);
+      waiting = λ some_first id v r at begins.
+          let one = (k.housed some_first).waiting id v r at.0 at.1 begins in
+          (subst (λ (t : Table). is_fresh (cell_at t r) ≡ true) k.table one.fresh, one.value, one.is_first, one.home);
       one_holder = λ i j u v r at also held too. sym ((k.knows i u at.0 at.1).mine r held).0 ∙ ((k.knows j v also.0 also.1).mine r too).0;
       one_taker = λ i j u v r at also took too.
           taken_once start k.world k.moves s.views i j u v r (kept_start shape.threads shape.rows shape.passes k.few_threads k.few_rows) k.played k.interleaved at.0 also.0 took too;
