@@ -19,7 +19,8 @@ use protocol::{Ledger, Resident};
 use std::alloc::Global;
 
 impl<M: Resident + Drop> Board<M> {
-    /// The ledger of the words at the end. They are copied into the spare that was made for them.
+    /// The ledger of the words at the end. They are copied into `spare`, as many words, which whoever made the table
+    /// has kept from the start for this: so the end needs no memory.
     pub fn close(self, seat: Seat<Option<M>, View<M>>, spare: Vec<u64>) -> Ledger
         requires sits { Sits self seat }
         requires spare { length spare.items ≡ self.words.shared.table_id.words }
@@ -54,7 +55,7 @@ fn free<M: Drop>(closed: Closed<Option<M>, Global>)
     closed.free();
 }
 
-/// The words, in a spare that has as many.
+/// The table's words, copied into `spare`, the words that were kept for the end, which are as many.
 fn copy_words<M>(closed: &Closed<Option<M>, Global>, spare: Vec<u64>) -> Vec<u64>
     requires full { IsFull closed.now.words }
     requires spare { length spare.items ≡ slots_len closed.now.words }
