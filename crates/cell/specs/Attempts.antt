@@ -110,10 +110,11 @@ abbrev pub ResultsTold : Row → Option Joined → List (ℕ × List Result) →
 ResultsTold r (Some j) before after = (results : List Result) × (length results ≡ r.sync + 1) × (after ≡ (r.thread, results) ∷ before)
 ResultsTold r None before after = after ≡ before
 
--- What stands for the row's thread came out with the row: it is still to be given the last of the results that the pass has now.
-abbrev pub Hands : {M : Type 0} → Stands M → List M → Seen → Row → Option Joined → List (ℕ × List Result) → List (ℕ × Option M) → List (ℕ × Option M) → Type 0
-Hands stands first seen r (Some j) results before after = (told : List Result) × Has results (r.thread, told) × (length told ≡ r.sync + 1) × ComesOut stands first seen r j.own told before after
-Hands stands first seen r None results before after = after ≡ before
+-- What stands for the row's thread came out with the row: it is still to be given the last of the results that the pass has now. Its
+-- message is the row's, by what the pass had seen before and by what it has seen since.
+abbrev pub Hands : {M : Type 0} → Stands M → List M → Seen → Seen → Row → Option Joined → List (ℕ × List Result) → List (ℕ × Option M) → List (ℕ × Option M) → Type 0
+Hands stands first old new r (Some j) results before after = (told : List Result) × Has results (r.thread, told) × (length told ≡ r.sync + 1) × ComesOut stands first old new r j.own told before after
+Hands stands first old new r None results before after = after ≡ before
 
 -- where the nack is bound instead: to this row, or to an earlier one of its thread, as a scope's of that row
 abbrev pub BoundBefore : {M : Type 0} → Stands M → List M → List (ℕ × List Result) → Seen → ℕ → Row → Type 0

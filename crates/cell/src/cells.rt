@@ -392,7 +392,7 @@ impl<M: Resident> Cells<M> {
         ensures none { IfNone result (Learns (λ q. q ≡ row) pass.old.seen pass.new.seen × (SawCommitted pass.old.seen row → Has pass.new.seen.taken row)) }
         ensures made { pass.new.made ≡ take_made row result pass.old.made }
         ensures results { ResultsTold row result pass.old.results pass.new.results }
-        ensures out { Hands M.stands self.now.first pass.old.seen row result pass.new.results pass.old.out pass.new.out }
+        ensures out { Hands M.stands self.now.first pass.old.seen pass.new.seen row result pass.new.results pass.old.out pass.new.out }
     {
         let Pass { seat, rows } = pass;
         let joined = take_row(&self.board, seat, row)?;

@@ -4,6 +4,7 @@ ghost use Rattle.std.specs.Prelude.{◌≡◌, ◌+◌, ◌*◌, ◌<◌, ◌≤
 ghost use Rattle.protocol_values.specs.Words.{IsOfferInRange, atom_of};
 ghost use Rattle.protocol_values.specs.declared.Offer.{Offer};
 ghost use Rattle.cell.specs.Attempts.{OnlyDrafts};
+ghost use Rattle.cell_table.specs.declared.view.Stage.TheVariants.{Resting};
 ghost use Rattle.cell_table.specs.Seats.{Sits, HasRow, StaysSeated};
 ghost use Rattle.cell_table.specs.Sight.{AreOffers, Has, HasDrafted, IsDraft, IsPlaceOf, Redrafts};
 ghost use Rattle.cell_table.specs.Views.{worked};
@@ -23,6 +24,7 @@ pub(crate) fn draft_offers<M: Resident>(
     offers: &[Offer],
 )
     requires sits { Sits board.now seat.old × HasRow board.now row }
+    requires resting { seat.old.me.0.stage ≡ Resting }
     requires held { Has seat.old.me.0.seen.held row × (¬ Has seat.old.me.0.seen.opened row) }
     requires offers { AreOffers offers.now }
     ensures sits { StaysSeated board.now seat.old seat.new }
@@ -46,6 +48,7 @@ fn draft_offer<M: Resident>(
     offer: Offer,
 )
     requires sits { Sits board.now seat.old × HasRow board.now row }
+    requires resting { seat.old.me.0.stage ≡ Resting }
     requires held { Has seat.old.me.0.seen.held row × (¬ Has seat.old.me.0.seen.opened row) }
     requires offer { (n < 8) × IsOfferInRange offer }
     ensures sits { StaysSeated board.now seat.old seat.new }
@@ -73,6 +76,7 @@ fn draft_atom<M: Resident>(
     has: bool,
 )
     requires sits { Sits board.now seat.old × HasRow board.now row }
+    requires resting { seat.old.me.0.stage ≡ Resting }
     requires held { Has seat.old.me.0.seen.held row × (¬ Has seat.old.me.0.seen.opened row) }
     requires atom { (n < 8) × (1 ≤ k) × (k < 4) × (is_some (atom_of word) ≡ true) }
     ensures sits { StaysSeated board.now seat.old seat.new }

@@ -9,6 +9,7 @@ ghost use Rattle.protocol.specs.Tables.{bound_row};
 ghost use Rattle.protocol.specs.Worlds.{nack_of_row};
 ghost use Rattle.cell.specs.Attempts.{Bound, BoundBefore, bind_made};
 ghost use Rattle.cell_table.specs.Nacks.{IsBoundRow, SawCause, SawEnabled};
+ghost use Rattle.cell_table.specs.declared.view.Stage.TheVariants.{Resting};
 ghost use Rattle.cell_table.specs.Seats.{HasNack, HasRow, Sits, StaysSeated};
 ghost use Rattle.cell_table.specs.Sight.{Has, Learns, LearnsOf};
 ghost use Rattle.cell_table.specs.Views.{at_stage, worked};
@@ -50,6 +51,7 @@ pub(crate) fn bind<M: Resident>(
     scope: u8,
 ) -> bool
     requires sits { Sits board.now seat.old × HasRow board.now row }
+    requires resting { seat.old.me.0.stage ≡ Resting }
     requires held { Has seat.old.me.0.seen.held row × (¬ Has seat.old.me.0.seen.opened row) }
     requires range { (k < 64) × (scope < 4) }
     ensures sits { StaysSeated board.now seat.old seat.new }

@@ -1,5 +1,5 @@
 -- Each atomic step is admitted by the rule.
-use Rattle.std.proofs.Common.{inl, inr, ◌∷◌, cond, ◌+◌, slice_index, slice_set, slice_get, length, ◌%◌, ◌⊎◌, ◌≡◌, ◌≢◌, ℕ, ◌<◌, ◌≤◌, true, false, List, [], sym, refl, ap, ◌∙◌, subst, ⊎_elim, arith, unwrap_or, Option, Some, None, is_some, eqb, Bool, ltb}
+use Rattle.std.proofs.Common.{inl, inr, ◌∷◌, ◌++◌, cond, ◌+◌, slice_index, slice_set, slice_get, length, ◌%◌, ◌⊎◌, ◌≡◌, ◌≢◌, ℕ, ◌<◌, ◌≤◌, true, false, List, [], sym, refl, ap, ◌∙◌, subst, ⊎_elim, arith, unwrap_or, Option, Some, None, is_some, eqb, Bool, ltb}
 use Rattle.std.proofs.lemmas.List.{set-get_or}
 use Rattle.std.proofs.lemmas.Bool.{false≢true, ltb-true}
 use mathlib.Core.Option.{Option as Maybe, some, none}
@@ -14,9 +14,10 @@ use Rattle.atomic_table.specs.declared.shared.Seat.{Seat}
 use Rattle.cell_table.specs.declared.board.Board.{Board}
 use Rattle.cell_table.specs.Seats.{Sits}
 use Rattle.protocol_values.specs.declared.Step.{Step}
-use Rattle.protocol_values.specs.declared.Step.TheVariants.{Draft, Open, Claim, Yield, Join, Seal, Grant, Take}
+use Rattle.protocol_values.specs.declared.Step.TheVariants.{Bind, Draft, Open, Claim, Yield, Join, Seal, Grant, Take}
 use Rattle.protocol_values.specs.declared.Row.{Row}
 use Rattle.protocol_values.specs.declared.Joined.{Joined}
+use Rattle.protocol_values.specs.declared.Message.{Message}
 use Rattle.protocol_values.specs.declared.Cell.{Cell}
 use Rattle.protocol_values.specs.declared.Cell.TheVariants.{Fresh, Waiting, Claimed, Synched, Taken}
 use Rattle.protocol.specs.Tables.{Table, place_of, is_row, is_fresh, cell_at, joined_at, names, is_partner, word_at, row_eq, synched_of, is_taken}
@@ -32,8 +33,8 @@ use Rattle.protocol.proofs.Keeping.{kept_step, idle_unnamed, join_in_range, gran
 use Rattle.cell_table.specs.declared.view.View.{View}
 use Rattle.cell_table.specs.declared.view.Shape.{Shape}
 use Rattle.cell_table.specs.declared.view.Stage.{Stage}
-use Rattle.cell_table.specs.declared.view.Stage.TheVariants.{Resting, Claims, Joins}
-use Rattle.cell_table.specs.Sight.{Has, CanJoin, Coherent, see_cell}
+use Rattle.cell_table.specs.declared.view.Stage.TheVariants.{Resting, Claims, Joins, Aside}
+use Rattle.cell_table.specs.Sight.{Has, CanJoin, Coherent, IsResult, see_cell}
 use Rattle.protocol.specs.Standing.{AreResults, IsLeft, Result, Stands}
 use Rattle.protocol.specs.Ledgers.{joined_in as ledger_joined, ledger_of}
 use Rattle.protocol.proofs.LedgerLemmas.{joined_in_ledger, lawful_ledger}
@@ -47,9 +48,10 @@ use Rattle.cell_table.proofs.Truths.{offers_known, joined_known, granted_known, 
 use Rattle.cell_table.specs.Rule.{Housed, IsHome, IsReady, IsToBegin, Keeps}
 use Rattle.cell_table.specs.Told.{Agrees, AgreesWithItself, ComesOut, GoesHome, Inside, At, began, has_begun, cell_read, looked, has_read, glanced, drafted, opened, yielded, claimed, joined, granted, settled, taken, sealed}
 use Rattle.cell_table.proofs.Others.{knows_begun, learn_cell, learn_word, others_cell, own_cell, cell_now, cell_else, others_draft, own_draft}
+use Rattle.cell_table.proofs.Seating.{MovesOn, Stays, saw_stays}
 use Rattle.cell_table.proofs.Turning.{world_kept, keeps_housed, keeps_seen, keeps_view, keeps_step, moved_coherent}
-use Rattle.cell_table.proofs.Housing.{first_out, housed_begin, housed_open, housed_take, some_or_none, took_begins, value_out}
-use Rattle.cell_table.proofs.Standing.{comes_out, goes_home}
+use Rattle.cell_table.proofs.Housing.{first_out, housed_begin, housed_open, housed_take, some_or_none, took_begins, took_holds, value_out}
+use Rattle.cell_table.proofs.Standing.{comes_out, goes_home, sees_last}
 
 -- the table with these words
 abbrev pub sized : {M : Type 0} → Shape M → List ℕ → Table
@@ -117,8 +119,8 @@ module _ {M : Type 0} (stands : Stands M) where
       is_its_row = ap (λ (t : Table). is_row t r) k.table ∙ row_from (sized shape s.words) r inside.0 inside.1
 
       -- where it only learns
-      learnt : (w : View M) → w.seat ≡ me.0.seat → w.made ≡ me.0.made → w.results ≡ me.0.results → w.first ≡ me.0.first → ((q : Row) → IsToBegin w q → IsToBegin me.0 q) → Knows k.world k.owner id w → Keeps stands shape (stepped s place (slice_index s.words place) id me.1 w keeps)
-      learnt w seat_same made seen first begins knows = keeps_view stands shape s k id me.0 w _ view at_table seat_same made seen first begins (set-get_or s.words place 0) knows
+      learnt : (w : View M) → w.seat ≡ me.0.seat → w.made ≡ me.0.made → w.results ≡ me.0.results → w.first ≡ me.0.first → Stays me.0 w → ((q : Row) → IsToBegin w q → IsToBegin me.0 q) → Knows k.world k.owner id w → Keeps stands shape (stepped s place (slice_index s.words place) id me.1 w keeps)
+      learnt w seat_same made seen first stays begins knows = keeps_view stands shape s k id me.0 w _ view at_table seat_same made seen first stays begins (set-get_or s.words place 0) knows
 
       -- and a look at a cell begins with nothing
       saw_begins : (c : Cell) (q : Row) → IsToBegin (saw r c me.0) q → IsToBegin me.0 q
@@ -138,12 +140,17 @@ module _ {M : Type 0} (stands : Stands M) where
       is_cell : p ≡ 0 → is_some (cell_of (slice_index s.words place)) ≡ true
       is_cell e = sym (cell_is_word (slice_index s.words place)) ∙ subst (λ (n : ℕ × ℕ). is_word_for n.0 n.1 ≡ true) (λ i. (e i, word_is i)) (kept.formed.rows r p is_its_row low)
 
+      -- a pass that rests makes steps, and so does one that claims or joins
+      rests : me.0.stage ≡ Resting → me.0.stage ≢ Aside
+      rests resting e = let bad : Resting ≡ Aside = sym resting ∙ e in cc
+
       -- where it writes a word behind the cell
-      wrote_word : (d : ℕ) → Has me.0.seen.held r → ¬ Has me.0.seen.opened r → 1 ≤ p → is_word_for p d ≡ true → Keeps stands shape (stepped s place d id me.1 (word_drafted r p d me.0) keeps)
-      wrote_word d held unopened high formed =
+      wrote_word : (d : ℕ) → me.0.stage ≡ Resting → Has me.0.seen.held r → ¬ Has me.0.seen.opened r → 1 ≤ p → is_word_for p d ≡ true → Keeps stands shape (stepped s place d id me.1 (word_drafted r p d me.0) keeps)
+      wrote_word d resting held unopened high formed =
           let mine = known.mine r held in
           let fresh = known.fresh r held unopened in
-          keeps_step stands shape s k id me.0 (drafted_word r p d me.0) _ k.owner view at_table refl refl refl (λ q h. h) (Draft r p d) (λ q e. let bad : Draft r p d ≡ Open q = e in cc) (known.seat, (mine.1, fresh, high, omega arith, formed)) (λ t rs h. inl h)
+          keeps_step stands shape s k id me.0 (drafted_word r p d me.0) _ k.owner view at_table refl refl refl (λ q h. h) (Draft r p d) (λ q e. let bad : Draft r p d ≡ Open q = e in cc) (known.seat, (mine.1, fresh, high, omega arith, formed))
+          (record { same = (refl, refl, refl); acted = rests resting; acts = rests resting; held = λ q h. h; binds = λ n q scope e. let bad : Draft r p d ≡ Bind n q scope = e in cc }) (λ t rs h. inl h)
           (ap (λ (t : Table). with_word t r p d) k.table ∙ ap (λ (n : ℕ). sized shape (slice_set s.words n d)) (sym here))
           (λ j u n e t. others_draft k.world r p d k.owner kept is_its_row high low fresh j u (k.knows j u e t) (λ o. n (sym o ∙ mine.0)))
           (own_draft k.world r p d k.owner kept is_its_row high low fresh id me.0 known mine.0 mine.1)
@@ -183,11 +190,12 @@ module _ {M : Type 0} (stands : Stands M) where
             → w.first ≡ me.0.first
             → ((q : Row) → IsToBegin w q → IsToBegin me.0 q)
             → ((q : Row) → done ≡ Open q → ⊥)
+            → MovesOn me.0 w done
             → Knows later k.owner id w
             → Keeps stands shape (stepped s place (cell_word c) id me.1 (did done w) keeps)
         unfolding with_cell
-        wrote_cell done w condition after by_other unnamed seat_same made seen first begins opens_none knows =
-            keeps_step stands shape s k id me.0 w _ k.owner view at_table seat_same made first begins done opens_none (known.seat, condition) (λ t rs h. inl (subst (λ (l : List (ℕ × List Result)). Has l (t, rs)) seen h))
+        wrote_cell done w condition after by_other unnamed seat_same made seen first begins opens_none on knows =
+            keeps_step stands shape s k id me.0 w _ k.owner view at_table seat_same made first begins done opens_none (known.seat, condition) on (λ t rs h. inl (subst (λ (l : List (ℕ × List Result)). Has l (t, rs)) seen h))
             (ap (λ (v : World). v.table) after ∙ ap (λ (t : Table). with_cell t r c) k.table ∙ ap (λ (n : ℕ). sized shape (slice_set s.words n (cell_word c))) (ap (place_of shape.rows r) (sym zero) ∙ sym here))
             (λ j u n e t. subst (λ (v : World). Knows v k.owner j u) (sym after)
             (others_cell k.world r c k.owner kept is_its_row range open_c was untaken j u (k.knows j u e t) (λ o. by_other j n o) (λ m o h. unnamed j m n o h)))
@@ -230,7 +238,8 @@ module _ {M : Type 0} (stands : Stands M) where
             → Keeps stands shape (record { words = slice_set s.words place (cell_word Waiting); homes = hs; views = slice_set s.views id (did (Open r) (turned Resting r me.0)) })
         unfolding with_cell
         opens hs house =
-            keeps_housed stands shape s k id me.0 (turned Resting r me.0) _ hs k.owner view at_table refl refl refl (Open r) allowed_open (λ t rs h. inl h)
+            keeps_housed stands shape s k id me.0 (turned Resting r me.0) _ hs k.owner view at_table refl refl refl (Open r) allowed_open
+            (record { same = (refl, refl, refl); acted = rests resting; acts = λ e. let bad : Resting ≡ Aside = e in cc; held = λ q h. h; binds = λ n q scope e. let bad : Open r ≡ Bind n q scope = e in cc }) (λ t rs h. inl h)
             (ap (λ (t : Table). with_cell t r Waiting) k.table ∙ ap (λ (n : ℕ). sized shape (slice_set s.words n (cell_word Waiting))) (ap (place_of shape.rows r) (sym zero) ∙ sym here))
             others_open opened_knows house
 
@@ -258,6 +267,7 @@ module _ {M : Type 0} (stands : Stands M) where
           let now = own_now Claimed zero tt refl was untaken in
           wrote_cell Claimed zero tt refl was untaken (Claim r) (turned (Claims r) r me.0) (mine.1, waits) refl
           (λ j n o. absurd (n (sym o ∙ mine.0))) (λ j m n o h. refl) refl refl refl refl (λ q h. h) (λ q e. let bad : Claim r ≡ Open q = e in cc)
+          (record { same = (refl, refl, refl); acted = rests resting; acts = λ e. let bad : Claims r ≡ Aside = e in cc; held = λ q h. h; binds = λ n q scope e. let bad : Claim r ≡ Bind n q scope = e in cc })
           (knows_now Claimed zero tt refl was untaken (Claims r) (
             mine.0,
             now,
@@ -279,6 +289,7 @@ module _ {M : Type 0} (stands : Stands M) where
           wrote_cell Waiting zero tt refl was untaken (Yield r) (turned Resting r me.0)
           (mine.1, staged.1, namer_none _ (joined_at k.world.table) r staged.2) refl
           (λ j n o. absurd (n (sym o ∙ mine.0))) (λ j m n o h. refl) refl refl refl refl (λ q h. h) (λ q e. let bad : Yield r ≡ Open q = e in cc)
+          (record { same = (refl, refl, refl); acted = λ e. let bad : Claims r ≡ Aside = sym claiming ∙ e in cc; acts = λ e. let bad : Resting ≡ Aside = e in cc; held = λ q h. h; binds = λ n q scope e. let bad : Yield r ≡ Bind n q scope = e in cc })
           (knows_now Waiting zero tt refl was untaken Resting tt (λ e. let bad : Waiting ≡ Claimed = e in cc)
           (λ q e h. false≢true (sym e ∙ ap (row_eq q) (subst (λ (z : Stage). IsClaimer z q) claiming h) ∙ row_eq-refl q)))
 
@@ -305,6 +316,7 @@ module _ {M : Type 0} (stands : Stands M) where
           (λ i n o. (waits, refl))
           (λ i m n o h. ap (λ (y : Option (Row × ℕ)). is_partner y m) partner_is ∙ row_ne mine m (λ e. n (sym o ∙ ap k.owner (sym e) ∙ staged.0)))
           refl refl refl refl (λ q h. h) (λ q e. let bad : Join mine own r partner ≡ Open q = e in cc)
+          (record { same = (refl, refl, refl); acted = λ e. let bad : Claims mine ≡ Aside = sym claiming ∙ e in cc; acts = λ e. let bad : Joins mine r j ≡ Aside = e in cc; held = λ q h. h; binds = λ n q scope e. let bad : Join mine own r partner ≡ Bind n q scope = e in cc })
           (learn_cell _ k.owner id (turned (Joins mine r j) r me.0) r (Synched j)
           (knows_now (Synched j) zero range refl was untaken (Joins mine r j)
           (staged.0, else_now (Synched j) zero range refl was untaken mine apart ∙ staged.1, ap joined_of now, ap (λ (y : Option (Row × ℕ)). is_partner y mine) partner_is ∙ row_eq-refl mine)
@@ -327,6 +339,7 @@ module _ {M : Type 0} (stands : Stands M) where
           (ap (λ (y : Joined). with_table k.world (with_cell k.world.table r (Synched y))) known_grant.1)
           (λ i n o. (waits, refl))
           (λ i m n o h. ap (λ (y : Option (Row × ℕ)). is_partner y m) nobody) refl refl refl refl (λ q h. h) (λ q e. let bad : Grant r n ≡ Open q = e in cc)
+          (record { same = (refl, refl, refl); acted = rests resting; acts = λ e. let bad : Resting ≡ Aside = e in cc; held = λ q h. h; binds = λ m q scope e. let bad : Grant r n ≡ Bind m q scope = e in cc })
           (learn_cell _ k.owner id (turned Resting r me.0) r (Synched j)
           (knows_now (Synched j) zero range refl was untaken Resting tt
           (λ e. let bad : Synched j ≡ Claimed = e in cc)
@@ -370,7 +383,7 @@ module _ {M : Type 0} (stands : Stands M) where
                 subst (λ (b : Bool). Knows later_taken owner' id (at_stage me.0.stage (cond b (record { held = next_row r ∷ (saw r (Taken j) me.0).seen.held; drafts = (next_row r, 1, 0) ∷ (saw r (Taken j) me.0).seen.drafts; opened = (saw r (Taken j) me.0).seen.opened; words = (saw r (Taken j) me.0).seen.words; joined = (saw r (Taken j) me.0).seen.joined; taken = (saw r (Taken j) me.0).seen.taken; bound = (saw r (Taken j) me.0).seen.bound; begun = (saw r (Taken j) me.0).seen.begun }) (saw r (Taken j) me.0).seen) me.0)) (sym e)
                 saw_it
 
-        module _ (zero : p ≡ 0) (results : List Result) (are : AreResults (ledger_of k.world.table) r.thread results) where
+        module _ (zero : p ≡ 0) (resting : me.0.stage ≡ Resting) (results : List Result) (are : AreResults (ledger_of k.world.table) r.thread results) where
           abbrev taker : View M
           taker = did (Take r) (took_with r j results me.0)
 
@@ -389,6 +402,7 @@ module _ {M : Type 0} (stands : Stands M) where
           takes hs house =
               let stay = results-stay k.world (after_step k.world seat (Take r)).table r.thread results kept (grows-step k.world seat (Take r) kept allowed_take) are in
               keeps_housed stands shape s k id me.0 (took_with r j results me.0) _ hs owner' view at_table refl refl refl (Take r) allowed_take
+              (record { same = (refl, refl, refl); acted = rests resting; acts = rests resting; held = λ q h. took_holds me.0.rows r (see_cell r (Taken j) me.0.seen) q h; binds = λ n q scope e. let bad : Take r ≡ Bind n q scope = e in cc })
               (λ t rs. ⊎_elim
               (λ (e : (r.thread, results) ≡ (t, rs)). inr (subst (λ (z : ℕ × List Result). AreResults (ledger_of (after_step k.world seat (Take r)).table) z.0 z.1) e stay))
               (λ (old : Has me.0.results (t, rs)). inl old))
@@ -396,6 +410,13 @@ module _ {M : Type 0} (stands : Stands M) where
               (λ i u n e t. subst (λ (v : World). Knows v owner' i u) (sym after_take) (still_knows i u (k.knows i u e t)))
               (subst (λ (v : World). Knows v owner' id (took_with r j results me.0)) (sym after_take) took_knows)
               house
+
+          -- what the pass sees of the row then is the last of the results
+          sees_since : length results ≡ r.sync + 1 → (got : Message) (earlier : List Result) → results ≡ earlier ++ (j.own, got) ∷ [] → length earlier ≡ r.sync → (m : Message) → IsResult taker.seen r m → m ≡ got
+          sees_since size got earlier whole count =
+              let world = after_step k.world seat (Take r) in
+              sees_last stands shape.first.value.items world owner' id (took_with r j results me.0) (subst (λ (v : World). Knows v owner' id (took_with r j results me.0)) (sym after_take) took_knows) (kept_step k.world seat (Take r) kept allowed_take)
+              r j results earlier got (ap (λ (v : World). joined_at v.table r) after_take ∙ ap joined_of (taken_at k.world seat r j kept is)) size (results-stay k.world world.table r.thread results kept (grows-step k.world seat (Take r) kept allowed_take) are) whole count
 
           -- in a table without machines
           takes_bare : length shape.first.value.items ≡ 0 → Keeps stands shape (record { words = slice_set s.words place (cell_word (Taken j)); homes = s.homes; views = slice_set s.views id taker })
@@ -433,6 +454,7 @@ module _ {M : Type 0} (stands : Stands M) where
           (ap (λ (y : Option Joined). with_table k.world (with_seal k.world.table r y)) (sealed_is k.world.table r other (namer_at k.world r) sealing namer))
           (λ i n o. absurd (n (sym o ∙ mine.0)))
           (λ i m n o h. row_ne other m (λ e. let bad : None ≡ Some j = sym (ap joined_of h) ∙ ap (joined_at k.world.table) (sym e) ∙ staged.2 in cc)) refl refl refl refl (λ q h. h) (λ q e. let bad : Seal r ≡ Open q = e in cc)
+          (record { same = (refl, refl, refl); acted = λ e. let bad : Joins r other j ≡ Aside = sym joining_now ∙ e in cc; acts = λ e. let bad : Resting ≡ Aside = e in cc; held = λ q h. h; binds = λ n q scope e. let bad : Seal r ≡ Bind n q scope = e in cc })
           (learn_cell _ k.owner id (turned Resting r me.0) r (Synched (mirrored other j own))
           (knows_now (Synched (mirrored other j own)) zero range refl was untaken Resting tt
           (λ e. let bad : Synched (mirrored other j own) ≡ Claimed = e in cc)
@@ -450,7 +472,7 @@ module _ {M : Type 0} (stands : Stands M) where
           saw r c me.0,
           keeps,
           tt,
-          learnt shape id place me r 0 threads rows inside (omega arith) here s k view (saw r c me.0) refl refl refl refl (saw_begins shape id place me r 0 threads rows inside (omega arith) here s k view c) (learn_cell k.world k.owner id me.0 r c knows read),
+          learnt shape id place me r 0 threads rows inside (omega arith) here s k view (saw r c me.0) refl refl refl refl (saw_stays r c me.0) (saw_begins shape id place me r 0 threads rows inside (omega arith) here s k view c) (learn_cell k.world k.owner id me.0 r c knows read),
           λ q at.
               let there = seen_there k.world k.owner id me r q c (world_kept stands shape s k) knows read (one_word shape id place me r 0 threads rows inside (omega arith) here q 0 (omega arith) at.0 at.1).0 in
               (there.0, there.1, coherent k.world k.owner id (saw r c me.0) (learn_cell k.world k.owner id me.0 r c knows read) (world_kept stands shape s k), is_cell shape id place me r 0 threads rows inside (omega arith) here s k view refl),
@@ -463,7 +485,7 @@ module _ {M : Type 0} (stands : Stands M) where
           me.0,
           keeps,
           tt,
-          learnt shape id place me r 0 threads rows inside (omega arith) here s k view me.0 refl refl refl refl (λ q h. h) knows,
+          learnt shape id place me r 0 threads rows inside (omega arith) here s k view me.0 refl refl refl refl (refl, refl, refl, refl, refl) (λ q h. h) knows,
           (refl, coherent k.world k.owner id me.0 knows (world_kept stands shape s k)),
         )
 
@@ -474,7 +496,7 @@ module _ {M : Type 0} (stands : Stands M) where
           read_word r p x me.0,
           keeps,
           tt,
-          learnt shape id place me r p threads rows inside low here s k view (read_word r p x me.0) refl refl refl refl (λ q h. h)
+          learnt shape id place me r p threads rows inside low here s k view (read_word r p x me.0) refl refl refl refl (refl, refl, refl, refl, refl) (λ q h. h)
               (learn_word k.world k.owner id me.0 r p x knows (knows.opened r seen) high low (word_is shape id place me r p threads rows inside low here s k view)),
           λ q o h at. (
             ap (λ (z : Row × ℕ). (read_word z.0 z.1 x me.0, me.1)) (let e = one_word shape id place me r p threads rows inside low here q o h at.0 at.1 in λ i. (e.0 i, e.1 i)),
@@ -482,11 +504,11 @@ module _ {M : Type 0} (stands : Stands M) where
           ),
         )
 
-    pub draft_allowed : (p d : ℕ) → 1 ≤ p → p < 34 → is_word_for p d ≡ true → Has me.0.seen.held r → ¬ Has me.0.seen.opened r → place ≡ place_of shape.rows r p
+    pub draft_allowed : (p d : ℕ) → 1 ≤ p → p < 34 → is_word_for p d ≡ true → me.0.stage ≡ Resting → Has me.0.seen.held r → ¬ Has me.0.seen.opened r → place ≡ place_of shape.rows r p
         → Allows (Keeps stands shape) slots id me place (λ n. d) (λ n. drafted (step slots place d 0 none) me d)
-    draft_allowed p d high low formed held unopened here s k homes view range =
+    draft_allowed p d high low formed resting held unopened here s k homes view range =
         let after = word_drafted r p d me.0 in
-        let moved : Keeps stands shape (stepped s place d id me.1 after keeps) = wrote_word shape id place me r p threads rows inside low here s k view d held unopened high formed in (
+        let moved : Keeps stands shape (stepped s place d id me.1 after keeps) = wrote_word shape id place me r p threads rows inside low here s k view d resting held unopened high formed in (
           after,
           keeps,
           tt,
@@ -550,7 +572,7 @@ module _ {M : Type 0} (stands : Stands M) where
         let others = none_begins shape id place me r 0 threads rows inside (omega arith) here s k view held in
         let waits = first_out stands shape.first.value.items k.world r s.homes s.views id me.0 after (world_kept stands shape s k) to_begin others view (at_table shape id place me r 0 threads rows inside (omega arith) here) (λ q b. began_before q b) (k.housed some_first) in
         let moved : Keeps stands shape (stepped s place (slice_index s.words place) id me.1 after (takes_it r.thread (Some waits.value))) =
-        keeps_seen stands shape s k id me.0 after _ (slice_set s.homes r.thread none) view (at_table shape id place me r 0 threads rows inside (omega arith) here) refl refl refl refl (set-get_or s.words place 0) (knows_begun k.world k.owner id me.0 r knows)
+        keeps_seen stands shape s k id me.0 after _ (slice_set s.homes r.thread none) view (at_table shape id place me r 0 threads rows inside (omega arith) here) refl refl refl refl (refl, refl, refl, refl, refl) (set-get_or s.words place 0) (knows_begun k.world k.owner id me.0 r knows)
         (λ again. housed_begin stands shape.first.value.items k.world r s.homes s.views id me.0 after (world_kept stands shape s k) to_begin others view (at_table shape id place me r 0 threads rows inside (omega arith) here) (λ q b. began_before q b) (k.housed some_first)) in (
           after,
           takes_it r.thread (Some waits.value),
@@ -609,7 +631,7 @@ module _ {M : Type 0} (stands : Stands M) where
         ))
         (λ f.
         let moved : Keeps stands shape (stepped s place n id me.1 (saw r (cell_read n) me.0) keeps) =
-        learnt shape id place me r 0 threads rows inside (omega arith) here s k view (saw r (cell_read n) me.0) refl refl refl refl (saw_begins shape id place me r 0 threads rows inside (omega arith) here s k view (cell_read n)) (learn_cell k.world k.owner id me.0 r (cell_read n) knows read) in
+        learnt shape id place me r 0 threads rows inside (omega arith) here s k view (saw r (cell_read n) me.0) refl refl refl refl (saw_stays r (cell_read n) me.0) (saw_begins shape id place me r 0 threads rows inside (omega arith) here s k view (cell_read n)) (learn_cell k.world k.owner id me.0 r (cell_read n) knows read) in
         let agrees_now = agreed shape id place me r 0 threads rows inside (omega arith) here s k view n (saw r (cell_read n) me.0) refl moved in (
           saw r (cell_read n) me.0,
           keeps,
@@ -653,7 +675,7 @@ module _ {M : Type 0} (stands : Stands M) where
         ))
         (λ f.
         let moved : Keeps stands shape (stepped s place n id me.1 (saw r (cell_read n) me.0) keeps) =
-        learnt shape id place me r 0 threads rows inside (omega arith) here s k view (saw r (cell_read n) me.0) refl refl refl refl (saw_begins shape id place me r 0 threads rows inside (omega arith) here s k view (cell_read n)) (learn_cell k.world k.owner id me.0 r (cell_read n) knows read) in
+        learnt shape id place me r 0 threads rows inside (omega arith) here s k view (saw r (cell_read n) me.0) refl refl refl refl (saw_stays r (cell_read n) me.0) (saw_begins shape id place me r 0 threads rows inside (omega arith) here s k view (cell_read n)) (learn_cell k.world k.owner id me.0 r (cell_read n) knows read) in
         let agrees_now = agreed shape id place me r 0 threads rows inside (omega arith) here s k view n (saw r (cell_read n) me.0) refl moved in (
           saw r (cell_read n) me.0,
           keeps,
@@ -667,6 +689,7 @@ module _ {M : Type 0} (stands : Stands M) where
           where
             row_in : Stage → Row
             row_in Resting = a
+            row_in Aside = a
             row_in (Claims m) = m
             row_in (Joins m o j) = m
 
@@ -700,7 +723,7 @@ module _ {M : Type 0} (stands : Stands M) where
         ))
         (λ f.
         let moved : Keeps stands shape (stepped s place x id me.1 (saw r (cell_read x) me.0) keeps) =
-        learnt shape id place me r 0 threads rows inside (omega arith) here s k view (saw r (cell_read x) me.0) refl refl refl refl (saw_begins shape id place me r 0 threads rows inside (omega arith) here s k view (cell_read x)) (learn_cell k.world k.owner id me.0 r (cell_read x) knows read) in
+        learnt shape id place me r 0 threads rows inside (omega arith) here s k view (saw r (cell_read x) me.0) refl refl refl refl (saw_stays r (cell_read x) me.0) (saw_begins shape id place me r 0 threads rows inside (omega arith) here s k view (cell_read x)) (learn_cell k.world k.owner id me.0 r (cell_read x) knows read) in
         let agrees_now = agreed shape id place me r 0 threads rows inside (omega arith) here s k view x (saw r (cell_read x) me.0) refl moved in (
           saw r (cell_read x) me.0,
           keeps,
@@ -710,15 +733,15 @@ module _ {M : Type 0} (stands : Stands M) where
         ))
 
     -- a committed row, where it is Synched: it is taken
-    pub take_allowed : slots ≡ length shape.first.value.items → (j : Joined) → IsJoinedInRange j → place ≡ place_of shape.rows r 0
+    pub take_allowed : slots ≡ length shape.first.value.items → me.0.stage ≡ Resting → (j : Joined) → IsJoinedInRange j → place ≡ place_of shape.rows r 0
         → Allows (Keeps stands shape) slots id me place (λ x. either (eqb x (cell_word (Synched j))) (cell_word (Taken j)) x) (taken stands (step slots place (cell_word (Synched j)) (cell_word (Taken j)) none) me)
-    take_allowed count j in_range here s k homes view range =
+    take_allowed count resting j in_range here s k homes view range =
         exchanged x (cell_word (Synched j)) (cell_word (Taken j))
         (λ y. (w : View M) × (a : Act (Option M)) × Valid s.homes me.1 a × Keeps stands shape (stepped s place y id me.1 w a) × taken stands (step slots place (cell_word (Synched j)) (cell_word (Taken j)) none) me x (w, carried_after me.1 a))
         (λ e. by_slots e (some_or_none shape.first.value.items))
         (λ f.
         let moved : Keeps stands shape (stepped s place x id me.1 (saw r (cell_read x) me.0) keeps) =
-        learnt shape id place me r 0 threads rows inside (omega arith) here s k view (saw r (cell_read x) me.0) refl refl refl refl (saw_begins shape id place me r 0 threads rows inside (omega arith) here s k view (cell_read x)) (learn_cell k.world k.owner id me.0 r (cell_read x) knows read) in
+        learnt shape id place me r 0 threads rows inside (omega arith) here s k view (saw r (cell_read x) me.0) refl refl refl refl (saw_stays r (cell_read x) me.0) (saw_begins shape id place me r 0 threads rows inside (omega arith) here s k view (cell_read x)) (learn_cell k.world k.owner id me.0 r (cell_read x) knows read) in
         let agrees_now = agreed shape id place me r 0 threads rows inside (omega arith) here s k view x (saw r (cell_read x) me.0) refl moved in (
           saw r (cell_read x) me.0,
           keeps,
@@ -758,7 +781,7 @@ module _ {M : Type 0} (stands : Stands M) where
         after : (e : x ≡ cell_word (Synched j)) → View M
         after e = did (Take r) (took_with r j (has e).0 me.0)
 
-        told : (e : x ≡ cell_word (Synched j)) → (c : List (ℕ × Option M)) → ComesOut stands me.0.first me.0.seen r j.own (has e).0 me.1 c → AgreesWithItself (after e) → taken stands (step slots place (cell_word (Synched j)) (cell_word (Taken j)) none) me x (after e, c)
+        told : (e : x ≡ cell_word (Synched j)) → (c : List (ℕ × Option M)) → ComesOut stands me.0.first me.0.seen (after e).seen r j.own (has e).0 me.1 c → AgreesWithItself (after e) → taken stands (step slots place (cell_word (Synched j)) (cell_word (Taken j)) none) me x (after e, c)
         told e c out agree q i at i_range second =
             let same = one_taken j i in_range i_range second in
             let row = one q at in (
@@ -766,7 +789,7 @@ module _ {M : Type 0} (stands : Stands M) where
                 (has e).0,
                 (has e).1 ∙ ap (λ (z : Row). z.sync + 1) row,
                 (λ z. did (Take (row z)) (took_with (row z) (same z) (has e).0 me.0)),
-                subst (λ (z : Row × Joined). ComesOut stands me.0.first me.0.seen z.0 z.1.own (has e).0 me.1 c) (λ y. (row y, same y)) out,
+                subst (λ (z : Row × Joined). ComesOut stands me.0.first me.0.seen (after e).seen z.0 z.1.own (has e).0 me.1 c) (λ y. (row y, same y)) out,
                 subst (λ (z : Joined). Agrees me.0 q (Synched z)) same (seen_there k.world k.owner id me r q (Synched j) (world_kept stands shape s k) knows (synched e) row).1,
                 λ o. let open_next : is_fresh (cell_at k.world.table (next_row r)) ≡ false = knows.opened (next_row r) (subst (λ (z : Row). Has me.0.seen.opened (next_row z)) (sym row) o) in
                     false≢true (sym open_next ∙ next_unopened k.world (record { 0 = me.0.seat }) r j (world_kept stands shape s k) (synched e)),
@@ -780,7 +803,7 @@ module _ {M : Type 0} (stands : Stands M) where
         by_slots : (e : x ≡ cell_word (Synched j)) → (length shape.first.value.items ≡ 0) ⊎ (0 < length shape.first.value.items)
             → (w : View M) × (a : Act (Option M)) × Valid s.homes me.1 a × Keeps stands shape (stepped s place (cell_word (Taken j)) id me.1 w a) × taken stands (step slots place (cell_word (Synched j)) (cell_word (Taken j)) none) me x (w, carried_after me.1 a)
         by_slots e (inl empty) =
-            let moved : Keeps stands shape (stepped s place (cell_word (Taken j)) id me.1 (after e) keeps) = takes_bare shape id place me r 0 threads rows inside (omega arith) here s k view j (synched e) refl (has e).0 (has e).2 empty in (
+            let moved : Keeps stands shape (stepped s place (cell_word (Taken j)) id me.1 (after e) keeps) = takes_bare shape id place me r 0 threads rows inside (omega arith) here s k view j (synched e) refl resting (has e).0 (has e).2 empty in (
               after e,
               keeps,
               tt,
@@ -789,8 +812,8 @@ module _ {M : Type 0} (stands : Stands M) where
                   (agreed shape id place me r 0 threads rows inside (omega arith) here s k view (cell_word (Taken j)) (after e) refl moved),
             )
         by_slots e (inr some_first) =
-            let home = at_home shape id place me r 0 threads rows inside (omega arith) here s k view j (synched e) refl (has e).0 (has e).2 some_first in
-            let moved : Keeps stands shape (stepped s place (cell_word (Taken j)) id me.1 (after e) (takes_it r.thread (Some home.value))) = takes_out shape id place me r 0 threads rows inside (omega arith) here s k view j (synched e) refl (has e).0 (has e).2 some_first in
+            let home = at_home shape id place me r 0 threads rows inside (omega arith) here s k view j (synched e) refl resting (has e).0 (has e).2 some_first in
+            let moved : Keeps stands shape (stepped s place (cell_word (Taken j)) id me.1 (after e) (takes_it r.thread (Some home.value))) = takes_out shape id place me r 0 threads rows inside (omega arith) here s k view j (synched e) refl resting (has e).0 (has e).2 some_first in
             let out = comes_out stands shape.first.value.items k.world k.owner id me.0 knows (world_kept stands shape s k) r j (has e).0 home.value (ap joined_of (synched e)) (has e).1 (has e).2 home.offers in (
               after e,
               takes_it r.thread (Some home.value),
@@ -798,7 +821,7 @@ module _ {M : Type 0} (stands : Stands M) where
               moved,
               told e ((r.thread, Some home.value) ∷ me.1) (
                 (λ z. absurd (let same : length me.0.first ≡ length shape.first.value.items = ap (λ (l : List M). length l) firsts in omega arith)),
-                λ filled. (home.value, out.0, refl, subst (λ (l : List M). IsLeft stands l home.value r j.own (has e).0 out.0) (sym firsts) out.1, out.2),
+                λ filled. (home.value, out.0, refl, subst (λ (l : List M). IsLeft stands l home.value r j.own (has e).0 out.0) (sym firsts) out.1, out.2, sees_since shape id place me r 0 threads rows inside (omega arith) here s k view j (synched e) refl resting (has e).0 (has e).2 (has e).1 out.0 out.1.earlier out.1.whole out.1.count),
               )
                   (moved_coherent stands shape s.views _ _ id me.0 (after e) view refl (at_table shape id place me r 0 threads rows inside (omega arith) here) moved),
             )

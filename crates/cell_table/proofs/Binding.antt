@@ -22,12 +22,14 @@ use Rattle.protocol.proofs.Readings.{binding_inside, binding_bound, binding_kept
 use Rattle.protocol.proofs.Keeping.{holder_same, taken_before}
 use Rattle.cell_table.specs.declared.view.View.{View}
 use Rattle.cell_table.specs.declared.view.Shape.{Shape}
+use Rattle.cell_table.specs.declared.view.Stage.TheVariants.{Aside, Resting}
 use Rattle.cell_table.specs.Sight.{Has}
 use Rattle.cell_table.specs.Views.{Knows, bind_of, bound_nack, did, saw_nack}
 use Rattle.cell_table.specs.Rule.{IsToBegin, Keeps}
 use Rattle.cell_table.proofs.Standing.{is_earlier}
 use Rattle.protocol.specs.Standing.{Stands}
-use Rattle.protocol_values.specs.declared.Step.TheVariants.{Open}
+use Rattle.protocol_values.specs.declared.Step.{Step}
+use Rattle.protocol_values.specs.declared.Step.TheVariants.{Draft, Open, Look, Read, Claim, Yield, Join, Seal, Grant, Take, Bind}
 use Rattle.protocol_values.specs.declared.Cell.{Cell}
 use Rattle.protocol_values.specs.declared.Cell.TheVariants.{Fresh, Waiting, Claimed, Synched, Taken}
 use Rattle.cell_table.specs.Told.{AgreesNack, AgreesWithItself, AtNack, InsideNack, IsEarlier, looked_nack, nack_read, tried_bind}
@@ -35,6 +37,7 @@ use Rattle.cell_table.proofs.Allowing.{sized}
 use Rattle.cell_table.proofs.Following.{Follows, knows_bound, knows_follows}
 use Rattle.cell_table.proofs.Others.{learn_nack}
 use Rattle.cell_table.proofs.Truths.{coherent}
+use Rattle.cell_table.proofs.Seating.{Stays}
 use Rattle.cell_table.proofs.Turning.{world_kept, keeps_view, keeps_step, moved_coherent}
 
 pub nack_from : (t : Table) (n : NackName) → n.thread < t.threads → n.k < 64 → is_nack t n ≡ true
@@ -126,12 +129,16 @@ module _ {M : Type 0} (stands : Stands M) where
       binding_is = binding_inside k.world.table nack is_its_nack ∙ ap nack_read word_is
 
       -- where it only learns
-      learnt : (w : View M) → w.seat ≡ me.0.seat → w.made ≡ me.0.made → w.results ≡ me.0.results → w.first ≡ me.0.first → ((r : Row) → IsToBegin w r → IsToBegin me.0 r) → Knows k.world k.owner id w → Keeps stands shape (stepped s place (slice_index s.words place) id me.1 w keeps)
-      learnt w seat made seen first begins knows = keeps_view stands shape s k id me.0 w _ view at_table seat made seen first begins (set-get_or s.words place 0) knows
+      learnt : (w : View M) → w.seat ≡ me.0.seat → w.made ≡ me.0.made → w.results ≡ me.0.results → w.first ≡ me.0.first → Stays me.0 w → ((r : Row) → IsToBegin w r → IsToBegin me.0 r) → Knows k.world k.owner id w → Keeps stands shape (stepped s place (slice_index s.words place) id me.1 w keeps)
+      learnt w seat made seen first stays begins knows = keeps_view stands shape s k id me.0 w _ view at_table seat made seen first stays begins (set-get_or s.words place 0) knows
 
       first_kept : (o : Option Binding) → (saw_nack nack o me.0).first ≡ me.0.first
       first_kept None = refl
       first_kept (Some b) = refl
+
+      stays_kept : (o : Option Binding) → Stays me.0 (saw_nack nack o me.0)
+      stays_kept None = (refl, refl, refl, refl, refl)
+      stays_kept (Some b) = (refl, refl, refl, refl, refl)
 
       begins_kept : (o : Option Binding) (r : Row) → IsToBegin (saw_nack nack o me.0) r → IsToBegin me.0 r
       begins_kept None r h = h
@@ -180,7 +187,7 @@ module _ {M : Type 0} (stands : Stands M) where
           (taken_opened (cell_at k.world.table (bound_row nack c)) taken) is)
 
       -- the nack is bound to a held row that is not opened
-      module _ (b : Binding) (range : IsBindingInRange b) (held : Has me.0.seen.held (bound_row nack b)) (unopened : ¬ Has me.0.seen.opened (bound_row nack b))
+      module _ (b : Binding) (range : IsBindingInRange b) (resting : me.0.stage ≡ Resting) (held : Has me.0.seen.held (bound_row nack b)) (unopened : ¬ Has me.0.seen.opened (bound_row nack b))
           (free : binding_at k.world.table nack ≡ None) where
         abbrev later : World
         later = with_table k.world (with_nack k.world.table nack b)
@@ -211,12 +218,30 @@ module _ {M : Type 0} (stands : Stands M) where
             there n c (inl e) = subst (λ (z : NackName × Binding). binding_at later.table z.0 ≡ Some z.1) e (binding_bound k.world.table nack b kept.sized is_its_nack range)
             there n c (inr h) = follows.bound n c (known.bound n c h)
 
+        rests : me.0.stage ≢ Aside
+        rests e = let bad : Resting ≡ Aside = sym resting ∙ e in cc
+
+        -- the row of a bind
+        row_bound : Step → Row
+        row_bound (Draft x p n) = x
+        row_bound (Open x) = x
+        row_bound (Look x) = x
+        row_bound (Read x p) = x
+        row_bound (Claim x) = x
+        row_bound (Yield x) = x
+        row_bound (Join x n y m) = x
+        row_bound (Seal x) = x
+        row_bound (Grant x n) = x
+        row_bound (Take x) = x
+        row_bound (Bind n x scope) = x
+
         binds : Keeps stands shape (stepped s place (nack_word (Some b)) id me.1 (did (bind_of nack b) (bound_nack nack b me.0)) keeps)
-        unfolding with_nack
+        unfolding with_nack row_bound
         binds =
             let mine = known.mine (bound_row nack b) held in
             keeps_step stands shape s k id me.0 (bound_nack nack b me.0) _ k.owner view at_table refl refl refl (λ q h. h) (bind_of nack b) (λ q e. let bad : bind_of nack b ≡ Open q = e in cc)
-            (known.seat, (mine.1, known.fresh (bound_row nack b) held unopened, inside.1, range.scope, free)) (λ t rs h. inl h)
+            (known.seat, (mine.1, known.fresh (bound_row nack b) held unopened, inside.1, range.scope, free))
+            (record { same = (refl, refl, refl); acted = rests; acts = rests; held = λ q h. h; binds = λ n q scope e. subst (Has me.0.seen.held) (ap row_bound e) held }) (λ t rs h. inl h)
             (ap (λ (t : Table). with_nack t nack b) k.table ∙ ap (λ (n : ℕ). sized shape (slice_set s.words n (nack_word (Some b)))) (sym here))
             (λ j u n e t. others j u n (k.knows j u e t))
             own
@@ -230,7 +255,7 @@ module _ {M : Type 0} (stands : Stands M) where
           saw_nack nack o me.0,
           keeps,
           tt,
-          learnt shape id place me nack threads rows inside here s k view (saw_nack nack o me.0) (seat_kept shape id place me nack threads rows inside here s k view o) (made_kept shape id place me nack threads rows inside here s k view o) (results_kept shape id place me nack threads rows inside here s k view o) (first_kept shape id place me nack threads rows inside here s k view o) (begins_kept shape id place me nack threads rows inside here s k view o) (sees shape id place me nack threads rows inside here s k view),
+          learnt shape id place me nack threads rows inside here s k view (saw_nack nack o me.0) (seat_kept shape id place me nack threads rows inside here s k view o) (made_kept shape id place me nack threads rows inside here s k view o) (results_kept shape id place me nack threads rows inside here s k view o) (first_kept shape id place me nack threads rows inside here s k view o) (stays_kept shape id place me nack threads rows inside here s k view o) (begins_kept shape id place me nack threads rows inside here s k view o) (sees shape id place me nack threads rows inside here s k view),
           λ m at.
               let same = one_nack shape id place me nack threads rows inside here m at.0 at.1 in (
                 ap (λ (n : NackName). (saw_nack n o me.0, me.1)) same,
@@ -240,9 +265,9 @@ module _ {M : Type 0} (stands : Stands M) where
         )
 
     -- a nack of a held row's thread: where it is not bound, it is bound to the row
-    pub bind_allowed : (b : Binding) → IsBindingInRange b → Has me.0.seen.held (bound_row nack b) → ¬ Has me.0.seen.opened (bound_row nack b) → place ≡ nack_place shape.rows nack
+    pub bind_allowed : (b : Binding) → IsBindingInRange b → me.0.stage ≡ Resting → Has me.0.seen.held (bound_row nack b) → ¬ Has me.0.seen.opened (bound_row nack b) → place ≡ nack_place shape.rows nack
         → Allows (Keeps stands shape) slots id me place (λ x. either (eqb x (nack_word None)) (nack_word (Some b)) x) (tried_bind stands (step slots place (nack_word None) (nack_word (Some b)) none) me)
-    bind_allowed b in_range held unopened here s k homes view range =
+    bind_allowed b in_range resting held unopened here s k homes view range =
         let x = slice_index s.words place in
         let read = binding_is shape id place me nack threads rows inside here s k view in
         let knows = known shape id place me nack threads rows inside here s k view in
@@ -253,7 +278,7 @@ module _ {M : Type 0} (stands : Stands M) where
         let none_read : nack_read x ≡ None = ap nack_read e ∙ ap (λ (p : Option (Option Binding)). unwrap_or p None) (nack_of-nack_word None tt) in
         let free : binding_at k.world.table nack ≡ None = read ∙ none_read in
         let after = did (bind_of nack b) (bound_nack nack b me.0) in
-        let moved : Keeps stands shape (stepped s place (nack_word (Some b)) id me.1 after keeps) = binds shape id place me nack threads rows inside here s k view b in_range held unopened free in (
+        let moved : Keeps stands shape (stepped s place (nack_word (Some b)) id me.1 after keeps) = binds shape id place me nack threads rows inside here s k view b in_range resting held unopened free in (
           after,
           keeps,
           tt,
@@ -273,7 +298,7 @@ module _ {M : Type 0} (stands : Stands M) where
         let is : binding_at k.world.table nack ≡ Some found.0 = read ∙ found.1 in
         let after = bound_nack nack found.0 me.0 in
         let moved : Keeps stands shape (stepped s place x id me.1 after keeps) =
-        learnt shape id place me nack threads rows inside here s k view after refl refl refl refl (λ q h. h) (learn_nack k.world k.owner id me.0 nack (Some found.0) knows is) in (
+        learnt shape id place me nack threads rows inside here s k view after refl refl refl refl (refl, refl, refl, refl, refl) (λ q h. h) (learn_nack k.world k.owner id me.0 nack (Some found.0) knows is) in (
           after,
           keeps,
           tt,

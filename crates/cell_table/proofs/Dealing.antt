@@ -21,11 +21,13 @@ use Rattle.protocol.specs.Standing.{AreResults, Result, SomeStands, Stands}
 use Rattle.protocol.specs.Ledgers.{ledger_of}
 use Rattle.cell_table.specs.declared.view.View.{View}
 use Rattle.cell_table.specs.declared.view.Shape.{Shape}
+use Rattle.cell_table.specs.declared.view.Stage.TheVariants.{Aside, Resting}
 use Rattle.cell_table.specs.Sight.{Coherent, Has}
 use Rattle.cell_table.specs.Views.{Knows, first_row}
-use Rattle.cell_table.specs.Rule.{Housed, Interleaves, IsToBegin, Keeps, Move, Waits, at_seat, dealer, dealt_rows, dealt_pass, no_offers, seen_nothing, steps_by}
+use Rattle.cell_table.specs.Rule.{Housed, Interleaves, IsToBegin, Keeps, Move, Seated, Waits, at_seat, dealer, dealt_rows, dealt_pass, no_offers, seen_nothing, steps_by}
 use Rattle.cell_table.proofs.Following.{knows_owned}
 use Rattle.cell_table.proofs.Housing.{housed_more, housed_view}
+use Rattle.cell_table.proofs.Seating.{at_end, seated_more, seated_set, seated_start}
 use Rattle.cell_table.proofs.Turning.{firsts_with, same_made, world_kept}
 use Rattle.protocol.proofs.Standing.{stands-start}
 
@@ -68,6 +70,7 @@ module _ {M : Type 0} (stands : Stands M) where
     table = ap (λ (z : List ℕ). record { threads = shape.threads; rows = shape.rows; words = z }) (sym zeros);
     owner = λ r. 0;
     knows = knows_at;
+    seated = seated_start shape;
     firsts = λ id v e t. first_there id v e;
     housed = house;
     results = no_results;
@@ -174,13 +177,6 @@ nothing_agrees threads rows held = record {
   bound = λ n b h. absurd h;
 }
 
--- a list with one more at its end
-pub at_end : {A : Type 0} (l : List A) (a b : A) (j : ℕ) → get_elem? (l ++ a ∷ []) j ≡ some b → (get_elem? l j ≡ some b) ⊎ ((j ≡ length l) × (a ≡ b))
-at_end [] a b zero e = inr (refl, mathlib.Core.Option.some-injective a b e)
-at_end [] a b (suc j) e = absurd (mathlib.Core.Option.some-ne-none b (sym e))
-at_end (x ∷ xs) a b zero e = inl e
-at_end (x ∷ xs) a b (suc j) e = ⊎_elim (λ h. inl h) (λ h. inr (ap suc h.0, h.1)) (at_end xs a b j e)
-
 module _ {M : Type 0} where
   -- a new pass has made nothing yet
   pub one_more_pass : (moves : List Move) (vs : List (View M)) (v : View M) → Interleaves moves vs → v.made ≡ [] → Interleaves moves (vs ++ v ∷ [])
@@ -285,6 +281,38 @@ module _ {M : Type 0} (stands : Stands M) where
         (λ (a : (j ≢ id) × (get_elem? s.views j ≡ some u)). knows_owned h.world h.owner owner' j u (world_kept stands shape s h) (λ r held o. kept_owner j a.0 r o) (h.knows j u a.1 t))
         (at_set s.views id j (dealer shape (k + 1)) u e)
 
+    -- the dealer stands aside, and the new pass has a seat that nobody has
+    dealer_on : Seated (slice_set s.views id (dealer shape (k + 1)))
+    dealer_on = seated_set s.views id (dealer shape k) (dealer shape (k + 1)) view (record {
+      acts = λ t moves. absurd (moves refl);
+      deals = λ t d. (t, below, omega arith);
+      well = record { aside = λ e. (refl, refl); gone = λ e. refl; binders = λ n r scope no. absurd no };
+    }) h.seated
+
+    -- those seats are below it
+    dealing : (id ≡ 0) × ((j : ℕ) (u : View M) → get_elem? s.views j ≡ some u → 0 < u.threads → u.stage ≢ Aside → u.seat < k)
+    dealing = h.seated.dealing id (dealer shape k) view some_threads below
+
+    acting : (j : ℕ) (u : View M) → get_elem? (slice_set s.views id (dealer shape (k + 1))) j ≡ some u → 0 < u.threads → u.stage ≢ Aside → u.seat < k
+    acting j u e t moves = ⊎_elim
+        (λ (a : (j ≡ id) × (dealer shape (k + 1) ≡ u)). absurd (moves (ap (λ (z : View M). z.stage) (sym a.1))))
+        (λ (a : (j ≢ id) × (get_elem? s.views j ≡ some u)). dealing.1 j u a.1 t moves)
+        (at_set s.views id j (dealer shape (k + 1)) u e)
+
+    still_dealing : (i : ℕ) (u : View M) → get_elem? (slice_set s.views id (dealer shape (k + 1))) i ≡ some u → 0 < u.threads → u.dealt < u.passes → k < u.dealt
+    still_dealing i u e t d = ⊎_elim
+        (λ (a : (i ≡ id) × (dealer shape (k + 1) ≡ u)). let one : k + 1 ≡ u.dealt = ap (λ (z : View M). z.dealt) a.1 in omega arith)
+        (λ (a : (i ≢ id) × (get_elem? s.views i ≡ some u)). absurd (a.0 ((h.seated.dealing i u a.1 t d).0 ∙ sym dealing.0)))
+        (at_set s.views id i (dealer shape (k + 1)) u e)
+
+    new_seat : Seated (slice_set s.views id (dealer shape (k + 1)) ++ dealt_pass (dealer shape k) ∷ [])
+    new_seat = seated_more (slice_set s.views id (dealer shape (k + 1))) (dealt_pass (dealer shape k))
+        (record { aside = λ e. let bad : Resting ≡ Aside = e in cc; gone = λ e. refl; binders = λ n r scope no. absurd no })
+        (λ d. omega arith)
+        (λ t moves j u e s q same. let low = acting j u e s q in absurd (omega (arith, low, same)))
+        (λ t moves i u e s d. still_dealing i u e s d)
+        dealer_on
+
     deals : Keeps stands shape (record { words = s.words; homes = s.homes; views = slice_set s.views id (dealer shape (k + 1)) ++ dealt_pass (dealer shape k) ∷ [] })
     deals = record {
       few_threads = h.few_threads;
@@ -297,6 +325,7 @@ module _ {M : Type 0} (stands : Stands M) where
       table = h.table;
       owner = owner';
       knows = λ j u e t. ⊎_elim (λ old. at_old j u old t) (λ now. subst (λ (z : ℕ × (View M)). Knows h.world owner' z.0 z.1) (λ i. (sym (now.0 ∙ length-set s.views id (dealer shape (k + 1))) i, now.1 i)) its_pass) (at_end (slice_set s.views id (dealer shape (k + 1))) (dealt_pass (dealer shape k)) u j e);
+      seated = new_seat;
       firsts = λ j u e t. ⊎_elim
           (λ old. firsts_with s.views id (dealer shape k) (dealer shape (k + 1)) shape.first.value.items view refl some_threads h.firsts j u old t)
           (λ now. ap (λ (z : View M). z.first) (sym now.1))

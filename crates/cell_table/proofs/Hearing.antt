@@ -21,7 +21,8 @@ use Rattle.cell_table.specs.declared.view.Shape.{Shape}
 use Rattle.cell_table.specs.Sight.{Has, SeesOffer, SeesNoOffer}
 use Rattle.cell_table.specs.Views.{Knows}
 use Rattle.cell_table.specs.Rule.{Keeps, at_seat, is_among, drafts_of, told_of, told_pass, heard, heard_pass, spent_pass}
-use Rattle.cell_table.proofs.Dealing.{at_end, one_more_pass}
+use Rattle.cell_table.proofs.Dealing.{one_more_pass}
+use Rattle.cell_table.proofs.Seating.{at_end, seated_more, seated_seen, seated_spent}
 use Rattle.cell_table.proofs.Offers.{have_row}
 use Rattle.cell_table.proofs.Housing.{housed_more, housed_spent, housed_view}
 use Rattle.cell_table.proofs.Turning.{firsts_with, same_made}
@@ -160,6 +161,13 @@ module _ {M : Type 0} (stands : Stands M) where
         (λ old. before j u old t)
         (λ (now : (j ≡ length (slice_set s.views id v)) × (told_pass v ≡ u)). subst (λ (z : View M). Knows k.world k.owner j z) now.1 (knows_told k.world k.owner id j v (k.knows id v view at_table)))
         (at_end (slice_set s.views id v) (told_pass v) u j e);
+    -- what is told stands aside
+    seated = seated_more (slice_set s.views id v) (told_pass v)
+        (record { aside = λ e. (refl, refl); gone = λ e. refl; binders = λ n r scope no. absurd no })
+        (λ d. omega arith)
+        (λ t moves. absurd (moves refl))
+        (λ t moves. absurd (moves refl))
+        (seated_seen s.views id v v view (refl, refl, refl, refl, refl) refl refl k.seated);
     firsts = λ j u e t. ⊎_elim
         (λ old. firsts_with s.views id v v shape.first.value.items view refl at_table k.firsts j u old t)
         (λ (now : (j ≡ length (slice_set s.views id v)) × (told_pass v ≡ u)). ap (λ (z : View M). z.first) (sym now.1) ∙ k.firsts id v view at_table)
@@ -203,6 +211,7 @@ module _ {M : Type 0} (stands : Stands M) where
         (λ (a : (j ≡ other) × (spent_pass ≡ u)). let z : u.threads ≡ 0 = ap (λ (y : View M). y.threads) (sym a.1) in absurd (omega arith))
         (λ (a : (j ≢ other) × (get_elem? (slice_set s.views id (heard_pass v w)) j ≡ some u)). before j u a.1 t)
         (at_set (slice_set s.views id (heard_pass v w)) other j spent_pass u e);
+    seated = seated_spent (slice_set s.views id (heard_pass v w)) other w told (seated_seen s.views id v (heard_pass v w) view (refl, refl, refl, refl, refl) refl refl k.seated);
     firsts = λ j u e t. ⊎_elim
         (λ (a : (j ≡ other) × (spent_pass ≡ u)). let z : u.threads ≡ 0 = ap (λ (y : View M). y.threads) (sym a.1) in absurd (omega arith))
         (λ (a : (j ≢ other) × (get_elem? (slice_set s.views id (heard_pass v w)) j ≡ some u)). firsts_with s.views id v (heard_pass v w) shape.first.value.items view refl at_table k.firsts j u a.1 t)

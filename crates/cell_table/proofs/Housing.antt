@@ -154,6 +154,14 @@ took_begins rows r s v q b =
       λ h. b.2 (subst (λ (l : List Row). Has l q) (sym (begun_case (ltb (r.sync + 1) rows) more s refl)) h),
     )
 
+-- and it holds what it held
+holds_case : (b : Bool) (t s : Seen) (x q : Row) → t.held ≡ x ∷ s.held → Has s.held q → Has (cond b t s).held q
+holds_case true t s x q e h = subst (λ (l : List Row). Has l q) (sym e) (inr h)
+holds_case false t s x q e h = h
+
+pub took_holds : (rows : ℕ) (r : Row) (s : Seen) (q : Row) → Has s.held q → Has (see_next rows r s).held q
+took_holds rows r s q h = holds_case (ltb (r.sync + 1) rows) (record s { held = next_row r ∷ s.held; drafts = (next_row r, 1, 0) ∷ s.drafts }) s (next_row r) q refl h
+
 module _ {M : Type 0} (stands : Stands M) (first : List M) where
   -- A pass knows more, or other slots are out, or the world went on: what a pass is to begin with waits as it did
   waits_on : (w u : World) (homes homes' : List (Maybe (Option M))) (r : Row) → Waits first w homes r → is_fresh (cell_at u.table r) ≡ true → get_elem? homes' r.thread ≡ get_elem? homes r.thread → Waits first u homes' r

@@ -3,8 +3,10 @@ pub mod Offers
 pub mod Results
 pub mod Others
 pub mod Housing
+pub mod Seating
 pub mod Turning
 pub mod Once
+pub mod Binders
 pub mod Standing
 pub mod Allowing
 pub mod Binding

@@ -33,7 +33,7 @@ taken_open Claimed h = refl
 taken_open (Synched j) h = refl
 taken_open (Taken j) h = refl
 
-synched_is : (c : Cell) → is_some (synched_of c) ≡ true → (j : Joined) × (c ≡ Synched j)
+pub synched_is : (c : Cell) → is_some (synched_of c) ≡ true → (j : Joined) × (c ≡ Synched j)
 synched_is Fresh h = absurd (false≢true h)
 synched_is Waiting h = absurd (false≢true h)
 synched_is Claimed h = absurd (false≢true h)
@@ -79,7 +79,7 @@ taken_stays w seat (Bind k x scope) a r h =
     ap is_taken (cell_after_bind w.table (nack_of_row x k) (record { sync = x.sync; scope = scope }) r (nack_from w.table (nack_of_row x k) inside.0 a.1.2)) ∙ h
 
 -- A HISTORY takes each row once
-last_played : (w v : World) (steps : List (Seat × Step)) (s : Seat × Step) → Plays w (steps ++ s ∷ []) v → (u : World) × Plays w steps u × Allowed u s.0 s.1 × (v ≡ after_step u s.0 s.1)
+pub last_played : (w v : World) (steps : List (Seat × Step)) (s : Seat × Step) → Plays w (steps ++ s ∷ []) v → (u : World) × Plays w steps u × Allowed u s.0 s.1 × (v ≡ after_step u s.0 s.1)
 last_played w v [] s p = (w, refl, p.0, p.1)
 last_played w v (x ∷ steps) s p = let l = last_played (after_step w x.0 x.1) v steps s p.1 in (l.0, (p.0, l.1), l.2, l.3)
 
@@ -143,7 +143,7 @@ module _ {M : Type 0} where
       one_taker w v moves i j r kept p (taken_by moves i _ r mine) (taken_by moves j _ r theirs)
 
   -- WHERE NO PASS HAS MADE A STEP, there is no history
-  view_there : (views : List (View M)) (id : ℕ) → ((v : View M) × (get_elem? views id ≡ some v)) ⊎ (length views ≤ id)
+  pub view_there : (views : List (View M)) (id : ℕ) → ((v : View M) × (get_elem? views id ≡ some v)) ⊎ (length views ≤ id)
   view_there [] id = inr (omega arith)
   view_there (v ∷ views) zero = inl (v, refl)
   view_there (v ∷ views) (suc id) = ⊎_elim (λ h. inl h) (λ (h : length views ≤ id). inr (omega arith)) (view_there views id)

@@ -1,5 +1,5 @@
 -- What stands for a thread when its row is opened, when a nack is found bound, and when the row is taken.
-use Rattle.std.proofs.Common.{◌⊎◌, ◌≡◌, ◌<◌, ◌≤◌, ℕ, false, zero, suc, ◌+◌, get_or, unwrap_or, List, [], ◌∷◌, length, take, Option, Some, None, slice_get, sym, ap, ◌∙◌, subst, inl, inr, ⊎_elim, arith}
+use Rattle.std.proofs.Common.{◌⊎◌, ◌≡◌, ◌<◌, ◌≤◌, ℕ, false, zero, suc, ◌+◌, get_or, unwrap_or, List, [], ◌∷◌, ◌++◌, length, take, Option, Some, None, slice_get, sym, refl, ap, ◌∙◌, subst, inl, inr, ⊎_elim, arith}
 use Rattle.std.proofs.lemmas.Option.{none-some, same_Some, slice_get_cases, slice_get_within}
 use Rattle.std.proofs.lemmas.Bool.{cases_lt}
 use lib.Seq.{length-take-le}
@@ -50,6 +50,15 @@ take-get (x ∷ xs) (suc n) (suc k) y e = take-get xs n k y e
 take-size : (xs : List Result) (n : ℕ) → n ≤ length xs → length (take n xs) ≡ n
 take-size xs n h = length-take-le n xs h
 
+-- the last of two equal lists
+last-same : (xs ys : List Result) (x y : Result) → length xs ≡ length ys → xs ++ x ∷ [] ≡ ys ++ y ∷ [] → x ≡ y
+last-same xs ys x y size same =
+    same_Some x y (sym (last-get xs x) ∙ (λ i. slice_get (same i) (size i)) ∙ last-get ys y)
+  where
+    last-get : (l : List Result) (z : Result) → slice_get (l ++ z ∷ []) (length l) ≡ Some z
+    last-get [] z = refl
+    last-get (a ∷ l) z = last-get l z
+
 module _ {M : Type 0} (stands : Stands M) (first : List M) where
   -- WHAT COMES OUT with a taken row
   module _ (w : World) (owner : Row → ℕ) (id : ℕ) (v : View M) (known : Knows w owner id v) (k : Kept w) where
@@ -86,6 +95,17 @@ module _ {M : Type 0} (stands : Stands M) (first : List M) where
               let one : i ≡ j = same_Some i j (sym (known.joined r i has) ∙ is) in
               ends.message p m (offers-of w.table r j.own ∙ sees_known w owner id v r j.own p known k (subst (λ (z : Joined). SeesOffer v.seen r z.own p) one sees)) (receives r j p.base m (subst (λ (z : Joined). Gets v.seen z p.base m) one gets)),
         )
+
+    -- and what the pass sees of it then is the last of the results
+    pub sees_last : (r : Row) (j : Joined) (results earlier : List Result) (got : Message) → joined_at w.table r ≡ Some j → length results ≡ r.sync + 1 → AreResults (ledger_of w.table) r.thread results
+        → results ≡ earlier ++ (j.own, got) ∷ [] → length earlier ≡ r.sync → (m : Message) → IsResult v.seen r m → m ≡ got
+    sees_last r j results earlier got is size are whole count m (i, p, has, sees, gets) =
+        let l : Ledger = ledger_of w.table in
+        let ends = results-end l r j results law (joined-of w.table r ∙ is) size are in
+        let one : i ≡ j = same_Some i j (sym (known.joined r i has) ∙ is) in
+        let last : (j.own, ends.got) ≡ (j.own, got) = last-same ends.earlier earlier (j.own, ends.got) (j.own, got) (ends.count ∙ sym count) (sym ends.whole ∙ whole) in
+        ends.message p m (offers-of w.table r j.own ∙ sees_known w owner id v r j.own p known k (subst (λ (z : Joined). SeesOffer v.seen r z.own p) one sees)) (receives r j p.base m (subst (λ (z : Joined). Gets v.seen z p.base m) one gets))
+        ∙ ap (λ (x : Result). x.1) last
 
     -- WHERE A NACK IS BOUND to an opened row
     pub is_earlier : (n : NackName) (b : Binding) → EachStands (SomeStands stands first) w.table → ((t : ℕ) (rs : List Result) → Has v.results (t, rs) → AreResults (ledger_of w.table) t rs)
@@ -145,10 +165,10 @@ module _ {M : Type 0} (stands : Stands M) (first : List M) where
         offered n o e (inr past) = absurd (none-some o (sym (lacks_known w owner id v r n known (inr (opened, (length ready.offers, ready.drafted.0, lacks n past)))) ∙ e))
 
   -- what a pass saw before it looked at the row once more
-  pub comes_from : (s t : Seen) (r : Row) (own : ℕ) (results : List Result) (b b' a : List (ℕ × Option M)) → Learns (λ q. q ≡ r) s t → b ≡ b' → ComesOut stands first t r own results b a → ComesOut stands first s r own results b' a
-  comes_from s t r own results b b' a learns same out = (
+  pub comes_from : (s t u : Seen) (r : Row) (own : ℕ) (results : List Result) (b b' a : List (ℕ × Option M)) → Learns (λ q. q ≡ r) s t → b ≡ b' → ComesOut stands first t u r own results b a → ComesOut stands first s u r own results b' a
+  comes_from s t u r own results b b' a learns same out = (
     λ empty. out.0 empty ∙ same,
     λ filled.
         let o = out.1 filled in
-        (o.0, o.1, o.2 ∙ ap (λ (l : List (ℕ × Option M)). (r.thread, Some o.0) ∷ l) same, o.3, λ m is. o.4 m (result_more (λ q. q ≡ r) s t r m learns is)),
+        (o.0, o.1, o.2 ∙ ap (λ (l : List (ℕ × Option M)). (r.thread, Some o.0) ∷ l) same, o.3, λ m is. o.4 m (result_more (λ q. q ≡ r) s t r m learns is), o.5),
   )

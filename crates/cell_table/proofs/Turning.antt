@@ -26,6 +26,7 @@ use Rattle.protocol.proofs.Keeping.{kept_schedule}
 use Rattle.protocol.proofs.LedgerLemmas.{kept_start}
 use Rattle.cell_table.specs.Rule.{Housed, Interleaves, IsToBegin, Keeps, Move, at_seat, in_order, steps_by}
 use Rattle.cell_table.proofs.Housing.{housed_step, housed_view}
+use Rattle.cell_table.proofs.Seating.{MovesOn, Stays, seated_seen, seated_step}
 
 module _ {M : Type 0} where
   -- what all views say of a world, one of them being new
@@ -99,11 +100,11 @@ module _ {M : Type 0} (stands : Stands M) where
   world_kept shape s k = kept_schedule _ k.world (in_order k.moves) (kept_start shape.threads shape.rows shape.passes k.few_threads k.few_rows) k.played
 
   -- the table stays, and one pass knows more; what the slots hold then is given
-  pub keeps_seen : (shape : Shape M) (s : State (Option M) (View M)) (k : Keeps stands shape s) (id : ℕ) (v w : View M) (ws : List ℕ) (hs : List (Maybe (Option M))) → get_elem? s.views id ≡ some v → 0 < v.threads → w.seat ≡ v.seat → w.made ≡ v.made → w.results ≡ v.results → w.first ≡ v.first
+  pub keeps_seen : (shape : Shape M) (s : State (Option M) (View M)) (k : Keeps stands shape s) (id : ℕ) (v w : View M) (ws : List ℕ) (hs : List (Maybe (Option M))) → get_elem? s.views id ≡ some v → 0 < v.threads → w.seat ≡ v.seat → w.made ≡ v.made → w.results ≡ v.results → w.first ≡ v.first → Stays v w
       → ws ≡ s.words → Knows k.world k.owner id w
       → (0 < length shape.first.value.items → Housed stands shape.first.value.items k.world hs (slice_set s.views id w))
       → Keeps stands shape (record { words = ws; homes = hs; views = slice_set s.views id w })
-  keeps_seen shape s k id v w ws hs view at_table seat made seen first same knows house = record {
+  keeps_seen shape s k id v w ws hs view at_table seat made seen first stays same knows house = record {
     few_threads = k.few_threads;
     few_rows = k.few_rows;
     moves = k.moves;
@@ -113,28 +114,29 @@ module _ {M : Type 0} (stands : Stands M) where
     table = k.table ∙ ap (λ (z : List ℕ). record { threads = shape.threads; rows = shape.rows; words = z }) (sym same);
     owner = k.owner;
     knows = views_with s.views id w k.world k.owner (λ j u n e t. k.knows j u e t) knows;
+    seated = seated_seen s.views id v w view stays seat made k.seated;
     firsts = firsts_with s.views id v w shape.first.value.items view first at_table k.firsts;
     housed = house;
     results = results_with s.views id w (ledger_of k.world.table) (λ j u t rs n e h. k.results j u t rs e h) (λ t rs h. k.results id v t rs view (subst (λ (l : List (ℕ × List Result)). Has l (t, rs)) seen h));
   }
 
   -- where the slots are as they were
-  pub keeps_view : (shape : Shape M) (s : State (Option M) (View M)) (k : Keeps stands shape s) (id : ℕ) (v w : View M) (ws : List ℕ) → get_elem? s.views id ≡ some v → 0 < v.threads → w.seat ≡ v.seat → w.made ≡ v.made → w.results ≡ v.results → w.first ≡ v.first
+  pub keeps_view : (shape : Shape M) (s : State (Option M) (View M)) (k : Keeps stands shape s) (id : ℕ) (v w : View M) (ws : List ℕ) → get_elem? s.views id ≡ some v → 0 < v.threads → w.seat ≡ v.seat → w.made ≡ v.made → w.results ≡ v.results → w.first ≡ v.first → Stays v w
       → ((r : Row) → IsToBegin w r → IsToBegin v r) → ws ≡ s.words → Knows k.world k.owner id w → Keeps stands shape (record { words = ws; homes = s.homes; views = slice_set s.views id w })
-  keeps_view shape s k id v w ws view at_table seat made seen first begins same knows =
-      keeps_seen shape s k id v w ws s.homes view at_table seat made seen first same knows
+  keeps_view shape s k id v w ws view at_table seat made seen first stays begins same knows =
+      keeps_seen shape s k id v w ws s.homes view at_table seat made seen first stays same knows
       (λ some_first. housed_view stands shape.first.value.items k.world s.homes s.views id v w view at_table begins (k.housed some_first))
 
   -- the protocol's step is made by the pass at its seat, and it knows more; what the slots hold then is given
   pub keeps_housed : (shape : Shape M) (s : State (Option M) (View M)) (k : Keeps stands shape s) (id : ℕ) (v w : View M) (ws : List ℕ) (hs : List (Maybe (Option M))) (owner : Row → ℕ) → get_elem? s.views id ≡ some v → 0 < v.threads → w.seat ≡ v.seat → w.made ≡ v.made → w.first ≡ v.first
-      → (step : Step) → Allowed k.world (record { 0 = v.seat }) step
+      → (step : Step) → Allowed k.world (record { 0 = v.seat }) step → MovesOn v w step
       → ((t : ℕ) (rs : List Result) → Has w.results (t, rs) → Has v.results (t, rs) ⊎ AreResults (ledger_of (after_step k.world (record { 0 = v.seat }) step).table) t rs)
       → (after_step k.world (record { 0 = v.seat }) step).table ≡ record { threads = shape.threads; rows = shape.rows; words = ws }
       → ((j : ℕ) (u : View M) → j ≢ id → get_elem? s.views j ≡ some u → 0 < u.threads → Knows (after_step k.world (record { 0 = v.seat }) step) owner j u)
       → Knows (after_step k.world (record { 0 = v.seat }) step) owner id w
       → (0 < length shape.first.value.items → Housed stands shape.first.value.items (after_step k.world (record { 0 = v.seat }) step) hs (slice_set s.views id (did step w)))
       → Keeps stands shape (record { words = ws; homes = hs; views = slice_set s.views id (did step w) })
-  keeps_housed shape s k id v w ws hs owner view at_table seat made first step allowed seen same others knows house =
+  keeps_housed shape s k id v w ws hs owner view at_table seat made first step allowed on seen same others knows house =
       let at : Seat = record { 0 = v.seat } in
       let kept = world_kept shape s k in
       let grows = grows-step k.world at step kept allowed in
@@ -150,6 +152,7 @@ module _ {M : Type 0} (stands : Stands M) where
         table = same;
         owner = owner;
         knows = views_with s.views id (did step w) (after_step k.world at step) owner others knows;
+        seated = seated_step s.views id v w step view at_table seat made on k.seated;
         firsts = firsts_with s.views id v (did step w) shape.first.value.items view first at_table k.firsts;
         housed = house;
         results = results_with s.views id (did step w) (ledger_of (after_step k.world at step).table) (λ j u t rs n e h. stays j t u rs e h)
@@ -159,14 +162,14 @@ module _ {M : Type 0} (stands : Stands M) where
   -- where the step opens no row, and leaves the slots as they are
   pub keeps_step : (shape : Shape M) (s : State (Option M) (View M)) (k : Keeps stands shape s) (id : ℕ) (v w : View M) (ws : List ℕ) (owner : Row → ℕ) → get_elem? s.views id ≡ some v → 0 < v.threads → w.seat ≡ v.seat → w.made ≡ v.made → w.first ≡ v.first
       → ((r : Row) → IsToBegin w r → IsToBegin v r)
-      → (step : Step) → ((r : Row) → step ≡ Open r → ⊥) → Allowed k.world (record { 0 = v.seat }) step
+      → (step : Step) → ((r : Row) → step ≡ Open r → ⊥) → Allowed k.world (record { 0 = v.seat }) step → MovesOn v w step
       → ((t : ℕ) (rs : List Result) → Has w.results (t, rs) → Has v.results (t, rs) ⊎ AreResults (ledger_of (after_step k.world (record { 0 = v.seat }) step).table) t rs)
       → (after_step k.world (record { 0 = v.seat }) step).table ≡ record { threads = shape.threads; rows = shape.rows; words = ws }
       → ((j : ℕ) (u : View M) → j ≢ id → get_elem? s.views j ≡ some u → 0 < u.threads → Knows (after_step k.world (record { 0 = v.seat }) step) owner j u)
       → Knows (after_step k.world (record { 0 = v.seat }) step) owner id w
       → Keeps stands shape (record { words = ws; homes = s.homes; views = slice_set s.views id (did step w) })
-  keeps_step shape s k id v w ws owner view at_table seat made first begins step opens_none allowed seen same others knows =
-      keeps_housed shape s k id v w ws s.homes owner view at_table seat made first step allowed seen same others knows
+  keeps_step shape s k id v w ws owner view at_table seat made first begins step opens_none allowed on seen same others knows =
+      keeps_housed shape s k id v w ws s.homes owner view at_table seat made first step allowed on seen same others knows
       (λ some_first. housed_step stands shape.first.value.items k.world (record { 0 = v.seat }) step s.homes s.views id v (did step w) (world_kept shape s k) allowed opens_none view at_table begins (k.housed some_first))
 
   -- WHAT A PASS HAS SEEN agrees with itself, at any moment

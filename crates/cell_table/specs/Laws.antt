@@ -3,19 +3,20 @@ use Rattle.std.specs.Prelude.{◌≡◌, ◌<◌, ℕ, List, [], Option, None, S
 use mathlib.Core.Option.{some}
 use lib.ListN.{get_elem?}
 use Rattle.atomic_table.specs.Table.{State}
+use Rattle.protocol_values.specs.declared.Binding.{Binding}
 use Rattle.protocol_values.specs.declared.Cell.TheVariants.{Fresh}
 use Rattle.protocol_values.specs.declared.NackName.{NackName}
 use Rattle.protocol_values.specs.declared.Row.{Row}
 use Rattle.protocol_values.specs.declared.Step.TheVariants.{Take}
 use Rattle.protocol.specs.Ledgers.{ledger_of, IsLawful}
 use Rattle.protocol.specs.Standing.{AreResults, EachStands, Result, SomeStands, Stands}
-use Rattle.protocol.specs.Tables.{binding_at, cell_at, is_fresh, is_taken, joined_at, names}
+use Rattle.protocol.specs.Tables.{binding_at, bound_row, cell_at, is_fresh, is_taken, joined_at, names}
 use Rattle.protocol.specs.Worlds.{Plays, start_world, World}
 use Rattle.cell_table.specs.declared.view.Shape.{Shape}
 use Rattle.cell_table.specs.declared.view.View.{View}
-use Rattle.cell_table.specs.Rule.{Interleaves, IsAt, IsHome, IsToBegin, Move, in_order, table_of}
+use Rattle.cell_table.specs.Rule.{HasActed, Interleaves, IsAt, IsHome, IsToBegin, Move, in_order, table_of}
 use Rattle.cell_table.specs.Sight.{Has}
-use Rattle.cell_table.specs.Views.{Knows}
+use Rattle.cell_table.specs.Views.{Knows, bind_of}
 
 pub record IsLawfulMoment {M : Type 0} (stands : Stands M) (shape : Shape M) (s : State (Option M) (View M)) : Type 0 where
   -- the ledger of the words is lawful
@@ -36,6 +37,10 @@ pub record IsLawfulMoment {M : Type 0} (stands : Stands M) (shape : Shape M) (s 
   -- no row is held by two passes, and none was taken by two
   pub one_holder : (i j : ℕ) (u v : View M) (r : Row) → IsAt s i u → IsAt s j v → Has u.seen.held r → Has v.seen.held r → i ≡ j
   pub one_taker : (i j : ℕ) (u v : View M) (r : Row) → IsAt s i u → IsAt s j v → Has u.made (Take r) → Has v.made (Take r) → i ≡ j
+  -- two passes that have made a step, or hold a row, have two seats
+  pub one_seat : (i j : ℕ) (u v : View M) → IsAt s i u → IsAt s j v → HasActed u → HasActed v → u.seat ≡ v.seat → i ≡ j
+  -- a nack that is bound was bound by the pass that holds its row
+  pub binder : (n : NackName) (b : Binding) → binding_at (table_of shape s) n ≡ Some b → (id : ℕ) × (v : View M) × IsAt s id v × Has v.made (bind_of n b) × Has v.seen.held (bound_row n b)
   -- a pending row is named by one row
   pub named_once : (q r p : Row) → names (joined_at (table_of shape s) q) p ≡ true → names (joined_at (table_of shape s) r) p ≡ true → q ≡ r
   -- where no pass has made a step, every row is Fresh and no nack is bound

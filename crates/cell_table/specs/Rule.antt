@@ -1,14 +1,15 @@
 -- The rule of the shared table.
-use Rattle.std.specs.Prelude.{◌≡◌, ◌⊎◌, ℕ, zero, suc, ◌+◌, ◌%◌, ◌≤◌, ◌==◌, ◌<◌, ◌||◌, Bool, true, false, if◌then◌else◌, List, [], ◌∷◌, ◌++◌, length, Option, Some, slice_get}
+use Rattle.std.specs.Prelude.{◌≡◌, ◌≢◌, ◌⊎◌, ℕ, zero, suc, ◌+◌, ◌%◌, ◌≤◌, ◌==◌, ◌<◌, ◌||◌, Bool, true, false, if◌then◌else◌, List, [], ◌∷◌, ◌++◌, length, Option, Some, slice_get}
 use mathlib.Core.Option.{Option as Maybe, some}
 use lib.ListN.{get_elem?}
 use Rattle.atomic_table.specs.Table.{State}
 use Rattle.protocol_values.specs.declared.Row.{Row}
 use Rattle.protocol_values.specs.declared.Seat.{Seat}
 use Rattle.protocol_values.specs.declared.Step.{Step}
+use Rattle.protocol_values.specs.declared.Step.TheVariants.{Bind}
 use Rattle.cell_table.specs.declared.view.View.{View}
 use Rattle.cell_table.specs.declared.view.Shape.{Shape}
-use Rattle.cell_table.specs.declared.view.Stage.TheVariants.{Resting}
+use Rattle.cell_table.specs.declared.view.Stage.TheVariants.{Aside, Resting}
 use Rattle.protocol_values.specs.declared.Offer.{Offer}
 use Rattle.protocol.specs.Ledgers.{Ledger, ledger_of}
 use Rattle.protocol.specs.Standing.{AreResults, EachStands, OffersAs, Result, SomeStands, Stands, binding_of}
@@ -44,6 +45,20 @@ module _ {M : Type 0} where
   pub record Interleaves (moves : List Move) (views : List (View M)) : Type 0 where
     pub made : (id : ℕ) (v : View M) → get_elem? views id ≡ some v → steps_by id moves ≡ at_seat v.seat v.made
     pub no_others : (id : ℕ) → length views ≤ id → steps_by id moves ≡ []
+
+  -- WHO SITS WHERE. A pass stands aside where it makes no steps of the protocol: the first one, which deals the rows, and what one
+  -- pass tells another.
+  pub record Seated (views : List (View M)) : Type 0 where
+    -- it has made none, and holds no row
+    pub aside : (id : ℕ) (v : View M) → get_elem? views id ≡ some v → v.stage ≡ Aside → (v.made ≡ []) × (v.seen.held ≡ [])
+    -- of the others no two have one seat
+    pub one_seat : (i j : ℕ) (u v : View M) → get_elem? views i ≡ some u → get_elem? views j ≡ some v → 0 < u.threads → 0 < v.threads → u.stage ≢ Aside → v.stage ≢ Aside → u.seat ≡ v.seat → i ≡ j
+    -- the first pass alone deals, and nobody has a seat that is not dealt yet
+    pub dealing : (i : ℕ) (u : View M) → get_elem? views i ≡ some u → 0 < u.threads → u.dealt < u.passes → (i ≡ 0) × ((j : ℕ) (v : View M) → get_elem? views j ≡ some v → 0 < v.threads → v.stage ≢ Aside → v.seat < u.dealt)
+    -- a pass that has made a step stays of its table
+    pub gone : (id : ℕ) (v : View M) → get_elem? views id ≡ some v → v.threads ≡ 0 → v.made ≡ []
+    -- whoever has bound a nack to a row holds the row
+    pub binders : (id : ℕ) (v : View M) (k : ℕ) (r : Row) (scope : ℕ) → get_elem? views id ≡ some v → Has v.made (Bind k r scope) → Has v.seen.held r
 
   -- the words at this moment, as a table
   abbrev pub table_of : {S : Type 0} → Shape M → State S (View M) → Table
@@ -105,6 +120,7 @@ module _ {M : Type 0} (stands : Stands M) where
     pub owner : Row → ℕ
     -- a pass that is of no table any more knows nothing
     pub knows : (id : ℕ) (v : View M) → get_elem? s.views id ≡ some v → 0 < v.threads → Knows world owner id v
+    pub seated : Seated s.views
     -- a pass knows what stood for the threads at first
     pub firsts : (id : ℕ) (v : View M) → get_elem? s.views id ≡ some v → 0 < v.threads → v.first ≡ shape.first.value.items
     -- in a table of machines
@@ -116,6 +132,10 @@ module _ {M : Type 0} where
   -- the pass with this number is of the table, and knows this
   abbrev pub IsAt : {S : Type 0} → State S (View M) → ℕ → View M → Type 0
   IsAt s id v = (get_elem? s.views id ≡ some v) × (0 < v.threads)
+
+  -- it has made a step, or holds a row
+  abbrev pub HasActed : View M → Type 0
+  HasActed v = (v.made ≢ []) ⊎ ((r : Row) × Has v.seen.held r)
 
 -- the number of a Fresh row's offers is 0 until one is drafted
 abbrev pub no_offers : List Row → List (Row × ℕ × ℕ)
@@ -129,7 +149,7 @@ seen_nothing rows = record { held = rows; drafts = no_offers rows; opened = []; 
 module _ {M : Type 0} where
   -- the first pass: it has dealt the seats below this one, and holds nothing itself
   abbrev pub dealer : Shape M → ℕ → View M
-  dealer shape k = record { threads = shape.threads; rows = shape.rows; passes = shape.passes; first = shape.first.value.items; results = []; dealt = k; seat = 0; stage = Resting; seen = seen_nothing []; made = [] }
+  dealer shape k = record { threads = shape.threads; rows = shape.rows; passes = shape.passes; first = shape.first.value.items; results = []; dealt = k; seat = 0; stage = Aside; seen = seen_nothing []; made = [] }
 
 -- the first rows of the threads below this one that fall to seat k
 abbrev pub dealt_rows : ℕ → ℕ → ℕ → List Row
@@ -166,7 +186,7 @@ heard s told = record s { opened = s.opened ++ told.opened; words = s.words ++ t
 
 module _ {M : Type 0} where
   abbrev pub told_pass : View M → View M
-  told_pass v = record v { dealt = v.passes; stage = Resting; seen = told_of v.seen; made = [] }
+  told_pass v = record v { dealt = v.passes; stage = Aside; seen = told_of v.seen; made = [] }
 
   abbrev pub heard_pass : View M → View M → View M
   heard_pass v told = with_results (v.results ++ told.results) (at_stage v.stage (heard v.seen told.seen) v)

@@ -69,7 +69,7 @@ module _ {M : Type 0} where
   abbrev pub drafted : {S : Type 0} → Step S → Me S (View M) → ℕ → Me S (View M) → Type 0
   drafted st m n w = (r : Row) (p : ℕ) → p < 34 → At st m r p → (w ≡ (word_drafted r p n m.0, m.1)) × AgreesWithItself w.0
 
-  -- the slot that came out last goes home, in a table that has slots
+  -- the front slot of those that are out goes home, in a table that has slots
   abbrev pub GoesHome : {S : Type 0} → List M → List (ℕ × S) → List (ℕ × S) → Type 0
   GoesHome first before after = (length first ≡ 0 → after ≡ before) × (0 < length first → after ≡ rest before)
 
@@ -119,16 +119,16 @@ module _ {M : Type 0} where
       → (n ≡ cell_word Waiting → (w ≡ (did (Grant r j.own) (settled r j m.0), m.1)) × Agrees m.0 r Waiting) × (n ≢ cell_word Waiting → finds m r n w) × AgreesWithItself w.0
 
   -- The value of the row's thread comes out with the row, in a table that has slots. It is still to be given the last of the
-  -- results: that of the row, with the message that the row gets.
-  abbrev pub ComesOut : Stands M → List M → Seen → Row → ℕ → List Result → List (ℕ × Option M) → List (ℕ × Option M) → Type 0
-  ComesOut stands first seen r own results before after =
+  -- results: that of the row, with the message that the row gets, by what the pass had seen before and by what it has seen since.
+  abbrev pub ComesOut : Stands M → List M → Seen → Seen → Row → ℕ → List Result → List (ℕ × Option M) → List (ℕ × Option M) → Type 0
+  ComesOut stands first old new r own results before after =
       (length first ≡ 0 → after ≡ before)
-      × (0 < length first → (value : M) × (got : Message) × (after ≡ (r.thread, Some value) ∷ before) × IsLeft stands first value r own results got × ((m : Message) → IsResult seen r m → m ≡ got))
+      × (0 < length first → (value : M) × (got : Message) × (after ≡ (r.thread, Some value) ∷ before) × IsLeft stands first value r own results got × ((m : Message) → IsResult old r m → m ≡ got) × ((m : Message) → IsResult new r m → m ≡ got))
 
   -- where the cell was Synched it is Taken, and nobody has opened the row behind it; else the pass has seen what it is
   abbrev pub taken : Stands M → Step (Option M) → Me (Option M) (View M) → ℕ → Me (Option M) (View M) → Type 0
   taken stands st m n w = (r : Row) (j : Joined) → At st m r 0 → IsJoinedInRange j → st.second ≡ cell_word (Taken j)
-      → (n ≡ cell_word (Synched j) → (results : List Result) × (length results ≡ r.sync + 1) × (w.0 ≡ did (Take r) (took_with r j results m.0)) × ComesOut stands m.0.first m.0.seen r j.own results m.1 w.1 × Agrees m.0 r (Synched j) × (¬ Has m.0.seen.opened (next_row r)) × ((nack : NackName) (b : Binding) → Has m.0.seen.bound (nack, b) → bound_row nack b ≢ next_row r))
+      → (n ≡ cell_word (Synched j) → (results : List Result) × (length results ≡ r.sync + 1) × (w.0 ≡ did (Take r) (took_with r j results m.0)) × ComesOut stands m.0.first m.0.seen w.0.seen r j.own results m.1 w.1 × Agrees m.0 r (Synched j) × (¬ Has m.0.seen.opened (next_row r)) × ((nack : NackName) (b : Binding) → Has m.0.seen.bound (nack, b) → bound_row nack b ≢ next_row r))
       × (n ≢ cell_word (Synched j) → finds m r n w) × AgreesWithItself w.0
 
   -- what a pass knows of a nack before it looks: where it saw it bound

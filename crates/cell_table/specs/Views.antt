@@ -11,7 +11,7 @@ use Rattle.protocol_values.specs.declared.Cell.TheVariants.{Fresh, Claimed, Take
 use Rattle.cell_table.specs.declared.view.Seen.{Seen}
 use Rattle.cell_table.specs.declared.view.View.{View}
 use Rattle.cell_table.specs.declared.view.Stage.{Stage}
-use Rattle.cell_table.specs.declared.view.Stage.TheVariants.{Resting, Claims, Joins}
+use Rattle.cell_table.specs.declared.view.Stage.TheVariants.{Resting, Claims, Joins, Aside}
 use Rattle.protocol.specs.Tables.{is_fresh, is_taken, names, word_at, cell_at, joined_at, binding_at, bound_row}
 use Rattle.protocol.specs.Standing.{Result}
 use Rattle.protocol.specs.Worlds.{World, holder_at}
@@ -26,12 +26,14 @@ abbrev pub IsClaimer : Stage → Row → Type 0
 IsClaimer Resting r = ⊥
 IsClaimer (Claims m) r = m ≡ r
 IsClaimer (Joins m o j) r = m ≡ r
+IsClaimer Aside r = ⊥
 
 -- where a call is between two steps
 abbrev pub Staged : World → (Row → ℕ) → ℕ → Stage → Type 0
 Staged w owner id Resting = Unit {0}
 Staged w owner id (Claims m) = (owner m ≡ id) × (cell_at w.table m ≡ Claimed) × ((q : Row) → names (joined_at w.table q) m ≡ false)
 Staged w owner id (Joins m o j) = (owner m ≡ id) × (cell_at w.table m ≡ Claimed) × (joined_at w.table o ≡ Some j) × (names (Some j) m ≡ true)
+Staged w owner id Aside = Unit {0}
 
 -- Where a pass stands, and what it has seen: what it knows is by these, and not by what it has made.
 pub record Vantage : Type 0 where

@@ -119,7 +119,7 @@ impl<M> Split<View<M>> for Deal {
     ghost right = { dealt_pass };
 }
 
-/// A pass tells what it has seen: the right part has seen it too, and holds no row.
+/// A pass tells what it has seen: the right part has seen it too, holds no row, and stands aside.
 pub struct Tell;
 
 impl<M> Split<View<M>> for Tell {

@@ -102,6 +102,7 @@ impl<M: Resident> Board<M> {
         bound: Binding,
     ) -> Result<(), Binding>
         requires sits { Sits self.now seat.old × HasNack self.now nack × HasRow self.now (bound_row nack bound) }
+        requires resting { seat.old.me.0.stage ≡ Resting }
         requires held { Has seat.old.me.0.seen.held (bound_row nack bound) × (¬ Has seat.old.me.0.seen.opened (bound_row nack bound)) }
         requires range { IsBindingInRange bound }
         ensures sits { StaysSeated self.now seat.old seat.new }
@@ -144,6 +145,7 @@ impl<M: Resident> Board<M> {
     pub fn draft(&self, seat: &mut Seat<Option<M>, View<M>>, row: Row, place: u8, word: u64)
         requires sits { Sits self.now seat.old × HasRow self.now row }
         requires place { (1 ≤ place) × (place < 34) × (is_word_for place word ≡ true) }
+        requires resting { seat.old.me.0.stage ≡ Resting }
         requires held { Has seat.old.me.0.seen.held row × (¬ Has seat.old.me.0.seen.opened row) }
         ensures sits { StaysSeated self.now seat.old seat.new }
         ensures drafted { seat.new.me.0 ≡ word_drafted row place word seat.old.me.0 }
@@ -179,7 +181,7 @@ impl<M: Resident> Board<M> {
         self.words.shared.load::<Begin>(seat, self.place(row, 0));
     }
 
-    /// Takes the value out of the slot of the row's thread, which came out last.
+    /// Takes the value out of the slot of the row's thread, the front one of those that are out.
     pub fn lift(&self, seat: &mut Seat<Option<M>, View<M>>, row: Row) -> M
         requires sits { Sits self.now seat.old }
         requires out { (value : M) × (seat.old.me.1 ≡ (row.thread, Some value) ∷ rest seat.old.me.1) }
@@ -197,7 +199,7 @@ impl<M: Resident> Board<M> {
         }
     }
 
-    /// Lays the value into the slot of the row's thread, which came out last and is empty.
+    /// Lays the value into the slot of the row's thread, the front one of those that are out, which is empty.
     pub fn lay(&self, seat: &mut Seat<Option<M>, View<M>>, row: Row, value: M)
         requires sits { Sits self.now seat.old }
         requires out { seat.old.me.1 ≡ (row.thread, None) ∷ rest seat.old.me.1 }
@@ -299,9 +301,10 @@ impl<M: Resident> Board<M> {
         joined: Joined,
     ) -> Result<(), Cell>
         requires sits { Sits self.now seat.old × HasRow self.now row }
+        requires resting { seat.old.me.0.stage ≡ Resting }
         requires range { IsJoinedInRange joined }
         ensures sits { StaysAtTable self.now seat.old seat.new }
-        ensures took { IfOk result (λ _. (results : List Result) × (length results ≡ row.sync + 1) × (seat.new.me.0 ≡ did (TakeStep row) (took_with row joined results seat.old.me.0)) × ComesOut M.stands self.now.shape.first.value.items seat.old.me.0.seen row joined.own results seat.old.me.1 seat.new.me.1 × Agrees seat.old.me.0 row (Synched joined) × (¬ Has seat.old.me.0.seen.opened (next_row row)) × ((n : NackName) (b : Binding) → Has seat.old.me.0.seen.bound (n, b) → bound_row n b ≢ next_row row)) }
+        ensures took { IfOk result (λ _. (results : List Result) × (length results ≡ row.sync + 1) × (seat.new.me.0 ≡ did (TakeStep row) (took_with row joined results seat.old.me.0)) × ComesOut M.stands self.now.shape.first.value.items seat.old.me.0.seen seat.new.me.0.seen row joined.own results seat.old.me.1 seat.new.me.1 × Agrees seat.old.me.0 row (Synched joined) × (¬ Has seat.old.me.0.seen.opened (next_row row)) × ((n : NackName) (b : Binding) → Has seat.old.me.0.seen.bound (n, b) → bound_row n b ≢ next_row row)) }
         ensures found { IfErr result (λ cell. (cell ≢ Synched joined) × (seat.new.me ≡ (saw row cell seat.old.me.0, seat.old.me.1)) × Agrees seat.old.me.0 row cell) }
     {
         let committed = pack_cell(Cell::Synched(joined));

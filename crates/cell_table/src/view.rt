@@ -23,6 +23,8 @@ pub enum Stage {
     Claims(Row),
     /// It has claimed the first row, and joined the second so.
     Joins(Row, Row, Joined),
+    /// The pass makes no steps: it deals the rows, or is what one pass tells another.
+    Aside,
 }
 
 /// What a pass has seen. It only grows, but for the drafts of a held row that is not opened yet.

@@ -1,12 +1,15 @@
 use Rattle.std.proofs.Common.{◌≡◌, List, [], true, false, sym, ap, ◌∙◌, subst}
 use Rattle.protocol_values.specs.declared.Row.{Row}
-use Rattle.protocol.specs.Tables.{Table, binding_at, cell_at, is_fresh, is_taken, joined_at, names}
+use Rattle.protocol.specs.Tables.{Table, binding_at, bound_row, cell_at, is_fresh, is_taken, joined_at, names}
 use Rattle.protocol.specs.Worlds.{Plays, World, start_world}
 use Rattle.protocol.specs.Kept.{Kept}
 use Rattle.protocol.specs.Ledgers.{ledger_of, IsLawful}
 use Rattle.protocol.specs.Standing.{AreResults, EachStands, SomeStands}
 use Rattle.protocol.proofs.LedgerLemmas.{kept_start, lawful_ledger}
 use Rattle.cell_table.specs.Rule.{IsHome, Move, in_order}
+use Rattle.cell_table.specs.Views.{bind_of}
+use Rattle.cell_table.proofs.Binders.{bound_by}
+use Rattle.cell_table.proofs.Seating.{acts, stays_of}
 use Rattle.cell_table.proofs.Once.{first_binding, first_cell, nothing_yet, taken_once}
 use Rattle.cell_table.proofs.Turning.{world_kept}
 use Rattle.cell_table.proofs.every_moment_is_lawful.Goals as goal
@@ -28,6 +31,12 @@ returns g c shape s k =
       one_holder = λ i j u v r at also held too. sym ((k.knows i u at.0 at.1).mine r held).0 ∙ ((k.knows j v also.0 also.1).mine r too).0;
       one_taker = λ i j u v r at also took too.
           taken_once start k.world k.moves s.views i j u v r (kept_start shape.threads shape.rows shape.passes k.few_threads k.few_rows) k.played k.interleaved at.0 also.0 took too;
+      one_seat = λ i j u v at also acted too.
+          k.seated.one_seat i j u v at.0 also.0 at.1 also.1 (acts s.views i u k.seated at.0 acted) (acts s.views j v k.seated also.0 too);
+      binder = λ n b bound.
+          let by = bound_by start k.world k.moves s.views (kept_start shape.threads shape.rows shape.passes k.few_threads k.few_rows) k.played k.interleaved n b
+          (first_binding shape.threads shape.rows shape.passes n) (ap (λ (t : Table). binding_at t n) k.table ∙ bound) in
+          (by.0, by.1, (by.2, stays_of (bind_of n b) s.views by.0 by.1 k.seated by.2 by.3), by.3, k.seated.binders by.0 by.1 n.k (bound_row n b) b.scope by.2 by.3);
       named_once = λ q r p. subst (λ (t : Table). names (joined_at t q) p ≡ true → names (joined_at t r) p ≡ true → q ≡ r) k.table (kept.linked.once q r p);
       -- where nothing was done, the words are those of the start
       untouched = λ nothing.

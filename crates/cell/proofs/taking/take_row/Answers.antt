@@ -34,7 +34,7 @@ returns-in-Ok-clause-out g c =
       took.0,
       subst (λ (v : View _). Has v.results (c.args.row.thread, took.0)) (sym took.2) (inl refl),
       took.1,
-      comes_from g.M.Resident.stands c.args.board.now.shape.first.value.items c.args.seat.now.me.0.seen c.look.new.seat.me.0.seen c.args.row c.in-Synched.joined.own took.0 c.look.new.seat.me.1 c.args.seat.now.me.1 c.take_committed.new.seat.me.1
+      comes_from g.M.Resident.stands c.args.board.now.shape.first.value.items c.args.seat.now.me.0.seen c.look.new.seat.me.0.seen c.take_committed.new.seat.me.0.seen c.args.row c.in-Synched.joined.own took.0 c.look.new.seat.me.1 c.args.seat.now.me.1 c.take_committed.new.seat.me.1
           (subst (λ (v : View _). Learns (λ q. q ≡ c.args.row) c.args.seat.now.me.0.seen v.seen) (sym saw_it) (learns_look c.args.row (Synched c.in-Synched.joined) c.args.seat.now.me.0.seen))
           c.look.ensures.sits.2 took.3,
     )
