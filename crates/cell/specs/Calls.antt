@@ -26,7 +26,8 @@ pub record PassOf (M : Type 0) : Type 0 where
   pub made : List Step
   -- of a thread, the results of its first rows, once the pass has taken one of them or was told so
   pub results : List (ℕ × List Result)
-  -- the threads whose slots are out with the pass, the last one first, and what lies in each: none where it was fetched
+  -- the threads whose slots are out with the pass, the last one first, unless the pass turns them, and what lies in each: none
+  -- where it was fetched
   pub out : List (ℕ × Option M)
 
 -- those of a table of no machines
@@ -57,12 +58,12 @@ module _ {M : Type 0} where
   abbrev pub IsHousing : GridOf M → Type 0
   IsHousing g = 0 < length g.first
 
-  -- MACHINES: the slot that came out last is the row's thread's, and holds this
+  -- MACHINES: of the slots that are out with the pass the front one is the row's thread's, and holds this
   abbrev pub Holds : PassOf M → Row → Option M → Type 0
   Holds p r value = p.out ≡ (r.thread, value) ∷ rest p.out
 
   -- What may be fetched: for the first row of a thread what stood for it at first, unless this pass has fetched it; for
-  -- another what came out with the row before, if that was taken last.
+  -- another what came out with the row before, if its slot is the front one.
   abbrev pub CanFetchAt : GridOf M → PassOf M → Row → ℕ → Type 0
   CanFetchAt g p r zero = IsHousing g × (¬ Has p.seen.begun r)
   CanFetchAt g p r (suc sync) = (value : M) × Holds p r (Some value)

@@ -37,7 +37,7 @@ ghost use Rattle.cell.specs.Attempts.{
 ghost use Rattle.cell.specs.Calls.{CanFetch, Fetched, Holds, IsHousing, IsNackOf, IsParked, IsPassOf, IsRowOf, KeepsResults, PassOf, PassView};
 ghost use Rattle.cell_table.specs.Told.{GoesHome};
 ghost use Rattle.cell_table.specs.Rule.{IsReady, dealt_rows, heard, seen_nothing, told_of};
-ghost use Rattle.atomic_table.specs.Table.{rest};
+ghost use Rattle.atomic_table.specs.Table.{rest, turned};
 ghost use Rattle.cell_table.specs.Nacks.{IsSeenBound};
 ghost use Rattle.cell.specs.Flags.{AreFlags};
 ghost use Rattle.cell_table.specs.Sight.{
@@ -120,6 +120,15 @@ impl<M> Pass<M> {
         ensures { IsTrue result ↔ Has self.now.seen.held row }
     {
         self.rows.contains(row)
+    }
+
+    /// Of the slots that are out with the pass, the one that came out last goes behind the others, so that `fetch`
+    /// and `park` reach the next one. It does nothing when it runs.
+    pub fn turn_slots(&mut self)
+        ensures out { self.new.out ≡ turned self.old.out }
+        ensures same { (self.new.of ≡ self.old.of) × (self.new.seen ≡ self.old.seen) × (self.new.made ≡ self.old.made) × (self.new.results ≡ self.old.results) }
+    {
+        self.seat.turn();
     }
 }
 
@@ -435,7 +444,8 @@ impl<M: Resident> Cells<M> {
     }
 
     /// Hands out what stands for the row's thread: for the first row of a thread what stood for it at first, and
-    /// for another what came out of its slot when the row before was taken. The pass has it alone.
+    /// for another what came out of its slot when the row before was taken, if that slot is the front one of those that
+    /// are out. The pass has it alone.
     pub fn fetch(&self, pass: &mut Pass<M>, row: Row) -> M
         requires here { IsPassOf self.now pass.old × IsRowOf self.now row }
         requires fresh { Has pass.old.seen.held row × (¬ Has pass.old.seen.opened row) }
