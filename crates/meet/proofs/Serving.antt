@@ -1,6 +1,6 @@
 -- The passes of rooms: one is read, one is replaced, one joins.
-use Rattle.std.proofs.Common.{◌≡◌, ℕ, zero, suc, ◌<◌, List, [], ◌∷◌, ◌++◌, Some, None, length, set, slice_get, get_or, sym, subst, refl, ap, arith}
-use Rattle.std.proofs.lemmas.Option.{slice_get_read}
+use Rattle.std.proofs.Common.{◌≡◌, ℕ, zero, suc, ◌<◌, ◌≤◌, List, [], ◌∷◌, ◌++◌, Some, None, length, set, slice_get, get_or, sym, subst, refl, ap, ◌∙◌, arith}
+use Rattle.std.proofs.lemmas.Option.{get_or_from_slice_get, slice_get_read, slice_get_within}
 use Rattle.meet_queues.specs.declared.lane.LanePass.{LanePass}
 use Rattle.meet_queues.specs.Lanes.{IsLanePassOf}
 use Rattle.meet.specs.declared.rooms.Room.{Room}
@@ -49,3 +49,11 @@ serves_within rs ps n s less = let same = serves_length rs ps s in omega arith
 -- and another stands there
 pub serves_now : (rs : List Room) (ps : List LanePass) (n : ℕ) (r : Room) (p : LanePass) → Serves rs ps → n < length rs → r ≡ get_or rs n r → IsLanePassOf r.lane p → Serves rs (set ps n p)
 serves_now rs ps n r p s less room is = serves_set rs ps n r p s (slice_get_read rs (length rs) n r refl less room) is
+
+-- where there is no room there is no pass of it
+pub no_pass : (rs : List Room) (ps : List LanePass) (n : ℕ) (p : LanePass) → Serves rs ps → length rs ≤ n → slice_get ps n ≡ Some p → ⊥
+no_pass rs ps n p s past is = let low = slice_get_within ps n p is in let same = serves_length rs ps s in absurd (omega arith)
+
+-- the pass that was read at a place is the one that stands there
+pub one_pass : (ps : List LanePass) (n : ℕ) (p q : LanePass) → slice_get ps n ≡ Some p → q ≡ get_or ps n q → q ≡ p
+one_pass ps n p q is read = read ∙ get_or_from_slice_get ps n p q is

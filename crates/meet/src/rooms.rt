@@ -1,10 +1,11 @@
 //! Rooms: lanes of waiting offers, each with counts that tell who has entries of it in hand.
 
-ghost use Rattle.std.specs.Prelude.{◌≡◌, All, IfOk, MatchOption, length};
+ghost use Rattle.std.specs.Prelude.{◌≡◌, ◌<◌, ◌++◌, ◌∷◌, [], All, IfOk, MatchResult, length};
 ghost use Rattle.cell.specs.Calls.{IsPassOf};
-ghost use Rattle.meet_queues.specs.Lanes.{IsLanePassOf};
-ghost use Rattle.meet.specs.Rooms.{AllJoin, EachServes, Joins, Serves};
+ghost use Rattle.meet_queues.specs.Lanes.{IsLanePassOf, IsSame};
+ghost use Rattle.meet.specs.Rooms.{AllJoin, EachPutsOn, EachServes, Joins, PutAt, PutsBack, PutsOn, Serves};
 ghost use Rattle.meet.specs.Searches.{Grows};
+ghost use Rattle.meet.specs.Steps.{OnlyLooks};
 
 use crate::queue::Queue;
 use cell::{Cells, Pass, Resident};
@@ -71,7 +72,7 @@ impl Room {
     /// Whether nothing stood in the lane at a moment of the call, nor was in anybody's hand then.
     pub(crate) fn is_still(&self, lane: &mut LanePass) -> bool
         requires { IsLanePassOf self.now.lane lane.old }
-        ensures { IsLanePassOf self.now.lane lane.new }
+        ensures { IsLanePassOf self.now.lane lane.new × IsSame lane.old lane.new }
     {
         let returns = self.returns();
         self.lane.is_empty(lane) && !self.was_shared(returns, 0)
@@ -86,7 +87,7 @@ impl Room {
     ) -> Result<(), AllocError>
         requires { IsLanePassOf self.now.lane lane.old }
         ensures here { IsLanePassOf self.now.lane lane.new }
-        ensures put { IfOk result (λ _. Joins lane.old lane.new entry) }
+        ensures put { MatchResult result (λ _. Joins lane.old lane.new entry) (λ _. IsSame lane.old lane.new) }
     {
         if lane.count() == u64::MAX {
             return Ok(());
@@ -104,6 +105,7 @@ impl Room {
         requires { IsLanePassOf self.now.lane lane.old }
         ensures here { IsLanePassOf self.now.lane lane.new }
         ensures put { IfOk result (λ _. AllJoin lane.old lane.new entries.now) }
+        ensures more { PutsOn lane.old lane.new }
     {
         for entry in entries {
             self.put(rt, lane, *entry)?;
@@ -114,7 +116,7 @@ impl Room {
     /// Whether so many entries stand in the lane that it is to be swept.
     fn is_long<R: Wait>(&self, rt: &R, lane: &mut LanePass) -> bool
         requires { IsLanePassOf self.now.lane lane.old }
-        ensures { IsLanePassOf self.now.lane lane.new }
+        ensures { IsLanePassOf self.now.lane lane.new × IsSame lane.old lane.new }
     {
         !self.lane.is_empty(lane) && self.lane.len(rt, lane) >= self.most.load(Ordering::SeqCst)
     }
@@ -132,7 +134,7 @@ pub(crate) fn open_rooms(
     count: usize,
     passes: u8,
 ) -> Result<(Vec<Room>, Vec<MeetPass>), AllocError>
-    ensures { IfOk result (λ r. (length r.1.items ≡ passes) × EachServes r.0.items r.1.items) }
+    ensures { IfOk result (λ r. (length r.0.items ≡ count) × (length r.1.items ≡ passes) × EachServes r.0.items r.1.items) }
 {
     let mut rooms = Vec::with_capacity(alloc, count)?;
     let mut all = Vec::with_capacity(alloc, usize::from(passes))?;
@@ -158,7 +160,8 @@ fn add_room(
 ) -> Result<(), AllocError>
     requires each { EachServes rooms.old.items all.old.items }
     requires new { (length lane_passes.items ≡ length all.old.items) × All (IsLanePassOf room.lane) lane_passes.items }
-    ensures { IfOk result (λ _. (length all.new.items ≡ length all.old.items) × EachServes rooms.new.items all.new.items) }
+    ensures each { IfOk result (λ _. (length all.new.items ≡ length all.old.items) × EachServes rooms.new.items all.new.items) }
+    ensures more { IfOk result (λ _. rooms.new.items ≡ rooms.old.items ++ room ∷ []) }
 {
     let mut lane_passes = lane_passes;
     for at in 0..all.len() {
@@ -185,18 +188,43 @@ pub(crate) fn put_into<R: Wait, M: Resident>(
     requires lanes { Serves rooms.now lanes.old.passes.items }
     ensures here { IsPassOf cells.now pass.new }
     ensures grows { Grows pass.old.seen pass.new.seen }
+    ensures looks { OnlyLooks pass.old pass.new }
     ensures lanes { Serves rooms.now lanes.new.passes.items }
+    ensures more { EachPutsOn lanes.old.passes.items lanes.new.passes.items }
+    ensures put { IfOk result (λ _. at < length rooms.now → PutAt at entry lanes.old.passes.items lanes.new.passes.items) }
 {
-    if is_long(rt, rooms, lanes, at) {
-        sweep(rt, cells, pass, rooms, lanes, at)?;
-    }
+    sweep_if_long(rt, cells, pass, rooms, lanes, at)?;
     put_one(rt, rooms, lanes, at, entry)
+}
+
+/// Removes the entries of committed rows from the room's lane, where that has grown long.
+fn sweep_if_long<R: Wait, M: Resident>(
+    rt: &R,
+    cells: &Cells<M>,
+    pass: &mut Pass<M>,
+    rooms: &[Room],
+    lanes: &mut MeetPass,
+    at: usize,
+) -> Result<(), AllocError>
+    requires cells { IsPassOf cells.now pass.old }
+    requires lanes { Serves rooms.now lanes.old.passes.items }
+    ensures here { IsPassOf cells.now pass.new }
+    ensures grows { Grows pass.old.seen pass.new.seen }
+    ensures looks { OnlyLooks pass.old pass.new }
+    ensures lanes { Serves rooms.now lanes.new.passes.items }
+    ensures more { EachPutsOn lanes.old.passes.items lanes.new.passes.items }
+{
+    if !is_long(rt, rooms, lanes, at) {
+        return Ok(());
+    }
+    sweep(rt, cells, pass, rooms, lanes, at)
 }
 
 /// Whether the room's lane is to be swept.
 fn is_long<R: Wait>(rt: &R, rooms: &[Room], lanes: &mut MeetPass, at: usize) -> bool
     requires { Serves rooms.now lanes.old.passes.items }
-    ensures { Serves rooms.now lanes.new.passes.items }
+    ensures lanes { Serves rooms.now lanes.new.passes.items }
+    ensures more { EachPutsOn lanes.old.passes.items lanes.new.passes.items }
 {
     match rooms.get(at) {
         Some(room) => room.is_long(rt, &mut lanes.passes[at]),
@@ -213,7 +241,9 @@ fn put_one<R: Wait>(
     entry: WaitingOffer,
 ) -> Result<(), AllocError>
     requires { Serves rooms.now lanes.old.passes.items }
-    ensures { Serves rooms.now lanes.new.passes.items }
+    ensures lanes { Serves rooms.now lanes.new.passes.items }
+    ensures more { EachPutsOn lanes.old.passes.items lanes.new.passes.items }
+    ensures put { IfOk result (λ _. at < length rooms.now → PutAt at entry lanes.old.passes.items lanes.new.passes.items) }
 {
     match rooms.get(at) {
         Some(room) => room.put(rt, &mut lanes.passes[at], entry),
@@ -234,7 +264,9 @@ fn sweep<R: Wait, M: Resident>(
     requires lanes { Serves rooms.now lanes.old.passes.items }
     ensures here { IsPassOf cells.now pass.new }
     ensures grows { Grows pass.old.seen pass.new.seen }
+    ensures looks { OnlyLooks pass.old pass.new }
     ensures lanes { Serves rooms.now lanes.new.passes.items }
+    ensures more { EachPutsOn lanes.old.passes.items lanes.new.passes.items }
 {
     let Some(room) = rooms.get(at) else {
         return Ok(());
@@ -257,7 +289,8 @@ fn take_all<R: Wait>(
     at: usize,
 ) -> Result<(), AllocError>
     requires { Serves rooms.now lanes.old.passes.items }
-    ensures { Serves rooms.now lanes.new.passes.items }
+    ensures lanes { Serves rooms.now lanes.new.passes.items }
+    ensures more { EachPutsOn lanes.old.passes.items lanes.new.passes.items }
 {
     for _ in rt.forever() {
         let Some((row, n)) = take_from(rt, rooms, lanes, at) else {
@@ -276,7 +309,8 @@ pub(crate) fn take_from<R: Wait>(
     at: usize,
 ) -> Option<WaitingOffer>
     requires { Serves rooms.now lanes.old.passes.items }
-    ensures { Serves rooms.now lanes.new.passes.items }
+    ensures lanes { Serves rooms.now lanes.new.passes.items }
+    ensures more { EachPutsOn lanes.old.passes.items lanes.new.passes.items }
 {
     let room = rooms.get(at)?;
     room.lane.take_front(rt, &mut lanes.passes[at])
@@ -285,7 +319,8 @@ pub(crate) fn take_from<R: Wait>(
 /// Whether nothing stood in the room's lane at a moment, nor was in anybody's hand then.
 pub(crate) fn is_still(rooms: &[Room], lanes: &mut MeetPass, at: usize) -> bool
     requires { Serves rooms.now lanes.old.passes.items }
-    ensures { Serves rooms.now lanes.new.passes.items }
+    ensures lanes { Serves rooms.now lanes.new.passes.items }
+    ensures more { EachPutsOn lanes.old.passes.items lanes.new.passes.items }
 {
     match rooms.get(at) {
         Some(room) => room.is_still(&mut lanes.passes[at]),
@@ -296,7 +331,8 @@ pub(crate) fn is_still(rooms: &[Room], lanes: &mut MeetPass, at: usize) -> bool
 /// How many entries stand in the room's lane at a moment.
 pub(crate) fn length_of<R: Wait>(rt: &R, rooms: &[Room], lanes: &mut MeetPass, at: usize) -> usize
     requires { Serves rooms.now lanes.old.passes.items }
-    ensures { Serves rooms.now lanes.new.passes.items }
+    ensures lanes { Serves rooms.now lanes.new.passes.items }
+    ensures more { EachPutsOn lanes.old.passes.items lanes.new.passes.items }
 {
     match rooms.get(at) {
         Some(room) => room.lane.len(rt, &mut lanes.passes[at]),
@@ -317,7 +353,10 @@ pub(crate) fn put_back<R: Wait, M: Resident>(
     requires lanes { Serves rooms.now lanes.old.passes.items }
     ensures here { IsPassOf cells.now pass.new }
     ensures grows { Grows pass.old.seen pass.new.seen }
+    ensures looks { OnlyLooks pass.old pass.new }
     ensures lanes { Serves rooms.now lanes.new.passes.items }
+    ensures more { EachPutsOn lanes.old.passes.items lanes.new.passes.items }
+    ensures put { IfOk result (λ _. PutsBack cells.now pass.old.seen pass.new.seen at lanes.old lanes.new) }
 {
     lanes.in_hand.tidy(cells, pass);
     let Some(room) = rooms.get(at) else {

@@ -2,6 +2,7 @@ use Rattle.std.proofs.Common.{rules, ◌≡◌, None, sym, ◌∙◌}
 use Rattle.cell_table.specs.Sight.{LackOffer}
 use Rattle.cell.proofs.Meeting.{from_none}
 use Rattle.meet.proofs.Growing.{grows_by, grows_then, seen_more}
+use Rattle.meet.proofs.Making.{looks_then}
 use Rattle.meet.proofs.Reading.{few_directions, none_behind, reads_ended, reads_more, reads_short}
 use Rattle.meet.proofs.meet.own_directions.Goals as goal
 
@@ -30,6 +31,7 @@ loop-n-preserved g c =
       grows_then s t u c.loop-n.invariant.1 grows,
       reads_more s t u c.args.row c.loop-n.directions c.loop-n.n c.from.result c.in-Some.direction c.loop-n.invariant.2 c.from.ensures c.loop-n-test.true c.loop-n.invariant.1 grows
           c.in-Some.ensures.some (λ d sees. sym c.in-Some.is ∙ c.direction.ensures.same d (seen_more t u c.args.row c.loop-n.n d grows sees)),
+      looks_then c.args.pass.now c.loop-n.pass c.direction.new.pass c.loop-n.invariant.3 (c.direction.ensures.made, c.direction.ensures.results),
     )
 
 pub returns-clause-whole : goal.returns-clause-whole

@@ -1,4 +1,5 @@
 use Rattle.meet.proofs.Growing.{grows_by, grows_then, waits_more, woken_by}
+use Rattle.meet.proofs.Making.{looks_then}
 use Rattle.meet.proofs.meet.wake_entry.Goals as goal
 
 pub returns-in-Given-clause-woken : goal.returns-in-Given-clause-woken
@@ -10,4 +11,6 @@ loop-preserved g c =
     let t = c.loop.pass.seen in
     let u = c.saw_committed.new.pass.seen in
     let grows = grows_then t c.grant.new.pass.seen u (grows_by _ _ t c.grant.new.pass.seen c.grant.ensures.learns) c.saw_committed.ensures.grows in
-    (tt, tt, c.saw_committed.ensures.here, grows_then c.args.pass.now.seen t u c.loop.invariant.3 grows, waits_more t u c.args.entry.0 c.args.entry.1 c.args.nack grows c.loop.invariant.4)
+    let looks = looks_then c.args.pass.now c.loop.pass c.saw_committed.new.pass c.loop.invariant.5
+    (looks_then c.loop.pass c.grant.new.pass c.saw_committed.new.pass (c.in-Late.ensures.made, c.grant.ensures.results) c.saw_committed.ensures.looks) in
+    (tt, tt, c.saw_committed.ensures.here, grows_then c.args.pass.now.seen t u c.loop.invariant.3 grows, waits_more t u c.args.entry.0 c.args.entry.1 c.args.nack grows c.loop.invariant.4, looks)

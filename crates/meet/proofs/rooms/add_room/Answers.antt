@@ -47,8 +47,8 @@ loop-at-preserved c =
       refl,
     )
 
-pub returns : goal.returns
-returns c =
+pub returns-clause-each : goal.returns-clause-each
+returns-clause-each c =
     let rooms = c.args.rooms.now.items in
     let room = c.args.room in (
       (search rules),

@@ -6,6 +6,7 @@ use Rattle.cell.specs.Calls.{GridOf, IsPassOf, PassOf}
 use Rattle.cell_table.specs.Nacks.{CanStandAlone}
 use Rattle.cell_table.specs.Sight.{SeesDirection}
 use Rattle.meet.proofs.Growing.{NeedsPartner, ok_none, stands_never}
+use Rattle.meet.proofs.Putting.{each_on_nothing}
 use Rattle.meet.proofs.meet.Meet.look.Goals as goal
 
 -- an offer in such a direction does not let its row stand alone
@@ -26,3 +27,12 @@ returns-in-Some-clause-none g c =
 
 pub returns-in-Never-clause-none : goal.returns-in-Never-clause-none
 returns-in-Never-clause-none g c = never c.args.cells.now c.args.pass.now c.args.mine c.args.direction Never c.requires.here.0 c.requires.read c.in-Never.is (λ s x y z stamp h. h)
+
+pub returns-in_default-clause-more : goal.returns-in_default-clause-more
+returns-in_default-clause-more g c = each_on_nothing c.args.lanes.now.passes.items
+
+pub returns-in-Always-clause-more : goal.returns-in-Always-clause-more
+returns-in-Always-clause-more g c = each_on_nothing c.args.lanes.now.passes.items
+
+pub returns-in-Never-clause-more : goal.returns-in-Never-clause-more
+returns-in-Never-clause-more g c = each_on_nothing c.args.lanes.now.passes.items
