@@ -1,5 +1,6 @@
 pub mod Completed
 pub mod Crossing
+pub mod Hearing
 pub mod Lists
 pub mod Machines
 pub mod Ranging

@@ -1,11 +1,10 @@
 //! All workers of a run: they are made, started, and joined, and then tell one of their passes what they saw.
 
-ghost use Rattle.std.specs.Prelude.{◌≡◌, [], All, IfOk, IfSome};
-ghost use denote.Param.Send.{IsSync};
+ghost use Rattle.std.specs.Prelude.{◌≡◌, [], All, IfNone, IfOk, IfSome};
 ghost use Rattle.cell.specs.Calls.{IsPassOf};
 ghost use Rattle.meet.specs.Rooms.{IsMeetPassOf};
 ghost use Rattle.meet_queues.specs.Ends.{IsEndOf};
-ghost use Rattle.runtime.specs.Workers.{IsNewPassOf, IsNewWorkerOf};
+ghost use Rattle.runtime.specs.Workers.{HasHeard, IsNewPassOf, IsNewWorkerOf};
 
 use crate::crew::Crew;
 use crate::fault::{Halt, told_first};
@@ -16,11 +15,11 @@ use cell::{Cells, Pass, StepGate};
 use core::thread::Stack;
 use meet::MeetPass;
 use meet_queues::ReadyEnd;
-use std::alloc::Global;
+use std::alloc::{AllocError, Global};
 use std::snapshot::Snapshot;
 use std::sync::Wait;
 use std::thread;
-use std::thread::{Promise, PromisedHandle, Threads};
+use std::thread::{Promise, PromisedHandle, Scope, Threads};
 
 /// The bytes of stack that a worker's thread gets, whatever the process gives its first thread. What a worker
 /// does takes stack only where a script is deep, and a script is no deeper than 48.
@@ -99,51 +98,88 @@ pub(crate) fn all_work<R: Threads + Wait + Sync, G: Gate + StepGate + Sync>(
         gate,
         threads,
     } = *crew;
-    let mut handles: Vec<Handle> = Vec::with_capacity(shared.alloc, workers.len())?;
+    let handles = Vec::with_capacity(shared.alloc, workers.len())?;
     thread::scope(
         thread::scope_env(),
         rt,
         |scope| -> Result<Vec<Pass<Suspended>>, Halt>
-            requires sync { IsSync R.row × IsSync G.row }
             requires workers { All (λ w. IsNewWorkerOf cells.now shared.now w) workers.items }
             requires handles { handles.items ≡ [] }
             ensures { IfOk result (λ back. All (λ p. IsPassOf cells.entry.now p) back.items) }
         {
-            let mut halted = None;
-            for worker in workers {
-                let started = Stack::new().stack_size(WORKER_STACK).spawn_scoped_with(
-                    scope,
-                    gives_back(cells),
-                    move || -> Worked
-                        requires sync { IsSync R.row × IsSync G.row }
-                        requires here { IsNewWorkerOf cells.now shared.now worker }
-                        ensures { IsPassOf cells.entry.now result.pass }
-                    {
-                        let crew = Crew {
-                            rt,
-                            cells,
-                            shared,
-                            gate,
-                            threads,
-                        };
-                        crew.work_on(worker)
-                    },
-                );
-                let Ok(handle) = started else {
-                    halted = Some(Halt::NoWorker);
-                    break;
-                };
-                if handles.push(handle).is_err() {
-                    halted = Some(Halt::Memory);
-                    break;
-                }
-            }
+            let crew = Crew {
+                rt,
+                cells,
+                shared,
+                gate,
+                threads,
+            };
+            let (handles, halted) = start_all(scope, &crew, workers, handles);
             if halted.is_some() {
                 shared.activity.stop();
             }
             join_all(rt, shared.alloc, cells, handles, halted)
         },
     )
+}
+
+/// Starts the workers, one behind the other, until one of them cannot be started.
+fn start_all<'s, E, R: Threads + Wait + Sync, G: Gate + StepGate + Sync>(
+    scope: &Scope<'s, E>,
+    crew: &Crew<'s, R, G>,
+    workers: Vec<Worker>,
+    handles: Vec<Handle>,
+) -> (Vec<Handle>, Option<Halt>)
+    requires workers { All (λ w. IsNewWorkerOf crew.now.cells.now crew.now.shared.now w) workers.items }
+    requires handles { handles.items ≡ [] }
+    ensures { All (λ h. h.promise.cells.value ≡ crew.now.cells.now) result.0.items }
+{
+    let mut handles = handles;
+    for worker in workers {
+        let Ok(handle) = start(scope, crew, worker) else {
+            return (handles, Some(Halt::NoWorker));
+        };
+        if handles.push(handle).is_err() {
+            return (handles, Some(Halt::Memory));
+        }
+    }
+    (handles, None)
+}
+
+/// Starts a thread of the scope in which the worker works.
+fn start<'s, E, R: Threads + Wait + Sync, G: Gate + StepGate + Sync>(
+    scope: &Scope<'s, E>,
+    crew: &Crew<'s, R, G>,
+    worker: Worker,
+) -> Result<Handle, AllocError>
+    requires { IsNewWorkerOf crew.now.cells.now crew.now.shared.now worker }
+    ensures { IfOk result (λ h. h.promise.cells.value ≡ crew.now.cells.now) }
+{
+    let Crew {
+        rt,
+        cells,
+        shared,
+        gate,
+        threads,
+    } = *crew;
+    let handle = Stack::new().stack_size(WORKER_STACK).spawn_scoped_with(
+        scope,
+        gives_back(cells),
+        move || -> Worked
+            requires here { IsNewWorkerOf cells.now shared.now worker }
+            ensures { IsPassOf cells.entry.now result.pass }
+        {
+            let crew = Crew {
+                rt,
+                cells,
+                shared,
+                gate,
+                threads,
+            };
+            crew.work_on(worker)
+        },
+    )?;
+    Ok(handle)
 }
 
 /// One worker works in the calling thread.
@@ -199,7 +235,9 @@ pub(crate) fn told_one(
     passes: Vec<Pass<Suspended>>,
 ) -> Option<Pass<Suspended>>
     requires { All (λ p. IsPassOf cells.now p) passes.items }
-    ensures { IfSome result (λ p. IsPassOf cells.now p) }
+    ensures here { IfSome result (λ p. IsPassOf cells.now p) }
+    ensures told { IfSome result (λ p. All (λ q. HasHeard q p) passes.items) }
+    ensures none { IfNone result (passes.items ≡ []) }
 {
     let mut passes = passes;
     let mut told = passes.pop()?;
