@@ -1,7 +1,9 @@
 -- What the text of a run says, from what the run says of its record.
 use Rattle.std.proofs.Common.{◌⊎◌, ℕ, ◌≤◌, List, ◌∙◌, arith, inl, inr, ⊎_elim}
 use Rattle.std.proofs.lemmas.Bool.{cases_lt}
+use Rattle.journal.specs.Records.{Completes}
 use Rattle.journal.specs.declared.record.Record.{Record}
+use Rattle.protocol.specs.Ledgers.{IsLawful, Ledger}
 use Rattle.script.specs.Sources.{Script}
 use Rattle.script.specs.Spelling.{IsSpelled}
 use Rattle.runtime.specs.Headline.{TellsMaximalRun}
@@ -9,8 +11,8 @@ use Rattle.runtime.specs.Limits.{AreRows, AreWorkers}
 use Rattle.journal_lines.proofs.Lining.{printed_has_names, run_is_read_again}
 use Rattle.pcml_tool.specs.Run.{TellsRecord, TellsRun}
 
-pub tells_run : (s : Script) (rows : ℕ) (r : Record) (lines rest : List ℕ) → IsSpelled s → rows ≤ 1024 → TellsMaximalRun s.processes rows r → TellsRecord s r lines rest → TellsRun s rows lines rest
-tells_run s rows r lines rest spelled few run told =
+pub tells_run : (s : Script) (rows : ℕ) (r : Record) (lines rest : List ℕ) → IsSpelled s → rows ≤ 1024 → TellsMaximalRun s.processes rows r → (l : Ledger) × IsLawful l × Completes s.processes rows l r → TellsRecord s r lines rest → TellsRun s rows lines rest
+tells_run s rows r lines rest spelled few run (l, lawful, completes) told =
     record {
       journal = r.journal.items;
       run = run.journal;
@@ -25,6 +27,11 @@ tells_run s rows r lines rest spelled few run told =
           printed_has_names s spelled rows few r.journal.items run.journal.run t p.end p.printed (run.ends.each t p.end p.printed are.1 are.2);
       tail = r.tail;
       few = run.tail;
+      ledger = l;
+      lawful = lawful;
+      added = completes.added;
+      whole = completes.whole;
+      counted = completes.tail_is;
       are = told.are_lines;
       is = told.is;
     }

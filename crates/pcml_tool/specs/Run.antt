@@ -1,8 +1,9 @@
 -- What running a script prints.
-use Rattle.std.specs.Prelude.{◌≡◌, ◌≤◌, ℕ, List, [], ◌∷◌, ◌++◌, length, codes, map, Some, slice_get}
+use Rattle.std.specs.Prelude.{◌≡◌, ◌≤◌, ℕ, List, [], ◌∷◌, ◌++◌, length, codes, map, Some, slice_get, IsPermutation}
 use Rattle.std.specs.List.{AllByRecursion}
 use Rattle.std.specs.Fmt.{decimal}
 use Rattle.protocol_values.specs.declared.Commit.{Commit}
+use Rattle.protocol.specs.Ledgers.{IsLawful, Ledger, commits_in}
 use Rattle.script.specs.Sources.{Script}
 use Rattle.journal_text.specs.Journals.{HasAtom, Spells}
 use Rattle.journal_text.specs.Names.{names_of, named}
@@ -35,6 +36,12 @@ pub record TellsRun (s : Script) (rows : ℕ) (lines rest : List ℕ) : Type 0 w
   pub nameable : (t : ℕ) (p : Standing) → slice_get standing t ≡ Some p → AllByRecursion (HasAtom (names_of s)) p.printed
   pub tail : ℕ
   pub few : tail ≤ length journal
+  -- it counts the commits that a lawful ledger did not have
+  pub ledger : Ledger
+  pub lawful : IsLawful ledger
+  pub added : List Commit
+  pub whole : IsPermutation (commits_in ledger ++ added) journal
+  pub counted : length added ≡ tail
   pub are : lines ≡ commits_text (named s) journal
   pub is : rest ≡ process_lines (named s) standing ++ tail_line (length journal) tail
 

@@ -14,4 +14,4 @@ pub returns-in-Ok-clause-ran : goal.returns-in-Ok-clause-ran
 returns-in-Ok-clause-ran g c =
     let told = c.in_ok-record.ensures in
     let few : c.args.rows ≤ 1024 = rows_are_few c.args.workers c.args.rows _ _ told.workers.1 told.rows.1 (λ e. absurd cc) (λ e. absurd cc) in
-    tells_run (script_of c.args.script.now) c.args.rows c.in_ok-record.record _ _ c.args.script.now.spelled few told.headline c.in-Ok.ensures.tells
+    tells_run (script_of c.args.script.now) c.args.rows c.in_ok-record.record _ _ c.args.script.now.spelled few told.headline told.completes c.in-Ok.ensures.tells
