@@ -1,6 +1,7 @@
-//! `test_memory`: makes calls while memory runs out at each place inside them in turn, and sees that each
-//! gives the error for want of memory, or its answer with ample memory. With a word, it tells on the error
-//! stream how often each call was refused.
+//! `test_memory`: makes calls with more and more memory left, from none on, by 32 to 256 bytes more each
+//! time, and sees that each gives the error for want of memory, or its answer with ample memory. Requests
+//! that are smaller than a step may be refused together. With a word, it tells on the error stream how often
+//! each call was refused.
 #![tactic(auto)]
 
 mod examples;

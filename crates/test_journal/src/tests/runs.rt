@@ -1,16 +1,12 @@
 //! Sequential runs: what follows what, and where a script ends.
 
-use super::{ONE_SEND, check_same};
+use super::{ONE_SEND, SERVER, check_same};
 use journal_replay::{End, ReplayFault, State, replay, settle};
 use protocol_values::{Atom, Cause, Commit, Message, NackName, Row};
 use script::parse;
 use std::alloc::Global;
 use std::process::Abort;
 use std::test::Fail;
-
-/// A client whose nack the server waits for, once the client took something else.
-const SERVER: &str =
-    "channel rep; channel req; channel go; process client { x <- sync choose [nack n { sync send req (rep, n); } recv rep, recv go]; print x; } process server { r, n <- sync recv req; sync send go (9); k <- sync choose [wrap send r (7) to (1), wrap cancelled n to (2)]; print k; }";
 
 /// Two nacks, of which the outer one encloses what is chosen.
 const NESTED: &str =
