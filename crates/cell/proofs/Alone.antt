@@ -2,7 +2,7 @@
 use Rattle.std.proofs.Common.{rules, ◌⊎◌, ◌≡◌, ◌≢◌, ℕ, ◌+◌, ◌≤◌, ◌<◌, ◌^◌, max, List, sym, refl, ap, ◌∙◌, subst, inl, inr, arith, Some, None}
 use Rattle.protocol_values.specs.Words.{IsJoinedInRange}
 use Rattle.protocol_values.specs.declared.Base.{Base}
-use Rattle.protocol_values.specs.declared.Base.TheVariants.{Send, Recv, Always, OnNack, Never}
+use Rattle.protocol_values.specs.declared.Base.TheVariants.{Send, Recv, Always, OnNack, OnEnd, Never}
 use Rattle.protocol_values.specs.declared.Binding.{Binding}
 use Rattle.protocol_values.specs.declared.NackName.{NackName}
 use Rattle.protocol_values.specs.declared.Offer.{Offer}
@@ -43,6 +43,7 @@ cause_more About s t (Send c m) stamp l h = absurd h
 cause_more About s t (Recv c) stamp l h = absurd h
 cause_more About s t (Always m) stamp l h = h
 cause_more About s t (OnNack n) stamp l h = (h.0, enabled_more About s t n h.0 l h.1, h.2)
+cause_more About s t (OnEnd p) stamp l h = absurd h
 cause_more About s t Never stamp l h = absurd h
 
 can_more : {Nacks : NackName → Type 0} (About : Row → Type 0) (s t : Seen) (r : Row) (n : ℕ) (j : Joined) → LearnsOf About Nacks s t → CanGrant s r n j → CanGrant t r n j

@@ -6,7 +6,7 @@ use Rattle.protocol_values.specs.declared.Offer.{Offer}
 use Rattle.protocol_values.specs.declared.Row.{Row}
 use Rattle.protocol_values.specs.declared.Joined.{Joined}
 use Rattle.protocol_values.specs.declared.Base.{Base}
-use Rattle.protocol_values.specs.declared.Base.TheVariants.{Send, Recv, Always, OnNack, Never}
+use Rattle.protocol_values.specs.declared.Base.TheVariants.{Send, Recv, Always, OnNack, OnEnd, Never}
 use Rattle.protocol_values.specs.declared.Message.{Message}
 use Rattle.protocol.specs.Tables.{offers_meet, is_partner, is_fresh}
 use Rattle.protocol_values.specs.Values.{bases_meet, joined_of}
@@ -197,6 +197,7 @@ recv_meets mine theirs chan e meet = sends theirs.base refl (sym (ap (λ (b : Ba
     sends (Recv d) f h = let bad : false ≡ true = sym (ap (bases_meet (Recv chan)) f) ∙ h in cc
     sends (Always m) f h = let bad : false ≡ true = sym (ap (bases_meet (Recv chan)) f) ∙ h in cc
     sends (OnNack n) f h = let bad : false ≡ true = sym (ap (bases_meet (Recv chan)) f) ∙ h in cc
+    sends (OnEnd p) f h = let bad : false ≡ true = sym (ap (bases_meet (Recv chan)) f) ∙ h in cc
     sends Never f h = let bad : false ≡ true = sym (ap (bases_meet (Recv chan)) f) ∙ h in cc
 
 -- a row whose offer was chosen does not lack it

@@ -94,7 +94,7 @@ pub(crate) fn cause_of<M: Resident>(
             let joined = enabled_by(board, seat, nack)?;
             Some(joined.stamp)
         }
-        Base::Send(..) | Base::Recv(_) | Base::Never => None,
+        Base::Send(..) | Base::Recv(_) | Base::OnEnd(_) | Base::Never => None,
     }
 }
 

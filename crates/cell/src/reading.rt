@@ -202,7 +202,7 @@ fn gained<M: Resident>(
     match opened_offer(board, seat, row, joined.own)?.base {
         Base::Always(message) => Some(message),
         Base::Recv(_) => received(board, seat, row, joined),
-        Base::Send(..) | Base::OnNack(_) | Base::Never => Some(Message::Empty),
+        Base::Send(..) | Base::OnNack(_) | Base::OnEnd(_) | Base::Never => Some(Message::Empty),
     }
 }
 
@@ -235,6 +235,6 @@ pub(crate) fn atoms_told(direction: Direction) -> u8
 {
     match direction {
         Direction::Send { atoms, .. } | Direction::Always { atoms } => atoms,
-        Direction::Recv { .. } | Direction::OnNack(_) | Direction::Never => 0,
+        Direction::Recv { .. } | Direction::OnNack(_) | Direction::OnEnd(_) | Direction::Never => 0,
     }
 }

@@ -11,7 +11,7 @@ use Rattle.protocol_values.specs.declared.NackName.{NackName}
 use Rattle.protocol_values.specs.declared.Row.{Row}
 use Rattle.protocol_values.specs.declared.Seat.{Seat}
 use Rattle.protocol_values.specs.declared.Step.{Step}
-use Rattle.protocol_values.specs.declared.Step.TheVariants.{Draft, Open, Look, Read, Claim, Yield, Join, Seal, Grant, Take, Bind}
+use Rattle.protocol_values.specs.declared.Step.TheVariants.{Draft, Open, Look, Read, Claim, Yield, Join, Seal, Grant, Take, Bind, Start, Finish}
 use Rattle.protocol.specs.Kept.{Kept}
 use Rattle.protocol.specs.Tables.{Table, binding_at, bound_row, is_fresh, is_row, synched_of}
 use Rattle.protocol.specs.Worlds.{Allowed, Plays, World, after_step, nack_of_row, namer_at, sealed_by, with_cell, with_seal, with_take}
@@ -54,6 +54,8 @@ step_binds w seat (Bind m x scope) n b k a e =
     (λ (old : binding_at w.table n ≡ Some b). inl old)
     (λ (new : (nack_of_row x m ≡ n) × (record { sync = x.sync; scope = scope } ≡ b)). inr (λ i. bind_of (new.0 i) (new.1 i)))
     (binding_was w.table (nack_of_row x m) (record { sync = x.sync; scope = scope }) k.sized (nack_from w.table (nack_of_row x m) (row_inside w.table x row).0 a.1.2) (bind_in_range w x scope k row a.1.3) n b e)
+step_binds w seat (Start x thread) n b k a e = inl e
+step_binds w seat (Finish x) n b k a e = inl e
 
 -- A HISTORY: what is bound after it, and was not before, was bound by a move
 move_binds : (w v : World) (moves : List Move) (n : NackName) (b : Binding) → Kept w → Plays w (in_order moves) v → binding_at v.table n ≡ Some b → (binding_at w.table n ≡ Some b) ⊎ ((m : Move) × Has moves m × (m.step ≡ bind_of n b))

@@ -29,7 +29,7 @@ use Rattle.cell_table.specs.Rule.{IsToBegin, Keeps}
 use Rattle.cell_table.proofs.Standing.{is_earlier}
 use Rattle.protocol.specs.Standing.{Stands}
 use Rattle.protocol_values.specs.declared.Step.{Step}
-use Rattle.protocol_values.specs.declared.Step.TheVariants.{Draft, Open, Look, Read, Claim, Yield, Join, Seal, Grant, Take, Bind}
+use Rattle.protocol_values.specs.declared.Step.TheVariants.{Draft, Open, Look, Read, Claim, Yield, Join, Seal, Grant, Take, Bind, Start, Finish}
 use Rattle.protocol_values.specs.declared.Cell.{Cell}
 use Rattle.protocol_values.specs.declared.Cell.TheVariants.{Fresh, Waiting, Claimed, Synched, Taken}
 use Rattle.cell_table.specs.Told.{AgreesNack, AgreesWithItself, AtNack, InsideNack, IsEarlier, looked_nack, nack_read, tried_bind}
@@ -234,6 +234,8 @@ module _ {M : Type 0} (stands : Stands M) where
         row_bound (Grant x n) = x
         row_bound (Take x) = x
         row_bound (Bind n x scope) = x
+        row_bound (Start x thread) = x
+        row_bound (Finish x) = x
 
         binds : Keeps stands shape (stepped s place (nack_word (Some b)) id me.1 (did (bind_of nack b) (bound_nack nack b me.0)) keeps)
         unfolding with_nack row_bound

@@ -4,7 +4,7 @@ use Rattle.std.proofs.lemmas.Bool.{true≢false}
 use Rattle.protocol_values.specs.Words.{count_of, head_of, atom_of, offer_of, base_of}
 use Rattle.protocol_values.specs.declared.Atom.{Atom}
 use Rattle.protocol_values.specs.declared.Direction.{Direction}
-use Rattle.protocol_values.specs.declared.Direction.TheVariants.{Send, Recv, Always, OnNack, Never}
+use Rattle.protocol_values.specs.declared.Direction.TheVariants.{Send, Recv, Always, OnNack, OnEnd, Never}
 use Rattle.protocol_values.specs.declared.Head.{Head}
 use Rattle.protocol_values.specs.declared.Offer.{Offer}
 use Rattle.protocol_values.specs.declared.Row.{Row}
@@ -123,14 +123,17 @@ bases_meet_as (Send c m) (Send k p) x y z u v w = refl
 bases_meet_as (Send c m) (Recv k) x y z u v w = refl
 bases_meet_as (Send c m) (Always p) x y z u v w = refl
 bases_meet_as (Send c m) (OnNack k) x y z u v w = refl
+bases_meet_as (Send c m) (OnEnd p) x y z u v w = refl
 bases_meet_as (Send c m) Never x y z u v w = refl
 bases_meet_as (Recv c) (Send k p) x y z u v w = refl
 bases_meet_as (Recv c) (Recv k) x y z u v w = refl
 bases_meet_as (Recv c) (Always p) x y z u v w = refl
 bases_meet_as (Recv c) (OnNack k) x y z u v w = refl
+bases_meet_as (Recv c) (OnEnd p) x y z u v w = refl
 bases_meet_as (Recv c) Never x y z u v w = refl
 bases_meet_as (Always m) e x y z u v w = refl
 bases_meet_as (OnNack k) e x y z u v w = refl
+bases_meet_as (OnEnd p) e x y z u v w = refl
 bases_meet_as Never e x y z u v w = refl
 
 pub offers_meet_as : (d e : Direction) (a b : Offer) → GoesIn d a → GoesIn e b → offers_meet (Some a) (Some b) ≡ directions_meet d e

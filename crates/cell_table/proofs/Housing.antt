@@ -11,7 +11,7 @@ use Rattle.protocol_values.specs.declared.Joined.{Joined}
 use Rattle.protocol_values.specs.declared.Row.{Row}
 use Rattle.protocol_values.specs.declared.Seat.{Seat}
 use Rattle.protocol_values.specs.declared.Step.{Step}
-use Rattle.protocol_values.specs.declared.Step.TheVariants.{Draft, Open, Look, Read, Claim, Yield, Join, Seal, Grant, Take, Bind}
+use Rattle.protocol_values.specs.declared.Step.TheVariants.{Draft, Open, Look, Read, Claim, Yield, Join, Seal, Grant, Take, Bind, Start, Finish}
 use Rattle.protocol.specs.Growing.{GrowsTo}
 use Rattle.protocol.specs.Kept.{Kept}
 use Rattle.protocol.specs.Ledgers.{ledger_of}
@@ -131,6 +131,8 @@ opened_none stands t (Seal r) never = tt
 opened_none stands t (Grant r n) never = tt
 opened_none stands t (Take r) never = tt
 opened_none stands t (Bind n r scope) never = tt
+opened_none stands t (Start r thread) never = tt
+opened_none stands t (Finish r) never = tt
 
 -- A ROW IS TAKEN: its pass is to begin with no other row than before, since a thread's next row is not its first
 held_case : (b : Bool) (t s : Seen) (x q : Row) → t.held ≡ x ∷ s.held → (x ≡ q → ⊥) → Has (cond b t s).held q → Has s.held q
@@ -303,6 +305,8 @@ module _ {M : Type 0} (stands : Stands M) (first : List M) where
         row_in (Grant x n) = r
         row_in (Take x) = r
         row_in (Bind n x scope) = r
+        row_in (Start x thread) = r
+        row_in (Finish x) = r
 
     pub housed_open : Housed stands first opened_world filled (slice_set vs id u)
     housed_open = record {

@@ -102,6 +102,7 @@ base_same (direction.Send chan atoms) a b c x y z e f g = ap (base.Send chan) (m
 base_same (direction.Recv chan) a b c x y z e f g = refl
 base_same (direction.Always atoms) a b c x y z e f g = ap base.Always (message_same atoms a b c x y z e f g)
 base_same (direction.OnNack n) a b c x y z e f g = refl
+base_same (direction.OnEnd p) a b c x y z e f g = refl
 base_same direction.Never a b c x y z e f g = refl
 
 -- what the words of an offer stand for, one by one

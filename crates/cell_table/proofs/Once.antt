@@ -6,7 +6,7 @@ use lib.ListN.{get_elem?}
 use Rattle.protocol_values.specs.Words.{cell_of, cell_word}
 use Rattle.protocol_values.specs.declared.Seat.{Seat}
 use Rattle.protocol_values.specs.declared.Step.{Step}
-use Rattle.protocol_values.specs.declared.Step.TheVariants.{Draft, Open, Look, Read, Claim, Yield, Join, Seal, Grant, Take, Bind}
+use Rattle.protocol_values.specs.declared.Step.TheVariants.{Draft, Open, Look, Read, Claim, Yield, Join, Seal, Grant, Take, Bind, Start, Finish}
 use Rattle.protocol_values.specs.declared.NackName.{NackName}
 use Rattle.protocol_values.specs.declared.Row.{Row}
 use Rattle.protocol_values.specs.declared.Joined.{Joined}
@@ -77,6 +77,8 @@ taken_stays w seat (Take x) a r h =
 taken_stays w seat (Bind k x scope) a r h =
     let inside = row_inside w.table x (held_row w x seat.0 a.1.0) in
     ap is_taken (cell_after_bind w.table (nack_of_row x k) (record { sync = x.sync; scope = scope }) r (nack_from w.table (nack_of_row x k) inside.0 a.1.2)) ∙ h
+taken_stays w seat (Start x thread) a r h = h
+taken_stays w seat (Finish x) a r h = h
 
 -- A HISTORY takes each row once
 pub last_played : (w v : World) (steps : List (Seat × Step)) (s : Seat × Step) → Plays w (steps ++ s ∷ []) v → (u : World) × Plays w steps u × Allowed u s.0 s.1 × (v ≡ after_step u s.0 s.1)

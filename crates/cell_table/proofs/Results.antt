@@ -2,7 +2,7 @@
 use Rattle.std.proofs.Common.{◌≡◌, ℕ, ◌≤◌, ◌+◌, ◌*◌, List, sym, ap, ◌∙◌, subst, inl, inr, Some}
 use Rattle.protocol_values.specs.Words.{message_in}
 use Rattle.protocol_values.specs.declared.Base.{Base}
-use Rattle.protocol_values.specs.declared.Base.TheVariants.{Send, Recv, Always, OnNack, Never}
+use Rattle.protocol_values.specs.declared.Base.TheVariants.{Send, Recv, Always, OnNack, OnEnd, Never}
 use Rattle.protocol_values.specs.declared.Message.{Message}
 use Rattle.protocol_values.specs.declared.Offer.{Offer}
 use Rattle.protocol_values.specs.declared.Row.{Row}
@@ -41,6 +41,7 @@ gets_one threads rows s j (Recv c) x y agree (p, d, o, e, sees, is) (p', d', o',
     one_message d d' x y (sym is ∙ ap (λ (z : Offer). z.base) one ∙ is')
 gets_one threads rows s j (Always m) x y agree g h = g ∙ sym h
 gets_one threads rows s j (OnNack n) x y agree g h = g ∙ sym h
+gets_one threads rows s j (OnEnd p) x y agree g h = g ∙ sym h
 gets_one threads rows s j Never x y agree g h = g ∙ sym h
 
 pub one_result : (threads rows : ℕ) (s : Seen) (r : Row) (x y : Message) → Coherent threads rows s → IsResult s r x → IsResult s r y → x ≡ y
@@ -54,6 +55,7 @@ gets_more About s t j (Send c m) x l g = g
 gets_more About s t j (Recv c) x l (p, d, o, e, sees, is) = (p, d, o, e, sees_more About s t p.0 p.1 o l sees, is)
 gets_more About s t j (Always m) x l g = g
 gets_more About s t j (OnNack n) x l g = g
+gets_more About s t j (OnEnd p) x l g = g
 gets_more About s t j Never x l g = g
 
 pub result_more : (About : Row → Type 0) (s t : Seen) (r : Row) (x : Message) → Learns About s t → IsResult s r x → IsResult t r x

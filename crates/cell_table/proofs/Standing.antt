@@ -5,7 +5,7 @@ use Rattle.std.proofs.lemmas.Bool.{cases_lt}
 use lib.Seq.{length-take-le}
 use Rattle.protocol_values.specs.Words.{count_of}
 use Rattle.protocol_values.specs.declared.Base.{Base}
-use Rattle.protocol_values.specs.declared.Base.TheVariants.{Send, Recv, Always, OnNack, Never}
+use Rattle.protocol_values.specs.declared.Base.TheVariants.{Send, Recv, Always, OnNack, OnEnd, Never}
 use Rattle.protocol_values.specs.declared.Binding.{Binding}
 use Rattle.protocol_values.specs.declared.Joined.{Joined}
 use Rattle.protocol_values.specs.declared.Message.{Message}
@@ -70,6 +70,7 @@ module _ {M : Type 0} (stands : Stands M) (first : List M) where
     receives r j (Recv c) got (p, d, o, partner, sees, is) = (p, d, o, partner, offers-of w.table p.0 p.1 ∙ sees_known w owner id v p.0 p.1 o known k sees, is)
     receives r j (Always m) got g = g
     receives r j (OnNack n) got g = g
+    receives r j (OnEnd p) got g = g
     receives r j Never got g = g
 
     pub comes_out : (r : Row) (j : Joined) (results : List Result) (value : M) → joined_at w.table r ≡ Some j → length results ≡ r.sync + 1 → AreResults (ledger_of w.table) r.thread results → OffersAs (stands first value) (ledger_of w.table) r

@@ -11,7 +11,7 @@ use Rattle.protocol_values.specs.declared.Cell.{Cell}
 use Rattle.protocol.specs.Tables.{Table, is_fresh, cell_at, joined_at, offers_meet, offer_at, count_at, row_stamp, last_stamp, word_at, stands_alone, binding_at, bound_row, encloses, nack_by, stamped, cause_by, cause_of, cause_at, is_taken}
 use Rattle.protocol_values.specs.Values.{joined_of}
 use Rattle.protocol_values.specs.declared.Base.{Base}
-use Rattle.protocol_values.specs.declared.Base.TheVariants.{Send, Recv, Always, OnNack, Never}
+use Rattle.protocol_values.specs.declared.Base.TheVariants.{Send, Recv, Always, OnNack, OnEnd, Never}
 use Rattle.protocol.specs.Worlds.{World, joined_with, granted_by}
 use Rattle.protocol.specs.Kept.{IsFormed, Kept, IsSideOf}
 use Rattle.protocol.proofs.Readings.{count_open, row_of_open, offer_none, joined_ranged, nack_of_bound, binding_ranged}
@@ -124,6 +124,7 @@ module _ {M : Type 0} where
     cause_known (Recv c) s h = absurd h
     cause_known (Always m) s h = ap (λ (x : ℕ). Some x) (sym h)
     cause_known (OnNack n) s h = ap stamped (enabled_known n h.0 h.1) ∙ ap (λ (x : ℕ). Some x) (sym h.2)
+    cause_known (OnEnd p) s h = absurd h
     cause_known Never s h = absurd h
 
     pub granted_known : (r : Row) (n : ℕ) (j : Joined) (can : CanGrant v.seen r n j) → (cause_at w.table r n ≡ Some can.cause) × (granted_by w.table r n ≡ j)

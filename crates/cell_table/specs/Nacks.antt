@@ -1,7 +1,7 @@
 -- What a pass knows of nacks, and of a row before it grants it.
 use Rattle.std.specs.Prelude.{◌≡◌, ℕ, ◌+◌, max, false, None}
 use Rattle.protocol_values.specs.declared.Base.{Base}
-use Rattle.protocol_values.specs.declared.Base.TheVariants.{Send, Recv, Always, OnNack, Never}
+use Rattle.protocol_values.specs.declared.Base.TheVariants.{Send, Recv, Always, OnNack, OnEnd, Never}
 use Rattle.protocol_values.specs.declared.NackName.{NackName}
 use Rattle.protocol_values.specs.declared.Binding.{Binding}
 use Rattle.protocol_values.specs.declared.Offer.{Offer}
@@ -32,6 +32,7 @@ SawCause s (Send c m) stamp = ⊥
 SawCause s (Recv c) stamp = ⊥
 SawCause s (Always m) stamp = stamp ≡ 0
 SawCause s (OnNack n) stamp = (j : Joined) × SawEnabled s n j × (stamp ≡ j.stamp)
+SawCause s (OnEnd p) stamp = ⊥
 SawCause s Never stamp = ⊥
 
 -- offer n of the row was seen, and what lets it commit the row alone

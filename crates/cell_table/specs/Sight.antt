@@ -5,7 +5,7 @@ use Rattle.protocol_values.specs.declared.Direction.{Direction}
 use Rattle.protocol_values.specs.declared.Direction.TheVariants as direction
 use Rattle.protocol_values.specs.declared.Head.{Head}
 use Rattle.protocol_values.specs.declared.Base.{Base}
-use Rattle.protocol_values.specs.declared.Base.TheVariants.{Send, Recv, Always, OnNack, Never}
+use Rattle.protocol_values.specs.declared.Base.TheVariants.{Send, Recv, Always, OnNack, OnEnd, Never}
 use Rattle.protocol_values.specs.declared.Message.{Message}
 use Rattle.protocol_values.specs.declared.Message.TheVariants.{Empty}
 use Rattle.protocol_values.specs.declared.Offer.{Offer}
@@ -112,6 +112,7 @@ atoms_told (direction.Send chan atoms) = atoms
 atoms_told (direction.Recv chan) = 0
 atoms_told (direction.Always atoms) = atoms
 atoms_told (direction.OnNack n) = 0
+atoms_told (direction.OnEnd p) = 0
 atoms_told direction.Never = 0
 
 abbrev pub atoms_in : Option Head → ℕ
@@ -204,6 +205,7 @@ Gets s j (Send c m) got = got ≡ Empty
 Gets s j (Recv c) got = (p : Row × ℕ) × (d : ℕ) × (o : Offer) × (j.partner ≡ Some p) × SeesOffer s p.0 p.1 o × (o.base ≡ Send d got)
 Gets s j (Always m) got = got ≡ m
 Gets s j (OnNack n) got = got ≡ Empty
+Gets s j (OnEnd p) got = got ≡ Empty
 Gets s j Never got = got ≡ Empty
 
 abbrev pub IsResult : Seen → Row → Message → Type 0

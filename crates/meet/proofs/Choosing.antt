@@ -4,7 +4,7 @@ use Rattle.std.specs.Prelude.{Option, unwrap_or, IfOk, Result, Ok, Err}
 use Rattle.std.proofs.lemmas.Bool.{ltb-false, ltb-true}
 use Rattle.std.proofs.lemmas.Bool.Decides.{eqb_tells}
 use Rattle.protocol_values.specs.declared.Direction.{Direction}
-use Rattle.protocol_values.specs.declared.Direction.TheVariants.{Always, Never, OnNack, Recv, Send}
+use Rattle.protocol_values.specs.declared.Direction.TheVariants.{Always, Never, OnEnd, OnNack, Recv, Send}
 use Rattle.protocol_values.specs.declared.Row.{Row}
 use Rattle.cell_table.specs.Sight.{SeesDirection}
 use Rattle.cell_table.specs.declared.view.Seen.{Seen}
@@ -23,6 +23,7 @@ waits_once meet (Send chan atoms) a b first last = first.1 ∙ sym last.1
 waits_once meet (Recv chan) a b first last = first.1 ∙ sym last.1
 waits_once meet (OnNack nack) a b first last = first.1 ∙ sym last.1
 waits_once meet (Always atoms) a b first last = absurd first
+waits_once meet (OnEnd thread) a b first last = absurd first
 waits_once meet Never a b first last = absurd first
 
 -- and there is such a room
@@ -31,6 +32,7 @@ waits_within meet (Send chan atoms) at sized waits = let low = waits.0 in let is
 waits_within meet (Recv chan) at sized waits = let low = waits.0 in let is = waits.1 in omega arith
 waits_within meet (OnNack nack) at sized waits = let low = waits.0 in let is = waits.1 in omega arith
 waits_within meet (Always atoms) at sized waits = absurd waits
+waits_within meet (OnEnd thread) at sized waits = absurd waits
 waits_within meet Never at sized waits = absurd waits
 
 pub put_where : {E : Type 0} (meet : Meet) (rooms : List Room) (d : Direction) (found : ℕ) (mine : Offered) (ps qs : List LanePass) (r : Result (Unit {0}) E) → length meet.rooms.items ≡ 2 * meet.channels + meet.threads

@@ -1,7 +1,7 @@
 -- Which passes are of which rooms.
 use Rattle.std.specs.Prelude.{◌≡◌, ◌⊎◌, ℕ, ◌+◌, ◌*◌, ◌<◌, ◌≤◌, ◌^◌, ◌-◌, ⊤, List, [], ◌∷◌, ◌++◌, All, length, map, set, slice_get, Some}
 use Rattle.protocol_values.specs.declared.Direction.{Direction}
-use Rattle.protocol_values.specs.declared.Direction.TheVariants.{Always, Never, OnNack, Recv, Send}
+use Rattle.protocol_values.specs.declared.Direction.TheVariants.{Always, Never, OnEnd, OnNack, Recv, Send}
 use Rattle.protocol_values.specs.declared.Row.{Row}
 use Rattle.cell.specs.Calls.{GridOf}
 use Rattle.cell_table.specs.Sight.{Has, SeesDirection}
@@ -72,6 +72,7 @@ WaitsIn meet (Send chan atoms) at = (chan < meet.channels) × (at ≡ chan)
 WaitsIn meet (Recv chan) at = (chan < meet.channels) × (at ≡ meet.channels + chan)
 WaitsIn meet (OnNack nack) at = (nack.thread < meet.threads) × (at ≡ 2 * meet.channels + nack.thread)
 WaitsIn meet (Always atoms) at = ⊥
+WaitsIn meet (OnEnd thread) at = ⊥
 WaitsIn meet Never at = ⊥
 
 -- the room in which those wait whom such an offer can meet
@@ -80,6 +81,7 @@ MeetsIn meet (Send chan atoms) at = (chan < meet.channels) × (at ≡ meet.chann
 MeetsIn meet (Recv chan) at = (chan < meet.channels) × (at ≡ chan)
 MeetsIn meet (OnNack nack) at = ⊥
 MeetsIn meet (Always atoms) at = ⊥
+MeetsIn meet (OnEnd thread) at = ⊥
 MeetsIn meet Never at = ⊥
 
 -- each offer of the row that had been seen, and has a room, was put there meanwhile

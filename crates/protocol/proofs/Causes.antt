@@ -4,7 +4,7 @@ use Rattle.protocol_values.specs.declared.Message.{Message}
 use Rattle.protocol_values.specs.declared.NackName.{NackName}
 use Rattle.protocol_values.specs.declared.Binding.{Binding}
 use Rattle.protocol_values.specs.declared.Base.{Base}
-use Rattle.protocol_values.specs.declared.Base.TheVariants.{Send, Recv, Always, OnNack, Never}
+use Rattle.protocol_values.specs.declared.Base.TheVariants.{Send, Recv, Always, OnNack, OnEnd, Never}
 use Rattle.protocol_values.specs.declared.Offer.{Offer}
 use Rattle.protocol_values.specs.declared.Row.{Row}
 use Rattle.protocol_values.specs.declared.Joined.{Joined}
@@ -69,6 +69,7 @@ cause_is joined offer bound (Some x) s h = by_base x.base refl h
     by_base (Recv c) e h = let bad : None ≡ Some s = h in cc
     by_base (Always m) e h = inl (m, x, refl, e, sym (some_inj 0 s h))
     by_base (OnNack n) e h = let j = stamped_some (nack_by joined offer bound n) s h in inr (n, j.0, x, refl, e, j.1, j.2)
+    by_base (OnEnd p) e h = let bad : None ≡ Some s = h in cc
     by_base Never e h = let bad : None ≡ Some s = h in cc
 
 -- an offer that has a cause is an always or a nack

@@ -65,6 +65,7 @@ taken_open t r c n law h k = open_of_count t r n (offer_counted t r n (by_commit
     by_cause : (at : Row × ℕ) (k : Cause) → IsCaused (joined_at t) (offer_at t) (binding_at t) at k → at ≡ (r, n) → is_some (offer_at t r n) ≡ true
     by_cause at (cause.Always m) o e = there at (Always m) o e
     by_cause at (cause.Nack x) o e = there at (OnNack x) o.0 e
+    by_cause at (cause.End x) o e = absurd o
 
     by_commit : (c : Commit) → Fits (joined_at t) (offer_at t) (binding_at t) c → Takes c r n → is_some (offer_at t r n) ≡ true
     by_commit (Pair s v chan m stamp) f k = ⊎_elim

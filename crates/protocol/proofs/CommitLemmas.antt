@@ -9,7 +9,7 @@ use Rattle.protocol_values.specs.declared.Binding.{Binding}
 use Rattle.protocol_values.specs.declared.Joined.{Joined}
 use Rattle.protocol_values.specs.declared.Offer.{Offer}
 use Rattle.protocol_values.specs.declared.Base.{Base}
-use Rattle.protocol_values.specs.declared.Base.TheVariants.{Send, Recv, Always, OnNack, Never}
+use Rattle.protocol_values.specs.declared.Base.TheVariants.{Send, Recv, Always, OnNack, OnEnd, Never}
 use Rattle.protocol_values.specs.declared.Commit.{Commit}
 use Rattle.protocol_values.specs.declared.Commit.TheVariants.{Pair, Alone}
 use Rattle.protocol_values.specs.Commits.{stamp_of}
@@ -41,6 +41,7 @@ by_alone r j (Always m) c h = alone_rows r j c _ _ refl h
 by_alone r j (OnNack n) c h = alone_rows r j c _ _ refl h
 by_alone r j (Send d m) c h = let bad : None ≡ Some c = h in cc
 by_alone r j (Recv d) c h = let bad : None ≡ Some c = h in cc
+by_alone r j (OnEnd n) c h = alone_rows r j c _ _ refl h
 by_alone r j Never c h = let bad : None ≡ Some c = h in cc
 
 sent_rows : (r : Row) (j : Joined) (p : Row × ℕ) (c : Commit) (chan : ℕ) (m : Rattle.protocol_values.specs.declared.Message.Message) → (c ≡ Pair (r, j.own) p chan m j.stamp) ⊎ (c ≡ Pair p (r, j.own) chan m j.stamp) → IsNamedBy r j (Some p) c
@@ -68,6 +69,7 @@ by_received r j p (Send d m) c h = sent_rows r j p c d m (inr (sym (some_inj _ c
 by_received r j p (Recv d) c h = let bad : None ≡ Some c = h in cc
 by_received r j p (Always m) c h = let bad : None ≡ Some c = h in cc
 by_received r j p (OnNack n) c h = let bad : None ≡ Some c = h in cc
+by_received r j p (OnEnd x) c h = let bad : None ≡ Some c = h in cc
 by_received r j p Never c h = let bad : None ≡ Some c = h in cc
 
 by_pair : (r : Row) (j : Joined) (p : Row × ℕ) (b : Base) (o : Option Offer) (c : Commit) → pair_by r j p b o ≡ Some c → IsNamedBy r j (Some p) c
@@ -76,6 +78,7 @@ by_pair r j p (Recv d) None c h = let bad : None ≡ Some c = h in cc
 by_pair r j p (Recv d) (Some o) c h = by_received r j p o.base c h
 by_pair r j p (Always m) o c h = let bad : None ≡ Some c = h in cc
 by_pair r j p (OnNack n) o c h = let bad : None ≡ Some c = h in cc
+by_pair r j p (OnEnd x) o c h = let bad : None ≡ Some c = h in cc
 by_pair r j p Never o c h = let bad : None ≡ Some c = h in cc
 
 by_offers : (offer : Row → ℕ → Option Offer) (r : Row) (j : Joined) (partner : Option (Row × ℕ)) (own : Option Offer) (c : Commit) → commit_by offer r j partner own ≡ Some c → IsNamedBy r j partner c
@@ -201,6 +204,7 @@ receives offer r j p c e s h =
     by_other (Recv d) k = let bad : None ≡ Some c = k in cc
     by_other (Always m) k = let bad : None ≡ Some c = k in cc
     by_other (OnNack n) k = let bad : None ≡ Some c = k in cc
+    by_other (OnEnd x) k = let bad : None ≡ Some c = k in cc
     by_other Never k = let bad : None ≡ Some c = k in cc
 
     by_base : (b : Base) (o : Option Offer) → sends b ≡ false → pair_by r j p b o ≡ Some c → (chan : ℕ) × (m : Rattle.protocol_values.specs.declared.Message.Message) × (c ≡ Pair p (r, j.own) chan m j.stamp)
@@ -209,6 +213,7 @@ receives offer r j p c e s h =
     by_base (Recv d) (Some o) s k = by_other o.base k
     by_base (Always m) o s k = let bad : None ≡ Some c = k in cc
     by_base (OnNack n) o s k = let bad : None ≡ Some c = k in cc
+    by_base (OnEnd x) o s k = let bad : None ≡ Some c = k in cc
     by_base Never o s k = let bad : None ≡ Some c = k in cc
 
     by_own : (o : Option Offer) → is_send o ≡ false → commit_by offer r j (Some p) o ≡ Some c → (chan : ℕ) × (m : Rattle.protocol_values.specs.declared.Message.Message) × (c ≡ Pair p (r, j.own) chan m j.stamp)

@@ -14,7 +14,7 @@ use Rattle.protocol_values.specs.declared.Offer.{Offer}
 use Rattle.protocol_values.specs.declared.Commit.{Commit}
 use Rattle.protocol_values.specs.declared.Seat.{Seat}
 use Rattle.protocol_values.specs.declared.Step.{Step}
-use Rattle.protocol_values.specs.declared.Step.TheVariants.{Draft, Open, Look, Read, Claim, Yield, Join, Seal, Grant, Take, Bind}
+use Rattle.protocol_values.specs.declared.Step.TheVariants.{Draft, Open, Look, Read, Claim, Yield, Join, Seal, Grant, Take, Bind, Start, Finish}
 use Rattle.protocol_values.specs.declared.Cell.{Cell}
 use Rattle.protocol_values.specs.declared.Cell.TheVariants.{Fresh, Waiting, Claimed, Synched, Taken}
 use Rattle.protocol_values.proofs.WordLemmas.{cell_of-zero}
@@ -625,6 +625,8 @@ kept_condition w seat (Seal row) k a = kept_seal w row k a.1 a.2
 kept_condition w seat (Grant row n) k a = kept_grant w row n k a.0 a.1
 kept_condition w seat (Take row) k a = kept_take w seat row k a
 kept_condition w seat (Bind n row scope) k a = kept_bind w row n scope seat.0 k a.0 a.2 a.3 a.4
+kept_condition w seat (Start row thread) k a = k
+kept_condition w seat (Finish row) k a = k
 
 pub kept_step : (w : World) (seat : Seat) (step : Step) → Kept w → Allowed w seat step → Kept (after_step w seat step)
 kept_step w seat step k a = kept_condition w seat step k a.1

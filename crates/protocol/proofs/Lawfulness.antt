@@ -5,7 +5,7 @@ use Rattle.protocol_values.specs.declared.Message.{Message}
 use Rattle.protocol_values.specs.declared.NackName.{NackName}
 use Rattle.protocol_values.specs.declared.Binding.{Binding}
 use Rattle.protocol_values.specs.declared.Base.{Base}
-use Rattle.protocol_values.specs.declared.Base.TheVariants.{Send, Recv, Always, OnNack, Never}
+use Rattle.protocol_values.specs.declared.Base.TheVariants.{Send, Recv, Always, OnNack, OnEnd, Never}
 use Rattle.protocol_values.specs.declared.Row.{Row}
 use Rattle.protocol_values.specs.declared.Joined.{Joined}
 use Rattle.protocol_values.specs.declared.Offer.{Offer}
@@ -48,6 +48,7 @@ by_bases offer r j p a b (Send d m) (Recv e) c x y u v h k =
     })
 by_bases offer r j p a b (Send d m) (Always n) c x y u v h k = absurd (false≢true h)
 by_bases offer r j p a b (Send d m) (OnNack n) c x y u v h k = absurd (false≢true h)
+by_bases offer r j p a b (Send d m) (OnEnd n) c x y u v h k = absurd (false≢true h)
 by_bases offer r j p a b (Send d m) Never c x y u v h k = absurd (false≢true h)
 by_bases offer r j p a b (Recv d) (Send e n) c x y u v h k =
     inr (record {
@@ -60,9 +61,11 @@ by_bases offer r j p a b (Recv d) (Send e n) c x y u v h k =
 by_bases offer r j p a b (Recv d) (Recv e) c x y u v h k = absurd (false≢true h)
 by_bases offer r j p a b (Recv d) (Always n) c x y u v h k = absurd (false≢true h)
 by_bases offer r j p a b (Recv d) (OnNack n) c x y u v h k = absurd (false≢true h)
+by_bases offer r j p a b (Recv d) (OnEnd n) c x y u v h k = absurd (false≢true h)
 by_bases offer r j p a b (Recv d) Never c x y u v h k = absurd (false≢true h)
 by_bases offer r j p a b (Always m) t c x y u v h k = absurd (false≢true h)
 by_bases offer r j p a b (OnNack m) t c x y u v h k = absurd (false≢true h)
+by_bases offer r j p a b (OnEnd n) t c x y u v h k = absurd (false≢true h)
 by_bases offer r j p a b Never t c x y u v h k = absurd (false≢true h)
 
 pub both_offers : (a b : Option Offer) → offers_meet a b ≡ true → (x : Offer) × (y : Offer) × (a ≡ Some x) × (b ≡ Some y) × (bases_meet x.base y.base ≡ true)
@@ -96,14 +99,17 @@ same_by_bases q j r n a b (Send d m) (Send e x) u v h = absurd (false≢true h)
 same_by_bases q j r n a b (Send d m) (Recv e) u v h = ap (received_by r (mirrored q j n) (q, j.own)) u
 same_by_bases q j r n a b (Send d m) (Always x) u v h = absurd (false≢true h)
 same_by_bases q j r n a b (Send d m) (OnNack x) u v h = absurd (false≢true h)
+same_by_bases q j r n a b (Send d m) (OnEnd x) u v h = absurd (false≢true h)
 same_by_bases q j r n a b (Send d m) Never u v h = absurd (false≢true h)
 same_by_bases q j r n a b (Recv d) (Send e x) u v h = sym (ap (received_by q j (r, n)) v)
 same_by_bases q j r n a b (Recv d) (Recv e) u v h = absurd (false≢true h)
 same_by_bases q j r n a b (Recv d) (Always x) u v h = absurd (false≢true h)
 same_by_bases q j r n a b (Recv d) (OnNack x) u v h = absurd (false≢true h)
+same_by_bases q j r n a b (Recv d) (OnEnd x) u v h = absurd (false≢true h)
 same_by_bases q j r n a b (Recv d) Never u v h = absurd (false≢true h)
 same_by_bases q j r n a b (Always m) t u v h = absurd (false≢true h)
 same_by_bases q j r n a b (OnNack m) t u v h = absurd (false≢true h)
+same_by_bases q j r n a b (OnEnd x) t u v h = absurd (false≢true h)
 same_by_bases q j r n a b Never t u v h = absurd (false≢true h)
 
 pub same_commit : (offer : Row → ℕ → Option Offer) (q : Row) (j : Joined) (r : Row) (n : ℕ) → j.partner ≡ Some (r, n) → offers_meet (offer q j.own) (offer r n) ≡ true → commit_named offer r (mirrored q j n) ≡ commit_named offer q j

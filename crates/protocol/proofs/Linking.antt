@@ -11,7 +11,7 @@ use Rattle.protocol_values.specs.declared.Row.{Row}
 use Rattle.protocol_values.specs.declared.Joined.{Joined}
 use Rattle.protocol_values.specs.declared.Offer.{Offer}
 use Rattle.protocol_values.specs.declared.Base.{Base}
-use Rattle.protocol_values.specs.declared.Base.TheVariants.{Send, Recv, Always, OnNack, Never}
+use Rattle.protocol_values.specs.declared.Base.TheVariants.{Send, Recv, Always, OnNack, OnEnd, Never}
 use Rattle.protocol_values.specs.declared.Commit.{Commit}
 use Rattle.protocol_values.specs.declared.Cell.{Cell}
 use Rattle.protocol_values.specs.declared.Cell.TheVariants.{Fresh, Waiting, Claimed, Synched, Taken}
@@ -192,9 +192,11 @@ pair_is_some r j p (Some a) (Some b) h =
         by_other (Recv d) h = absurd (false≢true h)
         by_other (Always m) h = absurd (false≢true h)
         by_other (OnNack n) h = absurd (false≢true h)
+        by_other (OnEnd x) h = absurd (false≢true h)
         by_other Never h = absurd (false≢true h)
     by_bases r j p (Always m) b h = absurd (false≢true h)
     by_bases r j p (OnNack n) b h = absurd (false≢true h)
+    by_bases r j p (OnEnd x) b h = absurd (false≢true h)
     by_bases r j p Never b h = absurd (false≢true h)
 
 pub named_some : (offer : Row → ℕ → Option Offer) (r : Row) (j : Joined) (p : Row × ℕ) → j.partner ≡ Some p → offers_meet (offer r j.own) (offer p.0 p.1) ≡ true → (c : Commit) × (commit_named offer r j ≡ Some c)
@@ -220,6 +222,7 @@ named_alone offer r j e h =
     by_base (Recv c) h = absurd (false≢true h)
     by_base (Always m) h = (_, refl)
     by_base (OnNack n) h = (_, refl)
+    by_base (OnEnd x) h = absurd (false≢true h)
     by_base Never h = absurd (false≢true h)
 
 eqb_swapped : (c d : ℕ) → eqb c d ≡ eqb d c
@@ -230,26 +233,37 @@ meets_swapped (Send c m) (Send d n) = refl
 meets_swapped (Send c m) (Recv d) = eqb_swapped c d
 meets_swapped (Send c m) (Always n) = refl
 meets_swapped (Send c m) (OnNack n) = refl
+meets_swapped (Send c m) (OnEnd x) = refl
 meets_swapped (Send c m) Never = refl
 meets_swapped (Recv c) (Send d n) = eqb_swapped c d
 meets_swapped (Recv c) (Recv d) = refl
 meets_swapped (Recv c) (Always n) = refl
 meets_swapped (Recv c) (OnNack n) = refl
+meets_swapped (Recv c) (OnEnd x) = refl
 meets_swapped (Recv c) Never = refl
 meets_swapped (Always m) (Send d n) = refl
 meets_swapped (Always m) (Recv d) = refl
 meets_swapped (Always m) (Always n) = refl
 meets_swapped (Always m) (OnNack n) = refl
+meets_swapped (Always m) (OnEnd x) = refl
 meets_swapped (Always m) Never = refl
 meets_swapped (OnNack m) (Send d n) = refl
 meets_swapped (OnNack m) (Recv d) = refl
 meets_swapped (OnNack m) (Always n) = refl
 meets_swapped (OnNack m) (OnNack n) = refl
+meets_swapped (OnNack m) (OnEnd x) = refl
 meets_swapped (OnNack m) Never = refl
+meets_swapped (OnEnd x) (Send d n) = refl
 meets_swapped Never (Send d n) = refl
+meets_swapped (OnEnd x) (Recv d) = refl
 meets_swapped Never (Recv d) = refl
+meets_swapped (OnEnd x) (Always n) = refl
 meets_swapped Never (Always n) = refl
+meets_swapped (OnEnd x) (OnNack n) = refl
+meets_swapped (OnEnd x) (OnEnd y) = refl
 meets_swapped Never (OnNack n) = refl
+meets_swapped Never (OnEnd x) = refl
+meets_swapped (OnEnd x) Never = refl
 meets_swapped Never Never = refl
 
 pub offers_swapped : (a b : Option Offer) → offers_meet a b ≡ true → offers_meet b a ≡ true
@@ -263,14 +277,17 @@ one_sends (Send c m) (Send d n) h = absurd (false≢true h)
 one_sends (Send c m) (Recv d) h = inl (refl, refl)
 one_sends (Send c m) (Always n) h = absurd (false≢true h)
 one_sends (Send c m) (OnNack n) h = absurd (false≢true h)
+one_sends (Send c m) (OnEnd x) h = absurd (false≢true h)
 one_sends (Send c m) Never h = absurd (false≢true h)
 one_sends (Recv c) (Send d n) h = inr (refl, refl)
 one_sends (Recv c) (Recv d) h = absurd (false≢true h)
 one_sends (Recv c) (Always n) h = absurd (false≢true h)
 one_sends (Recv c) (OnNack n) h = absurd (false≢true h)
+one_sends (Recv c) (OnEnd x) h = absurd (false≢true h)
 one_sends (Recv c) Never h = absurd (false≢true h)
 one_sends (Always m) b h = absurd (false≢true h)
 one_sends (OnNack m) b h = absurd (false≢true h)
+one_sends (OnEnd x) b h = absurd (false≢true h)
 one_sends Never b h = absurd (false≢true h)
 
 pub one_offer_sends : (a b : Option Offer) → offers_meet a b ≡ true → ((is_send a ≡ true) × (is_send b ≡ false)) ⊎ ((is_send a ≡ false) × (is_send b ≡ true))

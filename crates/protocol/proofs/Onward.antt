@@ -12,7 +12,7 @@ use Rattle.protocol_values.specs.declared.Offer.{Offer}
 use Rattle.protocol_values.specs.declared.Row.{Row}
 use Rattle.protocol_values.specs.declared.Seat.{Seat}
 use Rattle.protocol_values.specs.declared.Step.{Step}
-use Rattle.protocol_values.specs.declared.Step.TheVariants.{Draft, Open, Look, Read, Claim, Yield, Join, Seal, Grant, Take, Bind}
+use Rattle.protocol_values.specs.declared.Step.TheVariants.{Draft, Open, Look, Read, Claim, Yield, Join, Seal, Grant, Take, Bind, Start, Finish}
 use Rattle.protocol.specs.Growing.{CommitsStay, GrowsTo, TablesGrow}
 use Rattle.protocol.specs.Kept.{Kept}
 use Rattle.protocol.specs.Ledgers.{HasCommit, commit_by, commit_named, pair_by, ledger_of}
@@ -154,6 +154,8 @@ grows-condition w seat (Grant row n) k a =
     grows-unjoined w row (Synched (granted_by w.table row n)) k (row_of_open w.table row (ap is_fresh a.0)) (grant_in_range w row n s.0 k s.1) refl (ap joined_of a.0)
 grows-condition w seat (Take row) k a = grows-take w row k a
 grows-condition w seat (Bind n row scope) k a = grows-bind w row n scope seat.0 k a
+grows-condition w seat (Start row thread) k a = grows-same w.table
+grows-condition w seat (Finish row) k a = grows-same w.table
 
 -- A STEP, and any schedule
 pub grows-step : (w : World) (seat : Seat) (step : Step) → Kept w → Allowed w seat step → GrowsTo w.table (after_step w seat step).table
@@ -252,6 +254,8 @@ opens-condition w seat (Grant x n) k a r h =
     inl (cell-reopens w x (Synched (granted_by w.table x n)) k (grant_in_range w x n s.0 k s.1) (ap is_fresh a.0) r h)
 opens-condition w seat (Take x) k a r h = inl (take-opens w x k a r h)
 opens-condition w seat (Bind n x scope) k a r h = inl (ap is_fresh (sym (cell_after_bind w.table (nack_of_row x n) (record { sync = x.sync; scope = scope }) r (nack_of_thread w.table x n (held_row w x seat.0 a.0) a.2))) ∙ h)
+opens-condition w seat (Start x thread) k a r h = inl h
+opens-condition w seat (Finish x) k a r h = inl h
 
 -- a row that is opened after a step was opened before it, or the step opens it
 pub opens-step : (w : World) (seat : Seat) (step : Step) → Kept w → Allowed w seat step → (r : Row) → is_fresh (cell_at (after_step w seat step).table r) ≡ false → (is_fresh (cell_at w.table r) ≡ false) ⊎ (step ≡ Open r)
@@ -301,6 +305,8 @@ taken-condition w seat (Grant x n) k a r h =
     cell-taken w x (Synched (granted_by w.table x n)) k (row_of_open w.table x (ap is_fresh a.0)) (grant_in_range w x n s.0 k s.1) (untaken-cell w x Waiting (Synched (granted_by w.table x n)) a.0 refl) r h
 taken-condition w seat (Take x) k a r h = take-taken w x k a r h
 taken-condition w seat (Bind n x scope) k a r h = ap is_taken (cell_after_bind w.table (nack_of_row x n) (record { sync = x.sync; scope = scope }) r (nack_of_thread w.table x n (held_row w x seat.0 a.0) a.2)) ∙ h
+taken-condition w seat (Start x thread) k a r h = h
+taken-condition w seat (Finish x) k a r h = h
 
 pub taken-step : (w : World) (seat : Seat) (step : Step) → Kept w → Allowed w seat step → (r : Row) → is_taken (cell_at w.table r) ≡ true → is_taken (cell_at (after_step w seat step).table r) ≡ true
 taken-step w seat step k a r h = taken-condition w seat step k a.1 r h

@@ -15,7 +15,7 @@ use Rattle.protocol_values.specs.declared.Row.{Row}
 use Rattle.protocol_values.specs.declared.Joined.{Joined}
 use Rattle.protocol_values.specs.declared.Offer.{Offer}
 use Rattle.protocol_values.specs.declared.Base.{Base}
-use Rattle.protocol_values.specs.declared.Base.TheVariants.{Send, Recv, Always, OnNack, Never}
+use Rattle.protocol_values.specs.declared.Base.TheVariants.{Send, Recv, Always, OnNack, OnEnd, Never}
 use Rattle.protocol_values.specs.declared.Commit.{Commit}
 use Rattle.protocol_values.specs.declared.Commit.TheVariants.{Pair, Alone}
 use Rattle.protocol_values.specs.declared.NackName.{NackName}
@@ -38,6 +38,7 @@ sends_first offer r j p c e s h =
     by_base (Recv d) o s k = absurd (false≢true s)
     by_base (Always m) o s k = absurd (false≢true s)
     by_base (OnNack n) o s k = absurd (false≢true s)
+    by_base (OnEnd x) o s k = absurd (false≢true s)
     by_base Never o s k = absurd (false≢true s)
 
     by_own : (o : Option Offer) → is_send o ≡ true → commit_by offer r j (Some p) o ≡ Some c → first_row c ≡ r

@@ -4,7 +4,7 @@ use Rattle.std.specs.Prelude.{⊤}
 use Rattle.std.proofs.lemmas.List.{length-append}
 use Rattle.std.proofs.lemmas.Option.{none-some, same_Some}
 use Rattle.protocol_values.specs.declared.Base.{Base}
-use Rattle.protocol_values.specs.declared.Base.TheVariants.{Send, Recv, Always, OnNack, Never}
+use Rattle.protocol_values.specs.declared.Base.TheVariants.{Send, Recv, Always, OnNack, OnEnd, Never}
 use Rattle.protocol_values.specs.declared.Cause.TheVariants as cause
 use Rattle.protocol_values.specs.declared.Commit.{Commit}
 use Rattle.protocol_values.specs.declared.Commit.TheVariants.{Pair, Alone}
@@ -38,12 +38,14 @@ gift (Pair sender receiver chan msg stamp) r n (inl e) = record { result = (send
 gift (Pair sender receiver chan msg stamp) r n (inr e) = record { result = (receiver.1, msg); gives = inr (ap (λ (z : Row × ℕ). z.0) e, refl); number = ap (λ (z : Row × ℕ). z.1) e }
 gift (Alone at (cause.Always m) stamp) r n e = record { result = (at.1, m); gives = (ap (λ (z : Row × ℕ). z.0) e, refl); number = ap (λ (z : Row × ℕ). z.1) e }
 gift (Alone at (cause.Nack k) stamp) r n e = record { result = (at.1, Empty); gives = (ap (λ (z : Row × ℕ). z.0) e, refl); number = ap (λ (z : Row × ℕ). z.1) e }
+gift (Alone at (cause.End k) stamp) r n e = record { result = (at.1, Empty); gives = (ap (λ (z : Row × ℕ). z.0) e, refl); number = ap (λ (z : Row × ℕ). z.1) e }
 
 pub gives-takes : (c : Commit) (r : Row) (x : Result) → Gives c r x → Takes c r x.0
 gives-takes (Pair sender receiver chan msg stamp) r x (inl h) = inl (λ i. (h.0 i, ap (λ (z : Result). z.0) (sym h.1) i))
 gives-takes (Pair sender receiver chan msg stamp) r x (inr h) = inr (λ i. (h.0 i, ap (λ (z : Result). z.0) (sym h.1) i))
 gives-takes (Alone at (cause.Always m) stamp) r x h = λ i. (h.0 i, ap (λ (z : Result). z.0) (sym h.1) i)
 gives-takes (Alone at (cause.Nack k) stamp) r x h = λ i. (h.0 i, ap (λ (z : Result). z.0) (sym h.1) i)
+gives-takes (Alone at (cause.End k) stamp) r x h = λ i. (h.0 i, ap (λ (z : Result). z.0) (sym h.1) i)
 
 pub gives-involves : (c : Commit) (r : Row) (x : Result) → Gives c r x → Involves c r
 gives-involves c r x h = (x.0, gives-takes c r x h)
@@ -55,6 +57,7 @@ one-gift (Pair sender receiver chan msg stamp) r x y apart (inr h) (inl k) = abs
 one-gift (Pair sender receiver chan msg stamp) r x y apart (inr h) (inr k) = h.1 ∙ sym k.1
 one-gift (Alone at (cause.Always m) stamp) r x y apart h k = h.1 ∙ sym k.1
 one-gift (Alone at (cause.Nack n) stamp) r x y apart h k = h.1 ∙ sym k.1
+one-gift (Alone at (cause.End n) stamp) r x y apart h k = h.1 ∙ sym k.1
 
 -- LISTS
 
@@ -115,6 +118,7 @@ alone-gives offer r j (Send d m) c got e h = absurd (none-some c e)
 alone-gives offer r j (Recv d) c got e h = absurd (none-some c e)
 alone-gives offer r j (Always m) c got e h = subst (λ (z : Commit). Gives z r (j.own, got)) (same_Some _ c e) (refl, λ i. (j.own, h i))
 alone-gives offer r j (OnNack n) c got e h = subst (λ (z : Commit). Gives z r (j.own, got)) (same_Some _ c e) (refl, λ i. (j.own, h i))
+alone-gives offer r j (OnEnd n) c got e h = subst (λ (z : Commit). Gives z r (j.own, got)) (same_Some _ c e) (refl, λ i. (j.own, h i))
 alone-gives offer r j Never c got e h = absurd (none-some c e)
 
 pair-gives : (offer : Row → ℕ → Option Offer) (r : Row) (j : Joined) (p : Row × ℕ) (b : Base) (other : Option Offer) (c : Commit) (got : Message) → offer p.0 p.1 ≡ other → pair_by r j p b other ≡ Some c → Receives offer (Some p) b got → Gives c r (j.own, got)
@@ -127,6 +131,7 @@ pair-gives offer r j p (Recv d) (Some o) c got is e (q, d', o', partner, offered
     subst (λ (z : Commit). Gives z r (j.own, got)) (same_Some _ c named) (inr (refl, refl))
 pair-gives offer r j p (Always m) other c got is e h = absurd (none-some c e)
 pair-gives offer r j p (OnNack n) other c got is e h = absurd (none-some c e)
+pair-gives offer r j p (OnEnd x) other c got is e h = absurd (none-some c e)
 pair-gives offer r j p Never other c got is e h = absurd (none-some c e)
 
 named-gives : (offer : Row → ℕ → Option Offer) (r : Row) (j : Joined) (partner : Option (Row × ℕ)) (own : Offer) (c : Commit) (got : Message) → commit_by offer r j partner (Some own) ≡ Some c → Receives offer partner own.base got → Gives c r (j.own, got)

@@ -3,7 +3,7 @@ use Rattle.std.specs.Prelude.{zero, suc, ◌⊎◌, ◌≡◌, ℕ, ◌+◌, ◌
 use Rattle.std.specs.List.{range_with_len, flat_map}
 use Rattle.protocol_values.specs.declared.NackName.{NackName}
 use Rattle.protocol_values.specs.declared.Base.{Base}
-use Rattle.protocol_values.specs.declared.Base.TheVariants.{Send, Recv, Always, OnNack, Never}
+use Rattle.protocol_values.specs.declared.Base.TheVariants.{Send, Recv, Always, OnNack, OnEnd, Never}
 use Rattle.protocol_values.specs.declared.Offer.{Offer}
 use Rattle.protocol_values.specs.declared.Row.{Row}
 use Rattle.protocol_values.specs.declared.Joined.{Joined}
@@ -74,10 +74,11 @@ rows_in l = all_rows l.threads l.rows
 
 -- THE COMMITS, of rows that are committed as `joined` says and offer what `offer` says
 
--- a commit that stands alone: its offer is an always or a nack
+-- a commit that stands alone: its offer is an always, a nack or an end
 abbrev pub alone_by : Row → Joined → Base → Option Commit
 alone_by r j (Always m) = Some (Alone (r, j.own) (cause.Always m) j.stamp)
 alone_by r j (OnNack n) = Some (Alone (r, j.own) (cause.Nack n) j.stamp)
+alone_by r j (OnEnd p) = Some (Alone (r, j.own) (cause.End p) j.stamp)
 alone_by r j (Send c m) = None
 alone_by r j (Recv c) = None
 alone_by r j Never = None
@@ -88,6 +89,7 @@ received_by r j p (Send c m) = Some (Pair p (r, j.own) c m j.stamp)
 received_by r j p (Recv c) = None
 received_by r j p (Always m) = None
 received_by r j p (OnNack n) = None
+received_by r j p (OnEnd x) = None
 received_by r j p Never = None
 
 -- a pair, seen from either row
@@ -97,6 +99,7 @@ pair_by r j p (Recv c) None = None
 pair_by r j p (Recv c) (Some other) = received_by r j p other.base
 pair_by r j p (Always m) other = None
 pair_by r j p (OnNack n) other = None
+pair_by r j p (OnEnd x) other = None
 pair_by r j p Never other = None
 
 -- the commit of row r, joined as j, by what it offered
@@ -120,6 +123,7 @@ sends (Send c m) = true
 sends (Recv c) = false
 sends (Always m) = false
 sends (OnNack n) = false
+sends (OnEnd p) = false
 sends Never = false
 
 -- each commit once: a pair is told by its sender, or by its receiver while the sender is not joined yet
@@ -191,6 +195,7 @@ pub record IsEnabled (joined : Row → Option Joined) (offer : Row → ℕ → O
 abbrev pub IsCaused : (Row → Option Joined) → (Row → ℕ → Option Offer) → (NackName → Option Binding) → Row × ℕ → Cause → Type 0
 IsCaused joined offer bound at (cause.Always m) = Offers offer at (Always m)
 IsCaused joined offer bound at (cause.Nack n) = Offers offer at (OnNack n) × IsEnabled joined offer bound n
+IsCaused joined offer bound at (cause.End p) = ⊥
 
 abbrev pub Fits : (Row → Option Joined) → (Row → ℕ → Option Offer) → (NackName → Option Binding) → Commit → Type 0
 Fits joined offer bound (Pair sender receiver c m s) =
@@ -205,6 +210,7 @@ IsEarlier d c = (thread g h : ℕ) × (h < g) × Involves d (record { thread = t
 abbrev pub CausedBy : (NackName → Option Binding) → Commit → Cause → Type 0
 CausedBy bound d (cause.Always m) = ⊥
 CausedBy bound d (cause.Nack n) = (b : Binding) × (bound n ≡ Some b) × Involves d (record { thread = n.thread; sync = b.sync })
+CausedBy bound d (cause.End p) = ⊥
 
 abbrev pub Enables : (NackName → Option Binding) → Commit → Commit → Type 0
 Enables bound d (Pair sender receiver c m s) = ⊥

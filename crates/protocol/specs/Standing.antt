@@ -1,7 +1,7 @@
 -- What rows offer by the results of their threads: whoever stands for a thread offers something after these results.
 use Rattle.std.specs.Prelude.{◌≡◌, ◌⊎◌, ℕ, ◌+◌, ◌<◌, ⊤, false, Option, Some, None, List, [], ◌∷◌, ◌++◌, length, slice_get}
 use Rattle.protocol_values.specs.declared.Base.{Base}
-use Rattle.protocol_values.specs.declared.Base.TheVariants.{Send, Recv, Always, OnNack, Never}
+use Rattle.protocol_values.specs.declared.Base.TheVariants.{Send, Recv, Always, OnNack, OnEnd, Never}
 use Rattle.protocol_values.specs.declared.Binding.{Binding}
 use Rattle.protocol_values.specs.declared.Cause.TheVariants as cause
 use Rattle.protocol_values.specs.declared.Commit.{Commit}
@@ -23,12 +23,13 @@ use Rattle.protocol.specs.Worlds.{World, after_step, nack_of_row}
 abbrev pub Result : Type 0
 Result = ℕ × Message
 
--- what a commit gives to the threads of its rows: an always gives its message; a nack, like a send, the empty one
+-- what a commit gives to the threads of its rows: an always gives its message; a nack and an end, like a send, the empty one
 abbrev pub Gives : Commit → Row → Result → Type 0
 Gives (Pair sender receiver chan msg stamp) r result =
     ((sender.0 ≡ r) × (result ≡ (sender.1, Empty))) ⊎ ((receiver.0 ≡ r) × (result ≡ (receiver.1, msg)))
 Gives (Alone at (cause.Always m) stamp) r result = (at.0 ≡ r) × (result ≡ (at.1, m))
 Gives (Alone at (cause.Nack n) stamp) r result = (at.0 ≡ r) × (result ≡ (at.1, Empty))
+Gives (Alone at (cause.End p) stamp) r result = (at.0 ≡ r) × (result ≡ (at.1, Empty))
 
 -- these are the results of the first syncs of a thread, by the commits of the ledger
 abbrev pub AreResults : Ledger → ℕ → List Result → Type 0
@@ -42,6 +43,7 @@ Receives offer partner (Send c m) got = got ≡ Empty
 Receives offer partner (Recv c) got = (p : Row × ℕ) × (d : ℕ) × (o : Offer) × (partner ≡ Some p) × (offer p.0 p.1 ≡ Some o) × (o.base ≡ Send d got)
 Receives offer partner (Always m) got = got ≡ m
 Receives offer partner (OnNack n) got = got ≡ Empty
+Receives offer partner (OnEnd p) got = got ≡ Empty
 Receives offer partner Never got = got ≡ Empty
 
 -- OFFERS. `stands t results offers nacks` says: after these results thread t offers these, with these nacks of their scopes.

@@ -6,7 +6,7 @@ use Rattle.protocol_values.specs.Words.{cell_of, count_of, offer_of, nack_of}
 use Rattle.protocol_values.specs.declared.NackName.{NackName}
 use Rattle.protocol_values.specs.declared.Offer.{Offer}
 use Rattle.protocol_values.specs.declared.Base.{Base}
-use Rattle.protocol_values.specs.declared.Base.TheVariants.{Send, Recv, Always, OnNack, Never}
+use Rattle.protocol_values.specs.declared.Base.TheVariants.{Send, Recv, Always, OnNack, OnEnd, Never}
 use Rattle.protocol_values.specs.declared.Row.{Row}
 use Rattle.protocol_values.specs.declared.Joined.{Joined}
 use Rattle.protocol_values.specs.declared.Cell.{Cell}
@@ -108,12 +108,13 @@ offers_meet (Some a) (Some b) = bases_meet a.base b.base
 offers_meet (Some a) None = false
 offers_meet None b = false
 
--- an offer that commits its row alone: an always, or a nack
+-- an offer that commits its row alone: an always, or a nack. No step tells yet that a thread has ended
 abbrev pub needs_none : Base → Bool
 needs_none (Send c m) = false
 needs_none (Recv c) = false
 needs_none (Always m) = true
 needs_none (OnNack n) = true
+needs_none (OnEnd p) = false
 needs_none Never = false
 
 abbrev pub stands_alone : Option Offer → Bool
@@ -181,6 +182,7 @@ cause_by joined offer bound (Send c m) = None
 cause_by joined offer bound (Recv c) = None
 cause_by joined offer bound (Always m) = Some 0
 cause_by joined offer bound (OnNack n) = stamped (nack_by joined offer bound n)
+cause_by joined offer bound (OnEnd p) = None
 cause_by joined offer bound Never = None
 
 abbrev pub cause_of : (Row → Option Joined) → (Row → ℕ → Option Offer) → (NackName → Option Binding) → Option Offer → Option ℕ

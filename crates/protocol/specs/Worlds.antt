@@ -9,7 +9,7 @@ use Rattle.protocol_values.specs.declared.Cell.{Cell}
 use Rattle.protocol_values.specs.declared.Cell.TheVariants.{Fresh, Waiting, Claimed, Synched, Taken}
 use Rattle.protocol_values.specs.declared.Seat.{Seat}
 use Rattle.protocol_values.specs.declared.Step.{Step}
-use Rattle.protocol_values.specs.declared.Step.TheVariants.{Draft, Open, Look, Read, Claim, Yield, Join, Seal, Grant, Take, Bind}
+use Rattle.protocol_values.specs.declared.Step.TheVariants.{Draft, Open, Look, Read, Claim, Yield, Join, Seal, Grant, Take, Bind, Start, Finish}
 use Rattle.protocol.specs.Tables.{Table, thread_len, place_of, nack_place, number_of, all_rows, is_row, cell_at, synched_of, offer_at, offers_meet, binding_at, cause_at, joined_at, namer_of, last_stamp}
 use Rattle.protocol_values.specs.Values.{next_row}
 
@@ -48,7 +48,7 @@ namer_at w r = namer_of (all_rows w.table.threads w.table.rows) (joined_at w.tab
 abbrev pub nack_of_row : Row → ℕ → NackName
 nack_of_row r k = record { thread = r.thread; k = k }
 
--- WHEN A STEP MAY BE MADE, by a seat that there is
+-- WHEN A STEP MAY BE MADE, by a seat that there is. No thread is started or ended yet
 abbrev pub Condition : World → Seat → Step → Type 0
 Condition w seat (Draft row place value) =
     Holds w seat row × (world_cell w row ≡ Fresh) × (1 ≤ place) × (place ≤ 33) × (is_word_for place value ≡ true)
@@ -69,6 +69,8 @@ Condition w seat (Grant row n) = (world_cell w row ≡ Waiting) × (is_some (cau
 Condition w seat (Take row) = is_some (synched_of (world_cell w row)) ≡ true
 Condition w seat (Bind k row scope) =
     Holds w seat row × (world_cell w row ≡ Fresh) × (k < 64) × (scope < 4) × (binding_at w.table (nack_of_row row k) ≡ None)
+Condition w seat (Start row thread) = ⊥
+Condition w seat (Finish row) = ⊥
 
 abbrev pub Allowed : World → Seat → Step → Type 0
 Allowed w seat step = (seat.0 < w.seats) × Condition w seat step
@@ -152,6 +154,8 @@ after_step w seat (Take row) =
     with_holders (with_table w (with_take w.table row (synched_of (world_cell w row)))) (handed w.table w.holders seat row)
 after_step w seat (Bind k row scope) =
     with_table w (with_nack w.table (nack_of_row row k) (record { sync = row.sync; scope = scope }))
+after_step w seat (Start row thread) = w
+after_step w seat (Finish row) = w
 
 -- A schedule: each step is allowed in turn, and leads on.
 abbrev pub Plays : World → List (Seat × Step) → World → Type 0

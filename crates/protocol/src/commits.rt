@@ -240,7 +240,8 @@ fn alone_commit(row: Row, joined: Joined, base: Base) -> Option<Commit>
     let cause = match base {
         Base::Always(msg) => Cause::Always(msg),
         Base::OnNack(nack) => Cause::Nack(nack),
-        _ => return None,
+        Base::OnEnd(thread) => Cause::End(thread),
+        Base::Send(..) | Base::Recv(_) | Base::Never => return None,
     };
     Some(Commit::Alone {
         at: (row, joined.own),

@@ -229,7 +229,7 @@ impl Sheet {
         match offer?.base {
             Base::Always(_) => Some(0),
             Base::OnNack(nack) => Some(self.enabled_by(nack)?.stamp),
-            Base::Send(..) | Base::Recv(_) | Base::Never => None,
+            Base::Send(..) | Base::Recv(_) | Base::OnEnd(_) | Base::Never => None,
         }
     }
 

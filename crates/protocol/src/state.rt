@@ -104,6 +104,7 @@ impl State {
             Step::Grant { row, offer } => self.grant(seat, row, offer),
             Step::Take { row } => self.take(seat, row),
             Step::Bind { k, row, scope } => self.bind(seat, k, row, scope),
+            Step::Start { .. } | Step::Finish { .. } => false,
         }
     }
 

@@ -6,7 +6,7 @@ use Rattle.protocol_values.specs.Words.{IsRowInRange}
 use Rattle.protocol_values.specs.declared.Row.{Row}
 use Rattle.protocol_values.specs.declared.Seat.{Seat}
 use Rattle.protocol_values.specs.declared.Step.{Step}
-use Rattle.protocol_values.specs.declared.Step.TheVariants.{Draft, Open, Look, Read, Claim, Yield, Join, Seal, Grant, Take, Bind}
+use Rattle.protocol_values.specs.declared.Step.TheVariants.{Draft, Open, Look, Read, Claim, Yield, Join, Seal, Grant, Take, Bind, Start, Finish}
 use Rattle.protocol_schedule.specs.declared.Size.{Size}
 use Rattle.protocol_schedule.specs.Schedule.{row_text, step_text, step_line, world_line, IsStep, IsSeatStep, IsSize}
 use Rattle.protocol_schedule.specs.Reading.{◌>>=◌, number_at, count_at, draft_at, read_at, join_at, grant_at, bind_at, alone_at, begins, after_word, row_step_at, step_at, step_line_at, world_line_at}
@@ -163,6 +163,8 @@ step_again (Grant r offer) rest fits =
 step_again (Take r) rest fits = again_alone (λ r. Take r) r rest fits
 step_again (Bind k r scope) rest fits =
     ap bind_at (bind_parts k r scope rest) ∙ binds.again (k, ((r.thread, r.sync), scope)) rest (fits.0, ((omega (arith, fits.1.thread), omega (arith, fits.1.sync)), fits.2))
+step_again (Start r thread) rest fits = absurd fits
+step_again (Finish r) rest fits = absurd fits
 
 -- ---- lines
 

@@ -6,7 +6,7 @@ use Rattle.protocol_values.specs.Words.{IsRowInRange}
 use Rattle.protocol_values.specs.declared.Row.{Row}
 use Rattle.protocol_values.specs.declared.Seat.{Seat}
 use Rattle.protocol_values.specs.declared.Step.{Step}
-use Rattle.protocol_values.specs.declared.Step.TheVariants.{Draft, Open, Look, Read, Claim, Yield, Join, Seal, Grant, Take, Bind}
+use Rattle.protocol_values.specs.declared.Step.TheVariants.{Draft, Open, Look, Read, Claim, Yield, Join, Seal, Grant, Take, Bind, Start, Finish}
 use Rattle.protocol_schedule.specs.declared.Size.{Size}
 
 -- what a schedule says: the size of the world, and the steps in order, each with the seat that makes it
@@ -31,6 +31,8 @@ step_text (Seal row) = codes "seal " ++ row_text row
 step_text (Grant row offer) = codes "grant " ++ row_text row ++ codes " " ++ decimal offer
 step_text (Take row) = codes "take " ++ row_text row
 step_text (Bind k row scope) = codes "bind " ++ decimal k ++ codes " " ++ row_text row ++ codes " " ++ decimal scope
+step_text (Start row thread) = codes "start " ++ row_text row ++ codes " " ++ decimal thread
+step_text (Finish row) = codes "finish " ++ row_text row
 
 -- the seat, a space, the step, and the line's end
 abbrev pub step_line : Seat × Step → List ℕ
@@ -42,7 +44,7 @@ world_line w = codes "world " ++ decimal w.threads ++ codes " " ++ decimal w.row
 abbrev pub text_of : Plan → List ℕ
 text_of p = world_line p.size ++ flat_map step_line p.steps
 
--- THE RANGES
+-- THE RANGES. A schedule has no start and no end of a thread yet
 
 abbrev pub IsStep : Step → Type 0
 IsStep (Draft row place value) = IsRowInRange row × (place ≤ 33) × (value < 2 ^ 64)
@@ -56,6 +58,8 @@ IsStep (Seal row) = IsRowInRange row
 IsStep (Grant row offer) = IsRowInRange row × (offer ≤ 7)
 IsStep (Take row) = IsRowInRange row
 IsStep (Bind k row scope) = (k ≤ 63) × IsRowInRange row × (scope ≤ 3)
+IsStep (Start row thread) = ⊥
+IsStep (Finish row) = ⊥
 
 pub record IsSeatStep (s : Seat × Step) : Type 0 where
   pub seat : s.0.0 ≤ 15

@@ -7,17 +7,19 @@ use Rattle.protocol_values.specs.declared.Joined.{Joined}
 use Rattle.protocol_values.specs.declared.Cell.{Cell}
 use Rattle.protocol_values.specs.declared.Cell.TheVariants.{Fresh, Waiting, Claimed, Synched, Taken}
 use Rattle.protocol_values.specs.declared.Direction.{Direction}
-use Rattle.protocol_values.specs.declared.Direction.TheVariants.{Never, Send, Recv, Always, OnNack}
+use Rattle.protocol_values.specs.declared.Direction.TheVariants.{Never, Send, Recv, Always, OnNack, OnEnd}
 use Rattle.protocol_values.specs.declared.Head.{Head}
 use Rattle.protocol_values.specs.declared.Atom.{Atom}
 use Rattle.protocol_values.specs.declared.Atom.TheVariants.{Num, Chan, Nack}
 use Rattle.protocol_values.specs.declared.Binding.{Binding}
+use Rattle.protocol_values.specs.declared.Course.{Course}
+use Rattle.protocol_values.specs.declared.Course.TheVariants.{Unstarted, Running, Ended}
 use Rattle.protocol_values.specs.declared.Message.{Message}
 use Rattle.protocol_values.specs.declared.Message.TheVariants.{Empty, One, Two, Three}
 use Rattle.protocol_values.specs.declared.Base.{Base}
 use Rattle.protocol_values.specs.declared.Base.TheVariants as base
 use Rattle.protocol_values.specs.declared.Offer.{Offer}
-use Rattle.protocol_values.specs.Words.{field, partner_bits, joined_bits, cell_word, IsRowInRange, IsJoinedInRange, IsCellInRange, joined_fields, cell_fields, has_stamp, cell_of, count_of, direction_bits, direction_fields, head_word, head_fields, head_of, IsNackInRange, IsDirectionInRange, IsHeadInRange, atom_word, atom_fields, atom_of, IsAtomInRange, nack_word, nack_fields, nack_of, IsBindingInRange, offer_of, is_word_for, IsMessageInRange, IsBaseInRange, IsOfferInRange, atom_count, head_in, direction_in, message_in, first_word, second_word, third_word, message_of, base_of}
+use Rattle.protocol_values.specs.Words.{field, partner_bits, joined_bits, cell_word, IsRowInRange, IsJoinedInRange, IsCellInRange, joined_fields, cell_fields, has_stamp, cell_of, count_of, course_word, course_fields, ends_in_a_table, IsCourseInRange, course_of, direction_bits, direction_fields, head_word, head_fields, head_of, IsNackInRange, IsDirectionInRange, IsHeadInRange, atom_word, atom_fields, atom_of, IsAtomInRange, nack_word, nack_fields, nack_of, IsBindingInRange, offer_of, is_word_for, IsMessageInRange, IsBaseInRange, IsOfferInRange, atom_count, head_in, direction_in, message_in, first_word, second_word, third_word, message_of, base_of}
 
 -- ANY WORD: what its fields say, and the test that it is the word of just that
 
@@ -35,6 +37,11 @@ word_of_same word_of fields w v e =
 pub some_value : {A : Type 0} (o : Option A) → is_some o ≡ true → (x : A) × (o ≡ Some x)
 some_value None h = absurd (true≢false (sym h))
 some_value (Some x) h = (x, refl)
+
+-- a word that is known to be well-formed is what its fields say
+fields_of_some : {A : Type 0} (b : Bool) (x : A) → is_some (if b then Some x else None) ≡ true → (if b then Some x else None) ≡ Some x
+fields_of_some false x h = absurd (true≢false (sym h))
+fields_of_some true x h = refl
 
 -- THE CELL
 
@@ -191,6 +198,11 @@ direction_fields-direction_bits (OnNack n) scopes r h =
     let e₂ : field w 11 6 ≡ n.thread = omega arith in
     let e₃ : field w 17 6 ≡ n.k = omega arith in
     simp (e₁, e₂, e₃)
+direction_fields-direction_bits (OnEnd thread) scopes r h =
+    let w : ℕ = 5 + thread * 2 ^ 11 + scopes * 2 ^ 25 in
+    let e₁ : field w 0 3 ≡ 5 = omega arith in
+    let e₂ : field w 11 6 ≡ thread = omega arith in
+    simp (e₁, e₂)
 
 scopes_of_direction : (d : Direction) (scopes : ℕ) → IsDirectionInRange d → scopes < 16 →
     field (direction_bits d + scopes * 2 ^ 25) 25 4 ≡ scopes
@@ -205,6 +217,7 @@ scopes_of_direction (OnNack n) scopes r h =
     let thread : n.thread < 64 = r.thread in
     let k : n.k < 64 = r.k in
     omega arith
+scopes_of_direction (OnEnd thread) scopes r h = omega arith
 
 pub head_fields-head_word : (h : Head) → IsHeadInRange h → head_fields (head_word h) ≡ h
 unfolding head_word
@@ -215,16 +228,17 @@ pub head_of-head_word : (h : Head) → IsHeadInRange h → head_of (head_word h)
 unfolding head_of
 head_of-head_word h r = of_word head_word head_fields h (head_fields-head_word h r)
 
-abbrev direction_at : Direction → Direction → Direction → Direction → Bool → Bool → Bool → Bool → Direction
-direction_at p q r s a b c d = if a then p else (if b then q else (if c then r else (if d then s else Never)))
+abbrev direction_at : Direction → Direction → Direction → Direction → Direction → Bool → Bool → Bool → Bool → Bool → Direction
+direction_at p q r s t a b c d e = if a then p else (if b then q else (if c then r else (if d then s else (if e then t else Never))))
 
-IsDirectionInRange-at : (p q r s : Direction) (a b c d : Bool) → IsDirectionInRange p → IsDirectionInRange q →
-    IsDirectionInRange r → IsDirectionInRange s → IsDirectionInRange (direction_at p q r s a b c d)
-IsDirectionInRange-at p q r s true b c d hp hq hr hs = hp
-IsDirectionInRange-at p q r s false true c d hp hq hr hs = hq
-IsDirectionInRange-at p q r s false false true d hp hq hr hs = hr
-IsDirectionInRange-at p q r s false false false true hp hq hr hs = hs
-IsDirectionInRange-at p q r s false false false false hp hq hr hs = tt
+IsDirectionInRange-at : (p q r s t : Direction) (a b c d e : Bool) → IsDirectionInRange p → IsDirectionInRange q →
+    IsDirectionInRange r → IsDirectionInRange s → IsDirectionInRange t → IsDirectionInRange (direction_at p q r s t a b c d e)
+IsDirectionInRange-at p q r s t true b c d e hp hq hr hs ht = hp
+IsDirectionInRange-at p q r s t false true c d e hp hq hr hs ht = hq
+IsDirectionInRange-at p q r s t false false true d e hp hq hr hs ht = hr
+IsDirectionInRange-at p q r s t false false false true e hp hq hr hs ht = hs
+IsDirectionInRange-at p q r s t false false false false true hp hq hr hs ht = ht
+IsDirectionInRange-at p q r s t false false false false false hp hq hr hs ht = tt
 
 IsNackInRange-at : (thread k : ℕ) → thread < 64 → k < 64 → IsNackInRange (record { thread = thread; k = k })
 IsNackInRange-at thread k h g = record { thread = h; k = g }
@@ -232,9 +246,9 @@ IsNackInRange-at thread k h g = record { thread = h; k = g }
 pub IsHeadInRange-head_fields : (w : ℕ) → IsHeadInRange (head_fields w)
 IsHeadInRange-head_fields w = record {
   direction = IsDirectionInRange-at (Send (field w 3 8) (field w 23 2)) (Recv (field w 3 8)) (Always (field w 23 2))
-      (OnNack (record { thread = field w 11 6; k = field w 17 6 }))
-      (field w 0 3 == 1) (field w 0 3 == 2) (field w 0 3 == 3) (field w 0 3 == 4)
-      (omega arith, omega arith) (omega arith) (omega arith) (IsNackInRange-at (field w 11 6) (field w 17 6) (omega arith) (omega arith));
+      (OnNack (record { thread = field w 11 6; k = field w 17 6 })) (OnEnd (field w 11 6))
+      (field w 0 3 == 1) (field w 0 3 == 2) (field w 0 3 == 3) (field w 0 3 == 4) (field w 0 3 == 5)
+      (omega arith, omega arith) (omega arith) (omega arith) (IsNackInRange-at (field w 11 6) (field w 17 6) (omega arith) (omega arith)) (omega arith);
   scopes = omega arith;
 }
 
@@ -341,6 +355,66 @@ nack_of-zero = refl
 pub nack_of_only : (o : Option (Option Binding)) (w : ℕ) → o ≡ nack_of w → (b : Option Binding) → IfSome b IsBindingInRange → w ≡ nack_word b → o ≡ Some b
 nack_of_only o w e b r h = e ∙ ap nack_of h ∙ nack_of-nack_word b r
 
+-- A LIFE
+
+pub course_fields-course_word : (c : Course) → IsCourseInRange c → course_fields (course_word c) ≡ c
+unfolding course_word
+course_fields-course_word Unstarted r = refl
+course_fields-course_word (Running start) r =
+    let w : ℕ = 1 + start * 2 in
+    let low : start < 2 ^ 32 = r in
+    let e₁ : field w 0 1 ≡ 1 = omega arith in
+    let e₂ : field w 33 1 ≡ 0 = omega arith in
+    let e₃ : field w 1 32 ≡ start = omega arith in
+    simp (e₁, e₂, e₃)
+course_fields-course_word (Ended start sync) r =
+    let w : ℕ = 1 + start * 2 + 2 ^ 33 + sync * 2 ^ 34 in
+    let low : start < 2 ^ 32 = r.0 in
+    let last : sync ≤ 1024 = r.1 in
+    let e₁ : field w 0 1 ≡ 1 = omega arith in
+    let e₂ : field w 33 1 ≡ 1 = omega arith in
+    let e₃ : field w 1 32 ≡ start = omega arith in
+    let e₄ : field w 34 11 ≡ sync = omega arith in
+    simp (e₁, e₂, e₃, e₄)
+
+ends_in_range : (c : Course) → IsCourseInRange c → ends_in_a_table c ≡ true
+ends_in_range Unstarted r = refl
+ends_in_range (Running start) r = refl
+ends_in_range (Ended start sync) r = le-leb _ _ r.1
+
+pub course_of-course_word : (c : Course) → IsCourseInRange c → course_of (course_word c) ≡ Some c
+unfolding course_of
+course_of-course_word c r =
+    rw (course_fields-course_word c r)
+    (cond-true _ _ _ (and_from (course_word c == course_word c) (ends_in_a_table c) (eq-eqb _ _ refl) (ends_in_range c r)))
+
+abbrev course_at : ℕ → ℕ → Bool → Bool → Course
+course_at start sync a b = if a then (if b then Ended start sync else Running start) else Unstarted
+
+IsCourseInRange-at : (start sync : ℕ) (a b : Bool) → start < 2 ^ 32 → ends_in_a_table (course_at start sync a b) ≡ true →
+    IsCourseInRange (course_at start sync a b)
+IsCourseInRange-at start sync true true low h = (low, leb-true _ _ h)
+IsCourseInRange-at start sync true false low h = low
+IsCourseInRange-at start sync false b low h = tt
+
+pub IsCourseInRange-course_fields : (w : ℕ) → ends_in_a_table (course_fields w) ≡ true → IsCourseInRange (course_fields w)
+IsCourseInRange-course_fields w =
+    IsCourseInRange-at (field w 1 32) (field w 34 11) (field w 0 1 == 1) (field w 33 1 == 1) (omega arith)
+
+pub course_word-course_of : (w : ℕ) (c : Course) → course_of w ≡ Some c → IsCourseInRange c × (w ≡ course_word c)
+unfolding course_of
+course_word-course_of w c e =
+    let h = cond_some ((course_word (course_fields w) == w) && ends_in_a_table (course_fields w)) (course_fields w) c e in
+    let t = and_parts _ _ h.0 in
+    (subst IsCourseInRange h.1 (IsCourseInRange-course_fields w t.1), sym (eqb-true _ _ t.0) ∙ ap course_word h.1)
+
+pub course_of_only : (o : Option Course) (w : ℕ) → o ≡ course_of w → (c : Course) → IsCourseInRange c → w ≡ course_word c → o ≡ Some c
+course_of_only o w e c r h = e ∙ ap course_of h ∙ course_of-course_word c r
+
+pub course_of-fields : (w : ℕ) → is_some (course_of w) ≡ true → course_of w ≡ Some (course_fields w)
+unfolding course_of
+course_of-fields w h = fields_of_some ((course_word (course_fields w) == w) && ends_in_a_table (course_fields w)) (course_fields w) h
+
 -- A WHOLE OFFER
 
 -- the atoms of a message, and the number 0 past the last
@@ -391,6 +465,7 @@ base_of-atoms (base.Send chan m) = ap (base.Send chan) (message_of-atoms m)
 base_of-atoms (base.Recv chan) = refl
 base_of-atoms (base.Always m) = ap base.Always (message_of-atoms m)
 base_of-atoms (base.OnNack n) = refl
+base_of-atoms (base.OnEnd thread) = refl
 base_of-atoms base.Never = refl
 
 IsMessageInRange-message_in : (b : Base) → IsBaseInRange b → IsMessageInRange (message_in b)
@@ -398,6 +473,7 @@ IsMessageInRange-message_in (base.Send chan m) r = r.1
 IsMessageInRange-message_in (base.Recv chan) r = tt
 IsMessageInRange-message_in (base.Always m) r = r
 IsMessageInRange-message_in (base.OnNack n) r = tt
+IsMessageInRange-message_in (base.OnEnd thread) r = tt
 IsMessageInRange-message_in base.Never r = tt
 
 atom_count_low : (m : Message) → atom_count m < 4
@@ -411,6 +487,7 @@ IsDirectionInRange-direction_in (base.Send chan m) r = (r.0, atom_count_low m)
 IsDirectionInRange-direction_in (base.Recv chan) r = r
 IsDirectionInRange-direction_in (base.Always m) r = atom_count_low m
 IsDirectionInRange-direction_in (base.OnNack n) r = r
+IsDirectionInRange-direction_in (base.OnEnd thread) r = r
 IsDirectionInRange-direction_in base.Never r = tt
 
 pub IsHeadInRange-head_in : (o : Offer) → IsOfferInRange o → IsHeadInRange (head_in o)
@@ -452,6 +529,7 @@ IsBaseInRange-base_of (Send chan atoms) a b c r ha hb hc = (r.0, IsMessageInRang
 IsBaseInRange-base_of (Recv chan) a b c r ha hb hc = r
 IsBaseInRange-base_of (Always atoms) a b c r ha hb hc = IsMessageInRange-message_of atoms a b c ha hb hc
 IsBaseInRange-base_of (OnNack n) a b c r ha hb hc = r
+IsBaseInRange-base_of (OnEnd thread) a b c r ha hb hc = r
 
 -- an offer that was put together from a head and three atoms
 pub record OfferParts (p : Option Head) (q r s : Option Atom) (o : Offer) : Type 0 where
@@ -513,10 +591,6 @@ is_word_for-zero place =
     (ap is_some head_of-zero) (ap is_some atom_of-zero)
 
 -- A WORD THAT IS KNOWN to be well-formed is what its fields say
-
-fields_of_some : {A : Type 0} (b : Bool) (x : A) → is_some (if b then Some x else None) ≡ true → (if b then Some x else None) ≡ Some x
-fields_of_some false x h = absurd (true≢false (sym h))
-fields_of_some true x h = refl
 
 pub cell_of-fields : (w : ℕ) → is_some (cell_of w) ≡ true → cell_of w ≡ Some (cell_fields w)
 unfolding cell_of

@@ -13,9 +13,11 @@ use Rattle.protocol_values.specs.declared.Joined.{Joined}
 use Rattle.protocol_values.specs.declared.Cell.{Cell}
 use Rattle.protocol_values.specs.declared.Cell.TheVariants.{Fresh, Waiting, Claimed, Synched, Taken}
 use Rattle.protocol_values.specs.declared.Direction.{Direction}
-use Rattle.protocol_values.specs.declared.Direction.TheVariants.{Never, Send, Recv, Always, OnNack}
+use Rattle.protocol_values.specs.declared.Direction.TheVariants.{Never, Send, Recv, Always, OnNack, OnEnd}
 use Rattle.protocol_values.specs.declared.Head.{Head}
 use Rattle.protocol_values.specs.declared.Binding.{Binding}
+use Rattle.protocol_values.specs.declared.Course.{Course}
+use Rattle.protocol_values.specs.declared.Course.TheVariants.{Unstarted, Running, Ended}
 
 -- the number in `width` bits of a word, from bit `low` on
 abbrev pub field : ℕ → ℕ → ℕ → ℕ
@@ -93,9 +95,9 @@ unfoldable pub count_of : ℕ → Option ℕ
 count_of w = if nat_le w 8 then Some w else None
 
 -- THE HEAD OF AN OFFER
--- Bits 0-2 are the direction: 0 Never, 1 Send, 2 Recv, 3 Always, 4 OnNack. Bits 3-10 are the channel of Send and Recv,
--- 11-16 the thread and 17-22 the number of the nack of OnNack, 23-24 the number of atoms of Send and Always,
--- 25-28 the scopes.
+-- Bits 0-2 are the direction: 0 Never, 1 Send, 2 Recv, 3 Always, 4 OnNack, 5 OnEnd. Bits 3-10 are the channel of Send
+-- and Recv, 11-16 the thread of the nack of OnNack or the thread of OnEnd, 17-22 the number of the nack, 23-24 the
+-- number of atoms of Send and Always, 25-28 the scopes.
 
 abbrev pub direction_bits : Direction → ℕ
 direction_bits Never = 0
@@ -103,6 +105,7 @@ direction_bits (Send chan atoms) = 1 + chan * 2 ^ 3 + atoms * 2 ^ 23
 direction_bits (Recv chan) = 2 + chan * 2 ^ 3
 direction_bits (Always atoms) = 3 + atoms * 2 ^ 23
 direction_bits (OnNack n) = 4 + n.thread * 2 ^ 11 + n.k * 2 ^ 17
+direction_bits (OnEnd thread) = 5 + thread * 2 ^ 11
 
 unfoldable pub head_word : Head → ℕ
 head_word h = direction_bits h.direction + h.scopes * 2 ^ 25
@@ -117,6 +120,7 @@ IsDirectionInRange (Send chan atoms) = (chan < 256) × (atoms < 4)
 IsDirectionInRange (Recv chan) = chan < 256
 IsDirectionInRange (Always atoms) = atoms < 4
 IsDirectionInRange (OnNack n) = IsNackInRange n
+IsDirectionInRange (OnEnd thread) = thread < 64
 
 pub record IsHeadInRange (h : Head) : Type 0 where
   pub direction : IsDirectionInRange h.direction
@@ -130,7 +134,9 @@ direction_fields w =
     then Recv (field w 3 8)
     else (if field w 0 3 == 3
     then Always (field w 23 2)
-    else (if field w 0 3 == 4 then OnNack (record { thread = field w 11 6; k = field w 17 6 }) else Never)))
+    else (if field w 0 3 == 4
+    then OnNack (record { thread = field w 11 6; k = field w 17 6 })
+    else (if field w 0 3 == 5 then OnEnd (field w 11 6) else Never))))
 
 abbrev pub head_fields : ℕ → Head
 head_fields w = record { direction = direction_fields w; scopes = field w 25 4 }
@@ -178,6 +184,35 @@ nack_fields w = if field w 0 1 == 1 then Some (record { sync = field w 1 10; sco
 unfoldable pub nack_of : ℕ → Option (Option Binding)
 nack_of w = if nack_word (nack_fields w) == w then Some (nack_fields w) else None
 
+-- A LIFE: where a thread is on its course
+-- Bit 0 is one where the thread has started, and bits 1-32 are its start stamp; bit 33 is one where it has ended, and
+-- bits 34-44 are the sync at its end, 0 to 1024.
+
+unfoldable pub course_word : Course → ℕ
+course_word Unstarted = 0
+course_word (Running start) = 1 + start * 2
+course_word (Ended start sync) = 1 + start * 2 + 2 ^ 33 + sync * 2 ^ 34
+
+abbrev pub IsCourseInRange : Course → Type 0
+IsCourseInRange Unstarted = Unit {0}
+IsCourseInRange (Running start) = start < 2 ^ 32
+IsCourseInRange (Ended start sync) = (start < 2 ^ 32) × (sync ≤ 1024)
+
+abbrev pub course_fields : ℕ → Course
+course_fields w =
+    if field w 0 1 == 1
+    then (if field w 33 1 == 1 then Ended (field w 1 32) (field w 34 11) else Running (field w 1 32))
+    else Unstarted
+
+-- no thread ends past the last row that a table can have
+abbrev pub ends_in_a_table : Course → Bool
+ends_in_a_table Unstarted = true
+ends_in_a_table (Running start) = true
+ends_in_a_table (Ended start sync) = nat_le sync 1024
+
+unfoldable pub course_of : ℕ → Option Course
+course_of w = if (course_word (course_fields w) == w) && ends_in_a_table (course_fields w) then Some (course_fields w) else None
+
 -- A WHOLE OFFER is the head and the three atoms; the atoms past the number in the head are not looked at.
 
 abbrev pub message_of : ℕ → Atom → Atom → Atom → Message
@@ -190,6 +225,7 @@ base_of (Send chan atoms) a b c = base.Send chan (message_of atoms a b c)
 base_of (Recv chan) a b c = base.Recv chan
 base_of (Always atoms) a b c = base.Always (message_of atoms a b c)
 base_of (OnNack n) a b c = base.OnNack n
+base_of (OnEnd thread) a b c = base.OnEnd thread
 
 infixl 10 ◌>>=◌
 abbrev pub ◌>>=◌ : {A B : Type 0} → Option A → (A → Option B) → Option B
@@ -215,6 +251,7 @@ IsBaseInRange (base.Send chan message) = (chan < 256) × IsMessageInRange messag
 IsBaseInRange (base.Recv chan) = chan < 256
 IsBaseInRange (base.Always message) = IsMessageInRange message
 IsBaseInRange (base.OnNack n) = IsNackInRange n
+IsBaseInRange (base.OnEnd thread) = thread < 64
 IsBaseInRange base.Never = Unit {0}
 
 pub record IsOfferInRange (o : Offer) : Type 0 where
@@ -233,6 +270,7 @@ message_in (base.Send chan message) = message
 message_in (base.Recv chan) = Empty
 message_in (base.Always message) = message
 message_in (base.OnNack n) = Empty
+message_in (base.OnEnd thread) = Empty
 message_in base.Never = Empty
 
 abbrev pub direction_in : Base → Direction
@@ -240,6 +278,7 @@ direction_in (base.Send chan message) = Send chan (atom_count message)
 direction_in (base.Recv chan) = Recv chan
 direction_in (base.Always message) = Always (atom_count message)
 direction_in (base.OnNack n) = OnNack n
+direction_in (base.OnEnd thread) = OnEnd thread
 direction_in base.Never = Never
 
 abbrev pub head_in : Offer → Head

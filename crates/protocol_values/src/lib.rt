@@ -10,9 +10,9 @@ ghost use Rattle.protocol_values.specs.Scopes.{has_scope};
 mod packing;
 
 pub use packing::{
-    is_word_for, pack_atom, pack_cell, pack_count, pack_head, pack_nack, pack_offer, read_cell,
-    read_head, read_offer, unpack_atom, unpack_cell, unpack_count, unpack_head, unpack_nack,
-    unpack_offer,
+    is_word_for, pack_atom, pack_cell, pack_count, pack_course, pack_head, pack_nack, pack_offer,
+    read_cell, read_course, read_head, read_offer, unpack_atom, unpack_cell, unpack_count,
+    unpack_course, unpack_head, unpack_nack, unpack_offer,
 };
 
 /// What a message is made of, and what an offer is: two are equal by `==` exactly where they are the same.
@@ -53,6 +53,8 @@ pub enum Base {
     Recv(u8),
     Always(Message),
     OnNack(NackName),
+    /// The end of this thread, 0 to 63.
+    OnEnd(u8),
     Never,
 }
 
@@ -179,6 +181,8 @@ pub enum Direction {
     Recv { chan: u8 },
     Always { atoms: u8 },
     OnNack(NackName),
+    /// The end of this thread, 0 to 63.
+    OnEnd(u8),
 }
 
 impl Direction {
@@ -208,11 +212,24 @@ pub struct Binding {
     pub scope: u8,
 }
 
+/// Where a thread is on its course. A start stamp is the last stamp of the thread that started it when that
+/// came to the `spawn`, and 0 of a thread that nobody has to start.
+#[derive(Clone, Copy, Debug, PartialEq, Eq)]
+pub enum Course {
+    Unstarted,
+    /// Started, at this stamp.
+    Running(u32),
+    /// Started at this stamp, and ended or faulted in place of this sync, 0 to 1024.
+    Ended(u32, u16),
+}
+
 /// Why a row was committed alone.
 #[derive(Clone, Copy, Debug, PartialEq, Eq)]
 pub enum Cause {
     Always(Message),
     Nack(NackName),
+    /// This thread has ended.
+    End(u8),
 }
 
 /// One rendezvous, or one commit that stands alone. A row goes with the number of its offer.
@@ -304,5 +321,15 @@ pub enum Step {
         k: u8,
         row: Row,
         scope: u8,
+    },
+    /// Starts another thread from a row that is held; the seat holds that thread's row 0 from now on. The
+    /// row's sync is 0 to 1024.
+    Start {
+        row: Row,
+        thread: u8,
+    },
+    /// Ends the row's thread. The row's sync is 0 to 1024.
+    Finish {
+        row: Row,
     },
 }

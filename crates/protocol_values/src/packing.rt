@@ -4,11 +4,13 @@ ghost use Rattle.std.specs.Prelude.{ℕ, ◌≡◌, ◌^◌, ◌<◌, ◌≤◌,
 ghost use Rattle.protocol_values.specs.declared.Atom.{Atom};
 ghost use Rattle.protocol_values.specs.declared.Binding.{Binding};
 ghost use Rattle.protocol_values.specs.declared.Cell.{Cell};
+ghost use Rattle.protocol_values.specs.declared.Course.{Course};
 ghost use Rattle.protocol_values.specs.declared.Head.{Head};
 ghost use Rattle.protocol_values.specs.Words.{
   IsAtomInRange,
   IsBindingInRange,
   IsCellInRange,
+  IsCourseInRange,
   IsDirectionInRange,
   IsHeadInRange,
   IsJoinedInRange,
@@ -21,8 +23,12 @@ ghost use Rattle.protocol_values.specs.Words.{
   cell_of,
   cell_word,
   count_of,
+  course_fields,
+  course_of,
+  course_word,
   direction_bits,
   direction_fields,
+  ends_in_a_table,
   field,
   has_stamp,
   head_fields,
@@ -50,7 +56,9 @@ ghost use Rattle.protocol_values.specs.Words.{
   is_word_for,
 };
 
-use crate::{Atom, Base, Binding, Cell, Direction, Head, Joined, Message, NackName, Offer, Row};
+use crate::{
+    Atom, Base, Binding, Cell, Course, Direction, Head, Joined, Message, NackName, Offer, Row,
+};
 
 /// The number in `width` bits of a word, from bit `low` on.
 fn field(word: u64, low: u32, width: u32) -> u64
@@ -211,6 +219,7 @@ fn direction_bits(direction: Direction) -> u64
         Direction::OnNack(nack) => 4
             + u64::from(nack.thread) * (1 << 11)
             + u64::from(nack.k) * (1 << 17),
+        Direction::OnEnd(thread) => 5 + u64::from(thread) * (1 << 11),
     }
 }
 
@@ -241,6 +250,7 @@ fn direction_fields(word: u64) -> Direction
             thread: field(word, 11, 6) as u8,
             k: field(word, 17, 6) as u8,
         }),
+        5 => Direction::OnEnd(field(word, 11, 6) as u8),
         _ => Direction::Never,
     }
 }
@@ -366,6 +376,70 @@ pub fn unpack_nack(word: u64) -> Option<Option<Binding>>
     }
 }
 
+// ---- a life
+
+/// The word of a thread's life: the sync at its end is 0 to 1024.
+#[tactic(auto, unfolding(crate::specs::Words::course_word))]
+pub fn pack_course(course: Course) -> u64
+    requires { IsCourseInRange course }
+    ensures { result ≡ course_word course }
+{
+    match course {
+        Course::Unstarted => 0,
+        Course::Running(start) => 1 + u64::from(start) * 2,
+        Course::Ended(start, sync) => 1
+            + u64::from(start) * 2
+            + (1 << 33)
+            + u64::from(sync) * (1 << 34),
+    }
+}
+
+fn course_fields(word: u64) -> Course
+    ensures value { result ≡ course_fields word }
+{
+    if field(word, 0, 1) == 0 {
+        return Course::Unstarted;
+    }
+    let start = field(word, 1, 32) as u32;
+    if field(word, 33, 1) == 1 {
+        Course::Ended(start, field(word, 34, 11) as u16)
+    } else {
+        Course::Running(start)
+    }
+}
+
+fn ends_in_a_table(course: Course) -> bool
+    ensures { result ≡ ends_in_a_table course }
+{
+    match course {
+        Course::Unstarted | Course::Running(_) => true,
+        Course::Ended(_, sync) => sync <= 1024,
+    }
+}
+
+/// The life of a word, or none where the word is no life's.
+#[tactic(auto, unfolding(crate::specs::Words::course_of))]
+pub fn unpack_course(word: u64) -> Option<Course>
+    ensures value { result ≡ course_of word }
+    ensures sound { IfSome result (λ c. IsCourseInRange c × (word ≡ course_word c)) }
+    ensures complete { (c : Course) → IsCourseInRange c → word ≡ course_word c → result ≡ Some c }
+{
+    let course = course_fields(word);
+    if ends_in_a_table(course) && pack_course(course) == word {
+        Some(course)
+    } else {
+        None
+    }
+}
+
+/// The life of a word of which it is known that it is a life's: nothing is tested.
+pub fn read_course(word: u64) -> Course
+    requires { is_some (course_of word) ≡ true }
+    ensures { course_of word ≡ Some result }
+{
+    course_fields(word)
+}
+
 // ---- a whole offer
 
 fn atom_count(message: Message) -> u8
@@ -392,6 +466,7 @@ fn head_in(offer: Offer) -> Head
             atoms: atom_count(message),
         },
         Base::OnNack(nack) => Direction::OnNack(nack),
+        Base::OnEnd(thread) => Direction::OnEnd(thread),
         Base::Never => Direction::Never,
     };
     Head {
@@ -405,7 +480,7 @@ fn message_in(base: Base) -> Message
 {
     match base {
         Base::Send(_, message) | Base::Always(message) => message,
-        Base::Recv(_) | Base::OnNack(_) | Base::Never => Message::Empty,
+        Base::Recv(_) | Base::OnNack(_) | Base::OnEnd(_) | Base::Never => Message::Empty,
     }
 }
 
@@ -458,6 +533,7 @@ fn base_of(direction: Direction, first: Atom, second: Atom, third: Atom) -> Base
         Direction::Recv { chan } => Base::Recv(chan),
         Direction::Always { atoms } => Base::Always(message_of(atoms, first, second, third)),
         Direction::OnNack(nack) => Base::OnNack(nack),
+        Direction::OnEnd(thread) => Base::OnEnd(thread),
     }
 }
 
@@ -501,6 +577,7 @@ fn read_base(direction: Direction, first: u64, second: u64, third: u64) -> Base
         Direction::Recv { chan } => Base::Recv(chan),
         Direction::Always { atoms } => Base::Always(read_message(atoms, first, second, third)),
         Direction::OnNack(nack) => Base::OnNack(nack),
+        Direction::OnEnd(thread) => Base::OnEnd(thread),
     }
 }
 

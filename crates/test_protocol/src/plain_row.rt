@@ -2,10 +2,13 @@
 
 use protocol_values::{Atom, Message, NackName, Row};
 
-/// The bits of an offer's head that hold the channel, the nack, the number of atoms and the scopes.
+/// The bits of an offer's head that hold the channel, the nack, the thread, the number of atoms and the
+/// scopes.
 const CHANNEL: u64 = 0x7f8;
 
 const NACK: u64 = 0x7f_f800;
+
+const THREAD: u64 = 0x1_f800;
 
 const ATOMS: u64 = 0x180_0000;
 
@@ -28,6 +31,7 @@ pub(crate) enum Way {
     Recv(u8),
     Always,
     OnNack(NackName),
+    OnEnd(u8),
 }
 
 /// How far a row is, and with whom.
@@ -92,6 +96,7 @@ fn is_head(word: u64) -> bool {
         2 => CHANNEL,
         3 => ATOMS,
         4 => NACK,
+        5 => THREAD,
         _ => return false,
     };
     let all = 7 | used | SCOPES;
@@ -117,6 +122,7 @@ pub(crate) fn way_of(head: u64) -> Way {
             thread: ((head >> 11) & 63) as u8,
             k: ((head >> 17) & 63) as u8,
         }),
+        5 => Way::OnEnd(((head >> 11) & 63) as u8),
         _ => Way::Never,
     }
 }

@@ -71,6 +71,7 @@ impl PlainWorld {
             Step::Grant { row, offer } => self.grant(row, offer),
             Step::Take { row } => self.take(seat, row),
             Step::Bind { k, row, scope } => self.bind(seat, k, row, scope),
+            Step::Start { .. } | Step::Finish { .. } => false,
         }
     }
 
@@ -251,7 +252,7 @@ impl PlainWorld {
         let cause = match self.way(row, offer) {
             Some(Way::Always) => Some(0),
             Some(Way::OnNack(nack)) => self.enabled(nack),
-            _ => None,
+            Some(Way::Send(_) | Way::Recv(_) | Way::OnEnd(_) | Way::Never) | None => None,
         };
         let Some(cause) = cause else {
             return false;
@@ -351,7 +352,8 @@ impl PlainWorld {
         let cause = match way {
             Way::Always => Cause::Always(self.message(line.row, line.own)?),
             Way::OnNack(nack) => Cause::Nack(nack),
-            _ => return None,
+            Way::OnEnd(thread) => Cause::End(thread),
+            Way::Send(_) | Way::Recv(_) | Way::Never => return None,
         };
         Some(Commit::Alone {
             at: (line.row, line.own),
