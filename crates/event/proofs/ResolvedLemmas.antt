@@ -4,11 +4,11 @@ use Rattle.std.proofs.lemmas.List.{at_drop_more}
 use Rattle.event.proofs.TreeLemmas.{base_count-Or, scope_count-Or}
 use Rattle.event.specs.Resolved.{tree_of, tree_level}
 use Rattle.event.specs.Tree.{Tree, Single, Or, Wrap, Scope, choose, base_count, scope_count}
-use Rattle.event.specs.declared.Resolved.{Resolved, Send, Recv, Always, Never, OnNack, Choose, Wrap as WrapOf, Scope as ScopeOf}
+use Rattle.event.specs.declared.Resolved.{Resolved, Send, Recv, Always, Never, OnNack, OnEnd, Choose, Wrap as WrapOf, Scope as ScopeOf}
 use Rattle.event.specs.declared.Resolved.TheFolds.{fold_out-Resolved, map-Resolved}
 use Rattle.event.specs.declared.Resolved.TheOpen.{Resolved-F}
 use Rattle.event.specs.declared.Resolved.TheOpen as level
-use Rattle.event.specs.declared.Resolved.TheVariants.{outs-Send, outs-Recv, outs-Always, outs-Never, outs-OnNack, outs-Choose, outs-Wrap, outs-Scope, rolls-Choose, rolls-Wrap, rolls-Scope}
+use Rattle.event.specs.declared.Resolved.TheVariants.{outs-Send, outs-Recv, outs-Always, outs-Never, outs-OnNack, outs-OnEnd, outs-Choose, outs-Wrap, outs-Scope, rolls-Choose, rolls-Wrap, rolls-Scope}
 use Rattle.event.specs.declared.Resolved.TheViews.{out-Resolved, roll-Resolved, roll-out-Resolved}
 use Rattle.protocol_values.specs.declared.Base.{Base}
 use Rattle.protocol_values.specs.declared.Base.TheVariants as base
@@ -34,6 +34,9 @@ tree_of-Never = tree_of_level _ _ outs-Never
 pub tree_of-OnNack : (nack : NackName) → tree_of (OnNack nack) ≡ Single (base.OnNack nack)
 tree_of-OnNack nack = tree_of_level _ _ (outs-OnNack nack)
 
+pub tree_of-OnEnd : (thread : ℕ) → tree_of (OnEnd thread) ≡ Single (base.OnEnd thread)
+tree_of-OnEnd thread = tree_of_level _ _ (outs-OnEnd thread)
+
 pub tree_of-Choose : (members : Vec Resolved Global) → tree_of (Choose members) ≡ choose (map tree_of members.items)
 tree_of-Choose members = tree_of_level _ _ (outs-Choose members)
 
@@ -54,6 +57,7 @@ module _ (e : Resolved)
   single_at (level.Always message) is = (base.Always message, tree_of_level e _ is)
   single_at level.Never is = (base.Never, tree_of_level e _ is)
   single_at (level.OnNack nack) is = (base.OnNack nack, tree_of_level e _ is)
+  single_at (level.OnEnd thread) is = (base.OnEnd thread, tree_of_level e _ is)
   single_at (level.Choose members) is = absurd (no_choice members (sym (roll-out-Resolved e) ∙ ap roll-Resolved is ∙ rolls-Choose members))
   single_at (level.Wrap wrap inner) is = absurd (no_wrap wrap inner (sym (roll-out-Resolved e) ∙ ap roll-Resolved is ∙ rolls-Wrap wrap inner))
   single_at (level.Scope nack inner) is = absurd (no_scope nack inner (sym (roll-out-Resolved e) ∙ ap roll-Resolved is ∙ rolls-Scope nack inner))

@@ -1,6 +1,6 @@
 -- The event tree that a `Resolved` stands for.
 use Rattle.event.specs.declared.Resolved.{Resolved}
-use Rattle.event.specs.declared.Resolved.TheOpen.{Resolved-F, Send, Recv, Always, Never, OnNack, Choose, Wrap, Scope}
+use Rattle.event.specs.declared.Resolved.TheOpen.{Resolved-F, Send, Recv, Always, Never, OnNack, OnEnd, Choose, Wrap, Scope}
 use Rattle.event.specs.declared.Resolved.TheFolds.{fold-Resolved}
 use Rattle.event.specs.Tree.{Tree, Single, choose, Wrap as TreeWrap, Scope as TreeScope}
 use Rattle.protocol_values.specs.declared.Base.TheVariants as base
@@ -12,6 +12,7 @@ tree_level (Recv chan) = Single (base.Recv chan)
 tree_level (Always message) = Single (base.Always message)
 tree_level Never = Single base.Never
 tree_level (OnNack nack) = Single (base.OnNack nack)
+tree_level (OnEnd thread) = Single (base.OnEnd thread)
 tree_level (Choose events) = choose events.items
 tree_level (Wrap wrap event) = TreeWrap wrap event.value
 tree_level (Scope nack event) = TreeScope nack event.value

@@ -21,6 +21,8 @@ pub enum Resolved {
     Always(Message),
     Never,
     OnNack(NackName),
+    /// The end of this thread, 0 to 63.
+    OnEnd(u8),
     Choose(Vec<Resolved>),
     Wrap(u32, Box<Resolved>),
     Scope(u8, Box<Resolved>),
@@ -94,6 +96,7 @@ fn push_offers(event: &Resolved, around: u8, mut next: u8, offers: &mut SmallVec
         Resolved::Recv(chan) => Base::Recv(*chan),
         Resolved::Always(message) => Base::Always(*message),
         Resolved::OnNack(name) => Base::OnNack(*name),
+        Resolved::OnEnd(thread) => Base::OnEnd(*thread),
         Resolved::Never => Base::Never,
     };
     let scopes = around;

@@ -79,10 +79,10 @@ process_keeps count s t h e = at_end (eqb (length s.3) 0) e
         let d = declared 64 s.1 a.first n.first n.is in
         let b = bound_ok (block_at 49 Allowed (start s.2.channels) n.first.2) _ t n.then in
         let b-read = blocks_read 49 Allowed (start s.2.channels) n.first.2 b.first b.is in
-        let k : Known = record { channels = length b.first.1.channels; variables = length b.first.1.variables } in
+        let k : Known = record { channels = length b.first.1.channels; variables = length b.first.1.variables; processes = length s.1 } in
         let later = b-read.later k (record { channels = refl; variables = omega arith }) in
         let channels : length b.first.1.channels ≡ count = later.channels ∙ h.channels in
-        let p = proc_from n.first.0 b.first.0 b.first.1 in
+        let p = proc_from n.first.0 (length s.1) b.first.0 b.first.1 in
         subst (AreDrawn count) (ok_is _ _ b.then) (record {
           few = d.few;
           same = omega (arith, d.more, h.same, length-append s.0 (p ∷ []));

@@ -142,10 +142,10 @@ process_parts h = seq (word Process 49) (λ w. seq (declared 64 h.0) (λ t. proc
 process_reads : {P : List Token → Type 0} (x : List Proc) (h : Before) → Facts P (process_parts h) (λ ts. process_next (x, h.0, h.1, ts))
 unfolding process_next
 process_reads x h =
-    then (word Process 49) (λ w. seq (declared 64 h.0) (λ t. process_end h t)) (λ ts. expect_at 49 Process ts) (λ rest. declare_at 64 h.0 rest >>= λ n. block_at 49 Allowed (start h.1.channels) n.2 >>= λ b. Ok (x ++ proc_from n.0 b.0 b.1 ∷ [], n.1, b.1, b.2)) (expect_facts 49 Process)
-    (λ w u clean. then (declared 64 h.0) (λ t. process_end h t) (λ ts. declare_at 64 h.0 ts) (λ n. block_at 49 Allowed (start h.1.channels) n.2 >>= λ b. Ok (x ++ proc_from n.0 b.0 b.1 ∷ [], n.1, b.1, b.2)) (declared_facts 64 h.0)
-    (λ t v clean'. give (block_lang true 49 (start h.1.channels)) (λ w x rest. (x, h.0 ++ t ∷ [], block_after (start h.1.channels) w, rest)) (λ ts. block_at 49 Allowed (start h.1.channels) ts) (λ b. (x ++ proc_from t b.0 b.1 ∷ [], h.0 ++ t ∷ [], b.1, b.2))
-    (λ w b. x ++ proc_from t b (block_after (start h.1.channels) w) ∷ []) (λ w b rest. refl) (blocks_together 49 Allowed (start h.1.channels))))
+    then (word Process 49) (λ w. seq (declared 64 h.0) (λ t. process_end h t)) (λ ts. expect_at 49 Process ts) (λ rest. declare_at 64 h.0 rest >>= λ n. block_at 49 Allowed (start h.1.channels) n.2 >>= λ b. Ok (x ++ proc_from n.0 (length h.0) b.0 b.1 ∷ [], n.1, b.1, b.2)) (expect_facts 49 Process)
+    (λ w u clean. then (declared 64 h.0) (λ t. process_end h t) (λ ts. declare_at 64 h.0 ts) (λ n. block_at 49 Allowed (start h.1.channels) n.2 >>= λ b. Ok (x ++ proc_from n.0 (length h.0) b.0 b.1 ∷ [], n.1, b.1, b.2)) (declared_facts 64 h.0)
+    (λ t v clean'. give (block_lang true 49 (start h.1.channels)) (λ w x rest. (x, h.0 ++ t ∷ [], block_after (start h.1.channels) w, rest)) (λ ts. block_at 49 Allowed (start h.1.channels) ts) (λ b. (x ++ proc_from t (length h.0) b.0 b.1 ∷ [], h.0 ++ t ∷ [], b.1, b.2))
+    (λ w b. x ++ proc_from t (length h.0) b (block_after (start h.1.channels) w) ∷ []) (λ w b rest. refl) (blocks_together 49 Allowed (start h.1.channels))))
 
 process_facts : (x : List Proc) (h : Before) → Facts (λ ts. some_left ts ≡ true) (process_lang h) (process_reader x h)
 unfolding plain

@@ -144,7 +144,7 @@ no_processes channels s h e = record { written = []; list = []; tokens = is_empt
 
 processes_more : (channels names new : List (List ℕ)) (p : written.Process) (ps : List written.Process) (b : trees.Block × Names) (qs : List Proc)
     → declare 64 names p.name ≡ Some new → block_meaning true (bare_names channels) p.body ≡ Some b → processes_meaning channels new ps ≡ Some qs
-    → processes_meaning channels names (p ∷ ps) ≡ Some (record { name = p.name; body = b.0; variables = b.1.variables; channels = length channels } ∷ qs)
+    → processes_meaning channels names (p ∷ ps) ≡ Some (record { name = p.name; body = b.0; variables = b.1.variables; channels = length channels; earlier = length names } ∷ qs)
 unfolding processes_meaning
 processes_more channels names new p ps b qs declared meant more = rw (declared, meant, more) refl
 
@@ -160,10 +160,10 @@ one_process channels n s x fuel same t e next =
     let body' = blocks_found 49 Allowed (start s.2.channels) c.first.2 b.first b.is in
     let meant : block_meaning true (bare_names channels) body'.body ≡ Some (b.first.0, names_at b.first.1) = ap (λ (y : List (List ℕ)). block_meaning true (bare_names y) body'.body) (sym same) ∙ body'.meaning in
     let grows = block_grows body'.body true (bare_names channels) (b.first.0, names_at b.first.1) meant in
-    let whole : (s.0 ++ proc_from c.first.0 b.first.0 b.first.1 ∷ [], c.first.1, b.first.1, b.first.2) ≡ t = ok_is _ _ b.then in
+    let whole : (s.0 ++ proc_from c.first.0 (length s.1) b.first.0 b.first.1 ∷ [], c.first.1, b.first.1, b.first.2) ≡ t = ok_is _ _ b.then in
     let tokens : s.3 ≡ Fixed Process ∷ Name c.first.0 ∷ block_tokens body'.body b.first.2 = word.is ∙ ap (λ (y : List Token). Fixed Process ∷ y) (name.tokens ∙ ap (λ (y : List Token). Name c.first.0 ∷ y) body'.tokens) in
     let shorter : length b.first.2 ≤ n = omega (arith, fuel, ap length tokens, body_longer body'.body b.first.2) in
-    let proc = proc_from c.first.0 b.first.0 b.first.1 in
+    let proc = proc_from c.first.0 (length s.1) b.first.0 b.first.1 in
     let next' : length b.first.2 ≤ n → b.first.1.channels ≡ channels → SpellsProcesses channels (s.0 ++ proc ∷ [], c.first.1, b.first.1, b.first.2) x =
     subst (λ (y : Drawn). length y.3 ≤ n → y.2.channels ≡ channels → SpellsProcesses channels y x) (sym whole) next in
     let more = next' shorter grows.channels in
@@ -172,7 +172,7 @@ one_process channels n s x fuel same t e next =
       list = proc ∷ more.list;
       tokens = tokens ∙ ap (λ (y : List Token). Fixed Process ∷ Name c.first.0 ∷ block_tokens body'.body y) more.tokens;
       depth = omega (arith, body'.depth, more.depth);
-      meaning = processes_more channels s.1 c.first.1 (record { name = c.first.0; body = body'.body }) more.written (b.first.0, names_at b.first.1) more.list name.meaning meant more.meaning ∙ (ap (λ (y : List (List ℕ)). Some (record { name = c.first.0; body = b.first.0; variables = b.first.1.variables; channels = length y } ∷ more.list)) (sym grows.channels));
+      meaning = processes_more channels s.1 c.first.1 (record { name = c.first.0; body = body'.body }) more.written (b.first.0, names_at b.first.1) more.list name.meaning meant more.meaning ∙ (ap (λ (y : List (List ℕ)). Some (record { name = c.first.0; body = b.first.0; variables = b.first.1.variables; channels = length y; earlier = length s.1 } ∷ more.list)) (sym grows.channels));
       value = sym (append_assoc s.0 (proc ∷ []) more.list) ∙ more.value;
       same = more.same;
     }
@@ -194,7 +194,7 @@ processes_found channels (suc n) s x fuel same e = at_end (λ t f g h. processes
 
 process_reads : (acc : List Proc) (names new channels : List (List ℕ)) (h : Here) (p : written.Process) (b : trees.Block × Names) (rest : List Token)
     → h.channels ≡ channels → declare 64 names p.name ≡ Some new → block_meaning true (bare_names channels) p.body ≡ Some b → block_depth p.body < 49
-    → process_step (acc, names, h, Fixed Process ∷ Name p.name ∷ block_tokens p.body rest) ≡ Some (Ok (acc ++ proc_from p.name b.0 (at b.1 no_counts) ∷ [], new, at b.1 no_counts, rest))
+    → process_step (acc, names, h, Fixed Process ∷ Name p.name ∷ block_tokens p.body rest) ≡ Some (Ok (acc ++ proc_from p.name (length names) b.0 (at b.1 no_counts) ∷ [], new, at b.1 no_counts, rest))
 unfolding process_next
 process_reads acc names new channels h p b rest same declared meant deep =
     let block : block_at 49 Allowed (start h.channels) (block_tokens p.body rest) ≡ Ok (b.0, at b.1 no_counts, rest) =
@@ -226,10 +226,10 @@ processes_again (p ∷ ps) channels names acc qs h (suc n) same deep e fuel =
     let o = part (processes_meaning channels d.first ps) _ qs b.then in
     let rest = processes_tokens ps in
     let grows = block_grows p.body true (bare_names channels) b.first b.is in
-    let proc = proc_from p.name b.first.0 (at b.first.1 no_counts) in
+    let proc = proc_from p.name (length names) b.first.0 (at b.first.1 no_counts) in
     let step = process_reads acc names d.first channels h p b.first rest same d.is b.is (omega (arith, deep)) in
     let more = processes_again ps channels d.first (acc ++ proc ∷ []) o.first (at b.first.1 no_counts) n grows.channels (omega (arith, deep)) o.is (omega (arith, fuel, body_longer p.body rest)) in
-    let counted : proc ∷ o.first ≡ qs = ap (λ (y : List (List ℕ)). record { name = p.name; body = b.first.0; variables = b.first.1.variables; channels = length y } ∷ o.first) grows.channels ∙ some_is _ _ o.then in
+    let counted : proc ∷ o.first ≡ qs = ap (λ (y : List (List ℕ)). record { name = p.name; body = b.first.0; variables = b.first.1.variables; channels = length y; earlier = length names } ∷ o.first) grows.channels ∙ some_is _ _ o.then in
     record {
       after = more.after;
       reads = one_step process_step n _ _ _ step more.reads;

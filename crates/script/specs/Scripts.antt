@@ -18,8 +18,9 @@ use Rattle.script.specs.declared.fault.ScriptFault.{ScriptFault}
 use Rattle.script.specs.declared.fault.ScriptFault.TheVariants as faults
 use Rattle.script_token.specs.declared.kind.Symbol.TheVariants.{Channel, Process, Semicolon}
 
-abbrev pub proc_from : List ℕ → Block → Here → Proc
-proc_from name body h = record { name = name; body = body; variables = h.variables; channels = length h.channels }
+-- a process behind so many others
+abbrev pub proc_from : List ℕ → ℕ → Block → Here → Proc
+proc_from name earlier body h = record { name = name; body = body; variables = h.variables; channels = length h.channels; earlier = earlier }
 
 abbrev pub script_of : SeenScript → Script
 script_of s = record { channels = string_texts s.channels.items; processes = map proc_of s.processes.items }
@@ -62,7 +63,7 @@ process_next s = do
   rest ← expect_at 49 Process s.3
   n ← declare_at 64 s.1 rest
   b ← block_at 49 Allowed (start s.2.channels) n.2
-  Ok (s.0 ++ proc_from n.0 b.0 b.1 ∷ [], n.1, b.1, b.2)
+  Ok (s.0 ++ proc_from n.0 (length s.1) b.0 b.1 ∷ [], n.1, b.1, b.2)
 
 abbrev pub process_step : Drawn → Option (Result Drawn Told)
 process_step s = if length s.3 == 0 then None else Some (process_next s)

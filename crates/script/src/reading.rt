@@ -55,7 +55,8 @@ fn declare<'a>(
     limit: usize,
     tokens: &'a [Placed<'a>],
 ) -> Result<(&'a str, &'a [Placed<'a>]), Stop>
-    ensures { Gives (λ x. (x.0.now, texts table.new.names.items, bare x.1.now)) result (declare_at limit (texts table.old.names.items) (bare tokens.now)) }
+    ensures value { Gives (λ x. (x.0.now, texts table.new.names.items, bare x.1.now)) result (declare_at limit (texts table.old.names.items) (bare tokens.now)) }
+    ensures few { OnOk result (length (texts table.old.names.items) < limit) }
 {
     let Some(name) = name_at(tokens) else {
         return Err(stop(Problem::Syntax, tokens));
@@ -110,14 +111,23 @@ struct Draft<'a> {
     scope: Scope<'a>,
 }
 
-fn proc_with(alloc: Global, name: &str, block: Block, scope: &Scope<'_>) -> Result<Proc, AllocError>
-    requires { KeepsLimits (record { channels = length (here scope.now).channels; variables = length (here scope.now).variables }) (block_of block) }
-    ensures { IfOk result (λ p. proc_of p ≡ proc_from name.now (block_of block) (here scope.now)) }
+/// A process behind so many others.
+fn proc_with(
+    alloc: Global,
+    name: &str,
+    earlier: usize,
+    block: Block,
+    scope: &Scope<'_>,
+) -> Result<Proc, AllocError>
+    requires limits { KeepsLimits (record { channels = length (here scope.now).channels; variables = length (here scope.now).variables; processes = earlier }) (block_of block) }
+    requires place { earlier < 64 }
+    ensures { IfOk result (λ p. proc_of p ≡ proc_from name.now earlier (block_of block) (here scope.now)) }
 {
     let variables = owned(alloc, scope.variables.names(alloc)?)?;
     let name = String::from_str(alloc, name)?;
     let body = Arc::new(alloc, block)?;
-    Ok(Proc::new(name, body, variables, scope.channels.len()))
+    let channels = scope.channels.len();
+    Ok(Proc::new(name, body, variables, channels, earlier as u8))
 }
 
 /// One more process.
@@ -130,12 +140,13 @@ fn process<'a>(
     ensures { Gives (λ x. drawn draft.new (bare x.now)) result (process_next (drawn draft.old (bare tokens.now))) }
 {
     let rest = expect(tokens, ROOM, Symbol::Process)?;
+    let earlier = draft.names.len();
     let (name, rest) = declare(&mut draft.names, PROCESSES, rest)?;
     draft.scope.variables = Table::new(alloc);
     // A block leaves the counts as they were, so they are 0 here; set anew they are known to be.
     draft.scope.counts = Counts { bases: 0, nacks: 0 };
     let (block, rest) = read_block(alloc, &mut draft.scope, rest, ROOM, Loops::Allowed)?;
-    let process = proc_with(alloc, name, block, &draft.scope)?;
+    let process = proc_with(alloc, name, earlier, block, &draft.scope)?;
     draft.processes.push(process)?;
     Ok(rest)
 }

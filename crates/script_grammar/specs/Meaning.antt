@@ -151,6 +151,7 @@ as_turn (trees.Runs (trees.Branches test first second) rest) = None
 as_turn (trees.Runs (trees.Loops times names event body) rest) = None
 as_turn (trees.Runs (trees.LoopsForever names event body) rest) = None
 as_turn (trees.Runs trees.Ends rest) = None
+as_turn (trees.Runs (trees.Spawns process) rest) = None
 
 -- Statements are read with whether loops may stand there. They may not in a block of a guard or a nack.
 unfoldable mutual
@@ -234,7 +235,7 @@ channels_meaning names (text ∷ texts) = declare 256 names text >>= λ names. c
 unfoldable pub processes_meaning : List (List ℕ) → List (List ℕ) → List Process → Option (List Proc)
 processes_meaning channels names [] = Some []
 processes_meaning channels names (p ∷ ps) = do
-  names ← declare 64 names p.name
+  grown ← declare 64 names p.name
   b ← block_meaning true (record { channels = channels; variables = [] }) p.body
-  qs ← processes_meaning channels names ps
-  Some (record { name = p.name; body = b.0; variables = b.1.variables; channels = length channels } ∷ qs)
+  qs ← processes_meaning channels grown ps
+  Some (record { name = p.name; body = b.0; variables = b.1.variables; channels = length channels; earlier = length names } ∷ qs)

@@ -599,9 +599,9 @@ mutual
   turns_read zero word h ts x e = turn_read _ _ zero (no_event zero) (no_stmt zero) word h ts x e
   turns_read (suc r) word h ts x e = turn_read (event_at r) _ (suc r) (deeper (λ n. EventsRead n (event_at r)) r (events_read r)) (deeper (λ n. StmtsRead n (stmt_with (event_at r) (block_at r) (turn_at r) r)) r (stmt_read (event_at r) (block_at r) (turn_at r) r (events_read r) (blocks_read r) (turns_read r))) word h ts x e
 
--- the block of a process
-pub process_read : (h : Here) (ts : List Token) (x : Block × Here × List Token) → block_at 49 Allowed h ts ≡ Ok x
-    → KeepsLimits (record { channels = length x.1.channels; variables = length x.1.variables }) x.0
-process_read h ts x e =
+-- the block of a process, behind so many others
+pub process_read : (earlier : ℕ) (h : Here) (ts : List Token) (x : Block × Here × List Token) → block_at 49 Allowed h ts ≡ Ok x
+    → KeepsLimits (record { channels = length x.1.channels; variables = length x.1.variables; processes = earlier }) x.0
+process_read earlier h ts x e =
     let b = blocks_read 49 Allowed h ts x e in
     record { names = b.is_in _ (record { channels = refl; variables = omega arith }); depth = omega (arith, b.depth) }

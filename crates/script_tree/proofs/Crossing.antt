@@ -127,7 +127,7 @@ module _ (h : _ → RattleType) (bs : IsSend (h Block.the_member)) (by : IsSync 
       let b : IsSend (Arc (h Block.the_member)) = search (sendable, crosses) depth 20 in
       let e : IsSend (Arc (h Event.the_member)) = search (sendable, crosses) depth 20 in
       let m : IsSend (Arc (h Events.the_member)) = search (sendable, crosses) depth 20 in
-      recorded_send (Enum (E.shape T)) T.D T.to T.to_one (enum_send (E.shape T) ((n, (l, tt)), ((n, tt), ((l, tt), (tt, ((n, tt), ((m, tt), ((e, (bound_send, (l, tt))), ((b, (e, tt)), ((search sendable, (b, (e, tt))), tt))))))))))
+      recorded_send (Enum (E.shape T)) T.D T.to T.to_one (enum_send (E.shape T) ((n, (l, tt)), ((n, tt), ((l, tt), (tt, ((n, tt), ((search sendable, tt), ((m, tt), ((e, (bound_send, (l, tt))), ((b, (e, tt)), ((search sendable, (b, (e, tt))), tt)))))))))))
 
   event_sync : IsSync (E.row (Event.the_layer h))
   event_sync =
@@ -137,7 +137,7 @@ module _ (h : _ → RattleType) (bs : IsSend (h Block.the_member)) (by : IsSync 
       let b : IsSync (Arc (h Block.the_member)) = search (sendable, crosses) depth 20 in
       let e : IsSync (Arc (h Event.the_member)) = search (sendable, crosses) depth 20 in
       let m : IsSync (Arc (h Events.the_member)) = search (sendable, crosses) depth 20 in
-      recorded_sync (Enum (E.shape T)) T.D T.to T.to_one (enum_sync (E.shape T) ((n, (l, tt)), ((n, tt), ((l, tt), (tt, ((n, tt), ((m, tt), ((e, (bound_sync, (l, tt))), ((b, (e, tt)), ((search sendable, (b, (e, tt))), tt))))))))))
+      recorded_sync (Enum (E.shape T)) T.D T.to T.to_one (enum_sync (E.shape T) ((n, (l, tt)), ((n, tt), ((l, tt), (tt, ((n, tt), ((search sendable, tt), ((m, tt), ((e, (bound_sync, (l, tt))), ((b, (e, tt)), ((search sendable, (b, (e, tt))), tt)))))))))))
 
   events_send : IsSend (E.row (Events.the_layer h))
   events_send = search (sendable, crosses) depth 30
@@ -189,14 +189,14 @@ event_row_send =
     let l = exprs_send in
     let b = block_hole_send in
     let e = event_hole_send in
-    variants_send Event.enum ((n, (l, tt)), ((n, tt), ((l, tt), (tt, ((n, tt), ((events_hole_send, tt), ((e, (bound_send, (l, tt))), ((b, (e, tt)), ((search sendable, (b, (e, tt))), tt)))))))))
+    variants_send Event.enum ((n, (l, tt)), ((n, tt), ((l, tt), (tt, ((n, tt), ((search sendable, tt), ((events_hole_send, tt), ((e, (bound_send, (l, tt))), ((b, (e, tt)), ((search sendable, (b, (e, tt))), tt))))))))))
 
 pub stmt_row_send : IsSend Stmt.the_row
 stmt_row_send =
     let x = expr_row_send in
     let b = block_hole_send in
     let t = turn_hole_send in
-    variants_send Stmt.enum ((search sendable, (x, tt)), ((x, tt), ((bound_send, (event_hole_send, tt)), ((test_send, (b, (b, tt))), ((search sendable, (t, tt)), ((t, tt), (tt, tt)))))))
+    variants_send Stmt.enum ((search sendable, (x, tt)), ((x, tt), ((bound_send, (event_hole_send, tt)), ((test_send, (b, (b, tt))), ((search sendable, (t, tt)), ((t, tt), (tt, ((search sendable, tt), tt))))))))
 
 pub block_row_send : IsSend Block.the_row
 block_row_send = variants_send Block.enum (tt, ((stmt_row_send, (block_hole_send, tt)), tt))
@@ -219,14 +219,14 @@ event_row_sync =
     let l = exprs_sync in
     let b = block_hole_sync in
     let e = event_hole_sync in
-    variants_sync Event.enum ((n, (l, tt)), ((n, tt), ((l, tt), (tt, ((n, tt), ((events_hole_sync, tt), ((e, (bound_sync, (l, tt))), ((b, (e, tt)), ((search sendable, (b, (e, tt))), tt)))))))))
+    variants_sync Event.enum ((n, (l, tt)), ((n, tt), ((l, tt), (tt, ((n, tt), ((search sendable, tt), ((events_hole_sync, tt), ((e, (bound_sync, (l, tt))), ((b, (e, tt)), ((search sendable, (b, (e, tt))), tt))))))))))
 
 pub stmt_row_sync : IsSync Stmt.the_row
 stmt_row_sync =
     let x = expr_row_sync in
     let b = block_hole_sync in
     let t = turn_hole_sync in
-    variants_sync Stmt.enum ((search sendable, (x, tt)), ((x, tt), ((bound_sync, (event_hole_sync, tt)), ((test_sync, (b, (b, tt))), ((search sendable, (t, tt)), ((t, tt), (tt, tt)))))))
+    variants_sync Stmt.enum ((search sendable, (x, tt)), ((x, tt), ((bound_sync, (event_hole_sync, tt)), ((test_sync, (b, (b, tt))), ((search sendable, (t, tt)), ((t, tt), (tt, ((search sendable, tt), tt))))))))
 
 pub block_row_sync : IsSync Block.the_row
 block_row_sync = variants_sync Block.enum (tt, ((stmt_row_sync, (block_hole_sync, tt)), tt))
@@ -235,10 +235,10 @@ pub process_send : IsSend Proc.the_row
 process_send =
     let a = block_row_send in let b = block_row_sync in
     let t : IsSend (String.the_row Global.the_row ghosts) = search (sendable, crosses, texts) depth 20 in
-    declared_send Proc.the_type (t, (search (sendable, crosses) depth 20, (search (sendable, crosses) depth 20, (search sendable, tt))))
+    declared_send Proc.the_type (t, (search (sendable, crosses) depth 20, (search (sendable, crosses) depth 20, (search sendable, (search sendable, tt)))))
 
 pub process_sync : IsSync Proc.the_row
 process_sync =
     let a = block_row_send in let b = block_row_sync in
     let t : IsSync (String.the_row Global.the_row ghosts) = search (sendable, crosses, texts) depth 20 in
-    declared_sync Proc.the_type (t, (search (sendable, crosses) depth 20, (search (sendable, crosses) depth 20, (search sendable, tt))))
+    declared_sync Proc.the_type (t, (search (sendable, crosses) depth 20, (search (sendable, crosses) depth 20, (search sendable, (search sendable, tt)))))

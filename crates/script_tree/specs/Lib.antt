@@ -1,3 +1,4 @@
 pub mod Trees
 pub mod Limits
 pub mod Processes
+pub mod Spawning

@@ -1,9 +1,9 @@
 -- The limits that a process keeps: how deep it lies, how many base events and nacks a sync has, and
--- that each number of a variable or a channel stands for one.
+-- that each number of a variable, a channel or a process stands for one.
 use Rattle.std.specs.Prelude.{ℕ, ◌+◌, ◌<◌, ◌≤◌, max, List, [], ◌∷◌, Option, Some, None, ⊤}
 use Rattle.std.specs.List.{AllByRecursion, AllByRecursion-prop}
 use Rattle.std.specs.Coded.{×_prop, Unit-prop, le_prop}
-use Rattle.script_tree.specs.Trees.{Term, Single, Sum, Terms, Nothing, More, Expr, Test, Event, Sends, Receives, IsReady, IsNever, IsCancelled, Chooses, Wraps, Guards, Nacks, Events, NoMembers, Members, Stmt, Lets, Prints, Syncs, Branches, Loops, LoopsForever, Ends, Block, Stops, Runs}
+use Rattle.script_tree.specs.Trees.{Term, Single, Sum, Terms, Nothing, More, Expr, Test, Event, Sends, Receives, IsReady, IsNever, IsCancelled, IsJoined, Chooses, Wraps, Guards, Nacks, Events, NoMembers, Members, Stmt, Lets, Prints, Syncs, Branches, Loops, LoopsForever, Ends, Spawns, Block, Stops, Runs}
 use Rattle.script_tree.specs.declared.tree.Operand.{Operand}
 use Rattle.script_tree.specs.declared.tree.Operand.TheVariants.{Number, Named}
 use Rattle.script_tree.specs.declared.tree.Name.{Name}
@@ -19,6 +19,7 @@ abbrev mutual
   base_count (IsReady list) = 1
   base_count IsNever = 1
   base_count (IsCancelled nack) = 1
+  base_count (IsJoined process) = 1
   base_count (Chooses members) = bases_of_all members
   base_count (Wraps event names list) = base_count event
   base_count (Guards body event) = base_count event
@@ -35,6 +36,7 @@ abbrev mutual
   nack_count (IsReady list) = 0
   nack_count IsNever = 0
   nack_count (IsCancelled nack) = 0
+  nack_count (IsJoined process) = 0
   nack_count (Chooses members) = nacks_of_all members
   nack_count (Wraps event names list) = nack_count event
   nack_count (Guards body event) = nack_count event
@@ -81,6 +83,7 @@ abbrev mutual
   event_depth (IsReady list) = list_depth list
   event_depth IsNever = 0
   event_depth (IsCancelled nack) = 0
+  event_depth (IsJoined process) = 0
   event_depth (Chooses members) = 1 + members_depth members
   event_depth (Wraps event names list) = 1 + max (event_depth event) (list_depth list)
   event_depth (Guards body event) = 1 + max (1 + stmts_depth body) (event_depth event)
@@ -98,6 +101,7 @@ abbrev mutual
   stmt_depth (Loops times names event rest) = 1 + max (event_depth event) (stmts_depth rest)
   stmt_depth (LoopsForever names event rest) = 1 + max (event_depth event) (stmts_depth rest)
   stmt_depth Ends = 0
+  stmt_depth (Spawns process) = 0
 
   -- without the marks round it
   pub stmts_depth : Block → ℕ
@@ -109,10 +113,11 @@ block_depth body = 1 + stmts_depth body
 
 -- NUMBERS OF NAMES
 
--- how many channels and variables there are
+-- how many channels and variables there are, and how many processes' blocks have ended before
 pub record Known : Type 0 where
   pub channels : ℕ
   pub variables : ℕ
+  pub processes : ℕ
 
 abbrev pub NameIsIn : Known → Name → Type 0
 NameIsIn k (Variable v) = v < k.variables
@@ -154,6 +159,7 @@ abbrev mutual
   EventIsIn k (IsReady list) = ListIsIn k list
   EventIsIn k IsNever = ⊤
   EventIsIn k (IsCancelled nack) = NameIsIn k nack
+  EventIsIn k (IsJoined process) = process < k.processes
   EventIsIn k (Chooses members) = MembersAreIn k members
   EventIsIn k (Wraps event names list) = EventIsIn k event × (NamesAreIn k names × ListIsIn k list)
   EventIsIn k (Guards body event) = BlockIsIn k body × EventIsIn k event
@@ -171,6 +177,7 @@ abbrev mutual
   StmtIsIn k (Loops times names event rest) = NamesAreIn k names × (EventIsIn k event × (IsSmall event × BlockIsIn k rest))
   StmtIsIn k (LoopsForever names event rest) = NamesAreIn k names × (EventIsIn k event × (IsSmall event × BlockIsIn k rest))
   StmtIsIn k Ends = ⊤
+  StmtIsIn k (Spawns process) = process < k.processes
 
   pub BlockIsIn : Known → Block → Type 0
   BlockIsIn k Stops = ⊤
@@ -221,6 +228,7 @@ mutual
   EventIsIn-prop k (IsReady list) = ListIsIn-prop k list
   EventIsIn-prop k IsNever = Unit-prop
   EventIsIn-prop k (IsCancelled nack) = NameIsIn-prop k nack
+  EventIsIn-prop k (IsJoined process) = le_prop
   EventIsIn-prop k (Chooses members) = MembersAreIn-prop k members
   EventIsIn-prop k (Wraps event names list) = ×_prop (EventIsIn-prop k event) (×_prop (NamesAreIn-prop k names) (ListIsIn-prop k list))
   EventIsIn-prop k (Guards body event) = ×_prop (BlockIsIn-prop k body) (EventIsIn-prop k event)
@@ -238,6 +246,7 @@ mutual
   StmtIsIn-prop k (Loops times names event rest) = ×_prop (NamesAreIn-prop k names) (×_prop (EventIsIn-prop k event) (×_prop (IsSmall-prop event) (BlockIsIn-prop k rest)))
   StmtIsIn-prop k (LoopsForever names event rest) = ×_prop (NamesAreIn-prop k names) (×_prop (EventIsIn-prop k event) (×_prop (IsSmall-prop event) (BlockIsIn-prop k rest)))
   StmtIsIn-prop k Ends = Unit-prop
+  StmtIsIn-prop k (Spawns process) = le_prop
 
   pub BlockIsIn-prop : (k : Known) (body : Block) → IsProp (BlockIsIn k body)
   BlockIsIn-prop k Stops = Unit-prop

@@ -12,21 +12,23 @@ use Rattle.script_tree.specs.declared.process.Proc.{Proc as SeenProc}
 abbrev pub string_texts : {Z : Type 0} → List (String Z) → List (List ℕ)
 string_texts texts = map string_bytes texts
 
--- a process: its name, its statements, the names of its variables by their numbers, and how many channels there are
+-- a process: its name, its statements, the names of its variables by their numbers, how many channels there are, and
+-- how many processes stand before it
 pub record Proc : Type 0 where
   pub name : List ℕ
   pub body : Block
   pub variables : List (List ℕ)
   pub channels : ℕ
+  pub earlier : ℕ
 
 abbrev pub known_in : Proc → Known
-known_in p = record { channels = p.channels; variables = length p.variables }
+known_in p = record { channels = p.channels; variables = length p.variables; processes = p.earlier }
 
 abbrev pub IsProc : Proc → Type 0
 IsProc p = KeepsLimits (known_in p) p.body
 
 abbrev pub proc_of : SeenProc → Proc
-proc_of p = record { name = string_bytes p.name; body = block_of p.body.value; variables = string_texts p.variables.items; channels = p.channels }
+proc_of p = record { name = string_bytes p.name; body = block_of p.body.value; variables = string_texts p.variables.items; channels = p.channels; earlier = p.earlier }
 
 -- processes of a script with so many channels
 abbrev pub ShareChannels : ℕ → List Proc → Type 0

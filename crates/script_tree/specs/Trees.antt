@@ -13,9 +13,9 @@ use Rattle.script_tree.specs.declared.tree.Exprs.TheVariants as exprs
 use Rattle.script_tree.specs.declared.tree.Name.{Name}
 use Rattle.script_tree.specs.declared.tree.Relation.{Relation}
 use Rattle.script_tree.specs.declared.tree.Test.{Test as SeenTest}
-use Rattle.script_tree.specs.declared.tree.Event.{Event as SeenEvent, Send, Recv, Always, Never, Cancelled, Choose', Wrap', Guard', Nack'}
+use Rattle.script_tree.specs.declared.tree.Event.{Event as SeenEvent, Send, Recv, Always, Never, Cancelled, Joined, Choose', Wrap', Guard', Nack'}
 use Rattle.script_tree.specs.declared.tree.Events.{Events as SeenEvents, Nothing as NoEvents, More' as MoreEvents'}
-use Rattle.script_tree.specs.declared.tree.Stmt.{Stmt as SeenStmt, Let, Print, Sync', If', Loop', Forever', End}
+use Rattle.script_tree.specs.declared.tree.Stmt.{Stmt as SeenStmt, Let, Print, Sync', If', Loop', Forever', End, Spawn}
 use Rattle.script_tree.specs.declared.tree.Block.{Block as SeenBlock, Done, Then'}
 use Rattle.script_tree.specs.declared.tree.LoopBody.{LoopBody as SeenTurn}
 
@@ -74,6 +74,7 @@ mutual
     IsReady : (list : List Expr) → Event
     IsNever : Event
     IsCancelled : (nack : Name) → Event
+    IsJoined : (process : ℕ) → Event
     Chooses : (members : Events) → Event
     Wraps : (event : Event) (names : Option (List ℕ)) (list : List Expr) → Event
     Guards : (body : Block) (event : Event) → Event
@@ -91,6 +92,7 @@ mutual
     Loops : (times : ℕ) (names : Option (List ℕ)) (event : Event) (rest : Block) → Stmt
     LoopsForever : (names : Option (List ℕ)) (event : Event) (rest : Block) → Stmt
     Ends : Stmt
+    Spawns : (process : ℕ) → Stmt
 
   pub data Block : Type 0 where
     Stops : Block
@@ -103,6 +105,7 @@ abbrev mutual
   event_of (Always list) = IsReady (exprs_of list)
   event_of Never = IsNever
   event_of (Cancelled nack) = IsCancelled nack
+  event_of (Joined process) = IsJoined process
   event_of (Choose' p members) = Chooses (events_of members)
   event_of (Wrap' p event names list) = Wraps (event_of event) (option_map names_of names) (exprs_of list)
   event_of (Guard' p body q event) = Guards (block_of body) (event_of event)
@@ -120,6 +123,7 @@ abbrev mutual
   stmt_of (Loop' times p names q event r rest) = Loops times (option_map names_of names) (event_of event) (block_of rest)
   stmt_of (Forever' p names q event r rest) = LoopsForever (option_map names_of names) (event_of event) (block_of rest)
   stmt_of End = Ends
+  stmt_of (Spawn process) = Spawns process
 
   pub block_of : SeenBlock → Block
   block_of Done = Stops

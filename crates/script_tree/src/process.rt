@@ -1,22 +1,24 @@
 //! Processes.
 
-ghost use Rattle.std.specs.Prelude.{◌≡◌, ◌≤◌, length};
+ghost use Rattle.std.specs.Prelude.{◌≡◌, ◌<◌, ◌≤◌, length};
 ghost use Rattle.script_tree.specs.Trees.{block_of};
 ghost use Rattle.script_tree.specs.Limits.{BlockIsIn, BlockIsIn-prop, block_depth};
 
 use crate::tree::Block;
 use std::sync::Arc;
 
-/// A process: its name, its statements, the names of its variables by their numbers, and how many
-/// channels its script declares. Each process keeps the limits.
+/// A process: its name, its statements, the names of its variables by their numbers, how many channels
+/// its script declares, and how many processes stand before it there. Each process keeps the limits.
 #[derive(Debug, Drop)]
 pub struct Proc {
     name: String,
     body: Arc<Block>,
     variables: Vec<String>,
     channels: usize,
-    ghost names: { BlockIsIn (record { channels = channels; variables = length variables.items }) (block_of body.value) } by { BlockIsIn-prop (record { channels = channels; variables = length variables.items }) (block_of body.value) },
+    earlier: u8,
+    ghost names: { BlockIsIn (record { channels = channels; variables = length variables.items; processes = earlier }) (block_of body.value) } by { BlockIsIn-prop (record { channels = channels; variables = length variables.items; processes = earlier }) (block_of body.value) },
     ghost depth: { block_depth (block_of body.value) ≤ 48 },
+    ghost place: { earlier < 64 },
 }
 
 impl Proc {
@@ -26,16 +28,24 @@ impl Proc {
     ghost use Rattle.script_tree.specs.Limits.{KeepsLimits};
     ghost use Rattle.script_tree.specs.Processes.{proc_of, IsProc, string_texts};
 
-    /// A process whose body keeps the limits.
-    pub fn new(name: String, body: Arc<Block>, variables: Vec<String>, channels: usize) -> Proc
-        requires { KeepsLimits (record { channels = channels; variables = length variables.items }) (block_of body.value) }
-        ensures { proc_of result ≡ record { name = string_bytes name; body = block_of body.value; variables = string_texts variables.items; channels = channels } }
+    /// A process whose body keeps the limits, behind so many others: 0 to 63.
+    pub fn new(
+        name: String,
+        body: Arc<Block>,
+        variables: Vec<String>,
+        channels: usize,
+        earlier: u8,
+    ) -> Proc
+        requires limits { KeepsLimits (record { channels = channels; variables = length variables.items; processes = earlier }) (block_of body.value) }
+        requires place { earlier < 64 }
+        ensures { proc_of result ≡ record { name = string_bytes name; body = block_of body.value; variables = string_texts variables.items; channels = channels; earlier = earlier } }
     {
         Proc {
             name,
             body,
             variables,
             channels,
+            earlier,
         }
     }
 
@@ -49,8 +59,16 @@ impl Proc {
     pub fn body(&self) -> &Arc<Block>
         ensures value { block_of result.now.value ≡ (proc_of self.now).body }
         ensures limits { IsProc (proc_of self.now) }
+        ensures place { (proc_of self.now).earlier < 64 }
     {
         &self.body
+    }
+
+    /// How many processes stand before it in its script: 0 to 63. It can name just these.
+    pub fn earlier(&self) -> u8
+        ensures { result ≡ (proc_of self.now).earlier }
+    {
+        self.earlier
     }
 
     /// How many channels the script of the process declares.

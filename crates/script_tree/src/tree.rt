@@ -103,6 +103,8 @@ pub enum Event {
     Always(Exprs),
     Never,
     Cancelled(Name),
+    /// The end of another process of the script, by its number.
+    Joined(u8),
     Choose(Arc<Events>),
     Wrap(Arc<Event>, Option<Names>, Exprs),
     Guard(Arc<Block>, Arc<Event>),
@@ -128,6 +130,8 @@ pub enum Stmt {
     Loop(u32, Arc<LoopBody>),
     Forever(Arc<LoopBody>),
     End,
+    /// Starts another process of the script, by its number, unless it was started before.
+    Spawn(u8),
 }
 
 /// The statements between two braces.

@@ -8,7 +8,7 @@ use Rattle.script_tree.specs.declared.tree.Sign.{Sign}
 use Rattle.script_tree.specs.declared.tree.Sign.TheVariants as signs
 use Rattle.script_tree.specs.declared.tree.Relation.{Relation}
 use Rattle.script_tree.specs.declared.tree.Relation.TheVariants as relations
-use Rattle.script_tree.specs.Trees.{Term, Single, Sum, Terms, Nothing, More, Expr, Test, Event, Sends, Receives, IsReady, IsNever, IsCancelled, Chooses, Wraps, Guards, Nacks, Events, NoMembers, Members, Stmt, Lets, Prints, Syncs, Branches, Loops, LoopsForever, Ends, Block, Stops, Runs}
+use Rattle.script_tree.specs.Trees.{Term, Single, Sum, Terms, Nothing, More, Expr, Test, Event, Sends, Receives, IsReady, IsNever, IsCancelled, IsJoined, Chooses, Wraps, Guards, Nacks, Events, NoMembers, Members, Stmt, Lets, Prints, Syncs, Branches, Loops, LoopsForever, Ends, Spawns, Block, Stops, Runs}
 use Rattle.script_tree.specs.Processes.{Proc}
 use Rattle.script_grammar.specs.Written.{sign_symbol, relation_symbol, term_tokens, terms_tokens, expr_tokens, test_tokens, others_tokens, list_tokens, more_names_tokens, as_tokens, received_tokens, event_tokens, events_tokens, more_events_tokens, stmt_tokens, body_tokens, channels_tokens, processes_tokens}
 use Rattle.script_grammar.specs.Meaning.{Names}
@@ -95,6 +95,7 @@ mutual
   event_is ns (IsReady list) rest = rw (list_is ns list rest) (simp append_assoc)
   event_is ns IsNever rest = refl
   event_is ns (IsCancelled nack) rest = simp append_assoc
+  event_is ns (IsJoined process) rest = refl
   event_is ns (Chooses members) rest = rw (events_are ns members (Fixed symbols.CloseBracket ∷ rest)) (simp append_assoc)
   event_is ns (Wraps event names list) rest =
       let behind = Fixed symbols.To ∷ list_tokens (plain_list ns list) rest in
@@ -128,6 +129,7 @@ mutual
       let behind = Fixed symbols.Sync ∷ event_tokens (plain_event ns event) (Fixed symbols.Semicolon ∷ body_tokens (plain_block ns others) rest) in
       rw (received_is ns names behind, event_is ns event (Fixed symbols.Semicolon ∷ body_tokens (plain_block ns others) rest), stmts_are ns others rest) (simp append_assoc)
   stmt_is ns Ends rest = refl
+  stmt_is ns (Spawns process) rest = refl
 
   -- statements, and the brace that ends them
   stmts_are : (ns : Names) (b : Block) (rest : List Token) → text_of (body_tokens (plain_block ns b) rest) ≡ stmts_text ns b ++ 125 ∷ 10 ∷ text_of rest

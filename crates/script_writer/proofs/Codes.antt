@@ -11,7 +11,7 @@ use Rattle.script_tree.specs.declared.tree.Sign.{Sign}
 use Rattle.script_tree.specs.declared.tree.Sign.TheVariants.{Plus, Minus}
 use Rattle.script_tree.specs.declared.tree.Relation.{Relation}
 use Rattle.script_tree.specs.declared.tree.Relation.TheVariants.{Equal, Less}
-use Rattle.script_tree.specs.Trees.{Term, Single, Sum, Terms, Nothing, More, Expr, Test, Event, Sends, Receives, IsReady, IsNever, IsCancelled, Chooses, Wraps, Guards, Nacks, Events, NoMembers, Members, Stmt, Lets, Prints, Syncs, Branches, Loops, LoopsForever, Ends, Block, Stops, Runs}
+use Rattle.script_tree.specs.Trees.{Term, Single, Sum, Terms, Nothing, More, Expr, Test, Event, Sends, Receives, IsReady, IsNever, IsCancelled, IsJoined, Chooses, Wraps, Guards, Nacks, Events, NoMembers, Members, Stmt, Lets, Prints, Syncs, Branches, Loops, LoopsForever, Ends, Spawns, Block, Stops, Runs}
 use Rattle.script_tree.specs.Processes.{Proc}
 use Rattle.script.specs.Scripts.{Script}
 
@@ -172,6 +172,7 @@ mutual
   code_event (Wraps event names list) = gcons (gnum 6) (gcons (code_event event) (gcons (code_names names) (code_list list)))
   code_event (Guards body event) = gcons (gnum 7) (gcons (code_block body) (code_event event))
   code_event (Nacks n body event) = gcons (gnum 8) (gcons (gnum n) (gcons (code_block body) (code_event event)))
+  code_event (IsJoined n) = gcons (gnum 9) (gnum n)
 
   code_events : Events → Gv
   code_events NoMembers = gcons (gnum 0) gnil
@@ -185,6 +186,7 @@ mutual
   code_stmt (Loops n names event rest) = gcons (gnum 4) (gcons (gnum n) (gcons (code_names names) (gcons (code_event event) (code_block rest))))
   code_stmt (LoopsForever names event rest) = gcons (gnum 5) (gcons (code_names names) (gcons (code_event event) (code_block rest)))
   code_stmt Ends = gcons (gnum 6) gnil
+  code_stmt (Spawns n) = gcons (gnum 7) (gnum n)
 
   code_block : Block → Gv
   code_block Stops = gcons (gnum 0) gnil
@@ -201,6 +203,7 @@ mutual
   read_event (gcons (gnum (suc (suc (suc (suc (suc (suc zero))))))) (gcons event (gcons names list))) = Wraps (read_event event) (read_names names) (read_list list)
   read_event (gcons (gnum (suc (suc (suc (suc (suc (suc (suc zero)))))))) (gcons body event)) = Guards (read_block body) (read_event event)
   read_event (gcons (gnum (suc (suc (suc (suc (suc (suc (suc (suc zero))))))))) (gcons (gnum n) (gcons body event))) = Nacks n (read_block body) (read_event event)
+  read_event (gcons (gnum (suc (suc (suc (suc (suc (suc (suc (suc (suc zero)))))))))) (gnum n)) = IsJoined n
   read_event other = IsNever
 
   read_events : Gv → Events
@@ -216,6 +219,7 @@ mutual
   read_stmt (gcons (gnum (suc (suc (suc (suc zero))))) (gcons (gnum n) (gcons names (gcons event rest)))) = Loops n (read_names names) (read_event event) (read_block rest)
   read_stmt (gcons (gnum (suc (suc (suc (suc (suc zero)))))) (gcons names (gcons event rest))) = LoopsForever (read_names names) (read_event event) (read_block rest)
   read_stmt (gcons (gnum (suc (suc (suc (suc (suc (suc zero))))))) gnil) = Ends
+  read_stmt (gcons (gnum (suc (suc (suc (suc (suc (suc (suc zero)))))))) (gnum n)) = Spawns n
   read_stmt other = Ends
 
   read_block : Gv → Block
@@ -236,6 +240,7 @@ mutual
   back_event (Wraps event names list) = rw (back_event event, back_names names, back_list list) refl
   back_event (Guards body event) = rw (back_block body, back_event event) refl
   back_event (Nacks n body event) = rw (back_block body, back_event event) refl
+  back_event (IsJoined n) = refl
 
   back_events : (x : Events) → read_events (code_events x) ≡ x
   back_events NoMembers = refl
@@ -249,6 +254,7 @@ mutual
   back_stmt (Loops n names event rest) = rw (back_names names, back_event event, back_block rest) refl
   back_stmt (LoopsForever names event rest) = rw (back_names names, back_event event, back_block rest) refl
   back_stmt Ends = refl
+  back_stmt (Spawns n) = refl
 
   back_block : (x : Block) → read_block (code_block x) ≡ x
   back_block Stops = refl
@@ -268,11 +274,11 @@ back_texts [] = refl
 back_texts (x ∷ xs) = rw (back_numbers x, back_texts xs) refl
 
 code_process : Proc → Gv
-code_process x = gcons (code_numbers x.name) (gcons (code_block x.body) (gcons (code_texts x.variables) (gnum x.channels)))
+code_process x = gcons (code_numbers x.name) (gcons (code_block x.body) (gcons (code_texts x.variables) (gcons (gnum x.channels) (gnum x.earlier))))
 
 read_process : Gv → Proc
-read_process (gcons name (gcons body (gcons variables (gnum channels)))) = record { name = read_numbers name; body = read_block body; variables = read_texts variables; channels = channels }
-read_process other = record { name = read_numbers gnil; body = read_block gnil; variables = read_texts gnil; channels = 0 }
+read_process (gcons name (gcons body (gcons variables (gcons (gnum channels) (gnum earlier))))) = record { name = read_numbers name; body = read_block body; variables = read_texts variables; channels = channels; earlier = earlier }
+read_process other = record { name = read_numbers gnil; body = read_block gnil; variables = read_texts gnil; channels = 0; earlier = 0 }
 
 back_process : (x : Proc) → read_process (code_process x) ≡ x
 unfolding code_process read_process

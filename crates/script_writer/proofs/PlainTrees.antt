@@ -194,6 +194,7 @@ turn_block (trees.Runs (trees.Branches test first second) rest) t e = absurd cc
 turn_block (trees.Runs (trees.Loops times names event body) rest) t e = absurd cc
 turn_block (trees.Runs (trees.LoopsForever names event body) rest) t e = absurd cc
 turn_block (trees.Runs trees.Ends rest) t e = absurd cc
+turn_block (trees.Runs (trees.Spawns process) rest) t e = absurd cc
 
 -- the body of a loop
 record PlainTurn (ns ns' V : Names) (w : written.Block) (t : LoopBody) : Type 0 where
@@ -420,7 +421,7 @@ record PlainProcesses (channels names : List (List ℕ)) (ws : List written.Proc
 
 processes_mean : (channels names new : List (List ℕ)) (p : written.Process) (ps : List written.Process) (b : trees.Block × Names) (qs : List Proc)
     → declare 64 names p.name ≡ Some new → block_meaning true (record { channels = channels; variables = [] }) p.body ≡ Some b → processes_meaning channels new ps ≡ Some qs
-    → processes_meaning channels names (p ∷ ps) ≡ Some (record { name = p.name; body = b.0; variables = b.1.variables; channels = length channels } ∷ qs)
+    → processes_meaning channels names (p ∷ ps) ≡ Some (record { name = p.name; body = b.0; variables = b.1.variables; channels = length channels; earlier = length names } ∷ qs)
 unfolding processes_meaning
 processes_mean channels names new p ps b qs declared meant more = rw (declared, meant, more) refl
 

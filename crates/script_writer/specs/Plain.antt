@@ -58,6 +58,7 @@ abbrev mutual
   plain_event ns (trees.IsReady list) = written.Always (plain_list ns list)
   plain_event ns trees.IsNever = written.Never
   plain_event ns (trees.IsCancelled nack) = written.Cancelled (name_of ns nack)
+  plain_event ns (trees.IsJoined process) = written.Never
   plain_event ns (trees.Chooses members) = written.Choose (plain_events ns members)
   plain_event ns (trees.Wraps event names list) = written.Wrap (plain_event ns event) (names_of ns names) (plain_list ns list)
   plain_event ns (trees.Guards body event) = written.Guard (plain_block ns body) (plain_event ns event)
@@ -75,6 +76,7 @@ abbrev mutual
   plain_stmt ns (trees.Loops times names event rest) = written.Loop times (Then (written.Sync (names_of ns names) (plain_event ns event)) (plain_block ns rest))
   plain_stmt ns (trees.LoopsForever names event rest) = written.Forever (Then (written.Sync (names_of ns names) (plain_event ns event)) (plain_block ns rest))
   plain_stmt ns trees.Ends = written.End
+  plain_stmt ns (trees.Spawns process) = written.End
 
   pub plain_block : Names → trees.Block → Block
   plain_block ns trees.Stops = Done

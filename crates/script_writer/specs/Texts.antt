@@ -8,7 +8,7 @@ use Rattle.script_tree.specs.declared.tree.Sign.{Sign}
 use Rattle.script_tree.specs.declared.tree.Sign.TheVariants.{Plus, Minus}
 use Rattle.script_tree.specs.declared.tree.Relation.{Relation}
 use Rattle.script_tree.specs.declared.tree.Relation.TheVariants.{Equal, Less}
-use Rattle.script_tree.specs.Trees.{Term, Single, Sum, Terms, Nothing, More, Expr, Test, Event, Sends, Receives, IsReady, IsNever, IsCancelled, Chooses, Wraps, Guards, Nacks, Events, NoMembers, Members, Stmt, Lets, Prints, Syncs, Branches, Loops, LoopsForever, Ends, Block, Stops, Runs, LoopBody}
+use Rattle.script_tree.specs.Trees.{Term, Single, Sum, Terms, Nothing, More, Expr, Test, Event, Sends, Receives, IsReady, IsNever, IsCancelled, IsJoined, Chooses, Wraps, Guards, Nacks, Events, NoMembers, Members, Stmt, Lets, Prints, Syncs, Branches, Loops, LoopsForever, Ends, Spawns, Block, Stops, Runs, LoopBody}
 use Rattle.script_tree.specs.Processes.{Proc}
 use Rattle.script_grammar.specs.Meaning.{Names}
 use Rattle.script.specs.Scripts.{Script}
@@ -83,6 +83,7 @@ abbrev mutual
   event_text ns (IsReady list) = codes "always " ++ list_text ns list
   event_text ns IsNever = codes "never "
   event_text ns (IsCancelled nack) = codes "cancelled " ++ name_text ns nack
+  event_text ns (IsJoined process) = codes "never "
   event_text ns (Chooses members) = codes "choose [ " ++ events_text ns members ++ codes "] "
   event_text ns (Wraps event names list) = codes "wrap " ++ event_text ns event ++ as_text ns names ++ codes "to " ++ list_text ns list
   event_text ns (Guards body event) = codes "guard " ++ (123 ∷ 10 ∷ []) ++ stmts_text ns body ++ (125 ∷ 10 ∷ []) ++ event_text ns event
@@ -104,6 +105,7 @@ abbrev mutual
   stmt_text ns (Loops times names event rest) = codes "loop " ++ decimal times ++ (32 ∷ 123 ∷ 10 ∷ []) ++ received_text ns names ++ codes "sync " ++ event_text ns event ++ (59 ∷ 10 ∷ []) ++ stmts_text ns rest ++ (125 ∷ 10 ∷ [])
   stmt_text ns (LoopsForever names event rest) = codes "forever " ++ (123 ∷ 10 ∷ []) ++ received_text ns names ++ codes "sync " ++ event_text ns event ++ (59 ∷ 10 ∷ []) ++ stmts_text ns rest ++ (125 ∷ 10 ∷ [])
   stmt_text ns Ends = codes "end " ++ (59 ∷ 10 ∷ [])
+  stmt_text ns (Spawns process) = codes "end " ++ (59 ∷ 10 ∷ [])
 
   pub stmts_text : Names → Block → List ℕ
   stmts_text ns Stops = []

@@ -30,7 +30,7 @@ fn put_event(out: &mut String, source: &Source<'_>, event: &Event) -> Result<(),
             out.push_str("always ")?;
             put_list(out, source, list)
         }
-        Event::Never => out.push_str("never "),
+        Event::Never | Event::Joined(_) => out.push_str("never "),
         Event::Cancelled(nack) => {
             out.push_str("cancelled ")?;
             put_name(out, source, *nack)
@@ -127,7 +127,7 @@ fn put_stmt(out: &mut String, source: &Source<'_>, stmt: &Stmt) -> Result<(), Al
             out.push_str("forever ")?;
             put_turn(out, source, turn)
         }
-        Stmt::End => out.push_str("end ;\n"),
+        Stmt::End | Stmt::Spawn(_) => out.push_str("end ;\n"),
     }
 }
 

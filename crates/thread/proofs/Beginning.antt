@@ -5,7 +5,7 @@ use Rattle.std.specs.Prelude.{bit_or}
 use Rattle.thread_code.specs.Stages.{Stage, Offered, Performed, Made, stages, stages_of_all}
 use Rattle.thread_code.specs.declared.Code.{Code}
 use Rattle.script_tree.specs.Limits.{nack_count}
-use Rattle.script_tree.specs.Trees.{Event, Sends, Receives, IsReady, IsNever, IsCancelled, Chooses, Wraps, Guards, Nacks, Events, NoMembers, Members, LoopBody}
+use Rattle.script_tree.specs.Trees.{Event, Sends, Receives, IsReady, IsNever, IsCancelled, IsJoined, Chooses, Wraps, Guards, Nacks, Events, NoMembers, Members, LoopBody}
 use Rattle.protocol_values.specs.declared.Offer.{Offer}
 use Rattle.thread.specs.declared.stack.Opening.{Opening}
 use Rattle.thread.specs.After.{State, Goes, ◌>>=◌, run_block, synced}
@@ -64,6 +64,7 @@ mutual
   reach_of a n (IsReady list) = refl
   reach_of a n IsNever = refl
   reach_of a n (IsCancelled nack) = refl
+  reach_of a n (IsJoined process) = refl
   reach_of a n (Chooses members) = reach_of_all a n members
   reach_of a n (Wraps e names list) = reach_of a n e
   reach_of a n (Guards body e) = omega (arith, reach_of a n e)

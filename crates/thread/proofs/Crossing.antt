@@ -32,7 +32,7 @@ base_send : IsSend Base.the_row
 base_send =
     let m = message_send in
     let n : IsSend u8 = search sendable in
-    variants_send Base.enum ((n, (m, tt)), ((n, tt), ((m, tt), ((search sendable depth 20, tt), (tt, tt)))))
+    variants_send Base.enum ((n, (m, tt)), ((n, tt), ((m, tt), ((search sendable depth 20, tt), ((n, tt), (tt, tt))))))
 
 offer_send : IsSend Offer.the_row
 offer_send = declared_send Offer.the_type (base_send, (search sendable depth 20, tt))

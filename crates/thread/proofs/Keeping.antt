@@ -1,13 +1,14 @@
 -- What a process keeps from one step to the next: of the atoms that it has, of the nacks that it takes, of the events that it
 -- offers and of what it prints.
-use Rattle.std.proofs.Common.{◌≡◌, ℕ, zero, suc, ◌+◌, ◌-◌, ◌<◌, List, [], ◌∷◌, ◌++◌, Option, Some, None, Result, Ok, Err, Bool, true, false, length, slice_get, refl, sym, ◌∙◌, subst, arith, nat_le, nat_lt}
+use Rattle.std.proofs.Common.{◌≡◌, ℕ, zero, suc, ◌+◌, ◌-◌, ◌<◌, ◌==◌, List, [], ◌∷◌, ◌++◌, Option, Some, None, Result, Ok, Err, Bool, true, false, length, slice_get, refl, sym, ◌∙◌, subst, arith, nat_le, nat_lt}
 use Rattle.std.proofs.lemmas.Bool.Decides.{nat_tests}
 use Rattle.std.proofs.lemmas.List.{length-append, length-map}
 use Rattle.std.proofs.lemmas.List.Elements.{All-head, All-tail, All-set, All-replicate}
 use Rattle.std.specs.Prelude.{⊤, All, if◌then◌else◌}
+use Rattle.std.specs.List.{list_any}
 use Rattle.event.specs.Tree.{Tree, Single, Nothing, Or, Wrap, Scope, bases_from, base_count, scope_count, with_scope, with_wrap, wraps_at}
 use Rattle.script_tree.specs.Limits.{base_count as bases_of, bases_of_all}
-use Rattle.script_tree.specs.Trees.{Term, Single as SingleTerm, Sum, Terms, Nothing as NoTerms, More, Expr, Event, Sends, Receives, IsReady, IsNever, IsCancelled, Chooses, Wraps, Guards, Nacks, Events, NoMembers, Members, Stmt, Lets, Prints, Syncs, Branches, Loops, LoopsForever, Ends, Block, Stops, Runs}
+use Rattle.script_tree.specs.Trees.{Term, Single as SingleTerm, Sum, Terms, Nothing as NoTerms, More, Expr, Event, Sends, Receives, IsReady, IsNever, IsCancelled, IsJoined, Chooses, Wraps, Guards, Nacks, Events, NoMembers, Members, Stmt, Lets, Prints, Syncs, Branches, Loops, LoopsForever, Ends, Spawns, Block, Stops, Runs}
 use Rattle.script_tree.specs.declared.tree.Name.{Name}
 use Rattle.script_tree.specs.declared.tree.Name.TheVariants.{Variable, Channel}
 use Rattle.script_tree.specs.declared.tree.Operand.{Operand}
@@ -17,15 +18,16 @@ use Rattle.script_tree.specs.declared.tree.Sign.TheVariants.{Plus, Minus}
 use Rattle.protocol_values.specs.declared.Atom.{Atom}
 use Rattle.protocol_values.specs.declared.Atom.TheVariants.{Num, Chan, Nack}
 use Rattle.protocol_values.specs.declared.Base.{Base}
-use Rattle.protocol_values.specs.declared.Base.TheVariants.{Send, Recv, Always, OnNack, Never}
+use Rattle.protocol_values.specs.declared.Base.TheVariants.{Send, Recv, Always, OnNack, OnEnd, Never}
 use Rattle.protocol_values.specs.declared.Message.{Message}
 use Rattle.protocol_values.specs.declared.Message.TheVariants.{Empty, One, Two, Three}
 use Rattle.thread.specs.declared.Fault.{Fault}
 use Rattle.thread.specs.Values.{Store, name_value, operand_value, combined, term_value, sum_value, expr_value, exprs_value, message_of, list_value, test_value, with_atom, atoms, with_all, with_names, ◌>>=◌ as ◌>>>◌}
-use Rattle.thread.specs.After.{State, Chosen, Outcome, Goes, Offers, Finishes, Fails, Strays, ◌>>=◌, given, received, Wrapping, Having, wrapped_once, wrapped, Formed, committed, synced_with, synced, times, channel_in, nack_in, channel_value, nack_value, send_value, recv_value, always_value, cancelled_value, formed, with_variable, with_nack, as_wrap, as_scope, as_first, run_block, run_stmt, resolve, resolve_all, start, finished, after}
+use Rattle.thread.specs.After.{Said, State, Chosen, Outcome, Goes, Offers, Finishes, Fails, Strays, ◌>>=◌, given, received, Wrapping, Having, wrapped_once, wrapped, Formed, committed, synced_with, synced, times, channel_in, nack_in, channel_value, nack_value, send_value, recv_value, always_value, cancelled_value, formed, with_variable, with_nack, as_wrap, as_scope, as_first, run_block, run_stmt, resolve, resolve_all, start, finished, after}
 
 -- What is kept of one thread: of each atom (Good) and of the number of nacks that it took (Taken); of the nack of a scope
--- (Scoped) and of how many base events a sync has (Small); if the process's text has such numbers (Literal) and channels (Named).
+-- (Scoped) and of how many base events a sync has (Small); if the process's text has such numbers (Literal) and channels
+-- (Named), and of the processes that it spawns (Spawned) and joins (Joined).
 pub record Rule : Type 1 where
   pub thread : ℕ
   pub Good : Atom → Type 0
@@ -34,6 +36,8 @@ pub record Rule : Type 1 where
   pub Small : ℕ → Type 0
   pub Literal : ℕ → Type 0
   pub Named : ℕ → Type 0
+  pub Spawned : ℕ → Type 0
+  pub Joined : ℕ → Type 0
   pub literal : (n : ℕ) → Literal n → Good (Num n)
   pub total : (n : ℕ) → n < 4294967296 → Good (Num n)
   pub less : (m n : ℕ) → Good (Num m) → Good (Num (m - n))
@@ -42,9 +46,9 @@ pub record Rule : Type 1 where
 
 -- PARTS
 
-abbrev pub AtomsOf : (Atom → Type 0) → List Atom → Type 0
-AtomsOf P [] = ⊤
-AtomsOf P (a ∷ more) = P a × AtomsOf P more
+abbrev pub EachOf : {A : Type 0} → (A → Type 0) → List A → Type 0
+EachOf P [] = ⊤
+EachOf P (a ∷ more) = P a × EachOf P more
 
 abbrev pub MessageOf : (Atom → Type 0) → Message → Type 0
 MessageOf P Empty = ⊤
@@ -52,12 +56,13 @@ MessageOf P (One a) = P a
 MessageOf P (Two a b) = P a × P b
 MessageOf P (Three a b c) = P a × (P b × P c)
 
-abbrev pub BaseOf : (Atom → Type 0) → Base → Type 0
-BaseOf P (Send channel message) = P (Chan channel) × MessageOf P message
-BaseOf P (Recv channel) = P (Chan channel)
-BaseOf P (Always message) = MessageOf P message
-BaseOf P (OnNack n) = P (Nack n)
-BaseOf P Never = ⊤
+abbrev pub BaseOf : (Atom → Type 0) → (ℕ → Type 0) → Base → Type 0
+BaseOf P J (Send channel message) = P (Chan channel) × MessageOf P message
+BaseOf P J (Recv channel) = P (Chan channel)
+BaseOf P J (Always message) = MessageOf P message
+BaseOf P J (OnNack n) = P (Nack n)
+BaseOf P J (OnEnd thread) = J thread
+BaseOf P J Never = ⊤
 
 abbrev pub ResultsOf : (Atom → Type 0) → List Chosen → Type 0
 ResultsOf P [] = ⊤
@@ -67,12 +72,12 @@ abbrev pub PlaceOf : (Atom → Type 0) → Option Atom → Type 0
 PlaceOf P None = ⊤
 PlaceOf P (Some a) = P a
 
-abbrev pub TreeOf : (Atom → Type 0) → (ℕ → Type 0) → Tree → Type 0
-TreeOf P S (Single base) = BaseOf P base
-TreeOf P S Nothing = ⊤
-TreeOf P S (Or first second) = TreeOf P S first × TreeOf P S second
-TreeOf P S (Wrap wrap event) = TreeOf P S event
-TreeOf P S (Scope nack event) = S nack × TreeOf P S event
+abbrev pub TreeOf : (Atom → Type 0) → (ℕ → Type 0) → (ℕ → Type 0) → Tree → Type 0
+TreeOf P J S (Single base) = BaseOf P J base
+TreeOf P J S Nothing = ⊤
+TreeOf P J S (Or first second) = TreeOf P J S first × TreeOf P J S second
+TreeOf P J S (Wrap wrap event) = TreeOf P J S event
+TreeOf P J S (Scope nack event) = S nack × TreeOf P J S event
 
 abbrev IfFine : {A : Type 0} → Result A Fault → (A → Type 0) → Type 0
 IfFine (Ok a) P = P a
@@ -86,9 +91,9 @@ anything : {A : Type 0} (r : Result A Fault) → IfFine r (λ _. ⊤)
 anything (Ok a) = tt
 anything (Err fault) = tt
 
-printed_more : (P : Atom → Type 0) (printed : List Atom) (a : Atom) → AtomsOf P printed → P a → AtomsOf P (printed ++ a ∷ [])
-printed_more P [] a h k = (k, tt)
-printed_more P (x ∷ printed) a h k = (h.0, printed_more P printed a h.1 k)
+each_more : {A : Type 0} (P : A → Type 0) (xs : List A) (a : A) → EachOf P xs → P a → EachOf P (xs ++ a ∷ [])
+each_more P [] a h k = (k, tt)
+each_more P (x ∷ xs) a h k = (h.0, each_more P xs a h.1 k)
 
 -- base events are as many under any number of the first scope
 bases_count : (n m : ℕ) (t : Tree) → length (bases_from n t) ≡ length (bases_from m t)
@@ -134,6 +139,7 @@ module _ (r : Rule) where
     EventOf (IsReady list) = ListOf list
     EventOf IsNever = ⊤
     EventOf (IsCancelled nack) = NameOf nack
+    EventOf (IsJoined process) = r.Joined process
     EventOf (Chooses members) = MembersOf members
     EventOf (Wraps event names list) = EventOf event × ListOf list
     EventOf (Guards body event) = BlockOf body × EventOf event
@@ -151,50 +157,58 @@ module _ (r : Rule) where
     StmtOf (Loops times names event rest) = (EventOf event × r.Small (bases_of event)) × BlockOf rest
     StmtOf (LoopsForever names event rest) = (EventOf event × r.Small (bases_of event)) × BlockOf rest
     StmtOf Ends = ⊤
+    StmtOf (Spawns process) = r.Spawned process
 
     pub BlockOf : Block → Type 0
     BlockOf Stops = ⊤
     BlockOf (Runs stmt rest) = StmtOf stmt × BlockOf rest
 
-  -- any text will do
-  pub record AnyText : Type 0 where
+  -- any numbers and channels will do
+  pub record AnyValues : Type 0 where
     pub literal : (n : ℕ) → r.Literal n
     pub named : (c : ℕ) → r.Named c
-    pub small : (n : ℕ) → r.Small n
 
-  any_name : AnyText → (name : Name) → NameOf name
+  -- any text will do
+  pub record AnyText : Type 0 where
+    pub values : AnyValues
+    pub small : (n : ℕ) → r.Small n
+    pub spawned : (p : ℕ) → r.Spawned p
+    pub joined : (p : ℕ) → r.Joined p
+
+  pub any_name : AnyValues → (name : Name) → NameOf name
   any_name h (Variable v) = tt
   any_name h (Channel c) = h.named c
 
-  any_operand : AnyText → (operand : Operand) → OperandOf operand
+  any_operand : AnyValues → (operand : Operand) → OperandOf operand
   any_operand h (Number n) = h.literal n
   any_operand h (Named name) = any_name h name
 
   mutual
-    any_term : AnyText → (term : Term) → TermOf term
+    any_term : AnyValues → (term : Term) → TermOf term
     any_term h (SingleTerm operand) = any_operand h operand
     any_term h (Sum first more) = (any_operand h first, any_terms h more)
 
-    any_terms : AnyText → (terms : Terms) → TermsOf terms
+    any_terms : AnyValues → (terms : Terms) → TermsOf terms
     any_terms h NoTerms = tt
     any_terms h (More sign term more) = (any_term h term, any_terms h more)
 
-  any_expr : AnyText → (e : Expr) → ExprOf e
+  pub any_expr : AnyValues → (e : Expr) → ExprOf e
   any_expr h e = (any_operand h e.first, any_terms h e.more)
 
-  pub any_list : AnyText → (es : List Expr) → ListOf es
+  pub any_list : AnyValues → (es : List Expr) → ListOf es
   any_list h [] = tt
   any_list h (e ∷ es) = (any_expr h e, any_list h es)
 
   mutual
     pub any_event : AnyText → (event : Event) → EventOf event
-    any_event h (Sends channel list) = (any_name h channel, any_list h list)
-    any_event h (Receives channel) = any_name h channel
-    any_event h (IsReady list) = any_list h list
+    any_event h (Sends channel list) = (any_name h.values channel, any_list h.values list)
+    any_event h (Receives channel) = any_name h.values channel
+    any_event h (IsReady list) = any_list h.values list
     any_event h IsNever = tt
-    any_event h (IsCancelled nack) = any_name h nack
+    any_event h (IsCancelled nack) = any_name h.values nack
+    any_event h (IsJoined process) = h.joined process
     any_event h (Chooses members) = any_members h members
-    any_event h (Wraps event names list) = (any_event h event, any_list h list)
+    any_event h (Wraps event names list) = (any_event h event, any_list h.values list)
     any_event h (Guards body event) = (any_block h body, any_event h event)
     any_event h (Nacks name body event) = (any_block h body, any_event h event)
 
@@ -203,13 +217,14 @@ module _ (r : Rule) where
     any_members h (Members event others) = (any_event h event, any_members h others)
 
     any_stmt : AnyText → (stmt : Stmt) → StmtOf stmt
-    any_stmt h (Lets name value) = any_expr h value
-    any_stmt h (Prints value) = any_expr h value
+    any_stmt h (Lets name value) = any_expr h.values value
+    any_stmt h (Prints value) = any_expr h.values value
     any_stmt h (Syncs names event) = (any_event h event, h.small (bases_of event))
     any_stmt h (Branches test first second) = (any_block h first, any_block h second)
     any_stmt h (Loops times names event rest) = ((any_event h event, h.small (bases_of event)), any_block h rest)
     any_stmt h (LoopsForever names event rest) = ((any_event h event, h.small (bases_of event)), any_block h rest)
     any_stmt h Ends = tt
+    any_stmt h (Spawns process) = h.spawned process
 
     pub any_block : AnyText → (b : Block) → BlockOf b
     any_block h Stops = tt
@@ -266,13 +281,13 @@ module _ (r : Rule) where
   expr_fine store h e w =
       then_fine (operand_value store e.first) (sum_value store e.more) r.Good r.Good (operand_fine store e.first h w.0) (λ a k. sum_fine store h e.more a w.1 k)
 
-  exprs_fine : (store : Store) → StoreIs store → (es : List Expr) → ListOf es → IfFine (exprs_value store es) (AtomsOf r.Good)
+  exprs_fine : (store : Store) → StoreIs store → (es : List Expr) → ListOf es → IfFine (exprs_value store es) (EachOf r.Good)
   exprs_fine store h [] w = tt
   exprs_fine store h (e ∷ es) w =
-      then_fine (expr_value store e) _ r.Good (AtomsOf r.Good) (expr_fine store h e w.0) (λ a k.
-      then_fine (exprs_value store es) _ (AtomsOf r.Good) (AtomsOf r.Good) (exprs_fine store h es w.1) (λ more l. (k, l)))
+      then_fine (expr_value store e) _ r.Good (EachOf r.Good) (expr_fine store h e w.0) (λ a k.
+      then_fine (exprs_value store es) _ (EachOf r.Good) (EachOf r.Good) (exprs_fine store h es w.1) (λ more l. (k, l)))
 
-  message_fine : (as' : List Atom) → AtomsOf r.Good as' → MessageOf r.Good (message_of as')
+  message_fine : (as' : List Atom) → EachOf r.Good as' → MessageOf r.Good (message_of as')
   message_fine [] h = tt
   message_fine (a ∷ []) h = h.0
   message_fine (a ∷ b ∷ []) h = (h.0, h.1.0)
@@ -280,9 +295,9 @@ module _ (r : Rule) where
 
   list_fine : (store : Store) → StoreIs store → (es : List Expr) → ListOf es → IfFine (list_value store es) (MessageOf r.Good)
   list_fine store h es w =
-      then_fine (exprs_value store es) _ (AtomsOf r.Good) (MessageOf r.Good) (exprs_fine store h es w) (λ more k. message_fine more k)
+      then_fine (exprs_value store es) _ (EachOf r.Good) (MessageOf r.Good) (exprs_fine store h es w) (λ more k. message_fine more k)
 
-  atoms_fine : (m : Message) → MessageOf r.Good m → AtomsOf r.Good (atoms m)
+  atoms_fine : (m : Message) → MessageOf r.Good m → EachOf r.Good (atoms m)
   atoms_fine Empty h = tt
   atoms_fine (One a) h = (h, tt)
   atoms_fine (Two a b) h = (h.0, (h.1, tt))
@@ -291,7 +306,7 @@ module _ (r : Rule) where
   with_atom_fine : (v : ℕ) (a : Atom) (store : Store) → r.Good a → StoreIs store → StoreIs (with_atom v a store)
   with_atom_fine v a store k h = All-set (PlaceOf r.Good) store v (Some a) k h
 
-  with_all_fine : (vs : List ℕ) (as' : List Atom) (store : Store) → AtomsOf r.Good as' → StoreIs store → IfFine (with_all vs as' store) StoreIs
+  with_all_fine : (vs : List ℕ) (as' : List Atom) (store : Store) → EachOf r.Good as' → StoreIs store → IfFine (with_all vs as' store) StoreIs
   with_all_fine [] [] store k h = h
   with_all_fine [] (a ∷ more) store k h = tt
   with_all_fine (v ∷ vs) [] store k h = tt
@@ -314,21 +329,21 @@ module _ (r : Rule) where
   channel_value_fine : (store : Store) (name : Name) → StoreIs store → NameOf name → IfFine (channel_value store name) (λ c. r.Good (Chan c))
   channel_value_fine store name h w = then_fine (name_value store name) channel_in r.Good (λ c. r.Good (Chan c)) (name_fine store name h w) (λ a k. channel_fine a k)
 
-  send_fine : (store : Store) (channel : Name) (es : List Expr) → StoreIs store → NameOf channel → ListOf es → IfFine (send_value store channel es) (BaseOf r.Good)
+  send_fine : (store : Store) (channel : Name) (es : List Expr) → StoreIs store → NameOf channel → ListOf es → IfFine (send_value store channel es) (BaseOf r.Good r.Joined)
   send_fine store channel es h w v =
-      then_fine (channel_value store channel) _ (λ c. r.Good (Chan c)) (BaseOf r.Good) (channel_value_fine store channel h w) (λ c k.
-      then_fine (list_value store es) _ (MessageOf r.Good) (BaseOf r.Good) (list_fine store h es v) (λ m l. (k, l)))
+      then_fine (channel_value store channel) _ (λ c. r.Good (Chan c)) (BaseOf r.Good r.Joined) (channel_value_fine store channel h w) (λ c k.
+      then_fine (list_value store es) _ (MessageOf r.Good) (BaseOf r.Good r.Joined) (list_fine store h es v) (λ m l. (k, l)))
 
-  recv_fine : (store : Store) (channel : Name) → StoreIs store → NameOf channel → IfFine (recv_value store channel) (BaseOf r.Good)
+  recv_fine : (store : Store) (channel : Name) → StoreIs store → NameOf channel → IfFine (recv_value store channel) (BaseOf r.Good r.Joined)
   recv_fine store channel h w =
-      then_fine (channel_value store channel) _ (λ c. r.Good (Chan c)) (BaseOf r.Good) (channel_value_fine store channel h w) (λ c k. k)
+      then_fine (channel_value store channel) _ (λ c. r.Good (Chan c)) (BaseOf r.Good r.Joined) (channel_value_fine store channel h w) (λ c k. k)
 
-  always_fine : (store : Store) (es : List Expr) → StoreIs store → ListOf es → IfFine (always_value store es) (BaseOf r.Good)
-  always_fine store es h w = then_fine (list_value store es) _ (MessageOf r.Good) (BaseOf r.Good) (list_fine store h es w) (λ m l. l)
+  always_fine : (store : Store) (es : List Expr) → StoreIs store → ListOf es → IfFine (always_value store es) (BaseOf r.Good r.Joined)
+  always_fine store es h w = then_fine (list_value store es) _ (MessageOf r.Good) (BaseOf r.Good r.Joined) (list_fine store h es w) (λ m l. l)
 
-  cancelled_fine : (store : Store) (name : Name) → StoreIs store → NameOf name → IfFine (cancelled_value store name) (BaseOf r.Good)
+  cancelled_fine : (store : Store) (name : Name) → StoreIs store → NameOf name → IfFine (cancelled_value store name) (BaseOf r.Good r.Joined)
   cancelled_fine store name h w =
-      then_fine (nack_value store name) _ (λ n. r.Good (Nack n)) (BaseOf r.Good)
+      then_fine (nack_value store name) _ (λ n. r.Good (Nack n)) (BaseOf r.Good r.Joined)
       (then_fine (name_value store name) nack_in r.Good (λ n. r.Good (Nack n)) (name_fine store name h w) (λ a k. nack_fine a k))
       (λ n l. l)
 
@@ -352,16 +367,20 @@ module _ (r : Rule) where
 
   -- THREADS
 
+  pub record SaidIs (said : Said) : Type 0 where
+    pub printed : EachOf r.Good said.printed
+    pub spawned : EachOf r.Spawned said.spawned
+
   pub record StateIs (s : State) : Type 0 where
     pub thread : s.thread ≡ r.thread
     pub nacks : r.Taken s.nacks
     pub store : StoreIs s.store
-    pub printed : AtomsOf r.Good s.printed
+    pub said : SaidIs s.said
     pub left : ResultsOf r.Good s.left
 
   -- it was formed of an event with so many base events
   pub record FormedIs (n : ℕ) (f : Formed) : Type 0 where
-    pub tree : TreeOf r.Good r.Scoped f.tree
+    pub tree : TreeOf r.Good r.Joined r.Scoped f.tree
     pub count : base_count f.tree ≡ n
     pub wraps : WrapsAre f.wraps
     pub state : StateIs f.state
@@ -370,18 +389,18 @@ module _ (r : Rule) where
     pub message : MessageOf r.Good h.message
     pub state : StateIs h.state
 
-  -- an event that is offered, with what was printed before
-  pub record OfferedIs (tree : Tree) (told : List Atom) : Type 0 where
-    pub parts : TreeOf r.Good r.Scoped tree
+  -- an event that is offered, with what was told before
+  pub record OfferedIs (tree : Tree) (told : Said) : Type 0 where
+    pub parts : TreeOf r.Good r.Joined r.Scoped tree
     pub small : r.Small (base_count tree)
-    pub printed : AtomsOf r.Good told
+    pub said : SaidIs told
 
-  -- what it goes on with, or offers, or printed
+  -- what it goes on with, or offers, or told
   abbrev pub Keeps : {A : Type 0} → Outcome A → (A → Type 0) → Type 0
   Keeps (Goes a) P = P a
   Keeps (Offers tree printed) P = OfferedIs tree printed
-  Keeps (Finishes printed left) P = AtomsOf r.Good printed
-  Keeps (Fails fault printed left) P = AtomsOf r.Good printed
+  Keeps (Finishes said left) P = SaidIs said
+  Keeps (Fails fault said left) P = SaidIs said
   Keeps Strays P = ⊤
 
   bind_keeps : {A B : Type 0} (x : Outcome A) (f : A → Outcome B) (P : A → Type 0) (Q : B → Type 0) → Keeps x P → ((a : A) → P a → Keeps (f a) Q) → Keeps (x >>= f) Q
@@ -401,14 +420,19 @@ module _ (r : Rule) where
 
   given_keeps : {A : Type 0} (s : State) (x : Result A Fault) (P : A → Type 0) → StateIs s → IfFine x P → Keeps (given s x) P
   given_keeps s (Ok a) P k h = h
-  given_keeps s (Err fault) P k h = k.printed
+  given_keeps s (Err fault) P k h = k.said
 
   if_keeps : {A : Type 0} (b : Bool) (x y : Outcome A) (P : A → Type 0) → (b ≡ true → Keeps x P) → (b ≡ false → Keeps y P) → Keeps (if b then x else y) P
   if_keeps true x y P first second = first refl
   if_keeps false x y P first second = second refl
 
+  -- a process that is spawned is one more, or was spawned before
+  spawned_is : (process : ℕ) (said : Said) (before : Bool) → r.Spawned process → SaidIs said → SaidIs (if before then said else record said { spawned = said.spawned ++ process ∷ [] })
+  spawned_is process said true w h = h
+  spawned_is process said false w h = record { printed = h.printed; spawned = each_more r.Spawned said.spawned process h.spawned w }
+
   with_store : (s : State) (store : Store) → StateIs s → StoreIs store → StateIs (record s { store = store })
-  with_store s store h k = record { thread = h.thread; nacks = h.nacks; store = k; printed = h.printed; left = h.left }
+  with_store s store h k = record { thread = h.thread; nacks = h.nacks; store = k; said = h.said; left = h.left }
 
   received_keeps : (names : Option (List ℕ)) (m : Message) (s : State) → MessageOf r.Good m → StateIs s → Keeps (received names m s) StateIs
   received_keeps names m s k h =
@@ -435,11 +459,11 @@ module _ (r : Rule) where
       received_keeps names g.message g.state l.message l.state)
 
   synced_with_keeps : (n : ℕ) (names : Option (List ℕ)) (f : Formed) (left : List Chosen) → r.Small n → ResultsOf r.Good left → FormedIs n f → Keeps (synced_with names f left) StateIs
-  synced_with_keeps n names f [] small k h = record { parts = h.tree; small = subst r.Small (sym h.count) small; printed = h.state.printed }
+  synced_with_keeps n names f [] small k h = record { parts = h.tree; small = subst r.Small (sym h.count) small; said = h.state.said }
   synced_with_keeps n names f (c ∷ left) small k h =
       let s : State = record f.state { left = left } in
       committed_keeps names f (wraps_at f.tree c.0) c.1 s h.wraps k.0
-      (record { thread = h.state.thread; nacks = h.state.nacks; store = h.state.store; printed = h.state.printed; left = k.1 })
+      (record { thread = h.state.thread; nacks = h.state.nacks; store = h.state.store; said = h.state.said; left = k.1 })
 
   pub synced_keeps : (n : ℕ) (names : Option (List ℕ)) (f : Formed) → r.Small n → FormedIs n f → Keeps (synced names f) StateIs
   synced_keeps n names f small h = synced_with_keeps n names f f.state.left small h.state.left h
@@ -460,7 +484,7 @@ module _ (r : Rule) where
 
   with_nack_keeps : (name : ℕ) (s : State) → StateIs s → Keeps (with_nack name s) (λ t. StateIs t × r.Scoped s.nacks)
   with_nack_keeps name s h =
-      if_keeps (nat_le 64 s.nacks) _ _ (λ t. StateIs t × r.Scoped s.nacks) (λ full. h.printed) (λ few.
+      if_keeps (nat_le 64 s.nacks) _ _ (λ t. StateIs t × r.Scoped s.nacks) (λ full. h.said) (λ few.
       let below : s.nacks < 64 = grind (arith, nat_tests, few) in
       let taken = r.nack s.nacks below h.nacks in
       let good : r.Good (Nack (record { thread = s.thread; k = s.nacks })) = subst (λ (t : ℕ). r.Good (Nack (record { thread = t; k = s.nacks }))) (sym h.thread) taken.0 in (
@@ -468,15 +492,15 @@ module _ (r : Rule) where
           thread = h.thread;
           nacks = taken.1;
           store = with_atom_fine name (Nack (record { thread = s.thread; k = s.nacks })) s.store good h.store;
-          printed = h.printed;
+          said = h.said;
           left = h.left;
         },
         taken.2,
       ))
 
-  base_keeps : (wraps : List Wrapping) (s : State) (x : Result Base Fault) → WrapsAre wraps → IfFine x (BaseOf r.Good) → StateIs s → Keeps (given s x >>= formed wraps s) (FormedIs 1)
+  base_keeps : (wraps : List Wrapping) (s : State) (x : Result Base Fault) → WrapsAre wraps → IfFine x (BaseOf r.Good r.Joined) → StateIs s → Keeps (given s x >>= formed wraps s) (FormedIs 1)
   base_keeps wraps s x v k h =
-      bind_keeps (given s x) (formed wraps s) (BaseOf r.Good) (FormedIs 1) (given_keeps s x (BaseOf r.Good) h k) (λ base l. record { tree = l; count = refl; wraps = v; state = h })
+      bind_keeps (given s x) (formed wraps s) (BaseOf r.Good r.Joined) (FormedIs 1) (given_keeps s x (BaseOf r.Good r.Joined) h k) (λ base l. record { tree = l; count = refl; wraps = v; state = h })
 
   mutual
     pub block_keeps : (b : Block) (s : State) → BlockOf b → StateIs s → Keeps (run_block b s) StateIs
@@ -489,7 +513,7 @@ module _ (r : Rule) where
         bind_keeps (given s (expr_value s.store value)) _ r.Good StateIs (given_keeps s _ r.Good h (expr_fine s.store h.store value w)) (λ a k. with_variable_in name a s k h)
     stmt_keeps (Prints value) s w h =
         bind_keeps (given s (expr_value s.store value)) _ r.Good StateIs (given_keeps s _ r.Good h (expr_fine s.store h.store value w)) (λ a k.
-        record { thread = h.thread; nacks = h.nacks; store = h.store; printed = printed_more r.Good s.printed a h.printed k; left = h.left })
+        record { thread = h.thread; nacks = h.nacks; store = h.store; said = record { printed = each_more r.Good s.said.printed a h.said.printed k; spawned = h.said.spawned }; left = h.left })
     stmt_keeps (Syncs names event) s w h =
         bind_keeps (resolve event [] s) (synced names) (FormedIs (bases_of event)) StateIs (event_keeps event [] s w.0 tt h) (λ f k. synced_keeps (bases_of event) names f w.1 k)
     stmt_keeps (Branches test first second) s w h =
@@ -499,7 +523,9 @@ module _ (r : Rule) where
         times_keeps number (λ t. resolve event [] t >>= synced names >>= run_block rest) (turn_keeps (bases_of event) names (resolve event []) (run_block rest) w.0.1 (λ t k. event_keeps event [] t w.0.0 tt k) (λ t k. block_keeps rest t w.1 k)) s h
     stmt_keeps (LoopsForever names event rest) s w h =
         times_keeps (suc (length s.left)) (λ t. resolve event [] t >>= synced names >>= run_block rest) (turn_keeps (bases_of event) names (resolve event []) (run_block rest) w.0.1 (λ t k. event_keeps event [] t w.0.0 tt k) (λ t k. block_keeps rest t w.1 k)) s h
-    stmt_keeps Ends s w h = h.printed
+    stmt_keeps Ends s w h = h.said
+    stmt_keeps (Spawns process) s w h =
+        record { thread = h.thread; nacks = h.nacks; store = h.store; said = spawned_is process s.said (list_any (λ q. q == process) s.said.spawned) w h.said; left = h.left }
 
     pub event_keeps : (event : Event) (wraps : List Wrapping) (s : State) → EventOf event → WrapsAre wraps → StateIs s → Keeps (resolve event wraps s) (FormedIs (bases_of event))
     event_keeps (Sends channel list) wraps s w v h = base_keeps wraps s (send_value s.store channel list) v (send_fine s.store channel list h.store w.0 w.1) h
@@ -507,6 +533,7 @@ module _ (r : Rule) where
     event_keeps (IsReady list) wraps s w v h = base_keeps wraps s (always_value s.store list) v (always_fine s.store list h.store w) h
     event_keeps IsNever wraps s w v h = record { tree = tt; count = refl; wraps = v; state = h }
     event_keeps (IsCancelled nack) wraps s w v h = base_keeps wraps s (cancelled_value s.store nack) v (cancelled_fine s.store nack h.store w) h
+    event_keeps (IsJoined process) wraps s w v h = record { tree = w; count = refl; wraps = v; state = h }
     event_keeps (Chooses members) wraps s w v h = members_keep members wraps s w v h
     event_keeps (Wraps event names list) wraps s w v h =
         bind_keeps (resolve event _ s) (as_wrap (length wraps)) (FormedIs (bases_of event)) (FormedIs (bases_of event)) (event_keeps event _ s w.0 (wraps_more wraps (record { names = names; list = list }) v w.1) h) (λ f k.
@@ -541,5 +568,5 @@ module _ (r : Rule) where
   pub after_keeps : (body : Block) (variables : ℕ) (results : List Chosen) → r.Taken 0 → BlockOf body → ResultsOf r.Good results → Keeps (after body variables r.thread results) (λ s. ⊤)
   after_keeps body variables results taken w k =
       bind_keeps (run_block body (start r.thread variables results)) finished StateIs (λ s. ⊤)
-      (block_keeps body (start r.thread variables results) w (record { thread = refl; nacks = taken; store = All-replicate (PlaceOf r.Good) variables None tt; printed = tt; left = k }))
-      (λ s h. h.printed)
+      (block_keeps body (start r.thread variables results) w (record { thread = refl; nacks = taken; store = All-replicate (PlaceOf r.Good) variables None tt; said = record { printed = tt; spawned = tt }; left = k }))
+      (λ s h. h.said)

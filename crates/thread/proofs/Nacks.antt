@@ -6,26 +6,25 @@ use Rattle.std.proofs.lemmas.List.Elements.{All-nil, All-cons}
 use Rattle.std.specs.Prelude.{⊤, All, if◌then◌else◌}
 use Rattle.event.specs.Tree.{Tree, Single, Nothing, Or, Wrap, Scope, base_count, wraps_at}
 use Rattle.script_tree.specs.Limits.{base_count as bases_of}
-use Rattle.script_tree.specs.Trees.{Event, Sends, Receives, IsReady, IsNever, IsCancelled, Chooses, Wraps, Guards, Nacks, Events, NoMembers, Members, Stmt, Lets, Prints, Syncs, Branches, Loops, LoopsForever, Ends, Block, Stops, Runs, LoopBody}
-use Rattle.protocol_values.specs.declared.Atom.{Atom}
+use Rattle.script_tree.specs.Trees.{Event, Sends, Receives, IsReady, IsNever, IsCancelled, IsJoined, Chooses, Wraps, Guards, Nacks, Events, NoMembers, Members, Stmt, Lets, Prints, Syncs, Branches, Loops, LoopsForever, Ends, Spawns, Block, Stops, Runs, LoopBody}
 use Rattle.protocol_values.specs.declared.Atom.TheVariants.{Nack}
 use Rattle.protocol_values.specs.declared.Base.{Base}
-use Rattle.protocol_values.specs.declared.Base.TheVariants.{Send, Recv, Always, OnNack, Never}
+use Rattle.protocol_values.specs.declared.Base.TheVariants.{Send, Recv, Always, OnNack, OnEnd, Never}
 use Rattle.protocol_values.specs.declared.Message.{Message}
 use Rattle.protocol_values.specs.declared.Message.TheVariants.{Empty, One, Two, Three}
 use Rattle.thread.specs.declared.Fault.{Fault}
 use Rattle.thread.specs.declared.Fault.TheVariants.{Range}
 use Rattle.thread.specs.Values.{Store, expr_value, list_value, test_value, with_names}
-use Rattle.thread.specs.After.{State, Chosen, Outcome, Goes, Offers, Finishes, Fails, Strays, ◌>>=◌, given, received, Wrapping, Having, wrapped_once, wrapped, Formed, committed, synced_with, synced, times, send_value, recv_value, always_value, cancelled_value, formed, with_variable, with_nack, as_wrap, as_scope, as_first, run_block, run_stmt, resolve, resolve_all, start, finished, after}
+use Rattle.thread.specs.After.{with_printed, with_spawned, State, Chosen, Outcome, Goes, Offers, Finishes, Fails, Strays, ◌>>=◌, given, received, Wrapping, Having, wrapped_once, wrapped, Formed, committed, synced_with, synced, times, send_value, recv_value, always_value, cancelled_value, formed, with_variable, with_nack, as_wrap, as_scope, as_first, run_block, run_stmt, resolve, resolve_all, start, finished, after}
 use Rattle.thread.specs.Stacks.{turn_on}
 use Rattle.thread.proofs.Binding.{IfGoes}
-use Rattle.thread.proofs.Keeping.{Rule, AtomsOf, BaseOf, MessageOf, ResultsOf, TreeOf, PlaceOf, WrapsAre, StateIs, FormedIs, Keeps, any_block, any_event, any_list, committed_keeps, synced_keeps, block_keeps, event_keeps, AnyText}
+use Rattle.thread.proofs.Keeping.{Rule, EachOf, BaseOf, MessageOf, ResultsOf, TreeOf, PlaceOf, WrapsAre, StateIs, FormedIs, Keeps, any_block, any_event, any_list, committed_keeps, synced_keeps, block_keeps, event_keeps, AnyText}
 use Rattle.thread.proofs.Taking.{turn_takes}
 
 module _ (k : ℕ) where
   -- no scope has the nack
   abbrev pub Without : Tree → Type 0
-  Without tree = TreeOf (λ a. ⊤) (λ n. n ≡ k → ⊥) tree
+  Without tree = TreeOf (λ a. ⊤) (λ p. ⊤) (λ n. n ≡ k → ⊥) tree
 
   -- it offers no event that has the nack, and goes on with this
   abbrev pub Quiet : {A : Type 0} → Outcome A → (A → Type 0) → Type 0
@@ -59,6 +58,8 @@ module _ (k : ℕ) where
     Small = λ n. ⊤;
     Literal = λ n. ⊤;
     Named = λ c. ⊤;
+    Spawned = λ p. ⊤;
+    Joined = λ p. ⊤;
     literal = λ n h. tt;
     total = λ n h. tt;
     less = λ m n h. tt;
@@ -67,16 +68,16 @@ module _ (k : ℕ) where
   }
 
   any_text : (t : ℕ) → AnyText (behind t)
-  any_text t = record { literal = λ n. tt; named = λ c. tt; small = λ n. tt }
+  any_text t = record { values = record { literal = λ n. tt; named = λ c. tt }; small = λ n. tt; spawned = λ p. tt; joined = λ p. tt }
 
   any_store : (store : Store) → All (PlaceOf (λ a. ⊤)) store
   any_store [] = All-nil (PlaceOf (λ a. ⊤))
   any_store (None ∷ store) = All-cons (PlaceOf (λ a. ⊤)) None store tt (any_store store)
   any_store (Some a ∷ store) = All-cons (PlaceOf (λ a. ⊤)) (Some a) store tt (any_store store)
 
-  any_atoms : (as' : List Atom) → AtomsOf (λ a. ⊤) as'
-  any_atoms [] = tt
-  any_atoms (a ∷ more) = (tt, any_atoms more)
+  any_each : {A : Type 0} (xs : List A) → EachOf (λ a. ⊤) xs
+  any_each [] = tt
+  any_each (x ∷ xs) = (tt, any_each xs)
 
   any_message : (m : Message) → MessageOf (λ a. ⊤) m
   any_message Empty = tt
@@ -84,11 +85,12 @@ module _ (k : ℕ) where
   any_message (Two a b) = (tt, tt)
   any_message (Three a b c) = (tt, (tt, tt))
 
-  any_base : (b : Base) → BaseOf (λ a. ⊤) b
+  any_base : (b : Base) → BaseOf (λ a. ⊤) (λ p. ⊤) b
   any_base (Send channel message) = (tt, any_message message)
   any_base (Recv channel) = tt
   any_base (Always message) = any_message message
   any_base (OnNack n) = tt
+  any_base (OnEnd thread) = tt
   any_base Never = tt
 
   any_results : (rs : List Chosen) → ResultsOf (λ a. ⊤) rs
@@ -97,10 +99,10 @@ module _ (k : ℕ) where
 
   any_wraps : (t : ℕ) (wraps : List Wrapping) → WrapsAre (behind t) wraps
   any_wraps t [] = tt
-  any_wraps t (w ∷ wraps) = (any_list (behind t) (any_text t) w.list, any_wraps t wraps)
+  any_wraps t (w ∷ wraps) = (any_list (behind t) (any_text t).values w.list, any_wraps t wraps)
 
   is_behind : (s : State) → Behind s → StateIs (behind s.thread) s
-  is_behind s h = record { thread = refl; nacks = h; store = any_store s.store; printed = any_atoms s.printed; left = any_results s.left }
+  is_behind s h = record { thread = refl; nacks = h; store = any_store s.store; said = record { printed = any_each s.said.printed; spawned = any_each s.said.spawned }; left = any_results s.left }
 
   quiet_of : {A : Type 0} (t : ℕ) (x : Outcome A) (P Q : A → Type 0) → ((a : A) → P a → Q a) → Keeps (behind t) x P → Quiet x Q
   quiet_of t (Goes a) P Q weaker h = weaker a h
@@ -324,7 +326,7 @@ module _ (k : ℕ) where
         with_one : State → State
         with_one t = with_variable name (Nack (record { thread = t.thread; k = t.nacks })) (record t { nacks = t.nacks + 1 })
 
-        at_limit : (full : Bool) → Both low (if full then Fails Range s.printed s.left else Goes (with_one s)) (if full then Fails Range (longer s).printed (longer s).left else Goes (with_one (longer s))) (Longer (s.nacks + 1)) Behind
+        at_limit : (full : Bool) → Both low (if full then Fails Range s.said s.left else Goes (with_one s)) (if full then Fails Range (longer s).said (longer s).left else Goes (with_one (longer s))) (Longer (s.nacks + 1)) Behind
         at_limit true = tt
         at_limit false = (with_one (longer s), refl, (refl, omega arith))
 
@@ -351,7 +353,7 @@ module _ (k : ℕ) where
           (λ _ b h. absurd h)
       stmt_both (Prints value) low s le =
           bind_both low (given s (expr_value s.store value)) (given (longer s) (expr_value s.store value)) _ _ (λ a b. b ≡ a) Nothing' (Longer low) Behind (given_both low s _ Nothing')
-          (λ a b e. (record (longer s) { printed = s.printed ++ b ∷ [] }, refl, (λ i. record (longer s) { printed = s.printed ++ e i ∷ [] }, le)))
+          (λ a b e. (record (longer s) { said = with_printed b s.said }, refl, (λ i. record (longer s) { said = with_printed (e i) s.said }, le)))
           (λ _ b h. absurd h)
       stmt_both (Syncs names event) low s le =
           bind_both low (resolve event [] s) (resolve event [] (longer s)) (synced names) (synced names) (FormedLonger low) FormedBehind (Longer low) Behind (event_both event [] low s le)
@@ -369,12 +371,14 @@ module _ (k : ℕ) where
           endless_both (suc (length s.left)) (suc (length (s.left ++ r ∷ others))) turn (turn_both turn (event_both event []) (block_both rest)) low s le (omega arith)
           (omega (arith, length-append s.left (r ∷ others)))
       stmt_both Ends low s le = tt
+      stmt_both (Spawns process) low s le = (record (longer s) { said = with_spawned process s.said }, refl, (refl, le))
 
       event_both : (event : Event) (wraps : List Wrapping) (low : ℕ) (s : State) → low ≤ s.nacks → Both low (resolve event wraps s) (resolve event wraps (longer s)) (FormedLonger low) FormedBehind
       event_both (Sends channel list) wraps low s le = base_both low wraps s (send_value s.store channel list) le
       event_both (Receives channel) wraps low s le = base_both low wraps s (recv_value s.store channel) le
       event_both (IsReady list) wraps low s le = base_both low wraps s (always_value s.store list) le
       event_both IsNever wraps low s le = (record { tree = Single Never; wraps = wraps; state = longer s }, refl, (refl, le, inl tt))
+      event_both (IsJoined process) wraps low s le = (record { tree = Single (OnEnd process); wraps = wraps; state = longer s }, refl, (refl, le, inl tt))
       event_both (IsCancelled nack) wraps low s le = base_both low wraps s (cancelled_value s.store nack) le
       event_both (Chooses members) wraps low s le = members_both members wraps low s le
       event_both (Wraps event names list) wraps low s le =

@@ -145,7 +145,7 @@ module _ (c : Code) (o : Opening) (l : Lists) (plan : Plan) (fits : IsOpening c 
     offers : (here (seen.Offer event mask) at).stage ≡ Offered (event_of event.value) mask
     offers = offer_stage c event mask _ (here (seen.Offer event mask) at).is
 
-    pub offer_fails : (below : Further) (s : State) (fault : Fault) → base_value s.store (event_of event.value) ≡ Err fault → Fails fault s.printed s.left ≡ opening_on c o below l s
+    pub offer_fails : (below : Further) (s : State) (fault : Fault) → base_value s.store (event_of event.value) ≡ Err fault → Fails fault s.said s.left ≡ opening_on c o below l s
     offer_fails below s fault is =
         sym (stage_does (seen.Offer event mask) at below s _ offers
         ∙ ap (λ v. given s v >>= as_offered (own o l) mask s >>= (λ r. run_stages (drop (o.stage + 1) whole) r.lists r.state) >>= offered (sync_at c o.plan) >>= below (others o l)) is)
@@ -219,7 +219,7 @@ module _ (c : Code) (o : Opening) (l : Lists) (plan : Plan) (fits : IsOpening c 
     makes : (here (seen.Nack name) at).stage ≡ Made name
     makes = nack_stage c name _ (here (seen.Nack name) at).is
 
-    pub nack_fails : (below : Further) (s : State) (fault : Fault) → with_nack name s ≡ Fails fault s.printed s.left → Fails fault s.printed s.left ≡ opening_on c o below l s
+    pub nack_fails : (below : Further) (s : State) (fault : Fault) → with_nack name s ≡ Fails fault s.said s.left → Fails fault s.said s.left ≡ opening_on c o below l s
     nack_fails below s fault is =
         sym (stage_does (seen.Nack name) at below s _ makes
         ∙ ap (λ x. x >>= as_scoped (own o l) s.nacks >>= (λ r. run_stages (drop (o.stage + 1) whole) r.lists r.state) >>= offered (sync_at c o.plan) >>= below (others o l)) is)

@@ -5,7 +5,7 @@ use Rattle.std.specs.Prelude.{⊤}
 use Rattle.event.proofs.TreeLemmas.{wraps_at-first, wraps_at-second, wraps_at-Wrap, wraps_at-Scope, base_count-Or, base_count-Wrap, base_count-Scope}
 use Rattle.event.specs.Tree.{Tree, Single, Or, wraps_at, base_count as bases_in}
 use Rattle.script_tree.specs.Limits.{base_count, bases_of_all, nack_count}
-use Rattle.script_tree.specs.Trees.{Event, Sends, Receives, IsReady, IsNever, IsCancelled, Chooses, Wraps, Guards, Nacks, Events, NoMembers, Members}
+use Rattle.script_tree.specs.Trees.{Event, Sends, Receives, IsReady, IsNever, IsCancelled, IsJoined, Chooses, Wraps, Guards, Nacks, Events, NoMembers, Members}
 use Rattle.protocol_values.specs.declared.Base.{Base}
 use Rattle.protocol_values.specs.declared.Base.TheVariants.{Never}
 use Rattle.protocol_values.specs.declared.Message.{Message}
@@ -69,6 +69,7 @@ mutual
   bases_with w (IsReady list) bs ns = refl
   bases_with w IsNever bs ns = refl
   bases_with w (IsCancelled nack) bs ns = refl
+  bases_with w (IsJoined process) bs ns = refl
   bases_with w (Chooses members) bs ns = bases_with_all w members bs ns
   bases_with w (Wraps e names list) bs ns = base_count-Wrap w (tree_with (w + 1) e bs ns) ∙ bases_with (w + 1) e bs ns
   bases_with w (Guards body e) bs ns = bases_with w e bs ns
@@ -87,6 +88,7 @@ mutual
   carries (IsReady list) ws more bs ns n m s = base_carries ((ws ++ []) ++ more) (get_or bs 0 Never) n m s
   carries IsNever ws more bs ns n m s = base_carries ((ws ++ []) ++ more) (get_or bs 0 Never) n m s
   carries (IsCancelled nack) ws more bs ns n m s = base_carries ((ws ++ []) ++ more) (get_or bs 0 Never) n m s
+  carries (IsJoined process) ws more bs ns n m s = base_carries ((ws ++ []) ++ more) (get_or bs 0 Never) n m s
   carries (Chooses members) ws more bs ns n m s = carries_all members ws more bs ns n m s
   carries (Wraps e names list) ws more bs ns n m s =
       let wr : Wrapping = record { names = names; list = list } in

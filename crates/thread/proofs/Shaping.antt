@@ -9,7 +9,7 @@ use Rattle.event.proofs.TreeLemmas.{scope_count-Or}
 use Rattle.event.specs.Steps.{offers_within}
 use Rattle.event.specs.Tree.{Tree, Single, Or, Wrap, offers, scope_count, scope_nacks}
 use Rattle.script_tree.specs.Limits.{base_count, nack_count, bases_of_all, nacks_of_all}
-use Rattle.script_tree.specs.Trees.{Event, Sends, Receives, IsReady, IsNever, IsCancelled, Chooses, Wraps, Guards, Nacks, Events, NoMembers, Members}
+use Rattle.script_tree.specs.Trees.{Event, Sends, Receives, IsReady, IsNever, IsCancelled, IsJoined, Chooses, Wraps, Guards, Nacks, Events, NoMembers, Members}
 use Rattle.protocol_values.specs.declared.Base.{Base}
 use Rattle.protocol_values.specs.declared.Base.TheVariants.{Never}
 use Rattle.protocol_values.specs.declared.Offer.{Offer}
@@ -33,6 +33,7 @@ mutual
   scopes_with w (IsReady list) bs ns = refl
   scopes_with w IsNever bs ns = refl
   scopes_with w (IsCancelled nack) bs ns = refl
+  scopes_with w (IsJoined process) bs ns = refl
   scopes_with w (Chooses members) bs ns = scopes_with_all w members bs ns
   scopes_with w (Wraps e names list) bs ns = scopes_with (w + 1) e bs ns
   scopes_with w (Guards body e) bs ns = scopes_with w e bs ns
@@ -112,6 +113,7 @@ mutual
   makes a n w (IsReady list) os ns h = base_makes a n (IsReady list) os ns (λ bs ks. refl) h
   makes a n w IsNever os ns h = base_makes a n IsNever os ns (λ bs ks. refl) h
   makes a n w (IsCancelled nack) os ns h = base_makes a n (IsCancelled nack) os ns (λ bs ks. refl) h
+  makes a n w (IsJoined process) os ns h = base_makes a n (IsJoined process) os ns (λ bs ks. refl) h
   makes a n w (Chooses members) os ns h = makes_all a n w members os ns h
   makes a n w (Wraps e names list) os ns h = wrap_makes a n w (tree_with (w + 1) e (bases os) ns) os ns (makes a n (w + 1) e os ns h)
   makes a n w (Guards body e) os ns h = makes a n w e os ns h

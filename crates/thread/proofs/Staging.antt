@@ -7,7 +7,7 @@ use Rattle.std.specs.Prelude.{⊤, bit_or}
 use Rattle.thread_code.specs.Stages.{Stage, Offered, Performed, Made, stages, stages_of_all}
 use Rattle.event.specs.Tree.{Single, Nothing, Or, Wrap, Scope}
 use Rattle.script_tree.specs.Limits.{base_count, nack_count, bases_of_all, nacks_of_all}
-use Rattle.script_tree.specs.Trees.{Event, Sends, Receives, IsReady, IsNever, IsCancelled, Chooses, Wraps, Guards, Nacks, Events, NoMembers, Members, Block}
+use Rattle.script_tree.specs.Trees.{Event, Sends, Receives, IsReady, IsNever, IsCancelled, IsJoined, Chooses, Wraps, Guards, Nacks, Events, NoMembers, Members, Block}
 use Rattle.protocol_values.specs.declared.Base.{Base}
 use Rattle.protocol_values.specs.declared.Base.TheVariants.{Never}
 use Rattle.protocol_values.specs.declared.Offer.{Offer}
@@ -93,6 +93,7 @@ mutual
   offers_of a n (IsReady list) = refl
   offers_of a n IsNever = refl
   offers_of a n (IsCancelled nack) = refl
+  offers_of a n (IsJoined process) = refl
   offers_of a n (Chooses members) = offers_of_all a n members
   offers_of a n (Wraps e names list) = offers_of a n e
   offers_of a n (Guards body e) = offers_of a n e
@@ -112,6 +113,7 @@ mutual
   nacks_of a n (IsReady list) = refl
   nacks_of a n IsNever = refl
   nacks_of a n (IsCancelled nack) = refl
+  nacks_of a n (IsJoined process) = refl
   nacks_of a n (Chooses members) = nacks_of_each a n members
   nacks_of a n (Wraps e names list) = nacks_of a n e
   nacks_of a n (Guards body e) = nacks_of a n e
@@ -160,6 +162,7 @@ mutual
   tree_front w (IsReady list) bs more ns others h k = ap Single (get_or-append bs more Never 0 h)
   tree_front w IsNever bs more ns others h k = ap Single (get_or-append bs more Never 0 h)
   tree_front w (IsCancelled nack) bs more ns others h k = ap Single (get_or-append bs more Never 0 h)
+  tree_front w (IsJoined process) bs more ns others h k = ap Single (get_or-append bs more Never 0 h)
   tree_front w (Chooses members) bs more ns others h k = choice_front w members bs more ns others h k
   tree_front w (Wraps e names list) bs more ns others h k = ap (Wrap w) (tree_front (w + 1) e bs more ns others h k)
   tree_front w (Guards body e) bs more ns others h k = tree_front w e bs more ns others h k
@@ -252,6 +255,7 @@ mutual
   resolves a n (IsReady list) ws s = base_forms (base_value s.store (IsReady list)) a ws s
   resolves a n IsNever ws s = base_forms (Ok Never) a ws s
   resolves a n (IsCancelled nack) ws s = base_forms (base_value s.store (IsCancelled nack)) a ws s
+  resolves a n (IsJoined process) ws s = base_forms (base_value s.store (IsJoined process)) a ws s
   resolves a n (Chooses members) ws s = resolves_all a n members ws s
   resolves a n (Wraps e names list) ws s =
       let w : Wrapping = record { names = names; list = list } in

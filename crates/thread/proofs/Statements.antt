@@ -8,7 +8,7 @@ use Rattle.script_tree.specs.Trees.{Block, Runs, Stmt, Syncs, Branches, Loops, L
 use Rattle.thread.specs.declared.stack.Frame.{Frame}
 use Rattle.thread.specs.declared.stack.Frame.TheVariants.{Rest, Times, Endless}
 use Rattle.thread.specs.declared.stack.Opening.{Opening}
-use Rattle.thread.specs.After.{State, ◌>>=◌, endless, given, run_block, run_stmt, times}
+use Rattle.thread.specs.After.{Outcome, State, Goes, ◌>>=◌, endless, given, run_block, run_stmt, times}
 use Rattle.thread.specs.Fitting.{FramesFit, HasPlace, IsOpening}
 use Rattle.thread.specs.Reaches.{event_reach, frame_reach, frames_reach, opening_reach, stmt_reach, stmts_reach}
 use Rattle.thread.specs.Resolving.{Lists}
@@ -27,6 +27,13 @@ module _ (c : Code) (at : ℕ) (p : Place) (stmt : Stmt) (rest : Block) (linked 
 
   pub next_there : HasPlace c p.next
   next_there = at_there c p.next rest next
+
+  -- a statement that is done at once
+  pub step_does : (s t : State) (below : State → Outcome State) → run_stmt stmt s ≡ Goes t → (run_block (place_block c p.next) t >>= below) ≡ (run_block (place_block c at) s >>= below)
+  step_does s t below goes =
+      ap (λ b. run_block b t >>= below) (at_is c p.next rest next)
+      ∙ ap (λ x. x >>= run_block rest >>= below) (sym goes)
+      ∙ ap (λ b. run_block b s >>= below) (sym here)
 
   -- a block that runs first, which the statement comes to
   module _ (new old : List Frame) (l : Lists) (is : new ≡ old ++ Rest p.next ∷ []) where

@@ -2,7 +2,7 @@
 use Rattle.std.proofs.Common.{◌≡◌, ℕ, zero, suc, ◌<◌, ◌≤◌, List, [], ◌∷◌, Option, Some, None, length, slice_get, refl, ap, ◌∙◌, subst, arith, nat_le}
 use Rattle.std.specs.Prelude.{⊤}
 use Rattle.event.specs.Tree.{wraps_at}
-use Rattle.script_tree.specs.Trees.{Event, Sends, Receives, IsReady, IsNever, IsCancelled, Chooses, Wraps, Guards, Nacks, Events, NoMembers, Members, Stmt, Lets, Prints, Syncs, Branches, Loops, LoopsForever, Ends, Block, Stops, Runs, LoopBody}
+use Rattle.script_tree.specs.Trees.{Event, Sends, Receives, IsReady, IsNever, IsCancelled, IsJoined, Chooses, Wraps, Guards, Nacks, Events, NoMembers, Members, Stmt, Lets, Prints, Syncs, Branches, Loops, LoopsForever, Ends, Spawns, Block, Stops, Runs, LoopBody}
 use Rattle.protocol_values.specs.declared.Message.{Message}
 use Rattle.thread.specs.Values.{expr_value, list_value, test_value, with_names}
 use Rattle.thread.specs.After.{State, Chosen, Outcome, ◌>>=◌, given, received, Wrapping, wrapped_once, wrapped, Formed, committed, synced_with, synced, times, endless, formed, with_nack, as_wrap, as_scope, as_first, run_block, run_stmt, resolve, resolve_all}
@@ -100,12 +100,14 @@ mutual
   stmt_keeps (LoopsForever names event rest) s =
       times_keeps (suc (length s.left)) _ (below _ (turn_keeps names (resolve event []) (run_block rest) (event_keeps event []) (block_keeps rest))) s
   stmt_keeps Ends s = tt
+  stmt_keeps (Spawns process) s = omega arith
 
   event_keeps : (event : Event) (wraps : List Wrapping) (s : State) → IfGoes (resolve event wraps s) (FormsNoMore s)
   event_keeps (Sends channel list) wraps s = base_keeps wraps s (given s _) (formed wraps s) (given_goes s _) (λ base. omega arith)
   event_keeps (Receives channel) wraps s = base_keeps wraps s (given s _) (formed wraps s) (given_goes s _) (λ base. omega arith)
   event_keeps (IsReady list) wraps s = base_keeps wraps s (given s _) (formed wraps s) (given_goes s _) (λ base. omega arith)
   event_keeps IsNever wraps s = omega arith
+  event_keeps (IsJoined process) wraps s = omega arith
   event_keeps (IsCancelled nack) wraps s = base_keeps wraps s (given s _) (formed wraps s) (given_goes s _) (λ base. omega arith)
   event_keeps (Chooses members) wraps s = members_keep members wraps s
   event_keeps (Wraps event names list) wraps s =

@@ -1,15 +1,16 @@
--- What a process does after the results of its syncs: which event it offers next, or how it ends, and what it
--- printed.
-use Rattle.std.specs.Prelude.{ℕ, zero, suc, ◌+◌, nat_le, if◌then◌else◌, List, [], ◌∷◌, ◌++◌, length, replicate, Option, Some, None, Result, Ok, Err, slice_get}
+-- What a process does after the results of its syncs: which event it offers next, or how it ends, what it printed
+-- and which processes it spawned.
+use Rattle.std.specs.Prelude.{ℕ, zero, suc, ◌+◌, ◌==◌, nat_le, if◌then◌else◌, List, [], ◌∷◌, ◌++◌, length, replicate, Option, Some, None, Result, Ok, Err, slice_get}
+use Rattle.std.specs.List.{list_any}
 use Rattle.event.specs.Tree.{Tree, Single, Nothing, Or, Wrap, Scope, wraps_at}
-use Rattle.script_tree.specs.Trees.{Expr, Event, Sends, Receives, IsReady, IsNever, IsCancelled, Chooses, Wraps, Guards, Nacks, Events, NoMembers, Members, Stmt, Lets, Prints, Syncs, Branches, Loops, LoopsForever, Ends, Block, Stops, Runs}
+use Rattle.script_tree.specs.Trees.{Expr, Event, Sends, Receives, IsReady, IsNever, IsCancelled, IsJoined, Chooses, Wraps, Guards, Nacks, Events, NoMembers, Members, Stmt, Lets, Prints, Syncs, Branches, Loops, LoopsForever, Ends, Spawns, Block, Stops, Runs}
 use Rattle.script_tree.specs.declared.tree.Name.{Name}
 use Rattle.protocol_values.specs.declared.NackName.{NackName}
 use Rattle.protocol_values.specs.declared.Atom.{Atom}
 use Rattle.protocol_values.specs.declared.Atom.TheVariants.{Num, Chan, Nack}
 use Rattle.protocol_values.specs.declared.Message.{Message}
 use Rattle.protocol_values.specs.declared.Base.{Base}
-use Rattle.protocol_values.specs.declared.Base.TheVariants.{Send, Recv, Always, OnNack, Never}
+use Rattle.protocol_values.specs.declared.Base.TheVariants.{Send, Recv, Always, OnNack, OnEnd, Never}
 use Rattle.thread.specs.declared.Fault.{Fault}
 use Rattle.thread.specs.declared.Fault.TheVariants.{Kind, Range}
 use Rattle.thread.specs.Values.{Store, name_value, expr_value, list_value, test_value, with_atom, with_names, ◌>>=◌ as ◌>>>◌}
@@ -18,21 +19,37 @@ use Rattle.thread.specs.Values.{Store, name_value, expr_value, list_value, test_
 abbrev pub Chosen : Type 0
 Chosen = ℕ × Message
 
--- a thread on its way: its variables, how many nacks it made, what it printed, and the results that are left to it
+-- what a thread has told so far: what it printed, and the processes that it spawned, each once, in order
+pub record Said : Type 0 where
+  pub printed : List Atom
+  pub spawned : List ℕ
+
+abbrev pub no_words : Said
+no_words = record { printed = []; spawned = [] }
+
+abbrev pub with_printed : Atom → Said → Said
+with_printed atom s = record s { printed = s.printed ++ atom ∷ [] }
+
+-- reached again, a `spawn` does nothing
+abbrev pub with_spawned : ℕ → Said → Said
+with_spawned process s =
+    if list_any (λ p. p == process) s.spawned then s else record s { spawned = s.spawned ++ process ∷ [] }
+
+-- a thread on its way: its variables, how many nacks it made, what it told, and the results that are left to it
 pub record State : Type 0 where
   pub thread : ℕ
   pub store : Store
   pub nacks : ℕ
-  pub printed : List Atom
+  pub said : Said
   pub left : List Chosen
 
 -- It goes on with a value; or it offers an event, with no result left; or it ends, or fails, with these results left.
 -- It strays where a result names an offer that is not there.
 pub data Outcome (A : Type 0) : Type 0 where
   Goes : (value : A) → Outcome A
-  Offers : (tree : Tree) (printed : List Atom) → Outcome A
-  Finishes : (printed : List Atom) (left : List Chosen) → Outcome A
-  Fails : (fault : Fault) (printed : List Atom) (left : List Chosen) → Outcome A
+  Offers : (tree : Tree) (said : Said) → Outcome A
+  Finishes : (said : Said) (left : List Chosen) → Outcome A
+  Fails : (fault : Fault) (said : Said) (left : List Chosen) → Outcome A
   Strays : Outcome A
 
 infixl 10 ◌>>=◌
@@ -46,7 +63,7 @@ Strays >>= f = Strays
 -- a value, or the fault in its place
 abbrev pub given : {A : Type 0} → State → Result A Fault → Outcome A
 given s (Ok value) = Goes value
-given s (Err fault) = Fails fault s.printed s.left
+given s (Err fault) = Fails fault s.said s.left
 
 -- COMMITS
 
@@ -92,7 +109,7 @@ committed names f (Some numbers) message s =
 
 -- a sync takes the next result; where none is left, it offers its event
 abbrev pub synced_with : Option (List ℕ) → Formed → List Chosen → Outcome State
-synced_with names f [] = Offers f.tree f.state.printed
+synced_with names f [] = Offers f.tree f.state.said
 synced_with names f (c ∷ left) = committed names f (wraps_at f.tree c.0) c.1 (record f.state { left = left })
 
 abbrev pub synced : Option (List ℕ) → Formed → Outcome State
@@ -145,7 +162,7 @@ formed wraps s base = Goes (record { tree = Single base; wraps = wraps; state = 
 abbrev pub with_nack : ℕ → State → Outcome State
 with_nack name s =
     if nat_le 64 s.nacks
-    then Fails Range s.printed s.left
+    then Fails Range s.said s.left
     else Goes (with_variable name (Nack (record { thread = s.thread; k = s.nacks })) (record s { nacks = s.nacks + 1 }))
 
 abbrev pub as_wrap : ℕ → Formed → Outcome Formed
@@ -168,14 +185,15 @@ abbrev mutual
   run_stmt (Lets name value) s =
       given s (expr_value s.store value) >>= λ atom. Goes (with_variable name atom s)
   run_stmt (Prints value) s =
-      given s (expr_value s.store value) >>= λ atom. Goes (record s { printed = s.printed ++ atom ∷ [] })
+      given s (expr_value s.store value) >>= λ atom. Goes (record s { said = with_printed atom s.said })
   run_stmt (Syncs names event) s = resolve event [] s >>= synced names
   run_stmt (Branches test first second) s =
       given s (test_value s.store test) >>= λ holds. (if holds then run_block first s else run_block second s)
   run_stmt (Loops number names event rest) s =
       times number (λ t. resolve event [] t >>= synced names >>= run_block rest) s
   run_stmt (LoopsForever names event rest) s = endless (λ t. resolve event [] t >>= synced names >>= run_block rest) s
-  run_stmt Ends s = Finishes s.printed s.left
+  run_stmt Ends s = Finishes s.said s.left
+  run_stmt (Spawns process) s = Goes (record s { said = with_spawned process s.said })
 
   -- the event, with the wraps of its sync that were numbered before
   pub resolve : Event → List Wrapping → State → Outcome Formed
@@ -184,6 +202,7 @@ abbrev mutual
   resolve (IsReady list) wraps s = given s (always_value s.store list) >>= formed wraps s
   resolve IsNever wraps s = formed wraps s Never
   resolve (IsCancelled nack) wraps s = given s (cancelled_value s.store nack) >>= formed wraps s
+  resolve (IsJoined process) wraps s = formed wraps s (OnEnd process)
   resolve (Chooses members) wraps s = resolve_all members wraps s
   resolve (Wraps event names list) wraps s =
       resolve event (wraps ++ record { names = names; list = list } ∷ []) s >>= as_wrap (length wraps)
@@ -201,10 +220,10 @@ abbrev mutual
 -- a thread before its first statement
 abbrev pub start : ℕ → ℕ → List Chosen → State
 start thread variables results =
-    record { thread = thread; store = replicate variables None; nacks = 0; printed = []; left = results }
+    record { thread = thread; store = replicate variables None; nacks = 0; said = no_words; left = results }
 
 abbrev pub finished : State → Outcome State
-finished s = Finishes s.printed s.left
+finished s = Finishes s.said s.left
 
 -- the whole body of a process with so many variables, run as this thread over these results
 abbrev pub after : Block → ℕ → ℕ → List Chosen → Outcome State

@@ -8,4 +8,5 @@ pub record HasStore (old new : Memory) (store : Store) : Type 0 where
   pub thread : new.thread ≡ old.thread
   pub nacks : new.nacks ≡ old.nacks
   pub printed : new.printed ≡ old.printed
+  pub spawned : new.spawned ≡ old.spawned
   pub variables : new.variables.items ≡ store

@@ -1,6 +1,6 @@
 -- A message on its way out of an event, from one of its base events through the wraps round that.
 use Rattle.std.specs.Prelude.{ℕ, zero, suc, Some}
-use Rattle.script_tree.specs.Trees.{Event, Sends, Receives, IsReady, IsNever, IsCancelled, Chooses, Wraps, Guards, Nacks, Events, NoMembers, Members}
+use Rattle.script_tree.specs.Trees.{Event, Sends, Receives, IsReady, IsNever, IsCancelled, IsJoined, Chooses, Wraps, Guards, Nacks, Events, NoMembers, Members}
 use Rattle.protocol_values.specs.declared.Message.{Message}
 use Rattle.thread.specs.After.{State, Outcome, Goes, ◌>>=◌, Having, Wrapping, wrapped_once}
 
@@ -29,6 +29,7 @@ abbrev mutual
   pass (IsReady list) n message s = passed n message s
   pass IsNever n message s = passed n message s
   pass (IsCancelled nack) n message s = passed n message s
+  pass (IsJoined process) n message s = passed n message s
   pass (Chooses members) n message s = pass_all members n message s
   pass (Wraps event names list) n message s = wrapped_in (record { names = names; list = list }) (pass event n message s)
   pass (Guards body event) n message s = pass event n message s

@@ -2,7 +2,7 @@
 use Rattle.std.specs.Prelude.{ℕ, ◌+◌, ◌<◌, List, [], ◌∷◌, drop, ⊤}
 use Rattle.thread_code.specs.Stages.{Stage, Offered, Performed, Made, stages}
 use Rattle.thread_code.specs.declared.Code.{Code}
-use Rattle.script_tree.specs.Trees.{Event, Sends, Receives, IsReady, IsNever, IsCancelled, Chooses, Wraps, Guards, Nacks, Events, NoMembers, Members, Stmt, Lets, Prints, Syncs, Branches, Loops, LoopsForever, Ends, Block, Stops, Runs}
+use Rattle.script_tree.specs.Trees.{Event, Sends, Receives, IsReady, IsNever, IsCancelled, IsJoined, Chooses, Wraps, Guards, Nacks, Events, NoMembers, Members, Stmt, Lets, Prints, Syncs, Branches, Loops, LoopsForever, Ends, Spawns, Block, Stops, Runs}
 use Rattle.thread.specs.declared.stack.Frame.{Frame}
 use Rattle.thread.specs.declared.stack.Frame.TheVariants as frame
 use Rattle.thread.specs.declared.stack.Opening.{Opening}
@@ -20,6 +20,7 @@ abbrev mutual
   event_reach (IsReady list) = 1
   event_reach IsNever = 1
   event_reach (IsCancelled nack) = 1
+  event_reach (IsJoined process) = 1
   event_reach (Chooses members) = members_reach members
   event_reach (Wraps event names list) = event_reach event
   event_reach (Guards body event) = 2 + stmts_reach body + event_reach event
@@ -37,6 +38,7 @@ abbrev mutual
   stmt_reach (Loops number names event rest) = 4 + event_reach event
   stmt_reach (LoopsForever names event rest) = 4 + event_reach event
   stmt_reach Ends = 0
+  stmt_reach (Spawns process) = 0
 
   pub stmts_reach : Block → ℕ
   stmts_reach Stops = 1

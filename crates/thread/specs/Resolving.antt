@@ -2,9 +2,9 @@
 use Rattle.std.specs.Prelude.{ℕ, List, [], ◌∷◌, ◌++◌, map, Result, Ok}
 use Rattle.thread_code.specs.Stages.{Stage, Offered, Performed, Made}
 use Rattle.event.specs.Tree.{Tree}
-use Rattle.script_tree.specs.Trees.{Event, Sends, Receives, IsReady, IsCancelled}
+use Rattle.script_tree.specs.Trees.{Event, Sends, Receives, IsReady, IsCancelled, IsJoined}
 use Rattle.protocol_values.specs.declared.Base.{Base}
-use Rattle.protocol_values.specs.declared.Base.TheVariants.{Never}
+use Rattle.protocol_values.specs.declared.Base.TheVariants.{Never, OnEnd}
 use Rattle.protocol_values.specs.declared.Offer.{Offer}
 use Rattle.thread.specs.declared.Fault.{Fault}
 use Rattle.thread.specs.Values.{Store}
@@ -36,6 +36,7 @@ base_value store (Sends channel list) = send_value store channel list
 base_value store (Receives channel) = recv_value store channel
 base_value store (IsReady list) = always_value store list
 base_value store (IsCancelled nack) = cancelled_value store nack
+base_value store (IsJoined process) = Ok (OnEnd process)
 base_value store event = Ok Never
 
 abbrev pub run_stage : Stage → Lists → State → Outcome Listed

@@ -3,7 +3,7 @@
 use Rattle.std.specs.Prelude.{ℕ, ◌+◌, List, [], ◌∷◌, ◌++◌, drop, get_or, length}
 use Rattle.event.specs.Tree.{Tree, Single, Nothing, Or, Wrap, Scope}
 use Rattle.script_tree.specs.Limits.{base_count, nack_count}
-use Rattle.script_tree.specs.Trees.{Event, Sends, Receives, IsReady, IsNever, IsCancelled, Chooses, Wraps, Guards, Nacks, Events, NoMembers, Members}
+use Rattle.script_tree.specs.Trees.{Event, Sends, Receives, IsReady, IsNever, IsCancelled, IsJoined, Chooses, Wraps, Guards, Nacks, Events, NoMembers, Members}
 use Rattle.protocol_values.specs.declared.Base.{Base}
 use Rattle.protocol_values.specs.declared.Base.TheVariants.{Never}
 use Rattle.thread.specs.After.{Wrapping}
@@ -16,6 +16,7 @@ abbrev mutual
   wraps_in (IsReady list) = []
   wraps_in IsNever = []
   wraps_in (IsCancelled nack) = []
+  wraps_in (IsJoined process) = []
   wraps_in (Chooses members) = wraps_in_all members
   wraps_in (Wraps event names list) = record { names = names; list = list } ∷ wraps_in event
   wraps_in (Guards body event) = wraps_in event
@@ -33,6 +34,7 @@ abbrev mutual
   tree_with next (IsReady list) bases nacks = Single (get_or bases 0 Never)
   tree_with next IsNever bases nacks = Single (get_or bases 0 Never)
   tree_with next (IsCancelled nack) bases nacks = Single (get_or bases 0 Never)
+  tree_with next (IsJoined process) bases nacks = Single (get_or bases 0 Never)
   tree_with next (Chooses members) bases nacks = choice_with next members bases nacks
   tree_with next (Wraps event names list) bases nacks = Wrap next (tree_with (next + 1) event bases nacks)
   tree_with next (Guards body event) bases nacks = tree_with next event bases nacks

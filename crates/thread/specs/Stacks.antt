@@ -19,24 +19,28 @@ use Rattle.thread.specs.declared.stack.Stop.{Stop}
 use Rattle.thread.specs.declared.stack.Stop.TheVariants.{Offering, Ended, Faulted}
 use Rattle.thread.specs.declared.stack.Step.{Step}
 use Rattle.thread.specs.declared.stack.Step.TheVariants.{On, To}
-use Rattle.thread.specs.After.{State, Chosen, Outcome, Goes, Fails, ◌>>=◌, Having, synced, times, endless, run_block, resolve, finished}
+use Rattle.thread.specs.After.{Said, State, Chosen, Outcome, Goes, Fails, ◌>>=◌, Having, synced, times, endless, run_block, resolve, finished}
 use Rattle.thread.specs.Resolving.{Lists, Listed, formed_as, run_stages}
 
 -- THREADS
 
+-- what it told
+abbrev pub said_by : Memory → Said
+said_by m = record { printed = m.printed.items; spawned = m.spawned.items }
+
 -- the thread with this memory, and these results to come
 abbrev pub state_of : Memory → List Chosen → State
-state_of m left = record { thread = m.thread; store = m.variables.items; nacks = m.nacks; printed = m.printed.items; left = left }
+state_of m left = record { thread = m.thread; store = m.variables.items; nacks = m.nacks; said = said_by m; left = left }
 
 -- the thread after names were set, or the fault
 abbrev pub state_after : {A : Type 0} → Result A Fault → Memory → List Chosen → Outcome State
 state_after (Ok done) m left = Goes (state_of m left)
-state_after (Err fault) m left = Fails fault m.printed.items left
+state_after (Err fault) m left = Fails fault (said_by m) left
 
 -- the message after wraps were applied, or the fault
 abbrev pub message_after : Result Message Fault → Memory → List Chosen → Outcome Having
 message_after (Ok message) m left = Goes (record { message = message; state = state_of m left })
-message_after (Err fault) m left = Fails fault m.printed.items left
+message_after (Err fault) m left = Fails fault (said_by m) left
 
 -- PLACES AND PLANS
 
@@ -107,7 +111,7 @@ abbrev pub stop_on : Code → Stack → Stop → State → Outcome State
 stop_on c stack (Offering o) s =
     offered (sync_at c o.plan) (record { lists = own o (lists_of stack); state = s }) >>= frames_on c stack.frames.items (others o (lists_of stack))
 stop_on c stack Ended s = finished s
-stop_on c stack (Faulted fault) s = Fails fault s.printed s.left
+stop_on c stack (Faulted fault) s = Fails fault s.said s.left
 
 abbrev pub step_on : Code → Stack → Step → State → Outcome State
 step_on c stack (On now) s = now_on c stack now s

@@ -2,7 +2,9 @@
 #![tactic(auto)]
 
 ghost use denote.Param.Send.{IsSend};
-ghost use Rattle.std.specs.Prelude.{◌<◌};
+ghost use Rattle.std.specs.Prelude.{◌<◌, ◌≤◌};
+ghost use Rattle.script_tree.specs.Limits.{BlockIsIn, Known};
+ghost use Rattle.script_tree.specs.Trees.{block_of};
 ghost use Rattle.thread.specs.Machines.{IsAfter, Thread, offers_in};
 ghost use Rattle.thread.specs.Ranges.{OffersAreIn, ResultsAreIn};
 ghost use Rattle.thread.specs.contracts.machine.Machine as machine;
@@ -17,9 +19,10 @@ mod value;
 
 pub use machine::{Machine, Turn};
 
-/// Whatever a machine offers names only nacks that the words have room for, if its results do.
+/// Whatever a machine offers names only nacks and threads that the words have room for, if its results
+/// and its text do.
 pub fn offers_are_in_range()
-    ensures { (m : Thread) → IsAfter m → m.thread < 64 → ResultsAreIn m.results → OffersAreIn (offers_in m.phase) }
+    ensures { (m : Thread) (k : Known) → IsAfter m → m.thread < 64 → k.processes ≤ 64 → BlockIsIn k (block_of m.body) → ResultsAreIn m.results → OffersAreIn (offers_in m.phase) }
 {}
 
 /// A machine may be moved to another thread.

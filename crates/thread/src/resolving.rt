@@ -75,7 +75,12 @@ fn base_of(event: &Event, variables: &[Option<Atom>]) -> Result<Base, Fault>
         Event::Recv(channel) => recv(*channel, variables),
         Event::Always(list) => always(list, variables),
         Event::Cancelled(nack) => cancelled(*nack, variables),
-        _ => Ok(Base::Never),
+        Event::Joined(process) => Ok(Base::OnEnd(*process)),
+        Event::Never
+        | Event::Choose(_)
+        | Event::Wrap(_, _, _)
+        | Event::Guard(_, _)
+        | Event::Nack(_, _, _) => Ok(Base::Never),
     }
 }
 

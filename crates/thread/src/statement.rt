@@ -83,6 +83,10 @@ pub(crate) fn run(
             Ok(Step::On(Now::Back))
         }
         Stmt::End => Ok(Step::To(Stop::Ended)),
+        Stmt::Spawn(process) => {
+            memory.spawn(*process)?;
+            Ok(Step::On(Now::At(place.next)))
+        }
     }
 }
 

@@ -2,7 +2,7 @@
 use Rattle.std.proofs.Common.{◌≡◌, ℕ, zero, suc, List, [], ◌∷◌, ◌++◌, Option, Some, None, ◌⊎◌, inl, inr, ⊎_elim, length, slice_get, refl, sym, ◌∙◌, ap, subst, append_assoc}
 use Rattle.std.proofs.lemmas.Option.{none-some, same_Some}
 use Rattle.std.specs.Option.{option_map}
-use Rattle.script_tree.specs.Trees.{Event, Stmt, Lets, Prints, Syncs, Branches, Loops, LoopsForever, Ends, Block, Stops, Runs, block_of}
+use Rattle.script_tree.specs.Trees.{Event, Stmt, Lets, Prints, Syncs, Branches, Loops, LoopsForever, Ends, Spawns, Block, Stops, Runs, block_of}
 use Rattle.thread_code.specs.declared.Place.{Place}
 use Rattle.thread_code.specs.declared.Plan.{Plan}
 use Rattle.thread_code.specs.declared.Stage.{Stage as SeenStage}
@@ -109,6 +109,7 @@ stmt_leads_on c d p (Branches test first second) rest g h = (is_at_on c d p.firs
 stmt_leads_on c d p (Loops times names event body) rest g h = has_plan_on c d p.first names event body g h
 stmt_leads_on c d p (LoopsForever names event body) rest g h = has_plan_on c d p.first names event body g h
 stmt_leads_on c d p Ends rest g h = tt
+stmt_leads_on c d p (Spawns process) rest g h = tt
 
 block_leads_on : (c d : Code) (p : Place) (block : Block) → Grows c d → BlockLeads c p block → BlockLeads d p block
 block_leads_on c d p Stops g h = tt

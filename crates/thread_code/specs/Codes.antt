@@ -2,7 +2,7 @@
 use Rattle.std.specs.Prelude.{◌≡◌, ℕ, List, [], ◌∷◌, Option, Some, slice_get, ⊤}
 use Rattle.std.specs.Option.{option_map}
 use Rattle.script_tree.specs.Limits.{IsSmall}
-use Rattle.script_tree.specs.Trees.{Event, Stmt, Lets, Prints, Syncs, Branches, Loops, LoopsForever, Ends, Block, Stops, Runs, block_of, event_of, names_of}
+use Rattle.script_tree.specs.Trees.{Event, Stmt, Lets, Prints, Syncs, Branches, Loops, LoopsForever, Ends, Spawns, Block, Stops, Runs, block_of, event_of, names_of}
 use Rattle.thread_code.specs.declared.Place.{Place}
 use Rattle.thread_code.specs.declared.Plan.{Plan}
 use Rattle.thread_code.specs.declared.Stage.{Stage as SeenStage}
@@ -50,6 +50,7 @@ StmtLeads c p (Branches test first second) rest = IsAt c p.first first × IsAt c
 StmtLeads c p (Loops times names event body) rest = HasPlan c p.first names event body
 StmtLeads c p (LoopsForever names event body) rest = HasPlan c p.first names event body
 StmtLeads c p Ends rest = ⊤
+StmtLeads c p (Spawns process) rest = ⊤
 
 abbrev pub BlockLeads : Code → Place → Block → Type 0
 BlockLeads c p Stops = ⊤

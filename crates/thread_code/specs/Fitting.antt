@@ -1,6 +1,6 @@
 -- Each sync has at most 8 base events and 4 nacks, also those in the bodies of guards and nacks.
 use Rattle.std.specs.Prelude.{⊤}
-use Rattle.script_tree.specs.Trees.{Event, Sends, Receives, IsReady, IsNever, IsCancelled, Chooses, Wraps, Guards, Nacks, Events, NoMembers, Members, Stmt, Lets, Prints, Syncs, Branches, Loops, LoopsForever, Ends, Block, Stops, Runs}
+use Rattle.script_tree.specs.Trees.{Event, Sends, Receives, IsReady, IsNever, IsCancelled, IsJoined, Chooses, Wraps, Guards, Nacks, Events, NoMembers, Members, Stmt, Lets, Prints, Syncs, Branches, Loops, LoopsForever, Ends, Spawns, Block, Stops, Runs}
 use Rattle.script_tree.specs.Limits.{IsSmall}
 
 -- each sync in the bodies of its guards and nacks is small
@@ -11,6 +11,7 @@ abbrev mutual
   EventFits (IsReady list) = ⊤
   EventFits IsNever = ⊤
   EventFits (IsCancelled nack) = ⊤
+  EventFits (IsJoined process) = ⊤
   EventFits (Chooses members) = MembersFit members
   EventFits (Wraps event names list) = EventFits event
   EventFits (Guards body event) = BlockFits body × EventFits event
@@ -28,6 +29,7 @@ abbrev mutual
   StmtFits (Loops number names event rest) = EventFits event × (IsSmall event × BlockFits rest)
   StmtFits (LoopsForever names event rest) = EventFits event × (IsSmall event × BlockFits rest)
   StmtFits Ends = ⊤
+  StmtFits (Spawns process) = ⊤
 
   pub BlockFits : Block → Type 0
   BlockFits Stops = ⊤

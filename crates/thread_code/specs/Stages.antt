@@ -1,6 +1,6 @@
 -- What is done to resolve an event, in the order of its text.
 use Rattle.std.specs.Prelude.{ℕ, ◌+◌, ◌^◌, List, [], ◌∷◌, ◌++◌, bit_or}
-use Rattle.script_tree.specs.Trees.{Block, Event, Sends, Receives, IsReady, IsNever, IsCancelled, Chooses, Wraps, Guards, Nacks, Events, NoMembers, Members}
+use Rattle.script_tree.specs.Trees.{Block, Event, Sends, Receives, IsReady, IsNever, IsCancelled, IsJoined, Chooses, Wraps, Guards, Nacks, Events, NoMembers, Members}
 use Rattle.script_tree.specs.Limits.{nack_count}
 
 -- a base event is evaluated, and offered within the scopes of this mask; a block runs; or the next nack is made, and
@@ -18,6 +18,7 @@ abbrev mutual
   stages around next (IsReady list) = Offered (IsReady list) around ∷ []
   stages around next IsNever = Offered IsNever around ∷ []
   stages around next (IsCancelled nack) = Offered (IsCancelled nack) around ∷ []
+  stages around next (IsJoined process) = Offered (IsJoined process) around ∷ []
   stages around next (Chooses members) = stages_of_all around next members
   stages around next (Wraps event names list) = stages around next event
   stages around next (Guards body event) = Performed body ∷ stages around next event

@@ -200,7 +200,8 @@ fn add_stages(
         | Event::Recv(_)
         | Event::Always(_)
         | Event::Never
-        | Event::Cancelled(_) => {
+        | Event::Cancelled(_)
+        | Event::Joined(_) => {
             list.push(Stage::Offer(Arc::try_clone(event)?, around))?;
             Ok(next)
         }

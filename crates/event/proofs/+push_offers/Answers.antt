@@ -3,11 +3,11 @@ use Rattle.std.proofs.lemmas.Nat.{one_shl}
 use Rattle.event.specs.declared.Resolved.TheViews.{the_lemmas}
 use Rattle.event.specs.Resolved.{tree_of}
 use Rattle.event.specs.Tree.{Single}
-use Rattle.event.proofs.ResolvedLemmas.{counts-more, members_from, members_from-more, tree_at-Choose, tree_at-Wrap, tree_at-Scope, tree_of-Send, tree_of-Recv, tree_of-Always, tree_of-Never, tree_of-OnNack}
+use Rattle.event.proofs.ResolvedLemmas.{counts-more, members_from, members_from-more, tree_at-Choose, tree_at-Wrap, tree_at-Scope, tree_of-Send, tree_of-Recv, tree_of-Always, tree_of-Never, tree_of-OnNack, tree_of-OnEnd}
 use Rattle.event.proofs.StepLemmas.{offers_within-Single, offers_within-Wrap, offers_within-Scope, length-appended, appended-more}
 use Rattle.event.proofs.TreeLemmas.{base_count-Wrap, base_count-Scope}
 use Rattle.event.proofs.+push_offers.Goals as goal
-use Rattle.event.proofs.+push_offers.Goals.{in-Send, in-Recv, in-Always, in-OnNack, in-Never}
+use Rattle.event.proofs.+push_offers.Goals.{in-Send, in-Recv, in-Always, in-OnNack, in-OnEnd, in-Never}
 
 pub loop-member-init : goal.loop-member-init
 loop-member-init t c =
@@ -70,6 +70,7 @@ push_reserved-requires t c =
       | in-Recv w ↦ ap tree_of w.in-Recv.is ∙ tree_of-Recv _ ∙ ap Single (sym w.base-is)
       | in-Always w ↦ ap tree_of w.in-Always.is ∙ tree_of-Always _ ∙ ap Single (sym w.base-is)
       | in-OnNack w ↦ ap tree_of w.in-OnNack.is ∙ tree_of-OnNack _ ∙ ap Single (sym w.base-is)
+      | in-OnEnd w ↦ ap tree_of w.in-OnEnd.is ∙ tree_of-OnEnd _ ∙ ap Single (sym w.base-is)
       | in-Never w ↦ ap tree_of w.in-Never.is ∙ tree_of-Never ∙ ap Single (sym w.base-is)
     ] in
     (omega arith, rw single at c.requires.spare)
@@ -80,6 +81,7 @@ single t c = elim c.match-event.branch [
   | in-Recv w ↦ ap tree_of w.in-Recv.is ∙ tree_of-Recv _ ∙ ap Single (sym w.base-is)
   | in-Always w ↦ ap tree_of w.in-Always.is ∙ tree_of-Always _ ∙ ap Single (sym w.base-is)
   | in-OnNack w ↦ ap tree_of w.in-OnNack.is ∙ tree_of-OnNack _ ∙ ap Single (sym w.base-is)
+  | in-OnEnd w ↦ ap tree_of w.in-OnEnd.is ∙ tree_of-OnEnd _ ∙ ap Single (sym w.base-is)
   | in-Never w ↦ ap tree_of w.in-Never.is ∙ tree_of-Never ∙ ap Single (sym w.base-is)
 ]
 

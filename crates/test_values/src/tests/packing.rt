@@ -1,6 +1,6 @@
 //! The words of the format's own table, each way, and words that stand for nothing.
 ghost use Rattle.std.specs.Prelude.{◌≡◌, IfSome, None, Some};
-ghost use Rattle.protocol_values.specs.Words.{IsAtomInRange, IsBindingInRange, IsCellInRange, IsHeadInRange};
+ghost use Rattle.protocol_values.specs.Words.{IsAtomInRange, IsBindingInRange, IsCellInRange, IsCourseInRange, IsHeadInRange};
 
 use super::checks::check_same;
 use protocol_values::*;
@@ -33,6 +33,13 @@ fn check_nack(rt: &impl Abort, binding: Option<Binding>, word: u64)
 {
     check_same(rt, pack_nack(binding), word, "the word of a nack");
     check_same(rt, unpack_nack(word), Some(binding), "the nack of a word");
+}
+
+fn check_course(rt: &impl Abort, course: Course, word: u64)
+    requires { IsCourseInRange course }
+{
+    check_same(rt, pack_course(course), word, "the word of a life");
+    check_same(rt, unpack_course(word), Some(course), "the life of a word");
 }
 
 fn met(thread: u8) -> Joined
@@ -83,6 +90,11 @@ fn heads(rt: HostRuntime) {
         0,
         264196,
     );
+    check_head(&rt, Direction::OnEnd(0), 0, 5);
+    check_head(&rt, Direction::OnEnd(1), 0, 2053);
+    check_head(&rt, Direction::OnEnd(63), 0, 129029);
+    check_head(&rt, Direction::OnEnd(5), 3, 100673541);
+    check_head(&rt, Direction::OnEnd(63), 15, 503445509);
 }
 
 #[test]
@@ -107,6 +119,17 @@ fn nacks(rt: HostRuntime) {
     );
 }
 
+#[test]
+fn courses(rt: HostRuntime) {
+    check_course(&rt, Course::Unstarted, 0);
+    check_course(&rt, Course::Running(0), 1);
+    check_course(&rt, Course::Running(2), 5);
+    check_course(&rt, Course::Ended(0, 0), 8589934593);
+    check_course(&rt, Course::Ended(2, 1), 25769803781);
+    check_course(&rt, Course::Ended(1, 1024), 17600775979011);
+    check_course(&rt, Course::Ended(4294967295, 1024), 17609365913599);
+}
+
 const SENT: Offer = Offer {
     base: Base::Send(0, Message::One(Atom::Num(42))),
     scopes: 0,
@@ -117,8 +140,13 @@ const RECEIVED: Offer = Offer {
     scopes: 3,
 };
 
+const ENDED: Offer = Offer {
+    base: Base::OnEnd(5),
+    scopes: 3,
+};
+
 /// The words of an offer, and what they stand for.
-const OFFERS: [([u64; 4], Option<Offer>, &str); 5] = [
+const OFFERS: [([u64; 4], Option<Offer>, &str); 7] = [
     ([8388609, 168, 0, 0], Some(SENT), "an offer to send"),
     (
         [8388609, 168, 1021, 8],
@@ -127,7 +155,9 @@ const OFFERS: [([u64; 4], Option<Offer>, &str); 5] = [
     ),
     ([100663322, 0, 0, 0], Some(RECEIVED), "an offer to receive"),
     ([8388609, 3, 0, 0], None, "an atom of kind 3"),
-    ([5, 168, 0, 0], None, "a head of direction 5"),
+    ([100673541, 0, 0, 0], Some(ENDED), "an offer on an end"),
+    ([13, 168, 0, 0], None, "an end with channel bits"),
+    ([6, 168, 0, 0], None, "a head of direction 6"),
 ];
 
 #[test]
@@ -152,6 +182,7 @@ enum Form {
     Head,
     Atom,
     Nack,
+    Course,
 }
 
 fn stands_for_nothing(form: Form, word: u64) -> bool {
@@ -161,10 +192,11 @@ fn stands_for_nothing(form: Form, word: u64) -> bool {
         Form::Head => unpack_head(word) == None,
         Form::Atom => unpack_atom(word) == None,
         Form::Nack => unpack_nack(word) == None,
+        Form::Course => unpack_course(word) == None,
     }
 }
 
-const ILL_FORMED: [(Form, u64, &str); 17] = [
+const ILL_FORMED: [(Form, u64, &str); 26] = [
     (Form::Cell, 5, "a sixth state"),
     (Form::Cell, 3, "no stamp"),
     (Form::Cell, (1 << 63) + 1, "a stray high bit"),
@@ -176,9 +208,12 @@ const ILL_FORMED: [(Form, u64, &str); 17] = [
     ),
     (Form::Count, 9, "too many"),
     (Form::Count, 1 << 63, "a stray high bit"),
-    (Form::Head, 5, "a sixth direction"),
+    (Form::Head, 6, "a seventh direction"),
     (Form::Head, 12, "channel bits on OnNack"),
     (Form::Head, 8, "channel bits on Never"),
+    (Form::Head, 13, "channel bits on OnEnd"),
+    (Form::Head, (1 << 17) + 5, "a nack's number on OnEnd"),
+    (Form::Head, (1 << 23) + 5, "atoms on OnEnd"),
     (Form::Head, 1 << 29, "a stray high bit"),
     (Form::Atom, 3, "a fourth kind"),
     (Form::Atom, 1025, "channel 256"),
@@ -186,6 +221,16 @@ const ILL_FORMED: [(Form, u64, &str); 17] = [
     (Form::Atom, 1 << 34, "a number of 33 bits"),
     (Form::Nack, 2, "a sync of no binding"),
     (Form::Nack, (1 << 13) + 1, "a stray high bit"),
+    (Form::Course, 2, "a start of no thread"),
+    (Form::Course, 4, "a start of no thread"),
+    (
+        Form::Course,
+        1025 * (1 << 34) + (1 << 33) + 1,
+        "an end at sync 1025",
+    ),
+    (Form::Course, 1 << 33, "an end without a start"),
+    (Form::Course, (1 << 34) + 1, "a sync without an end"),
+    (Form::Course, (1 << 45) + (1 << 33) + 1, "a stray high bit"),
 ];
 
 #[test]
@@ -196,12 +241,14 @@ fn ill_formed(rt: HostRuntime) {
 }
 
 /// Whether a word may stand at a place.
-const PLACES: [(u8, u64, bool); 12] = [
+const PLACES: [(u8, u64, bool); 14] = [
     (0, 67108931, true),
     (0, 5, false),
     (1, 8, true),
     (1, 9, false),
     (2, 42, true),
+    (2, 5, true),
+    (2, 6, false),
     (2, 1021, false),
     (3, 1021, true),
     (4, 3, false),

@@ -51,7 +51,8 @@ fn process_of_one_variable(alloc: Global) -> Result<Proc, AllocError> {
     let body = Arc::new(alloc, Block::Done)?;
     let mut variables = Vec::new(alloc);
     variables.push(String::from_str(alloc, "x")?)?;
-    Ok(Proc::new(String::from_str(alloc, "a")?, body, variables, 2))
+    let name = String::from_str(alloc, "a")?;
+    Ok(Proc::new(name, body, variables, 2, 0))
 }
 
 #[test]
@@ -60,6 +61,7 @@ fn processes(rt: HostRuntime) -> Result<(), Fail> {
     crosses_threads(&process);
     check_same(&rt, process.name(), "a", "the name");
     check_same(&rt, process.channels(), 2, "the channels");
+    check_same(&rt, process.earlier(), 0, "the processes before it");
     check_same(&rt, process.variables(), 1, "the variables");
     check_same(&rt, process.variable_name(0), Some("x"), "variable 0");
     check_same(&rt, process.variable_name(1), None, "variable 1");

@@ -7,7 +7,7 @@ use Rattle.protocol_values.specs.declared.Atom.TheVariants.{Nack}
 use Rattle.thread.specs.declared.Fault.TheVariants.{Range}
 use Rattle.thread.specs.After.{Outcome, State, Goes, Fails, with_variable}
 use Rattle.thread.specs.Resolving.{base_value, with_offer, with_scope}
-use Rattle.thread.specs.Stacks.{frames_on, lists_of, state_of}
+use Rattle.thread.specs.Stacks.{said_by, frames_on, lists_of, state_of}
 use Rattle.thread.proofs.Opening.{open_does, open_whole, offer_does, offer_fails, offer_falls, offer_fits, body_does, body_falls, body_fits, nack_does, nack_fails, nack_falls, nack_fits}
 use Rattle.thread.proofs.resolving.resolve.Goals as goal
 
@@ -75,7 +75,7 @@ returns-then-memory-ge64-clause-does c = λ rs.
     let found = c.in-Some.ensures.lookup in
     let at = ap (λ l. slice_get l c.loop-stage.opening.stage) (sym c.deref.ensures.value) ∙ slice_get_read c.deref.result.now (length c.deref.result.now) c.loop-stage.opening.stage c.in-Some.stage.now refl found.3.0 found.1 ∙ ap (λ s. Some s) c.in-Nack.is in
     let made : Outcome State = Goes (with_variable c.in-Nack.name (Nack (record { thread = c.loop-stage.memory.thread; k = c.loop-stage.memory.nacks })) (record (state_of c.loop-stage.memory rs) { nacks = c.loop-stage.memory.nacks + 1 })) in
-    let many : Outcome State = Fails Range c.loop-stage.memory.printed.items rs in
+    let many : Outcome State = Fails Range (said_by c.loop-stage.memory) rs in
     let many_are : nat_le 64 c.loop-stage.memory.nacks ≡ true = search (rules, nat_tests) in
     nack_fails c.args.code.now c.loop-stage.opening (lists_of c.loop-stage.stack) c.plan_of-plan.result.now c.loop-stage.invariant.fits.0 c.plan_of-plan.ensures c.in-Nack.name at (frames_on c.args.code.now c.loop-stage.stack.frames.items) (state_of c.loop-stage.memory rs) Range (ap (λ b. if b then many else made) many_are)
     ∙ c.loop-stage.invariant.does rs
@@ -85,10 +85,10 @@ returns-in-Nack-clause-does c = λ rs.
     let found = c.in-Some.ensures.lookup in
     let at = ap (λ l. slice_get l c.loop-stage.opening.stage) (sym c.deref.ensures.value) ∙ slice_get_read c.deref.result.now (length c.deref.result.now) c.loop-stage.opening.stage c.in-Some.stage.now refl found.3.0 found.1 ∙ ap (λ s. Some s) c.in-Nack.is in
     let made : Outcome State = Goes (with_variable c.in-Nack.name (Nack (record { thread = c.loop-stage.memory.thread; k = c.loop-stage.memory.nacks })) (record (state_of c.loop-stage.memory rs) { nacks = c.loop-stage.memory.nacks + 1 })) in
-    let many : Outcome State = Fails Range c.loop-stage.memory.printed.items rs in
+    let many : Outcome State = Fails Range (said_by c.loop-stage.memory) rs in
     let put : record { offers = c.loop-stage.stack.offers.items; nacks = c.push-in-Nack.new.self.items } ≡ with_scope c.loop-stage.memory.nacks (lists_of c.loop-stage.stack) = ap (λ ns. record { offers = c.loop-stage.stack.offers.items; nacks = ns }) c.in_ok-push-in-Nack.ensures.items in
     let few : nat_le 64 c.loop-stage.memory.nacks ≡ false = search (rules, nat_tests) in
-    let set : made ≡ Goes (state_of c.set.new.self rs) = rw (c.set.ensures.thread, c.set.ensures.nacks, c.set.ensures.printed, c.set.ensures.variables) refl in
+    let set : made ≡ Goes (state_of c.set.new.self rs) = rw (c.set.ensures.thread, c.set.ensures.nacks, c.set.ensures.printed, c.set.ensures.spawned, c.set.ensures.variables) refl in
     nack_does c.args.code.now c.loop-stage.opening (lists_of c.loop-stage.stack) c.plan_of-plan.result.now c.loop-stage.invariant.fits.0 c.plan_of-plan.ensures c.in-Nack.name at c.loop-stage.memory.nacks (record { offers = c.loop-stage.stack.offers.items; nacks = c.push-in-Nack.new.self.items }) put (frames_on c.args.code.now c.loop-stage.stack.frames.items) (state_of c.loop-stage.memory rs) (state_of c.set.new.self rs) refl (ap (λ b. if b then many else made) few ∙ set)
     ∙ c.loop-stage.invariant.does rs
 

@@ -1,11 +1,12 @@
 use Rattle.std.proofs.Common.{◌∙◌, Ok, sym, ap, arith}
 use Rattle.script_tree.specs.Trees.{Runs, block_of, stmt_of, test_of}
 use Rattle.thread.specs.declared.stack.Frame.TheVariants.{Times, Endless}
+use Rattle.thread.specs.After.{Goes}
 use Rattle.thread.specs.Reaches.{event_reach}
 use Rattle.thread.specs.Stacks.{frames_on, lists_of, state_of}
 use Rattle.thread.specs.Values.{test_value}
 use Rattle.thread.proofs.Stacking.{at_there, frame_put, has_sync, leads_at, sync_is}
-use Rattle.thread.proofs.Statements.{branch_does, branch_falls, branch_false, branch_fits, branch_true, endless_on, loop_does, loop_steps, next_there, sync_does, sync_falls, sync_fits, times_on}
+use Rattle.thread.proofs.Statements.{step_does, branch_does, branch_falls, branch_false, branch_fits, branch_true, endless_on, loop_does, loop_steps, next_there, sync_does, sync_falls, sync_fits, times_on}
 use Rattle.thread.proofs.statement.run.Goals as goal
 
 pub returns-in-Ok-clause-fits : goal.returns-in-Ok-clause-fits
@@ -162,3 +163,18 @@ returns-in_ok-push-in-Forever-2-clause-fits c =
     let is = c.in_ok-push-in-Forever.ensures.items in
     let put = c.in_ok-push-in-Forever-2.ensures.items in
     frame_put c.args.code.now c.push-in-Forever-2.new.self.items c.push-in-Forever.new.self.items (Endless p.first) (lists_of c.args.stack.now) put (has_sync c.args.code.now p.first _ _ _ has, branch_fits c.args.code.now c.args.at p _ rest c.requires.linked c.place_at-place.ensures runs c.push-in-Forever.new.self.items c.args.stack.now.frames.items (lists_of c.args.stack.now) is c.requires.fits.1)
+
+pub returns-in_ok-spawn-in-Spawn-clause-does : goal.returns-in_ok-spawn-in-Spawn-clause-does
+returns-in_ok-spawn-in-Spawn-clause-does c = λ rs.
+    let p = c.place_at-place.result.now in
+    let rest = block_of c.in-Then.field-1.value in
+    let runs = ap block_of (sym c.deref.ensures ∙ c.in-Then.is) ∙ ap (λ st. Runs (stmt_of st) (block_of c.in-Then.field-1.value)) c.in-Spawn.is in
+    step_does c.args.code.now c.args.at p _ rest c.requires.linked c.place_at-place.ensures runs (state_of c.args.memory.now rs) (state_of c.spawn.new.self rs)
+    (frames_on c.args.code.now c.args.stack.now.frames.items (lists_of c.args.stack.now)) (ap Goes (sym (c.in_ok-spawn-in-Spawn.ensures rs)))
+
+pub returns-in_ok-spawn-in-Spawn-clause-fits : goal.returns-in_ok-spawn-in-Spawn-clause-fits
+returns-in_ok-spawn-in-Spawn-clause-fits c =
+    let p = c.place_at-place.result.now in
+    let rest = block_of c.in-Then.field-1.value in
+    let runs = ap block_of (sym c.deref.ensures ∙ c.in-Then.is) ∙ ap (λ st. Runs (stmt_of st) (block_of c.in-Then.field-1.value)) c.in-Spawn.is in
+    (next_there c.args.code.now c.args.at p _ rest c.requires.linked c.place_at-place.ensures runs, c.requires.fits.1)

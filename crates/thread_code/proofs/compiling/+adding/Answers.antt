@@ -100,6 +100,6 @@ add_stages-returns-in_ok-push-in-Send-clause-stages t c before h =
     let event = event_of c.args.event.now.value in
     let IsBase : SeenEvent → Type 0 = λ e. stages c.args.around c.args.next (event_of e) ≡ Offered (event_of e) c.args.around ∷ [] in
     let at : (e : SeenEvent) → c.deref.result.now ≡ e → IsBase e → IsBase c.args.event.now.value = λ e is base. subst IsBase (sym (sym c.deref.ensures ∙ is)) base in
-    let base : IsBase c.args.event.now.value = ⊎_elim (λ w. at _ w.2 refl) (⊎_elim (λ w. at _ w.1 refl) (⊎_elim (λ w. at _ w.1 refl) (⊎_elim (λ w. at _ w refl) (λ w. at _ w.1 refl)))) c.in-Send.is in
+    let base : IsBase c.args.event.now.value = ⊎_elim (λ w. at _ w.2 refl) (⊎_elim (λ w. at _ w.1 refl) (⊎_elim (λ w. at _ w.1 refl) (⊎_elim (λ w. at _ w refl) (⊎_elim (λ w. at _ w.1 refl) (λ w. at _ w.1 refl))))) c.in-Send.is in
     let pushed = are_stages_then code c.args.list.now.items before (seen.Offer c.in_ok-try_clone-in-Send.field-0 c.args.around) (Offered event c.args.around) h (ap event_of c.in_ok-try_clone-in-Send.ensures, refl) in
     subst₂ (λ l stages. AreStages code l (before ++ stages)) (sym c.in_ok-push-in-Send.ensures.items) (sym base) pushed
