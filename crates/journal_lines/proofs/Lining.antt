@@ -10,7 +10,7 @@ use Rattle.protocol_values.specs.declared.Commit.{Commit}
 use Rattle.protocol_values.specs.declared.Commit.TheVariants.{Pair, Alone}
 use Rattle.protocol_values.specs.declared.Message.{Message}
 use Rattle.protocol_values.specs.declared.Message.TheVariants.{Empty, One, Two, Three}
-use Rattle.thread.proofs.Keeping.{AtomsOf}
+use Rattle.thread.proofs.Keeping.{EachOf}
 use Rattle.journal_text.specs.Names.{Declared, names_of, named}
 use Rattle.journal_text.specs.Journals.{HasAtom, HasCause, HasLine, HasMessage, Spells}
 use Rattle.journal_text.specs.Texts.{commits_text}
@@ -35,6 +35,7 @@ message_prop d (Three a b c) = ×_prop (×_prop (atom_prop d a) (atom_prop d b))
 cause_prop : (d : Declared) (why : Cause) → IsProp (HasCause d why)
 cause_prop d (cause.Always m) = message_prop d m
 cause_prop d (cause.Nack n) = hlevel le_prop
+cause_prop d (cause.End t) = λ x y. absurd x
 
 line_prop : (d : Declared) (c : Commit) → IsProp (HasLine d c)
 line_prop d (Pair sender receiver chan msg stamp) = hlevel (le_prop, message_prop d msg)
@@ -47,7 +48,7 @@ run_has_lines s spelled rows few journal run =
     ∥∥₁_rec (AllByRecursion-prop (HasLine (names_of s)) (line_prop (names_of s)) journal)
     (λ w. (run_lines s rows few (has_text w.0 s w.1) journal run).0) spelled
 
-all_atoms : (d : Declared) (printed : List Atom) → AtomsOf (HasAtom d) printed → AllByRecursion (HasAtom d) printed
+all_atoms : (d : Declared) (printed : List Atom) → EachOf (HasAtom d) printed → AllByRecursion (HasAtom d) printed
 all_atoms d [] h = tt
 all_atoms d (a ∷ printed) h = (h.0, all_atoms d printed h.1)
 

@@ -8,7 +8,7 @@ use Rattle.std.proofs.lemmas.Option.{none-some, same_Some, slice_get_within, som
 use Rattle.event.specs.Tree.{Tree, Single, Nothing, Or, Wrap, Scope, BaseEvent, bases, bases_from, scope_count, with_scope, with_wrap}
 use Rattle.script_tree.specs.Processes.{Proc}
 use Rattle.thread.specs.After.{Chosen, State, Outcome, Goes, Offers, Finishes, Fails, Strays, after}
-use Rattle.thread.proofs.Keeping.{AtomsOf, MessageOf, BaseOf, ResultsOf, TreeOf, Keeps, after_keeps}
+use Rattle.thread.proofs.Keeping.{EachOf, MessageOf, BaseOf, ResultsOf, TreeOf, Keeps, after_keeps}
 use Rattle.protocol_values.specs.declared.Atom.{Atom}
 use Rattle.protocol_values.specs.declared.Base.{Base}
 use Rattle.protocol_values.specs.declared.Base.TheVariants.{Send, Recv, Always, OnNack}
@@ -28,27 +28,27 @@ use Rattle.journal_replay.specs.Runs.{Config, CanTake, EndsAs, Follows, IsCaused
 use Rattle.journal_replay.proofs.Greatest.{more, more-cases}
 use Rattle.journal_replay.proofs.Standing.{config_of-more, result-at, result-other}
 use Rattle.journal_order.proofs.Runs.{RunsOn, runs-on}
-use Rattle.journal_lines.proofs.Rules.{in_text}
+use Rattle.journal_lines.proofs.Rules.{in_text, IsThread}
 use Rattle.journal_lines.proofs.Text.{HasText, IsInText}
 
 -- BASE EVENTS
 
-bases_all : (P : Atom → Type 0) (S : ℕ → Type 0) (n : ℕ) (tree : Tree) → TreeOf P S tree → AllByRecursion (λ b. BaseOf P b.base) (bases_from n tree)
-bases_all P S n (Single base) h = (h, tt)
-bases_all P S n Nothing h = tt
-bases_all P S n (Or first second) h = all_append (bases_from n first) (bases_from (n + scope_count first) second) (bases_all P S n first h.0) (bases_all P S (n + scope_count first) second h.1)
+bases_all : (P : Atom → Type 0) (J S : ℕ → Type 0) (n : ℕ) (tree : Tree) → TreeOf P J S tree → AllByRecursion (λ b. BaseOf P J b.base) (bases_from n tree)
+bases_all P J S n (Single base) h = (h, tt)
+bases_all P J S n Nothing h = tt
+bases_all P J S n (Or first second) h = all_append (bases_from n first) (bases_from (n + scope_count first) second) (bases_all P J S n first h.0) (bases_all P J S (n + scope_count first) second h.1)
   where
-    all_append : (xs ys : List BaseEvent) → AllByRecursion (λ b. BaseOf P b.base) xs → AllByRecursion (λ b. BaseOf P b.base) ys → AllByRecursion (λ b. BaseOf P b.base) (xs ++ ys)
+    all_append : (xs ys : List BaseEvent) → AllByRecursion (λ b. BaseOf P J b.base) xs → AllByRecursion (λ b. BaseOf P J b.base) ys → AllByRecursion (λ b. BaseOf P J b.base) (xs ++ ys)
     all_append [] ys h k = k
     all_append (x ∷ xs) ys h k = (h.0, all_append xs ys h.1 k)
-bases_all P S n (Wrap wrap event) h = wrapped (bases_from n event) (bases_all P S n event h)
+bases_all P J S n (Wrap wrap event) h = wrapped (bases_from n event) (bases_all P J S n event h)
   where
-    wrapped : (xs : List BaseEvent) → AllByRecursion (λ b. BaseOf P b.base) xs → AllByRecursion (λ b. BaseOf P b.base) (map (with_wrap wrap) xs)
+    wrapped : (xs : List BaseEvent) → AllByRecursion (λ b. BaseOf P J b.base) xs → AllByRecursion (λ b. BaseOf P J b.base) (map (with_wrap wrap) xs)
     wrapped [] h = tt
     wrapped (x ∷ xs) h = (h.0, wrapped xs h.1)
-bases_all P S n (Scope nack event) h = scoped (bases_from (n + 1) event) (bases_all P S (n + 1) event h.1)
+bases_all P J S n (Scope nack event) h = scoped (bases_from (n + 1) event) (bases_all P J S (n + 1) event h.1)
   where
-    scoped : (xs : List BaseEvent) → AllByRecursion (λ b. BaseOf P b.base) xs → AllByRecursion (λ b. BaseOf P b.base) (map (with_scope n) xs)
+    scoped : (xs : List BaseEvent) → AllByRecursion (λ b. BaseOf P J b.base) xs → AllByRecursion (λ b. BaseOf P J b.base) (map (with_scope n) xs)
     scoped [] h = tt
     scoped (x ∷ xs) h = (h.0, scoped xs h.1)
 
@@ -123,7 +123,7 @@ module _ (s : Script) (rows : ℕ) (few : rows ≤ 1024) (text : HasText s) wher
 
   record Taken (at : Row × ℕ) (b : Base) : Type 0 where
     pub place : HasPlace d at
-    pub base : BaseOf (HasAtom d) b
+    pub base : BaseOf (HasAtom d) (IsThread d) b
 
   taken : (results : List Chosen) (at : Row × ℕ) (b : Base) → ResultsOf (HasAtom d) results → CanTake s.processes rows results at b → Taken at b
   taken results at b fine can =
@@ -132,10 +132,10 @@ module _ (s : Script) (rows : ℕ) (few : rows ≤ 1024) (text : HasText s) wher
       let below = declared t p can.offered.is_its in
       let kept = subst (λ (x : Outcome State). Keeps (in_text d t below) x (λ y. ⊤)) can.offered.offers (after_fine t p below results can.offered.is_its fine) in
       let within = slice_get_within (bases can.event) at.1 can.base can.is in
-      let base = all_at (λ (x : BaseEvent). BaseOf (HasAtom d) x.base) (bases can.event) at.1 can.base (bases_all (HasAtom d) (λ k. ⊤) 0 can.event kept.parts) can.is in
+      let base = all_at (λ (x : BaseEvent). BaseOf (HasAtom d) (IsThread d) x.base) (bases can.event) at.1 can.base (bases_all (HasAtom d) (IsThread d) (λ k. ⊤) 0 can.event kept.parts) can.is in
       record {
         place = (below, omega (arith, can.few, can.next, few), omega (arith, within, kept.small));
-        base = subst (BaseOf (HasAtom d)) can.same base;
+        base = subst (BaseOf (HasAtom d) (IsThread d)) can.same base;
       }
 
   may_take : (config : Config) (at : Row × ℕ) (b : Base) → Fine config → MayTake s.processes rows config at b → Taken at b
@@ -160,6 +160,7 @@ module _ (s : Script) (rows : ℕ) (few : rows ≤ 1024) (text : HasText s) wher
   alone_line config at (cause.Nack n) stamp fine legal =
       let one = may_take config at (OnNack n) fine legal.0 in
       ((one.place, one.base), with_fine at.0.thread (at.1, Empty) config tt fine)
+  alone_line config at (cause.End u) stamp fine legal = absurd legal
 
   commit_line : (config : Config) (c : Commit) → Fine config → IsLegal s.processes rows config c → HasLineAt c × Fine (applied config c)
   commit_line config (Pair sender receiver chan msg stamp) fine legal =
@@ -210,6 +211,7 @@ module _ (s : Script) (rows : ℕ) (few : rows ≤ 1024) (text : HasText s) wher
       record { short = two.short; more = omega (arith, one.more, two.more) }
   grows config (Alone at (cause.Always m) stamp) short legal = grows_one config at (Always m) m short legal
   grows config (Alone at (cause.Nack n) stamp) short legal = grows_one config at (OnNack n) Empty short legal.0
+  grows config (Alone at (cause.End u) stamp) short legal = absurd legal
 
   -- RUNS
 
@@ -263,16 +265,16 @@ module _ (s : Script) (rows : ℕ) (few : rows ≤ 1024) (text : HasText s) wher
 
   -- WHAT IS PRINTED
 
-  printed_in : (t : ℕ) (below : t < length d.threads) (count : ℕ) (x : Outcome State) (end : End) (printed : List Atom) → Keeps (in_text d t below) x (λ y. ⊤) → end_of rows count x ≡ Some (end, printed) → AtomsOf (HasAtom d) printed
+  printed_in : (t : ℕ) (below : t < length d.threads) (count : ℕ) (x : Outcome State) (end : End) (printed : List Atom) → Keeps (in_text d t below) x (λ y. ⊤) → end_of rows count x ≡ Some (end, printed) → EachOf (HasAtom d) printed
   printed_in t below count (Goes value) end printed h e = absurd cc
-  printed_in t below count (Offers event told) end printed h e = subst (AtomsOf (HasAtom d)) (some_pair_parts _ end told printed e).1 h.printed
-  printed_in t below count (Finishes told []) end printed h e = subst (AtomsOf (HasAtom d)) (some_pair_parts _ end told printed e).1 h
+  printed_in t below count (Offers event told) end printed h e = subst (EachOf (HasAtom d)) (some_pair_parts _ end told.printed printed e).1 h.said.printed
+  printed_in t below count (Finishes told []) end printed h e = subst (EachOf (HasAtom d)) (some_pair_parts _ end told.printed printed e).1 h.printed
   printed_in t below count (Finishes told (r ∷ left)) end printed h e = absurd cc
-  printed_in t below count (Fails fault told []) end printed h e = subst (AtomsOf (HasAtom d)) (some_pair_parts _ end told printed e).1 h
+  printed_in t below count (Fails fault told []) end printed h e = subst (EachOf (HasAtom d)) (some_pair_parts _ end told.printed printed e).1 h.printed
   printed_in t below count (Fails fault told (r ∷ left)) end printed h e = absurd cc
   printed_in t below count Strays end printed h e = absurd cc
 
-  pub printed_fine : (config : Config) (t : ℕ) (end : End) (printed : List Atom) → Fine config → EndsAs s.processes rows t config end printed → AtomsOf (HasAtom d) printed
+  pub printed_fine : (config : Config) (t : ℕ) (end : End) (printed : List Atom) → Fine config → EndsAs s.processes rows t config end printed → EachOf (HasAtom d) printed
   printed_fine config t end printed fine ends =
       let p = ends.process in
       let below = declared t p ends.is_its in

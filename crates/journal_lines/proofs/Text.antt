@@ -38,7 +38,7 @@ module _ (d : Declared) (t : ℕ) (below : t < length d.threads) where
 
   -- EXPRESSIONS
 
-  known_name : (ns : Names) (name : TreeName) → Fits ns → NameIsIn (record { channels = length ns.channels; variables = length ns.variables }) name → NameOf rule name
+  known_name : (ns : Names) (name : TreeName) → Fits ns → NameIsIn (record { channels = length ns.channels; variables = length ns.variables; processes = 0 }) name → NameOf rule name
   known_name ns (Variable v) f h = tt
   known_name ns (Channel c) f h = omega (arith, f, h)
 
@@ -46,7 +46,7 @@ module _ (d : Declared) (t : ℕ) (below : t < length d.threads) where
   name_text ns text name f e =
       let h = at ns (start []).counts in
       let read = name_read 1 h (Name text ∷ []) (name, []) (name_again 1 ns (start []).counts text name [] (omega arith) e) in
-      known_name ns name f (read.is_in (record { channels = length ns.channels; variables = length ns.variables }) (record { channels = refl; variables = omega arith }))
+      known_name ns name f (read.is_in (record { channels = length ns.channels; variables = length ns.variables; processes = 0 }) (record { channels = refl; variables = omega arith }))
 
   abbrev SignedOf : List (Sign × trees.Term) → Type 0
   SignedOf [] = ⊤
@@ -200,6 +200,7 @@ module _ (d : Declared) (t : ℕ) (below : t < length d.threads) where
   turn_text (trees.Runs (trees.Loops times names event body) rest) turn e h = absurd cc
   turn_text (trees.Runs (trees.LoopsForever names event body) rest) turn e h = absurd cc
   turn_text (trees.Runs trees.Ends rest) turn e h = absurd cc
+  turn_text (trees.Runs (trees.Spawns process) rest) turn e h = absurd cc
 
   abbrev Told : {A : Type 0} → (A → Type 0) → List Token → A × Names → Type 0
   Told P rest x = P x.0 × Fits x.1 × AllGood rest

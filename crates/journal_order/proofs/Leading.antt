@@ -136,6 +136,7 @@ module _ (ps : List Proc) (rows : ℕ) (l : Ledger) (law : IsLawful l) (of : IsL
   offered-alone : (at : Row × ℕ) (why : Cause) (r : Row) (n : ℕ) → ledgers.IsCaused (joined_in l) (offer_in l) (binding_in l) at why → at ≡ (r, n) → (o : Offer) × (offer_in l r n ≡ Some o)
   offered-alone at (cause.Always m) r n h e = offer-at at (Always m) r n h e
   offered-alone at (cause.Nack k) r n h e = offer-at at (OnNack k) r n h.0 e
+  offered-alone at (cause.End t) r n h e = absurd h
 
   offered-by : (c : Commit) (r : Row) (n : ℕ) → HasCommit l c → Takes c r n → (o : Offer) × (offer_in l r n ≡ Some o)
   offered-by (Pair sender receiver chan msg stamp) r n h (inl e) = offer-at sender (Send chan msg) r n (law.fits (Pair sender receiver chan msg stamp) h).1 e
@@ -251,6 +252,7 @@ module _ (ps : List Proc) (rows : ℕ) (l : Ledger) (law : IsLawful l) (of : IsL
               fired n en (behind en.commit en.inside (subst (λ (z : Commit). ledgers.CountsFor (binding_in l) en.commit z) (sym is) (inr (en.binding, en.is_bound, (en.chosen, en.takes))))),
             ),
           )
+      caused at (cause.End t) stamp is h next = absurd h
 
       legal-as : (d : Commit) → c ≡ d → IsLegal ps rows (config_of es) d
       legal-as (Pair sender receiver chan msg stamp) is =
@@ -280,6 +282,7 @@ module _ (ps : List Proc) (rows : ℕ) (l : Ledger) (law : IsLawful l) (of : IsL
           let b = bound-where n h.0 d there has h.1 in
           subst (λ (z : Commit). ledgers.CountsFor (binding_in l) d z) (sym is)
           (inr (b.0, b.1, subst (λ (g : ℕ). Involves d (row n.thread g)) (sym b.2) has))
+      enables at (cause.End t) stamp d is there h = absurd h
 
       counted-as : (e d : Commit) → c ≡ e → Contains es d → CountsFor ps (config_of es) e d → ledgers.CountsFor (binding_in l) d c
       counted-as (Pair sender receiver chan msg stamp) d is there (inl h) = earlier-counts d sender.0.thread there h (subst (λ (z : Commit). HasThread z sender.0.thread) (sym is) (inl refl))
@@ -296,6 +299,7 @@ module _ (ps : List Proc) (rows : ℕ) (l : Ledger) (law : IsLawful l) (of : IsL
           let mine : Involves en.commit (row n.thread b.sync) = subst (λ (g : ℕ). Involves en.commit (row n.thread g)) sync (en.chosen, en.takes) in
           let one : d ≡ en.commit = law.once (row n.thread b.sync) d en.commit (k.members d there) en.inside has mine in
           (b.sync, subst (IsFiredAt ps (config_of es) n) sync (fired n en (subst (Contains es) one there)), involves-row d n.thread b.sync has)
+      fires at (cause.End t) d h there by = absurd h
 
       counting-as : (e d : Commit) → c ≡ e → Contains es d → ledgers.CountsFor (binding_in l) d e → CountsFor ps (config_of es) e d
       counting-as e d is there (inl (t, g, h, lt, has_d, has_e)) = counts ps (config_of es) d e t (involves-thread d t h has_d) (involves-thread e t g has_e)

@@ -56,6 +56,7 @@ alone-meets ps rows config final at (cause.Nack n) stamp legal later =
       took ps rows config (final t) at (OnNack n) Empty legal.0 (subst (λ (rs : List Chosen). Extends rs (final t)) (result-at t t (at.1, Empty) config refl) (later t)),
       fired-later ps config final n (extends-chain (config n.thread) (applied config (Alone at (cause.Nack n) stamp) n.thread) (final n.thread) (applied-extends config (Alone at (cause.Nack n) stamp) n.thread) (later n.thread)) legal.1,
     )
+alone-meets ps rows config final at (cause.End u) stamp legal later = absurd legal
 
 meets : (ps : List Proc) (rows : ℕ) (config final : Config) (c : Commit) → IsLegal ps rows config c → ((t : ℕ) → Extends (applied config c t) (final t)) → Meets ps final c
 meets ps rows config final (Pair sender receiver chan msg stamp) legal later =

@@ -8,7 +8,7 @@ use Rattle.std.specs.Prelude.{⊤}
 use Rattle.event.specs.Tree.{Tree, Single, Nothing, Or, Wrap, Scope, scope_nacks}
 use Rattle.script_tree.specs.Processes.{Proc}
 use Rattle.protocol_values.specs.declared.Atom.{Atom}
-use Rattle.thread.specs.After.{Chosen, State, Outcome, Offers, after}
+use Rattle.thread.specs.After.{Chosen, Said, State, Outcome, Offers, after}
 use Rattle.thread.proofs.Nacks.{Without, Both, Quiet, after_both}
 use Rattle.journal_replay.specs.Runs.{FiredAt, IsOffering}
 use Rattle.journal_order.specs.Laws.{HasScopeAt, OneSyncOneNack}
@@ -34,7 +34,7 @@ none-in k (n ∷ nacks) h (suc i, within, is) = none-in k nacks h.1 (i, omega (a
 
 -- where a process offers an event with the nack, and with more results another event, that one has the nack no more
 offers-again : (k : ℕ) (more : List Chosen) (c : Chosen) (d e : Tree) (x y : Outcome State) →
-    Both k c more 0 x y (λ a b. ⊤) (λ a. ⊤) → (told : List Atom) → x ≡ Offers d told → (later : List Atom) → y ≡ Offers e later → Contains (scope_nacks d) k → Contains (scope_nacks e) k → ⊥
+    Both k c more 0 x y (λ a b. ⊤) (λ a. ⊤) → (told : Said) → x ≡ Offers d told → (later : Said) → y ≡ Offers e later → Contains (scope_nacks d) k → Contains (scope_nacks e) k → ⊥
 offers-again k more c d e x y both told is later then has again =
     let one : Both k c more 0 (Offers d told) y (λ a b. ⊤) (λ a. ⊤) = subst (λ (z : Outcome State). Both k c more 0 z y (λ a b. ⊤) (λ a. ⊤)) is both in
     let quiet : Quiet k y (λ a. ⊤) = (one (λ w. none-in k (scope_nacks d) (others k d w) has)).1 in
@@ -47,9 +47,9 @@ runs-on ps t before [] k d e some one two has again = absurd (omega (arith, some
 runs-on ps t before (c ∷ more) k d e some one two has again =
     let p = one.process in
     let same : two.process ≡ p = same_Some two.process p (sym two.is_its ∙ one.is_its) in
-    let then : after p.body (length p.variables) t (before ++ c ∷ more) ≡ Offers e two.printed =
+    let then : after p.body (length p.variables) t (before ++ c ∷ more) ≡ Offers e two.said =
     ap (λ (q : Proc). after q.body (length q.variables) t (before ++ c ∷ more)) (sym same) ∙ two.offers in
-    offers-again k more c d e _ _ (after_both k c more p.body (length p.variables) t before) one.printed one.offers two.printed then has again
+    offers-again k more c d e _ _ (after_both k c more p.body (length p.variables) t before) one.said one.offers two.said then has again
 
 before-only : (ps : List Proc) (t : ℕ) (results : List Chosen) (k g h : ℕ) → HasScopeAt ps t results k g → HasScopeAt ps t results k h → g < h → ⊥
 before-only ps t results k g h one two lt =

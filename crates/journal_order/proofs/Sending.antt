@@ -105,6 +105,7 @@ sends-alone ps rows chan config at (cause.Always m) stamp legal =
     sends-by ps rows chan config (Alone at (cause.Always m) stamp) at (Always m) m legal (result-at at.0.thread at.0.thread (at.1, m) config refl) refl
 sends-alone ps rows chan config at (cause.Nack n) stamp legal =
     sends-by ps rows chan config (Alone at (cause.Nack n) stamp) at (OnNack n) Empty legal.0 (result-at at.0.thread at.0.thread (at.1, Empty) config refl) refl
+sends-alone ps rows chan config at (cause.End t) stamp legal = absurd legal
 
 sends : (ps : List Proc) (rows chan : ℕ) (config : Config) (c : Commit) (t : ℕ) → IsLegal ps rows config c → Sends ps chan config c t
 sends ps rows chan config (Pair sender receiver c msg stamp) t legal = ⊎_elim

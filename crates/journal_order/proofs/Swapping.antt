@@ -43,6 +43,7 @@ row-at config at t e next = next ∙ ap (λ (u : ℕ). length (config u)) (sym e
 gives-alone : (at : Row × ℕ) (why : Cause) (stamp : ℕ) (r : Row) → at.0 ≡ r → Gives (Alone at why stamp) r (at.1, message_by why)
 gives-alone at (cause.Always m) stamp r e = (e, refl)
 gives-alone at (cause.Nack n) stamp r e = (e, refl)
+gives-alone at (cause.End t) stamp r e = (e, refl)
 
 pub grows : (ps : List Proc) (rows : ℕ) (config : Config) (c : Commit) (t : ℕ) → IsLegal ps rows config c → HasThread c t → Grew config c t
 grows ps rows config (Pair sender receiver chan msg stamp) t legal has =
@@ -119,6 +120,7 @@ abbrev Caused : List Proc → Config → Commit → Type 0
 Caused ps config (Pair sender receiver chan msg stamp) = ⊤
 Caused ps config (Alone at (cause.Always m) stamp) = ⊤
 Caused ps config (Alone at (cause.Nack n) stamp) = (h : ℕ) × IsFiredAt ps config n h
+Caused ps config (Alone at (cause.End t) stamp) = ⊥
 
 counts-same : (ps : List Proc) (rows : ℕ) (config : Config) (c d e : Commit) → IsLegal ps rows config c → Caused ps config d →
     (CountsFor ps config d e → CountsFor ps (applied config c) d e) × (CountsFor ps (applied config c) d e → CountsFor ps config d e)
@@ -127,6 +129,7 @@ counts-same ps rows config c (Alone at (cause.Always m) stamp) e legal known = (
 counts-same ps rows config c (Alone at (cause.Nack n) stamp) e legal known =
     let same = fires-same ps rows config c e n legal known in
     (λ h. ⊎_elim (λ x. inl x) (λ x. inr (same.0 x)) h, λ h. ⊎_elim (λ x. inl x) (λ x. inr (same.1 x)) h)
+counts-same ps rows config c (Alone at (cause.End t) stamp) e legal known = absurd known
 
 -- LEGALITY
 
@@ -137,6 +140,7 @@ caused-by-legal : (ps : List Proc) (rows : ℕ) (config : Config) (c : Commit) �
 caused-by-legal ps rows config (Pair sender receiver chan msg stamp) legal = tt
 caused-by-legal ps rows config (Alone at (cause.Always m) stamp) legal = tt
 caused-by-legal ps rows config (Alone at (cause.Nack n) stamp) legal = legal.1
+caused-by-legal ps rows config (Alone at (cause.End t) stamp) legal = absurd legal
 
 -- a commit that does not count the one before it is legal without it
 pub legal-before : (ps : List Proc) (rows : ℕ) (config : Config) (c d : Commit) → IsLegal ps rows config c → (CountsFor ps (applied config c) d c → ⊥) →
@@ -156,6 +160,7 @@ legal-before ps rows config c (Alone at (cause.Nack n) stamp) legal none d = (
       (applied-other config c at.0.thread (λ h. none (counts ps (applied config c) c (Alone at (cause.Nack n) stamp) at.0.thread h refl))) d.0,
   cause-backward ps rows config c n d.1.0 legal (λ fires. none (inr fires)) d.1.1,
 )
+legal-before ps rows config c (Alone at (cause.End t) stamp) legal none d = absurd d
 
 -- a commit stays legal behind another that shares no thread with it
 pub legal-after : (ps : List Proc) (rows : ℕ) (config : Config) (c d : Commit) → IsLegal ps rows config d → ((t : ℕ) → HasThread c t → HasThread d t → ⊥) →
@@ -171,6 +176,7 @@ legal-after ps rows config (Alone at (cause.Nack n) stamp) d legal apart c = (
   take-moved ps rows config (applied config d) at _ (sym (applied-other config d at.0.thread (apart at.0.thread refl))) c.0,
   (c.1.0, fired-forward ps rows config d n c.1.0 legal c.1.1),
 )
+legal-after ps rows config (Alone at (cause.End t) stamp) d legal apart c = absurd c
 
 -- STAMPS
 
@@ -243,6 +249,7 @@ second-uncounted ps rows config (Alone at (cause.Nack n) stamp) d legal other ap
     let within = slice_get_within (config n.thread) known.0 known.1.chosen known.1.result in
     omega (arith, fired-once ps n.thread (applied config d n.thread) n.k w.0 known.0 w.1 kept, within, row-within ps rows config d n.thread w.0 other w.2))
     h
+second-uncounted ps rows config (Alone at (cause.End t) stamp) d legal other apart h = absurd legal
 
 -- and the first may stand second
 pub first-second : (ps : List Proc) (rows : ℕ) (config : Config) (es : List Commit) (c d : Commit) → FollowsAt ps rows config es c → IsLegal ps rows config d →

@@ -32,3 +32,4 @@ Meets ps config (Pair sender receiver chan msg stamp) =
     (sender.0.thread ≢ receiver.0.thread) × TookAt ps config sender (Send chan msg) Empty × TookAt ps config receiver (Recv chan) msg
 Meets ps config (Alone at (cause.Always m) stamp) = TookAt ps config at (Always m) m
 Meets ps config (Alone at (cause.Nack n) stamp) = TookAt ps config at (OnNack n) Empty × ((g : ℕ) × IsFiredAt ps config n g)
+Meets ps config (Alone at (cause.End t) stamp) = ⊥

@@ -6,7 +6,7 @@ use Rattle.event.specs.Tree.{bases}
 use Rattle.script_tree.specs.Processes.{Proc}
 use Rattle.thread.specs.After.{Chosen, State, Outcome, Goes, Offers, Finishes, Fails, Strays, after}
 use Rattle.protocol_values.specs.declared.Base.{Base}
-use Rattle.protocol_values.specs.declared.Base.TheVariants.{Send, Recv, Always, OnNack, Never}
+use Rattle.protocol_values.specs.declared.Base.TheVariants.{Send, Recv, Always, OnNack, OnEnd, Never}
 use Rattle.protocol_values.specs.declared.Commit.{Commit}
 use Rattle.protocol_values.specs.declared.Commit.TheVariants.{Pair, Alone}
 use Rattle.protocol_values.specs.declared.Message.{Message}
@@ -18,9 +18,9 @@ use Rattle.journal_replay.specs.Runs.{Config, config_of}
 -- the base event that stands under this number in an event that is offered
 abbrev pub base_in : Outcome State → ℕ → Option Base
 base_in (Goes value) n = None
-base_in (Offers event printed) n = option_map (λ b. b.base) (slice_get (bases event) n)
-base_in (Finishes printed left) n = None
-base_in (Fails fault printed left) n = None
+base_in (Offers event said) n = option_map (λ b. b.base) (slice_get (bases event) n)
+base_in (Finishes said left) n = None
+base_in (Fails fault said left) n = None
 base_in Strays n = None
 
 -- the base event that the process chose by this result, the next after those before
@@ -34,6 +34,7 @@ sent_by chan (Some (Send c m)) = if c == chan then m ∷ [] else []
 sent_by chan (Some (Recv c)) = []
 sent_by chan (Some (Always m)) = []
 sent_by chan (Some (OnNack n)) = []
+sent_by chan (Some (OnEnd t)) = []
 sent_by chan (Some Never) = []
 
 -- of the later results, after those before

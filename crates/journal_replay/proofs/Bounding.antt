@@ -84,6 +84,7 @@ cause-bound rows t strands (cause.Nack n) below b w =
     option_and_then_some (λ (s : Strand). get_or s.fired n.k None) (slice_get strands n.thread) w.0 w.1
     (λ s there is. b.fired n.thread n.k w.0 s there is) in
     omega (arith, w.2, fired, last-bound rows strands t b)
+cause-bound rows t strands (cause.End u) below b w = absurd w
 
 pub below-bound : (rows : ℕ) (strands : List Strand) (c : Commit) (below : ℕ) → Bounded rows strands → MayFollow strands rows c below → below ≤ total strands
 below-bound rows strands (Pair sender receiver chan msg stamp) below b w =

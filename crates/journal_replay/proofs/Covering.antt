@@ -5,7 +5,7 @@ use Rattle.std.proofs.lemmas.List.{length-set, length-take, get_or-take}
 use Rattle.std.proofs.lemmas.Option.{none-some, same_Some, slice_get_within, slice_get-get_or, get_or_from_slice_get, option_and_then_some}
 use Rattle.thread.specs.Machines.{offers_in}
 use Rattle.protocol_values.specs.declared.Base.{Base}
-use Rattle.protocol_values.specs.declared.Base.TheVariants.{Send, Recv, Always, OnNack, Never}
+use Rattle.protocol_values.specs.declared.Base.TheVariants.{Send, Recv, Always, OnNack, OnEnd, Never}
 use Rattle.protocol_values.specs.declared.Cause.TheVariants as cause
 use Rattle.protocol_values.specs.declared.Commit.{Commit}
 use Rattle.protocol_values.specs.declared.Commit.TheVariants.{Pair, Alone}
@@ -52,6 +52,7 @@ module _ (o p : Openings) (at : Row × ℕ) where
   listed-send c within sends receives nacks x (Send d n) there = subst (λ (lanes : List Places). Contains (get_or lanes d []) x) (sym sends) (lanes-before o.senders.items c d at x within there)
   listed-send c within sends receives nacks x (Recv d) there = subst (λ (lanes : List Places). Contains (get_or lanes d []) x) (sym receives) there
   listed-send c within sends receives nacks x (OnNack n) there = subst (λ (xs : Places). Contains xs x) (sym nacks) there
+  listed-send c within sends receives nacks x (OnEnd t) there = there
   listed-send c within sends receives nacks x (Always n) there = there
   listed-send c within sends receives nacks x Never there = there
 
@@ -60,6 +61,7 @@ module _ (o p : Openings) (at : Row × ℕ) where
   listed-recv c within receives sends nacks x (Send d n) there = subst (λ (lanes : List Places). Contains (get_or lanes d []) x) (sym sends) there
   listed-recv c within receives sends nacks x (Recv d) there = subst (λ (lanes : List Places). Contains (get_or lanes d []) x) (sym receives) (lanes-before o.receivers.items c d at x within there)
   listed-recv c within receives sends nacks x (OnNack n) there = subst (λ (xs : Places). Contains xs x) (sym nacks) there
+  listed-recv c within receives sends nacks x (OnEnd t) there = there
   listed-recv c within receives sends nacks x (Always n) there = there
   listed-recv c within receives sends nacks x Never there = there
 
@@ -68,6 +70,7 @@ module _ (o p : Openings) (at : Row × ℕ) where
   listed-nack nacks sends receives x (Send d n) there = subst (λ (lanes : List Places). Contains (get_or lanes d []) x) (sym sends) there
   listed-nack nacks sends receives x (Recv d) there = subst (λ (lanes : List Places). Contains (get_or lanes d []) x) (sym receives) there
   listed-nack nacks sends receives x (OnNack n) there = subst (λ (xs : Places). Contains xs x) (sym nacks) (contains-before o.nacks at x there)
+  listed-nack nacks sends receives x (OnEnd t) there = there
   listed-nack nacks sends receives x (Always n) there = there
   listed-nack nacks sends receives x Never there = there
 
@@ -185,6 +188,7 @@ module _ (old new : List Strand) (rows : ℕ) where
         (λ opened. opened.untried at (Always m) refl may.0)
         (each at.0.thread)
     untried-still (Alone at (cause.Nack n) stamp) below may = tt
+    untried-still (Alone at (cause.End t) stamp) below may = tt
 
     covers-still : Covers new rows p
     covers-still = record { channels = keeps.channels known.channels; listed = listed-still; untried = untried-still }
@@ -224,6 +228,7 @@ untried-same o p is (Pair sender receiver c m stamp) (inl h) = inl (subst (λ (x
 untried-same o p is (Pair sender receiver c m stamp) (inr h) = inr (subst (λ (xs : Places). Contains xs receiver) (sym is) h)
 untried-same o p is (Alone at (cause.Always m) stamp) h = subst (λ (xs : Places). Contains xs at) (sym is) h
 untried-same o p is (Alone at (cause.Nack n) stamp) h = h
+untried-same o p is (Alone at (cause.End t) stamp) h = h
 
 -- one list of many is another, which has what is open
 lanes-kept : (strands : List Strand) (rows : ℕ) (side : Side) (lanes : List Places) (c d : ℕ) (m : Message) (new : Places) (x : Row × ℕ) → c < length lanes →
@@ -245,6 +250,7 @@ module _ (strands : List Strand) (rows : ℕ) (o p : Openings) (known : Covers s
   listed-sends c new within keeps sends receives nacks x (Send d m) finds there = subst (λ (lanes : List Places). Contains (get_or lanes d []) x) (sym sends) (lanes-kept strands rows Sends o.senders.items c d m new x within keeps finds there)
   listed-sends c new within keeps sends receives nacks x (Recv d) finds there = subst (λ (lanes : List Places). Contains (get_or lanes d []) x) (sym receives) there
   listed-sends c new within keeps sends receives nacks x (OnNack n) finds there = subst (λ (xs : Places). Contains xs x) (sym nacks) there
+  listed-sends c new within keeps sends receives nacks x (OnEnd t) finds there = there
   listed-sends c new within keeps sends receives nacks x (Always m) finds there = there
   listed-sends c new within keeps sends receives nacks x Never finds there = there
 
@@ -261,6 +267,7 @@ module _ (strands : List Strand) (rows : ℕ) (o p : Openings) (known : Covers s
   listed-receives c new within keeps receives sends nacks x (Send d m) finds there = subst (λ (lanes : List Places). Contains (get_or lanes d []) x) (sym sends) there
   listed-receives c new within keeps receives sends nacks x (Recv d) finds there = subst (λ (lanes : List Places). Contains (get_or lanes d []) x) (sym receives) (lanes-kept strands rows Receives o.receivers.items c d Empty new x within keeps finds there)
   listed-receives c new within keeps receives sends nacks x (OnNack n) finds there = subst (λ (xs : Places). Contains xs x) (sym nacks) there
+  listed-receives c new within keeps receives sends nacks x (OnEnd t) finds there = there
   listed-receives c new within keeps receives sends nacks x (Always m) finds there = there
   listed-receives c new within keeps receives sends nacks x Never finds there = there
 
@@ -277,6 +284,7 @@ module _ (strands : List Strand) (rows : ℕ) (o p : Openings) (known : Covers s
   listed-nacks keeps sends receives x (Send d m) finds there = subst (λ (lanes : List Places). Contains (get_or lanes d []) x) (sym sends) there
   listed-nacks keeps sends receives x (Recv d) finds there = subst (λ (lanes : List Places). Contains (get_or lanes d []) x) (sym receives) there
   listed-nacks keeps sends receives x (OnNack n) finds there = keeps x n finds there
+  listed-nacks keeps sends receives x (OnEnd t) finds there = there
   listed-nacks keeps sends receives x (Always m) finds there = there
   listed-nacks keeps sends receives x Never finds there = there
 
@@ -306,6 +314,7 @@ module _ (strands : List Strand) (rows : ℕ) (at : Row × ℕ) where
   none-with-send c m sends own (Alone row (cause.Always n) stamp) below may e =
       let same : Send c m ≡ Always n = same-base strands rows at (Send c m) (Always n) sends (subst (λ (x : Row × ℕ). Finds strands rows x (Always n)) e may.0) in cc
   none-with-send c m sends own (Alone row (cause.Nack n) stamp) below may e = e
+  none-with-send c m sends own (Alone row (cause.End t) stamp) below may e = e
 
   pub none-with-recv : (c : ℕ) → Finds strands rows at (Recv c) → ((x : Row × ℕ) (n : Message) → Finds strands rows x (Send c n) → x.0.thread ≡ at.0.thread) → NoneMayWith strands rows at
   none-with-recv c receives own (Pair sender receiver d n stamp) below may (inl e) =
@@ -317,6 +326,7 @@ module _ (strands : List Strand) (rows : ℕ) (at : Row × ℕ) where
   none-with-recv c receives own (Alone row (cause.Always n) stamp) below may e =
       let same : Recv c ≡ Always n = same-base strands rows at (Recv c) (Always n) receives (subst (λ (x : Row × ℕ). Finds strands rows x (Always n)) e may.0) in cc
   none-with-recv c receives own (Alone row (cause.Nack n) stamp) below may e = e
+  none-with-recv c receives own (Alone row (cause.End t) stamp) below may e = e
 
 pub may-pair : (strands : List Strand) (rows : ℕ) (sender receiver : Row × ℕ) (c : ℕ) (m : Message) → Finds strands rows sender (Send c m) → Finds strands rows receiver (Recv c) →
     (sender.0.thread ≡ receiver.0.thread → ⊥) → MayBe strands rows (pair_of strands sender receiver c m)
@@ -357,6 +367,7 @@ below-all strands rows t o le all = record { channels = all.channels; listed = �
   untried (Pair sender receiver c m stamp) below may = inl (all.untried sender (Send c m) (low sender (Send c m) may.1) may.1)
   untried (Alone at (cause.Always m) stamp) below may = all.untried at (Always m) (low at (Always m) may.0) may.0
   untried (Alone at (cause.Nack n) stamp) below may = tt
+  untried (Alone at (cause.End t) stamp) below may = tt
 
 -- TRIED OFFERS
 
@@ -383,6 +394,7 @@ still-untried strands rows o p at last none is (Alone row (cause.Always m) stamp
     (λ k. subst (λ (xs : Places). Contains xs row) (sym is) k)
     (contains-but-last o.untried at row last h)
 still-untried strands rows o p at last none is (Alone row (cause.Nack n) stamp) below may h = h
+still-untried strands rows o p at last none is (Alone row (cause.End t) stamp) below may h = h
 
 -- the last untried offer was tried in vain
 pub covers-tried : (strands : List Strand) (rows : ℕ) (o p : Openings) (at : Row × ℕ) → Covers strands rows o → slice_get o.untried (length o.untried - 1) ≡ Some at → NoneMayWith strands rows at →
@@ -396,6 +408,7 @@ covers-tried strands rows o p at known last none sends receives nacks is = recor
   listed-same (Send d m) x there = subst (λ (lanes : List Places). Contains (get_or lanes d []) x) (sym sends) there
   listed-same (Recv d) x there = subst (λ (lanes : List Places). Contains (get_or lanes d []) x) (sym receives) there
   listed-same (OnNack n) x there = subst (λ (xs : Places). Contains xs x) (sym nacks) there
+  listed-same (OnEnd t) x there = there
   listed-same (Always m) x there = there
   listed-same Never x there = there
 
@@ -410,6 +423,7 @@ none-left strands rows o known empty none (Pair sender receiver c m stamp) below
     (known.untried (Pair sender receiver c m stamp) below may)
 none-left strands rows o known empty none (Alone at (cause.Always m) stamp) below may = nothing-in o.untried at empty (known.untried (Alone at (cause.Always m) stamp) below may)
 none-left strands rows o known empty none (Alone at (cause.Nack n) stamp) below may = none at n may.0 (known.listed at (OnNack n) may.0) below may.1
+none-left strands rows o known empty none (Alone at (cause.End t) stamp) below may = absurd may.1
 
 pub finds-left : (strands : List Strand) (rows : ℕ) (o : Openings) (r : Option Commit) → Covers strands rows o → slice_get o.untried (length o.untried - 1) ≡ None →
     MatchOption r (NoneByNack strands rows o.nacks) (MayBe strands rows) → MatchOption r (NoneMay strands rows) (MayBe strands rows)

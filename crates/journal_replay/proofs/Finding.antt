@@ -143,6 +143,7 @@ cause-legal ps journal strands rows at (cause.Nack n) below stands found w =
       subst (IsGreatest journal (λ d. HasThread d at.0.thread ⊎ CausedBy ps (config_of journal) (cause.Nack n) d)) (sym w.2)
           (greatest-either journal (λ d. HasThread d at.0.thread) (Fires ps (config_of journal) n) _ _ last fired.1),
     )
+cause-legal ps journal strands rows at (cause.End t) below stands found w = absurd w
 
 -- a commit that the strands find is legal, and they know the stamp that counts
 pub found-is : (ps : List Proc) (journal : List Commit) (strands : List Strand) (rows : ℕ) (c : Commit) (below : ℕ) →
@@ -167,6 +168,7 @@ found-cause ps journal strands rows at (cause.Always m) stands take =
 found-cause ps journal strands rows at (cause.Nack n) stands w =
     let k = fired-known ps journal strands n w.1.0 stands w.1.1 in
     (finds ps journal strands rows at (OnNack n) stands w.0, (max (last_in strands at.0.thread) k.0, (k.0, k.1, refl)))
+found-cause ps journal strands rows at (cause.End t) stands w = absurd w
 
 pub found-legal : (ps : List Proc) (journal : List Commit) (strands : List Strand) (rows : ℕ) (c : Commit) →
     Stands ps journal strands → IsLegal ps rows (config_of journal) c → (below : ℕ) × MayFollow strands rows c below

@@ -6,7 +6,7 @@ use Rattle.event.specs.Tree.{Tree, BaseEvent, bases, scope_nacks, offers, offer_
 use Rattle.script_tree.specs.Processes.{Proc}
 use Rattle.script_tree.specs.Trees.{Block, block_of}
 use Rattle.thread.specs.After.{Chosen, Offers, Finishes, Fails, after}
-use Rattle.thread.specs.Machines.{Thread, Phase, Ready, Open, Over, Stuck, Broken, IsAfterAt, HasStopped, offers_in, nacks_in}
+use Rattle.thread.specs.Machines.{said_in, Thread, Phase, Ready, Open, Over, Stuck, Broken, IsAfterAt, HasStopped, offers_in, nacks_in}
 use Rattle.protocol_values.specs.declared.Offer.{Offer}
 use Rattle.journal_replay.specs.Replays.{OpensAs, offered, scoped}
 use Rattle.journal_replay.specs.Runs.{IsOffering}
@@ -23,7 +23,7 @@ offering-one ps t results d e one other =
     let process : one.process ≡ other.process = same_Some one.process other.process (sym one.is_its ∙ other.is_its) in
     let same : after one.process.body (length one.process.variables) t results ≡ after other.process.body (length other.process.variables) t results =
     ap (λ (p : Proc). after p.body (length p.variables) t results) process in
-    let is : Offers d one.printed ≡ Offers e other.printed = sym one.offers ∙ same ∙ other.offers in
+    let is : Offers d one.said ≡ Offers e other.said = sym one.offers ∙ same ∙ other.offers in
     cc
 
 found : {A B : Type 0} (f : A → B) (o : Option A) (y : B) → option_map f o ≡ Some y → (x : A) × (o ≡ Some x) × (f x ≡ y)
@@ -49,7 +49,7 @@ open-in ps t results m n o (Open os ns) s is_after e =
     let w = found offer_of (slice_get (bases event) n) o (sym (slice_get-map offer_of (bases event) n) ∙ ap (λ l. slice_get l n) is_after.offers ∙ e) in
     record {
       event = event;
-      offered = record { process = s.process; is_its = s.is_its; printed = m.output; offers = sym (moved ps t results m s) ∙ is_after.after };
+      offered = record { process = s.process; is_its = s.is_its; said = said_in m; offers = sym (moved ps t results m s) ∙ is_after.after };
       base = w.0;
       is = w.1;
       made = w.2;
@@ -65,16 +65,16 @@ open-at ps t results m n o s e = open-in ps t results m n o m.phase s s.after e
 offers-now : (ps : List Proc) (t : ℕ) (results : List Chosen) (m : Thread) (p : Phase) (event : Tree) → MachineStands ps t results m → HasStopped p → IsAfterAt m p → IsOffering ps t results event → offers_in p ≡ offers event
 offers-now ps t results m Ready event s stopped is_after offering = absurd stopped
 offers-now ps t results m (Open os ns) event s stopped is_after offering =
-    let here : IsOffering ps t results is_after.tree = record { process = s.process; is_its = s.is_its; printed = m.output; offers = sym (moved ps t results m s) ∙ is_after.after } in
+    let here : IsOffering ps t results is_after.tree = record { process = s.process; is_its = s.is_its; said = said_in m; offers = sym (moved ps t results m s) ∙ is_after.after } in
     sym is_after.offers ∙ ap offers (offering-one ps t results is_after.tree event here offering)
 offers-now ps t results m Over event s stopped is_after offering =
     let process : s.process ≡ offering.process = same_Some s.process offering.process (sym s.is_its ∙ offering.is_its) in
-    let is : Finishes m.output [] ≡ Offers event offering.printed =
+    let is : Finishes (said_in m) [] ≡ Offers event offering.said =
     sym is_after ∙ moved ps t results m s ∙ ap (λ (p : Proc). after p.body (length p.variables) t results) process ∙ offering.offers in
     absurd cc
 offers-now ps t results m (Stuck fault) event s stopped is_after offering =
     let process : s.process ≡ offering.process = same_Some s.process offering.process (sym s.is_its ∙ offering.is_its) in
-    let is : Fails fault m.output [] ≡ Offers event offering.printed =
+    let is : Fails fault (said_in m) [] ≡ Offers event offering.said =
     sym is_after ∙ moved ps t results m s ∙ ap (λ (p : Proc). after p.body (length p.variables) t results) process ∙ offering.offers in
     absurd cc
 offers-now ps t results m Broken event s stopped is_after offering = absurd stopped

@@ -95,6 +95,7 @@ takes-part ps rows journal c t g f row only counts = record {
 pub next-alone : (ps : List Proc) (rows : ℕ) (config : Config) (at : Row × ℕ) (why : Cause) → IsCaused ps rows config at why → at.0.sync ≡ length (config at.0.thread)
 next-alone ps rows config at (cause.Always m) h = h.next
 next-alone ps rows config at (cause.Nack n) h = h.0.next
+next-alone ps rows config at (cause.End t) h = absurd h
 
 alone-each : (ps : List Proc) (rows : ℕ) (journal : List Commit) (old new : List Strand) (at : Row × ℕ) (why : Cause) (stamp : ℕ) →
     Stands ps journal old → Follows ps rows journal (Alone at why stamp) → OneGrows at.0.thread (at.1, message_by why) stamp old new →

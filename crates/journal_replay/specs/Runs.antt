@@ -2,7 +2,7 @@
 use Rattle.std.specs.Prelude.{◌≡◌, ◌≢◌, ◌⊎◌, ◌==◌, ℕ, ◌+◌, ◌<◌, ◌≤◌, if◌then◌else◌, List, [], ◌∷◌, ◌++◌, length, take, Option, Some, None, nat_lt, slice_get, Contains}
 use Rattle.event.specs.Tree.{Tree, BaseEvent, bases, scope_nacks}
 use Rattle.script_tree.specs.Processes.{Proc}
-use Rattle.thread.specs.After.{Chosen, State, Outcome, Goes, Offers, Finishes, Fails, Strays, after}
+use Rattle.thread.specs.After.{Chosen, Said, State, Outcome, Goes, Offers, Finishes, Fails, Strays, after}
 use Rattle.protocol_values.specs.declared.Atom.{Atom}
 use Rattle.protocol_values.specs.declared.Base.{Base}
 use Rattle.protocol_values.specs.declared.Base.TheVariants.{Send, Recv, Always, OnNack}
@@ -29,8 +29,8 @@ no_results t = []
 pub record IsOffering (ps : List Proc) (t : ℕ) (results : List Chosen) (event : Tree) : Type 0 where
   pub process : Proc
   pub is_its : slice_get ps t ≡ Some process
-  pub printed : List Atom
-  pub offers : after process.body (length process.variables) t results ≡ Offers event printed
+  pub said : Said
+  pub offers : after process.body (length process.variables) t results ≡ Offers event said
 
 -- Of a thread with these results, sync g has a scope for nack k and chose outside it: the nack is fired.
 pub record FiredAt (ps : List Proc) (t : ℕ) (results : List Chosen) (k g : ℕ) : Type 0 where
@@ -65,6 +65,7 @@ MayTake ps rows config at b = CanTake ps rows (config at.0.thread) at b
 abbrev pub IsCaused : List Proc → ℕ → Config → Row × ℕ → Cause → Type 0
 IsCaused ps rows config at (cause.Always m) = MayTake ps rows config at (Always m)
 IsCaused ps rows config at (cause.Nack n) = MayTake ps rows config at (OnNack n) × ((g : ℕ) × IsFiredAt ps config n g)
+IsCaused ps rows config at (cause.End t) = ⊥
 
 abbrev pub IsLegal : List Proc → ℕ → Config → Commit → Type 0
 IsLegal ps rows config (Pair sender receiver chan msg stamp) =
@@ -80,6 +81,7 @@ with_result t result config u = if u == t then config u ++ result ∷ [] else co
 abbrev pub message_by : Cause → Message
 message_by (cause.Always m) = m
 message_by (cause.Nack n) = Empty
+message_by (cause.End t) = Empty
 
 abbrev pub applied : Config → Commit → Config
 applied config (Pair sender receiver chan msg stamp) =
@@ -115,6 +117,7 @@ Fires ps config n d = (g : ℕ) × IsFiredAt ps config n g × HasRow d n.thread 
 abbrev pub CausedBy : List Proc → Config → Cause → Commit → Type 0
 CausedBy ps config (cause.Always m) d = ⊥
 CausedBy ps config (cause.Nack n) d = Fires ps config n d
+CausedBy ps config (cause.End t) d = ⊥
 
 -- an earlier commit counts for one where they share a thread, or where it fired the nack that the one stands for
 abbrev pub CountsFor : List Proc → Config → Commit → Commit → Type 0
@@ -154,10 +157,10 @@ pub record BreaksOffAt (ps : List Proc) (rows : ℕ) (commits : List Commit) (in
 -- how a thread stands, and what it printed, where it made so many syncs of at most so many
 abbrev pub end_of : ℕ → ℕ → Outcome State → Option (End × List Atom)
 end_of rows count (Goes value) = None
-end_of rows count (Offers event printed) = Some (if nat_lt count rows then ends.Waiting else ends.Spent, printed)
-end_of rows count (Finishes printed []) = Some (ends.Ended, printed)
+end_of rows count (Offers event said) = Some (if nat_lt count rows then ends.Waiting else ends.Spent, said.printed)
+end_of rows count (Finishes said []) = Some (ends.Ended, said.printed)
 end_of rows count (Finishes printed (r ∷ left)) = None
-end_of rows count (Fails fault printed []) = Some (ends.Faulted fault, printed)
+end_of rows count (Fails fault said []) = Some (ends.Faulted fault, said.printed)
 end_of rows count (Fails fault printed (r ∷ left)) = None
 end_of rows count Strays = None
 

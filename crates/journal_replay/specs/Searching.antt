@@ -2,10 +2,10 @@
 use Rattle.std.specs.Prelude.{◌≡◌, ◌≢◌, ◌⊎◌, ⊤, ℕ, ◌+◌, ◌<◌, ◌≤◌, max, List, [], length, Option, Some, None, Contains, slice_get, slice_index_or}
 use Rattle.std.specs.List.{sum_by}
 use Rattle.protocol_values.specs.declared.Base.{Base}
-use Rattle.protocol_values.specs.declared.Base.TheVariants.{Send, Recv, OnNack, Never}
+use Rattle.protocol_values.specs.declared.Base.TheVariants.{Send, Recv, OnNack, OnEnd, Never}
 use Rattle.protocol_values.specs.declared.Base.TheVariants as base
 use Rattle.protocol_values.specs.declared.Cause.{Cause}
-use Rattle.protocol_values.specs.declared.Cause.TheVariants.{Always, Nack}
+use Rattle.protocol_values.specs.declared.Cause.TheVariants.{Always, Nack, End}
 use Rattle.protocol_values.specs.declared.Commit.{Commit}
 use Rattle.protocol_values.specs.declared.Commit.TheVariants.{Pair, Alone}
 use Rattle.protocol_values.specs.declared.Message.{Message}
@@ -66,6 +66,7 @@ abbrev pub IsWith : Row × ℕ → Commit → Type 0
 IsWith at (Pair sender receiver c m stamp) = (sender ≡ at) ⊎ (receiver ≡ at)
 IsWith at (Alone row (Always m) stamp) = row ≡ at
 IsWith at (Alone row (Nack n) stamp) = ⊥
+IsWith at (Alone row (End t) stamp) = ⊥
 
 abbrev pub NoneMay : List Strand → ℕ → Type 0
 NoneMay strands rows = (c : Commit) (below : ℕ) → MayFollow strands rows c below → ⊥
@@ -84,6 +85,7 @@ abbrev pub IsListed : Openings → Row × ℕ → Base → Type 0
 IsListed o at (Send c m) = Contains (slice_index_or o.senders.items c []) at
 IsListed o at (Recv c) = Contains (slice_index_or o.receivers.items c []) at
 IsListed o at (OnNack n) = Contains o.nacks at
+IsListed o at (OnEnd t) = ⊤
 IsListed o at (base.Always m) = ⊤
 IsListed o at Never = ⊤
 
@@ -92,6 +94,7 @@ abbrev pub HasUntried : Openings → Commit → Type 0
 HasUntried o (Pair sender receiver c m stamp) = Contains o.untried sender ⊎ Contains o.untried receiver
 HasUntried o (Alone row (Always m) stamp) = Contains o.untried row
 HasUntried o (Alone row (Nack n) stamp) = ⊤
+HasUntried o (Alone row (End t) stamp) = ⊤
 
 -- all that the threads offer is listed, and of what is tried no commit comes
 pub record Covers (strands : List Strand) (rows : ℕ) (o : Openings) : Type 0 where

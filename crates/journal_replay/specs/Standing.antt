@@ -7,7 +7,7 @@ use Rattle.thread.specs.declared.machine.Turn.{Turn}
 use Rattle.thread.specs.declared.machine.Turn.TheVariants.{Offering, Ended, Faulted}
 use Rattle.thread.specs.Machines.{Thread, HasStopped, IsAfter, SameProcess, Tells, offers_in, nacks_in}
 use Rattle.protocol_values.specs.declared.Base.{Base}
-use Rattle.protocol_values.specs.declared.Base.TheVariants.{Send, Recv, Always, OnNack}
+use Rattle.protocol_values.specs.declared.Base.TheVariants.{Send, Recv, Always, OnNack, OnEnd}
 use Rattle.protocol_values.specs.declared.Cause.{Cause}
 use Rattle.protocol_values.specs.declared.Cause.TheVariants as cause
 use Rattle.protocol_values.specs.declared.Commit.{Commit}
@@ -94,11 +94,13 @@ pub record Finds (strands : List Strand) (rows : ℕ) (at : Row × ℕ) (b : Bas
 abbrev pub base_for : Cause → Base
 base_for (cause.Always m) = Always m
 base_for (cause.Nack n) = OnNack n
+base_for (cause.End t) = OnEnd t
 
 -- the stamp that counts for a commit alone, and whether its cause is there
 abbrev pub CauseIsAt : List Strand → ℕ → Cause → ℕ → Type 0
 CauseIsAt strands last (cause.Always m) below = below ≡ last
 CauseIsAt strands last (cause.Nack n) below = (fired : ℕ) × (fired_in strands n ≡ Some fired) × (below ≡ max last fired)
+CauseIsAt strands last (cause.End t) below = ⊥
 
 -- the commit may come next, with a stamp of one more than this
 abbrev pub MayFollow : List Strand → ℕ → Commit → ℕ → Type 0

@@ -72,7 +72,7 @@ impl Openings {
                 self.nacks.add(at)?;
                 Ok(())
             }
-            Base::Always(_) | Base::Never => Ok(()),
+            Base::Always(_) | Base::OnEnd(_) | Base::Never => Ok(()),
         }
     }
 
@@ -164,7 +164,7 @@ impl Openings {
                 Some(threads.pair(sender, at, chan, msg))
             }
             Base::Always(message) => threads.alone(at, Cause::Always(message)),
-            Base::OnNack(_) | Base::Never => None,
+            Base::OnNack(_) | Base::OnEnd(_) | Base::Never => None,
         }
     }
 

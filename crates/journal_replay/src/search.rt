@@ -25,7 +25,8 @@ impl Threads {
     {
         match self.offer(at)?.base {
             Base::OnNack(nack) => Some(nack),
-            _ => None,
+            Base::Send(_, _) | Base::Recv(_) | Base::Always(_) | Base::OnEnd(_) | Base::Never =>
+                None,
         }
     }
 

@@ -370,3 +370,4 @@ module _ (d : Declared) (threads : AreNames d.threads) (channels : AreNames d.ch
       back (Pair sender receiver chan msg stamp) fits = (((stamp, sender), inl ((receiver, chan), msg)), refl, (fits.0, ((fits.1.0, fits.1.1), fits.1.2)))
       back (Alone at (causes.Always m) stamp) fits = (((stamp, at), inr (inl m)), refl, fits)
       back (Alone at (causes.Nack n) stamp) fits = (((stamp, at), inr (inr n)), refl, fits)
+      back (Alone at (causes.End t) stamp) fits = absurd fits.1

@@ -38,6 +38,7 @@ message_text names (Three a b c) = codes "(" ++ atom_text names a ++ codes ", " 
 abbrev pub cause_text : Naming → Cause → List ℕ
 cause_text names (causes.Always m) = codes "always " ++ message_text names m
 cause_text names (causes.Nack n) = codes "cancelled " ++ nack_text names n
+cause_text names (causes.End t) = codes "joined " ++ names.thread t
 
 -- The stamp comes first. Of a pair the sender stands before the receiver, then the channel and the message.
 abbrev pub commit_text : Naming → Commit → List ℕ

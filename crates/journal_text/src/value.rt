@@ -6,7 +6,7 @@ ghost use Rattle.script.specs.Appending.{Adds};
 ghost use Rattle.script.specs.Scripts.{script_of};
 ghost use Rattle.journal_text.specs.Names.{named};
 
-use crate::name::{push_channel, push_nack};
+use crate::name::{push_channel, push_nack, push_thread};
 use protocol_values::{Atom, Cause, Message};
 use script::Script;
 use std::alloc::AllocError;
@@ -64,6 +64,10 @@ pub fn push_cause(out: &mut String, script: &Script, cause: Cause) -> Result<(),
         Cause::Nack(nack) => {
             out.push_str("cancelled ")?;
             push_nack(out, script, nack)
+        }
+        Cause::End(thread) => {
+            out.push_str("joined ")?;
+            push_thread(out, script, thread)
         }
     }
 }

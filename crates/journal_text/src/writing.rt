@@ -180,6 +180,10 @@ fn put_cause(line: &mut [u8], at: usize, labels: Option<&Labels<'_>>, cause: Cau
             let at = put_nack(line, at, labels, nack);
             put_text(line, at, b"cancelled ")
         }
+        Cause::End(thread) => {
+            let at = put_thread(line, at, labels, thread);
+            put_text(line, at, b"joined ")
+        }
     }
 }
 

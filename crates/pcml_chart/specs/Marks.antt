@@ -42,6 +42,7 @@ nack_line from n (Some stamp) x y = dashes (column n.thread) (height from stamp)
 abbrev pub cause_line : (NackName → Option ℕ) → ℕ → Cause → ℕ → ℕ → List ℕ
 cause_line fired from (causes.Always m) x y = []
 cause_line fired from (causes.Nack n) x y = nack_line from n (fired n) x y
+cause_line fired from (causes.End t) x y = []
 
 -- An arrow with the channel and the message, or a dot with its cause.
 abbrev pub mark : Naming → (NackName → Option ℕ) → ℕ → Commit → List ℕ

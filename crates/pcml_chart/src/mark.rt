@@ -73,7 +73,7 @@ fn push_cause_line(
     ensures { OnOk result (Adds out.old out.new (cause_line (fired_by state.now) from cause x y)) }
 {
     match cause {
-        Cause::Always(_) => Ok(()),
+        Cause::Always(_) | Cause::End(_) => Ok(()),
         Cause::Nack(nack) => push_nack_line(out, state, from, nack, x, y),
     }
 }

@@ -3,7 +3,7 @@ use Rattle.std.proofs.Common.{◌≡◌, ℕ, zero, suc, ◌+◌, ◌<◌, ◌�
 use Rattle.std.proofs.lemmas.Bool.{false≢true, and_parts, ltb-true}
 use Rattle.protocol_values.specs.declared.Atom.TheVariants.{Num}
 use Rattle.protocol_values.specs.declared.Base.{Base}
-use Rattle.protocol_values.specs.declared.Base.TheVariants.{Send, Recv, Always, OnNack, Never}
+use Rattle.protocol_values.specs.declared.Base.TheVariants.{Send, Recv, Always, OnNack, OnEnd, Never}
 use Rattle.protocol_values.specs.declared.Cause.TheVariants as cause
 use Rattle.protocol_values.specs.declared.Commit.{Commit}
 use Rattle.protocol_values.specs.declared.Commit.TheVariants.{Pair, Alone}
@@ -91,6 +91,7 @@ module _ (value : ℕ) (l : Ledger) (h : HasTwoOffers value l) where
       chan_in (Recv c) = c
       chan_in (Always x) = 0
       chan_in (OnNack x) = 0
+      chan_in (OnEnd x) = 0
       chan_in Never = 0
 
       message_of_send : Base → Message
@@ -98,6 +99,7 @@ module _ (value : ℕ) (l : Ledger) (h : HasTwoOffers value l) where
       message_of_send (Recv c) = One (Num value)
       message_of_send (Always x) = One (Num value)
       message_of_send (OnNack x) = One (Num value)
+      message_of_send (OnEnd x) = One (Num value)
       message_of_send Never = One (Num value)
 
   receiver_is : (at : Row × ℕ) (chan : ℕ) → Offers (offer_in l) at (Recv chan) → at ≡ (first_row 1, 0)
@@ -142,6 +144,7 @@ module _ (value : ℕ) (l : Ledger) (h : HasTwoOffers value l) where
       neither : (OnNack n ≡ Send 0 (One (Num value))) ⊎ (OnNack n ≡ Recv 0) → ⊥
       neither (inl e) = let bad : OnNack n ≡ Send 0 (One (Num value)) = e in cc
       neither (inr e) = let bad : OnNack n ≡ Recv 0 = e in cc
+  one_commit (Alone at (cause.End t) s) c = absurd (h.lawful.fits (Alone at (cause.End t) s) c)
 
   -- a row that tells a commit is committed, and tells that pair
   told : (r : Row) (c : Commit) → told_at (joined_in l) (offer_in l) r ≡ Some c → (c ≡ meeting_of value) × (is_some (joined_in l r) ≡ true)

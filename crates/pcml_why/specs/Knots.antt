@@ -5,7 +5,7 @@ use Rattle.journal_text.specs.Names.{Naming}
 use Rattle.script_token.specs.Tokens.{Token, Fixed, Name, same}
 use Rattle.script_token.specs.declared.kind.Symbol.TheVariants.{Process, Send as SendWord, Recv as RecvWord}
 use Rattle.protocol_values.specs.declared.Base.{Base}
-use Rattle.protocol_values.specs.declared.Base.TheVariants.{Send, Recv, OnNack}
+use Rattle.protocol_values.specs.declared.Base.TheVariants.{Send, Recv, Always, OnNack, OnEnd, Never}
 use Rattle.protocol_values.specs.declared.Offer.{Offer}
 use Rattle.pcml_why.specs.Offering.{is_open, is_waiting}
 use Rattle.pcml_why.specs.declared.site.Site.{Site}
@@ -58,7 +58,9 @@ abbrev pub could_serve : Naming → List (List (Token × ℕ)) → List Site →
 could_serve names parts sites b (Send c m) = could_offer Receives (names.channel c) (get_or parts b [])
 could_serve names parts sites b (Recv c) = could_offer Sends (names.channel c) (get_or parts b [])
 could_serve names parts sites b (OnNack n) = (n.thread == b) && is_open sites n
-could_serve names parts sites b base = false
+could_serve names parts sites b (OnEnd t) = false
+could_serve names parts sites b (Always m) = false
+could_serve names parts sites b Never = false
 
 -- the offers of a process that waits
 abbrev pub offers_at : Option Site → List Offer

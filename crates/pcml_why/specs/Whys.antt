@@ -6,7 +6,7 @@ use Rattle.thread.specs.declared.Fault.{Fault}
 use Rattle.thread.specs.declared.Fault.TheVariants.{Unset, Kind, Range, Shape}
 use Rattle.protocol_values.specs.declared.Atom.{Atom}
 use Rattle.protocol_values.specs.declared.Base.{Base}
-use Rattle.protocol_values.specs.declared.Base.TheVariants.{Send, Recv, Always, OnNack, Never}
+use Rattle.protocol_values.specs.declared.Base.TheVariants.{Send, Recv, Always, OnNack, OnEnd, Never}
 use Rattle.protocol_values.specs.declared.Commit.{Commit}
 use Rattle.protocol_values.specs.declared.NackName.{NackName}
 use Rattle.protocol_values.specs.declared.Offer.{Offer}
@@ -31,6 +31,7 @@ offer_text names (Send c m) = codes "send " ++ names.channel c ++ codes " " ++ m
 offer_text names (Recv c) = codes "recv " ++ names.channel c
 offer_text names (Always m) = codes "always " ++ message_text names m
 offer_text names (OnNack n) = codes "cancelled " ++ nack_text names n
+offer_text names (OnEnd u) = codes "joined " ++ names.thread u
 offer_text names Never = codes "never"
 
 -- each name behind a space
@@ -76,6 +77,7 @@ chance_text names fired sites t (Send c m) = partners_text names (others sites R
 chance_text names fired sites t (Recv c) = partners_text names (others sites Sends c t) (others sites Receives c t)
 chance_text names fired sites t (Always m) = codes "may be taken"
 chance_text names fired sites t (OnNack n) = nack_state_text names sites n (fired n)
+chance_text names fired sites t (OnEnd u) = names.thread u ++ codes " has not ended"
 chance_text names fired sites t Never = codes "is never taken"
 
 abbrev pub offer_line : Naming → (NackName → Option ℕ) → List Site → ℕ → Offer → List ℕ

@@ -51,7 +51,7 @@ impl<'a> WaitGraph<'a> {
                 could_offer(Side::Sends, channel_name(self.script, chan), self.parts[b])
             }
             Base::OnNack(nack) => usize::from(nack.thread) == b && is_open(self.sites, nack),
-            _ => false,
+            Base::Always(_) | Base::OnEnd(_) | Base::Never => false,
         }
     }
 

@@ -56,6 +56,10 @@ fn push_offer(out: &mut String, script: &Script, base: Base) -> Result<(), Alloc
             out.push_str("cancelled ")?;
             push_nack(out, script, nack)
         }
+        Base::OnEnd(ended) => {
+            out.push_str("joined ")?;
+            push_thread(out, script, ended)
+        }
         Base::Never => out.push_str("never"),
     }
 }
@@ -249,6 +253,10 @@ impl Teller<'_> {
             }
             Base::Always(_) => out.push_str("may be taken"),
             Base::OnNack(nack) => self.push_nack_state(out, nack, self.state.fired(nack)),
+            Base::OnEnd(ended) => {
+                push_thread(out, self.script, ended)?;
+                out.push_str(" has not ended")
+            }
             Base::Never => out.push_str("is never taken"),
         }
     }

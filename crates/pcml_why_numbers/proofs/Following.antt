@@ -1,28 +1,29 @@
 -- The numbered body goes where the body goes.
 use Rattle.std.proofs.Common.{◌≡◌, ℕ, zero, suc, ◌+◌, List, [], ◌∷◌, ◌++◌, Option, None, Some, Result, Ok, Err, length, refl, sym, ap, subst, slice_get, true, false}
-use Rattle.std.specs.Prelude.{Bool, nat_le, if◌then◌else◌, ⊤}
+use Rattle.std.specs.Prelude.{◌==◌, Bool, nat_le, if◌then◌else◌, ⊤}
+use Rattle.std.specs.List.{list_any}
 use Rattle.event.specs.Tree.{wraps_at}
-use Rattle.script_tree.specs.Trees.{Event, Sends, Receives, IsReady, IsNever, IsCancelled, Chooses, Wraps, Guards, Nacks, Events, NoMembers, Members, Stmt, Lets, Prints, Syncs, Branches, Loops, LoopsForever, Ends, Block, Stops, Runs}
+use Rattle.script_tree.specs.Trees.{Event, Sends, Receives, IsReady, IsNever, IsCancelled, IsJoined, Chooses, Wraps, Guards, Nacks, Events, NoMembers, Members, Stmt, Lets, Prints, Syncs, Branches, Loops, LoopsForever, Ends, Spawns, Block, Stops, Runs}
 use Rattle.protocol_values.specs.declared.Atom.{Atom}
 use Rattle.protocol_values.specs.declared.Atom.TheVariants.{Num}
 use Rattle.protocol_values.specs.declared.Base.{Base}
 use Rattle.protocol_values.specs.declared.Message.{Message}
 use Rattle.thread.specs.declared.Fault.{Fault}
 use Rattle.thread.specs.Values.{expr_value, list_value, test_value, with_names}
-use Rattle.thread.specs.After.{Chosen, State, Outcome, Goes, Offers, Finishes, Fails, Strays, ◌>>=◌, given, with_nack, received, Wrapping, Having, wrapped_once, wrapped, Formed, formed, committed, synced, synced_with, times, run_block, run_stmt, resolve, resolve_all, send_value, recv_value, always_value, cancelled_value, start, finished}
+use Rattle.thread.specs.After.{Chosen, Said, State, Outcome, Goes, Offers, Finishes, Fails, Strays, ◌>>=◌, given, with_nack, received, Wrapping, Having, wrapped_once, wrapped, Formed, formed, committed, synced, synced_with, times, run_block, run_stmt, resolve, resolve_all, send_value, recv_value, always_value, cancelled_value, start, finished}
 use Rattle.pcml_why_numbers.specs.Numbered.{count_block, count_event, count_stmt, numbered_block, numbered_event, numbered_members, numbered_stmt, says_again}
 use Rattle.pcml_why_numbers.specs.Alike.{AreAlike, NumberedIsAlike}
 
 -- a thread that printed this in place of what it printed
 abbrev pub told : State → List Atom → State
-told s printed = record s { printed = printed }
+told s printed = record s { said = record s.said { printed = printed } }
 
 -- Both go on, with values that are alike, or both stop in the same way.
 abbrev pub Both : {A : Type 0} → (A → A → Type 0) → Outcome A → Outcome A → Type 0
 Both R (Goes a) (Goes b) = R a b
-Both R (Offers tree printed) (Offers other told) = tree ≡ other
-Both R (Finishes printed left) (Finishes told others) = left ≡ others
-Both R (Fails fault printed left) (Fails reason told others) = (fault ≡ reason) × (left ≡ others)
+Both R (Offers tree said) (Offers other told) = (tree ≡ other) × (said.spawned ≡ told.spawned)
+Both R (Finishes said left) (Finishes told others) = (left ≡ others) × (said.spawned ≡ told.spawned)
+Both R (Fails fault said left) (Fails reason told others) = (fault ≡ reason) × (left ≡ others) × (said.spawned ≡ told.spawned)
 Both R Strays Strays = ⊤
 Both R one other = ⊥
 
@@ -56,7 +57,7 @@ bind_formed S x y f g h next = bind_both FormedAlike S x y f g h (λ a b w. subs
 
 given_both : {A B : Type 0} (S : B → B → Type 0) (s : State) (p : List Atom) (r : Result A Fault) (f g : A → Outcome B) → ((a : A) → Both S (f a) (g a)) → Both S (given (told s p) r >>= f) (given s r >>= g)
 given_both S s p (Ok a) f g next = next a
-given_both S s p (Err fault) f g next = (refl, refl)
+given_both S s p (Err fault) f g next = (refl, refl, refl)
 
 -- COMMITS
 
@@ -82,7 +83,7 @@ committed_both names f q (Some numbers) m s p =
     (λ h r. received_both names h.message h.state r)
 
 synced_both : (names : Option (List ℕ)) (f : Formed) (p : List Atom) (left : List Chosen) → Both StatesAlike (synced_with names (record f { state = told f.state p }) left) (synced_with names f left)
-synced_both names f p [] = refl
+synced_both names f p [] = (refl, refl)
 synced_both names f p (c ∷ left) = committed_both names f p (wraps_at f.tree c.0) c.1 (record f.state { left = left }) p
 
 -- LOOPS
@@ -101,7 +102,14 @@ if_both R true x y v w yes' no' = yes'
 if_both R false x y v w yes' no' = no'
 
 nack_both : (name : ℕ) (s : State) (p : List Atom) → Both StatesAlike (with_nack name (told s p)) (with_nack name s)
-nack_both name s p = if_both StatesAlike (nat_le 64 s.nacks) _ _ _ _ (refl, refl) (p, refl)
+nack_both name s p = if_both StatesAlike (nat_le 64 s.nacks) _ _ _ _ (refl, refl, refl) (p, refl)
+
+-- what a `spawn` does to what was spawned hangs on no print
+spawned_alike : (process : ℕ) (p : List Atom) (said : Said) (before : Bool) →
+    (if before then record said { printed = p } else record { printed = p; spawned = said.spawned ++ process ∷ [] })
+    ≡ record (if before then said else record said { spawned = said.spawned ++ process ∷ [] }) { printed = p }
+spawned_alike process p said true = refl
+spawned_alike process p said false = refl
 
 -- STATEMENTS AND EVENTS
 
@@ -110,10 +118,10 @@ abbrev Silent : Block → Type 0
 Silent behind = (s : State) → (printed : List Atom) × (run_block behind s ≡ Goes (told s printed))
 
 stops_silent : Silent Stops
-stops_silent s = (s.printed, refl)
+stops_silent s = (s.said.printed, refl)
 
 again_silent : (n : ℕ) → Silent (says_again n)
-again_silent n s = (s.printed ++ Num n ∷ [], refl)
+again_silent n s = (s.said.printed ++ Num n ∷ [], refl)
 
 -- a loop's turn: a sync of what is resolved, and then the rest
 abbrev pub turn : Option (List ℕ) → (State → Outcome Formed) → (State → Outcome State) → State → Outcome State
@@ -147,13 +155,15 @@ mutual
       (λ u r. event_both n (n + 1) event [] u r) (λ u r. block_both (n + 1 + count_event event) rest (says_again n) (again_silent n) u r) t q) s p
   stmt_both n (LoopsForever names event rest) s p = times_both (suc (length s.left)) (turn names (resolve (numbered_event n (n + 1) event) []) (run_block (numbered_block (n + 1 + count_event event) rest (says_again n)))) (turn names (resolve event []) (run_block rest)) (λ t q. turn_both names (resolve (numbered_event n (n + 1) event) []) (resolve event []) (run_block (numbered_block (n + 1 + count_event event) rest (says_again n))) (run_block rest)
       (λ u r. event_both n (n + 1) event [] u r) (λ u r. block_both (n + 1 + count_event event) rest (says_again n) (again_silent n) u r) t q) s p
-  stmt_both n Ends s p = refl
+  stmt_both n Ends s p = (refl, refl)
+  stmt_both n (Spawns process) s p = (p, ap (λ (x : Said). record s { said = x }) (spawned_alike process p s.said (list_any (λ q. q == process) s.said.spawned)))
 
   pub event_both : (at n : ℕ) (e : Event) (wraps : List Wrapping) (s : State) (p : List Atom) → Both FormedAlike (resolve (numbered_event at n e) wraps (told s p)) (resolve e wraps s)
   event_both at n (Sends channel list) wraps s p = base_both wraps s p (send_value s.store channel list)
   event_both at n (Receives channel) wraps s p = base_both wraps s p (recv_value s.store channel)
   event_both at n (IsReady list) wraps s p = base_both wraps s p (always_value s.store list)
   event_both at n IsNever wraps s p = (p, refl)
+  event_both at n (IsJoined process) wraps s p = (p, refl)
   event_both at n (IsCancelled nack) wraps s p = base_both wraps s p (cancelled_value s.store nack)
   event_both at n (Chooses members) wraps s p = members_both at n members wraps s p
   event_both at n (Wraps event names list) wraps s p =
@@ -178,7 +188,7 @@ mutual
 -- WHOLE BODIES
 
 abbrev finish_both : (x y : Outcome State) → Both StatesAlike x y → AreAlike (x >>= finished) (y >>= finished)
-finish_both (Goes a) (Goes b) h = ap (λ (s : State). s.left) h.1
+finish_both (Goes a) (Goes b) h = (ap (λ (s : State). s.left) h.1, ap (λ (s : State). s.said.spawned) h.1)
 finish_both (Offers tree printed) (Offers other told) h = h
 finish_both (Finishes printed left) (Finishes told others) h = h
 finish_both (Fails fault printed left) (Fails reason told others) h = h

@@ -3,7 +3,7 @@
 use Rattle.std.proofs.Common.{◌≡◌, ◌+◌, ◌≤◌, ℕ, refl, sym, ap, ap₂, subst, ◌∙◌, arith}
 use Rattle.std.specs.Prelude.{max}
 use Rattle.script_tree.specs.Limits.{Known, KeepsLimits, IsSmall, base_count, bases_of_all, nack_count, nacks_of_all, BlockIsIn, EventIsIn, MembersAreIn, StmtIsIn, event_depth, members_depth, stmt_depth, stmts_depth}
-use Rattle.script_tree.specs.Trees.{Event, Sends, Receives, IsReady, IsNever, IsCancelled, Chooses, Wraps, Guards, Nacks, Events, NoMembers, Members, Stmt, Lets, Prints, Syncs, Branches, Loops, LoopsForever, Ends, Block, Stops, Runs}
+use Rattle.script_tree.specs.Trees.{Event, Sends, Receives, IsReady, IsNever, IsCancelled, IsJoined, Chooses, Wraps, Guards, Nacks, Events, NoMembers, Members, Stmt, Lets, Prints, Syncs, Branches, Loops, LoopsForever, Ends, Spawns, Block, Stops, Runs}
 use Rattle.pcml_why_numbers.specs.Numbered.{count_block, count_event, count_stmt, numbered_block, numbered_event, numbered_members, numbered_stmt, says_again}
 
 -- BASE EVENTS AND NACKS
@@ -15,6 +15,7 @@ mutual
   bases_same at n (IsReady list) = refl
   bases_same at n IsNever = refl
   bases_same at n (IsCancelled nack) = refl
+  bases_same at n (IsJoined process) = refl
   bases_same at n (Chooses members) = all_bases_same at n members
   bases_same at n (Wraps event names list) = bases_same at n event
   bases_same at n (Guards body event) = bases_same at (n + count_block body) event
@@ -31,6 +32,7 @@ mutual
   nacks_same at n (IsReady list) = refl
   nacks_same at n IsNever = refl
   nacks_same at n (IsCancelled nack) = refl
+  nacks_same at n (IsJoined process) = refl
   nacks_same at n (Chooses members) = all_nacks_same at n members
   nacks_same at n (Wraps event names list) = nacks_same at n event
   nacks_same at n (Guards body event) = nacks_same at (n + count_block body) event
@@ -56,6 +58,7 @@ module _ (k : Known) where
     event_in at n (IsReady list) h = h
     event_in at n IsNever h = h
     event_in at n (IsCancelled nack) h = h
+    event_in at n (IsJoined process) h = h
     event_in at n (Chooses members) h = members_in at n members h
     event_in at n (Wraps event names list) h = (event_in at n event h.0, h.1)
     event_in at n (Guards body event) h = (block_in n body (says_again at) h.0 (again_in at), event_in at (n + count_block body) event h.1)
@@ -75,6 +78,7 @@ module _ (k : Known) where
     stmt_in n (LoopsForever names event rest) h =
         (h.0, (event_in n (n + 1) event h.1.0, (still_small n (n + 1) event h.1.1.0, block_in (n + 1 + count_event event) rest (says_again n) h.1.1.1 (again_in n))))
     stmt_in n Ends h = h
+    stmt_in n (Spawns process) h = h
 
     block_in : (n : ℕ) (b behind : Block) → BlockIsIn k b → BlockIsIn k behind → BlockIsIn k (numbered_block n b behind)
     block_in n Stops behind h end = end
@@ -92,6 +96,7 @@ mutual
   event_depth_keeps at n (IsReady list) = omega arith
   event_depth_keeps at n IsNever = omega arith
   event_depth_keeps at n (IsCancelled nack) = omega arith
+  event_depth_keeps at n (IsJoined process) = omega arith
   event_depth_keeps at n (Chooses members) = omega (arith, members_depth_keeps at n members)
   event_depth_keeps at n (Wraps event names list) = omega (arith, event_depth_keeps at n event)
   event_depth_keeps at n (Guards body event) =
@@ -114,16 +119,17 @@ mutual
   stmt_depth_keeps n (LoopsForever names event rest) =
       omega (arith, event_depth_keeps n (n + 1) event, block_depth_keeps (n + 1 + count_event event) rest (says_again n) refl)
   stmt_depth_keeps n Ends = omega arith
+  stmt_depth_keeps n (Spawns process) = omega arith
 
   block_depth_keeps : (n : ℕ) (b behind : Block) → stmts_depth behind ≡ 0 → stmts_depth (numbered_block n b behind) ≤ stmts_depth b
   block_depth_keeps n Stops behind none = omega (arith, none)
   block_depth_keeps n (Runs stmt rest) behind none = omega (arith, stmt_depth_keeps n stmt, block_depth_keeps (n + count_stmt stmt) rest behind none)
 
 -- a body with its numbers, where as many names are known
-pub keeps_limits : (k known : Known) (n : ℕ) (body given new : Block) → k.channels ≡ known.channels → k.variables ≡ known.variables → given ≡ body → new ≡ numbered_block n given Stops → KeepsLimits known body → KeepsLimits k new
-keeps_limits k known n body given new channels variables is same limits =
+pub keeps_limits : (k known : Known) (n : ℕ) (body given new : Block) → k.channels ≡ known.channels → k.variables ≡ known.variables → k.processes ≡ known.processes → given ≡ body → new ≡ numbered_block n given Stops → KeepsLimits known body → KeepsLimits k new
+keeps_limits k known n body given new channels variables processes is same limits =
     let whole : KeepsLimits known (numbered_block n body Stops) = record {
       names = block_in known n body Stops limits.names tt;
       depth = omega (arith, limits.depth, block_depth_keeps n body Stops refl);
     } in
-    subst (λ (z : Known × Block). KeepsLimits z.0 z.1) (λ i. (record { channels = sym channels i; variables = sym variables i }, (sym (same ∙ ap (λ b. numbered_block n b Stops) is)) i)) whole
+    subst (λ (z : Known × Block). KeepsLimits z.0 z.1) (λ i. (record { channels = sym channels i; variables = sym variables i; processes = sym processes i }, (sym (same ∙ ap (λ b. numbered_block n b Stops) is)) i)) whole

@@ -1,7 +1,7 @@
 -- The statements of a tree, with their numbers: as many as are counted.
 use Rattle.std.proofs.Common.{◌≡◌, ℕ, zero, suc, ◌+◌, ◌<◌, List, [], ◌∷◌, ◌++◌, Some, length, refl, subst, slice_get, arith, length-append}
 use Rattle.std.specs.Prelude.{⊤}
-use Rattle.script_tree.specs.Trees.{Event, Sends, Receives, IsReady, IsNever, IsCancelled, Chooses, Wraps, Guards, Nacks, Events, NoMembers, Members, Stmt, Lets, Prints, Syncs, Branches, Loops, LoopsForever, Ends, Block, Stops, Runs}
+use Rattle.script_tree.specs.Trees.{Event, Sends, Receives, IsReady, IsNever, IsCancelled, IsJoined, Chooses, Wraps, Guards, Nacks, Events, NoMembers, Members, Stmt, Lets, Prints, Syncs, Branches, Loops, LoopsForever, Ends, Spawns, Block, Stops, Runs}
 use Rattle.pcml_why_numbers.specs.Numbered.{count_block, count_event, count_members, count_stmt}
 use Rattle.pcml_why_numbers.specs.Standing.{listed_block, listed_event, listed_members, listed_stmt}
 
@@ -15,6 +15,7 @@ mutual
   event_counted (IsReady list) = refl
   event_counted IsNever = refl
   event_counted (IsCancelled nack) = refl
+  event_counted (IsJoined process) = refl
   event_counted (Chooses members) = members_counted members
   event_counted (Wraps event names list) = event_counted event
   event_counted (Guards body event) = both_counted (listed_block body) (listed_event event) _ _ (block_counted body) (event_counted event)
@@ -32,6 +33,7 @@ mutual
   stmt_counted (Loops times names event rest) = omega (arith, both_counted (listed_event event) (listed_block rest) _ _ (event_counted event) (block_counted rest))
   stmt_counted (LoopsForever names event rest) = omega (arith, both_counted (listed_event event) (listed_block rest) _ _ (event_counted event) (block_counted rest))
   stmt_counted Ends = refl
+  stmt_counted (Spawns process) = refl
 
   pub block_counted : (b : Block) → length (listed_block b) ≡ count_block b
   block_counted Stops = refl

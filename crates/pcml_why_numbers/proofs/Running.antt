@@ -5,7 +5,7 @@ use Rattle.std.specs.Prelude.{◌⊎◌, Contains}
 use Rattle.event.specs.Tree.{Tree}
 use Rattle.script_tree.specs.Processes.{Proc}
 use Rattle.script_tree.specs.Trees.{Stops}
-use Rattle.thread.specs.After.{Chosen, State, Outcome, Offers, Finishes, Fails, Strays, after}
+use Rattle.thread.specs.After.{Chosen, Said, State, Outcome, Offers, Finishes, Fails, Strays, after}
 use Rattle.protocol_values.specs.declared.Atom.{Atom}
 use Rattle.protocol_values.specs.declared.Base.{Base}
 use Rattle.protocol_values.specs.declared.Cause.{Cause}
@@ -56,6 +56,7 @@ caused_too : (ps qs : List Proc) → OffersToo ps qs → (rows : ℕ) (config : 
 caused_too ps qs too rows config at (cause.Always m) h = take_too ps qs too rows (config at.0.thread) at _ h
 caused_too ps qs too rows config at (cause.Nack n) h =
     (take_too ps qs too rows (config at.0.thread) at _ h.0, (h.1.0, fired_too ps qs too n.thread (config n.thread) n.k h.1.0 h.1.1))
+caused_too ps qs too rows config at (cause.End t) h = absurd h
 
 legal_too : (ps qs : List Proc) → OffersToo ps qs → (rows : ℕ) (config : Config) (c : Commit) → IsLegal ps rows config c → IsLegal qs rows config c
 legal_too ps qs too rows config (Pair sender receiver chan msg stamp) h =
@@ -65,6 +66,7 @@ legal_too ps qs too rows config (Alone at why stamp) h = caused_too ps qs too ro
 caused_by_too : (ps qs : List Proc) → OffersToo ps qs → (config : Config) (why : Cause) (d : Commit) → CausedBy ps config why d → CausedBy qs config why d
 caused_by_too ps qs too config (cause.Always m) d h = absurd h
 caused_by_too ps qs too config (cause.Nack n) d h = (h.0, fired_too ps qs too n.thread (config n.thread) n.k h.0 h.1, h.2)
+caused_by_too ps qs too config (cause.End t) d h = absurd h
 
 counts_too : (ps qs : List Proc) → OffersToo ps qs → (config : Config) (c d : Commit) → CountsFor ps config c d → CountsFor qs config c d
 counts_too ps qs too config (Pair sender receiver chan msg stamp) d h = h
@@ -101,31 +103,31 @@ get_process n [] t q is = absurd (cc (is))
 get_process n (p ∷ ps) zero q is = (p, refl, cc (is))
 get_process n (p ∷ ps) (suc t) q is = get_process (n + count_block p.body) ps t q is
 
-offers_on : (y : Outcome State) (event : Tree) (printed : List Atom) → AreAlike (Offers event printed) y → (told : List Atom) × (y ≡ Offers event told)
-offers_on (Offers other told) event printed h = (told, ap (λ e. Offers e told) (sym h))
-offers_on y event printed h = absurd h
+offers_on : (y : Outcome State) (event : Tree) (said : Said) → AreAlike (Offers event said) y → (told : Said) × (y ≡ Offers event told)
+offers_on (Offers other told) event said h = (told, ap (λ e. Offers e told) (sym h.0))
+offers_on y event said h = absurd h
 
-offers_back : (x : Outcome State) (event : Tree) (printed : List Atom) → AreAlike x (Offers event printed) → (told : List Atom) × (x ≡ Offers event told)
-offers_back (Offers other told) event printed h = (told, ap (λ e. Offers e told) h)
-offers_back x event printed h = absurd h
+offers_back : (x : Outcome State) (event : Tree) (said : Said) → AreAlike x (Offers event said) → (told : Said) × (x ≡ Offers event told)
+offers_back (Offers other told) event said h = (told, ap (λ e. Offers e told) h.0)
+offers_back x event said h = absurd h
 
 numbered_offers : (n : ℕ) (ps : List Proc) → OffersToo ps (numbered_all n ps)
 numbered_offers n ps t results event h =
     let p = h.process in
     let first = first_number n ps t in
     let alike = subst (AreAlike (after (numbered_block first p.body Stops) (length p.variables) t results)) h.offers (after_alike first p.body (length p.variables) t results) in
-    let told = offers_back (after (numbered_block first p.body Stops) (length p.variables) t results) event h.printed alike in
-    record { process = numbered_process first p; is_its = get_numbered n ps t p h.is_its; printed = told.0; offers = told.1 }
+    let told = offers_back (after (numbered_block first p.body Stops) (length p.variables) t results) event h.said alike in
+    record { process = numbered_process first p; is_its = get_numbered n ps t p h.is_its; said = told.0; offers = told.1 }
 
 pub offers_unnumbered : (n : ℕ) (ps : List Proc) → OffersToo (numbered_all n ps) ps
 offers_unnumbered n ps t results event h =
     let w = get_process n ps t h.process h.is_its in
     let p = w.0 in
     let first = first_number n ps t in
-    let offers = subst (λ (q : Proc). after q.body (length q.variables) t results ≡ Offers event h.printed) w.2 h.offers in
+    let offers = subst (λ (q : Proc). after q.body (length q.variables) t results ≡ Offers event h.said) w.2 h.offers in
     let alike = subst (λ x. AreAlike x (after p.body (length p.variables) t results)) offers (after_alike first p.body (length p.variables) t results) in
-    let told = offers_on (after p.body (length p.variables) t results) event h.printed alike in
-    record { process = p; is_its = w.1; printed = told.0; offers = told.1 }
+    let told = offers_on (after p.body (length p.variables) t results) event h.said alike in
+    record { process = p; is_its = w.1; said = told.0; offers = told.1 }
 
 pub same_runs : NumberedRunsAreSame
 same_runs n ps rows journal = (run_too ps (numbered_all n ps) (numbered_offers n ps) (offers_unnumbered n ps) rows journal, run_too (numbered_all n ps) ps (offers_unnumbered n ps) (numbered_offers n ps) rows journal)
@@ -133,12 +135,12 @@ same_runs n ps rows journal = (run_too ps (numbered_all n ps) (numbered_offers n
 -- ENDS
 
 ends_alike : (rows count : ℕ) (x y : Outcome State) (end : End) (printed : List Atom) → AreAlike x y → end_of rows count y ≡ Some (end, printed) → (more : List Atom) × (end_of rows count x ≡ Some (end, more))
-ends_alike rows count (Offers tree told) (Offers other p) end printed h is = (told, ap (option_map (λ (z : End × List Atom). (z.0, told))) is)
-ends_alike rows count (Finishes told []) (Finishes p []) end printed h is = (told, ap (option_map (λ (z : End × List Atom). (z.0, told))) is)
-ends_alike rows count (Finishes told (r ∷ left)) (Finishes p []) end printed h is = absurd (cc (h))
+ends_alike rows count (Offers tree told) (Offers other p) end printed h is = (told.printed, ap (option_map (λ (z : End × List Atom). (z.0, told.printed))) is)
+ends_alike rows count (Finishes told []) (Finishes p []) end printed h is = (told.printed, ap (option_map (λ (z : End × List Atom). (z.0, told.printed))) is)
+ends_alike rows count (Finishes told (r ∷ left)) (Finishes p []) end printed h is = absurd (cc (h.0))
 ends_alike rows count (Finishes told left) (Finishes p (s ∷ others)) end printed h is = absurd (cc)
 ends_alike rows count (Fails fault told []) (Fails reason p []) end printed h is =
-    (told, ap (λ (f : Fault). Some (ends.Faulted f, told)) h.0 ∙ ap (option_map (λ (z : End × List Atom). (z.0, told))) is)
+    (told.printed, ap (λ (f : Fault). Some (ends.Faulted f, told.printed)) h.0 ∙ ap (option_map (λ (z : End × List Atom). (z.0, told.printed))) is)
 ends_alike rows count (Fails fault told (r ∷ left)) (Fails reason p []) end printed h is = absurd (cc (h.1))
 ends_alike rows count (Fails fault told left) (Fails reason p (s ∷ others)) end printed h is = absurd (cc)
 ends_alike rows count Strays Strays end printed h is = absurd (cc (is))

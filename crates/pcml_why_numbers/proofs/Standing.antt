@@ -3,14 +3,14 @@ use Rattle.std.proofs.Common.{◌≡◌, ℕ, zero, suc, ◌+◌, ◌≤◌, Lis
 use Rattle.std.specs.Prelude.{◌⊎◌, nat_lt, nat_le, if◌then◌else◌, ⊤}
 use Rattle.event.specs.Tree.{Tree, wraps_at}
 use Rattle.script_tree.specs.Processes.{Proc}
-use Rattle.script_tree.specs.Trees.{Event, Sends, Receives, IsReady, IsNever, IsCancelled, Chooses, Wraps, Guards, Nacks, Events, NoMembers, Members, Stmt, Lets, Prints, Syncs, Branches, Loops, LoopsForever, Ends, Block, Stops, Runs}
+use Rattle.script_tree.specs.Trees.{Event, Sends, Receives, IsReady, IsNever, IsCancelled, IsJoined, Chooses, Wraps, Guards, Nacks, Events, NoMembers, Members, Stmt, Lets, Prints, Syncs, Branches, Loops, LoopsForever, Ends, Spawns, Block, Stops, Runs}
 use Rattle.protocol_values.specs.declared.Atom.{Atom}
 use Rattle.protocol_values.specs.declared.Atom.TheVariants.{Num}
 use Rattle.protocol_values.specs.declared.Base.{Base}
 use Rattle.protocol_values.specs.declared.Message.{Message}
 use Rattle.thread.specs.declared.Fault.{Fault}
 use Rattle.thread.specs.Values.{expr_value, list_value, test_value, with_names}
-use Rattle.thread.specs.After.{Chosen, State, Outcome, Goes, Offers, Finishes, Fails, Strays, ◌>>=◌, given, with_nack, received, Wrapping, Having, wrapped_once, wrapped, Formed, formed, committed, synced, synced_with, times, run_block, run_stmt, resolve, resolve_all, send_value, recv_value, always_value, cancelled_value, start, finished, after}
+use Rattle.thread.specs.After.{Chosen, Said, State, Outcome, Goes, Offers, Finishes, Fails, Strays, ◌>>=◌, given, with_nack, received, Wrapping, Having, wrapped_once, wrapped, Formed, formed, committed, synced, synced_with, times, run_block, run_stmt, resolve, resolve_all, send_value, recv_value, always_value, cancelled_value, start, finished, after}
 use Rattle.journal_replay.specs.declared.end.End.{End}
 use Rattle.journal_replay.specs.declared.end.End.TheVariants as ends
 use Rattle.journal_replay.specs.Runs.{IsOffering, end_of}
@@ -21,7 +21,7 @@ use Rattle.pcml_why_numbers.proofs.Listing.{HasIn, Numbers, all_numbers, block_c
 use Rattle.pcml_why_numbers.proofs.Running.{get_process, offers_unnumbered}
 
 abbrev LastIs : ℕ → State → Type 0
-LastIs number s = IsLast s.printed number
+LastIs number s = IsLast s.said.printed number
 
 abbrev HavingLast : ℕ → Having → Type 0
 HavingLast number h = LastIs number h.state
@@ -76,9 +76,9 @@ module _ (Has : ℕ → Stmt → Type 0) where
   -- What stops, other than at an end, tells a number; what is known of a fault is given.
   abbrev Telling : {A : Type 0} → (Fault → List Atom → Type 0) → (A → Type 0) → Outcome A → Type 0
   Telling P Q (Goes a) = Q a
-  Telling P Q (Offers tree printed) = Waits tree printed
-  Telling P Q (Finishes printed left) = ⊤
-  Telling P Q (Fails fault printed left) = P fault printed
+  Telling P Q (Offers tree said) = Waits tree said.printed
+  Telling P Q (Finishes said left) = ⊤
+  Telling P Q (Fails fault said left) = P fault said.printed
   Telling P Q Strays = ⊤
 
   bind_tells : {A B : Type 0} (P : Fault → List Atom → Type 0) (Q : A → Type 0) (R : B → Type 0) (x : Outcome A) (f : A → Outcome B) → Telling P Q x → ((a : A) → Q a → Telling P R (f a)) → Telling P R (x >>= f)
@@ -118,8 +118,8 @@ module _ (Has : ℕ → Stmt → Type 0) where
 
     -- the whole statement failed
     settle : (x y : Outcome State) (s : State) → y ≡ run_stmt stmt s → Both StatesAlike x y → Telling (Within at) Any x → Telling Failed Any x
-    settle (Fails fault printed left) (Fails reason told others) s same alike (inl last) =
-        record { tells = tells_it printed last; may = record { state = s; printed = told; left = others; fails = sym same ∙ ap (λ (f : Fault). Fails f told others) (sym alike.0) } }
+    settle (Fails fault said left) (Fails reason told others) s same alike (inl last) =
+        record { tells = tells_it said.printed last; may = record { state = s; said = told; left = others; fails = sym same ∙ ap (λ (f : Fault). Fails f told others) (sym alike.0) } }
     settle (Fails fault printed left) y s same alike (inr failed) = failed
     settle (Goes t) y s same alike h = tt
     settle (Offers tree printed) y s same alike h = h
@@ -128,7 +128,7 @@ module _ (Has : ℕ → Stmt → Type 0) where
     settle x y s same alike h = absurd alike
 
     settle_stmt : (s : State) → Telling (Within at) Any (run_stmt (numbered_stmt at stmt) s) → Telling Failed Any (run_stmt (numbered_stmt at stmt) s)
-    settle_stmt s h = settle (run_stmt (numbered_stmt at stmt) s) (run_stmt stmt s) s refl (stmt_both at stmt s s.printed) h
+    settle_stmt s h = settle (run_stmt (numbered_stmt at stmt) s) (run_stmt stmt s) s refl (stmt_both at stmt s s.said.printed) h
 
     received_tells : (names : Option (List ℕ)) (m : Message) (s : State) → LastIs at s → Telling (Within at) (LastIs at) (received names m s)
     received_tells names m s last = given_tells (LastIs at) s (with_names names m s.store) _ last (λ store. last)
@@ -149,7 +149,7 @@ module _ (Has : ℕ → Stmt → Type 0) where
         bind_tells (Within at) (HavingLast at) (LastIs at) (wrapped f.wraps numbers m s) _ (wrapped_tells f.wraps numbers m s last) (λ h l. received_tells names h.message h.state l)
 
     synced_with_tells : (names : Option (List ℕ)) (f : Formed) (left : List Chosen) → SyncFormed at stmt f → Telling (Within at) (LastIs at) (synced_with names f left)
-    synced_with_tells names f [] h = record { tells = tells_it f.state.printed h.0; may = h.1 }
+    synced_with_tells names f [] h = record { tells = tells_it f.state.said.printed h.0; may = h.1 }
     synced_with_tells names f (c ∷ left) h = committed_tells names f (wraps_at f.tree c.0) c.1 (record f.state { left = left }) h.0
 
     synced_tells : (names : Option (List ℕ)) (f : Formed) → SyncFormed at stmt f → Telling (Within at) (LastIs at) (synced names f)
@@ -166,7 +166,7 @@ module _ (Has : ℕ → Stmt → Type 0) where
     formed_as event s x y its is alike h = absurd alike
 
     sync_formed : (n : ℕ) (event : Event) (s : State) → sync_of stmt ≡ Some event → Telling (Within at) (FormedLast at) (resolve (numbered_event at n event) [] s) → Telling (Within at) (SyncFormed at stmt) (resolve (numbered_event at n event) [] s)
-    sync_formed n event s its h = formed_as event s (resolve (numbered_event at n event) [] s) (resolve event [] s) its refl (event_both at n event [] s s.printed) h
+    sync_formed n event s its h = formed_as event s (resolve (numbered_event at n event) [] s) (resolve event [] s) its refl (event_both at n event [] s s.said.printed) h
 
     base_tells : (wraps : List Wrapping) (s : State) (r : Result Base Fault) → LastIs at s → Telling (Within at) (FormedLast at) (given s r >>= formed wraps s)
     base_tells wraps s r last = given_tells (FormedLast at) s r _ last (λ base. last)
@@ -188,15 +188,15 @@ module _ (Has : ℕ → Stmt → Type 0) where
   -- STATEMENTS AND EVENTS
 
   again_tells : (n : ℕ) (s : State) → Telling Failed (LastIs n) (run_block (says_again n) s)
-  again_tells n s = record { before = s.printed; is = refl }
+  again_tells n s = record { before = s.said.printed; is = refl }
 
   mutual
     block_tells : (n : ℕ) (b behind : Block) (again : Option ℕ) → Numbers Has n (listed_block b) → ((s : State) → Telling Failed (Behind again) (run_block behind s)) → (s : State) → Telling Failed (Behind again) (run_block (numbered_block n b behind) s)
     block_tells n Stops behind again has end s = end s
     block_tells n (Runs stmt rest) behind again has end s =
-        let said : State = record s { printed = s.printed ++ Num n ∷ [] } in
+        let said : State = record s { said = record s.said { printed = s.said.printed ++ Num n ∷ [] } } in
         let parts = split_stmt Has n stmt (listed_block rest) has in
-        bind_tells Failed Any (Behind again) (run_stmt (numbered_stmt n stmt) said) _ (stmt_tells n stmt parts.0 said (record { before = s.printed; is = refl })) (λ t _. block_tells (n + count_stmt stmt) rest behind again parts.1 end t)
+        bind_tells Failed Any (Behind again) (run_stmt (numbered_stmt n stmt) said) _ (stmt_tells n stmt parts.0 said (record { before = s.said.printed; is = refl })) (λ t _. block_tells (n + count_stmt stmt) rest behind again parts.1 end t)
 
     stmt_tells : (n : ℕ) (stmt : Stmt) → Numbers Has n (listed_stmt stmt) → (s : State) → LastIs n s → Telling Failed Any (run_stmt (numbered_stmt n stmt) s)
     stmt_tells n (Lets name value) has s last = settle_stmt n (Lets name value) has.0 s (given_tells n (Lets name value) has.0 Any s (expr_value s.store value) _ last (λ atom. tt))
@@ -224,12 +224,14 @@ module _ (Has : ℕ → Stmt → Type 0) where
         (λ t. within n (LastIs n) _ (block_tells (n + 1 + count_event event) rest (says_again n) (Some n) parts.1 (again_tells n) t))
         s last)
     stmt_tells n Ends has s last = tt
+    stmt_tells n (Spawns process) has s last = tt
 
     event_tells : (at n : ℕ) (e : Event) (wraps : List Wrapping) (stmt : Stmt) → Has at stmt → Numbers Has n (listed_event e) → (s : State) → LastIs at s → Telling (Within at) (FormedLast at) (resolve (numbered_event at n e) wraps s)
     event_tells at n (Sends channel list) wraps stmt it has s last = base_tells at stmt it wraps s (send_value s.store channel list) last
     event_tells at n (Receives channel) wraps stmt it has s last = base_tells at stmt it wraps s (recv_value s.store channel) last
     event_tells at n (IsReady list) wraps stmt it has s last = base_tells at stmt it wraps s (always_value s.store list) last
     event_tells at n IsNever wraps stmt it has s last = last
+    event_tells at n (IsJoined process) wraps stmt it has s last = last
     event_tells at n (IsCancelled nack) wraps stmt it has s last = base_tells at stmt it wraps s (cancelled_value s.store nack) last
     event_tells at n (Chooses members) wraps stmt it has s last = members_tell at n members wraps stmt it has s last
     event_tells at n (Wraps event names list) wraps stmt it has s last =
@@ -259,18 +261,18 @@ module _ (Has : ℕ → Stmt → Type 0) where
   -- a number was printed last, and where the outcome is an offer, its statement is that sync
   record Stopped (x : Outcome State) (printed : List Atom) : Type 0 where
     tells : Tells printed
-    offered : (tree : Tree) (told : List Atom) → x ≡ Offers tree told → MayOffer tells.stmt tree
-    failed : (fault : Fault) (told : List Atom) (left : List Chosen) → x ≡ Fails fault told left → MayFail tells.stmt fault
+    offered : (tree : Tree) (told : Said) → x ≡ Offers tree told → MayOffer tells.stmt tree
+    failed : (fault : Fault) (told : Said) (left : List Chosen) → x ≡ Fails fault told left → MayFail tells.stmt fault
 
   ends_tell : (rows count : ℕ) (x : Outcome State) (end : End) (printed : List Atom) → Telling Failed Any x → end_of rows count x ≡ Some (end, printed) → StandsSomewhere end → Stopped x printed
   ends_tell rows count (Goes s) end printed h is somewhere = absurd (cc)
   ends_tell rows count (Offers tree told) end printed h is somewhere =
-      let mine : Stopped (Offers tree told) told = record { tells = h.tells; offered = λ other more same. let e : tree ≡ other = cc (same) in subst (MayOffer h.tells.stmt) e h.may; failed = λ fault more left same. absurd (cc (same)) } in
+      let mine : Stopped (Offers tree told) told.printed = record { tells = h.tells; offered = λ other more same. let e : tree ≡ other = cc (same) in subst (MayOffer h.tells.stmt) e h.may; failed = λ fault more left same. absurd (cc (same)) } in
       subst (Stopped (Offers tree told)) (ap printed_in is) mine
   ends_tell rows count (Finishes told []) end printed h is somewhere = absurd (subst StandsSomewhere (sym (ap end_in is)) somewhere)
   ends_tell rows count (Finishes told (r ∷ left)) end printed h is somewhere = absurd (cc)
   ends_tell rows count (Fails fault told []) end printed h is somewhere =
-      let mine : Stopped (Fails fault told []) told = record { tells = h.tells; offered = λ other more same. absurd (cc (same)); failed = λ other more others same. let e : fault ≡ other = cc (same) in subst (MayFail h.tells.stmt) e h.may } in
+      let mine : Stopped (Fails fault told []) told.printed = record { tells = h.tells; offered = λ other more same. absurd (cc (same)); failed = λ other more others same. let e : fault ≡ other = cc (same) in subst (MayFail h.tells.stmt) e h.may } in
       subst (Stopped (Fails fault told [])) (ap printed_in is) mine
   ends_tell rows count (Fails fault told (r ∷ left)) end printed h is somewhere = absurd (cc)
   ends_tell rows count Strays end printed h is somewhere = absurd (cc)
@@ -303,7 +305,7 @@ if_offer : (b : Bool) → IsOffer (if b then ends.Waiting else ends.Spent)
 if_offer true = tt
 if_offer false = tt
 
-offers_if : (rows count : ℕ) (x : Outcome State) (end : End) (printed : List Atom) → end_of rows count x ≡ Some (end, printed) → IsOffer end → (tree : Tree) × (told : List Atom) × (x ≡ Offers tree told)
+offers_if : (rows count : ℕ) (x : Outcome State) (end : End) (printed : List Atom) → end_of rows count x ≡ Some (end, printed) → IsOffer end → (tree : Tree) × (told : Said) × (x ≡ Offers tree told)
 offers_if rows count (Goes s) end printed is offer = absurd (cc)
 offers_if rows count (Offers tree told) end printed is offer = (tree, told, refl)
 offers_if rows count (Finishes told []) end printed is offer = absurd (subst IsOffer (sym (ap end_in is)) offer)
@@ -312,7 +314,7 @@ offers_if rows count (Fails fault told []) end printed is offer = absurd (subst 
 offers_if rows count (Fails fault told (r ∷ left)) end printed is offer = absurd (cc)
 offers_if rows count Strays end printed is offer = absurd (cc)
 
-fault_if : (rows count : ℕ) (x : Outcome State) (fault : Fault) (printed : List Atom) → end_of rows count x ≡ Some (ends.Faulted fault, printed) → (told : List Atom) × (left : List Chosen) × (x ≡ Fails fault told left)
+fault_if : (rows count : ℕ) (x : Outcome State) (fault : Fault) (printed : List Atom) → end_of rows count x ≡ Some (ends.Faulted fault, printed) → (told : Said) × (left : List Chosen) × (x ≡ Fails fault told left)
 fault_if rows count (Goes s) fault printed is = absurd (cc)
 fault_if rows count (Offers tree told) fault printed is = absurd (subst IsOffer (ap end_in is) (if_offer (nat_lt count rows)))
 fault_if rows count (Finishes told []) fault printed is =
@@ -348,7 +350,7 @@ tell_where n ps rows t config end printed h somewhere =
     let counted = block_counted p.body in
     let offers : IsOffer end → OffersAt ps t results told.stmt = λ offer.
     let o = offers_if rows (length results) one end printed end_is offer in
-    let mine : IsOffering (numbered_all n ps) t results o.0 = record { process = h.process; is_its = h.is_its; printed = o.1; offers = ap (λ (q : Proc). after q.body (length q.variables) t results) w.2 ∙ o.2 } in
+    let mine : IsOffering (numbered_all n ps) t results o.0 = record { process = h.process; is_its = h.is_its; said = o.1; offers = ap (λ (q : Proc). after q.body (length q.variables) t results) w.2 ∙ o.2 } in
     (o.0, offers_unnumbered n ps t results o.0 mine, stopped.offered o.0 o.1 o.2) in
     let fails : (fault : Fault) → end ≡ ends.Faulted fault → MayFail told.stmt fault = λ fault is.
     let f = fault_if rows (length results) one fault printed (end_is ∙ ap (λ (e : End). Some (e, printed)) is) in

@@ -9,12 +9,12 @@ use Rattle.journal_replay.specs.declared.end.End.{End}
 use Rattle.journal_replay.specs.Runs.{Config, EndsAs, IsRun}
 use Rattle.pcml_why_numbers.specs.Numbered.{numbered_all, numbered_block}
 
--- Both offer the same event, or both end or fail in the same way with the same results left, or both stray. What they
--- printed may differ.
+-- Both offer the same event, or both end or fail in the same way with the same results left, or both stray, and both
+-- spawned the same. What they printed may differ.
 abbrev pub AreAlike : Outcome State → Outcome State → Type 0
-AreAlike (Offers tree printed) (Offers other told) = tree ≡ other
-AreAlike (Finishes printed left) (Finishes told others) = left ≡ others
-AreAlike (Fails fault printed left) (Fails reason told others) = (fault ≡ reason) × (left ≡ others)
+AreAlike (Offers tree said) (Offers other told) = (tree ≡ other) × (said.spawned ≡ told.spawned)
+AreAlike (Finishes said left) (Finishes told others) = (left ≡ others) × (said.spawned ≡ told.spawned)
+AreAlike (Fails fault said left) (Fails reason told others) = (fault ≡ reason) × (left ≡ others) × (said.spawned ≡ told.spawned)
 AreAlike Strays Strays = ⊤
 AreAlike one other = ⊥
 

@@ -2,11 +2,11 @@
 -- which their words stand in the text, through all processes.
 use Rattle.std.specs.Prelude.{ℕ, zero, suc, ◌+◌, List, [], ◌∷◌}
 use Rattle.script_tree.specs.Processes.{Proc}
-use Rattle.script_tree.specs.Trees.{Nothing, Event, Sends, Receives, IsReady, IsNever, IsCancelled, Chooses, Wraps, Guards, Nacks, Events, NoMembers, Members, Stmt, Lets, Prints, Syncs, Branches, Loops, LoopsForever, Ends, Block, Stops, Runs, LoopBody}
+use Rattle.script_tree.specs.Trees.{Nothing, Event, Sends, Receives, IsReady, IsNever, IsCancelled, IsJoined, Chooses, Wraps, Guards, Nacks, Events, NoMembers, Members, Stmt, Lets, Prints, Syncs, Branches, Loops, LoopsForever, Ends, Spawns, Block, Stops, Runs, LoopBody}
 use Rattle.script_tree.specs.declared.tree.Operand.TheVariants.{Number}
 
 -- HOW MANY STATEMENTS HAVE A NUMBER
--- Each has one but `end`, at which nothing stands. A loop's number is that of the sync that its turns begin with.
+-- Each has one but `end` and `spawn`, at which nothing stands. A loop's number is that of the sync that its turns begin with.
 
 abbrev mutual
   pub count_event : Event → ℕ
@@ -15,6 +15,7 @@ abbrev mutual
   count_event (IsReady list) = 0
   count_event IsNever = 0
   count_event (IsCancelled nack) = 0
+  count_event (IsJoined process) = 0
   count_event (Chooses members) = count_members members
   count_event (Wraps event names list) = count_event event
   count_event (Guards body event) = count_block body + count_event event
@@ -32,6 +33,7 @@ abbrev mutual
   count_stmt (Loops times names event rest) = 1 + count_event event + count_block rest
   count_stmt (LoopsForever names event rest) = 1 + count_event event + count_block rest
   count_stmt Ends = 0
+  count_stmt (Spawns process) = 0
 
   pub count_block : Block → ℕ
   count_block Stops = 0
@@ -65,6 +67,7 @@ abbrev mutual
   numbered_event at n (IsReady list) = IsReady list
   numbered_event at n IsNever = IsNever
   numbered_event at n (IsCancelled nack) = IsCancelled nack
+  numbered_event at n (IsJoined process) = IsJoined process
   numbered_event at n (Chooses members) = Chooses (numbered_members at n members)
   numbered_event at n (Wraps event names list) = Wraps (numbered_event at n event) names list
   numbered_event at n (Guards body event) =
@@ -89,6 +92,7 @@ abbrev mutual
   numbered_stmt n (LoopsForever names event rest) =
       LoopsForever names (numbered_event n (n + 1) event) (numbered_block (n + 1 + count_event event) rest (says_again n))
   numbered_stmt n Ends = Ends
+  numbered_stmt n (Spawns process) = Spawns process
 
   -- the block, whose first statement has the number n, and then what stands behind it
   pub numbered_block : ℕ → Block → Block → Block

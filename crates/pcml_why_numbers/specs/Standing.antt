@@ -2,9 +2,9 @@
 use Rattle.std.specs.Prelude.{◌≡◌, ℕ, ◌+◌, ◌<◌, ◌≤◌, List, [], ◌∷◌, ◌++◌, Option, Some, None, slice_get, ⊤}
 use Rattle.event.specs.Tree.{Tree}
 use Rattle.script_tree.specs.Processes.{Proc}
-use Rattle.script_tree.specs.Trees.{Event, Sends, Receives, IsReady, IsNever, IsCancelled, Chooses, Wraps, Guards, Nacks, Events, NoMembers, Members, Stmt, Lets, Prints, Syncs, Branches, Loops, LoopsForever, Ends, Block, Stops, Runs}
+use Rattle.script_tree.specs.Trees.{Event, Sends, Receives, IsReady, IsNever, IsCancelled, IsJoined, Chooses, Wraps, Guards, Nacks, Events, NoMembers, Members, Stmt, Lets, Prints, Syncs, Branches, Loops, LoopsForever, Ends, Spawns, Block, Stops, Runs}
 use Rattle.thread.specs.declared.Fault.{Fault}
-use Rattle.thread.specs.After.{Chosen, State, Goes, Fails, Formed, resolve, run_stmt}
+use Rattle.thread.specs.After.{Chosen, Said, State, Goes, Fails, Formed, resolve, run_stmt}
 use Rattle.protocol_values.specs.declared.Atom.{Atom}
 use Rattle.protocol_values.specs.declared.Atom.TheVariants.{Num}
 use Rattle.journal_replay.specs.declared.end.End.{End}
@@ -20,6 +20,7 @@ abbrev mutual
   listed_event (IsReady list) = []
   listed_event IsNever = []
   listed_event (IsCancelled nack) = []
+  listed_event (IsJoined process) = []
   listed_event (Chooses members) = listed_members members
   listed_event (Wraps event names list) = listed_event event
   listed_event (Guards body event) = listed_block body ++ listed_event event
@@ -37,6 +38,7 @@ abbrev mutual
   listed_stmt (Loops times names event rest) = Loops times names event rest ∷ listed_event event ++ listed_block rest
   listed_stmt (LoopsForever names event rest) = LoopsForever names event rest ∷ listed_event event ++ listed_block rest
   listed_stmt Ends = []
+  listed_stmt (Spawns process) = []
 
   pub listed_block : Block → List Stmt
   listed_block Stops = []
@@ -76,9 +78,9 @@ pub record MayOffer (stmt : Stmt) (offered : Tree) : Type 0 where
 -- the statement can fail by this fault
 pub record MayFail (stmt : Stmt) (fault : Fault) : Type 0 where
   pub state : State
-  pub printed : List Atom
+  pub said : Said
   pub left : List Chosen
-  pub fails : run_stmt stmt state ≡ Fails fault printed left
+  pub fails : run_stmt stmt state ≡ Fails fault said left
 
 -- where the process offers an event, it is the statement's
 abbrev pub OffersAt : List Proc → ℕ → List Chosen → Stmt → Type 0

@@ -103,6 +103,7 @@ fn number_stmt(alloc: Global, next: &mut u32, stmt: &Stmt) -> Result<Stmt, Alloc
             Ok(Stmt::Forever(turn))
         }
         Stmt::End => Ok(Stmt::End),
+        Stmt::Spawn(process) => Ok(Stmt::Spawn(*process)),
     }
 }
 
@@ -167,7 +168,8 @@ fn number_event(
         | Event::Recv(_)
         | Event::Always(_)
         | Event::Never
-        | Event::Cancelled(_) => {
+        | Event::Cancelled(_)
+        | Event::Joined(_) => {
             let all = Arc::try_clone(event)?;
             Ok(all)
         }
@@ -218,7 +220,7 @@ fn number_process(alloc: Global, next: &mut u32, process: &Proc) -> Result<Proc,
     let variables = variable_names(alloc, process)?;
     let end = Arc::new(alloc, Block::Done)?;
     let body = number_block(alloc, next, process.body(), end)?;
-    Ok(Proc::new(name, body, variables, process.channels()))
+    Ok(Proc::new(name, body, variables, process.channels(), process.earlier()))
 }
 
 /// The processes, which print the number of each statement before it begins. The first has the number 1.

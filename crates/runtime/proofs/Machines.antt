@@ -108,14 +108,14 @@ offers_as ps first t results os ns are (m, (is, phase)) =
       offered = record {
         process = f.0;
         is_its = f.1;
-        printed = m.machine.value.output;
+        said = Rattle.thread.specs.Machines.said_in m.machine.value;
         offers = offers_there f.0 m.machine.value is.start.machine.value starts is.process is.given opens;
       };
       are = opens.offers;
       scopes = opens.nacks;
     }
   where
-    offers_there : (p : Proc) (m s : Thread) → StartsAs p t s → SameProcess s m → m.results ≡ results → (o : Rattle.thread.specs.Machines.OpensWith m os ns) → Rattle.thread.specs.After.after p.body (length p.variables) t results ≡ Rattle.thread.specs.After.Offers o.tree m.output
+    offers_there : (p : Proc) (m s : Thread) → StartsAs p t s → SameProcess s m → m.results ≡ results → (o : Rattle.thread.specs.Machines.OpensWith m os ns) → Rattle.thread.specs.After.after p.body (length p.variables) t results ≡ Rattle.thread.specs.After.Offers o.tree (Rattle.thread.specs.Machines.said_in m)
     offers_there p m s starts same given o =
         let body = ap Rattle.script_tree.specs.Trees.block_of same.body ∙ starts.body in
         let variables = same.variables ∙ starts.variables in
@@ -185,7 +185,7 @@ module _ (cells : GridOf Suspended) (table : IsTable cells) (t : ℕ) where
   pub nacks_rise : (results : List Chosen) (m : Suspended) (os : List Offer) (ns : List ℕ) → StandsFor cells.first m t results os ns → Rises 0 64 ns
   nacks_rise results m os ns stands =
       let o = offered results m os ns stands in
-      subst (Rises 0 64) o.scopes (after_rises o.offered.process.body (length o.offered.process.variables) t results o.event o.offered.printed o.offered.offers)
+      subst (Rises 0 64) o.scopes (after_rises o.offered.process.body (length o.offered.process.variables) t results o.event o.offered.said o.offered.offers)
 
   has_scope : (earlier results : List Chosen) (m : Suspended) (os : List Offer) (ns : List ℕ) (g scope k : ℕ) → StandsFor cells.first m t results os ns → results ≡ take g earlier → g ≤ length earlier → slice_get ns scope ≡ Some k → HasScopeAt table.processes t earlier k g
   has_scope earlier results m os ns g scope k stands begins within e =

@@ -12,12 +12,15 @@ use Rattle.protocol_values.proofs.WordLemmas.{IsOfferInRange-offer_of}
 use Rattle.protocol_values.specs.declared.Atom.{Atom}
 use Rattle.protocol_values.specs.declared.Atom.TheVariants.{Num, Chan, Nack}
 use Rattle.protocol_values.specs.declared.Base.{Base}
-use Rattle.protocol_values.specs.declared.Base.TheVariants.{Send, Recv, Always, OnNack, Never}
+use Rattle.protocol_values.specs.declared.Base.TheVariants.{Send, Recv, Always, OnNack, OnEnd, Never}
 use Rattle.protocol_values.specs.declared.Joined.{Joined}
 use Rattle.protocol_values.specs.declared.Message.{Message}
 use Rattle.protocol_values.specs.declared.Message.TheVariants.{Empty, One, Two, Three}
 use Rattle.protocol_values.specs.declared.Offer.{Offer}
 use Rattle.protocol_values.specs.declared.Row.{Row}
+use Rattle.script_tree.specs.Limits.{BlockIsIn}
+use Rattle.script_tree.specs.Processes.{known_in}
+use Rattle.script_tree.specs.Trees.{block_of}
 use Rattle.thread.specs.After.{Chosen}
 use Rattle.thread.specs.Ranges.{AtomIsIn, BaseIsIn, MessageIsIn, OffersAreIn, ResultsAreIn}
 use Rattle.thread.proofs.Ranging.{machine_in_range}
@@ -52,6 +55,7 @@ gets_from s j (Send c sent) m h e = subst IsMessageInRange (sym e) tt
 gets_from s j (Recv c) m h e = (subst IsBaseInRange e.5 (offer_seen s e.0.0 e.0.1 e.2 e.4).base).1
 gets_from s j (Always told) m h e = subst IsMessageInRange (sym e) h
 gets_from s j (OnNack n) m h e = subst IsMessageInRange (sym e) tt
+gets_from s j (OnEnd t) m h e = subst IsMessageInRange (sym e) tt
 gets_from s j Never m h e = subst IsMessageInRange (sym e) tt
 
 -- what a row gets
@@ -113,6 +117,12 @@ names_in_range cells t m results os ns table stands few n o e =
     let is = stands.0 in
     let p = offers_as table.processes cells.first t results os ns table.first (m, stands) in
     let size : scope_count p.event ≡ length ns = ap (λ (l : List ℕ). length l) p.scopes in
-    let named : OffersAreIn os = subst OffersAreIn (offers_of_open m.machine.value.phase os ns stands.1) (machine_in_range m.machine.value is.after (below_64 cells t m results table is) (subst ResultsAreIn (sym is.given) is.in_range)) in
+    let w = table.first.1 t is.start is.is_first in
+    let body : block_of m.machine.value.body ≡ w.0.body = ap block_of is.process.body ∙ w.2.body in
+    let text : BlockIsIn (known_in w.0) (block_of m.machine.value.body) = subst (BlockIsIn (known_in w.0)) (sym body) w.2.limits.names in
+    let place = w.2.place in
+    let named : OffersAreIn os =
+    subst OffersAreIn (offers_of_open m.machine.value.phase os ns stands.1)
+    (machine_in_range m.machine.value (known_in w.0) is.after (below_64 cells t m results table is) (omega (arith, place)) text (subst ResultsAreIn (sym is.given) is.in_range)) in
     let masks : All (λ o. o.scopes < 16) os = subst (λ (l : List Offer). All (λ o. o.scopes < 16) l) p.are (masks_in_range p.event (omega (arith, size, few))) in
     (at_place (λ o. BaseIsIn o.base) os n o named e, at_place (λ o. o.scopes < 16) os n o masks e)

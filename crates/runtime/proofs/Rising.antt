@@ -4,12 +4,12 @@ use Rattle.std.proofs.lemmas.Bool.Decides.{nat_tests}
 use Rattle.std.proofs.lemmas.Option.{none-some, same_Some}
 use Rattle.std.specs.Prelude.{⊤, if◌then◌else◌}
 use Rattle.event.specs.Tree.{Tree, wraps_at, scope_nacks}
-use Rattle.script_tree.specs.Trees.{Event, Sends, Receives, IsReady, IsNever, IsCancelled, Chooses, Wraps, Guards, Nacks, Events, NoMembers, Members, Stmt, Lets, Prints, Syncs, Branches, Loops, LoopsForever, Ends, Block, Stops, Runs}
+use Rattle.script_tree.specs.Trees.{Event, Sends, Receives, IsReady, IsNever, IsCancelled, IsJoined, Chooses, Wraps, Guards, Nacks, Events, NoMembers, Members, Stmt, Lets, Prints, Syncs, Branches, Loops, LoopsForever, Ends, Spawns, Block, Stops, Runs}
 use Rattle.protocol_values.specs.declared.Atom.{Atom}
 use Rattle.protocol_values.specs.declared.Message.{Message}
 use Rattle.thread.specs.declared.Fault.{Fault}
 use Rattle.thread.specs.Values.{expr_value, list_value, test_value, with_names}
-use Rattle.thread.specs.After.{State, Chosen, Outcome, Goes, Offers, Finishes, Fails, Strays, ◌>>=◌, given, received, Wrapping, wrapped_once, wrapped, Formed, committed, synced_with, synced, times, formed, with_nack, as_wrap, as_scope, as_first, run_block, run_stmt, resolve, resolve_all, start, finished, after}
+use Rattle.thread.specs.After.{Said, State, Chosen, Outcome, Goes, Offers, Finishes, Fails, Strays, ◌>>=◌, given, received, Wrapping, wrapped_once, wrapped, Formed, committed, synced_with, synced, times, formed, with_nack, as_wrap, as_scope, as_first, run_block, run_stmt, resolve, resolve_all, start, finished, after}
 
 -- each number is above the one before it, the first is not below `low`, and all are below `high`
 abbrev pub Rises : ℕ → ℕ → List ℕ → Type 0
@@ -160,12 +160,14 @@ mutual
   stmt_fine (LoopsForever names event rest) s h =
       times_fine (suc (length s.left)) (λ t. resolve event [] t >>= synced names >>= run_block rest) (turn_fine names (resolve event []) (run_block rest) (event_fine event []) (block_fine rest)) s h
   stmt_fine Ends s h = tt
+  stmt_fine (Spawns process) s h = (omega arith, h)
 
   event_fine : (event : Event) (wraps : List Wrapping) (s : State) → s.nacks ≤ 64 → Fine (resolve event wraps s) (FormedFrom s.nacks)
   event_fine (Sends channel list) wraps s h = base_fine wraps s (given s _) (formed wraps s) (given_fine s _) (λ base. (omega arith, h))
   event_fine (Receives channel) wraps s h = base_fine wraps s (given s _) (formed wraps s) (given_fine s _) (λ base. (omega arith, h))
   event_fine (IsReady list) wraps s h = base_fine wraps s (given s _) (formed wraps s) (given_fine s _) (λ base. (omega arith, h))
   event_fine IsNever wraps s h = (omega arith, h)
+  event_fine (IsJoined process) wraps s h = (omega arith, h)
   event_fine (IsCancelled nack) wraps s h = base_fine wraps s (given s _) (formed wraps s) (given_fine s _) (λ base. (omega arith, h))
   event_fine (Chooses members) wraps s h = members_fine members wraps s h
   event_fine (Wraps event names list) wraps s h =
@@ -190,7 +192,7 @@ mutual
       (rises_on s.nacks f.state.nacks g.state.nacks (scope_nacks f.tree) (scope_nacks g.tree) k.0 l.0, l.1)))
 
 -- the event that a process comes to has such nacks
-pub after_rises : (body : Block) (variables thread : ℕ) (results : List Chosen) (tree : Tree) (printed : List Atom) → after body variables thread results ≡ Offers tree printed → Rises 0 64 (scope_nacks tree)
-after_rises body variables thread results tree printed e =
+pub after_rises : (body : Block) (variables thread : ℕ) (results : List Chosen) (tree : Tree) (said : Said) → after body variables thread results ≡ Offers tree said → Rises 0 64 (scope_nacks tree)
+after_rises body variables thread results tree said e =
     subst (λ (x : Outcome State). Fine x (λ s. ⊤)) e
     (bind_fine (run_block body (start thread variables results)) finished (From 0) (λ s. ⊤) (block_fine body (start thread variables results) (omega arith)) (λ s h. tt))

@@ -28,7 +28,7 @@ fn block_syncs(block: &Block) -> u32 {
 #[cycle(counting)]
 fn statement_syncs(statement: &Stmt) -> u32 {
     match statement {
-        Stmt::Let(_, _) | Stmt::Print(_) | Stmt::End => 0,
+        Stmt::Let(_, _) | Stmt::Print(_) | Stmt::End | Stmt::Spawn(_) => 0,
         Stmt::Sync(_, event) => 1u32.saturating_add(event_syncs(event)),
         Stmt::If(_, first, second) => block_syncs(first).max(block_syncs(second)),
         Stmt::Loop(times, turn) => turn_syncs(turn).saturating_mul(*times),
@@ -63,7 +63,8 @@ fn event_syncs(event: &Event) -> u32 {
         | Event::Recv(_)
         | Event::Always(_)
         | Event::Never
-        | Event::Cancelled(_) => 0,
+        | Event::Cancelled(_)
+        | Event::Joined(_) => 0,
     }
 }
 
