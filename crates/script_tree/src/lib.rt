@@ -5,9 +5,11 @@ ghost use denote.Param.Send.{IsSend, IsSync};
 ghost use Rattle.script_tree.specs.contracts.process.Proc as proc;
 
 pub mod process;
+mod spawning;
 pub mod tree;
 
 pub use process::Proc;
+pub use spawning::spawned;
 pub use tree::{
     Block, Event, Events, Expr, Exprs, LoopBody, Name, Names, Operand, Relation, Sign, Stmt, Term,
     Terms, Test,

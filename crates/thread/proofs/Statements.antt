@@ -1,5 +1,5 @@
 -- The first statement at a place of a linked code.
-use Rattle.std.proofs.Common.{◌≡◌, ℕ, ◌+◌, ◌<◌, List, [], ◌∷◌, ◌++◌, Option, Some, Ok, true, false, slice_get, sym, ap, ◌∙◌, subst, arith}
+use Rattle.std.proofs.Common.{◌≡◌, ℕ, ◌+◌, ◌<◌, List, [], ◌∷◌, ◌++◌, Option, Some, Result, Ok, Err, IfOk, true, false, slice_get, sym, ap, ◌∙◌, subst, arith}
 use Rattle.std.specs.Prelude.{if◌then◌else◌}
 use Rattle.thread_code.specs.Codes.{HasPlan, IsAt, IsLinked}
 use Rattle.thread_code.specs.declared.Code.{Code}
@@ -8,11 +8,12 @@ use Rattle.script_tree.specs.Trees.{Block, Runs, Stmt, Syncs, Branches, Loops, L
 use Rattle.thread.specs.declared.stack.Frame.{Frame}
 use Rattle.thread.specs.declared.stack.Frame.TheVariants.{Rest, Times, Endless}
 use Rattle.thread.specs.declared.stack.Opening.{Opening}
+use Rattle.thread.specs.declared.stack.Stack.{Stack}
 use Rattle.thread.specs.After.{Outcome, State, Goes, ◌>>=◌, endless, given, run_block, run_stmt, times}
 use Rattle.thread.specs.Fitting.{FramesFit, HasPlace, IsOpening}
 use Rattle.thread.specs.Reaches.{event_reach, frame_reach, frames_reach, opening_reach, stmt_reach, stmts_reach}
 use Rattle.thread.specs.Resolving.{Lists}
-use Rattle.thread.specs.Stacks.{Further, frame_on, frames_on, opening_on, others, place_block, sync_at, turn_on}
+use Rattle.thread.specs.Stacks.{Further, frame_on, frames_on, lists_of, opening_on, others, place_block, sync_at, turn_on}
 use Rattle.thread.specs.Values.{test_value}
 use Rattle.thread.proofs.Beginning.{begun, opening_begins, opening_fits, others_all, reach_of}
 use Rattle.thread.proofs.Binding.{bind_assoc, bind_each}
@@ -105,3 +106,11 @@ module _ (c : Code) (plan : ℕ) (names : Option (List ℕ)) (event : Event) (bo
 
   pub endless_on : frame_on c (Endless plan) below l s ≡ (run_stmt (LoopsForever names event body) s >>= below l)
   endless_on = ap (λ t. endless (turn_on t) s >>= below l) (sync_is c plan names event body has)
+
+-- a result that is handed on
+pub if_both : {X E : Type 0} (r : Result X E) (P Q R : X → Type 0) → ((x : X) → P x → Q x → R x) → IfOk r P → IfOk r Q → IfOk r R
+if_both (Ok x) P Q R f p q = f x p q
+if_both (Err _) P Q R f p q = tt
+
+pub lists_same : (s t : Stack) → s.offers ≡ t.offers → s.nacks ≡ t.nacks → lists_of s ≡ lists_of t
+lists_same s t o n = ap (λ v. lists_of (record { frames = s.frames; offers = v; nacks = s.nacks })) o ∙ ap (λ v. lists_of (record { frames = t.frames; offers = t.offers; nacks = v })) n

@@ -1,12 +1,14 @@
 //! Statements, a step at a time.
 
-ghost use Rattle.std.specs.Prelude.{◌≡◌, IfOk, List, length};
+ghost use Rattle.std.specs.Prelude.{◌≡◌, ◌++◌, ◌∷◌, IfOk, List, [], length};
 ghost use Rattle.thread_code.specs.Codes.{IsLinked};
 ghost use Rattle.thread.specs.After.{Chosen};
 ghost use Rattle.thread.specs.Fitting.{NowFits, StepFits};
 ghost use Rattle.thread.specs.Reaches.{Falls, now_reach};
 ghost use Rattle.thread.specs.Stacks.{now_on, state_of, step_on};
+ghost use Rattle.thread.specs.declared.stack.Frame.TheVariants as frames;
 ghost use Rattle.thread.specs.declared.stack.Now.TheVariants as now;
+ghost use Rattle.thread.specs.declared.stack.Step.TheVariants as steps;
 
 use crate::memory::Memory;
 use crate::stack::{Frame, Now, Opening, Stack, Step, Stop, place_at};
@@ -25,6 +27,18 @@ fn opening(stack: &Stack, plan: u32) -> Opening
         offers: stack.offers.len(),
         nacks: stack.nacks.len(),
     }
+}
+
+/// Begins the turns of a loop, behind which the block goes on at this place.
+fn turns(stack: &mut Stack, next: u32, frame: Frame) -> Result<Step, AllocError>
+    ensures begins { IfOk result (λ step. step ≡ steps.On now.Back) }
+    ensures frames { IfOk result (λ step. stack.new.frames.items ≡ (stack.old.frames.items ++ frames.Rest next ∷ []) ++ frame ∷ []) }
+    ensures offers { stack.new.offers ≡ stack.old.offers }
+    ensures nacks { stack.new.nacks ≡ stack.old.nacks }
+{
+    stack.frames.push(Frame::Rest(next))?;
+    stack.frames.push(frame)?;
+    Ok(Step::On(Now::Back))
 }
 
 /// Runs the first statement at a place, or begins it.
@@ -72,16 +86,8 @@ pub(crate) fn run(
             }
             Err(fault) => Ok(Step::To(Stop::Faulted(fault))),
         },
-        Stmt::Loop(times, _) => {
-            stack.frames.push(Frame::Rest(place.next))?;
-            stack.frames.push(Frame::Times(*times, place.first))?;
-            Ok(Step::On(Now::Back))
-        }
-        Stmt::Forever(_) => {
-            stack.frames.push(Frame::Rest(place.next))?;
-            stack.frames.push(Frame::Endless(place.first))?;
-            Ok(Step::On(Now::Back))
-        }
+        Stmt::Loop(times, _) => turns(stack, place.next, Frame::Times(*times, place.first)),
+        Stmt::Forever(_) => turns(stack, place.next, Frame::Endless(place.first)),
         Stmt::End => Ok(Step::To(Stop::Ended)),
         Stmt::Spawn(process) => {
             memory.spawn(*process)?;

@@ -1,12 +1,14 @@
-use Rattle.std.proofs.Common.{◌∙◌, Ok, sym, ap, arith}
+use Rattle.std.proofs.Common.{◌∙◌, ◌∷◌, ◌++◌, [], Ok, refl, sym, ap, subst, arith}
 use Rattle.script_tree.specs.Trees.{Runs, block_of, stmt_of, test_of}
-use Rattle.thread.specs.declared.stack.Frame.TheVariants.{Times, Endless}
+use Rattle.thread.specs.declared.stack.Frame.TheVariants.{Rest, Times, Endless}
+use Rattle.thread.specs.declared.stack.Now.TheVariants.{At}
 use Rattle.thread.specs.After.{Goes}
-use Rattle.thread.specs.Reaches.{event_reach}
-use Rattle.thread.specs.Stacks.{frames_on, lists_of, state_of}
+use Rattle.thread.specs.Fitting.{FramesFit, StepFits}
+use Rattle.thread.specs.Reaches.{Falls, event_reach, now_reach}
+use Rattle.thread.specs.Stacks.{frames_on, lists_of, state_of, step_on}
 use Rattle.thread.specs.Values.{test_value}
 use Rattle.thread.proofs.Stacking.{at_there, frame_put, has_sync, leads_at, sync_is}
-use Rattle.thread.proofs.Statements.{step_does, branch_does, branch_falls, branch_false, branch_fits, branch_true, endless_on, loop_does, loop_steps, next_there, sync_does, sync_falls, sync_fits, times_on}
+use Rattle.thread.proofs.Statements.{step_does, branch_does, branch_falls, branch_false, branch_fits, branch_true, endless_on, if_both, lists_same, loop_does, loop_steps, next_there, sync_does, sync_falls, sync_fits, times_on}
 use Rattle.thread.proofs.statement.run.Goals as goal
 
 pub returns-in-Ok-clause-fits : goal.returns-in-Ok-clause-fits
@@ -102,67 +104,101 @@ returns-in_ok-push-in-Ok-false-clause-fits c =
     let is = c.in_ok-push-in-Ok-false.ensures.items in
     (at_there c.args.code.now p.second _ led, branch_fits c.args.code.now c.args.at p _ rest c.requires.linked c.place_at-place.ensures runs c.push-in-Ok-false.new.self.items c.args.stack.now.frames.items (lists_of c.args.stack.now) is c.requires.fits.1)
 
-pub returns-in_ok-push-in-Loop-2-clause-does : goal.returns-in_ok-push-in-Loop-2-clause-does
-returns-in_ok-push-in-Loop-2-clause-does c = λ rs.
+pub returns-in-Loop-clause-does : goal.returns-in-Loop-clause-does
+returns-in-Loop-clause-does c =
     let p = c.place_at-place.result.now in
     let rest = block_of c.in-Then.field-1.value in
     let runs = ap block_of (sym c.deref.ensures ∙ c.in-Then.is) ∙ ap (λ st. Runs (stmt_of st) (block_of c.in-Then.field-1.value)) c.in-Loop.is in
+    let old = c.args.stack.now.frames.items in
+    let put = old ++ Rest p.next ∷ [] in
     let has = (leads_at c.args.code.now c.args.at p _ rest c.requires.linked c.place_at-place.ensures runs).1 in
-    let is = c.in_ok-push-in-Loop.ensures.items in
-    let put = c.in_ok-push-in-Loop-2.ensures.items in
+    let e = c.turns.ensures in
+    let news = c.turns.new.stack in
+    if_both c.turns.result _ _ _ (λ step begins frames. λ rs.
     let s = state_of c.args.memory.now rs in
-    loop_does c.args.code.now c.args.at p _ rest c.requires.linked c.place_at-place.ensures runs c.push-in-Loop.new.self.items c.args.stack.now.frames.items (lists_of c.args.stack.now) is c.push-in-Loop-2.new.self.items (Times c.in-Loop.times p.first) put s (λ below. times_on c.args.code.now p.first _ _ _ has below (lists_of c.args.stack.now) s c.in-Loop.times)
+    ap (λ z. step_on c.args.code.now news z s) begins
+    ∙ ap (λ l. frames_on c.args.code.now news.frames.items l s) (lists_same news c.args.stack.now e.offers e.nacks)
+    ∙ loop_does c.args.code.now c.args.at p _ rest c.requires.linked c.place_at-place.ensures runs put old (lists_of c.args.stack.now) refl news.frames.items (Times c.in-Loop.times p.first) frames s (λ below. times_on c.args.code.now p.first _ _ _ has below (lists_of c.args.stack.now) s c.in-Loop.times))
+    e.begins e.frames
 
-pub returns-in_ok-push-in-Loop-2-clause-falls : goal.returns-in_ok-push-in-Loop-2-clause-falls
-returns-in_ok-push-in-Loop-2-clause-falls c =
+pub returns-in-Loop-clause-falls : goal.returns-in-Loop-clause-falls
+returns-in-Loop-clause-falls c =
     let p = c.place_at-place.result.now in
     let rest = block_of c.in-Then.field-1.value in
     let runs = ap block_of (sym c.deref.ensures ∙ c.in-Then.is) ∙ ap (λ st. Runs (stmt_of st) (block_of c.in-Then.field-1.value)) c.in-Loop.is in
+    let old = c.args.stack.now.frames.items in
+    let put = old ++ Rest p.next ∷ [] in
     let has = (leads_at c.args.code.now c.args.at p _ rest c.requires.linked c.place_at-place.ensures runs).1 in
-    let is = c.in_ok-push-in-Loop.ensures.items in
-    let put = c.in_ok-push-in-Loop-2.ensures.items in
-    loop_steps c.args.code.now c.args.at p _ rest c.requires.linked c.place_at-place.ensures runs c.push-in-Loop.new.self.items c.args.stack.now.frames.items (lists_of c.args.stack.now) is c.push-in-Loop-2.new.self.items (Times c.in-Loop.times p.first) put (λ r. omega (arith, ap (λ t. event_reach t.event) (sync_is c.args.code.now p.first _ _ _ has)))
+    let e = c.turns.ensures in
+    let news = c.turns.new.stack in
+    if_both c.turns.result _ _ _ (λ step begins frames.
+    subst (λ z. Falls c.args.code.now (now_reach c.args.code.now c.args.stack.now (At c.args.at)) news z) (sym begins)
+    (loop_steps c.args.code.now c.args.at p _ rest c.requires.linked c.place_at-place.ensures runs put old (lists_of c.args.stack.now) refl news.frames.items (Times c.in-Loop.times p.first) frames (λ r. omega (arith, ap (λ t. event_reach t.event) (sync_is c.args.code.now p.first _ _ _ has)))))
+    e.begins e.frames
 
-pub returns-in_ok-push-in-Loop-2-clause-fits : goal.returns-in_ok-push-in-Loop-2-clause-fits
-returns-in_ok-push-in-Loop-2-clause-fits c =
+pub returns-in-Loop-clause-fits : goal.returns-in-Loop-clause-fits
+returns-in-Loop-clause-fits c =
     let p = c.place_at-place.result.now in
     let rest = block_of c.in-Then.field-1.value in
     let runs = ap block_of (sym c.deref.ensures ∙ c.in-Then.is) ∙ ap (λ st. Runs (stmt_of st) (block_of c.in-Then.field-1.value)) c.in-Loop.is in
+    let old = c.args.stack.now.frames.items in
+    let put = old ++ Rest p.next ∷ [] in
     let has = (leads_at c.args.code.now c.args.at p _ rest c.requires.linked c.place_at-place.ensures runs).1 in
-    let is = c.in_ok-push-in-Loop.ensures.items in
-    let put = c.in_ok-push-in-Loop-2.ensures.items in
-    frame_put c.args.code.now c.push-in-Loop-2.new.self.items c.push-in-Loop.new.self.items (Times c.in-Loop.times p.first) (lists_of c.args.stack.now) put (has_sync c.args.code.now p.first _ _ _ has, branch_fits c.args.code.now c.args.at p _ rest c.requires.linked c.place_at-place.ensures runs c.push-in-Loop.new.self.items c.args.stack.now.frames.items (lists_of c.args.stack.now) is c.requires.fits.1)
+    let e = c.turns.ensures in
+    let news = c.turns.new.stack in
+    if_both c.turns.result _ _ _ (λ step begins frames.
+    subst (λ z. StepFits c.args.code.now news z) (sym begins)
+    (subst (λ l. FramesFit c.args.code.now news.frames.items l) (sym (lists_same news c.args.stack.now e.offers e.nacks))
+    (frame_put c.args.code.now news.frames.items put (Times c.in-Loop.times p.first) (lists_of c.args.stack.now) frames (has_sync c.args.code.now p.first _ _ _ has, branch_fits c.args.code.now c.args.at p _ rest c.requires.linked c.place_at-place.ensures runs put old (lists_of c.args.stack.now) refl c.requires.fits.1))))
+    e.begins e.frames
 
-pub returns-in_ok-push-in-Forever-2-clause-does : goal.returns-in_ok-push-in-Forever-2-clause-does
-returns-in_ok-push-in-Forever-2-clause-does c = λ rs.
+pub returns-in-Forever-clause-does : goal.returns-in-Forever-clause-does
+returns-in-Forever-clause-does c =
     let p = c.place_at-place.result.now in
     let rest = block_of c.in-Then.field-1.value in
     let runs = ap block_of (sym c.deref.ensures ∙ c.in-Then.is) ∙ ap (λ st. Runs (stmt_of st) (block_of c.in-Then.field-1.value)) c.in-Forever.is in
+    let old = c.args.stack.now.frames.items in
+    let put = old ++ Rest p.next ∷ [] in
     let has = (leads_at c.args.code.now c.args.at p _ rest c.requires.linked c.place_at-place.ensures runs).1 in
-    let is = c.in_ok-push-in-Forever.ensures.items in
-    let put = c.in_ok-push-in-Forever-2.ensures.items in
+    let e = c.turns-in-Forever.ensures in
+    let news = c.turns-in-Forever.new.stack in
+    if_both c.turns-in-Forever.result _ _ _ (λ step begins frames. λ rs.
     let s = state_of c.args.memory.now rs in
-    loop_does c.args.code.now c.args.at p _ rest c.requires.linked c.place_at-place.ensures runs c.push-in-Forever.new.self.items c.args.stack.now.frames.items (lists_of c.args.stack.now) is c.push-in-Forever-2.new.self.items (Endless p.first) put s (λ below. endless_on c.args.code.now p.first _ _ _ has below (lists_of c.args.stack.now) s)
+    ap (λ z. step_on c.args.code.now news z s) begins
+    ∙ ap (λ l. frames_on c.args.code.now news.frames.items l s) (lists_same news c.args.stack.now e.offers e.nacks)
+    ∙ loop_does c.args.code.now c.args.at p _ rest c.requires.linked c.place_at-place.ensures runs put old (lists_of c.args.stack.now) refl news.frames.items (Endless p.first) frames s (λ below. endless_on c.args.code.now p.first _ _ _ has below (lists_of c.args.stack.now) s))
+    e.begins e.frames
 
-pub returns-in_ok-push-in-Forever-2-clause-falls : goal.returns-in_ok-push-in-Forever-2-clause-falls
-returns-in_ok-push-in-Forever-2-clause-falls c =
+pub returns-in-Forever-clause-falls : goal.returns-in-Forever-clause-falls
+returns-in-Forever-clause-falls c =
     let p = c.place_at-place.result.now in
     let rest = block_of c.in-Then.field-1.value in
     let runs = ap block_of (sym c.deref.ensures ∙ c.in-Then.is) ∙ ap (λ st. Runs (stmt_of st) (block_of c.in-Then.field-1.value)) c.in-Forever.is in
+    let old = c.args.stack.now.frames.items in
+    let put = old ++ Rest p.next ∷ [] in
     let has = (leads_at c.args.code.now c.args.at p _ rest c.requires.linked c.place_at-place.ensures runs).1 in
-    let is = c.in_ok-push-in-Forever.ensures.items in
-    let put = c.in_ok-push-in-Forever-2.ensures.items in
-    loop_steps c.args.code.now c.args.at p _ rest c.requires.linked c.place_at-place.ensures runs c.push-in-Forever.new.self.items c.args.stack.now.frames.items (lists_of c.args.stack.now) is c.push-in-Forever-2.new.self.items (Endless p.first) put (λ r. omega (arith, ap (λ t. event_reach t.event) (sync_is c.args.code.now p.first _ _ _ has)))
+    let e = c.turns-in-Forever.ensures in
+    let news = c.turns-in-Forever.new.stack in
+    if_both c.turns-in-Forever.result _ _ _ (λ step begins frames.
+    subst (λ z. Falls c.args.code.now (now_reach c.args.code.now c.args.stack.now (At c.args.at)) news z) (sym begins)
+    (loop_steps c.args.code.now c.args.at p _ rest c.requires.linked c.place_at-place.ensures runs put old (lists_of c.args.stack.now) refl news.frames.items (Endless p.first) frames (λ r. omega (arith, ap (λ t. event_reach t.event) (sync_is c.args.code.now p.first _ _ _ has)))))
+    e.begins e.frames
 
-pub returns-in_ok-push-in-Forever-2-clause-fits : goal.returns-in_ok-push-in-Forever-2-clause-fits
-returns-in_ok-push-in-Forever-2-clause-fits c =
+pub returns-in-Forever-clause-fits : goal.returns-in-Forever-clause-fits
+returns-in-Forever-clause-fits c =
     let p = c.place_at-place.result.now in
     let rest = block_of c.in-Then.field-1.value in
     let runs = ap block_of (sym c.deref.ensures ∙ c.in-Then.is) ∙ ap (λ st. Runs (stmt_of st) (block_of c.in-Then.field-1.value)) c.in-Forever.is in
+    let old = c.args.stack.now.frames.items in
+    let put = old ++ Rest p.next ∷ [] in
     let has = (leads_at c.args.code.now c.args.at p _ rest c.requires.linked c.place_at-place.ensures runs).1 in
-    let is = c.in_ok-push-in-Forever.ensures.items in
-    let put = c.in_ok-push-in-Forever-2.ensures.items in
-    frame_put c.args.code.now c.push-in-Forever-2.new.self.items c.push-in-Forever.new.self.items (Endless p.first) (lists_of c.args.stack.now) put (has_sync c.args.code.now p.first _ _ _ has, branch_fits c.args.code.now c.args.at p _ rest c.requires.linked c.place_at-place.ensures runs c.push-in-Forever.new.self.items c.args.stack.now.frames.items (lists_of c.args.stack.now) is c.requires.fits.1)
+    let e = c.turns-in-Forever.ensures in
+    let news = c.turns-in-Forever.new.stack in
+    if_both c.turns-in-Forever.result _ _ _ (λ step begins frames.
+    subst (λ z. StepFits c.args.code.now news z) (sym begins)
+    (subst (λ l. FramesFit c.args.code.now news.frames.items l) (sym (lists_same news c.args.stack.now e.offers e.nacks))
+    (frame_put c.args.code.now news.frames.items put (Endless p.first) (lists_of c.args.stack.now) frames (has_sync c.args.code.now p.first _ _ _ has, branch_fits c.args.code.now c.args.at p _ rest c.requires.linked c.place_at-place.ensures runs put old (lists_of c.args.stack.now) refl c.requires.fits.1))))
+    e.begins e.frames
 
 pub returns-in_ok-spawn-in-Spawn-clause-does : goal.returns-in_ok-spawn-in-Spawn-clause-does
 returns-in_ok-spawn-in-Spawn-clause-does c = λ rs.
