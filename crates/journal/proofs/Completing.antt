@@ -25,8 +25,8 @@ use Rattle.journal.specs.Records.{IsCompletion, RefusesLedger}
 tells-ends : (ps : List Proc) (rows : ℕ) (journal : List Commit) (s : State) (ends : List End) (outputs : List (List Atom)) → StandsAfter ps rows journal s → EndsOf s ends → OutputsOf s outputs →
     TellsEnds ps rows (config_of journal) ends outputs
 tells-ends ps rows journal s ends outputs stands ended printed = record {
-  ends_count = ended.count ∙ stands.strands.count;
-  outputs_count = printed.count ∙ stands.strands.count;
+  ends_count = ended.count ∙ stands.strands.stands.count;
+  outputs_count = printed.count ∙ stands.strands.stands.count;
   each = λ t end told at_end at_output.
       let one = ended.each t end at_end ps rows journal stands in
       let two = printed.each t told at_output ps rows journal stands in

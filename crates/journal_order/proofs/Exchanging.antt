@@ -5,9 +5,8 @@ use Rattle.protocol_values.specs.declared.Commit.{Commit}
 use Rattle.protocol_values.specs.Commits.{stamp_of}
 use Rattle.journal_replay.specs.Runs.{Config, CountsFor, HasThread, IsGreatest, Follows, applied, config_of}
 use Rattle.journal_replay.proofs.Greatest.{more, in-more, last-more, more-cases}
-use Rattle.journal_replay.proofs.Standing.{config_of-more}
+use Rattle.journal_replay.proofs.Standing.{config_of-more, counts}
 use Rattle.journal_order.proofs.Runs.{RunsOn}
-use Rattle.journal_order.proofs.Stamps.{counts}
 use Rattle.journal_order.proofs.Swapping.{follows-at, at-follows, uncounted, second-first, first-second, commute}
 
 -- the same commits in whatever order, which lead to the same configuration
@@ -64,7 +63,7 @@ swap ps rows es c d f g le =
     let one = follows-at ps rows es config c refl f in
     let two = follows-at ps rows (more es c) (applied config c) d (config_of-more es c) g in
     let none = uncounted ps rows es (applied config c) c d two le in
-    let apart : (t : ℕ) → HasThread c t → HasThread d t → ⊥ = λ t h k. none (counts ps (applied config c) c d t h k) in
+    let apart : (t : ℕ) → HasThread c t → HasThread d t → ⊥ = λ t h k. none (counts ps (applied config c) d c t k (inl h)) in
     let earlier = second-first ps rows config es c d one two none in
     let later = first-second ps rows config es c d one earlier.legal apart in
     record {

@@ -7,6 +7,7 @@ use Rattle.std.proofs.lemmas.Option.{none-some, same_Some, slice_get-get_or, sli
 use Rattle.event.specs.Tree.{Tree, BaseEvent, bases, mask, offer_of, offers, scope_nacks}
 use Rattle.event.proofs.TreeLemmas.{mask-bits}
 use Rattle.script_tree.specs.Processes.{Proc}
+use Rattle.script_tree.specs.Spawning.{spawner}
 use Rattle.thread.specs.After.{Chosen, State, Outcome, Goes, Offers as OffersTree, Finishes, Fails, Strays, after}
 use Rattle.protocol_values.specs.declared.Base.{Base}
 use Rattle.protocol_values.specs.declared.Base.TheVariants.{Send, Recv, Always, OnNack}
@@ -23,20 +24,20 @@ use Rattle.protocol_values.specs.declared.Row.{Row}
 use Rattle.protocol_values.specs.Commits.{stamp_of}
 use Rattle.protocol_values.specs.Scopes.{has_scope}
 use Rattle.protocol.specs.Ledgers as ledgers
-use Rattle.protocol.specs.Ledgers.{Ledger, Entry, HasCommit, Involves, IsEnabled, IsLawful, Takes, binding_in, commits_in, entry_in, has_row, joined_in, no_entry, offer_in}
+use Rattle.protocol.specs.Ledgers.{Ledger, HasCommit, Involves, IsEnabled, IsLawful, Takes, binding_in, commits_in, has_row, joined_in, no_entry, offer_in}
 use Rattle.protocol.specs.Tables.{number_of}
 use Rattle.protocol.proofs.CommitLemmas.{commit_members}
 use Rattle.protocol.proofs.Ordering.{causal_ledger}
 use Rattle.protocol.proofs.Results.{gift, gives-involves, one-list, one-result}
-use Rattle.journal_replay.specs.Runs.{CausedBy, Config, CountsFor, Follows, HasRow, HasThread, IsCaused, IsFiredAt, IsGreatest, IsLegal, IsOffering, IsRow, IsRun, MayTake, applied, config_of}
+use Rattle.journal_replay.specs.Runs.{CausedBy, Config, CountsFor, CountsOf, Follows, HasRow, HasThread, IsCaused, IsFiredAt, IsGreatest, IsLegal, IsOffering, IsRow, IsRun, MayTake, applied, config_of}
+use Rattle.journal_replay.specs.Starting.{AtOnce, CountsForStart, InRow, InStart}
 use Rattle.journal_replay.proofs.Greatest.{in-more, last-more, more, more-cases}
 use Rattle.journal_replay.proofs.Lists.{slice_get-first, slice_get-middle, slice_get-more}
-use Rattle.journal_replay.proofs.Standing.{config_of-more}
+use Rattle.journal_replay.proofs.Standing.{config_of-more, counts, row-thread}
 use Rattle.journal_order.specs.Laws.{IsOrderOf}
 use Rattle.protocol.specs.Standing.{AreResults, Gives, OffersAs, binding_of}
 use Rattle.journal_order.specs.Ledgers.{IsLedgerOf, LedgerIsRun, ProcessOffers}
 use Rattle.journal_order.proofs.Runs.{RunsOn, get-take, run-whole}
-use Rattle.journal_order.proofs.Stamps.{counts}
 use Rattle.journal_order.proofs.Swapping.{applied-other, grows, has-or-not}
 
 abbrev row : ℕ → ℕ → Row
@@ -64,7 +65,7 @@ involves-row (Pair sender receiver chan msg stamp) t g (n, inr e) = inr (is-row 
 involves-row (Alone at why stamp) t g (n, e) = is-row at t g n e
 
 involves-thread : (c : Commit) (t g : ℕ) → Involves c (row t g) → HasThread c t
-involves-thread c t g h = Rattle.journal_replay.proofs.Standing.row-thread c t g (involves-row c t g h)
+involves-thread c t g h = row-thread c t g (involves-row c t g h)
 
 -- the base event of an offer
 record OfferedBase (bs : List BaseEvent) (n : ℕ) (o : Offer) : Type 0 where
@@ -95,6 +96,11 @@ one-event ps t xs ys d e same one two =
     let both : after one.process.body (length one.process.variables) t xs ≡ after two.process.body (length two.process.variables) t ys =
     λ i. after ((process i).body) (length ((process i).variables)) t (same i) in
     ap (λ (o : Outcome State). tree-in o d) (sym one.offers ∙ both ∙ two.offers)
+
+-- nothing counts for the start of a thread that no text spawns
+no-start : (ps : List Proc) (config : Config) (d : Commit) (t : ℕ) → spawner ps t ≡ None → CountsForStart ps config d t → ⊥
+no-start ps config d t none (InRow s n g by at below has) = none-some s (sym none ∙ by)
+no-start ps config d t none (InStart s by counts) = none-some s (sym none ∙ by)
 
 -- A LEDGER has what it tells of its own rows alone
 in-table : (l : Ledger) (r : Row) → has_row l r ≡ true → (r.thread < l.threads) × (r.sync < l.rows)
@@ -171,13 +177,16 @@ module _ (ps : List Proc) (rows : ℕ) (l : Ledger) (law : IsLawful l) (of : IsL
     can-take at b h next =
         let off = of at.0 at.1 h.0 h.1 in
         let base = offered-base (bases off.standing.event) at.1 h.0 (shown at.0 off at.1 h.0 h.1) in record {
-          few = omega (arith, next, offer-inside l at.0 at.1 h.0 h.1, enough);
-          next = next;
-          event = off.standing.event;
-          offered = subst (λ (xs : List Chosen). IsOffering ps at.0.thread xs off.standing.event) (now at.0 off next) off.standing.offered;
-          base = base.base;
-          is = base.there;
-          same = ap (λ (o : Offer). o.base) base.is ∙ h.2;
+          started = AtOnce off.standing.at_once;
+          can = record {
+            few = omega (arith, next, offer-inside l at.0 at.1 h.0 h.1, enough);
+            next = next;
+            event = off.standing.event;
+            offered = subst (λ (xs : List Chosen). IsOffering ps at.0.thread xs off.standing.event) (now at.0 off next) off.standing.offered;
+            base = base.base;
+            is = base.there;
+            same = ap (λ (o : Offer). o.base) base.is ∙ h.2;
+          };
         }
 
     -- a nack that the ledger calls enabled is fired
@@ -275,20 +284,33 @@ module _ (ps : List Proc) (rows : ℕ) (l : Ledger) (law : IsLawful l) (of : IsL
           let low = k.inside d t h.0 there h.1 in
           inl (t, g.0, h.0, omega (arith, low, next-row t g.0 g.1), h.1, g.1)
 
-      enables : (at : Row × ℕ) (why : Cause) (stamp : ℕ) (d : Commit) → c ≡ Alone at why stamp → Contains es d → CausedBy ps (config_of es) why d → ledgers.CountsFor (binding_in l) d c
-      enables at (cause.Always m) stamp d is there h = absurd h
-      enables at (cause.Nack n) stamp d is there h =
+      -- no commit counts for the start of a thread of this one, for no text spawns its process
+      at-once : (t : ℕ) → HasThread c t → spawner ps t ≡ None
+      at-once t mine =
+          let g = thread-involves c t mine in
+          let offer = offered-by c (row t g.0) g.1.0 in_c g.1.1 in
+          (of (row t g.0) g.1.0 offer.0 offer.1).standing.at_once
+
+      of-counts : (d : Commit) (t : ℕ) → Contains es d → CountsOf ps (config_of es) t d → HasThread c t → ledgers.CountsFor (binding_in l) d c
+      of-counts d t there h mine = ⊎_elim
+          (λ has. earlier-counts d t there has mine)
+          (λ start. absurd (no-start ps (config_of es) d t (at-once t mine) start))
+          h
+
+      enables : (at : Row × ℕ) (why : Cause) (stamp : ℕ) (d : Commit) → c ≡ Alone at why stamp → ledgers.IsCaused (joined_in l) (offer_in l) (binding_in l) at why → Contains es d → CausedBy ps (config_of es) why d → ledgers.CountsFor (binding_in l) d c
+      enables at (cause.Always m) stamp d is fits there h = absurd h
+      enables at (cause.Nack n) stamp d is fits there h =
           let has = row-involves d n.thread h.0 h.2 in
           let b = bound-where n h.0 d there has h.1 in
           subst (λ (z : Commit). ledgers.CountsFor (binding_in l) d z) (sym is)
           (inr (b.0, b.1, subst (λ (g : ℕ). Involves d (row n.thread g)) (sym b.2) has))
-      enables at (cause.End t) stamp d is there h = absurd h
+      enables at (cause.End t) stamp d is fits there h = absurd fits
 
       counted-as : (e d : Commit) → c ≡ e → Contains es d → CountsFor ps (config_of es) e d → ledgers.CountsFor (binding_in l) d c
-      counted-as (Pair sender receiver chan msg stamp) d is there (inl h) = earlier-counts d sender.0.thread there h (subst (λ (z : Commit). HasThread z sender.0.thread) (sym is) (inl refl))
-      counted-as (Pair sender receiver chan msg stamp) d is there (inr h) = earlier-counts d receiver.0.thread there h (subst (λ (z : Commit). HasThread z receiver.0.thread) (sym is) (inr refl))
-      counted-as (Alone at why stamp) d is there (inl h) = earlier-counts d at.0.thread there h (subst (λ (z : Commit). HasThread z at.0.thread) (sym is) refl)
-      counted-as (Alone at why stamp) d is there (inr h) = enables at why stamp d is there h
+      counted-as (Pair sender receiver chan msg stamp) d is there (inl h) = of-counts d sender.0.thread there h (subst (λ (z : Commit). HasThread z sender.0.thread) (sym is) (inl refl))
+      counted-as (Pair sender receiver chan msg stamp) d is there (inr h) = of-counts d receiver.0.thread there h (subst (λ (z : Commit). HasThread z receiver.0.thread) (sym is) (inr refl))
+      counted-as (Alone at why stamp) d is there (inl h) = of-counts d at.0.thread there h (subst (λ (z : Commit). HasThread z at.0.thread) (sym is) refl)
+      counted-as (Alone at why stamp) d is there (inr h) = enables at why stamp d is (subst (ledgers.Fits (joined_in l) (offer_in l) (binding_in l)) is (law.fits c in_c)) there h
 
       fires : (at : Row × ℕ) (why : Cause) (d : Commit) → ledgers.IsCaused (joined_in l) (offer_in l) (binding_in l) at why → Contains es d → ledgers.CausedBy (binding_in l) d why → CausedBy ps (config_of es) why d
       fires at (cause.Always m) d h there by = absurd by
@@ -302,7 +324,7 @@ module _ (ps : List Proc) (rows : ℕ) (l : Ledger) (law : IsLawful l) (of : IsL
       fires at (cause.End t) d h there by = absurd h
 
       counting-as : (e d : Commit) → c ≡ e → Contains es d → ledgers.CountsFor (binding_in l) d e → CountsFor ps (config_of es) e d
-      counting-as e d is there (inl (t, g, h, lt, has_d, has_e)) = counts ps (config_of es) d e t (involves-thread d t h has_d) (involves-thread e t g has_e)
+      counting-as e d is there (inl (t, g, h, lt, has_d, has_e)) = counts ps (config_of es) e d t (involves-thread e t g has_e) (inl (involves-thread d t h has_d))
       counting-as (Pair sender receiver chan msg stamp) d is there (inr h) = absurd h
       counting-as (Alone at why stamp) d is there (inr h) = inr (fires at why d (subst (ledgers.Fits (joined_in l) (offer_in l) (binding_in l)) is (law.fits c in_c)) there h)
 

@@ -1,4 +1,5 @@
 pub mod Stamps
+pub mod Starts
 pub mod Nacks
 pub mod Swapping
 pub mod Keys

@@ -7,7 +7,6 @@ use Rattle.std.proofs.lemmas.Option.{get_or_from_slice_get, same_Some, slice_get
 use Rattle.std.specs.Prelude.{⊤}
 use Rattle.event.specs.Tree.{Tree, Single, Nothing, Or, Wrap, Scope, scope_nacks}
 use Rattle.script_tree.specs.Processes.{Proc}
-use Rattle.protocol_values.specs.declared.Atom.{Atom}
 use Rattle.thread.specs.After.{Chosen, Said, State, Outcome, Offers, after}
 use Rattle.thread.proofs.Nacks.{Without, Both, Quiet, after_both}
 use Rattle.journal_replay.specs.Runs.{FiredAt, IsOffering}

@@ -13,10 +13,10 @@ use Rattle.protocol_values.specs.declared.Message.TheVariants.{Empty}
 use Rattle.journal_replay.specs.Runs.{Config, HasRow, HasThread, IsLegal, IsRun, applied, with_result, message_by, config_from, config_of, no_results}
 use Rattle.journal_replay.proofs.Greatest.{more}
 use Rattle.journal_replay.proofs.Lists.{slice_get-middle}
-use Rattle.journal_replay.proofs.Standing.{config_from-append, config_of-more, result-at, result-other, row-thread}
+use Rattle.journal_replay.proofs.Standing.{config_from-append, config_of-more, result-at, result-other, row-thread, rows-are}
 use Rattle.journal_order.specs.Laws.{OneRowOneCommit}
 use Rattle.journal_order.proofs.Runs.{RunsOn}
-use Rattle.journal_order.proofs.Swapping.{grows, row-within}
+use Rattle.journal_order.proofs.Swapping.{grows}
 
 -- these results with others behind them
 abbrev pub Extends : List Chosen → List Chosen → Type 0
@@ -64,7 +64,7 @@ got ps rows config final (Pair sender receiver chan msg stamp) legal later =
     let is : applied config (Pair sender receiver chan msg stamp) u ≡ config u ++ (receiver.1, msg) ∷ [] =
     result-at u u (receiver.1, msg) (with_result s (sender.1, Empty) config) refl
     ∙ ap (λ (rs : List Chosen). rs ++ (receiver.1, msg) ∷ []) (result-other s u (sender.1, Empty) config (λ e. legal.0 (sym e))) in
-    result-stays (config u) (final u) (receiver.1, msg) receiver.0.sync legal.2.next (subst (λ (rs : List Chosen). Extends rs (final u)) is (later u))
+    result-stays (config u) (final u) (receiver.1, msg) receiver.0.sync legal.2.can.next (subst (λ (rs : List Chosen). Extends rs (final u)) is (later u))
 got ps rows config final (Alone at why stamp) legal later = tt
 
 pub got-each : (ps : List Proc) (rows : ℕ) (es cs : List Commit) → RunsOn ps rows es cs → AllByRecursion (Got (config_from (config_of es) cs)) cs
@@ -104,8 +104,8 @@ rows-rise ps rows journal run i j c d t g h at_i at_j lt has_g has_h =
     let k = run j d at_j in
     let w = before-later journal i j c at_i lt (omega (arith, slice_get_within journal j d at_j)) in
     let more_results = longer ps rows (take i journal) w.0 c t f.legal (row-thread c t g has_g) in
-    let first : g ≡ length (config_of (take i journal) t) = row-within ps rows (config_of (take i journal)) c t g f.legal has_g in
-    let last : h ≡ length (config_of (take j journal) t) = row-within ps rows (config_of (take j journal)) d t h k.legal has_h in
+    let first : g ≡ length (config_of (take i journal) t) = (rows-are ps rows (config_of (take i journal)) c f.legal t g has_g).0 in
+    let last : h ≡ length (config_of (take j journal) t) = (rows-are ps rows (config_of (take j journal)) d k.legal t h has_h).0 in
     omega (arith, more_results, first, last, ap (λ (cs : List Commit). length (config_of cs t)) w.1)
 
 pub one-row : OneRowOneCommit

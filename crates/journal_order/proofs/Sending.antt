@@ -7,7 +7,7 @@ use Rattle.event.specs.Tree.{BaseEvent}
 use Rattle.script_tree.specs.Processes.{Proc}
 use Rattle.thread.specs.After.{Chosen, State, Outcome}
 use Rattle.protocol_values.specs.declared.Base.{Base}
-use Rattle.protocol_values.specs.declared.Base.TheVariants.{Send, Recv, Always, OnNack}
+use Rattle.protocol_values.specs.declared.Base.TheVariants.{Send, Recv, Always, OnNack, OnEnd}
 use Rattle.protocol_values.specs.declared.Cause.{Cause}
 use Rattle.protocol_values.specs.declared.Cause.TheVariants as cause
 use Rattle.protocol_values.specs.declared.Commit.{Commit}
@@ -89,11 +89,11 @@ sends-pair ps rows chan config sender receiver c msg stamp t legal has =
     let commit = Pair sender receiver c msg stamp in
     ⊎_elim
     (λ e. subst (Sends ps chan config commit) e
-    (sends-by ps rows chan config commit sender (Send c msg) Empty legal.1
+    (sends-by ps rows chan config commit sender (Send c msg) Empty legal.1.can
     (result-other u s (receiver.1, msg) (with_result s (sender.1, Empty) config) legal.0 ∙ result-at s s (sender.1, Empty) config refl)
     (names-one chan sender receiver c msg stamp)))
     (λ e. subst (Sends ps chan config commit) e
-    (sends-by ps rows chan config commit receiver (Recv c) msg legal.2
+    (sends-by ps rows chan config commit receiver (Recv c) msg legal.2.can
     (result-at u u (receiver.1, msg) (with_result s (sender.1, Empty) config) refl
     ∙ ap (λ (rs : List Chosen). rs ++ (receiver.1, msg) ∷ []) (result-other s u (sender.1, Empty) config (λ same. legal.0 (sym same))))
     (sym (names-none u chan sender receiver c msg stamp legal.0))))
@@ -102,10 +102,11 @@ sends-pair ps rows chan config sender receiver c msg stamp t legal has =
 sends-alone : (ps : List Proc) (rows chan : ℕ) (config : Config) (at : Row × ℕ) (why : Cause) (stamp : ℕ) →
     IsLegal ps rows config (Alone at why stamp) → Sends ps chan config (Alone at why stamp) at.0.thread
 sends-alone ps rows chan config at (cause.Always m) stamp legal =
-    sends-by ps rows chan config (Alone at (cause.Always m) stamp) at (Always m) m legal (result-at at.0.thread at.0.thread (at.1, m) config refl) refl
+    sends-by ps rows chan config (Alone at (cause.Always m) stamp) at (Always m) m legal.can (result-at at.0.thread at.0.thread (at.1, m) config refl) refl
 sends-alone ps rows chan config at (cause.Nack n) stamp legal =
-    sends-by ps rows chan config (Alone at (cause.Nack n) stamp) at (OnNack n) Empty legal.0 (result-at at.0.thread at.0.thread (at.1, Empty) config refl) refl
-sends-alone ps rows chan config at (cause.End t) stamp legal = absurd legal
+    sends-by ps rows chan config (Alone at (cause.Nack n) stamp) at (OnNack n) Empty legal.0.can (result-at at.0.thread at.0.thread (at.1, Empty) config refl) refl
+sends-alone ps rows chan config at (cause.End t) stamp legal =
+    sends-by ps rows chan config (Alone at (cause.End t) stamp) at (OnEnd t) Empty legal.0.can (result-at at.0.thread at.0.thread (at.1, Empty) config refl) refl
 
 sends : (ps : List Proc) (rows chan : ℕ) (config : Config) (c : Commit) (t : ℕ) → IsLegal ps rows config c → Sends ps chan config c t
 sends ps rows chan config (Pair sender receiver c msg stamp) t legal = ⊎_elim

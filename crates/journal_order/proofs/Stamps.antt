@@ -1,20 +1,12 @@
 -- Stamps rise in each thread.
-use Rattle.std.proofs.Common.{◌≡◌, ℕ, ◌<◌, List, length, take, slice_get, Some, Contains, sym, ◌∙◌, subst, arith, inl, inr, ⊎_elim}
+use Rattle.std.proofs.Common.{◌≡◌, ℕ, ◌<◌, List, length, take, slice_get, Some, Contains, ◌∙◌, arith, inl, ⊎_elim}
 use Rattle.std.proofs.lemmas.Bool.{cases_order}
 use Rattle.std.proofs.lemmas.List.{length-take-le, get_or-take}
 use Rattle.std.proofs.lemmas.Option.{slice_get_within, get_or_from_slice_get}
-use Rattle.script_tree.specs.Processes.{Proc}
 use Rattle.protocol_values.specs.declared.Commit.{Commit}
-use Rattle.protocol_values.specs.declared.Commit.TheVariants.{Pair, Alone}
-use Rattle.journal_replay.specs.Runs.{Config, CountsFor, HasThread, config_of}
+use Rattle.journal_replay.specs.Runs.{config_of}
+use Rattle.journal_replay.proofs.Standing.{counts}
 use Rattle.journal_order.specs.Laws.{StampsRise, OneStampOneThread}
-
--- an earlier commit of one of its threads counts for a commit
-pub counts : (ps : List Proc) (config : Config) (c d : Commit) (t : ℕ) → HasThread c t → HasThread d t → CountsFor ps config d c
-counts ps config c (Pair sender receiver chan msg stamp) t h k = ⊎_elim
-    (λ e. inl (subst (HasThread c) (sym e) h))
-    (λ e. inr (subst (HasThread c) (sym e) h)) k
-counts ps config c (Alone at why stamp) t h k = inl (subst (HasThread c) (sym k) h)
 
 -- a commit with a smaller number stands in the commits before
 pub earlier : (journal : List Commit) (i j : ℕ) (c d : Commit) → slice_get journal i ≡ Some c → slice_get journal j ≡ Some d → i < j → Contains (take j journal) c
@@ -26,7 +18,7 @@ earlier journal i j c d at_i at_j lt =
 pub stamps-rise : StampsRise
 stamps-rise ps rows journal run i j c d t at_i at_j lt h k =
     let f = run j d at_j in
-    omega (arith, f.is.above c (earlier journal i j c d at_i at_j lt) (counts ps (config_of (take j journal)) c d t h k), f.stamp)
+    omega (arith, f.is.above c (earlier journal i j c d at_i at_j lt) (counts ps (config_of (take j journal)) d c t k (inl h)), f.stamp)
 
 pub one-stamp : OneStampOneThread
 one-stamp ps rows journal run i j c d t at_i at_j h k same = ⊎_elim

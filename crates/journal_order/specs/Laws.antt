@@ -6,7 +6,8 @@ use Rattle.thread.specs.After.{Chosen}
 use Rattle.protocol_values.specs.declared.Commit.{Commit}
 use Rattle.protocol_values.specs.Commits.{IsInOrder, stamp_of}
 use Rattle.protocol.specs.Ledgers.{Ledger, IsLawful, commits_in}
-use Rattle.journal_replay.specs.Runs.{HasRow, HasThread, IsOffering, IsRun, config_of}
+use Rattle.journal_replay.specs.Runs.{HasRow, HasThread, IsOffering, IsRun, Starts, config_of}
+use Rattle.journal_replay.specs.Starting.{CountsForStart}
 use Rattle.journal_order.specs.Meetings.{Meets}
 use Rattle.journal_order.specs.Messages.{named, received, sent}
 
@@ -25,6 +26,21 @@ OneStampOneThread =
     (ps : List Proc) (rows : ℕ) (journal : List Commit) → IsRun ps rows journal →
     (i j : ℕ) (c d : Commit) (t : ℕ) → slice_get journal i ≡ Some c → slice_get journal j ≡ Some d →
     HasThread c t → HasThread d t → stamp_of c ≡ stamp_of d → i ≡ j
+
+-- STARTS
+
+-- the threads of each commit have started by then
+abbrev pub EachStarted : Type 0
+EachStarted =
+    (ps : List Proc) (rows : ℕ) (journal : List Commit) → IsRun ps rows journal →
+    (i : ℕ) (c : Commit) (t : ℕ) → slice_get journal i ≡ Some c → HasThread c t → Starts ps (config_of (take i journal)) t
+
+-- and its stamp is above that of each earlier one that counts for the start of one of them
+abbrev pub AboveStarts : Type 0
+AboveStarts =
+    (ps : List Proc) (rows : ℕ) (journal : List Commit) → IsRun ps rows journal →
+    (i : ℕ) (c d : Commit) (t : ℕ) → slice_get journal i ≡ Some c → HasThread c t → Contains (take i journal) d →
+    CountsForStart ps (config_of (take i journal)) d t → stamp_of d < stamp_of c
 
 -- ROWS
 

@@ -1,7 +1,9 @@
--- Ledgers of processes: each row offers what its process offers after the results of the thread's earlier rows.
-use Rattle.std.specs.Prelude.{◌≡◌, ℕ, ◌≤◌, List}
+-- Ledgers of processes: each row offers what its process, which no text spawns, offers after the results of the thread's
+-- earlier rows.
+use Rattle.std.specs.Prelude.{◌≡◌, ℕ, ◌≤◌, List, None}
 use Rattle.event.specs.Tree.{Tree, offers, scope_nacks}
 use Rattle.script_tree.specs.Processes.{Proc}
+use Rattle.script_tree.specs.Spawning.{spawner}
 use Rattle.thread.specs.After.{Chosen}
 use Rattle.protocol_values.specs.declared.Commit.{Commit}
 use Rattle.protocol_values.specs.declared.Offer.{Offer}
@@ -15,6 +17,8 @@ use Rattle.journal_order.specs.Laws.{IsOrderOf}
 
 -- after these results the thread's process offers an event that makes these offers, with these nacks of its scopes
 pub record ProcessOffers (ps : List Proc) (t : ℕ) (results : List Chosen) (made : List Offer) (nacks : List ℕ) : Type 0 where
+  -- no text spawns the process
+  pub at_once : spawner ps t ≡ None
   pub event : Tree
   pub offered : IsOffering ps t results event
   pub are : offers event ≡ made

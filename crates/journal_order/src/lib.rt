@@ -1,13 +1,20 @@
 //! The order of a journal: laws of runs in sequential CML. No code runs here.
 #![tactic(auto)]
 
-ghost use Rattle.journal_order.specs.Laws.{EachMeets, HasOrder, NamedIsReceived, OneLedgerOrder, OneOrder, OneRowOneCommit, OneStampOneThread, OneSyncOneNack, OrderedIsRun, ReceivedIsSent, StampsRise};
+ghost use Rattle.journal_order.specs.Laws.{AboveStarts, EachMeets, EachStarted, HasOrder, NamedIsReceived, OneLedgerOrder, OneOrder, OneRowOneCommit, OneStampOneThread, OneSyncOneNack, OrderedIsRun, ReceivedIsSent, StampsRise};
 ghost use Rattle.journal_order.specs.Ledgers.{LedgerIsRun, ScheduleHasLedger, ScheduleIsRun};
 
 /// In a run the stamps of a thread's commits rise, so two commits of one stamp share no thread.
 pub fn stamp_laws()
     ensures rise { StampsRise }
     ensures one { OneStampOneThread }
+{}
+
+/// In a run the threads of each commit have started by then, and its stamp is above that of each earlier
+/// commit that counts for the start of one of them.
+pub fn start_law()
+    ensures started { EachStarted }
+    ensures above { AboveStarts }
 {}
 
 /// In a run each sync is in at most one commit.
@@ -23,7 +30,8 @@ pub fn nack_law()
 
 /// In a run each commit is a meeting of the syncs that it names: a pair is of two threads, of which one
 /// sent the message on the channel and the other received and got it; a sync that was committed alone took
-/// an always, or a nack whose own sync chose outside its scope.
+/// an always, or a nack whose own sync chose outside its scope, or waited for the end of a thread that has
+/// started and ended.
 pub fn meeting_law()
     ensures { EachMeets }
 {}
@@ -49,8 +57,8 @@ pub fn message_laws()
 {}
 
 /// Where each row of a lawful ledger offers what its process offers after the results of the thread's earlier
-/// rows, and the nacks of each such event's scopes, and no others, are bound to its row, the ledger's commits
-/// in order are a run of the processes.
+/// rows, no text spawns that process, and the nacks of each such event's scopes, and no others, are bound to
+/// the row, the ledger's commits in order are a run of the processes.
 pub fn ledger_run_law()
     ensures { LedgerIsRun }
 {}

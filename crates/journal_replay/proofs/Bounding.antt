@@ -1,5 +1,5 @@
 -- No stamp is above the number of all syncs that were made.
-use Rattle.std.proofs.Common.{◌≡◌, ℕ, ◌+◌, ◌*◌, ◌<◌, ◌≤◌, List, [], length, get_or, set, slice_get, Option, Some, None, refl, sym, ap, ◌∙◌, subst, arith, ⊎_elim}
+use Rattle.std.proofs.Common.{◌≡◌, ◌&&◌, ℕ, ◌+◌, ◌*◌, ◌<◌, ◌≤◌, List, [], length, get_or, set, slice_get, Option, Some, None, refl, sym, ap, ◌∙◌, subst, arith, ⊎_elim}
 use Rattle.std.proofs.lemmas.Bool.{cases_eq}
 use Rattle.std.proofs.lemmas.List.{length_push}
 use Rattle.std.proofs.lemmas.List.Sums.{sum_by-set, sum_by-le}
@@ -16,11 +16,12 @@ use Rattle.protocol_values.specs.declared.Row.{Row}
 use Rattle.protocol_values.specs.Scopes.{has_scope}
 use Rattle.journal_replay.specs.declared.strand.Strand.{Strand}
 use Rattle.journal_replay.specs.Runs.{message_by}
-use Rattle.journal_replay.specs.Standing.{CauseIsAt, Commits, Finds, Grows, MayBe, MayFollow, OneGrows, last_in, last_of}
+use Rattle.journal_replay.specs.Standing.{CauseIsAt, Commits, Finds, Grows, MayBe, MayFollow, NoneStarts, OneGrows, OneStarts, SomeStart, Start, Takes, end_stamp, ended_in, is_over, last_in, last_of}
 use Rattle.journal_replay.specs.Searching.{Bounded, HasRoom, total}
+use Rattle.journal_replay.proofs.Finding.{if-some}
 use Rattle.journal_replay.proofs.Firing.{decide}
 use Rattle.journal_replay.proofs.Listing.{found-of}
-use Rattle.journal_replay.proofs.Standing.{at-same, at-other}
+use Rattle.journal_replay.proofs.Standing.{at-same, at-other, due, started-now, started-other, started-same}
 
 abbrev syncs : Strand → ℕ
 syncs s = length s.machine.results
@@ -68,6 +69,47 @@ bounded-one rows t stamp r old new b w le few =
           (cases_eq u t);
     }
 
+-- a thread that starts makes no sync, and remembers a stamp that another remembers
+start-total : (t : ℕ) (old new : List Strand) → OneStarts t old new → total new ≡ total old
+start-total t old new w =
+    let within : t < length old = slice_get_within old t w.before w.was in
+    let here : get_or old t w.before ≡ w.before = get_or_from_slice_get old t w.before w.before w.was in
+    let sums = sum_by-set syncs old t (started-now t old new w) w.before within in
+    let total_is : total new ≡ total (set old t (started-now t old new w)) = ap (λ (xs : List Strand). total xs) w.is in
+    let same : syncs (get_or old t w.before) ≡ syncs w.before = ap syncs here in
+    omega (arith, sums, total_is, same)
+
+at-start : (t u : ℕ) (old new : List Strand) (s : Strand) (w : OneStarts t old new) → slice_get new u ≡ Some s → u ≡ t → started-now t old new w ≡ s
+at-start t u old new s w is e = same_Some (started-now t old new w) s (sym (started-same t old new w) ∙ ap (slice_get new) (sym e) ∙ is)
+
+bounded-start : (rows t : ℕ) (old new : List Strand) → Bounded rows old → OneStarts t old new → Bounded rows new
+bounded-start rows t old new b w =
+    let same = start-total t old new w in
+    let d = due t w.stamp old w.before w.was w.due in
+    let low : w.stamp ≤ total new = omega (arith, b.last d.from d.spawner d.there, d.last, same) in
+    record {
+      few = λ u s is. ⊎_elim
+          (λ e. subst (λ (x : Strand). syncs x ≤ rows) (at-start t u old new s w is e) (b.few t w.before w.was))
+          (λ ne. b.few u s (sym (started-other t u old new w ne) ∙ is))
+          (cases_eq u t);
+      last = λ u s is. ⊎_elim
+          (λ e. subst (λ (x : Strand). x.last ≤ total new) (at-start t u old new s w is e) low)
+          (λ ne. omega (arith, b.last u s (sym (started-other t u old new w ne) ∙ is), same))
+          (cases_eq u t);
+      fired = λ u k st s is known. ⊎_elim
+          (λ e. omega (arith, b.fired t k st w.before w.was (ap (λ (y : Strand). get_or y.fired k None) (at-start t u old new s w is e) ∙ known), same))
+          (λ ne. omega (arith, b.fired u k st s (sym (started-other t u old new w ne) ∙ is) known, same))
+          (cases_eq u t);
+    }
+
+starts-total : {old new : List Strand} → SomeStart old new → total new ≡ total old
+starts-total NoneStarts = refl
+starts-total (Start {old} {middle} {new} t first last) = start-total t middle new last ∙ starts-total first
+
+pub bounded-starts : (rows : ℕ) {old new : List Strand} → Bounded rows old → SomeStart old new → Bounded rows new
+bounded-starts rows b NoneStarts = b
+bounded-starts rows b (Start {old} {middle} {new} t first last) = bounded-start rows t middle new (bounded-starts rows b first) last
+
 -- WHAT IS FOUND IS WITHIN THE BOUNDS
 
 last-within : (rows : ℕ) (strands : List Strand) (t : ℕ) (o : Option Strand) → Bounded rows strands → slice_get strands t ≡ o → last_of o ≤ total strands
@@ -77,6 +119,12 @@ last-within rows strands t (Some s) b e = b.last t s e
 last-bound : (rows : ℕ) (strands : List Strand) (t : ℕ) → Bounded rows strands → last_in strands t ≤ total strands
 last-bound rows strands t b = last-within rows strands t (slice_get strands t) b refl
 
+ended-bound : (rows : ℕ) (strands : List Strand) (t stamp : ℕ) → Bounded rows strands → ended_in strands t ≡ Some stamp → stamp ≤ total strands
+ended-bound rows strands t stamp b e =
+    option_and_then_some end_stamp (slice_get strands t) stamp e (λ s there is.
+    let found = if-some (s.started && is_over s.turn) (Some s.last) stamp is in
+    omega (arith, b.last t s there, same_Some s.last stamp found.1))
+
 cause-bound : (rows t : ℕ) (strands : List Strand) (why : Cause) (below : ℕ) → Bounded rows strands → CauseIsAt strands (last_in strands t) why below → below ≤ total strands
 cause-bound rows t strands (cause.Always m) below b e = omega (arith, e, last-bound rows strands t b)
 cause-bound rows t strands (cause.Nack n) below b w =
@@ -84,7 +132,7 @@ cause-bound rows t strands (cause.Nack n) below b w =
     option_and_then_some (λ (s : Strand). get_or s.fired n.k None) (slice_get strands n.thread) w.0 w.1
     (λ s there is. b.fired n.thread n.k w.0 s there is) in
     omega (arith, w.2, fired, last-bound rows strands t b)
-cause-bound rows t strands (cause.End u) below b w = absurd w
+cause-bound rows t strands (cause.End u) below b w = omega (arith, w.2, ended-bound rows strands u w.0 b w.1, last-bound rows strands t b)
 
 pub below-bound : (rows : ℕ) (strands : List Strand) (c : Commit) (below : ℕ) → Bounded rows strands → MayFollow strands rows c below → below ≤ total strands
 below-bound rows strands (Pair sender receiver chan msg stamp) below b w =
@@ -95,8 +143,8 @@ few-found : (rows : ℕ) (strands : List Strand) (at : Row × ℕ) (b : Base) (s
 few-found rows strands at b s finds there =
     let f = found-of strands rows at b s finds there in omega (arith, f.sync, f.few)
 
-pub bounded-more : (rows : ℕ) (c : Commit) (old new : List Strand) → Bounded rows old → MayBe old rows c → Commits c old new → Bounded rows new
-bounded-more rows (Pair sender receiver chan msg stamp) old new b m w =
+bounded-taken : (rows : ℕ) (c : Commit) (old new : List Strand) → Bounded rows old → MayBe old rows c → Takes c old new → Bounded rows new
+bounded-taken rows (Pair sender receiver chan msg stamp) old new b m w =
     let le : stamp ≤ total old + 1 = omega (arith, m.stamp, below-bound rows old (Pair sender receiver chan msg stamp) m.below b m.may) in
     let t = sender.0.thread in
     let u = receiver.0.thread in
@@ -104,15 +152,21 @@ bounded-more rows (Pair sender receiver chan msg stamp) old new b m w =
     let was = sym (at-other t u stamp (sender.1, Empty) old w.0 w.1 (λ e. m.may.0 (sym e))) ∙ w.2.was in
     let count = more-total t stamp (sender.1, Empty) old w.0 w.1 in
     bounded-one rows u stamp (receiver.1, msg) w.0 new first w.2 (omega (arith, le, count)) (few-found rows old receiver _ w.2.before m.may.2 was)
-bounded-more rows (Alone at why stamp) old new b m w =
+bounded-taken rows (Alone at why stamp) old new b m w =
     let le : stamp ≤ total old + 1 = omega (arith, m.stamp, below-bound rows old (Alone at why stamp) m.below b m.may) in
     bounded-one rows at.0.thread stamp (at.1, message_by why) old new b w le (few-found rows old at _ w.before m.may.0 w.was)
 
+pub bounded-more : (rows : ℕ) (c : Commit) (old new : List Strand) → Bounded rows old → MayBe old rows c → Commits c old new → Bounded rows new
+bounded-more rows c old new b m w = bounded-starts rows (bounded-taken rows c old w.0 b m w.1) w.2.some
+
 -- each commit makes a sync more
-pub total-grows : (c : Commit) (old new : List Strand) → Commits c old new → total old < total new
-total-grows (Pair sender receiver chan msg stamp) old new w =
+taken-grows : (c : Commit) (old new : List Strand) → Takes c old new → total old < total new
+taken-grows (Pair sender receiver chan msg stamp) old new w =
     omega (arith, more-total sender.0.thread stamp (sender.1, Empty) old w.0 w.1, more-total receiver.0.thread stamp (receiver.1, msg) w.0 new w.2)
-total-grows (Alone at why stamp) old new w = omega (arith, more-total at.0.thread stamp (at.1, message_by why) old new w)
+taken-grows (Alone at why stamp) old new w = omega (arith, more-total at.0.thread stamp (at.1, message_by why) old new w)
+
+pub total-grows : (c : Commit) (old new : List Strand) → Commits c old new → total old < total new
+total-grows c old new w = omega (arith, taken-grows c old w.0 w.1, starts-total w.2.some)
 
 pub total-bound : (rows : ℕ) (strands : List Strand) → Bounded rows strands → total strands ≤ length strands * rows
 total-bound rows strands b = sum_by-le syncs rows strands (λ k d within. b.few k (get_or strands k d) (slice_get-get_or strands k d within))
@@ -128,6 +182,7 @@ room rows strands b few low =
           let le : stamp ≤ total strands = option_and_then_some (λ (s : Strand). get_or s.fired n.k None) (slice_get strands n.thread) stamp e
           (λ s there is. b.fired n.thread n.k stamp s there is) in
           omega (arith, le, most, product);
+      ended = λ t stamp e. omega (arith, ended-bound rows strands t stamp b e, most, product);
     }
 
 -- at the beginning

@@ -1,25 +1,25 @@
 -- What is kept of the threads' offers from one commit to the next.
-use Rattle.std.proofs.Common.{◌≡◌, ◌⊎◌, ℕ, ◌+◌, ◌-◌, ◌<◌, ◌≤◌, max, List, [], ◌∷◌, ◌++◌, length, take, get_or, set, slice_get, option_and_then, Option, Some, None, MatchOption, Contains, refl, sym, ap, ◌∙◌, subst, arith, inl, inr, ⊎_elim, get_or-set_same, get_or-set_other}
-use Rattle.std.proofs.lemmas.Bool.{cases_eq}
+use Rattle.std.proofs.Common.{◌≡◌, ◌⊎◌, Bool, true, false, cond, ℕ, ◌+◌, ◌-◌, ◌<◌, ◌≤◌, max, List, [], ◌∷◌, ◌++◌, length, take, get_or, set, slice_get, option_and_then, Option, Some, None, MatchOption, Contains, refl, sym, ap, ◌∙◌, subst, arith, inl, inr, ⊎_elim, get_or-set_same, get_or-set_other}
+use Rattle.std.proofs.lemmas.Bool.{cases_eq, false≢true}
 use Rattle.std.proofs.lemmas.List.{length-set, length-take, get_or-take}
 use Rattle.std.proofs.lemmas.Option.{none-some, same_Some, slice_get_within, slice_get-get_or, get_or_from_slice_get, option_and_then_some}
 use Rattle.thread.specs.Machines.{offers_in}
 use Rattle.protocol_values.specs.declared.Base.{Base}
 use Rattle.protocol_values.specs.declared.Base.TheVariants.{Send, Recv, Always, OnNack, OnEnd, Never}
+use Rattle.protocol_values.specs.declared.Cause.{Cause}
 use Rattle.protocol_values.specs.declared.Cause.TheVariants as cause
 use Rattle.protocol_values.specs.declared.Commit.{Commit}
 use Rattle.protocol_values.specs.declared.Commit.TheVariants.{Pair, Alone}
 use Rattle.protocol_values.specs.declared.Message.{Message}
 use Rattle.protocol_values.specs.declared.Message.TheVariants.{Empty}
-use Rattle.protocol_values.specs.declared.NackName.{NackName}
 use Rattle.protocol_values.specs.declared.Offer.{Offer}
 use Rattle.protocol_values.specs.declared.Row.{Row}
 use Rattle.journal_replay.specs.declared.openings.Openings.{Openings}
 use Rattle.journal_replay.specs.declared.strand.Strand.{Strand}
 use Rattle.protocol_values.specs.declared.Side.{Side}
 use Rattle.protocol_values.specs.declared.Side.TheVariants.{Sends, Receives}
-use Rattle.journal_replay.specs.Searching.{Adds, Covers, FindsOther, HasChannels, HasUntried, IsListed, Keeps, KeepsNacks, KeepsSide, NoneByNack, NoneMay, NoneMayWith, Opens, Places, TakesOther, base_on, pair_of}
-use Rattle.journal_replay.specs.Standing.{Finds, MayBe, MayFollow, last_in, next_offer}
+use Rattle.journal_replay.specs.Searching.{Adds, Covers, FindsOther, HasChannels, HasUntried, IsListed, Keeps, KeepsBrought, KeepsSide, NoneBrought, NoneMay, NoneMayWith, Opens, Places, TakesOther, base_on, pair_of}
+use Rattle.journal_replay.specs.Standing.{Finds, MayBe, MayFollow, base_for, last_in, next_offer, offers_at}
 use Rattle.journal_replay.proofs.Listing.{found-of}
 use Rattle.journal_replay.proofs.Lists.{contains-before, contains-last}
 
@@ -28,8 +28,20 @@ pub same-base : (strands : List Strand) (rows : ℕ) (at : Row × ℕ) (a b : Ba
 same-base strands rows at a b f g =
     sym f.base ∙ ap (λ (o : Offer). o.base) (same_Some f.offer g.offer (sym f.is ∙ g.is)) ∙ g.base
 
-pub same-nack : (strands : List Strand) (rows : ℕ) (at : Row × ℕ) (m n : NackName) → Finds strands rows at (OnNack m) → Finds strands rows at (OnNack n) → m ≡ n
-same-nack strands rows at m n f g = let same : OnNack m ≡ OnNack n = same-base strands rows at (OnNack m) (OnNack n) f g in cc
+same-base-for : (m n : Cause) → base_for m ≡ base_for n → m ≡ n
+same-base-for (cause.Always m) (cause.Always n) e = cc
+same-base-for (cause.Always m) (cause.Nack n) e = absurd cc
+same-base-for (cause.Always m) (cause.End t) e = absurd cc
+same-base-for (cause.Nack m) (cause.Always n) e = absurd cc
+same-base-for (cause.Nack m) (cause.Nack n) e = cc
+same-base-for (cause.Nack m) (cause.End t) e = absurd cc
+same-base-for (cause.End u) (cause.Always n) e = absurd cc
+same-base-for (cause.End u) (cause.Nack n) e = absurd cc
+same-base-for (cause.End u) (cause.End t) e = cc
+
+-- and stands for one cause
+pub same-cause : (strands : List Strand) (rows : ℕ) (at : Row × ℕ) (m n : Cause) → Finds strands rows at (base_for m) → Finds strands rows at (base_for n) → m ≡ n
+same-cause strands rows at m n f g = same-base-for m n (same-base strands rows at (base_for m) (base_for n) f g)
 
 -- LISTS
 
@@ -48,31 +60,31 @@ lanes-last lanes c at within =
 
 module _ (o p : Openings) (at : Row × ℕ) where
   pub listed-send : (c : ℕ) → c < length o.senders.items → p.senders.items ≡ set o.senders.items c (get_or o.senders.items c [] ++ at ∷ []) →
-      p.receivers.items ≡ o.receivers.items → p.nacks ≡ o.nacks → (x : Row × ℕ) (b : Base) → IsListed o x b → IsListed p x b
-  listed-send c within sends receives nacks x (Send d n) there = subst (λ (lanes : List Places). Contains (get_or lanes d []) x) (sym sends) (lanes-before o.senders.items c d at x within there)
-  listed-send c within sends receives nacks x (Recv d) there = subst (λ (lanes : List Places). Contains (get_or lanes d []) x) (sym receives) there
-  listed-send c within sends receives nacks x (OnNack n) there = subst (λ (xs : Places). Contains xs x) (sym nacks) there
-  listed-send c within sends receives nacks x (OnEnd t) there = there
-  listed-send c within sends receives nacks x (Always n) there = there
-  listed-send c within sends receives nacks x Never there = there
+      p.receivers.items ≡ o.receivers.items → p.brought ≡ o.brought → (x : Row × ℕ) (b : Base) → IsListed o x b → IsListed p x b
+  listed-send c within sends receives brought x (Send d n) there = subst (λ (lanes : List Places). Contains (get_or lanes d []) x) (sym sends) (lanes-before o.senders.items c d at x within there)
+  listed-send c within sends receives brought x (Recv d) there = subst (λ (lanes : List Places). Contains (get_or lanes d []) x) (sym receives) there
+  listed-send c within sends receives brought x (OnNack n) there = subst (λ (xs : Places). Contains xs x) (sym brought) there
+  listed-send c within sends receives brought x (OnEnd t) there = subst (λ (xs : Places). Contains xs x) (sym brought) there
+  listed-send c within sends receives brought x (Always n) there = there
+  listed-send c within sends receives brought x Never there = there
 
   pub listed-recv : (c : ℕ) → c < length o.receivers.items → p.receivers.items ≡ set o.receivers.items c (get_or o.receivers.items c [] ++ at ∷ []) →
-      p.senders.items ≡ o.senders.items → p.nacks ≡ o.nacks → (x : Row × ℕ) (b : Base) → IsListed o x b → IsListed p x b
-  listed-recv c within receives sends nacks x (Send d n) there = subst (λ (lanes : List Places). Contains (get_or lanes d []) x) (sym sends) there
-  listed-recv c within receives sends nacks x (Recv d) there = subst (λ (lanes : List Places). Contains (get_or lanes d []) x) (sym receives) (lanes-before o.receivers.items c d at x within there)
-  listed-recv c within receives sends nacks x (OnNack n) there = subst (λ (xs : Places). Contains xs x) (sym nacks) there
-  listed-recv c within receives sends nacks x (OnEnd t) there = there
-  listed-recv c within receives sends nacks x (Always n) there = there
-  listed-recv c within receives sends nacks x Never there = there
+      p.senders.items ≡ o.senders.items → p.brought ≡ o.brought → (x : Row × ℕ) (b : Base) → IsListed o x b → IsListed p x b
+  listed-recv c within receives sends brought x (Send d n) there = subst (λ (lanes : List Places). Contains (get_or lanes d []) x) (sym sends) there
+  listed-recv c within receives sends brought x (Recv d) there = subst (λ (lanes : List Places). Contains (get_or lanes d []) x) (sym receives) (lanes-before o.receivers.items c d at x within there)
+  listed-recv c within receives sends brought x (OnNack n) there = subst (λ (xs : Places). Contains xs x) (sym brought) there
+  listed-recv c within receives sends brought x (OnEnd t) there = subst (λ (xs : Places). Contains xs x) (sym brought) there
+  listed-recv c within receives sends brought x (Always n) there = there
+  listed-recv c within receives sends brought x Never there = there
 
-  pub listed-nack : p.nacks ≡ o.nacks ++ at ∷ [] → p.senders.items ≡ o.senders.items → p.receivers.items ≡ o.receivers.items →
+  pub listed-brought : p.brought ≡ o.brought ++ at ∷ [] → p.senders.items ≡ o.senders.items → p.receivers.items ≡ o.receivers.items →
       (x : Row × ℕ) (b : Base) → IsListed o x b → IsListed p x b
-  listed-nack nacks sends receives x (Send d n) there = subst (λ (lanes : List Places). Contains (get_or lanes d []) x) (sym sends) there
-  listed-nack nacks sends receives x (Recv d) there = subst (λ (lanes : List Places). Contains (get_or lanes d []) x) (sym receives) there
-  listed-nack nacks sends receives x (OnNack n) there = subst (λ (xs : Places). Contains xs x) (sym nacks) (contains-before o.nacks at x there)
-  listed-nack nacks sends receives x (OnEnd t) there = there
-  listed-nack nacks sends receives x (Always n) there = there
-  listed-nack nacks sends receives x Never there = there
+  listed-brought brought sends receives x (Send d n) there = subst (λ (lanes : List Places). Contains (get_or lanes d []) x) (sym sends) there
+  listed-brought brought sends receives x (Recv d) there = subst (λ (lanes : List Places). Contains (get_or lanes d []) x) (sym receives) there
+  listed-brought brought sends receives x (OnNack n) there = subst (λ (xs : Places). Contains xs x) (sym brought) (contains-before o.brought at x there)
+  listed-brought brought sends receives x (OnEnd t) there = subst (λ (xs : Places). Contains xs x) (sym brought) (contains-before o.brought at x there)
+  listed-brought brought sends receives x (Always n) there = there
+  listed-brought brought sends receives x Never there = there
 
 -- THE OFFERS OF A THREAD
 
@@ -139,10 +151,15 @@ opens-all strands rows t n s o p there le to = record {
       subst (λ (r : Row). Contains p.untried (r, at.1)) row (to.untried at.1 f.offer (omega (arith, le, within)) f.is);
 }
 
-pub spent : (strands : List Strand) (rows t : ℕ) (s : Strand) → slice_get strands t ≡ Some s → rows ≤ length s.machine.results →
+-- a thread that has not started, or made all its syncs, offers nothing
+pub spent : (strands : List Strand) (rows t : ℕ) (s : Strand) → slice_get strands t ≡ Some s → (s.started ≡ false) ⊎ (rows ≤ length s.machine.results) →
     (at : Row × ℕ) (b : Base) → at.0.thread ≡ t → Finds strands rows at b → ⊥
-spent strands rows t s there le at b mine finds =
-    let f = found-of strands rows at b s finds (ap (slice_get strands) mine ∙ there) in omega (arith, le, f.sync, f.few)
+spent strands rows t s there none at b mine finds =
+    let f = found-of strands rows at b s finds (ap (slice_get strands) mine ∙ there) in
+    ⊎_elim (λ idle. false≢true (sym idle ∙ f.runs)) (λ le. omega (arith, le, f.sync, f.few)) none
+
+pub offers-run : (s : Strand) → s.started ≡ true → offers_at s ≡ offers_in s.machine.phase
+offers-run s runs = ap (λ (b : Bool). cond b (offers_in s.machine.phase) []) runs
 
 pub nobody : (strands : List Strand) (rows t : ℕ) → slice_get strands t ≡ None → (at : Row × ℕ) (b : Base) → at.0.thread ≡ t → Finds strands rows at b → ⊥
 nobody strands rows t none at b mine finds =
@@ -246,52 +263,52 @@ module _ (strands : List Strand) (rows : ℕ) (o p : Openings) (known : Covers s
   untried-still-there c below may = untried-same o p untried c (known.untried c below may)
 
   listed-sends : (c : ℕ) (new : Places) → c < length o.senders.items → KeepsSide strands rows Sends c (get_or o.senders.items c []) new →
-      p.senders.items ≡ set o.senders.items c new → p.receivers.items ≡ o.receivers.items → p.nacks ≡ o.nacks → (x : Row × ℕ) (b : Base) → Finds strands rows x b → IsListed o x b → IsListed p x b
-  listed-sends c new within keeps sends receives nacks x (Send d m) finds there = subst (λ (lanes : List Places). Contains (get_or lanes d []) x) (sym sends) (lanes-kept strands rows Sends o.senders.items c d m new x within keeps finds there)
-  listed-sends c new within keeps sends receives nacks x (Recv d) finds there = subst (λ (lanes : List Places). Contains (get_or lanes d []) x) (sym receives) there
-  listed-sends c new within keeps sends receives nacks x (OnNack n) finds there = subst (λ (xs : Places). Contains xs x) (sym nacks) there
-  listed-sends c new within keeps sends receives nacks x (OnEnd t) finds there = there
-  listed-sends c new within keeps sends receives nacks x (Always m) finds there = there
-  listed-sends c new within keeps sends receives nacks x Never finds there = there
+      p.senders.items ≡ set o.senders.items c new → p.receivers.items ≡ o.receivers.items → p.brought ≡ o.brought → (x : Row × ℕ) (b : Base) → Finds strands rows x b → IsListed o x b → IsListed p x b
+  listed-sends c new within keeps sends receives brought x (Send d m) finds there = subst (λ (lanes : List Places). Contains (get_or lanes d []) x) (sym sends) (lanes-kept strands rows Sends o.senders.items c d m new x within keeps finds there)
+  listed-sends c new within keeps sends receives brought x (Recv d) finds there = subst (λ (lanes : List Places). Contains (get_or lanes d []) x) (sym receives) there
+  listed-sends c new within keeps sends receives brought x (OnNack n) finds there = subst (λ (xs : Places). Contains xs x) (sym brought) there
+  listed-sends c new within keeps sends receives brought x (OnEnd t) finds there = subst (λ (xs : Places). Contains xs x) (sym brought) there
+  listed-sends c new within keeps sends receives brought x (Always m) finds there = there
+  listed-sends c new within keeps sends receives brought x Never finds there = there
 
   pub covers-sends : (c : ℕ) (new : Places) → c < length o.senders.items → KeepsSide strands rows Sends c (get_or o.senders.items c []) new →
-      p.senders.items ≡ set o.senders.items c new → p.receivers.items ≡ o.receivers.items → p.nacks ≡ o.nacks → Covers strands rows p
-  covers-sends c new within keeps sends receives nacks = record {
+      p.senders.items ≡ set o.senders.items c new → p.receivers.items ≡ o.receivers.items → p.brought ≡ o.brought → Covers strands rows p
+  covers-sends c new within keeps sends receives brought = record {
     channels = (ap (λ (lanes : List Places). length lanes) sends ∙ length-set o.senders.items c new ∙ known.channels.0, ap (λ (lanes : List Places). length lanes) receives ∙ known.channels.1);
-    listed = λ x b finds. listed-sends c new within keeps sends receives nacks x b finds (known.listed x b finds);
+    listed = λ x b finds. listed-sends c new within keeps sends receives brought x b finds (known.listed x b finds);
     untried = untried-still-there;
   }
 
   listed-receives : (c : ℕ) (new : Places) → c < length o.receivers.items → KeepsSide strands rows Receives c (get_or o.receivers.items c []) new →
-      p.receivers.items ≡ set o.receivers.items c new → p.senders.items ≡ o.senders.items → p.nacks ≡ o.nacks → (x : Row × ℕ) (b : Base) → Finds strands rows x b → IsListed o x b → IsListed p x b
-  listed-receives c new within keeps receives sends nacks x (Send d m) finds there = subst (λ (lanes : List Places). Contains (get_or lanes d []) x) (sym sends) there
-  listed-receives c new within keeps receives sends nacks x (Recv d) finds there = subst (λ (lanes : List Places). Contains (get_or lanes d []) x) (sym receives) (lanes-kept strands rows Receives o.receivers.items c d Empty new x within keeps finds there)
-  listed-receives c new within keeps receives sends nacks x (OnNack n) finds there = subst (λ (xs : Places). Contains xs x) (sym nacks) there
-  listed-receives c new within keeps receives sends nacks x (OnEnd t) finds there = there
-  listed-receives c new within keeps receives sends nacks x (Always m) finds there = there
-  listed-receives c new within keeps receives sends nacks x Never finds there = there
+      p.receivers.items ≡ set o.receivers.items c new → p.senders.items ≡ o.senders.items → p.brought ≡ o.brought → (x : Row × ℕ) (b : Base) → Finds strands rows x b → IsListed o x b → IsListed p x b
+  listed-receives c new within keeps receives sends brought x (Send d m) finds there = subst (λ (lanes : List Places). Contains (get_or lanes d []) x) (sym sends) there
+  listed-receives c new within keeps receives sends brought x (Recv d) finds there = subst (λ (lanes : List Places). Contains (get_or lanes d []) x) (sym receives) (lanes-kept strands rows Receives o.receivers.items c d Empty new x within keeps finds there)
+  listed-receives c new within keeps receives sends brought x (OnNack n) finds there = subst (λ (xs : Places). Contains xs x) (sym brought) there
+  listed-receives c new within keeps receives sends brought x (OnEnd t) finds there = subst (λ (xs : Places). Contains xs x) (sym brought) there
+  listed-receives c new within keeps receives sends brought x (Always m) finds there = there
+  listed-receives c new within keeps receives sends brought x Never finds there = there
 
   pub covers-receives : (c : ℕ) (new : Places) → c < length o.receivers.items → KeepsSide strands rows Receives c (get_or o.receivers.items c []) new →
-      p.receivers.items ≡ set o.receivers.items c new → p.senders.items ≡ o.senders.items → p.nacks ≡ o.nacks → Covers strands rows p
-  covers-receives c new within keeps receives sends nacks = record {
+      p.receivers.items ≡ set o.receivers.items c new → p.senders.items ≡ o.senders.items → p.brought ≡ o.brought → Covers strands rows p
+  covers-receives c new within keeps receives sends brought = record {
     channels = (ap (λ (lanes : List Places). length lanes) sends ∙ known.channels.0, ap (λ (lanes : List Places). length lanes) receives ∙ length-set o.receivers.items c new ∙ known.channels.1);
-    listed = λ x b finds. listed-receives c new within keeps receives sends nacks x b finds (known.listed x b finds);
+    listed = λ x b finds. listed-receives c new within keeps receives sends brought x b finds (known.listed x b finds);
     untried = untried-still-there;
   }
 
-  listed-nacks : KeepsNacks strands rows o.nacks p.nacks → p.senders.items ≡ o.senders.items → p.receivers.items ≡ o.receivers.items →
+  listed-brought-kept : KeepsBrought strands rows o.brought p.brought → p.senders.items ≡ o.senders.items → p.receivers.items ≡ o.receivers.items →
       (x : Row × ℕ) (b : Base) → Finds strands rows x b → IsListed o x b → IsListed p x b
-  listed-nacks keeps sends receives x (Send d m) finds there = subst (λ (lanes : List Places). Contains (get_or lanes d []) x) (sym sends) there
-  listed-nacks keeps sends receives x (Recv d) finds there = subst (λ (lanes : List Places). Contains (get_or lanes d []) x) (sym receives) there
-  listed-nacks keeps sends receives x (OnNack n) finds there = keeps x n finds there
-  listed-nacks keeps sends receives x (OnEnd t) finds there = there
-  listed-nacks keeps sends receives x (Always m) finds there = there
-  listed-nacks keeps sends receives x Never finds there = there
+  listed-brought-kept keeps sends receives x (Send d m) finds there = subst (λ (lanes : List Places). Contains (get_or lanes d []) x) (sym sends) there
+  listed-brought-kept keeps sends receives x (Recv d) finds there = subst (λ (lanes : List Places). Contains (get_or lanes d []) x) (sym receives) there
+  listed-brought-kept keeps sends receives x (OnNack n) finds there = keeps x (cause.Nack n) tt finds there
+  listed-brought-kept keeps sends receives x (OnEnd t) finds there = keeps x (cause.End t) tt finds there
+  listed-brought-kept keeps sends receives x (Always m) finds there = there
+  listed-brought-kept keeps sends receives x Never finds there = there
 
-  pub covers-nacks : KeepsNacks strands rows o.nacks p.nacks → p.senders.items ≡ o.senders.items → p.receivers.items ≡ o.receivers.items → Covers strands rows p
-  covers-nacks keeps sends receives = record {
+  pub covers-brought : KeepsBrought strands rows o.brought p.brought → p.senders.items ≡ o.senders.items → p.receivers.items ≡ o.receivers.items → Covers strands rows p
+  covers-brought keeps sends receives = record {
     channels = (ap (λ (lanes : List Places). length lanes) sends ∙ known.channels.0, ap (λ (lanes : List Places). length lanes) receives ∙ known.channels.1);
-    listed = λ x b finds. listed-nacks keeps sends receives x b finds (known.listed x b finds);
+    listed = λ x b finds. listed-brought-kept keeps sends receives x b finds (known.listed x b finds);
     untried = untried-still-there;
   }
 
@@ -343,6 +360,13 @@ pub record OpensBelow (strands : List Strand) (rows t : ℕ) (o : Openings) : Ty
   pub channels : HasChannels o
   pub listed : (at : Row × ℕ) (b : Base) → at.0.thread < t → Finds strands rows at b → IsListed o at b
   pub untried : (at : Row × ℕ) (b : Base) → at.0.thread < t → Finds strands rows at b → Contains o.untried at
+
+pub below-none : (strands : List Strand) (rows : ℕ) (o : Openings) → HasChannels o → OpensBelow strands rows 0 o
+below-none strands rows o has = record {
+  channels = has;
+  listed = λ at b lt finds. absurd (omega (arith, lt));
+  untried = λ at b lt finds. absurd (omega (arith, lt));
+}
 
 pub below-more : (strands : List Strand) (rows t : ℕ) (o p : Openings) → OpensBelow strands rows t o → Opens strands rows t o p → OpensBelow strands rows (t + 1) p
 below-more strands rows t o p before opened = record {
@@ -398,8 +422,8 @@ still-untried strands rows o p at last none is (Alone row (cause.End t) stamp) b
 
 -- the last untried offer was tried in vain
 pub covers-tried : (strands : List Strand) (rows : ℕ) (o p : Openings) (at : Row × ℕ) → Covers strands rows o → slice_get o.untried (length o.untried - 1) ≡ Some at → NoneMayWith strands rows at →
-    p.senders.items ≡ o.senders.items → p.receivers.items ≡ o.receivers.items → p.nacks ≡ o.nacks → p.untried ≡ take (length o.untried - 1) o.untried → Covers strands rows p
-covers-tried strands rows o p at known last none sends receives nacks is = record {
+    p.senders.items ≡ o.senders.items → p.receivers.items ≡ o.receivers.items → p.brought ≡ o.brought → p.untried ≡ take (length o.untried - 1) o.untried → Covers strands rows p
+covers-tried strands rows o p at known last none sends receives brought is = record {
   channels = (ap (λ (lanes : List Places). length lanes) sends ∙ known.channels.0, ap (λ (lanes : List Places). length lanes) receives ∙ known.channels.1);
   listed = λ x b finds. listed-same b x (known.listed x b finds);
   untried = λ c below may. still-untried strands rows o p at last none is c below may (known.untried c below may);
@@ -407,25 +431,25 @@ covers-tried strands rows o p at known last none sends receives nacks is = recor
   listed-same : (b : Base) (x : Row × ℕ) → IsListed o x b → IsListed p x b
   listed-same (Send d m) x there = subst (λ (lanes : List Places). Contains (get_or lanes d []) x) (sym sends) there
   listed-same (Recv d) x there = subst (λ (lanes : List Places). Contains (get_or lanes d []) x) (sym receives) there
-  listed-same (OnNack n) x there = subst (λ (xs : Places). Contains xs x) (sym nacks) there
-  listed-same (OnEnd t) x there = there
+  listed-same (OnNack n) x there = subst (λ (xs : Places). Contains xs x) (sym brought) there
+  listed-same (OnEnd t) x there = subst (λ (xs : Places). Contains xs x) (sym brought) there
   listed-same (Always m) x there = there
   listed-same Never x there = there
 
 nothing-in : (xs : Places) (x : Row × ℕ) → slice_get xs (length xs - 1) ≡ None → Contains xs x → ⊥
 nothing-in xs x none there = none-some (get_or xs (length xs - 1) x) (sym none ∙ slice_get-get_or xs (length xs - 1) x (omega (arith, there.1)))
 
--- nothing is untried, and no nack is fired for which an offer waits
-none-left : (strands : List Strand) (rows : ℕ) (o : Openings) → Covers strands rows o → slice_get o.untried (length o.untried - 1) ≡ None → NoneByNack strands rows o.nacks → NoneMay strands rows
+-- nothing is untried, no nack is fired and no thread has ended for which an offer waits
+none-left : (strands : List Strand) (rows : ℕ) (o : Openings) → Covers strands rows o → slice_get o.untried (length o.untried - 1) ≡ None → NoneBrought strands rows o.brought → NoneMay strands rows
 none-left strands rows o known empty none (Pair sender receiver c m stamp) below may = ⊎_elim
     (λ h. nothing-in o.untried sender empty h)
     (λ h. nothing-in o.untried receiver empty h)
     (known.untried (Pair sender receiver c m stamp) below may)
 none-left strands rows o known empty none (Alone at (cause.Always m) stamp) below may = nothing-in o.untried at empty (known.untried (Alone at (cause.Always m) stamp) below may)
-none-left strands rows o known empty none (Alone at (cause.Nack n) stamp) below may = none at n may.0 (known.listed at (OnNack n) may.0) below may.1
-none-left strands rows o known empty none (Alone at (cause.End t) stamp) below may = absurd may.1
+none-left strands rows o known empty none (Alone at (cause.Nack n) stamp) below may = none at (cause.Nack n) tt may.0 (known.listed at (OnNack n) may.0) below may.1
+none-left strands rows o known empty none (Alone at (cause.End t) stamp) below may = none at (cause.End t) tt may.0 (known.listed at (OnEnd t) may.0) below may.1
 
 pub finds-left : (strands : List Strand) (rows : ℕ) (o : Openings) (r : Option Commit) → Covers strands rows o → slice_get o.untried (length o.untried - 1) ≡ None →
-    MatchOption r (NoneByNack strands rows o.nacks) (MayBe strands rows) → MatchOption r (NoneMay strands rows) (MayBe strands rows)
+    MatchOption r (NoneBrought strands rows o.brought) (MayBe strands rows) → MatchOption r (NoneMay strands rows) (MayBe strands rows)
 finds-left strands rows o None known empty none = none-left strands rows o known empty none
 finds-left strands rows o (Some c) known empty may = may

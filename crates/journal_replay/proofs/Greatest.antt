@@ -40,6 +40,13 @@ greatest-same es K L n to from g = record {
   there = ⊎_elim (λ e. inl e) (λ w. inr (w.0, w.1, to w.0 w.2, w.3)) g.there;
 }
 
+-- the same of these commits in other words
+pub greatest-within : (es : List Commit) (K L : Commit → Type 0) (n : ℕ) → ((d : Commit) → Contains es d → K d → L d) → ((d : Commit) → Contains es d → L d → K d) → IsGreatest es K n → IsGreatest es L n
+greatest-within es K L n to from g = record {
+  above = λ d there kind. g.above d there (from d there kind);
+  there = ⊎_elim (λ e. inl e) (λ w. inr (w.0, w.1, to w.0 w.1 w.2, w.3)) g.there;
+}
+
 first-of : (es : List Commit) (K L : Commit → Type 0) (a n : ℕ) → IsGreatest es K a → n ≡ a → (n ≡ 0) ⊎ ((d : Commit) × Contains es d × (K d ⊎ L d) × (stamp_of d ≡ n))
 first-of es K L a n g e = ⊎_elim (λ z. inl (omega (arith, z, e))) (λ w. inr (w.0, w.1, inl w.2, omega (arith, w.3, e))) g.there
 

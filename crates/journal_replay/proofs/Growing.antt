@@ -1,5 +1,5 @@
 -- A thread's memory of a run, as the run grows by a commit.
-use Rattle.std.proofs.Common.{◌≡◌, ℕ, ◌<◌, ◌≤◌, true, false, List, [], ◌∷◌, ◌++◌, length, get_or, slice_get, Option, Some, None, Contains, sym, ap, ◌∙◌, subst, arith, ⊎_elim}
+use Rattle.std.proofs.Common.{◌≡◌, ℕ, ◌<◌, ◌≤◌, true, false, List, [], ◌∷◌, ◌++◌, length, get_or, slice_get, Option, Some, None, Contains, sym, ap, ◌∙◌, subst, arith, inl, inr, ⊎_elim}
 use Rattle.std.proofs.lemmas.Bool.{false≢true, eq-eqb, eqb-true}
 use Rattle.std.proofs.lemmas.Option.{same_Some, slice_get_within}
 use Rattle.event.proofs.TreeLemmas.{mask-bits}
@@ -13,11 +13,12 @@ use Rattle.protocol_values.specs.declared.Offer.{Offer}
 use Rattle.protocol_values.specs.Scopes.{has_scope}
 use Rattle.protocol_values.specs.Commits.{stamp_of}
 use Rattle.journal_replay.specs.declared.strand.Strand.{Strand}
-use Rattle.journal_replay.specs.Runs.{FiredAt, HasRow, HasThread, IsGreatest}
-use Rattle.journal_replay.specs.Standing.{FiresOf, KnowsNack, StrandStands, Grows}
+use Rattle.journal_replay.specs.Runs.{Config, CountsOf, FiredAt, HasRow, HasThread, IsGreatest, Starts}
+use Rattle.journal_replay.specs.Standing.{FiresOf, KnowsNack, MachineStands, StrandStands, Grows}
 use Rattle.journal_replay.proofs.Firing.{FiredNow, AllPass, decide, fired-kept, fired-cases, fired-now}
-use Rattle.journal_replay.proofs.Greatest.{more, greatest-other, greatest-this, greatest-same}
+use Rattle.journal_replay.proofs.Greatest.{more, more-cases, greatest-other, greatest-this, greatest-same}
 use Rattle.journal_replay.proofs.Opening.{OpenAt, open-at, offering-one}
+use Rattle.journal_replay.proofs.Starting.{Touches, counts-back, counts-on, starts-on, uncounted}
 
 -- what the strand of a thread has to know of the commit that it takes part in
 pub record TakesPart (earlier : List Commit) (t g stamp : ℕ) (c : Commit) : Type 0 where
@@ -101,10 +102,10 @@ abbrev Knows : List Proc → ℕ → List Chosen → List Commit → Chosen → 
 Knows ps t results earlier r c k o = KnowsNack ps t (grown results r) (more earlier c) k o
 
 knows-next : (ps : List Proc) (t : ℕ) (results : List Chosen) (earlier : List Commit) (r : Chosen) (c : Commit) (stamp : ℕ) (old new : Strand) →
-    StrandStands ps t results earlier old → Grows r stamp old new → TakesPart earlier t (length results) stamp c →
+    MachineStands ps t results old.machine → Grows r stamp old new → TakesPart earlier t (length results) stamp c →
     (k : ℕ) → KnowsNack ps t results earlier k (get_or old.fired k None) → Knows ps t results earlier r c k (get_or new.fired k None)
 knows-next ps t results earlier r c stamp old new stands grows part k knows =
-    let w = open-at ps t results old.machine r.0 grows.offer stands.machine grows.was in
+    let w = open-at ps t results old.machine r.0 grows.offer stands grows.was in
     let nacks = nacks_in old.machine.phase in
     ⊎_elim
     (λ fires. subst (Knows ps t results earlier r c k) (sym (grows.fired.fires k fires.0 fires.1 fires.2))
@@ -113,25 +114,17 @@ knows-next ps t results earlier r c stamp old new stands grows part k knows =
     (knows-kept ps t results earlier r c k stamp (get_or old.fired k None) part (fires-not ps t results r k grows.offer nacks w all) knows))
     (decide nacks (has_scope grows.offer.scopes) k)
 
--- a thread that takes part in the commit
-pub strand-grows : (ps : List Proc) (t : ℕ) (results : List Chosen) (earlier : List Commit) (r : Chosen) (c : Commit) (stamp : ℕ) (old new : Strand) →
-    StrandStands ps t results earlier old → Grows r stamp old new → TakesPart earlier t (length results) stamp c →
-    StrandStands ps t (grown results r) (more earlier c) new
-strand-grows ps t results earlier r c stamp old new stands grows part = record {
-  machine = record {
-    process = stands.machine.process;
-    is_its = stands.machine.is_its;
-    body = ap block_of grows.process.body ∙ stands.machine.body;
-    variables = grows.process.variables ∙ stands.machine.variables;
-    thread = grows.process.thread ∙ stands.machine.thread;
-    given = grows.results ∙ ap (λ (rs : List Chosen). grown rs r) stands.machine.given;
-    stopped = grows.stopped;
-    after = grows.after;
-  };
-  turn = grows.turn;
-  last = subst (IsGreatest (more earlier c) (λ d. HasThread d t)) (sym grows.last)
-      (greatest-this earlier c (λ d. HasThread d t) stamp part.above part.thread part.stamp_is);
-  fired = λ k. knows-next ps t results earlier r c stamp old new stands grows part k (stands.fired k);
+machine-grows : (ps : List Proc) (t stamp : ℕ) (results : List Chosen) (r : Chosen) (old new : Strand) →
+    MachineStands ps t results old.machine → Grows r stamp old new → MachineStands ps t (grown results r) new.machine
+machine-grows ps t stamp results r old new stands grows = record {
+  process = stands.process;
+  is_its = stands.is_its;
+  body = ap block_of grows.process.body ∙ stands.body;
+  variables = grows.process.variables ∙ stands.variables;
+  thread = grows.process.thread ∙ stands.thread;
+  given = grows.results ∙ ap (λ (rs : List Chosen). grown rs r) stands.given;
+  stopped = grows.stopped;
+  after = grows.after;
 }
 
 knows-still : (ps : List Proc) (t : ℕ) (results : List Chosen) (earlier : List Commit) (c : Commit) (k : ℕ) →
@@ -140,12 +133,52 @@ knows-still ps t results earlier c k apart None knows = knows
 knows-still ps t results earlier c k apart (Some last) knows =
     (knows.0, greatest-other earlier c (FiresOf ps t results k) last knows.1 (λ w. apart w.0 w.2))
 
--- a thread that does not
-pub strand-stays : (ps : List Proc) (t : ℕ) (results : List Chosen) (earlier : List Commit) (c : Commit) (s : Strand) →
-    StrandStands ps t results earlier s → (HasThread c t → ⊥) → ((g : ℕ) → HasRow c t g → ⊥) → StrandStands ps t results (more earlier c) s
-strand-stays ps t results earlier c s stands other apart = record {
-  machine = stands.machine;
-  turn = stands.turn;
-  last = greatest-other earlier c (λ d. HasThread d t) s.last stands.last other;
-  fired = λ k. knows-still ps t results earlier c k apart (get_or s.fired k None) (stands.fired k);
-}
+module _ (ps : List Proc) (config later : Config) (earlier : List Commit) (c : Commit) (touches : Touches config later c) where
+  -- what counts for a thread that has started counts as before
+  counted-on : (t : ℕ) (d : Commit) → CountsOf ps config t d → CountsOf ps later t d
+  counted-on t d h = ⊎_elim (λ x. inl x) (λ x. inr (counts-on ps config later c touches d x)) h
+
+  counted-back : (t : ℕ) → Starts ps config t → (d : Commit) → CountsOf ps later t d → CountsOf ps config t d
+  counted-back t started d h = ⊎_elim (λ x. inl x) (λ x. inr (counts-back ps config later c touches d x started)) h
+
+  -- a thread that takes part in the commit
+  pub strand-grows : (t stamp : ℕ) (r : Chosen) (old new : Strand) → StrandStands ps config t earlier old → Grows r stamp old new →
+      TakesPart earlier t (length (config t)) stamp c → later t ≡ grown (config t) r → old.started ≡ true →
+      ((d : Commit) → Contains earlier d → CountsOf ps config t d → stamp_of d ≤ stamp) → StrandStands ps later t (more earlier c) new
+  strand-grows t stamp r old new stands grows part is runs above = record {
+    machine = subst (λ (rs : List Chosen). MachineStands ps t rs new.machine) (sym is) (machine-grows ps t stamp (config t) r old new stands.machine grows);
+    turn = grows.turn;
+    spawner = grows.spawner ∙ stands.spawner;
+    free = λ e. grows.started ∙ runs;
+    started = λ e. starts-on ps config later c touches (stands.started runs);
+    idle = λ e. absurd (false≢true (sym e ∙ grows.started ∙ runs));
+    last = λ e. subst (IsGreatest (more earlier c) (CountsOf ps later t)) (sym grows.last)
+        (greatest-this earlier c (CountsOf ps later t) stamp
+        (λ d there h. above d there (counted-back t (stands.started runs) d h)) (inl part.thread) part.stamp_is);
+    fired = λ k.
+        subst (λ (rs : List Chosen). KnowsNack ps t rs (more earlier c) k (get_or new.fired k None)) (sym is)
+        (knows-next ps t (config t) earlier r c stamp old new stands.machine grows part k (stands.fired k));
+  }
+
+  -- a thread that does not
+  pub strand-stays : (t : ℕ) (s : Strand) → StrandStands ps config t earlier s → later t ≡ config t → (HasThread c t → ⊥) →
+      ((u g : ℕ) → HasRow c u g → (g ≡ length (config u)) × HasThread c u) → StrandStands ps later t (more earlier c) s
+  strand-stays t s stands is other rows = record {
+    machine = subst (λ (rs : List Chosen). MachineStands ps t rs s.machine) (sym is) stands.machine;
+    turn = stands.turn;
+    spawner = stands.spawner;
+    free = stands.free;
+    started = λ e. starts-on ps config later c touches (stands.started e);
+    idle = λ e. let w = stands.idle e in (
+      is ∙ w.0,
+      λ d there has. ⊎_elim (λ old. w.1 d old has) (λ same. other (subst (λ (x : Commit). HasThread x t) (sym same) has)) (more-cases earlier c d there),
+    );
+    last = λ e.
+        let run = stands.started e in
+        greatest-other earlier c (CountsOf ps later t) s.last
+        (greatest-same earlier (CountsOf ps config t) (CountsOf ps later t) s.last (counted-on t) (counted-back t run) (stands.last e))
+        (λ h. ⊎_elim other (λ x. uncounted ps config later c touches (λ u g row. (rows u g row).0) x run) h);
+    fired = λ k.
+        subst (λ (rs : List Chosen). KnowsNack ps t rs (more earlier c) k (get_or s.fired k None)) (sym is)
+        (knows-still ps t (config t) earlier c k (λ g row. other (rows t g row).1) (get_or s.fired k None) (stands.fired k));
+  }

@@ -1,3 +1,4 @@
+pub mod Starting
 pub mod Greatest
 pub mod Lists
 pub mod Opening
@@ -13,6 +14,7 @@ mod Listing
 mod Removing
 mod Covering
 mod Bounding
+mod Waking
 pub mod Telling
 pub mod Fronts
 pub mod Nacks

@@ -1,15 +1,16 @@
 -- A list of what the threads offer.
-use Rattle.std.proofs.Common.{◌≡◌, ℕ, ◌<◌, List, length, slice_get, option_and_then, Some, sym, ap, ◌∙◌}
+use Rattle.std.proofs.Common.{◌≡◌, ℕ, ◌<◌, true, List, length, slice_get, option_and_then, Some, sym, ap, ◌∙◌}
 use Rattle.thread.specs.Machines.{offers_in}
 use Rattle.protocol_values.specs.declared.Base.{Base}
 use Rattle.protocol_values.specs.declared.Offer.{Offer}
 use Rattle.protocol_values.specs.declared.Row.{Row}
 use Rattle.journal_replay.specs.declared.strand.Strand.{Strand}
 use Rattle.journal_replay.specs.Standing.{Finds, next_offer}
-use Rattle.journal_replay.proofs.Finding.{if-some, both-tests}
+use Rattle.journal_replay.proofs.Finding.{offer-tests}
 
 -- what is found of a thread
 pub record FoundOf (s : Strand) (rows : ℕ) (at : Row × ℕ) (b : Base) : Type 0 where
+  pub runs : s.started ≡ true
   pub sync : at.0.sync ≡ length s.machine.results
   pub few : at.0.sync < rows
   pub offer : Offer
@@ -19,6 +20,5 @@ pub record FoundOf (s : Strand) (rows : ℕ) (at : Row × ℕ) (b : Base) : Type
 pub found-of : (strands : List Strand) (rows : ℕ) (at : Row × ℕ) (b : Base) (s : Strand) → Finds strands rows at b → slice_get strands at.0.thread ≡ Some s → FoundOf s rows at b
 found-of strands rows at b s finds there =
     let here : next_offer rows at s ≡ Some finds.offer = ap (option_and_then (next_offer rows at)) (sym there) ∙ finds.is in
-    let found = if-some _ (slice_get (offers_in s.machine.phase) at.1) finds.offer here in
-    let tests = both-tests at.0.sync (length s.machine.results) at.0.sync rows found.0 in
-    record { sync = tests.0; few = tests.1; offer = finds.offer; is = found.1; base = finds.base }
+    let tests = offer-tests rows at s finds.offer here in
+    record { runs = tests.0; sync = tests.1; few = tests.2; offer = finds.offer; is = tests.3; base = finds.base }

@@ -8,7 +8,7 @@ use Rattle.script_tree.specs.Trees.{Block, block_of}
 use Rattle.thread.specs.After.{Chosen, Offers, Finishes, Fails, after}
 use Rattle.thread.specs.Machines.{said_in, Thread, Phase, Ready, Open, Over, Stuck, Broken, IsAfterAt, HasStopped, offers_in, nacks_in}
 use Rattle.protocol_values.specs.declared.Offer.{Offer}
-use Rattle.journal_replay.specs.Replays.{OpensAs, offered, scoped}
+use Rattle.journal_replay.specs.Replays.{offered, scoped}
 use Rattle.journal_replay.specs.Runs.{IsOffering}
 use Rattle.journal_replay.specs.Standing.{MachineStands}
 
@@ -83,20 +83,18 @@ offers-now ps t results m Broken event s stopped is_after offering = absurd stop
 pub offers-are : (ps : List Proc) (t : ℕ) (results : List Chosen) (m : Thread) (event : Tree) → MachineStands ps t results m → IsOffering ps t results event → offers_in m.phase ≡ offers event
 offers-are ps t results m event s offering = offers-now ps t results m m.phase event s s.stopped s.after offering
 
-open-now : (ps : List Proc) (t : ℕ) (results : List Chosen) (m : Thread) (p : Phase) → MachineStands ps t results m → HasStopped p → IsAfterAt m p → OpensAs ps t results (offers_in p) (nacks_in p)
+open-now : (ps : List Proc) (t : ℕ) (results : List Chosen) (m : Thread) (p : Phase) (s : MachineStands ps t results m) → HasStopped p → IsAfterAt m p →
+    (offers_in p ≡ offered (after s.process.body (length s.process.variables) t results)) × (nacks_in p ≡ scoped (after s.process.body (length s.process.variables) t results))
 open-now ps t results m Ready s stopped is_after = absurd stopped
-open-now ps t results m (Open os ns) s stopped is_after = record {
-  process = s.process;
-  is_its = s.is_its;
-  offers = sym is_after.offers ∙ ap offered (sym is_after.after ∙ moved ps t results m s);
-  nacks_are = sym is_after.nacks ∙ ap scoped (sym is_after.after ∙ moved ps t results m s);
-}
-open-now ps t results m Over s stopped is_after =
-    record { process = s.process; is_its = s.is_its; offers = ap offered (sym is_after ∙ moved ps t results m s); nacks_are = ap scoped (sym is_after ∙ moved ps t results m s) }
-open-now ps t results m (Stuck fault) s stopped is_after =
-    record { process = s.process; is_its = s.is_its; offers = ap offered (sym is_after ∙ moved ps t results m s); nacks_are = ap scoped (sym is_after ∙ moved ps t results m s) }
+open-now ps t results m (Open os ns) s stopped is_after = (
+  sym is_after.offers ∙ ap offered (sym is_after.after ∙ moved ps t results m s),
+  sym is_after.nacks ∙ ap scoped (sym is_after.after ∙ moved ps t results m s),
+)
+open-now ps t results m Over s stopped is_after = (ap offered (sym is_after ∙ moved ps t results m s), ap scoped (sym is_after ∙ moved ps t results m s))
+open-now ps t results m (Stuck fault) s stopped is_after = (ap offered (sym is_after ∙ moved ps t results m s), ap scoped (sym is_after ∙ moved ps t results m s))
 open-now ps t results m Broken s stopped is_after = absurd stopped
 
 -- what a thread's machine offers is what the thread offers
-pub opens-as : (ps : List Proc) (t : ℕ) (results : List Chosen) (m : Thread) → MachineStands ps t results m → OpensAs ps t results (offers_in m.phase) (nacks_in m.phase)
+pub opens-as : (ps : List Proc) (t : ℕ) (results : List Chosen) (m : Thread) (s : MachineStands ps t results m) →
+    (offers_in m.phase ≡ offered (after s.process.body (length s.process.variables) t results)) × (nacks_in m.phase ≡ scoped (after s.process.body (length s.process.variables) t results))
 opens-as ps t results m s = open-now ps t results m m.phase s s.stopped s.after

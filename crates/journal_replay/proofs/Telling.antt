@@ -26,8 +26,17 @@ holds-more P n xs ys x before last e = subst (HoldsOf P (n + 1)) (sym e) (
 pub ends-one : (ps : List Proc) (rows t : ℕ) (config : Config) (end other : End) (told printed : List Atom) → EndsAs ps rows t config end told → EndsAs ps rows t config other printed → (end ≡ other) × (told ≡ printed)
 ends-one ps rows t config end other told printed one two =
     let process : one.process ≡ two.process = same_Some one.process two.process (sym one.is_its ∙ two.is_its) in
-    some_pair_parts end other told printed
-    (sym one.ends ∙ ap (λ (p : Proc). end_of rows (length (config t)) (after p.body (length p.variables) t (config t))) process ∙ two.ends)
+    ⊎_elim
+    (λ a. ⊎_elim
+    (λ b. some_pair_parts end other told printed
+    (sym a.1 ∙ ap (λ (p : Proc). end_of rows (length (config t)) (after p.body (length p.variables) t (config t))) process ∙ b.1))
+    (λ b. absurd (b.0 a.0))
+    two.ends)
+    (λ a. ⊎_elim
+    (λ b. absurd (a.0 b.0))
+    (λ b. (a.1 ∙ sym b.1, a.2 ∙ sym b.2))
+    two.ends)
+    one.ends
 
 -- how a thread ended and what it printed, each told with something of the other
 pub ends-both : (ps : List Proc) (rows t : ℕ) (config : Config) (end other : End) (printed told : List Atom) → EndsAs ps rows t config end told → EndsAs ps rows t config other printed → EndsAs ps rows t config end printed

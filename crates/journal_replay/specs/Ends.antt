@@ -2,7 +2,7 @@
 use Rattle.std.specs.Prelude.{ℕ, List, codes}
 use Rattle.thread.specs.declared.Fault.TheVariants.{Unset, Kind, Range, Shape}
 use Rattle.journal_replay.specs.declared.end.End.{End}
-use Rattle.journal_replay.specs.declared.end.End.TheVariants.{Ended, Waiting, Spent, Faulted}
+use Rattle.journal_replay.specs.declared.end.End.TheVariants.{Ended, Waiting, Spent, Faulted, Unstarted}
 
 abbrev pub end_text : End → List ℕ
 end_text Ended = codes "ended"
@@ -12,3 +12,4 @@ end_text (Faulted Unset) = codes "faulted unset"
 end_text (Faulted Kind) = codes "faulted kind"
 end_text (Faulted Range) = codes "faulted range"
 end_text (Faulted Shape) = codes "faulted shape"
+end_text Unstarted = codes "unstarted"

@@ -1,3 +1,4 @@
+pub mod Starting
 pub mod Runs
 pub mod Standing
 pub mod Reaching

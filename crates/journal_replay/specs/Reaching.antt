@@ -1,6 +1,7 @@
 -- Where a run leads its threads.
-use Rattle.std.specs.Prelude.{◌≡◌, ◌<◌, ◌≤◌, ℕ, List, length}
+use Rattle.std.specs.Prelude.{◌≡◌, ◌<◌, ◌≤◌, ℕ, List, None, false, length}
 use Rattle.script_tree.specs.Processes.{Proc}
+use Rattle.script_tree.specs.Spawning.{IsPlaced, spawner}
 use Rattle.protocol_values.specs.declared.Commit.{Commit}
 use Rattle.journal_replay.specs.declared.threads.Threads.{Threads}
 use Rattle.journal_replay.specs.Runs.{IsRun}
@@ -12,6 +13,8 @@ pub record AreAfter (ps : List Proc) (rows : ℕ) (journal : List Commit) (s : T
   pub rows_are : s.rows ≡ rows
   pub few : length ps ≤ 64
   pub low : rows < 65536
+  pub placed : IsPlaced ps
+  pub later : s.later ≡ false → (t : ℕ) → t < length ps → spawner ps t ≡ None
   pub run : IsRun ps rows journal
   pub strands : Stands ps journal s.strands.items
   pub bounded : Bounded rows s.strands.items

@@ -1,8 +1,8 @@
 -- What a replay answers.
-use Rattle.std.specs.Prelude.{◌≡◌, ℕ, List, [], ◌++◌, length, Option, Some, None, slice_get, ⊤}
+use Rattle.std.specs.Prelude.{◌≡◌, ◌⊎◌, ℕ, List, [], ◌++◌, length, Option, Some, None, slice_get, ⊤}
 use Rattle.event.specs.Tree.{offers, scope_nacks}
 use Rattle.script_tree.specs.Processes.{Proc}
-use Rattle.thread.specs.After.{Chosen, Outcome, Offers, State as Thread, after}
+use Rattle.thread.specs.After.{Outcome, Offers, State as Thread, after}
 use Rattle.protocol_values.specs.declared.Atom.{Atom}
 use Rattle.protocol_values.specs.declared.Commit.{Commit}
 use Rattle.protocol_values.specs.declared.NackName.{NackName}
@@ -12,8 +12,8 @@ use Rattle.journal_replay.specs.declared.state.State.{State}
 use Rattle.journal_replay.specs.declared.state.ReplayFault.{ReplayFault}
 use Rattle.journal_replay.specs.declared.state.ReplayFault.TheVariants.{Memory, Unlawful}
 use Rattle.journal_replay.specs.Reaching.{AreAfter}
-use Rattle.journal_replay.specs.Runs.{IsMaximal, Follows, BreaksOffAt, EndsAs, Fires, IsFiredAt, IsGreatest, config_of}
-use Rattle.journal_replay.specs.Standing.{fired_in}
+use Rattle.journal_replay.specs.Runs.{Config, CountsOf, IsMaximal, Follows, BreaksOffAt, EndsAs, Fires, HasEnded, IsFiredAt, IsGreatest, Starts, config_of}
+use Rattle.journal_replay.specs.Standing.{ended_in, fired_in}
 
 -- the commits are a run of the processes in so many rows each, and the state stands where they lead
 abbrev pub StandsAfter : List Proc → ℕ → List Commit → State → Type 0
@@ -41,17 +41,19 @@ abbrev pub scoped : Outcome Thread → List ℕ
 scoped (Offers event printed) = scope_nacks event
 scoped outcome = []
 
--- after these results the thread of this number makes these offers, and no other, with these nacks
-pub record OpensAs (ps : List Proc) (t : ℕ) (results : List Chosen) (os : List Offer) (nacks : List ℕ) : Type 0 where
+-- the thread of this number makes these offers, and no other, with these nacks; none before it has started
+pub record OpensAs (ps : List Proc) (t : ℕ) (config : Config) (os : List Offer) (nacks : List ℕ) : Type 0 where
   pub process : Proc
   pub is_its : slice_get ps t ≡ Some process
-  pub offers : os ≡ offered (after process.body (length process.variables) t results)
-  pub nacks_are : nacks ≡ scoped (after process.body (length process.variables) t results)
+  pub opens :
+      (Starts ps config t × (os ≡ offered (after process.body (length process.variables) t (config t)))
+      × (nacks ≡ scoped (after process.body (length process.variables) t (config t))))
+      ⊎ ((Starts ps config t → ⊥) × (os ≡ []) × (nacks ≡ []))
 
 -- what a state says of a thread's open sync
 abbrev pub TellsOpen : State → ℕ → List Offer → List ℕ → Type 0
 TellsOpen s t os nacks =
-    (ps : List Proc) (rows : ℕ) (journal : List Commit) → StandsAfter ps rows journal s → OpensAs ps t (config_of journal t) os nacks
+    (ps : List Proc) (rows : ℕ) (journal : List Commit) → StandsAfter ps rows journal s → OpensAs ps t (config_of journal) os nacks
 
 -- the stamp that a state has for a nack
 abbrev pub fired_by : State → NackName → Option ℕ
@@ -64,6 +66,21 @@ TellsFired s n None =
 TellsFired s n (Some stamp) =
     (ps : List Proc) (rows : ℕ) (journal : List Commit) → StandsAfter ps rows journal s
     → ((g : ℕ) × IsFiredAt ps (config_of journal) n g) × IsGreatest journal (Fires ps (config_of journal) n) stamp
+
+-- the stamp that a state has for the end of a thread
+abbrev pub ended_by : State → ℕ → Option ℕ
+ended_by s t = ended_in s.threads.strands.items t
+
+-- the thread has started, and has ended or faulted
+abbrev pub IsEnded : List Proc → Config → ℕ → Type 0
+IsEnded ps config t = Starts ps config t × HasEnded ps t (config t)
+
+-- the greatest stamp of the commits that count for the ended thread, or none where it has not ended
+abbrev pub TellsEnded : State → ℕ → Option ℕ → Type 0
+TellsEnded s t None = (ps : List Proc) (rows : ℕ) (journal : List Commit) → StandsAfter ps rows journal s → IsEnded ps (config_of journal) t → ⊥
+TellsEnded s t (Some stamp) =
+    (ps : List Proc) (rows : ℕ) (journal : List Commit) → StandsAfter ps rows journal s
+    → IsEnded ps (config_of journal) t × IsGreatest journal (CountsOf ps (config_of journal) t) stamp
 
 -- how many threads a state has
 abbrev pub thread_count : State → ℕ

@@ -5,7 +5,7 @@ use Rattle.script_tree.specs.Processes.{Proc}
 use Rattle.thread.specs.After.{Chosen, Said, State, Outcome, Goes, Offers, Finishes, Fails, Strays, after}
 use Rattle.protocol_values.specs.declared.Atom.{Atom}
 use Rattle.protocol_values.specs.declared.Base.{Base}
-use Rattle.protocol_values.specs.declared.Base.TheVariants.{Send, Recv, Always, OnNack}
+use Rattle.protocol_values.specs.declared.Base.TheVariants.{Send, Recv, Always, OnNack, OnEnd}
 use Rattle.protocol_values.specs.declared.Cause.{Cause}
 use Rattle.protocol_values.specs.declared.Cause.TheVariants as cause
 use Rattle.protocol_values.specs.declared.Commit.{Commit}
@@ -15,15 +15,9 @@ use Rattle.protocol_values.specs.declared.Message.TheVariants.{Empty}
 use Rattle.protocol_values.specs.declared.NackName.{NackName}
 use Rattle.protocol_values.specs.declared.Row.{Row}
 use Rattle.protocol_values.specs.Commits.{stamp_of}
+pub use Rattle.journal_replay.specs.Starting.{Config, no_results, HasThread, IsRow, HasRow, HasEnded, Starts, CountsOf}
 use Rattle.journal_replay.specs.declared.end.End.{End}
 use Rattle.journal_replay.specs.declared.end.End.TheVariants as ends
-
--- A configuration has for each thread the results of its syncs, and nothing else.
-abbrev pub Config : Type 0
-Config = ℕ → List Chosen
-
-abbrev pub no_results : Config
-no_results t = []
 
 -- after these results the thread of this number offers this event
 pub record IsOffering (ps : List Proc) (t : ℕ) (results : List Chosen) (event : Tree) : Type 0 where
@@ -59,13 +53,15 @@ pub record CanTake (ps : List Proc) (rows : ℕ) (results : List Chosen) (at : R
 
 -- WHICH COMMIT MAY COME NEXT
 
-abbrev pub MayTake : List Proc → ℕ → Config → Row × ℕ → Base → Type 0
-MayTake ps rows config at b = CanTake ps rows (config at.0.thread) at b
+-- the row's thread has started, and can take this
+pub record MayTake (ps : List Proc) (rows : ℕ) (config : Config) (at : Row × ℕ) (b : Base) : Type 0 where
+  pub started : Starts ps config at.0.thread
+  pub can : CanTake ps rows (config at.0.thread) at b
 
 abbrev pub IsCaused : List Proc → ℕ → Config → Row × ℕ → Cause → Type 0
 IsCaused ps rows config at (cause.Always m) = MayTake ps rows config at (Always m)
 IsCaused ps rows config at (cause.Nack n) = MayTake ps rows config at (OnNack n) × ((g : ℕ) × IsFiredAt ps config n g)
-IsCaused ps rows config at (cause.End t) = ⊥
+IsCaused ps rows config at (cause.End t) = MayTake ps rows config at (OnEnd t) × Starts ps config t × HasEnded ps t (config t)
 
 abbrev pub IsLegal : List Proc → ℕ → Config → Commit → Type 0
 IsLegal ps rows config (Pair sender receiver chan msg stamp) =
@@ -77,7 +73,7 @@ IsLegal ps rows config (Alone at why stamp) = IsCaused ps rows config at why
 abbrev pub with_result : ℕ → Chosen → Config → Config
 with_result t result config u = if u == t then config u ++ result ∷ [] else config u
 
--- an always gives its message; a nack, like a send, the empty one
+-- an always gives its message; a nack and an end, like a send, the empty one
 abbrev pub message_by : Cause → Message
 message_by (cause.Always m) = m
 message_by (cause.Nack n) = Empty
@@ -98,18 +94,6 @@ config_of journal = config_from no_results journal
 
 -- STAMPS
 
-abbrev pub HasThread : Commit → ℕ → Type 0
-HasThread (Pair sender receiver chan msg stamp) t = (sender.0.thread ≡ t) ⊎ (receiver.0.thread ≡ t)
-HasThread (Alone at why stamp) t = at.0.thread ≡ t
-
--- sync g of thread t is in the commit
-abbrev pub IsRow : Row × ℕ → ℕ → ℕ → Type 0
-IsRow at t g = (at.0.thread ≡ t) × (at.0.sync ≡ g)
-
-abbrev pub HasRow : Commit → ℕ → ℕ → Type 0
-HasRow (Pair sender receiver chan msg stamp) t g = IsRow sender t g ⊎ IsRow receiver t g
-HasRow (Alone at why stamp) t g = IsRow at t g
-
 -- commit d fired the nack: with it a sync was committed that fired it
 abbrev pub Fires : List Proc → Config → NackName → Commit → Type 0
 Fires ps config n d = (g : ℕ) × IsFiredAt ps config n g × HasRow d n.thread g
@@ -117,12 +101,13 @@ Fires ps config n d = (g : ℕ) × IsFiredAt ps config n g × HasRow d n.thread 
 abbrev pub CausedBy : List Proc → Config → Cause → Commit → Type 0
 CausedBy ps config (cause.Always m) d = ⊥
 CausedBy ps config (cause.Nack n) d = Fires ps config n d
-CausedBy ps config (cause.End t) d = ⊥
+CausedBy ps config (cause.End t) d = CountsOf ps config t d
 
--- an earlier commit counts for one where they share a thread, or where it fired the nack that the one stands for
+-- An earlier commit counts for one where they share a thread, where it counts for the start of one of its threads, where it
+-- fired the nack that the one stands for, and where it counts for the thread whose end it stands for.
 abbrev pub CountsFor : List Proc → Config → Commit → Commit → Type 0
-CountsFor ps config (Pair sender receiver chan msg stamp) d = HasThread d sender.0.thread ⊎ HasThread d receiver.0.thread
-CountsFor ps config (Alone at why stamp) d = HasThread d at.0.thread ⊎ CausedBy ps config why d
+CountsFor ps config (Pair sender receiver chan msg stamp) d = CountsOf ps config sender.0.thread d ⊎ CountsOf ps config receiver.0.thread d
+CountsFor ps config (Alone at why stamp) d = CountsOf ps config at.0.thread d ⊎ CausedBy ps config why d
 
 -- the greatest stamp of the earlier commits of a kind, 0 where there is none
 pub record IsGreatest (earlier : List Commit) (Kind : Commit → Type 0) (stamp : ℕ) : Type 0 where
@@ -164,10 +149,13 @@ end_of rows count (Fails fault said []) = Some (ends.Faulted fault, said.printed
 end_of rows count (Fails fault printed (r ∷ left)) = None
 end_of rows count Strays = None
 
+-- a thread that has not started printed nothing
 pub record EndsAs (ps : List Proc) (rows t : ℕ) (config : Config) (end : End) (printed : List Atom) : Type 0 where
   pub process : Proc
   pub is_its : slice_get ps t ≡ Some process
-  pub ends : end_of rows (length (config t)) (after process.body (length process.variables) t (config t)) ≡ Some (end, printed)
+  pub ends :
+      (Starts ps config t × (end_of rows (length (config t)) (after process.body (length process.variables) t (config t)) ≡ Some (end, printed)))
+      ⊎ ((Starts ps config t → ⊥) × (end ≡ ends.Unstarted) × (printed ≡ []))
 
 -- how each process ended and what it printed, where its results are these
 pub record TellsEnds (ps : List Proc) (rows : ℕ) (config : Config) (ends : List End) (outputs : List (List Atom)) : Type 0 where

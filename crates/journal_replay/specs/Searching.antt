@@ -15,7 +15,7 @@ use Rattle.journal_replay.specs.declared.openings.Openings.{Openings}
 use Rattle.journal_replay.specs.declared.strand.Strand.{Strand}
 use Rattle.protocol_values.specs.declared.Side.{Side}
 use Rattle.protocol_values.specs.declared.Side.TheVariants.{Sends, Receives}
-use Rattle.journal_replay.specs.Standing.{CauseIsAt, Finds, MayFollow, last_in, fired_in}
+use Rattle.journal_replay.specs.Standing.{CauseIsAt, Finds, MayFollow, base_for, ended_in, last_in, fired_in}
 
 -- offers by row and number
 abbrev pub Places : Type 0
@@ -31,8 +31,14 @@ abbrev pub KeepsSide : List Strand → ℕ → Side → ℕ → Places → Place
 KeepsSide strands rows side c old new =
     (at : Row × ℕ) (m : Message) → Finds strands rows at (base_on side c m) → Contains old at → Contains new at
 
-abbrev pub KeepsNacks : List Strand → ℕ → Places → Places → Type 0
-KeepsNacks strands rows old new = (at : Row × ℕ) (n : NackName) → Finds strands rows at (OnNack n) → Contains old at → Contains new at
+-- a cause that another commit brings about: a nack that is fired, or the end of a thread
+abbrev pub IsBrought : Cause → Type 0
+IsBrought (Always m) = ⊥
+IsBrought (Nack n) = ⊤
+IsBrought (End t) = ⊤
+
+abbrev pub KeepsBrought : List Strand → ℕ → Places → Places → Type 0
+KeepsBrought strands rows old new = (at : Row × ℕ) (why : Cause) → IsBrought why → Finds strands rows at (base_for why) → Contains old at → Contains new at
 
 -- an offer on this side of the channel by another thread, or none where all that are listed are by this thread
 abbrev pub TakesOther : List Strand → ℕ → Side → ℕ → ℕ → Places → Option ((Row × ℕ) × Message) → Type 0
@@ -56,12 +62,12 @@ NoCause strands at why = (below : ℕ) → CauseIsAt strands (last_in strands at
 abbrev pub pair_of : List Strand → Row × ℕ → Row × ℕ → ℕ → Message → Commit
 pair_of strands sender receiver c m = Pair sender receiver c m (max (last_in strands sender.0.thread) (last_in strands receiver.0.thread) + 1)
 
--- no nack is fired for which a listed offer waits
-abbrev pub NoneByNack : List Strand → ℕ → Places → Type 0
-NoneByNack strands rows listed =
-    (at : Row × ℕ) (n : NackName) → Finds strands rows at (OnNack n) → Contains listed at → NoCause strands at (Nack n)
+-- no nack is fired, and no thread has ended, for which a listed offer waits
+abbrev pub NoneBrought : List Strand → ℕ → Places → Type 0
+NoneBrought strands rows listed =
+    (at : Row × ℕ) (why : Cause) → IsBrought why → Finds strands rows at (base_for why) → Contains listed at → NoCause strands at why
 
--- the commit takes this offer, and no nack is its cause
+-- the commit takes this offer, and neither a nack nor an end is its cause
 abbrev pub IsWith : Row × ℕ → Commit → Type 0
 IsWith at (Pair sender receiver c m stamp) = (sender ≡ at) ⊎ (receiver ≡ at)
 IsWith at (Alone row (Always m) stamp) = row ≡ at
@@ -84,12 +90,12 @@ HasChannels o = (length o.senders.items ≡ 256) × (length o.receivers.items �
 abbrev pub IsListed : Openings → Row × ℕ → Base → Type 0
 IsListed o at (Send c m) = Contains (slice_index_or o.senders.items c []) at
 IsListed o at (Recv c) = Contains (slice_index_or o.receivers.items c []) at
-IsListed o at (OnNack n) = Contains o.nacks at
-IsListed o at (OnEnd t) = ⊤
+IsListed o at (OnNack n) = Contains o.brought at
+IsListed o at (OnEnd t) = Contains o.brought at
 IsListed o at (base.Always m) = ⊤
 IsListed o at Never = ⊤
 
--- an offer that the commit takes is untried, or a nack is its cause
+-- an offer that the commit takes is untried, or a nack or an end is its cause
 abbrev pub HasUntried : Openings → Commit → Type 0
 HasUntried o (Pair sender receiver c m stamp) = Contains o.untried sender ⊎ Contains o.untried receiver
 HasUntried o (Alone row (Always m) stamp) = Contains o.untried row
@@ -141,3 +147,4 @@ pub record Bounded (rows : ℕ) (strands : List Strand) : Type 0 where
 pub record HasRoom (strands : List Strand) : Type 0 where
   pub last : (t : ℕ) → last_in strands t < 4294967295
   pub fired : (n : NackName) (stamp : ℕ) → fired_in strands n ≡ Some stamp → stamp < 4294967295
+  pub ended : (t stamp : ℕ) → ended_in strands t ≡ Some stamp → stamp < 4294967295

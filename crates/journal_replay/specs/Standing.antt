@@ -1,11 +1,14 @@
 -- What a replay remembers, and when that is true of a run.
-use Rattle.std.specs.Prelude.{◌≡◌, ◌≢◌, ◌==◌, ◌&&◌, ℕ, ◌+◌, if◌then◌else◌, max, List, [], ◌∷◌, ◌++◌, length, replicate, true, false, Option, Some, None, option_and_then, nat_lt, slice_get, slice_index_or, slice_set}
+use Rattle.std.specs.Prelude.{◌≡◌, ◌≢◌, ◌==◌, ◌&&◌, ℕ, ◌+◌, ◌<◌, ◌≤◌, if◌then◌else◌, max, List, [], ◌∷◌, ◌++◌, length, replicate, true, false, Bool, Contains, Option, Some, None, is_none, option_and_then, nat_lt, slice_get, slice_index_or, slice_set}
+use Rattle.std.specs.List.{list_any}
 use Rattle.script_tree.specs.Processes.{Proc}
+use Rattle.script_tree.specs.Spawning.{has_bit, spawner}
 use Rattle.script_tree.specs.Trees.{block_of}
 use Rattle.thread.specs.After.{Chosen}
 use Rattle.thread.specs.declared.machine.Turn.{Turn}
 use Rattle.thread.specs.declared.machine.Turn.TheVariants.{Offering, Ended, Faulted}
 use Rattle.thread.specs.Machines.{Thread, HasStopped, IsAfter, SameProcess, Tells, offers_in, nacks_in}
+use Rattle.protocol_values.specs.declared.Atom.{Atom}
 use Rattle.protocol_values.specs.declared.Base.{Base}
 use Rattle.protocol_values.specs.declared.Base.TheVariants.{Send, Recv, Always, OnNack, OnEnd}
 use Rattle.protocol_values.specs.declared.Cause.{Cause}
@@ -21,7 +24,8 @@ use Rattle.protocol_values.specs.Commits.{stamp_of}
 use Rattle.journal_replay.specs.declared.end.End.{End}
 use Rattle.journal_replay.specs.declared.end.End.TheVariants as end
 use Rattle.journal_replay.specs.declared.strand.Strand.{Strand}
-use Rattle.journal_replay.specs.Runs.{FiredAt, HasThread, HasRow, IsGreatest, config_of, message_by}
+use Rattle.journal_replay.specs.declared.threads.Threads.{Threads}
+use Rattle.journal_replay.specs.Runs.{Config, CountsOf, FiredAt, HasThread, HasRow, IsGreatest, Starts, config_of, message_by}
 
 -- WHAT IS TRUE OF A THREAD
 
@@ -46,23 +50,39 @@ KnowsNack ps t results earlier k None = (g : ℕ) → FiredAt ps t results k g �
 KnowsNack ps t results earlier k (Some stamp) =
     ((g : ℕ) × FiredAt ps t results k g) × IsGreatest earlier (FiresOf ps t results k) stamp
 
-pub record StrandStands (ps : List Proc) (t : ℕ) (results : List Chosen) (earlier : List Commit) (s : Strand) : Type 0 where
-  pub machine : MachineStands ps t results s.machine
+-- A strand that is marked as started has started, and remembers the greatest stamp that counts for what its thread does next;
+-- of another no commit is.
+pub record StrandStands (ps : List Proc) (config : Config) (t : ℕ) (earlier : List Commit) (s : Strand) : Type 0 where
+  pub machine : MachineStands ps t (config t) s.machine
   pub turn : Tells s.turn s.machine.phase
-  pub last : IsGreatest earlier (λ d. HasThread d t) s.last
-  pub fired : (k : ℕ) → KnowsNack ps t results earlier k (slice_index_or s.fired k None)
+  pub spawner : s.spawner ≡ spawner ps t
+  pub free : s.spawner ≡ None → s.started ≡ true
+  pub started : s.started ≡ true → Starts ps config t
+  pub idle : s.started ≡ false → (config t ≡ []) × ((d : Commit) → Contains earlier d → HasThread d t → ⊥)
+  pub last : s.started ≡ true → IsGreatest earlier (CountsOf ps config t) s.last
+  pub fired : (k : ℕ) → KnowsNack ps t (config t) earlier k (slice_index_or s.fired k None)
 
--- the threads stand where these commits lead
-pub record Stands (ps : List Proc) (journal : List Commit) (strands : List Strand) : Type 0 where
+-- these commits made these results: each row of theirs is a sync that was made
+abbrev pub AreMade : Config → List Commit → Type 0
+AreMade config earlier = (d : Commit) (t : ℕ) → Contains earlier d → HasThread d t → (g : ℕ) × (g < length (config t)) × HasRow d t g
+
+-- the threads stand in a configuration, but that more may have started than are marked
+pub record StandsIn (ps : List Proc) (config : Config) (journal : List Commit) (strands : List Strand) : Type 0 where
   pub count : length strands ≡ length ps
-  pub each : (t : ℕ) (s : Strand) → slice_get strands t ≡ Some s → StrandStands ps t (config_of journal t) journal s
+  pub each : (t : ℕ) (s : Strand) → slice_get strands t ≡ Some s → StrandStands ps config t journal s
+  pub made : AreMade config journal
+
+-- the threads stand where these commits lead, and each that has started is marked
+pub record Stands (ps : List Proc) (journal : List Commit) (strands : List Strand) : Type 0 where
+  pub stands : StandsIn ps (config_of journal) journal strands
+  pub marked : (t : ℕ) (s : Strand) → slice_get strands t ≡ Some s → Starts ps (config_of journal) t → s.started ≡ true
 
 -- WHAT THE CALLS FIND AND DO
 
--- offer n of the thread's next sync, where the row is that sync, of fewer than so many
+-- offer n of the thread's next sync, where it has started and the row is that sync, of fewer than so many
 abbrev pub next_offer : ℕ → Row × ℕ → Strand → Option Offer
 next_offer rows at s =
-    if (at.0.sync == length s.machine.results) && nat_lt at.0.sync rows then slice_get (offers_in s.machine.phase) at.1 else None
+    if s.started && ((at.0.sync == length s.machine.results) && nat_lt at.0.sync rows) then slice_get (offers_in s.machine.phase) at.1 else None
 
 -- how the thread stands, of at most so many syncs
 abbrev pub end_after : ℕ → ℕ → Turn → End
@@ -71,7 +91,18 @@ end_after rows count Ended = end.Ended
 end_after rows count (Faulted fault) = end.Faulted fault
 
 abbrev pub end_at : ℕ → Strand → End
-end_at rows s = end_after rows (length s.machine.results) s.turn
+end_at rows s = if s.started then end_after rows (length s.machine.results) s.turn else end.Unstarted
+
+-- what a thread that has started offers, with the nacks of its scopes
+abbrev pub offers_at : Strand → List Offer
+offers_at s = if s.started then offers_in s.machine.phase else []
+
+abbrev pub nacks_at : Strand → List ℕ
+nacks_at s = if s.started then nacks_in s.machine.phase else []
+
+-- what a thread that has started printed
+abbrev pub printed_at : Strand → List Atom
+printed_at s = if s.started then s.machine.output else []
 
 abbrev pub offer_in : List Strand → ℕ → Row × ℕ → Option Offer
 offer_in strands rows at = option_and_then (next_offer rows at) (slice_get strands at.0.thread)
@@ -85,6 +116,19 @@ last_in strands t = last_of (slice_get strands t)
 
 abbrev pub fired_in : List Strand → NackName → Option ℕ
 fired_in strands n = option_and_then (λ s. slice_index_or s.fired n.k None) (slice_get strands n.thread)
+
+-- the thread has started, and has ended or faulted
+abbrev pub is_over : Turn → Bool
+is_over Offering = false
+is_over Ended = true
+is_over (Faulted fault) = true
+
+-- the stamp that counts for the end of a thread
+abbrev pub end_stamp : Strand → Option ℕ
+end_stamp s = if s.started && is_over s.turn then Some s.last else None
+
+abbrev pub ended_in : List Strand → ℕ → Option ℕ
+ended_in strands t = option_and_then end_stamp (slice_get strands t)
 
 pub record Finds (strands : List Strand) (rows : ℕ) (at : Row × ℕ) (b : Base) : Type 0 where
   pub offer : Offer
@@ -100,7 +144,7 @@ base_for (cause.End t) = OnEnd t
 abbrev pub CauseIsAt : List Strand → ℕ → Cause → ℕ → Type 0
 CauseIsAt strands last (cause.Always m) below = below ≡ last
 CauseIsAt strands last (cause.Nack n) below = (fired : ℕ) × (fired_in strands n ≡ Some fired) × (below ≡ max last fired)
-CauseIsAt strands last (cause.End t) below = ⊥
+CauseIsAt strands last (cause.End t) below = (ended : ℕ) × (ended_in strands t ≡ Some ended) × (below ≡ max last ended)
 
 -- the commit may come next, with a stamp of one more than this
 abbrev pub MayFollow : List Strand → ℕ → Commit → ℕ → Type 0
@@ -128,6 +172,8 @@ pub record Grows (chosen : Chosen) (stamp : ℕ) (old new : Strand) : Type 0 whe
   pub stopped : HasStopped new.machine.phase
   pub after : IsAfter new.machine
   pub turn : Tells new.turn new.machine.phase
+  pub spawner : new.spawner ≡ old.spawner
+  pub started : new.started ≡ old.started
   pub last : new.last ≡ stamp
   pub offer : Offer
   pub was : slice_get (offers_in old.machine.phase) chosen.0 ≡ Some offer
@@ -141,13 +187,66 @@ pub record OneGrows (t : ℕ) (chosen : Chosen) (stamp : ℕ) (old new : List St
   pub grows : Grows chosen stamp before behind
   pub is : new ≡ slice_set old t behind
 
-abbrev pub Commits : Commit → List Strand → List Strand → Type 0
-Commits (Pair sender receiver chan msg stamp) old new =
+-- the threads of a commit took their results
+abbrev pub Takes : Commit → List Strand → List Strand → Type 0
+Takes (Pair sender receiver chan msg stamp) old new =
     (middle : List Strand) × OneGrows sender.0.thread (sender.1, Empty) stamp old middle × OneGrows receiver.0.thread (receiver.1, msg) stamp middle new
-Commits (Alone at why stamp) old new = OneGrows at.0.thread (at.1, message_by why) stamp old new
+Takes (Alone at why stamp) old new = OneGrows at.0.thread (at.1, message_by why) stamp old new
 
--- the process's thread at its first stop
-pub record Begins (process : Proc) (number : ℕ) (s : Strand) : Type 0 where
+-- whether the thread has started, and has spawned this one
+abbrev pub has_run : Strand → ℕ → Bool
+has_run s t = s.started && list_any (λ p. p == t) s.machine.spawned
+
+abbrev pub stamp_from : ℕ → Option Strand → Option ℕ
+stamp_from t None = None
+stamp_from t (Some s) = if has_run s t then Some s.last else None
+
+abbrev pub stamp_of_start : List Strand → ℕ → Strand → Option ℕ
+stamp_of_start strands t s = if s.started then None else option_and_then (λ from. stamp_from t (slice_get strands from)) s.spawner
+
+-- the stamp with which a thread starts now: the last of the thread that has spawned it
+abbrev pub start_stamp : List Strand → ℕ → Option ℕ
+start_stamp strands t = option_and_then (stamp_of_start strands t) (slice_get strands t)
+
+-- thread t starts
+pub record OneStarts (t : ℕ) (old new : List Strand) : Type 0 where
+  pub before : Strand
+  pub was : slice_get old t ≡ Some before
+  pub stamp : ℕ
+  pub due : start_stamp old t ≡ Some stamp
+  pub is : new ≡ slice_set old t (record before { started = true; last = stamp })
+
+abbrev pub TriesStart : ℕ → List Strand → List Strand → Bool → Type 0
+TriesStart t old new true = OneStarts t old new
+TriesStart t old new false = (start_stamp old t ≡ None) × (new ≡ old)
+
+-- some threads start, one after another
+pub data SomeStart : List Strand → List Strand → Type 0 where
+  NoneStarts : {old : List Strand} → SomeStart old old
+  Start : {old middle new : List Strand} (t : ℕ) (first : SomeStart old middle) (last : OneStarts t middle new) → SomeStart old new
+
+-- no thread is left that could start
+abbrev pub AllStarted : List Strand → Type 0
+AllStarted strands = (t : ℕ) → start_stamp strands t ≡ None
+
+-- all that could start did
+pub record Wakes (old new : List Strand) : Type 0 where
+  pub some : SomeStart old new
+  pub all : AllStarted new
+
+-- There are as many threads as a script can have. What spawns one stands behind it; and where no text spawns a process,
+-- nothing does.
+pub record IsOrdered (s : Threads) : Type 0 where
+  pub few : length s.strands.items ≤ 64
+  pub placed : (t from : ℕ) (x : Strand) → slice_get s.strands.items t ≡ Some x → x.spawner ≡ Some from → t < from
+  pub later : s.later ≡ false → (t : ℕ) (x : Strand) → slice_get s.strands.items t ≡ Some x → x.spawner ≡ None
+
+-- the threads of the commit took their results, and all started that could
+abbrev pub Commits : Commit → List Strand → List Strand → Type 0
+Commits c old new = (taken : List Strand) × Takes c old taken × Wakes taken new
+
+-- the process's thread at its first stop; it has started where no text spawns it
+pub record Begins (process : Proc) (from : Option ℕ) (number : ℕ) (s : Strand) : Type 0 where
   pub body : block_of s.machine.body ≡ process.body
   pub variables : s.machine.variables ≡ length process.variables
   pub thread : s.machine.thread ≡ number
@@ -155,5 +254,19 @@ pub record Begins (process : Proc) (number : ℕ) (s : Strand) : Type 0 where
   pub stopped : HasStopped s.machine.phase
   pub after : IsAfter s.machine
   pub turn : Tells s.turn s.machine.phase
+  pub started : s.started ≡ is_none from
+  pub spawner : s.spawner ≡ from
   pub last : s.last ≡ 0
   pub fired : s.fired ≡ replicate 256 None
+
+-- WHO SPAWNS A PROCESS, by masks of what each spawns
+
+-- the first mask, from number s on, with this bit
+abbrev pub first_with : ℕ → ℕ → List ℕ → Option ℕ
+first_with t s [] = None
+first_with t s (mask ∷ masks) = if has_bit mask t then Some s else first_with t (s + 1) masks
+
+-- for each process the first whose text spawns it
+pub record AreSpawners (ps : List Proc) (all : List (Option ℕ)) : Type 0 where
+  pub count : length all ≡ length ps
+  pub each : (t : ℕ) (o : Option ℕ) → slice_get all t ≡ Some o → o ≡ spawner ps t

@@ -16,6 +16,8 @@ pub enum End {
     Spent,
     /// It stopped at a fault.
     Faulted(Fault),
+    /// No process that has started has spawned it.
+    Unstarted,
 }
 
 impl End {
@@ -31,6 +33,7 @@ impl End {
             End::Faulted(Fault::Kind) => "faulted kind",
             End::Faulted(Fault::Range) => "faulted range",
             End::Faulted(Fault::Shape) => "faulted shape",
+            End::Unstarted => "unstarted",
         }
     }
 }

@@ -3,6 +3,7 @@
 //! Proved:
 //! - `replay` is Ok exactly where the commits are a run of the processes, want of memory aside, and else
 //!   names the first commit with which they are none.
+//! - A process that some text spawns takes part from where its spawner, once started, first spawned it.
 #![tactic(auto)]
 
 mod end;

@@ -1,10 +1,10 @@
 //! What the threads of a run offer, kept from one commit to the next.
 
-ghost use Rattle.std.specs.Prelude.{◌≡◌, ◌≤◌, ℕ, IfOk, OnOk, List, MatchOption, length};
+ghost use Rattle.std.specs.Prelude.{◌≡◌, ◌≤◌, false, IfOk, OnOk, List, MatchOption, length};
 ghost use Rattle.protocol_values.specs.declared.Commit.{Commit};
 ghost use Rattle.journal_replay.specs.declared.strand.Strand.{Strand};
 ghost use Rattle.journal_replay.specs.Searching.{Adds, Covers, FindsOther, HasChannels, HasRoom, Lists, NoneMay, NoneMayWith, Opens};
-ghost use Rattle.journal_replay.specs.Standing.{Commits, MayBe};
+ghost use Rattle.journal_replay.specs.Standing.{MayBe, Takes};
 
 use crate::threads::Threads;
 use crate::waiters::Waiters;
@@ -15,13 +15,13 @@ use std::alloc::{AllocError, Global};
 const CHANNELS: usize = 256;
 
 /// The offers of the threads' next syncs, among others that are closed by now: by channel those that
-/// send and those that receive, and those on nacks. Of an offer that is not among the untried ones no
-/// commit comes, but with one of these or by a nack.
+/// send and those that receive, and those whose cause another commit brings about, on nacks and on ends. Of an
+/// offer that is not among the untried ones no commit comes, but with one of these or by such a cause.
 #[derive(Drop)]
 pub(crate) struct Openings {
     senders: Vec<Waiters>,
     receivers: Vec<Waiters>,
-    nacks: Waiters,
+    brought: Waiters,
     untried: Waiters,
 }
 
@@ -45,13 +45,23 @@ impl Openings {
         let mut openings = Openings {
             senders: channels(alloc)?,
             receivers: channels(alloc)?,
-            nacks: Waiters::new(alloc),
+            brought: Waiters::new(alloc),
             untried: Waiters::new(alloc),
         };
-        for thread in 0..threads.strands.len() {
-            openings.open(threads, thread as u8)?;
-        }
+        openings.open_all(threads)?;
         Ok(openings)
+    }
+
+    /// Adds what the threads offer at their next syncs.
+    fn open_all(&mut self, threads: &Threads) -> Result<(), AllocError>
+        requires channels { HasChannels self.old }
+        requires few { length threads.now.strands.items ≤ 64 }
+        ensures { OnOk result (Covers threads.now.strands.items threads.now.rows self.new) }
+    {
+        for thread in 0..threads.strands.len() {
+            self.open(threads, thread as u8)?;
+        }
+        Ok(())
     }
 
     /// Puts an offer into the list where its base event belongs.
@@ -68,11 +78,11 @@ impl Openings {
                 self.receivers[usize::from(chan)].add(at)?;
                 Ok(())
             }
-            Base::OnNack(_) => {
-                self.nacks.add(at)?;
+            Base::OnNack(_) | Base::OnEnd(_) => {
+                self.brought.add(at)?;
                 Ok(())
             }
-            Base::Always(_) | Base::OnEnd(_) | Base::Never => Ok(()),
+            Base::Always(_) | Base::Never => Ok(()),
         }
     }
 
@@ -104,11 +114,20 @@ impl Openings {
         Ok(())
     }
 
-    /// Adds what the threads of a commit that was made offer now.
-    pub(crate) fn follow(&mut self, threads: &Threads, commit: &Commit) -> Result<(), AllocError>
-        requires { HasChannels self.old }
-        ensures { OnOk result ((old : List Strand) → Commits commit.now old threads.now.strands.items → Covers old threads.now.rows self.old → Covers threads.now.strands.items threads.now.rows self.new) }
+    /// Adds what the threads of a commit that was made offer now, and all where a thread started.
+    pub(crate) fn follow(
+        &mut self,
+        threads: &Threads,
+        commit: &Commit,
+        woke: bool,
+    ) -> Result<(), AllocError>
+        requires channels { HasChannels self.old }
+        requires few { length threads.now.strands.items ≤ 64 }
+        ensures { OnOk result ((old : List Strand) → (woke ≡ false → Takes commit.now old threads.now.strands.items) → Covers old threads.now.rows self.old → Covers threads.now.strands.items threads.now.rows self.new) }
     {
+        if woke {
+            return self.open_all(threads);
+        }
         match *commit {
             Commit::Pair {
                 sender,
@@ -146,7 +165,7 @@ impl Openings {
         }
     }
 
-    /// A commit that takes this offer, by no nack.
+    /// A commit that takes this offer, by no nack and no end.
     fn commit_with(&mut self, threads: &Threads, at: (Row, u8)) -> Option<Commit>
         requires room { HasRoom threads.now.strands.items }
         requires covers { Covers threads.now.strands.items threads.now.rows self.old }
@@ -181,6 +200,6 @@ impl Openings {
             }
             self.untried.remove_last();
         }
-        self.nacks.by_nack(threads)
+        self.brought.by_cause(threads)
     }
 }

@@ -2,6 +2,7 @@
 
 ghost use Rattle.std.specs.Prelude.{◌≤◌, IfOk, length, map, MatchResult};
 ghost use Rattle.script_tree.specs.Processes.{proc_of};
+ghost use Rattle.script_tree.specs.Spawning.{IsPlaced};
 ghost use Rattle.journal_replay.specs.Replays.{Refuses, Settles, StandsAfter};
 
 use crate::openings::Openings;
@@ -12,14 +13,15 @@ use script_tree::Proc;
 use std::alloc::{AllocError, Global};
 
 /// Adds the commits one after another, from the beginning of the processes, each of which makes at
-/// most `rows` syncs.
+/// most `rows` syncs. Who spawns a process stands behind it, as in a script.
 pub fn replay(
     alloc: Global,
     processes: &[Proc],
     rows: u16,
     commits: &[Commit],
 ) -> Result<State, ReplayFault>
-    requires { length processes.now ≤ 64 }
+    requires few { length processes.now ≤ 64 }
+    requires placed { IsPlaced (map proc_of processes.now) }
     ensures { MatchResult result (StandsAfter (map proc_of processes.now) rows commits.now) (Refuses (map proc_of processes.now) rows commits.now) }
 {
     let mut threads = Threads::start(alloc, processes, rows)?;
@@ -40,8 +42,8 @@ pub fn settle(alloc: Global, state: State) -> Result<(State, Vec<Commit>), Alloc
     let mut openings = Openings::of(alloc, &threads)?;
     let mut added = Vec::new(alloc);
     while let Some(commit) = openings.find(&threads) {
-        threads.apply(&commit)?;
-        openings.follow(&threads, &commit)?;
+        let woke = threads.apply(&commit)?;
+        openings.follow(&threads, &commit, woke)?;
         added.push(commit)?;
     }
     Ok((State { threads }, added))

@@ -1,15 +1,14 @@
 //! What a search for a commit that may come next asks of the threads.
 
-ghost use Rattle.std.specs.Prelude.{◌≡◌, ℕ, MatchOption};
-ghost use Rattle.protocol_values.specs.declared.Base.TheVariants.{OnNack};
+ghost use Rattle.std.specs.Prelude.{◌≡◌, MatchOption};
+ghost use Rattle.protocol_values.specs.declared.Cause.{Cause};
 ghost use Rattle.protocol_values.specs.declared.Message.{Message};
-ghost use Rattle.protocol_values.specs.declared.NackName.{NackName};
-ghost use Rattle.journal_replay.specs.Searching.{HasRoom, IsAlone, NoCause, base_on, pair_of};
-ghost use Rattle.journal_replay.specs.Standing.{Finds};
+ghost use Rattle.journal_replay.specs.Searching.{HasRoom, IsAlone, IsBrought, NoCause, base_on, pair_of};
+ghost use Rattle.journal_replay.specs.Standing.{Finds, base_for};
 
 use crate::threads::Threads;
 use crate::waiters::message_on;
-use protocol_values::{Base, Cause, Commit, Message, NackName, Row, Side};
+use protocol_values::{Base, Cause, Commit, Message, Row, Side};
 
 impl Threads {
     /// What the offer sends, where it is open and on this side of the channel.
@@ -19,14 +18,14 @@ impl Threads {
         message_on(self.offer(at)?.base, side, chan)
     }
 
-    /// The nack that the offer waits for, where it is open and one on a nack.
-    pub(crate) fn nack_at(&self, at: (Row, u8)) -> Option<NackName>
-        ensures { MatchOption result ((n : NackName) → Finds self.now.strands.items self.now.rows at (OnNack n) → ⊥) (λ n. Finds self.now.strands.items self.now.rows at (OnNack n)) }
+    /// The cause that the offer waits for, where it is open and one on a nack or an end.
+    pub(crate) fn cause_at(&self, at: (Row, u8)) -> Option<Cause>
+        ensures { MatchOption result ((why : Cause) → IsBrought why → Finds self.now.strands.items self.now.rows at (base_for why) → ⊥) (λ why. IsBrought why × Finds self.now.strands.items self.now.rows at (base_for why)) }
     {
         match self.offer(at)?.base {
-            Base::OnNack(nack) => Some(nack),
-            Base::Send(_, _) | Base::Recv(_) | Base::Always(_) | Base::OnEnd(_) | Base::Never =>
-                None,
+            Base::OnNack(nack) => Some(Cause::Nack(nack)),
+            Base::OnEnd(thread) => Some(Cause::End(thread)),
+            Base::Send(_, _) | Base::Recv(_) | Base::Always(_) | Base::Never => None,
         }
     }
 

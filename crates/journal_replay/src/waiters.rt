@@ -1,14 +1,14 @@
 //! Offers that wait.
 
-ghost use Rattle.std.specs.Prelude.{◌≡◌, ◌≢◌, ◌++◌, ◌∷◌, [], ◌<◌, ℕ, List, Contains, MatchOption, OnOk, Option, Some, slice_get, length, take, ◌-◌};
+ghost use Rattle.std.specs.Prelude.{◌≡◌, ◌++◌, ◌∷◌, [], ◌<◌, ℕ, List, MatchOption, OnOk, Option, Some, slice_get, length, take, ◌-◌};
 ghost use Rattle.protocol_values.specs.declared.Base.{Base};
 ghost use Rattle.protocol_values.specs.declared.Message.{Message};
 ghost use Rattle.protocol_values.specs.declared.Row.{Row};
-ghost use Rattle.journal_replay.specs.Searching.{HasRoom, KeepsNacks, KeepsSide, NoneByNack, TakesOther, base_on};
+ghost use Rattle.journal_replay.specs.Searching.{HasRoom, KeepsBrought, KeepsSide, NoneBrought, TakesOther, base_on};
 ghost use Rattle.journal_replay.specs.Standing.{MayBe};
 
 use crate::threads::Threads;
-use protocol_values::{Base, Cause, Commit, Message, Row, Side};
+use protocol_values::{Base, Commit, Message, Row, Side};
 use std::alloc::{AllocError, Global};
 use std::marker::Model;
 
@@ -94,22 +94,23 @@ impl Waiters {
         None
     }
 
-    /// A commit by a nack that is fired and waited for. Offers that are found closed are removed.
-    pub(crate) fn by_nack(&mut self, threads: &Threads) -> Option<Commit>
+    /// A commit by a nack that is fired, or by the end of a thread, for which an offer waits. Offers that are found
+    /// closed are removed.
+    pub(crate) fn by_cause(&mut self, threads: &Threads) -> Option<Commit>
         requires { HasRoom threads.now.strands.items }
-        ensures kept { KeepsNacks threads.now.strands.items threads.now.rows self.old self.new }
-        ensures found { MatchOption result (NoneByNack threads.now.strands.items threads.now.rows self.old) (MayBe threads.now.strands.items threads.now.rows) }
+        ensures kept { KeepsBrought threads.now.strands.items threads.now.rows self.old self.new }
+        ensures found { MatchOption result (NoneBrought threads.now.strands.items threads.now.rows self.old) (MayBe threads.now.strands.items threads.now.rows) }
     {
         let mut index = self.places.len();
         while index > 0 {
             index -= 1;
             let at = self.places[index];
-            match threads.nack_at(at) {
+            match threads.cause_at(at) {
                 None => {
                     self.places.swap_remove(index);
                 }
-                Some(nack) => {
-                    if let Some(commit) = threads.alone(at, Cause::Nack(nack)) {
+                Some(cause) => {
+                    if let Some(commit) = threads.alone(at, cause) {
                         return Some(commit);
                     }
                 }

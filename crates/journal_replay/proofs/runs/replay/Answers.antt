@@ -1,5 +1,5 @@
 use Rattle.std.proofs.lemmas.Bool.{both_ways}
-use Rattle.journal_replay.proofs.Replaying.{replay-stops, replay-goes}
+use Rattle.journal_replay.proofs.Replaying.{after-order, replay-stops, replay-goes}
 use Rattle.journal_replay.proofs.runs.replay.Goals as goal
 
 pub returns-then-not-may_follow : goal.returns-then-not-may_follow
@@ -11,3 +11,6 @@ pub loop-index-preserved : goal.loop-index-preserved
 loop-index-preserved c =
     replay-goes _ _ _ _ _ c.loop-index.threads c.apply.new.self c.loop-index.invariant c.loop-index-test.true
     (c.may_follow.ensures.0 c.if-not-may_follow.false) c.in_ok-apply.ensures.strands c.apply.ensures.rows
+
+pub apply-requires-clause-order : goal.apply-requires-clause-order
+apply-requires-clause-order c = after-order _ _ _ c.loop-index.threads c.loop-index.invariant

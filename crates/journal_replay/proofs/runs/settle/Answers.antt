@@ -3,7 +3,7 @@ use Rattle.protocol_values.specs.declared.Commit.{Commit}
 use Rattle.journal_replay.specs.Reaching.{AreAfter}
 use Rattle.journal_replay.specs.Searching.{Covers, NoneMay}
 use Rattle.journal_replay.specs.Standing.{MayBe}
-use Rattle.journal_replay.proofs.Replaying.{left-falls, maximal, reached-next, reached-room, settles-next}
+use Rattle.journal_replay.proofs.Replaying.{left-falls, maximal, reached-next, reached-order, reached-room, settles-next}
 use Rattle.journal_replay.proofs.runs.settle.Goals as goal
 
 pub loop-commit-init : goal.loop-commit-init
@@ -18,11 +18,20 @@ loop-commit-init c = record {
 pub find-requires-clause-room : goal.find-requires-clause-room
 find-requires-clause-room c = (reached-room c.loop-commit.threads c.loop-commit.invariant.reached).0
 
+pub apply-requires-clause-order : goal.apply-requires-clause-order
+apply-requires-clause-order c = reached-order c.loop-commit.threads c.loop-commit.invariant.reached
+
+pub follow-requires-clause-few : goal.follow-requires-clause-few
+follow-requires-clause-few c =
+    let s = c.loop-commit.threads in
+    let may : MayBe s.strands.items s.rows c.in-Some.commit = subst (λ (o : Option Commit). MatchOption o (NoneMay s.strands.items s.rows) (MayBe s.strands.items s.rows)) c.in-Some.is c.find.ensures.found in
+    (reached-room c.apply.new.self (reached-next c.in-Some.commit s c.apply.new.self c.loop-commit.invariant.reached may c.in_ok-woke.ensures.strands c.apply.ensures.rows)).1
+
 pub loop-commit-smaller : goal.loop-commit-smaller
 loop-commit-smaller c =
     let s = c.loop-commit.threads in
     let may : MayBe s.strands.items s.rows c.in-Some.commit = subst (λ (o : Option Commit). MatchOption o (NoneMay s.strands.items s.rows) (MayBe s.strands.items s.rows)) c.in-Some.is c.find.ensures.found in
-    left-falls c.in-Some.commit s c.apply.new.self c.loop-commit.invariant.reached may c.in_ok-apply.ensures.strands c.apply.ensures.rows
+    left-falls c.in-Some.commit s c.apply.new.self c.loop-commit.invariant.reached may c.in_ok-woke.ensures.strands c.apply.ensures.rows
 
 pub loop-commit-preserved : goal.loop-commit-preserved
 loop-commit-preserved c =
@@ -30,13 +39,13 @@ loop-commit-preserved c =
     let t = c.apply.new.self in
     let may : MayBe s.strands.items s.rows c.in-Some.commit = subst (λ (o : Option Commit). MatchOption o (NoneMay s.strands.items s.rows) (MayBe s.strands.items s.rows)) c.in-Some.is c.find.ensures.found in
     record {
-      covers = c.in_ok-follow.ensures s.strands.items c.in_ok-apply.ensures.strands
-          (subst (λ (n : ℕ). Covers s.strands.items n c.find.new.self) (sym c.apply.ensures.rows) c.find.ensures.covers);
-      reached = reached-next c.in-Some.commit s t c.loop-commit.invariant.reached may c.in_ok-apply.ensures.strands c.apply.ensures.rows;
+      covers = c.in_ok-follow.ensures s.strands.items c.in_ok-woke.ensures.quiet
+          (subst (λ (n : ℕ). Covers s.strands.items n c.find.new.self) (sym c.apply.ensures.rows.0) c.find.ensures.covers);
+      reached = reached-next c.in-Some.commit s t c.loop-commit.invariant.reached may c.in_ok-woke.ensures.strands c.apply.ensures.rows;
       run = λ ps rows journal stands.
           subst (λ (cs : List Commit). AreAfter ps rows (journal ++ cs) t) (sym c.in_ok-push.ensures.items)
           (settles-next ps rows journal c.loop-commit.added.items c.in-Some.commit s t (c.loop-commit.invariant.run ps rows journal stands) may
-          c.in_ok-apply.ensures.strands c.apply.ensures.rows);
+          c.in_ok-woke.ensures.strands c.apply.ensures.rows);
     }
 
 pub returns : goal.returns

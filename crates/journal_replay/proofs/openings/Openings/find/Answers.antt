@@ -2,7 +2,7 @@ use Rattle.std.proofs.Common.{◌≡◌, ◌-◌, Option, Some, MatchOption, len
 use Rattle.protocol_values.specs.declared.Commit.{Commit}
 use Rattle.journal_replay.specs.Searching.{NoneMayWith, Places}
 use Rattle.journal_replay.specs.Standing.{MayBe}
-use Rattle.journal_replay.proofs.Covering.{covers-nacks, covers-tried, finds-left}
+use Rattle.journal_replay.proofs.Covering.{covers-brought, covers-tried, finds-left}
 use Rattle.journal_replay.proofs.openings.Openings.find.Goals as goal
 
 pub loop-at-preserved : goal.loop-at-preserved
@@ -18,9 +18,9 @@ loop-at-preserved c =
 pub returns-clause-covers : goal.returns-clause-covers
 returns-clause-covers c =
     let s = c.args.threads.now in
-    covers-nacks s.strands.items s.rows c.loop-at.self _ c.loop-at.invariant refl c.by_nack.ensures.kept refl refl
+    covers-brought s.strands.items s.rows c.loop-at.self _ c.loop-at.invariant refl c.by_cause.ensures.kept refl refl
 
 pub returns-clause-found : goal.returns-clause-found
 returns-clause-found c =
     let s = c.args.threads.now in
-    finds-left s.strands.items s.rows c.loop-at.self c.by_nack.result c.loop-at.invariant (sym c.last.ensures ∙ c.in_default.is) c.by_nack.ensures.found
+    finds-left s.strands.items s.rows c.loop-at.self c.by_cause.result c.loop-at.invariant (sym c.last.ensures ∙ c.in_default.is) c.by_cause.ensures.found

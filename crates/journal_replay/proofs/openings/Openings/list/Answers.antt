@@ -3,15 +3,14 @@ use Rattle.std.specs.Vec.{with_item}
 use Rattle.std.proofs.lemmas.List.{length-set, get_or_default}
 use Rattle.journal_replay.specs.declared.openings.Openings.{Openings}
 use Rattle.journal_replay.specs.Searching.{IsListed, Places}
-use Rattle.journal_replay.proofs.Covering.{lanes-last, listed-nack, listed-recv, listed-send}
-use Rattle.journal_replay.proofs.Lists.{contains-last}
+use Rattle.journal_replay.proofs.Covering.{lanes-last, listed-recv, listed-send}
 use Rattle.journal_replay.proofs.openings.Openings.list.Goals as goal
 
 pub returns-in_ok-add-in-Send : goal.returns-in_ok-add-in-Send
 returns-in_ok-add-in-Send c =
     let o = c.args.self.now in
     let lanes : List Places = o.senders.items in
-    let p : Openings = record { senders = with_item o.senders c.from.result c.add.new.self; receivers = o.receivers; nacks = o.nacks; untried = o.untried } in
+    let p : Openings = record { senders = with_item o.senders c.from.result c.add.new.self; receivers = o.receivers; brought = o.brought; untried = o.untried } in
     let i : ℕ = c.from.result in
     let now : Places = c.index_mut.result.now in
     let within : i < length lanes = search rules in
@@ -31,7 +30,7 @@ pub returns-in_ok-add-in-Recv : goal.returns-in_ok-add-in-Recv
 returns-in_ok-add-in-Recv c =
     let o = c.args.self.now in
     let lanes : List Places = o.receivers.items in
-    let p : Openings = record { senders = o.senders; receivers = with_item o.receivers c.from-in-Recv.result c.add-in-Recv.new.self; nacks = o.nacks; untried = o.untried } in
+    let p : Openings = record { senders = o.senders; receivers = with_item o.receivers c.from-in-Recv.result c.add-in-Recv.new.self; brought = o.brought; untried = o.untried } in
     let i : ℕ = c.from-in-Recv.result in
     let now : Places = c.index_mut-in-Recv.result.now in
     let within : i < length lanes = search rules in
@@ -44,17 +43,5 @@ returns-in_ok-add-in-Recv c =
       there = subst (IsListed p c.args.at) (sym c.in-Recv.is)
           (subst (λ (n : ℕ). Contains (get_or (set lanes i c.add-in-Recv.new.self) n []) c.args.at) c.from-in-Recv.ensures
           (subst (λ (ls : List Places). Contains (get_or ls i []) c.args.at) (sym receives) (lanes-last lanes i c.args.at within)));
-      untried = refl;
-    }
-
-pub returns-in_ok-add-in-OnNack : goal.returns-in_ok-add-in-OnNack
-returns-in_ok-add-in-OnNack c =
-    let o = c.args.self.now in
-    let p : Openings = record { senders = o.senders; receivers = o.receivers; nacks = c.add-in-OnNack.new.self; untried = o.untried } in
-    let nacks : p.nacks ≡ o.nacks ++ c.args.at ∷ [] = c.in_ok-add-in-OnNack.ensures in
-    record {
-      channels = λ h. h;
-      kept = listed-nack o p c.args.at nacks refl refl;
-      there = subst (IsListed p c.args.at) (sym c.in-OnNack.is) (subst (λ (xs : Places). Contains xs c.args.at) (sym nacks) (contains-last o.nacks c.args.at));
       untried = refl;
     }

@@ -21,7 +21,7 @@ returns-in-Sends-clause-covers c =
     let new : Places = c.partner.new.self in
     let within : i < length o.senders.items = search rules in
     let was : now ≡ get_or o.senders.items i [] = c.index_mut.ensures.value ∙ get_or_default o.senders.items i now [] within in
-    let p : Openings = record { senders = with_item o.senders i new; receivers = o.receivers; nacks = o.nacks; untried = o.untried } in
+    let p : Openings = record { senders = with_item o.senders i new; receivers = o.receivers; brought = o.brought; untried = o.untried } in
     covers-sends s.strands.items s.rows o p c.requires refl i new within
     (subst (λ (xs : Places). KeepsSide s.strands.items s.rows Sends i xs new) was
     (subst (λ (n : ℕ). KeepsSide s.strands.items s.rows Sends n now new) (sym c.from-channel.ensures)
@@ -52,7 +52,7 @@ returns-in-Receives-clause-covers c =
     let new : Places = c.partner-in-Receives.new.self in
     let within : i < length o.receivers.items = search rules in
     let was : now ≡ get_or o.receivers.items i [] = c.index_mut-in-Receives.ensures.value ∙ get_or_default o.receivers.items i now [] within in
-    let p : Openings = record { senders = o.senders; receivers = with_item o.receivers i new; nacks = o.nacks; untried = o.untried } in
+    let p : Openings = record { senders = o.senders; receivers = with_item o.receivers i new; brought = o.brought; untried = o.untried } in
     covers-receives s.strands.items s.rows o p c.requires refl i new within
     (subst (λ (xs : Places). KeepsSide s.strands.items s.rows Receives i xs new) was
     (subst (λ (n : ℕ). KeepsSide s.strands.items s.rows Receives n now new) (sym c.from-channel.ensures)

@@ -1,5 +1,0 @@
-use Rattle.journal_replay.proofs.Covering.{OpensBelow}
-use Rattle.journal_replay.proofs.openings.Openings.of.Given as goal
-
-abbrev pub invariant-loop-thread : goal.invariant-loop-thread
-invariant-loop-thread l = OpensBelow l.threads.strands.items l.threads.rows l.thread l.openings
