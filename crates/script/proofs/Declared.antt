@@ -5,12 +5,12 @@ use Rattle.std.specs.Str.{bytes_eq}
 use Rattle.std.specs.Coded.{×_prop, Unit-prop, Coded-set, coded_bool}
 use Rattle.std.proofs.lemmas.List.{append-nil}
 use Rattle.std.proofs.lemmas.Slice.Eq.{bytes_eq-Decides}
-use Rattle.script_grammar.specs.Meaning.{place, block_meaning, declare, channels_meaning, processes_meaning}
+use Rattle.script_grammar.specs.Meaning.{place, first_names, block_meaning, declare, channels_meaning, processes_meaning}
 use Rattle.script_reader.specs.Steps.{start}
 use Rattle.script_token.specs.Tokens.{Token, is_name}
 use Rattle.script_tree.specs.Processes.{Proc}
 use Rattle.script_grammar.specs.Written as written
-use Rattle.script_grammar.specs.Written.{block_tokens, channels_tokens, processes_tokens}
+use Rattle.script_grammar.specs.Written.{channels_tokens, processes_tokens}
 use Rattle.script_reader.proofs.Placing.{not_first}
 use Rattle.script_grammar.proofs.Parts.{part, some_is, unless_some}
 use Rattle.script_reader.proofs.ReadNames.{neither}
@@ -67,16 +67,16 @@ abbrev names_written : List written.Process → List (List ℕ)
 names_written [] = []
 names_written (p ∷ ps) = p.name ∷ names_written ps
 
-processes_distinct : (ws : List written.Process) (channels names : List (List ℕ)) (ps : List Proc) → processes_meaning channels names ws ≡ Some ps → AreDistinct names → Follow names (names_written ws) ps
+processes_distinct : (ws : List written.Process) (channels names : List (List ℕ)) (spawned : List ℕ) (ps : List Proc) → processes_meaning channels names spawned ws ≡ Some ps → AreDistinct names → Follow names (names_written ws) ps
 unfolding processes_meaning
-processes_distinct [] channels names ps e h =
+processes_distinct [] channels names spawned ps e h =
     subst (Follow names []) (some_is _ _ e) (record { same = refl; distinct = subst AreDistinct (sym (append-nil names)) h })
-processes_distinct (w ∷ ws) channels names ps e h =
+processes_distinct (w ∷ ws) channels names spawned ps e h =
     let d = part (declare 64 names w.name) _ ps e in
     let one = declared 64 names d.first w.name d.is h in
-    let b = part (block_meaning true (record { channels = channels; variables = [] }) w.body) _ ps d.then in
-    let o = part (processes_meaning channels d.first ws) _ ps b.then in
-    let more = processes_distinct ws channels d.first o.first o.is one.1 in
+    let b = part (block_meaning true (first_names channels names spawned) w.body) _ ps d.then in
+    let o = part (processes_meaning channels d.first b.first.1.spawned ws) _ ps b.then in
+    let more = processes_distinct ws channels d.first b.first.1.spawned o.first o.is one.1 in
     subst (Follow names (w.name ∷ names_written ws)) (some_is _ _ o.then) (record {
       same = ap (λ (y : List (List ℕ)). w.name ∷ y) more.same;
       distinct = subst AreDistinct (ap (λ (y : List (List ℕ)). y ++ names_written ws) (sym one.0) ∙ append_assoc names (w.name ∷ []) (names_written ws)) more.distinct;
@@ -101,7 +101,7 @@ processes_named : (ws : List written.Process) → AllGood (processes_tokens ws) 
 unfolding AllGood Good
 processes_named [] h = tt
 processes_named (w ∷ ws) h =
-    let s = block_shape w.body true 49 (start []) in
+    let s = block_shape w.body true 49 (start [] [] []) in
     (h.1.0.0, processes_named ws (good_behind s.text (processes_tokens ws) (subst AllGood (s.is (processes_tokens ws)) h.1.1)))
 
 -- SCRIPTS
@@ -111,9 +111,9 @@ unfolding script_meaning
 names_of_text bytes s h =
     let w = h.written in
     let c = part (channels_meaning [] w.channels) _ s h.meaning in
-    let p = part (processes_meaning c.first [] w.processes) _ s c.then in
+    let p = part (processes_meaning c.first [] [] w.processes) _ s c.then in
     let channels = channels_distinct w.channels [] c.first c.is tt in
-    let processes = processes_distinct w.processes c.first [] p.first p.is tt in
+    let processes = processes_distinct w.processes c.first [] [] p.first p.is tt in
     let good = channels_named w.channels (processes_tokens w.processes) (subst AllGood h.tokens (texts_are_good bytes)) in
     subst (λ (x : Script). AreNames x.channels × AreNames (map (λ p. p.name) x.processes)) (some_is _ _ p.then)
     ((subst AllNames channels.0 good.0, channels.1), subst AreNames (sym processes.same) (processes_named w.processes good.1, processes.distinct))

@@ -1,5 +1,6 @@
 pub mod Declaring
 pub mod Telling
+pub mod Spawning
 pub mod KeepingScripts
 pub mod Spelled
 pub mod Declares

@@ -6,11 +6,11 @@ use Rattle.script_token.specs.Tokens.{Token, Fixed, Name}
 use Rattle.script_token.specs.declared.kind.Symbol.TheVariants.{Channel, Process, Semicolon}
 use Rattle.script_tree.specs.Trees as trees
 use Rattle.script_tree.specs.Processes.{Proc}
-use Rattle.script_grammar.specs.Meaning.{place, if_some, Names, block_meaning, declare, channels_meaning, processes_meaning}
+use Rattle.script_grammar.specs.Meaning.{place, if_some, Names, block_meaning, declare, channels_meaning, processes_meaning, first_names}
 use Rattle.script_reader.specs.Steps.{Told, ◌>>=◌, repeated, name_at, next_is, accept_at, expect_at, Here, start}
 use Rattle.script_reader.proofs.Keeping.{bound_ok, ok_is, no_ok, if_ok, some_ok}
 use Rattle.script_grammar.specs.Written as written
-use Rattle.script_grammar.specs.Written.{block_tokens, body_tokens, channels_tokens, processes_tokens, script_tokens}
+use Rattle.script_grammar.specs.Written.{block_tokens, channels_tokens, processes_tokens, script_tokens}
 use Rattle.script_grammar.specs.Depths.{block_depth, processes_depth, script_depth}
 use Rattle.script_reader.specs.Laws.{names_at, at}
 use Rattle.script_reader.proofs.ReadFronts.{accept_ok, expect_ok, is_next, next_found, name_found, accept_found, expect_found, no_step, one_step}
@@ -25,6 +25,7 @@ use Rattle.script_reader.specs.declared.fault.Problem.TheVariants.{Syntax, Unkno
 use Rattle.script_reader.specs.declared.process.Loops.TheVariants.{Allowed}
 use Rattle.script.specs.declared.fault.ScriptFault.{ScriptFault}
 use Rattle.script.specs.declared.fault.ScriptFault.TheVariants as faults
+use Rattle.script_grammar.proofs.Spawning.{block_spawns}
 use Rattle.script_reader.proofs.Found.{blocks_found}
 use Rattle.script_reader.proofs.Again.{no_counts, block_again, body_longer}
 
@@ -122,57 +123,58 @@ channels_again (text ∷ texts) names new rest (suc n) e last fuel =
 
 -- PROCESSES
 
-abbrev bare_names : List (List ℕ) → Names
-bare_names channels = record { channels = channels; variables = [] }
-
 record SpellsProcesses (channels : List (List ℕ)) (s x : Drawn) : Type 0 where
   written : List written.Process
   list : List Proc
-  tokens : s.3 ≡ processes_tokens written
+  tokens : s.2 ≡ processes_tokens written
   depth : processes_depth written ≤ 48
-  meaning : processes_meaning channels s.1 written ≡ Some list
+  meaning : processes_meaning channels s.1.processes s.1.spawned written ≡ Some list
   value : s.0 ++ list ≡ x.0
-  same : x.2.channels ≡ channels
+  same : x.1.channels ≡ channels
 
 is_empty : (ts : List Token) → length ts ≤ 0 → ts ≡ []
 is_empty [] h = refl
 is_empty (t ∷ ts) h = absurd (omega (arith, h))
 
-no_processes : (channels : List (List ℕ)) (s : Drawn) → length s.3 ≤ 0 → s.2.channels ≡ channels → SpellsProcesses channels s s
+no_processes : (channels : List (List ℕ)) (s : Drawn) → length s.2 ≤ 0 → s.1.channels ≡ channels → SpellsProcesses channels s s
 unfolding processes_meaning
-no_processes channels s h e = record { written = []; list = []; tokens = is_empty s.3 h; depth = omega arith; meaning = refl; value = append-nil s.0; same = e }
+no_processes channels s h e = record { written = []; list = []; tokens = is_empty s.2 h; depth = omega arith; meaning = refl; value = append-nil s.0; same = e }
 
-processes_more : (channels names new : List (List ℕ)) (p : written.Process) (ps : List written.Process) (b : trees.Block × Names) (qs : List Proc)
-    → declare 64 names p.name ≡ Some new → block_meaning true (bare_names channels) p.body ≡ Some b → processes_meaning channels new ps ≡ Some qs
-    → processes_meaning channels names (p ∷ ps) ≡ Some (record { name = p.name; body = b.0; variables = b.1.variables; channels = length channels; earlier = length names } ∷ qs)
+processes_more : (channels names new : List (List ℕ)) (spawned : List ℕ) (p : written.Process) (ps : List written.Process) (b : trees.Block × Names) (qs : List Proc)
+    → declare 64 names p.name ≡ Some new → block_meaning true (first_names channels names spawned) p.body ≡ Some b → processes_meaning channels new b.1.spawned ps ≡ Some qs
+    → processes_meaning channels names spawned (p ∷ ps) ≡ Some (record { name = p.name; body = b.0; variables = b.1.variables; channels = length channels; earlier = length names } ∷ qs)
 unfolding processes_meaning
-processes_more channels names new p ps b qs declared meant more = rw (declared, meant, more) refl
+processes_more channels names new spawned p ps b qs declared meant more = rw (declared, meant, more) refl
 
-one_process : (channels : List (List ℕ)) (n : ℕ) (s x : Drawn) → length s.3 ≤ suc n → s.2.channels ≡ channels → (t : Drawn) → process_next s ≡ Ok t
-    → (length t.3 ≤ n → t.2.channels ≡ channels → SpellsProcesses channels t x) → SpellsProcesses channels s x
+one_process : (channels : List (List ℕ)) (n : ℕ) (s x : Drawn) → length s.2 ≤ suc n → s.1.channels ≡ channels → (t : Drawn) → process_next s ≡ Ok t
+    → (length t.2 ≤ n → t.1.channels ≡ channels → SpellsProcesses channels t x) → SpellsProcesses channels s x
 unfolding processes_meaning process_next
 one_process channels n s x fuel same t e next =
-    let a = bound_ok (expect_at 49 Process s.3) _ t e in
-    let word = expect_found 49 Process s.3 a.first a.is in
-    let c = bound_ok (declare_at 64 s.1 a.first) _ t a.then in
-    let name = declared_found 64 s.1 a.first c.first c.is in
-    let b = bound_ok (block_at 49 Allowed (start s.2.channels) c.first.2) _ t c.then in
-    let body' = blocks_found 49 Allowed (start s.2.channels) c.first.2 b.first b.is in
-    let meant : block_meaning true (bare_names channels) body'.body ≡ Some (b.first.0, names_at b.first.1) = ap (λ (y : List (List ℕ)). block_meaning true (bare_names y) body'.body) (sym same) ∙ body'.meaning in
-    let grows = block_grows body'.body true (bare_names channels) (b.first.0, names_at b.first.1) meant in
-    let whole : (s.0 ++ proc_from c.first.0 (length s.1) b.first.0 b.first.1 ∷ [], c.first.1, b.first.1, b.first.2) ≡ t = ok_is _ _ b.then in
-    let tokens : s.3 ≡ Fixed Process ∷ Name c.first.0 ∷ block_tokens body'.body b.first.2 = word.is ∙ ap (λ (y : List Token). Fixed Process ∷ y) (name.tokens ∙ ap (λ (y : List Token). Name c.first.0 ∷ y) body'.tokens) in
+    let names = s.1.processes in
+    let spawned = s.1.spawned in
+    let a = bound_ok (expect_at 49 Process s.2) _ t e in
+    let word = expect_found 49 Process s.2 a.first a.is in
+    let c = bound_ok (declare_at 64 names a.first) _ t a.then in
+    let name = declared_found 64 names a.first c.first c.is in
+    let b = bound_ok (block_at 49 Allowed (start s.1.channels names spawned) c.first.2) _ t c.then in
+    let body' = blocks_found 49 Allowed (start s.1.channels names spawned) c.first.2 b.first b.is in
+    let meant : block_meaning true (first_names channels names spawned) body'.body ≡ Some (b.first.0, names_at b.first.1) = ap (λ (y : List (List ℕ)). block_meaning true (first_names y names spawned) body'.body) (sym same) ∙ body'.meaning in
+    let grows = block_grows body'.body true (first_names channels names spawned) (b.first.0, names_at b.first.1) meant in
+    let stay = block_spawns body'.body true (first_names channels names spawned) (b.first.0, names_at b.first.1) meant in
+    let whole : (s.0 ++ proc_from c.first.0 b.first.0 b.first.1 ∷ [], record b.first.1 { processes = c.first.1 }, b.first.2) ≡ t = ok_is _ _ b.then in
+    let tokens : s.2 ≡ Fixed Process ∷ Name c.first.0 ∷ block_tokens body'.body b.first.2 = word.is ∙ ap (λ (y : List Token). Fixed Process ∷ y) (name.tokens ∙ ap (λ (y : List Token). Name c.first.0 ∷ y) body'.tokens) in
     let shorter : length b.first.2 ≤ n = omega (arith, fuel, ap length tokens, body_longer body'.body b.first.2) in
-    let proc = proc_from c.first.0 (length s.1) b.first.0 b.first.1 in
-    let next' : length b.first.2 ≤ n → b.first.1.channels ≡ channels → SpellsProcesses channels (s.0 ++ proc ∷ [], c.first.1, b.first.1, b.first.2) x =
-    subst (λ (y : Drawn). length y.3 ≤ n → y.2.channels ≡ channels → SpellsProcesses channels y x) (sym whole) next in
+    let proc = proc_from c.first.0 b.first.0 b.first.1 in
+    let next' : length b.first.2 ≤ n → b.first.1.channels ≡ channels → SpellsProcesses channels (s.0 ++ proc ∷ [], record b.first.1 { processes = c.first.1 }, b.first.2) x =
+    subst (λ (y : Drawn). length y.2 ≤ n → y.1.channels ≡ channels → SpellsProcesses channels y x) (sym whole) next in
     let more = next' shorter grows.channels in
     record {
       written = record { name = c.first.0; body = body'.body } ∷ more.written;
       list = proc ∷ more.list;
       tokens = tokens ∙ ap (λ (y : List Token). Fixed Process ∷ Name c.first.0 ∷ block_tokens body'.body y) more.tokens;
       depth = omega (arith, body'.depth, more.depth);
-      meaning = processes_more channels s.1 c.first.1 (record { name = c.first.0; body = body'.body }) more.written (b.first.0, names_at b.first.1) more.list name.meaning meant more.meaning ∙ (ap (λ (y : List (List ℕ)). Some (record { name = c.first.0; body = b.first.0; variables = b.first.1.variables; channels = length y; earlier = length s.1 } ∷ more.list)) (sym grows.channels));
+      meaning = processes_more channels names c.first.1 spawned (record { name = c.first.0; body = body'.body }) more.written (b.first.0, names_at b.first.1) more.list name.meaning meant more.meaning
+          ∙ (ap₂ (λ (y z : List (List ℕ)). Some (record { name = c.first.0; body = b.first.0; variables = b.first.1.variables; channels = length y; earlier = length z } ∷ more.list)) (sym grows.channels) (sym stay.processes));
       value = sym (append_assoc s.0 (proc ∷ []) more.list) ∙ more.value;
       same = more.same;
     }
@@ -180,26 +182,26 @@ one_process channels n s x fuel same t e next =
 empty_is : (n : ℕ) → eqb n 0 ≡ true → n ≤ 0
 empty_is n e = grind (arith, nat_tests)
 
-processes_found : (channels : List (List ℕ)) (n : ℕ) (s x : Drawn) → length s.3 ≤ n → s.2.channels ≡ channels → repeated process_step n s ≡ Ok x → SpellsProcesses channels s x
+processes_found : (channels : List (List ℕ)) (n : ℕ) (s x : Drawn) → length s.2 ≤ n → s.1.channels ≡ channels → repeated process_step n s ≡ Ok x → SpellsProcesses channels s x
 unfolding repeated
 processes_found channels zero s x fuel same e = subst (SpellsProcesses channels s) (ok_is _ _ e) (no_processes channels s fuel same)
-processes_found channels (suc n) s x fuel same e = at_end (λ t f g h. processes_found channels n t x f g h) (eqb (length s.3) 0) refl e
+processes_found channels (suc n) s x fuel same e = at_end (λ t f g h. processes_found channels n t x f g h) (eqb (length s.2) 0) refl e
   where
-    at_end : ((t : Drawn) → length t.3 ≤ n → t.2.channels ≡ channels → repeated process_step n t ≡ Ok x → SpellsProcesses channels t x)
-        → (v : Bool) → eqb (length s.3) 0 ≡ v → if_some (cond v None (Some (process_next s))) (λ r. r >>= repeated process_step n) (Ok s) ≡ Ok x → SpellsProcesses channels s x
-    at_end next true is f = subst (SpellsProcesses channels s) (ok_is _ _ f) (no_processes channels s (empty_is (length s.3) is) same)
+    at_end : ((t : Drawn) → length t.2 ≤ n → t.1.channels ≡ channels → repeated process_step n t ≡ Ok x → SpellsProcesses channels t x)
+        → (v : Bool) → eqb (length s.2) 0 ≡ v → if_some (cond v None (Some (process_next s))) (λ r. r >>= repeated process_step n) (Ok s) ≡ Ok x → SpellsProcesses channels s x
+    at_end next true is f = subst (SpellsProcesses channels s) (ok_is _ _ f) (no_processes channels s (empty_is (length s.2) is) same)
     at_end next false is f =
         let m = bound_ok (process_next s) _ x f in
         one_process channels n s x fuel same m.first m.is (λ g h. next m.first g h m.then)
 
-process_reads : (acc : List Proc) (names new channels : List (List ℕ)) (h : Here) (p : written.Process) (b : trees.Block × Names) (rest : List Token)
-    → h.channels ≡ channels → declare 64 names p.name ≡ Some new → block_meaning true (bare_names channels) p.body ≡ Some b → block_depth p.body < 49
-    → process_step (acc, names, h, Fixed Process ∷ Name p.name ∷ block_tokens p.body rest) ≡ Some (Ok (acc ++ proc_from p.name (length names) b.0 (at b.1 no_counts) ∷ [], new, at b.1 no_counts, rest))
+process_reads : (acc : List Proc) (new channels : List (List ℕ)) (h : Here) (p : written.Process) (b : trees.Block × Names) (rest : List Token)
+    → h.channels ≡ channels → declare 64 h.processes p.name ≡ Some new → block_meaning true (first_names channels h.processes h.spawned) p.body ≡ Some b → block_depth p.body < 49
+    → process_step (acc, h, Fixed Process ∷ Name p.name ∷ block_tokens p.body rest) ≡ Some (Ok (acc ++ proc_from p.name b.0 (at b.1 no_counts) ∷ [], record (at b.1 no_counts) { processes = new }, rest))
 unfolding process_next
-process_reads acc names new channels h p b rest same declared meant deep =
-    let block : block_at 49 Allowed (start h.channels) (block_tokens p.body rest) ≡ Ok (b.0, at b.1 no_counts, rest) =
-    ap (λ (y : List (List ℕ)). block_at 49 Allowed (start y) (block_tokens p.body rest)) same ∙ block_again p.body (bare_names channels) no_counts b rest deep meant in
-    rw (some_left p rest, expect_ok 49 Process (Name p.name ∷ block_tokens p.body rest) (omega arith), declare_again 64 names p.name new (block_tokens p.body rest) declared, block) refl
+process_reads acc new channels h p b rest same declared meant deep =
+    let block : block_at 49 Allowed (start h.channels h.processes h.spawned) (block_tokens p.body rest) ≡ Ok (b.0, at b.1 no_counts, rest) =
+    ap (λ (y : List (List ℕ)). block_at 49 Allowed (start y h.processes h.spawned) (block_tokens p.body rest)) same ∙ block_again p.body (first_names channels h.processes h.spawned) no_counts b rest deep meant in
+    rw (some_left p rest, expect_ok 49 Process (Name p.name ∷ block_tokens p.body rest) (omega arith), declare_again 64 h.processes p.name new (block_tokens p.body rest) declared, block) refl
   where
     some_left : (p : written.Process) (rest : List Token) → eqb (length (Fixed Process ∷ Name p.name ∷ block_tokens p.body rest)) 0 ≡ false
     some_left p rest = (let n = length (Name p.name ∷ block_tokens p.body rest) in let is : eqb (suc n) 0 ≡ false = search (arith, tests) in is)
@@ -208,28 +210,31 @@ record ProcessesAgain (channels : List (List ℕ)) (n : ℕ) (s : Drawn) (qs : L
   after : Drawn
   reads : repeated process_step n s ≡ Ok after
   value : s.0 ++ qs ≡ after.0
-  same : after.2.channels ≡ channels
+  same : after.1.channels ≡ channels
 
-processes_again : (ps : List written.Process) (channels names : List (List ℕ)) (acc qs : List Proc) (h : Here) (n : ℕ) → h.channels ≡ channels → processes_depth ps ≤ 48 → processes_meaning channels names ps ≡ Some qs → length (processes_tokens ps) ≤ n
-    → ProcessesAgain channels n (acc, names, h, processes_tokens ps) qs
+processes_again : (ps : List written.Process) (channels : List (List ℕ)) (acc qs : List Proc) (h : Here) (n : ℕ) → h.channels ≡ channels → processes_depth ps ≤ 48 → processes_meaning channels h.processes h.spawned ps ≡ Some qs → length (processes_tokens ps) ≤ n
+    → ProcessesAgain channels n (acc, h, processes_tokens ps) qs
 unfolding processes_meaning
-processes_again [] channels names acc qs h n same deep e fuel = record {
-  after = (acc, names, h, []);
-  reads = no_step process_step n (acc, names, h, []) refl;
+processes_again [] channels acc qs h n same deep e fuel = record {
+  after = (acc, h, []);
+  reads = no_step process_step n (acc, h, []) refl;
   value = ap (λ (y : List Proc). acc ++ y) (sym (some_is _ _ e)) ∙ append-nil acc;
   same = same;
 }
-processes_again (p ∷ ps) channels names acc qs h zero same deep e fuel = absurd (omega (arith, fuel))
-processes_again (p ∷ ps) channels names acc qs h (suc n) same deep e fuel =
+processes_again (p ∷ ps) channels acc qs h zero same deep e fuel = absurd (omega (arith, fuel))
+processes_again (p ∷ ps) channels acc qs h (suc n) same deep e fuel =
+    let names = h.processes in
+    let first = first_names channels names h.spawned in
     let d = part (declare 64 names p.name) _ qs e in
-    let b = part (block_meaning true (bare_names channels) p.body) _ qs d.then in
-    let o = part (processes_meaning channels d.first ps) _ qs b.then in
+    let b = part (block_meaning true first p.body) _ qs d.then in
+    let o = part (processes_meaning channels d.first b.first.1.spawned ps) _ qs b.then in
     let rest = processes_tokens ps in
-    let grows = block_grows p.body true (bare_names channels) b.first b.is in
-    let proc = proc_from p.name (length names) b.first.0 (at b.first.1 no_counts) in
-    let step = process_reads acc names d.first channels h p b.first rest same d.is b.is (omega (arith, deep)) in
-    let more = processes_again ps channels d.first (acc ++ proc ∷ []) o.first (at b.first.1 no_counts) n grows.channels (omega (arith, deep)) o.is (omega (arith, fuel, body_longer p.body rest)) in
-    let counted : proc ∷ o.first ≡ qs = ap (λ (y : List (List ℕ)). record { name = p.name; body = b.first.0; variables = b.first.1.variables; channels = length y; earlier = length names } ∷ o.first) grows.channels ∙ some_is _ _ o.then in
+    let grows = block_grows p.body true first b.first b.is in
+    let stay = block_spawns p.body true first b.first b.is in
+    let proc = proc_from p.name b.first.0 (at b.first.1 no_counts) in
+    let step = process_reads acc d.first channels h p b.first rest same d.is b.is (omega (arith, deep)) in
+    let more = processes_again ps channels (acc ++ proc ∷ []) o.first (record (at b.first.1 no_counts) { processes = d.first }) n grows.channels (omega (arith, deep)) o.is (omega (arith, fuel, body_longer p.body rest)) in
+    let counted : proc ∷ o.first ≡ qs = ap₂ (λ (y z : List (List ℕ)). record { name = p.name; body = b.first.0; variables = b.first.1.variables; channels = length y; earlier = length z } ∷ o.first) grows.channels stay.processes ∙ some_is _ _ o.then in
     record {
       after = more.after;
       reads = one_step process_step n _ _ _ step more.reads;
@@ -239,19 +244,19 @@ processes_again (p ∷ ps) channels names acc qs h (suc n) same deep e fuel =
 
 -- SCRIPTS
 
-record SpellsScript (ts : List Token) (s : Script) : Type 0 where
-  written : written.Script
-  tokens : ts ≡ script_tokens written
-  depth : script_depth written ≤ 48
-  meaning : script_meaning written ≡ Some s
+pub record SpellsScript (ts : List Token) (s : Script) : Type 0 where
+  pub written : written.Script
+  pub tokens : ts ≡ script_tokens written
+  pub depth : script_depth written ≤ 48
+  pub meaning : script_meaning written ≡ Some s
 
-script_found : (ts : List Token) (s : Script) → script_at ts ≡ Ok s → SpellsScript ts s
+pub script_found : (ts : List Token) (s : Script) → script_at ts ≡ Ok s → SpellsScript ts s
 unfolding script_at channels_at processes_at script_meaning
 script_found ts s e =
     let c = bound_ok (repeated channel_step (length ts) ([], ts)) _ s e in
     let channels = channels_found (length ts) ([], ts) c.first c.is in
-    let p = bound_ok (repeated process_step (length c.first.1) ([], [], start c.first.0, c.first.1)) _ s c.then in
-    let processes = processes_found c.first.0 (length c.first.1) ([], [], start c.first.0, c.first.1) p.first (le_self (length c.first.1)) refl p.is in
+    let p = bound_ok (repeated process_step (length c.first.1) ([], start c.first.0 [] [], c.first.1)) _ s c.then in
+    let processes = processes_found c.first.0 (length c.first.1) ([], start c.first.0 [] [], c.first.1) p.first (le_self (length c.first.1)) refl p.is in
     subst (SpellsScript ts) (ok_is _ _ p.then) (record {
       written = record { channels = channels.texts; processes = processes.written };
       tokens = channels.tokens ∙ ap (channels_tokens channels.texts) processes.tokens;
@@ -263,10 +268,10 @@ script_again : (w : written.Script) (s : Script) → script_depth w ≤ 48 → s
 unfolding script_at channels_at processes_at script_meaning
 script_again w s deep e =
     let c = part (channels_meaning [] w.channels) _ s e in
-    let p = part (processes_meaning c.first [] w.processes) _ s c.then in
+    let p = part (processes_meaning c.first [] [] w.processes) _ s c.then in
     let rest = processes_tokens w.processes in
     let channels = channels_again w.channels [] c.first rest (length (script_tokens w)) c.is (no_channel w.processes) (le_self (length (script_tokens w))) in
-    let processes = processes_again w.processes c.first [] [] p.first (start c.first) (length rest) refl deep p.is (le_self (length rest)) in
+    let processes = processes_again w.processes c.first [] p.first (start c.first [] []) (length rest) refl deep p.is (le_self (length rest)) in
     rw (channels, processes.reads) (ap₂ (λ (cs : List (List ℕ)) (ps : List Proc). Ok (record { channels = cs; processes = ps })) processes.same (sym processes.value) ∙ ap Ok (some_is _ _ p.then))
 
 -- TEXTS

@@ -1,17 +1,17 @@
 -- Whole scripts: the fault that reading tells is the one that is demanded.
-use Rattle.std.proofs.Common.{◌≡◌, ℕ, true, false, cond, ◌||◌, leb, ltb, List, [], ◌∷◌, ◌++◌, length, Some, None, Result, Ok, is_some, refl, sym, ap, ap₂, ◌∙◌, subst, arith, length-append, append_assoc}
+use Rattle.std.proofs.Common.{◌≡◌, ℕ, true, false, cond, ◌||◌, leb, ltb, List, [], ◌∷◌, ◌++◌, length, Some, None, Result, Ok, is_some, refl, sym, ap, ◌∙◌, subst, arith, length-append, append_assoc}
 use Rattle.script_token.specs.Tokens.{Token, Fixed, Name}
 use Rattle.script_token.specs.declared.kind.Symbol.TheVariants.{Channel, Process}
 use Rattle.script_tree.specs.Processes.{Proc}
 use Rattle.script_grammar.specs.Meaning.{place}
-use Rattle.script_reader.specs.Steps.{Told, ◌>>=◌, next_is, start}
+use Rattle.script_reader.specs.Steps.{Told, ◌>>=◌, next_is, Here, start}
 use Rattle.script_reader.specs.declared.fault.Problem.TheVariants.{Twice, TooMany}
 use Rattle.script_grammar.specs.Written as written
 use Rattle.script_grammar.specs.Written.{block_tokens, channels_tokens, processes_tokens, script_tokens}
 use Rattle.script.specs.Scripts.{Script, Drawn, channels_at, processes_at, script_at}
 use Rattle.script_faults.specs.Laws.{Any}
 use Rattle.script_faults.specs.Notes.{Note, SameFront}
-use Rattle.script_faults.specs.BlockNotes.{declare_note, block_notes, channels_notes, processes_notes, script_notes}
+use Rattle.script_faults.specs.BlockNotes.{declare_note, block_after, block_notes, channels_notes, processes_notes, script_notes}
 use Rattle.script_faults.proofs.Facts.{Shape, Lang, Facts, seq, bind, turned, ending, ended, giving, give, next_same, spelled_length}
 use Rattle.script_faults.proofs.Loops.{spell_all, notes_all, after_all}
 use Rattle.script_faults.proofs.Shapes.{block_shape}
@@ -20,7 +20,7 @@ use Rattle.script_faults.proofs.Agreeing.{front, block_agrees}
 use Rattle.script_faults.proofs.Demanding.{answered}
 use Rattle.script.specs.FirstFaults.{Ended, script_spell, ScriptsAreAnswered}
 use Rattle.script.proofs.Declares.{NoChannel, channel_spell, channel_notes, one_more, channel_shape, channels_lang, channels_facts}
-use Rattle.script.proofs.Processes.{Before, AtEnd, process_spell, process_notes, process_after, all_processes, process_facts_all, left_none, none_left, block_channels}
+use Rattle.script.proofs.Processes.{first_of, AtEnd, process_spell, process_notes, process_after, all_processes, process_facts_all, left_none, none_left, block_channels}
 
 -- WHAT IS WRITTEN
 
@@ -29,7 +29,7 @@ channels_on [] ts rest = refl
 channels_on (text ∷ texts) ts rest = ap (channel_spell text) (channels_on texts ts rest)
 
 block_on : (b : written.Block) (ts rest : List Token) → block_tokens b ts ++ rest ≡ block_tokens b (ts ++ rest)
-block_on b ts rest = (let s = block_shape b true 49 (start []) in ap (λ (x : List Token). x ++ rest) (s.is ts) ∙ append_assoc s.text ts rest ∙ sym (s.is (ts ++ rest)))
+block_on b ts rest = (let s = block_shape b true 49 (start [] [] []) in ap (λ (x : List Token). x ++ rest) (s.is ts) ∙ append_assoc s.text ts rest ∙ sym (s.is (ts ++ rest)))
 
 processes_on : (ps : List written.Process) (rest : List Token) → processes_tokens ps ++ rest ≡ spell_all process_spell ps rest
 processes_on [] rest = refl
@@ -38,20 +38,22 @@ processes_on (p ∷ ps) rest = ap (λ (x : List Token). Fixed Process ∷ Name p
 script_on : (s : written.Script) (rest : List Token) → script_tokens s ++ rest ≡ channels_tokens s.channels (spell_all process_spell s.processes rest)
 script_on s rest = channels_on s.channels (processes_tokens s.processes) rest ∙ ap (channels_tokens s.channels) (processes_on s.processes rest)
 
-processes_noted : (ps : List written.Process) (channels : List (List ℕ)) (h : Before) → h.1.channels ≡ channels → processes_notes channels h.0 ps ≡ notes_all process_notes process_after h ps
+processes_noted : (ps : List written.Process) (channels : List (List ℕ)) (h : Here) → h.channels ≡ channels → processes_notes channels h.processes h.spawned ps ≡ notes_all process_notes process_after h ps
 unfolding processes_notes
 processes_noted [] channels h e = refl
 processes_noted (p ∷ ps) channels h e =
-    ap₂ (λ (x y : List Note). x ++ y) (ap (λ (c : List (List ℕ)). None ∷ declare_note 64 h.0 p.name ∷ block_notes true 49 (start c) p.body) (sym e)) (processes_noted ps channels (process_after h p) (block_channels p.body (start h.1.channels) ∙ e))
+    let first = λ (c : List (List ℕ)). start c h.processes h.spawned in
+    ap (λ (c : List (List ℕ)). (None ∷ declare_note 64 h.processes p.name ∷ block_notes true 49 (first c) p.body) ++ processes_notes channels (h.processes ++ p.name ∷ []) (block_after (first c) p.body).spawned ps) (sym e)
+    ∙ ap (λ (y : List Note). process_notes h p ++ y) (processes_noted ps channels (process_after h p) (block_channels p.body (first_of h) ∙ e))
 
 -- WHAT READS IT
 
-after_channels : (ps : List written.Process) (h : Before) → ((after_all process_after h ps).1).channels ≡ h.1.channels
+after_channels : (ps : List written.Process) (h : Here) → (after_all process_after h ps).channels ≡ h.channels
 after_channels [] h = refl
-after_channels (p ∷ ps) h = after_channels ps (process_after h p) ∙ block_channels p.body (start h.1.channels)
+after_channels (p ∷ ps) h = after_channels ps (process_after h p) ∙ block_channels p.body (first_of h)
 
 abbrev script_end : List (List ℕ) → Lang (List Proc) Script AtEnd
-script_end channels = giving (all_processes channels) (λ ws x rest. record { channels = ((after_all process_after ([], start channels) ws).1).channels; processes = x })
+script_end channels = giving (all_processes channels) (λ ws x rest. record { channels = (after_all process_after (start channels [] []) ws).channels; processes = x })
 
 abbrev script_parts : Lang (List Proc) Script AtEnd
 script_parts = seq channels_lang script_end
@@ -65,17 +67,17 @@ no_channel_follows [] rest e = (let none : next_is Channel [] ≡ false = refl i
 no_channel_follows (p ∷ ps) rest e = refl
 
 abbrev finished : Drawn → Result Script Told
-finished p = Ok (record { channels = p.2.channels; processes = p.0 })
+finished p = Ok (record { channels = p.1.channels; processes = p.0 })
 
 script_reads : Facts Any script_parts (λ ts. script_at ts)
 unfolding script_at
 script_reads =
     bind channels_lang script_end (λ ts. channels_at ts) (λ c. processes_at c.0 c.1 >>= finished) no_channel_looks (λ w ps rest e. no_channel_follows ps rest e) channels_facts
-    (λ cs x clean. give (all_processes cs) (λ ws x rest. record { channels = ((after_all process_after ([], start cs) ws).1).channels; processes = x }) (λ ts. processes_at cs ts) (λ p. record { channels = p.2.channels; processes = p.0 }) (λ ws x. x) (λ ws x rest. refl) (process_facts_all cs))
+    (λ cs x clean. give (all_processes cs) (λ ws x rest. record { channels = (after_all process_after (start cs [] []) ws).channels; processes = x }) (λ ts. processes_at cs ts) (λ p. record { channels = p.1.channels; processes = p.0 }) (λ ws x. x) (λ ws x rest. refl) (process_facts_all cs))
 
 script_noted : (s : written.Script) → script_notes s ≡ script_parts.notes (s.channels, s.processes)
 unfolding script_notes
-script_noted s = ap (λ (x : List Note). channels_notes [] s.channels ++ x) (processes_noted s.processes s.channels ([], start s.channels) refl)
+script_noted s = ap (λ (x : List Note). channels_notes [] s.channels ++ x) (processes_noted s.processes s.channels (start s.channels [] []) refl)
 
 script_shape : (s : written.Script) → Shape (λ rest. script_tokens s ++ rest) (script_notes s)
 script_shape s = record {
@@ -107,7 +109,7 @@ script_facts = turned (ending {E' = Ended} script_parts) script_lang (λ ts. scr
   spell_from = script_on;
   notes_from = script_noted;
   value = λ w x. x;
-  oks = λ ts s x rest e. e ∙ ap (λ (c : List (List ℕ)). Ok (record { channels = c; processes = x })) (after_channels s.processes ([], start s.channels));
+  oks = λ ts s x rest e. e ∙ ap (λ (c : List (List ℕ)). Ok (record { channels = c; processes = x })) (after_channels s.processes (start s.channels [] []));
   errs = λ ts t e. e;
 }) (ended script_parts (λ ts. script_at ts) (λ rest e. none_left rest e) (λ rest e. left_none rest e) script_reads)
 
@@ -126,16 +128,16 @@ channels_agree (text ∷ texts) names =
     agrees_seq (channel_spell text) (channels_tokens texts) (channel_notes names text) (channels_notes (one_more names text) texts)
     (here_agrees (channel_spell text) (channel_notes names text) (channel_shape names text) (λ prior. tt, (declare_here 256 names text, (λ prior. tt, tt)))) (channels_agree texts (one_more names text))
 
-processes_agree : (ps : List written.Process) (channels names : List (List ℕ)) → Agrees (spell_all process_spell ps) (processes_notes channels names ps)
+processes_agree : (ps : List written.Process) (channels names : List (List ℕ)) (spawned : List ℕ) → Agrees (spell_all process_spell ps) (processes_notes channels names spawned ps)
 unfolding processes_notes
-processes_agree [] channels names = agrees_none
-processes_agree (p ∷ ps) channels names =
-    agrees_seq (process_spell p) (spell_all process_spell ps) _ _ (front (Fixed Process) _ _ _ (λ prior. tt) (front (Name p.name) _ (block_tokens p.body) _ (declare_here 64 names p.name) (block_agrees p.body true 49 (start channels)))) (processes_agree ps channels (names ++ p.name ∷ []))
+processes_agree [] channels names spawned = agrees_none
+processes_agree (p ∷ ps) channels names spawned =
+    agrees_seq (process_spell p) (spell_all process_spell ps) _ _ (front (Fixed Process) _ _ _ (λ prior. tt) (front (Name p.name) _ (block_tokens p.body) _ (declare_here 64 names p.name) (block_agrees p.body true 49 (start channels names spawned)))) (processes_agree ps channels (names ++ p.name ∷ []) (block_after (start channels names spawned) p.body).spawned)
 
 script_agrees : (s : written.Script) → Agrees (λ rest. script_tokens s ++ rest) (script_notes s)
 unfolding script_notes
 script_agrees s =
-    let parts = agrees_seq (channels_tokens s.channels) (spell_all process_spell s.processes) _ _ (channels_agree s.channels []) (processes_agree s.processes s.channels []) in
+    let parts = agrees_seq (channels_tokens s.channels) (spell_all process_spell s.processes) _ _ (channels_agree s.channels []) (processes_agree s.processes s.channels [] []) in
     record { agree = λ prior rest others k. subst (λ (x : List Token). Agree prior x (script_notes s ++ others)) (sym (script_on s rest)) (parts.agree prior rest others k) }
 
 pub scripts_are_answered : ScriptsAreAnswered

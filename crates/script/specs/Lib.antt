@@ -1,3 +1,4 @@
+pub mod Spawned
 pub mod Sources
 pub mod Scripts
 pub mod Spelling

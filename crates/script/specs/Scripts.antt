@@ -2,7 +2,6 @@
 use Rattle.std.specs.Prelude.{◌≡◌, ℕ, ◌-◌, List, [], ◌∷◌, ◌++◌, map, length, ◌||◌, Option, Some, None, Result, Ok, Err, is_some, nat_lt, nat_le, ◌==◌, slice_index, if◌then◌else◌}
 use Rattle.script_token.specs.Tokens.{Token}
 use Rattle.script_token.specs.Lexemes.{placed_tokens, last_line}
-use Rattle.script_reader.specs.Places.{texts}
 use Rattle.script_grammar.specs.Meaning.{place, if_some}
 use Rattle.script_reader.specs.Steps.{Told, ◌>>=◌, stop_at, repeated, name_at, next_is, accept_at, expect_at, Here, here, start}
 use Rattle.script_tree.specs.Trees.{Block}
@@ -18,9 +17,8 @@ use Rattle.script.specs.declared.fault.ScriptFault.{ScriptFault}
 use Rattle.script.specs.declared.fault.ScriptFault.TheVariants as faults
 use Rattle.script_token.specs.declared.kind.Symbol.TheVariants.{Channel, Process, Semicolon}
 
--- a process behind so many others
-abbrev pub proc_from : List ℕ → ℕ → Block → Here → Proc
-proc_from name earlier body h = record { name = name; body = body; variables = h.variables; channels = length h.channels; earlier = earlier }
+abbrev pub proc_from : List ℕ → Block → Here → Proc
+proc_from name body h = record { name = name; body = body; variables = h.variables; channels = length h.channels; earlier = length h.processes }
 
 abbrev pub script_of : SeenScript → Script
 script_of s = record { channels = string_texts s.channels.items; processes = map proc_of s.processes.items }
@@ -50,32 +48,32 @@ channel_step s = if next_is Channel s.1 then Some (channel_next s) else None
 unfoldable pub channels_at : List Token → Result (List (List ℕ) × List Token) Told
 channels_at ts = repeated channel_step (length ts) ([], ts)
 
--- the processes so far, their names, and the names that can be read
+-- the processes so far, and the names that can be read, theirs among them
 abbrev pub Drawn : Type 0
-Drawn = List Proc × List (List ℕ) × Here × List Token
+Drawn = List Proc × Here × List Token
 
 abbrev pub drawn : Draft → List Token → Drawn
-drawn d ts = (map proc_of d.processes.items, texts d.names.names.items, here d.scope, ts)
+drawn d ts = (map proc_of d.processes.items, here d.scope, ts)
 
--- one more process
+-- one more process, which can be named behind its block
 unfoldable pub process_next : Drawn → Result Drawn Told
 process_next s = do
-  rest ← expect_at 49 Process s.3
-  n ← declare_at 64 s.1 rest
-  b ← block_at 49 Allowed (start s.2.channels) n.2
-  Ok (s.0 ++ proc_from n.0 (length s.1) b.0 b.1 ∷ [], n.1, b.1, b.2)
+  rest ← expect_at 49 Process s.2
+  n ← declare_at 64 s.1.processes rest
+  b ← block_at 49 Allowed (start s.1.channels s.1.processes s.1.spawned) n.2
+  Ok (s.0 ++ proc_from n.0 b.0 b.1 ∷ [], record b.1 { processes = n.1 }, b.2)
 
 abbrev pub process_step : Drawn → Option (Result Drawn Told)
-process_step s = if length s.3 == 0 then None else Some (process_next s)
+process_step s = if length s.2 == 0 then None else Some (process_next s)
 
 unfoldable pub processes_at : List (List ℕ) → List Token → Result Drawn Told
-processes_at channels ts = repeated process_step (length ts) ([], [], start channels, ts)
+processes_at channels ts = repeated process_step (length ts) ([], start channels [] [], ts)
 
 unfoldable pub script_at : List Token → Result Script Told
 script_at ts = do
   c ← channels_at ts
   p ← processes_at c.0 c.1
-  Ok (record { channels = p.2.channels; processes = p.0 })
+  Ok (record { channels = p.1.channels; processes = p.0 })
 
 -- WHOLE TEXTS
 

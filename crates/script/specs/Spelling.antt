@@ -12,7 +12,7 @@ use Rattle.script.specs.declared.fault.ScriptFault.TheVariants as faults
 unfoldable pub script_meaning : written.Script → Option Script
 script_meaning w = do
   channels ← channels_meaning [] w.channels
-  processes ← processes_meaning channels [] w.processes
+  processes ← processes_meaning channels [] [] w.processes
   Some (record { channels = channels; processes = processes })
 
 -- the bytes are a text of something written that means s, of which no token lies deeper than 48

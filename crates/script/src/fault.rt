@@ -12,10 +12,12 @@ pub enum ScriptFault {
     /// The grammar does not allow the token there, or the text ends too early.
     #[error("line {0}: not of the grammar")]
     Syntax(usize),
-    /// A name that is read is neither a declared channel nor bound before in its process.
+    /// A name that is read is neither a declared channel nor bound before in its process; or, where a
+    /// process is named, it is that of none whose block has ended before.
     #[error("line {0}: the name is unknown")]
     UnknownName(usize),
-    /// A name is declared or bound that stands for something else, or twice in one list.
+    /// A name is declared or bound that stands for something else, or twice in one list; or a process is
+    /// spawned a second time.
     #[error("line {0}: the name stands for something already")]
     Twice(usize),
     /// More than the limits allow.

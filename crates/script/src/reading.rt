@@ -1,11 +1,10 @@
 //! Declared channels, processes and whole texts, read from the front.
 
-ghost use Rattle.std.specs.Prelude.{◌≡◌, ◌<◌, ◌≤◌, ◌∷◌, ◌++◌, IfOk, IfErr, OnOk, length, map, slice_get};
-ghost use Rattle.std.specs.Option.{option_map};
-ghost use Rattle.std.specs.String.{string_bytes};
-ghost use Rattle.script_token.specs.Lexemes.{placed_tokens, last_line, seen};
+ghost use Rattle.std.specs.Prelude.{◌≡◌, ◌<◌, ◌≤◌, [], ◌∷◌, ◌++◌, None, IfOk, IfErr, OnOk, length, map};
+ghost use Rattle.script_token.specs.Lexemes.{last_line, seen};
 ghost use Rattle.script_reader.specs.Places.{texts};
-ghost use Rattle.script_reader.specs.Steps.{Gives, bare, here, start};
+ghost use Rattle.script_grammar.specs.Meaning.{place};
+ghost use Rattle.script_reader.specs.Steps.{Gives, Tells as Tells', bare, here};
 ghost use Rattle.script.specs.Scripts.{drawn, proc_from, declare_at, channel_next, channels_at, process_next, processes_at, script_at, script_of, line_left, fault_at, text_at, Answers};
 ghost use Rattle.script.specs.FirstFaults.{Tells, FirstIsTold};
 ghost use Rattle.script.specs.Spelling.{Spells, Refuses};
@@ -15,9 +14,9 @@ ghost use Rattle.script_tree.specs.Trees.{block_of};
 
 use crate::fault::ScriptFault;
 use crate::script::Script;
-use script_reader::fault::{Problem, Stop};
+use script_reader::fault::{Fault, Problem, Stop};
 use script_reader::scope::{Counts, NAME_LEN, Scope};
-use script_reader::step::{accept, begin, expect, is_end, is_next, name_at, stop};
+use script_reader::step::{accept, begin, expect, fault, is_end, is_next, name_at};
 use script_reader::table::Table;
 use script_reader::{Loops, read_block};
 use script_token::{Placed, Symbol, Tokens, scan};
@@ -48,27 +47,27 @@ fn owned(alloc: Global, names: Vec<&str>) -> Result<Vec<String>, AllocError>
     Ok(owned)
 }
 
-/// A name that is declared, as one of at most `limit`.
+/// A name that may be declared behind those of the table, as one of at most `limit`.
 #[tactic(auto, unfolding(crate::specs::Scripts::declare_at))]
-fn declare<'a>(
-    table: &mut Table<'a>,
+fn new_name<'a>(
+    table: &Table<'a>,
     limit: usize,
     tokens: &'a [Placed<'a>],
-) -> Result<(&'a str, &'a [Placed<'a>]), Stop>
-    ensures value { Gives (λ x. (x.0.now, texts table.new.names.items, bare x.1.now)) result (declare_at limit (texts table.old.names.items) (bare tokens.now)) }
-    ensures few { OnOk result (length (texts table.old.names.items) < limit) }
+) -> Result<(&'a str, &'a [Placed<'a>]), Fault>
+    ensures value { Tells' (λ x. (x.0.now, texts table.now.names.items ++ x.0.now ∷ [], bare x.1.now)) result (declare_at limit (texts table.now.names.items) (bare tokens.now)) }
+    ensures few { OnOk result (length (texts table.now.names.items) < limit) }
+    ensures new { IfOk result (λ x. place x.0.now (texts table.now.names.items) ≡ None) }
 {
     let Some(name) = name_at(tokens) else {
-        return Err(stop(Problem::Syntax, tokens));
+        return Err(fault(Problem::Syntax, tokens));
     };
     if table.number(name).is_some() {
-        return Err(stop(Problem::Twice, tokens));
+        return Err(fault(Problem::Twice, tokens));
     }
     if table.len() >= limit || name.len() > NAME_LEN {
-        return Err(stop(Problem::TooMany, tokens));
+        return Err(fault(Problem::TooMany, tokens));
     }
     let rest = accept(tokens, ROOM)?;
-    table.add(name)?;
     Ok((name, rest))
 }
 
@@ -78,7 +77,8 @@ fn channel<'a>(table: &mut Table<'a>, tokens: &'a [Placed<'a>]) -> Result<&'a [P
     ensures { Gives (λ x. (texts table.new.names.items, bare x.now)) result (channel_next (texts table.old.names.items, bare tokens.now)) }
 {
     let rest = accept(tokens, ROOM)?;
-    let (_, rest) = declare(table, CHANNELS, rest)?;
+    let (name, rest) = new_name(table, CHANNELS, rest)?;
+    table.add(name)?;
     let rest = expect(rest, ROOM, Symbol::Semicolon)?;
     Ok(rest)
 }
@@ -103,31 +103,24 @@ fn channels<'a>(
     Ok((table, rest))
 }
 
-/// The processes of a script that is being read, and the names there.
+/// The processes of a script that is being read, and the names there, theirs among them.
 #[derive(Drop)]
 struct Draft<'a> {
     processes: Vec<Proc>,
-    names: Table<'a>,
     scope: Scope<'a>,
 }
 
-/// A process behind so many others.
-fn proc_with(
-    alloc: Global,
-    name: &str,
-    earlier: usize,
-    block: Block,
-    scope: &Scope<'_>,
-) -> Result<Proc, AllocError>
-    requires limits { KeepsLimits (record { channels = length (here scope.now).channels; variables = length (here scope.now).variables; processes = earlier }) (block_of block) }
-    requires place { earlier < 64 }
-    ensures { IfOk result (λ p. proc_of p ≡ proc_from name.now earlier (block_of block) (here scope.now)) }
+fn proc_with(alloc: Global, name: &str, block: Block, scope: &Scope<'_>) -> Result<Proc, AllocError>
+    requires limits { KeepsLimits (record { channels = length (here scope.now).channels; variables = length (here scope.now).variables; processes = length (here scope.now).processes }) (block_of block) }
+    requires place { length (here scope.now).processes < 64 }
+    ensures { IfOk result (λ p. proc_of p ≡ proc_from name.now (block_of block) (here scope.now)) }
 {
     let variables = owned(alloc, scope.variables.names(alloc)?)?;
     let name = String::from_str(alloc, name)?;
     let body = Arc::new(alloc, block)?;
     let channels = scope.channels.len();
-    Ok(Proc::new(name, body, variables, channels, earlier as u8))
+    let earlier = scope.processes.len() as u8;
+    Ok(Proc::new(name, body, variables, channels, earlier))
 }
 
 /// One more process.
@@ -140,13 +133,15 @@ fn process<'a>(
     ensures { Gives (λ x. drawn draft.new (bare x.now)) result (process_next (drawn draft.old (bare tokens.now))) }
 {
     let rest = expect(tokens, ROOM, Symbol::Process)?;
-    let earlier = draft.names.len();
-    let (name, rest) = declare(&mut draft.names, PROCESSES, rest)?;
-    draft.scope.variables = Table::new(alloc);
+    let scope = &mut draft.scope;
+    let (name, rest) = new_name(&scope.processes, PROCESSES, rest)?;
+    scope.variables = Table::new(alloc);
     // A block leaves the counts as they were, so they are 0 here; set anew they are known to be.
-    draft.scope.counts = Counts { bases: 0, nacks: 0 };
-    let (block, rest) = read_block(alloc, &mut draft.scope, rest, ROOM, Loops::Allowed)?;
-    let process = proc_with(alloc, name, earlier, block, &draft.scope)?;
+    scope.counts = Counts { bases: 0, nacks: 0 };
+    let (block, rest) = read_block(alloc, scope, rest, ROOM, Loops::Allowed)?;
+    let process = proc_with(alloc, name, block, scope)?;
+    // From here on the process can be named.
+    scope.processes.add(name)?;
     draft.processes.push(process)?;
     Ok(rest)
 }
@@ -162,7 +157,6 @@ fn processes<'a>(
 {
     let mut draft = Draft {
         processes: Vec::new(alloc),
-        names: Table::new(alloc),
         scope: Scope::new(alloc, channels),
     };
     let (mut rest, count) = begin(tokens);
@@ -186,7 +180,6 @@ fn whole<'a>(alloc: Global, tokens: &'a [Placed<'a>]) -> Result<(Vec<String>, Ve
     let channels = owned(alloc, draft.scope.channels.names(alloc)?)?;
     let Draft {
         processes,
-        names: _,
         scope: _,
     } = draft;
     Ok((channels, processes))

@@ -2,6 +2,8 @@
 
 ghost use Rattle.std.specs.Prelude.{◌≤◌, length, map};
 ghost use Rattle.script.specs.Spelling.{IsSpelled, IsSpelled-prop};
+ghost use Rattle.script_tree.specs.Spawning.{AreSpawnedOnce, IsPlaced};
+ghost use Rattle.script.specs.Spawned.{AreInOrder, AreInOrder-prop, IsPlaced-prop, AreSpawnedOnce-prop};
 ghost use Rattle.script_tree.specs.Processes.{proc_of, string_texts, ShareChannels, ShareChannels-prop};
 
 use script_tree::Proc;
@@ -16,6 +18,9 @@ pub struct Script {
     ghost few_processes: { length processes.items ≤ 64 },
     ghost spelled: { IsSpelled (record { channels = string_texts channels.items; processes = map proc_of processes.items }) } by { IsSpelled-prop (record { channels = string_texts channels.items; processes = map proc_of processes.items }) },
     ghost shared: { ShareChannels (length channels.items) (map proc_of processes.items) } by { ShareChannels-prop (length channels.items) (map proc_of processes.items) },
+    ghost order: { AreInOrder (map proc_of processes.items) } by { AreInOrder-prop (map proc_of processes.items) },
+    ghost placed: { IsPlaced (map proc_of processes.items) } by { IsPlaced-prop (map proc_of processes.items) },
+    ghost once: { AreSpawnedOnce (map proc_of processes.items) } by { AreSpawnedOnce-prop (map proc_of processes.items) },
 }
 
 impl Script {
@@ -29,6 +34,7 @@ impl Script {
         ensures count { length result.now ≡ length (script_of self.now).processes }
         ensures limits { IsScript (script_of self.now) }
         ensures spelled { IsSpelled (script_of self.now) }
+        ensures placed { IsPlaced (map proc_of result.now) }
     {
         &self.processes
     }

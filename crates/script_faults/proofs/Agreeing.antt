@@ -1,7 +1,7 @@
 -- The notes of what is written are told where they say: at their own token, or at the word of a loop.
 use Rattle.std.proofs.Common.{inl, inr, ℕ, ◌-◌, Bool, true, false, List, [], ◌∷◌, ◌++◌, Some, None, refl, leb}
 use Rattle.script_token.specs.Tokens.{Token, Fixed, Name, Number}
-use Rattle.script_token.specs.declared.kind.Symbol.TheVariants.{Let, Print, Sync, If, Else, Loop, Forever, End, Send, Recv, Always, Never, Cancelled, Choose, Wrap, As, To, Guard, Nack, Semicolon, Comma, OpenBrace, CloseBrace, OpenBracket, CloseBracket, Equal, Arrow}
+use Rattle.script_token.specs.declared.kind.Symbol.TheVariants.{Let, Print, Sync, If, Else, Loop, Forever, End, Send, Recv, Always, Never, Cancelled, Choose, Wrap, As, To, Guard, Nack, Spawn, Joined, Semicolon, Comma, OpenBrace, CloseBrace, OpenBracket, CloseBracket, Equal, Arrow}
 use Rattle.script_reader.specs.Steps.{Here, bound}
 use Rattle.script_reader.specs.declared.fault.Problem.{Problem}
 use Rattle.script_reader.specs.declared.fault.Problem.TheVariants.{Syntax, TooMany, LoopWithoutSync}
@@ -9,7 +9,7 @@ use Rattle.script_grammar.specs.Written as written
 use Rattle.script_grammar.specs.Written.{Expr, Test, expr_tokens, test_tokens, list_tokens, more_names_tokens, as_tokens, received_tokens, event_tokens, events_tokens, more_events_tokens, stmt_tokens, body_tokens, block_tokens}
 use Rattle.script_faults.specs.Notes.{Note, also, plain, expr_notes, test_notes, list_notes, names_after, names_notes}
 use Rattle.script_faults.specs.BlockNotes.{base_note, nack_note, loop_note, as_notes, received_notes, one_base, one_nack, uncounted, event_after, stmt_after, block_after, begins_with_sync, if_no_sync, event_notes, events_notes, more_events_notes, stmt_notes, body_notes, block_notes}
-use Rattle.script_faults.proofs.Places.{NoteIs, Agree, Agrees, IsHere, agrees_none, agrees_seq, here_agrees, either_here, plain_here, read_here, bind_here, expr_here, test_here, list_here, names_here}
+use Rattle.script_faults.proofs.Places.{NoteIs, Agree, Agrees, IsHere, agrees_none, agrees_seq, here_agrees, either_here, plain_here, read_here, process_here, spawn_here, bind_here, expr_here, test_here, list_here, names_here}
 use Rattle.script_faults.proofs.Exprs.{expr_shape}
 use Rattle.script_faults.proofs.Lists.{test_shape, list_shape}
 use Rattle.script_faults.proofs.NameLists.{names_shape}
@@ -86,6 +86,7 @@ mutual
   event_agrees (written.Always list) nesting h = front (Fixed Always) _ (list_tokens list) _ (base_here nesting h) (list_agrees list nesting (one_base h))
   event_agrees written.Never nesting h = one (Fixed Never) _ (base_here nesting h)
   event_agrees (written.Cancelled nack) nesting h = front (Fixed Cancelled) _ _ _ (base_here nesting h) (one (Name nack) _ (read_here nesting (one_base h) nack))
+  event_agrees (written.Joined process) nesting h = front (Fixed Joined) _ _ _ (base_here nesting h) (one (Name process) _ (process_here nesting (one_base h) process))
   event_agrees (written.Choose members) nesting h =
       front (Fixed Choose) _ _ _ (plain_here nesting) (front (Fixed OpenBracket) _ _ _ (plain_here nesting)
       (last (Fixed CloseBracket) _ (events_tokens members) _ (plain_here (nesting - 1)) (events_agrees members (nesting - 1) h)))
@@ -133,6 +134,7 @@ mutual
         (loop_here loops nesting prior, (plain_here nesting (Fixed Forever ∷ prior), turn_agree (begins_with_sync body) 2 (Fixed OpenBrace ∷ Fixed Forever ∷ prior) (body_tokens body rest) (body_notes true (nesting - 1) h body) others (inr (refl, refl)) (inside.agree _ rest others k)));
   }
   stmt_agrees written.End loops nesting h = front (Fixed End) _ _ _ (plain_here nesting) (one (Fixed Semicolon) _ (plain_here nesting))
+  stmt_agrees (written.Spawn process) loops nesting h = front (Fixed Spawn) _ _ _ (plain_here nesting) (front (Name process) _ _ _ (spawn_here nesting h process) (one (Fixed Semicolon) _ (plain_here nesting)))
 
   pub body_agrees : (b : written.Block) (loops : Bool) (nesting : ℕ) (h : Here) → Agrees (body_tokens b) (body_notes loops nesting h b)
   body_agrees written.Done loops nesting h = one (Fixed CloseBrace) _ (plain_here nesting)

@@ -2,21 +2,21 @@
 use Rattle.std.proofs.Common.{◌≡◌, ◌⊎◌, inl, inr, ⊎_elim, ℕ, suc, ◌+◌, ◌-◌, ◌<◌, ◌≤◌, Bool, true, false, cond, leb, List, [], ◌∷◌, ◌++◌, length, Option, Some, None, Result, Ok, Err, refl, sym, ap, ◌∙◌, arith}
 use Rattle.script_token.specs.Tokens.{Token, Fixed}
 use Rattle.script_token.specs.declared.kind.Symbol.{Symbol}
-use Rattle.script_token.specs.declared.kind.Symbol.TheVariants.{Send, Recv, Always, Never, Cancelled, Choose, Wrap, As, To, Guard, Nack, Comma, OpenBracket, CloseBracket}
+use Rattle.script_token.specs.declared.kind.Symbol.TheVariants.{Send, Recv, Always, Never, Cancelled, Choose, Wrap, As, To, Guard, Nack, Joined, Comma, OpenBracket, CloseBracket}
 use Rattle.script_tree.specs.Trees as trees
-use Rattle.script_reader.specs.Steps.{Told, ◌>>=◌, stop_at, repeated, next_is, accept_at, expect_at, Here, bound, read_name_at, bind_name_at, bind_names_at}
+use Rattle.script_reader.specs.Steps.{Told, ◌>>=◌, stop_at, repeated, next_is, accept_at, expect_at, Here, bound, read_name_at, read_process_at, bind_name_at, bind_names_at}
 use Rattle.script_reader.specs.Exprs.{list_at}
 use Rattle.script_reader.specs.declared.fault.Problem.TheVariants.{Syntax, TooMany}
 use Rattle.script_grammar.specs.Written as written
-use Rattle.script_grammar.specs.Written.{as_tokens, event_tokens, events_tokens, more_events_tokens, block_tokens, more_names_tokens}
+use Rattle.script_grammar.specs.Written.{as_tokens, event_tokens, events_tokens, more_events_tokens, block_tokens}
 use Rattle.script_reader.proofs.ReadFronts.{is_next}
-use Rattle.script_reader.specs.Blocks.{base_at, nack_word_at, send_at, recv_at, always_at, never_at, cancelled_at, as_names_at, chain, ReadsEvent, ReadsBlock, member_step, members_with, choose_with, wrap_with, guard_with, nack_with, event_with}
+use Rattle.script_reader.specs.Blocks.{base_at, nack_word_at, send_at, recv_at, always_at, never_at, cancelled_at, joined_at, as_names_at, chain, ReadsEvent, ReadsBlock, member_step, members_with, choose_with, wrap_with, guard_with, nack_with, event_with}
 use Rattle.script_reader.specs.declared.process.Loops.TheVariants.{Forbidden}
 use Rattle.script_faults.specs.Laws.{Any, NoComma}
 use Rattle.script_faults.specs.Notes.{Note, first_fault, plain, names_after}
 use Rattle.script_faults.specs.BlockNotes.{base_note, nack_note, as_notes, one_base, one_nack, event_after, events_after, block_after, event_notes, events_notes, more_events_notes, block_notes}
 use Rattle.script_faults.proofs.Facts.{Shape, Lang, Facts, seq, bind, then, under, turned, instead, giving, give, either, neither, choose, or_stop, next_same, same_front, fine_of, one_clean, one_token, token, Takes, Faults, spelled_length}
-use Rattle.script_faults.proofs.Words.{some_room, accept_both, first_is, no_next, word, accept_facts, expect_facts, name, name_facts, bound_name, bound_name_facts}
+use Rattle.script_faults.proofs.Words.{some_room, accept_both, first_is, no_next, word, accept_facts, expect_facts, name, name_facts, process_name, process_name_facts, bound_name, bound_name_facts}
 use Rattle.script_faults.proofs.Loops.{spell_all, notes_all, after_all, all_lang, all_facts, same_steps}
 use Rattle.script_faults.proofs.Lists.{list_lang, list_facts}
 use Rattle.script_faults.proofs.NameLists.{names_lang, names_facts, comma_looks}
@@ -127,6 +127,12 @@ module _ (nesting : ℕ) (h : Here) where
   abbrev cancelled_lang : Lang trees.Event EventRead Any
   cancelled_lang = seq (base Cancelled nesting h) (λ w. name_end)
 
+  abbrev process_end : Lang trees.Event EventRead Any
+  process_end = giving (process_name nesting h') (λ w x rest. (x, h', rest))
+
+  abbrev joined_lang : Lang trees.Event EventRead Any
+  joined_lang = seq (base Joined nesting h) (λ w. process_end)
+
   send_facts : {P : List Token → Type 0} → ((ts : List Token) → P ts → next_is Send ts ≡ true) → Facts P send_lang (λ ts. send_at nesting h ts)
   unfolding send_at
   send_facts is =
@@ -155,6 +161,12 @@ module _ (nesting : ℕ) (h : Here) where
   cancelled_facts is =
       then (base Cancelled nesting h) (λ w. name_end) (λ ts. base_at nesting h ts) (λ b. read_name_at nesting b.0 b.1 >>= λ n. Ok (trees.IsCancelled n.0, b.0, n.1)) (base_facts nesting h Cancelled is)
       (λ w x clean. give (name nesting h') (λ w x rest. (x, h', rest)) (λ ts. read_name_at nesting h' ts) (λ n. (trees.IsCancelled n.0, h', n.1)) (λ w n. trees.IsCancelled n) (λ w n rest. refl) (name_facts nesting h'))
+
+  joined_facts : {P : List Token → Type 0} → ((ts : List Token) → P ts → next_is Joined ts ≡ true) → Facts P joined_lang (λ ts. joined_at nesting h ts)
+  unfolding joined_at
+  joined_facts is =
+      then (base Joined nesting h) (λ w. process_end) (λ ts. base_at nesting h ts) (λ b. read_process_at nesting b.0 b.1 >>= λ p. Ok (trees.IsJoined p.0, b.0, p.1)) (base_facts nesting h Joined is)
+      (λ w x clean. give (process_name nesting h') (λ w x rest. (x, h', rest)) (λ ts. read_process_at nesting h' ts) (λ p. (trees.IsJoined p.0, h', p.1)) (λ w p. trees.IsJoined p) (λ w p rest. refl) (process_name_facts nesting h'))
 
 -- NAMES BEHIND `as`, AND `to`
 
@@ -311,6 +323,7 @@ module _ (event : ReadsEvent) (r : ℕ) (events : (h : Here) → Facts Any (even
   event_long (written.Always list) h = omega arith
   event_long written.Never h = omega arith
   event_long (written.Cancelled nack) h = omega arith
+  event_long (written.Joined process) h = omega arith
   event_long (written.Choose members) h = omega arith
   event_long (written.Wrap event names list) h = omega arith
   event_long (written.Guard body event) h = omega arith
@@ -417,6 +430,7 @@ module _ (event : ReadsEvent) (r : ℕ) (events : (h : Here) → Facts Any (even
   no_close (written.Always list) rest = refl
   no_close written.Never rest = refl
   no_close (written.Cancelled nack) rest = refl
+  no_close (written.Joined process) rest = refl
   no_close (written.Choose members) rest = refl
   no_close (written.Wrap event names list) rest = refl
   no_close (written.Guard body event) rest = refl
@@ -616,14 +630,17 @@ module _ (event : ReadsEvent) (block : ReadsBlock) (nesting : ℕ) (events : 0 <
 
   -- ONE OF ALL
 
+  abbrev langs8 : Lang trees.Event EventRead Any
+  langs8 = either guard_lang nack_lang
+
   abbrev langs7 : Lang trees.Event EventRead Any
-  langs7 = either guard_lang nack_lang
+  langs7 = either wrap_lang langs8
 
   abbrev langs6 : Lang trees.Event EventRead Any
-  langs6 = either wrap_lang langs7
+  langs6 = either choose_lang langs7
 
   abbrev langs5 : Lang trees.Event EventRead Any
-  langs5 = either choose_lang langs6
+  langs5 = either (joined_lang nesting h) langs6
 
   abbrev langs4 : Lang trees.Event EventRead Any
   langs4 = either (cancelled_lang nesting h) langs5
@@ -640,17 +657,20 @@ module _ (event : ReadsEvent) (block : ReadsBlock) (nesting : ℕ) (events : 0 <
   abbrev langs0 : Lang trees.Event EventRead Any
   langs0 = either (send_lang nesting h) langs1
 
+  abbrev reader9 : List Token → Result EventRead Told
+  reader9 ts = cond (next_is Nack ts) (nack_with event block nesting h ts) (stop_at Syntax ts)
+
   abbrev reader8 : List Token → Result EventRead Told
-  reader8 ts = cond (next_is Nack ts) (nack_with event block nesting h ts) (stop_at Syntax ts)
+  reader8 ts = cond (next_is Guard ts) (guard_with event block nesting h ts) (reader9 ts)
 
   abbrev reader7 : List Token → Result EventRead Told
-  reader7 ts = cond (next_is Guard ts) (guard_with event block nesting h ts) (reader8 ts)
+  reader7 ts = cond (next_is Wrap ts) (wrap_with event nesting h ts) (reader8 ts)
 
   abbrev reader6 : List Token → Result EventRead Told
-  reader6 ts = cond (next_is Wrap ts) (wrap_with event nesting h ts) (reader7 ts)
+  reader6 ts = cond (next_is Choose ts) (choose_with event nesting h ts) (reader7 ts)
 
   abbrev reader5 : List Token → Result EventRead Told
-  reader5 ts = cond (next_is Choose ts) (choose_with event nesting h ts) (reader6 ts)
+  reader5 ts = cond (next_is Joined ts) (joined_at nesting h ts) (reader6 ts)
 
   abbrev reader4 : List Token → Result EventRead Told
   reader4 ts = cond (next_is Cancelled ts) (cancelled_at nesting h ts) (reader5 ts)
@@ -669,47 +689,54 @@ module _ (event : ReadsEvent) (block : ReadsBlock) (nesting : ℕ) (events : 0 <
 
   others0 : (w : (langs1).W) (rest : List Token) → next_is Send ((langs1).spell w rest) ≡ false
   unfolding next_is
-  others0 = neither (next_is Send) (recv_lang nesting h) langs2 (λ w rest. refl) (neither (next_is Send) (always_lang nesting h) langs3 (λ w rest. refl) (neither (next_is Send) (never_lang nesting h) langs4 (λ w rest. refl) (neither (next_is Send) (cancelled_lang nesting h) langs5 (λ w rest. refl) (neither (next_is Send) choose_lang langs6 (λ w rest. refl) (neither (next_is Send) wrap_lang langs7 (λ w rest. refl) (neither (next_is Send) guard_lang nack_lang (λ w rest. refl) (λ w rest. refl)))))))
+  others0 = neither (next_is Send) (recv_lang nesting h) langs2 (λ w rest. refl) (neither (next_is Send) (always_lang nesting h) langs3 (λ w rest. refl) (neither (next_is Send) (never_lang nesting h) langs4 (λ w rest. refl) (neither (next_is Send) (cancelled_lang nesting h) langs5 (λ w rest. refl) (neither (next_is Send) (joined_lang nesting h) langs6 (λ w rest. refl) (neither (next_is Send) choose_lang langs7 (λ w rest. refl) (neither (next_is Send) wrap_lang langs8 (λ w rest. refl) (neither (next_is Send) guard_lang nack_lang (λ w rest. refl) (λ w rest. refl))))))))
 
   others1 : (w : (langs2).W) (rest : List Token) → next_is Recv ((langs2).spell w rest) ≡ false
   unfolding next_is
-  others1 = neither (next_is Recv) (always_lang nesting h) langs3 (λ w rest. refl) (neither (next_is Recv) (never_lang nesting h) langs4 (λ w rest. refl) (neither (next_is Recv) (cancelled_lang nesting h) langs5 (λ w rest. refl) (neither (next_is Recv) choose_lang langs6 (λ w rest. refl) (neither (next_is Recv) wrap_lang langs7 (λ w rest. refl) (neither (next_is Recv) guard_lang nack_lang (λ w rest. refl) (λ w rest. refl))))))
+  others1 = neither (next_is Recv) (always_lang nesting h) langs3 (λ w rest. refl) (neither (next_is Recv) (never_lang nesting h) langs4 (λ w rest. refl) (neither (next_is Recv) (cancelled_lang nesting h) langs5 (λ w rest. refl) (neither (next_is Recv) (joined_lang nesting h) langs6 (λ w rest. refl) (neither (next_is Recv) choose_lang langs7 (λ w rest. refl) (neither (next_is Recv) wrap_lang langs8 (λ w rest. refl) (neither (next_is Recv) guard_lang nack_lang (λ w rest. refl) (λ w rest. refl)))))))
 
   others2 : (w : (langs3).W) (rest : List Token) → next_is Always ((langs3).spell w rest) ≡ false
   unfolding next_is
-  others2 = neither (next_is Always) (never_lang nesting h) langs4 (λ w rest. refl) (neither (next_is Always) (cancelled_lang nesting h) langs5 (λ w rest. refl) (neither (next_is Always) choose_lang langs6 (λ w rest. refl) (neither (next_is Always) wrap_lang langs7 (λ w rest. refl) (neither (next_is Always) guard_lang nack_lang (λ w rest. refl) (λ w rest. refl)))))
+  others2 = neither (next_is Always) (never_lang nesting h) langs4 (λ w rest. refl) (neither (next_is Always) (cancelled_lang nesting h) langs5 (λ w rest. refl) (neither (next_is Always) (joined_lang nesting h) langs6 (λ w rest. refl) (neither (next_is Always) choose_lang langs7 (λ w rest. refl) (neither (next_is Always) wrap_lang langs8 (λ w rest. refl) (neither (next_is Always) guard_lang nack_lang (λ w rest. refl) (λ w rest. refl))))))
 
   others3 : (w : (langs4).W) (rest : List Token) → next_is Never ((langs4).spell w rest) ≡ false
   unfolding next_is
-  others3 = neither (next_is Never) (cancelled_lang nesting h) langs5 (λ w rest. refl) (neither (next_is Never) choose_lang langs6 (λ w rest. refl) (neither (next_is Never) wrap_lang langs7 (λ w rest. refl) (neither (next_is Never) guard_lang nack_lang (λ w rest. refl) (λ w rest. refl))))
+  others3 = neither (next_is Never) (cancelled_lang nesting h) langs5 (λ w rest. refl) (neither (next_is Never) (joined_lang nesting h) langs6 (λ w rest. refl) (neither (next_is Never) choose_lang langs7 (λ w rest. refl) (neither (next_is Never) wrap_lang langs8 (λ w rest. refl) (neither (next_is Never) guard_lang nack_lang (λ w rest. refl) (λ w rest. refl)))))
 
   others4 : (w : (langs5).W) (rest : List Token) → next_is Cancelled ((langs5).spell w rest) ≡ false
   unfolding next_is
-  others4 = neither (next_is Cancelled) choose_lang langs6 (λ w rest. refl) (neither (next_is Cancelled) wrap_lang langs7 (λ w rest. refl) (neither (next_is Cancelled) guard_lang nack_lang (λ w rest. refl) (λ w rest. refl)))
+  others4 = neither (next_is Cancelled) (joined_lang nesting h) langs6 (λ w rest. refl) (neither (next_is Cancelled) choose_lang langs7 (λ w rest. refl) (neither (next_is Cancelled) wrap_lang langs8 (λ w rest. refl) (neither (next_is Cancelled) guard_lang nack_lang (λ w rest. refl) (λ w rest. refl))))
 
-  others5 : (w : (langs6).W) (rest : List Token) → next_is Choose ((langs6).spell w rest) ≡ false
+  others5 : (w : (langs6).W) (rest : List Token) → next_is Joined ((langs6).spell w rest) ≡ false
   unfolding next_is
-  others5 = neither (next_is Choose) wrap_lang langs7 (λ w rest. refl) (neither (next_is Choose) guard_lang nack_lang (λ w rest. refl) (λ w rest. refl))
+  others5 = neither (next_is Joined) choose_lang langs7 (λ w rest. refl) (neither (next_is Joined) wrap_lang langs8 (λ w rest. refl) (neither (next_is Joined) guard_lang nack_lang (λ w rest. refl) (λ w rest. refl)))
 
-  others6 : (w : (langs7).W) (rest : List Token) → next_is Wrap ((langs7).spell w rest) ≡ false
+  others6 : (w : (langs7).W) (rest : List Token) → next_is Choose ((langs7).spell w rest) ≡ false
   unfolding next_is
-  others6 = neither (next_is Wrap) guard_lang nack_lang (λ w rest. refl) (λ w rest. refl)
+  others6 = neither (next_is Choose) wrap_lang langs8 (λ w rest. refl) (neither (next_is Choose) guard_lang nack_lang (λ w rest. refl) (λ w rest. refl))
 
-  others7 : (w : (nack_lang).W) (rest : List Token) → next_is Guard ((nack_lang).spell w rest) ≡ false
+  others7 : (w : (langs8).W) (rest : List Token) → next_is Wrap ((langs8).spell w rest) ≡ false
   unfolding next_is
-  others7 = λ w rest. refl
+  others7 = neither (next_is Wrap) guard_lang nack_lang (λ w rest. refl) (λ w rest. refl)
 
-  reads8 : {P : List Token → Type 0} → Facts P nack_lang reader8
-  reads8 = or_stop (next_is Nack) (next_same Nack) nack_lang (λ ts. nack_with event block nesting h ts) (λ w rest. is_next Nack _) (nack_facts (λ ts p. p.1))
+  others8 : (w : (nack_lang).W) (rest : List Token) → next_is Guard ((nack_lang).spell w rest) ≡ false
+  unfolding next_is
+  others8 = λ w rest. refl
+
+  reads9 : {P : List Token → Type 0} → Facts P nack_lang reader9
+  reads9 = or_stop (next_is Nack) (next_same Nack) nack_lang (λ ts. nack_with event block nesting h ts) (λ w rest. is_next Nack _) (nack_facts (λ ts p. p.1))
+
+  reads8 : {P : List Token → Type 0} → Facts P langs8 reader8
+  reads8 = choose (next_is Guard) (next_same Guard) guard_lang nack_lang (λ ts. guard_with event block nesting h ts) reader9 (λ w rest e. is_next Guard _) (λ w rest e. others8 w rest) (guard_facts (λ ts p. p.1)) reads9
 
   reads7 : {P : List Token → Type 0} → Facts P langs7 reader7
-  reads7 = choose (next_is Guard) (next_same Guard) guard_lang nack_lang (λ ts. guard_with event block nesting h ts) reader8 (λ w rest e. is_next Guard _) (λ w rest e. others7 w rest) (guard_facts (λ ts p. p.1)) reads8
+  reads7 = choose (next_is Wrap) (next_same Wrap) wrap_lang langs8 (λ ts. wrap_with event nesting h ts) reader8 (λ w rest e. is_next Wrap _) (λ w rest e. others7 w rest) (wrap_facts (λ ts p. p.1)) reads8
 
   reads6 : {P : List Token → Type 0} → Facts P langs6 reader6
-  reads6 = choose (next_is Wrap) (next_same Wrap) wrap_lang langs7 (λ ts. wrap_with event nesting h ts) reader7 (λ w rest e. is_next Wrap _) (λ w rest e. others6 w rest) (wrap_facts (λ ts p. p.1)) reads7
+  reads6 = choose (next_is Choose) (next_same Choose) choose_lang langs7 (λ ts. choose_with event nesting h ts) reader7 (λ w rest e. is_next Choose _) (λ w rest e. others6 w rest) (choose_facts (λ ts p. p.1)) reads7
 
   reads5 : {P : List Token → Type 0} → Facts P langs5 reader5
-  reads5 = choose (next_is Choose) (next_same Choose) choose_lang langs6 (λ ts. choose_with event nesting h ts) reader6 (λ w rest e. is_next Choose _) (λ w rest e. others5 w rest) (choose_facts (λ ts p. p.1)) reads6
+  reads5 = choose (next_is Joined) (next_same Joined) (joined_lang nesting h) langs6 (λ ts. joined_at nesting h ts) reader6 (λ w rest e. is_next Joined _) (λ w rest e. others5 w rest) (joined_facts nesting h (λ ts p. p.1)) reads6
 
   reads4 : {P : List Token → Type 0} → Facts P langs4 reader4
   reads4 = choose (next_is Cancelled) (next_same Cancelled) (cancelled_lang nesting h) langs5 (λ ts. cancelled_at nesting h ts) reader5 (λ w rest e. is_next Cancelled _) (λ w rest e. others4 w rest) (cancelled_facts nesting h (λ ts p. p.1)) reads5
@@ -732,10 +759,11 @@ module _ (event : ReadsEvent) (block : ReadsBlock) (nesting : ℕ) (events : 0 <
   to_event (inr (inr (inl w))) = written.Always w.1
   to_event (inr (inr (inr (inl w)))) = written.Never
   to_event (inr (inr (inr (inr (inl w))))) = written.Cancelled w.1
-  to_event (inr (inr (inr (inr (inr (inl w)))))) = written.Choose w.1.1
-  to_event (inr (inr (inr (inr (inr (inr (inl w))))))) = written.Wrap w.1.0 w.1.1.0 w.1.1.1
-  to_event (inr (inr (inr (inr (inr (inr (inr (inl w)))))))) = written.Guard w.1.0 w.1.1
-  to_event (inr (inr (inr (inr (inr (inr (inr (inr w)))))))) = written.Nack w.1.0 w.1.1.0 w.1.1.1
+  to_event (inr (inr (inr (inr (inr (inl w)))))) = written.Joined w.1
+  to_event (inr (inr (inr (inr (inr (inr (inl w))))))) = written.Choose w.1.1
+  to_event (inr (inr (inr (inr (inr (inr (inr (inl w)))))))) = written.Wrap w.1.0 w.1.1.0 w.1.1.1
+  to_event (inr (inr (inr (inr (inr (inr (inr (inr (inl w))))))))) = written.Guard w.1.0 w.1.1
+  to_event (inr (inr (inr (inr (inr (inr (inr (inr (inr w))))))))) = written.Nack w.1.0 w.1.1.0 w.1.1.1
 
   abbrev from_event : written.Event → langs0.W
   from_event (written.Send channel list) = inl (tt, (channel, list))
@@ -743,10 +771,11 @@ module _ (event : ReadsEvent) (block : ReadsBlock) (nesting : ℕ) (events : 0 <
   from_event (written.Always list) = inr (inr (inl (tt, list)))
   from_event written.Never = inr (inr (inr (inl tt)))
   from_event (written.Cancelled nack) = inr (inr (inr (inr (inl (tt, nack)))))
-  from_event (written.Choose members) = inr (inr (inr (inr (inr (inl (tt, (tt, members)))))))
-  from_event (written.Wrap inner names list) = inr (inr (inr (inr (inr (inr (inl (tt, (inner, (names, list)))))))))
-  from_event (written.Guard body inner) = inr (inr (inr (inr (inr (inr (inr (inl (tt, (body, inner)))))))))
-  from_event (written.Nack name body inner) = inr (inr (inr (inr (inr (inr (inr (inr (tt, (name, (body, inner))))))))))
+  from_event (written.Joined process) = inr (inr (inr (inr (inr (inl (tt, process))))))
+  from_event (written.Choose members) = inr (inr (inr (inr (inr (inr (inl (tt, (tt, members))))))))
+  from_event (written.Wrap inner names list) = inr (inr (inr (inr (inr (inr (inr (inl (tt, (inner, (names, list))))))))))
+  from_event (written.Guard body inner) = inr (inr (inr (inr (inr (inr (inr (inr (inl (tt, (body, inner))))))))))
+  from_event (written.Nack name body inner) = inr (inr (inr (inr (inr (inr (inr (inr (inr (tt, (name, (body, inner)))))))))))
 
   event_spell_to : (w : langs0.W) (rest : List Token) → event_tokens (to_event w) rest ≡ langs0.spell w rest
   event_spell_to (inl w) rest = refl
@@ -757,7 +786,8 @@ module _ (event : ReadsEvent) (block : ReadsBlock) (nesting : ℕ) (events : 0 <
   event_spell_to (inr (inr (inr (inr (inr (inl w)))))) rest = refl
   event_spell_to (inr (inr (inr (inr (inr (inr (inl w))))))) rest = refl
   event_spell_to (inr (inr (inr (inr (inr (inr (inr (inl w)))))))) rest = refl
-  event_spell_to (inr (inr (inr (inr (inr (inr (inr (inr w)))))))) rest = refl
+  event_spell_to (inr (inr (inr (inr (inr (inr (inr (inr (inl w))))))))) rest = refl
+  event_spell_to (inr (inr (inr (inr (inr (inr (inr (inr (inr w))))))))) rest = refl
 
   event_notes_to : (w : langs0.W) → event_notes nesting h (to_event w) ≡ langs0.notes w
   unfolding event_notes
@@ -769,7 +799,8 @@ module _ (event : ReadsEvent) (block : ReadsBlock) (nesting : ℕ) (events : 0 <
   event_notes_to (inr (inr (inr (inr (inr (inl w)))))) = refl
   event_notes_to (inr (inr (inr (inr (inr (inr (inl w))))))) = refl
   event_notes_to (inr (inr (inr (inr (inr (inr (inr (inl w)))))))) = refl
-  event_notes_to (inr (inr (inr (inr (inr (inr (inr (inr w)))))))) = refl
+  event_notes_to (inr (inr (inr (inr (inr (inr (inr (inr (inl w))))))))) = refl
+  event_notes_to (inr (inr (inr (inr (inr (inr (inr (inr (inr w))))))))) = refl
 
   event_spell_from : (w : written.Event) (rest : List Token) → event_tokens w rest ≡ langs0.spell (from_event w) rest
   event_spell_from (written.Send channel list) rest = refl
@@ -777,6 +808,7 @@ module _ (event : ReadsEvent) (block : ReadsBlock) (nesting : ℕ) (events : 0 <
   event_spell_from (written.Always list) rest = refl
   event_spell_from written.Never rest = refl
   event_spell_from (written.Cancelled nack) rest = refl
+  event_spell_from (written.Joined process) rest = refl
   event_spell_from (written.Choose members) rest = refl
   event_spell_from (written.Wrap inner names list) rest = refl
   event_spell_from (written.Guard body inner) rest = refl
@@ -789,6 +821,7 @@ module _ (event : ReadsEvent) (block : ReadsBlock) (nesting : ℕ) (events : 0 <
   event_notes_from (written.Always list) = refl
   event_notes_from written.Never = refl
   event_notes_from (written.Cancelled nack) = refl
+  event_notes_from (written.Joined process) = refl
   event_notes_from (written.Choose members) = refl
   event_notes_from (written.Wrap inner names list) = refl
   event_notes_from (written.Guard body inner) = refl
@@ -801,6 +834,7 @@ module _ (event : ReadsEvent) (block : ReadsBlock) (nesting : ℕ) (events : 0 <
   event_joined (written.Always list) x rest = refl
   event_joined written.Never x rest = refl
   event_joined (written.Cancelled nack) x rest = refl
+  event_joined (written.Joined process) x rest = refl
   event_joined (written.Choose members) x rest = refl
   event_joined (written.Wrap inner names list) x rest = refl
   event_joined (written.Guard body inner) x rest = refl

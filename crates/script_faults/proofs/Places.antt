@@ -7,7 +7,7 @@ use Rattle.script_reader.specs.Steps.{Here, meaning}
 use Rattle.script_reader.specs.declared.fault.Problem.{Problem}
 use Rattle.script_reader.specs.declared.fault.Problem.TheVariants.{Syntax, UnknownName, Twice, TooMany, LoopWithoutSync}
 use Rattle.script_grammar.specs.Written.{Term, OfNumber, OfName, Grouped, Terms, NoMore, Further, Expr, Test}
-use Rattle.script_faults.specs.Notes.{Note, also, plain, read_note, bind_note, term_notes, terms_notes, expr_notes, test_notes, others_notes, more_notes, members_notes, list_notes, more_names_notes, names_notes}
+use Rattle.script_faults.specs.Notes.{Note, also, plain, read_note, process_note, spawn_note, bind_note, term_notes, terms_notes, expr_notes, test_notes, others_notes, more_notes, members_notes, list_notes, more_names_notes, names_notes}
 use Rattle.script_faults.proofs.Facts.{Shape}
 
 abbrev pub nth : List Token → ℕ → Option Token
@@ -77,6 +77,16 @@ plain_here nesting = either_here (eqb nesting 0) (Some (TooMany, 0)) None (λ pr
 pub read_here : (nesting : ℕ) (h : Here) (text : List ℕ) → IsHere (read_note nesting h text)
 unfolding read_note
 read_here nesting h text = either_here (is_some (meaning h text)) (plain nesting) (Some (UnknownName, 0)) (plain_here nesting) (λ prior. refl)
+
+pub process_here : (nesting : ℕ) (h : Here) (text : List ℕ) → IsHere (process_note nesting h text)
+unfolding process_note
+process_here nesting h text = either_here (is_some (place text h.processes)) (plain nesting) (Some (UnknownName, 0)) (plain_here nesting) (λ prior. refl)
+
+pub spawn_here : (nesting : ℕ) (h : Here) (text : List ℕ) → IsHere (spawn_note nesting h text)
+unfolding spawn_note
+spawn_here nesting h text =
+    let new : IsHere (cond (is_listed h.spawned (place text h.processes)) (Some (Twice, 0)) (plain nesting)) = either_here (is_listed h.spawned (place text h.processes)) (Some (Twice, 0)) (plain nesting) (λ prior. refl) (plain_here nesting) in
+    either_here (is_some (place text h.processes)) (cond (is_listed h.spawned (place text h.processes)) (Some (Twice, 0)) (plain nesting)) (Some (UnknownName, 0)) new (λ prior. refl)
 
 pub bind_here : (nesting : ℕ) (list : List ℕ) (h : Here) (text : List ℕ) → IsHere (bind_note nesting list h text)
 unfolding bind_note

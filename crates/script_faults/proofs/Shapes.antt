@@ -1,7 +1,7 @@
 -- Events, statements and blocks have a note for each token.
 use Rattle.std.proofs.Common.{ℕ, ◌-◌, Bool, true, false, List, [], ◌∷◌, ◌++◌}
 use Rattle.script_token.specs.Tokens.{Token, Fixed, Name, Number}
-use Rattle.script_token.specs.declared.kind.Symbol.TheVariants.{Let, Print, Sync, If, Else, Loop, Forever, End, Send, Recv, Always, Never, Cancelled, Choose, Wrap, As, To, Guard, Nack, Semicolon, Comma, OpenBrace, CloseBrace, OpenBracket, CloseBracket, Equal, Arrow}
+use Rattle.script_token.specs.declared.kind.Symbol.TheVariants.{Let, Print, Sync, If, Else, Loop, Forever, End, Send, Recv, Always, Never, Cancelled, Choose, Wrap, As, To, Guard, Nack, Spawn, Joined, Semicolon, Comma, OpenBrace, CloseBrace, OpenBracket, CloseBracket, Equal, Arrow}
 use Rattle.script_reader.specs.Steps.{Here, bound}
 use Rattle.script_reader.specs.declared.fault.Problem.TheVariants.{LoopWithoutSync}
 use Rattle.script_grammar.specs.Written as written
@@ -44,6 +44,7 @@ mutual
   event_shape (written.Always list) nesting h = in_front (Fixed Always) _ _ _ (list_shape list nesting (one_base h))
   event_shape written.Never nesting h = shape_one (Fixed Never) _
   event_shape (written.Cancelled nack) nesting h = in_front (Fixed Cancelled) _ _ _ (shape_one (Name nack) _)
+  event_shape (written.Joined process) nesting h = in_front (Fixed Joined) _ _ _ (shape_one (Name process) _)
   event_shape (written.Choose members) nesting h = in_front (Fixed Choose) _ _ _ (in_front (Fixed OpenBracket) _ _ _ (behind (Fixed CloseBracket) _ (events_tokens members) _ (events_shape members (nesting - 1) h)))
   event_shape (written.Wrap event names list) nesting h =
       in_front (Fixed Wrap) _ _ _
@@ -80,6 +81,7 @@ mutual
       in_front (Fixed Loop) _ _ _ (in_front (Number times) _ _ _ (in_front (Fixed OpenBrace) _ _ _ (turn_shape (begins_with_sync body) 3 (body_tokens body) _ (body_shape body true (nesting - 1) h))))
   stmt_shape (written.Forever body) loops nesting h = in_front (Fixed Forever) _ _ _ (in_front (Fixed OpenBrace) _ _ _ (turn_shape (begins_with_sync body) 2 (body_tokens body) _ (body_shape body true (nesting - 1) h)))
   stmt_shape written.End loops nesting h = in_front (Fixed End) _ _ _ (shape_one (Fixed Semicolon) _)
+  stmt_shape (written.Spawn process) loops nesting h = in_front (Fixed Spawn) _ _ _ (in_front (Name process) _ _ _ (shape_one (Fixed Semicolon) _))
 
   pub body_shape : (b : written.Block) (loops : Bool) (nesting : ℕ) (h : Here) → Shape (body_tokens b) (body_notes loops nesting h b)
   body_shape written.Done loops nesting h = shape_one (Fixed CloseBrace) _

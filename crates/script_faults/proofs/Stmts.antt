@@ -2,23 +2,23 @@
 use Rattle.std.proofs.Common.{◌≡◌, inl, inr, ⊎_elim, ℕ, suc, ◌+◌, ◌-◌, ◌<◌, ◌≤◌, Bool, true, false, cond, ◌||◌, List, [], ◌∷◌, ◌++◌, length, Option, Some, None, Result, Ok, Err, is_some, refl, sym, ap, ap₂, ◌∙◌, arith, append_assoc, length-append}
 use Rattle.script_token.specs.Tokens.{Token, Fixed, Name, Number}
 use Rattle.script_token.specs.Tokens as tokens
-use Rattle.script_token.specs.declared.kind.Symbol.TheVariants.{Let, Print, Sync, If, Else, Loop, Forever, End, Semicolon, OpenBrace, CloseBrace, Equal, Arrow}
+use Rattle.script_token.specs.declared.kind.Symbol.TheVariants.{Let, Print, Sync, If, Else, Loop, Forever, End, Spawn, Semicolon, OpenBrace, CloseBrace, Equal, Arrow}
 use Rattle.script_tree.specs.Trees as trees
 use Rattle.script_tree.specs.Trees.{LoopBody}
-use Rattle.script_reader.specs.Steps.{Told, ◌>>=◌, stop_at, repeated, name_at, next_is, accept_at, expect_at, Here, bound, bind_name_at, bind_names_at}
+use Rattle.script_reader.specs.Steps.{Told, ◌>>=◌, stop_at, repeated, name_at, next_is, accept_at, expect_at, Here, bound, spawn_process_at, bind_name_at, bind_names_at}
 use Rattle.script_reader.specs.Exprs.{expr_at, test_at}
 use Rattle.script_reader.specs.declared.fault.Problem.TheVariants.{Syntax}
 use Rattle.script_grammar.specs.Written as written
-use Rattle.script_grammar.specs.Written.{expr_tokens, more_names_tokens, event_tokens, stmt_tokens, body_tokens, block_tokens}
+use Rattle.script_grammar.specs.Written.{stmt_tokens, body_tokens, block_tokens}
 use Rattle.script_reader.proofs.ReadFronts.{is_next}
-use Rattle.script_reader.specs.Blocks.{body, ReadsEvent, ReadsBlock, ReadsStmt, ReadsTurn, synced_with, sync_with, let_at, print_at, end_at, branch_with, times_at, counted_with, forever_with, are_allowed, stmt_with, stmt_step, stmts_with}
+use Rattle.script_reader.specs.Blocks.{body, ReadsEvent, ReadsBlock, ReadsStmt, ReadsTurn, synced_with, sync_with, let_at, print_at, end_at, spawn_at, branch_with, times_at, counted_with, forever_with, are_allowed, stmt_with, stmt_step, stmts_with}
 use Rattle.script_reader.specs.declared.process.Loops.{Loops as Place}
 use Rattle.script_reader.specs.declared.process.Loops.TheVariants.{Allowed, Forbidden}
 use Rattle.script_faults.specs.Laws.{Any, NoComma, NoSign}
-use Rattle.script_faults.specs.Notes.{Note, SameFront, plain, names_after, expr_notes, names_notes, test_notes, bind_note, more_names_notes}
+use Rattle.script_faults.specs.Notes.{Note, SameFront, plain, spawned_after, names_after, expr_notes, names_notes, test_notes, bind_note, more_names_notes}
 use Rattle.script_faults.specs.BlockNotes.{loop_note, uncounted, event_after, stmt_after, block_after, begins_with_sync, if_no_sync, received_notes, event_notes, stmt_notes, body_notes}
 use Rattle.script_faults.proofs.Facts.{Shape, Lang, Facts, Bad, seq, bind, then, under, turned, instead, giving, give, either, neither, choose, or_stop, LooksInFront, next_same, stops_at_once, bad_at_once}
-use Rattle.script_faults.proofs.Words.{accept_both, word, accept_facts, expect_facts, number, number_at_room, number_facts, bound_name, bound_name_facts}
+use Rattle.script_faults.proofs.Words.{accept_both, word, accept_facts, expect_facts, number, number_at_room, number_facts, spawned_name, spawned_name_facts, bound_name, bound_name_facts}
 use Rattle.script_faults.proofs.Loops.{spell_all, notes_all, after_all, all_lang, all_facts, same_steps}
 use Rattle.script_faults.proofs.Exprs.{sign_ends, name_looks, expr_lang, expr_facts}
 use Rattle.script_faults.proofs.Lists.{test_lang, test_facts}
@@ -167,6 +167,16 @@ module _ (nesting : ℕ) (h : Here) where
 
       end_is : (ts : List Token) → (accept_at nesting ts >>= ended) ≡ (end_at nesting ts >>= placed)
       end_is ts = at_word (accept_at nesting ts)
+
+  abbrev spawn_lang : Lang trees.Stmt StmtRead Any
+  spawn_lang = seq (word Spawn nesting) (λ w. seq (spawned_name nesting h) (λ n. closed (spawned_after h n)))
+
+  spawn_facts : {P : List Token → Type 0} → ((ts : List Token) → P ts → next_is Spawn ts ≡ true) → Facts P spawn_lang (λ ts. spawn_at nesting h ts)
+  unfolding spawn_at
+  spawn_facts is =
+      then (word Spawn nesting) (λ w. seq (spawned_name nesting h) (λ n. closed (spawned_after h n))) (λ ts. accept_at nesting ts) (λ rest. spawn_process_at nesting h rest >>= λ p. expect_at nesting Semicolon p.2 >>= λ rest. Ok (trees.Spawns p.0, p.1, rest)) (accept_facts nesting Spawn is)
+      (λ w x c. then (spawned_name nesting h) (λ n. closed (spawned_after h n)) (λ ts. spawn_process_at nesting h ts) (λ p. expect_at nesting Semicolon p.2 >>= λ rest. Ok (trees.Spawns p.0, p.1, rest)) (spawned_name_facts nesting h)
+      (λ n p c'. let g = spawned_after h n in give (word Semicolon nesting) (λ w x rest. (x, g, rest)) (λ ts. expect_at nesting Semicolon ts) (λ rest. (trees.Spawns p, g, rest)) (λ w t. trees.Spawns p) (λ w t rest. refl) (expect_facts nesting Semicolon)))
 
 -- LOOPS
 
@@ -456,8 +466,11 @@ module _ (event : ReadsEvent) (block : ReadsBlock) (turn : ReadsTurn) (nesting :
 
   -- ONE OF ALL
 
+  abbrev langs5 : Lang trees.Stmt StmtRead Any
+  langs5 = either (spawn_lang nesting h) (loops_lang loops nesting h)
+
   abbrev langs4 : Lang trees.Stmt StmtRead Any
-  langs4 = either (end_lang nesting h) (loops_lang loops nesting h)
+  langs4 = either (end_lang nesting h) langs5
 
   abbrev langs3 : Lang trees.Stmt StmtRead Any
   langs3 = either branch_lang langs4
@@ -471,8 +484,11 @@ module _ (event : ReadsEvent) (block : ReadsBlock) (turn : ReadsTurn) (nesting :
   abbrev langs0 : Lang trees.Stmt StmtRead Any
   langs0 = either sync_stmt langs1
 
+  abbrev reader6 : List Token → Result StmtRead Told
+  reader6 ts = cond (are_allowed place) (cond (next_is Loop ts) (counted_with turn nesting h ts) (cond (next_is Forever ts) (forever_with turn nesting h ts) (stop_at Syntax ts))) (stop_at Syntax ts)
+
   abbrev reader5 : List Token → Result StmtRead Told
-  reader5 ts = cond (are_allowed place) (cond (next_is Loop ts) (counted_with turn nesting h ts) (cond (next_is Forever ts) (forever_with turn nesting h ts) (stop_at Syntax ts))) (stop_at Syntax ts)
+  reader5 ts = cond (next_is Spawn ts) (spawn_at nesting h ts) (reader6 ts)
 
   abbrev reader4 : List Token → Result StmtRead Told
   reader4 ts = cond (next_is End ts) (end_at nesting ts >>= λ s. Ok (s.0, h, s.1)) (reader5 ts)
@@ -491,29 +507,36 @@ module _ (event : ReadsEvent) (block : ReadsBlock) (turn : ReadsTurn) (nesting :
 
   others0 : (w : (langs1).W) (rest : List Token) → begins_sync ((langs1).spell w rest) ≡ false
   unfolding begins_sync next_is
-  others0 = neither begins_sync (let_lang nesting h) langs2 (λ w rest. refl) (neither begins_sync (print_lang nesting h) langs3 (λ w rest. refl) (neither begins_sync branch_lang langs4 (λ w rest. refl) (neither begins_sync (end_lang nesting h) (loops_lang loops nesting h) (λ w rest. refl) (neither begins_sync (counted_lang loops nesting h) (forever_lang loops nesting h) (λ w rest. refl) (λ w rest. refl)))))
+  others0 = neither begins_sync (let_lang nesting h) langs2 (λ w rest. refl) (neither begins_sync (print_lang nesting h) langs3 (λ w rest. refl) (neither begins_sync branch_lang langs4 (λ w rest. refl) (neither begins_sync (end_lang nesting h) langs5 (λ w rest. refl) (neither begins_sync (spawn_lang nesting h) (loops_lang loops nesting h) (λ w rest. refl) (neither begins_sync (counted_lang loops nesting h) (forever_lang loops nesting h) (λ w rest. refl) (λ w rest. refl))))))
 
   others1 : (w : (langs2).W) (rest : List Token) → next_is Let ((langs2).spell w rest) ≡ false
   unfolding next_is
-  others1 = neither (next_is Let) (print_lang nesting h) langs3 (λ w rest. refl) (neither (next_is Let) branch_lang langs4 (λ w rest. refl) (neither (next_is Let) (end_lang nesting h) (loops_lang loops nesting h) (λ w rest. refl) (neither (next_is Let) (counted_lang loops nesting h) (forever_lang loops nesting h) (λ w rest. refl) (λ w rest. refl))))
+  others1 = neither (next_is Let) (print_lang nesting h) langs3 (λ w rest. refl) (neither (next_is Let) branch_lang langs4 (λ w rest. refl) (neither (next_is Let) (end_lang nesting h) langs5 (λ w rest. refl) (neither (next_is Let) (spawn_lang nesting h) (loops_lang loops nesting h) (λ w rest. refl) (neither (next_is Let) (counted_lang loops nesting h) (forever_lang loops nesting h) (λ w rest. refl) (λ w rest. refl)))))
 
   others2 : (w : (langs3).W) (rest : List Token) → next_is Print ((langs3).spell w rest) ≡ false
   unfolding next_is
-  others2 = neither (next_is Print) branch_lang langs4 (λ w rest. refl) (neither (next_is Print) (end_lang nesting h) (loops_lang loops nesting h) (λ w rest. refl) (neither (next_is Print) (counted_lang loops nesting h) (forever_lang loops nesting h) (λ w rest. refl) (λ w rest. refl)))
+  others2 = neither (next_is Print) branch_lang langs4 (λ w rest. refl) (neither (next_is Print) (end_lang nesting h) langs5 (λ w rest. refl) (neither (next_is Print) (spawn_lang nesting h) (loops_lang loops nesting h) (λ w rest. refl) (neither (next_is Print) (counted_lang loops nesting h) (forever_lang loops nesting h) (λ w rest. refl) (λ w rest. refl))))
 
   others3 : (w : (langs4).W) (rest : List Token) → next_is If ((langs4).spell w rest) ≡ false
   unfolding next_is
-  others3 = neither (next_is If) (end_lang nesting h) (loops_lang loops nesting h) (λ w rest. refl) (neither (next_is If) (counted_lang loops nesting h) (forever_lang loops nesting h) (λ w rest. refl) (λ w rest. refl))
+  others3 = neither (next_is If) (end_lang nesting h) langs5 (λ w rest. refl) (neither (next_is If) (spawn_lang nesting h) (loops_lang loops nesting h) (λ w rest. refl) (neither (next_is If) (counted_lang loops nesting h) (forever_lang loops nesting h) (λ w rest. refl) (λ w rest. refl)))
 
-  others4 : (w : ((loops_lang loops nesting h)).W) (rest : List Token) → next_is End (((loops_lang loops nesting h)).spell w rest) ≡ false
+  others4 : (w : (langs5).W) (rest : List Token) → next_is End ((langs5).spell w rest) ≡ false
   unfolding next_is
-  others4 = neither (next_is End) (counted_lang loops nesting h) (forever_lang loops nesting h) (λ w rest. refl) (λ w rest. refl)
+  others4 = neither (next_is End) (spawn_lang nesting h) (loops_lang loops nesting h) (λ w rest. refl) (neither (next_is End) (counted_lang loops nesting h) (forever_lang loops nesting h) (λ w rest. refl) (λ w rest. refl))
 
-  reads5 : {P : List Token → Type 0} → Facts P (loops_lang loops nesting h) reader5
-  reads5 = loops_facts turn nesting h turns place
+  others5 : (w : ((loops_lang loops nesting h)).W) (rest : List Token) → next_is Spawn (((loops_lang loops nesting h)).spell w rest) ≡ false
+  unfolding next_is
+  others5 = neither (next_is Spawn) (counted_lang loops nesting h) (forever_lang loops nesting h) (λ w rest. refl) (λ w rest. refl)
+
+  reads6 : {P : List Token → Type 0} → Facts P (loops_lang loops nesting h) reader6
+  reads6 = loops_facts turn nesting h turns place
+
+  reads5 : {P : List Token → Type 0} → Facts P langs5 reader5
+  reads5 = choose (next_is Spawn) (next_same Spawn) (spawn_lang nesting h) (loops_lang loops nesting h) (λ ts. spawn_at nesting h ts) reader6 (λ w rest e. is_next Spawn _) (λ w rest e. others5 w rest) (spawn_facts nesting h (λ ts p. p.1)) reads6
 
   reads4 : {P : List Token → Type 0} → Facts P langs4 reader4
-  reads4 = choose (next_is End) (next_same End) (end_lang nesting h) (loops_lang loops nesting h) (λ ts. end_at nesting ts >>= λ s. Ok (s.0, h, s.1)) reader5 (λ w rest e. is_next End _) (λ w rest e. others4 w rest) (end_facts nesting h (λ ts p. p.1)) reads5
+  reads4 = choose (next_is End) (next_same End) (end_lang nesting h) langs5 (λ ts. end_at nesting ts >>= λ s. Ok (s.0, h, s.1)) reader5 (λ w rest e. is_next End _) (λ w rest e. others4 w rest) (end_facts nesting h (λ ts p. p.1)) reads5
 
   reads3 : {P : List Token → Type 0} → Facts P langs3 reader3
   reads3 = choose (next_is If) (next_same If) branch_lang langs4 (λ ts. branch_with block nesting place h ts) reader4 (λ w rest e. is_next If _) (λ w rest e. others3 w rest) (branch_facts (λ ts p. p.1)) reads4
@@ -534,17 +557,19 @@ module _ (event : ReadsEvent) (block : ReadsBlock) (turn : ReadsTurn) (nesting :
   to_stmt (inr (inr (inl w))) = written.Print w.1.0
   to_stmt (inr (inr (inr (inl w)))) = written.If w.1.0 w.1.1.0 w.1.1.1.1
   to_stmt (inr (inr (inr (inr (inl w))))) = written.End
-  to_stmt (inr (inr (inr (inr (inr (inl w)))))) = written.Loop w.0 w.1
-  to_stmt (inr (inr (inr (inr (inr (inr w)))))) = written.Forever w
+  to_stmt (inr (inr (inr (inr (inr (inl w)))))) = written.Spawn w.1.0
+  to_stmt (inr (inr (inr (inr (inr (inr (inl w))))))) = written.Loop w.0 w.1
+  to_stmt (inr (inr (inr (inr (inr (inr (inr w))))))) = written.Forever w
 
   abbrev from_stmt : written.Stmt → langs0.W
   from_stmt (written.Let name value) = inr (inl (tt, (name, (tt, (value, tt)))))
   from_stmt (written.Print value) = inr (inr (inl (tt, (value, tt))))
   from_stmt (written.Sync names inner) = inl (names, inner)
   from_stmt (written.If test first second) = inr (inr (inr (inl (tt, (test, (first, (tt, second)))))))
-  from_stmt (written.Loop times body') = inr (inr (inr (inr (inr (inl (times, body'))))))
-  from_stmt (written.Forever body') = inr (inr (inr (inr (inr (inr body')))))
+  from_stmt (written.Loop times body') = inr (inr (inr (inr (inr (inr (inl (times, body')))))))
+  from_stmt (written.Forever body') = inr (inr (inr (inr (inr (inr (inr body'))))))
   from_stmt written.End = inr (inr (inr (inr (inl (tt, tt)))))
+  from_stmt (written.Spawn process) = inr (inr (inr (inr (inr (inl (tt, (process, tt)))))))
 
   stmt_spell_to : (w : langs0.W) (rest : List Token) → stmt_tokens (to_stmt w) rest ≡ langs0.spell w rest
   stmt_spell_to (inl w) rest = refl
@@ -553,7 +578,8 @@ module _ (event : ReadsEvent) (block : ReadsBlock) (turn : ReadsTurn) (nesting :
   stmt_spell_to (inr (inr (inr (inl w)))) rest = refl
   stmt_spell_to (inr (inr (inr (inr (inl w))))) rest = refl
   stmt_spell_to (inr (inr (inr (inr (inr (inl w)))))) rest = refl
-  stmt_spell_to (inr (inr (inr (inr (inr (inr w)))))) rest = refl
+  stmt_spell_to (inr (inr (inr (inr (inr (inr (inl w))))))) rest = refl
+  stmt_spell_to (inr (inr (inr (inr (inr (inr (inr w))))))) rest = refl
 
   stmt_notes_to : (w : langs0.W) → stmt_notes loops nesting h (to_stmt w) ≡ langs0.notes w
   unfolding stmt_notes
@@ -563,7 +589,8 @@ module _ (event : ReadsEvent) (block : ReadsBlock) (turn : ReadsTurn) (nesting :
   stmt_notes_to (inr (inr (inr (inl w)))) = refl
   stmt_notes_to (inr (inr (inr (inr (inl w))))) = refl
   stmt_notes_to (inr (inr (inr (inr (inr (inl w)))))) = refl
-  stmt_notes_to (inr (inr (inr (inr (inr (inr w)))))) = refl
+  stmt_notes_to (inr (inr (inr (inr (inr (inr (inl w))))))) = refl
+  stmt_notes_to (inr (inr (inr (inr (inr (inr (inr w))))))) = refl
 
   stmt_spell_from : (w : written.Stmt) (rest : List Token) → stmt_tokens w rest ≡ langs0.spell (from_stmt w) rest
   stmt_spell_from (written.Let name value) rest = refl
@@ -573,6 +600,7 @@ module _ (event : ReadsEvent) (block : ReadsBlock) (turn : ReadsTurn) (nesting :
   stmt_spell_from (written.Loop times body') rest = refl
   stmt_spell_from (written.Forever body') rest = refl
   stmt_spell_from written.End rest = refl
+  stmt_spell_from (written.Spawn process) rest = refl
 
   stmt_notes_from : (w : written.Stmt) → stmt_notes loops nesting h w ≡ langs0.notes (from_stmt w)
   unfolding stmt_notes
@@ -583,6 +611,7 @@ module _ (event : ReadsEvent) (block : ReadsBlock) (turn : ReadsTurn) (nesting :
   stmt_notes_from (written.Loop times body') = refl
   stmt_notes_from (written.Forever body') = refl
   stmt_notes_from written.End = refl
+  stmt_notes_from (written.Spawn process) = refl
 
   stmt_joined : (w : written.Stmt) (x : trees.Stmt) (rest : List Token) → langs0.join (from_stmt w) x rest ≡ (x, stmt_after h w, rest)
   unfolding stmt_after
@@ -593,6 +622,7 @@ module _ (event : ReadsEvent) (block : ReadsBlock) (turn : ReadsTurn) (nesting :
   stmt_joined (written.Loop times body') x rest = refl
   stmt_joined (written.Forever body') x rest = refl
   stmt_joined written.End x rest = refl
+  stmt_joined (written.Spawn process) x rest = refl
 
   pub stmt_facts : Facts Any (stmt_lang loops nesting h) (λ ts. stmt_with event block turn nesting place h ts)
   unfolding stmt_with
@@ -651,6 +681,7 @@ module _ (stmt : ReadsStmt) (r : ℕ) (place : Place) (stmts : (h : Here) → Fa
   stmt_starts (written.Loop times inner) rest = refl
   stmt_starts (written.Forever inner) rest = refl
   stmt_starts written.End rest = refl
+  stmt_starts (written.Spawn process) rest = refl
 
   one_behind : (a b : List Note) (n : Note) → 1 ≤ length (a ++ n ∷ b)
   one_behind a b n = (let e = length-append a (n ∷ b) in omega (arith, e))
@@ -669,6 +700,7 @@ module _ (stmt : ReadsStmt) (r : ℕ) (place : Place) (stmts : (h : Here) → Fa
   stmt_long h (written.Loop times inner) = omega arith
   stmt_long h (written.Forever inner) = omega arith
   stmt_long h written.End = omega arith
+  stmt_long h (written.Spawn process) = omega arith
 
   abbrev one_stmt : Here → Lang (List trees.Stmt) StmtsRead Any
   one_stmt h = giving (stmt_lang allowed r h) (λ w x ts. (x, stmt_after h w, ts))

@@ -2,7 +2,7 @@
 use Rattle.std.proofs.Common.{◌≡◌, ◌⊎◌, inl, inr, ⊎_elim, ℕ, zero, suc, ◌+◌, ◌-◌, ◌<◌, Bool, true, false, cond, ◌||◌, List, [], ◌∷◌, length, Some, Result, Ok, Err, refl, sym, ap, ◌∙◌, arith}
 use Rattle.script_token.specs.Tokens.{Token, Fixed}
 use Rattle.script_token.specs.declared.kind.Symbol.{Symbol}
-use Rattle.script_token.specs.declared.kind.Symbol.TheVariants.{Let, Print, If, Loop, Forever, End, OpenBrace, CloseBrace}
+use Rattle.script_token.specs.declared.kind.Symbol.TheVariants.{Let, Print, If, Loop, Forever, End, Spawn, OpenBrace, CloseBrace}
 use Rattle.script_tree.specs.Trees as trees
 use Rattle.script_tree.specs.declared.tree.Relation.TheVariants as relations
 use Rattle.script_tree.specs.Trees.{LoopBody}
@@ -10,7 +10,7 @@ use Rattle.script_reader.specs.Steps.{Told, ◌>>=◌, next_is, accept_at, expec
 use Rattle.script_reader.specs.declared.fault.Problem.{Problem}
 use Rattle.script_reader.specs.declared.fault.Problem.TheVariants.{Syntax, TooMany, LoopWithoutSync}
 use Rattle.script_grammar.specs.Written as written
-use Rattle.script_grammar.specs.Written.{stmt_tokens, body_tokens, block_tokens}
+use Rattle.script_grammar.specs.Written.{stmt_tokens, body_tokens}
 use Rattle.script_reader.proofs.ReadFronts.{accept_ok, expect_found}
 use Rattle.script_reader.specs.Blocks.{body, ReadsEvent, ReadsStmt, sync_with, stmts_with, is_no_sync, no_sync, turn_with}
 use Rattle.script_reader.specs.declared.process.Loops.TheVariants.{Allowed}
@@ -29,7 +29,7 @@ use Rattle.script_faults.proofs.Stmts.{TurnRead, SyncRead, named_lang, named_fac
 no_sync_looks : LooksInFront is_no_sync
 unfolding is_no_sync
 no_sync_looks a b h =
-    rw (next_same CloseBrace a b h, next_same Let a b h, next_same Print a b h, next_same If a b h, next_same Loop a b h, next_same Forever a b h, next_same End a b h) refl
+    rw (next_same CloseBrace a b h, next_same Let a b h, next_same Print a b h, next_same If a b h, next_same Loop a b h, next_same Forever a b h, next_same End a b h, next_same Spawn a b h) refl
 
 no_sync_starts : (b : written.Block) (rest : List Token) → begins_with_sync b ≡ false → is_no_sync (body_tokens b rest) ≡ true
 unfolding is_no_sync next_is
@@ -41,6 +41,7 @@ no_sync_starts (written.Then (written.If test first second) others) rest e = ref
 no_sync_starts (written.Then (written.Loop times body) others) rest e = refl
 no_sync_starts (written.Then (written.Forever body) others) rest e = refl
 no_sync_starts (written.Then written.End others) rest e = refl
+no_sync_starts (written.Then (written.Spawn process) others) rest e = refl
 
 sync_starts : (names : List (List ℕ)) (event : written.Event) (rest : List Token) → is_no_sync (stmt_tokens (written.Sync names event) rest) ≡ false
 unfolding is_no_sync next_is
@@ -62,6 +63,7 @@ no_sync_notes (written.Then (written.If test first second) others) r h e = recor
 no_sync_notes (written.Then (written.Loop times body) others) r h e = record { others = _; is = refl }
 no_sync_notes (written.Then (written.Forever body) others) r h e = record { others = _; is = refl }
 no_sync_notes (written.Then written.End others) r h e = record { others = _; is = refl }
+no_sync_notes (written.Then (written.Spawn process) others) r h e = record { others = _; is = refl }
 
 -- of tokens in front of which none of these stands, such a body
 record NoSyncFront (ts : List Token) : Type 0 where
@@ -92,8 +94,9 @@ no_sync_front ts e =
     (λ e. ⊎_elim (λ a. record { body = written.Then (written.If zero_test written.Done written.Done) written.Done; none = refl; front = λ rest. in_front_of If ts _ a })
     (λ e. ⊎_elim (λ a. record { body = written.Then (written.Loop 0 written.Done) written.Done; none = refl; front = λ rest. in_front_of Loop ts _ a })
     (λ e. ⊎_elim (λ a. record { body = written.Then (written.Forever written.Done) written.Done; none = refl; front = λ rest. in_front_of Forever ts _ a })
-    (λ a. record { body = written.Then written.End written.Done; none = refl; front = λ rest. in_front_of End ts _ a })
-    (either_true _ _ e)) (either_true _ _ e)) (either_true _ _ e)) (either_true _ _ e)) (either_true _ _ e)) (either_true _ _ e)
+    (λ e. ⊎_elim (λ a. record { body = written.Then written.End written.Done; none = refl; front = λ rest. in_front_of End ts _ a })
+    (λ a. record { body = written.Then (written.Spawn []) written.Done; none = refl; front = λ rest. in_front_of Spawn ts _ a })
+    (either_true _ _ e)) (either_true _ _ e)) (either_true _ _ e)) (either_true _ _ e)) (either_true _ _ e)) (either_true _ _ e)) (either_true _ _ e)
 
 -- THE FAULT AT THE FIRST TOKEN
 
@@ -204,6 +207,7 @@ module _ (event : ReadsEvent) (stmt : ReadsStmt) (nesting back : ℕ) (events : 
   from_body (written.Then (written.Loop times body) others) = inl (written.Then (written.Loop times body) others, refl)
   from_body (written.Then (written.Forever body) others) = inl (written.Then (written.Forever body) others, refl)
   from_body (written.Then written.End others) = inl (written.Then written.End others, refl)
+  from_body (written.Then (written.Spawn process) others) = inl (written.Then (written.Spawn process) others, refl)
 
   parts_spell_to : (h : Here) (w : BodyParts) (rest : List Token) → body_tokens (to_body w) rest ≡ (parts h).spell w rest
   parts_spell_to h (inl w) rest = refl
@@ -223,6 +227,7 @@ module _ (event : ReadsEvent) (stmt : ReadsStmt) (nesting back : ℕ) (events : 
   parts_spell_from h (written.Then (written.Loop times body) others) rest = refl
   parts_spell_from h (written.Then (written.Forever body) others) rest = refl
   parts_spell_from h (written.Then written.End others) rest = refl
+  parts_spell_from h (written.Then (written.Spawn process) others) rest = refl
 
   parts_notes_from : (h : Here) (w : written.Block) → (loop_lang r back h).notes w ≡ (parts h).notes (from_body w)
   unfolding body_notes
@@ -234,6 +239,7 @@ module _ (event : ReadsEvent) (stmt : ReadsStmt) (nesting back : ℕ) (events : 
   parts_notes_from h (written.Then (written.Loop times body) others) = refl
   parts_notes_from h (written.Then (written.Forever body) others) = refl
   parts_notes_from h (written.Then written.End others) = refl
+  parts_notes_from h (written.Then (written.Spawn process) others) = refl
 
   parts_joined : (h : Here) (w : written.Block) (x : LoopBody) (rest : List Token) → (parts h).join (from_body w) x rest ≡ (x, block_after h w, rest)
   unfolding block_after
@@ -245,6 +251,7 @@ module _ (event : ReadsEvent) (stmt : ReadsStmt) (nesting back : ℕ) (events : 
   parts_joined h (written.Then (written.Loop times body) others) x rest = refl
   parts_joined h (written.Then (written.Forever body) others) x rest = refl
   parts_joined h (written.Then written.End others) x rest = refl
+  parts_joined h (written.Then (written.Spawn process) others) x rest = refl
 
   pub loop_body_facts : (h : Here) → Facts Any (loop_lang r back h) (parts_reader h)
   loop_body_facts h = turned (parts h) (loop_lang r back h) (parts_reader h) (parts_reader h) (record {

@@ -3,12 +3,12 @@ use Rattle.std.proofs.Common.{◌≡◌, ◌⊎◌, inl, inr, ⊎_elim, ℕ, zer
 use Rattle.script_token.specs.Tokens.{Token, Fixed, Name, Number, Bad}
 use Rattle.script_token.specs.declared.kind.Symbol.{Symbol}
 use Rattle.script_tree.specs.declared.tree.Name.{Name as Meaning}
-use Rattle.script_reader.specs.Steps.{Told, ◌>>=◌, stop_at, number_at, next_is, accept_at, expect_at, Here, meaning, read_name_at, bound, is_taken, bind_name_at, fourth_name_at}
-use Rattle.script_grammar.specs.Meaning.{if_some}
+use Rattle.script_reader.specs.Steps.{Told, ◌>>=◌, stop_at, number_at, next_is, accept_at, expect_at, Here, meaning, read_name_at, read_process_at, spawn_process_at, bound, is_taken, bind_name_at, fourth_name_at}
+use Rattle.script_grammar.specs.Meaning.{place, if_some, is_among}
 use Rattle.script_reader.specs.declared.fault.Problem.{Problem}
 use Rattle.script_reader.specs.declared.fault.Problem.TheVariants.{Syntax, UnknownName, Twice, TooMany}
 use Rattle.script_reader.proofs.ReadFronts.{accept_ok, is_next, next_found}
-use Rattle.script_faults.specs.Notes.{Note, first_fault, plain, read_note, bind_note}
+use Rattle.script_faults.specs.Notes.{Note, first_fault, plain, read_note, process_note, spawn_note, spawned_after, bind_note}
 use Rattle.script_faults.specs.Laws.{Any}
 use Rattle.script_faults.proofs.Facts.{Lang, Facts, Takes, Faults, token, one_clean, one_token, or_stop, next_same}
 
@@ -94,6 +94,123 @@ no_name nesting h = refl
 
 pub name_facts : {P : List Token → Type 0} (nesting : ℕ) (h : Here) → Facts P (name nesting h) (λ ts. read_name_at nesting h ts)
 name_facts nesting h = one_token {W = List ℕ} {X = Meaning} {Y = Meaning × List Token} [] (λ text. Name text) (λ text. read_note nesting h text) (λ w x rest. (x, rest)) (λ ts. read_name_at nesting h ts) (λ p. no_name nesting h) (λ w. name_on nesting h w (meaning h w) refl) (λ t ts p. name_off nesting h t)
+
+-- PROCESSES THAT ARE NAMED
+
+abbrev pub process_name : ℕ → Here → Lang ℕ (ℕ × List Token) Any
+process_name nesting h = token {W = List ℕ} {X = ℕ} {Y = ℕ × List Token} [] (λ text. Name text) (λ text. process_note nesting h text) (λ w x rest. (x, rest))
+
+module _ (nesting : ℕ) (h : Here) where
+  abbrev ProcessTakes : List ℕ → Type 0
+  ProcessTakes text = Takes {W = List ℕ} {X = ℕ} {Y = ℕ × List Token} [] (λ text. Name text) (λ text. process_note nesting h text) (λ w x rest. (x, rest)) (λ ts. read_process_at nesting h ts) text
+
+  abbrev ProcessFaults : List ℕ → Type 0
+  ProcessFaults text = Faults {W = List ℕ} {X = ℕ} {Y = ℕ × List Token} [] (λ text. Name text) (λ text. process_note nesting h text) (λ w x rest. (x, rest)) (λ ts. read_process_at nesting h ts) text
+
+  known_process : (text : List ℕ) (p : ℕ) → place text h.processes ≡ Some p → process_note nesting h text ≡ plain nesting
+  unfolding process_note
+  known_process text p e = rw e refl
+
+  unknown_process : (text : List ℕ) → place text h.processes ≡ None → process_note nesting h text ≡ Some (UnknownName, 0)
+  unfolding process_note
+  unknown_process text e = rw e refl
+
+  reads_known : (text : List ℕ) (p : ℕ) (ts : List Token) (r : Result (List Token) Told) → place text h.processes ≡ Some p → accept_at nesting (Name text ∷ ts) ≡ r → read_process_at nesting h (Name text ∷ ts) ≡ (r >>= λ rest. Ok (p, rest))
+  unfolding read_process_at
+  reads_known text p ts r e f = rw (e, f) refl
+
+  reads_unknown : (text : List ℕ) (ts : List Token) → place text h.processes ≡ None → read_process_at nesting h (Name text ∷ ts) ≡ Err (UnknownName, suc (length ts))
+  unfolding read_process_at
+  reads_unknown text ts e = rw e refl
+
+  process_on : (text : List ℕ) (o : Option ℕ) → place text h.processes ≡ o → ProcessTakes text ⊎ ProcessFaults text
+  process_on text None e = inr (record { problem = UnknownName; some = unknown_process text e; fails = λ ts. reads_unknown text ts e })
+  process_on text (Some p) e = ⊎_elim
+      (λ a. inl (record { none = known_process text p e ∙ a.0; value = p; reads = λ ts. reads_known text p ts (Ok ts) e (a.1 ts) }))
+      (λ b. inr (record { problem = TooMany; some = known_process text p e ∙ b.0; fails = λ ts. reads_known text p ts (Err (TooMany, suc (length ts))) e (b.1 ts) }))
+      (accept_both nesting (Name text))
+
+  process_off : (t : Token) → ((w : List ℕ) × (t ≡ Name w)) ⊎ ((us : List Token) → read_process_at nesting h (t ∷ us) ≡ Err (Syntax, suc (length us)))
+  unfolding read_process_at
+  process_off (Fixed s) = inr (λ us. refl)
+  process_off (Name text) = inl (text, refl)
+  process_off (Number n) = inr (λ us. refl)
+  process_off Bad = inr (λ us. refl)
+
+  no_process_name : read_process_at nesting h [] ≡ Err (Syntax, 0)
+  unfolding read_process_at
+  no_process_name = refl
+
+  pub process_name_facts : {P : List Token → Type 0} → Facts P (process_name nesting h) (λ ts. read_process_at nesting h ts)
+  process_name_facts = one_token {W = List ℕ} {X = ℕ} {Y = ℕ × List Token} [] (λ text. Name text) (λ text. process_note nesting h text) (λ w x rest. (x, rest)) (λ ts. read_process_at nesting h ts) (λ p. no_process_name) (λ w. process_on w (place w h.processes) refl) (λ t ts p. process_off t)
+
+-- PROCESSES THAT ARE SPAWNED
+
+abbrev pub Spawned : Type 0
+Spawned = ℕ × Here × List Token
+
+abbrev pub spawned_name : ℕ → Here → Lang ℕ Spawned Any
+spawned_name nesting h = token {W = List ℕ} {X = ℕ} {Y = Spawned} [] (λ text. Name text) (λ text. spawn_note nesting h text) (λ w x rest. (x, spawned_after h w, rest))
+
+module _ (nesting : ℕ) (h : Here) where
+  abbrev SpawnTakes : List ℕ → Type 0
+  SpawnTakes text = Takes {W = List ℕ} {X = ℕ} {Y = Spawned} [] (λ text. Name text) (λ text. spawn_note nesting h text) (λ w x rest. (x, spawned_after h w, rest)) (λ ts. spawn_process_at nesting h ts) text
+
+  abbrev SpawnFaults : List ℕ → Type 0
+  SpawnFaults text = Faults {W = List ℕ} {X = ℕ} {Y = Spawned} [] (λ text. Name text) (λ text. spawn_note nesting h text) (λ w x rest. (x, spawned_after h w, rest)) (λ ts. spawn_process_at nesting h ts) text
+
+  new_note : (text : List ℕ) (p : ℕ) → place text h.processes ≡ Some p → is_among h.spawned p ≡ false → spawn_note nesting h text ≡ plain nesting
+  unfolding spawn_note
+  new_note text p e f = rw (e, f) refl
+
+  again_note : (text : List ℕ) (p : ℕ) → place text h.processes ≡ Some p → is_among h.spawned p ≡ true → spawn_note nesting h text ≡ Some (Twice, 0)
+  unfolding spawn_note
+  again_note text p e f = rw (e, f) refl
+
+  none_note : (text : List ℕ) → place text h.processes ≡ None → spawn_note nesting h text ≡ Some (UnknownName, 0)
+  unfolding spawn_note
+  none_note text e = rw e refl
+
+  spawns_new : (text : List ℕ) (p : ℕ) (ts : List Token) → place text h.processes ≡ Some p → is_among h.spawned p ≡ false → accept_at nesting (Name text ∷ ts) ≡ Ok ts → spawn_process_at nesting h (Name text ∷ ts) ≡ Ok (p, spawned_after h text, ts)
+  unfolding spawn_process_at
+  spawns_new text p ts e f g = rw (e, f, g) refl
+
+  spawns_deep : (text : List ℕ) (p : ℕ) (ts : List Token) (t : Told) → place text h.processes ≡ Some p → is_among h.spawned p ≡ false → accept_at nesting (Name text ∷ ts) ≡ Err t → spawn_process_at nesting h (Name text ∷ ts) ≡ Err t
+  unfolding spawn_process_at
+  spawns_deep text p ts t e f g = rw (e, f, g) refl
+
+  spawns_again : (text : List ℕ) (p : ℕ) (ts : List Token) → place text h.processes ≡ Some p → is_among h.spawned p ≡ true → spawn_process_at nesting h (Name text ∷ ts) ≡ Err (Twice, suc (length ts))
+  unfolding spawn_process_at
+  spawns_again text p ts e f = rw (e, f) refl
+
+  spawns_none : (text : List ℕ) (ts : List Token) → place text h.processes ≡ None → spawn_process_at nesting h (Name text ∷ ts) ≡ Err (UnknownName, suc (length ts))
+  unfolding spawn_process_at
+  spawns_none text ts e = rw e refl
+
+  known_on : (text : List ℕ) (p : ℕ) → place text h.processes ≡ Some p → (b : Bool) → is_among h.spawned p ≡ b → SpawnTakes text ⊎ SpawnFaults text
+  known_on text p e true f = inr (record { problem = Twice; some = again_note text p e f; fails = λ ts. spawns_again text p ts e f })
+  known_on text p e false f = ⊎_elim
+      (λ a. inl (record { none = new_note text p e f ∙ a.0; value = p; reads = λ ts. spawns_new text p ts e f (a.1 ts) }))
+      (λ b. inr (record { problem = TooMany; some = new_note text p e f ∙ b.0; fails = λ ts. spawns_deep text p ts (TooMany, suc (length ts)) e f (b.1 ts) }))
+      (accept_both nesting (Name text))
+
+  spawn_on : (text : List ℕ) (o : Option ℕ) → place text h.processes ≡ o → SpawnTakes text ⊎ SpawnFaults text
+  spawn_on text None e = inr (record { problem = UnknownName; some = none_note text e; fails = λ ts. spawns_none text ts e })
+  spawn_on text (Some p) e = known_on text p e (is_among h.spawned p) refl
+
+  spawn_off : (t : Token) → ((w : List ℕ) × (t ≡ Name w)) ⊎ ((us : List Token) → spawn_process_at nesting h (t ∷ us) ≡ Err (Syntax, suc (length us)))
+  unfolding spawn_process_at
+  spawn_off (Fixed s) = inr (λ us. refl)
+  spawn_off (Name text) = inl (text, refl)
+  spawn_off (Number n) = inr (λ us. refl)
+  spawn_off Bad = inr (λ us. refl)
+
+  no_spawned_name : spawn_process_at nesting h [] ≡ Err (Syntax, 0)
+  unfolding spawn_process_at
+  no_spawned_name = refl
+
+  pub spawned_name_facts : {P : List Token → Type 0} → Facts P (spawned_name nesting h) (λ ts. spawn_process_at nesting h ts)
+  spawned_name_facts = one_token {W = List ℕ} {X = ℕ} {Y = Spawned} [] (λ text. Name text) (λ text. spawn_note nesting h text) (λ w x rest. (x, spawned_after h w, rest)) (λ ts. spawn_process_at nesting h ts) (λ p. no_spawned_name) (λ w. spawn_on w (place w h.processes) refl) (λ t ts p. spawn_off t)
 
 -- NUMBERS
 

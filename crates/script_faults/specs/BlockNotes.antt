@@ -5,7 +5,7 @@ use Rattle.script_reader.specs.Steps.{Here, bound, start}
 use Rattle.script_reader.specs.declared.fault.Problem.TheVariants.{Syntax, Twice, TooMany, LoopWithoutSync}
 use Rattle.script_grammar.specs.Written.{Event, Events, NoEvents, Another, Stmt, Block, Done, Then, Process, Script}
 use Rattle.script_grammar.specs.Written as written
-use Rattle.script_faults.specs.Notes.{Note, also, plain, read_note, bind_note, expr_notes, test_notes, list_notes, names_after, names_notes}
+use Rattle.script_faults.specs.Notes.{Note, also, plain, read_note, process_note, spawn_note, spawned_after, bind_note, expr_notes, test_notes, list_notes, names_after, names_notes}
 
 -- the word of a base event
 unfoldable pub base_note : ℕ → Here → Note
@@ -55,6 +55,7 @@ unfoldable mutual
   event_after h (written.Always list) = one_base h
   event_after h written.Never = one_base h
   event_after h (written.Cancelled nack) = one_base h
+  event_after h (written.Joined process) = one_base h
   event_after h (written.Choose members) = events_after h members
   event_after h (written.Wrap event names list) = names_after (event_after h event) names
   event_after h (written.Guard body event) = event_after (block_after h body) event
@@ -72,6 +73,7 @@ unfoldable mutual
   stmt_after h (written.Loop times body) = block_after h body
   stmt_after h (written.Forever body) = block_after h body
   stmt_after h written.End = h
+  stmt_after h (written.Spawn process) = spawned_after h process
 
   pub block_after : Here → Block → Here
   block_after h Done = h
@@ -86,6 +88,7 @@ is_sync (written.If test first second) = false
 is_sync (written.Loop times body) = false
 is_sync (written.Forever body) = false
 is_sync written.End = false
+is_sync (written.Spawn process) = false
 
 abbrev pub begins_with_sync : Block → Bool
 begins_with_sync Done = false
@@ -104,6 +107,7 @@ unfoldable mutual
   event_notes nesting h (written.Always list) = base_note nesting h ∷ list_notes nesting (one_base h) list
   event_notes nesting h written.Never = base_note nesting h ∷ []
   event_notes nesting h (written.Cancelled nack) = base_note nesting h ∷ read_note nesting (one_base h) nack ∷ []
+  event_notes nesting h (written.Joined process) = base_note nesting h ∷ process_note nesting (one_base h) process ∷ []
   event_notes nesting h (written.Choose members) = plain nesting ∷ plain nesting ∷ (events_notes (nesting - 1) h members ++ plain (nesting - 1) ∷ [])
   event_notes nesting h (written.Wrap event names list) =
       plain nesting ∷ (event_notes (nesting - 1) h event ++ (as_notes (nesting - 1) (event_after h event) names ++ list_notes (nesting - 1) (names_after (event_after h event) names) list))
@@ -130,6 +134,7 @@ unfoldable mutual
   stmt_notes loops nesting h (written.Loop times body) = loop_note loops nesting ∷ plain nesting ∷ plain nesting ∷ if_no_sync (begins_with_sync body) 3 (body_notes true (nesting - 1) h body)
   stmt_notes loops nesting h (written.Forever body) = loop_note loops nesting ∷ plain nesting ∷ if_no_sync (begins_with_sync body) 2 (body_notes true (nesting - 1) h body)
   stmt_notes loops nesting h written.End = plain nesting ∷ plain nesting ∷ []
+  stmt_notes loops nesting h (written.Spawn process) = plain nesting ∷ spawn_note nesting h process ∷ plain nesting ∷ []
 
   -- statements, and the brace that ends them
   pub body_notes : Bool → ℕ → Here → Block → List Note
@@ -146,10 +151,13 @@ unfoldable pub channels_notes : List (List ℕ) → List (List ℕ) → List Not
 channels_notes names [] = []
 channels_notes names (text ∷ texts) = (None ∷ declare_note 256 names text ∷ None ∷ []) ++ channels_notes (names ++ text ∷ []) texts
 
--- processes behind others with such names; each begins with the channels alone
-unfoldable pub processes_notes : List (List ℕ) → List (List ℕ) → List Process → List Note
-processes_notes channels names [] = []
-processes_notes channels names (p ∷ ps) = (None ∷ declare_note 64 names p.name ∷ block_notes true 49 (start channels) p.body) ++ processes_notes channels (names ++ p.name ∷ []) ps
+-- processes behind others with such names, some of which are spawned; each begins with the channels, and
+-- with the processes before it
+unfoldable pub processes_notes : List (List ℕ) → List (List ℕ) → List ℕ → List Process → List Note
+processes_notes channels names spawned [] = []
+processes_notes channels names spawned (p ∷ ps) =
+    (None ∷ declare_note 64 names p.name ∷ block_notes true 49 (start channels names spawned) p.body)
+    ++ processes_notes channels (names ++ p.name ∷ []) (block_after (start channels names spawned) p.body).spawned ps
 
 unfoldable pub script_notes : Script → List Note
-script_notes s = channels_notes [] s.channels ++ processes_notes s.channels [] s.processes
+script_notes s = channels_notes [] s.channels ++ processes_notes s.channels [] [] s.processes

@@ -2,6 +2,7 @@
 -- there, and of several the one with the lowest number. Names and counts are those known at the token.
 -- `nesting` is how many levels deeper a token may lie, and one more: 49 at the outermost level.
 use Rattle.std.specs.Prelude.{◌≡◌, ℕ, zero, suc, ◌+◌, ◌-◌, List, [], ◌∷◌, ◌++◌, length, ◌||◌, Option, Some, None, is_some, nat_lt, nat_le, ◌==◌, if◌then◌else◌}
+use Rattle.script_grammar.specs.Meaning.{place, if_some, is_listed}
 use Rattle.script_token.specs.Tokens.{Token}
 use Rattle.script_reader.specs.Steps.{Told, Here, meaning, bound, is_taken}
 use Rattle.script_reader.specs.declared.fault.Problem.{Problem}
@@ -33,6 +34,21 @@ plain nesting = if nesting == 0 then Some (TooMany, 0) else None
 -- a name that is read
 unfoldable pub read_note : ℕ → Here → List ℕ → Note
 read_note nesting h text = if is_some (meaning h text) then plain nesting else Some (UnknownName, 0)
+
+-- a process that is named
+unfoldable pub process_note : ℕ → Here → List ℕ → Note
+process_note nesting h text = if is_some (place text h.processes) then plain nesting else Some (UnknownName, 0)
+
+-- a process that is named in order to be spawned
+unfoldable pub spawn_note : ℕ → Here → List ℕ → Note
+spawn_note nesting h text =
+    if is_some (place text h.processes)
+    then (if is_listed h.spawned (place text h.processes) then Some (Twice, 0) else plain nesting)
+    else Some (UnknownName, 0)
+
+-- the names behind it
+abbrev pub spawned_after : Here → List ℕ → Here
+spawned_after h text = if_some (place text h.processes) (λ p. record h { spawned = h.spawned ++ p ∷ [] }) h
 
 -- a name that is bound behind the variables of its list
 unfoldable pub bind_note : ℕ → List ℕ → Here → List ℕ → Note

@@ -1,22 +1,27 @@
--- What is written binds further variables behind those that are bound, and leaves the channels.
+-- What is written binds further variables behind those that are bound, and leaves the channels and the
+-- processes. To those behind a process others may be added.
 use Rattle.std.proofs.Common.{◌≡◌, ℕ, Bool, true, false, ◌||◌, ltb, leb, List, [], ◌∷◌, ◌++◌, length, Option, Some, None, is_some, refl, sym, ap, ◌∙◌, subst, append_assoc}
 use Rattle.std.proofs.lemmas.List.{append-nil}
-use Rattle.script_grammar.specs.Meaning.{place, if_some, is_listed, Names, name_meaning, expr_meaning, test_meaning, list_meaning, bound, bind, bind_all, bind_names, is_small, as_turn, event_meaning, events_meaning, stmt_meaning, block_meaning}
+use Rattle.script_grammar.specs.Meaning.{place, if_some, is_among, is_listed, Names, name_meaning, expr_meaning, test_meaning, list_meaning, bound, bind, bind_all, bind_names, is_small, as_turn, event_meaning, events_meaning, stmt_meaning, block_meaning}
 use Rattle.script_tree.specs.Trees as trees
 use Rattle.script_grammar.specs.Written as written
 use Rattle.script_grammar.proofs.Parts.{part, some_is, if_else_some, unless_some}
 
 pub record Grows (ns ns' : Names) : Type 0 where
   pub channels : ns'.channels ≡ ns.channels
+  pub later : List (List ℕ)
+  pub processes : ns'.processes ≡ ns.processes ++ later
   pub more : List (List ℕ)
   pub variables : ns'.variables ≡ ns.variables ++ more
 
 pub stays : (ns : Names) → Grows ns ns
-stays ns = record { channels = refl; more = []; variables = sym (append-nil ns.variables) }
+stays ns = record { channels = refl; later = []; processes = sym (append-nil ns.processes); more = []; variables = sym (append-nil ns.variables) }
 
 pub grows_on : (a b c : Names) → Grows a b → Grows b c → Grows a c
 grows_on a b c f g = record {
   channels = g.channels ∙ f.channels;
+  later = f.later ++ g.later;
+  processes = g.processes ∙ ap (λ (x : List (List ℕ)). x ++ g.later) f.processes ∙ append_assoc a.processes f.later g.later;
   more = f.more ++ g.more;
   variables = g.variables ∙ ap (λ (x : List (List ℕ)). x ++ g.more) f.variables ∙ append_assoc a.variables f.more g.more;
 }
@@ -26,7 +31,7 @@ bound_grows ns text = at_place (place text ns.variables)
   where
     at_place : (o : Option ℕ) → Grows ns (if_some {B = ℕ × Names} o (λ v. (v, ns)) (length ns.variables, record ns { variables = ns.variables ++ text ∷ [] })).1
     at_place (Some v) = stays ns
-    at_place None = record { channels = refl; more = text ∷ []; variables = refl }
+    at_place None = record { channels = refl; later = []; processes = sym (append-nil ns.processes); more = text ∷ []; variables = refl }
 
 pub bind_grows : (list : List ℕ) (ns : Names) (text : List ℕ) (b : ℕ × Names) → bind list ns text ≡ Some b → Grows ns b.1
 unfolding bind
@@ -69,6 +74,9 @@ mutual
   event_grows (written.Cancelled nack) ns x e =
       let n = part (name_meaning ns nack) _ x e in
       subst (λ (y : trees.Event × Names). Grows ns y.1) (some_is _ _ n.then) (stays ns)
+  event_grows (written.Joined process) ns x e =
+      let p = part (place process ns.processes) _ x e in
+      subst (λ (y : trees.Event × Names). Grows ns y.1) (some_is _ _ p.then) (stays ns)
   event_grows (written.Choose members) ns x e =
       let m = part (events_meaning ns members) _ x e in
       subst (λ (y : trees.Event × Names). Grows ns y.1) (some_is _ _ m.then) (events_grow members ns m.first m.is)
@@ -132,6 +140,11 @@ mutual
       let t = part (as_turn b.first.0) _ x b.then in
       subst (λ (y : trees.Stmt × Names). Grows ns y.1) (some_is _ _ t.then) (block_grows body true ns b.first b.is))
   stmt_grows written.End loops ns x e = subst (λ (y : trees.Stmt × Names). Grows ns y.1) (some_is _ _ e) (stays ns)
+  stmt_grows (written.Spawn process) loops ns x e =
+      let p = part (place process ns.processes) _ x e in
+      unless_some (is_among ns.spawned p.first) _ x p.then
+      (λ _ f. subst (λ (y : trees.Stmt × Names). Grows ns y.1) (some_is _ _ f)
+      (record { channels = refl; later = []; processes = sym (append-nil ns.processes); more = []; variables = sym (append-nil ns.variables) }))
 
   pub block_grows : (w : written.Block) (loops : Bool) (ns : Names) (x : trees.Block × Names) → block_meaning loops ns w ≡ Some x → Grows ns x.1
   block_grows written.Done loops ns x e = subst (λ (y : trees.Block × Names). Grows ns y.1) (some_is _ _ e) (stays ns)

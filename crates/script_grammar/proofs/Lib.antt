@@ -1,2 +1,4 @@
 pub mod Parts
 pub mod Growing
+pub mod Places
+pub mod Spawning

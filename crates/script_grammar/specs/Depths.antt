@@ -34,6 +34,7 @@ abbrev mutual
   event_depth (written.Always list) = list_depth list
   event_depth written.Never = 0
   event_depth (written.Cancelled nack) = 0
+  event_depth (written.Joined process) = 0
   event_depth (written.Choose members) = 1 + events_depth members
   event_depth (written.Wrap event names list) = 1 + max (event_depth event) (list_depth list)
   event_depth (written.Guard body event) = 1 + max (1 + stmts_depth body) (event_depth event)
@@ -51,6 +52,7 @@ abbrev mutual
   stmt_depth (written.Loop times body) = 1 + stmts_depth body
   stmt_depth (written.Forever body) = 1 + stmts_depth body
   stmt_depth written.End = 0
+  stmt_depth (written.Spawn process) = 0
 
   -- without the marks round it
   pub stmts_depth : Block → ℕ

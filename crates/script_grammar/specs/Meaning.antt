@@ -12,7 +12,7 @@ use Rattle.script_tree.specs.Trees as trees
 use Rattle.script_tree.specs.Trees.{LoopBody, Single, Sum, Nothing, More}
 use Rattle.script_tree.specs.Limits.{base_count, nack_count}
 use Rattle.script_tree.specs.Processes.{Proc}
-use Rattle.script_grammar.specs.Written.{Term, OfNumber, OfName, Grouped, Terms, NoMore, Further, Expr, Test, Event, Events, NoEvents, Another, Stmt, Block, Done, Then, Process, Script}
+use Rattle.script_grammar.specs.Written.{Term, OfNumber, OfName, Grouped, Terms, NoMore, Further, Expr, Test, Event, Events, NoEvents, Another, Stmt, Block, Done, Then, Process}
 use Rattle.script_grammar.specs.Written as written
 
 infixl 10 ◌>>=◌
@@ -34,10 +34,17 @@ place name (x ∷ names) = if bytes_eq name x then Some 0 else option_map (λ n.
 abbrev pub channel_of : ℕ → Option Name
 channel_of c = if nat_lt c 256 then Some (Channel c) else None
 
--- the declared channels, and the variables that are bound so far, each by its place
+-- the declared channels, the processes whose blocks have ended before, and the variables that are bound so
+-- far, each by its place; and which of these processes are spawned so far
 pub record Names : Type 0 where
   pub channels : List (List ℕ)
+  pub processes : List (List ℕ)
   pub variables : List (List ℕ)
+  pub spawned : List ℕ
+
+-- the names at the first token of a process
+abbrev pub first_names : List (List ℕ) → List (List ℕ) → List ℕ → Names
+first_names channels processes spawned = record { channels = channels; processes = processes; variables = []; spawned = spawned }
 
 unfoldable pub name_meaning : Names → List ℕ → Option Name
 name_meaning ns text = if_some (place text ns.channels) channel_of (if_some (place text ns.variables) (λ v. Some (Variable v)) None)
@@ -103,7 +110,7 @@ list_meaning ns es = if nat_le (length es) 3 then exprs_meaning ns es else None
 
 -- NAMES THAT ARE BOUND
 
--- whether a variable is one of a list
+-- whether a number is one of a list
 abbrev pub is_among : List ℕ → ℕ → Bool
 is_among [] v = false
 is_among (x ∷ xs) v = (v == x) || is_among xs v
@@ -164,6 +171,7 @@ unfoldable mutual
   event_meaning ns (written.Always list) = list_meaning ns list >>= λ l. Some (trees.IsReady l, ns)
   event_meaning ns written.Never = Some (trees.IsNever, ns)
   event_meaning ns (written.Cancelled nack) = name_meaning ns nack >>= λ n. Some (trees.IsCancelled n, ns)
+  event_meaning ns (written.Joined process) = place process ns.processes >>= λ p. Some (trees.IsJoined p, ns)
   event_meaning ns (written.Choose members) = events_meaning ns members >>= λ m. Some (trees.Chooses m.0, m.1)
   event_meaning ns (written.Wrap event names list) = do
     e ← event_meaning ns event
@@ -211,6 +219,9 @@ unfoldable mutual
     t ← as_turn b.0
     Some (trees.LoopsForever t.names t.event t.rest, b.1)) else None
   stmt_meaning loops ns written.End = Some (trees.Ends, ns)
+  stmt_meaning loops ns (written.Spawn process) = do
+    p ← place process ns.processes
+    if is_among ns.spawned p then None else Some (trees.Spawns p, record ns { spawned = ns.spawned ++ p ∷ [] })
 
   pub block_meaning : Bool → Names → Block → Option (trees.Block × Names)
   block_meaning loops ns Done = Some (trees.Stops, ns)
@@ -231,11 +242,12 @@ unfoldable pub channels_meaning : List (List ℕ) → List (List ℕ) → Option
 channels_meaning names [] = Some names
 channels_meaning names (text ∷ texts) = declare 256 names text >>= λ names. channels_meaning names texts
 
--- The processes behind others with such names. A process begins with the channels alone.
-unfoldable pub processes_meaning : List (List ℕ) → List (List ℕ) → List Process → Option (List Proc)
-processes_meaning channels names [] = Some []
-processes_meaning channels names (p ∷ ps) = do
+-- The processes behind others with such names, some of which are spawned. A process begins with the
+-- channels, and with the processes before it.
+unfoldable pub processes_meaning : List (List ℕ) → List (List ℕ) → List ℕ → List Process → Option (List Proc)
+processes_meaning channels names spawned [] = Some []
+processes_meaning channels names spawned (p ∷ ps) = do
   grown ← declare 64 names p.name
-  b ← block_meaning true (record { channels = channels; variables = [] }) p.body
-  qs ← processes_meaning channels grown ps
+  b ← block_meaning true (first_names channels names spawned) p.body
+  qs ← processes_meaning channels grown b.1.spawned ps
   Some (record { name = p.name; body = b.0; variables = b.1.variables; channels = length channels; earlier = length names } ∷ qs)

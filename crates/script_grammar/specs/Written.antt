@@ -83,6 +83,7 @@ mutual
     Always : (list : List Expr) → Event
     Never : Event
     Cancelled : (nack : List ℕ) → Event
+    Joined : (process : List ℕ) → Event
     Choose : (members : Events) → Event
     Wrap : (event : Event) (names : List (List ℕ)) (list : List Expr) → Event
     Guard : (body : Block) (event : Event) → Event
@@ -100,6 +101,7 @@ mutual
     Loop : (times : ℕ) (body : Block) → Stmt
     Forever : (body : Block) → Stmt
     End : Stmt
+    Spawn : (process : List ℕ) → Stmt
 
   -- the statements between two braces
   pub data Block : Type 0 where
@@ -121,6 +123,7 @@ abbrev mutual
   event_tokens (Always list) rest = Fixed symbols.Always ∷ list_tokens list rest
   event_tokens Never rest = Fixed symbols.Never ∷ rest
   event_tokens (Cancelled nack) rest = Fixed symbols.Cancelled ∷ Name nack ∷ rest
+  event_tokens (Joined process) rest = Fixed symbols.Joined ∷ Name process ∷ rest
   event_tokens (Choose members) rest = Fixed symbols.Choose ∷ Fixed symbols.OpenBracket ∷ events_tokens members (Fixed symbols.CloseBracket ∷ rest)
   event_tokens (Wrap event names list) rest = Fixed symbols.Wrap ∷ event_tokens event (as_tokens names (Fixed symbols.To ∷ list_tokens list rest))
   event_tokens (Guard body event) rest = Fixed symbols.Guard ∷ Fixed symbols.OpenBrace ∷ body_tokens body (event_tokens event rest)
@@ -143,6 +146,7 @@ abbrev mutual
   stmt_tokens (Loop times body) rest = Fixed symbols.Loop ∷ Number times ∷ Fixed symbols.OpenBrace ∷ body_tokens body rest
   stmt_tokens (Forever body) rest = Fixed symbols.Forever ∷ Fixed symbols.OpenBrace ∷ body_tokens body rest
   stmt_tokens End rest = Fixed symbols.End ∷ Fixed symbols.Semicolon ∷ rest
+  stmt_tokens (Spawn process) rest = Fixed symbols.Spawn ∷ Name process ∷ Fixed symbols.Semicolon ∷ rest
 
   -- statements, and the brace that ends them
   pub body_tokens : Block → List Token → List Token

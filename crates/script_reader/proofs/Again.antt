@@ -5,7 +5,7 @@ use Rattle.std.proofs.lemmas.Bool.Decides.{nat_tests}
 use Rattle.std.proofs.lemmas.List.{append-nil}
 use Rattle.script_token.specs.Tokens.{Token, Fixed, Name, Number}
 use Rattle.script_token.specs.declared.kind.Symbol.{Symbol}
-use Rattle.script_token.specs.declared.kind.Symbol.TheVariants.{CloseParen, Let, Print, Sync, If, Else, Loop, Forever, End, Send, Recv, Always, Never, Cancelled, Choose, Wrap, As, To, Guard, Nack, Semicolon, Comma, OpenBrace, CloseBrace, OpenBracket, CloseBracket, Equal, Arrow}
+use Rattle.script_token.specs.declared.kind.Symbol.TheVariants.{CloseParen, Let, Print, Sync, If, Else, Loop, Forever, End, Send, Recv, Always, Never, Cancelled, Choose, Wrap, As, To, Guard, Nack, Spawn, Joined, Semicolon, Comma, OpenBrace, CloseBrace, OpenBracket, CloseBracket, Equal, Arrow}
 use Rattle.script_tree.specs.Trees as trees
 use Rattle.script_tree.specs.Trees.{LoopBody}
 use Rattle.script_tree.specs.declared.tree.Name.{Name as Meaning}
@@ -13,16 +13,16 @@ use Rattle.script_tree.specs.Limits.{base_count, bases_of_all, nack_count, nacks
 use Rattle.script_reader.specs.Steps.{Told, Here, next_is, repeated}
 use Rattle.script_reader.specs.declared.scope.Counts.{Counts}
 use Rattle.script_grammar.specs.Written as written
-use Rattle.script_grammar.specs.Written.{Expr, relation_symbol, terms_tokens, expr_tokens, test_tokens, others_tokens, members_tokens, list_tokens, more_names_tokens, as_tokens, received_tokens, event_tokens, events_tokens, more_events_tokens, stmt_tokens, body_tokens, block_tokens}
+use Rattle.script_grammar.specs.Written.{Expr, relation_symbol, terms_tokens, expr_tokens, test_tokens, others_tokens, list_tokens, more_names_tokens, as_tokens, received_tokens, event_tokens, more_events_tokens, stmt_tokens, body_tokens, block_tokens}
 use Rattle.script_grammar.specs.Depths.{expr_depth, list_depth, test_depth, event_depth, events_depth, stmt_depth, stmts_depth, block_depth}
-use Rattle.script_grammar.specs.Meaning.{Names, name_meaning, expr_meaning, test_meaning, list_meaning, bind, bind_all, bind_names, is_small, as_turn, event_meaning, events_meaning, stmt_meaning, block_meaning}
+use Rattle.script_grammar.specs.Meaning.{place, is_among, Names, name_meaning, expr_meaning, test_meaning, list_meaning, bind, bind_all, bind_names, is_small, as_turn, event_meaning, events_meaning, stmt_meaning, block_meaning}
 use Rattle.script_reader.specs.Laws.{at}
 use Rattle.script_reader.proofs.ReadFronts.{accept_ok, expect_ok, is_next, no_step, one_step}
-use Rattle.script_grammar.proofs.Parts.{part, some_is, if_else_some}
-use Rattle.script_reader.proofs.ReadNames.{name_again, bind_again, names_again}
+use Rattle.script_grammar.proofs.Parts.{part, some_is, if_else_some, unless_some}
+use Rattle.script_reader.proofs.ReadNames.{name_again, process_again, spawn_again, bind_again, names_again}
 use Rattle.script_reader.proofs.ReadExprs.{term_longer, terms_longer}
 use Rattle.script_reader.proofs.ReadLists.{expr_reads, test_reads, list_reads}
-use Rattle.script_reader.specs.Blocks.{base_at, nack_word_at, send_at, recv_at, always_at, never_at, cancelled_at, as_names_at, chain, body, ReadsEvent, ReadsBlock, ReadsTurn, member_step, members_with, choose_with, wrap_with, guard_with, nack_with, event_with, synced_with, sync_with, let_at, print_at, end_at, branch_with, times_at, counted_with, forever_with, are_allowed, stmt_with, stmt_step, stmts_with, block_with, is_no_sync, turn_with, event_at, block_at, turn_at, stmt_at}
+use Rattle.script_reader.specs.Blocks.{base_at, nack_word_at, send_at, recv_at, always_at, never_at, cancelled_at, joined_at, as_names_at, chain, body, ReadsEvent, ReadsBlock, ReadsTurn, member_step, members_with, choose_with, wrap_with, guard_with, nack_with, event_with, synced_with, sync_with, let_at, print_at, end_at, spawn_at, branch_with, times_at, counted_with, forever_with, are_allowed, stmt_with, stmt_step, stmts_with, block_with, is_no_sync, turn_with, event_at, block_at, turn_at, stmt_at}
 use Rattle.script_reader.specs.declared.process.Loops.{Loops as Place}
 use Rattle.script_reader.specs.declared.process.Loops.TheVariants.{Allowed, Forbidden}
 use Rattle.script_reader.proofs.Blocking.{event_at_is, block_at_is, turn_at_is}
@@ -74,6 +74,7 @@ mutual
   event_longer (written.Always list) rest = (let a = list_longer list rest in omega (arith, a))
   event_longer written.Never rest = omega arith
   event_longer (written.Cancelled nack) rest = omega arith
+  event_longer (written.Joined process) rest = omega arith
   event_longer (written.Choose written.NoEvents) rest = omega arith
   event_longer (written.Choose (written.Another event others)) rest =
       let a = more_longer others (Fixed CloseBracket ∷ rest) in
@@ -115,6 +116,7 @@ mutual
   stmt_longer (written.Loop times body) rest = (let a = body_longer body rest in omega (arith, a))
   stmt_longer (written.Forever body) rest = (let a = body_longer body rest in omega (arith, a))
   stmt_longer written.End rest = omega arith
+  stmt_longer (written.Spawn process) rest = omega arith
 
   pub body_longer : (b : written.Block) (rest : List Token) → length rest < length (body_tokens b rest)
   body_longer written.Done rest = omega arith
@@ -192,6 +194,13 @@ unfolding event_with next_is cancelled_at
 cancelled_reads event block nesting ns counts nack n rest some few e =
     rw (base_again nesting Cancelled ns counts (Name nack ∷ rest) some few, name_again nesting ns (one_base counts) nack n rest some e) refl
 
+joined_reads : (event : ReadsEvent) (block : ReadsBlock) (nesting : ℕ) (ns : Names) (counts : Counts) (process : List ℕ) (p : ℕ) (rest : List Token)
+    → 0 < nesting → counts.bases < 8 → place process ns.processes ≡ Some p
+    → event_with event block nesting (at ns counts) (event_tokens (written.Joined process) rest) ≡ Ok (trees.IsJoined p, at ns (one_base counts), rest)
+unfolding event_with next_is joined_at
+joined_reads event block nesting ns counts process p rest some few e =
+    rw (base_again nesting Joined ns counts (Name process ∷ rest) some few, process_again nesting ns (one_base counts) process p rest some e) refl
+
 choose_reads : (event : ReadsEvent) (block : ReadsBlock) (nesting : ℕ) (h h' : Here) (ts : List Token) (list : List trees.Event) (rest : List Token)
     → 0 < nesting - 1 → members_with event (nesting - 1) h ts ≡ Ok (list, h', Fixed CloseBracket ∷ rest)
     → event_with event block nesting h (Fixed Choose ∷ Fixed OpenBracket ∷ ts) ≡ Ok (trees.Chooses (chain list), h', rest)
@@ -263,6 +272,7 @@ no_bracket (written.Recv channel) rest = refl
 no_bracket (written.Always list) rest = refl
 no_bracket written.Never rest = refl
 no_bracket (written.Cancelled nack) rest = refl
+no_bracket (written.Joined process) rest = refl
 no_bracket (written.Choose members) rest = refl
 no_bracket (written.Wrap event names list) rest = refl
 no_bracket (written.Guard body event) rest = refl
@@ -313,6 +323,13 @@ end_reads : (event : ReadsEvent) (block : ReadsBlock) (turn : ReadsTurn) (nestin
     → stmt_with event block turn nesting place h (stmt_tokens written.End rest) ≡ Ok (trees.Ends, h, rest)
 unfolding stmt_with next_is end_at
 end_reads event block turn nesting place h rest some = rw (accept_ok nesting (Fixed End) (Fixed Semicolon ∷ rest) some, expect_ok nesting Semicolon rest some) refl
+
+spawn_reads : (event : ReadsEvent) (block : ReadsBlock) (turn : ReadsTurn) (nesting : ℕ) (place' : Place) (ns : Names) (counts : Counts) (process : List ℕ) (p : ℕ) (rest : List Token)
+    → 0 < nesting → place process ns.processes ≡ Some p → is_among ns.spawned p ≡ false
+    → stmt_with event block turn nesting place' (at ns counts) (stmt_tokens (written.Spawn process) rest) ≡ Ok (trees.Spawns p, at (record ns { spawned = ns.spawned ++ p ∷ [] }) counts, rest)
+unfolding stmt_with next_is spawn_at
+spawn_reads event block turn nesting place' ns counts process p rest some e new =
+    rw (accept_ok nesting (Fixed Spawn) (Name process ∷ Fixed Semicolon ∷ rest) some, spawn_again nesting ns counts process p (Fixed Semicolon ∷ rest) some e new, expect_ok nesting Semicolon rest some) refl
 
 sync_reads : (names : List (List ℕ)) (event : ReadsEvent) (nesting : ℕ) (ns ns' : Names) (counts after : Counts) (b : Option (List ℕ) × Names) (ts : List Token) (e : trees.Event) (rest : List Token)
     → 0 < nesting → bind_names ns names ≡ Some b → event (at b.1 no_counts) ts ≡ Ok (e, at ns' after, Fixed Semicolon ∷ rest)
@@ -372,6 +389,7 @@ no_brace (written.If test first second) rest = refl
 no_brace (written.Loop times body) rest = refl
 no_brace (written.Forever body) rest = refl
 no_brace written.End rest = refl
+no_brace (written.Spawn process) rest = refl
 
 stmt_steps : (nesting : ℕ) (place : Place) (s : List trees.Stmt) (h h' : Here) (w : written.Stmt) (behind : List Token) (x : trees.Stmt) → stmt_at nesting place h (stmt_tokens w behind) ≡ Ok (x, h', behind)
     → stmt_step (stmt_at nesting) place (s, h, stmt_tokens w behind) ≡ Some (Ok (s ++ x ∷ [], h', behind))
@@ -402,6 +420,7 @@ is_sync (written.If test first second) = false
 is_sync (written.Loop times body) = false
 is_sync (written.Forever body) = false
 is_sync written.End = false
+is_sync (written.Spawn process) = false
 
 -- a turn's first statement and the others
 record TurnParts (ns : Names) (w : written.Stmt) (others : written.Block) (b : trees.Block × Names) (t : LoopBody) : Type 0 where
@@ -453,6 +472,10 @@ no_turn (written.Forever body) ns x o t other e f =
     let same : None ≡ Some t = ap (λ (y : trees.Stmt × Names). as_turn (trees.Runs y.0 o)) (some_is _ _ v.then) ∙ f in absurd cc
 no_turn written.End ns x o t other e f =
     let same : None ≡ Some t = ap (λ (y : trees.Stmt × Names). as_turn (trees.Runs y.0 o)) (some_is _ _ e) ∙ f in absurd cc
+no_turn (written.Spawn process) ns x o t other e f =
+    let p = part (place process ns.processes) _ x e in
+    unless_some (is_among ns.spawned p.first) _ x p.then
+    (λ _ g. (let same : None ≡ Some t = ap (λ (y : trees.Stmt × Names). as_turn (trees.Runs y.0 o)) (some_is _ _ g) ∙ f in absurd cc))
 
 no_turn_at : (w : written.Stmt) (others : written.Block) (ns : Names) (b : trees.Block × Names) (t : LoopBody) → is_sync w ≡ false → block_meaning true ns (written.Then w others) ≡ Some b → as_turn b.0 ≡ Some t → ⊥
 no_turn_at w others ns b t other e f = (let p = turn_parts ns w others b t e f in no_turn w ns p.first p.others'.0 t other p.first_is p.turn)
@@ -538,6 +561,14 @@ mutual
       at_event nesting ns counts _ rest x _ (some_is _ _ n.then) (λ fits. record {
         after = one_base counts;
         reads = event_at_is nesting (at ns counts) (event_tokens (written.Cancelled nack) rest) ∙ cancelled_reads _ _ nesting ns counts nack n.first rest deep (omega (arith, fits.bases_left)) n.is;
+        bases = refl;
+        nacks = omega arith;
+      }) leaves
+  event_again (written.Joined process) nesting ns counts x rest deep e leaves =
+      let p = part (place process ns.processes) _ x e in
+      at_event nesting ns counts _ rest x _ (some_is _ _ p.then) (λ fits. record {
+        after = one_base counts;
+        reads = event_at_is nesting (at ns counts) (event_tokens (written.Joined process) rest) ∙ joined_reads _ _ nesting ns counts process p.first rest deep (omega (arith, fits.bases_left)) p.is;
         bases = refl;
         nacks = omega arith;
       }) leaves
@@ -682,6 +713,10 @@ mutual
       stmt_at_is nesting Allowed (at ns counts) (stmt_tokens (written.Forever body) rest) ∙ forever_reads _ _ _ nesting (at ns counts) (at b.first.1 counts) (block_tokens body rest) t.first rest (omega (arith, deep)) turn ∙ with_counts counts rest _ x (some_is _ _ t.then)
   stmt_again written.End nesting place ns counts x rest deep e =
       stmt_at_is nesting place (at ns counts) (stmt_tokens written.End rest) ∙ end_reads _ _ _ nesting place (at ns counts) rest deep ∙ with_counts counts rest _ x (some_is _ _ e)
+  stmt_again (written.Spawn process) nesting place' ns counts x rest deep e =
+      let p = part (place process ns.processes) _ x e in
+      unless_some (is_among ns.spawned p.first) _ x p.then
+      (λ new f. stmt_at_is nesting place' (at ns counts) (stmt_tokens (written.Spawn process) rest) ∙ spawn_reads _ _ _ nesting place' ns counts process p.first rest deep p.is new ∙ with_counts counts rest _ x (some_is _ _ f))
 
   turn_again : (w : written.Block) (nesting word : ℕ) (ns : Names) (counts : Counts) (b : trees.Block × Names) (t : LoopBody) (rest : List Token) → block_depth w < nesting → block_meaning true ns w ≡ Some b → as_turn b.0 ≡ Some t
       → turn_at nesting word (at ns counts) (block_tokens w rest) ≡ Ok (t, at b.1 counts, rest)
@@ -707,6 +742,7 @@ mutual
   turn_again (written.Then (written.Loop times body) others) nesting word ns counts b t rest deep e f = absurd (no_turn_at (written.Loop times body) others ns b t refl e f)
   turn_again (written.Then (written.Forever body) others) nesting word ns counts b t rest deep e f = absurd (no_turn_at (written.Forever body) others ns b t refl e f)
   turn_again (written.Then written.End others) nesting word ns counts b t rest deep e f = absurd (no_turn_at written.End others ns b t refl e f)
+  turn_again (written.Then (written.Spawn process) others) nesting word ns counts b t rest deep e f = absurd (no_turn_at (written.Spawn process) others ns b t refl e f)
 
   body_again : (w : written.Block) (nesting : ℕ) (place : Place) (ns : Names) (counts : Counts) (x : trees.Block × Names) (n : ℕ) (s : List trees.Stmt) (rest : List Token) → stmts_depth w < nesting → block_meaning (are_allowed place) ns w ≡ Some x
       → length (body_tokens w rest) ≤ n → BodyAgain nesting place ns x.1 counts (body_tokens w rest) n s x.0 rest

@@ -3,23 +3,23 @@ use Rattle.std.proofs.Common.{◌≡◌, ℕ, zero, suc, ◌-◌, ◌<◌, ◌�
 use Rattle.std.proofs.lemmas.List.{append-nil}
 use Rattle.script_token.specs.Tokens.{Token, Fixed, Name, Number}
 use Rattle.script_token.specs.declared.kind.Symbol.{Symbol}
-use Rattle.script_token.specs.declared.kind.Symbol.TheVariants.{Let, Print, Sync, If, Else, Loop, Forever, End, Send, Recv, Always, Never, Cancelled, Choose, Wrap, As, To, Guard, Nack, Semicolon, Comma, OpenBrace, CloseBrace, OpenBracket, CloseBracket, Equal, Arrow}
+use Rattle.script_token.specs.declared.kind.Symbol.TheVariants.{Let, Print, Sync, If, Else, Loop, Forever, End, Send, Recv, Always, Never, Cancelled, Choose, Wrap, As, To, Guard, Nack, Spawn, Joined, Semicolon, Comma, OpenBrace, CloseBrace, OpenBracket, CloseBracket, Equal, Arrow}
 use Rattle.script_tree.specs.Trees as trees
 use Rattle.script_tree.specs.Trees.{LoopBody}
 use Rattle.script_tree.specs.Limits.{IsSmall, base_count, nack_count}
-use Rattle.script_reader.specs.Steps.{Here, name_at, number_at, next_is, accept_at, expect_at, read_name_at, bind_name_at, bind_names_at, repeated, ◌>>=◌}
+use Rattle.script_reader.specs.Steps.{Here, name_at, number_at, next_is, accept_at, expect_at, read_name_at, read_process_at, spawn_process_at, bind_name_at, bind_names_at, repeated, ◌>>=◌}
 use Rattle.script_grammar.specs.Meaning.{if_some, Names, bind_names, is_small, as_turn, event_meaning, events_meaning, stmt_meaning, block_meaning}
 use Rattle.script_reader.specs.Exprs.{expr_at, test_at, list_at}
 use Rattle.script_reader.proofs.Keeping.{bound_ok, ok_is, no_ok, if_ok, some_ok}
 use Rattle.script_grammar.specs.Written as written
-use Rattle.script_grammar.specs.Written.{Expr, expr_tokens, test_tokens, list_tokens, more_names_tokens, as_tokens, received_tokens, event_tokens, events_tokens, more_events_tokens, stmt_tokens, body_tokens, block_tokens}
+use Rattle.script_grammar.specs.Written.{expr_tokens, test_tokens, more_names_tokens, as_tokens, event_tokens, events_tokens, more_events_tokens, stmt_tokens, body_tokens, block_tokens}
 use Rattle.script_grammar.specs.Depths.{event_depth, events_depth, stmt_depth, stmts_depth, block_depth}
 use Rattle.script_reader.specs.Laws.{names_at}
 use Rattle.script_reader.proofs.ReadFronts.{next_found, number_found, accept_found, expect_found}
-use Rattle.script_reader.proofs.ReadNames.{name_is_found, bind_is_found, names_found}
+use Rattle.script_reader.proofs.ReadNames.{name_is_found, process_is_found, spawn_is_found, bind_is_found, names_found}
 use Rattle.script_reader.proofs.ReadExprs.{expr_found}
 use Rattle.script_reader.proofs.ReadLists.{test_found, list_found}
-use Rattle.script_reader.specs.Blocks.{base_at, nack_word_at, send_at, recv_at, always_at, never_at, cancelled_at, as_names_at, chain, body, ReadsEvent, ReadsBlock, ReadsStmt, ReadsTurn, member_next, member_step, members_with, choose_with, wrap_with, guard_with, nack_with, event_with, fresh, synced_with, sync_with, let_at, print_at, end_at, branch_with, times_at, counted_with, forever_with, are_allowed, stmt_with, stmt_next, stmt_step, stmts_with, block_with, is_no_sync, turn_with, none_there, event_at, block_at, turn_at}
+use Rattle.script_reader.specs.Blocks.{base_at, nack_word_at, send_at, recv_at, always_at, never_at, cancelled_at, joined_at, as_names_at, chain, body, ReadsEvent, ReadsBlock, ReadsStmt, ReadsTurn, member_next, member_step, members_with, choose_with, wrap_with, guard_with, nack_with, event_with, fresh, synced_with, sync_with, let_at, print_at, end_at, spawn_at, branch_with, times_at, counted_with, forever_with, are_allowed, stmt_with, stmt_next, stmt_step, stmts_with, block_with, is_no_sync, turn_with, none_there, event_at, block_at, turn_at}
 use Rattle.script_reader.specs.declared.process.Loops.{Loops as Place}
 use Rattle.script_reader.specs.declared.process.Loops.TheVariants.{Allowed, Forbidden}
 use Rattle.script_reader.proofs.KeepingBlocks.{EventsRead, deeper, events_read}
@@ -145,6 +145,20 @@ cancelled_found nesting h ts x is e =
       tokens = w.tokens ∙ ap (λ (y : List Token). Fixed Cancelled ∷ y) n.tokens;
       depth = w.some;
       meaning = same_names h b.first.0 (written.Cancelled n.text) _ w.names (rw n.meaning refl);
+    })
+
+joined_found : (nesting : ℕ) (h : Here) (ts : List Token) (x : EventResult) → next_is Joined ts ≡ true → joined_at nesting h ts ≡ Ok x → SpellsEvent nesting h x.1 ts x.0 x.2
+unfolding joined_at event_meaning
+joined_found nesting h ts x is e =
+    let b = bound_ok (base_at nesting h ts) _ x e in
+    let w = base_found nesting Joined h ts b.first is b.is in
+    let p = bound_ok (read_process_at nesting b.first.0 b.first.1) _ x b.then in
+    let n = process_is_found nesting b.first.0 b.first.1 p.first p.is in
+    subst (λ (y : EventResult). SpellsEvent nesting h y.1 ts y.0 y.2) (ok_is _ _ p.then) (record {
+      event = written.Joined n.text;
+      tokens = w.tokens ∙ ap (λ (y : List Token). Fixed Joined ∷ y) n.tokens;
+      depth = w.some;
+      meaning = same_names h b.first.0 (written.Joined n.text) _ w.names (rw n.place refl);
     })
 
 -- MEMBERS
@@ -317,11 +331,12 @@ event_found event block nesting found blocks h ts x e =
     (λ _ e. if_ok (next_is Always ts) _ _ x e (λ is f. always_found nesting h ts x is f)
     (λ _ e. if_ok (next_is Never ts) _ _ x e (λ is f. never_found nesting h ts x is f)
     (λ _ e. if_ok (next_is Cancelled ts) _ _ x e (λ is f. cancelled_found nesting h ts x is f)
+    (λ _ e. if_ok (next_is Joined ts) _ _ x e (λ is f. joined_found nesting h ts x is f)
     (λ _ e. if_ok (next_is Choose ts) _ _ x e (λ is f. choose_found event nesting h ts x found is f)
     (λ _ e. if_ok (next_is Wrap ts) _ _ x e (λ is f. wrap_found event nesting h ts x found is f)
     (λ _ e. if_ok (next_is Guard ts) _ _ x e (λ is f. guard_found event block nesting h ts x found blocks is f)
     (λ _ e. if_ok (next_is Nack ts) _ _ x e (λ is f. nack_found event block nesting h ts x found blocks is f)
-    (λ _ f. no_ok _ _ f)))))))))
+    (λ _ f. no_ok _ _ f))))))))))
 
 -- STATEMENTS
 
@@ -428,6 +443,22 @@ end_found nesting loops h ts x is e =
       tokens = word.is ∙ ap (λ (y : List Token). Fixed End ∷ y) close.is;
       depth = word.some;
       meaning = refl;
+    })
+
+spawn_found : (nesting : ℕ) (loops : Bool) (h : Here) (ts : List Token) (x : StmtResult) → next_is Spawn ts ≡ true → spawn_at nesting h ts ≡ Ok x → SpellsStmt nesting loops h x.1 ts x.0 x.2
+unfolding spawn_at stmt_meaning
+spawn_found nesting loops h ts x is e =
+    let a = bound_ok (accept_at nesting ts) _ x e in
+    let word = accept_found nesting (Fixed Spawn) ts a.first (next_found Spawn ts is) a.is in
+    let p = bound_ok (spawn_process_at nesting h a.first) _ x a.then in
+    let n = spawn_is_found nesting h a.first p.first p.is in
+    let c = bound_ok (expect_at nesting Semicolon p.first.2) _ x p.then in
+    let close = expect_found nesting Semicolon p.first.2 c.first c.is in
+    subst (λ (y : StmtResult). SpellsStmt nesting loops h y.1 ts y.0 y.2) (ok_is _ _ c.then) (record {
+      stmt = written.Spawn n.text;
+      tokens = word.is ∙ ap (λ (y : List Token). Fixed Spawn ∷ y) (n.tokens ∙ ap (λ (y : List Token). Name n.text ∷ y) close.is);
+      depth = word.some;
+      meaning = rw (n.place, n.new) (ap (λ (y : Names). Some (trees.Spawns p.first.0, y)) (sym n.names));
     })
 
 abbrev SyncResult : Type 0
@@ -544,12 +575,13 @@ stmt_found event block turn nesting reads found blocks turns place h ts x e =
     (λ is f.
     let s = bound_ok (end_at nesting ts) _ x f in
     subst (λ (y : StmtResult). SpellsStmt nesting (are_allowed place) h y.1 ts y.0 y.2) (ok_is _ _ s.then) (end_found nesting (are_allowed place) h ts s.first is s.is))
+    (λ _ e. if_ok (next_is Spawn ts) _ _ x e (λ is f. spawn_found nesting (are_allowed place) h ts x is f)
     (λ _ e. if_ok (are_allowed place) _ _ x e
     (λ loops f.
     subst (λ (v : Bool). SpellsStmt nesting v h x.1 ts x.0 x.2) (sym loops)
     (if_ok (next_is Loop ts) _ _ x f (λ is g. counted_found turn nesting h ts x turns is g)
     (λ _ g. if_ok (next_is Forever ts) _ _ x g (λ is k. forever_found turn nesting h ts x turns is k) (λ _ k. no_ok _ _ k))))
-    (λ _ f. no_ok _ _ f))))))
+    (λ _ f. no_ok _ _ f)))))))
 
 -- BLOCKS
 

@@ -1,7 +1,5 @@
 -- What is read keeps the limits: names and expressions.
-use Rattle.std.proofs.Common.{◌≡◌, ℕ, zero, suc, ◌+◌, ◌<◌, ◌≤◌, Bool, true, false, cond, ltb, List, [], ◌∷◌, ◌++◌, length, Option, Some, None, Result, Ok, Err, refl, ap, ◌∙◌, subst, arith, length-append}
-use Rattle.std.specs.Option.{option_map}
-use Rattle.std.specs.Str.{bytes_eq}
+use Rattle.std.proofs.Common.{◌≡◌, ℕ, zero, suc, ◌<◌, ◌≤◌, Bool, true, false, cond, ltb, List, [], ◌∷◌, ◌++◌, length, Option, Some, None, Result, Ok, Err, refl, ap, ◌∙◌, subst, arith, length-append}
 use Rattle.script_token.specs.Tokens.{Token}
 use Rattle.script_token.specs.declared.kind.Symbol.{Symbol}
 use Rattle.script_tree.specs.declared.tree.Name.{Name}
@@ -9,8 +7,9 @@ use Rattle.script_tree.specs.declared.tree.Name.TheVariants.{Variable, Channel}
 use Rattle.script_tree.specs.Limits.{Known, NameIsIn}
 use Rattle.std.specs.List.{AllByRecursion}
 use Rattle.script_token.specs.declared.kind.Symbol.TheVariants.{Comma}
-use Rattle.script_grammar.specs.Meaning.{place, if_some, channel_of}
-use Rattle.script_reader.specs.Steps.{Told, Here, ◌>>=◌, repeated, name_at, next_is, accept_at, expect_at, meaning, read_name_at, bound, is_taken, bind_name_at, bind_names_at}
+use Rattle.script_grammar.specs.Meaning.{place, if_some, channel_of, is_among}
+use Rattle.script_grammar.proofs.Places.{place_in}
+use Rattle.script_reader.specs.Steps.{Told, Here, ◌>>=◌, repeated, name_at, next_is, accept_at, expect_at, meaning, read_name_at, read_process_at, spawn_process_at, bound, is_taken, bind_name_at, bind_names_at}
 
 -- WHAT AN OK SAYS OF ITS STEPS
 
@@ -65,19 +64,8 @@ expect_room nesting symbol ts rest e = if_ok (next_is symbol ts) _ _ rest e (λ 
 -- what can be named at the end of a process, from some token on
 pub record Later (h : Here) (k : Known) : Type 0 where
   pub channels : k.channels ≡ length h.channels
+  pub processes : k.processes ≡ length h.processes
   pub variables : length h.variables ≤ k.variables
-
-place_in : (name : List ℕ) (names : List (List ℕ)) (n : ℕ) → place name names ≡ Some n → n < length names
-place_in name [] n e = absurd cc
-place_in name (x ∷ names) n e = at_test (λ m is. place_in name names m is) (bytes_eq name x) e
-  where
-    at_rest : ((m : ℕ) → place name names ≡ Some m → m < length names) → (o : Option ℕ) → place name names ≡ o → option_map (λ n. n + 1) o ≡ Some n → n < length (x ∷ names)
-    at_rest next None is f = absurd cc
-    at_rest next (Some m) is f = (let same : m + 1 ≡ n = cc in omega (arith, next m is))
-
-    at_test : ((m : ℕ) → place name names ≡ Some m → m < length names) → (b : Bool) → cond b (Some 0) (option_map (λ n. n + 1) (place name names)) ≡ Some n → n < length (x ∷ names)
-    at_test next true f = (let same : 0 ≡ n = cc in omega arith)
-    at_test next false f = at_rest next (place name names) refl f
 
 channel_in : (c : ℕ) (name : Name) (k : Known) → c < k.channels → channel_of c ≡ Some name → NameIsIn k name
 channel_in c name k h e = at_test (ltb c 256) e
@@ -116,6 +104,49 @@ name_read nesting h ts x e =
     (λ g. absurd cc))
     (λ f. absurd cc)
 
+-- a process that is named
+pub record ProcessRead (nesting : ℕ) (h : Here) (p : ℕ) : Type 0 where
+  pub some : 0 < nesting
+  pub is_in : (k : Known) → Later h k → p < k.processes
+
+pub process_named : (nesting : ℕ) (h : Here) (ts : List Token) (x : ℕ × List Token) → read_process_at nesting h ts ≡ Ok x → ProcessRead nesting h x.0
+unfolding read_process_at
+process_named nesting h ts x e =
+    some_ok (name_at ts) _ _ x e
+    (λ text _ f. some_ok (place text h.processes) _ _ x f
+    (λ p is g.
+    let b = bound_ok (accept_at nesting ts) _ x g in
+    subst (λ (y : ℕ × List Token). ProcessRead nesting h y.0) (ok_is _ _ b.then)
+    (record { some = accept_room nesting ts b.first b.is; is_in = λ k later. omega (arith, place_in text h.processes p is, later.processes) }))
+    (λ g. no_ok _ _ g))
+    (λ f. no_ok _ _ f)
+
+-- a process that is spawned
+pub record IsSpawned (nesting : ℕ) (h h' : Here) (p : ℕ) : Type 0 where
+  pub some : 0 < nesting
+  pub later : (k : Known) → Later h' k → Later h k
+  pub is_in : (k : Known) → Later h' k → p < k.processes
+  pub counts : h'.counts ≡ h.counts
+
+pub process_spawned : (nesting : ℕ) (h : Here) (ts : List Token) (x : ℕ × Here × List Token) → spawn_process_at nesting h ts ≡ Ok x → IsSpawned nesting h x.1 x.0
+unfolding spawn_process_at
+process_spawned nesting h ts x e =
+    some_ok (name_at ts) _ _ x e
+    (λ text _ f. some_ok (place text h.processes) _ _ x f
+    (λ p is g. if_ok (is_among h.spawned p) _ _ x g
+    (λ _ k. no_ok _ _ k)
+    (λ _ k.
+    let b = bound_ok (accept_at nesting ts) _ x k in
+    subst (λ (y : ℕ × Here × List Token). IsSpawned nesting h y.1 y.0) (ok_is _ _ b.then)
+    (record {
+      some = accept_room nesting ts b.first b.is;
+      later = λ k later. record { channels = later.channels; processes = later.processes; variables = later.variables };
+      is_in = λ k later. omega (arith, place_in text h.processes p is, later.processes);
+      counts = refl;
+    })))
+    (λ g. no_ok _ _ g))
+    (λ f. no_ok _ _ f)
+
 -- a variable that is bound
 pub record IsBound (nesting : ℕ) (h h' : Here) (v : ℕ) : Type 0 where
   pub some : 0 < nesting
@@ -131,7 +162,7 @@ bound_in nesting h text some = at_place (place text h.variables) refl
     at_place (Some v) is = record { some = some; later = λ k later. later; is_in = λ k later. omega (arith, place_in text h.variables v is, later.variables); counts = refl }
     at_place None is = record {
       some = some;
-      later = λ k later. record { channels = later.channels; variables = omega (arith, later.variables, length-append h.variables (text ∷ [])) };
+      later = λ k later. record { channels = later.channels; processes = later.processes; variables = omega (arith, later.variables, length-append h.variables (text ∷ [])) };
       is_in = λ k later. omega (arith, later.variables, length-append h.variables (text ∷ []));
       counts = refl;
     }

@@ -2,14 +2,14 @@
 use Rattle.std.proofs.Common.{◌≡◌, ℕ, zero, suc, ◌+◌, ◌-◌, ◌<◌, ◌≤◌, max, Bool, true, false, cond, leb, List, [], ◌∷◌, ◌++◌, ◌||◌, length, Option, Some, None, Ok, is_some, refl, ◌∙◌, subst, arith}
 use Rattle.std.proofs.lemmas.Bool.Decides.{nat_tests}
 use Rattle.script_token.specs.Tokens.{Token}
-use Rattle.script_token.specs.declared.kind.Symbol.TheVariants.{Let, Print, Sync, If, Else, Loop, Forever, End, Send, Recv, Always, Never, Cancelled, Choose, Wrap, As, To, Guard, Nack, Semicolon, Comma, OpenBrace, CloseBrace, OpenBracket, CloseBracket, Equal, Arrow}
-use Rattle.script_tree.specs.Trees.{Event, Sends, Receives, IsReady, IsNever, IsCancelled, Stmt, Syncs, Block, LoopBody}
+use Rattle.script_token.specs.declared.kind.Symbol.TheVariants.{Let, Print, Sync, If, Else, Loop, Forever, End, Send, Recv, Always, Never, Cancelled, Choose, Wrap, As, To, Guard, Nack, Spawn, Joined, Semicolon, Comma, OpenBrace, CloseBrace, OpenBracket, CloseBracket, Equal, Arrow}
+use Rattle.script_tree.specs.Trees.{Event, Sends, Receives, IsReady, IsNever, IsCancelled, IsJoined, Stmt, Syncs, Block, LoopBody}
 use Rattle.script_tree.specs.Limits.{Known, KeepsLimits, EventIsIn, MembersAreIn, StmtIsIn, BlockIsIn, NamesAreIn, IsSmall, base_count, bases_of_all, nack_count, nacks_of_all, event_depth, members_depth, stmt_depth, stmts_depth, block_depth}
-use Rattle.script_reader.specs.Steps.{Here, name_at, next_is, accept_at, expect_at, read_name_at, bind_name_at, bind_names_at}
+use Rattle.script_reader.specs.Steps.{Here, name_at, next_is, accept_at, expect_at, read_name_at, read_process_at, spawn_process_at, bind_name_at, bind_names_at}
 use Rattle.script_reader.specs.Exprs.{expr_at, test_at, list_at}
-use Rattle.script_reader.proofs.Keeping.{bound_ok, ok_is, no_ok, if_ok, repeated_keeps, accept_room, expect_room, Later, name_read, bind_name_reads, bind_names_read}
+use Rattle.script_reader.proofs.Keeping.{bound_ok, ok_is, no_ok, if_ok, repeated_keeps, accept_room, expect_room, Later, name_read, process_named, process_spawned, bind_name_reads, bind_names_read}
 use Rattle.script_reader.proofs.KeepingExprs.{expr_read, test_read, list_read}
-use Rattle.script_reader.specs.Blocks.{base_at, nack_word_at, send_at, recv_at, always_at, never_at, cancelled_at, as_names_at, chain, body, ReadsEvent, ReadsBlock, ReadsStmt, ReadsTurn, member_next, member_step, members_with, choose_with, wrap_with, guard_with, nack_with, event_with, fresh, synced_with, sync_with, let_at, print_at, end_at, branch_with, times_at, counted_with, forever_with, are_allowed, stmt_with, stmt_next, stmt_step, stmts_with, block_with, is_no_sync, turn_with, none_there, event_at, block_at, turn_at}
+use Rattle.script_reader.specs.Blocks.{base_at, nack_word_at, send_at, recv_at, always_at, never_at, cancelled_at, joined_at, as_names_at, chain, body, ReadsEvent, ReadsBlock, ReadsStmt, ReadsTurn, member_next, member_step, members_with, choose_with, wrap_with, guard_with, nack_with, event_with, fresh, synced_with, sync_with, let_at, print_at, end_at, spawn_at, branch_with, times_at, counted_with, forever_with, are_allowed, stmt_with, stmt_next, stmt_step, stmts_with, block_with, is_no_sync, turn_with, none_there, event_at, block_at, turn_at}
 use Rattle.script_reader.specs.declared.process.Loops.{Loops as Place}
 use Rattle.script_reader.specs.declared.process.Loops.TheVariants.{Allowed, Forbidden}
 
@@ -56,7 +56,7 @@ base_read nesting h ts x e =
     let b = bound_ok (accept_at nesting ts) _ x f in
     subst (λ (y : Here × List Token). BaseRead nesting h y.0) (ok_is _ _ b.then) (record {
       some = accept_room nesting ts b.first b.is;
-      later = λ k later. record { channels = later.channels; variables = later.variables };
+      later = λ k later. record { channels = later.channels; processes = later.processes; variables = later.variables };
       bases = refl;
       nacks = refl;
       few = above 8 h.counts.bases few;
@@ -123,6 +123,16 @@ cancelled_read nesting h ts x e =
     let c-read = name_read nesting b.first.0 b.first.1 c.first c.is in
     subst (λ (y : Event × Here × List Token). EventRead nesting h y.1 y.0) (ok_is _ _ c.then)
     (event_of_base nesting h b.first.0 (IsCancelled c.first.0) b-read c-read.is_in refl refl b-read.some)
+
+joined_read : (nesting : ℕ) → EventsRead nesting (joined_at nesting)
+unfolding joined_at
+joined_read nesting h ts x e =
+    let b = bound_ok (base_at nesting h ts) _ x e in
+    let b-read = base_read nesting h ts b.first b.is in
+    let p = bound_ok (read_process_at nesting b.first.0 b.first.1) _ x b.then in
+    let p-read = process_named nesting b.first.0 b.first.1 p.first p.is in
+    subst (λ (y : Event × Here × List Token). EventRead nesting h y.1 y.0) (ok_is _ _ p.then)
+    (event_of_base nesting h b.first.0 (IsJoined p.first.0) b-read p-read.is_in refl refl b-read.some)
 
 -- the members of a choice, behind the event of which some are read
 record MembersRead (nesting : ℕ) (h h' : Here) (es : List Event) : Type 0 where
@@ -284,7 +294,7 @@ nack_word_read nesting h ts x e =
     let b = bound_ok (accept_at nesting ts) _ x f in
     subst (λ (y : Here × List Token). NackRead nesting h y.0) (ok_is _ _ b.then) (record {
       some = accept_room nesting ts b.first b.is;
-      later = λ k later. record { channels = later.channels; variables = later.variables };
+      later = λ k later. record { channels = later.channels; processes = later.processes; variables = later.variables };
       bases = refl;
       nacks = refl;
       few = above 4 h.counts.nacks few;
@@ -321,11 +331,12 @@ event_read event block nesting reads blocks h ts x e =
     (λ _ e. if_ok (next_is Always ts) _ _ x e (λ _ f. always_read nesting h ts x f)
     (λ _ e. if_ok (next_is Never ts) _ _ x e (λ _ f. never_read nesting h ts x f)
     (λ _ e. if_ok (next_is Cancelled ts) _ _ x e (λ _ f. cancelled_read nesting h ts x f)
+    (λ _ e. if_ok (next_is Joined ts) _ _ x e (λ _ f. joined_read nesting h ts x f)
     (λ _ e. if_ok (next_is Choose ts) _ _ x e (λ _ f. choose_read event nesting reads h ts x f)
     (λ _ e. if_ok (next_is Wrap ts) _ _ x e (λ _ f. wrap_read event nesting reads h ts x f)
     (λ _ e. if_ok (next_is Guard ts) _ _ x e (λ _ f. guard_read event block nesting reads blocks h ts x f)
     (λ _ e. if_ok (next_is Nack ts) _ _ x e (λ _ f. nack_read event block nesting reads blocks h ts x f)
-    (λ _ f. no_ok _ _ f)))))))))
+    (λ _ f. no_ok _ _ f))))))))))
 
 -- STATEMENTS
 
@@ -352,9 +363,9 @@ synced_read event nesting h ts x reads e =
     let v = bound_ok (event (fresh h) a.first) _ x a.then in
     let v-read = reads (fresh h) a.first v.first v.is in
     let c = bound_ok (expect_at nesting Semicolon v.first.2) _ x v.then in
-    let inner = λ (k : Known) (later : Later (record v.first.1 { counts = h.counts }) k). (let l : Later v.first.1 k = record { channels = later.channels; variables = later.variables } in l) in
+    let inner = λ (k : Known) (later : Later (record v.first.1 { counts = h.counts }) k). (let l : Later v.first.1 k = record { channels = later.channels; processes = later.processes; variables = later.variables } in l) in
     subst (λ (y : Event × Here × List Token). SyncRead nesting h y.1 y.0) (ok_is _ _ c.then) (record {
-      later = λ k later. (let l = v-read.later k (inner k later) in record { channels = l.channels; variables = l.variables });
+      later = λ k later. (let l = v-read.later k (inner k later) in record { channels = l.channels; processes = l.processes; variables = l.variables });
       is_in = λ k later. v-read.is_in k (inner k later);
       small = (omega (arith, v-read.bases, v-read.few_bases (omega arith)), omega (arith, v-read.nacks, v-read.few_nacks (omega arith)));
       counts = refl;
@@ -402,6 +413,20 @@ end_read nesting h ts x e =
       is_in = λ k later. tt;
       counts = refl;
       depth = accept_room nesting ts a.first a.is;
+    })
+
+spawn_read : (nesting : ℕ) (h : Here) (ts : List Token) (x : Stmt × Here × List Token) → spawn_at nesting h ts ≡ Ok x → StmtRead nesting h x.1 x.0
+unfolding spawn_at
+spawn_read nesting h ts x e =
+    let a = bound_ok (accept_at nesting ts) _ x e in
+    let p = bound_ok (spawn_process_at nesting h a.first) _ x a.then in
+    let p-read = process_spawned nesting h a.first p.first p.is in
+    let c = bound_ok (expect_at nesting Semicolon p.first.2) _ x p.then in
+    subst (λ (y : Stmt × Here × List Token). StmtRead nesting h y.1 y.0) (ok_is _ _ c.then) (record {
+      later = p-read.later;
+      is_in = p-read.is_in;
+      counts = p-read.counts;
+      depth = p-read.some;
     })
 
 sync_read : (event : ReadsEvent) (nesting : ℕ) (h : Here) (ts : List Token) (x : (Option (List ℕ) × Event) × Here × List Token) → EventsRead nesting event → sync_with event nesting h ts ≡ Ok x → StmtRead nesting h x.1 (Syncs x.0.0 x.0.1)
@@ -487,10 +512,11 @@ stmt_read event block turn nesting reads blocks turns place h ts x e =
     (λ _ f.
     let s = bound_ok (end_at nesting ts) _ x f in
     subst (λ (y : Stmt × Here × List Token). StmtRead nesting h y.1 y.0) (ok_is _ _ s.then) (end_read nesting h ts s.first s.is))
+    (λ _ e. if_ok (next_is Spawn ts) _ _ x e (λ _ f. spawn_read nesting h ts x f)
     (λ _ e. if_ok (are_allowed place) _ _ x e
     (λ _ f. if_ok (next_is Loop ts) _ _ x f (λ _ g. counted_read turn nesting h ts x turns g)
     (λ _ g. if_ok (next_is Forever ts) _ _ x g (λ _ k. forever_read turn nesting h ts x turns k) (λ _ k. no_ok _ _ k)))
-    (λ _ f. no_ok _ _ f))))))
+    (λ _ f. no_ok _ _ f)))))))
 
 -- BLOCKS
 
@@ -599,9 +625,9 @@ mutual
   turns_read zero word h ts x e = turn_read _ _ zero (no_event zero) (no_stmt zero) word h ts x e
   turns_read (suc r) word h ts x e = turn_read (event_at r) _ (suc r) (deeper (λ n. EventsRead n (event_at r)) r (events_read r)) (deeper (λ n. StmtsRead n (stmt_with (event_at r) (block_at r) (turn_at r) r)) r (stmt_read (event_at r) (block_at r) (turn_at r) r (events_read r) (blocks_read r) (turns_read r))) word h ts x e
 
--- the block of a process, behind so many others
-pub process_read : (earlier : ℕ) (h : Here) (ts : List Token) (x : Block × Here × List Token) → block_at 49 Allowed h ts ≡ Ok x
-    → KeepsLimits (record { channels = length x.1.channels; variables = length x.1.variables; processes = earlier }) x.0
-process_read earlier h ts x e =
+-- the block of a process
+pub process_read : (h : Here) (ts : List Token) (x : Block × Here × List Token) → block_at 49 Allowed h ts ≡ Ok x
+    → KeepsLimits (record { channels = length x.1.channels; variables = length x.1.variables; processes = length x.1.processes }) x.0
+process_read h ts x e =
     let b = blocks_read 49 Allowed h ts x e in
-    record { names = b.is_in _ (record { channels = refl; variables = omega arith }); depth = omega (arith, b.depth) }
+    record { names = b.is_in _ (record { channels = refl; processes = refl; variables = omega arith }); depth = omega (arith, b.depth) }

@@ -12,3 +12,4 @@ pub mod Blocking
 pub mod KeepingBlocks
 pub mod Found
 pub mod Again
+pub mod Among

@@ -1,11 +1,11 @@
 -- Names: what is written is read, and what is read was written.
-use Rattle.std.proofs.Common.{◌≡◌, ℕ, ◌<◌, ◌≤◌, Bool, true, false, cond, ◌||◌, ltb, leb, List, [], ◌∷◌, ◌++◌, length, Option, Some, None, Ok, refl, sym, ap, ◌∙◌, subst, arith}
+use Rattle.std.proofs.Common.{◌≡◌, ℕ, ◌<◌, ◌≤◌, Bool, true, false, ◌||◌, ltb, leb, List, [], ◌∷◌, ◌++◌, length, Option, Some, None, Ok, refl, sym, ap, ◌∙◌, subst, arith}
 use Rattle.std.proofs.lemmas.Bool.Decides.{nat_tests}
 use Rattle.script_token.specs.Tokens.{Token, Name}
 use Rattle.script_token.specs.Tokens as tokens
 use Rattle.script_token.specs.declared.kind.Symbol.TheVariants.{Comma}
-use Rattle.script_grammar.specs.Meaning.{place, if_some, channel_of, Names, ◌>>=◌, name_meaning, bound, bind, bind_all}
-use Rattle.script_reader.specs.Steps.{Told, Here, name_at, next_is, accept_at, meaning, read_name_at, is_taken, bind_name_at, bind_names_at}
+use Rattle.script_grammar.specs.Meaning.{place, if_some, is_among, Names, name_meaning, bound, bind, bind_all}
+use Rattle.script_reader.specs.Steps.{Here, name_at, next_is, accept_at, meaning, read_name_at, read_process_at, spawn_process_at, is_taken, bind_name_at, bind_names_at}
 use Rattle.script_reader.specs.Steps as steps
 use Rattle.script_reader.specs.declared.scope.Counts.{Counts}
 use Rattle.script_reader.proofs.Keeping.{bound_ok, ok_is, no_ok, if_ok, some_ok}
@@ -42,6 +42,60 @@ name_is_found nesting h ts x e =
     let taken = accept_found nesting (Name text) ts b.first (name_found ts text named) b.is in
     subst (λ (y : Meaning × List Token). SpellsName nesting (names_at h) ts y.0 y.1) (ok_is _ _ b.then)
     (record { text = text; tokens = taken.is; some = taken.some; meaning = sym (means h text) ∙ is }))
+    (λ g. no_ok _ _ g))
+    (λ f. no_ok _ _ f)
+
+-- A PROCESS THAT IS NAMED
+
+pub process_again : (nesting : ℕ) (ns : Names) (counts : Counts) (text : List ℕ) (p : ℕ) (rest : List Token) → 0 < nesting → place text ns.processes ≡ Some p
+    → read_process_at nesting (at ns counts) (Name text ∷ rest) ≡ Ok (p, rest)
+unfolding read_process_at
+process_again nesting ns counts text p rest some e = rw (e, accept_ok nesting (Name text) rest some) refl
+
+pub record SpellsProcess (nesting : ℕ) (ns : Names) (ts : List Token) (p : ℕ) (rest : List Token) : Type 0 where
+  pub text : List ℕ
+  pub tokens : ts ≡ Name text ∷ rest
+  pub some : 0 < nesting
+  pub place : place text ns.processes ≡ Some p
+
+pub process_is_found : (nesting : ℕ) (h : Here) (ts : List Token) (x : ℕ × List Token) → read_process_at nesting h ts ≡ Ok x → SpellsProcess nesting (names_at h) ts x.0 x.1
+unfolding read_process_at
+process_is_found nesting h ts x e =
+    some_ok (name_at ts) _ _ x e
+    (λ text named f. some_ok (place text h.processes) _ _ x f
+    (λ p is g.
+    let b = bound_ok (accept_at nesting ts) _ x g in
+    let taken = accept_found nesting (Name text) ts b.first (name_found ts text named) b.is in
+    subst (λ (y : ℕ × List Token). SpellsProcess nesting (names_at h) ts y.0 y.1) (ok_is _ _ b.then)
+    (record { text = text; tokens = taken.is; some = taken.some; place = is }))
+    (λ g. no_ok _ _ g))
+    (λ f. no_ok _ _ f)
+
+pub spawn_again : (nesting : ℕ) (ns : Names) (counts : Counts) (text : List ℕ) (p : ℕ) (rest : List Token) → 0 < nesting → place text ns.processes ≡ Some p → is_among ns.spawned p ≡ false
+    → spawn_process_at nesting (at ns counts) (Name text ∷ rest) ≡ Ok (p, at (record ns { spawned = ns.spawned ++ p ∷ [] }) counts, rest)
+unfolding spawn_process_at
+spawn_again nesting ns counts text p rest some e new = rw (e, new, accept_ok nesting (Name text) rest some) refl
+
+pub record SpellsSpawned (nesting : ℕ) (h h' : Here) (ts : List Token) (p : ℕ) (rest : List Token) : Type 0 where
+  pub text : List ℕ
+  pub tokens : ts ≡ Name text ∷ rest
+  pub some : 0 < nesting
+  pub place : place text h.processes ≡ Some p
+  pub new : is_among h.spawned p ≡ false
+  pub names : names_at h' ≡ record (names_at h) { spawned = h.spawned ++ p ∷ [] }
+
+pub spawn_is_found : (nesting : ℕ) (h : Here) (ts : List Token) (x : ℕ × Here × List Token) → spawn_process_at nesting h ts ≡ Ok x → SpellsSpawned nesting h x.1 ts x.0 x.2
+unfolding spawn_process_at
+spawn_is_found nesting h ts x e =
+    some_ok (name_at ts) _ _ x e
+    (λ text named f. some_ok (place text h.processes) _ _ x f
+    (λ p is g. if_ok (is_among h.spawned p) _ _ x g
+    (λ _ k. no_ok _ _ k)
+    (λ new k.
+    let b = bound_ok (accept_at nesting ts) _ x k in
+    let taken = accept_found nesting (Name text) ts b.first (name_found ts text named) b.is in
+    subst (λ (y : ℕ × Here × List Token). SpellsSpawned nesting h y.1 ts y.0 y.2) (ok_is _ _ b.then)
+    (record { text = text; tokens = taken.is; some = taken.some; place = is; new = new; names = refl })))
     (λ g. no_ok _ _ g))
     (λ f. no_ok _ _ f)
 

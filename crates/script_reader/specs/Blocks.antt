@@ -1,14 +1,14 @@
 -- Reading from left to right: events, statements and blocks.
 use Rattle.std.specs.Prelude.{ℕ, zero, suc, ◌+◌, ◌-◌, List, [], ◌∷◌, ◌++◌, length, Bool, true, false, ◌||◌, Option, Some, None, Result, Ok, Err, is_some, nat_le, if◌then◌else◌}
 use Rattle.script_token.specs.Tokens.{Token}
-use Rattle.script_reader.specs.Steps.{Told, ◌>>=◌, stop_at, repeated, name_at, number_at, next_is, accept_at, expect_at, read_name_at, bind_name_at, bind_names_at, Here}
+use Rattle.script_reader.specs.Steps.{Told, ◌>>=◌, stop_at, repeated, name_at, number_at, next_is, accept_at, expect_at, read_name_at, read_process_at, spawn_process_at, bind_name_at, bind_names_at, Here}
 use Rattle.script_grammar.specs.Meaning.{if_some}
 use Rattle.script_reader.specs.Exprs.{expr_at, list_at, test_at}
-use Rattle.script_tree.specs.Trees.{Event, Sends, Receives, IsReady, IsNever, IsCancelled, Chooses, Wraps, Guards, Nacks, Events, NoMembers, Members, Stmt, Lets, Prints, Syncs, Branches, Loops, LoopsForever, Ends, Block, Stops, Runs, LoopBody}
+use Rattle.script_tree.specs.Trees.{Event, Sends, Receives, IsReady, IsNever, IsCancelled, IsJoined, Chooses, Wraps, Guards, Nacks, Events, NoMembers, Members, Stmt, Lets, Prints, Syncs, Branches, Loops, LoopsForever, Ends, Spawns, Block, Stops, Runs, LoopBody}
 use Rattle.script_reader.specs.declared.process.Loops.{Loops as Place}
 use Rattle.script_reader.specs.declared.process.Loops.TheVariants.{Allowed, Forbidden}
 use Rattle.script_reader.specs.declared.fault.Problem.TheVariants.{Syntax, TooMany, LoopWithoutSync}
-use Rattle.script_token.specs.declared.kind.Symbol.TheVariants.{Let, Print, Sync, If, Else, Loop, Forever, End, Send, Recv, Always, Never, Cancelled, Choose, Wrap, As, To, Guard, Nack, Semicolon, Comma, OpenBrace, CloseBrace, OpenBracket, CloseBracket, Equal, Arrow}
+use Rattle.script_token.specs.declared.kind.Symbol.TheVariants.{Let, Print, Sync, If, Else, Loop, Forever, End, Send, Recv, Always, Never, Cancelled, Choose, Wrap, As, To, Guard, Nack, Spawn, Joined, Semicolon, Comma, OpenBrace, CloseBrace, OpenBracket, CloseBracket, Equal, Arrow}
 
 -- what is read, the names from there on, and the tokens behind it
 abbrev pub Reads : Type 0 → Type 0
@@ -55,6 +55,12 @@ cancelled_at nesting h ts = do
   b ← base_at nesting h ts
   n ← read_name_at nesting b.0 b.1
   Ok (IsCancelled n.0, b.0, n.1)
+
+unfoldable pub joined_at : ℕ → Here → List Token → Reads Event
+joined_at nesting h ts = do
+  b ← base_at nesting h ts
+  p ← read_process_at nesting b.0 b.1
+  Ok (IsJoined p.0, b.0, p.1)
 
 -- the names behind `as`, if there are any
 unfoldable pub as_names_at : ℕ → Here → List Token → Reads (Option (List ℕ))
@@ -138,11 +144,12 @@ event_with event block nesting h ts =
     else (if next_is Always ts then always_at nesting h ts
     else (if next_is Never ts then never_at nesting h ts
     else (if next_is Cancelled ts then cancelled_at nesting h ts
+    else (if next_is Joined ts then joined_at nesting h ts
     else (if next_is Choose ts then choose_with event nesting h ts
     else (if next_is Wrap ts then wrap_with event nesting h ts
     else (if next_is Guard ts then guard_with event block nesting h ts
     else (if next_is Nack ts then nack_with event block nesting h ts
-    else stop_at Syntax ts))))))))
+    else stop_at Syntax ts)))))))))
 
 -- STATEMENTS, WHERE `event` READS AN EVENT
 
@@ -190,6 +197,13 @@ end_at nesting ts = do
   rest ← expect_at nesting Semicolon rest
   Ok (Ends, rest)
 
+unfoldable pub spawn_at : ℕ → Here → List Token → Reads Stmt
+spawn_at nesting h ts = do
+  rest ← accept_at nesting ts
+  p ← spawn_process_at nesting h rest
+  rest ← expect_at nesting Semicolon p.2
+  Ok (Spawns p.0, p.1, rest)
+
 unfoldable pub branch_with : ReadsBlock → ℕ → Place → Here → List Token → Reads Stmt
 branch_with block nesting place h ts = do
   rest ← accept_at nesting ts
@@ -229,10 +243,11 @@ stmt_with event block turn nesting place h ts =
     else (if next_is Print ts then (print_at nesting h ts >>= λ s. Ok (s.0, h, s.1))
     else (if next_is If ts then branch_with block nesting place h ts
     else (if next_is End ts then (end_at nesting ts >>= λ s. Ok (s.0, h, s.1))
+    else (if next_is Spawn ts then spawn_at nesting h ts
     else (if are_allowed place
     then (if next_is Loop ts then counted_with turn nesting h ts
     else (if next_is Forever ts then forever_with turn nesting h ts else stop_at Syntax ts))
-    else stop_at Syntax ts)))))
+    else stop_at Syntax ts))))))
 
 -- BLOCKS, WHERE `stmt` READS A STATEMENT
 
@@ -258,7 +273,7 @@ block_with stmt nesting place h ts = do
 
 -- a block ends here, or a statement begins that is no sync
 unfoldable pub is_no_sync : List Token → Bool
-is_no_sync ts = next_is CloseBrace ts || (next_is Let ts || (next_is Print ts || (next_is If ts || (next_is Loop ts || (next_is Forever ts || next_is End ts)))))
+is_no_sync ts = next_is CloseBrace ts || (next_is Let ts || (next_is Print ts || (next_is If ts || (next_is Loop ts || (next_is Forever ts || (next_is End ts || next_is Spawn ts))))))
 
 abbrev pub no_sync : {A : Type 0} → ℕ → Result A Told
 no_sync word = Err (LoopWithoutSync, word)

@@ -10,7 +10,6 @@ use Rattle.script_reader.specs.declared.fault.Problem.{Problem}
 use Rattle.script_reader.specs.declared.fault.Problem.TheVariants.{Syntax, UnknownName, TooMany}
 use Rattle.script_reader.specs.declared.expr.Sum.{Sum as SeenSum}
 use Rattle.script_tree.specs.declared.tree.Term.{Term as SeenTerm}
-use Rattle.script_tree.specs.declared.tree.Operand.{Operand}
 use Rattle.script_tree.specs.declared.tree.Operand.TheVariants.{Number, Named}
 use Rattle.script_tree.specs.declared.tree.Sign.{Sign}
 use Rattle.script_tree.specs.declared.tree.Sign.TheVariants as signs

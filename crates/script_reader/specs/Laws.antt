@@ -11,11 +11,11 @@ use Rattle.script_grammar.specs.Meaning.{Names, expr_meaning}
 
 -- the names at a token
 abbrev pub names_at : Here → Names
-names_at h = record { channels = h.channels; variables = h.variables }
+names_at h = record { channels = h.channels; processes = h.processes; variables = h.variables; spawned = h.spawned }
 
 -- a token with such names and counts
 abbrev pub at : Names → Counts → Here
-at ns counts = record { channels = ns.channels; variables = ns.variables; counts = counts }
+at ns counts = record { channels = ns.channels; processes = ns.processes; variables = ns.variables; spawned = ns.spawned; counts = counts }
 
 -- an expression that means e with so much nesting, and the tokens behind it
 pub record SpellsExpr (nesting : ℕ) (ns : Names) (ts : List Token) (e : trees.Expr) (rest : List Token) : Type 0 where

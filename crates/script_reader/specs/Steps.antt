@@ -1,7 +1,7 @@
 -- Reading from left to right: single tokens, names and lists of names.
 use Rattle.std.specs.Prelude.{◌≡◌, ℕ, zero, suc, List, [], ◌∷◌, ◌++◌, map, length, Bool, false, ◌||◌, Option, Some, None, Result, Ok, Err, is_some, nat_lt, ◌==◌, if◌then◌else◌}
 use Rattle.script_token.specs.Tokens.{Token, Fixed, Name, Number, Bad, view, same_symbol}
-use Rattle.script_grammar.specs.Meaning.{if_some, place, channel_of, is_listed}
+use Rattle.script_grammar.specs.Meaning.{if_some, place, channel_of, is_among, is_listed}
 use Rattle.script_reader.specs.Places.{texts}
 use Rattle.script_token.specs.declared.kind.Symbol.{Symbol}
 use Rattle.script_token.specs.declared.kind.Symbol.TheVariants.{Comma}
@@ -99,18 +99,26 @@ expect_at nesting symbol ts = if next_is symbol ts then accept_at nesting ts els
 
 -- NAMES
 
--- the names at a token, and what the sync there has so far
+-- the names at a token, which processes are spawned so far, and what the sync there has
 pub record Here : Type 0 where
   pub channels : List (List ℕ)
+  pub processes : List (List ℕ)
   pub variables : List (List ℕ)
+  pub spawned : List ℕ
   pub counts : Counts
 
 abbrev pub here : Scope → Here
-here s = record { channels = texts s.channels.names.items; variables = texts s.variables.names.items; counts = s.counts }
+here s = record {
+  channels = texts s.channels.names.items;
+  processes = texts s.processes.names.items;
+  variables = texts s.variables.names.items;
+  spawned = s.spawned.items;
+  counts = s.counts;
+}
 
--- at the first token of a process
-abbrev pub start : List (List ℕ) → Here
-start channels = record { channels = channels; variables = []; counts = record { bases = 0; nacks = 0 } }
+-- at the first token of a process, behind others some of which are spawned
+abbrev pub start : List (List ℕ) → List (List ℕ) → List ℕ → Here
+start channels processes spawned = record { channels = channels; processes = processes; variables = []; spawned = spawned; counts = record { bases = 0; nacks = 0 } }
 
 -- what a name stands for
 unfoldable pub meaning : Here → List ℕ → Option Meaning
@@ -120,6 +128,25 @@ unfoldable pub read_name_at : ℕ → Here → List Token → Result (Meaning ×
 read_name_at nesting h ts =
     if_some (name_at ts) (λ text.
     if_some (meaning h text) (λ name. accept_at nesting ts >>= λ rest. Ok (name, rest))
+    (stop_at UnknownName ts))
+    (stop_at Syntax ts)
+
+-- a process that is named
+unfoldable pub read_process_at : ℕ → Here → List Token → Result (ℕ × List Token) Told
+read_process_at nesting h ts =
+    if_some (name_at ts) (λ text.
+    if_some (place text h.processes) (λ p. accept_at nesting ts >>= λ rest. Ok (p, rest))
+    (stop_at UnknownName ts))
+    (stop_at Syntax ts)
+
+-- a process that is named in order to be spawned, and is not spawned already
+unfoldable pub spawn_process_at : ℕ → Here → List Token → Result (ℕ × Here × List Token) Told
+spawn_process_at nesting h ts =
+    if_some (name_at ts) (λ text.
+    if_some (place text h.processes) (λ p.
+    if is_among h.spawned p
+    then stop_at Twice ts
+    else (accept_at nesting ts >>= λ rest. Ok (p, record h { spawned = h.spawned ++ p ∷ [] }, rest)))
     (stop_at UnknownName ts))
     (stop_at Syntax ts)
 

@@ -1,13 +1,14 @@
 //! Expressions, tests and lists, read from the front.
 
-ghost use Rattle.std.specs.Prelude.{◌≡◌, ◌-◌, IfOk, Ok, [], ◌++◌, map};
+ghost use Rattle.std.specs.Prelude.{◌≡◌, ◌-◌, IfOk, Ok, [], map};
 ghost use Rattle.script_reader.specs.Steps.{Gives, Tells, bare, here};
 ghost use Rattle.script_tree.specs.Trees.{terms_of, term_of, expr_of, exprs_of, test_of};
-ghost use Rattle.script_reader.specs.Exprs.{parts_of, signed_of, operand_at, operand_with, sign_at, sum_at, expr_at, relation_at, test_at, fourth_at, members_at, list_at};
+ghost use Rattle.script_reader.specs.Exprs.{parts_of, signed_of, operand_with, sign_at, sum_at, expr_at, relation_at, test_at, fourth_at, members_at, list_at};
 ghost use Rattle.script_grammar.specs.Meaning.{linked, whole, parts_term};
 
 use crate::fault::{Fault, Problem, Stop};
-use crate::scope::{Scope, read_name};
+use crate::names::read_name;
+use crate::scope::Scope;
 use crate::step::{accept, expect, is_next, name_at, number_at, stop};
 use script_token::{Placed, Symbol};
 use script_tree::{Expr, Exprs, Operand, Relation, Sign, Term, Terms, Test};

@@ -10,9 +10,11 @@ use std::alloc::{AllocError, AllocFailed};
 pub enum Problem {
     /// The grammar does not allow the token there, or the text ends too early.
     Syntax,
-    /// A name that is read is neither a declared channel nor bound before in its process.
+    /// A name that is read is neither a declared channel nor bound before in its process; or, where a
+    /// process is named, it is that of none whose block has ended before.
     UnknownName,
-    /// A name is declared or bound that stands for something else, or twice in one list.
+    /// A name is declared or bound that stands for something else, or twice in one list; or a process is
+    /// spawned a second time.
     Twice,
     /// More than the limits allow.
     TooMany,

@@ -1,15 +1,16 @@
 //! Events, statements and blocks, read from the front. What was read goes into its share at once: a tree
 //! that lay about while the next step may fail would be dropped there case by case, and proved so.
 
-ghost use Rattle.std.specs.Prelude.{◌≡◌, ◌<◌, ◌-◌, IfOk, OnOk, map, length};
+ghost use Rattle.std.specs.Prelude.{◌≡◌, ◌<◌, ◌-◌, IfOk, OnOk, map};
 ghost use Rattle.std.specs.Option.{option_map};
 ghost use Rattle.script_reader.specs.Steps.{Gives, Tells, bare, here};
 ghost use Rattle.script_tree.specs.Trees.{event_of, events_of, stmt_of, block_of, turn_of, names_of};
-ghost use Rattle.script_reader.specs.Blocks.{chain, body, base_at, nack_word_at, send_at, recv_at, always_at, never_at, cancelled_at, as_names_at, members_with, choose_with, wrap_with, guard_with, nack_with, event_at, synced_with, sync_with, let_at, print_at, end_at, branch_with, times_at, counted_with, forever_with, are_allowed, stmt_at, stmts_with, block_at, is_no_sync, turn_at};
+ghost use Rattle.script_reader.specs.Blocks.{chain, body, base_at, nack_word_at, send_at, recv_at, always_at, never_at, cancelled_at, joined_at, as_names_at, members_with, choose_with, wrap_with, guard_with, nack_with, event_at, synced_with, sync_with, let_at, print_at, end_at, spawn_at, branch_with, times_at, counted_with, forever_with, are_allowed, stmt_at, stmts_with, block_at, is_no_sync, turn_at};
 
 use crate::expr::{read_expr, read_list, read_test};
 use crate::fault::{Fault, Problem, Stop};
-use crate::scope::{Counts, Scope, bind_name, bind_names, read_name};
+use crate::names::{bind_name, bind_names, read_name, read_process, spawn_process};
+use crate::scope::{Counts, Scope};
 use crate::step::{accept, begin, expect, fault, is_next, left, name_at, number_at, stop};
 use script_token::{Placed, Symbol};
 use script_tree::{Block, Event, Events, LoopBody, Names, Stmt};
@@ -158,6 +159,19 @@ fn cancelled<'a>(
     Ok((Event::Cancelled(nack), rest))
 }
 
+#[tactic(auto, unfolding(crate::specs::Blocks::joined_at))]
+fn joined<'a>(
+    scope: &mut Scope<'a>,
+    tokens: &'a [Placed<'a>],
+    nesting: usize,
+) -> Result<(Event, &'a [Placed<'a>]), Fault>
+    ensures { Tells (λ x. (event_of x.0, here scope.new, bare x.1.now)) result (joined_at nesting (here scope.old) (bare tokens.now)) }
+{
+    let rest = base(scope, tokens, nesting)?;
+    let (process, rest) = read_process(scope, rest, nesting)?;
+    Ok((Event::Joined(process), rest))
+}
+
 /// The names behind `as`, if there are any.
 #[tactic(auto, unfolding(crate::specs::Blocks::as_names_at))]
 fn as_names<'a>(
@@ -200,6 +214,9 @@ fn read_event<'a>(
     }
     if is_next(tokens, Symbol::Cancelled) {
         return Ok(cancelled(scope, tokens, nesting)?);
+    }
+    if is_next(tokens, Symbol::Joined) {
+        return Ok(joined(scope, tokens, nesting)?);
     }
     if is_next(tokens, Symbol::Choose) {
         return choose(alloc, scope, tokens, nesting);
@@ -402,6 +419,20 @@ fn end_stmt<'a>(tokens: &'a [Placed<'a>], nesting: usize) -> Result<(Stmt, &'a [
     Ok((Stmt::End, rest))
 }
 
+#[tactic(auto, unfolding(crate::specs::Blocks::spawn_at))]
+fn spawn_stmt<'a>(
+    scope: &mut Scope<'a>,
+    tokens: &'a [Placed<'a>],
+    nesting: usize,
+) -> Result<(Stmt, &'a [Placed<'a>]), Stop>
+    ensures { Gives (λ x. (stmt_of x.0, here scope.new, bare x.1.now)) result (spawn_at nesting (here scope.old) (bare tokens.now)) }
+{
+    let rest = accept(tokens, nesting)?;
+    let (process, rest) = spawn_process(scope, rest, nesting)?;
+    let rest = expect(rest, nesting, Symbol::Semicolon)?;
+    Ok((Stmt::Spawn(process), rest))
+}
+
 /// A statement.
 #[cycle(reading)]
 #[tactic(auto, unfolding(crate::specs::Blocks::stmt_at, crate::specs::Blocks::stmt_with))]
@@ -431,6 +462,9 @@ fn read_stmt<'a>(
     if is_next(tokens, Symbol::End) {
         let (stmt, rest) = end_stmt(tokens, nesting)?;
         return Ok((stmt, rest));
+    }
+    if is_next(tokens, Symbol::Spawn) {
+        return spawn_stmt(scope, tokens, nesting);
     }
     if !are_allowed(loops) {
         return Err(stop(Problem::Syntax, tokens));
@@ -520,6 +554,7 @@ fn is_no_sync(tokens: &[Placed<'_>]) -> bool
         || is_next(tokens, Symbol::Loop)
         || is_next(tokens, Symbol::Forever)
         || is_next(tokens, Symbol::End)
+        || is_next(tokens, Symbol::Spawn)
 }
 
 /// The body of a loop, from whose word on so many tokens are left.

@@ -1,16 +1,11 @@
 //! What names stand for at a token of a process, and what the sync there has so far.
 
-ghost use Rattle.std.specs.Prelude.{◌≡◌, ◌++◌, ◌∷◌, [], IfOk, length, is_some};
+ghost use Rattle.std.specs.Prelude.{◌≡◌, ◌≤◌, length};
 ghost use Rattle.script_reader.specs.Places.{texts};
-ghost use Rattle.script_grammar.specs.Meaning.{place, channel_of, is_listed, is_among};
-ghost use Rattle.script_reader.specs.Steps.{Gives, Tells, bare, here, start, meaning, bound, is_taken, listed, read_name_at, bind_name_at, fourth_name_at, bind_names_at};
-ghost use Rattle.script_tree.specs.Trees.{names_of};
+ghost use Rattle.script_grammar.specs.Meaning.{channel_of};
 
-use crate::fault::{Fault, Problem, Stop};
-use crate::step::{accept, fault, is_next, name_at, stop};
 use crate::table::Table;
-use script_token::{Placed, Symbol};
-use script_tree::{Name, Names};
+use script_tree::Name;
 use std::alloc::{AllocError, Global};
 
 /// The longest name, in bytes.
@@ -27,24 +22,35 @@ pub struct Counts {
 #[derive(Drop)]
 pub struct Scope<'a> {
     pub channels: Table<'a>,
+    /// The processes whose blocks have ended before.
+    pub processes: Table<'a>,
     pub variables: Table<'a>,
+    /// Which of the processes are spawned so far, in any block.
+    pub spawned: Vec<u8>,
     pub counts: Counts,
+    ghost few: { length (texts processes.names.items) ≤ 64 },
 }
 
 impl<'a> Scope<'a> {
+    ghost use Rattle.std.specs.Prelude.{[], IfOk, is_some};
+    ghost use Rattle.script_grammar.specs.Meaning.{place, is_among};
+    ghost use Rattle.script_reader.specs.Steps.{here, start, meaning, bound};
+
     pub fn new(alloc: Global, channels: Table<'a>) -> Scope<'a>
-        ensures { here result ≡ start (texts channels.entry.names.items) }
+        ensures { here result ≡ start (texts channels.entry.names.items) [] [] }
     {
         Scope {
             channels,
+            processes: Table::new(alloc),
             variables: Table::new(alloc),
+            spawned: Vec::new(alloc),
             counts: Counts { bases: 0, nacks: 0 },
         }
     }
 
     /// What the name stands for.
     #[tactic(auto, unfolding(crate::specs::Steps::meaning))]
-    fn meaning(&self, name: &str) -> Option<Name>
+    pub fn meaning(&self, name: &str) -> Option<Name>
         ensures { result ≡ meaning (here self.now) name.now }
     {
         if let Some(number) = self.channels.number(name) {
@@ -52,6 +58,22 @@ impl<'a> Scope<'a> {
         }
         let number = self.variables.number(name)?;
         Some(Name::Variable(number))
+    }
+
+    /// The number of the process that the name stands for, if its block has ended before.
+    #[tactic(auto, using(script_grammar::proofs::Places::place_in))]
+    pub fn process(&self, name: &str) -> Option<u8>
+        ensures { result ≡ place name.now (here self.now).processes }
+    {
+        let number = self.processes.number(name)?;
+        Some(number as u8)
+    }
+
+    /// Whether the process is spawned already.
+    pub fn is_spawned(&self, process: u8) -> bool
+        ensures { result ≡ is_among (here self.now).spawned process }
+    {
+        self.spawned.contains(&process)
     }
 
     /// Whether the name stands for something.
@@ -62,7 +84,7 @@ impl<'a> Scope<'a> {
     }
 
     /// The number of the variable that the name is bound to from here on.
-    fn bind(&mut self, name: &'a str) -> Result<usize, AllocError>
+    pub fn bind(&mut self, name: &'a str) -> Result<usize, AllocError>
         ensures { IfOk result (λ v. (v, here self.new) ≡ bound (here self.old) name.now) }
     {
         match self.variables.number(name) {
@@ -84,124 +106,4 @@ fn channel(number: usize) -> Option<Name>
     } else {
         None
     }
-}
-
-/// A name that is read.
-#[tactic(auto, unfolding(crate::specs::Steps::read_name_at))]
-pub fn read_name<'a>(
-    scope: &Scope<'a>,
-    tokens: &'a [Placed<'a>],
-    nesting: usize,
-) -> Result<(Name, &'a [Placed<'a>]), Fault>
-    ensures { Tells (λ x. (x.0, bare x.1.now)) result (read_name_at nesting (here scope.now) (bare tokens.now)) }
-{
-    let Some(name) = name_at(tokens) else {
-        return Err(fault(Problem::Syntax, tokens));
-    };
-    let Some(name) = scope.meaning(name) else {
-        return Err(fault(Problem::UnknownName, tokens));
-    };
-    let rest = accept(tokens, nesting)?;
-    Ok((name, rest))
-}
-
-/// Whether the variable is one of the list.
-fn has(names: Names, variable: usize) -> bool
-    ensures { result ≡ is_among (names_of names) variable }
-{
-    match names {
-        Names::One(first) => variable == first,
-        Names::Two(first, second) => variable == first || variable == second,
-        Names::Three(first, second, third) => {
-            variable == first || variable == second || variable == third
-        }
-    }
-}
-
-/// Whether the variable, if there is one, is of the list, if there is one.
-fn is_listed(list: Option<Names>, variable: Option<usize>) -> bool
-    ensures { result ≡ is_listed (listed list) variable }
-{
-    let Some(variable) = variable else {
-        return false;
-    };
-    let Some(list) = list else {
-        return false;
-    };
-    has(list, variable)
-}
-
-/// Whether the name stands for a channel, or for a variable of the list, if there is one.
-fn is_taken(scope: &Scope<'_>, list: Option<Names>, name: &str) -> bool
-    ensures { result ≡ is_taken (listed list) (here scope.now) name.now }
-{
-    scope.channels.number(name).is_some() || is_listed(list, scope.variables.number(name))
-}
-
-/// A name that is bound, behind those of its list.
-#[tactic(auto, unfolding(crate::specs::Steps::bind_name_at))]
-pub fn bind_name<'a>(
-    scope: &mut Scope<'a>,
-    tokens: &'a [Placed<'a>],
-    nesting: usize,
-    list: Option<Names>,
-) -> Result<(usize, &'a [Placed<'a>]), Stop>
-    ensures { Gives (λ x. (x.0, here scope.new, bare x.1.now)) result (bind_name_at nesting (listed list) (here scope.old) (bare tokens.now)) }
-{
-    let Some(name) = name_at(tokens) else {
-        return Err(stop(Problem::Syntax, tokens));
-    };
-    if is_taken(scope, list, name) {
-        return Err(stop(Problem::Twice, tokens));
-    }
-    if name.len() > NAME_LEN {
-        return Err(stop(Problem::TooMany, tokens));
-    }
-    let rest = accept(tokens, nesting)?;
-    let number = scope.bind(name)?;
-    Ok((number, rest))
-}
-
-/// What is wrong at a fourth name.
-#[tactic(auto, unfolding(crate::specs::Steps::fourth_name_at))]
-fn fourth_name(scope: &Scope<'_>, tokens: &[Placed<'_>], list: Names) -> Problem
-    ensures { result ≡ fourth_name_at (names_of list) (here scope.now) (bare tokens.now) }
-{
-    let Some(name) = name_at(tokens) else {
-        return Problem::Syntax;
-    };
-    if is_taken(scope, Some(list), name) {
-        return Problem::Twice;
-    }
-    Problem::TooMany
-}
-
-/// A list of names that are bound.
-#[tactic(auto, unfolding(crate::specs::Steps::bind_names_at))]
-pub fn bind_names<'a>(
-    scope: &mut Scope<'a>,
-    tokens: &'a [Placed<'a>],
-    nesting: usize,
-) -> Result<(Names, &'a [Placed<'a>]), Stop>
-    ensures { Gives (λ x. (names_of x.0, here scope.new, bare x.1.now)) result (bind_names_at nesting (here scope.old) (bare tokens.now)) }
-{
-    let (first, rest) = bind_name(scope, tokens, nesting, None)?;
-    let names = Names::One(first);
-    if !is_next(rest, Symbol::Comma) {
-        return Ok((names, rest));
-    }
-    let rest = accept(rest, nesting)?;
-    let (second, rest) = bind_name(scope, rest, nesting, Some(names))?;
-    let names = Names::Two(first, second);
-    if !is_next(rest, Symbol::Comma) {
-        return Ok((names, rest));
-    }
-    let rest = accept(rest, nesting)?;
-    let (third, rest) = bind_name(scope, rest, nesting, Some(names))?;
-    let names = Names::Three(first, second, third);
-    if !is_next(rest, Symbol::Comma) {
-        return Ok((names, rest));
-    }
-    let rest = accept(rest, nesting)?;
-    Err(stop(fourth_name(scope, rest, names), rest))
 }

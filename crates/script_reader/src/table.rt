@@ -1,6 +1,6 @@
 //! Names, each with its number, in the order in which they came.
 
-ghost use Rattle.std.specs.Prelude.{◌≡◌, ℕ, List, [], ◌∷◌, ◌++◌, length, None, IfOk, OnOk};
+ghost use Rattle.std.specs.Prelude.{◌≡◌, ◌≤◌, ℕ, ◌+◌, List, [], ◌∷◌, ◌++◌, length, None, IfOk, OnOk};
 ghost use Rattle.std.specs.BTreeMap.{get_by};
 ghost use Rattle.std.specs.Cmp.Lexicographic.{slice_cmp};
 ghost use Rattle.std.specs.Ordering.{nat_cmp};
@@ -44,7 +44,8 @@ impl<'a> Table<'a> {
     /// Appends a name.
     pub fn add(&mut self, name: &'a str) -> Result<(), AllocError>
         requires { place name.now (texts self.old.names.items) ≡ None }
-        ensures { OnOk result (texts self.new.names.items ≡ texts self.old.names.items ++ name.now ∷ []) }
+        ensures value { OnOk result (texts self.new.names.items ≡ texts self.old.names.items ++ name.now ∷ []) }
+        ensures count { length (texts self.new.names.items) ≤ length (texts self.old.names.items) + 1 }
     {
         self.names.reserve(1)?;
         self.numbers.insert(name, self.names.len())?;

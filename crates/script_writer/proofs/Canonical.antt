@@ -13,7 +13,7 @@ use Rattle.script_tree.specs.Processes.{Proc}
 use Rattle.script_grammar.specs.Written.{sign_symbol, relation_symbol, term_tokens, terms_tokens, expr_tokens, test_tokens, others_tokens, list_tokens, more_names_tokens, as_tokens, received_tokens, event_tokens, events_tokens, more_events_tokens, stmt_tokens, body_tokens, channels_tokens, processes_tokens}
 use Rattle.script_grammar.specs.Meaning.{Names}
 use Rattle.script.specs.Scripts.{Script}
-use Rattle.script_writer.specs.Plain.{variable, names_of, names_in, plain_operand, plain_term, plain_terms, plain_expr, plain_list, plain_test, plain_event, plain_events, plain_stmt, plain_block, plain_process, plain}
+use Rattle.script_writer.specs.Plain.{variable, names_of, process_names, names_in, plain_operand, plain_term, plain_terms, plain_expr, plain_list, plain_test, plain_event, plain_events, plain_stmt, plain_block, plain_process, plain}
 use Rattle.script_writer.specs.Canon.{text_of, Canon}
 use Rattle.script_writer.specs.Texts.{operand_text, sign_text, term_text, terms_text, expr_text, others_text, list_text, relation_text, test_text, other_names_text, as_text, received_text, event_text, events_text, more_events_text, stmt_text, stmts_text, channels_text, processes_text, script_text}
 
@@ -95,7 +95,7 @@ mutual
   event_is ns (IsReady list) rest = rw (list_is ns list rest) (simp append_assoc)
   event_is ns IsNever rest = refl
   event_is ns (IsCancelled nack) rest = simp append_assoc
-  event_is ns (IsJoined process) rest = refl
+  event_is ns (IsJoined process) rest = simp append_assoc
   event_is ns (Chooses members) rest = rw (events_are ns members (Fixed symbols.CloseBracket ∷ rest)) (simp append_assoc)
   event_is ns (Wraps event names list) rest =
       let behind = Fixed symbols.To ∷ list_tokens (plain_list ns list) rest in
@@ -129,7 +129,7 @@ mutual
       let behind = Fixed symbols.Sync ∷ event_tokens (plain_event ns event) (Fixed symbols.Semicolon ∷ body_tokens (plain_block ns others) rest) in
       rw (received_is ns names behind, event_is ns event (Fixed symbols.Semicolon ∷ body_tokens (plain_block ns others) rest), stmts_are ns others rest) (simp append_assoc)
   stmt_is ns Ends rest = refl
-  stmt_is ns (Spawns process) rest = refl
+  stmt_is ns (Spawns process) rest = simp append_assoc
 
   -- statements, and the brace that ends them
   stmts_are : (ns : Names) (b : Block) (rest : List Token) → text_of (body_tokens (plain_block ns b) rest) ≡ stmts_text ns b ++ 125 ∷ 10 ∷ text_of rest
@@ -141,12 +141,13 @@ unfolding text_of
 channels_are [] rest = refl
 channels_are (name ∷ names) rest = rw (channels_are names rest) (simp append_assoc)
 
-processes_are : (channels : List (List ℕ)) (ps : List Proc) → text_of (processes_tokens (map (plain_process channels) ps)) ≡ processes_text channels ps
+processes_are : (channels names : List (List ℕ)) (ps : List Proc) → text_of (processes_tokens (map (plain_process channels names) ps)) ≡ processes_text channels names ps
 unfolding text_of
-processes_are channels [] = refl
-processes_are channels (p ∷ ps) =
-    rw (stmts_are (names_in channels p) p.body (processes_tokens (map (plain_process channels) ps)), processes_are channels ps) (in_braces (codes "process ") p.name (stmts_text (names_in channels p) p.body) (processes_text channels ps))
+processes_are channels names [] = refl
+processes_are channels names (p ∷ ps) =
+    rw (stmts_are (names_in channels names p) p.body (processes_tokens (map (plain_process channels names) ps)), processes_are channels names ps)
+    (in_braces (codes "process ") p.name (stmts_text (names_in channels names p) p.body) (processes_text channels names ps))
 
 pub canon_is : (s : Script) → script_text s ≡ Canon s
 unfolding Canon plain
-canon_is s = sym (channels_are s.channels (processes_tokens (map (plain_process s.channels) s.processes)) ∙ ap (λ (y : List ℕ). channels_text s.channels ++ y) (processes_are s.channels s.processes))
+canon_is s = sym (channels_are s.channels (processes_tokens (map (plain_process s.channels (process_names s.processes)) s.processes)) ∙ ap (λ (y : List ℕ). channels_text s.channels ++ y) (processes_are s.channels (process_names s.processes) s.processes))

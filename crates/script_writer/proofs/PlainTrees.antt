@@ -1,7 +1,7 @@
 -- Events, statements, blocks and scripts: what is meant is meant when it is written plainly.
 use Rattle.std.proofs.Common.{◌≡◌, ℕ, suc, ◌≤◌, Bool, true, false, ◌||◌, ltb, leb, List, [], ◌∷◌, ◌++◌, length, map, Option, Some, Result, Ok, Err, is_some, refl, sym, ap, ◌∙◌, subst, arith, append_assoc}
 use Rattle.std.proofs.lemmas.List.{append-nil}
-use Rattle.script_grammar.specs.Meaning.{place, Names, name_meaning, expr_meaning, test_meaning, exprs_meaning, list_meaning, bind, bind_names, is_small, as_turn, event_meaning, events_meaning, stmt_meaning, block_meaning, declare, channels_meaning, processes_meaning}
+use Rattle.script_grammar.specs.Meaning.{place, is_among, Names, first_names, name_meaning, expr_meaning, test_meaning, exprs_meaning, list_meaning, bind, bind_names, is_small, as_turn, event_meaning, events_meaning, stmt_meaning, block_meaning, declare, channels_meaning, processes_meaning}
 use Rattle.script_token.specs.Tokens.{Token, Fixed, Name}
 use Rattle.script_token.specs.declared.kind.Symbol.TheVariants as symbols
 use Rattle.script_tree.specs.Trees as trees
@@ -12,18 +12,19 @@ use Rattle.script_grammar.specs.Written as written
 use Rattle.script_grammar.specs.Written.{Expr, relation_symbol, expr_tokens, test_tokens, others_tokens, members_tokens, list_tokens, more_names_tokens, as_tokens, received_tokens, event_tokens, events_tokens, more_events_tokens, stmt_tokens, body_tokens, block_tokens, channels_tokens, processes_tokens, script_tokens}
 use Rattle.script_grammar.specs.Depths.{exprs_depth, list_depth, test_depth, event_depth, events_depth, stmt_depth, stmts_depth, processes_depth, script_depth}
 use Rattle.script_grammar.proofs.Parts.{part, some_is, if_else_some, unless_some}
-use Rattle.script_grammar.proofs.Growing.{Grows, stays, grows_on, event_grows, events_grow, block_grows, bind_names_grows}
+use Rattle.script_grammar.proofs.Growing.{Grows, grows_on, event_grows, events_grow, block_grows, bind_names_grows}
 use Rattle.script.specs.Scripts.{Script, text_at}
 use Rattle.script.specs.declared.fault.ScriptFault.{ScriptFault}
 use Rattle.script.specs.Spelling.{script_meaning, Spells}
-use Rattle.script_writer.specs.Plain.{variable, name_of, names_of, plain_expr, plain_list, plain_test, plain_event, plain_events, plain_stmt, plain_block, plain_process, plain}
+use Rattle.script_writer.specs.Plain.{variable, name_of, process_name, names_of, plain_expr, plain_list, plain_test, plain_event, plain_events, plain_stmt, plain_block, process_names, plain_process, plain}
 use Rattle.script_writer.specs.Canon.{Canon}
 use Rattle.script.proofs.Spelled.{spells_again, spells_only_one}
 use Rattle.script_writer.specs.Laws.{IsSpelledByCanon, IsReadAgain, HasItsOwnCanon}
 use Rattle.script_writer.proofs.Codes.{script_set}
 use Rattle.script.proofs.Good.{Good, AllGood, texts_are_good}
 use Rattle.script_writer.proofs.Lexing.{text_again}
-use Rattle.script_writer.proofs.Plainly.{named, bound_named, names_named, expr_plain}
+use Rattle.script_grammar.proofs.Spawning.{block_spawns}
+use Rattle.script_writer.proofs.Plainly.{named, process_named, bound_named, names_named, expr_plain}
 
 -- good tokens stay good when these are written in place of those
 abbrev KeepsGood : (List Token → List Token) → (List Token → List Token) → Type 0
@@ -142,6 +143,10 @@ cancelled_means : (ns : Names) (text text' : List ℕ) (n : Meaning) → text' �
 unfolding event_meaning
 cancelled_means ns text text' n same e = rw same (rw e refl)
 
+joined_means : (ns : Names) (text text' : List ℕ) (p : ℕ) → text' ≡ text → place text ns.processes ≡ Some p → event_meaning ns (written.Joined text') ≡ Some (trees.IsJoined p, ns)
+unfolding event_meaning
+joined_means ns text text' p same e = rw same (rw e refl)
+
 wrap_means : (ns ns' : Names) (event : written.Event) (e : trees.Event) (texts texts' : List (List ℕ)) (b : Option (List ℕ) × Names) (list : List Expr) (l : List trees.Expr)
     → texts' ≡ texts → event_meaning ns event ≡ Some (e, ns') → bind_names ns' texts ≡ Some b → list_meaning b.1 list ≡ Some l → event_meaning ns (written.Wrap event texts' list) ≡ Some (trees.Wraps e b.0 l, b.1)
 unfolding event_meaning
@@ -160,6 +165,11 @@ sync_means : (loops : Bool) (ns : Names) (texts texts' : List (List ℕ)) (b : O
     → texts' ≡ texts → bind_names ns texts ≡ Some b → event_meaning b.1 event ≡ Some a → is_small a.0 ≡ true → stmt_meaning loops ns (written.Sync texts' event) ≡ Some (trees.Syncs b.0 a.0, a.1)
 unfolding stmt_meaning
 sync_means loops ns texts texts' b event a same p q r = rw same (rw (p, q, r) refl)
+
+spawn_means : (loops : Bool) (ns : Names) (text text' : List ℕ) (p : ℕ) → text' ≡ text → place text ns.processes ≡ Some p → is_among ns.spawned p ≡ false
+    → stmt_meaning loops ns (written.Spawn text') ≡ Some (trees.Spawns p, record ns { spawned = ns.spawned ++ p ∷ [] })
+unfolding stmt_meaning
+spawn_means loops ns text text' p same e f = rw same (rw (e, f) refl)
 
 loop_means : (loops : Bool) (ns ns' : Names) (times : ℕ) (body : written.Block) (t : LoopBody) → loops ≡ true → block_meaning true ns body ≡ Some (trees.Runs (trees.Syncs t.names t.event) t.rest, ns') → stmt_meaning loops ns (written.Loop times body) ≡ Some (trees.Loops times t.names t.event t.rest, ns')
 unfolding stmt_meaning
@@ -244,6 +254,15 @@ mutual
       let is = named ns V nack n.first g n.is in
       record {
         meaning = cancelled_means ns nack (name_of V n.first) n.first is n.is;
+        shallow = omega arith;
+        good = λ rest rest' h k. (tt, (subst (λ (y : List ℕ). Good (Name y)) (sym is) h.1.0, k h.1.1));
+      })
+  event_plain (written.Joined process) ns V x e =
+      let p = part (place process ns.processes) _ x e in
+      subst (EventAt ns V (written.Joined process)) (some_is _ _ p.then) (λ g.
+      let is = process_named ns V process p.first g p.is in
+      record {
+        meaning = joined_means ns process (process_name V p.first) p.first is p.is;
         shallow = omega arith;
         good = λ rest rest' h k. (tt, (subst (λ (y : List ℕ). Good (Name y)) (sym is) h.1.0, k h.1.1));
       })
@@ -396,6 +415,17 @@ mutual
       }))
   stmt_plain written.End loops ns V x e =
       subst (StmtAt loops ns V written.End) (some_is _ _ e) (λ g. record { meaning = refl; shallow = omega arith; good = λ rest rest' h k. (tt, (tt, k h.1.1)) })
+  stmt_plain (written.Spawn process) loops ns V x e =
+      let p = part (place process ns.processes) _ x e in
+      unless_some (is_among ns.spawned p.first) _ x p.then (λ new f.
+      subst (StmtAt loops ns V (written.Spawn process)) (some_is _ _ f) (λ g.
+      let before : Grows ns V = record { channels = g.channels; later = g.later; processes = g.processes; more = g.more; variables = g.variables } in
+      let is = process_named ns V process p.first before p.is in
+      record {
+        meaning = spawn_means loops ns process (process_name V p.first) p.first is p.is new;
+        shallow = omega arith;
+        good = λ rest rest' h k. (tt, (subst (λ (y : List ℕ). Good (Name y)) (sym is) h.1.0, (tt, k h.1.1.1)));
+      }))
 
   block_plain : (w : written.Block) (loops : Bool) (ns V : Names) (x : trees.Block × Names) → block_meaning loops ns w ≡ Some x → BlockAt loops ns V w x
   block_plain written.Done loops ns V x e =
@@ -414,39 +444,57 @@ mutual
 
 -- SCRIPTS
 
-record PlainProcesses (channels names : List (List ℕ)) (ws : List written.Process) (ps : List Proc) : Type 0 where
-  meaning : processes_meaning channels names (map (plain_process channels) ps) ≡ Some ps
-  shallow : processes_depth (map (plain_process channels) ps) ≤ processes_depth ws
-  good : AllGood (processes_tokens ws) → AllGood (processes_tokens (map (plain_process channels) ps))
+-- where the script's processes have these names
+record PlainProcesses (channels names : List (List ℕ)) (spawned : List ℕ) (all : List (List ℕ)) (ws : List written.Process) (ps : List Proc) : Type 0 where
+  meaning : processes_meaning channels names spawned (map (plain_process channels all) ps) ≡ Some ps
+  shallow : processes_depth (map (plain_process channels all) ps) ≤ processes_depth ws
+  good : AllGood (processes_tokens ws) → AllGood (processes_tokens (map (plain_process channels all) ps))
 
-processes_mean : (channels names new : List (List ℕ)) (p : written.Process) (ps : List written.Process) (b : trees.Block × Names) (qs : List Proc)
-    → declare 64 names p.name ≡ Some new → block_meaning true (record { channels = channels; variables = [] }) p.body ≡ Some b → processes_meaning channels new ps ≡ Some qs
-    → processes_meaning channels names (p ∷ ps) ≡ Some (record { name = p.name; body = b.0; variables = b.1.variables; channels = length channels; earlier = length names } ∷ qs)
+abbrev ProcessesAt : List (List ℕ) → List (List ℕ) → List ℕ → List (List ℕ) → List written.Process → List Proc → Type 0
+ProcessesAt channels names spawned all ws ps = all ≡ names ++ process_names ps → PlainProcesses channels names spawned all ws ps
+
+processes_mean : (channels names new : List (List ℕ)) (spawned : List ℕ) (p : written.Process) (ps : List written.Process) (b : trees.Block × Names) (qs : List Proc)
+    → declare 64 names p.name ≡ Some new → block_meaning true (first_names channels names spawned) p.body ≡ Some b → processes_meaning channels new b.1.spawned ps ≡ Some qs
+    → processes_meaning channels names spawned (p ∷ ps) ≡ Some (record { name = p.name; body = b.0; variables = b.1.variables; channels = length channels; earlier = length names } ∷ qs)
 unfolding processes_meaning
-processes_mean channels names new p ps b qs declared meant more = rw (declared, meant, more) refl
+processes_mean channels names new spawned p ps b qs declared meant more = rw (declared, meant, more) refl
 
-processes_plain : (ws : List written.Process) (channels names : List (List ℕ)) (ps : List Proc) → processes_meaning channels names ws ≡ Some ps → PlainProcesses channels names ws ps
-unfolding processes_meaning AllGood Good
-processes_plain [] channels names ps e = subst (PlainProcesses channels names []) (some_is _ _ e) (record { meaning = refl; shallow = omega arith; good = λ h. h })
-processes_plain (w ∷ ws) channels names ps e =
-    let d = part (declare 64 names w.name) _ ps e in
-    let b = part (block_meaning true (record { channels = channels; variables = [] }) w.body) _ ps d.then in
-    let o = part (processes_meaning channels d.first ws) _ ps b.then in
-    let grown : Grows b.first.1 (record { channels = channels; variables = b.first.1.variables }) =
-    subst (λ (y : List (List ℕ)). Grows b.first.1 (record { channels = y; variables = b.first.1.variables })) (block_grows w.body true (record { channels = channels; variables = [] }) b.first b.is).channels (stays b.first.1) in
-    let p = block_plain w.body true (record { channels = channels; variables = [] }) (record { channels = channels; variables = b.first.1.variables }) b.first b.is grown in
-    let q = processes_plain ws channels d.first o.first o.is in
-    subst (PlainProcesses channels names (w ∷ ws)) (some_is _ _ o.then) (record {
-      meaning = processes_mean channels names d.first (record { name = w.name; body = plain_block (record { channels = channels; variables = b.first.1.variables }) b.first.0 }) (map (plain_process channels) o.first) b.first o.first d.is p.meaning q.meaning;
-      shallow = omega (arith, p.shallow, q.shallow);
-      good = λ h. (tt, (h.1.0, (tt, p.good (processes_tokens ws) (processes_tokens (map (plain_process channels) o.first)) h.1.1.1 (λ i. q.good i))));
-    })
-
--- the channels are written as they were
+-- a name that is declared is the last
 declared_last : (limit : ℕ) (names new : List (List ℕ)) (text : List ℕ) → declare limit names text ≡ Some new → names ++ text ∷ [] ≡ new
 unfolding declare
 declared_last limit names new text e = unless_some (is_some (place text names) || (leb limit (length names) || ltb 32 (length text))) _ new e (λ _ f. some_is _ _ f)
 
+processes_plain : (ws : List written.Process) (channels names : List (List ℕ)) (spawned : List ℕ) (all : List (List ℕ)) (ps : List Proc) → processes_meaning channels names spawned ws ≡ Some ps → ProcessesAt channels names spawned all ws ps
+unfolding processes_meaning AllGood Good
+processes_plain [] channels names spawned all ps e =
+    subst (ProcessesAt channels names spawned all []) (some_is _ _ e) (λ known. record { meaning = refl; shallow = omega arith; good = λ h. h })
+processes_plain (w ∷ ws) channels names spawned all ps e =
+    let first = first_names channels names spawned in
+    let d = part (declare 64 names w.name) _ ps e in
+    let b = part (block_meaning true first w.body) _ ps d.then in
+    let o = part (processes_meaning channels d.first b.first.1.spawned ws) _ ps b.then in
+    subst (ProcessesAt channels names spawned all (w ∷ ws)) (some_is _ _ o.then) (λ known.
+    let V : Names = record { channels = channels; processes = all; variables = b.first.1.variables; spawned = [] } in
+    let later = w.name ∷ process_names o.first in
+    let stay = block_spawns w.body true first b.first b.is in
+    let grown : Grows b.first.1 V = record {
+      channels = sym (block_grows w.body true first b.first b.is).channels;
+      later = later;
+      processes = known ∙ ap (λ (y : List (List ℕ)). y ++ later) (sym stay.processes);
+      more = [];
+      variables = sym (append-nil b.first.1.variables);
+    } in
+    let p = block_plain w.body true first V b.first b.is grown in
+    let known' : all ≡ d.first ++ process_names o.first =
+    known ∙ sym (append_assoc names (w.name ∷ []) (process_names o.first)) ∙ ap (λ (y : List (List ℕ)). y ++ process_names o.first) (declared_last 64 names d.first w.name d.is) in
+    let q = processes_plain ws channels d.first b.first.1.spawned all o.first o.is known' in
+    record {
+      meaning = processes_mean channels names d.first spawned (record { name = w.name; body = plain_block V b.first.0 }) (map (plain_process channels all) o.first) b.first o.first d.is p.meaning q.meaning;
+      shallow = omega (arith, p.shallow, q.shallow);
+      good = λ h. (tt, (h.1.0, (tt, p.good (processes_tokens ws) (processes_tokens (map (plain_process channels all) o.first)) h.1.1.1 (λ i. q.good i))));
+    })
+
+-- the channels are written as they were
 channels_as_written : (texts names new : List (List ℕ)) → channels_meaning names texts ≡ Some new → names ++ texts ≡ new
 unfolding channels_meaning
 channels_as_written [] names new e = append-nil names ∙ some_is _ _ e
@@ -464,7 +512,7 @@ record PlainScript (w : written.Script) (s : Script) : Type 0 where
   shallow : script_depth (plain s) ≤ script_depth w
   good : AllGood (script_tokens w) → AllGood (script_tokens (plain s))
 
-script_means : (texts channels : List (List ℕ)) (processes : List Proc) (ws : List written.Process) → channels_meaning [] texts ≡ Some channels → processes_meaning channels [] ws ≡ Some processes
+script_means : (texts channels : List (List ℕ)) (processes : List Proc) (ws : List written.Process) → channels_meaning [] texts ≡ Some channels → processes_meaning channels [] [] ws ≡ Some processes
     → script_meaning (record { channels = texts; processes = ws }) ≡ Some (record { channels = channels; processes = processes })
 unfolding script_meaning
 script_means texts channels processes ws p q = rw (p, q) refl
@@ -473,14 +521,15 @@ script_plain : (w : written.Script) (s : Script) → script_meaning w ≡ Some s
 unfolding script_meaning plain
 script_plain w s e =
     let c = part (channels_meaning [] w.channels) _ s e in
-    let p = part (processes_meaning c.first [] w.processes) _ s c.then in
+    let p = part (processes_meaning c.first [] [] w.processes) _ s c.then in
     let same : w.channels ≡ c.first = channels_as_written w.channels [] c.first c.is in
     let again : channels_meaning [] c.first ≡ Some c.first = subst (λ (y : List (List ℕ)). channels_meaning [] y ≡ Some c.first) same c.is in
-    let q = processes_plain w.processes c.first [] p.first p.is in
+    let names = process_names p.first in
+    let q = processes_plain w.processes c.first [] [] names p.first p.is refl in
     subst (PlainScript w) (some_is _ _ p.then) (record {
-      meaning = script_means c.first c.first p.first (map (plain_process c.first) p.first) again q.meaning;
+      meaning = script_means c.first c.first p.first (map (plain_process c.first names) p.first) again q.meaning;
       shallow = q.shallow;
-      good = λ h. subst (λ (y : List (List ℕ)). AllGood (channels_tokens y (processes_tokens (map (plain_process c.first) p.first)))) same (channels_good w.channels (processes_tokens w.processes) (processes_tokens (map (plain_process c.first) p.first)) h q.good);
+      good = λ h. subst (λ (y : List (List ℕ)). AllGood (channels_tokens y (processes_tokens (map (plain_process c.first names) p.first)))) same (channels_good w.channels (processes_tokens w.processes) (processes_tokens (map (plain_process c.first names) p.first)) h q.good);
     })
 
 canon_spells : (bytes : List ℕ) (s : Script) → Spells bytes s → Spells (Canon s) s

@@ -18,7 +18,7 @@ use Rattle.script_grammar.specs.Written.{Term, OfNumber, OfName, Grouped, Terms,
 use Rattle.script_grammar.specs.Depths.{term_depth, terms_depth, expr_depth}
 use Rattle.script_grammar.proofs.Parts.{part, some_is, if_else_some, unless_some}
 use Rattle.script_grammar.proofs.Growing.{Grows, grows_on, bind_all_grows}
-use Rattle.script_writer.specs.Plain.{text_or_none, variable, name_of, names_of, plain_operand, plain_term, plain_terms, plain_expr}
+use Rattle.script_writer.specs.Plain.{text_or_none, variable, name_of, process_name, names_of, plain_operand, plain_term, plain_terms, plain_expr}
 use Rattle.script.proofs.Good.{Good, AllGood}
 
 -- NAMES
@@ -70,6 +70,11 @@ named ns V text name g e = at_channel (place text ns.channels) refl e
     at_channel : (o : Option ℕ) → place text ns.channels ≡ o → if_some o channel_of (if_some (place text ns.variables) (λ v. Some (Variable v)) None) ≡ Some name → name_of V name ≡ text
     at_channel None is f = at_variable (place text ns.variables) refl f
     at_channel (Some c) is f = at_number c is (ltb c 256) f
+
+pub process_named : (ns V : Names) (text : List ℕ) (p : ℕ) → Grows ns V → place text ns.processes ≡ Some p → process_name V p ≡ text
+process_named ns V text p g e =
+    let there : slice_get V.processes p ≡ Some text = ap (λ (xs : List (List ℕ)). slice_get xs p) g.processes ∙ still_there ns.processes g.later p text (placed text ns.processes p e) in
+    ap text_or_none there
 
 bound_there : (ns : Names) (text : List ℕ) → slice_get (bound ns text).1.variables (bound ns text).0 ≡ Some text
 bound_there ns text = at_place (place text ns.variables) refl

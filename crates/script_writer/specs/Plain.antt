@@ -24,6 +24,10 @@ abbrev pub name_of : Names → Name → List ℕ
 name_of ns (Variable v) = variable ns v
 name_of ns (Channel c) = text_or_none (slice_get ns.channels c)
 
+-- the name of a process
+abbrev pub process_name : Names → ℕ → List ℕ
+process_name ns p = text_or_none (slice_get ns.processes p)
+
 -- the variables of a list that may be there
 abbrev pub names_of : Names → Option (List ℕ) → List (List ℕ)
 names_of ns (Some list) = map (variable ns) list
@@ -58,7 +62,7 @@ abbrev mutual
   plain_event ns (trees.IsReady list) = written.Always (plain_list ns list)
   plain_event ns trees.IsNever = written.Never
   plain_event ns (trees.IsCancelled nack) = written.Cancelled (name_of ns nack)
-  plain_event ns (trees.IsJoined process) = written.Never
+  plain_event ns (trees.IsJoined process) = written.Joined (process_name ns process)
   plain_event ns (trees.Chooses members) = written.Choose (plain_events ns members)
   plain_event ns (trees.Wraps event names list) = written.Wrap (plain_event ns event) (names_of ns names) (plain_list ns list)
   plain_event ns (trees.Guards body event) = written.Guard (plain_block ns body) (plain_event ns event)
@@ -76,18 +80,21 @@ abbrev mutual
   plain_stmt ns (trees.Loops times names event rest) = written.Loop times (Then (written.Sync (names_of ns names) (plain_event ns event)) (plain_block ns rest))
   plain_stmt ns (trees.LoopsForever names event rest) = written.Forever (Then (written.Sync (names_of ns names) (plain_event ns event)) (plain_block ns rest))
   plain_stmt ns trees.Ends = written.End
-  plain_stmt ns (trees.Spawns process) = written.End
+  plain_stmt ns (trees.Spawns process) = written.Spawn (process_name ns process)
 
   pub plain_block : Names → trees.Block → Block
   plain_block ns trees.Stops = Done
   plain_block ns (trees.Runs stmt rest) = Then (plain_stmt ns stmt) (plain_block ns rest)
 
--- the names of a process of a script with such channels
-abbrev pub names_in : List (List ℕ) → Proc → Names
-names_in channels p = record { channels = channels; variables = p.variables }
+abbrev pub process_names : List Proc → List (List ℕ)
+process_names ps = map (λ p. p.name) ps
 
-abbrev pub plain_process : List (List ℕ) → Proc → Process
-plain_process channels p = record { name = p.name; body = plain_block (names_in channels p) p.body }
+-- the names of a process of a script with such channels and processes
+abbrev pub names_in : List (List ℕ) → List (List ℕ) → Proc → Names
+names_in channels processes p = record { channels = channels; processes = processes; variables = p.variables; spawned = [] }
+
+abbrev pub plain_process : List (List ℕ) → List (List ℕ) → Proc → Process
+plain_process channels processes p = record { name = p.name; body = plain_block (names_in channels processes p) p.body }
 
 unfoldable pub plain : Script → written.Script
-plain s = record { channels = s.channels; processes = map (plain_process s.channels) s.processes }
+plain s = record { channels = s.channels; processes = map (plain_process s.channels (process_names s.processes)) s.processes }

@@ -12,13 +12,16 @@ use Rattle.script_tree.specs.Trees.{Term, Single, Sum, Terms, Nothing, More, Exp
 use Rattle.script_tree.specs.Processes.{Proc}
 use Rattle.script_grammar.specs.Meaning.{Names}
 use Rattle.script.specs.Scripts.{Script}
-use Rattle.script_writer.specs.Plain.{variable, name_of, names_in}
+use Rattle.script_writer.specs.Plain.{variable, name_of, process_name, process_names, names_in}
 
 abbrev pub variable_text : Names → ℕ → List ℕ
 variable_text ns v = variable ns v ++ 32 ∷ []
 
 abbrev pub name_text : Names → Name → List ℕ
 name_text ns name = name_of ns name ++ 32 ∷ []
+
+abbrev pub process_name_text : Names → ℕ → List ℕ
+process_name_text ns p = process_name ns p ++ 32 ∷ []
 
 abbrev pub operand_text : Names → Operand → List ℕ
 operand_text ns (Number n) = decimal n ++ 32 ∷ []
@@ -83,7 +86,7 @@ abbrev mutual
   event_text ns (IsReady list) = codes "always " ++ list_text ns list
   event_text ns IsNever = codes "never "
   event_text ns (IsCancelled nack) = codes "cancelled " ++ name_text ns nack
-  event_text ns (IsJoined process) = codes "never "
+  event_text ns (IsJoined process) = codes "joined " ++ process_name_text ns process
   event_text ns (Chooses members) = codes "choose [ " ++ events_text ns members ++ codes "] "
   event_text ns (Wraps event names list) = codes "wrap " ++ event_text ns event ++ as_text ns names ++ codes "to " ++ list_text ns list
   event_text ns (Guards body event) = codes "guard " ++ (123 ∷ 10 ∷ []) ++ stmts_text ns body ++ (125 ∷ 10 ∷ []) ++ event_text ns event
@@ -105,7 +108,7 @@ abbrev mutual
   stmt_text ns (Loops times names event rest) = codes "loop " ++ decimal times ++ (32 ∷ 123 ∷ 10 ∷ []) ++ received_text ns names ++ codes "sync " ++ event_text ns event ++ (59 ∷ 10 ∷ []) ++ stmts_text ns rest ++ (125 ∷ 10 ∷ [])
   stmt_text ns (LoopsForever names event rest) = codes "forever " ++ (123 ∷ 10 ∷ []) ++ received_text ns names ++ codes "sync " ++ event_text ns event ++ (59 ∷ 10 ∷ []) ++ stmts_text ns rest ++ (125 ∷ 10 ∷ [])
   stmt_text ns Ends = codes "end " ++ (59 ∷ 10 ∷ [])
-  stmt_text ns (Spawns process) = codes "end " ++ (59 ∷ 10 ∷ [])
+  stmt_text ns (Spawns process) = codes "spawn " ++ process_name_text ns process ++ (59 ∷ 10 ∷ [])
 
   pub stmts_text : Names → Block → List ℕ
   stmts_text ns Stops = []
@@ -125,12 +128,12 @@ abbrev pub channels_text : List (List ℕ) → List ℕ
 channels_text [] = []
 channels_text (name ∷ names) = codes "channel " ++ name ++ (32 ∷ 59 ∷ 10 ∷ []) ++ channels_text names
 
-abbrev pub process_text : List (List ℕ) → Proc → List ℕ
-process_text channels p = codes "process " ++ p.name ++ (32 ∷ []) ++ block_text (names_in channels p) p.body
+abbrev pub process_text : List (List ℕ) → List (List ℕ) → Proc → List ℕ
+process_text channels names p = codes "process " ++ p.name ++ (32 ∷ []) ++ block_text (names_in channels names p) p.body
 
-abbrev pub processes_text : List (List ℕ) → List Proc → List ℕ
-processes_text channels [] = []
-processes_text channels (p ∷ ps) = process_text channels p ++ processes_text channels ps
+abbrev pub processes_text : List (List ℕ) → List (List ℕ) → List Proc → List ℕ
+processes_text channels names [] = []
+processes_text channels names (p ∷ ps) = process_text channels names p ++ processes_text channels names ps
 
 abbrev pub script_text : Script → List ℕ
-script_text s = channels_text s.channels ++ processes_text s.channels s.processes
+script_text s = channels_text s.channels ++ processes_text s.channels (process_names s.processes) s.processes

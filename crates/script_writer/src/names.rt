@@ -3,7 +3,7 @@
 ghost use Rattle.std.specs.Prelude.{OnOk};
 ghost use Rattle.std.specs.Option.{option_map};
 ghost use Rattle.script_tree.specs.Trees.{names_of as numbers_of};
-ghost use Rattle.script_writer.specs.Texts.{variable_text, name_text, names_text, as_text, received_text};
+ghost use Rattle.script_writer.specs.Texts.{variable_text, name_text, process_name_text, names_text, as_text, received_text};
 ghost use Rattle.script_writer.specs.Sources.{source_names};
 ghost use Rattle.script.specs.Appending.{Adds};
 
@@ -47,6 +47,21 @@ pub(crate) fn put_name(out: &mut String, source: &Source<'_>, name: Name) -> Res
         Name::Variable(variable) => put_variable(out, source, variable),
         Name::Channel(channel) => put_channel(out, source, usize::from(channel)),
     }
+}
+
+/// The name of a process of the script.
+#[tactic(auto, using(crate::proofs::Lists::get_names))]
+pub(crate) fn put_process_name(
+    out: &mut String,
+    source: &Source<'_>,
+    process: usize,
+) -> Result<(), AllocError>
+    ensures { OnOk result (Adds out.old out.new (process_name_text (source_names source.now) process)) }
+{
+    if process < source.script.processes().len() {
+        out.push_str(source.script.process_name(process))?;
+    }
+    out.push_str(" ")
 }
 
 fn put_names(out: &mut String, source: &Source<'_>, names: Names) -> Result<(), AllocError>

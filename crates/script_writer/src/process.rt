@@ -8,7 +8,7 @@ ghost use Rattle.script_writer.specs.Sources.{source_names};
 ghost use Rattle.script.specs.Appending.{Adds};
 
 use crate::exprs::{put_expr, put_list, put_test};
-use crate::names::{Source, put_as, put_name, put_received, put_variable};
+use crate::names::{Source, put_as, put_name, put_process_name, put_received, put_variable};
 use script_tree::{Block, Event, Events, LoopBody, Names, Stmt};
 use std::alloc::AllocError;
 
@@ -30,10 +30,14 @@ fn put_event(out: &mut String, source: &Source<'_>, event: &Event) -> Result<(),
             out.push_str("always ")?;
             put_list(out, source, list)
         }
-        Event::Never | Event::Joined(_) => out.push_str("never "),
+        Event::Never => out.push_str("never "),
         Event::Cancelled(nack) => {
             out.push_str("cancelled ")?;
             put_name(out, source, *nack)
+        }
+        Event::Joined(process) => {
+            out.push_str("joined ")?;
+            put_process_name(out, source, usize::from(*process))
         }
         Event::Choose(members) => {
             out.push_str("choose [ ")?;
@@ -127,7 +131,12 @@ fn put_stmt(out: &mut String, source: &Source<'_>, stmt: &Stmt) -> Result<(), Al
             out.push_str("forever ")?;
             put_turn(out, source, turn)
         }
-        Stmt::End | Stmt::Spawn(_) => out.push_str("end ;\n"),
+        Stmt::End => out.push_str("end ;\n"),
+        Stmt::Spawn(process) => {
+            out.push_str("spawn ")?;
+            put_process_name(out, source, usize::from(*process))?;
+            out.push_str(";\n")
+        }
     }
 }
 

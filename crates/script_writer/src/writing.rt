@@ -6,7 +6,8 @@ ghost use Rattle.script_tree.specs.Processes.{proc_of};
 ghost use Rattle.script.specs.Scripts.{script_of};
 ghost use Rattle.script_writer.specs.Canon.{Canon};
 ghost use Rattle.script_writer.specs.Laws.{IsSpelledBy, IsReadFrom, IsSpelledByCanon, IsReadAgain, HasItsOwnCanon};
-ghost use Rattle.script_writer.specs.Texts.{channels_text, process_text, processes_text, script_text};
+ghost use Rattle.script_writer.specs.Plain.{process_names};
+ghost use Rattle.script_writer.specs.Texts.{channels_text, process_text, processes_text};
 ghost use Rattle.script.specs.Appending.{Adds};
 
 use crate::names::Source;
@@ -26,7 +27,7 @@ fn put_channels(out: &mut String, script: &Script) -> Result<(), AllocError>
 }
 
 fn put_process(out: &mut String, script: &Script, process: &Proc) -> Result<(), AllocError>
-    ensures { OnOk result (Adds out.old out.new (process_text (script_of script.now).channels (proc_of process.now))) }
+    ensures { OnOk result (Adds out.old out.new (process_text (script_of script.now).channels (process_names (script_of script.now).processes) (proc_of process.now))) }
 {
     out.push_str("process ")?;
     out.push_str(process.name())?;
@@ -35,7 +36,7 @@ fn put_process(out: &mut String, script: &Script, process: &Proc) -> Result<(), 
 }
 
 fn put_processes(out: &mut String, script: &Script) -> Result<(), AllocError>
-    ensures { OnOk result (Adds out.old out.new (processes_text (script_of script.now).channels (script_of script.now).processes)) }
+    ensures { OnOk result (Adds out.old out.new (processes_text (script_of script.now).channels (process_names (script_of script.now).processes) (script_of script.now).processes)) }
 {
     let processes = script.processes();
     for process in processes {

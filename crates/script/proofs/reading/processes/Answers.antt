@@ -1,5 +1,4 @@
-use Rattle.std.proofs.Common.{◌≡◌, ◌+◌, ◌-◌, ℕ, List, [], map, length, ap, ◌∙◌, arith}
-use Rattle.script_reader.specs.Places.{texts}
+use Rattle.std.proofs.Common.{◌≡◌, ◌+◌, ◌-◌, List, [], map, length, ap, ◌∙◌, arith}
 use Rattle.script_reader.specs.Steps.{Here, bare, here, repeated}
 use Rattle.script_tree.specs.Processes.{Proc, proc_of}
 use Rattle.script.specs.Scripts.{drawn, process_step, processes_at}
@@ -15,9 +14,8 @@ loop-turn-init c =
     let none : length ts - 0 ≡ length ts = omega arith in
     record {
       same = rw (rest, none) (
-          ap (λ (p : List Proc). repeated process_step (length ts) (p, texts c.new-2.result.names.items, here c.new-3.result, ts)) (ap (map proc_of) c.new.ensures.items)
-          ∙ ap (λ (n : List (List ℕ)). repeated process_step (length ts) ([], n, here c.new-3.result, ts)) (ap texts c.new-2.ensures)
-          ∙ ap (λ (h : Here). repeated process_step (length ts) ([], [], h, ts)) c.new-3.ensures);
+          ap (λ (p : List Proc). repeated process_step (length ts) (p, here c.new-2.result, ts)) (ap (map proc_of) c.new.ensures.items)
+          ∙ ap (λ (h : Here). repeated process_step (length ts) ([], h, ts)) c.new-2.ensures);
       count = c.begin-count.ensures.count;
     }
 

@@ -27,6 +27,9 @@ invariant_of-result c =
       few_processes = omega (arith, keeps.processes, length-map processes proc_of);
       spelled = ∣ (c.args.bytes.now, spells_found c.args.bytes.now s text) ∣₁;
       shared = subst (λ (n : ℕ). ShareChannels n (map proc_of processes)) count keeps.shared;
+      order = keeps.order;
+      placed = keeps.placed;
+      once = keeps.once;
     }
 
 pub returns-in-Ok-whole : goal.returns-in-Ok-whole
