@@ -35,7 +35,7 @@ message_prop d (Three a b c) = ×_prop (×_prop (atom_prop d a) (atom_prop d b))
 cause_prop : (d : Declared) (why : Cause) → IsProp (HasCause d why)
 cause_prop d (cause.Always m) = message_prop d m
 cause_prop d (cause.Nack n) = hlevel le_prop
-cause_prop d (cause.End t) = λ x y. absurd x
+cause_prop d (cause.End t) = hlevel le_prop
 
 line_prop : (d : Declared) (c : Commit) → IsProp (HasLine d c)
 line_prop d (Pair sender receiver chan msg stamp) = hlevel (le_prop, message_prop d msg)

@@ -11,7 +11,7 @@ use Rattle.thread.specs.After.{Chosen, State, Outcome, Goes, Offers, Finishes, F
 use Rattle.thread.proofs.Keeping.{EachOf, MessageOf, BaseOf, ResultsOf, TreeOf, Keeps, after_keeps}
 use Rattle.protocol_values.specs.declared.Atom.{Atom}
 use Rattle.protocol_values.specs.declared.Base.{Base}
-use Rattle.protocol_values.specs.declared.Base.TheVariants.{Send, Recv, Always, OnNack}
+use Rattle.protocol_values.specs.declared.Base.TheVariants.{Send, Recv, Always, OnNack, OnEnd}
 use Rattle.protocol_values.specs.declared.Cause.{Cause}
 use Rattle.protocol_values.specs.declared.Cause.TheVariants as cause
 use Rattle.protocol_values.specs.declared.Commit.{Commit}
@@ -139,7 +139,7 @@ module _ (s : Script) (rows : ℕ) (few : rows ≤ 1024) (text : HasText s) wher
       }
 
   may_take : (config : Config) (at : Row × ℕ) (b : Base) → Fine config → MayTake s.processes rows config at b → Taken at b
-  may_take config at b fine can = taken (config at.0.thread) at b (fine at.0.thread) can
+  may_take config at b fine may = taken (config at.0.thread) at b (fine at.0.thread) may.can
 
   with_fine : (t : ℕ) (r : Chosen) (config : Config) → MessageOf (HasAtom d) r.1 → Fine config → Fine (with_result t r config)
   with_fine t r config m fine u = at_test (eqb u t)
@@ -160,7 +160,9 @@ module _ (s : Script) (rows : ℕ) (few : rows ≤ 1024) (text : HasText s) wher
   alone_line config at (cause.Nack n) stamp fine legal =
       let one = may_take config at (OnNack n) fine legal.0 in
       ((one.place, one.base), with_fine at.0.thread (at.1, Empty) config tt fine)
-  alone_line config at (cause.End u) stamp fine legal = absurd legal
+  alone_line config at (cause.End u) stamp fine legal =
+      let one = may_take config at (OnEnd u) fine legal.0 in
+      ((one.place, one.base), with_fine at.0.thread (at.1, Empty) config tt fine)
 
   commit_line : (config : Config) (c : Commit) → Fine config → IsLegal s.processes rows config c → HasLineAt c × Fine (applied config c)
   commit_line config (Pair sender receiver chan msg stamp) fine legal =
@@ -185,7 +187,7 @@ module _ (s : Script) (rows : ℕ) (few : rows ≤ 1024) (text : HasText s) wher
     pub short : Short new
     pub more : all_syncs old + 1 ≤ all_syncs new
 
-  grows_one : (config : Config) (at : Row × ℕ) (b : Base) (m : Message) → Short config → MayTake s.processes rows config at b → Grows config (with_result at.0.thread (at.1, m) config)
+  grows_one : (config : Config) (at : Row × ℕ) (b : Base) (m : Message) → Short config → CanTake s.processes rows (config at.0.thread) at b → Grows config (with_result at.0.thread (at.1, m) config)
   grows_one config at b m short can =
       let t = at.0.thread in
       let r : Chosen = (at.1, m) in
@@ -199,19 +201,19 @@ module _ (s : Script) (rows : ℕ) (few : rows ≤ 1024) (text : HasText s) wher
       }
 
   -- the receiver's results are as they were
-  receiver_later : (config : Config) (sender receiver : Row × ℕ) (b : Base) → (sender.0.thread ≡ receiver.0.thread → ⊥) → MayTake s.processes rows config receiver b → MayTake s.processes rows (with_result sender.0.thread (sender.1, Empty) config) receiver b
+  receiver_later : (config : Config) (sender receiver : Row × ℕ) (b : Base) → (sender.0.thread ≡ receiver.0.thread → ⊥) → CanTake s.processes rows (config receiver.0.thread) receiver b → CanTake s.processes rows (with_result sender.0.thread (sender.1, Empty) config receiver.0.thread) receiver b
   receiver_later config sender receiver b ne can =
       subst (λ (rs : List Chosen). CanTake s.processes rows rs receiver b) (sym (result-other sender.0.thread receiver.0.thread (sender.1, Empty) config (λ e. ne (sym e)))) can
 
   grows : (config : Config) (c : Commit) → Short config → IsLegal s.processes rows config c → Grows config (applied config c)
   grows config (Pair sender receiver chan msg stamp) short legal =
       let middle = with_result sender.0.thread (sender.1, Empty) config in
-      let one = grows_one config sender (Send chan msg) Empty short legal.1 in
-      let two = grows_one middle receiver (Recv chan) msg one.short (receiver_later config sender receiver (Recv chan) legal.0 legal.2) in
+      let one = grows_one config sender (Send chan msg) Empty short legal.1.can in
+      let two = grows_one middle receiver (Recv chan) msg one.short (receiver_later config sender receiver (Recv chan) legal.0 legal.2.can) in
       record { short = two.short; more = omega (arith, one.more, two.more) }
-  grows config (Alone at (cause.Always m) stamp) short legal = grows_one config at (Always m) m short legal
-  grows config (Alone at (cause.Nack n) stamp) short legal = grows_one config at (OnNack n) Empty short legal.0
-  grows config (Alone at (cause.End u) stamp) short legal = absurd legal
+  grows config (Alone at (cause.Always m) stamp) short legal = grows_one config at (Always m) m short legal.can
+  grows config (Alone at (cause.Nack n) stamp) short legal = grows_one config at (OnNack n) Empty short legal.0.can
+  grows config (Alone at (cause.End u) stamp) short legal = grows_one config at (OnEnd u) Empty short legal.0.can
 
   -- RUNS
 
@@ -278,4 +280,7 @@ module _ (s : Script) (rows : ℕ) (few : rows ≤ 1024) (text : HasText s) wher
   printed_fine config t end printed fine ends =
       let p = ends.process in
       let below = declared t p ends.is_its in
-      printed_in t below (length (config t)) (after p.body (length p.variables) t (config t)) end printed (after_fine t p below (config t) ends.is_its (fine t)) ends.ends
+      ⊎_elim
+      (λ runs. printed_in t below (length (config t)) (after p.body (length p.variables) t (config t)) end printed (after_fine t p below (config t) ends.is_its (fine t)) runs.1)
+      (λ waits. subst (EachOf (HasAtom d)) (sym waits.2) tt)
+      ends.ends

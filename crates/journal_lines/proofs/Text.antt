@@ -4,10 +4,10 @@ use Rattle.std.proofs.lemmas.Bool.{and_parts}
 use Rattle.std.proofs.lemmas.Bool.Decides.{nat_tests}
 use Rattle.std.specs.Prelude.{⊤}
 use Rattle.std.specs.List.{AllByRecursion}
-use Rattle.std.proofs.lemmas.List.{length-append}
+use Rattle.std.proofs.lemmas.List.{length-append, length-map}
 use Rattle.script_token.specs.Tokens.{Token, Fixed, Name}
 use Rattle.script_token.specs.declared.kind.Symbol.TheVariants as symbols
-use Rattle.script_grammar.specs.Meaning.{place, if_some, is_listed, Parts, linked, parts_term, Names, name_meaning, term_meaning, terms_meaning, expr_meaning, test_meaning, exprs_meaning, list_meaning, bound, bind, bind_all, bind_names, is_small, as_turn, event_meaning, events_meaning, stmt_meaning, block_meaning, declare, channels_meaning, processes_meaning}
+use Rattle.script_grammar.specs.Meaning.{place, if_some, is_among, is_listed, Parts, linked, parts_term, Names, first_names, name_meaning, term_meaning, terms_meaning, expr_meaning, test_meaning, exprs_meaning, list_meaning, bound, bind, bind_all, bind_names, is_small, as_turn, event_meaning, events_meaning, stmt_meaning, block_meaning, declare, channels_meaning, processes_meaning}
 use Rattle.script_reader.specs.Steps.{start}
 use Rattle.script_reader.proofs.Keeping.{name_read}
 use Rattle.script_tree.specs.declared.tree.Name.{Name as TreeName}
@@ -21,6 +21,7 @@ use Rattle.script_reader.specs.Laws.{at}
 use Rattle.script_grammar.specs.Written as written
 use Rattle.script_grammar.specs.Written.{term_tokens, terms_tokens, expr_tokens, others_tokens, members_tokens, list_tokens, more_names_tokens, as_tokens, received_tokens, event_tokens, events_tokens, more_events_tokens, stmt_tokens, body_tokens, channels_tokens, processes_tokens}
 use Rattle.script_grammar.proofs.Parts.{part, some_is, if_else_some, unless_some}
+use Rattle.script_grammar.proofs.Places.{place_in}
 use Rattle.script_reader.proofs.ReadNames.{name_again, neither}
 use Rattle.script.specs.Sources.{Script}
 use Rattle.script.specs.Spelling.{script_meaning, Spells}
@@ -29,24 +30,35 @@ use Rattle.thread.proofs.Keeping.{Rule, NameOf, OperandOf, TermOf, TermsOf, Expr
 use Rattle.journal_text.specs.Names.{Declared, names_of}
 use Rattle.journal_lines.proofs.Rules.{in_text}
 
+-- a name that is declared is one more
+declared_few : (names new : List (List ℕ)) (text : List ℕ) → declare 64 names text ≡ Some new → (length new ≡ length names + 1) × (length names < 64)
+unfolding declare
+declared_few names new text e =
+    unless_some (is_some (place text names) || (leb 64 (length names) || ltb 32 (length text))) _ new e
+    (λ may f.
+    let free : leb 64 (length names) ≡ false = (neither (leb 64 (length names)) (ltb 32 (length text)) (neither (is_some (place text names)) (leb 64 (length names) || ltb 32 (length text)) may).1).0 in
+    (ap (λ (ns : List (List ℕ)). length ns) (sym (some_is _ _ f)) ∙ length-append names (text ∷ []), grind (arith, nat_tests, free)))
+
 module _ (d : Declared) (t : ℕ) (below : t < length d.threads) where
   abbrev rule : Rule
   rule = in_text d t below
 
-  abbrev pub Fits : Names → Type 0
-  Fits ns = length ns.channels ≡ length d.channels
+  -- as many channels as are declared, and no more processes
+  pub record Fits (ns : Names) : Type 0 where
+    pub channels : length ns.channels ≡ length d.channels
+    pub processes : length ns.processes ≤ length d.threads
 
   -- EXPRESSIONS
 
-  known_name : (ns : Names) (name : TreeName) → Fits ns → NameIsIn (record { channels = length ns.channels; variables = length ns.variables; processes = 0 }) name → NameOf rule name
+  known_name : (ns : Names) (name : TreeName) → Fits ns → NameIsIn (record { channels = length ns.channels; variables = length ns.variables; processes = length ns.processes }) name → NameOf rule name
   known_name ns (Variable v) f h = tt
-  known_name ns (Channel c) f h = omega (arith, f, h)
+  known_name ns (Channel c) f h = omega (arith, f.channels, h)
 
   name_text : (ns : Names) (text : List ℕ) (name : TreeName) → Fits ns → name_meaning ns text ≡ Some name → NameOf rule name
   name_text ns text name f e =
-      let h = at ns (start []).counts in
-      let read = name_read 1 h (Name text ∷ []) (name, []) (name_again 1 ns (start []).counts text name [] (omega arith) e) in
-      known_name ns name f (read.is_in (record { channels = length ns.channels; variables = length ns.variables; processes = 0 }) (record { channels = refl; variables = omega arith }))
+      let h = at ns (start [] [] []).counts in
+      let read = name_read 1 h (Name text ∷ []) (name, []) (name_again 1 ns (start [] [] []).counts text name [] (omega arith) e) in
+      known_name ns name f (read.is_in (record { channels = length ns.channels; variables = length ns.variables; processes = length ns.processes }) (record { channels = refl; variables = omega arith; processes = refl }))
 
   abbrev SignedOf : List (Sign × trees.Term) → Type 0
   SignedOf [] = ⊤
@@ -148,7 +160,7 @@ module _ (d : Declared) (t : ℕ) (below : t < length d.threads) where
     where
       at_place : (o : Option ℕ) → Fits (if_some {B = ℕ × Names} o (λ v. (v, ns)) (length ns.variables, record ns { variables = ns.variables ++ text ∷ [] })).1
       at_place (Some v) = f
-      at_place None = f
+      at_place None = record { channels = f.channels; processes = f.processes }
 
   bind_fits : (list : List ℕ) (ns : Names) (text : List ℕ) (y : ℕ × Names) → bind list ns text ≡ Some y → Fits ns → Fits y.1
   unfolding bind
@@ -225,6 +237,10 @@ module _ (d : Declared) (t : ℕ) (below : t < length d.threads) where
     event_text (written.Cancelled nack) ns x rest f e g =
         let p = part (name_meaning ns nack) _ x e in
         subst (Told (EventOf rule) rest) (some_is _ _ p.then) (name_text ns nack p.first f p.is, f, g.1.1)
+    event_text (written.Joined process) ns x rest f e g =
+        let p = part (place process ns.processes) _ x e in
+        let few = place_in process ns.processes p.first p.is in
+        subst (Told (EventOf rule) rest) (some_is _ _ p.then) (omega (arith, few, f.processes), f, g.1.1)
     event_text (written.Choose members) ns x rest f e g =
         let p = part (events_meaning ns members) _ x e in
         let one = events_text members ns p.first (Fixed symbols.CloseBracket ∷ rest) f p.is g.1.1 in
@@ -307,6 +323,10 @@ module _ (d : Declared) (t : ℕ) (below : t < length d.threads) where
         let one = block_text true body ns b.first rest f b.is g.1.1 in
         subst (Told (StmtOf rule) rest) (some_is _ _ turn.then) (turn_text b.first.0 turn.first turn.is one.0, one.1, one.2))
     stmt_text loops written.End ns x rest f e g = subst (Told (StmtOf rule) rest) (some_is _ _ e) (tt, f, g.1.1)
+    stmt_text loops (written.Spawn process) ns x rest f e g =
+        let p = part (place process ns.processes) _ x e in
+        unless_some (is_among ns.spawned p.first) _ x p.then (λ _ is.
+        subst (Told (StmtOf rule) rest) (some_is _ _ is) (tt, record { channels = f.channels; processes = f.processes }, g.1.1.1))
 
     pub block_text : (loops : Bool) (w : written.Block) (ns : Names) (x : trees.Block × Names) (rest : List Token) → Fits ns → block_meaning loops ns w ≡ Some x → AllGood (body_tokens w rest) → Told (BlockOf rule) rest x
     block_text loops written.Done ns x rest f e g = subst (Told (BlockOf rule) rest) (some_is _ _ e) (tt, f, g.1)
@@ -322,15 +342,16 @@ module _ (d : Declared) (t : ℕ) (below : t < length d.threads) where
   abbrev pub IsInText : Proc → Type 0
   IsInText p = BlockOf rule p.body
 
-  processes_text : (ws : List written.Process) (channels names : List (List ℕ)) (ps : List Proc) → length channels ≡ length d.channels → processes_meaning channels names ws ≡ Some ps → AllGood (processes_tokens ws) → AllByRecursion IsInText ps
+  processes_text : (ws : List written.Process) (channels names : List (List ℕ)) (spawned : List ℕ) (ps : List Proc) → length channels ≡ length d.channels → length names + length ps ≤ length d.threads → processes_meaning channels names spawned ws ≡ Some ps → AllGood (processes_tokens ws) → AllByRecursion IsInText ps
   unfolding processes_meaning AllGood
-  processes_text [] channels names ps f e g = subst (AllByRecursion IsInText) (some_is _ _ e) tt
-  processes_text (w ∷ ws) channels names ps f e g =
+  processes_text [] channels names spawned ps f few e g = subst (AllByRecursion IsInText) (some_is _ _ e) tt
+  processes_text (w ∷ ws) channels names spawned ps f few e g =
       let n = part (declare 64 names w.name) _ ps e in
-      let b = part (block_meaning true (record { channels = channels; variables = [] }) w.body) _ ps n.then in
-      let o = part (processes_meaning channels n.first ws) _ ps b.then in
-      let one = block_text true w.body (record { channels = channels; variables = [] }) b.first (processes_tokens ws) f b.is g.1.1.1 in
-      subst (AllByRecursion IsInText) (some_is _ _ o.then) (one.0, processes_text ws channels n.first o.first f o.is one.2)
+      let b = part (block_meaning true (first_names channels names spawned) w.body) _ ps n.then in
+      let o = part (processes_meaning channels n.first b.first.1.spawned ws) _ ps b.then in
+      let more = (declared_few names n.first w.name n.is).0 in
+      let one = block_text true w.body (first_names channels names spawned) b.first (processes_tokens ws) (record { channels = f; processes = omega (arith, few) }) b.is g.1.1.1 in
+      subst (AllByRecursion IsInText) (some_is _ _ o.then) (one.0, processes_text ws channels n.first b.first.1.spawned o.first f (omega (arith, few, more, ap (λ (qs : List Proc). length qs) (some_is _ _ o.then))) o.is one.2)
 
   channels_good : (texts : List (List ℕ)) (rest : List Token) → AllGood (channels_tokens texts rest) → AllGood rest
   unfolding AllGood
@@ -339,23 +360,15 @@ module _ (d : Declared) (t : ℕ) (below : t < length d.threads) where
 
 -- SCRIPTS
 
-declared_few : (names new : List (List ℕ)) (text : List ℕ) → declare 64 names text ≡ Some new → (length new ≡ length names + 1) × (length names < 64)
-unfolding declare
-declared_few names new text e =
-    unless_some (is_some (place text names) || (leb 64 (length names) || ltb 32 (length text))) _ new e
-    (λ may f.
-    let free : leb 64 (length names) ≡ false = (neither (leb 64 (length names)) (ltb 32 (length text)) (neither (is_some (place text names)) (leb 64 (length names) || ltb 32 (length text)) may).1).0 in
-    (ap (λ (ns : List (List ℕ)). length ns) (sym (some_is _ _ f)) ∙ length-append names (text ∷ []), grind (arith, nat_tests, free)))
-
-few_processes : (ws : List written.Process) (channels names : List (List ℕ)) (ps : List Proc) → processes_meaning channels names ws ≡ Some ps → length names ≤ 64 → length names + length ps ≤ 64
+few_processes : (ws : List written.Process) (channels names : List (List ℕ)) (spawned : List ℕ) (ps : List Proc) → processes_meaning channels names spawned ws ≡ Some ps → length names ≤ 64 → length names + length ps ≤ 64
 unfolding processes_meaning
-few_processes [] channels names ps e h = omega (arith, h, ap (λ (qs : List Proc). length qs) (some_is _ _ e))
-few_processes (w ∷ ws) channels names ps e h =
+few_processes [] channels names spawned ps e h = omega (arith, h, ap (λ (qs : List Proc). length qs) (some_is _ _ e))
+few_processes (w ∷ ws) channels names spawned ps e h =
     let n = part (declare 64 names w.name) _ ps e in
-    let b = part (block_meaning true (record { channels = channels; variables = [] }) w.body) _ ps n.then in
-    let o = part (processes_meaning channels n.first ws) _ ps b.then in
+    let b = part (block_meaning true (first_names channels names spawned) w.body) _ ps n.then in
+    let o = part (processes_meaning channels n.first b.first.1.spawned ws) _ ps b.then in
     let few = declared_few names n.first w.name n.is in
-    let others = few_processes ws channels n.first o.first o.is (omega (arith, few.0, few.1)) in
+    let others = few_processes ws channels n.first b.first.1.spawned o.first o.is (omega (arith, few.0, few.1)) in
     omega (arith, few.0, others, ap (λ (qs : List Proc). length qs) (some_is _ _ o.then))
 
 -- what a script that was read says of its processes
@@ -368,15 +381,16 @@ unfolding script_meaning
 has_text bytes s h =
     let w = h.written in
     let c = part (channels_meaning [] w.channels) _ s h.meaning in
-    let p = part (processes_meaning c.first [] w.processes) _ s c.then in
+    let p = part (processes_meaning c.first [] [] w.processes) _ s c.then in
     let same = some_is _ _ p.then in
     let channels : c.first ≡ s.channels = ap (λ (x : Script). x.channels) same in
     let processes : p.first ≡ s.processes = ap (λ (x : Script). x.processes) same in
     let good = subst AllGood h.tokens (texts_are_good bytes) in
     record {
-      few = omega (arith, few_processes w.processes c.first [] p.first p.is (omega arith), ap (λ (qs : List Proc). length qs) processes);
+      few = omega (arith, few_processes w.processes c.first [] [] p.first p.is (omega arith), ap (λ (qs : List Proc). length qs) processes);
       each = λ t below.
           let d = names_of s in
+          let count : length p.first ≡ length d.threads = ap (λ (qs : List Proc). length qs) processes ∙ sym (length-map s.processes (λ (q : Proc). q.name)) in
           subst (AllByRecursion (IsInText d t below)) processes
-          (processes_text d t below w.processes c.first [] p.first (ap (λ (x : List (List ℕ)). length x) channels) p.is (channels_good d t below w.channels (processes_tokens w.processes) good));
+          (processes_text d t below w.processes c.first [] [] p.first (ap (λ (x : List (List ℕ)). length x) channels) (omega (arith, count)) p.is (channels_good d t below w.channels (processes_tokens w.processes) good));
     }

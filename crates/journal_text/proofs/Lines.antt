@@ -18,7 +18,7 @@ use Rattle.script.specs.Names.{AreNames}
 use Rattle.journal_text.specs.Names.{Declared, naming}
 use Rattle.journal_text.specs.Texts.{place_text, nack_text, atom_text, message_text, commit_line}
 use Rattle.journal_text.specs.Journals.{HasPlace, HasNack, HasAtom, HasMessage, HasLine, IsStamp}
-use Rattle.journal_text.specs.Reading.{after_byte, named_at, row_at, place_at, nack_at, num_at, chan_at, cancel_at, atom_at, later_at, one_at, two_at, three_at, none_at, atoms_at, closed_at, message_at, partner_at, told_at, meets_at, always_at, cancelled_at, deed_at, head_at, commit_of, line_at}
+use Rattle.journal_text.specs.Reading.{after_byte, named_at, row_at, place_at, nack_at, num_at, chan_at, cancel_at, atom_at, later_at, one_at, two_at, three_at, none_at, atoms_at, closed_at, message_at, partner_at, told_at, meets_at, always_at, cancelled_at, joined_at, deed_at, head_at, commit_of, line_at}
 use Rattle.journal_text.specs.declared.line.Deed.{Deed}
 use Rattle.journal_text.specs.declared.line.Deed.TheVariants as deeds
 use Rattle.journal_text.proofs.Naming.{byte_takes, names_read, ended_name}
@@ -318,33 +318,50 @@ module _ (d : Declared) (threads : AreNames d.threads) (channels : AreNames d.ch
   unfolding cancelled_at
   cancelled = worded (codes "cancelled ") (λ n. deeds.Alone (causes.Nack n)) (ending 10 (nack_text (naming d)) (HasNack d) (omega arith) nacks)
 
-  abbrev alone_text : Message ⊎ NackName → List ℕ
-  alone_text z = either (λ m. codes "always " ++ (message_text (naming d) m ++ 10 ∷ [])) (λ n. codes "cancelled " ++ (nack_text (naming d) n ++ 10 ∷ [])) z
+  joined : Reads {X = ℕ} (λ t. deeds.Alone (causes.End t)) (joined_at d) (λ t. codes "joined " ++ ended_name d.threads 10 t) (λ t. t < length d.threads)
+  unfolding joined_at
+  joined = worded (codes "joined ") (λ t. deeds.Alone (causes.End t)) (ending 10 (λ n. get_or d.threads n []) (λ n. n < length d.threads) (omega arith) (names_read d.threads threads))
 
-  always_apart : (n : NackName) (rest : List ℕ) → HasNack d n → always_at d ((codes "cancelled " ++ (nack_text (naming d) n ++ 10 ∷ [])) ++ rest) ≡ None
+  -- a nack or an end
+  abbrev waited_text : NackName ⊎ ℕ → List ℕ
+  waited_text z = either (λ n. codes "cancelled " ++ (nack_text (naming d) n ++ 10 ∷ [])) (λ t. codes "joined " ++ ended_name d.threads 10 t) z
+
+  abbrev HasWaited : NackName ⊎ ℕ → Type 0
+  HasWaited z = Either (HasNack d) (λ t. t < length d.threads) z
+
+  abbrev alone_text : Message ⊎ (NackName ⊎ ℕ) → List ℕ
+  alone_text z = either (λ m. codes "always " ++ (message_text (naming d) m ++ 10 ∷ [])) waited_text z
+
+  cancelled_apart : (t : ℕ) (rest : List ℕ) → t < length d.threads → cancelled_at d ((codes "joined " ++ ended_name d.threads 10 t) ++ rest) ≡ None
+  unfolding cancelled_at
+  cancelled_apart t rest fits = refl
+
+  always_apart : (z : NackName ⊎ ℕ) (rest : List ℕ) → HasWaited z → always_at d (waited_text z ++ rest) ≡ None
   unfolding always_at
-  always_apart n rest fits = refl
+  always_apart (inl n) rest fits = refl
+  always_apart (inr t) rest fits = refl
 
-  meets_apart : (z : Message ⊎ NackName) (rest : List ℕ) → Either (HasMessage d) (HasNack d) z → meets_at d (alone_text z ++ rest) ≡ None
+  meets_apart : (z : Message ⊎ (NackName ⊎ ℕ)) (rest : List ℕ) → Either (HasMessage d) HasWaited z → meets_at d (alone_text z ++ rest) ≡ None
   unfolding meets_at
   meets_apart (inl m) rest fits = refl
-  meets_apart (inr n) rest fits = refl
+  meets_apart (inr (inl n)) rest fits = refl
+  meets_apart (inr (inr t)) rest fits = refl
 
   abbrev Done : Type 0
-  Done = Meeting ⊎ (Message ⊎ NackName)
+  Done = Meeting ⊎ (Message ⊎ (NackName ⊎ ℕ))
 
   abbrev deed_of : Done → Deed
-  deed_of x = either (λ x. deeds.Meets x.0.0 x.0.1 x.1) (either (λ m. deeds.Alone (causes.Always m)) (λ n. deeds.Alone (causes.Nack n))) x
+  deed_of x = either (λ x. deeds.Meets x.0.0 x.0.1 x.1) (either (λ m. deeds.Alone (causes.Always m)) (either (λ n. deeds.Alone (causes.Nack n)) (λ t. deeds.Alone (causes.End t)))) x
 
   abbrev done_text : Done → List ℕ
   done_text x = either (λ x. codes "-> " ++ meeting_text x) alone_text x
 
   abbrev HasDone : Done → Type 0
-  HasDone x = Either HasMeeting (Either (HasMessage d) (HasNack d)) x
+  HasDone x = Either HasMeeting (Either (HasMessage d) HasWaited) x
 
   done : Reads {X = Done} deed_of (deed_at d) done_text HasDone
   unfolding deed_at
-  done = choice meets (choice always cancelled always_apart) meets_apart
+  done = choice meets (choice always (choice cancelled joined cancelled_apart) always_apart) meets_apart
 
   heads : Reads {X = ℕ × (Row × ℕ)} (λ h. (h.0, h.1)) (head_at d) (λ h. ended 32 h.0 ++ (place_text (naming d) h.1 ++ 32 ∷ [])) (λ h. IsStamp h.0 × HasPlace d h.1)
   unfolding head_at
@@ -364,10 +381,11 @@ module _ (d : Declared) (threads : AreNames d.threads) (channels : AreNames d.ch
           → ((ended 32 x.0.0 ++ (place_text (naming d) x.0.1 ++ 32 ∷ [])) ++ done_text x.1 ≡ commit_line (naming d) (commit_of x.0 (deed_of x.1))) × HasLine d (commit_of x.0 (deed_of x.1))
       there (h, inl m) fits = (simp append_assoc, (fits.0, (fits.1.0.0, fits.1.0.1, fits.1.1)))
       there (h, inr (inl m)) fits = (simp append_assoc, fits)
-      there (h, inr (inr n)) fits = (simp append_assoc, fits)
+      there (h, inr (inr (inl n))) fits = (simp append_assoc, fits)
+      there (h, inr (inr (inr t))) fits = (simp append_assoc, fits)
 
       back : (c : Commit) → HasLine d c → (x : Whole) × (commit_of x.0 (deed_of x.1) ≡ c) × ((IsStamp x.0.0 × HasPlace d x.0.1) × HasDone x.1)
       back (Pair sender receiver chan msg stamp) fits = (((stamp, sender), inl ((receiver, chan), msg)), refl, (fits.0, ((fits.1.0, fits.1.1), fits.1.2)))
       back (Alone at (causes.Always m) stamp) fits = (((stamp, at), inr (inl m)), refl, fits)
-      back (Alone at (causes.Nack n) stamp) fits = (((stamp, at), inr (inr n)), refl, fits)
-      back (Alone at (causes.End t) stamp) fits = absurd fits.1
+      back (Alone at (causes.Nack n) stamp) fits = (((stamp, at), inr (inr (inl n))), refl, fits)
+      back (Alone at (causes.End t) stamp) fits = (((stamp, at), inr (inr (inr t))), refl, fits)

@@ -38,7 +38,7 @@ HasMessage d (Three a b c) = (HasAtom d a × HasAtom d b) × HasAtom d c
 abbrev pub HasCause : Declared → Cause → Type 0
 HasCause d (causes.Always m) = HasMessage d m
 HasCause d (causes.Nack n) = HasNack d n
-HasCause d (causes.End t) = ⊥
+HasCause d (causes.End t) = t < length d.threads
 
 -- a stamp from 1 on
 abbrev pub IsStamp : ℕ → Type 0

@@ -162,9 +162,15 @@ cancelled_at d bytes = do
   n ← ended_by 10 (nack_at d rest)
   Some (Alone (causes.Nack n.0), n.1)
 
+unfoldable pub joined_at : Declared → List ℕ → Reads Deed
+joined_at d bytes = do
+  rest ← after_word (codes "joined ") bytes
+  t ← ended_by 10 (named_at d.threads rest)
+  Some (Alone (causes.End t.0), t.1)
+
 -- what happened to the row, up to the line's end
 unfoldable pub deed_at : Declared → List ℕ → Reads Deed
-deed_at d bytes = or_else (meets_at d bytes) (or_else (always_at d bytes) (cancelled_at d bytes))
+deed_at d bytes = or_else (meets_at d bytes) (or_else (always_at d bytes) (or_else (cancelled_at d bytes) (joined_at d bytes)))
 
 unfoldable pub head_at : Declared → List ℕ → Reads (ℕ × (Row × ℕ))
 head_at d bytes = do

@@ -4,7 +4,7 @@ ghost use Rattle.std.specs.Prelude.{◌≤◌, IfSome};
 ghost use Rattle.digits.specs.Reading.{Gives, ended_by, leading_at, number_at, count_at, after_word};
 ghost use Rattle.script_reader.specs.Places.{texts};
 ghost use Rattle.journal_text.specs.Answers.{listed};
-ghost use Rattle.journal_text.specs.Reading.{Leads, Passes, after_byte, word_at, named_at, row_at, place_at, nack_at, num_at, chan_at, cancel_at, atom_at, later_at, one_at, two_at, three_at, none_at, atoms_at, closed_at, message_at, partner_at, told_at, meets_at, always_at, cancelled_at, deed_at, head_at, line_at};
+ghost use Rattle.journal_text.specs.Reading.{Leads, Passes, after_byte, word_at, named_at, row_at, place_at, nack_at, num_at, chan_at, cancel_at, atom_at, later_at, one_at, two_at, three_at, none_at, atoms_at, closed_at, message_at, partner_at, told_at, meets_at, always_at, cancelled_at, joined_at, deed_at, head_at, line_at};
 
 use crate::listing::{Listing, Word, next_hash};
 use crate::names::Names;
@@ -356,6 +356,15 @@ impl Front<'_> {
         Some(Deed::Alone(Cause::Nack(nack)))
     }
 
+    #[tactic(auto, unfolding(crate::specs::Reading::joined_at))]
+    fn joined(&mut self, names: &Names<'_>) -> Option<Deed>
+        ensures { Leads result self.new.bytes.now (joined_at (listed names.now) self.old.bytes.now) }
+    {
+        self.text(b"joined ")?;
+        let thread = self.name(&names.threads, LINE_END)?;
+        Some(Deed::Alone(Cause::End(thread)))
+    }
+
     /// What the row did, up to the line's end.
     #[tactic(auto, unfolding(crate::specs::Reading::deed_at))]
     fn deed(&mut self, names: &Names<'_>) -> Option<Deed>
@@ -370,7 +379,11 @@ impl Front<'_> {
             return Some(found);
         }
         self.bytes = bytes;
-        self.cancelled(names)
+        if let Some(found) = self.cancelled(names) {
+            return Some(found);
+        }
+        self.bytes = bytes;
+        self.joined(names)
     }
 
     /// The stamp, and the row that is named first.
