@@ -1,5 +1,5 @@
 -- What a worker does with a machine keeps what is known of it.
-use Rattle.std.proofs.Common.{◌⊎◌, ◌≡◌, ◌≢◌, ◌<◌, ◌≤◌, ◌+◌, ℕ, zero, suc, Bool, true, false, List, [], ◌∷◌, ◌++◌, length, take, Option, Some, get_or, slice_get, sym, refl, ap, ◌∙◌, subst, inl, inr, ⊎_elim, arith}
+use Rattle.std.proofs.Common.{◌⊎◌, ◌≡◌, ◌≢◌, ◌<◌, ◌≤◌, ◌+◌, ℕ, zero, suc, Bool, true, false, List, [], ◌∷◌, ◌++◌, length, take, Option, None, Some, cond, get_or, slice_get, sym, refl, ap, ◌∙◌, subst, inl, inr, ⊎_elim, arith}
 use Rattle.std.specs.Prelude.{IsFalse}
 use Rattle.std.proofs.Math.Seq.{take-length}
 use Rattle.std.proofs.lemmas.List.{length-append}
@@ -11,6 +11,8 @@ use Rattle.protocol_values.specs.declared.NackName.{NackName}
 use Rattle.protocol_values.specs.declared.Offer.{Offer}
 use Rattle.protocol_values.specs.declared.Row.{Row}
 use Rattle.script_tree.specs.Processes.{Proc}
+use Rattle.script_tree.specs.Spawning.{spawner_from, spawns_block}
+use Rattle.script_tree.specs.Trees.{Block}
 use Rattle.thread.specs.After.{Chosen}
 use Rattle.thread.specs.Machines.{Broken, IsOpen, Open, Over, Phase, Ready, SameProcess, StartsAs, Stuck, Tells, Thread, nacks_in, offers_in}
 use Rattle.thread.specs.declared.machine.Turn.TheVariants as turn
@@ -31,7 +33,7 @@ use Rattle.cell_table.specs.declared.view.Seen.{Seen}
 use Rattle.cell_table.specs.Sight.{Has, see_bound}
 use Rattle.runtime.specs.declared.resident.Suspended.{Suspended}
 use Rattle.runtime.proofs.Rising.{after_rises, Rises, rises_once}
-use Rattle.runtime.specs.Machines.{AreBound, AreFirst, IsNow, IsOfAny, IsTable, LeavesOthers, StandsFor}
+use Rattle.runtime.specs.Machines.{AreBound, AreFirst, HasSpawned, IsNow, IsOfAny, IsTable, KnowsLater, LeavesOthers, NoneSpawns, StandsFor}
 
 -- WHAT OTHER THREADS ARE LEFT WITH
 
@@ -98,6 +100,26 @@ open_is Broken h = absurd h
 
 -- THE LEDGER
 
+-- where no process's text spawns it, a process has no spawner
+none-spawns : (t s : ℕ) (ps : List Proc) → ((i : ℕ) (p : Proc) → slice_get ps i ≡ Some p → spawns_block t p.body ≡ false) → spawner_from t s ps ≡ None
+none-spawns t s [] none = refl
+none-spawns t s (p ∷ ps) none =
+    ap (λ (b : Bool). cond b (Some s) (spawner_from t (s + 1) ps)) (none 0 p refl)
+    ∙ none-spawns t (s + 1) ps (λ i q e. none (suc i) q e)
+
+no-text : (ps : List Proc) (first : List Suspended) (t : ℕ) → AreFirst ps first → NoneSpawns first t → (i : ℕ) (p : Proc) → slice_get ps i ≡ Some p → spawns_block t p.body ≡ false
+no-text ps first t are none i p e =
+    let low : i < length first = omega (arith, slice_get_within ps i p e, are.0) in
+    let m = machine-at first i low in
+    let f = are.1 i m.0 m.1 in
+    let same : f.0 ≡ p = same_Some f.0 p (sym f.1 ∙ e) in
+    ap (λ (b : Block). spawns_block t b) (sym (f.2.body ∙ ap (λ (q : Proc). q.body) same)) ∙ none i m.0 m.1
+  where
+    machine-at : (l : List Suspended) (j : ℕ) → j < length l → (m : Suspended) × (slice_get l j ≡ Some m)
+    machine-at [] j lt = absurd (omega (arith, lt))
+    machine-at (x ∷ xs) zero lt = (x, refl)
+    machine-at (x ∷ xs) (suc j) lt = machine-at xs j (omega (arith, lt))
+
 pub offers_as : (ps : List Proc) (first : List Suspended) (t : ℕ) (results : List Chosen) (os : List Offer) (ns : List ℕ) → AreFirst ps first → SomeStands StandsFor first t results os ns → ProcessOffers ps t results os ns
 offers_as ps first t results os ns are (m, (is, phase)) =
     let f = are.1 t is.start is.is_first in
@@ -113,6 +135,7 @@ offers_as ps first t results os ns are (m, (is, phase)) =
       };
       are = opens.offers;
       scopes = opens.nacks;
+      at_once = none-spawns t 0 ps (no-text ps first t are is.at_once);
     }
   where
     offers_there : (p : Proc) (m s : Thread) → StartsAs p t s → SameProcess s m → m.results ≡ results → (o : Rattle.thread.specs.Machines.OpensWith m os ns) → Rattle.thread.specs.After.after p.body (length p.variables) t results ≡ Rattle.thread.specs.After.Offers o.tree (Rattle.thread.specs.Machines.said_in m)
@@ -146,6 +169,13 @@ empty_ledger = (
   λ ps. stands-ledger (ProcessOffers ps) (start_world 1 1 1).table (stands-start (ProcessOffers ps) 1 1 1),
   refl,
 )
+
+-- what the processes spawn, their machines' texts do
+pub knows-later : (ps : List Proc) (first : List Suspended) (later : ℕ) → AreFirst ps first
+    → HasSpawned ps later → KnowsLater first later
+knows-later ps first later are none t low bit s m is =
+    let f = are.1 s m is in
+    ap (spawns_block t) f.2.body ∙ none t s f.0 low bit f.1
 
 -- one machine more, of the next process
 pub first_more : (ps : List Proc) (first : List Suspended) (t : ℕ) (p : Proc) (m : Suspended)

@@ -1,10 +1,12 @@
 -- The machines that stand for the threads, and what a worker knows of one.
-use Rattle.std.specs.Prelude.{◌≡◌, ◌≢◌, ◌⊎◌, ◌<◌, ◌≤◌, ℕ, List, [], ◌∷◌, length, Some, slice_get}
+use Rattle.std.specs.Prelude.{◌≡◌, ◌≢◌, ◌⊎◌, ◌<◌, ◌≤◌, ℕ, List, [], ◌∷◌, length, false, Some, slice_get}
 use Rattle.protocol_values.specs.declared.Binding.{Binding}
 use Rattle.protocol_values.specs.declared.NackName.{NackName}
 use Rattle.protocol_values.specs.declared.Offer.{Offer}
 use Rattle.protocol_values.specs.declared.Row.{Row}
 use Rattle.script_tree.specs.Processes.{Proc}
+use Rattle.script_tree.specs.Spawning.{has_bit, spawns_block}
+use Rattle.script_tree.specs.Trees.{block_of}
 use Rattle.thread.specs.After.{Chosen}
 use Rattle.thread.specs.Machines.{IsAfter, Open, SameProcess, StartsAs}
 use Rattle.thread.specs.Ranges.{BaseIsIn, ResultsAreIn}
@@ -20,7 +22,19 @@ use Rattle.cell_table.specs.Sight.{Has}
 use Rattle.runtime.specs.declared.resident.Suspended.{Suspended}
 use Rattle.runtime.specs.declared.turns.Taken.{Taken}
 
--- the machine runs the process of the thread's first one, and stands where it leads after these results, which words have room for
+-- no text of these machines' processes spawns the thread
+abbrev pub NoneSpawns : List Suspended → ℕ → Type 0
+NoneSpawns first t = (s : ℕ) (m : Suspended) → slice_get first s ≡ Some m → spawns_block t (block_of m.machine.value.body) ≡ false
+
+-- the mask has a bit for each thread that one of them spawns
+abbrev pub KnowsLater : List Suspended → ℕ → Type 0
+KnowsLater first later = (t : ℕ) → t < 64 → has_bit later t ≡ false → NoneSpawns first t
+
+-- so it is with the processes themselves
+abbrev pub HasSpawned : List Proc → ℕ → Type 0
+HasSpawned ps later = (t s : ℕ) (p : Proc) → t < 64 → has_bit later t ≡ false → slice_get ps s ≡ Some p → spawns_block t p.body ≡ false
+
+-- No machine's process spawns the thread; the machine runs the process of the thread's first one, and stands where it leads after these results, which words have room for
 pub record IsMachineOf (first : List Suspended) (m : Suspended) (t : ℕ) (results : List Chosen) : Type 0 where
   pub start : Suspended
   pub is_first : slice_get first t ≡ Some start
@@ -28,6 +42,7 @@ pub record IsMachineOf (first : List Suspended) (m : Suspended) (t : ℕ) (resul
   pub given : m.machine.value.results ≡ results
   pub after : IsAfter m.machine.value
   pub in_range : ResultsAreIn results
+  pub at_once : NoneSpawns first t
 
 -- and offers these there, with these nacks of its scopes
 abbrev pub StandsFor : List Suspended → Suspended → ℕ → List Chosen → List Offer → List ℕ → Type 0

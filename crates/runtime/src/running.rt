@@ -8,7 +8,7 @@ ghost use Rattle.journal_order.specs.Ledgers.{IsLedgerOf};
 ghost use Rattle.journal.specs.Records.{Completes};
 ghost use Rattle.runtime.specs.Headline.{TellsMaximalRun};
 ghost use Rattle.runtime.specs.Limits.{AreRows, AreWorkers};
-ghost use Rattle.runtime.specs.Machines.{AreFirst, IsOfAny};
+ghost use Rattle.runtime.specs.Machines.{AreFirst, HasSpawned, IsOfAny};
 ghost use Rattle.runtime.specs.declared.fault.RunFault.TheVariants.{Workers, Rows};
 
 use crate::activity::Activity;
@@ -26,7 +26,7 @@ use meet::Meet;
 use meet_queues::Ready;
 use protocol::{Ledger, World};
 use script::Script;
-use script_tree::Proc;
+use script_tree::{Proc, spawned};
 use std::alloc::Global;
 use std::sync::Wait;
 use std::thread::Threads;
@@ -71,6 +71,17 @@ fn first_machines(alloc: Global, processes: &[Proc]) -> Result<Vec<Suspended>, H
     Ok(first)
 }
 
+/// The processes that one of these spawns: bit t is set where one spawns process t.
+fn later(processes: &[Proc]) -> u64
+    ensures { HasSpawned (map proc_of processes.now) result }
+{
+    let mut later = 0;
+    for process in processes {
+        later |= spawned(process.body());
+    }
+    later
+}
+
 /// The workers over a table of their own, which is closed at their end. It has no more rows than the
 /// processes can use. Each of its rows was opened as its process offers there.
 fn work_within<R: Threads + Wait + Sync, G: Gate + StepGate + Sync>(
@@ -98,6 +109,7 @@ fn work_within<R: Threads + Wait + Sync, G: Gate + StepGate + Sync>(
         ready,
         activity: Activity::new(usize::from(workers)),
         notes: Notes::new(alloc, processes.len())?,
+        later: later(processes),
     };
     let used = rows_used(processes, rows);
     let (cells, passes) = Cells::with_machines(alloc, first, used, workers)?;
