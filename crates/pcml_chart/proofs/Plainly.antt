@@ -83,4 +83,4 @@ messages_plain s spelled (Three a b c) has =
 pub causes_plain : CausesArePlain
 causes_plain s spelled (causes.Always m) has = plain_both (codes "always ") (message_text (named s) m) refl (messages_plain s spelled m has)
 causes_plain s spelled (causes.Nack n) has = plain_both (codes "cancelled ") (nack_text (named s) n) refl (nack_plain s spelled n has)
-causes_plain s spelled (causes.End t) has = absurd has
+causes_plain s spelled (causes.End t) has = plain_both (codes "joined ") ((named s).thread t) refl (names_plain s spelled t).0

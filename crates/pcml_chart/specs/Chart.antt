@@ -1,5 +1,5 @@
 -- A chart: what its text is, and of which commits.
-use Rattle.std.specs.Prelude.{◌≡◌, ◌+◌, ◌*◌, ◌==◌, ℕ, zero, suc, Bool, true, false, if◌then◌else◌, List, [], ◌++◌, length, codes, Option, Some, slice_get, get_or, nat_le}
+use Rattle.std.specs.Prelude.{◌≡◌, ◌+◌, ◌*◌, ◌==◌, ℕ, zero, suc, Bool, true, false, if◌then◌else◌, List, [], ◌++◌, length, codes, get_or, nat_le}
 use Rattle.std.specs.Fmt.{decimal}
 use Rattle.std.specs.List.{flat_map}
 use Rattle.protocol_values.specs.declared.Commit.{Commit}
@@ -7,20 +7,20 @@ use Rattle.protocol_values.specs.declared.NackName.{NackName}
 use Rattle.script.specs.Sources.{Script}
 use Rattle.journal_text.specs.Names.{Naming, named}
 use Rattle.journal_replay.specs.Ends.{end_text}
-use Rattle.journal_replay.specs.Replays.{EndsOf, TellsFired}
+use Rattle.journal_replay.specs.Replays.{EndsOf, TellsEnded, TellsFired}
 use Rattle.journal_replay.specs.declared.end.End.{End}
 use Rattle.journal_replay.specs.declared.end.End.TheVariants.{Ended}
 use Rattle.journal_replay.specs.declared.state.State.{State}
-use Rattle.pcml_chart.specs.Marks.{centered, mark, starting, text_end}
+use Rattle.pcml_chart.specs.Marks.{Stamps, centered, mark, starting, text_end}
 use Rattle.pcml_chart.specs.Places.{bottom, column}
 use Rattle.pcml_chart.specs.Range.{IsEnd, greatest, shown}
 
--- what is drawn: the names, how each process stands, the stamps at which nacks were enabled, the commits that are shown of how many,
--- and whether the range was cut
+-- what is drawn: the names, how each process stands, the stamps at which nacks were enabled and processes ended, the commits that
+-- are shown of how many, and whether the range was cut
 pub record Picture : Type 0 where
   pub names : Naming
   pub ends : List End
-  pub fired : NackName → Option ℕ
+  pub stamps : Stamps
   pub commits : List Commit
   pub total : ℕ
   pub from : ℕ
@@ -108,7 +108,7 @@ lifelines p = each_below (length p.ends) (lifeline p.names (low_of p))
 
 -- one for each commit that is shown, in their order
 abbrev pub marks : Picture → List ℕ
-marks p = flat_map (mark p.names p.fired p.from) p.commits
+marks p = flat_map (mark p.names p.stamps p.from) p.commits
 
 abbrev pub end_marks : Picture → List ℕ
 end_marks p = each_below (length p.ends) (end_mark p.ends (low_of p))
@@ -125,6 +125,7 @@ pub record IsChart (s : Script) (state : State) (commits : List Commit) (from to
   pub range : IsEnd from to commits below
   pub ends : List End
   pub tells_ends : EndsOf state ends
-  pub fired : NackName → Option ℕ
-  pub tells_fired : (n : NackName) → TellsFired state n (fired n)
-  pub is : text ≡ picture_text (record { names = named s; ends = ends; fired = fired; commits = shown from below commits; total = length commits; from = from; is_cut = nat_le below to })
+  pub stamps : Stamps
+  pub tells_fired : (n : NackName) → TellsFired state n (stamps.fired n)
+  pub tells_ended : (t : ℕ) → TellsEnded state t (stamps.ended t)
+  pub is : text ≡ picture_text (record { names = named s; ends = ends; stamps = stamps; commits = shown from below commits; total = length commits; from = from; is_cut = nat_le below to })

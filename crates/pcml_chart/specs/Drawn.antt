@@ -1,9 +1,14 @@
 -- The picture that the code holds in parts.
-use Rattle.std.specs.Prelude.{ℕ, Option}
-use Rattle.protocol_values.specs.declared.NackName.{NackName}
 use Rattle.journal_text.specs.Names.{Naming}
+use Rattle.journal_replay.specs.Replays.{ended_by, fired_by}
+use Rattle.journal_replay.specs.declared.state.State.{State}
 use Rattle.pcml_chart.specs.Chart.{Picture}
+use Rattle.pcml_chart.specs.Marks.{Stamps}
 use Rattle.pcml_chart.specs.declared.chart.Drawing.{Drawing}
 
-abbrev pub picture_of : Naming → (NackName → Option ℕ) → Drawing → Picture
-picture_of names fired d = record { names = names; ends = d.ends.now; fired = fired; commits = d.commits.now; total = d.total; from = d.from; is_cut = d.is_cut }
+-- the stamps that a state has
+abbrev pub stamps_of : State → Stamps
+stamps_of s = record { fired = fired_by s; ended = ended_by s }
+
+abbrev pub picture_of : Naming → Stamps → Drawing → Picture
+picture_of names stamps d = record { names = names; ends = d.ends.now; stamps = stamps; commits = d.commits.now; total = d.total; from = d.from; is_cut = d.is_cut }

@@ -1,11 +1,11 @@
 //! The whole chart.
 
-ghost use Rattle.std.specs.Prelude.{◌≡◌, ◌++◌, ◌≤◌, IfOk, OnOk, length};
+ghost use Rattle.std.specs.Prelude.{◌≡◌, ◌≤◌, IfOk, length};
 ghost use Rattle.std.specs.String.{string_bytes};
 ghost use Rattle.script.specs.Scripts.{script_of};
-ghost use Rattle.journal_replay.specs.Replays.{fired_by, thread_count};
+ghost use Rattle.journal_replay.specs.Replays.{thread_count};
 ghost use Rattle.pcml_chart.specs.Chart.{IsChart, picture_text};
-ghost use Rattle.pcml_chart.specs.Drawn.{picture_of};
+ghost use Rattle.pcml_chart.specs.Drawn.{picture_of, stamps_of};
 ghost use Rattle.pcml_chart.specs.Plain.{NamesArePlain, MessagesArePlain, CausesArePlain};
 ghost use Rattle.journal_text.specs.Names.{named};
 
@@ -35,7 +35,7 @@ fn picture_text(
     drawing: &Drawing<'_>,
 ) -> Result<String, AllocError>
     requires { length drawing.now.ends.now ≤ 64 }
-    ensures { IfOk result (λ text. string_bytes text ≡ picture_text (picture_of (named (script_of script.now)) (fired_by state.now) drawing.now)) }
+    ensures { IfOk result (λ text. string_bytes text ≡ picture_text (picture_of (named (script_of script.now)) (stamps_of state.now) drawing.now)) }
 {
     let last = greatest(drawing.commits);
     let low = bottom(drawing.from, last);

@@ -3,8 +3,9 @@
 ghost use Rattle.std.specs.Prelude.{◌<◌, ◌^◌, OnOk};
 ghost use Rattle.std.specs.List.{flat_map};
 ghost use Rattle.script.specs.Scripts.{script_of};
-ghost use Rattle.journal_replay.specs.Replays.{fired_by};
-ghost use Rattle.pcml_chart.specs.Marks.{arrow, cause_line, dashes, dot, mark, nack_line, stamp_text};
+ghost use Rattle.journal_replay.specs.Replays.{ended_by, fired_by};
+ghost use Rattle.pcml_chart.specs.Drawn.{stamps_of};
+ghost use Rattle.pcml_chart.specs.Marks.{arrow, cause_line, dashes, dot, end_line, mark, nack_line, stamp_text};
 ghost use Rattle.journal_text.specs.Names.{named};
 ghost use Rattle.script.specs.Appending.{Adds};
 
@@ -62,6 +63,28 @@ fn push_nack_line(
     }
 }
 
+/// The dashed line to a commit alone by the end of a thread, from the last commit that counts for that end.
+fn push_end_line(
+    out: &mut String,
+    state: &State,
+    from: u32,
+    thread: u8,
+    x: u64,
+    y: u64,
+) -> Result<(), AllocError>
+    ensures { OnOk result (Adds out.old out.new (end_line from thread (ended_by state.now thread) x y)) }
+{
+    match state.ended(thread) {
+        Some(stamp) => {
+            if stamp == 0 {
+                return Ok(());
+            }
+            push_dashes(out, column(thread), height(from, stamp), x, y)
+        }
+        None => Ok(()),
+    }
+}
+
 fn push_cause_line(
     out: &mut String,
     state: &State,
@@ -70,11 +93,12 @@ fn push_cause_line(
     x: u64,
     y: u64,
 ) -> Result<(), AllocError>
-    ensures { OnOk result (Adds out.old out.new (cause_line (fired_by state.now) from cause x y)) }
+    ensures { OnOk result (Adds out.old out.new (cause_line (stamps_of state.now) from cause x y)) }
 {
     match cause {
-        Cause::Always(_) | Cause::End(_) => Ok(()),
+        Cause::Always(_) => Ok(()),
         Cause::Nack(nack) => push_nack_line(out, state, from, nack, x, y),
+        Cause::End(thread) => push_end_line(out, state, from, thread, x, y),
     }
 }
 
@@ -86,7 +110,7 @@ fn push_mark(
     from: u32,
     commit: &Commit,
 ) -> Result<(), AllocError>
-    ensures { OnOk result (Adds out.old out.new (mark (named (script_of script.now)) (fired_by state.now) from commit.now)) }
+    ensures { OnOk result (Adds out.old out.new (mark (named (script_of script.now)) (stamps_of state.now) from commit.now)) }
 {
     match *commit {
         Commit::Pair {
@@ -125,7 +149,7 @@ pub(crate) fn push_marks(
     from: u32,
     commits: &[Commit],
 ) -> Result<(), AllocError>
-    ensures { OnOk result (Adds out.old out.new (flat_map (mark (named (script_of script.now)) (fired_by state.now) from) commits.now)) }
+    ensures { OnOk result (Adds out.old out.new (flat_map (mark (named (script_of script.now)) (stamps_of state.now) from) commits.now)) }
 {
     for commit in commits {
         push_mark(out, script, state, from, commit)?;

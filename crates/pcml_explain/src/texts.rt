@@ -40,7 +40,10 @@ pub(crate) const UNKNOWN_NAME: &str = "\
 fault 12 line L: a name on line L of the script stands for nothing
 example: pcml check FILE tells line 1, since nothing binds x, where FILE is
   process a { print x; }
-what to do: bind the name or declare the channel before it is read, or correct how it is spelled.
+Behind `spawn` and `joined` stands the name of a process whose block has ended before: no process names
+itself, or one that stands behind it.
+what to do: bind the name, declare the channel or write the process before it is read, or correct how the
+name is spelled.
 ";
 
 pub(crate) const TWICE: &str = "\
@@ -48,7 +51,8 @@ fault 13 line L: a name on line L of the script stands for something already
 example: pcml check FILE tells line 2, since c is a channel already, where FILE is
   channel c;
   channel c;
-what to do: give one of the two another name.
+It is told of a second `spawn` of one process too, wherever in the script the first stands.
+what to do: give one of the two another name, or spawn the process at one place alone.
 ";
 
 pub(crate) const TOO_MANY: &str = "\

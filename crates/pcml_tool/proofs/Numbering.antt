@@ -43,7 +43,7 @@ pub numbered-unbroken : (ps : List Proc) (rows : ℕ) (journal : List Commit) (s
 numbered-unbroken ps rows journal state index stands = run-unbroken (numbered_all 1 ps) rows journal index ((same_runs 1 ps rows journal).0 stands.run)
 
 pub threads-numbered : (ps : List Proc) (rows : ℕ) (journal : List Commit) (state standing : State) → StandsAfter ps rows journal state → StandsAfter (numbered_all 1 ps) rows journal standing → thread_count standing ≡ thread_count state
-threads-numbered ps rows journal state standing stands follows = follows.strands.count ∙ length-numbered 1 ps ∙ sym stands.strands.count
+threads-numbered ps rows journal state standing stands follows = follows.strands.stands.count ∙ length-numbered 1 ps ∙ sym stands.strands.stands.count
 
 pub few-seen : (seen : List SeenProc) (n : ℕ) (ps : List Proc) → map proc_of seen ≡ numbered_all n ps → length ps ≤ 64 → length seen ≤ 64
 few-seen seen n ps is few = subst (λ (m : ℕ). m ≤ 64) (sym (length-seen seen n ps is)) few

@@ -30,7 +30,7 @@ all_processes names s n text (standing, holds, is) all = record {
 
 stand_as : (ps : List Proc) (rows : ℕ) (journal : List Commit) (s : State) (standing : List Standing) → StandsAfter ps rows journal s → TellsStanding s standing → StandAs ps rows (config_of journal) standing
 stand_as ps rows journal s standing stands tells = record {
-  count = tells.count ∙ stands.strands.count;
+  count = tells.count ∙ stands.strands.stands.count;
   each = λ t p is.
       let told = tells.each t p is in
       let end = told.1 ps rows journal stands in

@@ -53,12 +53,12 @@ could_offer side name (p ∷ tokens) = (begins side p.0 && is_first_called name 
 
 -- WHO WAITS FOR WHOM
 
--- process b could meet the offer; or the offer waits for a nack of b, and its sync is open
+-- process b could meet the offer; or the offer waits for a nack of b, and its sync is open, or for the end of b
 abbrev pub could_serve : Naming → List (List (Token × ℕ)) → List Site → ℕ → Base → Bool
 could_serve names parts sites b (Send c m) = could_offer Receives (names.channel c) (get_or parts b [])
 could_serve names parts sites b (Recv c) = could_offer Sends (names.channel c) (get_or parts b [])
 could_serve names parts sites b (OnNack n) = (n.thread == b) && is_open sites n
-could_serve names parts sites b (OnEnd t) = false
+could_serve names parts sites b (OnEnd t) = t == b
 could_serve names parts sites b (Always m) = false
 could_serve names parts sites b Never = false
 

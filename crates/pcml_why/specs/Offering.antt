@@ -7,7 +7,6 @@ use Rattle.journal_replay.specs.declared.end.End.{End}
 use Rattle.journal_replay.specs.declared.end.End.TheVariants.{Waiting}
 use Rattle.pcml_why.specs.declared.site.Site.{Site}
 use Rattle.protocol_values.specs.declared.Side.{Side}
-use Rattle.protocol_values.specs.declared.Side.TheVariants.{Sends, Receives}
 
 abbrev pub is_waiting : End → Bool
 is_waiting Waiting = true

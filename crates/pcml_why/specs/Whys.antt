@@ -13,9 +13,9 @@ use Rattle.protocol_values.specs.declared.Offer.{Offer}
 use Rattle.script.specs.Sources.{Script}
 use Rattle.journal_text.specs.Names.{Naming, named}
 use Rattle.journal_text.specs.Texts.{message_text, nack_text}
-use Rattle.journal_replay.specs.Replays.{TellsEnabled, TellsEnd, TellsFired, TellsOpen, TellsOutput, thread_count}
+use Rattle.journal_replay.specs.Replays.{TellsEnabled, TellsEnd, TellsEnded, TellsFired, TellsOpen, TellsOutput, ended_by, fired_by, thread_count}
 use Rattle.journal_replay.specs.declared.end.End.{End}
-use Rattle.journal_replay.specs.declared.end.End.TheVariants.{Ended, Waiting, Spent, Faulted}
+use Rattle.journal_replay.specs.declared.end.End.TheVariants.{Ended, Waiting, Spent, Faulted, Unstarted}
 use Rattle.journal_replay.specs.declared.state.State.{State}
 use Rattle.script_token.specs.Lexemes.{placed_tokens}
 use Rattle.pcml_why.specs.Knots.{IsKnot, parts_below, waits_for}
@@ -23,6 +23,16 @@ use Rattle.pcml_why.specs.Lines.{line_of, statement_lines}
 use Rattle.pcml_why.specs.Offering.{is_open, is_waiting, others}
 use Rattle.pcml_why.specs.declared.site.Site.{Site}
 use Rattle.protocol_values.specs.declared.Side.TheVariants.{Sends, Receives}
+
+-- STAMPS
+
+-- the stamps of the nacks that are fired, and of the processes that ended
+pub record Stamps : Type 0 where
+  pub fired : NackName → Option ℕ
+  pub ended : ℕ → Option ℕ
+
+abbrev pub stamps_of : State → Stamps
+stamps_of s = record { fired = fired_by s; ended = ended_by s }
 
 -- THE TEXT OF AN OFFER
 
@@ -71,17 +81,34 @@ abbrev pub nack_state_text : Naming → List Site → NackName → Option ℕ �
 nack_state_text names sites n (Some stamp) = codes "enabled by " ++ names.thread n.thread ++ codes " at " ++ decimal stamp
 nack_state_text names sites n None = sync_words ++ names.thread n.thread ++ unfired_text (is_open sites n)
 
--- what would let the offer be taken
-abbrev pub chance_text : Naming → (NackName → Option ℕ) → List Site → ℕ → Base → List ℕ
-chance_text names fired sites t (Send c m) = partners_text names (others sites Receives c t) (others sites Sends c t)
-chance_text names fired sites t (Recv c) = partners_text names (others sites Sends c t) (others sites Receives c t)
-chance_text names fired sites t (Always m) = codes "may be taken"
-chance_text names fired sites t (OnNack n) = nack_state_text names sites n (fired n)
-chance_text names fired sites t (OnEnd u) = names.thread u ++ codes " has not ended"
-chance_text names fired sites t Never = codes "is never taken"
+-- how a process stands that has not ended
+abbrev pub unended_text : End → List ℕ
+unended_text Ended = codes " ended"
+unended_text Waiting = codes " waits"
+unended_text Spent = codes " is spent"
+unended_text (Faulted fault) = codes " faulted"
+unended_text Unstarted = codes " has not started"
 
-abbrev pub offer_line : Naming → (NackName → Option ℕ) → List Site → ℕ → Offer → List ℕ
-offer_line names fired sites t o = codes "  " ++ offer_text names o.base ++ codes ": " ++ chance_text names fired sites t o.base ++ 10 ∷ []
+abbrev pub unended_at : Option Site → List ℕ
+unended_at None = []
+unended_at (Some s) = unended_text s.end
+
+-- whether a process ended, by a stamp, or how it stands
+abbrev pub end_state_text : Naming → List Site → ℕ → Option ℕ → List ℕ
+end_state_text names sites u (Some stamp) = codes "ended at " ++ decimal stamp
+end_state_text names sites u None = names.thread u ++ unended_at (slice_get sites u)
+
+-- what would let the offer be taken
+abbrev pub chance_text : Naming → Stamps → List Site → ℕ → Base → List ℕ
+chance_text names stamps sites t (Send c m) = partners_text names (others sites Receives c t) (others sites Sends c t)
+chance_text names stamps sites t (Recv c) = partners_text names (others sites Sends c t) (others sites Receives c t)
+chance_text names stamps sites t (Always m) = codes "may be taken"
+chance_text names stamps sites t (OnNack n) = nack_state_text names sites n (stamps.fired n)
+chance_text names stamps sites t (OnEnd u) = end_state_text names sites u (stamps.ended u)
+chance_text names stamps sites t Never = codes "is never taken"
+
+abbrev pub offer_line : Naming → Stamps → List Site → ℕ → Offer → List ℕ
+offer_line names stamps sites t o = codes "  " ++ offer_text names o.base ++ codes ": " ++ chance_text names stamps sites t o.base ++ 10 ∷ []
 
 -- THE TEXT OF A PROCESS
 
@@ -105,26 +132,27 @@ abbrev pub stand_text : ℕ → ℕ → End → List ℕ
 stand_text rows line Ended = codes " ended\n"
 stand_text rows line Waiting = codes " waits at line " ++ decimal line ++ 10 ∷ []
 stand_text rows line Spent = spent_text line ++ syncs_text rows
+stand_text rows line Unstarted = codes " has not started\n"
 stand_text rows line (Faulted fault) = codes " faulted at line " ++ decimal line ++ codes ": " ++ fault_text fault ++ 10 ∷ []
 
 -- the offers of a process that waits, each on a line of its own
-abbrev pub offers_text : Naming → (NackName → Option ℕ) → List Site → ℕ → Site → List ℕ
-offers_text names fired sites t s = if is_waiting s.end then flat_map (offer_line names fired sites t) s.offers.now else []
+abbrev pub offers_text : Naming → Stamps → List Site → ℕ → Site → List ℕ
+offers_text names stamps sites t s = if is_waiting s.end then flat_map (offer_line names stamps sites t) s.offers.now else []
 
-abbrev pub site_text : Naming → (NackName → Option ℕ) → ℕ → List Site → ℕ → Site → List ℕ
-site_text names fired rows sites t s = names.thread t ++ stand_text rows s.line s.end ++ offers_text names fired sites t s
+abbrev pub site_text : Naming → Stamps → ℕ → List Site → ℕ → Site → List ℕ
+site_text names stamps rows sites t s = names.thread t ++ stand_text rows s.line s.end ++ offers_text names stamps sites t s
 
-abbrev pub text_at : Naming → (NackName → Option ℕ) → ℕ → List Site → ℕ → Option Site → List ℕ
-text_at names fired rows sites t None = []
-text_at names fired rows sites t (Some s) = site_text names fired rows sites t s
+abbrev pub text_at : Naming → Stamps → ℕ → List Site → ℕ → Option Site → List ℕ
+text_at names stamps rows sites t None = []
+text_at names stamps rows sites t (Some s) = site_text names stamps rows sites t s
 
 -- the first so many processes
-abbrev pub sites_below : Naming → (NackName → Option ℕ) → ℕ → List Site → ℕ → List ℕ
-sites_below names fired rows sites zero = []
-sites_below names fired rows sites (suc t) = sites_below names fired rows sites t ++ text_at names fired rows sites t (slice_get sites t)
+abbrev pub sites_below : Naming → Stamps → ℕ → List Site → ℕ → List ℕ
+sites_below names stamps rows sites zero = []
+sites_below names stamps rows sites (suc t) = sites_below names stamps rows sites t ++ text_at names stamps rows sites t (slice_get sites t)
 
-abbrev pub why_text : Naming → (NackName → Option ℕ) → ℕ → List Site → List ℕ
-why_text names fired rows sites = sites_below names fired rows sites (length sites)
+abbrev pub why_text : Naming → Stamps → ℕ → List Site → List ℕ
+why_text names stamps rows sites = sites_below names stamps rows sites (length sites)
 
 -- THE LAST LINE
 
@@ -160,10 +188,11 @@ pub record AreSites (state standing : State) (lines : List ℕ) (sites : List Si
 pub record IsWhy (script : Script) (state standing : State) (source : List ℕ) (rows : ℕ) (text : List ℕ) : Type 0 where
   pub sites : List Site
   pub are : AreSites state standing (statement_lines source) sites
-  pub fired : NackName → Option ℕ
-  pub tells_fired : (n : NackName) → TellsFired state n (fired n)
+  pub stamps : Stamps
+  pub tells_fired : (n : NackName) → TellsFired state n (stamps.fired n)
+  pub tells_ended : (t : ℕ) → TellsEnded state t (stamps.ended t)
   pub next : Option Commit
   pub tells_next : TellsEnabled state next
   pub knot : List ℕ
   pub is_knot : IsKnot (length sites) (waits_for (named script) (parts_below (placed_tokens source) (length sites)) sites) knot
-  pub is : text ≡ why_text (named script) fired rows sites ++ last_text (named script) next knot
+  pub is : text ≡ why_text (named script) stamps rows sites ++ last_text (named script) next knot

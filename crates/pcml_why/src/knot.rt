@@ -1,6 +1,6 @@
 //! Which processes wait for one another.
 
-ghost use Rattle.std.specs.Prelude.{◌≡◌, ◌==◌, ◌&&◌, ◌<◌, ◌≤◌, ◌++◌, ℕ, IfOk, OnOk, MatchOption, length, map, get_or, slice_get, true, false};
+ghost use Rattle.std.specs.Prelude.{◌≡◌, ◌==◌, ◌&&◌, ◌<◌, ◌≤◌, ◌++◌, ℕ, IfOk, OnOk, MatchOption, length, map, get_or, true, false};
 ghost use Rattle.std.specs.List.{list_any};
 ghost use Rattle.script.specs.Scripts.{script_of};
 ghost use Rattle.script_token.specs.Lexemes.{seen};
@@ -34,7 +34,8 @@ fn channel_name(script: &Script, chan: u8) -> &str
 }
 
 impl<'a> WaitGraph<'a> {
-    /// Whether process b could meet the offer, or holds its nack in a sync that is open.
+    /// Whether process b could meet the offer, holds its nack in a sync that is open, or is the one whose end it
+    /// waits for.
     fn could_serve(&self, b: usize, base: Base) -> bool
         requires { b < length self.now.parts.now }
         ensures { result ≡ could_serve (named (script_of self.now.script.now)) (map (λ p. seen p.now) self.now.parts.now) self.now.sites.now b base }
@@ -51,7 +52,8 @@ impl<'a> WaitGraph<'a> {
                 could_offer(Side::Sends, channel_name(self.script, chan), self.parts[b])
             }
             Base::OnNack(nack) => usize::from(nack.thread) == b && is_open(self.sites, nack),
-            Base::Always(_) | Base::OnEnd(_) | Base::Never => false,
+            Base::OnEnd(ended) => usize::from(ended) == b,
+            Base::Always(_) | Base::Never => false,
         }
     }
 

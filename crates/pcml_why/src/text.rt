@@ -4,12 +4,12 @@ ghost use Rattle.std.specs.Prelude.{◌≡◌, ◌<◌, ◌≤◌, IfOk, OnOk, l
 ghost use Rattle.std.specs.List.{flat_map};
 ghost use Rattle.std.specs.String.{string_bytes};
 ghost use Rattle.script.specs.Scripts.{script_of};
-ghost use Rattle.journal_replay.specs.Replays.{fired_by, thread_count};
+ghost use Rattle.journal_replay.specs.Replays.{thread_count};
 ghost use Rattle.script_token.specs.Lexemes.{seen};
 ghost use Rattle.pcml_why.specs.Knots.{IsKnot, parts_below, waits_for};
 ghost use Rattle.pcml_why.specs.Lines.{line_at};
 ghost use Rattle.pcml_why.specs.Offering.{others};
-ghost use Rattle.pcml_why.specs.Whys.{AreSites, IsWhy, also_text, also_words, chance_text, fault_text, knot_text, knot_words, last_text, listed, lone_text, nack_state_text, nobody_words, offer_line, offer_text, offers_text, partners_text, same_words, site_text, spent_text, stand_text, sync_words, syncs_text, syncs_word, unfired_text, why_text};
+ghost use Rattle.pcml_why.specs.Whys.{AreSites, IsWhy, also_text, also_words, chance_text, end_state_text, fault_text, knot_text, knot_words, last_text, listed, lone_text, nack_state_text, nobody_words, offer_line, offer_text, offers_text, partners_text, same_words, site_text, spent_text, stamps_of, stand_text, sync_words, syncs_text, syncs_word, unended_at, unended_text, unfired_text, why_text};
 ghost use Rattle.journal_text.specs.Names.{named};
 ghost use Rattle.script.specs.Appending.{Adds};
 
@@ -147,6 +147,28 @@ fn unfired_text(is_open: bool) -> &'static str
     if is_open { " is open" } else { " is not open" }
 }
 
+/// How a process stands that has not ended.
+fn unended_text(end: End) -> &'static str
+    ensures { result.now ≡ unended_text end }
+{
+    match end {
+        End::Ended => " ended",
+        End::Waiting => " waits",
+        End::Spent => " is spent",
+        End::Faulted(_) => " faulted",
+        End::Unstarted => " has not started",
+    }
+}
+
+fn unended_at(sites: &[Site<'_>], process: u8) -> &'static str
+    ensures { result.now ≡ unended_at (slice_get sites.now process) }
+{
+    match sites.get(usize::from(process)) {
+        Some(site) => unended_text(site.end),
+        None => "",
+    }
+}
+
 fn fault_text(fault: Fault) -> &'static str
     ensures { result.now ≡ fault_text fault }
 {
@@ -195,6 +217,7 @@ fn push_stand(out: &mut String, rows: u16, line: usize, end: End) -> Result<(), 
             out.push_str(fault_text(fault))?;
             out.push_str("\n")
         }
+        End::Unstarted => out.push_str(" has not started\n"),
     }
 }
 
@@ -222,6 +245,24 @@ impl Teller<'_> {
         }
     }
 
+    /// Whether a process ended, by a stamp, or how it stands.
+    fn push_end_state(
+        &self,
+        out: &mut String,
+        process: u8,
+        ended: Option<u32>,
+    ) -> Result<(), AllocError>
+        ensures { OnOk result (Adds out.old out.new (end_state_text (named (script_of self.now.script.now)) self.now.sites.now process ended)) }
+    {
+        match ended {
+            Some(stamp) => write!(out, "ended at {stamp}"),
+            None => {
+                push_thread(out, self.script, process)?;
+                out.push_str(unended_at(self.sites, process))
+            }
+        }
+    }
+
     /// What would let an offer on this side of the channel meet another.
     fn push_meeting(
         &self,
@@ -242,7 +283,7 @@ impl Teller<'_> {
     /// What would let the offer be taken.
     fn push_chance(&self, out: &mut String, thread: usize, base: Base) -> Result<(), AllocError>
         requires { length self.now.sites.now ≤ 64 }
-        ensures { OnOk result (Adds out.old out.new (chance_text (named (script_of self.now.script.now)) (fired_by self.now.state.now) self.now.sites.now thread base)) }
+        ensures { OnOk result (Adds out.old out.new (chance_text (named (script_of self.now.script.now)) (stamps_of self.now.state.now) self.now.sites.now thread base)) }
     {
         match base {
             Base::Send(chan, _) => {
@@ -253,10 +294,7 @@ impl Teller<'_> {
             }
             Base::Always(_) => out.push_str("may be taken"),
             Base::OnNack(nack) => self.push_nack_state(out, nack, self.state.fired(nack)),
-            Base::OnEnd(ended) => {
-                push_thread(out, self.script, ended)?;
-                out.push_str(" has not ended")
-            }
+            Base::OnEnd(ended) => self.push_end_state(out, ended, self.state.ended(ended)),
             Base::Never => out.push_str("is never taken"),
         }
     }
@@ -268,7 +306,7 @@ impl Teller<'_> {
         offer: &Offer,
     ) -> Result<(), AllocError>
         requires { length self.now.sites.now ≤ 64 }
-        ensures { OnOk result (Adds out.old out.new (offer_line (named (script_of self.now.script.now)) (fired_by self.now.state.now) self.now.sites.now thread offer.now)) }
+        ensures { OnOk result (Adds out.old out.new (offer_line (named (script_of self.now.script.now)) (stamps_of self.now.state.now) self.now.sites.now thread offer.now)) }
     {
         out.push_str("  ")?;
         push_offer(out, self.script, offer.base)?;
@@ -285,7 +323,7 @@ impl Teller<'_> {
         site: &Site<'_>,
     ) -> Result<(), AllocError>
         requires { length self.now.sites.now ≤ 64 }
-        ensures { OnOk result (Adds out.old out.new (offers_text (named (script_of self.now.script.now)) (fired_by self.now.state.now) self.now.sites.now thread site.now)) }
+        ensures { OnOk result (Adds out.old out.new (offers_text (named (script_of self.now.script.now)) (stamps_of self.now.state.now) self.now.sites.now thread site.now)) }
     {
         if !matches!(site.end, End::Waiting) {
             return Ok(());
@@ -305,7 +343,7 @@ impl Teller<'_> {
     ) -> Result<(), AllocError>
         requires few { length self.now.sites.now ≤ 64 }
         requires thread { thread < 64 }
-        ensures { OnOk result (Adds out.old out.new (site_text (named (script_of self.now.script.now)) (fired_by self.now.state.now) rows self.now.sites.now thread site.now)) }
+        ensures { OnOk result (Adds out.old out.new (site_text (named (script_of self.now.script.now)) (stamps_of self.now.state.now) rows self.now.sites.now thread site.now)) }
     {
         push_thread(out, self.script, thread as u8)?;
         push_stand(out, rows, site.line, site.end)?;
@@ -314,7 +352,7 @@ impl Teller<'_> {
 
     fn push_sites(&self, out: &mut String, rows: u16) -> Result<(), AllocError>
         requires { length self.now.sites.now ≤ 64 }
-        ensures { OnOk result (Adds out.old out.new (why_text (named (script_of self.now.script.now)) (fired_by self.now.state.now) rows self.now.sites.now)) }
+        ensures { OnOk result (Adds out.old out.new (why_text (named (script_of self.now.script.now)) (stamps_of self.now.state.now) rows self.now.sites.now)) }
     {
         for thread in 0..self.sites.len() {
             self.push_site(out, rows, thread, &self.sites[thread])?;

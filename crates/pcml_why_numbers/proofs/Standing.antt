@@ -1,5 +1,5 @@
 -- A numbered process that stands somewhere printed the number of that statement last.
-use Rattle.std.proofs.Common.{◌≡◌, ℕ, zero, suc, ◌+◌, ◌≤◌, List, [], ◌∷◌, ◌++◌, Option, None, Some, Result, Ok, Err, Bool, true, false, length, refl, sym, ap, ◌∙◌, subst, slice_get, inl, inr, arith}
+use Rattle.std.proofs.Common.{◌≡◌, ℕ, zero, suc, ◌+◌, ◌≤◌, List, [], ◌∷◌, ◌++◌, Option, None, Some, Result, Ok, Err, Bool, true, false, length, refl, sym, ap, ◌∙◌, subst, slice_get, inl, inr, ⊎_elim, arith}
 use Rattle.std.specs.Prelude.{◌⊎◌, nat_lt, nat_le, if◌then◌else◌, ⊤}
 use Rattle.event.specs.Tree.{Tree, wraps_at}
 use Rattle.script_tree.specs.Processes.{Proc}
@@ -13,9 +13,9 @@ use Rattle.thread.specs.Values.{expr_value, list_value, test_value, with_names}
 use Rattle.thread.specs.After.{Chosen, Said, State, Outcome, Goes, Offers, Finishes, Fails, Strays, ◌>>=◌, given, with_nack, received, Wrapping, Having, wrapped_once, wrapped, Formed, formed, committed, synced, synced_with, times, run_block, run_stmt, resolve, resolve_all, send_value, recv_value, always_value, cancelled_value, start, finished, after}
 use Rattle.journal_replay.specs.declared.end.End.{End}
 use Rattle.journal_replay.specs.declared.end.End.TheVariants as ends
-use Rattle.journal_replay.specs.Runs.{IsOffering, end_of}
+use Rattle.journal_replay.specs.Runs.{Config, EndsAs, IsOffering, end_of}
 use Rattle.pcml_why_numbers.specs.Numbered.{count_all, count_block, count_event, count_stmt, first_number, numbered_all, numbered_block, numbered_event, numbered_members, numbered_stmt, says_again}
-use Rattle.pcml_why_numbers.specs.Standing.{IsLast, MayFail, MayOffer, NumberedTellWhere, OffersAt, StandsAt, StandsSomewhere, listed_block, listed_event, listed_members, listed_stmt, sync_of}
+use Rattle.pcml_why_numbers.specs.Standing.{IsLast, IsStatementOf, MayFail, MayOffer, NumberedTellWhere, OffersAt, StandsAt, StandsSomewhere, listed_block, listed_event, listed_members, listed_stmt, sync_of}
 use Rattle.pcml_why_numbers.proofs.Following.{Both, FormedAlike, StatesAlike, event_both, stmt_both, turn}
 use Rattle.pcml_why_numbers.proofs.Listing.{HasIn, Numbers, all_numbers, block_counted, has_count, split_block, split_event, split_stmt}
 use Rattle.pcml_why_numbers.proofs.Running.{get_process, offers_unnumbered}
@@ -333,9 +333,13 @@ stands_at ps t results ends.Ended stmt somewhere offers fails = somewhere
 stands_at ps t results ends.Waiting stmt somewhere offers fails = offers tt
 stands_at ps t results ends.Spent stmt somewhere offers fails = offers tt
 stands_at ps t results (ends.Faulted fault) stmt somewhere offers fails = fails fault refl
+stands_at ps t results ends.Unstarted stmt somewhere offers fails = somewhere
 
-pub tell_where : NumberedTellWhere
-tell_where n ps rows t config end printed h somewhere =
+-- one that has started
+runs_where : (n : ℕ) (ps : List Proc) (rows t : ℕ) (config : Config) (end : End) (printed : List Atom) (h : EndsAs (numbered_all n ps) rows t config end printed) →
+    end_of rows (length (config t)) (after h.process.body (length h.process.variables) t (config t)) ≡ Some (end, printed) → StandsSomewhere end →
+    (number : ℕ) × (stmt : Stmt) × IsLast printed number × IsStatementOf n ps t number stmt × StandsAt ps t (config t) end stmt
+runs_where n ps rows t config end printed h told_end somewhere =
     let w = get_process n ps t h.process h.is_its in
     let p = w.0 in
     let first = first_number n ps t in
@@ -343,7 +347,7 @@ tell_where n ps rows t config end printed h somewhere =
     let results = config t in
     let listed = listed_block p.body in
     let one = after (numbered_block first p.body Stops) (length p.variables) t results in
-    let end_is : end_of rows (length results) one ≡ Some (end, printed) = subst (λ (q : Proc). end_of rows (length results) (after q.body (length q.variables) t results) ≡ Some (end, printed)) w.2 h.ends in
+    let end_is : end_of rows (length results) one ≡ Some (end, printed) = subst (λ (q : Proc). end_of rows (length results) (after q.body (length q.variables) t results) ≡ Some (end, printed)) w.2 told_end in
     let stopped = ends_tell (HasIn listed first) rows (length results) one end printed (after_tells first p.body (length p.variables) t results) end_is somewhere in
     let told = stopped.tells in
     let few = has_count listed told.has.0 told.stmt told.has.1 in
@@ -369,3 +373,9 @@ tell_where n ps rows t config end printed h somewhere =
       },
       stands_at ps t results end told.stmt somewhere offers fails,
     )
+
+pub tell_where : NumberedTellWhere
+tell_where n ps rows t config end printed h somewhere = ⊎_elim
+    (λ runs. runs_where n ps rows t config end printed h runs.1 somewhere)
+    (λ waits. absurd (subst StandsSomewhere waits.1 somewhere))
+    h.ends

@@ -1,6 +1,7 @@
 -- The numbered processes do what the processes do, whatever they print.
 use Rattle.std.specs.Prelude.{◌≡◌, ◌↔◌, ℕ, List, ⊤}
 use Rattle.script_tree.specs.Processes.{Proc}
+use Rattle.script_tree.specs.Spawning.{IsPlaced}
 use Rattle.script_tree.specs.Trees.{Block, Stops}
 use Rattle.thread.specs.After.{Chosen, State, Outcome, Offers, Finishes, Fails, Strays, after}
 use Rattle.protocol_values.specs.declared.Atom.{Atom}
@@ -23,6 +24,10 @@ abbrev pub NumberedIsAlike : Type 0
 NumberedIsAlike =
     (n : ℕ) (body : Block) (variables thread : ℕ) (results : List Chosen) →
     AreAlike (after (numbered_block n body Stops) variables thread results) (after body variables thread results)
+
+-- so spawners stand behind those that they spawn, where the processes' do
+abbrev pub NumberedIsPlaced : Type 0
+NumberedIsPlaced = (n : ℕ) (ps : List Proc) → IsPlaced ps → IsPlaced (numbered_all n ps)
 
 -- the numbered processes have the same runs
 abbrev pub NumberedRunsAreSame : Type 0

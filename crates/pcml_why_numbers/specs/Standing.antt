@@ -91,11 +91,15 @@ StandsAt ps t results ends.Ended stmt = ⊥
 StandsAt ps t results ends.Waiting stmt = OffersAt ps t results stmt
 StandsAt ps t results ends.Spent stmt = OffersAt ps t results stmt
 StandsAt ps t results (ends.Faulted fault) stmt = MayFail stmt fault
+StandsAt ps t results ends.Unstarted stmt = ⊥
 
--- a process that came to its end stands nowhere
+-- a process that came to its end, or that has not started, stands nowhere
 abbrev pub StandsSomewhere : End → Type 0
 StandsSomewhere ends.Ended = ⊥
-StandsSomewhere end = ⊤
+StandsSomewhere ends.Waiting = ⊤
+StandsSomewhere ends.Spent = ⊤
+StandsSomewhere (ends.Faulted fault) = ⊤
+StandsSomewhere ends.Unstarted = ⊥
 
 -- a numbered process that waits, made all its syncs or failed printed the number of a statement of its own last: the
 -- sync whose event it offers, or one that can fail so

@@ -11,7 +11,7 @@ state_text-requires c =
     let s = script_of c.args.script.now in
     let led : LeadsTo s c.args.rows c.args.journal.now c.in-Run.commits.items c.in-Run.state =
     subst (λ (r : Reached). Reaches s c.args.rows c.args.journal.now r) c.in-Run.is c.in_ok-commits.ensures.reached in
-    led.stands.strands.count
+    led.stands.strands.stands.count
 
 pub returns-in_ok-text-in-Run-clause-replayed : goal.returns-in_ok-text-in-Run-clause-replayed
 returns-in_ok-text-in-Run-clause-replayed c =

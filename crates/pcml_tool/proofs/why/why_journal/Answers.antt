@@ -1,9 +1,11 @@
 use Rattle.std.proofs.Common.{◌≡◌, ℕ, List, map, ap, ◌∙◌, subst, sym}
 use Rattle.script.specs.Scripts.{script_of}
 use Rattle.script_tree.specs.Processes.{Proc, proc_of}
+use Rattle.script_tree.specs.Spawning.{IsPlaced}
 use Rattle.script_tree.specs.declared.process.Proc.{Proc as SeenProc}
 use Rattle.protocol_values.specs.declared.Commit.{Commit}
 use Rattle.pcml_why_numbers.specs.Numbered.{numbered_all}
+use Rattle.pcml_why_numbers.proofs.Spawning.{is_placed}
 use Rattle.journal_replay.specs.Replays.{Refuses, StandsAfter}
 use Rattle.journal_replay.specs.Runs.{BreaksOffAt}
 use Rattle.journal_replay.specs.declared.state.ReplayFault.{ReplayFault}
@@ -13,8 +15,17 @@ use Rattle.pcml_tool.specs.declared.reach.Reached.{Reached}
 use Rattle.pcml_tool.proofs.Numbering.{few-seen, numbered-unbroken, threads-numbered}
 use Rattle.pcml_tool.proofs.why.why_journal.Goals as goal
 
-pub replay-requires : goal.replay-requires
-replay-requires c =
+pub replay-requires-clause-placed : goal.replay-requires-clause-placed
+replay-requires-clause-placed c =
+    let led : LeadsTo (script_of c.args.script.now) c.args.rows c.args.journal.now c.in-Run.commits.items c.in-Run.state =
+    subst (λ (r : Reached). Reaches (script_of c.args.script.now) c.args.rows c.args.journal.now r) c.in-Run.is c.in_ok-commits.ensures.reached in
+    let ps = (script_of c.args.script.now).processes in
+    let are : map proc_of c.as_slice.result.now ≡ numbered_all 1 ps =
+    ap (λ (seen : List SeenProc). map proc_of seen) c.as_slice.ensures.value ∙ c.in_ok-processes-in-Run.ensures ∙ ap (λ (qs : List Proc). numbered_all 1 qs) c.processes.ensures.value in
+    subst IsPlaced (sym are) (is_placed 1 ps led.stands.placed)
+
+pub replay-requires-clause-few : goal.replay-requires-clause-few
+replay-requires-clause-few c =
     let led : LeadsTo (script_of c.args.script.now) c.args.rows c.args.journal.now c.in-Run.commits.items c.in-Run.state =
     subst (λ (r : Reached). Reaches (script_of c.args.script.now) c.args.rows c.args.journal.now r) c.in-Run.is c.in_ok-commits.ensures.reached in
     few-seen c.as_slice.result.now 1 (script_of c.args.script.now).processes

@@ -1,14 +1,13 @@
 use Rattle.std.proofs.Common.{◌≡◌, List, ap, subst, sym, ◌∙◌, ℕ, ◌++◌, length}
 use Rattle.std.specs.List.{flat_map}
-use Rattle.journal_replay.specs.Replays.{fired_by}
-use Rattle.journal_replay.proofs.Nacks.{tells-fired}
+use Rattle.journal_replay.proofs.Nacks.{tells-ended, tells-fired}
 use Rattle.script.specs.Scripts.{script_of}
 use Rattle.script_token.specs.Lexemes.{placed_tokens, seen}
 use Rattle.script_token.specs.Tokens.{Token}
 use Rattle.script_token.specs.declared.lexeme.Placed.{Placed}
 use Rattle.pcml_why.specs.Knots.{IsKnot, parts_below, waits_for}
 use Rattle.pcml_why.specs.Lines.{line_at}
-use Rattle.pcml_why.specs.Whys.{AreSites, last_text, why_text}
+use Rattle.pcml_why.specs.Whys.{AreSites, last_text, stamps_of, why_text}
 use Rattle.pcml_why.specs.declared.site.Site.{Site}
 use Rattle.journal_text.specs.Names.{named}
 use Rattle.pcml_why.proofs.text.why_text.Goals as goal
@@ -17,15 +16,16 @@ pub returns : goal.returns
 returns c =
     let names = named (script_of c.args.script.now) in
     let sites = c.deref-sites.result.now in
-    let told = why_text names (fired_by c.args.state.now) c.args.rows sites in
+    let told = why_text names (stamps_of c.args.state.now) c.args.rows sites in
     let tokens : seen c.deref-placed.result.now ≡ placed_tokens c.args.source.now = ap (λ (ps : List Placed). seen ps) c.deref-placed.ensures.value ∙ c.in_ok-tokens.ensures.tokens in
     record {
       sites = sites;
       are =
           subst (λ (l : List (Token × ℕ)). AreSites c.args.state.now c.args.standing.now (flat_map line_at l) sites) tokens
           (subst (λ (ss : List Site). AreSites c.args.state.now c.args.standing.now (flat_map line_at (seen c.deref-placed.result.now)) ss) (sym c.deref-sites.ensures.value) c.in_ok-told.ensures);
-      fired = fired_by c.args.state.now;
+      stamps = stamps_of c.args.state.now;
       tells_fired = λ n. tells-fired c.args.state.now n;
+      tells_ended = λ t. tells-ended c.args.state.now t;
       next = c.in_ok-next.next;
       tells_next = c.in_ok-next.ensures;
       knot = c.in_ok-knot.knot.items;
