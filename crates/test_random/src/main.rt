@@ -20,15 +20,17 @@ const WORKERS: u8 = 4;
 
 const ROWS: u16 = 24;
 
-/// Runs the script of the seed, and replays the run. In every third script a nack has to fire.
+/// Runs the script of the seed, and replays the run. In every third script a nack has to fire. In every
+/// second one processes start others and wait for ends; what these do the workers leave to the completion.
 fn try_seed<R: AllocGlobal + Threads + Wait + Sync>(rt: &R, seed: u64) -> Result<()> {
     let alloc = rt.alloc();
     let has_sure_nack = seed % 3 == 0;
-    let text = Maker::new(alloc, seed).script(has_sure_nack)?;
+    let has_starts = seed % 2 == 1;
+    let text = Maker::new(alloc, seed).script(has_sure_nack, has_starts)?;
     let script = parse(alloc, text.as_bytes())?;
     let record = run(rt, alloc, &script, WORKERS, ROWS, &OpenGate)?;
     ensure!(
-        record.tail == 0,
+        has_starts || record.tail == 0,
         "seed {seed}: the workers left {} commits",
         record.tail
     );

@@ -20,6 +20,11 @@ pub(crate) struct Maker {
     /// What the sync that is written may have yet.
     bases: u64,
     nacks: u64,
+    /// Whether processes spawn others, and wait for their ends.
+    starts: bool,
+    /// The process that is written, and the first of those that may be spawned.
+    process: u64,
+    next: u64,
 }
 
 impl Maker {
@@ -31,6 +36,9 @@ impl Maker {
             variables: 0,
             bases: 0,
             nacks: 0,
+            starts: false,
+            process: 0,
+            next: 0,
         }
     }
 
@@ -54,8 +62,17 @@ impl Maker {
     }
 
     /// A script of 2 to 6 processes. In one with a sure nack the first process has one that fires, and
-    /// hands it to the second.
-    pub(crate) fn script(mut self, has_sure_nack: bool) -> Result<String, AllocError> {
+    /// hands it to the second. In one with starts processes spawn earlier ones, each at most once and
+    /// neither of these two, and wait for the ends of earlier ones.
+    pub(crate) fn script(
+        mut self,
+        has_sure_nack: bool,
+        has_starts: bool,
+    ) -> Result<String, AllocError> {
+        self.starts = has_starts;
+        if has_sure_nack {
+            self.next = 2;
+        }
         self.channels = 1 + self.below(3);
         for channel in 0..self.channels {
             write!(self.text, "channel c{channel};\n")?;
@@ -63,6 +80,7 @@ impl Maker {
         let processes = 2 + self.below(5);
         for process in 0..processes {
             write!(self.text, "process p{process} {{\n")?;
+            self.process = process;
             self.variables = 0;
             if has_sure_nack && process == 0 {
                 self.put(FIRES)?;
@@ -102,6 +120,7 @@ impl Maker {
                 3 => self.let_statement()?,
                 4 | 5 => self.receive_statement()?,
                 6 if self.below(6) == 0 => self.put("end;\n")?,
+                7 | 8 if self.starts => self.spawn_statement()?,
                 _ => self.sync_statement()?,
             }
         }
@@ -135,6 +154,16 @@ impl Maker {
         self.expression()?;
         self.variables = name.saturating_add(1);
         self.put(";\n")
+    }
+
+    /// Spawns the next of the processes that stand before this one, if there is one.
+    fn spawn_statement(&mut self) -> Result<(), AllocError> {
+        let spawned = self.next;
+        if spawned >= self.process {
+            return Ok(());
+        }
+        self.next = spawned.saturating_add(1);
+        write!(self.text, "spawn p{spawned};\n")
     }
 
     fn if_front(&mut self) -> Result<(), AllocError> {
@@ -220,6 +249,10 @@ impl Maker {
             7 if self.variables > 0 => {
                 let variable = self.below(self.variables);
                 write!(self.text, "cancelled v{variable}")
+            }
+            8 if self.starts && self.process > 0 => {
+                let joined = self.below(self.process);
+                write!(self.text, "joined p{joined}")
             }
             _ => self.put("never"),
         }

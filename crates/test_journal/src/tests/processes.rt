@@ -110,6 +110,22 @@ fn scopes_and_their_nacks(rt: HostRuntime) -> Result<(), Fail> {
 }
 
 #[test]
+fn what_a_process_spawns(rt: HostRuntime) -> Result<(), Fail> {
+    let alloc = rt.alloc();
+    let text =
+        "process k { } process j { } process a { loop 2 { sync always (); spawn k; } spawn j; }";
+    let mut machine = machine(alloc, text, 2)?;
+    let _first = machine.begin()?;
+    check_same(&rt, machine.spawned().len(), 0);
+    let _second = resume(&mut machine, 0, Message::Empty)?;
+    check_same(&rt, machine.spawned(), [0].as_slice());
+    let turn = resume(&mut machine, 0, Message::Empty)?;
+    assert!(rt; turn == Turn::Ended);
+    check_same(&rt, machine.spawned(), [0, 1].as_slice());
+    Ok(())
+}
+
+#[test]
 fn the_last_nack(rt: HostRuntime) -> Result<(), Fail> {
     let alloc = rt.alloc();
     let text = "process a { forever { sync nack n {} always (); } }";

@@ -137,3 +137,30 @@ fn settling_adds_what_is_enabled(rt: HostRuntime) -> Result<(), Fail> {
     check_same(&rt, three.len(), 3);
     check_end(&rt, &spent, 0, End::Spent, &[])
 }
+
+#[test]
+fn starts_and_ends_count(rt: HostRuntime) -> Result<(), Fail> {
+    let alloc = rt.alloc();
+    let joins =
+        "process k { sync always (); } process a { sync always (); spawn k; sync joined k; }";
+    let (state, added) = settled(alloc, joins, 256)?;
+    let joined = Commit::Alone {
+        at: at(1, 1, 0),
+        cause: Cause::End(0),
+        stamp: 3,
+    };
+    let empty = Message::Empty;
+    let commits = [
+        always(1, at(1, 0, 0), empty),
+        always(2, at(0, 0, 0), empty),
+        joined,
+    ];
+    check_same(&rt, added.as_slice(), commits.as_slice());
+    check_same(&rt, state.ended(0), Some(2));
+    check_same(&rt, state.ended(1), Some(3));
+    let (waits, none) = settled(alloc, "process k { } process a { end; spawn k; }", 256)?;
+    check_same(&rt, none.len(), 0);
+    check_same(&rt, waits.ended(0), None);
+    check_same(&rt, waits.ended(1), Some(0));
+    check_end(&rt, &waits, 0, End::Unstarted, &[])
+}

@@ -1,5 +1,5 @@
 use super::checks::check_same;
-use script_tree::{Block, Event, Events, Expr, Operand, Proc, Sign, Stmt, Term, Terms};
+use script_tree::{Block, Event, Events, Expr, Operand, Proc, Sign, Stmt, Term, Terms, spawned};
 use std::alloc::{AllocError, Global};
 use std::process::Abort;
 use std::sync::Arc;
@@ -67,5 +67,26 @@ fn processes(rt: HostRuntime) -> Result<(), Fail> {
     check_same(&rt, process.variable_name(1), None, "variable 1");
     let body: &Block = process.body();
     assert!(rt; matches!(body, Block::Done));
+    Ok(())
+}
+
+/// `sync guard { spawn process; } never; spawn 63;`
+fn spawning_twice(alloc: Global, process: u8) -> Result<Block, AllocError> {
+    let guarded = Block::Then(Stmt::Spawn(process), Arc::new(alloc, Block::Done)?);
+    let never = Arc::new(alloc, Event::Never)?;
+    let event = Event::Guard(Arc::new(alloc, guarded)?, never);
+    let sync = Stmt::Sync(None, Arc::new(alloc, event)?);
+    let rest = Block::Then(Stmt::Spawn(63), Arc::new(alloc, Block::Done)?);
+    Ok(Block::Then(sync, Arc::new(alloc, rest)?))
+}
+
+#[test]
+fn spawned_processes(rt: HostRuntime) -> Result<(), Fail> {
+    let alloc = rt.alloc();
+    check_same(&rt, spawned(&Block::Done), 0, "nobody");
+    let block = spawning_twice(alloc, 3)?;
+    check_same(&rt, spawned(&block), (1 << 63) + 8, "3 and 63");
+    let long = long_block(alloc)?;
+    check_same(&rt, spawned(&long), 0, "nobody in a long block");
     Ok(())
 }
