@@ -6,10 +6,8 @@ syn case match
 syn sync fromstart
 
 syn keyword pcmlDeclare channel process
-syn keyword pcmlStatement let print sync if else loop forever end
-syn keyword pcmlEvent send recv always never cancelled choose wrap as to guard nack
-" Words that begin nothing yet, and are no names.
-syn keyword pcmlReserved spawn joined
+syn keyword pcmlStatement let print sync if else loop forever end spawn
+syn keyword pcmlEvent send recv always never cancelled joined choose wrap as to guard nack
 
 syn match pcmlNumber '\<\(0\|[1-9]\d*\)\>'
 syn match pcmlMark '<-\|[=<+-]'
@@ -22,7 +20,6 @@ syn match pcmlDeclared '\(\<\(channel\|process\)\_s\+\)\@<=\a\w*'
 hi def link pcmlDeclare Type
 hi def link pcmlStatement Statement
 hi def link pcmlEvent Function
-hi def link pcmlReserved Error
 hi def link pcmlNumber Number
 hi def link pcmlMark Operator
 hi def link pcmlBad Error
