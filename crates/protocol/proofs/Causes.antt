@@ -1,15 +1,18 @@
 -- What lets an offer commit its row alone, and that it stays.
-use Rattle.std.proofs.Common.{◌≡◌, ℕ, Bool, true, false, cond, Option, Some, None, sym, refl, ap, ◌∙◌, ◌⊎◌, inl, inr, ⊎_elim}
+use Rattle.std.proofs.Common.{◌≡◌, ℕ, zero, suc, ◌+◌, ◌-◌, is_some, arith, Bool, true, false, cond, Option, Some, None, sym, refl, ap, ◌∙◌, ◌⊎◌, inl, inr, ⊎_elim}
+use Rattle.std.proofs.lemmas.Bool.{ne_eqb}
 use Rattle.protocol_values.specs.declared.Message.{Message}
 use Rattle.protocol_values.specs.declared.NackName.{NackName}
 use Rattle.protocol_values.specs.declared.Binding.{Binding}
+use Rattle.protocol_values.specs.declared.Course.{Course}
+use Rattle.protocol_values.specs.declared.Course.TheVariants.{Unstarted, Running, Ended}
 use Rattle.protocol_values.specs.declared.Base.{Base}
 use Rattle.protocol_values.specs.declared.Base.TheVariants.{Send, Recv, Always, OnNack, OnEnd, Never}
 use Rattle.protocol_values.specs.declared.Offer.{Offer}
 use Rattle.protocol_values.specs.declared.Row.{Row}
 use Rattle.protocol_values.specs.declared.Joined.{Joined}
-use Rattle.protocol.specs.Tables.{encloses, bound_row, enabled_by, nack_via, nack_by, stamped, cause_by, cause_of, stands_alone}
-use Rattle.protocol.proofs.Linking.{some_inj}
+use Rattle.protocol.specs.Tables.{Marks, end_by, end_via, last_stamp, row_stamp, start_of, encloses, bound_row, enabled_by, nack_via, nack_by, stamped, cause_by, cause_of, stands_alone}
+use Rattle.protocol.proofs.Linking.{some_inj, some_parts}
 
 -- nack n is bound to a row that is committed as j, by an offer outside its scope
 pub record IsEnabling (joined : Row → Option Joined) (offer : Row → ℕ → Option Offer) (bound : NackName → Option Binding) (n : NackName) (j : Joined) : Type 0 where
@@ -48,58 +51,119 @@ enabling_from joined offer bound n j e =
     ∙ ap (enabled_by offer (bound_row n e.binding) e.binding.scope) e.is_joined
     ∙ ap (λ t. cond t None (Some j)) e.outside
 
--- WHAT A CAUSE IS: an always, or a nack that is enabled
+-- THE END OF A THREAD
+
+-- the thread has ended, and its last stamp is this
+pub record IsEnding (joined : Row → Option Joined) (marks : Marks) (p s : ℕ) : Type 0 where
+  pub start : ℕ
+  pub sync : ℕ
+  pub ended : marks.course p ≡ Ended start sync
+  pub stamp : s ≡ last_stamp marks joined (record { thread = p; sync = sync })
+
+pub ending : (joined : Row → Option Joined) (marks : Marks) (p s : ℕ) → end_by marks joined p ≡ Some s → IsEnding joined marks p s
+unfolding end_by
+ending joined marks p s h = by_course (marks.course p) refl h
+  where
+    by_course : (c : Course) → marks.course p ≡ c → end_via marks joined p c ≡ Some s → IsEnding joined marks p s
+    by_course Unstarted e h = let bad : None ≡ Some s = h in cc
+    by_course (Running start) e h = let bad : None ≡ Some s = h in cc
+    by_course (Ended start sync) e h = record { start = start; sync = sync; ended = e; stamp = sym (some_inj _ s h) }
+
+pub ending_from : (joined : Row → Option Joined) (marks : Marks) (p s : ℕ) → IsEnding joined marks p s → end_by marks joined p ≡ Some s
+unfolding end_by
+ending_from joined marks p s e = ap (end_via marks joined p) e.ended ∙ ap Some (sym e.stamp)
+
+-- WHAT A CAUSE IS: an always, a nack that is enabled, or a thread that has ended
 abbrev pub IsAlways : Option Offer → ℕ → Type 0
 IsAlways o s = (m : Message) × (x : Offer) × (o ≡ Some x) × (x.base ≡ Always m) × (s ≡ 0)
 
-abbrev pub IsOnEnabled : (Row → Option Joined) → (Row → ℕ → Option Offer) → (NackName → Option Binding) → Option Offer → ℕ → Type 0
-IsOnEnabled joined offer bound o s =
-    (n : NackName) × (j : Joined) × (x : Offer) × (o ≡ Some x) × (x.base ≡ OnNack n) × (nack_by joined offer bound n ≡ Some j) × (s ≡ j.stamp)
+abbrev pub IsOnEnabled : (Row → Option Joined) → (Row → ℕ → Option Offer) → Marks → Option Offer → ℕ → Type 0
+IsOnEnabled joined offer marks o s =
+    (n : NackName) × (j : Joined) × (x : Offer) × (o ≡ Some x) × (x.base ≡ OnNack n) × (nack_by joined offer marks.bound n ≡ Some j) × (s ≡ j.stamp)
+
+abbrev pub IsOnEnded : (Row → Option Joined) → Marks → Option Offer → ℕ → Type 0
+IsOnEnded joined marks o s = (p : ℕ) × (x : Offer) × (o ≡ Some x) × (x.base ≡ OnEnd p) × IsEnding joined marks p s
+
+abbrev pub IsCause : (Row → Option Joined) → (Row → ℕ → Option Offer) → Marks → Option Offer → ℕ → Type 0
+IsCause joined offer marks o s = IsAlways o s ⊎ (IsOnEnabled joined offer marks o s ⊎ IsOnEnded joined marks o s)
 
 stamped_some : (o : Option Joined) (s : ℕ) → stamped o ≡ Some s → (j : Joined) × (o ≡ Some j) × (s ≡ j.stamp)
 stamped_some None s h = let bad : None ≡ Some s = h in cc
 stamped_some (Some j) s h = (j, refl, sym (some_inj j.stamp s h))
 
-pub cause_is : (joined : Row → Option Joined) (offer : Row → ℕ → Option Offer) (bound : NackName → Option Binding) (o : Option Offer) (s : ℕ) → cause_of joined offer bound o ≡ Some s → IsAlways o s ⊎ IsOnEnabled joined offer bound o s
-cause_is joined offer bound None s h = let bad : None ≡ Some s = h in cc
-cause_is joined offer bound (Some x) s h = by_base x.base refl h
+pub cause_is : (joined : Row → Option Joined) (offer : Row → ℕ → Option Offer) (marks : Marks) (o : Option Offer) (s : ℕ) → cause_of joined offer marks o ≡ Some s → IsCause joined offer marks o s
+cause_is joined offer marks None s h = let bad : None ≡ Some s = h in cc
+cause_is joined offer marks (Some x) s h = by_base x.base refl h
   where
-    by_base : (b : Base) → x.base ≡ b → cause_by joined offer bound b ≡ Some s → IsAlways (Some x) s ⊎ IsOnEnabled joined offer bound (Some x) s
+    by_base : (b : Base) → x.base ≡ b → cause_by joined offer marks b ≡ Some s → IsCause joined offer marks (Some x) s
     by_base (Send c m) e h = let bad : None ≡ Some s = h in cc
     by_base (Recv c) e h = let bad : None ≡ Some s = h in cc
     by_base (Always m) e h = inl (m, x, refl, e, sym (some_inj 0 s h))
-    by_base (OnNack n) e h = let j = stamped_some (nack_by joined offer bound n) s h in inr (n, j.0, x, refl, e, j.1, j.2)
-    by_base (OnEnd p) e h = let bad : None ≡ Some s = h in cc
+    by_base (OnNack n) e h = let j = stamped_some (nack_by joined offer marks.bound n) s h in inr (inl (n, j.0, x, refl, e, j.1, j.2))
+    by_base (OnEnd p) e h = inr (inr (p, x, refl, e, ending joined marks p s h))
     by_base Never e h = let bad : None ≡ Some s = h in cc
 
--- an offer that has a cause is an always or a nack
-pub cause_alone : (joined : Row → Option Joined) (offer : Row → ℕ → Option Offer) (bound : NackName → Option Binding) (o : Option Offer) (s : ℕ) → cause_of joined offer bound o ≡ Some s → stands_alone o ≡ true
-cause_alone joined offer bound o s h = ⊎_elim
+-- an offer that has a cause stands alone
+pub cause_alone : (joined : Row → Option Joined) (offer : Row → ℕ → Option Offer) (marks : Marks) (o : Option Offer) (s : ℕ) → cause_of joined offer marks o ≡ Some s → stands_alone o ≡ true
+cause_alone joined offer marks o s h = ⊎_elim
     (λ (a : IsAlways o s). ap stands_alone a.2 ∙ ap Rattle.protocol.specs.Tables.needs_none a.3)
-    (λ (n : IsOnEnabled joined offer bound o s). ap stands_alone n.3 ∙ ap Rattle.protocol.specs.Tables.needs_none n.4)
-    (cause_is joined offer bound o s h)
+    (⊎_elim
+    (λ (n : IsOnEnabled joined offer marks o s). ap stands_alone n.3 ∙ ap Rattle.protocol.specs.Tables.needs_none n.4)
+    (λ (e : IsOnEnded joined marks o s). ap stands_alone e.2 ∙ ap Rattle.protocol.specs.Tables.needs_none e.3))
+    (cause_is joined offer marks o s h)
 
--- A CAUSE STAYS, where what is joined stays so and offers as before, and what is bound stays so
-module _ (joined joined' : Row → Option Joined) (offer offer' : Row → ℕ → Option Offer) (bound bound' : NackName → Option Binding)
+-- the last stamp at a place behind a row is the row's
+pub last_behind : (marks : Marks) (joined : Row → Option Joined) (t g : ℕ) → last_stamp marks joined (record { thread = t; sync = suc g }) ≡ row_stamp (joined (record { thread = t; sync = g }))
+last_behind marks joined t g =
+    ap (λ b. cond b (start_of (marks.course t)) (row_stamp (joined (record { thread = t; sync = suc g - 1 })))) (ne_eqb (suc g) 0 (λ e. absurd (omega arith)))
+    ∙ ap (λ n. row_stamp (joined (record { thread = t; sync = n }))) (omega arith)
+
+-- A CAUSE STAYS, where what is joined stays so and offers as before, what is bound stays so, an end stays, and the row
+-- before an end is joined
+module _ (joined joined' : Row → Option Joined) (offer offer' : Row → ℕ → Option Offer) (marks marks' : Marks)
     (joins : (r : Row) (j : Joined) → joined r ≡ Some j → joined' r ≡ Some j)
     (offers : (r : Row) (j : Joined) → joined r ≡ Some j → offer' r ≡ offer r)
-    (binds : (n : NackName) (b : Binding) → bound n ≡ Some b → bound' n ≡ Some b) where
-  pub nack_kept : (n : NackName) (j : Joined) → nack_by joined offer bound n ≡ Some j → nack_by joined' offer' bound' n ≡ Some j
+    (binds : (n : NackName) (b : Binding) → marks.bound n ≡ Some b → marks'.bound n ≡ Some b)
+    (ends : (p start sync : ℕ) → marks.course p ≡ Ended start sync → marks'.course p ≡ Ended start sync)
+    (before : (p start sync : ℕ) → marks.course p ≡ Ended start (sync + 1) → is_some (joined (record { thread = p; sync = sync })) ≡ true) where
+  pub nack_kept : (n : NackName) (j : Joined) → nack_by joined offer marks.bound n ≡ Some j → nack_by joined' offer' marks'.bound n ≡ Some j
   nack_kept n j h =
-      let e = enabling joined offer bound n j h in
-      enabling_from joined' offer' bound' n j (record {
+      let e = enabling joined offer marks.bound n j h in
+      enabling_from joined' offer' marks'.bound n j (record {
         binding = e.binding;
         is_bound = binds n e.binding e.is_bound;
         is_joined = joins (bound_row n e.binding) j e.is_joined;
         outside = ap (λ (f : ℕ → Option Offer). encloses e.binding.scope (f j.own)) (offers (bound_row n e.binding) j e.is_joined) ∙ e.outside;
       })
 
-  pub cause_kept : (o : Option Offer) (s : ℕ) → cause_of joined offer bound o ≡ Some s → cause_of joined' offer' bound' o ≡ Some s
+  last_ended : (p start sync : ℕ) → marks.course p ≡ Ended start sync → last_stamp marks joined (record { thread = p; sync = sync }) ≡ last_stamp marks' joined' (record { thread = p; sync = sync })
+  last_ended p start zero e = ap start_of e ∙ sym (ap start_of (ends p start zero e))
+  last_ended p start (suc g) e =
+      let j = some_parts (joined (record { thread = p; sync = g })) (before p start g (e ∙ ap (Ended start) (omega arith))) in
+      last_behind marks joined p g
+      ∙ ap row_stamp j.1
+      ∙ sym (ap row_stamp (joins (record { thread = p; sync = g }) j.0 j.1))
+      ∙ sym (last_behind marks' joined' p g)
+
+  pub end_kept : (p s : ℕ) → IsEnding joined marks p s → IsEnding joined' marks' p s
+  end_kept p s e = record {
+    start = e.start;
+    sync = e.sync;
+    ended = ends p e.start e.sync e.ended;
+    stamp = e.stamp ∙ last_ended p e.start e.sync e.ended;
+  }
+
+  pub cause_kept : (o : Option Offer) (s : ℕ) → cause_of joined offer marks o ≡ Some s → cause_of joined' offer' marks' o ≡ Some s
   cause_kept o s h = ⊎_elim
-      (λ (a : IsAlways o s). ap (cause_of joined' offer' bound') a.2 ∙ ap (cause_by joined' offer' bound') a.3 ∙ ap Some (sym a.4))
-      (λ (n : IsOnEnabled joined offer bound o s).
-      ap (cause_of joined' offer' bound') n.3
-      ∙ ap (cause_by joined' offer' bound') n.4
+      (λ (a : IsAlways o s). ap (cause_of joined' offer' marks') a.2 ∙ ap (cause_by joined' offer' marks') a.3 ∙ ap Some (sym a.4))
+      (⊎_elim
+      (λ (n : IsOnEnabled joined offer marks o s).
+      ap (cause_of joined' offer' marks') n.3
+      ∙ ap (cause_by joined' offer' marks') n.4
       ∙ ap stamped (nack_kept n.0 n.1 n.5)
       ∙ ap Some (sym n.6))
-      (cause_is joined offer bound o s h)
+      (λ (e : IsOnEnded joined marks o s).
+      ap (cause_of joined' offer' marks') e.2
+      ∙ ap (cause_by joined' offer' marks') e.3
+      ∙ ending_from joined' marks' e.0 s (end_kept e.0 s e.4)))
+      (cause_is joined offer marks o s h)

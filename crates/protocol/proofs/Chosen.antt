@@ -4,10 +4,8 @@ use Rattle.std.proofs.Common.{◌≡◌, ℕ, suc, zero, ◌≤◌, true, false,
 use Rattle.std.specs.Prelude.{option_to_list}
 use Rattle.std.proofs.lemmas.Bool.{cases_eq, cases_Bool, true≢false}
 use Rattle.std.proofs.lemmas.List.{append-nil}
-use Rattle.protocol_values.specs.declared.NackName.{NackName}
 use Rattle.protocol_values.specs.declared.Base.{Base}
-use Rattle.protocol_values.specs.declared.Base.TheVariants.{Send, Recv, Always, OnNack}
-use Rattle.protocol_values.specs.declared.Binding.{Binding}
+use Rattle.protocol_values.specs.declared.Base.TheVariants.{Send, Recv, Always, OnNack, OnEnd}
 use Rattle.protocol_values.specs.declared.Cause.{Cause}
 use Rattle.protocol_values.specs.declared.Cause.TheVariants as cause
 use Rattle.protocol_values.specs.declared.Row.{Row}
@@ -15,20 +13,20 @@ use Rattle.protocol_values.specs.declared.Joined.{Joined}
 use Rattle.protocol_values.specs.declared.Offer.{Offer}
 use Rattle.protocol_values.specs.declared.Commit.{Commit}
 use Rattle.protocol_values.specs.declared.Commit.TheVariants.{Pair, Alone}
-use Rattle.protocol.specs.Tables.{Table, all_rows, rows_below, cell_at, is_fresh, joined_at, offer_at, binding_at, names, namer_of}
+use Rattle.protocol.specs.Tables.{Table, Marks, marks_at, all_rows, rows_below, cell_at, is_fresh, joined_at, offer_at, names, namer_of}
 use Rattle.protocol.specs.Ledgers.{ledger_of, Lawful, IsLawful, IsIn, Takes, Offers, IsCaused, Fits, commit_named, commit_by, tells, told_at, told_by, commits_of, pending_of, is_pending}
 use Rattle.protocol.proofs.Linking.{cases_Option, some_parts, fresh_not_joined, naming}
 use Rattle.protocol.proofs.Readings.{offer_counted, open_of_count}
 use Rattle.protocol.proofs.CommitLemmas.{named_rows}
 use Rattle.protocol.proofs.Loops.{commits_push, namer_push, pending_push}
-use Rattle.protocol.proofs.LedgerLemmas.{joined_in_ledger, offer_in_ledger, binding_in_ledger}
+use Rattle.protocol.proofs.LedgerLemmas.{joined_in_ledger, offer_in_ledger, marks_in_ledger}
 
 -- the law, of what the table reads as
-pub law_at : (t : Table) → IsLawful (ledger_of t) → Lawful (all_rows t.threads t.rows) (joined_at t) (offer_at t) (binding_at t)
+pub law_at : (t : Table) → IsLawful (ledger_of t) → Lawful (all_rows t.threads t.rows) (joined_at t) (offer_at t) (marks_at t)
 unfolding ledger_of
 law_at t law =
-    subst (λ (z : (Row → Option Joined) × (Row → ℕ → Option Offer) × (NackName → Option Binding)). Lawful (all_rows t.threads t.rows) z.0 z.1 z.2)
-    (λ i. (joined_in_ledger t i, offer_in_ledger t i, binding_in_ledger t i))
+    subst (λ (z : (Row → Option Joined) × (Row → ℕ → Option Offer) × Marks). Lawful (all_rows t.threads t.rows) z.0 z.1 z.2)
+    (λ i. (joined_in_ledger t i, offer_in_ledger t i, marks_in_ledger t i))
     law
 
 -- THE OFFER THAT A COMMITTED ROW CHOSE
@@ -62,12 +60,12 @@ taken_open t r c n law h k = open_of_count t r n (offer_counted t r n (by_commit
     there : (at : Row × ℕ) (b : Base) → Offers (offer_at t) at b → at ≡ (r, n) → is_some (offer_at t r n) ≡ true
     there at b o e = sym (ap (λ (z : Row × ℕ). is_some (offer_at t z.0 z.1)) e) ∙ ap (λ (x : Option Offer). is_some x) o.1
 
-    by_cause : (at : Row × ℕ) (k : Cause) → IsCaused (joined_at t) (offer_at t) (binding_at t) at k → at ≡ (r, n) → is_some (offer_at t r n) ≡ true
+    by_cause : (at : Row × ℕ) (k : Cause) → IsCaused (joined_at t) (offer_at t) (marks_at t) at k → at ≡ (r, n) → is_some (offer_at t r n) ≡ true
     by_cause at (cause.Always m) o e = there at (Always m) o e
     by_cause at (cause.Nack x) o e = there at (OnNack x) o.0 e
-    by_cause at (cause.End x) o e = absurd o
+    by_cause at (cause.End x) o e = there at (OnEnd x) o.0 e
 
-    by_commit : (c : Commit) → Fits (joined_at t) (offer_at t) (binding_at t) c → Takes c r n → is_some (offer_at t r n) ≡ true
+    by_commit : (c : Commit) → Fits (joined_at t) (offer_at t) (marks_at t) c → Takes c r n → is_some (offer_at t r n) ≡ true
     by_commit (Pair s v chan m stamp) f k = ⊎_elim
         (λ (e : s ≡ (r, n)). there s (Send chan m) f.1 e)
         (λ (e : v ≡ (r, n)). there v (Recv chan) f.2 e)

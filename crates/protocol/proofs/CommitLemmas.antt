@@ -4,8 +4,6 @@ use Rattle.std.specs.Prelude.{is_none, option_to_list, ◌↔◌, Contains}
 use Rattle.std.specs.List.{flat_map}
 use Rattle.std.proofs.lemmas.Bool.{cases_Bool, true≢false}
 use Rattle.protocol_values.specs.declared.Row.{Row}
-use Rattle.protocol_values.specs.declared.NackName.{NackName}
-use Rattle.protocol_values.specs.declared.Binding.{Binding}
 use Rattle.protocol_values.specs.declared.Joined.{Joined}
 use Rattle.protocol_values.specs.declared.Offer.{Offer}
 use Rattle.protocol_values.specs.declared.Base.{Base}
@@ -13,7 +11,7 @@ use Rattle.protocol_values.specs.declared.Base.TheVariants.{Send, Recv, Always, 
 use Rattle.protocol_values.specs.declared.Commit.{Commit}
 use Rattle.protocol_values.specs.declared.Commit.TheVariants.{Pair, Alone}
 use Rattle.protocol_values.specs.Commits.{stamp_of}
-use Rattle.protocol.specs.Tables.{row_eq, all_rows, names, is_partner}
+use Rattle.protocol.specs.Tables.{Marks, row_eq, all_rows, names, is_partner}
 use Rattle.protocol.specs.Ledgers.{IsIn, Takes, Involves, Lawful, Fits, commit_named, commit_by, alone_by, pair_by, received_by, told_at, told_by, tells, is_send, sends, commits_of}
 use Rattle.protocol.proofs.RowLemmas.{row_eq-refl, IsOnce, once_all}
 use Rattle.protocol.proofs.Linking.{some_inj, some_parts}
@@ -220,8 +218,8 @@ receives offer r j p c e s h =
     by_own None s k = let bad : None ≡ Some c = k in cc
     by_own (Some o) s k = by_base o.base (offer p.0 p.1) s k
 
-module _ (threads rows : ℕ) (joined : Row → Option Joined) (offer : Row → ℕ → Option Offer) (bound : NackName → Option Binding)
-    (law : Lawful (all_rows threads rows) joined offer bound)
+module _ (threads rows : ℕ) (joined : Row → Option Joined) (offer : Row → ℕ → Option Offer) (marks : Marks)
+    (law : Lawful (all_rows threads rows) joined offer marks)
     (inside : (r : Row) (j : Joined) → joined r ≡ Some j → (r.thread < threads) × (r.sync < rows)) where
   told_by_row : (c : Commit) (r : Row) (j : Joined) → joined r ≡ Some j → told_at joined offer r ≡ Some c → Has c (commits_of (all_rows threads rows) joined offer)
   told_by_row c r j e h =
@@ -250,7 +248,7 @@ module _ (threads rows : ℕ) (joined : Row → Option Joined) (offer : Row → 
       let pairs : Pair p (h.row, h.way.own) mine.0 mine.1 h.way.stamp ≡ Pair u.0 (p.0, k.own) yours.0 yours.1 k.stamp = sym mine.2 ∙ yours.2 in
       let rows_same : (h.row, h.way.own) ≡ (p.0, k.own) = cc in
       let row_same : h.row ≡ p.0 = ap (λ (z : Row × ℕ). z.0) rows_same in
-      let fits : Fits joined offer bound (Pair p (h.row, h.way.own) mine.0 mine.1 h.way.stamp) = subst (Fits joined offer bound) mine.2 (law.fits c h) in
+      let fits : Fits joined offer marks (Pair p (h.row, h.way.own) mine.0 mine.1 h.way.stamp) = subst (Fits joined offer marks) mine.2 (law.fits c h) in
       absurd (fits.0 (ap (λ (x : Row). x.thread) (sym row_same))))
       (cases_Bool (tells joined (offer p.0 k.own) k.partner))
 

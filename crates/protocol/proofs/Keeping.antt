@@ -1,13 +1,15 @@
 -- Each allowed step keeps a world kept, and so does a whole schedule.
-use Rattle.std.proofs.Common.{inl, inr, ◌⊎◌, ◌≡◌, ◌≢◌, ℕ, zero, suc, ◌+◌, ◌*◌, ◌^◌, ◌<◌, ◌≤◌, true, false, cond, ltb, ◌&&◌, List, [], ◌∷◌, length, get_or, sym, refl, ap, ◌∙◌, subst, ⊎_elim, arith, Option, Some, None, is_some, max, get_or-set_other, length-set, set, unwrap_or, get_or-set_same, inl, true≢false}
+use Rattle.std.proofs.Common.{inl, inr, ◌⊎◌, ◌≡◌, ◌≢◌, ℕ, zero, suc, ◌+◌, ◌*◌, ◌^◌, ◌<◌, ◌≤◌, true, false, cond, ltb, eqb, ◌&&◌, List, [], ◌∷◌, length, get_or, sym, refl, ap, ◌∙◌, subst, ⊎_elim, arith, Option, Some, None, is_some, max, get_or-set_other, length-set, set, unwrap_or, get_or-set_same, inl, true≢false}
 use Rattle.std.specs.Prelude.{option_to_list}
 use Rattle.std.specs.List.{sum_by}
-use Rattle.std.proofs.lemmas.Bool.{cases_Bool, false≢true, cases_eq, and_from, lt-ltb}
+use Rattle.std.proofs.lemmas.Bool.{cases_Bool, cases_order, false≢true, cases_eq, and_from, lt-ltb, ne_eqb}
 use Rattle.std.proofs.lemmas.List.{length-append}
 use Rattle.std.proofs.lemmas.List.Sums.{sum_by-cons}
 use Rattle.std.proofs.Math.Nat.{mul-le-mul_right}
 use Rattle.protocol_values.specs.declared.NackName.{NackName}
 use Rattle.protocol_values.specs.declared.Binding.{Binding}
+use Rattle.protocol_values.specs.declared.Course.{Course}
+use Rattle.protocol_values.specs.declared.Course.TheVariants.{Unstarted, Running, Ended}
 use Rattle.protocol_values.specs.declared.Row.{Row}
 use Rattle.protocol_values.specs.declared.Joined.{Joined}
 use Rattle.protocol_values.specs.declared.Offer.{Offer}
@@ -18,19 +20,19 @@ use Rattle.protocol_values.specs.declared.Step.TheVariants.{Draft, Open, Look, R
 use Rattle.protocol_values.specs.declared.Cell.{Cell}
 use Rattle.protocol_values.specs.declared.Cell.TheVariants.{Fresh, Waiting, Claimed, Synched, Taken}
 use Rattle.protocol_values.proofs.WordLemmas.{cell_of-zero}
-use Rattle.protocol_values.specs.Words.{cell_word, is_word_for, IsBindingInRange, IsCellInRange, IsJoinedInRange, IsRowInRange, cell_of}
-use Rattle.protocol.specs.Tables.{Table, is_row, is_nack, binding_at, bound_row, cause_of, cause_at, row_eq, all_rows, rows_below, cell_at, is_fresh, offer_at, offers_meet, names, joined_at, last_stamp, number_of, is_taken, synched_of, word_at}
+use Rattle.protocol_values.specs.Words.{cell_word, is_word_for, IsBindingInRange, IsCellInRange, IsJoinedInRange, IsRowInRange, IsCourseInRange, cell_of, course_word}
+use Rattle.protocol.specs.Tables.{Table, Marks, course_at, marks_at, start_of, thread_len, is_row, is_nack, binding_at, bound_row, cause_of, cause_at, row_eq, all_rows, rows_below, cell_at, is_fresh, offer_at, offers_meet, names, joined_at, last_stamp, number_of, is_taken, synched_of, word_at}
 use Rattle.protocol_values.specs.Values.{joined_of, next_row}
-use Rattle.protocol.specs.Worlds.{World, holder_at, namer_at, Condition, Allowed, after_step, Plays, with_word, with_cell, with_table, joined_with, mirrored, other_side, side_of, sealed_by, with_seal, granted_by, handed, with_holders, with_take, with_nack, nack_of_row}
-use Rattle.protocol.specs.Ledgers.{commits_of, told_at}
-use Rattle.protocol.specs.Kept.{joined_by, Linked, Kept}
+use Rattle.protocol.specs.Worlds.{World, HasEnded, IsAlive, StandsAt, begun, ended_at, first_row, last_holder, handed_last, with_course, with_lasts, holder_at, namer_at, Condition, Allowed, after_step, Plays, with_word, with_cell, with_table, joined_with, mirrored, other_side, side_of, sealed_by, with_seal, granted_by, handed, with_holders, with_take, with_nack, nack_of_row}
+use Rattle.protocol.specs.Ledgers.{LivesAt, commits_of, told_at}
+use Rattle.protocol.specs.Kept.{joined_by, IsFormed, Linked, Kept}
 use Rattle.protocol.proofs.RowLemmas.{row_cases, put, put_same, put_other, same_row, row_ne, row_eq-false}
 use Rattle.protocol.proofs.Linking.{some_parts, naming, fresh_not_joined, unnamed_idle, told_count, count_of_commits, some_inj, taken_joined, alone_there, taken_open}
-use Rattle.protocol.proofs.StepLemmas.{HasTurn, linked_plain, linked_join, linked_seal, last_bounded, linked_grant, linked_bind, cause_bounded}
+use Rattle.protocol.proofs.StepLemmas.{HasTurn, linked_plain, linked_join, linked_seal, last_bounded, linked_grant, linked_marks, cause_bounded}
 use Rattle.protocol.proofs.Causes.{cause_alone}
 use Rattle.protocol.proofs.Lawfulness.{both_offers}
-use Rattle.protocol.proofs.Places.{row_inside, is_row_after, block_inside, same_block, same_rest, word_other, is_row_bound, word_bound}
-use Rattle.protocol.proofs.Readings.{cell_after_word, cell_after_cell, offer_after_draft, offer_after_cell, formed_after_word, cell_is_formed, sized_after_word, row_of_open, cell_outside, binding_after_word, binding_after_cell, cell_after_bind, offer_after_bind, binding_kept, binding_was, formed_after_bind, offer_below, cell_inside, joined_ranged}
+use Rattle.protocol.proofs.Places.{row_inside, row_from, word_lived, is_row_after, block_inside, same_block, same_rest, word_other, word_bound}
+use Rattle.protocol.proofs.Readings.{cell_after_word, cell_after_cell, offer_after_draft, offer_after_cell, formed_after_word, cell_is_formed, sized_after_word, row_of_open, cell_outside, binding_after_word, cell_after_bind, offer_after_bind, binding_kept, binding_was, formed_after_bind, offer_below, cell_inside, joined_ranged, course_after_word, course_after_bind, marks_after_word, marks_after_cell, cell_after_life, offer_after_life, binding_after_life, course_lived, course_lived_other, course_ranged, formed_after_life}
 use Rattle.protocol.proofs.Naming.{namer_names, no_namer}
 
 -- HOW MANY COMMITS THERE ARE at most
@@ -89,6 +91,26 @@ pub holder_same : (w : World) (t : Table) (r : Row) → t.threads ≡ w.table.th
 unfolding holder_at is_row
 holder_same w t r h k = λ i. cond (ltb r.thread (h i) && ltb r.sync (k i)) (get_or w.holders (number_of (k i) r) None) None
 
+same_is_row : (t u : Table) (r : Row) → t.threads ≡ u.threads → t.rows ≡ u.rows → is_row t r ≡ is_row u r
+unfolding is_row
+same_is_row t u r h k = λ i. ltb r.thread (h i) && ltb r.sync (k i)
+
+pub threads_lived : (t : Table) (p : ℕ) (c : Course) → (with_course t p c).threads ≡ t.threads
+unfolding with_course
+threads_lived t p c = refl
+
+pub rows_lived : (t : Table) (p : ℕ) (c : Course) → (with_course t p c).rows ≡ t.rows
+unfolding with_course
+rows_lived t p c = refl
+
+length_lived : (t : Table) (p : ℕ) (c : Course) → length (with_course t p c).words ≡ length t.words
+unfolding with_course
+length_lived t p c = length-set t.words _ (course_word c)
+
+begun_rows : (t u : Table) (holders : List (Option ℕ)) (seat : Seat) (p : ℕ) → u.rows ≡ t.rows → begun u holders seat p ≡ begun t holders seat p
+unfolding begun
+begun_rows t u holders seat p e = λ i. set holders (number_of (e i) (first_row p)) (Some seat.0)
+
 -- THE HOLDERS, once the row behind x is handed over
 
 pub handed_same : (t u : Table) (holders : List (Option ℕ)) (seat : Seat) (x : Row) → u.threads ≡ t.threads → u.rows ≡ t.rows → handed u holders seat x ≡ handed t holders seat x
@@ -143,22 +165,30 @@ hand_other w seat x r n = ⊎_elim
     (λ (k : is_row w.table r ≡ false). held_outside (with_holders w (handed w.table w.holders seat x)) r k ∙ sym (held_outside w r k))
     (cases_Bool (is_row w.table r))
 
--- a row that is open, or held, has its turn
-turn_open : (w : World) (r : Row) → Kept w → is_fresh (cell_at w.table r) ≡ false → HasTurn w.table.threads w.table.rows (cell_at w.table) r
-turn_open w r k f = record {
-  inside = k.linked.inside r f;
-  turn = λ g e. k.linked.in_turn r.thread g (ap (λ n. is_fresh (cell_at w.table (record { thread = r.thread; sync = n }))) (sym e) ∙ f);
-}
-
-turn_held : (w : World) (r : Row) (seat : ℕ) → Kept w → holder_at w r ≡ Some seat → HasTurn w.table.threads w.table.rows (cell_at w.table) r
-turn_held w r seat k h = record {
-  inside = row_inside w.table r (held_row w r seat h);
-  turn = λ g e. k.held r.thread g seat (ap (λ n. holder_at w (record { thread = r.thread; sync = n })) (sym e) ∙ h);
-}
-
 -- a row that some seat holds is held
 is_held : (w : World) (r : Row) (seat : ℕ) → holder_at w r ≡ Some seat → holder_at w r ≢ None
 is_held w r seat h n = let bad : Some seat ≡ None = sym h ∙ n in cc
+
+-- a row that is open, or held, has its turn
+turn_open : (w : World) (r : Row) → Kept w → is_fresh (cell_at w.table r) ≡ false → HasTurn w.table.threads w.table.rows (cell_at w.table) (marks_at w.table) r
+turn_open w r k f = record {
+  inside = k.linked.inside r f;
+  turn = λ g e. k.linked.in_turn r.thread g (ap (λ n. is_fresh (cell_at w.table (record { thread = r.thread; sync = n }))) (sym e) ∙ f);
+  lives = k.linked.lived r f;
+}
+
+-- a thread that has started and not ended lives at each of its rows
+alive_lives : (c : Course) (g : ℕ) → c ≢ Unstarted → (HasEnded c → ⊥) → LivesAt c g
+alive_lives Unstarted g n a = absurd (n refl)
+alive_lives (Running start) g n a = tt
+alive_lives (Ended start sync) g n a = absurd (a tt)
+
+turn_held : (w : World) (r : Row) (seat : ℕ) → Kept w → holder_at w r ≡ Some seat → IsAlive w r.thread → HasTurn w.table.threads w.table.rows (cell_at w.table) (marks_at w.table) r
+turn_held w r seat k h alive = record {
+  inside = row_inside w.table r (held_row w r seat h);
+  turn = λ g e. k.held r.thread g seat (ap (λ n. holder_at w (record { thread = r.thread; sync = n })) (sym e) ∙ h);
+  lives = alive_lives (course_at w.table r.thread) r.sync (k.begun r (is_held w r seat h)) alive;
+}
 
 -- an open row is held
 pub open_held : (w : World) (r : Row) → Kept w → is_fresh (cell_at w.table r) ≡ false → holder_at w r ≢ None
@@ -213,7 +243,7 @@ module _ (w : World) (x : Row) (c : Cell) (k : Kept w)
     (not_fresh : is_fresh c ≡ false)
     (unclaimed : (q : Row) → names (joined_of (cell_at w.table q)) x ≡ true → cell_at w.table x ≢ Claimed)
     (held_x : holder_at w x ≢ None)
-    (turn : HasTurn w.table.threads w.table.rows (cell_at w.table) x) where
+    (turn : HasTurn w.table.threads w.table.rows (cell_at w.table) (marks_at w.table) x) where
   cells_plain : cell_at (with_cell w.table x c) ≡ put (cell_at w.table) x c
   cells_plain = cell_after_cell w.table x c k.sized row range
 
@@ -237,7 +267,7 @@ module _ (w : World) (x : Row) (c : Cell) (k : Kept w)
     few_rows = k.few_rows;
     formed = formed_after_word w.table x 0 (cell_word c) k.sized row (omega arith) (cell_is_formed c range) k.formed;
     linked =
-        subst (λ (z : (Row → Cell) × (NackName → Option Binding)). Linked w.table.threads w.table.rows z.0 (offer_at (with_cell w.table x c)) z.1) (λ i. (sym cells_plain i, sym (binding_after_cell w.table x c row) i))
+        subst (λ (z : (Row → Cell) × Marks). Linked w.table.threads w.table.rows z.0 (offer_at (with_cell w.table x c)) z.1) (λ i. (sym cells_plain i, sym (marks_after_cell w.table x c row) i))
         (linked_plain w.table.threads w.table.rows (cell_at w.table) (offer_at w.table) (offer_at (with_cell w.table x c)) x c k.linked same takes unclaimed (λ f. turn)
         (λ r f. λ i n. offer_after_cell w.table x r n c row (fresh_plain r f) i));
     held = λ thread sync seat h.
@@ -245,6 +275,10 @@ module _ (w : World) (x : Row) (c : Cell) (k : Kept w)
         (k.held thread sync seat (sym (holder_same w (with_cell w.table x c) (record { thread = thread; sync = sync + 1 }) refl refl) ∙ h));
     bound = λ n b e h. k.bound n b (ap (λ (f : NackName → Option Binding). f n) (sym (binding_after_word w.table x 0 (cell_word c) row (omega arith))) ∙ e) (sym (holder_same w (with_cell w.table x c) (bound_row n b) refl refl) ∙ h);
     seated = k.seated;
+    begun = λ r h e. k.begun r (λ n. h (holder_same w (with_cell w.table x c) r refl refl ∙ n)) (ap (λ (f : ℕ → Course). f r.thread) (sym (course_after_word w.table x 0 (cell_word c) row (omega arith))) ∙ e);
+    begun_last = λ thread h e. k.begun_last thread h (ap (λ (f : ℕ → Course). f thread) (sym (course_after_word w.table x 0 (cell_word c) row (omega arith))) ∙ e);
+    last_held = λ thread sync seat h e. taken_plain (record { thread = thread; sync = sync }) (k.last_held thread sync seat h e);
+    seated_last = k.seated_last;
     blank = λ r p i b n.
         blank_after w x 0 (cell_word c) k row (omega arith) held_x r p (sym (is_row_after w.table x r 0 (cell_word c)) ∙ i) b (sym (holder_same w (with_cell w.table x c) r refl refl) ∙ n);
   }
@@ -255,7 +289,7 @@ module _ (w : World) (x : Row) (j : Joined) (k : Kept w)
     (range : IsJoinedInRange j)
     (open_x : is_fresh (cell_at w.table x) ≡ false)
     (not_joined : joined_of (cell_at w.table x) ≡ None)
-    (linked : Linked w.table.threads w.table.rows (put (cell_at w.table) x (Synched j)) (offer_at w.table) (binding_at w.table)) where
+    (linked : Linked w.table.threads w.table.rows (put (cell_at w.table) x (Synched j)) (offer_at w.table) (marks_at w.table)) where
   cells_joined : cell_at (with_cell w.table x (Synched j)) ≡ put (cell_at w.table) x (Synched j)
   cells_joined = cell_after_cell w.table x (Synched j) k.sized row range
 
@@ -278,14 +312,18 @@ module _ (w : World) (x : Row) (j : Joined) (k : Kept w)
     few_threads = k.few_threads;
     few_rows = k.few_rows;
     formed = formed_after_word w.table x 0 (cell_word (Synched j)) k.sized row (omega arith) (cell_is_formed (Synched j) range) k.formed;
-    linked = subst (λ (z : (Row → Cell) × (Row → ℕ → Option Offer) × (NackName → Option Binding)). Linked w.table.threads w.table.rows z.0 z.1 z.2)
-        (λ i. (sym cells_joined i, λ r n. sym (offer_after_cell w.table x r n (Synched j) row (fresh_joined r)) i, sym (binding_after_cell w.table x (Synched j) row) i))
+    linked = subst (λ (z : (Row → Cell) × (Row → ℕ → Option Offer) × Marks). Linked w.table.threads w.table.rows z.0 z.1 z.2)
+        (λ i. (sym cells_joined i, λ r n. sym (offer_after_cell w.table x r n (Synched j) row (fresh_joined r)) i, sym (marks_after_cell w.table x (Synched j) row) i))
         linked;
     held = λ thread sync seat h.
         still_taken (record { thread = thread; sync = sync })
         (k.held thread sync seat (sym (holder_same w (with_cell w.table x (Synched j)) (record { thread = thread; sync = sync + 1 }) refl refl) ∙ h));
     bound = λ n b e h. k.bound n b (ap (λ (f : NackName → Option Binding). f n) (sym (binding_after_word w.table x 0 (cell_word (Synched j)) row (omega arith))) ∙ e) (sym (holder_same w (with_cell w.table x (Synched j)) (bound_row n b) refl refl) ∙ h);
     seated = k.seated;
+    begun = λ r h e. k.begun r (λ n. h (holder_same w (with_cell w.table x (Synched j)) r refl refl ∙ n)) (ap (λ (f : ℕ → Course). f r.thread) (sym (course_after_word w.table x 0 (cell_word (Synched j)) row (omega arith))) ∙ e);
+    begun_last = λ thread h e. k.begun_last thread h (ap (λ (f : ℕ → Course). f thread) (sym (course_after_word w.table x 0 (cell_word (Synched j)) row (omega arith))) ∙ e);
+    last_held = λ thread sync seat h e. still_taken (record { thread = thread; sync = sync }) (k.last_held thread sync seat h e);
+    seated_last = k.seated_last;
     blank = λ r p i b n.
         blank_after w x 0 (cell_word (Synched j)) k row (omega arith) (open_held w x k open_x) r p (sym (is_row_after w.table x r 0 (cell_word (Synched j))) ∙ i) b (sym (holder_same w (with_cell w.table x (Synched j)) r refl refl) ∙ n);
   }
@@ -300,14 +338,18 @@ kept_draft w x p v seat k h f a b g =
       few_threads = k.few_threads;
       few_rows = k.few_rows;
       formed = formed_after_word w.table x p v k.sized row below g k.formed;
-      linked = subst (λ (z : (Row → Cell) × (Row → ℕ → Option Offer) × (NackName → Option Binding)). Linked w.table.threads w.table.rows z.0 z.1 z.2)
-          (λ i. (λ r. sym (cells r) i, λ r n. sym (offer_after_draft w.table x r n p v row a below (ap is_fresh f)) i, sym (binding_after_word w.table x p v row below) i))
+      linked = subst (λ (z : (Row → Cell) × (Row → ℕ → Option Offer) × Marks). Linked w.table.threads w.table.rows z.0 z.1 z.2)
+          (λ i. (λ r. sym (cells r) i, λ r n. sym (offer_after_draft w.table x r n p v row a below (ap is_fresh f)) i, sym (marks_after_word w.table x p v row below) i))
           k.linked;
       held = λ thread sync s e.
           ap is_taken (cells (record { thread = thread; sync = sync }))
           ∙ k.held thread sync s (sym (holder_same w (with_word w.table x p v) (record { thread = thread; sync = sync + 1 }) refl refl) ∙ e);
       bound = λ n c e g. k.bound n c (ap (λ (q : NackName → Option Binding). q n) (sym (binding_after_word w.table x p v row below)) ∙ e) (sym (holder_same w (with_word w.table x p v) (bound_row n c) refl refl) ∙ g);
       seated = k.seated;
+      begun = λ r h e. k.begun r (λ n. h (holder_same w (with_word w.table x p v) r refl refl ∙ n)) (ap (λ (f : ℕ → Course). f r.thread) (sym (course_after_word w.table x p v row below)) ∙ e);
+      begun_last = λ thread h e. k.begun_last thread h (ap (λ (f : ℕ → Course). f thread) (sym (course_after_word w.table x p v row below)) ∙ e);
+      last_held = λ thread sync seat h e. ap is_taken (cells (record { thread = thread; sync = sync })) ∙ k.last_held thread sync seat h e;
+      seated_last = k.seated_last;
       blank = λ r q i d n.
           blank_after w x p v k row below (is_held w x seat h) r q (sym (is_row_after w.table x r p v) ∙ i) d (sym (holder_same w (with_word w.table x p v) r refl refl) ∙ n);
     }
@@ -317,7 +359,7 @@ pub idle_unnamed : (w : World) (x : Row) → Kept w → cell_at w.table x ≢ Cl
 idle_unnamed w x k = unnamed_idle w.table.threads w.table.rows (cell_at w.table) (offer_at w.table) x k.linked
 
 -- a write that joins nothing to a row that is neither joined nor named
-kept_unjoined : (w : World) (x : Row) (c : Cell) → Kept w → is_row w.table x ≡ true → IsCellInRange c → joined_of (cell_at w.table x) ≡ None → joined_of c ≡ None → is_fresh c ≡ false → ((q : Row) → names (joined_of (cell_at w.table q)) x ≡ false) → holder_at w x ≢ None → HasTurn w.table.threads w.table.rows (cell_at w.table) x → Kept (with_table w (with_cell w.table x c))
+kept_unjoined : (w : World) (x : Row) (c : Cell) → Kept w → is_row w.table x ≡ true → IsCellInRange c → joined_of (cell_at w.table x) ≡ None → joined_of c ≡ None → is_fresh c ≡ false → ((q : Row) → names (joined_of (cell_at w.table q)) x ≡ false) → holder_at w x ≢ None → HasTurn w.table.threads w.table.rows (cell_at w.table) (marks_at w.table) x → Kept (with_table w (with_cell w.table x c))
 kept_unjoined w x c k row range was is opened unnamed held turn =
     kept_plain w x c k row range (is ∙ sym was)
     (λ h. absurd (false≢true (sym (ap (λ (o : Option Joined). is_some o) was) ∙ taken_joined (cell_at w.table x) h)))
@@ -325,12 +367,12 @@ kept_unjoined w x c k row range was is opened unnamed held turn =
     (λ q h. absurd (false≢true (sym (unnamed q) ∙ h)))
     held turn
 
-kept_open : (w : World) (x : Row) (seat : ℕ) → Kept w → holder_at w x ≡ Some seat → cell_at w.table x ≡ Fresh → Kept (with_table w (with_cell w.table x Waiting))
-kept_open w x seat k h f =
+kept_open : (w : World) (x : Row) (seat : ℕ) → Kept w → holder_at w x ≡ Some seat → cell_at w.table x ≡ Fresh → IsAlive w x.thread → Kept (with_table w (with_cell w.table x Waiting))
+kept_open w x seat k h f alive =
     kept_unjoined w x Waiting k (held_row w x seat h) tt (ap joined_of f) refl refl
     (idle_unnamed w x k (λ e. let bad : Fresh ≡ Claimed = sym f ∙ e in cc) (ap joined_of f))
     (is_held w x seat h)
-    (turn_held w x seat k h)
+    (turn_held w x seat k h alive)
 
 kept_claim : (w : World) (x : Row) → Kept w → cell_at w.table x ≡ Waiting → Kept (with_table w (with_cell w.table x Claimed))
 kept_claim w x k f =
@@ -360,7 +402,7 @@ row_in_range w r k h =
     record { thread = omega arith; sync = omega arith }
 
 -- a last stamp is small
-pub small_last : (w : World) (r : Row) → Kept w → last_stamp (joined_at w.table) r ≤ 65536
+pub small_last : (w : World) (r : Row) → Kept w → last_stamp (marks_at w.table) (joined_at w.table) r ≤ 65536
 small_last w r k =
     let a = last_bounded w.table.threads w.table.rows (cell_at w.table) (offer_at w.table) r k.linked in
     let few = few_commits w.table.threads w.table.rows (joined_by (cell_at w.table)) (offer_at w.table) k.few_threads k.few_rows in
@@ -377,8 +419,8 @@ join_in_range w m i o n k h meets =
     record {
       own = offer_below w.table o n both.1 both.3;
       partner = (row_in_range w m k h, offer_below w.table m i both.0 both.2);
-      stamp_low = low (last_stamp (joined_at w.table) m) (last_stamp (joined_at w.table) o);
-      stamp_high = high (last_stamp (joined_at w.table) m) (last_stamp (joined_at w.table) o) (omega arith) (omega arith);
+      stamp_low = low (last_stamp (marks_at w.table) (joined_at w.table) m) (last_stamp (marks_at w.table) (joined_at w.table) o);
+      stamp_high = high (last_stamp (marks_at w.table) (joined_at w.table) m) (last_stamp (marks_at w.table) (joined_at w.table) o) (omega arith) (omega arith);
     }
   where
     low : (a b : ℕ) → 1 ≤ 1 + max a b
@@ -397,26 +439,26 @@ kept_join w m i o n k mine none other apart meets =
     (linked_join w.table.threads w.table.rows (cell_at w.table) (offer_at w.table) m i o n (joined_with w.table m i o n) k.linked mine (unnamed_row w m none) other apart meets refl)
 
 -- a cause is small
-pub small_cause : (w : World) (o : Option Offer) (s : ℕ) → Kept w → cause_of (joined_at w.table) (offer_at w.table) (binding_at w.table) o ≡ Some s → s ≤ 65536
+pub small_cause : (w : World) (o : Option Offer) (s : ℕ) → Kept w → cause_of (joined_at w.table) (offer_at w.table) (marks_at w.table) o ≡ Some s → s ≤ 65536
 small_cause w o s k h =
     let a = cause_bounded w.table.threads w.table.rows (cell_at w.table) (offer_at w.table) o s k.linked h in
     let few = few_commits w.table.threads w.table.rows (joined_by (cell_at w.table)) (offer_at w.table) k.few_threads k.few_rows in
     omega arith
 
 -- how a row is granted that has a cause
-pub granted_is : (t : Table) (o : Row) (n s : ℕ) → cause_at t o n ≡ Some s → granted_by t o n ≡ record { own = n; partner = None; stamp = 1 + max (last_stamp (joined_at t) o) s }
+pub granted_is : (t : Table) (o : Row) (n s : ℕ) → cause_at t o n ≡ Some s → granted_by t o n ≡ record { own = n; partner = None; stamp = 1 + max (last_stamp (marks_at t) (joined_at t) o) s }
 unfolding granted_by
-granted_is t o n s e = λ i. record { own = n; partner = None; stamp = 1 + max (last_stamp (joined_at t) o) (unwrap_or (e i) 0) }
+granted_is t o n s e = λ i. record { own = n; partner = None; stamp = 1 + max (last_stamp (marks_at t) (joined_at t) o) (unwrap_or (e i) 0) }
 
 -- the word of a grant is well-formed
 pub grant_in_range : (w : World) (o : Row) (n s : ℕ) → Kept w → cause_at w.table o n ≡ Some s → IsJoinedInRange (granted_by w.table o n)
 grant_in_range w o n s k caused =
-    let there = alone_there (offer_at w.table o n) (cause_alone (joined_at w.table) (offer_at w.table) (binding_at w.table) (offer_at w.table o n) s caused) in
+    let there = alone_there (offer_at w.table o n) (cause_alone (joined_at w.table) (offer_at w.table) (marks_at w.table) (offer_at w.table o n) s caused) in
     subst IsJoinedInRange (sym (granted_is w.table o n s caused)) (record {
       own = offer_below w.table o n there.0 there.1;
       partner = tt;
-      stamp_low = low (last_stamp (joined_at w.table) o) s;
-      stamp_high = high (last_stamp (joined_at w.table) o) s (small_last w o k) (small_cause w (offer_at w.table o n) s k caused);
+      stamp_low = low (last_stamp (marks_at w.table) (joined_at w.table) o) s;
+      stamp_high = high (last_stamp (marks_at w.table) (joined_at w.table) o) s (small_last w o k) (small_cause w (offer_at w.table o n) s k caused);
     })
   where
     low : (a b : ℕ) → 1 ≤ 1 + max a b
@@ -448,31 +490,50 @@ bind_in_range w r scope k h b =
     let few = k.few_rows in
     record { sync = omega arith; scope = b }
 
+-- what a change of the marks leaves: rows, offers, and who holds what
+kept_marked : (w : World) (t : Table) (k : Kept w) → t.threads ≡ w.table.threads → t.rows ≡ w.table.rows → length t.words ≡ length w.table.words → IsFormed t → ((r : Row) → cell_at t r ≡ cell_at w.table r) → ((r : Row) (n : ℕ) → offer_at t r n ≡ offer_at w.table r n) → ((r : Row) (q : ℕ) → is_row w.table r ≡ true → q < 34 → word_at t r q ≡ word_at w.table r q) → Linked w.table.threads w.table.rows (cell_at w.table) (offer_at w.table) (marks_at t) → ((n : NackName) (b : Binding) → binding_at t n ≡ Some b → holder_at w (bound_row n b) ≢ None) → ((p : ℕ) → course_at w.table p ≢ Unstarted → course_at t p ≢ Unstarted) → Kept (with_table w t)
+kept_marked w t k threads rows len formed cells offers words linked bound started =
+    let same : (r : Row) → holder_at (with_table w t) r ≡ holder_at w r = λ r. holder_same w t r threads rows in
+    let row : (r : Row) → is_row t r ≡ is_row w.table r = λ r. same_is_row t w.table r threads rows in
+    record {
+      sized = len ∙ k.sized ∙ (λ i. sym threads i * thread_len (sym rows i));
+      few_threads = subst (λ n. n ≤ 64) (sym threads) k.few_threads;
+      few_rows = subst (λ n. n ≤ 1024) (sym rows) k.few_rows;
+      formed = formed;
+      linked =
+          subst (λ (z : (ℕ × ℕ) × (Row → Cell) × (Row → ℕ → Option Offer)). Linked z.0.0 z.0.1 z.1 z.2 (marks_at t))
+          (λ i. ((sym threads i, sym rows i), (λ r. sym (cells r) i), (λ r n. sym (offers r n) i)))
+          linked;
+      held = λ thread sync s e.
+          ap is_taken (cells (record { thread = thread; sync = sync }))
+          ∙ k.held thread sync s (sym (same (record { thread = thread; sync = sync + 1 })) ∙ e);
+      bound = λ n c e h. bound n c e (sym (same (bound_row n c)) ∙ h);
+      begun = λ r h e. started r.thread (k.begun r (λ n. h (same r ∙ n))) e;
+      begun_last = λ thread h e. started thread (k.begun_last thread h) e;
+      last_held = λ thread sync seat h e. ap is_taken (cells (record { thread = thread; sync = sync })) ∙ k.last_held thread sync seat h (sym rows ∙ e);
+      seated = k.seated ∙ (λ i. sym threads i * sym rows i);
+      seated_last = k.seated_last ∙ sym threads;
+      blank = λ q p i a n.
+          let here = sym (row q) ∙ i in
+          words q p here a ∙ k.blank q p here a (sym (same q) ∙ n);
+    }
+
 kept_bound : (w : World) (m : NackName) (b : Binding) → Kept w → is_nack w.table m ≡ true → IsBindingInRange b → holder_at w (bound_row m b) ≢ None → ((n : NackName) (c : Binding) → binding_at w.table n ≡ Some c → binding_at (with_nack w.table m b) n ≡ Some c) → Kept (with_table w (with_nack w.table m b))
 unfolding with_nack
-kept_bound w m b kept nack range held binds = record {
-  sized = length-set w.table.words _ _ ∙ kept.sized;
-  few_threads = kept.few_threads;
-  few_rows = kept.few_rows;
-  formed = formed_after_bind w.table m b kept.sized nack range kept.formed;
-  linked =
-      subst (λ (z : (Row → Cell) × (Row → ℕ → Option Offer)). Linked w.table.threads w.table.rows z.0 z.1 (binding_at (with_nack w.table m b)))
-      (λ i. (λ r. sym (cell_after_bind w.table m b r nack) i, λ r n. sym (offer_after_bind w.table m b r n nack) i))
-      (linked_bind (binding_at w.table) (binding_at (with_nack w.table m b)) w.table.threads w.table.rows (cell_at w.table) (offer_at w.table) kept.linked binds);
-  held = λ thread sync s e.
-      ap is_taken (cell_after_bind w.table m b (record { thread = thread; sync = sync }) nack)
-      ∙ kept.held thread sync s (sym (holder_same w (with_nack w.table m b) (record { thread = thread; sync = sync + 1 }) refl refl) ∙ e);
-  bound = λ n c e h.
-      let was : holder_at w (bound_row n c) ≡ None = sym (holder_same w (with_nack w.table m b) (bound_row n c) refl refl) ∙ h in
-      ⊎_elim
-      (λ (old : binding_at w.table n ≡ Some c). kept.bound n c old was)
-      (λ (new : (m ≡ n) × (b ≡ c)). held ((λ i. holder_at w (bound_row (new.0 i) (new.1 i))) ∙ was))
-      (binding_was w.table m b kept.sized nack range n c e);
-  seated = kept.seated;
-  blank = λ q p i a n.
-      let here = sym (is_row_bound w.table m b q) ∙ i in
-      word_bound w.table m b q p nack here a ∙ kept.blank q p here a (sym (holder_same w (with_nack w.table m b) q refl refl) ∙ n);
-}
+kept_bound w m b kept nack range held binds =
+    let lives = course_after_bind w.table m b nack in
+    kept_marked w (with_nack w.table m b) kept refl refl (length-set w.table.words _ _) (formed_after_bind w.table m b kept.sized nack range kept.formed)
+    (λ r. cell_after_bind w.table m b r nack)
+    (λ r n. offer_after_bind w.table m b r n nack)
+    (λ r q here a. word_bound w.table m b r q nack here a)
+    (subst (λ (f : ℕ → Course). Linked w.table.threads w.table.rows (cell_at w.table) (offer_at w.table) (record { bound = binding_at (with_nack w.table m b); course = f })) (sym lives)
+    (linked_marks (marks_at w.table) (record { bound = binding_at (with_nack w.table m b); course = course_at w.table }) w.table.threads w.table.rows (cell_at w.table) (offer_at w.table) kept.linked binds
+    (λ p start sync e. e) (λ r f. refl) kept.linked.lived kept.linked.ended kept.linked.starts))
+    (λ n c e h. ⊎_elim
+    (λ (old : binding_at w.table n ≡ Some c). kept.bound n c old h)
+    (λ (new : (m ≡ n) × (b ≡ c)). held ((λ i. holder_at w (bound_row (new.0 i) (new.1 i))) ∙ h))
+    (binding_was w.table m b kept.sized nack range n c e))
+    (λ p n e. n (ap (λ (f : ℕ → Course). f p) (sym lives) ∙ e))
 
 kept_bind : (w : World) (r : Row) (k scope seat : ℕ) → Kept w → holder_at w r ≡ Some seat → k < 64 → scope < 4 → binding_at w.table (nack_of_row r k) ≡ None → Kept (with_table w (with_nack w.table (nack_of_row r k) (record { sync = r.sync; scope = scope })))
 kept_bind w r k scope seat kept h b c free =
@@ -491,6 +552,17 @@ synched_is Waiting j h = let bad : None ≡ Some j = h in cc
 synched_is Claimed j h = let bad : None ≡ Some j = h in cc
 synched_is (Synched i) j h = ap Synched (some_inj i j h)
 synched_is (Taken i) j h = let bad : None ≡ Some j = h in cc
+
+-- a thread that lives at a row has started
+lives_started : (c : Course) (g : ℕ) → LivesAt c g → c ≢ Unstarted
+lives_started Unstarted g h e = h
+lives_started (Running start) g h e = let bad : Running start ≡ Unstarted = e in cc
+lives_started (Ended start sync) g h e = let bad : Ended start sync ≡ Unstarted = e in cc
+
+-- who holds rows does not hang on who stands behind the last ones
+pub holder_lasted : (w : World) (lasts : List (Option ℕ)) (r : Row) → holder_at (with_lasts w lasts) r ≡ holder_at w r
+unfolding holder_at
+holder_lasted w lasts r = refl
 
 -- the row behind a taken row is handed over
 kept_handed : (w : World) (seat : Seat) (x : Row) → Kept w → is_taken (cell_at w.table x) ≡ true → Kept (with_holders w (handed w.table w.holders seat x))
@@ -517,7 +589,14 @@ kept_handed w seat x k taken = record {
       (cases_Bool (is_row w.table (next_row x))))
       (λ (q : row_eq (bound_row n b) (next_row x) ≡ false). sym (hand_other w seat x (bound_row n b) q) ∙ h)
       (row_cases (bound_row n b) (next_row x)));
+  begun = λ r h e. ⊎_elim
+      (λ (q : r ≡ next_row x). lives_started (course_at w.table x.thread) x.sync (k.linked.lived x (taken_open (cell_at w.table x) taken)) (ap (λ (y : Row). course_at w.table y.thread) (sym q) ∙ e))
+      (λ (q : row_eq r (next_row x) ≡ false). k.begun r (λ n. h (hand_other w seat x r q ∙ n)) e)
+      (row_cases r (next_row x));
+  begun_last = k.begun_last;
+  last_held = k.last_held;
   seated = length_handed w.table w.holders seat x ∙ k.seated;
+  seated_last = k.seated_last;
   blank = λ r p i b n. ⊎_elim
       (λ (e : r ≡ next_row x).
       let there : holder_at (with_holders w (handed w.table w.holders seat x)) (next_row x) ≡ Some seat.0 = hand_next w seat x k.seated (ap (is_row w.table) (sym e) ∙ i) in
@@ -526,6 +605,63 @@ kept_handed w seat x k taken = record {
       (λ (e : row_eq r (next_row x) ≡ false). k.blank r p i b (sym (hand_other w seat x r e) ∙ n))
       (row_cases r (next_row x));
 }
+
+-- and where it was the last one, the place behind it is
+last_other : (t : Table) (lasts : List (Option ℕ)) (seat : Seat) (x : Row) (p : ℕ) → (p ≡ x.thread → ⊥) → get_or (handed_last t lasts seat x) p None ≡ get_or lasts p None
+unfolding handed_last
+last_other t lasts seat x p n = ⊎_elim
+    (λ (e : eqb (x.sync + 1) t.rows ≡ true). ap (λ b. get_or (cond b (set lasts x.thread (Some seat.0)) lasts) p None) e ∙ get_or-set_other lasts x.thread p (Some seat.0) None n)
+    (λ (e : eqb (x.sync + 1) t.rows ≡ false). ap (λ b. get_or (cond b (set lasts x.thread (Some seat.0)) lasts) p None) e)
+    (cases_Bool (eqb (x.sync + 1) t.rows))
+
+-- the place behind the row's thread is held as before, but behind its last row
+last_kept_at : (t : Table) (lasts : List (Option ℕ)) (seat : Seat) (x : Row) (p : ℕ) → (p ≡ x.thread → x.sync + 1 ≡ t.rows → ⊥) → get_or (handed_last t lasts seat x) p None ≡ get_or lasts p None
+unfolding handed_last
+last_kept_at t lasts seat x p n = ⊎_elim
+    (λ (e : p ≡ x.thread). ap (λ b. get_or (cond b (set lasts x.thread (Some seat.0)) lasts) p None) (ne_eqb (x.sync + 1) t.rows (n e)))
+    (λ (e : p ≡ x.thread → ⊥). last_other t lasts seat x p e)
+    (cases_eq p x.thread)
+
+handed_last_same : (t u : Table) (lasts : List (Option ℕ)) (seat : Seat) (x : Row) → u.rows ≡ t.rows → handed_last u lasts seat x ≡ handed_last t lasts seat x
+unfolding handed_last
+handed_last_same t u lasts seat x e = λ i. cond (eqb (x.sync + 1) (e i)) (set lasts x.thread (Some seat.0)) lasts
+
+length_lasts : (t : Table) (lasts : List (Option ℕ)) (seat : Seat) (x : Row) → length (handed_last t lasts seat x) ≡ length lasts
+unfolding handed_last
+length_lasts t lasts seat x = ⊎_elim
+    (λ (e : eqb (x.sync + 1) t.rows ≡ true). ap (λ b. length (cond b (set lasts x.thread (Some seat.0)) lasts)) e ∙ length-set lasts x.thread (Some seat.0))
+    (λ (e : eqb (x.sync + 1) t.rows ≡ false). ap (λ b. length (cond b (set lasts x.thread (Some seat.0)) lasts)) e)
+    (cases_Bool (eqb (x.sync + 1) t.rows))
+
+kept_lasted : (w : World) (seat : Seat) (x : Row) → Kept w → is_taken (cell_at w.table x) ≡ true → Kept (with_lasts w (handed_last w.table w.lasts seat x))
+kept_lasted w seat x k taken = record {
+  sized = k.sized;
+  few_threads = k.few_threads;
+  few_rows = k.few_rows;
+  formed = k.formed;
+  linked = k.linked;
+  held = λ thread sync s h. k.held thread sync s (sym (holder_lasted w (handed_last w.table w.lasts seat x) _) ∙ h);
+  bound = λ n b e h. k.bound n b e (sym (holder_lasted w (handed_last w.table w.lasts seat x) _) ∙ h);
+  begun = λ r h e. k.begun r (λ n. h (holder_lasted w (handed_last w.table w.lasts seat x) r ∙ n)) e;
+  begun_last = λ p h e. ⊎_elim
+      (λ (same : p ≡ x.thread). lives_started (course_at w.table x.thread) x.sync (k.linked.lived x (taken_open (cell_at w.table x) taken)) (ap (course_at w.table) (sym same) ∙ e))
+      (λ (other : p ≡ x.thread → ⊥). k.begun_last p (λ n. h (last_other w.table w.lasts seat x p other ∙ n)) e)
+      (cases_eq p x.thread);
+  last_held = λ thread sync s h e. ⊎_elim
+      (λ (same : (thread ≡ x.thread) × (x.sync + 1 ≡ w.table.rows)).
+      let at : sync ≡ x.sync = (let a = same.1 in omega (arith, e)) in
+      (λ i. is_taken (cell_at w.table (record { thread = same.0 i; sync = at i }))) ∙ taken)
+      (λ (other : thread ≡ x.thread → x.sync + 1 ≡ w.table.rows → ⊥). k.last_held thread sync s (sym (last_kept_at w.table w.lasts seat x thread other) ∙ h) e)
+      (both_or_not (cases_eq thread x.thread) (cases_eq (x.sync + 1) w.table.rows));
+  seated = k.seated;
+  seated_last = length_lasts w.table w.lasts seat x ∙ k.seated_last;
+  blank = λ r p i b n. k.blank r p i b (sym (holder_lasted w (handed_last w.table w.lasts seat x) r) ∙ n);
+}
+  where
+    both_or_not : {A B : Type 0} → A ⊎ (A → ⊥) → B ⊎ (B → ⊥) → (A × B) ⊎ (A → B → ⊥)
+    both_or_not (inl a) (inl b) = inl (a, b)
+    both_or_not (inl a) (inr n) = inr (λ a b. n b)
+    both_or_not (inr n) b = inr (λ a b. n a)
 
 -- a synched row becomes Taken
 pub kept_taken : (w : World) (x : Row) (j : Joined) → Kept w → cell_at w.table x ≡ Synched j → Kept (with_table w (with_cell w.table x (Taken j)))
@@ -539,27 +675,203 @@ kept_taken w x j k is =
 pub cells_taken : (w : World) (x : Row) (j : Joined) → Kept w → cell_at w.table x ≡ Synched j → cell_at (with_cell w.table x (Taken j)) ≡ put (cell_at w.table) x (Taken j)
 cells_taken w x j k is = cell_after_cell w.table x (Taken j) k.sized (row_of_open w.table x (ap is_fresh is)) (joined_ranged w.table x j (ap joined_of is))
 
-pub kept_took : (w : World) (seat : Seat) (x : Row) (j : Joined) → Kept w → cell_at w.table x ≡ Synched j → Kept (with_holders (with_table w (with_cell w.table x (Taken j))) (handed w.table w.holders seat x))
+abbrev pub took : World → Seat → Row → Table → World
+took w seat x t = with_lasts (with_holders (with_table w t) (handed w.table w.holders seat x)) (handed_last w.table w.lasts seat x)
+
+pub kept_took : (w : World) (seat : Seat) (x : Row) (j : Joined) → Kept w → cell_at w.table x ≡ Synched j → Kept (took w seat x (with_cell w.table x (Taken j)))
 unfolding with_cell
 kept_took w seat x j k is =
-    subst (λ (hs : List (Option ℕ)). Kept (with_holders (with_table w (with_cell w.table x (Taken j))) hs))
-    (handed_same w.table (with_cell w.table x (Taken j)) w.holders seat x refl refl)
-    (kept_handed (with_table w (with_cell w.table x (Taken j))) seat x (kept_taken w x j k is)
-    (ap is_taken (ap (λ (f : Row → Cell). f x) (cells_taken w x j k is) ∙ put_same (cell_at w.table) x (Taken j))))
+    let t : Table = with_cell w.table x (Taken j) in
+    let taken : is_taken (cell_at t x) ≡ true = ap is_taken (ap (λ (f : Row → Cell). f x) (cells_taken w x j k is) ∙ put_same (cell_at w.table) x (Taken j)) in
+    subst (λ (z : List (Option ℕ) × List (Option ℕ)). Kept (with_lasts (with_holders (with_table w t) z.0) z.1))
+    (λ i. (handed_same w.table t w.holders seat x refl refl i, handed_last_same w.table t w.lasts seat x refl i))
+    (kept_lasted (with_holders (with_table w t) (handed t w.holders seat x)) seat x (kept_handed (with_table w t) seat x (kept_taken w x j k is) taken) taken)
 
 -- a world whose table has that cell and whose holders are those
-pub took_world : (w v : World) (seat : Seat) (x : Row) (j : Joined) (t : Table) → v.table ≡ t → t ≡ with_cell w.table x (Taken j) → v.seats ≡ w.seats → v.holders ≡ handed t w.holders seat x → v ≡ with_holders (with_table w (with_cell w.table x (Taken j))) (handed w.table w.holders seat x)
+pub took_world : (w v : World) (seat : Seat) (x : Row) (j : Joined) (t : Table) → v.table ≡ t → t ≡ with_cell w.table x (Taken j) → v.seats ≡ w.seats → v.holders ≡ handed t w.holders seat x → v.lasts ≡ handed_last t w.lasts seat x → v ≡ took w seat x (with_cell w.table x (Taken j))
 unfolding with_cell
-took_world w v seat x j t a b c d =
+took_world w v seat x j t a b c d e =
     let hands : v.holders ≡ handed w.table w.holders seat x =
     d ∙ ap (λ (u : Table). handed u w.holders seat x) b ∙ handed_same w.table (with_cell w.table x (Taken j)) w.holders seat x refl refl in
-    λ i. record { table = (a ∙ b) i; seats = c i; holders = hands i }
+    let ends : v.lasts ≡ handed_last w.table w.lasts seat x =
+    e ∙ ap (λ (u : Table). handed_last u w.lasts seat x) b ∙ handed_last_same w.table (with_cell w.table x (Taken j)) w.lasts seat x refl in
+    λ i. record { table = (a ∙ b) i; seats = c i; holders = hands i; lasts = ends i }
 
 kept_take : (w : World) (seat : Seat) (x : Row) → Kept w → is_some (synched_of (cell_at w.table x)) ≡ true → Kept (after_step w seat (Take x))
 kept_take w seat x k h =
     let j = some_parts (synched_of (cell_at w.table x)) h in
-    subst (λ (o : Option Joined). Kept (with_holders (with_table w (with_take w.table x o)) (handed w.table w.holders seat x))) (sym j.1)
+    subst (λ (o : Option Joined). Kept (took w seat x (with_take w.table x o))) (sym j.1)
     (kept_took w seat x j.0 k (synched_is (cell_at w.table x) j.0 j.1))
+
+-- THE START AND THE FINISH
+
+-- a life that is written, where rows and ends stay lawful by it
+kept_lived : (w : World) (p : ℕ) (c : Course) (k : Kept w) → p < w.table.threads → IsCourseInRange c → c ≢ Unstarted → (HasEnded (course_at w.table p) → ⊥) → ((r : Row) → is_fresh (cell_at w.table r) ≡ false → r.thread ≡ p → (start_of c ≡ start_of (course_at w.table p)) × LivesAt c r.sync) → ((start sync : ℕ) → c ≡ Ended start (sync + 1) → is_taken (cell_at w.table (record { thread = p; sync = sync })) ≡ true) → start_of c ≤ length (commits_of (all_rows w.table.threads w.table.rows) (joined_by (cell_at w.table)) (offer_at w.table)) → Kept (with_table w (with_course w.table p c))
+kept_lived w p c k below range goes alive opens ends bounded =
+    let here : course_at (with_course w.table p c) p ≡ c = course_lived w.table p c k.sized below range in
+    let there : (q : ℕ) → (q ≡ p → ⊥) → course_at (with_course w.table p c) q ≡ course_at w.table q = λ q n. course_lived_other w.table p q c n in
+    let binds : binding_at (with_course w.table p c) ≡ binding_at w.table = binding_after_life w.table p c in
+    kept_marked w (with_course w.table p c) k (threads_lived w.table p c) (rows_lived w.table p c) (length_lived w.table p c)
+    (formed_after_life w.table p c k.sized below range k.formed)
+    (cell_after_life w.table p c)
+    (offer_after_life w.table p c)
+    (word_lived w.table p c)
+    (linked_marks (marks_at w.table) (marks_at (with_course w.table p c)) w.table.threads w.table.rows (cell_at w.table) (offer_at w.table) k.linked
+    (λ n b e. ap (λ (f : NackName → Option Binding). f n) binds ∙ e)
+    (λ q start sync e. ⊎_elim
+    (λ (same : q ≡ p). absurd (alive (subst HasEnded (sym e ∙ ap (course_at w.table) same) tt)))
+    (λ (other : q ≡ p → ⊥). there q other ∙ e)
+    (cases_eq q p))
+    (λ r f. ⊎_elim
+    (λ (same : r.thread ≡ p). ap start_of (ap (course_at (with_course w.table p c)) same ∙ here) ∙ (opens r f same).0 ∙ ap (λ q. start_of (course_at w.table q)) (sym same))
+    (λ (other : r.thread ≡ p → ⊥). ap start_of (there r.thread other))
+    (cases_eq r.thread p))
+    (λ r f. ⊎_elim
+    (λ (same : r.thread ≡ p). subst (λ (x : Course). LivesAt x r.sync) (sym (ap (course_at (with_course w.table p c)) same ∙ here)) (opens r f same).1)
+    (λ (other : r.thread ≡ p → ⊥). subst (λ (x : Course). LivesAt x r.sync) (sym (there r.thread other)) (k.linked.lived r f))
+    (cases_eq r.thread p))
+    (λ q start sync e. ⊎_elim
+    (λ (same : q ≡ p). ap (λ n. is_taken (cell_at w.table (record { thread = n; sync = sync }))) same ∙ ends start sync (sym here ∙ ap (course_at (with_course w.table p c)) (sym same) ∙ e))
+    (λ (other : q ≡ p → ⊥). k.linked.ended q start sync (sym (there q other) ∙ e))
+    (cases_eq q p))
+    (λ q. ⊎_elim
+    (λ (same : q ≡ p). subst (λ n. n ≤ length (commits_of (all_rows w.table.threads w.table.rows) (joined_by (cell_at w.table)) (offer_at w.table))) (sym (ap start_of (ap (course_at (with_course w.table p c)) same ∙ here))) bounded)
+    (λ (other : q ≡ p → ⊥). subst (λ n. n ≤ length (commits_of (all_rows w.table.threads w.table.rows) (joined_by (cell_at w.table)) (offer_at w.table))) (sym (ap start_of (there q other))) (k.linked.starts q))
+    (cases_eq q p)))
+    (λ n b e. k.bound n b (ap (λ (f : NackName → Option Binding). f n) (sym binds) ∙ e))
+    (λ q n e. ⊎_elim
+    (λ (same : q ≡ p). goes (sym here ∙ ap (course_at (with_course w.table p c)) (sym same) ∙ e))
+    (λ (other : q ≡ p → ⊥). n (sym (there q other) ∙ e))
+    (cases_eq q p))
+
+-- the first row of a thread that has started is held
+begun_other : (w : World) (seat : Seat) (p : ℕ) (r : Row) → row_eq r (first_row p) ≡ false → p < w.table.threads → holder_at (with_holders w (begun w.table w.holders seat p)) r ≡ holder_at w r
+unfolding begun
+begun_other w seat p r n below = ⊎_elim
+    (λ (k : is_row w.table r ≡ true).
+    held_inside (with_holders w (begun w.table w.holders seat p)) r k
+    ∙ get_or-set_other w.holders (number_of w.table.rows (first_row p)) (number_of w.table.rows r) (Some seat.0) None (λ d. row_eq-false r (first_row p) n (same_number w.table r (first_row p) k (row_from w.table (first_row p) below (let i = (row_inside w.table r k).1 in omega arith)) d))
+    ∙ sym (held_inside w r k))
+    (λ (k : is_row w.table r ≡ false). held_outside (with_holders w (begun w.table w.holders seat p)) r k ∙ sym (held_outside w r k))
+    (cases_Bool (is_row w.table r))
+
+length_begun : (t : Table) (holders : List (Option ℕ)) (seat : Seat) (p : ℕ) → length (begun t holders seat p) ≡ length holders
+unfolding begun
+length_begun t holders seat p = length-set holders _ (Some seat.0)
+
+begun_held : (w : World) (seat : Seat) (p : ℕ) → length w.holders ≡ w.table.threads * w.table.rows → is_row w.table (first_row p) ≡ true → holder_at (with_holders w (begun w.table w.holders seat p)) (first_row p) ≡ Some seat.0
+unfolding begun
+begun_held w seat p sized e =
+    let inside = row_inside w.table (first_row p) e in
+    let below = block_inside p w.table.threads 0 w.table.rows inside.0 inside.1 in
+    held_inside (with_holders w (begun w.table w.holders seat p)) (first_row p) e
+    ∙ get_or-set_same w.holders (number_of w.table.rows (first_row p)) (Some seat.0) None (omega arith)
+
+kept_begun : (w : World) (seat : Seat) (p : ℕ) → Kept w → p < w.table.threads → course_at w.table p ≢ Unstarted → Kept (with_holders w (begun w.table w.holders seat p))
+kept_begun w seat p k below goes = record {
+  sized = k.sized;
+  few_threads = k.few_threads;
+  few_rows = k.few_rows;
+  formed = k.formed;
+  linked = k.linked;
+  held = λ thread sync s h. k.held thread sync s (sym (begun_other w seat p _ (row_ne _ (first_row p) (λ e. let z : sync + 1 ≡ 0 = ap (λ (r : Row). r.sync) e in absurd (omega arith))) below) ∙ h);
+  bound = λ n b e h. k.bound n b e (still_none (bound_row n b) h);
+  begun = λ r h e. ⊎_elim
+      (λ (q : r ≡ first_row p). goes (ap (λ (y : Row). course_at w.table y.thread) (sym q) ∙ e))
+      (λ (q : row_eq r (first_row p) ≡ false). k.begun r (λ n. h (begun_other w seat p r q below ∙ n)) e)
+      (row_cases r (first_row p));
+  begun_last = k.begun_last;
+  last_held = k.last_held;
+  seated = length_begun w.table w.holders seat p ∙ k.seated;
+  seated_last = k.seated_last;
+  blank = λ r q i b n. k.blank r q i b (still_none r n);
+}
+  where
+    still_none : (r : Row) → holder_at (with_holders w (begun w.table w.holders seat p)) r ≡ None → holder_at w r ≡ None
+    still_none r h = ⊎_elim
+        (λ (q : r ≡ first_row p). ⊎_elim
+        (λ (i : is_row w.table r ≡ true).
+        let bad : Some seat.0 ≡ None = sym (begun_held w seat p k.seated (ap (is_row w.table) (sym q) ∙ i)) ∙ ap (holder_at (with_holders w (begun w.table w.holders seat p))) (sym q) ∙ h in
+        cc)
+        (λ (i : is_row w.table r ≡ false). held_outside w r i)
+        (cases_Bool (is_row w.table r)))
+        (λ (q : row_eq r (first_row p) ≡ false). sym (begun_other w seat p r q below) ∙ h)
+        (row_cases r (first_row p))
+
+-- a course's stamps fit its word
+start_in_range : (c : Course) → IsCourseInRange c → start_of c < 2 ^ 32
+start_in_range Unstarted h = omega arith
+start_in_range (Running start) h = h
+start_in_range (Ended start sync) h = h.0
+
+pub stamp_in_range : (w : World) (x : Row) → Kept w → IsCourseInRange (Running (last_stamp (marks_at w.table) (joined_at w.table) x))
+stamp_in_range w x k = small_in_range (last_stamp (marks_at w.table) (joined_at w.table) x) (small_last w x k)
+  where
+    small_in_range : (n : ℕ) → n ≤ 65536 → IsCourseInRange (Running n)
+    small_in_range n h = let fits : n < 2 ^ 32 = omega arith in fits
+
+kept_started : (w : World) (seat : Seat) (x : Row) (p : ℕ) → Kept w → p < w.table.threads → course_at w.table p ≡ Unstarted → Kept (after_step w seat (Start x p))
+kept_started w seat x p k below waiting =
+    let stamp : ℕ = last_stamp (marks_at w.table) (joined_at w.table) x in
+    let range = stamp_in_range w x k in
+    let lived = kept_lived w p (Running stamp) k below range (λ e. let bad : Running stamp ≡ Unstarted = e in cc)
+    (λ h. subst HasEnded waiting h)
+    (λ r f same. absurd (subst (λ (c : Course). LivesAt c r.sync) (ap (course_at w.table) same ∙ waiting) (k.linked.lived r f)))
+    (λ start sync e. let bad : Running stamp ≡ Ended start (sync + 1) = e in cc)
+    (last_bounded w.table.threads w.table.rows (cell_at w.table) (offer_at w.table) x k.linked) in
+    subst (λ (hs : List (Option ℕ)). Kept (with_holders (with_table w (with_course w.table p (Running stamp))) hs)) (begun_rows w.table (with_course w.table p (Running stamp)) w.holders seat p (rows_lived w.table p (Running stamp)))
+    (kept_begun (with_table w (with_course w.table p (Running stamp))) seat p lived (subst (λ n. p < n) (sym (threads_lived w.table p (Running stamp))) below)
+    (λ e. let bad : Running stamp ≡ Unstarted = sym (course_lived w.table p (Running stamp) k.sized below range) ∙ e in cc))
+
+-- where a seat stands at a place of a thread, all rows before it were taken, and none from it on is opened
+stands_behind : (w : World) (seat : Seat) (x : Row) → Kept w → StandsAt w seat x → (n : ℕ) → x.sync ≡ n + 1 → is_taken (cell_at w.table (record { thread = x.thread; sync = n })) ≡ true
+stands_behind w seat x k (inl here) n e = k.held x.thread n seat.0 (ap (λ m. holder_at w (record { thread = x.thread; sync = m })) (sym e) ∙ here.0)
+stands_behind w seat x k (inr here) n e = k.last_held x.thread n seat.0 here.2 (sym here.1 ∙ e)
+
+stands_before : (w : World) (seat : Seat) (x : Row) → Kept w → StandsAt w seat x → (r : Row) → is_fresh (cell_at w.table r) ≡ false → r.thread ≡ x.thread → r.sync < x.sync
+stands_before w seat x k (inl here) r f same = ⊎_elim
+    (λ (e : r.sync ≡ x.sync). absurd (true≢false (sym (ap is_fresh (ap (cell_at w.table) (same_row r x same e) ∙ here.1)) ∙ f)))
+    (λ (c : (r.sync < x.sync) ⊎ (x.sync < r.sync)). ⊎_elim
+    (λ (less : r.sync < x.sync). less)
+    (λ (more : x.sync < r.sync).
+    let taken = taken_before w k x r same more (inl f) in
+    absurd (true≢false (sym (ap is_fresh here.1) ∙ taken_open (cell_at w.table x) taken)))
+    c)
+    (cases_order r.sync x.sync)
+stands_before w seat x k (inr here) r f same = let inside = (k.linked.inside r f).1 in let e = here.1 in omega arith
+
+pub stands_inside : (w : World) (seat : Seat) (x : Row) → StandsAt w seat x → (x.thread < w.table.threads) × (x.sync ≤ w.table.rows)
+stands_inside w seat x (inl here) = let inside = row_inside w.table x (held_row w x seat.0 here.0) in (inside.0, (let less = inside.1 in omega arith))
+stands_inside w seat x (inr here) = (here.0, (let e = here.1 in omega arith))
+
+-- a place behind a thread's last row
+pub stands_last : (w : World) (seat : Seat) (x : Row) → w.table.rows ≤ x.sync → StandsAt w seat x → (x.thread < w.table.threads) × (x.sync ≡ w.table.rows) × (last_holder w x.thread ≡ Some seat.0)
+stands_last w seat x b (inl here) = let inside = row_inside w.table x (held_row w x seat.0 here.0) in absurd (omega (arith, inside.1))
+stands_last w seat x b (inr here) = here
+
+pub end_in_range : (w : World) (seat : Seat) (x : Row) → Kept w → StandsAt w seat x → IsCourseInRange (ended_at (course_at w.table x.thread) x.sync)
+end_in_range w seat x k stands =
+    let fits = (stands_inside w seat x stands).1 in
+    let few = k.few_rows in
+    (start_in_range (course_at w.table x.thread) (course_ranged w.table x.thread), omega arith)
+
+kept_finish : (w : World) (seat : Seat) (x : Row) → Kept w → StandsAt w seat x → IsAlive w x.thread → Kept (after_step w seat (Finish x))
+kept_finish w seat x k stands alive =
+    let old : Course = course_at w.table x.thread in
+    kept_lived w x.thread (ended_at old x.sync) k (stands_inside w seat x stands).0 (end_in_range w seat x k stands)
+    (λ e. let bad : Ended (start_of old) x.sync ≡ Unstarted = e in cc)
+    alive
+    (λ r f same. (refl, stands_before w seat x k stands r f same))
+    (λ start sync e. stands_behind w seat x k stands sync (ended_inj _ _ _ _ e))
+    (k.linked.starts x.thread)
+  where
+    ended_sync : Course → ℕ
+    ended_sync Unstarted = 0
+    ended_sync (Running start) = 0
+    ended_sync (Ended start sync) = sync
+
+    ended_inj : (s t m n : ℕ) → Ended s m ≡ Ended t n → m ≡ n
+    ended_inj s t m n e = ap ended_sync e
 
 -- THE SEAL: what the row that names a pending row says
 
@@ -614,8 +926,8 @@ kept_seal w x k f h =
     subst (λ (o : Option Joined). Kept (with_table w (with_seal w.table x o))) (sym (sealed_is w.table x q.0 (namer_at w x) s q.1)) (kept_sealed w x q.0 s k f)
 
 pub kept_condition : (w : World) (seat : Seat) (step : Step) → Kept w → Condition w seat step → Kept (after_step w seat step)
-kept_condition w seat (Draft row place value) k a = kept_draft w row place value seat.0 k a.0 a.1 a.2 a.3 a.4
-kept_condition w seat (Open row) k a = kept_open w row seat.0 k a.0 a.1
+kept_condition w seat (Draft row place value) k a = kept_draft w row place value seat.0 k a.0 a.1 a.3 a.4 a.5
+kept_condition w seat (Open row) k a = kept_open w row seat.0 k a.0 a.1 a.2
 kept_condition w seat (Look row) k a = k
 kept_condition w seat (Read row place) k a = k
 kept_condition w seat (Claim row) k a = kept_claim w row k a.1
@@ -624,9 +936,9 @@ kept_condition w seat (Join mine own other partner) k a = kept_join w mine own o
 kept_condition w seat (Seal row) k a = kept_seal w row k a.1 a.2
 kept_condition w seat (Grant row n) k a = kept_grant w row n k a.0 a.1
 kept_condition w seat (Take row) k a = kept_take w seat row k a
-kept_condition w seat (Bind n row scope) k a = kept_bind w row n scope seat.0 k a.0 a.2 a.3 a.4
-kept_condition w seat (Start row thread) k a = k
-kept_condition w seat (Finish row) k a = k
+kept_condition w seat (Bind n row scope) k a = kept_bind w row n scope seat.0 k a.0 a.3 a.4 a.5
+kept_condition w seat (Start row thread) k a = kept_started w seat row thread k a.2 a.4
+kept_condition w seat (Finish row) k a = kept_finish w seat row k a.0 a.1
 
 pub kept_step : (w : World) (seat : Seat) (step : Step) → Kept w → Allowed w seat step → Kept (after_step w seat step)
 kept_step w seat step k a = kept_condition w seat step k a.1

@@ -1,6 +1,6 @@
 -- What all steps keep makes a ledger lawful.
-use Rattle.std.proofs.Common.{◌≡◌, ◌≢◌, ℕ, zero, suc, ◌+◌, ◌-◌, ◌<◌, ◌≤◌, true, false, cond, eqb, length, Option, Some, None, sym, refl, ap, ◌∙◌, subst, ◌⊎◌, inl, inr, ⊎_elim, arith, is_some, max}
-use Rattle.std.proofs.lemmas.Bool.{cases_eq, cases_lt, false≢true, eqb-true, ne_eqb}
+use Rattle.std.proofs.Common.{◌≡◌, ◌≢◌, ℕ, zero, suc, ◌+◌, ◌-◌, ◌<◌, ◌≤◌, true, false, length, Option, Some, None, sym, refl, ap, ◌∙◌, subst, ◌⊎◌, inl, inr, ⊎_elim, arith, is_some, max}
+use Rattle.std.proofs.lemmas.Bool.{cases_eq, cases_lt, false≢true, eqb-true}
 use Rattle.protocol_values.specs.declared.Message.{Message}
 use Rattle.protocol_values.specs.declared.NackName.{NackName}
 use Rattle.protocol_values.specs.declared.Binding.{Binding}
@@ -15,13 +15,16 @@ use Rattle.protocol_values.specs.declared.Commit.TheVariants.{Pair, Alone}
 use Rattle.protocol_values.specs.declared.Cell.{Cell}
 use Rattle.protocol_values.specs.declared.Cell.TheVariants.{Claimed}
 use Rattle.protocol_values.specs.Commits.{stamp_of}
-use Rattle.protocol.specs.Tables.{all_rows, is_fresh, names, is_partner, offers_meet, stands_alone, encloses, bound_row, cause_of, last_stamp, row_stamp}
+use Rattle.protocol_values.specs.declared.Course.{Course}
+use Rattle.protocol_values.specs.declared.Course.TheVariants.{Ended}
+use Rattle.protocol.specs.Tables.{Marks, start_of, all_rows, is_fresh, names, is_partner, offers_meet, stands_alone, encloses, bound_row, cause_of, last_stamp, row_stamp}
 use Rattle.protocol_values.specs.Values.{joined_of, bases_meet}
 use Rattle.protocol.specs.Worlds.{mirrored}
-use Rattle.protocol.specs.Ledgers.{IsIn, IsEnabled, Involves, CausedBy, Offers, Fits, Enables, CountsFor, Lawful, commit_named, commit_by, alone_by, pair_by, received_by, commits_of}
+use Rattle.protocol.specs.Ledgers.{CountsThread, LivesAt, IsIn, IsEnabled, Involves, CausedBy, Offers, Fits, Enables, CountsFor, Lawful, commit_named, commit_by, alone_by, pair_by, received_by, commits_of}
 use Rattle.protocol.specs.Kept.{joined_by, IsSideOf, IsAlone, Linked}
 use Rattle.protocol.proofs.Linking.{cases_Option, some_parts, some_inj, some_is_some, names_from, partner_parts, fresh_not_joined, taken_joined, partner_open, alone_there, named_some, named_alone}
-use Rattle.protocol.proofs.Causes.{IsEnabling, IsAlways, IsOnEnabled, enabling, cause_is, cause_alone}
+use Rattle.protocol.proofs.Causes.{IsEnabling, IsEnding, IsAlways, IsOnEnabled, IsOnEnded, enabling, cause_is, cause_alone, last_behind}
+use Rattle.protocol.proofs.StepLemmas.{ended_joined}
 use Rattle.protocol.proofs.CommitLemmas.{named_rows}
 
 -- WHAT A PAIR'S COMMIT IS, seen from row r, joined as j with partner p
@@ -74,11 +77,11 @@ both_offers (Some x) None h = absurd (false≢true h)
 both_offers (Some x) (Some y) h = (x, y, refl, refl, h)
 
 -- the offer by which a row is committed is there
-pub chosen_there : {bound : NackName → Option Binding} (threads rows : ℕ) (cell : Row → Cell) (offer : Row → ℕ → Option Offer) (r : Row) (j : Joined) → Linked threads rows cell offer bound → joined_of (cell r) ≡ Some j → (o : Offer) × (offer r j.own ≡ Some o)
-chosen_there {bound} threads rows cell offer r j l e = ⊎_elim
+pub chosen_there : {marks : Marks} (threads rows : ℕ) (cell : Row → Cell) (offer : Row → ℕ → Option Offer) (r : Row) (j : Joined) → Linked threads rows cell offer marks → joined_of (cell r) ≡ Some j → (o : Offer) × (offer r j.own ≡ Some o)
+chosen_there {marks} threads rows cell offer r j l e = ⊎_elim
     (λ (n : j.partner ≡ None).
     let a = l.alone r j e n in
-    alone_there (offer r j.own) (cause_alone (joined_by cell) offer bound (offer r j.own) a.cause a.is))
+    alone_there (offer r j.own) (cause_alone (joined_by cell) offer marks (offer r j.own) a.cause a.is))
     (λ (p : (p : Row × ℕ) × (j.partner ≡ Some p)). let b = both_offers (offer r j.own) (offer p.0.0 p.0.1) (l.sides r j p.0 e p.1).meets in (b.0, b.2))
     (cases_Option j.partner)
 
@@ -133,14 +136,20 @@ alone_named offer r j c o b n e f h =
     ∙ sym (ap (λ (v : Option (Row × ℕ)). commit_by offer r j v (offer r j.own)) n)
     ∙ h
 
+-- the start of a thread of a commit counts for it
+counts_own : (c : Commit) (r : Row) → Involves c r → CountsThread c r.thread
+counts_own (Pair sender receiver chan msg stamp) r (n, inl e) = inl (ap (λ (z : Row × ℕ). z.0.thread) e)
+counts_own (Pair sender receiver chan msg stamp) r (n, inr e) = inr (ap (λ (z : Row × ℕ). z.0.thread) e)
+counts_own (Alone at why stamp) r (n, e) = inl (ap (λ (z : Row × ℕ). z.0.thread) e)
+
 abbrev row_at : ℕ → ℕ → Row
 row_at t g = record { thread = t; sync = g }
 
-module _ (threads rows : ℕ) (cell : Row → Cell) (offer : Row → ℕ → Option Offer) (bound : NackName → Option Binding)
-    (l : Linked threads rows cell offer bound) where
+module _ (threads rows : ℕ) (cell : Row → Cell) (offer : Row → ℕ → Option Offer) (marks : Marks)
+    (l : Linked threads rows cell offer marks) where
   -- a row alone has a cause
-  stands : (r : Row) (j : Joined) → IsAlone cell offer bound r j → stands_alone (offer r j.own) ≡ true
-  stands r j a = cause_alone (joined_by cell) offer bound (offer r j.own) a.cause a.is
+  stands : (r : Row) (j : Joined) → IsAlone cell offer marks r j → stands_alone (offer r j.own) ≡ true
+  stands r j a = cause_alone (joined_by cell) offer marks (offer r j.own) a.cause a.is
 
   -- the commit that a joined row names
   commit_of_joined : (r : Row) (j : Joined) → joined_of (cell r) ≡ Some j → (c : Commit) × (commit_named offer r j ≡ Some c)
@@ -181,7 +190,7 @@ module _ (threads rows : ℕ) (cell : Row → Cell) (offer : Row → ℕ → Opt
       (λ i. commit_named offer (sym x i) (sym same i)) ∙ h.is_named)
       (λ (x : (p : Row × ℕ) × (h.way.partner ≡ Some p) × (p.0 ≡ r)).
       let p : Row × ℕ = x.0 in
-      let side : IsSideOf cell offer h.row h.way p = l.sides h.row h.way p h.is_joined x.1 in
+      let side : IsSideOf cell offer marks h.row h.way p = l.sides h.row h.way p h.is_joined x.1 in
       ⊎_elim
       (λ (k : cell p.0 ≡ Claimed).
       let bad : None ≡ Some j = sym (ap joined_of (ap cell (sym x.2) ∙ k)) ∙ e in
@@ -193,6 +202,10 @@ module _ (threads rows : ℕ) (cell : Row → Cell) (offer : Row → ℕ → Opt
       ∙ h.is_named)
       side.back)
       (rows_in c r h v)
+
+  stamp_in : (r : Row) (j : Joined) (e : joined_of (cell r) ≡ Some j) (d : Commit) → IsIn (joined_by cell) offer d → Involves d r → stamp_of d ≡ j.stamp
+  stamp_in r j e d k v =
+      ap stamp_of (some_inj d (commit_of_joined r j e).0 (sym (same_named r j d e k v) ∙ (commit_of_joined r j e).1)) ∙ stamp_own r j e
 
   once_in : (r : Row) (c d : Commit) → IsIn (joined_by cell) offer c → IsIn (joined_by cell) offer d → Involves c r → Involves d r → c ≡ d
   once_in r c d h k v w = ⊎_elim
@@ -208,15 +221,15 @@ module _ (threads rows : ℕ) (cell : Row → Cell) (offer : Row → ℕ → Opt
       (rows_in d r k w))
       (rows_in c r h v)
 
-  fits_pair : (q : Row × ℕ) (p : Row × ℕ) (s : ℕ) (c : Commit) → q.0.thread ≢ p.0.thread → IsSent offer q p s c → Fits (joined_by cell) offer bound c
-  fits_pair q p s c n x = subst (Fits (joined_by cell) offer bound) (sym x.is) (n, x.sends, x.receives)
+  fits_pair : (q : Row × ℕ) (p : Row × ℕ) (s : ℕ) (c : Commit) → q.0.thread ≢ p.0.thread → IsSent offer q p s c → Fits (joined_by cell) offer marks c
+  fits_pair q p s c n x = subst (Fits (joined_by cell) offer marks) (sym x.is) (n, x.sends, x.receives)
 
-  -- A COMMIT THAT STANDS ALONE: by an always, or by a nack that row k enabled
+  -- A COMMIT THAT STANDS ALONE: by an always, by a nack that row k enabled, or by the end of a thread
 
   pub record IsByNack (c : Commit) (r : Row) (j : Joined) (s : ℕ) : Type 0 where
     pub name : NackName
     pub by : Joined
-    pub enabled : IsEnabling (joined_by cell) offer bound name by
+    pub enabled : IsEnabling (joined_by cell) offer marks.bound name by
     pub offers : Offers offer (r, j.own) (OnNack name)
     pub is : c ≡ Alone (r, j.own) (cause.Nack name) j.stamp
     pub stamp : s ≡ by.stamp
@@ -227,7 +240,16 @@ module _ (threads rows : ℕ) (cell : Row → Cell) (offer : Row → ℕ → Opt
     pub is : c ≡ Alone (r, j.own) (cause.Always msg) j.stamp
     pub stamp : s ≡ 0
 
-  lone : (c : Commit) (r : Row) (j : Joined) (s : ℕ) → j.partner ≡ None → cause_of (joined_by cell) offer bound (offer r j.own) ≡ Some s → commit_named offer r j ≡ Some c → IsByAlways c r j s ⊎ IsByNack c r j s
+  pub record IsByEnd (c : Commit) (r : Row) (j : Joined) (s : ℕ) : Type 0 where
+    pub thread : ℕ
+    pub ending : IsEnding (joined_by cell) marks thread s
+    pub offers : Offers offer (r, j.own) (OnEnd thread)
+    pub is : c ≡ Alone (r, j.own) (cause.End thread) j.stamp
+
+  abbrev IsBy : Commit → Row → Joined → ℕ → Type 0
+  IsBy c r j s = IsByAlways c r j s ⊎ (IsByNack c r j s ⊎ IsByEnd c r j s)
+
+  lone : (c : Commit) (r : Row) (j : Joined) (s : ℕ) → j.partner ≡ None → cause_of (joined_by cell) offer marks (offer r j.own) ≡ Some s → commit_named offer r j ≡ Some c → IsBy c r j s
   lone c r j s n h k = ⊎_elim
       (λ (a : IsAlways (offer r j.own) s).
       inl (record {
@@ -236,22 +258,30 @@ module _ (threads rows : ℕ) (cell : Row → Cell) (offer : Row → ℕ → Opt
         is = sym (some_inj _ c (alone_named offer r j c a.1 (Always a.0) n a.2 a.3 k));
         stamp = a.4;
       }))
-      (λ (a : IsOnEnabled (joined_by cell) offer bound (offer r j.own) s).
-      inr (record {
+      (⊎_elim
+      (λ (a : IsOnEnabled (joined_by cell) offer marks (offer r j.own) s).
+      inr (inl (record {
         name = a.0;
         by = a.1;
-        enabled = enabling (joined_by cell) offer bound a.0 a.1 a.5;
+        enabled = enabling (joined_by cell) offer marks.bound a.0 a.1 a.5;
         offers = (a.2, a.3, a.4);
         is = sym (some_inj _ c (alone_named offer r j c a.2 (OnNack a.0) n a.3 a.4 k));
         stamp = a.6;
-      }))
-      (cause_is (joined_by cell) offer bound (offer r j.own) s h)
+      })))
+      (λ (a : IsOnEnded (joined_by cell) marks (offer r j.own) s).
+      inr (inr (record {
+        thread = a.0;
+        ending = a.4;
+        offers = (a.1, a.2, a.3);
+        is = sym (some_inj _ c (alone_named offer r j c a.1 (OnEnd a.0) n a.2 a.3 k));
+      }))))
+      (cause_is (joined_by cell) offer marks (offer r j.own) s h)
 
-  lone_in : (c : Commit) (h : IsIn (joined_by cell) offer c) (n : h.way.partner ≡ None) → IsByAlways c h.row h.way (l.alone h.row h.way h.is_joined n).cause ⊎ IsByNack c h.row h.way (l.alone h.row h.way h.is_joined n).cause
+  lone_in : (c : Commit) (h : IsIn (joined_by cell) offer c) (n : h.way.partner ≡ None) → IsBy c h.row h.way (l.alone h.row h.way h.is_joined n).cause
   lone_in c h n = let a = l.alone h.row h.way h.is_joined n in lone c h.row h.way a.cause n a.is h.is_named
 
   -- the commit of the row that enabled the nack
-  enabled_in : (n : NackName) (k : Joined) → IsEnabling (joined_by cell) offer bound n k → IsEnabled (joined_by cell) offer bound n
+  enabled_in : (n : NackName) (k : Joined) → IsEnabling (joined_by cell) offer marks.bound n k → IsEnabled (joined_by cell) offer marks n
   enabled_in n k e =
       let row : Row = bound_row n e.binding in
       record {
@@ -264,14 +294,16 @@ module _ (threads rows : ℕ) (cell : Row → Cell) (offer : Row → ℕ → Opt
         outside = λ o h. sym (ap (encloses e.binding.scope) h) ∙ e.outside;
       }
 
-  fits_in : (c : Commit) → IsIn (joined_by cell) offer c → Fits (joined_by cell) offer bound c
+  fits_in : (c : Commit) → IsIn (joined_by cell) offer c → Fits (joined_by cell) offer marks c
   fits_in c h = ⊎_elim
       (λ (n : h.way.partner ≡ None). ⊎_elim
-      (λ (a : IsByAlways c h.row h.way (l.alone h.row h.way h.is_joined n).cause). subst (Fits (joined_by cell) offer bound) (sym a.is) a.offers)
-      (λ (a : IsByNack c h.row h.way (l.alone h.row h.way h.is_joined n).cause). subst (Fits (joined_by cell) offer bound) (sym a.is) (a.offers, enabled_in a.name a.by a.enabled))
+      (λ (a : IsByAlways c h.row h.way (l.alone h.row h.way h.is_joined n).cause). subst (Fits (joined_by cell) offer marks) (sym a.is) a.offers)
+      (⊎_elim
+      (λ (a : IsByNack c h.row h.way (l.alone h.row h.way h.is_joined n).cause). subst (Fits (joined_by cell) offer marks) (sym a.is) (a.offers, enabled_in a.name a.by a.enabled))
+      (λ (a : IsByEnd c h.row h.way (l.alone h.row h.way h.is_joined n).cause). subst (Fits (joined_by cell) offer marks) (sym a.is) (a.offers, (a.ending.start, a.ending.sync, a.ending.ended))))
       (lone_in c h n))
       (λ (p : (p : Row × ℕ) × (h.way.partner ≡ Some p)).
-      let side : IsSideOf cell offer h.row h.way p.0 = l.sides h.row h.way p.0 h.is_joined p.1 in
+      let side : IsSideOf cell offer marks h.row h.way p.0 = l.sides h.row h.way p.0 h.is_joined p.1 in
       ⊎_elim
       (λ (s : IsSent offer (h.row, h.way.own) p.0 h.way.stamp c). fits_pair _ _ h.way.stamp c side.apart s)
       (λ (s : IsSent offer p.0 (h.row, h.way.own) h.way.stamp c). fits_pair _ _ h.way.stamp c (λ e. side.apart (sym e)) s)
@@ -282,162 +314,263 @@ module _ (threads rows : ℕ) (cell : Row → Cell) (offer : Row → ℕ → Opt
   open_suc : (t g : ℕ) → is_fresh (cell (row_at t (suc g))) ≡ false → is_some (joined_of (cell (row_at t g))) ≡ true
   open_suc t g f = taken_joined (cell (row_at t g)) (l.in_turn t g (ap (λ n. is_fresh (cell (row_at t n))) (omega arith) ∙ f))
 
-  open_before : (t g : ℕ) → is_fresh (cell (row_at t (suc g))) ≡ false → is_fresh (cell (row_at t g)) ≡ false
-  open_before t g f = let j = some_parts _ (open_suc t g f) in fresh_not_joined (cell (row_at t g)) j.0 j.1
+  last_suc : (t g : ℕ) → last_stamp marks (joined_by cell) (row_at t (suc g)) ≡ row_stamp (joined_of (cell (row_at t g)))
+  last_suc t g = last_behind marks (joined_by cell) t g
 
-  joined_before : (t g h : ℕ) → is_fresh (cell (row_at t g)) ≡ false → h < g → is_some (joined_of (cell (row_at t h))) ≡ true
-  joined_before t zero h f b = absurd (omega arith)
-  joined_before t (suc g) h f b = ⊎_elim
-      (λ (e : h ≡ g). ap (λ n. is_some (joined_of (cell (row_at t n)))) e ∙ open_suc t g f)
-      (λ (n : h ≡ g → ⊥). joined_before t g h (open_before t g f) (omega (arith, n)))
-      (cases_eq h g)
-
-  last_suc : (t g : ℕ) → last_stamp (joined_by cell) (row_at t (suc g)) ≡ row_stamp (joined_of (cell (row_at t g)))
-  last_suc t g =
-      ap (λ b. cond b 0 (row_stamp (joined_of (cell (row_at t (suc g - 1)))))) (ne_eqb (suc g) 0 (λ e. absurd (omega arith)))
-      ∙ ap (λ n. row_stamp (joined_of (cell (row_at t n)))) (omega arith)
-
-  stamp_above : (r : Row) (j : Joined) → joined_of (cell r) ≡ Some j → last_stamp (joined_by cell) r < j.stamp
+  stamp_above : (r : Row) (j : Joined) → joined_of (cell r) ≡ Some j → last_stamp marks (joined_by cell) r < j.stamp
   stamp_above r j e = ⊎_elim
       (λ (n : j.partner ≡ None). let s = (l.alone r j e n).stamp in omega arith)
       (λ (p : (p : Row × ℕ) × (j.partner ≡ Some p)). let s = (l.sides r j p.0 e p.1).stamp in omega arith)
       (cases_Option j.partner)
 
-  rising : (t g h : ℕ) → is_fresh (cell (row_at t g)) ≡ false → h < g → row_stamp (joined_of (cell (row_at t h))) ≤ last_stamp (joined_by cell) (row_at t g)
-  rising t zero h f b = absurd (omega arith)
-  rising t (suc g) h f b =
+  -- the row before a place is joined: before an open row, and before an end
+  abbrev IsBehind : ℕ → ℕ → Type 0
+  IsBehind t g = (n : ℕ) → g ≡ suc n → is_some (joined_of (cell (row_at t n))) ≡ true
+
+  behind_open : (t g : ℕ) → is_fresh (cell (row_at t g)) ≡ false → IsBehind t g
+  behind_open t g f n e = open_suc t n (ap (λ m. is_fresh (cell (row_at t m))) (sym e) ∙ f)
+
+  behind_end : (t start sync : ℕ) → marks.course t ≡ Ended start sync → IsBehind t sync
+  behind_end t start sync is n e = ended_joined threads rows cell offer l t start n (is ∙ ap (Ended start) (e ∙ omega arith))
+
+  behind_suc : (t g : ℕ) → IsBehind t (suc g) → IsBehind t g
+  behind_suc t g before =
+      let j = some_parts _ (before g refl) in
+      behind_open t g (fresh_not_joined (cell (row_at t g)) j.0 j.1)
+
+  joined_before : (t g h : ℕ) → IsBehind t g → h < g → is_some (joined_of (cell (row_at t h))) ≡ true
+  joined_before t zero h before b = absurd (omega arith)
+  joined_before t (suc g) h before b = ⊎_elim
+      (λ (e : h ≡ g). ap (λ n. is_some (joined_of (cell (row_at t n)))) e ∙ before g refl)
+      (λ (n : h ≡ g → ⊥). joined_before t g h (behind_suc t g before) (omega (arith, n)))
+      (cases_eq h g)
+
+  -- so the stamps of a thread rise, from that of its start on
+  stamp_suc : (t g : ℕ) → IsBehind t (suc g) → last_stamp marks (joined_by cell) (row_at t g) < last_stamp marks (joined_by cell) (row_at t (suc g))
+  stamp_suc t g before =
+      let last = last_suc t g in
+      let j = some_parts _ (before g refl) in
+      let above = stamp_above (row_at t g) j.0 j.1 in
+      let is : row_stamp (joined_of (cell (row_at t g))) ≡ j.0.stamp = ap row_stamp j.1 in
+      omega arith
+
+  rising : (t g h : ℕ) → IsBehind t g → h < g → row_stamp (joined_of (cell (row_at t h))) ≤ last_stamp marks (joined_by cell) (row_at t g)
+  rising t zero h before b = absurd (omega arith)
+  rising t (suc g) h before b =
       let last = last_suc t g in
       ⊎_elim
       (λ (e : h ≡ g).
       let same : row_stamp (joined_of (cell (row_at t h))) ≡ row_stamp (joined_of (cell (row_at t g))) = ap (λ n. row_stamp (joined_of (cell (row_at t n)))) e in
       omega arith)
       (λ (n : h ≡ g → ⊥).
-      let under = rising t g h (open_before t g f) (omega (arith, n)) in
-      let j = some_parts _ (open_suc t g f) in
-      let above = stamp_above (row_at t g) j.0 j.1 in
-      let is : row_stamp (joined_of (cell (row_at t g))) ≡ j.0.stamp = ap row_stamp j.1 in
+      let under = rising t g h (behind_suc t g before) (omega (arith, n)) in
+      let up = stamp_suc t g before in
       omega arith)
       (cases_eq h g)
 
+  rising_start : (t g : ℕ) → IsBehind t g → start_of (marks.course t) ≤ last_stamp marks (joined_by cell) (row_at t g)
+  rising_start t zero before = omega arith
+  rising_start t (suc g) before =
+      let under = rising_start t g (behind_suc t g before) in
+      let up = stamp_suc t g before in
+      omega arith
+
   -- the stamp of a commit that an open row is in is above its last stamp
-  stamp_over : (c : Commit) (x : Row) → (h : IsIn (joined_by cell) offer c) → Involves c x → last_stamp (joined_by cell) x < stamp_of c
+  stamp_over : (c : Commit) (x : Row) → (h : IsIn (joined_by cell) offer c) → Involves c x → last_stamp marks (joined_by cell) x < stamp_of c
   stamp_over c x h v =
       let is = (named_rows offer h.row h.way c h.is_named).stamp in
       ⊎_elim
       (λ (e : h.row ≡ x).
       let above = stamp_above h.row h.way h.is_joined in
-      let at : last_stamp (joined_by cell) h.row ≡ last_stamp (joined_by cell) x = ap (last_stamp (joined_by cell)) e in
+      let at : last_stamp marks (joined_by cell) h.row ≡ last_stamp marks (joined_by cell) x = ap (last_stamp marks (joined_by cell)) e in
       omega arith)
       (λ (p : (p : Row × ℕ) × (h.way.partner ≡ Some p) × (p.0 ≡ x)).
       let s = (l.sides h.row h.way p.0 h.is_joined p.1).stamp in
-      let at : last_stamp (joined_by cell) p.0.0 ≡ last_stamp (joined_by cell) x = ap (last_stamp (joined_by cell)) p.2 in
+      let at : last_stamp marks (joined_by cell) p.0.0 ≡ last_stamp marks (joined_by cell) x = ap (last_stamp marks (joined_by cell)) p.2 in
       omega arith)
       (rows_in c x h v)
 
+  lives_below : (c : Course) (start sync g : ℕ) → c ≡ Ended start sync → LivesAt c g → g < sync
+  lives_below c start sync g e h = subst (λ (x : Course). LivesAt x g) e h
+
   -- the commit that enabled another has a lower stamp
-  enabler_below : (c d : Commit) → IsIn (joined_by cell) offer c → IsIn (joined_by cell) offer d → Enables bound d c → stamp_of d < stamp_of c
+  enabler_below : (c d : Commit) → IsIn (joined_by cell) offer c → IsIn (joined_by cell) offer d → Enables marks d c → stamp_of d < stamp_of c
   enabler_below c d h k e = ⊎_elim
       (λ (n : h.way.partner ≡ None).
       let alone = l.alone h.row h.way h.is_joined n in
       let is = (named_rows offer h.row h.way c h.is_named).stamp in
       ⊎_elim
-      (λ (a : IsByAlways c h.row h.way alone.cause). absurd (subst (Enables bound d) a.is e))
+      (λ (a : IsByAlways c h.row h.way alone.cause). absurd (subst (Enables marks d) a.is e))
+      (⊎_elim
       (λ (a : IsByNack c h.row h.way alone.cause).
-      let by = subst (Enables bound d) a.is e in
+      let by = subst (Enables marks d) a.is e in
       let same : by.0 ≡ a.enabled.binding = some_inj by.0 a.enabled.binding (sym by.1 ∙ a.enabled.is_bound) in
       let row : Row = bound_row a.name a.enabled.binding in
-      let inside = subst (λ (b : Binding). Involves d (bound_row a.name b)) same by.2 in
-      let mine : (commit_of_joined row a.by a.enabled.is_joined).0 ≡ d = some_inj _ d (sym (commit_of_joined row a.by a.enabled.is_joined).1 ∙ same_named row a.by d a.enabled.is_joined k inside) in
-      let stamp : stamp_of d ≡ a.by.stamp = ap stamp_of (sym mine) ∙ stamp_own row a.by a.enabled.is_joined in
+      let stamp = stamp_in row a.by a.enabled.is_joined d k (subst (λ (b : Binding). Involves d (bound_row a.name b)) same by.2) in
       let due = alone.stamp in
       let caused : alone.cause ≡ a.by.stamp = a.stamp in
       omega arith)
+      (λ (a : IsByEnd c h.row h.way alone.cause).
+      let by = subst (Enables marks d) a.is e in
+      let row : Row = row_at a.thread by.0 in
+      let below = lives_below (marks.course a.thread) a.ending.start a.ending.sync by.0 a.ending.ended (l.lived row (open_of d row k by.1)) in
+      let behind = behind_end a.thread a.ending.start a.ending.sync a.ending.ended in
+      let j = some_parts _ (joined_before a.thread a.ending.sync by.0 behind below) in
+      let up = rising a.thread a.ending.sync by.0 behind below in
+      let stamp : stamp_of d ≡ row_stamp (joined_of (cell row)) = stamp_in row j.0 j.1 d k by.1 ∙ sym (ap row_stamp j.1) in
+      let due = alone.stamp in
+      let caused = a.ending.stamp in
+      omega arith))
       (lone_in c h n))
       (λ (p : (p : Row × ℕ) × (h.way.partner ≡ Some p)).
-      let side : IsSideOf cell offer h.row h.way p.0 = l.sides h.row h.way p.0 h.is_joined p.1 in
+      let side : IsSideOf cell offer marks h.row h.way p.0 = l.sides h.row h.way p.0 h.is_joined p.1 in
       ⊎_elim
-      (λ (s : IsSent offer (h.row, h.way.own) p.0 h.way.stamp c). absurd (subst (Enables bound d) s.is e))
-      (λ (s : IsSent offer p.0 (h.row, h.way.own) h.way.stamp c). absurd (subst (Enables bound d) s.is e))
+      (λ (s : IsSent offer (h.row, h.way.own) p.0 h.way.stamp c). absurd (subst (Enables marks d) s.is e))
+      (λ (s : IsSent offer p.0 (h.row, h.way.own) h.way.stamp c). absurd (subst (Enables marks d) s.is e))
       (pair_of_named offer h.row h.way p.0 c p.1 side.meets h.is_named))
       (cases_Option h.way.partner)
 
-  above_in : (c : Commit) → (h : IsIn (joined_by cell) offer c) → (d : Commit) → IsIn (joined_by cell) offer d → CountsFor bound d c → stamp_of d < stamp_of c
+  above_in : (c : Commit) → (h : IsIn (joined_by cell) offer c) → (d : Commit) → IsIn (joined_by cell) offer d → CountsFor marks d c → stamp_of d < stamp_of c
   above_in c h d k (inl e) =
       let t : ℕ = e.0 in
       let g : ℕ = e.1 in
       let b : ℕ = e.2 in
-      let open_g = open_of c (row_at t g) h e.5 in
-      let j = some_parts _ (joined_before t g b open_g e.3) in
-      let named = same_named (row_at t b) j.0 d j.1 k e.4 in
-      let mine : (commit_of_joined (row_at t b) j.0 j.1).0 ≡ d = some_inj _ d (sym (commit_of_joined (row_at t b) j.0 j.1).1 ∙ named) in
-      let stamp : stamp_of d ≡ j.0.stamp = ap stamp_of (sym mine) ∙ stamp_own (row_at t b) j.0 j.1 in
+      let behind = behind_open t g (open_of c (row_at t g) h e.5) in
+      let j = some_parts _ (joined_before t g b behind e.3) in
+      let stamp = stamp_in (row_at t b) j.0 j.1 d k e.4 in
       let is : row_stamp (joined_of (cell (row_at t b))) ≡ j.0.stamp = ap row_stamp j.1 in
-      let up = rising t g b open_g e.3 in
+      let up = rising t g b behind e.3 in
       let over = stamp_over c (row_at t g) h e.5 in
       omega arith
   above_in c h d k (inr e) = enabler_below c d h k e
 
-  -- the commit before, where a row has a last stamp
-  last_commit : (c : Commit) (r : Row) → Involves c r → 0 < last_stamp (joined_by cell) r → (d : Commit) × IsIn (joined_by cell) offer d × CountsFor bound d c × (stamp_of d ≡ last_stamp (joined_by cell) r)
-  last_commit c r v b = by_sync r.sync refl
-    where
-      by_sync : (n : ℕ) → r.sync ≡ n → (d : Commit) × IsIn (joined_by cell) offer d × CountsFor bound d c × (stamp_of d ≡ last_stamp (joined_by cell) r)
-      by_sync zero e =
-          let none : last_stamp (joined_by cell) r ≡ 0 = ap (λ n. cond (eqb n 0) 0 (row_stamp (joined_of (cell (row_at r.thread (r.sync - 1)))))) e in
-          absurd (omega arith)
-      by_sync (suc n) e =
-          let last : last_stamp (joined_by cell) r ≡ row_stamp (joined_of (cell (row_at r.thread n))) = ap (λ m. last_stamp (joined_by cell) (row_at r.thread m)) e ∙ last_suc r.thread n in
-          ⊎_elim
-          (λ (z : joined_of (cell (row_at r.thread n)) ≡ None). let none : row_stamp (joined_of (cell (row_at r.thread n))) ≡ 0 = ap row_stamp z in absurd (omega arith))
-          (λ (j : (j : Joined) × (joined_of (cell (row_at r.thread n)) ≡ Some j)). (
-            (commit_of_joined (row_at r.thread n) j.0 j.1).0,
-            in_of_joined (row_at r.thread n) j.0 j.1,
-            inl (r.thread, suc n, n, omega arith, involves_own (row_at r.thread n) j.0 j.1, subst (λ m. Involves c (row_at r.thread m)) e v),
-            stamp_own (row_at r.thread n) j.0 j.1 ∙ sym (ap row_stamp j.1) ∙ sym last,
-          ))
-          (cases_Option (joined_of (cell (row_at r.thread n))))
+  -- WHAT A STAMP COUNTS: a commit, or a start
+  abbrev IsDue : Commit → ℕ → Type 0
+  IsDue c a =
+      ((d : Commit) × IsIn (joined_by cell) offer d × CountsFor marks d c × (stamp_of d ≡ a))
+      ⊎ ((t : ℕ) × CountsThread c t × (start_of (marks.course t) ≡ a))
 
-  -- the commit that enabled the nack, where the cause has a stamp
-  cause_commit : (c : Commit) (r : Row) (j : Joined) (s : ℕ) → IsByAlways c r j s ⊎ IsByNack c r j s → 0 < s → (d : Commit) × IsIn (joined_by cell) offer d × CountsFor bound d c × (stamp_of d ≡ s)
-  cause_commit c r j s (inl a) b = let z : s ≡ 0 = a.stamp in absurd (omega arith)
-  cause_commit c r j s (inr a) b =
+  -- the last stamp at a place of a thread, where its start counts, and so does a commit of the row before
+  last_due : (c : Commit) (t g : ℕ) → CountsThread c t → ((n : ℕ) (d : Commit) → g ≡ suc n → Involves d (row_at t n) → CountsFor marks d c) → 0 < last_stamp marks (joined_by cell) (row_at t g) → IsDue c (last_stamp marks (joined_by cell) (row_at t g))
+  last_due c t zero counts before b = inr (t, counts, refl)
+  last_due c t (suc n) counts before b =
+      let last = last_suc t n in
+      ⊎_elim
+      (λ (z : joined_of (cell (row_at t n)) ≡ None). let none : row_stamp (joined_of (cell (row_at t n))) ≡ 0 = ap row_stamp z in absurd (omega arith))
+      (λ (j : (j : Joined) × (joined_of (cell (row_at t n)) ≡ Some j)).
+      inl (
+        (commit_of_joined (row_at t n) j.0 j.1).0,
+        in_of_joined (row_at t n) j.0 j.1,
+        before n (commit_of_joined (row_at t n) j.0 j.1).0 refl (involves_own (row_at t n) j.0 j.1),
+        stamp_own (row_at t n) j.0 j.1 ∙ sym (ap row_stamp j.1) ∙ sym last,
+      ))
+      (cases_Option (joined_of (cell (row_at t n))))
+
+  -- of a row of the commit
+  own_due : (c : Commit) (r : Row) → Involves c r → 0 < last_stamp marks (joined_by cell) r → IsDue c (last_stamp marks (joined_by cell) r)
+  own_due c r v b =
+      last_due c r.thread r.sync (counts_own c r v) (λ n d e w. inl (r.thread, r.sync, n, omega (arith, e), w, v)) b
+
+  -- the commit that enabled the nack, or what counts at an end, where the cause has a stamp
+  cause_due : (c : Commit) (r : Row) (j : Joined) (s : ℕ) → IsBy c r j s → 0 < s → IsDue c s
+  cause_due c r j s (inl a) b = let z : s ≡ 0 = a.stamp in absurd (omega arith)
+  cause_due c r j s (inr (inl a)) b =
       let row : Row = bound_row a.name a.enabled.binding in
-      let by : CausedBy bound (commit_of_joined row a.by a.enabled.is_joined).0 (cause.Nack a.name) = (a.enabled.binding, a.enabled.is_bound, involves_own row a.by a.enabled.is_joined) in (
+      let by : CausedBy marks (commit_of_joined row a.by a.enabled.is_joined).0 (cause.Nack a.name) = (a.enabled.binding, a.enabled.is_bound, involves_own row a.by a.enabled.is_joined) in
+      inl (
         (commit_of_joined row a.by a.enabled.is_joined).0,
         in_of_joined row a.by a.enabled.is_joined,
-        inr (subst (Enables bound (commit_of_joined row a.by a.enabled.is_joined).0) (sym a.is) by),
+        inr (subst (Enables marks (commit_of_joined row a.by a.enabled.is_joined).0) (sym a.is) by),
         stamp_own row a.by a.enabled.is_joined ∙ sym a.stamp,
       )
+  cause_due c r j s (inr (inr a)) b =
+      subst (IsDue c) (sym a.ending.stamp) (
+      last_due c a.thread a.ending.sync (subst (λ (x : Commit). CountsThread x a.thread) (sym a.is) (inr refl))
+      (λ n d e w. inr (subst (Enables marks d) (sym a.is) (n, w)))
+      (subst (λ n. 0 < n) a.ending.stamp b))
 
-  next_in : (c : Commit) → IsIn (joined_by cell) offer c → (stamp_of c ≡ 1) ⊎ ((d : Commit) × IsIn (joined_by cell) offer d × CountsFor bound d c × (stamp_of c ≡ stamp_of d + 1))
+  next_in : (c : Commit) → IsIn (joined_by cell) offer c → (stamp_of c ≡ 1) ⊎ ((d : Commit) × IsIn (joined_by cell) offer d × CountsFor marks d c × (stamp_of c ≡ stamp_of d + 1)) ⊎ ((t : ℕ) × CountsThread c t × (stamp_of c ≡ start_of (marks.course t) + 1))
   next_in c h =
       let at = named_rows offer h.row h.way c h.is_named in
       ⊎_elim
       (λ (n : h.way.partner ≡ None).
       let alone = l.alone h.row h.way h.is_joined n in
-      pick (last_stamp (joined_by cell) h.row) alone.cause (at.stamp ∙ alone.stamp) (last_commit c h.row (h.way.own, at.own)) (cause_commit c h.row h.way alone.cause (lone_in c h n)))
+      pick (last_stamp marks (joined_by cell) h.row) alone.cause (at.stamp ∙ alone.stamp) (own_due c h.row (h.way.own, at.own)) (cause_due c h.row h.way alone.cause (lone_in c h n)))
       (λ (p : (p : Row × ℕ) × (h.way.partner ≡ Some p)).
       let s = (l.sides h.row h.way p.0 h.is_joined p.1).stamp in
-      pick (last_stamp (joined_by cell) h.row) (last_stamp (joined_by cell) p.0.0) (at.stamp ∙ s) (last_commit c h.row (h.way.own, at.own)) (last_commit c p.0.0 (p.0.1, at.other p.0 p.1)))
+      pick (last_stamp marks (joined_by cell) h.row) (last_stamp marks (joined_by cell) p.0.0) (at.stamp ∙ s) (own_due c h.row (h.way.own, at.own)) (own_due c p.0.0 (p.0.1, at.other p.0 p.1)))
       (cases_Option h.way.partner)
     where
-      pick : (a b : ℕ) → stamp_of c ≡ 1 + max a b → (0 < a → (d : Commit) × IsIn (joined_by cell) offer d × CountsFor bound d c × (stamp_of d ≡ a)) → (0 < b → (d : Commit) × IsIn (joined_by cell) offer d × CountsFor bound d c × (stamp_of d ≡ b)) → (stamp_of c ≡ 1) ⊎ ((d : Commit) × IsIn (joined_by cell) offer d × CountsFor bound d c × (stamp_of c ≡ stamp_of d + 1))
+      follows : (a : ℕ) → stamp_of c ≡ 1 + a → IsDue c a → (stamp_of c ≡ 1) ⊎ ((d : Commit) × IsIn (joined_by cell) offer d × CountsFor marks d c × (stamp_of c ≡ stamp_of d + 1)) ⊎ ((t : ℕ) × CountsThread c t × (stamp_of c ≡ start_of (marks.course t) + 1))
+      follows a s (inl d) = let at : stamp_of d.0 ≡ a = d.3 in inr (inl (d.0, d.1, d.2, omega arith))
+      follows a s (inr t) = let at : start_of (marks.course t.0) ≡ a = t.2 in inr (inr (t.0, t.1, omega arith))
+
+      pick : (a b : ℕ) → stamp_of c ≡ 1 + max a b → (0 < a → IsDue c a) → (0 < b → IsDue c b) → (stamp_of c ≡ 1) ⊎ ((d : Commit) × IsIn (joined_by cell) offer d × CountsFor marks d c × (stamp_of c ≡ stamp_of d + 1)) ⊎ ((t : ℕ) × CountsThread c t × (stamp_of c ≡ start_of (marks.course t) + 1))
       pick a b s f g = ⊎_elim
-          (λ (lt : a < b). let d = g (omega arith) in let at : stamp_of d.0 ≡ b = d.3 in inr (d.0, d.1, d.2, omega arith))
+          (λ (lt : a < b). follows b (omega arith) (g (omega arith)))
           (λ (le : b ≤ a). ⊎_elim
           (λ (z : a ≡ 0). inl (omega arith))
-          (λ (z : a ≡ 0 → ⊥). let d = f (omega (arith, z)) in let at : stamp_of d.0 ≡ a = d.3 in inr (d.0, d.1, d.2, omega arith))
+          (λ (z : a ≡ 0 → ⊥). follows a (omega arith) (f (omega (arith, z))))
           (cases_eq a 0))
           (cases_lt a b)
 
-  pub lawful_linked : Lawful (all_rows threads rows) (joined_by cell) offer bound
+  -- A COMMIT'S STAMP IS ABOVE THE STARTS that count for it
+  own_start : (c : Commit) (r : Row) → IsIn (joined_by cell) offer c → Involves c r → start_of (marks.course r.thread) < stamp_of c
+  own_start c r h v =
+      let from = rising_start r.thread r.sync (behind_open r.thread r.sync (open_of c r h v)) in
+      let over = stamp_over c r h v in
+      omega arith
+
+  start_of_row : (c : Commit) (r : Row) (t : ℕ) → IsIn (joined_by cell) offer c → Involves c r → r.thread ≡ t → start_of (marks.course t) < stamp_of c
+  start_of_row c r t h v e = subst (λ (z : ℕ). start_of (marks.course z) < stamp_of c) e (own_start c r h v)
+
+  start_below : (c : Commit) (t : ℕ) → IsIn (joined_by cell) offer c → CountsThread c t → start_of (marks.course t) < stamp_of c
+  start_below c t h counts =
+      let at = named_rows offer h.row h.way c h.is_named in
+      let own : Involves c h.row = (h.way.own, at.own) in
+      ⊎_elim
+      (λ (n : h.way.partner ≡ None).
+      let alone = l.alone h.row h.way h.is_joined n in
+      ⊎_elim
+      (λ (a : IsByAlways c h.row h.way alone.cause). ⊎_elim (λ (e : h.row.thread ≡ t). start_of_row c h.row t h own e) absurd_of (subst (λ (x : Commit). CountsThread x t) a.is counts))
+      (⊎_elim
+      (λ (a : IsByNack c h.row h.way alone.cause). ⊎_elim (λ (e : h.row.thread ≡ t). start_of_row c h.row t h own e) absurd_of (subst (λ (x : Commit). CountsThread x t) a.is counts))
+      (λ (a : IsByEnd c h.row h.way alone.cause). ⊎_elim
+      (λ (e : h.row.thread ≡ t). start_of_row c h.row t h own e)
+      (λ (e : a.thread ≡ t).
+      let from = rising_start a.thread a.ending.sync (behind_end a.thread a.ending.start a.ending.sync a.ending.ended) in
+      let is = a.ending.stamp in
+      let due = at.stamp ∙ alone.stamp in
+      subst (λ (z : ℕ). start_of (marks.course z) < stamp_of c) e (omega arith))
+      (subst (λ (x : Commit). CountsThread x t) a.is counts)))
+      (lone_in c h n))
+      (λ (p : (p : Row × ℕ) × (h.way.partner ≡ Some p)).
+      let side : IsSideOf cell offer marks h.row h.way p.0 = l.sides h.row h.way p.0 h.is_joined p.1 in
+      let other : Involves c p.0.0 = (p.0.1, at.other p.0 p.1) in
+      ⊎_elim
+      (λ (s : IsSent offer (h.row, h.way.own) p.0 h.way.stamp c). ⊎_elim
+      (λ (e : h.row.thread ≡ t). start_of_row c h.row t h own e)
+      (λ (e : p.0.0.thread ≡ t). start_of_row c p.0.0 t h other e)
+      (subst (λ (x : Commit). CountsThread x t) s.is counts))
+      (λ (s : IsSent offer p.0 (h.row, h.way.own) h.way.stamp c). ⊎_elim
+      (λ (e : p.0.0.thread ≡ t). start_of_row c p.0.0 t h other e)
+      (λ (e : h.row.thread ≡ t). start_of_row c h.row t h own e)
+      (subst (λ (x : Commit). CountsThread x t) s.is counts))
+      (pair_of_named offer h.row h.way p.0 c p.1 side.meets h.is_named))
+      (cases_Option h.way.partner)
+    where
+      absurd_of : ⊥ → start_of (marks.course t) < stamp_of c
+      absurd_of x = absurd x
+
+  pub lawful_linked : Lawful (all_rows threads rows) (joined_by cell) offer marks
   lawful_linked = record {
     named = λ r j e. let c = commit_of_joined r j e in some_is_some (commit_named offer r j) c.0 c.1;
     once = once_in;
     fits = fits_in;
     in_turn = λ c t g b h v lt.
-        let j = some_parts _ (joined_before t g b (open_of c (row_at t g) h v) lt) in
+        let j = some_parts _ (joined_before t g b (behind_open t g (open_of c (row_at t g) h v)) lt) in
         ((commit_of_joined (row_at t b) j.0 j.1).0, in_of_joined (row_at t b) j.0 j.1, involves_own (row_at t b) j.0 j.1);
-    stamps = λ c h. record { above = above_in c h; next = next_in c h };
+    stamps = λ c h. record { above = above_in c h; after_start = λ t counts. start_below c t h counts; next = next_in c h };
     bounded = λ c h. subst (λ n. n ≤ length (commits_of (all_rows threads rows) (joined_by cell) offer)) (sym (named_rows offer h.row h.way c h.is_named).stamp) (l.bounded h.row h.way h.is_joined);
+    lived = λ c r h v. l.lived r (open_of c r h v);
   }

@@ -1,28 +1,31 @@
 -- The ledger of a table has what the table reads as; the start is kept; so every schedule's ledger is lawful.
-use Rattle.std.proofs.Common.{◌≡◌, ℕ, zero, suc, ◌+◌, ◌-◌, ◌*◌, ◌%◌, ◌<◌, ◌≤◌, true, false, cond, ltb, List, [], ◌∷◌, length, get_or, map, replicate, ◌++◌, sym, refl, ap, ◌∙◌, subst, ⊎_elim, arith, Option, Some, None, is_some}
+use Rattle.std.proofs.Common.{◌≡◌, ◌≢◌, ℕ, zero, suc, ◌+◌, ◌-◌, ◌*◌, ◌%◌, ◌^◌, ◌<◌, ◌≤◌, Bool, eqb, set, length-set, get_or-set_same, get_or-set_other, true, false, cond, ltb, List, [], ◌∷◌, length, get_or, map, replicate, ◌++◌, sym, refl, ap, ◌∙◌, subst, ⊎_elim, arith, Option, Some, None, is_some}
 use Rattle.std.specs.Prelude.{unwrap_or, option_to_list}
 use Rattle.std.specs.List.{range_with_len}
 use Rattle.std.proofs.lemmas.Bool.{cases_eq, cases_Bool, cases_lt, false≢true, true≢false, and_from, and_parts, lt-ltb, ltb-true, ne_eqb}
 use Rattle.std.proofs.lemmas.List.{get_or_append_left, get_or-append_right, get_or-map, get_or_past, get_or-replicate, length-append, length-replicate, length-map}
 use Rattle.std.proofs.lemmas.List.FromFn.{get_or-map-range_with_len, length-map-range_with_len}
+use Rattle.std.proofs.Math.Nat.{zero-div}
 use Rattle.protocol_values.specs.declared.Row.{Row}
 use Rattle.protocol_values.specs.declared.NackName.{NackName}
 use Rattle.protocol_values.specs.declared.Joined.{Joined}
 use Rattle.protocol_values.specs.declared.Offer.{Offer}
 use Rattle.protocol_values.specs.declared.Binding.{Binding}
+use Rattle.protocol_values.specs.declared.Course.{Course}
+use Rattle.protocol_values.specs.declared.Course.TheVariants.{Unstarted, Running, Ended}
 use Rattle.protocol_values.specs.declared.Seat.{Seat}
 use Rattle.protocol_values.specs.declared.Step.{Step}
 use Rattle.protocol_values.specs.declared.Cell.{Cell}
 use Rattle.protocol_values.specs.declared.Cell.TheVariants.{Fresh}
-use Rattle.protocol_values.specs.Words.{cell_of, nack_of, is_word_for}
-use Rattle.protocol_values.proofs.WordLemmas.{cell_of-zero, nack_of-zero, is_word_for-zero}
-use Rattle.protocol.specs.Tables.{Table, thread_len, place_of, nack_place, is_row, is_nack, all_rows, rows_below, number_of, word_at, nack_at, cell_at, is_fresh, joined_at, count_at, offer_at, binding_at, names}
+use Rattle.protocol_values.specs.Words.{cell_of, course_of, course_word, IsCourseInRange, nack_of, is_word_for}
+use Rattle.protocol_values.proofs.WordLemmas.{cell_of-zero, course_of-course_word, nack_of-zero, is_word_for-zero}
+use Rattle.protocol.specs.Tables.{Table, Marks, course_at, course_place, marks_at, start_of, thread_len, place_of, nack_place, is_row, is_nack, all_rows, rows_below, number_of, word_at, nack_at, cell_at, is_fresh, joined_at, count_at, offer_at, binding_at, names}
 use Rattle.protocol_values.specs.Values.{joined_of}
-use Rattle.protocol.specs.Worlds.{World, start_world, first_holder, holder_at, Plays}
-use Rattle.protocol.specs.Ledgers.{Entry, ledger_of, entry_at, no_entry, entry_in, joined_in, offer_in, binding_in, all_nacks, nacks_below, commits_in, commits_of, rows_in, told_at, told_by, Lawful, IsLawful}
+use Rattle.protocol.specs.Worlds.{World, start_world, first_holder, holder_at, Plays, waits, with_lives}
+use Rattle.protocol.specs.Ledgers.{course_in, marks_in, Entry, ledger_of, entry_at, no_entry, entry_in, joined_in, offer_in, binding_in, all_nacks, nacks_below, commits_in, commits_of, rows_in, told_at, told_by, Lawful, IsLawful}
 use Rattle.protocol.specs.Kept.{Linked, Kept}
-use Rattle.protocol.proofs.Places.{block_inside, row_inside}
-use Rattle.protocol.proofs.Readings.{cell_outside, cell_inside, binding_inside, binding_outside, offer_none, count_fresh}
+use Rattle.protocol.proofs.Places.{block_inside, course_apart, course_nack_apart, course_place_inside, row_inside, same_course_place}
+use Rattle.protocol.proofs.Readings.{cell_outside, cell_inside, binding_inside, binding_outside, course_inside, course_outside, offer_none, count_fresh}
 use Rattle.protocol.proofs.Keeping.{length_all, length_below, kept_schedule, held_row}
 use Rattle.protocol.proofs.Lawfulness.{lawful_linked}
 
@@ -150,10 +153,28 @@ binding_in_ledger t = λ i n. at n i
         ∙ sym (ap (λ b. cond b (unwrap_or (nack_of (nack_at t n)) None) None) e))
         (cases_Bool (is_nack t n))
 
+-- THE THREAD AT A NUMBER
+
+pub course_in_ledger : (t : Table) → course_in (ledger_of t) ≡ course_at t
+unfolding course_in ledger_of
+course_in_ledger t = λ i p. at p i
+  where
+    at : (p : ℕ) → course_in (ledger_of t) p ≡ course_at t p
+    at p = ⊎_elim
+        (λ (h : p < t.threads). get_or-map-range_with_len (course_at t) 0 t.threads p p Unstarted h (omega arith))
+        (λ (h : t.threads ≤ p).
+        let len = length-map-range_with_len (course_at t) 0 t.threads in
+        get_or_past (map (course_at t) (range_with_len 0 t.threads)) p Unstarted (omega arith) ∙ sym (course_outside t p h))
+        (cases_lt p t.threads)
+
+pub marks_in_ledger : (t : Table) → marks_in (ledger_of t) ≡ marks_at t
+marks_in_ledger t = λ i. record { bound = binding_in_ledger t i; course = course_in_ledger t i }
+
 -- THE START
 
-abbrev start_table : ℕ → ℕ → Table
-start_table threads rows = record { threads = threads; rows = rows; words = replicate (threads * thread_len rows) 0 }
+unstarted_word : course_word Unstarted ≡ 0
+unfolding course_word
+unstarted_word = refl
 
 zeros : (n i : ℕ) → ◌≡◌ {A = ℕ} (get_or (replicate n 0) i 0) 0
 zeros n i = ⊎_elim
@@ -161,31 +182,127 @@ zeros n i = ⊎_elim
     (λ (h : n ≤ i). let l = length-replicate {A = ℕ} n 0 in get_or_past {X = ℕ} (replicate n 0) i 0 (omega arith))
     (cases_lt i n)
 
-pub start_word : (threads rows : ℕ) (r : Row) (p : ℕ) → word_at (start_table threads rows) r p ≡ 0
+module _ (later rows : ℕ) (words : List ℕ) where
+  -- lives are written at their places alone
+  pub length_lives : (t : ℕ) → length (with_lives later rows t words) ≡ length words
+  length_lives zero = refl
+  length_lives (suc t) = ⊎_elim
+      (λ (e : waits later t ≡ true). ap (λ b. length (cond b (with_lives later rows t words) (set (with_lives later rows t words) (course_place rows t) (course_word (Running 0))))) e ∙ length_lives t)
+      (λ (e : waits later t ≡ false).
+      ap (λ b. length (cond b (with_lives later rows t words) (set (with_lives later rows t words) (course_place rows t) (course_word (Running 0))))) e
+      ∙ length-set (with_lives later rows t words) (course_place rows t) (course_word (Running 0))
+      ∙ length_lives t)
+      (cases_Bool (waits later t))
+
+  lives_other : (t i : ℕ) → ((p : ℕ) → p < t → waits later p ≡ false → i ≡ course_place rows p → ⊥) → get_or (with_lives later rows t words) i 0 ≡ get_or words i 0
+  lives_other zero i apart = refl
+  lives_other (suc t) i apart =
+      let before = lives_other t i (λ p h w e. apart p (omega arith) w e) in
+      ⊎_elim
+      (λ (e : waits later t ≡ true). ap (λ b. get_or (cond b (with_lives later rows t words) (set (with_lives later rows t words) (course_place rows t) (course_word (Running 0)))) i 0) e ∙ before)
+      (λ (e : waits later t ≡ false).
+      ap (λ b. get_or (cond b (with_lives later rows t words) (set (with_lives later rows t words) (course_place rows t) (course_word (Running 0)))) i 0) e
+      ∙ get_or-set_other (with_lives later rows t words) (course_place rows t) i (course_word (Running 0)) 0 (λ d. apart t (omega arith) e d)
+      ∙ before)
+      (cases_Bool (waits later t))
+
+  lives_here : (t p : ℕ) → p < t → waits later p ≡ false → course_place rows p < length words → get_or (with_lives later rows t words) (course_place rows p) 0 ≡ course_word (Running 0)
+  lives_here zero p h w b = absurd (omega arith)
+  lives_here (suc t) p h w b = ⊎_elim
+      (λ (same : p ≡ t).
+      let len = length_lives t in
+      let inside : course_place rows t < length (with_lives later rows t words) = (let at : course_place rows p ≡ course_place rows t = ap (course_place rows) same in omega arith) in
+      ap (λ b. get_or (cond b (with_lives later rows t words) (set (with_lives later rows t words) (course_place rows t) (course_word (Running 0)))) (course_place rows p) 0) (ap (waits later) (sym same) ∙ w)
+      ∙ ap (λ i. get_or (set (with_lives later rows t words) (course_place rows t) (course_word (Running 0))) i 0) (ap (course_place rows) same)
+      ∙ get_or-set_same (with_lives later rows t words) (course_place rows t) (course_word (Running 0)) 0 inside)
+      (λ (other : p ≡ t → ⊥).
+      let before = lives_here t p (omega (arith, other)) w b in
+      ⊎_elim
+      (λ (e : waits later t ≡ true). ap (λ b. get_or (cond b (with_lives later rows t words) (set (with_lives later rows t words) (course_place rows t) (course_word (Running 0)))) (course_place rows p) 0) e ∙ before)
+      (λ (e : waits later t ≡ false).
+      ap (λ b. get_or (cond b (with_lives later rows t words) (set (with_lives later rows t words) (course_place rows t) (course_word (Running 0)))) (course_place rows p) 0) e
+      ∙ get_or-set_other (with_lives later rows t words) (course_place rows t) (course_place rows p) (course_word (Running 0)) 0 (λ d. other (same_course_place rows p t d))
+      ∙ before)
+      (cases_Bool (waits later t)))
+      (cases_eq p t)
+
+-- of the empty mask
+pub nobody_waits : (t : ℕ) → waits 0 t ≡ false
+nobody_waits t = ap (λ n. eqb (n % 2) 1) (zero-div (2 ^ t))
+
+abbrev start_words : ℕ → ℕ → ℕ → List ℕ
+start_words threads rows later = with_lives later rows threads (replicate (threads * thread_len rows) 0)
+
+abbrev start_table : ℕ → ℕ → ℕ → Table
+start_table threads rows later = record { threads = threads; rows = rows; words = start_words threads rows later }
+
+pub length_start : (threads rows later : ℕ) → length (start_words threads rows later) ≡ threads * thread_len rows
+length_start threads rows later = length_lives later rows (replicate (threads * thread_len rows) 0) threads ∙ length-replicate (threads * thread_len rows) 0
+
+pub start_word : (threads rows later : ℕ) (r : Row) (p : ℕ) → is_row (start_table threads rows later) r ≡ true → p < 34 → word_at (start_table threads rows later) r p ≡ 0
 unfolding word_at
-start_word threads rows r p = zeros (threads * thread_len rows) (place_of rows r p)
+start_word threads rows later r p h b =
+    lives_other later rows (replicate (threads * thread_len rows) 0) threads (place_of rows r p) (λ q k w e. course_apart (start_table threads rows later) r p q h b (sym e))
+    ∙ zeros (threads * thread_len rows) (place_of rows r p)
 
-start_nack : (threads rows : ℕ) (n : NackName) → nack_at (start_table threads rows) n ≡ 0
+start_nack : (threads rows later : ℕ) (n : NackName) → is_nack (start_table threads rows later) n ≡ true → nack_at (start_table threads rows later) n ≡ 0
 unfolding nack_at
-start_nack threads rows n = zeros (threads * thread_len rows) (nack_place rows n)
+start_nack threads rows later n h =
+    lives_other later rows (replicate (threads * thread_len rows) 0) threads (nack_place rows n) (λ q k w e. course_nack_apart (start_table threads rows later) n q h (sym e))
+    ∙ zeros (threads * thread_len rows) (nack_place rows n)
 
-pub start_binding : (threads rows : ℕ) (n : NackName) → binding_at (start_table threads rows) n ≡ None
-start_binding threads rows n = ⊎_elim
-    (λ (e : is_nack (start_table threads rows) n ≡ true).
-    binding_inside (start_table threads rows) n e
-    ∙ ap (λ w. unwrap_or (nack_of w) None) (start_nack threads rows n)
+-- a thread waits, or has started at stamp 0
+start_life : (threads rows later p : ℕ) → p < threads → get_or (start_words threads rows later) (course_place rows p) 0 ≡ course_word (cond (waits later p) Unstarted (Running 0))
+start_life threads rows later p h = ⊎_elim
+    (λ (e : waits later p ≡ true).
+    lives_other later rows (replicate (threads * thread_len rows) 0) threads (course_place rows p)
+    (λ q k w d. true≢false (sym e ∙ ap (waits later) (same_course_place rows p q d) ∙ w))
+    ∙ zeros (threads * thread_len rows) (course_place rows p)
+    ∙ sym unstarted_word
+    ∙ ap (λ b. course_word (cond b Unstarted (Running 0))) (sym e))
+    (λ (e : waits later p ≡ false).
+    lives_here later rows (replicate (threads * thread_len rows) 0) threads p h e
+    (let len = length-replicate {A = ℕ} (threads * thread_len rows) 0 in let inside = course_place_inside (start_table threads rows later) p h in omega arith)
+    ∙ ap (λ b. course_word (cond b Unstarted (Running 0))) (sym e))
+    (cases_Bool (waits later p))
+
+first_in_range : (b : Bool) → IsCourseInRange (cond b Unstarted (Running 0))
+first_in_range true = tt
+first_in_range false = let low : 0 < 2 ^ 32 = omega arith in low
+
+pub start_course : (threads rows later p : ℕ) → p < threads → course_at (start_table threads rows later) p ≡ cond (waits later p) Unstarted (Running 0)
+start_course threads rows later p h =
+    course_inside (start_table threads rows later) p h
+    ∙ ap (λ w. unwrap_or (course_of w) Unstarted) (start_life threads rows later p h)
+    ∙ ap (λ (o : Option Course). unwrap_or o Unstarted) (course_of-course_word (cond (waits later p) Unstarted (Running 0)) (first_in_range (waits later p)))
+
+start_unended : (threads rows later p : ℕ) → (start_of (course_at (start_table threads rows later) p) ≡ 0) × ((start sync : ℕ) → course_at (start_table threads rows later) p ≡ Ended start sync → ⊥)
+start_unended threads rows later p = ⊎_elim
+    (λ (h : p < threads). by_course _ (waits later p) (start_course threads rows later p h))
+    (λ (h : threads ≤ p). (ap start_of (course_outside (start_table threads rows later) p h), λ start sync e. let bad : Unstarted ≡ Ended start sync = sym (course_outside (start_table threads rows later) p h) ∙ e in cc))
+    (cases_lt p threads)
+  where
+    by_course : (c : Course) (b : Bool) → c ≡ cond b Unstarted (Running 0) → (start_of c ≡ 0) × ((start sync : ℕ) → c ≡ Ended start sync → ⊥)
+    by_course c true e = (ap start_of e, λ start sync d. let bad : Unstarted ≡ Ended start sync = sym e ∙ d in cc)
+    by_course c false e = (ap start_of e, λ start sync d. let bad : Running 0 ≡ Ended start sync = sym e ∙ d in cc)
+
+pub start_binding : (threads rows later : ℕ) (n : NackName) → binding_at (start_table threads rows later) n ≡ None
+start_binding threads rows later n = ⊎_elim
+    (λ (e : is_nack (start_table threads rows later) n ≡ true).
+    binding_inside (start_table threads rows later) n e
+    ∙ ap (λ w. unwrap_or (nack_of w) None) (start_nack threads rows later n e)
     ∙ ap (λ (o : Option (Option Binding)). unwrap_or o None) nack_of-zero)
-    (λ (e : is_nack (start_table threads rows) n ≡ false). binding_outside (start_table threads rows) n e)
-    (cases_Bool (is_nack (start_table threads rows) n))
+    (λ (e : is_nack (start_table threads rows later) n ≡ false). binding_outside (start_table threads rows later) n e)
+    (cases_Bool (is_nack (start_table threads rows later) n))
 
-pub start_cell : (threads rows : ℕ) (r : Row) → cell_at (start_table threads rows) r ≡ Fresh
-start_cell threads rows r = ⊎_elim
-    (λ (e : is_row (start_table threads rows) r ≡ true).
-    cell_inside (start_table threads rows) r e
-    ∙ ap (λ w. unwrap_or (cell_of w) Fresh) (start_word threads rows r 0)
+pub start_cell : (threads rows later : ℕ) (r : Row) → cell_at (start_table threads rows later) r ≡ Fresh
+start_cell threads rows later r = ⊎_elim
+    (λ (e : is_row (start_table threads rows later) r ≡ true).
+    cell_inside (start_table threads rows later) r e
+    ∙ ap (λ w. unwrap_or (cell_of w) Fresh) (start_word threads rows later r 0 e (omega arith))
     ∙ ap (λ (o : Option Cell). unwrap_or o Fresh) cell_of-zero)
-    (λ (e : is_row (start_table threads rows) r ≡ false). cell_outside (start_table threads rows) r e)
-    (cases_Bool (is_row (start_table threads rows) r))
+    (λ (e : is_row (start_table threads rows later) r ≡ false). cell_outside (start_table threads rows later) r e)
+    (cases_Bool (is_row (start_table threads rows later) r))
 
 -- where no row is joined there are no commits
 none_told : (rows : List Row) (joined : Row → Option Joined) (offer : Row → ℕ → Option Offer) → ((r : Row) → joined r ≡ None) → commits_of rows joined offer ≡ []
@@ -194,65 +311,113 @@ none_told [] joined offer none = refl
 none_told (r ∷ rows) joined offer none =
     ap (λ (o : Option Joined). option_to_list (told_by joined offer r o) ++ commits_of rows joined offer) (none r) ∙ none_told rows joined offer none
 
-pub start_empty : (threads rows seats : ℕ) → commits_in (ledger_of (start_world threads rows seats).table) ≡ []
+pub start_empty : (threads rows seats later : ℕ) → commits_in (ledger_of (start_world threads rows seats later).table) ≡ []
 unfolding start_world
-start_empty threads rows seats =
-    none_told (rows_in (ledger_of (start_table threads rows))) (joined_in (ledger_of (start_table threads rows))) (offer_in (ledger_of (start_table threads rows)))
-    (λ r. ap (λ (f : Row → Option Joined). f r) (joined_in_ledger (start_table threads rows)) ∙ ap joined_of (start_cell threads rows r))
+start_empty threads rows seats later =
+    none_told (rows_in (ledger_of (start_table threads rows later))) (joined_in (ledger_of (start_table threads rows later))) (offer_in (ledger_of (start_table threads rows later)))
+    (λ r. ap (λ (f : Row → Option Joined). f r) (joined_in_ledger (start_table threads rows later)) ∙ ap joined_of (start_cell threads rows later r))
 
-pub start_holder : (threads rows seats : ℕ) (r : Row) → r.thread < threads → r.sync < rows → holder_at (start_world threads rows seats) r ≡ first_holder seats r
+held_nowhere : (threads rows seats later : ℕ) (r : Row) → is_row (start_table threads rows later) r ≡ false → holder_at (start_world threads rows seats later) r ≡ None
+unfolding holder_at start_world
+held_nowhere threads rows seats later r h = ap (λ b. cond b (get_or (map (first_holder seats later) (all_rows threads rows)) (number_of rows r) None) None) h
+
+pub start_holder : (threads rows seats later : ℕ) (r : Row) → r.thread < threads → r.sync < rows → holder_at (start_world threads rows seats later) r ≡ first_holder seats later r
 unfolding holder_at start_world is_row
-start_holder threads rows seats r h k =
-    ap (λ b. cond b (get_or (map (first_holder seats) (all_rows threads rows)) (number_of rows r) None) None) (and_from _ _ (lt-ltb r.thread threads h) (lt-ltb r.sync rows k))
-    ∙ at_number (first_holder seats) threads rows r None h k
+start_holder threads rows seats later r h k =
+    ap (λ b. cond b (get_or (map (first_holder seats later) (all_rows threads rows)) (number_of rows r) None) None) (and_from _ _ (lt-ltb r.thread threads h) (lt-ltb r.sync rows k))
+    ∙ at_number (first_holder seats later) threads rows r None h k
 
-pub length_holders : (threads rows seats : ℕ) → length (map (first_holder seats) (all_rows threads rows)) ≡ threads * rows
-length_holders threads rows seats = length-map (all_rows threads rows) (first_holder seats) ∙ length_all threads rows
+pub length_holders : (threads rows seats later : ℕ) → length (map (first_holder seats later) (all_rows threads rows)) ≡ threads * rows
+length_holders threads rows seats later = length-map (all_rows threads rows) (first_holder seats later) ∙ length_all threads rows
 
-pub kept_start : (threads rows seats : ℕ) → threads ≤ 64 → rows ≤ 1024 → Kept (start_world threads rows seats)
+nobody_last : (threads t : ℕ) → get_or (replicate {A = Option ℕ} threads None) t None ≡ None
+nobody_last threads t = ⊎_elim
+    (λ (h : t < threads). get_or-replicate threads t None None h)
+    (λ (h : threads ≤ t). let l = length-replicate {A = Option ℕ} threads None in get_or_past (replicate {A = Option ℕ} threads None) t None (omega arith))
+    (cases_lt t threads)
+
+-- a row that is held at the start is the first of a thread that does not wait
+holds_first : (later seats : ℕ) (r : Row) → first_holder seats later r ≢ None → waits later r.thread ≡ false
+holds_first later seats r h = ⊎_elim
+    (λ (e : waits later r.thread ≡ true). absurd (h (ap (λ b. cond b None (cond (eqb r.sync 0) (Some (r.thread % seats)) None)) e)))
+    (λ (e : waits later r.thread ≡ false). e)
+    (cases_Bool (waits later r.thread))
+
+held_first : (later seats t g seat : ℕ) → first_holder seats later (record { thread = t; sync = g + 1 }) ≡ Some seat → ⊥
+held_first later seats t g seat h = ⊎_elim
+    (λ (e : waits later t ≡ true). let bad : None ≡ Some seat = sym (ap (λ b. cond b None (cond (eqb (g + 1) 0) (Some (t % seats)) None)) e) ∙ h in cc)
+    (λ (e : waits later t ≡ false).
+    let bad : None ≡ Some seat =
+    sym (ap (λ b. cond b None (cond (eqb (g + 1) 0) (Some (t % seats)) None)) e ∙ ap (λ c. cond c (Some (t % seats)) None) (ne_eqb (g + 1) 0 (λ d. absurd (omega arith)))) ∙ h in
+    cc)
+    (cases_Bool (waits later t))
+
+start_begun : (threads rows seats later : ℕ) (r : Row) → holder_at (start_world threads rows seats later) r ≢ None → course_at (start_table threads rows later) r.thread ≢ Unstarted
+start_begun threads rows seats later r h e = ⊎_elim
+    (λ (i : is_row (start_table threads rows later) r ≡ true).
+    let inside = row_inside (start_table threads rows later) r i in
+    let at = start_holder threads rows seats later r inside.0 inside.1 in
+    let free = holds_first later seats r (λ n. h (at ∙ n)) in
+    let bad : Running 0 ≡ Unstarted = sym (start_course threads rows later r.thread inside.0 ∙ ap (λ b. cond b Unstarted (Running 0)) free) ∙ e in
+    cc)
+    (λ (i : is_row (start_table threads rows later) r ≡ false). h (nobody_outside i))
+    (cases_Bool (is_row (start_table threads rows later) r))
+  where
+    nobody_outside : is_row (start_table threads rows later) r ≡ false → holder_at (start_world threads rows seats later) r ≡ None
+    nobody_outside i = held_nowhere threads rows seats later r i
+
+pub kept_start : (threads rows seats later : ℕ) → threads ≤ 64 → rows ≤ 1024 → Kept (start_world threads rows seats later)
 unfolding start_world
-kept_start threads rows seats a b = record {
-  sized = length-replicate (threads * thread_len rows) 0;
+kept_start threads rows seats later a b = record {
+  sized = length_start threads rows later;
   few_threads = a;
   few_rows = b;
   formed = record {
-    rows = λ r p i k. ap (is_word_for p) (start_word threads rows r p) ∙ is_word_for-zero p;
-    nacks = λ n i. ap (λ w. is_some (nack_of w)) (start_nack threads rows n) ∙ ap (λ (o : Option (Option Binding)). is_some o) nack_of-zero;
+    rows = λ r p i k. ap (is_word_for p) (start_word threads rows later r p i k) ∙ is_word_for-zero p;
+    nacks = λ n i. ap (λ w. is_some (nack_of w)) (start_nack threads rows later n i) ∙ ap (λ (o : Option (Option Binding)). is_some o) nack_of-zero;
+    lives = λ p i.
+        ap (λ w. is_some (course_of w)) (start_life threads rows later p i)
+        ∙ ap (λ (o : Option Course). is_some o) (course_of-course_word (cond (waits later p) Unstarted (Running 0)) (first_in_range (waits later p)));
   };
   linked = record {
-    inside = λ r h. absurd (true≢false (sym (ap is_fresh (start_cell threads rows r)) ∙ h));
-    in_turn = λ t g h. absurd (true≢false (sym (ap is_fresh (start_cell threads rows (record { thread = t; sync = g + 1 }))) ∙ h));
-    alone = λ r j h k. let bad : None ≡ Some j = sym (ap joined_of (start_cell threads rows r)) ∙ h in cc;
-    sides = λ r j p h k. let bad : None ≡ Some j = sym (ap joined_of (start_cell threads rows r)) ∙ h in cc;
-    once = λ q r p h k. absurd (false≢true (sym (ap (λ (c : Cell). names (joined_of c) p) (start_cell threads rows q)) ∙ h));
-    bounded = λ r j h. let bad : None ≡ Some j = sym (ap joined_of (start_cell threads rows r)) ∙ h in cc;
+    inside = λ r h. absurd (true≢false (sym (ap is_fresh (start_cell threads rows later r)) ∙ h));
+    in_turn = λ t g h. absurd (true≢false (sym (ap is_fresh (start_cell threads rows later (record { thread = t; sync = g + 1 }))) ∙ h));
+    alone = λ r j h k. let bad : None ≡ Some j = sym (ap joined_of (start_cell threads rows later r)) ∙ h in cc;
+    sides = λ r j p h k. let bad : None ≡ Some j = sym (ap joined_of (start_cell threads rows later r)) ∙ h in cc;
+    once = λ q r p h k. absurd (false≢true (sym (ap (λ (c : Cell). names (joined_of c) p) (start_cell threads rows later q)) ∙ h));
+    bounded = λ r j h. let bad : None ≡ Some j = sym (ap joined_of (start_cell threads rows later r)) ∙ h in cc;
+    lived = λ r h. absurd (true≢false (sym (ap is_fresh (start_cell threads rows later r)) ∙ h));
+    ended = λ t start sync h. absurd ((start_unended threads rows later t).1 start (sync + 1) h);
+    starts = λ t. let z = (start_unended threads rows later t).0 in omega arith;
   };
   held = λ t g seat h.
       let r : Row = record { thread = t; sync = g + 1 } in
-      let in_t = row_inside (start_table threads rows) r (held_row (start_world threads rows seats) r seat h) in
-      let bad : None ≡ Some seat =
-      sym (start_holder threads rows seats r in_t.0 in_t.1 ∙ ap (λ c. cond c (Some (t % seats)) None) (ne_eqb (g + 1) 0 (λ e. absurd (omega arith)))) ∙ h in
-      cc;
-  bound = λ n b e h. let bad : None ≡ Some b = sym (start_binding threads rows n) ∙ e in cc;
-  seated = length_holders threads rows seats;
-  blank = λ r p i b n. start_word threads rows r p;
+      let in_t = row_inside (start_table threads rows later) r (held_row (start_world threads rows seats later) r seat h) in
+      absurd (held_first later seats t g seat (sym (start_holder threads rows seats later r in_t.0 in_t.1) ∙ h));
+  bound = λ n b e h. let bad : None ≡ Some b = sym (start_binding threads rows later n) ∙ e in cc;
+  begun = start_begun threads rows seats later;
+  begun_last = λ t h e. h (nobody_last threads t);
+  last_held = λ t g seat h e. let bad : None ≡ Some seat = sym (nobody_last threads t) ∙ h in cc;
+  seated = length_holders threads rows seats later;
+  seated_last = length-replicate threads None;
+  blank = λ r p i b n. start_word threads rows later r p i b;
 }
 
 -- THE LAW OF ALL SCHEDULES
 
-pub lawful_ledger : (t : Table) → Linked t.threads t.rows (cell_at t) (offer_at t) (binding_at t) → IsLawful (ledger_of t)
+pub lawful_ledger : (t : Table) → Linked t.threads t.rows (cell_at t) (offer_at t) (marks_at t) → IsLawful (ledger_of t)
 unfolding ledger_of
 lawful_ledger t l =
-    subst (λ (z : (Row → Option Joined) × (Row → ℕ → Option Offer) × (NackName → Option Binding)). Lawful (all_rows t.threads t.rows) z.0 z.1 z.2)
-    (λ i. (sym (joined_in_ledger t) i, sym (offer_in_ledger t) i, sym (binding_in_ledger t) i))
-    (lawful_linked t.threads t.rows (cell_at t) (offer_at t) (binding_at t) l)
+    subst (λ (z : (Row → Option Joined) × (Row → ℕ → Option Offer) × Marks). Lawful (all_rows t.threads t.rows) z.0 z.1 z.2)
+    (λ i. (sym (joined_in_ledger t) i, sym (offer_in_ledger t) i, sym (marks_in_ledger t) i))
+    (lawful_linked t.threads t.rows (cell_at t) (offer_at t) (marks_at t) l)
 
-pub lawful_schedule : (threads rows seats : ℕ) (steps : List (Seat × Step)) (w : World) → threads ≤ 64 → rows ≤ 1024 → Plays (start_world threads rows seats) steps w → IsLawful (ledger_of w.table)
-lawful_schedule threads rows seats steps w a b p = lawful_ledger w.table (kept_schedule (start_world threads rows seats) w steps (kept_start threads rows seats a b) p).linked
+pub lawful_schedule : (threads rows seats later : ℕ) (steps : List (Seat × Step)) (w : World) → threads ≤ 64 → rows ≤ 1024 → Plays (start_world threads rows seats later) steps w → IsLawful (ledger_of w.table)
+lawful_schedule threads rows seats later steps w a b p = lawful_ledger w.table (kept_schedule (start_world threads rows seats later) w steps (kept_start threads rows seats later a b) p).linked
 
--- words that are all 0 have a lawful ledger
-pub lawful_zeros : (threads rows : ℕ) (words : List ℕ) → threads ≤ 64 → rows ≤ 1024 → words ≡ replicate (threads * thread_len rows) 0 → IsLawful (ledger_of (record { threads = threads; rows = rows; words = words }))
+-- the words of a start have a lawful ledger
+pub lawful_start : (threads rows later : ℕ) (words : List ℕ) → threads ≤ 64 → rows ≤ 1024 → words ≡ with_lives later rows threads (replicate (threads * thread_len rows) 0) → IsLawful (ledger_of (record { threads = threads; rows = rows; words = words }))
 unfolding start_world
-lawful_zeros threads rows words a b e =
+lawful_start threads rows later words a b e =
     subst (λ (ws : List ℕ). IsLawful (ledger_of (record { threads = threads; rows = rows; words = ws }))) (sym e)
-    (lawful_ledger (start_table threads rows) (kept_start threads rows 1 a b).linked)
+    (lawful_ledger (start_table threads rows later) (kept_start threads rows 1 later a b).linked)

@@ -5,8 +5,6 @@ use Rattle.std.specs.List.{sum_by}
 use Rattle.std.proofs.lemmas.List.Sums.{sum_by-append, sum_by-cons}
 use Rattle.std.proofs.lemmas.List.Concat.{length-flat_map}
 use Rattle.std.proofs.lemmas.Bool.{ne_eqb, cases_Bool, cases_eq, false≢true}
-use Rattle.protocol_values.specs.declared.NackName.{NackName}
-use Rattle.protocol_values.specs.declared.Binding.{Binding}
 use Rattle.protocol_values.specs.declared.Row.{Row}
 use Rattle.protocol_values.specs.declared.Joined.{Joined}
 use Rattle.protocol_values.specs.declared.Offer.{Offer}
@@ -15,7 +13,7 @@ use Rattle.protocol_values.specs.declared.Base.TheVariants.{Send, Recv, Always, 
 use Rattle.protocol_values.specs.declared.Commit.{Commit}
 use Rattle.protocol_values.specs.declared.Cell.{Cell}
 use Rattle.protocol_values.specs.declared.Cell.TheVariants.{Fresh, Waiting, Claimed, Synched, Taken}
-use Rattle.protocol.specs.Tables.{row_eq, is_fresh, is_taken, names, is_partner, offers_meet, needs_none, stands_alone}
+use Rattle.protocol.specs.Tables.{Marks, row_eq, is_fresh, is_taken, names, is_partner, offers_meet, needs_none, stands_alone}
 use Rattle.protocol_values.specs.Values.{joined_of, bases_meet}
 use Rattle.protocol.specs.Worlds.{mirrored}
 use Rattle.protocol.specs.Ledgers.{commits_of, told_at, told_by, tells, is_send, sends, commit_named, commit_by, alone_by, pair_by, received_by}
@@ -117,7 +115,7 @@ sum_change_two f g x y rs o p n h =
 -- WHO IS NAMED
 
 -- a named row is claimed or joined
-pub named_row : {bound : NackName → Option Binding} (threads rows : ℕ) (cell : Row → Cell) (offer : Row → ℕ → Option Offer) (q x : Row) → Linked threads rows cell offer bound → names (joined_of (cell q)) x ≡ true → (cell x ≡ Claimed) ⊎ (is_some (joined_of (cell x)) ≡ true)
+pub named_row : {marks : Marks} (threads rows : ℕ) (cell : Row → Cell) (offer : Row → ℕ → Option Offer) (q x : Row) → Linked threads rows cell offer marks → names (joined_of (cell q)) x ≡ true → (cell x ≡ Claimed) ⊎ (is_some (joined_of (cell x)) ≡ true)
 named_row threads rows cell offer q x l h =
     let n = naming (joined_of (cell q)) x h in
     let s = l.sides q n.way n.place n.is n.partner in
@@ -125,7 +123,7 @@ named_row threads rows cell offer q x l h =
     subst P n.row (⊎_elim (λ (e : cell n.place.0 ≡ Claimed). inl e) (λ (e : joined_of (cell n.place.0) ≡ Some (mirrored q n.way n.place.1)). inr (some_is_some _ _ e)) s.back)
 
 -- so a row that is neither is not named
-pub unnamed_idle : {bound : NackName → Option Binding} (threads rows : ℕ) (cell : Row → Cell) (offer : Row → ℕ → Option Offer) (x : Row) → Linked threads rows cell offer bound → cell x ≢ Claimed → joined_of (cell x) ≡ None → (q : Row) → names (joined_of (cell q)) x ≡ false
+pub unnamed_idle : {marks : Marks} (threads rows : ℕ) (cell : Row → Cell) (offer : Row → ℕ → Option Offer) (x : Row) → Linked threads rows cell offer marks → cell x ≢ Claimed → joined_of (cell x) ≡ None → (q : Row) → names (joined_of (cell q)) x ≡ false
 unnamed_idle threads rows cell offer x l c j q =
     ⊎_elim
     (λ (h : names (joined_of (cell q)) x ≡ true). ⊎_elim
@@ -136,7 +134,7 @@ unnamed_idle threads rows cell offer x l c j q =
     (cases_Bool (names (joined_of (cell q)) x))
 
 -- the partner of a joined row is open
-pub partner_open : {bound : NackName → Option Binding} (threads rows : ℕ) (cell : Row → Cell) (offer : Row → ℕ → Option Offer) (r : Row) (j : Joined) (p : Row × ℕ) → Linked threads rows cell offer bound → joined_of (cell r) ≡ Some j → j.partner ≡ Some p → is_fresh (cell p.0) ≡ false
+pub partner_open : {marks : Marks} (threads rows : ℕ) (cell : Row → Cell) (offer : Row → ℕ → Option Offer) (r : Row) (j : Joined) (p : Row × ℕ) → Linked threads rows cell offer marks → joined_of (cell r) ≡ Some j → j.partner ≡ Some p → is_fresh (cell p.0) ≡ false
 partner_open threads rows cell offer r j p l h k =
     ⊎_elim
     (λ (e : cell p.0 ≡ Claimed). ap is_fresh e)
@@ -222,7 +220,7 @@ named_alone offer r j e h =
     by_base (Recv c) h = absurd (false≢true h)
     by_base (Always m) h = (_, refl)
     by_base (OnNack n) h = (_, refl)
-    by_base (OnEnd x) h = absurd (false≢true h)
+    by_base (OnEnd x) h = (_, refl)
     by_base Never h = absurd (false≢true h)
 
 eqb_swapped : (c d : ℕ) → eqb c d ≡ eqb d c

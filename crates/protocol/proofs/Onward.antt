@@ -1,11 +1,13 @@
 -- Whatever step is made, what is opened, committed and bound stays so.
 use Rattle.std.proofs.Common.{◌⊎◌, ◌≡◌, ℕ, ◌<◌, true, false, List, [], ◌∷◌, Option, Some, None, is_some, sym, refl, ap, ◌∙◌, subst, arith, inl, inr, ⊎_elim}
-use Rattle.std.proofs.lemmas.Bool.{true≢false}
-use Rattle.protocol_values.specs.Words.{IsCellInRange}
+use Rattle.std.proofs.lemmas.Bool.{cases_eq, true≢false}
+use Rattle.protocol_values.specs.Words.{IsCellInRange, IsCourseInRange, cell_word}
 use Rattle.protocol_values.specs.declared.Binding.{Binding}
 use Rattle.protocol_values.specs.declared.Cell.{Cell}
 use Rattle.protocol_values.specs.declared.Cell.TheVariants.{Fresh, Waiting, Claimed, Synched, Taken}
 use Rattle.protocol_values.specs.declared.Commit.{Commit}
+use Rattle.protocol_values.specs.declared.Course.{Course}
+use Rattle.protocol_values.specs.declared.Course.TheVariants.{Unstarted, Running, Ended}
 use Rattle.protocol_values.specs.declared.Joined.{Joined}
 use Rattle.protocol_values.specs.declared.NackName.{NackName}
 use Rattle.protocol_values.specs.declared.Offer.{Offer}
@@ -13,19 +15,33 @@ use Rattle.protocol_values.specs.declared.Row.{Row}
 use Rattle.protocol_values.specs.declared.Seat.{Seat}
 use Rattle.protocol_values.specs.declared.Step.{Step}
 use Rattle.protocol_values.specs.declared.Step.TheVariants.{Draft, Open, Look, Read, Claim, Yield, Join, Seal, Grant, Take, Bind, Start, Finish}
-use Rattle.protocol.specs.Growing.{CommitsStay, GrowsTo, TablesGrow}
+use Rattle.protocol.specs.Growing.{CommitsStay, GoesOn, GrowsTo, TablesGrow}
 use Rattle.protocol.specs.Kept.{Kept}
 use Rattle.protocol.specs.Ledgers.{HasCommit, commit_by, commit_named, pair_by, ledger_of}
-use Rattle.protocol.specs.Tables.{Table, all_rows, binding_at, bound_row, cause_at, cell_at, is_fresh, is_row, is_taken, joined_at, offer_at, row_eq, synched_of}
+use Rattle.protocol.specs.Tables.{Table, course_at, last_stamp, marks_at, all_rows, binding_at, bound_row, cause_at, cell_at, is_fresh, is_row, is_taken, joined_at, offer_at, row_eq, synched_of}
 use Rattle.protocol_values.specs.Values.{joined_of}
-use Rattle.protocol.specs.Worlds.{Allowed, Condition, Plays, World, after_step, granted_by, joined_with, mirrored, nack_of_row, namer_at, sealed_by, with_cell, with_nack, with_seal, with_take, with_word}
-use Rattle.protocol.proofs.Keeping.{bind_in_range, grant_in_range, held_row, join_in_range, kept_schedule, kept_step, nack_of_thread, seal_in_range, sealed_is, sealing, synched_is}
+use Rattle.protocol.specs.Worlds.{Allowed, Condition, HasEnded, ended_at, with_course, Plays, World, after_step, granted_by, joined_with, mirrored, nack_of_row, namer_at, sealed_by, with_cell, with_nack, with_seal, with_take, with_word}
+use Rattle.protocol.proofs.Keeping.{end_in_range, rows_lived, stamp_in_range, stands_inside, threads_lived, bind_in_range, grant_in_range, held_row, join_in_range, kept_schedule, kept_step, nack_of_thread, seal_in_range, sealed_is, sealing, synched_is}
 use Rattle.protocol.proofs.LedgerLemmas.{kept_start}
 use Rattle.protocol.proofs.LedgerReadings.{commits_from_table, commits_in_table}
 use Rattle.protocol.proofs.Linking.{fresh_not_joined, some_parts}
 use Rattle.protocol.proofs.Naming.{namer_names}
-use Rattle.protocol.proofs.Readings.{binding_after_cell, binding_after_word, binding_kept, binding_was, cell_after_bind, cell_after_cell, cell_after_word, joined_ranged, offer_after_bind, offer_after_cell, offer_after_draft, row_of_open}
+use Rattle.protocol.proofs.Readings.{binding_after_life, cell_after_life, course_after_bind, course_after_word, course_lived, course_lived_other, offer_after_life, binding_after_cell, binding_after_word, binding_kept, binding_was, cell_after_bind, cell_after_cell, cell_after_word, joined_ranged, offer_after_bind, offer_after_cell, offer_after_draft, row_of_open}
 use Rattle.protocol.proofs.RowLemmas.{put, put_other, put_same, row_cases}
+
+goes-same : (c : Course) → GoesOn c c
+goes-same Unstarted = tt
+goes-same (Running start) = inl refl
+goes-same (Ended start sync) = refl
+
+goes-chain : (a b c : Course) → GoesOn a b → GoesOn b c → GoesOn a c
+goes-chain Unstarted b c x y = tt
+goes-chain (Running start) b c (inl x) y = subst (λ (z : Course). GoesOn z c) x y
+goes-chain (Running start) b c (inr x) y = inr (x.0, subst (λ (z : Course). GoesOn z c) x.1 y)
+goes-chain (Ended start sync) b c x y = subst (λ (z : Course). GoesOn z c) x y
+
+goes-equal : (t u : Table) → course_at u ≡ course_at t → (p : ℕ) → GoesOn (course_at t p) (course_at u p)
+goes-equal t u e p = subst (λ (f : ℕ → Course). GoesOn (course_at t p) (f p)) (sym e) (goes-same (course_at t p))
 
 grows-same : (t : Table) → GrowsTo t t
 grows-same t = record {
@@ -36,6 +52,7 @@ grows-same t = record {
   joined = λ r j h. h;
   bound = λ n b h. h;
   unbound = λ n b h e. e;
+  courses = λ p. goes-same (course_at t p);
 }
 
 grows-chain : (t u v : Table) → GrowsTo t u → GrowsTo u v → GrowsTo t v
@@ -47,6 +64,7 @@ grows-chain t u v one two = record {
   joined = λ r j h. two.joined r j (one.joined r j h);
   bound = λ n b h. two.bound n b (one.bound n b h);
   unbound = λ n b h e. one.unbound n b h (two.unbound n b (one.opened (bound_row n b) h) e);
+  courses = λ p. goes-chain (course_at t p) (course_at u p) (course_at v p) (one.courses p) (two.courses p);
 }
 
 -- the cell of a row is written, which was joined in the same way or not at all
@@ -80,6 +98,7 @@ module _ (w : World) (x : Row) (c : Cell) (k : Kept w) (row : is_row w.table x �
         (row_cases r x);
     bound = λ n b e. ap (λ (f : NackName → Option Binding). f n) (binding_after_cell w.table x c row) ∙ e;
     unbound = λ n b h e. ap (λ (f : NackName → Option Binding). f n) (sym (binding_after_cell w.table x c row)) ∙ e;
+    courses = goes-equal w.table (with_cell w.table x c) (course_after_word w.table x 0 (cell_word c) row (omega arith));
   }
 
 -- a row that was not joined
@@ -87,7 +106,7 @@ grows-unjoined : (w : World) (x : Row) (c : Cell) → Kept w → is_row w.table 
 grows-unjoined w x c k row range open_c none = grows-cell w x c k row range open_c (λ j e. let bad : None ≡ Some j = sym none ∙ e in cc)
 
 grows-draft : (w : World) (x : Row) (p v seat : ℕ) → Kept w → Condition w (record { 0 = seat }) (Draft x p v) → GrowsTo w.table (with_word w.table x p v)
-grows-draft w x p v seat k (h, f, a, b, g) =
+grows-draft w x p v seat k (h, f, alive, a, b, g) =
     let row = held_row w x seat h in
     let below : p < 34 = omega arith in
     record {
@@ -98,11 +117,12 @@ grows-draft w x p v seat k (h, f, a, b, g) =
       joined = λ r j e. ap joined_of (cell_after_word w.table x r p v row a below) ∙ e;
       bound = λ n c e. ap (λ (q : NackName → Option Binding). q n) (binding_after_word w.table x p v row below) ∙ e;
       unbound = λ n c h e. ap (λ (q : NackName → Option Binding). q n) (sym (binding_after_word w.table x p v row below)) ∙ e;
+      courses = goes-equal w.table (with_word w.table x p v) (course_after_word w.table x p v row below);
     }
 
 grows-bind : (w : World) (x : Row) (k scope seat : ℕ) → Kept w → Condition w (record { 0 = seat }) (Bind k x scope) → GrowsTo w.table (with_nack w.table (nack_of_row x k) (record { sync = x.sync; scope = scope }))
 unfolding with_nack
-grows-bind w x k scope seat kept (h, f, b, c, free) =
+grows-bind w x k scope seat kept (h, f, alive, b, c, free) =
     let row = held_row w x seat h in
     let m : NackName = nack_of_row x k in
     let bound : Binding = record { sync = x.sync; scope = scope } in
@@ -122,7 +142,32 @@ grows-bind w x k scope seat kept (h, f, b, c, free) =
           let here : bound_row n d ≡ x = λ i. bound_row (sym new.0 i) (sym new.1 i) in
           absurd (true≢false (sym (ap is_fresh f) ∙ ap (λ (y : Row). is_fresh (cell_at w.table y)) (sym here) ∙ open_row)))
           (binding_was w.table m bound kept.sized nack range n d e);
+      courses = goes-equal w.table (with_nack w.table m bound) (course_after_bind w.table m bound nack);
     }
+
+-- a life is written: a start, or an end
+grows-life : (w : World) (p : ℕ) (c : Course) → Kept w → p < w.table.threads → IsCourseInRange c → GoesOn (course_at w.table p) c → GrowsTo w.table (with_course w.table p c)
+grows-life w p c k below range goes = record {
+  threads = threads_lived w.table p c;
+  rows = rows_lived w.table p c;
+  opened = λ r h. ap is_fresh (cell_after_life w.table p c r) ∙ h;
+  offers = λ r n h. offer_after_life w.table p c r n;
+  joined = λ r j h. ap joined_of (cell_after_life w.table p c r) ∙ h;
+  bound = λ n b h. ap (λ (f : NackName → Option Binding). f n) (binding_after_life w.table p c) ∙ h;
+  unbound = λ n b h e. ap (λ (f : NackName → Option Binding). f n) (sym (binding_after_life w.table p c)) ∙ e;
+  courses = λ q. ⊎_elim
+      (λ (same : q ≡ p). subst (λ (n : ℕ). GoesOn (course_at w.table n) (course_at (with_course w.table p c) n)) (sym same) (subst (GoesOn (course_at w.table p)) (sym (course_lived w.table p c k.sized below range)) goes))
+      (λ (other : q ≡ p → ⊥). subst (GoesOn (course_at w.table q)) (sym (course_lived_other w.table p q c other)) (goes-same (course_at w.table q)))
+      (cases_eq q p);
+}
+
+goes-start : (c d : Course) → c ≡ Unstarted → GoesOn c d
+goes-start c d e = subst (λ (x : Course). GoesOn x d) (sym e) tt
+
+goes-end : (c : Course) (sync : ℕ) → (HasEnded c → ⊥) → GoesOn c (ended_at c sync)
+goes-end Unstarted sync alive = tt
+goes-end (Running start) sync alive = inr (sync, refl)
+goes-end (Ended start g) sync alive = absurd (alive tt)
 
 grows-seal : (w : World) (x : Row) → Kept w → cell_at w.table x ≡ Claimed → is_some (namer_at w x) ≡ true → GrowsTo w.table (with_seal w.table x (sealed_by w.table (namer_at w x)))
 grows-seal w x k f h =
@@ -154,8 +199,10 @@ grows-condition w seat (Grant row n) k a =
     grows-unjoined w row (Synched (granted_by w.table row n)) k (row_of_open w.table row (ap is_fresh a.0)) (grant_in_range w row n s.0 k s.1) refl (ap joined_of a.0)
 grows-condition w seat (Take row) k a = grows-take w row k a
 grows-condition w seat (Bind n row scope) k a = grows-bind w row n scope seat.0 k a
-grows-condition w seat (Start row thread) k a = grows-same w.table
-grows-condition w seat (Finish row) k a = grows-same w.table
+grows-condition w seat (Start row thread) k a =
+    grows-life w thread (Running (last_stamp (marks_at w.table) (joined_at w.table) row)) k a.2 (stamp_in_range w row k) (goes-start _ _ a.4)
+grows-condition w seat (Finish row) k a =
+    grows-life w row.thread (ended_at (course_at w.table row.thread) row.sync) k (stands_inside w seat row a.0).0 (end_in_range w seat row k a.0) (goes-end (course_at w.table row.thread) row.sync a.1)
 
 -- A STEP, and any schedule
 pub grows-step : (w : World) (seat : Seat) (step : Step) → Kept w → Allowed w seat step → GrowsTo w.table (after_step w seat step).table
@@ -167,8 +214,8 @@ grows-schedule w v (s ∷ ss) k p =
     grows-chain w.table (after_step w s.0 s.1).table v.table (grows-step w s.0 s.1 k p.0) (grows-schedule (after_step w s.0 s.1) v ss (kept_step w s.0 s.1 k p.0) p.1)
 
 pub tables-grow : TablesGrow
-tables-grow threads rows seats steps more w v few_threads few_rows before after =
-    grows-schedule w v more (kept_schedule _ w steps (kept_start threads rows seats few_threads few_rows) before) after
+tables-grow threads rows seats later steps more w v few_threads few_rows before after =
+    grows-schedule w v more (kept_schedule _ w steps (kept_start threads rows seats later few_threads few_rows) before) after
 
 -- COMMITS STAY
 same-commit : (f g : Row → ℕ → Option Offer) (r : Row) (j : Joined) (o : Option (Row × ℕ)) (own : Option Offer) → ((p : Row × ℕ) → o ≡ Some p → g p.0 p.1 ≡ f p.0 p.1) → commit_by g r j o own ≡ commit_by f r j o own
@@ -201,8 +248,8 @@ commit-stays w u c k g h =
     })
 
 pub commits-stay : CommitsStay
-commits-stay threads rows seats steps more w v c few_threads few_rows before after h =
-    let k = kept_schedule _ w steps (kept_start threads rows seats few_threads few_rows) before in
+commits-stay threads rows seats later steps more w v c few_threads few_rows before after h =
+    let k = kept_schedule _ w steps (kept_start threads rows seats later few_threads few_rows) before in
     commit-stays w v.table c k (grows-schedule w v more k after) h
 
 -- ONLY AN OPEN OPENS
@@ -237,7 +284,7 @@ take-opens w x k h r =
     (cell-reopens w x (Taken j.0) k (joined_ranged w.table x j.0 (ap joined_of is)) (ap is_fresh is) r)
 
 opens-condition : (w : World) (seat : Seat) (step : Step) → Kept w → Condition w seat step → (r : Row) → is_fresh (cell_at (after_step w seat step).table r) ≡ false → WasOpen w r ⊎ (step ≡ Open r)
-opens-condition w seat (Draft x p v) k (held, f, a, b, g) r h = inl (ap is_fresh (sym (cell_after_word w.table x r p v (held_row w x seat.0 held) a (omega arith))) ∙ h)
+opens-condition w seat (Draft x p v) k (held, f, alive, a, b, g) r h = inl (ap is_fresh (sym (cell_after_word w.table x r p v (held_row w x seat.0 held) a (omega arith))) ∙ h)
 opens-condition w seat (Open x) k a r h = ⊎_elim
     (λ (old : WasOpen w r). inl old)
     (λ (e : x ≡ r). inr (ap Open e))
@@ -253,9 +300,9 @@ opens-condition w seat (Grant x n) k a r h =
     let s = some_parts (cause_at w.table x n) a.1 in
     inl (cell-reopens w x (Synched (granted_by w.table x n)) k (grant_in_range w x n s.0 k s.1) (ap is_fresh a.0) r h)
 opens-condition w seat (Take x) k a r h = inl (take-opens w x k a r h)
-opens-condition w seat (Bind n x scope) k a r h = inl (ap is_fresh (sym (cell_after_bind w.table (nack_of_row x n) (record { sync = x.sync; scope = scope }) r (nack_of_thread w.table x n (held_row w x seat.0 a.0) a.2))) ∙ h)
-opens-condition w seat (Start x thread) k a r h = inl h
-opens-condition w seat (Finish x) k a r h = inl h
+opens-condition w seat (Bind n x scope) k a r h = inl (ap is_fresh (sym (cell_after_bind w.table (nack_of_row x n) (record { sync = x.sync; scope = scope }) r (nack_of_thread w.table x n (held_row w x seat.0 a.0) a.3))) ∙ h)
+opens-condition w seat (Start x thread) k a r h = inl (ap is_fresh (sym (cell_after_life w.table thread (Running (last_stamp (marks_at w.table) (joined_at w.table) x)) r)) ∙ h)
+opens-condition w seat (Finish x) k a r h = inl (ap is_fresh (sym (cell_after_life w.table x.thread (ended_at (course_at w.table x.thread) x.sync) r)) ∙ h)
 
 -- a row that is opened after a step was opened before it, or the step opens it
 pub opens-step : (w : World) (seat : Seat) (step : Step) → Kept w → Allowed w seat step → (r : Row) → is_fresh (cell_at (after_step w seat step).table r) ≡ false → (is_fresh (cell_at w.table r) ≡ false) ⊎ (step ≡ Open r)
@@ -291,7 +338,7 @@ take-taken w x k h r =
     (cell-taken w x (Taken j.0) k (row_of_open w.table x (ap is_fresh is)) (joined_ranged w.table x j.0 (ap joined_of is)) (λ e. refl) r)
 
 taken-condition : (w : World) (seat : Seat) (step : Step) → Kept w → Condition w seat step → (r : Row) → WasTaken w r → is_taken (cell_at (after_step w seat step).table r) ≡ true
-taken-condition w seat (Draft x p v) k (held, f, a, b, g) r h = ap is_taken (cell_after_word w.table x r p v (held_row w x seat.0 held) a (omega arith)) ∙ h
+taken-condition w seat (Draft x p v) k (held, f, alive, a, b, g) r h = ap is_taken (cell_after_word w.table x r p v (held_row w x seat.0 held) a (omega arith)) ∙ h
 taken-condition w seat (Open x) k a r h = cell-taken w x Waiting k (held_row w x seat.0 a.0) tt (untaken-cell w x Fresh Waiting a.1 refl) r h
 taken-condition w seat (Look x) k a r h = h
 taken-condition w seat (Read x p) k a r h = h
@@ -304,9 +351,9 @@ taken-condition w seat (Grant x n) k a r h =
     let s = some_parts (cause_at w.table x n) a.1 in
     cell-taken w x (Synched (granted_by w.table x n)) k (row_of_open w.table x (ap is_fresh a.0)) (grant_in_range w x n s.0 k s.1) (untaken-cell w x Waiting (Synched (granted_by w.table x n)) a.0 refl) r h
 taken-condition w seat (Take x) k a r h = take-taken w x k a r h
-taken-condition w seat (Bind n x scope) k a r h = ap is_taken (cell_after_bind w.table (nack_of_row x n) (record { sync = x.sync; scope = scope }) r (nack_of_thread w.table x n (held_row w x seat.0 a.0) a.2)) ∙ h
-taken-condition w seat (Start x thread) k a r h = h
-taken-condition w seat (Finish x) k a r h = h
+taken-condition w seat (Bind n x scope) k a r h = ap is_taken (cell_after_bind w.table (nack_of_row x n) (record { sync = x.sync; scope = scope }) r (nack_of_thread w.table x n (held_row w x seat.0 a.0) a.3)) ∙ h
+taken-condition w seat (Start x thread) k a r h = ap is_taken (cell_after_life w.table thread (Running (last_stamp (marks_at w.table) (joined_at w.table) x)) r) ∙ h
+taken-condition w seat (Finish x) k a r h = ap is_taken (cell_after_life w.table x.thread (ended_at (course_at w.table x.thread) x.sync) r) ∙ h
 
 pub taken-step : (w : World) (seat : Seat) (step : Step) → Kept w → Allowed w seat step → (r : Row) → is_taken (cell_at w.table r) ≡ true → is_taken (cell_at (after_step w seat step).table r) ≡ true
 taken-step w seat step k a r h = taken-condition w seat step k a.1 r h

@@ -18,11 +18,9 @@ use Rattle.protocol_values.specs.declared.Base.{Base}
 use Rattle.protocol_values.specs.declared.Base.TheVariants.{Send, Recv, Always, OnNack, OnEnd, Never}
 use Rattle.protocol_values.specs.declared.Commit.{Commit}
 use Rattle.protocol_values.specs.declared.Commit.TheVariants.{Pair, Alone}
-use Rattle.protocol_values.specs.declared.NackName.{NackName}
-use Rattle.protocol_values.specs.declared.Binding.{Binding}
 use Rattle.protocol_values.specs.Commits.{first_row, first_thread, stamp_of, IsInOrder}
-use Rattle.protocol.specs.Tables.{row_eq, all_rows, is_partner}
-use Rattle.protocol.specs.Ledgers.{Ledger, IsLawful, joined_in, offer_in, binding_in, commits_in, Involves, Lawful, IsIn, commit_named, commit_by, pair_by, tells, told_at, is_send, sends, commits_of, IsCausal}
+use Rattle.protocol.specs.Tables.{Marks, row_eq, all_rows, is_partner}
+use Rattle.protocol.specs.Ledgers.{Ledger, IsLawful, joined_in, offer_in, marks_in, commits_in, Involves, Lawful, IsIn, commit_named, commit_by, pair_by, tells, told_at, is_send, sends, commits_of, IsCausal}
 use Rattle.protocol.proofs.RowLemmas.{row_eq-refl, row_eq-false, row_eq_flips, row_ne, all_distinct}
 use Rattle.protocol.proofs.Linking.{some_inj, partner_parts}
 use Rattle.protocol.proofs.CommitLemmas.{named_rows, told_named, told_parts, commit_told}
@@ -110,8 +108,8 @@ stamps_rise cs sorted = IsNonDecreasingBy-from_all_adjacent stamp_of cs (λ k d 
     (λ (e : stamp_of (get_or cs k d) ≤ stamp_of (get_or cs (k + 1) d)). e)
     (cases_lt (stamp_of (get_or cs (k + 1) d)) (stamp_of (get_or cs k d))))
 
-module _ (threads rows : ℕ) (joined : Row → Option Joined) (offer : Row → ℕ → Option Offer) (bound : NackName → Option Binding)
-    (law : Lawful (all_rows threads rows) joined offer bound)
+module _ (threads rows : ℕ) (joined : Row → Option Joined) (offer : Row → ℕ → Option Offer) (marks : Marks)
+    (law : Lawful (all_rows threads rows) joined offer marks)
     (cs : List Commit)
     (same : IsPermutation (commits_of (all_rows threads rows) joined offer) cs)
     (sorted : IsInOrder cs) where
@@ -137,7 +135,7 @@ module _ (threads rows : ℕ) (joined : Row → Option Joined) (offer : Row → 
       commit_told (all_rows threads rows) joined offer c
       (Contains-permutation cs (commits_of (all_rows threads rows) joined offer) c (IsPermutation-sym _ _ same) (k, slice_get_within cs k c h, get_or_from_slice_get cs k c c h))
 
-  pub causal : IsCausal bound cs
+  pub causal : IsCausal marks cs
   causal = record {
     once = λ i k c h e. ⊎_elim
         (λ (b : i < k). absurd (differ i k c b h e))
@@ -157,5 +155,5 @@ module _ (threads rows : ℕ) (joined : Row → Option Joined) (offer : Row → 
         (cases_lt i k);
   }
 
-pub causal_ledger : (l : Ledger) → IsLawful l → (cs : List Commit) → IsPermutation (commits_in l) cs → IsInOrder cs → IsCausal (binding_in l) cs
-causal_ledger l law cs same sorted = causal l.threads l.rows (joined_in l) (offer_in l) (binding_in l) law cs same sorted
+pub causal_ledger : (l : Ledger) → IsLawful l → (cs : List Commit) → IsPermutation (commits_in l) cs → IsInOrder cs → IsCausal (marks_in l) cs
+causal_ledger l law cs same sorted = causal l.threads l.rows (joined_in l) (offer_in l) (marks_in l) law cs same sorted

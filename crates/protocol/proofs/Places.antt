@@ -1,14 +1,15 @@
 -- Where words lie: no two of them at one place.
-use Rattle.std.proofs.Common.{Some, ◌≡◌, ℕ, ◌+◌, ◌*◌, ◌<◌, ◌≤◌, true, false, ltb, length, sym, refl, ap, ◌⊎◌, ⊎_elim, arith}
+use Rattle.std.proofs.Common.{get_or, Some, ◌≡◌, ℕ, ◌+◌, ◌*◌, ◌<◌, ◌≤◌, true, false, ltb, length, sym, refl, ap, ◌⊎◌, ⊎_elim, arith}
 use Rattle.std.proofs.lemmas.Bool.{cases_order, ltb-true, lt-ltb, and_parts, and_from}
 use Rattle.std.proofs.lemmas.List.{get_or-set_same, get_or-set_other}
 use Rattle.std.proofs.Math.Nat.{mul-le-mul_right}
 use Rattle.protocol_values.specs.declared.Row.{Row}
 use Rattle.protocol_values.specs.declared.NackName.{NackName}
 use Rattle.protocol_values.specs.declared.Binding.{Binding}
-use Rattle.protocol_values.specs.Words.{nack_word}
-use Rattle.protocol.specs.Tables.{Table, thread_len, place_of, nack_place, is_row, is_nack, word_at, nack_at, row_eq}
-use Rattle.protocol.specs.Worlds.{with_word, with_nack}
+use Rattle.protocol_values.specs.declared.Course.{Course}
+use Rattle.protocol_values.specs.Words.{course_word, nack_word}
+use Rattle.protocol.specs.Tables.{Table, thread_len, place_of, nack_place, course_place, is_row, is_nack, word_at, nack_at, row_eq}
+use Rattle.protocol.specs.Worlds.{with_word, with_nack, with_course}
 use Rattle.protocol.proofs.RowLemmas.{row_eq-false, same_row}
 
 pub row_inside : (t : Table) (r : Row) → is_row t r ≡ true → (r.thread < t.threads) × (r.sync < t.rows)
@@ -101,6 +102,32 @@ same_nack_place t n m h k e =
     let rest = same_rest n.thread m.thread (t.rows * 34 + n.k) (t.rows * 34 + m.k) (thread_len t.rows) (omega arith) (omega arith) whole in
     (threads, omega arith)
 
+-- lives have places of their own
+pub course_place_inside : (t : Table) (p : ℕ) → p < t.threads → course_place t.rows p < t.threads * thread_len t.rows
+course_place_inside t p h =
+    let b = block_inside p t.threads (t.rows * 34 + 64) (thread_len t.rows) h (omega arith) in
+    omega arith
+
+pub course_apart : (t : Table) (r : Row) (q p : ℕ) → is_row t r ≡ true → q < 34 → course_place t.rows p ≡ place_of t.rows r q → ⊥
+course_apart t r q p h a e =
+    let in_r = row_inside t r h in
+    let u = row_rest t.rows r.sync q in_r.1 a in
+    let whole : p * thread_len t.rows + (t.rows * 34 + 64) ≡ r.thread * thread_len t.rows + (r.sync * 34 + q) = omega arith in
+    let rest = same_rest p r.thread (t.rows * 34 + 64) (r.sync * 34 + q) (thread_len t.rows) (omega arith) (omega arith) whole in
+    absurd (omega arith)
+
+pub course_nack_apart : (t : Table) (n : NackName) (p : ℕ) → is_nack t n ≡ true → course_place t.rows p ≡ nack_place t.rows n → ⊥
+course_nack_apart t n p h e =
+    let in_n = nack_inside t n h in
+    let whole : p * thread_len t.rows + (t.rows * 34 + 64) ≡ n.thread * thread_len t.rows + (t.rows * 34 + n.k) = omega arith in
+    let rest = same_rest p n.thread (t.rows * 34 + 64) (t.rows * 34 + n.k) (thread_len t.rows) (omega arith) (omega arith) whole in
+    absurd (omega arith)
+
+pub same_course_place : (rows p q : ℕ) → course_place rows p ≡ course_place rows q → p ≡ q
+same_course_place rows p q e =
+    let whole : p * thread_len rows + (rows * 34 + 64) ≡ q * thread_len rows + (rows * 34 + 64) = omega arith in
+    same_block p q (rows * 34 + 64) (rows * 34 + 64) (thread_len rows) (omega arith) (omega arith) whole
+
 -- A WRITE to one word
 
 pub is_row_after : (t : Table) (x r : Row) (p v : ℕ) → is_row (with_word t x p v) r ≡ is_row t r
@@ -128,6 +155,9 @@ pub nack_other : (t : Table) (x : Row) (n : NackName) (p v : ℕ) → is_row t x
 unfolding nack_at
 nack_other t x n p v h k a = get_or-set_other t.words (place_of t.rows x p) (nack_place t.rows n) v 0 (λ e. nack_apart t x p n h k a e)
 
+pub life_other : (t : Table) (x : Row) (p q v : ℕ) → is_row t x ≡ true → p < 34 → get_or (with_word t x p v).words (course_place t.rows q) 0 ≡ get_or t.words (course_place t.rows q) 0
+life_other t x p q v h a = get_or-set_other t.words (place_of t.rows x p) (course_place t.rows q) v 0 (λ e. course_apart t x p q h a e)
+
 -- A NACK IS BOUND
 
 pub is_row_bound : (t : Table) (m : NackName) (b : Binding) (r : Row) → is_row (with_nack t m b) r ≡ is_row t r
@@ -153,3 +183,35 @@ pub nack_bound_other : (t : Table) (m n : NackName) (b : Binding) → is_nack t 
 unfolding nack_at with_nack
 nack_bound_other t m n b h k d =
     get_or-set_other t.words (nack_place t.rows m) (nack_place t.rows n) (nack_word (Some b)) 0 (λ e. d (same_nack_place t n m k h e))
+
+pub life_bound : (t : Table) (m : NackName) (b : Binding) (q : ℕ) → is_nack t m ≡ true → get_or (with_nack t m b).words (course_place t.rows q) 0 ≡ get_or t.words (course_place t.rows q) 0
+unfolding with_nack
+life_bound t m b q h = get_or-set_other t.words (nack_place t.rows m) (course_place t.rows q) (nack_word (Some b)) 0 (λ e. course_nack_apart t m q h e)
+
+-- A LIFE IS WRITTEN
+
+pub is_row_lived : (t : Table) (p : ℕ) (c : Course) (r : Row) → is_row (with_course t p c) r ≡ is_row t r
+unfolding is_row with_course
+is_row_lived t p c r = refl
+
+pub is_nack_lived : (t : Table) (p : ℕ) (c : Course) (n : NackName) → is_nack (with_course t p c) n ≡ is_nack t n
+unfolding is_nack with_course
+is_nack_lived t p c n = refl
+
+pub word_lived : (t : Table) (p : ℕ) (c : Course) (r : Row) (q : ℕ) → is_row t r ≡ true → q < 34 → word_at (with_course t p c) r q ≡ word_at t r q
+unfolding word_at with_course
+word_lived t p c r q h a = get_or-set_other t.words (course_place t.rows p) (place_of t.rows r q) (course_word c) 0 (λ e. course_apart t r q p h a (sym e))
+
+pub nack_lived : (t : Table) (p : ℕ) (c : Course) (n : NackName) → is_nack t n ≡ true → nack_at (with_course t p c) n ≡ nack_at t n
+unfolding nack_at with_course
+nack_lived t p c n h = get_or-set_other t.words (course_place t.rows p) (nack_place t.rows n) (course_word c) 0 (λ e. course_nack_apart t n p h (sym e))
+
+pub life_lived : (t : Table) (p : ℕ) (c : Course) → length t.words ≡ t.threads * thread_len t.rows → p < t.threads → get_or (with_course t p c).words (course_place t.rows p) 0 ≡ course_word c
+unfolding with_course
+life_lived t p c s h =
+    let inside = course_place_inside t p h in
+    get_or-set_same t.words (course_place t.rows p) (course_word c) 0 (omega arith)
+
+pub life_lived_other : (t : Table) (p q : ℕ) (c : Course) → (q ≡ p → ⊥) → get_or (with_course t p c).words (course_place t.rows q) 0 ≡ get_or t.words (course_place t.rows q) 0
+unfolding with_course
+life_lived_other t p q c n = get_or-set_other t.words (course_place t.rows p) (course_place t.rows q) (course_word c) 0 (λ e. n (same_course_place t.rows q p e))

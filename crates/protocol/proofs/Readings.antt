@@ -1,24 +1,26 @@
 -- What a table reads as after a write to one of its words.
 use Rattle.std.proofs.Common.{◌⊎◌, ◌≡◌, ◌≢◌, ℕ, ◌+◌, ◌*◌, ◌<◌, ◌≤◌, true, false, cond, ltb, length, get_or, sym, ap, ◌∙◌, inl, inr, ⊎_elim, refl, arith, Option, Some, None, is_some, subst}
 use Rattle.std.specs.Prelude.{unwrap_or, IfSome}
-use Rattle.std.proofs.lemmas.Bool.{cases_eq, cases_Bool, ltb-true, ltb-false, le-ltb, lt-ltb, false≢true, true≢false}
+use Rattle.std.proofs.lemmas.Bool.{cases_eq, cases_Bool, le-ltb, lt-ltb, false≢true, true≢false}
 use Rattle.std.proofs.lemmas.List.{length-set, get_or_read_under}
 use Rattle.protocol_values.specs.declared.Row.{Row}
 use Rattle.protocol_values.specs.declared.NackName.{NackName}
 use Rattle.protocol_values.specs.declared.Binding.{Binding}
+use Rattle.protocol_values.specs.declared.Course.{Course}
+use Rattle.protocol_values.specs.declared.Course.TheVariants.{Unstarted}
 use Rattle.protocol_values.specs.declared.Offer.{Offer}
 use Rattle.protocol_values.specs.declared.Joined.{Joined}
 use Rattle.protocol_values.specs.declared.Cell.{Cell}
 use Rattle.protocol_values.specs.declared.Cell.TheVariants.{Fresh, Waiting, Claimed, Synched, Taken}
-use Rattle.protocol_values.specs.Words.{cell_of, cell_word, count_of, offer_of, nack_of, is_word_for, IsBindingInRange, IsCellInRange, IsJoinedInRange}
-use Rattle.protocol_values.proofs.WordLemmas.{cell_of-cell_word, count-count_of, cell_is_word, cell_word-cell_of, nack_of-nack_word, nack_word-nack_of}
-use Rattle.protocol.specs.Tables.{Table, thread_len, place_of, is_row, is_nack, nack_at, binding_at, word_at, row_eq, cell_at, is_fresh, count_at, offer_at, joined_at}
+use Rattle.protocol_values.specs.Words.{cell_of, cell_word, count_of, course_of, IsCourseInRange, offer_of, nack_of, is_word_for, IsBindingInRange, IsCellInRange, IsJoinedInRange}
+use Rattle.protocol_values.proofs.WordLemmas.{cell_of-cell_word, count-count_of, cell_is_word, cell_word-cell_of, nack_of-nack_word, nack_word-nack_of, course_of-course_word, course_word-course_of}
+use Rattle.protocol.specs.Tables.{Table, course_at, course_place, marks_at, thread_len, place_of, is_row, is_nack, nack_at, binding_at, word_at, row_eq, cell_at, is_fresh, count_at, offer_at, joined_at}
 use Rattle.protocol_values.specs.Values.{joined_of}
-use Rattle.protocol.specs.Worlds.{with_word, with_cell, with_nack}
+use Rattle.protocol.specs.Worlds.{with_word, with_cell, with_nack, with_course}
 use Rattle.protocol.specs.Kept.{IsFormed}
 use Rattle.protocol.proofs.RowLemmas.{row_cases, put, put_same, put_other}
 use Rattle.protocol.proofs.Linking.{cases_Option, some_inj, fresh_not_joined}
-use Rattle.protocol.proofs.Places.{place_inside, is_row_after, is_nack_after, word_same, word_other, nack_other, is_row_bound, is_nack_bound, word_bound, nack_bound, nack_bound_other}
+use Rattle.protocol.proofs.Places.{place_inside, is_row_after, is_nack_after, word_same, word_other, nack_other, is_row_bound, is_nack_bound, word_bound, nack_bound, nack_bound_other, is_row_lived, is_nack_lived, word_lived, nack_lived, life_other, life_bound, life_lived, life_lived_other}
 
 -- a row that the table has not reads as Fresh, with no offers
 pub cell_outside : (t : Table) (r : Row) → is_row t r ≡ false → cell_at t r ≡ Fresh
@@ -162,6 +164,7 @@ formed_after_word t x p v s h k w f = record {
       (λ (e : row_eq r x ≡ false). ap (is_word_for q) (word_other t x r p q v h (sym (is_row_after t x r p v) ∙ i) k b (inl e)) ∙ f.rows r q (sym (is_row_after t x r p v) ∙ i) b)
       (row_cases r x);
   nacks = λ n i. ap (λ u. is_some (nack_of u)) (nack_other t x n p v h (sym (is_nack_after t x n p v) ∙ i) k) ∙ f.nacks n (sym (is_nack_after t x n p v) ∙ i);
+  lives = λ q i. ap (λ u. is_some (course_of u)) (life_other t x p q v h k) ∙ f.lives q i;
 }
 
 pub cell_is_formed : (c : Cell) → IsCellInRange c → is_word_for 0 (cell_word c) ≡ true
@@ -331,6 +334,10 @@ binding_ranged t n b h = by_word (nack_of (nack_at t n)) refl (sym (binding_insi
     by_word None e f = let bad : None ≡ Some b = f in cc
     by_word (Some p) e f = subst (λ (x : Option Binding). IfSome x IsBindingInRange) f (nack_word-nack_of (nack_at t n) p e).0
 
+lives_after_bind : (t : Table) (m : NackName) (b : Binding) → is_nack t m ≡ true → IsFormed t → (q : ℕ) → q < (with_nack t m b).threads → is_some (course_of (get_or (with_nack t m b).words (course_place (with_nack t m b).rows q) 0)) ≡ true
+unfolding with_nack
+lives_after_bind t m b h f q i = ap (λ u. is_some (course_of u)) (life_bound t m b q h) ∙ f.lives q i
+
 pub formed_after_bind : (t : Table) (m : NackName) (b : Binding) → length t.words ≡ t.threads * thread_len t.rows → is_nack t m ≡ true → IsBindingInRange b → IsFormed t → IsFormed (with_nack t m b)
 formed_after_bind t m b s h g f = record {
   rows = λ r q i k.
@@ -347,4 +354,119 @@ formed_after_bind t m b s h g f = record {
       (cases_eq n.k m.k))
       (λ (e : n.thread ≡ m.thread → ⊥). ap (λ w. is_some (nack_of w)) (nack_bound_other t m n b h here (λ z. e z.0)) ∙ f.nacks n here)
       (cases_eq n.thread m.thread);
+  lives = lives_after_bind t m b h f;
+}
+
+-- LIVES
+
+pub course_inside : (t : Table) (p : ℕ) → p < t.threads → course_at t p ≡ unwrap_or (course_of (get_or t.words (course_place t.rows p) 0)) Unstarted
+unfolding course_at
+course_inside t p h = ap (λ b. cond b (unwrap_or (course_of (get_or t.words (course_place t.rows p) 0)) Unstarted) Unstarted) (lt-ltb p t.threads h)
+
+pub course_outside : (t : Table) (p : ℕ) → t.threads ≤ p → course_at t p ≡ Unstarted
+unfolding course_at
+course_outside t p h = ap (λ b. cond b (unwrap_or (course_of (get_or t.words (course_place t.rows p) 0)) Unstarted) Unstarted) (le-ltb p t.threads h)
+
+-- the course depends on the life word alone
+pub same_courses : (t u : Table) → u.threads ≡ t.threads → ((q : ℕ) → q < t.threads → get_or u.words (course_place u.rows q) 0 ≡ get_or t.words (course_place t.rows q) 0) → course_at u ≡ course_at t
+same_courses t u n w = λ i q. at q i
+  where
+    at : (q : ℕ) → course_at u q ≡ course_at t q
+    at q = ⊎_elim
+        (λ (h : q < t.threads). course_inside u q (omega (arith, n)) ∙ ap (λ v. unwrap_or (course_of v) Unstarted) (w q h) ∙ sym (course_inside t q h))
+        (λ (h : t.threads ≤ q). course_outside u q (omega (arith, n)) ∙ sym (course_outside t q h))
+        (Rattle.std.proofs.lemmas.Bool.cases_lt q t.threads)
+
+-- a write to a row's word, and a bind, leave every life
+pub course_after_word : (t : Table) (x : Row) (p v : ℕ) → is_row t x ≡ true → p < 34 → course_at (with_word t x p v) ≡ course_at t
+course_after_word t x p v h a = same_courses t (with_word t x p v) refl (λ q i. life_other t x p q v h a)
+
+pub course_after_bind : (t : Table) (m : NackName) (b : Binding) → is_nack t m ≡ true → course_at (with_nack t m b) ≡ course_at t
+unfolding with_nack
+course_after_bind t m b h = same_courses t (with_nack t m b) refl (λ q i. life_bound t m b q h)
+
+pub course_after_cell : (t : Table) (x : Row) (c : Cell) → is_row t x ≡ true → course_at (with_cell t x c) ≡ course_at t
+unfolding with_cell
+course_after_cell t x c h = course_after_word t x 0 (cell_word c) h (omega arith)
+
+pub marks_after_word : (t : Table) (x : Row) (p v : ℕ) → is_row t x ≡ true → p < 34 → marks_at (with_word t x p v) ≡ marks_at t
+marks_after_word t x p v h a = λ i. record { bound = binding_after_word t x p v h a i; course = course_after_word t x p v h a i }
+
+pub marks_after_cell : (t : Table) (x : Row) (c : Cell) → is_row t x ≡ true → marks_at (with_cell t x c) ≡ marks_at t
+unfolding with_cell
+marks_after_cell t x c h = marks_after_word t x 0 (cell_word c) h (omega arith)
+
+-- a life that is written leaves every row and every nack
+pub cell_after_life : (t : Table) (p : ℕ) (c : Course) (r : Row) → cell_at (with_course t p c) r ≡ cell_at t r
+cell_after_life t p c r = ⊎_elim
+    (λ (e : is_row t r ≡ true).
+    cell_inside (with_course t p c) r (is_row_lived t p c r ∙ e)
+    ∙ ap (λ w. unwrap_or (cell_of w) Fresh) (word_lived t p c r 0 e (omega arith))
+    ∙ sym (cell_inside t r e))
+    (λ (e : is_row t r ≡ false). cell_outside (with_course t p c) r (is_row_lived t p c r ∙ e) ∙ sym (cell_outside t r e))
+    (cases_Bool (is_row t r))
+
+pub offer_after_life : (t : Table) (p : ℕ) (c : Course) (r : Row) (n : ℕ) → offer_at (with_course t p c) r n ≡ offer_at t r n
+offer_after_life t p c r n =
+    offers_same t (with_course t p c) r n (ap is_fresh (cell_after_life t p c r)) (λ e q a k. word_lived t p c r q (row_of_open t r e) k)
+
+pub binding_after_life : (t : Table) (p : ℕ) (c : Course) → binding_at (with_course t p c) ≡ binding_at t
+binding_after_life t p c = λ i n. at n i
+  where
+    at : (n : NackName) → binding_at (with_course t p c) n ≡ binding_at t n
+    at n = ⊎_elim
+        (λ (e : is_nack t n ≡ true).
+        binding_inside (with_course t p c) n (is_nack_lived t p c n ∙ e)
+        ∙ ap (λ w. unwrap_or (nack_of w) None) (nack_lived t p c n e)
+        ∙ sym (binding_inside t n e))
+        (λ (e : is_nack t n ≡ false). binding_outside (with_course t p c) n (is_nack_lived t p c n ∙ e) ∙ sym (binding_outside t n e))
+        (cases_Bool (is_nack t n))
+
+pub course_lived : (t : Table) (p : ℕ) (c : Course) → length t.words ≡ t.threads * thread_len t.rows → p < t.threads → IsCourseInRange c → course_at (with_course t p c) p ≡ c
+unfolding with_course
+course_lived t p c s h g =
+    course_inside (with_course t p c) p h
+    ∙ ap (λ w. unwrap_or (course_of w) Unstarted) (life_lived t p c s h)
+    ∙ ap (λ (o : Option Course). unwrap_or o Unstarted) (course_of-course_word c g)
+
+pub course_lived_other : (t : Table) (p q : ℕ) (c : Course) → (q ≡ p → ⊥) → course_at (with_course t p c) q ≡ course_at t q
+unfolding with_course
+course_lived_other t p q c n = ⊎_elim
+    (λ (h : q < t.threads).
+    course_inside (with_course t p c) q h
+    ∙ ap (λ w. unwrap_or (course_of w) Unstarted) (life_lived_other t p q c n)
+    ∙ sym (course_inside t q h))
+    (λ (h : t.threads ≤ q). course_outside (with_course t p c) q h ∙ sym (course_outside t q h))
+    (Rattle.std.proofs.lemmas.Bool.cases_lt q t.threads)
+
+-- where a thread is has room in its word
+pub course_ranged : (t : Table) (p : ℕ) → IsCourseInRange (course_at t p)
+course_ranged t p = ⊎_elim
+    (λ (h : p < t.threads). subst IsCourseInRange (sym (course_inside t p h)) (by_word (course_of (get_or t.words (course_place t.rows p) 0)) refl))
+    (λ (h : t.threads ≤ p). subst IsCourseInRange (sym (course_outside t p h)) tt)
+    (Rattle.std.proofs.lemmas.Bool.cases_lt p t.threads)
+  where
+    by_word : (o : Option Course) → course_of (get_or t.words (course_place t.rows p) 0) ≡ o → IsCourseInRange (unwrap_or o Unstarted)
+    by_word None e = tt
+    by_word (Some c) e = (course_word-course_of (get_or t.words (course_place t.rows p) 0) c e).0
+
+lives_after_life : (t : Table) (p : ℕ) (c : Course) → length t.words ≡ t.threads * thread_len t.rows → p < t.threads → IsCourseInRange c → IsFormed t → (q : ℕ) → q < (with_course t p c).threads → is_some (course_of (get_or (with_course t p c).words (course_place (with_course t p c).rows q) 0)) ≡ true
+unfolding with_course
+lives_after_life t p c s h g f q i = ⊎_elim
+    (λ (e : q ≡ p).
+    ap (λ w. is_some (course_of (get_or (with_course t p c).words (course_place t.rows w) 0))) e
+    ∙ ap (λ w. is_some (course_of w)) (life_lived t p c s h)
+    ∙ ap (λ (o : Option Course). is_some o) (course_of-course_word c g))
+    (λ (e : q ≡ p → ⊥). ap (λ w. is_some (course_of w)) (life_lived_other t p q c e) ∙ f.lives q i)
+    (cases_eq q p)
+
+pub formed_after_life : (t : Table) (p : ℕ) (c : Course) → length t.words ≡ t.threads * thread_len t.rows → p < t.threads → IsCourseInRange c → IsFormed t → IsFormed (with_course t p c)
+formed_after_life t p c s h g f = record {
+  rows = λ r q i k.
+      let here = sym (is_row_lived t p c r) ∙ i in
+      ap (is_word_for q) (word_lived t p c r q here k) ∙ f.rows r q here k;
+  nacks = λ n i.
+      let here = sym (is_nack_lived t p c n) ∙ i in
+      ap (λ w. is_some (nack_of w)) (nack_lived t p c n here) ∙ f.nacks n here;
+  lives = lives_after_life t p c s h g f;
 }

@@ -55,9 +55,9 @@ module _ (stands : ℕ → List Result → List Offer → List ℕ → Type 0) w
   stands-along w v (s ∷ steps) k all plays opens =
       stands-along (after_step w s.0 s.1) v steps (kept_step w s.0 s.1 k plays.0) (stands-step w s.0 s.1 k plays.0 all opens.0) plays.1 opens.1
 
-  pub stands-start : (threads rows seats : ℕ) → EachStands stands (start_world threads rows seats).table
+  pub stands-start : (threads rows seats later : ℕ) → EachStands stands (start_world threads rows seats later).table
   unfolding start_world
-  stands-start threads rows seats r h = absurd (true≢false (sym (ap is_fresh (start_cell threads rows r)) ∙ h))
+  stands-start threads rows seats later r h = absurd (true≢false (sym (ap is_fresh (start_cell threads rows later r)) ∙ h))
 
   -- a row that has an offer is opened
   pub stands-ledger : (t : Table) → EachStands stands t → EachOffersAs stands (ledger_of t)
@@ -66,6 +66,6 @@ module _ (stands : ℕ → List Result → List Offer → List ℕ → Type 0) w
       all r (open_of_count t r n (offer_counted t r n there))
 
   -- so they stand at any moment of a schedule whose rows are opened so
-  pub rows-stand : (threads rows seats : ℕ) (steps : List (Seat × Step)) (w : World) → threads ≤ 64 → rows ≤ 1024 → Plays (start_world threads rows seats) steps w → EachOpenedAs stands (start_world threads rows seats) steps → EachStands stands w.table
-  rows-stand threads rows seats steps w few_threads few_rows plays opens =
-      stands-along (start_world threads rows seats) w steps (kept_start threads rows seats few_threads few_rows) (stands-start threads rows seats) plays opens
+  pub rows-stand : (threads rows seats later : ℕ) (steps : List (Seat × Step)) (w : World) → threads ≤ 64 → rows ≤ 1024 → Plays (start_world threads rows seats later) steps w → EachOpenedAs stands (start_world threads rows seats later) steps → EachStands stands w.table
+  rows-stand threads rows seats later steps w few_threads few_rows plays opens =
+      stands-along (start_world threads rows seats later) w steps (kept_start threads rows seats later few_threads few_rows) (stands-start threads rows seats later) plays opens

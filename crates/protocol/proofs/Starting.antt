@@ -19,14 +19,14 @@ nobody n i = ⊎_elim
     (λ (h : n ≤ i). let l = length-replicate {A = Option Row} n None in get_or_past (replicate {A = Option Row} n None) i None (omega arith))
     (cases_lt i n)
 
-tells_start : (threads rows seats n : ℕ) → Tells (start_world threads rows seats) (replicate n None)
+tells_start : (threads rows seats later n : ℕ) → Tells (start_world threads rows seats later) (replicate n None)
 unfolding start_world
-tells_start threads rows seats n r h =
+tells_start threads rows seats later n r h =
     nobody n (number_of rows r)
-    ∙ sym (namer_none (all_rows threads rows) _ r (λ q. ap (λ (c : Cell). names (joined_of c) r) (start_cell threads rows q)))
+    ∙ sym (namer_none (all_rows threads rows) _ r (λ q. ap (λ (c : Cell). names (joined_of c) r) (start_cell threads rows later q)))
 
-pub start_sound : (s : State) (threads rows seats n : ℕ) → world_of s ≡ start_world threads rows seats → s.namers.items ≡ replicate n None → threads ≤ 64 → rows ≤ 1024 → IsSound s
-start_sound s threads rows seats n e f a b = record {
-  kept = subst Kept (sym e) (kept_start threads rows seats a b);
-  told = subst (λ (z : World × List (Option Row)). Tells z.0 z.1) (λ i. (sym e i, sym f i)) (tells_start threads rows seats n);
+pub start_sound : (s : State) (threads rows seats later n : ℕ) → world_of s ≡ start_world threads rows seats later → s.namers.items ≡ replicate n None → threads ≤ 64 → rows ≤ 1024 → IsSound s
+start_sound s threads rows seats later n e f a b = record {
+  kept = subst Kept (sym e) (kept_start threads rows seats later a b);
+  told = subst (λ (z : World × List (Option Row)). Tells z.0 z.1) (λ i. (sym e i, sym f i)) (tells_start threads rows seats later n);
 }

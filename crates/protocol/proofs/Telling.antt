@@ -6,20 +6,20 @@ use Rattle.std.proofs.lemmas.List.{get_or-set_same, get_or-set_other}
 use Rattle.protocol_values.specs.declared.Row.{Row}
 use Rattle.protocol_values.specs.declared.NackName.{NackName}
 use Rattle.protocol_values.specs.declared.Binding.{Binding}
+use Rattle.protocol_values.specs.declared.Course.{Course}
 use Rattle.protocol_values.specs.declared.Joined.{Joined}
 use Rattle.protocol_values.specs.declared.Cell.{Cell}
 use Rattle.protocol_values.specs.declared.Cell.TheVariants.{Waiting, Claimed, Synched}
-use Rattle.protocol_values.specs.Words.{is_word_for}
 use Rattle.protocol.specs.Tables.{Table, is_row, is_nack, row_eq, all_rows, number_of, cell_at, is_fresh, joined_at, offer_at, offers_meet, names, is_partner, namer_of, cause_at}
 use Rattle.protocol_values.specs.Values.{joined_of}
-use Rattle.protocol.specs.Worlds.{World, namer_at, with_word, with_cell, with_table, joined_with, mirrored, granted_by, with_nack}
+use Rattle.protocol.specs.Worlds.{World, namer_at, with_word, with_cell, with_table, joined_with, mirrored, granted_by, with_course, with_nack}
 use Rattle.protocol.specs.Kept.{Kept, joined_by}
 use Rattle.protocol.specs.States.{Tells}
 use Rattle.protocol.proofs.RowLemmas.{row_eq-refl, row_eq-false, row_cases, row_ne, put, put_same, put_other}
 use Rattle.protocol.proofs.Linking.{fresh_not_joined}
 use Rattle.protocol.proofs.StepLemmas.{names_o}
 use Rattle.protocol.proofs.Places.{row_inside, block_inside}
-use Rattle.protocol.proofs.Readings.{cell_after_word, cell_after_cell, cell_after_bind, row_of_open}
+use Rattle.protocol.proofs.Readings.{cell_after_word, cell_after_cell, cell_after_bind, cell_after_life, row_of_open}
 use Rattle.protocol.proofs.Naming.{namer_is}
 use Rattle.protocol.proofs.Keeping.{unnamed_row, join_in_range, IsSealing, seal_in_range, same_number, grant_in_range}
 
@@ -135,3 +135,7 @@ tells_grant w o n s namers k waits caused =
 pub tells_bind : (w : World) (m : NackName) (b : Binding) (namers : List (Option Row)) → is_nack w.table m ≡ true → Tells w namers → Tells (with_table w (with_nack w.table m b)) namers
 unfolding with_nack
 tells_bind w m b namers h = tells_same w (with_nack w.table m b) namers refl refl (λ q r. ap (λ (c : Cell). names (joined_of c) r) (cell_after_bind w.table m b q h))
+
+pub tells_life : (w : World) (p : ℕ) (c : Course) (namers : List (Option Row)) → Tells w namers → Tells (with_table w (with_course w.table p c)) namers
+unfolding with_course
+tells_life w p c namers = tells_same w (with_course w.table p c) namers refl refl (λ q r. ap (λ (d : Cell). names (joined_of d) r) (cell_after_life w.table p c q))

@@ -1,15 +1,23 @@
 -- What stays of a table, however its schedule goes on.
-use Rattle.std.specs.Prelude.{◌≡◌, ℕ, ◌≤◌, false, List, Some}
+use Rattle.std.specs.Prelude.{◌≡◌, ◌⊎◌, ⊤, ℕ, ◌≤◌, false, List, Some}
 use Rattle.protocol_values.specs.declared.Binding.{Binding}
 use Rattle.protocol_values.specs.declared.Commit.{Commit}
+use Rattle.protocol_values.specs.declared.Course.{Course}
+use Rattle.protocol_values.specs.declared.Course.TheVariants.{Unstarted, Running, Ended}
 use Rattle.protocol_values.specs.declared.Joined.{Joined}
 use Rattle.protocol_values.specs.declared.NackName.{NackName}
 use Rattle.protocol_values.specs.declared.Row.{Row}
 use Rattle.protocol_values.specs.declared.Seat.{Seat}
 use Rattle.protocol_values.specs.declared.Step.{Step}
-use Rattle.protocol.specs.Tables.{Table, binding_at, bound_row, cell_at, is_fresh, joined_at, offer_at}
+use Rattle.protocol.specs.Tables.{Table, course_at, binding_at, bound_row, cell_at, is_fresh, joined_at, offer_at}
 use Rattle.protocol.specs.Ledgers.{HasCommit, ledger_of}
 use Rattle.protocol.specs.Worlds.{Plays, World, start_world}
+
+-- a start stays with its stamp, and an end stays
+abbrev pub GoesOn : Course → Course → Type 0
+GoesOn Unstarted d = ⊤
+GoesOn (Running start) d = (d ≡ Running start) ⊎ ((sync : ℕ) × (d ≡ Ended start sync))
+GoesOn (Ended start sync) d = d ≡ Ended start sync
 
 pub record GrowsTo (t u : Table) : Type 0 where
   pub threads : u.threads ≡ t.threads
@@ -22,15 +30,16 @@ pub record GrowsTo (t u : Table) : Type 0 where
   -- a bound nack stays bound as it is, and to an opened row none is bound anew
   pub bound : (n : NackName) (b : Binding) → binding_at t n ≡ Some b → binding_at u n ≡ Some b
   pub unbound : (n : NackName) (b : Binding) → is_fresh (cell_at t (bound_row n b)) ≡ false → binding_at u n ≡ Some b → binding_at t n ≡ Some b
+  pub courses : (p : ℕ) → GoesOn (course_at t p) (course_at u p)
 
 -- whatever steps follow
 abbrev pub TablesGrow : Type 0
 TablesGrow =
-    (threads rows seats : ℕ) (steps more : List (Seat × Step)) (w v : World) → threads ≤ 64 → rows ≤ 1024 →
-    Plays (start_world threads rows seats) steps w → Plays w more v → GrowsTo w.table v.table
+    (threads rows seats later : ℕ) (steps more : List (Seat × Step)) (w v : World) → threads ≤ 64 → rows ≤ 1024 →
+    Plays (start_world threads rows seats later) steps w → Plays w more v → GrowsTo w.table v.table
 
 -- so a commit stays one
 abbrev pub CommitsStay : Type 0
 CommitsStay =
-    (threads rows seats : ℕ) (steps more : List (Seat × Step)) (w v : World) (c : Commit) → threads ≤ 64 → rows ≤ 1024 →
-    Plays (start_world threads rows seats) steps w → Plays w more v → HasCommit (ledger_of w.table) c → HasCommit (ledger_of v.table) c
+    (threads rows seats later : ℕ) (steps more : List (Seat × Step)) (w v : World) (c : Commit) → threads ≤ 64 → rows ≤ 1024 →
+    Plays (start_world threads rows seats later) steps w → Plays w more v → HasCommit (ledger_of w.table) c → HasCommit (ledger_of v.table) c

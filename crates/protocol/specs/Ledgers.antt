@@ -1,5 +1,5 @@
 -- Ledgers: the commits that a table's words name, and when they are lawful.
-use Rattle.std.specs.Prelude.{zero, suc, ◌⊎◌, ◌≡◌, ℕ, ◌+◌, ◌*◌, ◌<◌, ◌≤◌, ◌≢◌, Bool, true, false, ◌||◌, ◌&&◌, nat_lt, if◌then◌else◌, Option, Some, None, is_some, is_none, option_and_then, option_to_list, List, [], ◌++◌, map, length, count_by, slice_get, slice_index_or}
+use Rattle.std.specs.Prelude.{zero, suc, ◌⊎◌, ◌≡◌, ⊤, ℕ, ◌+◌, ◌*◌, ◌<◌, ◌≤◌, ◌≢◌, Bool, true, false, ◌||◌, ◌&&◌, nat_lt, if◌then◌else◌, Option, Some, None, is_some, is_none, option_and_then, option_to_list, List, [], ◌++◌, map, length, count_by, slice_get, slice_index_or}
 use Rattle.std.specs.List.{range_with_len, flat_map}
 use Rattle.protocol_values.specs.declared.NackName.{NackName}
 use Rattle.protocol_values.specs.declared.Base.{Base}
@@ -8,25 +8,29 @@ use Rattle.protocol_values.specs.declared.Offer.{Offer}
 use Rattle.protocol_values.specs.declared.Row.{Row}
 use Rattle.protocol_values.specs.declared.Joined.{Joined}
 use Rattle.protocol_values.specs.declared.Binding.{Binding}
+use Rattle.protocol_values.specs.declared.Course.{Course}
+use Rattle.protocol_values.specs.declared.Course.TheVariants.{Unstarted, Running, Ended}
 use Rattle.protocol_values.specs.declared.Cause.{Cause}
 use Rattle.protocol_values.specs.declared.Cause.TheVariants as cause
 use Rattle.protocol_values.specs.declared.Commit.{Commit}
 use Rattle.protocol_values.specs.declared.Commit.TheVariants.{Pair, Alone}
 use Rattle.protocol_values.specs.Commits.{stamp_of}
 use Rattle.protocol_values.specs.Scopes.{has_scope}
-use Rattle.protocol.specs.Tables.{Table, all_rows, number_of, joined_at, count_at, offer_at, binding_at, namer_of}
+use Rattle.protocol.specs.Tables.{Table, Marks, all_rows, number_of, joined_at, count_at, course_at, offer_at, binding_at, namer_of, start_of}
 
 -- What a ledger has of a row: its offers, once it is opened, and how it is committed.
 pub record Entry : Type 0 where
   pub offers : List (Option Offer)
   pub joined : Option Joined
 
--- A ledger: the entry of each row, one row after another, and what each nack is bound to, thread by thread.
+-- A ledger: the entry of each row, one row after another, what each nack is bound to, thread by thread, and where each
+-- thread is on its course.
 pub record Ledger : Type 0 where
   pub threads : ℕ
   pub rows : ℕ
   pub entries : List Entry
   pub nacks : List (Option Binding)
+  pub lives : List Course
 
 -- the ledger of a table's words
 abbrev pub entry_at : Table → Row → Entry
@@ -45,6 +49,7 @@ ledger_of t = record {
   rows = t.rows;
   entries = map (entry_at t) (all_rows t.threads t.rows);
   nacks = map (binding_at t) (all_nacks t.threads);
+  lives = map (course_at t) (range_with_len 0 t.threads);
 }
 
 -- READING A LEDGER
@@ -68,6 +73,13 @@ offer_in l r n = slice_index_or (entry_in l r).offers n None
 unfoldable pub binding_in : Ledger → NackName → Option Binding
 binding_in l n =
     if nat_lt n.thread l.threads && nat_lt n.k 64 then slice_index_or l.nacks (n.thread * 64 + n.k) None else None
+
+-- where a thread is on its course
+unfoldable pub course_in : Ledger → ℕ → Course
+course_in l p = slice_index_or l.lives p Unstarted
+
+abbrev pub marks_in : Ledger → Marks
+marks_in l = record { bound = binding_in l; course = course_in l }
 
 abbrev pub rows_in : Ledger → List Row
 rows_in l = all_rows l.threads l.rows
@@ -182,9 +194,9 @@ abbrev pub Offers : (Row → ℕ → Option Offer) → Row × ℕ → Base → T
 Offers offer at b = (o : Offer) × (offer at.0 at.1 ≡ Some o) × (o.base ≡ b)
 
 -- nack n is bound to a row that is itself in a commit, which took an offer outside the nack's scope
-pub record IsEnabled (joined : Row → Option Joined) (offer : Row → ℕ → Option Offer) (bound : NackName → Option Binding) (n : NackName) : Type 0 where
+pub record IsEnabled (joined : Row → Option Joined) (offer : Row → ℕ → Option Offer) (marks : Marks) (n : NackName) : Type 0 where
   pub binding : Binding
-  pub is_bound : bound n ≡ Some binding
+  pub is_bound : marks.bound n ≡ Some binding
   pub commit : Commit
   pub inside : IsIn joined offer commit
   pub chosen : ℕ
@@ -192,53 +204,76 @@ pub record IsEnabled (joined : Row → Option Joined) (offer : Row → ℕ → O
   pub outside : (o : Offer) → offer (record { thread = n.thread; sync = binding.sync }) chosen ≡ Some o → has_scope o.scopes binding.scope ≡ false
 
 -- what was offered fits the commit
-abbrev pub IsCaused : (Row → Option Joined) → (Row → ℕ → Option Offer) → (NackName → Option Binding) → Row × ℕ → Cause → Type 0
-IsCaused joined offer bound at (cause.Always m) = Offers offer at (Always m)
-IsCaused joined offer bound at (cause.Nack n) = Offers offer at (OnNack n) × IsEnabled joined offer bound n
-IsCaused joined offer bound at (cause.End p) = ⊥
+abbrev pub IsCaused : (Row → Option Joined) → (Row → ℕ → Option Offer) → Marks → Row × ℕ → Cause → Type 0
+IsCaused joined offer marks at (cause.Always m) = Offers offer at (Always m)
+IsCaused joined offer marks at (cause.Nack n) = Offers offer at (OnNack n) × IsEnabled joined offer marks n
+IsCaused joined offer marks at (cause.End p) = Offers offer at (OnEnd p) × ((start sync : ℕ) × (marks.course p ≡ Ended start sync))
 
-abbrev pub Fits : (Row → Option Joined) → (Row → ℕ → Option Offer) → (NackName → Option Binding) → Commit → Type 0
-Fits joined offer bound (Pair sender receiver c m s) =
+abbrev pub Fits : (Row → Option Joined) → (Row → ℕ → Option Offer) → Marks → Commit → Type 0
+Fits joined offer marks (Pair sender receiver c m s) =
     (sender.0.thread ≢ receiver.0.thread) × Offers offer sender (Send c m) × Offers offer receiver (Recv c)
-Fits joined offer bound (Alone at k s) = IsCaused joined offer bound at k
+Fits joined offer marks (Alone at k s) = IsCaused joined offer marks at k
 
 -- commit d has an earlier row of one of the threads of c
 abbrev pub IsEarlier : Commit → Commit → Type 0
 IsEarlier d c = (thread g h : ℕ) × (h < g) × Involves d (record { thread = thread; sync = h }) × Involves c (record { thread = thread; sync = g })
 
--- commit d enabled the nack for which c stands alone
-abbrev pub CausedBy : (NackName → Option Binding) → Commit → Cause → Type 0
-CausedBy bound d (cause.Always m) = ⊥
-CausedBy bound d (cause.Nack n) = (b : Binding) × (bound n ≡ Some b) × Involves d (record { thread = n.thread; sync = b.sync })
-CausedBy bound d (cause.End p) = ⊥
+-- commit d enabled the nack for which c stands alone, or has a row of the thread for whose end c stands
+abbrev pub CausedBy : Marks → Commit → Cause → Type 0
+CausedBy marks d (cause.Always m) = ⊥
+CausedBy marks d (cause.Nack n) = (b : Binding) × (marks.bound n ≡ Some b) × Involves d (record { thread = n.thread; sync = b.sync })
+CausedBy marks d (cause.End p) = (g : ℕ) × Involves d (record { thread = p; sync = g })
 
-abbrev pub Enables : (NackName → Option Binding) → Commit → Commit → Type 0
-Enables bound d (Pair sender receiver c m s) = ⊥
-Enables bound d (Alone at k s) = CausedBy bound d k
+abbrev pub Enables : Marks → Commit → Commit → Type 0
+Enables marks d (Pair sender receiver c m s) = ⊥
+Enables marks d (Alone at k s) = CausedBy marks d k
 
-abbrev pub CountsFor : (NackName → Option Binding) → Commit → Commit → Type 0
-CountsFor bound d c = IsEarlier d c ⊎ Enables bound d c
+abbrev pub CountsFor : Marks → Commit → Commit → Type 0
+CountsFor marks d c = IsEarlier d c ⊎ Enables marks d c
 
--- The stamp is one more than the greatest stamp of the commits that count for it, where a missing one counts 0.
-pub record IsStampDue (joined : Row → Option Joined) (offer : Row → ℕ → Option Offer) (bound : NackName → Option Binding) (c : Commit) : Type 0 where
-  pub above : (d : Commit) → IsIn joined offer d → CountsFor bound d c → stamp_of d < stamp_of c
-  pub next : (stamp_of c ≡ 1) ⊎ ((d : Commit) × IsIn joined offer d × CountsFor bound d c × (stamp_of c ≡ stamp_of d + 1))
+-- whose start counts for a commit: a thread of it, or the one for whose end it stands
+abbrev pub IsEndOf : Cause → ℕ → Type 0
+IsEndOf (cause.Always m) t = ⊥
+IsEndOf (cause.Nack n) t = ⊥
+IsEndOf (cause.End p) t = p ≡ t
 
-pub record Lawful (rows : List Row) (joined : Row → Option Joined) (offer : Row → ℕ → Option Offer) (bound : NackName → Option Binding) : Type 0 where
+abbrev pub CountsThread : Commit → ℕ → Type 0
+CountsThread (Pair sender receiver c m s) t = (sender.0.thread ≡ t) ⊎ (receiver.0.thread ≡ t)
+CountsThread (Alone at k s) t = (at.0.thread ≡ t) ⊎ IsEndOf k t
+
+-- The stamp is one more than the greatest stamp of the commits and starts that count for it, where a missing one counts 0.
+pub record IsStampDue (joined : Row → Option Joined) (offer : Row → ℕ → Option Offer) (marks : Marks) (c : Commit) : Type 0 where
+  pub above : (d : Commit) → IsIn joined offer d → CountsFor marks d c → stamp_of d < stamp_of c
+  pub after_start : (t : ℕ) → CountsThread c t → start_of (marks.course t) < stamp_of c
+  pub next :
+      (stamp_of c ≡ 1)
+      ⊎ ((d : Commit) × IsIn joined offer d × CountsFor marks d c × (stamp_of c ≡ stamp_of d + 1))
+      ⊎ ((t : ℕ) × CountsThread c t × (stamp_of c ≡ start_of (marks.course t) + 1))
+
+-- the thread has started, and has not ended at this sync or before it
+abbrev pub LivesAt : Course → ℕ → Type 0
+LivesAt Unstarted g = ⊥
+LivesAt (Running start) g = ⊤
+LivesAt (Ended start sync) g = g < sync
+
+pub record Lawful (rows : List Row) (joined : Row → Option Joined) (offer : Row → ℕ → Option Offer) (marks : Marks) : Type 0 where
   -- a committed row names a commit
   pub named : (r : Row) (j : Joined) → joined r ≡ Some j → is_some (commit_named offer r j) ≡ true
   -- no row is in two commits
   pub once : (r : Row) (c d : Commit) → IsIn joined offer c → IsIn joined offer d → Involves c r → Involves d r → c ≡ d
-  -- a pair is a send and a receive of two threads on one channel, and a commit alone is an always or an enabled nack
-  pub fits : (c : Commit) → IsIn joined offer c → Fits joined offer bound c
+  -- a pair is a send and a receive of two threads on one channel, and a commit alone is an always, an enabled nack, or the end
+  -- of a thread that has ended
+  pub fits : (c : Commit) → IsIn joined offer c → Fits joined offer marks c
   -- where a row is in a commit, so are the earlier rows of its thread
   pub in_turn : (c : Commit) (thread g h : ℕ) → IsIn joined offer c → Involves c (record { thread = thread; sync = g }) → h < g → (d : Commit) × IsIn joined offer d × Involves d (record { thread = thread; sync = h })
-  pub stamps : (c : Commit) → IsIn joined offer c → IsStampDue joined offer bound c
+  pub stamps : (c : Commit) → IsIn joined offer c → IsStampDue joined offer marks c
   -- no stamp exceeds the number of commits
   pub bounded : (c : Commit) → IsIn joined offer c → stamp_of c ≤ length (commits_of rows joined offer)
+  -- no thread has a commit that has not started, nor one at the sync of its end or behind it
+  pub lived : (c : Commit) (r : Row) → IsIn joined offer c → Involves c r → LivesAt (marks.course r.thread) r.sync
 
 abbrev pub IsLawful : Ledger → Type 0
-IsLawful l = Lawful (rows_in l) (joined_in l) (offer_in l) (binding_in l)
+IsLawful l = Lawful (rows_in l) (joined_in l) (offer_in l) (marks_in l)
 
 -- a commit of a ledger, and all of them
 abbrev pub HasCommit : Ledger → Commit → Type 0
@@ -252,8 +287,8 @@ pending_in l = pending_of (rows_in l) (joined_in l)
 
 -- A LIST OF COMMITS
 
--- each commit stands once, and behind each that counts for it: those of the earlier rows of its threads, and the one
--- that enabled its nack
-pub record IsCausal (bound : NackName → Option Binding) (cs : List Commit) : Type 0 where
+-- each commit stands once, and behind each that counts for it: those of the earlier rows of its threads, the one that
+-- enabled its nack, and those of the thread for whose end it stands
+pub record IsCausal (marks : Marks) (cs : List Commit) : Type 0 where
   pub once : (i k : ℕ) (c : Commit) → slice_get cs i ≡ Some c → slice_get cs k ≡ Some c → i ≡ k
-  pub behind : (i k : ℕ) (c d : Commit) → slice_get cs i ≡ Some d → slice_get cs k ≡ Some c → CountsFor bound d c → i < k
+  pub behind : (i k : ℕ) (c d : Commit) → slice_get cs i ≡ Some d → slice_get cs k ≡ Some c → CountsFor marks d c → i < k

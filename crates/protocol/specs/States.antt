@@ -16,7 +16,7 @@ abbrev pub table_of : Sheet → Table
 table_of b = record { threads = b.threads; rows = b.rows; words = b.words.items }
 
 abbrev pub world_of : State → World
-world_of s = record { table = table_of s.sheet; seats = s.seats; holders = s.holders.items }
+world_of s = record { table = table_of s.sheet; seats = s.seats; holders = s.holders.items; lasts = s.lasts.items }
 
 -- the list has, row by row, the row that names each
 abbrev pub Tells : World → List (Option Row) → Type 0

@@ -2,7 +2,7 @@
 use Rattle.std.specs.Prelude.{ℕ, zero, suc, ◌+◌, ◌-◌, ◌*◌, Bool, true, false, ◌==◌, ◌&&◌, nat_lt, if◌then◌else◌, Option, Some, None, unwrap_or, List, [], ◌∷◌, ◌++◌, find, slice_index}
 use Rattle.protocol_values.specs.Scopes.{has_scope}
 use Rattle.protocol_values.specs.Values.{bases_meet, joined_of}
-use Rattle.protocol_values.specs.Words.{cell_of, count_of, offer_of, nack_of}
+use Rattle.protocol_values.specs.Words.{cell_of, count_of, course_of, offer_of, nack_of}
 use Rattle.protocol_values.specs.declared.NackName.{NackName}
 use Rattle.protocol_values.specs.declared.Offer.{Offer}
 use Rattle.protocol_values.specs.declared.Base.{Base}
@@ -12,8 +12,10 @@ use Rattle.protocol_values.specs.declared.Joined.{Joined}
 use Rattle.protocol_values.specs.declared.Cell.{Cell}
 use Rattle.protocol_values.specs.declared.Cell.TheVariants.{Fresh, Waiting, Claimed, Synched, Taken}
 use Rattle.protocol_values.specs.declared.Binding.{Binding}
+use Rattle.protocol_values.specs.declared.Course.{Course}
+use Rattle.protocol_values.specs.declared.Course.TheVariants.{Unstarted, Running, Ended}
 
--- The words lie thread by thread: a thread's rows first, 34 words each, then its 64 nack words.
+-- The words lie thread by thread: a thread's rows first, 34 words each, then its 64 nack words, and its life word.
 pub record Table : Type 0 where
   pub threads : ℕ
   pub rows : ℕ
@@ -21,7 +23,7 @@ pub record Table : Type 0 where
 
 -- how many words a thread has
 abbrev pub thread_len : ℕ → ℕ
-thread_len rows = rows * 34 + 64
+thread_len rows = rows * 34 + 65
 
 -- where the word of a row at a place lies
 abbrev pub place_of : ℕ → Row → ℕ → ℕ
@@ -30,6 +32,10 @@ place_of rows r place = r.thread * thread_len rows + r.sync * 34 + place
 -- where the word of a nack lies
 abbrev pub nack_place : ℕ → NackName → ℕ
 nack_place rows n = n.thread * thread_len rows + rows * 34 + n.k
+
+-- where the word of a thread's life lies
+abbrev pub course_place : ℕ → ℕ → ℕ
+course_place rows thread = thread * thread_len rows + rows * 34 + 64
 
 -- rows, one after another: those of a thread below a sync, and those of all threads below a thread
 abbrev pub rows_below : ℕ → ℕ → List Row
@@ -102,19 +108,40 @@ offer_at t r n =
 unfoldable pub binding_at : Table → NackName → Option Binding
 binding_at t n = if is_nack t n then unwrap_or (nack_of (nack_at t n)) None else None
 
+-- LIVES
+
+-- where a thread is on its course; one that the table has not never starts
+unfoldable pub course_at : Table → ℕ → Course
+course_at t p =
+    if nat_lt p t.threads then unwrap_or (course_of (slice_index t.words (course_place t.rows p))) Unstarted else Unstarted
+
+-- the stamp that counts for what a thread does first, and 0 where it has not started
+abbrev pub start_of : Course → ℕ
+start_of Unstarted = 0
+start_of (Running start) = start
+start_of (Ended start sync) = start
+
+-- What a table's words say beside its rows: to what each nack is bound, and where each thread is on its course.
+pub record Marks : Type 0 where
+  pub bound : NackName → Option Binding
+  pub course : ℕ → Course
+
+abbrev pub marks_at : Table → Marks
+marks_at t = record { bound = binding_at t; course = course_at t }
+
 -- a send and a receive on one channel
 abbrev pub offers_meet : Option Offer → Option Offer → Bool
 offers_meet (Some a) (Some b) = bases_meet a.base b.base
 offers_meet (Some a) None = false
 offers_meet None b = false
 
--- an offer that commits its row alone: an always, or a nack. No step tells yet that a thread has ended
+-- an offer that commits its row alone: an always, a nack, or an end
 abbrev pub needs_none : Base → Bool
 needs_none (Send c m) = false
 needs_none (Recv c) = false
 needs_none (Always m) = true
 needs_none (OnNack n) = true
-needs_none (OnEnd p) = false
+needs_none (OnEnd p) = true
 needs_none Never = false
 
 abbrev pub stands_alone : Option Offer → Bool
@@ -139,10 +166,10 @@ abbrev pub row_stamp : Option Joined → ℕ
 row_stamp None = 0
 row_stamp (Some j) = j.stamp
 
--- the stamp of the row before this one in its thread, and 0 where there is none
-abbrev pub last_stamp : (Row → Option Joined) → Row → ℕ
-last_stamp joined r =
-    if r.sync == 0 then 0 else row_stamp (joined (record { thread = r.thread; sync = r.sync - 1 }))
+-- the stamp of the row before this one in its thread, and of a first row that of its thread's start
+abbrev pub last_stamp : Marks → (Row → Option Joined) → Row → ℕ
+last_stamp marks joined r =
+    if r.sync == 0 then start_of (marks.course r.thread) else row_stamp (joined (record { thread = r.thread; sync = r.sync - 1 }))
 
 -- how the rows of a table are committed
 abbrev pub joined_at : Table → Row → Option Joined
@@ -171,24 +198,34 @@ nack_via joined offer n (Some b) = enabled_by offer (bound_row n b) b.scope (joi
 unfoldable pub nack_by : (Row → Option Joined) → (Row → ℕ → Option Offer) → (NackName → Option Binding) → NackName → Option Joined
 nack_by joined offer bound n = nack_via joined offer n (bound n)
 
--- The stamp of what lets an offer commit its row alone: 0 for an always, and for a nack that is enabled the stamp of
--- the row that enabled it. Another offer has no cause.
+-- WHEN A THREAD HAS ENDED: the stamp that counts at its end, its last one
+
+abbrev pub end_via : Marks → (Row → Option Joined) → ℕ → Course → Option ℕ
+end_via marks joined p Unstarted = None
+end_via marks joined p (Running start) = None
+end_via marks joined p (Ended start sync) = Some (last_stamp marks joined (record { thread = p; sync = sync }))
+
+unfoldable pub end_by : Marks → (Row → Option Joined) → ℕ → Option ℕ
+end_by marks joined p = end_via marks joined p (marks.course p)
+
+-- The stamp of what lets an offer commit its row alone: 0 for an always, for a nack that is enabled the stamp of the
+-- row that enabled it, and for a thread that has ended its last stamp. Another offer has no cause.
 abbrev pub stamped : Option Joined → Option ℕ
 stamped None = None
 stamped (Some j) = Some j.stamp
 
-abbrev pub cause_by : (Row → Option Joined) → (Row → ℕ → Option Offer) → (NackName → Option Binding) → Base → Option ℕ
-cause_by joined offer bound (Send c m) = None
-cause_by joined offer bound (Recv c) = None
-cause_by joined offer bound (Always m) = Some 0
-cause_by joined offer bound (OnNack n) = stamped (nack_by joined offer bound n)
-cause_by joined offer bound (OnEnd p) = None
-cause_by joined offer bound Never = None
+abbrev pub cause_by : (Row → Option Joined) → (Row → ℕ → Option Offer) → Marks → Base → Option ℕ
+cause_by joined offer marks (Send c m) = None
+cause_by joined offer marks (Recv c) = None
+cause_by joined offer marks (Always m) = Some 0
+cause_by joined offer marks (OnNack n) = stamped (nack_by joined offer marks.bound n)
+cause_by joined offer marks (OnEnd p) = end_by marks joined p
+cause_by joined offer marks Never = None
 
-abbrev pub cause_of : (Row → Option Joined) → (Row → ℕ → Option Offer) → (NackName → Option Binding) → Option Offer → Option ℕ
-cause_of joined offer bound None = None
-cause_of joined offer bound (Some o) = cause_by joined offer bound o.base
+abbrev pub cause_of : (Row → Option Joined) → (Row → ℕ → Option Offer) → Marks → Option Offer → Option ℕ
+cause_of joined offer marks None = None
+cause_of joined offer marks (Some o) = cause_by joined offer marks o.base
 
 -- the cause of offer n of a row
 abbrev pub cause_at : Table → Row → ℕ → Option ℕ
-cause_at t r n = cause_of (joined_at t) (offer_at t) (binding_at t) (offer_at t r n)
+cause_at t r n = cause_of (joined_at t) (offer_at t) (marks_at t) (offer_at t r n)

@@ -27,7 +27,7 @@ impl Model for Ledger {
     ghost invariant = { λ l. IsLawful (ledger_of (table_of l.sheet)) };
 }
 
-ghost use Rattle.protocol.specs.Ledgers.{ledger_of, IsLawful, HasCommit, Involves, IsCausal, binding_in, commits_in, pending_in};
+ghost use Rattle.protocol.specs.Ledgers.{ledger_of, IsLawful, HasCommit, Involves, IsCausal, marks_in, commits_in, pending_in};
 ghost use Rattle.protocol_values.specs.Commits.{IsInOrder};
 ghost use Rattle.protocol.specs.Tables.{thread_len};
 ghost use Rattle.protocol.specs.States.{table_of};
@@ -42,7 +42,7 @@ impl Ledger {
     }
 
     /// The ledger of words that lie thread by thread: a thread's rows first, 34 words each, and
-    /// then its 64 nacks. It takes no memory.
+    /// then its 64 nacks, and its life. It takes no memory.
     pub fn of_words(threads: u8, rows: u16, words: Vec<u64>) -> Ledger
         requires some_threads { 1 ≤ threads }
         requires few_threads { threads ≤ 64 }
@@ -74,7 +74,7 @@ impl Ledger {
         ensures once { IfOk result (λ cs. IsPermutation (commits_in self.now) cs.items) }
         ensures members { IfOk result (λ cs. (c : Commit) → Contains cs.items c ↔ HasCommit self.now c) }
         ensures in_order { IfOk result (λ cs. IsInOrder cs.items) }
-        ensures causal { IfOk result (λ cs. IsCausal (binding_in self.now) cs.items) }
+        ensures causal { IfOk result (λ cs. IsCausal (marks_in self.now) cs.items) }
         ensures lawful { IsLawful self.now }
     {
         let mut commits = self.sheet.commits()?;

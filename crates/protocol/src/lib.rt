@@ -18,7 +18,7 @@ mod world;
 
 pub use crate::ledger::Ledger;
 pub use crate::resident::{Bare, Resident};
-pub use crate::sheet::{NACKS, ROW_LEN};
+pub use crate::sheet::{LIVES, NACKS, ROW_LEN, start_words};
 pub use crate::world::{World, play};
 pub use protocol_values::{
     Atom, Base, Binding, Cause, Cell, Commit, Direction, Head, Joined, Message, NackName, Offer,
@@ -40,10 +40,10 @@ pub enum ProtoFault {
 
 /// Whatever steps are allowed in turn, from any start, the ledger of the words is lawful.
 pub fn every_schedule_is_lawful()
-    ensures { (threads rows seats : ℕ) (steps : List (Seat × Step)) (w : World)
+    ensures { (threads rows seats later : ℕ) (steps : List (Seat × Step)) (w : World)
         → threads ≤ 64
         → rows ≤ 1024
-        → Plays (start_world threads rows seats) steps w
+        → Plays (start_world threads rows seats later) steps w
         → IsLawful (ledger_of w.table) }
 {}
 

@@ -3,8 +3,8 @@
 ghost use Rattle.std.specs.Prelude.{◌≡◌, ◌+◌, ◌*◌, ◌≤◌, ◌<◌, IfOk, IfSome, Some, is_some, true, length, replicate, vec_len};
 
 use protocol_values::{
-    Base, Binding, Cell, Joined, NackName, Offer, Row, pack_cell, pack_nack, read_offer,
-    unpack_cell, unpack_count, unpack_nack, unpack_offer,
+    Base, Binding, Cell, Course, Joined, NackName, Offer, Row, pack_cell, pack_course, pack_nack,
+    read_offer, unpack_cell, unpack_count, unpack_course, unpack_nack, unpack_offer,
 };
 use std::alloc::{AllocError, Global};
 
@@ -14,32 +14,40 @@ pub const ROW_LEN: usize = 34;
 /// The nacks of a thread, of one word each.
 pub const NACKS: usize = 64;
 
-/// A table's words, thread by thread: a thread's rows first, and then its nacks.
+/// The word of a thread's life.
+pub const LIVES: usize = 1;
+
+/// A table's words, thread by thread: a thread's rows first, then its nacks, and then its life.
 #[derive(Debug, Drop)]
 pub(crate) struct Sheet {
     pub(crate) threads: usize,
     pub(crate) rows: usize,
     pub(crate) words: Vec<u64>,
-    ghost sized: { length words.items ≡ threads * (rows * 34 + 64) },
+    ghost sized: { length words.items ≡ threads * (rows * 34 + 65) },
     ghost few_threads: { threads ≤ 64 },
     ghost few_rows: { rows ≤ 1024 },
 }
 
 impl Sheet {
-    ghost use Rattle.protocol_values.specs.Words.{IsBindingInRange, IsCellInRange};
-    ghost use Rattle.protocol.specs.Tables.{is_row, number_of, place_of, is_nack, nack_place, word_at, cell_at, count_at, offer_at, joined_at, last_stamp, binding_at, nack_by, cause_of};
-    ghost use Rattle.protocol.specs.Worlds.{with_word, with_cell, with_nack};
+    ghost use Rattle.protocol_values.specs.Words.{IsBindingInRange, IsCellInRange, IsCourseInRange};
+    ghost use Rattle.protocol.specs.Tables.{is_row, number_of, place_of, is_nack, nack_place, word_at, cell_at, count_at, course_at, course_place, marks_at, offer_at, joined_at, last_stamp, binding_at, end_by, nack_by, cause_of};
+    ghost use Rattle.protocol.specs.Worlds.{with_course, with_word, with_cell, with_nack};
     ghost use Rattle.protocol.specs.States.{table_of};
 
-    /// The words of a table at the start.
-    pub(crate) fn new(alloc: Global, threads: usize, rows: usize) -> Result<Sheet, AllocError>
+    /// The words of a table at the start, in which the threads of the mask `later` wait to be started.
+    pub(crate) fn new(
+        alloc: Global,
+        threads: usize,
+        rows: usize,
+        later: u64,
+    ) -> Result<Sheet, AllocError>
         requires few_threads { threads ≤ 64 }
         requires few_rows { rows ≤ 1024 }
-        ensures words { IfOk result (λ b. b.words.items ≡ replicate (threads * (rows * 34 + 64)) 0) }
+        ensures words { IfOk result (λ b. b.words.items ≡ with_lives later rows threads (replicate (threads * (rows * 34 + 65)) 0)) }
         ensures threads { IfOk result (λ b. b.threads ≡ threads) }
         ensures rows { IfOk result (λ b. b.rows ≡ rows) }
     {
-        let words = vec![in alloc; 0; threads * (rows * ROW_LEN + NACKS)]?;
+        let words = start_words(alloc, threads, rows, later)?;
         Ok(Sheet {
             threads,
             rows,
@@ -71,6 +79,13 @@ impl Sheet {
         self.threads * self.rows
     }
 
+    /// How many words a thread has.
+    fn thread_len(&self) -> usize
+        ensures { result ≡ self.now.rows * 34 + 65 }
+    {
+        self.rows * ROW_LEN + NACKS + LIVES
+    }
+
     /// Where the row's word at a place lies.
     fn place(&self, row: Row, place: usize) -> usize
         requires row { is_row (table_of self.now) row ≡ true }
@@ -78,9 +93,7 @@ impl Sheet {
         ensures value { result ≡ place_of self.now.rows row place }
         ensures inside { result < vec_len self.now.words }
     {
-        usize::from(row.thread) * (self.rows * ROW_LEN + NACKS)
-            + usize::from(row.sync) * ROW_LEN
-            + place
+        usize::from(row.thread) * self.thread_len() + usize::from(row.sync) * ROW_LEN + place
     }
 
     #[tactic(auto, unfolding(crate::specs::Tables::word_at))]
@@ -155,12 +168,33 @@ impl Sheet {
         self.cell(row).joined()
     }
 
-    /// The stamp of the row before this one in its thread, or 0.
+    /// Where the word of the thread's life lies.
+    fn course_place(&self, thread: u8) -> usize
+        requires { thread < self.now.threads }
+        ensures value { result ≡ course_place self.now.rows thread }
+        ensures inside { result < vec_len self.now.words }
+    {
+        usize::from(thread) * self.thread_len() + self.rows * ROW_LEN + NACKS
+    }
+
+    /// Where the thread is on its course. One that the table has not never starts.
+    #[tactic(auto, unfolding(crate::specs::Tables::course_at))]
+    pub(crate) fn course(&self, thread: u8) -> Course
+        ensures { result ≡ course_at (table_of self.now) thread }
+    {
+        if usize::from(thread) >= self.threads {
+            return Course::Unstarted;
+        }
+        let at = self.course_place(thread);
+        unpack_course(self.words[at]).unwrap_or(Course::Unstarted)
+    }
+
+    /// The last stamp that counts for what a thread does at this place: that of the row before, or of its start.
     pub(crate) fn last_stamp(&self, row: Row) -> u32
-        ensures { result ≡ last_stamp (joined_at (table_of self.now)) row }
+        ensures { result ≡ last_stamp (marks_at (table_of self.now)) (joined_at (table_of self.now)) row }
     {
         if row.sync == 0 {
-            return 0;
+            return start_of(self.course(row.thread));
         }
         let before = Row {
             thread: row.thread,
@@ -186,9 +220,7 @@ impl Sheet {
         ensures value { result ≡ nack_place self.now.rows nack }
         ensures inside { result < vec_len self.now.words }
     {
-        usize::from(nack.thread) * (self.rows * ROW_LEN + NACKS)
-            + self.rows * ROW_LEN
-            + usize::from(nack.k)
+        usize::from(nack.thread) * self.thread_len() + self.rows * ROW_LEN + usize::from(nack.k)
     }
 
     /// Where the nack is bound. A nack that the table has not is not.
@@ -222,14 +254,26 @@ impl Sheet {
         Some(joined)
     }
 
+    /// The last stamp of a thread that has ended.
+    #[tactic(auto, unfolding(crate::specs::Tables::end_by))]
+    fn ended_by(&self, thread: u8) -> Option<u32>
+        ensures { result ≡ end_by (marks_at (table_of self.now)) (joined_at (table_of self.now)) thread }
+    {
+        match self.course(thread) {
+            Course::Unstarted | Course::Running(_) => None,
+            Course::Ended(_, sync) => Some(self.last_stamp(Row { thread, sync })),
+        }
+    }
+
     /// The stamp of what lets the offer commit its row alone, 0 for an always.
     pub(crate) fn cause(&self, offer: Option<Offer>) -> Option<u32>
-        ensures { result ≡ cause_of (joined_at (table_of self.now)) (offer_at (table_of self.now)) (binding_at (table_of self.now)) offer }
+        ensures { result ≡ cause_of (joined_at (table_of self.now)) (offer_at (table_of self.now)) (marks_at (table_of self.now)) offer }
     {
         match offer?.base {
             Base::Always(_) => Some(0),
             Base::OnNack(nack) => Some(self.enabled_by(nack)?.stamp),
-            Base::Send(..) | Base::Recv(_) | Base::OnEnd(_) | Base::Never => None,
+            Base::OnEnd(thread) => self.ended_by(thread),
+            Base::Send(..) | Base::Recv(_) | Base::Never => None,
         }
     }
 
@@ -244,6 +288,19 @@ impl Sheet {
     {
         let at = self.nack_place(nack);
         self.words[at] = pack_nack(Some(bound));
+    }
+
+    /// Writes where the thread is on its course.
+    #[tactic(auto, unfolding(crate::specs::Worlds::with_course))]
+    pub(crate) fn set_course(&mut self, thread: u8, course: Course)
+        requires thread { thread < self.old.threads }
+        requires range { IsCourseInRange course }
+        ensures written { table_of self.new ≡ with_course (table_of self.old) thread course }
+        ensures threads { self.new.threads ≡ self.old.threads }
+        ensures rows { self.new.rows ≡ self.old.rows }
+    {
+        let at = self.course_place(thread);
+        self.words[at] = pack_course(course);
     }
 
     /// Writes the row's word at a place.
@@ -269,7 +326,48 @@ impl Sheet {
     }
 }
 
-ghost use Rattle.protocol.specs.Tables.{encloses, is_fresh};
+ghost use Rattle.protocol.specs.Tables.{encloses, is_fresh, start_of};
+ghost use Rattle.protocol.specs.Worlds.{waits, with_lives};
+
+/// The words of a table at the start: all 0, but the lives of the threads that have started, at stamp 0.
+/// Those of the mask `later` wait to be started.
+pub fn start_words(
+    alloc: Global,
+    threads: usize,
+    rows: usize,
+    later: u64,
+) -> Result<Vec<u64>, AllocError>
+    requires few_threads { threads ≤ 64 }
+    requires few_rows { rows ≤ 1024 }
+    ensures { IfOk result (λ v. v.items ≡ with_lives later rows threads (replicate (threads * (rows * 34 + 65)) 0)) }
+{
+    let len = rows * ROW_LEN + NACKS + LIVES;
+    let mut words = vec![in alloc; 0; threads * len]?;
+    for thread in 0..threads {
+        if !waits(later, thread) {
+            words[thread * len + rows * ROW_LEN + NACKS] = pack_course(Course::Running(0));
+        }
+    }
+    Ok(words)
+}
+
+/// Whether the thread of this number waits to be started.
+pub(crate) fn waits(later: u64, thread: usize) -> bool
+    requires { thread < 64 }
+    ensures { result ≡ waits later thread }
+{
+    (later >> thread) % 2 == 1
+}
+
+/// The stamp that counts for what a thread does first, and 0 where it has not started.
+pub(crate) fn start_of(course: Course) -> u32
+    ensures { result ≡ start_of course }
+{
+    match course {
+        Course::Unstarted => 0,
+        Course::Running(start) | Course::Ended(start, _) => start,
+    }
+}
 
 pub(crate) fn is_fresh(cell: Cell) -> bool
     ensures { result ≡ is_fresh cell }

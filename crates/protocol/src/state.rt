@@ -2,26 +2,32 @@
 
 ghost use Rattle.std.specs.Prelude.{Some, ◌≡◌, ◌*◌, ◌<◌, ◌≤◌, ◌↔◌, IfOk, IsTrue, true, length, map, replicate};
 
-use crate::sheet::{NACKS, ROW_LEN, Sheet};
-use protocol_values::{Binding, Cell, Joined, NackName, Offer, Row, Seat, Step, is_word_for};
+use crate::sheet::{NACKS, ROW_LEN, Sheet, start_of, waits};
+use protocol_values::{
+    Binding, Cell, Course, Joined, NackName, Offer, Row, Seat, Step, is_word_for,
+};
 use std::alloc::{AllocError, Global};
 
-/// A world: the sheet, and for each row the seat that holds it and the row that is committed with
-/// it as its partner, so that neither is searched for.
+/// A world: the sheet, for each row the seat that holds it and the row that is committed with it as
+/// its partner, so that neither is searched for, and for each thread the seat that stands behind its
+/// last row.
 #[derive(Debug, Drop)]
 pub(crate) struct State {
     pub(crate) sheet: Sheet,
     pub(crate) seats: usize,
     pub(crate) holders: Vec<Option<u8>>,
     pub(crate) namers: Vec<Option<Row>>,
+    pub(crate) lasts: Vec<Option<u8>>,
+    ghost some_rows: { 1 ≤ sheet.rows },
     ghost held: { length holders.items ≡ sheet.threads * sheet.rows },
     ghost named: { length namers.items ≡ sheet.threads * sheet.rows },
+    ghost behind: { length lasts.items ≡ sheet.threads },
 }
 
 impl State {
-    ghost use Rattle.protocol_values.specs.declared.Step.TheVariants.{Draft, Open, Look, Read, Claim, Yield, Join, Seal, Grant, Take, Bind};
+    ghost use Rattle.protocol_values.specs.declared.Step.TheVariants.{Draft, Open, Look, Read, Claim, Yield, Join, Seal, Grant, Take, Bind, Start, Finish};
     ghost use Rattle.protocol.specs.Tables.{is_row, offer_at, offers_meet, cause_at};
-    ghost use Rattle.protocol.specs.Worlds.{start_world, Holds, holder_at, namer_at, joined_with, granted_by, handed, Condition};
+    ghost use Rattle.protocol.specs.Worlds.{start_world, Holds, IsAlive, StandsAt, holder_at, last_holder, namer_at, joined_with, granted_by, handed, handed_last, Condition};
     ghost use Rattle.protocol.specs.States.{table_of, world_of, IsSound, Tries, Decides};
 
     /// The state of a world at the start.
@@ -30,22 +36,26 @@ impl State {
         threads: usize,
         rows: usize,
         seats: usize,
+        later: u64,
     ) -> Result<State, AllocError>
         requires few_threads { threads ≤ 64 }
+        requires some_rows { 1 ≤ rows }
         requires few_rows { rows ≤ 1024 }
         requires some_seats { 1 ≤ seats }
         requires few_seats { seats ≤ 16 }
-        ensures world { IfOk result (λ s. world_of s ≡ start_world threads rows seats) }
+        ensures world { IfOk result (λ s. world_of s ≡ start_world threads rows seats later) }
         ensures sound { IfOk result IsSound }
     {
-        let sheet = Sheet::new(alloc, threads, rows)?;
-        let holders = first_holders(alloc, &sheet, seats)?;
+        let sheet = Sheet::new(alloc, threads, rows, later)?;
+        let holders = first_holders(alloc, &sheet, seats, later)?;
         let namers = no_namers(alloc, sheet.len())?;
+        let lasts = nobody_behind(alloc, threads)?;
         Ok(State {
             sheet,
             seats,
             holders,
             namers,
+            lasts,
         })
     }
 
@@ -66,6 +76,38 @@ impl State {
         ensures { IsTrue result ↔ Holds (world_of self.now) seat row }
     {
         self.holder(row) == Some(seat.0)
+    }
+
+    /// Whether the thread has not ended.
+    fn is_alive(&self, thread: u8) -> bool
+        ensures { IsTrue result ↔ IsAlive (world_of self.now) thread }
+    {
+        !matches!(self.sheet.course(thread), Course::Ended(_, _))
+    }
+
+    /// The seat that stands behind the thread's last row.
+    fn last_holder(&self, thread: u8) -> Option<u8>
+        requires { thread < self.now.sheet.threads }
+        ensures { result ≡ last_holder (world_of self.now) thread }
+    {
+        self.lasts[usize::from(thread)]
+    }
+
+    /// Whether the seat stands at this place of a thread: it holds the row, which is Fresh, or it took the
+    /// thread's last row.
+    fn stands_at(&self, seat: Seat, row: Row) -> bool
+        ensures { IsTrue result ↔ StandsAt (world_of self.now) seat row }
+    {
+        if usize::from(row.sync) < self.sheet.rows {
+            return self.holds(seat, row) && matches!(self.sheet.cell(row), Cell::Fresh);
+        }
+        if usize::from(row.thread) >= self.sheet.threads {
+            return false;
+        }
+        if usize::from(row.sync) > self.sheet.rows {
+            return false;
+        }
+        self.last_holder(row.thread) == Some(seat.0)
     }
 
     /// The row that is committed with this one as its partner.
@@ -104,7 +146,8 @@ impl State {
             Step::Grant { row, offer } => self.grant(seat, row, offer),
             Step::Take { row } => self.take(seat, row),
             Step::Bind { k, row, scope } => self.bind(seat, k, row, scope),
-            Step::Start { .. } | Step::Finish { .. } => false,
+            Step::Start { row, thread } => self.start_thread(seat, row, thread),
+            Step::Finish { row } => self.finish(seat, row),
         }
     }
 
@@ -119,6 +162,9 @@ impl State {
         let Cell::Fresh = self.sheet.cell(row) else {
             return false;
         };
+        if !self.is_alive(row.thread) {
+            return false;
+        }
         if place < 1 || usize::from(place) >= ROW_LEN {
             return false;
         }
@@ -140,6 +186,9 @@ impl State {
         let Cell::Fresh = self.sheet.cell(row) else {
             return false;
         };
+        if !self.is_alive(row.thread) {
+            return false;
+        }
         self.sheet.set_cell(row, Cell::Waiting);
         true
     }
@@ -316,6 +365,9 @@ impl State {
         let Cell::Fresh = self.sheet.cell(row) else {
             return false;
         };
+        if !self.is_alive(row.thread) {
+            return false;
+        }
         if usize::from(k) >= NACKS || scope >= 4 {
             return false;
         }
@@ -334,19 +386,68 @@ impl State {
         true
     }
 
-    /// Lets the seat hold the row behind this one, if the table has it.
-    #[tactic(auto, unfolding(crate::specs::Worlds::handed))]
+    fn start_thread(&mut self, seat: Seat, row: Row, thread: u8) -> bool
+        requires { IsSound self.old }
+        ensures tried { Tries (world_of self.old) seat (Start row thread) result (world_of self.new) }
+        ensures sound { IsSound self.new }
+    {
+        if !self.stands_at(seat, row) {
+            return false;
+        }
+        if !self.is_alive(row.thread) {
+            return false;
+        }
+        if usize::from(thread) >= self.sheet.threads {
+            return false;
+        }
+        if row.thread == thread {
+            return false;
+        }
+        let Course::Unstarted = self.sheet.course(thread) else {
+            return false;
+        };
+        let stamp = self.sheet.last_stamp(row);
+        let first = Row { thread, sync: 0 };
+        let at = self.sheet.number(first);
+        self.sheet.set_course(thread, Course::Running(stamp));
+        self.holders[at] = Some(seat.0);
+        true
+    }
+
+    fn finish(&mut self, seat: Seat, row: Row) -> bool
+        requires { IsSound self.old }
+        ensures tried { Tries (world_of self.old) seat (Finish row) result (world_of self.new) }
+        ensures sound { IsSound self.new }
+    {
+        if !self.stands_at(seat, row) {
+            return false;
+        }
+        if !self.is_alive(row.thread) {
+            return false;
+        }
+        let start = start_of(self.sheet.course(row.thread));
+        self.sheet
+            .set_course(row.thread, Course::Ended(start, row.sync));
+        true
+    }
+
+    /// Lets the seat hold the row behind this one, or the place behind the last row.
+    #[tactic(auto, unfolding(crate::specs::Worlds::handed, crate::specs::Worlds::handed_last))]
     fn hand(&mut self, seat: Seat, row: Row)
         requires { is_row (table_of self.old.sheet) row ≡ true }
         ensures sheet { self.new.sheet ≡ self.old.sheet }
         ensures seats { self.new.seats ≡ self.old.seats }
         ensures namers { self.new.namers.items ≡ self.old.namers.items }
         ensures holders { self.new.holders.items ≡ handed (table_of self.old.sheet) self.old.holders.items seat row }
+        ensures lasts { self.new.lasts.items ≡ handed_last (table_of self.old.sheet) self.old.lasts.items seat row }
     {
         let next = row.next();
         if self.sheet.contains(next) {
             let at = self.sheet.number(next);
             self.holders[at] = Some(seat.0);
+        }
+        if usize::from(next.sync) == self.sheet.rows {
+            self.lasts[usize::from(row.thread)] = Some(seat.0);
         }
     }
 }
@@ -355,10 +456,15 @@ ghost use Rattle.protocol.specs.Tables.{all_rows, offers_meet};
 ghost use Rattle.protocol.specs.Worlds.{first_holder, side_of};
 
 /// The holders at the start, row by row.
-fn first_holders(alloc: Global, sheet: &Sheet, seats: usize) -> Result<Vec<Option<u8>>, AllocError>
+fn first_holders(
+    alloc: Global,
+    sheet: &Sheet,
+    seats: usize,
+    later: u64,
+) -> Result<Vec<Option<u8>>, AllocError>
     requires some_seats { 1 ≤ seats }
     requires few_seats { seats ≤ 16 }
-    ensures { IfOk result (λ v. v.items ≡ map (first_holder seats) (all_rows sheet.now.threads sheet.now.rows)) }
+    ensures { IfOk result (λ v. v.items ≡ map (first_holder seats later) (all_rows sheet.now.threads sheet.now.rows)) }
 {
     let mut holders = Vec::new(alloc);
     for thread in 0..sheet.threads {
@@ -367,7 +473,7 @@ fn first_holders(alloc: Global, sheet: &Sheet, seats: usize) -> Result<Vec<Optio
                 thread: thread as u8,
                 sync: sync as u16,
             };
-            holders.push(first_holder(seats, row))?;
+            holders.push(first_holder(seats, later, row))?;
         }
     }
     Ok(holders)
@@ -380,13 +486,23 @@ fn no_namers(alloc: Global, len: usize) -> Result<Vec<Option<Row>>, AllocError>
     vec![in alloc; None; len]
 }
 
+/// Nobody stands behind a last row.
+fn nobody_behind(alloc: Global, threads: usize) -> Result<Vec<Option<u8>>, AllocError>
+    ensures { IfOk result (λ v. v.items ≡ replicate threads None) }
+{
+    vec![in alloc; None; threads]
+}
+
 /// The seat that holds the row at the start.
-fn first_holder(seats: usize, row: Row) -> Option<u8>
+fn first_holder(seats: usize, later: u64, row: Row) -> Option<u8>
+    requires row { row.thread < 64 }
     requires some_seats { 1 ≤ seats }
     requires few_seats { seats ≤ 16 }
-    ensures { result ≡ first_holder seats row }
+    ensures { result ≡ first_holder seats later row }
 {
-    if row.sync == 0 {
+    if waits(later, usize::from(row.thread)) {
+        None
+    } else if row.sync == 0 {
         Some((usize::from(row.thread) % seats) as u8)
     } else {
         None

@@ -31,8 +31,8 @@ impl Model for World {
 }
 
 impl World {
-    /// All rows Fresh and no nack bound, so that the ledger has no commits; row 0 of thread t is held by
-    /// seat t mod `seats`.
+    /// All threads started, all rows Fresh and no nack bound, so that the ledger has no commits; row 0 of
+    /// thread t is held by seat t mod `seats`.
     pub fn start(alloc: Global, threads: u8, rows: u16, seats: u8) -> Result<World, ProtoFault>
         requires some_threads { 1 ≤ threads }
         requires few_threads { threads ≤ 64 }
@@ -40,7 +40,29 @@ impl World {
         requires few_rows { rows ≤ 1024 }
         requires some_seats { 1 ≤ seats }
         requires few_seats { seats ≤ 16 }
-        ensures started { IfOk result (λ w. w ≡ start_world threads rows seats) }
+        ensures started { IfOk result (λ w. w ≡ start_world threads rows seats 0) }
+        ensures empty { IfOk result (λ w. commits_in (ledger_of w.table) ≡ []) }
+        ensures refused { IfErr result (λ e. e ≡ ProtoFault.Memory) }
+    {
+        World::start_later(alloc, threads, rows, seats, 0)
+    }
+
+    /// The same, but a thread whose bit is set in the mask `later` waits to be started, and nobody holds its
+    /// row 0. Bits of threads that the world has not change nothing.
+    pub fn start_later(
+        alloc: Global,
+        threads: u8,
+        rows: u16,
+        seats: u8,
+        later: u64,
+    ) -> Result<World, ProtoFault>
+        requires some_threads { 1 ≤ threads }
+        requires few_threads { threads ≤ 64 }
+        requires some_rows { 1 ≤ rows }
+        requires few_rows { rows ≤ 1024 }
+        requires some_seats { 1 ≤ seats }
+        requires few_seats { seats ≤ 16 }
+        ensures started { IfOk result (λ w. w ≡ start_world threads rows seats later) }
         ensures empty { IfOk result (λ w. commits_in (ledger_of w.table) ≡ []) }
         ensures refused { IfErr result (λ e. e ≡ ProtoFault.Memory) }
     {
@@ -49,6 +71,7 @@ impl World {
             usize::from(threads),
             usize::from(rows),
             usize::from(seats),
+            later,
         )
         .map_err(|_| ProtoFault::Memory)?;
         Ok(World { state })

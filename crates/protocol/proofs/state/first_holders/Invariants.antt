@@ -5,7 +5,7 @@ use Rattle.protocol.specs.Worlds.{first_holder}
 use Rattle.protocol.proofs.state.first_holders.Given as goal
 
 abbrev pub invariant-loop-thread : goal.invariant-loop-thread
-invariant-loop-thread l = l.holders.items ≡ map (first_holder l.seats) (all_rows l.thread l.sheet.rows)
+invariant-loop-thread l = l.holders.items ≡ map (first_holder l.seats l.later) (all_rows l.thread l.sheet.rows)
 
 abbrev pub invariant-loop-sync : goal.invariant-loop-sync
-invariant-loop-sync l = l.holders.items ≡ map (first_holder l.seats) (all_rows l.thread l.sheet.rows ++ rows_below l.thread l.sync)
+invariant-loop-sync l = l.holders.items ≡ map (first_holder l.seats l.later) (all_rows l.thread l.sheet.rows ++ rows_below l.thread l.sync)

@@ -3,7 +3,7 @@ use Rattle.std.specs.Prelude.{Contains, ◌↔◌}
 use Rattle.std.proofs.lemmas.List.Sorted.{Contains-permutation, IsPermutation-sym, answers_always}
 use Rattle.protocol_values.specs.declared.Commit.{Commit}
 use Rattle.protocol_values.specs.Commits.{order_of}
-use Rattle.protocol.specs.Ledgers.{Ledger, ledger_of, binding_in, commits_in, HasCommit, IsCausal, IsLawful}
+use Rattle.protocol.specs.Ledgers.{Ledger, ledger_of, marks_in, commits_in, HasCommit, IsCausal, IsLawful}
 use Rattle.protocol.specs.States.{table_of}
 use Rattle.protocol.proofs.LedgerReadings.{commits_in_ledger, members_in_ledger}
 use Rattle.protocol.proofs.Ordering.{causal_ledger}
@@ -34,7 +34,7 @@ returns-clause-causal c =
     let t = table_of c.self.inside.sheet in
     let told : c.in_ok-commits.commits.items ≡ commits_in (ledger_of t) = c.in_ok-commits.ensures ∙ commits_in_ledger t in
     let sorted = c.in_ok-sort_by_cached_key.ensures.sorted order_of (answers_always _ _ _ (λ f a r g h. search rules)) in
-    subst (λ (l : Ledger). IsCausal (binding_in l) c.sort_by_cached_key.new.self.items) c.self.view_is
+    subst (λ (l : Ledger). IsCausal (marks_in l) c.sort_by_cached_key.new.self.items) c.self.view_is
     (causal_ledger (ledger_of t) c.self.invariant c.sort_by_cached_key.new.self.items (subst (λ (cs : List Commit). IsPermutation cs c.sort_by_cached_key.new.self.items) told c.sort_by_cached_key.ensures.permutation) sorted)
 
 pub returns-clause-lawful : goal.returns-clause-lawful

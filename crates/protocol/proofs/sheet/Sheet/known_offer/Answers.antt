@@ -13,6 +13,11 @@ place-head-requires-clause-place c =
     let b = (offer_place (table_of c.args.self.now) c.args.row c.args.n c.requires).1 in
     omega (arith, c.from.ensures)
 
+pub index-requires-2 : goal.index-requires-2
+index-requires-2 c =
+    let b = offer_end (table_of c.args.self.now) c.args.row c.args.n c.place-head.result c.requires (search rules) in
+    omega arith
+
 pub index-requires-3 : goal.index-requires-3
 index-requires-3 c =
     let b = offer_end (table_of c.args.self.now) c.args.row c.args.n c.place-head.result c.requires (search rules) in

@@ -1,4 +1,4 @@
-use Rattle.std.proofs.Common.{◌≡◌, ◌+◌, ◌*◌, ◌<◌, ap, arith}
+use Rattle.std.proofs.Common.{◌≡◌, ◌+◌, ◌*◌, ◌<◌, arith}
 use Rattle.protocol.specs.States.{table_of}
 use Rattle.protocol.proofs.Places.{place_inside}
 use Rattle.protocol.proofs.sheet.Sheet.place.Goals as goal
@@ -7,7 +7,7 @@ pub returns-clause-inside : goal.returns-clause-inside
 returns-clause-inside c =
     let s = c.args.self.now in
     let r = c.args.row in
-    let b : r.thread * (s.rows * 34 + 64) + r.sync * 34 + c.args.place < s.threads * (s.rows * 34 + 64) =
+    let b : r.thread * (s.rows * 34 + 65) + r.sync * 34 + c.args.place < s.threads * (s.rows * 34 + 65) =
     place_inside (table_of s) r c.args.place c.requires.row c.requires.place in
-    let t : c.from.result * (s.rows * 34 + 64) ≡ r.thread * (s.rows * 34 + 64) = ap (λ n. n * (s.rows * 34 + 64)) c.from.ensures in
+    let t : c.from.result * c.thread_len.result ≡ r.thread * (s.rows * 34 + 65) = (λ i. c.from.ensures i * c.thread_len.ensures i) in
     omega (arith, c.from-2.ensures)

@@ -29,6 +29,6 @@ returns-clause-sound c =
     let few : c.args.k < 64 = (let below = c.if-from-ge-NACKS.false in let same = c.from.ensures in omega arith) in
     let inside : c.args.scope < 4 = c.if-scope-ge4.false in
     let free : binding_at w.table (nack_of_row c.args.row c.args.k) ≡ None = sym c.binding.ensures.value ∙ none_from c.binding.result (sym c.is_some.ensures ∙ c.if-is_some.false) in
-    sound_state _ w (with_nack w.table (nack_of_row c.args.row c.args.k) (record { sync = c.args.row.sync; scope = c.args.scope })) c.set_nack.ensures.written refl refl
-    (kept_condition w c.args.seat (Bind c.args.k c.args.row c.args.scope) c.requires.kept (held, was, few, inside, free))
+    sound_state _ w (with_nack w.table (nack_of_row c.args.row c.args.k) (record { sync = c.args.row.sync; scope = c.args.scope })) c.set_nack.ensures.written refl refl refl
+    (kept_condition w c.args.seat (Bind c.args.k c.args.row c.args.scope) c.requires.kept (held, was, c.is_alive.ensures.0 c.if-not-is_alive.false, few, inside, free))
     (tells_bind w (nack_of_row c.args.row c.args.k) (record { sync = c.args.row.sync; scope = c.args.scope }) c.args.self.now.namers.items (nack_of_thread w.table c.args.row c.args.k row few) c.requires.told)

@@ -19,7 +19,7 @@ returns-clause-sound c =
     let written : table_of c.set_word.new.self ≡ with_word w.table c.args.row c.args.place c.args.value =
     c.set_word.ensures ∙ ap (λ n. with_word w.table c.args.row n c.args.value) c.from-2.ensures in
     let condition : Condition w c.args.seat (Draft c.args.row c.args.place c.args.value) =
-    (held, sym c.in-Fresh.ensures, low, high, sym c.is_word_for.ensures ∙ c.if-not-is_word_for.false) in
-    sound_state _ w (with_word w.table c.args.row c.args.place c.args.value) written refl refl
+    (held, sym c.in-Fresh.ensures, c.is_alive.ensures.0 c.if-not-is_alive.false, low, high, sym c.is_word_for.ensures ∙ c.if-not-is_word_for.false) in
+    sound_state _ w (with_word w.table c.args.row c.args.place c.args.value) written refl refl refl
     (kept_condition w c.args.seat (Draft c.args.row c.args.place c.args.value) c.requires.kept condition)
     (tells_draft w c.args.row c.args.place c.args.value c.args.self.now.namers.items (held_row w c.args.row c.args.seat.0 held) low high c.requires.told)

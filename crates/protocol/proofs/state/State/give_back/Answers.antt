@@ -24,6 +24,6 @@ returns-clause-sound c =
     let held : Holds w c.args.seat c.args.row = c.holds.ensures.0 c.if-not-holds.false in
     let was : cell_at w.table c.args.row ≡ Claimed = sym c.in-Claimed.ensures in
     let unnamed : namer_at w c.args.row ≡ None = sym c.namer.ensures ∙ none_from c.namer.result (sym c.is_some.ensures ∙ c.if-is_some.false) in
-    sound_state _ w (with_cell w.table c.args.row Waiting) c.set_cell.ensures.written refl refl
+    sound_state _ w (with_cell w.table c.args.row Waiting) c.set_cell.ensures.written refl refl refl
     (kept_condition w c.args.seat (Yield c.args.row) c.requires.kept (held, was, unnamed))
     (tells_plain w c.args.row Waiting c.args.self.now.namers.items c.requires.kept (held_row w c.args.row c.args.seat.0 held) tt (λ r. ap (λ (d : Cell). names (joined_of d) r) (sym was)) c.requires.told)

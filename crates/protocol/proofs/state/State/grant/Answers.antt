@@ -4,7 +4,7 @@ use Rattle.protocol_values.specs.declared.Offer.{Offer}
 use Rattle.protocol_values.specs.declared.Cell.TheVariants.{Waiting, Synched}
 use Rattle.protocol_values.specs.declared.Step.TheVariants.{Grant}
 use Rattle.protocol_values.specs.Words.{IsJoinedInRange}
-use Rattle.protocol.specs.Tables.{Table, is_fresh, cell_at, joined_at, offer_at, binding_at, cause_of, cause_at}
+use Rattle.protocol.specs.Tables.{Table, is_fresh, cell_at, joined_at, marks_at, offer_at, cause_of, cause_at}
 use Rattle.protocol_values.specs.declared.Row.{Row}
 use Rattle.protocol.specs.Worlds.{with_cell, granted_by}
 use Rattle.protocol.specs.States.{table_of, world_of}
@@ -15,8 +15,8 @@ use Rattle.protocol.proofs.Soundness.{sound_state}
 use Rattle.protocol.proofs.state.State.grant.Goals as goal
 
 -- the cause of the offer that was read
-caused : (t : Table) (r : Row) (n : ℕ) (o : Option Offer) (s : ℕ) → o ≡ offer_at t r n → Some s ≡ cause_of (joined_at t) (offer_at t) (binding_at t) o → cause_at t r n ≡ Some s
-caused t r n o s e h = ap (cause_of (joined_at t) (offer_at t) (binding_at t)) (sym e) ∙ sym h
+caused : (t : Table) (r : Row) (n : ℕ) (o : Option Offer) (s : ℕ) → o ≡ offer_at t r n → Some s ≡ cause_of (joined_at t) (offer_at t) (marks_at t) o → cause_at t r n ≡ Some s
+caused t r n o s e h = ap (cause_of (joined_at t) (offer_at t) (marks_at t)) (sym e) ∙ sym h
 
 pub granted_by-joined-requires-clause-cause : goal.granted_by-joined-requires-clause-cause
 granted_by-joined-requires-clause-cause c = caused (table_of c.args.self.now.sheet) c.args.row c.args.offer c.offer.result c.in-Some.cause c.offer.ensures c.in-Some.ensures
@@ -38,6 +38,6 @@ returns-clause-sound c =
     let has = caused w.table c.args.row c.args.offer c.offer.result c.in-Some.cause c.offer.ensures c.in-Some.ensures in
     let written : table_of c.set_cell.new.self ≡ with_cell w.table c.args.row (Synched joined) =
     c.set_cell.ensures.written ∙ ap (λ (j : Joined). with_cell w.table c.args.row (Synched j)) c.granted_by-joined.ensures in
-    sound_state _ w (with_cell w.table c.args.row (Synched joined)) written refl refl
+    sound_state _ w (with_cell w.table c.args.row (Synched joined)) written refl refl refl
     (kept_condition w c.args.seat (Grant c.args.row c.args.offer) c.requires.kept (waits, ap (λ (o : Option ℕ). is_some o) has))
     (tells_grant w c.args.row c.args.offer c.in-Some.cause c.args.self.now.namers.items c.requires.kept waits has c.requires.told)

@@ -8,3 +8,8 @@ next-next-requires c =
     let inside = row_inside (table_of c.args.self.now.sheet) c.args.row c.requires in
     let few = c.args.self.now.sheet.few_rows in
     omega arith
+
+pub index_mut-requires-then-from-self : goal.index_mut-requires-then-from-self
+index_mut-requires-then-from-self c =
+    let inside = row_inside (table_of c.args.self.now.sheet) c.args.row c.requires in
+    omega (arith, c.from-then-from-self.ensures, c.args.self.now.behind, c.args.self.now.lasts.ok)

@@ -43,7 +43,7 @@ returns-clause-sound c =
     let written : table_of c.set_cell.new.self ≡ with_cell w.table c.args.other (Synched joined) =
     c.set_cell.ensures.written ∙ ap (λ (j : Joined). with_cell w.table c.args.other (Synched j)) c.joined_with-joined.ensures in
     let apart : c.args.mine.thread ≢ c.args.other.thread = c.if-mine-other.false in
-    sound_state _ w (with_cell w.table c.args.other (Synched joined)) written refl refl
+    sound_state _ w (with_cell w.table c.args.other (Synched joined)) written refl refl refl
     (kept_condition w c.args.seat (Join c.args.mine c.args.own c.args.other c.args.partner) c.requires.kept (held, claimed, unnamed, waiting, apart, meets))
     (subst (λ (n : ℕ). Tells (with_table w (with_cell w.table c.args.other (Synched joined))) (set c.args.self.now.namers.items n (Some c.args.other)))
     (sym c.number-at.ensures.value)

@@ -19,6 +19,6 @@ returns-clause-sound c =
     let w = world_of c.args.self.now in
     let held : Holds w c.args.seat c.args.row = c.holds.ensures.0 c.if-not-holds.false in
     let was : cell_at w.table c.args.row ≡ Fresh = sym c.in-Fresh.ensures in
-    sound_state _ w (with_cell w.table c.args.row Waiting) c.set_cell.ensures.written refl refl
-    (kept_condition w c.args.seat (Open c.args.row) c.requires.kept (held, was))
+    sound_state _ w (with_cell w.table c.args.row Waiting) c.set_cell.ensures.written refl refl refl
+    (kept_condition w c.args.seat (Open c.args.row) c.requires.kept (held, was, c.is_alive.ensures.0 c.if-not-is_alive.false))
     (tells_plain w c.args.row Waiting c.args.self.now.namers.items c.requires.kept (held_row w c.args.row c.args.seat.0 held) tt (λ r. ap (λ (d : Cell). names (joined_of d) r) (sym was)) c.requires.told)

@@ -67,7 +67,7 @@ returns-clause-sound c =
     c.set_cell.ensures.written ∙ ap (λ (j : Joined). with_cell w.table c.args.row (Synched j)) is in
     let kept : Kept (with_table w (with_seal w.table c.args.row (sealed_by w.table (namer_at w c.args.row)))) =
     kept_condition w c.args.seat (Seal c.args.row) c.requires.kept (held, claimed, ap (λ (o : Option Row). is_some o) (sym c.in-Some.ensures)) in
-    sound_state _ w (with_cell w.table c.args.row (Synched joined)) written refl refl
+    sound_state _ w (with_cell w.table c.args.row (Synched joined)) written refl refl refl
     (subst (λ (o : Option Joined). Kept (with_table w (with_seal w.table c.args.row o))) (sealed_is w.table c.args.row other (namer_at w c.args.row) s (sym c.in-Some.ensures)) kept)
     (subst (λ (n : ℕ). Tells (with_table w (with_cell w.table c.args.row (Synched joined))) (set c.args.self.now.namers.items n (Some c.args.row)))
     (sym c.number-at.ensures.value)

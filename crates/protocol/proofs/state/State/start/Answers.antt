@@ -1,4 +1,4 @@
-use Rattle.std.proofs.Common.{None, ap, ◌∙◌, List, length, map}
+use Rattle.std.proofs.Common.{None, arith, ap, sym, ◌∙◌, List, length, map}
 use Rattle.std.proofs.lemmas.List.{length-replicate}
 use Rattle.std.specs.Prelude.{Option, ℕ}
 use Rattle.protocol_values.specs.declared.Row.{Row}
@@ -10,7 +10,9 @@ use Rattle.protocol.proofs.state.State.start.Goals as goal
 
 pub invariant_of-result : goal.invariant_of-result
 invariant_of-result c = record {
-  held = ap (λ (xs : List (Option ℕ)). length xs) c.in_ok-holders.ensures ∙ length_holders c.in_ok-sheet.sheet.threads c.in_ok-sheet.sheet.rows c.args.seats;
+  some_rows = omega (arith, c.in_ok-sheet.ensures.rows, c.requires.some_rows);
+  held = ap (λ (xs : List (Option ℕ)). length xs) c.in_ok-holders.ensures ∙ length_holders c.in_ok-sheet.sheet.threads c.in_ok-sheet.sheet.rows c.args.seats c.args.later;
+  behind = ap (λ (xs : List (Option ℕ)). length xs) c.in_ok-lasts.ensures ∙ length-replicate {A = Option ℕ} c.args.threads None ∙ sym c.in_ok-sheet.ensures.threads;
   named = ap (λ (xs : List (Option Row)). length xs) c.in_ok-namers.ensures ∙ length-replicate {A = Option Row} c.len.result None ∙ c.len.ensures;
 }
 
@@ -19,17 +21,19 @@ unfolding start_world
 returns-clause-world c = λ i. record {
   table = record { threads = c.in_ok-sheet.ensures.threads i; rows = c.in_ok-sheet.ensures.rows i; words = c.in_ok-sheet.ensures.words i };
   seats = c.args.seats;
-  holders = (c.in_ok-holders.ensures ∙ (λ j. map (first_holder c.args.seats) (all_rows (c.in_ok-sheet.ensures.threads j) (c.in_ok-sheet.ensures.rows j)))) i;
+  holders = (c.in_ok-holders.ensures ∙ (λ j. map (first_holder c.args.seats c.args.later) (all_rows (c.in_ok-sheet.ensures.threads j) (c.in_ok-sheet.ensures.rows j)))) i;
+  lasts = c.in_ok-lasts.ensures i;
 }
 
 pub returns-clause-sound : goal.returns-clause-sound
 unfolding start_world
 returns-clause-sound c =
-    start_sound _ c.args.threads c.args.rows c.args.seats c.len.result
+    start_sound _ c.args.threads c.args.rows c.args.seats c.args.later c.len.result
     (λ i. record {
       table = record { threads = c.in_ok-sheet.ensures.threads i; rows = c.in_ok-sheet.ensures.rows i; words = c.in_ok-sheet.ensures.words i };
       seats = c.args.seats;
-      holders = (c.in_ok-holders.ensures ∙ (λ j. map (first_holder c.args.seats) (all_rows (c.in_ok-sheet.ensures.threads j) (c.in_ok-sheet.ensures.rows j)))) i;
+      holders = (c.in_ok-holders.ensures ∙ (λ j. map (first_holder c.args.seats c.args.later) (all_rows (c.in_ok-sheet.ensures.threads j) (c.in_ok-sheet.ensures.rows j)))) i;
+      lasts = c.in_ok-lasts.ensures i;
     })
     c.in_ok-namers.ensures
     c.requires.few_threads

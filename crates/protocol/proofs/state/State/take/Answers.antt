@@ -5,10 +5,10 @@ use Rattle.protocol_values.specs.declared.Cell.{Cell}
 use Rattle.protocol_values.specs.declared.Cell.TheVariants.{Synched, Taken}
 use Rattle.protocol.specs.Tables.{Table, is_row, is_fresh, cell_at, synched_of, names}
 use Rattle.protocol_values.specs.Values.{joined_of}
-use Rattle.protocol.specs.Worlds.{World, with_cell, with_table, with_take, with_holders, handed}
+use Rattle.protocol.specs.Worlds.{World, with_cell, with_table, with_take}
 use Rattle.protocol.specs.States.{table_of, world_of, Tells}
 use Rattle.protocol.specs.Kept.{Kept}
-use Rattle.protocol.proofs.Keeping.{kept_took, took_world}
+use Rattle.protocol.proofs.Keeping.{kept_took, took, took_world}
 use Rattle.protocol.proofs.Readings.{row_of_open, row_after_cell, joined_ranged}
 use Rattle.protocol.proofs.Telling.{tells_plain}
 use Rattle.protocol.proofs.state.State.take.Goals as goal
@@ -32,9 +32,9 @@ returns-clause-tried c =
     let j : Joined = c.in-Synched.joined in
     let is : cell_at w.table c.args.row ≡ Synched j = sym c.in-Synched.ensures in
     let synched : synched_of (cell_at w.table c.args.row) ≡ Some j = ap synched_of is in
-    let after = took_world w (world_of c.hand.new.self) c.args.seat c.args.row j (table_of c.set_cell.new.self) (ap table_of c.hand.ensures.sheet) c.set_cell.ensures.written c.hand.ensures.seats c.hand.ensures.holders in (
+    let after = took_world w (world_of c.hand.new.self) c.args.seat c.args.row j (table_of c.set_cell.new.self) (ap table_of c.hand.ensures.sheet) c.set_cell.ensures.written c.hand.ensures.seats c.hand.ensures.holders c.hand.ensures.lasts in (
       ap (λ (o : Option Joined). is_some o) synched,
-      after ∙ ap (λ (o : Option Joined). with_holders (with_table w (with_take w.table c.args.row o)) (handed w.table w.holders c.args.seat c.args.row)) (sym synched),
+      after ∙ ap (λ (o : Option Joined). took w c.args.seat c.args.row (with_take w.table c.args.row o)) (sym synched),
     )
 
 pub returns-clause-sound : goal.returns-clause-sound
@@ -43,7 +43,7 @@ returns-clause-sound c =
     let j : Joined = c.in-Synched.joined in
     let is : cell_at w.table c.args.row ≡ Synched j = sym c.in-Synched.ensures in
     let row = row_of_open w.table c.args.row (ap is_fresh is) in
-    let after = took_world w (world_of c.hand.new.self) c.args.seat c.args.row j (table_of c.set_cell.new.self) (ap table_of c.hand.ensures.sheet) c.set_cell.ensures.written c.hand.ensures.seats c.hand.ensures.holders in
+    let after = took_world w (world_of c.hand.new.self) c.args.seat c.args.row j (table_of c.set_cell.new.self) (ap table_of c.hand.ensures.sheet) c.set_cell.ensures.written c.hand.ensures.seats c.hand.ensures.holders c.hand.ensures.lasts in
     let tells : Tells (with_table w (with_cell w.table c.args.row (Taken j))) c.args.self.now.namers.items =
     tells_plain w c.args.row (Taken j) c.args.self.now.namers.items c.requires.kept row (joined_ranged w.table c.args.row j (ap joined_of is)) (λ r. ap (λ (d : Cell). names (joined_of d) r) (sym is)) c.requires.told in
     record {

@@ -4,9 +4,9 @@ use Rattle.protocol.specs.Ledgers.{commits_in, ledger_of}
 use Rattle.protocol.specs.States.{world_of}
 use Rattle.protocol.specs.Worlds.{World, start_world}
 use Rattle.protocol.proofs.LedgerLemmas.{start_empty}
-use Rattle.protocol.proofs.world.World.start.Goals as goal
+use Rattle.protocol.proofs.world.World.start_later.Goals as goal
 
 pub returns-clause-empty : goal.returns-clause-empty
 returns-clause-empty c =
-    let is : world_of c.in_ok-state.state ≡ start_world c.args.threads c.args.rows c.args.seats = (search rules) in
-    ap (λ (w : World). commits_in (ledger_of w.table)) is ∙ start_empty c.args.threads c.args.rows c.args.seats
+    let is : world_of c.in_ok-state.state ≡ start_world c.args.threads c.args.rows c.args.seats c.args.later = (search rules) in
+    ap (λ (w : World). commits_in (ledger_of w.table)) is ∙ start_empty c.args.threads c.args.rows c.args.seats c.args.later
