@@ -1,19 +1,27 @@
 -- Reading from left to right: what stands at the front of the bytes, and the bytes after it.
 use Rattle.std.specs.Prelude.{ℕ, List, drop, codes, Option, Some, None, if◌then◌else◌}
-pub use Rattle.digits.specs.Reading.{◌>>=◌, Gives, digit_of, with_digit, digits_at, number_at, count_at, begins, after_word}
+pub use Rattle.digits.specs.Reading.{◌>>=◌, or_else, Gives, digit_of, with_digit, digits_at, number_at, count_at, begins, after_word}
 use Rattle.protocol_values.specs.declared.Row.{Row}
 use Rattle.protocol_values.specs.declared.Seat.{Seat}
 use Rattle.protocol_values.specs.declared.Step.{Step}
-use Rattle.protocol_values.specs.declared.Step.TheVariants.{Draft, Open, Look, Read, Claim, Yield, Join, Seal, Grant, Take, Bind}
+use Rattle.protocol_values.specs.declared.Step.TheVariants.{Draft, Open, Look, Read, Claim, Yield, Join, Seal, Grant, Take, Bind, Start, Finish}
 use Rattle.protocol_schedule.specs.declared.Size.{Size}
 
 -- STEPS
 
-unfoldable pub row_at : ℕ → List ℕ → Option (Row × List ℕ)
-row_at end bytes = do
+-- a thread, a point, and a sync up to the last
+unfoldable pub sync_at : ℕ → ℕ → List ℕ → Option (Row × List ℕ)
+sync_at last end bytes = do
   thread ← number_at 63 46 bytes
-  sync ← number_at 1023 end thread.1
+  sync ← number_at last end thread.1
   Some (record { thread = thread.0; sync = sync.0 }, sync.1)
+
+abbrev pub row_at : ℕ → List ℕ → Option (Row × List ℕ)
+row_at end bytes = sync_at 1023 end bytes
+
+-- where a thread stands: one of its rows, or the one behind its last
+abbrev pub stand_at : ℕ → List ℕ → Option (Row × List ℕ)
+stand_at end bytes = sync_at 1024 end bytes
 
 -- a row, a space, and a number
 unfoldable pub placed_at : ℕ → ℕ → List ℕ → Option ((Row × ℕ) × List ℕ)
@@ -50,6 +58,17 @@ bind_at bytes = do
   to ← placed_at 3 10 nack.1
   Some (Bind nack.0 to.0.0 to.0.1, to.1)
 
+unfoldable pub start_at : List ℕ → Option (Step × List ℕ)
+start_at bytes = do
+  row ← stand_at 32 bytes
+  thread ← number_at 63 10 row.1
+  Some (Start row.0 thread.0, thread.1)
+
+unfoldable pub finish_at : List ℕ → Option (Step × List ℕ)
+finish_at bytes = do
+  row ← stand_at 10 bytes
+  Some (Finish row.0, row.1)
+
 -- a step that is done to a row alone
 abbrev pub alone_at : (Row → Step) → List ℕ → Option (Step × List ℕ)
 alone_at step bytes = do
@@ -82,7 +101,11 @@ step_at bytes =
     then join_at (drop 5 bytes)
     else (if begins bytes (codes "grant ")
     then grant_at (drop 6 bytes)
-    else (if begins bytes (codes "bind ") then bind_at (drop 5 bytes) else row_step_at bytes))))
+    else (if begins bytes (codes "bind ")
+    then bind_at (drop 5 bytes)
+    else (if begins bytes (codes "start ")
+    then start_at (drop 6 bytes)
+    else (if begins bytes (codes "finish ") then finish_at (drop 7 bytes) else row_step_at bytes))))))
 
 -- LINES
 
@@ -92,10 +115,26 @@ step_line_at bytes = do
   step ← step_at seat.1
   Some ((record { 0 = seat.0 }, step.0), step.1)
 
+-- the seats, where they end the line
+unfoldable pub seats_alone_at : List ℕ → Option ((ℕ × Option ℕ) × List ℕ)
+seats_alone_at bytes = do
+  seats ← count_at 16 10 bytes
+  Some ((seats.0, None), seats.1)
+
+-- the seats, and how many of the threads are started
+unfoldable pub seats_started_at : ℕ → List ℕ → Option ((ℕ × Option ℕ) × List ℕ)
+seats_started_at threads bytes = do
+  seats ← count_at 16 32 bytes
+  started ← count_at threads 10 seats.1
+  Some ((seats.0, Some started.0), started.1)
+
+unfoldable pub seats_at : ℕ → List ℕ → Option ((ℕ × Option ℕ) × List ℕ)
+seats_at threads bytes = or_else (seats_alone_at bytes) (seats_started_at threads bytes)
+
 unfoldable pub world_line_at : List ℕ → Option (Size × List ℕ)
 world_line_at bytes = do
   rest ← after_word (codes "world ") bytes
   threads ← count_at 64 32 rest
   rows ← count_at 1024 32 threads.1
-  seats ← count_at 16 10 rows.1
-  Some (record { threads = threads.0; rows = rows.0; seats = seats.0 }, seats.1)
+  seats ← seats_at threads.0 rows.1
+  Some (record { threads = threads.0; rows = rows.0; seats = seats.0.0; started = seats.0.1 }, seats.1)

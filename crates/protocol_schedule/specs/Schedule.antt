@@ -1,5 +1,5 @@
 -- The text of a schedule: a line for the world, then a line for each step. Each schedule has one text.
-use Rattle.std.specs.Prelude.{◌≡◌, ◌≢◌, ℕ, ◌+◌, ◌^◌, ◌<◌, ◌≤◌, List, [], ◌∷◌, ◌++◌, length, codes, ◌⊎◌}
+use Rattle.std.specs.Prelude.{◌≡◌, ◌≢◌, ℕ, ◌+◌, ◌^◌, ◌<◌, ◌≤◌, List, [], ◌∷◌, ◌++◌, length, codes, ◌⊎◌, Option, Some, None, IfSome}
 use Rattle.std.specs.Fmt.{decimal}
 use Rattle.std.specs.List.{flat_map, AllByRecursion}
 use Rattle.protocol_values.specs.Words.{IsRowInRange}
@@ -38,13 +38,24 @@ step_text (Finish row) = codes "finish " ++ row_text row
 abbrev pub step_line : Seat × Step → List ℕ
 step_line s = decimal s.0.0 ++ codes " " ++ step_text s.1 ++ 10 ∷ []
 
+-- behind the seats: nothing, or how many threads are started
+abbrev pub started_text : Option ℕ → List ℕ
+started_text None = []
+started_text (Some n) = codes " " ++ decimal n
+
 abbrev pub world_line : Size → List ℕ
-world_line w = codes "world " ++ decimal w.threads ++ codes " " ++ decimal w.rows ++ codes " " ++ decimal w.seats ++ 10 ∷ []
+world_line w =
+    codes "world " ++ decimal w.threads ++ codes " " ++ decimal w.rows ++ codes " " ++ decimal w.seats ++ started_text w.started ++ 10 ∷ []
 
 abbrev pub text_of : Plan → List ℕ
 text_of p = world_line p.size ++ flat_map step_line p.steps
 
--- THE RANGES. A schedule has no start and no end of a thread yet
+-- THE RANGES
+
+-- a place where a thread stands: one of its rows, or the one behind its last
+pub record IsStandInRange (r : Row) : Type 0 where
+  pub thread : r.thread < 64
+  pub sync : r.sync ≤ 1024
 
 abbrev pub IsStep : Step → Type 0
 IsStep (Draft row place value) = IsRowInRange row × (place ≤ 33) × (value < 2 ^ 64)
@@ -58,8 +69,8 @@ IsStep (Seal row) = IsRowInRange row
 IsStep (Grant row offer) = IsRowInRange row × (offer ≤ 7)
 IsStep (Take row) = IsRowInRange row
 IsStep (Bind k row scope) = (k ≤ 63) × IsRowInRange row × (scope ≤ 3)
-IsStep (Start row thread) = ⊥
-IsStep (Finish row) = ⊥
+IsStep (Start row thread) = IsStandInRange row × (thread ≤ 63)
+IsStep (Finish row) = IsStandInRange row
 
 pub record IsSeatStep (s : Seat × Step) : Type 0 where
   pub seat : s.0.0 ≤ 15
@@ -72,6 +83,7 @@ pub record IsSize (w : Size) : Type 0 where
   pub rows_high : w.rows ≤ 1024
   pub seats_low : 1 ≤ w.seats
   pub seats_high : w.seats ≤ 16
+  pub started : IfSome w.started (λ n. (1 ≤ n) × (n ≤ w.threads))
 
 pub record IsPlan (p : Plan) : Type 0 where
   pub size : IsSize p.size

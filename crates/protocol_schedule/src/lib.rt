@@ -13,12 +13,17 @@ use protocol_values::{Seat, Step};
 use std::alloc::{AllocFailed, Global};
 use thiserror::Error;
 
-/// How large a world is: its threads, the rows of each thread, and its seats.
+/// How large a world is, and how many of its threads are started in it.
 #[derive(Clone, Copy, Debug, PartialEq, Eq)]
 pub struct Size {
+    /// From 1 to 64.
     pub threads: u8,
+    /// The rows of each thread, from 1 to 1024.
     pub rows: u16,
+    /// From 1 to 16.
     pub seats: u8,
+    /// How many threads are started at first, from 1 to `threads`; without a number all are.
+    pub started: Option<u8>,
 }
 
 /// A world's size, and the steps in order, each with the seat that makes it.

@@ -1,6 +1,6 @@
 //! The lines of a schedule's text, each read from the front of the bytes.
 
-ghost use Rattle.protocol_schedule.specs.Reading.{Gives, number_at, row_at, placed_at, draft_at, read_at, join_at, grant_at, bind_at, row_step_at, step_at, step_line_at, world_line_at};
+ghost use Rattle.protocol_schedule.specs.Reading.{Gives, number_at, sync_at, row_at, stand_at, placed_at, draft_at, read_at, join_at, grant_at, bind_at, start_at, finish_at, row_step_at, step_at, step_line_at, seats_at, world_line_at};
 
 use crate::Size;
 use digits::{count, number};
@@ -15,17 +15,31 @@ fn byte_number(bytes: &[u8], limit: u8, end: u8) -> Option<(u8, &[u8])>
     Some((value as u8, rest))
 }
 
-#[tactic(auto, unfolding(crate::specs::Reading::row_at))]
-fn row_of(bytes: &[u8], end: u8) -> Option<(Row, &[u8])>
-    ensures { Gives (λ x. (x.0, x.1.now)) result (row_at end bytes.now) }
+/// A thread, a point, and a sync up to the last.
+#[tactic(auto, unfolding(crate::specs::Reading::sync_at))]
+fn sync_of(bytes: &[u8], last: u16, end: u8) -> Option<(Row, &[u8])>
+    ensures { Gives (λ x. (x.0, x.1.now)) result (sync_at last end bytes.now) }
 {
     let (thread, rest) = byte_number(bytes, 63, b'.')?;
-    let (sync, rest) = number(rest, 1023, end)?;
+    let (sync, rest) = number(rest, u64::from(last), end)?;
     let row = Row {
         thread,
         sync: sync as u16,
     };
     Some((row, rest))
+}
+
+fn row_of(bytes: &[u8], end: u8) -> Option<(Row, &[u8])>
+    ensures { Gives (λ x. (x.0, x.1.now)) result (row_at end bytes.now) }
+{
+    sync_of(bytes, 1023, end)
+}
+
+/// Where a thread stands: one of its rows, or the one behind its last.
+fn stand(bytes: &[u8], end: u8) -> Option<(Row, &[u8])>
+    ensures { Gives (λ x. (x.0, x.1.now)) result (stand_at end bytes.now) }
+{
+    sync_of(bytes, 1024, end)
 }
 
 /// A row and a number behind it.
@@ -87,6 +101,23 @@ fn bind(bytes: &[u8]) -> Option<(Step, &[u8])>
     Some((Step::Bind { k, row, scope }, rest))
 }
 
+#[tactic(auto, unfolding(crate::specs::Reading::start_at))]
+fn start(bytes: &[u8]) -> Option<(Step, &[u8])>
+    ensures { Gives (λ x. (x.0, x.1.now)) result (start_at bytes.now) }
+{
+    let (row, rest) = stand(bytes, b' ')?;
+    let (thread, rest) = byte_number(rest, 63, LINE_END)?;
+    Some((Step::Start { row, thread }, rest))
+}
+
+#[tactic(auto, unfolding(crate::specs::Reading::finish_at))]
+fn finish(bytes: &[u8]) -> Option<(Step, &[u8])>
+    ensures { Gives (λ x. (x.0, x.1.now)) result (finish_at bytes.now) }
+{
+    let (row, rest) = stand(bytes, LINE_END)?;
+    Some((Step::Finish { row }, rest))
+}
+
 /// A step that is done to a row alone.
 #[tactic(auto, unfolding(crate::specs::Reading::row_step_at))]
 fn row_step(bytes: &[u8]) -> Option<(Step, &[u8])>
@@ -138,6 +169,12 @@ fn step(bytes: &[u8]) -> Option<(Step, &[u8])>
     if let Some(rest) = bytes.strip_prefix(b"bind ") {
         return bind(rest);
     }
+    if let Some(rest) = bytes.strip_prefix(b"start ") {
+        return start(rest);
+    }
+    if let Some(rest) = bytes.strip_prefix(b"finish ") {
+        return finish(rest);
+    }
     row_step(bytes)
 }
 
@@ -151,6 +188,19 @@ pub fn step_line(bytes: &[u8]) -> Option<((Seat, Step), &[u8])>
     Some(((Seat(seat), step), rest))
 }
 
+/// The seats; and, where the line does not end behind them, how many of the threads are started.
+#[tactic(auto, unfolding(crate::specs::Reading::seats_at, crate::specs::Reading::seats_alone_at, crate::specs::Reading::seats_started_at))]
+fn seats(bytes: &[u8], threads: u8) -> Option<((u8, Option<u8>), &[u8])>
+    ensures { Gives (λ x. (x.0, x.1.now)) result (seats_at threads bytes.now) }
+{
+    if let Some((seats, rest)) = count(bytes, 16, LINE_END) {
+        return Some(((seats as u8, None), rest));
+    }
+    let (seats, rest) = count(bytes, 16, b' ')?;
+    let (started, rest) = count(rest, u64::from(threads), LINE_END)?;
+    Some(((seats as u8, Some(started as u8)), rest))
+}
+
 /// The line of the world, and the bytes behind it.
 #[tactic(auto, unfolding(crate::specs::Reading::world_line_at))]
 pub fn world_line(bytes: &[u8]) -> Option<(Size, &[u8])>
@@ -159,11 +209,13 @@ pub fn world_line(bytes: &[u8]) -> Option<(Size, &[u8])>
     let rest = bytes.strip_prefix(b"world ")?;
     let (threads, rest) = count(rest, 64, b' ')?;
     let (rows, rest) = count(rest, 1024, b' ')?;
-    let (seats, rest) = count(rest, 16, LINE_END)?;
+    let threads = threads as u8;
+    let ((seats, started), rest) = seats(rest, threads)?;
     let size = Size {
-        threads: threads as u8,
+        threads,
         rows: rows as u16,
-        seats: seats as u8,
+        seats,
+        started,
     };
     Some((size, rest))
 }
