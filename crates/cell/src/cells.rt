@@ -2,17 +2,18 @@
 //! says; within a call its seat may stand between a claim and a seal, so what a call does is written over the board
 //! and the seat, in the modules beside this one, and told here again of the pass.
 
-ghost use Rattle.std.specs.Prelude.{◌≡◌, ◌≢◌, ◌⊎◌, ◌+◌, ◌<◌, ◌≤◌, ◌∷◌, ◌++◌, [], ℕ, List, None, Some, true, IfOk, IfSome, IfNone, SomeIff, IsTrue, ◌↔◌, length, map, slice_get, IsFalse};
+ghost use Rattle.std.specs.Prelude.{◌≡◌, ◌≢◌, ◌⊎◌, ◌+◌, ◌<◌, ◌≤◌, ◌∷◌, ◌++◌, [], ℕ, List, None, Some, true, IfOk, IfSome, IfNone, SomeIff, IsTrue, ◌↔◌, length, map, slice_get, IsFalse, nat_lt, if◌then◌else◌};
 ghost use Rattle.protocol_values.specs.declared.Direction.{Direction};
 ghost use Rattle.protocol_values.specs.declared.Joined.{Joined};
 ghost use Rattle.protocol_values.specs.declared.Message.{Message};
 ghost use Rattle.protocol_values.specs.declared.Offer.{Offer};
 ghost use Rattle.protocol_values.specs.declared.Row.{Row};
 ghost use Rattle.protocol_values.specs.declared.Cell.TheVariants.{Claimed};
+ghost use Rattle.protocol_values.specs.declared.Course.TheVariants.{Running, Unstarted};
 ghost use Rattle.protocol_values.specs.declared.Step.TheVariants.{Open};
 ghost use Rattle.protocol_values.specs.declared.NackName.{NackName};
 ghost use Rattle.protocol_values.specs.declared.Binding.{Binding};
-ghost use Rattle.protocol.specs.Ledgers.{IsLawful, binding_in, joined_in, offer_in};
+ghost use Rattle.protocol.specs.Ledgers.{IsLawful, binding_in, course_in, joined_in, offer_in};
 ghost use Rattle.protocol.specs.Standing.{AreResults, EachOffersAs, Result, SomeStands};
 ghost use Rattle.protocol.specs.Worlds.{nack_of_row};
 ghost use Rattle.cell.specs.Attempts.{
@@ -70,7 +71,7 @@ use crate::taking::take_row;
 use crate::{nacks, reading};
 use atomic_table::Seat;
 use cell_table::{Board, Shape, View};
-use protocol::{Bare, Ledger, NACKS, ROW_LEN, Resident};
+use protocol::{Bare, Ledger, Resident, start_words};
 use protocol_values::{Cell, Direction, Joined, Message, NackName, Offer, Row};
 use std::alloc::{AllocError, Global};
 use std::marker::Model;
@@ -199,8 +200,7 @@ impl<M: Resident + Drop> Cells<M> {
             passes: u64::from(passes),
             first: Snapshot::of(&first),
         };
-        let words = usize::from(threads) * (usize::from(rows) * ROW_LEN + NACKS);
-        let spare = vec![in alloc; 0; words]?;
+        let spare = start_words(alloc, usize::from(threads), usize::from(rows), 0)?;
         let slots = slots_of(alloc, first)?;
         let (board, mut dealer) = Board::start(alloc, shape, spare.as_slice(), slots)?;
         let mut dealt = Vec::with_capacity(alloc, usize::from(passes))?;
@@ -217,6 +217,7 @@ impl<M: Resident + Drop> Cells<M> {
         requires here { IsPassOf self pass }
         ensures size { (result.threads ≡ self.threads) × (result.rows ≡ self.rows) }
         ensures lawful { IsLawful result }
+        ensures running { (t : ℕ) → course_in result t ≡ (if nat_lt t self.threads then Running 0 else Unstarted) }
         ensures seen { (r : Row) (j : Joined) → Has pass.seen.joined (r, j) → joined_in result r ≡ Some j }
         ensures offers { (r : Row) (n : ℕ) (o : Offer) → SeesOffer pass.seen r n o → offer_in result r n ≡ Some o }
         ensures lacks { (r : Row) (n : ℕ) → SeesNoOffer pass.seen r n → offer_in result r n ≡ None }

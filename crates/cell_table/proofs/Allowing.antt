@@ -22,7 +22,7 @@ use Rattle.protocol_values.specs.declared.Cell.{Cell}
 use Rattle.protocol_values.specs.declared.Cell.TheVariants.{Fresh, Waiting, Claimed, Synched, Taken}
 use Rattle.protocol.specs.Tables.{Table, place_of, is_row, is_fresh, cell_at, joined_at, names, is_partner, word_at, row_eq, synched_of, is_taken}
 use Rattle.protocol_values.specs.Values.{joined_of, next_row}
-use Rattle.protocol.specs.Worlds.{World, Condition, after_step, namer_at, joined_with, mirrored, with_seal, with_table, with_cell, with_word, holder_at, with_holders, with_take, handed, Allowed}
+use Rattle.protocol.specs.Worlds.{World, Condition, after_step, namer_at, joined_with, mirrored, with_seal, with_table, with_cell, with_word, holder_at, with_take, Allowed}
 use Rattle.protocol.specs.Kept.{Kept}
 use Rattle.protocol.proofs.RowLemmas.{row_ne, row_cases, row_eq-refl, same_row, put, put_other, put_same}
 use Rattle.protocol.proofs.Naming.{namer_none, namer_is}
@@ -42,7 +42,7 @@ use Rattle.protocol.proofs.Onward.{grows-step}
 use Rattle.protocol.proofs.Results.{joined-results}
 use Rattle.protocol.proofs.Standing.{results-stay}
 use Rattle.cell_table.specs.Nacks.{CanGrant}
-use Rattle.cell_table.proofs.Following.{knows_follows, knows_owned, hold_more, taken_world, not_held, next_unopened, follows_taken, bindings_after, next_unbound, taken_at, next_held}
+use Rattle.cell_table.proofs.Following.{alive_known, knows_follows, knows_owned, hold_more, taken_world, not_held, next_unopened, follows_taken, bindings_after, next_unbound, taken_at, next_held}
 use Rattle.cell_table.specs.Views.{Knows, Staged, IsClaimer, at_stage, first_row, did, took, took_with, saw, read_word, drafted_word, turned, word_drafted}
 use Rattle.cell_table.proofs.Truths.{offers_known, joined_known, granted_known, agrees, coherent}
 use Rattle.cell_table.specs.Rule.{Housed, IsHome, IsReady, IsToBegin, Keeps}
@@ -149,7 +149,7 @@ module _ {M : Type 0} (stands : Stands M) where
       wrote_word d resting held unopened high formed =
           let mine = known.mine r held in
           let fresh = known.fresh r held unopened in
-          keeps_step stands shape s k id me.0 (drafted_word r p d me.0) _ k.owner view at_table refl refl refl (λ q h. h) (Draft r p d) (λ q e. let bad : Draft r p d ≡ Open q = e in cc) (known.seat, (mine.1, fresh, high, omega arith, formed))
+          keeps_step stands shape s k id me.0 (drafted_word r p d me.0) _ k.owner view at_table refl refl refl (λ q h. h) (Draft r p d) (λ q e. let bad : Draft r p d ≡ Open q = e in cc) (known.seat, (mine.1, fresh, alive_known k.world k.owner id me.0 known r.thread (row_inside k.world.table r is_its_row).0, high, omega arith, formed))
           (record { same = (refl, refl, refl); acted = rests resting; acts = rests resting; held = λ q h. h; binds = λ n q scope e. let bad : Draft r p d ≡ Bind n q scope = e in cc }) (λ t rs h. inl h)
           (ap (λ (t : Table). with_word t r p d) k.table ∙ ap (λ (n : ℕ). sized shape (slice_set s.words n d)) (sym here))
           (λ j u n e t. others_draft k.world r p d k.owner kept is_its_row high low fresh j u (k.knows j u e t) (λ o. n (sym o ∙ mine.0)))
@@ -225,7 +225,7 @@ module _ {M : Type 0} (stands : Stands M) where
         open_world = later Waiting zero tt refl (ap joined_of fresh_now) (ap is_taken fresh_now)
 
         allowed_open : Allowed k.world seat (Open r)
-        allowed_open = (known.seat, ((known.mine r held).1, fresh_now))
+        allowed_open = (known.seat, ((known.mine r held).1, fresh_now, alive_known k.world k.owner id me.0 known r.thread (row_inside k.world.table r is_its_row).0))
 
         opened_knows : Knows open_world k.owner id (turned Resting r me.0)
         opened_knows = knows_now Waiting zero tt refl (ap joined_of fresh_now) (ap is_taken fresh_now) Resting tt (λ e. let bad : Waiting ≡ Claimed = e in cc) (λ q e h. subst (λ (z : Stage). IsClaimer z q) resting h)
@@ -388,7 +388,7 @@ module _ {M : Type 0} (stands : Stands M) where
           taker = did (Take r) (took_with r j results me.0)
 
           after_take : after_step k.world seat (Take r) ≡ later_taken
-          after_take = ap (λ (o : Option Joined). with_holders (with_table k.world (with_take k.world.table r o)) (handed k.world.table k.world.holders seat r)) (ap synched_of is)
+          after_take = ap (λ (o : Option Joined). Rattle.protocol.proofs.Keeping.took k.world seat r (with_take k.world.table r o)) (ap synched_of is)
 
           allowed_take : Allowed k.world seat (Take r)
           allowed_take = (known.seat, ap (λ (o : Option Joined). is_some o) (ap synched_of is))

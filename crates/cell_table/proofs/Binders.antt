@@ -1,6 +1,5 @@
 -- A nack that is bound was bound by a pass of the table: only a bind binds.
 use Rattle.std.proofs.Common.{◌⊎◌, ◌≡◌, ◌≤◌, ℕ, Bool, true, false, cond, List, [], ◌∷◌, length, sym, refl, ap, ◌∙◌, subst, inl, inr, ⊎_elim, arith, Option, Some, None, eqb}
-use Rattle.std.proofs.lemmas.Bool.{eqb-true}
 use mathlib.Core.Option.{some}
 use lib.ListN.{get_elem?}
 use Rattle.protocol_values.specs.declared.Binding.{Binding}
@@ -13,11 +12,11 @@ use Rattle.protocol_values.specs.declared.Seat.{Seat}
 use Rattle.protocol_values.specs.declared.Step.{Step}
 use Rattle.protocol_values.specs.declared.Step.TheVariants.{Draft, Open, Look, Read, Claim, Yield, Join, Seal, Grant, Take, Bind, Start, Finish}
 use Rattle.protocol.specs.Kept.{Kept}
-use Rattle.protocol.specs.Tables.{Table, binding_at, bound_row, is_fresh, is_row, synched_of}
+use Rattle.protocol.specs.Tables.{Table, binding_at, is_fresh, is_row, synched_of}
 use Rattle.protocol.specs.Worlds.{Allowed, Plays, World, after_step, nack_of_row, namer_at, sealed_by, with_cell, with_seal, with_take}
 use Rattle.protocol.proofs.Keeping.{bind_in_range, held_row, kept_schedule}
 use Rattle.protocol.proofs.Places.{row_inside}
-use Rattle.protocol.proofs.Readings.{binding_after_cell, binding_after_word, binding_was, row_of_open}
+use Rattle.protocol.proofs.Readings.{binding_after_cell, binding_after_life, binding_after_word, binding_was, row_of_open}
 use Rattle.cell_table.specs.declared.view.View.{View}
 use Rattle.cell_table.specs.Rule.{Interleaves, Move, at_seat, in_order, steps_by}
 use Rattle.cell_table.specs.Sight.{Has}
@@ -38,7 +37,7 @@ take_binds t x None n b row e = e
 take_binds t x (Some j) n b row e = cell_binds t x (Taken j) n b row e
 
 step_binds : (w : World) (seat : Seat) (step : Step) (n : NackName) (b : Binding) → Kept w → Allowed w seat step → binding_at (after_step w seat step).table n ≡ Some b → (binding_at w.table n ≡ Some b) ⊎ (step ≡ bind_of n b)
-step_binds w seat (Draft x p v) n b k a e = let high = a.1.3 in inl (ap (λ (f : NackName → Option Binding). f n) (sym (binding_after_word w.table x p v (held_row w x seat.0 a.1.0) (omega arith))) ∙ e)
+step_binds w seat (Draft x p v) n b k a e = let high = a.1.4 in inl (ap (λ (f : NackName → Option Binding). f n) (sym (binding_after_word w.table x p v (held_row w x seat.0 a.1.0) (omega arith))) ∙ e)
 step_binds w seat (Open x) n b k a e = inl (cell_binds w.table x Waiting n b (held_row w x seat.0 a.1.0) e)
 step_binds w seat (Look x) n b k a e = inl e
 step_binds w seat (Read x p) n b k a e = inl e
@@ -53,9 +52,9 @@ step_binds w seat (Bind m x scope) n b k a e =
     ⊎_elim
     (λ (old : binding_at w.table n ≡ Some b). inl old)
     (λ (new : (nack_of_row x m ≡ n) × (record { sync = x.sync; scope = scope } ≡ b)). inr (λ i. bind_of (new.0 i) (new.1 i)))
-    (binding_was w.table (nack_of_row x m) (record { sync = x.sync; scope = scope }) k.sized (nack_from w.table (nack_of_row x m) (row_inside w.table x row).0 a.1.2) (bind_in_range w x scope k row a.1.3) n b e)
-step_binds w seat (Start x thread) n b k a e = inl e
-step_binds w seat (Finish x) n b k a e = inl e
+    (binding_was w.table (nack_of_row x m) (record { sync = x.sync; scope = scope }) k.sized (nack_from w.table (nack_of_row x m) (row_inside w.table x row).0 a.1.3) (bind_in_range w x scope k row a.1.4) n b e)
+step_binds w seat (Start x thread) n b k a e = inl (ap (λ (f : NackName → Option Binding). f n) (sym (binding_after_life w.table thread _)) ∙ e)
+step_binds w seat (Finish x) n b k a e = inl (ap (λ (f : NackName → Option Binding). f n) (sym (binding_after_life w.table x.thread _)) ∙ e)
 
 -- A HISTORY: what is bound after it, and was not before, was bound by a move
 move_binds : (w v : World) (moves : List Move) (n : NackName) (b : Binding) → Kept w → Plays w (in_order moves) v → binding_at v.table n ≡ Some b → (binding_at w.table n ≡ Some b) ⊎ ((m : Move) × Has moves m × (m.step ≡ bind_of n b))

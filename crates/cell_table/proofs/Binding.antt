@@ -11,6 +11,7 @@ use Rattle.protocol_values.specs.Words.{nack_of, nack_word, IsBindingInRange}
 use Rattle.protocol_values.proofs.WordLemmas.{nack_of-nack_word, nack_word-nack_of}
 use Rattle.protocol_values.specs.declared.NackName.{NackName}
 use Rattle.protocol_values.specs.declared.Binding.{Binding}
+use Rattle.protocol_values.specs.declared.Course.{Course}
 use Rattle.protocol_values.specs.declared.Row.{Row}
 use Rattle.protocol.specs.Tables.{Table, bound_row, cell_at, is_fresh, is_nack, is_taken, nack_at, nack_place, binding_at}
 use Rattle.protocol_values.specs.Values.{joined_of}
@@ -18,7 +19,7 @@ use Rattle.protocol.specs.Worlds.{World, holder_at, with_nack, with_table}
 use Rattle.protocol.specs.Kept.{Kept}
 use Rattle.protocol.proofs.Linking.{cases_Option, some_inj, some_parts}
 use Rattle.protocol.proofs.Places.{same_nack_place, word_bound}
-use Rattle.protocol.proofs.Readings.{binding_inside, binding_bound, binding_kept, binding_was, cell_after_bind}
+use Rattle.protocol.proofs.Readings.{course_after_bind, binding_inside, binding_bound, binding_kept, binding_was, cell_after_bind}
 use Rattle.protocol.proofs.Keeping.{holder_same, taken_before}
 use Rattle.cell_table.specs.declared.view.View.{View}
 use Rattle.cell_table.specs.declared.view.Shape.{Shape}
@@ -34,7 +35,7 @@ use Rattle.protocol_values.specs.declared.Cell.{Cell}
 use Rattle.protocol_values.specs.declared.Cell.TheVariants.{Fresh, Waiting, Claimed, Synched, Taken}
 use Rattle.cell_table.specs.Told.{AgreesNack, AgreesWithItself, AtNack, InsideNack, IsEarlier, looked_nack, nack_read, tried_bind}
 use Rattle.cell_table.proofs.Allowing.{sized}
-use Rattle.cell_table.proofs.Following.{Follows, knows_bound, knows_follows}
+use Rattle.cell_table.proofs.Following.{Follows, alive_known, knows_bound, knows_follows}
 use Rattle.cell_table.proofs.Others.{learn_nack}
 use Rattle.cell_table.proofs.Truths.{coherent}
 use Rattle.cell_table.proofs.Seating.{Stays}
@@ -86,6 +87,7 @@ follows_bind w m b nack free = record {
   words = λ r p i low high. word_bound w.table m b r p nack i high;
   held = λ r s h. holder_same w (with_nack w.table m b) r refl refl ∙ h;
   bound = λ n c e. binding_kept w.table m b nack free n c e;
+  courses = λ p. ap (λ (f : ℕ → Course). f p) (course_after_bind w.table m b nack);
 }
 
 taken_opened : (c : Cell) → is_taken c ≡ true → is_fresh c ≡ false
@@ -242,7 +244,7 @@ module _ {M : Type 0} (stands : Stands M) where
         binds =
             let mine = known.mine (bound_row nack b) held in
             keeps_step stands shape s k id me.0 (bound_nack nack b me.0) _ k.owner view at_table refl refl refl (λ q h. h) (bind_of nack b) (λ q e. let bad : bind_of nack b ≡ Open q = e in cc)
-            (known.seat, (mine.1, known.fresh (bound_row nack b) held unopened, inside.1, range.scope, free))
+            (known.seat, (mine.1, known.fresh (bound_row nack b) held unopened, alive_known k.world k.owner id me.0 known nack.thread (subst (λ (n : ℕ). nack.thread < n) (sym (ap (λ (t : Table). t.threads) k.table)) inside.0), inside.1, range.scope, free))
             (record { same = (refl, refl, refl); acted = rests; acts = rests; held = λ q h. h; binds = λ n q scope e. subst (Has me.0.seen.held) (ap row_bound e) held }) (λ t rs h. inl h)
             (ap (λ (t : Table). with_nack t nack b) k.table ∙ ap (λ (n : ℕ). sized shape (slice_set s.words n (nack_word (Some b)))) (sym here))
             (λ j u n e t. others j u n (k.knows j u e t))

@@ -5,17 +5,19 @@ use Rattle.std.proofs.Math.Bool.{and-false}
 use Rattle.std.proofs.Math.Dec.{ltb}
 use Rattle.std.proofs.lemmas.List.{length-append, length-set}
 use Rattle.std.proofs.Math.Nat.{mod-lt}
-use mathlib.Core.Option.{some, none}
+use mathlib.Core.Option.{some}
 use lib.ListN.{get_elem?}
 use Rattle.atomic_table.specs.Table.{State, Splits, opening}
 use Rattle.atomic_table.proofs.Lists.{at_set}
 use Rattle.protocol_values.specs.declared.NackName.{NackName}
 use Rattle.protocol_values.specs.declared.Binding.{Binding}
+use Rattle.protocol_values.specs.declared.Course.TheVariants.{Unstarted, Running}
 use Rattle.protocol_values.specs.declared.Row.{Row}
 use Rattle.protocol_values.specs.declared.Cell.TheVariants.{Fresh, Claimed}
-use Rattle.protocol.specs.Tables.{thread_len, cell_at, word_at, binding_at, bound_row, is_fresh}
-use Rattle.protocol.specs.Worlds.{World, start_world, holder_at}
-use Rattle.protocol.proofs.LedgerLemmas.{start_binding, start_cell, start_holder, start_word}
+use Rattle.protocol.specs.Tables.{course_at, thread_len, cell_at, word_at, binding_at, bound_row, is_fresh}
+use Rattle.protocol.specs.Worlds.{World, start_world, holder_at, with_lives}
+use Rattle.protocol.proofs.LedgerLemmas.{nobody_waits, start_binding, start_cell, start_course, start_holder, start_word}
+use Rattle.protocol.proofs.Places.{row_from}
 use Rattle.protocol.proofs.RowLemmas.{same_row}
 use Rattle.protocol.specs.Standing.{AreResults, Result, SomeStands, Stands}
 use Rattle.protocol.specs.Ledgers.{ledger_of}
@@ -33,14 +35,15 @@ use Rattle.protocol.proofs.Standing.{stands-start}
 
 module _ {M : Type 0} where
   -- a pass that has seen nothing
-  knows_nothing : (w : World) (owner : Row → ℕ) (id : ℕ) (shape : Shape M) (k : ℕ) → shape.threads ≡ w.table.threads → shape.rows ≡ w.table.rows → shape.passes ≡ w.seats → 0 < w.seats
+  knows_nothing : (w : World) (owner : Row → ℕ) (id : ℕ) (shape : Shape M) (k : ℕ) → shape.threads ≡ w.table.threads → shape.rows ≡ w.table.rows → shape.passes ≡ w.seats → 0 < w.seats → ((t : ℕ) → t < w.table.threads → course_at w.table t ≡ Running 0)
       → ((t : ℕ) → t < w.table.threads → k ≤ t % w.seats → (owner (first_row t) ≡ id) × (holder_at w (first_row t) ≡ Some (t % w.seats)) × (cell_at w.table (first_row t) ≡ Fresh) × (word_at w.table (first_row t) 1 ≡ 0) × ((n : NackName) (b : Binding) → binding_at w.table n ≡ Some b → bound_row n b ≢ first_row t))
       → Knows {M = M} w owner id (dealer shape k)
-  knows_nothing w owner id shape k threads rows passes one_seat undealt = record {
+  knows_nothing w owner id shape k threads rows passes one_seat running undealt = record {
     threads = threads;
     rows = rows;
     passes = passes;
     seat = one_seat;
+    running = running;
     undealt = λ t h d. let u = undealt t h d in (u.0, u.1, (λ n. u.2), (λ n. u.3), λ n b e same. absurd (u.4 n b e same));
     mine = λ r h. absurd h;
     calm = λ r h e. absurd h;
@@ -57,7 +60,7 @@ module _ {M : Type 0} where
 
 module _ {M : Type 0} (stands : Stands M) where
   -- THE START
-  pub keeps_start : (shape : Shape M) (ws : List ℕ) (xs : List (Option M)) → xs ≡ map Some shape.first.value.items → (0 < length shape.first.value.items → length shape.first.value.items ≡ shape.threads) → shape.threads ≤ 64 → 1 ≤ shape.rows → shape.rows ≤ 1024 → 1 ≤ shape.passes → ws ≡ replicate (shape.threads * thread_len shape.rows) 0
+  pub keeps_start : (shape : Shape M) (ws : List ℕ) (xs : List (Option M)) → xs ≡ map Some shape.first.value.items → (0 < length shape.first.value.items → length shape.first.value.items ≡ shape.threads) → shape.threads ≤ 64 → 1 ≤ shape.rows → shape.rows ≤ 1024 → 1 ≤ shape.passes → ws ≡ with_lives 0 shape.rows shape.threads (replicate (shape.threads * thread_len shape.rows) 0)
       → Keeps stands shape (opening ws xs (dealer shape 0))
   unfolding start_world
   keeps_start shape ws xs slots full few one_row few_rows one_pass zeros = record {
@@ -65,7 +68,7 @@ module _ {M : Type 0} (stands : Stands M) where
     few_rows = few_rows;
     moves = [];
     interleaved = record { made = λ id v e. one_view id v e; no_others = λ id h. refl };
-    world = start_world shape.threads shape.rows shape.passes;
+    world = start_world shape.threads shape.rows shape.passes 0;
     played = refl;
     table = ap (λ (z : List ℕ). record { threads = shape.threads; rows = shape.rows; words = z }) (sym zeros);
     owner = λ r. 0;
@@ -85,32 +88,32 @@ module _ {M : Type 0} (stands : Stands M) where
       lies (f ∷ fs) zero h = (f, refl, refl)
       lies (f ∷ fs) (suc t) h = lies fs t (omega arith)
 
-      house : 0 < length shape.first.value.items → Housed stands shape.first.value.items (start_world shape.threads shape.rows shape.passes) (map some xs) (dealer shape 0 ∷ [])
+      house : 0 < length shape.first.value.items → Housed stands shape.first.value.items (start_world shape.threads shape.rows shape.passes 0) (map some xs) (dealer shape 0 ∷ [])
       house some_first = record {
-        rows = stands-start (SomeStands stands shape.first.value.items) shape.threads shape.rows shape.passes;
-        at_home = λ r open_r untaken. absurd (true≢false (sym (ap is_fresh (start_cell shape.threads shape.rows r)) ∙ open_r));
+        rows = stands-start (SomeStands stands shape.first.value.items) shape.threads shape.rows shape.passes 0;
+        at_home = λ r open_r untaken. absurd (true≢false (sym (ap is_fresh (start_cell shape.threads shape.rows 0 r)) ∙ open_r));
         waiting = λ id v r e t b. waits id v r e b;
       }
         where
-          waits_at : (r : Row) → r.thread < shape.threads → Waits shape.first.value.items (start_world shape.threads shape.rows shape.passes) (map some xs) r
+          waits_at : (r : Row) → r.thread < shape.threads → Waits shape.first.value.items (start_world shape.threads shape.rows shape.passes 0) (map some xs) r
           waits_at r low =
               let f = full some_first in
               let there = lies shape.first.value.items r.thread (omega arith) in
               record {
-                fresh = ap is_fresh (start_cell shape.threads shape.rows r);
+                fresh = ap is_fresh (start_cell shape.threads shape.rows 0 r);
                 value = there.0;
                 is_first = there.1;
                 home = ap (λ (ys : List (Option M)). get_elem? (map some ys) r.thread) slots ∙ there.2;
               }
 
-          waits : (id : ℕ) (v : View M) (r : Row) → get_elem? (dealer shape 0 ∷ []) id ≡ some v → IsToBegin v r → Waits shape.first.value.items (start_world shape.threads shape.rows shape.passes) (map some xs) r
+          waits : (id : ℕ) (v : View M) (r : Row) → get_elem? (dealer shape 0 ∷ []) id ≡ some v → IsToBegin v r → Waits shape.first.value.items (start_world shape.threads shape.rows shape.passes 0) (map some xs) r
           waits zero v r e b = ⊎_elim
               (λ (h : ⊥). absurd h)
               (λ (d : (r.thread < shape.threads) × (0 ≤ r.thread % shape.passes)). waits_at r d.0)
               (subst (λ (u : View M). IsToBegin u r) (sym (mathlib.Core.Option.some-injective _ _ e)) b).1
           waits (suc id) v r e b = absurd (mathlib.Core.Option.some-ne-none v (sym e))
 
-      no_results : (id : ℕ) (v : View M) (t : ℕ) (rs : List Result) → get_elem? (dealer shape 0 ∷ []) id ≡ some v → Has v.results (t, rs) → AreResults (ledger_of (start_world shape.threads shape.rows shape.passes).table) t rs
+      no_results : (id : ℕ) (v : View M) (t : ℕ) (rs : List Result) → get_elem? (dealer shape 0 ∷ []) id ≡ some v → Has v.results (t, rs) → AreResults (ledger_of (start_world shape.threads shape.rows shape.passes 0).table) t rs
       no_results zero v t rs e h = absurd (subst (λ (u : View M). Has u.results (t, rs)) (sym (mathlib.Core.Option.some-injective _ _ e)) h)
       no_results (suc id) v t rs e h = absurd (mathlib.Core.Option.some-ne-none v (sym e))
 
@@ -118,12 +121,13 @@ module _ {M : Type 0} (stands : Stands M) where
       one_view zero v e = ap (λ (u : View M). at_seat u.seat u.made) (mathlib.Core.Option.some-injective _ _ e)
       one_view (suc id) v e = absurd (mathlib.Core.Option.some-ne-none v (sym e))
 
-      first : Knows {M = M} (start_world shape.threads shape.rows shape.passes) (λ r. 0) 0 (dealer shape 0)
-      first = knows_nothing (start_world shape.threads shape.rows shape.passes) (λ r. 0) 0 shape 0 refl refl refl one_pass
-          (λ t h d. (refl, start_holder shape.threads shape.rows shape.passes (first_row t) h one_row, start_cell shape.threads shape.rows (first_row t), start_word shape.threads shape.rows (first_row t) 1, λ n b e same. let bad : None ≡ Some b = sym (start_binding shape.threads shape.rows n) ∙ e in cc))
+      first : Knows {M = M} (start_world shape.threads shape.rows shape.passes 0) (λ r. 0) 0 (dealer shape 0)
+      first = knows_nothing (start_world shape.threads shape.rows shape.passes 0) (λ r. 0) 0 shape 0 refl refl refl one_pass
+          (λ t h. start_course shape.threads shape.rows 0 t h ∙ ap (λ b. cond b Unstarted (Running 0)) (nobody_waits t))
+          (λ t h d. (refl, start_holder shape.threads shape.rows shape.passes 0 (first_row t) h one_row ∙ ap (λ b. cond b None (Some (t % shape.passes))) (nobody_waits t), start_cell shape.threads shape.rows 0 (first_row t), start_word shape.threads shape.rows 0 (first_row t) 1 (row_from (start_world shape.threads shape.rows shape.passes 0).table (first_row t) h one_row) (omega arith), λ n b e same. let bad : None ≡ Some b = sym (start_binding shape.threads shape.rows 0 n) ∙ e in cc))
 
-      knows_at : (id : ℕ) (v : View M) → get_elem? (dealer shape 0 ∷ []) id ≡ some v → 0 < v.threads → Knows (start_world shape.threads shape.rows shape.passes) (λ r. 0) id v
-      knows_at zero v e t = subst (λ (u : View M). Knows (start_world shape.threads shape.rows shape.passes) (λ r. 0) 0 u) (mathlib.Core.Option.some-injective _ _ e) first
+      knows_at : (id : ℕ) (v : View M) → get_elem? (dealer shape 0 ∷ []) id ≡ some v → 0 < v.threads → Knows (start_world shape.threads shape.rows shape.passes 0) (λ r. 0) id v
+      knows_at zero v e t = subst (λ (u : View M). Knows (start_world shape.threads shape.rows shape.passes 0) (λ r. 0) 0 u) (mathlib.Core.Option.some-injective _ _ e) first
       knows_at (suc id) v e t = absurd (mathlib.Core.Option.some-ne-none v (sym e))
 
 -- THE ROWS OF ONE SEAT
@@ -228,7 +232,7 @@ module _ {M : Type 0} (stands : Stands M) where
     some_seats = was.seat
 
     left : Knows {M = M} h.world owner' id (dealer shape (k + 1))
-    left = knows_nothing h.world owner' id shape (k + 1) was.threads was.rows was.passes some_seats (λ t i d.
+    left = knows_nothing h.world owner' id shape (k + 1) was.threads was.rows was.passes some_seats was.running (λ t i d.
         let u = was.undealt t i (omega arith) in
         let m = mod_seats t in
         (ap (λ (b : Bool). cond b new (h.owner (first_row t))) (ap (λ (b : Bool). ltb t shape.threads && b) (ne_eqb (t % shape.passes) k (λ e. omega arith)) ∙ and-false (ltb t shape.threads)) ∙ u.0, u.1, u.2 (λ z. z), u.3 (λ l. l.1), u.4))
@@ -252,6 +256,7 @@ module _ {M : Type 0} (stands : Stands M) where
       rows = was.rows;
       passes = was.passes;
       seat = subst (λ (n : ℕ). k < n) was.passes below;
+      running = was.running;
       undealt = λ t i d. let m = mod-lt t some_seats in let p = was.passes in absurd (omega arith);
       mine = λ r i. let g = dealt_row r i in (g.0, g.1);
       calm = λ r i e. let g = dealt_row r i in let bad : Fresh ≡ Claimed = sym g.2 ∙ e in cc;

@@ -1,5 +1,6 @@
 -- The words of a table at its end, and what their ledger says.
-use Rattle.std.proofs.Common.{Option, ◌≡◌, ℕ, zero, suc, ◌+◌, ◌<◌, ◌≤◌, List, [], ◌∷◌, length, slice_index, slice_set, slice_get, get_or, sym, ap, ◌∙◌, subst, ⊎_elim, arith, Some, None}
+use Rattle.std.proofs.Common.{Option, Bool, true, false, cond, ltb, ◌≡◌, ℕ, zero, suc, ◌+◌, ◌<◌, ◌≤◌, List, [], ◌∷◌, length, slice_index, slice_set, slice_get, get_or, sym, ap, ◌∙◌, subst, ⊎_elim, arith, Some, None}
+use Rattle.std.proofs.lemmas.Bool.{ltb-false, ltb-true}
 use Rattle.std.proofs.lemmas.List.{ext_get_or, get_or-set_same, get_or-set_other}
 use mathlib.Core.Option.{some, none}
 use lib.ListN.{get_elem?}
@@ -8,11 +9,14 @@ use Rattle.protocol_values.specs.declared.Joined.{Joined}
 use Rattle.protocol_values.specs.declared.Offer.{Offer}
 use Rattle.protocol_values.specs.declared.NackName.{NackName}
 use Rattle.protocol_values.specs.declared.Binding.{Binding}
+use Rattle.protocol_values.specs.declared.Course.{Course}
+use Rattle.protocol_values.specs.declared.Course.TheVariants.{Unstarted, Running}
 use Rattle.protocol_values.specs.declared.Row.{Row}
-use Rattle.protocol.specs.Tables.{Table, joined_at}
-use Rattle.protocol.specs.Ledgers.{ledger_of, IsLawful, binding_in, joined_in, offer_in}
-use Rattle.protocol.proofs.LedgerLemmas.{binding_in_ledger, lawful_ledger, joined_in_ledger, offer_in_ledger}
+use Rattle.protocol.specs.Tables.{Table, course_at, joined_at}
+use Rattle.protocol.specs.Ledgers.{ledger_of, IsLawful, binding_in, course_in, joined_in, offer_in}
+use Rattle.protocol.proofs.LedgerLemmas.{binding_in_ledger, course_in_ledger, lawful_ledger, joined_in_ledger, offer_in_ledger}
 use Rattle.protocol.specs.Standing.{AreResults, EachOffersAs, Result, SomeStands, Stands}
+use Rattle.protocol.proofs.Readings.{course_outside}
 use Rattle.protocol.proofs.Standing.{stands-ledger}
 use Rattle.cell_table.specs.declared.view.View.{View}
 use Rattle.cell_table.specs.declared.view.Shape.{Shape}
@@ -65,6 +69,16 @@ module _ {M : Type 0} (stands : Stands M) where
 
     pub final_bound : (n : NackName) (b : Binding) → Has v.seen.bound (n, b) → binding_in (ledger_of (sized shape ws)) n ≡ Some b
     final_bound n b h = subst (λ (t : Table). binding_in (ledger_of t) n ≡ Some b) table_is (ap (λ (f : NackName → _). f n) (binding_in_ledger kept.world.table) ∙ known.bound n b h)
+
+    -- all threads run
+    pub final_running : (t : ℕ) → course_in (ledger_of (sized shape ws)) t ≡ cond (ltb t shape.threads) (Running 0) Unstarted
+    final_running t =
+        subst (λ (u : Table). course_in (ledger_of u) t ≡ cond (ltb t u.threads) (Running 0) Unstarted) table_is
+        (ap (λ (f : ℕ → Course). f t) (course_in_ledger kept.world.table) ∙ by (ltb t kept.world.table.threads) (λ i. ltb t kept.world.table.threads))
+      where
+        by : (b : Bool) → ltb t kept.world.table.threads ≡ b → course_at kept.world.table t ≡ cond b (Running 0) Unstarted
+        by true e = known.running t (ltb-true t kept.world.table.threads e)
+        by false e = course_outside kept.world.table t (ltb-false t kept.world.table.threads e)
 
     pub final_own : (r : Row) (j : Joined) (offers : List Offer) → IsDraft v.seen r offers → joined_in (ledger_of (sized shape ws)) r ≡ Some j
         → (j.own < length offers) × (offer_in (ledger_of (sized shape ws)) r j.own ≡ slice_get offers j.own)

@@ -4,18 +4,19 @@ use Rattle.std.proofs.lemmas.Bool.{cases_Bool, false≢true}
 use Rattle.protocol_values.specs.declared.Seat.{Seat}
 use Rattle.protocol_values.specs.declared.NackName.{NackName}
 use Rattle.protocol_values.specs.declared.Binding.{Binding}
+use Rattle.protocol_values.specs.declared.Course.{Course}
 use Rattle.protocol_values.specs.declared.Row.{Row}
 use Rattle.protocol_values.specs.declared.Joined.{Joined}
 use Rattle.protocol_values.specs.declared.Cell.{Cell}
 use Rattle.protocol_values.specs.declared.Cell.TheVariants.{Fresh, Claimed, Synched, Taken}
-use Rattle.protocol.specs.Tables.{is_row, row_eq, is_fresh, is_taken, names, word_at, cell_at, joined_at, binding_at, bound_row}
+use Rattle.protocol.specs.Tables.{course_at, is_row, row_eq, is_fresh, is_taken, names, word_at, cell_at, joined_at, binding_at, bound_row}
 use Rattle.protocol_values.specs.Values.{next_row, joined_of}
-use Rattle.protocol.specs.Worlds.{World, holder_at, with_cell, with_table, with_holders, handed}
+use Rattle.protocol.specs.Worlds.{HasEnded, IsAlive, World, handed_last, holder_at, with_cell, with_table, with_holders, handed}
 use Rattle.protocol.specs.Kept.{Kept}
 use Rattle.protocol.proofs.RowLemmas.{row_cases, row_ne, put, put_same, put_other}
 use Rattle.protocol.proofs.Linking.{cases_Option}
-use Rattle.protocol.proofs.Readings.{row_of_open, row_after_cell, binding_after_cell}
-use Rattle.protocol.proofs.Keeping.{held_row, open_held, hand_other, hand_next, handed_same, cells_taken}
+use Rattle.protocol.proofs.Readings.{row_of_open, row_after_cell, binding_after_cell, course_after_cell}
+use Rattle.protocol.proofs.Keeping.{held_row, holder_lasted, open_held, hand_other, hand_next, handed_same, cells_taken, took}
 use Rattle.protocol.proofs.Places.{word_other}
 use Rattle.cell_table.specs.declared.view.View.{View}
 use Rattle.cell_table.specs.declared.view.Stage.{Stage}
@@ -36,6 +37,7 @@ pub record Follows (w u : World) : Type 0 where
   pub words : (r : Row) (p : ℕ) → is_row w.table r ≡ true → 1 ≤ p → p < 34 → word_at u.table r p ≡ word_at w.table r p
   pub held : (r : Row) (seat : ℕ) → holder_at w r ≡ Some seat → holder_at u r ≡ Some seat
   pub bound : (n : NackName) (b : Binding) → binding_at w.table n ≡ Some b → binding_at u.table n ≡ Some b
+  pub courses : (p : ℕ) → course_at u.table p ≡ course_at w.table p
 
 staged_follows : (w u : World) (owner : Row → ℕ) (id : ℕ) (stage : Stage) → Follows w u → Staged w owner id stage → Staged u owner id stage
 staged_follows w u owner id Resting f h = tt
@@ -59,6 +61,7 @@ module _ {M : Type 0} where
       rows = k.rows ∙ sym f.rows;
       passes = k.passes ∙ sym f.seats;
       seat = subst (λ (n : ℕ). v.seat < n) (sym f.seats) k.seat;
+      running = λ t h. f.courses t ∙ k.running t (subst (λ (n : ℕ). t < n) f.threads h);
       undealt = λ t h d.
           let m : t % u.seats ≡ t % w.seats = ap (λ (n : ℕ). t % n) f.seats in
           let a = k.undealt t (subst (λ (n : ℕ). t < n) f.threads h) (subst (λ (n : ℕ). v.dealt ≤ n) m d) in (
@@ -84,6 +87,11 @@ module _ {M : Type 0} where
   pub knows_follows : (w u : World) (owner : Row → ℕ) (id : ℕ) (v : View M) → Follows w u → ((n : NackName) (b : Binding) → binding_at u.table n ≡ Some b → owner (bound_row n b) ≡ id → (binding_at w.table n ≡ Some b) ⊎ Has v.seen.bound (n, b)) → Knows w owner id v → Knows u owner id v
   knows_follows w u owner id v f anew k = knows_bound w u owner id v v.seen.bound f (λ n b h. h) (λ n b h. f.bound n b (k.bound n b h)) anew k
 
+module _ {M : Type 0} where
+  -- no thread has ended yet
+  pub alive_known : (w : World) (owner : Row → ℕ) (id : ℕ) (v : View M) → Knows w owner id v → (t : ℕ) → t < w.table.threads → IsAlive w t
+  alive_known w owner id v k t h ended = subst HasEnded (k.running t h) ended
+
 -- WHO OWNS WHAT may change for rows that nobody holds
 staged_owned : (w : World) (owner owner' : Row → ℕ) (j : ℕ) (stage : Stage) → Kept w → ((r : Row) → holder_at w r ≢ None → owner r ≡ j → owner' r ≡ j) → Staged w owner j stage → Staged w owner' j stage
 staged_owned w owner owner' j Resting k o h = tt
@@ -101,6 +109,7 @@ module _ {M : Type 0} where
     rows = k.rows;
     passes = k.passes;
     seat = k.seat;
+    running = k.running;
     undealt = λ t h d. let a = k.undealt t h d in (o (first_row t) (some_seat w (first_row t) _ a.1) a.0, a.1, a.2, a.3, a.4);
     mine = λ r h. let a = k.mine r h in (o r (some_seat w r _ a.1) a.0, a.1);
     calm = k.calm;
@@ -123,6 +132,7 @@ module _ {M : Type 0} where
     rows = k.rows;
     passes = k.passes;
     seat = k.seat;
+    running = k.running;
     undealt = λ t h d. let a = k.undealt t h d in (a.0, a.1, a.2, (λ n. a.3 (λ l. n (l.0, inr l.1))), a.4);
     mine = λ r h. mine_now r h;
     calm = λ r h e. calm_now r h e;
@@ -162,7 +172,7 @@ module _ {M : Type 0} where
 -- A ROW IS TAKEN
 module _ (w : World) (seat : Seat) (x : Row) (j : Joined) (k : Kept w) (is : cell_at w.table x ≡ Synched j) where
   abbrev pub taken_world : World
-  taken_world = with_holders (with_table w (with_cell w.table x (Taken j))) (handed w.table w.holders seat x)
+  taken_world = took w seat x (with_cell w.table x (Taken j))
 
   cells : cell_at (with_cell w.table x (Taken j)) ≡ put (cell_at w.table) x (Taken j)
   cells = cells_taken w x j k is
@@ -211,7 +221,8 @@ module _ (w : World) (seat : Seat) (x : Row) (j : Joined) (k : Kept w) (is : cel
 
   other_holder : (r : Row) → row_eq r (next_row x) ≡ false → holder_at taken_world r ≡ holder_at w r
   other_holder r e =
-      ap (λ (hs : List (Option ℕ)). holder_at (with_holders (with_table w (with_cell w.table x (Taken j))) hs) r) hands_after
+      holder_lasted (with_holders (with_table w (with_cell w.table x (Taken j))) (handed w.table w.holders seat x)) (handed_last w.table w.lasts seat x) r
+      ∙ ap (λ (hs : List (Option ℕ)). holder_at (with_holders (with_table w (with_cell w.table x (Taken j))) hs) r) hands_after
       ∙ hand_other (with_table w (with_cell w.table x (Taken j))) seat x r e
       ∙ Rattle.protocol.proofs.Keeping.holder_same w (with_cell w.table x (Taken j)) r size_after.0 size_after.1
 
@@ -248,6 +259,7 @@ module _ (w : World) (seat : Seat) (x : Row) (j : Joined) (k : Kept w) (is : cel
     words = word_kept;
     held = λ r s h. other_holder r (not_held r s h) ∙ h;
     bound = λ n b e. bindings_after n ∙ e;
+    courses = λ p. ap (λ (f : ℕ → Course). f p) (course_after_cell w.table x (Taken j) (row_of_open w.table x (ap is_fresh is)));
   }
 
   pub taken_at : cell_at taken_world.table x ≡ Taken j
@@ -256,7 +268,8 @@ module _ (w : World) (seat : Seat) (x : Row) (j : Joined) (k : Kept w) (is : cel
   -- the row behind it, where the table has it
   pub next_held : is_row w.table (next_row x) ≡ true → (holder_at taken_world (next_row x) ≡ Some seat.0) × (cell_at taken_world.table (next_row x) ≡ Fresh) × (word_at taken_world.table (next_row x) 1 ≡ 0)
   next_held row = (
-    ap (λ (hs : List (Option ℕ)). holder_at (with_holders (with_table w (with_cell w.table x (Taken j))) hs) (next_row x)) hands_after
+    holder_lasted (with_holders (with_table w (with_cell w.table x (Taken j))) (handed w.table w.holders seat x)) (handed_last w.table w.lasts seat x) (next_row x)
+        ∙ ap (λ (hs : List (Option ℕ)). holder_at (with_holders (with_table w (with_cell w.table x (Taken j))) hs) (next_row x)) hands_after
         ∙ hand_next (with_table w (with_cell w.table x (Taken j))) seat x (k.seated ∙ sized_same) (row_after_cell w.table x (next_row x) (Taken j) ∙ row),
     follows_taken.fresh (next_row x) (fresh_is (cell_at w.table (next_row x)) next_unopened),
     word_kept (next_row x) 1 row (omega arith) (omega arith) ∙ k.blank (next_row x) 1 row (omega arith) next_unheld,

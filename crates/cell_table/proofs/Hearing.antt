@@ -103,6 +103,7 @@ module _ (w : World) (owner : Row → ℕ) where
       rows = k.rows;
       passes = k.passes;
       seat = k.seat;
+      running = k.running;
       undealt = λ t h d. let m = mod-lt t (some_seats k.seat) in let p = k.passes in absurd (omega arith);
       mine = λ r h. absurd h;
       calm = λ r h e. absurd h;
@@ -132,6 +133,7 @@ module _ (w : World) (owner : Row → ℕ) where
       rows = k.rows;
       passes = k.passes;
       seat = k.seat;
+      running = k.running;
       undealt = λ t h d. let a = k.undealt t h d in (a.0, a.1, (λ n. a.2 (λ o. n (has_left v.seen.opened u.seen.opened _ o))), a.3, λ n b e same. has_left v.seen.bound u.seen.bound (n, b) (a.4 n b e same));
       mine = k.mine;
       calm = k.calm;

@@ -18,7 +18,7 @@ use Rattle.protocol.specs.Kept.{Kept}
 use Rattle.protocol.proofs.Keeping.{cells_taken, held_row, kept_schedule}
 use Rattle.protocol.proofs.LedgerLemmas.{start_binding, start_cell}
 use Rattle.protocol.proofs.Places.{is_row_after, row_inside, word_other}
-use Rattle.protocol.proofs.Readings.{cell_after_bind, cell_after_word, cell_inside, row_of_open}
+use Rattle.protocol.proofs.Readings.{cell_after_bind, cell_after_life, cell_after_word, cell_inside, row_of_open}
 use Rattle.protocol.proofs.RowLemmas.{put_same, row_cases}
 use Rattle.cell_table.specs.declared.view.View.{View}
 use Rattle.cell_table.specs.Sight.{Has}
@@ -62,7 +62,7 @@ taken_took t x r None row untaken taken = taken
 taken_took t x r (Some j) row untaken taken = still_taken t x r (Taken j) row untaken taken
 
 taken_stays : (w : World) (seat : Seat) (step : Step) → Allowed w seat step → (r : Row) → is_taken (cell_at w.table r) ≡ true → is_taken (cell_at (after_step w seat step).table r) ≡ true
-taken_stays w seat (Draft x p v) a r h = let high = a.1.3 in ap is_taken (cell_after_word w.table x r p v (held_row w x seat.0 a.1.0) a.1.2 (omega arith)) ∙ h
+taken_stays w seat (Draft x p v) a r h = let high = a.1.4 in ap is_taken (cell_after_word w.table x r p v (held_row w x seat.0 a.1.0) a.1.3 (omega arith)) ∙ h
 taken_stays w seat (Open x) a r h = still_taken w.table x r Waiting (held_row w x seat.0 a.1.0) (ap is_taken a.1.1) h
 taken_stays w seat (Look x) a r h = h
 taken_stays w seat (Read x p) a r h = h
@@ -76,9 +76,9 @@ taken_stays w seat (Take x) a r h =
     taken_took w.table x r (synched_of (cell_at w.table x)) (row_of_open w.table x (ap is_fresh was.1)) (ap is_taken was.1) h
 taken_stays w seat (Bind k x scope) a r h =
     let inside = row_inside w.table x (held_row w x seat.0 a.1.0) in
-    ap is_taken (cell_after_bind w.table (nack_of_row x k) (record { sync = x.sync; scope = scope }) r (nack_from w.table (nack_of_row x k) inside.0 a.1.2)) ∙ h
-taken_stays w seat (Start x thread) a r h = h
-taken_stays w seat (Finish x) a r h = h
+    ap is_taken (cell_after_bind w.table (nack_of_row x k) (record { sync = x.sync; scope = scope }) r (nack_from w.table (nack_of_row x k) inside.0 a.1.3)) ∙ h
+taken_stays w seat (Start x thread) a r h = ap is_taken (cell_after_life w.table thread _ r) ∙ h
+taken_stays w seat (Finish x) a r h = ap is_taken (cell_after_life w.table x.thread _ r) ∙ h
 
 -- A HISTORY takes each row once
 pub last_played : (w v : World) (steps : List (Seat × Step)) (s : Seat × Step) → Plays w (steps ++ s ∷ []) v → (u : World) × Plays w steps u × Allowed u s.0 s.1 × (v ≡ after_step u s.0 s.1)
@@ -163,10 +163,10 @@ module _ {M : Type 0} where
       cc
 
 -- the words of the start
-pub first_cell : (threads rows passes : ℕ) (r : Row) → cell_at (start_world threads rows passes).table r ≡ Fresh
+pub first_cell : (threads rows passes : ℕ) (r : Row) → cell_at (start_world threads rows passes 0).table r ≡ Fresh
 unfolding start_world
-first_cell threads rows passes r = start_cell threads rows r
+first_cell threads rows passes r = start_cell threads rows 0 r
 
-pub first_binding : (threads rows passes : ℕ) (n : NackName) → binding_at (start_world threads rows passes).table n ≡ None
+pub first_binding : (threads rows passes : ℕ) (n : NackName) → binding_at (start_world threads rows passes 0).table n ≡ None
 unfolding start_world
-first_binding threads rows passes n = start_binding threads rows n
+first_binding threads rows passes n = start_binding threads rows 0 n

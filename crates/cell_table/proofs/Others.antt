@@ -1,8 +1,9 @@
 -- What passes have seen stays true at every step, whoever makes it.
 use Rattle.std.proofs.Common.{◌≡◌, ℕ, ◌<◌, ◌≤◌, Bool, true, false, cond, eqb, ◌&&◌, List, [], ◌∷◌, sym, refl, ap, ◌∙◌, subst, ◌⊎◌, inl, inr, ⊎_elim, arith, Option, Some, None, is_some}
-use Rattle.std.proofs.lemmas.Bool.{and_parts, cases_Bool, cases_eq, eqb-true, false≢true, true≢false}
+use Rattle.std.proofs.lemmas.Bool.{and_parts, eqb-true, false≢true}
 use Rattle.protocol_values.specs.declared.NackName.{NackName}
 use Rattle.protocol_values.specs.declared.Binding.{Binding}
+use Rattle.protocol_values.specs.declared.Course.{Course}
 use Rattle.protocol_values.specs.declared.Row.{Row}
 use Rattle.protocol_values.specs.declared.Joined.{Joined}
 use Rattle.protocol_values.specs.declared.Cell.{Cell}
@@ -11,14 +12,14 @@ use Rattle.protocol_values.specs.Words.{cell_word, IsCellInRange}
 use Rattle.cell_table.specs.declared.view.View.{View}
 use Rattle.cell_table.specs.declared.view.Stage.{Stage}
 use Rattle.cell_table.specs.declared.view.Stage.TheVariants.{Resting, Claims, Joins, Aside}
-use Rattle.protocol.specs.Tables.{Table, bound_row, is_row, row_eq, cell_at, is_fresh, joined_at, names, word_at, binding_at, is_taken}
+use Rattle.protocol.specs.Tables.{course_at, Table, bound_row, is_row, row_eq, cell_at, is_fresh, joined_at, names, word_at, binding_at, is_taken}
 use Rattle.protocol_values.specs.Values.{joined_of}
 use Rattle.protocol.specs.Worlds.{World, holder_at, with_word, with_cell, with_table}
 use Rattle.protocol.specs.Kept.{Kept}
 use Rattle.protocol.proofs.Keeping.{held_row}
 use Rattle.protocol.proofs.RowLemmas.{row_cases, row_eq-false, row_eq-true, row_ne, put, put_same, put_other}
 use Rattle.protocol.proofs.Places.{word_other, is_row_after}
-use Rattle.protocol.proofs.Readings.{cell_after_cell, cell_after_word, row_of_open, binding_after_cell, binding_after_word}
+use Rattle.protocol.proofs.Readings.{cell_after_cell, cell_after_word, row_of_open, binding_after_cell, binding_after_word, course_after_cell, course_after_word}
 use Rattle.cell_table.specs.declared.view.Seen.{Seen}
 use Rattle.cell_table.specs.Sight.{Has, IsCounted, see_begun, see_bound, see_word, without}
 use Rattle.cell_table.specs.Views.{first_row, IsClaimer, Staged, Knows, at_stage, turned, saw, saw_nack, read_word, drafted_word}
@@ -78,6 +79,9 @@ module _ (w : World) (x : Row) (c : Cell) (owner : Row → ℕ) (k : Kept w)
   stays_bound : (n : NackName) → binding_at (with_cell w.table x c) n ≡ binding_at w.table n
   stays_bound n = ap (λ (f : NackName → Option Binding). f n) (binding_after_cell w.table x c row)
 
+  courses_stay : (p : ℕ) → course_at (with_cell w.table x c) p ≡ course_at w.table p
+  courses_stay p = ap (λ (f : ℕ → Course). f p) (course_after_cell w.table x c row)
+
   -- the words behind the cells stay
   stays_word : (r : Row) (p : ℕ) → is_row w.table r ≡ true → 1 ≤ p → p < 34 → word_at (with_cell w.table x c) r p ≡ word_at w.table r p
   unfolding with_cell
@@ -131,6 +135,7 @@ module _ (w : World) (x : Row) (c : Cell) (owner : Row → ℕ) (k : Kept w)
         rows = knows.rows ∙ sym size_kept.1;
         passes = knows.passes;
         seat = knows.seat;
+        running = λ t h. courses_stay t ∙ knows.running t (subst (λ (n : ℕ). t < n) size_kept.0 h);
         undealt = λ t h d.
             let u = knows.undealt t (subst (λ (n : ℕ). t < n) size_kept.0 h) d in (
               u.0,
@@ -188,6 +193,7 @@ module _ (w : World) (x : Row) (c : Cell) (owner : Row → ℕ) (k : Kept w)
       rows = knows.rows ∙ sym size_kept.1;
       passes = knows.passes;
       seat = knows.seat;
+      running = λ t h. courses_stay t ∙ knows.running t (subst (λ (n : ℕ). t < n) size_kept.0 h);
       undealt = λ t h d.
           let u = knows.undealt t (subst (λ (n : ℕ). t < n) size_kept.0 h) d in
           (u.0, holder_kept w (with_cell w.table x c) (first_row t) size_kept.0 size_kept.1 ∙ u.1, λ n. same_cell (first_row t) (row_ne (first_row t) x (λ e. n (inl (sym e)))) ∙ u.2 (λ o. n (inr o)), (λ n. stays_count (first_row t) _ u.1 (u.3 n)), λ n b e. u.4 n b (sym (stays_bound n) ∙ e));
@@ -226,6 +232,7 @@ module _ {M : Type 0} where
     rows = k.rows;
     passes = k.passes;
     seat = k.seat;
+    running = k.running;
     undealt = λ t h d. let u = k.undealt t h d in (u.0, u.1, (λ n. u.2 (λ o. n (opened_more _ o))), (λ n. u.3 (λ l. n (counted (first_row t) l))), λ m b e same. bound_more m b (u.4 m b e same));
     mine = λ r h. k.mine r (held_before r h);
     calm = λ r h e. k.calm r (held_before r h) e;
@@ -333,6 +340,7 @@ module _ (w : World) (x : Row) (p d : ℕ) (owner : Row → ℕ) (k : Kept w)
       rows = knows.rows;
       passes = knows.passes;
       seat = knows.seat;
+      running = λ t h. ap (λ (f : ℕ → Course). f t) (course_after_word w.table x p d row high) ∙ knows.running t h;
       undealt = λ t h e. let u = knows.undealt t h e in (u.0, holder_kept w (with_word w.table x p d) (first_row t) refl refl ∙ u.1, (λ n. cells_stay (first_row t) ∙ u.2 n), (λ n. counts t (first_row t) u.0 (held_row w (first_row t) _ u.1) u.3 n), λ n b g. u.4 n b (sym (nacks_stay n) ∙ g));
       mine = λ r h. let m = knows.mine r h in (m.0, holder_kept w (with_word w.table x p d) r refl refl ∙ m.1);
       calm = λ r h e. knows.calm r h (sym (cells_stay r) ∙ e);

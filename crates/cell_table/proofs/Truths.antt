@@ -1,5 +1,5 @@
 -- What a pass has seen is true of the world, and so agrees with itself and with what it finds.
-use Rattle.std.proofs.Common.{◌≡◌, ◌≢◌, ℕ, ◌+◌, ◌*◌, ◌-◌, ◌<◌, ◌≤◌, Bool, true, false, List, sym, refl, ap, ◌∙◌, subst, inl, inr, ◌⊎◌, ⊎_elim, arith, unwrap_or, Option, Some, None, is_some, eqb, cond, max, length, slice_get}
+use Rattle.std.proofs.Common.{◌≡◌, ◌≢◌, ℕ, ◌+◌, ◌*◌, ◌-◌, ◌<◌, ◌≤◌, Bool, true, false, List, sym, refl, ap, ◌∙◌, subst, inl, inr, ◌⊎◌, ⊎_elim, arith, unwrap_or, Option, Some, None, eqb, cond, max, length, slice_get}
 use Rattle.std.proofs.lemmas.Bool.{lt-ltb, ne_eqb, true≢false}
 use Rattle.protocol_values.specs.Words.{count_of, head_of, offer_of, is_word_for}
 use Rattle.protocol_values.specs.declared.Direction.{Direction}
@@ -8,13 +8,13 @@ use Rattle.protocol_values.specs.declared.NackName.{NackName}
 use Rattle.protocol_values.specs.declared.Row.{Row}
 use Rattle.protocol_values.specs.declared.Joined.{Joined}
 use Rattle.protocol_values.specs.declared.Cell.{Cell}
-use Rattle.protocol.specs.Tables.{Table, is_fresh, cell_at, joined_at, offers_meet, offer_at, count_at, row_stamp, last_stamp, word_at, stands_alone, binding_at, bound_row, encloses, nack_by, stamped, cause_by, cause_of, cause_at, is_taken}
+use Rattle.protocol.specs.Tables.{Table, course_at, marks_at, start_of, is_fresh, cell_at, joined_at, offers_meet, offer_at, count_at, row_stamp, last_stamp, word_at, stands_alone, binding_at, bound_row, encloses, nack_by, stamped, cause_by, cause_of, cause_at, is_taken}
 use Rattle.protocol_values.specs.Values.{joined_of}
 use Rattle.protocol_values.specs.declared.Base.{Base}
 use Rattle.protocol_values.specs.declared.Base.TheVariants.{Send, Recv, Always, OnNack, OnEnd, Never}
 use Rattle.protocol.specs.Worlds.{World, joined_with, granted_by}
 use Rattle.protocol.specs.Kept.{IsFormed, Kept, IsSideOf}
-use Rattle.protocol.proofs.Readings.{count_open, row_of_open, offer_none, joined_ranged, nack_of_bound, binding_ranged}
+use Rattle.protocol.proofs.Readings.{course_outside, count_open, row_of_open, offer_none, joined_ranged, nack_of_bound, binding_ranged}
 use Rattle.protocol.proofs.Places.{nack_inside, row_inside}
 use Rattle.protocol.proofs.Causes.{cause_alone, enabling_from}
 use Rattle.protocol.proofs.Linking.{fresh_not_joined, some_inj, naming, partner_open, cases_Option}
@@ -93,10 +93,20 @@ module _ {M : Type 0} where
         ∙ offers_meet_as can.my_direction can.their_direction a.0 b.0 a.2 b.2
         ∙ can.meet
 
-    last_known : (r : Row) (stamp : ℕ) → HasSeenLast v.seen r stamp → last_stamp (joined_at w.table) r ≡ stamp
-    last_known r stamp (inl h) = ap (λ (n : ℕ). cond (eqb n 0) 0 (row_stamp (joined_at w.table (record { thread = r.thread; sync = n - 1 })))) h.0 ∙ sym h.1
+    -- no start has a stamp
+    start_known : (p : ℕ) → start_of (course_at w.table p) ≡ 0
+    start_known p = ⊎_elim
+        (λ (h : p < w.table.threads). ap start_of (k.running p h))
+        (λ (h : w.table.threads ≤ p). ap start_of (course_outside w.table p h))
+        (Rattle.std.proofs.lemmas.Bool.cases_lt p w.table.threads)
+
+    last_known : (r : Row) (stamp : ℕ) → HasSeenLast v.seen r stamp → last_stamp (marks_at w.table) (joined_at w.table) r ≡ stamp
+    last_known r stamp (inl h) =
+        ap (λ (n : ℕ). cond (eqb n 0) (start_of (course_at w.table r.thread)) (row_stamp (joined_at w.table (record { thread = r.thread; sync = n - 1 })))) h.0
+        ∙ start_known r.thread
+        ∙ sym h.1
     last_known r stamp (inr h) =
-        ap (λ (y : Bool). cond y 0 (row_stamp (joined_at w.table (record { thread = r.thread; sync = r.sync - 1 })))) (ne_eqb r.sync 0 h.1)
+        ap (λ (y : Bool). cond y (start_of (course_at w.table r.thread)) (row_stamp (joined_at w.table (record { thread = r.thread; sync = r.sync - 1 })))) (ne_eqb r.sync 0 h.1)
         ∙ ap row_stamp (k.joined (record { thread = r.thread; sync = r.sync - 1 }) h.0 h.2) ∙ sym h.3
 
     pub joined_known : (m : Row) (i : ℕ) (o : Row) (n : ℕ) (j : Joined) → CanJoin v.seen m i o n j → joined_with w.table m i o n ≡ j
@@ -119,7 +129,7 @@ module _ {M : Type 0} where
       outside = ap (encloses e.binding.scope) (chosen_known (bound_row n e.binding) j.own e.offer e.chosen) ∙ e.outside;
     })
 
-    cause_known : (b : Base) (s : ℕ) → SawCause v.seen b s → cause_by (joined_at w.table) (offer_at w.table) (binding_at w.table) b ≡ Some s
+    cause_known : (b : Base) (s : ℕ) → SawCause v.seen b s → cause_by (joined_at w.table) (offer_at w.table) (marks_at w.table) b ≡ Some s
     cause_known (Send c m) s h = absurd h
     cause_known (Recv c) s h = absurd h
     cause_known (Always m) s h = ap (λ (x : ℕ). Some x) (sym h)
@@ -130,10 +140,10 @@ module _ {M : Type 0} where
     pub granted_known : (r : Row) (n : ℕ) (j : Joined) (can : CanGrant v.seen r n j) → (cause_at w.table r n ≡ Some can.cause) × (granted_by w.table r n ≡ j)
     granted_known r n j can =
         let a = last_known r can.last can.seen_last in
-        let has : cause_at w.table r n ≡ Some can.cause = ap (cause_of (joined_at w.table) (offer_at w.table) (binding_at w.table)) (offer_known r n can.offer can.read) ∙ cause_known can.offer.base can.cause can.caused in
+        let has : cause_at w.table r n ≡ Some can.cause = ap (cause_of (joined_at w.table) (offer_at w.table) (marks_at w.table)) (offer_known r n can.offer can.read) ∙ cause_known can.offer.base can.cause can.caused in
         (has, granted_is w.table r n can.cause has ∙ (λ x. record { own = n; partner = None; stamp = 1 + max (a x) can.cause }) ∙ sym can.is)
 
-    side : (r : Row) (j : Joined) (p : Row × ℕ) → Has v.seen.joined (r, j) → j.partner ≡ Some p → IsSideOf (cell_at w.table) (offer_at w.table) r j p
+    side : (r : Row) (j : Joined) (p : Row × ℕ) → Has v.seen.joined (r, j) → j.partner ≡ Some p → IsSideOf (cell_at w.table) (offer_at w.table) (marks_at w.table) r j p
     side r j p has e = kept.linked.sides r j p (k.joined r j has) e
 
     open_partner : (r : Row) (j : Joined) (p : Row × ℕ) → Has v.seen.joined (r, j) → j.partner ≡ Some p → is_fresh (cell_at w.table p.0) ≡ false
@@ -169,7 +179,7 @@ module _ {M : Type 0} where
       );
       alone = λ r j mine h e a.
           let was = kept.linked.alone r j (k.joined r j h) e in
-          ap stands_alone (sym (offer_known r j.own mine a)) ∙ cause_alone (joined_at w.table) (offer_at w.table) (binding_at w.table) (offer_at w.table r j.own) was.cause was.is;
+          ap stands_alone (sym (offer_known r j.own mine a)) ∙ cause_alone (joined_at w.table) (offer_at w.table) (marks_at w.table) (offer_at w.table r j.own) was.cause was.is;
       inside = λ r j p h e.
           let i = kept.linked.inside p.0 (open_partner r j p h e) in
           subst (λ (z : ℕ × ℕ). (p.0.thread < z.0) × (p.0.sync < z.1)) (λ i. (sym k.threads i, sym k.rows i)) i;

@@ -97,7 +97,7 @@ module _ {M : Type 0} where
 module _ {M : Type 0} (stands : Stands M) where
   -- the world of the rule is one that all steps keep
   pub world_kept : (shape : Shape M) (s : State (Option M) (View M)) (k : Keeps stands shape s) → Kept k.world
-  world_kept shape s k = kept_schedule _ k.world (in_order k.moves) (kept_start shape.threads shape.rows shape.passes k.few_threads k.few_rows) k.played
+  world_kept shape s k = kept_schedule _ k.world (in_order k.moves) (kept_start shape.threads shape.rows shape.passes 0 k.few_threads k.few_rows) k.played
 
   -- the table stays, and one pass knows more; what the slots hold then is given
   pub keeps_seen : (shape : Shape M) (s : State (Option M) (View M)) (k : Keeps stands shape s) (id : ℕ) (v w : View M) (ws : List ℕ) (hs : List (Maybe (Option M))) → get_elem? s.views id ≡ some v → 0 < v.threads → w.seat ≡ v.seat → w.made ≡ v.made → w.results ≡ v.results → w.first ≡ v.first → Stays v w
@@ -148,7 +148,7 @@ module _ {M : Type 0} (stands : Stands M) where
         moves = record { pass = id; seat = at; step = step } ∷ k.moves;
         interleaved = one_more k.moves s.views id v w step view k.interleaved seat made;
         world = after_step k.world at step;
-        played = plays_more (start_world shape.threads shape.rows shape.passes) k.world (in_order k.moves) (at, step) k.played allowed;
+        played = plays_more (start_world shape.threads shape.rows shape.passes 0) k.world (in_order k.moves) (at, step) k.played allowed;
         table = same;
         owner = owner;
         knows = views_with s.views id (did step w) (after_step k.world at step) owner others knows;

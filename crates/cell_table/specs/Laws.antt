@@ -23,7 +23,7 @@ pub record IsLawfulMoment {M : Type 0} (stands : Stands M) (shape : Shape M) (s 
   pub lawful : IsLawful (ledger_of (table_of shape s))
   -- There is one world with these words, and one owner for each row. The passes' own steps, interleaved, lead to it from the table's
   -- start, and nobody has made any other step; and what each pass has seen is true of it.
-  pub played_and_known : (moves : List Move) × (world : World) × (owner : Row → ℕ) × Plays (start_world shape.threads shape.rows shape.passes) (in_order moves) world × (world.table ≡ table_of shape s)
+  pub played_and_known : (moves : List Move) × (world : World) × (owner : Row → ℕ) × Plays (start_world shape.threads shape.rows shape.passes 0) (in_order moves) world × (world.table ≡ table_of shape s)
       × Interleaves moves s.views × ((id : ℕ) (v : View M) → IsAt s id v → Knows world owner id v)
   -- the results of threads that a pass has seen are those that the commits of their rows give
   pub results : (id : ℕ) (v : View M) (t : ℕ) (results : List Result) → IsAt s id v → Has v.results (t, results) → AreResults (ledger_of (table_of shape s)) t results

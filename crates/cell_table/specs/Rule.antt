@@ -115,7 +115,7 @@ module _ {M : Type 0} (stands : Stands M) where
     pub moves : List Move
     pub interleaved : Interleaves moves s.views
     pub world : World
-    pub played : Plays (start_world shape.threads shape.rows shape.passes) (in_order moves) world
+    pub played : Plays (start_world shape.threads shape.rows shape.passes 0) (in_order moves) world
     pub table : world.table ≡ table_of shape s
     pub owner : Row → ℕ
     -- a pass that is of no table any more knows nothing

@@ -2,6 +2,7 @@
 use Rattle.std.specs.Prelude.{◌≡◌, ℕ, ◌%◌, ◌<◌, ◌≤◌, ◌∷◌, true, false, Option, Some, None, List}
 use Rattle.protocol_values.specs.declared.NackName.{NackName}
 use Rattle.protocol_values.specs.declared.Binding.{Binding}
+use Rattle.protocol_values.specs.declared.Course.TheVariants.{Running}
 use Rattle.protocol_values.specs.declared.Row.{Row}
 use Rattle.protocol_values.specs.declared.Step.{Step}
 use Rattle.protocol_values.specs.declared.Step.TheVariants.{Bind, Draft}
@@ -12,7 +13,7 @@ use Rattle.cell_table.specs.declared.view.Seen.{Seen}
 use Rattle.cell_table.specs.declared.view.View.{View}
 use Rattle.cell_table.specs.declared.view.Stage.{Stage}
 use Rattle.cell_table.specs.declared.view.Stage.TheVariants.{Resting, Claims, Joins, Aside}
-use Rattle.protocol.specs.Tables.{is_fresh, is_taken, names, word_at, cell_at, joined_at, binding_at, bound_row}
+use Rattle.protocol.specs.Tables.{course_at, is_fresh, is_taken, names, word_at, cell_at, joined_at, binding_at, bound_row}
 use Rattle.protocol.specs.Standing.{Result}
 use Rattle.protocol.specs.Worlds.{World, holder_at}
 use Rattle.cell_table.specs.Sight.{Has, IsCounted, see_opened, see_cell, see_word, see_draft, see_next, see_bound}
@@ -53,6 +54,8 @@ pub record KnowsFrom (w : World) (owner : Row → ℕ) (id : ℕ) (from : Vantag
   pub threads : from.threads ≡ w.table.threads
   pub rows : from.rows ≡ w.table.rows
   pub passes : from.passes ≡ w.seats
+  -- all threads have started at once, and none has ended: no step of the running table tells otherwise yet
+  pub running : (t : ℕ) → t < w.table.threads → course_at w.table t ≡ Running 0
   pub seat : from.seat < w.seats
   -- the first rows of the seats that are not dealt yet are this pass's to deal
   pub undealt : (t : ℕ) → t < w.table.threads → from.dealt ≤ t % w.seats

@@ -2,6 +2,7 @@
 
 ghost use Rattle.std.specs.Prelude.{◌≡◌, ◌*◌, ◌+◌, ◌<◌, ◌≤◌, [], IfOk, Some, length, map, replicate};
 ghost use Rattle.protocol.specs.Tables.{thread_len};
+ghost use Rattle.protocol.specs.Worlds.{with_lives};
 ghost use Rattle.cell_table.specs.Rule.{dealer, dealt_pass};
 
 use crate::board::{Board, Words};
@@ -12,22 +13,22 @@ use protocol::Resident;
 use std::alloc::{AllocError, Global};
 
 impl<M: Resident + Drop> Board<M> {
-    /// A table of Fresh rows, and the seat that deals them. `zeros` are as many zeros as the table
-    /// has words.
+    /// A table of Fresh rows, and the seat that deals them. `words` are the table's first ones: all 0 but the
+    /// lives of its threads, which have all started.
     pub fn start(
         alloc: Global,
         shape: Shape<M>,
-        zeros: &[u64],
+        words: &[u64],
         slots: Vec<Option<M>>,
     ) -> Result<(Board<M>, Seat<Option<M>, View<M>>), AllocError>
         requires shape { (1 ≤ shape.threads) × (shape.threads ≤ 64) × (1 ≤ shape.rows) × (shape.rows ≤ 1024) × (1 ≤ shape.passes) }
-        requires zeros { zeros.now ≡ replicate (shape.threads * thread_len shape.rows) 0 }
+        requires words { words.now ≡ with_lives 0 shape.rows shape.threads (replicate (shape.threads * thread_len shape.rows) 0) }
         requires slots { slots.items ≡ map Some shape.first.value.items }
         requires full { 0 < length shape.first.value.items → length shape.first.value.items ≡ shape.threads }
         ensures board { IfOk result (λ b. (b.0.shape ≡ shape) × (b.1.table_id ≡ b.0.words.shared.table_id)) }
         ensures seat { IfOk result (λ b. b.1.me ≡ (dealer shape 0, [])) }
     {
-        match Words::new(alloc, zeros, slots, &shape) {
+        match Words::new(alloc, words, slots, &shape) {
             Ok((words, seat)) => Ok((Board { words, shape }, seat)),
             Err(_) => Err(AllocError),
         }

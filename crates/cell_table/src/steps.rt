@@ -1,6 +1,6 @@
 //! One function for each atomic step, and what the table has.
 
-ghost use Rattle.std.specs.Prelude.{◌≡◌, ◌≢◌, ◌*◌, ◌+◌, ◌<◌, ◌≤◌, ◌↔◌, List, [], ◌∷◌, length, slice_get, true, IfOk, IfErr, IsTrue, None, Some};
+ghost use Rattle.std.specs.Prelude.{◌≡◌, ◌≢◌, ◌*◌, ◌+◌, ◌<◌, ◌≤◌, ◌↔◌, List, ◌∷◌, length, slice_get, true, IfOk, IfErr, IsTrue, None, Some};
 ghost use Rattle.protocol.specs.Standing.{Result};
 ghost use Rattle.protocol_values.specs.Words.{is_word_for, IsBindingInRange, IsJoinedInRange};
 ghost use Rattle.protocol_values.specs.declared.Binding.{Binding};
@@ -32,7 +32,7 @@ use crate::plays::{
 };
 use crate::view::View;
 use atomic_table::Seat;
-use protocol::{NACKS, ROW_LEN, Resident};
+use protocol::{LIVES, NACKS, ROW_LEN, Resident};
 use protocol_values::{
     Binding, Cell, Joined, NackName, Row, pack_cell, pack_nack, read_cell, unpack_cell, unpack_nack,
 };
@@ -56,7 +56,7 @@ impl<M: Resident> Board<M> {
     fn thread_len(&self) -> usize
         ensures { result ≡ thread_len self.now.shape.rows }
     {
-        self.shape.rows as usize * ROW_LEN + NACKS
+        self.shape.rows as usize * ROW_LEN + NACKS + LIVES
     }
 
     // where the word of a row at a place lies

@@ -10,11 +10,12 @@ use Rattle.script_tree.specs.Processes.{Proc}
 use Rattle.script_tree.specs.Spawning.{spawner}
 use Rattle.thread.specs.After.{Chosen, State, Outcome, Goes, Offers as OffersTree, Finishes, Fails, Strays, after}
 use Rattle.protocol_values.specs.declared.Base.{Base}
-use Rattle.protocol_values.specs.declared.Base.TheVariants.{Send, Recv, Always, OnNack}
+use Rattle.protocol_values.specs.declared.Base.TheVariants.{Send, Recv, Always, OnNack, OnEnd}
 use Rattle.protocol_values.specs.declared.Binding.{Binding}
 use Rattle.protocol_values.specs.declared.Cause.{Cause}
 use Rattle.protocol_values.specs.declared.Cause.TheVariants as cause
 use Rattle.protocol_values.specs.declared.Commit.{Commit}
+use Rattle.protocol_values.specs.declared.Course.TheVariants.{Unstarted, Running, Ended}
 use Rattle.protocol_values.specs.declared.Commit.TheVariants.{Pair, Alone}
 use Rattle.protocol_values.specs.declared.Joined.{Joined}
 use Rattle.protocol_values.specs.declared.Message.TheVariants.{Empty}
@@ -24,8 +25,8 @@ use Rattle.protocol_values.specs.declared.Row.{Row}
 use Rattle.protocol_values.specs.Commits.{stamp_of}
 use Rattle.protocol_values.specs.Scopes.{has_scope}
 use Rattle.protocol.specs.Ledgers as ledgers
-use Rattle.protocol.specs.Ledgers.{Ledger, HasCommit, Involves, IsEnabled, IsLawful, Takes, binding_in, commits_in, has_row, joined_in, no_entry, offer_in}
-use Rattle.protocol.specs.Tables.{number_of}
+use Rattle.protocol.specs.Ledgers.{Ledger, HasCommit, Involves, IsEnabled, IsLawful, Takes, binding_in, commits_in, course_in, has_row, joined_in, marks_in, no_entry, offer_in}
+use Rattle.protocol.specs.Tables.{number_of, start_of}
 use Rattle.protocol.proofs.CommitLemmas.{commit_members}
 use Rattle.protocol.proofs.Ordering.{causal_ledger}
 use Rattle.protocol.proofs.Results.{gift, gives-involves, one-list, one-result}
@@ -129,20 +130,35 @@ module _ (ps : List Proc) (rows : ℕ) (l : Ledger) (law : IsLawful l) (of : IsL
   -- THE COMMITS
 
   in-ledger : (c : Commit) → Contains commits c → HasCommit l c
-  in-ledger c h = (commit_members l.threads l.rows (joined_in l) (offer_in l) (binding_in l) law (joined-inside l) c).0
+  in-ledger c h = (commit_members l.threads l.rows (joined_in l) (offer_in l) (marks_in l) law (joined-inside l) c).0
       (Contains-permutation commits (commits_in l) c (IsPermutation-sym (commits_in l) commits order.all) h)
 
   in-commits : (c : Commit) → HasCommit l c → Contains commits c
-  in-commits c h = Contains-permutation (commits_in l) commits c order.all ((commit_members l.threads l.rows (joined_in l) (offer_in l) (binding_in l) law (joined-inside l) c).1 h)
+  in-commits c h = Contains-permutation (commits_in l) commits c order.all ((commit_members l.threads l.rows (joined_in l) (offer_in l) (marks_in l) law (joined-inside l) c).1 h)
+
+  -- all threads started at stamp 0, and none has ended
+  at-start : (t : ℕ) → start_of (course_in l t) ≡ 0
+  at-start t = by (ltb t l.threads) (of.running t)
+    where
+      by : (b : Bool) → course_in l t ≡ cond b (Running 0) Unstarted → start_of (course_in l t) ≡ 0
+      by true e = ap start_of e
+      by false e = ap start_of e
+
+  unended : (t start sync : ℕ) → course_in l t ≡ Ended start sync → ⊥
+  unended t start sync ended = by (ltb t l.threads) (of.running t)
+    where
+      by : (b : Bool) → course_in l t ≡ cond b (Running 0) Unstarted → ⊥
+      by true e = let bad : Running 0 ≡ Ended start sync = sym e ∙ ended in cc
+      by false e = let bad : Unstarted ≡ Ended start sync = sym e ∙ ended in cc
 
   -- what is taken was offered
   offer-at : (at : Row × ℕ) (b : Base) (r : Row) (n : ℕ) → ledgers.Offers (offer_in l) at b → at ≡ (r, n) → (o : Offer) × (offer_in l r n ≡ Some o)
   offer-at at b r n h e = (h.0, ap (λ (z : Row × ℕ). offer_in l z.0 z.1) (sym e) ∙ h.1)
 
-  offered-alone : (at : Row × ℕ) (why : Cause) (r : Row) (n : ℕ) → ledgers.IsCaused (joined_in l) (offer_in l) (binding_in l) at why → at ≡ (r, n) → (o : Offer) × (offer_in l r n ≡ Some o)
+  offered-alone : (at : Row × ℕ) (why : Cause) (r : Row) (n : ℕ) → ledgers.IsCaused (joined_in l) (offer_in l) (marks_in l) at why → at ≡ (r, n) → (o : Offer) × (offer_in l r n ≡ Some o)
   offered-alone at (cause.Always m) r n h e = offer-at at (Always m) r n h e
   offered-alone at (cause.Nack k) r n h e = offer-at at (OnNack k) r n h.0 e
-  offered-alone at (cause.End t) r n h e = absurd h
+  offered-alone at (cause.End t) r n h e = offer-at at (OnEnd t) r n h.0 e
 
   offered-by : (c : Commit) (r : Row) (n : ℕ) → HasCommit l c → Takes c r n → (o : Offer) × (offer_in l r n ≡ Some o)
   offered-by (Pair sender receiver chan msg stamp) r n h (inl e) = offer-at sender (Send chan msg) r n (law.fits (Pair sender receiver chan msg stamp) h).1 e
@@ -175,7 +191,7 @@ module _ (ps : List Proc) (rows : ℕ) (l : Ledger) (law : IsLawful l) (of : IsL
 
     can-take : (at : Row × ℕ) (b : Base) → ledgers.Offers (offer_in l) at b → at.0.sync ≡ length (config_of es at.0.thread) → MayTake ps rows (config_of es) at b
     can-take at b h next =
-        let off = of at.0 at.1 h.0 h.1 in
+        let off = of.each at.0 at.1 h.0 h.1 in
         let base = offered-base (bases off.standing.event) at.1 h.0 (shown at.0 off at.1 h.0 h.1) in record {
           started = AtOnce off.standing.at_once;
           can = record {
@@ -190,7 +206,7 @@ module _ (ps : List Proc) (rows : ℕ) (l : Ledger) (law : IsLawful l) (of : IsL
         }
 
     -- a nack that the ledger calls enabled is fired
-    fired : (n : NackName) (en : IsEnabled (joined_in l) (offer_in l) (binding_in l) n) → Contains es en.commit → IsFiredAt ps (config_of es) n en.binding.sync
+    fired : (n : NackName) (en : IsEnabled (joined_in l) (offer_in l) (marks_in l) n) → Contains es en.commit → IsFiredAt ps (config_of es) n en.binding.sync
     fired n en there =
         let g = en.binding.sync in
         let r = row n.thread g in
@@ -203,7 +219,7 @@ module _ (ps : List Proc) (rows : ℕ) (l : Ledger) (law : IsLawful l) (of : IsL
         let same : x ≡ gave.result = one-result l law giver.0 en.commit r x gave.result giver.1 en.inside giver.2 gave.gives in
         let number : en.chosen ≡ x.0 = sym (ap (λ (z : Chosen). z.0) same ∙ gave.number) in
         let offer = offered-by en.commit r en.chosen en.inside en.takes in
-        let off = of r en.chosen offer.0 offer.1 in
+        let off = of.each r en.chosen offer.0 offer.1 in
         let base = offered-base (bases off.standing.event) en.chosen offer.0 (shown r off en.chosen offer.0 offer.1) in record {
           chosen = x;
           result = at;
@@ -221,13 +237,13 @@ module _ (ps : List Proc) (rows : ℕ) (l : Ledger) (law : IsLawful l) (of : IsL
     bound-where n g d there has f =
         let r = row n.thread g in
         let offer = offered-by d r has.0 (k.members d there) has.1 in
-        let off = of r has.0 offer.0 offer.1 in
+        let off = of.each r has.0 offer.0 offer.1 in
         let low = k.inside d n.thread g there has in
         let same : f.event ≡ off.standing.event = one-event ps n.thread (take g (config_of es n.thread)) off.results f.event off.standing.event (sym (before r off (omega (arith, low)))) f.offered off.standing.offered in
         (binding_of r f.scope, off.bound f.scope n.k (ap (λ (ns : List ℕ). slice_get ns f.scope) (sym off.standing.scopes) ∙ ap (λ (e : Tree). slice_get (scope_nacks e) f.scope) (sym same) ∙ f.nack), refl)
 
     -- THE NEXT COMMIT: those that count for it are there already, and it is not
-    module _ (c : Commit) (in_c : HasCommit l c) (anew : Contains es c → ⊥) (behind : (d : Commit) → HasCommit l d → ledgers.CountsFor (binding_in l) d c → Contains es d) where
+    module _ (c : Commit) (in_c : HasCommit l c) (anew : Contains es c → ⊥) (behind : (d : Commit) → HasCommit l d → ledgers.CountsFor (marks_in l) d c → Contains es d) where
       next-row : (t g : ℕ) → Involves c (row t g) → g ≡ length (config_of es t)
       next-row t g has = ⊎_elim
           (λ e. e)
@@ -251,33 +267,33 @@ module _ (ps : List Proc) (rows : ℕ) (l : Ledger) (law : IsLawful l) (of : IsL
       next-at : (at : Row × ℕ) → Takes c at.0 at.1 → at.0.sync ≡ length (config_of es at.0.thread)
       next-at at h = next-row at.0.thread at.0.sync (at.1, h)
 
-      caused : (at : Row × ℕ) (why : Cause) (stamp : ℕ) → c ≡ Alone at why stamp → ledgers.IsCaused (joined_in l) (offer_in l) (binding_in l) at why → at.0.sync ≡ length (config_of es at.0.thread) → IsCaused ps rows (config_of es) at why
+      caused : (at : Row × ℕ) (why : Cause) (stamp : ℕ) → c ≡ Alone at why stamp → ledgers.IsCaused (joined_in l) (offer_in l) (marks_in l) at why → at.0.sync ≡ length (config_of es at.0.thread) → IsCaused ps rows (config_of es) at why
       caused at (cause.Always m) stamp is h next = can-take at (Always m) h next
       caused at (cause.Nack n) stamp is h next =
           let en = h.1 in (
             can-take at (OnNack n) h.0 next,
             (
               en.binding.sync,
-              fired n en (behind en.commit en.inside (subst (λ (z : Commit). ledgers.CountsFor (binding_in l) en.commit z) (sym is) (inr (en.binding, en.is_bound, (en.chosen, en.takes))))),
+              fired n en (behind en.commit en.inside (subst (λ (z : Commit). ledgers.CountsFor (marks_in l) en.commit z) (sym is) (inr (en.binding, en.is_bound, (en.chosen, en.takes))))),
             ),
           )
-      caused at (cause.End t) stamp is h next = absurd h
+      caused at (cause.End t) stamp is h next = absurd (unended t h.1.0 h.1.1 h.1.2)
 
       legal-as : (d : Commit) → c ≡ d → IsLegal ps rows (config_of es) d
       legal-as (Pair sender receiver chan msg stamp) is =
-          let fits = subst (ledgers.Fits (joined_in l) (offer_in l) (binding_in l)) is (law.fits c in_c) in (
+          let fits = subst (ledgers.Fits (joined_in l) (offer_in l) (marks_in l)) is (law.fits c in_c) in (
             fits.0,
             can-take sender (Send chan msg) fits.1 (next-at sender (subst (λ (z : Commit). Takes z sender.0 sender.1) (sym is) (inl refl))),
             can-take receiver (Recv chan) fits.2 (next-at receiver (subst (λ (z : Commit). Takes z receiver.0 receiver.1) (sym is) (inr refl))),
           )
       legal-as (Alone at why stamp) is =
-          caused at why stamp is (subst (ledgers.Fits (joined_in l) (offer_in l) (binding_in l)) is (law.fits c in_c)) (next-at at (subst (λ (z : Commit). Takes z at.0 at.1) (sym is) refl))
+          caused at why stamp is (subst (ledgers.Fits (joined_in l) (offer_in l) (marks_in l)) is (law.fits c in_c)) (next-at at (subst (λ (z : Commit). Takes z at.0 at.1) (sym is) refl))
 
       legal : IsLegal ps rows (config_of es) c
       legal = legal-as c refl
 
       -- WHICH COMMITS COUNT, in the ledger as in the run
-      earlier-counts : (d : Commit) (t : ℕ) → Contains es d → HasThread d t → HasThread c t → ledgers.CountsFor (binding_in l) d c
+      earlier-counts : (d : Commit) (t : ℕ) → Contains es d → HasThread d t → HasThread c t → ledgers.CountsFor (marks_in l) d c
       earlier-counts d t there has mine =
           let h = thread-involves d t has in
           let g = thread-involves c t mine in
@@ -289,30 +305,30 @@ module _ (ps : List Proc) (rows : ℕ) (l : Ledger) (law : IsLawful l) (of : IsL
       at-once t mine =
           let g = thread-involves c t mine in
           let offer = offered-by c (row t g.0) g.1.0 in_c g.1.1 in
-          (of (row t g.0) g.1.0 offer.0 offer.1).standing.at_once
+          (of.each (row t g.0) g.1.0 offer.0 offer.1).standing.at_once
 
-      of-counts : (d : Commit) (t : ℕ) → Contains es d → CountsOf ps (config_of es) t d → HasThread c t → ledgers.CountsFor (binding_in l) d c
+      of-counts : (d : Commit) (t : ℕ) → Contains es d → CountsOf ps (config_of es) t d → HasThread c t → ledgers.CountsFor (marks_in l) d c
       of-counts d t there h mine = ⊎_elim
           (λ has. earlier-counts d t there has mine)
           (λ start. absurd (no-start ps (config_of es) d t (at-once t mine) start))
           h
 
-      enables : (at : Row × ℕ) (why : Cause) (stamp : ℕ) (d : Commit) → c ≡ Alone at why stamp → ledgers.IsCaused (joined_in l) (offer_in l) (binding_in l) at why → Contains es d → CausedBy ps (config_of es) why d → ledgers.CountsFor (binding_in l) d c
+      enables : (at : Row × ℕ) (why : Cause) (stamp : ℕ) (d : Commit) → c ≡ Alone at why stamp → ledgers.IsCaused (joined_in l) (offer_in l) (marks_in l) at why → Contains es d → CausedBy ps (config_of es) why d → ledgers.CountsFor (marks_in l) d c
       enables at (cause.Always m) stamp d is fits there h = absurd h
       enables at (cause.Nack n) stamp d is fits there h =
           let has = row-involves d n.thread h.0 h.2 in
           let b = bound-where n h.0 d there has h.1 in
-          subst (λ (z : Commit). ledgers.CountsFor (binding_in l) d z) (sym is)
+          subst (λ (z : Commit). ledgers.CountsFor (marks_in l) d z) (sym is)
           (inr (b.0, b.1, subst (λ (g : ℕ). Involves d (row n.thread g)) (sym b.2) has))
-      enables at (cause.End t) stamp d is fits there h = absurd fits
+      enables at (cause.End t) stamp d is fits there h = absurd (unended t fits.1.0 fits.1.1 fits.1.2)
 
-      counted-as : (e d : Commit) → c ≡ e → Contains es d → CountsFor ps (config_of es) e d → ledgers.CountsFor (binding_in l) d c
+      counted-as : (e d : Commit) → c ≡ e → Contains es d → CountsFor ps (config_of es) e d → ledgers.CountsFor (marks_in l) d c
       counted-as (Pair sender receiver chan msg stamp) d is there (inl h) = of-counts d sender.0.thread there h (subst (λ (z : Commit). HasThread z sender.0.thread) (sym is) (inl refl))
       counted-as (Pair sender receiver chan msg stamp) d is there (inr h) = of-counts d receiver.0.thread there h (subst (λ (z : Commit). HasThread z receiver.0.thread) (sym is) (inr refl))
       counted-as (Alone at why stamp) d is there (inl h) = of-counts d at.0.thread there h (subst (λ (z : Commit). HasThread z at.0.thread) (sym is) refl)
-      counted-as (Alone at why stamp) d is there (inr h) = enables at why stamp d is (subst (ledgers.Fits (joined_in l) (offer_in l) (binding_in l)) is (law.fits c in_c)) there h
+      counted-as (Alone at why stamp) d is there (inr h) = enables at why stamp d is (subst (ledgers.Fits (joined_in l) (offer_in l) (marks_in l)) is (law.fits c in_c)) there h
 
-      fires : (at : Row × ℕ) (why : Cause) (d : Commit) → ledgers.IsCaused (joined_in l) (offer_in l) (binding_in l) at why → Contains es d → ledgers.CausedBy (binding_in l) d why → CausedBy ps (config_of es) why d
+      fires : (at : Row × ℕ) (why : Cause) (d : Commit) → ledgers.IsCaused (joined_in l) (offer_in l) (marks_in l) at why → Contains es d → ledgers.CausedBy (marks_in l) d why → CausedBy ps (config_of es) why d
       fires at (cause.Always m) d h there by = absurd by
       fires at (cause.Nack n) d h there (b, is_bound, has) =
           let en = h.1 in
@@ -321,12 +337,12 @@ module _ (ps : List Proc) (rows : ℕ) (l : Ledger) (law : IsLawful l) (of : IsL
           let mine : Involves en.commit (row n.thread b.sync) = subst (λ (g : ℕ). Involves en.commit (row n.thread g)) sync (en.chosen, en.takes) in
           let one : d ≡ en.commit = law.once (row n.thread b.sync) d en.commit (k.members d there) en.inside has mine in
           (b.sync, subst (IsFiredAt ps (config_of es) n) sync (fired n en (subst (Contains es) one there)), involves-row d n.thread b.sync has)
-      fires at (cause.End t) d h there by = absurd h
+      fires at (cause.End t) d h there by = absurd (unended t h.1.0 h.1.1 h.1.2)
 
-      counting-as : (e d : Commit) → c ≡ e → Contains es d → ledgers.CountsFor (binding_in l) d e → CountsFor ps (config_of es) e d
+      counting-as : (e d : Commit) → c ≡ e → Contains es d → ledgers.CountsFor (marks_in l) d e → CountsFor ps (config_of es) e d
       counting-as e d is there (inl (t, g, h, lt, has_d, has_e)) = counts ps (config_of es) e d t (involves-thread e t g has_e) (inl (involves-thread d t h has_d))
       counting-as (Pair sender receiver chan msg stamp) d is there (inr h) = absurd h
-      counting-as (Alone at why stamp) d is there (inr h) = inr (fires at why d (subst (ledgers.Fits (joined_in l) (offer_in l) (binding_in l)) is (law.fits c in_c)) there h)
+      counting-as (Alone at why stamp) d is there (inr h) = inr (fires at why d (subst (ledgers.Fits (joined_in l) (offer_in l) (marks_in l)) is (law.fits c in_c)) there h)
 
       greatest-is : IsGreatest es (CountsFor ps (config_of es) c) (stamp_of c - 1)
       greatest-is =
@@ -334,12 +350,15 @@ module _ (ps : List Proc) (rows : ℕ) (l : Ledger) (law : IsLawful l) (of : IsL
             above = λ d there h. omega (arith, due.above d (k.members d there) (counted-as c d refl there h));
             there = ⊎_elim
                 (λ e. inl (omega (arith, e)))
+                (λ other. ⊎_elim
                 (λ h. inr (h.0, behind h.0 h.1 h.2, counting-as c h.0 refl (behind h.0 h.1 h.2) h.2, omega (arith, h.3)))
+                (λ h. inl (omega (arith, h.2, at-start h.0)))
+                other)
                 due.next;
           }
 
       positive : 1 ≤ stamp_of c
-      positive = ⊎_elim (λ e. omega (arith, e)) (λ h. omega (arith, h.3)) (law.stamps c in_c).next
+      positive = ⊎_elim (λ e. omega (arith, e)) (λ other. ⊎_elim (λ h. omega (arith, h.3)) (λ h. omega (arith, h.2)) other) (law.stamps c in_c).next
 
       follows : Follows ps rows es c
       follows = record { legal = legal; greatest = stamp_of c - 1; is = greatest-is; stamp = omega (arith, positive) }
@@ -398,7 +417,7 @@ module _ (ps : List Proc) (rows : ℕ) (l : Ledger) (law : IsLawful l) (of : IsL
       let at_c : slice_get commits (length es) ≡ Some c = ap (λ (xs : List Commit). slice_get xs (length es)) whole ∙ slice_get-middle es cs c in
       let in_c : HasCommit l c = in-ledger c (place (length es) c at_c) in
       let anew : Contains es c → ⊥ = λ h. let same : h.0 ≡ length es = causal.once h.0 (length es) c (at-front h.0 c h) at_c in omega (arith, h.1, same) in
-      let behind : (d : Commit) → HasCommit l d → ledgers.CountsFor (binding_in l) d c → Contains es d = λ d in_d h.
+      let behind : (d : Commit) → HasCommit l d → ledgers.CountsFor (marks_in l) d c → Contains es d = λ d in_d h.
       let w = in-commits d in_d in
       let at_d : slice_get commits w.0 ≡ Some d = slice_get-get_or commits w.0 d w.1 ∙ ap (λ (z : Commit). Some z) w.2 in
       let lt : w.0 < length es = causal.behind w.0 (length es) c d at_d at_c h in

@@ -10,20 +10,22 @@ use Rattle.journal_order.specs.Ledgers.{ProcessOffers, ScheduleHasLedger, Schedu
 use Rattle.journal_order.proofs.Leading.{ledger-is-run}
 
 pub schedule-has-ledger : ScheduleHasLedger
-schedule-has-ledger ps threads rows seats steps w few_threads few_rows plays opens =
-    stands-ledger (ProcessOffers ps) w.table (rows-stand (ProcessOffers ps) threads rows seats steps w few_threads few_rows plays opens)
+schedule-has-ledger ps threads rows seats later steps w few_threads few_rows plays opens running = record {
+  running = running;
+  each = stands-ledger (ProcessOffers ps) w.table (rows-stand (ProcessOffers ps) threads rows seats later steps w few_threads few_rows plays opens);
+}
 
 ledger-rows : (t : Table) → (ledger_of t).rows ≡ t.rows
 unfolding ledger_of
 ledger-rows t = refl
 
-start-rows : (threads rows seats : ℕ) → (start_world threads rows seats).table.rows ≡ rows
+start-rows : (threads rows seats later : ℕ) → (start_world threads rows seats later).table.rows ≡ rows
 unfolding start_world
-start-rows threads rows seats = refl
+start-rows threads rows seats later = refl
 
 pub schedule-is-run : ScheduleIsRun
-schedule-is-run ps threads rows seats steps w commits few_threads few_rows plays opens order =
-    let size : (ledger_of w.table).rows ≡ rows = ledger-rows w.table ∙ (grows-schedule (start_world threads rows seats) w steps (kept_start threads rows seats few_threads few_rows) plays).rows ∙ start-rows threads rows seats in
-    ledger-is-run ps rows (ledger_of w.table) commits (lawful_schedule threads rows seats steps w few_threads few_rows plays)
-    (schedule-has-ledger ps threads rows seats steps w few_threads few_rows plays opens)
+schedule-is-run ps threads rows seats later steps w commits few_threads few_rows plays opens running order =
+    let size : (ledger_of w.table).rows ≡ rows = ledger-rows w.table ∙ (grows-schedule (start_world threads rows seats later) w steps (kept_start threads rows seats later few_threads few_rows) plays).rows ∙ start-rows threads rows seats later in
+    ledger-is-run ps rows (ledger_of w.table) commits (lawful_schedule threads rows seats later steps w few_threads few_rows plays)
+    (schedule-has-ledger ps threads rows seats later steps w few_threads few_rows plays opens running)
     (omega (arith, size)) order

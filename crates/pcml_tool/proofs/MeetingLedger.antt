@@ -13,13 +13,13 @@ use Rattle.protocol_values.specs.declared.Message.TheVariants.{One}
 use Rattle.protocol_values.specs.declared.Offer.{Offer}
 use Rattle.protocol_values.specs.declared.Row.{Row}
 use Rattle.protocol_values.specs.Commits.{stamp_of}
-use Rattle.protocol.specs.Ledgers.{Ledger, IsLawful, HasCommit, IsIn, Offers, Takes, CountsFor, commits_in, commits_of, commit_by, commit_named, pair_by, told_at, told_by, tells, is_send, sends, rows_in, joined_in, offer_in, binding_in, has_row, entry_in, no_entry}
+use Rattle.protocol.specs.Ledgers.{Ledger, IsLawful, HasCommit, IsIn, Offers, Takes, CountsFor, CountsThread, commits_in, course_in, commits_of, commit_by, commit_named, pair_by, told_at, told_by, tells, is_send, sends, rows_in, joined_in, marks_in, offer_in, has_row, entry_in, no_entry}
 use Rattle.std.specs.Prelude.{IsPermutation}
 use Rattle.std.specs.Fmt.{digits}
 use Rattle.std.specs.List.{All}
 use Rattle.std.proofs.lemmas.List.Elements.{All-cons, All-nil}
 use Rattle.std.proofs.lemmas.List.Sorted.{length_permutation, All-permutation}
-use Rattle.protocol.specs.Tables.{all_rows}
+use Rattle.protocol.specs.Tables.{all_rows, start_of}
 use Rattle.journal_text.specs.Names.{numbers}
 use Rattle.journal_text.specs.Texts.{commits_text}
 use Rattle.protocol.proofs.RowLemmas.{same_row}
@@ -123,12 +123,15 @@ module _ (value : ℕ) (l : Ledger) (h : HasTwoOffers value l) where
       let b = receiver_is receiver chan f.2 in
       let stamp : s ≡ 1 = ⊎_elim
       (λ (e : s ≡ 1). e)
-      (λ (d : (d : Commit) × HasCommit l d × CountsFor (binding_in l) d (Pair sender receiver chan m s) × (s ≡ stamp_of d + 1)). absurd (first sender receiver chan m s d.0 a.0 b d.2))
+      (λ other. ⊎_elim
+      (λ (d : (d : Commit) × HasCommit l d × CountsFor (marks_in l) d (Pair sender receiver chan m s) × (s ≡ stamp_of d + 1)). absurd (first sender receiver chan m s d.0 a.0 b d.2))
+      (λ (t : (t : ℕ) × CountsThread (Pair sender receiver chan m s) t × (s ≡ start_of (course_in l t) + 1)). t.2 ∙ ap (λ (n : ℕ). n + 1) (h.starts t.0))
+      other)
       (h.lawful.stamps (Pair sender receiver chan m s) c).next in
       (λ i. Pair (a.0 i) (b i) (a.1 i) (a.2 i) (stamp i))
     where
       -- no commit counts for it: it has no earlier row, and no nack
-      first : (sender receiver : Row × ℕ) (chan : ℕ) (m : Message) (s : ℕ) (d : Commit) → sender ≡ (first_row 0, 0) → receiver ≡ (first_row 1, 0) → CountsFor (binding_in l) d (Pair sender receiver chan m s) → ⊥
+      first : (sender receiver : Row × ℕ) (chan : ℕ) (m : Message) (s : ℕ) (d : Commit) → sender ≡ (first_row 0, 0) → receiver ≡ (first_row 1, 0) → CountsFor (marks_in l) d (Pair sender receiver chan m s) → ⊥
       first sender receiver chan m s d a b (inl (thread, g, k, low, before, (n, inl e))) =
           let sync : g ≡ 0 = ap (λ (z : Row × ℕ). z.0.sync) (sym e ∙ a) in omega arith
       first sender receiver chan m s d a b (inl (thread, g, k, low, before, (n, inr e))) =
@@ -144,7 +147,11 @@ module _ (value : ℕ) (l : Ledger) (h : HasTwoOffers value l) where
       neither : (OnNack n ≡ Send 0 (One (Num value))) ⊎ (OnNack n ≡ Recv 0) → ⊥
       neither (inl e) = let bad : OnNack n ≡ Send 0 (One (Num value)) = e in cc
       neither (inr e) = let bad : OnNack n ≡ Recv 0 = e in cc
-  one_commit (Alone at (cause.End t) s) c = absurd (h.lawful.fits (Alone at (cause.End t) s) c)
+  one_commit (Alone at (cause.End t) s) c = absurd (neither (not_alone at (OnEnd t) (h.lawful.fits (Alone at (cause.End t) s) c).0))
+    where
+      neither : (OnEnd t ≡ Send 0 (One (Num value))) ⊎ (OnEnd t ≡ Recv 0) → ⊥
+      neither (inl e) = let bad : OnEnd t ≡ Send 0 (One (Num value)) = e in cc
+      neither (inr e) = let bad : OnEnd t ≡ Recv 0 = e in cc
 
   -- a row that tells a commit is committed, and tells that pair
   told : (r : Row) (c : Commit) → told_at (joined_in l) (offer_in l) r ≡ Some c → (c ≡ meeting_of value) × (is_some (joined_in l r) ≡ true)

@@ -8,7 +8,8 @@ use Rattle.protocol_values.specs.declared.Base.TheVariants.{Send, Recv}
 use Rattle.protocol_values.specs.declared.Offer.{Offer}
 use Rattle.protocol_values.specs.declared.Commit.{Commit}
 use Rattle.protocol_values.specs.declared.Commit.TheVariants.{Pair}
-use Rattle.protocol.specs.Ledgers.{Ledger, IsLawful, offer_in}
+use Rattle.protocol.specs.Ledgers.{Ledger, IsLawful, course_in, offer_in}
+use Rattle.protocol.specs.Tables.{start_of}
 use Rattle.cell.specs.Calls.{Grid, PassView, IsPassOf, IsRowOf}
 use Rattle.cell_table.specs.Rule.{seen_nothing}
 use Rattle.cell_table.specs.Sight.{Has, IsDraft}
@@ -40,11 +41,12 @@ IsReady cells pass row = IsPassOf cells pass × IsRowOf cells row × (pass.seen 
 abbrev pub HasTakenPart : Grid → PassView → Row → Offer → Type 0
 HasTakenPart cells pass row offer = IsPassOf cells pass × Has pass.seen.held row × Has pass.seen.opened row × IsDraft pass.seen row (offer ∷ [])
 
--- the ledger of a table of two rows, with one offer each
+-- the ledger of a table of two rows, with one offer each, whose threads started with stamp 0
 pub record HasTwoOffers (value : ℕ) (l : Ledger) : Type 0 where
   pub threads : l.threads ≡ 2
   pub rows : l.rows ≡ 1
   pub lawful : IsLawful l
+  pub starts : (t : ℕ) → start_of (course_in l t) ≡ 0
   pub sends : offer_in l (first_row 0) 0 ≡ Some (send_of value)
   pub sends_alone : (n : ℕ) → 1 ≤ n → offer_in l (first_row 0) n ≡ None
   pub receives : offer_in l (first_row 1) 0 ≡ Some receive_offer

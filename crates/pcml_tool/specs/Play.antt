@@ -1,5 +1,5 @@
 -- What playing a schedule prints, and what its faults say.
-use Rattle.std.specs.Prelude.{◌≡◌, ℕ, ◌+◌, List, [], ◌∷◌, ◌++◌, length, codes, IsPermutation}
+use Rattle.std.specs.Prelude.{◌≡◌, ℕ, ◌+◌, ◌-◌, ◌^◌, Option, Some, None, List, [], ◌∷◌, ◌++◌, length, codes, IsPermutation}
 use Rattle.std.specs.Fmt.{decimal}
 use Rattle.protocol_values.specs.declared.Commit.{Commit}
 use Rattle.protocol_values.specs.Commits.{IsInOrder}
@@ -29,9 +29,14 @@ pub record Reports (l : Ledger) (text : List ℕ) : Type 0 where
   pub are : AreCommitsOf l commits
   pub is : text ≡ commits_text numbers commits ++ counts_line (length commits) (pending_in l)
 
+-- the mask of the threads that wait to be started: none, or those from n on
+abbrev pub later_of : Option ℕ → ℕ
+later_of None = 0
+later_of (Some n) = 2 ^ 64 - 2 ^ n
+
 -- the world in which a schedule begins
 abbrev pub start_of : Size → World
-start_of w = start_world w.threads w.rows w.seats
+start_of w = start_world w.threads w.rows w.seats (later_of w.started)
 
 -- The bytes spell a schedule each of whose steps is allowed in turn, and the text tells the ledger of the world that
 -- they lead to.

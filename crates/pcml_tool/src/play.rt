@@ -1,9 +1,9 @@
 //! What `play` prints.
 
-ghost use Rattle.std.specs.Prelude.{◌≡◌, IfOk, IfErr};
+ghost use Rattle.std.specs.Prelude.{◌≡◌, ◌≤◌, IfOk, IfErr, IfSome};
 ghost use Rattle.std.specs.String.{string_bytes};
 ghost use Rattle.protocol_schedule.specs.Schedule.{IsSize};
-ghost use Rattle.pcml_tool.specs.Play.{start_of, comes_from, counts_line, Reports, IsPlayed, ExplainsPlay, IsPlayedOrFaulty, HasOneFirstRefused};
+ghost use Rattle.pcml_tool.specs.Play.{later_of, start_of, comes_from, counts_line, Reports, IsPlayed, ExplainsPlay, IsPlayedOrFaulty, HasOneFirstRefused};
 ghost use Rattle.pcml_tool.specs.declared.play.PlayFault.TheVariants.{Memory};
 
 use journal_text::write_numbered;
@@ -44,12 +44,24 @@ impl From<AllocError> for PlayFault {
     }
 }
 
+/// The threads that wait to be started, as a mask: bit t stands for thread t.
+fn later_of(started: Option<u8>) -> u64
+    requires { IfSome started (λ n. n ≤ 64) }
+    ensures { result ≡ later_of started }
+{
+    match started {
+        None | Some(64) => 0,
+        Some(n) => u64::MAX - ((1 << n) - 1),
+    }
+}
+
 /// The world in which a schedule of this size begins.
 fn start(alloc: Global, size: Size) -> Result<World, AllocError>
     requires { IsSize size }
     ensures { IfOk result (λ world. world ≡ start_of size) }
 {
-    match World::start(alloc, size.threads, size.rows, size.seats) {
+    let later = later_of(size.started);
+    match World::start_later(alloc, size.threads, size.rows, size.seats, later) {
         Ok(world) => Ok(world),
         Err(_) => Err(AllocError),
     }

@@ -2,11 +2,14 @@
 use Rattle.std.proofs.Common.{◌⊎◌, ◌≡◌, ◌≢◌, ◌<◌, ◌≤◌, ◌+◌, ℕ, zero, suc, Bool, true, false, List, [], ◌∷◌, ◌++◌, length, take, Option, None, Some, cond, get_or, slice_get, sym, refl, ap, ◌∙◌, subst, inl, inr, ⊎_elim, arith}
 use Rattle.std.specs.Prelude.{IsFalse}
 use Rattle.std.proofs.Math.Seq.{take-length}
+use Rattle.std.proofs.lemmas.Bool.{cases_lt, le-ltb, lt-ltb}
 use Rattle.std.proofs.lemmas.List.{length-append}
 use Rattle.std.proofs.lemmas.Option.{get_or_from_slice_get, none-some, same_Some, slice_get-get_or, slice_get_within}
 use Rattle.event.specs.Tree.{scope_nacks}
 use Rattle.atomic_table.specs.Table.{rest}
 use Rattle.protocol_values.specs.declared.Binding.{Binding}
+use Rattle.protocol_values.specs.declared.Course.{Course}
+use Rattle.protocol_values.specs.declared.Course.TheVariants.{Unstarted, Running}
 use Rattle.protocol_values.specs.declared.NackName.{NackName}
 use Rattle.protocol_values.specs.declared.Offer.{Offer}
 use Rattle.protocol_values.specs.declared.Row.{Row}
@@ -20,11 +23,12 @@ use Rattle.protocol.specs.Ledgers.{IsLawful, Ledger, ledger_of}
 use Rattle.protocol.specs.Standing.{EachOffersAs, SomeStands, binding_of}
 use Rattle.protocol.specs.Tables.{bound_row}
 use Rattle.protocol.specs.Worlds.{nack_of_row, start_world}
-use Rattle.protocol.proofs.LedgerLemmas.{kept_start, lawful_ledger}
+use Rattle.protocol.proofs.LedgerLemmas.{course_in_ledger, kept_start, lawful_ledger, nobody_waits, start_course}
+use Rattle.protocol.proofs.Readings.{course_outside}
 use Rattle.protocol.proofs.Standing.{stands-ledger, stands-start}
 use Rattle.journal_replay.specs.Runs.{IsOffering}
 use Rattle.journal_order.specs.Laws.{HasScopeAt}
-use Rattle.journal_order.specs.Ledgers.{IsLedgerOf, ProcessOffers}
+use Rattle.journal_order.specs.Ledgers.{AllRun, IsLedgerOf, ProcessOffers}
 use Rattle.journal_order.proofs.Nacks.{one-sync}
 use Rattle.cell.specs.Attempts.{Bound, BoundBefore}
 use Rattle.cell_table.specs.Told.{IsEarlier}
@@ -145,10 +149,11 @@ offers_as ps first t results os ns are (m, (is, phase)) =
         let thread = same.thread ∙ starts.thread in
         (λ i. Rattle.thread.specs.After.after (sym body i) (sym variables i) (sym thread i) (sym given i)) ∙ o.after
 
-pub ledger_of_processes : (ps : List Proc) (first : List Suspended) (l : Ledger) → AreFirst ps first → EachOffersAs (SomeStands StandsFor first) l → IsLedgerOf ps l
-ledger_of_processes ps first l are each r n o h =
-    let s = each r n o h in
-    record {
+pub ledger_of_processes : (ps : List Proc) (first : List Suspended) (l : Ledger) → AreFirst ps first → AllRun l → EachOffersAs (SomeStands StandsFor first) l → IsLedgerOf ps l
+ledger_of_processes ps first l are running each = record { running = running; each = offers_so }
+  where
+    offers_so : EachOffersAs (ProcessOffers ps) l
+    offers_so r n o h = let s = each r n o h in record {
       results = s.results;
       count = s.count;
       are = s.are;
@@ -161,12 +166,25 @@ ledger_of_processes ps first l are each r n o h =
       no_others = s.no_others;
     }
 
+-- in a world in which nothing was done its one thread runs
+all_run : AllRun (ledger_of (start_world 1 1 1 0).table)
+unfolding ledger_of start_world
+all_run t =
+    ap (λ (f : ℕ → Course). f t) (course_in_ledger (start_world 1 1 1 0).table)
+    ∙ ⊎_elim
+    (λ (h : t < 1). start_course 1 1 0 t h ∙ ap (λ (b : Bool). cond b Unstarted (Running 0)) (nobody_waits t) ∙ sym (ap (λ (b : Bool). cond b (Running 0) Unstarted) (lt-ltb t 1 h)))
+    (λ (h : 1 ≤ t). course_outside (start_world 1 1 1 0).table t h ∙ sym (ap (λ (b : Bool). cond b (Running 0) Unstarted) (le-ltb t 1 h)))
+    (cases_lt t 1)
+
 -- the ledger of a world in which nothing was done is one of any processes
-pub empty_ledger : IsLawful (ledger_of (start_world 1 1 1).table) × IsOfAny (ledger_of (start_world 1 1 1).table) × ((ledger_of (start_world 1 1 1).table).rows ≡ 1)
+pub empty_ledger : IsLawful (ledger_of (start_world 1 1 1 0).table) × IsOfAny (ledger_of (start_world 1 1 1 0).table) × ((ledger_of (start_world 1 1 1 0).table).rows ≡ 1)
 unfolding ledger_of start_world
 empty_ledger = (
-  lawful_ledger (start_world 1 1 1).table (kept_start 1 1 1 (omega arith) (omega arith)).linked,
-  λ ps. stands-ledger (ProcessOffers ps) (start_world 1 1 1).table (stands-start (ProcessOffers ps) 1 1 1),
+  lawful_ledger (start_world 1 1 1 0).table (kept_start 1 1 1 0 (omega arith) (omega arith)).linked,
+  λ ps. record {
+    running = all_run;
+    each = stands-ledger (ProcessOffers ps) (start_world 1 1 1 0).table (stands-start (ProcessOffers ps) 1 1 1 0);
+  },
   refl,
 )
 

@@ -16,7 +16,7 @@ use Rattle.cell_table.proofs.every_moment_is_lawful.Goals as goal
 
 pub returns : goal.returns
 returns g c shape s k =
-    let start : World = start_world shape.threads shape.rows shape.passes in
+    let start : World = start_world shape.threads shape.rows shape.passes 0 in
     let kept : Kept k.world = world_kept g.M.Resident.stands shape s k in
     record {
       lawful = subst (λ (t : Table). IsLawful (ledger_of t)) k.table (lawful_ledger k.world.table kept.linked);
@@ -30,11 +30,11 @@ returns g c shape s k =
           (subst (λ (t : Table). is_fresh (cell_at t r) ≡ true) k.table one.fresh, one.value, one.is_first, one.home);
       one_holder = λ i j u v r at also held too. sym ((k.knows i u at.0 at.1).mine r held).0 ∙ ((k.knows j v also.0 also.1).mine r too).0;
       one_taker = λ i j u v r at also took too.
-          taken_once start k.world k.moves s.views i j u v r (kept_start shape.threads shape.rows shape.passes k.few_threads k.few_rows) k.played k.interleaved at.0 also.0 took too;
+          taken_once start k.world k.moves s.views i j u v r (kept_start shape.threads shape.rows shape.passes 0 k.few_threads k.few_rows) k.played k.interleaved at.0 also.0 took too;
       one_seat = λ i j u v at also acted too.
           k.seated.one_seat i j u v at.0 also.0 at.1 also.1 (acts s.views i u k.seated at.0 acted) (acts s.views j v k.seated also.0 too);
       binder = λ n b bound.
-          let by = bound_by start k.world k.moves s.views (kept_start shape.threads shape.rows shape.passes k.few_threads k.few_rows) k.played k.interleaved n b
+          let by = bound_by start k.world k.moves s.views (kept_start shape.threads shape.rows shape.passes 0 k.few_threads k.few_rows) k.played k.interleaved n b
           (first_binding shape.threads shape.rows shape.passes n) (ap (λ (t : Table). binding_at t n) k.table ∙ bound) in
           (by.0, by.1, (by.2, stays_of (bind_of n b) s.views by.0 by.1 k.seated by.2 by.3), by.3, k.seated.binders by.0 by.1 n.k (bound_row n b) b.scope by.2 by.3);
       named_once = λ q r p. subst (λ (t : Table). names (joined_at t q) p ≡ true → names (joined_at t r) p ≡ true → q ≡ r) k.table (kept.linked.once q r p);

@@ -1,4 +1,6 @@
-use Rattle.std.proofs.Common.{sym, ◌∙◌, subst}
+use Rattle.std.proofs.Common.{◌≡◌, Bool, true, false, ap, cond, ltb, refl, sym, ◌∙◌, subst}
+use Rattle.protocol_values.specs.declared.Course.TheVariants.{Unstarted, Running}
+use Rattle.protocol.specs.Tables.{start_of}
 use Rattle.cell_table.specs.declared.view.Seen.{Seen}
 use Rattle.cell_table.specs.Rule.{heard, told_of}
 use Rattle.cell_table.specs.Sight.{SeesOffer, SeesNoOffer}
@@ -6,12 +8,17 @@ use Rattle.pcml_tool.specs.Meet.{first_row, send_of, receive_offer}
 use Rattle.pcml_tool.proofs.Parts.{sees_own, sees_no_more, still_opened}
 use Rattle.pcml_tool.proofs.meeting.end.Goals as goal
 
+at_start : (b : Bool) → start_of (cond b (Running 0) Unstarted) ≡ 0
+at_start true = refl
+at_start false = refl
+
 pub returns : goal.returns
 returns c value size sends receives =
     record {
       threads = c.close.ensures.size.0 ∙ size.0;
       rows = c.close.ensures.size.1 ∙ size.1;
       lawful = c.close.ensures.lawful;
+      starts = λ t. ap start_of (c.close.ensures.running t) ∙ at_start (ltb t c.args.cells.threads);
       sends = c.close.ensures.offers (first_row 0) 0 (send_of value)
           (subst (λ (s : Seen). SeesOffer s (first_row 0) 0 (send_of value)) (sym c.tell.ensures.told)
           (sees_own (heard c.args.sender.seen (told_of c.args.receiver.seen)) (first_row 0) (send_of value) (still_opened c.args.sender.seen (told_of c.args.receiver.seen) (first_row 0) sends.2) sends.3));

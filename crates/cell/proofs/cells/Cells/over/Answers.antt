@@ -1,4 +1,5 @@
-use Rattle.std.proofs.Common.{rules, ◌≡◌, ℕ, ◌++◌, ◌∷◌, [], sym, ap, subst, ◌∙◌}
+use Rattle.std.proofs.Common.{rules, ◌≡◌, ℕ, List, length, ◌++◌, ◌∷◌, [], sym, ap, subst, ◌∙◌}
+use Rattle.protocol.proofs.LedgerLemmas.{length_start}
 use Rattle.cell_table.specs.declared.view.Shape.{Shape}
 use Rattle.cell.specs.Calls.{PassOf}
 use Rattle.cell_table.specs.Rule.{dealer, dealt_pass, dealt_rows, seen_nothing}
@@ -49,3 +50,9 @@ pub returns-clause-results : goal.returns-clause-results
 returns-clause-results g c number pass e =
     let is = c.loop-number.invariant.each number pass e in
     (ap (λ (p : PassOf g.row.M.Denot). p.results) is, ap (λ (p : PassOf g.row.M.Denot). p.out) is)
+
+-- as many words are spare as the table has
+pub invariant_of-result : goal.invariant_of-result
+invariant_of-result g c =
+    let words = ap (λ (ws : List ℕ). length ws) c.in_ok-spare.ensures ∙ length_start c.from-4.result c.from-5.result 0 in
+    (words ∙ (search rules), search rules)
