@@ -8,6 +8,14 @@ use crate::plain_row::{
 };
 use protocol_values::{Cause, Commit, Message, NackName, Row, Seat, Step};
 
+/// Of a thread: the stamp of its start, the sync at which it ended, and the seat that took its last row.
+#[derive(Clone, Copy)]
+struct Life {
+    start: Option<u32>,
+    end: Option<u16>,
+    behind: Option<u8>,
+}
+
 /// A world of three threads with two rows each, whose words stand apart; place 0 of them is not used.
 /// A nack that is bound has its sync and its scope.
 #[derive(Clone, Copy)]
@@ -16,13 +24,20 @@ pub(crate) struct PlainWorld {
     rows: [PlainRow; 6],
     words: [[u64; 34]; 6],
     nacks: [Option<(u16, u8)>; 192],
+    lives: [Life; 3],
 }
 
 impl PlainWorld {
-    /// All rows Fresh and no nack bound; row 0 of thread t is held by seat t mod `seats`.
-    pub(crate) fn start(seats: u8) -> PlainWorld
+    /// All rows Fresh and no nack bound; row 0 of thread t is held by seat t mod `seats`. The last thread
+    /// may wait to be started, and then nobody holds its row.
+    pub(crate) fn start(seats: u8, last_waits: bool) -> PlainWorld
         requires some_seats { 1 ≤ seats }
     {
+        let (holder, last) = if last_waits {
+            (None, unstarted())
+        } else {
+            (Some(2 % seats), started())
+        };
         PlainWorld {
             seats,
             rows: [
@@ -30,11 +45,12 @@ impl PlainWorld {
                 fresh_row(0, 1, None),
                 fresh_row(1, 0, Some(1 % seats)),
                 fresh_row(1, 1, None),
-                fresh_row(2, 0, Some(2 % seats)),
+                fresh_row(2, 0, holder),
                 fresh_row(2, 1, None),
             ],
             words: [[0; 34]; 6],
             nacks: [None; 192],
+            lives: [started(), started(), last],
         }
     }
 
@@ -54,7 +70,9 @@ impl PlainWorld {
         }
         match step {
             Step::Draft { row, place, value } => self.draft(seat, row, place, value),
-            Step::Open { row } => self.change(seat, row, Stage::Fresh, Stage::Waiting),
+            Step::Open { row } => {
+                self.may_write(seat, row) && self.change(seat, row, Stage::Fresh, Stage::Waiting)
+            }
             Step::Look { row } => self.row(row).is_some(),
             Step::Read { row, place } => self.is_open(row) && 1 <= place && place <= 33,
             Step::Claim { row } => self.change(seat, row, Stage::Waiting, Stage::Claimed),
@@ -71,7 +89,8 @@ impl PlainWorld {
             Step::Grant { row, offer } => self.grant(row, offer),
             Step::Take { row } => self.take(seat, row),
             Step::Bind { k, row, scope } => self.bind(seat, k, row, scope),
-            Step::Start { .. } | Step::Finish { .. } => false,
+            Step::Start { row, thread } => self.begin(seat, row, thread),
+            Step::Finish { row } => self.end(seat, row),
         }
     }
 
@@ -91,6 +110,42 @@ impl PlainWorld {
             Some(line)
         } else {
             None
+        }
+    }
+
+    fn life(&self, thread: u8) -> Option<Life> {
+        self.lives.get(usize::from(thread)).copied()
+    }
+
+    fn put_life(&mut self, thread: u8, life: Life) {
+        if let Some(place) = self.lives.get_mut(usize::from(thread)) {
+            *place = life;
+        }
+    }
+
+    fn has_ended(&self, thread: u8) -> bool {
+        match self.life(thread) {
+            Some(life) => life.end.is_some(),
+            None => false,
+        }
+    }
+
+    /// Whether the seat has the row, not opened yet, of a thread that goes on.
+    fn may_write(&self, seat: Seat, row: Row) -> bool {
+        match self.held(seat, row) {
+            Some(line) => line.stage == Stage::Fresh && !self.has_ended(row.thread),
+            None => false,
+        }
+    }
+
+    /// Whether the seat has the thread between two syncs, at this one.
+    fn is_between(&self, seat: Seat, row: Row) -> bool {
+        if row.sync != 2 {
+            return self.may_write(seat, row);
+        }
+        match self.life(row.thread) {
+            Some(life) => life.behind == Some(seat.0) && life.end.is_none(),
+            None => false,
         }
     }
 
@@ -138,9 +193,21 @@ impl PlainWorld {
         Some(message_of(head, first, second, third))
     }
 
+    fn start_stamp(&self, thread: u8) -> u32 {
+        match self.life(thread) {
+            Some(
+                Life {
+                    start: Some(start),
+                    ..
+                },
+            ) => start,
+            _ => 0,
+        }
+    }
+
     fn last_stamp(&self, row: Row) -> u32 {
         if row.sync == 0 {
-            return 0;
+            return self.start_stamp(row.thread);
         }
         let before = Row {
             thread: row.thread,
@@ -168,11 +235,15 @@ impl PlainWorld {
         }
     }
 
+    /// The stamp that the thread had when it ended.
+    fn ended(&self, thread: u8) -> Option<u32> {
+        let life = self.life(thread)?;
+        let sync = life.end?;
+        Some(self.last_stamp(Row { thread, sync }))
+    }
+
     fn draft(&mut self, seat: Seat, row: Row, place: u8, value: u64) -> bool {
-        let Some(line) = self.held(seat, row) else {
-            return false;
-        };
-        if line.stage != Stage::Fresh || place < 1 || !is_word(place, value) {
+        if !self.may_write(seat, row) || place < 1 || !is_word(place, value) {
             return false;
         }
         let Some(words) = self.words.get_mut(place_of(row)) else {
@@ -252,7 +323,8 @@ impl PlainWorld {
         let cause = match self.way(row, offer) {
             Some(Way::Always) => Some(0),
             Some(Way::OnNack(nack)) => self.enabled(nack),
-            Some(Way::Send(_) | Way::Recv(_) | Way::OnEnd(_) | Way::Never) | None => None,
+            Some(Way::OnEnd(thread)) => self.ended(thread),
+            Some(Way::Send(_) | Way::Recv(_) | Way::Never) | None => None,
         };
         let Some(cause) = cause else {
             return false;
@@ -277,18 +349,23 @@ impl PlainWorld {
             thread: row.thread,
             sync: row.sync.wrapping_add(1),
         };
-        if let Some(mut line) = self.row(next) {
-            line.holder = Some(seat.0);
-            self.put(line);
-        }
+        self.hand(seat, next);
         true
     }
 
+    /// The seat goes on with the thread from here, which may be behind its last row.
+    fn hand(&mut self, seat: Seat, next: Row) {
+        if let Some(mut line) = self.row(next) {
+            line.holder = Some(seat.0);
+            self.put(line);
+        } else if let Some(mut life) = self.life(next.thread) {
+            life.behind = Some(seat.0);
+            self.put_life(next.thread, life);
+        }
+    }
+
     fn bind(&mut self, seat: Seat, k: u8, row: Row, scope: u8) -> bool {
-        let Some(line) = self.held(seat, row) else {
-            return false;
-        };
-        if line.stage != Stage::Fresh || scope > 3 {
+        if !self.may_write(seat, row) || scope > 3 {
             return false;
         }
         let nack = NackName {
@@ -302,6 +379,31 @@ impl PlainWorld {
             return false;
         }
         *bound = Some((row.sync, scope));
+        true
+    }
+
+    fn begin(&mut self, seat: Seat, row: Row, thread: u8) -> bool {
+        let Some(mut life) = self.life(thread) else {
+            return false;
+        };
+        if !self.is_between(seat, row) || row.thread == thread || life.start.is_some() {
+            return false;
+        }
+        life.start = Some(self.last_stamp(row));
+        self.put_life(thread, life);
+        self.hand(seat, Row { thread, sync: 0 });
+        true
+    }
+
+    fn end(&mut self, seat: Seat, row: Row) -> bool {
+        let Some(mut life) = self.life(row.thread) else {
+            return false;
+        };
+        if !self.is_between(seat, row) {
+            return false;
+        }
+        life.end = Some(row.sync);
+        self.put_life(row.thread, life);
         true
     }
 
@@ -360,6 +462,23 @@ impl PlainWorld {
             cause,
             stamp: line.stamp,
         })
+    }
+}
+
+/// A thread that waits to be started, and one that began with its world.
+fn unstarted() -> Life {
+    Life {
+        start: None,
+        end: None,
+        behind: None,
+    }
+}
+
+fn started() -> Life {
+    Life {
+        start: Some(0),
+        end: None,
+        behind: None,
     }
 }
 

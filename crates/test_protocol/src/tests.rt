@@ -169,9 +169,142 @@ fn worlds_start_at_the_ends_of_their_ranges(rt: HostRuntime) -> Result<(), Fail>
     check_last_row(&rt, 64, 1, 1)
 }
 
+/// The place behind the first thread's only row.
+const BEHIND: Row = Row { thread: 0, sync: 1 };
+
+fn start(row: Row, thread: u8) -> (Seat, Step) {
+    (Seat(0), Step::Start { row, thread })
+}
+
+fn finish(row: Row) -> (Seat, Step) {
+    (Seat(0), Step::Finish { row })
+}
+
+fn open(row: Row) -> (Seat, Step) {
+    (Seat(0), Step::Open { row })
+}
+
+fn grant(row: Row) -> (Seat, Step) {
+    (Seat(0), Step::Grant { row, offer: 0 })
+}
+
+/// Two threads with a row each, of which the second waits to be started, and one seat.
+fn waiting_world(alloc: Global) -> Result<World, ProtoFault> {
+    World::start_later(alloc, 2, 1, 1, 2)
+}
+
+fn check_refused(
+    rt: &(impl Abort + AllocGlobal),
+    steps: &[Move],
+    index: usize,
+) -> Result<(), Fail> {
+    let refused = match play(waiting_world(rt.alloc())?, steps) {
+        Err(ProtoFault::NotAllowed(at)) => Some(at),
+        _ => None,
+    };
+    check_same(rt, refused, Some(index), "the refused step");
+    Ok(())
+}
+
+#[test]
+fn an_end_is_granted_once_it_is_there(rt: HostRuntime) -> Result<(), Fail> {
+    let offered = [
+        draft(0, SENDER, 1, 1),
+        draft(0, SENDER, 2, 2053),
+        open(SENDER),
+        grant(SENDER),
+    ];
+    check_refused(&rt, &offered, 3)?;
+    let begun = [start(SENDER, 1)];
+    check_refused(&rt, &joined(rt.alloc(), &begun, &offered)?, 4)?;
+    let ended = [start(SENDER, 1), finish(RECEIVER)];
+    let steps = joined(rt.alloc(), &ended, &offered)?;
+    let ledger = play(waiting_world(rt.alloc())?, &steps)?.ledger();
+    let end = Commit::Alone {
+        at: (SENDER, 0),
+        cause: Cause::End(1),
+        stamp: 1,
+    };
+    check_ledger(&rt, &ledger, &[end], 0)?;
+    Ok(())
+}
+
+/// The first thread's row is committed and taken, and the second thread is started behind it.
+fn started_behind() -> [(Seat, Step); 6] {
+    [
+        draft(0, SENDER, 1, 1),
+        draft(0, SENDER, 2, 3),
+        open(SENDER),
+        grant(SENDER),
+        (Seat(0), Step::Take { row: SENDER }),
+        start(BEHIND, 1),
+    ]
+}
+
+/// Behind these steps the second thread's row is committed for this cause, and by stamp 2.
+fn check_second(rt: &(impl Abort + AllocGlobal), back: &[Move], cause: Cause) -> Result<(), Fail> {
+    let steps = joined(rt.alloc(), &started_behind(), back)?;
+    let ledger = play(waiting_world(rt.alloc())?, &steps)?.ledger();
+    let commit = Commit::Alone {
+        at: (RECEIVER, 0),
+        cause,
+        stamp: 2,
+    };
+    check_same(rt, ledger.commits()?.len(), 2, "the number of commits");
+    check_same(rt, ledger.commit_of(RECEIVER), Some(commit), "the second");
+    Ok(())
+}
+
+#[test]
+fn a_start_counts_for_what_follows_it(rt: HostRuntime) -> Result<(), Fail> {
+    let always = [
+        draft(0, RECEIVER, 1, 1),
+        draft(0, RECEIVER, 2, 3),
+        open(RECEIVER),
+        grant(RECEIVER),
+    ];
+    check_second(&rt, &always, Cause::Always(Message::Empty))?;
+    let end = [
+        finish(BEHIND),
+        draft(0, RECEIVER, 1, 1),
+        draft(0, RECEIVER, 2, 5),
+        open(RECEIVER),
+        grant(RECEIVER),
+    ];
+    check_second(&rt, &end, Cause::End(0))
+}
+
+#[test]
+fn a_thread_that_has_ended_does_nothing(rt: HostRuntime) -> Result<(), Fail> {
+    let bind = Step::Bind {
+        k: 0,
+        row: SENDER,
+        scope: 0,
+    };
+    let steps = [
+        draft(0, SENDER, 1, 1),
+        (Seat(0), bind),
+        open(SENDER),
+        finish(SENDER),
+        start(SENDER, 1),
+    ];
+    for step in steps.iter() {
+        check_refused(&rt, &[finish(SENDER), *step], 1)?;
+    }
+    Ok(())
+}
+
+#[test]
+fn a_start_is_refused_where_it_leads_nowhere(rt: HostRuntime) -> Result<(), Fail> {
+    check_refused(&rt, &[start(SENDER, 0)], 0)?;
+    check_refused(&rt, &[start(SENDER, 2)], 0)?;
+    check_refused(&rt, &[start(BEHIND, 1)], 0)?;
+    check_refused(&rt, &[start(SENDER, 1), start(SENDER, 1)], 1)
+}
+
 #[test]
 fn words_that_name_nothing_make_an_empty_ledger(rt: HostRuntime) -> Result<(), Fail> {
-    let words = vec![in rt.alloc(); 0; 98]?;
+    let words = vec![in rt.alloc(); 0; 99]?;
     let ledger = Ledger::of_words(1, 1, words);
     assert!(rt; ledger.commits()?.is_empty());
     Ok(())

@@ -17,15 +17,59 @@ const TEXT: &[u8] = b"world 64 1024 16
 8 grant 8.9 7
 9 take 9.1022
 10 bind 63 10.11 3
+11 start 63.1024 0
+12 start 0.0 63
+13 finish 11.1024
 ";
 
 const SIZE: Size = Size {
     threads: 64,
     rows: 1024,
     seats: 16,
+    started: None,
 };
 
-const STEPS: [(Seat, Step); 12] = [
+/// Worlds without a step.
+const WORLDS: [(&str, Size); 4] = [
+    (
+        "world 2 1 1\n",
+        Size {
+            threads: 2,
+            rows: 1,
+            seats: 1,
+            started: None,
+        },
+    ),
+    (
+        "world 2 1 1 1\n",
+        Size {
+            threads: 2,
+            rows: 1,
+            seats: 1,
+            started: Some(1),
+        },
+    ),
+    (
+        "world 2 1 1 2\n",
+        Size {
+            threads: 2,
+            rows: 1,
+            seats: 1,
+            started: Some(2),
+        },
+    ),
+    (
+        "world 64 1024 16 64\n",
+        Size {
+            threads: 64,
+            rows: 1024,
+            seats: 16,
+            started: Some(64),
+        },
+    ),
+];
+
+const STEPS: [(Seat, Step); 15] = [
     (
         Seat(0),
         Step::Draft {
@@ -127,6 +171,32 @@ const STEPS: [(Seat, Step); 12] = [
             scope: 3,
         },
     ),
+    (
+        Seat(11),
+        Step::Start {
+            row: Row {
+                thread: 63,
+                sync: 1024,
+            },
+            thread: 0,
+        },
+    ),
+    (
+        Seat(12),
+        Step::Start {
+            row: Row { thread: 0, sync: 0 },
+            thread: 63,
+        },
+    ),
+    (
+        Seat(13),
+        Step::Finish {
+            row: Row {
+                thread: 11,
+                sync: 1024,
+            },
+        },
+    ),
 ];
 
 #[test]
@@ -134,6 +204,16 @@ fn reads_every_kind_of_step(rt: HostRuntime) -> Result<(), Fail> {
     let schedule = read_schedule(rt.alloc(), TEXT)?;
     check_same(&rt, schedule.size, SIZE, "the size");
     check_same(&rt, schedule.steps.as_slice(), &STEPS, "the steps");
+    Ok(())
+}
+
+#[test]
+fn reads_how_many_threads_are_started(rt: HostRuntime) -> Result<(), Fail> {
+    for (text, size) in WORLDS.iter() {
+        let schedule = read_schedule(rt.alloc(), text.as_bytes())?;
+        check_same(&rt, schedule.size, *size, text);
+        check_same(&rt, schedule.steps.len(), 0, text);
+    }
     Ok(())
 }
 
