@@ -107,7 +107,7 @@ length_lived : (t : Table) (p : ℕ) (c : Course) → length (with_course t p c)
 unfolding with_course
 length_lived t p c = length-set t.words _ (course_word c)
 
-begun_rows : (t u : Table) (holders : List (Option ℕ)) (seat : Seat) (p : ℕ) → u.rows ≡ t.rows → begun u holders seat p ≡ begun t holders seat p
+pub begun_rows : (t u : Table) (holders : List (Option ℕ)) (seat : Seat) (p : ℕ) → u.rows ≡ t.rows → begun u holders seat p ≡ begun t holders seat p
 unfolding begun
 begun_rows t u holders seat p e = λ i. set holders (number_of (e i) (first_row p)) (Some seat.0)
 
@@ -615,14 +615,14 @@ last_other t lasts seat x p n = ⊎_elim
     (cases_Bool (eqb (x.sync + 1) t.rows))
 
 -- the place behind the row's thread is held as before, but behind its last row
-last_kept_at : (t : Table) (lasts : List (Option ℕ)) (seat : Seat) (x : Row) (p : ℕ) → (p ≡ x.thread → x.sync + 1 ≡ t.rows → ⊥) → get_or (handed_last t lasts seat x) p None ≡ get_or lasts p None
+pub last_kept_at : (t : Table) (lasts : List (Option ℕ)) (seat : Seat) (x : Row) (p : ℕ) → (p ≡ x.thread → x.sync + 1 ≡ t.rows → ⊥) → get_or (handed_last t lasts seat x) p None ≡ get_or lasts p None
 unfolding handed_last
 last_kept_at t lasts seat x p n = ⊎_elim
     (λ (e : p ≡ x.thread). ap (λ b. get_or (cond b (set lasts x.thread (Some seat.0)) lasts) p None) (ne_eqb (x.sync + 1) t.rows (n e)))
     (λ (e : p ≡ x.thread → ⊥). last_other t lasts seat x p e)
     (cases_eq p x.thread)
 
-handed_last_same : (t u : Table) (lasts : List (Option ℕ)) (seat : Seat) (x : Row) → u.rows ≡ t.rows → handed_last u lasts seat x ≡ handed_last t lasts seat x
+pub handed_last_same : (t u : Table) (lasts : List (Option ℕ)) (seat : Seat) (x : Row) → u.rows ≡ t.rows → handed_last u lasts seat x ≡ handed_last t lasts seat x
 unfolding handed_last
 handed_last_same t u lasts seat x e = λ i. cond (eqb (x.sync + 1) (e i)) (set lasts x.thread (Some seat.0)) lasts
 
@@ -745,7 +745,7 @@ kept_lived w p c k below range goes alive opens ends bounded =
     (cases_eq q p))
 
 -- the first row of a thread that has started is held
-begun_other : (w : World) (seat : Seat) (p : ℕ) (r : Row) → row_eq r (first_row p) ≡ false → p < w.table.threads → holder_at (with_holders w (begun w.table w.holders seat p)) r ≡ holder_at w r
+pub begun_other : (w : World) (seat : Seat) (p : ℕ) (r : Row) → row_eq r (first_row p) ≡ false → p < w.table.threads → holder_at (with_holders w (begun w.table w.holders seat p)) r ≡ holder_at w r
 unfolding begun
 begun_other w seat p r n below = ⊎_elim
     (λ (k : is_row w.table r ≡ true).
@@ -759,7 +759,7 @@ length_begun : (t : Table) (holders : List (Option ℕ)) (seat : Seat) (p : ℕ)
 unfolding begun
 length_begun t holders seat p = length-set holders _ (Some seat.0)
 
-begun_held : (w : World) (seat : Seat) (p : ℕ) → length w.holders ≡ w.table.threads * w.table.rows → is_row w.table (first_row p) ≡ true → holder_at (with_holders w (begun w.table w.holders seat p)) (first_row p) ≡ Some seat.0
+pub begun_held : (w : World) (seat : Seat) (p : ℕ) → length w.holders ≡ w.table.threads * w.table.rows → is_row w.table (first_row p) ≡ true → holder_at (with_holders w (begun w.table w.holders seat p)) (first_row p) ≡ Some seat.0
 unfolding begun
 begun_held w seat p sized e =
     let inside = row_inside w.table (first_row p) e in
@@ -824,11 +824,11 @@ kept_started w seat x p k below waiting =
     (λ e. let bad : Running stamp ≡ Unstarted = sym (course_lived w.table p (Running stamp) k.sized below range) ∙ e in cc))
 
 -- where a seat stands at a place of a thread, all rows before it were taken, and none from it on is opened
-stands_behind : (w : World) (seat : Seat) (x : Row) → Kept w → StandsAt w seat x → (n : ℕ) → x.sync ≡ n + 1 → is_taken (cell_at w.table (record { thread = x.thread; sync = n })) ≡ true
+pub stands_behind : (w : World) (seat : Seat) (x : Row) → Kept w → StandsAt w seat x → (n : ℕ) → x.sync ≡ n + 1 → is_taken (cell_at w.table (record { thread = x.thread; sync = n })) ≡ true
 stands_behind w seat x k (inl here) n e = k.held x.thread n seat.0 (ap (λ m. holder_at w (record { thread = x.thread; sync = m })) (sym e) ∙ here.0)
 stands_behind w seat x k (inr here) n e = k.last_held x.thread n seat.0 here.2 (sym here.1 ∙ e)
 
-stands_before : (w : World) (seat : Seat) (x : Row) → Kept w → StandsAt w seat x → (r : Row) → is_fresh (cell_at w.table r) ≡ false → r.thread ≡ x.thread → r.sync < x.sync
+pub stands_before : (w : World) (seat : Seat) (x : Row) → Kept w → StandsAt w seat x → (r : Row) → is_fresh (cell_at w.table r) ≡ false → r.thread ≡ x.thread → r.sync < x.sync
 stands_before w seat x k (inl here) r f same = ⊎_elim
     (λ (e : r.sync ≡ x.sync). absurd (true≢false (sym (ap is_fresh (ap (cell_at w.table) (same_row r x same e) ∙ here.1)) ∙ f)))
     (λ (c : (r.sync < x.sync) ⊎ (x.sync < r.sync)). ⊎_elim
