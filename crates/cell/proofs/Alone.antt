@@ -21,14 +21,14 @@ use Rattle.protocol.specs.Tables.{bound_row}
 use Rattle.protocol_values.specs.Values.{joined_of}
 use Rattle.cell_table.specs.declared.view.Seen.{Seen}
 use Rattle.cell_table.specs.Sight.{Has, HaveOffer, HasSeenLast, Learns, LearnsOf, IsBefore, SawCommitted, SeesOffer, see_cell, see_opened}
-use Rattle.cell_table.specs.Nacks.{CanGrant, IsBoundRow, SawCause, SawEnabled}
-use Rattle.cell.proofs.Learning.{learns_look, learns_then, learns_wider, nacks_wider}
-use Rattle.cell.specs.Attempts.{Granted, IsNackOf, IsNearGrant}
+use Rattle.cell_table.specs.Nacks.{CanGrant, IsCauseRow, IsReadyAlone, SawCause, SawEnabled}
+use Rattle.cell.proofs.Learning.{learns_look, learns_then, learns_wider, lives_wider, nacks_wider}
+use Rattle.cell.specs.Attempts.{Granted, IsLifeOf, IsNackOf, IsNearGrant}
 use Rattle.cell_table.proofs.Offers.{few, have_more, sees_more}
 use Rattle.cell.proofs.Meeting.{claim_found, last_more}
 
 -- WHAT LETS A ROW STAND ALONE stays known
-pub enabled_more : {Nacks : NackName → Type 0} (About : Row → Type 0) (s t : Seen) (n : NackName) (j : Joined) → LearnsOf About Nacks s t → SawEnabled s n j → SawEnabled t n j
+pub enabled_more : {Nacks : NackName → Type 0} {Lives : ℕ → Type 0} (About : Row → Type 0) (s t : Seen) (n : NackName) (j : Joined) → LearnsOf About Nacks Lives s t → SawEnabled s n j → SawEnabled t n j
 enabled_more About s t n j l e = record {
   binding = e.binding;
   bound = l.bound.0 (n, e.binding) e.bound;
@@ -38,27 +38,49 @@ enabled_more About s t n j l e = record {
   outside = e.outside;
 }
 
-pub cause_more : {Nacks : NackName → Type 0} (About : Row → Type 0) (s t : Seen) (b : Base) (stamp : ℕ) → LearnsOf About Nacks s t → SawCause s b stamp → SawCause t b stamp
+pub cause_more : {Nacks : NackName → Type 0} {Lives : ℕ → Type 0} (About : Row → Type 0) (s t : Seen) (b : Base) (stamp : ℕ) → LearnsOf About Nacks Lives s t → SawCause s b stamp → SawCause t b stamp
 cause_more About s t (Send c m) stamp l h = absurd h
 cause_more About s t (Recv c) stamp l h = absurd h
 cause_more About s t (Always m) stamp l h = h
 cause_more About s t (OnNack n) stamp l h = (h.0, enabled_more About s t n h.0 l h.1, h.2)
-cause_more About s t (OnEnd p) stamp l h = absurd h
+cause_more About s t (OnEnd p) stamp l h = (h.0, l.ended.0 (p, h.0) h.1, last_more s t (record { thread = p; sync = h.0 }) stamp l.joined.0 l.started.0 h.2)
 cause_more About s t Never stamp l h = absurd h
 
-can_more : {Nacks : NackName → Type 0} (About : Row → Type 0) (s t : Seen) (r : Row) (n : ℕ) (j : Joined) → LearnsOf About Nacks s t → CanGrant s r n j → CanGrant t r n j
+-- and so it does where the stamp is not asked for
+pub ready_more : {Nacks : NackName → Type 0} {Lives : ℕ → Type 0} (About : Row → Type 0) (s t : Seen) (b : Base) → LearnsOf About Nacks Lives s t → IsReadyAlone s b → IsReadyAlone t b
+ready_more About s t (Send c m) l h = absurd h
+ready_more About s t (Recv c) l h = absurd h
+ready_more About s t (Always m) l h = h
+ready_more About s t (OnNack n) l h = (h.0, enabled_more About s t n h.0 l h.1)
+ready_more About s t (OnEnd p) l h = (h.0, l.ended.0 (p, h.0) h.1)
+ready_more About s t Never l h = absurd h
+
+pub ready_from : (s : Seen) (b : Base) (stamp : ℕ) → SawCause s b stamp → IsReadyAlone s b
+ready_from s (Send c m) stamp h = absurd h
+ready_from s (Recv c) stamp h = absurd h
+ready_from s (Always m) stamp h = tt
+ready_from s (OnNack n) stamp h = (h.0, h.1)
+ready_from s (OnEnd p) stamp h = (h.0, h.1)
+ready_from s Never stamp h = absurd h
+
+-- the row at which a cause is read stays one
+cause_row_more : {Nacks : NackName → Type 0} {Lives : ℕ → Type 0} {About : Row → Type 0} (s t : Seen) (b : Base) (q : Row) → LearnsOf About Nacks Lives s t → IsCauseRow s b q → IsCauseRow t b q
+cause_row_more s t b q l (inl h) = inl (h.0, h.1, h.2, l.bound.0 (h.0, h.1) h.3, h.4)
+cause_row_more s t b q l (inr h) = inr (h.0, h.1, h.2, l.ended.0 (h.0, h.1) h.3, h.4)
+
+can_more : {Nacks : NackName → Type 0} {Lives : ℕ → Type 0} (About : Row → Type 0) (s t : Seen) (r : Row) (n : ℕ) (j : Joined) → LearnsOf About Nacks Lives s t → CanGrant s r n j → CanGrant t r n j
 can_more About s t r n j l can = record {
   offer = can.offer;
   read = have_more s.words t.words r n can.offer l.words.0 can.read;
   cause = can.cause;
   caused = cause_more About s t can.offer.base can.cause l can.caused;
   last = can.last;
-  seen_last = last_more s t r can.last l.joined.0 can.seen_last;
+  seen_last = last_more s t r can.last l.joined.0 l.started.0 can.seen_last;
   is = can.is;
 }
 
 -- the offer was read in s, its cause was seen in t, and the last stamp in u
-pub can_grant : {Nacks : NackName → Type 0} (About : Row → Type 0) (s t u : Seen) (r : Row) (n last cause : ℕ) (o : Offer) → LearnsOf About Nacks s t → Learns (IsBefore r) t u → HaveOffer s.words r n o → SawCause t o.base cause → HasSeenLast u r last
+pub can_grant : {Nacks : NackName → Type 0} {Lives : ℕ → Type 0} (About : Row → Type 0) (s t u : Seen) (r : Row) (n last cause : ℕ) (o : Offer) → LearnsOf About Nacks Lives s t → LearnsOf (IsBefore r) (λ m. ⊥) (λ p. p ≡ r.thread) t u → HaveOffer s.words r n o → SawCause t o.base cause → HasSeenLast u r last
     → CanGrant u r n (record { own = n; partner = None; stamp = 1 + max last cause })
 can_grant About s t u r n last cause o l m have caused seen = record {
   offer = o;
@@ -89,8 +111,8 @@ learns_open r s = search rules
 
 -- a nack is looked at, and then twice the row to which it is bound
 pub bound_then : (nack : NackName) (row : Row) (s t u v : Seen) (b : Binding) → row ≡ bound_row nack b → Has v.bound (nack, b)
-    → LearnsOf (λ q. ⊥) (λ m. m ≡ nack) s t → Learns (λ q. q ≡ row) t u → Learns (λ q. q ≡ row) u v
-    → LearnsOf (λ q. (x : Binding) × Has v.bound (nack, x) × (q ≡ bound_row nack x)) (λ m. m ≡ nack) s v
+    → LearnsOf (λ q. ⊥) (λ m. m ≡ nack) (λ p. ⊥) s t → Learns (λ q. q ≡ row) t u → Learns (λ q. q ≡ row) u v
+    → LearnsOf (λ q. (x : Binding) × Has v.bound (nack, x) × (q ≡ bound_row nack x)) (λ m. m ≡ nack) (λ p. ⊥) s v
 bound_then nack row s t u v b is bound f g h =
     let About : Row → Type 0 = λ q. (x : Binding) × Has v.bound (nack, x) × (q ≡ bound_row nack x) in
     let near : (q : Row) → q ≡ row → About q = λ q e. (b, bound, e ∙ is) in
@@ -101,21 +123,24 @@ bound_then nack row s t u v b is bound f g h =
     (nacks_wider About (λ m. ⊥) (λ m. m ≡ nack) u v (λ m e. absurd e) (learns_wider (λ q. q ≡ row) About u v near h)))
 
 -- THE ROWS AND NACKS that a grant looks at, where the offer was read in s
-pub near_offer : (before s t : Seen) (r : Row) (n : ℕ) → Learns (λ q. q ≡ r) before s → LearnsOf (IsNearGrant t r n) (IsNackOf t r n) before s
+pub near_offer : (before s t : Seen) (r : Row) (n : ℕ) → Learns (λ q. q ≡ r) before s → LearnsOf (IsNearGrant t r n) (IsNackOf t r n) (IsLifeOf t r n) before s
 near_offer before s t r n l =
-    nacks_wider (IsNearGrant t r n) (λ m. ⊥) (IsNackOf t r n) before s (λ m h. absurd h)
-    (learns_wider (λ q. q ≡ r) (IsNearGrant t r n) before s (λ q e. inl e) l)
+    lives_wider (IsNearGrant t r n) (λ p. ⊥) (IsLifeOf t r n) before s (λ p h. absurd h)
+    (nacks_wider (IsNearGrant t r n) (λ m. ⊥) (IsNackOf t r n) before s (λ m h. absurd h)
+    (learns_wider (λ q. q ≡ r) (IsNearGrant t r n) before s (λ q e. inl e) l))
 
-pub near_cause : {A : Row → Type 0} {B : NackName → Type 0} (s u t : Seen) (r : Row) (n : ℕ) (o : Offer) → HaveOffer s.words r n o → LearnsOf (IsBoundRow u o.base) (λ m. o.base ≡ OnNack m) s u → LearnsOf A B u t → LearnsOf (IsNearGrant t r n) (IsNackOf t r n) s u
+pub near_cause : {A : Row → Type 0} {B : NackName → Type 0} {C : ℕ → Type 0} (s u t : Seen) (r : Row) (n : ℕ) (o : Offer) → HaveOffer s.words r n o → LearnsOf (IsCauseRow u o.base) (λ m. o.base ≡ OnNack m) (λ p. o.base ≡ OnEnd p) s u → LearnsOf A B C u t → LearnsOf (IsNearGrant t r n) (IsNackOf t r n) (IsLifeOf t r n) s u
 near_cause {A} s u t r n o have l k =
     let sees : SeesOffer t r n o = sees_more A u t r n o k (inl (have_more s.words u.words r n o l.words.0 have)) in
-    nacks_wider (IsNearGrant t r n) (λ m. o.base ≡ OnNack m) (IsNackOf t r n) s u (λ m e. (o, sees, e))
-    (learns_wider (IsBoundRow u o.base) (IsNearGrant t r n) s u (λ q h. inr (inr (h.0, h.1, (o, sees, h.2), k.bound.0 (h.0, h.1) h.3, h.4))) l)
+    lives_wider (IsNearGrant t r n) (λ p. o.base ≡ OnEnd p) (IsLifeOf t r n) s u (λ p e. inr (o, sees, e))
+    (nacks_wider (IsNearGrant t r n) (λ m. o.base ≡ OnNack m) (IsNackOf t r n) s u (λ m e. (o, sees, e))
+    (learns_wider (IsCauseRow u o.base) (IsNearGrant t r n) s u (λ q h. inr (inr (o, sees, cause_row_more u t o.base q k h))) l))
 
-pub near_last : (s u t : Seen) (r : Row) (n : ℕ) → Learns (IsBefore r) s u → LearnsOf (IsNearGrant t r n) (IsNackOf t r n) s u
+pub near_last : (s u t : Seen) (r : Row) (n : ℕ) → LearnsOf (IsBefore r) (λ m. ⊥) (λ p. p ≡ r.thread) s u → LearnsOf (IsNearGrant t r n) (IsNackOf t r n) (IsLifeOf t r n) s u
 near_last s u t r n l =
-    nacks_wider (IsNearGrant t r n) (λ m. ⊥) (IsNackOf t r n) s u (λ m h. absurd h)
-    (learns_wider (IsBefore r) (IsNearGrant t r n) s u (λ q e. inr (inl e)) l)
+    lives_wider (IsNearGrant t r n) (λ p. p ≡ r.thread) (IsLifeOf t r n) s u (λ p e. inl e)
+    (nacks_wider (IsNearGrant t r n) (λ m. ⊥) (IsNackOf t r n) s u (λ m h. absurd h)
+    (learns_wider (IsBefore r) (IsNearGrant t r n) s u (λ q e. inr (inl e)) l))
 
 module _ {M : Type 0} where
   -- A GRANT BEFORE ITS STEP: the offer was read in s, what lets it commit its row in u, and the last stamp in the view v
@@ -124,10 +149,10 @@ module _ {M : Type 0} where
     pub same : (p : Offer) → SeesOffer before r n p → o ≡ p
     pub opened : Has s.opened r
     pub have : HaveOffer s.words r n o
-    pub nack : LearnsOf (IsBoundRow u o.base) (λ m. o.base ≡ OnNack m) s u
+    pub nack : LearnsOf (IsCauseRow u o.base) (λ m. o.base ≡ OnNack m) (λ p. o.base ≡ OnEnd p) s u
     pub caused : SawCause u o.base cause
     pub low_cause : cause ≤ 65536
-    pub before_row : Learns (IsBefore r) u v.seen
+    pub before_row : LearnsOf (IsBefore r) (λ m. ⊥) (λ p. p ≡ r.thread) u v.seen
     pub seen_last : HasSeenLast v.seen r last
     pub low : last ≤ 65536
 
@@ -137,16 +162,16 @@ module _ {M : Type 0} where
 
     pub can : CanGrant v.seen r n alone_as × IsJoinedInRange alone_as
     can = (
-      can_grant (IsBoundRow u o.base) s u v.seen r n last cause o ready.nack ready.before_row ready.have ready.caused ready.seen_last,
+      can_grant (IsCauseRow u o.base) s u v.seen r n last cause o ready.nack ready.before_row ready.have ready.caused ready.seen_last,
       grant_ranged s.words r n last cause o ready.have ready.low ready.low_cause,
     )
 
     -- what is learnt up to the step, and by it
-    pub learns_near : Learns (λ q. q ≡ r) v.seen w.seen → LearnsOf (IsNearGrant w.seen r n) (IsNackOf w.seen r n) before w.seen
+    pub learns_near : Learns (λ q. q ≡ r) v.seen w.seen → LearnsOf (IsNearGrant w.seen r n) (IsNackOf w.seen r n) (IsLifeOf w.seen r n) before w.seen
     learns_near step =
-        let later : LearnsOf (λ q. IsBefore r q ⊎ (q ≡ r)) (λ m. ⊥) u w.seen = learns_then (λ q. IsBefore r q ⊎ (q ≡ r)) u v.seen w.seen
+        let later : LearnsOf (λ q. IsBefore r q ⊎ (q ≡ r)) (λ m. ⊥) (λ p. p ≡ r.thread) u w.seen = learns_then (λ q. IsBefore r q ⊎ (q ≡ r)) u v.seen w.seen
         (learns_wider (IsBefore r) (λ q. IsBefore r q ⊎ (q ≡ r)) u v.seen (λ q e. inl e) ready.before_row)
-        (learns_wider (λ q. q ≡ r) (λ q. IsBefore r q ⊎ (q ≡ r)) v.seen w.seen (λ q e. inr e) step) in
+        (lives_wider (λ q. IsBefore r q ⊎ (q ≡ r)) (λ p. ⊥) (λ p. p ≡ r.thread) v.seen w.seen (λ p h. absurd h) (learns_wider (λ q. q ≡ r) (λ q. IsBefore r q ⊎ (q ≡ r)) v.seen w.seen (λ q e. inr e) step)) in
         learns_then (IsNearGrant w.seen r n) before s w.seen
         (near_offer before s w.seen r n ready.offer)
         (learns_then (IsNearGrant w.seen r n) s u w.seen
@@ -165,7 +190,7 @@ module _ {M : Type 0} where
     late_learns : (c : Cell) → w ≡ saw r c v → Learns (λ q. q ≡ r) v.seen w.seen
     late_learns c e = subst (λ (x : View M). Learns (λ q. q ≡ r) v.seen x.seen) (sym e) (learns_look r c v.seen)
 
-    pub given_is : w ≡ did (Grant r n) (settled r alone_as v) → Agrees v r Waiting → Granted before w.seen r n Given × LearnsOf (IsNearGrant w.seen r n) (IsNackOf w.seen r n) before w.seen
+    pub given_is : w ≡ did (Grant r n) (settled r alone_as v) → Agrees v r Waiting → Granted before w.seen r n Given × LearnsOf (IsNearGrant w.seen r n) (IsNackOf w.seen r n) (IsLifeOf w.seen r n) before w.seen
     unfolding can can_more can_grant
     given_is e agree = (
       (
@@ -180,13 +205,13 @@ module _ {M : Type 0} where
       learns_near (given_learns e),
     )
 
-    pub late_is : (c : Cell) → v.stage ≡ Resting → c ≢ Waiting → w ≡ saw r c v → Agrees v r c → Granted before w.seen r n Late × LearnsOf (IsNearGrant w.seen r n) (IsNackOf w.seen r n) before w.seen
+    pub late_is : (c : Cell) → v.stage ≡ Resting → c ≢ Waiting → w ≡ saw r c v → Agrees v r c → Granted before w.seen r n Late × LearnsOf (IsNearGrant w.seen r n) (IsNackOf w.seen r n) (IsLifeOf w.seen r n) before w.seen
     late_is c resting not_waiting e agree =
         let later = can_more (λ q. q ≡ r) v.seen w.seen r n alone_as (late_learns c e) can.0 in
         let opened : Has v.seen.opened r = ready.before_row.opened.0 r (ready.nack.opened.0 r ready.opened) in
         let held : v.seen.held ≡ before.held = ready.before_row.held ∙ ready.nack.held ∙ ready.offer.held in (
           (
-            (later.offer, later.cause, inl later.read, later.caused),
+            (later.offer, inl later.read, ready_from w.seen later.offer.base later.cause later.caused),
             λ h. subst (λ (x : View M). SawCommitted x.seen r) (sym e) (claim_found v r c (subst (λ (rows : List Row). Has rows r) (sym held) h) opened resting not_waiting agree),
           ),
           learns_near (late_learns c e),

@@ -1,4 +1,5 @@
 pub mod Redrafting
+pub mod Starting
 pub mod Learning
 pub mod Meeting
 pub mod Playing

@@ -1,6 +1,7 @@
 -- What a pass knows of two rows stays known while it sees more.
 use Rattle.std.proofs.Common.{rules, ◌≡◌, ◌≢◌, ℕ, ◌+◌, ◌^◌, ◌<◌, ◌≤◌, true, false, List, sym, refl, ap, ◌∙◌, subst, inl, inr, arith, max, Option, Some, None, IfSome, IfNone, IfErr, is_err, Result, Ok, Err}
 use Rattle.protocol_values.specs.Words.{IsJoinedInRange}
+use Rattle.protocol_values.specs.declared.NackName.{NackName}
 use Rattle.protocol_values.specs.declared.Direction.{Direction}
 use Rattle.protocol_values.specs.declared.Offer.{Offer}
 use Rattle.protocol_values.specs.declared.Row.{Row}
@@ -11,7 +12,7 @@ use Rattle.protocol_values.specs.declared.Message.{Message}
 use Rattle.protocol.specs.Tables.{offers_meet, is_partner, is_fresh}
 use Rattle.protocol_values.specs.Values.{bases_meet, joined_of}
 use Rattle.protocol.proofs.RowLemmas.{row_eq-refl}
-use Rattle.cell_table.specs.Sight.{Coherent, SawChosen, LackOffer, IsKnownOpen, Has, HaveDirection, HasSeenLast, CanJoin, Learns, see_opened, SawCommitted, see_cell}
+use Rattle.cell_table.specs.Sight.{Coherent, SawChosen, LackOffer, IsKnownOpen, Has, HaveDirection, HasSeenLast, CanJoin, Learns, LearnsOf, see_opened, SawCommitted, see_cell}
 use Rattle.protocol_values.specs.Values.{directions_meet}
 use Rattle.cell_table.specs.declared.view.Seen.{Seen}
 use Rattle.protocol_values.specs.declared.Cell.{Cell}
@@ -21,7 +22,7 @@ use Rattle.cell_table.specs.declared.view.Stage.{Stage}
 use Rattle.cell_table.specs.declared.view.Stage.TheVariants.{Resting}
 use Rattle.cell.specs.declared.attempt.Attempt.{Attempt}
 use Rattle.cell.specs.declared.attempt.Attempt.TheVariants.{Busy, Gone, Met, Mine, Unfit}
-use Rattle.cell.specs.Attempts.{Attempted, CanMeet, Fits, IsNear, OffersFit}
+use Rattle.cell.specs.Attempts.{Attempted, CanMeet, Fits, IsLifeNear, IsNear, OffersFit}
 use Rattle.cell_table.specs.Told.{Agrees}
 use Rattle.cell_table.specs.Views.{IsClaimer}
 use Rattle.cell_table.proofs.Directions.{direction_more, offers_meet_as, one_direction, sees_direction, sees_direction_more}
@@ -32,7 +33,7 @@ from_some None P a h e = let bad : None ≡ Some a = e in cc
 from_some (Some b) P a h e = subst P (Rattle.protocol.proofs.Linking.some_inj b a e) h
 
 -- rows that can be joined can meet, also once more was learnt
-pub can_meet : (About : Row → Type 0) (s t : Seen) (mine other : Row) (own partner : ℕ) (j : Joined) → Learns About s t → CanJoin s mine own other partner j → CanMeet t mine own other partner
+pub can_meet : {Nacks : NackName → Type 0} {Lives : ℕ → Type 0} (About : Row → Type 0) (s t : Seen) (mine other : Row) (own partner : ℕ) (j : Joined) → LearnsOf About Nacks Lives s t → CanJoin s mine own other partner j → CanMeet t mine own other partner
 can_meet About s t mine other own partner j l can = (
   can.apart,
   can.my_direction,
@@ -76,13 +77,13 @@ offers_fit threads rows s mine other own partner answer agree fits a b sees_a se
           ),
     )
 
-pub last_more : (s t : Seen) (r : Row) (stamp : ℕ) → ((x : Row × Joined) → Has s.joined x → Has t.joined x) → HasSeenLast s r stamp → HasSeenLast t r stamp
-last_more s t r stamp more (inl h) = inl h
-last_more s t r stamp more (inr h) = inr (h.0, h.1, more _ h.2, h.3)
+pub last_more : (s t : Seen) (r : Row) (stamp : ℕ) → ((x : Row × Joined) → Has s.joined x → Has t.joined x) → ((x : ℕ × ℕ) → Has s.started x → Has t.started x) → HasSeenLast s r stamp → HasSeenLast t r stamp
+last_more s t r stamp more begun (inl h) = inl (h.0, begun _ h.1)
+last_more s t r stamp more begun (inr h) = inr (h.0, h.1, more _ h.2, h.3)
 
 -- the heads of the two offers were read, and then both last stamps
 pub can_join : (about_other about_mine about_their : Row → Type 0) (s1 s2 s3 s4 : Seen) (mine other : Row) (own partner my_last their_last : ℕ) (a b : Direction)
-    → Learns about_other s1 s2 → Learns about_mine s2 s3 → Learns about_their s3 s4
+    → Learns about_other s1 s2 → LearnsOf about_mine (λ n. ⊥) (λ p. p ≡ mine.thread) s2 s3 → LearnsOf about_their (λ n. ⊥) (λ p. p ≡ other.thread) s3 s4
     → mine.thread ≢ other.thread
     → HaveDirection s1.words mine own a → HaveDirection s2.words other partner b
     → directions_meet a b ≡ true
@@ -97,7 +98,7 @@ can_join _ _ _ s1 s2 s3 s4 mine other own partner my_last their_last a b l m n a
   meet = meet;
   my_last = my_last;
   their_last = their_last;
-  seen_mine = last_more s3 s4 mine my_last n.joined.0 last_mine;
+  seen_mine = last_more s3 s4 mine my_last n.joined.0 n.started.0 last_mine;
   seen_theirs = last_theirs;
   is = refl;
 }
@@ -126,8 +127,8 @@ can_join_opened s r mine other own partner j can = record {
   meet = can.meet;
   my_last = can.my_last;
   their_last = can.their_last;
-  seen_mine = last_more s (see_opened r s) mine can.my_last (λ x h. h) can.seen_mine;
-  seen_theirs = last_more s (see_opened r s) other can.their_last (λ x h. h) can.seen_theirs;
+  seen_mine = last_more s (see_opened r s) mine can.my_last (λ x h. h) (λ x h. h) can.seen_mine;
+  seen_theirs = last_more s (see_opened r s) other can.their_last (λ x h. h) (λ x h. h) can.seen_theirs;
   is = can.is;
 }
 
@@ -154,7 +155,7 @@ pub saw_committed : (r : Row) (c : Cell) (s : Seen) → is_fresh c ≡ false →
 saw_committed r c s f w h = let j = committed_cell c f w h in (j.0, saw_joined r c j.0 s j.1)
 
 -- what a claim, a look at the other row and a yield add
-pub learns_yield : (mine other : Row) (c : Cell) (s : Seen) → Learns (IsNear mine other) s (see_opened mine (see_cell other c (see_opened mine s)))
+pub learns_yield : (mine other : Row) (c : Cell) (s : Seen) → LearnsOf (IsNear mine other) (λ n. ⊥) (IsLifeNear mine other) s (see_opened mine (see_cell other c (see_opened mine s)))
 learns_yield mine other Fresh s = search rules
 learns_yield mine other Waiting s = search rules
 learns_yield mine other Claimed s = search rules
@@ -162,11 +163,11 @@ learns_yield mine other (Synched j) s = search rules
 learns_yield mine other (Taken j) s = search rules
 
 -- what a claim, a join and a seal add
-pub learns_met : (mine other : Row) (i j : Joined) (s : Seen) → Learns (IsNear mine other) s (see_cell mine (Synched i) (see_opened mine (see_cell other (Synched j) (see_opened other (see_opened mine s)))))
+pub learns_met : (mine other : Row) (i j : Joined) (s : Seen) → LearnsOf (IsNear mine other) (λ n. ⊥) (IsLifeNear mine other) s (see_cell mine (Synched i) (see_opened mine (see_cell other (Synched j) (see_opened other (see_opened mine s)))))
 learns_met mine other i j s = search rules
 
 -- what an attempt answers goes by what was seen before it read the offers, too
-pub attempted_before : (About : Row → Type 0) (s t u : Seen) (mine : Row) (own : ℕ) (other : Row) (partner : ℕ) (a : Attempt) → Learns About s t → Attempted t u mine own other partner a → Attempted s u mine own other partner a
+pub attempted_before : {Nacks : NackName → Type 0} {Lives : ℕ → Type 0} (About : Row → Type 0) (s t u : Seen) (mine : Row) (own : ℕ) (other : Row) (partner : ℕ) (a : Attempt) → LearnsOf About Nacks Lives s t → Attempted t u mine own other partner a → Attempted s u mine own other partner a
 attempted_before About s t u mine own other partner (Met stamp) l h = h
 attempted_before About s t u mine own other partner Gone l h = h
 attempted_before About s t u mine own other partner Mine l h = h

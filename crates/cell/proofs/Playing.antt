@@ -5,11 +5,12 @@ use Rattle.std.proofs.lemmas.List.{length-append}
 use Rattle.std.proofs.Math.Nat.{mod-eq_of_lt}
 use Rattle.protocol_values.specs.declared.Row.{Row}
 use Rattle.protocol.specs.Tables.{row_eq}
+use Rattle.protocol.proofs.LedgerLemmas.{nobody_waits}
 use Rattle.protocol.proofs.RowLemmas.{row_eq-refl, row_eq-true}
 use Rattle.cell_table.specs.Sight.{Has}
-use Rattle.cell_table.specs.Views.{first_row}
+use Rattle.protocol.specs.Worlds.{first_row}
 use Rattle.cell_table.specs.Rule.{is_among, dealt_rows}
-use Rattle.cell_table.proofs.Dealing.{dealt_has}
+use Rattle.cell_table.proofs.Dealing.{dealt_has, falls_from}
 
 -- A ROW AMONG ROWS, as a test
 pub among_has : (rows : List Row) (r : Row) → is_among rows r ≡ true → Has rows r
@@ -26,7 +27,7 @@ has_among (q ∷ rows) r (inr h) = or_right (row_eq q r) (is_among rows r) (has_
 
 -- where each thread has a pass of its own, the pass holds the thread's row
 pub own_row : (threads number : ℕ) → number < threads → Has (dealt_rows threads threads number) (first_row number)
-own_row threads number h = dealt_has threads threads number (first_row number) (refl, h, mod-eq_of_lt h)
+own_row threads number h = dealt_has 0 threads threads number (first_row number) (refl, h, falls_from 0 threads number number (nobody_waits number) (mod-eq_of_lt h))
 
 -- THE LAST OF A LIST
 at_last : {A : Type 0} (ys : List A) (x : A) → slice_get (ys ++ x ∷ []) (length ys) ≡ Some x

@@ -30,12 +30,15 @@ was r p (d ∷ ds) y h = was_one r p d ds y (row_eq d.0 r && eqb d.1 p) (λ i. w
 pub redrafts_word : (r : Row) (p x : ℕ) (s : Seen) → Redrafts (λ q o. (q ≡ r) × (o ≡ p)) s (see_draft r p x s)
 redrafts_word r p x s = record {
   held = refl;
+  lasts = refl;
   opened = refl;
   words = refl;
   joined = refl;
   taken = refl;
   bound = refl;
   begun = refl;
+  started = refl;
+  ended = refl;
   kept = λ q o y else_where h. inr (left r p s.drafts q o y else_where h);
   only = λ q o y else_where h. only q o y else_where h;
 }
@@ -47,12 +50,15 @@ redrafts_word r p x s = record {
 pub redrafts_wider : (Where Wider : Row → ℕ → Type 0) (s t : Seen) → ((q : Row) (o : ℕ) → Where q o → Wider q o) → Redrafts Where s t → Redrafts Wider s t
 redrafts_wider Where Wider s t wider f = record {
   held = f.held;
+  lasts = f.lasts;
   opened = f.opened;
   words = f.words;
   joined = f.joined;
   taken = f.taken;
   bound = f.bound;
   begun = f.begun;
+  started = f.started;
+  ended = f.ended;
   kept = λ q o x out h. f.kept q o x (λ i. out (wider q o i)) h;
   only = λ q o x out h. f.only q o x (λ i. out (wider q o i)) h;
 }
@@ -60,12 +66,15 @@ redrafts_wider Where Wider s t wider f = record {
 pub redrafts_then : (Where : Row → ℕ → Type 0) (s t u : Seen) → Redrafts Where s t → Redrafts Where t u → Redrafts Where s u
 redrafts_then Where s t u f g = record {
   held = g.held ∙ f.held;
+  lasts = g.lasts ∙ f.lasts;
   opened = g.opened ∙ f.opened;
   words = g.words ∙ f.words;
   joined = g.joined ∙ f.joined;
   taken = g.taken ∙ f.taken;
   bound = g.bound ∙ f.bound;
   begun = g.begun ∙ f.begun;
+  started = g.started ∙ f.started;
+  ended = g.ended ∙ f.ended;
   kept = λ q o x out h. g.kept q o x out (f.kept q o x out h);
   only = λ q o x out h. f.only q o x out (g.only q o x out h);
 }

@@ -1,6 +1,6 @@
 -- What the answers of an attempt mean.
 use Rattle.std.specs.Prelude.{◌≡◌, ◌≢◌, ◌⊎◌, ◌↔◌, ◌<◌, ◌≤◌, ℕ, Bool, true, false, Option, Some, None, List, ◌∷◌, ◌++◌, ◌+◌, length}
-use Rattle.protocol_values.specs.declared.Base.TheVariants.{OnNack}
+use Rattle.protocol_values.specs.declared.Base.TheVariants.{OnEnd, OnNack}
 use Rattle.protocol_values.specs.declared.Direction.{Direction}
 use Rattle.protocol_values.specs.declared.NackName.{NackName}
 use Rattle.protocol_values.specs.declared.Binding.{Binding}
@@ -8,7 +8,7 @@ use Rattle.protocol_values.specs.declared.Joined.{Joined}
 use Rattle.protocol_values.specs.declared.Offer.{Offer}
 use Rattle.protocol_values.specs.declared.Row.{Row}
 use Rattle.protocol_values.specs.declared.Step.{Step}
-use Rattle.protocol_values.specs.declared.Step.TheVariants.{Bind, Claim, Draft, Grant as GrantRow, Join, Seal, Take, Yield}
+use Rattle.protocol_values.specs.declared.Step.TheVariants.{Bind, Claim, Draft, Grant as GrantRow, Join, Seal, Start, Take, Yield}
 use Rattle.protocol.specs.Standing.{Result, Stands}
 use Rattle.protocol.specs.Tables.{bound_row, offers_meet}
 use Rattle.protocol_values.specs.Values.{next_row}
@@ -18,9 +18,9 @@ use Rattle.cell.specs.declared.attempt.Attempt.{Attempt}
 use Rattle.cell.specs.declared.attempt.Attempt.TheVariants.{Met, Gone, Mine, Busy, Unfit}
 use Rattle.cell.specs.declared.granting.Grant.{Grant}
 use Rattle.cell.specs.declared.granting.Grant.TheVariants.{Given, NotEnabled, Late}
-use Rattle.cell_table.specs.Sight.{Adds, Has, SeesDirection, SeesOffer, SawCommitted, IsBefore, see_bound, see_next}
+use Rattle.cell_table.specs.Sight.{Adds, Has, SeesDirection, SeesOffer, HasSeenLast, IsUnseen, LearnsOf, SawCommitted, SawEnded, IsBefore, see_bound, see_next, see_start}
 use Rattle.protocol_values.specs.Values.{directions_meet}
-use Rattle.cell_table.specs.Nacks.{CanGrant, CanStandAlone}
+use Rattle.cell_table.specs.Nacks.{CanGrant, CanStandAlone, IsCauseRow}
 use Rattle.cell_table.specs.Told.{ComesOut, IsEarlier}
 
 -- the rows of two threads, the heads of whose two offers were seen, and are of a send and a receive on one channel
@@ -81,6 +81,11 @@ abbrev pub bind_made : ℕ → Row → ℕ → Bool → List Step → List Step
 bind_made k r scope true before = Bind k r scope ∷ before
 bind_made k r scope false before = before
 
+-- after a start
+abbrev pub start_made : Row → ℕ → Bool → List Step → List Step
+start_made r p true before = Start r p ∷ before
+start_made r p false before = before
+
 -- words of the row were drafted, and nothing else was done
 abbrev pub OnlyDrafts : Row → List Step → List Step → Type 0
 OnlyDrafts r before after = (steps : List Step) × (after ≡ steps ++ before) × ((step : Step) → Has steps step → (place : ℕ) × (word : ℕ) × (step ≡ Draft r place word))
@@ -100,10 +105,13 @@ Granted before after r n Late = CanStandAlone after r n × (Has before.held r �
 abbrev pub IsNackOf : Seen → Row → ℕ → NackName → Type 0
 IsNackOf s r n nack = (o : Offer) × SeesOffer s r n o × (o.base ≡ OnNack nack)
 
--- the rows that a grant looks at: its own, the one before it in its thread, and the one to which its nack is bound
+-- the rows that a grant looks at: its own, the one before it in its thread, and the one at which what lets its offer commit it is read
 abbrev pub IsNearGrant : Seen → Row → ℕ → Row → Type 0
-IsNearGrant s r n q =
-    (q ≡ r) ⊎ (IsBefore r q ⊎ ((nack : NackName) × (b : Binding) × IsNackOf s r n nack × Has s.bound (nack, b) × (q ≡ bound_row nack b)))
+IsNearGrant s r n q = (q ≡ r) ⊎ (IsBefore r q ⊎ ((o : Offer) × SeesOffer s r n o × IsCauseRow s o.base q))
+
+-- the lives that a grant looks at: that of its row's thread, and that of the thread for whose end the offer waits
+abbrev pub IsLifeOf : Seen → Row → ℕ → ℕ → Type 0
+IsLifeOf s r n p = (p ≡ r.thread) ⊎ ((o : Offer) × SeesOffer s r n o × (o.base ≡ OnEnd p))
 
 -- the pass that took a row has seen the results of its thread up to this row, and no others
 abbrev pub ResultsTold : Row → Option Joined → List (ℕ × List Result) → List (ℕ × List Result) → Type 0
@@ -128,7 +136,10 @@ pub record Took (rows : ℕ) (before after : Seen) (r : Row) (j : Joined) : Type
   pub joined : Has after.joined (r, j)
   pub held : after.held ≡ (see_next rows r before).held
   pub drafts : after.drafts ≡ (see_next rows r before).drafts
+  pub lasts : after.lasts ≡ (see_next rows r before).lasts
   pub next : ¬ Has after.opened (next_row r)
+  -- the thread has not ended
+  pub alive : ¬ SawEnded after r.thread
   -- no nack is bound to it either
   pub free : (n : NackName) (b : Binding) → Has after.bound (n, b) → bound_row n b ≢ next_row r
   pub opened : Adds (λ q. q ≡ r) before.opened after.opened
@@ -137,6 +148,8 @@ pub record Took (rows : ℕ) (before after : Seen) (r : Row) (j : Joined) : Type
   pub takes : Adds (λ q. q ≡ r) before.taken after.taken
   pub bound : after.bound ≡ before.bound
   pub begun : after.begun ≡ before.begun
+  pub started : after.started ≡ before.started
+  pub ended : after.ended ≡ before.ended
 
 -- The answer of a bind. True: the pass had not seen the nack bound, and has now seen it bound to this row and scope.
 -- False: it has now seen where the nack is bound: to this row, as it had seen before, or to an earlier one. Nothing else is new.
@@ -146,6 +159,25 @@ Bound before after k r scope true =
 Bound before after k r scope false =
     (b : Binding) × (after ≡ see_bound (nack_of_row r k) b before) × (b.sync ≤ r.sync) × (b.sync ≡ r.sync → Has before.bound (nack_of_row r k, b))
 
+-- the lives that an attempt looks at: those of the two rows' threads
+abbrev pub IsLifeNear : Row → Row → ℕ → Type 0
+IsLifeNear mine other p = (p ≡ mine.thread) ⊎ (p ≡ other.thread)
+
 -- the rows that an attempt looks at: the two, and the rows before them in their threads
 abbrev pub IsNear : Row → Row → Row → Type 0
 IsNear mine other q = (q ≡ mine) ⊎ ((q ≡ other) ⊎ (IsBefore mine q ⊎ IsBefore other q))
+
+-- what a pass learns of the place from which it starts a thread: the last stamp there
+abbrev pub LearnsLast : Row → Seen → Seen → Type 0
+LearnsLast r s t = LearnsOf (IsBefore r) (λ n. ⊥) (λ p. p ≡ r.thread) s t
+
+-- The answer of a start of thread p from place r. True: the pass had seen nothing of the thread, which has now started at the last
+-- stamp of the place, and whose first row it holds. False: the thread was started before, as the pass has now seen. In
+-- both the place's own thread has not ended.
+abbrev pub Started : Seen → Seen → Row → ℕ → Bool → Type 0
+Started before after r p true = (seen : Seen) × (stamp : ℕ) × LearnsLast r before seen × HasSeenLast seen r stamp × (after ≡ see_start p stamp seen) × IsUnseen before p × (¬ SawEnded after r.thread)
+Started before after r p false = LearnsOf (IsBefore r) (λ n. ⊥) (λ t. (t ≡ r.thread) ⊎ (t ≡ p)) before after × ((stamp : ℕ) × Has after.started (p, stamp)) × (¬ SawEnded after r.thread)
+
+-- the thread of place r has ended there, and nothing else is new but its start
+abbrev pub Finished : Seen → Seen → Row → Type 0
+Finished before after r = LearnsOf (λ q. ⊥) (λ n. ⊥) (λ t. t ≡ r.thread) before after × Has after.ended (r.thread, r.sync)

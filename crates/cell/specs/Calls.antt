@@ -1,5 +1,5 @@
 -- The table and a pass, as callers see them.
-use Rattle.std.specs.Prelude.{◌≡◌, ℕ, ◌<◌, zero, suc, List, ◌∷◌, Option, Some, None, length, slice_get}
+use Rattle.std.specs.Prelude.{◌≡◌, ◌⊎◌, ℕ, ◌<◌, ◌≤◌, zero, suc, List, ◌∷◌, Option, Some, None, length, slice_get}
 use Rattle.atomic_table.specs.Seated.{TableId}
 use Rattle.atomic_table.specs.Table.{rest}
 use Rattle.protocol_values.specs.declared.NackName.{NackName}
@@ -17,6 +17,8 @@ pub record GridOf (M : Type 0) : Type 0 where
   pub threads : ℕ
   pub rows : ℕ
   pub passes : ℕ
+  -- the mask of the threads that waited to be started at first
+  pub later : ℕ
   pub first : List M
 
 -- of which table a pass is, what it has seen, and the steps of the protocol that it has made, the last one first
@@ -49,6 +51,14 @@ module _ {M : Type 0} where
   -- the table has the row
   abbrev pub IsRowOf : GridOf M → Row → Type 0
   IsRowOf g r = (r.thread < g.threads) × (r.sync < g.rows)
+
+  -- the table has the place: a row, or that behind a thread's last one
+  abbrev pub IsStandOf : GridOf M → Row → Type 0
+  IsStandOf g r = (r.thread < g.threads) × (r.sync ≤ g.rows)
+
+  -- the pass holds the row, or stands behind the thread's last one
+  abbrev pub HoldsAt : PassOf M → Row → Type 0
+  HoldsAt p r = Has p.seen.held r ⊎ ((r.sync ≡ p.of.rows) × Has p.seen.lasts r.thread)
 
   -- the table has the nack
   abbrev pub IsNackOf : GridOf M → NackName → Type 0

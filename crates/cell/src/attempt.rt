@@ -5,9 +5,9 @@ ghost use Rattle.std.specs.Prelude.{◌≡◌, ◌⊎◌, ◌<◌, IfSome, IfNon
 ghost use Rattle.protocol_values.specs.Words.{IsJoinedInRange};
 ghost use Rattle.cell_table.specs.declared.view.Stage.TheVariants.{Resting};
 ghost use Rattle.cell.specs.declared.attempt.Attempt.TheVariants.{Unfit};
-ghost use Rattle.cell.specs.Attempts.{Attempted, CanMeet, Fits, IsNear, OffersFit, attempt_made};
+ghost use Rattle.cell.specs.Attempts.{Attempted, CanMeet, Fits, IsLifeNear, IsNear, OffersFit, attempt_made};
 ghost use Rattle.cell_table.specs.Seats.{Sits, HasRow, StaysSeated};
-ghost use Rattle.cell_table.specs.Sight.{Has, CanJoin, Learns};
+ghost use Rattle.cell_table.specs.Sight.{Has, CanJoin, LearnsOf};
 ghost use Rattle.cell_table.specs.Views.{at_stage, worked};
 
 use crate::reading::{direction_of, last_stamp, opened_direction};
@@ -65,7 +65,7 @@ pub(crate) fn attempt_rows<M: Resident, G: StepGate>(
     requires held { Has seat.old.me.0.seen.held mine.0 × Has seat.old.me.0.seen.opened mine.0 × (seat.old.me.0.stage ≡ Resting) }
     ensures sits { StaysSeated board.now seat.old seat.new }
     ensures stays { seat.new.me.0 ≡ worked Resting seat.new.me.0.seen (attempt_made mine.0 mine.1 other.0 other.1 result seat.old.me.0.made) seat.old.me.0 }
-    ensures learns { Learns (IsNear mine.0 other.0) seat.old.me.0.seen seat.new.me.0.seen }
+    ensures learns { LearnsOf (IsNear mine.0 other.0) (λ n. ⊥) (IsLifeNear mine.0 other.0) seat.old.me.0.seen seat.new.me.0.seen }
     ensures fits { Fits seat.new.me.0.seen mine.0 mine.1 other.0 other.1 result }
     ensures offers { OffersFit seat.new.me.0.seen mine.0 mine.1 other.0 other.1 result }
     ensures attempted { Attempted seat.old.me.0.seen seat.new.me.0.seen mine.0 mine.1 other.0 other.1 result }
@@ -87,7 +87,7 @@ fn fit<M: Resident>(
     requires opened { Has seat.old.me.0.seen.opened mine.0 }
     ensures sits { StaysSeated board.now seat.old seat.new }
     ensures stays { seat.new.me.0 ≡ at_stage seat.old.me.0.stage seat.new.me.0.seen seat.old.me.0 }
-    ensures learns { Learns (IsNear mine.0 other.0) seat.old.me.0.seen seat.new.me.0.seen }
+    ensures learns { LearnsOf (IsNear mine.0 other.0) (λ n. ⊥) (IsLifeNear mine.0 other.0) seat.old.me.0.seen seat.new.me.0.seen }
     ensures can { IfSome result (λ j. CanJoin seat.new.me.0.seen mine.0 mine.1 other.0 other.1 j × IsJoinedInRange j) }
     ensures unfit { IfNone result (¬ CanMeet seat.new.me.0.seen mine.0 mine.1 other.0 other.1) }
 {
@@ -124,7 +124,7 @@ fn meet<M: Resident, G: StepGate>(
     requires can { CanJoin seat.old.me.0.seen mine.0 mine.1 other joined.own joined × IsJoinedInRange joined }
     ensures sits { StaysSeated board.now seat.old seat.new }
     ensures stays { seat.new.me.0 ≡ worked Resting seat.new.me.0.seen (attempt_made mine.0 mine.1 other joined.own result seat.old.me.0.made) seat.old.me.0 }
-    ensures learns { Learns (IsNear mine.0 other) seat.old.me.0.seen seat.new.me.0.seen }
+    ensures learns { LearnsOf (IsNear mine.0 other) (λ n. ⊥) (IsLifeNear mine.0 other) seat.old.me.0.seen seat.new.me.0.seen }
     ensures attempted { Attempted seat.old.me.0.seen seat.new.me.0.seen mine.0 mine.1 other joined.own result × (¬ (result ≡ Unfit)) }
 {
     let (row, own) = mine;

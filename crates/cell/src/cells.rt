@@ -2,7 +2,7 @@
 //! says; within a call its seat may stand between a claim and a seal, so what a call does is written over the board
 //! and the seat, in the modules beside this one, and told here again of the pass.
 
-ghost use Rattle.std.specs.Prelude.{◌≡◌, ◌≢◌, ◌⊎◌, ◌+◌, ◌<◌, ◌≤◌, ◌∷◌, ◌++◌, [], ℕ, List, None, Some, true, IfOk, IfSome, IfNone, SomeIff, IsTrue, ◌↔◌, length, map, slice_get, IsFalse, nat_lt, if◌then◌else◌};
+ghost use Rattle.std.specs.Prelude.{◌≡◌, ◌≢◌, ◌⊎◌, ◌+◌, ◌<◌, ◌≤◌, ◌∷◌, ◌++◌, [], ℕ, List, None, Some, false, true, IfOk, IfSome, IfNone, SomeIff, IsTrue, ◌↔◌, length, map, slice_get, IsFalse, nat_lt, ◌&&◌, not, if◌then◌else◌};
 ghost use Rattle.protocol_values.specs.declared.Direction.{Direction};
 ghost use Rattle.protocol_values.specs.declared.Joined.{Joined};
 ghost use Rattle.protocol_values.specs.declared.Message.{Message};
@@ -10,69 +10,81 @@ ghost use Rattle.protocol_values.specs.declared.Offer.{Offer};
 ghost use Rattle.protocol_values.specs.declared.Row.{Row};
 ghost use Rattle.protocol_values.specs.declared.Cell.TheVariants.{Claimed};
 ghost use Rattle.protocol_values.specs.declared.Course.TheVariants.{Running, Unstarted};
-ghost use Rattle.protocol_values.specs.declared.Step.TheVariants.{Open};
+ghost use Rattle.protocol_values.specs.declared.Step.TheVariants.{Finish, Open};
 ghost use Rattle.protocol_values.specs.declared.NackName.{NackName};
 ghost use Rattle.protocol_values.specs.declared.Binding.{Binding};
 ghost use Rattle.protocol.specs.Ledgers.{IsLawful, binding_in, course_in, joined_in, offer_in};
 ghost use Rattle.protocol.specs.Standing.{AreResults, EachOffersAs, Result, SomeStands};
-ghost use Rattle.protocol.specs.Worlds.{nack_of_row};
+ghost use Rattle.protocol.specs.Worlds.{nack_of_row, waits};
 ghost use Rattle.cell.specs.Attempts.{
   Attempted,
   Bound,
   BoundBefore,
+  Finished,
   Fits,
   Granted,
   Hands,
+  IsLifeNear,
+  IsLifeOf,
   IsNackOf as IsNackOfOffer,
   IsNear,
   IsNearGrant,
   OffersFit,
   OnlyDrafts,
   ResultsTold,
+  Started,
   Took,
   attempt_made,
   bind_made,
   grant_made,
+  start_made,
   take_made,
 };
-ghost use Rattle.cell.specs.Calls.{CanFetch, Fetched, Holds, IsHousing, IsNackOf, IsParked, IsPassOf, IsRowOf, KeepsResults, PassOf, PassView};
+ghost use Rattle.cell.specs.Calls.{CanFetch, Fetched, Holds, HoldsAt, IsHousing, IsNackOf, IsParked, IsPassOf, IsRowOf, IsStandOf, KeepsResults, PassOf, PassView};
 ghost use Rattle.cell_table.specs.Told.{GoesHome};
-ghost use Rattle.cell_table.specs.Rule.{IsReady, dealt_rows, heard, seen_nothing, told_of};
+ghost use Rattle.cell_table.specs.Rule.{IsReady, dealt_later, dealt_rows, falls_to, heard, seen_nothing, told_of};
 ghost use Rattle.atomic_table.specs.Table.{rest, turned};
 ghost use Rattle.cell_table.specs.Nacks.{IsSeenBound};
 ghost use Rattle.cell.specs.Flags.{AreFlags};
 ghost use Rattle.cell_table.specs.Sight.{
   AreOffers,
+  EndsAt,
   Has,
+  HasStart,
   HaveDirection,
   HaveOffer,
   IsDraft,
   IsExpected,
+  IsExpectedCourse,
   IsKnownOpen,
   IsPartnerOf,
   IsResult,
+  IsStand,
   LackOffer,
   Learns,
   LearnsOf,
   Redrafts,
   SawCommitted,
+  SawEnded,
   SeesDirection,
   SeesNoOffer,
   SeesOffer,
   see_cell,
+  see_course,
   see_opened,
 };
 
 use crate::attempt::{Attempt, StepGate, attempt_rows};
 use crate::drafting::draft_offers;
 use crate::granting::{Grant, grant_row};
+use crate::lives::{finish_at, start_from};
 use crate::rows::RowSet;
 use crate::taking::take_row;
 use crate::{nacks, reading};
 use atomic_table::Seat;
 use cell_table::{Board, Shape, View};
 use protocol::{Bare, Ledger, Resident, start_words};
-use protocol_values::{Cell, Direction, Joined, Message, NackName, Offer, Row};
+use protocol_values::{Cell, Course, Direction, Joined, Message, NackName, Offer, Row};
 use std::alloc::{AllocError, Global};
 use std::marker::Model;
 use std::snapshot::Snapshot;
@@ -90,7 +102,7 @@ impl<M: Resident> Model for Cells<M> {
 
     ghost Value = { GridOf M };
 
-    ghost view = { λ c. record { id = c.board.words.shared.table_id; threads = c.board.shape.threads; rows = c.board.shape.rows; passes = c.board.shape.passes; first = c.board.shape.first.value.items } };
+    ghost view = { λ c. record { id = c.board.words.shared.table_id; threads = c.board.shape.threads; rows = c.board.shape.rows; passes = c.board.shape.passes; later = c.board.shape.later; first = c.board.shape.first.value.items } };
 
     ghost invariant = { λ c. (length c.spare.items ≡ c.board.words.shared.table_id.words) × (0 < length c.board.shape.first.value.items → M.houses ≡ true) };
 }
@@ -103,22 +115,23 @@ pub struct Pass<M> {
 }
 
 impl<M> Model for Pass<M> {
-    ghost use Rattle.std.specs.Prelude.{◌≡◌};
+    ghost use Rattle.std.specs.Prelude.{◌≡◌, ◌+◌};
     ghost use Rattle.cell_table.specs.declared.view.Stage.TheVariants.{Resting};
     ghost use Rattle.cell.specs.Calls.{PassOf};
-    ghost use Rattle.cell.specs.Flags.{AreFlags};
+    ghost use Rattle.cell.specs.Flags.{AreFlags, places_of};
 
     ghost Value = { PassOf M };
 
-    ghost view = { λ p. record { of = record { id = p.seat.table_id; threads = p.seat.me.0.threads; rows = p.seat.me.0.rows; passes = p.seat.me.0.passes; first = p.seat.me.0.first }; seen = p.seat.me.0.seen; made = p.seat.me.0.made; results = p.seat.me.0.results; out = p.seat.me.1 } };
+    ghost view = { λ p. record { of = record { id = p.seat.table_id; threads = p.seat.me.0.threads; rows = p.seat.me.0.rows; passes = p.seat.me.0.passes; later = p.seat.me.0.later; first = p.seat.me.0.first }; seen = p.seat.me.0.seen; made = p.seat.me.0.made; results = p.seat.me.0.results; out = p.seat.me.1 } };
 
-    ghost invariant = { λ p. (p.seat.me.0.stage ≡ Resting) × (p.seat.me.0.threads ≡ p.rows.threads) × (p.seat.me.0.rows ≡ p.rows.rows) × AreFlags p.rows.threads p.rows.rows p.rows.flags.items p.seat.me.0.seen.held };
+    ghost invariant = { λ p. (p.seat.me.0.stage ≡ Resting) × (p.seat.me.0.threads ≡ p.rows.threads) × (p.seat.me.0.rows + 1 ≡ p.rows.rows) × AreFlags p.rows.threads p.rows.rows p.rows.flags.items (places_of p.seat.me.0.rows p.seat.me.0.seen) };
 }
 
 impl<M> Pass<M> {
-    /// Whether the pass holds the row.
+    /// Whether the pass holds the row, or, where the row's number is that of the table's rows, stands behind the last row
+    /// of the thread.
     pub fn holds(&self, row: Row) -> bool
-        ensures { IsTrue result ↔ Has self.now.seen.held row }
+        ensures { IsTrue result ↔ HoldsAt self.now row }
     {
         self.rows.contains(row)
     }
@@ -147,10 +160,65 @@ impl Cells<Bare> {
         requires passes { (1 ≤ passes) × (passes ≤ 16) }
         ensures size { IfOk result (λ t. (t.0.threads ≡ threads) × (t.0.rows ≡ rows) × (t.0.passes ≡ passes) × (length t.1.items ≡ passes)) }
         ensures first { IfOk result (λ t. t.0.first ≡ []) }
+        ensures waiting { IfOk result (λ t. t.0.later ≡ 0) }
         ensures passes { IfOk result (λ t. (number : ℕ) (pass : PassView) → slice_get t.1.items number ≡ Some pass → IsPassOf t.0 pass × (pass.seen ≡ seen_nothing (dealt_rows threads passes number)) × (pass.made ≡ [])) }
         ensures results { IfOk result (λ t. (number : ℕ) (pass : PassView) → slice_get t.1.items number ≡ Some pass → (pass.results ≡ []) × (pass.out ≡ [])) }
     {
-        Cells::over(alloc, Vec::new(alloc), threads, rows, passes)
+        Cells::new_later(alloc, threads, rows, passes, 0)
+    }
+
+    /// The same, but a thread whose bit is set in the mask `later` waits to be started, and no pass holds its
+    /// row 0. Bits of threads that the table has not change nothing.
+    pub fn new_later(
+        alloc: Global,
+        threads: u8,
+        rows: u16,
+        passes: u8,
+        later: u64,
+    ) -> Result<(Cells<Bare>, Vec<Pass<Bare>>), AllocError>
+        requires threads { (1 ≤ threads) × (threads ≤ 64) }
+        requires rows { (1 ≤ rows) × (rows ≤ 1024) }
+        requires passes { (1 ≤ passes) × (passes ≤ 16) }
+        ensures size { IfOk result (λ t. (t.0.threads ≡ threads) × (t.0.rows ≡ rows) × (t.0.passes ≡ passes) × (length t.1.items ≡ passes)) }
+        ensures first { IfOk result (λ t. t.0.first ≡ []) }
+        ensures waiting { IfOk result (λ t. t.0.later ≡ later) }
+        ensures passes { IfOk result (λ t. (number : ℕ) (pass : PassView) → slice_get t.1.items number ≡ Some pass → IsPassOf t.0 pass × (pass.seen ≡ seen_nothing (dealt_later later threads passes number)) × (pass.made ≡ [])) }
+        ensures results { IfOk result (λ t. (number : ℕ) (pass : PassView) → slice_get t.1.items number ≡ Some pass → (pass.results ≡ []) × (pass.out ≡ [])) }
+    {
+        Cells::over(alloc, Vec::new(alloc), threads, rows, passes, later)
+    }
+
+    /// Starts the thread from a place of another thread at which the pass stands: a held row that is Fresh, or the place
+    /// behind the last row. True where this call started it: at that place's last stamp, and the pass holds the
+    /// thread's row 0 from then on. False where it had started before.
+    pub fn start(&self, pass: &mut Pass<Bare>, row: Row, thread: u8) -> bool
+        requires here { IsPassOf self.now pass.old × IsStandOf self.now row }
+        requires stands { IsStand self.now.rows pass.old.seen row × (¬ SawEnded pass.old.seen row.thread) }
+        requires other { (thread < self.now.threads) × (row.thread ≢ thread) }
+        ensures here { IsPassOf self.now pass.new }
+        ensures started { Started pass.old.seen pass.new.seen row thread result }
+        ensures made { pass.new.made ≡ start_made row thread result pass.old.made }
+        ensures results { KeepsResults pass.old pass.new }
+    {
+        let Pass { seat, rows } = pass;
+        let started = start_from(&self.board, seat, row, thread);
+        if started {
+            rows.insert(Row { thread, sync: 0 });
+        }
+        started
+    }
+
+    /// Ends the thread of a place at which the pass stands: a held row that is Fresh, or the place behind the
+    /// last row. No row of the thread is drafted, bound or opened from then on.
+    pub fn finish(&self, pass: &mut Pass<Bare>, row: Row)
+        requires here { IsPassOf self.now pass.old × IsStandOf self.now row }
+        requires stands { IsStand self.now.rows pass.old.seen row × (¬ SawEnded pass.old.seen row.thread) }
+        ensures here { IsPassOf self.now pass.new }
+        ensures finished { Finished pass.old.seen pass.new.seen row }
+        ensures made { pass.new.made ≡ Finish row ∷ pass.old.made }
+        ensures results { KeepsResults pass.old pass.new }
+    {
+        finish_at(&self.board, &mut pass.seat, row);
     }
 }
 
@@ -169,20 +237,22 @@ impl<M: Resident + Drop> Cells<M> {
         requires passes { (1 ≤ passes) × (passes ≤ 16) }
         ensures size { IfOk result (λ t. (t.0.threads ≡ length first.items) × (t.0.rows ≡ rows) × (t.0.passes ≡ passes) × (length t.1.items ≡ passes)) }
         ensures first { IfOk result (λ t. t.0.first ≡ first.items) }
+        ensures waiting { IfOk result (λ t. t.0.later ≡ 0) }
         ensures passes { IfOk result (λ t. (number : ℕ) (pass : PassOf M) → slice_get t.1.items number ≡ Some pass → IsPassOf t.0 pass × (pass.seen ≡ seen_nothing (dealt_rows (length first.items) passes number)) × (pass.made ≡ [])) }
         ensures results { IfOk result (λ t. (number : ℕ) (pass : PassOf M) → slice_get t.1.items number ≡ Some pass → (pass.results ≡ []) × (pass.out ≡ [])) }
     {
         let threads = first.len() as u8;
-        Cells::over(alloc, first, threads, rows, passes)
+        Cells::over(alloc, first, threads, rows, passes, 0)
     }
 
-    /// A table over these, or over none.
+    /// A table over these, or over none, in which the threads of the mask `later` wait to be started.
     fn over(
         alloc: Global,
         first: Vec<M>,
         threads: u8,
         rows: u16,
         passes: u8,
+        later: u64,
     ) -> Result<(Cells<M>, Vec<Pass<M>>), AllocError>
         requires housed { 0 < length first.items → M.houses ≡ true }
         requires first { 0 < length first.items → length first.items ≡ threads }
@@ -191,22 +261,24 @@ impl<M: Resident + Drop> Cells<M> {
         requires passes { (1 ≤ passes) × (passes ≤ 16) }
         ensures size { IfOk result (λ t. (t.0.threads ≡ threads) × (t.0.rows ≡ rows) × (t.0.passes ≡ passes) × (length t.1.items ≡ passes)) }
         ensures first { IfOk result (λ t. t.0.first ≡ first.items) }
-        ensures passes { IfOk result (λ t. (number : ℕ) (pass : PassOf M) → slice_get t.1.items number ≡ Some pass → IsPassOf t.0 pass × (pass.seen ≡ seen_nothing (dealt_rows threads passes number)) × (pass.made ≡ [])) }
+        ensures waiting { IfOk result (λ t. t.0.later ≡ later) }
+        ensures passes { IfOk result (λ t. (number : ℕ) (pass : PassOf M) → slice_get t.1.items number ≡ Some pass → IsPassOf t.0 pass × (pass.seen ≡ seen_nothing (dealt_later later threads passes number)) × (pass.made ≡ [])) }
         ensures results { IfOk result (λ t. (number : ℕ) (pass : PassOf M) → slice_get t.1.items number ≡ Some pass → (pass.results ≡ []) × (pass.out ≡ [])) }
     {
         let shape = Shape {
             threads: u64::from(threads),
             rows: u64::from(rows),
             passes: u64::from(passes),
+            later,
             first: Snapshot::of(&first),
         };
-        let spare = start_words(alloc, usize::from(threads), usize::from(rows), 0)?;
+        let spare = start_words(alloc, usize::from(threads), usize::from(rows), later)?;
         let slots = slots_of(alloc, first)?;
         let (board, mut dealer) = Board::start(alloc, shape, spare.as_slice(), slots)?;
         let mut dealt = Vec::with_capacity(alloc, usize::from(passes))?;
         for number in 0..passes {
             let seat = board.deal(&mut dealer, u64::from(number));
-            let rows = first_rows(alloc, threads, rows, passes, number)?;
+            let rows = first_rows(alloc, threads, rows, passes, later, number)?;
             dealt.push(Pass { seat, rows })?;
         }
         Ok((Cells { board, spare }, dealt))
@@ -217,7 +289,10 @@ impl<M: Resident + Drop> Cells<M> {
         requires here { IsPassOf self pass }
         ensures size { (result.threads ≡ self.threads) × (result.rows ≡ self.rows) }
         ensures lawful { IsLawful result }
-        ensures running { (t : ℕ) → course_in result t ≡ (if nat_lt t self.threads then Running 0 else Unstarted) }
+        ensures running { IsHousing self → (t : ℕ) → course_in result t ≡ (if nat_lt t self.threads && not (waits self.later t) then Running 0 else Unstarted) }
+        ensures at_once { (t : ℕ) → t < self.threads → waits self.later t ≡ false → HasStart (course_in result t) 0 }
+        ensures started { (t stamp : ℕ) → Has pass.seen.started (t, stamp) → HasStart (course_in result t) stamp }
+        ensures ended { (t g : ℕ) → Has pass.seen.ended (t, g) → EndsAt (course_in result t) g }
         ensures seen { (r : Row) (j : Joined) → Has pass.seen.joined (r, j) → joined_in result r ≡ Some j }
         ensures offers { (r : Row) (n : ℕ) (o : Offer) → SeesOffer pass.seen r n o → offer_in result r n ≡ Some o }
         ensures lacks { (r : Row) (n : ℕ) → SeesNoOffer pass.seen r n → offer_in result r n ≡ None }
@@ -245,6 +320,7 @@ impl<M: Resident> Cells<M> {
     pub fn open(&self, pass: &mut Pass<M>, row: Row)
         requires here { IsPassOf self.now pass.old × IsRowOf self.now row }
         requires fresh { Has pass.old.seen.held row × (¬ Has pass.old.seen.opened row) }
+        requires alive { ¬ IsHousing self.now → ¬ SawEnded pass.old.seen row.thread }
         requires parked { M.houses ≡ true → IsParked M.stands self.now pass.old row }
         ensures here { IsPassOf self.now pass.new }
         ensures opened { pass.new.seen ≡ see_opened row pass.old.seen }
@@ -266,6 +342,18 @@ impl<M: Resident> Cells<M> {
         ensures results { KeepsResults pass.old pass.new }
     {
         self.board.look(&mut pass.seat, row)
+    }
+
+    /// Where the thread is on its course.
+    pub fn course(&self, pass: &mut Pass<M>, thread: u8) -> Course
+        requires here { IsPassOf self.now pass.old × (thread < self.now.threads) }
+        ensures here { IsPassOf self.now pass.new }
+        ensures saw { pass.new.seen ≡ see_course thread result pass.old.seen }
+        ensures expected { IsExpectedCourse self.now.rows pass.old.seen thread result }
+        ensures made { pass.new.made ≡ pass.old.made }
+        ensures results { KeepsResults pass.old pass.new }
+    {
+        self.board.look_life(&mut pass.seat, thread)
     }
 
     /// Offer n of the row: none where the row is Fresh or has no offer n.
@@ -328,7 +416,7 @@ impl<M: Resident> Cells<M> {
         requires here { IsPassOf self.now pass.old × IsRowOf self.now mine × IsRowOf self.now other }
         requires opened { Has pass.old.seen.held mine × Has pass.old.seen.opened mine }
         ensures here { IsPassOf self.now pass.new }
-        ensures learns { Learns (IsNear mine other) pass.old.seen pass.new.seen }
+        ensures learns { LearnsOf (IsNear mine other) (λ n. ⊥) (IsLifeNear mine other) pass.old.seen pass.new.seen }
         ensures fits { Fits pass.new.seen mine own other partner result }
         ensures offers { OffersFit pass.new.seen mine own other partner result }
         ensures attempted { Attempted pass.old.seen pass.new.seen mine own other partner result }
@@ -349,9 +437,10 @@ impl<M: Resident> Cells<M> {
     pub fn bind(&self, pass: &mut Pass<M>, k: u8, row: Row, scope: u8) -> bool
         requires here { IsPassOf self.now pass.old × IsRowOf self.now row }
         requires fresh { Has pass.old.seen.held row × (¬ Has pass.old.seen.opened row) }
+        requires alive { ¬ IsHousing self.now → ¬ SawEnded pass.old.seen row.thread }
         requires range { (k < 64) × (scope < 4) }
         ensures here { IsPassOf self.now pass.new }
-        ensures learns { LearnsOf (λ q. ⊥) (λ n. n ≡ nack_of_row row k) pass.old.seen pass.new.seen }
+        ensures learns { LearnsOf (λ q. ⊥) (λ n. n ≡ nack_of_row row k) (λ p. ⊥) pass.old.seen pass.new.seen }
         ensures bound { Bound pass.old.seen pass.new.seen k row scope result }
         ensures earlier { IsFalse result → IsHousing self.now → BoundBefore M.stands self.now.first pass.old.results pass.new.seen k row }
         ensures made { pass.new.made ≡ bind_made k row scope result pass.old.made }
@@ -365,7 +454,7 @@ impl<M: Resident> Cells<M> {
     pub fn bound(&self, pass: &mut Pass<M>, nack: NackName) -> Option<(Row, u8)>
         requires here { IsPassOf self.now pass.old }
         ensures here { IsPassOf self.now pass.new }
-        ensures learns { LearnsOf (λ q. ⊥) (λ n. n ≡ nack) pass.old.seen pass.new.seen }
+        ensures learns { LearnsOf (λ q. ⊥) (λ n. n ≡ nack) (λ p. ⊥) pass.old.seen pass.new.seen }
         ensures some { IfSome result (λ p. IsSeenBound pass.new.seen nack p.0 p.1 × IsRowOf self.now p.0 × (p.1 < 4)) }
         ensures there { IfSome result (λ p. IsNackOf self.now nack) }
         ensures same { (r : Row) (scope : ℕ) → IsSeenBound pass.old.seen nack r scope → result ≡ Some (r, scope) }
@@ -380,12 +469,12 @@ impl<M: Resident> Cells<M> {
         Some((row, bound.scope))
     }
 
-    /// Commits the row alone by its offer n, where that is an always or an enabled nack, and the row
-    /// waits. The row may be held by any pass.
+    /// Commits the row alone by its offer n, where that is an always, an enabled nack, or the end of a thread that
+    /// has ended, and the row waits. The row may be held by any pass.
     pub fn grant(&self, pass: &mut Pass<M>, row: Row, n: u8) -> Grant
         requires here { IsPassOf self.now pass.old × IsRowOf self.now row }
         ensures here { IsPassOf self.now pass.new }
-        ensures learns { LearnsOf (IsNearGrant pass.new.seen row n) (IsNackOfOffer pass.new.seen row n) pass.old.seen pass.new.seen }
+        ensures learns { LearnsOf (IsNearGrant pass.new.seen row n) (IsNackOfOffer pass.new.seen row n) (IsLifeOf pass.new.seen row n) pass.old.seen pass.new.seen }
         ensures granted { Granted pass.old.seen pass.new.seen row n result }
         ensures made { pass.new.made ≡ grant_made row n result pass.old.made }
         ensures results { KeepsResults pass.old pass.new }
@@ -394,7 +483,7 @@ impl<M: Resident> Cells<M> {
     }
 
     /// Takes the row, where it is committed and nobody has taken it: the pass holds the thread's next
-    /// row from then on, if there is one. The row may be held by any pass.
+    /// row from then on, or stands behind the last one. The row may be held by any pass.
     pub fn take(&self, pass: &mut Pass<M>, row: Row) -> Option<Joined>
         requires here { IsPassOf self.now pass.old × IsRowOf self.now row }
         ensures here { IsPassOf self.now pass.new }
@@ -406,10 +495,7 @@ impl<M: Resident> Cells<M> {
     {
         let Pass { seat, rows } = pass;
         let joined = take_row(&self.board, seat, row)?;
-        let next = row.next();
-        if next.sync < rows.rows {
-            rows.insert(next);
-        }
+        rows.insert(row.next());
         Some(joined)
     }
 
@@ -418,6 +504,7 @@ impl<M: Resident> Cells<M> {
     pub fn draft(&self, pass: &mut Pass<M>, row: Row, offers: &[Offer])
         requires here { IsPassOf self.now pass.old × IsRowOf self.now row }
         requires fresh { Has pass.old.seen.held row × (¬ Has pass.old.seen.opened row) }
+        requires alive { ¬ IsHousing self.now → ¬ SawEnded pass.old.seen row.thread }
         requires offers { AreOffers offers.now }
         ensures here { IsPassOf self.now pass.new }
         ensures others { Redrafts (λ q p. q ≡ row) pass.old.seen pass.new.seen }
@@ -484,24 +571,35 @@ fn slots_of<M: Drop>(alloc: Global, first: Vec<M>) -> Result<Vec<Option<M>>, All
     first.into_iter().map(Some).collect(alloc)
 }
 
-/// The rows that pass `number` holds at the start.
+/// The rows that pass `number` holds at the start, with room for the places behind the last ones.
 fn first_rows(
     alloc: Global,
     threads: u8,
     rows: u16,
     passes: u8,
+    later: u64,
     number: u8,
 ) -> Result<RowSet, AllocError>
-    requires rows { 1 ≤ rows }
+    requires threads { threads ≤ 64 }
+    requires rows { (1 ≤ rows) × (rows ≤ 1024) }
     requires passes { 1 ≤ passes }
-    ensures size { IfOk result (λ s. (s.threads ≡ threads) × (s.rows ≡ rows)) }
-    ensures dealt { IfOk result (λ s. AreFlags s.threads s.rows s.flags.items (dealt_rows threads passes number)) }
+    ensures size { IfOk result (λ s. (s.threads ≡ threads) × (s.rows ≡ rows + 1)) }
+    ensures dealt { IfOk result (λ s. AreFlags s.threads s.rows s.flags.items (dealt_later later threads passes number)) }
 {
-    let mut first = RowSet::new(alloc, threads, rows)?;
+    let mut first = RowSet::new(alloc, threads, rows + 1)?;
     for thread in 0..threads {
-        if thread % passes == number {
+        if falls_to(later, passes, number, thread) {
             first.insert(Row { thread, sync: 0 });
         }
     }
     Ok(first)
+}
+
+/// Whether the thread starts at once, and falls to pass `number`.
+fn falls_to(later: u64, passes: u8, number: u8, thread: u8) -> bool
+    requires passes { 1 ≤ passes }
+    requires thread { thread < 64 }
+    ensures { result ≡ falls_to later passes number thread }
+{
+    (later >> thread) % 2 != 1 && thread % passes == number
 }

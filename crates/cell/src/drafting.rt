@@ -1,12 +1,12 @@
 //! The offers of a row, written word by word before it is opened.
 
-ghost use Rattle.std.specs.Prelude.{◌≡◌, ◌+◌, ◌*◌, ◌<◌, ◌≤◌, IsTrue, is_some, true};
+ghost use Rattle.std.specs.Prelude.{◌≡◌, ◌+◌, ◌*◌, ◌<◌, ◌≤◌, IsTrue, is_some, length, true};
 ghost use Rattle.protocol_values.specs.Words.{IsOfferInRange, atom_of};
 ghost use Rattle.protocol_values.specs.declared.Offer.{Offer};
 ghost use Rattle.cell.specs.Attempts.{OnlyDrafts};
 ghost use Rattle.cell_table.specs.declared.view.Stage.TheVariants.{Resting};
 ghost use Rattle.cell_table.specs.Seats.{Sits, HasRow, StaysSeated};
-ghost use Rattle.cell_table.specs.Sight.{AreOffers, Has, HasDrafted, IsDraft, IsPlaceOf, Redrafts};
+ghost use Rattle.cell_table.specs.Sight.{AreOffers, Has, HasDrafted, IsDraft, IsPlaceOf, Redrafts, SawEnded};
 ghost use Rattle.cell_table.specs.Views.{worked};
 
 use crate::reading::atoms_told;
@@ -26,6 +26,7 @@ pub(crate) fn draft_offers<M: Resident>(
     requires sits { Sits board.now seat.old × HasRow board.now row }
     requires resting { seat.old.me.0.stage ≡ Resting }
     requires held { Has seat.old.me.0.seen.held row × (¬ Has seat.old.me.0.seen.opened row) }
+    requires alive { ¬ (0 < length board.now.shape.first.value.items) → ¬ SawEnded seat.old.me.0.seen row.thread }
     requires offers { AreOffers offers.now }
     ensures sits { StaysSeated board.now seat.old seat.new }
     ensures stays { seat.new.me.0 ≡ worked seat.old.me.0.stage seat.new.me.0.seen seat.new.me.0.made seat.old.me.0 }
@@ -50,6 +51,7 @@ fn draft_offer<M: Resident>(
     requires sits { Sits board.now seat.old × HasRow board.now row }
     requires resting { seat.old.me.0.stage ≡ Resting }
     requires held { Has seat.old.me.0.seen.held row × (¬ Has seat.old.me.0.seen.opened row) }
+    requires alive { ¬ (0 < length board.now.shape.first.value.items) → ¬ SawEnded seat.old.me.0.seen row.thread }
     requires offer { (n < 8) × IsOfferInRange offer }
     ensures sits { StaysSeated board.now seat.old seat.new }
     ensures stays { seat.new.me.0 ≡ worked seat.old.me.0.stage seat.new.me.0.seen seat.new.me.0.made seat.old.me.0 }
@@ -78,6 +80,7 @@ fn draft_atom<M: Resident>(
     requires sits { Sits board.now seat.old × HasRow board.now row }
     requires resting { seat.old.me.0.stage ≡ Resting }
     requires held { Has seat.old.me.0.seen.held row × (¬ Has seat.old.me.0.seen.opened row) }
+    requires alive { ¬ (0 < length board.now.shape.first.value.items) → ¬ SawEnded seat.old.me.0.seen row.thread }
     requires atom { (n < 8) × (1 ≤ k) × (k < 4) × (is_some (atom_of word) ≡ true) }
     ensures sits { StaysSeated board.now seat.old seat.new }
     ensures stays { seat.new.me.0 ≡ worked seat.old.me.0.stage seat.new.me.0.seen seat.new.me.0.made seat.old.me.0 }

@@ -7,6 +7,7 @@ mod attempt;
 mod cells;
 mod drafting;
 mod granting;
+mod lives;
 mod nacks;
 mod reading;
 mod rows;

@@ -1,20 +1,20 @@
 //! Nacks: where they are bound, and which are enabled.
 
 ghost use Rattle.std.specs.Prelude.{◌≡◌, ℕ, ◌<◌, ◌≤◌, IfSome, IfNone, Some, IsFalse, length};
-ghost use Rattle.protocol_values.specs.declared.Base.TheVariants.{OnNack};
+ghost use Rattle.protocol_values.specs.declared.Base.TheVariants.{OnEnd, OnNack};
 ghost use Rattle.protocol_values.specs.declared.Binding.{Binding};
 ghost use Rattle.protocol_values.specs.declared.Joined.{Joined};
 ghost use Rattle.protocol_values.specs.declared.NackName.{NackName};
 ghost use Rattle.protocol.specs.Tables.{bound_row};
 ghost use Rattle.protocol.specs.Worlds.{nack_of_row};
 ghost use Rattle.cell.specs.Attempts.{Bound, BoundBefore, bind_made};
-ghost use Rattle.cell_table.specs.Nacks.{IsBoundRow, SawCause, SawEnabled};
+ghost use Rattle.cell_table.specs.Nacks.{IsCauseRow, IsReadyAlone, SawCause, SawEnabled};
 ghost use Rattle.cell_table.specs.declared.view.Stage.TheVariants.{Resting};
 ghost use Rattle.cell_table.specs.Seats.{HasNack, HasRow, Sits, StaysSeated};
-ghost use Rattle.cell_table.specs.Sight.{Has, Learns, LearnsOf};
+ghost use Rattle.cell_table.specs.Sight.{Has, Learns, LearnsOf, SawEnded};
 ghost use Rattle.cell_table.specs.Views.{at_stage, worked};
 
-use crate::reading::opened_offer;
+use crate::reading::{end_stamp, opened_offer};
 use atomic_table::Seat;
 use cell_table::{Board, View};
 use protocol::Resident;
@@ -29,7 +29,7 @@ pub(crate) fn binding_of<M: Resident>(
     requires { Sits board.now seat.old }
     ensures sits { StaysSeated board.now seat.old seat.new }
     ensures stays { seat.new.me.0 ≡ at_stage seat.old.me.0.stage seat.new.me.0.seen seat.old.me.0 }
-    ensures learns { LearnsOf (λ q. ⊥) (λ n. n ≡ nack) seat.old.me.0.seen seat.new.me.0.seen }
+    ensures learns { LearnsOf (λ q. ⊥) (λ n. n ≡ nack) (λ p. ⊥) seat.old.me.0.seen seat.new.me.0.seen }
     ensures some { IfSome result (λ b. Has seat.new.me.0.seen.bound (nack, b)) }
     ensures there { IfSome result (λ b. HasNack board.now nack × HasRow board.now (bound_row nack b) × (b.scope < 4)) }
     ensures same { (b : Binding) → Has seat.old.me.0.seen.bound (nack, b) → result ≡ Some b }
@@ -53,10 +53,11 @@ pub(crate) fn bind<M: Resident>(
     requires sits { Sits board.now seat.old × HasRow board.now row }
     requires resting { seat.old.me.0.stage ≡ Resting }
     requires held { Has seat.old.me.0.seen.held row × (¬ Has seat.old.me.0.seen.opened row) }
+    requires alive { ¬ (0 < length board.now.shape.first.value.items) → ¬ SawEnded seat.old.me.0.seen row.thread }
     requires range { (k < 64) × (scope < 4) }
     ensures sits { StaysSeated board.now seat.old seat.new }
     ensures stays { seat.new.me.0 ≡ worked seat.old.me.0.stage seat.new.me.0.seen (bind_made k row scope result seat.old.me.0.made) seat.old.me.0 }
-    ensures learns { LearnsOf (λ q. ⊥) (λ n. n ≡ nack_of_row row k) seat.old.me.0.seen seat.new.me.0.seen }
+    ensures learns { LearnsOf (λ q. ⊥) (λ n. n ≡ nack_of_row row k) (λ p. ⊥) seat.old.me.0.seen seat.new.me.0.seen }
     ensures bound { Bound seat.old.me.0.seen seat.new.me.0.seen k row scope result }
     ensures earlier { IsFalse result → 0 < length board.now.shape.first.value.items → BoundBefore M.stands board.now.shape.first.value.items seat.old.me.0.results seat.new.me.0.seen k row }
 {
@@ -74,8 +75,8 @@ pub(crate) fn bind<M: Resident>(
     }
 }
 
-/// The stamp of what lets a base event commit its row alone: 0 for an always, and for a nack that
-/// is enabled that of the row which enabled it.
+/// The stamp of what lets a base event commit its row alone: 0 for an always, for a nack that is enabled
+/// that of the row which enabled it, and for a thread that has ended its last one.
 pub(crate) fn cause_of<M: Resident>(
     board: &Board<M>,
     seat: &mut Seat<Option<M>, View<M>>,
@@ -84,9 +85,9 @@ pub(crate) fn cause_of<M: Resident>(
     requires sits { Sits board.now seat.old }
     ensures sits { StaysSeated board.now seat.old seat.new }
     ensures stays { seat.new.me.0 ≡ at_stage seat.old.me.0.stage seat.new.me.0.seen seat.old.me.0 }
-    ensures learns { LearnsOf (IsBoundRow seat.new.me.0.seen base) (λ n. base ≡ OnNack n) seat.old.me.0.seen seat.new.me.0.seen }
+    ensures learns { LearnsOf (IsCauseRow seat.new.me.0.seen base) (λ n. base ≡ OnNack n) (λ p. base ≡ OnEnd p) seat.old.me.0.seen seat.new.me.0.seen }
     ensures some { IfSome result (λ stamp. SawCause seat.new.me.0.seen base stamp × (stamp ≤ 65536)) }
-    ensures none { IfNone result ((stamp : ℕ) → ¬ SawCause seat.old.me.0.seen base stamp) }
+    ensures none { IfNone result (¬ IsReadyAlone seat.old.me.0.seen base) }
 {
     match base {
         Base::Always(_) => Some(0),
@@ -94,7 +95,8 @@ pub(crate) fn cause_of<M: Resident>(
             let joined = enabled_by(board, seat, nack)?;
             Some(joined.stamp)
         }
-        Base::Send(..) | Base::Recv(_) | Base::OnEnd(_) | Base::Never => None,
+        Base::OnEnd(thread) => end_stamp(board, seat, thread),
+        Base::Send(..) | Base::Recv(_) | Base::Never => None,
     }
 }
 
@@ -108,7 +110,7 @@ fn enabled_by<M: Resident>(
     requires sits { Sits board.now seat.old }
     ensures sits { StaysSeated board.now seat.old seat.new }
     ensures stays { seat.new.me.0 ≡ at_stage seat.old.me.0.stage seat.new.me.0.seen seat.old.me.0 }
-    ensures learns { LearnsOf (λ q. (b : Binding) × Has seat.new.me.0.seen.bound (nack, b) × (q ≡ bound_row nack b)) (λ n. n ≡ nack) seat.old.me.0.seen seat.new.me.0.seen }
+    ensures learns { LearnsOf (λ q. (b : Binding) × Has seat.new.me.0.seen.bound (nack, b) × (q ≡ bound_row nack b)) (λ n. n ≡ nack) (λ p. ⊥) seat.old.me.0.seen seat.new.me.0.seen }
     ensures some { IfSome result (SawEnabled seat.new.me.0.seen nack) }
     ensures none { IfNone result ((j : Joined) → ¬ SawEnabled seat.old.me.0.seen nack j) }
 {

@@ -1,6 +1,6 @@
 //! What a pass reads of a row by several looks.
 
-ghost use Rattle.std.specs.Prelude.{ℕ, ◌≡◌, ◌⊎◌, ◌+◌, ◌*◌, ◌<◌, ◌≤◌, true, IfSome, IfNone, IsTrue, None, Some, is_some};
+ghost use Rattle.std.specs.Prelude.{ℕ, ◌≡◌, ◌≢◌, ◌⊎◌, ◌+◌, ◌*◌, ◌<◌, ◌≤◌, true, IfSome, IfNone, IsTrue, None, Some, is_some};
 ghost use Rattle.protocol_values.specs.Words.{atom_of};
 ghost use Rattle.protocol_values.specs.declared.Direction.{Direction};
 ghost use Rattle.protocol_values.specs.declared.Message.{Message};
@@ -9,14 +9,14 @@ ghost use Rattle.protocol_values.specs.declared.Offer.{Offer};
 ghost use Rattle.protocol_values.specs.declared.Row.{Row};
 ghost use Rattle.protocol.specs.Tables.{names};
 ghost use Rattle.cell_table.specs.Seats.{Sits, HasRow, StaysSeated};
-ghost use Rattle.cell_table.specs.Sight.{Has, HaveDirection, HaveOffer, HasSeenLast, IsBefore, IsKnownOpen, IsPartnerOf, IsResult, LackOffer, SawCommitted, SeesDirection, SeesOffer, Learns, atoms_told};
+ghost use Rattle.cell_table.specs.Sight.{Has, HaveDirection, HaveOffer, HasSeenLast, IsBefore, IsKnownOpen, IsPartnerOf, IsReached, IsResult, LackOffer, SawCommitted, SawEnded, SeesDirection, SeesOffer, Learns, LearnsOf, atoms_told};
 ghost use Rattle.cell_table.specs.Views.{at_stage};
 
 use atomic_table::Seat;
 use cell_table::{Board, View};
 use protocol::Resident;
 use protocol_values::{
-    Base, Cell, Direction, Joined, Message, Offer, Row, read_head, read_offer, unpack_count,
+    Base, Cell, Course, Direction, Joined, Message, Offer, Row, read_head, read_offer, unpack_count,
 };
 
 /// Offer n of the row, where it is opened and has one.
@@ -136,8 +136,46 @@ pub(crate) fn opened_direction<M: Resident>(
     Some(read_head(head).direction)
 }
 
-/// The stamp of the row before this one in its thread, and 0 where there is none. The row was
-/// seen opened, so the one before it is committed.
+/// The stamp of the start of the place's thread, which has started.
+fn start_stamp<M: Resident>(board: &Board<M>, seat: &mut Seat<Option<M>, View<M>>, row: Row) -> u32
+    requires sits { Sits board.now seat.old × (row.thread < board.now.shape.threads) }
+    requires reached { IsReached board.now.shape.rows seat.old.me.0.seen row }
+    ensures sits { StaysSeated board.now seat.old seat.new }
+    ensures stays { seat.new.me.0 ≡ at_stage seat.old.me.0.stage seat.new.me.0.seen seat.old.me.0 }
+    ensures learns { LearnsOf (λ q. ⊥) (λ n. ⊥) (λ p. p ≡ row.thread) seat.old.me.0.seen seat.new.me.0.seen }
+    ensures started { Has seat.new.me.0.seen.started (row.thread, result) }
+    ensures small { result ≤ 65536 }
+{
+    match board.look_life(seat, row.thread) {
+        Course::Running(start) | Course::Ended(start, _) => start,
+        Course::Unstarted => unreachable!(),
+    }
+}
+
+/// The stamp of the row before this place in its thread, of which the place is not the first. All rows before it
+/// were taken.
+fn stamp_before<M: Resident>(board: &Board<M>, seat: &mut Seat<Option<M>, View<M>>, row: Row) -> u32
+    requires sits { Sits board.now seat.old × (row.thread < board.now.shape.threads) × (row.sync ≤ board.now.shape.rows) }
+    requires behind { row.sync ≢ 0 }
+    requires reached { IsReached board.now.shape.rows seat.old.me.0.seen row }
+    ensures sits { StaysSeated board.now seat.old seat.new }
+    ensures stays { seat.new.me.0 ≡ at_stage seat.old.me.0.stage seat.new.me.0.seen seat.old.me.0 }
+    ensures learns { Learns (IsBefore row) seat.old.me.0.seen seat.new.me.0.seen }
+    ensures last { HasSeenLast seat.new.me.0.seen row result }
+    ensures small { result ≤ 65536 }
+{
+    let before = Row {
+        thread: row.thread,
+        sync: row.sync - 1,
+    };
+    match board.look(seat, before) {
+        Cell::Synched(joined) | Cell::Taken(joined) => joined.stamp,
+        Cell::Fresh | Cell::Waiting | Cell::Claimed => unreachable!(),
+    }
+}
+
+/// The stamp of the row before this one in its thread, and of a first row that of its thread's start. The row was
+/// seen opened, so the one before it is committed, and its thread has started.
 pub(crate) fn last_stamp<M: Resident>(
     board: &Board<M>,
     seat: &mut Seat<Option<M>, View<M>>,
@@ -147,21 +185,61 @@ pub(crate) fn last_stamp<M: Resident>(
     requires opened { Has seat.old.me.0.seen.opened row }
     ensures sits { StaysSeated board.now seat.old seat.new }
     ensures stays { seat.new.me.0 ≡ at_stage seat.old.me.0.stage seat.new.me.0.seen seat.old.me.0 }
+    ensures learns { LearnsOf (IsBefore row) (λ n. ⊥) (λ p. p ≡ row.thread) seat.old.me.0.seen seat.new.me.0.seen }
+    ensures last { HasSeenLast seat.new.me.0.seen row result }
+    ensures small { result ≤ 65536 }
+{
+    if row.sync == 0 {
+        start_stamp(board, seat, row)
+    } else {
+        stamp_before(board, seat, row)
+    }
+}
+
+/// The last stamp at this place of a thread that was seen started at `start`: that of the row before, and of a first row
+/// the start's.
+pub(crate) fn last_at<M: Resident>(
+    board: &Board<M>,
+    seat: &mut Seat<Option<M>, View<M>>,
+    row: Row,
+    start: u32,
+) -> u32
+    requires sits { Sits board.now seat.old × (row.thread < board.now.shape.threads) × (row.sync ≤ board.now.shape.rows) }
+    requires reached { IsReached board.now.shape.rows seat.old.me.0.seen row }
+    requires started { Has seat.old.me.0.seen.started (row.thread, start) }
+    ensures sits { StaysSeated board.now seat.old seat.new }
+    ensures stays { seat.new.me.0 ≡ at_stage seat.old.me.0.stage seat.new.me.0.seen seat.old.me.0 }
     ensures learns { Learns (IsBefore row) seat.old.me.0.seen seat.new.me.0.seen }
     ensures last { HasSeenLast seat.new.me.0.seen row result }
     ensures small { result ≤ 65536 }
 {
     if row.sync == 0 {
-        return 0;
+        start
+    } else {
+        stamp_before(board, seat, row)
     }
-    let before = Row {
-        thread: row.thread,
-        sync: row.sync - 1,
+}
+
+/// The last stamp of a thread that has ended, at its end.
+pub(crate) fn end_stamp<M: Resident>(
+    board: &Board<M>,
+    seat: &mut Seat<Option<M>, View<M>>,
+    thread: u8,
+) -> Option<u32>
+    requires { Sits board.now seat.old }
+    ensures sits { StaysSeated board.now seat.old seat.new }
+    ensures stays { seat.new.me.0 ≡ at_stage seat.old.me.0.stage seat.new.me.0.seen seat.old.me.0 }
+    ensures learns { LearnsOf (λ q. (g : ℕ) × Has seat.new.me.0.seen.ended (thread, g) × IsBefore (record { thread = thread; sync = g }) q) (λ n. ⊥) (λ p. p ≡ thread) seat.old.me.0.seen seat.new.me.0.seen }
+    ensures some { IfSome result (λ stamp. ((g : ℕ) × Has seat.new.me.0.seen.ended (thread, g) × HasSeenLast seat.new.me.0.seen (record { thread = thread; sync = g }) stamp) × (stamp ≤ 65536)) }
+    ensures none { IfNone result (¬ SawEnded seat.old.me.0.seen thread) }
+{
+    if !board.has_thread(thread) {
+        return None;
+    }
+    let Course::Ended(start, sync) = board.look_life(seat, thread) else {
+        return None;
     };
-    match board.look(seat, before) {
-        Cell::Synched(joined) | Cell::Taken(joined) => joined.stamp,
-        Cell::Fresh | Cell::Waiting | Cell::Claimed => 0,
-    }
+    Some(last_at(board, seat, Row { thread, sync }, start))
 }
 
 /// What the row's thread gets, where the row is committed.

@@ -1,7 +1,7 @@
 -- Each atomic step is admitted by the rule.
 use Rattle.std.proofs.Common.{inl, inr, ◌∷◌, ◌++◌, cond, ◌+◌, slice_index, slice_set, slice_get, length, ◌%◌, ◌⊎◌, ◌≡◌, ◌≢◌, ℕ, ◌<◌, ◌≤◌, true, false, List, [], sym, refl, ap, ◌∙◌, subst, ⊎_elim, arith, unwrap_or, Option, Some, None, is_some, eqb, Bool, ltb}
 use Rattle.std.proofs.lemmas.List.{set-get_or}
-use Rattle.std.proofs.lemmas.Bool.{false≢true, ltb-true}
+use Rattle.std.proofs.lemmas.Bool.{false≢true, ltb-false, ltb-true}
 use mathlib.Core.Option.{Option as Maybe, some, none}
 use lib.ListN.{get_elem?}
 use prog.Atomic.{either}
@@ -22,7 +22,7 @@ use Rattle.protocol_values.specs.declared.Cell.{Cell}
 use Rattle.protocol_values.specs.declared.Cell.TheVariants.{Fresh, Waiting, Claimed, Synched, Taken}
 use Rattle.protocol.specs.Tables.{Table, place_of, is_row, is_fresh, cell_at, joined_at, names, is_partner, word_at, row_eq, synched_of, is_taken}
 use Rattle.protocol_values.specs.Values.{joined_of, next_row}
-use Rattle.protocol.specs.Worlds.{World, Condition, after_step, namer_at, joined_with, mirrored, with_seal, with_table, with_cell, with_word, holder_at, with_take, Allowed}
+use Rattle.protocol.specs.Worlds.{World, waits, Condition, after_step, namer_at, joined_with, mirrored, with_seal, with_table, with_cell, with_word, holder_at, with_take, Allowed, IsAlive, first_row, last_holder}
 use Rattle.protocol.specs.Kept.{Kept}
 use Rattle.protocol.proofs.RowLemmas.{row_ne, row_cases, row_eq-refl, same_row, put, put_other, put_same}
 use Rattle.protocol.proofs.Naming.{namer_none, namer_is}
@@ -34,7 +34,8 @@ use Rattle.cell_table.specs.declared.view.View.{View}
 use Rattle.cell_table.specs.declared.view.Shape.{Shape}
 use Rattle.cell_table.specs.declared.view.Stage.{Stage}
 use Rattle.cell_table.specs.declared.view.Stage.TheVariants.{Resting, Claims, Joins, Aside}
-use Rattle.cell_table.specs.Sight.{Has, CanJoin, Coherent, IsResult, see_cell}
+use Rattle.cell_table.specs.declared.view.Seen.{Seen}
+use Rattle.cell_table.specs.Sight.{Has, CanJoin, Coherent, IsResult, IsStand, SawEnded, see_cell, see_held}
 use Rattle.protocol.specs.Standing.{AreResults, IsLeft, Result, Stands}
 use Rattle.protocol.specs.Ledgers.{joined_in as ledger_joined, ledger_of}
 use Rattle.protocol.proofs.LedgerLemmas.{joined_in_ledger, lawful_ledger}
@@ -42,14 +43,15 @@ use Rattle.protocol.proofs.Onward.{grows-step}
 use Rattle.protocol.proofs.Results.{joined-results}
 use Rattle.protocol.proofs.Standing.{results-stay}
 use Rattle.cell_table.specs.Nacks.{CanGrant}
-use Rattle.cell_table.proofs.Following.{alive_known, knows_follows, knows_owned, hold_more, taken_world, not_held, next_unopened, follows_taken, bindings_after, next_unbound, taken_at, next_held}
-use Rattle.cell_table.specs.Views.{Knows, Staged, IsClaimer, at_stage, first_row, did, took, took_with, saw, read_word, drafted_word, turned, word_drafted}
+use Rattle.cell_table.proofs.Following.{knows_follows, knows_owned, hold_more, stand_behind, taken_world, not_held, not_last, no_end_taken, goes_on, last_held_now, next_unopened, follows_taken, bindings_after, next_unbound, taken_at, next_held}
+use Rattle.cell_table.specs.Views.{Knows, SeesEnd, Staged, IsClaimer, behind_last, at_stage, did, took, took_with, saw, read_word, drafted_word, turned, word_drafted}
 use Rattle.cell_table.proofs.Truths.{offers_known, joined_known, granted_known, agrees, coherent}
-use Rattle.cell_table.specs.Rule.{Housed, IsHome, IsReady, IsToBegin, Keeps}
+use Rattle.cell_table.specs.Rule.{Housed, IsHome, IsReady, IsToBegin, Keeps, beginning}
 use Rattle.cell_table.specs.Told.{Agrees, AgreesWithItself, ComesOut, GoesHome, Inside, At, began, has_begun, cell_read, looked, has_read, glanced, drafted, opened, yielded, claimed, joined, granted, settled, taken, sealed}
 use Rattle.cell_table.proofs.Others.{knows_begun, learn_cell, learn_word, others_cell, own_cell, cell_now, cell_else, others_draft, own_draft}
+use Rattle.cell_table.proofs.Courses.{KeepsLives}
 use Rattle.cell_table.proofs.Seating.{MovesOn, Stays, saw_stays}
-use Rattle.cell_table.proofs.Turning.{world_kept, keeps_housed, keeps_seen, keeps_view, keeps_step, moved_coherent}
+use Rattle.cell_table.proofs.Turning.{alive_known, world_kept, keeps_housed, keeps_seen, keeps_view, keeps_step, moved_coherent}
 use Rattle.cell_table.proofs.Housing.{first_out, housed_begin, housed_open, housed_take, some_or_none, took_begins, took_holds, value_out}
 use Rattle.cell_table.proofs.Standing.{comes_out, goes_home, sees_last}
 
@@ -101,6 +103,9 @@ module _ {M : Type 0} (stands : Stands M) where
         same_word me.0.threads me.0.rows r q p o (subst (λ (z : ℕ × ℕ). Inside z.0 z.1 r) (λ i. (sym threads i, sym rows i)) inside) i low h
         (ap (λ (n : ℕ). place_of n r p) rows ∙ sym here ∙ e)
 
+    abbrev IsUnended : Type 0
+    IsUnended = ¬ (0 < length shape.first.value.items) → ¬ SawEnded me.0.seen r.thread
+
     module _ (s : State (Option M) (View M)) (k : Keeps stands shape s) (view : get_elem? s.views id ≡ some me.0) where
       known : Knows k.world k.owner id me.0
       known = k.knows id me.0 view at_table
@@ -119,7 +124,7 @@ module _ {M : Type 0} (stands : Stands M) where
       is_its_row = ap (λ (t : Table). is_row t r) k.table ∙ row_from (sized shape s.words) r inside.0 inside.1
 
       -- where it only learns
-      learnt : (w : View M) → w.seat ≡ me.0.seat → w.made ≡ me.0.made → w.results ≡ me.0.results → w.first ≡ me.0.first → Stays me.0 w → ((q : Row) → IsToBegin w q → IsToBegin me.0 q) → Knows k.world k.owner id w → Keeps stands shape (stepped s place (slice_index s.words place) id me.1 w keeps)
+      learnt : (w : View M) → w.seat ≡ me.0.seat → w.made ≡ me.0.made → w.results ≡ me.0.results → beginning w ≡ beginning me.0 → Stays me.0 w → ((q : Row) → IsToBegin w q → IsToBegin me.0 q) → Knows k.world k.owner id w → Keeps stands shape (stepped s place (slice_index s.words place) id me.1 w keeps)
       learnt w seat_same made seen first stays begins knows = keeps_view stands shape s k id me.0 w _ view at_table seat_same made seen first stays begins (set-get_or s.words place 0) knows
 
       -- and a look at a cell begins with nothing
@@ -144,12 +149,16 @@ module _ {M : Type 0} (stands : Stands M) where
       rests : me.0.stage ≡ Resting → me.0.stage ≢ Aside
       rests resting e = let bad : Resting ≡ Aside = sym resting ∙ e in cc
 
+      -- where it stands at the row, and has not seen its thread end
+      lives : IsStand me.0.rows me.0.seen r → IsUnended → IsAlive k.world r.thread
+      lives stand alive = alive_known stands shape s k id me.0 r known (row_inside k.world.table r is_its_row).0 stand alive
+
       -- where it writes a word behind the cell
-      wrote_word : (d : ℕ) → me.0.stage ≡ Resting → Has me.0.seen.held r → ¬ Has me.0.seen.opened r → 1 ≤ p → is_word_for p d ≡ true → Keeps stands shape (stepped s place d id me.1 (word_drafted r p d me.0) keeps)
-      wrote_word d resting held unopened high formed =
+      wrote_word : (d : ℕ) → me.0.stage ≡ Resting → Has me.0.seen.held r → ¬ Has me.0.seen.opened r → IsUnended → 1 ≤ p → is_word_for p d ≡ true → Keeps stands shape (stepped s place d id me.1 (word_drafted r p d me.0) keeps)
+      wrote_word d resting held unopened alive high formed =
           let mine = known.mine r held in
           let fresh = known.fresh r held unopened in
-          keeps_step stands shape s k id me.0 (drafted_word r p d me.0) _ k.owner view at_table refl refl refl (λ q h. h) (Draft r p d) (λ q e. let bad : Draft r p d ≡ Open q = e in cc) (known.seat, (mine.1, fresh, alive_known k.world k.owner id me.0 known r.thread (row_inside k.world.table r is_its_row).0, high, omega arith, formed))
+          keeps_step stands shape s k id me.0 (drafted_word r p d me.0) _ k.owner view at_table refl refl refl (λ q h. h) (Draft r p d) (λ q e. let bad : Draft r p d ≡ Open q = e in cc) tt (known.seat, (mine.1, fresh, lives (inl (held, unopened)) alive, high, omega arith, formed))
           (record { same = (refl, refl, refl); acted = rests resting; acts = rests resting; held = λ q h. h; binds = λ n q scope e. let bad : Draft r p d ≡ Bind n q scope = e in cc }) (λ t rs h. inl h)
           (ap (λ (t : Table). with_word t r p d) k.table ∙ ap (λ (n : ℕ). sized shape (slice_set s.words n d)) (sym here))
           (λ j u n e t. others_draft k.world r p d k.owner kept is_its_row high low fresh j u (k.knows j u e t) (λ o. n (sym o ∙ mine.0)))
@@ -187,15 +196,16 @@ module _ {M : Type 0} (stands : Stands M) where
             → w.seat ≡ me.0.seat
             → w.made ≡ me.0.made
             → w.results ≡ me.0.results
-            → w.first ≡ me.0.first
+            → beginning w ≡ beginning me.0
             → ((q : Row) → IsToBegin w q → IsToBegin me.0 q)
             → ((q : Row) → done ≡ Open q → ⊥)
+            → KeepsLives done
             → MovesOn me.0 w done
             → Knows later k.owner id w
             → Keeps stands shape (stepped s place (cell_word c) id me.1 (did done w) keeps)
         unfolding with_cell
-        wrote_cell done w condition after by_other unnamed seat_same made seen first begins opens_none on knows =
-            keeps_step stands shape s k id me.0 w _ k.owner view at_table seat_same made first begins done opens_none (known.seat, condition) on (λ t rs h. inl (subst (λ (l : List (ℕ × List Result)). Has l (t, rs)) seen h))
+        wrote_cell done w condition after by_other unnamed seat_same made seen first begins opens_none still on knows =
+            keeps_step stands shape s k id me.0 w _ k.owner view at_table seat_same made first begins done opens_none still (known.seat, condition) on (λ t rs h. inl (subst (λ (l : List (ℕ × List Result)). Has l (t, rs)) seen h))
             (ap (λ (v : World). v.table) after ∙ ap (λ (t : Table). with_cell t r c) k.table ∙ ap (λ (n : ℕ). sized shape (slice_set s.words n (cell_word c))) (ap (place_of shape.rows r) (sym zero) ∙ sym here))
             (λ j u n e t. subst (λ (v : World). Knows v k.owner j u) (sym after)
             (others_cell k.world r c k.owner kept is_its_row range open_c was untaken j u (k.knows j u e t) (λ o. by_other j n o) (λ m o h. unnamed j m n o h)))
@@ -207,8 +217,8 @@ module _ {M : Type 0} (stands : Stands M) where
           let knows = k.knows i u e of_table in
           ⊎_elim
           (λ (held : Has u.seen.held q). (knows.mine q held).0)
-          (λ (deals : (q.thread < u.threads) × (u.dealt ≤ q.thread % u.passes)).
-          let mine = knows.undealt q.thread (subst (λ (n : ℕ). q.thread < n) knows.threads deals.0) (subst (λ (n : ℕ). u.dealt ≤ q.thread % n) knows.passes deals.1) in
+          (λ (deals : (q.thread < u.threads) × (waits u.later q.thread ≡ false) × (u.dealt ≤ q.thread % u.passes)).
+          let mine = knows.undealt q.thread (subst (λ (n : ℕ). q.thread < n) knows.threads deals.0) deals.1 (subst (λ (n : ℕ). u.dealt ≤ q.thread % n) knows.passes deals.2) in
           ap k.owner (same_row q (first_row q.thread) refl b.0) ∙ mine.0)
           b.1
 
@@ -217,7 +227,7 @@ module _ {M : Type 0} (stands : Stands M) where
       none_begins held i u n e of_table b = n (sym (begins_owned i u r e of_table b) ∙ (known.mine r held).0)
 
       -- a held row that is not opened
-      module _ (zero : p ≡ 0) (resting : me.0.stage ≡ Resting) (held : Has me.0.seen.held r) (unopened : ¬ Has me.0.seen.opened r) where
+      module _ (zero : p ≡ 0) (resting : me.0.stage ≡ Resting) (held : Has me.0.seen.held r) (unopened : ¬ Has me.0.seen.opened r) (alive : IsUnended) where
         fresh_now : cell_at k.world.table r ≡ Fresh
         fresh_now = known.fresh r held unopened
 
@@ -225,7 +235,7 @@ module _ {M : Type 0} (stands : Stands M) where
         open_world = later Waiting zero tt refl (ap joined_of fresh_now) (ap is_taken fresh_now)
 
         allowed_open : Allowed k.world seat (Open r)
-        allowed_open = (known.seat, ((known.mine r held).1, fresh_now, alive_known k.world k.owner id me.0 known r.thread (row_inside k.world.table r is_its_row).0))
+        allowed_open = (known.seat, ((known.mine r held).1, fresh_now, lives (inl (held, unopened)) alive))
 
         opened_knows : Knows open_world k.owner id (turned Resting r me.0)
         opened_knows = knows_now Waiting zero tt refl (ap joined_of fresh_now) (ap is_taken fresh_now) Resting tt (λ e. let bad : Waiting ≡ Claimed = e in cc) (λ q e h. subst (λ (z : Stage). IsClaimer z q) resting h)
@@ -238,7 +248,7 @@ module _ {M : Type 0} (stands : Stands M) where
             → Keeps stands shape (record { words = slice_set s.words place (cell_word Waiting); homes = hs; views = slice_set s.views id (did (Open r) (turned Resting r me.0)) })
         unfolding with_cell
         opens hs house =
-            keeps_housed stands shape s k id me.0 (turned Resting r me.0) _ hs k.owner view at_table refl refl refl (Open r) allowed_open
+            keeps_housed stands shape s k id me.0 (turned Resting r me.0) _ hs k.owner view at_table refl refl refl (Open r) (λ some_first. tt) allowed_open
             (record { same = (refl, refl, refl); acted = rests resting; acts = λ e. let bad : Resting ≡ Aside = e in cc; held = λ q h. h; binds = λ n q scope e. let bad : Open r ≡ Bind n q scope = e in cc }) (λ t rs h. inl h)
             (ap (λ (t : Table). with_cell t r Waiting) k.table ∙ ap (λ (n : ℕ). sized shape (slice_set s.words n (cell_word Waiting))) (ap (place_of shape.rows r) (sym zero) ∙ sym here))
             others_open opened_knows house
@@ -266,7 +276,7 @@ module _ {M : Type 0} (stands : Stands M) where
           let unnamed = idle_unnamed k.world r kept (λ e. let bad : Waiting ≡ Claimed = sym waits ∙ e in cc) was in
           let now = own_now Claimed zero tt refl was untaken in
           wrote_cell Claimed zero tt refl was untaken (Claim r) (turned (Claims r) r me.0) (mine.1, waits) refl
-          (λ j n o. absurd (n (sym o ∙ mine.0))) (λ j m n o h. refl) refl refl refl refl (λ q h. h) (λ q e. let bad : Claim r ≡ Open q = e in cc)
+          (λ j n o. absurd (n (sym o ∙ mine.0))) (λ j m n o h. refl) refl refl refl refl (λ q h. h) (λ q e. let bad : Claim r ≡ Open q = e in cc) tt
           (record { same = (refl, refl, refl); acted = rests resting; acts = λ e. let bad : Claims r ≡ Aside = e in cc; held = λ q h. h; binds = λ n q scope e. let bad : Claim r ≡ Bind n q scope = e in cc })
           (knows_now Claimed zero tt refl was untaken (Claims r) (
             mine.0,
@@ -288,7 +298,7 @@ module _ {M : Type 0} (stands : Stands M) where
           let untaken : is_taken (cell_at k.world.table r) ≡ false = ap is_taken staged.1 in
           wrote_cell Waiting zero tt refl was untaken (Yield r) (turned Resting r me.0)
           (mine.1, staged.1, namer_none _ (joined_at k.world.table) r staged.2) refl
-          (λ j n o. absurd (n (sym o ∙ mine.0))) (λ j m n o h. refl) refl refl refl refl (λ q h. h) (λ q e. let bad : Yield r ≡ Open q = e in cc)
+          (λ j n o. absurd (n (sym o ∙ mine.0))) (λ j m n o h. refl) refl refl refl refl (λ q h. h) (λ q e. let bad : Yield r ≡ Open q = e in cc) tt
           (record { same = (refl, refl, refl); acted = λ e. let bad : Claims r ≡ Aside = sym claiming ∙ e in cc; acts = λ e. let bad : Resting ≡ Aside = e in cc; held = λ q h. h; binds = λ n q scope e. let bad : Yield r ≡ Bind n q scope = e in cc })
           (knows_now Waiting zero tt refl was untaken Resting tt (λ e. let bad : Waiting ≡ Claimed = e in cc)
           (λ q e h. false≢true (sym e ∙ ap (row_eq q) (subst (λ (z : Stage). IsClaimer z q) claiming h) ∙ row_eq-refl q)))
@@ -315,7 +325,7 @@ module _ {M : Type 0} (stands : Stands M) where
           (ap (λ (y : Joined). with_table k.world (with_cell k.world.table r (Synched y))) is)
           (λ i n o. (waits, refl))
           (λ i m n o h. ap (λ (y : Option (Row × ℕ)). is_partner y m) partner_is ∙ row_ne mine m (λ e. n (sym o ∙ ap k.owner (sym e) ∙ staged.0)))
-          refl refl refl refl (λ q h. h) (λ q e. let bad : Join mine own r partner ≡ Open q = e in cc)
+          refl refl refl refl (λ q h. h) (λ q e. let bad : Join mine own r partner ≡ Open q = e in cc) tt
           (record { same = (refl, refl, refl); acted = λ e. let bad : Claims mine ≡ Aside = sym claiming ∙ e in cc; acts = λ e. let bad : Joins mine r j ≡ Aside = e in cc; held = λ q h. h; binds = λ n q scope e. let bad : Join mine own r partner ≡ Bind n q scope = e in cc })
           (learn_cell _ k.owner id (turned (Joins mine r j) r me.0) r (Synched j)
           (knows_now (Synched j) zero range refl was untaken (Joins mine r j)
@@ -338,7 +348,7 @@ module _ {M : Type 0} (stands : Stands M) where
           (waits, ap (λ (o : Option ℕ). is_some o) known_grant.0)
           (ap (λ (y : Joined). with_table k.world (with_cell k.world.table r (Synched y))) known_grant.1)
           (λ i n o. (waits, refl))
-          (λ i m n o h. ap (λ (y : Option (Row × ℕ)). is_partner y m) nobody) refl refl refl refl (λ q h. h) (λ q e. let bad : Grant r n ≡ Open q = e in cc)
+          (λ i m n o h. ap (λ (y : Option (Row × ℕ)). is_partner y m) nobody) refl refl refl refl (λ q h. h) (λ q e. let bad : Grant r n ≡ Open q = e in cc) tt
           (record { same = (refl, refl, refl); acted = rests resting; acts = λ e. let bad : Resting ≡ Aside = e in cc; held = λ q h. h; binds = λ m q scope e. let bad : Grant r n ≡ Bind m q scope = e in cc })
           (learn_cell _ k.owner id (turned Resting r me.0) r (Synched j)
           (knows_now (Synched j) zero range refl was untaken Resting tt
@@ -362,26 +372,39 @@ module _ {M : Type 0} (stands : Stands M) where
             held_apart None e = absurd (held e)
             held_apart (Some n) e = not_held k.world seat r j kept is q n e
 
+        owned_last : (i t : ℕ) → last_holder k.world t ≢ None → k.owner (behind_last k.world.table.rows t) ≡ i → owner' (behind_last k.world.table.rows t) ≡ i
+        owned_last i t last o = put_other k.owner (next_row r) id (behind_last k.world.table.rows t) (row_ne (behind_last k.world.table.rows t) (next_row r) (λ e. ⊎_elim
+            (λ (e : last_holder k.world t ≡ None). last e)
+            (λ (at : (n : ℕ) × (last_holder k.world t ≡ Some n)). not_last k.world seat r j kept is t at.0 at.1 (ap (λ (z : Row). z.thread) e) (sym (ap (λ (z : Row). z.sync) e)))
+            (cases_Option (last_holder k.world t)))) ∙ o
+
+        -- the thread has not ended
+        sees_on : (x : Seen) → SeesEnd later_taken x r.thread
+        sees_on x g e = absurd (goes_on k.world seat r j kept is g (no_end_taken k.world seat r j kept is r.thread g e))
+
         still_knows : (i : ℕ) (u : View M) → Knows k.world k.owner i u → Knows later_taken owner' i u
         still_knows i u knows =
-            knows_follows k.world later_taken owner' i u (follows_taken k.world seat r j kept is) (λ n b e o. inl (sym (bindings_after k.world seat r j kept is n) ∙ e))
-            (knows_owned k.world k.owner owner' i u kept (owned i) knows)
+            knows_follows k.world later_taken owner' i u (follows_taken k.world seat r j kept is) (no_end_taken k.world seat r j kept is) (λ n b e o. inl (sym (bindings_after k.world seat r j kept is n) ∙ e))
+            (knows_owned k.world k.owner owner' i u kept (owned i) (owned_last i) knows)
 
         took_knows : Knows later_taken owner' id (took r j me.0)
         took_knows =
             let saw_it : Knows later_taken owner' id (saw r (Taken j) me.0) = learn_cell later_taken owner' id me.0 r (Taken j) (still_knows id me.0 known) (taken_at k.world seat r j kept is) in
             by_next saw_it (ltb (r.sync + 1) me.0.rows) refl
           where
+            ends : ltb (r.sync + 1) me.0.rows ≡ false → r.sync + 1 ≡ k.world.table.rows
+            ends e = let past : me.0.rows ≤ r.sync + 1 = ltb-false (r.sync + 1) me.0.rows e in let i = (row_inside k.world.table r is_its_row).1 in omega (arith, past, i, known.rows)
+
             by_next : Knows later_taken owner' id (saw r (Taken j) me.0) → (b : Bool) → ltb (r.sync + 1) me.0.rows ≡ b → Knows later_taken owner' id (took r j me.0)
             by_next saw_it true e =
                 let row : is_row k.world.table (next_row r) ≡ true =
                 row_from k.world.table (next_row r) (row_inside k.world.table r is_its_row).0 (subst (λ (n : ℕ). r.sync + 1 < n) known.rows (ltb-true _ _ e)) in
                 let next = next_held k.world seat r j kept is row in
-                subst (λ (b : Bool). Knows later_taken owner' id (at_stage me.0.stage (cond b (record { held = next_row r ∷ (saw r (Taken j) me.0).seen.held; drafts = (next_row r, 1, 0) ∷ (saw r (Taken j) me.0).seen.drafts; opened = (saw r (Taken j) me.0).seen.opened; words = (saw r (Taken j) me.0).seen.words; joined = (saw r (Taken j) me.0).seen.joined; taken = (saw r (Taken j) me.0).seen.taken; bound = (saw r (Taken j) me.0).seen.bound; begun = (saw r (Taken j) me.0).seen.begun }) (saw r (Taken j) me.0).seen) me.0)) (sym e)
-                (hold_more later_taken owner' id (saw r (Taken j) me.0) (next_row r) saw_it (put_same k.owner (next_row r) id) next.0 next.1 next.2 (next_unbound k.world seat r j kept is))
+                subst (λ (b : Bool). Knows later_taken owner' id (at_stage me.0.stage (cond b (see_held (next_row r) (saw r (Taken j) me.0).seen) (record (saw r (Taken j) me.0).seen { lasts = r.thread ∷ me.0.seen.lasts })) me.0)) (sym e)
+                (hold_more later_taken owner' id (saw r (Taken j) me.0) (next_row r) saw_it (put_same k.owner (next_row r) id) next.0 next.1 next.2 (next_unbound k.world seat r j kept is) (sees_on (saw r (Taken j) me.0).seen))
             by_next saw_it false e =
-                subst (λ (b : Bool). Knows later_taken owner' id (at_stage me.0.stage (cond b (record { held = next_row r ∷ (saw r (Taken j) me.0).seen.held; drafts = (next_row r, 1, 0) ∷ (saw r (Taken j) me.0).seen.drafts; opened = (saw r (Taken j) me.0).seen.opened; words = (saw r (Taken j) me.0).seen.words; joined = (saw r (Taken j) me.0).seen.joined; taken = (saw r (Taken j) me.0).seen.taken; bound = (saw r (Taken j) me.0).seen.bound; begun = (saw r (Taken j) me.0).seen.begun }) (saw r (Taken j) me.0).seen) me.0)) (sym e)
-                saw_it
+                subst (λ (b : Bool). Knows later_taken owner' id (at_stage me.0.stage (cond b (see_held (next_row r) (saw r (Taken j) me.0).seen) (record (saw r (Taken j) me.0).seen { lasts = r.thread ∷ me.0.seen.lasts })) me.0)) (sym e)
+                (stand_behind later_taken owner' id (saw r (Taken j) me.0) r.thread saw_it (ap owner' (same_row (behind_last later_taken.table.rows r.thread) (next_row r) refl ((follows_taken k.world seat r j kept is).rows ∙ sym (ends e))) ∙ put_same k.owner (next_row r) id) (last_held_now k.world seat r j kept is (ends e)) (sees_on (saw r (Taken j) me.0).seen))
 
         module _ (zero : p ≡ 0) (resting : me.0.stage ≡ Resting) (results : List Result) (are : AreResults (ledger_of k.world.table) r.thread results) where
           abbrev taker : View M
@@ -401,7 +424,7 @@ module _ {M : Type 0} (stands : Stands M) where
           unfolding with_cell
           takes hs house =
               let stay = results-stay k.world (after_step k.world seat (Take r)).table r.thread results kept (grows-step k.world seat (Take r) kept allowed_take) are in
-              keeps_housed stands shape s k id me.0 (took_with r j results me.0) _ hs owner' view at_table refl refl refl (Take r) allowed_take
+              keeps_housed stands shape s k id me.0 (took_with r j results me.0) _ hs owner' view at_table refl refl refl (Take r) (λ some_first. tt) allowed_take
               (record { same = (refl, refl, refl); acted = rests resting; acts = rests resting; held = λ q h. took_holds me.0.rows r (see_cell r (Taken j) me.0.seen) q h; binds = λ n q scope e. let bad : Take r ≡ Bind n q scope = e in cc })
               (λ t rs. ⊎_elim
               (λ (e : (r.thread, results) ≡ (t, rs)). inr (subst (λ (z : ℕ × List Result). AreResults (ledger_of (after_step k.world seat (Take r)).table) z.0 z.1) e stay))
@@ -453,7 +476,7 @@ module _ {M : Type 0} (stands : Stands M) where
           (mine.1, staged.1, ap (λ (y : Option Row). is_some y) namer)
           (ap (λ (y : Option Joined). with_table k.world (with_seal k.world.table r y)) (sealed_is k.world.table r other (namer_at k.world r) sealing namer))
           (λ i n o. absurd (n (sym o ∙ mine.0)))
-          (λ i m n o h. row_ne other m (λ e. let bad : None ≡ Some j = sym (ap joined_of h) ∙ ap (joined_at k.world.table) (sym e) ∙ staged.2 in cc)) refl refl refl refl (λ q h. h) (λ q e. let bad : Seal r ≡ Open q = e in cc)
+          (λ i m n o h. row_ne other m (λ e. let bad : None ≡ Some j = sym (ap joined_of h) ∙ ap (joined_at k.world.table) (sym e) ∙ staged.2 in cc)) refl refl refl refl (λ q h. h) (λ q e. let bad : Seal r ≡ Open q = e in cc) tt
           (record { same = (refl, refl, refl); acted = λ e. let bad : Joins r other j ≡ Aside = sym joining_now ∙ e in cc; acts = λ e. let bad : Resting ≡ Aside = e in cc; held = λ q h. h; binds = λ n q scope e. let bad : Seal r ≡ Bind n q scope = e in cc })
           (learn_cell _ k.owner id (turned Resting r me.0) r (Synched (mirrored other j own))
           (knows_now (Synched (mirrored other j own)) zero range refl was untaken Resting tt
@@ -504,11 +527,11 @@ module _ {M : Type 0} (stands : Stands M) where
           ),
         )
 
-    pub draft_allowed : (p d : ℕ) → 1 ≤ p → p < 34 → is_word_for p d ≡ true → me.0.stage ≡ Resting → Has me.0.seen.held r → ¬ Has me.0.seen.opened r → place ≡ place_of shape.rows r p
+    pub draft_allowed : (p d : ℕ) → 1 ≤ p → p < 34 → is_word_for p d ≡ true → me.0.stage ≡ Resting → Has me.0.seen.held r → ¬ Has me.0.seen.opened r → (¬ (0 < length shape.first.value.items) → ¬ SawEnded me.0.seen r.thread) → place ≡ place_of shape.rows r p
         → Allows (Keeps stands shape) slots id me place (λ n. d) (λ n. drafted (step slots place d 0 none) me d)
-    draft_allowed p d high low formed resting held unopened here s k homes view range =
+    draft_allowed p d high low formed resting held unopened alive here s k homes view range =
         let after = word_drafted r p d me.0 in
-        let moved : Keeps stands shape (stepped s place d id me.1 after keeps) = wrote_word shape id place me r p threads rows inside low here s k view d resting held unopened high formed in (
+        let moved : Keeps stands shape (stepped s place d id me.1 after keeps) = wrote_word shape id place me r p threads rows inside low here s k view d resting held unopened alive high formed in (
           after,
           keeps,
           tt,
@@ -520,16 +543,16 @@ module _ {M : Type 0} (stands : Stands M) where
         )
 
     -- a held row that is not opened
-    pub open_allowed : slots ≡ length shape.first.value.items → (0 < length shape.first.value.items → length shape.first.value.items ≡ shape.threads) → me.0.stage ≡ Resting → Has me.0.seen.held r → ¬ Has me.0.seen.opened r
+    pub open_allowed : slots ≡ length shape.first.value.items → (0 < length shape.first.value.items → length shape.first.value.items ≡ shape.threads) → me.0.stage ≡ Resting → Has me.0.seen.held r → ¬ Has me.0.seen.opened r → (¬ (0 < length shape.first.value.items) → ¬ SawEnded me.0.seen r.thread)
         → (0 < length shape.first.value.items → (value : M) × (me.1 ≡ (r.thread, Some value) ∷ rest me.1) × IsReady stands shape.first.value.items me.0.results me.0.seen r value) → place ≡ place_of shape.rows r 0
         → Allows (Keeps stands shape) slots id me place (λ n. cell_word Waiting) (λ n. opened (step slots place (cell_word Waiting) 0 none) me (cell_word Waiting))
-    open_allowed count full resting held unopened parked here s k homes view range = by_slots (some_or_none shape.first.value.items)
+    open_allowed count full resting held unopened alive parked here s k homes view range = by_slots (some_or_none shape.first.value.items)
       where
         after : View M
         after = did (Open r) (turned Resting r me.0)
 
         firsts : me.0.first ≡ shape.first.value.items
-        firsts = k.firsts id me.0 view (at_table shape id place me r 0 threads rows inside (omega arith) here)
+        firsts = ap (λ (z : List M × ℕ). z.0) (k.firsts id me.0 view (at_table shape id place me r 0 threads rows inside (omega arith) here))
 
         told : (c : List (ℕ × Option M)) → GoesHome me.0.first me.1 c → AgreesWithItself after → opened (step slots place (cell_word Waiting) 0 none) me (cell_word Waiting) (after, c)
         told c home agree q at = (ap (λ (z : Row). did (Open z) (turned Resting z me.0)) (one_word shape id place me r 0 threads rows inside (omega arith) here q 0 (omega arith) at.0 at.1).0, home, agree)
@@ -537,7 +560,7 @@ module _ {M : Type 0} (stands : Stands M) where
         by_slots : (length shape.first.value.items ≡ 0) ⊎ (0 < length shape.first.value.items)
             → (w : View M) × (a : Act (Option M)) × Valid s.homes me.1 a × Keeps stands shape (stepped s place (cell_word Waiting) id me.1 w a) × opened (step slots place (cell_word Waiting) 0 none) me (cell_word Waiting) (w, carried_after me.1 a)
         by_slots (inl empty) =
-            let moved : Keeps stands shape (stepped s place (cell_word Waiting) id me.1 after keeps) = opens shape id place me r 0 threads rows inside (omega arith) here s k view refl resting held unopened s.homes (λ some_first. absurd (omega (arith, empty))) in (
+            let moved : Keeps stands shape (stepped s place (cell_word Waiting) id me.1 after keeps) = opens shape id place me r 0 threads rows inside (omega arith) here s k view refl resting held unopened alive s.homes (λ some_first. absurd (omega (arith, empty))) in (
               after,
               keeps,
               tt,
@@ -551,8 +574,8 @@ module _ {M : Type 0} (stands : Stands M) where
             let put : put_back s.homes me.1 ≡ slice_set s.homes r.thread (some (Some p.0)) = ap (put_back s.homes) p.1 in
             let moved : Keeps stands shape (stepped s place (cell_word Waiting) id me.1 after gives) =
             subst (λ (hs : List (Maybe (Option M))). Keeps stands shape (record { words = slice_set s.words place (cell_word Waiting); homes = hs; views = slice_set s.views id after })) (sym put)
-            (opens shape id place me r 0 threads rows inside (omega arith) here s k view refl resting held unopened (slice_set s.homes r.thread (some (Some p.0)))
-            (λ again. house_open shape id place me r 0 threads rows inside (omega arith) here s k view refl resting held unopened some_first p.0 room p.2)) in (
+            (opens shape id place me r 0 threads rows inside (omega arith) here s k view refl resting held unopened alive (slice_set s.homes r.thread (some (Some p.0)))
+            (λ again. house_open shape id place me r 0 threads rows inside (omega arith) here s k view refl resting held unopened alive some_first p.0 room p.2)) in (
               after,
               gives,
               tt,
@@ -568,7 +591,7 @@ module _ {M : Type 0} (stands : Stands M) where
         let knows = known shape id place me r 0 threads rows inside (omega arith) here s k view in
         let after : View M = began r me.0 in
         let to_begin : IsToBegin me.0 r = (zero, inl held, unbegun) in
-        let firsts : me.0.first ≡ shape.first.value.items = k.firsts id me.0 view (at_table shape id place me r 0 threads rows inside (omega arith) here) in
+        let firsts : me.0.first ≡ shape.first.value.items = ap (λ (z : List M × ℕ). z.0) (k.firsts id me.0 view (at_table shape id place me r 0 threads rows inside (omega arith) here)) in
         let others = none_begins shape id place me r 0 threads rows inside (omega arith) here s k view held in
         let waits = first_out stands shape.first.value.items k.world r s.homes s.views id me.0 after (world_kept stands shape s k) to_begin others view (at_table shape id place me r 0 threads rows inside (omega arith) here) (λ q b. began_before q b) (k.housed some_first) in
         let moved : Keeps stands shape (stepped s place (slice_index s.words place) id me.1 after (takes_it r.thread (Some waits.value))) =
@@ -764,7 +787,7 @@ module _ {M : Type 0} (stands : Stands M) where
         knows = known shape id place me r 0 threads rows inside (omega arith) here s k view
 
         firsts : me.0.first ≡ shape.first.value.items
-        firsts = k.firsts id me.0 view (at_table shape id place me r 0 threads rows inside (omega arith) here)
+        firsts = ap (λ (z : List M × ℕ). z.0) (k.firsts id me.0 view (at_table shape id place me r 0 threads rows inside (omega arith) here))
 
         one : (q : Row) → At (step {S = Option M} slots place (cell_word (Synched j)) (cell_word (Taken j)) none) me q 0 → r ≡ q
         one q at = (one_word shape id place me r 0 threads rows inside (omega arith) here q 0 (omega arith) at.0 at.1).0
@@ -793,6 +816,7 @@ module _ {M : Type 0} (stands : Stands M) where
                 subst (λ (z : Joined). Agrees me.0 q (Synched z)) same (seen_there k.world k.owner id me r q (Synched j) (world_kept stands shape s k) knows (synched e) row).1,
                 λ o. let open_next : is_fresh (cell_at k.world.table (next_row r)) ≡ false = knows.opened (next_row r) (subst (λ (z : Row). Has me.0.seen.opened (next_row z)) (sym row) o) in
                     false≢true (sym open_next ∙ next_unopened k.world (record { 0 = me.0.seat }) r j (world_kept stands shape s k) (synched e)),
+                λ o. goes_on k.world (record { 0 = me.0.seat }) r j (world_kept stands shape s k) (synched e) o.0 (knows.ended r.thread o.0 (subst (λ (z : Row). Has me.0.seen.ended (z.thread, o.0)) (sym row) o.1)),
                 λ n b h at_next. next_unbound k.world (record { 0 = me.0.seat }) r j (world_kept stands shape s k) (synched e) n b
                     (bindings_after k.world (record { 0 = me.0.seat }) r j (world_kept stands shape s k) (synched e) n ∙ knows.bound n b h) (at_next ∙ ap next_row (sym row)),
               ),

@@ -13,7 +13,7 @@ use Rattle.protocol_values.specs.declared.NackName.{NackName}
 use Rattle.protocol_values.specs.declared.Binding.{Binding}
 use Rattle.protocol_values.specs.declared.Course.{Course}
 use Rattle.protocol_values.specs.declared.Row.{Row}
-use Rattle.protocol.specs.Tables.{Table, bound_row, cell_at, is_fresh, is_nack, is_taken, nack_at, nack_place, binding_at}
+use Rattle.protocol.specs.Tables.{Table, bound_row, cell_at, course_at, is_fresh, is_nack, is_taken, nack_at, nack_place, binding_at}
 use Rattle.protocol_values.specs.Values.{joined_of}
 use Rattle.protocol.specs.Worlds.{World, holder_at, with_nack, with_table}
 use Rattle.protocol.specs.Kept.{Kept}
@@ -24,9 +24,9 @@ use Rattle.protocol.proofs.Keeping.{holder_same, taken_before}
 use Rattle.cell_table.specs.declared.view.View.{View}
 use Rattle.cell_table.specs.declared.view.Shape.{Shape}
 use Rattle.cell_table.specs.declared.view.Stage.TheVariants.{Aside, Resting}
-use Rattle.cell_table.specs.Sight.{Has}
+use Rattle.cell_table.specs.Sight.{EndsAt, Has, HasStart, SawEnded}
 use Rattle.cell_table.specs.Views.{Knows, bind_of, bound_nack, did, saw_nack}
-use Rattle.cell_table.specs.Rule.{IsToBegin, Keeps}
+use Rattle.cell_table.specs.Rule.{IsToBegin, Keeps, beginning}
 use Rattle.cell_table.proofs.Standing.{is_earlier}
 use Rattle.protocol.specs.Standing.{Stands}
 use Rattle.protocol_values.specs.declared.Step.{Step}
@@ -35,11 +35,11 @@ use Rattle.protocol_values.specs.declared.Cell.{Cell}
 use Rattle.protocol_values.specs.declared.Cell.TheVariants.{Fresh, Waiting, Claimed, Synched, Taken}
 use Rattle.cell_table.specs.Told.{AgreesNack, AgreesWithItself, AtNack, InsideNack, IsEarlier, looked_nack, nack_read, tried_bind}
 use Rattle.cell_table.proofs.Allowing.{sized}
-use Rattle.cell_table.proofs.Following.{Follows, alive_known, knows_bound, knows_follows}
+use Rattle.cell_table.proofs.Following.{Follows, knows_bound, knows_follows}
 use Rattle.cell_table.proofs.Others.{learn_nack}
 use Rattle.cell_table.proofs.Truths.{coherent}
 use Rattle.cell_table.proofs.Seating.{Stays}
-use Rattle.cell_table.proofs.Turning.{world_kept, keeps_view, keeps_step, moved_coherent}
+use Rattle.cell_table.proofs.Turning.{alive_known, world_kept, keeps_view, keeps_step, moved_coherent}
 
 pub nack_from : (t : Table) (n : NackName) → n.thread < t.threads → n.k < 64 → is_nack t n ≡ true
 unfolding is_nack
@@ -72,6 +72,9 @@ module _ {M : Type 0} where
       omega arith
 
 -- THE WORLD AFTER A BIND
+bind_lives : (w : World) (m : NackName) (b : Binding) → is_nack w.table m ≡ true → (p : ℕ) → course_at (with_nack w.table m b) p ≡ course_at w.table p
+bind_lives w m b nack p = ap (λ (f : ℕ → Course). f p) (course_after_bind w.table m b nack)
+
 pub follows_bind : (w : World) (m : NackName) (b : Binding) → is_nack w.table m ≡ true → binding_at w.table m ≡ None → Follows w (with_table w (with_nack w.table m b))
 unfolding with_nack
 follows_bind w m b nack free = record {
@@ -86,8 +89,10 @@ follows_bind w m b nack free = record {
   unclaimed = λ r h. sym (cell_after_bind w.table m b r nack) ∙ h;
   words = λ r p i low high. word_bound w.table m b r p nack i high;
   held = λ r s h. holder_same w (with_nack w.table m b) r refl refl ∙ h;
+  behind = λ t s h. h;
   bound = λ n c e. binding_kept w.table m b nack free n c e;
-  courses = λ p. ap (λ (f : ℕ → Course). f p) (course_after_bind w.table m b nack);
+  starts = λ p s h. subst (λ (c : Course). HasStart c s) (sym (bind_lives w m b nack p)) h;
+  ends = λ p g h. subst (λ (c : Course). EndsAt c g) (sym (bind_lives w m b nack p)) h;
 }
 
 taken_opened : (c : Cell) → is_taken c ≡ true → is_fresh c ≡ false
@@ -131,10 +136,10 @@ module _ {M : Type 0} (stands : Stands M) where
       binding_is = binding_inside k.world.table nack is_its_nack ∙ ap nack_read word_is
 
       -- where it only learns
-      learnt : (w : View M) → w.seat ≡ me.0.seat → w.made ≡ me.0.made → w.results ≡ me.0.results → w.first ≡ me.0.first → Stays me.0 w → ((r : Row) → IsToBegin w r → IsToBegin me.0 r) → Knows k.world k.owner id w → Keeps stands shape (stepped s place (slice_index s.words place) id me.1 w keeps)
+      learnt : (w : View M) → w.seat ≡ me.0.seat → w.made ≡ me.0.made → w.results ≡ me.0.results → beginning w ≡ beginning me.0 → Stays me.0 w → ((r : Row) → IsToBegin w r → IsToBegin me.0 r) → Knows k.world k.owner id w → Keeps stands shape (stepped s place (slice_index s.words place) id me.1 w keeps)
       learnt w seat made seen first stays begins knows = keeps_view stands shape s k id me.0 w _ view at_table seat made seen first stays begins (set-get_or s.words place 0) knows
 
-      first_kept : (o : Option Binding) → (saw_nack nack o me.0).first ≡ me.0.first
+      first_kept : (o : Option Binding) → beginning (saw_nack nack o me.0) ≡ beginning me.0
       first_kept None = refl
       first_kept (Some b) = refl
 
@@ -182,14 +187,14 @@ module _ {M : Type 0} (stands : Stands M) where
       -- a nack that is bound to an earlier row of a held row's thread
       earlier_there : (b : Binding) → Has me.0.seen.held (bound_row nack b) → (c : Binding) → binding_at k.world.table nack ≡ Some c → c.sync < b.sync → 0 < length me.0.first → IsEarlier stands me.0.first me.0.results nack c
       earlier_there b held c is below filled =
-          let firsts : me.0.first ≡ shape.first.value.items = k.firsts id me.0 view at_table in
+          let firsts : me.0.first ≡ shape.first.value.items = ap (λ (z : List M × ℕ). z.0) (k.firsts id me.0 view at_table) in
           let taken : is_taken (cell_at k.world.table (bound_row nack c)) ≡ true = taken_before k.world kept (bound_row nack c) (bound_row nack b) refl below (inr (me.0.seat, (known.mine (bound_row nack b) held).1)) in
           subst (λ (l : List M). IsEarlier stands l me.0.results nack c) (sym firsts)
           (is_earlier stands shape.first.value.items k.world k.owner id me.0 known kept nack c (k.housed (subst (λ (l : List M). 0 < length l) firsts filled)).rows (λ t rs h. k.results id me.0 t rs view h)
           (taken_opened (cell_at k.world.table (bound_row nack c)) taken) is)
 
       -- the nack is bound to a held row that is not opened
-      module _ (b : Binding) (range : IsBindingInRange b) (resting : me.0.stage ≡ Resting) (held : Has me.0.seen.held (bound_row nack b)) (unopened : ¬ Has me.0.seen.opened (bound_row nack b))
+      module _ (b : Binding) (range : IsBindingInRange b) (resting : me.0.stage ≡ Resting) (held : Has me.0.seen.held (bound_row nack b)) (unopened : ¬ Has me.0.seen.opened (bound_row nack b)) (alive : ¬ (0 < length shape.first.value.items) → ¬ SawEnded me.0.seen nack.thread)
           (free : binding_at k.world.table nack ≡ None) where
         abbrev later : World
         later = with_table k.world (with_nack k.world.table nack b)
@@ -197,17 +202,20 @@ module _ {M : Type 0} (stands : Stands M) where
         follows : Follows k.world later
         follows = follows_bind k.world nack b is_its_nack free
 
+        no_end : (t g : ℕ) → EndsAt (course_at later.table t) g → EndsAt (course_at k.world.table t) g
+        no_end t g h = subst (λ (c : Course). EndsAt c g) (bind_lives k.world nack b is_its_nack t) h
+
         was : (n : NackName) (c : Binding) → binding_at later.table n ≡ Some c → (binding_at k.world.table n ≡ Some c) ⊎ ((nack ≡ n) × (b ≡ c))
         was n c e = binding_was k.world.table nack b kept.sized is_its_nack range n c e
 
         others : (j : ℕ) (u : View M) → j ≢ id → Knows k.world k.owner j u → Knows later k.owner j u
-        others j u n knows = knows_follows k.world later k.owner j u follows (λ m c e o. ⊎_elim
+        others j u n knows = knows_follows k.world later k.owner j u follows no_end (λ m c e o. ⊎_elim
             (λ (old : binding_at k.world.table m ≡ Some c). inl old)
             (λ (new : (nack ≡ m) × (b ≡ c)). absurd (n (sym o ∙ (λ i. k.owner (bound_row (sym new.0 i) (sym new.1 i))) ∙ (known.mine (bound_row nack b) held).0)))
             (was m c e)) knows
 
         own : Knows later k.owner id (bound_nack nack b me.0)
-        own = knows_bound k.world later k.owner id me.0 ((nack, b) ∷ me.0.seen.bound) follows
+        own = knows_bound k.world later k.owner id me.0 ((nack, b) ∷ me.0.seen.bound) follows no_end
             (λ n c h. inr h)
             (λ n c h. there n c h)
             (λ n c e o. ⊎_elim
@@ -243,8 +251,8 @@ module _ {M : Type 0} (stands : Stands M) where
         unfolding with_nack row_bound
         binds =
             let mine = known.mine (bound_row nack b) held in
-            keeps_step stands shape s k id me.0 (bound_nack nack b me.0) _ k.owner view at_table refl refl refl (λ q h. h) (bind_of nack b) (λ q e. let bad : bind_of nack b ≡ Open q = e in cc)
-            (known.seat, (mine.1, known.fresh (bound_row nack b) held unopened, alive_known k.world k.owner id me.0 known nack.thread (subst (λ (n : ℕ). nack.thread < n) (sym (ap (λ (t : Table). t.threads) k.table)) inside.0), inside.1, range.scope, free))
+            keeps_step stands shape s k id me.0 (bound_nack nack b me.0) _ k.owner view at_table refl refl refl (λ q h. h) (bind_of nack b) (λ q e. let bad : bind_of nack b ≡ Open q = e in cc) tt
+            (known.seat, (mine.1, known.fresh (bound_row nack b) held unopened, alive_known stands shape s k id me.0 (bound_row nack b) known (subst (λ (n : ℕ). nack.thread < n) (sym (ap (λ (t : Table). t.threads) k.table)) inside.0) (inl (held, unopened)) alive, inside.1, range.scope, free))
             (record { same = (refl, refl, refl); acted = rests; acts = rests; held = λ q h. h; binds = λ n q scope e. subst (Has me.0.seen.held) (ap row_bound e) held }) (λ t rs h. inl h)
             (ap (λ (t : Table). with_nack t nack b) k.table ∙ ap (λ (n : ℕ). sized shape (slice_set s.words n (nack_word (Some b)))) (sym here))
             (λ j u n e t. others j u n (k.knows j u e t))
@@ -269,9 +277,9 @@ module _ {M : Type 0} (stands : Stands M) where
         )
 
     -- a nack of a held row's thread: where it is not bound, it is bound to the row
-    pub bind_allowed : (b : Binding) → IsBindingInRange b → me.0.stage ≡ Resting → Has me.0.seen.held (bound_row nack b) → ¬ Has me.0.seen.opened (bound_row nack b) → place ≡ nack_place shape.rows nack
+    pub bind_allowed : (b : Binding) → IsBindingInRange b → me.0.stage ≡ Resting → Has me.0.seen.held (bound_row nack b) → ¬ Has me.0.seen.opened (bound_row nack b) → (¬ (0 < length shape.first.value.items) → ¬ SawEnded me.0.seen nack.thread) → place ≡ nack_place shape.rows nack
         → Allows (Keeps stands shape) slots id me place (λ x. either (eqb x (nack_word None)) (nack_word (Some b)) x) (tried_bind stands (step slots place (nack_word None) (nack_word (Some b)) none) me)
-    bind_allowed b in_range resting held unopened here s k homes view range =
+    bind_allowed b in_range resting held unopened alive here s k homes view range =
         let x = slice_index s.words place in
         let read = binding_is shape id place me nack threads rows inside here s k view in
         let knows = known shape id place me nack threads rows inside here s k view in
@@ -282,7 +290,7 @@ module _ {M : Type 0} (stands : Stands M) where
         let none_read : nack_read x ≡ None = ap nack_read e ∙ ap (λ (p : Option (Option Binding)). unwrap_or p None) (nack_of-nack_word None tt) in
         let free : binding_at k.world.table nack ≡ None = read ∙ none_read in
         let after = did (bind_of nack b) (bound_nack nack b me.0) in
-        let moved : Keeps stands shape (stepped s place (nack_word (Some b)) id me.1 after keeps) = binds shape id place me nack threads rows inside here s k view b in_range resting held unopened free in (
+        let moved : Keeps stands shape (stepped s place (nack_word (Some b)) id me.1 after keeps) = binds shape id place me nack threads rows inside here s k view b in_range resting held unopened alive free in (
           after,
           keeps,
           tt,

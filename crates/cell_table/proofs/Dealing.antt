@@ -1,6 +1,6 @@
 -- The rule holds at the start, and while the first pass deals the rows.
-use Rattle.std.proofs.Common.{slice_set, ◌≡◌, ◌≢◌, ℕ, zero, suc, ◌+◌, ◌*◌, ◌%◌, ◌<◌, ◌≤◌, Bool, true, false, cond, eqb, ◌&&◌, List, [], ◌∷◌, ◌++◌, map, length, replicate, Option, sym, refl, ap, ◌∙◌, subst, ◌⊎◌, inl, inr, ⊎_elim, arith, Some, None, slice_get}
-use Rattle.std.proofs.lemmas.Bool.{true≢false, cases_Bool, lt-ltb, ltb-true, eq-eqb, eqb-true, ne_eqb, and_parts, and_from}
+use Rattle.std.proofs.Common.{slice_set, ◌≡◌, ◌≢◌, ℕ, zero, suc, ◌+◌, ◌*◌, ◌%◌, ◌<◌, ◌≤◌, Bool, true, false, cond, eqb, ◌&&◌, not, List, [], ◌∷◌, ◌++◌, map, length, replicate, Option, sym, refl, ap, ◌∙◌, subst, ◌⊎◌, inl, inr, ⊎_elim, arith, Some, None, slice_get}
+use Rattle.std.proofs.lemmas.Bool.{true≢false, cases_Bool, not-true, lt-ltb, ltb-true, eq-eqb, eqb-true, ne_eqb, and_parts, and_from}
 use Rattle.std.proofs.Math.Bool.{and-false}
 use Rattle.std.proofs.Math.Dec.{ltb}
 use Rattle.std.proofs.lemmas.List.{length-append, length-set}
@@ -11,12 +11,13 @@ use Rattle.atomic_table.specs.Table.{State, Splits, opening}
 use Rattle.atomic_table.proofs.Lists.{at_set}
 use Rattle.protocol_values.specs.declared.NackName.{NackName}
 use Rattle.protocol_values.specs.declared.Binding.{Binding}
+use Rattle.protocol_values.specs.declared.Course.{Course}
 use Rattle.protocol_values.specs.declared.Course.TheVariants.{Unstarted, Running}
 use Rattle.protocol_values.specs.declared.Row.{Row}
 use Rattle.protocol_values.specs.declared.Cell.TheVariants.{Fresh, Claimed}
 use Rattle.protocol.specs.Tables.{course_at, thread_len, cell_at, word_at, binding_at, bound_row, is_fresh}
-use Rattle.protocol.specs.Worlds.{World, start_world, holder_at, with_lives}
-use Rattle.protocol.proofs.LedgerLemmas.{nobody_waits, start_binding, start_cell, start_course, start_holder, start_word}
+use Rattle.protocol.specs.Worlds.{World, start_world, holder_at, waits, with_lives, first_row}
+use Rattle.protocol.proofs.LedgerLemmas.{start_binding, start_cell, start_course, start_holder, start_word}
 use Rattle.protocol.proofs.Places.{row_from}
 use Rattle.protocol.proofs.RowLemmas.{same_row}
 use Rattle.protocol.specs.Standing.{AreResults, Result, SomeStands, Stands}
@@ -24,9 +25,9 @@ use Rattle.protocol.specs.Ledgers.{ledger_of}
 use Rattle.cell_table.specs.declared.view.View.{View}
 use Rattle.cell_table.specs.declared.view.Shape.{Shape}
 use Rattle.cell_table.specs.declared.view.Stage.TheVariants.{Aside, Resting}
-use Rattle.cell_table.specs.Sight.{Coherent, Has}
-use Rattle.cell_table.specs.Views.{Knows, first_row}
-use Rattle.cell_table.specs.Rule.{Housed, Interleaves, IsToBegin, Keeps, Move, Seated, Waits, at_seat, dealer, dealt_rows, dealt_pass, no_offers, seen_nothing, steps_by}
+use Rattle.cell_table.specs.Sight.{Coherent, EndsAt, Has}
+use Rattle.cell_table.specs.Views.{Knows, behind_last}
+use Rattle.cell_table.specs.Rule.{Housed, Interleaves, IsToBegin, Keeps, Move, Seated, Waits, at_seat, beginning, dealer, dealt_later, dealt_pass, falls_to, no_offers, seen_nothing, steps_by}
 use Rattle.cell_table.proofs.Following.{knows_owned}
 use Rattle.cell_table.proofs.Housing.{housed_more, housed_view}
 use Rattle.cell_table.proofs.Seating.{at_end, seated_more, seated_set, seated_start}
@@ -35,16 +36,15 @@ use Rattle.protocol.proofs.Standing.{stands-start}
 
 module _ {M : Type 0} where
   -- a pass that has seen nothing
-  knows_nothing : (w : World) (owner : Row → ℕ) (id : ℕ) (shape : Shape M) (k : ℕ) → shape.threads ≡ w.table.threads → shape.rows ≡ w.table.rows → shape.passes ≡ w.seats → 0 < w.seats → ((t : ℕ) → t < w.table.threads → course_at w.table t ≡ Running 0)
-      → ((t : ℕ) → t < w.table.threads → k ≤ t % w.seats → (owner (first_row t) ≡ id) × (holder_at w (first_row t) ≡ Some (t % w.seats)) × (cell_at w.table (first_row t) ≡ Fresh) × (word_at w.table (first_row t) 1 ≡ 0) × ((n : NackName) (b : Binding) → binding_at w.table n ≡ Some b → bound_row n b ≢ first_row t))
+  knows_nothing : (w : World) (owner : Row → ℕ) (id : ℕ) (shape : Shape M) (k : ℕ) → shape.threads ≡ w.table.threads → shape.rows ≡ w.table.rows → shape.passes ≡ w.seats → 0 < w.seats
+      → ((t : ℕ) → t < w.table.threads → waits shape.later t ≡ false → k ≤ t % w.seats → (owner (first_row t) ≡ id) × (holder_at w (first_row t) ≡ Some (t % w.seats)) × (cell_at w.table (first_row t) ≡ Fresh) × (word_at w.table (first_row t) 1 ≡ 0) × ((n : NackName) (b : Binding) → binding_at w.table n ≡ Some b → bound_row n b ≢ first_row t) × ((g : ℕ) → EndsAt (course_at w.table t) g → ⊥))
       → Knows {M = M} w owner id (dealer shape k)
-  knows_nothing w owner id shape k threads rows passes one_seat running undealt = record {
+  knows_nothing w owner id shape k threads rows passes one_seat undealt = record {
     threads = threads;
     rows = rows;
     passes = passes;
     seat = one_seat;
-    running = running;
-    undealt = λ t h d. let u = undealt t h d in (u.0, u.1, (λ n. u.2), (λ n. u.3), λ n b e same. absurd (u.4 n b e same));
+    undealt = λ t h at_once d. let u = undealt t h at_once d in (u.0, u.1, (λ n. u.2), (λ n. u.3), (λ n b e same. absurd (u.4 n b e same)), λ n g e. absurd (u.5 g e));
     mine = λ r h. absurd h;
     calm = λ r h e. absurd h;
     staged = tt;
@@ -55,12 +55,16 @@ module _ {M : Type 0} where
     joined = λ r j h. absurd h;
     taken = λ r h. absurd h;
     bound = λ n b h. absurd h;
+    started = λ t s h. absurd h;
+    ended = λ t g h. absurd h;
+    lasts = λ t h. absurd h;
+    lively = λ r h n. absurd h;
     binds = λ n b e h. absurd h;
   }
 
 module _ {M : Type 0} (stands : Stands M) where
   -- THE START
-  pub keeps_start : (shape : Shape M) (ws : List ℕ) (xs : List (Option M)) → xs ≡ map Some shape.first.value.items → (0 < length shape.first.value.items → length shape.first.value.items ≡ shape.threads) → shape.threads ≤ 64 → 1 ≤ shape.rows → shape.rows ≤ 1024 → 1 ≤ shape.passes → ws ≡ with_lives 0 shape.rows shape.threads (replicate (shape.threads * thread_len shape.rows) 0)
+  pub keeps_start : (shape : Shape M) (ws : List ℕ) (xs : List (Option M)) → xs ≡ map Some shape.first.value.items → (0 < length shape.first.value.items → length shape.first.value.items ≡ shape.threads) → shape.threads ≤ 64 → 1 ≤ shape.rows → shape.rows ≤ 1024 → 1 ≤ shape.passes → ws ≡ with_lives shape.later shape.rows shape.threads (replicate (shape.threads * thread_len shape.rows) 0)
       → Keeps stands shape (opening ws xs (dealer shape 0))
   unfolding start_world
   keeps_start shape ws xs slots full few one_row few_rows one_pass zeros = record {
@@ -68,19 +72,20 @@ module _ {M : Type 0} (stands : Stands M) where
     few_rows = few_rows;
     moves = [];
     interleaved = record { made = λ id v e. one_view id v e; no_others = λ id h. refl };
-    world = start_world shape.threads shape.rows shape.passes 0;
+    world = start_world shape.threads shape.rows shape.passes shape.later;
     played = refl;
     table = ap (λ (z : List ℕ). record { threads = shape.threads; rows = shape.rows; words = z }) (sym zeros);
     owner = λ r. 0;
     knows = knows_at;
     seated = seated_start shape;
     firsts = λ id v e t. first_there id v e;
+    courses = λ some_first t h. start_course shape.threads shape.rows shape.later t h;
     housed = house;
     results = no_results;
   }
     where
-      first_there : (id : ℕ) (v : View M) → get_elem? (dealer shape 0 ∷ []) id ≡ some v → v.first ≡ shape.first.value.items
-      first_there zero v e = ap (λ (u : View M). u.first) (sym (mathlib.Core.Option.some-injective _ _ e))
+      first_there : (id : ℕ) (v : View M) → get_elem? (dealer shape 0 ∷ []) id ≡ some v → beginning v ≡ (shape.first.value.items, shape.later)
+      first_there zero v e = ap (λ (u : View M). beginning u) (sym (mathlib.Core.Option.some-injective _ _ e))
       first_there (suc id) v e = absurd (mathlib.Core.Option.some-ne-none v (sym e))
 
       lies : (fs : List M) (t : ℕ) → t < length fs → (value : M) × (slice_get fs t ≡ Some value) × (get_elem? (map some (map Some fs)) t ≡ some (some (Some value)))
@@ -88,32 +93,32 @@ module _ {M : Type 0} (stands : Stands M) where
       lies (f ∷ fs) zero h = (f, refl, refl)
       lies (f ∷ fs) (suc t) h = lies fs t (omega arith)
 
-      house : 0 < length shape.first.value.items → Housed stands shape.first.value.items (start_world shape.threads shape.rows shape.passes 0) (map some xs) (dealer shape 0 ∷ [])
+      house : 0 < length shape.first.value.items → Housed stands shape.first.value.items (start_world shape.threads shape.rows shape.passes shape.later) (map some xs) (dealer shape 0 ∷ [])
       house some_first = record {
-        rows = stands-start (SomeStands stands shape.first.value.items) shape.threads shape.rows shape.passes 0;
-        at_home = λ r open_r untaken. absurd (true≢false (sym (ap is_fresh (start_cell shape.threads shape.rows 0 r)) ∙ open_r));
-        waiting = λ id v r e t b. waits id v r e b;
+        rows = stands-start (SomeStands stands shape.first.value.items) shape.threads shape.rows shape.passes shape.later;
+        at_home = λ r open_r untaken. absurd (true≢false (sym (ap is_fresh (start_cell shape.threads shape.rows shape.later r)) ∙ open_r));
+        waiting = λ id v r e t b. lies_waiting id v r e b;
       }
         where
-          waits_at : (r : Row) → r.thread < shape.threads → Waits shape.first.value.items (start_world shape.threads shape.rows shape.passes 0) (map some xs) r
+          waits_at : (r : Row) → r.thread < shape.threads → Waits shape.first.value.items (start_world shape.threads shape.rows shape.passes shape.later) (map some xs) r
           waits_at r low =
               let f = full some_first in
               let there = lies shape.first.value.items r.thread (omega arith) in
               record {
-                fresh = ap is_fresh (start_cell shape.threads shape.rows 0 r);
+                fresh = ap is_fresh (start_cell shape.threads shape.rows shape.later r);
                 value = there.0;
                 is_first = there.1;
                 home = ap (λ (ys : List (Option M)). get_elem? (map some ys) r.thread) slots ∙ there.2;
               }
 
-          waits : (id : ℕ) (v : View M) (r : Row) → get_elem? (dealer shape 0 ∷ []) id ≡ some v → IsToBegin v r → Waits shape.first.value.items (start_world shape.threads shape.rows shape.passes 0) (map some xs) r
-          waits zero v r e b = ⊎_elim
+          lies_waiting : (id : ℕ) (v : View M) (r : Row) → get_elem? (dealer shape 0 ∷ []) id ≡ some v → IsToBegin v r → Waits shape.first.value.items (start_world shape.threads shape.rows shape.passes shape.later) (map some xs) r
+          lies_waiting zero v r e b = ⊎_elim
               (λ (h : ⊥). absurd h)
-              (λ (d : (r.thread < shape.threads) × (0 ≤ r.thread % shape.passes)). waits_at r d.0)
+              (λ (d : (r.thread < shape.threads) × (waits shape.later r.thread ≡ false) × (0 ≤ r.thread % shape.passes)). waits_at r d.0)
               (subst (λ (u : View M). IsToBegin u r) (sym (mathlib.Core.Option.some-injective _ _ e)) b).1
-          waits (suc id) v r e b = absurd (mathlib.Core.Option.some-ne-none v (sym e))
+          lies_waiting (suc id) v r e b = absurd (mathlib.Core.Option.some-ne-none v (sym e))
 
-      no_results : (id : ℕ) (v : View M) (t : ℕ) (rs : List Result) → get_elem? (dealer shape 0 ∷ []) id ≡ some v → Has v.results (t, rs) → AreResults (ledger_of (start_world shape.threads shape.rows shape.passes 0).table) t rs
+      no_results : (id : ℕ) (v : View M) (t : ℕ) (rs : List Result) → get_elem? (dealer shape 0 ∷ []) id ≡ some v → Has v.results (t, rs) → AreResults (ledger_of (start_world shape.threads shape.rows shape.passes shape.later).table) t rs
       no_results zero v t rs e h = absurd (subst (λ (u : View M). Has u.results (t, rs)) (sym (mathlib.Core.Option.some-injective _ _ e)) h)
       no_results (suc id) v t rs e h = absurd (mathlib.Core.Option.some-ne-none v (sym e))
 
@@ -121,42 +126,58 @@ module _ {M : Type 0} (stands : Stands M) where
       one_view zero v e = ap (λ (u : View M). at_seat u.seat u.made) (mathlib.Core.Option.some-injective _ _ e)
       one_view (suc id) v e = absurd (mathlib.Core.Option.some-ne-none v (sym e))
 
-      first : Knows {M = M} (start_world shape.threads shape.rows shape.passes 0) (λ r. 0) 0 (dealer shape 0)
-      first = knows_nothing (start_world shape.threads shape.rows shape.passes 0) (λ r. 0) 0 shape 0 refl refl refl one_pass
-          (λ t h. start_course shape.threads shape.rows 0 t h ∙ ap (λ b. cond b Unstarted (Running 0)) (nobody_waits t))
-          (λ t h d. (refl, start_holder shape.threads shape.rows shape.passes 0 (first_row t) h one_row ∙ ap (λ b. cond b None (Some (t % shape.passes))) (nobody_waits t), start_cell shape.threads shape.rows 0 (first_row t), start_word shape.threads shape.rows 0 (first_row t) 1 (row_from (start_world shape.threads shape.rows shape.passes 0).table (first_row t) h one_row) (omega arith), λ n b e same. let bad : None ≡ Some b = sym (start_binding shape.threads shape.rows 0 n) ∙ e in cc))
+      -- at the start no thread has ended
+      start_runs : (t g : ℕ) → t < shape.threads → EndsAt (course_at (start_world shape.threads shape.rows shape.passes shape.later).table t) g → ⊥
+      start_runs t g h e = by (waits shape.later t) (subst (λ (c : Course). EndsAt c g) (start_course shape.threads shape.rows shape.later t h) e)
+        where
+          by : (b : Bool) → EndsAt (cond b Unstarted (Running 0)) g → ⊥
+          by true i = i
+          by false i = i
 
-      knows_at : (id : ℕ) (v : View M) → get_elem? (dealer shape 0 ∷ []) id ≡ some v → 0 < v.threads → Knows (start_world shape.threads shape.rows shape.passes 0) (λ r. 0) id v
-      knows_at zero v e t = subst (λ (u : View M). Knows (start_world shape.threads shape.rows shape.passes 0) (λ r. 0) 0 u) (mathlib.Core.Option.some-injective _ _ e) first
+      first : Knows {M = M} (start_world shape.threads shape.rows shape.passes shape.later) (λ r. 0) 0 (dealer shape 0)
+      first = knows_nothing (start_world shape.threads shape.rows shape.passes shape.later) (λ r. 0) 0 shape 0 refl refl refl one_pass
+          (λ t h at_once d. (refl, start_holder shape.threads shape.rows shape.passes shape.later (first_row t) h one_row ∙ ap (λ b. cond b None (Some (t % shape.passes))) at_once, start_cell shape.threads shape.rows shape.later (first_row t), start_word shape.threads shape.rows shape.later (first_row t) 1 (row_from (start_world shape.threads shape.rows shape.passes shape.later).table (first_row t) h one_row) (omega arith), (λ n b e same. let bad : None ≡ Some b = sym (start_binding shape.threads shape.rows shape.later n) ∙ e in cc), λ g e. start_runs t g h e))
+
+      knows_at : (id : ℕ) (v : View M) → get_elem? (dealer shape 0 ∷ []) id ≡ some v → 0 < v.threads → Knows (start_world shape.threads shape.rows shape.passes shape.later) (λ r. 0) id v
+      knows_at zero v e t = subst (λ (u : View M). Knows (start_world shape.threads shape.rows shape.passes shape.later) (λ r. 0) 0 u) (mathlib.Core.Option.some-injective _ _ e) first
       knows_at (suc id) v e t = absurd (mathlib.Core.Option.some-ne-none v (sym e))
 
 -- THE ROWS OF ONE SEAT
-abbrev IsDealt : ℕ → ℕ → ℕ → Row → Type 0
-IsDealt n passes k r = (r.sync ≡ 0) × (r.thread < n) × (r.thread % passes ≡ k)
+abbrev IsDealt : ℕ → ℕ → ℕ → ℕ → Row → Type 0
+IsDealt later n passes k r = (r.sync ≡ 0) × (r.thread < n) × (falls_to later passes k r.thread ≡ true)
 
-has_one : (t passes k : ℕ) (r : Row) (rs : List Row) (b : Bool) → eqb (t % passes) k ≡ b → (Has rs r → IsDealt t passes k r) → Has (cond b (first_row t ∷ rs) rs) r → IsDealt (suc t) passes k r
-has_one t passes k r rs true e rest (inl f) =
-    (ap (λ (y : Row). y.sync) (sym f), (let same : t ≡ r.thread = ap (λ (y : Row). y.thread) f in omega arith), ap (λ (y : Row). y.thread % passes) (sym f) ∙ eqb-true (t % passes) k e)
-has_one t passes k r rs true e rest (inr g) = let i = rest g in (i.0, omega arith, i.2)
-has_one t passes k r rs false e rest g = let i = rest g in (i.0, omega arith, i.2)
+has_one : (later t passes k : ℕ) (r : Row) (rs : List Row) (b : Bool) → falls_to later passes k t ≡ b → (Has rs r → IsDealt later t passes k r) → Has (cond b (first_row t ∷ rs) rs) r → IsDealt later (suc t) passes k r
+has_one later t passes k r rs true e rest (inl f) =
+    (ap (λ (y : Row). y.sync) (sym f), (let same : t ≡ r.thread = ap (λ (y : Row). y.thread) f in omega arith), ap (λ (y : Row). falls_to later passes k y.thread) (sym f) ∙ e)
+has_one later t passes k r rs true e rest (inr g) = let i = rest g in (i.0, omega arith, i.2)
+has_one later t passes k r rs false e rest g = let i = rest g in (i.0, omega arith, i.2)
 
-pub has_dealt : (n passes k : ℕ) (r : Row) → Has (dealt_rows n passes k) r → IsDealt n passes k r
-has_dealt zero passes k r h = absurd h
-has_dealt (suc t) passes k r h = has_one t passes k r (dealt_rows t passes k) (eqb (t % passes) k) refl (λ g. has_dealt t passes k r g) h
+pub has_dealt : (later n passes k : ℕ) (r : Row) → Has (dealt_later later n passes k) r → IsDealt later n passes k r
+has_dealt later zero passes k r h = absurd h
+has_dealt later (suc t) passes k r h = has_one later t passes k r (dealt_later later t passes k) (falls_to later passes k t) refl (λ g. has_dealt later t passes k r g) h
 
-one_has : (t passes k : ℕ) (r : Row) (rs : List Row) (b : Bool) → eqb (t % passes) k ≡ b → IsDealt (suc t) passes k r → (IsDealt t passes k r → Has rs r) → Has (cond b (first_row t ∷ rs) rs) r
-one_has t passes k r rs true e d rest = ⊎_elim
+one_has : (later t passes k : ℕ) (r : Row) (rs : List Row) (b : Bool) → falls_to later passes k t ≡ b → IsDealt later (suc t) passes k r → (IsDealt later t passes k r → Has rs r) → Has (cond b (first_row t ∷ rs) rs) r
+one_has later t passes k r rs true e d rest = ⊎_elim
     (λ (h : r.thread ≡ t). inl (same_row (first_row t) r (sym h) (sym d.0)))
     (λ (h : r.thread < t). inr (rest (d.0, h, d.2)))
     (Rattle.std.proofs.Math.Nat.eq-or-lt_of_le (let l = d.1 in let m : r.thread ≤ t = omega arith in m))
-one_has t passes k r rs false e d rest = ⊎_elim
-    (λ (h : r.thread ≡ t). let no : eqb (t % passes) k ≡ true = eq-eqb (t % passes) k (ap (λ (n : ℕ). n % passes) (sym h) ∙ d.2) in let bad : true ≡ false = sym no ∙ e in cc)
+one_has later t passes k r rs false e d rest = ⊎_elim
+    (λ (h : r.thread ≡ t). let bad : true ≡ false = sym d.2 ∙ ap (falls_to later passes k) h ∙ e in cc)
     (λ (h : r.thread < t). rest (d.0, h, d.2))
     (Rattle.std.proofs.Math.Nat.eq-or-lt_of_le (let l = d.1 in let m : r.thread ≤ t = omega arith in m))
 
-pub dealt_has : (n passes k : ℕ) (r : Row) → IsDealt n passes k r → Has (dealt_rows n passes k) r
-dealt_has zero passes k r d = let l = d.1 in absurd (omega arith)
-dealt_has (suc t) passes k r d = one_has t passes k r (dealt_rows t passes k) (eqb (t % passes) k) refl d (λ e. dealt_has t passes k r e)
+pub dealt_has : (later n passes k : ℕ) (r : Row) → IsDealt later n passes k r → Has (dealt_later later n passes k) r
+dealt_has later zero passes k r d = let l = d.1 in absurd (omega arith)
+dealt_has later (suc t) passes k r d = one_has later t passes k r (dealt_later later t passes k) (falls_to later passes k t) refl d (λ e. dealt_has later t passes k r e)
+
+-- a thread that falls to the seat
+pub falls : (later passes k t : ℕ) → falls_to later passes k t ≡ true → (waits later t ≡ false) × (t % passes ≡ k)
+falls later passes k t e =
+    let a = and_parts (not (waits later t)) (eqb (t % passes) k) e in
+    (not-true (waits later t) a.0, eqb-true (t % passes) k a.1)
+
+pub falls_from : (later passes k t : ℕ) → waits later t ≡ false → t % passes ≡ k → falls_to later passes k t ≡ true
+falls_from later passes k t at_once is = and_from (not (waits later t)) (eqb (t % passes) k) (ap not at_once) (eq-eqb (t % passes) k is)
 
 -- what stands at first in the drafts of a pass
 no_offers_of : (rows : List Row) (r : Row) (p x : ℕ) → Has (no_offers rows) (r, p, x) → Has rows r × (p ≡ 1) × (x ≡ 0)
@@ -178,6 +199,10 @@ nothing_agrees threads rows held = record {
   chosen = λ r n count c h. absurd h;
   meet = λ r j p mine theirs h. absurd h;
   one_bound = λ n a b h. absurd h;
+  one_start = λ t a b h. absurd h;
+  started = λ t s h. absurd h;
+  one_end = λ t a b h. absurd h;
+  ended = λ t g h. absurd h;
   bound = λ n b h. absurd h;
 }
 
@@ -205,7 +230,7 @@ module _ {M : Type 0} (stands : Stands M) where
     new = length s.views
 
     abbrev is_dealt : Row → Bool
-    is_dealt r = eqb r.sync 0 && (ltb r.thread shape.threads && eqb (r.thread % shape.passes) k)
+    is_dealt r = eqb r.sync 0 && (ltb r.thread shape.threads && falls_to shape.later shape.passes k r.thread)
 
     abbrev owner' : Row → ℕ
     owner' r = cond (is_dealt r) new (h.owner r)
@@ -217,9 +242,10 @@ module _ {M : Type 0} (stands : Stands M) where
     dealt_his : (r : Row) → is_dealt r ≡ true → h.owner r ≡ id
     dealt_his r e =
         let a = and_parts (eqb r.sync 0) _ e in
-        let b = and_parts (ltb r.thread shape.threads) (eqb (r.thread % shape.passes) k) a.1 in
-        let m : k ≡ r.thread % h.world.seats = sym (mod_seats r.thread ∙ eqb-true _ _ b.1) in
-        let u = was.undealt r.thread (subst (λ (n : ℕ). r.thread < n) was.threads (ltb-true _ _ b.0)) (omega arith) in
+        let b = and_parts (ltb r.thread shape.threads) (falls_to shape.later shape.passes k r.thread) a.1 in
+        let f = falls shape.later shape.passes k r.thread b.1 in
+        let m : k ≡ r.thread % h.world.seats = sym (mod_seats r.thread ∙ f.1) in
+        let u = was.undealt r.thread (subst (λ (n : ℕ). r.thread < n) was.threads (ltb-true _ _ b.0)) f.0 (omega arith) in
         ap h.owner (same_row r (first_row r.thread) refl (eqb-true r.sync 0 a.0)) ∙ u.0
 
     kept_owner : (j : ℕ) → j ≢ id → (r : Row) → h.owner r ≡ j → owner' r ≡ j
@@ -232,22 +258,24 @@ module _ {M : Type 0} (stands : Stands M) where
     some_seats = was.seat
 
     left : Knows {M = M} h.world owner' id (dealer shape (k + 1))
-    left = knows_nothing h.world owner' id shape (k + 1) was.threads was.rows was.passes some_seats was.running (λ t i d.
-        let u = was.undealt t i (omega arith) in
+    left = knows_nothing h.world owner' id shape (k + 1) was.threads was.rows was.passes some_seats (λ t i at_once d.
+        let u = was.undealt t i at_once (omega arith) in
         let m = mod_seats t in
-        (ap (λ (b : Bool). cond b new (h.owner (first_row t))) (ap (λ (b : Bool). ltb t shape.threads && b) (ne_eqb (t % shape.passes) k (λ e. omega arith)) ∙ and-false (ltb t shape.threads)) ∙ u.0, u.1, u.2 (λ z. z), u.3 (λ l. l.1), u.4))
+        (ap (λ (b : Bool). cond b new (h.owner (first_row t))) (ap (λ (b : Bool). ltb t shape.threads && (not (waits shape.later t) && b)) (ne_eqb (t % shape.passes) k (λ e. omega arith)) ∙ ap (λ (b : Bool). ltb t shape.threads && b) (and-false (not (waits shape.later t))) ∙ and-false (ltb t shape.threads)) ∙ u.0, u.1, u.2 (λ z. z), u.3 (λ l. l.1), u.4, u.5 (λ z. z)))
 
-    dealt_row : (r : Row) → Has (dealt_rows shape.threads shape.passes k) r → (owner' r ≡ new) × (holder_at h.world r ≡ Some k) × (cell_at h.world.table r ≡ Fresh) × (word_at h.world.table r 1 ≡ 0) × ((n : NackName) (b : Binding) → binding_at h.world.table n ≡ Some b → bound_row n b ≢ r)
+    dealt_row : (r : Row) → Has (dealt_later shape.later shape.threads shape.passes k) r → (owner' r ≡ new) × (holder_at h.world r ≡ Some k) × (cell_at h.world.table r ≡ Fresh) × (word_at h.world.table r 1 ≡ 0) × ((n : NackName) (b : Binding) → binding_at h.world.table n ≡ Some b → bound_row n b ≢ r) × ((g : ℕ) → EndsAt (course_at h.world.table r.thread) g → ⊥)
     dealt_row r i =
-        let d = has_dealt shape.threads shape.passes k r i in
-        let m : r.thread % h.world.seats ≡ k = mod_seats r.thread ∙ d.2 in
+        let d = has_dealt shape.later shape.threads shape.passes k r i in
+        let f = falls shape.later shape.passes k r.thread d.2 in
+        let m : r.thread % h.world.seats ≡ k = mod_seats r.thread ∙ f.1 in
         let same : first_row r.thread ≡ r = same_row (first_row r.thread) r refl (sym d.0) in
-        let u = was.undealt r.thread (subst (λ (n : ℕ). r.thread < n) was.threads d.1) (omega arith) in (
-          ap (λ (b : Bool). cond b new (h.owner r)) (and_from _ _ (eq-eqb r.sync 0 d.0) (and_from _ _ (lt-ltb r.thread shape.threads d.1) (eq-eqb _ _ d.2))),
+        let u = was.undealt r.thread (subst (λ (n : ℕ). r.thread < n) was.threads d.1) f.0 (omega arith) in (
+          ap (λ (b : Bool). cond b new (h.owner r)) (and_from _ _ (eq-eqb r.sync 0 d.0) (and_from _ _ (lt-ltb r.thread shape.threads d.1) d.2)),
           ap (holder_at h.world) (sym same) ∙ u.1 ∙ ap Some m,
           ap (cell_at h.world.table) (sym same) ∙ u.2 (λ z. z),
           ap (λ (q : Row). word_at h.world.table q 1) (sym same) ∙ u.3 (λ l. l.1),
-          λ n b e is. u.4 n b e (is ∙ sym same),
+          (λ n b e is. u.4 n b e (is ∙ sym same)),
+          u.5 (λ z. z),
         )
 
     its_pass : Knows {M = M} h.world owner' new (dealt_pass (dealer shape k))
@@ -256,14 +284,13 @@ module _ {M : Type 0} (stands : Stands M) where
       rows = was.rows;
       passes = was.passes;
       seat = subst (λ (n : ℕ). k < n) was.passes below;
-      running = was.running;
-      undealt = λ t i d. let m = mod-lt t some_seats in let p = was.passes in absurd (omega arith);
+      undealt = λ t i at_once d. let m = mod-lt t some_seats in let p = was.passes in absurd (omega arith);
       mine = λ r i. let g = dealt_row r i in (g.0, g.1);
       calm = λ r i e. let g = dealt_row r i in let bad : Fresh ≡ Claimed = sym g.2 ∙ e in cc;
       staged = tt;
       fresh = λ r i n. (dealt_row r i).2;
       drafted = λ r p x i.
-          let n = no_offers_of (dealt_rows shape.threads shape.passes k) r p x i in
+          let n = no_offers_of (dealt_later shape.later shape.threads shape.passes k) r p x i in
           let g = dealt_row r n.0 in
           let q = n.1 in
           (g.0, (omega arith), (omega arith), g.1, ap (word_at h.world.table r) n.1 ∙ g.3 ∙ sym n.2);
@@ -272,18 +299,26 @@ module _ {M : Type 0} (stands : Stands M) where
       joined = λ r j i. absurd i;
       taken = λ r i. absurd i;
       bound = λ n b i. absurd i;
+      started = λ t s i. absurd i;
+      ended = λ t g i. absurd i;
+      lasts = λ t i. absurd i;
+      lively = λ r i n g e. absurd ((dealt_row r i).5 g e);
       binds = λ n b e i. absurd ((dealt_row (bound_row n b) i).4 n b e refl);
     }
 
     -- the rows of the new pass were the dealer's to deal
-    begins : (r : Row) → Has (dealt_rows shape.threads shape.passes k) r ⊎ ((r.thread < shape.threads) × (shape.passes ≤ r.thread % shape.passes)) → (r.thread < shape.threads) × (k ≤ r.thread % shape.passes)
-    begins r (inl held) = let d = has_dealt shape.threads shape.passes k r held in (d.1, let e = d.2 in omega arith)
-    begins r (inr d) = let one_pass : 0 < shape.passes = omega arith in let m = mod-lt r.thread one_pass in let far = d.1 in absurd (omega arith)
+    begins : (r : Row) → Has (dealt_later shape.later shape.threads shape.passes k) r ⊎ ((r.thread < shape.threads) × (waits shape.later r.thread ≡ false) × (shape.passes ≤ r.thread % shape.passes))
+        → (r.thread < shape.threads) × (waits shape.later r.thread ≡ false) × (k ≤ r.thread % shape.passes)
+    begins r (inl held) =
+        let d = has_dealt shape.later shape.threads shape.passes k r held in
+        let f = falls shape.later shape.passes k r.thread d.2 in
+        (d.1, f.0, let e = f.1 in omega arith)
+    begins r (inr d) = let one_pass : 0 < shape.passes = omega arith in let m = mod-lt r.thread one_pass in let far = d.2 in absurd (omega arith)
 
     at_old : (j : ℕ) (u : View M) → get_elem? (slice_set s.views id (dealer shape (k + 1))) j ≡ some u → 0 < u.threads → Knows h.world owner' j u
     at_old j u e t = ⊎_elim
         (λ (a : (j ≡ id) × (dealer shape (k + 1) ≡ u)). subst (λ (z : ℕ × (View M)). Knows h.world owner' z.0 z.1) (λ i. (sym a.0 i, a.1 i)) left)
-        (λ (a : (j ≢ id) × (get_elem? s.views j ≡ some u)). knows_owned h.world h.owner owner' j u (world_kept stands shape s h) (λ r held o. kept_owner j a.0 r o) (h.knows j u a.1 t))
+        (λ (a : (j ≢ id) × (get_elem? s.views j ≡ some u)). knows_owned h.world h.owner owner' j u (world_kept stands shape s h) (λ r held o. kept_owner j a.0 r o) (λ t last o. kept_owner j a.0 (behind_last h.world.table.rows t) o) (h.knows j u a.1 t))
         (at_set s.views id j (dealer shape (k + 1)) u e)
 
     -- the dealer stands aside, and the new pass has a seat that nobody has
@@ -332,13 +367,14 @@ module _ {M : Type 0} (stands : Stands M) where
       knows = λ j u e t. ⊎_elim (λ old. at_old j u old t) (λ now. subst (λ (z : ℕ × (View M)). Knows h.world owner' z.0 z.1) (λ i. (sym (now.0 ∙ length-set s.views id (dealer shape (k + 1))) i, now.1 i)) its_pass) (at_end (slice_set s.views id (dealer shape (k + 1))) (dealt_pass (dealer shape k)) u j e);
       seated = new_seat;
       firsts = λ j u e t. ⊎_elim
-          (λ old. firsts_with s.views id (dealer shape k) (dealer shape (k + 1)) shape.first.value.items view refl some_threads h.firsts j u old t)
-          (λ now. ap (λ (z : View M). z.first) (sym now.1))
+          (λ old. firsts_with s.views id (dealer shape k) (dealer shape (k + 1)) (shape.first.value.items, shape.later) view refl some_threads h.firsts j u old t)
+          (λ now. ap (λ (z : View M). beginning z) (sym now.1))
           (at_end (slice_set s.views id (dealer shape (k + 1))) (dealt_pass (dealer shape k)) u j e);
+      courses = h.courses;
       housed = λ some_first.
           let before = h.housed some_first in
           housed_more stands shape.first.value.items h.world s.homes (slice_set s.views id (dealer shape (k + 1))) (dealt_pass (dealer shape k))
-          (housed_view stands shape.first.value.items h.world s.homes s.views id (dealer shape k) (dealer shape (k + 1)) view some_threads (λ r b. (b.0, ⊎_elim (λ (no : ⊥). absurd no) (λ (d : (r.thread < shape.threads) × (k + 1 ≤ r.thread % shape.passes)). inr (d.0, (let far = d.1 in omega arith))) b.1, b.2)) before)
+          (housed_view stands shape.first.value.items h.world s.homes s.views id (dealer shape k) (dealer shape (k + 1)) view some_threads (λ r b. (b.0, ⊎_elim (λ (no : ⊥). absurd no) (λ (d : (r.thread < shape.threads) × (waits shape.later r.thread ≡ false) × (k + 1 ≤ r.thread % shape.passes)). inr (d.0, d.1, (let far = d.2 in omega arith))) b.1, b.2)) before)
           (λ r b. before.waiting id (dealer shape k) r view some_threads (b.0, inr (begins r b.1), λ no. no));
       results = λ j u t rs e i. ⊎_elim
           (λ old. ⊎_elim

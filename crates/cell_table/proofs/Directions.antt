@@ -32,7 +32,7 @@ direction_row xs ys r n d more h = record {
 pub direction_more : (xs ys : List (Row × ℕ × ℕ)) (r : Row) (n : ℕ) (d : Direction) → ((x : Row × ℕ × ℕ) → Has xs x → Has ys x) → HaveDirection xs r n d → HaveDirection ys r n d
 direction_more xs ys r n d more h = direction_row xs ys r n d (λ p x i. more (r, p, x) i) h
 
-pub sees_direction_more : {Nacks : Rattle.protocol_values.specs.declared.NackName.NackName → Type 0} (About : Row → Type 0) (s t : Seen) (r : Row) (n : ℕ) (d : Direction) → LearnsOf About Nacks s t → SeesDirection s r n d → SeesDirection t r n d
+pub sees_direction_more : {Nacks : Rattle.protocol_values.specs.declared.NackName.NackName → Type 0} {Lives : ℕ → Type 0} (About : Row → Type 0) (s t : Seen) (r : Row) (n : ℕ) (d : Direction) → LearnsOf About Nacks Lives s t → SeesDirection s r n d → SeesDirection t r n d
 sees_direction_more About s t r n d l (inl h) = inl (direction_more s.words t.words r n d l.words.0 h)
 sees_direction_more About s t r n d l (inr h) = inr (l.opened.0 r h.0, subst (λ (ds : List (Row × ℕ × ℕ)). HaveDirection ds r n d) (sym l.drafts) h.1)
 

@@ -1,5 +1,5 @@
 -- The words of a table at its end, and what their ledger says.
-use Rattle.std.proofs.Common.{Option, Bool, true, false, cond, ltb, ◌≡◌, ℕ, zero, suc, ◌+◌, ◌<◌, ◌≤◌, List, [], ◌∷◌, length, slice_index, slice_set, slice_get, get_or, sym, ap, ◌∙◌, subst, ⊎_elim, arith, Some, None}
+use Rattle.std.proofs.Common.{Option, Bool, true, false, cond, ltb, not, ◌&&◌, ◌≡◌, ℕ, zero, suc, ◌+◌, ◌<◌, ◌≤◌, List, [], ◌∷◌, length, slice_index, slice_set, slice_get, get_or, sym, ap, ◌∙◌, subst, inl, inr, ⊎_elim, arith, Some, None}
 use Rattle.std.proofs.lemmas.Bool.{ltb-false, ltb-true}
 use Rattle.std.proofs.lemmas.List.{ext_get_or, get_or-set_same, get_or-set_other}
 use mathlib.Core.Option.{some, none}
@@ -13,16 +13,19 @@ use Rattle.protocol_values.specs.declared.Course.{Course}
 use Rattle.protocol_values.specs.declared.Course.TheVariants.{Unstarted, Running}
 use Rattle.protocol_values.specs.declared.Row.{Row}
 use Rattle.protocol.specs.Tables.{Table, course_at, joined_at}
+use Rattle.protocol.specs.Growing.{GoesOn}
+use Rattle.protocol.specs.Worlds.{start_world, waits}
 use Rattle.protocol.specs.Ledgers.{ledger_of, IsLawful, binding_in, course_in, joined_in, offer_in}
-use Rattle.protocol.proofs.LedgerLemmas.{binding_in_ledger, course_in_ledger, lawful_ledger, joined_in_ledger, offer_in_ledger}
+use Rattle.protocol.proofs.LedgerLemmas.{binding_in_ledger, course_in_ledger, kept_start, lawful_ledger, joined_in_ledger, offer_in_ledger, start_course}
+use Rattle.protocol.proofs.Onward.{grows-schedule}
 use Rattle.protocol.specs.Standing.{AreResults, EachOffersAs, Result, SomeStands, Stands}
 use Rattle.protocol.proofs.Readings.{course_outside}
 use Rattle.protocol.proofs.Standing.{stands-ledger}
 use Rattle.cell_table.specs.declared.view.View.{View}
 use Rattle.cell_table.specs.declared.view.Shape.{Shape}
-use Rattle.cell_table.specs.Sight.{Has, IsDraft, SeesOffer, SeesNoOffer}
+use Rattle.cell_table.specs.Sight.{EndsAt, Has, HasStart, IsDraft, SeesOffer, SeesNoOffer}
 use Rattle.cell_table.specs.Views.{Knows}
-use Rattle.cell_table.specs.Rule.{Keeps}
+use Rattle.cell_table.specs.Rule.{Keeps, in_order}
 use Rattle.cell_table.proofs.Allowing.{sized}
 use Rattle.cell_table.proofs.Turning.{world_kept}
 use Rattle.cell_table.proofs.Truths.{own_chose, sees_known, lacks_known}
@@ -70,15 +73,41 @@ module _ {M : Type 0} (stands : Stands M) where
     pub final_bound : (n : NackName) (b : Binding) → Has v.seen.bound (n, b) → binding_in (ledger_of (sized shape ws)) n ≡ Some b
     final_bound n b h = subst (λ (t : Table). binding_in (ledger_of t) n ≡ Some b) table_is (ap (λ (f : NackName → _). f n) (binding_in_ledger kept.world.table) ∙ known.bound n b h)
 
-    -- all threads run
-    pub final_running : (t : ℕ) → course_in (ledger_of (sized shape ws)) t ≡ cond (ltb t shape.threads) (Running 0) Unstarted
-    final_running t =
-        subst (λ (u : Table). course_in (ledger_of u) t ≡ cond (ltb t u.threads) (Running 0) Unstarted) table_is
+    -- in a table of machines all threads are on their courses as at the start
+    pub final_running : 0 < length shape.first.value.items → (t : ℕ) → course_in (ledger_of (sized shape ws)) t ≡ cond (ltb t shape.threads && not (waits shape.later t)) (Running 0) Unstarted
+    final_running some_first t =
+        subst (λ (u : Table). course_in (ledger_of u) t ≡ cond (ltb t u.threads && not (waits shape.later t)) (Running 0) Unstarted) table_is
         (ap (λ (f : ℕ → Course). f t) (course_in_ledger kept.world.table) ∙ by (ltb t kept.world.table.threads) (λ i. ltb t kept.world.table.threads))
       where
-        by : (b : Bool) → ltb t kept.world.table.threads ≡ b → course_at kept.world.table t ≡ cond b (Running 0) Unstarted
-        by true e = known.running t (ltb-true t kept.world.table.threads e)
+        turn : (b : Bool) → cond b Unstarted (Running 0) ≡ cond (not b) (Running 0) Unstarted
+        turn true = λ i. Unstarted
+        turn false = λ i. Running 0
+
+        by : (b : Bool) → ltb t kept.world.table.threads ≡ b → course_at kept.world.table t ≡ cond (b && not (waits shape.later t)) (Running 0) Unstarted
+        by true e = kept.courses some_first t (ltb-true t kept.world.table.threads e) ∙ turn (waits shape.later t)
         by false e = course_outside kept.world.table t (ltb-false t kept.world.table.threads e)
+
+    -- a course that was seen is that of the ledger
+    course_there : (t : ℕ) → course_in (ledger_of (sized shape ws)) t ≡ course_at kept.world.table t
+    course_there t = sym (ap (λ (u : Table). course_in (ledger_of u) t) table_is) ∙ ap (λ (f : ℕ → Course). f t) (course_in_ledger kept.world.table)
+
+    pub final_started : (t stamp : ℕ) → Has v.seen.started (t, stamp) → HasStart (course_in (ledger_of (sized shape ws)) t) stamp
+    final_started t stamp h = subst (λ (c : Course). HasStart c stamp) (sym (course_there t)) (known.started t stamp h)
+
+    pub final_ended : (t g : ℕ) → Has v.seen.ended (t, g) → EndsAt (course_in (ledger_of (sized shape ws)) t) g
+    final_ended t g h = subst (λ (c : Course). EndsAt c g) (sym (course_there t)) (known.ended t g h)
+
+    -- a thread that did not wait started before all steps
+    pub final_at_once : (t : ℕ) → t < shape.threads → waits shape.later t ≡ false → HasStart (course_in (ledger_of (sized shape ws)) t) 0
+    unfolding start_world
+    final_at_once t below free =
+        let grown = grows-schedule (start_world shape.threads shape.rows shape.passes shape.later) kept.world (in_order kept.moves) (kept_start shape.threads shape.rows shape.passes shape.later kept.few_threads kept.few_rows) kept.played in
+        subst (λ (c : Course). HasStart c 0) (sym (course_there t))
+        (goes_from (course_at kept.world.table t) (subst (λ (c : Course). GoesOn c (course_at kept.world.table t)) (start_course shape.threads shape.rows shape.later t below ∙ ap (λ (b : Bool). cond b Unstarted (Running 0)) free) (grown.courses t)))
+      where
+        goes_from : (c : Course) → GoesOn (Running 0) c → HasStart c 0
+        goes_from c (inl is) = subst (λ (d : Course). HasStart d 0) (sym is) (λ i. 0)
+        goes_from c (inr is) = subst (λ (d : Course). HasStart d 0) (sym is.1) (λ i. 0)
 
     pub final_own : (r : Row) (j : Joined) (offers : List Offer) → IsDraft v.seen r offers → joined_in (ledger_of (sized shape ws)) r ≡ Some j
         → (j.own < length offers) × (offer_in (ledger_of (sized shape ws)) r j.own ≡ slice_get offers j.own)

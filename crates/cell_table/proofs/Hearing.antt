@@ -10,7 +10,7 @@ use Rattle.protocol_values.specs.declared.NackName.{NackName}
 use Rattle.protocol_values.specs.declared.Binding.{Binding}
 use Rattle.protocol_values.specs.declared.Row.{Row}
 use Rattle.protocol.specs.Tables.{row_eq}
-use Rattle.protocol.specs.Worlds.{World}
+use Rattle.protocol.specs.Worlds.{World, waits}
 use Rattle.protocol.proofs.RowLemmas.{row_eq-refl, row_eq-true}
 use Rattle.protocol_values.specs.declared.Offer.{Offer}
 use Rattle.protocol.specs.Standing.{AreResults, Result, Stands}
@@ -19,8 +19,8 @@ use Rattle.cell_table.specs.declared.view.Seen.{Seen}
 use Rattle.cell_table.specs.declared.view.View.{View}
 use Rattle.cell_table.specs.declared.view.Shape.{Shape}
 use Rattle.cell_table.specs.Sight.{Has, SeesOffer, SeesNoOffer}
-use Rattle.cell_table.specs.Views.{Knows}
-use Rattle.cell_table.specs.Rule.{Keeps, at_seat, is_among, drafts_of, told_of, told_pass, heard, heard_pass, spent_pass}
+use Rattle.cell_table.specs.Views.{Knows, SeesEnd}
+use Rattle.cell_table.specs.Rule.{Keeps, beginning, at_seat, is_among, drafts_of, told_of, told_pass, heard, heard_pass, spent_pass}
 use Rattle.cell_table.proofs.Dealing.{one_more_pass}
 use Rattle.cell_table.proofs.Seating.{at_end, seated_more, seated_seen, seated_spent}
 use Rattle.cell_table.proofs.Offers.{have_row}
@@ -51,11 +51,11 @@ told_draft rows [] x h = absurd h
 told_draft rows (d ∷ ds) x h = told_case rows d ds x (is_among rows d.0) refl (λ g. told_draft rows ds x g) h
 
 -- what is told of an opened row's drafts
-has_right : {A : Type 0} (xs ys : List A) (x : A) → Has ys x → Has (xs ++ ys) x
+pub has_right : {A : Type 0} (xs ys : List A) (x : A) → Has ys x → Has (xs ++ ys) x
 has_right [] ys x h = h
 has_right (y ∷ xs) ys x h = inr (has_right xs ys x h)
 
-has_left : {A : Type 0} (xs ys : List A) (x : A) → Has xs x → Has (xs ++ ys) x
+pub has_left : {A : Type 0} (xs ys : List A) (x : A) → Has xs x → Has (xs ++ ys) x
 has_left [] ys x h = absurd h
 has_left (y ∷ xs) ys x (inl e) = inl e
 has_left (y ∷ xs) ys x (inr h) = inr (has_left xs ys x h)
@@ -103,8 +103,7 @@ module _ (w : World) (owner : Row → ℕ) where
       rows = k.rows;
       passes = k.passes;
       seat = k.seat;
-      running = k.running;
-      undealt = λ t h d. let m = mod-lt t (some_seats k.seat) in let p = k.passes in absurd (omega arith);
+      undealt = λ t h at_once d. let m = mod-lt t (some_seats k.seat) in let p = k.passes in absurd (omega arith);
       mine = λ r h. absurd h;
       calm = λ r h e. absurd h;
       staged = tt;
@@ -121,6 +120,10 @@ module _ (w : World) (owner : Row → ℕ) where
       joined = k.joined;
       taken = k.taken;
       bound = k.bound;
+      started = k.started;
+      ended = k.ended;
+      lasts = λ t h. absurd h;
+      lively = λ r h n. absurd h;
       binds = λ n b e h. absurd h;
     }
       where
@@ -133,8 +136,7 @@ module _ (w : World) (owner : Row → ℕ) where
       rows = k.rows;
       passes = k.passes;
       seat = k.seat;
-      running = k.running;
-      undealt = λ t h d. let a = k.undealt t h d in (a.0, a.1, (λ n. a.2 (λ o. n (has_left v.seen.opened u.seen.opened _ o))), a.3, λ n b e same. has_left v.seen.bound u.seen.bound (n, b) (a.4 n b e same));
+      undealt = λ t h at_once d. let a = k.undealt t h at_once d in (a.0, a.1, (λ n. a.2 (λ o. n (has_left v.seen.opened u.seen.opened _ o))), a.3, (λ n b e same. has_left v.seen.bound u.seen.bound (n, b) (a.4 n b e same)), λ n. more_ends t (a.5 (λ o. n (has_left v.seen.opened u.seen.opened _ o))));
       mine = k.mine;
       calm = k.calm;
       staged = k.staged;
@@ -144,9 +146,16 @@ module _ (w : World) (owner : Row → ℕ) where
       read = λ r p x h. ⊎_elim (λ (a : Has v.seen.words (r, p, x)). k.read r p x a) (λ (b : Has u.seen.words (r, p, x)). l.read r p x b) (has_either v.seen.words u.seen.words (r, p, x) h);
       joined = λ r j h. ⊎_elim (λ (a : Has v.seen.joined (r, j)). k.joined r j a) (λ (b : Has u.seen.joined (r, j)). l.joined r j b) (has_either v.seen.joined u.seen.joined (r, j) h);
       taken = λ r h. ⊎_elim (λ (a : Has v.seen.taken r). k.taken r a) (λ (b : Has u.seen.taken r). l.taken r b) (has_either v.seen.taken u.seen.taken r h);
+      started = λ t s h. ⊎_elim (λ (a : Has v.seen.started (t, s)). k.started t s a) (λ (c : Has u.seen.started (t, s)). l.started t s c) (has_either v.seen.started u.seen.started (t, s) h);
+      ended = λ t g h. ⊎_elim (λ (a : Has v.seen.ended (t, g)). k.ended t g a) (λ (c : Has u.seen.ended (t, g)). l.ended t g c) (has_either v.seen.ended u.seen.ended (t, g) h);
       bound = λ n b h. ⊎_elim (λ (a : Has v.seen.bound (n, b)). k.bound n b a) (λ (c : Has u.seen.bound (n, b)). l.bound n b c) (has_either v.seen.bound u.seen.bound (n, b) h);
+      lasts = λ t h. let a = k.lasts t h in (a.0, a.1, more_ends t a.2);
+      lively = λ r h n. more_ends r.thread (k.lively r h (λ o. n (has_left v.seen.opened u.seen.opened r o)));
       binds = λ n b e h. has_left v.seen.bound u.seen.bound (n, b) (k.binds n b e h);
     }
+      where
+        more_ends : (t : ℕ) → SeesEnd w v.seen t → SeesEnd w (heard v.seen u.seen) t
+        more_ends t sees g e = has_left v.seen.ended u.seen.ended (t, g) (sees g e)
 
 module _ {M : Type 0} (stands : Stands M) where
   pub tell_allowed : (shape : Shape M) (id : ℕ) (v : View M) → 0 < v.threads → Splits {S = Option M} (Keeps stands shape) id v v (told_pass v)
@@ -171,14 +180,15 @@ module _ {M : Type 0} (stands : Stands M) where
         (λ t moves. absurd (moves refl))
         (seated_seen s.views id v v view (refl, refl, refl, refl, refl) refl refl k.seated);
     firsts = λ j u e t. ⊎_elim
-        (λ old. firsts_with s.views id v v shape.first.value.items view refl at_table k.firsts j u old t)
-        (λ (now : (j ≡ length (slice_set s.views id v)) × (told_pass v ≡ u)). ap (λ (z : View M). z.first) (sym now.1) ∙ k.firsts id v view at_table)
+        (λ old. firsts_with s.views id v v (shape.first.value.items, shape.later) view refl at_table k.firsts j u old t)
+        (λ (now : (j ≡ length (slice_set s.views id v)) × (told_pass v ≡ u)). ap (λ (z : View M). beginning z) (sym now.1) ∙ k.firsts id v view at_table)
         (at_end (slice_set s.views id v) (told_pass v) u j e);
+    courses = k.courses;
     housed = λ some_first.
         let before = housed_view stands shape.first.value.items k.world s.homes s.views id v v view at_table (λ r b. b) (k.housed some_first) in
         housed_more stands shape.first.value.items k.world s.homes (slice_set s.views id v) (told_pass v) before (λ r b. absurd (⊎_elim
         (λ (h : ⊥). h)
-        (λ (d : (r.thread < v.threads) × (v.passes ≤ r.thread % v.passes)). let m = mod-lt r.thread (some_passes (k.knows id v view at_table)) in let far = d.1 in omega arith)
+        (λ (d : (r.thread < v.threads) × (waits v.later r.thread ≡ false) × (v.passes ≤ r.thread % v.passes)). let m = mod-lt r.thread (some_passes (k.knows id v view at_table)) in let far = d.2 in omega arith)
         b.1));
     results = λ j u t rs e h. ⊎_elim
         (λ old. ⊎_elim
@@ -216,8 +226,9 @@ module _ {M : Type 0} (stands : Stands M) where
     seated = seated_spent (slice_set s.views id (heard_pass v w)) other w told (seated_seen s.views id v (heard_pass v w) view (refl, refl, refl, refl, refl) refl refl k.seated);
     firsts = λ j u e t. ⊎_elim
         (λ (a : (j ≡ other) × (spent_pass ≡ u)). let z : u.threads ≡ 0 = ap (λ (y : View M). y.threads) (sym a.1) in absurd (omega arith))
-        (λ (a : (j ≢ other) × (get_elem? (slice_set s.views id (heard_pass v w)) j ≡ some u)). firsts_with s.views id v (heard_pass v w) shape.first.value.items view refl at_table k.firsts j u a.1 t)
+        (λ (a : (j ≢ other) × (get_elem? (slice_set s.views id (heard_pass v w)) j ≡ some u)). firsts_with s.views id v (heard_pass v w) (shape.first.value.items, shape.later) view refl at_table k.firsts j u a.1 t)
         (at_set (slice_set s.views id (heard_pass v w)) other j spent_pass u e);
+    courses = k.courses;
     housed = λ some_first.
         let before = housed_view stands shape.first.value.items k.world s.homes s.views id v (heard_pass v w) view at_table (λ r b. b) (k.housed some_first) in
         housed_spent stands shape.first.value.items k.world s.homes (slice_set s.views id (heard_pass v w)) other spent_pass refl before;

@@ -19,14 +19,14 @@ use Rattle.protocol.specs.Standing.{OffersAs, OpenedAs, Result, SomeStands, Stan
 use Rattle.protocol_values.specs.declared.Offer.{Offer}
 use Rattle.protocol.specs.Tables.{Table, cell_at, is_fresh, is_taken}
 use Rattle.protocol_values.specs.Values.{next_row}
-use Rattle.protocol.specs.Worlds.{Allowed, World, after_step, holder_at}
+use Rattle.protocol.specs.Worlds.{Allowed, World, after_step, holder_at, waits}
 use Rattle.protocol.proofs.Keeping.{taken_before}
 use Rattle.protocol.proofs.Onward.{grows-step, opens-step, taken-step}
 use Rattle.protocol.proofs.RowLemmas.{same_row}
 use Rattle.protocol.proofs.Standing.{offers-stay, stands-step}
 use Rattle.cell_table.specs.declared.view.View.{View}
 use Rattle.cell_table.specs.declared.view.Seen.{Seen}
-use Rattle.cell_table.specs.Sight.{Has, see_next}
+use Rattle.cell_table.specs.Sight.{Has, see_held, see_next}
 use Rattle.std.proofs.Math.Dec.{ltb}
 use Rattle.cell_table.specs.Rule.{Housed, IsHome, IsToBegin, Waits}
 
@@ -135,34 +135,40 @@ opened_none stands t (Start r thread) never = tt
 opened_none stands t (Finish r) never = tt
 
 -- A ROW IS TAKEN: its pass is to begin with no other row than before, since a thread's next row is not its first
-held_case : (b : Bool) (t s : Seen) (x q : Row) → t.held ≡ x ∷ s.held → (x ≡ q → ⊥) → Has (cond b t s).held q → Has s.held q
-held_case true t s x q e apart h = ⊎_elim (λ (same : x ≡ q). absurd (apart same)) (λ (old : Has s.held q). old) (subst (λ (l : List Row). Has l q) e h)
-held_case false t s x q e apart h = h
+held_case : (b : Bool) (t u s : Seen) (x q : Row) → t.held ≡ x ∷ s.held → u.held ≡ s.held → (x ≡ q → ⊥) → Has (cond b t u).held q → Has s.held q
+held_case true t u s x q e f apart h = ⊎_elim (λ (same : x ≡ q). absurd (apart same)) (λ (old : Has s.held q). old) (subst (λ (l : List Row). Has l q) e h)
+held_case false t u s x q e f apart h = subst (λ (l : List Row). Has l q) f h
 
-begun_case : (b : Bool) (t s : Seen) → t.begun ≡ s.begun → (cond b t s).begun ≡ s.begun
-begun_case true t s e = e
-begun_case false t s e = refl
+begun_case : (b : Bool) (t u s : Seen) → t.begun ≡ s.begun → u.begun ≡ s.begun → (cond b t u).begun ≡ s.begun
+begun_case true t u s e f = e
+begun_case false t u s e f = f
+
+-- what a pass has seen once it holds the next row, and where there is none
+abbrev next_seen : Row → Seen → Seen
+next_seen r s = see_held (next_row r) s
+
+abbrev last_seen : Row → Seen → Seen
+last_seen r s = record s { lasts = r.thread ∷ s.lasts }
 
 pub took_begins : {M : Type 0} (rows : ℕ) (r : Row) (s : Seen) (v : View M) (q : Row)
-    → (q.sync ≡ 0) × (Has (see_next rows r s).held q ⊎ ((q.thread < v.threads) × (v.dealt ≤ q.thread % v.passes))) × (¬ Has (see_next rows r s).begun q)
-    → (q.sync ≡ 0) × (Has s.held q ⊎ ((q.thread < v.threads) × (v.dealt ≤ q.thread % v.passes))) × (¬ Has s.begun q)
-took_begins rows r s v q b =
-    let more : Seen = record s { held = next_row r ∷ s.held; drafts = (next_row r, 1, 0) ∷ s.drafts } in (
-      b.0,
-      ⊎_elim
-          (λ (h : Has (see_next rows r s).held q). inl (held_case (ltb (r.sync + 1) rows) more s (next_row r) q refl (λ e. let z = b.0 in let y : r.sync + 1 ≡ q.sync = ap (λ (x : Row). x.sync) e in absurd (omega arith)) h))
-          (λ (d : (q.thread < v.threads) × (v.dealt ≤ q.thread % v.passes)). inr d)
-          b.1,
-      λ h. b.2 (subst (λ (l : List Row). Has l q) (sym (begun_case (ltb (r.sync + 1) rows) more s refl)) h),
-    )
+    → (q.sync ≡ 0) × (Has (see_next rows r s).held q ⊎ ((q.thread < v.threads) × (waits v.later q.thread ≡ false) × (v.dealt ≤ q.thread % v.passes))) × (¬ Has (see_next rows r s).begun q)
+    → (q.sync ≡ 0) × (Has s.held q ⊎ ((q.thread < v.threads) × (waits v.later q.thread ≡ false) × (v.dealt ≤ q.thread % v.passes))) × (¬ Has s.begun q)
+took_begins rows r s v q b = (
+  b.0,
+  ⊎_elim
+      (λ (h : Has (see_next rows r s).held q). inl (held_case (ltb (r.sync + 1) rows) (next_seen r s) (last_seen r s) s (next_row r) q refl refl (λ e. let z = b.0 in let y : r.sync + 1 ≡ q.sync = ap (λ (x : Row). x.sync) e in absurd (omega arith)) h))
+      (λ (d : (q.thread < v.threads) × (waits v.later q.thread ≡ false) × (v.dealt ≤ q.thread % v.passes)). inr d)
+      b.1,
+  λ h. b.2 (subst (λ (l : List Row). Has l q) (sym (begun_case (ltb (r.sync + 1) rows) (next_seen r s) (last_seen r s) s refl refl)) h),
+)
 
 -- and it holds what it held
-holds_case : (b : Bool) (t s : Seen) (x q : Row) → t.held ≡ x ∷ s.held → Has s.held q → Has (cond b t s).held q
-holds_case true t s x q e h = subst (λ (l : List Row). Has l q) (sym e) (inr h)
-holds_case false t s x q e h = h
+holds_case : (b : Bool) (t u s : Seen) (x q : Row) → t.held ≡ x ∷ s.held → u.held ≡ s.held → Has s.held q → Has (cond b t u).held q
+holds_case true t u s x q e f h = subst (λ (l : List Row). Has l q) (sym e) (inr h)
+holds_case false t u s x q e f h = subst (λ (l : List Row). Has l q) (sym f) h
 
 pub took_holds : (rows : ℕ) (r : Row) (s : Seen) (q : Row) → Has s.held q → Has (see_next rows r s).held q
-took_holds rows r s q h = holds_case (ltb (r.sync + 1) rows) (record s { held = next_row r ∷ s.held; drafts = (next_row r, 1, 0) ∷ s.drafts }) s (next_row r) q refl h
+took_holds rows r s q h = holds_case (ltb (r.sync + 1) rows) (next_seen r s) (last_seen r s) s (next_row r) q refl refl h
 
 module _ {M : Type 0} (stands : Stands M) (first : List M) where
   -- A pass knows more, or other slots are out, or the world went on: what a pass is to begin with waits as it did

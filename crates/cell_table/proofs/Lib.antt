@@ -8,11 +8,15 @@ pub mod Turning
 pub mod Once
 pub mod Binders
 pub mod Standing
+pub mod Starts
 pub mod Allowing
 pub mod Binding
+pub mod Courses
 pub mod Dealing
 pub mod Directions
 pub mod Hearing
+pub mod Lives
 pub mod Endings
+pub mod Ends
 pub mod Following
 pub mod Exchanging

@@ -259,7 +259,7 @@ offer_places n a b c d o e =
     )
 
 -- what was seen of an offer stays seen while more is learnt
-pub sees_more : {Nacks : NackName → Type 0} (About : Row → Type 0) (s t : Seen) (r : Row) (n : ℕ) (o : Offer) → LearnsOf About Nacks s t → SeesOffer s r n o → SeesOffer t r n o
+pub sees_more : {Nacks : NackName → Type 0} {Lives : ℕ → Type 0} (About : Row → Type 0) (s t : Seen) (r : Row) (n : ℕ) (o : Offer) → LearnsOf About Nacks Lives s t → SeesOffer s r n o → SeesOffer t r n o
 sees_more About s t r n o l (inl h) = inl (have_more s.words t.words r n o l.words.0 h)
 sees_more About s t r n o l (inr h) = inr (l.opened.0 r h.0, subst (λ (d : List (Row × ℕ × ℕ)). HaveOffer d r n o) (sym l.drafts) h.1)
 

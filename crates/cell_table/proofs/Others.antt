@@ -4,6 +4,7 @@ use Rattle.std.proofs.lemmas.Bool.{and_parts, eqb-true, false≢true}
 use Rattle.protocol_values.specs.declared.NackName.{NackName}
 use Rattle.protocol_values.specs.declared.Binding.{Binding}
 use Rattle.protocol_values.specs.declared.Course.{Course}
+use Rattle.protocol_values.specs.declared.Course.TheVariants.{Unstarted, Running, Ended}
 use Rattle.protocol_values.specs.declared.Row.{Row}
 use Rattle.protocol_values.specs.declared.Joined.{Joined}
 use Rattle.protocol_values.specs.declared.Cell.{Cell}
@@ -14,15 +15,15 @@ use Rattle.cell_table.specs.declared.view.Stage.{Stage}
 use Rattle.cell_table.specs.declared.view.Stage.TheVariants.{Resting, Claims, Joins, Aside}
 use Rattle.protocol.specs.Tables.{course_at, Table, bound_row, is_row, row_eq, cell_at, is_fresh, joined_at, names, word_at, binding_at, is_taken}
 use Rattle.protocol_values.specs.Values.{joined_of}
-use Rattle.protocol.specs.Worlds.{World, holder_at, with_word, with_cell, with_table}
+use Rattle.protocol.specs.Worlds.{World, holder_at, with_word, with_cell, with_table, first_row}
 use Rattle.protocol.specs.Kept.{Kept}
 use Rattle.protocol.proofs.Keeping.{held_row}
 use Rattle.protocol.proofs.RowLemmas.{row_cases, row_eq-false, row_eq-true, row_ne, put, put_same, put_other}
 use Rattle.protocol.proofs.Places.{word_other, is_row_after}
 use Rattle.protocol.proofs.Readings.{cell_after_cell, cell_after_word, row_of_open, binding_after_cell, binding_after_word, course_after_cell, course_after_word}
 use Rattle.cell_table.specs.declared.view.Seen.{Seen}
-use Rattle.cell_table.specs.Sight.{Has, IsCounted, see_begun, see_bound, see_word, without}
-use Rattle.cell_table.specs.Views.{first_row, IsClaimer, Staged, Knows, at_stage, turned, saw, saw_nack, read_word, drafted_word}
+use Rattle.cell_table.specs.Sight.{EndsAt, Has, HasStart, IsCounted, see_begun, see_bound, see_course, see_word, without}
+use Rattle.cell_table.specs.Views.{IsClaimer, SeesEnd, Staged, Knows, behind_last, at_stage, turned, saw, saw_course, saw_nack, read_word, drafted_word}
 
 -- what is left after a word of (r, p) is gone, and what was there before
 left_one : (r : Row) (p : ℕ) (d : Row × ℕ × ℕ) (ds : List (Row × ℕ × ℕ)) (q : Row) (o x : ℕ) (b : Bool) → (row_eq d.0 r && eqb d.1 p) ≡ b → ¬ ((q ≡ r) × (o ≡ p)) → (Has ds (q, o, x) → Has (without r p ds) (q, o, x))
@@ -82,6 +83,9 @@ module _ (w : World) (x : Row) (c : Cell) (owner : Row → ℕ) (k : Kept w)
   courses_stay : (p : ℕ) → course_at (with_cell w.table x c) p ≡ course_at w.table p
   courses_stay p = ap (λ (f : ℕ → Course). f p) (course_after_cell w.table x c row)
 
+  ends_stay : (s : Seen) (t : ℕ) → SeesEnd w s t → SeesEnd (with_table w (with_cell w.table x c)) s t
+  ends_stay s t sees g e = sees g (subst (λ (k : Course). EndsAt k g) (courses_stay t) e)
+
   -- the words behind the cells stay
   stays_word : (r : Row) (p : ℕ) → is_row w.table r ≡ true → 1 ≤ p → p < 34 → word_at (with_cell w.table x c) r p ≡ word_at w.table r p
   unfolding with_cell
@@ -135,9 +139,8 @@ module _ (w : World) (x : Row) (c : Cell) (owner : Row → ℕ) (k : Kept w)
         rows = knows.rows ∙ sym size_kept.1;
         passes = knows.passes;
         seat = knows.seat;
-        running = λ t h. courses_stay t ∙ knows.running t (subst (λ (n : ℕ). t < n) size_kept.0 h);
-        undealt = λ t h d.
-            let u = knows.undealt t (subst (λ (n : ℕ). t < n) size_kept.0 h) d in (
+        undealt = λ t h at_once d.
+            let u = knows.undealt t (subst (λ (n : ℕ). t < n) size_kept.0 h) at_once d in (
               u.0,
               holder_kept w (with_cell w.table x c) (first_row t) size_kept.0 size_kept.1 ∙ u.1,
               λ n. ⊎_elim
@@ -148,7 +151,8 @@ module _ (w : World) (x : Row) (c : Cell) (owner : Row → ℕ) (k : Kept w)
                   (λ (y : row_eq (first_row t) x ≡ false). same_cell (first_row t) y ∙ u.2 n)
                   (row_cases (first_row t) x),
               (λ n. stays_count (first_row t) _ u.1 (u.3 n)),
-              λ n b e. u.4 n b (sym (stays_bound n) ∙ e),
+              (λ n b e. u.4 n b (sym (stays_bound n) ∙ e)),
+              λ n. ends_stay v.seen t (u.5 n),
             );
         mine = λ r h. let m = knows.mine r h in (m.0, holder_kept w (with_cell w.table x c) r size_kept.0 size_kept.1 ∙ m.1);
         calm = λ r h e. knows.calm r h (⊎_elim
@@ -172,6 +176,10 @@ module _ (w : World) (x : Row) (c : Cell) (owner : Row → ℕ) (k : Kept w)
         joined = λ r j h. stays_joined r j (knows.joined r j h);
         taken = λ r h. stays_taken r (knows.taken r h);
         bound = λ n b h. stays_bound n ∙ knows.bound n b h;
+        started = λ t s h. subst (λ (k : Course). HasStart k s) (sym (courses_stay t)) (knows.started t s h);
+        ended = λ t g h. subst (λ (k : Course). EndsAt k g) (sym (courses_stay t)) (knows.ended t g h);
+        lasts = λ t h. let k = knows.lasts t h in (ap (λ (n : ℕ). owner (behind_last n t)) size_kept.1 ∙ k.0, k.1, ends_stay v.seen t k.2);
+        lively = λ r h n. ends_stay v.seen r.thread (knows.lively r h n);
         binds = λ n b e. knows.binds n b (sym (stays_bound n) ∙ e);
       }
 
@@ -193,10 +201,9 @@ module _ (w : World) (x : Row) (c : Cell) (owner : Row → ℕ) (k : Kept w)
       rows = knows.rows ∙ sym size_kept.1;
       passes = knows.passes;
       seat = knows.seat;
-      running = λ t h. courses_stay t ∙ knows.running t (subst (λ (n : ℕ). t < n) size_kept.0 h);
-      undealt = λ t h d.
-          let u = knows.undealt t (subst (λ (n : ℕ). t < n) size_kept.0 h) d in
-          (u.0, holder_kept w (with_cell w.table x c) (first_row t) size_kept.0 size_kept.1 ∙ u.1, λ n. same_cell (first_row t) (row_ne (first_row t) x (λ e. n (inl (sym e)))) ∙ u.2 (λ o. n (inr o)), (λ n. stays_count (first_row t) _ u.1 (u.3 n)), λ n b e. u.4 n b (sym (stays_bound n) ∙ e));
+      undealt = λ t h at_once d.
+          let u = knows.undealt t (subst (λ (n : ℕ). t < n) size_kept.0 h) at_once d in
+          (u.0, holder_kept w (with_cell w.table x c) (first_row t) size_kept.0 size_kept.1 ∙ u.1, λ n. same_cell (first_row t) (row_ne (first_row t) x (λ e. n (inl (sym e)))) ∙ u.2 (λ o. n (inr o)), (λ n. stays_count (first_row t) _ u.1 (u.3 n)), (λ n b e. u.4 n b (sym (stays_bound n) ∙ e)), λ n. ends_stay v.seen t (u.5 (λ o. n (inr o))));
       mine = λ r h. let m = knows.mine r h in (m.0, holder_kept w (with_cell w.table x c) r size_kept.0 size_kept.1 ∙ m.1);
       calm = calm;
       staged = staged;
@@ -207,6 +214,10 @@ module _ (w : World) (x : Row) (c : Cell) (owner : Row → ℕ) (k : Kept w)
       joined = λ r j h. stays_joined r j (knows.joined r j h);
       taken = λ r h. stays_taken r (knows.taken r h);
       bound = λ n b h. stays_bound n ∙ knows.bound n b h;
+      started = λ t s h. subst (λ (k : Course). HasStart k s) (sym (courses_stay t)) (knows.started t s h);
+      ended = λ t g h. subst (λ (k : Course). EndsAt k g) (sym (courses_stay t)) (knows.ended t g h);
+      lasts = λ t h. let k = knows.lasts t h in (ap (λ (n : ℕ). owner (behind_last n t)) size_kept.1 ∙ k.0, k.1, ends_stay v.seen t k.2);
+      lively = λ r h n. ends_stay v.seen r.thread (knows.lively r h (λ o. n (inr o)));
       binds = λ n b e. knows.binds n b (sym (stays_bound n) ∙ e);
     }
       where
@@ -218,22 +229,24 @@ module _ {M : Type 0} where
   -- LEARNING, with no change of the table
 
   -- what is seen besides is true, and nothing is forgotten
-  learn : (w : World) (owner : Row → ℕ) (id : ℕ) (v : View M) (s : Seen) → Knows w owner id v → s.held ≡ v.seen.held → s.drafts ≡ v.seen.drafts
+  learn : (w : World) (owner : Row → ℕ) (id : ℕ) (v : View M) (s : Seen) → Knows w owner id v → s.held ≡ v.seen.held → s.drafts ≡ v.seen.drafts → s.lasts ≡ v.seen.lasts
       → ((q : Row) → Has v.seen.opened q → Has s.opened q)
       → ((n : NackName) (b : Binding) → Has v.seen.bound (n, b) → Has s.bound (n, b))
+      → ((t g : ℕ) → Has v.seen.ended (t, g) → Has s.ended (t, g))
       → ((q : Row) → Has s.opened q → is_fresh (cell_at w.table q) ≡ false)
       → ((q : Row) (p x : ℕ) → Has s.words (q, p, x) → (is_fresh (cell_at w.table q) ≡ false) × (p < 34) × (1 ≤ p) × (word_at w.table q p ≡ x))
       → ((q : Row) (j : Joined) → Has s.joined (q, j) → joined_at w.table q ≡ Some j)
       → ((q : Row) → Has s.taken q → is_taken (cell_at w.table q) ≡ true)
       → ((n : NackName) (b : Binding) → Has s.bound (n, b) → binding_at w.table n ≡ Some b)
+      → ((t stamp : ℕ) → Has s.started (t, stamp) → HasStart (course_at w.table t) stamp)
+      → ((t g : ℕ) → Has s.ended (t, g) → EndsAt (course_at w.table t) g)
       → Knows w owner id (at_stage v.stage s v)
-  learn w owner id v s k same_held same_drafts opened_more bound_more opened_true read_true joined_true taken_true bound_true = record {
+  learn w owner id v s k same_held same_drafts same_lasts opened_more bound_more ended_more opened_true read_true joined_true taken_true bound_true started_true ended_true = record {
     threads = k.threads;
     rows = k.rows;
     passes = k.passes;
     seat = k.seat;
-    running = k.running;
-    undealt = λ t h d. let u = k.undealt t h d in (u.0, u.1, (λ n. u.2 (λ o. n (opened_more _ o))), (λ n. u.3 (λ l. n (counted (first_row t) l))), λ m b e same. bound_more m b (u.4 m b e same));
+    undealt = λ t h at_once d. let u = k.undealt t h at_once d in (u.0, u.1, (λ n. u.2 (λ o. n (opened_more _ o))), (λ n. u.3 (λ l. n (counted (first_row t) l))), (λ m b e same. bound_more m b (u.4 m b e same)), λ n. more_ends t (u.5 (λ o. n (opened_more _ o))));
     mine = λ r h. k.mine r (held_before r h);
     calm = λ r h e. k.calm r (held_before r h) e;
     staged = k.staged;
@@ -244,9 +257,16 @@ module _ {M : Type 0} where
     joined = joined_true;
     taken = taken_true;
     bound = bound_true;
+    started = started_true;
+    ended = ended_true;
+    lasts = λ t h. let a = k.lasts t (subst (λ (ts : List ℕ). Has ts t) same_lasts h) in (a.0, a.1, more_ends t a.2);
+    lively = λ r h n. more_ends r.thread (k.lively r (held_before r h) (λ o. n (opened_more r o)));
     binds = λ n b e h. bound_more n b (k.binds n b e (held_before (bound_row n b) h));
   }
     where
+      more_ends : (t : ℕ) → SeesEnd w v.seen t → SeesEnd w s t
+      more_ends t sees g e = ended_more t g (sees g e)
+
       held_before : (r : Row) → Has s.held r → Has v.seen.held r
       held_before r h = subst (λ (rs : List Row). Has rs r) same_held h
 
@@ -259,13 +279,13 @@ module _ {M : Type 0} where
       → ((q : Row) → Has ts q → is_taken (cell_at w.table q) ≡ true)
       → Knows w owner id (at_stage v.stage (record v.seen { opened = r ∷ v.seen.opened; joined = js; taken = ts }) v)
   know_more w owner id v r js ts k f js_true ts_true =
-      learn w owner id v (record v.seen { opened = r ∷ v.seen.opened; joined = js; taken = ts }) k refl refl (λ q o. inr o) (λ n b h. h)
+      learn w owner id v (record v.seen { opened = r ∷ v.seen.opened; joined = js; taken = ts }) k refl refl refl (λ q o. inr o) (λ n b h. h) (λ t g h. h)
       (λ q h. ⊎_elim (λ (e : r ≡ q). ap (λ (y : Row). is_fresh (cell_at w.table y)) (sym e) ∙ f) (λ (o : Has v.seen.opened q). k.opened q o) h)
-      k.read js_true ts_true k.bound
+      k.read js_true ts_true k.bound k.started k.ended
 
   -- what stood for a thread at first was fetched
   pub knows_begun : (w : World) (owner : Row → ℕ) (id : ℕ) (v : View M) (r : Row) → Knows w owner id v → Knows w owner id (at_stage v.stage (see_begun r v.seen) v)
-  knows_begun w owner id v r k = learn w owner id v (see_begun r v.seen) k refl refl (λ q o. o) (λ n b h. h) k.opened k.read k.joined k.taken k.bound
+  knows_begun w owner id v r k = learn w owner id v (see_begun r v.seen) k refl refl refl (λ q o. o) (λ n b h. h) (λ t g h. h) k.opened k.read k.joined k.taken k.bound k.started k.ended
 
   pub learn_cell : (w : World) (owner : Row → ℕ) (id : ℕ) (v : View M) (r : Row) (c : Cell) → Knows w owner id v → cell_at w.table r ≡ c → Knows w owner id (saw r c v)
   learn_cell w owner id v r Fresh k e = k
@@ -289,15 +309,34 @@ module _ {M : Type 0} where
       took q (inr h) = k.taken q h
 
   pub learn_word : (w : World) (owner : Row → ℕ) (id : ℕ) (v : View M) (r : Row) (p x : ℕ) → Knows w owner id v → is_fresh (cell_at w.table r) ≡ false → 1 ≤ p → p < 34 → word_at w.table r p ≡ x → Knows w owner id (read_word r p x v)
-  learn_word w owner id v r p x k f a b e = learn w owner id v (see_word r p x v.seen) k refl refl (λ q o. o) (λ n c h. h) k.opened (λ q o y h. seen q o y h) k.joined k.taken k.bound
+  learn_word w owner id v r p x k f a b e = learn w owner id v (see_word r p x v.seen) k refl refl refl (λ q o. o) (λ n c h. h) (λ t g h. h) k.opened (λ q o y h. seen q o y h) k.joined k.taken k.bound k.started k.ended
     where
       seen : (q : Row) (o y : ℕ) → Has ((r, p, x) ∷ v.seen.words) (q, o, y) → (is_fresh (cell_at w.table q) ≡ false) × (o < 34) × (1 ≤ o) × (word_at w.table q o ≡ y)
       seen q o y (inl i) = subst (λ (z : Row × ℕ × ℕ). (is_fresh (cell_at w.table z.0) ≡ false) × (z.1 < 34) × (1 ≤ z.1) × (word_at w.table z.0 z.1 ≡ z.2)) i (f, b, a, e)
       seen q o y (inr h) = k.read q o y h
 
+  pub learn_course : (w : World) (owner : Row → ℕ) (id : ℕ) (v : View M) (p : ℕ) (c : Course) → Knows w owner id v → course_at w.table p ≡ c → Knows w owner id (saw_course p c v)
+  learn_course w owner id v p Unstarted k e = k
+  learn_course w owner id v p (Running start) k e =
+      learn w owner id v (see_course p (Running start) v.seen) k refl refl refl (λ q o. o) (λ n b h. h) (λ t g h. h) k.opened k.read k.joined k.taken k.bound (λ t s h. begun t s h) k.ended
+    where
+      begun : (t s : ℕ) → Has ((p, start) ∷ v.seen.started) (t, s) → HasStart (course_at w.table t) s
+      begun t s (inl i) = subst (λ (z : ℕ × ℕ). HasStart (course_at w.table z.0) z.1) i (subst (λ (c : Course). HasStart c start) (sym e) refl)
+      begun t s (inr h) = k.started t s h
+  learn_course w owner id v p (Ended start sync) k e =
+      learn w owner id v (see_course p (Ended start sync) v.seen) k refl refl refl (λ q o. o) (λ n b h. h) (λ t g h. inr h) k.opened k.read k.joined k.taken k.bound (λ t s h. begun t s h) (λ t g h. over t g h)
+    where
+      begun : (t s : ℕ) → Has ((p, start) ∷ v.seen.started) (t, s) → HasStart (course_at w.table t) s
+      begun t s (inl i) = subst (λ (z : ℕ × ℕ). HasStart (course_at w.table z.0) z.1) i (subst (λ (c : Course). HasStart c start) (sym e) refl)
+      begun t s (inr h) = k.started t s h
+
+      over : (t g : ℕ) → Has ((p, sync) ∷ v.seen.ended) (t, g) → EndsAt (course_at w.table t) g
+      over t g (inl i) = subst (λ (z : ℕ × ℕ). EndsAt (course_at w.table z.0) z.1) i (subst (λ (c : Course). EndsAt c sync) (sym e) refl)
+      over t g (inr h) = k.ended t g h
+
   pub learn_nack : (w : World) (owner : Row → ℕ) (id : ℕ) (v : View M) (n : NackName) (o : Option Binding) → Knows w owner id v → binding_at w.table n ≡ o → Knows w owner id (saw_nack n o v)
   learn_nack w owner id v n None k e = k
-  learn_nack w owner id v n (Some b) k e = learn w owner id v (see_bound n b v.seen) k refl refl (λ q o. o) (λ m c h. inr h) k.opened k.read k.joined k.taken (λ m c h. seen m c h)
+  learn_nack w owner id v n (Some b) k e = learn w owner id v (see_bound n b v.seen) k refl refl refl (λ q o. o) (λ m c h. inr h) (λ t g h. h) k.opened k.read k.joined k.taken (λ m c h. seen m c h) k.started k.ended
     where
       seen : (m : NackName) (c : Binding) → Has ((n, b) ∷ v.seen.bound) (m, c) → binding_at w.table m ≡ Some c
       seen m c (inl p) = ap (λ (z : NackName × Binding). binding_at w.table z.0) (sym p) ∙ e ∙ ap (λ (z : NackName × Binding). Some z.1) p
@@ -314,6 +353,12 @@ module _ (w : World) (x : Row) (p d : ℕ) (owner : Row → ℕ) (k : Kept w)
 
   words_stay : (r : Row) (q : ℕ) → is_row w.table r ≡ true → q < 34 → (row_eq r x ≡ false) ⊎ (q ≡ p → ⊥) → word_at (with_word w.table x p d) r q ≡ word_at w.table r q
   words_stay r q h b n = word_other w.table x r p q d row h high b n
+
+  lives_stay : (t : ℕ) → course_at (with_word w.table x p d) t ≡ course_at w.table t
+  lives_stay t = ap (λ (f : ℕ → Course). f t) (course_after_word w.table x p d row high)
+
+  ends_stay_draft : (s : Seen) (t : ℕ) → SeesEnd w s t → SeesEnd (with_table w (with_word w.table x p d)) s t
+  ends_stay_draft s t sees g e = sees g (subst (λ (k : Course). EndsAt k g) (lives_stay t) e)
 
   nacks_stay : (n : NackName) → binding_at (with_word w.table x p d) n ≡ binding_at w.table n
   nacks_stay n = ap (λ (f : NackName → Option Binding). f n) (binding_after_word w.table x p d row high)
@@ -340,8 +385,7 @@ module _ (w : World) (x : Row) (p d : ℕ) (owner : Row → ℕ) (k : Kept w)
       rows = knows.rows;
       passes = knows.passes;
       seat = knows.seat;
-      running = λ t h. ap (λ (f : ℕ → Course). f t) (course_after_word w.table x p d row high) ∙ knows.running t h;
-      undealt = λ t h e. let u = knows.undealt t h e in (u.0, holder_kept w (with_word w.table x p d) (first_row t) refl refl ∙ u.1, (λ n. cells_stay (first_row t) ∙ u.2 n), (λ n. counts t (first_row t) u.0 (held_row w (first_row t) _ u.1) u.3 n), λ n b g. u.4 n b (sym (nacks_stay n) ∙ g));
+      undealt = λ t h at_once e. let u = knows.undealt t h at_once e in (u.0, holder_kept w (with_word w.table x p d) (first_row t) refl refl ∙ u.1, (λ n. cells_stay (first_row t) ∙ u.2 n), (λ n. counts t (first_row t) u.0 (held_row w (first_row t) _ u.1) u.3 n), (λ n b g. u.4 n b (sym (nacks_stay n) ∙ g)), λ n. ends_stay_draft v.seen t (u.5 n));
       mine = λ r h. let m = knows.mine r h in (m.0, holder_kept w (with_word w.table x p d) r refl refl ∙ m.1);
       calm = λ r h e. knows.calm r h (sym (cells_stay r) ∙ e);
       staged = staged_draft id v.stage knows.staged;
@@ -352,6 +396,10 @@ module _ (w : World) (x : Row) (p d : ℕ) (owner : Row → ℕ) (k : Kept w)
       joined = λ r j h. ap joined_of (cells_stay r) ∙ knows.joined r j h;
       taken = λ r h. ap is_taken (cells_stay r) ∙ knows.taken r h;
       bound = λ n b h. nacks_stay n ∙ knows.bound n b h;
+      started = λ t s h. subst (λ (k : Course). HasStart k s) (sym (lives_stay t)) (knows.started t s h);
+      ended = λ t g h. subst (λ (k : Course). EndsAt k g) (sym (lives_stay t)) (knows.ended t g h);
+      lasts = λ t h. let k = knows.lasts t h in (k.0, k.1, ends_stay_draft v.seen t k.2);
+      lively = λ r h n. ends_stay_draft v.seen r.thread (knows.lively r h n);
       binds = λ n b g. knows.binds n b (sym (nacks_stay n) ∙ g);
     }
 

@@ -1,6 +1,6 @@
 -- What a pass has seen is true of the world, and so agrees with itself and with what it finds.
-use Rattle.std.proofs.Common.{◌≡◌, ◌≢◌, ℕ, ◌+◌, ◌*◌, ◌-◌, ◌<◌, ◌≤◌, Bool, true, false, List, sym, refl, ap, ◌∙◌, subst, inl, inr, ◌⊎◌, ⊎_elim, arith, unwrap_or, Option, Some, None, eqb, cond, max, length, slice_get}
-use Rattle.std.proofs.lemmas.Bool.{lt-ltb, ne_eqb, true≢false}
+use Rattle.std.proofs.Common.{◌≡◌, ◌≢◌, ℕ, zero, suc, ◌+◌, ◌*◌, ◌-◌, ◌<◌, ◌≤◌, Bool, true, false, List, sym, refl, ap, ◌∙◌, subst, inl, inr, ◌⊎◌, ⊎_elim, arith, unwrap_or, Option, Some, None, eqb, cond, max, length, slice_get}
+use Rattle.std.proofs.lemmas.Bool.{cases_Bool, lt-ltb, ne_eqb, true≢false}
 use Rattle.protocol_values.specs.Words.{count_of, head_of, offer_of, is_word_for}
 use Rattle.protocol_values.specs.declared.Direction.{Direction}
 use Rattle.protocol_values.specs.declared.Offer.{Offer}
@@ -8,23 +8,28 @@ use Rattle.protocol_values.specs.declared.NackName.{NackName}
 use Rattle.protocol_values.specs.declared.Row.{Row}
 use Rattle.protocol_values.specs.declared.Joined.{Joined}
 use Rattle.protocol_values.specs.declared.Cell.{Cell}
-use Rattle.protocol.specs.Tables.{Table, course_at, marks_at, start_of, is_fresh, cell_at, joined_at, offers_meet, offer_at, count_at, row_stamp, last_stamp, word_at, stands_alone, binding_at, bound_row, encloses, nack_by, stamped, cause_by, cause_of, cause_at, is_taken}
+use Rattle.protocol.specs.Tables.{Table, course_at, marks_at, start_of, is_fresh, cell_at, joined_at, offers_meet, offer_at, count_at, row_stamp, last_stamp, word_at, stands_alone, binding_at, bound_row, encloses, nack_by, stamped, cause_by, cause_of, cause_at, end_by, end_via, is_taken}
 use Rattle.protocol_values.specs.Values.{joined_of}
 use Rattle.protocol_values.specs.declared.Base.{Base}
 use Rattle.protocol_values.specs.declared.Base.TheVariants.{Send, Recv, Always, OnNack, OnEnd, Never}
+use Rattle.protocol_values.specs.declared.Cell.TheVariants.{Fresh}
+use Rattle.protocol_values.specs.declared.Course.{Course}
+use Rattle.protocol_values.specs.declared.Course.TheVariants.{Unstarted, Running, Ended}
 use Rattle.protocol.specs.Worlds.{World, joined_with, granted_by}
 use Rattle.protocol.specs.Kept.{IsFormed, Kept, IsSideOf}
-use Rattle.protocol.proofs.Readings.{course_outside, count_open, row_of_open, offer_none, joined_ranged, nack_of_bound, binding_ranged}
+use Rattle.protocol.proofs.Readings.{count_open, row_of_open, offer_none, joined_ranged, nack_of_bound, binding_ranged}
 use Rattle.protocol.proofs.Places.{nack_inside, row_inside}
 use Rattle.protocol.proofs.Causes.{cause_alone, enabling_from}
 use Rattle.protocol.proofs.Linking.{fresh_not_joined, some_inj, naming, partner_open, cases_Option}
 use Rattle.protocol.proofs.Lawfulness.{chosen_there}
 use Rattle.protocol.proofs.Keeping.{few_commits, taken_before, held_row, granted_is}
 use Rattle.cell_table.specs.declared.view.View.{View}
-use Rattle.cell_table.specs.Sight.{Has, HaveDirection, HaveOffer, HasSeenLast, CanJoin, IsDraft, SawChosen, SeesNoOffer, SeesOffer, Coherent}
+use Rattle.cell_table.specs.Sight.{EndsAt, Has, HaveDirection, HaveOffer, HasSeenLast, CanJoin, IsDraft, SawChosen, SeesNoOffer, SeesOffer, Coherent}
 use Rattle.cell_table.specs.Nacks.{CanGrant, SawCause, SawEnabled}
-use Rattle.cell_table.specs.Views.{Knows}
+use Rattle.cell_table.specs.Views.{Knows, behind_last}
 use Rattle.cell_table.specs.Told.{Agrees}
+use Rattle.cell_table.proofs.Courses.{ended_within, fresh_is, has_ended, has_started, one_end_of, opened_before, start_is, taken_below}
+use Rattle.cell_table.proofs.Following.{place_behind, place_last}
 use Rattle.cell_table.proofs.Directions.{GoesIn, offer_headed, offers_meet_as}
 use Rattle.cell_table.proofs.Offers.{atom_place, few, same_read}
 
@@ -93,18 +98,10 @@ module _ {M : Type 0} where
         ∙ offers_meet_as can.my_direction can.their_direction a.0 b.0 a.2 b.2
         ∙ can.meet
 
-    -- no start has a stamp
-    start_known : (p : ℕ) → start_of (course_at w.table p) ≡ 0
-    start_known p = ⊎_elim
-        (λ (h : p < w.table.threads). ap start_of (k.running p h))
-        (λ (h : w.table.threads ≤ p). ap start_of (course_outside w.table p h))
-        (Rattle.std.proofs.lemmas.Bool.cases_lt p w.table.threads)
-
-    last_known : (r : Row) (stamp : ℕ) → HasSeenLast v.seen r stamp → last_stamp (marks_at w.table) (joined_at w.table) r ≡ stamp
+    pub last_known : (r : Row) (stamp : ℕ) → HasSeenLast v.seen r stamp → last_stamp (marks_at w.table) (joined_at w.table) r ≡ stamp
     last_known r stamp (inl h) =
         ap (λ (n : ℕ). cond (eqb n 0) (start_of (course_at w.table r.thread)) (row_stamp (joined_at w.table (record { thread = r.thread; sync = n - 1 })))) h.0
-        ∙ start_known r.thread
-        ∙ sym h.1
+        ∙ start_is (course_at w.table r.thread) stamp (k.started r.thread stamp h.1)
     last_known r stamp (inr h) =
         ap (λ (y : Bool). cond y (start_of (course_at w.table r.thread)) (row_stamp (joined_at w.table (record { thread = r.thread; sync = r.sync - 1 })))) (ne_eqb r.sync 0 h.1)
         ∙ ap row_stamp (k.joined (record { thread = r.thread; sync = r.sync - 1 }) h.0 h.2) ∙ sym h.3
@@ -129,12 +126,21 @@ module _ {M : Type 0} where
       outside = ap (encloses e.binding.scope) (chosen_known (bound_row n e.binding) j.own e.offer e.chosen) ∙ e.outside;
     })
 
+    end_known : (p g s : ℕ) → EndsAt (course_at w.table p) g → last_stamp (marks_at w.table) (joined_at w.table) (record { thread = p; sync = g }) ≡ s → end_by (marks_at w.table) (joined_at w.table) p ≡ Some s
+    unfolding end_by
+    end_known p g s at last = by (course_at w.table p) at
+      where
+        by : (c : Course) → EndsAt c g → end_via (marks_at w.table) (joined_at w.table) p c ≡ Some s
+        by Unstarted h = absurd h
+        by (Running start) h = absurd h
+        by (Ended start sync) h = ap (λ (n : ℕ). Some (last_stamp (marks_at w.table) (joined_at w.table) (record { thread = p; sync = n }))) h ∙ ap (λ (n : ℕ). Some n) last
+
     cause_known : (b : Base) (s : ℕ) → SawCause v.seen b s → cause_by (joined_at w.table) (offer_at w.table) (marks_at w.table) b ≡ Some s
     cause_known (Send c m) s h = absurd h
     cause_known (Recv c) s h = absurd h
     cause_known (Always m) s h = ap (λ (x : ℕ). Some x) (sym h)
     cause_known (OnNack n) s h = ap stamped (enabled_known n h.0 h.1) ∙ ap (λ (x : ℕ). Some x) (sym h.2)
-    cause_known (OnEnd p) s h = absurd h
+    cause_known (OnEnd p) s h = end_known p h.0 s (k.ended p h.0 h.1) (last_known (record { thread = p; sync = h.0 }) s h.2)
     cause_known Never s h = absurd h
 
     pub granted_known : (r : Row) (n : ℕ) (j : Joined) (can : CanGrant v.seen r n j) → (cause_at w.table r n ≡ Some can.cause) × (granted_by w.table r n ≡ j)
@@ -166,6 +172,12 @@ module _ {M : Type 0} where
         (λ (e : (seat : ℕ) × (Rattle.protocol.specs.Worlds.holder_at w r ≡ Some seat)). held_row w r e.0 e.1)
         (cases_Option (Rattle.protocol.specs.Worlds.holder_at w r))
 
+    fresh_past : (r : Row) (g : ℕ) → EndsAt (course_at w.table r.thread) g → g ≤ r.sync → cell_at w.table r ≡ Fresh
+    fresh_past r g e past = ⊎_elim
+        (λ (f : is_fresh (cell_at w.table r) ≡ true). fresh_is (cell_at w.table r) f)
+        (λ (o : is_fresh (cell_at w.table r) ≡ false). let before = opened_before w r g kept o e in absurd (omega (arith, past, before)))
+        (cases_Bool (is_fresh (cell_at w.table r)))
+
     pub coherent : Coherent v.threads v.rows v.seen
     coherent = record {
       formed = λ r p x h. let a = k.read r p x h in ap (is_word_for p) (sym a.3) ∙ kept.formed.rows r p (row_of_open w.table r a.0) a.1;
@@ -189,6 +201,21 @@ module _ {M : Type 0} where
           let t = offer_known p.0 p.1 theirs b in
           (λ x. offers_meet (sym m x) (sym t x)) ∙ (side r j p h e).meets;
       one_bound = λ n a b g h. some_inj a b (sym (k.bound n a g) ∙ k.bound n b h);
+      one_start = λ t a b g h. sym (start_is (course_at w.table t) a (k.started t a g)) ∙ start_is (course_at w.table t) b (k.started t b h);
+      started = λ t s h.
+          let low = has_started w.table t s (k.started t s h) in
+          let few = few_commits w.table.threads w.table.rows (joined_at w.table) (offer_at w.table) kept.few_threads kept.few_rows in
+          let bounded = kept.linked.starts t in
+          let is = start_is (course_at w.table t) s (k.started t s h) in
+          let threads : w.table.threads ≡ v.threads = sym k.threads in
+          (omega (arith, low, threads), omega (arith, few, bounded, is));
+      one_end = λ t a b g h. one_end_of (course_at w.table t) a b (k.ended t a g) (k.ended t b h);
+      ended = λ t g h.
+          let low = has_ended w.table t g (k.ended t g h) in
+          let threads : w.table.threads ≡ v.threads = sym k.threads in
+          let rows : w.table.rows ≡ v.rows = sym k.rows in
+          let within = ended_within w t g kept (k.ended t g h) in
+          (omega (arith, low, threads), omega (arith, within, rows));
       bound = λ n b h.
           let e = k.bound n b h in
           let i = nack_inside w.table n (nack_of_bound w.table n b e) in
@@ -211,12 +238,15 @@ module _ {M : Type 0} where
             let a = naming (Some j) r n in
             let same = some_inj j a.way a.is in
             ap is_fresh (sym e) ∙ ap (λ (y : Row). is_fresh (cell_at w.table y)) (sym a.row) ∙ open_partner q j a.place h (ap (λ (y : Joined). y.partner) same ∙ a.partner);
+        below_end = λ g h below. ap is_taken (sym e) ∙ taken_below w r g kept (k.ended r.thread g h) below;
+        past_end = λ g h past. sym e ∙ fresh_past r g (k.ended r.thread g h) past;
         in_turn = λ q same below h. ap is_taken (sym e) ∙ taken_before w kept r q same below (⊎_elim
             (λ (o : Has v.seen.opened q). inl (k.opened q o))
             (λ (o : Has v.seen.held q). inr (v.seat, (k.mine q o).1))
             h);
       },
-      λ h claimed_now. k.calm r h (e ∙ claimed_now),
+      (λ h claimed_now. k.calm r h (e ∙ claimed_now)),
+      λ last below. ap is_taken (sym e) ∙ place_behind w r (behind_last w.table.rows r.thread) kept refl (let rows : v.rows ≡ w.table.rows = k.rows in omega (arith, below, rows)) (place_last w owner id v k r.thread last),
     )
 
   -- OFFERS THAT WERE SEEN are those of the table, and those that were seen to lack are not there

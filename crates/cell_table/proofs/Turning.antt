@@ -1,31 +1,34 @@
 -- The rule of the table is kept by a call that learns, and by a step of the protocol.
-use Rattle.std.proofs.Common.{slice_set, Option, ◌⊎◌, ◌≡◌, ◌≢◌, ◌<◌, ◌≤◌, ℕ, zero, suc, Bool, cond, List, [], ◌∷◌, length, sym, refl, ap, ◌∙◌, subst, ⊎_elim, arith}
+use Rattle.std.proofs.Common.{slice_set, Option, ◌⊎◌, ◌≡◌, ◌≢◌, ◌<◌, ◌≤◌, ℕ, zero, suc, Bool, true, false, cond, List, [], ◌∷◌, length, sym, refl, ap, ◌∙◌, subst, ⊎_elim, arith}
 use Rattle.std.proofs.lemmas.Bool.{eq-eqb, ne_eqb}
 use Rattle.std.proofs.lemmas.List.{length-set}
 use mathlib.Core.Option.{Option as Maybe, some}
 use lib.ListN.{get_elem?}
 use Rattle.atomic_table.specs.Table.{State}
 use Rattle.atomic_table.proofs.Lists.{at_set}
+use Rattle.protocol_values.specs.declared.Course.TheVariants.{Unstarted, Running}
 use Rattle.protocol_values.specs.declared.Seat.{Seat}
 use Rattle.protocol_values.specs.declared.Step.{Step}
 use Rattle.protocol_values.specs.declared.Step.TheVariants.{Open}
 use Rattle.protocol_values.specs.declared.Row.{Row}
 use Rattle.protocol.specs.Ledgers.{Ledger, ledger_of}
 use Rattle.protocol.specs.Standing.{AreResults, Result, Stands}
-use Rattle.protocol.specs.Worlds.{World, start_world, Allowed, after_step}
+use Rattle.protocol.specs.Worlds.{HasEnded, IsAlive, World, start_world, Allowed, after_step, waits}
 use Rattle.protocol.proofs.Onward.{grows-step}
 use Rattle.protocol.proofs.Standing.{results-stay}
 use Rattle.protocol.proofs.Playing.{plays_more}
 use Rattle.cell_table.specs.declared.view.View.{View}
 use Rattle.cell_table.specs.declared.view.Shape.{Shape}
-use Rattle.cell_table.specs.Sight.{Coherent, Has}
+use Rattle.cell_table.specs.Sight.{Coherent, Has, IsStand, SawEnded}
 use Rattle.cell_table.specs.Views.{Knows, did}
 use Rattle.cell_table.proofs.Truths.{coherent}
 use Rattle.protocol.specs.Kept.{Kept}
 use Rattle.protocol.proofs.Keeping.{kept_schedule}
 use Rattle.protocol.proofs.LedgerLemmas.{kept_start}
-use Rattle.cell_table.specs.Rule.{Housed, Interleaves, IsToBegin, Keeps, Move, at_seat, in_order, steps_by}
-use Rattle.cell_table.proofs.Housing.{housed_step, housed_view}
+use Rattle.cell_table.specs.Rule.{Housed, Interleaves, IsToBegin, Keeps, Move, at_seat, beginning, in_order, steps_by}
+use Rattle.cell_table.proofs.Courses.{KeepsLives, lives_step}
+use Rattle.cell_table.proofs.Following.{alive_unseen, stand_ends}
+use Rattle.cell_table.proofs.Housing.{some_or_none, housed_step, housed_view}
 use Rattle.cell_table.proofs.Seating.{MovesOn, Stays, seated_seen, seated_step}
 
 module _ {M : Type 0} where
@@ -86,21 +89,33 @@ module _ {M : Type 0} where
   }
 
   -- what all views have at first, one of them being new
-  pub firsts_with : (vs : List (View M)) (id : ℕ) (v w : View M) (first : List M) → get_elem? vs id ≡ some v → w.first ≡ v.first → 0 < v.threads
-      → ((j : ℕ) (u : View M) → get_elem? vs j ≡ some u → 0 < u.threads → u.first ≡ first)
-      → (j : ℕ) (u : View M) → get_elem? (slice_set vs id w) j ≡ some u → 0 < u.threads → u.first ≡ first
+  pub firsts_with : (vs : List (View M)) (id : ℕ) (v w : View M) (first : List M × ℕ) → get_elem? vs id ≡ some v → beginning w ≡ beginning v → 0 < v.threads
+      → ((j : ℕ) (u : View M) → get_elem? vs j ≡ some u → 0 < u.threads → beginning u ≡ first)
+      → (j : ℕ) (u : View M) → get_elem? (slice_set vs id w) j ≡ some u → 0 < u.threads → beginning u ≡ first
   firsts_with vs id v w first view same at_table all j u e t = ⊎_elim
-      (λ (a : (j ≡ id) × (w ≡ u)). ap (λ (z : View M). z.first) (sym a.1) ∙ same ∙ all id v view at_table)
+      (λ (a : (j ≡ id) × (w ≡ u)). ap (λ (z : View M). beginning z) (sym a.1) ∙ same ∙ all id v view at_table)
       (λ (a : (j ≢ id) × (get_elem? vs j ≡ some u)). all j u a.1 t)
       (at_set vs id j w u e)
 
 module _ {M : Type 0} (stands : Stands M) where
   -- the world of the rule is one that all steps keep
   pub world_kept : (shape : Shape M) (s : State (Option M) (View M)) (k : Keeps stands shape s) → Kept k.world
-  world_kept shape s k = kept_schedule _ k.world (in_order k.moves) (kept_start shape.threads shape.rows shape.passes 0 k.few_threads k.few_rows) k.played
+  world_kept shape s k = kept_schedule _ k.world (in_order k.moves) (kept_start shape.threads shape.rows shape.passes shape.later k.few_threads k.few_rows) k.played
+
+  -- a thread at a place of which the pass stands has not ended, unless the pass has seen it so; in a table of machines none has
+  pub alive_known : (shape : Shape M) (s : State (Option M) (View M)) (k : Keeps stands shape s) (id : ℕ) (v : View M) (r : Row) → Knows k.world k.owner id v → r.thread < k.world.table.threads → IsStand v.rows v.seen r
+      → (¬ (0 < length shape.first.value.items) → ¬ SawEnded v.seen r.thread) → IsAlive k.world r.thread
+  alive_known shape s k id v r knows inside stand unseen = ⊎_elim
+      (λ (empty : length shape.first.value.items ≡ 0). alive_unseen k.world v.seen r.thread (stand_ends k.world k.owner id v knows r stand) (unseen (λ some_first. omega (arith, empty, some_first))))
+      (λ (some_first : 0 < length shape.first.value.items). λ ended. by (waits shape.later r.thread) (subst HasEnded (k.courses some_first r.thread inside) ended))
+      (some_or_none shape.first.value.items)
+    where
+      by : (b : Bool) → HasEnded (cond b Unstarted (Running 0)) → ⊥
+      by true e = e
+      by false e = e
 
   -- the table stays, and one pass knows more; what the slots hold then is given
-  pub keeps_seen : (shape : Shape M) (s : State (Option M) (View M)) (k : Keeps stands shape s) (id : ℕ) (v w : View M) (ws : List ℕ) (hs : List (Maybe (Option M))) → get_elem? s.views id ≡ some v → 0 < v.threads → w.seat ≡ v.seat → w.made ≡ v.made → w.results ≡ v.results → w.first ≡ v.first → Stays v w
+  pub keeps_seen : (shape : Shape M) (s : State (Option M) (View M)) (k : Keeps stands shape s) (id : ℕ) (v w : View M) (ws : List ℕ) (hs : List (Maybe (Option M))) → get_elem? s.views id ≡ some v → 0 < v.threads → w.seat ≡ v.seat → w.made ≡ v.made → w.results ≡ v.results → beginning w ≡ beginning v → Stays v w
       → ws ≡ s.words → Knows k.world k.owner id w
       → (0 < length shape.first.value.items → Housed stands shape.first.value.items k.world hs (slice_set s.views id w))
       → Keeps stands shape (record { words = ws; homes = hs; views = slice_set s.views id w })
@@ -115,28 +130,29 @@ module _ {M : Type 0} (stands : Stands M) where
     owner = k.owner;
     knows = views_with s.views id w k.world k.owner (λ j u n e t. k.knows j u e t) knows;
     seated = seated_seen s.views id v w view stays seat made k.seated;
-    firsts = firsts_with s.views id v w shape.first.value.items view first at_table k.firsts;
+    firsts = firsts_with s.views id v w (shape.first.value.items, shape.later) view first at_table k.firsts;
+    courses = k.courses;
     housed = house;
     results = results_with s.views id w (ledger_of k.world.table) (λ j u t rs n e h. k.results j u t rs e h) (λ t rs h. k.results id v t rs view (subst (λ (l : List (ℕ × List Result)). Has l (t, rs)) seen h));
   }
 
   -- where the slots are as they were
-  pub keeps_view : (shape : Shape M) (s : State (Option M) (View M)) (k : Keeps stands shape s) (id : ℕ) (v w : View M) (ws : List ℕ) → get_elem? s.views id ≡ some v → 0 < v.threads → w.seat ≡ v.seat → w.made ≡ v.made → w.results ≡ v.results → w.first ≡ v.first → Stays v w
+  pub keeps_view : (shape : Shape M) (s : State (Option M) (View M)) (k : Keeps stands shape s) (id : ℕ) (v w : View M) (ws : List ℕ) → get_elem? s.views id ≡ some v → 0 < v.threads → w.seat ≡ v.seat → w.made ≡ v.made → w.results ≡ v.results → beginning w ≡ beginning v → Stays v w
       → ((r : Row) → IsToBegin w r → IsToBegin v r) → ws ≡ s.words → Knows k.world k.owner id w → Keeps stands shape (record { words = ws; homes = s.homes; views = slice_set s.views id w })
   keeps_view shape s k id v w ws view at_table seat made seen first stays begins same knows =
       keeps_seen shape s k id v w ws s.homes view at_table seat made seen first stays same knows
       (λ some_first. housed_view stands shape.first.value.items k.world s.homes s.views id v w view at_table begins (k.housed some_first))
 
   -- the protocol's step is made by the pass at its seat, and it knows more; what the slots hold then is given
-  pub keeps_housed : (shape : Shape M) (s : State (Option M) (View M)) (k : Keeps stands shape s) (id : ℕ) (v w : View M) (ws : List ℕ) (hs : List (Maybe (Option M))) (owner : Row → ℕ) → get_elem? s.views id ≡ some v → 0 < v.threads → w.seat ≡ v.seat → w.made ≡ v.made → w.first ≡ v.first
-      → (step : Step) → Allowed k.world (record { 0 = v.seat }) step → MovesOn v w step
+  pub keeps_housed : (shape : Shape M) (s : State (Option M) (View M)) (k : Keeps stands shape s) (id : ℕ) (v w : View M) (ws : List ℕ) (hs : List (Maybe (Option M))) (owner : Row → ℕ) → get_elem? s.views id ≡ some v → 0 < v.threads → w.seat ≡ v.seat → w.made ≡ v.made → beginning w ≡ beginning v
+      → (step : Step) → (0 < length shape.first.value.items → KeepsLives step) → Allowed k.world (record { 0 = v.seat }) step → MovesOn v w step
       → ((t : ℕ) (rs : List Result) → Has w.results (t, rs) → Has v.results (t, rs) ⊎ AreResults (ledger_of (after_step k.world (record { 0 = v.seat }) step).table) t rs)
       → (after_step k.world (record { 0 = v.seat }) step).table ≡ record { threads = shape.threads; rows = shape.rows; words = ws }
       → ((j : ℕ) (u : View M) → j ≢ id → get_elem? s.views j ≡ some u → 0 < u.threads → Knows (after_step k.world (record { 0 = v.seat }) step) owner j u)
       → Knows (after_step k.world (record { 0 = v.seat }) step) owner id w
       → (0 < length shape.first.value.items → Housed stands shape.first.value.items (after_step k.world (record { 0 = v.seat }) step) hs (slice_set s.views id (did step w)))
       → Keeps stands shape (record { words = ws; homes = hs; views = slice_set s.views id (did step w) })
-  keeps_housed shape s k id v w ws hs owner view at_table seat made first step allowed on seen same others knows house =
+  keeps_housed shape s k id v w ws hs owner view at_table seat made first step lives allowed on seen same others knows house =
       let at : Seat = record { 0 = v.seat } in
       let kept = world_kept shape s k in
       let grows = grows-step k.world at step kept allowed in
@@ -148,28 +164,29 @@ module _ {M : Type 0} (stands : Stands M) where
         moves = record { pass = id; seat = at; step = step } ∷ k.moves;
         interleaved = one_more k.moves s.views id v w step view k.interleaved seat made;
         world = after_step k.world at step;
-        played = plays_more (start_world shape.threads shape.rows shape.passes 0) k.world (in_order k.moves) (at, step) k.played allowed;
+        played = plays_more (start_world shape.threads shape.rows shape.passes shape.later) k.world (in_order k.moves) (at, step) k.played allowed;
         table = same;
         owner = owner;
         knows = views_with s.views id (did step w) (after_step k.world at step) owner others knows;
         seated = seated_step s.views id v w step view at_table seat made on k.seated;
-        firsts = firsts_with s.views id v (did step w) shape.first.value.items view first at_table k.firsts;
+        firsts = firsts_with s.views id v (did step w) (shape.first.value.items, shape.later) view first at_table k.firsts;
+        courses = λ some_first t h. lives_step k.world at step allowed (lives some_first) t ∙ k.courses some_first t (subst (λ (n : ℕ). t < n) grows.threads h);
         housed = house;
         results = results_with s.views id (did step w) (ledger_of (after_step k.world at step).table) (λ j u t rs n e h. stays j t u rs e h)
             (λ t rs h. ⊎_elim (λ (old : Has v.results (t, rs)). stays id t v rs view old) (λ (new : AreResults (ledger_of (after_step k.world at step).table) t rs). new) (seen t rs h));
       }
 
   -- where the step opens no row, and leaves the slots as they are
-  pub keeps_step : (shape : Shape M) (s : State (Option M) (View M)) (k : Keeps stands shape s) (id : ℕ) (v w : View M) (ws : List ℕ) (owner : Row → ℕ) → get_elem? s.views id ≡ some v → 0 < v.threads → w.seat ≡ v.seat → w.made ≡ v.made → w.first ≡ v.first
+  pub keeps_step : (shape : Shape M) (s : State (Option M) (View M)) (k : Keeps stands shape s) (id : ℕ) (v w : View M) (ws : List ℕ) (owner : Row → ℕ) → get_elem? s.views id ≡ some v → 0 < v.threads → w.seat ≡ v.seat → w.made ≡ v.made → beginning w ≡ beginning v
       → ((r : Row) → IsToBegin w r → IsToBegin v r)
-      → (step : Step) → ((r : Row) → step ≡ Open r → ⊥) → Allowed k.world (record { 0 = v.seat }) step → MovesOn v w step
+      → (step : Step) → ((r : Row) → step ≡ Open r → ⊥) → KeepsLives step → Allowed k.world (record { 0 = v.seat }) step → MovesOn v w step
       → ((t : ℕ) (rs : List Result) → Has w.results (t, rs) → Has v.results (t, rs) ⊎ AreResults (ledger_of (after_step k.world (record { 0 = v.seat }) step).table) t rs)
       → (after_step k.world (record { 0 = v.seat }) step).table ≡ record { threads = shape.threads; rows = shape.rows; words = ws }
       → ((j : ℕ) (u : View M) → j ≢ id → get_elem? s.views j ≡ some u → 0 < u.threads → Knows (after_step k.world (record { 0 = v.seat }) step) owner j u)
       → Knows (after_step k.world (record { 0 = v.seat }) step) owner id w
       → Keeps stands shape (record { words = ws; homes = s.homes; views = slice_set s.views id (did step w) })
-  keeps_step shape s k id v w ws owner view at_table seat made first begins step opens_none allowed on seen same others knows =
-      keeps_housed shape s k id v w ws s.homes owner view at_table seat made first step allowed on seen same others knows
+  keeps_step shape s k id v w ws owner view at_table seat made first begins step opens_none lives allowed on seen same others knows =
+      keeps_housed shape s k id v w ws s.homes owner view at_table seat made first step (λ some_first. lives) allowed on seen same others knows
       (λ some_first. housed_step stands shape.first.value.items k.world (record { 0 = v.seat }) step s.homes s.views id v (did step w) (world_kept shape s k) allowed opens_none view at_table begins (k.housed some_first))
 
   -- WHAT A PASS HAS SEEN agrees with itself, at any moment

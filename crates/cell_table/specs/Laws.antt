@@ -1,17 +1,18 @@
 -- What the rule of the table says of a moment between two atomic steps.
-use Rattle.std.specs.Prelude.{◌≡◌, ◌<◌, ℕ, List, [], Option, None, Some, true, false, length, slice_get}
+use Rattle.std.specs.Prelude.{◌≡◌, ◌<◌, ℕ, List, [], Option, None, Some, true, false, if◌then◌else◌, length, slice_get}
 use mathlib.Core.Option.{some}
 use lib.ListN.{get_elem?}
 use Rattle.atomic_table.specs.Table.{State}
 use Rattle.protocol_values.specs.declared.Binding.{Binding}
 use Rattle.protocol_values.specs.declared.Cell.TheVariants.{Fresh}
+use Rattle.protocol_values.specs.declared.Course.TheVariants.{Unstarted, Running}
 use Rattle.protocol_values.specs.declared.NackName.{NackName}
 use Rattle.protocol_values.specs.declared.Row.{Row}
-use Rattle.protocol_values.specs.declared.Step.TheVariants.{Take}
+use Rattle.protocol_values.specs.declared.Step.TheVariants.{Finish, Start, Take}
 use Rattle.protocol.specs.Ledgers.{ledger_of, IsLawful}
 use Rattle.protocol.specs.Standing.{AreResults, EachStands, Result, SomeStands, Stands}
-use Rattle.protocol.specs.Tables.{binding_at, bound_row, cell_at, is_fresh, is_taken, joined_at, names}
-use Rattle.protocol.specs.Worlds.{Plays, start_world, World}
+use Rattle.protocol.specs.Tables.{binding_at, bound_row, cell_at, course_at, is_fresh, is_taken, joined_at, names}
+use Rattle.protocol.specs.Worlds.{Plays, start_world, waits, World}
 use Rattle.cell_table.specs.declared.view.Shape.{Shape}
 use Rattle.cell_table.specs.declared.view.View.{View}
 use Rattle.cell_table.specs.Rule.{HasActed, Interleaves, IsAt, IsHome, IsToBegin, Move, in_order, table_of}
@@ -23,7 +24,7 @@ pub record IsLawfulMoment {M : Type 0} (stands : Stands M) (shape : Shape M) (s 
   pub lawful : IsLawful (ledger_of (table_of shape s))
   -- There is one world with these words, and one owner for each row. The passes' own steps, interleaved, lead to it from the table's
   -- start, and nobody has made any other step; and what each pass has seen is true of it.
-  pub played_and_known : (moves : List Move) × (world : World) × (owner : Row → ℕ) × Plays (start_world shape.threads shape.rows shape.passes 0) (in_order moves) world × (world.table ≡ table_of shape s)
+  pub played_and_known : (moves : List Move) × (world : World) × (owner : Row → ℕ) × Plays (start_world shape.threads shape.rows shape.passes shape.later) (in_order moves) world × (world.table ≡ table_of shape s)
       × Interleaves moves s.views × ((id : ℕ) (v : View M) → IsAt s id v → Knows world owner id v)
   -- the results of threads that a pass has seen are those that the commits of their rows give
   pub results : (id : ℕ) (v : View M) (t : ℕ) (results : List Result) → IsAt s id v → Has v.results (t, results) → AreResults (ledger_of (table_of shape s)) t results
@@ -37,11 +38,14 @@ pub record IsLawfulMoment {M : Type 0} (stands : Stands M) (shape : Shape M) (s 
   -- no row is held by two passes, and none was taken by two
   pub one_holder : (i j : ℕ) (u v : View M) (r : Row) → IsAt s i u → IsAt s j v → Has u.seen.held r → Has v.seen.held r → i ≡ j
   pub one_taker : (i j : ℕ) (u v : View M) (r : Row) → IsAt s i u → IsAt s j v → Has u.made (Take r) → Has v.made (Take r) → i ≡ j
+  -- no thread was started by two, and none was ended by two
+  pub one_starter : (i j : ℕ) (u v : View M) (p : ℕ) (q r : Row) → IsAt s i u → IsAt s j v → Has u.made (Start q p) → Has v.made (Start r p) → i ≡ j
+  pub one_end : (i j : ℕ) (u v : View M) (q r : Row) → IsAt s i u → IsAt s j v → Has u.made (Finish q) → Has v.made (Finish r) → q.thread ≡ r.thread → i ≡ j
   -- two passes that have made a step, or hold a row, have two seats
   pub one_seat : (i j : ℕ) (u v : View M) → IsAt s i u → IsAt s j v → HasActed u → HasActed v → u.seat ≡ v.seat → i ≡ j
   -- a nack that is bound was bound by the pass that holds its row
   pub binder : (n : NackName) (b : Binding) → binding_at (table_of shape s) n ≡ Some b → (id : ℕ) × (v : View M) × IsAt s id v × Has v.made (bind_of n b) × Has v.seen.held (bound_row n b)
   -- a pending row is named by one row
   pub named_once : (q r p : Row) → names (joined_at (table_of shape s) q) p ≡ true → names (joined_at (table_of shape s) r) p ≡ true → q ≡ r
-  -- where no pass has made a step, every row is Fresh and no nack is bound
-  pub untouched : ((i : ℕ) (v : View M) → get_elem? s.views i ≡ some v → v.made ≡ []) → ((r : Row) → cell_at (table_of shape s) r ≡ Fresh) × ((n : NackName) → binding_at (table_of shape s) n ≡ None)
+  -- where no pass has made a step, every row is Fresh, no nack is bound, and each thread is on its course as at the start
+  pub untouched : ((i : ℕ) (v : View M) → get_elem? s.views i ≡ some v → v.made ≡ []) → ((r : Row) → cell_at (table_of shape s) r ≡ Fresh) × ((n : NackName) → binding_at (table_of shape s) n ≡ None) × ((t : ℕ) → t < shape.threads → course_at (table_of shape s) t ≡ (if waits shape.later t then Unstarted else Running 0))

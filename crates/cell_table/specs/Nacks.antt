@@ -1,5 +1,5 @@
 -- What a pass knows of nacks, and of a row before it grants it.
-use Rattle.std.specs.Prelude.{◌≡◌, ℕ, ◌+◌, max, false, None}
+use Rattle.std.specs.Prelude.{◌≡◌, ◌⊎◌, ⊤, ℕ, ◌+◌, max, false, None}
 use Rattle.protocol_values.specs.declared.Base.{Base}
 use Rattle.protocol_values.specs.declared.Base.TheVariants.{Send, Recv, Always, OnNack, OnEnd, Never}
 use Rattle.protocol_values.specs.declared.NackName.{NackName}
@@ -10,7 +10,7 @@ use Rattle.protocol_values.specs.declared.Joined.{Joined}
 use Rattle.protocol_values.specs.Scopes.{has_scope}
 use Rattle.protocol.specs.Tables.{bound_row}
 use Rattle.cell_table.specs.declared.view.Seen.{Seen}
-use Rattle.cell_table.specs.Sight.{Has, HaveOffer, SeesOffer, HasSeenLast}
+use Rattle.cell_table.specs.Sight.{Has, HaveOffer, IsBefore, SawEnded, SeesOffer, HasSeenLast}
 
 -- the nack was seen bound to this row and scope
 abbrev pub IsSeenBound : Seen → NackName → Row → ℕ → Type 0
@@ -25,19 +25,28 @@ pub record SawEnabled (s : Seen) (n : NackName) (j : Joined) : Type 0 where
   pub chosen : SeesOffer s (bound_row n binding) j.own offer
   pub outside : has_scope offer.scopes binding.scope ≡ false
 
--- what lets a base event commit its row alone was seen, with its stamp: 0 for an always, and for a nack the stamp of
--- the row that enabled it
+-- what lets a base event commit its row alone was seen, with its stamp: 0 for an always, for a nack the stamp of the row
+-- that enabled it, and for the end of a thread the last stamp of the thread
 abbrev pub SawCause : Seen → Base → ℕ → Type 0
 SawCause s (Send c m) stamp = ⊥
 SawCause s (Recv c) stamp = ⊥
 SawCause s (Always m) stamp = stamp ≡ 0
 SawCause s (OnNack n) stamp = (j : Joined) × SawEnabled s n j × (stamp ≡ j.stamp)
-SawCause s (OnEnd p) stamp = ⊥
+SawCause s (OnEnd p) stamp = (g : ℕ) × Has s.ended (p, g) × HasSeenLast s (record { thread = p; sync = g }) stamp
 SawCause s Never stamp = ⊥
+
+-- what lets it do so was seen, if not the stamp
+abbrev pub IsReadyAlone : Seen → Base → Type 0
+IsReadyAlone s (Send c m) = ⊥
+IsReadyAlone s (Recv c) = ⊥
+IsReadyAlone s (Always m) = ⊤
+IsReadyAlone s (OnNack n) = (j : Joined) × SawEnabled s n j
+IsReadyAlone s (OnEnd p) = SawEnded s p
+IsReadyAlone s Never = ⊥
 
 -- offer n of the row was seen, and what lets it commit the row alone
 abbrev pub CanStandAlone : Seen → Row → ℕ → Type 0
-CanStandAlone s r n = (o : Offer) × (stamp : ℕ) × SeesOffer s r n o × SawCause s o.base stamp
+CanStandAlone s r n = (o : Offer) × SeesOffer s r n o × IsReadyAlone s o.base
 
 -- the row, committed alone as j by its offer n, at the stamp that its last stamp and the cause's give
 pub record CanGrant (s : Seen) (r : Row) (n : ℕ) (j : Joined) : Type 0 where
@@ -49,6 +58,8 @@ pub record CanGrant (s : Seen) (r : Row) (n : ℕ) (j : Joined) : Type 0 where
   pub seen_last : HasSeenLast s r last
   pub is : j ≡ record { own = n; partner = None; stamp = 1 + max last cause }
 
--- the row to which the nack of a base event was seen bound
-abbrev pub IsBoundRow : Seen → Base → Row → Type 0
-IsBoundRow s base q = (n : NackName) × (b : Binding) × (base ≡ OnNack n) × Has s.bound (n, b) × (q ≡ bound_row n b)
+-- the row at which the cause of a base event is read: that to which its nack was seen bound, or the one before the end of its thread
+abbrev pub IsCauseRow : Seen → Base → Row → Type 0
+IsCauseRow s base q =
+    ((n : NackName) × (b : Binding) × (base ≡ OnNack n) × Has s.bound (n, b) × (q ≡ bound_row n b))
+    ⊎ ((p g : ℕ) × (base ≡ OnEnd p) × Has s.ended (p, g) × IsBefore (record { thread = p; sync = g }) q)

@@ -1,10 +1,11 @@
 -- The rule of the shared table.
-use Rattle.std.specs.Prelude.{◌≡◌, ◌≢◌, ◌⊎◌, ℕ, zero, suc, ◌+◌, ◌%◌, ◌≤◌, ◌==◌, ◌<◌, ◌||◌, Bool, true, false, if◌then◌else◌, List, [], ◌∷◌, ◌++◌, length, Option, Some, slice_get}
+use Rattle.std.specs.Prelude.{◌≡◌, ◌≢◌, ◌⊎◌, ℕ, zero, suc, ◌+◌, ◌%◌, ◌≤◌, ◌==◌, ◌<◌, ◌||◌, ◌&&◌, not, Bool, true, false, if◌then◌else◌, List, [], ◌∷◌, ◌++◌, length, Option, Some, slice_get}
 use mathlib.Core.Option.{Option as Maybe, some}
 use lib.ListN.{get_elem?}
 use Rattle.atomic_table.specs.Table.{State}
 use Rattle.protocol_values.specs.declared.Row.{Row}
 use Rattle.protocol_values.specs.declared.Seat.{Seat}
+use Rattle.protocol_values.specs.declared.Course.TheVariants.{Unstarted, Running}
 use Rattle.protocol_values.specs.declared.Step.{Step}
 use Rattle.protocol_values.specs.declared.Step.TheVariants.{Bind}
 use Rattle.cell_table.specs.declared.view.View.{View}
@@ -13,11 +14,11 @@ use Rattle.cell_table.specs.declared.view.Stage.TheVariants.{Aside, Resting}
 use Rattle.protocol_values.specs.declared.Offer.{Offer}
 use Rattle.protocol.specs.Ledgers.{Ledger, ledger_of}
 use Rattle.protocol.specs.Standing.{AreResults, EachStands, OffersAs, Result, SomeStands, Stands, binding_of}
-use Rattle.protocol.specs.Worlds.{World, start_world, Plays, nack_of_row}
+use Rattle.protocol.specs.Worlds.{World, first_row, start_world, Plays, nack_of_row, waits}
 use Rattle.cell_table.specs.declared.view.Seen.{Seen}
 use Rattle.cell_table.specs.Sight.{Has, IsDraft}
-use Rattle.cell_table.specs.Views.{Knows, first_row, at_stage, with_results}
-use Rattle.protocol.specs.Tables.{Table, cell_at, is_fresh, is_taken, row_eq}
+use Rattle.cell_table.specs.Views.{Knows, at_stage, with_results}
+use Rattle.protocol.specs.Tables.{Table, cell_at, course_at, is_fresh, is_taken, row_eq}
 
 -- One change of the table: which pass made it, at which seat, by which step of the protocol.
 pub record Move : Type 0 where
@@ -41,6 +42,10 @@ at_seat seat [] = []
 at_seat seat (step ∷ steps) = (record { 0 = seat }, step) ∷ at_seat seat steps
 
 module _ {M : Type 0} where
+  -- what a pass knows of its table's start: what stood for the threads, and the mask of those that waited
+  abbrev pub beginning : View M → List M × ℕ
+  beginning v = (v.first, v.later)
+
   -- The history is the steps that the passes made, interleaved: each pass made its own at its seat, and nobody else any.
   pub record Interleaves (moves : List Move) (views : List (View M)) : Type 0 where
     pub made : (id : ℕ) (v : View M) → get_elem? views id ≡ some v → steps_by id moves ≡ at_seat v.seat v.made
@@ -69,7 +74,7 @@ module _ {M : Type 0} where
 module _ {M : Type 0} where
   -- the pass is to begin with the row: it is the first of a thread, which the pass holds or is to deal, and has not begun with
   abbrev pub IsToBegin : View M → Row → Type 0
-  IsToBegin v r = (r.sync ≡ 0) × (Has v.seen.held r ⊎ ((r.thread < v.threads) × (v.dealt ≤ r.thread % v.passes))) × (¬ Has v.seen.begun r)
+  IsToBegin v r = (r.sync ≡ 0) × (Has v.seen.held r ⊎ ((r.thread < v.threads) × (waits v.later r.thread ≡ false) × (v.dealt ≤ r.thread % v.passes))) × (¬ Has v.seen.begun r)
 
   -- then what stood for the thread at first is at home
   pub record Waits (first : List M) (w : World) (homes : List (Maybe (Option M))) (r : Row) : Type 0 where
@@ -115,15 +120,17 @@ module _ {M : Type 0} (stands : Stands M) where
     pub moves : List Move
     pub interleaved : Interleaves moves s.views
     pub world : World
-    pub played : Plays (start_world shape.threads shape.rows shape.passes 0) (in_order moves) world
+    pub played : Plays (start_world shape.threads shape.rows shape.passes shape.later) (in_order moves) world
     pub table : world.table ≡ table_of shape s
     pub owner : Row → ℕ
     -- a pass that is of no table any more knows nothing
     pub knows : (id : ℕ) (v : View M) → get_elem? s.views id ≡ some v → 0 < v.threads → Knows world owner id v
     pub seated : Seated s.views
-    -- a pass knows what stood for the threads at first
-    pub firsts : (id : ℕ) (v : View M) → get_elem? s.views id ≡ some v → 0 < v.threads → v.first ≡ shape.first.value.items
-    -- in a table of machines
+    -- a pass knows what stood for the threads at first, and which of them waited
+    pub firsts : (id : ℕ) (v : View M) → get_elem? s.views id ≡ some v → 0 < v.threads → beginning v ≡ (shape.first.value.items, shape.later)
+    -- in a table of machines what stands for the threads lies where it should, and each thread is on its course as at the start:
+    -- nobody starts or ends one there yet
+    pub courses : 0 < length shape.first.value.items → (t : ℕ) → t < world.table.threads → course_at world.table t ≡ (if waits shape.later t then Unstarted else Running 0)
     pub housed : 0 < length shape.first.value.items → Housed shape.first.value.items world s.homes s.views
     -- the results that a pass has seen are results of the rows
     pub results : (id : ℕ) (v : View M) (t : ℕ) (rs : List Result) → get_elem? s.views id ≡ some v → Has v.results (t, rs) → AreResults (ledger_of world.table) t rs
@@ -144,22 +151,31 @@ no_offers (r ∷ rs) = (r, 1, 0) ∷ no_offers rs
 
 -- a pass that holds these rows and has seen nothing
 abbrev pub seen_nothing : List Row → Seen
-seen_nothing rows = record { held = rows; drafts = no_offers rows; opened = []; words = []; joined = []; taken = []; bound = []; begun = [] }
+seen_nothing rows = record { held = rows; drafts = no_offers rows; opened = []; words = []; joined = []; taken = []; bound = []; begun = []; lasts = []; started = []; ended = [] }
 
 module _ {M : Type 0} where
   -- the first pass: it has dealt the seats below this one, and holds nothing itself
   abbrev pub dealer : Shape M → ℕ → View M
-  dealer shape k = record { threads = shape.threads; rows = shape.rows; passes = shape.passes; first = shape.first.value.items; results = []; dealt = k; seat = 0; stage = Aside; seen = seen_nothing []; made = [] }
+  dealer shape k = record { threads = shape.threads; rows = shape.rows; passes = shape.passes; later = shape.later; first = shape.first.value.items; results = []; dealt = k; seat = 0; stage = Aside; from = first_row 0; seen = seen_nothing []; made = [] }
 
--- the first rows of the threads below this one that fall to seat k
+-- the thread starts at once, and falls to seat k
+abbrev pub falls_to : ℕ → ℕ → ℕ → ℕ → Bool
+falls_to later passes k t = not (waits later t) && (t % passes == k)
+
+-- the first rows of the threads below this one that do so
+abbrev pub dealt_later : ℕ → ℕ → ℕ → ℕ → List Row
+dealt_later later zero passes k = []
+dealt_later later (suc t) passes k =
+    if falls_to later passes k t then first_row t ∷ dealt_later later t passes k else dealt_later later t passes k
+
+-- where all threads start at once
 abbrev pub dealt_rows : ℕ → ℕ → ℕ → List Row
-dealt_rows zero passes k = []
-dealt_rows (suc t) passes k = if t % passes == k then first_row t ∷ dealt_rows t passes k else dealt_rows t passes k
+dealt_rows threads passes k = dealt_later 0 threads passes k
 
 module _ {M : Type 0} where
   -- the pass of the next seat: it holds the rows that fall to it
   abbrev pub dealt_pass : View M → View M
-  dealt_pass v = record v { dealt = v.passes; seat = v.dealt; stage = Resting; seen = seen_nothing (dealt_rows v.threads v.passes v.dealt); made = [] }
+  dealt_pass v = record v { dealt = v.passes; seat = v.dealt; stage = Resting; seen = seen_nothing (dealt_later v.later v.threads v.passes v.dealt); made = [] }
 
   abbrev pub dealt_one : View M → View M
   dealt_one v = record v { dealt = v.dealt + 1 }
@@ -178,11 +194,11 @@ drafts_of rows (d ∷ ds) = if is_among rows d.0 then d ∷ drafts_of rows ds el
 
 -- what is told: all that was seen, and the words drafted for opened rows, but no row is handed over
 abbrev pub told_of : Seen → Seen
-told_of s = record s { held = []; drafts = []; words = s.words ++ drafts_of s.opened s.drafts; begun = [] }
+told_of s = record s { held = []; drafts = []; words = s.words ++ drafts_of s.opened s.drafts; begun = []; lasts = [] }
 
 -- what a pass has seen once it was told this
 abbrev pub heard : Seen → Seen → Seen
-heard s told = record s { opened = s.opened ++ told.opened; words = s.words ++ told.words; joined = s.joined ++ told.joined; taken = s.taken ++ told.taken; bound = s.bound ++ told.bound }
+heard s told = record s { opened = s.opened ++ told.opened; words = s.words ++ told.words; joined = s.joined ++ told.joined; taken = s.taken ++ told.taken; bound = s.bound ++ told.bound; started = s.started ++ told.started; ended = s.ended ++ told.ended }
 
 module _ {M : Type 0} where
   abbrev pub told_pass : View M → View M
@@ -193,4 +209,4 @@ module _ {M : Type 0} where
 
   -- the pass that has told all that it had seen: it is of no table any more
   abbrev pub spent_pass : View M
-  spent_pass = record { threads = 0; rows = 0; passes = 0; first = []; results = []; dealt = 0; seat = 0; stage = Resting; seen = seen_nothing []; made = [] }
+  spent_pass = record { threads = 0; rows = 0; passes = 0; later = 0; first = []; results = []; dealt = 0; seat = 0; stage = Resting; from = first_row 0; seen = seen_nothing []; made = [] }

@@ -13,11 +13,14 @@ use Rattle.protocol_values.specs.declared.NackName.{NackName}
 use Rattle.protocol_values.specs.declared.Binding.{Binding}
 use Rattle.protocol_values.specs.declared.Row.{Row}
 use Rattle.protocol_values.specs.declared.Joined.{Joined}
+use Rattle.protocol_values.specs.declared.Course.{Course}
+use Rattle.protocol_values.specs.declared.Course.TheVariants.{Unstarted, Running, Ended}
 use Rattle.protocol_values.specs.declared.Cell.{Cell}
 use Rattle.protocol_values.specs.declared.Cell.TheVariants.{Fresh, Waiting, Claimed, Synched, Taken}
 use Rattle.cell_table.specs.declared.view.Seen.{Seen}
 use Rattle.protocol.specs.Tables.{row_eq, is_fresh, is_taken, names, offers_meet, stands_alone}
 use Rattle.protocol_values.specs.Values.{directions_meet, next_row, joined_of}
+use Rattle.protocol.specs.Worlds.{first_row}
 
 -- x is in the list
 abbrev pub Has : {A : Type 0} → List A → A → Type 0
@@ -50,12 +53,13 @@ without r p (d ∷ ds) = if row_eq d.0 r && (d.1 == p) then without r p ds else 
 abbrev pub see_draft : Row → ℕ → ℕ → Seen → Seen
 see_draft r p x s = record s { drafts = (r, p, x) ∷ without r p s.drafts }
 
--- the row was taken by the pass, which holds the thread's next row from then on, if there is one: a Fresh row
+-- the pass holds the row from now on, which is Fresh and has no offers
+abbrev pub see_held : Row → Seen → Seen
+see_held r s = record s { held = r ∷ s.held; drafts = (r, 1, 0) ∷ s.drafts }
+
+-- the row was taken by the pass, which holds the thread's next row from then on, or else stands behind the last one
 abbrev pub see_next : ℕ → Row → Seen → Seen
-see_next rows r s =
-    if nat_lt (r.sync + 1) rows
-    then record s { held = next_row r ∷ s.held; drafts = (next_row r, 1, 0) ∷ s.drafts }
-    else s
+see_next rows r s = if nat_lt (r.sync + 1) rows then see_held (next_row r) s else record s { lasts = r.thread ∷ s.lasts }
 
 -- the nack was seen bound so
 abbrev pub see_bound : NackName → Binding → Seen → Seen
@@ -65,34 +69,62 @@ see_bound n b s = record s { bound = (n, b) ∷ s.bound }
 abbrev pub see_begun : Row → Seen → Seen
 see_begun r s = record s { begun = r ∷ s.begun }
 
+-- where the thread is on its course was seen
+abbrev pub see_course : ℕ → Course → Seen → Seen
+see_course p Unstarted s = s
+see_course p (Running start) s = record s { started = (p, start) ∷ s.started }
+see_course p (Ended start sync) s = record s { started = (p, start) ∷ s.started; ended = (p, sync) ∷ s.ended }
+
+-- the thread was started by the pass, which holds its first row from then on
+abbrev pub see_start : ℕ → ℕ → Seen → Seen
+see_start p stamp s = see_held (first_row p) (see_course p (Running stamp) s)
+
+-- the course has begun with this stamp
+abbrev pub HasStart : Course → ℕ → Type 0
+HasStart Unstarted stamp = ⊥
+HasStart (Running start) stamp = start ≡ stamp
+HasStart (Ended start sync) stamp = start ≡ stamp
+
+-- and has ended at this sync
+abbrev pub EndsAt : Course → ℕ → Type 0
+EndsAt Unstarted g = ⊥
+EndsAt (Running start) g = ⊥
+EndsAt (Ended start sync) g = sync ≡ g
+
 -- nothing is lost, and what is new is of rows such as these
 abbrev pub Adds : {A : Type 0} → (A → Type 0) → List A → List A → Type 0
 Adds {A} About xs ys = ((x : A) → Has xs x → Has ys x) × ((x : A) → Has ys x → Has xs x ⊎ About x)
 
--- what is new is of such rows, and of such nacks
-pub record LearnsOf (About : Row → Type 0) (Nacks : NackName → Type 0) (s t : Seen) : Type 0 where
+-- what is new is of such rows, of such nacks, and of such threads' lives
+pub record LearnsOf (About : Row → Type 0) (Nacks : NackName → Type 0) (Lives : ℕ → Type 0) (s t : Seen) : Type 0 where
   pub held : t.held ≡ s.held
   pub drafts : t.drafts ≡ s.drafts
+  pub lasts : t.lasts ≡ s.lasts
   pub opened : Adds About s.opened t.opened
   pub words : Adds (λ x. About x.0) s.words t.words
   pub joined : Adds (λ x. About x.0) s.joined t.joined
   pub taken : Adds About s.taken t.taken
   pub bound : Adds (λ x. Nacks x.0) s.bound t.bound
   pub begun : t.begun ≡ s.begun
+  pub started : Adds (λ x. Lives x.0) s.started t.started
+  pub ended : Adds (λ x. Lives x.0) s.ended t.ended
 
--- what is new is of such rows, and of no nack
+-- what is new is of such rows, of no nack, and of no life
 abbrev pub Learns : (Row → Type 0) → Seen → Seen → Type 0
-Learns About s t = LearnsOf About (λ n. ⊥) s t
+Learns About s t = LearnsOf About (λ n. ⊥) (λ p. ⊥) s t
 
 -- Words were drafted at these places, and nothing else changed.
 pub record Redrafts (Where : Row → ℕ → Type 0) (s t : Seen) : Type 0 where
   pub held : t.held ≡ s.held
+  pub lasts : t.lasts ≡ s.lasts
   pub opened : t.opened ≡ s.opened
   pub words : t.words ≡ s.words
   pub joined : t.joined ≡ s.joined
   pub taken : t.taken ≡ s.taken
   pub bound : t.bound ≡ s.bound
   pub begun : t.begun ≡ s.begun
+  pub started : t.started ≡ s.started
+  pub ended : t.ended ≡ s.ended
   pub kept : (r : Row) (p x : ℕ) → ¬ Where r p → Has s.drafts (r, p, x) → Has t.drafts (r, p, x)
   pub only : (r : Row) (p x : ℕ) → ¬ Where r p → Has t.drafts (r, p, x) → Has s.drafts (r, p, x)
 
@@ -187,6 +219,27 @@ IsDraft s r offers = Has s.drafts (r, 1, length offers) × ((n : ℕ) (offer : O
 abbrev pub SawCommitted : Seen → Row → Type 0
 SawCommitted s r = (j : Joined) × Has s.joined (r, j)
 
+-- the thread was seen ended
+abbrev pub SawEnded : Seen → ℕ → Type 0
+SawEnded s t = (g : ℕ) × Has s.ended (t, g)
+
+-- nothing was seen of the thread: it was not seen started, none of its rows is held or was seen opened, and no nack of it bound
+pub record IsUnseen (s : Seen) (t : ℕ) : Type 0 where
+  pub held : (r : Row) → Has s.held r → r.thread ≢ t
+  pub opened : (r : Row) → Has s.opened r → r.thread ≢ t
+  pub lasts : ¬ Has s.lasts t
+  pub bound : (n : NackName) (b : Binding) → Has s.bound (n, b) → n.thread ≢ t
+  pub started : (stamp : ℕ) → ¬ Has s.started (t, stamp)
+  pub ended : ¬ SawEnded s t
+
+-- the pass stands at this place of a thread, in a table of so many rows: it holds the row, which is Fresh, or it is behind the last
+abbrev pub IsStand : ℕ → Seen → Row → Type 0
+IsStand rows s r = (Has s.held r × (¬ Has s.opened r)) ⊎ ((r.sync ≡ rows) × Has s.lasts r.thread)
+
+-- all rows before this place were taken: the row was seen opened, or the pass stands there, or it saw the thread end there
+abbrev pub IsReached : ℕ → Seen → Row → Type 0
+IsReached rows s r = Has s.opened r ⊎ (IsStand rows s r ⊎ Has s.ended (r.thread, r.sync))
+
 -- row q stands right before row r in its thread
 abbrev pub IsBefore : Row → Row → Type 0
 IsBefore r q = (q.thread ≡ r.thread) × (q.sync + 1 ≡ r.sync)
@@ -213,10 +266,10 @@ IsResult s r got = (j : Joined) × (o : Offer) × Has s.joined (r, j) × SeesOff
 
 -- WHAT A PASS KNOWS OF TWO ROWS BEFORE IT JOINS THEM
 
--- the stamp of the row before this one in its thread, as it was seen; 0 where there is none
+-- the stamp of the row before this one in its thread, as it was seen, and of a first row that of its thread's start
 abbrev pub HasSeenLast : Seen → Row → ℕ → Type 0
 HasSeenLast s r stamp =
-    ((r.sync ≡ 0) × (stamp ≡ 0))
+    ((r.sync ≡ 0) × Has s.started (r.thread, stamp))
     ⊎ ((j : Joined) × (r.sync ≢ 0) × Has s.joined (record { thread = r.thread; sync = r.sync - 1 }, j) × (stamp ≡ j.stamp))
 
 -- The other row, joined as j by offer `own` of row `mine`, meets it under offer `partner`, at the stamp that both last
@@ -243,8 +296,21 @@ pub record IsExpected (s : Seen) (r : Row) (c : Cell) : Type 0 where
   pub read : (p x : ℕ) → Has s.words (r, p, x) → is_fresh c ≡ false
   -- the partner of a committed row is open
   pub named : (q : Row) (j : Joined) → Has s.joined (q, j) → names (Some j) r ≡ true → is_fresh c ≡ false
+  -- of a thread that has ended all rows before the end are taken
+  pub below_end : (g : ℕ) → Has s.ended (r.thread, g) → r.sync < g → is_taken c ≡ true
+  -- and from there on none was opened
+  pub past_end : (g : ℕ) → Has s.ended (r.thread, g) → g ≤ r.sync → c ≡ Fresh
   -- a row is held, and opened, once all before it in its thread are taken
   pub in_turn : (q : Row) → q.thread ≡ r.thread → r.sync < q.sync → Has s.opened q ⊎ Has s.held q → is_taken c ≡ true
+
+-- THE COURSE on which a pass may find a thread, in a table of so many rows
+pub record IsExpectedCourse (rows : ℕ) (s : Seen) (t : ℕ) (c : Course) : Type 0 where
+  pub started : (stamp : ℕ) → Has s.started (t, stamp) → HasStart c stamp
+  pub ended : (g : ℕ) → Has s.ended (t, g) → EndsAt c g
+  -- a thread has started whose row the pass holds, or saw opened
+  pub begun : (r : Row) → r.thread ≡ t → Has s.held r ⊎ Has s.opened r → c ≢ Unstarted
+  -- and where the pass stands at a place of it, it has ended only if the pass saw it so
+  pub stands : (r : Row) → r.thread ≡ t → IsStand rows s r → (c ≢ Unstarted) × ((g : ℕ) → EndsAt c g → Has s.ended (t, g))
 
 -- WHAT IS TRUE OF ALL THAT A PASS HAS SEEN, since it is true of one table
 
@@ -266,5 +332,9 @@ pub record Coherent (threads rows : ℕ) (s : Seen) : Type 0 where
   pub meet : (r : Row) (j : Joined) (p : Row × ℕ) (mine theirs : Offer) → Has s.joined (r, j) → j.partner ≡ Some p
       → HaveOffer s.words r j.own mine → HaveOffer s.words p.0 p.1 theirs → offers_meet (Some mine) (Some theirs) ≡ true
   pub one_bound : (n : NackName) (a b : Binding) → Has s.bound (n, a) → Has s.bound (n, b) → a ≡ b
+  pub one_start : (t a b : ℕ) → Has s.started (t, a) → Has s.started (t, b) → a ≡ b
+  pub started : (t stamp : ℕ) → Has s.started (t, stamp) → (t < threads) × (stamp ≤ 65536)
+  pub one_end : (t a b : ℕ) → Has s.ended (t, a) → Has s.ended (t, b) → a ≡ b
+  pub ended : (t g : ℕ) → Has s.ended (t, g) → (t < threads) × (g ≤ rows)
   -- a nack of the table is bound, to a row of the table
   pub bound : (n : NackName) (b : Binding) → Has s.bound (n, b) → (n.thread < threads) × (n.k < 64) × (b.sync < rows) × (b.scope < 4)

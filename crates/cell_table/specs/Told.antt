@@ -1,10 +1,12 @@
 -- What a step tells the pass that makes it: its view after, by the word that it found.
-use Rattle.std.specs.Prelude.{◌≡◌, ◌≢◌, ℕ, ◌+◌, List, ◌∷◌, length, take, ◌<◌, ◌≤◌, true, is_some, unwrap_or, Option, Some, None, slice_get}
+use Rattle.std.specs.Prelude.{◌≡◌, ◌≢◌, ◌⊎◌, ℕ, ◌+◌, List, ◌∷◌, length, take, ◌<◌, ◌≤◌, true, is_some, unwrap_or, Option, Some, None, slice_get}
 use Rattle.atomic_table.specs.Table.{Step, Me, rest}
 use Rattle.protocol_values.specs.declared.Step.TheVariants.{Open, Claim, Yield, Join, Seal, Grant, Take}
-use Rattle.protocol_values.specs.Words.{cell_word, cell_of, nack_word, nack_of, IsBindingInRange, IsJoinedInRange}
+use Rattle.protocol_values.specs.Words.{cell_word, cell_of, course_of, course_word, nack_word, nack_of, IsBindingInRange, IsCourseInRange, IsJoinedInRange}
 use Rattle.protocol_values.specs.declared.NackName.{NackName}
 use Rattle.protocol_values.specs.declared.Binding.{Binding}
+use Rattle.protocol_values.specs.declared.Course.{Course}
+use Rattle.protocol_values.specs.declared.Course.TheVariants.{Unstarted, Running, Ended}
 use Rattle.protocol_values.specs.declared.Row.{Row}
 use Rattle.protocol_values.specs.declared.Joined.{Joined}
 use Rattle.protocol_values.specs.declared.Cell.{Cell}
@@ -12,13 +14,13 @@ use Rattle.protocol_values.specs.declared.Cell.TheVariants.{Fresh, Waiting, Clai
 use Rattle.protocol_values.specs.declared.Message.{Message}
 use Rattle.protocol_values.specs.declared.Offer.{Offer}
 use Rattle.protocol.specs.Standing.{IsLeft, Result, Stands}
-use Rattle.protocol.specs.Tables.{bound_row, nack_place, place_of}
+use Rattle.protocol.specs.Tables.{bound_row, course_place, is_taken, nack_place, place_of}
 use Rattle.protocol_values.specs.Values.{next_row}
 use Rattle.cell_table.specs.declared.view.View.{View}
 use Rattle.cell_table.specs.declared.view.Stage.TheVariants.{Resting, Claims, Joins}
 use Rattle.cell_table.specs.declared.view.Seen.{Seen}
-use Rattle.cell_table.specs.Sight.{Has, IsExpected, IsResult, Coherent, see_begun}
-use Rattle.cell_table.specs.Views.{IsClaimer, at_stage, bind_of, bound_nack, did, saw, saw_nack, took_with, read_word, turned, word_drafted}
+use Rattle.cell_table.specs.Sight.{EndsAt, Has, HasStart, IsExpected, IsExpectedCourse, IsResult, IsStand, IsUnseen, SawEnded, Coherent, see_begun}
+use Rattle.cell_table.specs.Views.{IsClaimer, at_stage, bind_of, bound_nack, did, ended_thread, saw, saw_course, saw_nack, started_thread, stood_at, took_with, read_word, turned, word_drafted}
 
 -- the table has the row
 abbrev pub Inside : ℕ → ℕ → Row → Type 0
@@ -38,6 +40,15 @@ module _ {M : Type 0} where
   abbrev pub AtNack : {S : Type 0} → Step S → Me S (View M) → NackName → Type 0
   AtNack st m n = InsideNack m.0.threads n × (st.word ≡ nack_place m.0.rows n)
 
+module _ {M : Type 0} where
+  -- the step is on the word of this thread's life
+  abbrev pub AtLife : {S : Type 0} → Step S → Me S (View M) → ℕ → Type 0
+  AtLife st m p = (p < m.0.threads) × (st.word ≡ course_place m.0.rows p)
+
+-- where a word says that a thread is on its course
+abbrev pub course_read : ℕ → Course
+course_read n = unwrap_or (course_of n) Unstarted
+
 -- where a word says that a nack is bound
 abbrev pub nack_read : ℕ → Option Binding
 nack_read n = unwrap_or (nack_of n) None
@@ -47,9 +58,10 @@ abbrev pub cell_read : ℕ → Cell
 cell_read n = unwrap_or (cell_of n) Fresh
 
 module _ {M : Type 0} where
-  -- what a pass knows of a row's cell before it looks: what it has seen of it, and that only its holder claims it
+  -- what a pass knows of a row's cell before it looks: what it has seen of it, that only its holder claims it, and that whoever
+  -- stands behind a thread's last row has all its rows taken
   abbrev pub Agrees : View M → Row → Cell → Type 0
-  Agrees v r c = IsExpected v.seen r c × (Has v.seen.held r → c ≡ Claimed → IsClaimer v.stage r)
+  Agrees v r c = IsExpected v.seen r c × (Has v.seen.held r → c ≡ Claimed → IsClaimer v.stage r) × (Has v.seen.lasts r.thread → r.sync < v.rows → is_taken c ≡ true)
 
   -- what the pass has seen agrees with itself
   abbrev pub AgreesWithItself : View M → Type 0
@@ -125,10 +137,10 @@ module _ {M : Type 0} where
       (length first ≡ 0 → after ≡ before)
       × (0 < length first → (value : M) × (got : Message) × (after ≡ (r.thread, Some value) ∷ before) × IsLeft stands first value r own results got × ((m : Message) → IsResult old r m → m ≡ got) × ((m : Message) → IsResult new r m → m ≡ got))
 
-  -- where the cell was Synched it is Taken, and nobody has opened the row behind it; else the pass has seen what it is
+  -- where the cell was Synched it is Taken, nobody has opened the row behind it, and the thread has not ended; else the pass has seen what it is
   abbrev pub taken : Stands M → Step (Option M) → Me (Option M) (View M) → ℕ → Me (Option M) (View M) → Type 0
   taken stands st m n w = (r : Row) (j : Joined) → At st m r 0 → IsJoinedInRange j → st.second ≡ cell_word (Taken j)
-      → (n ≡ cell_word (Synched j) → (results : List Result) × (length results ≡ r.sync + 1) × (w.0 ≡ did (Take r) (took_with r j results m.0)) × ComesOut stands m.0.first m.0.seen w.0.seen r j.own results m.1 w.1 × Agrees m.0 r (Synched j) × (¬ Has m.0.seen.opened (next_row r)) × ((nack : NackName) (b : Binding) → Has m.0.seen.bound (nack, b) → bound_row nack b ≢ next_row r))
+      → (n ≡ cell_word (Synched j) → (results : List Result) × (length results ≡ r.sync + 1) × (w.0 ≡ did (Take r) (took_with r j results m.0)) × ComesOut stands m.0.first m.0.seen w.0.seen r j.own results m.1 w.1 × Agrees m.0 r (Synched j) × (¬ Has m.0.seen.opened (next_row r)) × (¬ SawEnded m.0.seen r.thread) × ((nack : NackName) (b : Binding) → Has m.0.seen.bound (nack, b) → bound_row nack b ≢ next_row r))
       × (n ≢ cell_word (Synched j) → finds m r n w) × AgreesWithItself w.0
 
   -- what a pass knows of a nack before it looks: where it saw it bound
@@ -138,6 +150,30 @@ module _ {M : Type 0} where
   abbrev pub looked_nack : {S : Type 0} → Step S → Me S (View M) → ℕ → Me S (View M) → Type 0
   looked_nack st m n w = (nack : NackName) → AtNack st m nack
       → (w ≡ (saw_nack nack (nack_read n) m.0, m.1)) × AgreesNack m.0 nack (nack_read n) × AgreesWithItself w.0
+
+  -- what a pass knows of a thread's life before it looks
+  abbrev pub AgreesLife : View M → ℕ → Course → Type 0
+  AgreesLife v p c = IsExpectedCourse v.rows v.seen p c
+
+  abbrev pub looked_life : {S : Type 0} → Step S → Me S (View M) → ℕ → Me S (View M) → Type 0
+  looked_life st m n w = (p : ℕ) → AtLife st m p → (w ≡ (saw_course p (course_read n) m.0, m.1)) × AgreesLife m.0 p (course_read n) × AgreesWithItself w.0
+
+  -- the pass turns to a place at which it stands, by a look at its thread's life
+  abbrev pub turned_to : {S : Type 0} → Step S → Me S (View M) → ℕ → Me S (View M) → Type 0
+  turned_to st m n w = (r : Row) → AtLife st m r.thread → IsStand m.0.rows m.0.seen r
+      → (w ≡ (stood_at r (saw_course r.thread (course_read n) m.0), m.1)) × AgreesLife m.0 r.thread (course_read n) × AgreesWithItself w.0
+
+  -- where the thread had not started it has now, and the pass had seen nothing of it; else the pass has seen where it is
+  abbrev pub tried_start : {S : Type 0} → Step S → Me S (View M) → ℕ → Me S (View M) → Type 0
+  tried_start st m n w = (p stamp : ℕ) → AtLife st m p → IsCourseInRange (Running stamp) → st.second ≡ course_word (Running stamp)
+      → (n ≡ course_word Unstarted → (w ≡ (started_thread p stamp m.0, m.1)) × IsUnseen m.0.seen p)
+      × (n ≢ course_word Unstarted → (w ≡ (saw_course p (course_read n) m.0, m.1)) × (course_read n ≢ Unstarted))
+      × AgreesWithItself w.0
+
+  -- the thread has ended where the pass stands
+  abbrev pub finished : {S : Type 0} → Step S → Me S (View M) → ℕ → Me S (View M) → Type 0
+  finished st m n w = (r : Row) (start : ℕ) → AtLife st m r.thread → IsCourseInRange (Ended start r.sync) → n ≡ course_word (Ended start r.sync)
+      → (w ≡ (ended_thread r start m.0, m.1)) × AgreesWithItself w.0
 
   -- The nack is a scope's of an earlier row of its thread: some value stands for the thread after the results of the rows before
   -- that row, with this nack for the scope to which it is bound. Whatever further results of the thread the pass has, they begin with those.

@@ -2,10 +2,11 @@
 use Rattle.std.specs.Prelude.{◌≡◌, ℕ, ◌%◌, ◌<◌, ◌≤◌, ◌∷◌, true, false, Option, Some, None, List}
 use Rattle.protocol_values.specs.declared.NackName.{NackName}
 use Rattle.protocol_values.specs.declared.Binding.{Binding}
-use Rattle.protocol_values.specs.declared.Course.TheVariants.{Running}
+use Rattle.protocol_values.specs.declared.Course.{Course}
+use Rattle.protocol_values.specs.declared.Course.TheVariants.{Ended}
 use Rattle.protocol_values.specs.declared.Row.{Row}
 use Rattle.protocol_values.specs.declared.Step.{Step}
-use Rattle.protocol_values.specs.declared.Step.TheVariants.{Bind, Draft}
+use Rattle.protocol_values.specs.declared.Step.TheVariants.{Bind, Draft, Finish, Start}
 use Rattle.protocol_values.specs.declared.Joined.{Joined}
 use Rattle.protocol_values.specs.declared.Cell.{Cell}
 use Rattle.protocol_values.specs.declared.Cell.TheVariants.{Fresh, Claimed, Taken}
@@ -15,12 +16,12 @@ use Rattle.cell_table.specs.declared.view.Stage.{Stage}
 use Rattle.cell_table.specs.declared.view.Stage.TheVariants.{Resting, Claims, Joins, Aside}
 use Rattle.protocol.specs.Tables.{course_at, is_fresh, is_taken, names, word_at, cell_at, joined_at, binding_at, bound_row}
 use Rattle.protocol.specs.Standing.{Result}
-use Rattle.protocol.specs.Worlds.{World, holder_at}
-use Rattle.cell_table.specs.Sight.{Has, IsCounted, see_opened, see_cell, see_word, see_draft, see_next, see_bound}
+use Rattle.protocol.specs.Worlds.{World, first_row, holder_at, last_holder, waits}
+use Rattle.cell_table.specs.Sight.{EndsAt, Has, HasStart, IsCounted, see_opened, see_cell, see_word, see_draft, see_next, see_bound, see_course, see_start}
 
--- a thread's first row
-abbrev pub first_row : ℕ → Row
-first_row t = record { thread = t; sync = 0 }
+-- the place behind the last row of a thread, in a table of so many rows
+abbrev pub behind_last : ℕ → ℕ → Row
+behind_last rows t = record { thread = t; sync = rows }
 
 -- the call has claimed this row
 abbrev pub IsClaimer : Stage → Row → Type 0
@@ -41,27 +42,31 @@ pub record Vantage : Type 0 where
   pub threads : ℕ
   pub rows : ℕ
   pub passes : ℕ
+  pub later : ℕ
   pub dealt : ℕ
   pub seat : ℕ
   pub stage : Stage
   pub seen : Seen
 
 abbrev pub vantage : {M : Type 0} → View M → Vantage
-vantage v = record { threads = v.threads; rows = v.rows; passes = v.passes; dealt = v.dealt; seat = v.seat; stage = v.stage; seen = v.seen }
+vantage v = record { threads = v.threads; rows = v.rows; passes = v.passes; later = v.later; dealt = v.dealt; seat = v.seat; stage = v.stage; seen = v.seen }
+
+-- the thread has ended only if it was seen so
+abbrev pub SeesEnd : World → Seen → ℕ → Type 0
+SeesEnd w s t = (g : ℕ) → EndsAt (course_at w.table t) g → Has s.ended (t, g)
 
 -- What the pass with this number has seen is true of the world. Each row has one owner, so it is held by one pass at most.
 pub record KnowsFrom (w : World) (owner : Row → ℕ) (id : ℕ) (from : Vantage) : Type 0 where
   pub threads : from.threads ≡ w.table.threads
   pub rows : from.rows ≡ w.table.rows
   pub passes : from.passes ≡ w.seats
-  -- all threads have started at once, and none has ended: no step of the running table tells otherwise yet
-  pub running : (t : ℕ) → t < w.table.threads → course_at w.table t ≡ Running 0
   pub seat : from.seat < w.seats
   -- the first rows of the seats that are not dealt yet are this pass's to deal
-  pub undealt : (t : ℕ) → t < w.table.threads → from.dealt ≤ t % w.seats
+  pub undealt : (t : ℕ) → t < w.table.threads → waits from.later t ≡ false → from.dealt ≤ t % w.seats
       → (owner (first_row t) ≡ id) × (holder_at w (first_row t) ≡ Some (t % w.seats)) × (¬ Has from.seen.opened (first_row t) → cell_at w.table (first_row t) ≡ Fresh)
       × (¬ IsCounted from.seen (first_row t) → word_at w.table (first_row t) 1 ≡ 0)
       × ((n : NackName) (b : Binding) → binding_at w.table n ≡ Some b → bound_row n b ≡ first_row t → Has from.seen.bound (n, b))
+      × (¬ Has from.seen.opened (first_row t) → SeesEnd w from.seen t)
   pub mine : (r : Row) → Has from.seen.held r → (owner r ≡ id) × (holder_at w r ≡ Some from.seat)
   pub calm : (r : Row) → Has from.seen.held r → cell_at w.table r ≡ Claimed → IsClaimer from.stage r
   pub staged : Staged w owner id from.stage
@@ -72,6 +77,11 @@ pub record KnowsFrom (w : World) (owner : Row → ℕ) (id : ℕ) (from : Vantag
   pub joined : (r : Row) (j : Joined) → Has from.seen.joined (r, j) → joined_at w.table r ≡ Some j
   pub taken : (r : Row) → Has from.seen.taken r → is_taken (cell_at w.table r) ≡ true
   pub bound : (n : NackName) (b : Binding) → Has from.seen.bound (n, b) → binding_at w.table n ≡ Some b
+  pub started : (t stamp : ℕ) → Has from.seen.started (t, stamp) → HasStart (course_at w.table t) stamp
+  pub ended : (t g : ℕ) → Has from.seen.ended (t, g) → EndsAt (course_at w.table t) g
+  -- whoever stands at a place of a thread has seen it end, if it has
+  pub lasts : (t : ℕ) → Has from.seen.lasts t → (owner (behind_last w.table.rows t) ≡ id) × (last_holder w t ≡ Some from.seat) × SeesEnd w from.seen t
+  pub lively : (r : Row) → Has from.seen.held r → ¬ Has from.seen.opened r → SeesEnd w from.seen r.thread
   -- whoever holds a row has seen all nacks that are bound to it
   pub binds : (n : NackName) (b : Binding) → binding_at w.table n ≡ Some b → Has from.seen.held (bound_row n b) → Has from.seen.bound (n, b)
 
@@ -111,6 +121,22 @@ module _ {M : Type 0} where
   -- and has seen the results of its thread up to this row
   abbrev pub took_with : Row → Joined → List Result → View M → View M
   took_with r j results v = with_results ((r.thread, results) ∷ v.results) (took r j v)
+
+  -- the thread was seen so on its course
+  abbrev pub saw_course : ℕ → Course → View M → View M
+  saw_course p c v = at_stage v.stage (see_course p c v.seen) v
+
+  -- the pass has turned to this place, from which it is to start a thread
+  abbrev pub stood_at : Row → View M → View M
+  stood_at r v = record v { from = r }
+
+  -- from where it stands it has started the thread
+  abbrev pub started_thread : ℕ → ℕ → View M → View M
+  started_thread p stamp v = did (Start v.from p) (at_stage v.stage (see_start p stamp v.seen) v)
+
+  -- it has ended the thread at this place
+  abbrev pub ended_thread : Row → ℕ → View M → View M
+  ended_thread r start v = did (Finish r) (saw_course r.thread (Ended start r.sync) v)
 
   abbrev pub read_word : Row → ℕ → ℕ → View M → View M
   read_word r p x v = at_stage v.stage (see_word r p x v.seen) v

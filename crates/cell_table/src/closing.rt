@@ -1,6 +1,6 @@
 //! The end of a table: its words become a ledger.
 
-ghost use Rattle.std.specs.Prelude.{◌≡◌, ◌<◌, ℕ, List, length, None, Some, slice_get, nat_lt, if◌then◌else◌};
+ghost use Rattle.std.specs.Prelude.{◌≡◌, ◌<◌, ℕ, List, length, None, Some, slice_get, nat_lt, ◌&&◌, not, false, if◌then◌else◌};
 ghost use Rattle.std.specs.Slots.{slots_items, slots_len, IsFull};
 ghost use Rattle.protocol_values.specs.declared.Joined.{Joined};
 ghost use Rattle.protocol_values.specs.declared.Offer.{Offer};
@@ -10,8 +10,9 @@ ghost use Rattle.protocol_values.specs.declared.NackName.{NackName};
 ghost use Rattle.protocol_values.specs.declared.Binding.{Binding};
 ghost use Rattle.protocol.specs.Ledgers.{IsLawful, binding_in, course_in, joined_in, offer_in};
 ghost use Rattle.protocol.specs.Standing.{AreResults, EachOffersAs, Result, SomeStands};
+ghost use Rattle.protocol.specs.Worlds.{waits};
 ghost use Rattle.cell_table.specs.Seats.{Sits};
-ghost use Rattle.cell_table.specs.Sight.{Has, IsDraft, SeesNoOffer, SeesOffer};
+ghost use Rattle.cell_table.specs.Sight.{EndsAt, Has, HasStart, IsDraft, SeesNoOffer, SeesOffer};
 
 use crate::board::Board;
 use crate::view::View;
@@ -27,7 +28,10 @@ impl<M: Resident + Drop> Board<M> {
         requires spare { length spare.items ≡ self.words.shared.table_id.words }
         ensures size { (result.threads ≡ self.shape.threads) × (result.rows ≡ self.shape.rows) }
         ensures lawful { IsLawful result }
-        ensures running { (t : ℕ) → course_in result t ≡ (if nat_lt t self.shape.threads then Running 0 else Unstarted) }
+        ensures running { 0 < length self.shape.first.value.items → (t : ℕ) → course_in result t ≡ (if nat_lt t self.shape.threads && not (waits self.shape.later t) then Running 0 else Unstarted) }
+        ensures at_once { (t : ℕ) → t < self.shape.threads → waits self.shape.later t ≡ false → HasStart (course_in result t) 0 }
+        ensures started { (t stamp : ℕ) → Has seat.me.0.seen.started (t, stamp) → HasStart (course_in result t) stamp }
+        ensures ended { (t g : ℕ) → Has seat.me.0.seen.ended (t, g) → EndsAt (course_in result t) g }
         ensures seen { (r : Row) (j : Joined) → Has seat.me.0.seen.joined (r, j) → joined_in result r ≡ Some j }
         ensures offers { (r : Row) (n : ℕ) (o : Offer) → SeesOffer seat.me.0.seen r n o → offer_in result r n ≡ Some o }
         ensures lacks { (r : Row) (n : ℕ) → SeesNoOffer seat.me.0.seen r n → offer_in result r n ≡ None }

@@ -13,6 +13,7 @@ ghost use Rattle.cell_table.specs.Laws.{IsLawfulMoment};
 
 mod board;
 mod closing;
+mod life;
 mod plays;
 mod start;
 mod steps;

@@ -3,7 +3,7 @@
 //! leans on; that the rule then holds again is proved where `steps` makes it (`proofs/Allowing`).
 
 ghost use Rattle.cell_table.specs.Rule.{dealt_one, dealt_pass, heard_pass, spent_pass, told_pass};
-ghost use Rattle.cell_table.specs.Told.{claimed, drafted, glanced, granted, has_begun, has_read, joined, looked, looked_nack, opened, sealed, taken, tried_bind, yielded};
+ghost use Rattle.cell_table.specs.Told.{claimed, drafted, finished, glanced, granted, has_begun, has_read, joined, looked, looked_life, looked_nack, opened, sealed, taken, tried_bind, tried_start, turned_to, yielded};
 
 use crate::view::View;
 use atomic_table::{Join as JoinSeats, Play, Split};
@@ -100,6 +100,37 @@ pub struct LookNack;
 
 impl<M> Play<Option<M>, View<M>> for LookNack {
     ghost then = { looked_nack };
+}
+
+/// The word of a thread's life is read: what was seen of it before stays, by `started` and `ended`.
+pub struct LookLife;
+
+impl<M> Play<Option<M>, View<M>> for LookLife {
+    ghost then = { looked_life };
+}
+
+/// The pass turns to a place at which it stands: of a thread it stands at one place at most, since all rows before it are
+/// taken.
+pub struct Stand;
+
+impl<M> Play<Option<M>, View<M>> for Stand {
+    ghost then = { turned_to };
+}
+
+/// A thread is started, where it had not been: nobody held its first row then, and no row of it was opened. Whoever
+/// starts it holds that row.
+pub struct Start;
+
+impl<M> Play<Option<M>, View<M>> for Start {
+    ghost then = { tried_start };
+}
+
+/// A thread is ended: nobody else stands at a place of it, and whoever does has not seen it end, so it has not, by `lasts`
+/// and `lively`.
+pub struct Finish;
+
+impl<M> Play<Option<M>, View<M>> for Finish {
+    ghost then = { finished };
 }
 
 /// A nack is bound to a held Fresh row, where it was not bound: whoever holds the row sees all that are bound to it, by

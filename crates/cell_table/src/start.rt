@@ -14,7 +14,7 @@ use std::alloc::{AllocError, Global};
 
 impl<M: Resident + Drop> Board<M> {
     /// A table of Fresh rows, and the seat that deals them. `words` are the table's first ones: all 0 but the
-    /// lives of its threads, which have all started.
+    /// lives of the threads that start at once.
     pub fn start(
         alloc: Global,
         shape: Shape<M>,
@@ -22,7 +22,7 @@ impl<M: Resident + Drop> Board<M> {
         slots: Vec<Option<M>>,
     ) -> Result<(Board<M>, Seat<Option<M>, View<M>>), AllocError>
         requires shape { (1 ≤ shape.threads) × (shape.threads ≤ 64) × (1 ≤ shape.rows) × (shape.rows ≤ 1024) × (1 ≤ shape.passes) }
-        requires words { words.now ≡ with_lives 0 shape.rows shape.threads (replicate (shape.threads * thread_len shape.rows) 0) }
+        requires words { words.now ≡ with_lives shape.later shape.rows shape.threads (replicate (shape.threads * thread_len shape.rows) 0) }
         requires slots { slots.items ≡ map Some shape.first.value.items }
         requires full { 0 < length shape.first.value.items → length shape.first.value.items ≡ shape.threads }
         ensures board { IfOk result (λ b. (b.0.shape ≡ shape) × (b.1.table_id ≡ b.0.words.shared.table_id)) }

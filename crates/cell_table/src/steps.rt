@@ -23,7 +23,7 @@ ghost use Rattle.cell_table.specs.Rule.{IsReady};
 ghost use Rattle.cell_table.specs.Told.{Agrees, AgreesNack, ComesOut, GoesHome, IsEarlier, began, cell_read, joining, nack_read, settled};
 ghost use Rattle.cell_table.specs.Seats.{Sits, HasNack, HasRow, StaysAtTable, StaysSeated};
 ghost use Rattle.cell_table.specs.Nacks.{CanGrant};
-ghost use Rattle.cell_table.specs.Sight.{Has, CanJoin};
+ghost use Rattle.cell_table.specs.Sight.{Has, CanJoin, SawEnded};
 ghost use Rattle.cell_table.specs.Views.{bind_of, bound_nack, did, saw, saw_nack, took_with, read_word, turned, word_drafted};
 
 use crate::board::Board;
@@ -53,7 +53,7 @@ impl<M: Resident> Board<M> {
     }
 
     // how many words a thread has
-    fn thread_len(&self) -> usize
+    pub(crate) fn thread_len(&self) -> usize
         ensures { result ≡ thread_len self.now.shape.rows }
     {
         self.shape.rows as usize * ROW_LEN + NACKS + LIVES
@@ -104,6 +104,7 @@ impl<M: Resident> Board<M> {
         requires sits { Sits self.now seat.old × HasNack self.now nack × HasRow self.now (bound_row nack bound) }
         requires resting { seat.old.me.0.stage ≡ Resting }
         requires held { Has seat.old.me.0.seen.held (bound_row nack bound) × (¬ Has seat.old.me.0.seen.opened (bound_row nack bound)) }
+        requires alive { ¬ (0 < length self.now.shape.first.value.items) → ¬ SawEnded seat.old.me.0.seen nack.thread }
         requires range { IsBindingInRange bound }
         ensures sits { StaysSeated self.now seat.old seat.new }
         ensures bound { IfOk result (λ _. (seat.new.me.0 ≡ did (bind_of nack bound) (bound_nack nack bound seat.old.me.0)) × ((b : Binding) → ¬ Has seat.old.me.0.seen.bound (nack, b))) }
@@ -147,6 +148,7 @@ impl<M: Resident> Board<M> {
         requires place { (1 ≤ place) × (place < 34) × (is_word_for place word ≡ true) }
         requires resting { seat.old.me.0.stage ≡ Resting }
         requires held { Has seat.old.me.0.seen.held row × (¬ Has seat.old.me.0.seen.opened row) }
+        requires alive { ¬ (0 < length self.now.shape.first.value.items) → ¬ SawEnded seat.old.me.0.seen row.thread }
         ensures sits { StaysSeated self.now seat.old seat.new }
         ensures drafted { seat.new.me.0 ≡ word_drafted row place word seat.old.me.0 }
     {
@@ -159,6 +161,7 @@ impl<M: Resident> Board<M> {
     pub fn open(&self, seat: &mut Seat<Option<M>, View<M>>, row: Row)
         requires sits { Sits self.now seat.old × HasRow self.now row }
         requires held { Has seat.old.me.0.seen.held row × (¬ Has seat.old.me.0.seen.opened row) × (seat.old.me.0.stage ≡ Resting) }
+        requires alive { ¬ (0 < length self.now.shape.first.value.items) → ¬ SawEnded seat.old.me.0.seen row.thread }
         requires parked { 0 < length self.now.shape.first.value.items → (value : M) × (seat.old.me.1 ≡ (row.thread, Some value) ∷ rest seat.old.me.1) × IsReady M.stands self.now.shape.first.value.items seat.old.me.0.results seat.old.me.0.seen row value }
         ensures sits { StaysAtTable self.now seat.old seat.new }
         ensures opened { seat.new.me.0 ≡ did (OpenStep row) (turned Resting row seat.old.me.0) }
@@ -304,7 +307,7 @@ impl<M: Resident> Board<M> {
         requires resting { seat.old.me.0.stage ≡ Resting }
         requires range { IsJoinedInRange joined }
         ensures sits { StaysAtTable self.now seat.old seat.new }
-        ensures took { IfOk result (λ _. (results : List Result) × (length results ≡ row.sync + 1) × (seat.new.me.0 ≡ did (TakeStep row) (took_with row joined results seat.old.me.0)) × ComesOut M.stands self.now.shape.first.value.items seat.old.me.0.seen seat.new.me.0.seen row joined.own results seat.old.me.1 seat.new.me.1 × Agrees seat.old.me.0 row (Synched joined) × (¬ Has seat.old.me.0.seen.opened (next_row row)) × ((n : NackName) (b : Binding) → Has seat.old.me.0.seen.bound (n, b) → bound_row n b ≢ next_row row)) }
+        ensures took { IfOk result (λ _. (results : List Result) × (length results ≡ row.sync + 1) × (seat.new.me.0 ≡ did (TakeStep row) (took_with row joined results seat.old.me.0)) × ComesOut M.stands self.now.shape.first.value.items seat.old.me.0.seen seat.new.me.0.seen row joined.own results seat.old.me.1 seat.new.me.1 × Agrees seat.old.me.0 row (Synched joined) × (¬ Has seat.old.me.0.seen.opened (next_row row)) × (¬ SawEnded seat.old.me.0.seen row.thread) × ((n : NackName) (b : Binding) → Has seat.old.me.0.seen.bound (n, b) → bound_row n b ≢ next_row row)) }
         ensures found { IfErr result (λ cell. (cell ≢ Synched joined) × (seat.new.me ≡ (saw row cell seat.old.me.0, seat.old.me.1)) × Agrees seat.old.me.0 row cell) }
     {
         let committed = pack_cell(Cell::Synched(joined));

@@ -11,6 +11,8 @@ pub struct Shape<M> {
     pub threads: u64,
     pub rows: u64,
     pub passes: u64,
+    /// The threads that wait to be started, as a mask: bit t stands for thread t.
+    pub later: u64,
     /// Thread by thread; none where nothing stands for them.
     pub first: Snapshot<Vec<M>>,
 }
@@ -46,6 +48,12 @@ pub struct Seen {
     pub bound: LinkedList<(NackName, Binding)>,
     /// The first rows of threads whose first value it fetched.
     pub begun: LinkedList<Row>,
+    /// The threads behind whose last row it stands: it took that row, and there is none behind it.
+    pub lasts: LinkedList<u8>,
+    /// The threads that it saw started, and the stamps of their starts.
+    pub started: LinkedList<(u8, u32)>,
+    /// The threads that it saw ended, and the syncs at which they did.
+    pub ended: LinkedList<(u8, u16)>,
 }
 
 /// What the table's rule knows of a pass.
@@ -55,6 +63,8 @@ pub struct View<M> {
     pub threads: u64,
     pub rows: u64,
     pub passes: u64,
+    /// The threads that wait to be started at first, as a mask.
+    pub later: u64,
     /// The values that stood for the threads at first, thread by thread; none where none stand for them.
     pub first: LinkedList<M>,
     /// The results of threads that the pass has seen: of each, those of its first rows.
@@ -64,6 +74,8 @@ pub struct View<M> {
     /// The seat of the protocol that makes this pass's steps.
     pub seat: u8,
     pub stage: Stage,
+    /// The place from which it starts threads, once it has turned to one.
+    pub from: Row,
     pub seen: Seen,
     /// The steps of the protocol that the pass has made, the last one first.
     pub made: LinkedList<Step>,

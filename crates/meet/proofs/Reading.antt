@@ -118,13 +118,13 @@ stands_by_none s r directions n lacks before m listed = by_case (Rattle.std.proo
 -- there are eight at most
 pub stands_by_no_other : (s : Seen) (r : Row) (directions : List (Option Direction)) (n : ℕ) → 8 ≤ n → ((k : ℕ) → k < n → ¬ CanStandAlone s r k) → StandsByNone s r directions
 stands_by_no_other s r directions n all before m listed can =
-    let told = sees_direction s r m can.0 can.2 in
+    let told = sees_direction s r m can.0 can.1 in
     before m (few_directions s r n all m told.0 told.1) can
 
 -- the list has all that had been seen before it was read
 pub stands_nowhere : (s t : Seen) (r : Row) (directions : List (Option Direction)) → Grows s t → ((n : ℕ) → LacksAt directions n → (k : ℕ) (d : Direction) → SeesDirection s r k d → k < n) → StandsByNone t r directions → (n : ℕ) → ¬ CanStandAlone s r n
 stands_nowhere s t r directions grows short none n can =
-    let told = sees_direction s r n can.0 can.2 in
+    let told = sees_direction s r n can.0 can.1 in
     none n (λ k low lacks. let past = short k lacks n told.0 told.1 in omega arith) (stands_more s t r n grows can)
 
 -- the row is left, and had not been seen to stand alone

@@ -125,11 +125,16 @@ module _ (value : ℕ) (l : Ledger) (h : HasTwoOffers value l) where
       (λ (e : s ≡ 1). e)
       (λ other. ⊎_elim
       (λ (d : (d : Commit) × HasCommit l d × CountsFor (marks_in l) d (Pair sender receiver chan m s) × (s ≡ stamp_of d + 1)). absurd (first sender receiver chan m s d.0 a.0 b d.2))
-      (λ (t : (t : ℕ) × CountsThread (Pair sender receiver chan m s) t × (s ≡ start_of (course_in l t) + 1)). t.2 ∙ ap (λ (n : ℕ). n + 1) (h.starts t.0))
+      (λ (t : (t : ℕ) × CountsThread (Pair sender receiver chan m s) t × (s ≡ start_of (course_in l t) + 1)). t.2 ∙ ap (λ (n : ℕ). n + 1) (h.starts t.0 (below_two sender receiver chan m s t.0 a.0 b t.1)))
       other)
       (h.lawful.stamps (Pair sender receiver chan m s) c).next in
       (λ i. Pair (a.0 i) (b i) (a.1 i) (a.2 i) (stamp i))
     where
+      -- it counts for the two threads alone
+      below_two : (sender receiver : Row × ℕ) (chan : ℕ) (m : Message) (s t : ℕ) → sender ≡ (first_row 0, 0) → receiver ≡ (first_row 1, 0) → CountsThread (Pair sender receiver chan m s) t → t < 2
+      below_two sender receiver chan m s t a b (inl e) = let is : t ≡ 0 = sym e ∙ ap (λ (z : Row × ℕ). z.0.thread) a in omega arith
+      below_two sender receiver chan m s t a b (inr e) = let is : t ≡ 1 = sym e ∙ ap (λ (z : Row × ℕ). z.0.thread) b in omega arith
+
       -- no commit counts for it: it has no earlier row, and no nack
       first : (sender receiver : Row × ℕ) (chan : ℕ) (m : Message) (s : ℕ) (d : Commit) → sender ≡ (first_row 0, 0) → receiver ≡ (first_row 1, 0) → CountsFor (marks_in l) d (Pair sender receiver chan m s) → ⊥
       first sender receiver chan m s d a b (inl (thread, g, k, low, before, (n, inl e))) =

@@ -1,5 +1,5 @@
 -- The one pair in which a number is sent, and its line.
-use Rattle.std.specs.Prelude.{◌≡◌, ◌⊎◌, ℕ, ◌≤◌, ◌++◌, None, Some, List, [], ◌∷◌, codes}
+use Rattle.std.specs.Prelude.{◌≡◌, ◌⊎◌, ℕ, ◌<◌, ◌≤◌, ◌++◌, None, Some, List, [], ◌∷◌, codes}
 use Rattle.std.specs.Fmt.{decimal}
 use Rattle.protocol_values.specs.declared.Row.{Row}
 use Rattle.protocol_values.specs.declared.Atom.TheVariants.{Num}
@@ -46,7 +46,7 @@ pub record HasTwoOffers (value : ℕ) (l : Ledger) : Type 0 where
   pub threads : l.threads ≡ 2
   pub rows : l.rows ≡ 1
   pub lawful : IsLawful l
-  pub starts : (t : ℕ) → start_of (course_in l t) ≡ 0
+  pub starts : (t : ℕ) → t < 2 → start_of (course_in l t) ≡ 0
   pub sends : offer_in l (first_row 0) 0 ≡ Some (send_of value)
   pub sends_alone : (n : ℕ) → 1 ≤ n → offer_in l (first_row 0) n ≡ None
   pub receives : offer_in l (first_row 1) 0 ≡ Some receive_offer

@@ -13,7 +13,7 @@ ghost use Rattle.thread.specs.declared.machine.Turn.TheVariants.{Offering};
 ghost use Rattle.thread.specs.Ranges.{MessageIsIn};
 ghost use Rattle.cell.specs.Calls.{Holds, IsPassOf, IsRowOf};
 ghost use Rattle.cell_table.specs.Sight.{Has};
-ghost use Rattle.cell_table.specs.Views.{first_row};
+ghost use Rattle.protocol.specs.Worlds.{first_row};
 ghost use Rattle.runtime.specs.Machines.{IsNow, IsTable, IsToResume, IsUntouched, LeavesOthers, NoneSpawns};
 ghost use Rattle.runtime.specs.Workers.{IsWorkerOf};
 

@@ -4,8 +4,8 @@ ghost use Rattle.std.specs.Prelude.{◌≡◌, ◌∷◌, [], ◌≤◌, IfOk};
 ghost use Rattle.protocol_values.specs.Words.{IsOfferInRange};
 ghost use Rattle.cell.specs.Calls.{IsPassOf, IsRowOf};
 ghost use Rattle.cell_table.specs.Rule.{dealt_rows, seen_nothing};
-ghost use Rattle.cell_table.specs.Sight.{AreOffers, Has};
-ghost use Rattle.cell_table.specs.Views.{first_row};
+ghost use Rattle.cell_table.specs.Sight.{AreOffers, Has, SawEnded};
+ghost use Rattle.protocol.specs.Worlds.{first_row};
 ghost use Rattle.meet.specs.Rooms.{IsMeetPassOf};
 
 use crate::hoard::Hoard;
@@ -136,10 +136,12 @@ fn lanes(alloc: Global) -> Result<(Meet, MeetPass), AllocError>
 fn enter(cells: &Cells<Bare>, pass: &mut Pass<Bare>, row: Row, offers: &[Offer])
     requires here { IsPassOf cells.now pass.old × IsRowOf cells.now row }
     requires fresh { Has pass.old.seen.held row × (¬ Has pass.old.seen.opened row) }
+    requires alive { ¬ SawEnded pass.old.seen row.thread }
     requires offers { AreOffers offers.now }
     ensures here { IsPassOf cells.now pass.new }
     ensures held { pass.new.seen.held ≡ pass.old.seen.held }
     ensures opened { pass.new.seen.opened ≡ row ∷ pass.old.seen.opened }
+    ensures ended { pass.new.seen.ended ≡ pass.old.seen.ended }
 {
     cells.draft(pass, row, offers);
     cells.open(pass, row);
@@ -216,7 +218,7 @@ pub(crate) struct Waking<'a, R> {
 fn enter_bound(cells: &Cells<Bare>, pass: &mut Pass<Bare>) -> bool
     requires here { IsPassOf cells.now pass.old × IsRowOf cells.now (first_row 0) × IsRowOf cells.now (first_row 1) }
     requires held { Has pass.old.seen.held (first_row 0) × Has pass.old.seen.held (first_row 1) }
-    requires fresh { pass.old.seen.opened ≡ [] }
+    requires fresh { (pass.old.seen.opened ≡ []) × (pass.old.seen.ended ≡ []) }
     ensures here { IsPassOf cells.now pass.new }
     ensures held { pass.new.seen.held ≡ pass.old.seen.held }
     ensures opened { pass.new.seen.opened ≡ first_row 1 ∷ first_row 0 ∷ [] }

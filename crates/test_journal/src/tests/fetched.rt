@@ -9,7 +9,7 @@ ghost use Rattle.protocol.specs.Tables.{bound_row};
 ghost use Rattle.cell.specs.Calls.{Holds, IsHousing, IsPassOf, IsRowOf};
 ghost use Rattle.cell_table.specs.Rule.{seen_nothing};
 ghost use Rattle.cell_table.specs.Sight.{AreOffers, Has};
-ghost use Rattle.cell_table.specs.Views.{first_row};
+ghost use Rattle.protocol.specs.Worlds.{first_row};
 ghost use Rattle.test_journal.specs.Fetched.{HasNacks, HasResults};
 ghost use Rattle.test_journal.specs.declared.tests.fetched.Suspended.{Suspended};
 
@@ -88,7 +88,7 @@ fn bind(
     row: Row,
     nacks: &[u8],
 )
-    requires here { IsPassOf cells.now pass.old × IsRowOf cells.now row }
+    requires here { IsPassOf cells.now pass.old × IsRowOf cells.now row × IsHousing cells.now }
     requires fresh { Has pass.old.seen.held row × (¬ Has pass.old.seen.opened row) }
     requires free { (n : NackName) (b : Binding) → Has pass.old.seen.bound (n, b) → bound_row n b ≢ row }
     ensures here { IsPassOf cells.now pass.new }

@@ -3,13 +3,13 @@
 
 ghost use Rattle.protocol_values.specs.Words.{IsOfferInRange};
 ghost use Rattle.cell.specs.Calls.{IsPassOf, IsRowOf};
-ghost use Rattle.cell_table.specs.Sight.{Has};
+ghost use Rattle.cell_table.specs.Sight.{Has, SawEnded};
 ghost use Rattle.meet.specs.Rooms.{IsMeetPassOf};
 
 use super::table::{always, cancelled, enter, receive, send};
 use cell::{Bare, Cells, NoGate, Pass};
 use meet::{Found, Meet, MeetPass};
-use protocol_values::{Cell, Message, NackName, Offer, Row};
+use protocol_values::{Cell, Course, Message, NackName, Offer, Row};
 use std::alloc::AllocError;
 use std::fmt::Debug;
 use std::process::Abort;
@@ -113,10 +113,14 @@ fn expect_fresh(rt: &impl Abort, cells: &Cells<Bare>, pass: &mut Pass<Bare>, row
     requires { IsPassOf cells.now pass.old }
     ensures here { IsPassOf cells.now pass.new × IsRowOf cells.now row }
     ensures fresh { Has pass.new.seen.held row × (¬ Has pass.new.seen.opened row) }
+    ensures alive { ¬ SawEnded pass.new.seen row.thread }
 {
     if !cells.has(row) || !pass.holds(row) {
         panic!(rt; "no row that the pass holds");
     }
+    let Course::Running(_) = cells.course(pass, row.thread) else {
+        panic!(rt; "the thread has ended")
+    };
     let Cell::Fresh = cells.look(pass, row) else {
         panic!(rt; "the row is open")
     };

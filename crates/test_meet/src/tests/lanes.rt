@@ -3,7 +3,7 @@
 ghost use Rattle.std.specs.Prelude.{◌≡◌, ◌+◌, ◌<◌, ◌≤◌, IfOk, IsTrue};
 ghost use Rattle.protocol_values.specs.declared.Row.{Row};
 ghost use Rattle.cell.specs.Calls.{IsPassOf};
-ghost use Rattle.cell_table.specs.Sight.{Has};
+ghost use Rattle.cell_table.specs.Sight.{Has, SawEnded};
 ghost use Rattle.meet.specs.Rooms.{IsMeetPassOf};
 
 use super::table::{enter, receive, rooms, send, table_of_two};
@@ -44,12 +44,12 @@ fn meet_on_first<R: Wait>(
     sync: u16,
 ) -> Result<bool, AllocError>
     requires here { IsPassOf cells.now waiter.old × IsPassOf cells.now sender.old × (cells.now.threads ≡ 2) × (sync + 1 < cells.now.rows) × (cells.now.rows ≤ 1024) }
-    requires waiter { Has waiter.old.seen.held (record { thread = 0; sync = sync }) × (¬ Has waiter.old.seen.opened (record { thread = 0; sync = sync })) }
-    requires sender { Has sender.old.seen.held (record { thread = 1; sync = sync }) × (¬ Has sender.old.seen.opened (record { thread = 1; sync = sync })) }
+    requires waiter { Has waiter.old.seen.held (record { thread = 0; sync = sync }) × (¬ Has waiter.old.seen.opened (record { thread = 0; sync = sync })) × (¬ SawEnded waiter.old.seen 0) }
+    requires sender { Has sender.old.seen.held (record { thread = 1; sync = sync }) × (¬ Has sender.old.seen.opened (record { thread = 1; sync = sync })) × (¬ SawEnded sender.old.seen 1) }
     requires lanes { IsMeetPassOf meet.now lanes.old }
     ensures here { IsPassOf cells.now waiter.new × IsPassOf cells.now sender.new }
-    ensures waiter { IfOk result (λ met. IsTrue met → Has waiter.new.seen.held (record { thread = 0; sync = sync + 1 }) × (¬ Has waiter.new.seen.opened (record { thread = 0; sync = sync + 1 }))) }
-    ensures sender { IfOk result (λ met. IsTrue met → Has sender.new.seen.held (record { thread = 1; sync = sync + 1 }) × (¬ Has sender.new.seen.opened (record { thread = 1; sync = sync + 1 }))) }
+    ensures waiter { IfOk result (λ met. IsTrue met → Has waiter.new.seen.held (record { thread = 0; sync = sync + 1 }) × (¬ Has waiter.new.seen.opened (record { thread = 0; sync = sync + 1 })) × (¬ SawEnded waiter.new.seen 0)) }
+    ensures sender { IfOk result (λ met. IsTrue met → Has sender.new.seen.held (record { thread = 1; sync = sync + 1 }) × (¬ Has sender.new.seen.opened (record { thread = 1; sync = sync + 1 })) × (¬ SawEnded sender.new.seen 1)) }
     ensures lanes { IsMeetPassOf meet.now lanes.new }
 {
     let waiting = Row { thread: 0, sync };
@@ -78,11 +78,11 @@ fn meet_all<R: Wait>(
     sender: &mut Pass<Bare>,
 ) -> Result<bool, AllocError>
     requires here { IsPassOf cells.now waiter.old × IsPassOf cells.now sender.old × (cells.now.threads ≡ 2) × (cells.now.rows ≡ 1001) }
-    requires waiter { Has waiter.old.seen.held (record { thread = 0; sync = 0 }) × (¬ Has waiter.old.seen.opened (record { thread = 0; sync = 0 })) }
-    requires sender { Has sender.old.seen.held (record { thread = 1; sync = 0 }) × (¬ Has sender.old.seen.opened (record { thread = 1; sync = 0 })) }
+    requires waiter { Has waiter.old.seen.held (record { thread = 0; sync = 0 }) × (¬ Has waiter.old.seen.opened (record { thread = 0; sync = 0 })) × (¬ SawEnded waiter.old.seen 0) }
+    requires sender { Has sender.old.seen.held (record { thread = 1; sync = 0 }) × (¬ Has sender.old.seen.opened (record { thread = 1; sync = 0 })) × (¬ SawEnded sender.old.seen 1) }
     requires lanes { IsMeetPassOf meet.now lanes.old }
     ensures here { IsPassOf cells.now waiter.new × IsPassOf cells.now sender.new }
-    ensures sender { IfOk result (λ met. IsTrue met → Has sender.new.seen.held (record { thread = 1; sync = 1000 }) × (¬ Has sender.new.seen.opened (record { thread = 1; sync = 1000 }))) }
+    ensures sender { IfOk result (λ met. IsTrue met → Has sender.new.seen.held (record { thread = 1; sync = 1000 }) × (¬ Has sender.new.seen.opened (record { thread = 1; sync = 1000 })) × (¬ SawEnded sender.new.seen 1)) }
     ensures lanes { IsMeetPassOf meet.now lanes.new }
 {
     for sync in 0..ROWS {

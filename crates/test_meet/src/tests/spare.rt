@@ -8,7 +8,7 @@ ghost use Rattle.meet.specs.Rooms.{IsMeetPassOf};
 use super::table::{receive, rooms, send, table_of_all};
 use cell::{Bare, Cells, NoGate, Pass};
 use meet::{Found, Meet, MeetPass};
-use protocol_values::{Cell, Offer, Row};
+use protocol_values::{Cell, Course, Offer, Row};
 use std::alloc::AllocError;
 use std::sync::Wait;
 use std::test::Fail;
@@ -32,6 +32,9 @@ fn opens(cells: &Cells<Bare>, pass: &mut Pass<Bare>, row: Row, offers: &[Offer])
     if !pass.holds(row) || !cells.has(row) {
         return false;
     }
+    let Course::Running(_) = cells.course(pass, row.thread) else {
+        return false;
+    };
     let Cell::Fresh = cells.look(pass, row) else {
         return false;
     };

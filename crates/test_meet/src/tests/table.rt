@@ -4,8 +4,8 @@ ghost use Rattle.std.specs.Prelude.{◌≡◌, ◌+◌, ◌<◌, ◌≤◌, ℕ,
 ghost use Rattle.protocol_values.specs.Words.{IsOfferInRange};
 ghost use Rattle.cell.specs.Calls.{IsPassOf, IsRowOf, PassView};
 ghost use Rattle.cell_table.specs.Rule.{dealt_rows, seen_nothing};
-ghost use Rattle.cell_table.specs.Sight.{AreOffers, Has};
-ghost use Rattle.cell_table.specs.Views.{first_row};
+ghost use Rattle.cell_table.specs.Sight.{AreOffers, Has, SawEnded};
+ghost use Rattle.protocol.specs.Worlds.{first_row};
 ghost use Rattle.meet.specs.Rooms.{IsMeetPassOf};
 
 use cell::{Bare, Cells, Pass};
@@ -104,7 +104,7 @@ fn table_of_threads(
     requires threads { (1 ≤ threads) × (threads ≤ 16) }
     requires rows { (1 ≤ rows) × (rows ≤ 1024) }
     ensures size { IfOk result (λ t. (t.0.threads ≡ threads) × (t.0.rows ≡ rows) × (length t.1.items ≡ threads)) }
-    ensures passes { IfOk result (λ t. (number : ℕ) (pass : PassView) → slice_get t.1.items number ≡ Some pass → IsPassOf t.0 pass × Has pass.seen.held (first_row number) × (pass.seen.opened ≡ [])) }
+    ensures passes { IfOk result (λ t. (number : ℕ) (pass : PassView) → slice_get t.1.items number ≡ Some pass → IsPassOf t.0 pass × Has pass.seen.held (first_row number) × (pass.seen.opened ≡ []) × (pass.seen.ended ≡ [])) }
 {
     let (cells, passes) = Cells::new(alloc, threads, rows, threads)?;
     Ok((cells, passes))
@@ -113,11 +113,11 @@ fn table_of_threads(
 /// Takes the last pass: it holds the row of the last thread, and has not opened it.
 fn deal(cells: &Cells<Bare>, passes: &mut Vec<Pass<Bare>>, thread: u8) -> Pass<Bare>
     requires count { length passes.old.items ≡ thread + 1 }
-    requires passes { (number : ℕ) (pass : PassView) → slice_get passes.old.items number ≡ Some pass → IsPassOf cells.now pass × Has pass.seen.held (first_row number) × (pass.seen.opened ≡ []) }
+    requires passes { (number : ℕ) (pass : PassView) → slice_get passes.old.items number ≡ Some pass → IsPassOf cells.now pass × Has pass.seen.held (first_row number) × (pass.seen.opened ≡ []) × (pass.seen.ended ≡ []) }
     ensures count { length passes.new.items ≡ thread }
-    ensures passes { (number : ℕ) (pass : PassView) → slice_get passes.new.items number ≡ Some pass → IsPassOf cells.now pass × Has pass.seen.held (first_row number) × (pass.seen.opened ≡ []) }
+    ensures passes { (number : ℕ) (pass : PassView) → slice_get passes.new.items number ≡ Some pass → IsPassOf cells.now pass × Has pass.seen.held (first_row number) × (pass.seen.opened ≡ []) × (pass.seen.ended ≡ []) }
     ensures here { IsPassOf cells.now result }
-    ensures row { Has result.seen.held (first_row thread) × (result.seen.opened ≡ []) }
+    ensures row { Has result.seen.held (first_row thread) × (result.seen.opened ≡ []) × (result.seen.ended ≡ []) }
 {
     let Some(pass) = passes.pop() else {
         unreachable!()
@@ -132,8 +132,8 @@ pub(super) fn table_of_two(
 ) -> Result<(Cells<Bare>, Pass<Bare>, Pass<Bare>), AllocError>
     requires { (1 ≤ rows) × (rows ≤ 1024) }
     ensures size { IfOk result (λ t. (t.0.threads ≡ 2) × (t.0.rows ≡ rows)) }
-    ensures first { IfOk result (λ t. IsPassOf t.0 t.1 × Has t.1.seen.held (first_row 0) × (t.1.seen.opened ≡ [])) }
-    ensures second { IfOk result (λ t. IsPassOf t.0 t.2 × Has t.2.seen.held (first_row 1) × (t.2.seen.opened ≡ [])) }
+    ensures first { IfOk result (λ t. IsPassOf t.0 t.1 × Has t.1.seen.held (first_row 0) × (t.1.seen.opened ≡ []) × (t.1.seen.ended ≡ [])) }
+    ensures second { IfOk result (λ t. IsPassOf t.0 t.2 × Has t.2.seen.held (first_row 1) × (t.2.seen.opened ≡ []) × (t.2.seen.ended ≡ [])) }
 {
     let (cells, mut passes) = table_of_threads(alloc, 2, rows)?;
     let second = deal(&cells, &mut passes, 1);
@@ -172,10 +172,12 @@ pub(super) fn last(meet: &Meet, all: &mut Vec<MeetPass>) -> MeetPass
 pub(super) fn enter(cells: &Cells<Bare>, pass: &mut Pass<Bare>, row: Row, offers: &[Offer])
     requires here { IsPassOf cells.now pass.old × IsRowOf cells.now row }
     requires fresh { Has pass.old.seen.held row × (¬ Has pass.old.seen.opened row) }
+    requires alive { ¬ SawEnded pass.old.seen row.thread }
     requires offers { AreOffers offers.now }
     ensures here { IsPassOf cells.now pass.new }
     ensures held { pass.new.seen.held ≡ pass.old.seen.held }
     ensures opened { pass.new.seen.opened ≡ row ∷ pass.old.seen.opened }
+    ensures ended { pass.new.seen.ended ≡ pass.old.seen.ended }
 {
     cells.draft(pass, row, offers);
     cells.open(pass, row);

@@ -5,7 +5,7 @@ ghost use Rattle.std.specs.Prelude.{◌≡◌, [], IfOk};
 ghost use Rattle.protocol_values.specs.Words.{IsOfferInRange};
 ghost use Rattle.cell.specs.Calls.{IsPassOf, IsRowOf};
 ghost use Rattle.cell_table.specs.Sight.{Has};
-ghost use Rattle.cell_table.specs.Views.{first_row};
+ghost use Rattle.protocol.specs.Worlds.{first_row};
 ghost use Rattle.meet.specs.Rooms.{IsMeetPassOf};
 
 use super::table::{NACK, cancelled, enter, last, receive, row, send, table_of_two};
@@ -58,7 +58,7 @@ fn search<R: Wait>(
     arrived: &AtomicU64,
 ) -> (Result<Found, AllocError>, Pass<Bare>)
     requires here { IsPassOf cells.now pass × IsRowOf cells.now (first_row thread) }
-    requires fresh { Has pass.seen.held (first_row thread) × (pass.seen.opened ≡ []) }
+    requires fresh { Has pass.seen.held (first_row thread) × (pass.seen.opened ≡ []) × (pass.seen.ended ≡ []) }
     requires offer { IsOfferInRange offer }
     requires lanes { IsMeetPassOf meet.now lanes }
     ensures here { IsPassOf cells.now result.1 }
@@ -104,13 +104,13 @@ fn no_pair_is_missed(rt: HostRuntime) -> Result<(), Fail> {
             || -> (Result<Found, AllocError>, Pass<Bare>)
                 requires here { IsPassOf cells sender × IsRowOf cells (first_row 0) }
                 requires lanes { IsMeetPassOf meet first }
-                requires fresh { Has sender.seen.held (first_row 0) × (sender.seen.opened ≡ []) }
+                requires fresh { Has sender.seen.held (first_row 0) × (sender.seen.opened ≡ []) × (sender.seen.ended ≡ []) }
                 ensures here { IsPassOf cells result.1 }
             { search(&rt, &meet, &cells, sender, first, 0, send(0, 42), &arrived) },
             || -> (Result<Found, AllocError>, Pass<Bare>)
                 requires here { IsPassOf cells receiver × IsRowOf cells (first_row 1) }
                 requires lanes { IsMeetPassOf meet second }
-                requires fresh { Has receiver.seen.held (first_row 1) × (receiver.seen.opened ≡ []) }
+                requires fresh { Has receiver.seen.held (first_row 1) × (receiver.seen.opened ≡ []) × (receiver.seen.ended ≡ []) }
                 ensures here { IsPassOf cells result.1 }
             {
                 search(
@@ -152,7 +152,7 @@ fn nobody_who_waits_for_a_nack_is_missed(rt: HostRuntime) -> Result<(), Fail> {
             || -> (Result<Found, AllocError>, Pass<Bare>)
                 requires here { IsPassOf cells waiter × IsRowOf cells (first_row 1) }
                 requires lanes { IsMeetPassOf meet second }
-                requires fresh { Has waiter.seen.held (first_row 1) × (waiter.seen.opened ≡ []) }
+                requires fresh { Has waiter.seen.held (first_row 1) × (waiter.seen.opened ≡ []) × (waiter.seen.ended ≡ []) }
                 ensures here { IsPassOf cells result.1 }
             { search(&rt, &meet, &cells, waiter, second, 1, cancelled(), &arrived) },
         );

@@ -3,7 +3,7 @@
 ghost use Rattle.std.specs.Prelude.{◌≡◌, [], ◌∷◌};
 ghost use Rattle.cell.specs.Calls.{IsPassOf, IsRowOf};
 ghost use Rattle.cell_table.specs.Sight.{AreOffers, Has};
-ghost use Rattle.cell_table.specs.Views.{first_row};
+ghost use Rattle.protocol.specs.Worlds.{first_row};
 
 use super::acts::{Act, Offers, Single};
 use super::searches::check_acts;
@@ -24,7 +24,7 @@ fn two() -> [Offer; 2]
 /// inside the scope and an always outside it.
 pub(super) fn enter_bound(cells: &Cells<Bare>, pass: &mut Pass<Bare>) -> bool
     requires here { IsPassOf cells.now pass.old × IsRowOf cells.now (first_row 0) }
-    requires fresh { Has pass.old.seen.held (first_row 0) × (pass.old.seen.opened ≡ []) }
+    requires fresh { Has pass.old.seen.held (first_row 0) × (pass.old.seen.opened ≡ []) × (pass.old.seen.ended ≡ []) }
     ensures here { IsPassOf cells.now pass.new }
     ensures held { pass.new.seen.held ≡ pass.old.seen.held }
     ensures opened { pass.new.seen.opened ≡ first_row 0 ∷ [] }

@@ -4,14 +4,14 @@ use Rattle.protocol_values.specs.declared.Cell.TheVariants.{Fresh, Waiting, Clai
 use Rattle.protocol_values.specs.declared.Joined.{Joined}
 use Rattle.cell_table.specs.declared.view.View.{View}
 use Rattle.cell_table.specs.declared.view.Stage.TheVariants.{Resting, Claims}
-use Rattle.cell.specs.Attempts.{IsNear}
-use Rattle.cell_table.specs.Sight.{CanJoin, Learns, SawCommitted}
+use Rattle.cell.specs.Attempts.{IsLifeNear, IsNear}
+use Rattle.cell_table.specs.Sight.{CanJoin, LearnsOf, SawCommitted}
 use Rattle.cell_table.specs.Told.{Agrees, joining, settled}
 use Rattle.protocol_values.specs.declared.Step.TheVariants.{Claim, Seal, Yield}
 use Rattle.protocol.specs.Worlds.{mirrored}
 use Rattle.cell_table.specs.Views.{did, saw, turned}
 use Rattle.cell.proofs.Meeting.{can_join_opened, claim_found, join_found, err_case, learns_met, learns_yield}
-use Rattle.cell.proofs.Learning.{learns_look, learns_wider}
+use Rattle.cell.proofs.Learning.{learns_look, learns_wider, lives_wider}
 use Rattle.cell.proofs.attempt.meet.Goals as goal
 
 unclaimed : (c : Cell) → (c ≡ Fresh) ⊎ ((c ≡ Waiting) ⊎ (((j : Joined) × (c ≡ Synched j)) ⊎ ((j : Joined) × (c ≡ Taken j)))) → c ≢ Claimed
@@ -31,8 +31,9 @@ returns-then-is_err-clause-attempted g c =
 pub returns-then-is_err-clause-learns : goal.returns-then-is_err-clause-learns
 returns-then-is_err-clause-learns g c =
     let found = err_case c.claim.result (λ cell. (cell ≢ Waiting) × (c.claim.new.seat.me.0 ≡ saw c.args.mine.0 cell c.args.seat.now.me.0) × Agrees c.args.seat.now.me.0 c.args.mine.0 cell) (search rules) c.claim.ensures.found in
-    subst (λ (v : View _). Learns (IsNear c.args.mine.0 c.args.other) c.args.seat.now.me.0.seen v.seen) (sym found.1.1)
-    (learns_wider (λ q. q ≡ c.args.mine.0) (IsNear c.args.mine.0 c.args.other) _ _ (λ q e. inl e) (learns_look c.args.mine.0 found.0 c.args.seat.now.me.0.seen))
+    subst (λ (v : View _). LearnsOf (IsNear c.args.mine.0 c.args.other) (λ n. ⊥) (IsLifeNear c.args.mine.0 c.args.other) c.args.seat.now.me.0.seen v.seen) (sym found.1.1)
+    (lives_wider (IsNear c.args.mine.0 c.args.other) (λ p. ⊥) (IsLifeNear c.args.mine.0 c.args.other) _ _ (λ p h. absurd h)
+    (learns_wider (λ q. q ≡ c.args.mine.0) (IsNear c.args.mine.0 c.args.other) _ _ (λ q e. inl e) (learns_look c.args.mine.0 found.0 c.args.seat.now.me.0.seen)))
 
 pub join-requires-clause-can : goal.join-requires-clause-can
 join-requires-clause-can g c =
@@ -46,7 +47,7 @@ returns-in-Ok-clause-learns g c =
     let claimed : c.claim.new.seat.me.0 ≡ did (Claim mine) (turned (Claims mine) mine c.args.seat.now.me.0) = (search rules) in
     let joined : c.join.new.seat.me.0 ≡ joining mine c.args.mine.1 c.args.other c.args.joined c.claim.new.seat.me.0 = (search rules) in
     let after = c.seal.ensures.sealed ∙ ap (λ (v : View _). did (Seal mine) (settled mine way v)) (joined ∙ ap (joining mine c.args.mine.1 c.args.other c.args.joined) claimed) in
-    subst (λ (v : View _). Learns (IsNear mine c.args.other) c.args.seat.now.me.0.seen v.seen) (sym after) (learns_met mine c.args.other way c.args.joined c.args.seat.now.me.0.seen)
+    subst (λ (v : View _). LearnsOf (IsNear mine c.args.other) (λ n. ⊥) (IsLifeNear mine c.args.other) c.args.seat.now.me.0.seen v.seen) (sym after) (learns_met mine c.args.other way c.args.joined c.args.seat.now.me.0.seen)
 
 pub returns-in-Claimed-clause-learns : goal.returns-in-Claimed-clause-learns
 returns-in-Claimed-clause-learns g c =
@@ -54,7 +55,7 @@ returns-in-Claimed-clause-learns g c =
     let claimed : c.claim.new.seat.me.0 ≡ did (Claim mine) (turned (Claims mine) mine c.args.seat.now.me.0) = (search rules) in
     let found : c.join.new.seat.me.0 ≡ saw c.args.other c.in-Err.found c.claim.new.seat.me.0 = (search rules) in
     let after = c.give_up.ensures.waits ∙ ap (λ (v : View _). did (Yield mine) (turned Resting mine v)) (found ∙ ap (saw c.args.other c.in-Err.found) claimed) in
-    subst (λ (v : View _). Learns (IsNear mine c.args.other) c.args.seat.now.me.0.seen v.seen) (sym after) (learns_yield mine c.args.other c.in-Err.found c.args.seat.now.me.0.seen)
+    subst (λ (v : View _). LearnsOf (IsNear mine c.args.other) (λ n. ⊥) (IsLifeNear mine c.args.other) c.args.seat.now.me.0.seen v.seen) (sym after) (learns_yield mine c.args.other c.in-Err.found c.args.seat.now.me.0.seen)
 
 -- the other row was found neither Waiting nor Claimed, and one's own was given up
 pub returns-in-Fresh : goal.returns-in-Fresh
@@ -71,7 +72,7 @@ returns-in-Fresh g c =
     record {
       sits = (search rules);
       stays = (search rules);
-      learns = subst (λ (v : View _). Learns (IsNear c.args.mine.0 c.args.other) c.args.seat.now.me.0.seen v.seen) (sym after)
+      learns = subst (λ (v : View _). LearnsOf (IsNear c.args.mine.0 c.args.other) (λ n. ⊥) (IsLifeNear c.args.mine.0 c.args.other) c.args.seat.now.me.0.seen v.seen) (sym after)
           (learns_yield c.args.mine.0 c.args.other c.in-Err.found c.args.seat.now.me.0.seen);
       attempted = (
         subst (λ (v : View _). SawCommitted v.seen c.args.other) (sym (c.give_up.ensures.waits ∙ ap (λ (v : View _). did (Yield c.args.mine.0) (turned Resting c.args.mine.0 v)) found)) committed,

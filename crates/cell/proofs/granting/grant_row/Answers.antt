@@ -3,29 +3,29 @@ use Rattle.protocol_values.specs.declared.Offer.{Offer}
 use Rattle.protocol_values.specs.Words.{IsJoinedInRange}
 use Rattle.protocol.proofs.Linking.{some_inj}
 use Rattle.cell.specs.Attempts.{IsNearGrant}
-use Rattle.cell_table.specs.Nacks.{CanGrant, SawCause}
+use Rattle.cell_table.specs.Nacks.{CanGrant, IsReadyAlone, SawCause}
 use Rattle.cell_table.specs.Sight.{Has, HaveOffer}
 use Rattle.cell.proofs.Learning.{learns_then, learns_nothing}
 use Rattle.cell_table.proofs.Offers.{sees_more}
 use Rattle.cell.proofs.Meeting.{from_none, from_some}
-use Rattle.cell.proofs.Alone.{IsReady, can, cause_more, given_is, late_is, near_cause, near_offer}
+use Rattle.cell.proofs.Alone.{IsReady, can, given_is, late_is, near_cause, near_offer, ready_more}
 use Rattle.cell.proofs.granting.grant_row.Goals as goal
 use Rattle.cell.proofs.granting.grant_row.Goals.{After-cause_of, After-last_stamp-last}
 
 -- the row has no such offer
 pub returns-in_default-clause-granted : goal.returns-in_default-clause-granted
-returns-in_default-clause-granted g c (o, stamp, sees, caused) =
+returns-in_default-clause-granted g c (o, sees, ready) =
     c.in_default.not-Some o (c.offer_of.ensures.same o (sees_more _ _ _ _ _ o c.offer_of.ensures.learns sees))
 
 -- nothing lets the offer commit its row alone
 pub returns-in_default-cause_of-clause-granted : goal.returns-in_default-cause_of-clause-granted
-returns-in_default-cause_of-clause-granted g c (o, stamp, sees, caused) =
+returns-in_default-cause_of-clause-granted g c (o, sees, ready) =
     let some : c.offer_of.result ≡ Some c.in-Some.offer = (search rules) in
     let same : o ≡ c.in-Some.offer = some_inj o c.in-Some.offer (sym (c.offer_of.ensures.same o (sees_more _ _ _ _ _ o c.offer_of.ensures.learns sees)) ∙ some) in
     let none : c.cause_of.result ≡ None = (search rules) in
-    let later : SawCause c.offer_of.new.seat.me.0.seen c.in-Some.offer.base stamp =
-    subst (λ (p : Offer). SawCause c.offer_of.new.seat.me.0.seen p.base stamp) same (cause_more (λ q. q ≡ c.args.row) c.args.seat.now.me.0.seen c.offer_of.new.seat.me.0.seen o.base stamp c.offer_of.ensures.learns caused) in
-    from_none c.cause_of.result ((stamp : ℕ) → ¬ SawCause c.offer_of.new.seat.me.0.seen c.in-Some.offer.base stamp) c.cause_of.ensures.none none stamp later
+    let later : IsReadyAlone c.offer_of.new.seat.me.0.seen c.in-Some.offer.base =
+    subst (λ (p : Offer). IsReadyAlone c.offer_of.new.seat.me.0.seen p.base) same (ready_more (λ q. q ≡ c.args.row) c.args.seat.now.me.0.seen c.offer_of.new.seat.me.0.seen o.base c.offer_of.ensures.learns ready) in
+    from_none c.cause_of.result (¬ IsReadyAlone c.offer_of.new.seat.me.0.seen c.in-Some.offer.base) c.cause_of.ensures.none none later
 
 -- what was read of the offer
 read : (g : _) (c : After-cause_of g) → Has c.offer_of.new.seat.me.0.seen.opened c.args.row × HaveOffer c.offer_of.new.seat.me.0.seen.words c.args.row c.args.n c.in-Some.offer
@@ -37,7 +37,7 @@ pub returns-in_default-cause_of-clause-learns : goal.returns-in_default-cause_of
 returns-in_default-cause_of-clause-learns g c =
     learns_then (IsNearGrant c.cause_of.new.seat.me.0.seen c.args.row c.args.n) c.args.seat.now.me.0.seen c.offer_of.new.seat.me.0.seen c.cause_of.new.seat.me.0.seen
     (near_offer c.args.seat.now.me.0.seen c.offer_of.new.seat.me.0.seen c.cause_of.new.seat.me.0.seen c.args.row c.args.n c.offer_of.ensures.learns)
-    (near_cause c.offer_of.new.seat.me.0.seen c.cause_of.new.seat.me.0.seen c.cause_of.new.seat.me.0.seen c.args.row c.args.n c.in-Some.offer (read g c.before).1 c.cause_of.ensures.learns (learns_nothing (λ q. ⊥) (λ m. ⊥) c.cause_of.new.seat.me.0.seen))
+    (near_cause c.offer_of.new.seat.me.0.seen c.cause_of.new.seat.me.0.seen c.cause_of.new.seat.me.0.seen c.args.row c.args.n c.in-Some.offer (read g c.before).1 c.cause_of.ensures.learns (learns_nothing (λ q. ⊥) (λ m. ⊥) (λ p. ⊥) c.cause_of.new.seat.me.0.seen))
 
 ready : (g : _) (c : After-last_stamp-last g) → IsReady c.args.seat.now.me.0.seen c.offer_of.new.seat.me.0.seen c.cause_of.new.seat.me.0.seen c.last_stamp-last.new.seat.me.0 c.args.row c.args.n c.in-Some.offer c.in-Some-cause_of.cause c.last_stamp-last.result
 ready g c =

@@ -43,7 +43,7 @@ returns-then-has_scope-clause-none g c j e =
     true≢false (sym set ∙ (λ i. has_scope (sym offer i).scopes (sym is.0 i).scope) ∙ e.outside)
 
 -- the nack's word was looked at, and then the row to which it is bound
-learnt : (g : _) (c : After-opened_offer g) → LearnsOf (λ q. (b : Binding) × Has c.opened_offer.new.seat.me.0.seen.bound (c.args.nack, b) × (q ≡ bound_row c.args.nack b)) (λ n. n ≡ c.args.nack) c.args.seat.now.me.0.seen c.opened_offer.new.seat.me.0.seen
+learnt : (g : _) (c : After-opened_offer g) → LearnsOf (λ q. (b : Binding) × Has c.opened_offer.new.seat.me.0.seen.bound (c.args.nack, b) × (q ≡ bound_row c.args.nack b)) (λ n. n ≡ c.args.nack) (λ p. ⊥) c.args.seat.now.me.0.seen c.opened_offer.new.seat.me.0.seen
 learnt g c =
     let nack = c.args.nack in
     let s = c.args.seat.now.me.0.seen in
@@ -61,3 +61,6 @@ returns-then-has_scope-clause-learns g c = learnt g c.before.before.before.befor
 
 pub returns-clause-learns : goal.returns-clause-learns
 returns-clause-learns g c = learnt g c.before.before.before.before.before
+
+pub returns-in_err-chosen-clause-learns : goal.returns-in_err-chosen-clause-learns
+returns-in_err-chosen-clause-learns g c = learnt g c.before.before.before

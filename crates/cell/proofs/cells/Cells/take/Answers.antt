@@ -1,20 +1,31 @@
-use Rattle.std.proofs.Common.{◌≡◌, ℕ, ◌+◌, List, length, Option, ap, sym, subst}
+use Rattle.std.proofs.Common.{rules, ◌≡◌, ℕ, ◌+◌, List, length, ◌<◌, Option, Some, ap, sym, subst}
 use Rattle.protocol.specs.Standing.{Result}
 use Rattle.cell_table.specs.declared.view.Seen.{Seen}
-use Rattle.cell_table.specs.declared.view.View.{View}
 use Rattle.cell.specs.Calls.{GridOf, PassOf}
+use Rattle.cell.specs.Flags.{AreFlags, places_of}
 use Rattle.cell_table.specs.Sight.{Has}
 use Rattle.cell_table.specs.Told.{ComesOut}
+use Rattle.cell.specs.Attempts.{Took}
+use Rattle.cell.proofs.Flagging.{taken_flags}
 use Rattle.cell.proofs.cells.Cells.take.Goals as goal
-use Rattle.cell.proofs.cells.Cells.take.Goals.{then-next-rows, else-next-rows}
 
 pub returns-clause-out : goal.returns-clause-out
 returns-clause-out g c =
-    let out = c.in_ok-joined.ensures.out in
     let seen = ap (λ (p : PassOf g.row.M.Denot). p.seen) c.pass.view_is in
     let before = ap (λ (p : PassOf g.row.M.Denot). p.out) c.pass.view_is in
     let first = ap (λ (x : GridOf g.row.M.Denot). x.first) c.self.view_is in
-    let new : c.if-next-rows.pass-inside.seat.me ≡ c.take_row.new.seat.me = elim c.if-next-rows.branch [ then-next-rows w ↦ ap (λ z. z.seat.me) w.pass-inside-is | else-next-rows w ↦ ap (λ z. z.seat.me) w.pass-inside-is ] in
-    subst (λ (z : Seen × List (ℕ × Option g.row.M.Denot) × List g.row.M.Denot × (View g.row.M.Denot × List (ℕ × Option g.row.M.Denot))).
-    (told : List Result) × Has z.3.0.results (c.args.row.thread, told) × (length told ≡ c.args.row.sync + 1) × ComesOut g.M.Resident.stands z.2 z.0 z.3.0.seen c.args.row c.in_ok-joined.joined.own told z.1 z.3.1)
-    (λ i. (seen i, before i, first i, sym new i)) out
+    subst (λ (z : Seen × List (ℕ × Option g.row.M.Denot) × List g.row.M.Denot).
+    (told : List Result) × Has c.take_row.new.seat.me.0.results (c.args.row.thread, told) × (length told ≡ c.args.row.sync + 1) × ComesOut g.M.Resident.stands z.2 z.0 c.take_row.new.seat.me.0.seen c.args.row c.in_ok-joined.joined.own told z.1 c.take_row.new.seat.me.1)
+    (λ i. (seen i, before i, first i)) c.in_ok-joined.ensures.out
+
+pub invariant_of-pass-2 : goal.invariant_of-pass-2
+invariant_of-pass-2 g c =
+    let some : c.take_row.result ≡ Some c.in_ok-joined.joined = (search rules) in
+    let rows : c.take_row.new.seat.me.0.rows ≡ c.pass.inside.seat.me.0.rows = (search rules) in
+    let threads : c.insert.new.self.threads ≡ c.pass.inside.rows.threads = (search rules) in
+    let all : c.insert.new.self.rows ≡ c.pass.inside.seat.me.0.rows + 1 = (search rules) in
+    let old : AreFlags c.pass.inside.rows.threads (c.pass.inside.seat.me.0.rows + 1) c.pass.inside.rows.flags.items (places_of c.pass.inside.seat.me.0.rows c.pass.inside.seat.me.0.seen) = (search rules) in
+    let below : c.args.row.sync < c.pass.inside.seat.me.0.rows = (search rules) in
+    let took : Took c.pass.inside.seat.me.0.rows c.pass.inside.seat.me.0.seen c.take_row.new.seat.me.0.seen c.args.row c.in_ok-joined.joined = (search rules) in
+    let flags = taken_flags c.pass.inside.rows.threads c.pass.inside.seat.me.0.rows c.pass.inside.rows.flags.items c.insert.new.self.flags.items c.pass.inside.seat.me.0.seen c.take_row.new.seat.me.0.seen c.args.row c.in_ok-joined.joined below took (search rules) old in
+    ((search rules), (search rules), (search rules), subst (λ (z : ℕ × ℕ × ℕ). AreFlags z.0 z.1 c.insert.new.self.flags.items (places_of z.2 c.take_row.new.seat.me.0.seen)) (λ i. (sym threads i, sym all i, sym rows i)) flags)

@@ -14,7 +14,7 @@ compare_exchange-found-requires g c = (
   search rules,
   search rules,
   subst (λ (z : Shape g.row.M.Denot × ℕ × ℕ). Allows (Keeps g.M.Resident.stands z.0) c.args.self.now.words.shared.table_id.slots c.args.seat.now.id c.args.seat.now.me c.nack_place.result (λ n. either (eqb n z.1) z.2 n) (tried_bind g.M.Resident.stands (step c.args.self.now.words.shared.table_id.slots c.nack_place.result z.1 z.2 none) c.args.seat.now.me)) (λ i. (sym c.args.self.now.keyed i, sym c.pack_nack-free.ensures i, sym c.pack_nack-word.ensures i))
-      (bind_allowed g.M.Resident.stands c.args.self.now.shape c.args.self.now.words.shared.table_id.slots c.args.seat.now.id c.nack_place.result c.args.seat.now.me c.args.nack (search rules) (search rules) (search rules) c.args.bound c.requires.range c.requires.resting (search rules) (search rules) (search rules)),
+      (bind_allowed g.M.Resident.stands c.args.self.now.shape c.args.self.now.words.shared.table_id.slots c.args.seat.now.id c.nack_place.result c.args.seat.now.me c.args.nack (search rules) (search rules) (search rules) c.args.bound c.requires.range c.requires.resting (search rules) (search rules) c.requires.alive (search rules)),
 )
 
 pub returns-in-Some-clause-sits : goal.returns-in-Some-clause-sits

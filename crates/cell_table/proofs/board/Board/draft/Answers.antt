@@ -13,7 +13,7 @@ store-requires g c = (
   search rules,
   search rules,
   subst (λ (z : Shape g.row.M.Denot). Allows (Keeps g.M.Resident.stands z) c.args.self.now.words.shared.table_id.slots c.args.seat.now.id c.args.seat.now.me c.place.result (λ n. c.args.word) (λ n. drafted (step c.args.self.now.words.shared.table_id.slots c.place.result c.args.word 0 none) c.args.seat.now.me c.args.word)) (sym c.args.self.now.keyed)
-      (draft_allowed g.M.Resident.stands c.args.self.now.shape c.args.self.now.words.shared.table_id.slots c.args.seat.now.id c.place.result c.args.seat.now.me c.args.row (search rules) (search rules) (search rules) c.args.place c.args.word (search rules) (search rules) (search rules) c.requires.resting (search rules) (search rules) (search rules)),
+      (draft_allowed g.M.Resident.stands c.args.self.now.shape c.args.self.now.words.shared.table_id.slots c.args.seat.now.id c.place.result c.args.seat.now.me c.args.row (search rules) (search rules) (search rules) c.args.place c.args.word (search rules) (search rules) (search rules) c.requires.resting (search rules) (search rules) c.requires.alive (search rules)),
 )
 
 told : (g : _) (c : goal.After-store g)

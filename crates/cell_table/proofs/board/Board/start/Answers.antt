@@ -10,7 +10,7 @@ new-requires g c = keeps_start g.M.Resident.stands c.args.shape c.args.words.now
 pub invariant_of-result : goal.invariant_of-result
 invariant_of-result g c = record {
   keyed = (search rules);
-  sized = c.in-Ok.ensures.ok.0 ∙ ap (λ (ws : List ℕ). length ws) c.requires.words ∙ length_start c.args.shape.threads c.args.shape.rows 0;
+  sized = c.in-Ok.ensures.ok.0 ∙ ap (λ (ws : List ℕ). length ws) c.requires.words ∙ length_start c.args.shape.threads c.args.shape.rows c.args.shape.later;
   slots = c.in-Ok.ensures.ok.1 ∙ ap (λ (xs : List (Option g.row.M.Denot)). length xs) c.requires.slots ∙ length-map c.args.shape.first.value.items Some;
   full = c.requires.full;
   small = (c.requires.shape.0, c.requires.shape.1, c.requires.shape.2, c.requires.shape.3);

@@ -11,7 +11,7 @@ use Rattle.protocol_values.specs.declared.NackName.{NackName}
 use Rattle.protocol_values.specs.declared.Binding.{Binding}
 use Rattle.protocol.specs.Tables.{bound_row}
 use Rattle.protocol_values.specs.Values.{next_row}
-use Rattle.cell_table.specs.Sight.{Has}
+use Rattle.cell_table.specs.Sight.{Has, SawEnded}
 use Rattle.cell_table.specs.Seats.{StaysAtTable}
 use Rattle.protocol_values.specs.declared.Cell.TheVariants.{Fresh, Synched}
 use Rattle.cell_table.specs.declared.view.Shape.{Shape}
@@ -44,8 +44,8 @@ pub returns-clause-took : goal.returns-clause-took
 returns-clause-took g c =
     let told = c.compare_exchange-found.ensures.2 c.args.row c.args.joined
     (at_view c.args.self.now.shape c.args.seat.now.me.0 c.args.row (search rules) (search rules) (search rules), place_view c.args.self.now.shape c.args.seat.now.me.0 c.args.row 0 c.place.result (search rules) (search rules)) c.requires.range c.pack_cell-taken.ensures in
-    exchange_made c.exchanged.result (c.compare_exchange-found.result ≡ c.pack_cell-committed.result) (λ u. (results : List Result) × (length results ≡ c.args.row.sync + 1) × (c.compare_exchange-found.new.seat.me.0 ≡ did (Take c.args.row) (took_with c.args.row c.args.joined results c.args.seat.now.me.0)) × ComesOut g.M.Resident.stands c.args.self.now.shape.first.value.items c.args.seat.now.me.0.seen c.compare_exchange-found.new.seat.me.0.seen c.args.row c.args.joined.own results c.args.seat.now.me.1 c.compare_exchange-found.new.seat.me.1 × Agrees c.args.seat.now.me.0 c.args.row (Synched c.args.joined) × (¬ Has c.args.seat.now.me.0.seen.opened (next_row c.args.row)) × ((n : NackName) (b : Binding) → Has c.args.seat.now.me.0.seen.bound (n, b) → bound_row n b ≢ next_row c.args.row))
-    (λ u made. let is = told.0 (made ∙ c.pack_cell-committed.ensures) in (is.0, is.1, is.2, subst (λ (l : List g.row.M.Denot). ComesOut g.M.Resident.stands l c.args.seat.now.me.0.seen c.compare_exchange-found.new.seat.me.0.seen c.args.row c.args.joined.own is.0 c.args.seat.now.me.1 c.compare_exchange-found.new.seat.me.1) c.requires.sits.0.4 is.3, is.4, is.5, is.6))
+    exchange_made c.exchanged.result (c.compare_exchange-found.result ≡ c.pack_cell-committed.result) (λ u. (results : List Result) × (length results ≡ c.args.row.sync + 1) × (c.compare_exchange-found.new.seat.me.0 ≡ did (Take c.args.row) (took_with c.args.row c.args.joined results c.args.seat.now.me.0)) × ComesOut g.M.Resident.stands c.args.self.now.shape.first.value.items c.args.seat.now.me.0.seen c.compare_exchange-found.new.seat.me.0.seen c.args.row c.args.joined.own results c.args.seat.now.me.1 c.compare_exchange-found.new.seat.me.1 × Agrees c.args.seat.now.me.0 c.args.row (Synched c.args.joined) × (¬ Has c.args.seat.now.me.0.seen.opened (next_row c.args.row)) × (¬ SawEnded c.args.seat.now.me.0.seen c.args.row.thread) × ((n : NackName) (b : Binding) → Has c.args.seat.now.me.0.seen.bound (n, b) → bound_row n b ≢ next_row c.args.row))
+    (λ u made. let is = told.0 (made ∙ c.pack_cell-committed.ensures) in (is.0, is.1, is.2, subst (λ (l : List g.row.M.Denot). ComesOut g.M.Resident.stands l c.args.seat.now.me.0.seen c.compare_exchange-found.new.seat.me.0.seen c.args.row c.args.joined.own is.0 c.args.seat.now.me.1 c.compare_exchange-found.new.seat.me.1) c.requires.sits.0.4 is.3, is.4, is.5, is.6, is.7))
     c.exchanged.ensures.made
 
 pub returns-clause-found : goal.returns-clause-found

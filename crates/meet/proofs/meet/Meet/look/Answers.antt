@@ -1,6 +1,6 @@
 use Rattle.std.proofs.Common.{◌≡◌, ◌⊎◌, ℕ, ⊎_elim, subst}
 use Rattle.protocol_values.specs.declared.Direction.{Direction}
-use Rattle.protocol_values.specs.declared.Direction.TheVariants.{Never, OnEnd, Recv, Send}
+use Rattle.protocol_values.specs.declared.Direction.TheVariants.{Never, Recv, Send}
 use Rattle.protocol_values.specs.declared.Row.{Row}
 use Rattle.cell.specs.Calls.{GridOf, IsPassOf, PassOf}
 use Rattle.cell_table.specs.Nacks.{CanStandAlone}
@@ -16,12 +16,7 @@ never g p mine d e here sees is needs = stands_never _ _ p.seen mine.0 mine.1 e 
 of_pair : {M : Type 0} (g : GridOf M) (p : PassOf M) (mine : Row × ℕ) (d : Direction) → IsPassOf g p → SeesDirection p.seen mine.0 mine.1 d
     → ((chan : ℕ) × (atoms : ℕ) × (d ≡ Send chan atoms)) ⊎ ((chan : ℕ) × (d ≡ Recv chan)) → ¬ CanStandAlone p.seen mine.0 mine.1
 of_pair g p mine d here sees is =
-    ⊎_elim (λ w. never g p mine d (Send w.0 w.1) here sees w.2 (λ s x y z stamp h. h)) (λ w. never g p mine d (Recv w.0) here sees w.1 (λ s x y z stamp h. h)) is
-
-of_neither : {M : Type 0} (g : GridOf M) (p : PassOf M) (mine : Row × ℕ) (d : Direction) → IsPassOf g p → SeesDirection p.seen mine.0 mine.1 d
-    → ((thread : ℕ) × (d ≡ OnEnd thread)) ⊎ (d ≡ Never) → ¬ CanStandAlone p.seen mine.0 mine.1
-of_neither g p mine d here sees is =
-    ⊎_elim (λ w. never g p mine d (OnEnd w.0) here sees w.1 (λ s x y z stamp h. h)) (λ e. never g p mine d Never here sees e (λ s x y z stamp h. h)) is
+    ⊎_elim (λ w. never g p mine d (Send w.0 w.1) here sees w.2 (λ s x y z h. h)) (λ w. never g p mine d (Recv w.0) here sees w.1 (λ s x y z h. h)) is
 
 pub returns-in_default-clause-none : goal.returns-in_default-clause-none
 returns-in_default-clause-none g c = of_pair c.args.cells.now c.args.pass.now c.args.mine c.args.direction c.requires.here.0 c.requires.read c.in-Send.is
@@ -30,8 +25,8 @@ pub returns-in-Some-clause-none : goal.returns-in-Some-clause-none
 returns-in-Some-clause-none g c =
     ok_none c.look_at.result (of_pair c.args.cells.now c.args.pass.now c.args.mine c.args.direction c.requires.here.0 c.requires.read c.in-Send.is)
 
-pub returns-in-OnEnd-clause-none : goal.returns-in-OnEnd-clause-none
-returns-in-OnEnd-clause-none g c = of_neither c.args.cells.now c.args.pass.now c.args.mine c.args.direction c.requires.here.0 c.requires.read c.in-OnEnd.is
+pub returns-in-Never-clause-none : goal.returns-in-Never-clause-none
+returns-in-Never-clause-none g c = never c.args.cells.now c.args.pass.now c.args.mine c.args.direction Never c.requires.here.0 c.requires.read c.in-Never.is (λ s x y z h. h)
 
 pub returns-in_default-clause-more : goal.returns-in_default-clause-more
 returns-in_default-clause-more g c = each_on_nothing c.args.lanes.now.passes.items
@@ -39,5 +34,5 @@ returns-in_default-clause-more g c = each_on_nothing c.args.lanes.now.passes.ite
 pub returns-in-Always-clause-more : goal.returns-in-Always-clause-more
 returns-in-Always-clause-more g c = each_on_nothing c.args.lanes.now.passes.items
 
-pub returns-in-OnEnd-clause-more : goal.returns-in-OnEnd-clause-more
-returns-in-OnEnd-clause-more g c = each_on_nothing c.args.lanes.now.passes.items
+pub returns-in-Never-clause-more : goal.returns-in-Never-clause-more
+returns-in-Never-clause-more g c = each_on_nothing c.args.lanes.now.passes.items

@@ -1,0 +1,62 @@
+-- What a pass has seen once it has started a thread, or found it started.
+use Rattle.std.proofs.Common.{◌≡◌, ◌≢◌, ◌⊎◌, ℕ, true, false, List, sym, refl, ap, subst, inl, inr, ⊎_elim}
+use Rattle.protocol_values.specs.declared.Course.{Course}
+use Rattle.protocol_values.specs.declared.Course.TheVariants.{Unstarted, Running, Ended}
+use Rattle.protocol_values.specs.declared.Row.{Row}
+use Rattle.cell.specs.Attempts.{LearnsLast, Started}
+use Rattle.cell_table.specs.declared.view.Seen.{Seen}
+use Rattle.cell_table.specs.Sight.{Has, HasSeenLast, IsBefore, IsUnseen, Learns, LearnsOf, SawEnded, see_course, see_start}
+use Rattle.cell.proofs.Learning.{learns_course, learns_then, learns_wider, lives_wider}
+
+-- what was not seen then was not seen before
+unseen_before : {Nacks : _} {Lives : ℕ → Type 0} (About : Row → Type 0) (s t : Seen) (p : ℕ) → LearnsOf About Nacks Lives s t → IsUnseen t p → IsUnseen s p
+unseen_before About s t p l u = record {
+  held = λ r h. u.held r (subst (λ (rs : List Row). Has rs r) (sym l.held) h);
+  opened = λ r h. u.opened r (l.opened.0 r h);
+  lasts = λ h. u.lasts (subst (λ (ts : List ℕ). Has ts p) (sym l.lasts) h);
+  bound = λ n b h. u.bound n b (l.bound.0 (n, b) h);
+  started = λ stamp h. u.started stamp (l.started.0 (p, stamp) h);
+  ended = λ h. u.ended (h.0, l.ended.0 (p, h.0) h.1);
+}
+
+-- a course that has begun was seen so
+pub course_begun : (p : ℕ) (c : Course) (s : Seen) → c ≢ Unstarted → (stamp : ℕ) × Has (see_course p c s).started (p, stamp)
+course_begun p Unstarted s n = absurd (n refl)
+course_begun p (Running start) s n = (start, inl refl)
+course_begun p (Ended start sync) s n = (start, inl refl)
+
+module _ (before stood u after : Seen) (r : Row) (p start stamp : ℕ) (turned : stood ≡ see_course r.thread (Running start) before) (learns : Learns (IsBefore r) stood u) (last : HasSeenLast u r stamp) (going : ¬ SawEnded before r.thread) (other : r.thread ≢ p) where
+  learns_last : LearnsLast r before u
+  learns_last =
+      learns_then (IsBefore r) before stood u
+      (learns_wider (λ q. ⊥) (IsBefore r) before stood (λ q h. absurd h) (subst (λ (s : Seen). LearnsOf (λ q. ⊥) (λ n. ⊥) (λ t. t ≡ r.thread) before s) (sym turned) (learns_course r.thread (Running start) before)))
+      (lives_wider (IsBefore r) (λ t. ⊥) (λ t. t ≡ r.thread) stood u (λ t h. absurd h) learns)
+
+  -- nothing was learnt of an end
+  still : ¬ SawEnded u r.thread
+  still h = ⊎_elim
+      (λ (old : Has stood.ended (r.thread, h.0)). going (h.0, subst (λ (s : Seen). Has s.ended (r.thread, h.0)) turned old))
+      (λ (none : ⊥). none)
+      (learns.ended.1 (r.thread, h.0) h.1)
+
+  still_course : (c : Course) → ¬ SawEnded (see_course p c u) r.thread
+  still_course Unstarted h = still h
+  still_course (Running s) h = still h
+  still_course (Ended s g) h = ⊎_elim
+      (λ (e : (p, g) ≡ (r.thread, h.0)). other (sym (ap (λ (z : ℕ × ℕ). z.0) e)))
+      (λ (old : Has u.ended (r.thread, h.0)). still (h.0, old))
+      h.1
+
+  pub started_now : after ≡ see_start p stamp u → IsUnseen u p → Started before after r p true
+  started_now is unseen = (u, stamp, learns_last, last, is, unseen_before (IsBefore r) before u p learns_last unseen, subst (λ (s : Seen). ¬ SawEnded s r.thread) (sym is) still)
+
+  pub started_before : (c : Course) → c ≢ Unstarted → after ≡ see_course p c u → Started before after r p false
+  started_before c begun is = (
+    learns_then (IsBefore r) before u after
+        (lives_wider (IsBefore r) (λ t. t ≡ r.thread) (λ t. (t ≡ r.thread) ⊎ (t ≡ p)) before u (λ t e. inl e) learns_last)
+        (subst (λ (s : Seen). LearnsOf (IsBefore r) (λ n. ⊥) (λ t. (t ≡ r.thread) ⊎ (t ≡ p)) u s) (sym is)
+        (lives_wider (IsBefore r) (λ t. t ≡ p) (λ t. (t ≡ r.thread) ⊎ (t ≡ p)) u (see_course p c u) (λ t e. inr e)
+        (learns_wider (λ q. ⊥) (IsBefore r) u (see_course p c u) (λ q h. absurd h) (learns_course p c u)))),
+    subst (λ (s : Seen). (stamp : ℕ) × Has s.started (p, stamp)) (sym is) (course_begun p c u begun),
+    subst (λ (s : Seen). ¬ SawEnded s r.thread) (sym is) (still_course c),
+  )

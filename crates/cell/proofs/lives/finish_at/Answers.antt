@@ -1,0 +1,9 @@
+use Rattle.std.proofs.Common.{sym, subst, refl, inl}
+use Rattle.cell_table.specs.declared.view.View.{View}
+use Rattle.cell_table.specs.Sight.{Has}
+use Rattle.cell.proofs.lives.finish_at.Goals as goal
+
+pub finish-requires-clause-started : goal.finish-requires-clause-started
+finish-requires-clause-started g c =
+    let has : Has c.look_life.new.seat.me.0.seen.started (c.args.row.thread, c.in-Running.start) = subst (λ (v : View _). Has v.seen.started (c.args.row.thread, c.in-Running.start)) (sym c.in-Running.ensures.saw) (inl refl) in
+    (has, (c.look_life.ensures.sits.1.3.started c.args.row.thread c.in-Running.start has).1)
