@@ -166,7 +166,7 @@ hand_other w seat x r n = ⊎_elim
     (cases_Bool (is_row w.table r))
 
 -- a row that some seat holds is held
-is_held : (w : World) (r : Row) (seat : ℕ) → holder_at w r ≡ Some seat → holder_at w r ≢ None
+pub is_held : (w : World) (r : Row) (seat : ℕ) → holder_at w r ≡ Some seat → holder_at w r ≢ None
 is_held w r seat h n = let bad : Some seat ≡ None = sym h ∙ n in cc
 
 -- a row that is open, or held, has its turn

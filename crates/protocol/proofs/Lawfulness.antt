@@ -1,5 +1,5 @@
 -- What all steps keep makes a ledger lawful.
-use Rattle.std.proofs.Common.{◌≡◌, ◌≢◌, ℕ, zero, suc, ◌+◌, ◌-◌, ◌<◌, ◌≤◌, true, false, length, Option, Some, None, sym, refl, ap, ◌∙◌, subst, ◌⊎◌, inl, inr, ⊎_elim, arith, is_some, max}
+use Rattle.std.proofs.Common.{◌≡◌, ◌≢◌, ℕ, zero, suc, ◌+◌, ◌<◌, ◌≤◌, true, false, length, Option, Some, None, sym, refl, ap, ◌∙◌, subst, ◌⊎◌, inl, inr, ⊎_elim, arith, is_some, max}
 use Rattle.std.proofs.lemmas.Bool.{cases_eq, cases_lt, false≢true, eqb-true}
 use Rattle.protocol_values.specs.declared.Message.{Message}
 use Rattle.protocol_values.specs.declared.NackName.{NackName}
@@ -137,7 +137,7 @@ alone_named offer r j c o b n e f h =
     ∙ h
 
 -- the start of a thread of a commit counts for it
-counts_own : (c : Commit) (r : Row) → Involves c r → CountsThread c r.thread
+pub counts_own : (c : Commit) (r : Row) → Involves c r → CountsThread c r.thread
 counts_own (Pair sender receiver chan msg stamp) r (n, inl e) = inl (ap (λ (z : Row × ℕ). z.0.thread) e)
 counts_own (Pair sender receiver chan msg stamp) r (n, inr e) = inr (ap (λ (z : Row × ℕ). z.0.thread) e)
 counts_own (Alone at why stamp) r (n, e) = inl (ap (λ (z : Row × ℕ). z.0.thread) e)
@@ -152,19 +152,19 @@ module _ (threads rows : ℕ) (cell : Row → Cell) (offer : Row → ℕ → Opt
   stands r j a = cause_alone (joined_by cell) offer marks (offer r j.own) a.cause a.is
 
   -- the commit that a joined row names
-  commit_of_joined : (r : Row) (j : Joined) → joined_of (cell r) ≡ Some j → (c : Commit) × (commit_named offer r j ≡ Some c)
+  pub commit_of_joined : (r : Row) (j : Joined) → joined_of (cell r) ≡ Some j → (c : Commit) × (commit_named offer r j ≡ Some c)
   commit_of_joined r j e = ⊎_elim
       (λ (n : j.partner ≡ None). named_alone offer r j n (stands r j (l.alone r j e n)))
       (λ (p : (p : Row × ℕ) × (j.partner ≡ Some p)). named_some offer r j p.0 p.1 (l.sides r j p.0 e p.1).meets)
       (cases_Option j.partner)
 
-  in_of_joined : (r : Row) (j : Joined) (e : joined_of (cell r) ≡ Some j) → IsIn (joined_by cell) offer (commit_of_joined r j e).0
+  pub in_of_joined : (r : Row) (j : Joined) (e : joined_of (cell r) ≡ Some j) → IsIn (joined_by cell) offer (commit_of_joined r j e).0
   in_of_joined r j e = record { row = r; way = j; is_joined = e; is_named = (commit_of_joined r j e).1 }
 
-  involves_own : (r : Row) (j : Joined) (e : joined_of (cell r) ≡ Some j) → Involves (commit_of_joined r j e).0 r
+  pub involves_own : (r : Row) (j : Joined) (e : joined_of (cell r) ≡ Some j) → Involves (commit_of_joined r j e).0 r
   involves_own r j e = (j.own, (named_rows offer r j (commit_of_joined r j e).0 (commit_of_joined r j e).1).own)
 
-  stamp_own : (r : Row) (j : Joined) (e : joined_of (cell r) ≡ Some j) → stamp_of (commit_of_joined r j e).0 ≡ j.stamp
+  pub stamp_own : (r : Row) (j : Joined) (e : joined_of (cell r) ≡ Some j) → stamp_of (commit_of_joined r j e).0 ≡ j.stamp
   stamp_own r j e = (named_rows offer r j (commit_of_joined r j e).0 (commit_of_joined r j e).1).stamp
 
   -- a row in a commit is the one that names it, or its partner

@@ -19,4 +19,5 @@ pub mod Starting
 pub mod Ordering
 pub mod Onward
 pub mod Standing
+pub mod Acting
 pub mod Results

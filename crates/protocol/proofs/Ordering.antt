@@ -108,6 +108,17 @@ stamps_rise cs sorted = IsNonDecreasingBy-from_all_adjacent stamp_of cs (λ k d 
     (λ (e : stamp_of (get_or cs k d) ≤ stamp_of (get_or cs (k + 1) d)). e)
     (cases_lt (stamp_of (get_or cs (k + 1) d)) (stamp_of (get_or cs k d))))
 
+-- so of two commits the one with the lower stamp stands first
+pub lower_first : (cs : List Commit) → IsInOrder cs → (i k : ℕ) (c d : Commit) → slice_get cs i ≡ Some d → slice_get cs k ≡ Some c → stamp_of d < stamp_of c → i < k
+lower_first cs sorted i k c d h e above = ⊎_elim
+    (λ (b : i < k). b)
+    (λ (b : k ≤ i).
+    let rise : stamp_of (get_or cs k c) ≤ stamp_of (get_or cs i c) = stamps_rise cs sorted k i c b (slice_get_within cs i d h) in
+    let at_k : stamp_of (get_or cs k c) ≡ stamp_of c = ap stamp_of (get_or_from_slice_get cs k c c e) in
+    let at_i : stamp_of (get_or cs i c) ≡ stamp_of d = ap stamp_of (get_or_from_slice_get cs i d c h) in
+    absurd (omega arith))
+    (cases_lt i k)
+
 module _ (threads rows : ℕ) (joined : Row → Option Joined) (offer : Row → ℕ → Option Offer) (marks : Marks)
     (law : Lawful (all_rows threads rows) joined offer marks)
     (cs : List Commit)
@@ -144,15 +155,7 @@ module _ (threads rows : ℕ) (joined : Row → Option Joined) (offer : Row → 
         (λ (n : i ≡ k → ⊥). absurd (differ k i c (omega (arith, n)) e h))
         (cases_eq i k))
         (cases_lt i k);
-    behind = λ i k c d h e counts. ⊎_elim
-        (λ (b : i < k). b)
-        (λ (b : k ≤ i).
-        let above : stamp_of d < stamp_of c = (law.stamps c (member k c e)).above d (member i d h) counts in
-        let rise : stamp_of (get_or cs k c) ≤ stamp_of (get_or cs i c) = stamps_rise cs sorted k i c b (slice_get_within cs i d h) in
-        let at_k : stamp_of (get_or cs k c) ≡ stamp_of c = ap stamp_of (get_or_from_slice_get cs k c c e) in
-        let at_i : stamp_of (get_or cs i c) ≡ stamp_of d = ap stamp_of (get_or_from_slice_get cs i d c h) in
-        absurd (omega arith))
-        (cases_lt i k);
+    behind = λ i k c d h e counts. lower_first cs sorted i k c d h e ((law.stamps c (member k c e)).above d (member i d h) counts);
   }
 
 pub causal_ledger : (l : Ledger) → IsLawful l → (cs : List Commit) → IsPermutation (commits_in l) cs → IsInOrder cs → IsCausal (marks_in l) cs

@@ -6,3 +6,4 @@ pub mod Kept
 pub mod States
 pub mod Growing
 pub mod Standing
+pub mod Acting

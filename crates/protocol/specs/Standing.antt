@@ -1,5 +1,5 @@
 -- What rows offer by the results of their threads: whoever stands for a thread offers something after these results.
-use Rattle.std.specs.Prelude.{◌≡◌, ◌⊎◌, ℕ, ◌+◌, ◌<◌, ⊤, false, Option, Some, None, List, [], ◌∷◌, ◌++◌, length, slice_get}
+use Rattle.std.specs.Prelude.{◌≡◌, ◌⊎◌, ℕ, ◌+◌, ◌<◌, ⊤, false, Option, Some, List, [], ◌∷◌, ◌++◌, length, slice_get}
 use Rattle.protocol_values.specs.declared.Base.{Base}
 use Rattle.protocol_values.specs.declared.Base.TheVariants.{Send, Recv, Always, OnNack, OnEnd, Never}
 use Rattle.protocol_values.specs.declared.Binding.{Binding}
@@ -75,14 +75,21 @@ abbrev pub EachStands : (ℕ → List Result → List Offer → List ℕ → Typ
 EachStands stands t = (r : Row) → is_fresh (cell_at t r) ≡ false → OffersAs stands (ledger_of t) r
 
 -- VALUES THAT STAND FOR THREADS. Where the values `first` stood for them at first, thread by thread, this value stands for the
--- thread after these results, and offers these, with these nacks of its scopes.
-abbrev pub Stands : Type 0 → Type 1
-Stands M = List M → M → ℕ → List Result → List Offer → List ℕ → Type 0
+-- thread after these results,
+pub record Stands (M : Type 0) : Type 1 where
+  -- whatever it does there,
+  pub follows : List M → M → ℕ → List Result → Type 0
+  -- and offers these, with these nacks of its scopes,
+  pub offers : List M → M → ℕ → List Result → List Offer → List ℕ → Type 0
+  -- and has started the other thread behind the last of them, and not before,
+  pub starts : List M → M → ℕ → List Result → ℕ → Type 0
+  -- and has ended
+  pub ends : List M → M → ℕ → List Result → Type 0
 
 module _ {M : Type 0} (stands : Stands M) where
   -- some value stands so
   abbrev pub SomeStands : List M → ℕ → List Result → List Offer → List ℕ → Type 0
-  SomeStands first t results offers nacks = (value : M) × stands first value t results offers nacks
+  SomeStands first t results offers nacks = (value : M) × stands.offers first value t results offers nacks
 
   -- what the value that comes out with a taken row, joined as j, is still to be given: it stands after the earlier results of
   -- the row's thread, of which the last one is left, and offered what the row took
@@ -92,7 +99,7 @@ module _ {M : Type 0} (stands : Stands M) where
     pub count : length earlier ≡ r.sync
     pub offers : List Offer
     pub nacks : List ℕ
-    pub standing : stands first value r.thread earlier offers nacks
+    pub standing : stands.offers first value r.thread earlier offers nacks
     pub below : own < length offers
 
 -- SCHEDULES

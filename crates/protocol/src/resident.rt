@@ -3,9 +3,9 @@
 /// A value that stands for a thread. It lies in the thread's slot from when its row is opened to when that row
 /// is taken.
 ///
-/// `stands first value thread results offers nacks` says: where the values `first` stood for the threads at
-/// first, thread by thread, the value stands for this thread after these results, and offers these, with the
-/// nacks of these numbers for its scopes.
+/// `stands` says of a value, where the values `first` stood for the threads at first, thread by thread, that it stands
+/// for this thread after these results (`follows`), what it offers there, with the nacks of which numbers for its scopes
+/// (`offers`), that it has started another thread behind the last of them (`starts`), and that it has ended (`ends`).
 pub trait Resident {
     ghost use Rattle.std.specs.Prelude.{Bool};
     ghost use Rattle.protocol.specs.Standing.{Stands};
@@ -25,5 +25,5 @@ impl Resident for Bare {
 
     ghost houses = { false };
 
-    ghost stands = { λ first value thread results offers nacks. ⊥ };
+    ghost stands = { record { follows = λ first value thread results. ⊥; offers = λ first value thread results offers nacks. ⊥; starts = λ first value thread results other. ⊥; ends = λ first value thread results. ⊥ } };
 }
