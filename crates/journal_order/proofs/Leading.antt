@@ -1,13 +1,12 @@
 -- The commits of a lawful ledger of processes, in order, are a run of them.
-use Rattle.std.proofs.Common.{◌≡◌, ℕ, zero, suc, ◌-◌, ◌<◌, ◌≤◌, Bool, true, false, cond, eqb, ltb, List, [], ◌∷◌, ◌++◌, length, take, map, get_or, slice_get, Some, None, Contains, refl, sym, ap, ◌∙◌, append_assoc, subst, arith, inl, inr, ⊎_elim}
-use Rattle.std.proofs.lemmas.Bool.{and_parts, cases_order, false≢true, ltb-true}
-use Rattle.std.proofs.lemmas.List.{length-append, length-take-le}
+use Rattle.std.proofs.Common.{◌≡◌, ◌⊎◌, ℕ, zero, suc, ◌+◌, ◌-◌, ◌<◌, ◌≤◌, Bool, true, false, cond, eqb, ltb, List, [], ◌∷◌, ◌++◌, length, take, map, get_or, slice_get, Some, None, Contains, refl, sym, ap, ◌∙◌, append_assoc, subst, arith, inl, inr, ⊎_elim}
+use Rattle.std.proofs.lemmas.Bool.{and_parts, cases_eq, cases_order, false≢true, ltb-true}
+use Rattle.std.proofs.lemmas.List.{length-append, length-take-le, take-take, take_all}
 use Rattle.std.proofs.lemmas.List.Sorted.{Contains-permutation, IsPermutation-sym}
 use Rattle.std.proofs.lemmas.Option.{none-some, same_Some, slice_get-get_or, slice_get_within, get_or_from_slice_get}
 use Rattle.event.specs.Tree.{Tree, BaseEvent, bases, mask, offer_of, offers, scope_nacks}
 use Rattle.event.proofs.TreeLemmas.{mask-bits}
 use Rattle.script_tree.specs.Processes.{Proc}
-use Rattle.script_tree.specs.Spawning.{spawner}
 use Rattle.thread.specs.After.{Chosen, State, Outcome, Goes, Offers as OffersTree, Finishes, Fails, Strays, after}
 use Rattle.protocol_values.specs.declared.Base.{Base}
 use Rattle.protocol_values.specs.declared.Base.TheVariants.{Send, Recv, Always, OnNack, OnEnd}
@@ -15,6 +14,7 @@ use Rattle.protocol_values.specs.declared.Binding.{Binding}
 use Rattle.protocol_values.specs.declared.Cause.{Cause}
 use Rattle.protocol_values.specs.declared.Cause.TheVariants as cause
 use Rattle.protocol_values.specs.declared.Commit.{Commit}
+use Rattle.protocol_values.specs.declared.Course.{Course}
 use Rattle.protocol_values.specs.declared.Course.TheVariants.{Unstarted, Running, Ended}
 use Rattle.protocol_values.specs.declared.Commit.TheVariants.{Pair, Alone}
 use Rattle.protocol_values.specs.declared.Joined.{Joined}
@@ -24,20 +24,25 @@ use Rattle.protocol_values.specs.declared.Offer.{Offer}
 use Rattle.protocol_values.specs.declared.Row.{Row}
 use Rattle.protocol_values.specs.Commits.{stamp_of}
 use Rattle.protocol_values.specs.Scopes.{has_scope}
+use Rattle.protocol.specs.Acting as acting
+use Rattle.protocol.specs.Acting.{DoesAt, EndsAt, HasStart, IsStampBehind, IsStarted, StartedBy}
 use Rattle.protocol.specs.Ledgers as ledgers
-use Rattle.protocol.specs.Ledgers.{Ledger, HasCommit, Involves, IsEnabled, IsLawful, Takes, binding_in, commits_in, course_in, has_row, joined_in, marks_in, no_entry, offer_in}
+use Rattle.protocol.specs.Ledgers.{CountsThread, Ledger, LivesAt, HasCommit, Involves, IsEnabled, IsLawful, Takes, binding_in, commits_in, course_in, has_row, joined_in, marks_in, no_entry, offer_in}
 use Rattle.protocol.specs.Tables.{number_of, start_of}
+use Rattle.protocol.proofs.Acting.{start_is}
 use Rattle.protocol.proofs.CommitLemmas.{commit_members}
-use Rattle.protocol.proofs.Ordering.{causal_ledger}
+use Rattle.protocol.proofs.Lawfulness.{counts_own}
+use Rattle.protocol.proofs.Ordering.{causal_ledger, lower_first}
 use Rattle.protocol.proofs.Results.{gift, gives-involves, one-list, one-result}
 use Rattle.journal_replay.specs.Runs.{CausedBy, Config, CountsFor, CountsOf, Follows, HasRow, HasThread, IsCaused, IsFiredAt, IsGreatest, IsLegal, IsOffering, IsRow, IsRun, MayTake, applied, config_of}
-use Rattle.journal_replay.specs.Starting.{AtOnce, CountsForStart, InRow, InStart}
+use Rattle.journal_replay.specs.Starting.{AtOnce, CountsForStart, HasEnded, HasSpawned, InRow, InStart, Spawned, SpawnsAt, Starts}
 use Rattle.journal_replay.proofs.Greatest.{in-more, last-more, more, more-cases}
 use Rattle.journal_replay.proofs.Lists.{slice_get-first, slice_get-middle, slice_get-more}
+use Rattle.journal_replay.proofs.Starting.{spawns-once}
 use Rattle.journal_replay.proofs.Standing.{config_of-more, counts, row-thread}
 use Rattle.journal_order.specs.Laws.{IsOrderOf}
 use Rattle.protocol.specs.Standing.{AreResults, Gives, OffersAs, binding_of}
-use Rattle.journal_order.specs.Ledgers.{IsLedgerOf, LedgerIsRun, ProcessOffers}
+use Rattle.journal_order.specs.Ledgers.{IsFirst, IsLedgerOf, LedgerIsRun, ProcessOffers, ProcessSpawns}
 use Rattle.journal_order.proofs.Runs.{RunsOn, get-take, run-whole}
 use Rattle.journal_order.proofs.Swapping.{applied-other, grows, has-or-not}
 
@@ -98,10 +103,16 @@ one-event ps t xs ys d e same one two =
     λ i. after ((process i).body) (length ((process i).variables)) t (same i) in
     ap (λ (o : Outcome State). tree-in o d) (sym one.offers ∙ both ∙ two.offers)
 
--- nothing counts for the start of a thread that no text spawns
-no-start : (ps : List Proc) (config : Config) (d : Commit) (t : ℕ) → spawner ps t ≡ None → CountsForStart ps config d t → ⊥
-no-start ps config d t none (InRow s n g by at below has) = none-some s (sym none ∙ by)
-no-start ps config d t none (InStart s by counts) = none-some s (sym none ∙ by)
+-- a thread that lives has started
+lives-start : (c : Course) (g : ℕ) → LivesAt c g → HasStart c (start_of c)
+lives-start Unstarted g h = absurd h
+lives-start (Running start) g h = refl
+lives-start (Ended start sync) g h = refl
+
+start-case : (c : Course) → (c ≡ Unstarted) ⊎ HasStart c (start_of c)
+start-case Unstarted = inl refl
+start-case (Running start) = inr refl
+start-case (Ended start sync) = inr refl
 
 -- A LEDGER has what it tells of its own rows alone
 in-table : (l : Ledger) (r : Row) → has_row l r ≡ true → (r.thread < l.threads) × (r.sync < l.rows)
@@ -135,21 +146,6 @@ module _ (ps : List Proc) (rows : ℕ) (l : Ledger) (law : IsLawful l) (of : IsL
 
   in-commits : (c : Commit) → HasCommit l c → Contains commits c
   in-commits c h = Contains-permutation (commits_in l) commits c order.all ((commit_members l.threads l.rows (joined_in l) (offer_in l) (marks_in l) law (joined-inside l) c).1 h)
-
-  -- all threads started at stamp 0, and none has ended
-  at-start : (t : ℕ) → start_of (course_in l t) ≡ 0
-  at-start t = by (ltb t l.threads) (of.running t)
-    where
-      by : (b : Bool) → course_in l t ≡ cond b (Running 0) Unstarted → start_of (course_in l t) ≡ 0
-      by true e = ap start_of e
-      by false e = ap start_of e
-
-  unended : (t start sync : ℕ) → course_in l t ≡ Ended start sync → ⊥
-  unended t start sync ended = by (ltb t l.threads) (of.running t)
-    where
-      by : (b : Bool) → course_in l t ≡ cond b (Running 0) Unstarted → ⊥
-      by true e = let bad : Running 0 ≡ Ended start sync = sym e ∙ ended in cc
-      by false e = let bad : Unstarted ≡ Ended start sync = sym e ∙ ended in cc
 
   -- what is taken was offered
   offer-at : (at : Row × ℕ) (b : Base) (r : Row) (n : ℕ) → ledgers.Offers (offer_in l) at b → at ≡ (r, n) → (o : Offer) × (offer_in l r n ≡ Some o)
@@ -189,11 +185,11 @@ module _ (ps : List Proc) (rows : ℕ) (l : Ledger) (law : IsLawful l) (of : IsL
     now : (r : Row) (off : OffersAs (ProcessOffers ps) l r) → r.sync ≡ length (config_of es r.thread) → off.results ≡ config_of es r.thread
     now r off next = one-list l law r.thread off.results (config_of es r.thread) (off.count ∙ next) off.are (are es k r.thread)
 
-    can-take : (at : Row × ℕ) (b : Base) → ledgers.Offers (offer_in l) at b → at.0.sync ≡ length (config_of es at.0.thread) → MayTake ps rows (config_of es) at b
-    can-take at b h next =
-        let off = of.each at.0 at.1 h.0 h.1 in
+    can-take : (at : Row × ℕ) (b : Base) → Starts ps (config_of es) at.0.thread → ledgers.Offers (offer_in l) at b → at.0.sync ≡ length (config_of es at.0.thread) → MayTake ps rows (config_of es) at b
+    can-take at b started h next =
+        let off = of.offers at.0 at.1 h.0 h.1 in
         let base = offered-base (bases off.standing.event) at.1 h.0 (shown at.0 off at.1 h.0 h.1) in record {
-          started = AtOnce off.standing.at_once;
+          started = started;
           can = record {
             few = omega (arith, next, offer-inside l at.0 at.1 h.0 h.1, enough);
             next = next;
@@ -219,7 +215,7 @@ module _ (ps : List Proc) (rows : ℕ) (l : Ledger) (law : IsLawful l) (of : IsL
         let same : x ≡ gave.result = one-result l law giver.0 en.commit r x gave.result giver.1 en.inside giver.2 gave.gives in
         let number : en.chosen ≡ x.0 = sym (ap (λ (z : Chosen). z.0) same ∙ gave.number) in
         let offer = offered-by en.commit r en.chosen en.inside en.takes in
-        let off = of.each r en.chosen offer.0 offer.1 in
+        let off = of.offers r en.chosen offer.0 offer.1 in
         let base = offered-base (bases off.standing.event) en.chosen offer.0 (shown r off en.chosen offer.0 offer.1) in record {
           chosen = x;
           result = at;
@@ -237,13 +233,122 @@ module _ (ps : List Proc) (rows : ℕ) (l : Ledger) (law : IsLawful l) (of : IsL
     bound-where n g d there has f =
         let r = row n.thread g in
         let offer = offered-by d r has.0 (k.members d there) has.1 in
-        let off = of.each r has.0 offer.0 offer.1 in
+        let off = of.offers r has.0 offer.0 offer.1 in
         let low = k.inside d n.thread g there has in
         let same : f.event ≡ off.standing.event = one-event ps n.thread (take g (config_of es n.thread)) off.results f.event off.standing.event (sym (before r off (omega (arith, low)))) f.offered off.standing.offered in
         (binding_of r f.scope, off.bound f.scope n.k (ap (λ (ns : List ℕ). slice_get ns f.scope) (sym off.standing.scopes) ∙ ap (λ (e : Tree). slice_get (scope_nacks e) f.scope) (sym same) ∙ f.nack), refl)
 
-    -- THE NEXT COMMIT: those that count for it are there already, and it is not
-    module _ (c : Commit) (in_c : HasCommit l c) (anew : Contains es c → ⊥) (behind : (d : Commit) → HasCommit l d → ledgers.CountsFor (marks_in l) d c → Contains es d) where
+    -- THE NEXT COMMIT: those of lower stamps are there already, and it is not
+    module _ (c : Commit) (in_c : HasCommit l c) (anew : Contains es c → ⊥) (lower : (d : Commit) → HasCommit l d → stamp_of d < stamp_of c → Contains es d) where
+      behind : (d : Commit) → HasCommit l d → ledgers.CountsFor (marks_in l) d c → Contains es d
+      behind d in_d h = lower d in_d ((law.stamps c in_c).above d in_d h)
+
+      -- WHO STARTED BEFORE IT has started in the run
+      abbrev Begun : ℕ → ℕ → Type 0
+      Begun t stamp = IsStarted (IsFirst ps) (ProcessSpawns ps) l t stamp
+
+      reached : (s start n stamp : ℕ) → IsStampBehind l s start n stamp → stamp < stamp_of c → n ≤ length (config_of es s)
+      reached s start zero stamp is less = omega arith
+      reached s start (suc g) stamp is less = let low = k.inside is.0 s g (lower is.0 is.1 (omega (arith, less, is.3))) is.2 in omega (arith, low)
+
+      -- a thread's start is not above what stands behind it
+      start-below : (s start n stamp : ℕ) → HasStart (course_in l s) start → IsStampBehind l s start n stamp → start ≤ stamp
+      start-below s start zero stamp running is = omega (arith, is)
+      start-below s start (suc g) stamp running is =
+          let above = (law.stamps is.0 is.1).after_start s (counts_own is.0 (row s g) is.2) in
+          omega (arith, above, start_is (course_in l s) start running, is.3)
+
+      spawned-at : (s t start stamp : ℕ) (results : List Chosen) → AreResults l s results → ProcessSpawns ps s results t → IsStampBehind l s start (length results) stamp → stamp < stamp_of c → SpawnsAt ps s (config_of es s) t (length results)
+      spawned-at s t start stamp results of-s by is less =
+          let low = reached s start (length results) stamp is less in
+          let same : results ≡ take (length results) (config_of es s) = one-list l law s results (take (length results) (config_of es s)) (sym (length-take-le (length results) (config_of es s) low)) of-s (are-first es k s (length results)) in record {
+            within = low;
+            there = subst (λ (xs : List Chosen). HasSpawned ps s xs t) (take_all (length results) results (omega arith) ∙ same) by.at.there;
+            first = λ m below has. by.at.first m below (subst (λ (xs : List Chosen). HasSpawned ps s xs t) (sym (take-take m (length results) (config_of es s) (omega (arith, below))) ∙ ap (take m) (sym same)) has);
+          }
+
+      starts-in : {t stamp : ℕ} → Begun t stamp → stamp < stamp_of c → Starts ps (config_of es) t
+      starts-in (acting.AtOnce first) less = AtOnce first
+      starts-in (StartedBy {t} {stamp} s start running started results of-s does is) less =
+          Spawned s (length results) does.by (spawned-at s t start stamp results of-s does is less)
+          (starts-in started (let low = start-below s start (length results) stamp running is in omega (arith, low, less)))
+
+      -- what counts for a start has at most its stamp
+      row-below : (s start n stamp g : ℕ) (d : Commit) → IsStampBehind l s start n stamp → g < n → HasCommit l d → Involves d (row s g) → stamp_of d ≤ stamp
+      row-below s start zero stamp g d is below in_d has = absurd (omega (arith, below))
+      row-below s start (suc h) stamp g d is below in_d has = ⊎_elim
+          (λ (same : g ≡ h).
+          let one : d ≡ is.0 = law.once (row s h) d is.0 in_d is.1 (subst (λ (n : ℕ). Involves d (row s n)) same has) is.2 in
+          omega (arith, ap stamp_of one, is.3))
+          (λ (ne : g ≡ h → ⊥).
+          let above = (law.stamps is.0 is.1).above d in_d (inl (s, h, g, omega (arith, below, ne), has, is.2)) in
+          omega (arith, above, is.3))
+          (cases_eq g h)
+
+      start-counts : {t stamp : ℕ} → Begun t stamp → stamp < stamp_of c → (d : Commit) → Contains es d → CountsForStart ps (config_of es) d t → stamp_of d ≤ stamp
+      start-counts (acting.AtOnce first) less d there (InRow u n g by at below has) = absurd (none-some u (sym first ∙ by))
+      start-counts (acting.AtOnce first) less d there (InStart u by counts) = absurd (none-some u (sym first ∙ by))
+      start-counts (StartedBy {t} {stamp} s start running started results of-s does is) less d there (InRow u n g by at below has) =
+          let same : u ≡ s = same_Some u s (sym by ∙ does.by) in
+          let one : n ≡ length results = spawns-once ps s (config_of es s) t n (length results) (subst (λ (z : ℕ). SpawnsAt ps z (config_of es z) t n) same at) (spawned-at s t start stamp results of-s does is less) in
+          row-below s start (length results) stamp g d is (omega (arith, below, one)) (k.members d there) (subst (λ (z : ℕ). Involves d (row z g)) same (row-involves d u g has))
+      start-counts (StartedBy {t} {stamp} s start running started results of-s does is) less d there (InStart u by counts) =
+          let low = start-below s start (length results) stamp running is in
+          let below = start-counts started (omega (arith, low, less)) d there (subst (CountsForStart ps (config_of es) d) (same_Some u s (sym by ∙ does.by)) counts) in
+          omega (arith, low, below)
+
+      -- and one that counts has just that stamp, where it is not 0
+      abbrev Told : ℕ → ℕ → Type 0
+      Told t stamp = (stamp ≡ 0) ⊎ ((d : Commit) × HasCommit l d × CountsForStart ps (config_of es) d t × (stamp_of d ≡ stamp))
+
+      start-there : {t stamp : ℕ} → Begun t stamp → stamp < stamp_of c → Told t stamp
+      start-there (acting.AtOnce first) less = inl refl
+      start-there (StartedBy {t} {stamp} s start running started results of-s does is) less = by-count (length results) refl (λ below. start-there started below)
+        where
+          by-count : (n : ℕ) → length results ≡ n → (start < stamp_of c → Told s start) → Told t stamp
+          by-count zero e earlier =
+              let same : stamp ≡ start = subst (λ (n : ℕ). IsStampBehind l s start n stamp) e is in
+              ⊎_elim
+              (λ none. inl (same ∙ none))
+              (λ w. inr (w.0, w.1, InStart s does.by w.2, w.3 ∙ sym same))
+              (earlier (omega (arith, same, less)))
+          by-count (suc h) e earlier =
+              let w = subst (λ (n : ℕ). IsStampBehind l s start n stamp) e is in
+              inr (w.0, w.1, InRow s (length results) h does.by (spawned-at s t start stamp results of-s does is less) (omega (arith, e)) (involves-row w.0 s h w.2), w.3)
+
+      -- THREADS OF THE COMMIT, and one for whose end it stands
+      lives : (t : ℕ) → HasThread c t → Begun t (start_of (course_in l t))
+      lives t mine = let g = thread-involves c t mine in of.starts t (start_of (course_in l t)) (lives-start (course_in l t) g.0 (law.lived c (row t g.0) in_c g.1))
+
+      counts-thread : (t : ℕ) → HasThread c t → CountsThread c t
+      counts-thread t mine = let g = thread-involves c t mine in counts_own c (row t g.0) g.1
+
+      started : (t : ℕ) → HasThread c t → Starts ps (config_of es) t
+      started t mine = starts-in (lives t mine) ((law.stamps c in_c).after_start t (counts-thread t mine))
+
+      -- it has ended behind the results that it has
+      ended : (t start sync : ℕ) → course_in l t ≡ Ended start sync → ((d : Commit) (g : ℕ) → HasCommit l d → Involves d (row t g) → ledgers.CountsFor (marks_in l) d c) → HasEnded ps t (config_of es t)
+      ended t start sync e counts =
+          let end = of.ends t sync (subst (λ (x : Course). EndsAt x sync) (sym e) refl) in
+          let size : length (config_of es t) ≡ sync = ⊎_elim (λ same. same) (λ other. ⊎_elim (λ less. absurd (missing end less)) (λ more-than. absurd (further more-than)) other) (cases_order (length (config_of es t)) sync) in
+          subst (HasEnded ps t) (one-list l law t end.results (config_of es t) (end.count ∙ sym size) end.are (are es k t)) end.does
+        where
+          missing : (end : DoesAt l (row t sync) (HasEnded ps t)) → length (config_of es t) < sync → ⊥
+          missing end less =
+              let h = length (config_of es t) in
+              let x = get_or end.results h (0, Empty) in
+              let d = end.are h x (slice_get-get_or end.results h (0, Empty) (omega (arith, less, end.count))) in
+              let has = gives-involves d.0 (row t h) x d.2 in
+              let low = k.inside d.0 t h (behind d.0 d.1 (counts d.0 h d.1 has)) has in
+              omega (arith, low)
+
+          further : sync < length (config_of es t) → ⊥
+          further more-than =
+              let x = get_or (config_of es t) sync (0, Empty) in
+              let d = k.given t sync x (slice_get-get_or (config_of es t) sync (0, Empty) more-than) in
+              let lived = subst (λ (y : Course). LivesAt y sync) e (law.lived d.0 (row t sync) (k.members d.0 d.1) (gives-involves d.0 (row t sync) x d.2)) in
+              omega (arith, lived)
+
       next-row : (t g : ℕ) → Involves c (row t g) → g ≡ length (config_of es t)
       next-row t g has = ⊎_elim
           (λ e. e)
@@ -267,24 +372,38 @@ module _ (ps : List Proc) (rows : ℕ) (l : Ledger) (law : IsLawful l) (of : IsL
       next-at : (at : Row × ℕ) → Takes c at.0 at.1 → at.0.sync ≡ length (config_of es at.0.thread)
       next-at at h = next-row at.0.thread at.0.sync (at.1, h)
 
+      alone-started : (at : Row × ℕ) (why : Cause) (stamp : ℕ) → c ≡ Alone at why stamp → Starts ps (config_of es) at.0.thread
+      alone-started at why stamp is = started at.0.thread (subst (λ (z : Commit). HasThread z at.0.thread) (sym is) refl)
+
+      -- the start of a thread for whose end it stands is below it
+      end-above : (at : Row × ℕ) (t stamp start sync : ℕ) → c ≡ Alone at (cause.End t) stamp → course_in l t ≡ Ended start sync → start < stamp_of c
+      end-above at t stamp start sync is e =
+          let above = (law.stamps c in_c).after_start t (subst (λ (z : Commit). CountsThread z t) (sym is) (inr refl)) in
+          omega (arith, above, ap start_of e)
+
       caused : (at : Row × ℕ) (why : Cause) (stamp : ℕ) → c ≡ Alone at why stamp → ledgers.IsCaused (joined_in l) (offer_in l) (marks_in l) at why → at.0.sync ≡ length (config_of es at.0.thread) → IsCaused ps rows (config_of es) at why
-      caused at (cause.Always m) stamp is h next = can-take at (Always m) h next
+      caused at (cause.Always m) stamp is h next = can-take at (Always m) (alone-started at (cause.Always m) stamp is) h next
       caused at (cause.Nack n) stamp is h next =
           let en = h.1 in (
-            can-take at (OnNack n) h.0 next,
+            can-take at (OnNack n) (alone-started at (cause.Nack n) stamp is) h.0 next,
             (
               en.binding.sync,
               fired n en (behind en.commit en.inside (subst (λ (z : Commit). ledgers.CountsFor (marks_in l) en.commit z) (sym is) (inr (en.binding, en.is_bound, (en.chosen, en.takes))))),
             ),
           )
-      caused at (cause.End t) stamp is h next = absurd (unended t h.1.0 h.1.1 h.1.2)
+      caused at (cause.End t) stamp is h next =
+          let counts : (d : Commit) (g : ℕ) → HasCommit l d → Involves d (row t g) → ledgers.CountsFor (marks_in l) d c = λ d g in_d has. subst (λ (z : Commit). ledgers.CountsFor (marks_in l) d z) (sym is) (inr (g, has)) in (
+            can-take at (OnEnd t) (alone-started at (cause.End t) stamp is) h.0 next,
+            starts-in (of.starts t h.1.0 (subst (λ (x : Course). HasStart x h.1.0) (sym h.1.2) refl)) (end-above at t stamp h.1.0 h.1.1 is h.1.2),
+            ended t h.1.0 h.1.1 h.1.2 counts,
+          )
 
       legal-as : (d : Commit) → c ≡ d → IsLegal ps rows (config_of es) d
       legal-as (Pair sender receiver chan msg stamp) is =
           let fits = subst (ledgers.Fits (joined_in l) (offer_in l) (marks_in l)) is (law.fits c in_c) in (
             fits.0,
-            can-take sender (Send chan msg) fits.1 (next-at sender (subst (λ (z : Commit). Takes z sender.0 sender.1) (sym is) (inl refl))),
-            can-take receiver (Recv chan) fits.2 (next-at receiver (subst (λ (z : Commit). Takes z receiver.0 receiver.1) (sym is) (inr refl))),
+            can-take sender (Send chan msg) (started sender.0.thread (subst (λ (z : Commit). HasThread z sender.0.thread) (sym is) (inl refl))) fits.1 (next-at sender (subst (λ (z : Commit). Takes z sender.0 sender.1) (sym is) (inl refl))),
+            can-take receiver (Recv chan) (started receiver.0.thread (subst (λ (z : Commit). HasThread z receiver.0.thread) (sym is) (inr refl))) fits.2 (next-at receiver (subst (λ (z : Commit). Takes z receiver.0 receiver.1) (sym is) (inr refl))),
           )
       legal-as (Alone at why stamp) is =
           caused at why stamp is (subst (ledgers.Fits (joined_in l) (offer_in l) (marks_in l)) is (law.fits c in_c)) (next-at at (subst (λ (z : Commit). Takes z at.0 at.1) (sym is) refl))
@@ -300,33 +419,38 @@ module _ (ps : List Proc) (rows : ℕ) (l : Ledger) (law : IsLawful l) (of : IsL
           let low = k.inside d t h.0 there h.1 in
           inl (t, g.0, h.0, omega (arith, low, next-row t g.0 g.1), h.1, g.1)
 
-      -- no commit counts for the start of a thread of this one, for no text spawns its process
-      at-once : (t : ℕ) → HasThread c t → spawner ps t ≡ None
-      at-once t mine =
-          let g = thread-involves c t mine in
-          let offer = offered-by c (row t g.0) g.1.0 in_c g.1.1 in
-          (of.each (row t g.0) g.1.0 offer.0 offer.1).standing.at_once
-
-      of-counts : (d : Commit) (t : ℕ) → Contains es d → CountsOf ps (config_of es) t d → HasThread c t → ledgers.CountsFor (marks_in l) d c
-      of-counts d t there h mine = ⊎_elim
-          (λ has. earlier-counts d t there has mine)
-          (λ start. absurd (no-start ps (config_of es) d t (at-once t mine) start))
+      of-below : (d : Commit) (t : ℕ) → Contains es d → CountsOf ps (config_of es) t d → HasThread c t → stamp_of d < stamp_of c
+      of-below d t there h mine = ⊎_elim
+          (λ has. (law.stamps c in_c).above d (k.members d there) (earlier-counts d t there has mine))
+          (λ start.
+          let less = (law.stamps c in_c).after_start t (counts-thread t mine) in
+          let low = start-counts (lives t mine) less d there start in
+          omega (arith, low, less))
           h
 
-      enables : (at : Row × ℕ) (why : Cause) (stamp : ℕ) (d : Commit) → c ≡ Alone at why stamp → ledgers.IsCaused (joined_in l) (offer_in l) (marks_in l) at why → Contains es d → CausedBy ps (config_of es) why d → ledgers.CountsFor (marks_in l) d c
-      enables at (cause.Always m) stamp d is fits there h = absurd h
-      enables at (cause.Nack n) stamp d is fits there h =
+      enables-below : (at : Row × ℕ) (why : Cause) (stamp : ℕ) (d : Commit) → c ≡ Alone at why stamp → ledgers.IsCaused (joined_in l) (offer_in l) (marks_in l) at why → Contains es d → CausedBy ps (config_of es) why d → stamp_of d < stamp_of c
+      enables-below at (cause.Always m) stamp d is fits there h = absurd h
+      enables-below at (cause.Nack n) stamp d is fits there h =
           let has = row-involves d n.thread h.0 h.2 in
           let b = bound-where n h.0 d there has h.1 in
-          subst (λ (z : Commit). ledgers.CountsFor (marks_in l) d z) (sym is)
-          (inr (b.0, b.1, subst (λ (g : ℕ). Involves d (row n.thread g)) (sym b.2) has))
-      enables at (cause.End t) stamp d is fits there h = absurd (unended t fits.1.0 fits.1.1 fits.1.2)
+          (law.stamps c in_c).above d (k.members d there)
+          (subst (λ (z : Commit). ledgers.CountsFor (marks_in l) d z) (sym is)
+          (inr (b.0, b.1, subst (λ (g : ℕ). Involves d (row n.thread g)) (sym b.2) has)))
+      enables-below at (cause.End t) stamp d is fits there h = ⊎_elim
+          (λ has.
+          let g = thread-involves d t has in
+          (law.stamps c in_c).above d (k.members d there) (subst (λ (z : Commit). ledgers.CountsFor (marks_in l) d z) (sym is) (inr (g.0, g.1))))
+          (λ start.
+          let less = end-above at t stamp fits.1.0 fits.1.1 is fits.1.2 in
+          let low = start-counts (of.starts t fits.1.0 (subst (λ (x : Course). HasStart x fits.1.0) (sym fits.1.2) refl)) less d there start in
+          omega (arith, low, less))
+          h
 
-      counted-as : (e d : Commit) → c ≡ e → Contains es d → CountsFor ps (config_of es) e d → ledgers.CountsFor (marks_in l) d c
-      counted-as (Pair sender receiver chan msg stamp) d is there (inl h) = of-counts d sender.0.thread there h (subst (λ (z : Commit). HasThread z sender.0.thread) (sym is) (inl refl))
-      counted-as (Pair sender receiver chan msg stamp) d is there (inr h) = of-counts d receiver.0.thread there h (subst (λ (z : Commit). HasThread z receiver.0.thread) (sym is) (inr refl))
-      counted-as (Alone at why stamp) d is there (inl h) = of-counts d at.0.thread there h (subst (λ (z : Commit). HasThread z at.0.thread) (sym is) refl)
-      counted-as (Alone at why stamp) d is there (inr h) = enables at why stamp d is (subst (ledgers.Fits (joined_in l) (offer_in l) (marks_in l)) is (law.fits c in_c)) there h
+      counted-as : (e d : Commit) → c ≡ e → Contains es d → CountsFor ps (config_of es) e d → stamp_of d < stamp_of c
+      counted-as (Pair sender receiver chan msg stamp) d is there (inl h) = of-below d sender.0.thread there h (subst (λ (z : Commit). HasThread z sender.0.thread) (sym is) (inl refl))
+      counted-as (Pair sender receiver chan msg stamp) d is there (inr h) = of-below d receiver.0.thread there h (subst (λ (z : Commit). HasThread z receiver.0.thread) (sym is) (inr refl))
+      counted-as (Alone at why stamp) d is there (inl h) = of-below d at.0.thread there h (subst (λ (z : Commit). HasThread z at.0.thread) (sym is) refl)
+      counted-as (Alone at why stamp) d is there (inr h) = enables-below at why stamp d is (subst (ledgers.Fits (joined_in l) (offer_in l) (marks_in l)) is (law.fits c in_c)) there h
 
       fires : (at : Row × ℕ) (why : Cause) (d : Commit) → ledgers.IsCaused (joined_in l) (offer_in l) (marks_in l) at why → Contains es d → ledgers.CausedBy (marks_in l) d why → CausedBy ps (config_of es) why d
       fires at (cause.Always m) d h there by = absurd by
@@ -337,25 +461,43 @@ module _ (ps : List Proc) (rows : ℕ) (l : Ledger) (law : IsLawful l) (of : IsL
           let mine : Involves en.commit (row n.thread b.sync) = subst (λ (g : ℕ). Involves en.commit (row n.thread g)) sync (en.chosen, en.takes) in
           let one : d ≡ en.commit = law.once (row n.thread b.sync) d en.commit (k.members d there) en.inside has mine in
           (b.sync, subst (IsFiredAt ps (config_of es) n) sync (fired n en (subst (Contains es) one there)), involves-row d n.thread b.sync has)
-      fires at (cause.End t) d h there by = absurd (unended t h.1.0 h.1.1 h.1.2)
+      fires at (cause.End t) d h there (g, has) = inl (involves-thread d t g has)
 
       counting-as : (e d : Commit) → c ≡ e → Contains es d → ledgers.CountsFor (marks_in l) d e → CountsFor ps (config_of es) e d
       counting-as e d is there (inl (t, g, h, lt, has_d, has_e)) = counts ps (config_of es) e d t (involves-thread e t g has_e) (inl (involves-thread d t h has_d))
       counting-as (Pair sender receiver chan msg stamp) d is there (inr h) = absurd h
       counting-as (Alone at why stamp) d is there (inr h) = inr (fires at why d (subst (ledgers.Fits (joined_in l) (offer_in l) (marks_in l)) is (law.fits c in_c)) there h)
 
+      -- what counts for the start of a thread that counts for the commit
+      starting-as : (e d : Commit) (t : ℕ) → CountsThread e t → CountsForStart ps (config_of es) d t → CountsFor ps (config_of es) e d
+      starting-as (Pair sender receiver chan msg stamp) d t (inl is) h = inl (inr (subst (CountsForStart ps (config_of es) d) (sym is) h))
+      starting-as (Pair sender receiver chan msg stamp) d t (inr is) h = inr (inr (subst (CountsForStart ps (config_of es) d) (sym is) h))
+      starting-as (Alone at why stamp) d t (inl is) h = inl (inr (subst (CountsForStart ps (config_of es) d) (sym is) h))
+      starting-as (Alone at (cause.Always m) stamp) d t (inr is) h = absurd is
+      starting-as (Alone at (cause.Nack n) stamp) d t (inr is) h = absurd is
+      starting-as (Alone at (cause.End p) stamp) d t (inr is) h = inr (inr (subst (CountsForStart ps (config_of es) d) (sym is) h))
+
       greatest-is : IsGreatest es (CountsFor ps (config_of es) c) (stamp_of c - 1)
       greatest-is =
           let due = law.stamps c in_c in record {
-            above = λ d there h. omega (arith, due.above d (k.members d there) (counted-as c d refl there h));
+            above = λ d there h. let below = counted-as c d refl there h in omega (arith, below);
             there = ⊎_elim
                 (λ e. inl (omega (arith, e)))
                 (λ other. ⊎_elim
                 (λ h. inr (h.0, behind h.0 h.1 h.2, counting-as c h.0 refl (behind h.0 h.1 h.2) h.2, omega (arith, h.3)))
-                (λ h. inl (omega (arith, h.2, at-start h.0)))
+                (λ h. by-start h.0 h.1 h.2)
                 other)
                 due.next;
           }
+        where
+          by-start : (t : ℕ) → CountsThread c t → stamp_of c ≡ start_of (course_in l t) + 1 → (stamp_of c - 1 ≡ 0) ⊎ ((d : Commit) × Contains es d × CountsFor ps (config_of es) c d × (stamp_of d ≡ stamp_of c - 1))
+          by-start t counts is = ⊎_elim
+              (λ none. inl (omega (arith, is, ap start_of none)))
+              (λ has. ⊎_elim
+              (λ first. inl (omega (arith, is, first)))
+              (λ w. inr (w.0, lower w.0 w.1 (omega (arith, is, w.3)), starting-as c w.0 t counts w.2, omega (arith, is, w.3)))
+              (start-there (of.starts t (start_of (course_in l t)) has) ((law.stamps c in_c).after_start t counts)))
+              (start-case (course_in l t))
 
       positive : 1 ≤ stamp_of c
       positive = ⊎_elim (λ e. omega (arith, e)) (λ other. ⊎_elim (λ h. omega (arith, h.3)) (λ h. omega (arith, h.2)) other) (law.stamps c in_c).next
@@ -417,13 +559,13 @@ module _ (ps : List Proc) (rows : ℕ) (l : Ledger) (law : IsLawful l) (of : IsL
       let at_c : slice_get commits (length es) ≡ Some c = ap (λ (xs : List Commit). slice_get xs (length es)) whole ∙ slice_get-middle es cs c in
       let in_c : HasCommit l c = in-ledger c (place (length es) c at_c) in
       let anew : Contains es c → ⊥ = λ h. let same : h.0 ≡ length es = causal.once h.0 (length es) c (at-front h.0 c h) at_c in omega (arith, h.1, same) in
-      let behind : (d : Commit) → HasCommit l d → ledgers.CountsFor (marks_in l) d c → Contains es d = λ d in_d h.
+      let lower : (d : Commit) → HasCommit l d → stamp_of d < stamp_of c → Contains es d = λ d in_d less.
       let w = in-commits d in_d in
       let at_d : slice_get commits w.0 ≡ Some d = slice_get-get_or commits w.0 d w.1 ∙ ap (λ (z : Commit). Some z) w.2 in
-      let lt : w.0 < length es = causal.behind w.0 (length es) c d at_d at_c h in
+      let lt : w.0 < length es = lower_first commits order.ordered w.0 (length es) c d at_d at_c less in
       place-in es w.0 d (sym (slice_get-first es (c ∷ cs) w.0 lt) ∙ ap (λ (xs : List Commit). slice_get xs w.0) (sym whole) ∙ at_d) in (
-        follows es k c in_c anew behind,
-        runs (more es c) cs (whole ∙ sym (append_assoc es (c ∷ []) cs)) (leads-more es k c in_c anew behind),
+        follows es k c in_c anew lower,
+        runs (more es c) cs (whole ∙ sym (append_assoc es (c ∷ []) cs)) (leads-more es k c in_c anew lower),
       )
     where
       place-in : (xs : List Commit) (i : ℕ) (d : Commit) → slice_get xs i ≡ Some d → Contains xs d

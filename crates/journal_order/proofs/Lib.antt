@@ -12,5 +12,6 @@ pub mod Results
 pub mod Sending
 pub mod LedgerOrder
 pub mod Meeting
+pub mod Spawners
 pub mod Leading
 pub mod Schedules

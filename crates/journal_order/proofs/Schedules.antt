@@ -1,19 +1,17 @@
--- The ledger of a schedule whose rows are opened as their processes offer is one of the processes.
+-- The ledger of a schedule whose steps do as the processes do is one of the processes.
 use Rattle.std.proofs.Common.{◌≡◌, ℕ, refl, ◌∙◌, arith}
 use Rattle.protocol.specs.Ledgers.{ledger_of}
 use Rattle.protocol.specs.Tables.{Table}
 use Rattle.protocol.specs.Worlds.{start_world}
 use Rattle.protocol.proofs.LedgerLemmas.{kept_start, lawful_schedule}
 use Rattle.protocol.proofs.Onward.{grows-schedule}
-use Rattle.protocol.proofs.Standing.{rows-stand, stands-ledger}
-use Rattle.journal_order.specs.Ledgers.{ProcessOffers, ScheduleHasLedger, ScheduleIsRun}
+use Rattle.protocol.proofs.Acting.{schedule-acts}
+use Rattle.journal_order.specs.Ledgers.{IsFirst, ScheduleHasLedger, ScheduleIsRun, acts_of}
 use Rattle.journal_order.proofs.Leading.{ledger-is-run}
 
 pub schedule-has-ledger : ScheduleHasLedger
-schedule-has-ledger ps threads rows seats later steps w few_threads few_rows plays opens running = record {
-  running = running;
-  each = stands-ledger (ProcessOffers ps) w.table (rows-stand (ProcessOffers ps) threads rows seats later steps w few_threads few_rows plays opens);
-}
+schedule-has-ledger ps threads rows seats later steps w few_threads few_rows wait plays acts =
+    schedule-acts threads rows seats later (IsFirst ps) (acts_of ps) steps w few_threads few_rows wait plays acts
 
 ledger-rows : (t : Table) → (ledger_of t).rows ≡ t.rows
 unfolding ledger_of
@@ -24,8 +22,8 @@ unfolding start_world
 start-rows threads rows seats later = refl
 
 pub schedule-is-run : ScheduleIsRun
-schedule-is-run ps threads rows seats later steps w commits few_threads few_rows plays opens running order =
+schedule-is-run ps threads rows seats later steps w commits few_threads few_rows wait plays acts order =
     let size : (ledger_of w.table).rows ≡ rows = ledger-rows w.table ∙ (grows-schedule (start_world threads rows seats later) w steps (kept_start threads rows seats later few_threads few_rows) plays).rows ∙ start-rows threads rows seats later in
     ledger-is-run ps rows (ledger_of w.table) commits (lawful_schedule threads rows seats later steps w few_threads few_rows plays)
-    (schedule-has-ledger ps threads rows seats later steps w few_threads few_rows plays opens running)
+    (schedule-has-ledger ps threads rows seats later steps w few_threads few_rows wait plays acts)
     (omega (arith, size)) order

@@ -1,38 +1,43 @@
--- Ledgers of processes: each row offers what its process, which no text spawns, offers after the results of the thread's
--- earlier rows.
-use Rattle.std.specs.Prelude.{◌≡◌, ℕ, ◌≤◌, List, None, nat_lt, if◌then◌else◌}
+-- Ledgers of processes: each thread offers what its process offers after its results, starts the processes that it spawns, and ends
+-- where it ends.
+use Rattle.std.specs.Prelude.{◌≡◌, ℕ, ◌<◌, ◌≤◌, false, List, None, Some, length}
 use Rattle.event.specs.Tree.{Tree, offers, scope_nacks}
 use Rattle.script_tree.specs.Processes.{Proc}
 use Rattle.script_tree.specs.Spawning.{spawner}
 use Rattle.thread.specs.After.{Chosen}
 use Rattle.protocol_values.specs.declared.Commit.{Commit}
-use Rattle.protocol_values.specs.declared.Course.TheVariants.{Unstarted, Running}
 use Rattle.protocol_values.specs.declared.Offer.{Offer}
 use Rattle.protocol_values.specs.declared.Seat.{Seat}
 use Rattle.protocol_values.specs.declared.Step.{Step}
-use Rattle.protocol.specs.Ledgers.{Ledger, IsLawful, course_in, ledger_of}
-use Rattle.protocol.specs.Standing.{EachOffersAs, EachOpenedAs}
-use Rattle.protocol.specs.Worlds.{Plays, World, start_world}
+use Rattle.protocol.specs.Acting.{Acts, ActsAs, EachStepsAs}
+use Rattle.protocol.specs.Ledgers.{Ledger, IsLawful, ledger_of}
+use Rattle.protocol.specs.Worlds.{Plays, World, start_world, waits}
 use Rattle.journal_replay.specs.Runs.{IsOffering, IsRun}
+use Rattle.journal_replay.specs.Starting.{HasEnded, SpawnsAt}
 use Rattle.journal_order.specs.Laws.{IsOrderOf}
 
 -- after these results the thread's process offers an event that makes these offers, with these nacks of its scopes
 pub record ProcessOffers (ps : List Proc) (t : ℕ) (results : List Chosen) (made : List Offer) (nacks : List ℕ) : Type 0 where
-  -- no text spawns the process
-  pub at_once : spawner ps t ≡ None
   pub event : Tree
   pub offered : IsOffering ps t results event
   pub are : offers event ≡ made
   pub scopes : scope_nacks event ≡ nacks
 
--- each thread of the ledger has run from the start, and none has ended
-abbrev pub AllRun : Ledger → Type 0
-AllRun l = (t : ℕ) → course_in l t ≡ (if nat_lt t l.threads then Running 0 else Unstarted)
+-- behind the last of these results, and not before, the thread has spawned the process
+pub record ProcessSpawns (ps : List Proc) (s : ℕ) (results : List Chosen) (t : ℕ) : Type 0 where
+  pub by : spawner ps t ≡ Some s
+  pub at : SpawnsAt ps s results t (length results)
 
--- each row that offers something does so as its process, and has its nacks
-pub record IsLedgerOf (ps : List Proc) (l : Ledger) : Type 0 where
-  pub running : AllRun l
-  pub each : EachOffersAs (ProcessOffers ps) l
+-- what the threads do of processes
+abbrev pub acts_of : List Proc → Acts
+acts_of ps = record { offers = ProcessOffers ps; starts = ProcessSpawns ps; ends = HasEnded ps }
+
+-- no text spawns it
+abbrev pub IsFirst : List Proc → ℕ → Type 0
+IsFirst ps t = spawner ps t ≡ None
+
+abbrev pub IsLedgerOf : List Proc → Ledger → Type 0
+IsLedgerOf ps l = ActsAs (IsFirst ps) (acts_of ps) l
 
 -- the commits of a lawful ledger of processes, in order, are a run of them
 abbrev pub LedgerIsRun : Type 0
@@ -42,17 +47,20 @@ LedgerIsRun =
 
 -- SCHEDULES
 
--- however the steps of a schedule fall that leaves all threads running, where each row is opened as its process offers there,
--- its ledger is one of them
+-- the processes that texts spawn wait at the start
+abbrev pub SpawnedWait : List Proc → ℕ → ℕ → Type 0
+SpawnedWait ps threads later = (t : ℕ) → t < threads → waits later t ≡ false → IsFirst ps t
+
+-- however the steps of a schedule fall, where each row is opened as its process offers there, and threads are started and ended where
+-- their processes are, its ledger is one of them
 abbrev pub ScheduleHasLedger : Type 0
 ScheduleHasLedger =
-    (ps : List Proc) (threads rows seats later : ℕ) (steps : List (Seat × Step)) (w : World) → threads ≤ 64 → rows ≤ 1024 →
-    Plays (start_world threads rows seats later) steps w → EachOpenedAs (ProcessOffers ps) (start_world threads rows seats later) steps →
-    AllRun (ledger_of w.table) → IsLedgerOf ps (ledger_of w.table)
+    (ps : List Proc) (threads rows seats later : ℕ) (steps : List (Seat × Step)) (w : World) → threads ≤ 64 → rows ≤ 1024 → SpawnedWait ps threads later →
+    Plays (start_world threads rows seats later) steps w → EachStepsAs (acts_of ps) (start_world threads rows seats later) steps → IsLedgerOf ps (ledger_of w.table)
 
 -- so its commits in order are a run of them
 abbrev pub ScheduleIsRun : Type 0
 ScheduleIsRun =
-    (ps : List Proc) (threads rows seats later : ℕ) (steps : List (Seat × Step)) (w : World) (commits : List Commit) → threads ≤ 64 → rows ≤ 1024 →
-    Plays (start_world threads rows seats later) steps w → EachOpenedAs (ProcessOffers ps) (start_world threads rows seats later) steps →
-    AllRun (ledger_of w.table) → IsOrderOf (ledger_of w.table) commits → IsRun ps rows commits
+    (ps : List Proc) (threads rows seats later : ℕ) (steps : List (Seat × Step)) (w : World) (commits : List Commit) → threads ≤ 64 → rows ≤ 1024 → SpawnedWait ps threads later →
+    Plays (start_world threads rows seats later) steps w → EachStepsAs (acts_of ps) (start_world threads rows seats later) steps →
+    IsOrderOf (ledger_of w.table) commits → IsRun ps rows commits

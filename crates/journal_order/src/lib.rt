@@ -57,14 +57,17 @@ pub fn message_laws()
 {}
 
 /// Where each row of a lawful ledger offers what its process offers after the results of the thread's earlier
-/// rows, no text spawns that process, the nacks of each such event's scopes, and no others, are bound to the
-/// row, and each thread runs from the start on, the ledger's commits in order are a run of the processes.
+/// rows, the nacks of each such event's scopes, and no others, are bound to the row, and each thread has started
+/// and ended as processes do, the ledger's commits in order are a run of the processes. A thread starts at once
+/// where no text spawns its process, and else where a process that has started spawns it, with that one's last
+/// stamp; it has ended after results with which its process has.
 pub fn ledger_run_law()
     ensures { LedgerIsRun }
 {}
 
-/// However the steps of a schedule fall that leaves all threads running, where each row is opened as its process
-/// offers there, the schedule's ledger is one of the processes, and its commits in order are a run of them.
+/// However the steps of a schedule fall in which the processes that texts spawn wait at the start, each row is
+/// opened as its process offers there, and each thread started and ended where its process does so, the schedule's
+/// ledger is one of the processes, and its commits in order are a run of them.
 pub fn schedule_laws()
     ensures ledger { ScheduleHasLedger }
     ensures run { ScheduleIsRun }
