@@ -11,6 +11,7 @@ use Rattle.protocol_values.specs.Words.{cell_word, cell_of, is_word_for, IsCellI
 use Rattle.protocol_values.proofs.WordLemmas.{cell_is_word, cell_of-cell_word, cell_word-cell_of}
 use Rattle.protocol_values.specs.declared.Seat.{Seat as StepSeat}
 use Rattle.atomic_table.specs.declared.shared.Seat.{Seat}
+use Rattle.protocol_values.specs.declared.Course.TheVariants.{Unstarted}
 use Rattle.cell_table.specs.declared.board.Board.{Board}
 use Rattle.cell_table.specs.Seats.{Sits}
 use Rattle.protocol_values.specs.declared.Step.{Step}
@@ -20,7 +21,7 @@ use Rattle.protocol_values.specs.declared.Joined.{Joined}
 use Rattle.protocol_values.specs.declared.Message.{Message}
 use Rattle.protocol_values.specs.declared.Cell.{Cell}
 use Rattle.protocol_values.specs.declared.Cell.TheVariants.{Fresh, Waiting, Claimed, Synched, Taken}
-use Rattle.protocol.specs.Tables.{Table, place_of, is_row, is_fresh, cell_at, joined_at, names, is_partner, word_at, row_eq, synched_of, is_taken}
+use Rattle.protocol.specs.Tables.{Table, place_of, is_row, is_fresh, cell_at, joined_at, names, is_partner, word_at, row_eq, synched_of, is_taken, course_at}
 use Rattle.protocol_values.specs.Values.{joined_of, next_row}
 use Rattle.protocol.specs.Worlds.{World, waits, Condition, after_step, namer_at, joined_with, mirrored, with_seal, with_table, with_cell, with_word, holder_at, with_take, Allowed, IsAlive, first_row, last_holder}
 use Rattle.protocol.specs.Kept.{Kept}
@@ -29,7 +30,7 @@ use Rattle.protocol.proofs.Naming.{namer_none, namer_is}
 use Rattle.protocol.proofs.Places.{row_from, row_inside, same_place}
 use Rattle.protocol.proofs.Readings.{cell_inside, row_of_open}
 use Rattle.protocol.proofs.Linking.{fresh_not_joined, some_inj, cases_Option}
-use Rattle.protocol.proofs.Keeping.{kept_step, idle_unnamed, join_in_range, grant_in_range, IsSealing, sealed_is, seal_in_range}
+use Rattle.protocol.proofs.Keeping.{kept_step, idle_unnamed, join_in_range, grant_in_range, IsSealing, sealed_is, seal_in_range, is_held}
 use Rattle.cell_table.specs.declared.view.View.{View}
 use Rattle.cell_table.specs.declared.view.Shape.{Shape}
 use Rattle.cell_table.specs.declared.view.Stage.{Stage}
@@ -43,7 +44,7 @@ use Rattle.protocol.proofs.Onward.{grows-step}
 use Rattle.protocol.proofs.Results.{joined-results}
 use Rattle.protocol.proofs.Standing.{results-stay}
 use Rattle.cell_table.specs.Nacks.{CanGrant}
-use Rattle.cell_table.proofs.Following.{knows_follows, knows_owned, hold_more, stand_behind, taken_world, not_held, not_last, no_end_taken, goes_on, last_held_now, next_unopened, follows_taken, bindings_after, next_unbound, taken_at, next_held}
+use Rattle.cell_table.proofs.Following.{knows_follows, knows_owned, hold_more, stand_behind, taken_world, not_held, not_last, no_end_taken, goes_on, last_held_now, next_unopened, follows_taken, bindings_after, next_unbound, taken_at, next_held, alive_unseen, stand_ends}
 use Rattle.cell_table.specs.Views.{Knows, SeesEnd, Staged, IsClaimer, behind_last, at_stage, did, took, took_with, saw, read_word, drafted_word, turned, word_drafted}
 use Rattle.cell_table.proofs.Truths.{offers_known, joined_known, granted_known, agrees, coherent}
 use Rattle.cell_table.specs.Rule.{Housed, IsHome, IsReady, IsToBegin, Keeps, beginning}
@@ -51,8 +52,8 @@ use Rattle.cell_table.specs.Told.{Agrees, AgreesWithItself, ComesOut, GoesHome, 
 use Rattle.cell_table.proofs.Others.{knows_begun, learn_cell, learn_word, others_cell, own_cell, cell_now, cell_else, others_draft, own_draft}
 use Rattle.cell_table.proofs.Courses.{KeepsLives}
 use Rattle.cell_table.proofs.Seating.{MovesOn, Stays, saw_stays}
-use Rattle.cell_table.proofs.Turning.{alive_known, world_kept, keeps_housed, keeps_seen, keeps_view, keeps_step, moved_coherent}
-use Rattle.cell_table.proofs.Housing.{first_out, housed_begin, housed_open, housed_take, some_or_none, took_begins, took_holds, value_out}
+use Rattle.cell_table.proofs.Turning.{world_kept, keeps_housed, keeps_seen, keeps_view, keeps_step, moved_coherent}
+use Rattle.cell_table.proofs.Housing.{first_out, housed_begin, housed_open, housed_take, some_or_none, took_begins, took_begun, took_holds, value_out}
 use Rattle.cell_table.proofs.Standing.{comes_out, goes_home, sees_last}
 
 -- the table with these words
@@ -104,7 +105,7 @@ module _ {M : Type 0} (stands : Stands M) where
         (ap (λ (n : ℕ). place_of n r p) rows ∙ sym here ∙ e)
 
     abbrev IsUnended : Type 0
-    IsUnended = ¬ (0 < length shape.first.value.items) → ¬ SawEnded me.0.seen r.thread
+    IsUnended = ¬ SawEnded me.0.seen r.thread
 
     module _ (s : State (Option M) (View M)) (k : Keeps stands shape s) (view : get_elem? s.views id ≡ some me.0) where
       known : Knows k.world k.owner id me.0
@@ -151,7 +152,7 @@ module _ {M : Type 0} (stands : Stands M) where
 
       -- where it stands at the row, and has not seen its thread end
       lives : IsStand me.0.rows me.0.seen r → IsUnended → IsAlive k.world r.thread
-      lives stand alive = alive_known stands shape s k id me.0 r known (row_inside k.world.table r is_its_row).0 stand alive
+      lives stand alive = alive_unseen k.world me.0.seen r.thread (stand_ends k.world k.owner id me.0 known r stand) alive
 
       -- where it writes a word behind the cell
       wrote_word : (d : ℕ) → me.0.stage ≡ Resting → Has me.0.seen.held r → ¬ Has me.0.seen.opened r → IsUnended → 1 ≤ p → is_word_for p d ≡ true → Keeps stands shape (stepped s place d id me.1 (word_drafted r p d me.0) keeps)
@@ -159,7 +160,7 @@ module _ {M : Type 0} (stands : Stands M) where
           let mine = known.mine r held in
           let fresh = known.fresh r held unopened in
           keeps_step stands shape s k id me.0 (drafted_word r p d me.0) _ k.owner view at_table refl refl refl (λ q h. h) (Draft r p d) (λ q e. let bad : Draft r p d ≡ Open q = e in cc) tt (known.seat, (mine.1, fresh, lives (inl (held, unopened)) alive, high, omega arith, formed))
-          (record { same = (refl, refl, refl); acted = rests resting; acts = rests resting; held = λ q h. h; binds = λ n q scope e. let bad : Draft r p d ≡ Bind n q scope = e in cc }) (λ t rs h. inl h)
+          (record { same = (refl, refl, refl); acted = rests resting; acts = rests resting; held = λ q h. h; begun = λ q h. h; binds = λ n q scope e. let bad : Draft r p d ≡ Bind n q scope = e in cc }) (λ t rs h. inl h)
           (ap (λ (t : Table). with_word t r p d) k.table ∙ ap (λ (n : ℕ). sized shape (slice_set s.words n d)) (sym here))
           (λ j u n e t. others_draft k.world r p d k.owner kept is_its_row high low fresh j u (k.knows j u e t) (λ o. n (sym o ∙ mine.0)))
           (own_draft k.world r p d k.owner kept is_its_row high low fresh id me.0 known mine.0 mine.1)
@@ -248,8 +249,8 @@ module _ {M : Type 0} (stands : Stands M) where
             → Keeps stands shape (record { words = slice_set s.words place (cell_word Waiting); homes = hs; views = slice_set s.views id (did (Open r) (turned Resting r me.0)) })
         unfolding with_cell
         opens hs house =
-            keeps_housed stands shape s k id me.0 (turned Resting r me.0) _ hs k.owner view at_table refl refl refl (Open r) (λ some_first. tt) allowed_open
-            (record { same = (refl, refl, refl); acted = rests resting; acts = λ e. let bad : Resting ≡ Aside = e in cc; held = λ q h. h; binds = λ n q scope e. let bad : Open r ≡ Bind n q scope = e in cc }) (λ t rs h. inl h)
+            keeps_housed stands shape s k id me.0 (turned Resting r me.0) _ hs k.owner view at_table refl refl refl (Open r) (λ some_first. (tt, tt)) allowed_open
+            (record { same = (refl, refl, refl); acted = rests resting; acts = λ e. let bad : Resting ≡ Aside = e in cc; held = λ q h. h; begun = λ q h. h; binds = λ n q scope e. let bad : Open r ≡ Bind n q scope = e in cc }) (λ t rs h. inl h)
             (ap (λ (t : Table). with_cell t r Waiting) k.table ∙ ap (λ (n : ℕ). sized shape (slice_set s.words n (cell_word Waiting))) (ap (place_of shape.rows r) (sym zero) ∙ sym here))
             others_open opened_knows house
 
@@ -277,7 +278,7 @@ module _ {M : Type 0} (stands : Stands M) where
           let now = own_now Claimed zero tt refl was untaken in
           wrote_cell Claimed zero tt refl was untaken (Claim r) (turned (Claims r) r me.0) (mine.1, waits) refl
           (λ j n o. absurd (n (sym o ∙ mine.0))) (λ j m n o h. refl) refl refl refl refl (λ q h. h) (λ q e. let bad : Claim r ≡ Open q = e in cc) tt
-          (record { same = (refl, refl, refl); acted = rests resting; acts = λ e. let bad : Claims r ≡ Aside = e in cc; held = λ q h. h; binds = λ n q scope e. let bad : Claim r ≡ Bind n q scope = e in cc })
+          (record { same = (refl, refl, refl); acted = rests resting; acts = λ e. let bad : Claims r ≡ Aside = e in cc; held = λ q h. h; begun = λ q h. h; binds = λ n q scope e. let bad : Claim r ≡ Bind n q scope = e in cc })
           (knows_now Claimed zero tt refl was untaken (Claims r) (
             mine.0,
             now,
@@ -299,7 +300,7 @@ module _ {M : Type 0} (stands : Stands M) where
           wrote_cell Waiting zero tt refl was untaken (Yield r) (turned Resting r me.0)
           (mine.1, staged.1, namer_none _ (joined_at k.world.table) r staged.2) refl
           (λ j n o. absurd (n (sym o ∙ mine.0))) (λ j m n o h. refl) refl refl refl refl (λ q h. h) (λ q e. let bad : Yield r ≡ Open q = e in cc) tt
-          (record { same = (refl, refl, refl); acted = λ e. let bad : Claims r ≡ Aside = sym claiming ∙ e in cc; acts = λ e. let bad : Resting ≡ Aside = e in cc; held = λ q h. h; binds = λ n q scope e. let bad : Yield r ≡ Bind n q scope = e in cc })
+          (record { same = (refl, refl, refl); acted = λ e. let bad : Claims r ≡ Aside = sym claiming ∙ e in cc; acts = λ e. let bad : Resting ≡ Aside = e in cc; held = λ q h. h; begun = λ q h. h; binds = λ n q scope e. let bad : Yield r ≡ Bind n q scope = e in cc })
           (knows_now Waiting zero tt refl was untaken Resting tt (λ e. let bad : Waiting ≡ Claimed = e in cc)
           (λ q e h. false≢true (sym e ∙ ap (row_eq q) (subst (λ (z : Stage). IsClaimer z q) claiming h) ∙ row_eq-refl q)))
 
@@ -326,7 +327,7 @@ module _ {M : Type 0} (stands : Stands M) where
           (λ i n o. (waits, refl))
           (λ i m n o h. ap (λ (y : Option (Row × ℕ)). is_partner y m) partner_is ∙ row_ne mine m (λ e. n (sym o ∙ ap k.owner (sym e) ∙ staged.0)))
           refl refl refl refl (λ q h. h) (λ q e. let bad : Join mine own r partner ≡ Open q = e in cc) tt
-          (record { same = (refl, refl, refl); acted = λ e. let bad : Claims mine ≡ Aside = sym claiming ∙ e in cc; acts = λ e. let bad : Joins mine r j ≡ Aside = e in cc; held = λ q h. h; binds = λ n q scope e. let bad : Join mine own r partner ≡ Bind n q scope = e in cc })
+          (record { same = (refl, refl, refl); acted = λ e. let bad : Claims mine ≡ Aside = sym claiming ∙ e in cc; acts = λ e. let bad : Joins mine r j ≡ Aside = e in cc; held = λ q h. h; begun = λ q h. h; binds = λ n q scope e. let bad : Join mine own r partner ≡ Bind n q scope = e in cc })
           (learn_cell _ k.owner id (turned (Joins mine r j) r me.0) r (Synched j)
           (knows_now (Synched j) zero range refl was untaken (Joins mine r j)
           (staged.0, else_now (Synched j) zero range refl was untaken mine apart ∙ staged.1, ap joined_of now, ap (λ (y : Option (Row × ℕ)). is_partner y mine) partner_is ∙ row_eq-refl mine)
@@ -349,7 +350,7 @@ module _ {M : Type 0} (stands : Stands M) where
           (ap (λ (y : Joined). with_table k.world (with_cell k.world.table r (Synched y))) known_grant.1)
           (λ i n o. (waits, refl))
           (λ i m n o h. ap (λ (y : Option (Row × ℕ)). is_partner y m) nobody) refl refl refl refl (λ q h. h) (λ q e. let bad : Grant r n ≡ Open q = e in cc) tt
-          (record { same = (refl, refl, refl); acted = rests resting; acts = λ e. let bad : Resting ≡ Aside = e in cc; held = λ q h. h; binds = λ m q scope e. let bad : Grant r n ≡ Bind m q scope = e in cc })
+          (record { same = (refl, refl, refl); acted = rests resting; acts = λ e. let bad : Resting ≡ Aside = e in cc; held = λ q h. h; begun = λ q h. h; binds = λ m q scope e. let bad : Grant r n ≡ Bind m q scope = e in cc })
           (learn_cell _ k.owner id (turned Resting r me.0) r (Synched j)
           (knows_now (Synched j) zero range refl was untaken Resting tt
           (λ e. let bad : Synched j ≡ Claimed = e in cc)
@@ -424,8 +425,8 @@ module _ {M : Type 0} (stands : Stands M) where
           unfolding with_cell
           takes hs house =
               let stay = results-stay k.world (after_step k.world seat (Take r)).table r.thread results kept (grows-step k.world seat (Take r) kept allowed_take) are in
-              keeps_housed stands shape s k id me.0 (took_with r j results me.0) _ hs owner' view at_table refl refl refl (Take r) (λ some_first. tt) allowed_take
-              (record { same = (refl, refl, refl); acted = rests resting; acts = rests resting; held = λ q h. took_holds me.0.rows r (see_cell r (Taken j) me.0.seen) q h; binds = λ n q scope e. let bad : Take r ≡ Bind n q scope = e in cc })
+              keeps_housed stands shape s k id me.0 (took_with r j results me.0) _ hs owner' view at_table refl refl refl (Take r) (λ some_first. (tt, tt)) allowed_take
+              (record { same = (refl, refl, refl); acted = rests resting; acts = rests resting; held = λ q h. took_holds me.0.rows r (see_cell r (Taken j) me.0.seen) q h; begun = λ q h. took_begun me.0.rows r (see_cell r (Taken j) me.0.seen) q h; binds = λ n q scope e. let bad : Take r ≡ Bind n q scope = e in cc })
               (λ t rs. ⊎_elim
               (λ (e : (r.thread, results) ≡ (t, rs)). inr (subst (λ (z : ℕ × List Result). AreResults (ledger_of (after_step k.world seat (Take r)).table) z.0 z.1) e stay))
               (λ (old : Has me.0.results (t, rs)). inl old))
@@ -477,7 +478,7 @@ module _ {M : Type 0} (stands : Stands M) where
           (ap (λ (y : Option Joined). with_table k.world (with_seal k.world.table r y)) (sealed_is k.world.table r other (namer_at k.world r) sealing namer))
           (λ i n o. absurd (n (sym o ∙ mine.0)))
           (λ i m n o h. row_ne other m (λ e. let bad : None ≡ Some j = sym (ap joined_of h) ∙ ap (joined_at k.world.table) (sym e) ∙ staged.2 in cc)) refl refl refl refl (λ q h. h) (λ q e. let bad : Seal r ≡ Open q = e in cc) tt
-          (record { same = (refl, refl, refl); acted = λ e. let bad : Joins r other j ≡ Aside = sym joining_now ∙ e in cc; acts = λ e. let bad : Resting ≡ Aside = e in cc; held = λ q h. h; binds = λ n q scope e. let bad : Seal r ≡ Bind n q scope = e in cc })
+          (record { same = (refl, refl, refl); acted = λ e. let bad : Joins r other j ≡ Aside = sym joining_now ∙ e in cc; acts = λ e. let bad : Resting ≡ Aside = e in cc; held = λ q h. h; begun = λ q h. h; binds = λ n q scope e. let bad : Seal r ≡ Bind n q scope = e in cc })
           (learn_cell _ k.owner id (turned Resting r me.0) r (Synched (mirrored other j own))
           (knows_now (Synched (mirrored other j own)) zero range refl was untaken Resting tt
           (λ e. let bad : Synched (mirrored other j own) ≡ Claimed = e in cc)
@@ -508,7 +509,7 @@ module _ {M : Type 0} (stands : Stands M) where
           me.0,
           keeps,
           tt,
-          learnt shape id place me r 0 threads rows inside (omega arith) here s k view me.0 refl refl refl refl (refl, refl, refl, refl, refl) (λ q h. h) knows,
+          learnt shape id place me r 0 threads rows inside (omega arith) here s k view me.0 refl refl refl refl (refl, refl, refl, refl, refl, λ q h. inl h) (λ q h. h) knows,
           (refl, coherent k.world k.owner id me.0 knows (world_kept stands shape s k)),
         )
 
@@ -519,7 +520,7 @@ module _ {M : Type 0} (stands : Stands M) where
           read_word r p x me.0,
           keeps,
           tt,
-          learnt shape id place me r p threads rows inside low here s k view (read_word r p x me.0) refl refl refl refl (refl, refl, refl, refl, refl) (λ q h. h)
+          learnt shape id place me r p threads rows inside low here s k view (read_word r p x me.0) refl refl refl refl (refl, refl, refl, refl, refl, λ q h. inl h) (λ q h. h)
               (learn_word k.world k.owner id me.0 r p x knows (knows.opened r seen) high low (word_is shape id place me r p threads rows inside low here s k view)),
           λ q o h at. (
             ap (λ (z : Row × ℕ). (read_word z.0 z.1 x me.0, me.1)) (let e = one_word shape id place me r p threads rows inside low here q o h at.0 at.1 in λ i. (e.0 i, e.1 i)),
@@ -527,7 +528,7 @@ module _ {M : Type 0} (stands : Stands M) where
           ),
         )
 
-    pub draft_allowed : (p d : ℕ) → 1 ≤ p → p < 34 → is_word_for p d ≡ true → me.0.stage ≡ Resting → Has me.0.seen.held r → ¬ Has me.0.seen.opened r → (¬ (0 < length shape.first.value.items) → ¬ SawEnded me.0.seen r.thread) → place ≡ place_of shape.rows r p
+    pub draft_allowed : (p d : ℕ) → 1 ≤ p → p < 34 → is_word_for p d ≡ true → me.0.stage ≡ Resting → Has me.0.seen.held r → ¬ Has me.0.seen.opened r → (¬ SawEnded me.0.seen r.thread) → place ≡ place_of shape.rows r p
         → Allows (Keeps stands shape) slots id me place (λ n. d) (λ n. drafted (step slots place d 0 none) me d)
     draft_allowed p d high low formed resting held unopened alive here s k homes view range =
         let after = word_drafted r p d me.0 in
@@ -543,7 +544,7 @@ module _ {M : Type 0} (stands : Stands M) where
         )
 
     -- a held row that is not opened
-    pub open_allowed : slots ≡ length shape.first.value.items → (0 < length shape.first.value.items → length shape.first.value.items ≡ shape.threads) → me.0.stage ≡ Resting → Has me.0.seen.held r → ¬ Has me.0.seen.opened r → (¬ (0 < length shape.first.value.items) → ¬ SawEnded me.0.seen r.thread)
+    pub open_allowed : slots ≡ length shape.first.value.items → (0 < length shape.first.value.items → length shape.first.value.items ≡ shape.threads) → me.0.stage ≡ Resting → Has me.0.seen.held r → ¬ Has me.0.seen.opened r → (¬ SawEnded me.0.seen r.thread)
         → (0 < length shape.first.value.items → (value : M) × (me.1 ≡ (r.thread, Some value) ∷ rest me.1) × IsReady stands shape.first.value.items me.0.results me.0.seen r value) → place ≡ place_of shape.rows r 0
         → Allows (Keeps stands shape) slots id me place (λ n. cell_word Waiting) (λ n. opened (step slots place (cell_word Waiting) 0 none) me (cell_word Waiting))
     open_allowed count full resting held unopened alive parked here s k homes view range = by_slots (some_or_none shape.first.value.items)
@@ -592,11 +593,12 @@ module _ {M : Type 0} (stands : Stands M) where
         let after : View M = began r me.0 in
         let to_begin : IsToBegin me.0 r = (zero, inl held, unbegun) in
         let firsts : me.0.first ≡ shape.first.value.items = ap (λ (z : List M × ℕ). z.0) (k.firsts id me.0 view (at_table shape id place me r 0 threads rows inside (omega arith) here)) in
+        let started : course_at k.world.table r.thread ≢ Unstarted = (world_kept stands shape s k).begun r (is_held k.world r me.0.seat (knows.mine r held).1) in
         let others = none_begins shape id place me r 0 threads rows inside (omega arith) here s k view held in
-        let waits = first_out stands shape.first.value.items k.world r s.homes s.views id me.0 after (world_kept stands shape s k) to_begin others view (at_table shape id place me r 0 threads rows inside (omega arith) here) (λ q b. began_before q b) (k.housed some_first) in
+        let waits = first_out stands shape.first.value.items k.world r s.homes s.views id me.0 after (world_kept stands shape s k) to_begin started others view (at_table shape id place me r 0 threads rows inside (omega arith) here) (λ q b. began_before q b) (k.housed some_first) in
         let moved : Keeps stands shape (stepped s place (slice_index s.words place) id me.1 after (takes_it r.thread (Some waits.value))) =
-        keeps_seen stands shape s k id me.0 after _ (slice_set s.homes r.thread none) view (at_table shape id place me r 0 threads rows inside (omega arith) here) refl refl refl refl (refl, refl, refl, refl, refl) (set-get_or s.words place 0) (knows_begun k.world k.owner id me.0 r knows)
-        (λ again. housed_begin stands shape.first.value.items k.world r s.homes s.views id me.0 after (world_kept stands shape s k) to_begin others view (at_table shape id place me r 0 threads rows inside (omega arith) here) (λ q b. began_before q b) (k.housed some_first)) in (
+        keeps_seen stands shape s k id me.0 after _ (slice_set s.homes r.thread none) view (at_table shape id place me r 0 threads rows inside (omega arith) here) refl refl refl refl (refl, refl, refl, refl, refl, λ q. ⊎_elim (λ (e : r ≡ q). inr (subst (λ (x : Row). Has me.0.seen.held x) e held)) (λ (old : Has me.0.seen.begun q). inl old)) (set-get_or s.words place 0) (knows_begun k.world k.owner id me.0 r knows)
+        (λ again. housed_begin stands shape.first.value.items k.world r s.homes s.views id me.0 after (world_kept stands shape s k) to_begin started others view (at_table shape id place me r 0 threads rows inside (omega arith) here) (λ q b. began_before q b) (k.housed some_first)) in (
           after,
           takes_it r.thread (Some waits.value),
           waits.home,

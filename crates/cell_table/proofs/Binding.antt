@@ -24,7 +24,8 @@ use Rattle.protocol.proofs.Keeping.{holder_same, taken_before}
 use Rattle.cell_table.specs.declared.view.View.{View}
 use Rattle.cell_table.specs.declared.view.Shape.{Shape}
 use Rattle.cell_table.specs.declared.view.Stage.TheVariants.{Aside, Resting}
-use Rattle.cell_table.specs.Sight.{EndsAt, Has, HasStart, SawEnded}
+use Rattle.cell_table.specs.Sight.{Has, SawEnded}
+use Rattle.protocol.specs.Acting.{EndsAt, HasStart}
 use Rattle.cell_table.specs.Views.{Knows, bind_of, bound_nack, did, saw_nack}
 use Rattle.cell_table.specs.Rule.{IsToBegin, Keeps, beginning}
 use Rattle.cell_table.proofs.Standing.{is_earlier}
@@ -35,11 +36,11 @@ use Rattle.protocol_values.specs.declared.Cell.{Cell}
 use Rattle.protocol_values.specs.declared.Cell.TheVariants.{Fresh, Waiting, Claimed, Synched, Taken}
 use Rattle.cell_table.specs.Told.{AgreesNack, AgreesWithItself, AtNack, InsideNack, IsEarlier, looked_nack, nack_read, tried_bind}
 use Rattle.cell_table.proofs.Allowing.{sized}
-use Rattle.cell_table.proofs.Following.{Follows, knows_bound, knows_follows}
+use Rattle.cell_table.proofs.Following.{Follows, knows_bound, knows_follows, alive_unseen, stand_ends}
 use Rattle.cell_table.proofs.Others.{learn_nack}
 use Rattle.cell_table.proofs.Truths.{coherent}
 use Rattle.cell_table.proofs.Seating.{Stays}
-use Rattle.cell_table.proofs.Turning.{alive_known, world_kept, keeps_view, keeps_step, moved_coherent}
+use Rattle.cell_table.proofs.Turning.{world_kept, keeps_view, keeps_step, moved_coherent}
 
 pub nack_from : (t : Table) (n : NackName) → n.thread < t.threads → n.k < 64 → is_nack t n ≡ true
 unfolding is_nack
@@ -144,8 +145,8 @@ module _ {M : Type 0} (stands : Stands M) where
       first_kept (Some b) = refl
 
       stays_kept : (o : Option Binding) → Stays me.0 (saw_nack nack o me.0)
-      stays_kept None = (refl, refl, refl, refl, refl)
-      stays_kept (Some b) = (refl, refl, refl, refl, refl)
+      stays_kept None = (refl, refl, refl, refl, refl, λ q h. inl h)
+      stays_kept (Some b) = (refl, refl, refl, refl, refl, λ q h. inl h)
 
       begins_kept : (o : Option Binding) (r : Row) → IsToBegin (saw_nack nack o me.0) r → IsToBegin me.0 r
       begins_kept None r h = h
@@ -194,7 +195,7 @@ module _ {M : Type 0} (stands : Stands M) where
           (taken_opened (cell_at k.world.table (bound_row nack c)) taken) is)
 
       -- the nack is bound to a held row that is not opened
-      module _ (b : Binding) (range : IsBindingInRange b) (resting : me.0.stage ≡ Resting) (held : Has me.0.seen.held (bound_row nack b)) (unopened : ¬ Has me.0.seen.opened (bound_row nack b)) (alive : ¬ (0 < length shape.first.value.items) → ¬ SawEnded me.0.seen nack.thread)
+      module _ (b : Binding) (range : IsBindingInRange b) (resting : me.0.stage ≡ Resting) (held : Has me.0.seen.held (bound_row nack b)) (unopened : ¬ Has me.0.seen.opened (bound_row nack b)) (alive : ¬ SawEnded me.0.seen nack.thread)
           (free : binding_at k.world.table nack ≡ None) where
         abbrev later : World
         later = with_table k.world (with_nack k.world.table nack b)
@@ -252,8 +253,8 @@ module _ {M : Type 0} (stands : Stands M) where
         binds =
             let mine = known.mine (bound_row nack b) held in
             keeps_step stands shape s k id me.0 (bound_nack nack b me.0) _ k.owner view at_table refl refl refl (λ q h. h) (bind_of nack b) (λ q e. let bad : bind_of nack b ≡ Open q = e in cc) tt
-            (known.seat, (mine.1, known.fresh (bound_row nack b) held unopened, alive_known stands shape s k id me.0 (bound_row nack b) known (subst (λ (n : ℕ). nack.thread < n) (sym (ap (λ (t : Table). t.threads) k.table)) inside.0) (inl (held, unopened)) alive, inside.1, range.scope, free))
-            (record { same = (refl, refl, refl); acted = rests; acts = rests; held = λ q h. h; binds = λ n q scope e. subst (Has me.0.seen.held) (ap row_bound e) held }) (λ t rs h. inl h)
+            (known.seat, (mine.1, known.fresh (bound_row nack b) held unopened, alive_unseen k.world me.0.seen nack.thread (stand_ends k.world k.owner id me.0 known (bound_row nack b) (inl (held, unopened))) alive, inside.1, range.scope, free))
+            (record { same = (refl, refl, refl); acted = rests; acts = rests; held = λ q h. h; begun = λ q h. h; binds = λ n q scope e. subst (Has me.0.seen.held) (ap row_bound e) held }) (λ t rs h. inl h)
             (ap (λ (t : Table). with_nack t nack b) k.table ∙ ap (λ (n : ℕ). sized shape (slice_set s.words n (nack_word (Some b)))) (sym here))
             (λ j u n e t. others j u n (k.knows j u e t))
             own
@@ -277,7 +278,7 @@ module _ {M : Type 0} (stands : Stands M) where
         )
 
     -- a nack of a held row's thread: where it is not bound, it is bound to the row
-    pub bind_allowed : (b : Binding) → IsBindingInRange b → me.0.stage ≡ Resting → Has me.0.seen.held (bound_row nack b) → ¬ Has me.0.seen.opened (bound_row nack b) → (¬ (0 < length shape.first.value.items) → ¬ SawEnded me.0.seen nack.thread) → place ≡ nack_place shape.rows nack
+    pub bind_allowed : (b : Binding) → IsBindingInRange b → me.0.stage ≡ Resting → Has me.0.seen.held (bound_row nack b) → ¬ Has me.0.seen.opened (bound_row nack b) → (¬ SawEnded me.0.seen nack.thread) → place ≡ nack_place shape.rows nack
         → Allows (Keeps stands shape) slots id me place (λ x. either (eqb x (nack_word None)) (nack_word (Some b)) x) (tried_bind stands (step slots place (nack_word None) (nack_word (Some b)) none) me)
     bind_allowed b in_range resting held unopened alive here s k homes view range =
         let x = slice_index s.words place in
@@ -310,7 +311,7 @@ module _ {M : Type 0} (stands : Stands M) where
         let is : binding_at k.world.table nack ≡ Some found.0 = read ∙ found.1 in
         let after = bound_nack nack found.0 me.0 in
         let moved : Keeps stands shape (stepped s place x id me.1 after keeps) =
-        learnt shape id place me nack threads rows inside here s k view after refl refl refl refl (refl, refl, refl, refl, refl) (λ q h. h) (learn_nack k.world k.owner id me.0 nack (Some found.0) knows is) in (
+        learnt shape id place me nack threads rows inside here s k view after refl refl refl refl (refl, refl, refl, refl, refl, λ q h. inl h) (λ q h. h) (learn_nack k.world k.owner id me.0 nack (Some found.0) knows is) in (
           after,
           keeps,
           tt,

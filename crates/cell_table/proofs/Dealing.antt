@@ -22,12 +22,14 @@ use Rattle.protocol.proofs.Places.{row_from}
 use Rattle.protocol.proofs.RowLemmas.{same_row}
 use Rattle.protocol.specs.Standing.{AreResults, Result, SomeStands, Stands}
 use Rattle.protocol.specs.Ledgers.{ledger_of}
+use Rattle.protocol.proofs.Acting.{ends-first, starts-first}
 use Rattle.cell_table.specs.declared.view.View.{View}
 use Rattle.cell_table.specs.declared.view.Shape.{Shape}
 use Rattle.cell_table.specs.declared.view.Stage.TheVariants.{Aside, Resting}
-use Rattle.cell_table.specs.Sight.{Coherent, EndsAt, Has}
+use Rattle.cell_table.specs.Sight.{Coherent, Has}
+use Rattle.protocol.specs.Acting.{EndsAt, acts_in}
 use Rattle.cell_table.specs.Views.{Knows, behind_last}
-use Rattle.cell_table.specs.Rule.{Housed, Interleaves, IsToBegin, Keeps, Move, Seated, Waits, at_seat, beginning, dealer, dealt_later, dealt_pass, falls_to, no_offers, seen_nothing, steps_by}
+use Rattle.cell_table.specs.Rule.{Housed, Interleaves, IsToBegin, Keeps, Move, Seated, Waits, at_seat, beginning, dealer, dealt_later, dealt_pass, falls_to, no_offers, seen_nothing, steps_by, StartsFirst}
 use Rattle.cell_table.proofs.Following.{knows_owned}
 use Rattle.cell_table.proofs.Housing.{housed_more, housed_view}
 use Rattle.cell_table.proofs.Seating.{at_end, seated_more, seated_set, seated_start}
@@ -79,7 +81,8 @@ module _ {M : Type 0} (stands : Stands M) where
     knows = knows_at;
     seated = seated_start shape;
     firsts = λ id v e t. first_there id v e;
-    courses = λ some_first t h. start_course shape.threads shape.rows shape.later t h;
+    started = λ some_first. starts-first shape.threads shape.rows shape.passes shape.later (StartsFirst shape.threads shape.later) (acts_in stands shape.first.value.items).starts (λ t below free. (below, free));
+    ended = λ some_first. ends-first shape.threads shape.rows shape.passes shape.later (acts_in stands shape.first.value.items).ends;
     housed = house;
     results = no_results;
   }
@@ -98,6 +101,7 @@ module _ {M : Type 0} (stands : Stands M) where
         rows = stands-start (SomeStands stands shape.first.value.items) shape.threads shape.rows shape.passes shape.later;
         at_home = λ r open_r untaken. absurd (true≢false (sym (ap is_fresh (start_cell shape.threads shape.rows shape.later r)) ∙ open_r));
         waiting = λ id v r e t b. lies_waiting id v r e b;
+        asleep = λ t below e. waits_at (first_row t) below;
       }
         where
           waits_at : (r : Row) → r.thread < shape.threads → Waits shape.first.value.items (start_world shape.threads shape.rows shape.passes shape.later) (map some xs) r
@@ -326,7 +330,7 @@ module _ {M : Type 0} (stands : Stands M) where
     dealer_on = seated_set s.views id (dealer shape k) (dealer shape (k + 1)) view (record {
       acts = λ t moves. absurd (moves refl);
       deals = λ t d. (t, below, omega arith);
-      well = record { aside = λ e. (refl, refl); gone = λ e. refl; binders = λ n r scope no. absurd no };
+      well = record { aside = λ e. (refl, refl); gone = λ e. refl; binders = λ n r scope no. absurd no; begun = λ r no. absurd no };
     }) h.seated
 
     -- those seats are below it
@@ -347,7 +351,7 @@ module _ {M : Type 0} (stands : Stands M) where
 
     new_seat : Seated (slice_set s.views id (dealer shape (k + 1)) ++ dealt_pass (dealer shape k) ∷ [])
     new_seat = seated_more (slice_set s.views id (dealer shape (k + 1))) (dealt_pass (dealer shape k))
-        (record { aside = λ e. let bad : Resting ≡ Aside = e in cc; gone = λ e. refl; binders = λ n r scope no. absurd no })
+        (record { aside = λ e. let bad : Resting ≡ Aside = e in cc; gone = λ e. refl; binders = λ n r scope no. absurd no; begun = λ r no. absurd no })
         (λ d. omega arith)
         (λ t moves j u e s q same. let low = acting j u e s q in absurd (omega (arith, low, same)))
         (λ t moves i u e s d. still_dealing i u e s d)
@@ -370,7 +374,8 @@ module _ {M : Type 0} (stands : Stands M) where
           (λ old. firsts_with s.views id (dealer shape k) (dealer shape (k + 1)) (shape.first.value.items, shape.later) view refl some_threads h.firsts j u old t)
           (λ now. ap (λ (z : View M). beginning z) (sym now.1))
           (at_end (slice_set s.views id (dealer shape (k + 1))) (dealt_pass (dealer shape k)) u j e);
-      courses = h.courses;
+      started = h.started;
+      ended = h.ended;
       housed = λ some_first.
           let before = h.housed some_first in
           housed_more stands shape.first.value.items h.world s.homes (slice_set s.views id (dealer shape (k + 1))) (dealt_pass (dealer shape k))

@@ -1,6 +1,5 @@
 -- The words of a table at its end, and what their ledger says.
-use Rattle.std.proofs.Common.{Option, Bool, true, false, cond, ltb, not, ◌&&◌, ◌≡◌, ℕ, zero, suc, ◌+◌, ◌<◌, ◌≤◌, List, [], ◌∷◌, length, slice_index, slice_set, slice_get, get_or, sym, ap, ◌∙◌, subst, inl, inr, ⊎_elim, arith, Some, None}
-use Rattle.std.proofs.lemmas.Bool.{ltb-false, ltb-true}
+use Rattle.std.proofs.Common.{Option, Bool, false, cond, ◌≡◌, ℕ, zero, suc, ◌+◌, ◌<◌, ◌≤◌, List, [], ◌∷◌, length, slice_index, slice_set, slice_get, get_or, sym, ap, ◌∙◌, subst, inl, inr, ⊎_elim, arith, Some, None}
 use Rattle.std.proofs.lemmas.List.{ext_get_or, get_or-set_same, get_or-set_other}
 use mathlib.Core.Option.{some, none}
 use lib.ListN.{get_elem?}
@@ -18,14 +17,14 @@ use Rattle.protocol.specs.Worlds.{start_world, waits}
 use Rattle.protocol.specs.Ledgers.{ledger_of, IsLawful, binding_in, course_in, joined_in, offer_in}
 use Rattle.protocol.proofs.LedgerLemmas.{binding_in_ledger, course_in_ledger, kept_start, lawful_ledger, joined_in_ledger, offer_in_ledger, start_course}
 use Rattle.protocol.proofs.Onward.{grows-schedule}
-use Rattle.protocol.specs.Standing.{AreResults, EachOffersAs, Result, SomeStands, Stands}
-use Rattle.protocol.proofs.Readings.{course_outside}
+use Rattle.protocol.specs.Standing.{AreResults, Result, SomeStands, Stands}
 use Rattle.protocol.proofs.Standing.{stands-ledger}
 use Rattle.cell_table.specs.declared.view.View.{View}
 use Rattle.cell_table.specs.declared.view.Shape.{Shape}
-use Rattle.cell_table.specs.Sight.{EndsAt, Has, HasStart, IsDraft, SeesOffer, SeesNoOffer}
+use Rattle.cell_table.specs.Sight.{Has, IsDraft, SeesOffer, SeesNoOffer}
+use Rattle.protocol.specs.Acting.{ActsAs, EndsAt, HasStart, acts_in}
 use Rattle.cell_table.specs.Views.{Knows}
-use Rattle.cell_table.specs.Rule.{Keeps, in_order}
+use Rattle.cell_table.specs.Rule.{Keeps, StartsFirst, in_order}
 use Rattle.cell_table.proofs.Allowing.{sized}
 use Rattle.cell_table.proofs.Turning.{world_kept}
 use Rattle.cell_table.proofs.Truths.{own_chose, sees_known, lacks_known}
@@ -73,20 +72,6 @@ module _ {M : Type 0} (stands : Stands M) where
     pub final_bound : (n : NackName) (b : Binding) → Has v.seen.bound (n, b) → binding_in (ledger_of (sized shape ws)) n ≡ Some b
     final_bound n b h = subst (λ (t : Table). binding_in (ledger_of t) n ≡ Some b) table_is (ap (λ (f : NackName → _). f n) (binding_in_ledger kept.world.table) ∙ known.bound n b h)
 
-    -- in a table of machines all threads are on their courses as at the start
-    pub final_running : 0 < length shape.first.value.items → (t : ℕ) → course_in (ledger_of (sized shape ws)) t ≡ cond (ltb t shape.threads && not (waits shape.later t)) (Running 0) Unstarted
-    final_running some_first t =
-        subst (λ (u : Table). course_in (ledger_of u) t ≡ cond (ltb t u.threads && not (waits shape.later t)) (Running 0) Unstarted) table_is
-        (ap (λ (f : ℕ → Course). f t) (course_in_ledger kept.world.table) ∙ by (ltb t kept.world.table.threads) (λ i. ltb t kept.world.table.threads))
-      where
-        turn : (b : Bool) → cond b Unstarted (Running 0) ≡ cond (not b) (Running 0) Unstarted
-        turn true = λ i. Unstarted
-        turn false = λ i. Running 0
-
-        by : (b : Bool) → ltb t kept.world.table.threads ≡ b → course_at kept.world.table t ≡ cond (b && not (waits shape.later t)) (Running 0) Unstarted
-        by true e = kept.courses some_first t (ltb-true t kept.world.table.threads e) ∙ turn (waits shape.later t)
-        by false e = course_outside kept.world.table t (ltb-false t kept.world.table.threads e)
-
     -- a course that was seen is that of the ledger
     course_there : (t : ℕ) → course_in (ledger_of (sized shape ws)) t ≡ course_at kept.world.table t
     course_there t = sym (ap (λ (u : Table). course_in (ledger_of u) t) table_is) ∙ ap (λ (f : ℕ → Course). f t) (course_in_ledger kept.world.table)
@@ -124,6 +109,10 @@ module _ {M : Type 0} (stands : Stands M) where
     final_lack r n sees =
         subst (λ (t : Table). offer_in (ledger_of t) r n ≡ None) table_is (ap (λ (f : Row → ℕ → _). f r n) (offer_in_ledger kept.world.table) ∙ lacks_known kept.world kept.owner id v r n known sees)
 
-    -- in a table of machines each row that offers something offers what somebody offers who stands for its thread there
-    pub final_stand : 0 < length shape.first.value.items → EachOffersAs (SomeStands stands shape.first.value.items) (ledger_of (sized shape ws))
-    final_stand some_first = subst (λ (t : Table). EachOffersAs (SomeStands stands shape.first.value.items) (ledger_of t)) table_is (stands-ledger (SomeStands stands shape.first.value.items) kept.world.table (kept.housed some_first).rows)
+    -- in a table of machines the threads do what those do who stand for them
+    pub final_acts : 0 < length shape.first.value.items → ActsAs (StartsFirst shape.threads shape.later) (acts_in stands shape.first.value.items) (ledger_of (sized shape ws))
+    final_acts some_first = subst (λ (t : Table). ActsAs (StartsFirst shape.threads shape.later) (acts_in stands shape.first.value.items) (ledger_of t)) table_is (record {
+      offers = stands-ledger (SomeStands stands shape.first.value.items) kept.world.table (kept.housed some_first).rows;
+      starts = kept.started some_first;
+      ends = kept.ended some_first;
+    })

@@ -1,5 +1,5 @@
 -- A thread is ended at a place of it: the rule admits it, and whoever stands there has seen it.
-use Rattle.std.proofs.Common.{◌≡◌, ◌≢◌, ◌<◌, ℕ, ◌∷◌, length, Option, Some, slice_set, sym, refl, ap, ◌∙◌, subst, inl, inr, ⊎_elim, arith}
+use Rattle.std.proofs.Common.{◌≡◌, ◌≢◌, ◌<◌, ℕ, ◌∷◌, length, Option, Some, slice_set, sym, refl, ap, ◌∙◌, subst, inl, inr, ⊎_elim}
 use Rattle.std.proofs.lemmas.Bool.{cases_eq}
 use mathlib.Core.Option.{some, none}
 use lib.ListN.{get_elem?}
@@ -11,7 +11,7 @@ use Rattle.protocol_values.specs.declared.Course.TheVariants.{Unstarted, Running
 use Rattle.protocol_values.specs.declared.NackName.{NackName}
 use Rattle.protocol_values.specs.declared.Row.{Row}
 use Rattle.protocol_values.specs.declared.Seat.{Seat}
-use Rattle.protocol_values.specs.declared.Step.TheVariants.{Bind, Finish}
+use Rattle.protocol_values.specs.declared.Step.TheVariants.{Bind, Finish, Open}
 use Rattle.protocol_values.specs.Values.{joined_of}
 use Rattle.protocol.specs.Kept.{Kept}
 use Rattle.protocol.specs.Standing.{Stands}
@@ -24,14 +24,17 @@ use Rattle.protocol.proofs.RowLemmas.{same_row}
 use Rattle.cell_table.specs.declared.view.Shape.{Shape}
 use Rattle.cell_table.specs.declared.view.Stage.TheVariants.{Aside, Resting}
 use Rattle.cell_table.specs.declared.view.View.{View}
-use Rattle.cell_table.specs.Rule.{Keeps}
-use Rattle.cell_table.specs.Sight.{EndsAt, Has, HasStart, IsStand, SawEnded}
+use Rattle.cell_table.specs.Rule.{IsFinishing, Keeps}
+use Rattle.cell_table.specs.Sight.{Has, IsStand, SawEnded}
+use Rattle.protocol.specs.Acting.{EndsAt, HasStart}
 use Rattle.cell_table.specs.Told.{finished}
 use Rattle.cell_table.specs.Views.{Knows, ended_thread, saw_course}
+use Rattle.protocol.proofs.Onward.{grows-step}
+use Rattle.cell_table.proofs.Housing.{housed_step}
 use Rattle.cell_table.proofs.Allowing.{sized}
 use Rattle.cell_table.proofs.Following.{Follows, IsPlace, alive_unseen, knows_anew, one_place, stand_ends, stand_owned, stand_place, stands_at}
 use Rattle.cell_table.proofs.Starts.{at_table, known, kept, its, one_course, one_life}
-use Rattle.cell_table.proofs.Turning.{keeps_housed, moved_coherent}
+use Rattle.cell_table.proofs.Turning.{does_now, keeps_housed, moved_coherent}
 
 -- a thread that has started, and has not ended, runs
 runs : (c : Course) (start : ℕ) → HasStart c start → ((g : ℕ) → EndsAt c g → ⊥) → c ≡ Running start
@@ -123,7 +126,7 @@ sync_of_end (Ended start sync) = sync
 module _ {M : Type 0} (stands : Stands M) where
   module _ (shape : Shape M) (slots id place : ℕ) (me : Me (Option M) (View M)) (x : Row)
       (threads : me.0.threads ≡ shape.threads) (rows : me.0.rows ≡ shape.rows) (inside : x.thread < shape.threads) (here : place ≡ course_place shape.rows x.thread)
-      (bare : length shape.first.value.items ≡ 0) (resting : me.0.stage ≡ Resting) (stand : IsStand me.0.rows me.0.seen x) (going : ¬ SawEnded me.0.seen x.thread)
+      (finishing : 0 < length shape.first.value.items → IsFinishing stands shape.first.value.items me.0.results x) (resting : me.0.stage ≡ Resting) (stand : IsStand me.0.rows me.0.seen x) (going : ¬ SawEnded me.0.seen x.thread)
       (start : ℕ) (begun : Has me.0.seen.started (x.thread, start)) (range : IsCourseInRange (Ended start x.sync)) where
     module _ (s : State (Option M) (View M)) (k : Keeps stands shape s) (view : get_elem? s.views id ≡ some me.0) where
       knows : Knows k.world k.owner id me.0
@@ -157,12 +160,12 @@ module _ {M : Type 0} (stands : Stands M) where
       unfolding with_course
       ends_so =
           keeps_housed stands shape s k id me.0 (saw_course x.thread (Ended start x.sync) me.0) _ s.homes k.owner view (at_table stands shape slots id place me x.thread threads rows inside here) refl refl refl
-          (Finish x) (λ some_first. absurd (omega (arith, bare, some_first))) allowed
-          (record { same = (refl, refl, refl); acted = rests; acts = rests; held = λ q h. h; binds = λ n q scope e. let bad : Finish x ≡ Bind n q scope = e in cc }) (λ t rs h. inl h)
+          (Finish x) (λ some_first. (tt, does_now stands shape s k id me.0 (after_step k.world at_seat (Finish x)).table x (λ value earlier. stands.ends shape.first.value.items value x.thread earlier) view (grows-step k.world at_seat (Finish x) kept_now allowed) (finishing some_first))) allowed
+          (record { same = (refl, refl, refl); acted = rests; acts = rests; held = λ q h. h; begun = λ q h. h; binds = λ n q scope e. let bad : Finish x ≡ Bind n q scope = e in cc }) (λ t rs h. inl h)
           (ap (λ (v : World). v.table) after_is ∙ ap (λ (t : Table). with_course t x.thread (Ended start x.sync)) k.table ∙ ap (λ (n : ℕ). sized shape (slice_set s.words n (course_word (Ended start x.sync)))) (sym here))
           (λ j u n e t. subst (λ (v : World). Knows v k.owner j u) (sym after_is) (others_end k.world x start kept_now its_thread range running k.owner id (stand_owned k.world k.owner id me.0 knows x stand) (stand_place k.world k.owner id me.0 knows x stand) j u n (k.knows j u e t)))
           (subst (λ (v : World). Knows v k.owner id (saw_course x.thread (Ended start x.sync) me.0)) (sym after_is) (own_end k.world x start kept_now its_thread range running k.owner id (stand_owned k.world k.owner id me.0 knows x stand) (stand_place k.world k.owner id me.0 knows x stand) me.0 knows))
-          (λ some_first. absurd (omega (arith, bare, some_first)))
+          (λ some_first. housed_step stands shape.first.value.items k.world at_seat (Finish x) s.homes s.views id (ended_thread x start me.0) kept_now allowed (λ q e. let bad : Finish x ≡ Open q = e in cc) (λ q b. (k.housed some_first).waiting id me.0 q view (at_table stands shape slots id place me x.thread threads rows inside here) b) (k.housed some_first))
 
     pub finish_allowed : Allows (Keeps stands shape) slots id me place (λ n. course_word (Ended start x.sync)) (λ n. finished (step slots place (course_word (Ended start x.sync)) 0 none) me (course_word (Ended start x.sync)))
     finish_allowed s k homes view in_words =

@@ -24,7 +24,8 @@ use Rattle.cell_table.specs.declared.view.View.{View}
 use Rattle.cell_table.specs.declared.view.Stage.{Stage}
 use Rattle.cell_table.specs.declared.view.Stage.TheVariants.{Resting, Claims, Joins, Aside}
 use Rattle.cell_table.specs.declared.view.Seen.{Seen}
-use Rattle.cell_table.specs.Sight.{EndsAt, Has, HasStart, IsStand, SawEnded, see_held}
+use Rattle.cell_table.specs.Sight.{Has, IsStand, SawEnded, see_held}
+use Rattle.protocol.specs.Acting.{EndsAt, HasStart}
 use Rattle.cell_table.specs.Views.{Knows, SeesEnd, Staged, at_stage, behind_last}
 use Rattle.cell_table.proofs.Courses.{ended_some, fresh_is, opened_before, taken_below}
 

@@ -174,16 +174,17 @@ module _ {M : Type 0} (stands : Stands M) where
         (at_end (slice_set s.views id v) (told_pass v) u j e);
     -- what is told stands aside
     seated = seated_more (slice_set s.views id v) (told_pass v)
-        (record { aside = λ e. (refl, refl); gone = λ e. refl; binders = λ n r scope no. absurd no })
+        (record { aside = λ e. (refl, refl); gone = λ e. refl; binders = λ n r scope no. absurd no; begun = λ r no. absurd no })
         (λ d. omega arith)
         (λ t moves. absurd (moves refl))
         (λ t moves. absurd (moves refl))
-        (seated_seen s.views id v v view (refl, refl, refl, refl, refl) refl refl k.seated);
+        (seated_seen s.views id v v view (refl, refl, refl, refl, refl, λ q h. inl h) refl refl k.seated);
     firsts = λ j u e t. ⊎_elim
         (λ old. firsts_with s.views id v v (shape.first.value.items, shape.later) view refl at_table k.firsts j u old t)
         (λ (now : (j ≡ length (slice_set s.views id v)) × (told_pass v ≡ u)). ap (λ (z : View M). beginning z) (sym now.1) ∙ k.firsts id v view at_table)
         (at_end (slice_set s.views id v) (told_pass v) u j e);
-    courses = k.courses;
+    started = k.started;
+    ended = k.ended;
     housed = λ some_first.
         let before = housed_view stands shape.first.value.items k.world s.homes s.views id v v view at_table (λ r b. b) (k.housed some_first) in
         housed_more stands shape.first.value.items k.world s.homes (slice_set s.views id v) (told_pass v) before (λ r b. absurd (⊎_elim
@@ -223,12 +224,13 @@ module _ {M : Type 0} (stands : Stands M) where
         (λ (a : (j ≡ other) × (spent_pass ≡ u)). let z : u.threads ≡ 0 = ap (λ (y : View M). y.threads) (sym a.1) in absurd (omega arith))
         (λ (a : (j ≢ other) × (get_elem? (slice_set s.views id (heard_pass v w)) j ≡ some u)). before j u a.1 t)
         (at_set (slice_set s.views id (heard_pass v w)) other j spent_pass u e);
-    seated = seated_spent (slice_set s.views id (heard_pass v w)) other w told (seated_seen s.views id v (heard_pass v w) view (refl, refl, refl, refl, refl) refl refl k.seated);
+    seated = seated_spent (slice_set s.views id (heard_pass v w)) other w told (seated_seen s.views id v (heard_pass v w) view (refl, refl, refl, refl, refl, λ q h. inl h) refl refl k.seated);
     firsts = λ j u e t. ⊎_elim
         (λ (a : (j ≡ other) × (spent_pass ≡ u)). let z : u.threads ≡ 0 = ap (λ (y : View M). y.threads) (sym a.1) in absurd (omega arith))
         (λ (a : (j ≢ other) × (get_elem? (slice_set s.views id (heard_pass v w)) j ≡ some u)). firsts_with s.views id v (heard_pass v w) (shape.first.value.items, shape.later) view refl at_table k.firsts j u a.1 t)
         (at_set (slice_set s.views id (heard_pass v w)) other j spent_pass u e);
-    courses = k.courses;
+    started = k.started;
+    ended = k.ended;
     housed = λ some_first.
         let before = housed_view stands shape.first.value.items k.world s.homes s.views id v (heard_pass v w) view at_table (λ r b. b) (k.housed some_first) in
         housed_spent stands shape.first.value.items k.world s.homes (slice_set s.views id (heard_pass v w)) other spent_pass refl before;

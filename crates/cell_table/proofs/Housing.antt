@@ -7,20 +7,22 @@ use lib.ListN.{get_elem?}
 use Rattle.atomic_table.proofs.Lists.{at_set, at_snoc, set_else, set_here}
 use Rattle.protocol_values.specs.declared.Cell.{Cell}
 use Rattle.protocol_values.specs.declared.Cell.TheVariants.{Fresh, Waiting, Claimed, Synched, Taken}
+use Rattle.protocol_values.specs.declared.Course.{Course}
+use Rattle.protocol_values.specs.declared.Course.TheVariants.{Unstarted, Running, Ended}
 use Rattle.protocol_values.specs.declared.Joined.{Joined}
 use Rattle.protocol_values.specs.declared.Row.{Row}
 use Rattle.protocol_values.specs.declared.Seat.{Seat}
 use Rattle.protocol_values.specs.declared.Step.{Step}
 use Rattle.protocol_values.specs.declared.Step.TheVariants.{Draft, Open, Look, Read, Claim, Yield, Join, Seal, Grant, Take, Bind, Start, Finish}
-use Rattle.protocol.specs.Growing.{GrowsTo}
+use Rattle.protocol.specs.Growing.{GoesOn, GrowsTo}
 use Rattle.protocol.specs.Kept.{Kept}
-use Rattle.protocol.specs.Ledgers.{ledger_of}
+use Rattle.protocol.specs.Ledgers.{LivesAt, ledger_of}
 use Rattle.protocol.specs.Standing.{OffersAs, OpenedAs, Result, SomeStands, Stands}
 use Rattle.protocol_values.specs.declared.Offer.{Offer}
-use Rattle.protocol.specs.Tables.{Table, cell_at, is_fresh, is_taken}
+use Rattle.protocol.specs.Tables.{Table, cell_at, course_at, is_fresh, is_taken}
 use Rattle.protocol_values.specs.Values.{next_row}
-use Rattle.protocol.specs.Worlds.{Allowed, World, after_step, holder_at, waits}
-use Rattle.protocol.proofs.Keeping.{taken_before}
+use Rattle.protocol.specs.Worlds.{Allowed, World, after_step, first_row, holder_at, waits}
+use Rattle.protocol.proofs.Keeping.{is_held, taken_before}
 use Rattle.protocol.proofs.Onward.{grows-step, opens-step, taken-step}
 use Rattle.protocol.proofs.RowLemmas.{same_row}
 use Rattle.protocol.proofs.Standing.{offers-stay, stands-step}
@@ -43,6 +45,13 @@ fresh_untaken Claimed e = absurd (false≢true e)
 fresh_untaken (Synched j) e = absurd (false≢true e)
 fresh_untaken (Taken j) e = absurd (false≢true e)
 
+-- what goes on from a start has started
+unstarted : (c d : Course) → GoesOn c d → d ≡ Unstarted → c ≡ Unstarted
+unstarted Unstarted d on e = refl
+unstarted (Running start) d (inl is) e = sym is ∙ e
+unstarted (Running start) d (inr is) e = let bad : Ended start is.0 ≡ Unstarted = sym is.1 ∙ e in cc
+unstarted (Ended start sync) d on e = sym on ∙ e
+
 -- of two numbers
 abbrev Ordered : ℕ → ℕ → Type 0
 Ordered m n = (m < n) ⊎ ((m ≡ n) ⊎ (n < m))
@@ -59,6 +68,10 @@ module _ (w : World) (k : Kept w) where
 
   abbrev IsUntaken : Row → Type 0
   IsUntaken r = is_taken (cell_at w.table r) ≡ false
+
+  -- the thread of an opened row has started
+  open_started : (r : Row) → IsOpen r → course_at w.table r.thread ≢ Unstarted
+  open_started r open_r e = subst (λ (c : Course). LivesAt c r.sync) e (k.linked.lived r open_r)
 
   -- a thread has one opened row at most that nobody has taken
   one_open : (q r : Row) → q.thread ≡ r.thread → IsOpen q → IsUntaken q → IsOpen r → IsUntaken r → q ≡ r
@@ -118,6 +131,12 @@ module _ (w : World) (k : Kept w) where
         (opens-step w seat step k allowed r e)))
         (cases_Bool (is_fresh (cell_at (after_step w seat step).table r)))
 
+    -- a thread that has not started after a step had not before
+    asleep_before : (t : ℕ) → t < (after_step w seat step).table.threads → course_at (after_step w seat step).table t ≡ Unstarted → (t < w.table.threads) × (course_at w.table t ≡ Unstarted)
+    asleep_before t below e =
+        let grows = grows-step w seat step k allowed in
+        (subst (λ (n : ℕ). t < n) grows.threads below, unstarted (course_at w.table t) (course_at (after_step w seat step).table t) (grows.courses t) e)
+
 -- a step that opens no row asks for nothing of what is opened
 opened_none : (stands : ℕ → List Result → List Offer → List ℕ → Type 0) (t : Table) (step : Step) → ((r : Row) → step ≡ Open r → ⊥) → OpenedAs stands t step
 opened_none stands t (Draft r p v) never = tt
@@ -162,6 +181,9 @@ took_begins rows r s v q b = (
   λ h. b.2 (subst (λ (l : List Row). Has l q) (sym (begun_case (ltb (r.sync + 1) rows) (next_seen r s) (last_seen r s) s refl refl)) h),
 )
 
+pub took_begun : (rows : ℕ) (r : Row) (s : Seen) (q : Row) → Has (see_next rows r s).begun q → Has s.begun q
+took_begun rows r s q h = subst (λ (l : List Row). Has l q) (begun_case (ltb (r.sync + 1) rows) (next_seen r s) (last_seen r s) s refl refl) h
+
 -- and it holds what it held
 holds_case : (b : Bool) (t u s : Seen) (x q : Row) → t.held ≡ x ∷ s.held → u.held ≡ s.held → Has s.held q → Has (cond b t u).held q
 holds_case true t u s x q e f h = subst (λ (l : List Row). Has l q) (sym e) (inr h)
@@ -176,17 +198,22 @@ module _ {M : Type 0} (stands : Stands M) (first : List M) where
   waits_on w u homes homes' r h fresh same = record { fresh = fresh; value = h.value; is_first = h.is_first; home = same ∙ h.home }
 
   home_on : (w : World) (u : Table) (homes homes' : List (Maybe (Option M))) (r : Row) → Kept w → GrowsTo w.table u → is_fresh (cell_at w.table r) ≡ false → IsHome stands first (ledger_of w.table) homes r → get_elem? homes' r.thread ≡ get_elem? homes r.thread → IsHome stands first (ledger_of u) homes' r
-  home_on w u homes homes' r k grows open_r h same = record { value = h.value; home = same ∙ h.home; offers = offers-stay (stands first h.value) w u r k grows open_r h.offers }
+  home_on w u homes homes' r k grows open_r h same = record { value = h.value; home = same ∙ h.home; offers = offers-stay (stands.offers first h.value) w u r k grows open_r h.offers }
 
-  pub housed_view : (w : World) (homes : List (Maybe (Option M))) (vs : List (View M)) (id : ℕ) (v u : View M) → get_elem? vs id ≡ some v → 0 < v.threads → ((r : Row) → IsToBegin u r → IsToBegin v r) → Housed stands first w homes vs → Housed stands first w homes (slice_set vs id u)
-  housed_view w homes vs id v u view at_table begins h = record {
+  -- one pass has another view, and what that one is to begin with waits
+  pub housed_seen : (w : World) (homes : List (Maybe (Option M))) (vs : List (View M)) (id : ℕ) (u : View M) → ((r : Row) → IsToBegin u r → Waits first w homes r) → Housed stands first w homes vs → Housed stands first w homes (slice_set vs id u)
+  housed_seen w homes vs id u begins h = record {
     rows = h.rows;
     at_home = h.at_home;
     waiting = λ j x r e t b. ⊎_elim
-        (λ (a : (j ≡ id) × (u ≡ x)). h.waiting id v r view at_table (begins r (subst (λ (z : View M). IsToBegin z r) (sym a.1) b)))
+        (λ (a : (j ≡ id) × (u ≡ x)). begins r (subst (λ (z : View M). IsToBegin z r) (sym a.1) b))
         (λ (a : (j ≢ id) × (get_elem? vs j ≡ some x)). h.waiting j x r a.1 t b)
         (at_set vs id j u x e);
+    asleep = h.asleep;
   }
+
+  pub housed_view : (w : World) (homes : List (Maybe (Option M))) (vs : List (View M)) (id : ℕ) (v u : View M) → get_elem? vs id ≡ some v → 0 < v.threads → ((r : Row) → IsToBegin u r → IsToBegin v r) → Housed stands first w homes vs → Housed stands first w homes (slice_set vs id u)
+  housed_view w homes vs id v u view at_table begins h = housed_seen w homes vs id u (λ r b. h.waiting id v r view at_table (begins r b)) h
 
   -- a pass more, which is to begin with nothing
   pub housed_more : (w : World) (homes : List (Maybe (Option M))) (vs : List (View M)) (u : View M) → Housed stands first w homes vs → ((r : Row) → IsToBegin u r → Waits first w homes r) → Housed stands first w homes (vs ++ u ∷ [])
@@ -197,6 +224,7 @@ module _ {M : Type 0} (stands : Stands M) (first : List M) where
         (λ (old : get_elem? vs j ≡ some x). h.waiting j x r old t b)
         (λ (new : u ≡ x). no_more r (subst (λ (z : View M). IsToBegin z r) (sym new) b))
         (at_snoc vs u x j e);
+    asleep = h.asleep;
   }
 
   -- a pass that is of no table any more
@@ -208,22 +236,25 @@ module _ {M : Type 0} (stands : Stands M) (first : List M) where
         (λ (a : (j ≡ id) × (u ≡ x)). let z : x.threads ≡ 0 = ap (λ (y : View M). y.threads) (sym a.1) ∙ gone in absurd (omega arith))
         (λ (a : (j ≢ id) × (get_elem? vs j ≡ some x)). h.waiting j x r a.1 t b)
         (at_set vs id j u x e);
+    asleep = h.asleep;
   }
 
   -- a step that opens no row
-  pub housed_step : (w : World) (seat : Seat) (step : Step) (homes : List (Maybe (Option M))) (vs : List (View M)) (id : ℕ) (v u : View M) → Kept w → Allowed w seat step → ((r : Row) → step ≡ Open r → ⊥) → get_elem? vs id ≡ some v → 0 < v.threads → ((r : Row) → IsToBegin u r → IsToBegin v r)
+  pub housed_step : (w : World) (seat : Seat) (step : Step) (homes : List (Maybe (Option M))) (vs : List (View M)) (id : ℕ) (u : View M) → Kept w → Allowed w seat step → ((r : Row) → step ≡ Open r → ⊥) → ((r : Row) → IsToBegin u r → Waits first w homes r)
       → Housed stands first w homes vs → Housed stands first (after_step w seat step) homes (slice_set vs id u)
-  housed_step w seat step homes vs id v u k allowed never view at_table begins h =
-      let one = housed_view w homes vs id v u view at_table begins h in
+  housed_step w seat step homes vs id u k allowed never begins h =
+      let one = housed_seen w homes vs id u begins h in
       record {
         rows = stands-step (SomeStands stands first) w seat step k allowed h.rows (opened_none (SomeStands stands first) (after_step w seat step).table step never);
         at_home = λ r open_r untaken.
             let was : is_fresh (cell_at w.table r) ≡ false = ⊎_elim (λ (old : is_fresh (cell_at w.table r) ≡ false). old) (λ (e : step ≡ Open r). absurd (never r e)) (opens-step w seat step k allowed r open_r) in
             home_on w (after_step w seat step).table homes homes r k (grows-step w seat step k allowed) was (h.at_home r was (untaken_before w k seat step allowed r untaken)) refl;
-        waiting = λ j x r e t b.
-            let waits = one.waiting j x r e t b in
-            waits_on w (after_step w seat step) homes homes r waits (fresh_after w k seat step allowed r waits.fresh (never r)) refl;
+        waiting = λ j x r e t b. on r (one.waiting j x r e t b);
+        asleep = λ t below e. on (first_row t) (h.asleep t (asleep_before w k seat step allowed t below e).0 (asleep_before w k seat step allowed t below e).1);
       }
+    where
+      on : (r : Row) → Waits first w homes r → Waits first (after_step w seat step) homes r
+      on r waits = waits_on w (after_step w seat step) homes homes r waits (fresh_after w k seat step allowed r waits.fresh (never r)) refl
 
   -- A ROW IS TAKEN: what stood for its thread comes out
   module _ (w : World) (seat : Seat) (r : Row) (j : Joined) (homes : List (Maybe (Option M))) (vs : List (View M)) (id : ℕ) (v u : View M) (k : Kept w) (allowed : Allowed w seat (Take r))
@@ -242,7 +273,7 @@ module _ {M : Type 0} (stands : Stands M) (first : List M) where
 
     pub housed_take : Housed stands first (after_step w seat (Take r)) (slice_set homes r.thread none) (slice_set vs id u)
     housed_take =
-        let before = housed_step w seat (Take r) homes vs id v u k allowed none_opens view at_table begins h in
+        let before = housed_step w seat (Take r) homes vs id u k allowed none_opens (λ q b. h.waiting id v q view at_table (begins q b)) h in
         record {
           rows = before.rows;
           at_home = λ q open_q untaken_q.
@@ -256,11 +287,16 @@ module _ {M : Type 0} (stands : Stands M) (first : List M) where
               let was = one.waiting i x q e t b in
               let apart : q.thread ≢ r.thread = λ same. none_open w k q r b.0 same was.fresh open_r in
               waits_on (after_step w seat (Take r)) (after_step w seat (Take r)) homes (slice_set homes r.thread none) q waits waits.fresh (set_else homes r.thread q.thread none apart);
+          asleep = λ t below e.
+              let was = asleep_before w k seat (Take r) allowed t below e in
+              let waits = before.asleep t below e in
+              waits_on (after_step w seat (Take r)) (after_step w seat (Take r)) homes (slice_set homes r.thread none) (first_row t) waits waits.fresh
+              (set_else homes r.thread t none (λ same. open_started w k r open_r (ap (course_at w.table) (sym same) ∙ was.1)));
         }
 
   -- A PASS BEGINS with a thread: what stood for it at first comes out
   module _ (w : World) (r : Row) (homes : List (Maybe (Option M))) (vs : List (View M)) (id : ℕ) (v u : View M) (k : Kept w)
-      (to_begin : IsToBegin v r) (others : (j : ℕ) (x : View M) → j ≢ id → get_elem? vs j ≡ some x → 0 < x.threads → IsToBegin x r → ⊥) (view : get_elem? vs id ≡ some v) (at_table : 0 < v.threads)
+      (to_begin : IsToBegin v r) (started : course_at w.table r.thread ≢ Unstarted) (others : (j : ℕ) (x : View M) → j ≢ id → get_elem? vs j ≡ some x → 0 < x.threads → IsToBegin x r → ⊥) (view : get_elem? vs id ≡ some v) (at_table : 0 < v.threads)
       (begins : (q : Row) → IsToBegin u q → IsToBegin v q × (q ≢ r)) (h : Housed stands first w homes vs) where
     pub first_out : Waits first w homes r
     first_out = h.waiting id v r view at_table to_begin
@@ -278,6 +314,9 @@ module _ {M : Type 0} (stands : Stands M) (first : List M) where
           still q b.0 (λ same. both.1 same) (h.waiting id v q view at_table both.0))
           (λ (a : (j ≢ id) × (get_elem? vs j ≡ some x)). still q b.0 (λ same. others j x a.0 a.1 t (subst (IsToBegin x) same b)) (h.waiting j x q a.1 t b))
           (at_set vs id j u x e);
+      asleep = λ t below e.
+          let waits = h.asleep t below e in
+          waits_on w w homes (slice_set homes r.thread none) (first_row t) waits waits.fresh (set_else homes r.thread t none (λ same. started (ap (course_at w.table) (sym same) ∙ e)));
     }
       where
         still : (q : Row) → q.sync ≡ 0 → q ≢ r → Waits first w homes q → Waits first w (slice_set homes r.thread none) q
@@ -287,7 +326,7 @@ module _ {M : Type 0} (stands : Stands M) (first : List M) where
   -- A ROW IS OPENED: what stands for its thread goes home
   module _ (w : World) (seat : Seat) (r : Row) (value : M) (homes : List (Maybe (Option M))) (vs : List (View M)) (id : ℕ) (v u : View M) (k : Kept w) (allowed : Allowed w seat (Open r))
       (room : r.thread < length homes) (fresh_r : is_fresh (cell_at w.table r) ≡ true) (held_r : holder_at w r ≡ Some seat.0)
-      (offers : OffersAs (stands first value) (ledger_of (after_step w seat (Open r)).table) r)
+      (offers : OffersAs (stands.offers first value) (ledger_of (after_step w seat (Open r)).table) r)
       (others : (j : ℕ) (x : View M) → j ≢ id → get_elem? vs j ≡ some x → 0 < x.threads → IsToBegin x r → ⊥) (mine : IsToBegin u r → ⊥)
       (view : get_elem? vs id ≡ some v) (at_table : 0 < v.threads) (begins : (q : Row) → IsToBegin u q → IsToBegin v q) (h : Housed stands first w homes vs) where
     abbrev opened_world : World
@@ -344,4 +383,9 @@ module _ {M : Type 0} (stands : Stands M) (first : List M) where
           (at_set vs id j u x e) in
           let apart : q.thread ≢ r.thread = λ same. other (none_held w k q r seat.0 b.0 same was.fresh held_r) in
           waits_on w opened_world homes filled q was (fresh_after w k seat (Open r) allowed q was.fresh (λ o. other (sym (one_opens q o)))) (set_else homes r.thread q.thread (some (Some value)) apart);
+      asleep = λ t below e.
+          let before = asleep_before w k seat (Open r) allowed t below e in
+          let waits = h.asleep t before.0 before.1 in
+          let apart : t ≢ r.thread = λ same. k.begun r (is_held w r seat.0 held_r) (ap (course_at w.table) (sym same) ∙ before.1) in
+          waits_on w opened_world homes filled (first_row t) waits (fresh_after w k seat (Open r) allowed (first_row t) waits.fresh (λ o. apart (ap (λ (x : Row). x.thread) (sym (one_opens (first_row t) o))))) (set_else homes r.thread t (some (Some value)) apart);
     }

@@ -15,7 +15,8 @@ use Rattle.protocol.proofs.Places.{same_course_place}
 use Rattle.protocol.proofs.Readings.{course_inside}
 use Rattle.cell_table.specs.declared.view.View.{View}
 use Rattle.cell_table.specs.declared.view.Shape.{Shape}
-use Rattle.cell_table.specs.Sight.{EndsAt, Has, IsStand}
+use Rattle.cell_table.specs.Sight.{Has, IsStand}
+use Rattle.protocol.specs.Acting.{EndsAt}
 use Rattle.cell_table.specs.Rule.{IsToBegin, Keeps}
 use Rattle.cell_table.specs.Told.{AgreesLife, course_read, looked_life}
 use Rattle.cell_table.specs.Views.{Knows, saw_course}
@@ -27,9 +28,9 @@ use Rattle.cell_table.proofs.Turning.{keeps_view, world_kept}
 
 module _ {M : Type 0} where
   pub saw_stays : (p : ℕ) (c : Course) (v : View M) → Stays v (saw_course p c v)
-  saw_stays p Unstarted v = (refl, refl, refl, refl, refl)
-  saw_stays p (Running start) v = (refl, refl, refl, refl, refl)
-  saw_stays p (Ended start sync) v = (refl, refl, refl, refl, refl)
+  saw_stays p Unstarted v = (refl, refl, refl, refl, refl, λ q h. inl h)
+  saw_stays p (Running start) v = (refl, refl, refl, refl, refl, λ q h. inl h)
+  saw_stays p (Ended start sync) v = (refl, refl, refl, refl, refl, λ q h. inl h)
 
   pub saw_begins : (p : ℕ) (c : Course) (v : View M) (r : Row) → IsToBegin (saw_course p c v) r → IsToBegin v r
   saw_begins p Unstarted v r h = h

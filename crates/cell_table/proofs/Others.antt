@@ -22,7 +22,8 @@ use Rattle.protocol.proofs.RowLemmas.{row_cases, row_eq-false, row_eq-true, row_
 use Rattle.protocol.proofs.Places.{word_other, is_row_after}
 use Rattle.protocol.proofs.Readings.{cell_after_cell, cell_after_word, row_of_open, binding_after_cell, binding_after_word, course_after_cell, course_after_word}
 use Rattle.cell_table.specs.declared.view.Seen.{Seen}
-use Rattle.cell_table.specs.Sight.{EndsAt, Has, HasStart, IsCounted, see_begun, see_bound, see_course, see_word, without}
+use Rattle.cell_table.specs.Sight.{Has, IsCounted, see_begun, see_bound, see_course, see_word, without}
+use Rattle.protocol.specs.Acting.{EndsAt, HasStart}
 use Rattle.cell_table.specs.Views.{IsClaimer, SeesEnd, Staged, Knows, behind_last, at_stage, turned, saw, saw_course, saw_nack, read_word, drafted_word}
 
 -- what is left after a word of (r, p) is gone, and what was there before

@@ -32,9 +32,10 @@ module _ {M : Type 0} where
     pub aside : w.stage ≡ Aside → (w.made ≡ []) × (w.seen.held ≡ [])
     pub gone : w.threads ≡ 0 → w.made ≡ []
     pub binders : (k : ℕ) (r : Row) (scope : ℕ) → Has w.made (Bind k r scope) → Has w.seen.held r
+    pub begun : (r : Row) → Has w.seen.begun r → Has w.seen.held r
 
   pub sits_well : (vs : List (View M)) (id : ℕ) (v : View M) → get_elem? vs id ≡ some v → Seated vs → SitsWell v
-  sits_well vs id v view before = record { aside = before.aside id v view; gone = before.gone id v view; binders = λ k r scope h. before.binders id v k r scope view h }
+  sits_well vs id v view before = record { aside = before.aside id v view; gone = before.gone id v view; binders = λ k r scope h. before.binders id v k r scope view h; begun = λ r h. before.begun id v r view h }
 
   -- a pass that has made a step, or holds a row, does not stand aside
   pub acts : (vs : List (View M)) (id : ℕ) (v : View M) → Seated vs → get_elem? vs id ≡ some v → HasActed v → v.stage ≢ Aside
@@ -97,6 +98,7 @@ module _ {M : Type 0} where
       dealing = λ i u e. dealing_by i u (at_set vs id i w u e);
       gone = λ j u e. (well_by j u (at_set vs id j w u e)).gone;
       binders = λ j u k r scope e. (well_by j u (at_set vs id j w u e)).binders k r scope;
+      begun = λ j u r e. (well_by j u (at_set vs id j w u e)).begun r;
     }
 
   -- A PASS MORE
@@ -140,18 +142,21 @@ module _ {M : Type 0} where
       dealing = λ i u e. more_dealing i u (at_end vs w u i e);
       gone = λ j u e. (more_well j u (at_end vs w u j e)).gone;
       binders = λ j u k r scope e. (more_well j u (at_end vs w u j e)).binders k r scope;
+      begun = λ j u r e. (more_well j u (at_end vs w u j e)).begun r;
     }
 
   -- A CALL THAT LEARNS
   abbrev pub Stays : View M → View M → Type 0
-  Stays v w = (w.threads ≡ v.threads) × (w.passes ≡ v.passes) × (w.dealt ≡ v.dealt) × (w.stage ≡ v.stage) × (w.seen.held ≡ v.seen.held)
+  Stays v w =
+      (w.threads ≡ v.threads) × (w.passes ≡ v.passes) × (w.dealt ≡ v.dealt) × (w.stage ≡ v.stage) × (w.seen.held ≡ v.seen.held)
+      × ((r : Row) → Has w.seen.begun r → Has v.seen.begun r ⊎ Has v.seen.held r)
 
   pub saw_stays : (r : Row) (c : Cell) (v : View M) → Stays v (saw r c v)
-  saw_stays r Fresh v = (refl, refl, refl, refl, refl)
-  saw_stays r Waiting v = (refl, refl, refl, refl, refl)
-  saw_stays r Claimed v = (refl, refl, refl, refl, refl)
-  saw_stays r (Synched j) v = (refl, refl, refl, refl, refl)
-  saw_stays r (Taken j) v = (refl, refl, refl, refl, refl)
+  saw_stays r Fresh v = (refl, refl, refl, refl, refl, λ q h. inl h)
+  saw_stays r Waiting v = (refl, refl, refl, refl, refl, λ q h. inl h)
+  saw_stays r Claimed v = (refl, refl, refl, refl, refl, λ q h. inl h)
+  saw_stays r (Synched j) v = (refl, refl, refl, refl, refl, λ q h. inl h)
+  saw_stays r (Taken j) v = (refl, refl, refl, refl, refl, λ q h. inl h)
 
   pub seated_seen : (vs : List (View M)) (id : ℕ) (v w : View M) → get_elem? vs id ≡ some v → Stays v w → w.seat ≡ v.seat → w.made ≡ v.made → Seated vs → Seated (slice_set vs id w)
   seated_seen vs id v w view stays seat made before =
@@ -163,6 +168,7 @@ module _ {M : Type 0} where
           aside = λ e. let a = well.aside (sym stays.3 ∙ e) in (made ∙ a.0, stays.4 ∙ a.1);
           gone = λ e. made ∙ well.gone (sym stays.0 ∙ e);
           binders = λ k r scope h. subst (λ (l : List Row). Has l r) (sym stays.4) (well.binders k r scope (subst (λ (l : List Step). Has l (Bind k r scope)) made h));
+          begun = λ r h. subst (λ (l : List Row). Has l r) (sym stays.4) (⊎_elim (λ (old : Has v.seen.begun r). well.begun r old) (λ (held : Has v.seen.held r). held) (stays.5 r h));
         };
       }) before
 
@@ -172,6 +178,7 @@ module _ {M : Type 0} where
     pub acted : v.stage ≢ Aside
     pub acts : w.stage ≢ Aside
     pub held : (r : Row) → Has v.seen.held r → Has w.seen.held r
+    pub begun : (r : Row) → Has w.seen.begun r → Has v.seen.begun r
     pub binds : (k : ℕ) (r : Row) (scope : ℕ) → step ≡ Bind k r scope → Has w.seen.held r
 
   pub seated_step : (vs : List (View M)) (id : ℕ) (v w : View M) (step : Step) → get_elem? vs id ≡ some v → 0 < v.threads → w.seat ≡ v.seat → w.made ≡ v.made → MovesOn v w step → Seated vs → Seated (slice_set vs id (did step w))
@@ -187,6 +194,7 @@ module _ {M : Type 0} where
           binders = λ k r scope. ⊎_elim
               (λ (new : step ≡ Bind k r scope). on.binds k r scope new)
               (λ (old : Has w.made (Bind k r scope)). on.held r (well.binders k r scope (subst (λ (l : List Step). Has l (Bind k r scope)) made old)));
+          begun = λ r h. on.held r (well.begun r (on.begun r h));
         };
       }) before
 
@@ -195,7 +203,7 @@ module _ {M : Type 0} where
   seated_spent vs id v view before = seated_set vs id v spent_pass view (record {
     acts = λ t. absurd (omega arith);
     deals = λ t. absurd (omega arith);
-    well = record { aside = λ e. (refl, refl); gone = λ e. refl; binders = λ k r scope h. absurd h };
+    well = record { aside = λ e. (refl, refl); gone = λ e. refl; binders = λ k r scope h. absurd h; begun = λ r h. absurd h };
   }) before
 
   -- THE START
@@ -206,6 +214,7 @@ module _ {M : Type 0} where
     dealing = λ i u e t d. ((only i u e).0, λ j x f s q. absurd (q (ap (λ (z : View M). z.stage) (sym (only j x f).1))));
     gone = λ j u e t. subst (λ (z : View M). z.made ≡ []) (only j u e).1 refl;
     binders = λ j u k r scope e. subst (λ (z : View M). Has z.made (Bind k r scope) → Has z.seen.held r) (only j u e).1 (λ h. absurd h);
+    begun = λ j u r e. subst (λ (z : View M). Has z.seen.begun r → Has z.seen.held r) (only j u e).1 (λ h. absurd h);
   }
     where
       only : (j : ℕ) (u : View M) → get_elem? (dealer shape 0 ∷ []) j ≡ some u → (j ≡ 0) × (dealer shape 0 ≡ u)

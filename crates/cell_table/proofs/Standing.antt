@@ -73,7 +73,7 @@ module _ {M : Type 0} (stands : Stands M) (first : List M) where
     receives r j (OnEnd p) got g = g
     receives r j Never got g = g
 
-    pub comes_out : (r : Row) (j : Joined) (results : List Result) (value : M) → joined_at w.table r ≡ Some j → length results ≡ r.sync + 1 → AreResults (ledger_of w.table) r.thread results → OffersAs (stands first value) (ledger_of w.table) r
+    pub comes_out : (r : Row) (j : Joined) (results : List Result) (value : M) → joined_at w.table r ≡ Some j → length results ≡ r.sync + 1 → AreResults (ledger_of w.table) r.thread results → OffersAs (stands.offers first value) (ledger_of w.table) r
         → (got : Message) × IsLeft stands first value r j.own results got × ((m : Message) → IsResult v.seen r m → m ≡ got)
     comes_out r j results value is size are o =
         let l : Ledger = ledger_of w.table in
@@ -89,7 +89,7 @@ module _ {M : Type 0} (stands : Stands M) (first : List M) where
             count = ends.count;
             offers = o.offers;
             nacks = o.nacks;
-            standing = subst (λ (rs : List Result). stands first value r.thread rs o.offers o.nacks) same o.standing;
+            standing = subst (λ (rs : List Result). stands.offers first value r.thread rs o.offers o.nacks) same o.standing;
             below = slice_get_within o.offers j.own own.0 there;
           },
           λ m (i, p, has, sees, gets).
@@ -128,7 +128,7 @@ module _ {M : Type 0} (stands : Stands M) (first : List M) where
         }
 
     -- WHAT GOES HOME with an opened row
-    pub goes_home : (r : Row) (value : M) → Has v.seen.opened r → Has v.seen.held r → IsReady stands first v.results v.seen r value → ((t : ℕ) (rs : List Result) → Has v.results (t, rs) → AreResults (ledger_of w.table) t rs) → OffersAs (stands first value) (ledger_of w.table) r
+    pub goes_home : (r : Row) (value : M) → Has v.seen.opened r → Has v.seen.held r → IsReady stands first v.results v.seen r value → ((t : ℕ) (rs : List Result) → Has v.results (t, rs) → AreResults (ledger_of w.table) t rs) → OffersAs (stands.offers first value) (ledger_of w.table) r
     goes_home r value opened held ready results = record {
       results = ready.earlier;
       count = ready.count;

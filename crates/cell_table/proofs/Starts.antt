@@ -16,7 +16,7 @@ use Rattle.protocol_values.specs.declared.Course.TheVariants.{Unstarted, Running
 use Rattle.protocol_values.specs.declared.NackName.{NackName}
 use Rattle.protocol_values.specs.declared.Row.{Row}
 use Rattle.protocol_values.specs.declared.Seat.{Seat}
-use Rattle.protocol_values.specs.declared.Step.TheVariants.{Bind, Start}
+use Rattle.protocol_values.specs.declared.Step.TheVariants.{Bind, Open, Start}
 use Rattle.protocol_values.specs.Values.{joined_of}
 use Rattle.protocol.specs.Kept.{Kept}
 use Rattle.protocol.specs.Ledgers.{LivesAt}
@@ -25,24 +25,27 @@ use Rattle.protocol.specs.Tables.{Table, binding_at, bound_row, cell_at, course_
 use Rattle.protocol.specs.Worlds.{Allowed, World, after_step, begun, first_row, holder_at, last_holder, with_course, with_holders, with_table}
 use Rattle.protocol.proofs.Keeping.{begun_held, begun_other, holder_same, rows_lived, stamp_in_range, threads_lived}
 use Rattle.protocol.proofs.Linking.{cases_Option, some_parts}
+use Rattle.protocol.proofs.Onward.{grows-step}
 use Rattle.protocol.proofs.Places.{row_from, same_course_place, word_lived}
 use Rattle.protocol.proofs.Readings.{binding_after_life, cell_after_life, course_inside, course_lived, course_lived_other}
 use Rattle.protocol.proofs.RowLemmas.{put, put_other, put_same, row_ne}
 use Rattle.cell_table.specs.declared.view.Shape.{Shape}
 use Rattle.cell_table.specs.declared.view.Stage.TheVariants.{Aside, Resting}
 use Rattle.cell_table.specs.declared.view.View.{View}
-use Rattle.cell_table.specs.Rule.{Keeps}
-use Rattle.cell_table.specs.Sight.{EndsAt, Has, HasSeenLast, HasStart, IsStand, IsUnseen, SawEnded, see_start}
+use Rattle.cell_table.specs.Rule.{IsStarting, IsToBegin, Keeps, Waits}
+use Rattle.cell_table.specs.Sight.{Has, HasSeenLast, IsStand, IsUnseen, SawEnded, see_start}
+use Rattle.protocol.specs.Acting.{EndsAt, HasStart}
 use Rattle.cell_table.specs.Told.{AgreesLife, course_read, tried_start, turned_to}
 use Rattle.cell_table.specs.Views.{Knows, at_stage, behind_last, saw_course, started_thread, stood_at}
 use Rattle.cell_table.proofs.Allowing.{sized}
 use Rattle.cell_table.proofs.Courses.{fresh_is}
 use Rattle.cell_table.proofs.Following.{Follows, alive_unseen, hold_more, knows_anew, knows_follows, knows_owned, one_place, some_last, some_seat, stand_ends, stand_place, stands_at}
+use Rattle.cell_table.proofs.Housing.{housed_step}
 use Rattle.cell_table.proofs.Lives.{agrees_life, saw_begins, saw_stays}
 use Rattle.cell_table.proofs.Others.{learn_course}
 use Rattle.cell_table.proofs.Seating.{Stays}
 use Rattle.cell_table.proofs.Truths.{coherent, last_known}
-use Rattle.cell_table.proofs.Turning.{keeps_housed, keeps_view, moved_coherent, world_kept}
+use Rattle.cell_table.proofs.Turning.{does_now, keeps_housed, keeps_view, moved_coherent, world_kept}
 
 -- THE WORLD AFTER A START
 module _ (w : World) (seat : Seat) (p stamp : ℕ) (k : Kept w) (below : p < w.table.threads) (range : IsCourseInRange (Running stamp)) (waiting : course_at w.table p ≡ Unstarted) where
@@ -157,10 +160,11 @@ module _ (w : World) (seat : Seat) (p stamp : ℕ) (k : Kept w) (below : p < w.t
               (λ n b h. h) (λ n b h. follows_start.bound n b (knows.bound n b h)) (λ n b e o. inl (was_bound n b e)) begun_now
               (λ t g h. h) (λ t g h. follows_start.ends t g (knows.ended t g h)) (λ r mine place g e. inl (no_end_start r.thread g e)) (owned id v knows)
 
-      pub unseen : (v : View M) → Knows w owner id v → IsUnseen v.seen p
-      unseen v knows = record {
+      pub unseen : (v : View M) → Knows w owner id v → ((r : Row) → Has v.seen.begun r → Has v.seen.held r) → IsUnseen v.seen p
+      unseen v knows holds = record {
         held = λ r h. unheld r (some_seat w r v.seat (knows.mine r h).1);
         opened = λ r h. unopened r (knows.opened r h);
+        begun = λ r h. unheld r (some_seat w r v.seat (knows.mine r (holds r h)).1);
         lasts = λ h. unlast p (some_last w p v.seat (knows.lasts p h).1) refl;
         bound = λ n b h. unbound n b (knows.bound n b h);
         started = λ s h. subst (λ (c : Course). HasStart c s) waiting (knows.started p s h);
@@ -220,7 +224,7 @@ module _ {M : Type 0} (stands : Stands M) where
       sees_life = learn_course k.world k.owner id me.0 p (course_read (slice_index s.words place)) known course_is
 
       -- THE START, from the place to which the pass has turned
-      module _ (bare : length shape.first.value.items ≡ 0) (some_rows : 0 < shape.rows) (resting : me.0.stage ≡ Resting) (other : me.0.from.thread ≢ p) (from : me.0.from.thread < shape.threads)
+      module _ (starting : 0 < length shape.first.value.items → IsStarting stands shape.first.value.items me.0.results me.0.from p) (some_rows : 0 < shape.rows) (resting : me.0.stage ≡ Resting) (other : me.0.from.thread ≢ p) (from : me.0.from.thread < shape.threads)
           (stand : IsStand me.0.rows me.0.seen me.0.from) (going : ¬ SawEnded me.0.seen me.0.from.thread)
           (stamp : ℕ) (last : HasSeenLast me.0.seen me.0.from stamp) (waiting : course_at k.world.table p ≡ Unstarted) where
         abbrev at_seat : Seat
@@ -251,24 +255,34 @@ module _ {M : Type 0} (stands : Stands M) where
         unfolding with_course
         starts =
             keeps_housed stands shape s k id me.0 (at_stage me.0.stage (see_start p stamp me.0.seen) me.0) _ s.homes (owner' k.world at_seat p stamp kept its range waiting k.owner id its_rows) view at_table refl refl refl
-            (Start me.0.from p) (λ some_first. absurd (omega (arith, bare, some_first))) allowed
-            (record { same = (refl, refl, refl); acted = rests; acts = rests; held = λ q h. inr h; binds = λ n q scope e. let bad : Start me.0.from p ≡ Bind n q scope = e in cc }) (λ t rs h. inl h)
+            (Start me.0.from p) (λ some_first. (does_now stands shape s k id me.0 (after_step k.world at_seat (Start me.0.from p)).table me.0.from (λ value earlier. stands.starts shape.first.value.items value me.0.from.thread earlier p) view (grows-step k.world at_seat (Start me.0.from p) kept allowed) (starting some_first), tt)) allowed
+            (record { same = (refl, refl, refl); acted = rests; acts = rests; held = λ q h. inr h; begun = λ q h. h; binds = λ n q scope e. let bad : Start me.0.from p ≡ Bind n q scope = e in cc }) (λ t rs h. inl h)
             (ap (λ (v : World). v.table) after_is ∙ ap (λ (t : Table). with_course t p (Running stamp)) k.table ∙ ap (λ (n : ℕ). sized shape (slice_set s.words n (course_word (Running stamp)))) (sym here))
             (λ j u n e t. subst (λ (v : World). Knows v (owner' k.world at_seat p stamp kept its range waiting k.owner id its_rows) j u) (sym after_is) (others_start k.world at_seat p stamp kept its range waiting k.owner id its_rows j u (k.knows j u e t)))
             (subst (λ (v : World). Knows v (owner' k.world at_seat p stamp kept its range waiting k.owner id its_rows) id (at_stage me.0.stage (see_start p stamp me.0.seen) me.0)) (sym after_is) (own_start k.world at_seat p stamp kept its range waiting k.owner id its_rows me.0 refl known))
-            (λ some_first. absurd (omega (arith, bare, some_first)))
+            (λ some_first. housed_step stands shape.first.value.items k.world at_seat (Start me.0.from p) s.homes s.views id (started_thread p stamp me.0) kept allowed (λ q e. let bad : Start me.0.from p ≡ Open q = e in cc) (to_begin some_first) (k.housed some_first))
+          where
+            -- what stood for the thread at first waits, as does that with which the pass was to begin before
+            to_begin : (some_first : 0 < length shape.first.value.items) (r : Row) → IsToBegin (started_thread p stamp me.0) r → Waits shape.first.value.items k.world s.homes r
+            to_begin some_first r (zero, which, unbegun) = ⊎_elim
+                (λ held. ⊎_elim
+                (λ (e : first_row p ≡ r). subst (Waits shape.first.value.items k.world s.homes) e ((k.housed some_first).asleep p its waiting))
+                (λ old. (k.housed some_first).waiting id me.0 r view at_table (zero, inl old, unbegun))
+                held)
+                (λ deals. (k.housed some_first).waiting id me.0 r view at_table (zero, inr deals, unbegun))
+                which
 
         nothing_seen : IsUnseen me.0.seen p
-        nothing_seen = unseen k.world at_seat p stamp kept its range waiting k.owner id its_rows me.0 known
+        nothing_seen = unseen k.world at_seat p stamp kept its range waiting k.owner id its_rows me.0 known (λ r h. k.seated.begun id me.0 r view h)
 
-    pub start_allowed : length shape.first.value.items ≡ 0 → 0 < shape.rows → me.0.stage ≡ Resting → me.0.from.thread ≢ p → me.0.from.thread < shape.threads → IsStand me.0.rows me.0.seen me.0.from → ¬ SawEnded me.0.seen me.0.from.thread → (stamp : ℕ) → HasSeenLast me.0.seen me.0.from stamp → IsCourseInRange (Running stamp)
+    pub start_allowed : (0 < length shape.first.value.items → IsStarting stands shape.first.value.items me.0.results me.0.from p) → 0 < shape.rows → me.0.stage ≡ Resting → me.0.from.thread ≢ p → me.0.from.thread < shape.threads → IsStand me.0.rows me.0.seen me.0.from → ¬ SawEnded me.0.seen me.0.from.thread → (stamp : ℕ) → HasSeenLast me.0.seen me.0.from stamp → IsCourseInRange (Running stamp)
         → Allows (Keeps stands shape) slots id me place (λ n. either (eqb n (course_word Unstarted)) (course_word (Running stamp)) n) (tried_start (step slots place (course_word Unstarted) (course_word (Running stamp)) none) me)
-    start_allowed bare some_rows resting other from stand going stamp last in_range s k homes view in_words =
+    start_allowed starting some_rows resting other from stand going stamp last in_range s k homes view in_words =
         exchanged n (course_word Unstarted) (course_word (Running stamp))
         (λ y. (w : View M) × (a : Act (Option M)) × Valid s.homes me.1 a × Keeps stands shape (stepped s place y id me.1 w a) × tried_start (step slots place (course_word Unstarted) (course_word (Running stamp)) none) me n (w, carried_after me.1 a))
         (λ e.
         let waiting : course_at k.world.table p ≡ Unstarted = course_is s k view ∙ ap course_read e ∙ unstarted_read in
-        let moved = starts s k view bare some_rows resting other from stand going stamp last waiting in (
+        let moved = starts s k view starting some_rows resting other from stand going stamp last waiting in (
           started_thread p stamp me.0,
           keeps,
           tt,
@@ -277,7 +291,7 @@ module _ {M : Type 0} (stands : Stands M) where
             λ f. let same = one_life q at in
                 let stamps : stamp ≡ given = ap start_of (one_course (Running stamp) (Running given) in_range given_range second) in (
                   (λ z. (started_thread (same z) (stamps z) me.0, me.1)),
-                  subst (IsUnseen me.0.seen) same (nothing_seen s k view bare some_rows resting other from stand going stamp last waiting),
+                  subst (IsUnseen me.0.seen) same (nothing_seen s k view starting some_rows resting other from stand going stamp last waiting),
                 ),
             λ f. absurd (f e),
             moved_coherent stands shape s.views _ _ id me.0 (started_thread p stamp me.0) view refl at_table moved,

@@ -24,11 +24,13 @@ use Rattle.protocol.proofs.Linking.{fresh_not_joined, some_inj, naming, partner_
 use Rattle.protocol.proofs.Lawfulness.{chosen_there}
 use Rattle.protocol.proofs.Keeping.{few_commits, taken_before, held_row, granted_is}
 use Rattle.cell_table.specs.declared.view.View.{View}
-use Rattle.cell_table.specs.Sight.{EndsAt, Has, HaveDirection, HaveOffer, HasSeenLast, CanJoin, IsDraft, SawChosen, SeesNoOffer, SeesOffer, Coherent}
+use Rattle.cell_table.specs.Sight.{Has, HaveDirection, HaveOffer, HasSeenLast, CanJoin, IsDraft, SawChosen, SeesNoOffer, SeesOffer, Coherent}
+use Rattle.protocol.specs.Acting.{EndsAt}
 use Rattle.cell_table.specs.Nacks.{CanGrant, SawCause, SawEnabled}
 use Rattle.cell_table.specs.Views.{Knows, behind_last}
 use Rattle.cell_table.specs.Told.{Agrees}
-use Rattle.cell_table.proofs.Courses.{ended_within, fresh_is, has_ended, has_started, one_end_of, opened_before, start_is, taken_below}
+use Rattle.cell_table.proofs.Courses.{ended_within, fresh_is, has_ended, has_started, one_end_of, opened_before, taken_below}
+use Rattle.protocol.proofs.Acting.{start_is}
 use Rattle.cell_table.proofs.Following.{place_behind, place_last}
 use Rattle.cell_table.proofs.Directions.{GoesIn, offer_headed, offers_meet_as}
 use Rattle.cell_table.proofs.Offers.{atom_place, few, same_read}

@@ -1,34 +1,37 @@
 -- The rule of the table is kept by a call that learns, and by a step of the protocol.
-use Rattle.std.proofs.Common.{slice_set, Option, ◌⊎◌, ◌≡◌, ◌≢◌, ◌<◌, ◌≤◌, ℕ, zero, suc, Bool, true, false, cond, List, [], ◌∷◌, length, sym, refl, ap, ◌∙◌, subst, ⊎_elim, arith}
+use Rattle.std.proofs.Common.{slice_set, Option, ◌⊎◌, ◌≡◌, ◌≢◌, ◌<◌, ◌≤◌, ℕ, zero, suc, Bool, cond, List, [], ◌∷◌, length, sym, refl, ap, ◌∙◌, subst, inl, inr, ⊎_elim, arith}
 use Rattle.std.proofs.lemmas.Bool.{eq-eqb, ne_eqb}
 use Rattle.std.proofs.lemmas.List.{length-set}
+use Rattle.std.proofs.lemmas.Option.{none-some}
 use mathlib.Core.Option.{Option as Maybe, some}
 use lib.ListN.{get_elem?}
 use Rattle.atomic_table.specs.Table.{State}
 use Rattle.atomic_table.proofs.Lists.{at_set}
-use Rattle.protocol_values.specs.declared.Course.TheVariants.{Unstarted, Running}
 use Rattle.protocol_values.specs.declared.Seat.{Seat}
 use Rattle.protocol_values.specs.declared.Step.{Step}
 use Rattle.protocol_values.specs.declared.Step.TheVariants.{Open}
 use Rattle.protocol_values.specs.declared.Row.{Row}
+use Rattle.protocol.specs.Acting.{DoesAt, EndedAs, StartedAs, acts_in}
+use Rattle.protocol.specs.Growing.{GrowsTo}
 use Rattle.protocol.specs.Ledgers.{Ledger, ledger_of}
 use Rattle.protocol.specs.Standing.{AreResults, Result, Stands}
-use Rattle.protocol.specs.Worlds.{HasEnded, IsAlive, World, start_world, Allowed, after_step, waits}
+use Rattle.protocol.specs.Tables.{Table}
+use Rattle.protocol.specs.Worlds.{World, start_world, Allowed, after_step}
+use Rattle.protocol.proofs.Acting.{ends-step, starts-step}
 use Rattle.protocol.proofs.Onward.{grows-step}
 use Rattle.protocol.proofs.Standing.{results-stay}
 use Rattle.protocol.proofs.Playing.{plays_more}
 use Rattle.cell_table.specs.declared.view.View.{View}
 use Rattle.cell_table.specs.declared.view.Shape.{Shape}
-use Rattle.cell_table.specs.Sight.{Coherent, Has, IsStand, SawEnded}
+use Rattle.cell_table.specs.Sight.{Coherent, Has}
 use Rattle.cell_table.specs.Views.{Knows, did}
 use Rattle.cell_table.proofs.Truths.{coherent}
 use Rattle.protocol.specs.Kept.{Kept}
 use Rattle.protocol.proofs.Keeping.{kept_schedule}
 use Rattle.protocol.proofs.LedgerLemmas.{kept_start}
-use Rattle.cell_table.specs.Rule.{Housed, Interleaves, IsToBegin, Keeps, Move, at_seat, beginning, in_order, steps_by}
-use Rattle.cell_table.proofs.Courses.{KeepsLives, lives_step}
-use Rattle.cell_table.proofs.Following.{alive_unseen, stand_ends}
-use Rattle.cell_table.proofs.Housing.{some_or_none, housed_step, housed_view}
+use Rattle.cell_table.specs.Rule.{Housed, Interleaves, IsActing, IsToBegin, Keeps, Move, StartsFirst, at_seat, beginning, in_order, steps_by}
+use Rattle.cell_table.proofs.Courses.{KeepsLives, plain_lives}
+use Rattle.cell_table.proofs.Housing.{housed_step, housed_view}
 use Rattle.cell_table.proofs.Seating.{MovesOn, Stays, seated_seen, seated_step}
 
 module _ {M : Type 0} where
@@ -102,17 +105,14 @@ module _ {M : Type 0} (stands : Stands M) where
   pub world_kept : (shape : Shape M) (s : State (Option M) (View M)) (k : Keeps stands shape s) → Kept k.world
   world_kept shape s k = kept_schedule _ k.world (in_order k.moves) (kept_start shape.threads shape.rows shape.passes shape.later k.few_threads k.few_rows) k.played
 
-  -- a thread at a place of which the pass stands has not ended, unless the pass has seen it so; in a table of machines none has
-  pub alive_known : (shape : Shape M) (s : State (Option M) (View M)) (k : Keeps stands shape s) (id : ℕ) (v : View M) (r : Row) → Knows k.world k.owner id v → r.thread < k.world.table.threads → IsStand v.rows v.seen r
-      → (¬ (0 < length shape.first.value.items) → ¬ SawEnded v.seen r.thread) → IsAlive k.world r.thread
-  alive_known shape s k id v r knows inside stand unseen = ⊎_elim
-      (λ (empty : length shape.first.value.items ≡ 0). alive_unseen k.world v.seen r.thread (stand_ends k.world k.owner id v knows r stand) (unseen (λ some_first. omega (arith, empty, some_first))))
-      (λ (some_first : 0 < length shape.first.value.items). λ ended. by (waits shape.later r.thread) (subst HasEnded (k.courses some_first r.thread inside) ended))
-      (some_or_none shape.first.value.items)
+  -- what somebody does at a place, he does there by the ledger of a table that has grown
+  pub does_now : (shape : Shape M) (s : State (Option M) (View M)) (k : Keeps stands shape s) (id : ℕ) (v : View M) (u : Table) (r : Row) (act : M → List Result → Type 0) → get_elem? s.views id ≡ some v → GrowsTo k.world.table u
+      → IsActing stands v.results r act → DoesAt (ledger_of u) r (λ results. (value : M) × act value results)
+  does_now shape s k id v u r act view grows a = record { results = a.earlier; count = a.count; are = are a.earlier a.seen; does = (a.value, a.does) }
     where
-      by : (b : Bool) → HasEnded (cond b Unstarted (Running 0)) → ⊥
-      by true e = e
-      by false e = e
+      are : (rs : List Result) → (rs ≡ []) ⊎ Has v.results (r.thread, rs) → AreResults (ledger_of u) r.thread rs
+      are rs (inl e) = subst (AreResults (ledger_of u) r.thread) (sym e) (λ g x h. absurd (none-some x h))
+      are rs (inr h) = results-stay k.world u r.thread rs (world_kept shape s k) grows (k.results id v r.thread rs view h)
 
   -- the table stays, and one pass knows more; what the slots hold then is given
   pub keeps_seen : (shape : Shape M) (s : State (Option M) (View M)) (k : Keeps stands shape s) (id : ℕ) (v w : View M) (ws : List ℕ) (hs : List (Maybe (Option M))) → get_elem? s.views id ≡ some v → 0 < v.threads → w.seat ≡ v.seat → w.made ≡ v.made → w.results ≡ v.results → beginning w ≡ beginning v → Stays v w
@@ -131,7 +131,8 @@ module _ {M : Type 0} (stands : Stands M) where
     knows = views_with s.views id w k.world k.owner (λ j u n e t. k.knows j u e t) knows;
     seated = seated_seen s.views id v w view stays seat made k.seated;
     firsts = firsts_with s.views id v w (shape.first.value.items, shape.later) view first at_table k.firsts;
-    courses = k.courses;
+    started = k.started;
+    ended = k.ended;
     housed = house;
     results = results_with s.views id w (ledger_of k.world.table) (λ j u t rs n e h. k.results j u t rs e h) (λ t rs h. k.results id v t rs view (subst (λ (l : List (ℕ × List Result)). Has l (t, rs)) seen h));
   }
@@ -145,7 +146,7 @@ module _ {M : Type 0} (stands : Stands M) where
 
   -- the protocol's step is made by the pass at its seat, and it knows more; what the slots hold then is given
   pub keeps_housed : (shape : Shape M) (s : State (Option M) (View M)) (k : Keeps stands shape s) (id : ℕ) (v w : View M) (ws : List ℕ) (hs : List (Maybe (Option M))) (owner : Row → ℕ) → get_elem? s.views id ≡ some v → 0 < v.threads → w.seat ≡ v.seat → w.made ≡ v.made → beginning w ≡ beginning v
-      → (step : Step) → (0 < length shape.first.value.items → KeepsLives step) → Allowed k.world (record { 0 = v.seat }) step → MovesOn v w step
+      → (step : Step) → (0 < length shape.first.value.items → StartedAs (acts_in stands shape.first.value.items).starts (after_step k.world (record { 0 = v.seat }) step).table step × EndedAs (acts_in stands shape.first.value.items).ends (after_step k.world (record { 0 = v.seat }) step).table step) → Allowed k.world (record { 0 = v.seat }) step → MovesOn v w step
       → ((t : ℕ) (rs : List Result) → Has w.results (t, rs) → Has v.results (t, rs) ⊎ AreResults (ledger_of (after_step k.world (record { 0 = v.seat }) step).table) t rs)
       → (after_step k.world (record { 0 = v.seat }) step).table ≡ record { threads = shape.threads; rows = shape.rows; words = ws }
       → ((j : ℕ) (u : View M) → j ≢ id → get_elem? s.views j ≡ some u → 0 < u.threads → Knows (after_step k.world (record { 0 = v.seat }) step) owner j u)
@@ -170,7 +171,8 @@ module _ {M : Type 0} (stands : Stands M) where
         knows = views_with s.views id (did step w) (after_step k.world at step) owner others knows;
         seated = seated_step s.views id v w step view at_table seat made on k.seated;
         firsts = firsts_with s.views id v (did step w) (shape.first.value.items, shape.later) view first at_table k.firsts;
-        courses = λ some_first t h. lives_step k.world at step allowed (lives some_first) t ∙ k.courses some_first t (subst (λ (n : ℕ). t < n) grows.threads h);
+        started = λ some_first. starts-step k.world at step kept allowed (StartsFirst shape.threads shape.later) (acts_in stands shape.first.value.items).starts (k.started some_first) (lives some_first).0;
+        ended = λ some_first. ends-step k.world at step kept allowed (acts_in stands shape.first.value.items).ends (k.ended some_first) (lives some_first).1;
         housed = house;
         results = results_with s.views id (did step w) (ledger_of (after_step k.world at step).table) (λ j u t rs n e h. stays j t u rs e h)
             (λ t rs h. ⊎_elim (λ (old : Has v.results (t, rs)). stays id t v rs view old) (λ (new : AreResults (ledger_of (after_step k.world at step).table) t rs). new) (seen t rs h));
@@ -186,8 +188,8 @@ module _ {M : Type 0} (stands : Stands M) where
       → Knows (after_step k.world (record { 0 = v.seat }) step) owner id w
       → Keeps stands shape (record { words = ws; homes = s.homes; views = slice_set s.views id (did step w) })
   keeps_step shape s k id v w ws owner view at_table seat made first begins step opens_none lives allowed on seen same others knows =
-      keeps_housed shape s k id v w ws s.homes owner view at_table seat made first step (λ some_first. lives) allowed on seen same others knows
-      (λ some_first. housed_step stands shape.first.value.items k.world (record { 0 = v.seat }) step s.homes s.views id v (did step w) (world_kept shape s k) allowed opens_none view at_table begins (k.housed some_first))
+      keeps_housed shape s k id v w ws s.homes owner view at_table seat made first step (λ some_first. plain_lives (acts_in stands shape.first.value.items).starts (acts_in stands shape.first.value.items).ends (after_step k.world (record { 0 = v.seat }) step).table step lives) allowed on seen same others knows
+      (λ some_first. housed_step stands shape.first.value.items k.world (record { 0 = v.seat }) step s.homes s.views id (did step w) (world_kept shape s k) allowed opens_none (λ q b. (k.housed some_first).waiting id v q view at_table (begins q b)) (k.housed some_first))
 
   -- WHAT A PASS HAS SEEN agrees with itself, at any moment
   pub pass_coherent : (shape : Shape M) (s : State (Option M) (View M)) (k : Keeps stands shape s) (id : ℕ) (v : View M) → get_elem? s.views id ≡ some v → 0 < v.threads → Coherent v.threads v.rows v.seen

@@ -9,13 +9,14 @@ use Rattle.protocol_values.specs.declared.Course.TheVariants.{Unstarted, Running
 use Rattle.protocol_values.specs.declared.NackName.{NackName}
 use Rattle.protocol_values.specs.declared.Row.{Row}
 use Rattle.protocol_values.specs.declared.Step.TheVariants.{Finish, Start, Take}
+use Rattle.protocol.specs.Acting.{EachEnded, EachStarted, acts_in}
 use Rattle.protocol.specs.Ledgers.{ledger_of, IsLawful}
 use Rattle.protocol.specs.Standing.{AreResults, EachStands, Result, SomeStands, Stands}
 use Rattle.protocol.specs.Tables.{binding_at, bound_row, cell_at, course_at, is_fresh, is_taken, joined_at, names}
 use Rattle.protocol.specs.Worlds.{Plays, start_world, waits, World}
 use Rattle.cell_table.specs.declared.view.Shape.{Shape}
 use Rattle.cell_table.specs.declared.view.View.{View}
-use Rattle.cell_table.specs.Rule.{HasActed, Interleaves, IsAt, IsHome, IsToBegin, Move, in_order, table_of}
+use Rattle.cell_table.specs.Rule.{HasActed, Interleaves, IsAt, IsHome, IsToBegin, Move, StartsFirst, in_order, table_of}
 use Rattle.cell_table.specs.Sight.{Has}
 use Rattle.cell_table.specs.Views.{Knows, bind_of}
 
@@ -32,6 +33,8 @@ pub record IsLawfulMoment {M : Type 0} (stands : Stands M) (shape : Shape M) (s 
   -- before, with his nacks and no others, and he lies in the thread's slot until the row is taken
   pub machines : 0 < length shape.first.value.items → EachStands (SomeStands stands shape.first.value.items) (table_of shape s)
       × ((r : Row) → is_fresh (cell_at (table_of shape s) r) ≡ false → is_taken (cell_at (table_of shape s) r) ≡ false → IsHome stands shape.first.value.items (ledger_of (table_of shape s)) s.homes r)
+  -- such threads started at once, or where another one's value had started them, and ended where their own had
+  pub lives : 0 < length shape.first.value.items → EachStarted (StartsFirst shape.threads shape.later) (acts_in stands shape.first.value.items).starts (ledger_of (table_of shape s)) × EachEnded (acts_in stands shape.first.value.items).ends (ledger_of (table_of shape s))
   -- and where a pass is to begin with a thread, its first row is Fresh, and what stood for the thread at first is at home
   pub waiting : 0 < length shape.first.value.items → (id : ℕ) (v : View M) (r : Row) → IsAt s id v → IsToBegin v r
       → (is_fresh (cell_at (table_of shape s) r) ≡ true) × (value : M) × (slice_get shape.first.value.items r.thread ≡ Some value) × (get_elem? s.homes r.thread ≡ some (some (Some value)))

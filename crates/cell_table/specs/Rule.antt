@@ -5,13 +5,14 @@ use lib.ListN.{get_elem?}
 use Rattle.atomic_table.specs.Table.{State}
 use Rattle.protocol_values.specs.declared.Row.{Row}
 use Rattle.protocol_values.specs.declared.Seat.{Seat}
-use Rattle.protocol_values.specs.declared.Course.TheVariants.{Unstarted, Running}
+use Rattle.protocol_values.specs.declared.Course.TheVariants.{Unstarted}
 use Rattle.protocol_values.specs.declared.Step.{Step}
 use Rattle.protocol_values.specs.declared.Step.TheVariants.{Bind}
 use Rattle.cell_table.specs.declared.view.View.{View}
 use Rattle.cell_table.specs.declared.view.Shape.{Shape}
 use Rattle.cell_table.specs.declared.view.Stage.TheVariants.{Aside, Resting}
 use Rattle.protocol_values.specs.declared.Offer.{Offer}
+use Rattle.protocol.specs.Acting.{EachEnded, EachStarted, acts_in}
 use Rattle.protocol.specs.Ledgers.{Ledger, ledger_of}
 use Rattle.protocol.specs.Standing.{AreResults, EachStands, OffersAs, Result, SomeStands, Stands, binding_of}
 use Rattle.protocol.specs.Worlds.{World, first_row, start_world, Plays, nack_of_row, waits}
@@ -64,6 +65,8 @@ module _ {M : Type 0} where
     pub gone : (id : ℕ) (v : View M) → get_elem? views id ≡ some v → v.threads ≡ 0 → v.made ≡ []
     -- whoever has bound a nack to a row holds the row
     pub binders : (id : ℕ) (v : View M) (k : ℕ) (r : Row) (scope : ℕ) → get_elem? views id ≡ some v → Has v.made (Bind k r scope) → Has v.seen.held r
+    -- and whoever has begun with a row
+    pub begun : (id : ℕ) (v : View M) (r : Row) → get_elem? views id ≡ some v → Has v.seen.begun r → Has v.seen.held r
 
   -- the words at this moment, as a table
   abbrev pub table_of : {S : Type 0} → Shape M → State S (View M) → Table
@@ -71,6 +74,10 @@ module _ {M : Type 0} where
 
 -- WHAT STANDS FOR THE THREADS, in a table of machines: it lies in the thread's slot, which is out with a pass from when that takes
 -- the thread's row to when it opens the next
+-- a thread of the table that does not wait starts at once
+abbrev pub StartsFirst : ℕ → ℕ → ℕ → Type 0
+StartsFirst threads later t = (t < threads) × (waits later t ≡ false)
+
 module _ {M : Type 0} where
   -- the pass is to begin with the row: it is the first of a thread, which the pass holds or is to deal, and has not begun with
   abbrev pub IsToBegin : View M → Row → Type 0
@@ -88,7 +95,7 @@ module _ {M : Type 0} (stands : Stands M) where
   pub record IsHome (first : List M) (l : Ledger) (homes : List (Maybe (Option M))) (r : Row) : Type 0 where
     pub value : M
     pub home : get_elem? homes r.thread ≡ some (some (Some value))
-    pub offers : OffersAs (stands first value) l r
+    pub offers : OffersAs (stands.offers first value) l r
 
   pub record Housed (first : List M) (w : World) (homes : List (Maybe (Option M))) (views : List (View M)) : Type 0 where
     -- each opened row offers what somebody offers who stands for its thread after the results of the rows before, and has his nacks
@@ -96,6 +103,8 @@ module _ {M : Type 0} (stands : Stands M) where
     -- and he is at home until the row is taken
     pub at_home : (r : Row) → is_fresh (cell_at w.table r) ≡ false → is_taken (cell_at w.table r) ≡ false → IsHome first (ledger_of w.table) homes r
     pub waiting : (id : ℕ) (v : View M) (r : Row) → get_elem? views id ≡ some v → 0 < v.threads → IsToBegin v r → Waits first w homes r
+    -- and so is what stood at first for a thread that has not started
+    pub asleep : (t : ℕ) → t < w.table.threads → course_at w.table t ≡ Unstarted → Waits first w homes (first_row t)
 
   -- The value stands for the row's thread after the results of the rows before, as the pass has them; its offers are drafted for the
   -- row, and its nacks, and no others, are bound to it.
@@ -105,12 +114,27 @@ module _ {M : Type 0} (stands : Stands M) where
     pub seen : (earlier ≡ []) ⊎ Has results (r.thread, earlier)
     pub offers : List Offer
     pub nacks : List ℕ
-    pub standing : stands first value r.thread earlier offers nacks
+    pub standing : stands.offers first value r.thread earlier offers nacks
     pub drafted : IsDraft s r offers
     pub bound : (scope k : ℕ) → slice_get nacks scope ≡ Some k → Has s.bound (nack_of_row r k, binding_of r scope)
     pub no_others : (scope k : ℕ) → Has s.bound (nack_of_row r k, binding_of r scope) → slice_get nacks scope ≡ Some k
     -- the pass has begun with the thread
     pub begun : r.sync ≡ 0 → Has s.begun r
+
+  -- The value stands for the thread of the place after the results of the rows before, as the pass has them, and does this there.
+  pub record IsActing (results : List (ℕ × List Result)) (r : Row) (act : M → List Result → Type 0) : Type 0 where
+    pub value : M
+    pub earlier : List Result
+    pub count : length earlier ≡ r.sync
+    pub seen : (earlier ≡ []) ⊎ Has results (r.thread, earlier)
+    pub does : act value earlier
+
+  -- it starts another thread, and it ends
+  abbrev pub IsStarting : List M → List (ℕ × List Result) → Row → ℕ → Type 0
+  IsStarting first results r t = IsActing results r (λ value earlier. stands.starts first value r.thread earlier t)
+
+  abbrev pub IsFinishing : List M → List (ℕ × List Result) → Row → Type 0
+  IsFinishing first results r = IsActing results r (λ value earlier. stands.ends first value r.thread earlier)
 
   -- The history is the passes' steps interleaved, and leads from the start to the words as they stand. What each pass has
   -- seen is true of the world that the history leads to. Nothing else ever happens to the table.
@@ -128,9 +152,10 @@ module _ {M : Type 0} (stands : Stands M) where
     pub seated : Seated s.views
     -- a pass knows what stood for the threads at first, and which of them waited
     pub firsts : (id : ℕ) (v : View M) → get_elem? s.views id ≡ some v → 0 < v.threads → beginning v ≡ (shape.first.value.items, shape.later)
-    -- in a table of machines what stands for the threads lies where it should, and each thread is on its course as at the start:
-    -- nobody starts or ends one there yet
-    pub courses : 0 < length shape.first.value.items → (t : ℕ) → t < world.table.threads → course_at world.table t ≡ (if waits shape.later t then Unstarted else Running 0)
+    -- in a table of machines a thread has started at once, or where what stood for another one had started it, and has ended where
+    -- what stood for it had; and what stands for the threads lies where it should
+    pub started : 0 < length shape.first.value.items → EachStarted (StartsFirst shape.threads shape.later) (acts_in stands shape.first.value.items).starts (ledger_of world.table)
+    pub ended : 0 < length shape.first.value.items → EachEnded (acts_in stands shape.first.value.items).ends (ledger_of world.table)
     pub housed : 0 < length shape.first.value.items → Housed shape.first.value.items world s.homes s.views
     -- the results that a pass has seen are results of the rows
     pub results : (id : ℕ) (v : View M) (t : ℕ) (rs : List Result) → get_elem? s.views id ≡ some v → Has v.results (t, rs) → AreResults (ledger_of world.table) t rs

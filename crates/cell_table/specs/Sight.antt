@@ -20,6 +20,7 @@ use Rattle.protocol_values.specs.declared.Cell.TheVariants.{Fresh, Waiting, Clai
 use Rattle.cell_table.specs.declared.view.Seen.{Seen}
 use Rattle.protocol.specs.Tables.{row_eq, is_fresh, is_taken, names, offers_meet, stands_alone}
 use Rattle.protocol_values.specs.Values.{directions_meet, next_row, joined_of}
+use Rattle.protocol.specs.Acting.{EndsAt, HasStart}
 use Rattle.protocol.specs.Worlds.{first_row}
 
 -- x is in the list
@@ -78,18 +79,6 @@ see_course p (Ended start sync) s = record s { started = (p, start) ∷ s.starte
 -- the thread was started by the pass, which holds its first row from then on
 abbrev pub see_start : ℕ → ℕ → Seen → Seen
 see_start p stamp s = see_held (first_row p) (see_course p (Running stamp) s)
-
--- the course has begun with this stamp
-abbrev pub HasStart : Course → ℕ → Type 0
-HasStart Unstarted stamp = ⊥
-HasStart (Running start) stamp = start ≡ stamp
-HasStart (Ended start sync) stamp = start ≡ stamp
-
--- and has ended at this sync
-abbrev pub EndsAt : Course → ℕ → Type 0
-EndsAt Unstarted g = ⊥
-EndsAt (Running start) g = ⊥
-EndsAt (Ended start sync) g = sync ≡ g
 
 -- nothing is lost, and what is new is of rows such as these
 abbrev pub Adds : {A : Type 0} → (A → Type 0) → List A → List A → Type 0
@@ -223,10 +212,11 @@ SawCommitted s r = (j : Joined) × Has s.joined (r, j)
 abbrev pub SawEnded : Seen → ℕ → Type 0
 SawEnded s t = (g : ℕ) × Has s.ended (t, g)
 
--- nothing was seen of the thread: it was not seen started, none of its rows is held or was seen opened, and no nack of it bound
+-- nothing was seen of the thread: it was not seen started, none of its rows is held, was seen opened or begun with, and no nack of it bound
 pub record IsUnseen (s : Seen) (t : ℕ) : Type 0 where
   pub held : (r : Row) → Has s.held r → r.thread ≢ t
   pub opened : (r : Row) → Has s.opened r → r.thread ≢ t
+  pub begun : (r : Row) → Has s.begun r → r.thread ≢ t
   pub lasts : ¬ Has s.lasts t
   pub bound : (n : NackName) (b : Binding) → Has s.bound (n, b) → n.thread ≢ t
   pub started : (stamp : ℕ) → ¬ Has s.started (t, stamp)

@@ -1,5 +1,5 @@
 -- What a step tells the pass that makes it: its view after, by the word that it found.
-use Rattle.std.specs.Prelude.{◌≡◌, ◌≢◌, ◌⊎◌, ℕ, ◌+◌, List, ◌∷◌, length, take, ◌<◌, ◌≤◌, true, is_some, unwrap_or, Option, Some, None, slice_get}
+use Rattle.std.specs.Prelude.{◌≡◌, ◌≢◌, ℕ, ◌+◌, List, ◌∷◌, length, take, ◌<◌, ◌≤◌, true, is_some, unwrap_or, Option, Some, None, slice_get}
 use Rattle.atomic_table.specs.Table.{Step, Me, rest}
 use Rattle.protocol_values.specs.declared.Step.TheVariants.{Open, Claim, Yield, Join, Seal, Grant, Take}
 use Rattle.protocol_values.specs.Words.{cell_word, cell_of, course_of, course_word, nack_word, nack_of, IsBindingInRange, IsCourseInRange, IsJoinedInRange}
@@ -19,7 +19,7 @@ use Rattle.protocol_values.specs.Values.{next_row}
 use Rattle.cell_table.specs.declared.view.View.{View}
 use Rattle.cell_table.specs.declared.view.Stage.TheVariants.{Resting, Claims, Joins}
 use Rattle.cell_table.specs.declared.view.Seen.{Seen}
-use Rattle.cell_table.specs.Sight.{EndsAt, Has, HasStart, IsExpected, IsExpectedCourse, IsResult, IsStand, IsUnseen, SawEnded, Coherent, see_begun}
+use Rattle.cell_table.specs.Sight.{Has, IsExpected, IsExpectedCourse, IsResult, IsStand, IsUnseen, SawEnded, Coherent, see_begun}
 use Rattle.cell_table.specs.Views.{IsClaimer, at_stage, bind_of, bound_nack, did, ended_thread, saw, saw_course, saw_nack, started_thread, stood_at, took_with, read_word, turned, word_drafted}
 
 -- the table has the row
@@ -183,7 +183,7 @@ module _ {M : Type 0} where
     pub value : M
     pub offers : List Offer
     pub nacks : List ℕ
-    pub standing : stands first value n.thread results offers nacks
+    pub standing : stands.offers first value n.thread results offers nacks
     pub scope : slice_get nacks b.scope ≡ Some n.k
     pub begins : (longer : List Result) → Has all (n.thread, longer) → b.sync ≤ length longer → results ≡ take b.sync longer
 

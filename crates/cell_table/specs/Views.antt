@@ -17,7 +17,8 @@ use Rattle.cell_table.specs.declared.view.Stage.TheVariants.{Resting, Claims, Jo
 use Rattle.protocol.specs.Tables.{course_at, is_fresh, is_taken, names, word_at, cell_at, joined_at, binding_at, bound_row}
 use Rattle.protocol.specs.Standing.{Result}
 use Rattle.protocol.specs.Worlds.{World, first_row, holder_at, last_holder, waits}
-use Rattle.cell_table.specs.Sight.{EndsAt, Has, HasStart, IsCounted, see_opened, see_cell, see_word, see_draft, see_next, see_bound, see_course, see_start}
+use Rattle.cell_table.specs.Sight.{Has, IsCounted, see_opened, see_cell, see_word, see_draft, see_next, see_bound, see_course, see_start}
+use Rattle.protocol.specs.Acting.{EndsAt, HasStart}
 
 -- the place behind the last row of a thread, in a table of so many rows
 abbrev pub behind_last : ℕ → ℕ → Row

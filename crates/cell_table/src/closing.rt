@@ -1,18 +1,19 @@
 //! The end of a table: its words become a ledger.
 
-ghost use Rattle.std.specs.Prelude.{◌≡◌, ◌<◌, ℕ, List, length, None, Some, slice_get, nat_lt, ◌&&◌, not, false, if◌then◌else◌};
+ghost use Rattle.std.specs.Prelude.{◌≡◌, ◌<◌, ℕ, List, length, None, Some, slice_get, false};
 ghost use Rattle.std.specs.Slots.{slots_items, slots_len, IsFull};
 ghost use Rattle.protocol_values.specs.declared.Joined.{Joined};
 ghost use Rattle.protocol_values.specs.declared.Offer.{Offer};
 ghost use Rattle.protocol_values.specs.declared.Row.{Row};
-ghost use Rattle.protocol_values.specs.declared.Course.TheVariants.{Running, Unstarted};
 ghost use Rattle.protocol_values.specs.declared.NackName.{NackName};
 ghost use Rattle.protocol_values.specs.declared.Binding.{Binding};
 ghost use Rattle.protocol.specs.Ledgers.{IsLawful, binding_in, course_in, joined_in, offer_in};
-ghost use Rattle.protocol.specs.Standing.{AreResults, EachOffersAs, Result, SomeStands};
+ghost use Rattle.protocol.specs.Standing.{AreResults, Result};
 ghost use Rattle.protocol.specs.Worlds.{waits};
+ghost use Rattle.cell_table.specs.Rule.{StartsFirst};
 ghost use Rattle.cell_table.specs.Seats.{Sits};
-ghost use Rattle.cell_table.specs.Sight.{EndsAt, Has, HasStart, IsDraft, SeesNoOffer, SeesOffer};
+ghost use Rattle.cell_table.specs.Sight.{Has, IsDraft, SeesNoOffer, SeesOffer};
+ghost use Rattle.protocol.specs.Acting.{ActsAs, EndsAt, HasStart, acts_in};
 
 use crate::board::Board;
 use crate::view::View;
@@ -28,7 +29,6 @@ impl<M: Resident + Drop> Board<M> {
         requires spare { length spare.items ≡ self.words.shared.table_id.words }
         ensures size { (result.threads ≡ self.shape.threads) × (result.rows ≡ self.shape.rows) }
         ensures lawful { IsLawful result }
-        ensures running { 0 < length self.shape.first.value.items → (t : ℕ) → course_in result t ≡ (if nat_lt t self.shape.threads && not (waits self.shape.later t) then Running 0 else Unstarted) }
         ensures at_once { (t : ℕ) → t < self.shape.threads → waits self.shape.later t ≡ false → HasStart (course_in result t) 0 }
         ensures started { (t stamp : ℕ) → Has seat.me.0.seen.started (t, stamp) → HasStart (course_in result t) stamp }
         ensures ended { (t g : ℕ) → Has seat.me.0.seen.ended (t, g) → EndsAt (course_in result t) g }
@@ -38,7 +38,7 @@ impl<M: Resident + Drop> Board<M> {
         ensures bound { (n : NackName) (b : Binding) → Has seat.me.0.seen.bound (n, b) → binding_in result n ≡ Some b }
         ensures results { (t : ℕ) (results : List Result) → Has seat.me.0.results (t, results) → AreResults result t results }
         ensures own { (r : Row) (j : Joined) (offers : List Offer) → IsDraft seat.me.0.seen r offers → joined_in result r ≡ Some j → (j.own < length offers) × (offer_in result r j.own ≡ slice_get offers j.own) }
-        ensures stand { 0 < length self.shape.first.value.items → EachOffersAs (SomeStands M.stands self.shape.first.value.items) result }
+        ensures acts { 0 < length self.shape.first.value.items → ActsAs (StartsFirst self.shape.threads self.shape.later) (acts_in M.stands self.shape.first.value.items) result }
     {
         let Board { words, shape } = self;
         let closed = words.close_with(seat);

@@ -5,6 +5,7 @@ ghost use Rattle.protocol_values.specs.declared.Course.{Course};
 ghost use Rattle.protocol_values.specs.declared.Course.TheVariants.{Unstarted};
 ghost use Rattle.protocol.specs.Tables.{course_place};
 ghost use Rattle.cell_table.specs.declared.view.Stage.TheVariants.{Resting};
+ghost use Rattle.cell_table.specs.Rule.{IsFinishing, IsStarting};
 ghost use Rattle.cell_table.specs.Told.{AgreesLife, course_read};
 ghost use Rattle.cell_table.specs.Seats.{Sits, StaysSeated};
 ghost use Rattle.cell_table.specs.Sight.{Has, HasSeenLast, IsStand, IsUnseen, SawEnded};
@@ -64,7 +65,7 @@ impl<M: Resident> Board<M> {
     }
 
     /// Starts the thread from the place to which the pass has turned, with the place's last stamp, where it has
-    /// not started; else false. In a table without machines.
+    /// not started; else false. In a table of machines somebody stands for the place's thread who starts it there.
     pub fn start_thread(
         &self,
         seat: &mut Seat<Option<M>, View<M>>,
@@ -72,7 +73,7 @@ impl<M: Resident> Board<M> {
         thread: u8,
         stamp: u32,
     ) -> bool
-        requires bare { length self.now.shape.first.value.items ≡ 0 }
+        requires starting { 0 < length self.now.shape.first.value.items → IsStarting M.stands self.now.shape.first.value.items seat.old.me.0.results row thread }
         requires sits { Sits self.now seat.old × (row.thread < self.now.shape.threads) × (thread < self.now.shape.threads) × (row.thread ≢ thread) }
         requires resting { seat.old.me.0.stage ≡ Resting }
         requires stands { (seat.old.me.0.from ≡ row) × IsStand self.now.shape.rows seat.old.me.0.seen row × (¬ SawEnded seat.old.me.0.seen row.thread) }
@@ -91,9 +92,10 @@ impl<M: Resident> Board<M> {
         found == unstarted
     }
 
-    /// Ends the row's thread at this place of it, at which the pass stands. In a table without machines.
+    /// Ends the row's thread at this place of it, at which the pass stands. In a table of machines somebody stands
+    /// for the thread who ends there.
     pub fn finish(&self, seat: &mut Seat<Option<M>, View<M>>, row: Row, start: u32)
-        requires bare { length self.now.shape.first.value.items ≡ 0 }
+        requires finishing { 0 < length self.now.shape.first.value.items → IsFinishing M.stands self.now.shape.first.value.items seat.old.me.0.results row }
         requires sits { Sits self.now seat.old × (row.thread < self.now.shape.threads) × (row.sync ≤ self.now.shape.rows) }
         requires resting { seat.old.me.0.stage ≡ Resting }
         requires stands { IsStand self.now.shape.rows seat.old.me.0.seen row × (¬ SawEnded seat.old.me.0.seen row.thread) }

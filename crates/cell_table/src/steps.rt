@@ -104,7 +104,7 @@ impl<M: Resident> Board<M> {
         requires sits { Sits self.now seat.old × HasNack self.now nack × HasRow self.now (bound_row nack bound) }
         requires resting { seat.old.me.0.stage ≡ Resting }
         requires held { Has seat.old.me.0.seen.held (bound_row nack bound) × (¬ Has seat.old.me.0.seen.opened (bound_row nack bound)) }
-        requires alive { ¬ (0 < length self.now.shape.first.value.items) → ¬ SawEnded seat.old.me.0.seen nack.thread }
+        requires alive { ¬ SawEnded seat.old.me.0.seen nack.thread }
         requires range { IsBindingInRange bound }
         ensures sits { StaysSeated self.now seat.old seat.new }
         ensures bound { IfOk result (λ _. (seat.new.me.0 ≡ did (bind_of nack bound) (bound_nack nack bound seat.old.me.0)) × ((b : Binding) → ¬ Has seat.old.me.0.seen.bound (nack, b))) }
@@ -148,7 +148,7 @@ impl<M: Resident> Board<M> {
         requires place { (1 ≤ place) × (place < 34) × (is_word_for place word ≡ true) }
         requires resting { seat.old.me.0.stage ≡ Resting }
         requires held { Has seat.old.me.0.seen.held row × (¬ Has seat.old.me.0.seen.opened row) }
-        requires alive { ¬ (0 < length self.now.shape.first.value.items) → ¬ SawEnded seat.old.me.0.seen row.thread }
+        requires alive { ¬ SawEnded seat.old.me.0.seen row.thread }
         ensures sits { StaysSeated self.now seat.old seat.new }
         ensures drafted { seat.new.me.0 ≡ word_drafted row place word seat.old.me.0 }
     {
@@ -161,7 +161,7 @@ impl<M: Resident> Board<M> {
     pub fn open(&self, seat: &mut Seat<Option<M>, View<M>>, row: Row)
         requires sits { Sits self.now seat.old × HasRow self.now row }
         requires held { Has seat.old.me.0.seen.held row × (¬ Has seat.old.me.0.seen.opened row) × (seat.old.me.0.stage ≡ Resting) }
-        requires alive { ¬ (0 < length self.now.shape.first.value.items) → ¬ SawEnded seat.old.me.0.seen row.thread }
+        requires alive { ¬ SawEnded seat.old.me.0.seen row.thread }
         requires parked { 0 < length self.now.shape.first.value.items → (value : M) × (seat.old.me.1 ≡ (row.thread, Some value) ∷ rest seat.old.me.1) × IsReady M.stands self.now.shape.first.value.items seat.old.me.0.results seat.old.me.0.seen row value }
         ensures sits { StaysAtTable self.now seat.old seat.new }
         ensures opened { seat.new.me.0 ≡ did (OpenStep row) (turned Resting row seat.old.me.0) }

@@ -3,10 +3,11 @@ use Rattle.protocol_values.specs.declared.Row.{Row}
 use Rattle.protocol.specs.Tables.{Table, binding_at, bound_row, cell_at, course_at, is_fresh, is_taken, joined_at, names}
 use Rattle.protocol.specs.Worlds.{Plays, World, start_world}
 use Rattle.protocol.specs.Kept.{Kept}
+use Rattle.protocol.specs.Acting.{EachEnded, EachStarted, acts_in}
 use Rattle.protocol.specs.Ledgers.{ledger_of, IsLawful}
 use Rattle.protocol.specs.Standing.{AreResults, EachStands, SomeStands}
 use Rattle.protocol.proofs.LedgerLemmas.{kept_start, lawful_ledger}
-use Rattle.cell_table.specs.Rule.{IsHome, Move, in_order}
+use Rattle.cell_table.specs.Rule.{IsHome, Move, StartsFirst, in_order}
 use Rattle.cell_table.specs.Views.{bind_of}
 use Rattle.cell_table.proofs.Binders.{bound_by}
 use Rattle.cell_table.proofs.Seating.{acts, stays_of}
@@ -25,6 +26,8 @@ returns g c shape s k =
       machines = λ some_first.
           let house = k.housed some_first in
           subst (λ (t : Table). EachStands (SomeStands g.M.Resident.stands shape.first.value.items) t × ((r : Row) → is_fresh (cell_at t r) ≡ false → is_taken (cell_at t r) ≡ false → IsHome g.M.Resident.stands shape.first.value.items (ledger_of t) s.homes r)) k.table (house.rows, house.at_home);
+      lives = λ some_first.
+          subst (λ (t : Table). EachStarted (StartsFirst shape.threads shape.later) (acts_in g.M.Resident.stands shape.first.value.items).starts (ledger_of t) × EachEnded (acts_in g.M.Resident.stands shape.first.value.items).ends (ledger_of t)) k.table (k.started some_first, k.ended some_first);
       waiting = λ some_first id v r at begins.
           let one = (k.housed some_first).waiting id v r at.0 at.1 begins in
           (subst (λ (t : Table). is_fresh (cell_at t r) ≡ true) k.table one.fresh, one.value, one.is_first, one.home);

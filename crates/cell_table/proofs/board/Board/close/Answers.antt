@@ -1,10 +1,9 @@
-use Rattle.std.proofs.Common.{rules, ◌≡◌, ◌<◌, ◌&&◌, cond, ltb, not, length, None, Some, slice_get, sym, subst, ap, arith}
+use Rattle.std.proofs.Common.{rules, ◌≡◌, ◌<◌, length, None, Some, slice_get, sym, subst, ap, arith}
 use Rattle.protocol.specs.Ledgers.{IsLawful, Ledger, ledger_of, binding_in, course_in, joined_in, offer_in}
-use Rattle.protocol_values.specs.declared.Course.TheVariants.{Unstarted, Running}
-use Rattle.protocol.specs.Worlds.{waits}
-use Rattle.cell_table.specs.Sight.{EndsAt, HasStart}
-use Rattle.protocol.specs.Standing.{AreResults, EachOffersAs, SomeStands}
-use Rattle.cell_table.proofs.Endings.{ended, final_bound, final_ended, final_at_once, final_lawful, final_joined, final_lack, final_offer, final_own, final_results, final_running, final_stand, final_started}
+use Rattle.cell_table.specs.Rule.{StartsFirst}
+use Rattle.protocol.specs.Acting.{ActsAs, EndsAt, HasStart, acts_in}
+use Rattle.protocol.specs.Standing.{AreResults}
+use Rattle.cell_table.proofs.Endings.{ended, final_acts, final_bound, final_ended, final_at_once, final_lawful, final_joined, final_lack, final_offer, final_own, final_results, final_started}
 use Rattle.cell_table.proofs.board.Board.close.Goals as goal
 
 pub of_words-requires-clause-lawful : goal.of_words-requires-clause-lawful
@@ -25,14 +24,6 @@ returns-clause-seen g c r j h =
     subst (λ (l : Ledger). joined_in l r ≡ Some j) (sym c.of_words.ensures)
     (final_joined g.M.Resident.stands c.args.self.shape c.args.seat.id c.args.seat.me.0 (omega arith) c.copy_words-words.result.items _
     (ended g.M.Resident.stands _ _ _ _ _ _ _ c.args.self.keyed c.copy_words-words.ensures c.close_with-closed.ensures.values.2) r j h)
-
-pub returns-clause-running : goal.returns-clause-running
-returns-clause-running g c some_first t =
-    let size : c.args.seat.me.0.threads ≡ c.args.self.shape.threads = (search rules) in
-    let some = c.args.self.small.0 in
-    subst (λ (l : Ledger). course_in l t ≡ cond (ltb t c.args.self.shape.threads && not (waits c.args.self.shape.later t)) (Running 0) Unstarted) (sym c.of_words.ensures)
-    (final_running g.M.Resident.stands c.args.self.shape c.args.seat.id c.args.seat.me.0 (omega arith) c.copy_words-words.result.items _
-    (ended g.M.Resident.stands _ _ _ _ _ _ _ c.args.self.keyed c.copy_words-words.ensures c.close_with-closed.ensures.values.2) some_first t)
 
 pub returns-clause-own : goal.returns-clause-own
 returns-clause-own g c r j offers draft e =
@@ -82,12 +73,12 @@ returns-clause-results g c t rs h =
     (final_results g.M.Resident.stands c.args.self.shape c.args.seat.id c.args.seat.me.0 (omega arith) c.copy_words-words.result.items _
     (ended g.M.Resident.stands _ _ _ _ _ _ _ c.args.self.keyed c.copy_words-words.ensures c.close_with-closed.ensures.values.2) t rs h)
 
-pub returns-clause-stand : goal.returns-clause-stand
-returns-clause-stand g c some_first =
+pub returns-clause-acts : goal.returns-clause-acts
+returns-clause-acts g c some_first =
     let size : c.args.seat.me.0.threads ≡ c.args.self.shape.threads = (search rules) in
     let some = c.args.self.small.0 in
-    subst (λ (l : Ledger). EachOffersAs (SomeStands g.M.Resident.stands c.args.self.shape.first.value.items) l) (sym c.of_words.ensures)
-    (final_stand g.M.Resident.stands c.args.self.shape c.args.seat.id c.args.seat.me.0 (omega arith) c.copy_words-words.result.items _
+    subst (ActsAs (StartsFirst c.args.self.shape.threads c.args.self.shape.later) (acts_in g.M.Resident.stands c.args.self.shape.first.value.items)) (sym c.of_words.ensures)
+    (final_acts g.M.Resident.stands c.args.self.shape c.args.seat.id c.args.seat.me.0 (omega arith) c.copy_words-words.result.items _
     (ended g.M.Resident.stands _ _ _ _ _ _ _ c.args.self.keyed c.copy_words-words.ensures c.close_with-closed.ensures.values.2) some_first)
 
 pub returns-clause-started : goal.returns-clause-started
