@@ -13,6 +13,7 @@ unseen_before : {Nacks : _} {Lives : ℕ → Type 0} (About : Row → Type 0) (s
 unseen_before About s t p l u = record {
   held = λ r h. u.held r (subst (λ (rs : List Row). Has rs r) (sym l.held) h);
   opened = λ r h. u.opened r (l.opened.0 r h);
+  begun = λ r h. u.begun r (subst (λ (rs : List Row). Has rs r) (sym l.begun) h);
   lasts = λ h. u.lasts (subst (λ (ts : List ℕ). Has ts p) (sym l.lasts) h);
   bound = λ n b h. u.bound n b (l.bound.0 (n, b) h);
   started = λ stamp h. u.started stamp (l.started.0 (p, stamp) h);

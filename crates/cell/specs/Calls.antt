@@ -1,5 +1,5 @@
 -- The table and a pass, as callers see them.
-use Rattle.std.specs.Prelude.{◌≡◌, ◌⊎◌, ℕ, ◌<◌, ◌≤◌, zero, suc, List, ◌∷◌, Option, Some, None, length, slice_get}
+use Rattle.std.specs.Prelude.{◌≡◌, ◌⊎◌, ℕ, ◌<◌, ◌≤◌, zero, suc, List, [], ◌∷◌, Option, Some, None, length, slice_get}
 use Rattle.atomic_table.specs.Seated.{TableId}
 use Rattle.atomic_table.specs.Table.{rest}
 use Rattle.protocol_values.specs.declared.NackName.{NackName}
@@ -90,6 +90,11 @@ module _ {M : Type 0} where
 
   abbrev pub Fetched : GridOf M → PassOf M → PassOf M → Row → M → Type 0
   Fetched g before after r value = FetchedAt g before after r value r.sync
+
+  -- behind a thread's last row: the value stands for the thread after the results of all its rows, as the pass has them
+  abbrev pub IsFollowing : Stands M → List M → List (ℕ × List Result) → Row → M → Type 0
+  IsFollowing stands first results r value =
+      (earlier : List Result) × (length earlier ≡ r.sync) × ((earlier ≡ []) ⊎ Has results (r.thread, earlier)) × stands.follows first value r.thread earlier
 
   -- in a table of machines the row's machine is parked, stands where its thread's results lead, and offers what was drafted for the row
   abbrev pub IsParked : Stands M → GridOf M → PassOf M → Row → Type 0

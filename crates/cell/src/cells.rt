@@ -2,19 +2,18 @@
 //! says; within a call its seat may stand between a claim and a seal, so what a call does is written over the board
 //! and the seat, in the modules beside this one, and told here again of the pass.
 
-ghost use Rattle.std.specs.Prelude.{◌≡◌, ◌≢◌, ◌⊎◌, ◌+◌, ◌<◌, ◌≤◌, ◌∷◌, ◌++◌, [], ℕ, List, None, Some, false, true, IfOk, IfSome, IfNone, SomeIff, IsTrue, ◌↔◌, length, map, slice_get, IsFalse, nat_lt, ◌&&◌, not, if◌then◌else◌};
+ghost use Rattle.std.specs.Prelude.{◌≡◌, ◌≢◌, ◌⊎◌, ◌+◌, ◌<◌, ◌≤◌, ◌∷◌, ◌++◌, [], ℕ, List, None, Some, false, true, IfOk, IfSome, IfNone, SomeIff, IsTrue, ◌↔◌, length, map, slice_get, IsFalse};
 ghost use Rattle.protocol_values.specs.declared.Direction.{Direction};
 ghost use Rattle.protocol_values.specs.declared.Joined.{Joined};
 ghost use Rattle.protocol_values.specs.declared.Message.{Message};
 ghost use Rattle.protocol_values.specs.declared.Offer.{Offer};
 ghost use Rattle.protocol_values.specs.declared.Row.{Row};
 ghost use Rattle.protocol_values.specs.declared.Cell.TheVariants.{Claimed};
-ghost use Rattle.protocol_values.specs.declared.Course.TheVariants.{Running, Unstarted};
 ghost use Rattle.protocol_values.specs.declared.Step.TheVariants.{Finish, Open};
 ghost use Rattle.protocol_values.specs.declared.NackName.{NackName};
 ghost use Rattle.protocol_values.specs.declared.Binding.{Binding};
 ghost use Rattle.protocol.specs.Ledgers.{IsLawful, binding_in, course_in, joined_in, offer_in};
-ghost use Rattle.protocol.specs.Standing.{AreResults, EachOffersAs, Result, SomeStands};
+ghost use Rattle.protocol.specs.Standing.{AreResults, Result};
 ghost use Rattle.protocol.specs.Worlds.{nack_of_row, waits};
 ghost use Rattle.cell.specs.Attempts.{
   Attempted,
@@ -40,17 +39,15 @@ ghost use Rattle.cell.specs.Attempts.{
   start_made,
   take_made,
 };
-ghost use Rattle.cell.specs.Calls.{CanFetch, Fetched, Holds, HoldsAt, IsHousing, IsNackOf, IsParked, IsPassOf, IsRowOf, IsStandOf, KeepsResults, PassOf, PassView};
+ghost use Rattle.cell.specs.Calls.{CanFetch, Fetched, Holds, HoldsAt, IsFollowing, IsHousing, IsNackOf, IsParked, IsPassOf, IsRowOf, IsStandOf, KeepsResults, PassOf, PassView};
 ghost use Rattle.cell_table.specs.Told.{GoesHome};
-ghost use Rattle.cell_table.specs.Rule.{IsReady, dealt_later, dealt_rows, falls_to, heard, seen_nothing, told_of};
+ghost use Rattle.cell_table.specs.Rule.{IsFinishing, IsReady, IsStarting, StartsFirst, dealt_later, dealt_rows, falls_to, heard, seen_nothing, told_of};
 ghost use Rattle.atomic_table.specs.Table.{rest, turned};
 ghost use Rattle.cell_table.specs.Nacks.{IsSeenBound};
 ghost use Rattle.cell.specs.Flags.{AreFlags};
 ghost use Rattle.cell_table.specs.Sight.{
   AreOffers,
-  EndsAt,
   Has,
-  HasStart,
   HaveDirection,
   HaveOffer,
   IsDraft,
@@ -73,6 +70,7 @@ ghost use Rattle.cell_table.specs.Sight.{
   see_course,
   see_opened,
 };
+ghost use Rattle.protocol.specs.Acting.{ActsAs, EndsAt, HasStart, acts_in};
 
 use crate::attempt::{Attempt, StepGate, attempt_rows};
 use crate::drafting::draft_offers;
@@ -97,14 +95,14 @@ pub struct Cells<M: Resident> {
 }
 
 impl<M: Resident> Model for Cells<M> {
-    ghost use Rattle.std.specs.Prelude.{◌≡◌, ◌<◌, true, length};
+    ghost use Rattle.std.specs.Prelude.{◌≡◌, ◌<◌, ◌≤◌, true, length};
     ghost use Rattle.cell.specs.Calls.{GridOf};
 
     ghost Value = { GridOf M };
 
     ghost view = { λ c. record { id = c.board.words.shared.table_id; threads = c.board.shape.threads; rows = c.board.shape.rows; passes = c.board.shape.passes; later = c.board.shape.later; first = c.board.shape.first.value.items } };
 
-    ghost invariant = { λ c. (length c.spare.items ≡ c.board.words.shared.table_id.words) × (0 < length c.board.shape.first.value.items → M.houses ≡ true) };
+    ghost invariant = { λ c. (length c.spare.items ≡ c.board.words.shared.table_id.words) × (0 < length c.board.shape.first.value.items → M.houses ≡ true) × (1 ≤ c.board.shape.rows) };
 }
 
 /// What a thread calls the table with. It holds rows, and its value is what it has seen.
@@ -187,39 +185,6 @@ impl Cells<Bare> {
     {
         Cells::over(alloc, Vec::new(alloc), threads, rows, passes, later)
     }
-
-    /// Starts the thread from a place of another thread at which the pass stands: a held row that is Fresh, or the place
-    /// behind the last row. True where this call started it: at that place's last stamp, and the pass holds the
-    /// thread's row 0 from then on. False where it had started before.
-    pub fn start(&self, pass: &mut Pass<Bare>, row: Row, thread: u8) -> bool
-        requires here { IsPassOf self.now pass.old × IsStandOf self.now row }
-        requires stands { IsStand self.now.rows pass.old.seen row × (¬ SawEnded pass.old.seen row.thread) }
-        requires other { (thread < self.now.threads) × (row.thread ≢ thread) }
-        ensures here { IsPassOf self.now pass.new }
-        ensures started { Started pass.old.seen pass.new.seen row thread result }
-        ensures made { pass.new.made ≡ start_made row thread result pass.old.made }
-        ensures results { KeepsResults pass.old pass.new }
-    {
-        let Pass { seat, rows } = pass;
-        let started = start_from(&self.board, seat, row, thread);
-        if started {
-            rows.insert(Row { thread, sync: 0 });
-        }
-        started
-    }
-
-    /// Ends the thread of a place at which the pass stands: a held row that is Fresh, or the place behind the
-    /// last row. No row of the thread is drafted, bound or opened from then on.
-    pub fn finish(&self, pass: &mut Pass<Bare>, row: Row)
-        requires here { IsPassOf self.now pass.old × IsStandOf self.now row }
-        requires stands { IsStand self.now.rows pass.old.seen row × (¬ SawEnded pass.old.seen row.thread) }
-        ensures here { IsPassOf self.now pass.new }
-        ensures finished { Finished pass.old.seen pass.new.seen row }
-        ensures made { pass.new.made ≡ Finish row ∷ pass.old.made }
-        ensures results { KeepsResults pass.old pass.new }
-    {
-        finish_at(&self.board, &mut pass.seat, row);
-    }
 }
 
 impl<M: Resident + Drop> Cells<M> {
@@ -241,8 +206,67 @@ impl<M: Resident + Drop> Cells<M> {
         ensures passes { IfOk result (λ t. (number : ℕ) (pass : PassOf M) → slice_get t.1.items number ≡ Some pass → IsPassOf t.0 pass × (pass.seen ≡ seen_nothing (dealt_rows (length first.items) passes number)) × (pass.made ≡ [])) }
         ensures results { IfOk result (λ t. (number : ℕ) (pass : PassOf M) → slice_get t.1.items number ≡ Some pass → (pass.results ≡ []) × (pass.out ≡ [])) }
     {
+        Cells::with_machines_later(alloc, first, rows, passes, 0)
+    }
+
+    /// The same, but a thread whose bit is set in the mask `later` waits to be started, and no pass holds its row 0.
+    /// Until then its machine lies in its slot. Bits of threads that the table has not change nothing.
+    pub fn with_machines_later(
+        alloc: Global,
+        first: Vec<M>,
+        rows: u16,
+        passes: u8,
+        later: u64,
+    ) -> Result<(Cells<M>, Vec<Pass<M>>), AllocError>
+        requires housed { M.houses ≡ true }
+        requires threads { (1 ≤ length first.items) × (length first.items ≤ 64) }
+        requires rows { (1 ≤ rows) × (rows ≤ 1024) }
+        requires passes { (1 ≤ passes) × (passes ≤ 16) }
+        ensures size { IfOk result (λ t. (t.0.threads ≡ length first.items) × (t.0.rows ≡ rows) × (t.0.passes ≡ passes) × (length t.1.items ≡ passes)) }
+        ensures first { IfOk result (λ t. t.0.first ≡ first.items) }
+        ensures waiting { IfOk result (λ t. t.0.later ≡ later) }
+        ensures passes { IfOk result (λ t. (number : ℕ) (pass : PassOf M) → slice_get t.1.items number ≡ Some pass → IsPassOf t.0 pass × (pass.seen ≡ seen_nothing (dealt_later later (length first.items) passes number)) × (pass.made ≡ [])) }
+        ensures results { IfOk result (λ t. (number : ℕ) (pass : PassOf M) → slice_get t.1.items number ≡ Some pass → (pass.results ≡ []) × (pass.out ≡ [])) }
+    {
         let threads = first.len() as u8;
-        Cells::over(alloc, first, threads, rows, passes, 0)
+        Cells::over(alloc, first, threads, rows, passes, later)
+    }
+
+    /// Starts the thread from a place of another thread at which the pass stands: a held row that is Fresh, or the place
+    /// behind the last row. True where this call started it: at that place's last stamp, and the pass holds the
+    /// thread's row 0 from then on. False where it had started before. In a table of machines somebody stands for the
+    /// place's thread who starts the other one there, and not before.
+    pub fn start(&self, pass: &mut Pass<M>, row: Row, thread: u8) -> bool
+        requires here { IsPassOf self.now pass.old × IsStandOf self.now row }
+        requires stands { IsStand self.now.rows pass.old.seen row × (¬ SawEnded pass.old.seen row.thread) }
+        requires other { (thread < self.now.threads) × (row.thread ≢ thread) }
+        requires starting { M.houses ≡ true → IsHousing self.now → IsStarting M.stands self.now.first pass.old.results row thread }
+        ensures here { IsPassOf self.now pass.new }
+        ensures started { Started pass.old.seen pass.new.seen row thread result }
+        ensures made { pass.new.made ≡ start_made row thread result pass.old.made }
+        ensures results { KeepsResults pass.old pass.new }
+    {
+        let Pass { seat, rows } = pass;
+        let started = start_from(&self.board, seat, row, thread);
+        if started {
+            rows.insert(Row { thread, sync: 0 });
+        }
+        started
+    }
+
+    /// Ends the thread of a place at which the pass stands: a held row that is Fresh, or the place behind the
+    /// last row. No row of the thread is drafted, bound or opened from then on. In a table of machines somebody stands
+    /// for the thread who has ended there.
+    pub fn finish(&self, pass: &mut Pass<M>, row: Row)
+        requires here { IsPassOf self.now pass.old × IsStandOf self.now row }
+        requires stands { IsStand self.now.rows pass.old.seen row × (¬ SawEnded pass.old.seen row.thread) }
+        requires finishing { M.houses ≡ true → IsHousing self.now → IsFinishing M.stands self.now.first pass.old.results row }
+        ensures here { IsPassOf self.now pass.new }
+        ensures finished { Finished pass.old.seen pass.new.seen row }
+        ensures made { pass.new.made ≡ Finish row ∷ pass.old.made }
+        ensures results { KeepsResults pass.old pass.new }
+    {
+        finish_at(&self.board, &mut pass.seat, row);
     }
 
     /// A table over these, or over none, in which the threads of the mask `later` wait to be started.
@@ -289,7 +313,6 @@ impl<M: Resident + Drop> Cells<M> {
         requires here { IsPassOf self pass }
         ensures size { (result.threads ≡ self.threads) × (result.rows ≡ self.rows) }
         ensures lawful { IsLawful result }
-        ensures running { IsHousing self → (t : ℕ) → course_in result t ≡ (if nat_lt t self.threads && not (waits self.later t) then Running 0 else Unstarted) }
         ensures at_once { (t : ℕ) → t < self.threads → waits self.later t ≡ false → HasStart (course_in result t) 0 }
         ensures started { (t stamp : ℕ) → Has pass.seen.started (t, stamp) → HasStart (course_in result t) stamp }
         ensures ended { (t g : ℕ) → Has pass.seen.ended (t, g) → EndsAt (course_in result t) g }
@@ -299,7 +322,7 @@ impl<M: Resident + Drop> Cells<M> {
         ensures bound { (n : NackName) (b : Binding) → Has pass.seen.bound (n, b) → binding_in result n ≡ Some b }
         ensures results { (t : ℕ) (results : List Result) → Has pass.results (t, results) → AreResults result t results }
         ensures own { (r : Row) (j : Joined) (offers : List Offer) → IsDraft pass.seen r offers → joined_in result r ≡ Some j → (j.own < length offers) × (offer_in result r j.own ≡ slice_get offers j.own) }
-        ensures stand { IsHousing self → EachOffersAs (SomeStands M.stands self.first) result }
+        ensures acts { IsHousing self → ActsAs (StartsFirst self.threads self.later) (acts_in M.stands self.first) result }
     {
         let Cells { board, spare } = self;
         let Pass { seat, .. } = pass;
@@ -320,7 +343,7 @@ impl<M: Resident> Cells<M> {
     pub fn open(&self, pass: &mut Pass<M>, row: Row)
         requires here { IsPassOf self.now pass.old × IsRowOf self.now row }
         requires fresh { Has pass.old.seen.held row × (¬ Has pass.old.seen.opened row) }
-        requires alive { ¬ IsHousing self.now → ¬ SawEnded pass.old.seen row.thread }
+        requires alive { ¬ SawEnded pass.old.seen row.thread }
         requires parked { M.houses ≡ true → IsParked M.stands self.now pass.old row }
         ensures here { IsPassOf self.now pass.new }
         ensures opened { pass.new.seen ≡ see_opened row pass.old.seen }
@@ -437,7 +460,7 @@ impl<M: Resident> Cells<M> {
     pub fn bind(&self, pass: &mut Pass<M>, k: u8, row: Row, scope: u8) -> bool
         requires here { IsPassOf self.now pass.old × IsRowOf self.now row }
         requires fresh { Has pass.old.seen.held row × (¬ Has pass.old.seen.opened row) }
-        requires alive { ¬ IsHousing self.now → ¬ SawEnded pass.old.seen row.thread }
+        requires alive { ¬ SawEnded pass.old.seen row.thread }
         requires range { (k < 64) × (scope < 4) }
         ensures here { IsPassOf self.now pass.new }
         ensures learns { LearnsOf (λ q. ⊥) (λ n. n ≡ nack_of_row row k) (λ p. ⊥) pass.old.seen pass.new.seen }
@@ -504,7 +527,7 @@ impl<M: Resident> Cells<M> {
     pub fn draft(&self, pass: &mut Pass<M>, row: Row, offers: &[Offer])
         requires here { IsPassOf self.now pass.old × IsRowOf self.now row }
         requires fresh { Has pass.old.seen.held row × (¬ Has pass.old.seen.opened row) }
-        requires alive { ¬ IsHousing self.now → ¬ SawEnded pass.old.seen row.thread }
+        requires alive { ¬ SawEnded pass.old.seen row.thread }
         requires offers { AreOffers offers.now }
         ensures here { IsPassOf self.now pass.new }
         ensures others { Redrafts (λ q p. q ≡ row) pass.old.seen pass.new.seen }
@@ -531,12 +554,12 @@ impl<M: Resident> Cells<M> {
         self.board.tell(&mut from.seat, &mut to.seat);
     }
 
-    /// Hands out what stands for the row's thread: for the first row of a thread what stood for it at first, and
-    /// for another what came out of its slot when the row before was taken, if that slot is the front one of those that
-    /// are out. The pass has it alone.
+    /// Hands out what stands for the thread of the place at which the pass stands: for the first row of a thread what
+    /// stood for it at first, and for another row, and the place behind the last one, what came out of its slot when the
+    /// row before was taken, if that slot is the front one of those that are out. The pass has it alone.
     pub fn fetch(&self, pass: &mut Pass<M>, row: Row) -> M
-        requires here { IsPassOf self.now pass.old × IsRowOf self.now row }
-        requires fresh { Has pass.old.seen.held row × (¬ Has pass.old.seen.opened row) }
+        requires here { IsPassOf self.now pass.old × IsStandOf self.now row }
+        requires stands { IsStand self.now.rows pass.old.seen row }
         requires can { CanFetch self.now pass.old row }
         ensures here { IsPassOf self.now pass.new }
         ensures fetched { Fetched self.now pass.old pass.new row result }
@@ -548,13 +571,14 @@ impl<M: Resident> Cells<M> {
         self.board.lift(&mut pass.seat, row)
     }
 
-    /// Lays down what stands for the row's thread now, for the row to be opened: it stands after the results of the
-    /// rows before, as the pass has them, what it offers was drafted for the row, and its nacks, and no others, are
-    /// bound to it.
+    /// Lays down what stands for the thread of the place now, after the results of the rows before, as the pass has
+    /// them. For a row that is to be opened what it offers was drafted, and its nacks, and no others, are bound to the
+    /// row. Behind the last row nothing is: there it stays out with the pass.
     pub fn park(&self, pass: &mut Pass<M>, row: Row, value: M)
-        requires here { IsPassOf self.now pass.old × IsRowOf self.now row }
+        requires here { IsPassOf self.now pass.old × IsStandOf self.now row }
         requires fetched { Holds pass.old row None }
-        requires ready { IsReady M.stands self.now.first pass.old.results pass.old.seen row value }
+        requires ready { row.sync < self.now.rows → IsReady M.stands self.now.first pass.old.results pass.old.seen row value }
+        requires follows { row.sync ≡ self.now.rows → IsFollowing M.stands self.now.first pass.old.results row value }
         ensures here { IsPassOf self.now pass.new }
         ensures parked { pass.new.out ≡ (row.thread, Some value) ∷ rest pass.old.out }
         ensures seen { pass.new.seen ≡ pass.old.seen }

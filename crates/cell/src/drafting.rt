@@ -26,7 +26,7 @@ pub(crate) fn draft_offers<M: Resident>(
     requires sits { Sits board.now seat.old × HasRow board.now row }
     requires resting { seat.old.me.0.stage ≡ Resting }
     requires held { Has seat.old.me.0.seen.held row × (¬ Has seat.old.me.0.seen.opened row) }
-    requires alive { ¬ (0 < length board.now.shape.first.value.items) → ¬ SawEnded seat.old.me.0.seen row.thread }
+    requires alive { ¬ SawEnded seat.old.me.0.seen row.thread }
     requires offers { AreOffers offers.now }
     ensures sits { StaysSeated board.now seat.old seat.new }
     ensures stays { seat.new.me.0 ≡ worked seat.old.me.0.stage seat.new.me.0.seen seat.new.me.0.made seat.old.me.0 }
@@ -51,7 +51,7 @@ fn draft_offer<M: Resident>(
     requires sits { Sits board.now seat.old × HasRow board.now row }
     requires resting { seat.old.me.0.stage ≡ Resting }
     requires held { Has seat.old.me.0.seen.held row × (¬ Has seat.old.me.0.seen.opened row) }
-    requires alive { ¬ (0 < length board.now.shape.first.value.items) → ¬ SawEnded seat.old.me.0.seen row.thread }
+    requires alive { ¬ SawEnded seat.old.me.0.seen row.thread }
     requires offer { (n < 8) × IsOfferInRange offer }
     ensures sits { StaysSeated board.now seat.old seat.new }
     ensures stays { seat.new.me.0 ≡ worked seat.old.me.0.stage seat.new.me.0.seen seat.new.me.0.made seat.old.me.0 }
@@ -80,7 +80,7 @@ fn draft_atom<M: Resident>(
     requires sits { Sits board.now seat.old × HasRow board.now row }
     requires resting { seat.old.me.0.stage ≡ Resting }
     requires held { Has seat.old.me.0.seen.held row × (¬ Has seat.old.me.0.seen.opened row) }
-    requires alive { ¬ (0 < length board.now.shape.first.value.items) → ¬ SawEnded seat.old.me.0.seen row.thread }
+    requires alive { ¬ SawEnded seat.old.me.0.seen row.thread }
     requires atom { (n < 8) × (1 ≤ k) × (k < 4) × (is_some (atom_of word) ≡ true) }
     ensures sits { StaysSeated board.now seat.old seat.new }
     ensures stays { seat.new.me.0 ≡ worked seat.old.me.0.stage seat.new.me.0.seen seat.new.me.0.made seat.old.me.0 }

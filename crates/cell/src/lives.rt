@@ -4,6 +4,7 @@ ghost use Rattle.std.specs.Prelude.{◌≡◌, ◌≢◌, ◌<◌, ◌≤◌, �
 ghost use Rattle.protocol_values.specs.declared.Step.TheVariants.{Finish};
 ghost use Rattle.cell.specs.Attempts.{Finished, Started, start_made};
 ghost use Rattle.cell_table.specs.declared.view.Stage.TheVariants.{Resting};
+ghost use Rattle.cell_table.specs.Rule.{IsFinishing, IsStarting};
 ghost use Rattle.cell_table.specs.Seats.{Sits, StaysSeated};
 ghost use Rattle.cell_table.specs.Sight.{IsStand, SawEnded};
 ghost use Rattle.cell_table.specs.Views.{stood_at, worked};
@@ -21,7 +22,7 @@ pub(crate) fn start_from<M: Resident>(
     row: Row,
     thread: u8,
 ) -> bool
-    requires bare { length board.now.shape.first.value.items ≡ 0 }
+    requires starting { 0 < length board.now.shape.first.value.items → IsStarting M.stands board.now.shape.first.value.items seat.old.me.0.results row thread }
     requires sits { Sits board.now seat.old × (row.thread < board.now.shape.threads) × (row.sync ≤ board.now.shape.rows) }
     requires other { (thread < board.now.shape.threads) × (row.thread ≢ thread) }
     requires resting { seat.old.me.0.stage ≡ Resting }
@@ -44,7 +45,7 @@ pub(crate) fn finish_at<M: Resident>(
     seat: &mut Seat<Option<M>, View<M>>,
     row: Row,
 )
-    requires bare { length board.now.shape.first.value.items ≡ 0 }
+    requires finishing { 0 < length board.now.shape.first.value.items → IsFinishing M.stands board.now.shape.first.value.items seat.old.me.0.results row }
     requires sits { Sits board.now seat.old × (row.thread < board.now.shape.threads) × (row.sync ≤ board.now.shape.rows) }
     requires resting { seat.old.me.0.stage ≡ Resting }
     requires stands { IsStand board.now.shape.rows seat.old.me.0.seen row × (¬ SawEnded seat.old.me.0.seen row.thread) }

@@ -53,7 +53,7 @@ pub(crate) fn bind<M: Resident>(
     requires sits { Sits board.now seat.old × HasRow board.now row }
     requires resting { seat.old.me.0.stage ≡ Resting }
     requires held { Has seat.old.me.0.seen.held row × (¬ Has seat.old.me.0.seen.opened row) }
-    requires alive { ¬ (0 < length board.now.shape.first.value.items) → ¬ SawEnded seat.old.me.0.seen row.thread }
+    requires alive { ¬ SawEnded seat.old.me.0.seen row.thread }
     requires range { (k < 64) × (scope < 4) }
     ensures sits { StaysSeated board.now seat.old seat.new }
     ensures stays { seat.new.me.0 ≡ worked seat.old.me.0.stage seat.new.me.0.seen (bind_made k row scope result seat.old.me.0.made) seat.old.me.0 }

@@ -56,4 +56,4 @@ returns-clause-results g c number pass e =
 pub invariant_of-result : goal.invariant_of-result
 invariant_of-result g c =
     let words = ap (λ (ws : List ℕ). length ws) c.in_ok-spare.ensures ∙ length_start c.from-4.result c.from-5.result c.args.later in
-    (words ∙ (search rules), search rules)
+    (words ∙ (search rules), search rules, search rules)
