@@ -1,43 +1,36 @@
 -- What a worker does with a machine keeps what is known of it.
-use Rattle.std.proofs.Common.{◌⊎◌, ◌≡◌, ◌≢◌, ◌<◌, ◌≤◌, ◌+◌, ℕ, zero, suc, Bool, true, false, List, [], ◌∷◌, ◌++◌, length, take, Option, None, Some, cond, get_or, slice_get, sym, refl, ap, ◌∙◌, subst, inl, inr, ⊎_elim, arith}
-use Rattle.std.specs.Prelude.{IsFalse}
+use Rattle.std.proofs.Common.{◌⊎◌, ◌≡◌, ◌<◌, ◌≤◌, ◌+◌, ℕ, zero, suc, Bool, true, false, List, [], ◌∷◌, ◌++◌, length, take, Option, Some, get_or, slice_get, sym, refl, ap, ◌∙◌, subst, inl, inr, ⊎_elim, arith}
+use Rattle.std.specs.Prelude.{IsFalse, ◌≢◌}
 use Rattle.std.proofs.Math.Seq.{take-length}
-use Rattle.std.proofs.lemmas.Bool.{cases_lt, le-ltb, lt-ltb}
 use Rattle.std.proofs.lemmas.List.{length-append}
 use Rattle.std.proofs.lemmas.Option.{get_or_from_slice_get, none-some, same_Some, slice_get-get_or, slice_get_within}
 use Rattle.event.specs.Tree.{scope_nacks}
 use Rattle.atomic_table.specs.Table.{rest}
 use Rattle.protocol_values.specs.declared.Binding.{Binding}
-use Rattle.protocol_values.specs.declared.Course.{Course}
-use Rattle.protocol_values.specs.declared.Course.TheVariants.{Unstarted, Running}
 use Rattle.protocol_values.specs.declared.NackName.{NackName}
 use Rattle.protocol_values.specs.declared.Offer.{Offer}
 use Rattle.protocol_values.specs.declared.Row.{Row}
 use Rattle.script_tree.specs.Processes.{Proc}
-use Rattle.script_tree.specs.Spawning.{spawner_from, spawns_block}
-use Rattle.script_tree.specs.Trees.{Block}
 use Rattle.thread.specs.After.{Chosen}
-use Rattle.thread.specs.Machines.{Broken, IsOpen, Open, Over, Phase, Ready, SameProcess, StartsAs, Stuck, Tells, Thread, nacks_in, offers_in}
+use Rattle.thread.specs.Machines.{Broken, IsOpen, Open, Over, Phase, Ready, StartsAs, Stuck, Tells, nacks_in, offers_in}
 use Rattle.thread.specs.declared.machine.Turn.TheVariants as turn
-use Rattle.protocol.specs.Ledgers.{IsLawful, Ledger, ledger_of}
-use Rattle.protocol.specs.Standing.{EachOffersAs, SomeStands, binding_of}
+use Rattle.protocol.specs.Standing.{binding_of}
 use Rattle.protocol.specs.Tables.{bound_row}
-use Rattle.protocol.specs.Worlds.{nack_of_row, start_world}
-use Rattle.protocol.proofs.LedgerLemmas.{course_in_ledger, kept_start, lawful_ledger, nobody_waits, start_course}
-use Rattle.protocol.proofs.Readings.{course_outside}
-use Rattle.protocol.proofs.Standing.{stands-ledger, stands-start}
+use Rattle.protocol.specs.Worlds.{nack_of_row}
 use Rattle.journal_replay.specs.Runs.{IsOffering}
 use Rattle.journal_order.specs.Laws.{HasScopeAt}
-use Rattle.journal_order.specs.Ledgers.{AllRun, IsLedgerOf, ProcessOffers}
+use Rattle.journal_order.specs.Ledgers.{ProcessOffers}
 use Rattle.journal_order.proofs.Nacks.{one-sync}
 use Rattle.cell.specs.Attempts.{Bound, BoundBefore}
 use Rattle.cell_table.specs.Told.{IsEarlier}
 use Rattle.cell.specs.Calls.{GridOf, Holds, PassOf}
 use Rattle.cell_table.specs.declared.view.Seen.{Seen}
-use Rattle.cell_table.specs.Sight.{Has, see_bound}
+use Rattle.cell_table.specs.Rule.{IsReady}
+use Rattle.cell_table.specs.Sight.{Has, IsDraft, Redrafts, see_bound}
 use Rattle.runtime.specs.declared.resident.Suspended.{Suspended}
+use Rattle.runtime.proofs.Ledgers.{offers_as}
 use Rattle.runtime.proofs.Rising.{after_rises, Rises, rises_once}
-use Rattle.runtime.specs.Machines.{AreBound, AreFirst, HasSpawned, IsNow, IsOfAny, IsTable, KnowsLater, LeavesOthers, NoneSpawns, StandsFor}
+use Rattle.runtime.specs.Machines.{AreBound, AreFirst, IsNow, IsTable, LeavesOthers, OnlyBinds, StandsFor, doings}
 
 -- WHAT OTHER THREADS ARE LEFT WITH
 
@@ -52,6 +45,7 @@ leaves_bound r k b s x apart h = (
       (λ (e : (nack_of_row r k, b) ≡ (n, c)). λ at. apart (ap (λ (y : Row). y.thread) (sym at) ∙ ap (λ (z : NackName × Binding). z.0.thread) (sym e)))
       (λ (old : Has s.bound (n, c)). h.2 n c old)
       i,
+  h.3,
 )
 
 -- BINDING
@@ -82,6 +76,15 @@ bound_more r nacks count k s t u before at is = record {
         (λ (lower : scope < count). inr (before.bound scope n lower e))
         (Rattle.std.proofs.Math.Nat.eq-or-lt_of_le (let h : scope ≤ count = omega arith in h))
 
+-- and nothing else is bound to the row, where nothing was before
+pub only_scopes : (r : Row) (nacks : List ℕ) (count : ℕ) (s t : Seen) → AreBound r nacks count s t → ((n : NackName) (b : Binding) → Has s.bound (n, b) → bound_row n b ≢ r)
+    → (scope k : ℕ) → Has t.bound (nack_of_row r k, binding_of r scope) → slice_get nacks scope ≡ Some k
+only_scopes r nacks count s t are free scope k h = ⊎_elim
+    (λ (old : Has s.bound (nack_of_row r k, binding_of r scope)). absurd (free (nack_of_row r k) (binding_of r scope) old refl))
+    (λ (new : (q : ℕ) × (n : ℕ) × (slice_get nacks q ≡ Some n) × (q < count) × (nack_of_row r k ≡ nack_of_row r n) × (binding_of r scope ≡ binding_of r q)).
+    ap (slice_get nacks) (ap (λ (b : Binding). b.scope) new.5) ∙ new.2 ∙ ap Some (ap (λ (x : NackName). x.k) (sym new.4)))
+    (are.only (nack_of_row r k) (binding_of r scope) h)
+
 -- MACHINES
 
 pub offers_of_open : (p : Phase) (os : List Offer) (ns : List ℕ) → p ≡ Open os ns → offers_in p ≡ os
@@ -102,98 +105,7 @@ open_is Over h = absurd h
 open_is (Stuck fault) h = absurd h
 open_is Broken h = absurd h
 
--- THE LEDGER
-
--- where no process's text spawns it, a process has no spawner
-none-spawns : (t s : ℕ) (ps : List Proc) → ((i : ℕ) (p : Proc) → slice_get ps i ≡ Some p → spawns_block t p.body ≡ false) → spawner_from t s ps ≡ None
-none-spawns t s [] none = refl
-none-spawns t s (p ∷ ps) none =
-    ap (λ (b : Bool). cond b (Some s) (spawner_from t (s + 1) ps)) (none 0 p refl)
-    ∙ none-spawns t (s + 1) ps (λ i q e. none (suc i) q e)
-
-no-text : (ps : List Proc) (first : List Suspended) (t : ℕ) → AreFirst ps first → NoneSpawns first t → (i : ℕ) (p : Proc) → slice_get ps i ≡ Some p → spawns_block t p.body ≡ false
-no-text ps first t are none i p e =
-    let low : i < length first = omega (arith, slice_get_within ps i p e, are.0) in
-    let m = machine-at first i low in
-    let f = are.1 i m.0 m.1 in
-    let same : f.0 ≡ p = same_Some f.0 p (sym f.1 ∙ e) in
-    ap (λ (b : Block). spawns_block t b) (sym (f.2.body ∙ ap (λ (q : Proc). q.body) same)) ∙ none i m.0 m.1
-  where
-    machine-at : (l : List Suspended) (j : ℕ) → j < length l → (m : Suspended) × (slice_get l j ≡ Some m)
-    machine-at [] j lt = absurd (omega (arith, lt))
-    machine-at (x ∷ xs) zero lt = (x, refl)
-    machine-at (x ∷ xs) (suc j) lt = machine-at xs j (omega (arith, lt))
-
-pub offers_as : (ps : List Proc) (first : List Suspended) (t : ℕ) (results : List Chosen) (os : List Offer) (ns : List ℕ) → AreFirst ps first → SomeStands StandsFor first t results os ns → ProcessOffers ps t results os ns
-offers_as ps first t results os ns are (m, (is, phase)) =
-    let f = are.1 t is.start is.is_first in
-    let starts = f.2 in
-    let opens = subst (λ (p : Phase). Rattle.thread.specs.Machines.IsAfterAt m.machine.value p) phase is.after in
-    record {
-      event = opens.tree;
-      offered = record {
-        process = f.0;
-        is_its = f.1;
-        said = Rattle.thread.specs.Machines.said_in m.machine.value;
-        offers = offers_there f.0 m.machine.value is.start.machine.value starts is.process is.given opens;
-      };
-      are = opens.offers;
-      scopes = opens.nacks;
-      at_once = none-spawns t 0 ps (no-text ps first t are is.at_once);
-    }
-  where
-    offers_there : (p : Proc) (m s : Thread) → StartsAs p t s → SameProcess s m → m.results ≡ results → (o : Rattle.thread.specs.Machines.OpensWith m os ns) → Rattle.thread.specs.After.after p.body (length p.variables) t results ≡ Rattle.thread.specs.After.Offers o.tree (Rattle.thread.specs.Machines.said_in m)
-    offers_there p m s starts same given o =
-        let body = ap Rattle.script_tree.specs.Trees.block_of same.body ∙ starts.body in
-        let variables = same.variables ∙ starts.variables in
-        let thread = same.thread ∙ starts.thread in
-        (λ i. Rattle.thread.specs.After.after (sym body i) (sym variables i) (sym thread i) (sym given i)) ∙ o.after
-
-pub ledger_of_processes : (ps : List Proc) (first : List Suspended) (l : Ledger) → AreFirst ps first → AllRun l → EachOffersAs (SomeStands StandsFor first) l → IsLedgerOf ps l
-ledger_of_processes ps first l are running each = record { running = running; each = offers_so }
-  where
-    offers_so : EachOffersAs (ProcessOffers ps) l
-    offers_so r n o h = let s = each r n o h in record {
-      results = s.results;
-      count = s.count;
-      are = s.are;
-      offers = s.offers;
-      nacks = s.nacks;
-      standing = offers_as ps first r.thread s.results s.offers s.nacks are s.standing;
-      offered = s.offered;
-      whole = s.whole;
-      bound = s.bound;
-      no_others = s.no_others;
-    }
-
--- in a world in which nothing was done its one thread runs
-all_run : AllRun (ledger_of (start_world 1 1 1 0).table)
-unfolding ledger_of start_world
-all_run t =
-    ap (λ (f : ℕ → Course). f t) (course_in_ledger (start_world 1 1 1 0).table)
-    ∙ ⊎_elim
-    (λ (h : t < 1). start_course 1 1 0 t h ∙ ap (λ (b : Bool). cond b Unstarted (Running 0)) (nobody_waits t) ∙ sym (ap (λ (b : Bool). cond b (Running 0) Unstarted) (lt-ltb t 1 h)))
-    (λ (h : 1 ≤ t). course_outside (start_world 1 1 1 0).table t h ∙ sym (ap (λ (b : Bool). cond b (Running 0) Unstarted) (le-ltb t 1 h)))
-    (cases_lt t 1)
-
--- the ledger of a world in which nothing was done is one of any processes
-pub empty_ledger : IsLawful (ledger_of (start_world 1 1 1 0).table) × IsOfAny (ledger_of (start_world 1 1 1 0).table) × ((ledger_of (start_world 1 1 1 0).table).rows ≡ 1)
-unfolding ledger_of start_world
-empty_ledger = (
-  lawful_ledger (start_world 1 1 1 0).table (kept_start 1 1 1 0 (omega arith) (omega arith)).linked,
-  λ ps. record {
-    running = all_run;
-    each = stands-ledger (ProcessOffers ps) (start_world 1 1 1 0).table (stands-start (ProcessOffers ps) 1 1 1 0);
-  },
-  refl,
-)
-
--- what the processes spawn, their machines' texts do
-pub knows-later : (ps : List Proc) (first : List Suspended) (later : ℕ) → AreFirst ps first
-    → HasSpawned ps later → KnowsLater first later
-knows-later ps first later are none t low bit s m is =
-    let f = are.1 s m is in
-    ap (spawns_block t) f.2.body ∙ none t s f.0 low bit f.1
+-- FIRST MACHINES
 
 -- one machine more, of the next process
 pub first_more : (ps : List Proc) (first : List Suspended) (t : ℕ) (p : Proc) (m : Suspended)
@@ -225,6 +137,24 @@ table_of_first cells ps first is are some few = record { processes = ps; some = 
 pub is_housing : (cells : GridOf Suspended) → IsTable cells → 0 < length cells.first
 is_housing cells table = (let same = table.first.0 in let some = table.some in omega (arith, same, some))
 
+-- a machine that has come to an open sync is ready to be parked once its nacks are bound and its offers drafted
+pub ready : (first : List Suspended) (p q d : PassOf Suspended) (r : Row) (m : Suspended) → IsNow first p r m → m.machine.value.phase ≡ Open (offers_in m.machine.value.phase) (nacks_in m.machine.value.phase)
+    → ((n : NackName) (b : Binding) → Has p.seen.bound (n, b) → bound_row n b ≢ r) → OnlyBinds p q → AreBound r (nacks_in m.machine.value.phase) (length (nacks_in m.machine.value.phase)) p.seen q.seen
+    → Redrafts (λ x k. x ≡ r) q.seen d.seen → d.results ≡ q.results → IsDraft d.seen r (offers_in m.machine.value.phase) → IsReady doings first d.results d.seen r m
+ready first p q d r m now open_now free only are redrafts results drafted = record {
+  earlier = now.earlier;
+  count = now.count;
+  seen = subst (λ (l : List (ℕ × List Chosen)). (now.earlier ≡ []) ⊎ Has l (r.thread, now.earlier)) (sym (results ∙ only.results)) now.seen;
+  offers = offers_in m.machine.value.phase;
+  nacks = nacks_in m.machine.value.phase;
+  standing = (now.machine, open_now);
+  drafted = drafted;
+  bound = λ scope k e. subst (λ (l : List (NackName × Binding)). Has l (nack_of_row r k, binding_of r scope)) (sym redrafts.bound) (are.bound scope k (slice_get_within (nacks_in m.machine.value.phase) scope k e) e);
+  no_others = λ scope k h. only_scopes r (nacks_in m.machine.value.phase) (length (nacks_in m.machine.value.phase)) p.seen q.seen are free scope k
+      (subst (λ (l : List (NackName × Binding)). Has l (nack_of_row r k, binding_of r scope)) redrafts.bound h);
+  begun = λ zero. subst (λ (l : List Row). Has l r) (sym (redrafts.begun ∙ only.begun)) (now.begun zero);
+}
+
 -- NACKS ARE NEW. A machine that stands for the row's thread comes there to an event with such nacks of its scopes.
 module _ (cells : GridOf Suspended) (table : IsTable cells) (t : ℕ) where
   offered : (results : List Chosen) (m : Suspended) (os : List Offer) (ns : List ℕ) → StandsFor cells.first m t results os ns → ProcessOffers table.processes t results os ns
@@ -248,7 +178,7 @@ module _ (cells : GridOf Suspended) (table : IsTable cells) (t : ℕ) where
 
   -- so no earlier row has one of them
   pub none_earlier : (all : List (ℕ × List Chosen)) (earlier : List Chosen) (m : Suspended) (os : List Offer) (ns : List ℕ) (scope k : ℕ) (b : Binding) → StandsFor cells.first m t earlier os ns → slice_get ns scope ≡ Some k
-      → (earlier ≡ []) ⊎ Has all (t, earlier) → b.sync < length earlier → IsEarlier StandsFor cells.first all (record { thread = t; k = k }) b → ⊥
+      → (earlier ≡ []) ⊎ Has all (t, earlier) → b.sync < length earlier → IsEarlier doings cells.first all (record { thread = t; k = k }) b → ⊥
   none_earlier all earlier m os ns scope k b stands e seen below before =
       let one : b.sync ≡ length earlier =
       one-sync table.processes t earlier k b.sync (length earlier)
@@ -264,7 +194,7 @@ pub binds : (cells : GridOf Suspended) (p : PassOf Suspended) (r : Row) (m : Sus
     → IsTable cells → IsNow cells.first p r m → (open_now : m.machine.value.phase ≡ Open (offers_in m.machine.value.phase) (nacks_in m.machine.value.phase)) → slice_get (nacks_in m.machine.value.phase) scope ≡ Some k
     → ((n : NackName) (b : Binding) → Has p.seen.bound (n, b) → bound_row n b ≢ r) → AreBound r (nacks_in m.machine.value.phase) scope p.seen s
     → ((n : NackName) (a b : Binding) → Has t.bound (n, a) → Has t.bound (n, b) → a ≡ b)
-    → Bound s t k r scope answer → (IsFalse answer → BoundBefore StandsFor cells.first p.results t k r)
+    → Bound s t k r scope answer → (IsFalse answer → BoundBefore doings cells.first p.results t k r)
     → t ≡ see_bound (nack_of_row r k) (record { sync = r.sync; scope = scope }) s
 binds cells p r m scope k s t true table now open_now e free before one bound earlier = bound.0
 binds cells p r m scope k s t false table now open_now e free before one bound earlier =

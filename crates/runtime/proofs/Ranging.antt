@@ -28,7 +28,8 @@ use Rattle.cell.specs.Calls.{GridOf}
 use Rattle.cell_table.specs.declared.view.Seen.{Seen}
 use Rattle.runtime.specs.declared.resident.Suspended.{Suspended}
 use Rattle.runtime.specs.Machines.{IsMachineOf, IsTable, NamesInRange, StandsFor}
-use Rattle.runtime.proofs.Machines.{offers_as, offers_of_open}
+use Rattle.runtime.proofs.Ledgers.{offers_as}
+use Rattle.runtime.proofs.Machines.{offers_of_open}
 use Rattle.cell_table.specs.Sight.{Gets, HaveOffer, IsResult, SeesOffer}
 
 -- MESSAGES that were read from words

@@ -5,7 +5,6 @@ use Rattle.std.proofs.lemmas.Option.{none-some, same_Some}
 use Rattle.std.specs.Prelude.{⊤, if◌then◌else◌}
 use Rattle.event.specs.Tree.{Tree, wraps_at, scope_nacks}
 use Rattle.script_tree.specs.Trees.{Event, Sends, Receives, IsReady, IsNever, IsCancelled, IsJoined, Chooses, Wraps, Guards, Nacks, Events, NoMembers, Members, Stmt, Lets, Prints, Syncs, Branches, Loops, LoopsForever, Ends, Spawns, Block, Stops, Runs}
-use Rattle.protocol_values.specs.declared.Atom.{Atom}
 use Rattle.protocol_values.specs.declared.Message.{Message}
 use Rattle.thread.specs.declared.Fault.{Fault}
 use Rattle.thread.specs.Values.{expr_value, list_value, test_value, with_names}

@@ -1,5 +1,5 @@
 -- The machines that stand for the threads, and what a worker knows of one.
-use Rattle.std.specs.Prelude.{◌≡◌, ◌≢◌, ◌⊎◌, ◌<◌, ◌≤◌, ℕ, List, [], ◌∷◌, length, false, Some, slice_get}
+use Rattle.std.specs.Prelude.{◌≡◌, ◌≢◌, ◌⊎◌, ◌<◌, ◌≤◌, ℕ, ⊤, List, [], ◌∷◌, length, take, false, Some, slice_get, Contains}
 use Rattle.protocol_values.specs.declared.Binding.{Binding}
 use Rattle.protocol_values.specs.declared.NackName.{NackName}
 use Rattle.protocol_values.specs.declared.Offer.{Offer}
@@ -7,34 +7,25 @@ use Rattle.protocol_values.specs.declared.Row.{Row}
 use Rattle.script_tree.specs.Processes.{Proc}
 use Rattle.script_tree.specs.Spawning.{has_bit, spawns_block}
 use Rattle.script_tree.specs.Trees.{block_of}
-use Rattle.thread.specs.After.{Chosen}
-use Rattle.thread.specs.Machines.{IsAfter, Open, SameProcess, StartsAs}
+use Rattle.thread.specs.After.{Chosen, after}
+use Rattle.thread.specs.Machines.{HasStopped, IsAfter, Open, Over, Phase, SameProcess, StartsAs, Stuck}
 use Rattle.thread.specs.Ranges.{BaseIsIn, ResultsAreIn}
-use Rattle.protocol.specs.Standing.{IsLeft, binding_of}
+use Rattle.protocol.specs.Standing.{IsLeft, Stands, binding_of}
 use Rattle.protocol.specs.Worlds.{nack_of_row}
-use Rattle.protocol.specs.Ledgers.{Ledger}
 use Rattle.protocol.specs.Tables.{bound_row}
-use Rattle.journal_order.specs.Ledgers.{IsLedgerOf}
+use Rattle.journal_replay.specs.Starting.{spawned_in}
 use Rattle.atomic_table.specs.Table.{rest}
 use Rattle.cell.specs.Calls.{GridOf, PassOf}
 use Rattle.cell_table.specs.declared.view.Seen.{Seen}
-use Rattle.cell_table.specs.Sight.{Has}
+use Rattle.cell_table.specs.Sight.{Has, SawEnded}
 use Rattle.runtime.specs.declared.resident.Suspended.{Suspended}
 use Rattle.runtime.specs.declared.turns.Taken.{Taken}
 
--- no text of these machines' processes spawns the thread
-abbrev pub NoneSpawns : List Suspended → ℕ → Type 0
-NoneSpawns first t = (s : ℕ) (m : Suspended) → slice_get first s ≡ Some m → spawns_block t (block_of m.machine.value.body) ≡ false
+-- the mask has a bit for each process that one of them spawns
+abbrev pub MarksSpawned : List Proc → ℕ → Type 0
+MarksSpawned ps later = (t s : ℕ) (p : Proc) → t < 64 → has_bit later t ≡ false → slice_get ps s ≡ Some p → spawns_block t p.body ≡ false
 
--- the mask has a bit for each thread that one of them spawns
-abbrev pub KnowsLater : List Suspended → ℕ → Type 0
-KnowsLater first later = (t : ℕ) → t < 64 → has_bit later t ≡ false → NoneSpawns first t
-
--- so it is with the processes themselves
-abbrev pub HasSpawned : List Proc → ℕ → Type 0
-HasSpawned ps later = (t s : ℕ) (p : Proc) → t < 64 → has_bit later t ≡ false → slice_get ps s ≡ Some p → spawns_block t p.body ≡ false
-
--- No machine's process spawns the thread; the machine runs the process of the thread's first one, and stands where it leads after these results, which words have room for
+-- The machine runs the process of the thread's first one, and stands where it leads after these results, which words have room for.
 pub record IsMachineOf (first : List Suspended) (m : Suspended) (t : ℕ) (results : List Chosen) : Type 0 where
   pub start : Suspended
   pub is_first : slice_get first t ≡ Some start
@@ -42,11 +33,30 @@ pub record IsMachineOf (first : List Suspended) (m : Suspended) (t : ℕ) (resul
   pub given : m.machine.value.results ≡ results
   pub after : IsAfter m.machine.value
   pub in_range : ResultsAreIn results
-  pub at_once : NoneSpawns first t
 
 -- and offers these there, with these nacks of its scopes
 abbrev pub StandsFor : List Suspended → Suspended → ℕ → List Chosen → List Offer → List ℕ → Type 0
 StandsFor first m t results offers nacks = IsMachineOf first m t results × (m.machine.value.phase ≡ Open offers nacks)
+
+-- and has spawned the other process there, behind the last of the results, and after no fewer of them
+pub record SpawnsFor (first : List Suspended) (m : Suspended) (t : ℕ) (results : List Chosen) (other : ℕ) : Type 0 where
+  pub machine : IsMachineOf first m t results
+  pub stopped : HasStopped m.machine.value.phase
+  pub spawned : Contains m.machine.value.spawned other
+  pub not_before : (n : ℕ) → n < length results → Contains (spawned_in (after (block_of m.machine.value.body) m.machine.value.variables t (take n results))) other → ⊥
+
+-- and has come to its end, or to a fault
+abbrev pub IsAtEnd : Phase → Type 0
+IsAtEnd Over = ⊤
+IsAtEnd (Stuck fault) = ⊤
+IsAtEnd phase = ⊥
+
+abbrev pub EndsFor : List Suspended → Suspended → ℕ → List Chosen → Type 0
+EndsFor first m t results = IsMachineOf first m t results × IsAtEnd m.machine.value.phase
+
+-- what machines do for their threads
+abbrev pub doings : Stands Suspended
+doings = record { follows = IsMachineOf; offers = StandsFor; starts = SpawnsFor; ends = EndsFor }
 
 -- these machines are those of the processes, thread by thread
 abbrev pub AreFirst : List Proc → List Suspended → Type 0
@@ -59,9 +69,9 @@ pub record IsTable (cells : GridOf Suspended) : Type 0 where
   pub few : length processes ≤ 64
   pub first : AreFirst processes cells.first
 
--- the pass has not seen the row opened, nor begun with it, and no nack that it has seen is bound to it
+-- the pass has not seen the row opened, nor begun with it, no nack that it has seen is bound to it, and it has not seen the thread end
 abbrev pub IsUntouched : Seen → Row → Type 0
-IsUntouched s r = (¬ Has s.opened r) × (¬ Has s.begun r) × ((n : NackName) (b : Binding) → Has s.bound (n, b) → bound_row n b ≢ r)
+IsUntouched s r = (¬ Has s.opened r) × (¬ Has s.begun r) × ((n : NackName) (b : Binding) → Has s.bound (n, b) → bound_row n b ≢ r) × (¬ SawEnded s r.thread)
 
 -- what was untouched of other threads still is
 abbrev pub LeavesOthers : ℕ → Seen → Seen → Type 0
@@ -70,7 +80,7 @@ LeavesOthers thread s t = (r : Row) → r.thread ≢ thread → IsUntouched s r 
 -- the pass has taken the row, and what stands for its thread came out last: it is to be given the row's message last
 abbrev pub IsToResume : List Suspended → PassOf Suspended → Taken → Type 0
 IsToResume first p t =
-    (told : List Chosen) × Has p.results (t.row.thread, told) × (value : Suspended) × (p.out ≡ (t.row.thread, Some value) ∷ rest p.out) × IsLeft StandsFor first value t.row t.joined.own told t.message
+    (told : List Chosen) × Has p.results (t.row.thread, told) × (value : Suspended) × (p.out ≡ (t.row.thread, Some value) ∷ rest p.out) × IsLeft doings first value t.row t.joined.own told t.message
 
 -- the nacks that an offer names, and the scopes round it, are in the range of words
 abbrev pub IsIn : Offer → Type 0
@@ -80,19 +90,21 @@ IsIn o = BaseIsIn o.base × (o.scopes < 16)
 abbrev pub NamesInRange : List Offer → Type 0
 NamesInRange offers = (n : ℕ) (o : Offer) → slice_get offers n ≡ Some o → IsIn o
 
--- a machine stands for the row's thread after the results of the rows before, as the pass has them
+-- a machine stands for the row's thread after the results of the rows before, as the pass has them, which has not seen the thread end
 pub record IsNow (first : List Suspended) (p : PassOf Suspended) (r : Row) (m : Suspended) : Type 0 where
   pub earlier : List Chosen
   pub count : length earlier ≡ r.sync
   pub seen : (earlier ≡ []) ⊎ Has p.results (r.thread, earlier)
   pub machine : IsMachineOf first m r.thread earlier
   pub begun : r.sync ≡ 0 → Has p.seen.begun r
+  pub alive : ¬ SawEnded p.seen r.thread
 
 -- nothing but nacks was bound, or seen bound
 pub record OnlyBinds (p q : PassOf Suspended) : Type 0 where
   pub held : q.seen.held ≡ p.seen.held
   pub opened : q.seen.opened ≡ p.seen.opened
   pub begun : q.seen.begun ≡ p.seen.begun
+  pub ended : q.seen.ended ≡ p.seen.ended
   pub results : q.results ≡ p.results
   pub out : q.out ≡ p.out
 
@@ -100,7 +112,3 @@ pub record OnlyBinds (p q : PassOf Suspended) : Type 0 where
 pub record AreBound (r : Row) (nacks : List ℕ) (count : ℕ) (s t : Seen) : Type 0 where
   pub bound : (scope k : ℕ) → scope < count → slice_get nacks scope ≡ Some k → Has t.bound (nack_of_row r k, binding_of r scope)
   pub only : (n : NackName) (b : Binding) → Has t.bound (n, b) → Has s.bound (n, b) ⊎ ((scope : ℕ) × (k : ℕ) × (slice_get nacks scope ≡ Some k) × (scope < count) × (n ≡ nack_of_row r k) × (b ≡ binding_of r scope))
-
--- whatever the processes, it is a ledger of them: it has no offer
-abbrev pub IsOfAny : Ledger → Type 0
-IsOfAny l = (ps : List Proc) → IsLedgerOf ps l

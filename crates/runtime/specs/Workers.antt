@@ -14,21 +14,19 @@ use Rattle.runtime.specs.declared.crew.Crew.{Crew}
 use Rattle.runtime.specs.declared.crew.Shared.{Shared}
 use Rattle.runtime.specs.declared.resident.Suspended.{Suspended}
 use Rattle.runtime.specs.declared.worker.Worker.{Worker}
-use Rattle.runtime.specs.Machines.{IsTable, KnowsLater}
+use Rattle.runtime.specs.Machines.{IsTable}
 
--- its pass is one of the crew's table of machines, its lanes and its end are of what the crew shares, and that knows which threads
--- a text spawns
+-- its pass is one of the crew's table of machines, its lanes and its end are of what the crew shares
 abbrev pub IsWorkerOf : {R G : Type 0} → Crew R G → Worker → Type 0
 IsWorkerOf crew w = IsPassOf crew.cells.now w.pass × IsMeetPassOf crew.shared.now.meet w.lanes × IsEndOf crew.shared.now.ready w.end × IsTable crew.cells.now
-    × KnowsLater crew.cells.now.first crew.shared.now.later
 
--- a pass of the table that has seen nothing opened or bound, and has begun with no thread
+-- a pass of the table that has seen nothing opened or bound and no thread end, and has begun with no thread
 abbrev pub IsNewPassOf : GridOf Suspended → PassOf Suspended → Type 0
-IsNewPassOf cells p = IsPassOf cells p × (p.seen.opened ≡ []) × (p.seen.begun ≡ []) × (p.seen.bound ≡ []) × IsTable cells
+IsNewPassOf cells p = IsPassOf cells p × (p.seen.opened ≡ []) × (p.seen.begun ≡ []) × (p.seen.bound ≡ []) × (p.seen.ended ≡ []) × IsTable cells
 
 -- a worker before its first turn
 abbrev pub IsNewWorkerOf : GridOf Suspended → Shared → Worker → Type 0
-IsNewWorkerOf cells shared w = IsNewPassOf cells w.pass × IsMeetPassOf shared.meet w.lanes × IsEndOf shared.ready w.end × KnowsLater cells.first shared.later
+IsNewWorkerOf cells shared w = IsNewPassOf cells w.pass × IsMeetPassOf shared.meet w.lanes × IsEndOf shared.ready w.end
 
 -- what the one pass has seen, the other has seen too
 pub record HasHeard (told p : PassOf Suspended) : Type 0 where

@@ -10,8 +10,7 @@ use meet::Meet;
 use meet_queues::Ready;
 use std::alloc::Global;
 
-/// What all workers share, beside the cells. Bit t of `later` is set where some process spawns process t: the
-/// workers pass by its thread, and what it does is told by the replay that completes their commits.
+/// What all workers share, beside the cells.
 #[derive(Drop)]
 pub(crate) struct Shared {
     pub(crate) alloc: Global,
@@ -19,7 +18,6 @@ pub(crate) struct Shared {
     pub(crate) ready: Ready,
     pub(crate) activity: Activity,
     pub(crate) notes: Notes,
-    pub(crate) later: u64,
 }
 
 /// The workers of a run, as one of them sees all: the runtime, the table, what they share beside it, the gate that they

@@ -11,9 +11,9 @@ pub(crate) struct Suspended {
 
 impl Resident for Suspended {
     ghost use Rattle.std.specs.Prelude.{true};
-    ghost use Rattle.runtime.specs.Machines.{StandsFor};
+    ghost use Rattle.runtime.specs.Machines.{doings};
 
     ghost houses = { true };
 
-    ghost stands = { λ first value thread results offers nacks. StandsFor first value thread results offers nacks };
+    ghost stands = { doings };
 }

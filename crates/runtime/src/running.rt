@@ -1,6 +1,6 @@
 //! A run: its table and its workers are made, the workers work, and what they leave is completed.
 
-ghost use Rattle.std.specs.Prelude.{◌≡◌, ◌≢◌, ◌<◌, ◌≤◌, ◌↔◌, Err, IfOk, length, map};
+ghost use Rattle.std.specs.Prelude.{◌≡◌, ◌≢◌, ◌<◌, ◌≤◌, ◌↔◌, [], Err, IfOk, length, map};
 ghost use Rattle.script_tree.specs.Processes.{proc_of};
 ghost use Rattle.protocol.specs.Ledgers.{Ledger, IsLawful};
 ghost use Rattle.script.specs.Scripts.{script_of};
@@ -8,7 +8,7 @@ ghost use Rattle.journal_order.specs.Ledgers.{IsLedgerOf};
 ghost use Rattle.journal.specs.Records.{Completes};
 ghost use Rattle.runtime.specs.Headline.{TellsMaximalRun};
 ghost use Rattle.runtime.specs.Limits.{AreRows, AreWorkers};
-ghost use Rattle.runtime.specs.Machines.{AreFirst, HasSpawned, IsOfAny};
+ghost use Rattle.runtime.specs.Machines.{AreFirst, MarksSpawned};
 ghost use Rattle.runtime.specs.declared.fault.RunFault.TheVariants.{Workers, Rows};
 
 use crate::activity::Activity;
@@ -73,7 +73,7 @@ fn first_machines(alloc: Global, processes: &[Proc]) -> Result<Vec<Suspended>, H
 
 /// The processes that one of these spawns: bit t is set where one spawns process t.
 fn later(processes: &[Proc]) -> u64
-    ensures { HasSpawned (map proc_of processes.now) result }
+    ensures { MarksSpawned (map proc_of processes.now) result }
 {
     let mut later = 0;
     for process in processes {
@@ -109,10 +109,15 @@ fn work_within<R: Threads + Wait + Sync, G: Gate + StepGate + Sync>(
         ready,
         activity: Activity::new(usize::from(workers)),
         notes: Notes::new(alloc, processes.len())?,
-        later: later(processes),
     };
     let used = rows_used(processes, rows);
-    let (cells, passes) = Cells::with_machines(alloc, first, used, workers)?;
+    let (cells, passes) = Cells::with_machines_later(
+        alloc,
+        first,
+        used,
+        workers,
+        later(processes),
+    )?;
     let crew = Crew {
         rt,
         cells: &cells,
@@ -155,7 +160,7 @@ pub fn work<R: Threads + Wait + Sync, G: Gate + StepGate + Sync>(
 
 /// A ledger with no commit.
 fn no_commits(alloc: Global) -> Result<Ledger, RunFault>
-    ensures lawful { IfOk result (λ l. IsLawful l × IsOfAny l × (l.rows ≡ 1)) }
+    ensures lawful { IfOk result (λ l. IsLawful l × IsLedgerOf [] l × (l.rows ≡ 1)) }
     ensures faults { (result ≢ Err Workers) × (result ≢ Err Rows) }
 {
     match World::start(alloc, 1, 1, 1) {

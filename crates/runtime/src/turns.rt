@@ -2,19 +2,18 @@
 //! enters its first row, which is searched for behind the first turns of all; a later turn advances a row that is
 //! ready, resumes its thread, and enters and searches for the next row.
 
-ghost use Rattle.std.specs.Prelude.{◌≡◌, ◌≢◌, ◌<◌, IfOk, IfSome, None, false, is_some, true};
+ghost use Rattle.std.specs.Prelude.{◌≡◌, ◌≢◌, IfOk, IfSome, None, is_some, true};
 ghost use Rattle.protocol_values.specs.declared.Binding.{Binding};
 ghost use Rattle.protocol_values.specs.declared.NackName.{NackName};
 ghost use Rattle.protocol.specs.Tables.{bound_row};
 ghost use Rattle.protocol_values.specs.Values.{next_row};
-ghost use Rattle.script_tree.specs.Spawning.{has_bit};
 ghost use Rattle.thread.specs.Machines.{Tells};
 ghost use Rattle.thread.specs.declared.machine.Turn.TheVariants.{Offering};
 ghost use Rattle.thread.specs.Ranges.{MessageIsIn};
 ghost use Rattle.cell.specs.Calls.{Holds, IsPassOf, IsRowOf};
-ghost use Rattle.cell_table.specs.Sight.{Has};
+ghost use Rattle.cell_table.specs.Sight.{Has, SawEnded};
 ghost use Rattle.protocol.specs.Worlds.{first_row};
-ghost use Rattle.runtime.specs.Machines.{IsNow, IsTable, IsToResume, IsUntouched, LeavesOthers, NoneSpawns};
+ghost use Rattle.runtime.specs.Machines.{IsNow, IsTable, IsToResume, IsUntouched, LeavesOthers};
 ghost use Rattle.runtime.specs.Workers.{IsWorkerOf};
 
 use crate::binding::bind_all;
@@ -72,7 +71,7 @@ impl<R: Wait, G: Gate + StepGate> Crew<'_, R, G> {
         ensures others { LeavesOthers thread worker.old.pass.seen worker.new.pass.seen }
     {
         let row = Row { thread, sync: 0 };
-        if !worker.pass.holds(row) || !self.cells.has(row) || self.waits(thread) {
+        if !worker.pass.holds(row) || !self.cells.has(row) {
             return Ok(());
         }
         self.gate.before(worker.number, thread);
@@ -82,19 +81,11 @@ impl<R: Wait, G: Gate + StepGate> Crew<'_, R, G> {
         Ok(())
     }
 
-    /// Whether some process spawns the thread's.
-    fn waits(&self, thread: u8) -> bool
-        ensures { result ≡ false → (thread < 64) × (has_bit self.now.shared.now.later thread ≡ false) }
-    {
-        thread >= 64 || (self.shared.later >> thread) % 2 == 1
-    }
-
     /// Runs the thread to its first stop, and opens its first row where it offers something there. The answer
     /// is the row's nacks, if it does.
     fn begin(&self, pass: &mut Pass<Suspended>, row: Row) -> Result<Option<Nacks>, Halt>
         requires here { IsPassOf self.now.cells.now pass.old × IsRowOf self.now.cells.now row × IsTable self.now.cells.now }
         requires first { (row.sync ≡ 0) × Has pass.old.seen.held row }
-        requires at_once { NoneSpawns self.now.cells.now.first row.thread }
         requires untouched { IsUntouched pass.old.seen row }
         ensures here { IsPassOf self.now.cells.now pass.new }
         ensures others { LeavesOthers row.thread pass.old.seen pass.new.seen }
@@ -245,6 +236,7 @@ impl<R: Wait, G: Gate + StepGate> Crew<'_, R, G> {
         requires next { next ≡ next_row taken.row }
         requires fresh { Has pass.old.seen.held next × (¬ Has pass.old.seen.opened next) }
         requires free { (n : NackName) (b : Binding) → Has pass.old.seen.bound (n, b) → bound_row n b ≢ next }
+        requires alive { ¬ SawEnded pass.old.seen next.thread }
         requires resumes { IsToResume self.now.cells.now.first pass.old taken }
         requires message { MessageIsIn taken.message }
         ensures here { IsPassOf self.now.cells.now pass.new }

@@ -4,7 +4,6 @@ ghost use Rattle.std.specs.Prelude.{◌≡◌, [], All, IfNone, IfOk, IfSome};
 ghost use Rattle.cell.specs.Calls.{IsPassOf};
 ghost use Rattle.meet.specs.Rooms.{IsMeetPassOf};
 ghost use Rattle.meet_queues.specs.Ends.{IsEndOf};
-ghost use Rattle.runtime.specs.Machines.{KnowsLater};
 ghost use Rattle.runtime.specs.Workers.{HasHeard, IsNewPassOf, IsNewWorkerOf};
 
 use crate::crew::Crew;
@@ -56,7 +55,6 @@ pub(crate) fn workers_of<R, G>(
     requires passes { All (λ p. IsNewPassOf crew.now.cells.now p) passes.items }
     requires lanes { All (λ l. IsMeetPassOf crew.now.shared.now.meet l) lanes.items }
     requires ends { All (λ e. IsEndOf crew.now.shared.now.ready e) ends.items }
-    requires later { KnowsLater crew.now.cells.now.first crew.now.shared.now.later }
     ensures { IfOk result (λ workers. All (λ w. IsNewWorkerOf crew.now.cells.now crew.now.shared.now w) workers.items) }
 {
     let mut lanes = lanes;

@@ -5,7 +5,7 @@ use Rattle.cell.specs.Attempts.{BoundBefore}
 use Rattle.cell_table.specs.declared.view.Seen.{Seen}
 use Rattle.cell_table.specs.Sight.{see_bound}
 use Rattle.protocol.specs.Worlds.{nack_of_row}
-use Rattle.runtime.specs.Machines.{LeavesOthers, StandsFor}
+use Rattle.runtime.specs.Machines.{LeavesOthers, doings}
 use Rattle.runtime.proofs.Machines.{at_scope, binds, bound_more, is_housing, leaves_bound, leaves_then, nacks_rise, open_is}
 use Rattle.runtime.proofs.Rising.{rises_below}
 use Rattle.runtime.proofs.binding.bind_all.Goals as goal
@@ -38,13 +38,14 @@ loop-k-preserved c =
     let now : c.bind.new.pass.seen ≡ see_bound (nack_of_row row k) (record { sync = row.sync; scope = c.loop-k.scope }) c.loop-k.pass.seen =
     binds c.args.cells.now c.args.pass.now row c.args.suspended.now c.loop-k.scope k c.loop-k.pass.seen c.bind.new.pass.seen c.bind.result c.requires.here.2 c.requires.stands (open_is phase c.requires.open) e c.requires.free before.bound
     c.bind.ensures.here.4.one_bound c.bind.ensures.bound
-    (λ no. subst (λ (told : List (ℕ × List Chosen)). BoundBefore StandsFor c.args.cells.now.first told c.bind.new.pass.seen k row) before.only.results (c.bind.ensures.earlier no (is_housing c.args.cells.now c.requires.here.2))) in
+    (λ no. subst (λ (told : List (ℕ × List Chosen)). BoundBefore doings c.args.cells.now.first told c.bind.new.pass.seen k row) before.only.results (c.bind.ensures.earlier no (is_housing c.args.cells.now c.requires.here.2))) in
     record {
       here = c.bind.ensures.here;
       only = record {
         held = ap (λ (s : Seen). s.held) now ∙ before.only.held;
         opened = ap (λ (s : Seen). s.opened) now ∙ before.only.opened;
         begun = ap (λ (s : Seen). s.begun) now ∙ before.only.begun;
+        ended = ap (λ (s : Seen). s.ended) now ∙ before.only.ended;
         results = c.bind.ensures.results.0 ∙ before.only.results;
         out = c.bind.ensures.results.1 ∙ before.only.out;
       };

@@ -25,7 +25,7 @@ loop-pass-preserved g c =
       all_rest P c.in-Some.pass left all,
       room.0,
       popped.0,
-      all_pushed (λ (w : Worker). IsNewWorkerOf crew.cells.now crew.shared.now w) true c.loop-pass.workers.items c.push.new.self.items worker c.in_ok-push.ensures.items before.5 (all_head P c.in-Some.pass left all, room.1, popped.1, c.requires.later),
+      all_pushed (λ (w : Worker). IsNewWorkerOf crew.cells.now crew.shared.now w) true c.loop-pass.workers.items c.push.new.self.items worker c.in_ok-push.ensures.items before.5 (all_head P c.in-Some.pass left all, room.1, popped.1),
     )
 
 pub loop-pass-init : goal.loop-pass-init

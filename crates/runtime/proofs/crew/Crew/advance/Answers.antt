@@ -1,7 +1,7 @@
 use Rattle.std.proofs.Common.{Some, sym, subst}
 use Rattle.protocol_values.specs.declared.Message.{Message}
 use Rattle.protocol.specs.Standing.{IsLeft}
-use Rattle.runtime.specs.Machines.{StandsFor}
+use Rattle.runtime.specs.Machines.{doings}
 use Rattle.runtime.proofs.Machines.{holds_from, is_housing}
 use Rattle.runtime.proofs.Ranging.{result_in_range}
 use Rattle.runtime.proofs.crew.Crew.advance.Goals as goal
@@ -15,7 +15,7 @@ resume-opened-requires-clause-resumes g c =
       out.1,
       comes.0,
       holds_from c.take.new.pass c.args.row (Some comes.0) c.result.new.pass.out comes.2,
-      subst (λ (m : Message). IsLeft StandsFor c.args.self.now.cells.now.first comes.0 c.args.row c.in-Some-take.joined.own out.0 m) (sym (comes.4 c.in-Some-result.message c.in-Some-result.ensures.some)) comes.3,
+      subst (λ (m : Message). IsLeft doings c.args.self.now.cells.now.first comes.0 c.args.row c.in-Some-take.joined.own out.0 m) (sym (comes.4 c.in-Some-result.message c.in-Some-result.ensures.some)) comes.3,
     )
 
 pub resume-opened-requires-clause-message : goal.resume-opened-requires-clause-message

@@ -1,7 +1,12 @@
-use Rattle.std.proofs.Common.{rules, ◌≡◌, ◌≤◌, ℕ, List, length, subst}
+use Rattle.std.proofs.Common.{rules, ◌≡◌, ◌≤◌, ℕ, List, Option, Some, length, refl, subst, sym}
+use Rattle.thread.specs.After.{Chosen}
 use Rattle.thread.specs.Machines.{nacks_in, offers_in}
-use Rattle.runtime.specs.Machines.{NamesInRange}
-use Rattle.runtime.proofs.Machines.{open_phase}
+use Rattle.cell.specs.Calls.{Holds}
+use Rattle.cell_table.specs.Rule.{IsReady}
+use Rattle.cell_table.specs.declared.view.Seen.{Seen}
+use Rattle.runtime.specs.Machines.{NamesInRange, doings}
+use Rattle.runtime.specs.declared.resident.Suspended.{Suspended}
+use Rattle.runtime.proofs.Machines.{open_phase, ready}
 use Rattle.runtime.proofs.Ranging.{names_in_range}
 use Rattle.runtime.proofs.crew.Crew.enter.Goals as goal
 
@@ -16,3 +21,20 @@ offers_fit-requires-clause-names g c =
     let few : length (nacks_in phase) ≤ 4 = subst (λ (l : List ℕ). length l ≤ 4) nacks c.nacks.ensures.few in
     subst NamesInRange offers
     (names_in_range c.args.self.now.cells.now c.args.row.thread m c.requires.stands.earlier (offers_in phase) (nacks_in phase) c.requires.here.2 (c.requires.stands.machine, open_now) few)
+
+pub park-requires-clause-ready : goal.park-requires-clause-ready
+park-requires-clause-ready g c = λ below.
+    let m = c.args.suspended in
+    let open_now = open_phase m.machine.value.phase (search rules) in
+    ready c.args.self.now.cells.now.first c.args.pass.now c.bind_all.new.pass c.draft.new.pass c.args.row m c.requires.stands open_now c.requires.free c.bind_all.ensures.only c.bind_all.ensures.bound c.draft.ensures.others c.draft.ensures.results.0 (search rules)
+
+pub open-requires-clause-parked : goal.open-requires-clause-parked
+open-requires-clause-parked g c = λ housed here.
+    let p = c.park.new.pass in
+    let m = c.args.suspended in
+    let open_now = open_phase m.machine.value.phase (search rules) in
+    let is_ready = ready c.args.self.now.cells.now.first c.args.pass.now c.bind_all.new.pass c.draft.new.pass c.args.row m c.requires.stands open_now c.requires.free c.bind_all.ensures.only c.bind_all.ensures.bound c.draft.ensures.others c.draft.ensures.results.0 (search rules) in (
+      m,
+      subst (λ (l : List (ℕ × Option Suspended)). Holds {M = Suspended} (record { of = p.of; seen = p.seen; made = p.made; results = p.results; out = l }) c.args.row (Some m)) (sym c.park.ensures.parked) refl,
+      subst (λ (z : List (ℕ × List Chosen) × Seen). IsReady doings c.args.self.now.cells.now.first z.0 z.1 c.args.row m) (λ i. (sym c.park.ensures.made.1 i, sym c.park.ensures.seen i)) is_ready,
+    )
