@@ -8,7 +8,7 @@ ghost use Rattle.protocol_values.specs.declared.NackName.{NackName};
 ghost use Rattle.protocol.specs.Tables.{bound_row};
 ghost use Rattle.cell.specs.Calls.{Holds, IsHousing, IsPassOf, IsRowOf};
 ghost use Rattle.cell_table.specs.Rule.{seen_nothing};
-ghost use Rattle.cell_table.specs.Sight.{AreOffers, Has};
+ghost use Rattle.cell_table.specs.Sight.{AreOffers, Has, SawEnded};
 ghost use Rattle.protocol.specs.Worlds.{first_row};
 ghost use Rattle.test_journal.specs.Fetched.{HasNacks, HasResults};
 ghost use Rattle.test_journal.specs.declared.tests.fetched.Suspended.{Suspended};
@@ -40,7 +40,7 @@ impl Resident for Suspended {
 
     ghost houses = { true };
 
-    ghost stands = { λ first value thread results offers nacks. ⊤ };
+    ghost stands = { record { follows = λ first value thread results. ⊤; offers = λ first value thread results offers nacks. ⊤; starts = λ first value thread results other. ⊥; ends = λ first value thread results. ⊥ } };
 }
 
 /// The machine of a process, at its first stop.
@@ -91,10 +91,12 @@ fn bind(
     requires here { IsPassOf cells.now pass.old × IsRowOf cells.now row × IsHousing cells.now }
     requires fresh { Has pass.old.seen.held row × (¬ Has pass.old.seen.opened row) }
     requires free { (n : NackName) (b : Binding) → Has pass.old.seen.bound (n, b) → bound_row n b ≢ row }
+    requires alive { ¬ SawEnded pass.old.seen row.thread }
     ensures here { IsPassOf cells.now pass.new }
     ensures fresh { Has pass.new.seen.held row × (¬ Has pass.new.seen.opened row) }
     ensures nacks { HasNacks pass.new.seen row }
     ensures kept { (pass.new.results ≡ pass.old.results) × (pass.new.out ≡ pass.old.out) }
+    ensures alive { ¬ SawEnded pass.new.seen row.thread }
 {
     match nacks {
         [] => {}
@@ -119,7 +121,9 @@ fn enter(
     requires nacks { HasNacks pass.old.seen row }
     requires begun { row.sync ≡ 0 → Has pass.old.seen.begun row }
     requires offers { AreOffers offers.now }
+    requires alive { ¬ SawEnded pass.old.seen row.thread }
     ensures here { IsPassOf cells.now pass.new }
+    ensures ended { pass.new.seen.ended ≡ pass.old.seen.ended }
     ensures held { pass.new.seen.held ≡ pass.old.seen.held }
     ensures opened { pass.new.seen.opened ≡ row ∷ pass.old.seen.opened }
     ensures begun { pass.new.seen.begun ≡ pass.old.seen.begun }
