@@ -15,3 +15,4 @@ pub mod Keeping
 pub mod Ranging
 pub mod Nacks
 pub mod Crossing
+pub mod Spawning

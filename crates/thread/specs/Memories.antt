@@ -1,5 +1,5 @@
--- A memory whose variables were written.
-use Rattle.std.specs.Prelude.{◌≡◌}
+-- A memory whose variables were written, and one in which more was spawned.
+use Rattle.std.specs.Prelude.{◌≡◌, ◌++◌, ℕ, List, Contains}
 use Rattle.thread.specs.declared.memory.Memory.{Memory}
 use Rattle.thread.specs.Values.{Store}
 
@@ -10,3 +10,11 @@ pub record HasStore (old new : Memory) (store : Store) : Type 0 where
   pub printed : new.printed ≡ old.printed
   pub spawned : new.spawned ≡ old.spawned
   pub variables : new.variables.items ≡ store
+
+-- the list goes on with what it did not have
+abbrev pub AddsNew : List ℕ → List ℕ → Type 0
+AddsNew old new = (more : List ℕ) × (new ≡ old ++ more) × ((x : ℕ) → Contains more x → Contains old x → ⊥)
+
+-- what was spawned stays so, in its order, and what is spawned then was not before
+abbrev pub SpawnsOn : Memory → Memory → Type 0
+SpawnsOn old new = AddsNew old.spawned.items new.spawned.items

@@ -32,7 +32,8 @@ fn wrap(
     message: Message,
     memory: &mut Memory,
 ) -> Result<Message, Fault>
-    ensures { (rs : List Chosen) → wrapped_once (Some (record { names = option_map names_of names; list = exprs_of list.now })) message (state_of memory.old rs) ≡ message_after result memory.new rs }
+    ensures does { (rs : List Chosen) → wrapped_once (Some (record { names = option_map names_of names; list = exprs_of list.now })) message (state_of memory.old rs) ≡ message_after result memory.new rs }
+    ensures spawned { memory.new.spawned ≡ memory.old.spawned }
 {
     match memory.set_names(names, message) {
         Ok(()) => message_of(list, &memory.variables),
@@ -42,7 +43,8 @@ fn wrap(
 
 /// Takes a message from base event n, if it lies within the event, out through the wraps round that.
 fn pass(event: &Event, mut n: u8, message: Message, memory: &mut Memory) -> Result<Passage, Fault>
-    ensures { Passes (event_of event.now) n message memory.old memory.new result }
+    ensures does { Passes (event_of event.now) n message memory.old memory.new result }
+    ensures spawned { memory.new.spawned ≡ memory.old.spawned }
 {
     match event {
         Event::Choose(members) => {
@@ -75,7 +77,8 @@ fn pass(event: &Event, mut n: u8, message: Message, memory: &mut Memory) -> Resu
 /// The same, with no call where the event is a base event.
 #[inline(always)]
 fn leave(event: &Event, n: u8, message: Message, memory: &mut Memory) -> Result<Passage, Fault>
-    ensures { Passes (event_of event.now) n message memory.old memory.new result }
+    ensures does { Passes (event_of event.now) n message memory.old memory.new result }
+    ensures spawned { memory.new.spawned ≡ memory.old.spawned }
 {
     match event {
         Event::Choose(_) | Event::Wrap(_, _, _) | Event::Guard(_, _) | Event::Nack(_, _, _) => {
@@ -103,6 +106,7 @@ pub(crate) fn commit(
     requires there { chosen < length (own opening (lists_of stack.old)).offers }
     ensures does { (rs : List Chosen) → step_on code.now stack.new (step_of result) (state_of memory.new rs) ≡ stop_on code.now stack.old (stop.Offering opening) (state_of memory.old ((chosen, message) ∷ rs)) }
     ensures fits { StepFits code.now stack.new (step_of result) }
+    ensures spawned { memory.new.spawned ≡ memory.old.spawned }
 {
     stack.offers.truncate(opening.offers);
     stack.nacks.truncate(opening.nacks);

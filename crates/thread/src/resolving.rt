@@ -97,6 +97,7 @@ pub(crate) fn resolve(
     ensures does { IfOk result (λ step. (rs : List Chosen) → step_on code.now stack.new step (state_of memory.new rs) ≡ now_on code.now stack.old (now.Open opening) (state_of memory.old rs)) }
     ensures falls { IfOk result (Falls code.now (now_reach code.now stack.old (now.Open opening)) stack.new) }
     ensures fits { IfOk result (StepFits code.now stack.new) }
+    ensures spawned { memory.new.spawned ≡ memory.old.spawned }
 {
     loop {
         let plan = plan_of(code, opening.plan);

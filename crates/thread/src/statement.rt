@@ -4,6 +4,7 @@ ghost use Rattle.std.specs.Prelude.{◌≡◌, ◌++◌, ◌∷◌, IfOk, List, 
 ghost use Rattle.thread_code.specs.Codes.{IsLinked};
 ghost use Rattle.thread.specs.After.{Chosen};
 ghost use Rattle.thread.specs.Fitting.{NowFits, StepFits};
+ghost use Rattle.thread.specs.Memories.{SpawnsOn};
 ghost use Rattle.thread.specs.Reaches.{Falls, now_reach};
 ghost use Rattle.thread.specs.Stacks.{now_on, state_of, step_on};
 ghost use Rattle.thread.specs.declared.stack.Frame.TheVariants as frames;
@@ -53,6 +54,7 @@ pub(crate) fn run(
     ensures does { IfOk result (λ step. (rs : List Chosen) → step_on code.now stack.new step (state_of memory.new rs) ≡ now_on code.now stack.old (now.At at) (state_of memory.old rs)) }
     ensures falls { IfOk result (Falls code.now (now_reach code.now stack.old (now.At at)) stack.new) }
     ensures fits { IfOk result (StepFits code.now stack.new) }
+    ensures spawned { IfOk result (λ step. SpawnsOn memory.old memory.new) }
 {
     let place = place_at(code, at);
     let Block::Then(stmt, _) = &*place.block else {

@@ -5,13 +5,13 @@ use Rattle.thread.specs.Stacks.{said_by, state_of}
 use Rattle.thread.proofs.Commits.{wrap_gives, wrap_fails}
 use Rattle.thread.proofs.commit.wrap.Goals as goal
 
-pub returns-in-Ok : goal.returns-in-Ok
-returns-in-Ok c = λ rs.
+pub returns-in-Ok-clause-does : goal.returns-in-Ok-clause-does
+returns-in-Ok-clause-does c = λ rs.
     let w : Wrapping = record { names = option_map names_of c.args.names; list = exprs_of c.args.list.now } in
-    wrap_gives w c.args.message (state_of c.args.memory.now rs) c.set_names.new.self rs c.message_of.result (c.in-Ok.ensures rs)
+    wrap_gives w c.args.message (state_of c.args.memory.now rs) c.set_names.new.self rs c.message_of.result (c.in-Ok.ensures.does rs)
     (rw c.deref.ensures.value at c.message_of.ensures)
 
-pub returns-in-Err : goal.returns-in-Err
-returns-in-Err c = λ rs.
+pub returns-in-Err-clause-does : goal.returns-in-Err-clause-does
+returns-in-Err-clause-does c = λ rs.
     let w : Wrapping = record { names = option_map names_of c.args.names; list = exprs_of c.args.list.now } in
-    wrap_fails w c.args.message (state_of c.args.memory.now rs) c.in-Err.fault (said_by c.set_names.new.self) rs (c.in-Err.ensures rs)
+    wrap_fails w c.args.message (state_of c.args.memory.now rs) c.in-Err.fault (said_by c.set_names.new.self) rs (c.in-Err.ensures.does rs)

@@ -41,6 +41,7 @@ loop-stage-preserved c =
           ∙ c.loop-stage.invariant.does rs;
       reach = omega (arith, offer_falls c.args.code.now c.loop-stage.opening (lists_of c.loop-stage.stack) c.plan_of-plan.result.now c.loop-stage.invariant.fits.0 c.plan_of-plan.ensures c.in-Offer.event c.in-Offer.scopes at c.in-Ok.base (record { offers = c.push.new.self.items; nacks = c.loop-stage.stack.nacks.items }) put, c.loop-stage.invariant.reach);
       fits = offer_fits c.args.code.now c.loop-stage.opening (lists_of c.loop-stage.stack) c.plan_of-plan.result.now c.loop-stage.invariant.fits.0 c.plan_of-plan.ensures c.in-Offer.event c.in-Offer.scopes at c.in-Ok.base (record { offers = c.push.new.self.items; nacks = c.loop-stage.stack.nacks.items }) put c.loop-stage.stack.frames.items c.loop-stage.invariant.fits.1;
+      spawned = c.loop-stage.invariant.spawned;
     }
 
 pub returns-in-Err-clause-does : goal.returns-in-Err-clause-does

@@ -12,6 +12,7 @@ invariant-loop-stage l = record {
   does : (rs : List Chosen) → now_on l.code l.stack (Open l.opening) (state_of l.memory rs) ≡ now_on l.code l.fn.stack (Open l.fn.opening) (state_of l.fn.memory rs);
   reach : opening_reach l.code l.opening ≤ opening_reach l.code l.fn.opening;
   fits : NowFits l.code l.stack (Open l.opening);
+  spawned : l.memory.spawned ≡ l.fn.memory.spawned;
 }
 
 abbrev pub decreases-loop-stage : goal.decreases-loop-stage

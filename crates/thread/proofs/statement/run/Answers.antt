@@ -206,7 +206,7 @@ returns-in_ok-spawn-in-Spawn-clause-does c = λ rs.
     let rest = block_of c.in-Then.field-1.value in
     let runs = ap block_of (sym c.deref.ensures ∙ c.in-Then.is) ∙ ap (λ st. Runs (stmt_of st) (block_of c.in-Then.field-1.value)) c.in-Spawn.is in
     step_does c.args.code.now c.args.at p _ rest c.requires.linked c.place_at-place.ensures runs (state_of c.args.memory.now rs) (state_of c.spawn.new.self rs)
-    (frames_on c.args.code.now c.args.stack.now.frames.items (lists_of c.args.stack.now)) (ap Goes (sym (c.in_ok-spawn-in-Spawn.ensures rs)))
+    (frames_on c.args.code.now c.args.stack.now.frames.items (lists_of c.args.stack.now)) (ap Goes (sym (c.in_ok-spawn-in-Spawn.ensures.does rs)))
 
 pub returns-in_ok-spawn-in-Spawn-clause-fits : goal.returns-in_ok-spawn-in-Spawn-clause-fits
 returns-in_ok-spawn-in-Spawn-clause-fits c =
