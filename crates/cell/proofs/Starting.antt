@@ -1,11 +1,11 @@
 -- What a pass has seen once it has started a thread, or found it started.
-use Rattle.std.proofs.Common.{◌≡◌, ◌≢◌, ◌⊎◌, ℕ, true, false, List, sym, refl, ap, subst, inl, inr, ⊎_elim}
+use Rattle.std.proofs.Common.{◌≡◌, ◌≢◌, ◌⊎◌, ◌∙◌, ℕ, true, false, List, sym, refl, ap, subst, inl, inr, ⊎_elim}
 use Rattle.protocol_values.specs.declared.Course.{Course}
 use Rattle.protocol_values.specs.declared.Course.TheVariants.{Unstarted, Running, Ended}
 use Rattle.protocol_values.specs.declared.Row.{Row}
 use Rattle.cell.specs.Attempts.{LearnsLast, Started}
 use Rattle.cell_table.specs.declared.view.Seen.{Seen}
-use Rattle.cell_table.specs.Sight.{Has, HasSeenLast, IsBefore, IsUnseen, Learns, LearnsOf, SawEnded, see_course, see_start}
+use Rattle.cell_table.specs.Sight.{Has, HasSeenLast, IsBefore, IsExpectedCourse, IsStand, IsUnseen, Learns, LearnsOf, SawEnded, see_course, see_start}
 use Rattle.cell.proofs.Learning.{learns_course, learns_then, learns_wider, lives_wider}
 
 -- what was not seen then was not seen before
@@ -51,8 +51,32 @@ module _ (before stood u after : Seen) (r : Row) (p start stamp : ℕ) (turned :
   pub started_now : after ≡ see_start p stamp u → IsUnseen u p → Started before after r p true
   started_now is unseen = (u, stamp, learns_last, last, is, unseen_before (IsBefore r) before u p learns_last unseen, subst (λ (s : Seen). ¬ SawEnded s r.thread) (sym is) still)
 
-  pub started_before : (c : Course) → c ≢ Unstarted → after ≡ see_course p c u → Started before after r p false
-  started_before c begun is = (
+  -- where the pass holds a row of the other thread that is not opened, it has learnt nothing of that one's end
+  still_going : (rows : ℕ) (c : Course) → IsExpectedCourse rows u p c → (q : Row) → q.thread ≡ p → Has before.held q → ¬ Has before.opened q → SawEnded (see_course p c u) p → SawEnded before p
+  still_going rows c expected q same held fresh ended = back (seen_then c expected ended)
+    where
+      stand : IsStand rows u q
+      stand = inl (
+        subst (λ (l : List Row). Has l q) (sym learns_last.held) held,
+        λ o. ⊎_elim (λ (old : Has before.opened q). fresh old) (λ (b : IsBefore r q). other (sym b.0 ∙ same)) (learns_last.opened.1 q o),
+      )
+
+      seen_then : (d : Course) → IsExpectedCourse rows u p d → SawEnded (see_course p d u) p → SawEnded u p
+      seen_then Unstarted e h = h
+      seen_then (Running s) e h = h
+      seen_then (Ended s g) e h = ⊎_elim
+          (λ (new : (p, g) ≡ (p, h.0)). (g, (e.stands q same stand).1 g refl))
+          (λ (old : Has u.ended (p, h.0)). (h.0, old))
+          h.1
+
+      back : SawEnded u p → SawEnded before p
+      back h = ⊎_elim
+          (λ (old : Has before.ended (p, h.0)). (h.0, old))
+          (λ (life : p ≡ r.thread). absurd (other (sym life)))
+          (learns_last.ended.1 (p, h.0) h.1)
+
+  pub started_before : (rows : ℕ) (c : Course) → c ≢ Unstarted → IsExpectedCourse rows u p c → after ≡ see_course p c u → Started before after r p false
+  started_before rows c begun expected is = (
     learns_then (IsBefore r) before u after
         (lives_wider (IsBefore r) (λ t. t ≡ r.thread) (λ t. (t ≡ r.thread) ⊎ (t ≡ p)) before u (λ t e. inl e) learns_last)
         (subst (λ (s : Seen). LearnsOf (IsBefore r) (λ n. ⊥) (λ t. (t ≡ r.thread) ⊎ (t ≡ p)) u s) (sym is)
@@ -60,4 +84,5 @@ module _ (before stood u after : Seen) (r : Row) (p start stamp : ℕ) (turned :
         (learns_wider (λ q. ⊥) (IsBefore r) u (see_course p c u) (λ q h. absurd h) (learns_course p c u)))),
     subst (λ (s : Seen). (stamp : ℕ) × Has s.started (p, stamp)) (sym is) (course_begun p c u begun),
     subst (λ (s : Seen). ¬ SawEnded s r.thread) (sym is) (still_course c),
+    λ q same held fresh ended. still_going rows c expected q same held fresh (subst (λ (s : Seen). SawEnded s p) is ended),
   )

@@ -172,11 +172,12 @@ abbrev pub LearnsLast : Row → Seen → Seen → Type 0
 LearnsLast r s t = LearnsOf (IsBefore r) (λ n. ⊥) (λ p. p ≡ r.thread) s t
 
 -- The answer of a start of thread p from place r. True: the pass had seen nothing of the thread, which has now started at the last
--- stamp of the place, and whose first row it holds. False: the thread was started before, as the pass has now seen. In
--- both the place's own thread has not ended.
+-- stamp of the place, and whose first row it holds. False: the thread was started before, as the pass has now seen; where it holds
+-- a row of that thread which is not opened, it has learnt nothing of its end. In both the place's own thread has not ended.
 abbrev pub Started : Seen → Seen → Row → ℕ → Bool → Type 0
 Started before after r p true = (seen : Seen) × (stamp : ℕ) × LearnsLast r before seen × HasSeenLast seen r stamp × (after ≡ see_start p stamp seen) × IsUnseen before p × (¬ SawEnded after r.thread)
 Started before after r p false = LearnsOf (IsBefore r) (λ n. ⊥) (λ t. (t ≡ r.thread) ⊎ (t ≡ p)) before after × ((stamp : ℕ) × Has after.started (p, stamp)) × (¬ SawEnded after r.thread)
+    × ((q : Row) → q.thread ≡ p → Has before.held q → ¬ Has before.opened q → SawEnded after p → SawEnded before p)
 
 -- the thread of place r has ended there, and nothing else is new but its start
 abbrev pub Finished : Seen → Seen → Row → Type 0

@@ -9,6 +9,7 @@ ghost use Rattle.protocol_values.specs.declared.Message.{Message};
 ghost use Rattle.protocol_values.specs.declared.Offer.{Offer};
 ghost use Rattle.protocol_values.specs.declared.Row.{Row};
 ghost use Rattle.protocol_values.specs.declared.Cell.TheVariants.{Claimed};
+ghost use Rattle.protocol_values.specs.declared.Course.TheVariants.{Unstarted};
 ghost use Rattle.protocol_values.specs.declared.Step.TheVariants.{Finish, Open};
 ghost use Rattle.protocol_values.specs.declared.NackName.{NackName};
 ghost use Rattle.protocol_values.specs.declared.Binding.{Binding};
@@ -314,6 +315,7 @@ impl<M: Resident + Drop> Cells<M> {
         ensures size { (result.threads ≡ self.threads) × (result.rows ≡ self.rows) }
         ensures lawful { IsLawful result }
         ensures at_once { (t : ℕ) → t < self.threads → waits self.later t ≡ false → HasStart (course_in result t) 0 }
+        ensures outside { (t : ℕ) → self.threads ≤ t → course_in result t ≡ Unstarted }
         ensures started { (t stamp : ℕ) → Has pass.seen.started (t, stamp) → HasStart (course_in result t) stamp }
         ensures ended { (t g : ℕ) → Has pass.seen.ended (t, g) → EndsAt (course_in result t) g }
         ensures seen { (r : Row) (j : Joined) → Has pass.seen.joined (r, j) → joined_in result r ≡ Some j }

@@ -306,7 +306,11 @@ module _ {M : Type 0} (stands : Stands M) where
           moved,
           λ q given at given_range second. (
             λ e. absurd (f e),
-            λ g. (ap (λ (x : ℕ). (saw_course x c me.0, me.1)) (one_life q at), begun_there s k view f),
+            λ g. (
+              ap (λ (x : ℕ). (saw_course x c me.0, me.1)) (one_life q at),
+              begun_there s k view f,
+              subst (λ (z : ℕ × Course). AgreesLife me.0 z.0 z.1) (λ i. (one_life q at i, course_is s k view i)) (agrees_life k.world k.owner id me.0 (known s k view) (kept s k view) p),
+            ),
             moved_coherent stands shape s.views _ _ id me.0 (saw_course p c me.0) view refl at_table moved,
           ),
         ))

@@ -163,11 +163,11 @@ module _ {M : Type 0} where
   turned_to st m n w = (r : Row) → AtLife st m r.thread → IsStand m.0.rows m.0.seen r
       → (w ≡ (stood_at r (saw_course r.thread (course_read n) m.0), m.1)) × AgreesLife m.0 r.thread (course_read n) × AgreesWithItself w.0
 
-  -- where the thread had not started it has now, and the pass had seen nothing of it; else the pass has seen where it is
+  -- where the thread had not started it has now, and the pass had seen nothing of it; else the pass has seen where it is, by a look
   abbrev pub tried_start : {S : Type 0} → Step S → Me S (View M) → ℕ → Me S (View M) → Type 0
   tried_start st m n w = (p stamp : ℕ) → AtLife st m p → IsCourseInRange (Running stamp) → st.second ≡ course_word (Running stamp)
       → (n ≡ course_word Unstarted → (w ≡ (started_thread p stamp m.0, m.1)) × IsUnseen m.0.seen p)
-      × (n ≢ course_word Unstarted → (w ≡ (saw_course p (course_read n) m.0, m.1)) × (course_read n ≢ Unstarted))
+      × (n ≢ course_word Unstarted → (w ≡ (saw_course p (course_read n) m.0, m.1)) × (course_read n ≢ Unstarted) × AgreesLife m.0 p (course_read n))
       × AgreesWithItself w.0
 
   -- the thread has ended where the pass stands

@@ -1,7 +1,8 @@
 //! The end of a table: its words become a ledger.
 
-ghost use Rattle.std.specs.Prelude.{◌≡◌, ◌<◌, ℕ, List, length, None, Some, slice_get, false};
+ghost use Rattle.std.specs.Prelude.{◌≡◌, ◌<◌, ◌≤◌, ℕ, List, length, None, Some, slice_get, false};
 ghost use Rattle.std.specs.Slots.{slots_items, slots_len, IsFull};
+ghost use Rattle.protocol_values.specs.declared.Course.TheVariants.{Unstarted};
 ghost use Rattle.protocol_values.specs.declared.Joined.{Joined};
 ghost use Rattle.protocol_values.specs.declared.Offer.{Offer};
 ghost use Rattle.protocol_values.specs.declared.Row.{Row};
@@ -30,6 +31,7 @@ impl<M: Resident + Drop> Board<M> {
         ensures size { (result.threads ≡ self.shape.threads) × (result.rows ≡ self.shape.rows) }
         ensures lawful { IsLawful result }
         ensures at_once { (t : ℕ) → t < self.shape.threads → waits self.shape.later t ≡ false → HasStart (course_in result t) 0 }
+        ensures outside { (t : ℕ) → self.shape.threads ≤ t → course_in result t ≡ Unstarted }
         ensures started { (t stamp : ℕ) → Has seat.me.0.seen.started (t, stamp) → HasStart (course_in result t) stamp }
         ensures ended { (t g : ℕ) → Has seat.me.0.seen.ended (t, g) → EndsAt (course_in result t) g }
         ensures seen { (r : Row) (j : Joined) → Has seat.me.0.seen.joined (r, j) → joined_in result r ≡ Some j }

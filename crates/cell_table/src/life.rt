@@ -8,7 +8,7 @@ ghost use Rattle.cell_table.specs.declared.view.Stage.TheVariants.{Resting};
 ghost use Rattle.cell_table.specs.Rule.{IsFinishing, IsStarting};
 ghost use Rattle.cell_table.specs.Told.{AgreesLife, course_read};
 ghost use Rattle.cell_table.specs.Seats.{Sits, StaysSeated};
-ghost use Rattle.cell_table.specs.Sight.{Has, HasSeenLast, IsStand, IsUnseen, SawEnded};
+ghost use Rattle.cell_table.specs.Sight.{Has, HasSeenLast, IsExpectedCourse, IsStand, IsUnseen, SawEnded};
 ghost use Rattle.cell_table.specs.Views.{ended_thread, saw_course, started_thread, stood_at};
 
 use crate::board::Board;
@@ -80,7 +80,7 @@ impl<M: Resident> Board<M> {
         requires stamp { HasSeenLast seat.old.me.0.seen row stamp × (stamp ≤ 65536) }
         ensures sits { StaysSeated self.now seat.old seat.new }
         ensures started { IsTrue result → (seat.new.me.0 ≡ started_thread thread stamp seat.old.me.0) × IsUnseen seat.old.me.0.seen thread }
-        ensures found { IsFalse result → (course : Course) × (course ≢ Unstarted) × (seat.new.me.0 ≡ saw_course thread course seat.old.me.0) }
+        ensures found { IsFalse result → (course : Course) × (course ≢ Unstarted) × (seat.new.me.0 ≡ saw_course thread course seat.old.me.0) × IsExpectedCourse self.now.shape.rows seat.old.me.0.seen thread course }
     {
         let _ = row;
         let unstarted = pack_course(Course::Unstarted);

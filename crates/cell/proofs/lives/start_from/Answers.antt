@@ -18,5 +18,5 @@ returns-clause-started g c =
     subst (Started before after c.args.row c.args.thread) (sym made) (started_now before _ u after c.args.row c.args.thread _ c.last_at-last.result turned c.last_at-last.ensures.learns c.last_at-last.ensures.last c.requires.stands.1 c.requires.other.1 (ap (λ v. v.seen) t.0) t.1))
     (λ (lost : c.start_thread.result ≡ false).
     let t = c.start_thread.ensures.found lost in
-    subst (Started before after c.args.row c.args.thread) (sym lost) (started_before before _ u after c.args.row c.args.thread _ c.last_at-last.result turned c.last_at-last.ensures.learns c.last_at-last.ensures.last c.requires.stands.1 c.requires.other.1 t.0 t.1 (ap (λ v. v.seen) t.2)))
+    subst (Started before after c.args.row c.args.thread) (sym lost) (started_before before _ u after c.args.row c.args.thread _ c.last_at-last.result turned c.last_at-last.ensures.learns c.last_at-last.ensures.last c.requires.stands.1 c.requires.other.1 _ t.0 t.1 t.3 (ap (λ v. v.seen) t.2)))
     (cases_Bool c.start_thread.result)

@@ -1,8 +1,11 @@
-use Rattle.std.proofs.Common.{rules, ◌≡◌, ◌<◌, length, None, Some, slice_get, sym, subst, ap, arith}
+use Rattle.std.proofs.Common.{rules, ◌≡◌, ◌<◌, ◌∙◌, length, None, Some, slice_get, sym, subst, ap, arith}
 use Rattle.protocol.specs.Ledgers.{IsLawful, Ledger, ledger_of, binding_in, course_in, joined_in, offer_in}
 use Rattle.cell_table.specs.Rule.{StartsFirst}
 use Rattle.protocol.specs.Acting.{ActsAs, EndsAt, HasStart, acts_in}
 use Rattle.protocol.specs.Standing.{AreResults}
+use Rattle.protocol.proofs.LedgerLemmas.{course_in_ledger}
+use Rattle.protocol.proofs.Readings.{course_outside}
+use Rattle.cell_table.proofs.Allowing.{sized}
 use Rattle.cell_table.proofs.Endings.{ended, final_acts, final_bound, final_ended, final_at_once, final_lawful, final_joined, final_lack, final_offer, final_own, final_results, final_started}
 use Rattle.cell_table.proofs.board.Board.close.Goals as goal
 
@@ -104,3 +107,6 @@ returns-clause-at_once g c t below free =
     subst (λ (l : Ledger). HasStart (course_in l t) 0) (sym c.of_words.ensures)
     (final_at_once g.M.Resident.stands c.args.self.shape c.args.seat.id c.args.seat.me.0 (omega arith) c.copy_words-words.result.items _
     (ended g.M.Resident.stands _ _ _ _ _ _ _ c.args.self.keyed c.copy_words-words.ensures c.close_with-closed.ensures.values.2) t below free)
+
+pub returns-clause-outside : goal.returns-clause-outside
+returns-clause-outside g c t above = ap (λ (l : Ledger). course_in l t) c.of_words.ensures ∙ (λ i. course_in_ledger (sized c.args.self.shape c.copy_words-words.result.items) i t) ∙ course_outside (sized c.args.self.shape c.copy_words-words.result.items) t above

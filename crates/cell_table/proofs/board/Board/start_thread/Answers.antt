@@ -8,10 +8,10 @@ use Rattle.protocol_values.specs.declared.Course.TheVariants.{Unstarted}
 use Rattle.protocol_values.specs.Words.{course_word}
 use Rattle.cell_table.specs.declared.view.Shape.{Shape}
 use Rattle.cell_table.specs.Rule.{IsStarting, Keeps}
-use Rattle.cell_table.specs.Sight.{HasSeenLast, IsUnseen}
+use Rattle.cell_table.specs.Sight.{HasSeenLast, IsExpectedCourse, IsUnseen}
 use Rattle.cell_table.specs.declared.view.View.{View}
 use Rattle.cell_table.specs.Seats.{StaysSeated}
-use Rattle.cell_table.specs.Told.{AgreesWithItself, course_read, tried_start}
+use Rattle.cell_table.specs.Told.{AgreesLife, AgreesWithItself, course_read, tried_start}
 use Rattle.cell_table.specs.Views.{saw_course, started_thread}
 use Rattle.cell_table.proofs.Allowing.{sits_still}
 use Rattle.cell_table.proofs.Starts.{start_allowed}
@@ -29,7 +29,7 @@ compare_exchange-found-requires g c = (
 -- what the step told the pass
 told : (g : _) (c : goal.After-compare_exchange-found g)
     → (c.compare_exchange-found.result ≡ course_word Unstarted → (c.compare_exchange-found.new.seat.me ≡ (started_thread c.args.thread c.args.stamp c.args.seat.now.me.0, c.args.seat.now.me.1)) × IsUnseen c.args.seat.now.me.0.seen c.args.thread)
-    × (c.compare_exchange-found.result ≢ course_word Unstarted → (c.compare_exchange-found.new.seat.me ≡ (saw_course c.args.thread (course_read c.compare_exchange-found.result) c.args.seat.now.me.0, c.args.seat.now.me.1)) × (course_read c.compare_exchange-found.result ≢ Unstarted))
+    × (c.compare_exchange-found.result ≢ course_word Unstarted → (c.compare_exchange-found.new.seat.me ≡ (saw_course c.args.thread (course_read c.compare_exchange-found.result) c.args.seat.now.me.0, c.args.seat.now.me.1)) × (course_read c.compare_exchange-found.result ≢ Unstarted) × AgreesLife c.args.seat.now.me.0 c.args.thread (course_read c.compare_exchange-found.result))
     × AgreesWithItself c.compare_exchange-found.new.seat.me.0
 told g c = c.compare_exchange-found.ensures.2 c.args.thread c.args.stamp (search rules) (search rules) c.pack_course-started.ensures
 
@@ -52,4 +52,4 @@ pub returns-clause-found : goal.returns-clause-found
 returns-clause-found g c lost =
     let other : c.compare_exchange-found.result ≢ course_word Unstarted = λ e. true≢false (sym (eq-eqb _ _ (e ∙ sym c.pack_course-unstarted.ensures)) ∙ lost) in
     let t = (told g c).1 other in
-    (course_read c.compare_exchange-found.result, t.1, ap (λ z. z.0) t.0)
+    (course_read c.compare_exchange-found.result, t.1, ap (λ z. z.0) t.0, subst (λ (rows : ℕ). IsExpectedCourse rows c.args.seat.now.me.0.seen c.args.thread (course_read c.compare_exchange-found.result)) (search rules) t.2)
