@@ -23,19 +23,19 @@ waits_once meet (Send chan atoms) a b first last = first.1 ∙ sym last.1
 waits_once meet (Recv chan) a b first last = first.1 ∙ sym last.1
 waits_once meet (OnNack nack) a b first last = first.1 ∙ sym last.1
 waits_once meet (Always atoms) a b first last = absurd first
-waits_once meet (OnEnd thread) a b first last = absurd first
+waits_once meet (OnEnd thread) a b first last = first.1 ∙ sym last.1
 waits_once meet Never a b first last = absurd first
 
 -- and there is such a room
-waits_within : (meet : Meet) (d : Direction) (at : ℕ) → length meet.rooms.items ≡ 2 * meet.channels + meet.threads → WaitsIn meet d at → at < length meet.rooms.items
+waits_within : (meet : Meet) (d : Direction) (at : ℕ) → length meet.rooms.items ≡ 2 * meet.channels + 2 * meet.threads → WaitsIn meet d at → at < length meet.rooms.items
 waits_within meet (Send chan atoms) at sized waits = let low = waits.0 in let is = waits.1 in omega arith
 waits_within meet (Recv chan) at sized waits = let low = waits.0 in let is = waits.1 in omega arith
 waits_within meet (OnNack nack) at sized waits = let low = waits.0 in let is = waits.1 in omega arith
 waits_within meet (Always atoms) at sized waits = absurd waits
-waits_within meet (OnEnd thread) at sized waits = absurd waits
+waits_within meet (OnEnd thread) at sized waits = let low = waits.0 in let is = waits.1 in omega arith
 waits_within meet Never at sized waits = absurd waits
 
-pub put_where : {E : Type 0} (meet : Meet) (rooms : List Room) (d : Direction) (found : ℕ) (mine : Offered) (ps qs : List LanePass) (r : Result (Unit {0}) E) → length meet.rooms.items ≡ 2 * meet.channels + meet.threads
+pub put_where : {E : Type 0} (meet : Meet) (rooms : List Room) (d : Direction) (found : ℕ) (mine : Offered) (ps qs : List LanePass) (r : Result (Unit {0}) E) → length meet.rooms.items ≡ 2 * meet.channels + 2 * meet.threads
     → rooms ≡ meet.rooms.items → WaitsIn meet d found → IfOk r (λ x. found < length rooms → PutAt found mine ps qs) → IfOk r (λ x. (at : ℕ) → WaitsIn meet d at → PutAt at mine ps qs)
 put_where meet rooms d found mine ps qs (Ok x) sized all waits put = λ at also. subst (λ (n : ℕ). PutAt n mine ps qs) (waits_once meet d found at waits also) (put (subst (λ (rs : List Room). found < length rs) (sym all) (waits_within meet d found sized waits)))
 put_where meet rooms d found mine ps qs (Err e) sized all waits put = tt

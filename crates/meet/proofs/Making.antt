@@ -1,7 +1,7 @@
 -- The steps that a search and a waking make, part by part.
 use Rattle.std.proofs.Common.{◌≡◌, ℕ, zero, suc, List, [], ◌∷◌, ◌++◌, refl, ap, sym, subst, ◌∙◌}
 use Rattle.std.specs.Prelude.{Option, None, IfErr, IfOk, Result, Ok, Err}
-use Rattle.protocol_values.specs.declared.NackName.{NackName}
+use Rattle.protocol_values.specs.declared.Base.{Base}
 use Rattle.protocol_values.specs.declared.Row.{Row}
 use Rattle.protocol_values.specs.declared.Step.{Step}
 use Rattle.protocol_values.specs.declared.Step.TheVariants.{Claim, Grant, Join, Seal, Yield}
@@ -96,23 +96,23 @@ grants_push : (rows : List Row) (r : Row) (n : ℕ) (a b : List Step) → Grants
 grants_push [] r n a b same = (n, ap (λ (steps : List Step). Grant r n ∷ steps) same)
 grants_push (q ∷ rows) r n a b grants = (grants.0, grants_push rows r n (Grant q grants.0 ∷ a) b grants.1)
 
-pub wakes_more : {M : Type 0} (nack : NackName) (p q r : PassOf M) (rows : List Row) → Grows q.seen r.seen → r.made ≡ q.made → Wakes nack p q rows → Wakes nack p r rows
-wakes_more nack p q r rows grows same wakes =
-    (names_more p.seen q.seen r.seen nack rows grows wakes.0, subst (λ (steps : List Step). GrantsEach rows p.made steps) (sym same) wakes.1)
+pub wakes_more : {M : Type 0} (base : Base) (p q r : PassOf M) (rows : List Row) → Grows q.seen r.seen → r.made ≡ q.made → Wakes base p q rows → Wakes base p r rows
+wakes_more base p q r rows grows same wakes =
+    (names_more p.seen q.seen r.seen base rows grows wakes.0, subst (λ (steps : List Step). GrantsEach rows p.made steps) (sym same) wakes.1)
 
-pub wakes_push : {M : Type 0} (nack : NackName) (p q r : PassOf M) (rows : List Row) (row : Row) (n : ℕ) → Grows p.seen q.seen → Grows q.seen r.seen → Wakes nack p q rows → IsWoken q.seen r.seen nack row → r.made ≡ Grant row n ∷ q.made → Wakes nack p r (rows ++ row ∷ [])
-wakes_push nack p q r rows row n before after wakes woken same = (
-  names_push p.seen q.seen r.seen nack rows row before after wakes.0 woken,
+pub wakes_push : {M : Type 0} (base : Base) (p q r : PassOf M) (rows : List Row) (row : Row) (n : ℕ) → Grows p.seen q.seen → Grows q.seen r.seen → Wakes base p q rows → IsWoken q.seen r.seen base row → r.made ≡ Grant row n ∷ q.made → Wakes base p r (rows ++ row ∷ [])
+wakes_push base p q r rows row n before after wakes woken same = (
+  names_push p.seen q.seen r.seen base rows row before after wakes.0 woken,
   subst (λ (steps : List Step). GrantsEach (rows ++ row ∷ []) p.made steps) (sym same) (grants_push rows row n p.made q.made wakes.1),
 )
 
 -- whether or not memory was wanting, the rows that were granted are known
-pub wakes_some : {M E : Type 0} (nack : NackName) (from p q : PassOf M) (old new : List Row) (answer : Result (Unit {0}) E)
-    → IfOk answer (λ x. (s : PassOf M) → Grows s.seen p.seen → Wakes nack s p old → Wakes nack s q new)
-    → IfErr answer (λ e. (s : PassOf M) → Grows s.seen p.seen → Wakes nack s p old → (rows : List Row) × Wakes nack s q rows)
-    → Grows from.seen p.seen → Wakes nack from p old → (rows : List Row) × Wakes nack from q rows
-wakes_some nack from p q old new (Ok x) woken failed grows wakes = (new, woken from grows wakes)
-wakes_some nack from p q old new (Err e) woken failed grows wakes = failed from grows wakes
+pub wakes_some : {M E : Type 0} (base : Base) (from p q : PassOf M) (old new : List Row) (answer : Result (Unit {0}) E)
+    → IfOk answer (λ x. (s : PassOf M) → Grows s.seen p.seen → Wakes base s p old → Wakes base s q new)
+    → IfErr answer (λ e. (s : PassOf M) → Grows s.seen p.seen → Wakes base s p old → (rows : List Row) × Wakes base s q rows)
+    → Grows from.seen p.seen → Wakes base from p old → (rows : List Row) × Wakes base from q rows
+wakes_some base from p q old new (Ok x) woken failed grows wakes = (new, woken from grows wakes)
+wakes_some base from p q old new (Err e) woken failed grows wakes = failed from grows wakes
 
-pub some_wakes_more : {M : Type 0} (nack : NackName) (p q r : PassOf M) → Grows q.seen r.seen → r.made ≡ q.made → (rows : List Row) × Wakes nack p q rows → (rows : List Row) × Wakes nack p r rows
-some_wakes_more nack p q r grows same some = (some.0, wakes_more nack p q r some.0 grows same some.1)
+pub some_wakes_more : {M : Type 0} (base : Base) (p q r : PassOf M) → Grows q.seen r.seen → r.made ≡ q.made → (rows : List Row) × Wakes base p q rows → (rows : List Row) × Wakes base p r rows
+some_wakes_more base p q r grows same some = (some.0, wakes_more base p q r some.0 grows same some.1)

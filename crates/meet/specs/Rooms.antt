@@ -25,9 +25,9 @@ Serves (r ∷ rs) (p ∷ ps) = IsLanePassOf r.lane p × Serves rs ps
 abbrev pub EachServes : List Room → List MeetPass → Type 0
 EachServes rooms all = All (λ (p : MeetPass). Serves rooms p.passes.items) all
 
--- it is a pass of these lanes, of which there are two for each channel and one for each thread
+-- it is a pass of these lanes, of which there are two for each channel and two for each thread
 abbrev pub IsMeetPassOf : Meet → MeetPass → Type 0
-IsMeetPassOf meet p = Serves meet.rooms.items p.passes.items × (length meet.rooms.items ≡ 2 * meet.channels + meet.threads)
+IsMeetPassOf meet p = Serves meet.rooms.items p.passes.items × (length meet.rooms.items ≡ 2 * meet.channels + 2 * meet.threads)
 
 -- the entry was put, or the pass has put as many as it can count
 abbrev pub Joins : LanePass → LanePass → Offered → Type 0
@@ -66,13 +66,14 @@ abbrev pub PutsBack : {M : Type 0} → GridOf M → Seen → Seen → ℕ → Me
 PutsBack g s t at before after = (p : LanePass) → slice_get before.passes.items at ≡ Some p
     → (q : LanePass) × (rest : List Offered) × (after.passes.items ≡ set before.passes.items at q) × Tidies g s t before.in_hand rest × AllJoin p q rest × (after.in_hand ≡ [])
 
--- the room in which an offer in this direction waits: those who send, those who receive, and one for each thread's nacks
+-- the room in which an offer in this direction waits: those who send, those who receive, one for each thread's nacks, and one for
+-- each thread's end
 abbrev pub WaitsIn : Meet → Direction → ℕ → Type 0
 WaitsIn meet (Send chan atoms) at = (chan < meet.channels) × (at ≡ chan)
 WaitsIn meet (Recv chan) at = (chan < meet.channels) × (at ≡ meet.channels + chan)
 WaitsIn meet (OnNack nack) at = (nack.thread < meet.threads) × (at ≡ 2 * meet.channels + nack.thread)
 WaitsIn meet (Always atoms) at = ⊥
-WaitsIn meet (OnEnd thread) at = ⊥
+WaitsIn meet (OnEnd thread) at = (thread < meet.threads) × (at ≡ 2 * meet.channels + meet.threads + thread)
 WaitsIn meet Never at = ⊥
 
 -- the room in which those wait whom such an offer can meet

@@ -1,6 +1,6 @@
 -- Which steps of the protocol the calls make, and what they leave of a pass.
 use Rattle.std.specs.Prelude.{◌≡◌, ℕ, zero, suc, List, [], ◌∷◌, Option, Some, None}
-use Rattle.protocol_values.specs.declared.NackName.{NackName}
+use Rattle.protocol_values.specs.declared.Base.{Base}
 use Rattle.protocol_values.specs.declared.Row.{Row}
 use Rattle.protocol_values.specs.declared.Step.{Step}
 use Rattle.protocol_values.specs.declared.Step.TheVariants.{Claim, Grant, Join, Seal, Yield}
@@ -44,6 +44,6 @@ abbrev pub GrantsEach : List Row → List Step → List Step → Type 0
 GrantsEach [] before after = after ≡ before
 GrantsEach (r ∷ rows) before after = (n : ℕ) × GrantsEach rows (Grant r n ∷ before) after
 
--- the pass has granted these rows between the two, each by the nack, and nobody else
-abbrev pub Wakes : {M : Type 0} → NackName → PassOf M → PassOf M → List Row → Type 0
-Wakes nack before after rows = Names before.seen after.seen nack rows × GrantsEach rows before.made after.made
+-- the pass has granted these rows between the two, each by the base event, and nobody else
+abbrev pub Wakes : {M : Type 0} → Base → PassOf M → PassOf M → List Row → Type 0
+Wakes base before after rows = Names before.seen after.seen base rows × GrantsEach rows before.made after.made

@@ -1,10 +1,9 @@
-use Rattle.cell.specs.Attempts.{IsNackOf}
 use Rattle.cell.specs.Calls.{IsPassOf}
-use Rattle.meet.specs.Searches.{Grows}
+use Rattle.meet.specs.Searches.{Grows, IsBaseOf}
 use Rattle.meet.specs.Steps.{OnlyLooks}
 use Rattle.meet.proofs.meet.wake_entry.Given as goal
 
 abbrev pub invariant-loop : goal.invariant-loop
 invariant-loop g l =
-    (goal.iterator-loop g).can_next l.iterator' × (goal.iterator-loop g).is_finite l.iterator' × IsPassOf l.cells l.pass × Grows l.fn.pass.seen l.pass.seen × IsNackOf l.pass.seen l.row l.n l.fn.nack
+    (goal.iterator-loop g).can_next l.iterator' × (goal.iterator-loop g).is_finite l.iterator' × IsPassOf l.cells l.pass × Grows l.fn.pass.seen l.pass.seen × IsBaseOf l.pass.seen l.row l.n l.fn.base
     × OnlyLooks l.fn.pass l.pass
