@@ -6,7 +6,7 @@ ghost use Rattle.cell.specs.Calls.{IsPassOf, IsRowOf};
 ghost use Rattle.cell_table.specs.Sight.{Has, SawEnded};
 ghost use Rattle.meet.specs.Rooms.{IsMeetPassOf};
 
-use super::table::{always, cancelled, enter, receive, send};
+use super::table::{always, cancelled, enter, joined, receive, send};
 use cell::{Bare, Cells, NoGate, Pass};
 use meet::{Found, Meet, MeetPass};
 use protocol_values::{Cell, Course, Message, NackName, Offer, Row};
@@ -27,6 +27,8 @@ pub(super) enum Single {
     Always,
     /// To wait for nack 0 of thread 0.
     Cancelled,
+    /// To wait for the end of thread 0.
+    Joined,
 }
 
 /// The offers of a row.
@@ -46,6 +48,9 @@ pub(super) enum Act {
     Bind(Row),
     Search(Row, Found),
     Wake(NackName, &'static [Row]),
+    /// Ends the row's thread there.
+    Finish(Row),
+    WakeEnd(u8, &'static [Row]),
     Result(Row, Option<Message>),
 }
 
@@ -96,6 +101,7 @@ fn offer_of(single: Single) -> Offer
         Single::ReceiveInside => receive(0, 1),
         Single::Always => always(),
         Single::Cancelled => cancelled(),
+        Single::Joined => joined(0),
     }
 }
 
@@ -178,6 +184,23 @@ fn wake<R: AllocGlobal + Abort + Wait>(
     Ok(())
 }
 
+fn wake_end<R: AllocGlobal + Abort + Wait>(
+    rt: &R,
+    meet: &Meet,
+    cells: &Cells<Bare>,
+    lanes: &mut MeetPass,
+    pass: &mut Pass<Bare>,
+    thread: u8,
+    wanted: &[Row],
+) -> Result<(), AllocError>
+    requires { IsPassOf cells.now pass.old × IsMeetPassOf meet.now lanes.old }
+    ensures { IsPassOf cells.now pass.new × IsMeetPassOf meet.now lanes.new }
+{
+    let woken = meet.wake_end(rt, rt.alloc(), cells, pass, lanes, &NoGate, thread)?;
+    check_same(rt, woken.as_slice(), wanted, "who is woken");
+    Ok(())
+}
+
 fn carry_out<R: AllocGlobal + Abort + Wait>(
     rt: &R,
     meet: &Meet,
@@ -201,6 +224,11 @@ fn carry_out<R: AllocGlobal + Abort + Wait>(
             check_row(rt, row, found, wanted, "the search");
         }
         Act::Wake(nack, wanted) => wake(rt, meet, cells, lanes, pass, nack, wanted)?,
+        Act::Finish(row) => {
+            expect_fresh(rt, cells, pass, row);
+            cells.finish(pass, row);
+        }
+        Act::WakeEnd(thread, wanted) => wake_end(rt, meet, cells, lanes, pass, thread, wanted)?,
         Act::Result(row, wanted) => {
             expect_row(rt, cells, row);
             check_row(rt, row, cells.result(pass, row), wanted, "the result");

@@ -64,6 +64,17 @@ pub(super) fn cancelled() -> Offer
     }
 }
 
+/// To wait for the end of a thread.
+pub(super) fn joined(thread: u8) -> Offer
+    requires { thread < 64 }
+    ensures { IsOfferInRange result }
+{
+    Offer {
+        base: Base::OnEnd(thread),
+        scopes: 0,
+    }
+}
+
 /// A table of threads with a row each, and the pass that holds all rows.
 pub(super) fn table(alloc: Global, threads: u8) -> Result<(Cells<Bare>, Pass<Bare>), AllocError>
     requires { (1 ≤ threads) × (threads ≤ 16) }
@@ -141,7 +152,7 @@ pub(super) fn table_of_two(
     Ok((cells, first, second))
 }
 
-/// The rooms of so many channels, and of the nacks of so many threads, with one pass of them.
+/// The rooms of so many channels, and of so many threads, with one pass of them.
 pub(super) fn rooms(
     alloc: Global,
     channels: u16,

@@ -1,5 +1,5 @@
-//! Two threads that search at once: no pair is missed, and nobody who waits for a nack is. No clause
-//! says so, for what stands in lanes are hints.
+//! Two threads that search at once: no pair is missed, and nobody who waits for a nack or for an end is. No
+//! clause says so, for what stands in lanes are hints.
 
 ghost use Rattle.std.specs.Prelude.{◌≡◌, [], IfOk};
 ghost use Rattle.protocol_values.specs.Words.{IsOfferInRange};
@@ -8,7 +8,7 @@ ghost use Rattle.cell_table.specs.Sight.{Has};
 ghost use Rattle.protocol.specs.Worlds.{first_row};
 ghost use Rattle.meet.specs.Rooms.{IsMeetPassOf};
 
-use super::table::{NACK, cancelled, enter, last, receive, row, send, table_of_two};
+use super::table::{NACK, cancelled, enter, joined, last, receive, row, send, table_of_two};
 use super::wakings::enter_bound;
 use cell::{Bare, Cells, NoGate, Pass};
 use meet::{Found, Meet, MeetPass};
@@ -25,7 +25,7 @@ const TABLES: u32 = 300;
 /// How often a thread looks whether the other has arrived.
 const TURNS: u32 = 10_000;
 
-/// The rooms of one channel and of the nacks of two threads, and a pass of them for each thread.
+/// The rooms of one channel and of two threads, and a pass of them for each thread.
 fn rooms(alloc: Global) -> Result<(Meet, MeetPass, MeetPass), AllocError>
     ensures { IfOk result (λ m. IsMeetPassOf m.0 m.1 × IsMeetPassOf m.0 m.2) }
 {
@@ -90,6 +90,27 @@ fn commit_and_wake<R: Wait>(
         return (Err(failed), pass);
     }
     let woken = meet.wake(rt, alloc, cells, &mut pass, &mut lanes, &NoGate, NACK);
+    (woken.map(|rows| rows.len()), pass)
+}
+
+/// Ends the first thread, and wakes who waits for that. How many were woken.
+fn finish_and_wake<R: Wait>(
+    rt: &R,
+    alloc: Global,
+    meet: &Meet,
+    cells: &Cells<Bare>,
+    mut pass: Pass<Bare>,
+    mut lanes: MeetPass,
+    arrived: &AtomicU64,
+) -> (Result<usize, AllocError>, Pass<Bare>)
+    requires here { IsPassOf cells.now pass × IsRowOf cells.now (first_row 0) }
+    requires fresh { Has pass.seen.held (first_row 0) × (pass.seen.opened ≡ []) × (pass.seen.ended ≡ []) }
+    requires lanes { IsMeetPassOf meet.now lanes }
+    ensures here { IsPassOf cells.now result.1 }
+{
+    line_up(arrived);
+    cells.finish(&mut pass, row(0));
+    let woken = meet.wake_end(rt, alloc, cells, &mut pass, &mut lanes, &NoGate, 0);
     (woken.map(|rows| rows.len()), pass)
 }
 
@@ -161,6 +182,36 @@ fn nobody_who_waits_for_a_nack_is_missed(rt: HostRuntime) -> Result<(), Fail> {
         cells.tell(&mut waiter, &mut committer);
         let ledger = cells.close(committer);
         assert!(rt; ledger.commits()?.len() == 2);
+    }
+    Ok(())
+}
+
+#[test]
+fn nobody_who_waits_for_an_end_is_missed(rt: HostRuntime) -> Result<(), Fail> {
+    for _ in 0..TABLES {
+        let (cells, ender, waiter) = table_of_two(rt.alloc(), 1)?;
+        let (meet, first, second) = rooms(rt.alloc())?;
+        let arrived = AtomicU64::new(0);
+        let ((woken, mut ender), (found, mut waiter)) = thread::join(
+            &rt,
+            || -> (Result<usize, AllocError>, Pass<Bare>)
+                requires here { IsPassOf cells ender × IsRowOf cells (first_row 0) }
+                requires lanes { IsMeetPassOf meet first }
+                requires fresh { Has ender.seen.held (first_row 0) × (ender.seen.opened ≡ []) × (ender.seen.ended ≡ []) }
+                ensures here { IsPassOf cells result.1 }
+            { finish_and_wake(&rt, rt.alloc(), &meet, &cells, ender, first, &arrived) },
+            || -> (Result<Found, AllocError>, Pass<Bare>)
+                requires here { IsPassOf cells waiter × IsRowOf cells (first_row 1) }
+                requires lanes { IsMeetPassOf meet second }
+                requires fresh { Has waiter.seen.held (first_row 1) × (waiter.seen.opened ≡ []) × (waiter.seen.ended ≡ []) }
+                ensures here { IsPassOf cells result.1 }
+            { search(&rt, &meet, &cells, waiter, second, 1, joined(0), &arrived) },
+        );
+        let (woken, found) = (woken?, found?);
+        assert!(rt; (found == Found::Alone) == (woken == 0));
+        cells.tell(&mut waiter, &mut ender);
+        let ledger = cells.close(ender);
+        assert!(rt; ledger.commits()?.len() == 1);
     }
     Ok(())
 }

@@ -1,4 +1,4 @@
-//! Rows that wait for a nack.
+//! Rows that wait for a nack, or for the end of a thread.
 
 ghost use Rattle.std.specs.Prelude.{◌≡◌, [], ◌∷◌};
 ghost use Rattle.cell.specs.Calls.{IsPassOf, IsRowOf};
@@ -79,5 +79,37 @@ const ENABLED: [Act; 12] = [
 #[test]
 fn only_an_enabled_nack_wakes(rt: HostRuntime) -> Result<(), Fail> {
     check_acts(&rt, 3, 1, 3, &ENABLED, 3)?;
+    Ok(())
+}
+
+const ENDED: [Act; 10] = [
+    Act::Enter(SECOND, Offers::One(Single::Joined)),
+    Act::Enter(THIRD, Offers::Two(Single::Receive(0), Single::Joined)),
+    Act::Search(SECOND, Found::Left),
+    Act::Search(THIRD, Found::Left),
+    Act::WakeEnd(0, &[]),
+    Act::Finish(FIRST),
+    Act::WakeEnd(1, &[]),
+    Act::WakeEnd(64, &[]),
+    Act::WakeEnd(0, &[SECOND, THIRD]),
+    Act::Result(THIRD, Some(Message::Empty)),
+];
+
+#[test]
+fn only_an_end_wakes_who_waits_for_it(rt: HostRuntime) -> Result<(), Fail> {
+    check_acts(&rt, 3, 1, 3, &ENDED, 2)?;
+    Ok(())
+}
+
+const ENDED_BEFORE: [Act; 4] = [
+    Act::Finish(FIRST),
+    Act::Enter(SECOND, Offers::One(Single::Joined)),
+    Act::Search(SECOND, Found::Alone),
+    Act::WakeEnd(0, &[]),
+];
+
+#[test]
+fn who_comes_behind_an_end_waits_for_nothing(rt: HostRuntime) -> Result<(), Fail> {
+    check_acts(&rt, 2, 1, 2, &ENDED_BEFORE, 1)?;
     Ok(())
 }
