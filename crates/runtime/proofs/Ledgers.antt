@@ -4,7 +4,7 @@ use Rattle.std.proofs.Math.Seq.{take-length}
 use Rattle.std.proofs.lemmas.Option.{same_Some}
 use Rattle.protocol_values.specs.declared.Offer.{Offer}
 use Rattle.script_tree.specs.Processes.{Proc}
-use Rattle.script_tree.specs.Spawning.{AreSpawnedOnce}
+use Rattle.script_tree.specs.Spawning.{AreSpawnedOnce, spawner}
 use Rattle.script_tree.specs.Trees.{Block, block_of}
 use Rattle.thread.specs.After.{Chosen, Outcome, State, after}
 use Rattle.thread.specs.Machines.{Broken, HasStopped, IsAfterAt, Open, Over, Phase, Ready, Stuck, Thread, said_in}
@@ -51,23 +51,36 @@ offers_as ps first t results os ns are (m, (is, phase)) =
     }
 
 -- a machine that has stopped has spawned what its process has
-has_spawned : (m : Thread) (phase : Phase) → HasStopped phase → IsAfterAt m phase → spawned_in (after (block_of m.body) m.variables m.thread m.results) ≡ m.spawned
+pub has_spawned : (m : Thread) (phase : Phase) → HasStopped phase → IsAfterAt m phase → spawned_in (after (block_of m.body) m.variables m.thread m.results) ≡ m.spawned
 has_spawned m Ready stopped is = absurd stopped
 has_spawned m (Open os ns) stopped is = ap spawned_in is.after
 has_spawned m Over stopped is = ap spawned_in is
 has_spawned m (Stuck fault) stopped is = ap spawned_in is
 has_spawned m Broken stopped is = absurd stopped
 
+-- what a machine has spawned its process has
+spawned_there : (ps : List Proc) (first : List Suspended) (s : ℕ) (results : List Chosen) (t : ℕ) → AreFirst ps first → (m : Suspended) → IsMachineOf first m s results → HasStopped m.machine.value.phase → Contains m.machine.value.spawned t
+    → HasSpawned ps s results t
+spawned_there ps first s results t are m is stopped has =
+    let p = first_process ps first s m results are is in
+    record {
+      process = p.0;
+      is_its = p.1;
+      spawned = subst (λ (x : Outcome State). Contains (spawned_in x) t) (after_of p.0 m s results p.2 p.3 p.4 is.given) (subst (λ (l : List ℕ). Contains l t) (sym (has_spawned m.machine.value m.machine.value.phase stopped is.after)) has);
+    }
+
+pub spawner_there : (ps : List Proc) (first : List Suspended) (s : ℕ) (results : List Chosen) (t : ℕ) → AreFirst ps first → AreSpawnedOnce ps → (m : Suspended) → IsMachineOf first m s results → HasStopped m.machine.value.phase → Contains m.machine.value.spawned t
+    → spawner ps t ≡ Some s
+spawner_there ps first s results t are once m is stopped has =
+    let there = spawned_there ps first s results t are m is stopped has in
+    spawner_is ps once s t there.process there.is_its (text_spawns ps s there.process results t there.is_its there)
+
 pub spawns_as : (ps : List Proc) (first : List Suspended) (s : ℕ) (results : List Chosen) (t : ℕ) → AreFirst ps first → AreSpawnedOnce ps → (m : Suspended) → SpawnsFor first m s results t → ProcessSpawns ps s results t
 spawns_as ps first s results t are once m h =
     let p = first_process ps first s m results are h.machine in
-    let there : HasSpawned ps s results t = record {
-      process = p.0;
-      is_its = p.1;
-      spawned = subst (λ (x : Outcome State). Contains (spawned_in x) t) (after_of p.0 m s results p.2 p.3 p.4 h.machine.given) (subst (λ (l : List ℕ). Contains l t) (sym (has_spawned m.machine.value m.machine.value.phase h.stopped h.machine.after)) h.spawned);
-    } in
+    let there = spawned_there ps first s results t are m h.machine h.stopped h.spawned in
     record {
-      by = spawner_is ps once s t p.0 p.1 (text_spawns ps s p.0 results t p.1 there);
+      by = spawner_there ps first s results t are once m h.machine h.stopped h.spawned;
       at = record {
         within = omega arith;
         there = subst (λ (rs : List Chosen). HasSpawned ps s rs t) (sym (take-length results)) there;

@@ -1,3 +1,4 @@
+pub mod Beginnings
 pub mod Completed
 pub mod Crossing
 pub mod Hearing
@@ -6,3 +7,6 @@ pub mod Lists
 pub mod Machines
 pub mod Ranging
 pub mod Rising
+pub mod Spawns
+pub mod Startings
+pub mod Turning

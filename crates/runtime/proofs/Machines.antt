@@ -11,6 +11,7 @@ use Rattle.protocol_values.specs.declared.NackName.{NackName}
 use Rattle.protocol_values.specs.declared.Offer.{Offer}
 use Rattle.protocol_values.specs.declared.Row.{Row}
 use Rattle.script_tree.specs.Processes.{Proc}
+use Rattle.script_tree.specs.Spawning.{AreSpawnedOnce, IsPlaced}
 use Rattle.thread.specs.After.{Chosen}
 use Rattle.thread.specs.Machines.{Broken, IsOpen, Open, Over, Phase, Ready, StartsAs, Stuck, Tells, nacks_in, offers_in}
 use Rattle.thread.specs.declared.machine.Turn.TheVariants as turn
@@ -35,17 +36,20 @@ use Rattle.runtime.specs.Machines.{AreBound, AreFirst, IsNow, IsTable, LeavesOth
 -- WHAT OTHER THREADS ARE LEFT WITH
 
 pub leaves_then : (t : ℕ) (s u v : Seen) → LeavesOthers t s u → LeavesOthers t u v → LeavesOthers t s v
-leaves_then t s u v f g r apart h = g r apart (f r apart h)
+leaves_then t s u v f g r apart held h = let a = f r apart held h in g r apart a.0 a.1
 
 pub leaves_bound : (r : Row) (k : ℕ) (b : Binding) (s : Seen) → LeavesOthers r.thread s (see_bound (nack_of_row r k) b s)
-leaves_bound r k b s x apart h = (
-  h.0,
-  h.1,
-  λ n c i. ⊎_elim
-      (λ (e : (nack_of_row r k, b) ≡ (n, c)). λ at. apart (ap (λ (y : Row). y.thread) (sym at) ∙ ap (λ (z : NackName × Binding). z.0.thread) (sym e)))
-      (λ (old : Has s.bound (n, c)). h.2 n c old)
-      i,
-  h.3,
+leaves_bound r k b s x apart held h = (
+  held,
+  (
+    h.0,
+    h.1,
+    λ n c i. ⊎_elim
+        (λ (e : (nack_of_row r k, b) ≡ (n, c)). λ at. apart (ap (λ (y : Row). y.thread) (sym at) ∙ ap (λ (z : NackName × Binding). z.0.thread) (sym e)))
+        (λ (old : Has s.bound (n, c)). h.2 n c old)
+        i,
+    h.3,
+  ),
 )
 
 -- BINDING
@@ -131,8 +135,8 @@ pub holds_from : (p : PassOf Suspended) (r : Row) (value : Option Suspended) (c 
 holds_from p r value c e = e ∙ ap (λ (l : List (ℕ × Option Suspended)). (r.thread, value) ∷ l) (sym (ap rest e))
 
 -- so the machines are before their processes
-pub table_of_first : (cells : GridOf Suspended) (ps : List Proc) (first : List Suspended) → cells.first ≡ first → AreFirst ps first → 1 ≤ length ps → length ps ≤ 64 → IsTable cells
-table_of_first cells ps first is are some few = record { processes = ps; some = some; few = few; first = subst (AreFirst ps) (sym is) are }
+pub table_of_first : (cells : GridOf Suspended) (ps : List Proc) (first : List Suspended) → cells.first ≡ first → AreFirst ps first → 1 ≤ length ps → length ps ≤ 64 → IsPlaced ps → AreSpawnedOnce ps → (1 ≤ cells.rows) × (cells.rows ≤ 1024) → IsTable cells
+table_of_first cells ps first is are some few placed once rows = record { rows = rows; processes = ps; some = some; few = few; first = subst (AreFirst ps) (sym is) are; placed = placed; once = once }
 
 pub is_housing : (cells : GridOf Suspended) → IsTable cells → 0 < length cells.first
 is_housing cells table = (let same = table.first.0 in let some = table.some in omega (arith, same, some))

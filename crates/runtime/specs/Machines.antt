@@ -1,17 +1,18 @@
 -- The machines that stand for the threads, and what a worker knows of one.
-use Rattle.std.specs.Prelude.{◌≡◌, ◌≢◌, ◌⊎◌, ◌<◌, ◌≤◌, ℕ, ⊤, List, [], ◌∷◌, length, take, false, Some, slice_get, Contains}
+use Rattle.std.specs.Prelude.{◌≡◌, ◌≢◌, ◌⊎◌, ◌<◌, ◌≤◌, ℕ, ⊤, List, [], ◌∷◌, length, take, drop, false, Some, slice_get, Contains}
 use Rattle.protocol_values.specs.declared.Binding.{Binding}
 use Rattle.protocol_values.specs.declared.NackName.{NackName}
 use Rattle.protocol_values.specs.declared.Offer.{Offer}
 use Rattle.protocol_values.specs.declared.Row.{Row}
 use Rattle.script_tree.specs.Processes.{Proc}
-use Rattle.script_tree.specs.Spawning.{has_bit, spawns_block}
+use Rattle.script_tree.specs.Spawning.{AreSpawnedOnce, IsPlaced, has_bit, spawns_block}
+use Rattle.std.specs.List.{AllPairs}
 use Rattle.script_tree.specs.Trees.{block_of}
 use Rattle.thread.specs.After.{Chosen, after}
 use Rattle.thread.specs.Machines.{HasStopped, IsAfter, Open, Over, Phase, SameProcess, StartsAs, Stuck}
 use Rattle.thread.specs.Ranges.{BaseIsIn, ResultsAreIn}
 use Rattle.protocol.specs.Standing.{IsLeft, Stands, binding_of}
-use Rattle.protocol.specs.Worlds.{nack_of_row}
+use Rattle.protocol.specs.Worlds.{first_row, nack_of_row}
 use Rattle.protocol.specs.Tables.{bound_row}
 use Rattle.journal_replay.specs.Starting.{spawned_in}
 use Rattle.atomic_table.specs.Table.{rest}
@@ -25,7 +26,12 @@ use Rattle.runtime.specs.declared.turns.Taken.{Taken}
 abbrev pub MarksSpawned : List Proc → ℕ → Type 0
 MarksSpawned ps later = (t s : ℕ) (p : Proc) → t < 64 → has_bit later t ≡ false → slice_get ps s ≡ Some p → spawns_block t p.body ≡ false
 
--- The machine runs the process of the thread's first one, and stands where it leads after these results, which words have room for.
+-- what the machine's process, run as this thread, has spawned after these results
+abbrev pub spawned_by : Suspended → ℕ → List Chosen → List ℕ
+spawned_by m t results = spawned_in (after (block_of m.machine.value.body) m.machine.value.variables t results)
+
+-- The machine runs the process of the thread's first one, and stands where it leads after these results, which words have room for;
+-- what the process had spawned after fewer of them the machine has spawned.
 pub record IsMachineOf (first : List Suspended) (m : Suspended) (t : ℕ) (results : List Chosen) : Type 0 where
   pub start : Suspended
   pub is_first : slice_get first t ≡ Some start
@@ -33,6 +39,7 @@ pub record IsMachineOf (first : List Suspended) (m : Suspended) (t : ℕ) (resul
   pub given : m.machine.value.results ≡ results
   pub after : IsAfter m.machine.value
   pub in_range : ResultsAreIn results
+  pub told : (n other : ℕ) → n ≤ length results → Contains (spawned_by m t (take n results)) other → Contains m.machine.value.spawned other
 
 -- and offers these there, with these nacks of its scopes
 abbrev pub StandsFor : List Suspended → Suspended → ℕ → List Chosen → List Offer → List ℕ → Type 0
@@ -43,7 +50,7 @@ pub record SpawnsFor (first : List Suspended) (m : Suspended) (t : ℕ) (results
   pub machine : IsMachineOf first m t results
   pub stopped : HasStopped m.machine.value.phase
   pub spawned : Contains m.machine.value.spawned other
-  pub not_before : (n : ℕ) → n < length results → Contains (spawned_in (after (block_of m.machine.value.body) m.machine.value.variables t (take n results))) other → ⊥
+  pub not_before : (n : ℕ) → n < length results → Contains (spawned_by m t (take n results)) other → ⊥
 
 -- and has come to its end, or to a fault
 abbrev pub IsAtEnd : Phase → Type 0
@@ -62,20 +69,36 @@ doings = record { follows = IsMachineOf; offers = StandsFor; starts = SpawnsFor;
 abbrev pub AreFirst : List Proc → List Suspended → Type 0
 AreFirst ps first = (length first ≡ length ps) × ((t : ℕ) (m : Suspended) → slice_get first t ≡ Some m → (p : Proc) × (slice_get ps t ≡ Some p) × StartsAs p t m.machine.value)
 
--- a table of machines, each of which has its process before it
+-- a table of machines, each of which has its process before it, of 1 to 1,024 rows for each
 pub record IsTable (cells : GridOf Suspended) : Type 0 where
+  pub rows : (1 ≤ cells.rows) × (cells.rows ≤ 1024)
   pub processes : List Proc
   pub some : 1 ≤ length processes
   pub few : length processes ≤ 64
   pub first : AreFirst processes cells.first
+  pub placed : IsPlaced processes
+  pub once : AreSpawnedOnce processes
 
 -- the pass has not seen the row opened, nor begun with it, no nack that it has seen is bound to it, and it has not seen the thread end
 abbrev pub IsUntouched : Seen → Row → Type 0
 IsUntouched s r = (¬ Has s.opened r) × (¬ Has s.begun r) × ((n : NackName) (b : Binding) → Has s.bound (n, b) → bound_row n b ≢ r) × (¬ SawEnded s r.thread)
 
--- what was untouched of other threads still is
+-- of each other thread, a row that was held and untouched still is
 abbrev pub LeavesOthers : ℕ → Seen → Seen → Type 0
-LeavesOthers thread s t = (r : Row) → r.thread ≢ thread → IsUntouched s r → IsUntouched t r
+LeavesOthers thread s t = (r : Row) → r.thread ≢ thread → Has s.held r → IsUntouched s r → Has t.held r × IsUntouched t r
+
+-- these threads, of so many, are to have their first turns, each once: the pass holds their first rows, and they are untouched
+abbrev pub AreToBegin : ℕ → Seen → List ℕ → Type 0
+AreToBegin count s threads = ((t : ℕ) → Contains threads t → (t < count) × Has s.held (first_row t) × IsUntouched s (first_row t)) × AllPairs (λ a b. a ≢ b) threads
+
+-- the rows that were held are, and those that were seen opened
+abbrev pub KeepsRows : Seen → Seen → Type 0
+KeepsRows s t = ((r : Row) → Has s.held r → Has t.held r) × ((r : Row) → Has s.opened r → Has t.opened r)
+
+-- what the machine has spawned behind the first so many, its process spawns behind the last of the machine's results, and not before
+abbrev pub SpawnedSince : Suspended → ℕ → ℕ → Type 0
+SpawnedSince m t had = (other n : ℕ) → Contains (drop had m.machine.value.spawned) other → n < length m.machine.value.results
+    → Contains (spawned_by m t (take n m.machine.value.results)) other → ⊥
 
 -- the pass has taken the row, and what stands for its thread came out last: it is to be given the row's message last
 abbrev pub IsToResume : List Suspended → PassOf Suspended → Taken → Type 0

@@ -9,7 +9,9 @@ use std::sync::atomic::{AtomicBool, AtomicUsize, Ordering};
 /// When the last active worker becomes idle, no row will come. A worker becomes idle only after it found no
 /// row, so its own deque was empty then, and since only it puts rows there, it is empty still. Whoever put a
 /// row into the injector last found the injector empty afterwards. And a turn is under way, or a row is kept
-/// for the next turn, only in a worker that is active: so no turn will put a row in.
+/// for the next turn, only in a worker that is active: so no turn will put a row in. A thread that is started has
+/// its first turn within that of the thread that starts it, so of its first row, too, no other worker hears but by
+/// the lanes and the queues.
 #[derive(Drop)]
 pub(crate) struct Activity {
     active: AtomicUsize,

@@ -70,8 +70,26 @@ impl<R: Wait, G: StepGate> Crew<'_, R, G> {
         self.wake_all(worker, enabled)
     }
 
+    /// Wakes the rows that wait for the end of the thread, which has ended.
+    pub(crate) fn wake_end(&self, worker: &mut Worker, thread: u8) -> Result<(), Halt>
+        requires { IsWorkerOf self.now worker.old }
+        ensures { IsWorkerOf self.now worker.new }
+    {
+        let woken = self.shared.meet.wake_end(
+            self.rt,
+            self.shared.alloc,
+            self.cells,
+            &mut worker.pass,
+            &mut worker.lanes,
+            self.gate,
+            thread,
+        )?;
+        let mut enabled = Vec::new(self.shared.alloc);
+        self.follow_woken(worker, &woken, &mut enabled)?;
+        self.wake_all(worker, enabled)
+    }
+
     /// Wakes the rows that wait for these nacks, and follows them in turn: their commits enable nacks too.
-    /// Rows that are woken are put into the ready queues here.
     fn wake_all(&self, worker: &mut Worker, nacks: Vec<NackName>) -> Result<(), Halt>
         requires { IsWorkerOf self.now worker.old }
         ensures { IsWorkerOf self.now worker.new }
@@ -90,13 +108,27 @@ impl<R: Wait, G: StepGate> Crew<'_, R, G> {
                 self.gate,
                 nack,
             )?;
-            for row in &woken {
-                let others = self.shared.notes.nacks(self.rt, row.thread);
-                add_enabled(self.cells, &mut worker.pass, *row, others, &mut nacks)?;
-                self.put_ready(&mut worker.end, *row)?;
-            }
+            self.follow_woken(worker, &woken, &mut nacks)?;
         }
         unreachable!()
+    }
+
+    /// Puts the rows that were woken into the ready queues, and adds the nacks that their commits enabled.
+    fn follow_woken(
+        &self,
+        worker: &mut Worker,
+        woken: &[Row],
+        enabled: &mut Vec<NackName>,
+    ) -> Result<(), Halt>
+        requires { IsWorkerOf self.now worker.old }
+        ensures { IsWorkerOf self.now worker.new }
+    {
+        for row in woken {
+            let others = self.shared.notes.nacks(self.rt, row.thread);
+            add_enabled(self.cells, &mut worker.pass, *row, others, enabled)?;
+            self.put_ready(&mut worker.end, *row)?;
+        }
+        Ok(())
     }
 
     /// Puts the rows that a turn committed into the ready queues.

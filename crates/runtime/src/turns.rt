@@ -1,19 +1,19 @@
 //! One turn of a thread, by a worker. The functions stand in the order of a run: a thread's first turn begins it and
 //! enters its first row, which is searched for behind the first turns of all; a later turn advances a row that is
-//! ready, resumes its thread, and enters and searches for the next row.
+//! ready, resumes its thread, and enters and searches for the next row. Where a turn starts other threads, their first
+//! turns follow before anything is searched for.
 
-ghost use Rattle.std.specs.Prelude.{◌≡◌, ◌≢◌, IfOk, IfSome, None, is_some, true};
+ghost use Rattle.std.specs.Prelude.{◌≡◌, ◌≢◌, ◌≤◌, [], ℕ, Contains, IfOk, IfSome, None, OnOk, is_some, true, length};
 ghost use Rattle.protocol_values.specs.declared.Binding.{Binding};
 ghost use Rattle.protocol_values.specs.declared.NackName.{NackName};
 ghost use Rattle.protocol.specs.Tables.{bound_row};
 ghost use Rattle.protocol_values.specs.Values.{next_row};
-ghost use Rattle.thread.specs.Machines.{Tells};
-ghost use Rattle.thread.specs.declared.machine.Turn.TheVariants.{Offering};
+ghost use Rattle.thread.specs.Machines.{HasStopped, IsOpen, Tells};
 ghost use Rattle.thread.specs.Ranges.{MessageIsIn};
-ghost use Rattle.cell.specs.Calls.{Holds, IsPassOf, IsRowOf};
-ghost use Rattle.cell_table.specs.Sight.{Has, SawEnded};
+ghost use Rattle.cell.specs.Calls.{Holds, IsPassOf, IsRowOf, IsStandOf};
+ghost use Rattle.cell_table.specs.Sight.{Has, IsStand, SawEnded};
 ghost use Rattle.protocol.specs.Worlds.{first_row};
-ghost use Rattle.runtime.specs.Machines.{IsNow, IsTable, IsToResume, IsUntouched, LeavesOthers};
+ghost use Rattle.runtime.specs.Machines.{AreToBegin, IsNow, IsTable, IsToResume, IsUntouched, KeepsRows, LeavesOthers, SpawnedSince};
 ghost use Rattle.runtime.specs.Workers.{IsWorkerOf};
 
 use crate::binding::bind_all;
@@ -46,86 +46,199 @@ struct Taken {
     message: Message,
 }
 
+/// What a turn's end came to: the nacks of the row that it opened, if it opened one, and whether the thread ended.
+#[derive(Clone, Copy)]
+struct Entered {
+    opened: Option<Nacks>,
+    ended: bool,
+}
+
+/// A thread that had its first turn, and what that came to.
+#[derive(Clone, Copy)]
+struct Begun {
+    thread: u8,
+    entered: Entered,
+}
+
 impl<R: Wait, G: Gate + StepGate> Crew<'_, R, G> {
-    /// The first turns of the threads whose first rows the worker's pass holds. All of these rows are opened before
-    /// the first of them is searched for.
+    /// The first turns of the threads whose first rows the worker's pass holds, and of those that these start. All of
+    /// these rows are opened before the first of them is searched for.
     pub(crate) fn begin_all(&self, worker: &mut Worker) -> Result<(), Halt>
         requires here { IsWorkerOf self.now worker.old }
         requires untouched { (r : Row) → IsUntouched worker.old.pass.seen r }
         ensures { IsWorkerOf self.now worker.new }
     {
-        for thread in 0..self.threads {
-            self.begin_thread(worker, thread)?;
+        let mut threads = Vec::new(self.shared.alloc);
+        // The list is taken from its end: so the first thread begins first.
+        for behind in 0..self.threads {
+            let thread = self.threads - 1 - behind;
+            let row = Row { thread, sync: 0 };
+            if worker.pass.holds(row) && self.cells.has(row) {
+                threads.push(thread)?;
+            }
         }
-        for first in 0..self.threads {
-            self.search_first(worker, first)?;
-        }
-        Ok(())
+        let begun = self.begin_each(worker, threads)?;
+        self.follow_begun(worker, &begun)
     }
 
-    /// The first turn of the thread, where the pass holds its first row: the row is opened, and not searched for yet.
-    fn begin_thread(&self, worker: &mut Worker, thread: u8) -> Result<(), Halt>
+    /// The first turns of these threads, the last one's first, and of those that they start.
+    fn begin_each(&self, worker: &mut Worker, threads: Vec<u8>) -> Result<Vec<Begun>, Halt>
         requires here { IsWorkerOf self.now worker.old }
-        requires untouched { IsUntouched worker.old.pass.seen (first_row thread) }
+        requires threads { AreToBegin self.now.cells.now.threads worker.old.pass.seen threads.items }
         ensures here { IsWorkerOf self.now worker.new }
-        ensures others { LeavesOthers thread worker.old.pass.seen worker.new.pass.seen }
+        ensures rows { KeepsRows worker.old.pass.seen worker.new.pass.seen }
     {
-        let row = Row { thread, sync: 0 };
-        if !worker.pass.holds(row) || !self.cells.has(row) {
-            return Ok(());
+        let mut threads = threads;
+        let mut begun = Vec::new(self.shared.alloc);
+        for _ in self.rt.forever() {
+            let Some(thread) = threads.pop() else {
+                return Ok(begun);
+            };
+            self.gate.before(worker.number, thread);
+            let entered = self.begin(&mut worker.pass, Row { thread, sync: 0 }, &mut threads);
+            self.gate.after(worker.number, thread);
+            let entered = entered?;
+            begun.push(Begun { thread, entered })?;
         }
-        self.gate.before(worker.number, thread);
-        let opened = self.begin(&mut worker.pass, row);
-        self.gate.after(worker.number, thread);
-        opened?;
-        Ok(())
+        unreachable!()
     }
 
-    /// Runs the thread to its first stop, and opens its first row where it offers something there. The answer
-    /// is the row's nacks, if it does.
-    fn begin(&self, pass: &mut Pass<Suspended>, row: Row) -> Result<Option<Nacks>, Halt>
-        requires here { IsPassOf self.now.cells.now pass.old × IsRowOf self.now.cells.now row × IsTable self.now.cells.now }
-        requires first { (row.sync ≡ 0) × Has pass.old.seen.held row }
-        requires untouched { IsUntouched pass.old.seen row }
-        ensures here { IsPassOf self.now.cells.now pass.new }
-        ensures others { LeavesOthers row.thread pass.old.seen pass.new.seen }
-    {
-        let mut suspended = self.cells.fetch(pass, row);
-        let turn = suspended.machine.begin()?;
-        Ok(self.enter(pass, row, suspended, turn))
-    }
-
-    /// Opens the row with what the machine offers, where it has come to an event, and the machine goes home. The answer
-    /// is its nacks then. A machine that has come to its end is done with.
-    fn enter(
+    /// Runs the thread to its first stop, and enters its first row. The threads that it starts join the list.
+    fn begin(
         &self,
         pass: &mut Pass<Suspended>,
         row: Row,
+        threads: &mut Vec<u8>,
+    ) -> Result<Entered, Halt>
+        requires here { IsPassOf self.now.cells.now pass.old × IsRowOf self.now.cells.now row × IsTable self.now.cells.now }
+        requires first { (row.sync ≡ 0) × Has pass.old.seen.held row }
+        requires untouched { IsUntouched pass.old.seen row }
+        requires threads { AreToBegin self.now.cells.now.threads pass.old.seen threads.old.items × ((t : ℕ) → Contains threads.old.items t → t ≢ row.thread) }
+        ensures here { IsPassOf self.now.cells.now pass.new }
+        ensures rows { KeepsRows pass.old.seen pass.new.seen }
+        ensures threads { OnOk result (AreToBegin self.now.cells.now.threads pass.new.seen threads.new.items) }
+    {
+        let mut suspended = self.cells.fetch(pass, row);
+        let turn = suspended.machine.begin()?;
+        self.enter(pass, row, suspended, turn, 0, threads)
+    }
+
+    /// What a machine comes to behind a turn: it starts the threads that it spawned since it had spawned so many, which
+    /// join the list; then it opens the place's row with what it offers, or ends its thread.
+    fn enter(
+        &self,
+        pass: &mut Pass<Suspended>,
+        place: Row,
         suspended: Suspended,
         turn: Turn,
-    ) -> Option<Nacks>
-        requires here { IsPassOf self.now.cells.now pass.old × IsRowOf self.now.cells.now row × IsTable self.now.cells.now }
-        requires fresh { Has pass.old.seen.held row × (¬ Has pass.old.seen.opened row) }
-        requires free { (n : NackName) (b : Binding) → Has pass.old.seen.bound (n, b) → bound_row n b ≢ row }
-        requires out { Holds pass.old row None }
+        had: usize,
+        threads: &mut Vec<u8>,
+    ) -> Result<Entered, Halt>
+        requires here { IsPassOf self.now.cells.now pass.old × IsStandOf self.now.cells.now place × IsTable self.now.cells.now }
+        requires stands { IsStand self.now.cells.now.rows pass.old.seen place }
+        requires free { (n : NackName) (b : Binding) → Has pass.old.seen.bound (n, b) → bound_row n b ≢ place }
+        requires out { Holds pass.old place None }
         requires turn { Tells turn suspended.machine.value.phase }
-        requires stands { IsNow self.now.cells.now.first pass.old row suspended }
+        requires now { IsNow self.now.cells.now.first pass.old place suspended }
+        requires since { SpawnedSince suspended place.thread had × (had ≤ length suspended.machine.value.spawned) }
+        requires threads { AreToBegin self.now.cells.now.threads pass.old.seen threads.old.items × ((t : ℕ) → Contains threads.old.items t → t ≢ place.thread) }
         ensures here { IsPassOf self.now.cells.now pass.new }
-        ensures others { LeavesOthers row.thread pass.old.seen pass.new.seen }
-        ensures opened { IfSome result (λ nacks. Has pass.new.seen.held row × Has pass.new.seen.opened row) }
-        ensures offered { turn ≡ Offering → is_some result ≡ true }
+        ensures rows { KeepsRows pass.old.seen pass.new.seen }
+        ensures threads { OnOk result (AreToBegin self.now.cells.now.threads pass.new.seen threads.new.items) }
+        ensures opened { IfOk result (λ e. IfSome e.opened (λ nacks. IsRowOf self.now.cells.now place × Has pass.new.seen.held place × Has pass.new.seen.opened place)) }
     {
-        let Turn::Offering = turn else {
+        self.start_spawned(pass, place, &suspended, had, threads)?;
+        match turn {
+            Turn::Offering => Ok(Entered {
+                opened: self.offer(pass, place, suspended),
+                ended: false,
+            }),
+            Turn::Ended | Turn::Faulted(_) => {
+                self.cells.finish(pass, place);
+                Ok(Entered {
+                    opened: None,
+                    ended: true,
+                })
+            }
+        }
+    }
+
+    /// Starts, from the place at which its thread stands, the threads that the machine spawned since it had spawned so
+    /// many. They join the list, but for one that has been started before: that cannot be, since a process is spawned
+    /// by one other, and once.
+    fn start_spawned(
+        &self,
+        pass: &mut Pass<Suspended>,
+        place: Row,
+        suspended: &Suspended,
+        had: usize,
+        threads: &mut Vec<u8>,
+    ) -> Result<(), Halt>
+        requires here { IsPassOf self.now.cells.now pass.old × IsStandOf self.now.cells.now place × IsTable self.now.cells.now }
+        requires stands { IsStand self.now.cells.now.rows pass.old.seen place }
+        requires now { IsNow self.now.cells.now.first pass.old place suspended.now × HasStopped suspended.now.machine.value.phase }
+        requires free { (n : NackName) (b : Binding) → Has pass.old.seen.bound (n, b) → bound_row n b ≢ place }
+        requires since { SpawnedSince suspended.now place.thread had × (had ≤ length suspended.now.machine.value.spawned) }
+        requires threads { AreToBegin self.now.cells.now.threads pass.old.seen threads.old.items × ((t : ℕ) → Contains threads.old.items t → t ≢ place.thread) }
+        ensures here { IsPassOf self.now.cells.now pass.new }
+        ensures stands { IsStand self.now.cells.now.rows pass.new.seen place }
+        ensures now { IsNow self.now.cells.now.first pass.new place suspended.now }
+        ensures rows { KeepsRows pass.old.seen pass.new.seen }
+        ensures free { (n : NackName) (b : Binding) → Has pass.new.seen.bound (n, b) → bound_row n b ≢ place }
+        ensures out { pass.new.out ≡ pass.old.out }
+        ensures threads { OnOk result (AreToBegin self.now.cells.now.threads pass.new.seen threads.new.items × ((t : ℕ) → Contains threads.new.items t → t ≢ place.thread)) }
+    {
+        for other in &suspended.machine.spawned()[had..] {
+            if self.cells.start(pass, place, *other) {
+                threads.push(*other)?;
+            }
+        }
+        Ok(())
+    }
+
+    /// Opens the row with what the machine offers, which has come to an event, and the machine goes home. The answer is
+    /// its nacks then. Behind the thread's last row nothing is opened, and the machine is done with.
+    fn offer(&self, pass: &mut Pass<Suspended>, place: Row, suspended: Suspended) -> Option<Nacks>
+        requires here { IsPassOf self.now.cells.now pass.old × IsStandOf self.now.cells.now place × IsTable self.now.cells.now }
+        requires stands { IsStand self.now.cells.now.rows pass.old.seen place }
+        requires free { (n : NackName) (b : Binding) → Has pass.old.seen.bound (n, b) → bound_row n b ≢ place }
+        requires out { Holds pass.old place None }
+        requires open { IsOpen suspended.machine.value.phase }
+        requires now { IsNow self.now.cells.now.first pass.old place suspended }
+        ensures here { IsPassOf self.now.cells.now pass.new }
+        ensures others { LeavesOthers place.thread pass.old.seen pass.new.seen }
+        ensures rows { KeepsRows pass.old.seen pass.new.seen }
+        ensures opened { IfSome result (λ nacks. IsRowOf self.now.cells.now place × Has pass.new.seen.held place × Has pass.new.seen.opened place) }
+        ensures offered { IsRowOf self.now.cells.now place → is_some result ≡ true }
+    {
+        if !self.cells.has(place) {
             return None;
-        };
+        }
         let nacks = Nacks::of(suspended.machine.nacks());
-        bind_all(self.cells, pass, row, &suspended);
-        self.shared.notes.note(self.rt, row.thread, nacks);
+        bind_all(self.cells, pass, place, &suspended);
+        self.shared.notes.note(self.rt, place.thread, nacks);
         offers_fit(suspended.machine.offers());
-        self.cells.draft(pass, row, suspended.machine.offers());
-        self.cells.park(pass, row, suspended);
-        self.cells.open(pass, row);
+        self.cells.draft(pass, place, suspended.machine.offers());
+        self.cells.park(pass, place, suspended);
+        self.cells.open(pass, place);
         Some(nacks)
+    }
+
+    /// Behind first turns: for each row that was opened a row is searched for that it can meet, and what comes to be
+    /// committed is put into the ready queues; then who waits for the end of a thread that has ended is woken.
+    fn follow_begun(&self, worker: &mut Worker, begun: &[Begun]) -> Result<(), Halt>
+        requires { IsWorkerOf self.now worker.old }
+        ensures { IsWorkerOf self.now worker.new }
+    {
+        for first in begun {
+            self.search_first(worker, first.thread)?;
+        }
+        for first in begun {
+            if first.entered.ended {
+                self.wake_end(worker, first.thread)?;
+            }
+        }
+        Ok(())
     }
 
     /// Searches for a row that the thread's first one can meet, where the pass holds that and has opened it. What
@@ -142,7 +255,7 @@ impl<R: Wait, G: Gate + StepGate> Crew<'_, R, G> {
             Cell::Fresh => Ok(()),
             Cell::Waiting | Cell::Claimed | Cell::Synched(_) | Cell::Taken(_) => {
                 let nacks = self.shared.notes.nacks(self.rt, thread);
-                let done = self.meet(worker, row, Ok(Some(nacks)))?;
+                let done = self.meet(worker, row, Some(nacks))?;
                 self.put_committed(&mut worker.end, done)
             }
         }
@@ -150,17 +263,12 @@ impl<R: Wait, G: Gate + StepGate> Crew<'_, R, G> {
 
     /// Looks for a row that the opened row, of these nacks, can meet. The answer is what came to be committed
     /// here.
-    fn meet(
-        &self,
-        worker: &mut Worker,
-        row: Row,
-        opened: Result<Option<Nacks>, Halt>,
-    ) -> Result<Committed, Halt>
-        requires here { IsWorkerOf self.now worker.old × IsRowOf self.now.cells.now row }
-        requires opened { IfOk opened (λ opened. IfSome opened (λ nacks. Has worker.old.pass.seen.held row × Has worker.old.pass.seen.opened row)) }
+    fn meet(&self, worker: &mut Worker, row: Row, opened: Option<Nacks>) -> Result<Committed, Halt>
+        requires here { IsWorkerOf self.now worker.old }
+        requires opened { IfSome opened (λ nacks. IsRowOf self.now.cells.now row × Has worker.old.pass.seen.held row × Has worker.old.pass.seen.opened row) }
         ensures { IsWorkerOf self.now worker.new }
     {
-        let Some(nacks) = opened? else {
+        let Some(nacks) = opened else {
             return Ok(Committed::Nothing);
         };
         let found = self.shared.meet.search(
@@ -185,15 +293,15 @@ impl<R: Wait, G: Gate + StepGate> Crew<'_, R, G> {
         }
     }
 
-    /// Takes the row, if nobody has, and goes on with its thread. A thread's last row is not taken: behind it
-    /// nothing runs. The answer is what the turn committed, which is to go on.
+    /// Takes the row, if nobody has, and goes on with its thread, behind its last row too. The answer is what the turn
+    /// committed, which is to go on.
     pub(crate) fn advance(&self, worker: &mut Worker, row: Row) -> Result<Committed, Halt>
         requires { IsWorkerOf self.now worker.old }
         ensures { IsWorkerOf self.now worker.new }
     {
-        let Some(next) = self.row_behind(row) else {
+        if !self.cells.has(row) {
             return Ok(Committed::Nothing);
-        };
+        }
         // Before the row is taken: of the next row, which is held then, nothing more is read.
         let Some(message) = self.cells.result(&mut worker.pass, row) else {
             return Ok(Committed::Nothing);
@@ -207,43 +315,62 @@ impl<R: Wait, G: Gate + StepGate> Crew<'_, R, G> {
             joined,
             message,
         };
-        let opened = self.resume(&mut worker.pass, taken, next);
-        let done = self.meet(worker, next, opened);
+        let done = self.turn(worker, taken, row.next());
         self.gate.after(worker.number, row.thread);
         done
     }
 
-    /// The next row of the row's thread, if the table has it. Then it has the row too.
-    fn row_behind(&self, row: Row) -> Option<Row>
-        ensures { IfSome result (λ next. IsRowOf self.now.cells.now row × IsRowOf self.now.cells.now next × (next ≡ next_row row)) }
+    /// One turn of the thread of the row that was taken, and the first turns of the threads that it starts.
+    fn turn(&self, worker: &mut Worker, taken: Taken, next: Row) -> Result<Committed, Halt>
+        requires here { IsWorkerOf self.now worker.old × IsRowOf self.now.cells.now taken.row }
+        requires next { next ≡ next_row taken.row }
+        requires stands { IsStand self.now.cells.now.rows worker.old.pass.seen next }
+        requires free { (n : NackName) (b : Binding) → Has worker.old.pass.seen.bound (n, b) → bound_row n b ≢ next }
+        requires alive { ¬ SawEnded worker.old.pass.seen next.thread }
+        requires resumes { IsToResume self.now.cells.now.first worker.old.pass taken }
+        requires message { MessageIsIn taken.message }
+        ensures { IsWorkerOf self.now worker.new }
     {
-        let next = Row {
-            thread: row.thread,
-            sync: row.sync.checked_add(1)?,
-        };
-        self.cells.has(next).then_some(next)
+        let mut threads = Vec::new(self.shared.alloc);
+        let entered = self.resume(&mut worker.pass, taken, next, &mut threads)?;
+        // Most turns start and end nobody.
+        if threads.is_empty() && !entered.ended {
+            return self.meet(worker, next, entered.opened);
+        }
+        let begun = self.begin_each(worker, threads)?;
+        let done = self.meet(worker, next, entered.opened)?;
+        self.follow_begun(worker, &begun)?;
+        if entered.ended {
+            self.wake_end(worker, next.thread)?;
+        }
+        Ok(done)
     }
 
-    /// Goes on with the thread of the row that was taken, and opens its next row where it offers something there. The
-    /// answer is that row's nacks, if it does.
+    /// Goes on with the thread of the row that was taken, and enters its next row. The threads that it starts join the
+    /// list.
     fn resume(
         &self,
         pass: &mut Pass<Suspended>,
         taken: Taken,
         next: Row,
-    ) -> Result<Option<Nacks>, Halt>
-        requires here { IsPassOf self.now.cells.now pass.old × IsRowOf self.now.cells.now next × IsTable self.now.cells.now }
+        threads: &mut Vec<u8>,
+    ) -> Result<Entered, Halt>
+        requires here { IsPassOf self.now.cells.now pass.old × IsRowOf self.now.cells.now taken.row × IsTable self.now.cells.now }
         requires next { next ≡ next_row taken.row }
-        requires fresh { Has pass.old.seen.held next × (¬ Has pass.old.seen.opened next) }
+        requires stands { IsStand self.now.cells.now.rows pass.old.seen next }
         requires free { (n : NackName) (b : Binding) → Has pass.old.seen.bound (n, b) → bound_row n b ≢ next }
         requires alive { ¬ SawEnded pass.old.seen next.thread }
         requires resumes { IsToResume self.now.cells.now.first pass.old taken }
         requires message { MessageIsIn taken.message }
+        requires threads { threads.old.items ≡ [] }
         ensures here { IsPassOf self.now.cells.now pass.new }
-        ensures opened { IfOk result (λ opened. IfSome opened (λ nacks. Has pass.new.seen.held next × Has pass.new.seen.opened next)) }
+        ensures rows { KeepsRows pass.old.seen pass.new.seen }
+        ensures threads { OnOk result (AreToBegin self.now.cells.now.threads pass.new.seen threads.new.items) }
+        ensures opened { IfOk result (λ e. IfSome e.opened (λ nacks. IsRowOf self.now.cells.now next × Has pass.new.seen.held next × Has pass.new.seen.opened next)) }
     {
         let mut suspended = self.cells.fetch(pass, next);
+        let had = suspended.machine.spawned().len();
         let turn = suspended.machine.resume(taken.joined.own, taken.message)?;
-        Ok(self.enter(pass, next, suspended, turn))
+        self.enter(pass, next, suspended, turn, had, threads)
     }
 }

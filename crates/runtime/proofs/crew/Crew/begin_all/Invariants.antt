@@ -1,12 +1,9 @@
-use Rattle.std.proofs.Common.{◌≤◌}
-use Rattle.protocol_values.specs.declared.Row.{Row}
-use Rattle.runtime.specs.Machines.{IsUntouched}
+use Rattle.std.proofs.Common.{◌≡◌, ◌≤◌, ◌+◌, ◌<◌, ℕ, Contains}
+use Rattle.runtime.specs.Machines.{AreToBegin}
 use Rattle.runtime.specs.Workers.{IsWorkerOf}
 use Rattle.runtime.proofs.crew.Crew.begin_all.Given as goal
 
--- the threads from this one on are untouched
-abbrev pub invariant-loop-thread : goal.invariant-loop-thread
-invariant-loop-thread g l = IsWorkerOf l.self l.worker × ((r : Row) → l.thread ≤ r.thread → IsUntouched l.worker.pass.seen r)
-
-abbrev pub invariant-loop-first : goal.invariant-loop-first
-invariant-loop-first g l = IsWorkerOf l.self l.worker
+-- the threads behind those that are left are listed, whose first rows the pass holds; nothing else was done
+abbrev pub invariant-loop-behind : goal.invariant-loop-behind
+invariant-loop-behind g l =
+    IsWorkerOf l.self l.worker × (l.worker ≡ l.fn.worker) × AreToBegin l.self.cells.now.threads l.worker.pass.seen l.threads.items × ((t : ℕ) → Contains l.threads.items t → (t < l.self.threads) × (l.self.threads ≤ t + l.behind))

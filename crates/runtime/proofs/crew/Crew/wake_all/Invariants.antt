@@ -4,6 +4,3 @@ use Rattle.runtime.proofs.crew.Crew.wake_all.Given as goal
 abbrev pub invariant-loop : goal.invariant-loop
 invariant-loop g l =
     (goal.iterator-loop g).can_next l.iterator' × (goal.iterator-loop g).is_finite l.iterator' × IsWorkerOf l.self l.worker
-
-abbrev pub invariant-loop-row : goal.invariant-loop-row
-invariant-loop-row g l = IsWorkerOf l.self l.worker
