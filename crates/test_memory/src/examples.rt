@@ -26,6 +26,12 @@ pub(crate) const NESTED_NACKS: Example = Example {
     journal: "1 a.0.0 -> p.0.0 w (!a.0)\n2 a.1.0 -> q.0.0 v (!a.1)\n3 a.2.1 always ()\n3 q.1.0 -> r.0.0 u (!a.1)\n4 q.2.0 cancelled a.1\n4 r.1.0 cancelled a.1\n",
 };
 
+pub(crate) const STARTS: Example = Example {
+    name: "starts and ends",
+    text: "channel c; process one { x <- sync recv c; print x; } process two { spawn one; sync send c (7); } process main { sync always (); spawn two; sync joined one; sync joined two; }",
+    journal: "1 main.0.0 always ()\n2 two.0.0 -> one.0.0 c (7)\n3 main.1.0 joined one\n4 main.2.0 joined two\n",
+};
+
 /// The second line ends without its semicolon.
 pub(crate) const WITH_A_FAULT: &str =
     "channel c;\nprocess a { sync send c (1) }\nprocess b { x <- sync recv c; print x; }\n";

@@ -13,7 +13,7 @@ mod tables;
 mod texts;
 
 use crate::examples::{
-    CLIENT_SERVER, Example, NESTED_NACKS, ROWS, THREE_SENDS, WITH_A_BAD_LINE, WITH_A_FAULT,
+    CLIENT_SERVER, Example, NESTED_NACKS, ROWS, STARTS, THREE_SENDS, WITH_A_BAD_LINE, WITH_A_FAULT,
 };
 use crate::hoard::{Hoard, Slack};
 use crate::journals::{Completing, Enabling, ReadingJournal, Replaying, Settling, WritingJournal};
@@ -206,7 +206,7 @@ fn sweep_all<R: Print + Eprint + Env + AllocGlobal + Threads + Wait + Sync>(
     sweep_journal_texts(&mut sweeper, &script)?;
     sweep_journals(&mut sweeper, &script)?;
     sweep_tables(&mut sweeper)?;
-    for example in [THREE_SENDS, CLIENT_SERVER, NESTED_NACKS] {
+    for example in [THREE_SENDS, CLIENT_SERVER, NESTED_NACKS, STARTS] {
         sweep_run(&mut sweeper, &example, 1, MIDDLING)?;
         sweep_run(&mut sweeper, &example, 2, COARSE)?;
     }

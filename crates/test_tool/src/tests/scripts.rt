@@ -35,7 +35,7 @@ pub(super) const WITHOUT_COMMITS: [Example; 3] = [
 ];
 
 /// Examples with commits, all of which the workers make themselves.
-pub(super) const EXAMPLES: [Example; 12] = [
+pub(super) const EXAMPLES: [Example; 15] = [
     Example {
         name: "one send",
         rows: "256",
@@ -119,6 +119,27 @@ pub(super) const EXAMPLES: [Example; 12] = [
         script: "process a { x <- sync wrap wrap always (3) as p to (p + 1) as q to (q + q); print x; }",
         journal: "1 a.0.0 always (3)\n",
         ends: "a ended 8\ncommits 1 tail 0\n",
+    },
+    Example {
+        name: "a process that another one starts",
+        rows: "256",
+        script: "channel c; process kid { x <- sync recv c; print x; } process main { sync always (); spawn kid; sync send c (5); sync joined kid; }",
+        journal: "1 main.0.0 always ()\n2 main.1.0 -> kid.0.0 c (5)\n3 main.2.0 joined kid\n",
+        ends: "kid ended 5\nmain ended\ncommits 3 tail 0\n",
+    },
+    Example {
+        name: "a start behind the last row",
+        rows: "1",
+        script: "process k { print 3; sync always (); } process a { sync always (); sync guard { spawn k; } always (); }",
+        journal: "1 a.0.0 always ()\n2 k.0.0 always ()\n",
+        ends: "k ended 3\na spent\ncommits 2 tail 0\n",
+    },
+    Example {
+        name: "two that wait for one end",
+        rows: "256",
+        script: "process k { } process a { sync always (); sync always (); spawn k; sync joined k; } process z { sync always (); sync joined k; }",
+        journal: "1 a.0.0 always ()\n1 z.0.0 always ()\n2 a.1.0 always ()\n3 a.2.0 joined k\n3 z.1.0 joined k\n",
+        ends: "k ended\na ended\nz ended\ncommits 5 tail 0\n",
     },
 ];
 

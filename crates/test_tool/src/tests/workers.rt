@@ -6,6 +6,7 @@ use journal_text::read_journal;
 use protocol_values::Commit;
 use runtime::{OpenGate, RunFault, run, work};
 use script::{Script, parse};
+use std::alloc::{AllocError, Global};
 use std::process::Abort;
 use std::sync::Wait;
 use std::test::Fail;
@@ -56,6 +57,34 @@ fn looks_before_putting(rt: HostRuntime) -> Result<(), Fail> {
     for _ in 0..1000 {
         let record = run(&rt, rt.alloc(), &script, 16, 1, &OpenGate)?;
         check_same(&rt, record.journal.len(), 2, "the commits");
+        check_same(&rt, record.tail, 0, "the tail");
+    }
+    Ok(())
+}
+
+/// A process that starts another one, which starts a third, and so on, so many in all; each waits for the end
+/// of the one that it started.
+fn chain(alloc: Global, starts: u64) -> Result<String, AllocError> {
+    let mut text = String::new(alloc);
+    text.push_str("process p0 { }\n")?;
+    for before in 0..starts {
+        let next = before + 1;
+        write!(
+            text,
+            "process p{next} {{ spawn p{before}; sync joined p{before}; }}\n"
+        )?;
+    }
+    Ok(text)
+}
+
+// Each process is started in its turn, and each end wakes who waits for it.
+#[test]
+fn starts_and_ends_in_a_chain(rt: HostRuntime) -> Result<(), Fail> {
+    let text = chain(rt.alloc(), 62)?;
+    let script = parse(rt.alloc(), text.as_bytes())?;
+    for _ in 0..1000 {
+        let record = run(&rt, rt.alloc(), &script, 16, 1, &OpenGate)?;
+        check_same(&rt, record.journal.len(), 62, "the commits");
         check_same(&rt, record.tail, 0, "the tail");
     }
     Ok(())
