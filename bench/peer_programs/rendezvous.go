@@ -79,6 +79,17 @@ func pingpong(rounds int) {
 	}})
 }
 
+// starts starts 63 goroutines that do nothing, and waits for their ends.
+func starts(rounds int) {
+	tasks := make([]func(), 63)
+	for p := range tasks {
+		tasks[p] = func() {}
+	}
+	for i := 0; i < rounds; i++ {
+		all(tasks)
+	}
+}
+
 func main() {
 	rounds, err := strconv.Atoi(os.Args[2])
 	if err != nil {
@@ -91,5 +102,7 @@ func main() {
 		ring(rounds)
 	case "pingpong":
 		pingpong(rounds)
+	case "starts":
+		starts(rounds)
 	}
 }

@@ -42,9 +42,15 @@ structure Rendezvous = struct
          fn () => times rounds (fn _ => CML.send (pong, CML.recv ping))]
   end
 
+  (* starts 63 threads that do nothing, and waits for their ends *)
+  fun starts rounds =
+    times rounds (fn _ =>
+      app (CML.sync o CML.joinEvt) (List.tabulate (63, fn _ => CML.spawn (fn () => ()))))
+
   fun work ["pairs", rounds] = pairs (valOf (Int.fromString rounds))
     | work ["ring", rounds] = ring (valOf (Int.fromString rounds))
     | work ["pingpong", rounds] = pingpong (valOf (Int.fromString rounds))
+    | work ["starts", rounds] = starts (valOf (Int.fromString rounds))
     | work _ = ()
 
   fun main (_, arguments) =
