@@ -1,5 +1,5 @@
 -- Flags that stand for a set of rows.
-use Rattle.std.proofs.Common.{◌⊎◌, ◌≡◌, ℕ, ◌+◌, ◌*◌, ◌<◌, ◌≤◌, Bool, cond, ltb, true, false, List, [], ◌∷◌, length, get_or, set, refl, sym, ap, ◌∙◌, subst, inl, inr, ⊎_elim, arith}
+use Rattle.std.proofs.Common.{◌⊎◌, ◌≡◌, ℕ, ◌+◌, ◌*◌, ◌<◌, ◌≤◌, Bool, cond, ltb, true, false, List, [], ◌∷◌, ◌++◌, length, get_or, set, refl, sym, ap, ◌∙◌, subst, inl, inr, ⊎_elim, arith}
 use Rattle.std.proofs.lemmas.Bool.{ltb-false}
 use Rattle.std.proofs.lemmas.List.{get_or-set_same, get_or-set_other}
 use Rattle.protocol_values.specs.declared.Joined.{Joined}
@@ -8,7 +8,8 @@ use Rattle.protocol_values.specs.Values.{next_row}
 use Rattle.protocol.specs.Tables.{row_eq, number_of}
 use Rattle.protocol.proofs.RowLemmas.{row_cases, row_eq-false, same_row}
 use Rattle.protocol.proofs.Places.{same_block, same_rest, block_inside}
-use Rattle.cell.specs.Attempts.{Took}
+use Rattle.protocol.specs.Worlds.{first_row}
+use Rattle.cell.specs.Attempts.{Started, Took}
 use Rattle.cell.specs.Flags.{AreFlags, places_behind, places_of}
 use Rattle.cell_table.specs.declared.view.Seen.{Seen}
 use Rattle.cell_table.specs.Sight.{Has, see_held, see_next}
@@ -108,3 +109,9 @@ taken_flags threads rows flags flags' before after r j below took more old = fla
         (λ (e : next_row r ≡ q). inl e)
         (λ (among : IsAmong rows before q). inr (has_places rows before q among))
         (case_next (ltb (r.sync + 1) rows) rows r before q last (was q (places_has rows after q h)))
+
+-- once a thread was started, its first row is one more
+pub started_flags : (threads all rows : ℕ) (flags : List Bool) (before after : Seen) (r : Row) (p : ℕ) → Started before after r p true → AreFlags threads all flags (first_row p ∷ places_of rows before) → AreFlags threads all flags (places_of rows after)
+started_flags threads all rows flags before after r p started old =
+    let learns = started.2 in
+    subst (AreFlags threads all flags) (sym (ap (places_of rows) started.4 ∙ (λ i. first_row p ∷ (learns.held i ++ places_behind rows (learns.lasts i))))) old

@@ -1,8 +1,9 @@
-pub mod Redrafting
-pub mod Starting
+pub mod Alone
+pub mod Crossing
+pub mod Flagging
+pub mod Handing
 pub mod Learning
 pub mod Meeting
 pub mod Playing
-pub mod Alone
-pub mod Flagging
-pub mod Crossing
+pub mod Redrafting
+pub mod Starting

@@ -99,3 +99,7 @@ module _ {M : Type 0} where
   -- in a table of machines the row's machine is parked, stands where its thread's results lead, and offers what was drafted for the row
   abbrev pub IsParked : Stands M → GridOf M → PassOf M → Row → Type 0
   IsParked stands g p r = IsHousing g → (value : M) × Holds p r (Some value) × IsReady stands g.first p.results p.seen r value
+
+-- places in which nothing lies
+abbrev pub HoldNothing : {A : Type 0} → List (Option A) → Type 0
+HoldNothing {A} places = (n : ℕ) (value : A) → slice_get places n ≡ Some (Some value) → ⊥

@@ -40,7 +40,8 @@ ghost use Rattle.cell.specs.Attempts.{
   start_made,
   take_made,
 };
-ghost use Rattle.cell.specs.Calls.{CanFetch, Fetched, Holds, HoldsAt, IsFollowing, IsHousing, IsNackOf, IsParked, IsPassOf, IsRowOf, IsStandOf, KeepsResults, PassOf, PassView};
+ghost use Rattle.cell.specs.Calls.{CanFetch, Fetched, Holds, HoldNothing, HoldsAt, IsFollowing, IsHousing, IsNackOf, IsParked, IsPassOf, IsRowOf, IsStandOf, KeepsResults, PassOf, PassView};
+ghost use Rattle.cell_table.specs.Closings.{HandsOut};
 ghost use Rattle.cell_table.specs.Told.{GoesHome};
 ghost use Rattle.cell_table.specs.Rule.{IsFinishing, IsReady, IsStarting, StartsFirst, dealt_later, dealt_rows, falls_to, heard, seen_nothing, told_of};
 ghost use Rattle.atomic_table.specs.Table.{rest, turned};
@@ -92,6 +93,7 @@ use std::snapshot::Snapshot;
 #[derive(Drop)]
 pub struct Cells<M: Resident> {
     board: Board<M>,
+    /// Room for the table's words, so that the end needs no memory.
     spare: Vec<u64>,
 }
 
@@ -111,19 +113,22 @@ impl<M: Resident> Model for Cells<M> {
 pub struct Pass<M> {
     seat: Seat<Option<M>, View<M>>,
     rows: RowSet,
+    /// Room for what the slots hold at the end.
+    places: Vec<Option<M>>,
 }
 
 impl<M> Model for Pass<M> {
     ghost use Rattle.std.specs.Prelude.{◌≡◌, ◌+◌};
     ghost use Rattle.cell_table.specs.declared.view.Stage.TheVariants.{Resting};
-    ghost use Rattle.cell.specs.Calls.{PassOf};
+    ghost use Rattle.std.specs.Prelude.{length};
+    ghost use Rattle.cell.specs.Calls.{HoldNothing, PassOf};
     ghost use Rattle.cell.specs.Flags.{AreFlags, places_of};
 
     ghost Value = { PassOf M };
 
     ghost view = { λ p. record { of = record { id = p.seat.table_id; threads = p.seat.me.0.threads; rows = p.seat.me.0.rows; passes = p.seat.me.0.passes; later = p.seat.me.0.later; first = p.seat.me.0.first }; seen = p.seat.me.0.seen; made = p.seat.me.0.made; results = p.seat.me.0.results; out = p.seat.me.1 } };
 
-    ghost invariant = { λ p. (p.seat.me.0.stage ≡ Resting) × (p.seat.me.0.threads ≡ p.rows.threads) × (p.seat.me.0.rows + 1 ≡ p.rows.rows) × AreFlags p.rows.threads p.rows.rows p.rows.flags.items (places_of p.seat.me.0.rows p.seat.me.0.seen) };
+    ghost invariant = { λ p. (p.seat.me.0.stage ≡ Resting) × (p.seat.me.0.threads ≡ p.rows.threads) × (p.seat.me.0.rows + 1 ≡ p.rows.rows) × AreFlags p.rows.threads p.rows.rows p.rows.flags.items (places_of p.seat.me.0.rows p.seat.me.0.seen) × (length p.places.items ≡ length p.seat.me.0.first) × HoldNothing p.places.items };
 }
 
 impl<M> Pass<M> {
@@ -247,7 +252,7 @@ impl<M: Resident + Drop> Cells<M> {
         ensures made { pass.new.made ≡ start_made row thread result pass.old.made }
         ensures results { KeepsResults pass.old pass.new }
     {
-        let Pass { seat, rows } = pass;
+        let Pass { seat, rows, .. } = pass;
         let started = start_from(&self.board, seat, row, thread);
         if started {
             rows.insert(Row { thread, sync: 0 });
@@ -299,12 +304,14 @@ impl<M: Resident + Drop> Cells<M> {
         };
         let spare = start_words(alloc, usize::from(threads), usize::from(rows), later)?;
         let slots = slots_of(alloc, first)?;
+        let count = slots.len();
         let (board, mut dealer) = Board::start(alloc, shape, spare.as_slice(), slots)?;
         let mut dealt = Vec::with_capacity(alloc, usize::from(passes))?;
         for number in 0..passes {
             let seat = board.deal(&mut dealer, u64::from(number));
             let rows = first_rows(alloc, threads, rows, passes, later, number)?;
-            dealt.push(Pass { seat, rows })?;
+            let places = no_places(alloc, count)?;
+            dealt.push(Pass { seat, rows, places })?;
         }
         Ok((Cells { board, spare }, dealt))
     }
@@ -326,9 +333,32 @@ impl<M: Resident + Drop> Cells<M> {
         ensures own { (r : Row) (j : Joined) (offers : List Offer) → IsDraft pass.seen r offers → joined_in result r ≡ Some j → (j.own < length offers) × (offer_in result r j.own ≡ slice_get offers j.own) }
         ensures acts { IsHousing self → ActsAs (StartsFirst self.threads self.later) (acts_in M.stands self.first) result }
     {
+        self.close_all(pass).0
+    }
+
+    /// The same, and what stands for the threads of which a row is opened that nobody has taken: it offers what that row
+    /// offers. One place for each thread, in a table of machines. What lies in other slots goes with the table.
+    pub fn close_all(self, pass: Pass<M>) -> (Ledger, Vec<Option<M>>)
+        requires here { IsPassOf self pass }
+        ensures size { (result.0.threads ≡ self.threads) × (result.0.rows ≡ self.rows) }
+        ensures lawful { IsLawful result.0 }
+        ensures at_once { (t : ℕ) → t < self.threads → waits self.later t ≡ false → HasStart (course_in result.0 t) 0 }
+        ensures outside { (t : ℕ) → self.threads ≤ t → course_in result.0 t ≡ Unstarted }
+        ensures started { (t stamp : ℕ) → Has pass.seen.started (t, stamp) → HasStart (course_in result.0 t) stamp }
+        ensures ended { (t g : ℕ) → Has pass.seen.ended (t, g) → EndsAt (course_in result.0 t) g }
+        ensures seen { (r : Row) (j : Joined) → Has pass.seen.joined (r, j) → joined_in result.0 r ≡ Some j }
+        ensures offers { (r : Row) (n : ℕ) (o : Offer) → SeesOffer pass.seen r n o → offer_in result.0 r n ≡ Some o }
+        ensures lacks { (r : Row) (n : ℕ) → SeesNoOffer pass.seen r n → offer_in result.0 r n ≡ None }
+        ensures bound { (n : NackName) (b : Binding) → Has pass.seen.bound (n, b) → binding_in result.0 n ≡ Some b }
+        ensures results { (t : ℕ) (results : List Result) → Has pass.results (t, results) → AreResults result.0 t results }
+        ensures own { (r : Row) (j : Joined) (offers : List Offer) → IsDraft pass.seen r offers → joined_in result.0 r ≡ Some j → (j.own < length offers) × (offer_in result.0 r j.own ≡ slice_get offers j.own) }
+        ensures count { length result.1.items ≡ length self.first }
+        ensures machines { IsHousing self → HandsOut M.stands self.first result.0 result.1.items }
+        ensures acts { IsHousing self → ActsAs (StartsFirst self.threads self.later) (acts_in M.stands self.first) result.0 }
+    {
         let Cells { board, spare } = self;
-        let Pass { seat, .. } = pass;
-        board.close(seat, spare)
+        let Pass { seat, places, .. } = pass;
+        board.close(seat, spare, places)
     }
 }
 
@@ -518,7 +548,7 @@ impl<M: Resident> Cells<M> {
         ensures results { ResultsTold row result pass.old.results pass.new.results }
         ensures out { Hands M.stands self.now.first pass.old.seen pass.new.seen row result pass.new.results pass.old.out pass.new.out }
     {
-        let Pass { seat, rows } = pass;
+        let Pass { seat, rows, .. } = pass;
         let joined = take_row(&self.board, seat, row)?;
         rows.insert(row.next());
         Some(joined)
@@ -595,6 +625,18 @@ fn slots_of<M: Drop>(alloc: Global, first: Vec<M>) -> Result<Vec<Option<M>>, All
     ensures { IfOk result (λ slots. slots.items ≡ map Some first.items) }
 {
     first.into_iter().map(Some).collect(alloc)
+}
+
+/// So many places, with nothing in them.
+fn no_places<M: Drop>(alloc: Global, count: usize) -> Result<Vec<Option<M>>, AllocError>
+    ensures count { IfOk result (λ places. length places.items ≡ count) }
+    ensures nothing { IfOk result (λ places. HoldNothing places.items) }
+{
+    let mut places = Vec::with_capacity(alloc, count)?;
+    for _ in 0..count {
+        places.push(None)?;
+    }
+    Ok(places)
 }
 
 /// The rows that pass `number` holds at the start, with room for the places behind the last ones.

@@ -11,13 +11,21 @@ use Rattle.protocol_values.specs.declared.Binding.{Binding}
 use Rattle.protocol_values.specs.declared.Course.{Course}
 use Rattle.protocol_values.specs.declared.Course.TheVariants.{Unstarted, Running}
 use Rattle.protocol_values.specs.declared.Row.{Row}
-use Rattle.protocol.specs.Tables.{Table, course_at, joined_at}
+use Rattle.protocol.specs.Kept.{Linked}
+use Rattle.protocol.specs.Tables.{Table, cell_at, course_at, is_fresh, is_taken, joined_at, marks_at, offer_at, place_of, word_at}
+use Rattle.protocol.proofs.Closing.{none_later}
+use Rattle.protocol.proofs.Places.{row_from}
+use Rattle.protocol_values.specs.Words.{cell_of}
+use Rattle.protocol_values.specs.declared.Cell.TheVariants.{Fresh}
+use Rattle.std.specs.Prelude.{if◌then◌else◌, unwrap_or}
+use Rattle.std.proofs.lemmas.Option.{same_Some}
+use Rattle.cell_table.specs.Closings.{HandedOut, IsHomeOf}
 use Rattle.protocol.specs.Growing.{GoesOn}
 use Rattle.protocol.specs.Worlds.{start_world, waits}
 use Rattle.protocol.specs.Ledgers.{ledger_of, IsLawful, binding_in, course_in, joined_in, offer_in}
 use Rattle.protocol.proofs.LedgerLemmas.{binding_in_ledger, course_in_ledger, kept_start, lawful_ledger, joined_in_ledger, offer_in_ledger, start_course}
 use Rattle.protocol.proofs.Onward.{grows-schedule}
-use Rattle.protocol.specs.Standing.{AreResults, Result, SomeStands, Stands}
+use Rattle.protocol.specs.Standing.{AreResults, OffersAs, Result, SomeStands, Stands}
 use Rattle.protocol.proofs.Standing.{stands-ledger}
 use Rattle.cell_table.specs.declared.view.View.{View}
 use Rattle.cell_table.specs.declared.view.Shape.{Shape}
@@ -116,3 +124,22 @@ module _ {M : Type 0} (stands : Stands M) where
       starts = kept.started some_first;
       ends = kept.ended some_first;
     })
+
+    -- what lies at home offers what the row offers that is opened and not taken, and no later row of the thread is in a commit
+    pub final_machine : 0 < length shape.first.value.items → (t : ℕ) (value : M) → IsHomeOf shape ws slots t value → HandedOut stands shape.first.value.items (ledger_of (sized shape ws)) t value
+    final_machine some_first t value h =
+        let g = h.1.0 in
+        let r : Row = record { thread = t; sync = g } in
+        let home = (kept.housed some_first).at_home r (subst (λ (z : Table). is_fresh (cell_at z r) ≡ false) (sym table_is) h.1.1.0) (subst (λ (z : Table). is_taken (cell_at z r) ≡ false) (sym table_is) h.1.1.1) in
+        let same : home.value ≡ value = same_Some home.value value (mathlib.Core.Option.some-injective (Some home.value) (Some value) (sym (final.4 t (Some home.value) home.home) ∙ h.0)) in record {
+          sync = g;
+          offers = subst (λ (z : Table). OffersAs (stands.offers shape.first.value.items value) (ledger_of z) r) table_is (subst (λ (m : M). OffersAs (stands.offers shape.first.value.items m) (ledger_of kept.world.table) r) same home.offers);
+          next = λ c x has involved.
+              none_later (sized shape ws) (subst (λ (z : Table). Linked z.threads z.rows (cell_at z) (offer_at z) (marks_at z)) table_is (world_kept stands shape final.0 kept).linked) t g h.1.1.1 c x has involved;
+        }
+
+-- A CELL, by the words alone
+pub cell_from : {M : Type 0} (shape : Shape M) (ws : List ℕ) (r : Row) → r.thread < shape.threads → r.sync < shape.rows
+    → cell_at (sized shape ws) r ≡ unwrap_or (cell_of (slice_index ws (place_of shape.rows r 0))) Fresh
+unfolding cell_at word_at
+cell_from shape ws r a b = ap (λ (c : Bool). if c then unwrap_or (cell_of (slice_index ws (place_of shape.rows r 0))) Fresh else Fresh) (row_from (sized shape ws) r a b)

@@ -5,3 +5,4 @@ pub mod Rule
 pub mod Laws
 pub mod Told
 pub mod Seats
+pub mod Closings

@@ -1,6 +1,8 @@
 //! The end of a table: its words become a ledger.
 
-ghost use Rattle.std.specs.Prelude.{◌≡◌, ◌<◌, ◌≤◌, ℕ, List, length, None, Some, slice_get, false};
+ghost use Rattle.std.specs.Prelude.{◌≡◌, ◌*◌, ◌<◌, ◌≤◌, ℕ, IfSome, List, length, None, Some, slice_get, false};
+ghost use Rattle.protocol.specs.Tables.{cell_at, thread_len};
+ghost use Rattle.cell_table.specs.Closings.{HandsOut, IsHomeOf, IsOpenAt, words_of};
 ghost use Rattle.std.specs.Slots.{slots_items, slots_len, IsFull};
 ghost use Rattle.protocol_values.specs.declared.Course.TheVariants.{Unstarted};
 ghost use Rattle.protocol_values.specs.declared.Joined.{Joined};
@@ -17,50 +19,123 @@ ghost use Rattle.cell_table.specs.Sight.{Has, IsDraft, SeesNoOffer, SeesOffer};
 ghost use Rattle.protocol.specs.Acting.{ActsAs, EndsAt, HasStart, acts_in};
 
 use crate::board::Board;
-use crate::view::View;
+use crate::view::{Shape, View};
 use atomic_table::{Closed, Seat};
-use protocol::{Ledger, Resident};
+use protocol::{Cell, LIVES, Ledger, NACKS, ROW_LEN, Resident, Row, unpack_cell};
 use std::alloc::Global;
 
 impl<M: Resident + Drop> Board<M> {
-    /// The ledger of the words at the end. They are copied into `spare`, as many words, which whoever made the table
-    /// has kept from the start for this: so the end needs no memory.
-    pub fn close(self, seat: Seat<Option<M>, View<M>>, spare: Vec<u64>) -> Ledger
+    /// The ledger of the words at the end, and what stands for the threads of which a row is opened that nobody has
+    /// taken: it lies in the thread's slot then, and offers what that row offers. The words are copied into `spare`, as
+    /// many words, and what is handed out goes into `places`, as many as there are slots: whoever made the table has
+    /// kept both from the start for this, so the end needs no memory.
+    pub fn close(
+        self,
+        seat: Seat<Option<M>, View<M>>,
+        spare: Vec<u64>,
+        places: Vec<Option<M>>,
+    ) -> (Ledger, Vec<Option<M>>)
         requires sits { Sits self seat }
         requires spare { length spare.items ≡ self.words.shared.table_id.words }
-        ensures size { (result.threads ≡ self.shape.threads) × (result.rows ≡ self.shape.rows) }
-        ensures lawful { IsLawful result }
-        ensures at_once { (t : ℕ) → t < self.shape.threads → waits self.shape.later t ≡ false → HasStart (course_in result t) 0 }
-        ensures outside { (t : ℕ) → self.shape.threads ≤ t → course_in result t ≡ Unstarted }
-        ensures started { (t stamp : ℕ) → Has seat.me.0.seen.started (t, stamp) → HasStart (course_in result t) stamp }
-        ensures ended { (t g : ℕ) → Has seat.me.0.seen.ended (t, g) → EndsAt (course_in result t) g }
-        ensures seen { (r : Row) (j : Joined) → Has seat.me.0.seen.joined (r, j) → joined_in result r ≡ Some j }
-        ensures offers { (r : Row) (n : ℕ) (o : Offer) → SeesOffer seat.me.0.seen r n o → offer_in result r n ≡ Some o }
-        ensures lacks { (r : Row) (n : ℕ) → SeesNoOffer seat.me.0.seen r n → offer_in result r n ≡ None }
-        ensures bound { (n : NackName) (b : Binding) → Has seat.me.0.seen.bound (n, b) → binding_in result n ≡ Some b }
-        ensures results { (t : ℕ) (results : List Result) → Has seat.me.0.results (t, results) → AreResults result t results }
-        ensures own { (r : Row) (j : Joined) (offers : List Offer) → IsDraft seat.me.0.seen r offers → joined_in result r ≡ Some j → (j.own < length offers) × (offer_in result r j.own ≡ slice_get offers j.own) }
-        ensures acts { 0 < length self.shape.first.value.items → ActsAs (StartsFirst self.shape.threads self.shape.later) (acts_in M.stands self.shape.first.value.items) result }
+        requires places { length places.items ≡ self.words.shared.table_id.slots }
+        requires empty { (t : ℕ) (value : M) → slice_get places.items t ≡ Some (Some value) → ⊥ }
+        ensures size { (result.0.threads ≡ self.shape.threads) × (result.0.rows ≡ self.shape.rows) }
+        ensures lawful { IsLawful result.0 }
+        ensures at_once { (t : ℕ) → t < self.shape.threads → waits self.shape.later t ≡ false → HasStart (course_in result.0 t) 0 }
+        ensures outside { (t : ℕ) → self.shape.threads ≤ t → course_in result.0 t ≡ Unstarted }
+        ensures started { (t stamp : ℕ) → Has seat.me.0.seen.started (t, stamp) → HasStart (course_in result.0 t) stamp }
+        ensures ended { (t g : ℕ) → Has seat.me.0.seen.ended (t, g) → EndsAt (course_in result.0 t) g }
+        ensures seen { (r : Row) (j : Joined) → Has seat.me.0.seen.joined (r, j) → joined_in result.0 r ≡ Some j }
+        ensures offers { (r : Row) (n : ℕ) (o : Offer) → SeesOffer seat.me.0.seen r n o → offer_in result.0 r n ≡ Some o }
+        ensures lacks { (r : Row) (n : ℕ) → SeesNoOffer seat.me.0.seen r n → offer_in result.0 r n ≡ None }
+        ensures bound { (n : NackName) (b : Binding) → Has seat.me.0.seen.bound (n, b) → binding_in result.0 n ≡ Some b }
+        ensures results { (t : ℕ) (results : List Result) → Has seat.me.0.results (t, results) → AreResults result.0 t results }
+        ensures own { (r : Row) (j : Joined) (offers : List Offer) → IsDraft seat.me.0.seen r offers → joined_in result.0 r ≡ Some j → (j.own < length offers) × (offer_in result.0 r j.own ≡ slice_get offers j.own) }
+        ensures machines { 0 < length self.shape.first.value.items → HandsOut M.stands self.shape.first.value.items result.0 result.1.items }
+        ensures count { length result.1.items ≡ length places.items }
+        ensures acts { 0 < length self.shape.first.value.items → ActsAs (StartsFirst self.shape.threads self.shape.later) (acts_in M.stands self.shape.first.value.items) result.0 }
     {
         let Board { words, shape } = self;
         let closed = words.close_with(seat);
         let words = copy_words(&closed, spare);
-        free(closed);
-        Ledger::of_words(shape.threads as u8, shape.rows as u16, words)
+        let machines = take_home(closed, words.as_slice(), &shape, places);
+        let ledger = Ledger::of_words(shape.threads as u8, shape.rows as u16, words);
+        (ledger, machines)
     }
 }
 
-/// What lies in the slots goes.
-fn free<M: Drop>(closed: Closed<Option<M>, Global>)
-    requires { IsFull closed.slots }
+/// What lies in the slots of threads of which a row is opened that nobody has taken. What lies in others goes.
+fn take_home<M: Drop>(
+    closed: Closed<Option<M>, Global>,
+    words: &[u64],
+    shape: &Shape<M>,
+    places: Vec<Option<M>>,
+) -> Vec<Option<M>>
+    requires full { IsFull closed.slots }
+    requires shape { (shape.now.threads ≤ 64) × (shape.now.rows ≤ 1024) × (length words.now ≡ shape.now.threads * thread_len shape.now.rows) }
+    requires slots { slots_len closed.slots ≤ shape.now.threads }
+    requires places { length places.items ≡ slots_len closed.slots }
+    requires empty { (t : ℕ) (value : M) → slice_get places.items t ≡ Some (Some value) → ⊥ }
+    ensures home { (t : ℕ) (value : M) → slice_get result.items t ≡ Some (Some value) → IsHomeOf shape.now words.now (slots_items closed.slots) t value }
+    ensures count { length result.items ≡ length places.items }
 {
     let mut closed = closed;
+    let mut places = places;
     let mut at = 0;
     while at < closed.slot_count() {
-        drop(closed.take(at));
+        let value = closed.take(at);
+        places[at] = at_home(words, shape, at as u8, value);
         at += 1;
     }
     closed.free();
+    places
+}
+
+/// What lies in the slot of the thread, where a row of it is opened that nobody has taken.
+fn at_home<M: Drop>(words: &[u64], shape: &Shape<M>, thread: u8, value: Option<M>) -> Option<M>
+    requires shape { (shape.now.threads ≤ 64) × (shape.now.rows ≤ 1024) × (length words.now ≡ shape.now.threads * thread_len shape.now.rows) }
+    requires thread { thread < shape.now.threads }
+    ensures { (m : M) → result ≡ Some m → (value ≡ Some m) × ((g : ℕ) × IsOpenAt shape.now words.now thread g) }
+{
+    match open_row(words, shape, thread) {
+        Some(_) => value,
+        None => None,
+    }
+}
+
+/// The thread's row that is opened and that nobody has taken, if it has one. The rows that were taken are its first
+/// ones, and those that are not opened its last ones, so it is found by halves.
+fn open_row<M>(words: &[u64], shape: &Shape<M>, thread: u8) -> Option<u16>
+    requires shape { (shape.now.threads ≤ 64) × (shape.now.rows ≤ 1024) × (length words.now ≡ shape.now.threads * thread_len shape.now.rows) }
+    requires thread { thread < shape.now.threads }
+    ensures { IfSome result (λ g. IsOpenAt shape.now words.now thread g) }
+{
+    let mut from = 0;
+    let mut to = shape.rows as u16;
+    while from < to {
+        let sync = from + (to - from) / 2;
+        match cell_there(words, shape, Row { thread, sync }) {
+            Cell::Taken(_) => from = sync + 1,
+            Cell::Fresh => to = sync,
+            Cell::Waiting | Cell::Claimed | Cell::Synched(_) => return Some(sync),
+        }
+    }
+    None
+}
+
+/// The row's cell, by these words.
+#[tactic(auto, using(crate::proofs::Endings::cell_from))]
+fn cell_there<M>(words: &[u64], shape: &Shape<M>, row: Row) -> Cell
+    requires shape { (shape.now.threads ≤ 64) × (shape.now.rows ≤ 1024) × (length words.now ≡ shape.now.threads * thread_len shape.now.rows) }
+    requires row { (row.thread < shape.now.threads) × (row.sync < shape.now.rows) }
+    ensures { result ≡ cell_at (words_of shape.now words.now) row }
+{
+    let thread_len = shape.rows as usize * ROW_LEN + NACKS + LIVES;
+    let place = usize::from(row.thread) * thread_len + usize::from(row.sync) * ROW_LEN;
+    match unpack_cell(words[place]) {
+        Some(cell) => cell,
+        None => Cell::Fresh,
+    }
 }
 
 /// The table's words, copied into `spare`, the words that were kept for the end, which are as many.

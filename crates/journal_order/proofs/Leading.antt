@@ -1,7 +1,8 @@
 -- The commits of a lawful ledger of processes, in order, are a run of them.
 use Rattle.std.proofs.Common.{◌≡◌, ◌⊎◌, ℕ, zero, suc, ◌+◌, ◌-◌, ◌<◌, ◌≤◌, Bool, true, false, cond, eqb, ltb, List, [], ◌∷◌, ◌++◌, length, take, map, get_or, slice_get, Some, None, Contains, refl, sym, ap, ◌∙◌, append_assoc, subst, arith, inl, inr, ⊎_elim}
-use Rattle.std.proofs.lemmas.Bool.{and_parts, cases_eq, cases_order, false≢true, ltb-true}
-use Rattle.std.proofs.lemmas.List.{length-append, length-take-le, take-take, take_all}
+use Rattle.std.specs.Int.{bit_at}
+use Rattle.std.proofs.lemmas.Bool.{and_parts, cases_eq, cases_order, eqb-true, false≢true, ltb-true}
+use Rattle.std.proofs.lemmas.List.{append-nil, length-append, length-take-le, take-take, take_all}
 use Rattle.std.proofs.lemmas.List.Sorted.{Contains-permutation, IsPermutation-sym}
 use Rattle.std.proofs.lemmas.Option.{none-some, same_Some, slice_get-get_or, slice_get_within, get_or_from_slice_get}
 use Rattle.event.specs.Tree.{Tree, BaseEvent, bases, mask, offer_of, offers, scope_nacks}
@@ -28,7 +29,8 @@ use Rattle.protocol.specs.Acting as acting
 use Rattle.protocol.specs.Acting.{DoesAt, EndsAt, HasStart, IsStampBehind, IsStarted, StartedBy}
 use Rattle.protocol.specs.Ledgers as ledgers
 use Rattle.protocol.specs.Ledgers.{CountsThread, Ledger, LivesAt, HasCommit, Involves, IsEnabled, IsLawful, Takes, binding_in, commits_in, course_in, has_row, joined_in, marks_in, no_entry, offer_in}
-use Rattle.protocol.specs.Tables.{number_of, start_of}
+use Rattle.protocol.specs.Openings.{IsDead, IsLastStamp}
+use Rattle.protocol.specs.Tables.{bound_row, number_of, start_of}
 use Rattle.protocol.proofs.Acting.{start_is}
 use Rattle.protocol.proofs.CommitLemmas.{commit_members}
 use Rattle.protocol.proofs.Lawfulness.{counts_own}
@@ -36,13 +38,15 @@ use Rattle.protocol.proofs.Ordering.{causal_ledger, lower_first}
 use Rattle.protocol.proofs.Results.{gift, gives-involves, one-list, one-result}
 use Rattle.journal_replay.specs.Runs.{CausedBy, Config, CountsFor, CountsOf, Follows, HasRow, HasThread, IsCaused, IsFiredAt, IsGreatest, IsLegal, IsOffering, IsRow, IsRun, MayTake, applied, config_of}
 use Rattle.journal_replay.specs.Starting.{AtOnce, CountsForStart, HasEnded, HasSpawned, InRow, InStart, Spawned, SpawnsAt, Starts}
+use Rattle.journal_replay.specs.Standing.{KnowsNack}
 use Rattle.journal_replay.proofs.Greatest.{in-more, last-more, more, more-cases}
 use Rattle.journal_replay.proofs.Lists.{slice_get-first, slice_get-middle, slice_get-more}
 use Rattle.journal_replay.proofs.Starting.{spawns-once}
 use Rattle.journal_replay.proofs.Standing.{config_of-more, counts, row-thread}
 use Rattle.journal_order.specs.Laws.{IsOrderOf}
 use Rattle.protocol.specs.Standing.{AreResults, Gives, OffersAs, binding_of}
-use Rattle.journal_order.specs.Ledgers.{IsFirst, IsLedgerOf, LedgerIsRun, ProcessOffers, ProcessSpawns}
+use Rattle.journal_order.specs.Ledgers.{IsFirst, IsLedgerOf, LedgerIsRun, LedgersTell, ProcessOffers, ProcessSpawns, TellsNacks, TellsResults, TellsStamps, TellsStarts}
+use Rattle.protocol.specs.declared.opening.NackState.TheVariants.{Dead, Enabled, Unbound, Unsettled}
 use Rattle.journal_order.proofs.Runs.{RunsOn, get-take, run-whole}
 use Rattle.journal_order.proofs.Swapping.{applied-other, grows, has-or-not}
 
@@ -87,6 +91,10 @@ offered-base (b ∷ bs) (suc n) o e = let w = offered-base bs n o e in record { 
 -- a scope that is not in the mask is not among the scopes
 outside-mask : (scopes : List ℕ) (scope : ℕ) → has_scope (mask scopes) scope ≡ false → Contains scopes scope → ⊥
 outside-mask scopes scope out has = false≢true (sym out ∙ ap (λ (n : ℕ). eqb n 1) ((mask-bits scopes scope).1 has))
+
+-- and one that is in the mask is
+inside-mask : (scopes : List ℕ) (scope : ℕ) → has_scope (mask scopes) scope ≡ true → Contains scopes scope
+inside-mask scopes scope inside = (mask-bits scopes scope).0 (eqb-true (bit_at (mask scopes) scope) 1 inside)
 
 -- WHAT A THREAD OFFERS is one event
 abbrev tree-in : Outcome State → Tree → Tree
@@ -228,37 +236,53 @@ module _ (ps : List Proc) (rows : ℕ) (l : Ledger) (law : IsLawful l) (of : IsL
           outside = λ has. outside-mask base.base.scopes en.binding.scope (ap (λ (o : Offer). has_scope o.scopes en.binding.scope) base.is ∙ en.outside offer.0 offer.1) has;
         }
 
-    -- and one that is fired is bound to the sync that fired it
-    bound-where : (n : NackName) (g : ℕ) (d : Commit) → Contains es d → Involves d (row n.thread g) → IsFiredAt ps (config_of es) n g → (b : Binding) × (binding_in l n ≡ Some b) × (b.sync ≡ g)
-    bound-where n g d there has f =
+    -- and one that is fired is bound to the scope and the sync that fired it
+    bound-scope : (n : NackName) (g : ℕ) (d : Commit) → Contains es d → Involves d (row n.thread g) → (f : IsFiredAt ps (config_of es) n g) → binding_in l n ≡ Some (binding_of (row n.thread g) f.scope)
+    bound-scope n g d there has f =
         let r = row n.thread g in
         let offer = offered-by d r has.0 (k.members d there) has.1 in
         let off = of.offers r has.0 offer.0 offer.1 in
         let low = k.inside d n.thread g there has in
         let same : f.event ≡ off.standing.event = one-event ps n.thread (take g (config_of es n.thread)) off.results f.event off.standing.event (sym (before r off (omega (arith, low)))) f.offered off.standing.offered in
-        (binding_of r f.scope, off.bound f.scope n.k (ap (λ (ns : List ℕ). slice_get ns f.scope) (sym off.standing.scopes) ∙ ap (λ (e : Tree). slice_get (scope_nacks e) f.scope) (sym same) ∙ f.nack), refl)
+        off.bound f.scope n.k (ap (λ (ns : List ℕ). slice_get ns f.scope) (sym off.standing.scopes) ∙ ap (λ (e : Tree). slice_get (scope_nacks e) f.scope) (sym same) ∙ f.nack)
 
-    -- THE NEXT COMMIT: those of lower stamps are there already, and it is not
-    module _ (c : Commit) (in_c : HasCommit l c) (anew : Contains es c → ⊥) (lower : (d : Commit) → HasCommit l d → stamp_of d < stamp_of c → Contains es d) where
-      behind : (d : Commit) → HasCommit l d → ledgers.CountsFor (marks_in l) d c → Contains es d
-      behind d in_d h = lower d in_d ((law.stamps c in_c).above d in_d h)
+    bound-where : (n : NackName) (g : ℕ) (d : Commit) → Contains es d → Involves d (row n.thread g) → IsFiredAt ps (config_of es) n g → (b : Binding) × (binding_in l n ≡ Some b) × (b.sync ≡ g)
+    bound-where n g d there has f = (binding_of (row n.thread g) f.scope, bound-scope n g d there has f, refl)
 
-      -- WHO STARTED BEFORE IT has started in the run
-      abbrev Begun : ℕ → ℕ → Type 0
-      Begun t stamp = IsStarted (IsFirst ps) (ProcessSpawns ps) l t stamp
+    -- STARTS in the ledger
+    abbrev Begun : ℕ → ℕ → Type 0
+    Begun t stamp = IsStarted (IsFirst ps) (ProcessSpawns ps) l t stamp
 
-      reached : (s start n stamp : ℕ) → IsStampBehind l s start n stamp → stamp < stamp_of c → n ≤ length (config_of es s)
+    -- a thread's start is not above what stands behind it
+    start-below : (s start n stamp : ℕ) → HasStart (course_in l s) start → IsStampBehind l s start n stamp → start ≤ stamp
+    start-below s start zero stamp running is = omega (arith, is)
+    start-below s start (suc g) stamp running is =
+        let above = (law.stamps is.0 is.1).after_start s (counts_own is.0 (row s g) is.2) in
+        omega (arith, above, start_is (course_in l s) start running, is.3)
+
+    -- a row behind which a thread was started has at most the start's stamp
+    row-below : (s start n stamp g : ℕ) (d : Commit) → IsStampBehind l s start n stamp → g < n → HasCommit l d → Involves d (row s g) → stamp_of d ≤ stamp
+    row-below s start zero stamp g d is below in_d has = absurd (omega (arith, below))
+    row-below s start (suc h) stamp g d is below in_d has = ⊎_elim
+        (λ (same : g ≡ h).
+        let one : d ≡ is.0 = law.once (row s h) d is.0 in_d is.1 (subst (λ (n : ℕ). Involves d (row s n)) same has) is.2 in
+        omega (arith, ap stamp_of one, is.3))
+        (λ (ne : g ≡ h → ⊥).
+        let above = (law.stamps is.0 is.1).above d in_d (inl (s, h, g, omega (arith, below, ne), has, is.2)) in
+        omega (arith, above, is.3))
+        (cases_eq g h)
+
+    -- of the commits that count for a start one has just its stamp, where that is not 0
+    abbrev Told : ℕ → ℕ → Type 0
+    Told t stamp = (stamp ≡ 0) ⊎ ((d : Commit) × HasCommit l d × CountsForStart ps (config_of es) d t × (stamp_of d ≡ stamp))
+
+    -- WHO STARTED BELOW A STAMP has started in the run, where the commits below it are there
+    module _ (top : ℕ) (lower : (d : Commit) → HasCommit l d → stamp_of d < top → Contains es d) where
+      reached : (s start n stamp : ℕ) → IsStampBehind l s start n stamp → stamp < top → n ≤ length (config_of es s)
       reached s start zero stamp is less = omega arith
       reached s start (suc g) stamp is less = let low = k.inside is.0 s g (lower is.0 is.1 (omega (arith, less, is.3))) is.2 in omega (arith, low)
 
-      -- a thread's start is not above what stands behind it
-      start-below : (s start n stamp : ℕ) → HasStart (course_in l s) start → IsStampBehind l s start n stamp → start ≤ stamp
-      start-below s start zero stamp running is = omega (arith, is)
-      start-below s start (suc g) stamp running is =
-          let above = (law.stamps is.0 is.1).after_start s (counts_own is.0 (row s g) is.2) in
-          omega (arith, above, start_is (course_in l s) start running, is.3)
-
-      spawned-at : (s t start stamp : ℕ) (results : List Chosen) → AreResults l s results → ProcessSpawns ps s results t → IsStampBehind l s start (length results) stamp → stamp < stamp_of c → SpawnsAt ps s (config_of es s) t (length results)
+      spawned-at : (s t start stamp : ℕ) (results : List Chosen) → AreResults l s results → ProcessSpawns ps s results t → IsStampBehind l s start (length results) stamp → stamp < top → SpawnsAt ps s (config_of es s) t (length results)
       spawned-at s t start stamp results of-s by is less =
           let low = reached s start (length results) stamp is less in
           let same : results ≡ take (length results) (config_of es s) = one-list l law s results (take (length results) (config_of es s)) (sym (length-take-le (length results) (config_of es s) low)) of-s (are-first es k s (length results)) in record {
@@ -267,25 +291,14 @@ module _ (ps : List Proc) (rows : ℕ) (l : Ledger) (law : IsLawful l) (of : IsL
             first = λ m below has. by.at.first m below (subst (λ (xs : List Chosen). HasSpawned ps s xs t) (sym (take-take m (length results) (config_of es s) (omega (arith, below))) ∙ ap (take m) (sym same)) has);
           }
 
-      starts-in : {t stamp : ℕ} → Begun t stamp → stamp < stamp_of c → Starts ps (config_of es) t
+      starts-in : {t stamp : ℕ} → Begun t stamp → stamp < top → Starts ps (config_of es) t
       starts-in (acting.AtOnce first) less = AtOnce first
       starts-in (StartedBy {t} {stamp} s start running started results of-s does is) less =
           Spawned s (length results) does.by (spawned-at s t start stamp results of-s does is less)
           (starts-in started (let low = start-below s start (length results) stamp running is in omega (arith, low, less)))
 
       -- what counts for a start has at most its stamp
-      row-below : (s start n stamp g : ℕ) (d : Commit) → IsStampBehind l s start n stamp → g < n → HasCommit l d → Involves d (row s g) → stamp_of d ≤ stamp
-      row-below s start zero stamp g d is below in_d has = absurd (omega (arith, below))
-      row-below s start (suc h) stamp g d is below in_d has = ⊎_elim
-          (λ (same : g ≡ h).
-          let one : d ≡ is.0 = law.once (row s h) d is.0 in_d is.1 (subst (λ (n : ℕ). Involves d (row s n)) same has) is.2 in
-          omega (arith, ap stamp_of one, is.3))
-          (λ (ne : g ≡ h → ⊥).
-          let above = (law.stamps is.0 is.1).above d in_d (inl (s, h, g, omega (arith, below, ne), has, is.2)) in
-          omega (arith, above, is.3))
-          (cases_eq g h)
-
-      start-counts : {t stamp : ℕ} → Begun t stamp → stamp < stamp_of c → (d : Commit) → Contains es d → CountsForStart ps (config_of es) d t → stamp_of d ≤ stamp
+      start-counts : {t stamp : ℕ} → Begun t stamp → stamp < top → (d : Commit) → Contains es d → CountsForStart ps (config_of es) d t → stamp_of d ≤ stamp
       start-counts (acting.AtOnce first) less d there (InRow u n g by at below has) = absurd (none-some u (sym first ∙ by))
       start-counts (acting.AtOnce first) less d there (InStart u by counts) = absurd (none-some u (sym first ∙ by))
       start-counts (StartedBy {t} {stamp} s start running started results of-s does is) less d there (InRow u n g by at below has) =
@@ -297,15 +310,11 @@ module _ (ps : List Proc) (rows : ℕ) (l : Ledger) (law : IsLawful l) (of : IsL
           let below = start-counts started (omega (arith, low, less)) d there (subst (CountsForStart ps (config_of es) d) (same_Some u s (sym by ∙ does.by)) counts) in
           omega (arith, low, below)
 
-      -- and one that counts has just that stamp, where it is not 0
-      abbrev Told : ℕ → ℕ → Type 0
-      Told t stamp = (stamp ≡ 0) ⊎ ((d : Commit) × HasCommit l d × CountsForStart ps (config_of es) d t × (stamp_of d ≡ stamp))
-
-      start-there : {t stamp : ℕ} → Begun t stamp → stamp < stamp_of c → Told t stamp
+      start-there : {t stamp : ℕ} → Begun t stamp → stamp < top → Told t stamp
       start-there (acting.AtOnce first) less = inl refl
       start-there (StartedBy {t} {stamp} s start running started results of-s does is) less = by-count (length results) refl (λ below. start-there started below)
         where
-          by-count : (n : ℕ) → length results ≡ n → (start < stamp_of c → Told s start) → Told t stamp
+          by-count : (n : ℕ) → length results ≡ n → (start < top → Told s start) → Told t stamp
           by-count zero e earlier =
               let same : stamp ≡ start = subst (λ (n : ℕ). IsStampBehind l s start n stamp) e is in
               ⊎_elim
@@ -316,6 +325,11 @@ module _ (ps : List Proc) (rows : ℕ) (l : Ledger) (law : IsLawful l) (of : IsL
               let w = subst (λ (n : ℕ). IsStampBehind l s start n stamp) e is in
               inr (w.0, w.1, InRow s (length results) h does.by (spawned-at s t start stamp results of-s does is less) (omega (arith, e)) (involves-row w.0 s h w.2), w.3)
 
+    -- THE NEXT COMMIT: those of lower stamps are there already, and it is not
+    module _ (c : Commit) (in_c : HasCommit l c) (anew : Contains es c → ⊥) (lower : (d : Commit) → HasCommit l d → stamp_of d < stamp_of c → Contains es d) where
+      behind : (d : Commit) → HasCommit l d → ledgers.CountsFor (marks_in l) d c → Contains es d
+      behind d in_d h = lower d in_d ((law.stamps c in_c).above d in_d h)
+
       -- THREADS OF THE COMMIT, and one for whose end it stands
       lives : (t : ℕ) → HasThread c t → Begun t (start_of (course_in l t))
       lives t mine = let g = thread-involves c t mine in of.starts t (start_of (course_in l t)) (lives-start (course_in l t) g.0 (law.lived c (row t g.0) in_c g.1))
@@ -324,7 +338,7 @@ module _ (ps : List Proc) (rows : ℕ) (l : Ledger) (law : IsLawful l) (of : IsL
       counts-thread t mine = let g = thread-involves c t mine in counts_own c (row t g.0) g.1
 
       started : (t : ℕ) → HasThread c t → Starts ps (config_of es) t
-      started t mine = starts-in (lives t mine) ((law.stamps c in_c).after_start t (counts-thread t mine))
+      started t mine = starts-in (stamp_of c) lower (lives t mine) ((law.stamps c in_c).after_start t (counts-thread t mine))
 
       -- it has ended behind the results that it has
       ended : (t start sync : ℕ) → course_in l t ≡ Ended start sync → ((d : Commit) (g : ℕ) → HasCommit l d → Involves d (row t g) → ledgers.CountsFor (marks_in l) d c) → HasEnded ps t (config_of es t)
@@ -394,7 +408,7 @@ module _ (ps : List Proc) (rows : ℕ) (l : Ledger) (law : IsLawful l) (of : IsL
       caused at (cause.End t) stamp is h next =
           let counts : (d : Commit) (g : ℕ) → HasCommit l d → Involves d (row t g) → ledgers.CountsFor (marks_in l) d c = λ d g in_d has. subst (λ (z : Commit). ledgers.CountsFor (marks_in l) d z) (sym is) (inr (g, has)) in (
             can-take at (OnEnd t) (alone-started at (cause.End t) stamp is) h.0 next,
-            starts-in (of.starts t h.1.0 (subst (λ (x : Course). HasStart x h.1.0) (sym h.1.2) refl)) (end-above at t stamp h.1.0 h.1.1 is h.1.2),
+            starts-in (stamp_of c) lower (of.starts t h.1.0 (subst (λ (x : Course). HasStart x h.1.0) (sym h.1.2) refl)) (end-above at t stamp h.1.0 h.1.1 is h.1.2),
             ended t h.1.0 h.1.1 h.1.2 counts,
           )
 
@@ -424,7 +438,7 @@ module _ (ps : List Proc) (rows : ℕ) (l : Ledger) (law : IsLawful l) (of : IsL
           (λ has. (law.stamps c in_c).above d (k.members d there) (earlier-counts d t there has mine))
           (λ start.
           let less = (law.stamps c in_c).after_start t (counts-thread t mine) in
-          let low = start-counts (lives t mine) less d there start in
+          let low = start-counts (stamp_of c) lower (lives t mine) less d there start in
           omega (arith, low, less))
           h
 
@@ -442,7 +456,7 @@ module _ (ps : List Proc) (rows : ℕ) (l : Ledger) (law : IsLawful l) (of : IsL
           (law.stamps c in_c).above d (k.members d there) (subst (λ (z : Commit). ledgers.CountsFor (marks_in l) d z) (sym is) (inr (g.0, g.1))))
           (λ start.
           let less = end-above at t stamp fits.1.0 fits.1.1 is fits.1.2 in
-          let low = start-counts (of.starts t fits.1.0 (subst (λ (x : Course). HasStart x fits.1.0) (sym fits.1.2) refl)) less d there start in
+          let low = start-counts (stamp_of c) lower (of.starts t fits.1.0 (subst (λ (x : Course). HasStart x fits.1.0) (sym fits.1.2) refl)) less d there start in
           omega (arith, low, less))
           h
 
@@ -496,7 +510,7 @@ module _ (ps : List Proc) (rows : ℕ) (l : Ledger) (law : IsLawful l) (of : IsL
               (λ has. ⊎_elim
               (λ first. inl (omega (arith, is, first)))
               (λ w. inr (w.0, lower w.0 w.1 (omega (arith, is, w.3)), starting-as c w.0 t counts w.2, omega (arith, is, w.3)))
-              (start-there (of.starts t (start_of (course_in l t)) has) ((law.stamps c in_c).after_start t counts)))
+              (start-there (stamp_of c) lower (of.starts t (start_of (course_in l t)) has) ((law.stamps c in_c).after_start t counts)))
               (start-case (course_in l t))
 
       positive : 1 ≤ stamp_of c
@@ -551,9 +565,9 @@ module _ (ps : List Proc) (rows : ℕ) (l : Ledger) (law : IsLawful l) (of : IsL
     inside = λ c t g h has. absurd (omega (arith, h.1));
   }
 
-  -- commit by commit
-  runs : (es cs : List Commit) → commits ≡ es ++ cs → Leads es → RunsOn ps rows es cs
-  runs es [] whole k = tt
+  -- commit by commit: they run on, and lead to the results of all
+  runs : (es cs : List Commit) → commits ≡ es ++ cs → Leads es → RunsOn ps rows es cs × Leads commits
+  runs es [] whole k = (tt, subst Leads (sym (whole ∙ append-nil es)) k)
   runs es (c ∷ cs) whole k =
       let causal = causal_ledger l law commits order.all order.ordered in
       let at_c : slice_get commits (length es) ≡ Some c = ap (λ (xs : List Commit). slice_get xs (length es)) whole ∙ slice_get-middle es cs c in
@@ -563,10 +577,9 @@ module _ (ps : List Proc) (rows : ℕ) (l : Ledger) (law : IsLawful l) (of : IsL
       let w = in-commits d in_d in
       let at_d : slice_get commits w.0 ≡ Some d = slice_get-get_or commits w.0 d w.1 ∙ ap (λ (z : Commit). Some z) w.2 in
       let lt : w.0 < length es = lower_first commits order.ordered w.0 (length es) c d at_d at_c less in
-      place-in es w.0 d (sym (slice_get-first es (c ∷ cs) w.0 lt) ∙ ap (λ (xs : List Commit). slice_get xs w.0) (sym whole) ∙ at_d) in (
-        follows es k c in_c anew lower,
-        runs (more es c) cs (whole ∙ sym (append_assoc es (c ∷ []) cs)) (leads-more es k c in_c anew lower),
-      )
+      place-in es w.0 d (sym (slice_get-first es (c ∷ cs) w.0 lt) ∙ ap (λ (xs : List Commit). slice_get xs w.0) (sym whole) ∙ at_d) in
+      let on = runs (more es c) cs (whole ∙ sym (append_assoc es (c ∷ []) cs)) (leads-more es k c in_c anew lower) in
+      ((follows es k c in_c anew lower, on.0), on.1)
     where
       place-in : (xs : List Commit) (i : ℕ) (d : Commit) → slice_get xs i ≡ Some d → Contains xs d
       place-in xs i d h = (i, slice_get_within xs i d h, get_or_from_slice_get xs i d d h)
@@ -578,7 +591,119 @@ module _ (ps : List Proc) (rows : ℕ) (l : Ledger) (law : IsLawful l) (of : IsL
       at-front i d h = ap (λ (xs : List Commit). slice_get xs h.0) whole ∙ slice_get-first es (c ∷ cs) h.0 h.1 ∙ slice_get-get_or es h.0 d h.1 ∙ ap (λ (z : Commit). Some z) h.2
 
   ledger-runs : IsRun ps rows commits
-  ledger-runs = run-whole ps rows commits (runs [] commits refl leads-none)
+  ledger-runs = run-whole ps rows commits (runs [] commits refl leads-none).0
+
+  ledger-leads : Leads commits
+  ledger-leads = (runs [] commits refl leads-none).1
+
+  -- WHAT THE LEDGER TELLS OF ITS END
+
+  -- the results of a thread's first rows are the first that its commits gave
+  tells-results : (t : ℕ) (results : List Chosen) → AreResults l t results → results ≡ take (length results) (config_of commits t)
+  tells-results t results h = one-list l law t results (take (length results) (config_of commits t)) (sym (length-take-le (length results) (config_of commits t) (few results h))) h (are-first commits ledger-leads t (length results))
+    where
+      few : (rs : List Chosen) → AreResults l t rs → length rs ≤ length (config_of commits t)
+      few [] a = omega arith
+      few (x ∷ xs) a =
+          let last = length xs in
+          let there : slice_get (x ∷ xs) last ≡ Some (get_or (x ∷ xs) last x) = slice_get-get_or (x ∷ xs) last x (omega arith) in
+          let c = a last (get_or (x ∷ xs) last x) there in
+          let low = ledger-leads.inside c.0 t last (in-commits c.0 c.1) (gives-involves c.0 (row t last) (get_or (x ∷ xs) last x) c.2) in
+          omega (arith, low)
+
+  -- a nack that the ledger calls enabled was fired by the commit that has its stamp
+  tells-enabled : (n : NackName) (e : IsEnabled (joined_in l) (offer_in l) (marks_in l) n) → KnowsNack ps n.thread (config_of commits n.thread) commits n.k (Some (stamp_of e.commit))
+  tells-enabled n e =
+      let g = e.binding.sync in
+      let there = in-commits e.commit e.inside in
+      let f = fired commits ledger-leads n e there in (
+        (g, f),
+        record {
+          above = λ d in_d fires.
+              let involved = row-involves d n.thread fires.0 fires.2 in
+              let bound = bound-where commits ledger-leads n fires.0 d in_d involved fires.1 in
+              let binding : bound.0 ≡ e.binding = same_Some bound.0 e.binding (sym bound.1 ∙ e.is_bound) in
+              let sync : fires.0 ≡ g = sym bound.2 ∙ ap (λ (b : Binding). b.sync) binding in
+              let one : d ≡ e.commit = law.once (row n.thread g) d e.commit (ledger-leads.members d in_d) e.inside (subst (λ (h : ℕ). Involves d (row n.thread h)) sync involved) (e.chosen, e.takes) in
+              let stamp : stamp_of d ≡ stamp_of e.commit = ap stamp_of one in
+              omega (arith, stamp);
+          there = inr (e.commit, there, (g, f, involves-row e.commit n.thread g (e.chosen, e.takes)), refl);
+        },
+      )
+
+  -- one of which it tells that it is bound to nothing, or to a row that is in no commit, was not fired
+  tells-unbound : (n : NackName) → binding_in l n ≡ None → (g : ℕ) → IsFiredAt ps (config_of commits) n g → ⊥
+  tells-unbound n none g f =
+      let d = ledger-leads.given n.thread g f.chosen f.result in
+      none-some (binding_of (row n.thread g) f.scope) (sym none ∙ bound-scope commits ledger-leads n g d.0 d.1 (gives-involves d.0 (row n.thread g) f.chosen d.2) f)
+
+  tells-unsettled : (n : NackName) (b : Binding) → binding_in l n ≡ Some b → ((c : Commit) → HasCommit l c → Involves c (bound_row n b) → ⊥) → (g : ℕ) → IsFiredAt ps (config_of commits) n g → ⊥
+  tells-unsettled n b is none g f =
+      let d = ledger-leads.given n.thread g f.chosen f.result in
+      let involved = gives-involves d.0 (row n.thread g) f.chosen d.2 in
+      let bound = bound-where commits ledger-leads n g d.0 d.1 involved f in
+      let sync : g ≡ b.sync = sym bound.2 ∙ ap (λ (x : Binding). x.sync) (same_Some bound.0 b (sym bound.1 ∙ is)) in
+      none d.0 (ledger-leads.members d.0 d.1) (subst (λ (h : ℕ). Involves d.0 (row n.thread h)) sync involved)
+
+  -- nor one whose row took an offer inside its scope
+  tells-dead : (n : NackName) → IsDead l n → (g : ℕ) → IsFiredAt ps (config_of commits) n g → ⊥
+  tells-dead n dead g f =
+      let r = row n.thread g in
+      let d = ledger-leads.given n.thread g f.chosen f.result in
+      let involved = gives-involves d.0 r f.chosen d.2 in
+      let bound : dead.binding ≡ binding_of r f.scope = same_Some dead.binding (binding_of r f.scope) (sym dead.is_bound ∙ bound-scope commits ledger-leads n g d.0 d.1 involved f) in
+      let at : bound_row n dead.binding ≡ r = ap (λ (b : Binding). bound_row n b) bound in
+      let took = subst (λ (x : Row). Takes dead.commit x dead.chosen) at dead.takes in
+      let gave = gift dead.commit r dead.chosen took in
+      let result : f.chosen ≡ gave.result = one-result l law d.0 dead.commit r f.chosen gave.result (ledger-leads.members d.0 d.1) dead.inside d.2 gave.gives in
+      let number : f.chosen.0 ≡ dead.chosen = ap (λ (x : Chosen). x.0) result ∙ gave.number in
+      let offered = subst (λ (x : Row). offer_in l x dead.chosen ≡ Some dead.offer) at dead.offered in
+      let off = of.offers r dead.chosen dead.offer offered in
+      let base = offered-base (bases off.standing.event) dead.chosen dead.offer (shown r off dead.chosen dead.offer offered) in
+      let low = ledger-leads.inside d.0 n.thread g d.1 involved in
+      let event : f.event ≡ off.standing.event = one-event ps n.thread (take g (config_of commits n.thread)) off.results f.event off.standing.event (sym (before commits ledger-leads r off (omega (arith, low)))) f.offered off.standing.offered in
+      let same : f.base ≡ base.base = same_Some f.base base.base (sym f.took ∙ (λ i. slice_get (bases (event i)) (number i)) ∙ base.there) in
+      let scope : dead.binding.scope ≡ f.scope = ap (λ (b : Binding). b.scope) bound in
+      f.outside (subst (λ (z : BaseEvent × ℕ). Contains z.0.scopes z.1) (λ i. (sym same i, scope i)) (inside-mask base.base.scopes dead.binding.scope (ap (λ (o : Offer). has_scope o.scopes dead.binding.scope) base.is ∙ dead.enclosed)))
+
+  tells-start : (t start : ℕ) → HasStart (course_in l t) start → Starts ps (config_of commits) t
+  tells-start t start running = starts-in commits ledger-leads (start + 1) (λ d in_d less. in-commits d in_d) (of.starts t start running) (omega arith)
+
+  -- the last stamp of a thread that has started is the greatest that counts for what it does next
+  tells-last : (t start stamp : ℕ) → HasStart (course_in l t) start → IsLastStamp l t stamp → IsGreatest commits (CountsOf ps (config_of commits) t) stamp
+  tells-last t start stamp running last =
+      let begun = of.starts t start running in
+      let same : start_of (course_in l t) ≡ start = start_is (course_in l t) start running in
+      let low : start ≤ stamp = (let least = last.started in omega (arith, least, same)) in
+      let lower : (d : Commit) → HasCommit l d → stamp_of d < start + 1 → Contains commits d = λ d in_d less. in-commits d in_d in record {
+        above = λ d there counts. ⊎_elim
+            (λ (own : HasThread d t). let g = thread-involves d t own in last.above d g.0 (ledger-leads.members d there) g.1)
+            (λ (before_it : CountsForStart ps (config_of commits) d t). let least = start-counts commits ledger-leads (start + 1) lower begun (omega arith) d there before_it in omega (arith, least, low))
+            counts;
+        there = ⊎_elim
+            (λ (at_start : stamp ≡ start_of (course_in l t)). ⊎_elim
+            (λ (none : start ≡ 0). inl (at_start ∙ same ∙ none))
+            (λ told. inr (told.0, in-commits told.0 told.1, inr told.2, told.3 ∙ sym (at_start ∙ same)))
+            (start-there commits ledger-leads (start + 1) lower begun (omega arith)))
+            (λ last_one. inr (last_one.0, in-commits last_one.0 last_one.2, inl (involves-thread last_one.0 t last_one.1 last_one.3), last_one.4))
+            last.there;
+      }
 
 pub ledger-is-run : LedgerIsRun
 ledger-is-run ps rows l commits law of enough order = ledger-runs ps rows l law of enough commits order
+
+pub tells-thread : LedgersTell TellsResults
+tells-thread ps rows l commits law of enough order = tells-results ps rows l law of enough commits order
+
+pub tells-nack : LedgersTell TellsNacks
+tells-nack ps rows l commits law of enough order n Unbound none = tells-unbound ps rows l law of enough commits order n none
+tells-nack ps rows l commits law of enough order n Unsettled h = tells-unsettled ps rows l law of enough commits order n h.0 h.1 h.2
+tells-nack ps rows l commits law of enough order n Dead dead = tells-dead ps rows l law of enough commits order n dead
+tells-nack ps rows l commits law of enough order n (Enabled stamp) h =
+    subst (λ (s : ℕ). KnowsNack ps n.thread (config_of commits n.thread) commits n.k (Some s)) h.1 (tells-enabled ps rows l law of enough commits order n h.0)
+
+pub tells-stamp : LedgersTell TellsStamps
+tells-stamp ps rows l commits law of enough order = tells-last ps rows l law of enough commits order
+
+pub tells-started : LedgersTell TellsStarts
+tells-started ps rows l commits law of enough order = tells-start ps rows l law of enough commits order

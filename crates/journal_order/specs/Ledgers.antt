@@ -1,18 +1,24 @@
 -- Ledgers of processes: each thread offers what its process offers after its results, starts the processes that it spawns, and ends
 -- where it ends.
-use Rattle.std.specs.Prelude.{◌≡◌, ℕ, ◌<◌, ◌≤◌, false, List, None, Some, length}
+use Rattle.std.specs.Prelude.{◌≡◌, ℕ, ◌<◌, ◌≤◌, false, List, Option, None, Some, length, take}
 use Rattle.event.specs.Tree.{Tree, offers, scope_nacks}
 use Rattle.script_tree.specs.Processes.{Proc}
 use Rattle.script_tree.specs.Spawning.{spawner}
 use Rattle.thread.specs.After.{Chosen}
 use Rattle.protocol_values.specs.declared.Commit.{Commit}
+use Rattle.protocol_values.specs.declared.NackName.{NackName}
 use Rattle.protocol_values.specs.declared.Offer.{Offer}
 use Rattle.protocol_values.specs.declared.Seat.{Seat}
 use Rattle.protocol_values.specs.declared.Step.{Step}
-use Rattle.protocol.specs.Acting.{Acts, ActsAs, EachStepsAs}
-use Rattle.protocol.specs.Ledgers.{Ledger, IsLawful, ledger_of}
+use Rattle.protocol.specs.Acting.{Acts, ActsAs, EachStepsAs, HasStart}
+use Rattle.protocol.specs.Ledgers.{Ledger, IsLawful, course_in, ledger_of}
+use Rattle.protocol.specs.Openings.{IsLastStamp, TellsNack}
+use Rattle.protocol.specs.Standing.{AreResults}
+use Rattle.protocol.specs.declared.opening.NackState.{NackState}
+use Rattle.protocol.specs.declared.opening.NackState.TheVariants.{Unbound, Unsettled, Dead, Enabled}
 use Rattle.protocol.specs.Worlds.{Plays, World, start_world, waits}
-use Rattle.journal_replay.specs.Runs.{IsOffering, IsRun}
+use Rattle.journal_replay.specs.Runs.{CountsOf, IsGreatest, IsOffering, IsRun, Starts, config_of}
+use Rattle.journal_replay.specs.Standing.{KnowsNack}
 use Rattle.journal_replay.specs.Starting.{HasEnded, SpawnsAt}
 use Rattle.journal_order.specs.Laws.{IsOrderOf}
 
@@ -44,6 +50,36 @@ abbrev pub LedgerIsRun : Type 0
 LedgerIsRun =
     (ps : List Proc) (rows : ℕ) (l : Ledger) (commits : List Commit) → IsLawful l → IsLedgerOf ps l → l.rows ≤ rows →
     IsOrderOf l commits → IsRun ps rows commits
+
+-- WHAT A LEDGER TELLS OF ITS END is so where its commits lead
+
+-- the results of a thread's first rows are the first that the commits gave it
+abbrev pub TellsResults : List Proc → Ledger → List Commit → Type 0
+TellsResults ps l commits = (t : ℕ) (results : List Chosen) → AreResults l t results → results ≡ take (length results) (config_of commits t)
+
+-- a nack was fired where the ledger calls it enabled, and by the commit of that stamp
+abbrev pub fired_as : NackState → Option ℕ
+fired_as Unbound = None
+fired_as Unsettled = None
+fired_as Dead = None
+fired_as (Enabled stamp) = Some stamp
+
+abbrev pub TellsNacks : List Proc → Ledger → List Commit → Type 0
+TellsNacks ps l commits = (n : NackName) (state : NackState) → TellsNack l n state → KnowsNack ps n.thread (config_of commits n.thread) commits n.k (fired_as state)
+
+-- the last stamp of a thread that has started is the greatest that counts for what it does next
+abbrev pub TellsStamps : List Proc → Ledger → List Commit → Type 0
+TellsStamps ps l commits = (t start stamp : ℕ) → HasStart (course_in l t) start → IsLastStamp l t stamp → IsGreatest commits (CountsOf ps (config_of commits) t) stamp
+
+-- and it has started in the run
+abbrev pub TellsStarts : List Proc → Ledger → List Commit → Type 0
+TellsStarts ps l commits = (t start : ℕ) → HasStart (course_in l t) start → Starts ps (config_of commits) t
+
+-- so it is with each lawful ledger of processes
+abbrev pub LedgersTell : (List Proc → Ledger → List Commit → Type 0) → Type 0
+LedgersTell Tells =
+    (ps : List Proc) (rows : ℕ) (l : Ledger) (commits : List Commit) → IsLawful l → IsLedgerOf ps l → l.rows ≤ rows →
+    IsOrderOf l commits → Tells ps l commits
 
 -- SCHEDULES
 

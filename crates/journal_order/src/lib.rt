@@ -2,7 +2,7 @@
 #![tactic(auto)]
 
 ghost use Rattle.journal_order.specs.Laws.{AboveStarts, EachMeets, EachStarted, HasOrder, NamedIsReceived, OneLedgerOrder, OneOrder, OneRowOneCommit, OneStampOneThread, OneSyncOneNack, OrderedIsRun, ReceivedIsSent, StampsRise};
-ghost use Rattle.journal_order.specs.Ledgers.{LedgerIsRun, ScheduleHasLedger, ScheduleIsRun};
+ghost use Rattle.journal_order.specs.Ledgers.{LedgerIsRun, LedgersTell, ScheduleHasLedger, ScheduleIsRun, TellsNacks, TellsResults, TellsStamps, TellsStarts};
 
 /// In a run the stamps of a thread's commits rise, so two commits of one stamp share no thread.
 pub fn stamp_laws()
@@ -63,6 +63,15 @@ pub fn message_laws()
 /// stamp; it has ended after results with which its process has.
 pub fn ledger_run_law()
     ensures { LedgerIsRun }
+{}
+
+/// What a lawful ledger of processes tells of its end is so where its commits lead: the results of a thread's rows,
+/// what became of a nack, which threads have started, and the last stamp of each of them.
+pub fn ledger_tells_law()
+    ensures results { LedgersTell TellsResults }
+    ensures nacks { LedgersTell TellsNacks }
+    ensures stamps { LedgersTell TellsStamps }
+    ensures starts { LedgersTell TellsStarts }
 {}
 
 /// However the steps of a schedule fall in which the processes that texts spawn wait at the start, each row is

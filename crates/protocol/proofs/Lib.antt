@@ -14,6 +14,7 @@ pub mod Playing
 pub mod Loops
 pub mod CommitLemmas
 pub mod Chosen
+pub mod Closing
 pub mod LedgerReadings
 pub mod Starting
 pub mod Ordering

@@ -7,3 +7,4 @@ pub mod States
 pub mod Growing
 pub mod Standing
 pub mod Acting
+pub mod Openings

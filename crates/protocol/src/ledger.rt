@@ -11,7 +11,7 @@ use std::marker::Model;
 /// ledger is lawful.
 #[derive(Debug, Drop)]
 pub struct Ledger {
-    sheet: Sheet,
+    pub(crate) sheet: Sheet,
 }
 
 impl Model for Ledger {

@@ -11,12 +11,14 @@ ghost use Rattle.std.specs.Prelude.{◌≡◌, ℕ, ◌≤◌, List};
 
 mod commits;
 mod ledger;
+mod opening;
 mod resident;
 mod sheet;
 mod state;
 mod world;
 
 pub use crate::ledger::Ledger;
+pub use crate::opening::{Life, NackState, Opening};
 pub use crate::resident::{Bare, Resident};
 pub use crate::sheet::{LIVES, NACKS, ROW_LEN, start_words};
 pub use crate::world::{World, play};

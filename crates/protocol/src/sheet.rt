@@ -376,7 +376,7 @@ pub(crate) fn is_fresh(cell: Cell) -> bool
 }
 
 /// Whether the scope encloses the offer.
-fn encloses(scope: u8, offer: Option<Offer>) -> bool
+pub(crate) fn encloses(scope: u8, offer: Option<Offer>) -> bool
     requires { scope < 8 }
     ensures { result ≡ encloses scope offer }
 {

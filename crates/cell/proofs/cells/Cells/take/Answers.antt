@@ -28,4 +28,4 @@ invariant_of-pass-2 g c =
     let below : c.args.row.sync < c.pass.inside.seat.me.0.rows = (search rules) in
     let took : Took c.pass.inside.seat.me.0.rows c.pass.inside.seat.me.0.seen c.take_row.new.seat.me.0.seen c.args.row c.in_ok-joined.joined = (search rules) in
     let flags = taken_flags c.pass.inside.rows.threads c.pass.inside.seat.me.0.rows c.pass.inside.rows.flags.items c.insert.new.self.flags.items c.pass.inside.seat.me.0.seen c.take_row.new.seat.me.0.seen c.args.row c.in_ok-joined.joined below took (search rules) old in
-    ((search rules), (search rules), (search rules), subst (λ (z : ℕ × ℕ × ℕ). AreFlags z.0 z.1 c.insert.new.self.flags.items (places_of z.2 c.take_row.new.seat.me.0.seen)) (λ i. (sym threads i, sym all i, sym rows i)) flags)
+    ((search rules), (search rules), (search rules), subst (λ (z : ℕ × ℕ × ℕ). AreFlags z.0 z.1 c.insert.new.self.flags.items (places_of z.2 c.take_row.new.seat.me.0.seen)) (λ i. (sym threads i, sym all i, sym rows i)) flags, (search rules), (search rules))

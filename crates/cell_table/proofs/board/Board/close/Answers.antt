@@ -1,16 +1,18 @@
-use Rattle.std.proofs.Common.{rules, ◌≡◌, ◌<◌, ◌∙◌, length, None, Some, slice_get, sym, subst, ap, arith}
+use Rattle.std.proofs.Common.{rules, ℕ, List, ◌≡◌, ◌<◌, ◌∙◌, length, None, Some, slice_get, sym, subst, ap, arith}
 use Rattle.protocol.specs.Ledgers.{IsLawful, Ledger, ledger_of, binding_in, course_in, joined_in, offer_in}
 use Rattle.cell_table.specs.Rule.{StartsFirst}
 use Rattle.protocol.specs.Acting.{ActsAs, EndsAt, HasStart, acts_in}
 use Rattle.protocol.specs.Standing.{AreResults}
 use Rattle.protocol.proofs.LedgerLemmas.{course_in_ledger}
 use Rattle.protocol.proofs.Readings.{course_outside}
+use Rattle.std.specs.Slots.{slots_items}
+use Rattle.cell_table.specs.Closings.{HandedOut, IsHomeOf}
 use Rattle.cell_table.proofs.Allowing.{sized}
-use Rattle.cell_table.proofs.Endings.{ended, final_acts, final_bound, final_ended, final_at_once, final_lawful, final_joined, final_lack, final_offer, final_own, final_results, final_started}
+use Rattle.cell_table.proofs.Endings.{ended, final_acts, final_bound, final_ended, final_at_once, final_lawful, final_joined, final_lack, final_machine, final_offer, final_own, final_results, final_started}
 use Rattle.cell_table.proofs.board.Board.close.Goals as goal
 
-pub of_words-requires-clause-lawful : goal.of_words-requires-clause-lawful
-of_words-requires-clause-lawful g c =
+pub of_words-ledger-requires-clause-lawful : goal.of_words-ledger-requires-clause-lawful
+of_words-ledger-requires-clause-lawful g c =
     let size : c.args.seat.me.0.threads ≡ c.args.self.shape.threads = (search rules) in
     let some = c.args.self.small.0 in
     final_lawful g.M.Resident.stands c.args.self.shape c.args.seat.id c.args.seat.me.0 (omega arith) c.copy_words-words.result.items _
@@ -18,13 +20,13 @@ of_words-requires-clause-lawful g c =
 
 pub returns-clause-size : goal.returns-clause-size
 unfolding ledger_of
-returns-clause-size g c = (ap (λ (l : Ledger). l.threads) c.of_words.ensures, ap (λ (l : Ledger). l.rows) c.of_words.ensures)
+returns-clause-size g c = (ap (λ (l : Ledger). l.threads) c.of_words-ledger.ensures, ap (λ (l : Ledger). l.rows) c.of_words-ledger.ensures)
 
 pub returns-clause-seen : goal.returns-clause-seen
 returns-clause-seen g c r j h =
     let size : c.args.seat.me.0.threads ≡ c.args.self.shape.threads = (search rules) in
     let some = c.args.self.small.0 in
-    subst (λ (l : Ledger). joined_in l r ≡ Some j) (sym c.of_words.ensures)
+    subst (λ (l : Ledger). joined_in l r ≡ Some j) (sym c.of_words-ledger.ensures)
     (final_joined g.M.Resident.stands c.args.self.shape c.args.seat.id c.args.seat.me.0 (omega arith) c.copy_words-words.result.items _
     (ended g.M.Resident.stands _ _ _ _ _ _ _ c.args.self.keyed c.copy_words-words.ensures c.close_with-closed.ensures.values.2) r j h)
 
@@ -32,15 +34,15 @@ pub returns-clause-own : goal.returns-clause-own
 returns-clause-own g c r j offers draft e =
     let size : c.args.seat.me.0.threads ≡ c.args.self.shape.threads = (search rules) in
     let some = c.args.self.small.0 in
-    subst (λ (l : Ledger). (j.own < length offers) × (offer_in l r j.own ≡ slice_get offers j.own)) (sym c.of_words.ensures)
+    subst (λ (l : Ledger). (j.own < length offers) × (offer_in l r j.own ≡ slice_get offers j.own)) (sym c.of_words-ledger.ensures)
     (final_own g.M.Resident.stands c.args.self.shape c.args.seat.id c.args.seat.me.0 (omega arith) c.copy_words-words.result.items _
-    (ended g.M.Resident.stands _ _ _ _ _ _ _ c.args.self.keyed c.copy_words-words.ensures c.close_with-closed.ensures.values.2) r j offers draft (subst (λ (l : Ledger). joined_in l r ≡ Some j) c.of_words.ensures e))
+    (ended g.M.Resident.stands _ _ _ _ _ _ _ c.args.self.keyed c.copy_words-words.ensures c.close_with-closed.ensures.values.2) r j offers draft (subst (λ (l : Ledger). joined_in l r ≡ Some j) c.of_words-ledger.ensures e))
 
 pub returns-clause-offers : goal.returns-clause-offers
 returns-clause-offers g c r n o sees =
     let size : c.args.seat.me.0.threads ≡ c.args.self.shape.threads = (search rules) in
     let some = c.args.self.small.0 in
-    subst (λ (l : Ledger). offer_in l r n ≡ Some o) (sym c.of_words.ensures)
+    subst (λ (l : Ledger). offer_in l r n ≡ Some o) (sym c.of_words-ledger.ensures)
     (final_offer g.M.Resident.stands c.args.self.shape c.args.seat.id c.args.seat.me.0 (omega arith) c.copy_words-words.result.items _
     (ended g.M.Resident.stands _ _ _ _ _ _ _ c.args.self.keyed c.copy_words-words.ensures c.close_with-closed.ensures.values.2) r n o sees)
 
@@ -48,7 +50,7 @@ pub returns-clause-lacks : goal.returns-clause-lacks
 returns-clause-lacks g c r n sees =
     let size : c.args.seat.me.0.threads ≡ c.args.self.shape.threads = (search rules) in
     let some = c.args.self.small.0 in
-    subst (λ (l : Ledger). offer_in l r n ≡ None) (sym c.of_words.ensures)
+    subst (λ (l : Ledger). offer_in l r n ≡ None) (sym c.of_words-ledger.ensures)
     (final_lack g.M.Resident.stands c.args.self.shape c.args.seat.id c.args.seat.me.0 (omega arith) c.copy_words-words.result.items _
     (ended g.M.Resident.stands _ _ _ _ _ _ _ c.args.self.keyed c.copy_words-words.ensures c.close_with-closed.ensures.values.2) r n sees)
 
@@ -56,7 +58,7 @@ pub returns-clause-lawful : goal.returns-clause-lawful
 returns-clause-lawful g c =
     let size : c.args.seat.me.0.threads ≡ c.args.self.shape.threads = (search rules) in
     let some = c.args.self.small.0 in
-    subst IsLawful (sym c.of_words.ensures)
+    subst IsLawful (sym c.of_words-ledger.ensures)
     (final_lawful g.M.Resident.stands c.args.self.shape c.args.seat.id c.args.seat.me.0 (omega arith) c.copy_words-words.result.items _
     (ended g.M.Resident.stands _ _ _ _ _ _ _ c.args.self.keyed c.copy_words-words.ensures c.close_with-closed.ensures.values.2))
 
@@ -64,7 +66,7 @@ pub returns-clause-bound : goal.returns-clause-bound
 returns-clause-bound g c n b h =
     let size : c.args.seat.me.0.threads ≡ c.args.self.shape.threads = (search rules) in
     let some = c.args.self.small.0 in
-    subst (λ (l : Ledger). binding_in l n ≡ Some b) (sym c.of_words.ensures)
+    subst (λ (l : Ledger). binding_in l n ≡ Some b) (sym c.of_words-ledger.ensures)
     (final_bound g.M.Resident.stands c.args.self.shape c.args.seat.id c.args.seat.me.0 (omega arith) c.copy_words-words.result.items _
     (ended g.M.Resident.stands _ _ _ _ _ _ _ c.args.self.keyed c.copy_words-words.ensures c.close_with-closed.ensures.values.2) n b h)
 
@@ -72,7 +74,7 @@ pub returns-clause-results : goal.returns-clause-results
 returns-clause-results g c t rs h =
     let size : c.args.seat.me.0.threads ≡ c.args.self.shape.threads = (search rules) in
     let some = c.args.self.small.0 in
-    subst (λ (l : Ledger). AreResults l t rs) (sym c.of_words.ensures)
+    subst (λ (l : Ledger). AreResults l t rs) (sym c.of_words-ledger.ensures)
     (final_results g.M.Resident.stands c.args.self.shape c.args.seat.id c.args.seat.me.0 (omega arith) c.copy_words-words.result.items _
     (ended g.M.Resident.stands _ _ _ _ _ _ _ c.args.self.keyed c.copy_words-words.ensures c.close_with-closed.ensures.values.2) t rs h)
 
@@ -80,7 +82,7 @@ pub returns-clause-acts : goal.returns-clause-acts
 returns-clause-acts g c some_first =
     let size : c.args.seat.me.0.threads ≡ c.args.self.shape.threads = (search rules) in
     let some = c.args.self.small.0 in
-    subst (ActsAs (StartsFirst c.args.self.shape.threads c.args.self.shape.later) (acts_in g.M.Resident.stands c.args.self.shape.first.value.items)) (sym c.of_words.ensures)
+    subst (ActsAs (StartsFirst c.args.self.shape.threads c.args.self.shape.later) (acts_in g.M.Resident.stands c.args.self.shape.first.value.items)) (sym c.of_words-ledger.ensures)
     (final_acts g.M.Resident.stands c.args.self.shape c.args.seat.id c.args.seat.me.0 (omega arith) c.copy_words-words.result.items _
     (ended g.M.Resident.stands _ _ _ _ _ _ _ c.args.self.keyed c.copy_words-words.ensures c.close_with-closed.ensures.values.2) some_first)
 
@@ -88,7 +90,7 @@ pub returns-clause-started : goal.returns-clause-started
 returns-clause-started g c t stamp h =
     let size : c.args.seat.me.0.threads ≡ c.args.self.shape.threads = (search rules) in
     let some = c.args.self.small.0 in
-    subst (λ (l : Ledger). HasStart (course_in l t) stamp) (sym c.of_words.ensures)
+    subst (λ (l : Ledger). HasStart (course_in l t) stamp) (sym c.of_words-ledger.ensures)
     (final_started g.M.Resident.stands c.args.self.shape c.args.seat.id c.args.seat.me.0 (omega arith) c.copy_words-words.result.items _
     (ended g.M.Resident.stands _ _ _ _ _ _ _ c.args.self.keyed c.copy_words-words.ensures c.close_with-closed.ensures.values.2) t stamp h)
 
@@ -96,7 +98,7 @@ pub returns-clause-ended : goal.returns-clause-ended
 returns-clause-ended g c t g' h =
     let size : c.args.seat.me.0.threads ≡ c.args.self.shape.threads = (search rules) in
     let some = c.args.self.small.0 in
-    subst (λ (l : Ledger). EndsAt (course_in l t) g') (sym c.of_words.ensures)
+    subst (λ (l : Ledger). EndsAt (course_in l t) g') (sym c.of_words-ledger.ensures)
     (final_ended g.M.Resident.stands c.args.self.shape c.args.seat.id c.args.seat.me.0 (omega arith) c.copy_words-words.result.items _
     (ended g.M.Resident.stands _ _ _ _ _ _ _ c.args.self.keyed c.copy_words-words.ensures c.close_with-closed.ensures.values.2) t g' h)
 
@@ -104,9 +106,18 @@ pub returns-clause-at_once : goal.returns-clause-at_once
 returns-clause-at_once g c t below free =
     let size : c.args.seat.me.0.threads ≡ c.args.self.shape.threads = (search rules) in
     let some = c.args.self.small.0 in
-    subst (λ (l : Ledger). HasStart (course_in l t) 0) (sym c.of_words.ensures)
+    subst (λ (l : Ledger). HasStart (course_in l t) 0) (sym c.of_words-ledger.ensures)
     (final_at_once g.M.Resident.stands c.args.self.shape c.args.seat.id c.args.seat.me.0 (omega arith) c.copy_words-words.result.items _
     (ended g.M.Resident.stands _ _ _ _ _ _ _ c.args.self.keyed c.copy_words-words.ensures c.close_with-closed.ensures.values.2) t below free)
 
 pub returns-clause-outside : goal.returns-clause-outside
-returns-clause-outside g c t above = ap (λ (l : Ledger). course_in l t) c.of_words.ensures ∙ (λ i. course_in_ledger (sized c.args.self.shape c.copy_words-words.result.items) i t) ∙ course_outside (sized c.args.self.shape c.copy_words-words.result.items) t above
+returns-clause-outside g c t above = ap (λ (l : Ledger). course_in l t) c.of_words-ledger.ensures ∙ (λ i. course_in_ledger (sized c.args.self.shape c.copy_words-words.result.items) i t) ∙ course_outside (sized c.args.self.shape c.copy_words-words.result.items) t above
+
+pub returns-clause-machines : goal.returns-clause-machines
+returns-clause-machines g c some_first t value h =
+    let size : c.args.seat.me.0.threads ≡ c.args.self.shape.threads = (search rules) in
+    let some = c.args.self.small.0 in
+    let home = final_machine g.M.Resident.stands c.args.self.shape c.args.seat.id c.args.seat.me.0 (omega arith) c.copy_words-words.result.items _
+    (ended g.M.Resident.stands _ _ _ _ _ _ _ c.args.self.keyed c.copy_words-words.ensures c.close_with-closed.ensures.values.2) some_first t value
+    (subst (λ (ws : List ℕ). IsHomeOf c.args.self.shape ws (slots_items c.close_with-closed.result.slots) t value) c.as_slice.ensures.value (c.take_home-machines.ensures.home t value h)) in
+    subst (λ (l : Ledger). HandedOut g.M.Resident.stands c.args.self.shape.first.value.items l t value) (sym c.of_words-ledger.ensures) home

@@ -1,9 +1,9 @@
-use Rattle.std.proofs.Common.{sym, subst}
-use Rattle.cell.specs.Calls.{PassOf}
+use Rattle.std.proofs.Common.{◌<◌, List, ap, length, subst, sym}
+use Rattle.cell.specs.Calls.{GridOf, PassOf}
+use Rattle.cell_table.specs.Closings.{HandedOut}
 use Rattle.cell_table.specs.Sight.{Has, IsDraft, SeesNoOffer, SeesOffer}
-use Rattle.cell.proofs.cells.Cells.close.Goals as goal
+use Rattle.cell.proofs.cells.Cells.close_all.Goals as goal
 
--- src/cells.rt:188:5
 pub returns-clause-own : goal.returns-clause-own
 returns-clause-own g c r j offers draft e = c.close.ensures.own r j offers (subst (λ (p : PassOf g.row.M.Denot). IsDraft p.seen r offers) (sym c.pass.view_is) draft) e
 
@@ -15,3 +15,8 @@ returns-clause-lacks g c r n sees = c.close.ensures.lacks r n (subst (λ (p : Pa
 
 pub returns-clause-results : goal.returns-clause-results
 returns-clause-results g c t rs h = c.close.ensures.results t rs (subst (λ (p : PassOf g.row.M.Denot). Has p.results (t, rs)) (sym c.pass.view_is) h)
+
+pub returns-clause-machines : goal.returns-clause-machines
+returns-clause-machines g c housed t value h =
+    let is = ap (λ (grid : GridOf g.row.M.Denot). grid.first) c.self.view_is in
+    subst (λ (first : List g.row.M.Denot). HandedOut g.M.Resident.stands first c.close.result.0 t value) is (c.close.ensures.machines (subst (λ (first : List g.row.M.Denot). 0 < length first) (sym is) housed) t value h)

@@ -1,0 +1,34 @@
+-- What a table hands out at its end.
+use Rattle.std.specs.Prelude.{◌≡◌, ◌≤◌, ℕ, false, List, Option, Some, slice_get}
+use mathlib.Core.Option.{some}
+use lib.ListN.{get_elem?}
+use Rattle.protocol_values.specs.declared.Commit.{Commit}
+use Rattle.protocol_values.specs.declared.Row.{Row}
+use Rattle.protocol.specs.Ledgers.{HasCommit, Involves, Ledger}
+use Rattle.protocol.specs.Standing.{OffersAs, Stands}
+use Rattle.protocol.specs.Tables.{Table, cell_at, is_fresh, is_taken}
+use Rattle.cell_table.specs.declared.view.Shape.{Shape}
+
+module _ {M : Type 0} where
+  abbrev pub words_of : Shape M → List ℕ → Table
+  words_of shape ws = record { threads = shape.threads; rows = shape.rows; words = ws }
+
+  -- by these words the row is opened, and nobody has taken it
+  abbrev pub IsOpenAt : Shape M → List ℕ → ℕ → ℕ → Type 0
+  IsOpenAt shape ws t g =
+      (is_fresh (cell_at (words_of shape ws) (record { thread = t; sync = g })) ≡ false)
+      × (is_taken (cell_at (words_of shape ws) (record { thread = t; sync = g })) ≡ false)
+
+  -- the value lies in the thread's slot, and a row of the thread is so
+  abbrev pub IsHomeOf : Shape M → List ℕ → List (Option M) → ℕ → M → Type 0
+  IsHomeOf shape ws slots t value = (get_elem? slots t ≡ some (Some value)) × ((g : ℕ) × IsOpenAt shape ws t g)
+
+-- What is handed out for a thread offers what a row of it offers, after the results of the rows before, and no later row of the
+-- thread is in a commit: one result at most is left to be given.
+pub record HandedOut {M : Type 0} (stands : Stands M) (first : List M) (l : Ledger) (t : ℕ) (value : M) : Type 0 where
+  pub sync : ℕ
+  pub offers : OffersAs (stands.offers first value) l (record { thread = t; sync = sync })
+  pub next : (c : Commit) (g : ℕ) → HasCommit l c → Involves c (record { thread = t; sync = g }) → g ≤ sync
+
+abbrev pub HandsOut : {M : Type 0} → Stands M → List M → Ledger → List (Option M) → Type 0
+HandsOut {M} stands first l machines = (t : ℕ) (value : M) → slice_get machines t ≡ Some (Some value) → HandedOut stands first l t value

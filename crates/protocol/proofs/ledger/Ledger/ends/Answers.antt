@@ -1,0 +1,39 @@
+use Rattle.std.proofs.Common.{rules, ◌≡◌, ◌∙◌, ◌+◌, ℕ, List, Some, ap, arith, length, slice_get, subst, sym}
+use Rattle.std.proofs.lemmas.List.{length-append}
+use Rattle.std.proofs.lemmas.Option.{none-some}
+use Rattle.protocol.specs.Ledgers.{Ledger, course_in, ledger_of}
+use Rattle.protocol.specs.Openings.{IsLastStamp, life_of}
+use Rattle.protocol.specs.States.{table_of}
+use Rattle.protocol.specs.declared.opening.Life.{Life}
+use Rattle.protocol.proofs.Closing.{each_pushed}
+use Rattle.protocol.proofs.LedgerLemmas.{course_in_ledger}
+use Rattle.protocol.proofs.ledger.Ledger.ends.Goals as goal
+
+pub loop-thread-init : goal.loop-thread-init
+loop-thread-init c = (
+  ap (λ (l : List (Life × ℕ)). length l) c.in_ok-ends.ensures.items,
+  λ t end e. absurd (none-some end (sym (ap (λ (l : List (Life × ℕ)). slice_get l t) c.in_ok-ends.ensures.items) ∙ e)),
+)
+
+pub loop-thread-preserved : goal.loop-thread-preserved
+loop-thread-preserved c =
+    let inv = c.loop-thread.invariant in
+    let l = c.args.self.now in
+    let P = λ (t : ℕ) (end : Life × ℕ). (end.0 ≡ life_of (course_in l t)) × IsLastStamp l t end.1 in
+    let life : c.life_of-life.result ≡ life_of (course_in l c.loop-thread.thread) =
+    c.life_of-life.ensures ∙ ap life_of (c.course.ensures ∙ (λ i. sym (course_in_ledger (table_of c.self.inside.sheet)) i c.loop-thread.thread) ∙ ap (λ (z : Ledger). course_in z c.loop-thread.thread) c.self.view_is) in
+    let items = c.in_ok-push.ensures.items in (
+      ap (λ (ends : List (Life × ℕ)). length ends) items ∙ length-append c.loop-thread.ends.items _ ∙ ap (λ (n : ℕ). n + 1) inv.0,
+      λ t end e. each_pushed P c.loop-thread.ends.items (c.life_of-life.result, c.last_stamp.result) inv.1 (subst (λ (n : ℕ). P n (c.life_of-life.result, c.last_stamp.result)) (sym inv.0) (life, c.last_stamp.ensures)) t end
+          (sym (ap (λ (ends : List (Life × ℕ)). slice_get ends t) items) ∙ e),
+    )
+
+pub returns : goal.returns
+unfolding ledger_of
+returns c =
+    let inv = c.loop-thread.invariant in
+    let threads : c.args.self.now.threads ≡ c.self.inside.sheet.threads = sym (ap (λ (l : Ledger). l.threads) c.self.view_is) in
+    let size = inv.0 in
+    let over = c.loop-thread-test.false in
+    let within = c.loop-thread.auto.thread-end in
+    (omega (arith, threads, size, over, within), λ t life stamp e. inv.1 t (life, stamp) e)

@@ -1,0 +1,64 @@
+-- What a ledger tells of its end: the last stamp of each thread, and what became of each nack.
+use Rattle.std.specs.Prelude.{◌≡◌, ◌⊎◌, ◌≤◌, ◌<◌, ◌+◌, ◌*◌, ℕ, List, Option, None, Some, true, length, slice_get}
+use Rattle.protocol_values.specs.declared.Binding.{Binding}
+use Rattle.protocol_values.specs.declared.Commit.{Commit}
+use Rattle.protocol_values.specs.declared.Course.{Course}
+use Rattle.protocol_values.specs.declared.Course.TheVariants.{Unstarted as NotStarted, Running as Runs, Ended as HasEnded}
+use Rattle.protocol_values.specs.declared.NackName.{NackName}
+use Rattle.protocol_values.specs.declared.Offer.{Offer}
+use Rattle.protocol_values.specs.declared.Row.{Row}
+use Rattle.protocol_values.specs.Commits.{stamp_of}
+use Rattle.protocol_values.specs.Scopes.{has_scope}
+use Rattle.protocol.specs.Ledgers.{HasCommit, Involves, IsEnabled, Ledger, Takes, binding_in, course_in, joined_in, marks_in, offer_in}
+use Rattle.protocol.specs.Tables.{bound_row, start_of}
+use Rattle.protocol.specs.declared.opening.Life.{Life}
+use Rattle.protocol.specs.declared.opening.Life.TheVariants.{Unstarted, Running, Ended}
+use Rattle.protocol.specs.declared.opening.NackState.{NackState}
+use Rattle.protocol.specs.declared.opening.NackState.TheVariants.{Unbound, Unsettled, Dead, Enabled}
+
+-- THREADS
+
+-- s is the last stamp of the thread: that of its last commit, or that of its start where it has none
+pub record IsLastStamp (l : Ledger) (t s : ℕ) : Type 0 where
+  pub above : (c : Commit) (g : ℕ) → HasCommit l c → Involves c (record { thread = t; sync = g }) → stamp_of c ≤ s
+  pub started : start_of (course_in l t) ≤ s
+  pub there : (s ≡ start_of (course_in l t)) ⊎ ((c : Commit) × (g : ℕ) × HasCommit l c × Involves c (record { thread = t; sync = g }) × (stamp_of c ≡ s))
+
+abbrev pub life_of : Course → Life
+life_of NotStarted = Unstarted
+life_of (Runs start) = Running
+life_of (HasEnded start sync) = Ended
+
+-- each thread's life and last stamp
+abbrev pub TellsThreads : Ledger → List (Life × ℕ) → Type 0
+TellsThreads l threads =
+    (length threads ≡ l.threads) × ((t : ℕ) (life : Life) (stamp : ℕ) → slice_get threads t ≡ Some (life, stamp) → (life ≡ life_of (course_in l t)) × IsLastStamp l t stamp)
+
+-- NACKS
+
+-- the row to which the nack is bound is in a commit, which took an offer inside the nack's scope
+pub record IsDead (l : Ledger) (n : NackName) : Type 0 where
+  pub binding : Binding
+  pub is_bound : binding_in l n ≡ Some binding
+  pub commit : Commit
+  pub inside : HasCommit l commit
+  pub chosen : ℕ
+  pub takes : Takes commit (bound_row n binding) chosen
+  pub offer : Offer
+  pub offered : offer_in l (bound_row n binding) chosen ≡ Some offer
+  pub enclosed : has_scope offer.scopes binding.scope ≡ true
+
+-- what became of the nack
+abbrev pub TellsNack : Ledger → NackName → NackState → Type 0
+TellsNack l n Unbound = binding_in l n ≡ None
+TellsNack l n Unsettled = (b : Binding) × (binding_in l n ≡ Some b) × ((c : Commit) → HasCommit l c → Involves c (bound_row n b) → ⊥)
+TellsNack l n Dead = IsDead l n
+TellsNack l n (Enabled stamp) = (e : IsEnabled (joined_in l) (offer_in l) (marks_in l) n) × (stamp_of e.commit ≡ stamp)
+
+-- 64 nacks a thread, thread by thread
+abbrev pub TellsNacks : Ledger → List NackState → Type 0
+TellsNacks l states = (length states ≡ l.threads * 64) × ((n : NackName) (state : NackState) → n.k < 64 → slice_get states (n.thread * 64 + n.k) ≡ Some state → TellsNack l n state)
+
+-- both
+abbrev pub TellsEnd : Ledger → List (Life × ℕ) → List NackState → Type 0
+TellsEnd l threads states = TellsThreads l threads × TellsNacks l states
