@@ -16,6 +16,7 @@ pub mod CommitLemmas
 pub mod Chosen
 pub mod Closing
 pub mod LedgerReadings
+pub mod StampLemmas
 pub mod Starting
 pub mod Ordering
 pub mod Onward

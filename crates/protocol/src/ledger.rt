@@ -3,6 +3,7 @@
 ghost use Rattle.std.specs.Prelude.{◌≡◌, ◌*◌, ◌≤◌, ◌↔◌, IfOk, IfSome, IfNone, IsPermutation, Contains, length};
 
 use crate::sheet::Sheet;
+use crate::stamps::by_stamp;
 use protocol_values::{Commit, Row};
 use std::alloc::AllocError;
 use std::marker::Model;
@@ -77,8 +78,10 @@ impl Ledger {
         ensures causal { IfOk result (λ cs. IsCausal (marks_in self.now) cs.items) }
         ensures lawful { IsLawful self.now }
     {
-        let mut commits = self.sheet.commits()?;
-        commits.sort_by_cached_key(|commit| commit.order())?;
+        let told = self.sheet.commits()?;
+        let mut commits = by_stamp(*told.allocator(), &told)?;
+        // They are in order now, except where a pair is pending: this looks at each once, and moves few.
+        commits.sort_by_key(|commit| commit.order())?;
         Ok(commits)
     }
 

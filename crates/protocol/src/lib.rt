@@ -14,6 +14,7 @@ mod ledger;
 mod opening;
 mod resident;
 mod sheet;
+mod stamps;
 mod state;
 mod world;
 
