@@ -25,6 +25,7 @@ use Rattle.journal_text.specs.Names.{Declared, names_of}
 use Rattle.journal_text.specs.Journals.{HasAtom, HasMessage, HasPlace, HasCause, HasLine}
 use Rattle.journal_replay.specs.declared.end.End.{End}
 use Rattle.journal_replay.specs.Runs.{Config, CanTake, EndsAs, Follows, IsCaused, IsLegal, IsRun, MayTake, applied, config_from, config_of, end_of, no_results, with_result}
+use Rattle.journal_replay.proofs.Counting.{Short, all_syncs, grows, syncs_within}
 use Rattle.journal_replay.proofs.Greatest.{more, more-cases}
 use Rattle.journal_replay.proofs.Standing.{config_of-more, result-at, result-other}
 use Rattle.journal_order.proofs.Runs.{RunsOn, runs-on}
@@ -66,44 +67,6 @@ has_message d Empty h = tt
 has_message d (One a) h = h
 has_message d (Two a b) h = h
 has_message d (Three a b c) h = ((h.0, h.1.0), h.1.1)
-
--- HOW MANY SYNCS ALL THREADS MADE
-
-total : ℕ → Config → ℕ
-total zero config = 0
-total (suc n) config = total n config + length (config n)
-
-one_longer : (t : ℕ) (r : Chosen) (config : Config) → length (with_result t r config t) ≡ length (config t) + 1
-one_longer t r config = ap (λ (rs : List Chosen). length rs) (result-at t t r config refl) ∙ length-append (config t) (r ∷ [])
-
-no_longer : (t u : ℕ) (r : Chosen) (config : Config) → (u ≡ t → ⊥) → length (with_result t r config u) ≡ length (config u)
-no_longer t u r config ne = ap (λ (rs : List Chosen). length rs) (result-other t u r config ne)
-
-total_same : (n t : ℕ) (r : Chosen) (config : Config) → n ≤ t → total n (with_result t r config) ≡ total n config
-unfolding total
-total_same zero t r config le = refl
-total_same (suc n) t r config le = omega (arith, total_same n t r config (omega (arith, le)), no_longer t n r config (λ e. omega (arith, e, le)))
-
-total_one : (n t : ℕ) (r : Chosen) (config : Config) → t < n → total n (with_result t r config) ≡ total n config + 1
-unfolding total
-total_one zero t r config lt = absurd (omega (arith, lt))
-total_one (suc n) t r config lt = ⊎_elim
-    (λ e.
-    let here : length (with_result t r config n) ≡ length (config n) + 1 =
-    subst (λ (u : ℕ). length (with_result t r config u) ≡ length (config u) + 1) (sym e) (one_longer t r config) in
-    omega (arith, total_same n t r config (omega (arith, e)), here))
-    (λ ne. omega (arith, total_one n t r config (omega (arith, ne, lt)), no_longer t n r config ne))
-    (cases_eq n t)
-
-total_within : (n : ℕ) (config : Config) → ((t : ℕ) → length (config t) ≤ 1024) → total n config ≤ n * 1024
-unfolding total
-total_within zero config few = omega arith
-total_within (suc n) config few = omega (arith, total_within n config few, few n)
-
-total_none : (n : ℕ) → total n no_results ≡ 0
-unfolding total
-total_none zero = refl
-total_none (suc n) = omega (arith, total_none n)
 
 module _ (s : Script) (rows : ℕ) (few : rows ≤ 1024) (text : HasText s) where
   abbrev d : Declared
@@ -174,53 +137,12 @@ module _ (s : Script) (rows : ℕ) (few : rows ≤ 1024) (text : HasText s) wher
       )
   commit_line config (Alone at why stamp) fine legal = alone_line config at why stamp fine legal
 
-  -- STAMPS
-
-  abbrev Short : Config → Type 0
-  Short config = (t : ℕ) → length (config t) ≤ 1024
-
-  abbrev all_syncs : Config → ℕ
-  all_syncs config = total (length s.processes) config
-
-  -- a thread that takes a result
-  record Grows (old new : Config) : Type 0 where
-    pub short : Short new
-    pub more : all_syncs old + 1 ≤ all_syncs new
-
-  grows_one : (config : Config) (at : Row × ℕ) (b : Base) (m : Message) → Short config → CanTake s.processes rows (config at.0.thread) at b → Grows config (with_result at.0.thread (at.1, m) config)
-  grows_one config at b m short can =
-      let t = at.0.thread in
-      let r : Chosen = (at.1, m) in
-      let within = slice_get_within s.processes t can.offered.process can.offered.is_its in
-      record {
-        short = λ u. ⊎_elim
-            (λ e. omega (arith, can.few, few, ap (λ (v : ℕ). length (with_result t r config v)) e, one_longer t r config))
-            (λ ne. omega (arith, short u, no_longer t u r config ne))
-            (cases_eq u t);
-        more = omega (arith, total_one (length s.processes) t r config within);
-      }
-
-  -- the receiver's results are as they were
-  receiver_later : (config : Config) (sender receiver : Row × ℕ) (b : Base) → (sender.0.thread ≡ receiver.0.thread → ⊥) → CanTake s.processes rows (config receiver.0.thread) receiver b → CanTake s.processes rows (with_result sender.0.thread (sender.1, Empty) config receiver.0.thread) receiver b
-  receiver_later config sender receiver b ne can =
-      subst (λ (rs : List Chosen). CanTake s.processes rows rs receiver b) (sym (result-other sender.0.thread receiver.0.thread (sender.1, Empty) config (λ e. ne (sym e)))) can
-
-  grows : (config : Config) (c : Commit) → Short config → IsLegal s.processes rows config c → Grows config (applied config c)
-  grows config (Pair sender receiver chan msg stamp) short legal =
-      let middle = with_result sender.0.thread (sender.1, Empty) config in
-      let one = grows_one config sender (Send chan msg) Empty short legal.1.can in
-      let two = grows_one middle receiver (Recv chan) msg one.short (receiver_later config sender receiver (Recv chan) legal.0 legal.2.can) in
-      record { short = two.short; more = omega (arith, one.more, two.more) }
-  grows config (Alone at (cause.Always m) stamp) short legal = grows_one config at (Always m) m short legal.can
-  grows config (Alone at (cause.Nack n) stamp) short legal = grows_one config at (OnNack n) Empty short legal.0.can
-  grows config (Alone at (cause.End u) stamp) short legal = grows_one config at (OnEnd u) Empty short legal.0.can
-
   -- RUNS
 
   record Sound (earlier : List Commit) (config : Config) : Type 0 where
     pub fine : Fine config
-    pub short : Short config
-    pub stamps : (c : Commit) → Contains earlier c → stamp_of c ≤ all_syncs config
+    pub short : Short s.processes rows config
+    pub stamps : (c : Commit) → Contains earlier c → stamp_of c ≤ all_syncs s.processes rows config
 
   stamped : (c : Commit) → HasLineAt c → 1 ≤ stamp_of c → stamp_of c ≤ 4294967295 → HasLine d c
   stamped (Pair sender receiver chan msg stamp) h low high = (((low, high), h.0.0), (h.0.1, h.1, h.2))
@@ -233,9 +155,9 @@ module _ (s : Script) (rows : ℕ) (few : rows ≤ 1024) (text : HasText s) wher
   next earlier c sound f =
       let config = config_of earlier in
       let line = commit_line config c sound.fine f.legal in
-      let grew = grows config c sound.short f.legal in
-      let below : f.greatest ≤ all_syncs config = ⊎_elim (λ z. omega (arith, z)) (λ w. omega (arith, sound.stamps w.0 w.1, w.3)) f.is.there in
-      let bound = total_within (length s.processes) (applied config c) grew.short in (
+      let grew = grows s.processes rows config c sound.short f.legal in
+      let below : f.greatest ≤ all_syncs s.processes rows config = ⊎_elim (λ z. omega (arith, z)) (λ w. omega (arith, sound.stamps w.0 w.1, w.3)) f.is.there in
+      let bound = syncs_within (length s.processes) (applied config c) (λ t. omega (arith, grew.short t, few)) in (
         stamped c line.0 (omega (arith, f.stamp)) (omega (arith, f.stamp, below, grew.more, bound, text.few)),
         record {
           fine = line.1;

@@ -48,7 +48,8 @@ use Rattle.protocol.specs.Standing.{AreResults, Gives, OffersAs, binding_of}
 use Rattle.journal_order.specs.Ledgers.{IsFirst, IsLedgerOf, LedgerIsRun, LedgersTell, ProcessOffers, ProcessSpawns, TellsNacks, TellsResults, TellsStamps, TellsStarts}
 use Rattle.protocol.specs.declared.opening.NackState.TheVariants.{Dead, Enabled, Unbound, Unsettled}
 use Rattle.journal_order.proofs.Runs.{RunsOn, get-take, run-whole}
-use Rattle.journal_order.proofs.Swapping.{applied-other, grows, has-or-not}
+use Rattle.journal_replay.proofs.Extending.{applied-other}
+use Rattle.journal_order.proofs.Swapping.{grows, has-or-not}
 
 abbrev row : ℕ → ℕ → Row
 row t g = record { thread = t; sync = g }
@@ -56,7 +57,7 @@ row t g = record { thread = t; sync = g }
 -- THE ROWS OF A COMMIT
 
 -- a thread of a commit is that of one of its rows
-thread-involves : (c : Commit) (t : ℕ) → HasThread c t → (g : ℕ) × Involves c (row t g)
+pub thread-involves : (c : Commit) (t : ℕ) → HasThread c t → (g : ℕ) × Involves c (row t g)
 thread-involves (Pair sender receiver chan msg stamp) t (inl e) = (sender.0.sync, (sender.1, inl (λ i. (record { thread = e i; sync = sender.0.sync }, sender.1))))
 thread-involves (Pair sender receiver chan msg stamp) t (inr e) = (receiver.0.sync, (receiver.1, inr (λ i. (record { thread = e i; sync = receiver.0.sync }, receiver.1))))
 thread-involves (Alone at why stamp) t e = (at.0.sync, (at.1, λ i. (record { thread = e i; sync = at.0.sync }, at.1)))
@@ -136,12 +137,12 @@ joined-inside l r j h = by (has_row l r) refl h
     by true e k = in-table l r e
     by false e k = absurd (none-some j k)
 
-offer-inside : (l : Ledger) (r : Row) (n : ℕ) (o : Offer) → offer_in l r n ≡ Some o → r.sync < l.rows
+offer-inside : (l : Ledger) (r : Row) (n : ℕ) (o : Offer) → offer_in l r n ≡ Some o → (r.thread < l.threads) × (r.sync < l.rows)
 unfolding offer_in
 offer-inside l r n o h = by (has_row l r) refl h
   where
-    by : (b : Bool) → has_row l r ≡ b → get_or ((cond b (get_or l.entries (number_of l.rows r) no_entry) no_entry).offers) n None ≡ Some o → r.sync < l.rows
-    by true e k = (in-table l r e).1
+    by : (b : Bool) → has_row l r ≡ b → get_or ((cond b (get_or l.entries (number_of l.rows r) no_entry) no_entry).offers) n None ≡ Some o → (r.thread < l.threads) × (r.sync < l.rows)
+    by true e k = in-table l r e
     by false e k = absurd (none-some o k)
 
 module _ (ps : List Proc) (rows : ℕ) (l : Ledger) (law : IsLawful l) (of : IsLedgerOf ps l) (enough : l.rows ≤ rows)
@@ -199,7 +200,7 @@ module _ (ps : List Proc) (rows : ℕ) (l : Ledger) (law : IsLawful l) (of : IsL
         let base = offered-base (bases off.standing.event) at.1 h.0 (shown at.0 off at.1 h.0 h.1) in record {
           started = started;
           can = record {
-            few = omega (arith, next, offer-inside l at.0 at.1 h.0 h.1, enough);
+            few = (let low = (offer-inside l at.0 at.1 h.0 h.1).1 in omega (arith, next, low, enough));
             next = next;
             event = off.standing.event;
             offered = subst (λ (xs : List Chosen). IsOffering ps at.0.thread xs off.standing.event) (now at.0 off next) off.standing.offered;
@@ -707,3 +708,14 @@ tells-stamp ps rows l commits law of enough order = tells-last ps rows l law of 
 
 pub tells-started : LedgersTell TellsStarts
 tells-started ps rows l commits law of enough order = tells-start ps rows l law of enough commits order
+
+-- a commit of the list is one of the ledger
+pub ledger-has : (ps : List Proc) (rows : ℕ) (l : Ledger) (commits : List Commit) → IsLawful l → IsLedgerOf ps l → l.rows ≤ rows → IsOrderOf l commits → (d : Commit) → Contains commits d → HasCommit l d
+ledger-has ps rows l commits law of enough order d there = in-ledger ps rows l law of enough commits order d there
+
+-- and of its threads
+pub ledger-threads : (ps : List Proc) (rows : ℕ) (l : Ledger) (commits : List Commit) → IsLawful l → IsLedgerOf ps l → l.rows ≤ rows → IsOrderOf l commits → (d : Commit) (t : ℕ) → Contains commits d → HasThread d t → t < l.threads
+ledger-threads ps rows l commits law of enough order d t there has =
+    let w = thread-involves d t has in
+    let o = offered-by ps rows l law of enough commits order d (row t w.0) w.1.0 (in-ledger ps rows l law of enough commits order d there) w.1.1 in
+    (offer-inside l (row t w.0) w.1.0 o.0 o.1).0

@@ -21,7 +21,8 @@ use Rattle.journal_replay.proofs.Standing.{config_from-append, config_of-more, r
 use Rattle.journal_replay.proofs.Starting.{starts-on}
 use Rattle.journal_order.specs.Laws.{EachMeets}
 use Rattle.journal_order.specs.Meetings.{Meets, Took}
-use Rattle.journal_order.proofs.Results.{Extends, before-later, config-extends, extends-chain, applied-extends, result-stays}
+use Rattle.journal_replay.proofs.Extending.{Extends, applied-extends, config-extends, extends-chain, result-stays}
+use Rattle.journal_order.proofs.Results.{before-later}
 use Rattle.journal_order.proofs.Runs.{RunsOn, runs-on}
 use Rattle.journal_order.proofs.Swapping.{ended-forward}
 

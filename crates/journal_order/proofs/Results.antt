@@ -1,8 +1,8 @@
 -- The results that a run gives to its threads: they only grow, and each row has its own.
-use Rattle.std.proofs.Common.{◌≡◌, ℕ, ◌+◌, ◌<◌, ◌≤◌, List, [], ◌∷◌, ◌++◌, length, take, drop, slice_get, Some, refl, sym, ap, ◌∙◌, append_assoc, append-nil, subst, arith, ⊎_elim}
+use Rattle.std.proofs.Common.{◌≡◌, ℕ, ◌+◌, ◌<◌, ◌≤◌, List, [], ◌∷◌, ◌++◌, length, take, drop, slice_get, Some, refl, sym, ap, ◌∙◌, subst, arith, ⊎_elim}
 use Rattle.std.specs.Prelude.{⊤}
 use Rattle.std.specs.List.{AllByRecursion}
-use Rattle.std.proofs.lemmas.Bool.{cases_eq, cases_order}
+use Rattle.std.proofs.lemmas.Bool.{cases_order}
 use Rattle.std.proofs.lemmas.List.{length-append, take-append-drop, take-take, take_more}
 use Rattle.std.proofs.lemmas.Option.{get_or_from_slice_get, slice_get_within}
 use Rattle.script_tree.specs.Processes.{Proc}
@@ -10,47 +10,13 @@ use Rattle.thread.specs.After.{Chosen}
 use Rattle.protocol_values.specs.declared.Commit.{Commit}
 use Rattle.protocol_values.specs.declared.Commit.TheVariants.{Pair, Alone}
 use Rattle.protocol_values.specs.declared.Message.TheVariants.{Empty}
-use Rattle.journal_replay.specs.Runs.{Config, HasRow, HasThread, IsLegal, IsRun, applied, with_result, message_by, config_from, config_of, no_results}
+use Rattle.journal_replay.specs.Runs.{Config, HasRow, HasThread, IsLegal, IsRun, applied, with_result, config_from, config_of, no_results}
+use Rattle.journal_replay.proofs.Extending.{Extends, config-extends, result-stays}
 use Rattle.journal_replay.proofs.Greatest.{more}
-use Rattle.journal_replay.proofs.Lists.{slice_get-middle}
 use Rattle.journal_replay.proofs.Standing.{config_from-append, config_of-more, result-at, result-other, row-thread, rows-are}
 use Rattle.journal_order.specs.Laws.{OneRowOneCommit}
 use Rattle.journal_order.proofs.Runs.{RunsOn}
 use Rattle.journal_order.proofs.Swapping.{grows}
-
--- these results with others behind them
-abbrev pub Extends : List Chosen → List Chosen → Type 0
-Extends before rs = (behind : List Chosen) × (rs ≡ before ++ behind)
-
-extends-same : (before rs : List Chosen) → rs ≡ before → Extends before rs
-extends-same before rs e = ([], e ∙ sym (append-nil before))
-
-pub extends-chain : (xs ys zs : List Chosen) → Extends xs ys → Extends ys zs → Extends xs zs
-extends-chain xs ys zs h k = (h.0 ++ k.0, k.1 ∙ ap (λ (rs : List Chosen). rs ++ k.0) h.1 ∙ append_assoc xs h.0 k.0)
-
-result-extends : (t u : ℕ) (r : Chosen) (config : Config) → Extends (config u) (with_result t r config u)
-result-extends t u r config = ⊎_elim
-    (λ e. (r ∷ [], result-at t u r config e))
-    (λ ne. extends-same (config u) (with_result t r config u) (result-other t u r config ne))
-    (cases_eq u t)
-
-pub applied-extends : (config : Config) (c : Commit) (t : ℕ) → Extends (config t) (applied config c t)
-applied-extends config (Pair sender receiver chan msg stamp) t =
-    let middle = with_result sender.0.thread (sender.1, Empty) config in
-    extends-chain (config t) (middle t) (applied config (Pair sender receiver chan msg stamp) t)
-    (result-extends sender.0.thread t (sender.1, Empty) config)
-    (result-extends receiver.0.thread t (receiver.1, msg) middle)
-applied-extends config (Alone at why stamp) t = result-extends at.0.thread t (at.1, message_by why) config
-
-pub config-extends : (config : Config) (cs : List Commit) (t : ℕ) → Extends (config t) (config_from config cs t)
-config-extends config [] t = extends-same (config t) (config t) refl
-config-extends config (c ∷ cs) t =
-    extends-chain (config t) (applied config c t) (config_from config (c ∷ cs) t) (applied-extends config c t) (config-extends (applied config c) cs t)
-
--- a result stays where it stands
-pub result-stays : (before rs : List Chosen) (r : Chosen) (g : ℕ) → g ≡ length before → Extends (before ++ r ∷ []) rs → slice_get rs g ≡ Some r
-result-stays before rs r g at h =
-    ap (λ (n : ℕ). slice_get rs n) at ∙ ap (λ (xs : List Chosen). slice_get xs (length before)) (h.1 ∙ append_assoc before (r ∷ []) h.0) ∙ slice_get-middle before h.0 r
 
 -- the receiver of a pair got its message
 abbrev pub Got : Config → Commit → Type 0

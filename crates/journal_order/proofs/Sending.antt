@@ -22,7 +22,8 @@ use Rattle.journal_order.specs.Laws.{NamedIsReceived, ReceivedIsSent}
 use Rattle.journal_order.specs.Messages.{base_in, chosen_base, sent_by, sent_behind, sent_of, sent, message_of, received_in, named_in, named}
 use Rattle.journal_order.proofs.Results.{Got, got-each}
 use Rattle.journal_order.proofs.Runs.{RunsOn, runs-on}
-use Rattle.journal_order.proofs.Swapping.{applied-other, has-or-not}
+use Rattle.journal_replay.proofs.Extending.{applied-other}
+use Rattle.journal_order.proofs.Swapping.{has-or-not}
 
 -- ONE MORE RESULT
 

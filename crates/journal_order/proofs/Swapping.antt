@@ -17,6 +17,7 @@ use Rattle.protocol_values.specs.declared.Row.{Row}
 use Rattle.protocol_values.specs.Commits.{stamp_of}
 use Rattle.journal_replay.specs.Runs.{Config, CanTake, MayTake, IsCaused, IsLegal, IsFiredAt, IsOffering, FiredAt, Fires, CausedBy, CountsFor, CountsOf, HasEnded, HasRow, HasThread, IsGreatest, Follows, Starts, applied, with_result, message_by, config_of}
 use Rattle.journal_replay.specs.Starting.{IsOver}
+use Rattle.journal_replay.proofs.Extending.{applied-other}
 use Rattle.journal_replay.proofs.Firing.{fired-kept, fired-cases}
 use Rattle.journal_replay.proofs.Greatest.{more, in-more, last-more, more-cases, greatest-other, greatest-same}
 use Rattle.journal_replay.proofs.Standing.{result-at, result-other, rows-are, started-alone, touches}
@@ -25,12 +26,6 @@ use Rattle.protocol.specs.Standing.{Gives}
 use Rattle.journal_order.proofs.Nacks.{fired-once}
 
 -- WHAT A COMMIT DOES TO A THREAD
-
-pub applied-other : (config : Config) (c : Commit) (t : ℕ) → (HasThread c t → ⊥) → applied config c t ≡ config t
-applied-other config (Pair sender receiver chan msg stamp) t none =
-    result-other receiver.0.thread t (receiver.1, msg) (with_result sender.0.thread (sender.1, Empty) config) (λ e. none (inr (sym e)))
-    ∙ result-other sender.0.thread t (sender.1, Empty) config (λ e. none (inl (sym e)))
-applied-other config (Alone at why stamp) t none = result-other at.0.thread t (at.1, message_by why) config (λ e. none (sym e))
 
 -- a legal commit leaves a thread's results alone, or adds one for the sync that comes next
 pub record Grew (config : Config) (c : Commit) (t : ℕ) : Type 0 where

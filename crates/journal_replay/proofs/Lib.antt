@@ -7,6 +7,9 @@ pub mod Growing
 mod Finding
 pub mod Standing
 pub mod Running
+pub mod Extending
+pub mod Counting
+mod Sounding
 mod Remembering
 mod Replaying
 mod Ending
@@ -15,6 +18,7 @@ mod Removing
 mod Covering
 mod Bounding
 mod Waking
+mod Gathered
 pub mod Telling
 pub mod Fronts
 pub mod Nacks

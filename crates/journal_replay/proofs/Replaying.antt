@@ -2,7 +2,7 @@
 use Rattle.std.proofs.Common.{◌≡◌, false, refl, slice_get, ℕ, ◌+◌, ◌*◌, ◌-◌, ◌<◌, ◌≤◌, List, ◌++◌, ◌∷◌, [], length, take, get_or, Option, Some, None, MatchOption, sym, ap, ◌∙◌, append_assoc, subst, arith}
 use Rattle.std.specs.Coded.{le_prop}
 use Rattle.std.proofs.lemmas.List.{take_more}
-use Rattle.std.proofs.lemmas.Option.{none-some, slice_get_within}
+use Rattle.std.proofs.lemmas.Option.{none-some, slice_get-get_or, slice_get_within}
 use Rattle.script_tree.specs.Processes.{Proc}
 use Rattle.protocol_values.specs.declared.Commit.{Commit}
 use Rattle.journal_replay.specs.declared.state.State.{State}
@@ -10,7 +10,7 @@ use Rattle.journal_replay.specs.declared.strand.Strand.{Strand}
 use Rattle.journal_replay.specs.declared.threads.Threads.{Threads}
 use Rattle.journal_replay.specs.Reaching.{AreAfter, IsReached}
 use Rattle.journal_replay.specs.Replays.{TellsEnabled}
-use Rattle.journal_replay.specs.Runs.{BreaksOffAt, Follows, IsLegal, IsMaximal, config_of}
+use Rattle.journal_replay.specs.Runs.{BreaksOffAt, Follows, IsLegal, IsMaximal, IsRun, config_of}
 use Rattle.journal_replay.specs.Searching.{HasRoom, NoneMay, total}
 use Rattle.journal_replay.specs.Standing.{Commits, IsOrdered, MayBe}
 use Rattle.journal_replay.proofs.Bounding.{bounded-more, room, total-bound, total-grows}
@@ -58,6 +58,14 @@ pub replay-goes : (ps : List Proc) (rows : ℕ) (commits : List Commit) (i : ℕ
 replay-goes ps rows commits i d s t stands within m made same =
     subst (λ (cs : List Commit). AreAfter ps rows cs t) (sym (take_more commits i d within))
     (stands-next ps rows (take i commits) (get_or commits i d) s t stands m made same)
+
+-- a state that stands behind some commits of a run finds the next one
+pub may-be : (ps : List Proc) (rows : ℕ) (commits : List Commit) (i : ℕ) (d : Commit) (s : Threads) → AreAfter ps rows (take i commits) s → IsRun ps rows commits → i < length commits → MayBe s.strands.items s.rows (get_or commits i d)
+may-be ps rows commits i d s stands run within =
+    let c = get_or commits i d in
+    let here : Follows ps s.rows (take i commits) c = subst (λ (n : ℕ). Follows ps n (take i commits) c) (sym stands.rows_are) (run i c (slice_get-get_or commits i d within)) in
+    let w = follows-to ps (take i commits) s.strands.items s.rows c stands.strands here in
+    record { below = w.0; may = w.1; stamp = w.2 }
 
 -- where the state finds no commit, the run is maximal
 pub maximal : (ps : List Proc) (rows : ℕ) (journal : List Commit) (s : Threads) → AreAfter ps rows journal s → NoneMay s.strands.items s.rows → IsMaximal ps rows (config_of journal)

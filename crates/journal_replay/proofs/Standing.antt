@@ -47,12 +47,12 @@ result-other t u r config ne = ap (λ (b : Bool). cond b (config u ++ r ∷ []) 
 
 -- STRANDS
 
-set-same : (xs : List Strand) (t : ℕ) (x y : Strand) → slice_get xs t ≡ Some x → slice_get (set xs t y) t ≡ Some y
+pub set-same : (xs : List Strand) (t : ℕ) (x y : Strand) → slice_get xs t ≡ Some x → slice_get (set xs t y) t ≡ Some y
 set-same [] t x y e = absurd (none-some x e)
 set-same (z ∷ xs) zero x y e = refl
 set-same (z ∷ xs) (suc t) x y e = set-same xs t x y e
 
-set-other : (xs : List Strand) (t u : ℕ) (y : Strand) → (u ≡ t → ⊥) → slice_get (set xs t y) u ≡ slice_get xs u
+pub set-other : (xs : List Strand) (t u : ℕ) (y : Strand) → (u ≡ t → ⊥) → slice_get (set xs t y) u ≡ slice_get xs u
 set-other [] t u y ne = refl
 set-other (z ∷ xs) zero zero y ne = absurd (ne refl)
 set-other (z ∷ xs) zero (suc u) y ne = refl
@@ -144,6 +144,28 @@ touches ps rows config c legal t = ⊎_elim
     (λ w. inr (w.result, w.is, w.row))
     (λ no. inl no.0)
     (took-or-not ps rows config c legal t)
+
+-- the results that a commit gives are made by it
+pub made-more : (ps : List Proc) (rows : ℕ) (journal : List Commit) (c : Commit) → AreMade (config_of journal) journal → Follows ps rows journal c → AreMade (applied (config_of journal) c) (more journal c)
+made-more ps rows journal c were f d t there has =
+    let config = config_of journal in
+    ⊎_elim
+    (λ before.
+    let k = were d t before has in (
+      k.0,
+      ⊎_elim
+          (λ same. omega (arith, k.1, ap (λ (rs : List Chosen). length rs) same))
+          (λ grew. omega (arith, k.1, ap (λ (rs : List Chosen). length rs) grew.1, length-append (config t) (grew.0 ∷ [])))
+          (touches ps rows config c f.legal t),
+      k.2,
+    ))
+    (λ same.
+    let mine : HasThread c t = subst (λ (x : Commit). HasThread x t) (sym same) has in
+    ⊎_elim
+    (λ k. (length (config t), omega (arith, ap (λ (rs : List Chosen). length rs) k.is, length-append (config t) (k.result ∷ [])), subst (λ (x : Commit). HasRow x t (length (config t))) same k.row))
+    (λ no. absurd (no.1 mine))
+    (took-or-not ps rows config c f.legal t))
+    (more-cases journal c d there)
 
 -- THE STRANDS OF A COMMIT
 
@@ -265,30 +287,11 @@ module _ (ps : List Proc) (rows : ℕ) (journal : List Commit) (c : Commit) (old
       (λ no. strand-stays ps config later journal c moves t s (were.each t s (sym no.2 ∙ is)) no.0 no.1 (rows-are ps rows config c f.legal))
       (strand-took ps rows config c old taken f.legal w t)
 
-  one-made : AreMade later (more journal c)
-  one-made d t there has = ⊎_elim
-      (λ before.
-      let k = were.made d t before has in (
-        k.0,
-        ⊎_elim
-            (λ same. omega (arith, k.1, ap (λ (rs : List Chosen). length rs) same))
-            (λ grew. omega (arith, k.1, ap (λ (rs : List Chosen). length rs) grew.1, length-append (config t) (grew.0 ∷ [])))
-            (moves t),
-        k.2,
-      ))
-      (λ same.
-      let mine : HasThread c t = subst (λ (x : Commit). HasThread x t) (sym same) has in
-      ⊎_elim
-      (λ k. (length (config t), omega (arith, ap (λ (rs : List Chosen). length rs) k.is, length-append (config t) (k.result ∷ [])), subst (λ (x : Commit). HasRow x t (length (config t))) same k.row))
-      (λ no. absurd (no.1 mine))
-      (took-or-not ps rows config c f.legal t))
-      (more-cases journal c d there)
-
   pub stands-taken : StandsIn ps later (more journal c) taken
   stands-taken = record {
     count = takes-count c old taken w ∙ were.count;
     each = one-strand;
-    made = one-made;
+    made = made-more ps rows journal c were.made f;
   }
 
   -- whether a strand is marked has not changed
@@ -337,7 +340,7 @@ machine-spawned ps s t results m stands h = record {
   spawned = subst (λ (xs : List ℕ). Contains xs t) (sym (spawned-is ps s results m stands)) (among-from m.spawned t h);
 }
 
-spawned-machine : (ps : List Proc) (s t : ℕ) (results : List Chosen) (m : Thread) → MachineStands ps s results m → HasSpawned ps s results t → list_any (λ p. p == t) m.spawned ≡ true
+pub spawned-machine : (ps : List Proc) (s t : ℕ) (results : List Chosen) (m : Thread) → MachineStands ps s results m → HasSpawned ps s results t → list_any (λ p. p == t) m.spawned ≡ true
 spawned-machine ps s t results m stands h =
     let process : h.process ≡ stands.process = same_Some h.process stands.process (sym h.is_its ∙ stands.is_its) in
     let here = subst (λ (q : Proc). Contains (spawned_in (after q.body (length q.variables) s results)) t) process h.spawned in
@@ -527,7 +530,7 @@ knows-nothing : (ps : List Proc) (t k : ℕ) (o : Option ℕ) → o ≡ None →
 knows-nothing ps t k None e = λ g f. none-some f.chosen f.result
 knows-nothing ps t k (Some x) e = absurd (none-some x (sym e))
 
-nobody : (o : Option ℕ) → is_none o ≡ true → o ≡ None
+pub nobody : (o : Option ℕ) → is_none o ≡ true → o ≡ None
 nobody None e = refl
 nobody (Some x) e = absurd (false≢true e)
 

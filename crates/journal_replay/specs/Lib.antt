@@ -5,3 +5,4 @@ pub mod Reaching
 pub mod Replays
 pub mod Searching
 pub mod Ends
+pub mod Gathering

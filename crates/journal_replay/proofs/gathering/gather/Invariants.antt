@@ -1,0 +1,7 @@
+use Rattle.std.proofs.Common.{map}
+use Rattle.script_tree.specs.Processes.{proc_of}
+use Rattle.journal_replay.proofs.Gathered.{Gathering}
+use Rattle.journal_replay.proofs.gathering.gather.Given as goal
+
+abbrev pub invariant-loop-index : goal.invariant-loop-index
+invariant-loop-index l = Gathering (map proc_of l.processes) l.rows l.commits l.index l.threads

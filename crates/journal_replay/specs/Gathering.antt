@@ -1,0 +1,133 @@
+-- Threads gathered of machines that have gone part of a run.
+use Rattle.std.specs.Prelude.{◌≡◌, ◌≢◌, ◌⊎◌, ◌||◌, ◌<◌, ◌≤◌, ℕ, Bool, true, false, List, [], ◌∷◌, ◌++◌, Contains, IfSome, MatchOption, Option, Some, None, is_none, is_some, length, not, slice_get, slice_index_or, slice_set, take, unwrap_or}
+use Rattle.script_tree.specs.Processes.{Proc}
+use Rattle.script_tree.specs.Spawning.{spawner}
+use Rattle.script_tree.specs.Trees.{block_of}
+use Rattle.thread.specs.After.{Chosen}
+use Rattle.thread.specs.Machines.{Thread, HasStopped, IsAfter, SameProcess, Tells, offers_in}
+use Rattle.thread.specs.Memories.{AddsNew}
+use Rattle.protocol_values.specs.declared.Commit.{Commit}
+use Rattle.protocol_values.specs.declared.Commit.TheVariants.{Pair, Alone}
+use Rattle.protocol_values.specs.declared.Message.TheVariants.{Empty}
+use Rattle.protocol_values.specs.declared.Row.{Row}
+use Rattle.journal_replay.specs.declared.strand.Known.{Known}
+use Rattle.journal_replay.specs.declared.strand.Strand.{Strand}
+use Rattle.journal_replay.specs.declared.threads.Threads.{Threads}
+use Rattle.journal_replay.specs.Runs.{CountsOf, HasThread, IsGreatest, Starts, config_of, message_by}
+use Rattle.journal_replay.specs.Standing.{KnowsNack, MachineStands}
+use Rattle.journal_replay.specs.Starting.{HasSpawned}
+
+-- WHAT IS KNOWN OF A THREAD where commits lead
+
+-- The machine stands after some of the thread's first results, and has spawned what its process has after fewer of them.
+pub record HasGone (ps : List Proc) (t : ℕ) (results : List Chosen) (m : Thread) : Type 0 where
+  pub stands : MachineStands ps t m.results m
+  pub part : m.results ≡ take (length m.results) results
+  pub told : (n u : ℕ) → n ≤ length m.results → HasSpawned ps t (take n m.results) u → Contains m.spawned u
+
+-- the stamp is the greatest that counts for what the thread does next; where there is none no commit is of the thread
+abbrev pub KnowsLast : List Proc → List Commit → ℕ → Option ℕ → Type 0
+KnowsLast ps commits t None = (d : Commit) → Contains commits d → HasThread d t → ⊥
+KnowsLast ps commits t (Some stamp) = Starts ps (config_of commits) t × IsGreatest commits (CountsOf ps (config_of commits) t) stamp
+
+pub record IsKnown (ps : List Proc) (commits : List Commit) (t : ℕ) (k : Known) : Type 0 where
+  pub machine : IfSome k.machine (HasGone ps t (config_of commits t))
+  pub last : KnowsLast ps commits t k.last
+  pub fired : (n : ℕ) → KnowsNack ps t (config_of commits t) commits n (slice_index_or k.fired n None)
+
+-- so of each thread
+pub record AreKnown (ps : List Proc) (commits : List Commit) (known : List Known) : Type 0 where
+  pub count : length known ≡ length ps
+  pub each : (t : ℕ) (k : Known) → slice_get known t ≡ Some k → IsKnown ps commits t k
+
+-- WHAT THE CALLS DO
+
+-- a machine at its process's first stop
+pub record HasBegun (process : Proc) (number : ℕ) (m : Thread) : Type 0 where
+  pub body : block_of m.body ≡ process.body
+  pub variables : m.variables ≡ length process.variables
+  pub thread : m.thread ≡ number
+  pub results : m.results ≡ []
+  pub stopped : HasStopped m.phase
+  pub after : IsAfter m
+
+-- the strand of a thread of which this is known; it has started, too, where no text spawns its process
+pub record Gathers (process : Proc) (from : Option ℕ) (number : ℕ) (k : Known) (s : Strand) : Type 0 where
+  pub machine : MatchOption k.machine (HasBegun process number s.machine) (λ m. s.machine ≡ m)
+  pub turn : Tells s.turn s.machine.phase
+  pub spawner : s.spawner ≡ from
+  pub started : s.started ≡ (is_some k.last || is_none from)
+  pub last : s.last ≡ unwrap_or k.last 0
+  pub fired : s.fired ≡ k.fired
+
+-- so of each thread, in so many rows
+pub record AreGathered (ps : List Proc) (rows : ℕ) (known : List Known) (s : Threads) : Type 0 where
+  pub rows_are : s.rows ≡ rows
+  pub low : rows < 65536
+  pub later : s.later ≡ false → (t : ℕ) → t < length ps → spawner ps t ≡ None
+  pub count : length s.strands.items ≡ length ps
+  pub each : (t : ℕ) (x : Strand) → slice_get s.strands.items t ≡ Some x →
+      (p : Proc) × (k : Known) × (slice_get ps t ≡ Some p) × (slice_get known t ≡ Some k) × Gathers p (spawner ps t) t k x
+
+-- the thread is to be started yet
+abbrev pub waits_if : Option Strand → Bool
+waits_if None = false
+waits_if (Some s) = not s.started
+
+abbrev pub waits_in : List Strand → ℕ → Bool
+waits_in strands t = waits_if (slice_get strands t)
+
+-- the thread has started and has spawned one that has not
+pub record IsEarly (strands : List Strand) (t : ℕ) : Type 0 where
+  pub strand : Strand
+  pub is_its : slice_get strands t ≡ Some strand
+  pub started : strand.started ≡ true
+  pub other : ℕ
+  pub spawned : Contains strand.machine.spawned other
+  pub waits : waits_in strands other ≡ true
+
+-- the thread went on by this result, and nothing else is known of it
+pub record GoesOn (chosen : Chosen) (old new : Strand) : Type 0 where
+  pub process : SameProcess old.machine new.machine
+  pub results : new.machine.results ≡ old.machine.results ++ chosen ∷ []
+  pub stopped : HasStopped new.machine.phase
+  pub after : IsAfter new.machine
+  pub spawned : AddsNew old.machine.spawned new.machine.spawned
+  pub turn : Tells new.turn new.machine.phase
+  pub spawner : new.spawner ≡ old.spawner
+  pub started : new.started ≡ old.started
+  pub last : new.last ≡ old.last
+  pub fired : new.fired ≡ old.fired
+
+-- thread t, and no other, went on by this result, which is of its next sync
+pub record OneGoesOn (at : Row × ℕ) (chosen : Chosen) (old new : List Strand) : Type 0 where
+  pub before : Strand
+  pub behind : Strand
+  pub was : slice_get old at.0.thread ≡ Some before
+  pub next : at.0.sync ≡ length before.machine.results
+  pub ready : ¬ IsEarly old at.0.thread
+  pub goes : GoesOn chosen before behind
+  pub is : new ≡ slice_set old at.0.thread behind
+
+-- the row is not the next sync of its thread
+abbrev pub IsHad : Row × ℕ → List Strand → Type 0
+IsHad at strands = (s : Strand) → slice_get strands at.0.thread ≡ Some s → at.0.sync ≢ length s.machine.results
+
+-- the thread of the row was given its result, if that is the next; or it is early, and nothing was done
+abbrev pub GivesRow : Row × ℕ → Chosen → List Strand → List Strand → Bool → Type 0
+GivesRow at chosen old new true = (IsHad at old × (new ≡ old)) ⊎ OneGoesOn at chosen old new
+GivesRow at chosen old new false = IsEarly old at.0.thread
+
+-- where the row is the next sync of its thread, the thread offers something under this number
+abbrev pub IsOpenFor : List Strand → Row × ℕ → Type 0
+IsOpenFor strands at = (s : Strand) → slice_get strands at.0.thread ≡ Some s → at.0.sync ≡ length s.machine.results → at.1 < length (offers_in s.machine.phase)
+
+abbrev pub CanGive : List Strand → Commit → Type 0
+CanGive strands (Pair sender receiver chan msg stamp) = (sender.0.thread ≢ receiver.0.thread) × IsOpenFor strands sender × IsOpenFor strands receiver
+CanGive strands (Alone at why stamp) = IsOpenFor strands at
+
+-- the threads of a commit were given their results
+abbrev pub GivesAll : Commit → List Strand → List Strand → Type 0
+GivesAll (Pair sender receiver chan msg stamp) old new =
+    (middle : List Strand) × GivesRow sender (sender.1, Empty) old middle true × GivesRow receiver (receiver.1, msg) middle new true
+GivesAll (Alone at why stamp) old new = GivesRow at (at.1, message_by why) old new true
