@@ -1,1 +1,2 @@
 pub mod Completing
+mod Telling

@@ -4,11 +4,13 @@ use Rattle.script_tree.specs.Processes.{Proc}
 use Rattle.protocol_values.specs.declared.Atom.{Atom}
 use Rattle.protocol_values.specs.declared.Commit.{Commit}
 use Rattle.protocol_values.specs.Commits.{IsInOrder}
-use Rattle.protocol.specs.Ledgers.{Ledger, commits_in}
+use Rattle.protocol.specs.Ledgers.{Ledger, IsLawful, commits_in}
 use Rattle.journal_replay.specs.declared.end.End.{End}
+use Rattle.journal_replay.specs.declared.state.State.{State}
 use Rattle.journal_replay.specs.declared.state.ReplayFault.{ReplayFault}
 use Rattle.journal_replay.specs.declared.state.ReplayFault.TheVariants.{Memory, Unlawful}
 use Rattle.journal_replay.specs.Runs.{BreaksOffAt, IsMaximal, IsRun, TellsEnds, config_of}
+use Rattle.journal_replay.specs.Replays.{StandsAfter}
 use Rattle.journal_order.specs.Laws.{IsOrderOf}
 use Rattle.journal_order.specs.Messages.{named, sent}
 use Rattle.journal.specs.declared.record.Record.{Record}
@@ -35,3 +37,8 @@ Completes ps rows l r = IsCompletion ps rows l r.journal.items r.ends.items (map
 abbrev pub RefusesLedger : List Proc → ℕ → Ledger → ReplayFault → Type 0
 RefusesLedger ps rows l Memory = ⊤
 RefusesLedger ps rows l (Unlawful index) = (commits : List Commit) × IsOrderOf l commits × BreaksOffAt ps rows commits index
+
+-- The record leads the run of these commits, which led to this state, to its end: whatever lawful ledger they are of.
+abbrev pub Records : List Commit → State → Record → Type 0
+Records commits state r =
+    (ps : List Proc) (rows : ℕ) (l : Ledger) → IsLawful l → IsOrderOf l commits → StandsAfter ps rows commits state → Completes ps rows l r

@@ -5,6 +5,7 @@
 //!   memory aside, and else names the first commit with which they are none. The record's journal has
 //!   them and those of the tail, is in order, a run, and maximal; the ends and what was printed are those
 //!   to which it leads.
+//! - `conclude` makes such a record of a ledger of processes by the machines that made it, without a replay.
 //! - `received_from` gives the messages of the pairs on a channel with one sender, in their order. Of a
 //!   run these are what the receivers got, and what the sender sent, in its own order
 //!   (`journal_order::message_laws`); of a record this is told by `complete`.
@@ -13,9 +14,11 @@
 //! read and written by `journal_text`.
 #![tactic(auto)]
 
+mod concluding;
 mod messages;
 mod record;
 
+pub use crate::concluding::conclude;
 pub use crate::messages::received_from;
 pub use crate::record::{Record, complete};
 pub use journal_replay::{End, ReplayFault, State, replay, settle};

@@ -1,9 +1,9 @@
-use Rattle.std.proofs.Common.{List, map, sym, subst, ◌∙◌}
+use Rattle.std.proofs.Common.{List, map, subst}
 use Rattle.std.proofs.lemmas.Result.{err_from_is_err_and}
 use Rattle.script_tree.specs.Processes.{proc_of}
 use Rattle.protocol_values.specs.declared.Commit.{Commit}
 use Rattle.journal_replay.specs.Replays.{Refuses, StandsAfter}
-use Rattle.journal.proofs.Completing.{completes, never-refuses, refuses}
+use Rattle.journal.proofs.Completing.{never-refuses, refuses}
 use Rattle.journal.proofs.record.complete.Goals as goal
 
 pub returns-in_err-replayed-clause-answer : goal.returns-in_err-replayed-clause-answer
@@ -27,10 +27,6 @@ returns-in_err-replayed-clause-sure c =
 pub returns-clause-answer : goal.returns-clause-answer
 returns-clause-answer c =
     let ps = map proc_of c.args.processes.now in
-    let commits = c.in_ok-commits.commits.items in
     let told = c.in_ok-commits.ensures in
     let stands = subst (λ (cs : List Commit). StandsAfter ps c.args.rows cs c.in_ok-replayed.replayed) c.deref.ensures.value c.in_ok-replayed.ensures in
-    let settled = c.in_ok-state.ensures ps c.args.rows commits stands in
-    completes ps c.args.rows c.args.ledger.now commits c.in_ok-state.added.items c.in_ok-journal.journal.items c.in_ok-state.state c.in_ok-ends.ends.items _ c.len-tail.result
-    told.lawful (record { all = told.once; ordered = told.in_order }) stands.run settled.0 settled.1 c.in_ok-journal.ensures.0 c.in_ok-journal.ensures.1
-    c.in_ok-ends.ensures c.in_ok-outputs.ensures (sym c.in_ok-state.added.ok.0 ∙ sym c.len-tail.ensures)
+    c.in_ok-record_of.ensures ps c.args.rows c.args.ledger.now told.lawful (record { all = told.once; ordered = told.in_order }) stands

@@ -1,0 +1,97 @@
+//! What a ledger's commits come to, by the machines that made them.
+
+ghost use Rattle.std.specs.Prelude.{◌≡◌, ◌≤◌, ◌<◌, ℕ, IfOk, None, length, map, option_and_then, slice_get, slice_index_or};
+ghost use Rattle.journal_order.specs.Ledgers.{IsLedgerOf, fired_as};
+ghost use Rattle.script_tree.specs.Processes.{proc_of};
+ghost use Rattle.script_tree.specs.Spawning.{IsPlaced};
+ghost use Rattle.journal.specs.Concluding.{AreStanding, EachKnownBy, fired_in, last_in};
+ghost use Rattle.journal.specs.Records.{Completes};
+
+use crate::record::{Record, record_of};
+use journal_replay::{Known, gather};
+use protocol::{Ledger, Life, NackState, Opening};
+use script_tree::Proc;
+use std::alloc::{AllocError, Global};
+use thread::Machine;
+
+/// How many nacks a thread can have.
+const NACKS: usize = 64;
+
+/// One place for each number that a nack could have.
+const PLACES: usize = 256;
+
+/// The same as `complete`, of a ledger of these processes, by the machines that are at hand: one that stands after some
+/// of its thread's results is given the rest, and what the ledger tells of its end is not looked for among the
+/// commits. So it costs no replay; a thread of which there is no machine is run from its beginning.
+pub fn conclude(
+    alloc: Global,
+    processes: &[Proc],
+    rows: u16,
+    ledger: &Ledger,
+    machines: Vec<Option<Machine>>,
+) -> Result<Record, AllocError>
+    requires few { length processes.now ≤ 64 }
+    requires placed { IsPlaced (map proc_of processes.now) }
+    requires of { IsLedgerOf (map proc_of processes.now) ledger.now × (ledger.now.rows ≤ rows) }
+    requires machines { AreStanding (map proc_of processes.now) ledger.now machines.items }
+    ensures { IfOk result (Completes (map proc_of processes.now) rows ledger.now) }
+{
+    let commits = ledger.commits()?;
+    let opening = ledger.opening(alloc)?;
+    let known = known_by(alloc, &opening, machines)?;
+    let state = gather(alloc, processes, rows, &commits, known)?;
+    record_of(alloc, commits, state)
+}
+
+/// What is known of each thread by its machine, and by what a ledger tells of its end.
+fn known_by(
+    alloc: Global,
+    opening: &Opening,
+    machines: Vec<Option<Machine>>,
+) -> Result<Vec<Known>, AllocError>
+    requires { length machines.items ≤ 64 }
+    ensures { IfOk result (λ known. EachKnownBy opening.now.threads.items opening.now.nacks.items machines.items known.items) }
+{
+    let mut known = Vec::new(alloc);
+    for machine in machines {
+        let thread = known.len();
+        known.push(Known {
+            machine,
+            last: last_in(opening, thread),
+            fired: fired_in(opening, thread),
+        })?;
+    }
+    Ok(known)
+}
+
+/// The last stamp of the thread, if it has started.
+fn last_in(opening: &Opening, thread: usize) -> Option<u32>
+    ensures { result ≡ last_in opening.now.threads.items thread }
+{
+    match opening.threads.get(thread) {
+        Some((Life::Running | Life::Ended, stamp)) => Some(*stamp),
+        Some((Life::Unstarted, _)) | None => None,
+    }
+}
+
+/// Of each of the thread's nacks that is fired the stamp of the commit that fired it.
+fn fired_in(opening: &Opening, thread: usize) -> [Option<u32>; PLACES]
+    requires { thread < 64 }
+    ensures { (k : ℕ) → slice_index_or result k None ≡ fired_in opening.now.nacks.items thread k }
+{
+    let mut fired = [None; PLACES];
+    for k in 0..NACKS {
+        fired[k] = fired_at(opening, thread * NACKS + k);
+    }
+    fired
+}
+
+/// The stamp of the commit that fired the nack at this place.
+fn fired_at(opening: &Opening, place: usize) -> Option<u32>
+    ensures { result ≡ option_and_then fired_as (slice_get opening.now.nacks.items place) }
+{
+    match opening.nacks.get(place) {
+        Some(NackState::Enabled(stamp)) => Some(*stamp),
+        Some(NackState::Unbound | NackState::Unsettled | NackState::Dead) | None => None,
+    }
+}
