@@ -20,10 +20,10 @@ use Rattle.journal_order.specs.Ledgers.{IsFirst, IsLedgerOf, ProcessOffers, Proc
 use Rattle.journal_order.proofs.Spawners.{no_spawner, spawner_is, text_spawns}
 use Rattle.cell_table.specs.Rule.{StartsFirst}
 use Rattle.runtime.specs.declared.resident.Suspended.{Suspended}
-use Rattle.runtime.specs.Machines.{AreFirst, EndsFor, IsAtEnd, IsMachineOf, MarksSpawned, SpawnsFor, doings}
+use Rattle.runtime.specs.Machines.{AreFirst, EndsFor, IsAtEnd, IsMachineOf, MarksSpawned, SpawnsFor, doings, spawned_by}
 
 -- the process of a thread's machine
-first_process : (ps : List Proc) (first : List Suspended) (t : ℕ) (m : Suspended) (results : List Chosen) → AreFirst ps first → (is : IsMachineOf first m t results)
+pub first_process : (ps : List Proc) (first : List Suspended) (t : ℕ) (m : Suspended) (results : List Chosen) → AreFirst ps first → (is : IsMachineOf first m t results)
     → (p : Proc) × (slice_get ps t ≡ Some p) × (block_of m.machine.value.body ≡ p.body) × (m.machine.value.variables ≡ length p.variables) × (m.machine.value.thread ≡ t)
 first_process ps first t m results are is =
     let f = are.1 t is.start is.is_first in
@@ -69,6 +69,13 @@ spawned_there ps first s results t are m is stopped has =
       spawned = subst (λ (x : Outcome State). Contains (spawned_in x) t) (after_of p.0 m s results p.2 p.3 p.4 is.given) (subst (λ (l : List ℕ). Contains l t) (sym (has_spawned m.machine.value m.machine.value.phase stopped is.after)) has);
     }
 
+-- what its process has spawned after some results, the machine's process has
+pub spawned_fewer : (ps : List Proc) (s t : ℕ) (m : Suspended) (rs : List Chosen) (p : Proc) → slice_get ps s ≡ Some p → block_of m.machine.value.body ≡ p.body → m.machine.value.variables ≡ length p.variables → HasSpawned ps s rs t
+    → Contains (spawned_by m s rs) t
+spawned_fewer ps s t m rs p is body variables has =
+    subst (λ (z : Block × ℕ). Contains (spawned_in (after z.0 z.1 s rs)) t) (λ i. (sym body i, sym variables i))
+    (subst (λ (q : Proc). Contains (spawned_in (after q.body (length q.variables) s rs)) t) (same_Some has.process p (sym has.is_its ∙ is)) has.spawned)
+
 pub spawner_there : (ps : List Proc) (first : List Suspended) (s : ℕ) (results : List Chosen) (t : ℕ) → AreFirst ps first → AreSpawnedOnce ps → (m : Suspended) → IsMachineOf first m s results → HasStopped m.machine.value.phase → Contains m.machine.value.spawned t
     → spawner ps t ≡ Some s
 spawner_there ps first s results t are once m is stopped has =
@@ -84,15 +91,9 @@ spawns_as ps first s results t are once m h =
       at = record {
         within = omega arith;
         there = subst (λ (rs : List Chosen). HasSpawned ps s rs t) (sym (take-length results)) there;
-        first = λ n below has. h.not_before n below (fewer p.0 p.1 p.2 p.3 n has);
+        first = λ n below has. h.not_before n below (spawned_fewer ps s t m (take n results) p.0 p.1 p.2 p.3 has);
       };
     }
-  where
-    fewer : (p : Proc) → slice_get ps s ≡ Some p → block_of m.machine.value.body ≡ p.body → m.machine.value.variables ≡ length p.variables → (n : ℕ) → HasSpawned ps s (take n results) t
-        → Contains (spawned_in (after (block_of m.machine.value.body) m.machine.value.variables s (take n results))) t
-    fewer p is body variables n has =
-        subst (λ (z : Block × ℕ). Contains (spawned_in (after z.0 z.1 s (take n results))) t) (λ i. (sym body i, sym variables i))
-        (subst (λ (q : Proc). Contains (spawned_in (after q.body (length q.variables) s (take n results))) t) (same_Some has.process p (sym has.is_its ∙ is)) has.spawned)
 
 -- a machine that has come to its end has ended
 is_over : (m : Thread) (phase : Phase) → IsAtEnd phase → IsAfterAt m phase → IsOver (after (block_of m.body) m.variables m.thread m.results)

@@ -10,3 +10,4 @@ pub mod Rising
 pub mod Spawns
 pub mod Startings
 pub mod Turning
+mod Resting

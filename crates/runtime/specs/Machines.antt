@@ -1,5 +1,5 @@
 -- The machines that stand for the threads, and what a worker knows of one.
-use Rattle.std.specs.Prelude.{◌≡◌, ◌≢◌, ◌⊎◌, ◌<◌, ◌≤◌, ℕ, ⊤, List, [], ◌∷◌, length, take, drop, false, Some, slice_get, Contains}
+use Rattle.std.specs.Prelude.{◌≡◌, ◌≢◌, ◌⊎◌, ◌<◌, ◌≤◌, ℕ, ⊤, List, [], ◌∷◌, All, length, take, drop, false, map, Option, None, Some, slice_get, Contains}
 use Rattle.protocol_values.specs.declared.Binding.{Binding}
 use Rattle.protocol_values.specs.declared.NackName.{NackName}
 use Rattle.protocol_values.specs.declared.Offer.{Offer}
@@ -9,7 +9,7 @@ use Rattle.script_tree.specs.Spawning.{AreSpawnedOnce, IsPlaced, has_bit, spawns
 use Rattle.std.specs.List.{AllPairs}
 use Rattle.script_tree.specs.Trees.{block_of}
 use Rattle.thread.specs.After.{Chosen, after}
-use Rattle.thread.specs.Machines.{HasStopped, IsAfter, Open, Over, Phase, SameProcess, StartsAs, Stuck}
+use Rattle.thread.specs.Machines.{Thread, HasStopped, IsAfter, Open, Over, Phase, SameProcess, StartsAs, Stuck}
 use Rattle.thread.specs.Ranges.{BaseIsIn, ResultsAreIn}
 use Rattle.protocol.specs.Standing.{IsLeft, Stands, binding_of}
 use Rattle.protocol.specs.Worlds.{first_row, nack_of_row}
@@ -19,6 +19,7 @@ use Rattle.atomic_table.specs.Table.{rest}
 use Rattle.cell.specs.Calls.{GridOf, PassOf}
 use Rattle.cell_table.specs.declared.view.Seen.{Seen}
 use Rattle.cell_table.specs.Sight.{Has, SawEnded}
+use Rattle.runtime.specs.declared.resident.Rest.{Rest}
 use Rattle.runtime.specs.declared.resident.Suspended.{Suspended}
 use Rattle.runtime.specs.declared.turns.Taken.{Taken}
 
@@ -135,3 +136,29 @@ pub record OnlyBinds (p q : PassOf Suspended) : Type 0 where
 pub record AreBound (r : Row) (nacks : List ℕ) (count : ℕ) (s t : Seen) : Type 0 where
   pub bound : (scope k : ℕ) → scope < count → slice_get nacks scope ≡ Some k → Has t.bound (nack_of_row r k, binding_of r scope)
   pub only : (n : NackName) (b : Binding) → Has t.bound (n, b) → Has s.bound (n, b) ⊎ ((scope : ℕ) × (k : ℕ) × (slice_get nacks scope ≡ Some k) × (scope < count) × (n ≡ nack_of_row r k) × (b ≡ binding_of r scope))
+
+-- The machine stands after results of the thread that the pass has, and its thread does no more here.
+pub record IsAtRest (first : List Suspended) (told : List (ℕ × List Chosen)) (r : Rest) : Type 0 where
+  pub machine : IsMachineOf first r.suspended r.thread r.suspended.machine.value.results
+  pub stopped : HasStopped r.suspended.machine.value.phase
+  pub seen : (r.suspended.machine.value.results ≡ []) ⊎ Has told (r.thread, r.suspended.machine.value.results)
+
+abbrev pub AreAtRest : List Suspended → List (ℕ × List Chosen) → List Rest → Type 0
+AreAtRest first told rests = All (IsAtRest first told) rests
+
+-- the machine in a suspended one
+abbrev pub machine_in : Option Suspended → Option Thread
+machine_in None = None
+machine_in (Some s) = Some s.machine.value
+
+-- these machines are those in the suspended ones, place by place
+abbrev pub AreOut : List (Option Suspended) → List (Option Thread) → Type 0
+AreOut homes machines = machines ≡ map machine_in homes
+
+-- the machine at a thread's place lay at home, or it is at rest
+abbrev pub ComesFrom : List (Option Suspended) → List Rest → ℕ → Thread → Type 0
+ComesFrom homes rests t m =
+    ((s : Suspended) × (slice_get homes t ≡ Some (Some s)) × (s.machine.value ≡ m)) ⊎ ((r : Rest) × Contains rests r × (r.thread ≡ t) × (r.suspended.machine.value ≡ m))
+
+abbrev pub AreLeft : List (Option Suspended) → List Rest → List (Option Thread) → Type 0
+AreLeft homes rests machines = (length machines ≡ length homes) × ((t : ℕ) (m : Thread) → slice_get machines t ≡ Some (Some m) → ComesFrom homes rests t m)

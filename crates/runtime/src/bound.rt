@@ -5,9 +5,9 @@
 //! table is to be. What is counted is a bound: of a branch the side with more syncs, of a block also what
 //! stands behind an `end`.
 //!
-//! No promise hangs on it. Of a row that the table has not the workers open none, and what a thread does
-//! behind its last row is told by the replay that completes their commits. Were the bound too small, then
-//! that would add the commits that are missing, as it does where the stated rows are too few.
+//! No promise hangs on it. Of a row that the table has not the workers open none, and what a thread offers
+//! behind its last row its machine tells. Were the bound too small, then the commits that are missing would
+//! be added at the run's end, as they are where the stated rows are too few.
 
 ghost use Rattle.std.specs.Prelude.{◌≤◌};
 

@@ -1,7 +1,7 @@
 //! Behind a commit: the rows that wait for nacks that it enabled are woken, and what is committed is put into the ready
 //! queues.
 
-ghost use Rattle.cell.specs.Calls.{IsPassOf};
+ghost use Rattle.cell.specs.Calls.{IsPassOf, KeepsResults};
 ghost use Rattle.meet_queues.specs.Ends.{IsEndOf};
 ghost use Rattle.runtime.specs.Workers.{IsWorkerOf};
 
@@ -169,7 +169,8 @@ fn add_enabled(
     enabled: &mut Vec<NackName>,
 ) -> Result<(), Halt>
     requires { IsPassOf cells.now pass.old }
-    ensures { IsPassOf cells.now pass.new }
+    ensures here { IsPassOf cells.now pass.new }
+    ensures results { KeepsResults pass.old pass.new }
 {
     if nacks.is_empty() {
         return Ok(());
@@ -192,7 +193,8 @@ fn add_enabled(
 /// The offer by which the row was committed.
 fn chosen_offer(cells: &Cells<Suspended>, pass: &mut Pass<Suspended>, row: Row) -> Option<Offer>
     requires { IsPassOf cells.now pass.old }
-    ensures { IsPassOf cells.now pass.new }
+    ensures here { IsPassOf cells.now pass.new }
+    ensures results { KeepsResults pass.old pass.new }
 {
     if !cells.has(row) {
         return None;

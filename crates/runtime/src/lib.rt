@@ -8,6 +8,7 @@ mod crew;
 mod fault;
 mod following;
 mod gate;
+mod leaving;
 mod nacks;
 mod notes;
 mod ranges;
@@ -19,4 +20,4 @@ mod workers;
 
 pub use crate::fault::RunFault;
 pub use crate::gate::{Gate, OpenGate};
-pub use crate::running::{run, run_gated, work};
+pub use crate::running::{run, run_gated, work, work_with_machines};

@@ -17,3 +17,10 @@ impl Resident for Suspended {
 
     ghost stands = { doings };
 }
+
+/// A machine that has come to its end, or stands behind the last row of the table, and its thread.
+#[derive(Drop)]
+pub(crate) struct Rest {
+    pub(crate) thread: u8,
+    pub(crate) suspended: Suspended,
+}

@@ -1,10 +1,11 @@
-//! A run: its table and its workers are made, the workers work, and what they leave is completed.
+//! A run: its table and its workers are made, the workers work, and what they leave is led on to its end.
 
 ghost use Rattle.std.specs.Prelude.{◌≡◌, ◌≢◌, ◌<◌, ◌≤◌, ◌↔◌, [], Err, IfOk, length, map};
 ghost use Rattle.script_tree.specs.Processes.{proc_of};
 ghost use Rattle.protocol.specs.Ledgers.{Ledger, IsLawful};
 ghost use Rattle.script.specs.Scripts.{script_of};
 ghost use Rattle.journal_order.specs.Ledgers.{IsLedgerOf};
+ghost use Rattle.journal.specs.Concluding.{AreStanding};
 ghost use Rattle.journal.specs.Records.{Completes};
 ghost use Rattle.runtime.specs.Headline.{TellsMaximalRun};
 ghost use Rattle.runtime.specs.Limits.{AreRows, AreWorkers};
@@ -16,18 +17,19 @@ use crate::bound::rows_used;
 use crate::crew::{Crew, Shared};
 use crate::fault::{Halt, RunFault};
 use crate::gate::{Gate, TurnsOnly};
+use crate::leaving::machines_of;
 use crate::notes::Notes;
 use crate::resident::Suspended;
+use crate::worker::Left;
 use crate::workers::{all_work, told_one, workers_of};
 use cell::{Cells, StepGate};
-use journal::{Record, complete};
-use journal_replay::ReplayFault;
+use journal::{Record, conclude};
 use meet::Meet;
 use meet_queues::Ready;
 use protocol::{Ledger, World};
 use script::Script;
 use script_tree::{Proc, spawned};
-use std::alloc::Global;
+use std::alloc::{AllocError, Global};
 use std::sync::Wait;
 use std::thread::Threads;
 use thread::Machine;
@@ -82,8 +84,8 @@ fn later(processes: &[Proc]) -> u64
     later
 }
 
-/// The workers over a table of their own, which is closed at their end. It has no more rows than the
-/// processes can use. Each of its rows was opened as its process offers there.
+/// The workers over a table of their own, which is closed at their end, and the machines as they leave them. The table
+/// has no more rows than the processes can use. Each of its rows was opened as its process offers there.
 fn work_within<R: Threads + Wait + Sync, G: Gate + StepGate + Sync>(
     rt: &R,
     alloc: Global,
@@ -91,12 +93,13 @@ fn work_within<R: Threads + Wait + Sync, G: Gate + StepGate + Sync>(
     workers: u8,
     rows: u16,
     gate: &G,
-) -> Result<Ledger, Halt>
+) -> Result<(Ledger, Vec<Option<Machine>>), Halt>
     requires workers { AreWorkers workers }
     requires rows { AreRows rows }
     requires some { 1 ≤ length (script_of script.now).processes }
-    ensures lawful { IfOk result IsLawful }
-    ensures run { IfOk result (λ l. IsLedgerOf (script_of script.now).processes l × (l.rows ≤ rows)) }
+    ensures lawful { IfOk result (λ o. IsLawful o.0) }
+    ensures run { IfOk result (λ o. IsLedgerOf (script_of script.now).processes o.0 × (o.0.rows ≤ rows)) }
+    ensures machines { IfOk result (λ o. AreStanding (script_of script.now).processes o.0 o.1.items) }
 {
     let processes = script.processes();
     let first = first_machines(alloc, processes)?;
@@ -126,10 +129,50 @@ fn work_within<R: Threads + Wait + Sync, G: Gate + StepGate + Sync>(
         threads,
     };
     let workers = workers_of(&crew, passes, lanes, ends)?;
-    let passes = all_work(&crew, workers)?;
-    match told_one(&cells, passes) {
-        Some(pass) => Ok(cells.close(pass)),
-        None => Err(Halt::NoWorker),
+    let left = all_work(&crew, workers)?;
+    let Some(Left { pass, rests }) = told_one(&cells, left)? else {
+        return Err(Halt::NoWorker);
+    };
+    let (ledger, homes) = cells.close_all(pass);
+    let machines = machines_of(alloc, homes, rests)?;
+    Ok((ledger, machines))
+}
+
+/// A ledger with no commit.
+fn no_commits(alloc: Global) -> Result<Ledger, RunFault>
+    ensures lawful { IfOk result (λ l. IsLawful l × IsLedgerOf [] l × (l.rows ≡ 1)) }
+    ensures faults { (result ≢ Err Workers) × (result ≢ Err Rows) }
+{
+    match World::start(alloc, 1, 1, 1) {
+        Ok(world) => Ok(world.ledger()),
+        Err(_) => Err(RunFault::Memory),
+    }
+}
+
+/// The workers alone, as `work`, and the machines as they leave them: for each thread that began one that stands after
+/// all of its results, or all but the last. A machine that a worker lost is not there. Where the script has no process
+/// nothing is started.
+pub fn work_with_machines<R: Threads + Wait + Sync, G: Gate + StepGate + Sync>(
+    rt: &R,
+    alloc: Global,
+    script: &Script,
+    workers: u8,
+    rows: u16,
+    gate: &G,
+) -> Result<(Ledger, Vec<Option<Machine>>), RunFault>
+    ensures lawful { IfOk result (λ o. IsLawful o.0) }
+    ensures run { IfOk result (λ o. IsLedgerOf (script_of script.now).processes o.0 × (o.0.rows ≤ rows)) }
+    ensures machines { IfOk result (λ o. AreStanding (script_of script.now).processes o.0 o.1.items) }
+    ensures workers { (result ≡ Err Workers) ↔ (¬ AreWorkers workers) }
+    ensures rows { (result ≡ Err Rows) ↔ (AreWorkers workers × (¬ AreRows rows)) }
+{
+    check_limits(workers, rows)?;
+    if script.processes().is_empty() {
+        return Ok((no_commits(alloc)?, Vec::new(alloc)));
+    }
+    match work_within(rt, alloc, script, workers, rows, gate) {
+        Ok(left) => Ok(left),
+        Err(halt) => Err(told(halt)),
     }
 }
 
@@ -151,22 +194,8 @@ pub fn work<R: Threads + Wait + Sync, G: Gate + StepGate + Sync>(
     ensures workers { (result ≡ Err Workers) ↔ (¬ AreWorkers workers) }
     ensures rows { (result ≡ Err Rows) ↔ (AreWorkers workers × (¬ AreRows rows)) }
 {
-    check_limits(workers, rows)?;
-    match work_within(rt, alloc, script, workers, rows, gate) {
-        Ok(ledger) => Ok(ledger),
-        Err(halt) => Err(told(halt)),
-    }
-}
-
-/// A ledger with no commit.
-fn no_commits(alloc: Global) -> Result<Ledger, RunFault>
-    ensures lawful { IfOk result (λ l. IsLawful l × IsLedgerOf [] l × (l.rows ≡ 1)) }
-    ensures faults { (result ≢ Err Workers) × (result ≢ Err Rows) }
-{
-    match World::start(alloc, 1, 1, 1) {
-        Ok(world) => Ok(world.ledger()),
-        Err(_) => Err(RunFault::Memory),
-    }
+    let (ledger, _) = work_with_machines(rt, alloc, script, workers, rows, gate)?;
+    Ok(ledger)
 }
 
 /// `run` with a gate that is called before each step of an attempt, too, with the step's kind: an attempt is
@@ -185,18 +214,10 @@ pub fn run_gated<R: Threads + Wait + Sync, G: Gate + StepGate + Sync>(
     ensures workers { (result ≡ Err Workers) ↔ (¬ AreWorkers workers) }
     ensures rows { (result ≡ Err Rows) ↔ (AreWorkers workers × (¬ AreRows rows)) }
 {
-    check_limits(workers, rows)?;
-    let processes = script.processes();
-    let ledger = if processes.is_empty() {
-        no_commits(alloc)?
-    } else {
-        work(rt, alloc, script, workers, rows, gate)?
-    };
-    match complete(alloc, processes, rows, &ledger) {
+    let (ledger, machines) = work_with_machines(rt, alloc, script, workers, rows, gate)?;
+    match conclude(alloc, script.processes(), rows, &ledger, machines) {
         Ok(record) => Ok(record),
-        Err(ReplayFault::Memory) => Err(RunFault::Memory),
-        // each row of the ledger was opened as its process offers there
-        Err(ReplayFault::Unlawful(_)) => unreachable!(),
+        Err(AllocError) => Err(RunFault::Memory),
     }
 }
 

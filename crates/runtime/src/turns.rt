@@ -3,17 +3,17 @@
 //! ready, resumes its thread, and enters and searches for the next row. Where a turn starts other threads, their first
 //! turns follow before anything is searched for.
 
-ghost use Rattle.std.specs.Prelude.{◌≡◌, ◌≢◌, ◌≤◌, [], ℕ, Contains, IfOk, IfSome, None, OnOk, is_some, true, length};
+ghost use Rattle.std.specs.Prelude.{◌≡◌, ◌≢◌, ◌≤◌, [], ℕ, Contains, IfOk, IfSome, None, OnOk, length};
 ghost use Rattle.protocol_values.specs.declared.Binding.{Binding};
 ghost use Rattle.protocol_values.specs.declared.NackName.{NackName};
 ghost use Rattle.protocol.specs.Tables.{bound_row};
 ghost use Rattle.protocol_values.specs.Values.{next_row};
 ghost use Rattle.thread.specs.Machines.{HasStopped, IsOpen, Tells};
 ghost use Rattle.thread.specs.Ranges.{MessageIsIn};
-ghost use Rattle.cell.specs.Calls.{Holds, IsPassOf, IsRowOf, IsStandOf};
+ghost use Rattle.cell.specs.Calls.{Holds, IsPassOf, KeepsResults, IsRowOf, IsStandOf};
 ghost use Rattle.cell_table.specs.Sight.{Has, IsStand, SawEnded};
 ghost use Rattle.protocol.specs.Worlds.{first_row};
-ghost use Rattle.runtime.specs.Machines.{AreToBegin, IsNow, IsTable, IsToResume, IsUntouched, KeepsRows, LeavesOthers, SpawnedSince};
+ghost use Rattle.runtime.specs.Machines.{AreAtRest, AreToBegin, IsNow, IsTable, IsToResume, IsUntouched, KeepsRows, LeavesOthers, SpawnedSince};
 ghost use Rattle.runtime.specs.Workers.{IsWorkerOf};
 
 use crate::binding::bind_all;
@@ -22,7 +22,7 @@ use crate::fault::Halt;
 use crate::gate::Gate;
 use crate::nacks::Nacks;
 use crate::ranges::offers_fit;
-use crate::resident::Suspended;
+use crate::resident::{Rest, Suspended};
 use crate::worker::Worker;
 use cell::{Pass, StepGate};
 use meet::Found;
@@ -95,7 +95,8 @@ impl<R: Wait, G: Gate + StepGate> Crew<'_, R, G> {
                 return Ok(begun);
             };
             self.gate.before(worker.number, thread);
-            let entered = self.begin(&mut worker.pass, Row { thread, sync: 0 }, &mut threads);
+            let row = Row { thread, sync: 0 };
+            let entered = self.begin(&mut worker.pass, row, &mut worker.rests, &mut threads);
             self.gate.after(worker.number, thread);
             let entered = entered?;
             begun.push(Begun { thread, entered })?;
@@ -108,23 +109,27 @@ impl<R: Wait, G: Gate + StepGate> Crew<'_, R, G> {
         &self,
         pass: &mut Pass<Suspended>,
         row: Row,
+        rests: &mut Vec<Rest>,
         threads: &mut Vec<u8>,
     ) -> Result<Entered, Halt>
         requires here { IsPassOf self.now.cells.now pass.old × IsRowOf self.now.cells.now row × IsTable self.now.cells.now }
+        requires rests { AreAtRest self.now.cells.now.first pass.old.results rests.old.items }
         requires first { (row.sync ≡ 0) × Has pass.old.seen.held row }
         requires untouched { IsUntouched pass.old.seen row }
         requires threads { AreToBegin self.now.cells.now.threads pass.old.seen threads.old.items × ((t : ℕ) → Contains threads.old.items t → t ≢ row.thread) }
         ensures here { IsPassOf self.now.cells.now pass.new }
+        ensures rests { AreAtRest self.now.cells.now.first pass.new.results rests.new.items }
         ensures rows { KeepsRows pass.old.seen pass.new.seen }
         ensures threads { OnOk result (AreToBegin self.now.cells.now.threads pass.new.seen threads.new.items) }
     {
         let mut suspended = self.cells.fetch(pass, row);
         let turn = suspended.machine.begin()?;
-        self.enter(pass, row, suspended, turn, 0, threads)
+        self.enter(pass, row, suspended, turn, 0, rests, threads)
     }
 
     /// What a machine comes to behind a turn: it starts the threads that it spawned since it had spawned so many, which
-    /// join the list; then it opens the place's row with what it offers, or ends its thread.
+    /// join the list; then it opens the place's row with what it offers, or ends its thread. A machine whose thread does
+    /// no more is at rest.
     fn enter(
         &self,
         pass: &mut Pass<Suspended>,
@@ -132,9 +137,11 @@ impl<R: Wait, G: Gate + StepGate> Crew<'_, R, G> {
         suspended: Suspended,
         turn: Turn,
         had: usize,
+        rests: &mut Vec<Rest>,
         threads: &mut Vec<u8>,
     ) -> Result<Entered, Halt>
         requires here { IsPassOf self.now.cells.now pass.old × IsStandOf self.now.cells.now place × IsTable self.now.cells.now }
+        requires rests { AreAtRest self.now.cells.now.first pass.old.results rests.old.items }
         requires stands { IsStand self.now.cells.now.rows pass.old.seen place }
         requires free { (n : NackName) (b : Binding) → Has pass.old.seen.bound (n, b) → bound_row n b ≢ place }
         requires out { Holds pass.old place None }
@@ -143,18 +150,31 @@ impl<R: Wait, G: Gate + StepGate> Crew<'_, R, G> {
         requires since { SpawnedSince suspended place.thread had × (had ≤ length suspended.machine.value.spawned) }
         requires threads { AreToBegin self.now.cells.now.threads pass.old.seen threads.old.items × ((t : ℕ) → Contains threads.old.items t → t ≢ place.thread) }
         ensures here { IsPassOf self.now.cells.now pass.new }
+        ensures rests { AreAtRest self.now.cells.now.first pass.new.results rests.new.items }
         ensures rows { KeepsRows pass.old.seen pass.new.seen }
         ensures threads { OnOk result (AreToBegin self.now.cells.now.threads pass.new.seen threads.new.items) }
         ensures opened { IfOk result (λ e. IfSome e.opened (λ nacks. IsRowOf self.now.cells.now place × Has pass.new.seen.held place × Has pass.new.seen.opened place)) }
     {
         self.start_spawned(pass, place, &suspended, had, threads)?;
+        let thread = place.thread;
         match turn {
-            Turn::Offering => Ok(Entered {
-                opened: self.offer(pass, place, suspended),
-                ended: false,
-            }),
+            Turn::Offering => {
+                if self.cells.has(place) {
+                    let opened = Some(self.offer(pass, place, suspended));
+                    return Ok(Entered {
+                        opened,
+                        ended: false,
+                    });
+                }
+                rests.push(Rest { thread, suspended })?;
+                Ok(Entered {
+                    opened: None,
+                    ended: false,
+                })
+            }
             Turn::Ended | Turn::Faulted(_) => {
                 self.cells.finish(pass, place);
+                rests.push(Rest { thread, suspended })?;
                 Ok(Entered {
                     opened: None,
                     ended: true,
@@ -185,7 +205,7 @@ impl<R: Wait, G: Gate + StepGate> Crew<'_, R, G> {
         ensures now { IsNow self.now.cells.now.first pass.new place suspended.now }
         ensures rows { KeepsRows pass.old.seen pass.new.seen }
         ensures free { (n : NackName) (b : Binding) → Has pass.new.seen.bound (n, b) → bound_row n b ≢ place }
-        ensures out { pass.new.out ≡ pass.old.out }
+        ensures results { KeepsResults pass.old pass.new }
         ensures threads { OnOk result (AreToBegin self.now.cells.now.threads pass.new.seen threads.new.items × ((t : ℕ) → Contains threads.new.items t → t ≢ place.thread)) }
     {
         for other in &suspended.machine.spawned()[had..] {
@@ -197,9 +217,9 @@ impl<R: Wait, G: Gate + StepGate> Crew<'_, R, G> {
     }
 
     /// Opens the row with what the machine offers, which has come to an event, and the machine goes home. The answer is
-    /// its nacks then. Behind the thread's last row nothing is opened, and the machine is done with.
-    fn offer(&self, pass: &mut Pass<Suspended>, place: Row, suspended: Suspended) -> Option<Nacks>
-        requires here { IsPassOf self.now.cells.now pass.old × IsStandOf self.now.cells.now place × IsTable self.now.cells.now }
+    /// its nacks.
+    fn offer(&self, pass: &mut Pass<Suspended>, place: Row, suspended: Suspended) -> Nacks
+        requires here { IsPassOf self.now.cells.now pass.old × IsRowOf self.now.cells.now place × IsTable self.now.cells.now }
         requires stands { IsStand self.now.cells.now.rows pass.old.seen place }
         requires free { (n : NackName) (b : Binding) → Has pass.old.seen.bound (n, b) → bound_row n b ≢ place }
         requires out { Holds pass.old place None }
@@ -208,12 +228,9 @@ impl<R: Wait, G: Gate + StepGate> Crew<'_, R, G> {
         ensures here { IsPassOf self.now.cells.now pass.new }
         ensures others { LeavesOthers place.thread pass.old.seen pass.new.seen }
         ensures rows { KeepsRows pass.old.seen pass.new.seen }
-        ensures opened { IfSome result (λ nacks. IsRowOf self.now.cells.now place × Has pass.new.seen.held place × Has pass.new.seen.opened place) }
-        ensures offered { IsRowOf self.now.cells.now place → is_some result ≡ true }
+        ensures results { pass.new.results ≡ pass.old.results }
+        ensures opened { Has pass.new.seen.held place × Has pass.new.seen.opened place }
     {
-        if !self.cells.has(place) {
-            return None;
-        }
         let nacks = Nacks::of(suspended.machine.nacks());
         bind_all(self.cells, pass, place, &suspended);
         self.shared.notes.note(self.rt, place.thread, nacks);
@@ -221,7 +238,7 @@ impl<R: Wait, G: Gate + StepGate> Crew<'_, R, G> {
         self.cells.draft(pass, place, suspended.machine.offers());
         self.cells.park(pass, place, suspended);
         self.cells.open(pass, place);
-        Some(nacks)
+        nacks
     }
 
     /// Behind first turns: for each row that was opened a row is searched for that it can meet, and what comes to be
@@ -332,7 +349,13 @@ impl<R: Wait, G: Gate + StepGate> Crew<'_, R, G> {
         ensures { IsWorkerOf self.now worker.new }
     {
         let mut threads = Vec::new(self.shared.alloc);
-        let entered = self.resume(&mut worker.pass, taken, next, &mut threads)?;
+        let entered = self.resume(
+            &mut worker.pass,
+            taken,
+            next,
+            &mut worker.rests,
+            &mut threads,
+        )?;
         // Most turns start and end nobody.
         if threads.is_empty() && !entered.ended {
             return self.meet(worker, next, entered.opened);
@@ -353,9 +376,11 @@ impl<R: Wait, G: Gate + StepGate> Crew<'_, R, G> {
         pass: &mut Pass<Suspended>,
         taken: Taken,
         next: Row,
+        rests: &mut Vec<Rest>,
         threads: &mut Vec<u8>,
     ) -> Result<Entered, Halt>
         requires here { IsPassOf self.now.cells.now pass.old × IsRowOf self.now.cells.now taken.row × IsTable self.now.cells.now }
+        requires rests { AreAtRest self.now.cells.now.first pass.old.results rests.old.items }
         requires next { next ≡ next_row taken.row }
         requires stands { IsStand self.now.cells.now.rows pass.old.seen next }
         requires free { (n : NackName) (b : Binding) → Has pass.old.seen.bound (n, b) → bound_row n b ≢ next }
@@ -364,6 +389,7 @@ impl<R: Wait, G: Gate + StepGate> Crew<'_, R, G> {
         requires message { MessageIsIn taken.message }
         requires threads { threads.old.items ≡ [] }
         ensures here { IsPassOf self.now.cells.now pass.new }
+        ensures rests { AreAtRest self.now.cells.now.first pass.new.results rests.new.items }
         ensures rows { KeepsRows pass.old.seen pass.new.seen }
         ensures threads { OnOk result (AreToBegin self.now.cells.now.threads pass.new.seen threads.new.items) }
         ensures opened { IfOk result (λ e. IfSome e.opened (λ nacks. IsRowOf self.now.cells.now next × Has pass.new.seen.held next × Has pass.new.seen.opened next)) }
@@ -371,6 +397,6 @@ impl<R: Wait, G: Gate + StepGate> Crew<'_, R, G> {
         let mut suspended = self.cells.fetch(pass, next);
         let had = suspended.machine.spawned().len();
         let turn = suspended.machine.resume(taken.joined.own, taken.message)?;
-        self.enter(pass, next, suspended, turn, had, threads)
+        self.enter(pass, next, suspended, turn, had, rests, threads)
     }
 }

@@ -1,13 +1,12 @@
 //! One worker: the first turns of its threads, and then turn after turn of whichever thread is ready.
 
-ghost use Rattle.cell.specs.Calls.{IsPassOf};
 ghost use Rattle.meet_queues.specs.Ends.{IsEndOf};
-ghost use Rattle.runtime.specs.Workers.{IsNewWorkerOf, IsWorkerOf};
+ghost use Rattle.runtime.specs.Workers.{IsLeftOf, IsNewWorkerOf, IsWorkerOf};
 
 use crate::crew::Crew;
 use crate::fault::Halt;
 use crate::gate::Gate;
-use crate::resident::Suspended;
+use crate::resident::{Rest, Suspended};
 use crate::turns::Committed;
 use cell::{Pass, StepGate};
 use crossbeam_utils::Backoff;
@@ -20,20 +19,28 @@ use std::sync::Wait;
 /// those that work.
 const MOST_SNOOZES: u32 = 64;
 
-/// What a worker has for itself: its pass of the cells, its passes of the lanes, its end of the ready queues,
-/// and its number.
+/// What a worker has for itself: its pass of the cells, the machines at rest, its passes of the lanes, its end of the
+/// ready queues, and its number.
 #[derive(Drop)]
 pub(crate) struct Worker {
     pub(crate) pass: Pass<Suspended>,
+    pub(crate) rests: Vec<Rest>,
     pub(crate) lanes: MeetPass,
     pub(crate) end: ReadyEnd,
     pub(crate) number: u8,
 }
 
-/// What a worker gives back: its pass, and whether it came to the end.
+/// What a worker leaves: its pass, and the machines at rest.
+#[derive(Drop)]
+pub(crate) struct Left {
+    pub(crate) pass: Pass<Suspended>,
+    pub(crate) rests: Vec<Rest>,
+}
+
+/// What a worker gives back: what it leaves, and whether it came to the end.
 #[derive(Drop)]
 pub(crate) struct Worked {
-    pub(crate) pass: Pass<Suspended>,
+    pub(crate) left: Left,
     pub(crate) done: Result<(), Halt>,
 }
 
@@ -41,15 +48,16 @@ impl<R: Wait, G: Gate + StepGate> Crew<'_, R, G> {
     /// All turns of one worker. Where it halts, all workers stop.
     pub(crate) fn work_on(&self, worker: Worker) -> Worked
         requires { IsNewWorkerOf self.now.cells.now self.now.shared.now worker }
-        ensures { IsPassOf self.now.cells.now result.pass }
+        ensures { IsLeftOf self.now.cells.now result.left }
     {
         let mut worker = worker;
         let done = self.all_turns(&mut worker);
         if done.is_err() {
             self.shared.activity.stop();
         }
+        let Worker { pass, rests, .. } = worker;
         Worked {
-            pass: worker.pass,
+            left: Left { pass, rests },
             done,
         }
     }

@@ -1,16 +1,15 @@
 //! All workers of a run: they are made, started, and joined, and then tell one of their passes what they saw.
 
 ghost use Rattle.std.specs.Prelude.{◌≡◌, [], All, IfNone, IfOk, IfSome};
-ghost use Rattle.cell.specs.Calls.{IsPassOf};
 ghost use Rattle.meet.specs.Rooms.{IsMeetPassOf};
 ghost use Rattle.meet_queues.specs.Ends.{IsEndOf};
-ghost use Rattle.runtime.specs.Workers.{HasHeard, IsNewPassOf, IsNewWorkerOf};
+ghost use Rattle.runtime.specs.Workers.{HasHeard, IsLeftOf, IsNewPassOf, IsNewWorkerOf};
 
 use crate::crew::Crew;
 use crate::fault::{Halt, told_first};
 use crate::gate::Gate;
 use crate::resident::Suspended;
-use crate::worker::{Worked, Worker};
+use crate::worker::{Left, Worked, Worker};
 use cell::{Cells, Pass, StepGate};
 use core::thread::Stack;
 use meet::MeetPass;
@@ -25,14 +24,14 @@ use std::thread::{Promise, PromisedHandle, Scope, Threads};
 /// does takes stack only where a script is deep, and a script is no deeper than 48.
 const WORKER_STACK: usize = 512 * 1024;
 
-/// A worker gives back a pass of this table.
+/// A worker leaves a pass of this table, and machines at rest.
 #[derive(Drop)]
 struct GivesBack {
     cells: Snapshot<Cells<Suspended>>,
 }
 
 impl Promise<Worked> for GivesBack {
-    ghost kept_by = { λ side worked. IsPassOf side.cells.value worked.pass };
+    ghost kept_by = { λ side worked. IsLeftOf side.cells.value worked.left };
 }
 
 fn gives_back(cells: &Cells<Suspended>) -> GivesBack
@@ -68,8 +67,10 @@ pub(crate) fn workers_of<R, G>(
         let Some(end) = ends.pop() else {
             return Err(Halt::NoWorker);
         };
+        let rests = Vec::new(crew.shared.alloc);
         workers.push(Worker {
             pass,
+            rests,
             lanes,
             end,
             number,
@@ -83,9 +84,9 @@ pub(crate) fn workers_of<R, G>(
 pub(crate) fn all_work<R: Threads + Wait + Sync, G: Gate + StepGate + Sync>(
     crew: &Crew<'_, R, G>,
     workers: Vec<Worker>,
-) -> Result<Vec<Pass<Suspended>>, Halt>
+) -> Result<Vec<Left>, Halt>
     requires { All (λ w. IsNewWorkerOf crew.now.cells.now crew.now.shared.now w) workers.items }
-    ensures { IfOk result (λ back. All (λ p. IsPassOf crew.now.cells.now p) back.items) }
+    ensures { IfOk result (λ back. All (λ l. IsLeftOf crew.now.cells.now l) back.items) }
 {
     if workers.len() == 1 {
         return work_alone(crew, workers);
@@ -102,10 +103,10 @@ pub(crate) fn all_work<R: Threads + Wait + Sync, G: Gate + StepGate + Sync>(
     thread::scope(
         thread::scope_env(),
         rt,
-        |scope| -> Result<Vec<Pass<Suspended>>, Halt>
+        |scope| -> Result<Vec<Left>, Halt>
             requires workers { All (λ w. IsNewWorkerOf cells.now shared.now w) workers.items }
             requires handles { handles.items ≡ [] }
-            ensures { IfOk result (λ back. All (λ p. IsPassOf cells.entry.now p) back.items) }
+            ensures { IfOk result (λ back. All (λ l. IsLeftOf cells.entry.now l) back.items) }
         {
             let crew = Crew {
                 rt,
@@ -167,7 +168,7 @@ fn start<'s, E, R: Threads + Wait + Sync, G: Gate + StepGate + Sync>(
         gives_back(cells),
         move || -> Worked
             requires here { IsNewWorkerOf cells.now shared.now worker }
-            ensures { IsPassOf cells.entry.now result.pass }
+            ensures { IsLeftOf cells.entry.now result.left }
         {
             let crew = Crew {
                 rt,
@@ -186,40 +187,40 @@ fn start<'s, E, R: Threads + Wait + Sync, G: Gate + StepGate + Sync>(
 fn work_alone<R: Wait, G: Gate + StepGate>(
     crew: &Crew<'_, R, G>,
     workers: Vec<Worker>,
-) -> Result<Vec<Pass<Suspended>>, Halt>
+) -> Result<Vec<Left>, Halt>
     requires { All (λ w. IsNewWorkerOf crew.now.cells.now crew.now.shared.now w) workers.items }
-    ensures { IfOk result (λ back. All (λ p. IsPassOf crew.now.cells.now p) back.items) }
+    ensures { IfOk result (λ back. All (λ l. IsLeftOf crew.now.cells.now l) back.items) }
 {
     let mut workers = workers;
     let mut back = Vec::with_capacity(crew.shared.alloc, 1)?;
     let Some(worker) = workers.pop() else {
         return Ok(back);
     };
-    let Worked { pass, done } = crew.work_on(worker);
+    let Worked { left, done } = crew.work_on(worker);
     done?;
-    back.push(pass)?;
+    back.push(left)?;
     Ok(back)
 }
 
-/// All workers are waited for. They give their passes back, unless one of them halted.
+/// All workers are waited for. They give back what they leave, unless one of them halted.
 fn join_all<R: Threads>(
     rt: &R,
     alloc: Global,
     cells: &Cells<Suspended>,
     handles: Vec<Handle>,
     halted: Option<Halt>,
-) -> Result<Vec<Pass<Suspended>>, Halt>
+) -> Result<Vec<Left>, Halt>
     requires { All (λ h. h.promise.cells.value ≡ cells.now) handles.items }
-    ensures { IfOk result (λ back. All (λ p. IsPassOf cells.now p) back.items) }
+    ensures { IfOk result (λ back. All (λ l. IsLeftOf cells.now l) back.items) }
 {
     let mut halted = halted;
     let mut back = Vec::new(alloc);
     for handle in handles {
-        let Worked { pass, done } = handle.join(rt);
+        let Worked { left, done } = handle.join(rt);
         if let Err(halt) = done {
             halted = Some(told_first(halted, halt));
         }
-        if back.push(pass).is_err() {
+        if back.push(left).is_err() {
             halted = Some(Halt::Memory);
         }
     }
@@ -229,20 +230,21 @@ fn join_all<R: Threads>(
     }
 }
 
-/// One of the passes, which all others have told what they saw.
-pub(crate) fn told_one(
-    cells: &Cells<Suspended>,
-    passes: Vec<Pass<Suspended>>,
-) -> Option<Pass<Suspended>>
-    requires { All (λ p. IsPassOf cells.now p) passes.items }
-    ensures here { IfSome result (λ p. IsPassOf cells.now p) }
-    ensures told { IfSome result (λ p. All (λ q. HasHeard q p) passes.items) }
-    ensures none { IfNone result (passes.items ≡ []) }
+/// What all workers leave in one: one of the passes, which all others have told what they saw, and all machines at
+/// rest.
+pub(crate) fn told_one(cells: &Cells<Suspended>, left: Vec<Left>) -> Result<Option<Left>, Halt>
+    requires { All (λ l. IsLeftOf cells.now l) left.items }
+    ensures here { IfOk result (λ one. IfSome one (λ l. IsLeftOf cells.now l)) }
+    ensures told { IfOk result (λ one. IfSome one (λ l. All (λ m. HasHeard m.pass l.pass) left.items)) }
+    ensures none { IfOk result (λ one. IfNone one (left.items ≡ [])) }
 {
-    let mut passes = passes;
-    let mut told = passes.pop()?;
-    for mut pass in passes {
-        cells.tell(&mut pass, &mut told);
+    let mut left = left;
+    let Some(mut told) = left.pop() else {
+        return Ok(None);
+    };
+    for mut other in left {
+        cells.tell(&mut other.pass, &mut told.pass);
+        told.rests.append(&mut other.rests)?;
     }
-    Some(told)
+    Ok(Some(told))
 }

@@ -147,6 +147,10 @@ pub(super) const EXAMPLES: [Example; 15] = [
 pub(super) const TWO_PAIRS: &str =
     "channel c; channel d; process a { sync send c (1); } process b { sync recv c; } process f { sync send d (2); } process g { sync recv d; }";
 
+/// Two processes that wait for what nobody sends.
+pub(super) const TWO_WAIT: &str =
+    "channel c; process a { sync recv c; } process b { sync recv c; }";
+
 /// Two processes with the same choice, of which either may be the sender.
 pub(super) const EITHER_WAY: &str =
     "channel c; process a { sync choose [send c (1), recv c]; } process b { sync choose [send c (1), recv c]; }";

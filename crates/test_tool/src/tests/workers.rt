@@ -1,10 +1,10 @@
 //! What the workers do by themselves.
 
 use super::check_same;
-use super::scripts::{EXAMPLES, Example, TWO_PAIRS};
+use super::scripts::{EXAMPLES, Example, TWO_PAIRS, TWO_WAIT};
 use journal_text::read_journal;
 use protocol_values::Commit;
-use runtime::{OpenGate, RunFault, run, work};
+use runtime::{OpenGate, RunFault, run, work, work_with_machines};
 use script::{Script, parse};
 use std::alloc::{AllocError, Global};
 use std::process::Abort;
@@ -86,6 +86,49 @@ fn starts_and_ends_in_a_chain(rt: HostRuntime) -> Result<(), Fail> {
         let record = run(&rt, rt.alloc(), &script, 16, 1, &OpenGate)?;
         check_same(&rt, record.journal.len(), 62, "the commits");
         check_same(&rt, record.tail, 0, "the tail");
+    }
+    Ok(())
+}
+
+/// 32 processes that send so often, and 32 that receive, each pair on a channel of its own.
+fn pairs(alloc: Global, rounds: u64) -> Result<String, AllocError> {
+    let mut text = String::new(alloc);
+    for pair in 0..32u64 {
+        write!(text, "channel c{pair};\n")?;
+    }
+    for pair in 0..32u64 {
+        write!(
+            text,
+            "process s{pair} {{ loop {rounds} {{ sync send c{pair} (1); }} }}\n"
+        )?;
+        write!(
+            text,
+            "process r{pair} {{ loop {rounds} {{ sync recv c{pair}; }} }}\n"
+        )?;
+    }
+    Ok(text)
+}
+
+// Whether the processes have ended (in as many rows as they make syncs), stand behind their last rows, or wait.
+#[test]
+fn leaves_all_machines(rt: HostRuntime) -> Result<(), Fail> {
+    let text = pairs(rt.alloc(), 100)?;
+    for text in &[text.as_str(), TWO_WAIT] {
+        let script = parse(rt.alloc(), text.as_bytes())?;
+        for workers in &[1, 4] {
+            for rows in &[100, 50] {
+                let (_, machines) = work_with_machines(
+                    &rt,
+                    rt.alloc(),
+                    &script,
+                    *workers,
+                    *rows,
+                    &OpenGate,
+                )?;
+                check_same(&rt, machines.len(), script.processes().len(), "the places");
+                assert!(rt; machines.iter().all(|machine| machine.is_some()));
+            }
+        }
     }
     Ok(())
 }

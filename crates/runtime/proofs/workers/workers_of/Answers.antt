@@ -19,13 +19,13 @@ loop-pass-preserved g c =
     let all = all_is P _ _ c.in-Some.ensures.steps.0 before.2 in
     let room = All-pop (IsMeetPassOf crew.shared.now.meet) c.loop-pass.lanes.items c.pop.new.self.items (Some c.in-Some-pop.lanes) c.in-Some-pop.ensures.items before.3 in
     let popped = All-pop (IsEndOf crew.shared.now.ready) c.loop-pass.ends.items c.pop-in-loop-pass.new.self.items (Some c.in-Some-pop-2.end) c.in-Some-pop-2.ensures.items before.4 in
-    let worker : Worker = record { pass = c.in-Some.pass; lanes = c.in-Some-pop.lanes; end = c.in-Some-pop-2.end; number = c.loop-pass.number } in (
+    let worker : Worker = record { pass = c.in-Some.pass; rests = c.new-rests.result; lanes = c.in-Some-pop.lanes; end = c.in-Some-pop-2.end; number = c.loop-pass.number } in (
       tt,
       tt,
       all_rest P c.in-Some.pass left all,
       room.0,
       popped.0,
-      all_pushed (λ (w : Worker). IsNewWorkerOf crew.cells.now crew.shared.now w) true c.loop-pass.workers.items c.push.new.self.items worker c.in_ok-push.ensures.items before.5 (all_head P c.in-Some.pass left all, room.1, popped.1),
+      all_pushed (λ (w : Worker). IsNewWorkerOf crew.cells.now crew.shared.now w) true c.loop-pass.workers.items c.push.new.self.items worker c.in_ok-push.ensures.items before.5 (all_head P c.in-Some.pass left all, room.1, popped.1, c.new-rests.ensures.items),
     )
 
 pub loop-pass-init : goal.loop-pass-init

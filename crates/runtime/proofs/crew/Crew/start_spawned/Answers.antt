@@ -51,7 +51,7 @@ loop-other-preserved g c =
       now = now_started c.loop-other.pass c.start.new.pass c.args.place _ c.start.result cells.first c.args.suspended.now inv.now started c.start.ensures.results.0;
       rows = (λ r h. rows.0 r (inv.rows.0 r h), λ r h. rows.1 r (inv.rows.1 r h));
       free = free_started c.loop-other.pass c.start.new.pass c.args.place _ c.start.result started inv.free;
-      out = c.start.ensures.results.1 ∙ inv.out;
+      results = (c.start.ensures.results.0 ∙ inv.results.0, c.start.ensures.results.1 ∙ inv.results.1);
       threads = listed.0;
       others = listed.1;
     }

@@ -1,8 +1,8 @@
-use Rattle.std.proofs.Common.{◌≡◌, ◌≢◌, ℕ, Contains}
+use Rattle.std.proofs.Common.{◌≢◌, ℕ, Contains}
 use Rattle.protocol_values.specs.declared.Binding.{Binding}
 use Rattle.protocol_values.specs.declared.NackName.{NackName}
 use Rattle.protocol.specs.Tables.{bound_row}
-use Rattle.cell.specs.Calls.{IsPassOf}
+use Rattle.cell.specs.Calls.{IsPassOf, KeepsResults}
 use Rattle.cell_table.specs.Sight.{Has, IsStand}
 use Rattle.runtime.specs.Machines.{AreToBegin, IsNow, KeepsRows}
 use Rattle.runtime.proofs.crew.Crew.start_spawned.Given as goal
@@ -15,7 +15,7 @@ invariant-loop-other g l = record {
   now : IsNow l.self.cells.now.first l.pass l.place l.suspended;
   rows : KeepsRows l.fn.pass.seen l.pass.seen;
   free : (n : NackName) (b : Binding) → Has l.pass.seen.bound (n, b) → bound_row n b ≢ l.place;
-  out : l.pass.out ≡ l.fn.pass.out;
+  results : KeepsResults l.fn.pass l.pass;
   threads : AreToBegin l.self.cells.now.threads l.pass.seen l.threads.items;
   others : (t : ℕ) → Contains l.threads.items t → t ≢ l.place.thread;
 }
