@@ -16,14 +16,14 @@ use Rattle.pcml_tool.proofs.meeting.fn.both_take_part.scope.Goals as goal
 send_sending : (g : Over) (κs : Lfts 6) → IsSend (lts.arg-0-2 g.row.R g.R.laws g.R.Threads-dict g.R.Wait-dict κs)
 send_sending g κs = search (sendable, crosses, bare_cells_sync, bare_pass_send) depth 40 fits 5000
 
-send_receiving : (g : Over) (κs : Lfts 6) → IsSend (lts.arg-4-2 g.row.R g.R.laws g.R.Threads-dict g.R.Wait-dict κs)
+send_receiving : (g : Over) (κs : Lfts 6) → IsSend (lts.arg-5-2 g.row.R g.R.laws g.R.Threads-dict g.R.Wait-dict κs)
 send_receiving g κs = search (sendable, crosses, bare_cells_sync, bare_pass_send) depth 40 fits 5000
 
 pub spawn_with-sending-requires-send-F : goal.spawn_with-sending-requires-send-F
 spawn_with-sending-requires-send-F g c κs = param_send 2 (lts.arg-0-2 g.row.R g.R.laws g.R.Threads-dict g.R.Wait-dict κs) (send_sending g κs)
 
 pub spawn_with-receiving-requires-send-F : goal.spawn_with-receiving-requires-send-F
-spawn_with-receiving-requires-send-F g c κs = param_send 2 (lts.arg-4-2 g.row.R g.R.laws g.R.Threads-dict g.R.Wait-dict κs) (send_receiving g κs)
+spawn_with-receiving-requires-send-F g c κs = param_send 2 (lts.arg-5-2 g.row.R g.R.laws g.R.Threads-dict g.R.Wait-dict κs) (send_receiving g κs)
 
 -- what is promised of a pass, and what is known of the promise
 kept : (promise side : TookPart) (cells : Grid) (row : Row) (offer : Offer) (pass : PassView) → promise ≡ side → (side.cells.value ≡ cells) × (side.row ≡ row) × (side.offer ≡ offer)
