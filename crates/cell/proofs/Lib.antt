@@ -2,6 +2,8 @@ pub mod Alone
 pub mod Crossing
 pub mod Flagging
 pub mod Handing
+pub mod Hearing
+pub mod Lists
 pub mod Learning
 pub mod Meeting
 pub mod Playing

@@ -1,3 +1,4 @@
 pub mod Attempts
 pub mod Calls
 pub mod Flags
+pub mod Hearing

@@ -333,12 +333,12 @@ impl<M: Resident + Drop> Cells<M> {
         ensures own { (r : Row) (j : Joined) (offers : List Offer) → IsDraft pass.seen r offers → joined_in result r ≡ Some j → (j.own < length offers) × (offer_in result r j.own ≡ slice_get offers j.own) }
         ensures acts { IsHousing self → ActsAs (StartsFirst self.threads self.later) (acts_in M.stands self.first) result }
     {
-        self.close_all(pass).0
+        self.close_with(pass).0
     }
 
     /// The same, and what stands for the threads of which a row is opened that nobody has taken: it offers what that row
     /// offers. One place for each thread, in a table of machines. What lies in other slots goes with the table.
-    pub fn close_all(self, pass: Pass<M>) -> (Ledger, Vec<Option<M>>)
+    pub(crate) fn close_with(self, pass: Pass<M>) -> (Ledger, Vec<Option<M>>)
         requires here { IsPassOf self pass }
         ensures size { (result.0.threads ≡ self.threads) × (result.0.rows ≡ self.rows) }
         ensures lawful { IsLawful result.0 }

@@ -5,6 +5,7 @@
 
 mod attempt;
 mod cells;
+mod closing;
 mod drafting;
 mod granting;
 mod lives;

@@ -1,22 +1,41 @@
-use Rattle.std.proofs.Common.{◌<◌, List, ap, length, subst, sym}
-use Rattle.cell.specs.Calls.{GridOf, PassOf}
-use Rattle.cell_table.specs.Closings.{HandedOut}
-use Rattle.cell_table.specs.Sight.{Has, IsDraft, SeesNoOffer, SeesOffer}
+use Rattle.std.proofs.Common.{Contains, subst}
+use Rattle.cell.specs.Calls.{PassOf}
+use Rattle.cell.specs.Hearing.{HasHeard}
+use Rattle.cell.proofs.Lists.{all_at}
 use Rattle.cell.proofs.cells.Cells.close_all.Goals as goal
 
-pub returns-clause-own : goal.returns-clause-own
-returns-clause-own g c r j offers draft e = c.close.ensures.own r j offers (subst (λ (p : PassOf g.row.M.Denot). IsDraft p.seen r offers) (sym c.pass.view_is) draft) e
+-- what a pass of the list has seen, the one that was told has seen
+pub returns-clause-started : goal.returns-clause-started
+returns-clause-started g c p t stamp has h =
+    let heard = all_at (λ (q : PassOf g.row.M.Denot). HasHeard q c.told_one-told.result) c.args.passes.items p c.told_one-told.ensures.told has in
+    c.close_with.ensures.started t stamp (heard.started t stamp h)
+
+pub returns-clause-ended : goal.returns-clause-ended
+returns-clause-ended g c p t n has h =
+    let heard = all_at (λ (q : PassOf g.row.M.Denot). HasHeard q c.told_one-told.result) c.args.passes.items p c.told_one-told.ensures.told has in
+    c.close_with.ensures.ended t n (heard.ended t n h)
+
+pub returns-clause-seen : goal.returns-clause-seen
+returns-clause-seen g c p r j has h =
+    let heard = all_at (λ (q : PassOf g.row.M.Denot). HasHeard q c.told_one-told.result) c.args.passes.items p c.told_one-told.ensures.told has in
+    c.close_with.ensures.seen r j (heard.joined r j h)
 
 pub returns-clause-offers : goal.returns-clause-offers
-returns-clause-offers g c r n o sees = c.close.ensures.offers r n o (subst (λ (p : PassOf g.row.M.Denot). SeesOffer p.seen r n o) (sym c.pass.view_is) sees)
+returns-clause-offers g c p r n o has h =
+    let heard = all_at (λ (q : PassOf g.row.M.Denot). HasHeard q c.told_one-told.result) c.args.passes.items p c.told_one-told.ensures.told has in
+    c.close_with.ensures.offers r n o (heard.offers r n o h)
 
 pub returns-clause-lacks : goal.returns-clause-lacks
-returns-clause-lacks g c r n sees = c.close.ensures.lacks r n (subst (λ (p : PassOf g.row.M.Denot). SeesNoOffer p.seen r n) (sym c.pass.view_is) sees)
+returns-clause-lacks g c p r n has h =
+    let heard = all_at (λ (q : PassOf g.row.M.Denot). HasHeard q c.told_one-told.result) c.args.passes.items p c.told_one-told.ensures.told has in
+    c.close_with.ensures.lacks r n (heard.lacks r n h)
+
+pub returns-clause-bound : goal.returns-clause-bound
+returns-clause-bound g c p n b has h =
+    let heard = all_at (λ (q : PassOf g.row.M.Denot). HasHeard q c.told_one-told.result) c.args.passes.items p c.told_one-told.ensures.told has in
+    c.close_with.ensures.bound n b (heard.bound n b h)
 
 pub returns-clause-results : goal.returns-clause-results
-returns-clause-results g c t rs h = c.close.ensures.results t rs (subst (λ (p : PassOf g.row.M.Denot). Has p.results (t, rs)) (sym c.pass.view_is) h)
-
-pub returns-clause-machines : goal.returns-clause-machines
-returns-clause-machines g c housed t value h =
-    let is = ap (λ (grid : GridOf g.row.M.Denot). grid.first) c.self.view_is in
-    subst (λ (first : List g.row.M.Denot). HandedOut g.M.Resident.stands first c.close.result.0 t value) is (c.close.ensures.machines (subst (λ (first : List g.row.M.Denot). 0 < length first) (sym is) housed) t value h)
+returns-clause-results g c p t rs has h =
+    let heard = all_at (λ (q : PassOf g.row.M.Denot). HasHeard q c.told_one-told.result) c.args.passes.items p c.told_one-told.ensures.told has in
+    c.close_with.ensures.results t rs (heard.results t rs h)

@@ -1,0 +1,19 @@
+-- What one pass has seen, another has seen too, once it was told.
+use Rattle.std.specs.Prelude.{ℕ, List}
+use Rattle.protocol_values.specs.declared.Binding.{Binding}
+use Rattle.protocol_values.specs.declared.Joined.{Joined}
+use Rattle.protocol_values.specs.declared.NackName.{NackName}
+use Rattle.protocol_values.specs.declared.Offer.{Offer}
+use Rattle.protocol_values.specs.declared.Row.{Row}
+use Rattle.protocol.specs.Standing.{Result}
+use Rattle.cell_table.specs.Sight.{Has, SeesNoOffer, SeesOffer}
+use Rattle.cell.specs.Calls.{PassOf}
+
+pub record HasHeard {M : Type 0} (told p : PassOf M) : Type 0 where
+  pub offers : (r : Row) (n : ℕ) (o : Offer) → SeesOffer told.seen r n o → SeesOffer p.seen r n o
+  pub lacks : (r : Row) (n : ℕ) → SeesNoOffer told.seen r n → SeesNoOffer p.seen r n
+  pub joined : (r : Row) (j : Joined) → Has told.seen.joined (r, j) → Has p.seen.joined (r, j)
+  pub bound : (n : NackName) (b : Binding) → Has told.seen.bound (n, b) → Has p.seen.bound (n, b)
+  pub started : (t stamp : ℕ) → Has told.seen.started (t, stamp) → Has p.seen.started (t, stamp)
+  pub ended : (t g : ℕ) → Has told.seen.ended (t, g) → Has p.seen.ended (t, g)
+  pub results : (t : ℕ) (results : List Result) → Has told.results (t, results) → Has p.results (t, results)

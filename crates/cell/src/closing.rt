@@ -1,0 +1,65 @@
+//! The end of a table by all of its passes.
+
+ghost use Rattle.std.specs.Prelude.{◌≡◌, ◌<◌, ◌≤◌, ℕ, List, None, Some, All, Contains, false, length};
+ghost use Rattle.protocol_values.specs.declared.Binding.{Binding};
+ghost use Rattle.protocol_values.specs.declared.Course.TheVariants.{Unstarted};
+ghost use Rattle.protocol_values.specs.declared.Joined.{Joined};
+ghost use Rattle.protocol_values.specs.declared.NackName.{NackName};
+ghost use Rattle.protocol_values.specs.declared.Offer.{Offer};
+ghost use Rattle.protocol_values.specs.declared.Row.{Row};
+ghost use Rattle.protocol.specs.Acting.{ActsAs, EndsAt, HasStart, acts_in};
+ghost use Rattle.protocol.specs.Ledgers.{IsLawful, binding_in, course_in, joined_in, offer_in};
+ghost use Rattle.protocol.specs.Standing.{AreResults, Result};
+ghost use Rattle.protocol.specs.Worlds.{waits};
+ghost use Rattle.cell_table.specs.Closings.{HandsOut};
+ghost use Rattle.cell_table.specs.Rule.{StartsFirst};
+ghost use Rattle.cell_table.specs.Sight.{Has, SeesNoOffer, SeesOffer};
+ghost use Rattle.cell.specs.Calls.{IsHousing, IsPassOf, PassOf};
+ghost use Rattle.cell.specs.Hearing.{HasHeard};
+
+use crate::cells::{Cells, Pass};
+use protocol::{Ledger, Resident};
+
+impl<M: Resident + Drop> Cells<M> {
+    /// Ends the table: its ledger has all that any of these passes has seen or was told. What stands for the threads of
+    /// which a row is opened that nobody has taken is handed out: it offers what that row offers. One place for each
+    /// thread, in a table of machines. What lies in other slots goes with the table.
+    pub fn close_all(self, passes: Vec<Pass<M>>) -> (Ledger, Vec<Option<M>>)
+        requires here { All (λ p. IsPassOf self p) passes.items }
+        requires some { 1 ≤ length passes.items }
+        ensures size { (result.0.threads ≡ self.threads) × (result.0.rows ≡ self.rows) }
+        ensures lawful { IsLawful result.0 }
+        ensures at_once { (t : ℕ) → t < self.threads → waits self.later t ≡ false → HasStart (course_in result.0 t) 0 }
+        ensures outside { (t : ℕ) → self.threads ≤ t → course_in result.0 t ≡ Unstarted }
+        ensures started { (p : PassOf M) (t stamp : ℕ) → Contains passes.items p → Has p.seen.started (t, stamp) → HasStart (course_in result.0 t) stamp }
+        ensures ended { (p : PassOf M) (t g : ℕ) → Contains passes.items p → Has p.seen.ended (t, g) → EndsAt (course_in result.0 t) g }
+        ensures seen { (p : PassOf M) (r : Row) (j : Joined) → Contains passes.items p → Has p.seen.joined (r, j) → joined_in result.0 r ≡ Some j }
+        ensures offers { (p : PassOf M) (r : Row) (n : ℕ) (o : Offer) → Contains passes.items p → SeesOffer p.seen r n o → offer_in result.0 r n ≡ Some o }
+        ensures lacks { (p : PassOf M) (r : Row) (n : ℕ) → Contains passes.items p → SeesNoOffer p.seen r n → offer_in result.0 r n ≡ None }
+        ensures bound { (p : PassOf M) (n : NackName) (b : Binding) → Contains passes.items p → Has p.seen.bound (n, b) → binding_in result.0 n ≡ Some b }
+        ensures results { (p : PassOf M) (t : ℕ) (results : List Result) → Contains passes.items p → Has p.results (t, results) → AreResults result.0 t results }
+        ensures count { length result.1.items ≡ length self.first }
+        ensures machines { IsHousing self → HandsOut M.stands self.first result.0 result.1.items }
+        ensures acts { IsHousing self → ActsAs (StartsFirst self.threads self.later) (acts_in M.stands self.first) result.0 }
+    {
+        let told = self.told_one(passes);
+        self.close_with(told)
+    }
+
+    /// One of the passes, which all others have told what they saw.
+    fn told_one(&self, passes: Vec<Pass<M>>) -> Pass<M>
+        requires here { All (λ p. IsPassOf self.now p) passes.items }
+        requires some { 1 ≤ length passes.items }
+        ensures here { IsPassOf self.now result }
+        ensures told { All (λ p. HasHeard p result) passes.items }
+    {
+        let mut passes = passes;
+        let Some(mut told) = passes.pop() else {
+            unreachable!()
+        };
+        for mut pass in passes {
+            self.tell(&mut pass, &mut told);
+        }
+        told
+    }
+}
