@@ -1,9 +1,7 @@
 pub mod Beginnings
 pub mod Completed
 pub mod Crossing
-pub mod Hearing
 pub mod Ledgers
-pub mod Lists
 pub mod Machines
 pub mod Ranging
 pub mod Rising

@@ -1,9 +1,10 @@
 -- Machines at rest, and what a run leaves of all machines.
-use Rattle.std.proofs.Common.{◌≡◌, ◌≤◌, ◌⊎◌, ℕ, zero, suc, ◌<◌, List, [], ◌∷◌, ◌++◌, Contains, length, map, set, take, Option, Some, None, slice_get, refl, sym, ap, ◌∙◌, subst, inl, inr, arith, ⊎_elim}
+use Rattle.std.proofs.Common.{All, ◌≡◌, ◌≤◌, ◌⊎◌, ℕ, zero, suc, ◌<◌, List, [], ◌∷◌, ◌++◌, Contains, length, map, set, take, Option, Some, None, slice_get, refl, sym, ap, ◌∙◌, subst, inl, inr, arith, ⊎_elim}
 use Rattle.std.proofs.lemmas.Bool.{cases_eq}
-use Rattle.std.proofs.lemmas.List.{length-map, length-set}
-use Rattle.std.proofs.lemmas.List.Elements.{All-append, Contains-append_left, Contains-append_right}
-use Rattle.std.proofs.lemmas.Option.{none-some, same_Some}
+use Rattle.std.proofs.lemmas.List.{length-map, length-set, map-append}
+use Rattle.std.proofs.lemmas.List.Elements.{All-append, Contains-append_cases, Contains-append_left, Contains-append_right}
+use Rattle.std.proofs.lemmas.Option.{get_or_from_slice_get, none-some, same_Some, slice_get-map}
+use Rattle.std.specs.Option.{option_map}
 use Rattle.script_tree.specs.Processes.{Proc}
 use Rattle.thread.specs.After.{Chosen}
 use Rattle.thread.specs.Machines.{Broken, HasStopped, Open, Over, Phase, Ready, Stuck, Tells, Thread}
@@ -14,13 +15,15 @@ use Rattle.protocol.specs.Ledgers.{Ledger}
 use Rattle.protocol.specs.Standing.{AreResults}
 use Rattle.cell_table.specs.Closings.{HandedOut, HandsOut}
 use Rattle.cell_table.specs.Sight.{Has}
-use Rattle.cell.specs.Calls.{PassOf}
+use Rattle.cell.specs.Calls.{GridOf, IsPassOf, PassOf}
 use Rattle.journal.specs.Concluding.{AreStanding, StandsIn}
 use Rattle.runtime.specs.declared.resident.Rest.{Rest}
 use Rattle.runtime.specs.declared.resident.Suspended.{Suspended}
+use Rattle.runtime.specs.declared.worker.Left.{Left}
+use Rattle.runtime.specs.Workers.{AreParted, IsLeftOf}
 use Rattle.runtime.specs.Machines.{AreAtRest, AreFirst, AreLeft, AreOut, ComesFrom, IsAtRest, IsMachineOf, IsNow, doings, machine_in, spawned_by}
 use Rattle.runtime.proofs.Ledgers.{first_process, spawned_fewer}
-use Rattle.runtime.proofs.Lists.{all_one}
+use Rattle.cell.proofs.Lists.{all_at, all_is, all_one}
 
 -- a turn tells of a machine that has stopped
 pub tells_stopped : (t : Turn) (p : Phase) → Tells t p → HasStopped p
@@ -65,6 +68,16 @@ rests_same first old new rests same all = subst (λ (l : List (ℕ × List Chose
 pub rests_more : (first : List Suspended) (told : List (ℕ × List Chosen)) (rests : List Rest) (r : Rest) → AreAtRest first told rests → IsAtRest first told r → AreAtRest first told (rests ++ r ∷ [])
 rests_more first told rests r all one = All-append (IsAtRest first told) rests (r ∷ []) all (all_one (IsAtRest first told) r one)
 
+contains_map : {A B : Type 0} (f : A → B) (xs : List A) (x : A) → Contains xs x → Contains (map f xs) (f x)
+contains_map f [] x h = absurd (omega (arith, h.1))
+contains_map f (y ∷ xs) x (zero, lt, e) = (0, omega arith, ap f e)
+contains_map f (y ∷ xs) x (suc i, lt, e) = let h = contains_map f xs x (i, omega (arith, lt), e) in (suc h.0, omega (arith, h.1), h.2)
+
+some_left : (left : List Left) (k : ℕ) → k < length left → (l : Left) × (slice_get left k ≡ Some l)
+some_left [] k lt = absurd (omega (arith, lt))
+some_left (l ∷ left) zero lt = (l, refl)
+some_left (l ∷ left) (suc k) lt = some_left left k (omega (arith, lt))
+
 -- A RUN'S END
 
 no_results : (l : Ledger) (t : ℕ) → AreResults l t []
@@ -97,16 +110,54 @@ stands_rest ps first l told r are results h =
     (λ has. results r.thread r.suspended.machine.value.results has)
     h.seen)
 
-contained : (first : List Suspended) (told : List (ℕ × List Chosen)) (rests : List Rest) (r : Rest) → AreAtRest first told rests → Contains rests r → IsAtRest first told r
-contained first told rests r all has = subst (IsAtRest first told) has.2 (all has.0 r has.1)
+-- each machine at rest is so by the results of one of the passes
+abbrev pub RestWith : List Suspended → List (PassOf Suspended) → List Rest → Type 0
+RestWith first passes rests = (r : Rest) → Contains rests r → (p : PassOf Suspended) × Contains passes p × IsAtRest first p.results r
 
-pub left_standing : (ps : List Proc) (first : List Suspended) (l : Ledger) (told : List (ℕ × List Chosen)) (homes : List (Option Suspended)) (rests : List Rest) (machines : List (Option Thread)) → AreFirst ps first → length homes ≡ length first →
-    HandsOut doings first l homes → ((t : ℕ) (results : List Chosen) → Has told (t, results) → AreResults l t results) → AreAtRest first told rests → AreLeft homes rests machines → AreStanding ps l machines
-left_standing ps first l told homes rests machines are count hands results all left = (
+pub rest_with : (cells : GridOf Suspended) (left : List Left) (passes : List (PassOf Suspended)) (rests : List Rest) → All (λ l. IsLeftOf cells l) left → AreParted left passes rests → RestWith cells.first passes rests
+rest_with cells left passes rests all parted r has =
+    let w = parted.1 r has in
+    let here = all_at (λ (l : Left). IsLeftOf cells l) left w.0 all w.1 in (
+      w.0.pass,
+      subst (λ (ps : List (PassOf Suspended)). Contains ps w.0.pass) (sym parted.0) (contains_map (λ (l : Left). l.pass) left w.0 w.1),
+      all_at (IsAtRest cells.first w.0.pass.results) w.0.rests.items r here.1 w.2,
+    )
+
+pub passes_of : (cells : GridOf Suspended) (left : List Left) (passes : List (PassOf Suspended)) (rests : List Rest) → All (λ l. IsLeftOf cells l) left → AreParted left passes rests → All (λ p. IsPassOf cells p) passes
+passes_of cells left passes rests all parted =
+    all_is (λ (p : PassOf Suspended). IsPassOf cells p) (map (λ (l : Left). l.pass) left) passes (sym parted.0) (λ k d lt.
+    let within : k < length left = omega (arith, lt, length-map left (λ (l : Left). l.pass)) in
+    let w = some_left left k within in
+    let is : slice_get (map (λ (l : Left). l.pass) left) k ≡ Some w.0.pass = slice_get-map (λ (l : Left). l.pass) left k ∙ ap (option_map (λ (l : Left). l.pass)) w.1 in
+    subst (λ (p : PassOf Suspended). IsPassOf cells p) (sym (get_or_from_slice_get (map (λ (l : Left). l.pass) left) k w.0.pass d is))
+    (subst (λ (l : Left). IsLeftOf cells l) (get_or_from_slice_get left k w.0 w.0 w.1) (all k w.0 within)).0)
+
+pub parted_none : AreParted [] [] []
+parted_none = (refl, λ r has. absurd (omega (arith, has.1)))
+
+pub nothing_left : {A : Type 0} (xs : List A) → length xs ≡ 0 → xs ≡ []
+nothing_left [] e = refl
+nothing_left (x ∷ xs) e = absurd (omega (arith, e))
+
+-- the passes and the machines of one worker more
+pub parted_more : (left : List Left) (passes : List (PassOf Suspended)) (rests : List Rest) (l : Left) → AreParted left passes rests → AreParted (left ++ l ∷ []) (passes ++ l.pass ∷ []) (rests ++ l.rests.items)
+parted_more left passes rests l parted = (
+  ap (λ (ps : List (PassOf Suspended)). ps ++ l.pass ∷ []) parted.0 ∙ sym (map-append (λ (x : Left). x.pass) left (l ∷ [])),
+  λ r has. ⊎_elim
+      (λ old. let w = parted.1 r old in (w.0, Contains-append_left left (l ∷ []) w.0 w.1, w.2))
+      (λ new. (l, Contains-append_right left (l ∷ []) l (0, omega arith, refl), new))
+      (Contains-append_cases rests l.rests.items r has),
+)
+
+pub left_standing : (ps : List Proc) (first : List Suspended) (l : Ledger) (passes : List (PassOf Suspended)) (homes : List (Option Suspended)) (rests : List Rest) (machines : List (Option Thread)) → AreFirst ps first → length homes ≡ length first →
+    HandsOut doings first l homes → ((p : PassOf Suspended) (t : ℕ) (results : List Chosen) → Contains passes p → Has p.results (t, results) → AreResults l t results) → RestWith first passes rests → AreLeft homes rests machines → AreStanding ps l machines
+left_standing ps first l passes homes rests machines are count hands results all left = (
   left.0 ∙ count ∙ are.0,
   λ t m is. ⊎_elim
       (λ home. subst (StandsIn ps l t) home.2 (stands_home ps first l t home.0 are (hands t home.0 home.1)))
-      (λ rest. subst (λ (z : ℕ × Thread). StandsIn ps l z.0 z.1) (λ i. (rest.2 i, rest.3 i)) (stands_rest ps first l told rest.0 are results (contained first told rests rest.0 all rest.1)))
+      (λ rest.
+      let w = all rest.0 rest.1 in
+      subst (λ (z : ℕ × Thread). StandsIn ps l z.0 z.1) (λ i. (rest.2 i, rest.3 i)) (stands_rest ps first l w.0.results rest.0 are (λ u rs h. results w.0 u rs w.1 h) w.2))
       (left.1 t m is),
 )
 

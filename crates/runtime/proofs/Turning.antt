@@ -21,7 +21,7 @@ use Rattle.cell_table.specs.declared.view.Seen.{Seen}
 use Rattle.cell_table.specs.Sight.{Has, SawEnded, see_begun}
 use Rattle.runtime.specs.declared.resident.Suspended.{Suspended}
 use Rattle.runtime.specs.Machines.{IsMachineOf, IsNow, IsTable, SpawnedSince, doings}
-use Rattle.runtime.proofs.Lists.{all_none, all_one}
+use Rattle.cell.proofs.Lists.{all_none, all_one}
 use Rattle.runtime.proofs.Spawns.{begun_is, resumed_is, since_resumed}
 
 -- BEHIND A FIRST TURN

@@ -1,17 +1,11 @@
 -- What is known of a worker.
-use Rattle.std.specs.Prelude.{◌≡◌, ℕ, List, []}
-use Rattle.protocol_values.specs.declared.Binding.{Binding}
-use Rattle.protocol_values.specs.declared.Joined.{Joined}
-use Rattle.protocol_values.specs.declared.NackName.{NackName}
-use Rattle.protocol_values.specs.declared.Offer.{Offer}
-use Rattle.protocol_values.specs.declared.Row.{Row}
-use Rattle.protocol.specs.Standing.{Result}
-use Rattle.cell_table.specs.Sight.{Has, SeesNoOffer, SeesOffer}
+use Rattle.std.specs.Prelude.{◌≡◌, List, [], Contains, map}
 use Rattle.cell.specs.Calls.{GridOf, IsPassOf, PassOf}
 use Rattle.meet.specs.Rooms.{IsMeetPassOf}
 use Rattle.meet_queues.specs.Ends.{IsEndOf}
 use Rattle.runtime.specs.declared.crew.Crew.{Crew}
 use Rattle.runtime.specs.declared.crew.Shared.{Shared}
+use Rattle.runtime.specs.declared.resident.Rest.{Rest}
 use Rattle.runtime.specs.declared.resident.Suspended.{Suspended}
 use Rattle.runtime.specs.declared.worker.Left.{Left}
 use Rattle.runtime.specs.declared.worker.Worker.{Worker}
@@ -35,12 +29,6 @@ IsNewPassOf cells p = IsPassOf cells p × (p.seen.opened ≡ []) × (p.seen.begu
 abbrev pub IsNewWorkerOf : GridOf Suspended → Shared → Worker → Type 0
 IsNewWorkerOf cells shared w = IsNewPassOf cells w.pass × IsMeetPassOf shared.meet w.lanes × IsEndOf shared.ready w.end × (w.rests.items ≡ [])
 
--- what the one pass has seen, the other has seen too
-pub record HasHeard (told p : PassOf Suspended) : Type 0 where
-  pub opened : (r : Row) → Has told.seen.opened r → Has p.seen.opened r
-  pub offers : (r : Row) (n : ℕ) (o : Offer) → SeesOffer told.seen r n o → SeesOffer p.seen r n o
-  pub lacks : (r : Row) (n : ℕ) → SeesNoOffer told.seen r n → SeesNoOffer p.seen r n
-  pub joined : (r : Row) (j : Joined) → Has told.seen.joined (r, j) → Has p.seen.joined (r, j)
-  pub taken : (r : Row) → Has told.seen.taken r → Has p.seen.taken r
-  pub bound : (n : NackName) (b : Binding) → Has told.seen.bound (n, b) → Has p.seen.bound (n, b)
-  pub results : (t : ℕ) (results : List Result) → Has told.results (t, results) → Has p.results (t, results)
+-- the passes that workers left, and the machines at rest with any of them
+abbrev pub AreParted : List Left → List (PassOf Suspended) → List Rest → Type 0
+AreParted left passes rests = (passes ≡ map (λ l. l.pass) left) × ((r : Rest) → Contains rests r → (l : Left) × Contains left l × Contains l.rests.items r)

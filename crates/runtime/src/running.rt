@@ -20,8 +20,7 @@ use crate::gate::{Gate, TurnsOnly};
 use crate::leaving::machines_of;
 use crate::notes::Notes;
 use crate::resident::Suspended;
-use crate::worker::Left;
-use crate::workers::{all_work, told_one, workers_of};
+use crate::workers::{all_work, parted, workers_of};
 use cell::{Cells, StepGate};
 use journal::{Record, conclude};
 use meet::Meet;
@@ -130,10 +129,11 @@ fn work_within<R: Threads + Wait + Sync, G: Gate + StepGate + Sync>(
     };
     let workers = workers_of(&crew, passes, lanes, ends)?;
     let left = all_work(&crew, workers)?;
-    let Some(Left { pass, rests }) = told_one(&cells, left)? else {
+    let (passes, rests) = parted(alloc, left)?;
+    if passes.is_empty() {
         return Err(Halt::NoWorker);
-    };
-    let (ledger, homes) = cells.close_all(pass);
+    }
+    let (ledger, homes) = cells.close_all(passes);
     let machines = machines_of(alloc, homes, rests)?;
     Ok((ledger, machines))
 }

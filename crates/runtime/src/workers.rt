@@ -1,14 +1,14 @@
-//! All workers of a run: they are made, started, and joined, and then tell one of their passes what they saw.
+//! All workers of a run: they are made, started, and joined.
 
 ghost use Rattle.std.specs.Prelude.{◌≡◌, [], All, IfNone, IfOk, IfSome};
 ghost use Rattle.meet.specs.Rooms.{IsMeetPassOf};
 ghost use Rattle.meet_queues.specs.Ends.{IsEndOf};
-ghost use Rattle.runtime.specs.Workers.{HasHeard, IsLeftOf, IsNewPassOf, IsNewWorkerOf};
+ghost use Rattle.runtime.specs.Workers.{AreParted, IsLeftOf, IsNewPassOf, IsNewWorkerOf};
 
 use crate::crew::Crew;
 use crate::fault::{Halt, told_first};
 use crate::gate::Gate;
-use crate::resident::Suspended;
+use crate::resident::{Rest, Suspended};
 use crate::worker::{Left, Worked, Worker};
 use cell::{Cells, Pass, StepGate};
 use core::thread::Stack;
@@ -230,21 +230,19 @@ fn join_all<R: Threads>(
     }
 }
 
-/// What all workers leave in one: one of the passes, which all others have told what they saw, and all machines at
-/// rest.
-pub(crate) fn told_one(cells: &Cells<Suspended>, left: Vec<Left>) -> Result<Option<Left>, Halt>
-    requires { All (λ l. IsLeftOf cells.now l) left.items }
-    ensures here { IfOk result (λ one. IfSome one (λ l. IsLeftOf cells.now l)) }
-    ensures told { IfOk result (λ one. IfSome one (λ l. All (λ m. HasHeard m.pass l.pass) left.items)) }
-    ensures none { IfOk result (λ one. IfNone one (left.items ≡ [])) }
+/// The passes, and the machines at rest apart from them.
+pub(crate) fn parted(
+    alloc: Global,
+    left: Vec<Left>,
+) -> Result<(Vec<Pass<Suspended>>, Vec<Rest>), AllocError>
+    ensures { IfOk result (λ apart. AreParted left.items apart.0.items apart.1.items) }
 {
-    let mut left = left;
-    let Some(mut told) = left.pop() else {
-        return Ok(None);
-    };
-    for mut other in left {
-        cells.tell(&mut other.pass, &mut told.pass);
-        told.rests.append(&mut other.rests)?;
+    let mut passes = Vec::with_capacity(alloc, left.len())?;
+    let mut rests = Vec::new(alloc);
+    for Left { pass, rests: more } in left {
+        let mut more = more;
+        passes.push(pass)?;
+        rests.append(&mut more)?;
     }
-    Ok(Some(told))
+    Ok((passes, rests))
 }

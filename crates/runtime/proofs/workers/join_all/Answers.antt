@@ -8,7 +8,7 @@ use Rattle.runtime.specs.Workers.{IsLeftOf}
 use Rattle.runtime.specs.declared.worker.Left.{Left}
 use Rattle.runtime.specs.declared.worker.Worked.{Worked}
 use Rattle.runtime.specs.declared.workers.GivesBack.{GivesBack}
-use Rattle.runtime.proofs.Lists.{all_is, all_head, all_rest, all_pushed}
+use Rattle.cell.proofs.Lists.{all_is, all_head, all_rest, all_pushed}
 use Rattle.runtime.proofs.workers.join_all.Goals as goal
 
 pub loop-handle-preserved-then-is_err : goal.loop-handle-preserved-then-is_err

@@ -6,7 +6,7 @@ use Rattle.runtime.specs.Workers.{IsNewWorkerOf}
 use Rattle.runtime.specs.declared.worker.Worker.{Worker}
 use Rattle.runtime.specs.declared.worker.Worked.{Worked}
 use Rattle.runtime.specs.declared.workers.GivesBack.{GivesBack}
-use Rattle.runtime.proofs.Lists.{all_is, all_none, all_rest, all_pushed}
+use Rattle.cell.proofs.Lists.{all_is, all_none, all_rest, all_pushed}
 use Rattle.runtime.proofs.workers.start_all.Goals as goal
 
 pub loop-worker-preserved : goal.loop-worker-preserved

@@ -3,7 +3,7 @@ use Rattle.std.proofs.lemmas.List.Elements.{All-pop}
 use Rattle.runtime.specs.Workers.{IsLeftOf, IsNewWorkerOf}
 use Rattle.runtime.specs.declared.worker.Left.{Left}
 use Rattle.runtime.specs.declared.worker.Worker.{Worker}
-use Rattle.runtime.proofs.Lists.{all_is, all_none, all_pushed}
+use Rattle.cell.proofs.Lists.{all_is, all_none, all_pushed}
 use Rattle.runtime.proofs.workers.work_alone.Goals as goal
 
 pub work_on-left-requires : goal.work_on-left-requires

@@ -7,7 +7,7 @@ use Rattle.meet_queues.specs.Ends.{IsEndOf}
 use Rattle.runtime.specs.Workers.{IsNewPassOf, IsNewWorkerOf}
 use Rattle.runtime.specs.declared.resident.Suspended.{Suspended}
 use Rattle.runtime.specs.declared.worker.Worker.{Worker}
-use Rattle.runtime.proofs.Lists.{all_is, all_head, all_none, all_rest, all_pushed}
+use Rattle.cell.proofs.Lists.{all_is, all_head, all_none, all_rest, all_pushed}
 use Rattle.runtime.proofs.workers.workers_of.Goals as goal
 
 pub loop-pass-preserved : goal.loop-pass-preserved
