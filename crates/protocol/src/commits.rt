@@ -132,7 +132,7 @@ impl Sheet {
         for sync in 0..self.rows {
             let namer = Row {
                 thread,
-                sync: sync as u16,
+                sync: sync as u32,
             };
             let cell = self.cell(namer);
             if is_fresh(cell) {
@@ -168,7 +168,7 @@ impl Sheet {
         for sync in 0..self.rows {
             let row = Row {
                 thread,
-                sync: sync as u16,
+                sync: sync as u32,
             };
             let cell = self.cell(row);
             if is_fresh(cell) {
@@ -205,7 +205,7 @@ impl Sheet {
         for sync in 0..self.rows {
             let row = Row {
                 thread,
-                sync: sync as u16,
+                sync: sync as u32,
             };
             let cell = self.cell(row);
             if is_fresh(cell) {

@@ -75,7 +75,7 @@ impl Ledger {
             let sync = from + (to - from) / 2;
             match self.commit_of(Row {
                 thread,
-                sync: sync as u16,
+                sync: sync as u32,
             }) {
                 Some(commit) => {
                     last = stamp_of(commit);
@@ -112,7 +112,7 @@ impl Ledger {
         };
         let row = Row {
             thread: nack.thread,
-            sync: bound.sync,
+            sync: u32::from(bound.sync),
         };
         let Some(commit) = self.commit_of(row) else {
             return NackState::Unsettled;

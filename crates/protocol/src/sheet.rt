@@ -60,7 +60,7 @@ impl Sheet {
     pub(crate) fn contains(&self, row: Row) -> bool
         ensures { result ≡ is_row (table_of self.now) row }
     {
-        usize::from(row.thread) < self.threads && usize::from(row.sync) < self.rows
+        usize::from(row.thread) < self.threads && row.sync as usize < self.rows
     }
 
     /// The row's place among all rows.
@@ -69,7 +69,7 @@ impl Sheet {
         ensures value { result ≡ number_of self.now.rows row }
         ensures inside { result < self.now.threads * self.now.rows }
     {
-        usize::from(row.thread) * self.rows + usize::from(row.sync)
+        usize::from(row.thread) * self.rows + row.sync as usize
     }
 
     /// How many rows the table has.
@@ -93,7 +93,7 @@ impl Sheet {
         ensures value { result ≡ place_of self.now.rows row place }
         ensures inside { result < vec_len self.now.words }
     {
-        usize::from(row.thread) * self.thread_len() + usize::from(row.sync) * ROW_LEN + place
+        usize::from(row.thread) * self.thread_len() + row.sync as usize * ROW_LEN + place
     }
 
     #[tactic(auto, unfolding(crate::specs::Tables::word_at))]
@@ -245,7 +245,7 @@ impl Sheet {
         let bound = self.binding(nack)?;
         let row = Row {
             thread: nack.thread,
-            sync: bound.sync,
+            sync: u32::from(bound.sync),
         };
         let joined = self.joined(row)?;
         if encloses(bound.scope, self.offer(row, joined.own)) {
@@ -261,7 +261,10 @@ impl Sheet {
     {
         match self.course(thread) {
             Course::Unstarted | Course::Running(_) => None,
-            Course::Ended(_, sync) => Some(self.last_stamp(Row { thread, sync })),
+            Course::Ended(_, sync) => {
+                let sync = u32::from(sync);
+                Some(self.last_stamp(Row { thread, sync }))
+            }
         }
     }
 

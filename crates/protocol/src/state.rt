@@ -98,13 +98,13 @@ impl State {
     fn stands_at(&self, seat: Seat, row: Row) -> bool
         ensures { IsTrue result ↔ StandsAt (world_of self.now) seat row }
     {
-        if usize::from(row.sync) < self.sheet.rows {
+        if row.sync as usize < self.sheet.rows {
             return self.holds(seat, row) && matches!(self.sheet.cell(row), Cell::Fresh);
         }
         if usize::from(row.thread) >= self.sheet.threads {
             return false;
         }
-        if usize::from(row.sync) > self.sheet.rows {
+        if row.sync as usize > self.sheet.rows {
             return false;
         }
         self.last_holder(row.thread) == Some(seat.0)
@@ -379,7 +379,7 @@ impl State {
             return false;
         }
         let bound = Binding {
-            sync: row.sync,
+            sync: row.sync as u16,
             scope,
         };
         self.sheet.set_nack(nack, bound);
@@ -427,7 +427,7 @@ impl State {
         }
         let start = start_of(self.sheet.course(row.thread));
         self.sheet
-            .set_course(row.thread, Course::Ended(start, row.sync));
+            .set_course(row.thread, Course::Ended(start, row.sync as u16));
         true
     }
 
@@ -446,7 +446,7 @@ impl State {
             let at = self.sheet.number(next);
             self.holders[at] = Some(seat.0);
         }
-        if usize::from(next.sync) == self.sheet.rows {
+        if next.sync as usize == self.sheet.rows {
             self.lasts[usize::from(row.thread)] = Some(seat.0);
         }
     }
@@ -471,7 +471,7 @@ fn first_holders(
         for sync in 0..sheet.rows {
             let row = Row {
                 thread: thread as u8,
-                sync: sync as u16,
+                sync: sync as u32,
             };
             holders.push(first_holder(seats, later, row))?;
         }

@@ -24,7 +24,7 @@ fn sync_of(bytes: &[u8], last: u16, end: u8) -> Option<(Row, &[u8])>
     let (sync, rest) = number(rest, u64::from(last), end)?;
     let row = Row {
         thread,
-        sync: sync as u16,
+        sync: sync as u32,
     };
     Some((row, rest))
 }

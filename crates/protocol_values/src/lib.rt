@@ -122,17 +122,17 @@ impl Default for Offer {
     }
 }
 
-/// One sync of a thread: thread 0 to 63, sync 0 to 1023.
+/// One sync of a thread: thread 0 to 63, sync 0 to 1023 in a table and 0 to 67107839 in a journal.
 #[derive(Clone, Copy, Debug, PartialEq, Eq)]
 pub struct Row {
     pub thread: u8,
-    pub sync: u16,
+    pub sync: u32,
 }
 
 impl Row {
     /// The next row of the thread.
     pub fn next(self) -> Row
-        requires { self.sync < 65535 }
+        requires { self.sync < 4294967295 }
         ensures { result ≡ next_row self }
     {
         Row {

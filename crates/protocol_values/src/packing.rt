@@ -117,7 +117,7 @@ fn partner_fields(word: u64) -> Option<(Row, u8)>
     if field(word, 6, 1) == 1 {
         let row = Row {
             thread: field(word, 20, 6) as u8,
-            sync: field(word, 10, 10) as u16,
+            sync: field(word, 10, 10) as u32,
         };
         Some((row, field(word, 7, 3) as u8))
     } else {
