@@ -60,7 +60,7 @@ impl Sheet {
     pub(crate) fn contains(&self, row: Row) -> bool
         ensures { result ≡ is_row (table_of self.now) row }
     {
-        usize::from(row.thread) < self.threads && row.sync as usize < self.rows
+        usize::from(row.thread) < self.threads && (row.sync as usize) < self.rows
     }
 
     /// The row's place among all rows.

@@ -98,13 +98,13 @@ impl State {
     fn stands_at(&self, seat: Seat, row: Row) -> bool
         ensures { IsTrue result ↔ StandsAt (world_of self.now) seat row }
     {
-        if row.sync as usize < self.sheet.rows {
+        if (row.sync as usize) < self.sheet.rows {
             return self.holds(seat, row) && matches!(self.sheet.cell(row), Cell::Fresh);
         }
         if usize::from(row.thread) >= self.sheet.threads {
             return false;
         }
-        if row.sync as usize > self.sheet.rows {
+        if (row.sync as usize) > self.sheet.rows {
             return false;
         }
         self.last_holder(row.thread) == Some(seat.0)
