@@ -112,7 +112,7 @@ impl Ledger {
         };
         let row = Row {
             thread: nack.thread,
-            sync: u32::from(bound.sync),
+            sync: bound.sync as u32,
         };
         let Some(commit) = self.commit_of(row) else {
             return NackState::Unsettled;

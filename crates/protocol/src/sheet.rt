@@ -245,7 +245,7 @@ impl Sheet {
         let bound = self.binding(nack)?;
         let row = Row {
             thread: nack.thread,
-            sync: u32::from(bound.sync),
+            sync: bound.sync as u32,
         };
         let joined = self.joined(row)?;
         if encloses(bound.scope, self.offer(row, joined.own)) {
@@ -262,7 +262,7 @@ impl Sheet {
         match self.course(thread) {
             Course::Unstarted | Course::Running(_) => None,
             Course::Ended(_, sync) => {
-                let sync = u32::from(sync);
+                let sync = sync as u32;
                 Some(self.last_stamp(Row { thread, sync }))
             }
         }

@@ -10,4 +10,4 @@ returns-clause-inside c =
     let in_t = row_inside (table_of s) r c.requires in
     let b : r.thread * s.rows + r.sync < s.threads * s.rows = block_inside r.thread s.threads r.sync s.rows in_t.0 in_t.1 in
     let t : c.from.result * s.rows ≡ r.thread * s.rows = ap (λ n. n * s.rows) c.from.ensures in
-    omega (arith, c.from-2.ensures)
+    omega arith

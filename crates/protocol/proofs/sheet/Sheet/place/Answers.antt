@@ -10,4 +10,4 @@ returns-clause-inside c =
     let b : r.thread * (s.rows * 34 + 65) + r.sync * 34 + c.args.place < s.threads * (s.rows * 34 + 65) =
     place_inside (table_of s) r c.args.place c.requires.row c.requires.place in
     let t : c.from.result * c.thread_len.result ≡ r.thread * (s.rows * 34 + 65) = (λ i. c.from.ensures i * c.thread_len.ensures i) in
-    omega (arith, c.from-2.ensures)
+    omega arith

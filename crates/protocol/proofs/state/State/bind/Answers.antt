@@ -6,9 +6,17 @@ use Rattle.protocol.specs.Worlds.{Holds, with_nack, nack_of_row}
 use Rattle.protocol.specs.States.{world_of}
 use Rattle.protocol.proofs.Linking.{none_from}
 use Rattle.protocol.proofs.Keeping.{held_row, kept_condition, nack_of_thread, bind_in_range}
+use Rattle.protocol.proofs.Places.{row_inside}
 use Rattle.protocol.proofs.Telling.{tells_bind}
 use Rattle.protocol.proofs.Soundness.{sound_state}
 use Rattle.protocol.proofs.state.State.bind.Goals as goal
+
+pub overflow_cast-bound : goal.overflow_cast-bound
+overflow_cast-bound c =
+    let w = world_of c.args.self.now in
+    let inside = (row_inside w.table c.args.row (held_row w c.args.row c.args.seat.0 (c.holds.ensures.0 c.if-not-holds.false))).1 in
+    let few = c.requires.kept.few_rows in
+    omega arith
 
 pub set_nack-requires-clause-nack : goal.set_nack-requires-clause-nack
 set_nack-requires-clause-nack c =

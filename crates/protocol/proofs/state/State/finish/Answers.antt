@@ -1,4 +1,4 @@
-use Rattle.std.proofs.Common.{◌≡◌, ap, sym, subst, refl, ◌∙◌}
+use Rattle.std.proofs.Common.{arith, ◌≡◌, ap, sym, subst, refl, ◌∙◌}
 use Rattle.protocol_values.specs.declared.Course.{Course}
 use Rattle.protocol_values.specs.declared.Course.TheVariants.{Ended}
 use Rattle.protocol_values.specs.declared.Step.TheVariants.{Finish}
@@ -10,6 +10,13 @@ use Rattle.protocol.proofs.Keeping.{end_in_range, kept_condition, stands_inside}
 use Rattle.protocol.proofs.Telling.{tells_life}
 use Rattle.protocol.proofs.Soundness.{sound_state}
 use Rattle.protocol.proofs.state.State.finish.Goals as goal
+
+pub overflow_cast-row : goal.overflow_cast-row
+overflow_cast-row c =
+    let w = world_of c.args.self.now in
+    let inside = (stands_inside w c.args.seat c.args.row (c.stands_at.ensures.0 c.if-not-stands_at.false)).1 in
+    let few = c.requires.kept.few_rows in
+    omega arith
 
 pub set_course-requires-clause-thread : goal.set_course-requires-clause-thread
 set_course-requires-clause-thread c = (stands_inside (world_of c.args.self.now) c.args.seat c.args.row (c.stands_at.ensures.0 c.if-not-stands_at.false)).0

@@ -9,7 +9,7 @@ next-next-requires c =
     let few = c.args.self.now.sheet.few_rows in
     omega arith
 
-pub index_mut-requires-then-from-self : goal.index_mut-requires-then-from-self
-index_mut-requires-then-from-self c =
+pub index_mut-requires-then-next-self : goal.index_mut-requires-then-next-self
+index_mut-requires-then-next-self c =
     let inside = row_inside (table_of c.args.self.now.sheet) c.args.row c.requires in
-    omega (arith, c.from-then-from-self.ensures, c.args.self.now.behind, c.args.self.now.lasts.ok)
+    omega (arith, c.from.ensures, c.args.self.now.behind, c.args.self.now.lasts.ok)

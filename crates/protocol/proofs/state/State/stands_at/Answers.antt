@@ -5,24 +5,24 @@ use Rattle.protocol.specs.Worlds.{last_holder}
 use Rattle.protocol.proofs.Keeping.{stands_last}
 use Rattle.protocol.proofs.state.State.stands_at.Goals as goal
 
-pub returns-then-from-self-2 : goal.returns-then-from-self-2
-returns-then-from-self-2 c =
+pub returns-then-from-self : goal.returns-then-from-self
+returns-then-from-self c =
     let w = world_of c.args.self.now in
-    let behind : w.table.rows ≤ c.args.row.sync = omega (arith, c.from.ensures, c.if-from-self.false) in
-    (λ h. absurd (search rules), λ stands. let inside = (stands_last w c.args.seat c.args.row behind stands).0 in absurd (omega (arith, c.from-2.ensures, c.if-from-self-2.true)))
+    let behind : w.table.rows ≤ c.args.row.sync = omega (arith, c.if-row-self.false) in
+    (λ h. absurd (search rules), λ stands. let inside = (stands_last w c.args.seat c.args.row behind stands).0 in absurd (omega (arith, c.from.ensures, c.if-from-self.true)))
 
-pub returns-then-from-self-3 : goal.returns-then-from-self-3
-returns-then-from-self-3 c =
+pub returns-then-row-self-2 : goal.returns-then-row-self-2
+returns-then-row-self-2 c =
     let w = world_of c.args.self.now in
-    let behind : w.table.rows ≤ c.args.row.sync = omega (arith, c.from.ensures, c.if-from-self.false) in
-    (λ h. absurd (search rules), λ stands. let at = (stands_last w c.args.seat c.args.row behind stands).1 in absurd (omega (arith, c.from-3.ensures, c.if-from-self-3.true)))
+    let behind : w.table.rows ≤ c.args.row.sync = omega (arith, c.if-row-self.false) in
+    (λ h. absurd (search rules), λ stands. let at = (stands_last w c.args.seat c.args.row behind stands).1 in absurd (omega (arith, c.if-row-self-2.true)))
 
 pub returns : goal.returns
 returns c =
     let w = world_of c.args.self.now in
-    let behind : w.table.rows ≤ c.args.row.sync = omega (arith, c.from.ensures, c.if-from-self.false) in
-    let at : c.args.row.sync ≡ w.table.rows = omega (arith, c.from.ensures, c.if-from-self.false, c.from-3.ensures, c.if-from-self-3.false) in
-    let inside : c.args.row.thread < w.table.threads = omega (arith, c.from-2.ensures, c.if-from-self-2.false) in (
+    let behind : w.table.rows ≤ c.args.row.sync = omega (arith, c.if-row-self.false) in
+    let at : c.args.row.sync ≡ w.table.rows = omega (arith, c.if-row-self.false, c.if-row-self-2.false) in
+    let inside : c.args.row.thread < w.table.threads = omega (arith, c.from.ensures, c.if-from-self.false) in (
       λ h.
           let same : last_holder w c.args.row.thread ≡ Some c.args.seat.0 = (search rules) in
           inr (inside, at, same),
