@@ -32,11 +32,11 @@ module _ (d : Declared) (threads : AreNames d.threads) (channels : AreNames d.ch
   channel_names : Reads {X = ℕ} (λ n. n) (λ bytes. ended_by 32 (named_at d.channels bytes)) (ended_name d.channels 32) (λ n. n < length d.channels)
   channel_names = ending 32 (λ n. get_or d.channels n []) (λ n. n < length d.channels) (omega arith) (names_read d.channels channels)
 
-  rows : Reads {X = ℕ × ℕ} (λ p. record { thread = p.0; sync = p.1 }) (row_at d) (λ p. ended_name d.threads 46 p.0 ++ ended 46 p.1) (λ p. (p.0 < length d.threads) × (p.1 ≤ 1023))
+  rows : Reads {X = ℕ × ℕ} (λ p. record { thread = p.0; sync = p.1 }) (row_at d) (λ p. ended_name d.threads 46 p.0 ++ ended 46 p.1) (λ p. (p.0 < length d.threads) × (p.1 ≤ 67107839))
   unfolding row_at
-  rows = both (λ thread sync. record { thread = thread; sync = sync }) thread_names (numbers 1023 46 (omega arith) (omega arith))
+  rows = both (λ thread sync. record { thread = thread; sync = sync }) thread_names (numbers 67107839 46 (omega arith) (omega arith))
 
-  places_in_parts : Reads {X = (ℕ × ℕ) × ℕ} (λ p. (record { thread = p.0.0; sync = p.0.1 }, p.1)) (place_at d) (λ p. (ended_name d.threads 46 p.0.0 ++ ended 46 p.0.1) ++ ended 32 p.1) (λ p. ((p.0.0 < length d.threads) × (p.0.1 ≤ 1023)) × (p.1 ≤ 7))
+  places_in_parts : Reads {X = (ℕ × ℕ) × ℕ} (λ p. (record { thread = p.0.0; sync = p.0.1 }, p.1)) (place_at d) (λ p. (ended_name d.threads 46 p.0.0 ++ ended 46 p.0.1) ++ ended 32 p.1) (λ p. ((p.0.0 < length d.threads) × (p.0.1 ≤ 67107839)) × (p.1 ≤ 7))
   unfolding place_at
   places_in_parts = both (λ row offer. (row, offer)) rows (numbers 7 32 (omega arith) (omega arith))
 

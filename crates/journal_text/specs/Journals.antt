@@ -19,7 +19,7 @@ use Rattle.journal_text.specs.Texts.{commit_line, commits_text}
 -- WHAT HAS A LINE
 
 abbrev pub HasPlace : Declared → Row × ℕ → Type 0
-HasPlace d p = (p.0.thread < length d.threads) × (p.0.sync ≤ 1023) × (p.1 ≤ 7)
+HasPlace d p = (p.0.thread < length d.threads) × (p.0.sync ≤ 67107839) × (p.1 ≤ 7)
 
 abbrev pub HasNack : Declared → NackName → Type 0
 HasNack d n = (n.thread < length d.threads) × (n.k ≤ 63)

@@ -58,7 +58,7 @@ named_at names bytes = do
 unfoldable pub row_at : Declared → List ℕ → Reads Row
 row_at d bytes = do
   thread ← ended_by 46 (named_at d.threads bytes)
-  sync ← number_at 1023 46 thread.1
+  sync ← number_at 67107839 46 thread.1
   Some (record { thread = thread.0; sync = sync.0 }, sync.1)
 
 -- a row and the number of an offer, ended by a space

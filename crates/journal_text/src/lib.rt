@@ -65,7 +65,7 @@ impl From<AllocError> for JournalFault {
 
 /// Room for a line, with the labels or with numbers.
 fn blank_line(alloc: Global, labels: Option<&Labels<'_>>) -> Result<Vec<u8>, AllocError>
-    ensures { IfOk result (λ line. 6 * reach labels.entry + 78 ≤ length line.items) }
+    ensures { IfOk result (λ line. 6 * reach labels.entry + 88 ≤ length line.items) }
 {
     let longest = match labels {
         Some(labels) => labels.longest,

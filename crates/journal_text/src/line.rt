@@ -13,6 +13,9 @@ use protocol_values::{Atom, Cause, Commit, Message, NackName, Row};
 
 const LINE_END: u8 = b'\n';
 
+/// The greatest number of a sync.
+const LAST_SYNC: u64 = 67_107_839;
+
 /// What a row did that its line names first.
 pub(crate) enum Deed {
     Meets {
@@ -140,10 +143,10 @@ impl Front<'_> {
         ensures { Leads result self.new.bytes.now (row_at (listed names.now) self.old.bytes.now) }
     {
         let thread = self.name(&names.threads, b'.')?;
-        let sync = self.number(1023, b'.')?;
+        let sync = self.number(LAST_SYNC, b'.')?;
         Some(Row {
             thread,
-            sync: sync as u16,
+            sync: sync as u32,
         })
     }
 

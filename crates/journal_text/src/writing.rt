@@ -14,7 +14,7 @@ use itoa::write_digits;
 use protocol_values::{Atom, Cause, Commit, Message, NackName, Row};
 
 /// How long a line is at most, but for its names.
-pub(crate) const LINE_LEN: usize = 78;
+pub(crate) const LINE_LEN: usize = 88;
 
 /// How much room is kept for a number that stands for a name.
 pub(crate) const LONGEST_NUMBER: usize = 5;
@@ -93,14 +93,14 @@ fn put_channel(line: &mut [u8], at: usize, labels: Option<&Labels<'_>>, chan: u8
 
 #[inline(always)]
 fn put_place(line: &mut [u8], at: usize, labels: Option<&Labels<'_>>, place: (Row, u8)) -> usize
-    requires { (reach labels + 12 ≤ at) × (at ≤ length line.old) }
+    requires { (reach labels + 17 ≤ at) × (at ≤ length line.old) }
     ensures text { drop result line.new ≡ place_text (naming_of labels.entry) place ++ drop at line.old }
-    ensures width { (result ≤ at) × (at ≤ result + (reach labels.entry + 12)) }
+    ensures width { (result ≤ at) × (at ≤ result + (reach labels.entry + 17)) }
 {
     let (row, offer) = place;
     let at = put_small(line, at, u16::from(offer));
     let at = put_byte(line, at, b'.');
-    let at = put_small(line, at, row.sync);
+    let at = put_number(line, at, row.sync);
     let at = put_byte(line, at, b'.');
     put_thread(line, at, labels, row.thread)
 }
@@ -188,7 +188,7 @@ fn put_cause(line: &mut [u8], at: usize, labels: Option<&Labels<'_>>, cause: Cau
 }
 
 fn put_commit(line: &mut [u8], at: usize, labels: Option<&Labels<'_>>, commit: &Commit) -> usize
-    requires { (6 * reach labels + 77 ≤ at) × (at ≤ length line.old) }
+    requires { (6 * reach labels + 87 ≤ at) × (at ≤ length line.old) }
     ensures text { drop result line.new ≡ commit_text (naming_of labels.entry) commit.now ++ drop at line.old }
 {
     match *commit {
@@ -225,7 +225,7 @@ fn put_commit(line: &mut [u8], at: usize, labels: Option<&Labels<'_>>, commit: &
 
 /// The line of a commit, which ends where the bytes do, with the labels, or with numbers where there are none.
 pub(crate) fn put_line(line: &mut [u8], labels: Option<&Labels<'_>>, commit: &Commit) -> usize
-    requires { 6 * reach labels + 78 ≤ length line.old }
+    requires { 6 * reach labels + 88 ≤ length line.old }
     ensures { drop result line.new ≡ commit_line (naming_of labels.entry) commit.now }
 {
     let at = line.len();
