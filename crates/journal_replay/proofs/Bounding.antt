@@ -172,9 +172,9 @@ pub total-bound : (rows : ℕ) (strands : List Strand) → Bounded rows strands 
 total-bound rows strands b = sum_by-le syncs rows strands (λ k d within. b.few k (get_or strands k d) (slice_get-get_or strands k d within))
 
 -- there is room for one more stamp
-pub room : (rows : ℕ) (strands : List Strand) → Bounded rows strands → length strands ≤ 64 → rows < 65536 → HasRoom strands
+pub room : (rows : ℕ) (strands : List Strand) → Bounded rows strands → length strands ≤ 64 → rows ≤ 67107840 → HasRoom strands
 room rows strands b few low =
-    let product : length strands * rows ≤ 64 * 65536 = grind arith in
+    let product : length strands * rows ≤ 64 * 67107840 = grind arith in
     let most = total-bound rows strands b in
     record {
       last = λ t. omega (arith, last-bound rows strands t b, most, product);

@@ -43,7 +43,7 @@ syncs_one (suc n) t r config lt = ⊎_elim
     (λ ne. omega (arith, syncs_one n t r config (omega (arith, ne, lt)), no_longer t n r config ne))
     (cases_eq n t)
 
-pub syncs_within : (n : ℕ) (config : Config) → ((t : ℕ) → length (config t) ≤ 1024) → syncs_of n config ≤ n * 1024
+pub syncs_within : (n : ℕ) (config : Config) → ((t : ℕ) → length (config t) ≤ 67107840) → syncs_of n config ≤ n * 67107840
 unfolding syncs_of
 syncs_within zero config few = omega arith
 syncs_within (suc n) config few = omega (arith, syncs_within n config few, few n)

@@ -260,7 +260,7 @@ can-give-at ps rows commits config (Alone at why stamp) strands all leads legal 
 -- the threads behind so many of the commits
 pub record Gathering (ps : List Proc) (rows : ℕ) (commits : List Commit) (i : ℕ) (s : Threads) : Type 0 where
   pub rows_are : s.rows ≡ rows
-  pub low : rows < 65536
+  pub low : rows ≤ 67107840
   pub later : s.later ≡ false → (t : ℕ) → t < length ps → spawner ps t ≡ None
   pub together : Together ps commits (config_of (take i commits)) s.strands.items
 

@@ -63,7 +63,7 @@ pub record Gathers (process : Proc) (from : Option ℕ) (number : ℕ) (k : Know
 -- so of each thread, in so many rows
 pub record AreGathered (ps : List Proc) (rows : ℕ) (known : List Known) (s : Threads) : Type 0 where
   pub rows_are : s.rows ≡ rows
-  pub low : rows < 65536
+  pub low : rows ≤ 67107840
   pub later : s.later ≡ false → (t : ℕ) → t < length ps → spawner ps t ≡ None
   pub count : length s.strands.items ≡ length ps
   pub each : (t : ℕ) (x : Strand) → slice_get s.strands.items t ≡ Some x →

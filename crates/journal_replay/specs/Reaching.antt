@@ -12,7 +12,7 @@ use Rattle.journal_replay.specs.Standing.{Stands}
 pub record AreAfter (ps : List Proc) (rows : ℕ) (journal : List Commit) (s : Threads) : Type 0 where
   pub rows_are : s.rows ≡ rows
   pub few : length ps ≤ 64
-  pub low : rows < 65536
+  pub low : rows ≤ 67107840
   pub placed : IsPlaced ps
   pub later : s.later ≡ false → (t : ℕ) → t < length ps → spawner ps t ≡ None
   pub run : IsRun ps rows journal

@@ -13,14 +13,15 @@ use script_tree::Proc;
 use std::alloc::{AllocError, Global};
 
 /// Adds the commits one after another, from the beginning of the processes, each of which makes at
-/// most `rows` syncs. Who spawns a process stands behind it, as in a script.
+/// most `rows` syncs, 1 to 67107840. Who spawns a process stands behind it, as in a script.
 pub fn replay(
     alloc: Global,
     processes: &[Proc],
-    rows: u16,
+    rows: u32,
     commits: &[Commit],
 ) -> Result<State, ReplayFault>
     requires few { length processes.now ≤ 64 }
+    requires rows { rows ≤ 67107840 }
     requires placed { IsPlaced (map proc_of processes.now) }
     ensures { MatchResult result (StandsAfter (map proc_of processes.now) rows commits.now) (Refuses (map proc_of processes.now) rows commits.now) }
 {

@@ -119,7 +119,7 @@ returns c =
     omega (arith, ap (λ (xs : List Known). length xs) i.whole, length-append c.loop-part.yielded c.loop-part.part-iterator.rest.items, c.in-None.ensures.steps.0, c.loop-part.part-iterator.rest.ok) in
     record {
       rows_are = refl;
-      low = omega (arith, c.ranges.rows);
+      low = c.requires.rows;
       later = λ quiet t lt. i.later quiet t (omega (arith, lt, i.count, whole, c.requires.count, length-map ps proc_of));
       count = omega (arith, i.count, whole, c.requires.count, length-map ps proc_of);
       each = i.gathered.each;
