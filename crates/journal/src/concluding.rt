@@ -26,11 +26,12 @@ const PLACES: usize = 256;
 pub fn conclude(
     alloc: Global,
     processes: &[Proc],
-    rows: u16,
+    rows: u32,
     ledger: &Ledger,
     machines: Vec<Option<Machine>>,
 ) -> Result<Record, AllocError>
     requires few { length processes.now ≤ 64 }
+    requires rows { rows ≤ 67107840 }
     requires placed { IsPlaced (map proc_of processes.now) }
     requires of { IsLedgerOf (map proc_of processes.now) ledger.now × (ledger.now.rows ≤ rows) }
     requires machines { AreStanding (map proc_of processes.now) ledger.now machines.items }
