@@ -68,7 +68,7 @@ has_message d (One a) h = h
 has_message d (Two a b) h = h
 has_message d (Three a b c) h = ((h.0, h.1.0), h.1.1)
 
-module _ (s : Script) (rows : ℕ) (few : rows ≤ 1024) (text : HasText s) where
+module _ (s : Script) (rows : ℕ) (few : rows ≤ 67107840) (text : HasText s) where
   abbrev d : Declared
   d = names_of s
 
