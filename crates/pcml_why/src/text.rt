@@ -187,14 +187,14 @@ fn push_spent(out: &mut String, line: usize) -> Result<(), AllocError>
     write!(out, " is spent at line {line}")
 }
 
-fn syncs_word(rows: u16) -> &'static str
+fn syncs_word(rows: u32) -> &'static str
     ensures { result.now ≡ syncs_word rows }
 {
     if rows == 1 { " sync\n" } else { " syncs\n" }
 }
 
 #[tactic(auto, unfolding(crate::specs::Whys::syncs_text))]
-fn push_syncs(out: &mut String, rows: u16) -> Result<(), AllocError>
+fn push_syncs(out: &mut String, rows: u32) -> Result<(), AllocError>
     ensures { OnOk result (Adds out.old out.new (syncs_text rows)) }
 {
     write!(out, ": it made {rows}")?;
@@ -202,7 +202,7 @@ fn push_syncs(out: &mut String, rows: u16) -> Result<(), AllocError>
 }
 
 /// How a process stands, at a line, of at most `rows` syncs.
-fn push_stand(out: &mut String, rows: u16, line: usize, end: End) -> Result<(), AllocError>
+fn push_stand(out: &mut String, rows: u32, line: usize, end: End) -> Result<(), AllocError>
     ensures { OnOk result (Adds out.old out.new (stand_text rows line end)) }
 {
     match end {
@@ -337,7 +337,7 @@ impl Teller<'_> {
     fn push_site(
         &self,
         out: &mut String,
-        rows: u16,
+        rows: u32,
         thread: usize,
         site: &Site<'_>,
     ) -> Result<(), AllocError>
@@ -350,7 +350,7 @@ impl Teller<'_> {
         self.push_offers(out, thread, site)
     }
 
-    fn push_sites(&self, out: &mut String, rows: u16) -> Result<(), AllocError>
+    fn push_sites(&self, out: &mut String, rows: u32) -> Result<(), AllocError>
         requires { length self.now.sites.now ≤ 64 }
         ensures { OnOk result (Adds out.old out.new (why_text (named (script_of self.now.script.now)) (stamps_of self.now.state.now) rows self.now.sites.now)) }
     {
@@ -439,7 +439,7 @@ pub fn why_text(
     state: &State,
     standing: &State,
     source: &[u8],
-    rows: u16,
+    rows: u32,
 ) -> Result<String, AllocError>
     requires few { thread_count state.now ≤ 64 }
     requires same { thread_count standing.now ≡ thread_count state.now }
