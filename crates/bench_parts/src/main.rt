@@ -16,6 +16,9 @@ use anyhow::{Context, Result, bail};
 use std::env;
 use std::rt::{Env, Files};
 
+/// The most rows of a thread in a journal.
+const MOST_ROWS: u32 = 67_107_840;
+
 fn time_machine<R: Files + Print + AllocGlobal>(rt: &R, words: &[String]) -> Result<()> {
     let part = words.first().context("which part?")?;
     let count: u32 = words.get(1).context("how often?")?.as_str().parse()?;
@@ -31,7 +34,10 @@ fn time_machine<R: Files + Print + AllocGlobal>(rt: &R, words: &[String]) -> Res
 }
 
 fn time_settle<R: Print + AllocGlobal>(rt: &R, words: &[String]) -> Result<()> {
-    let rows: u16 = words.first().context("how many rows?")?.as_str().parse()?;
+    let rows: u32 = words.first().context("how many rows?")?.as_str().parse()?;
+    if rows > MOST_ROWS {
+        bail!("at most {MOST_ROWS} rows");
+    }
     let commits = settle_pairs(rt.alloc(), rows)?;
     println!(rt; "{commits} commits")?;
     Ok(())

@@ -1,5 +1,7 @@
 //! 32 pairs of processes, of which one sends to the other without end.
 
+ghost use Rattle.std.specs.Prelude.{◌≤◌};
+
 use anyhow::{Result, bail};
 use journal_replay::{replay, settle};
 use script::parse;
@@ -26,7 +28,9 @@ fn script_text(alloc: Global) -> Result<String> {
 }
 
 /// Leads the pairs on from their beginning until each process made so many syncs, and counts the commits.
-pub(crate) fn settle_pairs(alloc: Global, rows: u16) -> Result<usize> {
+pub(crate) fn settle_pairs(alloc: Global, rows: u32) -> Result<usize>
+    requires { rows ≤ 67107840 }
+{
     let text = script_text(alloc)?;
     let script = parse(alloc, text.as_bytes())?;
     let Ok(state) = replay(alloc, script.processes(), rows, &[]) else {
