@@ -11,7 +11,7 @@ use Rattle.runtime.specs.Limits.{AreRows, AreWorkers}
 use Rattle.journal_lines.proofs.Lining.{printed_has_names, run_is_read_again}
 use Rattle.pcml_tool.specs.Run.{TellsRecord, TellsRun}
 
-pub tells_run : (s : Script) (rows : ℕ) (r : Record) (lines rest : List ℕ) → IsSpelled s → rows ≤ 1024 → TellsMaximalRun s.processes rows r → (l : Ledger) × IsLawful l × Completes s.processes rows l r → TellsRecord s r lines rest → TellsRun s rows lines rest
+pub tells_run : (s : Script) (rows : ℕ) (r : Record) (lines rest : List ℕ) → IsSpelled s → rows ≤ 67107840 → TellsMaximalRun s.processes rows r → (l : Ledger) × IsLawful l × Completes s.processes rows l r → TellsRecord s r lines rest → TellsRun s rows lines rest
 tells_run s rows r lines rest spelled few run (l, lawful, completes) told =
     record {
       journal = r.journal.items;
@@ -44,8 +44,8 @@ within_or_not low high n = ⊎_elim
     (cases_lt n low)
 
 -- where neither fault of the numbers is told, there are so many rows
-pub rows_are_few : (workers rows : ℕ) (W R : Type 0) → ((AreWorkers workers → ⊥) → W) → (AreWorkers workers × (AreRows rows → ⊥) → R) → (W → ⊥) → (R → ⊥) → rows ≤ 1024
+pub rows_are_few : (workers rows : ℕ) (W R : Type 0) → ((AreWorkers workers → ⊥) → W) → (AreWorkers workers × (AreRows rows → ⊥) → R) → (W → ⊥) → (R → ⊥) → rows ≤ 67107840
 rows_are_few workers rows W R first second no_first no_second = ⊎_elim
-    (λ are. ⊎_elim (λ h. h.1) (λ none. absurd (no_second (second (are, none)))) (within_or_not 1 1024 rows))
+    (λ are. ⊎_elim (λ h. omega (arith, h.1)) (λ none. absurd (no_second (second (are, none)))) (within_or_not 1 1024 rows))
     (λ none. absurd (no_first (first none)))
     (within_or_not 1 16 workers)

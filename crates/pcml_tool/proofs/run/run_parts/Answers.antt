@@ -7,11 +7,11 @@ use Rattle.pcml_tool.proofs.run.run_parts.Goals as goal
 pub record_text-requires-clause-lines : goal.record_text-requires-clause-lines
 record_text-requires-clause-lines g c =
     let told = c.in_ok-record.ensures in
-    let few : c.args.rows ≤ 1024 = rows_are_few c.args.workers c.args.rows _ _ told.workers.1 told.rows.1 (λ e. absurd cc) (λ e. absurd cc) in
+    let few : c.args.rows ≤ 67107840 = rows_are_few c.args.workers c.args.rows _ _ told.workers.1 told.rows.1 (λ e. absurd cc) (λ e. absurd cc) in
     run_has_lines (script_of c.args.script.now) c.args.script.now.spelled c.args.rows few c.in_ok-record.record.journal.items told.headline.journal.run
 
 pub returns-in-Ok-clause-ran : goal.returns-in-Ok-clause-ran
 returns-in-Ok-clause-ran g c =
     let told = c.in_ok-record.ensures in
-    let few : c.args.rows ≤ 1024 = rows_are_few c.args.workers c.args.rows _ _ told.workers.1 told.rows.1 (λ e. absurd cc) (λ e. absurd cc) in
+    let few : c.args.rows ≤ 67107840 = rows_are_few c.args.workers c.args.rows _ _ told.workers.1 told.rows.1 (λ e. absurd cc) (λ e. absurd cc) in
     tells_run (script_of c.args.script.now) c.args.rows c.in_ok-record.record _ _ c.args.script.now.spelled few told.headline told.completes c.in-Ok.ensures.tells
