@@ -1,5 +1,7 @@
 //! Journals of ledgers.
 
+ghost use Rattle.std.specs.Prelude.{◌≤◌};
+
 use super::{INDEPENDENT, ONE_SEND, check_same};
 use journal::{Record, complete, received_from};
 use journal_replay::{End, ReplayFault};
@@ -30,7 +32,7 @@ const SENDER: Row = Row { thread: 0, sync: 0 };
 
 const RECEIVER: Row = Row { thread: 1, sync: 0 };
 
-fn row(thread: u8, sync: u16) -> Row {
+fn row(thread: u8, sync: u32) -> Row {
     Row { thread, sync }
 }
 
@@ -122,7 +124,9 @@ fn one_rendezvous(alloc: Global) -> Result<Ledger, Fail> {
     rendezvous(alloc, true)
 }
 
-fn completed(alloc: Global, text: &str, rows: u16, ledger: &Ledger) -> Result<Record, Fail> {
+fn completed(alloc: Global, text: &str, rows: u32, ledger: &Ledger) -> Result<Record, Fail>
+    requires { rows ≤ 67107840 }
+{
     let script = parse(alloc, text.as_bytes())?;
     match complete(alloc, script.processes(), rows, ledger) {
         Ok(record) => Ok(record),

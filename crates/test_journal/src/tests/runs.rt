@@ -1,5 +1,7 @@
 //! Sequential runs: what follows what, and where a script ends.
 
+ghost use Rattle.std.specs.Prelude.{◌≤◌};
+
 use super::{ONE_SEND, SERVER, check_same};
 use journal_replay::{End, ReplayFault, State, replay, settle};
 use protocol_values::{Atom, Cause, Commit, Message, NackName, Row};
@@ -12,7 +14,7 @@ use std::test::Fail;
 const NESTED: &str =
     "channel w; channel v; channel u; channel c; process a { sync nack m { sync send w (m); } choose [nack n { sync send v (n); } recv c, always ()]; } process p { m <- sync recv w; sync cancelled m; } process q { n <- sync recv v; sync send u (n); sync cancelled n; } process r { n <- sync recv u; sync cancelled n; }";
 
-fn at(thread: u8, sync: u16, offer: u8) -> (Row, u8) {
+fn at(thread: u8, sync: u32, offer: u8) -> (Row, u8) {
     (Row { thread, sync }, offer)
 }
 
@@ -50,10 +52,12 @@ fn cancelled(stamp: u32, at: (Row, u8), thread: u8, k: u8) -> Commit {
 fn check_unlawful(
     rt: &(impl Abort + AllocGlobal),
     text: &str,
-    rows: u16,
+    rows: u32,
     commits: &[Commit],
     index: usize,
-) -> Result<(), Fail> {
+) -> Result<(), Fail>
+    requires { rows ≤ 67107840 }
+{
     let alloc = rt.alloc();
     let script = parse(alloc, text.as_bytes())?;
     match replay(alloc, script.processes(), rows, commits) {
@@ -105,7 +109,9 @@ fn what_no_thread_offers_is_unlawful(rt: HostRuntime) -> Result<(), Fail> {
 }
 
 /// Settles the text from the empty journal, and gives what was added.
-fn settled(alloc: Global, text: &str, rows: u16) -> Result<(State, Vec<Commit>), Fail> {
+fn settled(alloc: Global, text: &str, rows: u32) -> Result<(State, Vec<Commit>), Fail>
+    requires { rows ≤ 67107840 }
+{
     let script = parse(alloc, text.as_bytes())?;
     match replay(alloc, script.processes(), rows, &[]) {
         Ok(state) => {
@@ -136,6 +142,19 @@ fn settling_adds_what_is_enabled(rt: HostRuntime) -> Result<(), Fail> {
     let (spent, three) = settled(alloc, "process a { forever { sync always (); } }", 3)?;
     check_same(&rt, three.len(), 3);
     check_end(&rt, &spent, 0, End::Spent, &[])
+}
+
+#[test]
+fn a_sync_has_a_number_above_65535(rt: HostRuntime) -> Result<(), Fail> {
+    let alloc = rt.alloc();
+    let text = "process a { forever { sync always (); } }";
+    let (spent, added) = settled(alloc, text, 65538)?;
+    let last = always(65538, at(0, 65537, 0), Message::Empty);
+    check_same(&rt, added.len(), 65538);
+    check_same(&rt, added.last(), Some(&last));
+    check_end(&rt, &spent, 0, End::Spent, &[])?;
+    check_unlawful(&rt, text, 65537, added.as_slice(), 65537)?;
+    check_unlawful(&rt, text, 67107840, &[last], 0)
 }
 
 #[test]
