@@ -78,7 +78,12 @@ pub(crate) struct Replaying<'a> {
 impl Call for Replaying<'_> {
     fn attempt(&mut self, hoard: &mut Hoard, amount: usize) -> Result<Answer> {
         hoard.leave(amount)?;
-        let replayed = replay(self.alloc, self.script.processes(), ROWS, self.commits);
+        let replayed = replay(
+            self.alloc,
+            self.script.processes(),
+            u32::from(ROWS),
+            self.commits,
+        );
         hoard.release();
         match replayed {
             Ok(state) => Ok(judged(same_state(&state, &self.expected))),
@@ -99,7 +104,12 @@ pub(crate) struct Enabling<'a> {
 
 impl Call for Enabling<'_> {
     fn attempt(&mut self, hoard: &mut Hoard, amount: usize) -> Result<Answer> {
-        let Ok(state) = replay(self.alloc, self.script.processes(), ROWS, self.commits) else {
+        let Ok(state) = replay(
+            self.alloc,
+            self.script.processes(),
+            u32::from(ROWS),
+            self.commits,
+        ) else {
             return Ok(Answer::Other);
         };
         hoard.leave(amount)?;
@@ -123,7 +133,7 @@ pub(crate) struct Settling<'a> {
 
 impl Call for Settling<'_> {
     fn attempt(&mut self, hoard: &mut Hoard, amount: usize) -> Result<Answer> {
-        let Ok(state) = replay(self.alloc, self.script.processes(), ROWS, &[]) else {
+        let Ok(state) = replay(self.alloc, self.script.processes(), u32::from(ROWS), &[]) else {
             return Ok(Answer::Other);
         };
         hoard.leave(amount)?;
@@ -149,7 +159,12 @@ pub(crate) struct Completing<'a> {
 impl Call for Completing<'_> {
     fn attempt(&mut self, hoard: &mut Hoard, amount: usize) -> Result<Answer> {
         hoard.leave(amount)?;
-        let completed = complete(self.alloc, self.script.processes(), ROWS, &self.ledger);
+        let completed = complete(
+            self.alloc,
+            self.script.processes(),
+            u32::from(ROWS),
+            &self.ledger,
+        );
         hoard.release();
         match completed {
             Ok(record) => Ok(judged(same_record(&record, &self.expected))),

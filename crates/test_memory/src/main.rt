@@ -94,7 +94,7 @@ fn sweep_journal_texts<R: Print + Eprint + AllocGlobal>(
 
 /// Where the commits lead the script.
 fn replayed(alloc: Global, script: &Script, commits: &[Commit]) -> Result<State> {
-    match replay(alloc, script.processes(), ROWS, commits) {
+    match replay(alloc, script.processes(), u32::from(ROWS), commits) {
         Ok(state) => Ok(state),
         Err(_) => bail!("the commits are no run"),
     }
@@ -110,7 +110,7 @@ fn ledger_of<R: AllocGlobal + Threads + Wait + Sync>(rt: &R, script: &Script) ->
 
 /// What the ledger's commits come to.
 fn completed(alloc: Global, script: &Script, ledger: &Ledger) -> Result<Record> {
-    match complete(alloc, script.processes(), ROWS, ledger) {
+    match complete(alloc, script.processes(), u32::from(ROWS), ledger) {
         Ok(record) => Ok(record),
         Err(_) => bail!("the ledger's commits are no run"),
     }
