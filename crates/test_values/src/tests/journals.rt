@@ -9,7 +9,7 @@ use std::test::Fail;
 const NAMES: &str = "channel c; channel ch; process a { } process ab { } process b { }";
 
 const JOURNAL: &str =
-    "1 a.0.0 -> b.1023.7 c (42)\n1 ab.0.0 always ()\n4294967295 b.1.2 cancelled ab.63\n2 ab.1.0 -> a.1.1 ch (0, #ch, !a.0)\n";
+    "1 a.0.0 -> b.67107839.7 c (42)\n1 ab.0.0 always ()\n4294967295 b.1.2 cancelled ab.63\n2 ab.1.0 -> a.1.1 ch (0, #ch, !a.0)\n";
 
 fn names(alloc: Global) -> Result<Script, Fail> {
     let script = parse(alloc, NAMES.as_bytes())?;
@@ -23,7 +23,7 @@ const COMMITS: [Commit; 4] = [
         receiver: (
             Row {
                 thread: 2,
-                sync: 1023,
+                sync: 67107839,
             },
             7,
         ),
@@ -61,7 +61,7 @@ const LARGEST: [Commit; 3] = [
         receiver: (
             Row {
                 thread: 63,
-                sync: 1023,
+                sync: 67107839,
             },
             7,
         ),
@@ -77,7 +77,7 @@ const LARGEST: [Commit; 3] = [
         at: (
             Row {
                 thread: 63,
-                sync: 1023,
+                sync: 67107839,
             },
             7,
         ),
@@ -104,7 +104,7 @@ fn every_kind_of_line_is_read(rt: HostRuntime) -> Result<(), Fail> {
 fn what_is_written_is_the_text(rt: HostRuntime) -> Result<(), Fail> {
     let text = write_numbered(rt.alloc(), &LARGEST)?;
     let expected =
-        "1 0.0.0 -> 63.1023.7 255 (0, #255, !63.63)\n4294967295 63.1023.7 always ()\n2 0.0.0 cancelled 63.63\n";
+        "1 0.0.0 -> 63.67107839.7 255 (0, #255, !63.63)\n4294967295 63.67107839.7 always ()\n2 0.0.0 cancelled 63.63\n";
     assert!(rt; text.as_slice() == expected.as_bytes());
     Ok(())
 }
