@@ -105,13 +105,13 @@ fn at_home<M: Drop>(words: &[u64], shape: &Shape<M>, thread: u8, value: Option<M
 
 /// The thread's row that is opened and that nobody has taken, if it has one. The rows that were taken are its first
 /// ones, and those that are not opened its last ones, so it is found by halves.
-fn open_row<M>(words: &[u64], shape: &Shape<M>, thread: u8) -> Option<u16>
+fn open_row<M>(words: &[u64], shape: &Shape<M>, thread: u8) -> Option<u32>
     requires shape { (shape.now.threads ≤ 64) × (shape.now.rows ≤ 1024) × (length words.now ≡ shape.now.threads * thread_len shape.now.rows) }
     requires thread { thread < shape.now.threads }
     ensures { IfSome result (λ g. IsOpenAt shape.now words.now thread g) }
 {
     let mut from = 0;
-    let mut to = shape.rows as u16;
+    let mut to = shape.rows as u32;
     while from < to {
         let sync = from + (to - from) / 2;
         match cell_there(words, shape, Row { thread, sync }) {
@@ -131,7 +131,7 @@ fn cell_there<M>(words: &[u64], shape: &Shape<M>, row: Row) -> Cell
     ensures { result ≡ cell_at (words_of shape.now words.now) row }
 {
     let thread_len = shape.rows as usize * ROW_LEN + NACKS + LIVES;
-    let place = usize::from(row.thread) * thread_len + usize::from(row.sync) * ROW_LEN;
+    let place = usize::from(row.thread) * thread_len + row.sync as usize * ROW_LEN;
     match unpack_cell(words[place]) {
         Some(cell) => cell,
         None => Cell::Fresh,

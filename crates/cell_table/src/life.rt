@@ -106,7 +106,7 @@ impl<M: Resident> Board<M> {
         self.words.shared.store::<Finish>(
             seat,
             self.life_place(row.thread),
-            pack_course(Course::Ended(start, row.sync)),
+            pack_course(Course::Ended(start, row.sync as u16)),
         );
     }
 }

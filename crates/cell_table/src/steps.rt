@@ -65,7 +65,7 @@ impl<M: Resident> Board<M> {
         ensures { (result ≡ place_of self.now.shape.rows row place) × (result < self.now.words.shared.table_id.words) }
     {
         usize::from(row.thread) * self.thread_len()
-            + usize::from(row.sync) * ROW_LEN
+            + row.sync as usize * ROW_LEN
             + usize::from(place)
     }
 
