@@ -2,14 +2,14 @@
 
 ghost use Rattle.std.specs.Prelude.{OnOk};
 ghost use Rattle.std.specs.Option.{option_map};
-ghost use Rattle.script_tree.specs.Trees.{names_of as numbers_of, event_of, events_of, stmt_of, block_of, turn_of};
+ghost use Rattle.script_tree.specs.Trees.{names_of as numbers_of, exprs_of, event_of, events_of, stmt_of, block_of, turn_of, Chooses, Wraps};
 ghost use Rattle.script_writer.specs.Texts.{event_text, events_text, stmt_text, stmts_text, block_text, sync_text, turn_text};
 ghost use Rattle.script_writer.specs.Sources.{source_names};
 ghost use Rattle.script.specs.Appending.{Adds};
 
 use crate::exprs::{put_expr, put_list, put_test};
 use crate::names::{Source, put_as, put_name, put_process_name, put_received, put_variable};
-use script_tree::{Block, Event, Events, LoopBody, Names, Stmt};
+use script_tree::{Block, Event, Events, Exprs, LoopBody, Names, Stmt};
 use std::alloc::AllocError;
 
 #[cycle(tree)]
@@ -39,18 +39,8 @@ fn put_event(out: &mut String, source: &Source<'_>, event: &Event) -> Result<(),
             out.push_str("joined ")?;
             put_process_name(out, source, usize::from(*process))
         }
-        Event::Choose(members) => {
-            out.push_str("choose [ ")?;
-            put_events(out, source, members)?;
-            out.push_str("] ")
-        }
-        Event::Wrap(inner, names, list) => {
-            out.push_str("wrap ")?;
-            put_event(out, source, inner)?;
-            put_as(out, source, *names)?;
-            out.push_str("to ")?;
-            put_list(out, source, list)
-        }
+        Event::Choose(members) => put_choice(out, source, members),
+        Event::Wrap(inner, names, list) => put_wrap(out, source, inner, *names, list),
         Event::Guard(body, inner) => {
             out.push_str("guard ")?;
             put_block(out, source, body)?;
@@ -63,6 +53,34 @@ fn put_event(out: &mut String, source: &Source<'_>, event: &Event) -> Result<(),
             put_event(out, source, inner)
         }
     }
+}
+
+/// An event, wrapped to give this list.
+#[cycle(tree)]
+fn put_wrap(
+    out: &mut String,
+    source: &Source<'_>,
+    inner: &Event,
+    names: Option<Names>,
+    list: &Exprs,
+) -> Result<(), AllocError>
+    ensures { OnOk result (Adds out.old out.new (event_text (source_names source.now) (Wraps (event_of inner.now) (option_map numbers_of names) (exprs_of list.now)))) }
+{
+    out.push_str("wrap ")?;
+    put_event(out, source, inner)?;
+    put_as(out, source, names)?;
+    out.push_str("to ")?;
+    put_list(out, source, list)
+}
+
+/// A choice of these members.
+#[cycle(tree)]
+fn put_choice(out: &mut String, source: &Source<'_>, members: &Events) -> Result<(), AllocError>
+    ensures { OnOk result (Adds out.old out.new (event_text (source_names source.now) (Chooses (events_of members.now)))) }
+{
+    out.push_str("choose [ ")?;
+    put_events(out, source, members)?;
+    out.push_str("] ")
 }
 
 /// The members of a choice.
