@@ -519,7 +519,7 @@ impl<M: Resident> Cells<M> {
         let bound = nacks::binding_of(&self.board, &mut pass.seat, nack)?;
         let row = Row {
             thread: nack.thread,
-            sync: bound.sync,
+            sync: bound.sync as u32,
         };
         Some((row, bound.scope))
     }

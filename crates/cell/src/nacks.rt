@@ -66,7 +66,7 @@ pub(crate) fn bind<M: Resident>(
         k,
     };
     let bound = Binding {
-        sync: row.sync,
+        sync: row.sync as u16,
         scope,
     };
     match board.bind_nack(seat, nack, bound) {
@@ -117,7 +117,7 @@ fn enabled_by<M: Resident>(
     let bound = binding_of(board, seat, nack)?;
     let row = Row {
         thread: nack.thread,
-        sync: bound.sync,
+        sync: bound.sync as u32,
     };
     let joined = committed(board, seat, row)?;
     let chosen = opened_offer(board, seat, row, joined.own)?;

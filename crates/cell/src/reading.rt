@@ -239,6 +239,7 @@ pub(crate) fn end_stamp<M: Resident>(
     let Course::Ended(start, sync) = board.look_life(seat, thread) else {
         return None;
     };
+    let sync = sync as u32;
     Some(last_at(board, seat, Row { thread, sync }, start))
 }
 

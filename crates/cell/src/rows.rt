@@ -46,7 +46,7 @@ impl RowSet {
     pub(crate) fn contains(&self, row: Row) -> bool
         ensures { (held : List Row) → AreFlags self.now.threads self.now.rows self.now.flags.items held → IsTrue result ↔ Has held row }
     {
-        if row.thread >= self.threads || row.sync >= self.rows {
+        if row.thread >= self.threads || row.sync >= u32::from(self.rows) {
             return false;
         }
         let at = self.number(row);
@@ -58,6 +58,6 @@ impl RowSet {
         requires { (row.thread < self.now.threads) × (row.sync < self.now.rows) }
         ensures { (result ≡ number_of self.now.rows row) × (result < self.now.threads * self.now.rows) }
     {
-        usize::from(row.thread) * usize::from(self.rows) + usize::from(row.sync)
+        usize::from(row.thread) * usize::from(self.rows) + row.sync as usize
     }
 }
