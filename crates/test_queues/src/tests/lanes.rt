@@ -13,13 +13,13 @@ use std::sync::Wait;
 pub(super) fn row(number: u16) -> Row {
     Row {
         thread: (number % 64) as u8,
-        sync: number / 64,
+        sync: u32::from(number / 64),
     }
 }
 
 /// The number of this row.
 pub(super) fn number(row: Row) -> usize {
-    usize::from(row.thread) + 64 * usize::from(row.sync)
+    usize::from(row.thread) + 64 * row.sync as usize
 }
 
 /// Takes the last pass.
