@@ -1,72 +1,29 @@
--- Machines at rest, and what a run leaves of all machines.
+-- What a run leaves of all machines.
 use Rattle.std.proofs.Common.{All, ◌≡◌, ◌≤◌, ◌⊎◌, ℕ, zero, suc, ◌<◌, List, [], ◌∷◌, ◌++◌, Contains, length, map, set, take, Option, Some, None, slice_get, refl, sym, ap, ◌∙◌, subst, inl, inr, arith, ⊎_elim}
 use Rattle.std.proofs.lemmas.Bool.{cases_eq}
 use Rattle.std.proofs.lemmas.List.{length-map, length-set, map-append}
-use Rattle.std.proofs.lemmas.List.Elements.{All-append, Contains-append_cases, Contains-append_left, Contains-append_right}
+use Rattle.std.proofs.lemmas.List.Elements.{Contains-append_cases, Contains-append_left, Contains-append_right}
 use Rattle.std.proofs.lemmas.Option.{get_or_from_slice_get, none-some, same_Some, slice_get-map}
 use Rattle.std.specs.Option.{option_map}
 use Rattle.script_tree.specs.Processes.{Proc}
 use Rattle.thread.specs.After.{Chosen}
-use Rattle.thread.specs.Machines.{Broken, HasStopped, Open, Over, Phase, Ready, Stuck, Tells, Thread}
-use Rattle.thread.specs.declared.machine.Turn.{Turn}
+use Rattle.thread.specs.Machines.{HasStopped, Thread}
 use Rattle.thread.specs.declared.machine.Turn.TheVariants as turn
-use Rattle.protocol_values.specs.declared.Row.{Row}
 use Rattle.protocol.specs.Ledgers.{Ledger}
 use Rattle.protocol.specs.Standing.{AreResults}
 use Rattle.cell_table.specs.Closings.{HandedOut, HandsOut}
 use Rattle.cell_table.specs.Sight.{Has}
 use Rattle.cell.specs.Calls.{GridOf, IsPassOf, PassOf}
 use Rattle.journal.specs.Concluding.{AreStanding, StandsIn}
-use Rattle.runtime.specs.declared.resident.Rest.{Rest}
-use Rattle.runtime.specs.declared.resident.Suspended.{Suspended}
-use Rattle.runtime.specs.declared.worker.Left.{Left}
-use Rattle.runtime.specs.Workers.{AreParted, IsLeftOf}
-use Rattle.runtime.specs.Machines.{AreAtRest, AreFirst, AreLeft, AreOut, ComesFrom, IsAtRest, IsMachineOf, IsNow, doings, machine_in, spawned_by}
-use Rattle.runtime.proofs.Ledgers.{first_process, spawned_fewer}
-use Rattle.cell.proofs.Lists.{all_at, all_is, all_one}
-
--- a turn tells of a machine that has stopped
-pub tells_stopped : (t : Turn) (p : Phase) → Tells t p → HasStopped p
-tells_stopped t Ready h = absurd (ready t h)
-  where
-    ready : (t : Turn) → Tells t Ready → ⊥
-    ready turn.Offering h = h
-    ready turn.Ended h = h
-    ready (turn.Faulted fault) h = h
-tells_stopped t (Open os ns) h = tt
-tells_stopped t Over h = tt
-tells_stopped t (Stuck fault) h = tt
-tells_stopped t Broken h = absurd (broken t h)
-  where
-    broken : (t : Turn) → Tells t Broken → ⊥
-    broken turn.Offering h = h
-    broken turn.Ended h = h
-    broken (turn.Faulted fault) h = h
-
--- the machine that a worker has comes to rest
-pub rest_now : (first : List Suspended) (p : PassOf Suspended) (place : Row) (m : Suspended) (told : List (ℕ × List Chosen)) → IsNow first p place m → HasStopped m.machine.value.phase → told ≡ p.results →
-    IsAtRest first told (record { thread = place.thread; suspended = m })
-rest_now first p place m told now stopped same =
-    let given = now.machine.given in
-    record {
-      machine = subst (IsMachineOf first m place.thread) (sym given) now.machine;
-      stopped = stopped;
-      seen = subst (λ (z : List Chosen × List (ℕ × List Chosen)). (z.0 ≡ []) ⊎ Has z.1 (place.thread, z.0)) (λ i. (sym given i, sym same i)) now.seen;
-    }
-
-rest_told : (first : List Suspended) (old new : List (ℕ × List Chosen)) (r : Rest) → ((t : ℕ) (results : List Chosen) → Has old (t, results) → Has new (t, results)) → IsAtRest first old r → IsAtRest first new r
-rest_told first old new r more h = record { machine = h.machine; stopped = h.stopped; seen = ⊎_elim (λ e. inl e) (λ has. inr (more r.thread r.suspended.machine.value.results has)) h.seen }
-
--- whoever has more results has those of the machines at rest
-pub rests_told : (first : List Suspended) (old new : List (ℕ × List Chosen)) (rests : List Rest) → ((t : ℕ) (results : List Chosen) → Has old (t, results) → Has new (t, results)) → AreAtRest first old rests → AreAtRest first new rests
-rests_told first old new rests more all = λ k d lt. rest_told first old new _ more (all k d lt)
-
-pub rests_same : (first : List Suspended) (old new : List (ℕ × List Chosen)) (rests : List Rest) → new ≡ old → AreAtRest first old rests → AreAtRest first new rests
-rests_same first old new rests same all = subst (λ (l : List (ℕ × List Chosen)). AreAtRest first l rests) (sym same) all
-
--- one more is at rest
-pub rests_more : (first : List Suspended) (told : List (ℕ × List Chosen)) (rests : List Rest) (r : Rest) → AreAtRest first told rests → IsAtRest first told r → AreAtRest first told (rests ++ r ∷ [])
-rests_more first told rests r all one = All-append (IsAtRest first told) rests (r ∷ []) all (all_one (IsAtRest first told) r one)
+use Rattle.runtime_worker.specs.declared.resident.Rest.{Rest}
+use Rattle.runtime_worker.specs.declared.resident.Suspended.{Suspended}
+use Rattle.runtime_worker.specs.declared.worker.Left.{Left}
+use Rattle.runtime_worker.specs.Workers.{IsLeftOf}
+use Rattle.runtime.specs.Workers.{AreParted}
+use Rattle.runtime_worker.specs.Machines.{AreFirst, IsAtRest, IsMachineOf, doings, spawned_by}
+use Rattle.runtime.specs.Machines.{AreLeft, AreOut, ComesFrom, machine_in}
+use Rattle.runtime_worker.proofs.Processes.{first_process, spawned_fewer}
+use Rattle.cell.proofs.Lists.{all_at, all_is}
 
 contains_map : {A B : Type 0} (f : A → B) (xs : List A) (x : A) → Contains xs x → Contains (map f xs) (f x)
 contains_map f [] x h = absurd (omega (arith, h.1))

@@ -1,9 +1,6 @@
 //! Why a run gave no answer.
 
-ghost use Rattle.std.specs.Prelude.{◌≡◌};
-ghost use Rattle.runtime.specs.declared.fault.Halt.TheVariants.{Memory};
-
-use std::alloc::{AllocError, AllocFailed};
+use runtime_worker::Halt;
 use thiserror::Error;
 
 /// Why `run` or `work` gave no answer. After a fault nothing of the run is kept, and no worker runs on.
@@ -20,29 +17,6 @@ pub enum RunFault {
     /// A worker could not be started.
     #[error("a worker could not be started")]
     NoWorker,
-}
-
-/// Why the workers stopped before their end.
-#[derive(Clone, Copy, Debug, Drop)]
-pub(crate) enum Halt {
-    Memory,
-    NoWorker,
-}
-
-impl From<AllocError> for Halt {
-    ghost from_gives = { λ _ halt. halt ≡ Memory };
-
-    fn from(_error: AllocError) -> Halt {
-        Halt::Memory
-    }
-}
-
-impl<T: Drop> From<AllocFailed<T>> for Halt {
-    ghost from_gives = { λ _ halt. halt ≡ Memory };
-
-    fn from(_error: AllocFailed<T>) -> Halt {
-        Halt::Memory
-    }
 }
 
 /// Of two reasons the one that is told: want of memory before a worker that could not be started.

@@ -3,7 +3,7 @@
 ghost use Rattle.std.specs.Prelude.{◌≡◌, IfOk, length};
 ghost use Rattle.runtime.specs.Machines.{AreLeft, AreOut, machine_in};
 
-use crate::resident::{Rest, Suspended};
+use runtime_worker::{Rest, Suspended};
 use std::alloc::{AllocError, Global};
 use thread::Machine;
 

@@ -9,23 +9,21 @@ ghost use Rattle.journal.specs.Concluding.{AreStanding};
 ghost use Rattle.journal.specs.Records.{Completes};
 ghost use Rattle.runtime.specs.Headline.{TellsMaximalRun};
 ghost use Rattle.runtime.specs.Limits.{AreRows, AreWorkers};
-ghost use Rattle.runtime.specs.Machines.{AreFirst, MarksSpawned};
+ghost use Rattle.runtime_worker.specs.Machines.{AreFirst};
+ghost use Rattle.runtime.specs.Machines.{MarksSpawned};
 ghost use Rattle.runtime.specs.declared.fault.RunFault.TheVariants.{Workers, Rows};
 
-use crate::activity::Activity;
 use crate::bound::rows_used;
-use crate::crew::{Crew, Shared};
-use crate::fault::{Halt, RunFault};
-use crate::gate::{Gate, TurnsOnly};
+use crate::fault::RunFault;
+use crate::gate::TurnsOnly;
 use crate::leaving::machines_of;
-use crate::notes::Notes;
-use crate::resident::Suspended;
 use crate::workers::{all_work, parted, workers_of};
 use cell::{Cells, StepGate};
 use journal::{Record, conclude};
 use meet::Meet;
 use meet_queues::Ready;
 use protocol::{Ledger, World};
+use runtime_worker::{Activity, Crew, Gate, Halt, Notes, Shared, Suspended};
 use script::Script;
 use script_tree::{Proc, spawned};
 use std::alloc::{AllocError, Global};
@@ -215,6 +213,7 @@ pub fn run_gated<R: Threads + Wait + Sync, G: Gate + StepGate + Sync>(
     ensures rows { (result ≡ Err Rows) ↔ (AreWorkers workers × (¬ AreRows rows)) }
 {
     let (ledger, machines) = work_with_machines(rt, alloc, script, workers, rows, gate)?;
+    let rows = rows as u32;
     match conclude(alloc, script.processes(), rows, &ledger, machines) {
         Ok(record) => Ok(record),
         Err(AllocError) => Err(RunFault::Memory),

@@ -3,17 +3,15 @@
 ghost use Rattle.std.specs.Prelude.{◌≡◌, [], All, IfNone, IfOk, IfSome};
 ghost use Rattle.meet.specs.Rooms.{IsMeetPassOf};
 ghost use Rattle.meet_queues.specs.Ends.{IsEndOf};
-ghost use Rattle.runtime.specs.Workers.{AreParted, IsLeftOf, IsNewPassOf, IsNewWorkerOf};
+ghost use Rattle.runtime_worker.specs.Workers.{IsLeftOf, IsNewPassOf, IsNewWorkerOf};
+ghost use Rattle.runtime.specs.Workers.{AreParted};
 
-use crate::crew::Crew;
-use crate::fault::{Halt, told_first};
-use crate::gate::Gate;
-use crate::resident::{Rest, Suspended};
-use crate::worker::{Left, Worked, Worker};
+use crate::fault::told_first;
 use cell::{Cells, Pass, StepGate};
 use core::thread::Stack;
 use meet::MeetPass;
 use meet_queues::ReadyEnd;
+use runtime_worker::{Crew, Gate, Halt, Left, Rest, Suspended, Worked, Worker};
 use std::alloc::{AllocError, Global};
 use std::snapshot::Snapshot;
 use std::sync::Wait;

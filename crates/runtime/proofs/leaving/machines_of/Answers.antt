@@ -1,6 +1,6 @@
 use Rattle.std.proofs.Common.{◌≡◌, ◌<◌, ◌∷◌, [], ◌++◌, ◌∙◌, ℕ, List, Some, append_assoc, ap, arith, length, set, subst, sym}
 use Rattle.thread.specs.Machines.{Thread}
-use Rattle.runtime.specs.declared.resident.Rest.{Rest}
+use Rattle.runtime_worker.specs.declared.resident.Rest.{Rest}
 use Rattle.runtime.specs.Machines.{AreLeft}
 use Rattle.runtime.proofs.Resting.{left_home, left_more, left_put}
 use Rattle.runtime.proofs.leaving.machines_of.Goals as goal

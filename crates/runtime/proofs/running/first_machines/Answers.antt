@@ -3,8 +3,8 @@ use Rattle.std.specs.Option.{option_map}
 use Rattle.std.proofs.lemmas.Option.{slice_get-get_or, slice_get-map}
 use Rattle.script_tree.specs.Processes.{Proc, proc_of}
 use Rattle.thread.specs.Machines.{StartsAs, Thread}
-use Rattle.runtime.specs.declared.resident.Suspended.{Suspended}
-use Rattle.runtime.proofs.Machines.{first_more}
+use Rattle.runtime_worker.specs.declared.resident.Suspended.{Suspended}
+use Rattle.runtime_worker.proofs.Machines.{first_more}
 use Rattle.runtime.proofs.running.first_machines.Goals as goal
 
 pub loop-thread-preserved : goal.loop-thread-preserved

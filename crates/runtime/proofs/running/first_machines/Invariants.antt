@@ -1,7 +1,7 @@
 use Rattle.std.proofs.Common.{◌≡◌, ℕ, map, length, slice_get, Some}
 use Rattle.script_tree.specs.Processes.{Proc, proc_of}
 use Rattle.thread.specs.Machines.{StartsAs}
-use Rattle.runtime.specs.declared.resident.Suspended.{Suspended}
+use Rattle.runtime_worker.specs.declared.resident.Suspended.{Suspended}
 use Rattle.runtime.proofs.running.first_machines.Given as goal
 
 -- the machines so far are those of the first processes

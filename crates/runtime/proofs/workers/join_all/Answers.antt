@@ -2,11 +2,11 @@ use Rattle.std.proofs.Common.{◌≡◌, subst}
 use Rattle.std.specs.Prelude.{is_ok}
 use Rattle.std.specs.Vec.Iter.{into_iter_items}
 use Rattle.std.specs.declared.thread.PromisedHandle.{PromisedHandle}
-use Rattle.runtime.specs.declared.resident.Suspended.{Suspended}
+use Rattle.runtime_worker.specs.declared.resident.Suspended.{Suspended}
 use Rattle.cell.specs.Calls.{GridOf}
-use Rattle.runtime.specs.Workers.{IsLeftOf}
-use Rattle.runtime.specs.declared.worker.Left.{Left}
-use Rattle.runtime.specs.declared.worker.Worked.{Worked}
+use Rattle.runtime_worker.specs.Workers.{IsLeftOf}
+use Rattle.runtime_worker.specs.declared.worker.Left.{Left}
+use Rattle.runtime_worker.specs.declared.worker.Worked.{Worked}
 use Rattle.runtime.specs.declared.workers.GivesBack.{GivesBack}
 use Rattle.cell.proofs.Lists.{all_is, all_head, all_rest, all_pushed}
 use Rattle.runtime.proofs.workers.join_all.Goals as goal

@@ -1,8 +1,8 @@
 use Rattle.std.proofs.Common.{◌≡◌, ◌∷◌, [], ◌++◌, ◌∙◌, List, append-nil, append_assoc, ap, arith, length, subst, sym}
 use Rattle.cell.specs.Calls.{PassOf}
-use Rattle.runtime.specs.declared.resident.Rest.{Rest}
-use Rattle.runtime.specs.declared.resident.Suspended.{Suspended}
-use Rattle.runtime.specs.declared.worker.Left.{Left}
+use Rattle.runtime_worker.specs.declared.resident.Rest.{Rest}
+use Rattle.runtime_worker.specs.declared.resident.Suspended.{Suspended}
+use Rattle.runtime_worker.specs.declared.worker.Left.{Left}
 use Rattle.runtime.specs.Workers.{AreParted}
 use Rattle.runtime.proofs.Resting.{nothing_left, parted_more, parted_none}
 use Rattle.runtime.proofs.workers.parted.Goals as goal

@@ -3,7 +3,7 @@ use denote.Param.{param}
 use denote.Param.Send.{IsSend, IsSync, sendable, param_send}
 use Rattle.runtime.proofs.workers.start.Given.{Over}
 use Rattle.runtime.proofs.workers.start.Lts as lts
-use Rattle.runtime.proofs.Crossing.{shared_sync, table_sync, worked_send, worker_send}
+use Rattle.runtime_worker.proofs.Crossing.{shared_sync, table_sync, worked_send, worker_send}
 use Rattle.runtime.proofs.workers.start.Goals as goal
 
 -- the closure of a worker may be sent

@@ -2,9 +2,9 @@ use Rattle.std.proofs.Common.{◌≡◌, [], sym}
 use Rattle.std.specs.Prelude.{is_ok}
 use Rattle.std.specs.Vec.Iter.{into_iter_items}
 use Rattle.std.specs.declared.thread.PromisedHandle.{PromisedHandle}
-use Rattle.runtime.specs.Workers.{IsNewWorkerOf}
-use Rattle.runtime.specs.declared.worker.Worker.{Worker}
-use Rattle.runtime.specs.declared.worker.Worked.{Worked}
+use Rattle.runtime_worker.specs.Workers.{IsNewWorkerOf}
+use Rattle.runtime_worker.specs.declared.worker.Worker.{Worker}
+use Rattle.runtime_worker.specs.declared.worker.Worked.{Worked}
 use Rattle.runtime.specs.declared.workers.GivesBack.{GivesBack}
 use Rattle.cell.proofs.Lists.{all_is, all_none, all_rest, all_pushed}
 use Rattle.runtime.proofs.workers.start_all.Goals as goal

@@ -1,7 +1,7 @@
 use Rattle.std.proofs.Common.{◌≡◌}
 use Rattle.std.specs.Prelude.{All}
 use Rattle.std.specs.Vec.Iter.{into_iter_items}
-use Rattle.runtime.specs.Workers.{IsNewWorkerOf}
+use Rattle.runtime_worker.specs.Workers.{IsNewWorkerOf}
 use Rattle.runtime.proofs.workers.start_all.Given as goal
 
 abbrev pub invariant-loop-worker : goal.invariant-loop-worker

@@ -1,8 +1,8 @@
 use Rattle.std.proofs.Common.{[], Some, sym, true}
 use Rattle.std.proofs.lemmas.List.Elements.{All-pop}
-use Rattle.runtime.specs.Workers.{IsLeftOf, IsNewWorkerOf}
-use Rattle.runtime.specs.declared.worker.Left.{Left}
-use Rattle.runtime.specs.declared.worker.Worker.{Worker}
+use Rattle.runtime_worker.specs.Workers.{IsLeftOf, IsNewWorkerOf}
+use Rattle.runtime_worker.specs.declared.worker.Left.{Left}
+use Rattle.runtime_worker.specs.declared.worker.Worker.{Worker}
 use Rattle.cell.proofs.Lists.{all_is, all_none, all_pushed}
 use Rattle.runtime.proofs.workers.work_alone.Goals as goal
 

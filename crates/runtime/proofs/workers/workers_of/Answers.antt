@@ -4,9 +4,9 @@ use Rattle.std.specs.Vec.Iter.{into_iter_items}
 use Rattle.cell.specs.Calls.{PassOf}
 use Rattle.meet.specs.Rooms.{IsMeetPassOf}
 use Rattle.meet_queues.specs.Ends.{IsEndOf}
-use Rattle.runtime.specs.Workers.{IsNewPassOf, IsNewWorkerOf}
-use Rattle.runtime.specs.declared.resident.Suspended.{Suspended}
-use Rattle.runtime.specs.declared.worker.Worker.{Worker}
+use Rattle.runtime_worker.specs.Workers.{IsNewPassOf, IsNewWorkerOf}
+use Rattle.runtime_worker.specs.declared.resident.Suspended.{Suspended}
+use Rattle.runtime_worker.specs.declared.worker.Worker.{Worker}
 use Rattle.cell.proofs.Lists.{all_is, all_head, all_none, all_rest, all_pushed}
 use Rattle.runtime.proofs.workers.workers_of.Goals as goal
 

@@ -2,7 +2,7 @@ use Rattle.std.specs.Prelude.{All}
 use Rattle.std.specs.Vec.Iter.{into_iter_items}
 use Rattle.meet.specs.Rooms.{IsMeetPassOf}
 use Rattle.meet_queues.specs.Ends.{IsEndOf}
-use Rattle.runtime.specs.Workers.{IsNewPassOf, IsNewWorkerOf}
+use Rattle.runtime_worker.specs.Workers.{IsNewPassOf, IsNewWorkerOf}
 use Rattle.runtime.proofs.workers.workers_of.Given as goal
 
 -- so are what is left, and the workers that were made

@@ -1,8 +1,0 @@
-use Rattle.runtime.specs.Workers.{IsWorkerOf}
-use Rattle.runtime.proofs.crew.Crew.follow_begun.Given as goal
-
-abbrev pub invariant-loop-first : goal.invariant-loop-first
-invariant-loop-first g l = IsWorkerOf l.self l.worker
-
-abbrev pub invariant-loop-first-2 : goal.invariant-loop-first-2
-invariant-loop-first-2 g l = IsWorkerOf l.self l.worker

@@ -1,5 +1,0 @@
-use Rattle.runtime.specs.Workers.{IsWorkerOf}
-use Rattle.runtime.proofs.crew.Crew.follow_woken.Given as goal
-
-abbrev pub invariant-loop-row : goal.invariant-loop-row
-invariant-loop-row g l = IsWorkerOf l.self l.worker

@@ -1,0 +1,10 @@
+pub mod Beginnings
+pub mod Crossing
+pub mod Machines
+pub mod Processes
+pub mod Ranging
+pub mod Resting
+pub mod Rising
+pub mod Spawns
+pub mod Startings
+pub mod Turning

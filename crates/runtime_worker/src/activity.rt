@@ -1,0 +1,64 @@
+//! When the workers are done.
+
+use crossbeam_utils::Backoff;
+use std::sync::atomic::{AtomicBool, AtomicUsize, Ordering};
+
+/// How many workers are active, and whether all are to stop. It is touched only where a worker becomes idle or
+/// busy, and not with every turn.
+///
+/// When the last active worker becomes idle, no row will come. A worker becomes idle only after it found no
+/// row, so its own deque was empty then, and since only it puts rows there, it is empty still. Whoever put a
+/// row into the injector last found the injector empty afterwards. And a turn is under way, or a row is kept
+/// for the next turn, only in a worker that is active: so no turn will put a row in. A thread that is started has
+/// its first turn within that of the thread that starts it, so of its first row, too, no other worker hears but by
+/// the lanes and the queues.
+#[derive(Drop)]
+pub struct Activity {
+    active: AtomicUsize,
+    stopped: AtomicBool,
+}
+
+impl Activity {
+    /// So many workers, all active.
+    pub fn new(workers: usize) -> Activity {
+        Activity {
+            active: AtomicUsize::new(workers),
+            stopped: AtomicBool::new(false),
+        }
+    }
+
+    /// An active worker becomes idle. The answer is whether all are to stop, as they are from when the last
+    /// one becomes idle.
+    pub(crate) fn rest(&self) -> bool {
+        if self.active.fetch_sub(1, Ordering::SeqCst) <= 1 {
+            self.stop();
+        }
+        self.is_stopped()
+    }
+
+    /// An idle worker snoozes so many times, unless all are to stop meanwhile. The answer is whether they are.
+    pub(crate) fn snooze(&self, backoff: &Backoff, times: u32) -> bool {
+        for _ in 0..times {
+            if self.is_stopped() {
+                return true;
+            }
+            backoff.snooze();
+        }
+        self.is_stopped()
+    }
+
+    /// An idle worker becomes active, before it looks for a row.
+    pub(crate) fn wake(&self) {
+        self.active.fetch_add(1, Ordering::SeqCst);
+    }
+
+    /// All workers are to stop.
+    pub fn stop(&self) {
+        self.stopped.store(true, Ordering::SeqCst);
+    }
+
+    /// Whether all workers are to stop.
+    pub(crate) fn is_stopped(&self) -> bool {
+        self.stopped.load(Ordering::SeqCst)
+    }
+}

@@ -1,0 +1,141 @@
+//! One worker: the first turns of its threads, and then turn after turn of whichever thread is ready.
+
+ghost use Rattle.meet_queues.specs.Ends.{IsEndOf};
+ghost use Rattle.runtime_worker.specs.Workers.{IsLeftOf, IsNewWorkerOf, IsWorkerOf};
+
+use crate::crew::Crew;
+use crate::gate::Gate;
+use crate::halt::Halt;
+use crate::resident::{Rest, Suspended};
+use crate::turns::Committed;
+use cell::{Pass, StepGate};
+use crossbeam_utils::Backoff;
+use meet::MeetPass;
+use meet_queues::ReadyEnd;
+use protocol_values::Row;
+use std::sync::Wait;
+
+/// How many snoozes at most lie between two looks of an idle worker. The more there are, the less it disturbs
+/// those that work.
+const MOST_SNOOZES: u32 = 64;
+
+/// What a worker has for itself: its pass of the cells, the machines at rest, its passes of the lanes, its end of the
+/// ready queues, and its number.
+#[derive(Drop)]
+pub struct Worker {
+    pub pass: Pass<Suspended>,
+    pub rests: Vec<Rest>,
+    pub lanes: MeetPass,
+    pub end: ReadyEnd,
+    pub number: u8,
+}
+
+/// What a worker leaves: its pass, and the machines at rest.
+#[derive(Drop)]
+pub struct Left {
+    pub pass: Pass<Suspended>,
+    pub rests: Vec<Rest>,
+}
+
+/// What a worker gives back: what it leaves, and whether it came to the end.
+#[derive(Drop)]
+pub struct Worked {
+    pub left: Left,
+    pub done: Result<(), Halt>,
+}
+
+impl<R: Wait, G: Gate + StepGate> Crew<'_, R, G> {
+    /// All turns of one worker. Where it halts, all workers stop.
+    pub fn work_on(&self, worker: Worker) -> Worked
+        requires { IsNewWorkerOf self.now.cells.now self.now.shared.now worker }
+        ensures { IsLeftOf self.now.cells.now result.left }
+    {
+        let mut worker = worker;
+        let done = self.all_turns(&mut worker);
+        if done.is_err() {
+            self.shared.activity.stop();
+        }
+        let Worker { pass, rests, .. } = worker;
+        Worked {
+            left: Left { pass, rests },
+            done,
+        }
+    }
+
+    /// The first turns of the worker's threads, and then whatever is ready.
+    fn all_turns(&self, worker: &mut Worker) -> Result<(), Halt>
+        requires { IsNewWorkerOf self.now.cells.now self.now.shared.now worker.old }
+        ensures { IsWorkerOf self.now worker.new }
+    {
+        self.begin_all(worker)?;
+        let mut kept = None;
+        // Who has often found nothing looks seldom, also after a row was found.
+        let mut snoozes = 1;
+        for _ in self.rt.forever() {
+            let Some(row) = self.next_row(&mut worker.end, kept, &mut snoozes) else {
+                return Ok(());
+            };
+            let committed = self.advance(worker, row)?;
+            kept = self.keep_one(&mut worker.end, committed)?;
+        }
+        unreachable!()
+    }
+
+    /// The row of the next turn: the one that was kept, or else one that is ready. There is none where all workers
+    /// are to stop.
+    fn next_row(&self, end: &mut ReadyEnd, kept: Option<Row>, snoozes: &mut u32) -> Option<Row>
+        requires { IsEndOf self.now.shared.now.ready end.old }
+        ensures { IsEndOf self.now.shared.now.ready end.new }
+    {
+        if self.shared.activity.is_stopped() {
+            return None;
+        }
+        if let Some(row) = kept {
+            return Some(row);
+        }
+        if let Some(row) = self.shared.ready.get(self.rt, end) {
+            return Some(row);
+        }
+        self.wait_for_row(end, snoozes)
+    }
+
+    /// Waits for a row that is ready, where none was found: the worker is idle but for its looks, between which lie
+    /// so many snoozes, and more with each look that finds nothing. There is none where all workers are to stop.
+    fn wait_for_row(&self, end: &mut ReadyEnd, snoozes: &mut u32) -> Option<Row>
+        requires { IsEndOf self.now.shared.now.ready end.old }
+        ensures { IsEndOf self.now.shared.now.ready end.new }
+    {
+        let backoff = Backoff::new();
+        for _ in self.rt.forever() {
+            if self.shared.activity.rest() || self.shared.activity.snooze(&backoff, *snoozes) {
+                return None;
+            }
+            self.shared.activity.wake();
+            if let Some(row) = self.shared.ready.get(self.rt, end) {
+                return Some(row);
+            }
+            *snoozes = snoozes.saturating_mul(2).min(MOST_SNOOZES);
+        }
+        unreachable!()
+    }
+
+    /// Of the rows that a turn committed one is kept for the next turn, where no row waits in the worker's own
+    /// deque: so none is overtaken, and the order is that of a queue. The others are put into the ready queues.
+    fn keep_one(&self, end: &mut ReadyEnd, committed: Committed) -> Result<Option<Row>, Halt>
+        requires { IsEndOf self.now.shared.now.ready end.old }
+        ensures { IsEndOf self.now.shared.now.ready end.new }
+    {
+        if !end.is_clear() {
+            self.put_committed(end, committed)?;
+            return Ok(None);
+        }
+        match committed {
+            Committed::Nothing => Ok(None),
+            Committed::Alone(row) => Ok(Some(row)),
+            Committed::Pair(row, partner) => {
+                self.put_ready(end, partner)?;
+                Ok(Some(row))
+            }
+        }
+    }
+}
