@@ -40,12 +40,16 @@ pub record Linked (threads rows : ℕ) (cell : Row → Cell) (offer : Row → �
   pub sides : (r : Row) (j : Joined) (p : Row × ℕ) → joined_of (cell r) ≡ Some j → j.partner ≡ Some p → IsSideOf cell offer marks r j p
   -- a row is the partner of one row at most
   pub once : (q r p : Row) → names (joined_of (cell q)) p ≡ true → names (joined_of (cell r)) p ≡ true → q ≡ r
-  pub bounded : (r : Row) (j : Joined) → joined_of (cell r) ≡ Some j → j.stamp ≤ length (commits_of (all_rows threads rows) (joined_by cell) offer)
+  -- no stamp exceeds the greatest of what went before by more than the number of commits
+  pub bounded : (r : Row) (j : Joined) → joined_of (cell r) ≡ Some j → j.stamp ≤ marks.opening + length (commits_of (all_rows threads rows) (joined_by cell) offer)
   -- an opened row is of a thread that has started, and lies before its end
   pub lived : (r : Row) → is_fresh (cell r) ≡ false → LivesAt (marks.course r.thread) r.sync
   -- all rows before an end were taken
   pub ended : (thread start sync : ℕ) → marks.course thread ≡ Ended start (sync + 1) → is_taken (cell (record { thread = thread; sync = sync })) ≡ true
-  pub starts : (thread : ℕ) → start_of (marks.course thread) ≤ length (commits_of (all_rows threads rows) (joined_by cell) offer)
+  pub starts : (thread : ℕ) → start_of (marks.course thread) ≤ marks.opening + length (commits_of (all_rows threads rows) (joined_by cell) offer)
+  pub carried : (n : NackName) (stamp : ℕ) → marks.carried n ≡ Some stamp → stamp ≤ marks.opening
+  -- a nack that an earlier table settled is bound to no row
+  pub settled : (n : NackName) (b : Binding) → marks.bound n ≡ Some b → marks.carried n ≡ None
 
 -- every word is well-formed for its place
 pub record IsFormed (t : Table) : Type 0 where
@@ -58,6 +62,8 @@ pub record Kept (w : World) : Type 0 where
   pub sized : length w.table.words ≡ w.table.threads * thread_len w.table.rows
   pub few_threads : w.table.threads ≤ 64
   pub few_rows : w.table.rows ≤ 1024
+  -- a stamp has room in its word
+  pub room : w.table.opening + w.table.threads * w.table.rows ≤ 4294967295
   pub formed : IsFormed w.table
   pub linked : Linked w.table.threads w.table.rows (cell_at w.table) (offer_at w.table) (marks_at w.table)
   -- a row is held after the row before it in its thread was taken

@@ -8,6 +8,8 @@ use Rattle.protocol_values.specs.declared.Offer.{Offer}
 use Rattle.protocol_values.specs.declared.Row.{Row}
 use Rattle.protocol_values.specs.declared.Joined.{Joined}
 use Rattle.protocol_values.specs.declared.Binding.{Binding}
+use Rattle.protocol_values.specs.declared.NackWord.{NackWord}
+use Rattle.protocol_values.specs.declared.NackWord.TheVariants as word
 use Rattle.protocol_values.specs.declared.Course.{Course}
 use Rattle.protocol_values.specs.declared.Course.TheVariants.{Unstarted, Running, Ended}
 use Rattle.protocol_values.specs.declared.Cause.{Cause}
@@ -16,21 +18,22 @@ use Rattle.protocol_values.specs.declared.Commit.{Commit}
 use Rattle.protocol_values.specs.declared.Commit.TheVariants.{Pair, Alone}
 use Rattle.protocol_values.specs.Commits.{stamp_of}
 use Rattle.protocol_values.specs.Scopes.{has_scope}
-use Rattle.protocol.specs.Tables.{Table, Marks, all_rows, number_of, joined_at, count_at, course_at, offer_at, binding_at, namer_of, start_of}
+use Rattle.protocol.specs.Tables.{Table, Marks, all_rows, number_of, joined_at, count_at, course_at, offer_at, nack_says, bound_by, carried_by, namer_of, start_of}
 
 -- What a ledger has of a row: its offers, once it is opened, and how it is committed.
 pub record Entry : Type 0 where
   pub offers : List (Option Offer)
   pub joined : Option Joined
 
--- A ledger: the entry of each row, one row after another, what each nack is bound to, thread by thread, and where each
--- thread is on its course.
+-- A ledger: the entry of each row, one row after another, what each nack's word says, thread by thread, where each thread is
+-- on its course, and the greatest stamp of what went before.
 pub record Ledger : Type 0 where
   pub threads : ℕ
   pub rows : ℕ
   pub entries : List Entry
-  pub nacks : List (Option Binding)
+  pub nacks : List NackWord
   pub lives : List Course
+  pub opening : ℕ
 
 -- the ledger of a table's words
 abbrev pub entry_at : Table → Row → Entry
@@ -48,8 +51,9 @@ ledger_of t = record {
   threads = t.threads;
   rows = t.rows;
   entries = map (entry_at t) (all_rows t.threads t.rows);
-  nacks = map (binding_at t) (all_nacks t.threads);
+  nacks = map (nack_says t) (all_nacks t.threads);
   lives = map (course_at t) (range_with_len 0 t.threads);
+  opening = t.opening;
 }
 
 -- READING A LEDGER
@@ -70,16 +74,23 @@ joined_in l r = (entry_in l r).joined
 unfoldable pub offer_in : Ledger → Row → ℕ → Option Offer
 offer_in l r n = slice_index_or (entry_in l r).offers n None
 
+unfoldable pub nack_in : Ledger → NackName → NackWord
+nack_in l n =
+    if nat_lt n.thread l.threads && nat_lt n.k 64 then slice_index_or l.nacks (n.thread * 64 + n.k) word.Unbound else word.Unbound
+
 unfoldable pub binding_in : Ledger → NackName → Option Binding
-binding_in l n =
-    if nat_lt n.thread l.threads && nat_lt n.k 64 then slice_index_or l.nacks (n.thread * 64 + n.k) None else None
+binding_in l n = bound_by (nack_in l n)
+
+-- the stamp of a nack that an earlier table settled
+unfoldable pub carried_in : Ledger → NackName → Option ℕ
+carried_in l n = carried_by (nack_in l n)
 
 -- where a thread is on its course
 unfoldable pub course_in : Ledger → ℕ → Course
 course_in l p = slice_index_or l.lives p Unstarted
 
 abbrev pub marks_in : Ledger → Marks
-marks_in l = record { bound = binding_in l; course = course_in l }
+marks_in l = record { bound = binding_in l; carried = carried_in l; course = course_in l; opening = l.opening }
 
 abbrev pub rows_in : Ledger → List Row
 rows_in l = all_rows l.threads l.rows
@@ -194,7 +205,7 @@ abbrev pub Offers : (Row → ℕ → Option Offer) → Row × ℕ → Base → T
 Offers offer at b = (o : Offer) × (offer at.0 at.1 ≡ Some o) × (o.base ≡ b)
 
 -- nack n is bound to a row that is itself in a commit, which took an offer outside the nack's scope
-pub record IsEnabled (joined : Row → Option Joined) (offer : Row → ℕ → Option Offer) (marks : Marks) (n : NackName) : Type 0 where
+pub record IsEnabledHere (joined : Row → Option Joined) (offer : Row → ℕ → Option Offer) (marks : Marks) (n : NackName) : Type 0 where
   pub binding : Binding
   pub is_bound : marks.bound n ≡ Some binding
   pub commit : Commit
@@ -202,6 +213,10 @@ pub record IsEnabled (joined : Row → Option Joined) (offer : Row → ℕ → O
   pub chosen : ℕ
   pub takes : Takes commit (record { thread = n.thread; sync = binding.sync }) chosen
   pub outside : (o : Offer) → offer (record { thread = n.thread; sync = binding.sync }) chosen ≡ Some o → has_scope o.scopes binding.scope ≡ false
+
+-- or an earlier table settled it, and it was enabled at a stamp
+abbrev pub IsEnabled : (Row → Option Joined) → (Row → ℕ → Option Offer) → Marks → NackName → Type 0
+IsEnabled joined offer marks n = IsEnabledHere joined offer marks n ⊎ ((stamp : ℕ) × (1 ≤ stamp) × (marks.carried n ≡ Some stamp))
 
 -- what was offered fits the commit
 abbrev pub IsCaused : (Row → Option Joined) → (Row → ℕ → Option Offer) → Marks → Row × ℕ → Cause → Type 0
@@ -241,14 +256,27 @@ abbrev pub CountsThread : Commit → ℕ → Type 0
 CountsThread (Pair sender receiver c m s) t = (sender.0.thread ≡ t) ⊎ (receiver.0.thread ≡ t)
 CountsThread (Alone at k s) t = (at.0.thread ≡ t) ⊎ IsEndOf k t
 
--- The stamp is one more than the greatest stamp of the commits and starts that count for it, where a missing one counts 0.
+-- the commit stands alone for a nack that an earlier table settled at this stamp
+abbrev pub IsOfCarried : Marks → Cause → ℕ → Type 0
+IsOfCarried marks (cause.Always m) stamp = ⊥
+IsOfCarried marks (cause.Nack n) stamp = marks.carried n ≡ Some stamp
+IsOfCarried marks (cause.End p) stamp = ⊥
+
+abbrev pub IsCarriedBy : Marks → Commit → ℕ → Type 0
+IsCarriedBy marks (Pair sender receiver c m s) stamp = ⊥
+IsCarriedBy marks (Alone at k s) stamp = IsOfCarried marks k stamp
+
+-- The stamp is one more than the greatest stamp of the commits, starts and carried nacks that count for it, where a missing one
+-- counts 0.
 pub record IsStampDue (joined : Row → Option Joined) (offer : Row → ℕ → Option Offer) (marks : Marks) (c : Commit) : Type 0 where
   pub above : (d : Commit) → IsIn joined offer d → CountsFor marks d c → stamp_of d < stamp_of c
   pub after_start : (t : ℕ) → CountsThread c t → start_of (marks.course t) < stamp_of c
+  pub after_carried : (stamp : ℕ) → IsCarriedBy marks c stamp → stamp < stamp_of c
   pub next :
       (stamp_of c ≡ 1)
       ⊎ ((d : Commit) × IsIn joined offer d × CountsFor marks d c × (stamp_of c ≡ stamp_of d + 1))
       ⊎ ((t : ℕ) × CountsThread c t × (stamp_of c ≡ start_of (marks.course t) + 1))
+      ⊎ ((stamp : ℕ) × IsCarriedBy marks c stamp × (stamp_of c ≡ stamp + 1))
 
 -- the thread has started, and has not ended at this sync or before it
 abbrev pub LivesAt : Course → ℕ → Type 0
@@ -267,8 +295,8 @@ pub record Lawful (rows : List Row) (joined : Row → Option Joined) (offer : Ro
   -- where a row is in a commit, so are the earlier rows of its thread
   pub in_turn : (c : Commit) (thread g h : ℕ) → IsIn joined offer c → Involves c (record { thread = thread; sync = g }) → h < g → (d : Commit) × IsIn joined offer d × Involves d (record { thread = thread; sync = h })
   pub stamps : (c : Commit) → IsIn joined offer c → IsStampDue joined offer marks c
-  -- no stamp exceeds the number of commits
-  pub bounded : (c : Commit) → IsIn joined offer c → stamp_of c ≤ length (commits_of rows joined offer)
+  -- no stamp exceeds the greatest of what went before by more than the number of commits
+  pub bounded : (c : Commit) → IsIn joined offer c → stamp_of c ≤ marks.opening + length (commits_of rows joined offer)
   -- no thread has a commit that has not started, nor one at the sync of its end or behind it
   pub lived : (c : Commit) (r : Row) → IsIn joined offer c → Involves c r → LivesAt (marks.course r.thread) r.sync
 

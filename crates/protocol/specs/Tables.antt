@@ -12,14 +12,18 @@ use Rattle.protocol_values.specs.declared.Joined.{Joined}
 use Rattle.protocol_values.specs.declared.Cell.{Cell}
 use Rattle.protocol_values.specs.declared.Cell.TheVariants.{Fresh, Waiting, Claimed, Synched, Taken}
 use Rattle.protocol_values.specs.declared.Binding.{Binding}
+use Rattle.protocol_values.specs.declared.NackWord.{NackWord}
+use Rattle.protocol_values.specs.declared.NackWord.TheVariants.{Unbound, Bound, Carried}
 use Rattle.protocol_values.specs.declared.Course.{Course}
 use Rattle.protocol_values.specs.declared.Course.TheVariants.{Unstarted, Running, Ended}
 
--- The words lie thread by thread: a thread's rows first, 34 words each, then its 64 nack words, and its life word.
+-- The words lie thread by thread: a thread's rows first, 34 words each, then its 64 nack words, and its life word. No word has
+-- the greatest stamp of what went before the table, which is 0 where nothing did.
 pub record Table : Type 0 where
   pub threads : ℕ
   pub rows : ℕ
   pub words : List ℕ
+  pub opening : ℕ
 
 -- how many words a thread has
 abbrev pub thread_len : ℕ → ℕ
@@ -104,9 +108,27 @@ offer_at t r n =
     then offer_of (word_at t r (2 + 4 * n)) (word_at t r (3 + 4 * n)) (word_at t r (4 + 4 * n)) (word_at t r (5 + 4 * n))
     else None
 
+-- what the word of a nack says
+unfoldable pub nack_says : Table → NackName → NackWord
+nack_says t n = if is_nack t n then unwrap_or (nack_of (nack_at t n)) Unbound else Unbound
+
+abbrev pub bound_by : NackWord → Option Binding
+bound_by Unbound = None
+bound_by (Bound b) = Some b
+bound_by (Carried stamp) = None
+
+abbrev pub carried_by : NackWord → Option ℕ
+carried_by Unbound = None
+carried_by (Bound b) = None
+carried_by (Carried stamp) = Some stamp
+
 -- the sync and the scope to which a nack is bound
 unfoldable pub binding_at : Table → NackName → Option Binding
-binding_at t n = if is_nack t n then unwrap_or (nack_of (nack_at t n)) None else None
+binding_at t n = bound_by (nack_says t n)
+
+-- the stamp at which a nack was enabled that an earlier table settled, 0 where it never is
+unfoldable pub carried_at : Table → NackName → Option ℕ
+carried_at t n = carried_by (nack_says t n)
 
 -- LIVES
 
@@ -121,13 +143,16 @@ start_of Unstarted = 0
 start_of (Running start) = start
 start_of (Ended start sync) = start
 
--- What a table's words say beside its rows: to what each nack is bound, and where each thread is on its course.
+-- What a table says beside its rows: to what each nack is bound, which an earlier table settled, where each thread is on its
+-- course, and the greatest stamp of what went before.
 pub record Marks : Type 0 where
   pub bound : NackName → Option Binding
+  pub carried : NackName → Option ℕ
   pub course : ℕ → Course
+  pub opening : ℕ
 
 abbrev pub marks_at : Table → Marks
-marks_at t = record { bound = binding_at t; course = course_at t }
+marks_at t = record { bound = binding_at t; carried = carried_at t; course = course_at t; opening = t.opening }
 
 -- a send and a receive on one channel
 abbrev pub offers_meet : Option Offer → Option Offer → Bool
@@ -195,8 +220,17 @@ abbrev pub nack_via : (Row → Option Joined) → (Row → ℕ → Option Offer)
 nack_via joined offer n None = None
 nack_via joined offer n (Some b) = enabled_by offer (bound_row n b) b.scope (joined (bound_row n b))
 
-unfoldable pub nack_by : (Row → Option Joined) → (Row → ℕ → Option Offer) → (NackName → Option Binding) → NackName → Option Joined
-nack_by joined offer bound n = nack_via joined offer n (bound n)
+abbrev pub stamped : Option Joined → Option ℕ
+stamped None = None
+stamped (Some j) = Some j.stamp
+
+-- the stamp at which a nack was enabled: an earlier table's where one settled it, and 0 says there that it never is
+abbrev pub enabled_from : Option ℕ → Option ℕ → Option ℕ
+enabled_from None here = here
+enabled_from (Some stamp) here = if stamp == 0 then None else Some stamp
+
+unfoldable pub nack_by : (Row → Option Joined) → (Row → ℕ → Option Offer) → Marks → NackName → Option ℕ
+nack_by joined offer marks n = enabled_from (marks.carried n) (stamped (nack_via joined offer n (marks.bound n)))
 
 -- WHEN A THREAD HAS ENDED: the stamp that counts at its end, its last one
 
@@ -208,17 +242,13 @@ end_via marks joined p (Ended start sync) = Some (last_stamp marks joined (recor
 unfoldable pub end_by : Marks → (Row → Option Joined) → ℕ → Option ℕ
 end_by marks joined p = end_via marks joined p (marks.course p)
 
--- The stamp of what lets an offer commit its row alone: 0 for an always, for a nack that is enabled the stamp of the
--- row that enabled it, and for a thread that has ended its last stamp. Another offer has no cause.
-abbrev pub stamped : Option Joined → Option ℕ
-stamped None = None
-stamped (Some j) = Some j.stamp
-
+-- The stamp of what lets an offer commit its row alone: 0 for an always, for a nack that is enabled the stamp at which it
+-- was, and for a thread that has ended its last stamp. Another offer has no cause.
 abbrev pub cause_by : (Row → Option Joined) → (Row → ℕ → Option Offer) → Marks → Base → Option ℕ
 cause_by joined offer marks (Send c m) = None
 cause_by joined offer marks (Recv c) = None
 cause_by joined offer marks (Always m) = Some 0
-cause_by joined offer marks (OnNack n) = stamped (nack_by joined offer marks.bound n)
+cause_by joined offer marks (OnNack n) = nack_by joined offer marks n
 cause_by joined offer marks (OnEnd p) = end_by marks joined p
 cause_by joined offer marks Never = None
 

@@ -5,6 +5,7 @@ use Rattle.protocol_values.specs.Words.{cell_word, course_word, is_word_for, nac
 use Rattle.protocol_values.specs.declared.Row.{Row}
 use Rattle.protocol_values.specs.declared.NackName.{NackName}
 use Rattle.protocol_values.specs.declared.Binding.{Binding}
+use Rattle.protocol_values.specs.declared.NackWord.TheVariants.{Unbound, Bound}
 use Rattle.protocol_values.specs.declared.Course.{Course}
 use Rattle.protocol_values.specs.declared.Course.TheVariants.{Unstarted, Running, Ended}
 use Rattle.protocol_values.specs.declared.Joined.{Joined}
@@ -13,7 +14,7 @@ use Rattle.protocol_values.specs.declared.Cell.TheVariants.{Fresh, Waiting, Clai
 use Rattle.protocol_values.specs.declared.Seat.{Seat}
 use Rattle.protocol_values.specs.declared.Step.{Step}
 use Rattle.protocol_values.specs.declared.Step.TheVariants.{Draft, Open, Look, Read, Claim, Yield, Join, Seal, Grant, Take, Bind, Start, Finish}
-use Rattle.protocol.specs.Tables.{Table, thread_len, place_of, nack_place, course_place, number_of, all_rows, is_row, cell_at, synched_of, offer_at, offers_meet, binding_at, course_at, start_of, marks_at, cause_at, joined_at, namer_of, last_stamp}
+use Rattle.protocol.specs.Tables.{Table, thread_len, place_of, nack_place, course_place, number_of, all_rows, is_row, cell_at, synched_of, offer_at, offers_meet, nack_says, course_at, start_of, marks_at, cause_at, joined_at, namer_of, last_stamp}
 use Rattle.protocol_values.specs.Values.{next_row}
 
 -- The words, for each row, one after another, the seat that holds it, and for each thread the seat that stands behind
@@ -45,7 +46,7 @@ with_lives later rows (suc t) words =
 -- all rows Fresh, no nack bound, nobody behind a last row
 unfoldable pub start_world : ℕ → ℕ → ℕ → ℕ → World
 start_world threads rows seats later = record {
-  table = record { threads = threads; rows = rows; words = with_lives later rows threads (replicate (threads * thread_len rows) 0) };
+  table = record { threads = threads; rows = rows; words = with_lives later rows threads (replicate (threads * thread_len rows) 0); opening = 0 };
   seats = seats;
   holders = map (first_holder seats later) (all_rows threads rows);
   lasts = replicate threads None;
@@ -105,7 +106,7 @@ Condition w seat (Seal row) = Holds w seat row × (world_cell w row ≡ Claimed)
 Condition w seat (Grant row n) = (world_cell w row ≡ Waiting) × (is_some (cause_at w.table row n) ≡ true)
 Condition w seat (Take row) = is_some (synched_of (world_cell w row)) ≡ true
 Condition w seat (Bind k row scope) =
-    Holds w seat row × (world_cell w row ≡ Fresh) × IsAlive w row.thread × (k < 64) × (scope < 4) × (binding_at w.table (nack_of_row row k) ≡ None)
+    Holds w seat row × (world_cell w row ≡ Fresh) × IsAlive w row.thread × (k < 64) × (scope < 4) × (nack_says w.table (nack_of_row row k) ≡ Unbound)
 Condition w seat (Start row thread) =
     StandsAt w seat row × IsAlive w row.thread × (thread < w.table.threads) × (row.thread ≢ thread) × (course_at w.table thread ≡ Unstarted)
 Condition w seat (Finish row) = StandsAt w seat row × IsAlive w row.thread
@@ -117,18 +118,18 @@ Allowed w seat step = (seat.0 < w.seats) × Condition w seat step
 
 abbrev pub with_word : Table → Row → ℕ → ℕ → Table
 with_word t r place value =
-    record { threads = t.threads; rows = t.rows; words = slice_set t.words (place_of t.rows r place) value }
+    record { threads = t.threads; rows = t.rows; words = slice_set t.words (place_of t.rows r place) value; opening = t.opening }
 
 unfoldable pub with_cell : Table → Row → Cell → Table
 with_cell t r cell = with_word t r 0 (cell_word cell)
 
 unfoldable pub with_nack : Table → NackName → Binding → Table
 with_nack t n b =
-    record { threads = t.threads; rows = t.rows; words = slice_set t.words (nack_place t.rows n) (nack_word (Some b)) }
+    record { threads = t.threads; rows = t.rows; words = slice_set t.words (nack_place t.rows n) (nack_word (Bound b)); opening = t.opening }
 
 unfoldable pub with_course : Table → ℕ → Course → Table
 with_course t p course =
-    record { threads = t.threads; rows = t.rows; words = slice_set t.words (course_place t.rows p) (course_word course) }
+    record { threads = t.threads; rows = t.rows; words = slice_set t.words (course_place t.rows p) (course_word course); opening = t.opening }
 
 abbrev pub with_table : World → Table → World
 with_table w t = record { table = t; seats = w.seats; holders = w.holders; lasts = w.lasts }

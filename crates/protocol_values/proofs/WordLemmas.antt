@@ -12,6 +12,8 @@ use Rattle.protocol_values.specs.declared.Head.{Head}
 use Rattle.protocol_values.specs.declared.Atom.{Atom}
 use Rattle.protocol_values.specs.declared.Atom.TheVariants.{Num, Chan, Nack}
 use Rattle.protocol_values.specs.declared.Binding.{Binding}
+use Rattle.protocol_values.specs.declared.NackWord.{NackWord}
+use Rattle.protocol_values.specs.declared.NackWord.TheVariants.{Unbound, Bound, Carried}
 use Rattle.protocol_values.specs.declared.Course.{Course}
 use Rattle.protocol_values.specs.declared.Course.TheVariants.{Unstarted, Running, Ended}
 use Rattle.protocol_values.specs.declared.Message.{Message}
@@ -19,7 +21,7 @@ use Rattle.protocol_values.specs.declared.Message.TheVariants.{Empty, One, Two, 
 use Rattle.protocol_values.specs.declared.Base.{Base}
 use Rattle.protocol_values.specs.declared.Base.TheVariants as base
 use Rattle.protocol_values.specs.declared.Offer.{Offer}
-use Rattle.protocol_values.specs.Words.{field, partner_bits, joined_bits, cell_word, IsRowInRange, IsJoinedInRange, IsCellInRange, joined_fields, cell_fields, has_stamp, cell_of, count_of, course_word, course_fields, ends_in_a_table, IsCourseInRange, course_of, direction_bits, direction_fields, head_word, head_fields, head_of, IsNackInRange, IsDirectionInRange, IsHeadInRange, atom_word, atom_fields, atom_of, IsAtomInRange, nack_word, nack_fields, nack_of, IsBindingInRange, offer_of, is_word_for, IsMessageInRange, IsBaseInRange, IsOfferInRange, atom_count, head_in, direction_in, message_in, first_word, second_word, third_word, message_of, base_of}
+use Rattle.protocol_values.specs.Words.{field, partner_bits, joined_bits, cell_word, IsRowInRange, IsJoinedInRange, IsCellInRange, joined_fields, cell_fields, has_stamp, cell_of, count_of, course_word, course_fields, ends_in_a_table, IsCourseInRange, course_of, direction_bits, direction_fields, head_word, head_fields, head_of, IsNackInRange, IsDirectionInRange, IsHeadInRange, atom_word, atom_fields, atom_of, IsAtomInRange, nack_word, nack_fields, nack_of, IsBindingInRange, IsNackWordInRange, offer_of, is_word_for, IsMessageInRange, IsBaseInRange, IsOfferInRange, atom_count, head_in, direction_in, message_in, first_word, second_word, third_word, message_of, base_of}
 
 -- ANY WORD: what its fields say, and the test that it is the word of just that
 
@@ -317,43 +319,54 @@ atom_of_only o w e a r h = e ∙ ap atom_of h ∙ atom_of-atom_word a r
 
 -- A NACK
 
-pub nack_fields-nack_word : (o : Option Binding) → IfSome o IsBindingInRange → nack_fields (nack_word o) ≡ o
+pub nack_fields-nack_word : (n : NackWord) → IsNackWordInRange n → nack_fields (nack_word n) ≡ n
 unfolding nack_word
-nack_fields-nack_word None r = refl
-nack_fields-nack_word (Some b) r =
+nack_fields-nack_word Unbound r = refl
+nack_fields-nack_word (Bound b) r =
     let w : ℕ = 1 + b.sync * 2 + b.scope * 2 ^ 11 in
     let sync : b.sync < 1024 = r.sync in
     let scope : b.scope < 4 = r.scope in
     let e₁ : field w 0 1 ≡ 1 = omega arith in
-    let e₂ : field w 1 10 ≡ b.sync = omega arith in
-    let e₃ : field w 11 2 ≡ b.scope = omega arith in
+    let e₂ : field w 13 1 ≡ 0 = omega arith in
+    let e₃ : field w 1 10 ≡ b.sync = omega arith in
+    let e₄ : field w 11 2 ≡ b.scope = omega arith in
+    simp (e₁, e₂, e₃, e₄)
+nack_fields-nack_word (Carried stamp) r =
+    let w : ℕ = 1 + 2 ^ 13 + stamp * 2 ^ 14 in
+    let e₁ : field w 0 1 ≡ 1 = omega arith in
+    let e₂ : field w 13 1 ≡ 1 = omega arith in
+    let e₃ : field w 14 32 ≡ stamp = omega arith in
     simp (e₁, e₂, e₃)
 
-pub nack_of-nack_word : (o : Option Binding) → IfSome o IsBindingInRange → nack_of (nack_word o) ≡ Some o
+pub nack_of-nack_word : (n : NackWord) → IsNackWordInRange n → nack_of (nack_word n) ≡ Some n
 unfolding nack_of
-nack_of-nack_word o r = of_word nack_word nack_fields o (nack_fields-nack_word o r)
+nack_of-nack_word n r = of_word nack_word nack_fields n (nack_fields-nack_word n r)
 
-binding_in_range : (b : Bool) (binding : Binding) → IsBindingInRange binding → IfSome (if b then Some binding else None) IsBindingInRange
-binding_in_range true binding r = r
-binding_in_range false binding r = tt
+abbrev nack_at : Binding → ℕ → Bool → Bool → NackWord
+nack_at binding stamp a b = if a then (if b then Carried stamp else Bound binding) else Unbound
 
-pub IsBindingInRange-nack_fields : (w : ℕ) → IfSome (nack_fields w) IsBindingInRange
-IsBindingInRange-nack_fields w =
-    binding_in_range (field w 0 1 == 1) (record { sync = field w 1 10; scope = field w 11 2 })
-    (record { sync = omega arith; scope = omega arith })
+IsNackWordInRange-at : (binding : Binding) (stamp : ℕ) (a b : Bool) → IsBindingInRange binding → stamp < 2 ^ 32 → IsNackWordInRange (nack_at binding stamp a b)
+IsNackWordInRange-at binding stamp true true r low = low
+IsNackWordInRange-at binding stamp true false r low = r
+IsNackWordInRange-at binding stamp false b r low = tt
 
-pub nack_word-nack_of : (w : ℕ) (o : Option Binding) → nack_of w ≡ Some o → IfSome o IsBindingInRange × (w ≡ nack_word o)
+pub IsNackWordInRange-nack_fields : (w : ℕ) → IsNackWordInRange (nack_fields w)
+IsNackWordInRange-nack_fields w =
+    IsNackWordInRange-at (record { sync = field w 1 10; scope = field w 11 2 }) (field w 14 32) (field w 0 1 == 1) (field w 13 1 == 1)
+    (record { sync = omega arith; scope = omega arith }) (omega arith)
+
+pub nack_word-nack_of : (w : ℕ) (n : NackWord) → nack_of w ≡ Some n → IsNackWordInRange n × (w ≡ nack_word n)
 unfolding nack_of
-nack_word-nack_of w o e =
-    let s = word_of_same nack_word nack_fields w o e in
-    (subst (λ (p : Option Binding). IfSome p IsBindingInRange) s.0 (IsBindingInRange-nack_fields w), s.1)
+nack_word-nack_of w n e =
+    let s = word_of_same nack_word nack_fields w n e in
+    (subst IsNackWordInRange s.0 (IsNackWordInRange-nack_fields w), s.1)
 
-pub nack_of-zero : nack_of 0 ≡ Some None
+pub nack_of-zero : nack_of 0 ≡ Some Unbound
 unfolding nack_of nack_word
 nack_of-zero = refl
 
-pub nack_of_only : (o : Option (Option Binding)) (w : ℕ) → o ≡ nack_of w → (b : Option Binding) → IfSome b IsBindingInRange → w ≡ nack_word b → o ≡ Some b
-nack_of_only o w e b r h = e ∙ ap nack_of h ∙ nack_of-nack_word b r
+pub nack_of_only : (o : Option NackWord) (w : ℕ) → o ≡ nack_of w → (n : NackWord) → IsNackWordInRange n → w ≡ nack_word n → o ≡ Some n
+nack_of_only o w e n r h = e ∙ ap nack_of h ∙ nack_of-nack_word n r
 
 -- A LIFE
 

@@ -16,6 +16,8 @@ use Rattle.protocol_values.specs.declared.Direction.{Direction}
 use Rattle.protocol_values.specs.declared.Direction.TheVariants.{Never, Send, Recv, Always, OnNack, OnEnd}
 use Rattle.protocol_values.specs.declared.Head.{Head}
 use Rattle.protocol_values.specs.declared.Binding.{Binding}
+use Rattle.protocol_values.specs.declared.NackWord.{NackWord}
+use Rattle.protocol_values.specs.declared.NackWord.TheVariants.{Unbound, Bound, Carried}
 use Rattle.protocol_values.specs.declared.Course.{Course}
 use Rattle.protocol_values.specs.declared.Course.TheVariants.{Unstarted, Running, Ended}
 
@@ -168,20 +170,30 @@ unfoldable pub atom_of : ℕ → Option Atom
 atom_of w = if atom_word (atom_fields w) == w then Some (atom_fields w) else None
 
 -- A NACK
--- Bit 0 is one where the nack is bound; bits 1-10 are the sync, 11-12 the scope.
+-- Bit 0 is one where the nack is bound or carried. Where it is bound, bits 1-10 are the sync, 11-12 the scope. Bit 13 is
+-- one where an earlier table settled it, and then bits 14-45 are the stamp at which it was enabled, 0 where it never is.
 
-unfoldable pub nack_word : Option Binding → ℕ
-nack_word None = 0
-nack_word (Some b) = 1 + b.sync * 2 + b.scope * 2 ^ 11
+unfoldable pub nack_word : NackWord → ℕ
+nack_word Unbound = 0
+nack_word (Bound b) = 1 + b.sync * 2 + b.scope * 2 ^ 11
+nack_word (Carried stamp) = 1 + 2 ^ 13 + stamp * 2 ^ 14
 
 pub record IsBindingInRange (b : Binding) : Type 0 where
   pub sync : b.sync < 1024
   pub scope : b.scope < 4
 
-abbrev pub nack_fields : ℕ → Option Binding
-nack_fields w = if field w 0 1 == 1 then Some (record { sync = field w 1 10; scope = field w 11 2 }) else None
+abbrev pub IsNackWordInRange : NackWord → Type 0
+IsNackWordInRange Unbound = Unit {0}
+IsNackWordInRange (Bound b) = IsBindingInRange b
+IsNackWordInRange (Carried stamp) = stamp < 2 ^ 32
 
-unfoldable pub nack_of : ℕ → Option (Option Binding)
+abbrev pub nack_fields : ℕ → NackWord
+nack_fields w =
+    if field w 0 1 == 1
+    then (if field w 13 1 == 1 then Carried (field w 14 32) else Bound (record { sync = field w 1 10; scope = field w 11 2 }))
+    else Unbound
+
+unfoldable pub nack_of : ℕ → Option NackWord
 nack_of w = if nack_word (nack_fields w) == w then Some (nack_fields w) else None
 
 -- A LIFE: where a thread is on its course

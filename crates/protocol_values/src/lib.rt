@@ -212,6 +212,17 @@ pub struct Binding {
     pub scope: u8,
 }
 
+/// What the word of a nack says of it.
+#[derive(Clone, Copy, Debug, PartialEq, Eq)]
+pub enum NackWord {
+    /// It is bound to no sync.
+    Unbound,
+    /// It is bound to a sync of this table.
+    Bound(Binding),
+    /// An earlier table settled it: it is enabled at this stamp, or never where the stamp is 0.
+    Carried(u32),
+}
+
 /// Where a thread is on its course. A start stamp is the last stamp of the thread that started it when that
 /// came to the `spawn`, and 0 of a thread that nobody has to start.
 #[derive(Clone, Copy, Debug, PartialEq, Eq)]

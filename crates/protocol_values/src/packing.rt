@@ -6,6 +6,7 @@ ghost use Rattle.protocol_values.specs.declared.Binding.{Binding};
 ghost use Rattle.protocol_values.specs.declared.Cell.{Cell};
 ghost use Rattle.protocol_values.specs.declared.Course.{Course};
 ghost use Rattle.protocol_values.specs.declared.Head.{Head};
+ghost use Rattle.protocol_values.specs.declared.NackWord.{NackWord};
 ghost use Rattle.protocol_values.specs.Words.{
   IsAtomInRange,
   IsBindingInRange,
@@ -15,6 +16,7 @@ ghost use Rattle.protocol_values.specs.Words.{
   IsHeadInRange,
   IsJoinedInRange,
   IsNackInRange,
+  IsNackWordInRange,
   IsRowInRange,
   atom_fields,
   atom_of,
@@ -57,7 +59,8 @@ ghost use Rattle.protocol_values.specs.Words.{
 };
 
 use crate::{
-    Atom, Base, Binding, Cell, Course, Direction, Head, Joined, Message, NackName, Offer, Row,
+    Atom, Base, Binding, Cell, Course, Direction, Head, Joined, Message, NackName, NackWord, Offer,
+    Row,
 };
 
 /// The number in `width` bits of a word, from bit `low` on.
@@ -334,43 +337,47 @@ pub fn unpack_atom(word: u64) -> Option<Atom>
 
 // ---- a nack
 
-/// The word of a nack: where it is bound, or none where it is not: sync 0 to 1023, scope 0 to 3.
+/// The word of a nack: a sync is 0 to 1023, a scope 0 to 3.
 #[tactic(auto, unfolding(crate::specs::Words::nack_word))]
-pub fn pack_nack(binding: Option<Binding>) -> u64
-    requires { IfSome binding IsBindingInRange }
-    ensures { result ≡ nack_word binding }
+pub fn pack_nack(nack: NackWord) -> u64
+    requires { IsNackWordInRange nack }
+    ensures { result ≡ nack_word nack }
 {
-    match binding {
-        None => 0,
-        Some(bound) => 1 + u64::from(bound.sync) * 2 + u64::from(bound.scope) * (1 << 11),
+    match nack {
+        NackWord::Unbound => 0,
+        NackWord::Bound(bound) => 1
+            + u64::from(bound.sync) * 2
+            + u64::from(bound.scope) * (1 << 11),
+        NackWord::Carried(stamp) => 1 + (1 << 13) + u64::from(stamp) * (1 << 14),
     }
 }
 
-fn nack_fields(word: u64) -> Option<Binding>
+fn nack_fields(word: u64) -> NackWord
     ensures value { result ≡ nack_fields word }
-    ensures in_range { IfSome result IsBindingInRange }
+    ensures in_range { IsNackWordInRange result }
 {
-    if field(word, 0, 1) == 1 {
-        Some(Binding {
-            sync: field(word, 1, 10) as u16,
-            scope: field(word, 11, 2) as u8,
-        })
-    } else {
-        None
+    if field(word, 0, 1) == 0 {
+        return NackWord::Unbound;
     }
+    if field(word, 13, 1) == 1 {
+        return NackWord::Carried(field(word, 14, 32) as u32);
+    }
+    NackWord::Bound(Binding {
+        sync: field(word, 1, 10) as u16,
+        scope: field(word, 11, 2) as u8,
+    })
 }
 
-/// What the word of a nack says: none where the word is no nack's, and `Some(None)` where the nack
-/// is not bound.
+/// What the word of a nack says, or none where the word is no nack's.
 #[tactic(auto, unfolding(crate::specs::Words::nack_of))]
-pub fn unpack_nack(word: u64) -> Option<Option<Binding>>
+pub fn unpack_nack(word: u64) -> Option<NackWord>
     ensures value { result ≡ nack_of word }
-    ensures sound { IfSome result (λ o. IfSome o IsBindingInRange × (word ≡ nack_word o)) }
-    ensures complete { (o : Option Binding) → IfSome o IsBindingInRange → word ≡ nack_word o → result ≡ Some o }
+    ensures sound { IfSome result (λ n. IsNackWordInRange n × (word ≡ nack_word n)) }
+    ensures complete { (n : NackWord) → IsNackWordInRange n → word ≡ nack_word n → result ≡ Some n }
 {
-    let binding = nack_fields(word);
-    if pack_nack(binding) == word {
-        Some(binding)
+    let nack = nack_fields(word);
+    if pack_nack(nack) == word {
+        Some(nack)
     } else {
         None
     }

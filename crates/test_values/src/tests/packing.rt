@@ -1,6 +1,6 @@
 //! The words of the format's own table, each way, and words that stand for nothing.
 ghost use Rattle.std.specs.Prelude.{◌≡◌, IfSome, None, Some};
-ghost use Rattle.protocol_values.specs.Words.{IsAtomInRange, IsBindingInRange, IsCellInRange, IsCourseInRange, IsHeadInRange};
+ghost use Rattle.protocol_values.specs.Words.{IsAtomInRange, IsCellInRange, IsCourseInRange, IsHeadInRange, IsNackWordInRange};
 
 use super::checks::check_same;
 use protocol_values::*;
@@ -28,11 +28,11 @@ fn check_atom(rt: &impl Abort, atom: Atom, word: u64)
     check_same(rt, unpack_atom(word), Some(atom), "the atom of a word");
 }
 
-fn check_nack(rt: &impl Abort, binding: Option<Binding>, word: u64)
-    requires { IfSome binding IsBindingInRange }
+fn check_nack(rt: &impl Abort, nack: NackWord, word: u64)
+    requires { IsNackWordInRange nack }
 {
-    check_same(rt, pack_nack(binding), word, "the word of a nack");
-    check_same(rt, unpack_nack(word), Some(binding), "the nack of a word");
+    check_same(rt, pack_nack(nack), word, "the word of a nack");
+    check_same(rt, unpack_nack(word), Some(nack), "the nack of a word");
 }
 
 fn check_course(rt: &impl Abort, course: Course, word: u64)
@@ -107,16 +107,19 @@ fn atoms(rt: HostRuntime) {
 
 #[test]
 fn nacks(rt: HostRuntime) {
-    check_nack(&rt, None, 0);
-    check_nack(&rt, Some(Binding { sync: 1, scope: 0 }), 3);
+    check_nack(&rt, NackWord::Unbound, 0);
+    check_nack(&rt, NackWord::Bound(Binding { sync: 1, scope: 0 }), 3);
     check_nack(
         &rt,
-        Some(Binding {
+        NackWord::Bound(Binding {
             sync: 1023,
             scope: 3,
         }),
         8191,
     );
+    check_nack(&rt, NackWord::Carried(0), 8193);
+    check_nack(&rt, NackWord::Carried(2), 40961);
+    check_nack(&rt, NackWord::Carried(4294967295), 70368744169473);
 }
 
 #[test]
@@ -196,7 +199,7 @@ fn stands_for_nothing(form: Form, word: u64) -> bool {
     }
 }
 
-const ILL_FORMED: [(Form, u64, &str); 26] = [
+const ILL_FORMED: [(Form, u64, &str); 28] = [
     (Form::Cell, 5, "a sixth state"),
     (Form::Cell, 3, "no stamp"),
     (Form::Cell, (1 << 63) + 1, "a stray high bit"),
@@ -220,7 +223,9 @@ const ILL_FORMED: [(Form, u64, &str); 26] = [
     (Form::Atom, 16386, "a nack of thread 64"),
     (Form::Atom, 1 << 34, "a number of 33 bits"),
     (Form::Nack, 2, "a sync of no binding"),
-    (Form::Nack, (1 << 13) + 1, "a stray high bit"),
+    (Form::Nack, 8192, "carried and not told so"),
+    (Form::Nack, 8195, "a sync of a carried nack"),
+    (Form::Nack, 140737488347137, "a stray high bit"),
     (Form::Course, 2, "a start of no thread"),
     (Form::Course, 4, "a start of no thread"),
     (
