@@ -1,6 +1,6 @@
 -- What lets an offer commit its row alone, and that it stays.
-use Rattle.std.proofs.Common.{◌≡◌, ℕ, zero, suc, ◌+◌, ◌-◌, is_some, arith, Bool, true, false, cond, Option, Some, None, sym, refl, ap, ◌∙◌, ◌⊎◌, inl, inr, ⊎_elim}
-use Rattle.std.proofs.lemmas.Bool.{ne_eqb}
+use Rattle.std.proofs.Common.{◌≡◌, ◌≤◌, ℕ, zero, suc, ◌+◌, ◌-◌, is_some, arith, eqb, eq-eqb, Bool, true, false, cond, Option, Some, None, sym, refl, ap, ◌∙◌, ◌⊎◌, inl, inr, ⊎_elim}
+use Rattle.std.proofs.lemmas.Bool.{cases_eq, ne_eqb}
 use Rattle.protocol_values.specs.declared.Message.{Message}
 use Rattle.protocol_values.specs.declared.NackName.{NackName}
 use Rattle.protocol_values.specs.declared.Binding.{Binding}
@@ -11,7 +11,7 @@ use Rattle.protocol_values.specs.declared.Base.TheVariants.{Send, Recv, Always, 
 use Rattle.protocol_values.specs.declared.Offer.{Offer}
 use Rattle.protocol_values.specs.declared.Row.{Row}
 use Rattle.protocol_values.specs.declared.Joined.{Joined}
-use Rattle.protocol.specs.Tables.{Marks, end_by, end_via, last_stamp, row_stamp, start_of, encloses, bound_row, enabled_by, nack_via, nack_by, stamped, cause_by, cause_of, stands_alone}
+use Rattle.protocol.specs.Tables.{Marks, end_by, end_via, last_stamp, row_stamp, start_of, encloses, bound_row, enabled_by, enabled_from, nack_via, nack_by, stamped, cause_by, cause_of, stands_alone}
 use Rattle.protocol.proofs.Linking.{some_inj, some_parts}
 
 -- nack n is bound to a row that is committed as j, by an offer outside its scope
@@ -21,8 +21,7 @@ pub record IsEnabling (joined : Row → Option Joined) (offer : Row → ℕ → 
   pub is_joined : joined (bound_row n binding) ≡ Some j
   pub outside : encloses binding.scope (offer (bound_row n binding) j.own) ≡ false
 
-pub enabling : (joined : Row → Option Joined) (offer : Row → ℕ → Option Offer) (bound : NackName → Option Binding) (n : NackName) (j : Joined) → nack_by joined offer bound n ≡ Some j → IsEnabling joined offer bound n j
-unfolding nack_by
+enabling : (joined : Row → Option Joined) (offer : Row → ℕ → Option Offer) (bound : NackName → Option Binding) (n : NackName) (j : Joined) → nack_via joined offer n (bound n) ≡ Some j → IsEnabling joined offer bound n j
 enabling joined offer bound n j h = by_bound (bound n) refl h
   where
     by_bound : (o : Option Binding) → bound n ≡ o → nack_via joined offer n o ≡ Some j → IsEnabling joined offer bound n j
@@ -44,12 +43,48 @@ enabling joined offer bound n j h = by_bound (bound n) refl h
                   outside = ap (λ (i : Joined). encloses b.scope (offer (bound_row n b) i.own)) (sym same) ∙ t;
                 }
 
-pub enabling_from : (joined : Row → Option Joined) (offer : Row → ℕ → Option Offer) (bound : NackName → Option Binding) (n : NackName) (j : Joined) → IsEnabling joined offer bound n j → nack_by joined offer bound n ≡ Some j
-unfolding nack_by
+enabling_from : (joined : Row → Option Joined) (offer : Row → ℕ → Option Offer) (bound : NackName → Option Binding) (n : NackName) (j : Joined) → IsEnabling joined offer bound n j → nack_via joined offer n (bound n) ≡ Some j
 enabling_from joined offer bound n j e =
     ap (nack_via joined offer n) e.is_bound
     ∙ ap (enabled_by offer (bound_row n e.binding) e.binding.scope) e.is_joined
     ∙ ap (λ t. cond t None (Some j)) e.outside
+
+-- the nack was enabled at this stamp, by the row to which it is bound
+pub record IsEnabledByRow (joined : Row → Option Joined) (offer : Row → ℕ → Option Offer) (marks : Marks) (n : NackName) (s : ℕ) : Type 0 where
+  pub by : Joined
+  pub uncarried : marks.carried n ≡ None
+  pub enabled : IsEnabling joined offer marks.bound n by
+  pub stamp : s ≡ by.stamp
+
+-- or by a row of an earlier table
+abbrev pub IsEnabledAt : (Row → Option Joined) → (Row → ℕ → Option Offer) → Marks → NackName → ℕ → Type 0
+IsEnabledAt joined offer marks n s = IsEnabledByRow joined offer marks n s ⊎ ((1 ≤ s) × (marks.carried n ≡ Some s))
+
+stamped_some : (o : Option Joined) (s : ℕ) → stamped o ≡ Some s → (j : Joined) × (o ≡ Some j) × (s ≡ j.stamp)
+stamped_some None s h = let bad : None ≡ Some s = h in cc
+stamped_some (Some j) s h = (j, refl, sym (some_inj j.stamp s h))
+
+pub enabled_at : (joined : Row → Option Joined) (offer : Row → ℕ → Option Offer) (marks : Marks) (n : NackName) (s : ℕ) → nack_by joined offer marks n ≡ Some s → IsEnabledAt joined offer marks n s
+unfolding nack_by
+enabled_at joined offer marks n s h = by_carried (marks.carried n) refl h
+  where
+    by_carried : (o : Option ℕ) → marks.carried n ≡ o → enabled_from o (stamped (nack_via joined offer n (marks.bound n))) ≡ Some s → IsEnabledAt joined offer marks n s
+    by_carried None e h =
+        let j = stamped_some (nack_via joined offer n (marks.bound n)) s h in
+        inl (record { by = j.0; uncarried = e; enabled = enabling joined offer marks.bound n j.0 j.1; stamp = j.2 })
+    by_carried (Some c) e h = ⊎_elim
+        (λ (z : c ≡ 0). let bad : None ≡ Some s = sym (ap (λ b. cond b None (Some c)) (eq-eqb c 0 z)) ∙ h in cc)
+        (λ (z : c ≡ 0 → ⊥).
+        let same : c ≡ s = some_inj c s (sym (ap (λ b. cond b None (Some c)) (ne_eqb c 0 z)) ∙ h) in
+        inr (omega (arith, same, z), e ∙ ap Some same))
+        (cases_eq c 0)
+
+pub enabled_at_from : (joined : Row → Option Joined) (offer : Row → ℕ → Option Offer) (marks : Marks) (n : NackName) (s : ℕ) → IsEnabledAt joined offer marks n s → nack_by joined offer marks n ≡ Some s
+unfolding nack_by
+enabled_at_from joined offer marks n s (inl e) =
+    (λ i. enabled_from (e.uncarried i) (stamped (enabling_from joined offer marks.bound n e.by e.enabled i))) ∙ ap Some (sym e.stamp)
+enabled_at_from joined offer marks n s (inr e) =
+    ap (λ o. enabled_from o (stamped (nack_via joined offer n (marks.bound n)))) e.1 ∙ ap (λ b. cond b None (Some s)) (ne_eqb s 0 (λ z. absurd (omega (arith, e.0, z))))
 
 -- THE END OF A THREAD
 
@@ -78,18 +113,13 @@ abbrev pub IsAlways : Option Offer → ℕ → Type 0
 IsAlways o s = (m : Message) × (x : Offer) × (o ≡ Some x) × (x.base ≡ Always m) × (s ≡ 0)
 
 abbrev pub IsOnEnabled : (Row → Option Joined) → (Row → ℕ → Option Offer) → Marks → Option Offer → ℕ → Type 0
-IsOnEnabled joined offer marks o s =
-    (n : NackName) × (j : Joined) × (x : Offer) × (o ≡ Some x) × (x.base ≡ OnNack n) × (nack_by joined offer marks.bound n ≡ Some j) × (s ≡ j.stamp)
+IsOnEnabled joined offer marks o s = (n : NackName) × (x : Offer) × (o ≡ Some x) × (x.base ≡ OnNack n) × IsEnabledAt joined offer marks n s
 
 abbrev pub IsOnEnded : (Row → Option Joined) → Marks → Option Offer → ℕ → Type 0
 IsOnEnded joined marks o s = (p : ℕ) × (x : Offer) × (o ≡ Some x) × (x.base ≡ OnEnd p) × IsEnding joined marks p s
 
 abbrev pub IsCause : (Row → Option Joined) → (Row → ℕ → Option Offer) → Marks → Option Offer → ℕ → Type 0
 IsCause joined offer marks o s = IsAlways o s ⊎ (IsOnEnabled joined offer marks o s ⊎ IsOnEnded joined marks o s)
-
-stamped_some : (o : Option Joined) (s : ℕ) → stamped o ≡ Some s → (j : Joined) × (o ≡ Some j) × (s ≡ j.stamp)
-stamped_some None s h = let bad : None ≡ Some s = h in cc
-stamped_some (Some j) s h = (j, refl, sym (some_inj j.stamp s h))
 
 pub cause_is : (joined : Row → Option Joined) (offer : Row → ℕ → Option Offer) (marks : Marks) (o : Option Offer) (s : ℕ) → cause_of joined offer marks o ≡ Some s → IsCause joined offer marks o s
 cause_is joined offer marks None s h = let bad : None ≡ Some s = h in cc
@@ -99,7 +129,7 @@ cause_is joined offer marks (Some x) s h = by_base x.base refl h
     by_base (Send c m) e h = let bad : None ≡ Some s = h in cc
     by_base (Recv c) e h = let bad : None ≡ Some s = h in cc
     by_base (Always m) e h = inl (m, x, refl, e, sym (some_inj 0 s h))
-    by_base (OnNack n) e h = let j = stamped_some (nack_by joined offer marks.bound n) s h in inr (inl (n, j.0, x, refl, e, j.1, j.2))
+    by_base (OnNack n) e h = inr (inl (n, x, refl, e, enabled_at joined offer marks n s h))
     by_base (OnEnd p) e h = inr (inr (p, x, refl, e, ending joined marks p s h))
     by_base Never e h = let bad : None ≡ Some s = h in cc
 
@@ -108,7 +138,7 @@ pub cause_alone : (joined : Row → Option Joined) (offer : Row → ℕ → Opti
 cause_alone joined offer marks o s h = ⊎_elim
     (λ (a : IsAlways o s). ap stands_alone a.2 ∙ ap Rattle.protocol.specs.Tables.needs_none a.3)
     (⊎_elim
-    (λ (n : IsOnEnabled joined offer marks o s). ap stands_alone n.3 ∙ ap Rattle.protocol.specs.Tables.needs_none n.4)
+    (λ (n : IsOnEnabled joined offer marks o s). ap stands_alone n.2 ∙ ap Rattle.protocol.specs.Tables.needs_none n.3)
     (λ (e : IsOnEnded joined marks o s). ap stands_alone e.2 ∙ ap Rattle.protocol.specs.Tables.needs_none e.3))
     (cause_is joined offer marks o s h)
 
@@ -118,23 +148,26 @@ last_behind marks joined t g =
     ap (λ b. cond b (start_of (marks.course t)) (row_stamp (joined (record { thread = t; sync = suc g - 1 })))) (ne_eqb (suc g) 0 (λ e. absurd (omega arith)))
     ∙ ap (λ n. row_stamp (joined (record { thread = t; sync = n }))) (omega arith)
 
--- A CAUSE STAYS, where what is joined stays so and offers as before, what is bound stays so, an end stays, and the row
--- before an end is joined
+-- A CAUSE STAYS, where what is joined stays so and offers as before, what is bound stays so, what is carried is as it was, an
+-- end stays, and the row before an end is joined
 module _ (joined joined' : Row → Option Joined) (offer offer' : Row → ℕ → Option Offer) (marks marks' : Marks)
     (joins : (r : Row) (j : Joined) → joined r ≡ Some j → joined' r ≡ Some j)
     (offers : (r : Row) (j : Joined) → joined r ≡ Some j → offer' r ≡ offer r)
     (binds : (n : NackName) (b : Binding) → marks.bound n ≡ Some b → marks'.bound n ≡ Some b)
+    (carries : (n : NackName) → marks'.carried n ≡ marks.carried n)
     (ends : (p start sync : ℕ) → marks.course p ≡ Ended start sync → marks'.course p ≡ Ended start sync)
     (before : (p start sync : ℕ) → marks.course p ≡ Ended start (sync + 1) → is_some (joined (record { thread = p; sync = sync })) ≡ true) where
-  pub nack_kept : (n : NackName) (j : Joined) → nack_by joined offer marks.bound n ≡ Some j → nack_by joined' offer' marks'.bound n ≡ Some j
-  nack_kept n j h =
-      let e = enabling joined offer marks.bound n j h in
-      enabling_from joined' offer' marks'.bound n j (record {
-        binding = e.binding;
-        is_bound = binds n e.binding e.is_bound;
-        is_joined = joins (bound_row n e.binding) j e.is_joined;
-        outside = ap (λ (f : ℕ → Option Offer). encloses e.binding.scope (f j.own)) (offers (bound_row n e.binding) j e.is_joined) ∙ e.outside;
-      })
+  enabling_kept : (n : NackName) (j : Joined) → IsEnabling joined offer marks.bound n j → IsEnabling joined' offer' marks'.bound n j
+  enabling_kept n j e = record {
+    binding = e.binding;
+    is_bound = binds n e.binding e.is_bound;
+    is_joined = joins (bound_row n e.binding) j e.is_joined;
+    outside = ap (λ (f : ℕ → Option Offer). encloses e.binding.scope (f j.own)) (offers (bound_row n e.binding) j e.is_joined) ∙ e.outside;
+  }
+
+  pub nack_kept : (n : NackName) (s : ℕ) → IsEnabledAt joined offer marks n s → IsEnabledAt joined' offer' marks' n s
+  nack_kept n s (inl e) = inl (record { by = e.by; uncarried = carries n ∙ e.uncarried; enabled = enabling_kept n e.by e.enabled; stamp = e.stamp })
+  nack_kept n s (inr e) = inr (e.0, carries n ∙ e.1)
 
   last_ended : (p start sync : ℕ) → marks.course p ≡ Ended start sync → last_stamp marks joined (record { thread = p; sync = sync }) ≡ last_stamp marks' joined' (record { thread = p; sync = sync })
   last_ended p start zero e = ap start_of e ∙ sym (ap start_of (ends p start zero e))
@@ -158,10 +191,9 @@ module _ (joined joined' : Row → Option Joined) (offer offer' : Row → ℕ �
       (λ (a : IsAlways o s). ap (cause_of joined' offer' marks') a.2 ∙ ap (cause_by joined' offer' marks') a.3 ∙ ap Some (sym a.4))
       (⊎_elim
       (λ (n : IsOnEnabled joined offer marks o s).
-      ap (cause_of joined' offer' marks') n.3
-      ∙ ap (cause_by joined' offer' marks') n.4
-      ∙ ap stamped (nack_kept n.0 n.1 n.5)
-      ∙ ap Some (sym n.6))
+      ap (cause_of joined' offer' marks') n.2
+      ∙ ap (cause_by joined' offer' marks') n.3
+      ∙ enabled_at_from joined' offer' marks' n.0 s (nack_kept n.0 s n.4))
       (λ (e : IsOnEnded joined marks o s).
       ap (cause_of joined' offer' marks') e.2
       ∙ ap (cause_by joined' offer' marks') e.3

@@ -10,18 +10,19 @@ use Rattle.protocol_values.specs.declared.Cause.TheVariants as cause
 use Rattle.protocol_values.specs.declared.Commit.{Commit}
 use Rattle.protocol_values.specs.declared.Commit.TheVariants.{Alone, Pair}
 use Rattle.protocol_values.specs.declared.NackName.{NackName}
+use Rattle.protocol_values.specs.declared.NackWord.{NackWord}
 use Rattle.protocol_values.specs.declared.Offer.{Offer}
 use Rattle.protocol_values.specs.declared.Row.{Row}
 use Rattle.protocol_values.specs.Commits.{stamp_of}
 use Rattle.protocol_values.specs.Scopes.{has_scope}
-use Rattle.protocol.specs.Ledgers.{CountsThread, Fits, HasCommit, Involves, IsCaused, IsLawful, Ledger, Takes, course_in, has_row, joined_in, ledger_of, marks_in, no_entry, offer_in}
+use Rattle.protocol.specs.Ledgers.{CountsThread, Fits, HasCommit, Involves, IsCaused, IsLawful, Ledger, Takes, binding_in, carried_in, course_in, has_row, joined_in, ledger_of, marks_in, no_entry, offer_in}
 use Rattle.protocol.specs.Openings.{IsLastStamp}
 use Rattle.protocol.specs.Kept.{Linked}
-use Rattle.protocol.specs.Tables.{Table, cell_at, encloses, is_fresh, is_taken, marks_at, number_of, offer_at, start_of}
+use Rattle.protocol.specs.Tables.{Table, bound_by, carried_by, nack_says, cell_at, encloses, is_fresh, is_taken, marks_at, number_of, offer_at, start_of}
 use Rattle.protocol_values.specs.declared.Cell.{Cell}
 use Rattle.protocol_values.specs.declared.Cell.TheVariants.{Claimed, Fresh, Synched, Taken, Waiting}
-use Rattle.protocol.proofs.LedgerLemmas.{lawful_ledger, offer_in_ledger}
-use Rattle.protocol.proofs.Readings.{count_fresh, offer_none}
+use Rattle.protocol.proofs.LedgerLemmas.{binding_in_ledger, carried_in_ledger, lawful_ledger, offer_in_ledger}
+use Rattle.protocol.proofs.Readings.{bound_is, carried_is, count_fresh, offer_none}
 
 -- A COMMIT'S ROWS are rows of the ledger
 
@@ -52,7 +53,7 @@ commit_inside l lawful c has r involved =
 -- THE LAST STAMP
 
 -- a commit counts the start of each of its threads
-counts_own : (c : Commit) (t g : ℕ) → Involves c (record { thread = t; sync = g }) → CountsThread c t
+pub counts_own : (c : Commit) (t g : ℕ) → Involves c (record { thread = t; sync = g }) → CountsThread c t
 counts_own (Pair sender receiver channel m s) t g involved = ⊎_elim
     (λ (is : sender ≡ (record { thread = t; sync = g }, involved.0)). inl (ap (λ (at : Row × ℕ). at.0.thread) is))
     (λ (is : receiver ≡ (record { thread = t; sync = g }, involved.0)). inr (ap (λ (at : Row × ℕ). at.0.thread) is))
@@ -105,6 +106,14 @@ unfolding NoneFrom
 none_outside l t lawful c g behind has involved = let inside = (commit_inside l lawful c has (record { thread = t; sync = g }) involved).1 in omega (arith, inside, behind)
 
 -- NACKS
+
+-- what a nack's word says, the ledger has
+pub nack_told : (t : Table) (l : Ledger) (n : NackName) (w : NackWord) → ledger_of t ≡ l → w ≡ nack_says t n → (binding_in l n ≡ bound_by w) × (carried_in l n ≡ carried_by w)
+nack_told t l n w is e = (
+  sym (ap (λ (x : Ledger). binding_in x n) is) ∙ (λ i. binding_in_ledger t i n) ∙ bound_is t n ∙ ap bound_by (sym e),
+  sym (ap (λ (x : Ledger). carried_in x n) is) ∙ (λ i. carried_in_ledger t i n) ∙ carried_is t n ∙ ap carried_by (sym e),
+)
+
 pub enclosed_by : (scope : ℕ) (o : Option Offer) → encloses scope o ≡ true → (x : Offer) × (o ≡ Some x) × (has_scope x.scopes scope ≡ true)
 enclosed_by scope None e = absurd (false≢true e)
 enclosed_by scope (Some x) e = (x, refl, e)

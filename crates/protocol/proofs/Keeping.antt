@@ -5,9 +5,9 @@ use Rattle.std.specs.List.{sum_by}
 use Rattle.std.proofs.lemmas.Bool.{cases_Bool, cases_order, false≢true, cases_eq, and_from, lt-ltb, ne_eqb}
 use Rattle.std.proofs.lemmas.List.{length-append}
 use Rattle.std.proofs.lemmas.List.Sums.{sum_by-cons}
-use Rattle.std.proofs.Math.Nat.{mul-le-mul_right}
 use Rattle.protocol_values.specs.declared.NackName.{NackName}
 use Rattle.protocol_values.specs.declared.Binding.{Binding}
+use Rattle.protocol_values.specs.declared.NackWord.TheVariants.{Unbound}
 use Rattle.protocol_values.specs.declared.Course.{Course}
 use Rattle.protocol_values.specs.declared.Course.TheVariants.{Unstarted, Running, Ended}
 use Rattle.protocol_values.specs.declared.Row.{Row}
@@ -21,18 +21,18 @@ use Rattle.protocol_values.specs.declared.Cell.{Cell}
 use Rattle.protocol_values.specs.declared.Cell.TheVariants.{Fresh, Waiting, Claimed, Synched, Taken}
 use Rattle.protocol_values.proofs.WordLemmas.{cell_of-zero}
 use Rattle.protocol_values.specs.Words.{cell_word, is_word_for, IsBindingInRange, IsCellInRange, IsJoinedInRange, IsRowInRange, IsCourseInRange, cell_of, course_word}
-use Rattle.protocol.specs.Tables.{Table, Marks, course_at, marks_at, start_of, thread_len, is_row, is_nack, binding_at, bound_row, cause_of, cause_at, row_eq, all_rows, rows_below, cell_at, is_fresh, offer_at, offers_meet, names, joined_at, last_stamp, number_of, is_taken, synched_of, word_at}
+use Rattle.protocol.specs.Tables.{Table, Marks, course_at, marks_at, start_of, thread_len, is_row, is_nack, nack_says, binding_at, carried_at, bound_row, cause_of, cause_at, row_eq, all_rows, rows_below, cell_at, is_fresh, offer_at, offers_meet, names, joined_at, last_stamp, number_of, is_taken, synched_of, word_at}
 use Rattle.protocol_values.specs.Values.{joined_of, next_row}
 use Rattle.protocol.specs.Worlds.{World, HasEnded, IsAlive, StandsAt, begun, ended_at, first_row, last_holder, handed_last, with_course, with_lasts, holder_at, namer_at, Condition, Allowed, after_step, Plays, with_word, with_cell, with_table, joined_with, mirrored, other_side, side_of, sealed_by, with_seal, granted_by, handed, with_holders, with_take, with_nack, nack_of_row}
 use Rattle.protocol.specs.Ledgers.{LivesAt, commits_of, told_at}
 use Rattle.protocol.specs.Kept.{joined_by, IsFormed, Linked, Kept}
-use Rattle.protocol.proofs.RowLemmas.{row_cases, put, put_same, put_other, same_row, row_ne, row_eq-false}
-use Rattle.protocol.proofs.Linking.{some_parts, naming, fresh_not_joined, unnamed_idle, told_count, count_of_commits, some_inj, taken_joined, alone_there, taken_open}
-use Rattle.protocol.proofs.StepLemmas.{HasTurn, linked_plain, linked_join, linked_seal, last_bounded, linked_grant, linked_marks, cause_bounded}
+use Rattle.protocol.proofs.RowLemmas.{row_cases, put, put_same, put_other, same_row, row_ne, row_eq-false, once_all}
+use Rattle.protocol.proofs.Linking.{some_parts, naming, fresh_not_joined, unnamed_idle, told_count, count_of_commits, sum_change, some_inj, taken_joined, alone_there, taken_open}
+use Rattle.protocol.proofs.StepLemmas.{HasTurn, none_told, linked_plain, linked_join, linked_seal, last_bounded, linked_grant, linked_marks, cause_bounded}
 use Rattle.protocol.proofs.Causes.{cause_alone}
 use Rattle.protocol.proofs.Lawfulness.{both_offers}
 use Rattle.protocol.proofs.Places.{row_inside, row_from, word_lived, is_row_after, block_inside, same_block, same_rest, word_other, word_bound}
-use Rattle.protocol.proofs.Readings.{cell_after_word, cell_after_cell, offer_after_draft, offer_after_cell, formed_after_word, cell_is_formed, sized_after_word, row_of_open, cell_outside, binding_after_word, cell_after_bind, offer_after_bind, binding_kept, binding_was, formed_after_bind, offer_below, cell_inside, joined_ranged, course_after_word, course_after_bind, marks_after_word, marks_after_cell, cell_after_life, offer_after_life, binding_after_life, course_lived, course_lived_other, course_ranged, formed_after_life}
+use Rattle.protocol.proofs.Readings.{cell_after_word, cell_after_cell, offer_after_draft, offer_after_cell, formed_after_word, cell_is_formed, sized_after_word, row_of_open, cell_outside, binding_after_word, cell_after_bind, offer_after_bind, binding_kept, binding_was, bound_uncarried, carried_after_bind, carried_after_life, formed_after_bind, offer_below, cell_inside, joined_ranged, course_after_word, course_after_bind, marks_after_word, marks_after_cell, cell_after_life, offer_after_life, binding_after_life, course_lived, course_lived_other, course_ranged, formed_after_life}
 use Rattle.protocol.proofs.Naming.{namer_names, no_namer}
 
 -- HOW MANY COMMITS THERE ARE at most
@@ -53,21 +53,40 @@ tells_one joined offer r = at_most (told_at joined offer r)
     at_most None = omega arith
     at_most (Some c) = omega arith
 
-few_told : (joined : Row → Option Joined) (offer : Row → ℕ → Option Offer) (rs : List Row) → sum_by (told_count joined offer) rs ≤ length rs
-few_told joined offer [] = omega arith
-few_told joined offer (r ∷ rs) =
-    let s = sum_by-cons (told_count joined offer) r rs in
-    let h = few_told joined offer rs in
-    let k = tells_one joined offer r in
+few_in_sum : (f : Row → ℕ) → ((r : Row) → f r ≤ 1) → (rs : List Row) → sum_by f rs ≤ length rs
+few_in_sum f one [] = omega arith
+few_in_sum f one (r ∷ rs) =
+    let s = sum_by-cons f r rs in
+    let h = few_in_sum f one rs in
+    let k = one r in
     omega arith
 
-pub few_commits : (threads rows : ℕ) (joined : Row → Option Joined) (offer : Row → ℕ → Option Offer) → threads ≤ 64 → rows ≤ 1024 → length (commits_of (all_rows threads rows) joined offer) ≤ 65536
-few_commits threads rows joined offer h k =
+-- one for each row
+pub few_commits : (threads rows : ℕ) (joined : Row → Option Joined) (offer : Row → ℕ → Option Offer) → length (commits_of (all_rows threads rows) joined offer) ≤ threads * rows
+few_commits threads rows joined offer =
     let c = count_of_commits (all_rows threads rows) joined offer in
-    let s = few_told joined offer (all_rows threads rows) in
+    let s = few_in_sum (told_count joined offer) (tells_one joined offer) (all_rows threads rows) in
     let l = length_all threads rows in
-    let up : threads * rows ≤ 64 * rows = mul-le-mul_right rows h in
     omega arith
+
+-- and one less where some row is not joined
+pub fewer_commits : (threads rows : ℕ) (joined : Row → Option Joined) (offer : Row → ℕ → Option Offer) (x : Row) → x.thread < threads → x.sync < rows → joined x ≡ None → length (commits_of (all_rows threads rows) joined offer) < threads * rows
+fewer_commits threads rows joined offer x h k free =
+    let rs : List Row = all_rows threads rows in
+    let f : Row → ℕ = told_count joined offer in
+    let c = count_of_commits rs joined offer in
+    let l = length_all threads rows in
+    let more : sum_by (put f x 1) rs + f x ≡ sum_by f rs + put f x 1 x = sum_change f (put f x 1) x rs (once_all threads rows x h k) (λ r e. put_other f x 1 r e) in
+    let none : f x ≡ 0 = none_told joined offer x free in
+    let one : put f x 1 x ≡ 1 = put_same f x 1 in
+    let few : sum_by (put f x 1) rs ≤ length rs = few_in_sum (put f x 1) at_most rs in
+    omega arith
+  where
+    at_most : (r : Row) → put (told_count joined offer) x 1 r ≤ 1
+    at_most r = ⊎_elim
+        (λ (e : r ≡ x). let is : put (told_count joined offer) x 1 r ≡ 1 = ap (put (told_count joined offer) x 1) e ∙ put_same (told_count joined offer) x 1 in omega arith)
+        (λ (e : row_eq r x ≡ false). let is : put (told_count joined offer) x 1 r ≡ told_count joined offer r = put_other (told_count joined offer) x 1 r e in let t = tells_one joined offer r in omega arith)
+        (row_cases r x)
 
 -- WHO HOLDS A ROW
 
@@ -103,6 +122,10 @@ pub rows_lived : (t : Table) (p : ℕ) (c : Course) → (with_course t p c).rows
 unfolding with_course
 rows_lived t p c = refl
 
+pub opening_lived : (t : Table) (p : ℕ) (c : Course) → (with_course t p c).opening ≡ t.opening
+unfolding with_course
+opening_lived t p c = refl
+
 length_lived : (t : Table) (p : ℕ) (c : Course) → length (with_course t p c).words ≡ length t.words
 unfolding with_course
 length_lived t p c = length-set t.words _ (course_word c)
@@ -131,11 +154,11 @@ length_handed t holders seat x = ⊎_elim
     (λ (e : is_row t (next_row x) ≡ false). ap (λ (hs : List (Option ℕ)). length hs) (handed_nowhere t holders seat x e))
     (cases_Bool (is_row t (next_row x)))
 
-held_inside : (w : World) (r : Row) → is_row w.table r ≡ true → holder_at w r ≡ get_or w.holders (number_of w.table.rows r) None
+pub held_inside : (w : World) (r : Row) → is_row w.table r ≡ true → holder_at w r ≡ get_or w.holders (number_of w.table.rows r) None
 unfolding holder_at
 held_inside w r e = ap (λ b. cond b (get_or w.holders (number_of w.table.rows r) None) None) e
 
-held_outside : (w : World) (r : Row) → is_row w.table r ≡ false → holder_at w r ≡ None
+pub held_outside : (w : World) (r : Row) → is_row w.table r ≡ false → holder_at w r ≡ None
 unfolding holder_at
 held_outside w r e = ap (λ b. cond b (get_or w.holders (number_of w.table.rows r) None) None) e
 
@@ -265,6 +288,7 @@ module _ (w : World) (x : Row) (c : Cell) (k : Kept w)
     sized = sized_after_word w.table x 0 (cell_word c) k.sized;
     few_threads = k.few_threads;
     few_rows = k.few_rows;
+    room = k.room;
     formed = formed_after_word w.table x 0 (cell_word c) k.sized row (omega arith) (cell_is_formed c range) k.formed;
     linked =
         subst (λ (z : (Row → Cell) × Marks). Linked w.table.threads w.table.rows z.0 (offer_at (with_cell w.table x c)) z.1) (λ i. (sym cells_plain i, sym (marks_after_cell w.table x c row) i))
@@ -311,6 +335,7 @@ module _ (w : World) (x : Row) (j : Joined) (k : Kept w)
     sized = sized_after_word w.table x 0 (cell_word (Synched j)) k.sized;
     few_threads = k.few_threads;
     few_rows = k.few_rows;
+    room = k.room;
     formed = formed_after_word w.table x 0 (cell_word (Synched j)) k.sized row (omega arith) (cell_is_formed (Synched j) range) k.formed;
     linked = subst (λ (z : (Row → Cell) × (Row → ℕ → Option Offer) × Marks). Linked w.table.threads w.table.rows z.0 z.1 z.2)
         (λ i. (sym cells_joined i, λ r n. sym (offer_after_cell w.table x r n (Synched j) row (fresh_joined r)) i, sym (marks_after_cell w.table x (Synched j) row) i))
@@ -337,6 +362,7 @@ kept_draft w x p v seat k h f a b g =
       sized = sized_after_word w.table x p v k.sized;
       few_threads = k.few_threads;
       few_rows = k.few_rows;
+      room = k.room;
       formed = formed_after_word w.table x p v k.sized row below g k.formed;
       linked = subst (λ (z : (Row → Cell) × (Row → ℕ → Option Offer) × Marks). Linked w.table.threads w.table.rows z.0 z.1 z.2)
           (λ i. (λ r. sym (cells r) i, λ r n. sym (offer_after_draft w.table x r n p v row a below (ap is_fresh f)) i, sym (marks_after_word w.table x p v row below) i))
@@ -401,48 +427,67 @@ row_in_range w r k h =
     let b = k.few_rows in
     record { thread = omega arith; sync = omega arith }
 
--- a last stamp is small
-pub small_last : (w : World) (r : Row) → Kept w → last_stamp (marks_at w.table) (joined_at w.table) r ≤ 65536
+-- a last stamp has room in a word, and where a row is not joined so has the next stamp
+pub small_last : (w : World) (r : Row) → Kept w → last_stamp (marks_at w.table) (joined_at w.table) r ≤ 4294967295
 small_last w r k =
     let a = last_bounded w.table.threads w.table.rows (cell_at w.table) (offer_at w.table) r k.linked in
-    let few = few_commits w.table.threads w.table.rows (joined_by (cell_at w.table)) (offer_at w.table) k.few_threads k.few_rows in
+    let few = few_commits w.table.threads w.table.rows (joined_by (cell_at w.table)) (offer_at w.table) in
+    let room = k.room in
     omega arith
 
+-- a row that is open and not joined yet
+pub record IsUnjoined (w : World) (x : Row) : Type 0 where
+  pub opened : is_fresh (cell_at w.table x) ≡ false
+  pub free : joined_at w.table x ≡ None
+
+pub waits_unjoined : (w : World) (x : Row) → cell_at w.table x ≡ Waiting → IsUnjoined w x
+waits_unjoined w x e = record { opened = ap is_fresh e; free = ap joined_of e }
+
+fewer : (w : World) (x : Row) → Kept w → IsUnjoined w x → length (commits_of (all_rows w.table.threads w.table.rows) (joined_by (cell_at w.table)) (offer_at w.table)) < w.table.threads * w.table.rows
+fewer w x k u =
+    let inside = k.linked.inside x u.opened in
+    fewer_commits w.table.threads w.table.rows (joined_by (cell_at w.table)) (offer_at w.table) x inside.0 inside.1 u.free
+
+pub next_last : (w : World) (x r : Row) → Kept w → IsUnjoined w x → last_stamp (marks_at w.table) (joined_at w.table) r < 4294967295
+next_last w x r k u =
+    let a = last_bounded w.table.threads w.table.rows (cell_at w.table) (offer_at w.table) r k.linked in
+    let few = fewer w x k u in
+    let room = k.room in
+    omega arith
+
+next_stamp : (a b : ℕ) → a < 4294967295 → b < 4294967295 → 1 + max a b < 2 ^ 32
+next_stamp a b h k = omega arith
+
 -- the word of a join is well-formed
-pub join_in_range : (w : World) (m : Row) (i : ℕ) (o : Row) (n : ℕ) → Kept w → is_row w.table m ≡ true → offers_meet (offer_at w.table m i) (offer_at w.table o n) ≡ true → IsJoinedInRange (joined_with w.table m i o n)
+pub join_in_range : (w : World) (m : Row) (i : ℕ) (o : Row) (n : ℕ) → Kept w → IsUnjoined w o → is_row w.table m ≡ true → offers_meet (offer_at w.table m i) (offer_at w.table o n) ≡ true → IsJoinedInRange (joined_with w.table m i o n)
 unfolding joined_with
-join_in_range w m i o n k h meets =
+join_in_range w m i o n k u h meets =
     let both = both_offers (offer_at w.table m i) (offer_at w.table o n) meets in
-    let a = last_bounded w.table.threads w.table.rows (cell_at w.table) (offer_at w.table) m k.linked in
-    let b = last_bounded w.table.threads w.table.rows (cell_at w.table) (offer_at w.table) o k.linked in
-    let few = few_commits w.table.threads w.table.rows (joined_by (cell_at w.table)) (offer_at w.table) k.few_threads k.few_rows in
     record {
       own = offer_below w.table o n both.1 both.3;
       partner = (row_in_range w m k h, offer_below w.table m i both.0 both.2);
       stamp_low = low (last_stamp (marks_at w.table) (joined_at w.table) m) (last_stamp (marks_at w.table) (joined_at w.table) o);
-      stamp_high = high (last_stamp (marks_at w.table) (joined_at w.table) m) (last_stamp (marks_at w.table) (joined_at w.table) o) (omega arith) (omega arith);
+      stamp_high = next_stamp _ _ (next_last w o m k u) (next_last w o o k u);
     }
   where
     low : (a b : ℕ) → 1 ≤ 1 + max a b
     low a b = omega arith
 
-    high : (a b : ℕ) → a ≤ 65536 → b ≤ 65536 → 1 + max a b < 2 ^ 32
-    high a b h k = omega arith
-
 kept_join : (w : World) (m : Row) (i : ℕ) (o : Row) (n : ℕ) → Kept w → cell_at w.table m ≡ Claimed → namer_at w m ≡ None → cell_at w.table o ≡ Waiting → m.thread ≢ o.thread → offers_meet (offer_at w.table m i) (offer_at w.table o n) ≡ true → Kept (with_table w (with_cell w.table o (Synched (joined_with w.table m i o n))))
 unfolding joined_with
 kept_join w m i o n k mine none other apart meets =
     kept_joined w o (joined_with w.table m i o n) k (row_of_open w.table o (ap is_fresh other))
-    (join_in_range w m i o n k (row_of_open w.table m (ap is_fresh mine)) meets)
+    (join_in_range w m i o n k (waits_unjoined w o other) (row_of_open w.table m (ap is_fresh mine)) meets)
     (ap is_fresh other)
     (ap joined_of other)
     (linked_join w.table.threads w.table.rows (cell_at w.table) (offer_at w.table) m i o n (joined_with w.table m i o n) k.linked mine (unnamed_row w m none) other apart meets refl)
 
--- a cause is small
-pub small_cause : (w : World) (o : Option Offer) (s : ℕ) → Kept w → cause_of (joined_at w.table) (offer_at w.table) (marks_at w.table) o ≡ Some s → s ≤ 65536
-small_cause w o s k h =
+-- a cause has room, too
+pub next_cause : (w : World) (x : Row) (o : Option Offer) (s : ℕ) → Kept w → IsUnjoined w x → cause_of (joined_at w.table) (offer_at w.table) (marks_at w.table) o ≡ Some s → s < 4294967295
+next_cause w x o s k u h =
     let a = cause_bounded w.table.threads w.table.rows (cell_at w.table) (offer_at w.table) o s k.linked h in
-    let few = few_commits w.table.threads w.table.rows (joined_by (cell_at w.table)) (offer_at w.table) k.few_threads k.few_rows in
+    let few = fewer w x k u in
+    let room = k.room in
     omega arith
 
 -- how a row is granted that has a cause
@@ -451,27 +496,24 @@ unfolding granted_by
 granted_is t o n s e = λ i. record { own = n; partner = None; stamp = 1 + max (last_stamp (marks_at t) (joined_at t) o) (unwrap_or (e i) 0) }
 
 -- the word of a grant is well-formed
-pub grant_in_range : (w : World) (o : Row) (n s : ℕ) → Kept w → cause_at w.table o n ≡ Some s → IsJoinedInRange (granted_by w.table o n)
-grant_in_range w o n s k caused =
+pub grant_in_range : (w : World) (o : Row) (n s : ℕ) → Kept w → IsUnjoined w o → cause_at w.table o n ≡ Some s → IsJoinedInRange (granted_by w.table o n)
+grant_in_range w o n s k u caused =
     let there = alone_there (offer_at w.table o n) (cause_alone (joined_at w.table) (offer_at w.table) (marks_at w.table) (offer_at w.table o n) s caused) in
     subst IsJoinedInRange (sym (granted_is w.table o n s caused)) (record {
       own = offer_below w.table o n there.0 there.1;
       partner = tt;
       stamp_low = low (last_stamp (marks_at w.table) (joined_at w.table) o) s;
-      stamp_high = high (last_stamp (marks_at w.table) (joined_at w.table) o) s (small_last w o k) (small_cause w (offer_at w.table o n) s k caused);
+      stamp_high = next_stamp _ _ (next_last w o o k u) (next_cause w o (offer_at w.table o n) s k u caused);
     })
   where
     low : (a b : ℕ) → 1 ≤ 1 + max a b
     low a b = omega arith
 
-    high : (a b : ℕ) → a ≤ 65536 → b ≤ 65536 → 1 + max a b < 2 ^ 32
-    high a b h k = omega arith
-
 kept_grant : (w : World) (o : Row) (n : ℕ) → Kept w → cell_at w.table o ≡ Waiting → is_some (cause_at w.table o n) ≡ true → Kept (with_table w (with_cell w.table o (Synched (granted_by w.table o n))))
 kept_grant w o n k waits there =
     let s = some_parts (cause_at w.table o n) there in
     kept_joined w o (granted_by w.table o n) k (row_of_open w.table o (ap is_fresh waits))
-    (grant_in_range w o n s.0 k s.1)
+    (grant_in_range w o n s.0 k (waits_unjoined w o waits) s.1)
     (ap is_fresh waits)
     (ap joined_of waits)
     (linked_grant w.table.threads w.table.rows (cell_at w.table) (offer_at w.table) o n s.0 (granted_by w.table o n) k.linked waits s.1 (granted_is w.table o n s.0 s.1))
@@ -491,14 +533,15 @@ bind_in_range w r scope k h b =
     record { sync = omega arith; scope = b }
 
 -- what a change of the marks leaves: rows, offers, and who holds what
-kept_marked : (w : World) (t : Table) (k : Kept w) → t.threads ≡ w.table.threads → t.rows ≡ w.table.rows → length t.words ≡ length w.table.words → IsFormed t → ((r : Row) → cell_at t r ≡ cell_at w.table r) → ((r : Row) (n : ℕ) → offer_at t r n ≡ offer_at w.table r n) → ((r : Row) (q : ℕ) → is_row w.table r ≡ true → q < 34 → word_at t r q ≡ word_at w.table r q) → Linked w.table.threads w.table.rows (cell_at w.table) (offer_at w.table) (marks_at t) → ((n : NackName) (b : Binding) → binding_at t n ≡ Some b → holder_at w (bound_row n b) ≢ None) → ((p : ℕ) → course_at w.table p ≢ Unstarted → course_at t p ≢ Unstarted) → Kept (with_table w t)
-kept_marked w t k threads rows len formed cells offers words linked bound started =
+kept_marked : (w : World) (t : Table) (k : Kept w) → t.threads ≡ w.table.threads → t.rows ≡ w.table.rows → t.opening ≡ w.table.opening → length t.words ≡ length w.table.words → IsFormed t → ((r : Row) → cell_at t r ≡ cell_at w.table r) → ((r : Row) (n : ℕ) → offer_at t r n ≡ offer_at w.table r n) → ((r : Row) (q : ℕ) → is_row w.table r ≡ true → q < 34 → word_at t r q ≡ word_at w.table r q) → Linked w.table.threads w.table.rows (cell_at w.table) (offer_at w.table) (marks_at t) → ((n : NackName) (b : Binding) → binding_at t n ≡ Some b → holder_at w (bound_row n b) ≢ None) → ((p : ℕ) → course_at w.table p ≢ Unstarted → course_at t p ≢ Unstarted) → Kept (with_table w t)
+kept_marked w t k threads rows opening len formed cells offers words linked bound started =
     let same : (r : Row) → holder_at (with_table w t) r ≡ holder_at w r = λ r. holder_same w t r threads rows in
     let row : (r : Row) → is_row t r ≡ is_row w.table r = λ r. same_is_row t w.table r threads rows in
     record {
       sized = len ∙ k.sized ∙ (λ i. sym threads i * thread_len (sym rows i));
       few_threads = subst (λ n. n ≤ 64) (sym threads) k.few_threads;
       few_rows = subst (λ n. n ≤ 1024) (sym rows) k.few_rows;
+      room = subst (λ n. n ≤ 4294967295) (λ i. sym opening i + sym threads i * sym rows i) k.room;
       formed = formed;
       linked =
           subst (λ (z : (ℕ × ℕ) × (Row → Cell) × (Row → ℕ → Option Offer)). Linked z.0.0 z.0.1 z.1 z.2 (marks_at t))
@@ -518,16 +561,21 @@ kept_marked w t k threads rows len formed cells offers words linked bound starte
           words q p here a ∙ k.blank q p here a (sym (same q) ∙ n);
     }
 
-kept_bound : (w : World) (m : NackName) (b : Binding) → Kept w → is_nack w.table m ≡ true → IsBindingInRange b → holder_at w (bound_row m b) ≢ None → ((n : NackName) (c : Binding) → binding_at w.table n ≡ Some c → binding_at (with_nack w.table m b) n ≡ Some c) → Kept (with_table w (with_nack w.table m b))
+kept_bound : (w : World) (m : NackName) (b : Binding) → Kept w → is_nack w.table m ≡ true → IsBindingInRange b → holder_at w (bound_row m b) ≢ None → nack_says w.table m ≡ Unbound → Kept (with_table w (with_nack w.table m b))
 unfolding with_nack
-kept_bound w m b kept nack range held binds =
+kept_bound w m b kept nack range held free =
+    let carries = carried_after_bind w.table m b kept.sized nack range free in
     let lives = course_after_bind w.table m b nack in
-    kept_marked w (with_nack w.table m b) kept refl refl (length-set w.table.words _ _) (formed_after_bind w.table m b kept.sized nack range kept.formed)
+    kept_marked w (with_nack w.table m b) kept refl refl refl (length-set w.table.words _ _) (formed_after_bind w.table m b kept.sized nack range kept.formed)
     (λ r. cell_after_bind w.table m b r nack)
     (λ r n. offer_after_bind w.table m b r n nack)
     (λ r q here a. word_bound w.table m b r q nack here a)
-    (subst (λ (f : ℕ → Course). Linked w.table.threads w.table.rows (cell_at w.table) (offer_at w.table) (record { bound = binding_at (with_nack w.table m b); course = f })) (sym lives)
-    (linked_marks (marks_at w.table) (record { bound = binding_at (with_nack w.table m b); course = course_at w.table }) w.table.threads w.table.rows (cell_at w.table) (offer_at w.table) kept.linked binds
+    (subst (λ (f : ℕ → Course). Linked w.table.threads w.table.rows (cell_at w.table) (offer_at w.table) (record { bound = binding_at (with_nack w.table m b); carried = carried_at (with_nack w.table m b); course = f; opening = w.table.opening })) (sym lives)
+    (linked_marks (marks_at w.table) (record { bound = binding_at (with_nack w.table m b); carried = carried_at (with_nack w.table m b); course = course_at w.table; opening = w.table.opening }) w.table.threads w.table.rows (cell_at w.table) (offer_at w.table) kept.linked
+    (binding_kept w.table m b nack free)
+    (bound_uncarried (with_nack w.table m b))
+    (λ n. ap (λ (f : NackName → Option ℕ). f n) carries)
+    refl
     (λ p start sync e. e) (λ r f. refl) kept.linked.lived kept.linked.ended kept.linked.starts))
     (λ n c e h. ⊎_elim
     (λ (old : binding_at w.table n ≡ Some c). kept.bound n c old h)
@@ -535,14 +583,14 @@ kept_bound w m b kept nack range held binds =
     (binding_was w.table m b kept.sized nack range n c e))
     (λ p n e. n (ap (λ (f : ℕ → Course). f p) (sym lives) ∙ e))
 
-kept_bind : (w : World) (r : Row) (k scope seat : ℕ) → Kept w → holder_at w r ≡ Some seat → k < 64 → scope < 4 → binding_at w.table (nack_of_row r k) ≡ None → Kept (with_table w (with_nack w.table (nack_of_row r k) (record { sync = r.sync; scope = scope })))
+kept_bind : (w : World) (r : Row) (k scope seat : ℕ) → Kept w → holder_at w r ≡ Some seat → k < 64 → scope < 4 → nack_says w.table (nack_of_row r k) ≡ Unbound → Kept (with_table w (with_nack w.table (nack_of_row r k) (record { sync = r.sync; scope = scope })))
 kept_bind w r k scope seat kept h b c free =
     let row = held_row w r seat h in
     let m : NackName = nack_of_row r k in
     let bound : Binding = record { sync = r.sync; scope = scope } in
     let nack = nack_of_thread w.table r k row b in
     let range = bind_in_range w r scope kept row c in
-    kept_bound w m bound kept nack range (is_held w r seat h) (binding_kept w.table m bound nack free)
+    kept_bound w m bound kept nack range (is_held w r seat h) free
 
 -- THE TAKE
 
@@ -570,6 +618,7 @@ kept_handed w seat x k taken = record {
   sized = k.sized;
   few_threads = k.few_threads;
   few_rows = k.few_rows;
+  room = k.room;
   formed = k.formed;
   linked = k.linked;
   held = λ thread sync s h. ⊎_elim
@@ -638,6 +687,7 @@ kept_lasted w seat x k taken = record {
   sized = k.sized;
   few_threads = k.few_threads;
   few_rows = k.few_rows;
+  room = k.room;
   formed = k.formed;
   linked = k.linked;
   held = λ thread sync s h. k.held thread sync s (sym (holder_lasted w (handed_last w.table w.lasts seat x) _) ∙ h);
@@ -706,18 +756,21 @@ kept_take w seat x k h =
 -- THE START AND THE FINISH
 
 -- a life that is written, where rows and ends stay lawful by it
-kept_lived : (w : World) (p : ℕ) (c : Course) (k : Kept w) → p < w.table.threads → IsCourseInRange c → c ≢ Unstarted → (HasEnded (course_at w.table p) → ⊥) → ((r : Row) → is_fresh (cell_at w.table r) ≡ false → r.thread ≡ p → (start_of c ≡ start_of (course_at w.table p)) × LivesAt c r.sync) → ((start sync : ℕ) → c ≡ Ended start (sync + 1) → is_taken (cell_at w.table (record { thread = p; sync = sync })) ≡ true) → start_of c ≤ length (commits_of (all_rows w.table.threads w.table.rows) (joined_by (cell_at w.table)) (offer_at w.table)) → Kept (with_table w (with_course w.table p c))
+kept_lived : (w : World) (p : ℕ) (c : Course) (k : Kept w) → p < w.table.threads → IsCourseInRange c → c ≢ Unstarted → (HasEnded (course_at w.table p) → ⊥) → ((r : Row) → is_fresh (cell_at w.table r) ≡ false → r.thread ≡ p → (start_of c ≡ start_of (course_at w.table p)) × LivesAt c r.sync) → ((start sync : ℕ) → c ≡ Ended start (sync + 1) → is_taken (cell_at w.table (record { thread = p; sync = sync })) ≡ true) → start_of c ≤ w.table.opening + length (commits_of (all_rows w.table.threads w.table.rows) (joined_by (cell_at w.table)) (offer_at w.table)) → Kept (with_table w (with_course w.table p c))
 kept_lived w p c k below range goes alive opens ends bounded =
     let here : course_at (with_course w.table p c) p ≡ c = course_lived w.table p c k.sized below range in
     let there : (q : ℕ) → (q ≡ p → ⊥) → course_at (with_course w.table p c) q ≡ course_at w.table q = λ q n. course_lived_other w.table p q c n in
     let binds : binding_at (with_course w.table p c) ≡ binding_at w.table = binding_after_life w.table p c in
-    kept_marked w (with_course w.table p c) k (threads_lived w.table p c) (rows_lived w.table p c) (length_lived w.table p c)
+    kept_marked w (with_course w.table p c) k (threads_lived w.table p c) (rows_lived w.table p c) (opening_lived w.table p c) (length_lived w.table p c)
     (formed_after_life w.table p c k.sized below range k.formed)
     (cell_after_life w.table p c)
     (offer_after_life w.table p c)
     (word_lived w.table p c)
     (linked_marks (marks_at w.table) (marks_at (with_course w.table p c)) w.table.threads w.table.rows (cell_at w.table) (offer_at w.table) k.linked
     (λ n b e. ap (λ (f : NackName → Option Binding). f n) binds ∙ e)
+    (bound_uncarried (with_course w.table p c))
+    (λ n. ap (λ (f : NackName → Option ℕ). f n) (carried_after_life w.table p c))
+    (opening_lived w.table p c)
     (λ q start sync e. ⊎_elim
     (λ (same : q ≡ p). absurd (alive (subst HasEnded (sym e ∙ ap (course_at w.table) same) tt)))
     (λ (other : q ≡ p → ⊥). there q other ∙ e)
@@ -735,8 +788,8 @@ kept_lived w p c k below range goes alive opens ends bounded =
     (λ (other : q ≡ p → ⊥). k.linked.ended q start sync (sym (there q other) ∙ e))
     (cases_eq q p))
     (λ q. ⊎_elim
-    (λ (same : q ≡ p). subst (λ n. n ≤ length (commits_of (all_rows w.table.threads w.table.rows) (joined_by (cell_at w.table)) (offer_at w.table))) (sym (ap start_of (ap (course_at (with_course w.table p c)) same ∙ here))) bounded)
-    (λ (other : q ≡ p → ⊥). subst (λ n. n ≤ length (commits_of (all_rows w.table.threads w.table.rows) (joined_by (cell_at w.table)) (offer_at w.table))) (sym (ap start_of (there q other))) (k.linked.starts q))
+    (λ (same : q ≡ p). subst (λ n. n ≤ w.table.opening + length (commits_of (all_rows w.table.threads w.table.rows) (joined_by (cell_at w.table)) (offer_at w.table))) (sym (ap start_of (ap (course_at (with_course w.table p c)) same ∙ here))) bounded)
+    (λ (other : q ≡ p → ⊥). subst (λ n. n ≤ w.table.opening + length (commits_of (all_rows w.table.threads w.table.rows) (joined_by (cell_at w.table)) (offer_at w.table))) (sym (ap start_of (there q other))) (k.linked.starts q))
     (cases_eq q p)))
     (λ n b e. k.bound n b (ap (λ (f : NackName → Option Binding). f n) (sym binds) ∙ e))
     (λ q n e. ⊎_elim
@@ -772,6 +825,7 @@ kept_begun w seat p k below goes = record {
   sized = k.sized;
   few_threads = k.few_threads;
   few_rows = k.few_rows;
+  room = k.room;
   formed = k.formed;
   linked = k.linked;
   held = λ thread sync s h. k.held thread sync s (sym (begun_other w seat p _ (row_ne _ (first_row p) (λ e. let z : sync + 1 ≡ 0 = ap (λ (r : Row). r.sync) e in absurd (omega arith))) below) ∙ h);
@@ -807,7 +861,7 @@ start_in_range (Ended start sync) h = h.0
 pub stamp_in_range : (w : World) (x : Row) → Kept w → IsCourseInRange (Running (last_stamp (marks_at w.table) (joined_at w.table) x))
 stamp_in_range w x k = small_in_range (last_stamp (marks_at w.table) (joined_at w.table) x) (small_last w x k)
   where
-    small_in_range : (n : ℕ) → n ≤ 65536 → IsCourseInRange (Running n)
+    small_in_range : (n : ℕ) → n ≤ 4294967295 → IsCourseInRange (Running n)
     small_in_range n h = let fits : n < 2 ^ 32 = omega arith in fits
 
 kept_started : (w : World) (seat : Seat) (x : Row) (p : ℕ) → Kept w → p < w.table.threads → course_at w.table p ≡ Unstarted → Kept (after_step w seat (Start x p))
@@ -900,7 +954,8 @@ seal_in_range w x q s k =
     let both = both_offers (offer_at w.table q s.way.own) (offer_at w.table x s.offer) side.meets in
     let b = k.linked.bounded q s.way s.is in
     let stamp = side.stamp in
-    let few = few_commits w.table.threads w.table.rows (joined_by (cell_at w.table)) (offer_at w.table) k.few_threads k.few_rows in
+    let few = few_commits w.table.threads w.table.rows (joined_by (cell_at w.table)) (offer_at w.table) in
+    let room = k.room in
     record {
       own = offer_below w.table x s.offer both.1 both.3;
       partner = (row_in_range w q k (row_of_open w.table q (fresh_not_joined (cell_at w.table q) s.way s.is)), offer_below w.table q s.way.own both.0 both.2);
@@ -911,7 +966,7 @@ seal_in_range w x q s k =
     low : (s a b : ℕ) → s ≡ 1 + max a b → 1 ≤ s
     low s a b e = omega arith
 
-    high : (s : ℕ) → s ≤ 65536 → s < 2 ^ 32
+    high : (s : ℕ) → s ≤ 4294967295 → s < 2 ^ 32
     high s h = omega arith
 
 kept_sealed : (w : World) (x q : Row) (s : IsSealing w.table x q) → Kept w → cell_at w.table x ≡ Claimed → Kept (with_table w (with_cell w.table x (Synched (mirrored q s.way s.offer))))

@@ -20,10 +20,10 @@ use Rattle.protocol_values.specs.declared.Course.TheVariants.{Ended}
 use Rattle.protocol.specs.Tables.{Marks, start_of, all_rows, is_fresh, names, is_partner, offers_meet, stands_alone, encloses, bound_row, cause_of, last_stamp, row_stamp}
 use Rattle.protocol_values.specs.Values.{joined_of, bases_meet}
 use Rattle.protocol.specs.Worlds.{mirrored}
-use Rattle.protocol.specs.Ledgers.{CountsThread, LivesAt, IsIn, IsEnabled, Involves, CausedBy, Offers, Fits, Enables, CountsFor, Lawful, commit_named, commit_by, alone_by, pair_by, received_by, commits_of}
+use Rattle.protocol.specs.Ledgers.{CountsThread, LivesAt, IsIn, IsCarriedBy, IsEnabled, Involves, CausedBy, Offers, Fits, Enables, CountsFor, Lawful, commit_named, commit_by, alone_by, pair_by, received_by, commits_of}
 use Rattle.protocol.specs.Kept.{joined_by, IsSideOf, IsAlone, Linked}
 use Rattle.protocol.proofs.Linking.{cases_Option, some_parts, some_inj, some_is_some, names_from, partner_parts, fresh_not_joined, taken_joined, partner_open, alone_there, named_some, named_alone}
-use Rattle.protocol.proofs.Causes.{IsEnabling, IsEnding, IsAlways, IsOnEnabled, IsOnEnded, enabling, cause_is, cause_alone, last_behind}
+use Rattle.protocol.proofs.Causes.{IsEnabledAt, IsEnabledByRow, IsEnding, IsAlways, IsOnEnabled, IsOnEnded, cause_is, cause_alone, last_behind}
 use Rattle.protocol.proofs.StepLemmas.{ended_joined}
 use Rattle.protocol.proofs.CommitLemmas.{named_rows}
 
@@ -224,15 +224,13 @@ module _ (threads rows : ℕ) (cell : Row → Cell) (offer : Row → ℕ → Opt
   fits_pair : (q : Row × ℕ) (p : Row × ℕ) (s : ℕ) (c : Commit) → q.0.thread ≢ p.0.thread → IsSent offer q p s c → Fits (joined_by cell) offer marks c
   fits_pair q p s c n x = subst (Fits (joined_by cell) offer marks) (sym x.is) (n, x.sends, x.receives)
 
-  -- A COMMIT THAT STANDS ALONE: by an always, by a nack that row k enabled, or by the end of a thread
+  -- A COMMIT THAT STANDS ALONE: by an always, by a nack that is enabled, or by the end of a thread
 
   pub record IsByNack (c : Commit) (r : Row) (j : Joined) (s : ℕ) : Type 0 where
     pub name : NackName
-    pub by : Joined
-    pub enabled : IsEnabling (joined_by cell) offer marks.bound name by
+    pub enabled : IsEnabledAt (joined_by cell) offer marks name s
     pub offers : Offers offer (r, j.own) (OnNack name)
     pub is : c ≡ Alone (r, j.own) (cause.Nack name) j.stamp
-    pub stamp : s ≡ by.stamp
 
   pub record IsByAlways (c : Commit) (r : Row) (j : Joined) (s : ℕ) : Type 0 where
     pub msg : Message
@@ -262,11 +260,9 @@ module _ (threads rows : ℕ) (cell : Row → Cell) (offer : Row → ℕ → Opt
       (λ (a : IsOnEnabled (joined_by cell) offer marks (offer r j.own) s).
       inr (inl (record {
         name = a.0;
-        by = a.1;
-        enabled = enabling (joined_by cell) offer marks.bound a.0 a.1 a.5;
-        offers = (a.2, a.3, a.4);
-        is = sym (some_inj _ c (alone_named offer r j c a.2 (OnNack a.0) n a.3 a.4 k));
-        stamp = a.6;
+        enabled = a.4;
+        offers = (a.1, a.2, a.3);
+        is = sym (some_inj _ c (alone_named offer r j c a.1 (OnNack a.0) n a.2 a.3 k));
       })))
       (λ (a : IsOnEnded (joined_by cell) marks (offer r j.own) s).
       inr (inr (record {
@@ -280,26 +276,28 @@ module _ (threads rows : ℕ) (cell : Row → Cell) (offer : Row → ℕ → Opt
   lone_in : (c : Commit) (h : IsIn (joined_by cell) offer c) (n : h.way.partner ≡ None) → IsBy c h.row h.way (l.alone h.row h.way h.is_joined n).cause
   lone_in c h n = let a = l.alone h.row h.way h.is_joined n in lone c h.row h.way a.cause n a.is h.is_named
 
-  -- the commit of the row that enabled the nack
-  enabled_in : (n : NackName) (k : Joined) → IsEnabling (joined_by cell) offer marks.bound n k → IsEnabled (joined_by cell) offer marks n
-  enabled_in n k e =
-      let row : Row = bound_row n e.binding in
-      record {
-        binding = e.binding;
-        is_bound = e.is_bound;
-        commit = (commit_of_joined row k e.is_joined).0;
-        inside = in_of_joined row k e.is_joined;
-        chosen = k.own;
-        takes = (named_rows offer row k (commit_of_joined row k e.is_joined).0 (commit_of_joined row k e.is_joined).1).own;
-        outside = λ o h. sym (ap (encloses e.binding.scope) h) ∙ e.outside;
-      }
+  -- by the commit of the row that enabled it, or in an earlier table
+  enabled_in : (n : NackName) (s : ℕ) → IsEnabledAt (joined_by cell) offer marks n s → IsEnabled (joined_by cell) offer marks n
+  enabled_in n s (inl e) =
+      let binding : Binding = e.enabled.binding in
+      let row : Row = bound_row n binding in
+      inl (record {
+        binding = binding;
+        is_bound = e.enabled.is_bound;
+        commit = (commit_of_joined row e.by e.enabled.is_joined).0;
+        inside = in_of_joined row e.by e.enabled.is_joined;
+        chosen = e.by.own;
+        takes = (named_rows offer row e.by (commit_of_joined row e.by e.enabled.is_joined).0 (commit_of_joined row e.by e.enabled.is_joined).1).own;
+        outside = λ o h. sym (ap (encloses binding.scope) h) ∙ e.enabled.outside;
+      })
+  enabled_in n s (inr e) = inr (s, e.0, e.1)
 
   fits_in : (c : Commit) → IsIn (joined_by cell) offer c → Fits (joined_by cell) offer marks c
   fits_in c h = ⊎_elim
       (λ (n : h.way.partner ≡ None). ⊎_elim
       (λ (a : IsByAlways c h.row h.way (l.alone h.row h.way h.is_joined n).cause). subst (Fits (joined_by cell) offer marks) (sym a.is) a.offers)
       (⊎_elim
-      (λ (a : IsByNack c h.row h.way (l.alone h.row h.way h.is_joined n).cause). subst (Fits (joined_by cell) offer marks) (sym a.is) (a.offers, enabled_in a.name a.by a.enabled))
+      (λ (a : IsByNack c h.row h.way (l.alone h.row h.way h.is_joined n).cause). subst (Fits (joined_by cell) offer marks) (sym a.is) (a.offers, enabled_in a.name _ a.enabled))
       (λ (a : IsByEnd c h.row h.way (l.alone h.row h.way h.is_joined n).cause). subst (Fits (joined_by cell) offer marks) (sym a.is) (a.offers, (a.ending.start, a.ending.sync, a.ending.ended))))
       (lone_in c h n))
       (λ (p : (p : Row × ℕ) × (h.way.partner ≡ Some p)).
@@ -404,12 +402,18 @@ module _ (threads rows : ℕ) (cell : Row → Cell) (offer : Row → ℕ → Opt
       (⊎_elim
       (λ (a : IsByNack c h.row h.way alone.cause).
       let by = subst (Enables marks d) a.is e in
-      let same : by.0 ≡ a.enabled.binding = some_inj by.0 a.enabled.binding (sym by.1 ∙ a.enabled.is_bound) in
-      let row : Row = bound_row a.name a.enabled.binding in
-      let stamp = stamp_in row a.by a.enabled.is_joined d k (subst (λ (b : Binding). Involves d (bound_row a.name b)) same by.2) in
+      ⊎_elim
+      (λ (x : IsEnabledByRow (joined_by cell) offer marks a.name alone.cause).
+      let same : by.0 ≡ x.enabled.binding = some_inj by.0 x.enabled.binding (sym by.1 ∙ x.enabled.is_bound) in
+      let row : Row = bound_row a.name x.enabled.binding in
+      let stamp = stamp_in row x.by x.enabled.is_joined d k (subst (λ (b : Binding). Involves d (bound_row a.name b)) same by.2) in
       let due = alone.stamp in
-      let caused : alone.cause ≡ a.by.stamp = a.stamp in
+      let caused : alone.cause ≡ x.by.stamp = x.stamp in
       omega arith)
+      (λ (x : (1 ≤ alone.cause) × (marks.carried a.name ≡ Some alone.cause)).
+      let bad : None ≡ Some alone.cause = sym (l.settled a.name by.0 by.1) ∙ x.1 in
+      cc)
+      a.enabled)
       (λ (a : IsByEnd c h.row h.way alone.cause).
       let by = subst (Enables marks d) a.is e in
       let row : Row = row_at a.thread by.0 in
@@ -444,15 +448,16 @@ module _ (threads rows : ℕ) (cell : Row → Cell) (offer : Row → ℕ → Opt
       omega arith
   above_in c h d k (inr e) = enabler_below c d h k e
 
-  -- WHAT A STAMP COUNTS: a commit, or a start
+  -- WHAT A STAMP COUNTS: a commit, a start, or a nack that an earlier table settled
   abbrev IsDue : Commit → ℕ → Type 0
   IsDue c a =
       ((d : Commit) × IsIn (joined_by cell) offer d × CountsFor marks d c × (stamp_of d ≡ a))
-      ⊎ ((t : ℕ) × CountsThread c t × (start_of (marks.course t) ≡ a))
+      ⊎ (((t : ℕ) × CountsThread c t × (start_of (marks.course t) ≡ a))
+      ⊎ IsCarriedBy marks c a)
 
   -- the last stamp at a place of a thread, where its start counts, and so does a commit of the row before
   last_due : (c : Commit) (t g : ℕ) → CountsThread c t → ((n : ℕ) (d : Commit) → g ≡ suc n → Involves d (row_at t n) → CountsFor marks d c) → 0 < last_stamp marks (joined_by cell) (row_at t g) → IsDue c (last_stamp marks (joined_by cell) (row_at t g))
-  last_due c t zero counts before b = inr (t, counts, refl)
+  last_due c t zero counts before b = inr (inl (t, counts, refl))
   last_due c t (suc n) counts before b =
       let last = last_suc t n in
       ⊎_elim
@@ -474,22 +479,25 @@ module _ (threads rows : ℕ) (cell : Row → Cell) (offer : Row → ℕ → Opt
   -- the commit that enabled the nack, or what counts at an end, where the cause has a stamp
   cause_due : (c : Commit) (r : Row) (j : Joined) (s : ℕ) → IsBy c r j s → 0 < s → IsDue c s
   cause_due c r j s (inl a) b = let z : s ≡ 0 = a.stamp in absurd (omega arith)
-  cause_due c r j s (inr (inl a)) b =
-      let row : Row = bound_row a.name a.enabled.binding in
-      let by : CausedBy marks (commit_of_joined row a.by a.enabled.is_joined).0 (cause.Nack a.name) = (a.enabled.binding, a.enabled.is_bound, involves_own row a.by a.enabled.is_joined) in
+  cause_due c r j s (inr (inl a)) b = ⊎_elim
+      (λ (x : IsEnabledByRow (joined_by cell) offer marks a.name s).
+      let row : Row = bound_row a.name x.enabled.binding in
+      let by : CausedBy marks (commit_of_joined row x.by x.enabled.is_joined).0 (cause.Nack a.name) = (x.enabled.binding, x.enabled.is_bound, involves_own row x.by x.enabled.is_joined) in
       inl (
-        (commit_of_joined row a.by a.enabled.is_joined).0,
-        in_of_joined row a.by a.enabled.is_joined,
-        inr (subst (Enables marks (commit_of_joined row a.by a.enabled.is_joined).0) (sym a.is) by),
-        stamp_own row a.by a.enabled.is_joined ∙ sym a.stamp,
-      )
+        (commit_of_joined row x.by x.enabled.is_joined).0,
+        in_of_joined row x.by x.enabled.is_joined,
+        inr (subst (Enables marks (commit_of_joined row x.by x.enabled.is_joined).0) (sym a.is) by),
+        stamp_own row x.by x.enabled.is_joined ∙ sym x.stamp,
+      ))
+      (λ (x : (1 ≤ s) × (marks.carried a.name ≡ Some s)). inr (inr (subst (λ (y : Commit). IsCarriedBy marks y s) (sym a.is) x.1)))
+      a.enabled
   cause_due c r j s (inr (inr a)) b =
       subst (IsDue c) (sym a.ending.stamp) (
       last_due c a.thread a.ending.sync (subst (λ (x : Commit). CountsThread x a.thread) (sym a.is) (inr refl))
       (λ n d e w. inr (subst (Enables marks d) (sym a.is) (n, w)))
       (subst (λ n. 0 < n) a.ending.stamp b))
 
-  next_in : (c : Commit) → IsIn (joined_by cell) offer c → (stamp_of c ≡ 1) ⊎ ((d : Commit) × IsIn (joined_by cell) offer d × CountsFor marks d c × (stamp_of c ≡ stamp_of d + 1)) ⊎ ((t : ℕ) × CountsThread c t × (stamp_of c ≡ start_of (marks.course t) + 1))
+  next_in : (c : Commit) → IsIn (joined_by cell) offer c → (stamp_of c ≡ 1) ⊎ ((d : Commit) × IsIn (joined_by cell) offer d × CountsFor marks d c × (stamp_of c ≡ stamp_of d + 1)) ⊎ ((t : ℕ) × CountsThread c t × (stamp_of c ≡ start_of (marks.course t) + 1)) ⊎ ((s : ℕ) × IsCarriedBy marks c s × (stamp_of c ≡ s + 1))
   next_in c h =
       let at = named_rows offer h.row h.way c h.is_named in
       ⊎_elim
@@ -501,11 +509,12 @@ module _ (threads rows : ℕ) (cell : Row → Cell) (offer : Row → ℕ → Opt
       pick (last_stamp marks (joined_by cell) h.row) (last_stamp marks (joined_by cell) p.0.0) (at.stamp ∙ s) (own_due c h.row (h.way.own, at.own)) (own_due c p.0.0 (p.0.1, at.other p.0 p.1)))
       (cases_Option h.way.partner)
     where
-      follows : (a : ℕ) → stamp_of c ≡ 1 + a → IsDue c a → (stamp_of c ≡ 1) ⊎ ((d : Commit) × IsIn (joined_by cell) offer d × CountsFor marks d c × (stamp_of c ≡ stamp_of d + 1)) ⊎ ((t : ℕ) × CountsThread c t × (stamp_of c ≡ start_of (marks.course t) + 1))
+      follows : (a : ℕ) → stamp_of c ≡ 1 + a → IsDue c a → (stamp_of c ≡ 1) ⊎ ((d : Commit) × IsIn (joined_by cell) offer d × CountsFor marks d c × (stamp_of c ≡ stamp_of d + 1)) ⊎ ((t : ℕ) × CountsThread c t × (stamp_of c ≡ start_of (marks.course t) + 1)) ⊎ ((s : ℕ) × IsCarriedBy marks c s × (stamp_of c ≡ s + 1))
       follows a s (inl d) = let at : stamp_of d.0 ≡ a = d.3 in inr (inl (d.0, d.1, d.2, omega arith))
-      follows a s (inr t) = let at : start_of (marks.course t.0) ≡ a = t.2 in inr (inr (t.0, t.1, omega arith))
+      follows a s (inr (inl t)) = let at : start_of (marks.course t.0) ≡ a = t.2 in inr (inr (inl (t.0, t.1, omega arith)))
+      follows a s (inr (inr x)) = inr (inr (inr (a, x, omega arith)))
 
-      pick : (a b : ℕ) → stamp_of c ≡ 1 + max a b → (0 < a → IsDue c a) → (0 < b → IsDue c b) → (stamp_of c ≡ 1) ⊎ ((d : Commit) × IsIn (joined_by cell) offer d × CountsFor marks d c × (stamp_of c ≡ stamp_of d + 1)) ⊎ ((t : ℕ) × CountsThread c t × (stamp_of c ≡ start_of (marks.course t) + 1))
+      pick : (a b : ℕ) → stamp_of c ≡ 1 + max a b → (0 < a → IsDue c a) → (0 < b → IsDue c b) → (stamp_of c ≡ 1) ⊎ ((d : Commit) × IsIn (joined_by cell) offer d × CountsFor marks d c × (stamp_of c ≡ stamp_of d + 1)) ⊎ ((t : ℕ) × CountsThread c t × (stamp_of c ≡ start_of (marks.course t) + 1)) ⊎ ((s : ℕ) × IsCarriedBy marks c s × (stamp_of c ≡ s + 1))
       pick a b s f g = ⊎_elim
           (λ (lt : a < b). follows b (omega arith) (g (omega arith)))
           (λ (le : b ≤ a). ⊎_elim
@@ -562,6 +571,35 @@ module _ (threads rows : ℕ) (cell : Row → Cell) (offer : Row → ℕ → Opt
       absurd_of : ⊥ → start_of (marks.course t) < stamp_of c
       absurd_of x = absurd x
 
+  -- and above that of a nack that an earlier table settled
+  carried_below : (c : Commit) (s : ℕ) → IsIn (joined_by cell) offer c → IsCarriedBy marks c s → s < stamp_of c
+  carried_below c s h by =
+      let at = named_rows offer h.row h.way c h.is_named in
+      ⊎_elim
+      (λ (n : h.way.partner ≡ None).
+      let alone = l.alone h.row h.way h.is_joined n in
+      ⊎_elim
+      (λ (a : IsByAlways c h.row h.way alone.cause). absurd (subst (λ (x : Commit). IsCarriedBy marks x s) a.is by))
+      (⊎_elim
+      (λ (a : IsByNack c h.row h.way alone.cause).
+      let carried = subst (λ (x : Commit). IsCarriedBy marks x s) a.is by in
+      ⊎_elim
+      (λ (x : IsEnabledByRow (joined_by cell) offer marks a.name alone.cause). let bad : None ≡ Some s = sym x.uncarried ∙ carried in cc)
+      (λ (x : (1 ≤ alone.cause) × (marks.carried a.name ≡ Some alone.cause)).
+      let same : s ≡ alone.cause = some_inj s alone.cause (sym carried ∙ x.1) in
+      let due = at.stamp ∙ alone.stamp in
+      omega arith)
+      a.enabled)
+      (λ (a : IsByEnd c h.row h.way alone.cause). absurd (subst (λ (x : Commit). IsCarriedBy marks x s) a.is by)))
+      (lone_in c h n))
+      (λ (p : (p : Row × ℕ) × (h.way.partner ≡ Some p)).
+      let side : IsSideOf cell offer marks h.row h.way p.0 = l.sides h.row h.way p.0 h.is_joined p.1 in
+      ⊎_elim
+      (λ (x : IsSent offer (h.row, h.way.own) p.0 h.way.stamp c). absurd (subst (λ (y : Commit). IsCarriedBy marks y s) x.is by))
+      (λ (x : IsSent offer p.0 (h.row, h.way.own) h.way.stamp c). absurd (subst (λ (y : Commit). IsCarriedBy marks y s) x.is by))
+      (pair_of_named offer h.row h.way p.0 c p.1 side.meets h.is_named))
+      (cases_Option h.way.partner)
+
   pub lawful_linked : Lawful (all_rows threads rows) (joined_by cell) offer marks
   lawful_linked = record {
     named = λ r j e. let c = commit_of_joined r j e in some_is_some (commit_named offer r j) c.0 c.1;
@@ -570,7 +608,8 @@ module _ (threads rows : ℕ) (cell : Row → Cell) (offer : Row → ℕ → Opt
     in_turn = λ c t g b h v lt.
         let j = some_parts _ (joined_before t g b (behind_open t g (open_of c (row_at t g) h v)) lt) in
         ((commit_of_joined (row_at t b) j.0 j.1).0, in_of_joined (row_at t b) j.0 j.1, involves_own (row_at t b) j.0 j.1);
-    stamps = λ c h. record { above = above_in c h; after_start = λ t counts. start_below c t h counts; next = next_in c h };
-    bounded = λ c h. subst (λ n. n ≤ length (commits_of (all_rows threads rows) (joined_by cell) offer)) (sym (named_rows offer h.row h.way c h.is_named).stamp) (l.bounded h.row h.way h.is_joined);
+    stamps = λ c h. record { above = above_in c h; after_start = λ t counts. start_below c t h counts; after_carried = λ s by. carried_below c s h by; next = next_in c h };
+    bounded = λ c h. subst (λ n. n ≤ marks.opening + length (commits_of (all_rows threads rows) (joined_by cell) offer)) (sym (named_rows offer h.row h.way c h.is_named).stamp) (l.bounded h.row h.way h.is_joined);
+    carried = l.carried;
     lived = λ c r h v. l.lived r (open_of c r h v);
   }

@@ -1,31 +1,38 @@
 -- The ledger of a table has what the table reads as; the start is kept; so every schedule's ledger is lawful.
-use Rattle.std.proofs.Common.{◌≡◌, ◌≢◌, ℕ, zero, suc, ◌+◌, ◌-◌, ◌*◌, ◌%◌, ◌^◌, ◌<◌, ◌≤◌, Bool, eqb, set, length-set, get_or-set_same, get_or-set_other, true, false, cond, ltb, List, [], ◌∷◌, length, get_or, map, replicate, ◌++◌, sym, refl, ap, ◌∙◌, subst, ⊎_elim, arith, Option, Some, None, is_some}
+use Rattle.std.proofs.Common.{◌≡◌, ◌≢◌, ℕ, zero, suc, ◌+◌, ◌-◌, ◌*◌, ◌%◌, ◌^◌, ◌<◌, ◌≤◌, ◌&&◌, max, Bool, eqb, set, length-set, get_or-set_same, get_or-set_other, true, false, cond, ltb, List, [], ◌∷◌, length, get_or, map, replicate, ◌++◌, sym, refl, ap, ◌∙◌, subst, ⊎_elim, arith, Option, Some, None, is_some}
 use Rattle.std.specs.Prelude.{unwrap_or, option_to_list}
-use Rattle.std.specs.List.{range_with_len}
+use Rattle.std.specs.List.{fold, range_with_len}
 use Rattle.std.proofs.lemmas.Bool.{cases_eq, cases_Bool, cases_lt, false≢true, true≢false, and_from, and_parts, lt-ltb, ltb-true, ne_eqb}
 use Rattle.std.proofs.lemmas.List.{get_or_append_left, get_or-append_right, get_or-map, get_or_past, get_or-replicate, length-append, length-replicate, length-map}
 use Rattle.std.proofs.lemmas.List.FromFn.{get_or-map-range_with_len, length-map-range_with_len}
-use Rattle.std.proofs.Math.Nat.{zero-div}
+use Rattle.std.proofs.Math.Nat.{mul-le-mul_right, zero-div}
 use Rattle.protocol_values.specs.declared.Row.{Row}
 use Rattle.protocol_values.specs.declared.NackName.{NackName}
 use Rattle.protocol_values.specs.declared.Joined.{Joined}
 use Rattle.protocol_values.specs.declared.Offer.{Offer}
 use Rattle.protocol_values.specs.declared.Binding.{Binding}
+use Rattle.protocol_values.specs.declared.NackWord.{NackWord}
+use Rattle.protocol_values.specs.declared.NackWord.TheVariants.{Unbound}
+use Rattle.protocol.specs.declared.opening.Life.{Life}
+use Rattle.protocol.specs.declared.opening.Life.TheVariants as life
+use Rattle.protocol.specs.declared.opening.NackState.{NackState}
+use Rattle.protocol.specs.declared.opening.NackState.TheVariants as nack
 use Rattle.protocol_values.specs.declared.Course.{Course}
 use Rattle.protocol_values.specs.declared.Course.TheVariants.{Unstarted, Running, Ended}
 use Rattle.protocol_values.specs.declared.Seat.{Seat}
 use Rattle.protocol_values.specs.declared.Step.{Step}
 use Rattle.protocol_values.specs.declared.Cell.{Cell}
 use Rattle.protocol_values.specs.declared.Cell.TheVariants.{Fresh}
-use Rattle.protocol_values.specs.Words.{cell_of, course_of, course_word, IsCourseInRange, nack_of, is_word_for}
-use Rattle.protocol_values.proofs.WordLemmas.{cell_of-zero, course_of-course_word, nack_of-zero, is_word_for-zero}
-use Rattle.protocol.specs.Tables.{Table, Marks, course_at, course_place, marks_at, start_of, thread_len, place_of, nack_place, is_row, is_nack, all_rows, rows_below, number_of, word_at, nack_at, cell_at, is_fresh, joined_at, count_at, offer_at, binding_at, names}
+use Rattle.protocol_values.specs.Words.{course_word, nack_of, nack_word}
+use Rattle.protocol.specs.Tables.{Table, Marks, course_at, course_place, marks_at, start_of, thread_len, place_of, nack_place, is_row, is_nack, all_rows, rows_below, number_of, word_at, nack_at, cell_at, is_fresh, joined_at, count_at, offer_at, nack_says, bound_by, carried_by, binding_at, carried_at}
 use Rattle.protocol_values.specs.Values.{joined_of}
 use Rattle.protocol.specs.Worlds.{World, start_world, first_holder, holder_at, Plays, waits, with_lives}
-use Rattle.protocol.specs.Ledgers.{course_in, marks_in, Entry, ledger_of, entry_at, no_entry, entry_in, joined_in, offer_in, binding_in, all_nacks, nacks_below, commits_in, commits_of, rows_in, told_at, told_by, Lawful, IsLawful}
+use Rattle.protocol.specs.Ledgers.{course_in, marks_in, Entry, ledger_of, entry_at, no_entry, entry_in, joined_in, offer_in, nack_in, binding_in, carried_in, all_nacks, nacks_below, commits_in, commits_of, rows_in, told_at, told_by, Lawful, IsLawful}
 use Rattle.protocol.specs.Kept.{Linked, Kept}
+use Rattle.protocol.specs.Openings.{AreFirstWords, Begins, IsOpening, Opening, course_for, first_life, greatest, held_first, is_running, stamp_in, start_opening, state_in, thread_in, word_for}
 use Rattle.protocol.proofs.Places.{block_inside, course_apart, course_nack_apart, course_place_inside, row_inside, same_course_place}
-use Rattle.protocol.proofs.Readings.{cell_outside, cell_inside, binding_inside, binding_outside, course_inside, course_outside, offer_none, count_fresh}
+use Rattle.protocol.proofs.Beginning.{first_binding, first_cell, first_course, kept_begins}
+use Rattle.protocol.proofs.Readings.{cell_outside, course_outside, offer_none, count_fresh}
 use Rattle.protocol.proofs.Keeping.{length_all, length_below, kept_schedule, held_row}
 use Rattle.protocol.proofs.Lawfulness.{lawful_linked}
 
@@ -134,24 +141,36 @@ nack_at_number (suc t) n d h k =
     get_or_append_left (all_nacks t) (nacks_below t 64) d (n.thread * 64 + n.k) (omega (arith, m)) ∙ nack_at_number t n d (omega (arith, m)) k)
     (cases_eq n.thread t)
 
-pub binding_in_ledger : (t : Table) → binding_in (ledger_of t) ≡ binding_at t
-unfolding binding_in binding_at ledger_of is_nack
-binding_in_ledger t = λ i n. at n i
+nack_in_ledger : (t : Table) → nack_in (ledger_of t) ≡ nack_says t
+unfolding nack_in nack_says ledger_of is_nack
+nack_in_ledger t = λ i n. at n i
   where
-    at : (n : NackName) → binding_in (ledger_of t) n ≡ binding_at t n
+    at : (n : NackName) → nack_in (ledger_of t) n ≡ nack_says t n
     at n = ⊎_elim
         (λ (e : is_nack t n ≡ true).
         let p = and_parts (ltb n.thread t.threads) (ltb n.k 64) e in
         let below = ltb-true n.thread t.threads p.0 in
         let small = ltb-true n.k 64 p.1 in
         let len = length_nacks t.threads in
-        ap (λ b. cond b (get_or (map (binding_at t) (all_nacks t.threads)) (n.thread * 64 + n.k) None) None) e
-        ∙ get_or-map (binding_at t) (all_nacks t.threads) (n.thread * 64 + n.k) n None (omega arith)
-        ∙ ap (binding_at t) (nack_at_number t.threads n n below small))
+        ap (λ b. cond b (get_or (map (nack_says t) (all_nacks t.threads)) (n.thread * 64 + n.k) Unbound) Unbound) e
+        ∙ get_or-map (nack_says t) (all_nacks t.threads) (n.thread * 64 + n.k) n Unbound (omega arith)
+        ∙ ap (nack_says t) (nack_at_number t.threads n n below small))
         (λ (e : is_nack t n ≡ false).
-        ap (λ b. cond b (get_or (map (binding_at t) (all_nacks t.threads)) (n.thread * 64 + n.k) None) None) e
-        ∙ sym (ap (λ b. cond b (unwrap_or (nack_of (nack_at t n)) None) None) e))
+        ap (λ b. cond b (get_or (map (nack_says t) (all_nacks t.threads)) (n.thread * 64 + n.k) Unbound) Unbound) e
+        ∙ sym (ap (λ b. cond b (unwrap_or (nack_of (nack_at t n)) Unbound) Unbound) e))
         (cases_Bool (is_nack t n))
+
+pub binding_in_ledger : (t : Table) → binding_in (ledger_of t) ≡ binding_at t
+unfolding binding_in binding_at
+binding_in_ledger t = λ i n. bound_by (nack_in_ledger t i n)
+
+pub carried_in_ledger : (t : Table) → carried_in (ledger_of t) ≡ carried_at t
+unfolding carried_in carried_at
+carried_in_ledger t = λ i n. carried_by (nack_in_ledger t i n)
+
+pub opening_in_ledger : (t : Table) → (ledger_of t).opening ≡ t.opening
+unfolding ledger_of
+opening_in_ledger t = refl
 
 -- THE THREAD AT A NUMBER
 
@@ -168,7 +187,7 @@ course_in_ledger t = λ i p. at p i
         (cases_lt p t.threads)
 
 pub marks_in_ledger : (t : Table) → marks_in (ledger_of t) ≡ marks_at t
-marks_in_ledger t = λ i. record { bound = binding_in_ledger t i; course = course_in_ledger t i }
+marks_in_ledger t = λ i. record { bound = binding_in_ledger t i; carried = carried_in_ledger t i; course = course_in_ledger t i; opening = opening_in_ledger t i }
 
 -- THE START
 
@@ -176,7 +195,7 @@ unstarted_word : course_word Unstarted ≡ 0
 unfolding course_word
 unstarted_word = refl
 
-zeros : (n i : ℕ) → ◌≡◌ {A = ℕ} (get_or (replicate n 0) i 0) 0
+pub zeros : (n i : ℕ) → ◌≡◌ {A = ℕ} (get_or (replicate n 0) i 0) 0
 zeros n i = ⊎_elim
     (λ (h : i < n). get_or-replicate n i 0 0 h)
     (λ (h : n ≤ i). let l = length-replicate {A = ℕ} n 0 in get_or_past {X = ℕ} (replicate n 0) i 0 (omega arith))
@@ -234,7 +253,7 @@ abbrev start_words : ℕ → ℕ → ℕ → List ℕ
 start_words threads rows later = with_lives later rows threads (replicate (threads * thread_len rows) 0)
 
 abbrev start_table : ℕ → ℕ → ℕ → Table
-start_table threads rows later = record { threads = threads; rows = rows; words = start_words threads rows later }
+start_table threads rows later = record { threads = threads; rows = rows; words = start_words threads rows later; opening = 0 }
 
 pub length_start : (threads rows later : ℕ) → length (start_words threads rows later) ≡ threads * thread_len rows
 length_start threads rows later = length_lives later rows (replicate (threads * thread_len rows) 0) threads ∙ length-replicate (threads * thread_len rows) 0
@@ -266,43 +285,69 @@ start_life threads rows later p h = ⊎_elim
     ∙ ap (λ b. course_word (cond b Unstarted (Running 0))) (sym e))
     (cases_Bool (waits later p))
 
-first_in_range : (b : Bool) → IsCourseInRange (cond b Unstarted (Running 0))
-first_in_range true = tt
-first_in_range false = let low : 0 < 2 ^ 32 = omega arith in low
+-- the opening of a first table
+first_thread : (threads later p : ℕ) → p < threads → thread_in (start_opening threads later) p ≡ first_life later p
+first_thread threads later p h = get_or-map-range_with_len (first_life later) 0 threads p p (life.Unstarted, 0) h (omega arith)
+
+first_state : (threads later : ℕ) (n : NackName) → state_in (start_opening threads later) n ≡ nack.Unbound
+first_state threads later n = ⊎_elim
+    (λ (h : n.thread * 64 + n.k < threads * 64). get_or-replicate (threads * 64) (n.thread * 64 + n.k) nack.Unbound nack.Unbound h)
+    (λ (h : threads * 64 ≤ n.thread * 64 + n.k).
+    let l = length-replicate {A = NackState} (threads * 64) nack.Unbound in
+    get_or_past (replicate {A = NackState} (threads * 64) nack.Unbound) (n.thread * 64 + n.k) nack.Unbound (omega arith))
+    (cases_lt (n.thread * 64 + n.k) (threads * 64))
+
+no_stamps : (later : ℕ) (ts : List ℕ) → fold (λ most (x : Life × ℕ). max most x.1) 0 (map (first_life later) ts) ≡ 0
+no_stamps later [] = refl
+no_stamps later (t ∷ ts) = no_stamps later ts
+
+no_states : (n : ℕ) → fold (λ most x. max most (stamp_in x)) 0 (replicate n nack.Unbound) ≡ 0
+no_states zero = refl
+no_states (suc n) = no_states n
+
+pub start_greatest : (threads later : ℕ) → greatest (start_opening threads later) ≡ 0
+start_greatest threads later = λ i. max (no_stamps later (range_with_len 0 threads) i) (no_states (threads * 64) i)
+
+start_threads : (threads later : ℕ) → length (start_opening threads later).threads ≡ threads
+start_threads threads later = length-map-range_with_len (first_life later) 0 threads
+
+course_first : (b : Bool) → course_word (cond b Unstarted (Running 0)) ≡ course_word (course_for (cond b life.Unstarted life.Running) 0)
+course_first true = refl
+course_first false = refl
+
+nothing_says : nack_word Unbound ≡ 0
+unfolding nack_word
+nothing_says = refl
+
+first_words : (threads rows later : ℕ) → AreFirstWords (start_opening threads later) (start_table threads rows later)
+first_words threads rows later = record {
+  sized = length_start threads rows later;
+  blank = start_word threads rows later;
+  nacks = λ n e. start_nack threads rows later n e ∙ sym nothing_says ∙ ap (λ (s : NackState). nack_word (word_for s)) (sym (first_state threads later n));
+  lives = λ p h.
+      start_life threads rows later p h
+      ∙ course_first (waits later p)
+      ∙ ap (λ (x : Life × ℕ). course_word (course_for x.0 x.1)) (sym (first_thread threads later p h));
+}
+
+start_low : (threads later : ℕ) → greatest (start_opening threads later) ≤ 4294967295
+start_low threads later = let z = start_greatest threads later in omega arith
 
 pub start_course : (threads rows later p : ℕ) → p < threads → course_at (start_table threads rows later) p ≡ cond (waits later p) Unstarted (Running 0)
 start_course threads rows later p h =
-    course_inside (start_table threads rows later) p h
-    ∙ ap (λ w. unwrap_or (course_of w) Unstarted) (start_life threads rows later p h)
-    ∙ ap (λ (o : Option Course). unwrap_or o Unstarted) (course_of-course_word (cond (waits later p) Unstarted (Running 0)) (first_in_range (waits later p)))
-
-start_unended : (threads rows later p : ℕ) → (start_of (course_at (start_table threads rows later) p) ≡ 0) × ((start sync : ℕ) → course_at (start_table threads rows later) p ≡ Ended start sync → ⊥)
-start_unended threads rows later p = ⊎_elim
-    (λ (h : p < threads). by_course _ (waits later p) (start_course threads rows later p h))
-    (λ (h : threads ≤ p). (ap start_of (course_outside (start_table threads rows later) p h), λ start sync e. let bad : Unstarted ≡ Ended start sync = sym (course_outside (start_table threads rows later) p h) ∙ e in cc))
-    (cases_lt p threads)
+    first_course (start_opening threads later) (start_table threads rows later) (first_words threads rows later) (start_low threads later) p h
+    ∙ ap (λ (x : Life × ℕ). course_for x.0 x.1) (first_thread threads later p h)
+    ∙ by_mask (waits later p)
   where
-    by_course : (c : Course) (b : Bool) → c ≡ cond b Unstarted (Running 0) → (start_of c ≡ 0) × ((start sync : ℕ) → c ≡ Ended start sync → ⊥)
-    by_course c true e = (ap start_of e, λ start sync d. let bad : Unstarted ≡ Ended start sync = sym e ∙ d in cc)
-    by_course c false e = (ap start_of e, λ start sync d. let bad : Running 0 ≡ Ended start sync = sym e ∙ d in cc)
+    by_mask : (b : Bool) → course_for (cond b life.Unstarted life.Running) 0 ≡ cond b Unstarted (Running 0)
+    by_mask true = refl
+    by_mask false = refl
 
 pub start_binding : (threads rows later : ℕ) (n : NackName) → binding_at (start_table threads rows later) n ≡ None
-start_binding threads rows later n = ⊎_elim
-    (λ (e : is_nack (start_table threads rows later) n ≡ true).
-    binding_inside (start_table threads rows later) n e
-    ∙ ap (λ w. unwrap_or (nack_of w) None) (start_nack threads rows later n e)
-    ∙ ap (λ (o : Option (Option Binding)). unwrap_or o None) nack_of-zero)
-    (λ (e : is_nack (start_table threads rows later) n ≡ false). binding_outside (start_table threads rows later) n e)
-    (cases_Bool (is_nack (start_table threads rows later) n))
+start_binding threads rows later = first_binding (start_opening threads later) (start_table threads rows later) (first_words threads rows later) (start_low threads later)
 
 pub start_cell : (threads rows later : ℕ) (r : Row) → cell_at (start_table threads rows later) r ≡ Fresh
-start_cell threads rows later r = ⊎_elim
-    (λ (e : is_row (start_table threads rows later) r ≡ true).
-    cell_inside (start_table threads rows later) r e
-    ∙ ap (λ w. unwrap_or (cell_of w) Fresh) (start_word threads rows later r 0 e (omega arith))
-    ∙ ap (λ (o : Option Cell). unwrap_or o Fresh) cell_of-zero)
-    (λ (e : is_row (start_table threads rows later) r ≡ false). cell_outside (start_table threads rows later) r e)
-    (cases_Bool (is_row (start_table threads rows later) r))
+start_cell threads rows later = first_cell (start_opening threads later) (start_table threads rows later) (first_words threads rows later) (start_low threads later)
 
 -- where no row is joined there are no commits
 none_told : (rows : List Row) (joined : Row → Option Joined) (offer : Row → ℕ → Option Offer) → ((r : Row) → joined r ≡ None) → commits_of rows joined offer ≡ []
@@ -330,78 +375,49 @@ start_holder threads rows seats later r h k =
 pub length_holders : (threads rows seats later : ℕ) → length (map (first_holder seats later) (all_rows threads rows)) ≡ threads * rows
 length_holders threads rows seats later = length-map (all_rows threads rows) (first_holder seats later) ∙ length_all threads rows
 
-nobody_last : (threads t : ℕ) → get_or (replicate {A = Option ℕ} threads None) t None ≡ None
-nobody_last threads t = ⊎_elim
-    (λ (h : t < threads). get_or-replicate threads t None None h)
-    (λ (h : threads ≤ t). let l = length-replicate {A = Option ℕ} threads None in get_or_past (replicate {A = Option ℕ} threads None) t None (omega arith))
-    (cases_lt t threads)
-
--- a row that is held at the start is the first of a thread that does not wait
-holds_first : (later seats : ℕ) (r : Row) → first_holder seats later r ≢ None → waits later r.thread ≡ false
-holds_first later seats r h = ⊎_elim
-    (λ (e : waits later r.thread ≡ true). absurd (h (ap (λ b. cond b None (cond (eqb r.sync 0) (Some (r.thread % seats)) None)) e)))
-    (λ (e : waits later r.thread ≡ false). e)
-    (cases_Bool (waits later r.thread))
-
-held_first : (later seats t g seat : ℕ) → first_holder seats later (record { thread = t; sync = g + 1 }) ≡ Some seat → ⊥
-held_first later seats t g seat h = ⊎_elim
-    (λ (e : waits later t ≡ true). let bad : None ≡ Some seat = sym (ap (λ b. cond b None (cond (eqb (g + 1) 0) (Some (t % seats)) None)) e) ∙ h in cc)
-    (λ (e : waits later t ≡ false).
-    let bad : None ≡ Some seat =
-    sym (ap (λ b. cond b None (cond (eqb (g + 1) 0) (Some (t % seats)) None)) e ∙ ap (λ c. cond c (Some (t % seats)) None) (ne_eqb (g + 1) 0 (λ d. absurd (omega arith)))) ∙ h in
-    cc)
-    (cases_Bool (waits later t))
-
-start_begun : (threads rows seats later : ℕ) (r : Row) → holder_at (start_world threads rows seats later) r ≢ None → course_at (start_table threads rows later) r.thread ≢ Unstarted
-start_begun threads rows seats later r h e = ⊎_elim
-    (λ (i : is_row (start_table threads rows later) r ≡ true).
-    let inside = row_inside (start_table threads rows later) r i in
-    let at = start_holder threads rows seats later r inside.0 inside.1 in
-    let free = holds_first later seats r (λ n. h (at ∙ n)) in
-    let bad : Running 0 ≡ Unstarted = sym (start_course threads rows later r.thread inside.0 ∙ ap (λ b. cond b Unstarted (Running 0)) free) ∙ e in
-    cc)
-    (λ (i : is_row (start_table threads rows later) r ≡ false). h (nobody_outside i))
-    (cases_Bool (is_row (start_table threads rows later) r))
+-- a first table goes on from that opening
+first_held : (threads later seats : ℕ) (r : Row) → r.thread < threads → first_holder seats later r ≡ held_first (start_opening threads later) seats r
+first_held threads later seats r h =
+    by_mask (waits later r.thread) (eqb r.sync 0) (Some (r.thread % seats))
+    ∙ ap (λ (x : Life × ℕ). cond (eqb r.sync 0 && is_running x.0) (Some (r.thread % seats)) None) (sym (first_thread threads later r.thread h))
   where
-    nobody_outside : is_row (start_table threads rows later) r ≡ false → holder_at (start_world threads rows seats later) r ≡ None
-    nobody_outside i = held_nowhere threads rows seats later r i
+    by_mask : (b zeroth : Bool) (seat : Option ℕ) → cond b None (cond zeroth seat None) ≡ cond (zeroth && is_running (cond b life.Unstarted life.Running)) seat None
+    by_mask true true seat = refl
+    by_mask true false seat = refl
+    by_mask false true seat = refl
+    by_mask false false seat = refl
+
+pub start_begins : (threads rows seats later : ℕ) → Begins (start_opening threads later) rows seats (start_world threads rows seats later)
+unfolding start_world
+start_begins threads rows seats later = record {
+  threads = sym (start_threads threads later);
+  rows_are = refl;
+  seats_are = refl;
+  opening = sym (start_greatest threads later);
+  words = first_words threads rows later;
+  all_rows = length_holders threads rows seats later;
+  held = λ r e.
+      let inside = row_inside (start_table threads rows later) r e in
+      start_holder threads rows seats later r inside.0 inside.1 ∙ first_held threads later seats r inside.0;
+  lasts = ap (λ n. replicate n None) (sym (start_threads threads later));
+}
 
 pub kept_start : (threads rows seats later : ℕ) → threads ≤ 64 → rows ≤ 1024 → Kept (start_world threads rows seats later)
-unfolding start_world
-kept_start threads rows seats later a b = record {
-  sized = length_start threads rows later;
-  few_threads = a;
-  few_rows = b;
-  formed = record {
-    rows = λ r p i k. ap (is_word_for p) (start_word threads rows later r p i k) ∙ is_word_for-zero p;
-    nacks = λ n i. ap (λ w. is_some (nack_of w)) (start_nack threads rows later n i) ∙ ap (λ (o : Option (Option Binding)). is_some o) nack_of-zero;
-    lives = λ p i.
-        ap (λ w. is_some (course_of w)) (start_life threads rows later p i)
-        ∙ ap (λ (o : Option Course). is_some o) (course_of-course_word (cond (waits later p) Unstarted (Running 0)) (first_in_range (waits later p)));
-  };
-  linked = record {
-    inside = λ r h. absurd (true≢false (sym (ap is_fresh (start_cell threads rows later r)) ∙ h));
-    in_turn = λ t g h. absurd (true≢false (sym (ap is_fresh (start_cell threads rows later (record { thread = t; sync = g + 1 }))) ∙ h));
-    alone = λ r j h k. let bad : None ≡ Some j = sym (ap joined_of (start_cell threads rows later r)) ∙ h in cc;
-    sides = λ r j p h k. let bad : None ≡ Some j = sym (ap joined_of (start_cell threads rows later r)) ∙ h in cc;
-    once = λ q r p h k. absurd (false≢true (sym (ap (λ (c : Cell). names (joined_of c) p) (start_cell threads rows later q)) ∙ h));
-    bounded = λ r j h. let bad : None ≡ Some j = sym (ap joined_of (start_cell threads rows later r)) ∙ h in cc;
-    lived = λ r h. absurd (true≢false (sym (ap is_fresh (start_cell threads rows later r)) ∙ h));
-    ended = λ t start sync h. absurd ((start_unended threads rows later t).1 start (sync + 1) h);
-    starts = λ t. let z = (start_unended threads rows later t).0 in omega arith;
-  };
-  held = λ t g seat h.
-      let r : Row = record { thread = t; sync = g + 1 } in
-      let in_t = row_inside (start_table threads rows later) r (held_row (start_world threads rows seats later) r seat h) in
-      absurd (held_first later seats t g seat (sym (start_holder threads rows seats later r in_t.0 in_t.1) ∙ h));
-  bound = λ n b e h. let bad : None ≡ Some b = sym (start_binding threads rows later n) ∙ e in cc;
-  begun = start_begun threads rows seats later;
-  begun_last = λ t h e. h (nobody_last threads t);
-  last_held = λ t g seat h e. let bad : None ≡ Some seat = sym (nobody_last threads t) ∙ h in cc;
-  seated = length_holders threads rows seats later;
-  seated_last = length-replicate threads None;
-  blank = λ r p i b n. start_word threads rows later r p i b;
-}
+kept_start threads rows seats later a b =
+    let n = start_threads threads later in
+    let z = start_greatest threads later in
+    let few : threads * rows ≤ 64 * rows = mul-le-mul_right rows a in
+    let same : length (start_opening threads later).threads * rows ≡ threads * rows = ap (λ m. m * rows) n in
+    kept_begins (start_opening threads later) rows seats (start_world threads rows seats later) (omega arith) b (omega arith) (start_begins threads rows seats later)
+
+pub begins_empty : (o : Opening) (rows seats : ℕ) (w : World) → IsOpening o rows → Begins o rows seats w → commits_in (ledger_of w.table) ≡ []
+begins_empty o rows seats w opens begins =
+    let room = opens.room in
+    none_told (rows_in (ledger_of w.table)) (joined_in (ledger_of w.table)) (offer_in (ledger_of w.table))
+    (λ r. ap (λ (f : Row → Option Joined). f r) (joined_in_ledger w.table) ∙ ap joined_of (first_cell o w.table begins.words (omega arith) r))
+
+pub kept_opening : (o : Opening) (rows seats : ℕ) (w : World) → IsOpening o rows → rows ≤ 1024 → Begins o rows seats w → Kept w
+kept_opening o rows seats w opens few begins = kept_begins o rows seats w opens.few few opens.room begins
 
 -- THE LAW OF ALL SCHEDULES
 
@@ -412,12 +428,12 @@ lawful_ledger t l =
     (λ i. (sym (joined_in_ledger t) i, sym (offer_in_ledger t) i, sym (marks_in_ledger t) i))
     (lawful_linked t.threads t.rows (cell_at t) (offer_at t) (marks_at t) l)
 
-pub lawful_schedule : (threads rows seats later : ℕ) (steps : List (Seat × Step)) (w : World) → threads ≤ 64 → rows ≤ 1024 → Plays (start_world threads rows seats later) steps w → IsLawful (ledger_of w.table)
-lawful_schedule threads rows seats later steps w a b p = lawful_ledger w.table (kept_schedule (start_world threads rows seats later) w steps (kept_start threads rows seats later a b) p).linked
+pub lawful_schedule : (o : Opening) (rows seats : ℕ) (steps : List (Seat × Step)) (b w : World) → IsOpening o rows → rows ≤ 1024 → Begins o rows seats b → Plays b steps w → IsLawful (ledger_of w.table)
+lawful_schedule o rows seats steps b w opens few begins p = lawful_ledger w.table (kept_schedule b w steps (kept_opening o rows seats b opens few begins) p).linked
 
 -- the words of a start have a lawful ledger
-pub lawful_start : (threads rows later : ℕ) (words : List ℕ) → threads ≤ 64 → rows ≤ 1024 → words ≡ with_lives later rows threads (replicate (threads * thread_len rows) 0) → IsLawful (ledger_of (record { threads = threads; rows = rows; words = words }))
+pub lawful_start : (threads rows later : ℕ) (words : List ℕ) → threads ≤ 64 → rows ≤ 1024 → words ≡ with_lives later rows threads (replicate (threads * thread_len rows) 0) → IsLawful (ledger_of (record { threads = threads; rows = rows; words = words; opening = 0 }))
 unfolding start_world
 lawful_start threads rows later words a b e =
-    subst (λ (ws : List ℕ). IsLawful (ledger_of (record { threads = threads; rows = rows; words = ws }))) (sym e)
+    subst (λ (ws : List ℕ). IsLawful (ledger_of (record { threads = threads; rows = rows; words = ws; opening = 0 }))) (sym e)
     (lawful_ledger (start_table threads rows later) (kept_start threads rows 1 later a b).linked)

@@ -7,6 +7,7 @@ pub mod Places
 pub mod Readings
 pub mod Naming
 pub mod Keeping
+pub mod Beginning
 pub mod LedgerLemmas
 pub mod Telling
 pub mod Soundness
@@ -15,6 +16,7 @@ pub mod Loops
 pub mod CommitLemmas
 pub mod Chosen
 pub mod Closing
+pub mod FirstWords
 pub mod LedgerReadings
 pub mod StampLemmas
 pub mod Starting

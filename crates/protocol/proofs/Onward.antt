@@ -21,12 +21,12 @@ use Rattle.protocol.specs.Ledgers.{HasCommit, commit_by, commit_named, pair_by, 
 use Rattle.protocol.specs.Tables.{Table, course_at, last_stamp, marks_at, all_rows, binding_at, bound_row, cause_at, cell_at, is_fresh, is_row, is_taken, joined_at, offer_at, row_eq, synched_of}
 use Rattle.protocol_values.specs.Values.{joined_of}
 use Rattle.protocol.specs.Worlds.{Allowed, Condition, HasEnded, ended_at, with_course, Plays, World, after_step, granted_by, joined_with, mirrored, nack_of_row, namer_at, sealed_by, with_cell, with_nack, with_seal, with_take, with_word}
-use Rattle.protocol.proofs.Keeping.{end_in_range, rows_lived, stamp_in_range, stands_inside, threads_lived, bind_in_range, grant_in_range, held_row, join_in_range, kept_schedule, kept_step, nack_of_thread, seal_in_range, sealed_is, sealing, synched_is}
-use Rattle.protocol.proofs.LedgerLemmas.{kept_start}
+use Rattle.protocol.proofs.Keeping.{end_in_range, opening_lived, rows_lived, waits_unjoined, stamp_in_range, stands_inside, threads_lived, bind_in_range, grant_in_range, held_row, join_in_range, kept_schedule, kept_step, nack_of_thread, seal_in_range, sealed_is, sealing, synched_is}
+use Rattle.protocol.proofs.LedgerLemmas.{kept_opening}
 use Rattle.protocol.proofs.LedgerReadings.{commits_from_table, commits_in_table}
 use Rattle.protocol.proofs.Linking.{fresh_not_joined, some_parts}
 use Rattle.protocol.proofs.Naming.{namer_names}
-use Rattle.protocol.proofs.Readings.{binding_after_life, cell_after_life, course_after_bind, course_after_word, course_lived, course_lived_other, offer_after_life, binding_after_cell, binding_after_word, binding_kept, binding_was, cell_after_bind, cell_after_cell, cell_after_word, joined_ranged, offer_after_bind, offer_after_cell, offer_after_draft, row_of_open}
+use Rattle.protocol.proofs.Readings.{binding_after_life, carried_after_bind, carried_after_cell, carried_after_life, carried_after_word, cell_after_life, course_after_bind, course_after_word, course_lived, course_lived_other, offer_after_life, binding_after_cell, binding_after_word, binding_kept, binding_was, cell_after_bind, cell_after_cell, cell_after_word, joined_ranged, offer_after_bind, offer_after_cell, offer_after_draft, row_of_open}
 use Rattle.protocol.proofs.RowLemmas.{put, put_other, put_same, row_cases}
 
 goes-same : (c : Course) → GoesOn c c
@@ -53,6 +53,8 @@ grows-same t = record {
   bound = λ n b h. h;
   unbound = λ n b h e. e;
   courses = λ p. goes-same (course_at t p);
+  opening = refl;
+  carried = λ n. refl;
 }
 
 grows-chain : (t u v : Table) → GrowsTo t u → GrowsTo u v → GrowsTo t v
@@ -65,6 +67,8 @@ grows-chain t u v one two = record {
   bound = λ n b h. two.bound n b (one.bound n b h);
   unbound = λ n b h e. one.unbound n b h (two.unbound n b (one.opened (bound_row n b) h) e);
   courses = λ p. goes-chain (course_at t p) (course_at u p) (course_at v p) (one.courses p) (two.courses p);
+  opening = two.opening ∙ one.opening;
+  carried = λ n. two.carried n ∙ one.carried n;
 }
 
 -- the cell of a row is written, which was joined in the same way or not at all
@@ -99,6 +103,8 @@ module _ (w : World) (x : Row) (c : Cell) (k : Kept w) (row : is_row w.table x �
     bound = λ n b e. ap (λ (f : NackName → Option Binding). f n) (binding_after_cell w.table x c row) ∙ e;
     unbound = λ n b h e. ap (λ (f : NackName → Option Binding). f n) (sym (binding_after_cell w.table x c row)) ∙ e;
     courses = goes-equal w.table (with_cell w.table x c) (course_after_word w.table x 0 (cell_word c) row (omega arith));
+    opening = refl;
+    carried = λ n. ap (λ (f : NackName → Option ℕ). f n) (carried_after_cell w.table x c row);
   }
 
 -- a row that was not joined
@@ -118,6 +124,8 @@ grows-draft w x p v seat k (h, f, alive, a, b, g) =
       bound = λ n c e. ap (λ (q : NackName → Option Binding). q n) (binding_after_word w.table x p v row below) ∙ e;
       unbound = λ n c h e. ap (λ (q : NackName → Option Binding). q n) (sym (binding_after_word w.table x p v row below)) ∙ e;
       courses = goes-equal w.table (with_word w.table x p v) (course_after_word w.table x p v row below);
+      opening = refl;
+      carried = λ n. ap (λ (f : NackName → Option ℕ). f n) (carried_after_word w.table x p v row below);
     }
 
 grows-bind : (w : World) (x : Row) (k scope seat : ℕ) → Kept w → Condition w (record { 0 = seat }) (Bind k x scope) → GrowsTo w.table (with_nack w.table (nack_of_row x k) (record { sync = x.sync; scope = scope }))
@@ -143,6 +151,8 @@ grows-bind w x k scope seat kept (h, f, alive, b, c, free) =
           absurd (true≢false (sym (ap is_fresh f) ∙ ap (λ (y : Row). is_fresh (cell_at w.table y)) (sym here) ∙ open_row)))
           (binding_was w.table m bound kept.sized nack range n d e);
       courses = goes-equal w.table (with_nack w.table m bound) (course_after_bind w.table m bound nack);
+      opening = refl;
+      carried = λ n. ap (λ (f : NackName → Option ℕ). f n) (carried_after_bind w.table m bound kept.sized nack range free);
     }
 
 -- a life is written: a start, or an end
@@ -159,6 +169,8 @@ grows-life w p c k below range goes = record {
       (λ (same : q ≡ p). subst (λ (n : ℕ). GoesOn (course_at w.table n) (course_at (with_course w.table p c) n)) (sym same) (subst (GoesOn (course_at w.table p)) (sym (course_lived w.table p c k.sized below range)) goes))
       (λ (other : q ≡ p → ⊥). subst (GoesOn (course_at w.table q)) (sym (course_lived_other w.table p q c other)) (goes-same (course_at w.table q)))
       (cases_eq q p);
+  opening = opening_lived w.table p c;
+  carried = λ n. ap (λ (f : NackName → Option ℕ). f n) (carried_after_life w.table p c);
 }
 
 goes-start : (c d : Course) → c ≡ Unstarted → GoesOn c d
@@ -192,11 +204,11 @@ grows-condition w seat (Claim row) k a = grows-unjoined w row Claimed k (held_ro
 grows-condition w seat (Yield row) k a = grows-unjoined w row Waiting k (held_row w row seat.0 a.0) tt refl (ap joined_of a.1)
 grows-condition w seat (Join mine own other partner) k a =
     grows-unjoined w other (Synched (joined_with w.table mine own other partner)) k (row_of_open w.table other (ap is_fresh a.3))
-    (join_in_range w mine own other partner k (held_row w mine seat.0 a.0) a.5) refl (ap joined_of a.3)
+    (join_in_range w mine own other partner k (waits_unjoined w other a.3) (held_row w mine seat.0 a.0) a.5) refl (ap joined_of a.3)
 grows-condition w seat (Seal row) k a = grows-seal w row k a.1 a.2
 grows-condition w seat (Grant row n) k a =
     let s = some_parts (cause_at w.table row n) a.1 in
-    grows-unjoined w row (Synched (granted_by w.table row n)) k (row_of_open w.table row (ap is_fresh a.0)) (grant_in_range w row n s.0 k s.1) refl (ap joined_of a.0)
+    grows-unjoined w row (Synched (granted_by w.table row n)) k (row_of_open w.table row (ap is_fresh a.0)) (grant_in_range w row n s.0 k (waits_unjoined w row a.0) s.1) refl (ap joined_of a.0)
 grows-condition w seat (Take row) k a = grows-take w row k a
 grows-condition w seat (Bind n row scope) k a = grows-bind w row n scope seat.0 k a
 grows-condition w seat (Start row thread) k a =
@@ -214,8 +226,8 @@ grows-schedule w v (s ∷ ss) k p =
     grows-chain w.table (after_step w s.0 s.1).table v.table (grows-step w s.0 s.1 k p.0) (grows-schedule (after_step w s.0 s.1) v ss (kept_step w s.0 s.1 k p.0) p.1)
 
 pub tables-grow : TablesGrow
-tables-grow threads rows seats later steps more w v few_threads few_rows before after =
-    grows-schedule w v more (kept_schedule _ w steps (kept_start threads rows seats later few_threads few_rows) before) after
+tables-grow o rows seats steps more b w v opens few begins before after =
+    grows-schedule w v more (kept_schedule b w steps (kept_opening o rows seats b opens few begins) before) after
 
 -- COMMITS STAY
 same-commit : (f g : Row → ℕ → Option Offer) (r : Row) (j : Joined) (o : Option (Row × ℕ)) (own : Option Offer) → ((p : Row × ℕ) → o ≡ Some p → g p.0 p.1 ≡ f p.0 p.1) → commit_by g r j o own ≡ commit_by f r j o own
@@ -248,8 +260,8 @@ commit-stays w u c k g h =
     })
 
 pub commits-stay : CommitsStay
-commits-stay threads rows seats later steps more w v c few_threads few_rows before after h =
-    let k = kept_schedule _ w steps (kept_start threads rows seats later few_threads few_rows) before in
+commits-stay o rows seats steps more b w v c opens few begins before after h =
+    let k = kept_schedule b w steps (kept_opening o rows seats b opens few begins) before in
     commit-stays w v.table c k (grows-schedule w v more k after) h
 
 -- ONLY AN OPEN OPENS
@@ -294,11 +306,11 @@ opens-condition w seat (Read x p) k a r h = inl h
 opens-condition w seat (Claim x) k a r h = inl (cell-reopens w x Claimed k tt (ap is_fresh a.1) r h)
 opens-condition w seat (Yield x) k a r h = inl (cell-reopens w x Waiting k tt (ap is_fresh a.1) r h)
 opens-condition w seat (Join mine own other partner) k a r h =
-    inl (cell-reopens w other (Synched (joined_with w.table mine own other partner)) k (join_in_range w mine own other partner k (held_row w mine seat.0 a.0) a.5) (ap is_fresh a.3) r h)
+    inl (cell-reopens w other (Synched (joined_with w.table mine own other partner)) k (join_in_range w mine own other partner k (waits_unjoined w other a.3) (held_row w mine seat.0 a.0) a.5) (ap is_fresh a.3) r h)
 opens-condition w seat (Seal x) k a r h = inl (seal-opens w x k a.1 a.2 r h)
 opens-condition w seat (Grant x n) k a r h =
     let s = some_parts (cause_at w.table x n) a.1 in
-    inl (cell-reopens w x (Synched (granted_by w.table x n)) k (grant_in_range w x n s.0 k s.1) (ap is_fresh a.0) r h)
+    inl (cell-reopens w x (Synched (granted_by w.table x n)) k (grant_in_range w x n s.0 k (waits_unjoined w x a.0) s.1) (ap is_fresh a.0) r h)
 opens-condition w seat (Take x) k a r h = inl (take-opens w x k a r h)
 opens-condition w seat (Bind n x scope) k a r h = inl (ap is_fresh (sym (cell_after_bind w.table (nack_of_row x n) (record { sync = x.sync; scope = scope }) r (nack_of_thread w.table x n (held_row w x seat.0 a.0) a.3))) ∙ h)
 opens-condition w seat (Start x thread) k a r h = inl (ap is_fresh (sym (cell_after_life w.table thread (Running (last_stamp (marks_at w.table) (joined_at w.table) x)) r)) ∙ h)
@@ -345,11 +357,11 @@ taken-condition w seat (Read x p) k a r h = h
 taken-condition w seat (Claim x) k a r h = cell-taken w x Claimed k (held_row w x seat.0 a.0) tt (untaken-cell w x Waiting Claimed a.1 refl) r h
 taken-condition w seat (Yield x) k a r h = cell-taken w x Waiting k (held_row w x seat.0 a.0) tt (untaken-cell w x Claimed Waiting a.1 refl) r h
 taken-condition w seat (Join mine own other partner) k a r h =
-    cell-taken w other (Synched (joined_with w.table mine own other partner)) k (row_of_open w.table other (ap is_fresh a.3)) (join_in_range w mine own other partner k (held_row w mine seat.0 a.0) a.5) (untaken-cell w other Waiting (Synched (joined_with w.table mine own other partner)) a.3 refl) r h
+    cell-taken w other (Synched (joined_with w.table mine own other partner)) k (row_of_open w.table other (ap is_fresh a.3)) (join_in_range w mine own other partner k (waits_unjoined w other a.3) (held_row w mine seat.0 a.0) a.5) (untaken-cell w other Waiting (Synched (joined_with w.table mine own other partner)) a.3 refl) r h
 taken-condition w seat (Seal x) k a r h = seal-taken w x k a.1 a.2 r h
 taken-condition w seat (Grant x n) k a r h =
     let s = some_parts (cause_at w.table x n) a.1 in
-    cell-taken w x (Synched (granted_by w.table x n)) k (row_of_open w.table x (ap is_fresh a.0)) (grant_in_range w x n s.0 k s.1) (untaken-cell w x Waiting (Synched (granted_by w.table x n)) a.0 refl) r h
+    cell-taken w x (Synched (granted_by w.table x n)) k (row_of_open w.table x (ap is_fresh a.0)) (grant_in_range w x n s.0 k (waits_unjoined w x a.0) s.1) (untaken-cell w x Waiting (Synched (granted_by w.table x n)) a.0 refl) r h
 taken-condition w seat (Take x) k a r h = take-taken w x k a r h
 taken-condition w seat (Bind n x scope) k a r h = ap is_taken (cell_after_bind w.table (nack_of_row x n) (record { sync = x.sync; scope = scope }) r (nack_of_thread w.table x n (held_row w x seat.0 a.0) a.3)) ∙ h
 taken-condition w seat (Start x thread) k a r h = ap is_taken (cell_after_life w.table thread (Running (last_stamp (marks_at w.table) (joined_at w.table) x)) r) ∙ h

@@ -6,6 +6,7 @@ use Rattle.std.proofs.Math.Nat.{mul-le-mul_right}
 use Rattle.protocol_values.specs.declared.Row.{Row}
 use Rattle.protocol_values.specs.declared.NackName.{NackName}
 use Rattle.protocol_values.specs.declared.Binding.{Binding}
+use Rattle.protocol_values.specs.declared.NackWord.TheVariants.{Bound}
 use Rattle.protocol_values.specs.declared.Course.{Course}
 use Rattle.protocol_values.specs.Words.{course_word, nack_word}
 use Rattle.protocol.specs.Tables.{Table, thread_len, place_of, nack_place, course_place, is_row, is_nack, word_at, nack_at, row_eq}
@@ -171,22 +172,22 @@ is_nack_bound t m b n = refl
 pub word_bound : (t : Table) (m : NackName) (b : Binding) (r : Row) (p : ℕ) → is_nack t m ≡ true → is_row t r ≡ true → p < 34 → word_at (with_nack t m b) r p ≡ word_at t r p
 unfolding word_at with_nack
 word_bound t m b r p h k a =
-    get_or-set_other t.words (nack_place t.rows m) (place_of t.rows r p) (nack_word (Some b)) 0 (λ e. nack_apart t r p m k h a (sym e))
+    get_or-set_other t.words (nack_place t.rows m) (place_of t.rows r p) (nack_word (Bound b)) 0 (λ e. nack_apart t r p m k h a (sym e))
 
-pub nack_bound : (t : Table) (m : NackName) (b : Binding) → length t.words ≡ t.threads * thread_len t.rows → is_nack t m ≡ true → nack_at (with_nack t m b) m ≡ nack_word (Some b)
+pub nack_bound : (t : Table) (m : NackName) (b : Binding) → length t.words ≡ t.threads * thread_len t.rows → is_nack t m ≡ true → nack_at (with_nack t m b) m ≡ nack_word (Bound b)
 unfolding nack_at with_nack
 nack_bound t m b s h =
     let inside = nack_place_inside t m h in
-    get_or-set_same t.words (nack_place t.rows m) (nack_word (Some b)) 0 (omega arith)
+    get_or-set_same t.words (nack_place t.rows m) (nack_word (Bound b)) 0 (omega arith)
 
 pub nack_bound_other : (t : Table) (m n : NackName) (b : Binding) → is_nack t m ≡ true → is_nack t n ≡ true → ((n.thread ≡ m.thread) × (n.k ≡ m.k) → ⊥) → nack_at (with_nack t m b) n ≡ nack_at t n
 unfolding nack_at with_nack
 nack_bound_other t m n b h k d =
-    get_or-set_other t.words (nack_place t.rows m) (nack_place t.rows n) (nack_word (Some b)) 0 (λ e. d (same_nack_place t n m k h e))
+    get_or-set_other t.words (nack_place t.rows m) (nack_place t.rows n) (nack_word (Bound b)) 0 (λ e. d (same_nack_place t n m k h e))
 
 pub life_bound : (t : Table) (m : NackName) (b : Binding) (q : ℕ) → is_nack t m ≡ true → get_or (with_nack t m b).words (course_place t.rows q) 0 ≡ get_or t.words (course_place t.rows q) 0
 unfolding with_nack
-life_bound t m b q h = get_or-set_other t.words (nack_place t.rows m) (course_place t.rows q) (nack_word (Some b)) 0 (λ e. course_nack_apart t m q h e)
+life_bound t m b q h = get_or-set_other t.words (nack_place t.rows m) (course_place t.rows q) (nack_word (Bound b)) 0 (λ e. course_nack_apart t m q h e)
 
 -- A LIFE IS WRITTEN
 

@@ -6,15 +6,17 @@ use Rattle.std.proofs.lemmas.List.{length-set, get_or_read_under}
 use Rattle.protocol_values.specs.declared.Row.{Row}
 use Rattle.protocol_values.specs.declared.NackName.{NackName}
 use Rattle.protocol_values.specs.declared.Binding.{Binding}
+use Rattle.protocol_values.specs.declared.NackWord.{NackWord}
+use Rattle.protocol_values.specs.declared.NackWord.TheVariants.{Unbound, Bound, Carried}
 use Rattle.protocol_values.specs.declared.Course.{Course}
 use Rattle.protocol_values.specs.declared.Course.TheVariants.{Unstarted}
 use Rattle.protocol_values.specs.declared.Offer.{Offer}
 use Rattle.protocol_values.specs.declared.Joined.{Joined}
 use Rattle.protocol_values.specs.declared.Cell.{Cell}
 use Rattle.protocol_values.specs.declared.Cell.TheVariants.{Fresh, Waiting, Claimed, Synched, Taken}
-use Rattle.protocol_values.specs.Words.{cell_of, cell_word, count_of, course_of, IsCourseInRange, offer_of, nack_of, is_word_for, IsBindingInRange, IsCellInRange, IsJoinedInRange}
+use Rattle.protocol_values.specs.Words.{cell_of, cell_word, count_of, course_of, IsCourseInRange, offer_of, nack_of, is_word_for, IsBindingInRange, IsCellInRange, IsJoinedInRange, IsNackWordInRange}
 use Rattle.protocol_values.proofs.WordLemmas.{cell_of-cell_word, count-count_of, cell_is_word, cell_word-cell_of, nack_of-nack_word, nack_word-nack_of, course_of-course_word, course_word-course_of}
-use Rattle.protocol.specs.Tables.{Table, course_at, course_place, marks_at, thread_len, place_of, is_row, is_nack, nack_at, binding_at, word_at, row_eq, cell_at, is_fresh, count_at, offer_at, joined_at}
+use Rattle.protocol.specs.Tables.{Table, course_at, course_place, marks_at, thread_len, place_of, is_row, is_nack, nack_at, nack_says, bound_by, carried_by, binding_at, carried_at, word_at, row_eq, cell_at, is_fresh, count_at, offer_at, joined_at}
 use Rattle.protocol_values.specs.Values.{joined_of}
 use Rattle.protocol.specs.Worlds.{with_word, with_cell, with_nack, with_course}
 use Rattle.protocol.specs.Kept.{IsFormed}
@@ -244,13 +246,24 @@ joined_ranged t r j h =
 
 -- NACKS
 
-pub binding_inside : (t : Table) (n : NackName) → is_nack t n ≡ true → binding_at t n ≡ unwrap_or (nack_of (nack_at t n)) None
+pub says_inside : (t : Table) (n : NackName) → is_nack t n ≡ true → nack_says t n ≡ unwrap_or (nack_of (nack_at t n)) Unbound
+unfolding nack_says
+says_inside t n h = ap (λ b. cond b (unwrap_or (nack_of (nack_at t n)) Unbound) Unbound) h
+
+pub says_outside : (t : Table) (n : NackName) → is_nack t n ≡ false → nack_says t n ≡ Unbound
+unfolding nack_says
+says_outside t n h = ap (λ b. cond b (unwrap_or (nack_of (nack_at t n)) Unbound) Unbound) h
+
+pub bound_is : (t : Table) (n : NackName) → binding_at t n ≡ bound_by (nack_says t n)
 unfolding binding_at
-binding_inside t n h = ap (λ b. cond b (unwrap_or (nack_of (nack_at t n)) None) None) h
+bound_is t n = refl
+
+pub carried_is : (t : Table) (n : NackName) → carried_at t n ≡ carried_by (nack_says t n)
+unfolding carried_at
+carried_is t n = refl
 
 pub binding_outside : (t : Table) (n : NackName) → is_nack t n ≡ false → binding_at t n ≡ None
-unfolding binding_at
-binding_outside t n h = ap (λ b. cond b (unwrap_or (nack_of (nack_at t n)) None) None) h
+binding_outside t n h = bound_is t n ∙ ap bound_by (says_outside t n h)
 
 -- a nack that is bound is one of the table's
 pub nack_of_bound : (t : Table) (n : NackName) (b : Binding) → binding_at t n ≡ Some b → is_nack t n ≡ true
@@ -259,22 +272,41 @@ nack_of_bound t n b h = ⊎_elim
     (λ (e : is_nack t n ≡ false). let bad : None ≡ Some b = sym (binding_outside t n e) ∙ h in cc)
     (cases_Bool (is_nack t n))
 
--- a write to a row's word leaves every nack
-pub binding_after_word : (t : Table) (x : Row) (p v : ℕ) → is_row t x ≡ true → p < 34 → binding_at (with_word t x p v) ≡ binding_at t
-binding_after_word t x p v h a = λ i n. at n i
+-- what a nack's word says hangs on that word alone
+same_nacks : (t u : Table) → ((n : NackName) → is_nack u n ≡ is_nack t n) → ((n : NackName) → is_nack t n ≡ true → nack_at u n ≡ nack_at t n) → nack_says u ≡ nack_says t
+same_nacks t u names words = λ i n. at n i
   where
-    at : (n : NackName) → binding_at (with_word t x p v) n ≡ binding_at t n
+    at : (n : NackName) → nack_says u n ≡ nack_says t n
     at n = ⊎_elim
-        (λ (e : is_nack t n ≡ true).
-        binding_inside (with_word t x p v) n (is_nack_after t x n p v ∙ e)
-        ∙ ap (λ w. unwrap_or (nack_of w) None) (nack_other t x n p v h e a)
-        ∙ sym (binding_inside t n e))
-        (λ (e : is_nack t n ≡ false). binding_outside (with_word t x p v) n (is_nack_after t x n p v ∙ e) ∙ sym (binding_outside t n e))
+        (λ (e : is_nack t n ≡ true). says_inside u n (names n ∙ e) ∙ ap (λ w. unwrap_or (nack_of w) Unbound) (words n e) ∙ sym (says_inside t n e))
+        (λ (e : is_nack t n ≡ false). says_outside u n (names n ∙ e) ∙ sym (says_outside t n e))
         (cases_Bool (is_nack t n))
+
+same_bindings : (t u : Table) → nack_says u ≡ nack_says t → binding_at u ≡ binding_at t
+unfolding binding_at
+same_bindings t u e = λ i n. bound_by (e i n)
+
+same_carried : (t u : Table) → nack_says u ≡ nack_says t → carried_at u ≡ carried_at t
+unfolding carried_at
+same_carried t u e = λ i n. carried_by (e i n)
+
+-- a write to a row's word leaves every nack
+says_after_word : (t : Table) (x : Row) (p v : ℕ) → is_row t x ≡ true → p < 34 → nack_says (with_word t x p v) ≡ nack_says t
+says_after_word t x p v h a = same_nacks t (with_word t x p v) (λ n. is_nack_after t x n p v) (λ n e. nack_other t x n p v h e a)
+
+pub binding_after_word : (t : Table) (x : Row) (p v : ℕ) → is_row t x ≡ true → p < 34 → binding_at (with_word t x p v) ≡ binding_at t
+binding_after_word t x p v h a = same_bindings t (with_word t x p v) (says_after_word t x p v h a)
+
+pub carried_after_word : (t : Table) (x : Row) (p v : ℕ) → is_row t x ≡ true → p < 34 → carried_at (with_word t x p v) ≡ carried_at t
+carried_after_word t x p v h a = same_carried t (with_word t x p v) (says_after_word t x p v h a)
 
 pub binding_after_cell : (t : Table) (x : Row) (c : Cell) → is_row t x ≡ true → binding_at (with_cell t x c) ≡ binding_at t
 unfolding with_cell
 binding_after_cell t x c h = binding_after_word t x 0 (cell_word c) h (omega arith)
+
+pub carried_after_cell : (t : Table) (x : Row) (c : Cell) → is_row t x ≡ true → carried_at (with_cell t x c) ≡ carried_at t
+unfolding with_cell
+carried_after_cell t x c h = carried_after_word t x 0 (cell_word c) h (omega arith)
 
 -- a bind leaves every row
 pub cell_after_bind : (t : Table) (m : NackName) (b : Binding) (r : Row) → is_nack t m ≡ true → cell_at (with_nack t m b) r ≡ cell_at t r
@@ -290,49 +322,94 @@ pub offer_after_bind : (t : Table) (m : NackName) (b : Binding) (r : Row) (n : �
 offer_after_bind t m b r n h =
     offers_same t (with_nack t m b) r n (ap is_fresh (cell_after_bind t m b r h)) (λ e q a k. word_bound t m b r q h (row_of_open t r e) k)
 
+says_bound : (t : Table) (m : NackName) (b : Binding) → length t.words ≡ t.threads * thread_len t.rows → is_nack t m ≡ true → IsBindingInRange b → nack_says (with_nack t m b) m ≡ Bound b
+says_bound t m b s h g =
+    says_inside (with_nack t m b) m (is_nack_bound t m b m ∙ h)
+    ∙ ap (λ w. unwrap_or (nack_of w) Unbound) (nack_bound t m b s h)
+    ∙ ap (λ (o : Option NackWord). unwrap_or o Unbound) (nack_of-nack_word (Bound b) g)
+
+says_bound_other : (t : Table) (m n : NackName) (b : Binding) → is_nack t m ≡ true → ((n.thread ≡ m.thread) × (n.k ≡ m.k) → ⊥) → nack_says (with_nack t m b) n ≡ nack_says t n
+says_bound_other t m n b h other = ⊎_elim
+    (λ (e : is_nack t n ≡ true).
+    says_inside (with_nack t m b) n (is_nack_bound t m b n ∙ e)
+    ∙ ap (λ w. unwrap_or (nack_of w) Unbound) (nack_bound_other t m n b h e other)
+    ∙ sym (says_inside t n e))
+    (λ (e : is_nack t n ≡ false). says_outside (with_nack t m b) n (is_nack_bound t m b n ∙ e) ∙ sym (says_outside t n e))
+    (cases_Bool (is_nack t n))
+
+same_nack : (m n : NackName) → n.thread ≡ m.thread → n.k ≡ m.k → m ≡ n
+same_nack m n d f = λ i. record { thread = sym d i; k = sym f i }
+
+nack_cases : (m n : NackName) → (m ≡ n) ⊎ ((n.thread ≡ m.thread) × (n.k ≡ m.k) → ⊥)
+nack_cases m n = ⊎_elim
+    (λ (d : n.thread ≡ m.thread). ⊎_elim
+    (λ (f : n.k ≡ m.k). inl (same_nack m n d f))
+    (λ (f : n.k ≡ m.k → ⊥). inr (λ z. f z.1))
+    (cases_eq n.k m.k))
+    (λ (d : n.thread ≡ m.thread → ⊥). inr (λ z. d z.0))
+    (cases_eq n.thread m.thread)
+
 pub binding_bound : (t : Table) (m : NackName) (b : Binding) → length t.words ≡ t.threads * thread_len t.rows → is_nack t m ≡ true → IsBindingInRange b → binding_at (with_nack t m b) m ≡ Some b
-binding_bound t m b s h g =
-    binding_inside (with_nack t m b) m (is_nack_bound t m b m ∙ h)
-    ∙ ap (λ w. unwrap_or (nack_of w) None) (nack_bound t m b s h)
-    ∙ ap (λ (o : Option (Option Binding)). unwrap_or o None) (nack_of-nack_word (Some b) g)
+binding_bound t m b s h g = bound_is (with_nack t m b) m ∙ ap bound_by (says_bound t m b s h g)
 
 -- what is bound stays so, where the nack that is bound was not
-pub binding_kept : (t : Table) (m : NackName) (b : Binding) → is_nack t m ≡ true → binding_at t m ≡ None → (n : NackName) (c : Binding) → binding_at t n ≡ Some c → binding_at (with_nack t m b) n ≡ Some c
-binding_kept t m b h free n c e =
-    let inside = nack_of_bound t n c e in
-    binding_inside (with_nack t m b) n (is_nack_bound t m b n ∙ inside)
-    ∙ ap (λ w. unwrap_or (nack_of w) None)
-    (nack_bound_other t m n b h inside (λ d. let bad : None ≡ Some c = sym free ∙ sym (λ i. binding_at t (record { thread = d.0 i; k = d.1 i })) ∙ e in cc))
-    ∙ sym (binding_inside t n inside)
-    ∙ e
+pub binding_kept : (t : Table) (m : NackName) (b : Binding) → is_nack t m ≡ true → nack_says t m ≡ Unbound → (n : NackName) (c : Binding) → binding_at t n ≡ Some c → binding_at (with_nack t m b) n ≡ Some c
+binding_kept t m b h free n c e = ⊎_elim
+    (λ (same : m ≡ n). let bad : None ≡ Some c = sym (ap bound_by free) ∙ sym (bound_is t m) ∙ ap (binding_at t) same ∙ e in cc)
+    (λ other. bound_is (with_nack t m b) n ∙ ap bound_by (says_bound_other t m n b h other) ∙ sym (bound_is t n) ∙ e)
+    (nack_cases m n)
 
 -- what is bound then was bound before, or is the nack that is bound
 pub binding_was : (t : Table) (m : NackName) (b : Binding) → length t.words ≡ t.threads * thread_len t.rows → is_nack t m ≡ true → IsBindingInRange b → (n : NackName) (c : Binding) → binding_at (with_nack t m b) n ≡ Some c → (binding_at t n ≡ Some c) ⊎ ((m ≡ n) × (b ≡ c))
 binding_was t m b s h g n c e = ⊎_elim
-    (λ (d : n.thread ≡ m.thread). ⊎_elim
-    (λ (f : n.k ≡ m.k).
-    let same : m ≡ n = λ i. record { thread = sym d i; k = sym f i } in
-    inr (same, some_inj b c (sym (binding_bound t m b s h g) ∙ ap (binding_at (with_nack t m b)) same ∙ e)))
-    (λ (f : n.k ≡ m.k → ⊥). inl (stays (λ z. f z.1)))
-    (cases_eq n.k m.k))
-    (λ (d : n.thread ≡ m.thread → ⊥). inl (stays (λ z. d z.0)))
-    (cases_eq n.thread m.thread)
-  where
-    stays : ((n.thread ≡ m.thread) × (n.k ≡ m.k) → ⊥) → binding_at t n ≡ Some c
-    stays d =
-        let inside = sym (is_nack_bound t m b n) ∙ nack_of_bound (with_nack t m b) n c e in
-        binding_inside t n inside
-        ∙ ap (λ w. unwrap_or (nack_of w) None) (sym (nack_bound_other t m n b h inside d))
-        ∙ sym (binding_inside (with_nack t m b) n (is_nack_bound t m b n ∙ inside))
-        ∙ e
+    (λ (same : m ≡ n). inr (same, some_inj b c (sym (binding_bound t m b s h g) ∙ ap (binding_at (with_nack t m b)) same ∙ e)))
+    (λ other. inl (bound_is t n ∙ ap bound_by (sym (says_bound_other t m n b h other)) ∙ sym (bound_is (with_nack t m b) n) ∙ e))
+    (nack_cases m n)
 
--- where a nack is bound has room in its word
-pub binding_ranged : (t : Table) (n : NackName) (b : Binding) → binding_at t n ≡ Some b → IsBindingInRange b
-binding_ranged t n b h = by_word (nack_of (nack_at t n)) refl (sym (binding_inside t n (nack_of_bound t n b h)) ∙ h)
+-- a bind leaves what was carried
+pub carried_after_bind : (t : Table) (m : NackName) (b : Binding) → length t.words ≡ t.threads * thread_len t.rows → is_nack t m ≡ true → IsBindingInRange b → nack_says t m ≡ Unbound → carried_at (with_nack t m b) ≡ carried_at t
+carried_after_bind t m b s h g free = λ i n. at n i
   where
-    by_word : (o : Option (Option Binding)) → nack_of (nack_at t n) ≡ o → unwrap_or o None ≡ Some b → IsBindingInRange b
-    by_word None e f = let bad : None ≡ Some b = f in cc
-    by_word (Some p) e f = subst (λ (x : Option Binding). IfSome x IsBindingInRange) f (nack_word-nack_of (nack_at t n) p e).0
+    at : (n : NackName) → carried_at (with_nack t m b) n ≡ carried_at t n
+    at n = ⊎_elim
+        (λ (same : m ≡ n).
+        ap (carried_at (with_nack t m b)) (sym same)
+        ∙ carried_is (with_nack t m b) m
+        ∙ ap carried_by (says_bound t m b s h g)
+        ∙ sym (ap carried_by free)
+        ∙ sym (carried_is t m)
+        ∙ ap (carried_at t) same)
+        (λ other. carried_is (with_nack t m b) n ∙ ap carried_by (says_bound_other t m n b h other) ∙ sym (carried_is t n))
+        (nack_cases m n)
+
+-- what the word of a nack says has room in it
+pub says_ranged : (t : Table) (n : NackName) → IsNackWordInRange (nack_says t n)
+says_ranged t n = ⊎_elim
+    (λ (e : is_nack t n ≡ true). subst IsNackWordInRange (sym (says_inside t n e)) (by_word (nack_of (nack_at t n)) refl))
+    (λ (e : is_nack t n ≡ false). subst IsNackWordInRange (sym (says_outside t n e)) tt)
+    (cases_Bool (is_nack t n))
+  where
+    by_word : (o : Option NackWord) → nack_of (nack_at t n) ≡ o → IsNackWordInRange (unwrap_or o Unbound)
+    by_word None e = tt
+    by_word (Some w) e = (nack_word-nack_of (nack_at t n) w e).0
+
+-- so where a nack is bound has
+pub binding_ranged : (t : Table) (n : NackName) (b : Binding) → binding_at t n ≡ Some b → IsBindingInRange b
+binding_ranged t n b h = by_word (nack_says t n) (says_ranged t n) (sym (bound_is t n) ∙ h)
+  where
+    by_word : (w : NackWord) → IsNackWordInRange w → bound_by w ≡ Some b → IsBindingInRange b
+    by_word Unbound g e = let bad : None ≡ Some b = e in cc
+    by_word (Bound c) g e = subst IsBindingInRange (some_inj c b e) g
+    by_word (Carried stamp) g e = let bad : None ≡ Some b = e in cc
+
+-- a nack that is bound is not carried
+pub bound_uncarried : (t : Table) (n : NackName) (b : Binding) → binding_at t n ≡ Some b → carried_at t n ≡ None
+bound_uncarried t n b h = carried_is t n ∙ by_word (nack_says t n) (sym (bound_is t n) ∙ h)
+  where
+    by_word : (w : NackWord) → bound_by w ≡ Some b → carried_by w ≡ None
+    by_word Unbound e = refl
+    by_word (Bound c) e = refl
+    by_word (Carried stamp) e = let bad : None ≡ Some b = e in cc
 
 lives_after_bind : (t : Table) (m : NackName) (b : Binding) → is_nack t m ≡ true → IsFormed t → (q : ℕ) → q < (with_nack t m b).threads → is_some (course_of (get_or (with_nack t m b).words (course_place (with_nack t m b).rows q) 0)) ≡ true
 unfolding with_nack
@@ -349,7 +426,7 @@ formed_after_bind t m b s h g f = record {
       (λ (e : n.thread ≡ m.thread). ⊎_elim
       (λ (d : n.k ≡ m.k).
       ap (λ w. is_some (nack_of w)) ((λ x. nack_at (with_nack t m b) (record { thread = e x; k = d x })) ∙ nack_bound t m b s h)
-      ∙ ap (λ (o : Option (Option Binding)). is_some o) (nack_of-nack_word (Some b) g))
+      ∙ ap (λ (o : Option NackWord). is_some o) (nack_of-nack_word (Bound b) g))
       (λ (d : n.k ≡ m.k → ⊥). ap (λ w. is_some (nack_of w)) (nack_bound_other t m n b h here (λ z. d z.1)) ∙ f.nacks n here)
       (cases_eq n.k m.k))
       (λ (e : n.thread ≡ m.thread → ⊥). ap (λ w. is_some (nack_of w)) (nack_bound_other t m n b h here (λ z. e z.0)) ∙ f.nacks n here)
@@ -390,7 +467,7 @@ unfolding with_cell
 course_after_cell t x c h = course_after_word t x 0 (cell_word c) h (omega arith)
 
 pub marks_after_word : (t : Table) (x : Row) (p v : ℕ) → is_row t x ≡ true → p < 34 → marks_at (with_word t x p v) ≡ marks_at t
-marks_after_word t x p v h a = λ i. record { bound = binding_after_word t x p v h a i; course = course_after_word t x p v h a i }
+marks_after_word t x p v h a = λ i. record { bound = binding_after_word t x p v h a i; carried = carried_after_word t x p v h a i; course = course_after_word t x p v h a i; opening = t.opening }
 
 pub marks_after_cell : (t : Table) (x : Row) (c : Cell) → is_row t x ≡ true → marks_at (with_cell t x c) ≡ marks_at t
 unfolding with_cell
@@ -410,17 +487,14 @@ pub offer_after_life : (t : Table) (p : ℕ) (c : Course) (r : Row) (n : ℕ) �
 offer_after_life t p c r n =
     offers_same t (with_course t p c) r n (ap is_fresh (cell_after_life t p c r)) (λ e q a k. word_lived t p c r q (row_of_open t r e) k)
 
+says_after_life : (t : Table) (p : ℕ) (c : Course) → nack_says (with_course t p c) ≡ nack_says t
+says_after_life t p c = same_nacks t (with_course t p c) (λ n. is_nack_lived t p c n) (λ n e. nack_lived t p c n e)
+
 pub binding_after_life : (t : Table) (p : ℕ) (c : Course) → binding_at (with_course t p c) ≡ binding_at t
-binding_after_life t p c = λ i n. at n i
-  where
-    at : (n : NackName) → binding_at (with_course t p c) n ≡ binding_at t n
-    at n = ⊎_elim
-        (λ (e : is_nack t n ≡ true).
-        binding_inside (with_course t p c) n (is_nack_lived t p c n ∙ e)
-        ∙ ap (λ w. unwrap_or (nack_of w) None) (nack_lived t p c n e)
-        ∙ sym (binding_inside t n e))
-        (λ (e : is_nack t n ≡ false). binding_outside (with_course t p c) n (is_nack_lived t p c n ∙ e) ∙ sym (binding_outside t n e))
-        (cases_Bool (is_nack t n))
+binding_after_life t p c = same_bindings t (with_course t p c) (says_after_life t p c)
+
+pub carried_after_life : (t : Table) (p : ℕ) (c : Course) → carried_at (with_course t p c) ≡ carried_at t
+carried_after_life t p c = same_carried t (with_course t p c) (says_after_life t p c)
 
 pub course_lived : (t : Table) (p : ℕ) (c : Course) → length t.words ≡ t.threads * thread_len t.rows → p < t.threads → IsCourseInRange c → course_at (with_course t p c) p ≡ c
 unfolding with_course

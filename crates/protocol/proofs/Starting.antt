@@ -1,17 +1,22 @@
--- The state at the start is sound.
-use Rattle.std.proofs.Common.{◌≡◌, ℕ, ◌<◌, ◌≤◌, List, get_or, replicate, sym, ap, ◌∙◌, subst, ⊎_elim, Option, None, arith}
+-- The state at a beginning is sound.
+use Rattle.std.proofs.Common.{◌≡◌, ℕ, ◌+◌, ◌*◌, ◌<◌, ◌≤◌, List, get_or, length, map, replicate, refl, sym, ap, ◌∙◌, subst, ⊎_elim, Option, None, arith}
 use Rattle.std.proofs.lemmas.Bool.{cases_lt}
-use Rattle.std.proofs.lemmas.List.{get_or-replicate, get_or_past, length-replicate}
+use Rattle.std.proofs.lemmas.List.{get_or-replicate, get_or_past, length-map, length-replicate}
 use Rattle.protocol_values.specs.declared.Row.{Row}
 use Rattle.protocol_values.specs.declared.Cell.{Cell}
+use Rattle.protocol_values.specs.declared.Cell.TheVariants.{Fresh}
 use Rattle.protocol.specs.declared.state.State.{State}
-use Rattle.protocol.specs.Tables.{all_rows, number_of, names}
+use Rattle.protocol.specs.Openings.{AreFirstWords, Begins, IsOpening, Opening, greatest, held_first}
+use Rattle.protocol.specs.Tables.{all_rows, cell_at, number_of, names}
 use Rattle.protocol_values.specs.Values.{joined_of}
-use Rattle.protocol.specs.Worlds.{World, start_world}
+use Rattle.protocol.specs.Worlds.{World, holder_at, start_world}
 use Rattle.protocol.specs.Kept.{Kept}
 use Rattle.protocol.specs.States.{world_of, IsSound, Tells}
+use Rattle.protocol.proofs.Beginning.{first_cell}
+use Rattle.protocol.proofs.Keeping.{held_inside, length_all}
 use Rattle.protocol.proofs.Naming.{namer_none}
-use Rattle.protocol.proofs.LedgerLemmas.{kept_start, start_cell}
+use Rattle.protocol.proofs.LedgerLemmas.{at_number, kept_opening, kept_start, start_cell}
+use Rattle.protocol.proofs.Places.{row_inside}
 
 nobody : (n i : ℕ) → get_or (replicate {A = Option Row} n None) i None ≡ None
 nobody n i = ⊎_elim
@@ -19,14 +24,42 @@ nobody n i = ⊎_elim
     (λ (h : n ≤ i). let l = length-replicate {A = Option Row} n None in get_or_past (replicate {A = Option Row} n None) i None (omega arith))
     (cases_lt i n)
 
-tells_start : (threads rows seats later n : ℕ) → Tells (start_world threads rows seats later) (replicate n None)
+-- where all rows are Fresh, nobody names anybody
+tells_fresh : (w : World) (n : ℕ) → ((r : Row) → cell_at w.table r ≡ Fresh) → Tells w (replicate n None)
+tells_fresh w n cells r h =
+    nobody n (number_of w.table.rows r)
+    ∙ sym (namer_none (all_rows w.table.threads w.table.rows) _ r (λ q. ap (λ (c : Cell). names (joined_of c) r) (cells q)))
+
+sound_fresh : (s : State) (n : ℕ) → Kept (world_of s) → ((r : Row) → cell_at (world_of s).table r ≡ Fresh) → s.namers.items ≡ replicate n None → IsSound s
+sound_fresh s n kept cells e = record { kept = kept; told = subst (Tells (world_of s)) (sym e) (tells_fresh (world_of s) n cells) }
+
+start_fresh : (threads rows seats later : ℕ) (r : Row) → cell_at (start_world threads rows seats later).table r ≡ Fresh
 unfolding start_world
-tells_start threads rows seats later n r h =
-    nobody n (number_of rows r)
-    ∙ sym (namer_none (all_rows threads rows) _ r (λ q. ap (λ (c : Cell). names (joined_of c) r) (start_cell threads rows later q)))
+start_fresh threads rows seats later r = start_cell threads rows later r
 
 pub start_sound : (s : State) (threads rows seats later n : ℕ) → world_of s ≡ start_world threads rows seats later → s.namers.items ≡ replicate n None → threads ≤ 64 → rows ≤ 1024 → IsSound s
-start_sound s threads rows seats later n e f a b = record {
-  kept = subst Kept (sym e) (kept_start threads rows seats later a b);
-  told = subst (λ (z : World × List (Option Row)). Tells z.0 z.1) (λ i. (sym e i, sym f i)) (tells_start threads rows seats later n);
+start_sound s threads rows seats later n e f a b =
+    sound_fresh s n (subst Kept (sym e) (kept_start threads rows seats later a b)) (λ r. ap (λ (w : World). cell_at w.table r) e ∙ start_fresh threads rows seats later r) f
+
+-- a world with the first words of an opening, and the holders of its first rows
+pub next_begins : (o : Opening) (rows seats : ℕ) (w : World) → w.table.threads ≡ length o.threads → w.table.rows ≡ rows → w.seats ≡ seats → w.table.opening ≡ greatest o → AreFirstWords o w.table
+    → w.holders ≡ map (held_first o seats) (all_rows w.table.threads w.table.rows) → w.lasts ≡ replicate w.table.threads None → Begins o rows seats w
+next_begins o rows seats w threads rows_are seats_are opening words holders lasts = record {
+  threads = threads;
+  rows_are = rows_are;
+  seats_are = seats_are;
+  opening = opening;
+  words = words;
+  all_rows = ap (λ (hs : List (Option ℕ)). length hs) holders ∙ length-map (all_rows w.table.threads w.table.rows) (held_first o seats) ∙ length_all w.table.threads w.table.rows;
+  held = λ r e.
+      let inside = row_inside w.table r e in
+      held_inside w r e
+      ∙ ap (λ (hs : List (Option ℕ)). get_or hs (number_of w.table.rows r) None) holders
+      ∙ at_number (held_first o seats) w.table.threads w.table.rows r None inside.0 inside.1;
+  lasts = lasts ∙ ap (λ n. replicate n None) threads;
 }
+
+pub next_sound : (o : Opening) (rows seats n : ℕ) (s : State) → Begins o rows seats (world_of s) → IsOpening o rows → rows ≤ 1024 → s.namers.items ≡ replicate n None → IsSound s
+next_sound o rows seats n s begins opens few e =
+    let room = opens.room in
+    sound_fresh s n (kept_opening o rows seats (world_of s) opens few begins) (first_cell o (world_of s).table begins.words (omega arith)) e

@@ -18,7 +18,7 @@ use Rattle.protocol.specs.Worlds.{mirrored}
 use Rattle.protocol.specs.Ledgers.{LivesAt, commits_of, told_at, told_by, tells, is_send, commit_named}
 use Rattle.protocol.specs.Kept.{joined_by, IsSideOf, IsAlone, Linked}
 use Rattle.protocol.proofs.RowLemmas.{row_eq-true, row_eq-false, row_cases, row_ne, put, put_same, put_other, once_all}
-use Rattle.protocol.proofs.Causes.{IsAlways, IsOnEnabled, IsOnEnded, enabling, cause_is, cause_alone, cause_kept}
+use Rattle.protocol.proofs.Causes.{IsAlways, IsEnabledByRow, IsOnEnabled, IsOnEnded, cause_is, cause_alone, cause_kept}
 use Rattle.protocol.proofs.Linking.{cases_Option, some_inj, naming, names_from, fresh_not_joined, taken_joined, named_alone, sum_change, sum_change_two, unnamed_idle, partner_open, told_same, told_count, count_of_commits, named_some, offers_swapped, one_offer_sends}
 
 -- the row before
@@ -104,7 +104,7 @@ module _ {marks : Marks} (threads rows : ℕ) (cell : Row → Cell) (offer offer
       record {
         cause = old.cause;
         is = (λ i. cause_of (joined_by (put cell x c)) offer' marks (offers r (fresh_not_joined (cell r) j h) i j.own))
-            ∙ cause_kept (joined_by cell) (joined_by (put cell x c)) offer offer' marks marks (λ q w e. joined_same q ∙ e) (λ q w e. offers q (fresh_not_joined (cell q) w e)) (λ n b e. e) (λ p a b e. e) (ended_joined threads rows cell offer l) (offer r j.own) old.cause old.is;
+            ∙ cause_kept (joined_by cell) (joined_by (put cell x c)) offer offer' marks marks (λ q w e. joined_same q ∙ e) (λ q w e. offers q (fresh_not_joined (cell q) w e)) (λ n b e. e) (λ n. refl) (λ p a b e. e) (ended_joined threads rows cell offer l) (offer r j.own) old.cause old.is;
         stamp = old.stamp ∙ ap (λ n. 1 + max n old.cause) (sym (last_same r));
       }
 
@@ -137,7 +137,7 @@ module _ {marks : Marks} (threads rows : ℕ) (cell : Row → Cell) (offer offer
     alone = λ r j h k. plain_alone r j (sym (joined_same r) ∙ h) k;
     sides = λ r j p h k. plain_side r j p (sym (joined_same r) ∙ h) k;
     once = λ q r p h k. l.once q r p (ap (λ (o : Option Joined). names o p) (sym (joined_same q)) ∙ h) (ap (λ (o : Option Joined). names o p) (sym (joined_same r)) ∙ k);
-    bounded = λ r j h. subst (λ (n : ℕ). j.stamp ≤ n) (sym plain_count) (l.bounded r j (sym (joined_same r) ∙ h));
+    bounded = λ r j h. subst (λ (n : ℕ). j.stamp ≤ marks.opening + n) (sym plain_count) (l.bounded r j (sym (joined_same r) ∙ h));
     lived = λ r h. ⊎_elim
         (λ (e : r ≡ x).
         let at : is_fresh c ≡ false = sym (ap is_fresh (ap (put cell x c) e ∙ put_same cell x c)) ∙ h in
@@ -145,12 +145,14 @@ module _ {marks : Marks} (threads rows : ℕ) (cell : Row → Cell) (offer offer
         (λ (e : row_eq r x ≡ false). l.lived r (sym (ap is_fresh (put_other cell x c r e)) ∙ h))
         (row_cases r x);
     ended = λ thread start sync h. taken_stays (record { thread = thread; sync = sync }) (l.ended thread start sync h);
-    starts = λ thread. subst (λ (n : ℕ). start_of (marks.course thread) ≤ n) (sym plain_count) (l.starts thread);
+    starts = λ thread. subst (λ (n : ℕ). start_of (marks.course thread) ≤ marks.opening + n) (sym plain_count) (l.starts thread);
+    carried = l.carried;
+    settled = l.settled;
   }
 
 -- WHAT ONE ROW TELLS
 
-none_told : (joined : Row → Option Joined) (offer : Row → ℕ → Option Offer) (r : Row) → joined r ≡ None → told_count joined offer r ≡ 0
+pub none_told : (joined : Row → Option Joined) (offer : Row → ℕ → Option Offer) (r : Row) → joined r ≡ None → told_count joined offer r ≡ 0
 unfolding told_at
 none_told joined offer r e = ap (λ (v : Option Joined). length (option_to_list (told_by joined offer r v))) e
 
@@ -175,10 +177,10 @@ or_true false = refl
 apart_rows : (r s : Row) → (r.thread ≡ s.thread → ⊥) → row_eq r s ≡ false
 apart_rows r s h = row_ne r s (λ e. h (ap (λ (y : Row). y.thread) e))
 
--- no last stamp exceeds the number of commits
-pub last_bounded : {marks : Marks} (threads rows : ℕ) (cell : Row → Cell) (offer : Row → ℕ → Option Offer) (r : Row) → Linked threads rows cell offer marks → last_stamp marks (joined_by cell) r ≤ length (commits_of (all_rows threads rows) (joined_by cell) offer)
+-- no last stamp exceeds what went before by more than the number of commits
+pub last_bounded : {marks : Marks} (threads rows : ℕ) (cell : Row → Cell) (offer : Row → ℕ → Option Offer) (r : Row) → Linked threads rows cell offer marks → last_stamp marks (joined_by cell) r ≤ marks.opening + length (commits_of (all_rows threads rows) (joined_by cell) offer)
 last_bounded {marks} threads rows cell offer r l =
-    let n : ℕ = length (commits_of (all_rows threads rows) (joined_by cell) offer) in
+    let n : ℕ = marks.opening + length (commits_of (all_rows threads rows) (joined_by cell) offer) in
     let stamped : row_stamp (joined_of (cell (before r))) ≤ n =
     ⊎_elim
     (λ (e : joined_of (cell (before r)) ≡ None). let z : row_stamp (joined_of (cell (before r))) ≡ 0 = ap row_stamp e in omega arith)
@@ -244,7 +246,7 @@ module _ {marks : Marks} (threads rows : ℕ) (cell : Row → Cell) (offer : Row
       (row_cases r x)
 
   cause_after : (o : Option Offer) (s : ℕ) → cause_of (joined_by cell) offer marks o ≡ Some s → cause_of (joined_by (put cell x (Synched j))) offer marks o ≡ Some s
-  cause_after = cause_kept (joined_by cell) (joined_by (put cell x (Synched j))) offer offer marks marks joined_stays (λ r w e. refl) (λ n b e. e) (λ p a b e. e) (ended_joined threads rows cell offer l)
+  cause_after = cause_kept (joined_by cell) (joined_by (put cell x (Synched j))) offer offer marks marks joined_stays (λ r w e. refl) (λ n b e. e) (λ n. refl) (λ p a b e. e) (ended_joined threads rows cell offer l)
 
   alone_kept : (r : Row) (w : Joined) → joined_of (cell r) ≡ Some w → w.partner ≡ None → IsAlone (put cell x (Synched j)) offer marks r w
   alone_kept r w h k =
@@ -270,7 +272,7 @@ module _ {marks : Marks} (threads rows : ℕ) (cell : Row → Cell) (offer : Row
     (free : (q p : Row) → is_partner j.partner p ≡ true → names (joined_of (cell q)) p ≡ false)
     (named : commit_named offer o j ≡ Some commit)
     (told : tells (joined_by (put cell o (Synched j))) (offer o j.own) j.partner ≡ true)
-    (low : j.stamp ≤ length (commits_of (all_rows threads rows) (joined_by cell) offer) + 1)
+    (low : j.stamp ≤ marks.opening + length (commits_of (all_rows threads rows) (joined_by cell) offer) + 1)
     (side : (p : Row × ℕ) → j.partner ≡ Some p → IsSideOf (put cell o (Synched j)) offer marks o j p)
     (alone : j.partner ≡ None → IsAlone (put cell o (Synched j)) offer marks o j) where
   not_joined : joined_of (cell o) ≡ None
@@ -352,6 +354,8 @@ module _ {marks : Marks} (threads rows : ℕ) (cell : Row → Cell) (offer : Row
     lived = lived_kept threads rows cell offer o j l not_joined opened;
     ended = ended_kept threads rows cell offer o j l not_joined opened;
     starts = λ thread. let b = l.starts thread in let n = one_more in omega arith;
+    carried = l.carried;
+    settled = l.settled;
   }
     where
       was_named : (q p : Row) → names (joined_of (put cell o (Synched j) q)) p ≡ true → row_eq q o ≡ false → names (joined_of (cell q)) p ≡ true
@@ -424,16 +428,18 @@ module _ {marks : Marks} (threads rows : ℕ) (cell : Row → Cell) (offer : Row
 
 -- THE GRANT
 
--- no cause exceeds the number of commits
-pub cause_bounded : {marks : Marks} (threads rows : ℕ) (cell : Row → Cell) (offer : Row → ℕ → Option Offer) (o : Option Offer) (s : ℕ) → Linked threads rows cell offer marks → cause_of (joined_by cell) offer marks o ≡ Some s → s ≤ length (commits_of (all_rows threads rows) (joined_by cell) offer)
+-- nor does a cause
+pub cause_bounded : {marks : Marks} (threads rows : ℕ) (cell : Row → Cell) (offer : Row → ℕ → Option Offer) (o : Option Offer) (s : ℕ) → Linked threads rows cell offer marks → cause_of (joined_by cell) offer marks o ≡ Some s → s ≤ marks.opening + length (commits_of (all_rows threads rows) (joined_by cell) offer)
 cause_bounded {marks} threads rows cell offer o s l h = ⊎_elim
     (λ (a : IsAlways o s). let z : s ≡ 0 = a.4 in omega arith)
     (⊎_elim
-    (λ (n : IsOnEnabled (joined_by cell) offer marks o s).
-    let e = enabling (joined_by cell) offer marks.bound n.0 n.1 n.5 in
-    let b = l.bounded (bound_row n.0 e.binding) n.1 e.is_joined in
-    let z : s ≡ n.1.stamp = n.6 in
+    (λ (n : IsOnEnabled (joined_by cell) offer marks o s). ⊎_elim
+    (λ (e : IsEnabledByRow (joined_by cell) offer marks n.0 s).
+    let b = l.bounded (bound_row n.0 e.enabled.binding) e.by e.enabled.is_joined in
+    let z = e.stamp in
     omega arith)
+    (λ (e : (1 ≤ s) × (marks.carried n.0 ≡ Some s)). let b = l.carried n.0 s e.1 in omega arith)
+    n.4)
     (λ (e : IsOnEnded (joined_by cell) marks o s).
     let b = last_bounded threads rows cell offer (record { thread = e.0; sync = e.4.sync }) l in
     let z = e.4.stamp in
@@ -474,16 +480,19 @@ module _ {marks : Marks} (threads rows : ℕ) (cell : Row → Cell) (offer : Row
         stamp = stamp_is ∙ ap (λ n. 1 + max n s) (sym (last_after threads rows cell offer o j l (ap joined_of waits) (ap is_fresh waits) o (ap is_fresh waits)));
       })
 
--- A STEP THAT CHANGES THE MARKS: a bind, a start, a finish. What is bound stays so, an end stays, the starts of opened rows
--- stay, and rows, ends and starts are where they may be
+-- A STEP THAT CHANGES THE MARKS: a bind, a start, a finish. What is bound stays so, what went before is as it was, an end stays,
+-- the starts of opened rows stay, and rows, ends and starts are where they may be
 module _ (marks marks' : Marks) (threads rows : ℕ) (cell : Row → Cell) (offer : Row → ℕ → Option Offer)
     (l : Linked threads rows cell offer marks)
     (binds : (n : NackName) (b : Binding) → marks.bound n ≡ Some b → marks'.bound n ≡ Some b)
+    (settled : (n : NackName) (b : Binding) → marks'.bound n ≡ Some b → marks'.carried n ≡ None)
+    (carries : (n : NackName) → marks'.carried n ≡ marks.carried n)
+    (opening : marks'.opening ≡ marks.opening)
     (ends : (p start sync : ℕ) → marks.course p ≡ Ended start sync → marks'.course p ≡ Ended start sync)
     (opens : (r : Row) → is_fresh (cell r) ≡ false → start_of (marks'.course r.thread) ≡ start_of (marks.course r.thread))
     (lived : (r : Row) → is_fresh (cell r) ≡ false → LivesAt (marks'.course r.thread) r.sync)
     (ended : (thread start sync : ℕ) → marks'.course thread ≡ Ended start (sync + 1) → is_taken (cell (record { thread = thread; sync = sync })) ≡ true)
-    (starts : (thread : ℕ) → start_of (marks'.course thread) ≤ length (commits_of (all_rows threads rows) (joined_by cell) offer)) where
+    (starts : (thread : ℕ) → start_of (marks'.course thread) ≤ marks.opening + length (commits_of (all_rows threads rows) (joined_by cell) offer)) where
   last_marks : (r : Row) → is_fresh (cell r) ≡ false → last_stamp marks (joined_by cell) r ≡ last_stamp marks' (joined_by cell) r
   last_marks r f = λ i. cond (eqb r.sync 0) (sym (opens r f) i) (row_stamp (joined_of (cell (before r))))
 
@@ -495,7 +504,7 @@ module _ (marks marks' : Marks) (threads rows : ℕ) (cell : Row → Cell) (offe
         let old = l.alone r j h e in
         record {
           cause = old.cause;
-          is = cause_kept (joined_by cell) (joined_by cell) offer offer marks marks' (λ q w x. x) (λ q w x. refl) binds ends (ended_joined threads rows cell offer l) (offer r j.own) old.cause old.is;
+          is = cause_kept (joined_by cell) (joined_by cell) offer offer marks marks' (λ q w x. x) (λ q w x. refl) binds carries ends (ended_joined threads rows cell offer l) (offer r j.own) old.cause old.is;
           stamp = old.stamp ∙ ap (λ n. 1 + max n old.cause) (last_marks r (fresh_not_joined (cell r) j h));
         };
     sides = λ r j p h e.
@@ -507,10 +516,12 @@ module _ (marks marks' : Marks) (threads rows : ℕ) (cell : Row → Cell) (offe
           stamp = old.stamp ∙ (λ i. 1 + max (last_marks r (fresh_not_joined (cell r) j h) i) (last_marks p.0 (partner_open threads rows cell offer r j p l h e) i));
         };
     once = l.once;
-    bounded = l.bounded;
+    bounded = λ r j h. let b = l.bounded r j h in omega (arith, opening);
     lived = lived;
     ended = ended;
-    starts = starts;
+    starts = λ thread. let b = starts thread in omega (arith, opening);
+    carried = λ n stamp e. let b = l.carried n stamp (sym (carries n) ∙ e) in omega (arith, opening);
+    settled = settled;
   }
 
 -- THE SEAL
@@ -674,6 +685,8 @@ module _ {marks : Marks} (threads rows : ℕ) (cell : Row → Cell) (offer : Row
     lived = lived_kept threads rows cell offer m w l unjoined open_m;
     ended = ended_kept threads rows cell offer m w l unjoined open_m;
     starts = λ thread. let b = l.starts thread in let n = seal_count in omega arith;
+    carried = l.carried;
+    settled = l.settled;
   }
     where
       was_named : (q p : Row) → names (joined_of (put cell m (Synched w) q)) p ≡ true → row_eq q m ≡ false → names (joined_of (cell q)) p ≡ true

@@ -21,7 +21,7 @@ use Rattle.protocol.proofs.StepLemmas.{names_o}
 use Rattle.protocol.proofs.Places.{row_inside, block_inside}
 use Rattle.protocol.proofs.Readings.{cell_after_word, cell_after_cell, cell_after_bind, cell_after_life, row_of_open}
 use Rattle.protocol.proofs.Naming.{namer_is}
-use Rattle.protocol.proofs.Keeping.{unnamed_row, join_in_range, IsSealing, seal_in_range, same_number, grant_in_range}
+use Rattle.protocol.proofs.Keeping.{unnamed_row, join_in_range, IsSealing, seal_in_range, same_number, grant_in_range, waits_unjoined}
 
 -- where nobody names anybody anew, the list stays
 pub tells_same : (w : World) (t : Table) (namers : List (Option Row)) → t.threads ≡ w.table.threads → t.rows ≡ w.table.rows → ((q r : Row) → names (joined_at t q) r ≡ names (joined_at w.table q) r) → Tells w namers → Tells (with_table w t) namers
@@ -105,7 +105,7 @@ tells_join w m i o n namers k mine none other meets sized tells =
     let in_o = row_of_open w.table o (ap is_fresh other) in
     let j : Joined = joined_with w.table m i o n in
     let is : joined_at (with_cell w.table o (Synched j)) ≡ put (joined_at w.table) o (Some j) =
-    (λ x r. joined_of (cell_after_cell w.table o (Synched j) k.sized in_o (join_in_range w m i o n k in_m meets) x r)) ∙ joined_put (cell_at w.table) o j in
+    (λ x r. joined_of (cell_after_cell w.table o (Synched j) k.sized in_o (join_in_range w m i o n k (waits_unjoined w o other) in_m meets) x r)) ∙ joined_put (cell_at w.table) o j in
     tells_put w (with_cell w.table o (Synched j)) namers o m j refl refl is (ap joined_of other) in_o in_m (λ r. refl) (unnamed_row w m none) sized tells
 
 pub tells_seal : (w : World) (m q : Row) (s : IsSealing w.table m q) (namers : List (Option Row)) → Kept w → cell_at w.table m ≡ Claimed → length namers ≡ w.table.threads * w.table.rows → Tells w namers → Tells (with_table w (with_cell w.table m (Synched (mirrored q s.way s.offer)))) (set namers (number_of w.table.rows q) (Some m))
@@ -128,7 +128,7 @@ tells_seal w m q s namers k mine sized tells =
 pub tells_grant : (w : World) (o : Row) (n s : ℕ) (namers : List (Option Row)) → Kept w → cell_at w.table o ≡ Waiting → cause_at w.table o n ≡ Some s → Tells w namers → Tells (with_table w (with_cell w.table o (Synched (granted_by w.table o n)))) namers
 unfolding granted_by
 tells_grant w o n s namers k waits caused =
-    tells_plain w o (Synched (granted_by w.table o n)) namers k (row_of_open w.table o (ap is_fresh waits)) (grant_in_range w o n s k caused)
+    tells_plain w o (Synched (granted_by w.table o n)) namers k (row_of_open w.table o (ap is_fresh waits)) (grant_in_range w o n s k (waits_unjoined w o waits) caused)
     (λ r. ap (λ (c : Cell). names (joined_of c) r) (sym waits))
 
 -- a bind changes no row

@@ -1,5 +1,6 @@
 -- What a ledger tells of its end, which a later table goes on from: the last stamp of each thread, and what became of each nack.
-use Rattle.std.specs.Prelude.{◌≡◌, ◌⊎◌, ◌×◌, ◌≤◌, ◌<◌, ◌+◌, ◌*◌, ◌%◌, ◌&&◌, ◌==◌, if◌then◌else◌, ⊤, ⊥, ℕ, Bool, List, [], ◌∷◌, Option, None, Some, true, length, max, slice_get, slice_index_or}
+use Rattle.std.specs.Prelude.{◌≡◌, ◌⊎◌, ◌≤◌, ◌<◌, ◌+◌, ◌*◌, ◌%◌, ◌&&◌, ◌==◌, if◌then◌else◌, ℕ, Bool, List, Option, None, Some, true, false, length, map, max, replicate, slice_get, slice_index, slice_index_or}
+use Rattle.std.specs.List.{fold, range_with_len}
 use Rattle.protocol_values.specs.declared.Binding.{Binding}
 use Rattle.protocol_values.specs.declared.Commit.{Commit}
 use Rattle.protocol_values.specs.declared.Course.{Course}
@@ -11,13 +12,14 @@ use Rattle.protocol_values.specs.declared.Offer.{Offer}
 use Rattle.protocol_values.specs.declared.Row.{Row}
 use Rattle.protocol_values.specs.Commits.{stamp_of}
 use Rattle.protocol_values.specs.Scopes.{has_scope}
-use Rattle.protocol_values.specs.Words.{nack_word}
+use Rattle.protocol_values.specs.Words.{course_word, nack_word}
 use Rattle.protocol.specs.Ledgers.{HasCommit, Involves, IsEnabledHere, Ledger, Takes, binding_in, carried_in, course_in, joined_in, marks_in, offer_in}
-use Rattle.protocol.specs.Tables.{bound_row, course_at, is_nack, is_row, nack_at, start_of, thread_len, word_at}
-use Rattle.protocol.specs.Worlds.{World, holder_at, last_holder}
+use Rattle.protocol.specs.Tables.{Table, bound_row, course_place, is_nack, is_row, nack_at, start_of, thread_len, word_at}
+use Rattle.protocol.specs.Worlds.{World, holder_at, waits}
 use Rattle.protocol.specs.declared.opening.Life.{Life}
 use Rattle.protocol.specs.declared.opening.Life.TheVariants.{Unstarted, Running, Ended}
 use Rattle.protocol.specs.declared.opening.NackState.{NackState}
+use Rattle.protocol.specs.declared.opening.Opening.{Opening as StatedOpening}
 use Rattle.protocol.specs.declared.opening.NackState.TheVariants.{Unbound, Unsettled, Dead, Enabled}
 
 -- THREADS
@@ -73,12 +75,85 @@ pub record Opening : Type 0 where
   pub threads : List (Life × ℕ)
   pub nacks : List NackState
 
+abbrev pub opening_of : StatedOpening → Opening
+opening_of o = record { threads = o.threads.items; nacks = o.nacks.items }
+
 abbrev pub stamp_in : NackState → ℕ
 stamp_in Unbound = 0
 stamp_in Unsettled = 0
 stamp_in Dead = 0
 stamp_in (Enabled stamp) = stamp
 
-abbrev pub greatest_of : List ℕ → ℕ
-greatest_of [] = 0
-greatest_of (stamp ∷ stamps) = max stamp (greatest_of stamps)
+-- the greatest stamp of it, and 0 where it has none
+abbrev pub greatest : Opening → ℕ
+greatest o = max (fold (λ most thread. max most thread.1) 0 o.threads) (fold (λ most state. max most (stamp_in state)) 0 o.nacks)
+
+-- a table of so many rows a thread can go on from it
+pub record IsOpening (o : Opening) (rows : ℕ) : Type 0 where
+  pub some : 1 ≤ length o.threads
+  pub few : length o.threads ≤ 64
+  pub all_nacks : length o.nacks ≡ length o.threads * 64
+  -- a thread that waits to be started has no stamp, and a nack that is enabled has one
+  pub unstarted : (t stamp : ℕ) → slice_get o.threads t ≡ Some (Unstarted, stamp) → stamp ≡ 0
+  pub enabled : (k stamp : ℕ) → slice_get o.nacks k ≡ Some (Enabled stamp) → 1 ≤ stamp
+  -- the stamps to come have room in their words
+  pub room : greatest o + length o.threads * rows ≤ 4294967295
+
+-- WHERE A TABLE GOES ON FROM AN OPENING
+
+abbrev pub thread_in : Opening → ℕ → Life × ℕ
+thread_in o t = slice_index_or o.threads t (Unstarted, 0)
+
+abbrev pub state_in : Opening → NackName → NackState
+state_in o n = slice_index_or o.nacks (n.thread * 64 + n.k) Unbound
+
+-- where a thread is on its course there: its start stamp is its last one, and one that has ended did so before its row 0
+abbrev pub course_for : Life → ℕ → Course
+course_for Unstarted stamp = NotStarted
+course_for Running stamp = Runs stamp
+course_for Ended stamp = HasEnded stamp 0
+
+-- what the word of a nack says there: one that is not settled is bound anew
+abbrev pub word_for : NackState → NackWord
+word_for Unbound = word.Unbound
+word_for Unsettled = word.Unbound
+word_for Dead = word.Carried 0
+word_for (Enabled stamp) = word.Carried stamp
+
+-- the words of the table: nothing is written of any row
+pub record AreFirstWords (o : Opening) (t : Table) : Type 0 where
+  pub sized : length t.words ≡ t.threads * thread_len t.rows
+  pub blank : (r : Row) (place : ℕ) → is_row t r ≡ true → place < 34 → word_at t r place ≡ 0
+  pub nacks : (n : NackName) → is_nack t n ≡ true → nack_at t n ≡ nack_word (word_for (state_in o n))
+  pub lives : (p : ℕ) → p < t.threads → slice_index t.words (course_place t.rows p) ≡ course_word (course_for (thread_in o p).0 (thread_in o p).1)
+
+-- the table of so many rows a thread that has these words
+abbrev pub table_with : Opening → ℕ → List ℕ → Table
+table_with o rows words = record { threads = length o.threads; rows = rows; words = words; opening = greatest o }
+
+abbrev pub is_running : Life → Bool
+is_running Unstarted = false
+is_running Running = true
+is_running Ended = false
+
+-- row 0 of a thread that runs is held by seat t mod seats, and no other row is held
+abbrev pub held_first : Opening → ℕ → Row → Option ℕ
+held_first o seats r = if (r.sync == 0) && is_running (thread_in o r.thread).0 then Some (r.thread % seats) else None
+
+-- the world in which such a table begins, with nobody behind a last row
+pub record Begins (o : Opening) (rows seats : ℕ) (w : World) : Type 0 where
+  pub threads : w.table.threads ≡ length o.threads
+  pub rows_are : w.table.rows ≡ rows
+  pub seats_are : w.seats ≡ seats
+  pub opening : w.table.opening ≡ greatest o
+  pub words : AreFirstWords o w.table
+  pub all_rows : length w.holders ≡ w.table.threads * w.table.rows
+  pub held : (r : Row) → is_row w.table r ≡ true → holder_at w r ≡ held_first o seats r
+  pub lasts : w.lasts ≡ replicate (length o.threads) None
+
+-- The opening of a first table: threads wait where the mask says so, and all others run with no stamp; no nack is bound.
+abbrev pub first_life : ℕ → ℕ → Life × ℕ
+first_life later t = (if waits later t then Unstarted else Running, 0)
+
+abbrev pub start_opening : ℕ → ℕ → Opening
+start_opening threads later = record { threads = map (first_life later) (range_with_len 0 threads); nacks = replicate (threads * 64) Unbound }

@@ -13,7 +13,7 @@ use Rattle.protocol.specs.declared.ProtoFault.TheVariants.{Memory, NotAllowed}
 
 -- the table that a sheet's words are
 abbrev pub table_of : Sheet → Table
-table_of b = record { threads = b.threads; rows = b.rows; words = b.words.items }
+table_of b = record { threads = b.threads; rows = b.rows; words = b.words.items; opening = b.opening }
 
 abbrev pub world_of : State → World
 world_of s = record { table = table_of s.sheet; seats = s.seats; holders = s.holders.items; lasts = s.lasts.items }

@@ -3,7 +3,7 @@
 ghost use Rattle.std.specs.Prelude.{◌≡◌, ◌*◌, ◌≤◌, ◌↔◌, IfOk, IfSome, IfNone, IsPermutation, Contains, length};
 
 use crate::sheet::Sheet;
-use crate::stamps::by_stamp;
+use crate::stamps::nearly_by_stamp;
 use protocol_values::{Commit, Row};
 use std::alloc::AllocError;
 use std::marker::Model;
@@ -43,21 +43,23 @@ impl Ledger {
     }
 
     /// The ledger of words that lie thread by thread: a thread's rows first, 34 words each, and
-    /// then its 64 nacks, and its life. It takes no memory.
-    pub fn of_words(threads: u8, rows: u16, words: Vec<u64>) -> Ledger
+    /// then its 64 nacks, and its life; `opening` is the greatest stamp of what went before, 0 of a first
+    /// table. It takes no memory.
+    pub fn of_words(threads: u8, rows: u16, words: Vec<u64>, opening: u32) -> Ledger
         requires some_threads { 1 ≤ threads }
         requires few_threads { threads ≤ 64 }
         requires some_rows { 1 ≤ rows }
         requires few_rows { rows ≤ 1024 }
         requires sized { length words.items ≡ threads * thread_len rows }
-        requires lawful { IsLawful (ledger_of (record { threads = threads; rows = rows; words = words.items })) }
-        ensures { result ≡ ledger_of (record { threads = threads; rows = rows; words = words.items }) }
+        requires lawful { IsLawful (ledger_of (record { threads = threads; rows = rows; words = words.items; opening = opening })) }
+        ensures { result ≡ ledger_of (record { threads = threads; rows = rows; words = words.items; opening = opening }) }
     {
         Ledger {
             sheet: Sheet {
                 threads: usize::from(threads),
                 rows: usize::from(rows),
                 words,
+                opening,
             },
         }
     }
@@ -79,8 +81,9 @@ impl Ledger {
         ensures lawful { IsLawful self.now }
     {
         let told = self.sheet.commits()?;
-        let mut commits = by_stamp(*told.allocator(), &told)?;
-        // They are in order now, except where a pair is pending: this looks at each once, and moves few.
+        let mut commits = nearly_by_stamp(told, self.sheet.opening)?;
+        // Those of a first table are in order now, except where a pair is pending: this looks at each once, and
+        // moves few.
         commits.sort_by_key(|commit| commit.order())?;
         Ok(commits)
     }

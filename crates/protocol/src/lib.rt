@@ -1,8 +1,8 @@
 //! The protocol as a pure machine: worlds, steps and ledgers.
 #![tactic(auto)]
 
-ghost use Rattle.protocol.specs.Growing.{CommitsStay, TablesGrow};
-ghost use Rattle.protocol.specs.Ledgers.{ledger_of, IsLawful};
+ghost use Rattle.protocol.specs.Growing.{CommitsStay, SchedulesAreLawful, TablesGrow};
+ghost use Rattle.protocol.specs.Openings.{Begins, start_opening};
 ghost use Rattle.protocol.specs.Standing.{HaveResults, OneResults};
 ghost use Rattle.protocol.specs.Worlds.{Plays, IsRefused, start_world, World};
 ghost use Rattle.protocol_values.specs.declared.Step.{Step};
@@ -21,11 +21,11 @@ mod world;
 pub use crate::ledger::Ledger;
 pub use crate::opening::{Life, NackState, Opening};
 pub use crate::resident::{Bare, Resident};
-pub use crate::sheet::{LIVES, NACKS, ROW_LEN, start_words};
+pub use crate::sheet::{LIVES, NACKS, ROW_LEN, next_words, start_words};
 pub use crate::world::{World, play};
 pub use protocol_values::{
-    Atom, Base, Binding, Cause, Cell, Commit, Direction, Head, Joined, Message, NackName, Offer,
-    Row, Seat, Step, is_word_for, pack_atom, pack_cell, pack_count, pack_head, pack_nack,
+    Atom, Base, Binding, Cause, Cell, Commit, Direction, Head, Joined, Message, NackName, NackWord,
+    Offer, Row, Seat, Step, is_word_for, pack_atom, pack_cell, pack_count, pack_head, pack_nack,
     pack_offer, unpack_atom, unpack_cell, unpack_count, unpack_head, unpack_nack, unpack_offer,
 };
 use thiserror::Error;
@@ -41,13 +41,12 @@ pub enum ProtoFault {
     NotAllowed(usize),
 }
 
-/// Whatever steps are allowed in turn, from any start, the ledger of the words is lawful.
+/// Whatever steps are allowed in turn, the ledger of the words is lawful: from any opening from which a table can
+/// go on. A first table goes on from one in which threads wait or run with no stamp, and no nack is bound.
 pub fn every_schedule_is_lawful()
-    ensures { (threads rows seats later : ℕ) (steps : List (Seat × Step)) (w : World)
-        → threads ≤ 64
-        → rows ≤ 1024
-        → Plays (start_world threads rows seats later) steps w
-        → IsLawful (ledger_of w.table) }
+    ensures lawful { SchedulesAreLawful }
+    ensures starts { (threads rows seats later : ℕ)
+        → Begins (start_opening threads later) rows seats (start_world threads rows seats later) }
 {}
 
 /// A schedule leads to one world, or is refused at one step, and never both.

@@ -3,11 +3,11 @@
 ghost use Rattle.std.specs.Prelude.{◌≡◌, IfOk};
 ghost use Rattle.protocol.specs.Ledgers.{Involves, Takes};
 ghost use Rattle.protocol_values.specs.Commits.{stamp_of};
-ghost use Rattle.protocol.specs.Openings.{IsLastStamp, TellsEnd, TellsNack, TellsNacks, TellsThreads, life_of};
+ghost use Rattle.protocol.specs.Openings.{IsLastStamp, TellsEnd, TellsNack, TellsNacks, TellsThreads, course_for, greatest, life_of, opening_of, stamp_in, word_for};
 
 use crate::ledger::Ledger;
 use crate::sheet::{NACKS, encloses, start_of};
-use protocol_values::{Commit, Course, NackName, Row};
+use protocol_values::{Commit, Course, NackName, NackWord, Row};
 use std::alloc::{AllocError, Global};
 
 /// Whether a thread waits to be started, has started, or has ended.
@@ -31,13 +31,70 @@ pub enum NackState {
     Enabled(u32),
 }
 
-/// What a ledger tells of its end.
+/// What a ledger tells of its end, from which a later table goes on.
 #[derive(Debug, Drop)]
 pub struct Opening {
     /// Each thread's life, and its last stamp: that of its last commit, or of its start where it has none.
     pub threads: Vec<(Life, u32)>,
     /// 64 nacks a thread, thread by thread.
     pub nacks: Vec<NackState>,
+}
+
+impl Opening {
+    /// The greatest stamp, 0 where there is none.
+    pub fn greatest(&self) -> u32
+        ensures { result ≡ greatest (opening_of self.now) }
+    {
+        let last = self
+            .threads
+            .iter()
+            .map(|thread| thread.1)
+            .max()
+            .unwrap_or(0);
+        let enabled = self
+            .nacks
+            .iter()
+            .map(|state| state.stamp())
+            .max()
+            .unwrap_or(0);
+        last.max(enabled)
+    }
+}
+
+impl NackState {
+    /// The stamp at which the nack was enabled, and 0 where it was not.
+    fn stamp(self) -> u32
+        ensures { result ≡ stamp_in self }
+    {
+        match self {
+            NackState::Unbound | NackState::Unsettled | NackState::Dead => 0,
+            NackState::Enabled(stamp) => stamp,
+        }
+    }
+
+    /// What the nack's word says in a table that goes on: one that is not settled is bound anew.
+    pub(crate) fn word(self) -> NackWord
+        ensures { result ≡ word_for self }
+    {
+        match self {
+            NackState::Unbound | NackState::Unsettled => NackWord::Unbound,
+            NackState::Dead => NackWord::Carried(0),
+            NackState::Enabled(stamp) => NackWord::Carried(stamp),
+        }
+    }
+}
+
+impl Life {
+    /// Where a thread with this last stamp is on its course in a table that goes on.
+    pub(crate) fn course(self, stamp: u32) -> Course
+        ensures { result ≡ course_for self stamp }
+    {
+        match self {
+            Life::Unstarted => Course::Unstarted,
+            Life::Running => Course::Running(stamp),
+            Life::Ended => Course::Ended(stamp, 0),
+        }
+    }
 }
 
 impl Ledger {
@@ -107,8 +164,11 @@ impl Ledger {
     fn nack_state(&self, nack: NackName) -> NackState
         ensures { TellsNack self.now nack result }
     {
-        let Some(bound) = self.sheet.binding(nack) else {
-            return NackState::Unbound;
+        let bound = match self.sheet.nack(nack) {
+            NackWord::Unbound => return NackState::Unbound,
+            NackWord::Carried(0) => return NackState::Dead,
+            NackWord::Carried(stamp) => return NackState::Enabled(stamp),
+            NackWord::Bound(bound) => bound,
         };
         let row = Row {
             thread: nack.thread,

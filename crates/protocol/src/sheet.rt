@@ -1,10 +1,11 @@
 //! The words of a table, and what its rows read as.
 
-ghost use Rattle.std.specs.Prelude.{◌≡◌, ◌+◌, ◌*◌, ◌≤◌, ◌<◌, IfOk, IfSome, Some, is_some, true, length, replicate, vec_len};
+ghost use Rattle.std.specs.Prelude.{◌≡◌, ◌+◌, ◌*◌, ◌≤◌, ◌<◌, IfOk, IfSome, Some, is_some, true, length, map, max, replicate, vec_len};
 
+use crate::opening::Opening;
 use protocol_values::{
-    Base, Binding, Cell, Course, Joined, NackName, Offer, Row, pack_cell, pack_course, pack_nack,
-    read_offer, unpack_cell, unpack_count, unpack_course, unpack_nack, unpack_offer,
+    Base, Binding, Cell, Course, Joined, NackName, NackWord, Offer, Row, pack_cell, pack_course,
+    pack_nack, read_offer, unpack_cell, unpack_count, unpack_course, unpack_nack, unpack_offer,
 };
 use std::alloc::{AllocError, Global};
 
@@ -23,14 +24,17 @@ pub(crate) struct Sheet {
     pub(crate) threads: usize,
     pub(crate) rows: usize,
     pub(crate) words: Vec<u64>,
+    /// The greatest stamp of what went before the table.
+    pub(crate) opening: u32,
     ghost sized: { length words.items ≡ threads * (rows * 34 + 65) },
     ghost few_threads: { threads ≤ 64 },
     ghost few_rows: { rows ≤ 1024 },
 }
 
 impl Sheet {
-    ghost use Rattle.protocol_values.specs.Words.{IsBindingInRange, IsCellInRange, IsCourseInRange};
-    ghost use Rattle.protocol.specs.Tables.{is_row, number_of, place_of, is_nack, nack_place, word_at, cell_at, count_at, course_at, course_place, marks_at, offer_at, joined_at, last_stamp, binding_at, end_by, nack_by, cause_of};
+    ghost use Rattle.protocol_values.specs.Words.{IsBindingInRange, IsCellInRange, IsCourseInRange, IsNackWordInRange};
+    ghost use Rattle.protocol.specs.Tables.{is_row, number_of, place_of, is_nack, nack_place, nack_says, word_at, cell_at, count_at, course_at, course_place, marks_at, offer_at, joined_at, last_stamp, binding_at, carried_at, end_by, nack_by, nack_via, cause_of};
+    ghost use Rattle.protocol.specs.Openings.{AreFirstWords, IsOpening, greatest, opening_of};
     ghost use Rattle.protocol.specs.Worlds.{with_course, with_word, with_cell, with_nack};
     ghost use Rattle.protocol.specs.States.{table_of};
 
@@ -46,12 +50,32 @@ impl Sheet {
         ensures words { IfOk result (λ b. b.words.items ≡ with_lives later rows threads (replicate (threads * (rows * 34 + 65)) 0)) }
         ensures threads { IfOk result (λ b. b.threads ≡ threads) }
         ensures rows { IfOk result (λ b. b.rows ≡ rows) }
+        ensures opening { IfOk result (λ b. b.opening ≡ 0) }
     {
         let words = start_words(alloc, threads, rows, later)?;
         Ok(Sheet {
             threads,
             rows,
             words,
+            opening: 0,
+        })
+    }
+
+    /// The words of a table that goes on from an opening.
+    pub(crate) fn next(alloc: Global, opening: &Opening, rows: usize) -> Result<Sheet, AllocError>
+        requires opening { IsOpening (opening_of opening.now) rows }
+        requires few_rows { rows ≤ 1024 }
+        ensures words { IfOk result (λ b. AreFirstWords (opening_of opening.now) (table_of b)) }
+        ensures threads { IfOk result (λ b. b.threads ≡ length opening.now.threads.items) }
+        ensures rows { IfOk result (λ b. b.rows ≡ rows) }
+        ensures opening { IfOk result (λ b. b.opening ≡ greatest (opening_of opening.now)) }
+    {
+        let words = next_words(alloc, opening, rows)?;
+        Ok(Sheet {
+            threads: opening.threads.len(),
+            rows,
+            words,
+            opening: opening.greatest(),
         })
     }
 
@@ -223,26 +247,38 @@ impl Sheet {
         usize::from(nack.thread) * self.thread_len() + self.rows * ROW_LEN + usize::from(nack.k)
     }
 
-    /// Where the nack is bound. A nack that the table has not is not.
-    #[tactic(auto, unfolding(crate::specs::Tables::binding_at, crate::specs::Tables::nack_at))]
-    pub(crate) fn binding(&self, nack: NackName) -> Option<Binding>
-        ensures value { result ≡ binding_at (table_of self.now) nack }
-        ensures in_range { IfSome result IsBindingInRange }
+    /// What the nack's word says. A nack that the table has not is not bound.
+    #[tactic(auto, unfolding(crate::specs::Tables::nack_says, crate::specs::Tables::nack_at))]
+    pub(crate) fn nack(&self, nack: NackName) -> NackWord
+        ensures value { result ≡ nack_says (table_of self.now) nack }
+        ensures in_range { IsNackWordInRange result }
     {
         if !self.contains_nack(nack) {
-            return None;
+            return NackWord::Unbound;
         }
         let at = self.nack_place(nack);
-        unpack_nack(self.words[at]).unwrap_or(None)
+        unpack_nack(self.words[at]).unwrap_or(NackWord::Unbound)
     }
 
-    /// How the row that enabled the nack is committed: the nack's own row, by an offer outside its
-    /// scope.
-    #[tactic(auto, unfolding(crate::specs::Tables::nack_by))]
-    fn enabled_by(&self, nack: NackName) -> Option<Joined>
-        ensures { result ≡ nack_by (joined_at (table_of self.now)) (offer_at (table_of self.now)) (binding_at (table_of self.now)) nack }
+    /// The stamp at which the nack was enabled: an earlier table's, or that of its own row, where it
+    /// took an offer outside the nack's scope.
+    #[tactic(auto, unfolding(crate::specs::Tables::nack_by, crate::specs::Tables::binding_at, crate::specs::Tables::carried_at))]
+    fn enabled_at(&self, nack: NackName) -> Option<u32>
+        ensures { result ≡ nack_by (joined_at (table_of self.now)) (offer_at (table_of self.now)) (marks_at (table_of self.now)) nack }
     {
-        let bound = self.binding(nack)?;
+        match self.nack(nack) {
+            NackWord::Unbound | NackWord::Carried(0) => None,
+            NackWord::Carried(stamp) => Some(stamp),
+            NackWord::Bound(bound) => Some(self.enabled_by(nack, bound)?.stamp),
+        }
+    }
+
+    /// How the row to which the nack is bound is committed, where it took an offer outside the nack's
+    /// scope.
+    fn enabled_by(&self, nack: NackName, bound: Binding) -> Option<Joined>
+        requires { IsBindingInRange bound }
+        ensures { result ≡ nack_via (joined_at (table_of self.now)) (offer_at (table_of self.now)) nack (Some bound) }
+    {
         let row = Row {
             thread: nack.thread,
             sync: bound.sync as u32,
@@ -274,7 +310,7 @@ impl Sheet {
     {
         match offer?.base {
             Base::Always(_) => Some(0),
-            Base::OnNack(nack) => Some(self.enabled_by(nack)?.stamp),
+            Base::OnNack(nack) => self.enabled_at(nack),
             Base::OnEnd(thread) => self.ended_by(thread),
             Base::Send(..) | Base::Recv(_) | Base::Never => None,
         }
@@ -288,9 +324,10 @@ impl Sheet {
         ensures written { table_of self.new ≡ with_nack (table_of self.old) nack bound }
         ensures threads { self.new.threads ≡ self.old.threads }
         ensures rows { self.new.rows ≡ self.old.rows }
+        ensures opening { self.new.opening ≡ self.old.opening }
     {
         let at = self.nack_place(nack);
-        self.words[at] = pack_nack(Some(bound));
+        self.words[at] = pack_nack(NackWord::Bound(bound));
     }
 
     /// Writes where the thread is on its course.
@@ -301,6 +338,7 @@ impl Sheet {
         ensures written { table_of self.new ≡ with_course (table_of self.old) thread course }
         ensures threads { self.new.threads ≡ self.old.threads }
         ensures rows { self.new.rows ≡ self.old.rows }
+        ensures opening { self.new.opening ≡ self.old.opening }
     {
         let at = self.course_place(thread);
         self.words[at] = pack_course(course);
@@ -324,12 +362,14 @@ impl Sheet {
         ensures written { table_of self.new ≡ with_cell (table_of self.old) row cell }
         ensures threads { self.new.threads ≡ self.old.threads }
         ensures rows { self.new.rows ≡ self.old.rows }
+        ensures opening { self.new.opening ≡ self.old.opening }
     {
         self.set_word(row, 0, pack_cell(cell));
     }
 }
 
 ghost use Rattle.protocol.specs.Tables.{encloses, is_fresh, start_of};
+ghost use Rattle.protocol.specs.Openings.{AreFirstWords, IsOpening, opening_of, table_with};
 ghost use Rattle.protocol.specs.Worlds.{waits, with_lives};
 
 /// The words of a table at the start: all 0, but the lives of the threads that have started, at stamp 0.
@@ -350,6 +390,25 @@ pub fn start_words(
         if !waits(later, thread) {
             words[thread * len + rows * ROW_LEN + NACKS] = pack_course(Course::Running(0));
         }
+    }
+    Ok(words)
+}
+
+/// The words of a table that goes on from an opening: those of its rows 0, the life of each thread with its last stamp,
+/// and carried what became of each nack.
+pub fn next_words(alloc: Global, opening: &Opening, rows: usize) -> Result<Vec<u64>, AllocError>
+    requires opening { IsOpening (opening_of opening.now) rows }
+    requires few_rows { rows ≤ 1024 }
+    ensures { IfOk result (λ v. AreFirstWords (opening_of opening.now) (table_with (opening_of opening.now) rows v.items)) }
+{
+    let len = rows * ROW_LEN + NACKS + LIVES;
+    let mut words = vec![in alloc; 0; opening.threads.len() * len]?;
+    for (thread, (life, stamp)) in opening.threads.iter().enumerate() {
+        words[thread * len + rows * ROW_LEN + NACKS] = pack_course(life.course(*stamp));
+    }
+    for (number, state) in opening.nacks.iter().enumerate() {
+        let nack = number / NACKS * len + rows * ROW_LEN + number % NACKS;
+        words[nack] = pack_nack(state.word());
     }
     Ok(words)
 }

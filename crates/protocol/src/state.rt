@@ -2,9 +2,10 @@
 
 ghost use Rattle.std.specs.Prelude.{Some, ◌≡◌, ◌*◌, ◌<◌, ◌≤◌, ◌↔◌, IfOk, IsTrue, true, length, map, replicate};
 
+use crate::opening::{Life, Opening};
 use crate::sheet::{NACKS, ROW_LEN, Sheet, start_of, waits};
 use protocol_values::{
-    Binding, Cell, Course, Joined, NackName, Offer, Row, Seat, Step, is_word_for,
+    Binding, Cell, Course, Joined, NackName, NackWord, Offer, Row, Seat, Step, is_word_for,
 };
 use std::alloc::{AllocError, Global};
 
@@ -26,7 +27,9 @@ pub(crate) struct State {
 
 impl State {
     ghost use Rattle.protocol_values.specs.declared.Step.TheVariants.{Draft, Open, Look, Read, Claim, Yield, Join, Seal, Grant, Take, Bind, Start, Finish};
-    ghost use Rattle.protocol.specs.Tables.{is_row, offer_at, offers_meet, cause_at};
+    ghost use Rattle.protocol_values.specs.declared.Cell.TheVariants.{Waiting};
+    ghost use Rattle.protocol.specs.Openings.{Begins, IsOpening, opening_of};
+    ghost use Rattle.protocol.specs.Tables.{is_row, cell_at, offer_at, offers_meet, cause_at};
     ghost use Rattle.protocol.specs.Worlds.{start_world, Holds, IsAlive, StandsAt, holder_at, last_holder, namer_at, joined_with, granted_by, handed, handed_last, Condition};
     ghost use Rattle.protocol.specs.States.{table_of, world_of, IsSound, Tries, Decides};
 
@@ -50,6 +53,34 @@ impl State {
         let holders = first_holders(alloc, &sheet, seats, later)?;
         let namers = no_namers(alloc, sheet.len())?;
         let lasts = nobody_behind(alloc, threads)?;
+        Ok(State {
+            sheet,
+            seats,
+            holders,
+            namers,
+            lasts,
+        })
+    }
+
+    /// The state of a world that goes on from an opening.
+    pub(crate) fn next(
+        alloc: Global,
+        opening: &Opening,
+        rows: usize,
+        seats: usize,
+    ) -> Result<State, AllocError>
+        requires opening { IsOpening (opening_of opening.now) rows }
+        requires some_rows { 1 ≤ rows }
+        requires few_rows { rows ≤ 1024 }
+        requires some_seats { 1 ≤ seats }
+        requires few_seats { seats ≤ 16 }
+        ensures world { IfOk result (λ s. Begins (opening_of opening.now) rows seats (world_of s)) }
+        ensures sound { IfOk result IsSound }
+    {
+        let sheet = Sheet::next(alloc, opening, rows)?;
+        let holders = next_holders(alloc, &sheet, seats, opening)?;
+        let namers = no_namers(alloc, sheet.len())?;
+        let lasts = nobody_behind(alloc, sheet.threads)?;
         Ok(State {
             sheet,
             seats,
@@ -275,6 +306,7 @@ impl State {
     #[tactic(auto, unfolding(crate::specs::Worlds::joined_with))]
     fn joined_with(&self, mine: Row, own: u8, other: Row, partner: u8) -> Joined
         requires sound { IsSound self.now }
+        requires waits { cell_at (table_of self.now.sheet) other ≡ Waiting }
         requires meet { offers_meet (offer_at (table_of self.now.sheet) mine own) (offer_at (table_of self.now.sheet) other partner) ≡ true }
         ensures { result ≡ joined_with (table_of self.now.sheet) mine own other partner }
     {
@@ -330,6 +362,7 @@ impl State {
     #[tactic(auto, unfolding(crate::specs::Worlds::granted_by))]
     fn granted_by(&self, row: Row, offer: u8, cause: u32) -> Joined
         requires sound { IsSound self.now }
+        requires waits { cell_at (table_of self.now.sheet) row ≡ Waiting }
         requires cause { cause_at (table_of self.now.sheet) row offer ≡ Some cause }
         ensures { result ≡ granted_by (table_of self.now.sheet) row offer }
     {
@@ -375,9 +408,9 @@ impl State {
             thread: row.thread,
             k,
         };
-        if self.sheet.binding(nack).is_some() {
+        let NackWord::Unbound = self.sheet.nack(nack) else {
             return false;
-        }
+        };
         let bound = Binding {
             sync: row.sync as u16,
             scope,
@@ -453,6 +486,7 @@ impl State {
 }
 
 ghost use Rattle.protocol.specs.Tables.{all_rows, offers_meet};
+ghost use Rattle.protocol.specs.Openings.{held_first, opening_of};
 ghost use Rattle.protocol.specs.Worlds.{first_holder, side_of};
 
 /// The holders at the start, row by row.
@@ -477,6 +511,44 @@ fn first_holders(
         }
     }
     Ok(holders)
+}
+
+/// The holders where a table goes on from an opening, row by row.
+fn next_holders(
+    alloc: Global,
+    sheet: &Sheet,
+    seats: usize,
+    opening: &Opening,
+) -> Result<Vec<Option<u8>>, AllocError>
+    requires some_seats { 1 ≤ seats }
+    requires few_seats { seats ≤ 16 }
+    ensures { IfOk result (λ v. v.items ≡ map (held_first (opening_of opening.now) seats) (all_rows sheet.now.threads sheet.now.rows)) }
+{
+    let mut holders = Vec::new(alloc);
+    for thread in 0..sheet.threads {
+        for sync in 0..sheet.rows {
+            let row = Row {
+                thread: thread as u8,
+                sync: sync as u32,
+            };
+            holders.push(held_first(opening, seats, row))?;
+        }
+    }
+    Ok(holders)
+}
+
+/// The seat that holds the row where a table goes on: row 0 of a thread that runs.
+fn held_first(opening: &Opening, seats: usize, row: Row) -> Option<u8>
+    requires some_seats { 1 ≤ seats }
+    requires few_seats { seats ≤ 16 }
+    ensures { result ≡ held_first (opening_of opening.now) seats row }
+{
+    match opening.threads.get(usize::from(row.thread)) {
+        Some((Life::Running, _)) if row.sync == 0 => {
+            Some((usize::from(row.thread) % seats) as u8)
+        }
+        _ => None,
+    }
 }
 
 /// Nobody names anybody.

@@ -3,10 +3,12 @@
 ghost use Rattle.std.specs.Prelude.{◌≡◌, ◌≤◌, [], IfOk, IfErr};
 ghost use Rattle.protocol.specs.Worlds.{Plays, start_world};
 ghost use Rattle.protocol.specs.Ledgers.{commits_in, ledger_of};
+ghost use Rattle.protocol.specs.Openings.{Begins, IsOpening, opening_of};
 ghost use Rattle.protocol.specs.States.{Refuses};
 
 use crate::ProtoFault;
 use crate::ledger::Ledger;
+use crate::opening::Opening;
 use crate::state::State;
 use protocol_values::{Seat, Step};
 use std::alloc::Global;
@@ -74,6 +76,26 @@ impl World {
             later,
         )
         .map_err(|_| ProtoFault::Memory)?;
+        Ok(World { state })
+    }
+
+    /// A world that goes on from an opening: each thread has its last stamp as its start stamp, each nack that was
+    /// settled is carried, and all rows are Fresh, so that the ledger has no commits. Row 0 of thread t is held by seat
+    /// t mod `seats` where the thread runs, and by nobody where it waits to be started or has ended. A thread
+    /// that waits has no stamp, an enabled nack has one, and the stamps to come are at most 4294967295.
+    pub fn next(alloc: Global, opening: &Opening, rows: u16, seats: u8) -> Result<World, ProtoFault>
+        requires opening { IsOpening (opening_of opening.now) rows }
+        requires some_rows { 1 ≤ rows }
+        requires few_rows { rows ≤ 1024 }
+        requires some_seats { 1 ≤ seats }
+        requires few_seats { seats ≤ 16 }
+        ensures begins { IfOk result (λ w. Begins (opening_of opening.now) rows seats w) }
+        ensures empty { IfOk result (λ w. commits_in (ledger_of w.table) ≡ []) }
+        ensures refused { IfErr result (λ e. e ≡ ProtoFault.Memory) }
+    {
+        let state = State::next(alloc, opening, usize::from(rows), usize::from(seats)).map_err(
+            |_| ProtoFault::Memory,
+        )?;
         Ok(World { state })
     }
 

@@ -13,5 +13,5 @@ pub index_mut-requires : goal.index_mut-requires
 index_mut-requires c =
     let len = sized c.args.threads c.args.rows c.args.later c.loop-thread.thread c.loop-thread.words.items c.loop-thread.invariant in
     let b : c.loop-thread.thread * (c.args.rows * 34 + 65) + c.args.rows * 34 + 64 < c.args.threads * (c.args.rows * 34 + 65) =
-    course_place_inside (record { threads = c.args.threads; rows = c.args.rows; words = [] }) c.loop-thread.thread c.loop-thread-test.true in
+    course_place_inside (record { threads = c.args.threads; rows = c.args.rows; words = []; opening = 0 }) c.loop-thread.thread c.loop-thread-test.true in
     omega (arith, c.loop-thread.words.ok)

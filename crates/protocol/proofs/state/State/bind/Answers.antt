@@ -1,10 +1,10 @@
-use Rattle.std.proofs.Common.{arith, ◌≡◌, ◌<◌, None, sym, refl, ◌∙◌}
+use Rattle.std.proofs.Common.{arith, ◌≡◌, ◌<◌, sym, refl, ◌∙◌}
 use Rattle.protocol_values.specs.declared.Cell.TheVariants.{Fresh}
 use Rattle.protocol_values.specs.declared.Step.TheVariants.{Bind}
-use Rattle.protocol.specs.Tables.{cell_at, binding_at}
+use Rattle.protocol_values.specs.declared.NackWord.TheVariants.{Unbound}
+use Rattle.protocol.specs.Tables.{cell_at, nack_says}
 use Rattle.protocol.specs.Worlds.{Holds, with_nack, nack_of_row}
 use Rattle.protocol.specs.States.{world_of}
-use Rattle.protocol.proofs.Linking.{none_from}
 use Rattle.protocol.proofs.Keeping.{held_row, kept_condition, nack_of_thread, bind_in_range}
 use Rattle.protocol.proofs.Places.{row_inside}
 use Rattle.protocol.proofs.Telling.{tells_bind}
@@ -36,7 +36,7 @@ returns-clause-sound c =
     let was : cell_at w.table c.args.row ≡ Fresh = sym c.in-Fresh.ensures in
     let few : c.args.k < 64 = (let below = c.if-from-ge-NACKS.false in let same = c.from.ensures in omega arith) in
     let inside : c.args.scope < 4 = c.if-scope-ge4.false in
-    let free : binding_at w.table (nack_of_row c.args.row c.args.k) ≡ None = sym c.binding.ensures.value ∙ none_from c.binding.result (sym c.is_some.ensures ∙ c.if-is_some.false) in
+    let free : nack_says w.table (nack_of_row c.args.row c.args.k) ≡ Unbound = sym c.in-Unbound.ensures.value in
     sound_state _ w (with_nack w.table (nack_of_row c.args.row c.args.k) (record { sync = c.args.row.sync; scope = c.args.scope })) c.set_nack.ensures.written refl refl refl
     (kept_condition w c.args.seat (Bind c.args.k c.args.row c.args.scope) c.requires.kept (held, was, c.is_alive.ensures.0 c.if-not-is_alive.false, few, inside, free))
     (tells_bind w (nack_of_row c.args.row c.args.k) (record { sync = c.args.row.sync; scope = c.args.scope }) c.args.self.now.namers.items (nack_of_thread w.table c.args.row c.args.k row few) c.requires.told)

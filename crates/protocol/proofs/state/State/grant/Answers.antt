@@ -8,7 +8,7 @@ use Rattle.protocol.specs.Tables.{Table, is_fresh, cell_at, joined_at, marks_at,
 use Rattle.protocol_values.specs.declared.Row.{Row}
 use Rattle.protocol.specs.Worlds.{with_cell, granted_by}
 use Rattle.protocol.specs.States.{table_of, world_of}
-use Rattle.protocol.proofs.Keeping.{kept_condition, grant_in_range}
+use Rattle.protocol.proofs.Keeping.{kept_condition, grant_in_range, waits_unjoined}
 use Rattle.protocol.proofs.Readings.{row_of_open}
 use Rattle.protocol.proofs.Telling.{tells_grant}
 use Rattle.protocol.proofs.Soundness.{sound_state}
@@ -28,7 +28,7 @@ pub set_cell-requires-clause-range : goal.set_cell-requires-clause-range
 set_cell-requires-clause-range c =
     let w = world_of c.args.self.now in
     let has = caused w.table c.args.row c.args.offer c.offer.result c.in-Some.cause c.offer.ensures c.in-Some.ensures in
-    subst IsJoinedInRange (sym c.granted_by-joined.ensures) (grant_in_range w c.args.row c.args.offer c.in-Some.cause c.requires.kept has)
+    subst IsJoinedInRange (sym c.granted_by-joined.ensures) (grant_in_range w c.args.row c.args.offer c.in-Some.cause c.requires.kept (waits_unjoined w c.args.row (sym c.in-Waiting.ensures)) has)
 
 pub returns-clause-sound : goal.returns-clause-sound
 returns-clause-sound c =

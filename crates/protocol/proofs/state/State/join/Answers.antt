@@ -7,7 +7,7 @@ use Rattle.protocol.specs.Tables.{is_fresh, cell_at, offer_at, offers_meet}
 use Rattle.protocol.specs.Worlds.{Holds, with_cell, with_table, namer_at, joined_with}
 use Rattle.protocol.specs.States.{table_of, world_of, Tells}
 use Rattle.protocol.proofs.Linking.{none_from}
-use Rattle.protocol.proofs.Keeping.{held_row, kept_condition, join_in_range}
+use Rattle.protocol.proofs.Keeping.{held_row, kept_condition, join_in_range, waits_unjoined}
 use Rattle.protocol.proofs.Readings.{row_of_open}
 use Rattle.protocol.proofs.Telling.{tells_join}
 use Rattle.protocol.proofs.Soundness.{sound_state}
@@ -28,7 +28,7 @@ set_cell-requires-clause-range c =
     let held = held_row w c.args.mine c.args.seat.0 (c.holds.ensures.0 c.if-not-holds.false) in
     let meets : offers_meet (offer_at w.table c.args.mine c.args.own) (offer_at w.table c.args.other c.args.partner) ≡ true =
     (λ i. offers_meet (sym c.offer.ensures i) (sym c.offer-2.ensures i)) ∙ sym c.offers_meet.ensures ∙ c.if-not-offers_meet.false in
-    subst IsJoinedInRange (sym c.joined_with-joined.ensures) (join_in_range w c.args.mine c.args.own c.args.other c.args.partner c.requires.kept held meets)
+    subst IsJoinedInRange (sym c.joined_with-joined.ensures) (join_in_range w c.args.mine c.args.own c.args.other c.args.partner c.requires.kept (waits_unjoined w c.args.other (sym c.in-Waiting.ensures)) held meets)
 
 pub returns-clause-sound : goal.returns-clause-sound
 returns-clause-sound c =

@@ -19,7 +19,7 @@ invariant_of-result c = record {
 pub returns-clause-world : goal.returns-clause-world
 unfolding start_world
 returns-clause-world c = λ i. record {
-  table = record { threads = c.in_ok-sheet.ensures.threads i; rows = c.in_ok-sheet.ensures.rows i; words = c.in_ok-sheet.ensures.words i };
+  table = record { threads = c.in_ok-sheet.ensures.threads i; rows = c.in_ok-sheet.ensures.rows i; words = c.in_ok-sheet.ensures.words i; opening = c.in_ok-sheet.ensures.opening i };
   seats = c.args.seats;
   holders = (c.in_ok-holders.ensures ∙ (λ j. map (first_holder c.args.seats c.args.later) (all_rows (c.in_ok-sheet.ensures.threads j) (c.in_ok-sheet.ensures.rows j)))) i;
   lasts = c.in_ok-lasts.ensures i;
@@ -30,7 +30,7 @@ unfolding start_world
 returns-clause-sound c =
     start_sound _ c.args.threads c.args.rows c.args.seats c.args.later c.len.result
     (λ i. record {
-      table = record { threads = c.in_ok-sheet.ensures.threads i; rows = c.in_ok-sheet.ensures.rows i; words = c.in_ok-sheet.ensures.words i };
+      table = record { threads = c.in_ok-sheet.ensures.threads i; rows = c.in_ok-sheet.ensures.rows i; words = c.in_ok-sheet.ensures.words i; opening = c.in_ok-sheet.ensures.opening i };
       seats = c.args.seats;
       holders = (c.in_ok-holders.ensures ∙ (λ j. map (first_holder c.args.seats c.args.later) (all_rows (c.in_ok-sheet.ensures.threads j) (c.in_ok-sheet.ensures.rows j)))) i;
       lasts = c.in_ok-lasts.ensures i;
