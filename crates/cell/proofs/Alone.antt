@@ -1,5 +1,5 @@
 -- What a pass knows of a row that it grants or takes.
-use Rattle.std.proofs.Common.{rules, ◌⊎◌, ◌≡◌, ◌≢◌, ℕ, ◌+◌, ◌≤◌, ◌<◌, ◌^◌, max, List, sym, refl, ap, ◌∙◌, subst, inl, inr, arith, Some, None}
+use Rattle.std.proofs.Common.{rules, ◌⊎◌, ◌≡◌, ◌≢◌, ℕ, ◌+◌, ◌≤◌, ◌<◌, ◌^◌, List, sym, refl, ap, ◌∙◌, subst, inl, inr, arith, Some, None}
 use Rattle.protocol_values.specs.Words.{IsJoinedInRange}
 use Rattle.protocol_values.specs.declared.Base.{Base}
 use Rattle.protocol_values.specs.declared.Base.TheVariants.{Send, Recv, Always, OnNack, OnEnd, Never}
@@ -20,7 +20,7 @@ use Rattle.protocol_values.specs.declared.Step.TheVariants.{Grant}
 use Rattle.protocol.specs.Tables.{bound_row}
 use Rattle.protocol_values.specs.Values.{joined_of}
 use Rattle.cell_table.specs.declared.view.Seen.{Seen}
-use Rattle.cell_table.specs.Sight.{Has, HaveOffer, HasSeenLast, Learns, LearnsOf, IsBefore, SawCommitted, SeesOffer, see_cell, see_opened}
+use Rattle.cell_table.specs.Sight.{Has, HaveOffer, HasSeenLast, Learns, LearnsOf, IsBefore, SawCommitted, SeesOffer, next_stamp, see_cell, see_opened}
 use Rattle.cell_table.specs.Nacks.{CanGrant, IsCauseRow, IsReadyAlone, SawCause, SawEnabled}
 use Rattle.cell.proofs.Learning.{learns_look, learns_then, learns_wider, lives_wider, nacks_wider}
 use Rattle.cell.specs.Attempts.{Granted, IsLifeOf, IsNackOf, IsNearGrant}
@@ -81,7 +81,7 @@ can_more About s t r n j l can = record {
 
 -- the offer was read in s, its cause was seen in t, and the last stamp in u
 pub can_grant : {Nacks : NackName → Type 0} {Lives : ℕ → Type 0} (About : Row → Type 0) (s t u : Seen) (r : Row) (n last cause : ℕ) (o : Offer) → LearnsOf About Nacks Lives s t → LearnsOf (IsBefore r) (λ m. ⊥) (λ p. p ≡ r.thread) t u → HaveOffer s.words r n o → SawCause t o.base cause → HasSeenLast u r last
-    → CanGrant u r n (record { own = n; partner = None; stamp = 1 + max last cause })
+    → CanGrant u r n (record { own = n; partner = None; stamp = next_stamp last cause })
 can_grant About s t u r n last cause o l m have caused seen = record {
   offer = o;
   read = have_more t.words u.words r n o m.words.0 (have_more s.words t.words r n o l.words.0 have);
@@ -92,19 +92,19 @@ can_grant About s t u r n last cause o l m have caused seen = record {
   is = refl;
 }
 
-pub grant_ranged : (words : List (Row × ℕ × ℕ)) (r : Row) (n last cause : ℕ) (o : Offer) → HaveOffer words r n o → last ≤ 65536 → cause ≤ 65536 → IsJoinedInRange (record { own = n; partner = None; stamp = 1 + max last cause })
-grant_ranged words r n last cause o have low few_causes = record {
+pub grant_ranged : (words : List (Row × ℕ × ℕ)) (r : Row) (n last cause : ℕ) (o : Offer) → HaveOffer words r n o → IsJoinedInRange (record { own = n; partner = None; stamp = next_stamp last cause })
+grant_ranged words r n last cause o have = record {
   own = few have.count n have.below;
   partner = tt;
   stamp_low = at_least last cause;
-  stamp_high = at_most last cause low few_causes;
+  stamp_high = at_most last cause;
 }
   where
-    at_least : (a b : ℕ) → 1 ≤ 1 + max a b
+    at_least : (a b : ℕ) → 1 ≤ next_stamp a b
     at_least a b = omega arith
 
-    at_most : (a b : ℕ) → a ≤ 65536 → b ≤ 65536 → 1 + max a b < 2 ^ 32
-    at_most a b h k = omega arith
+    at_most : (a b : ℕ) → next_stamp a b < 2 ^ 32
+    at_most a b = omega arith
 
 learns_open : (r : Row) (s : Seen) → Learns (λ q. q ≡ r) s (see_opened r s)
 learns_open r s = search rules
@@ -151,19 +151,17 @@ module _ {M : Type 0} where
     pub have : HaveOffer s.words r n o
     pub nack : LearnsOf (IsCauseRow u o.base) (λ m. o.base ≡ OnNack m) (λ p. o.base ≡ OnEnd p) s u
     pub caused : SawCause u o.base cause
-    pub low_cause : cause ≤ 65536
     pub before_row : LearnsOf (IsBefore r) (λ m. ⊥) (λ p. p ≡ r.thread) u v.seen
     pub seen_last : HasSeenLast v.seen r last
-    pub low : last ≤ 65536
 
   module _ (before s u : Seen) (v w : View M) (r : Row) (n : ℕ) (o : Offer) (cause last : ℕ) (ready : IsReady before s u v r n o cause last) where
     abbrev pub alone_as : Joined
-    alone_as = record { own = n; partner = None; stamp = 1 + max last cause }
+    alone_as = record { own = n; partner = None; stamp = next_stamp last cause }
 
     pub can : CanGrant v.seen r n alone_as × IsJoinedInRange alone_as
     can = (
       can_grant (IsCauseRow u o.base) s u v.seen r n last cause o ready.nack ready.before_row ready.have ready.caused ready.seen_last,
-      grant_ranged s.words r n last cause o ready.have ready.low ready.low_cause,
+      grant_ranged s.words r n last cause o ready.have,
     )
 
     -- what is learnt up to the step, and by it

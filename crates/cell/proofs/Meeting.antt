@@ -1,5 +1,5 @@
 -- What a pass knows of two rows stays known while it sees more.
-use Rattle.std.proofs.Common.{rules, ◌≡◌, ◌≢◌, ℕ, ◌+◌, ◌^◌, ◌<◌, ◌≤◌, true, false, List, sym, refl, ap, ◌∙◌, subst, inl, inr, arith, max, Option, Some, None, IfSome, IfNone, IfErr, is_err, Result, Ok, Err}
+use Rattle.std.proofs.Common.{rules, ◌≡◌, ◌≢◌, ℕ, ◌+◌, ◌^◌, ◌<◌, ◌≤◌, true, false, List, sym, refl, ap, ◌∙◌, subst, inl, inr, arith, Option, Some, None, IfSome, IfNone, IfErr, is_err, Result, Ok, Err}
 use Rattle.protocol_values.specs.Words.{IsJoinedInRange}
 use Rattle.protocol_values.specs.declared.NackName.{NackName}
 use Rattle.protocol_values.specs.declared.Direction.{Direction}
@@ -12,7 +12,7 @@ use Rattle.protocol_values.specs.declared.Message.{Message}
 use Rattle.protocol.specs.Tables.{offers_meet, is_partner, is_fresh}
 use Rattle.protocol_values.specs.Values.{bases_meet, joined_of}
 use Rattle.protocol.proofs.RowLemmas.{row_eq-refl}
-use Rattle.cell_table.specs.Sight.{Coherent, SawChosen, LackOffer, IsKnownOpen, Has, HaveDirection, HasSeenLast, CanJoin, Learns, LearnsOf, see_opened, SawCommitted, see_cell}
+use Rattle.cell_table.specs.Sight.{Coherent, SawChosen, LackOffer, IsKnownOpen, Has, HaveDirection, HasSeenLast, CanJoin, Learns, LearnsOf, next_stamp, see_opened, SawCommitted, see_cell}
 use Rattle.protocol_values.specs.Values.{directions_meet}
 use Rattle.cell_table.specs.declared.view.Seen.{Seen}
 use Rattle.protocol_values.specs.declared.Cell.{Cell}
@@ -88,7 +88,7 @@ pub can_join : (about_other about_mine about_their : Row → Type 0) (s1 s2 s3 s
     → HaveDirection s1.words mine own a → HaveDirection s2.words other partner b
     → directions_meet a b ≡ true
     → HasSeenLast s3 mine my_last → HasSeenLast s4 other their_last
-    → CanJoin s4 mine own other partner (record { own = partner; partner = Some (mine, own); stamp = 1 + max my_last their_last })
+    → CanJoin s4 mine own other partner (record { own = partner; partner = Some (mine, own); stamp = next_stamp my_last their_last })
 can_join _ _ _ s1 s2 s3 s4 mine other own partner my_last their_last a b l m n apart have_mine have_theirs meet last_mine last_theirs = record {
   apart = apart;
   my_direction = a;
@@ -104,17 +104,20 @@ can_join _ _ _ s1 s2 s3 s4 mine other own partner my_last their_last a b l m n a
 }
 
 pub join_ranged : (threads rows : ℕ) (words words' : List (Row × ℕ × ℕ)) (mine other : Row) (own partner my_last their_last : ℕ) (a b : Direction) → threads ≤ 64 → rows ≤ 1024 → (mine.thread < threads) × (mine.sync < rows)
-    → HaveDirection words mine own a → HaveDirection words' other partner b → my_last ≤ 65536 → their_last ≤ 65536
-    → IsJoinedInRange (record { own = partner; partner = Some (mine, own); stamp = 1 + max my_last their_last })
-join_ranged threads rows words words' mine other own partner my_last their_last a b few_threads few_rows inside have_mine have_theirs low high = record {
+    → HaveDirection words mine own a → HaveDirection words' other partner b
+    → IsJoinedInRange (record { own = partner; partner = Some (mine, own); stamp = next_stamp my_last their_last })
+join_ranged threads rows words words' mine other own partner my_last their_last a b few_threads few_rows inside have_mine have_theirs = record {
   own = few have_theirs.count partner have_theirs.below;
   partner = (record { thread = let i = inside.0 in omega arith; sync = let i = inside.1 in omega arith }, few have_mine.count own have_mine.below);
-  stamp_low = let m = max my_last their_last in omega arith;
-  stamp_high = small my_last their_last low high;
+  stamp_low = at_least my_last their_last;
+  stamp_high = small my_last their_last;
 }
   where
-    small : (x y : ℕ) → x ≤ 65536 → y ≤ 65536 → 1 + max x y < 2 ^ 32
-    small x y h i = omega arith
+    at_least : (x y : ℕ) → 1 ≤ next_stamp x y
+    at_least x y = omega arith
+
+    small : (x y : ℕ) → next_stamp x y < 2 ^ 32
+    small x y = omega arith
 
 -- a row that is seen opened changes nothing of it
 pub can_join_opened : (s : Seen) (r mine other : Row) (own partner : ℕ) (j : Joined) → CanJoin s mine own other partner j → CanJoin (see_opened r s) mine own other partner j

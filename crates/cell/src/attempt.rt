@@ -106,7 +106,7 @@ fn fit<M: Resident>(
     Some(Joined {
         own: partner,
         partner: Some(mine),
-        stamp: 1 + my_last.max(last),
+        stamp: my_last.max(last).saturating_add(1),
     })
 }
 

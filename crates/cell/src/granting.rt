@@ -51,7 +51,7 @@ pub(crate) fn grant_row<M: Resident>(
     let joined = Joined {
         own: n,
         partner: None,
-        stamp: 1 + last.max(cause),
+        stamp: last.max(cause).saturating_add(1),
     };
     match board.give(seat, row, joined) {
         Ok(()) => Grant::Given,

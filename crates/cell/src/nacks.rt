@@ -86,7 +86,7 @@ pub(crate) fn cause_of<M: Resident>(
     ensures sits { StaysSeated board.now seat.old seat.new }
     ensures stays { seat.new.me.0 ≡ at_stage seat.old.me.0.stage seat.new.me.0.seen seat.old.me.0 }
     ensures learns { LearnsOf (IsCauseRow seat.new.me.0.seen base) (λ n. base ≡ OnNack n) (λ p. base ≡ OnEnd p) seat.old.me.0.seen seat.new.me.0.seen }
-    ensures some { IfSome result (λ stamp. SawCause seat.new.me.0.seen base stamp × (stamp ≤ 65536)) }
+    ensures some { IfSome result (λ stamp. SawCause seat.new.me.0.seen base stamp) }
     ensures none { IfNone result (¬ IsReadyAlone seat.old.me.0.seen base) }
 {
     match base {

@@ -144,7 +144,6 @@ fn start_stamp<M: Resident>(board: &Board<M>, seat: &mut Seat<Option<M>, View<M>
     ensures stays { seat.new.me.0 ≡ at_stage seat.old.me.0.stage seat.new.me.0.seen seat.old.me.0 }
     ensures learns { LearnsOf (λ q. ⊥) (λ n. ⊥) (λ p. p ≡ row.thread) seat.old.me.0.seen seat.new.me.0.seen }
     ensures started { Has seat.new.me.0.seen.started (row.thread, result) }
-    ensures small { result ≤ 65536 }
 {
     match board.look_life(seat, row.thread) {
         Course::Running(start) | Course::Ended(start, _) => start,
@@ -162,7 +161,6 @@ fn stamp_before<M: Resident>(board: &Board<M>, seat: &mut Seat<Option<M>, View<M
     ensures stays { seat.new.me.0 ≡ at_stage seat.old.me.0.stage seat.new.me.0.seen seat.old.me.0 }
     ensures learns { Learns (IsBefore row) seat.old.me.0.seen seat.new.me.0.seen }
     ensures last { HasSeenLast seat.new.me.0.seen row result }
-    ensures small { result ≤ 65536 }
 {
     let before = Row {
         thread: row.thread,
@@ -187,7 +185,6 @@ pub(crate) fn last_stamp<M: Resident>(
     ensures stays { seat.new.me.0 ≡ at_stage seat.old.me.0.stage seat.new.me.0.seen seat.old.me.0 }
     ensures learns { LearnsOf (IsBefore row) (λ n. ⊥) (λ p. p ≡ row.thread) seat.old.me.0.seen seat.new.me.0.seen }
     ensures last { HasSeenLast seat.new.me.0.seen row result }
-    ensures small { result ≤ 65536 }
 {
     if row.sync == 0 {
         start_stamp(board, seat, row)
@@ -211,7 +208,6 @@ pub(crate) fn last_at<M: Resident>(
     ensures stays { seat.new.me.0 ≡ at_stage seat.old.me.0.stage seat.new.me.0.seen seat.old.me.0 }
     ensures learns { Learns (IsBefore row) seat.old.me.0.seen seat.new.me.0.seen }
     ensures last { HasSeenLast seat.new.me.0.seen row result }
-    ensures small { result ≤ 65536 }
 {
     if row.sync == 0 {
         start
@@ -230,7 +226,7 @@ pub(crate) fn end_stamp<M: Resident>(
     ensures sits { StaysSeated board.now seat.old seat.new }
     ensures stays { seat.new.me.0 ≡ at_stage seat.old.me.0.stage seat.new.me.0.seen seat.old.me.0 }
     ensures learns { LearnsOf (λ q. (g : ℕ) × Has seat.new.me.0.seen.ended (thread, g) × IsBefore (record { thread = thread; sync = g }) q) (λ n. ⊥) (λ p. p ≡ thread) seat.old.me.0.seen seat.new.me.0.seen }
-    ensures some { IfSome result (λ stamp. ((g : ℕ) × Has seat.new.me.0.seen.ended (thread, g) × HasSeenLast seat.new.me.0.seen (record { thread = thread; sync = g }) stamp) × (stamp ≤ 65536)) }
+    ensures some { IfSome result (λ stamp. (g : ℕ) × Has seat.new.me.0.seen.ended (thread, g) × HasSeenLast seat.new.me.0.seen (record { thread = thread; sync = g }) stamp) }
     ensures none { IfNone result (¬ SawEnded seat.old.me.0.seen thread) }
 {
     if !board.has_thread(thread) {

@@ -30,7 +30,7 @@ use Rattle.protocol.proofs.Naming.{namer_none, namer_is}
 use Rattle.protocol.proofs.Places.{row_from, row_inside, same_place}
 use Rattle.protocol.proofs.Readings.{cell_inside, row_of_open}
 use Rattle.protocol.proofs.Linking.{fresh_not_joined, some_inj, cases_Option}
-use Rattle.protocol.proofs.Keeping.{kept_step, idle_unnamed, join_in_range, grant_in_range, IsSealing, sealed_is, seal_in_range, is_held}
+use Rattle.protocol.proofs.Keeping.{kept_step, idle_unnamed, join_in_range, grant_in_range, waits_unjoined, IsSealing, sealed_is, seal_in_range, is_held}
 use Rattle.cell_table.specs.declared.view.View.{View}
 use Rattle.cell_table.specs.declared.view.Shape.{Shape}
 use Rattle.cell_table.specs.declared.view.Stage.{Stage}
@@ -58,7 +58,7 @@ use Rattle.cell_table.proofs.Standing.{comes_out, goes_home, sees_last}
 
 -- the table with these words
 abbrev pub sized : {M : Type 0} → Shape M → List ℕ → Table
-sized shape ws = record { threads = shape.threads; rows = shape.rows; words = ws }
+sized shape ws = record { threads = shape.threads; rows = shape.rows; words = ws; opening = 0 }
 
 -- the word of a Waiting cell reads as one
 waiting_read : cell_read (cell_word Waiting) ≡ Waiting
@@ -67,7 +67,7 @@ waiting_read = ap (λ (o : Option Cell). unwrap_or o Fresh) (cell_of-cell_word W
 -- one place is one word of one row
 same_word : (threads rows : ℕ) (r q : Row) (p o : ℕ) → Inside threads rows r → Inside threads rows q → p < 34 → o < 34 → place_of rows r p ≡ place_of rows q o → (r ≡ q) × (p ≡ o)
 same_word threads rows r q p o a b h i e =
-    let t : Table = record { threads = threads; rows = rows; words = [] } in
+    let t : Table = record { threads = threads; rows = rows; words = []; opening = 0 } in
     same_place t r q p o (row_from t r a.0 a.1) (row_from t q b.0 b.1) h i e
 
 abbrev joined_in : Option Cell → Option Joined
@@ -316,8 +316,8 @@ module _ {M : Type 0} (stands : Stands M) where
           let was : joined_of (cell_at k.world.table r) ≡ None = ap joined_of waits in
           let untaken : is_taken (cell_at k.world.table r) ≡ false = ap is_taken waits in
           let meet = offers_known k.world k.owner id me.0 known kept mine own r partner j can in
-          let is : joined_with k.world.table mine own r partner ≡ j = joined_known k.world k.owner id me.0 known kept mine own r partner j can in
-          let range : IsJoinedInRange j = subst IsJoinedInRange is (join_in_range k.world mine own r partner kept (row_of_open k.world.table mine (ap is_fresh staged.1)) meet) in
+          let is : joined_with k.world.table mine own r partner ≡ j = joined_known k.world k.owner id me.0 known kept mine own r partner j can (waits_unjoined k.world r waits) in
+          let range : IsJoinedInRange j = subst IsJoinedInRange is (join_in_range k.world mine own r partner kept (waits_unjoined k.world r waits) (row_of_open k.world.table mine (ap is_fresh staged.1)) meet) in
           let apart : row_eq mine r ≡ false = row_ne mine r (λ e. can.apart (ap (λ (y : Row). y.thread) e)) in
           let partner_is : j.partner ≡ Some (mine, own) = ap (λ (y : Joined). y.partner) can.is in
           let now = own_now (Synched j) zero range refl was untaken in
@@ -341,8 +341,8 @@ module _ {M : Type 0} (stands : Stands M) where
       grants zero n j resting can waits =
           let was : joined_of (cell_at k.world.table r) ≡ None = ap joined_of waits in
           let untaken : is_taken (cell_at k.world.table r) ≡ false = ap is_taken waits in
-          let known_grant = granted_known k.world k.owner id me.0 known kept r n j can in
-          let range : IsJoinedInRange j = subst IsJoinedInRange known_grant.1 (grant_in_range k.world r n can.cause kept known_grant.0) in
+          let known_grant = granted_known k.world k.owner id me.0 known kept r n j can (waits_unjoined k.world r waits) in
+          let range : IsJoinedInRange j = subst IsJoinedInRange known_grant.1 (grant_in_range k.world r n can.cause kept (waits_unjoined k.world r waits) known_grant.0) in
           let nobody : j.partner ≡ None = ap (λ (y : Joined). y.partner) can.is in
           let now = own_now (Synched j) zero range refl was untaken in
           wrote_cell (Synched j) zero range refl was untaken (Grant r n) (settled r j me.0)

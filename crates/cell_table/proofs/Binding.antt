@@ -11,23 +11,27 @@ use Rattle.protocol_values.specs.Words.{nack_of, nack_word, IsBindingInRange}
 use Rattle.protocol_values.proofs.WordLemmas.{nack_of-nack_word, nack_word-nack_of}
 use Rattle.protocol_values.specs.declared.NackName.{NackName}
 use Rattle.protocol_values.specs.declared.Binding.{Binding}
+use Rattle.protocol_values.specs.declared.NackWord.{NackWord}
+use Rattle.protocol_values.specs.declared.NackWord.TheVariants.{Bound, Carried, Unbound}
 use Rattle.protocol_values.specs.declared.Course.{Course}
 use Rattle.protocol_values.specs.declared.Row.{Row}
-use Rattle.protocol.specs.Tables.{Table, bound_row, cell_at, course_at, is_fresh, is_nack, is_taken, nack_at, nack_place, binding_at}
+use Rattle.protocol.specs.Tables.{Table, bound_row, cell_at, course_at, is_fresh, is_nack, is_taken, nack_at, nack_place, nack_says, binding_at, bound_by, carried_at, carried_by}
 use Rattle.protocol_values.specs.Values.{joined_of}
-use Rattle.protocol.specs.Worlds.{World, holder_at, with_nack, with_table}
+use Rattle.protocol.specs.Worlds.{World, holder_at, start_world, with_nack, with_table}
 use Rattle.protocol.specs.Kept.{Kept}
 use Rattle.protocol.proofs.Linking.{cases_Option, some_inj, some_parts}
 use Rattle.protocol.proofs.Places.{same_nack_place, word_bound}
-use Rattle.protocol.proofs.Readings.{course_after_bind, binding_inside, binding_bound, binding_kept, binding_was, cell_after_bind}
+use Rattle.protocol.proofs.Readings.{bound_is, carried_is, says_inside, course_after_bind, binding_bound, binding_kept, binding_was, cell_after_bind}
 use Rattle.protocol.proofs.Keeping.{holder_same, taken_before}
+use Rattle.protocol.proofs.LedgerLemmas.{first_uncarried, kept_start}
+use Rattle.protocol.proofs.Onward.{grows-schedule}
 use Rattle.cell_table.specs.declared.view.View.{View}
 use Rattle.cell_table.specs.declared.view.Shape.{Shape}
 use Rattle.cell_table.specs.declared.view.Stage.TheVariants.{Aside, Resting}
 use Rattle.cell_table.specs.Sight.{Has, SawEnded}
 use Rattle.protocol.specs.Acting.{EndsAt, HasStart}
 use Rattle.cell_table.specs.Views.{Knows, bind_of, bound_nack, did, saw_nack}
-use Rattle.cell_table.specs.Rule.{IsToBegin, Keeps, beginning}
+use Rattle.cell_table.specs.Rule.{IsToBegin, Keeps, beginning, in_order}
 use Rattle.cell_table.proofs.Standing.{is_earlier}
 use Rattle.protocol.specs.Standing.{Stands}
 use Rattle.protocol_values.specs.declared.Step.{Step}
@@ -47,10 +51,18 @@ unfolding is_nack
 nack_from t n h k = and_from _ _ (lt-ltb n.thread t.threads h) (lt-ltb n.k 64 k)
 
 -- one word stands for one binding
-one_binding : (b c : Binding) → IsBindingInRange b → IsBindingInRange c → nack_word (Some b) ≡ nack_word (Some c) → b ≡ c
+one_binding : (b c : Binding) → IsBindingInRange b → IsBindingInRange c → nack_word (Bound b) ≡ nack_word (Bound c) → b ≡ c
 one_binding b c g h e =
-    let both : Some (Some b) ≡ Some (Some c) = sym (nack_of-nack_word (Some b) g) ∙ ap nack_of e ∙ nack_of-nack_word (Some c) h in
-    some_inj b c (some_inj (Some b) (Some c) both)
+    let both : Some (Bound b) ≡ Some (Bound c) = sym (nack_of-nack_word (Bound b) g) ∙ ap nack_of e ∙ nack_of-nack_word (Bound c) h in
+    bound_inj b c (some_inj (Bound b) (Bound c) both)
+  where
+    binding_of : NackWord → Binding
+    binding_of Unbound = b
+    binding_of (Bound x) = x
+    binding_of (Carried stamp) = b
+
+    bound_inj : (x y : Binding) → Bound x ≡ Bound y → x ≡ y
+    bound_inj x y same = ap binding_of same
 
 module _ {M : Type 0} where
   -- what was seen by then agrees with itself
@@ -76,7 +88,7 @@ module _ {M : Type 0} where
 bind_lives : (w : World) (m : NackName) (b : Binding) → is_nack w.table m ≡ true → (p : ℕ) → course_at (with_nack w.table m b) p ≡ course_at w.table p
 bind_lives w m b nack p = ap (λ (f : ℕ → Course). f p) (course_after_bind w.table m b nack)
 
-pub follows_bind : (w : World) (m : NackName) (b : Binding) → is_nack w.table m ≡ true → binding_at w.table m ≡ None → Follows w (with_table w (with_nack w.table m b))
+pub follows_bind : (w : World) (m : NackName) (b : Binding) → is_nack w.table m ≡ true → nack_says w.table m ≡ Unbound → Follows w (with_table w (with_nack w.table m b))
 unfolding with_nack
 follows_bind w m b nack free = record {
   threads = refl;
@@ -113,7 +125,7 @@ module _ {M : Type 0} (stands : Stands M) where
 
     one_nack : (m : NackName) → InsideNack me.0.threads m → place ≡ nack_place me.0.rows m → nack ≡ m
     one_nack m i e =
-        let t : Table = record { threads = shape.threads; rows = shape.rows; words = [] } in
+        let t : Table = record { threads = shape.threads; rows = shape.rows; words = []; opening = 0 } in
         let at : nack_place shape.rows nack ≡ nack_place shape.rows m = sym here ∙ e ∙ ap (λ (n : ℕ). nack_place n m) rows in
         let there : m.thread < shape.threads = subst (λ (n : ℕ). m.thread < n) threads i.0 in
         let same = same_nack_place t nack m (nack_from t nack inside.0 inside.1) (nack_from t m there i.1) at in
@@ -133,8 +145,17 @@ module _ {M : Type 0} (stands : Stands M) where
       unfolding nack_at
       word_is = ap (λ (t : Table). nack_at t nack) k.table ∙ ap (slice_index s.words) (sym here)
 
+      says_is : nack_says k.world.table nack ≡ unwrap_or (nack_of (slice_index s.words place)) Unbound
+      says_is = says_inside k.world.table nack is_its_nack ∙ ap (λ w. unwrap_or (nack_of w) Unbound) word_is
+
       binding_is : binding_at k.world.table nack ≡ nack_read (slice_index s.words place)
-      binding_is = binding_inside k.world.table nack is_its_nack ∙ ap nack_read word_is
+      binding_is = bound_is k.world.table nack ∙ ap bound_by says_is
+
+      -- nothing went before the table
+      uncarried : carried_at k.world.table nack ≡ None
+      uncarried =
+          (grows-schedule (start_world shape.threads shape.rows shape.passes shape.later) k.world (in_order k.moves) (kept_start shape.threads shape.rows shape.passes shape.later k.few_threads k.few_rows) k.played).carried nack
+          ∙ first_uncarried shape.threads shape.rows shape.passes shape.later nack
 
       -- where it only learns
       learnt : (w : View M) → w.seat ≡ me.0.seat → w.made ≡ me.0.made → w.results ≡ me.0.results → beginning w ≡ beginning me.0 → Stays me.0 w → ((r : Row) → IsToBegin w r → IsToBegin me.0 r) → Knows k.world k.owner id w → Keeps stands shape (stepped s place (slice_index s.words place) id me.1 w keeps)
@@ -176,14 +197,18 @@ module _ {M : Type 0} (stands : Stands M) where
       agrees_nack m e = subst (λ (n : NackName). AgreesNack me.0 n (nack_read (slice_index s.words place))) e (λ b h. sym binding_is ∙ known.bound nack b h)
 
       -- a word that is not that of an unbound nack says where the nack is bound
-      bound_there : slice_index s.words place ≢ nack_word None → (c : Binding) × (nack_read (slice_index s.words place) ≡ Some c)
+      bound_there : slice_index s.words place ≢ nack_word Unbound → (c : Binding) × (nack_read (slice_index s.words place) ≡ Some c)
       bound_there other =
           let o = some_parts (nack_of (nack_at k.world.table nack)) (kept.formed.nacks nack is_its_nack) in
           by_word o.0 (ap nack_of (sym word_is) ∙ o.1)
         where
-          by_word : (o : Option Binding) → nack_of (slice_index s.words place) ≡ Some o → (c : Binding) × (nack_read (slice_index s.words place) ≡ Some c)
-          by_word None e = absurd (other (nack_word-nack_of (slice_index s.words place) None e).1)
-          by_word (Some c) e = (c, ap (λ (p : Option (Option Binding)). unwrap_or p None) e)
+          by_word : (w : NackWord) → nack_of (slice_index s.words place) ≡ Some w → (c : Binding) × (nack_read (slice_index s.words place) ≡ Some c)
+          by_word Unbound e = absurd (other (nack_word-nack_of (slice_index s.words place) Unbound e).1)
+          by_word (Bound c) e = (c, ap (λ (w : Option NackWord). bound_by (unwrap_or w Unbound)) e)
+          by_word (Carried stamp) e =
+              let carried : carried_at k.world.table nack ≡ Some stamp = carried_is k.world.table nack ∙ ap carried_by (says_is ∙ ap (λ (w : Option NackWord). unwrap_or w Unbound) e) in
+              let bad : None ≡ Some stamp = sym uncarried ∙ carried in
+              cc
 
       -- a nack that is bound to an earlier row of a held row's thread
       earlier_there : (b : Binding) → Has me.0.seen.held (bound_row nack b) → (c : Binding) → binding_at k.world.table nack ≡ Some c → c.sync < b.sync → 0 < length me.0.first → IsEarlier stands me.0.first me.0.results nack c
@@ -196,7 +221,7 @@ module _ {M : Type 0} (stands : Stands M) where
 
       -- the nack is bound to a held row that is not opened
       module _ (b : Binding) (range : IsBindingInRange b) (resting : me.0.stage ≡ Resting) (held : Has me.0.seen.held (bound_row nack b)) (unopened : ¬ Has me.0.seen.opened (bound_row nack b)) (alive : ¬ SawEnded me.0.seen nack.thread)
-          (free : binding_at k.world.table nack ≡ None) where
+          (free : nack_says k.world.table nack ≡ Unbound) where
         abbrev later : World
         later = with_table k.world (with_nack k.world.table nack b)
 
@@ -248,14 +273,14 @@ module _ {M : Type 0} (stands : Stands M) where
         row_bound (Start x thread) = x
         row_bound (Finish x) = x
 
-        binds : Keeps stands shape (stepped s place (nack_word (Some b)) id me.1 (did (bind_of nack b) (bound_nack nack b me.0)) keeps)
+        binds : Keeps stands shape (stepped s place (nack_word (Bound b)) id me.1 (did (bind_of nack b) (bound_nack nack b me.0)) keeps)
         unfolding with_nack row_bound
         binds =
             let mine = known.mine (bound_row nack b) held in
             keeps_step stands shape s k id me.0 (bound_nack nack b me.0) _ k.owner view at_table refl refl refl (λ q h. h) (bind_of nack b) (λ q e. let bad : bind_of nack b ≡ Open q = e in cc) tt
             (known.seat, (mine.1, known.fresh (bound_row nack b) held unopened, alive_unseen k.world me.0.seen nack.thread (stand_ends k.world k.owner id me.0 known (bound_row nack b) (inl (held, unopened))) alive, inside.1, range.scope, free))
             (record { same = (refl, refl, refl); acted = rests; acts = rests; held = λ q h. h; begun = λ q h. h; binds = λ n q scope e. subst (Has me.0.seen.held) (ap row_bound e) held }) (λ t rs h. inl h)
-            (ap (λ (t : Table). with_nack t nack b) k.table ∙ ap (λ (n : ℕ). sized shape (slice_set s.words n (nack_word (Some b)))) (sym here))
+            (ap (λ (t : Table). with_nack t nack b) k.table ∙ ap (λ (n : ℕ). sized shape (slice_set s.words n (nack_word (Bound b)))) (sym here))
             (λ j u n e t. others j u n (k.knows j u e t))
             own
 
@@ -279,19 +304,21 @@ module _ {M : Type 0} (stands : Stands M) where
 
     -- a nack of a held row's thread: where it is not bound, it is bound to the row
     pub bind_allowed : (b : Binding) → IsBindingInRange b → me.0.stage ≡ Resting → Has me.0.seen.held (bound_row nack b) → ¬ Has me.0.seen.opened (bound_row nack b) → (¬ SawEnded me.0.seen nack.thread) → place ≡ nack_place shape.rows nack
-        → Allows (Keeps stands shape) slots id me place (λ x. either (eqb x (nack_word None)) (nack_word (Some b)) x) (tried_bind stands (step slots place (nack_word None) (nack_word (Some b)) none) me)
+        → Allows (Keeps stands shape) slots id me place (λ x. either (eqb x (nack_word Unbound)) (nack_word (Bound b)) x) (tried_bind stands (step slots place (nack_word Unbound) (nack_word (Bound b)) none) me)
     bind_allowed b in_range resting held unopened alive here s k homes view range =
         let x = slice_index s.words place in
         let read = binding_is shape id place me nack threads rows inside here s k view in
         let knows = known shape id place me nack threads rows inside here s k view in
-        let one : (m : NackName) → AtNack (step {S = Option M} slots place (nack_word None) (nack_word (Some b)) none) me m → nack ≡ m = λ m at. one_nack shape id place me nack threads rows inside here m at.0 at.1 in
-        exchanged x (nack_word None) (nack_word (Some b))
-        (λ y. (w : View M) × (a : Act (Option M)) × Valid s.homes me.1 a × Keeps stands shape (stepped s place y id me.1 w a) × tried_bind stands (step slots place (nack_word None) (nack_word (Some b)) none) me x (w, carried_after me.1 a))
+        let one : (m : NackName) → AtNack (step {S = Option M} slots place (nack_word Unbound) (nack_word (Bound b)) none) me m → nack ≡ m = λ m at. one_nack shape id place me nack threads rows inside here m at.0 at.1 in
+        exchanged x (nack_word Unbound) (nack_word (Bound b))
+        (λ y. (w : View M) × (a : Act (Option M)) × Valid s.homes me.1 a × Keeps stands shape (stepped s place y id me.1 w a) × tried_bind stands (step slots place (nack_word Unbound) (nack_word (Bound b)) none) me x (w, carried_after me.1 a))
         (λ e.
-        let none_read : nack_read x ≡ None = ap nack_read e ∙ ap (λ (p : Option (Option Binding)). unwrap_or p None) (nack_of-nack_word None tt) in
-        let free : binding_at k.world.table nack ≡ None = read ∙ none_read in
+        let unbound_read : unwrap_or (nack_of x) Unbound ≡ Unbound = ap (λ w. unwrap_or (nack_of w) Unbound) e ∙ ap (λ (w : Option NackWord). unwrap_or w Unbound) (nack_of-nack_word Unbound tt) in
+        let none_read : nack_read x ≡ None = ap bound_by unbound_read in
+        let free : nack_says k.world.table nack ≡ Unbound = says_is shape id place me nack threads rows inside here s k view ∙ unbound_read in
+        let unbound : binding_at k.world.table nack ≡ None = read ∙ none_read in
         let after = did (bind_of nack b) (bound_nack nack b me.0) in
-        let moved : Keeps stands shape (stepped s place (nack_word (Some b)) id me.1 after keeps) = binds shape id place me nack threads rows inside here s k view b in_range resting held unopened alive free in (
+        let moved : Keeps stands shape (stepped s place (nack_word (Bound b)) id me.1 after keeps) = binds shape id place me nack threads rows inside here s k view b in_range resting held unopened alive free in (
           after,
           keeps,
           tt,
@@ -300,10 +327,10 @@ module _ {M : Type 0} (stands : Stands M) where
             λ f. let same = one_binding b c in_range c_range second in
                 let nack_same = one m at in (
                   (λ z. (did (bind_of (nack_same z) (same z)) (bound_nack (nack_same z) (same z) me.0), me.1)),
-                  λ d h. let bad : None ≡ Some d = sym free ∙ knows.bound nack d (subst (λ (n : NackName). Has me.0.seen.bound (n, d)) (sym nack_same) h) in cc,
+                  λ d h. let bad : None ≡ Some d = sym unbound ∙ knows.bound nack d (subst (λ (n : NackName). Has me.0.seen.bound (n, d)) (sym nack_same) h) in cc,
                 ),
             λ d f. let bad : None ≡ Some d = sym none_read ∙ f in cc,
-            agreed shape id place me nack threads rows inside here s k view (nack_word (Some b)) after refl moved,
+            agreed shape id place me nack threads rows inside here s k view (nack_word (Bound b)) after refl moved,
           ),
         ))
         (λ f.

@@ -76,7 +76,7 @@ module _ {M : Type 0} (stands : Stands M) where
     interleaved = record { made = λ id v e. one_view id v e; no_others = λ id h. refl };
     world = start_world shape.threads shape.rows shape.passes shape.later;
     played = refl;
-    table = ap (λ (z : List ℕ). record { threads = shape.threads; rows = shape.rows; words = z }) (sym zeros);
+    table = ap (λ (z : List ℕ). record { threads = shape.threads; rows = shape.rows; words = z; opening = 0 }) (sym zeros);
     owner = λ r. 0;
     knows = knows_at;
     seated = seated_start shape;

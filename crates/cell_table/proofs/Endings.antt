@@ -23,7 +23,7 @@ use Rattle.cell_table.specs.Closings.{HandedOut, IsHomeOf}
 use Rattle.protocol.specs.Growing.{GoesOn}
 use Rattle.protocol.specs.Worlds.{start_world, waits}
 use Rattle.protocol.specs.Ledgers.{ledger_of, IsLawful, binding_in, course_in, joined_in, offer_in}
-use Rattle.protocol.proofs.LedgerLemmas.{binding_in_ledger, course_in_ledger, kept_start, lawful_ledger, joined_in_ledger, offer_in_ledger, start_course}
+use Rattle.protocol.proofs.LedgerLemmas.{binding_in_ledger, course_in_ledger, kept_start, lawful_ledger, joined_in_ledger, offer_in_ledger, opening_in_ledger, start_course}
 use Rattle.protocol.proofs.Onward.{grows-schedule}
 use Rattle.protocol.specs.Standing.{AreResults, OffersAs, Result, SomeStands, Stands}
 use Rattle.protocol.proofs.Standing.{stands-ledger}
@@ -120,6 +120,7 @@ module _ {M : Type 0} (stands : Stands M) where
     -- in a table of machines the threads do what those do who stand for them
     pub final_acts : 0 < length shape.first.value.items → ActsAs (StartsFirst shape.threads shape.later) (acts_in stands shape.first.value.items) (ledger_of (sized shape ws))
     final_acts some_first = subst (λ (t : Table). ActsAs (StartsFirst shape.threads shape.later) (acts_in stands shape.first.value.items) (ledger_of t)) table_is (record {
+      nothing_before = opening_in_ledger kept.world.table ∙ ap (λ (t : Table). t.opening) table_is;
       offers = stands-ledger (SomeStands stands shape.first.value.items) kept.world.table (kept.housed some_first).rows;
       starts = kept.started some_first;
       ends = kept.ended some_first;

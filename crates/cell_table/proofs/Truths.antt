@@ -8,7 +8,7 @@ use Rattle.protocol_values.specs.declared.NackName.{NackName}
 use Rattle.protocol_values.specs.declared.Row.{Row}
 use Rattle.protocol_values.specs.declared.Joined.{Joined}
 use Rattle.protocol_values.specs.declared.Cell.{Cell}
-use Rattle.protocol.specs.Tables.{Table, course_at, marks_at, start_of, is_fresh, cell_at, joined_at, offers_meet, offer_at, count_at, row_stamp, last_stamp, word_at, stands_alone, binding_at, bound_row, encloses, nack_by, stamped, cause_by, cause_of, cause_at, end_by, end_via, is_taken}
+use Rattle.protocol.specs.Tables.{Table, course_at, marks_at, start_of, is_fresh, cell_at, joined_at, offers_meet, offer_at, count_at, row_stamp, last_stamp, word_at, stands_alone, binding_at, bound_row, encloses, nack_by, cause_by, cause_of, cause_at, end_by, end_via, is_taken}
 use Rattle.protocol_values.specs.Values.{joined_of}
 use Rattle.protocol_values.specs.declared.Base.{Base}
 use Rattle.protocol_values.specs.declared.Base.TheVariants.{Send, Recv, Always, OnNack, OnEnd, Never}
@@ -17,14 +17,14 @@ use Rattle.protocol_values.specs.declared.Course.{Course}
 use Rattle.protocol_values.specs.declared.Course.TheVariants.{Unstarted, Running, Ended}
 use Rattle.protocol.specs.Worlds.{World, joined_with, granted_by}
 use Rattle.protocol.specs.Kept.{IsFormed, Kept, IsSideOf}
-use Rattle.protocol.proofs.Readings.{count_open, row_of_open, offer_none, joined_ranged, nack_of_bound, binding_ranged}
+use Rattle.protocol.proofs.Readings.{count_open, row_of_open, offer_none, joined_ranged, nack_of_bound, binding_ranged, bound_uncarried}
 use Rattle.protocol.proofs.Places.{nack_inside, row_inside}
-use Rattle.protocol.proofs.Causes.{cause_alone, enabling_from}
+use Rattle.protocol.proofs.Causes.{cause_alone, enabled_at_from}
 use Rattle.protocol.proofs.Linking.{fresh_not_joined, some_inj, naming, partner_open, cases_Option}
 use Rattle.protocol.proofs.Lawfulness.{chosen_there}
-use Rattle.protocol.proofs.Keeping.{few_commits, taken_before, held_row, granted_is}
+use Rattle.protocol.proofs.Keeping.{IsUnjoined, next_cause, next_last, taken_before, held_row, granted_is}
 use Rattle.cell_table.specs.declared.view.View.{View}
-use Rattle.cell_table.specs.Sight.{Has, HaveDirection, HaveOffer, HasSeenLast, CanJoin, IsDraft, SawChosen, SeesNoOffer, SeesOffer, Coherent}
+use Rattle.cell_table.specs.Sight.{Has, HaveDirection, HaveOffer, HasSeenLast, CanJoin, IsDraft, SawChosen, SeesNoOffer, SeesOffer, Coherent, next_stamp}
 use Rattle.protocol.specs.Acting.{EndsAt}
 use Rattle.cell_table.specs.Nacks.{CanGrant, SawCause, SawEnabled}
 use Rattle.cell_table.specs.Views.{Knows, behind_last}
@@ -108,25 +108,38 @@ module _ {M : Type 0} where
         ap (λ (y : Bool). cond y (start_of (course_at w.table r.thread)) (row_stamp (joined_at w.table (record { thread = r.thread; sync = r.sync - 1 })))) (ne_eqb r.sync 0 h.1)
         ∙ ap row_stamp (k.joined (record { thread = r.thread; sync = r.sync - 1 }) h.0 h.2) ∙ sym h.3
 
-    pub joined_known : (m : Row) (i : ℕ) (o : Row) (n : ℕ) (j : Joined) → CanJoin v.seen m i o n j → joined_with w.table m i o n ≡ j
+    -- the stamp of a row that waits has room in its word
+    next_is : (a b : ℕ) → a < 4294967295 → b < 4294967295 → 1 + max a b ≡ next_stamp a b
+    next_is a b h i = omega arith
+
+    pub joined_known : (m : Row) (i : ℕ) (o : Row) (n : ℕ) (j : Joined) → CanJoin v.seen m i o n j → IsUnjoined w o → joined_with w.table m i o n ≡ j
     unfolding joined_with
-    joined_known m i o n j can =
+    joined_known m i o n j can free =
         let a = last_known m can.my_last can.seen_mine in
         let b = last_known o can.their_last can.seen_theirs in
-        (λ x. record { own = n; partner = Some (m, i); stamp = 1 + max (a x) (b x) }) ∙ sym can.is
+        let low = subst (λ (s : ℕ). s < 4294967295) a (next_last w o m kept free) in
+        let high = subst (λ (s : ℕ). s < 4294967295) b (next_last w o o kept free) in
+        (λ x. record { own = n; partner = Some (m, i); stamp = 1 + max (a x) (b x) })
+        ∙ (λ x. record { own = n; partner = Some (m, i); stamp = next_is can.my_last can.their_last low high x })
+        ∙ sym can.is
 
     -- an offer that was seen, read or drafted
     pub chosen_known : (r : Row) (n : ℕ) (o : Offer) → SeesOffer v.seen r n o → offer_at w.table r n ≡ Some o
     chosen_known r n o (inl h) = offer_known r n o h
     chosen_known r n o (inr h) = offer_there w.table v.seen.drafts r n o kept.formed (λ p x d. (k.drafted r p x d).4) (k.opened r h.0) h.1
 
-    enabled_known : (n : NackName) (j : Joined) → SawEnabled v.seen n j → nack_by (joined_at w.table) (offer_at w.table) (binding_at w.table) n ≡ Some j
-    enabled_known n j e = enabling_from (joined_at w.table) (offer_at w.table) (binding_at w.table) n j (record {
-      binding = e.binding;
-      is_bound = k.bound n e.binding e.bound;
-      is_joined = k.joined (bound_row n e.binding) j e.joined;
-      outside = ap (encloses e.binding.scope) (chosen_known (bound_row n e.binding) j.own e.offer e.chosen) ∙ e.outside;
-    })
+    enabled_known : (n : NackName) (j : Joined) → SawEnabled v.seen n j → nack_by (joined_at w.table) (offer_at w.table) (marks_at w.table) n ≡ Some j.stamp
+    enabled_known n j e = enabled_at_from (joined_at w.table) (offer_at w.table) (marks_at w.table) n j.stamp (inl (record {
+      by = j;
+      uncarried = bound_uncarried w.table n e.binding (k.bound n e.binding e.bound);
+      enabled = record {
+        binding = e.binding;
+        is_bound = k.bound n e.binding e.bound;
+        is_joined = k.joined (bound_row n e.binding) j e.joined;
+        outside = ap (encloses e.binding.scope) (chosen_known (bound_row n e.binding) j.own e.offer e.chosen) ∙ e.outside;
+      };
+      stamp = refl;
+    }))
 
     end_known : (p g s : ℕ) → EndsAt (course_at w.table p) g → last_stamp (marks_at w.table) (joined_at w.table) (record { thread = p; sync = g }) ≡ s → end_by (marks_at w.table) (joined_at w.table) p ≡ Some s
     unfolding end_by
@@ -141,15 +154,22 @@ module _ {M : Type 0} where
     cause_known (Send c m) s h = absurd h
     cause_known (Recv c) s h = absurd h
     cause_known (Always m) s h = ap (λ (x : ℕ). Some x) (sym h)
-    cause_known (OnNack n) s h = ap stamped (enabled_known n h.0 h.1) ∙ ap (λ (x : ℕ). Some x) (sym h.2)
+    cause_known (OnNack n) s h = enabled_known n h.0 h.1 ∙ ap (λ (x : ℕ). Some x) (sym h.2)
     cause_known (OnEnd p) s h = end_known p h.0 s (k.ended p h.0 h.1) (last_known (record { thread = p; sync = h.0 }) s h.2)
     cause_known Never s h = absurd h
 
-    pub granted_known : (r : Row) (n : ℕ) (j : Joined) (can : CanGrant v.seen r n j) → (cause_at w.table r n ≡ Some can.cause) × (granted_by w.table r n ≡ j)
-    granted_known r n j can =
+    pub granted_known : (r : Row) (n : ℕ) (j : Joined) (can : CanGrant v.seen r n j) → IsUnjoined w r → (cause_at w.table r n ≡ Some can.cause) × (granted_by w.table r n ≡ j)
+    granted_known r n j can free =
         let a = last_known r can.last can.seen_last in
         let has : cause_at w.table r n ≡ Some can.cause = ap (cause_of (joined_at w.table) (offer_at w.table) (marks_at w.table)) (offer_known r n can.offer can.read) ∙ cause_known can.offer.base can.cause can.caused in
-        (has, granted_is w.table r n can.cause has ∙ (λ x. record { own = n; partner = None; stamp = 1 + max (a x) can.cause }) ∙ sym can.is)
+        let low = subst (λ (s : ℕ). s < 4294967295) a (next_last w r r kept free) in
+        let cause = next_cause w r (offer_at w.table r n) can.cause kept free has in (
+          has,
+          granted_is w.table r n can.cause has
+              ∙ (λ x. record { own = n; partner = None; stamp = 1 + max (a x) can.cause })
+              ∙ (λ x. record { own = n; partner = None; stamp = next_is can.last can.cause low cause x })
+              ∙ sym can.is,
+        )
 
     side : (r : Row) (j : Joined) (p : Row × ℕ) → Has v.seen.joined (r, j) → j.partner ≡ Some p → IsSideOf (cell_at w.table) (offer_at w.table) (marks_at w.table) r j p
     side r j p has e = kept.linked.sides r j p (k.joined r j has) e
@@ -187,10 +207,7 @@ module _ {M : Type 0} where
       one_draft = λ r p x y g h. sym (k.drafted r p x g).4 ∙ (k.drafted r p y h).4;
       as_drafted = λ r p x y g h. sym (k.drafted r p x g).4 ∙ (k.read r p y h).3;
       one_joined = λ r i j g h. some_inj i j (sym (k.joined r i g) ∙ k.joined r j h);
-      in_range = λ r j h. (
-        joined_ranged w.table r j (k.joined r j h),
-        Rattle.std.proofs.Math.Nat.le_trans (kept.linked.bounded r j (k.joined r j h)) (few_commits w.table.threads w.table.rows _ _ kept.few_threads kept.few_rows),
-      );
+      in_range = λ r j h. joined_ranged w.table r j (k.joined r j h);
       alone = λ r j mine h e a.
           let was = kept.linked.alone r j (k.joined r j h) e in
           ap stands_alone (sym (offer_known r j.own mine a)) ∙ cause_alone (joined_at w.table) (offer_at w.table) (marks_at w.table) (offer_at w.table r j.own) was.cause was.is;
@@ -206,11 +223,8 @@ module _ {M : Type 0} where
       one_start = λ t a b g h. sym (start_is (course_at w.table t) a (k.started t a g)) ∙ start_is (course_at w.table t) b (k.started t b h);
       started = λ t s h.
           let low = has_started w.table t s (k.started t s h) in
-          let few = few_commits w.table.threads w.table.rows (joined_at w.table) (offer_at w.table) kept.few_threads kept.few_rows in
-          let bounded = kept.linked.starts t in
-          let is = start_is (course_at w.table t) s (k.started t s h) in
           let threads : w.table.threads ≡ v.threads = sym k.threads in
-          (omega (arith, low, threads), omega (arith, few, bounded, is));
+          omega (arith, low, threads);
       one_end = λ t a b g h. one_end_of (course_at w.table t) a b (k.ended t a g) (k.ended t b h);
       ended = λ t g h.
           let low = has_ended w.table t g (k.ended t g h) in

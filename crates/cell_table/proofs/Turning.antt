@@ -126,7 +126,7 @@ module _ {M : Type 0} (stands : Stands M) where
     interleaved = same_made k.moves s.views id v w view k.interleaved (λ i. at_seat (sym seat i) (sym made i));
     world = k.world;
     played = k.played;
-    table = k.table ∙ ap (λ (z : List ℕ). record { threads = shape.threads; rows = shape.rows; words = z }) (sym same);
+    table = k.table ∙ ap (λ (z : List ℕ). record { threads = shape.threads; rows = shape.rows; words = z; opening = 0 }) (sym same);
     owner = k.owner;
     knows = views_with s.views id w k.world k.owner (λ j u n e t. k.knows j u e t) knows;
     seated = seated_seen s.views id v w view stays seat made k.seated;
@@ -148,7 +148,7 @@ module _ {M : Type 0} (stands : Stands M) where
   pub keeps_housed : (shape : Shape M) (s : State (Option M) (View M)) (k : Keeps stands shape s) (id : ℕ) (v w : View M) (ws : List ℕ) (hs : List (Maybe (Option M))) (owner : Row → ℕ) → get_elem? s.views id ≡ some v → 0 < v.threads → w.seat ≡ v.seat → w.made ≡ v.made → beginning w ≡ beginning v
       → (step : Step) → (0 < length shape.first.value.items → StartedAs (acts_in stands shape.first.value.items).starts (after_step k.world (record { 0 = v.seat }) step).table step × EndedAs (acts_in stands shape.first.value.items).ends (after_step k.world (record { 0 = v.seat }) step).table step) → Allowed k.world (record { 0 = v.seat }) step → MovesOn v w step
       → ((t : ℕ) (rs : List Result) → Has w.results (t, rs) → Has v.results (t, rs) ⊎ AreResults (ledger_of (after_step k.world (record { 0 = v.seat }) step).table) t rs)
-      → (after_step k.world (record { 0 = v.seat }) step).table ≡ record { threads = shape.threads; rows = shape.rows; words = ws }
+      → (after_step k.world (record { 0 = v.seat }) step).table ≡ record { threads = shape.threads; rows = shape.rows; words = ws; opening = 0 }
       → ((j : ℕ) (u : View M) → j ≢ id → get_elem? s.views j ≡ some u → 0 < u.threads → Knows (after_step k.world (record { 0 = v.seat }) step) owner j u)
       → Knows (after_step k.world (record { 0 = v.seat }) step) owner id w
       → (0 < length shape.first.value.items → Housed stands shape.first.value.items (after_step k.world (record { 0 = v.seat }) step) hs (slice_set s.views id (did step w)))
@@ -183,7 +183,7 @@ module _ {M : Type 0} (stands : Stands M) where
       → ((r : Row) → IsToBegin w r → IsToBegin v r)
       → (step : Step) → ((r : Row) → step ≡ Open r → ⊥) → KeepsLives step → Allowed k.world (record { 0 = v.seat }) step → MovesOn v w step
       → ((t : ℕ) (rs : List Result) → Has w.results (t, rs) → Has v.results (t, rs) ⊎ AreResults (ledger_of (after_step k.world (record { 0 = v.seat }) step).table) t rs)
-      → (after_step k.world (record { 0 = v.seat }) step).table ≡ record { threads = shape.threads; rows = shape.rows; words = ws }
+      → (after_step k.world (record { 0 = v.seat }) step).table ≡ record { threads = shape.threads; rows = shape.rows; words = ws; opening = 0 }
       → ((j : ℕ) (u : View M) → j ≢ id → get_elem? s.views j ≡ some u → 0 < u.threads → Knows (after_step k.world (record { 0 = v.seat }) step) owner j u)
       → Knows (after_step k.world (record { 0 = v.seat }) step) owner id w
       → Keeps stands shape (record { words = ws; homes = s.homes; views = slice_set s.views id (did step w) })

@@ -11,7 +11,7 @@ use Rattle.cell_table.specs.declared.view.Shape.{Shape}
 
 module _ {M : Type 0} where
   abbrev pub words_of : Shape M → List ℕ → Table
-  words_of shape ws = record { threads = shape.threads; rows = shape.rows; words = ws }
+  words_of shape ws = record { threads = shape.threads; rows = shape.rows; words = ws; opening = 0 }
 
   -- by these words the row is opened, and nobody has taken it
   abbrev pub IsOpenAt : Shape M → List ℕ → ℕ → ℕ → Type 0

@@ -1,5 +1,5 @@
 -- What a pass knows of nacks, and of a row before it grants it.
-use Rattle.std.specs.Prelude.{◌≡◌, ◌⊎◌, ⊤, ℕ, ◌+◌, max, false, None}
+use Rattle.std.specs.Prelude.{◌≡◌, ◌⊎◌, ⊤, ℕ, false, None}
 use Rattle.protocol_values.specs.declared.Base.{Base}
 use Rattle.protocol_values.specs.declared.Base.TheVariants.{Send, Recv, Always, OnNack, OnEnd, Never}
 use Rattle.protocol_values.specs.declared.NackName.{NackName}
@@ -10,7 +10,7 @@ use Rattle.protocol_values.specs.declared.Joined.{Joined}
 use Rattle.protocol_values.specs.Scopes.{has_scope}
 use Rattle.protocol.specs.Tables.{bound_row}
 use Rattle.cell_table.specs.declared.view.Seen.{Seen}
-use Rattle.cell_table.specs.Sight.{Has, HaveOffer, IsBefore, SawEnded, SeesOffer, HasSeenLast}
+use Rattle.cell_table.specs.Sight.{Has, HaveOffer, IsBefore, SawEnded, SeesOffer, HasSeenLast, next_stamp}
 
 -- the nack was seen bound to this row and scope
 abbrev pub IsSeenBound : Seen → NackName → Row → ℕ → Type 0
@@ -56,7 +56,7 @@ pub record CanGrant (s : Seen) (r : Row) (n : ℕ) (j : Joined) : Type 0 where
   pub caused : SawCause s offer.base cause
   pub last : ℕ
   pub seen_last : HasSeenLast s r last
-  pub is : j ≡ record { own = n; partner = None; stamp = 1 + max last cause }
+  pub is : j ≡ record { own = n; partner = None; stamp = next_stamp last cause }
 
 -- the row at which the cause of a base event is read: that to which its nack was seen bound, or the one before the end of its thread
 abbrev pub IsCauseRow : Seen → Base → Row → Type 0

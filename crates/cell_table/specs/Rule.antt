@@ -70,7 +70,7 @@ module _ {M : Type 0} where
 
   -- the words at this moment, as a table
   abbrev pub table_of : {S : Type 0} → Shape M → State S (View M) → Table
-  table_of shape s = record { threads = shape.threads; rows = shape.rows; words = s.words }
+  table_of shape s = record { threads = shape.threads; rows = shape.rows; words = s.words; opening = 0 }
 
 -- WHAT STANDS FOR THE THREADS, in a table of machines: it lies in the thread's slot, which is out with a pass from when that takes
 -- the thread's row to when it opens the next

@@ -262,6 +262,10 @@ HasSeenLast s r stamp =
     ((r.sync ≡ 0) × Has s.started (r.thread, stamp))
     ⊎ ((j : Joined) × (r.sync ≢ 0) × Has s.joined (record { thread = r.thread; sync = r.sync - 1 }, j) × (stamp ≡ j.stamp))
 
+-- one stamp more than the greater of these, as far as a word has room: it has for each commit that is made
+abbrev pub next_stamp : ℕ → ℕ → ℕ
+next_stamp a b = min (max a b + 1) 4294967295
+
 -- The other row, joined as j by offer `own` of row `mine`, meets it under offer `partner`, at the stamp that both last
 -- stamps give. That they meet is told by their heads.
 pub record CanJoin (s : Seen) (mine : Row) (own : ℕ) (other : Row) (partner : ℕ) (j : Joined) : Type 0 where
@@ -275,7 +279,7 @@ pub record CanJoin (s : Seen) (mine : Row) (own : ℕ) (other : Row) (partner : 
   pub their_last : ℕ
   pub seen_mine : HasSeenLast s mine my_last
   pub seen_theirs : HasSeenLast s other their_last
-  pub is : j ≡ record { own = partner; partner = Some (mine, own); stamp = 1 + max my_last their_last }
+  pub is : j ≡ record { own = partner; partner = Some (mine, own); stamp = next_stamp my_last their_last }
 
 -- THE CELL THAT A PASS MAY FIND, by what it has seen
 pub record IsExpected (s : Seen) (r : Row) (c : Cell) : Type 0 where
@@ -314,7 +318,7 @@ pub record Coherent (threads rows : ℕ) (s : Seen) : Type 0 where
   pub one_draft : (r : Row) (p x y : ℕ) → Has s.drafts (r, p, x) → Has s.drafts (r, p, y) → x ≡ y
   pub as_drafted : (r : Row) (p x y : ℕ) → Has s.drafts (r, p, x) → Has s.words (r, p, y) → x ≡ y
   pub one_joined : (r : Row) (i j : Joined) → Has s.joined (r, i) → Has s.joined (r, j) → i ≡ j
-  pub in_range : (r : Row) (j : Joined) → Has s.joined (r, j) → IsJoinedInRange j × (j.stamp ≤ 65536)
+  pub in_range : (r : Row) (j : Joined) → Has s.joined (r, j) → IsJoinedInRange j
   -- a row that is committed alone chose an always or a nack, and of a pair both offers meet
   pub alone : (r : Row) (j : Joined) (mine : Offer) → Has s.joined (r, j) → j.partner ≡ None → HaveOffer s.words r j.own mine → stands_alone (Some mine) ≡ true
   pub inside : (r : Row) (j : Joined) (p : Row × ℕ) → Has s.joined (r, j) → j.partner ≡ Some p → (p.0.thread < threads) × (p.0.sync < rows)
@@ -323,7 +327,7 @@ pub record Coherent (threads rows : ℕ) (s : Seen) : Type 0 where
       → HaveOffer s.words r j.own mine → HaveOffer s.words p.0 p.1 theirs → offers_meet (Some mine) (Some theirs) ≡ true
   pub one_bound : (n : NackName) (a b : Binding) → Has s.bound (n, a) → Has s.bound (n, b) → a ≡ b
   pub one_start : (t a b : ℕ) → Has s.started (t, a) → Has s.started (t, b) → a ≡ b
-  pub started : (t stamp : ℕ) → Has s.started (t, stamp) → (t < threads) × (stamp ≤ 65536)
+  pub started : (t stamp : ℕ) → Has s.started (t, stamp) → t < threads
   pub one_end : (t a b : ℕ) → Has s.ended (t, a) → Has s.ended (t, b) → a ≡ b
   pub ended : (t g : ℕ) → Has s.ended (t, g) → (t < threads) × (g ≤ rows)
   -- a nack of the table is bound, to a row of the table

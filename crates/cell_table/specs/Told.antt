@@ -5,6 +5,7 @@ use Rattle.protocol_values.specs.declared.Step.TheVariants.{Open, Claim, Yield, 
 use Rattle.protocol_values.specs.Words.{cell_word, cell_of, course_of, course_word, nack_word, nack_of, IsBindingInRange, IsCourseInRange, IsJoinedInRange}
 use Rattle.protocol_values.specs.declared.NackName.{NackName}
 use Rattle.protocol_values.specs.declared.Binding.{Binding}
+use Rattle.protocol_values.specs.declared.NackWord.TheVariants.{Bound, Unbound}
 use Rattle.protocol_values.specs.declared.Course.{Course}
 use Rattle.protocol_values.specs.declared.Course.TheVariants.{Unstarted, Running, Ended}
 use Rattle.protocol_values.specs.declared.Row.{Row}
@@ -14,7 +15,7 @@ use Rattle.protocol_values.specs.declared.Cell.TheVariants.{Fresh, Waiting, Clai
 use Rattle.protocol_values.specs.declared.Message.{Message}
 use Rattle.protocol_values.specs.declared.Offer.{Offer}
 use Rattle.protocol.specs.Standing.{IsLeft, Result, Stands}
-use Rattle.protocol.specs.Tables.{bound_row, course_place, is_taken, nack_place, place_of}
+use Rattle.protocol.specs.Tables.{bound_by, bound_row, course_place, is_taken, nack_place, place_of}
 use Rattle.protocol_values.specs.Values.{next_row}
 use Rattle.cell_table.specs.declared.view.View.{View}
 use Rattle.cell_table.specs.declared.view.Stage.TheVariants.{Resting, Claims, Joins}
@@ -51,7 +52,7 @@ course_read n = unwrap_or (course_of n) Unstarted
 
 -- where a word says that a nack is bound
 abbrev pub nack_read : ℕ → Option Binding
-nack_read n = unwrap_or (nack_of n) None
+nack_read n = bound_by (unwrap_or (nack_of n) Unbound)
 
 -- the cell that a word stands for
 abbrev pub cell_read : ℕ → Cell
@@ -190,7 +191,7 @@ module _ {M : Type 0} where
   -- where the nack was not bound it is bound so, and the pass had not seen it bound; else the pass has seen where it is: not
   -- behind the row that it tried to bind it to, and where it is a row that the pass holds, the pass had seen it
   abbrev pub tried_bind : Stands M → Step (Option M) → Me (Option M) (View M) → ℕ → Me (Option M) (View M) → Type 0
-  tried_bind stands st m n w = (nack : NackName) (b : Binding) → AtNack st m nack → IsBindingInRange b → st.second ≡ nack_word (Some b)
+  tried_bind stands st m n w = (nack : NackName) (b : Binding) → AtNack st m nack → IsBindingInRange b → st.second ≡ nack_word (Bound b)
       → (nack_read n ≡ None → (w ≡ (did (bind_of nack b) (bound_nack nack b m.0), m.1)) × ((c : Binding) → ¬ Has m.0.seen.bound (nack, c)))
       × ((c : Binding) → nack_read n ≡ Some c → (w ≡ (bound_nack nack c m.0, m.1)) × (c.sync ≤ b.sync) × (Has m.0.seen.held (bound_row nack c) → Has m.0.seen.bound (nack, c)) × (c.sync < b.sync → 0 < length m.0.first → IsEarlier stands m.0.first m.0.results nack c))
       × AgreesWithItself w.0

@@ -59,7 +59,7 @@ impl<M: Resident + Drop> Board<M> {
         let closed = words.close_with(seat);
         let words = copy_words(&closed, spare);
         let machines = take_home(closed, words.as_slice(), &shape, places);
-        let ledger = Ledger::of_words(shape.threads as u8, shape.rows as u16, words);
+        let ledger = Ledger::of_words(shape.threads as u8, shape.rows as u16, words, 0);
         (ledger, machines)
     }
 }

@@ -77,7 +77,7 @@ impl<M: Resident> Board<M> {
         requires sits { Sits self.now seat.old × (row.thread < self.now.shape.threads) × (thread < self.now.shape.threads) × (row.thread ≢ thread) }
         requires resting { seat.old.me.0.stage ≡ Resting }
         requires stands { (seat.old.me.0.from ≡ row) × IsStand self.now.shape.rows seat.old.me.0.seen row × (¬ SawEnded seat.old.me.0.seen row.thread) }
-        requires stamp { HasSeenLast seat.old.me.0.seen row stamp × (stamp ≤ 65536) }
+        requires stamp { HasSeenLast seat.old.me.0.seen row stamp }
         ensures sits { StaysSeated self.now seat.old seat.new }
         ensures started { IsTrue result → (seat.new.me.0 ≡ started_thread thread stamp seat.old.me.0) × IsUnseen seat.old.me.0.seen thread }
         ensures found { IsFalse result → (course : Course) × (course ≢ Unstarted) × (seat.new.me.0 ≡ saw_course thread course seat.old.me.0) × IsExpectedCourse self.now.shape.rows seat.old.me.0.seen thread course }
@@ -99,7 +99,7 @@ impl<M: Resident> Board<M> {
         requires sits { Sits self.now seat.old × (row.thread < self.now.shape.threads) × (row.sync ≤ self.now.shape.rows) }
         requires resting { seat.old.me.0.stage ≡ Resting }
         requires stands { IsStand self.now.shape.rows seat.old.me.0.seen row × (¬ SawEnded seat.old.me.0.seen row.thread) }
-        requires started { Has seat.old.me.0.seen.started (row.thread, start) × (start ≤ 65536) }
+        requires started { Has seat.old.me.0.seen.started (row.thread, start) }
         ensures sits { StaysSeated self.now seat.old seat.new }
         ensures ended { seat.new.me.0 ≡ ended_thread row start seat.old.me.0 }
     {

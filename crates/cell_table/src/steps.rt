@@ -34,7 +34,8 @@ use crate::view::View;
 use atomic_table::Seat;
 use protocol::{LIVES, NACKS, ROW_LEN, Resident};
 use protocol_values::{
-    Binding, Cell, Joined, NackName, Row, pack_cell, pack_nack, read_cell, unpack_cell, unpack_nack,
+    Binding, Cell, Joined, NackName, NackWord, Row, pack_cell, pack_nack, read_cell, unpack_cell,
+    unpack_nack,
 };
 
 impl<M: Resident> Board<M> {
@@ -110,8 +111,8 @@ impl<M: Resident> Board<M> {
         ensures bound { IfOk result (λ _. (seat.new.me.0 ≡ did (bind_of nack bound) (bound_nack nack bound seat.old.me.0)) × ((b : Binding) → ¬ Has seat.old.me.0.seen.bound (nack, b))) }
         ensures found { IfErr result (λ b. (seat.new.me.0 ≡ bound_nack nack b seat.old.me.0) × (b.sync ≤ bound.sync) × (Has seat.old.me.0.seen.held (bound_row nack b) → Has seat.old.me.0.seen.bound (nack, b)) × (b.sync < bound.sync → 0 < length self.now.shape.first.value.items → IsEarlier M.stands self.now.shape.first.value.items seat.old.me.0.results nack b)) }
     {
-        let free = pack_nack(None);
-        let word = pack_nack(Some(bound));
+        let free = pack_nack(NackWord::Unbound);
+        let word = pack_nack(NackWord::Bound(bound));
         let found = self
             .words
             .shared
@@ -373,5 +374,8 @@ fn cell_in(word: u64) -> Cell
 fn nack_in(word: u64) -> Option<Binding>
     ensures { result ≡ nack_read word }
 {
-    unpack_nack(word).unwrap_or(None)
+    match unpack_nack(word) {
+        Some(NackWord::Bound(bound)) => Some(bound),
+        Some(NackWord::Unbound | NackWord::Carried(_)) | None => None,
+    }
 }

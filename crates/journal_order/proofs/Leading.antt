@@ -28,10 +28,11 @@ use Rattle.protocol_values.specs.Scopes.{has_scope}
 use Rattle.protocol.specs.Acting as acting
 use Rattle.protocol.specs.Acting.{DoesAt, EndsAt, HasStart, IsStampBehind, IsStarted, StartedBy}
 use Rattle.protocol.specs.Ledgers as ledgers
-use Rattle.protocol.specs.Ledgers.{CountsThread, Ledger, LivesAt, HasCommit, Involves, IsEnabled, IsLawful, Takes, binding_in, commits_in, course_in, has_row, joined_in, marks_in, no_entry, offer_in}
+use Rattle.protocol.specs.Ledgers.{CountsThread, Ledger, LivesAt, HasCommit, Involves, IsEnabled, IsEnabledHere, IsLawful, Takes, binding_in, commits_in, course_in, has_row, joined_in, marks_in, no_entry, offer_in}
 use Rattle.protocol.specs.Openings.{IsDead, IsLastStamp}
 use Rattle.protocol.specs.Tables.{bound_row, number_of, start_of}
 use Rattle.protocol.proofs.Acting.{start_is}
+use Rattle.protocol.proofs.Closing.{carried_unbound}
 use Rattle.protocol.proofs.CommitLemmas.{commit_members}
 use Rattle.protocol.proofs.Lawfulness.{counts_own}
 use Rattle.protocol.proofs.Ordering.{causal_ledger, lower_first}
@@ -147,6 +148,18 @@ offer-inside l r n o h = by (has_row l r) refl h
 
 module _ (ps : List Proc) (rows : ℕ) (l : Ledger) (law : IsLawful l) (of : IsLedgerOf ps l) (enough : l.rows ≤ rows)
     (commits : List Commit) (order : IsOrderOf l commits) where
+  -- NOTHING WENT BEFORE, so no nack was enabled there, and a commit counts none that was settled there
+
+  enabled-here : (n : NackName) → IsEnabled (joined_in l) (offer_in l) (marks_in l) n → IsEnabledHere (joined_in l) (offer_in l) (marks_in l) n
+  enabled-here n (inl e) = e
+  enabled-here n (inr e) = let low = law.carried n e.0 e.2 in let none = of.nothing_before in absurd (omega (arith, low, none, e.1))
+
+  carried-nothing : (c : Commit) (stamp : ℕ) → ledgers.IsCarriedBy (marks_in l) c stamp → stamp ≡ 0
+  carried-nothing (Pair sender receiver chan msg s) stamp h = absurd h
+  carried-nothing (Alone at (cause.Always m) s) stamp h = absurd h
+  carried-nothing (Alone at (cause.Nack n) s) stamp h = let low = law.carried n stamp h in let none = of.nothing_before in omega (arith, low, none)
+  carried-nothing (Alone at (cause.End p) s) stamp h = absurd h
+
   -- THE COMMITS
 
   in-ledger : (c : Commit) → Contains commits c → HasCommit l c
@@ -211,7 +224,7 @@ module _ (ps : List Proc) (rows : ℕ) (l : Ledger) (law : IsLawful l) (of : IsL
         }
 
     -- a nack that the ledger calls enabled is fired
-    fired : (n : NackName) (en : IsEnabled (joined_in l) (offer_in l) (marks_in l) n) → Contains es en.commit → IsFiredAt ps (config_of es) n en.binding.sync
+    fired : (n : NackName) (en : IsEnabledHere (joined_in l) (offer_in l) (marks_in l) n) → Contains es en.commit → IsFiredAt ps (config_of es) n en.binding.sync
     fired n en there =
         let g = en.binding.sync in
         let r = row n.thread g in
@@ -399,7 +412,7 @@ module _ (ps : List Proc) (rows : ℕ) (l : Ledger) (law : IsLawful l) (of : IsL
       caused : (at : Row × ℕ) (why : Cause) (stamp : ℕ) → c ≡ Alone at why stamp → ledgers.IsCaused (joined_in l) (offer_in l) (marks_in l) at why → at.0.sync ≡ length (config_of es at.0.thread) → IsCaused ps rows (config_of es) at why
       caused at (cause.Always m) stamp is h next = can-take at (Always m) (alone-started at (cause.Always m) stamp is) h next
       caused at (cause.Nack n) stamp is h next =
-          let en = h.1 in (
+          let en = enabled-here n h.1 in (
             can-take at (OnNack n) (alone-started at (cause.Nack n) stamp is) h.0 next,
             (
               en.binding.sync,
@@ -470,7 +483,7 @@ module _ (ps : List Proc) (rows : ℕ) (l : Ledger) (law : IsLawful l) (of : IsL
       fires : (at : Row × ℕ) (why : Cause) (d : Commit) → ledgers.IsCaused (joined_in l) (offer_in l) (marks_in l) at why → Contains es d → ledgers.CausedBy (marks_in l) d why → CausedBy ps (config_of es) why d
       fires at (cause.Always m) d h there by = absurd by
       fires at (cause.Nack n) d h there (b, is_bound, has) =
-          let en = h.1 in
+          let en = enabled-here n h.1 in
           let same : en.binding ≡ b = same_Some en.binding b (sym en.is_bound ∙ is_bound) in
           let sync : en.binding.sync ≡ b.sync = ap (λ (z : Binding). z.sync) same in
           let mine : Involves en.commit (row n.thread b.sync) = subst (λ (g : ℕ). Involves en.commit (row n.thread g)) sync (en.chosen, en.takes) in
@@ -500,7 +513,10 @@ module _ (ps : List Proc) (rows : ℕ) (l : Ledger) (law : IsLawful l) (of : IsL
                 (λ e. inl (omega (arith, e)))
                 (λ other. ⊎_elim
                 (λ h. inr (h.0, behind h.0 h.1 h.2, counting-as c h.0 refl (behind h.0 h.1 h.2) h.2, omega (arith, h.3)))
+                (λ more. ⊎_elim
                 (λ h. by-start h.0 h.1 h.2)
+                (λ h. let none = carried-nothing c h.0 h.1 in inl (omega (arith, h.2, none)))
+                more)
                 other)
                 due.next;
           }
@@ -515,7 +531,7 @@ module _ (ps : List Proc) (rows : ℕ) (l : Ledger) (law : IsLawful l) (of : IsL
               (start-case (course_in l t))
 
       positive : 1 ≤ stamp_of c
-      positive = ⊎_elim (λ e. omega (arith, e)) (λ other. ⊎_elim (λ h. omega (arith, h.3)) (λ h. omega (arith, h.2)) other) (law.stamps c in_c).next
+      positive = ⊎_elim (λ e. omega (arith, e)) (λ other. ⊎_elim (λ h. omega (arith, h.3)) (λ more. ⊎_elim (λ h. omega (arith, h.2)) (λ h. omega (arith, h.2)) more) other) (law.stamps c in_c).next
 
       follows : Follows ps rows es c
       follows = record { legal = legal; greatest = stamp_of c - 1; is = greatest-is; stamp = omega (arith, positive) }
@@ -613,7 +629,7 @@ module _ (ps : List Proc) (rows : ℕ) (l : Ledger) (law : IsLawful l) (of : IsL
           omega (arith, low)
 
   -- a nack that the ledger calls enabled was fired by the commit that has its stamp
-  tells-enabled : (n : NackName) (e : IsEnabled (joined_in l) (offer_in l) (marks_in l) n) → KnowsNack ps n.thread (config_of commits n.thread) commits n.k (Some (stamp_of e.commit))
+  tells-enabled : (n : NackName) (e : IsEnabledHere (joined_in l) (offer_in l) (marks_in l) n) → KnowsNack ps n.thread (config_of commits n.thread) commits n.k (Some (stamp_of e.commit))
   tells-enabled n e =
       let g = e.binding.sync in
       let there = in-commits e.commit e.inside in
@@ -697,10 +713,13 @@ pub tells-thread : LedgersTell TellsResults
 tells-thread ps rows l commits law of enough order = tells-results ps rows l law of enough commits order
 
 pub tells-nack : LedgersTell TellsNacks
-tells-nack ps rows l commits law of enough order n Unbound none = tells-unbound ps rows l law of enough commits order n none
+tells-nack ps rows l commits law of enough order n Unbound none = tells-unbound ps rows l law of enough commits order n none.0
 tells-nack ps rows l commits law of enough order n Unsettled h = tells-unsettled ps rows l law of enough commits order n h.0 h.1 h.2
-tells-nack ps rows l commits law of enough order n Dead dead = tells-dead ps rows l law of enough commits order n dead
-tells-nack ps rows l commits law of enough order n (Enabled stamp) h =
+tells-nack ps rows l commits law of enough order n Dead (inl carried) = tells-unbound ps rows l law of enough commits order n (carried_unbound l n 0 carried)
+tells-nack ps rows l commits law of enough order n Dead (inr dead) = tells-dead ps rows l law of enough commits order n dead
+tells-nack ps rows l commits law of enough order n (Enabled stamp) (positive, inl carried) =
+    let low = law.carried n stamp carried in let none = of.nothing_before in absurd (omega (arith, low, none, positive))
+tells-nack ps rows l commits law of enough order n (Enabled stamp) (positive, inr h) =
     subst (λ (s : ℕ). KnowsNack ps n.thread (config_of commits n.thread) commits n.k (Some s)) h.1 (tells-enabled ps rows l law of enough commits order n h.0)
 
 pub tells-stamp : LedgersTell TellsStamps

@@ -22,11 +22,11 @@ use Rattle.protocol.specs.Worlds.{Allowed, Condition, Plays, StandsAt, World, af
 use Rattle.protocol.proofs.Keeping.{end_in_range, held_row, is_held, kept_step, nack_of_thread, sealed_is, sealing, stamp_in_range, stands_behind, stands_inside, synched_is}
 use Rattle.protocol.proofs.Causes.{last_behind}
 use Rattle.protocol.proofs.Lawfulness.{commit_of_joined, in_of_joined, involves_own, stamp_own}
-use Rattle.protocol.proofs.LedgerLemmas.{course_in_ledger, kept_start, start_course}
+use Rattle.protocol.proofs.LedgerLemmas.{course_in_ledger, kept_start, opening_in_ledger, start_course}
 use Rattle.protocol.proofs.LedgerReadings.{commits_in_table}
 use Rattle.protocol.proofs.Linking.{some_parts, taken_joined}
 use Rattle.protocol.proofs.Naming.{namer_names}
-use Rattle.protocol.proofs.Onward.{commit-stays, grows-step}
+use Rattle.protocol.proofs.Onward.{grows-schedule, commit-stays, grows-step}
 use Rattle.protocol.proofs.Readings.{course_after_bind, course_after_word, course_lived, course_lived_other, course_outside, row_of_open}
 use Rattle.protocol.proofs.RowLemmas.{same_row}
 use Rattle.protocol.proofs.Standing.{results-stay, rows-stand, stands-ledger}
@@ -246,10 +246,16 @@ module _ (threads rows seats later : ℕ) where
       (λ some. absurd (subst (λ (c : Course). EndsAt c g) some.2 h))
       (first-course t)
 
+  first_opening : (start_world threads rows seats later).table.opening ≡ 0
+  unfolding start_world
+  first_opening = refl
+
   pub schedule-acts : (at_once : ℕ → Type 0) (acts : Acts) (steps : List (Seat × Step)) (w : World) → threads ≤ 64 → rows ≤ 1024 → ((t : ℕ) → t < threads → waits later t ≡ false → at_once t)
       → Plays (start_world threads rows seats later) steps w → EachStepsAs acts (start_world threads rows seats later) steps → ActsAs at_once acts (ledger_of w.table)
   schedule-acts at_once acts steps w few_threads few_rows first plays each =
-      let lives = acts-along at_once acts (start_world threads rows seats later) w steps (kept_start threads rows seats later few_threads few_rows) (starts-first at_once acts.starts first) (ends-first acts.ends) plays each in record {
+      let kept = kept_start threads rows seats later few_threads few_rows in
+      let lives = acts-along at_once acts (start_world threads rows seats later) w steps kept (starts-first at_once acts.starts first) (ends-first acts.ends) plays each in record {
+        nothing_before = opening_in_ledger w.table ∙ (grows-schedule (start_world threads rows seats later) w steps kept plays).opening ∙ first_opening;
         offers = stands-ledger acts.offers w.table (rows-stand acts.offers threads rows seats later steps w few_threads few_rows plays (opens-along acts (start_world threads rows seats later) steps each));
         starts = lives.0;
         ends = lives.1;

@@ -11,11 +11,12 @@ use Rattle.protocol_values.specs.declared.Commit.{Commit}
 use Rattle.protocol_values.specs.declared.Commit.TheVariants.{Alone, Pair}
 use Rattle.protocol_values.specs.declared.NackName.{NackName}
 use Rattle.protocol_values.specs.declared.NackWord.{NackWord}
+use Rattle.protocol_values.specs.declared.NackWord.TheVariants.{Bound, Carried, Unbound}
 use Rattle.protocol_values.specs.declared.Offer.{Offer}
 use Rattle.protocol_values.specs.declared.Row.{Row}
 use Rattle.protocol_values.specs.Commits.{stamp_of}
 use Rattle.protocol_values.specs.Scopes.{has_scope}
-use Rattle.protocol.specs.Ledgers.{CountsThread, Fits, HasCommit, Involves, IsCaused, IsLawful, Ledger, Takes, binding_in, carried_in, course_in, has_row, joined_in, ledger_of, marks_in, no_entry, offer_in}
+use Rattle.protocol.specs.Ledgers.{CountsThread, Fits, HasCommit, Involves, IsCaused, IsLawful, Ledger, Takes, binding_in, carried_in, nack_in, course_in, has_row, joined_in, ledger_of, marks_in, no_entry, offer_in}
 use Rattle.protocol.specs.Openings.{IsLastStamp}
 use Rattle.protocol.specs.Kept.{Linked}
 use Rattle.protocol.specs.Tables.{Table, bound_by, carried_by, nack_says, cell_at, encloses, is_fresh, is_taken, marks_at, number_of, offer_at, start_of}
@@ -113,6 +114,16 @@ nack_told t l n w is e = (
   sym (ap (λ (x : Ledger). binding_in x n) is) ∙ (λ i. binding_in_ledger t i n) ∙ bound_is t n ∙ ap bound_by (sym e),
   sym (ap (λ (x : Ledger). carried_in x n) is) ∙ (λ i. carried_in_ledger t i n) ∙ carried_is t n ∙ ap carried_by (sym e),
 )
+
+-- one that was settled before is bound to no row
+pub carried_unbound : (l : Ledger) (n : NackName) (stamp : ℕ) → carried_in l n ≡ Some stamp → binding_in l n ≡ None
+unfolding carried_in binding_in
+carried_unbound l n stamp h = by_word (nack_in l n) h
+  where
+    by_word : (w : NackWord) → carried_by w ≡ Some stamp → bound_by w ≡ None
+    by_word Unbound e = refl
+    by_word (Bound b) e = absurd (none-some stamp e)
+    by_word (Carried s) e = refl
 
 pub enclosed_by : (scope : ℕ) (o : Option Offer) → encloses scope o ≡ true → (x : Offer) × (o ≡ Some x) × (has_scope x.scopes scope ≡ true)
 enclosed_by scope None e = absurd (false≢true e)

@@ -31,8 +31,8 @@ use Rattle.protocol.specs.Ledgers.{course_in, marks_in, Entry, ledger_of, entry_
 use Rattle.protocol.specs.Kept.{Linked, Kept}
 use Rattle.protocol.specs.Openings.{AreFirstWords, Begins, IsOpening, Opening, course_for, first_life, greatest, held_first, is_running, stamp_in, start_opening, state_in, thread_in, word_for}
 use Rattle.protocol.proofs.Places.{block_inside, course_apart, course_nack_apart, course_place_inside, row_inside, same_course_place}
-use Rattle.protocol.proofs.Beginning.{first_binding, first_cell, first_course, kept_begins}
-use Rattle.protocol.proofs.Readings.{cell_outside, course_outside, offer_none, count_fresh}
+use Rattle.protocol.proofs.Beginning.{first_binding, first_carried, first_cell, first_course, kept_begins}
+use Rattle.protocol.proofs.Readings.{carried_is, cell_outside, course_outside, offer_none, count_fresh, says_outside}
 use Rattle.protocol.proofs.Keeping.{length_all, length_below, kept_schedule, held_row}
 use Rattle.protocol.proofs.Lawfulness.{lawful_linked}
 
@@ -348,6 +348,18 @@ start_binding threads rows later = first_binding (start_opening threads later) (
 
 pub start_cell : (threads rows later : ℕ) (r : Row) → cell_at (start_table threads rows later) r ≡ Fresh
 start_cell threads rows later = first_cell (start_opening threads later) (start_table threads rows later) (first_words threads rows later) (start_low threads later)
+
+start_carried : (threads rows later : ℕ) (n : NackName) → carried_at (start_table threads rows later) n ≡ None
+start_carried threads rows later n = ⊎_elim
+    (λ (e : is_nack (start_table threads rows later) n ≡ true).
+    first_carried (start_opening threads later) (start_table threads rows later) (first_words threads rows later) (start_low threads later) n e
+    ∙ ap (λ (s : NackState). carried_by (word_for s)) (first_state threads later n))
+    (λ (e : is_nack (start_table threads rows later) n ≡ false). carried_is (start_table threads rows later) n ∙ ap carried_by (says_outside (start_table threads rows later) n e))
+    (cases_Bool (is_nack (start_table threads rows later) n))
+
+pub first_uncarried : (threads rows seats later : ℕ) (n : NackName) → carried_at (start_world threads rows seats later).table n ≡ None
+unfolding start_world
+first_uncarried threads rows seats later n = start_carried threads rows later n
 
 -- where no row is joined there are no commits
 none_told : (rows : List Row) (joined : Row → Option Joined) (offer : Row → ℕ → Option Offer) → ((r : Row) → joined r ≡ None) → commits_of rows joined offer ≡ []

@@ -71,8 +71,9 @@ EachStarted at_once starts l = (t start : ℕ) → HasStart (course_in l t) star
 abbrev pub EachEnded : (ℕ → List Result → Type 0) → Ledger → Type 0
 EachEnded ends l = (t g : ℕ) → EndsAt (course_in l t) g → DoesAt l (record { thread = t; sync = g }) (ends t)
 
--- THE THREADS OF A LEDGER do so, where these start at once
+-- THE THREADS OF A LEDGER do so, where nothing went before and these start at once
 pub record ActsAs (at_once : ℕ → Type 0) (acts : Acts) (l : Ledger) : Type 0 where
+  pub nothing_before : l.opening ≡ 0
   pub offers : EachOffersAs acts.offers l
   pub starts : EachStarted at_once acts.starts l
   pub ends : EachEnded acts.ends l

@@ -63,6 +63,7 @@ module _ (ps : List Proc) (first : List Suspended) (threads later : ℕ) (l : Le
 
   pub ledger_of_processes : ActsAs (StartsFirst threads later) (acts_in doings first) l → IsLedgerOf ps l
   ledger_of_processes acts = record {
+    nothing_before = acts.nothing_before;
     offers = λ r n o h. let s = acts.offers r n o h in record {
       results = s.results;
       count = s.count;
@@ -85,6 +86,7 @@ unfolding ledger_of start_world
 empty_ledger = (
   lawful_ledger (start_world 1 1 1 0).table (kept_start 1 1 1 0 (omega arith) (omega arith)).linked,
   record {
+    nothing_before = refl;
     offers = stands-ledger (ProcessOffers []) (start_world 1 1 1 0).table (stands-start (ProcessOffers []) 1 1 1 0);
     starts = starts-first 1 1 1 0 (IsFirst []) (ProcessSpawns []) (λ t low free. refl);
     ends = ends-first 1 1 1 0 (HasEnded []);

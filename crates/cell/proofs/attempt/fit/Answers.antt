@@ -1,11 +1,11 @@
-use Rattle.std.proofs.Common.{rules, ◌≡◌, ◌+◌, ℕ, true, false, Some, None, sym, ◌∙◌, ap, subst, max}
+use Rattle.std.proofs.Common.{rules, ◌≡◌, ◌+◌, ℕ, true, false, Some, None, sym, ◌∙◌, ap, subst, min}
 use Rattle.protocol_values.specs.declared.Direction.{Direction}
 use Rattle.protocol_values.specs.declared.Row.{Row}
 use Rattle.std.specs.Prelude.{Option}
 use Rattle.protocol_values.specs.Words.{IsJoinedInRange}
 use Rattle.protocol.proofs.Linking.{some_inj}
 use Rattle.cell_table.specs.declared.view.Seen.{Seen}
-use Rattle.cell_table.specs.Sight.{Has, HaveDirection, SeesDirection, CanJoin}
+use Rattle.cell_table.specs.Sight.{Has, HaveDirection, SeesDirection, CanJoin, next_stamp}
 use Rattle.protocol_values.specs.Values.{directions_meet}
 use Rattle.cell.specs.Attempts.{CanMeet}
 use Rattle.cell_table.proofs.Directions.{sees_direction_apart}
@@ -53,12 +53,12 @@ returns-clause-can g c =
     (from_some c.opened_direction.result (λ d. Has c.opened_direction.new.seat.me.0.seen.opened c.args.mine.0 × HaveDirection c.opened_direction.new.seat.me.0.seen.words c.args.mine.0 c.args.mine.1 d) c.in_ok-my_direction.my_direction c.opened_direction.ensures.some some_mine).1 in
     let have_theirs : HaveDirection c.direction_of.new.seat.me.0.seen.words c.args.other.0 c.args.other.1 c.in_ok-direction.direction =
     (from_some c.direction_of.result (λ d. Has c.direction_of.new.seat.me.0.seen.opened c.args.other.0 × HaveDirection c.direction_of.new.seat.me.0.seen.words c.args.other.0 c.args.other.1 d) c.in_ok-direction.direction c.direction_of.ensures.some some_theirs).1 in
-    let higher : c.max.result ≡ max c.last_stamp-my_last.result c.last_stamp-last.result = (search rules) in
-    subst (λ (n : ℕ). CanJoin c.last_stamp-last.new.seat.me.0.seen c.args.mine.0 c.args.mine.1 c.args.other.0 c.args.other.1 (record { own = c.args.other.1; partner = Some c.args.mine; stamp = 1 + n }) × IsJoinedInRange (record { own = c.args.other.1; partner = Some c.args.mine; stamp = 1 + n })) (sym higher) (
+    let higher : c.saturating_add.result ≡ next_stamp c.last_stamp-my_last.result c.last_stamp-last.result = c.saturating_add.ensures ∙ ap (λ n. min (n + 1) 4294967295) c.max.ensures in
+    subst (λ (n : ℕ). CanJoin c.last_stamp-last.new.seat.me.0.seen c.args.mine.0 c.args.mine.1 c.args.other.0 c.args.other.1 (record { own = c.args.other.1; partner = Some c.args.mine; stamp = n }) × IsJoinedInRange (record { own = c.args.other.1; partner = Some c.args.mine; stamp = n })) (sym higher) (
       can_join _ _ _ _ _ _ _ c.args.mine.0 c.args.other.0 c.args.mine.1 c.args.other.1 _ _ c.in_ok-my_direction.my_direction c.in_ok-direction.direction
           c.direction_of.ensures.learns c.last_stamp-my_last.ensures.learns c.last_stamp-last.ensures.learns
           c.if-my_row-row.false have_mine have_theirs meet
           c.last_stamp-my_last.ensures.last c.last_stamp-last.ensures.last,
       join_ranged c.args.board.now.shape.threads c.args.board.now.shape.rows _ _ c.args.mine.0 c.args.other.0 c.args.mine.1 c.args.other.1 _ _ c.in_ok-my_direction.my_direction c.in_ok-direction.direction
-          c.args.board.now.small.1 c.args.board.now.small.3 c.requires.sits.1 have_mine have_theirs c.last_stamp-my_last.ensures.small c.last_stamp-last.ensures.small,
+          c.args.board.now.small.1 c.args.board.now.small.3 c.requires.sits.1 have_mine have_theirs,
     )

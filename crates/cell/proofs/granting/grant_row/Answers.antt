@@ -1,4 +1,4 @@
-use Rattle.std.proofs.Common.{rules, ◌≡◌, ℕ, ◌+◌, ◌≤◌, None, Some, sym, ◌∙◌, subst}
+use Rattle.std.proofs.Common.{rules, ◌≡◌, ℕ, ◌+◌, ◌≤◌, None, Some, sym, ap, ◌∙◌, min, subst}
 use Rattle.protocol_values.specs.declared.Offer.{Offer}
 use Rattle.protocol_values.specs.Words.{IsJoinedInRange}
 use Rattle.protocol.proofs.Linking.{some_inj}
@@ -44,23 +44,21 @@ ready g c =
     let some : c.offer_of.result ≡ Some c.in-Some.offer = (search rules) in
     let have = from_some c.offer_of.result (λ o. Has c.offer_of.new.seat.me.0.seen.opened c.args.row × HaveOffer c.offer_of.new.seat.me.0.seen.words c.args.row c.args.n o) c.in-Some.offer c.offer_of.ensures.some some in
     let caused : c.cause_of.result ≡ Some c.in-Some-cause_of.cause = (search rules) in
-    let cause = from_some c.cause_of.result (λ stamp. SawCause c.cause_of.new.seat.me.0.seen c.in-Some.offer.base stamp × (stamp ≤ 65536)) c.in-Some-cause_of.cause c.cause_of.ensures.some caused in
+    let cause = from_some c.cause_of.result (λ stamp. SawCause c.cause_of.new.seat.me.0.seen c.in-Some.offer.base stamp) c.in-Some-cause_of.cause c.cause_of.ensures.some caused in
     record {
       offer = c.offer_of.ensures.learns;
       same = λ p sees. some_inj c.in-Some.offer p (sym some ∙ c.offer_of.ensures.same p (sees_more _ _ _ _ _ p c.offer_of.ensures.learns sees));
       opened = have.0;
       have = have.1;
       nack = c.cause_of.ensures.learns;
-      caused = cause.0;
-      low_cause = cause.1;
+      caused = cause;
       before_row = c.last_stamp-last.ensures.learns;
       seen_last = c.last_stamp-last.ensures.last;
-      low = c.last_stamp-last.ensures.small;
     }
 
 pub give-requires-clause-can : goal.give-requires-clause-can
 give-requires-clause-can g c =
-    subst (λ (k : ℕ). CanGrant c.last_stamp-last.new.seat.me.0.seen c.args.row c.args.n (record { own = c.args.n; partner = None; stamp = 1 + k }) × IsJoinedInRange (record { own = c.args.n; partner = None; stamp = 1 + k })) (sym c.max.ensures)
+    subst (λ (k : ℕ). CanGrant c.last_stamp-last.new.seat.me.0.seen c.args.row c.args.n (record { own = c.args.n; partner = None; stamp = k }) × IsJoinedInRange (record { own = c.args.n; partner = None; stamp = k })) (sym (c.saturating_add.ensures ∙ ap (λ k. min (k + 1) 4294967295) c.max.ensures))
     (can _ _ _ _ c.last_stamp-last.new.seat.me.0 _ _ _ _ _ (ready g c.before.before))
 
 pub returns-in-Ok-clause-granted : goal.returns-in-Ok-clause-granted

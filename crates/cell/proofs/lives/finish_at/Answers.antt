@@ -5,5 +5,4 @@ use Rattle.cell.proofs.lives.finish_at.Goals as goal
 
 pub finish-requires-clause-started : goal.finish-requires-clause-started
 finish-requires-clause-started g c =
-    let has : Has c.look_life.new.seat.me.0.seen.started (c.args.row.thread, c.in-Running.start) = subst (λ (v : View _). Has v.seen.started (c.args.row.thread, c.in-Running.start)) (sym c.in-Running.ensures.saw) (inl refl) in
-    (has, (c.look_life.ensures.sits.1.3.started c.args.row.thread c.in-Running.start has).1)
+    subst (λ (v : View _). Has v.seen.started (c.args.row.thread, c.in-Running.start)) (sym c.in-Running.ensures.saw) (inl refl)

@@ -12,7 +12,7 @@ use Rattle.cell.proofs.taking.take_row.Goals as goal
 pub take_committed-requires-clause-range : goal.take_committed-requires-clause-range
 take_committed-requires-clause-range g c =
     let saw_it : c.look.new.seat.me.0 ≡ saw c.args.row (Synched c.in-Synched.joined) c.args.seat.now.me.0 = (search rules) in
-    (c.look.ensures.sits.1.3.in_range c.args.row c.in-Synched.joined (subst (λ (v : View _). Has v.seen.joined (c.args.row, c.in-Synched.joined)) (sym saw_it) (inl refl))).0
+    c.look.ensures.sits.1.3.in_range c.args.row c.in-Synched.joined (subst (λ (v : View _). Has v.seen.joined (c.args.row, c.in-Synched.joined)) (sym saw_it) (inl refl))
 
 pub returns-in-Err-clause-none : goal.returns-in-Err-clause-none
 returns-in-Err-clause-none g c =
