@@ -1,5 +1,5 @@
 -- What a pass has seen: how it grows, and what it says of offers and of rows that can meet.
-use Rattle.std.specs.Prelude.{◌≡◌, ◌≢◌, ◌⊎◌, ℕ, ◌+◌, ◌-◌, ◌*◌, ◌<◌, ◌≤◌, max, unwrap_or, true, false, Some, None, Option, List, [], ◌∷◌, ◌==◌, ◌&&◌, nat_lt, if◌then◌else◌, length, slice_get}
+use Rattle.std.specs.Prelude.{min, ◌≡◌, ◌≢◌, ◌⊎◌, ℕ, ◌+◌, ◌-◌, ◌*◌, ◌<◌, ◌≤◌, max, unwrap_or, true, false, Some, None, Option, List, [], ◌∷◌, ◌==◌, ◌&&◌, nat_lt, if◌then◌else◌, length, slice_get}
 use Rattle.protocol_values.specs.Words.{count_of, head_of, offer_of, is_word_for, IsJoinedInRange, IsOfferInRange}
 use Rattle.protocol_values.specs.declared.Direction.{Direction}
 use Rattle.protocol_values.specs.declared.Direction.TheVariants as direction

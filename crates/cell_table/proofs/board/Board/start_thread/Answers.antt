@@ -23,7 +23,7 @@ compare_exchange-found-requires g c = (
   search rules,
   subst (λ (z : Shape g.row.M.Denot × ℕ × ℕ). Allows (Keeps g.M.Resident.stands z.0) c.args.self.now.words.shared.table_id.slots c.args.seat.now.id c.args.seat.now.me c.life_place.result (λ n. either (eqb n z.1) z.2 n) (tried_start (step c.args.self.now.words.shared.table_id.slots c.life_place.result z.1 z.2 none) c.args.seat.now.me)) (λ i. (sym c.args.self.now.keyed i, sym c.pack_course-unstarted.ensures i, sym c.pack_course-started.ensures i))
       (start_allowed g.M.Resident.stands c.args.self.now.shape c.args.self.now.words.shared.table_id.slots c.args.seat.now.id c.life_place.result c.args.seat.now.me c.args.thread (search rules) (search rules) (search rules) (search rules)
-      (subst (λ (r : Row). 0 < length c.args.self.now.shape.first.value.items → IsStarting g.M.Resident.stands c.args.self.now.shape.first.value.items c.args.seat.now.me.0.results r c.args.thread) (sym c.requires.stands.0) c.requires.starting) (search rules) c.requires.resting (search rules) (search rules) (search rules) (search rules) c.args.stamp (subst (λ (r : Row). HasSeenLast c.args.seat.now.me.0.seen r c.args.stamp) (sym c.requires.stands.0) c.requires.stamp.0) (search rules)),
+      (subst (λ (r : Row). 0 < length c.args.self.now.shape.first.value.items → IsStarting g.M.Resident.stands c.args.self.now.shape.first.value.items c.args.seat.now.me.0.results r c.args.thread) (sym c.requires.stands.0) c.requires.starting) (search rules) c.requires.resting (search rules) (search rules) (search rules) (search rules) c.args.stamp (subst (λ (r : Row). HasSeenLast c.args.seat.now.me.0.seen r c.args.stamp) (sym c.requires.stands.0) c.requires.stamp) (search rules)),
 )
 
 -- what the step told the pass
