@@ -3,7 +3,7 @@ use Rattle.std.proofs.Common.{◌≡◌, ℕ, refl, ◌∙◌, arith}
 use Rattle.protocol.specs.Ledgers.{ledger_of}
 use Rattle.protocol.specs.Tables.{Table}
 use Rattle.protocol.specs.Worlds.{start_world}
-use Rattle.protocol.proofs.LedgerLemmas.{kept_start, lawful_schedule}
+use Rattle.protocol.proofs.LedgerLemmas.{kept_start, lawful_from_start}
 use Rattle.protocol.proofs.Onward.{grows-schedule}
 use Rattle.protocol.proofs.Acting.{schedule-acts}
 use Rattle.journal_order.specs.Ledgers.{IsFirst, ScheduleHasLedger, ScheduleIsRun, acts_of}
@@ -24,6 +24,6 @@ start-rows threads rows seats later = refl
 pub schedule-is-run : ScheduleIsRun
 schedule-is-run ps threads rows seats later steps w commits few_threads few_rows wait plays acts order =
     let size : (ledger_of w.table).rows ≡ rows = ledger-rows w.table ∙ (grows-schedule (start_world threads rows seats later) w steps (kept_start threads rows seats later few_threads few_rows) plays).rows ∙ start-rows threads rows seats later in
-    ledger-is-run ps rows (ledger_of w.table) commits (lawful_schedule threads rows seats later steps w few_threads few_rows plays)
+    ledger-is-run ps rows (ledger_of w.table) commits (lawful_from_start threads rows seats later steps w few_threads few_rows plays)
     (schedule-has-ledger ps threads rows seats later steps w few_threads few_rows wait plays acts)
     (omega (arith, size)) order

@@ -443,6 +443,9 @@ lawful_ledger t l =
 pub lawful_schedule : (o : Opening) (rows seats : ℕ) (steps : List (Seat × Step)) (b w : World) → IsOpening o rows → rows ≤ 1024 → Begins o rows seats b → Plays b steps w → IsLawful (ledger_of w.table)
 lawful_schedule o rows seats steps b w opens few begins p = lawful_ledger w.table (kept_schedule b w steps (kept_opening o rows seats b opens few begins) p).linked
 
+pub lawful_from_start : (threads rows seats later : ℕ) (steps : List (Seat × Step)) (w : World) → threads ≤ 64 → rows ≤ 1024 → Plays (start_world threads rows seats later) steps w → IsLawful (ledger_of w.table)
+lawful_from_start threads rows seats later steps w a b p = lawful_ledger w.table (kept_schedule (start_world threads rows seats later) w steps (kept_start threads rows seats later a b) p).linked
+
 -- the words of a start have a lawful ledger
 pub lawful_start : (threads rows later : ℕ) (words : List ℕ) → threads ≤ 64 → rows ≤ 1024 → words ≡ with_lives later rows threads (replicate (threads * thread_len rows) 0) → IsLawful (ledger_of (record { threads = threads; rows = rows; words = words; opening = 0 }))
 unfolding start_world

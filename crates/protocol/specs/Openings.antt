@@ -1,5 +1,5 @@
 -- What a ledger tells of its end, which a later table goes on from: the last stamp of each thread, and what became of each nack.
-use Rattle.std.specs.Prelude.{◌≡◌, ◌⊎◌, ◌≤◌, ◌<◌, ◌+◌, ◌*◌, ◌%◌, ◌&&◌, ◌==◌, if◌then◌else◌, ℕ, Bool, List, Option, None, Some, true, false, length, map, max, replicate, slice_get, slice_index, slice_index_or}
+use Rattle.std.specs.Prelude.{◌≡◌, ◌⊎◌, ◌≤◌, ◌<◌, ◌+◌, ◌*◌, ◌%◌, ◌&&◌, ◌==◌, if◌then◌else◌, ℕ, Bool, List, Option, None, Some, true, false, length, map, max, replicate, ◌≢◌, All, slice_get, slice_index, slice_index_or}
 use Rattle.std.specs.List.{fold, range_with_len}
 use Rattle.protocol_values.specs.declared.Binding.{Binding}
 use Rattle.protocol_values.specs.declared.Commit.{Commit}
@@ -94,8 +94,8 @@ pub record IsOpening (o : Opening) (rows : ℕ) : Type 0 where
   pub few : length o.threads ≤ 64
   pub all_nacks : length o.nacks ≡ length o.threads * 64
   -- a thread that waits to be started has no stamp, and a nack that is enabled has one
-  pub unstarted : (t stamp : ℕ) → slice_get o.threads t ≡ Some (Unstarted, stamp) → stamp ≡ 0
-  pub enabled : (k stamp : ℕ) → slice_get o.nacks k ≡ Some (Enabled stamp) → 1 ≤ stamp
+  pub unstarted : All (λ thread. thread.0 ≡ Unstarted → thread.1 ≡ 0) o.threads
+  pub enabled : All (λ state. state ≢ Enabled 0) o.nacks
   -- the stamps to come have room in their words
   pub room : greatest o + length o.threads * rows ≤ 4294967295
 

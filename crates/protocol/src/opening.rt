@@ -1,9 +1,9 @@
 //! What a ledger tells of its end: each thread's life and last stamp, and what became of each nack.
 
-ghost use Rattle.std.specs.Prelude.{◌≡◌, IfOk};
+ghost use Rattle.std.specs.Prelude.{◌≡◌, ◌↔◌, IfOk, IsTrue};
 ghost use Rattle.protocol.specs.Ledgers.{Involves, Takes};
 ghost use Rattle.protocol_values.specs.Commits.{stamp_of};
-ghost use Rattle.protocol.specs.Openings.{IsLastStamp, TellsEnd, TellsNack, TellsNacks, TellsThreads, course_for, greatest, life_of, opening_of, stamp_in, word_for};
+ghost use Rattle.protocol.specs.Openings.{IsLastStamp, IsOpening, TellsEnd, TellsNack, TellsNacks, TellsThreads, course_for, greatest, life_of, opening_of, stamp_in, word_for};
 
 use crate::ledger::Ledger;
 use crate::sheet::{NACKS, encloses, start_of};
@@ -58,6 +58,30 @@ impl Opening {
             .max()
             .unwrap_or(0);
         last.max(enabled)
+    }
+
+    /// Whether a table of so many rows a thread can go on from it: it has 1 to 64 threads, and 64 nacks for each, no
+    /// thread that waits to be started has a stamp, each enabled nack has one, and the greatest stamp plus the number
+    /// of rows is at most 4294967295.
+    pub fn leads_on(&self, rows: u16) -> bool
+        ensures { IsTrue result ↔ IsOpening (opening_of self.now) rows }
+    {
+        let count = self.threads.len();
+        if count < 1 || count > 64 || self.nacks.len() != count * NACKS {
+            return false;
+        }
+        let waits = |thread: &(Life, u32)| thread.0 != Life::Unstarted || thread.1 == 0;
+        if !self.threads.iter().all(waits) {
+            return false;
+        }
+        if !self
+            .nacks
+            .iter()
+            .all(|state| *state != NackState::Enabled(0))
+        {
+            return false;
+        }
+        u64::from(self.greatest()) + count as u64 * u64::from(rows) <= u64::from(u32::MAX)
     }
 }
 

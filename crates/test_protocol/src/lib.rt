@@ -1,4 +1,4 @@
-//! Tests of `protocol`: worked schedules, worlds at the ends of their ranges, and merges of lists of
+//! Tests of `protocol`: worked schedules, worlds at the ends of their ranges, worlds that go on from openings, and merges of lists of
 //! steps, compared with a second reading of the rules.
 #![tactic(auto)]
 
@@ -6,6 +6,8 @@
 mod merge_lists;
 #[cfg(test)]
 mod merges;
+#[cfg(test)]
+mod openings;
 #[cfg(test)]
 mod plain_row;
 #[cfg(test)]

@@ -51,7 +51,7 @@ impl PlainRow {
     }
 }
 
-pub(crate) fn fresh_row(thread: u8, sync: u16, holder: Option<u8>) -> PlainRow {
+pub(crate) fn fresh_row(thread: u8, sync: u32, holder: Option<u8>) -> PlainRow {
     PlainRow {
         row: Row { thread, sync },
         holder,

@@ -12,7 +12,7 @@ use protocol_values::{Cause, Commit, Message, NackName, Row, Seat, Step};
 #[derive(Clone, Copy)]
 struct Life {
     start: Option<u32>,
-    end: Option<u16>,
+    end: Option<u32>,
     behind: Option<u8>,
 }
 
@@ -23,7 +23,7 @@ pub(crate) struct PlainWorld {
     seats: u8,
     rows: [PlainRow; 6],
     words: [[u64; 34]; 6],
-    nacks: [Option<(u16, u8)>; 192],
+    nacks: [Option<(u32, u8)>; 192],
     lives: [Life; 3],
 }
 
@@ -485,7 +485,7 @@ fn started() -> Life {
 /// Where the row stands among the six, and 6 for any other.
 fn place_of(row: Row) -> usize {
     if row.thread < 3 && row.sync < 2 {
-        2 * usize::from(row.thread) + usize::from(row.sync)
+        2 * usize::from(row.thread) + row.sync as usize
     } else {
         6
     }

@@ -40,7 +40,7 @@ fn joined(alloc: Global, front: &[Move], back: &[Move]) -> Result<Vec<Move>, All
     Ok(steps)
 }
 
-fn check_ledger(
+pub(crate) fn check_ledger(
     rt: &(impl Abort + AllocGlobal),
     ledger: &Ledger,
     commits: &[Commit],
@@ -55,7 +55,7 @@ pub(crate) const SENDER: Row = Row { thread: 0, sync: 0 };
 
 pub(crate) const RECEIVER: Row = Row { thread: 1, sync: 0 };
 
-fn draft(seat: u8, row: Row, place: u8, value: u64) -> (Seat, Step) {
+pub(crate) fn draft(seat: u8, row: Row, place: u8, value: u64) -> (Seat, Step) {
     (Seat(seat), Step::Draft { row, place, value })
 }
 
@@ -180,7 +180,7 @@ fn finish(row: Row) -> (Seat, Step) {
     (Seat(0), Step::Finish { row })
 }
 
-fn open(row: Row) -> (Seat, Step) {
+pub(crate) fn open(row: Row) -> (Seat, Step) {
     (Seat(0), Step::Open { row })
 }
 
@@ -206,6 +206,19 @@ fn check_refused(
     Ok(())
 }
 
+/// The second thread ends, and the first waits for it.
+pub(crate) fn ended_first(rt: &(impl Abort + AllocGlobal)) -> Result<Ledger, Fail> {
+    let steps = [
+        start(SENDER, 1),
+        finish(RECEIVER),
+        draft(0, SENDER, 1, 1),
+        draft(0, SENDER, 2, 2053),
+        open(SENDER),
+        grant(SENDER),
+    ];
+    Ok(play(waiting_world(rt.alloc())?, &steps)?.ledger())
+}
+
 #[test]
 fn an_end_is_granted_once_it_is_there(rt: HostRuntime) -> Result<(), Fail> {
     let offered = [
@@ -217,9 +230,7 @@ fn an_end_is_granted_once_it_is_there(rt: HostRuntime) -> Result<(), Fail> {
     check_refused(&rt, &offered, 3)?;
     let begun = [start(SENDER, 1)];
     check_refused(&rt, &joined(rt.alloc(), &begun, &offered)?, 4)?;
-    let ended = [start(SENDER, 1), finish(RECEIVER)];
-    let steps = joined(rt.alloc(), &ended, &offered)?;
-    let ledger = play(waiting_world(rt.alloc())?, &steps)?.ledger();
+    let ledger = ended_first(&rt)?;
     let end = Commit::Alone {
         at: (SENDER, 0),
         cause: Cause::End(1),
@@ -305,7 +316,7 @@ fn a_start_is_refused_where_it_leads_nowhere(rt: HostRuntime) -> Result<(), Fail
 #[test]
 fn words_that_name_nothing_make_an_empty_ledger(rt: HostRuntime) -> Result<(), Fail> {
     let words = vec![in rt.alloc(); 0; 99]?;
-    let ledger = Ledger::of_words(1, 1, words);
+    let ledger = Ledger::of_words(1, 1, words, 0);
     assert!(rt; ledger.commits()?.is_empty());
     Ok(())
 }

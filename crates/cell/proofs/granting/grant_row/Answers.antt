@@ -59,16 +59,16 @@ ready g c =
 pub give-requires-clause-can : goal.give-requires-clause-can
 give-requires-clause-can g c =
     subst (λ (k : ℕ). CanGrant c.last_stamp-last.new.seat.me.0.seen c.args.row c.args.n (record { own = c.args.n; partner = None; stamp = k }) × IsJoinedInRange (record { own = c.args.n; partner = None; stamp = k })) (sym (c.saturating_add.ensures ∙ ap (λ k. min (k + 1) 4294967295) c.max.ensures))
-    (can _ _ _ _ c.last_stamp-last.new.seat.me.0 _ _ _ _ _ (ready g c.before.before))
+    (can _ _ _ _ c.last_stamp-last.new.seat.me.0 _ _ _ _ _ (ready g c.before.before.before))
 
 pub returns-in-Ok-clause-granted : goal.returns-in-Ok-clause-granted
-returns-in-Ok-clause-granted g c = (given_is _ _ _ _ c.give.new.seat.me.0 _ _ _ _ _ (ready g c.before.before.before.before) (search rules) (search rules)).0
+returns-in-Ok-clause-granted g c = (given_is _ _ _ _ c.give.new.seat.me.0 _ _ _ _ _ (ready g c.before.before.before.before.before) (search rules) (search rules)).0
 
 pub returns-in-Ok-clause-learns : goal.returns-in-Ok-clause-learns
-returns-in-Ok-clause-learns g c = (given_is _ _ _ _ c.give.new.seat.me.0 _ _ _ _ _ (ready g c.before.before.before.before) (search rules) (search rules)).1
+returns-in-Ok-clause-learns g c = (given_is _ _ _ _ c.give.new.seat.me.0 _ _ _ _ _ (ready g c.before.before.before.before.before) (search rules) (search rules)).1
 
 pub returns-in-Err-clause-granted : goal.returns-in-Err-clause-granted
-returns-in-Err-clause-granted g c = (late_is _ _ _ _ c.give.new.seat.me.0 _ _ _ _ _ (ready g c.before.before.before.before) c.in-Err.field-0 (search rules) (search rules) (search rules) (search rules)).0
+returns-in-Err-clause-granted g c = (late_is _ _ _ _ c.give.new.seat.me.0 _ _ _ _ _ (ready g c.before.before.before.before.before) c.in-Err.field-0 (search rules) (search rules) (search rules) (search rules)).0
 
 pub returns-in-Err-clause-learns : goal.returns-in-Err-clause-learns
-returns-in-Err-clause-learns g c = (late_is _ _ _ _ c.give.new.seat.me.0 _ _ _ _ _ (ready g c.before.before.before.before) c.in-Err.field-0 (search rules) (search rules) (search rules) (search rules)).1
+returns-in-Err-clause-learns g c = (late_is _ _ _ _ c.give.new.seat.me.0 _ _ _ _ _ (ready g c.before.before.before.before.before) c.in-Err.field-0 (search rules) (search rules) (search rules) (search rules)).1
