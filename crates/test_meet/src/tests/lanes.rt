@@ -41,7 +41,7 @@ fn meet_on_first<R: Wait>(
     lanes: &mut MeetPass,
     waiter: &mut Pass<Bare>,
     sender: &mut Pass<Bare>,
-    sync: u16,
+    sync: u32,
 ) -> Result<bool, AllocError>
     requires here { IsPassOf cells.now waiter.old × IsPassOf cells.now sender.old × (cells.now.threads ≡ 2) × (sync + 1 < cells.now.rows) × (cells.now.rows ≤ 1024) }
     requires waiter { Has waiter.old.seen.held (record { thread = 0; sync = sync }) × (¬ Has waiter.old.seen.opened (record { thread = 0; sync = sync })) × (¬ SawEnded waiter.old.seen 0) }
@@ -85,7 +85,7 @@ fn meet_all<R: Wait>(
     ensures sender { IfOk result (λ met. IsTrue met → Has sender.new.seen.held (record { thread = 1; sync = 1000 }) × (¬ Has sender.new.seen.opened (record { thread = 1; sync = 1000 })) × (¬ SawEnded sender.new.seen 1)) }
     ensures lanes { IsMeetPassOf meet.now lanes.new }
 {
-    for sync in 0..ROWS {
+    for sync in 0..u32::from(ROWS) {
         if !meet_on_first(rt, meet, cells, lanes, waiter, sender, sync)? {
             return Ok(false);
         }
@@ -104,7 +104,7 @@ fn a_lane_keeps_few_entries_of_committed_rows(rt: HostRuntime) -> Result<(), Fai
     assert!(rt; longest <= 64, "{} entries", longest);
     let last = Row {
         thread: 1,
-        sync: ROWS,
+        sync: u32::from(ROWS),
     };
     enter(&cells, &mut sender, last, &[send(1, 42)]);
     let yields = Yields {

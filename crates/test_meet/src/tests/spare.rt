@@ -17,7 +17,7 @@ use std::test::Fail;
 const PAIRS: u8 = 32;
 
 /// So often.
-const ROUNDS: u16 = 940;
+const ROUNDS: u32 = 940;
 
 /// The channel of which nobody receives.
 const SPARE: u8 = 32;
@@ -62,7 +62,7 @@ fn meets<R: Wait>(
     lanes: &mut MeetPass,
     pass: &mut Pass<Bare>,
     pair: u8,
-    sync: u16,
+    sync: u32,
 ) -> Result<bool, AllocError>
     requires here { IsPassOf cells.now pass.old × IsMeetPassOf meet.now lanes.old }
     ensures here { IsPassOf cells.now pass.new × IsMeetPassOf meet.now lanes.new }
@@ -97,7 +97,7 @@ fn all_meet<R: Wait>(
     cells: &Cells<Bare>,
     lanes: &mut MeetPass,
     pass: &mut Pass<Bare>,
-    sync: u16,
+    sync: u32,
 ) -> Result<bool, AllocError>
     requires here { IsPassOf cells.now pass.old × IsMeetPassOf meet.now lanes.old }
     ensures here { IsPassOf cells.now pass.new × IsMeetPassOf meet.now lanes.new }
