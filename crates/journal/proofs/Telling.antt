@@ -10,12 +10,14 @@ use Rattle.protocol_values.specs.declared.Commit.{Commit}
 use Rattle.protocol_values.specs.declared.Course.{Course}
 use Rattle.protocol_values.specs.declared.Course.TheVariants.{Unstarted as NotStarted, Running as Runs, Ended as HasEnded}
 use Rattle.protocol.specs.Acting.{HasStart}
-use Rattle.protocol.specs.Ledgers.{HasCommit, IsLawful, Ledger, LivesAt, binding_in, course_in}
+use Rattle.protocol.specs.Ledgers.{HasCommit, IsLawful, Ledger, LivesAt, binding_in, carried_in, course_in, nack_in}
 use Rattle.protocol.specs.Openings.{IsLastStamp, TellsEnd, life_of}
-use Rattle.protocol.specs.Tables.{start_of}
 use Rattle.protocol.specs.declared.opening.Life.{Life}
 use Rattle.protocol.specs.declared.opening.NackState.{NackState}
 use Rattle.protocol.specs.declared.opening.NackState.TheVariants.{Unbound}
+use Rattle.protocol.specs.Tables.{bound_by, carried_by, start_of}
+use Rattle.protocol_values.specs.declared.NackName.{NackName}
+use Rattle.protocol_values.specs.declared.NackWord.TheVariants as word
 use Rattle.journal_order.specs.Laws.{IsOrderOf}
 use Rattle.journal_order.specs.Ledgers.{IsLedgerOf, fired_as}
 use Rattle.journal_order.proofs.Leading.{ledger-has, ledger-threads, tells-nack, tells-stamp, tells-started, tells-thread, thread-involves}
@@ -45,22 +47,27 @@ out-of-range states threads t k low count e = ⊎_elim
     (λ ge. ge)
     (cases_lt t threads)
 
--- a ledger binds no nack of another thread than its own, nor one above 63
-unbound-outside : (l : Ledger) (t k : ℕ) → l.threads ≤ t → binding_in l (record { thread = t; k = k }) ≡ None
-unfolding binding_in
+-- a ledger says nothing of a nack of another thread than its own, nor of one above 63
+unbound-outside : (l : Ledger) (t k : ℕ) → l.threads ≤ t → nack_in l (record { thread = t; k = k }) ≡ word.Unbound
+unfolding nack_in
 unbound-outside l t k ge = by (ltb t l.threads) refl
   where
-    by : (b : Bool) → ltb t l.threads ≡ b → cond (b && ltb k 64) (get_or l.nacks (t * 64 + k) None) None ≡ None
+    by : (b : Bool) → ltb t l.threads ≡ b → cond (b && ltb k 64) (get_or l.nacks (t * 64 + k) word.Unbound) word.Unbound ≡ word.Unbound
     by true e = absurd (omega (arith, ltb-true t l.threads e, ge))
     by false e = refl
 
-unbound-above : (l : Ledger) (t k : ℕ) → ltb k 64 ≡ false → binding_in l (record { thread = t; k = k }) ≡ None
-unfolding binding_in
+unbound-above : (l : Ledger) (t k : ℕ) → ltb k 64 ≡ false → nack_in l (record { thread = t; k = k }) ≡ word.Unbound
+unfolding nack_in
 unbound-above l t k e = by (ltb t l.threads) (ltb k 64) e
   where
-    by : (a b : Bool) → b ≡ false → cond (a && b) (get_or l.nacks (t * 64 + k) None) None ≡ None
-    by true b none = ap (λ (x : Bool). cond x (get_or l.nacks (t * 64 + k) None) None) none
+    by : (a b : Bool) → b ≡ false → cond (a && b) (get_or l.nacks (t * 64 + k) word.Unbound) word.Unbound ≡ word.Unbound
+    by true b none = ap (λ (x : Bool). cond x (get_or l.nacks (t * 64 + k) word.Unbound) word.Unbound) none
     by false b none = refl
+
+-- such a nack is bound to nothing, and no earlier table settled it
+untold : (l : Ledger) (n : NackName) → nack_in l n ≡ word.Unbound → (binding_in l n ≡ None) × (carried_in l n ≡ None)
+unfolding binding_in carried_in
+untold l n e = (ap bound_by e, ap carried_by e)
 
 -- what is known of one thread more
 pub known-more : (threads : List (Life × ℕ)) (states : List NackState) (machines : List (Option Thread)) (known : List Known) (m : Option Thread) (k : Known) → EachKnownBy threads states machines known → KnownBy threads states (length known) m k →
@@ -122,8 +129,8 @@ module _ (ps : List Proc) (rows : ℕ) (l : Ledger) (commits : List Commit) (law
       subst (λ (c : Course). LivesAt c w.0) is (law.lived d (record { thread = t; sync = w.0 }) (member d there) w.1)
 
   -- a nack of no table is not fired
-  unfired : (t k : ℕ) → binding_in l (record { thread = t; k = k }) ≡ None → KnowsNack ps t (config_of commits t) commits k None
-  unfired t k none = tells-nack ps rows l commits law of enough order (record { thread = t; k = k }) Unbound none
+  unfired : (t k : ℕ) → nack_in l (record { thread = t; k = k }) ≡ word.Unbound → KnowsNack ps t (config_of commits t) commits k None
+  unfired t k none = tells-nack ps rows l commits law of enough order (record { thread = t; k = k }) Unbound (untold l (record { thread = t; k = k }) none)
 
   module _ (threads : List (Life × ℕ)) (states : List NackState) (told : TellsEnd l threads states) where
     knows-last : (t stamp : ℕ) (life : Life) → life ≡ life_of (course_in l t) → IsLastStamp l t stamp → KnowsLast ps commits t (last_if (life, stamp))
