@@ -125,7 +125,10 @@ module _ (value : ℕ) (l : Ledger) (h : HasTwoOffers value l) where
       (λ (e : s ≡ 1). e)
       (λ other. ⊎_elim
       (λ (d : (d : Commit) × HasCommit l d × CountsFor (marks_in l) d (Pair sender receiver chan m s) × (s ≡ stamp_of d + 1)). absurd (first sender receiver chan m s d.0 a.0 b d.2))
+      (λ later. ⊎_elim
       (λ (t : (t : ℕ) × CountsThread (Pair sender receiver chan m s) t × (s ≡ start_of (course_in l t) + 1)). t.2 ∙ ap (λ (n : ℕ). n + 1) (h.starts t.0 (below_two sender receiver chan m s t.0 a.0 b t.1)))
+      (λ (k : (stamp : ℕ) × ⊥ × (s ≡ stamp + 1)). absurd k.1)
+      later)
       other)
       (h.lawful.stamps (Pair sender receiver chan m s) c).next in
       (λ i. Pair (a.0 i) (b i) (a.1 i) (a.2 i) (stamp i))

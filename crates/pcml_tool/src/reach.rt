@@ -38,7 +38,7 @@ pub(crate) fn reach(
     ensures fault { IfErr result (Explains (script_of script.now) journal.now) }
 {
     let commits = read_journal(alloc, script, journal)?;
-    let rows = u32::from(rows);
+    let rows = rows as u32;
     match replay(alloc, script.processes(), rows, commits.as_slice()) {
         Ok(state) => Ok(Reached::Run(commits, state)),
         Err(ReplayFault::Unlawful(index)) => {

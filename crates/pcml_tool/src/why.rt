@@ -31,7 +31,7 @@ pub fn why_journal(
 {
     match reach(alloc, script, journal, rows)? {
         Reached::Run(commits, state) => {
-            let rows = u32::from(rows);
+            let rows = rows as u32;
             let processes = numbered(alloc, script.processes())?;
             match replay(alloc, processes.as_slice(), rows, commits.as_slice()) {
                 Ok(standing) => {

@@ -8,5 +8,5 @@ use Rattle.pcml_tool.proofs.reach.reach.Goals as goal
 pub returns-in-Ok-clause-reached : goal.returns-in-Ok-clause-reached
 returns-in-Ok-clause-reached c = record {
   spells = c.in_ok-commits.ensures.found;
-  stands = subst (λ (z : List Proc × ℕ × List Commit). StandsAfter z.0 z.1 z.2 c.in-Ok.state) (λ i. (c.processes.ensures.value i, c.from.ensures i, c.as_slice.ensures.value i)) c.in-Ok.ensures;
+  stands = subst (λ (z : List Proc × List Commit). StandsAfter z.0 c.args.rows z.1 c.in-Ok.state) (λ i. (c.processes.ensures.value i, c.as_slice.ensures.value i)) c.in-Ok.ensures;
 }

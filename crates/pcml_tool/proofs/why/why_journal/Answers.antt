@@ -41,7 +41,7 @@ why_text-requires-clause-same c =
     let are : map proc_of c.as_slice.result.now ≡ numbered_all 1 ps =
     ap (λ (seen : List SeenProc). map proc_of seen) c.as_slice.ensures.value ∙ c.in_ok-processes-in-Run.ensures ∙ ap (λ (qs : List Proc). numbered_all 1 qs) c.processes.ensures.value in
     let follows : StandsAfter (numbered_all 1 ps) c.args.rows commits c.in-Ok.standing =
-    subst (λ (z : List Proc × ℕ × List Commit). StandsAfter z.0 z.1 z.2 c.in-Ok.standing) (λ i. (are i, c.from.ensures i, c.as_slice-in-Run.ensures.value i)) c.in-Ok.ensures in
+    subst (λ (z : List Proc × List Commit). StandsAfter z.0 c.args.rows z.1 c.in-Ok.standing) (λ i. (are i, c.as_slice-in-Run.ensures.value i)) c.in-Ok.ensures in
     threads-numbered ps c.args.rows commits c.in-Run.state c.in-Ok.standing led.stands follows
 
 pub returns-in-Ok-clause-told : goal.returns-in-Ok-clause-told
@@ -53,7 +53,7 @@ returns-in-Ok-clause-told c =
     let are : map proc_of c.as_slice.result.now ≡ numbered_all 1 s.processes =
     ap (λ (seen : List SeenProc). map proc_of seen) c.as_slice.ensures.value ∙ c.in_ok-processes-in-Run.ensures ∙ ap (λ (qs : List Proc). numbered_all 1 qs) c.processes.ensures.value in
     let follows : StandsAfter (numbered_all 1 s.processes) c.args.rows commits c.in-Ok.standing =
-    subst (λ (z : List Proc × ℕ × List Commit). StandsAfter z.0 z.1 z.2 c.in-Ok.standing) (λ i. (are i, c.from.ensures i, c.as_slice-in-Run.ensures.value i)) c.in-Ok.ensures in
+    subst (λ (z : List Proc × List Commit). StandsAfter z.0 c.args.rows z.1 c.in-Ok.standing) (λ i. (are i, c.as_slice-in-Run.ensures.value i)) c.in-Ok.ensures in
     record {
       commits = commits;
       spells = led.spells;
@@ -61,7 +61,7 @@ returns-in-Ok-clause-told c =
       stands = led.stands;
       standing = c.in-Ok.standing;
       numbered = follows;
-      is = subst (λ (z : ℕ × List ℕ). IsWhy s c.in-Run.state c.in-Ok.standing c.args.text.now z.0 z.1) (λ i. (c.from.ensures i, (sym c.into_bytes.ensures.value i).items)) c.in_ok-told-in-Ok.ensures;
+      is = subst (λ (told : List ℕ). IsWhy s c.in-Run.state c.in-Ok.standing c.args.text.now c.args.rows told) (λ i. (sym c.into_bytes.ensures.value i).items) c.in_ok-told-in-Ok.ensures;
     }
 
 pub unreachable-requires : goal.unreachable-requires
@@ -73,5 +73,5 @@ unreachable-requires c =
     let are : map proc_of c.as_slice.result.now ≡ numbered_all 1 ps =
     ap (λ (seen : List SeenProc). map proc_of seen) c.as_slice.ensures.value ∙ c.in_ok-processes-in-Run.ensures ∙ ap (λ (qs : List Proc). numbered_all 1 qs) c.processes.ensures.value in
     let broken : BreaksOffAt (numbered_all 1 ps) c.args.rows commits c.in-Err-Unlawful.field-0-0 =
-    subst (λ (z : List Proc × ℕ × List Commit × ReplayFault). Refuses z.0 z.1 z.2 z.3) (λ i. (are i, c.from.ensures i, c.as_slice-in-Run.ensures.value i, c.in-Err-Unlawful.field-0-is i)) c.in-Err-Unlawful.ensures in
+    subst (λ (z : List Proc × List Commit × ReplayFault). Refuses z.0 c.args.rows z.1 z.2) (λ i. (are i, c.as_slice-in-Run.ensures.value i, c.in-Err-Unlawful.field-0-is i)) c.in-Err-Unlawful.ensures in
     numbered-unbroken ps c.args.rows commits c.in-Run.state c.in-Err-Unlawful.field-0-0 led.stands broken
