@@ -1,6 +1,7 @@
 -- What a step does to a thread's course, and that threads which start and end as their results say do so however a schedule goes on.
 use Rattle.std.proofs.Common.{◌≡◌, ◌≢◌, ◌⊎◌, ℕ, zero, suc, ◌<◌, ◌≤◌, ◌-◌, Bool, true, false, cond, eqb, List, [], ◌∷◌, length, Option, Some, None, is_some, sym, refl, ap, ◌∙◌, subst, arith, inl, inr, ⊎_elim}
 use Rattle.std.proofs.lemmas.Bool.{cases_eq, cases_lt}
+use Rattle.std.proofs.lemmas.List.{get_or_past}
 use Rattle.protocol_values.specs.Words.{cell_word}
 use Rattle.protocol_values.specs.declared.Cell.{Cell}
 use Rattle.protocol_values.specs.declared.Cell.TheVariants.{Waiting, Claimed, Synched, Taken}
@@ -12,17 +13,21 @@ use Rattle.protocol_values.specs.declared.Seat.{Seat}
 use Rattle.protocol_values.specs.declared.Step.{Step}
 use Rattle.protocol_values.specs.declared.Step.TheVariants.{Draft, Open, Look, Read, Claim, Yield, Join, Seal, Grant, Take, Bind, Start, Finish}
 use Rattle.protocol_values.specs.Values.{joined_of}
-use Rattle.protocol.specs.Acting.{Acts, ActsAs, AtOnce, DoesAt, EachEnded, EachStarted, EachStepsAs, EndedAs, EndsAt, HasStart, IsStampBehind, IsStarted, StartedAs, StartedBy}
+use Rattle.protocol.specs.declared.opening.Life.{Life}
+use Rattle.protocol.specs.declared.opening.Life.TheVariants as life
+use Rattle.protocol.specs.Acting.{Acts, ActsAs, Before, StartedBefore, DoesAt, EachEnded, EachStarted, EachStepsAs, EndedAs, EndsAt, HasStart, IsStampBehind, IsStarted, StartedAs, StartedBy}
 use Rattle.protocol.specs.Growing.{GoesOn, GrowsTo}
 use Rattle.protocol.specs.Kept.{Kept}
 use Rattle.protocol.specs.Ledgers.{course_in, ledger_of}
+use Rattle.protocol.specs.Openings.{Begins, HadEnded, HadStarted, Opening, course_for, first_life, greatest, start_opening, thread_in}
 use Rattle.protocol.specs.Standing.{EachOpenedAs, Result}
 use Rattle.protocol.specs.Tables.{Table, all_rows, cell_at, course_at, is_fresh, is_row, joined_at, last_stamp, marks_at, offer_at, row_stamp, start_of, synched_of}
 use Rattle.protocol.specs.Worlds.{Allowed, Condition, Plays, StandsAt, World, after_step, ended_at, granted_by, joined_with, mirrored, nack_of_row, namer_at, sealed_by, start_world, waits, with_cell, with_seal, with_take}
 use Rattle.protocol.proofs.Keeping.{end_in_range, held_row, is_held, kept_step, nack_of_thread, sealed_is, sealing, stamp_in_range, stands_behind, stands_inside, synched_is}
 use Rattle.protocol.proofs.Causes.{last_behind}
 use Rattle.protocol.proofs.Lawfulness.{commit_of_joined, in_of_joined, involves_own, stamp_own}
-use Rattle.protocol.proofs.LedgerLemmas.{course_in_ledger, kept_start, opening_in_ledger, start_course}
+use Rattle.protocol.proofs.Beginning.{first_course}
+use Rattle.protocol.proofs.LedgerLemmas.{course_in_ledger, kept_start, opening_in_ledger, first_thread, start_begins, start_greatest, start_threads}
 use Rattle.protocol.proofs.LedgerReadings.{commits_in_table}
 use Rattle.protocol.proofs.Linking.{some_parts, taken_joined}
 use Rattle.protocol.proofs.Naming.{namer_names}
@@ -142,10 +147,10 @@ module _ (w : World) (u : Table) (k : Kept w) (g : GrowsTo w.table u) where
   pub does-stay : (r : Row) (act : List Result → Type 0) → DoesAt (ledger_of w.table) r act → DoesAt (ledger_of u) r act
   does-stay r act d = record { results = d.results; count = d.count; are = results-stay w u r.thread d.results k g d.are; does = d.does }
 
-  pub started-stays : (at_once : ℕ → Type 0) (starts : ℕ → List Result → ℕ → Type 0) {t stamp : ℕ} → IsStarted at_once starts (ledger_of w.table) t stamp → IsStarted at_once starts (ledger_of u) t stamp
-  started-stays at_once starts (AtOnce first) = AtOnce first
-  started-stays at_once starts (StartedBy {t} {stamp} s start running started results are does behind) =
-      StartedBy s start (start-stays s start running) (started-stays at_once starts started) results (results-stay w u s results k g are) does (behind-stays s start (length results) stamp behind)
+  pub started-stays : (earlier : ℕ → ℕ → Type 0) (starts : ℕ → List Result → ℕ → Type 0) {t stamp : ℕ} → IsStarted earlier starts (ledger_of w.table) t stamp → IsStarted earlier starts (ledger_of u) t stamp
+  started-stays earlier starts (StartedBefore first) = StartedBefore first
+  started-stays earlier starts (StartedBy {t} {stamp} s start running started results are does behind) =
+      StartedBy s start (start-stays s start running) (started-stays earlier starts started) results (results-stay w u s results k g are) does (behind-stays s start (length results) stamp behind)
 
 -- A STEP keeps it, where what it starts or ends does so
 module _ (w : World) (seat : Seat) (step : Step) (k : Kept w) (allowed : Allowed w seat step) where
@@ -158,8 +163,8 @@ module _ (w : World) (seat : Seat) (step : Step) (k : Kept w) (allowed : Allowed
   goes : (t : ℕ) → Goes w step t (course_at after t)
   goes t = course-goes w seat step k allowed.1 t
 
-  pub starts-step : (at_once : ℕ → Type 0) (starts : ℕ → List Result → ℕ → Type 0) → EachStarted at_once starts (ledger_of w.table) → StartedAs starts after step → EachStarted at_once starts (ledger_of after)
-  starts-step at_once starts old new t stamp h =
+  pub starts-step : (earlier : ℕ → ℕ → Type 0) (starts : ℕ → List Result → ℕ → Type 0) → EachStarted earlier starts (ledger_of w.table) → StartedAs starts after step → EachStarted earlier starts (ledger_of after)
+  starts-step earlier starts old new t stamp h =
       ⊎_elim
       (λ (same : course_at after t ≡ course_at w.table t). older (subst (λ (c : Course). HasStart c stamp) same here))
       (λ (other : StartsNow w step t (course_at after t) ⊎ EndsNow w step t (course_at after t)). ⊎_elim begun ended other)
@@ -171,32 +176,34 @@ module _ (w : World) (seat : Seat) (step : Step) (k : Kept w) (allowed : Allowed
       before : (s x : ℕ) → HasStart (course_at w.table s) x → HasStart (course_in (ledger_of w.table) s) x
       before s x = subst (λ (f : ℕ → Course). HasStart (f s) x) (sym (course_in_ledger w.table))
 
-      older : HasStart (course_at w.table t) stamp → IsStarted at_once starts (ledger_of after) t stamp
-      older was = started-stays w after k grown at_once starts (old t stamp (before t stamp was))
+      older : HasStart (course_at w.table t) stamp → IsStarted earlier starts (ledger_of after) t stamp
+      older was = started-stays w after k grown earlier starts (old t stamp (before t stamp was))
 
-      begun : StartsNow w step t (course_at after t) → IsStarted at_once starts (ledger_of after) t stamp
+      begun : StartsNow w step t (course_at after t) → IsStarted earlier starts (ledger_of after) t stamp
       begun (row, is, course) =
           let stands : StandsAt w seat row = (subst (Allowed w seat) is allowed).1.0 in
           let does : DoesAt (ledger_of after) row (λ results. starts row.thread results t) = subst (StartedAs starts after) is new in
           let start : ℕ = start_of (course_at w.table row.thread) in
           let running = before row.thread start (started_as (course_at w.table row.thread) (stands_begun w seat row k stands)) in
           let stamped : last_stamp (marks_at w.table) (joined_at w.table) row ≡ stamp = subst (λ (c : Course). HasStart c stamp) course here in
-          StartedBy row.thread start (start-stays w after k grown row.thread start running) (started-stays w after k grown at_once starts (old row.thread start running))
+          StartedBy row.thread start (start-stays w after k grown row.thread start running) (started-stays w after k grown earlier starts (old row.thread start running))
           does.results does.are does.does
           (behind-stays w after k grown row.thread start (length does.results) stamp
           (subst (IsStampBehind (ledger_of w.table) row.thread start (length does.results)) stamped (stamp-behind w seat row k stands (length does.results) (sym does.count))))
 
-      ended : EndsNow w step t (course_at after t) → IsStarted at_once starts (ledger_of after) t stamp
+      ended : EndsNow w step t (course_at after t) → IsStarted earlier starts (ledger_of after) t stamp
       ended (row, is, thread, course) =
           let stands : StandsAt w seat row = (subst (Allowed w seat) is allowed).1.0 in
           older (start_of_ended (course_at w.table t) row.sync stamp (subst (λ (n : ℕ). course_at w.table n ≢ Unstarted) thread (stands_begun w seat row k stands)) (subst (λ (c : Course). HasStart c stamp) course here))
 
-  pub ends-step : (ends : ℕ → List Result → Type 0) → EachEnded ends (ledger_of w.table) → EndedAs ends after step → EachEnded ends (ledger_of after)
-  ends-step ends old new t sync h =
+  pub ends-step : (over : ℕ → Type 0) (ends : ℕ → List Result → Type 0) → EachEnded over ends (ledger_of w.table) → EndedAs ends after step → EachEnded over ends (ledger_of after)
+  ends-step over ends old new t sync h =
       ⊎_elim
-      (λ (same : course_at after t ≡ course_at w.table t).
-      does-stay w after k grown (record { thread = t; sync = sync }) (ends t) (old t sync (subst (λ (f : ℕ → Course). EndsAt (f t) sync) (sym (course_in_ledger w.table)) (subst (λ (c : Course). EndsAt c sync) same here))))
-      (λ (other : StartsNow w step t (course_at after t) ⊎ EndsNow w step t (course_at after t)). ⊎_elim begun ended other)
+      (λ (same : course_at after t ≡ course_at w.table t). ⊎_elim
+      (λ was. inl was)
+      (λ does. inr (does-stay w after k grown (record { thread = t; sync = sync }) (ends t) does))
+      (old t sync (subst (λ (f : ℕ → Course). EndsAt (f t) sync) (sym (course_in_ledger w.table)) (subst (λ (c : Course). EndsAt c sync) same here))))
+      (λ (other : StartsNow w step t (course_at after t) ⊎ EndsNow w step t (course_at after t)). inr (⊎_elim begun ended other))
       (goes t)
     where
       here : EndsAt (course_at after t) sync
@@ -211,51 +218,100 @@ module _ (w : World) (seat : Seat) (step : Step) (k : Kept w) (allowed : Allowed
           subst (λ (r : Row). DoesAt (ledger_of after) r (ends r.thread)) (same_row row (record { thread = t; sync = sync }) thread same) (subst (EndedAs ends after) is new)
 
 -- A SCHEDULE of such steps
-acts-along : (at_once : ℕ → Type 0) (acts : Acts) (w v : World) (steps : List (Seat × Step)) → Kept w → EachStarted at_once acts.starts (ledger_of w.table) → EachEnded acts.ends (ledger_of w.table) → Plays w steps v → EachStepsAs acts w steps
-    → EachStarted at_once acts.starts (ledger_of v.table) × EachEnded acts.ends (ledger_of v.table)
-acts-along at_once acts w v [] k started ended plays each = subst (λ (z : World). EachStarted at_once acts.starts (ledger_of z.table) × EachEnded acts.ends (ledger_of z.table)) (sym plays) (started, ended)
-acts-along at_once acts w v (s ∷ steps) k started ended plays each =
-    acts-along at_once acts (after_step w s.0 s.1) v steps (kept_step w s.0 s.1 k plays.0)
-    (starts-step w s.0 s.1 k plays.0 at_once acts.starts started each.0.starts) (ends-step w s.0 s.1 k plays.0 acts.ends ended each.0.ends) plays.1 each.1
+acts-along : (earlier : ℕ → ℕ → Type 0) (over : ℕ → Type 0) (acts : Acts) (w v : World) (steps : List (Seat × Step)) → Kept w → EachStarted earlier acts.starts (ledger_of w.table) → EachEnded over acts.ends (ledger_of w.table) → Plays w steps v → EachStepsAs acts w steps
+    → EachStarted earlier acts.starts (ledger_of v.table) × EachEnded over acts.ends (ledger_of v.table)
+acts-along earlier over acts w v [] k started ended plays each = subst (λ (z : World). EachStarted earlier acts.starts (ledger_of z.table) × EachEnded over acts.ends (ledger_of z.table)) (sym plays) (started, ended)
+acts-along earlier over acts w v (s ∷ steps) k started ended plays each =
+    acts-along earlier over acts (after_step w s.0 s.1) v steps (kept_step w s.0 s.1 k plays.0)
+    (starts-step w s.0 s.1 k plays.0 earlier acts.starts started each.0.starts) (ends-step w s.0 s.1 k plays.0 over acts.ends ended each.0.ends) plays.1 each.1
 
 opens-along : (acts : Acts) (w : World) (steps : List (Seat × Step)) → EachStepsAs acts w steps → EachOpenedAs acts.offers w steps
 opens-along acts w [] each = tt
 opens-along acts w (s ∷ steps) each = (each.0.opens, opens-along acts (after_step w s.0 s.1) steps each.1)
 
+-- WHERE A TABLE BEGINS, the threads are where its opening says
+start_so : (l : Life) (stamp x : ℕ) → HasStart (course_for l stamp) x → (l ≢ life.Unstarted) × (stamp ≡ x)
+start_so life.Unstarted stamp x h = absurd h
+start_so life.Running stamp x h = ((λ e. let bad : life.Running ≡ life.Unstarted = e in cc), h)
+start_so life.Ended stamp x h = ((λ e. let bad : life.Ended ≡ life.Unstarted = e in cc), h)
+
+end_so : (l : Life) (stamp g : ℕ) → EndsAt (course_for l stamp) g → (l ≡ life.Ended) × (g ≡ 0)
+end_so life.Unstarted stamp g h = absurd h
+end_so life.Running stamp g h = absurd h
+end_so life.Ended stamp g h = (refl, sym h)
+
+module _ (o : Opening) (rows seats : ℕ) (w : World) (low : greatest o ≤ 4294967295) (b : Begins o rows seats w) where
+  -- those that the table has not have not started there either
+  pub first_course_at : (t : ℕ) → course_at w.table t ≡ course_for (thread_in o t).0 (thread_in o t).1
+  first_course_at t = ⊎_elim
+      (λ (h : t < w.table.threads). first_course o w.table b.words low t h)
+      (λ (h : w.table.threads ≤ t).
+      course_outside w.table t h
+      ∙ ap (λ (x : Life × ℕ). course_for x.0 x.1) (sym (get_or_past o.threads t (life.Unstarted, 0) (let n = b.threads in omega arith))))
+      (cases_lt t w.table.threads)
+
+  first_course_in : (t : ℕ) → course_in (ledger_of w.table) t ≡ course_for (thread_in o t).0 (thread_in o t).1
+  first_course_in t = ap (λ (f : ℕ → Course). f t) (course_in_ledger w.table) ∙ first_course_at t
+
+  pub starts-begin : (earlier : ℕ → ℕ → Type 0) (starts : ℕ → List Result → ℕ → Type 0) → ((t stamp : ℕ) → HadStarted o t stamp → earlier t stamp) → EachStarted earlier starts (ledger_of w.table)
+  starts-begin earlier starts so t stamp h =
+      StartedBefore (so t stamp (start_so (thread_in o t).0 (thread_in o t).1 stamp (subst (λ (c : Course). HasStart c stamp) (first_course_in t) h)))
+
+  pub ends-begin : (over : ℕ → Type 0) (ends : ℕ → List Result → Type 0) → ((t : ℕ) → HadEnded o t → over t) → EachEnded over ends (ledger_of w.table)
+  ends-begin over ends so t g h =
+      let e = end_so (thread_in o t).0 (thread_in o t).1 g (subst (λ (c : Course). EndsAt c g) (first_course_in t) h) in
+      inl (so t e.0, e.1)
+
+-- and in a first table those that do not wait have started, with no stamp
+pub first_started : (threads later t stamp : ℕ) → HadStarted (start_opening threads later) t stamp → (t < threads) × (waits later t ≡ false) × (stamp ≡ 0)
+first_started threads later t stamp h = ⊎_elim
+    (λ (below : t < threads).
+    let is = first_thread threads later t below in
+    let so : (first_life later t).0 ≢ life.Unstarted = λ e. h.0 (ap (λ (x : Life × ℕ). x.0) is ∙ e) in
+    (below, free (waits later t) so, sym h.1 ∙ ap (λ (x : Life × ℕ). x.1) is))
+    (λ (above : threads ≤ t). absurd (h.0 (ap (λ (x : Life × ℕ). x.0) (get_or_past (start_opening threads later).threads t (life.Unstarted, 0) (let n = start_threads threads later in omega arith)))))
+    (cases_lt t threads)
+  where
+    free : (b : Bool) → cond b life.Unstarted life.Running ≢ life.Unstarted → b ≡ false
+    free true so = absurd (so refl)
+    free false so = refl
+
+pub first_unended : (threads later t : ℕ) → HadEnded (start_opening threads later) t → ⊥
+first_unended threads later t h = ⊎_elim
+    (λ (below : t < threads). running (waits later t) (sym (ap (λ (x : Life × ℕ). x.0) (first_thread threads later t below)) ∙ h))
+    (λ (above : threads ≤ t).
+    let none : (thread_in (start_opening threads later) t).0 ≡ life.Unstarted = ap (λ (x : Life × ℕ). x.0) (get_or_past (start_opening threads later).threads t (life.Unstarted, 0) (let n = start_threads threads later in omega arith)) in
+    let bad : life.Unstarted ≡ life.Ended = sym none ∙ h in cc)
+    (cases_lt t threads)
+  where
+    running : (b : Bool) → cond b life.Unstarted life.Running ≡ life.Ended → ⊥
+    running true e = let bad : life.Unstarted ≡ life.Ended = e in cc
+    running false e = let bad : life.Running ≡ life.Ended = e in cc
+
 module _ (threads rows seats later : ℕ) where
-  first-course : (t : ℕ) → (course_in (ledger_of (start_world threads rows seats later).table) t ≡ Unstarted) ⊎ ((t < threads) × (waits later t ≡ false) × (course_in (ledger_of (start_world threads rows seats later).table) t ≡ Running 0))
-  unfolding start_world
-  first-course t = ⊎_elim
-      (λ (below : t < threads). by (waits later t) refl below)
-      (λ (above : threads ≤ t). inl (ap (λ (f : ℕ → Course). f t) (course_in_ledger (start_world threads rows seats later).table) ∙ course_outside (start_world threads rows seats later).table t above))
-      (cases_lt t threads)
-    where
-      by : (b : Bool) → waits later t ≡ b → t < threads → (course_in (ledger_of (start_world threads rows seats later).table) t ≡ Unstarted) ⊎ ((t < threads) × (waits later t ≡ false) × (course_in (ledger_of (start_world threads rows seats later).table) t ≡ Running 0))
-      by true e below = inl (ap (λ (f : ℕ → Course). f t) (course_in_ledger (start_world threads rows seats later).table) ∙ start_course threads rows later t below ∙ ap (λ (b : Bool). cond b Unstarted (Running 0)) e)
-      by false e below = inr (below, e, ap (λ (f : ℕ → Course). f t) (course_in_ledger (start_world threads rows seats later).table) ∙ start_course threads rows later t below ∙ ap (λ (b : Bool). cond b Unstarted (Running 0)) e)
+  low_start : greatest (start_opening threads later) ≤ 4294967295
+  low_start = let z = start_greatest threads later in omega arith
 
-  pub starts-first : (at_once : ℕ → Type 0) (starts : ℕ → List Result → ℕ → Type 0) → ((t : ℕ) → t < threads → waits later t ≡ false → at_once t) → EachStarted at_once starts (ledger_of (start_world threads rows seats later).table)
-  starts-first at_once starts first t stamp h = ⊎_elim
-      (λ none. absurd (subst (λ (c : Course). HasStart c stamp) none h))
-      (λ some. subst (IsStarted at_once starts (ledger_of (start_world threads rows seats later).table) t) (subst (λ (c : Course). HasStart c stamp) some.2 h) (AtOnce (first t some.0 some.1)))
-      (first-course t)
+  pub starts-first : (earlier : ℕ → ℕ → Type 0) (starts : ℕ → List Result → ℕ → Type 0) → ((t : ℕ) → t < threads → waits later t ≡ false → earlier t 0) → EachStarted earlier starts (ledger_of (start_world threads rows seats later).table)
+  starts-first earlier starts first =
+      starts-begin (start_opening threads later) rows seats (start_world threads rows seats later) low_start (start_begins threads rows seats later) earlier starts
+      (λ t stamp h. let so = first_started threads later t stamp h in subst (earlier t) (sym so.2) (first t so.0 so.1))
 
-  pub ends-first : (ends : ℕ → List Result → Type 0) → EachEnded ends (ledger_of (start_world threads rows seats later).table)
-  ends-first ends t g h = ⊎_elim
-      (λ none. absurd (subst (λ (c : Course). EndsAt c g) none h))
-      (λ some. absurd (subst (λ (c : Course). EndsAt c g) some.2 h))
-      (first-course t)
+  pub ends-first : (over : ℕ → Type 0) (ends : ℕ → List Result → Type 0) → EachEnded over ends (ledger_of (start_world threads rows seats later).table)
+  ends-first over ends =
+      ends-begin (start_opening threads later) rows seats (start_world threads rows seats later) low_start (start_begins threads rows seats later) over ends
+      (λ t h. absurd (first_unended threads later t h))
 
   first_opening : (start_world threads rows seats later).table.opening ≡ 0
   unfolding start_world
   first_opening = refl
 
-  pub schedule-acts : (at_once : ℕ → Type 0) (acts : Acts) (steps : List (Seat × Step)) (w : World) → threads ≤ 64 → rows ≤ 1024 → ((t : ℕ) → t < threads → waits later t ≡ false → at_once t)
-      → Plays (start_world threads rows seats later) steps w → EachStepsAs acts (start_world threads rows seats later) steps → ActsAs at_once acts (ledger_of w.table)
-  schedule-acts at_once acts steps w few_threads few_rows first plays each =
+  pub schedule-acts : (before : Before) (acts : Acts) (steps : List (Seat × Step)) (w : World) → threads ≤ 64 → rows ≤ 1024 → before.stamps ≡ 0 → ((t : ℕ) → t < threads → waits later t ≡ false → before.started t 0)
+      → Plays (start_world threads rows seats later) steps w → EachStepsAs acts (start_world threads rows seats later) steps → ActsAs before acts (ledger_of w.table)
+  schedule-acts before acts steps w few_threads few_rows none first plays each =
       let kept = kept_start threads rows seats later few_threads few_rows in
-      let lives = acts-along at_once acts (start_world threads rows seats later) w steps kept (starts-first at_once acts.starts first) (ends-first acts.ends) plays each in record {
-        nothing_before = opening_in_ledger w.table ∙ (grows-schedule (start_world threads rows seats later) w steps kept plays).opening ∙ first_opening;
+      let lives = acts-along before.started before.ended acts (start_world threads rows seats later) w steps kept (starts-first before.started acts.starts first) (ends-first before.ended acts.ends) plays each in record {
+        stamps = opening_in_ledger w.table ∙ (grows-schedule (start_world threads rows seats later) w steps kept plays).opening ∙ first_opening ∙ sym none;
         offers = stands-ledger acts.offers w.table (rows-stand acts.offers threads rows seats later steps w few_threads few_rows plays (opens-along acts (start_world threads rows seats later) steps each));
         starts = lives.0;
         ends = lives.1;

@@ -1,18 +1,16 @@
 -- A world in which a table goes on from an opening is kept: nothing of any row is written, and no stamp is above the opening's.
-use Rattle.std.proofs.Common.{◌≡◌, ◌≢◌, ℕ, zero, suc, ◌+◌, ◌*◌, ◌%◌, ◌^◌, ◌<◌, ◌≤◌, ◌&&◌, Bool, true, false, cond, eqb, eqb-true, List, [], ◌∷◌, length, get_or, replicate, max, sym, refl, ap, ◌∙◌, subst, ⊎_elim, arith, Option, Some, None, is_some}
+use Rattle.std.proofs.Common.{◌≡◌, ◌≢◌, ℕ, zero, suc, ◌+◌, ◌*◌, ◌%◌, ◌^◌, ◌<◌, ◌≤◌, ◌&&◌, true, false, cond, eqb, eqb-true, List, [], ◌∷◌, length, get_or, replicate, max, sym, refl, ap, ◌∙◌, subst, ⊎_elim, arith, Option, Some, None, is_some}
 use Rattle.std.specs.Prelude.{unwrap_or}
 use Rattle.std.specs.List.{fold}
-use Rattle.std.proofs.lemmas.Bool.{cases_Bool, cases_lt, false≢true, true≢false, and_parts, ne_eqb}
+use Rattle.std.proofs.lemmas.Bool.{cases_Bool, cases_lt, false≢true, true≢false, and_parts}
 use Rattle.std.proofs.lemmas.List.{get_or_past, get_or-replicate, length-replicate}
-use Rattle.protocol_values.specs.declared.Binding.{Binding}
 use Rattle.protocol_values.specs.declared.Cell.{Cell}
 use Rattle.protocol_values.specs.declared.Cell.TheVariants.{Fresh}
 use Rattle.protocol_values.specs.declared.Course.{Course}
 use Rattle.protocol_values.specs.declared.Course.TheVariants.{Unstarted, Running, Ended}
-use Rattle.protocol_values.specs.declared.Joined.{Joined}
 use Rattle.protocol_values.specs.declared.NackName.{NackName}
 use Rattle.protocol_values.specs.declared.NackWord.{NackWord}
-use Rattle.protocol_values.specs.declared.NackWord.TheVariants.{Unbound, Bound, Carried}
+use Rattle.protocol_values.specs.declared.NackWord.TheVariants.{Unbound}
 use Rattle.protocol_values.specs.declared.Row.{Row}
 use Rattle.protocol_values.specs.Values.{joined_of}
 use Rattle.protocol_values.specs.Words.{IsCourseInRange, IsNackWordInRange, cell_of, course_of, is_word_for, nack_of}
@@ -106,7 +104,7 @@ module _ (o : Opening) (t : Table) (words : AreFirstWords o t) (room : greatest 
       (λ (e : is_row t r ≡ false). cell_outside t r e)
       (cases_Bool (is_row t r))
 
-  first_says : (n : NackName) → is_nack t n ≡ true → nack_says t n ≡ word_for (state_in o n)
+  pub first_says : (n : NackName) → is_nack t n ≡ true → nack_says t n ≡ word_for (state_in o n)
   first_says n e =
       says_inside t n e
       ∙ ap (λ w. unwrap_or (nack_of w) Unbound) (words.nacks n e)

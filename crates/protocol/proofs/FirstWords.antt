@@ -1,14 +1,12 @@
 -- The words of a table that goes on from an opening, written thread by thread and then nack by nack.
-use Rattle.std.proofs.Common.{◌≡◌, ℕ, ◌+◌, ◌*◌, ◌/◌, ◌%◌, ◌^◌, ◌<◌, ◌≤◌, true, List, length, get_or, set, replicate, sym, ap, ◌∙◌, subst, ⊎_elim, arith}
+use Rattle.std.proofs.Common.{◌≡◌, ℕ, ◌+◌, ◌*◌, ◌/◌, ◌%◌, ◌<◌, true, List, length, get_or, set, replicate, sym, ap, ◌∙◌, ⊎_elim, arith}
 use Rattle.std.proofs.lemmas.Bool.{and_from, cases_eq, lt-ltb}
 use Rattle.std.proofs.lemmas.List.{get_or-set_other, get_or-set_same, length-replicate, length-set}
 use Rattle.protocol_values.specs.declared.NackName.{NackName}
-use Rattle.protocol_values.specs.declared.Row.{Row}
 use Rattle.protocol_values.specs.Words.{course_word, nack_word}
-use Rattle.protocol.specs.declared.opening.NackState.{NackState}
 use Rattle.protocol.specs.declared.opening.NackState.TheVariants as state
-use Rattle.protocol.specs.Openings.{AreFirstWords, Opening, course_for, state_in, table_with, thread_in, word_for}
-use Rattle.protocol.specs.Tables.{course_place, is_nack, is_row, nack_at, nack_place, place_of, thread_len, word_at}
+use Rattle.protocol.specs.Openings.{AreFirstWords, Opening, course_for, table_with, thread_in, word_for}
+use Rattle.protocol.specs.Tables.{course_place, is_nack, nack_at, nack_place, place_of, thread_len, word_at}
 use Rattle.protocol.proofs.Closing.{nack_numbered, numbered}
 use Rattle.protocol.proofs.LedgerLemmas.{zeros}
 use Rattle.protocol.proofs.Places.{course_apart, course_nack_apart, course_place_inside, nack_apart, nack_inside, nack_place_inside, same_course_place, same_nack_place}

@@ -610,6 +610,7 @@ module _ (threads rows : ℕ) (cell : Row → Cell) (offer : Row → ℕ → Opt
         ((commit_of_joined (row_at t b) j.0 j.1).0, in_of_joined (row_at t b) j.0 j.1, involves_own (row_at t b) j.0 j.1);
     stamps = λ c h. record { above = above_in c h; after_start = λ t counts. start_below c t h counts; after_carried = λ s by. carried_below c s h by; next = next_in c h };
     bounded = λ c h. subst (λ n. n ≤ marks.opening + length (commits_of (all_rows threads rows) (joined_by cell) offer)) (sym (named_rows offer h.row h.way c h.is_named).stamp) (l.bounded h.row h.way h.is_joined);
+    starts = l.starts;
     carried = l.carried;
     lived = λ c r h v. l.lived r (open_of c r h v);
   }

@@ -1,8 +1,8 @@
 -- The ledger of a table has what the table reads as; the start is kept; so every schedule's ledger is lawful.
-use Rattle.std.proofs.Common.{◌≡◌, ◌≢◌, ℕ, zero, suc, ◌+◌, ◌-◌, ◌*◌, ◌%◌, ◌^◌, ◌<◌, ◌≤◌, ◌&&◌, max, Bool, eqb, set, length-set, get_or-set_same, get_or-set_other, true, false, cond, ltb, List, [], ◌∷◌, length, get_or, map, replicate, ◌++◌, sym, refl, ap, ◌∙◌, subst, ⊎_elim, arith, Option, Some, None, is_some}
+use Rattle.std.proofs.Common.{◌≡◌, ℕ, zero, suc, ◌+◌, ◌-◌, ◌*◌, ◌%◌, ◌^◌, ◌<◌, ◌≤◌, ◌&&◌, max, Bool, eqb, set, length-set, get_or-set_same, get_or-set_other, true, false, cond, ltb, List, [], ◌∷◌, length, get_or, map, replicate, ◌++◌, sym, refl, ap, ◌∙◌, subst, ⊎_elim, arith, Option, Some, None}
 use Rattle.std.specs.Prelude.{unwrap_or, option_to_list}
 use Rattle.std.specs.List.{fold, range_with_len}
-use Rattle.std.proofs.lemmas.Bool.{cases_eq, cases_Bool, cases_lt, false≢true, true≢false, and_from, and_parts, lt-ltb, ltb-true, ne_eqb}
+use Rattle.std.proofs.lemmas.Bool.{cases_eq, cases_Bool, cases_lt, true≢false, and_from, and_parts, lt-ltb, ltb-true}
 use Rattle.std.proofs.lemmas.List.{get_or_append_left, get_or-append_right, get_or-map, get_or_past, get_or-replicate, length-append, length-replicate, length-map}
 use Rattle.std.proofs.lemmas.List.FromFn.{get_or-map-range_with_len, length-map-range_with_len}
 use Rattle.std.proofs.Math.Nat.{mul-le-mul_right, zero-div}
@@ -10,21 +10,17 @@ use Rattle.protocol_values.specs.declared.Row.{Row}
 use Rattle.protocol_values.specs.declared.NackName.{NackName}
 use Rattle.protocol_values.specs.declared.Joined.{Joined}
 use Rattle.protocol_values.specs.declared.Offer.{Offer}
-use Rattle.protocol_values.specs.declared.Binding.{Binding}
-use Rattle.protocol_values.specs.declared.NackWord.{NackWord}
 use Rattle.protocol_values.specs.declared.NackWord.TheVariants.{Unbound}
 use Rattle.protocol.specs.declared.opening.Life.{Life}
 use Rattle.protocol.specs.declared.opening.Life.TheVariants as life
 use Rattle.protocol.specs.declared.opening.NackState.{NackState}
 use Rattle.protocol.specs.declared.opening.NackState.TheVariants as nack
-use Rattle.protocol_values.specs.declared.Course.{Course}
-use Rattle.protocol_values.specs.declared.Course.TheVariants.{Unstarted, Running, Ended}
+use Rattle.protocol_values.specs.declared.Course.TheVariants.{Unstarted, Running}
 use Rattle.protocol_values.specs.declared.Seat.{Seat}
 use Rattle.protocol_values.specs.declared.Step.{Step}
-use Rattle.protocol_values.specs.declared.Cell.{Cell}
 use Rattle.protocol_values.specs.declared.Cell.TheVariants.{Fresh}
 use Rattle.protocol_values.specs.Words.{course_word, nack_of, nack_word}
-use Rattle.protocol.specs.Tables.{Table, Marks, course_at, course_place, marks_at, start_of, thread_len, place_of, nack_place, is_row, is_nack, all_rows, rows_below, number_of, word_at, nack_at, cell_at, is_fresh, joined_at, count_at, offer_at, nack_says, bound_by, carried_by, binding_at, carried_at}
+use Rattle.protocol.specs.Tables.{Table, Marks, course_at, course_place, marks_at, thread_len, place_of, nack_place, is_row, is_nack, all_rows, rows_below, number_of, word_at, nack_at, cell_at, is_fresh, joined_at, count_at, offer_at, nack_says, bound_by, carried_by, binding_at, carried_at}
 use Rattle.protocol_values.specs.Values.{joined_of}
 use Rattle.protocol.specs.Worlds.{World, start_world, first_holder, holder_at, Plays, waits, with_lives}
 use Rattle.protocol.specs.Ledgers.{course_in, marks_in, Entry, ledger_of, entry_at, no_entry, entry_in, joined_in, offer_in, nack_in, binding_in, carried_in, all_nacks, nacks_below, commits_in, commits_of, rows_in, told_at, told_by, Lawful, IsLawful}
@@ -33,7 +29,7 @@ use Rattle.protocol.specs.Openings.{AreFirstWords, Begins, IsOpening, Opening, c
 use Rattle.protocol.proofs.Places.{block_inside, course_apart, course_nack_apart, course_place_inside, row_inside, same_course_place}
 use Rattle.protocol.proofs.Beginning.{first_binding, first_carried, first_cell, first_course, kept_begins}
 use Rattle.protocol.proofs.Readings.{carried_is, cell_outside, course_outside, offer_none, count_fresh, says_outside}
-use Rattle.protocol.proofs.Keeping.{length_all, length_below, kept_schedule, held_row}
+use Rattle.protocol.proofs.Keeping.{length_all, length_below, kept_schedule}
 use Rattle.protocol.proofs.Lawfulness.{lawful_linked}
 
 -- THE ROW AT A NUMBER
@@ -286,7 +282,7 @@ start_life threads rows later p h = ⊎_elim
     (cases_Bool (waits later p))
 
 -- the opening of a first table
-first_thread : (threads later p : ℕ) → p < threads → thread_in (start_opening threads later) p ≡ first_life later p
+pub first_thread : (threads later p : ℕ) → p < threads → thread_in (start_opening threads later) p ≡ first_life later p
 first_thread threads later p h = get_or-map-range_with_len (first_life later) 0 threads p p (life.Unstarted, 0) h (omega arith)
 
 first_state : (threads later : ℕ) (n : NackName) → state_in (start_opening threads later) n ≡ nack.Unbound
@@ -308,7 +304,7 @@ no_states (suc n) = no_states n
 pub start_greatest : (threads later : ℕ) → greatest (start_opening threads later) ≡ 0
 start_greatest threads later = λ i. max (no_stamps later (range_with_len 0 threads) i) (no_states (threads * 64) i)
 
-start_threads : (threads later : ℕ) → length (start_opening threads later).threads ≡ threads
+pub start_threads : (threads later : ℕ) → length (start_opening threads later).threads ≡ threads
 start_threads threads later = length-map-range_with_len (first_life later) 0 threads
 
 course_first : (b : Bool) → course_word (cond b Unstarted (Running 0)) ≡ course_word (course_for (cond b life.Unstarted life.Running) 0)

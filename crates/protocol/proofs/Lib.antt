@@ -16,6 +16,7 @@ pub mod Loops
 pub mod CommitLemmas
 pub mod Chosen
 pub mod Closing
+pub mod Going
 pub mod FirstWords
 pub mod LedgerReadings
 pub mod StampLemmas

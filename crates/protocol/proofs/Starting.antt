@@ -1,5 +1,5 @@
 -- The state at a beginning is sound.
-use Rattle.std.proofs.Common.{◌≡◌, ℕ, ◌+◌, ◌*◌, ◌<◌, ◌≤◌, List, get_or, length, map, replicate, refl, sym, ap, ◌∙◌, subst, ⊎_elim, Option, None, arith}
+use Rattle.std.proofs.Common.{◌≡◌, ℕ, ◌<◌, ◌≤◌, List, get_or, length, map, replicate, sym, ap, ◌∙◌, subst, ⊎_elim, Option, None, arith}
 use Rattle.std.proofs.lemmas.Bool.{cases_lt}
 use Rattle.std.proofs.lemmas.List.{get_or-replicate, get_or_past, length-map, length-replicate}
 use Rattle.protocol_values.specs.declared.Row.{Row}
@@ -9,7 +9,7 @@ use Rattle.protocol.specs.declared.state.State.{State}
 use Rattle.protocol.specs.Openings.{AreFirstWords, Begins, IsOpening, Opening, greatest, held_first}
 use Rattle.protocol.specs.Tables.{all_rows, cell_at, number_of, names}
 use Rattle.protocol_values.specs.Values.{joined_of}
-use Rattle.protocol.specs.Worlds.{World, holder_at, start_world}
+use Rattle.protocol.specs.Worlds.{World, start_world}
 use Rattle.protocol.specs.Kept.{Kept}
 use Rattle.protocol.specs.States.{world_of, IsSound, Tells}
 use Rattle.protocol.proofs.Beginning.{first_cell}

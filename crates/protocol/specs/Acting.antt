@@ -1,6 +1,6 @@
 -- What threads do by their results: what they offer, whom they start, and when they end; and that the threads of a ledger, or the
 -- steps of a schedule, do so.
-use Rattle.std.specs.Prelude.{◌≡◌, ℕ, zero, suc, ⊤, List, [], ◌∷◌, length}
+use Rattle.std.specs.Prelude.{◌≡◌, ◌⊎◌, ℕ, zero, suc, ⊤, List, [], ◌∷◌, length, Option}
 use Rattle.protocol_values.specs.declared.Commit.{Commit}
 use Rattle.protocol_values.specs.declared.Course.{Course}
 use Rattle.protocol_values.specs.declared.Course.TheVariants.{Unstarted, Running, Ended}
@@ -11,6 +11,7 @@ use Rattle.protocol_values.specs.declared.Step.{Step}
 use Rattle.protocol_values.specs.declared.Step.TheVariants.{Start, Finish}
 use Rattle.protocol_values.specs.Commits.{stamp_of}
 use Rattle.protocol.specs.Ledgers.{HasCommit, Involves, Ledger, course_in, ledger_of}
+use Rattle.protocol.specs.Openings.{HadEnded, HadStarted, Opening, greatest}
 use Rattle.protocol.specs.Standing.{AreResults, EachOffersAs, OpenedAs, Result, SomeStands, Stands}
 use Rattle.protocol.specs.Tables.{Table}
 use Rattle.protocol.specs.Worlds.{World, after_step}
@@ -39,7 +40,7 @@ pub record Acts : Type 1 where
   pub ends : ℕ → List Result → Type 0
 
 -- what threads do for which values stand
-abbrev pub acts_in : {M : Type 0} → Stands M → List M → Acts
+abbrev pub acts_in : {M : Type 0} → Stands M → List (Option M) → Acts
 acts_in {M} stands first = record {
   offers = SomeStands stands first;
   starts = λ t results other. (value : M) × stands.starts first value t results other;
@@ -58,25 +59,37 @@ abbrev pub IsStampBehind : Ledger → ℕ → ℕ → ℕ → ℕ → Type 0
 IsStampBehind l t start zero stamp = stamp ≡ start
 IsStampBehind l t start (suc g) stamp = (c : Commit) × HasCommit l c × Involves c (record { thread = t; sync = g }) × (stamp_of c ≡ stamp)
 
--- A thread has started with this stamp: at once, before all commits, or by another that has started, with the last stamp of that
--- one where it does so.
-pub data IsStarted (at_once : ℕ → Type 0) (starts : ℕ → List Result → ℕ → Type 0) (l : Ledger) : ℕ → ℕ → Type 0 where
-  AtOnce : {t : ℕ} (first : at_once t) → IsStarted at_once starts l t 0
-  StartedBy : {t stamp : ℕ} (s start : ℕ) (running : HasStart (course_in l s) start) (started : IsStarted at_once starts l s start)
-      (results : List Result) (are : AreResults l s results) (does : starts s results t) (behind : IsStampBehind l s start (length results) stamp) → IsStarted at_once starts l t stamp
+-- WHAT WENT BEFORE a ledger's table: which threads had started, with which last stamps, which of them had ended, and the greatest
+-- stamp.
+pub record Before : Type 1 where
+  pub started : ℕ → ℕ → Type 0
+  pub ended : ℕ → Type 0
+  pub stamps : ℕ
 
-abbrev pub EachStarted : (ℕ → Type 0) → (ℕ → List Result → ℕ → Type 0) → Ledger → Type 0
-EachStarted at_once starts l = (t start : ℕ) → HasStart (course_in l t) start → IsStarted at_once starts l t start
+-- as an opening tells it
+abbrev pub before_of : Opening → Before
+before_of o = record { started = HadStarted o; ended = HadEnded o; stamps = greatest o }
 
-abbrev pub EachEnded : (ℕ → List Result → Type 0) → Ledger → Type 0
-EachEnded ends l = (t g : ℕ) → EndsAt (course_in l t) g → DoesAt l (record { thread = t; sync = g }) (ends t)
+-- A thread has started with this stamp: before the table, or by another that has started, with the last stamp of that one where it
+-- does so.
+pub data IsStarted (before : ℕ → ℕ → Type 0) (starts : ℕ → List Result → ℕ → Type 0) (l : Ledger) : ℕ → ℕ → Type 0 where
+  StartedBefore : {t stamp : ℕ} (first : before t stamp) → IsStarted before starts l t stamp
+  StartedBy : {t stamp : ℕ} (s start : ℕ) (running : HasStart (course_in l s) start) (started : IsStarted before starts l s start)
+      (results : List Result) (are : AreResults l s results) (does : starts s results t) (behind : IsStampBehind l s start (length results) stamp) → IsStarted before starts l t stamp
 
--- THE THREADS OF A LEDGER do so, where nothing went before and these start at once
-pub record ActsAs (at_once : ℕ → Type 0) (acts : Acts) (l : Ledger) : Type 0 where
-  pub nothing_before : l.opening ≡ 0
+abbrev pub EachStarted : (ℕ → ℕ → Type 0) → (ℕ → List Result → ℕ → Type 0) → Ledger → Type 0
+EachStarted before starts l = (t start : ℕ) → HasStart (course_in l t) start → IsStarted before starts l t start
+
+-- it has ended where its results say so, or had before all rows of the table
+abbrev pub EachEnded : (ℕ → Type 0) → (ℕ → List Result → Type 0) → Ledger → Type 0
+EachEnded before ends l = (t g : ℕ) → EndsAt (course_in l t) g → (before t × (g ≡ 0)) ⊎ DoesAt l (record { thread = t; sync = g }) (ends t)
+
+-- THE THREADS OF A LEDGER do so, after what went before
+pub record ActsAs (before : Before) (acts : Acts) (l : Ledger) : Type 0 where
+  pub stamps : l.opening ≡ before.stamps
   pub offers : EachOffersAs acts.offers l
-  pub starts : EachStarted at_once acts.starts l
-  pub ends : EachEnded acts.ends l
+  pub starts : EachStarted before.started acts.starts l
+  pub ends : EachEnded before.ended acts.ends l
 
 -- SCHEDULES
 

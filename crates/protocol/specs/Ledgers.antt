@@ -297,6 +297,7 @@ pub record Lawful (rows : List Row) (joined : Row → Option Joined) (offer : Ro
   pub stamps : (c : Commit) → IsIn joined offer c → IsStampDue joined offer marks c
   -- no stamp exceeds the greatest of what went before by more than the number of commits
   pub bounded : (c : Commit) → IsIn joined offer c → stamp_of c ≤ marks.opening + length (commits_of rows joined offer)
+  pub starts : (t : ℕ) → start_of (marks.course t) ≤ marks.opening + length (commits_of rows joined offer)
   -- nor does that of a nack that an earlier table settled exceed it
   pub carried : (n : NackName) (stamp : ℕ) → marks.carried n ≡ Some stamp → stamp ≤ marks.opening
   -- no thread has a commit that has not started, nor one at the sync of its end or behind it

@@ -99,6 +99,10 @@ pub record IsOpening (o : Opening) (rows : ℕ) : Type 0 where
   -- the stamps to come have room in their words
   pub room : greatest o + length o.threads * rows ≤ 4294967295
 
+-- of a ledger of 1 to 64 threads: a table of any number of rows for which the stamps to come have room
+abbrev pub LeadsOn : Ledger → Opening → Type 0
+LeadsOn l o = (rows : ℕ) → 1 ≤ l.threads → l.threads ≤ 64 → greatest o + l.threads * rows ≤ 4294967295 → IsOpening o rows
+
 -- WHERE A TABLE GOES ON FROM AN OPENING
 
 abbrev pub thread_in : Opening → ℕ → Life × ℕ
@@ -106,6 +110,13 @@ thread_in o t = slice_index_or o.threads t (Unstarted, 0)
 
 abbrev pub state_in : Opening → NackName → NackState
 state_in o n = slice_index_or o.nacks (n.thread * 64 + n.k) Unbound
+
+-- who had started, with which last stamp, and who had ended
+abbrev pub HadStarted : Opening → ℕ → ℕ → Type 0
+HadStarted o t stamp = ((thread_in o t).0 ≢ Unstarted) × ((thread_in o t).1 ≡ stamp)
+
+abbrev pub HadEnded : Opening → ℕ → Type 0
+HadEnded o t = (thread_in o t).0 ≡ Ended
 
 -- where a thread is on its course there: its start stamp is its last one, and one that has ended did so before its row 0
 abbrev pub course_for : Life → ℕ → Course

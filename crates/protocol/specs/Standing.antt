@@ -74,26 +74,26 @@ EachOffersAs stands l = (r : Row) (n : ℕ) (o : Offer) → offer_in l r n ≡ S
 abbrev pub EachStands : (ℕ → List Result → List Offer → List ℕ → Type 0) → Table → Type 0
 EachStands stands t = (r : Row) → is_fresh (cell_at t r) ≡ false → OffersAs stands (ledger_of t) r
 
--- VALUES THAT STAND FOR THREADS. Where the values `first` stood for them at first, thread by thread, this value stands for the
--- thread after these results,
+-- VALUES THAT STAND FOR THREADS. Where the values `first` stood for them at first, thread by thread, and None for one that had
+-- ended, this value stands for the thread after these results,
 pub record Stands (M : Type 0) : Type 1 where
   -- whatever it does there,
-  pub follows : List M → M → ℕ → List Result → Type 0
+  pub follows : List (Option M) → M → ℕ → List Result → Type 0
   -- and offers these, with these nacks of its scopes,
-  pub offers : List M → M → ℕ → List Result → List Offer → List ℕ → Type 0
+  pub offers : List (Option M) → M → ℕ → List Result → List Offer → List ℕ → Type 0
   -- and has started the other thread behind the last of them, and not before,
-  pub starts : List M → M → ℕ → List Result → ℕ → Type 0
+  pub starts : List (Option M) → M → ℕ → List Result → ℕ → Type 0
   -- and has ended
-  pub ends : List M → M → ℕ → List Result → Type 0
+  pub ends : List (Option M) → M → ℕ → List Result → Type 0
 
 module _ {M : Type 0} (stands : Stands M) where
   -- some value stands so
-  abbrev pub SomeStands : List M → ℕ → List Result → List Offer → List ℕ → Type 0
+  abbrev pub SomeStands : List (Option M) → ℕ → List Result → List Offer → List ℕ → Type 0
   SomeStands first t results offers nacks = (value : M) × stands.offers first value t results offers nacks
 
   -- what the value that comes out with a taken row, joined as j, is still to be given: it stands after the earlier results of
   -- the row's thread, of which the last one is left, and offered what the row took
-  pub record IsLeft (first : List M) (value : M) (r : Row) (own : ℕ) (results : List Result) (got : Message) : Type 0 where
+  pub record IsLeft (first : List (Option M)) (value : M) (r : Row) (own : ℕ) (results : List Result) (got : Message) : Type 0 where
     pub earlier : List Result
     pub whole : results ≡ earlier ++ (own, got) ∷ []
     pub count : length earlier ≡ r.sync

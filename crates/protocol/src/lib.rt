@@ -2,7 +2,8 @@
 #![tactic(auto)]
 
 ghost use Rattle.protocol.specs.Growing.{CommitsStay, SchedulesAreLawful, TablesGrow};
-ghost use Rattle.protocol.specs.Openings.{Begins, start_opening};
+ghost use Rattle.protocol.specs.Ledgers.{IsLawful, ledger_of};
+ghost use Rattle.protocol.specs.Openings.{Begins, IsOpening, start_opening};
 ghost use Rattle.protocol.specs.Standing.{HaveResults, OneResults};
 ghost use Rattle.protocol.specs.Worlds.{Plays, IsRefused, start_world, World};
 ghost use Rattle.protocol_values.specs.declared.Step.{Step};
@@ -45,6 +46,16 @@ pub enum ProtoFault {
 /// go on. A first table goes on from one in which threads wait or run with no stamp, and no nack is bound.
 pub fn every_schedule_is_lawful()
     ensures lawful { SchedulesAreLawful }
+    ensures at_first { (threads rows seats later : ℕ) (steps : List (Seat × Step)) (w : World)
+        → threads ≤ 64
+        → rows ≤ 1024
+        → Plays (start_world threads rows seats later) steps w
+        → IsLawful (ledger_of w.table) }
+    ensures opens { (threads rows later : ℕ)
+        → 1 ≤ threads
+        → threads ≤ 64
+        → rows ≤ 1024
+        → IsOpening (start_opening threads later) rows }
     ensures starts { (threads rows seats later : ℕ)
         → Begins (start_opening threads later) rows seats (start_world threads rows seats later) }
 {}

@@ -1,12 +1,12 @@
 //! What a ledger tells of its end: each thread's life and last stamp, and what became of each nack.
 
-ghost use Rattle.std.specs.Prelude.{◌≡◌, ◌↔◌, IfOk, IsTrue};
-ghost use Rattle.protocol.specs.Ledgers.{Involves, Takes};
+ghost use Rattle.std.specs.Prelude.{◌≡◌, ◌+◌, ◌*◌, ◌<◌, ◌≤◌, ◌↔◌, IfOk, IsTrue};
+ghost use Rattle.protocol.specs.Ledgers.{Involves, IsLawful, Takes};
 ghost use Rattle.protocol_values.specs.Commits.{stamp_of};
-ghost use Rattle.protocol.specs.Openings.{IsLastStamp, IsOpening, TellsEnd, TellsNack, TellsNacks, TellsThreads, course_for, greatest, life_of, opening_of, stamp_in, word_for};
+ghost use Rattle.protocol.specs.Openings.{IsLastStamp, IsOpening, LeadsOn, TellsEnd, TellsNack, TellsNacks, TellsThreads, course_for, first_life, greatest, life_of, opening_of, stamp_in, start_opening, word_for};
 
 use crate::ledger::Ledger;
-use crate::sheet::{NACKS, encloses, start_of};
+use crate::sheet::{NACKS, encloses, start_of, waits};
 use protocol_values::{Commit, Course, NackName, NackWord, Row};
 use std::alloc::{AllocError, Global};
 
@@ -41,6 +41,22 @@ pub struct Opening {
 }
 
 impl Opening {
+    /// The opening of a first table of at most 64 threads: those of the mask `later` wait to be started, all others run
+    /// with no stamp, and no nack is bound.
+    pub fn first(alloc: Global, threads: u8, later: u64) -> Result<Opening, AllocError>
+        requires { threads ≤ 64 }
+        ensures { IfOk result (λ o. opening_of o ≡ start_opening threads later) }
+    {
+        let mut lives = Vec::with_capacity(alloc, usize::from(threads))?;
+        for thread in 0..threads {
+            lives.push(first_life(later, thread))?;
+        }
+        Ok(Opening {
+            threads: lives,
+            nacks: vec![in alloc; NackState::Unbound; usize::from(threads) * NACKS]?,
+        })
+    }
+
     /// The greatest stamp, 0 where there is none.
     pub fn greatest(&self) -> u32
         ensures { result ≡ greatest (opening_of self.now) }
@@ -61,8 +77,8 @@ impl Opening {
     }
 
     /// Whether a table of so many rows a thread can go on from it: it has 1 to 64 threads, and 64 nacks for each, no
-    /// thread that waits to be started has a stamp, each enabled nack has one, and the greatest stamp plus the number
-    /// of rows is at most 4294967295.
+    /// thread that waits to be started has a stamp, each enabled nack has one, and the greatest stamp plus the
+    /// number of all threads' rows is at most 4294967295.
     pub fn leads_on(&self, rows: u16) -> bool
         ensures { IsTrue result ↔ IsOpening (opening_of self.now) rows }
     {
@@ -122,9 +138,11 @@ impl Life {
 }
 
 impl Ledger {
-    /// What the ledger tells of its end.
+    /// What the ledger tells of its end. A table can go on from it while the stamps to come have room.
     pub fn opening(&self, alloc: Global) -> Result<Opening, AllocError>
-        ensures { IfOk result (λ o. TellsEnd self.now o.threads.items o.nacks.items) }
+        ensures end { IfOk result (λ o. TellsEnd self.now o.threads.items o.nacks.items) }
+        ensures greatest { IfOk result (λ o. IsLawful self.now → greatest (opening_of o) ≤ self.now.opening + self.now.threads * self.now.rows) }
+        ensures leads_on { IfOk result (λ o. IsLawful self.now → LeadsOn self.now (opening_of o)) }
     {
         Ok(Opening {
             threads: self.ends(alloc)?,
@@ -233,6 +251,18 @@ fn taken(commit: Commit, row: Row) -> u8
             }
         }
         Commit::Alone { at, .. } => at.1,
+    }
+}
+
+// the life of a thread in a first table, and its stamp
+fn first_life(later: u64, thread: u8) -> (Life, u32)
+    requires { thread < 64 }
+    ensures { result ≡ first_life later thread }
+{
+    if waits(later, usize::from(thread)) {
+        (Life::Unstarted, 0)
+    } else {
+        (Life::Running, 0)
     }
 }
 

@@ -3,8 +3,8 @@
 /// A value that stands for a thread. It lies in the thread's slot from when its row is opened to when that row
 /// is taken.
 ///
-/// `stands` says of a value, where the values `first` stood for the threads at first, thread by thread, that it stands
-/// for this thread after these results (`follows`), what it offers there, with the nacks of which numbers for its scopes
+/// `stands` says of a value, where the values `first` stood for the threads at first, thread by thread, and none for one
+/// that had ended, that it stands for this thread after these results (`follows`), what it offers there, with the nacks of which numbers for its scopes
 /// (`offers`), that it has started another thread behind the last of them (`starts`), and that it has ended (`ends`).
 pub trait Resident {
     ghost use Rattle.std.specs.Prelude.{Bool};

@@ -1,6 +1,4 @@
 use Rattle.std.proofs.Common.{◌≡◌, ◌+◌, ◌*◌, ◌/◌, ◌%◌, ◌<◌, ◌∙◌, ℕ, List, length, get_or, replicate, rules, set, ap, arith, subst, sym}
-use Rattle.protocol_values.specs.declared.Course.{Course}
-use Rattle.protocol_values.specs.declared.NackWord.{NackWord}
 use Rattle.protocol_values.specs.Words.{course_word, nack_word}
 use Rattle.protocol.specs.declared.opening.Life.{Life}
 use Rattle.protocol.specs.declared.opening.Life.TheVariants.{Unstarted}

@@ -1,4 +1,4 @@
-use Rattle.std.proofs.Common.{subst, ◌∙◌, rules, IsPermutation}
+use Rattle.std.proofs.Common.{subst, rules, IsPermutation}
 use Rattle.std.specs.Prelude.{Contains, ◌↔◌}
 use Rattle.std.proofs.lemmas.List.Sorted.{Contains-permutation, IsPermutation-sym, answers_always}
 use Rattle.protocol_values.specs.Commits.{order_of}

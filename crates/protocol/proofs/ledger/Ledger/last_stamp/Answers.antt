@@ -1,4 +1,4 @@
-use Rattle.std.proofs.Common.{rules, ◌≡◌, ◌∙◌, ◌+◌, ◌-◌, ◌<◌, ◌≤◌, ◌/◌, ℕ, ap, arith, inl, inr, refl, subst, sym}
+use Rattle.std.proofs.Common.{rules, ◌≡◌, ◌∙◌, ◌+◌, ◌-◌, ◌/◌, ap, arith, inl, inr, refl, subst, sym}
 use Rattle.protocol.specs.Ledgers.{IsLawful, Ledger, course_in, ledger_of}
 use Rattle.protocol.specs.States.{table_of}
 use Rattle.protocol.specs.Tables.{start_of}

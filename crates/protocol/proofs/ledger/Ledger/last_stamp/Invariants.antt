@@ -1,4 +1,4 @@
-use Rattle.std.proofs.Common.{◌-◌, ◌≤◌, ℕ}
+use Rattle.std.proofs.Common.{◌-◌, ◌≤◌}
 use Rattle.protocol.proofs.Closing.{IsLastBefore, NoneFrom}
 use Rattle.protocol.proofs.ledger.Ledger.last_stamp.Given as goal
 

@@ -1,4 +1,4 @@
-use Rattle.std.proofs.Common.{◌≡◌, ◌∙◌, ◌<◌, ◌≤◌, Some, inl, inr, ap, arith, subst, sym}
+use Rattle.std.proofs.Common.{◌∙◌, Some, inl, inr, ap, arith, subst, sym}
 use Rattle.protocol.specs.Ledgers.{IsLawful, Ledger, offer_in}
 use Rattle.protocol.specs.States.{table_of}
 use Rattle.protocol.specs.Tables.{bound_row}

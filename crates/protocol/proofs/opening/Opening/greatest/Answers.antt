@@ -1,5 +1,5 @@
 -- The greatest of the threads' stamps, and of those of the nacks.
-use Rattle.std.proofs.Common.{◌≡◌, ◌∙◌, ℕ, List, max, ap, rules, tests, sym}
+use Rattle.std.proofs.Common.{◌≡◌, ◌∙◌, ℕ, List, max, ap, rules, tests}
 use Rattle.std.specs.Prelude.{unwrap_or}
 use Rattle.std.specs.List.{fold}
 use Rattle.std.proofs.lemmas.Iterator.{YieldsList-from_map, YieldsList-from_slice}
