@@ -23,7 +23,8 @@ use Rattle.protocol_values.specs.declared.Cell.{Cell}
 use Rattle.protocol_values.specs.declared.Cell.TheVariants.{Fresh, Waiting, Claimed, Synched, Taken}
 use Rattle.protocol.specs.Tables.{Table, place_of, is_row, is_fresh, cell_at, joined_at, names, is_partner, word_at, row_eq, synched_of, is_taken, course_at}
 use Rattle.protocol_values.specs.Values.{joined_of, next_row}
-use Rattle.protocol.specs.Worlds.{World, waits, Condition, after_step, namer_at, joined_with, mirrored, with_seal, with_table, with_cell, with_word, holder_at, with_take, Allowed, IsAlive, first_row, last_holder}
+use Rattle.protocol.specs.Openings.{Opening, greatest}
+use Rattle.protocol.specs.Worlds.{World, Condition, after_step, namer_at, joined_with, mirrored, with_seal, with_table, with_cell, with_word, holder_at, with_take, Allowed, IsAlive, first_row, last_holder}
 use Rattle.protocol.specs.Kept.{Kept}
 use Rattle.protocol.proofs.RowLemmas.{row_ne, row_cases, row_eq-refl, same_row, put, put_other, put_same}
 use Rattle.protocol.proofs.Naming.{namer_none, namer_is}
@@ -36,7 +37,7 @@ use Rattle.cell_table.specs.declared.view.Shape.{Shape}
 use Rattle.cell_table.specs.declared.view.Stage.{Stage}
 use Rattle.cell_table.specs.declared.view.Stage.TheVariants.{Resting, Claims, Joins, Aside}
 use Rattle.cell_table.specs.declared.view.Seen.{Seen}
-use Rattle.cell_table.specs.Sight.{Has, CanJoin, Coherent, IsResult, IsStand, SawEnded, see_cell, see_held}
+use Rattle.cell_table.specs.Sight.{AreSettled, Has, CanJoin, Coherent, IsResult, IsStand, SawEnded, see_cell, see_held}
 use Rattle.protocol.specs.Standing.{AreResults, IsLeft, Result, Stands}
 use Rattle.protocol.specs.Ledgers.{joined_in as ledger_joined, ledger_of}
 use Rattle.protocol.proofs.LedgerLemmas.{joined_in_ledger, lawful_ledger}
@@ -45,8 +46,8 @@ use Rattle.protocol.proofs.Results.{joined-results}
 use Rattle.protocol.proofs.Standing.{results-stay}
 use Rattle.cell_table.specs.Nacks.{CanGrant}
 use Rattle.cell_table.proofs.Following.{knows_follows, knows_owned, hold_more, stand_behind, taken_world, not_held, not_last, no_end_taken, goes_on, last_held_now, next_unopened, follows_taken, bindings_after, next_unbound, taken_at, next_held, alive_unseen, stand_ends}
-use Rattle.cell_table.specs.Views.{Knows, SeesEnd, Staged, IsClaimer, behind_last, at_stage, did, took, took_with, saw, read_word, drafted_word, turned, word_drafted}
-use Rattle.cell_table.proofs.Truths.{offers_known, joined_known, granted_known, agrees, coherent}
+use Rattle.cell_table.specs.Views.{Knows, RunsIn, SeesEnd, Staged, opening_by, opening_in, IsClaimer, behind_last, at_stage, did, took, took_with, saw, read_word, drafted_word, turned, word_drafted}
+use Rattle.cell_table.proofs.Truths.{offers_known, joined_known, granted_known, agrees, with_itself}
 use Rattle.cell_table.specs.Rule.{Housed, IsHome, IsReady, IsToBegin, Keeps, beginning}
 use Rattle.cell_table.specs.Told.{Agrees, AgreesWithItself, ComesOut, GoesHome, Inside, At, began, has_begun, cell_read, looked, has_read, glanced, drafted, opened, yielded, claimed, joined, granted, settled, taken, sealed}
 use Rattle.cell_table.proofs.Others.{knows_begun, learn_cell, learn_word, others_cell, own_cell, cell_now, cell_else, others_draft, own_draft}
@@ -58,7 +59,7 @@ use Rattle.cell_table.proofs.Standing.{comes_out, goes_home, sees_last}
 
 -- the table with these words
 abbrev pub sized : {M : Type 0} → Shape M → List ℕ → Table
-sized shape ws = record { threads = shape.threads; rows = shape.rows; words = ws; opening = 0 }
+sized shape ws = record { threads = shape.threads; rows = shape.rows; words = ws; opening = greatest (opening_in shape) }
 
 -- the word of a Waiting cell reads as one
 waiting_read : cell_read (cell_word Waiting) ≡ Waiting
@@ -218,7 +219,7 @@ module _ {M : Type 0} (stands : Stands M) where
           let knows = k.knows i u e of_table in
           ⊎_elim
           (λ (held : Has u.seen.held q). (knows.mine q held).0)
-          (λ (deals : (q.thread < u.threads) × (waits u.later q.thread ≡ false) × (u.dealt ≤ q.thread % u.passes)).
+          (λ (deals : (q.thread < u.threads) × RunsIn (opening_by u) q.thread × (u.dealt ≤ q.thread % u.passes)).
           let mine = knows.undealt q.thread (subst (λ (n : ℕ). q.thread < n) knows.threads deals.0) deals.1 (subst (λ (n : ℕ). u.dealt ≤ q.thread % n) knows.passes deals.2) in
           ap k.owner (same_row q (first_row q.thread) refl b.0) ∙ mine.0)
           b.1
@@ -499,7 +500,7 @@ module _ {M : Type 0} (stands : Stands M) where
           learnt shape id place me r 0 threads rows inside (omega arith) here s k view (saw r c me.0) refl refl refl refl (saw_stays r c me.0) (saw_begins shape id place me r 0 threads rows inside (omega arith) here s k view c) (learn_cell k.world k.owner id me.0 r c knows read),
           λ q at.
               let there = seen_there k.world k.owner id me r q c (world_kept stands shape s k) knows read (one_word shape id place me r 0 threads rows inside (omega arith) here q 0 (omega arith) at.0 at.1).0 in
-              (there.0, there.1, coherent k.world k.owner id (saw r c me.0) (learn_cell k.world k.owner id me.0 r c knows read) (world_kept stands shape s k), is_cell shape id place me r 0 threads rows inside (omega arith) here s k view refl),
+              (there.0, there.1, with_itself k.world k.owner id (saw r c me.0) (learn_cell k.world k.owner id me.0 r c knows read) (world_kept stands shape s k), is_cell shape id place me r 0 threads rows inside (omega arith) here s k view refl),
         )
 
     -- whoever learns nothing sees that what he has seen is of one table
@@ -510,7 +511,7 @@ module _ {M : Type 0} (stands : Stands M) where
           keeps,
           tt,
           learnt shape id place me r 0 threads rows inside (omega arith) here s k view me.0 refl refl refl refl (refl, refl, refl, refl, refl, λ q h. inl h) (λ q h. h) knows,
-          (refl, coherent k.world k.owner id me.0 knows (world_kept stands shape s k)),
+          (refl, with_itself k.world k.owner id me.0 knows (world_kept stands shape s k)),
         )
 
     pub read_allowed : (p : ℕ) → 1 ≤ p → p < 34 → Has me.0.seen.opened r → place ≡ place_of shape.rows r p → Allows (Keeps stands shape) slots id me place (λ n. n) (has_read (step slots place 0 0 none) me)
@@ -524,7 +525,7 @@ module _ {M : Type 0} (stands : Stands M) where
               (learn_word k.world k.owner id me.0 r p x knows (knows.opened r seen) high low (word_is shape id place me r p threads rows inside low here s k view)),
           λ q o h at. (
             ap (λ (z : Row × ℕ). (read_word z.0 z.1 x me.0, me.1)) (let e = one_word shape id place me r p threads rows inside low here q o h at.0 at.1 in λ i. (e.0 i, e.1 i)),
-            coherent k.world k.owner id (read_word r p x me.0) (learn_word k.world k.owner id me.0 r p x knows (knows.opened r seen) high low (word_is shape id place me r p threads rows inside low here s k view)) (world_kept stands shape s k),
+            with_itself k.world k.owner id (read_word r p x me.0) (learn_word k.world k.owner id me.0 r p x knows (knows.opened r seen) high low (word_is shape id place me r p threads rows inside low here s k view)) (world_kept stands shape s k),
           ),
         )
 
@@ -553,7 +554,7 @@ module _ {M : Type 0} (stands : Stands M) where
         after = did (Open r) (turned Resting r me.0)
 
         firsts : me.0.first ≡ shape.first.value.items
-        firsts = ap (λ (z : List M × ℕ). z.0) (k.firsts id me.0 view (at_table shape id place me r 0 threads rows inside (omega arith) here))
+        firsts = ap (λ (z : List (Option M) × Opening). z.0) (k.firsts id me.0 view (at_table shape id place me r 0 threads rows inside (omega arith) here))
 
         told : (c : List (ℕ × Option M)) → GoesHome me.0.first me.1 c → AgreesWithItself after → opened (step slots place (cell_word Waiting) 0 none) me (cell_word Waiting) (after, c)
         told c home agree q at = (ap (λ (z : Row). did (Open z) (turned Resting z me.0)) (one_word shape id place me r 0 threads rows inside (omega arith) here q 0 (omega arith) at.0 at.1).0, home, agree)
@@ -566,7 +567,7 @@ module _ {M : Type 0} (stands : Stands M) where
               keeps,
               tt,
               moved,
-              told me.1 ((λ e. refl), λ filled. absurd (let same : length me.0.first ≡ 0 = ap (λ (l : List M). length l) firsts ∙ empty in omega arith))
+              told me.1 ((λ e. refl), λ filled. absurd (let same : length me.0.first ≡ 0 = ap (λ (l : List (Option M)). length l) firsts ∙ empty in omega arith))
                   (agreed shape id place me r 0 threads rows inside (omega arith) here s k view (cell_word Waiting) after refl moved),
             )
         by_slots (inr some_first) =
@@ -581,7 +582,7 @@ module _ {M : Type 0} (stands : Stands M) where
               gives,
               tt,
               moved,
-              told (rest me.1) ((λ e. absurd (let same : length me.0.first ≡ length shape.first.value.items = ap (λ (l : List M). length l) firsts in omega arith)), λ filled. refl)
+              told (rest me.1) ((λ e. absurd (let same : length me.0.first ≡ length shape.first.value.items = ap (λ (l : List (Option M)). length l) firsts in omega arith)), λ filled. refl)
                   (moved_coherent stands shape s.views _ _ id me.0 after view refl (at_table shape id place me r 0 threads rows inside (omega arith) here) moved),
             )
 
@@ -592,7 +593,7 @@ module _ {M : Type 0} (stands : Stands M) where
         let knows = known shape id place me r 0 threads rows inside (omega arith) here s k view in
         let after : View M = began r me.0 in
         let to_begin : IsToBegin me.0 r = (zero, inl held, unbegun) in
-        let firsts : me.0.first ≡ shape.first.value.items = ap (λ (z : List M × ℕ). z.0) (k.firsts id me.0 view (at_table shape id place me r 0 threads rows inside (omega arith) here)) in
+        let firsts : me.0.first ≡ shape.first.value.items = ap (λ (z : List (Option M) × Opening). z.0) (k.firsts id me.0 view (at_table shape id place me r 0 threads rows inside (omega arith) here)) in
         let started : course_at k.world.table r.thread ≢ Unstarted = (world_kept stands shape s k).begun r (is_held k.world r me.0.seat (knows.mine r held).1) in
         let others = none_begins shape id place me r 0 threads rows inside (omega arith) here s k view held in
         let waits = first_out stands shape.first.value.items k.world r s.homes s.views id me.0 after (world_kept stands shape s k) to_begin started others view (at_table shape id place me r 0 threads rows inside (omega arith) here) (λ q b. began_before q b) (k.housed some_first) in
@@ -606,9 +607,9 @@ module _ {M : Type 0} (stands : Stands M) where
           λ q at.
               let same = (one_word shape id place me r 0 threads rows inside (omega arith) here q 0 (omega arith) at.0 at.1).0 in (
                 waits.value,
-                ap (λ (l : List M). slice_get l q.thread) firsts ∙ ap (λ (z : Row). slice_get shape.first.value.items z.thread) (sym same) ∙ waits.is_first,
+                ap (λ (l : List (Option M)). slice_get l q.thread) firsts ∙ ap (λ (z : Row). slice_get shape.first.value.items z.thread) (sym same) ∙ waits.is_first,
                 ap (λ (z : Row). (began z me.0, (z.thread, Some waits.value) ∷ me.1)) same,
-                coherent k.world k.owner id after (knows_begun k.world k.owner id me.0 r knows) (world_kept stands shape s k),
+                with_itself k.world k.owner id after (knows_begun k.world k.owner id me.0 r knows) (world_kept stands shape s k),
               ),
         )
       where
@@ -789,7 +790,7 @@ module _ {M : Type 0} (stands : Stands M) where
         knows = known shape id place me r 0 threads rows inside (omega arith) here s k view
 
         firsts : me.0.first ≡ shape.first.value.items
-        firsts = ap (λ (z : List M × ℕ). z.0) (k.firsts id me.0 view (at_table shape id place me r 0 threads rows inside (omega arith) here))
+        firsts = ap (λ (z : List (Option M) × Opening). z.0) (k.firsts id me.0 view (at_table shape id place me r 0 threads rows inside (omega arith) here))
 
         one : (q : Row) → At (step {S = Option M} slots place (cell_word (Synched j)) (cell_word (Taken j)) none) me q 0 → r ≡ q
         one q at = (one_word shape id place me r 0 threads rows inside (omega arith) here q 0 (omega arith) at.0 at.1).0
@@ -834,7 +835,7 @@ module _ {M : Type 0} (stands : Stands M) where
               keeps,
               tt,
               moved,
-              told e me.1 ((λ z. refl), λ filled. absurd (let same : length me.0.first ≡ 0 = ap (λ (l : List M). length l) firsts ∙ empty in omega arith))
+              told e me.1 ((λ z. refl), λ filled. absurd (let same : length me.0.first ≡ 0 = ap (λ (l : List (Option M)). length l) firsts ∙ empty in omega arith))
                   (agreed shape id place me r 0 threads rows inside (omega arith) here s k view (cell_word (Taken j)) (after e) refl moved),
             )
         by_slots e (inr some_first) =
@@ -846,8 +847,8 @@ module _ {M : Type 0} (stands : Stands M) where
               home.home,
               moved,
               told e ((r.thread, Some home.value) ∷ me.1) (
-                (λ z. absurd (let same : length me.0.first ≡ length shape.first.value.items = ap (λ (l : List M). length l) firsts in omega arith)),
-                λ filled. (home.value, out.0, refl, subst (λ (l : List M). IsLeft stands l home.value r j.own (has e).0 out.0) (sym firsts) out.1, out.2, sees_since shape id place me r 0 threads rows inside (omega arith) here s k view j (synched e) refl resting (has e).0 (has e).2 (has e).1 out.0 out.1.earlier out.1.whole out.1.count),
+                (λ z. absurd (let same : length me.0.first ≡ length shape.first.value.items = ap (λ (l : List (Option M)). length l) firsts in omega arith)),
+                λ filled. (home.value, out.0, refl, subst (λ (l : List (Option M)). IsLeft stands l home.value r j.own (has e).0 out.0) (sym firsts) out.1, out.2, sees_since shape id place me r 0 threads rows inside (omega arith) here s k view j (synched e) refl resting (has e).0 (has e).2 (has e).1 out.0 out.1.earlier out.1.whole out.1.count),
               )
                   (moved_coherent stands shape s.views _ _ id me.0 (after e) view refl (at_table shape id place me r 0 threads rows inside (omega arith) here) moved),
             )
@@ -881,11 +882,11 @@ module _ {M : Type 0} where
   place_view shape v r p place rows e = e ∙ ap (λ (n : ℕ). place_of n r p) (sym rows)
 
   -- a pass that has moved still sits at its table
-  pub sits_still : (b : Board M) (old new : Seat (Option M) (View M)) → Sits b old → new.table_id ≡ old.table_id → new.me.0.threads ≡ old.me.0.threads → new.me.0.rows ≡ old.me.0.rows → new.me.0.first ≡ old.me.0.first → AgreesWithItself new.me.0 → Sits b new
-  sits_still b old new sits table threads rows first agree =
+  pub sits_still : (b : Board M) (old new : Seat (Option M) (View M)) → Sits b old → new.table_id ≡ old.table_id → new.me.0.threads ≡ old.me.0.threads → new.me.0.rows ≡ old.me.0.rows → new.me.0.first ≡ old.me.0.first → new.me.0.lives ≡ old.me.0.lives → new.me.0.nacks ≡ old.me.0.nacks → AgreesWithItself new.me.0 → Sits b new
+  sits_still b old new sits table threads rows first lives nacks agree =
       let same_threads = threads ∙ sits.1 in
       let same_rows = rows ∙ sits.2 in
-      (table ∙ sits.0, same_threads, same_rows, subst (λ (z : ℕ × ℕ). Coherent z.0 z.1 new.me.0.seen) (λ i. (same_threads i, same_rows i)) agree, first ∙ sits.4)
+      (table ∙ sits.0, same_threads, same_rows, subst (λ (z : ℕ × ℕ). Coherent z.0 z.1 new.me.0.seen) (λ i. (same_threads i, same_rows i)) agree.0, first ∙ sits.4, lives ∙ sits.5, nacks ∙ sits.6, subst (λ (o : Opening). AreSettled o new.me.0.seen) (λ i. record { threads = (lives ∙ sits.5) i; nacks = (nacks ∙ sits.6) i }) agree.1)
 
 -- no other word reads as a cell that is not Fresh
 pub not_cell : (c : Cell) (n : ℕ) → c ≢ Fresh → n ≢ cell_word c → cell_read n ≢ c

@@ -17,32 +17,31 @@ use Rattle.protocol_values.specs.declared.Course.{Course}
 use Rattle.protocol_values.specs.declared.Row.{Row}
 use Rattle.protocol.specs.Tables.{Table, bound_row, cell_at, course_at, is_fresh, is_nack, is_taken, nack_at, nack_place, nack_says, binding_at, bound_by, carried_at, carried_by}
 use Rattle.protocol_values.specs.Values.{joined_of}
-use Rattle.protocol.specs.Worlds.{World, holder_at, start_world, with_nack, with_table}
+use Rattle.protocol.specs.Openings.{Opening}
+use Rattle.protocol.specs.Worlds.{World, holder_at, with_nack, with_table}
 use Rattle.protocol.specs.Kept.{Kept}
 use Rattle.protocol.proofs.Linking.{cases_Option, some_inj, some_parts}
 use Rattle.protocol.proofs.Places.{same_nack_place, word_bound}
-use Rattle.protocol.proofs.Readings.{bound_is, carried_is, says_inside, course_after_bind, binding_bound, binding_kept, binding_was, cell_after_bind}
+use Rattle.protocol.proofs.Readings.{bound_is, carried_is, says_inside, carried_after_bind, course_after_bind, binding_bound, binding_kept, binding_was, cell_after_bind}
 use Rattle.protocol.proofs.Keeping.{holder_same, taken_before}
-use Rattle.protocol.proofs.LedgerLemmas.{first_uncarried, kept_start}
-use Rattle.protocol.proofs.Onward.{grows-schedule}
 use Rattle.cell_table.specs.declared.view.View.{View}
 use Rattle.cell_table.specs.declared.view.Shape.{Shape}
 use Rattle.cell_table.specs.declared.view.Stage.TheVariants.{Aside, Resting}
 use Rattle.cell_table.specs.Sight.{Has, SawEnded}
 use Rattle.protocol.specs.Acting.{EndsAt, HasStart}
-use Rattle.cell_table.specs.Views.{Knows, bind_of, bound_nack, did, saw_nack}
-use Rattle.cell_table.specs.Rule.{IsToBegin, Keeps, beginning, in_order}
+use Rattle.cell_table.specs.Views.{Knows, bind_of, bound_nack, carried_nack, did, saw_nack}
+use Rattle.cell_table.specs.Rule.{IsToBegin, Keeps, beginning}
 use Rattle.cell_table.proofs.Standing.{is_earlier}
 use Rattle.protocol.specs.Standing.{Stands}
 use Rattle.protocol_values.specs.declared.Step.{Step}
 use Rattle.protocol_values.specs.declared.Step.TheVariants.{Draft, Open, Look, Read, Claim, Yield, Join, Seal, Grant, Take, Bind, Start, Finish}
 use Rattle.protocol_values.specs.declared.Cell.{Cell}
 use Rattle.protocol_values.specs.declared.Cell.TheVariants.{Fresh, Waiting, Claimed, Synched, Taken}
-use Rattle.cell_table.specs.Told.{AgreesNack, AgreesWithItself, AtNack, InsideNack, IsEarlier, looked_nack, nack_read, tried_bind}
+use Rattle.cell_table.specs.Told.{AgreesNack, AgreesWithItself, AtNack, FoundNack, InsideNack, IsEarlier, looked_nack, nack_read, tried_bind}
 use Rattle.cell_table.proofs.Allowing.{sized}
 use Rattle.cell_table.proofs.Following.{Follows, knows_bound, knows_follows, alive_unseen, stand_ends}
 use Rattle.cell_table.proofs.Others.{learn_nack}
-use Rattle.cell_table.proofs.Truths.{coherent}
+use Rattle.cell_table.proofs.Truths.{with_itself}
 use Rattle.cell_table.proofs.Seating.{Stays}
 use Rattle.cell_table.proofs.Turning.{world_kept, keeps_view, keeps_step, moved_coherent}
 
@@ -64,11 +63,29 @@ one_binding b c g h e =
     bound_inj : (x y : Binding) → Bound x ≡ Bound y → x ≡ y
     bound_inj x y same = ap binding_of same
 
+-- a nack's word, by what it says of a binding, and of a stamp
+bound_so : (w : NackWord) (b : Binding) → bound_by w ≡ Some b → w ≡ Bound b
+bound_so Unbound b e = let bad : None ≡ Some b = e in cc
+bound_so (Bound c) b e = ap Bound (some_inj c b e)
+bound_so (Carried stamp) b e = let bad : None ≡ Some b = e in cc
+
+carried_so : (w : NackWord) (stamp : ℕ) → carried_by w ≡ Some stamp → w ≡ Carried stamp
+carried_so Unbound stamp e = let bad : None ≡ Some stamp = e in cc
+carried_so (Bound c) stamp e = let bad : None ≡ Some stamp = e in cc
+carried_so (Carried s) stamp e = ap Carried (some_inj s stamp e)
+
 module _ {M : Type 0} where
+  -- a look at a nack leaves what a pass knows of its table
+  pub looked_same : (n : NackName) (says : NackWord) (v : View M) → ((saw_nack n says v).threads ≡ v.threads) × ((saw_nack n says v).rows ≡ v.rows) × ((saw_nack n says v).first ≡ v.first) × ((saw_nack n says v).lives ≡ v.lives) × ((saw_nack n says v).nacks ≡ v.nacks)
+  looked_same n Unbound v = (refl, refl, refl, refl, refl)
+  looked_same n (Bound b) v = (refl, refl, refl, refl, refl)
+  looked_same n (Carried stamp) v = (refl, refl, refl, refl, refl)
+
   -- what was seen by then agrees with itself
-  coherent_nack : (w : World) (owner : Row → ℕ) (id : ℕ) (v : View M) (n : NackName) (o : Option Binding) → Knows w owner id (saw_nack n o v) → Kept w → AgreesWithItself (saw_nack n o v)
-  coherent_nack w owner id v n None k kept = coherent w owner id v k kept
-  coherent_nack w owner id v n (Some b) k kept = coherent w owner id (bound_nack n b v) k kept
+  coherent_nack : (w : World) (owner : Row → ℕ) (id : ℕ) (v : View M) (n : NackName) (says : NackWord) → Knows w owner id (saw_nack n says v) → Kept w → AgreesWithItself (saw_nack n says v)
+  coherent_nack w owner id v n Unbound k kept = with_itself w owner id v k kept
+  coherent_nack w owner id v n (Bound b) k kept = with_itself w owner id (bound_nack n b v) k kept
+  coherent_nack w owner id v n (Carried stamp) k kept = with_itself w owner id (carried_nack n stamp v) k kept
 
   -- a nack is bound to no row behind a held Fresh one
   not_behind : (w : World) (owner : Row → ℕ) (id : ℕ) (v : View M) → Knows w owner id v → Kept w → (nack : NackName) (b c : Binding) → binding_at w.table nack ≡ Some c
@@ -88,9 +105,9 @@ module _ {M : Type 0} where
 bind_lives : (w : World) (m : NackName) (b : Binding) → is_nack w.table m ≡ true → (p : ℕ) → course_at (with_nack w.table m b) p ≡ course_at w.table p
 bind_lives w m b nack p = ap (λ (f : ℕ → Course). f p) (course_after_bind w.table m b nack)
 
-pub follows_bind : (w : World) (m : NackName) (b : Binding) → is_nack w.table m ≡ true → nack_says w.table m ≡ Unbound → Follows w (with_table w (with_nack w.table m b))
+pub follows_bind : (w : World) (m : NackName) (b : Binding) → Kept w → IsBindingInRange b → is_nack w.table m ≡ true → nack_says w.table m ≡ Unbound → Follows w (with_table w (with_nack w.table m b))
 unfolding with_nack
-follows_bind w m b nack free = record {
+follows_bind w m b kept range nack free = record {
   threads = refl;
   rows = refl;
   seats = refl;
@@ -104,6 +121,7 @@ follows_bind w m b nack free = record {
   held = λ r s h. holder_same w (with_nack w.table m b) r refl refl ∙ h;
   behind = λ t s h. h;
   bound = λ n c e. binding_kept w.table m b nack free n c e;
+  carried = λ n. ap (λ (f : NackName → Option ℕ). f n) (carried_after_bind w.table m b kept.sized nack range free);
   starts = λ p s h. subst (λ (c : Course). HasStart c s) (sym (bind_lives w m b nack p)) h;
   ends = λ p g h. subst (λ (c : Course). EndsAt c g) (sym (bind_lives w m b nack p)) h;
 }
@@ -145,79 +163,87 @@ module _ {M : Type 0} (stands : Stands M) where
       unfolding nack_at
       word_is = ap (λ (t : Table). nack_at t nack) k.table ∙ ap (slice_index s.words) (sym here)
 
-      says_is : nack_says k.world.table nack ≡ unwrap_or (nack_of (slice_index s.words place)) Unbound
+      says_is : nack_says k.world.table nack ≡ nack_read (slice_index s.words place)
       says_is = says_inside k.world.table nack is_its_nack ∙ ap (λ w. unwrap_or (nack_of w) Unbound) word_is
 
-      binding_is : binding_at k.world.table nack ≡ nack_read (slice_index s.words place)
+      binding_is : binding_at k.world.table nack ≡ bound_by (nack_read (slice_index s.words place))
       binding_is = bound_is k.world.table nack ∙ ap bound_by says_is
 
-      -- nothing went before the table
-      uncarried : carried_at k.world.table nack ≡ None
-      uncarried =
-          (grows-schedule (start_world shape.threads shape.rows shape.passes shape.later) k.world (in_order k.moves) (kept_start shape.threads shape.rows shape.passes shape.later k.few_threads k.few_rows) k.played).carried nack
-          ∙ first_uncarried shape.threads shape.rows shape.passes shape.later nack
+      carried_now : carried_at k.world.table nack ≡ carried_by (nack_read (slice_index s.words place))
+      carried_now = carried_is k.world.table nack ∙ ap carried_by says_is
 
       -- where it only learns
       learnt : (w : View M) → w.seat ≡ me.0.seat → w.made ≡ me.0.made → w.results ≡ me.0.results → beginning w ≡ beginning me.0 → Stays me.0 w → ((r : Row) → IsToBegin w r → IsToBegin me.0 r) → Knows k.world k.owner id w → Keeps stands shape (stepped s place (slice_index s.words place) id me.1 w keeps)
       learnt w seat made seen first stays begins knows = keeps_view stands shape s k id me.0 w _ view at_table seat made seen first stays begins (set-get_or s.words place 0) knows
 
-      first_kept : (o : Option Binding) → beginning (saw_nack nack o me.0) ≡ beginning me.0
-      first_kept None = refl
-      first_kept (Some b) = refl
+      first_kept : (o : NackWord) → beginning (saw_nack nack o me.0) ≡ beginning me.0
+      first_kept Unbound = refl
+      first_kept (Bound b) = refl
+      first_kept (Carried stamp) = refl
 
-      stays_kept : (o : Option Binding) → Stays me.0 (saw_nack nack o me.0)
-      stays_kept None = (refl, refl, refl, refl, refl, λ q h. inl h)
-      stays_kept (Some b) = (refl, refl, refl, refl, refl, λ q h. inl h)
+      stays_kept : (o : NackWord) → Stays me.0 (saw_nack nack o me.0)
+      stays_kept Unbound = (refl, refl, refl, refl, refl, λ q h. inl h)
+      stays_kept (Bound b) = (refl, refl, refl, refl, refl, λ q h. inl h)
+      stays_kept (Carried stamp) = (refl, refl, refl, refl, refl, λ q h. inl h)
 
-      begins_kept : (o : Option Binding) (r : Row) → IsToBegin (saw_nack nack o me.0) r → IsToBegin me.0 r
-      begins_kept None r h = h
-      begins_kept (Some b) r h = h
+      begins_kept : (o : NackWord) (r : Row) → IsToBegin (saw_nack nack o me.0) r → IsToBegin me.0 r
+      begins_kept Unbound r h = h
+      begins_kept (Bound b) r h = h
+      begins_kept (Carried stamp) r h = h
 
       -- what the pass has seen then agrees with itself
       agreed : (x : ℕ) (w : View M) → w.threads ≡ me.0.threads → Keeps stands shape (stepped s place x id me.1 w keeps) → AgreesWithItself w
       agreed x w size after = moved_coherent stands shape s.views _ _ id me.0 w view size at_table after
 
       -- a look at a nack makes no step
-      seat_kept : (o : Option Binding) → (saw_nack nack o me.0).seat ≡ me.0.seat
-      seat_kept None = refl
-      seat_kept (Some b) = refl
+      seat_kept : (o : NackWord) → (saw_nack nack o me.0).seat ≡ me.0.seat
+      seat_kept Unbound = refl
+      seat_kept (Bound b) = refl
+      seat_kept (Carried stamp) = refl
 
-      made_kept : (o : Option Binding) → (saw_nack nack o me.0).made ≡ me.0.made
-      made_kept None = refl
-      made_kept (Some b) = refl
+      made_kept : (o : NackWord) → (saw_nack nack o me.0).made ≡ me.0.made
+      made_kept Unbound = refl
+      made_kept (Bound b) = refl
+      made_kept (Carried stamp) = refl
 
-      results_kept : (o : Option Binding) → (saw_nack nack o me.0).results ≡ me.0.results
-      results_kept None = refl
-      results_kept (Some b) = refl
+      results_kept : (o : NackWord) → (saw_nack nack o me.0).results ≡ me.0.results
+      results_kept Unbound = refl
+      results_kept (Bound b) = refl
+      results_kept (Carried stamp) = refl
 
       sees : Knows k.world k.owner id (saw_nack nack (nack_read (slice_index s.words place)) me.0)
-      sees = learn_nack k.world k.owner id me.0 nack (nack_read (slice_index s.words place)) known binding_is
+      sees = learn_nack k.world k.owner id me.0 nack (nack_read (slice_index s.words place)) known says_is
 
       agrees_nack : (m : NackName) → nack ≡ m → AgreesNack me.0 m (nack_read (slice_index s.words place))
-      agrees_nack m e = subst (λ (n : NackName). AgreesNack me.0 n (nack_read (slice_index s.words place))) e (λ b h. sym binding_is ∙ known.bound nack b h)
+      agrees_nack m e = subst (λ (n : NackName). AgreesNack me.0 n (nack_read (slice_index s.words place))) e ((λ b h. bound_so (nack_read (slice_index s.words place)) b (sym binding_is ∙ known.bound nack b h)), λ stamp h. carried_so (nack_read (slice_index s.words place)) stamp (sym carried_now ∙ known.carried nack stamp h))
 
-      -- a word that is not that of an unbound nack says where the nack is bound
-      bound_there : slice_index s.words place ≢ nack_word Unbound → (c : Binding) × (nack_read (slice_index s.words place) ≡ Some c)
-      bound_there other =
+      -- a word that is not that of an unbound nack says something of it
+      not_free : slice_index s.words place ≢ nack_word Unbound → nack_read (slice_index s.words place) ≢ Unbound
+      not_free other =
           let o = some_parts (nack_of (nack_at k.world.table nack)) (kept.formed.nacks nack is_its_nack) in
           by_word o.0 (ap nack_of (sym word_is) ∙ o.1)
         where
-          by_word : (w : NackWord) → nack_of (slice_index s.words place) ≡ Some w → (c : Binding) × (nack_read (slice_index s.words place) ≡ Some c)
-          by_word Unbound e = absurd (other (nack_word-nack_of (slice_index s.words place) Unbound e).1)
-          by_word (Bound c) e = (c, ap (λ (w : Option NackWord). bound_by (unwrap_or w Unbound)) e)
-          by_word (Carried stamp) e =
-              let carried : carried_at k.world.table nack ≡ Some stamp = carried_is k.world.table nack ∙ ap carried_by (says_is ∙ ap (λ (w : Option NackWord). unwrap_or w Unbound) e) in
-              let bad : None ≡ Some stamp = sym uncarried ∙ carried in
-              cc
+          by_word : (w : NackWord) → nack_of (slice_index s.words place) ≡ Some w → nack_read (slice_index s.words place) ≢ Unbound
+          by_word Unbound e says = other (nack_word-nack_of (slice_index s.words place) Unbound e).1
+          by_word (Bound c) e says = let bad : Bound c ≡ Unbound = sym (ap (λ (w : Option NackWord). unwrap_or w Unbound) e) ∙ says in cc
+          by_word (Carried stamp) e says = let bad : Carried stamp ≡ Unbound = sym (ap (λ (w : Option NackWord). unwrap_or w Unbound) e) ∙ says in cc
 
       -- a nack that is bound to an earlier row of a held row's thread
       earlier_there : (b : Binding) → Has me.0.seen.held (bound_row nack b) → (c : Binding) → binding_at k.world.table nack ≡ Some c → c.sync < b.sync → 0 < length me.0.first → IsEarlier stands me.0.first me.0.results nack c
       earlier_there b held c is below filled =
-          let firsts : me.0.first ≡ shape.first.value.items = ap (λ (z : List M × ℕ). z.0) (k.firsts id me.0 view at_table) in
+          let firsts : me.0.first ≡ shape.first.value.items = ap (λ (z : List (Option M) × Opening). z.0) (k.firsts id me.0 view at_table) in
           let taken : is_taken (cell_at k.world.table (bound_row nack c)) ≡ true = taken_before k.world kept (bound_row nack c) (bound_row nack b) refl below (inr (me.0.seat, (known.mine (bound_row nack b) held).1)) in
-          subst (λ (l : List M). IsEarlier stands l me.0.results nack c) (sym firsts)
-          (is_earlier stands shape.first.value.items k.world k.owner id me.0 known kept nack c (k.housed (subst (λ (l : List M). 0 < length l) firsts filled)).rows (λ t rs h. k.results id me.0 t rs view h)
+          subst (λ (l : List (Option M)). IsEarlier stands l me.0.results nack c) (sym firsts)
+          (is_earlier stands shape.first.value.items k.world k.owner id me.0 known kept nack c (k.housed (subst (λ (l : List (Option M)). 0 < length l) firsts filled)).rows (λ t rs h. k.results id me.0 t rs view h)
           (taken_opened (cell_at k.world.table (bound_row nack c)) taken) is)
+
+      -- what the pass learns where the nack is not free
+      found_so : (b : Binding) → Has me.0.seen.held (bound_row nack b) → ¬ Has me.0.seen.opened (bound_row nack b) → (w : NackWord) → nack_read (slice_index s.words place) ≡ w → w ≢ Unbound → FoundNack stands me.0 nack b w
+      found_so b held unopened Unbound e other = other refl
+      found_so b held unopened (Bound c) e other =
+          let is : binding_at k.world.table nack ≡ Some c = binding_is ∙ ap bound_by e in
+          (not_behind k.world k.owner id me.0 known kept nack b c is held unopened, (λ h. known.binds nack c is h), λ below filled. earlier_there b held c is below filled)
+      found_so b held unopened (Carried stamp) e other = λ c h. let bad : None ≡ Some c = sym (binding_is ∙ ap bound_by e) ∙ known.bound nack c h in cc
 
       -- the nack is bound to a held row that is not opened
       module _ (b : Binding) (range : IsBindingInRange b) (resting : me.0.stage ≡ Resting) (held : Has me.0.seen.held (bound_row nack b)) (unopened : ¬ Has me.0.seen.opened (bound_row nack b)) (alive : ¬ SawEnded me.0.seen nack.thread)
@@ -226,7 +252,7 @@ module _ {M : Type 0} (stands : Stands M) where
         later = with_table k.world (with_nack k.world.table nack b)
 
         follows : Follows k.world later
-        follows = follows_bind k.world nack b is_its_nack free
+        follows = follows_bind k.world nack b kept range is_its_nack free
 
         no_end : (t g : ℕ) → EndsAt (course_at later.table t) g → EndsAt (course_at k.world.table t) g
         no_end t g h = subst (λ (c : Course). EndsAt c g) (bind_lives k.world nack b is_its_nack t) h
@@ -313,10 +339,10 @@ module _ {M : Type 0} (stands : Stands M) where
         exchanged x (nack_word Unbound) (nack_word (Bound b))
         (λ y. (w : View M) × (a : Act (Option M)) × Valid s.homes me.1 a × Keeps stands shape (stepped s place y id me.1 w a) × tried_bind stands (step slots place (nack_word Unbound) (nack_word (Bound b)) none) me x (w, carried_after me.1 a))
         (λ e.
-        let unbound_read : unwrap_or (nack_of x) Unbound ≡ Unbound = ap (λ w. unwrap_or (nack_of w) Unbound) e ∙ ap (λ (w : Option NackWord). unwrap_or w Unbound) (nack_of-nack_word Unbound tt) in
-        let none_read : nack_read x ≡ None = ap bound_by unbound_read in
+        let unbound_read : nack_read x ≡ Unbound = ap (λ w. unwrap_or (nack_of w) Unbound) e ∙ ap (λ (w : Option NackWord). unwrap_or w Unbound) (nack_of-nack_word Unbound tt) in
         let free : nack_says k.world.table nack ≡ Unbound = says_is shape id place me nack threads rows inside here s k view ∙ unbound_read in
-        let unbound : binding_at k.world.table nack ≡ None = read ∙ none_read in
+        let unbound : binding_at k.world.table nack ≡ None = read ∙ ap bound_by unbound_read in
+        let uncarried : carried_at k.world.table nack ≡ None = carried_now shape id place me nack threads rows inside here s k view ∙ ap carried_by unbound_read in
         let after = did (bind_of nack b) (bound_nack nack b me.0) in
         let moved : Keeps stands shape (stepped s place (nack_word (Bound b)) id me.1 after keeps) = binds shape id place me nack threads rows inside here s k view b in_range resting held unopened alive free in (
           after,
@@ -327,35 +353,33 @@ module _ {M : Type 0} (stands : Stands M) where
             λ f. let same = one_binding b c in_range c_range second in
                 let nack_same = one m at in (
                   (λ z. (did (bind_of (nack_same z) (same z)) (bound_nack (nack_same z) (same z) me.0), me.1)),
-                  λ d h. let bad : None ≡ Some d = sym unbound ∙ knows.bound nack d (subst (λ (n : NackName). Has me.0.seen.bound (n, d)) (sym nack_same) h) in cc,
+                  (λ d h. let bad : None ≡ Some d = sym unbound ∙ knows.bound nack d (subst (λ (n : NackName). Has me.0.seen.bound (n, d)) (sym nack_same) h) in cc),
+                  λ stamp h. let bad : None ≡ Some stamp = sym uncarried ∙ knows.carried nack stamp (subst (λ (n : NackName). Has me.0.seen.carried (n, stamp)) (sym nack_same) h) in cc,
                 ),
-            λ d f. let bad : None ≡ Some d = sym none_read ∙ f in cc,
+            λ other. absurd (other unbound_read),
             agreed shape id place me nack threads rows inside here s k view (nack_word (Bound b)) after refl moved,
           ),
         ))
         (λ f.
-        let found = bound_there shape id place me nack threads rows inside here s k view f in
-        let is : binding_at k.world.table nack ≡ Some found.0 = read ∙ found.1 in
-        let after = bound_nack nack found.0 me.0 in
+        let says : NackWord = nack_read x in
+        let taken : says ≢ Unbound = not_free shape id place me nack threads rows inside here s k view f in
+        let after = saw_nack nack says me.0 in
+        let seen = sees shape id place me nack threads rows inside here s k view in
+        let found : FoundNack stands me.0 nack b says = found_so shape id place me nack threads rows inside here s k view b held unopened says refl taken in
         let moved : Keeps stands shape (stepped s place x id me.1 after keeps) =
-        learnt shape id place me nack threads rows inside here s k view after refl refl refl refl (refl, refl, refl, refl, refl, λ q h. inl h) (λ q h. h) (learn_nack k.world k.owner id me.0 nack (Some found.0) knows is) in (
+        learnt shape id place me nack threads rows inside here s k view after (seat_kept shape id place me nack threads rows inside here s k view says) (made_kept shape id place me nack threads rows inside here s k view says) (results_kept shape id place me nack threads rows inside here s k view says) (first_kept shape id place me nack threads rows inside here s k view says) (stays_kept shape id place me nack threads rows inside here s k view says) (begins_kept shape id place me nack threads rows inside here s k view says) seen in (
           after,
           keeps,
           tt,
           moved,
           λ m c at c_range second. (
-            λ g. let bad : None ≡ Some found.0 = sym g ∙ found.1 in cc,
-            λ d g. let same : found.0 ≡ d = some_inj found.0 d (sym found.1 ∙ g) in
+            λ g. absurd (taken g),
+            λ other.
                 let nack_same = one m at in
                 let tried : b ≡ c = one_binding b c in_range c_range second in (
-                  (λ z. (bound_nack (nack_same z) (same z) me.0, me.1)),
-                  subst (λ (z : Binding × Binding). z.0.sync ≤ z.1.sync) (λ i. (same i, tried i))
-                      (not_behind k.world k.owner id me.0 knows (world_kept stands shape s k) nack b found.0 is held unopened),
-                  λ h. subst (λ (z : NackName × Binding). Has me.0.seen.bound z) (λ i. (nack_same i, same i))
-                      (knows.binds nack found.0 is (subst (λ (z : NackName × Binding). Has me.0.seen.held (bound_row z.0 z.1)) (λ i. (sym nack_same i, sym same i)) h)),
-                  λ below filled. subst (λ (z : NackName × Binding). IsEarlier stands me.0.first me.0.results z.0 z.1) (λ i. (nack_same i, same i))
-                      (earlier_there shape id place me nack threads rows inside here s k view b held found.0 is (subst (λ (z : Binding × Binding). z.0.sync < z.1.sync) (λ i. (sym same i, sym tried i)) below) filled),
+                  (λ z. (saw_nack (nack_same z) says me.0, me.1)),
+                  subst (λ (z : NackName × Binding). FoundNack stands me.0 z.0 z.1 says) (λ i. (nack_same i, tried i)) found,
                 ),
-            agreed shape id place me nack threads rows inside here s k view x after refl moved,
+            coherent_nack k.world k.owner id me.0 nack says seen (world_kept stands shape s k),
           ),
         ))

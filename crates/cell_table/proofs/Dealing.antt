@@ -1,6 +1,6 @@
 -- The rule holds at the start, and while the first pass deals the rows.
-use Rattle.std.proofs.Common.{slice_set, ◌≡◌, ◌≢◌, ℕ, zero, suc, ◌+◌, ◌*◌, ◌%◌, ◌<◌, ◌≤◌, Bool, true, false, cond, eqb, ◌&&◌, not, List, [], ◌∷◌, ◌++◌, map, length, replicate, Option, sym, refl, ap, ◌∙◌, subst, ◌⊎◌, inl, inr, ⊎_elim, arith, Some, None, slice_get}
-use Rattle.std.proofs.lemmas.Bool.{true≢false, cases_Bool, not-true, lt-ltb, ltb-true, eq-eqb, eqb-true, ne_eqb, and_parts, and_from}
+use Rattle.std.proofs.Common.{slice_set, ◌≡◌, ◌≢◌, ℕ, zero, suc, ◌+◌, ◌*◌, ◌%◌, ◌<◌, ◌≤◌, Bool, true, false, cond, eqb, ◌&&◌, List, [], ◌∷◌, ◌++◌, map, length, replicate, Option, sym, refl, ap, ◌∙◌, subst, ◌⊎◌, inl, inr, ⊎_elim, arith, Some, None, slice_get}
+use Rattle.std.proofs.lemmas.Bool.{true≢false, cases_Bool, lt-ltb, ltb-true, eq-eqb, eqb-true, ne_eqb, and_parts, and_from}
 use Rattle.std.proofs.Math.Bool.{and-false}
 use Rattle.std.proofs.Math.Dec.{ltb}
 use Rattle.std.proofs.lemmas.List.{length-append, length-set}
@@ -12,36 +12,42 @@ use Rattle.atomic_table.proofs.Lists.{at_set}
 use Rattle.protocol_values.specs.declared.NackName.{NackName}
 use Rattle.protocol_values.specs.declared.Binding.{Binding}
 use Rattle.protocol_values.specs.declared.Course.{Course}
-use Rattle.protocol_values.specs.declared.Course.TheVariants.{Unstarted, Running}
+use Rattle.protocol_values.specs.declared.Course.TheVariants.{Ended, Unstarted}
 use Rattle.protocol_values.specs.declared.Row.{Row}
 use Rattle.protocol_values.specs.declared.Cell.TheVariants.{Fresh, Claimed}
-use Rattle.protocol.specs.Tables.{course_at, thread_len, cell_at, word_at, binding_at, bound_row, is_fresh}
-use Rattle.protocol.specs.Worlds.{World, start_world, holder_at, waits, with_lives, first_row}
-use Rattle.protocol.proofs.LedgerLemmas.{start_binding, start_cell, start_course, start_holder, start_word}
+use Rattle.protocol.specs.declared.opening.Life.{Life}
+use Rattle.protocol.specs.declared.opening.Life.TheVariants as life
+use Rattle.protocol.specs.Openings.{AreFirstWords, Begins, HadEnded, HadStarted, IsOpening, Opening, course_for, greatest, held_first, is_running, thread_in}
+use Rattle.protocol.specs.Tables.{all_rows, course_at, thread_len, cell_at, word_at, binding_at, bound_row, carried_at, is_fresh, is_row}
+use Rattle.protocol.specs.Worlds.{World, holder_at, first_row}
+use Rattle.protocol.proofs.Beginning.{first_binding, first_carried, first_cell, first_course}
+use Rattle.protocol.proofs.Linking.{some_inj}
+use Rattle.protocol.proofs.Starting.{next_begins}
 use Rattle.protocol.proofs.Places.{row_from}
 use Rattle.protocol.proofs.RowLemmas.{same_row}
-use Rattle.protocol.specs.Standing.{AreResults, Result, SomeStands, Stands}
+use Rattle.protocol.specs.Standing.{AreResults, Result, Stands}
 use Rattle.protocol.specs.Ledgers.{ledger_of}
-use Rattle.protocol.proofs.Acting.{ends-first, starts-first}
+use Rattle.protocol.proofs.Acting.{ends-begin, starts-begin}
 use Rattle.cell_table.specs.declared.view.View.{View}
 use Rattle.cell_table.specs.declared.view.Shape.{Shape}
 use Rattle.cell_table.specs.declared.view.Stage.TheVariants.{Aside, Resting}
-use Rattle.cell_table.specs.Sight.{Coherent, Has}
+use Rattle.cell_table.specs.Sight.{Coherent, Has, WasSettled}
 use Rattle.protocol.specs.Acting.{EndsAt, acts_in}
-use Rattle.cell_table.specs.Views.{Knows, behind_last}
-use Rattle.cell_table.specs.Rule.{Housed, Interleaves, IsToBegin, Keeps, Move, Seated, Waits, at_seat, beginning, dealer, dealt_later, dealt_pass, falls_to, no_offers, seen_nothing, steps_by, StartsFirst}
+use Rattle.cell_table.specs.Closings.{words_of}
+use Rattle.cell_table.specs.Views.{Knows, RunsIn, behind_last, opening_in}
+use Rattle.cell_table.specs.Rule.{AreMachines, Housed, Interleaves, IsToBegin, Keeps, Move, Seated, Waits, at_seat, beginning, dealer, dealt_from, dealt_pass, falls_to, no_offers, seen_nothing, steps_by}
 use Rattle.cell_table.proofs.Following.{knows_owned}
+use Rattle.cell_table.proofs.Truths.{nack_of_carried}
 use Rattle.cell_table.proofs.Housing.{housed_more, housed_view}
 use Rattle.cell_table.proofs.Seating.{at_end, seated_more, seated_set, seated_start}
 use Rattle.cell_table.proofs.Turning.{firsts_with, same_made, world_kept}
-use Rattle.protocol.proofs.Standing.{stands-start}
 
 module _ {M : Type 0} where
   -- a pass that has seen nothing
   knows_nothing : (w : World) (owner : Row → ℕ) (id : ℕ) (shape : Shape M) (k : ℕ) → shape.threads ≡ w.table.threads → shape.rows ≡ w.table.rows → shape.passes ≡ w.seats → 0 < w.seats
-      → ((t : ℕ) → t < w.table.threads → waits shape.later t ≡ false → k ≤ t % w.seats → (owner (first_row t) ≡ id) × (holder_at w (first_row t) ≡ Some (t % w.seats)) × (cell_at w.table (first_row t) ≡ Fresh) × (word_at w.table (first_row t) 1 ≡ 0) × ((n : NackName) (b : Binding) → binding_at w.table n ≡ Some b → bound_row n b ≢ first_row t) × ((g : ℕ) → EndsAt (course_at w.table t) g → ⊥))
-      → Knows {M = M} w owner id (dealer shape k)
-  knows_nothing w owner id shape k threads rows passes one_seat undealt = record {
+      → ((t : ℕ) → t < w.table.threads → RunsIn (opening_in shape) t → k ≤ t % w.seats → (owner (first_row t) ≡ id) × (holder_at w (first_row t) ≡ Some (t % w.seats)) × (cell_at w.table (first_row t) ≡ Fresh) × (word_at w.table (first_row t) 1 ≡ 0) × ((n : NackName) (b : Binding) → binding_at w.table n ≡ Some b → bound_row n b ≢ first_row t) × ((g : ℕ) → EndsAt (course_at w.table t) g → ⊥))
+      → ((n : NackName) (stamp : ℕ) → carried_at w.table n ≡ Some stamp → WasSettled (opening_in shape) n stamp) → Knows {M = M} w owner id (dealer shape k)
+  knows_nothing w owner id shape k threads rows passes one_seat undealt settled = record {
     threads = threads;
     rows = rows;
     passes = passes;
@@ -57,6 +63,8 @@ module _ {M : Type 0} where
     joined = λ r j h. absurd h;
     taken = λ r h. absurd h;
     bound = λ n b h. absurd h;
+    carried = λ n stamp h. absurd h;
+    settled = settled;
     started = λ t s h. absurd h;
     ended = λ t g h. absurd h;
     lasts = λ t h. absurd h;
@@ -64,124 +72,188 @@ module _ {M : Type 0} where
     binds = λ n b e h. absurd h;
   }
 
+-- LIVES of an opening
+running_alive : (l : Life) → is_running l ≡ true → l ≢ life.Ended
+running_alive life.Unstarted h e = let bad : life.Unstarted ≡ life.Ended = e in cc
+running_alive life.Running h e = let bad : life.Running ≡ life.Ended = e in cc
+running_alive life.Ended h e = true≢false (sym h)
+
+unstarted_alive : (l : Life) (stamp : ℕ) → course_for l stamp ≡ Unstarted → l ≢ life.Ended
+unstarted_alive life.Unstarted stamp h e = let bad : life.Unstarted ≡ life.Ended = e in cc
+unstarted_alive life.Running stamp h e = let bad : life.Running ≡ life.Ended = e in cc
+unstarted_alive life.Ended stamp h e = let bad : Ended stamp 0 ≡ Unstarted = h in cc
+
+running_unended : (l : Life) (stamp g : ℕ) → is_running l ≡ true → EndsAt (course_for l stamp) g → ⊥
+running_unended life.Unstarted stamp g h e = e
+running_unended life.Running stamp g h e = e
+running_unended life.Ended stamp g h e = true≢false (sym h)
+
+-- where there are machines, there is a place for each thread
+pub machines_full : {M : Type 0} (o : Opening) (first : List (Option M)) → AreMachines o first → 0 < length first → length first ≡ length o.threads
+machines_full o first (inl none) filled = absurd (let z : length first ≡ 0 = ap (λ (l : List (Option _)). length l) none in omega arith)
+machines_full o first (inr all) filled = all.0
+
+-- what lies in a slot at first
+lies : {A : Type 0} (xs : List A) (t : ℕ) (y : A) → slice_get xs t ≡ Some y → get_elem? (map some xs) t ≡ some (some y)
+lies [] t y e = let bad : None ≡ Some y = e in cc
+lies (x ∷ xs) zero y e = ap (λ z. some (some z)) (some_inj x y e)
+lies (x ∷ xs) (suc t) y e = lies xs t y e
+
 module _ {M : Type 0} (stands : Stands M) where
   -- THE START
-  pub keeps_start : (shape : Shape M) (ws : List ℕ) (xs : List (Option M)) → xs ≡ map Some shape.first.value.items → (0 < length shape.first.value.items → length shape.first.value.items ≡ shape.threads) → shape.threads ≤ 64 → 1 ≤ shape.rows → shape.rows ≤ 1024 → 1 ≤ shape.passes → ws ≡ with_lives shape.later shape.rows shape.threads (replicate (shape.threads * thread_len shape.rows) 0)
-      → Keeps stands shape (opening ws xs (dealer shape 0))
-  unfolding start_world
-  keeps_start shape ws xs slots full few one_row few_rows one_pass zeros = record {
-    few_threads = few;
-    few_rows = few_rows;
-    moves = [];
-    interleaved = record { made = λ id v e. one_view id v e; no_others = λ id h. refl };
-    world = start_world shape.threads shape.rows shape.passes shape.later;
-    played = refl;
-    table = ap (λ (z : List ℕ). record { threads = shape.threads; rows = shape.rows; words = z; opening = 0 }) (sym zeros);
-    owner = λ r. 0;
-    knows = knows_at;
-    seated = seated_start shape;
-    firsts = λ id v e t. first_there id v e;
-    started = λ some_first. starts-first shape.threads shape.rows shape.passes shape.later (StartsFirst shape.threads shape.later) (acts_in stands shape.first.value.items).starts (λ t below free. (below, free));
-    ended = λ some_first. ends-first shape.threads shape.rows shape.passes shape.later (acts_in stands shape.first.value.items).ends;
-    housed = house;
-    results = no_results;
-  }
-    where
-      first_there : (id : ℕ) (v : View M) → get_elem? (dealer shape 0 ∷ []) id ≡ some v → beginning v ≡ (shape.first.value.items, shape.later)
-      first_there zero v e = ap (λ (u : View M). beginning u) (sym (mathlib.Core.Option.some-injective _ _ e))
-      first_there (suc id) v e = absurd (mathlib.Core.Option.some-ne-none v (sym e))
+  module _ (shape : Shape M) (ws : List ℕ) (xs : List (Option M)) (slots : xs ≡ shape.first.value.items) (machines : AreMachines (opening_in shape) shape.first.value.items)
+      (size : shape.threads ≡ length (opening_in shape).threads) (opens : IsOpening (opening_in shape) shape.rows) (one_row : 1 ≤ shape.rows) (few_rows : shape.rows ≤ 1024) (one_pass : 1 ≤ shape.passes)
+      (words : AreFirstWords (opening_in shape) (words_of shape ws)) where
+    abbrev o : Opening
+    o = opening_in shape
 
-      lies : (fs : List M) (t : ℕ) → t < length fs → (value : M) × (slice_get fs t ≡ Some value) × (get_elem? (map some (map Some fs)) t ≡ some (some (Some value)))
-      lies [] t h = absurd (omega arith)
-      lies (f ∷ fs) zero h = (f, refl, refl)
-      lies (f ∷ fs) (suc t) h = lies fs t (omega arith)
+    abbrev begun : World
+    begun = record { table = words_of shape ws; seats = shape.passes; holders = map (held_first o shape.passes) (all_rows shape.threads shape.rows); lasts = replicate shape.threads None }
 
-      house : 0 < length shape.first.value.items → Housed stands shape.first.value.items (start_world shape.threads shape.rows shape.passes shape.later) (map some xs) (dealer shape 0 ∷ [])
-      house some_first = record {
-        rows = stands-start (SomeStands stands shape.first.value.items) shape.threads shape.rows shape.passes shape.later;
-        at_home = λ r open_r untaken. absurd (true≢false (sym (ap is_fresh (start_cell shape.threads shape.rows shape.later r)) ∙ open_r));
-        waiting = λ id v r e t b. lies_waiting id v r e b;
-        asleep = λ t below e. waits_at (first_row t) below;
-      }
-        where
-          waits_at : (r : Row) → r.thread < shape.threads → Waits shape.first.value.items (start_world shape.threads shape.rows shape.passes shape.later) (map some xs) r
-          waits_at r low =
-              let f = full some_first in
-              let there = lies shape.first.value.items r.thread (omega arith) in
-              record {
-                fresh = ap is_fresh (start_cell shape.threads shape.rows shape.later r);
-                value = there.0;
-                is_first = there.1;
-                home = ap (λ (ys : List (Option M)). get_elem? (map some ys) r.thread) slots ∙ there.2;
-              }
+    begins : Begins o shape.rows shape.passes begun
+    begins = next_begins o shape.rows shape.passes begun size refl refl refl words refl refl
 
-          lies_waiting : (id : ℕ) (v : View M) (r : Row) → get_elem? (dealer shape 0 ∷ []) id ≡ some v → IsToBegin v r → Waits shape.first.value.items (start_world shape.threads shape.rows shape.passes shape.later) (map some xs) r
-          lies_waiting zero v r e b = ⊎_elim
-              (λ (h : ⊥). absurd h)
-              (λ (d : (r.thread < shape.threads) × (waits shape.later r.thread ≡ false) × (0 ≤ r.thread % shape.passes)). waits_at r d.0)
-              (subst (λ (u : View M). IsToBegin u r) (sym (mathlib.Core.Option.some-injective _ _ e)) b).1
-          lies_waiting (suc id) v r e b = absurd (mathlib.Core.Option.some-ne-none v (sym e))
+    low : greatest o ≤ 4294967295
+    low = let r = opens.room in omega arith
 
-      no_results : (id : ℕ) (v : View M) (t : ℕ) (rs : List Result) → get_elem? (dealer shape 0 ∷ []) id ≡ some v → Has v.results (t, rs) → AreResults (ledger_of (start_world shape.threads shape.rows shape.passes shape.later).table) t rs
-      no_results zero v t rs e h = absurd (subst (λ (u : View M). Has u.results (t, rs)) (sym (mathlib.Core.Option.some-injective _ _ e)) h)
-      no_results (suc id) v t rs e h = absurd (mathlib.Core.Option.some-ne-none v (sym e))
+    fresh_there : (r : Row) → cell_at begun.table r ≡ Fresh
+    fresh_there = first_cell o begun.table words low
 
-      one_view : (id : ℕ) (v : View M) → get_elem? (dealer shape 0 ∷ []) id ≡ some v → steps_by id [] ≡ at_seat v.seat v.made
-      one_view zero v e = ap (λ (u : View M). at_seat u.seat u.made) (mathlib.Core.Option.some-injective _ _ e)
-      one_view (suc id) v e = absurd (mathlib.Core.Option.some-ne-none v (sym e))
+    -- a row that is first in its thread
+    row_there : (t : ℕ) → t < shape.threads → is_row begun.table (first_row t) ≡ true
+    row_there t h = row_from begun.table (first_row t) h one_row
 
-      -- at the start no thread has ended
-      start_runs : (t g : ℕ) → t < shape.threads → EndsAt (course_at (start_world shape.threads shape.rows shape.passes shape.later).table t) g → ⊥
-      start_runs t g h e = by (waits shape.later t) (subst (λ (c : Course). EndsAt c g) (start_course shape.threads shape.rows shape.later t h) e)
-        where
-          by : (b : Bool) → EndsAt (cond b Unstarted (Running 0)) g → ⊥
-          by true i = i
-          by false i = i
+    -- of a thread that runs
+    its_holder : (t : ℕ) → t < shape.threads → RunsIn o t → holder_at begun (first_row t) ≡ Some (t % shape.passes)
+    its_holder t h runs = begins.held (first_row t) (row_there t h) ∙ ap (λ (b : Bool). cond b (Some (t % shape.passes)) None) runs
 
-      first : Knows {M = M} (start_world shape.threads shape.rows shape.passes shape.later) (λ r. 0) 0 (dealer shape 0)
-      first = knows_nothing (start_world shape.threads shape.rows shape.passes shape.later) (λ r. 0) 0 shape 0 refl refl refl one_pass
-          (λ t h at_once d. (refl, start_holder shape.threads shape.rows shape.passes shape.later (first_row t) h one_row ∙ ap (λ b. cond b None (Some (t % shape.passes))) at_once, start_cell shape.threads shape.rows shape.later (first_row t), start_word shape.threads shape.rows shape.later (first_row t) 1 (row_from (start_world shape.threads shape.rows shape.passes shape.later).table (first_row t) h one_row) (omega arith), (λ n b e same. let bad : None ≡ Some b = sym (start_binding shape.threads shape.rows shape.later n) ∙ e in cc), λ g e. start_runs t g h e))
+    its_course : (t g : ℕ) → t < shape.threads → RunsIn o t → EndsAt (course_at begun.table t) g → ⊥
+    its_course t g h runs e = running_unended (thread_in o t).0 (thread_in o t).1 g runs (subst (λ (c : Course). EndsAt c g) (first_course o begun.table words low t h) e)
 
-      knows_at : (id : ℕ) (v : View M) → get_elem? (dealer shape 0 ∷ []) id ≡ some v → 0 < v.threads → Knows (start_world shape.threads shape.rows shape.passes shape.later) (λ r. 0) id v
-      knows_at zero v e t = subst (λ (u : View M). Knows (start_world shape.threads shape.rows shape.passes shape.later) (λ r. 0) 0 u) (mathlib.Core.Option.some-injective _ _ e) first
-      knows_at (suc id) v e t = absurd (mathlib.Core.Option.some-ne-none v (sym e))
+    first_there : (id : ℕ) (v : View M) → get_elem? (dealer shape 0 ∷ []) id ≡ some v → beginning v ≡ (shape.first.value.items, o)
+    first_there zero v e = ap (λ (u : View M). beginning u) (sym (mathlib.Core.Option.some-injective _ _ e))
+    first_there (suc id) v e = absurd (mathlib.Core.Option.some-ne-none v (sym e))
+
+    -- what stands for a thread that has not ended
+    machine : 0 < length shape.first.value.items → (t : ℕ) → t < shape.threads → (thread_in o t).0 ≢ life.Ended → (value : M) × (slice_get shape.first.value.items t ≡ Some (Some value))
+    machine some_first t h alive = ⊎_elim
+        (λ (none : shape.first.value.items ≡ []). absurd (let z : length shape.first.value.items ≡ 0 = ap (λ (l : List (Option M)). length l) none in omega arith))
+        (λ all. all.1 t (omega arith) alive)
+        machines
+
+    house : 0 < length shape.first.value.items → Housed stands shape.first.value.items begun (map some xs) (dealer shape 0 ∷ [])
+    house some_first = record {
+      rows = λ r open_r. absurd (true≢false (sym (ap is_fresh (fresh_there r)) ∙ open_r));
+      at_home = λ r open_r untaken. absurd (true≢false (sym (ap is_fresh (fresh_there r)) ∙ open_r));
+      waiting = λ id v r e t b. lies_waiting id v r e b;
+      asleep = λ t below e. waits_at (first_row t) below (unstarted_alive (thread_in o t).0 (thread_in o t).1 (sym (first_course o begun.table words low t below) ∙ e));
+    }
+      where
+        waits_at : (r : Row) → r.thread < shape.threads → (thread_in o r.thread).0 ≢ life.Ended → Waits shape.first.value.items begun (map some xs) r
+        waits_at r below alive =
+            let there = machine some_first r.thread below alive in
+            record {
+              fresh = ap is_fresh (fresh_there r);
+              value = there.0;
+              is_first = there.1;
+              home = lies xs r.thread (Some there.0) (ap (λ (ys : List (Option M)). slice_get ys r.thread) slots ∙ there.1);
+            }
+
+        lies_waiting : (id : ℕ) (v : View M) (r : Row) → get_elem? (dealer shape 0 ∷ []) id ≡ some v → IsToBegin v r → Waits shape.first.value.items begun (map some xs) r
+        lies_waiting zero v r e b = ⊎_elim
+            (λ (h : ⊥). absurd h)
+            (λ (d : (r.thread < shape.threads) × RunsIn o r.thread × (0 ≤ r.thread % shape.passes)). waits_at r d.0 (running_alive (thread_in o r.thread).0 d.1))
+            (subst (λ (u : View M). IsToBegin u r) (sym (mathlib.Core.Option.some-injective _ _ e)) b).1
+        lies_waiting (suc id) v r e b = absurd (mathlib.Core.Option.some-ne-none v (sym e))
+
+    no_results : (id : ℕ) (v : View M) (t : ℕ) (rs : List Result) → get_elem? (dealer shape 0 ∷ []) id ≡ some v → Has v.results (t, rs) → AreResults (ledger_of begun.table) t rs
+    no_results zero v t rs e h = absurd (subst (λ (u : View M). Has u.results (t, rs)) (sym (mathlib.Core.Option.some-injective _ _ e)) h)
+    no_results (suc id) v t rs e h = absurd (mathlib.Core.Option.some-ne-none v (sym e))
+
+    one_view : (id : ℕ) (v : View M) → get_elem? (dealer shape 0 ∷ []) id ≡ some v → steps_by id [] ≡ at_seat v.seat v.made
+    one_view zero v e = ap (λ (u : View M). at_seat u.seat u.made) (mathlib.Core.Option.some-injective _ _ e)
+    one_view (suc id) v e = absurd (mathlib.Core.Option.some-ne-none v (sym e))
+
+    settled_there : (n : NackName) (stamp : ℕ) → carried_at begun.table n ≡ Some stamp → WasSettled o n stamp
+    settled_there n stamp h = sym (first_carried o begun.table words low n (nack_of_carried begun.table n stamp h)) ∙ h
+
+    first : Knows {M = M} begun (λ r. 0) 0 (dealer shape 0)
+    first = knows_nothing begun (λ r. 0) 0 shape 0 refl refl refl one_pass
+        (λ t h runs d. (
+          refl,
+          its_holder t h runs,
+          fresh_there (first_row t),
+          words.blank (first_row t) 1 (row_there t h) (omega arith),
+          (λ n b e same. let bad : None ≡ Some b = sym (first_binding o begun.table words low n) ∙ e in cc),
+          λ g e. its_course t g h runs e,
+        ))
+        settled_there
+
+    knows_at : (id : ℕ) (v : View M) → get_elem? (dealer shape 0 ∷ []) id ≡ some v → 0 < v.threads → Knows begun (λ r. 0) id v
+    knows_at zero v e t = subst (λ (u : View M). Knows begun (λ r. 0) 0 u) (mathlib.Core.Option.some-injective _ _ e) first
+    knows_at (suc id) v e t = absurd (mathlib.Core.Option.some-ne-none v (sym e))
+
+    pub keeps_start : Keeps stands shape (opening ws xs (dealer shape 0))
+    keeps_start = record {
+      opens = opens;
+      few_rows = few_rows;
+      moves = [];
+      interleaved = record { made = λ id v e. one_view id v e; no_others = λ id h. refl };
+      start = begun;
+      begins = begins;
+      world = begun;
+      played = refl;
+      table = refl;
+      owner = λ r. 0;
+      knows = knows_at;
+      seated = seated_start shape;
+      firsts = λ id v e t. first_there id v e;
+      started = λ some_first. starts-begin o shape.rows shape.passes begun low begins (HadStarted o) (acts_in stands shape.first.value.items).starts (λ t stamp h. h);
+      ended = λ some_first. ends-begin o shape.rows shape.passes begun low begins (HadEnded o) (acts_in stands shape.first.value.items).ends (λ t h. h);
+      housed = house;
+      results = no_results;
+    }
 
 -- THE ROWS OF ONE SEAT
-abbrev IsDealt : ℕ → ℕ → ℕ → ℕ → Row → Type 0
-IsDealt later n passes k r = (r.sync ≡ 0) × (r.thread < n) × (falls_to later passes k r.thread ≡ true)
+abbrev IsDealt : Opening → ℕ → ℕ → ℕ → Row → Type 0
+IsDealt o n passes k r = (r.sync ≡ 0) × (r.thread < n) × (falls_to o passes k r.thread ≡ true)
 
-has_one : (later t passes k : ℕ) (r : Row) (rs : List Row) (b : Bool) → falls_to later passes k t ≡ b → (Has rs r → IsDealt later t passes k r) → Has (cond b (first_row t ∷ rs) rs) r → IsDealt later (suc t) passes k r
-has_one later t passes k r rs true e rest (inl f) =
-    (ap (λ (y : Row). y.sync) (sym f), (let same : t ≡ r.thread = ap (λ (y : Row). y.thread) f in omega arith), ap (λ (y : Row). falls_to later passes k y.thread) (sym f) ∙ e)
-has_one later t passes k r rs true e rest (inr g) = let i = rest g in (i.0, omega arith, i.2)
-has_one later t passes k r rs false e rest g = let i = rest g in (i.0, omega arith, i.2)
+has_one : (o : Opening) (t passes k : ℕ) (r : Row) (rs : List Row) (b : Bool) → falls_to o passes k t ≡ b → (Has rs r → IsDealt o t passes k r) → Has (cond b (first_row t ∷ rs) rs) r → IsDealt o (suc t) passes k r
+has_one o t passes k r rs true e rest (inl f) =
+    (ap (λ (y : Row). y.sync) (sym f), (let same : t ≡ r.thread = ap (λ (y : Row). y.thread) f in omega arith), ap (λ (y : Row). falls_to o passes k y.thread) (sym f) ∙ e)
+has_one o t passes k r rs true e rest (inr g) = let i = rest g in (i.0, omega arith, i.2)
+has_one o t passes k r rs false e rest g = let i = rest g in (i.0, omega arith, i.2)
 
-pub has_dealt : (later n passes k : ℕ) (r : Row) → Has (dealt_later later n passes k) r → IsDealt later n passes k r
-has_dealt later zero passes k r h = absurd h
-has_dealt later (suc t) passes k r h = has_one later t passes k r (dealt_later later t passes k) (falls_to later passes k t) refl (λ g. has_dealt later t passes k r g) h
+pub has_dealt : (o : Opening) (n passes k : ℕ) (r : Row) → Has (dealt_from o n passes k) r → IsDealt o n passes k r
+has_dealt o zero passes k r h = absurd h
+has_dealt o (suc t) passes k r h = has_one o t passes k r (dealt_from o t passes k) (falls_to o passes k t) refl (λ g. has_dealt o t passes k r g) h
 
-one_has : (later t passes k : ℕ) (r : Row) (rs : List Row) (b : Bool) → falls_to later passes k t ≡ b → IsDealt later (suc t) passes k r → (IsDealt later t passes k r → Has rs r) → Has (cond b (first_row t ∷ rs) rs) r
-one_has later t passes k r rs true e d rest = ⊎_elim
+one_has : (o : Opening) (t passes k : ℕ) (r : Row) (rs : List Row) (b : Bool) → falls_to o passes k t ≡ b → IsDealt o (suc t) passes k r → (IsDealt o t passes k r → Has rs r) → Has (cond b (first_row t ∷ rs) rs) r
+one_has o t passes k r rs true e d rest = ⊎_elim
     (λ (h : r.thread ≡ t). inl (same_row (first_row t) r (sym h) (sym d.0)))
     (λ (h : r.thread < t). inr (rest (d.0, h, d.2)))
     (Rattle.std.proofs.Math.Nat.eq-or-lt_of_le (let l = d.1 in let m : r.thread ≤ t = omega arith in m))
-one_has later t passes k r rs false e d rest = ⊎_elim
-    (λ (h : r.thread ≡ t). let bad : true ≡ false = sym d.2 ∙ ap (falls_to later passes k) h ∙ e in cc)
+one_has o t passes k r rs false e d rest = ⊎_elim
+    (λ (h : r.thread ≡ t). let bad : true ≡ false = sym d.2 ∙ ap (falls_to o passes k) h ∙ e in cc)
     (λ (h : r.thread < t). rest (d.0, h, d.2))
     (Rattle.std.proofs.Math.Nat.eq-or-lt_of_le (let l = d.1 in let m : r.thread ≤ t = omega arith in m))
 
-pub dealt_has : (later n passes k : ℕ) (r : Row) → IsDealt later n passes k r → Has (dealt_later later n passes k) r
-dealt_has later zero passes k r d = let l = d.1 in absurd (omega arith)
-dealt_has later (suc t) passes k r d = one_has later t passes k r (dealt_later later t passes k) (falls_to later passes k t) refl d (λ e. dealt_has later t passes k r e)
+pub dealt_has : (o : Opening) (n passes k : ℕ) (r : Row) → IsDealt o n passes k r → Has (dealt_from o n passes k) r
+dealt_has o zero passes k r d = let l = d.1 in absurd (omega arith)
+dealt_has o (suc t) passes k r d = one_has o t passes k r (dealt_from o t passes k) (falls_to o passes k t) refl d (λ e. dealt_has o t passes k r e)
+
+-- one thread more
+pub dealt_more : (o : Opening) (t passes k : ℕ) (b : Bool) → falls_to o passes k t ≡ b → dealt_from o (t + 1) passes k ≡ cond b (first_row t ∷ dealt_from o t passes k) (dealt_from o t passes k)
+dealt_more o t passes k b e = ap (λ (n : ℕ). dealt_from o n passes k) (let next : t + 1 ≡ suc t = omega arith in next) ∙ ap (λ (c : Bool). cond c (first_row t ∷ dealt_from o t passes k) (dealt_from o t passes k)) e
 
 -- a thread that falls to the seat
-pub falls : (later passes k t : ℕ) → falls_to later passes k t ≡ true → (waits later t ≡ false) × (t % passes ≡ k)
-falls later passes k t e =
-    let a = and_parts (not (waits later t)) (eqb (t % passes) k) e in
-    (not-true (waits later t) a.0, eqb-true (t % passes) k a.1)
+pub falls : (o : Opening) (passes k t : ℕ) → falls_to o passes k t ≡ true → RunsIn o t × (t % passes ≡ k)
+falls o passes k t e =
+    let a = and_parts (is_running (thread_in o t).0) (eqb (t % passes) k) e in
+    (a.0, eqb-true (t % passes) k a.1)
 
-pub falls_from : (later passes k t : ℕ) → waits later t ≡ false → t % passes ≡ k → falls_to later passes k t ≡ true
-falls_from later passes k t at_once is = and_from (not (waits later t)) (eqb (t % passes) k) (ap not at_once) (eq-eqb (t % passes) k is)
+pub falls_from : (o : Opening) (passes k t : ℕ) → RunsIn o t → t % passes ≡ k → falls_to o passes k t ≡ true
+falls_from o passes k t runs is = and_from (is_running (thread_in o t).0) (eqb (t % passes) k) runs (eq-eqb (t % passes) k is)
 
 -- what stands at first in the drafts of a pass
 no_offers_of : (rows : List Row) (r : Row) (p x : ℕ) → Has (no_offers rows) (r, p, x) → Has rows r × (p ≡ 1) × (x ≡ 0)
@@ -203,11 +275,14 @@ nothing_agrees threads rows held = record {
   chosen = λ r n count c h. absurd h;
   meet = λ r j p mine theirs h. absurd h;
   one_bound = λ n a b h. absurd h;
+  one_carried = λ n a b h. absurd h;
+  apart = λ n b stamp h. absurd h;
   one_start = λ t a b h. absurd h;
   started = λ t s h. absurd h;
   one_end = λ t a b h. absurd h;
   ended = λ t g h. absurd h;
   bound = λ n b h. absurd h;
+  carried = λ n stamp h. absurd h;
 }
 
 module _ {M : Type 0} where
@@ -234,7 +309,7 @@ module _ {M : Type 0} (stands : Stands M) where
     new = length s.views
 
     abbrev is_dealt : Row → Bool
-    is_dealt r = eqb r.sync 0 && (ltb r.thread shape.threads && falls_to shape.later shape.passes k r.thread)
+    is_dealt r = eqb r.sync 0 && (ltb r.thread shape.threads && falls_to (opening_in shape) shape.passes k r.thread)
 
     abbrev owner' : Row → ℕ
     owner' r = cond (is_dealt r) new (h.owner r)
@@ -246,8 +321,8 @@ module _ {M : Type 0} (stands : Stands M) where
     dealt_his : (r : Row) → is_dealt r ≡ true → h.owner r ≡ id
     dealt_his r e =
         let a = and_parts (eqb r.sync 0) _ e in
-        let b = and_parts (ltb r.thread shape.threads) (falls_to shape.later shape.passes k r.thread) a.1 in
-        let f = falls shape.later shape.passes k r.thread b.1 in
+        let b = and_parts (ltb r.thread shape.threads) (falls_to (opening_in shape) shape.passes k r.thread) a.1 in
+        let f = falls (opening_in shape) shape.passes k r.thread b.1 in
         let m : k ≡ r.thread % h.world.seats = sym (mod_seats r.thread ∙ f.1) in
         let u = was.undealt r.thread (subst (λ (n : ℕ). r.thread < n) was.threads (ltb-true _ _ b.0)) f.0 (omega arith) in
         ap h.owner (same_row r (first_row r.thread) refl (eqb-true r.sync 0 a.0)) ∙ u.0
@@ -265,12 +340,13 @@ module _ {M : Type 0} (stands : Stands M) where
     left = knows_nothing h.world owner' id shape (k + 1) was.threads was.rows was.passes some_seats (λ t i at_once d.
         let u = was.undealt t i at_once (omega arith) in
         let m = mod_seats t in
-        (ap (λ (b : Bool). cond b new (h.owner (first_row t))) (ap (λ (b : Bool). ltb t shape.threads && (not (waits shape.later t) && b)) (ne_eqb (t % shape.passes) k (λ e. omega arith)) ∙ ap (λ (b : Bool). ltb t shape.threads && b) (and-false (not (waits shape.later t))) ∙ and-false (ltb t shape.threads)) ∙ u.0, u.1, u.2 (λ z. z), u.3 (λ l. l.1), u.4, u.5 (λ z. z)))
+        (ap (λ (b : Bool). cond b new (h.owner (first_row t))) (ap (λ (b : Bool). ltb t shape.threads && (is_running (thread_in (opening_in shape) t).0 && b)) (ne_eqb (t % shape.passes) k (λ e. omega arith)) ∙ ap (λ (b : Bool). ltb t shape.threads && b) (and-false (is_running (thread_in (opening_in shape) t).0)) ∙ and-false (ltb t shape.threads)) ∙ u.0, u.1, u.2 (λ z. z), u.3 (λ l. l.1), u.4, u.5 (λ z. z)))
+        was.settled
 
-    dealt_row : (r : Row) → Has (dealt_later shape.later shape.threads shape.passes k) r → (owner' r ≡ new) × (holder_at h.world r ≡ Some k) × (cell_at h.world.table r ≡ Fresh) × (word_at h.world.table r 1 ≡ 0) × ((n : NackName) (b : Binding) → binding_at h.world.table n ≡ Some b → bound_row n b ≢ r) × ((g : ℕ) → EndsAt (course_at h.world.table r.thread) g → ⊥)
+    dealt_row : (r : Row) → Has (dealt_from (opening_in shape) shape.threads shape.passes k) r → (owner' r ≡ new) × (holder_at h.world r ≡ Some k) × (cell_at h.world.table r ≡ Fresh) × (word_at h.world.table r 1 ≡ 0) × ((n : NackName) (b : Binding) → binding_at h.world.table n ≡ Some b → bound_row n b ≢ r) × ((g : ℕ) → EndsAt (course_at h.world.table r.thread) g → ⊥)
     dealt_row r i =
-        let d = has_dealt shape.later shape.threads shape.passes k r i in
-        let f = falls shape.later shape.passes k r.thread d.2 in
+        let d = has_dealt (opening_in shape) shape.threads shape.passes k r i in
+        let f = falls (opening_in shape) shape.passes k r.thread d.2 in
         let m : r.thread % h.world.seats ≡ k = mod_seats r.thread ∙ f.1 in
         let same : first_row r.thread ≡ r = same_row (first_row r.thread) r refl (sym d.0) in
         let u = was.undealt r.thread (subst (λ (n : ℕ). r.thread < n) was.threads d.1) f.0 (omega arith) in (
@@ -294,7 +370,7 @@ module _ {M : Type 0} (stands : Stands M) where
       staged = tt;
       fresh = λ r i n. (dealt_row r i).2;
       drafted = λ r p x i.
-          let n = no_offers_of (dealt_later shape.later shape.threads shape.passes k) r p x i in
+          let n = no_offers_of (dealt_from (opening_in shape) shape.threads shape.passes k) r p x i in
           let g = dealt_row r n.0 in
           let q = n.1 in
           (g.0, (omega arith), (omega arith), g.1, ap (word_at h.world.table r) n.1 ∙ g.3 ∙ sym n.2);
@@ -303,6 +379,8 @@ module _ {M : Type 0} (stands : Stands M) where
       joined = λ r j i. absurd i;
       taken = λ r i. absurd i;
       bound = λ n b i. absurd i;
+      carried = λ n stamp i. absurd i;
+      settled = was.settled;
       started = λ t s i. absurd i;
       ended = λ t g i. absurd i;
       lasts = λ t i. absurd i;
@@ -311,13 +389,13 @@ module _ {M : Type 0} (stands : Stands M) where
     }
 
     -- the rows of the new pass were the dealer's to deal
-    begins : (r : Row) → Has (dealt_later shape.later shape.threads shape.passes k) r ⊎ ((r.thread < shape.threads) × (waits shape.later r.thread ≡ false) × (shape.passes ≤ r.thread % shape.passes))
-        → (r.thread < shape.threads) × (waits shape.later r.thread ≡ false) × (k ≤ r.thread % shape.passes)
-    begins r (inl held) =
-        let d = has_dealt shape.later shape.threads shape.passes k r held in
-        let f = falls shape.later shape.passes k r.thread d.2 in
+    was_to_deal : (r : Row) → Has (dealt_from (opening_in shape) shape.threads shape.passes k) r ⊎ ((r.thread < shape.threads) × RunsIn (opening_in shape) r.thread × (shape.passes ≤ r.thread % shape.passes))
+        → (r.thread < shape.threads) × RunsIn (opening_in shape) r.thread × (k ≤ r.thread % shape.passes)
+    was_to_deal r (inl held) =
+        let d = has_dealt (opening_in shape) shape.threads shape.passes k r held in
+        let f = falls (opening_in shape) shape.passes k r.thread d.2 in
         (d.1, f.0, let e = f.1 in omega arith)
-    begins r (inr d) = let one_pass : 0 < shape.passes = omega arith in let m = mod-lt r.thread one_pass in let far = d.2 in absurd (omega arith)
+    was_to_deal r (inr d) = let one_pass : 0 < shape.passes = omega arith in let m = mod-lt r.thread one_pass in let far = d.2 in absurd (omega arith)
 
     at_old : (j : ℕ) (u : View M) → get_elem? (slice_set s.views id (dealer shape (k + 1))) j ≡ some u → 0 < u.threads → Knows h.world owner' j u
     at_old j u e t = ⊎_elim
@@ -359,11 +437,13 @@ module _ {M : Type 0} (stands : Stands M) where
 
     deals : Keeps stands shape (record { words = s.words; homes = s.homes; views = slice_set s.views id (dealer shape (k + 1)) ++ dealt_pass (dealer shape k) ∷ [] })
     deals = record {
-      few_threads = h.few_threads;
+      opens = h.opens;
       few_rows = h.few_rows;
       moves = h.moves;
       interleaved = one_more_pass h.moves (slice_set s.views id (dealer shape (k + 1))) (dealt_pass (dealer shape k))
           (same_made h.moves s.views id (dealer shape k) (dealer shape (k + 1)) view h.interleaved refl) refl;
+      start = h.start;
+      begins = h.begins;
       world = h.world;
       played = h.played;
       table = h.table;
@@ -371,7 +451,7 @@ module _ {M : Type 0} (stands : Stands M) where
       knows = λ j u e t. ⊎_elim (λ old. at_old j u old t) (λ now. subst (λ (z : ℕ × (View M)). Knows h.world owner' z.0 z.1) (λ i. (sym (now.0 ∙ length-set s.views id (dealer shape (k + 1))) i, now.1 i)) its_pass) (at_end (slice_set s.views id (dealer shape (k + 1))) (dealt_pass (dealer shape k)) u j e);
       seated = new_seat;
       firsts = λ j u e t. ⊎_elim
-          (λ old. firsts_with s.views id (dealer shape k) (dealer shape (k + 1)) (shape.first.value.items, shape.later) view refl some_threads h.firsts j u old t)
+          (λ old. firsts_with s.views id (dealer shape k) (dealer shape (k + 1)) (shape.first.value.items, opening_in shape) view refl some_threads h.firsts j u old t)
           (λ now. ap (λ (z : View M). beginning z) (sym now.1))
           (at_end (slice_set s.views id (dealer shape (k + 1))) (dealt_pass (dealer shape k)) u j e);
       started = h.started;
@@ -379,8 +459,8 @@ module _ {M : Type 0} (stands : Stands M) where
       housed = λ some_first.
           let before = h.housed some_first in
           housed_more stands shape.first.value.items h.world s.homes (slice_set s.views id (dealer shape (k + 1))) (dealt_pass (dealer shape k))
-          (housed_view stands shape.first.value.items h.world s.homes s.views id (dealer shape k) (dealer shape (k + 1)) view some_threads (λ r b. (b.0, ⊎_elim (λ (no : ⊥). absurd no) (λ (d : (r.thread < shape.threads) × (waits shape.later r.thread ≡ false) × (k + 1 ≤ r.thread % shape.passes)). inr (d.0, d.1, (let far = d.2 in omega arith))) b.1, b.2)) before)
-          (λ r b. before.waiting id (dealer shape k) r view some_threads (b.0, inr (begins r b.1), λ no. no));
+          (housed_view stands shape.first.value.items h.world s.homes s.views id (dealer shape k) (dealer shape (k + 1)) view some_threads (λ r b. (b.0, ⊎_elim (λ (no : ⊥). absurd no) (λ (d : (r.thread < shape.threads) × RunsIn (opening_in shape) r.thread × (k + 1 ≤ r.thread % shape.passes)). inr (d.0, d.1, (let far = d.2 in omega arith))) b.1, b.2)) before)
+          (λ r b. before.waiting id (dealer shape k) r view some_threads (b.0, inr (was_to_deal r b.1), λ no. no));
       results = λ j u t rs e i. ⊎_elim
           (λ old. ⊎_elim
           (λ (a : (j ≡ id) × (dealer shape (k + 1) ≡ u)). absurd (subst (λ (z : View M). Has z.results (t, rs)) (sym a.1) i))

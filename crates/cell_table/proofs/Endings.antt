@@ -1,5 +1,5 @@
 -- The words of a table at its end, and what their ledger says.
-use Rattle.std.proofs.Common.{Option, Bool, false, cond, ◌≡◌, ℕ, zero, suc, ◌+◌, ◌<◌, ◌≤◌, List, [], ◌∷◌, length, slice_index, slice_set, slice_get, get_or, sym, ap, ◌∙◌, subst, inl, inr, ⊎_elim, arith, Some, None}
+use Rattle.std.proofs.Common.{Option, Bool, false, ◌≡◌, ◌≢◌, ℕ, zero, suc, ◌+◌, ◌<◌, ◌≤◌, List, [], ◌∷◌, length, slice_index, slice_set, slice_get, get_or, sym, refl, ap, ◌∙◌, subst, ⊎_elim, arith, Some, None}
 use Rattle.std.proofs.lemmas.List.{ext_get_or, get_or-set_same, get_or-set_other}
 use mathlib.Core.Option.{some, none}
 use lib.ListN.{get_elem?}
@@ -9,10 +9,12 @@ use Rattle.protocol_values.specs.declared.Offer.{Offer}
 use Rattle.protocol_values.specs.declared.NackName.{NackName}
 use Rattle.protocol_values.specs.declared.Binding.{Binding}
 use Rattle.protocol_values.specs.declared.Course.{Course}
-use Rattle.protocol_values.specs.declared.Course.TheVariants.{Unstarted, Running}
 use Rattle.protocol_values.specs.declared.Row.{Row}
 use Rattle.protocol.specs.Kept.{Linked}
-use Rattle.protocol.specs.Tables.{Table, cell_at, course_at, is_fresh, is_taken, joined_at, marks_at, offer_at, place_of, word_at}
+use Rattle.protocol.specs.declared.opening.Life.{Life}
+use Rattle.protocol.specs.declared.opening.Life.TheVariants as life
+use Rattle.protocol.specs.Openings.{HadEnded, HadStarted, Opening, course_for, greatest, state_in, thread_in, word_for}
+use Rattle.protocol.specs.Tables.{Table, carried_by, cell_at, course_at, is_fresh, is_taken, joined_at, marks_at, offer_at, place_of, word_at}
 use Rattle.protocol.proofs.Closing.{none_later}
 use Rattle.protocol.proofs.Places.{row_from}
 use Rattle.protocol_values.specs.Words.{cell_of}
@@ -20,20 +22,22 @@ use Rattle.protocol_values.specs.declared.Cell.TheVariants.{Fresh}
 use Rattle.std.specs.Prelude.{if◌then◌else◌, unwrap_or}
 use Rattle.std.proofs.lemmas.Option.{same_Some}
 use Rattle.cell_table.specs.Closings.{HandedOut, IsHomeOf}
-use Rattle.protocol.specs.Growing.{GoesOn}
-use Rattle.protocol.specs.Worlds.{start_world, waits}
-use Rattle.protocol.specs.Ledgers.{ledger_of, IsLawful, binding_in, course_in, joined_in, offer_in}
-use Rattle.protocol.proofs.LedgerLemmas.{binding_in_ledger, course_in_ledger, kept_start, lawful_ledger, joined_in_ledger, offer_in_ledger, opening_in_ledger, start_course}
+use Rattle.protocol.specs.Growing.{GoesOn, GrowsTo}
+use Rattle.protocol.specs.Ledgers.{Ledger, ledger_of, IsLawful, binding_in, carried_in, course_in, joined_in, offer_in}
+use Rattle.protocol.proofs.Acting.{first_course_at, start_stays}
+use Rattle.protocol.proofs.Beginning.{first_carried}
+use Rattle.protocol.proofs.LedgerLemmas.{binding_in_ledger, carried_in_ledger, course_in_ledger, kept_opening, lawful_ledger, joined_in_ledger, offer_in_ledger, opening_in_ledger}
 use Rattle.protocol.proofs.Onward.{grows-schedule}
 use Rattle.protocol.specs.Standing.{AreResults, OffersAs, Result, SomeStands, Stands}
 use Rattle.protocol.proofs.Standing.{stands-ledger}
 use Rattle.cell_table.specs.declared.view.View.{View}
 use Rattle.cell_table.specs.declared.view.Shape.{Shape}
 use Rattle.cell_table.specs.Sight.{Has, IsDraft, SeesOffer, SeesNoOffer}
-use Rattle.protocol.specs.Acting.{ActsAs, EndsAt, HasStart, acts_in}
-use Rattle.cell_table.specs.Views.{Knows}
-use Rattle.cell_table.specs.Rule.{Keeps, StartsFirst, in_order}
+use Rattle.protocol.specs.Acting.{ActsAs, EndsAt, HasStart, acts_in, before_of}
+use Rattle.cell_table.specs.Views.{Knows, opening_in}
+use Rattle.cell_table.specs.Rule.{Keeps, in_order}
 use Rattle.cell_table.proofs.Allowing.{sized}
+use Rattle.cell_table.proofs.Binding.{nack_from}
 use Rattle.cell_table.proofs.Turning.{world_kept}
 use Rattle.cell_table.proofs.Truths.{own_chose, sees_known, lacks_known}
 
@@ -90,17 +94,45 @@ module _ {M : Type 0} (stands : Stands M) where
     pub final_ended : (t g : ℕ) → Has v.seen.ended (t, g) → EndsAt (course_in (ledger_of (sized shape ws)) t) g
     final_ended t g h = subst (λ (c : Course). EndsAt c g) (sym (course_there t)) (known.ended t g h)
 
-    -- a thread that did not wait started before all steps
-    pub final_at_once : (t : ℕ) → t < shape.threads → waits shape.later t ≡ false → HasStart (course_in (ledger_of (sized shape ws)) t) 0
-    unfolding start_world
-    final_at_once t below free =
-        let grown = grows-schedule (start_world shape.threads shape.rows shape.passes shape.later) kept.world (in_order kept.moves) (kept_start shape.threads shape.rows shape.passes shape.later kept.few_threads kept.few_rows) kept.played in
-        subst (λ (c : Course). HasStart c 0) (sym (course_there t))
-        (goes_from (course_at kept.world.table t) (subst (λ (c : Course). GoesOn c (course_at kept.world.table t)) (start_course shape.threads shape.rows shape.later t below ∙ ap (λ (b : Bool). cond b Unstarted (Running 0)) free) (grown.courses t)))
+    abbrev before : Opening
+    before = opening_in shape
+
+    low : greatest before ≤ 4294967295
+    low = let r = kept.opens.room in omega arith
+
+    grown : GrowsTo kept.start.table kept.world.table
+    grown = grows-schedule kept.start kept.world (in_order kept.moves) (kept_opening before shape.rows shape.passes kept.start kept.opens kept.few_rows kept.begins) kept.played
+
+    -- a thread that had started, or ended, before all steps
+    its_course : (t : ℕ) → GoesOn (course_for (thread_in before t).0 (thread_in before t).1) (course_in (ledger_of (sized shape ws)) t)
+    its_course t =
+        subst (GoesOn (course_for (thread_in before t).0 (thread_in before t).1)) (sym (course_there t))
+        (subst (λ (c : Course). GoesOn c (course_at kept.world.table t)) (first_course_at before shape.rows shape.passes kept.start low kept.begins t) (grown.courses t))
+
+    pub final_before : (t stamp : ℕ) → HadStarted before t stamp → HasStart (course_in (ledger_of (sized shape ws)) t) stamp
+    final_before t stamp had = start_stays (course_for (thread_in before t).0 (thread_in before t).1) (course_in (ledger_of (sized shape ws)) t) stamp (its_course t) (begun (thread_in before t).0 (thread_in before t).1 had.0 had.1)
       where
-        goes_from : (c : Course) → GoesOn (Running 0) c → HasStart c 0
-        goes_from c (inl is) = subst (λ (d : Course). HasStart d 0) (sym is) (λ i. 0)
-        goes_from c (inr is) = subst (λ (d : Course). HasStart d 0) (sym is.1) (λ i. 0)
+        begun : (l : Life) (s : ℕ) → l ≢ life.Unstarted → s ≡ stamp → HasStart (course_for l s) stamp
+        begun life.Unstarted s other is = absurd (other refl)
+        begun life.Running s other is = is
+        begun life.Ended s other is = is
+
+    pub final_over : (t : ℕ) → HadEnded before t → EndsAt (course_in (ledger_of (sized shape ws)) t) 0
+    final_over t had = over (thread_in before t).0 (thread_in before t).1 had (its_course t)
+      where
+        over : (l : Life) (s : ℕ) → l ≡ life.Ended → GoesOn (course_for l s) (course_in (ledger_of (sized shape ws)) t) → EndsAt (course_in (ledger_of (sized shape ws)) t) 0
+        over life.Unstarted s is on = let bad : life.Unstarted ≡ life.Ended = is in cc
+        over life.Running s is on = let bad : life.Running ≡ life.Ended = is in cc
+        over life.Ended s is on = subst (λ (c : Course). EndsAt c 0) (sym on) refl
+
+    -- and each nack that was settled stays so
+    pub final_carried : (n : NackName) → n.thread < shape.threads → n.k < 64 → carried_in (ledger_of (sized shape ws)) n ≡ carried_by (word_for (state_in before n))
+    final_carried n thread low_k =
+        ap (λ (t : Table). carried_in (ledger_of t) n) (sym table_is)
+        ∙ ap (λ (f : NackName → Option ℕ). f n) (carried_in_ledger kept.world.table)
+        ∙ grown.carried n
+        ∙ first_carried before kept.start.table kept.begins.words low n
+        (nack_from kept.start.table n (let size : shape.threads ≡ kept.start.table.threads = ap (λ (t : Table). t.threads) (sym table_is) ∙ grown.threads in omega (arith, thread, size)) low_k)
 
     pub final_own : (r : Row) (j : Joined) (offers : List Offer) → IsDraft v.seen r offers → joined_in (ledger_of (sized shape ws)) r ≡ Some j
         → (j.own < length offers) × (offer_in (ledger_of (sized shape ws)) r j.own ≡ slice_get offers j.own)
@@ -118,9 +150,9 @@ module _ {M : Type 0} (stands : Stands M) where
         subst (λ (t : Table). offer_in (ledger_of t) r n ≡ None) table_is (ap (λ (f : Row → ℕ → _). f r n) (offer_in_ledger kept.world.table) ∙ lacks_known kept.world kept.owner id v r n known sees)
 
     -- in a table of machines the threads do what those do who stand for them
-    pub final_acts : 0 < length shape.first.value.items → ActsAs (StartsFirst shape.threads shape.later) (acts_in stands shape.first.value.items) (ledger_of (sized shape ws))
-    final_acts some_first = subst (λ (t : Table). ActsAs (StartsFirst shape.threads shape.later) (acts_in stands shape.first.value.items) (ledger_of t)) table_is (record {
-      nothing_before = opening_in_ledger kept.world.table ∙ ap (λ (t : Table). t.opening) table_is;
+    pub final_acts : 0 < length shape.first.value.items → ActsAs (before_of (opening_in shape)) (acts_in stands shape.first.value.items) (ledger_of (sized shape ws))
+    final_acts some_first = subst (λ (t : Table). ActsAs (before_of (opening_in shape)) (acts_in stands shape.first.value.items) (ledger_of t)) table_is (record {
+      stamps = opening_in_ledger kept.world.table ∙ ap (λ (t : Table). t.opening) table_is;
       offers = stands-ledger (SomeStands stands shape.first.value.items) kept.world.table (kept.housed some_first).rows;
       starts = kept.started some_first;
       ends = kept.ended some_first;
@@ -138,6 +170,10 @@ module _ {M : Type 0} (stands : Stands M) where
           next = λ c x has involved.
               none_later (sized shape ws) (subst (λ (z : Table). Linked z.threads z.rows (cell_at z) (offer_at z) (marks_at z)) table_is (world_kept stands shape final.0 kept).linked) t g h.1.1.1 c x has involved;
         }
+
+-- the ledger of these words, where the greatest stamp before the table is told
+pub sized_ledger : {M : Type 0} (shape : Shape M) (ws : List ℕ) (stamps : ℕ) (l : Ledger) → stamps ≡ greatest (opening_in shape) → l ≡ ledger_of (record { threads = shape.threads; rows = shape.rows; words = ws; opening = stamps }) → l ≡ ledger_of (sized shape ws)
+sized_ledger shape ws stamps l is told = told ∙ ap (λ (n : ℕ). ledger_of (record { threads = shape.threads; rows = shape.rows; words = ws; opening = n })) is
 
 -- A CELL, by the words alone
 pub cell_from : {M : Type 0} (shape : Shape M) (ws : List ℕ) (r : Row) → r.thread < shape.threads → r.sync < shape.rows

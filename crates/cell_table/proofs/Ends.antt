@@ -19,7 +19,7 @@ use Rattle.protocol.specs.Tables.{Table, binding_at, course_at, course_place, is
 use Rattle.protocol.specs.Worlds.{Allowed, World, after_step, ended_at, with_course, with_table}
 use Rattle.protocol.proofs.Keeping.{holder_same, rows_lived, threads_lived}
 use Rattle.protocol.proofs.Places.{word_lived}
-use Rattle.protocol.proofs.Readings.{binding_after_life, cell_after_life, course_lived, course_lived_other}
+use Rattle.protocol.proofs.Readings.{binding_after_life, carried_after_life, cell_after_life, course_lived, course_lived_other}
 use Rattle.protocol.proofs.RowLemmas.{same_row}
 use Rattle.cell_table.specs.declared.view.Shape.{Shape}
 use Rattle.cell_table.specs.declared.view.Stage.TheVariants.{Aside, Resting}
@@ -67,6 +67,7 @@ module _ (w : World) (x : Row) (start : ℕ) (k : Kept w) (below : x.thread < w.
     words = λ r q row low high. word_lived w.table x.thread (Ended start x.sync) r q row high;
     held = λ r s h. holder_same w (with_course w.table x.thread (Ended start x.sync)) r (threads_lived w.table x.thread (Ended start x.sync)) (rows_lived w.table x.thread (Ended start x.sync)) ∙ h;
     bound = λ n b e. ap (λ (f : NackName → Option Binding). f n) (binding_after_life w.table x.thread (Ended start x.sync)) ∙ e;
+    carried = λ n. ap (λ (f : NackName → Option ℕ). f n) (carried_after_life w.table x.thread (Ended start x.sync));
     starts = λ q s h. ⊎_elim
         (λ (same : q ≡ x.thread).
         let is : start ≡ s = subst (λ (c : Course). HasStart c s) (ap (course_at w.table) same ∙ running) h in

@@ -11,13 +11,13 @@ use Rattle.protocol_values.specs.declared.Row.{Row}
 use Rattle.protocol_values.specs.declared.Joined.{Joined}
 use Rattle.protocol_values.specs.declared.Cell.{Cell}
 use Rattle.protocol_values.specs.declared.Cell.TheVariants.{Fresh, Claimed, Synched, Taken}
-use Rattle.protocol.specs.Tables.{course_at, is_row, row_eq, is_fresh, is_taken, names, word_at, cell_at, joined_at, binding_at, bound_row}
+use Rattle.protocol.specs.Tables.{course_at, is_row, row_eq, is_fresh, is_taken, names, word_at, cell_at, joined_at, binding_at, bound_row, carried_at}
 use Rattle.protocol_values.specs.Values.{next_row, joined_of}
 use Rattle.protocol.specs.Worlds.{IsAlive, StandsAt, World, first_row, handed_last, holder_at, last_holder, with_cell, with_table, with_holders, handed}
 use Rattle.protocol.specs.Kept.{Kept}
 use Rattle.protocol.proofs.RowLemmas.{row_cases, row_ne, same_row, put, put_same, put_other}
 use Rattle.protocol.proofs.Linking.{cases_Option, taken_open}
-use Rattle.protocol.proofs.Readings.{row_of_open, row_after_cell, binding_after_cell, course_after_cell}
+use Rattle.protocol.proofs.Readings.{row_of_open, row_after_cell, binding_after_cell, carried_after_cell, course_after_cell}
 use Rattle.protocol.proofs.Keeping.{held_row, holder_lasted, last_kept_at, open_held, hand_other, hand_next, handed_same, cells_taken, taken_before, took}
 use Rattle.protocol.proofs.Places.{row_inside, word_other}
 use Rattle.cell_table.specs.declared.view.View.{View}
@@ -42,6 +42,7 @@ pub record Follows (w u : World) : Type 0 where
   pub words : (r : Row) (p : ℕ) → is_row w.table r ≡ true → 1 ≤ p → p < 34 → word_at u.table r p ≡ word_at w.table r p
   pub held : (r : Row) (seat : ℕ) → holder_at w r ≡ Some seat → holder_at u r ≡ Some seat
   pub bound : (n : NackName) (b : Binding) → binding_at w.table n ≡ Some b → binding_at u.table n ≡ Some b
+  pub carried : (n : NackName) → carried_at u.table n ≡ carried_at w.table n
   pub starts : (p s : ℕ) → HasStart (course_at w.table p) s → HasStart (course_at u.table p) s
   pub ends : (p g : ℕ) → EndsAt (course_at w.table p) g → EndsAt (course_at u.table p) g
   pub behind : (t seat : ℕ) → last_holder w t ≡ Some seat → last_holder u t ≡ Some seat
@@ -165,6 +166,8 @@ module _ {M : Type 0} where
       joined = λ r j h. f.joined r ∙ k.joined r j h;
       taken = λ r h. f.taken r (k.taken r h);
       bound = there;
+      carried = λ n stamp h. f.carried n ∙ k.carried n stamp h;
+      settled = λ n stamp h. k.settled n stamp (sym (f.carried n) ∙ h);
       started = begun;
       ended = over;
       lasts = λ t h. let a = k.lasts t h in (ap (λ (n : ℕ). owner (behind_last n t)) f.rows ∙ a.0, f.behind t v.seat a.1, seen_end (behind_last w.table.rows t) a.0 (place_last w owner id v k t h) a.2);
@@ -217,6 +220,8 @@ module _ {M : Type 0} where
     joined = k.joined;
     taken = k.taken;
     bound = k.bound;
+    carried = k.carried;
+    settled = k.settled;
     started = k.started;
     ended = k.ended;
     lasts = λ t h. let a = k.lasts t h in (last t (some_last w t _ a.1) a.0, a.1, a.2);
@@ -243,6 +248,8 @@ module _ {M : Type 0} where
     joined = k.joined;
     taken = k.taken;
     bound = k.bound;
+    carried = k.carried;
+    settled = k.settled;
     started = k.started;
     ended = k.ended;
     lasts = k.lasts;
@@ -295,6 +302,8 @@ module _ {M : Type 0} where
     joined = k.joined;
     taken = k.taken;
     bound = k.bound;
+    carried = k.carried;
+    settled = k.settled;
     started = k.started;
     ended = k.ended;
     lasts = λ t h. lasts_now t h;
@@ -403,6 +412,7 @@ module _ (w : World) (seat : Seat) (x : Row) (j : Joined) (k : Kept w) (is : cel
     words = word_kept;
     held = λ r s h. other_holder r (not_held r s h) ∙ h;
     bound = λ n b e. bindings_after n ∙ e;
+    carried = λ n. ap (λ (f : NackName → Option ℕ). f n) (carried_after_cell w.table x (Taken j) (row_of_open w.table x (ap is_fresh is)));
     starts = λ p s h. subst (λ (c : Course). HasStart c s) (sym (courses_after p)) h;
     ends = λ p g h. subst (λ (c : Course). EndsAt c g) (sym (courses_after p)) h;
     behind = λ t s h. last_kept_at w.table w.lasts seat x t (λ same end. not_last t s h same end) ∙ h;

@@ -10,7 +10,7 @@ use Rattle.protocol_values.specs.declared.NackName.{NackName}
 use Rattle.protocol_values.specs.declared.Binding.{Binding}
 use Rattle.protocol_values.specs.declared.Row.{Row}
 use Rattle.protocol.specs.Tables.{row_eq}
-use Rattle.protocol.specs.Worlds.{World, waits}
+use Rattle.protocol.specs.Worlds.{World}
 use Rattle.protocol.proofs.RowLemmas.{row_eq-refl, row_eq-true}
 use Rattle.protocol_values.specs.declared.Offer.{Offer}
 use Rattle.protocol.specs.Standing.{AreResults, Result, Stands}
@@ -19,7 +19,7 @@ use Rattle.cell_table.specs.declared.view.Seen.{Seen}
 use Rattle.cell_table.specs.declared.view.View.{View}
 use Rattle.cell_table.specs.declared.view.Shape.{Shape}
 use Rattle.cell_table.specs.Sight.{Has, SeesOffer, SeesNoOffer}
-use Rattle.cell_table.specs.Views.{Knows, SeesEnd}
+use Rattle.cell_table.specs.Views.{Knows, RunsIn, SeesEnd, opening_by, opening_in}
 use Rattle.cell_table.specs.Rule.{Keeps, beginning, at_seat, is_among, drafts_of, told_of, told_pass, heard, heard_pass, spent_pass}
 use Rattle.cell_table.proofs.Dealing.{one_more_pass}
 use Rattle.cell_table.proofs.Seating.{at_end, seated_more, seated_seen, seated_spent}
@@ -91,9 +91,12 @@ pub told_lack : (s t : Seen) (r : Row) (n : ℕ) → SeesNoOffer s r n → SeesN
 told_lack s t r n (inl h) = inl (h.0, read_word s t (r, 1, h.0) h.1, h.2)
 told_lack s t r n (inr h) = inl (h.1.0, told_word s t r 1 h.1.0 h.0 h.1.1, h.1.2)
 
--- a nack that was seen bound is among those that were told
+-- a nack that was seen bound or carried is among those that were told
 pub told_bound : (s t : Seen) (n : NackName) (b : Binding) → Has s.bound (n, b) → Has (heard t (told_of s)).bound (n, b)
 told_bound s t n b h = has_right t.bound s.bound (n, b) h
+
+pub told_carried : (s t : Seen) (n : NackName) (stamp : ℕ) → Has s.carried (n, stamp) → Has (heard t (told_of s)).carried (n, stamp)
+told_carried s t n stamp h = has_right t.carried s.carried (n, stamp) h
 
 module _ (w : World) (owner : Row → ℕ) where
   module _ {M : Type 0} where
@@ -120,6 +123,8 @@ module _ (w : World) (owner : Row → ℕ) where
       joined = k.joined;
       taken = k.taken;
       bound = k.bound;
+      carried = k.carried;
+      settled = k.settled;
       started = k.started;
       ended = k.ended;
       lasts = λ t h. absurd h;
@@ -149,6 +154,8 @@ module _ (w : World) (owner : Row → ℕ) where
       started = λ t s h. ⊎_elim (λ (a : Has v.seen.started (t, s)). k.started t s a) (λ (c : Has u.seen.started (t, s)). l.started t s c) (has_either v.seen.started u.seen.started (t, s) h);
       ended = λ t g h. ⊎_elim (λ (a : Has v.seen.ended (t, g)). k.ended t g a) (λ (c : Has u.seen.ended (t, g)). l.ended t g c) (has_either v.seen.ended u.seen.ended (t, g) h);
       bound = λ n b h. ⊎_elim (λ (a : Has v.seen.bound (n, b)). k.bound n b a) (λ (c : Has u.seen.bound (n, b)). l.bound n b c) (has_either v.seen.bound u.seen.bound (n, b) h);
+      settled = k.settled;
+      carried = λ n stamp h. ⊎_elim (λ (a : Has v.seen.carried (n, stamp)). k.carried n stamp a) (λ (c : Has u.seen.carried (n, stamp)). l.carried n stamp c) (has_either v.seen.carried u.seen.carried (n, stamp) h);
       lasts = λ t h. let a = k.lasts t h in (a.0, a.1, more_ends t a.2);
       lively = λ r h n. more_ends r.thread (k.lively r h (λ o. n (has_left v.seen.opened u.seen.opened r o)));
       binds = λ n b e h. has_left v.seen.bound u.seen.bound (n, b) (k.binds n b e h);
@@ -160,10 +167,12 @@ module _ (w : World) (owner : Row → ℕ) where
 module _ {M : Type 0} (stands : Stands M) where
   pub tell_allowed : (shape : Shape M) (id : ℕ) (v : View M) → 0 < v.threads → Splits {S = Option M} (Keeps stands shape) id v v (told_pass v)
   tell_allowed shape id v at_table s k view = record {
-    few_threads = k.few_threads;
+    opens = k.opens;
     few_rows = k.few_rows;
     moves = k.moves;
     interleaved = one_more_pass k.moves (slice_set s.views id v) (told_pass v) (same_made k.moves s.views id v v view k.interleaved refl) refl;
+    start = k.start;
+    begins = k.begins;
     world = k.world;
     played = k.played;
     table = k.table;
@@ -180,7 +189,7 @@ module _ {M : Type 0} (stands : Stands M) where
         (λ t moves. absurd (moves refl))
         (seated_seen s.views id v v view (refl, refl, refl, refl, refl, λ q h. inl h) refl refl k.seated);
     firsts = λ j u e t. ⊎_elim
-        (λ old. firsts_with s.views id v v (shape.first.value.items, shape.later) view refl at_table k.firsts j u old t)
+        (λ old. firsts_with s.views id v v (shape.first.value.items, opening_in shape) view refl at_table k.firsts j u old t)
         (λ (now : (j ≡ length (slice_set s.views id v)) × (told_pass v ≡ u)). ap (λ (z : View M). beginning z) (sym now.1) ∙ k.firsts id v view at_table)
         (at_end (slice_set s.views id v) (told_pass v) u j e);
     started = k.started;
@@ -189,7 +198,7 @@ module _ {M : Type 0} (stands : Stands M) where
         let before = housed_view stands shape.first.value.items k.world s.homes s.views id v v view at_table (λ r b. b) (k.housed some_first) in
         housed_more stands shape.first.value.items k.world s.homes (slice_set s.views id v) (told_pass v) before (λ r b. absurd (⊎_elim
         (λ (h : ⊥). h)
-        (λ (d : (r.thread < v.threads) × (waits v.later r.thread ≡ false) × (v.passes ≤ r.thread % v.passes)). let m = mod-lt r.thread (some_passes (k.knows id v view at_table)) in let far = d.2 in omega arith)
+        (λ (d : (r.thread < v.threads) × RunsIn (opening_by v) r.thread × (v.passes ≤ r.thread % v.passes)). let m = mod-lt r.thread (some_passes (k.knows id v view at_table)) in let far = d.2 in omega arith)
         b.1));
     results = λ j u t rs e h. ⊎_elim
         (λ old. ⊎_elim
@@ -211,11 +220,13 @@ module _ {M : Type 0} (stands : Stands M) where
 
   pub hear_allowed : (shape : Shape M) (id : ℕ) (v : View M) (other : ℕ) (w : View M) → 0 < v.threads → 0 < w.threads → w.made ≡ [] → Joins {S = Option M} (Keeps stands shape) id v other w (heard_pass v w) spent_pass
   hear_allowed shape id v other w at_table told_at nothing s k view apart told = record {
-    few_threads = k.few_threads;
+    opens = k.opens;
     few_rows = k.few_rows;
     moves = k.moves;
     interleaved = same_made k.moves (slice_set s.views id (heard_pass v w)) other w spent_pass told
         (same_made k.moves s.views id v (heard_pass v w) view k.interleaved refl) (ap (at_seat w.seat) nothing);
+    start = k.start;
+    begins = k.begins;
     world = k.world;
     played = k.played;
     table = k.table;
@@ -227,7 +238,7 @@ module _ {M : Type 0} (stands : Stands M) where
     seated = seated_spent (slice_set s.views id (heard_pass v w)) other w told (seated_seen s.views id v (heard_pass v w) view (refl, refl, refl, refl, refl, λ q h. inl h) refl refl k.seated);
     firsts = λ j u e t. ⊎_elim
         (λ (a : (j ≡ other) × (spent_pass ≡ u)). let z : u.threads ≡ 0 = ap (λ (y : View M). y.threads) (sym a.1) in absurd (omega arith))
-        (λ (a : (j ≢ other) × (get_elem? (slice_set s.views id (heard_pass v w)) j ≡ some u)). firsts_with s.views id v (heard_pass v w) (shape.first.value.items, shape.later) view refl at_table k.firsts j u a.1 t)
+        (λ (a : (j ≢ other) × (get_elem? (slice_set s.views id (heard_pass v w)) j ≡ some u)). firsts_with s.views id v (heard_pass v w) (shape.first.value.items, opening_in shape) view refl at_table k.firsts j u a.1 t)
         (at_set (slice_set s.views id (heard_pass v w)) other j spent_pass u e);
     started = k.started;
     ended = k.ended;

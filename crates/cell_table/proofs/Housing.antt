@@ -21,7 +21,7 @@ use Rattle.protocol.specs.Standing.{OffersAs, OpenedAs, Result, SomeStands, Stan
 use Rattle.protocol_values.specs.declared.Offer.{Offer}
 use Rattle.protocol.specs.Tables.{Table, cell_at, course_at, is_fresh, is_taken}
 use Rattle.protocol_values.specs.Values.{next_row}
-use Rattle.protocol.specs.Worlds.{Allowed, World, after_step, first_row, holder_at, waits}
+use Rattle.protocol.specs.Worlds.{Allowed, World, after_step, first_row, holder_at}
 use Rattle.protocol.proofs.Keeping.{is_held, taken_before}
 use Rattle.protocol.proofs.Onward.{grows-step, opens-step, taken-step}
 use Rattle.protocol.proofs.RowLemmas.{same_row}
@@ -29,6 +29,7 @@ use Rattle.protocol.proofs.Standing.{offers-stay, stands-step}
 use Rattle.cell_table.specs.declared.view.View.{View}
 use Rattle.cell_table.specs.declared.view.Seen.{Seen}
 use Rattle.cell_table.specs.Sight.{Has, see_held, see_next}
+use Rattle.cell_table.specs.Views.{RunsIn, opening_by}
 use Rattle.std.proofs.Math.Dec.{ltb}
 use Rattle.cell_table.specs.Rule.{Housed, IsHome, IsToBegin, Waits}
 
@@ -170,13 +171,13 @@ abbrev last_seen : Row → Seen → Seen
 last_seen r s = record s { lasts = r.thread ∷ s.lasts }
 
 pub took_begins : {M : Type 0} (rows : ℕ) (r : Row) (s : Seen) (v : View M) (q : Row)
-    → (q.sync ≡ 0) × (Has (see_next rows r s).held q ⊎ ((q.thread < v.threads) × (waits v.later q.thread ≡ false) × (v.dealt ≤ q.thread % v.passes))) × (¬ Has (see_next rows r s).begun q)
-    → (q.sync ≡ 0) × (Has s.held q ⊎ ((q.thread < v.threads) × (waits v.later q.thread ≡ false) × (v.dealt ≤ q.thread % v.passes))) × (¬ Has s.begun q)
+    → (q.sync ≡ 0) × (Has (see_next rows r s).held q ⊎ ((q.thread < v.threads) × RunsIn (opening_by v) q.thread × (v.dealt ≤ q.thread % v.passes))) × (¬ Has (see_next rows r s).begun q)
+    → (q.sync ≡ 0) × (Has s.held q ⊎ ((q.thread < v.threads) × RunsIn (opening_by v) q.thread × (v.dealt ≤ q.thread % v.passes))) × (¬ Has s.begun q)
 took_begins rows r s v q b = (
   b.0,
   ⊎_elim
       (λ (h : Has (see_next rows r s).held q). inl (held_case (ltb (r.sync + 1) rows) (next_seen r s) (last_seen r s) s (next_row r) q refl refl (λ e. let z = b.0 in let y : r.sync + 1 ≡ q.sync = ap (λ (x : Row). x.sync) e in absurd (omega arith)) h))
-      (λ (d : (q.thread < v.threads) × (waits v.later q.thread ≡ false) × (v.dealt ≤ q.thread % v.passes)). inr d)
+      (λ (d : (q.thread < v.threads) × RunsIn (opening_by v) q.thread × (v.dealt ≤ q.thread % v.passes)). inr d)
       b.1,
   λ h. b.2 (subst (λ (l : List Row). Has l q) (sym (begun_case (ltb (r.sync + 1) rows) (next_seen r s) (last_seen r s) s refl refl)) h),
 )
@@ -192,7 +193,7 @@ holds_case false t u s x q e f h = subst (λ (l : List Row). Has l q) (sym f) h
 pub took_holds : (rows : ℕ) (r : Row) (s : Seen) (q : Row) → Has s.held q → Has (see_next rows r s).held q
 took_holds rows r s q h = holds_case (ltb (r.sync + 1) rows) (next_seen r s) (last_seen r s) s (next_row r) q refl refl h
 
-module _ {M : Type 0} (stands : Stands M) (first : List M) where
+module _ {M : Type 0} (stands : Stands M) (first : List (Option M)) where
   -- A pass knows more, or other slots are out, or the world went on: what a pass is to begin with waits as it did
   waits_on : (w u : World) (homes homes' : List (Maybe (Option M))) (r : Row) → Waits first w homes r → is_fresh (cell_at u.table r) ≡ true → get_elem? homes' r.thread ≡ get_elem? homes r.thread → Waits first u homes' r
   waits_on w u homes homes' r h fresh same = record { fresh = fresh; value = h.value; is_first = h.is_first; home = same ∙ h.home }

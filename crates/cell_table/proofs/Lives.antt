@@ -23,7 +23,7 @@ use Rattle.cell_table.specs.Views.{Knows, saw_course}
 use Rattle.cell_table.proofs.Following.{some_last, some_seat, stand_ends}
 use Rattle.cell_table.proofs.Others.{learn_course}
 use Rattle.cell_table.proofs.Seating.{Stays}
-use Rattle.cell_table.proofs.Truths.{coherent}
+use Rattle.cell_table.proofs.Truths.{with_itself}
 use Rattle.cell_table.proofs.Turning.{keeps_view, world_kept}
 
 module _ {M : Type 0} where
@@ -78,6 +78,6 @@ module _ {M : Type 0} (stands : Stands M) where
               let same : p ≡ q = same_course_place shape.rows p q (sym here ∙ at.1 ∙ ap (λ (n : ℕ). course_place n q) rows) in (
                 ap (λ (n : ℕ). (saw_course n c me.0, me.1)) same,
                 subst (λ (z : ℕ × Course). AgreesLife me.0 z.0 z.1) (λ i. (same i, is i)) (agrees_life k.world k.owner id me.0 known kept p),
-                coherent k.world k.owner id (saw_course p c me.0) sees kept,
+                with_itself k.world k.owner id (saw_course p c me.0) sees kept,
               ),
         )

@@ -1,13 +1,12 @@
 -- A step of some kinds is made by one pass at most: a row is taken once, and a thread started and ended once. And where no pass has
 -- made a step, nothing has happened.
-use Rattle.std.proofs.Common.{◌≡◌, ◌≢◌, ◌⊎◌, ◌<◌, ◌≤◌, ℕ, zero, suc, Bool, true, false, cond, List, [], ◌∷◌, ◌++◌, length, sym, refl, ap, ◌∙◌, subst, inl, inr, ⊎_elim, arith, Option, None, is_some, eqb}
+use Rattle.std.proofs.Common.{◌≡◌, ◌≢◌, ◌⊎◌, ◌≤◌, ℕ, zero, suc, Bool, true, false, cond, List, [], ◌∷◌, ◌++◌, length, sym, refl, ap, ◌∙◌, subst, inl, inr, ⊎_elim, arith, Option, is_some, eqb}
 use Rattle.std.proofs.lemmas.Bool.{eq-eqb, eqb-true, false≢true}
 use mathlib.Core.Option.{some}
 use lib.ListN.{get_elem?}
 use Rattle.protocol_values.specs.declared.Seat.{Seat}
 use Rattle.protocol_values.specs.declared.Step.{Step}
 use Rattle.protocol_values.specs.declared.Step.TheVariants.{Finish, Start, Take}
-use Rattle.protocol_values.specs.declared.NackName.{NackName}
 use Rattle.protocol_values.specs.declared.Row.{Row}
 use Rattle.protocol_values.specs.declared.Joined.{Joined}
 use Rattle.protocol_values.specs.declared.Course.{Course}
@@ -15,11 +14,10 @@ use Rattle.protocol_values.specs.declared.Course.TheVariants.{Unstarted, Running
 use Rattle.protocol_values.specs.declared.Cell.{Cell}
 use Rattle.protocol_values.specs.declared.Cell.TheVariants.{Fresh, Waiting, Claimed, Synched, Taken}
 use Rattle.protocol.specs.Growing.{GoesOn}
-use Rattle.protocol.specs.Tables.{binding_at, cell_at, course_at, is_taken, joined_at, last_stamp, marks_at, synched_of}
-use Rattle.protocol.specs.Worlds.{World, Allowed, HasEnded, Plays, after_step, ended_at, start_world, waits, with_take}
+use Rattle.protocol.specs.Tables.{cell_at, course_at, is_taken, joined_at, last_stamp, marks_at, synched_of}
+use Rattle.protocol.specs.Worlds.{World, Allowed, HasEnded, Plays, after_step, ended_at, with_take}
 use Rattle.protocol.specs.Kept.{Kept}
 use Rattle.protocol.proofs.Keeping.{cells_taken, end_in_range, kept_schedule, stamp_in_range, stands_inside}
-use Rattle.protocol.proofs.LedgerLemmas.{start_binding, start_cell, start_course}
 use Rattle.protocol.proofs.Onward.{grows-step, taken-step}
 use Rattle.protocol.proofs.Readings.{course_lived}
 use Rattle.protocol.proofs.RowLemmas.{put_same}
@@ -178,16 +176,3 @@ module _ {M : Type 0} where
       ap (λ (b : Bool). cond b ((m.seat, m.step) ∷ steps_by m.pass moves) (steps_by m.pass moves)) (eq-eqb m.pass m.pass refl) in
       let bad : (m.seat, m.step) ∷ steps_by m.pass moves ≡ [] = sym own ∙ by_nobody in
       cc
-
--- the words of the start
-pub first_cell : (threads rows passes later : ℕ) (r : Row) → cell_at (start_world threads rows passes later).table r ≡ Fresh
-unfolding start_world
-first_cell threads rows passes later r = start_cell threads rows later r
-
-pub first_binding : (threads rows passes later : ℕ) (n : NackName) → binding_at (start_world threads rows passes later).table n ≡ None
-unfolding start_world
-first_binding threads rows passes later n = start_binding threads rows later n
-
-pub first_course : (threads rows passes later t : ℕ) → t < threads → course_at (start_world threads rows passes later).table t ≡ cond (waits later t) Unstarted (Running 0)
-unfolding start_world
-first_course threads rows passes later t h = start_course threads rows later t h

@@ -2,6 +2,8 @@
 use Rattle.std.proofs.Common.{◌≡◌, ℕ, ◌<◌, ◌≤◌, Bool, true, false, cond, eqb, ◌&&◌, List, [], ◌∷◌, sym, refl, ap, ◌∙◌, subst, ◌⊎◌, inl, inr, ⊎_elim, arith, Option, Some, None, is_some}
 use Rattle.std.proofs.lemmas.Bool.{and_parts, eqb-true, false≢true}
 use Rattle.protocol_values.specs.declared.NackName.{NackName}
+use Rattle.protocol_values.specs.declared.NackWord.{NackWord}
+use Rattle.protocol_values.specs.declared.NackWord.TheVariants.{Bound, Carried, Unbound}
 use Rattle.protocol_values.specs.declared.Binding.{Binding}
 use Rattle.protocol_values.specs.declared.Course.{Course}
 use Rattle.protocol_values.specs.declared.Course.TheVariants.{Unstarted, Running, Ended}
@@ -13,16 +15,16 @@ use Rattle.protocol_values.specs.Words.{cell_word, IsCellInRange}
 use Rattle.cell_table.specs.declared.view.View.{View}
 use Rattle.cell_table.specs.declared.view.Stage.{Stage}
 use Rattle.cell_table.specs.declared.view.Stage.TheVariants.{Resting, Claims, Joins, Aside}
-use Rattle.protocol.specs.Tables.{course_at, Table, bound_row, is_row, row_eq, cell_at, is_fresh, joined_at, names, word_at, binding_at, is_taken}
+use Rattle.protocol.specs.Tables.{course_at, Table, bound_row, is_row, row_eq, cell_at, is_fresh, joined_at, names, nack_says, word_at, binding_at, bound_by, carried_at, carried_by, is_taken}
 use Rattle.protocol_values.specs.Values.{joined_of}
 use Rattle.protocol.specs.Worlds.{World, holder_at, with_word, with_cell, with_table, first_row}
 use Rattle.protocol.specs.Kept.{Kept}
 use Rattle.protocol.proofs.Keeping.{held_row}
 use Rattle.protocol.proofs.RowLemmas.{row_cases, row_eq-false, row_eq-true, row_ne, put, put_same, put_other}
 use Rattle.protocol.proofs.Places.{word_other, is_row_after}
-use Rattle.protocol.proofs.Readings.{cell_after_cell, cell_after_word, row_of_open, binding_after_cell, binding_after_word, course_after_cell, course_after_word}
+use Rattle.protocol.proofs.Readings.{cell_after_cell, cell_after_word, row_of_open, binding_after_cell, binding_after_word, bound_is, carried_after_cell, carried_after_word, carried_is, course_after_cell, course_after_word}
 use Rattle.cell_table.specs.declared.view.Seen.{Seen}
-use Rattle.cell_table.specs.Sight.{Has, IsCounted, see_begun, see_bound, see_course, see_word, without}
+use Rattle.cell_table.specs.Sight.{Has, IsCounted, see_begun, see_bound, see_carried, see_course, see_word, without}
 use Rattle.protocol.specs.Acting.{EndsAt, HasStart}
 use Rattle.cell_table.specs.Views.{IsClaimer, SeesEnd, Staged, Knows, behind_last, at_stage, turned, saw, saw_course, saw_nack, read_word, drafted_word}
 
@@ -80,6 +82,9 @@ module _ (w : World) (x : Row) (c : Cell) (owner : Row → ℕ) (k : Kept w)
   -- the nacks stay
   stays_bound : (n : NackName) → binding_at (with_cell w.table x c) n ≡ binding_at w.table n
   stays_bound n = ap (λ (f : NackName → Option Binding). f n) (binding_after_cell w.table x c row)
+
+  stays_carried : (n : NackName) → carried_at (with_cell w.table x c) n ≡ carried_at w.table n
+  stays_carried n = ap (λ (f : NackName → Option ℕ). f n) (carried_after_cell w.table x c row)
 
   courses_stay : (p : ℕ) → course_at (with_cell w.table x c) p ≡ course_at w.table p
   courses_stay p = ap (λ (f : ℕ → Course). f p) (course_after_cell w.table x c row)
@@ -177,6 +182,8 @@ module _ (w : World) (x : Row) (c : Cell) (owner : Row → ℕ) (k : Kept w)
         joined = λ r j h. stays_joined r j (knows.joined r j h);
         taken = λ r h. stays_taken r (knows.taken r h);
         bound = λ n b h. stays_bound n ∙ knows.bound n b h;
+        carried = λ n stamp h. stays_carried n ∙ knows.carried n stamp h;
+        settled = λ n stamp h. knows.settled n stamp (sym (stays_carried n) ∙ h);
         started = λ t s h. subst (λ (k : Course). HasStart k s) (sym (courses_stay t)) (knows.started t s h);
         ended = λ t g h. subst (λ (k : Course). EndsAt k g) (sym (courses_stay t)) (knows.ended t g h);
         lasts = λ t h. let k = knows.lasts t h in (ap (λ (n : ℕ). owner (behind_last n t)) size_kept.1 ∙ k.0, k.1, ends_stay v.seen t k.2);
@@ -215,6 +222,8 @@ module _ (w : World) (x : Row) (c : Cell) (owner : Row → ℕ) (k : Kept w)
       joined = λ r j h. stays_joined r j (knows.joined r j h);
       taken = λ r h. stays_taken r (knows.taken r h);
       bound = λ n b h. stays_bound n ∙ knows.bound n b h;
+      carried = λ n stamp h. stays_carried n ∙ knows.carried n stamp h;
+      settled = λ n stamp h. knows.settled n stamp (sym (stays_carried n) ∙ h);
       started = λ t s h. subst (λ (k : Course). HasStart k s) (sym (courses_stay t)) (knows.started t s h);
       ended = λ t g h. subst (λ (k : Course). EndsAt k g) (sym (courses_stay t)) (knows.ended t g h);
       lasts = λ t h. let k = knows.lasts t h in (ap (λ (n : ℕ). owner (behind_last n t)) size_kept.1 ∙ k.0, k.1, ends_stay v.seen t k.2);
@@ -239,10 +248,11 @@ module _ {M : Type 0} where
       → ((q : Row) (j : Joined) → Has s.joined (q, j) → joined_at w.table q ≡ Some j)
       → ((q : Row) → Has s.taken q → is_taken (cell_at w.table q) ≡ true)
       → ((n : NackName) (b : Binding) → Has s.bound (n, b) → binding_at w.table n ≡ Some b)
+      → ((n : NackName) (stamp : ℕ) → Has s.carried (n, stamp) → carried_at w.table n ≡ Some stamp)
       → ((t stamp : ℕ) → Has s.started (t, stamp) → HasStart (course_at w.table t) stamp)
       → ((t g : ℕ) → Has s.ended (t, g) → EndsAt (course_at w.table t) g)
       → Knows w owner id (at_stage v.stage s v)
-  learn w owner id v s k same_held same_drafts same_lasts opened_more bound_more ended_more opened_true read_true joined_true taken_true bound_true started_true ended_true = record {
+  learn w owner id v s k same_held same_drafts same_lasts opened_more bound_more ended_more opened_true read_true joined_true taken_true bound_true carried_true started_true ended_true = record {
     threads = k.threads;
     rows = k.rows;
     passes = k.passes;
@@ -258,6 +268,8 @@ module _ {M : Type 0} where
     joined = joined_true;
     taken = taken_true;
     bound = bound_true;
+    carried = carried_true;
+    settled = k.settled;
     started = started_true;
     ended = ended_true;
     lasts = λ t h. let a = k.lasts t (subst (λ (ts : List ℕ). Has ts t) same_lasts h) in (a.0, a.1, more_ends t a.2);
@@ -282,11 +294,11 @@ module _ {M : Type 0} where
   know_more w owner id v r js ts k f js_true ts_true =
       learn w owner id v (record v.seen { opened = r ∷ v.seen.opened; joined = js; taken = ts }) k refl refl refl (λ q o. inr o) (λ n b h. h) (λ t g h. h)
       (λ q h. ⊎_elim (λ (e : r ≡ q). ap (λ (y : Row). is_fresh (cell_at w.table y)) (sym e) ∙ f) (λ (o : Has v.seen.opened q). k.opened q o) h)
-      k.read js_true ts_true k.bound k.started k.ended
+      k.read js_true ts_true k.bound k.carried k.started k.ended
 
   -- what stood for a thread at first was fetched
   pub knows_begun : (w : World) (owner : Row → ℕ) (id : ℕ) (v : View M) (r : Row) → Knows w owner id v → Knows w owner id (at_stage v.stage (see_begun r v.seen) v)
-  knows_begun w owner id v r k = learn w owner id v (see_begun r v.seen) k refl refl refl (λ q o. o) (λ n b h. h) (λ t g h. h) k.opened k.read k.joined k.taken k.bound k.started k.ended
+  knows_begun w owner id v r k = learn w owner id v (see_begun r v.seen) k refl refl refl (λ q o. o) (λ n b h. h) (λ t g h. h) k.opened k.read k.joined k.taken k.bound k.carried k.started k.ended
 
   pub learn_cell : (w : World) (owner : Row → ℕ) (id : ℕ) (v : View M) (r : Row) (c : Cell) → Knows w owner id v → cell_at w.table r ≡ c → Knows w owner id (saw r c v)
   learn_cell w owner id v r Fresh k e = k
@@ -310,7 +322,7 @@ module _ {M : Type 0} where
       took q (inr h) = k.taken q h
 
   pub learn_word : (w : World) (owner : Row → ℕ) (id : ℕ) (v : View M) (r : Row) (p x : ℕ) → Knows w owner id v → is_fresh (cell_at w.table r) ≡ false → 1 ≤ p → p < 34 → word_at w.table r p ≡ x → Knows w owner id (read_word r p x v)
-  learn_word w owner id v r p x k f a b e = learn w owner id v (see_word r p x v.seen) k refl refl refl (λ q o. o) (λ n c h. h) (λ t g h. h) k.opened (λ q o y h. seen q o y h) k.joined k.taken k.bound k.started k.ended
+  learn_word w owner id v r p x k f a b e = learn w owner id v (see_word r p x v.seen) k refl refl refl (λ q o. o) (λ n c h. h) (λ t g h. h) k.opened (λ q o y h. seen q o y h) k.joined k.taken k.bound k.carried k.started k.ended
     where
       seen : (q : Row) (o y : ℕ) → Has ((r, p, x) ∷ v.seen.words) (q, o, y) → (is_fresh (cell_at w.table q) ≡ false) × (o < 34) × (1 ≤ o) × (word_at w.table q o ≡ y)
       seen q o y (inl i) = subst (λ (z : Row × ℕ × ℕ). (is_fresh (cell_at w.table z.0) ≡ false) × (z.1 < 34) × (1 ≤ z.1) × (word_at w.table z.0 z.1 ≡ z.2)) i (f, b, a, e)
@@ -319,13 +331,13 @@ module _ {M : Type 0} where
   pub learn_course : (w : World) (owner : Row → ℕ) (id : ℕ) (v : View M) (p : ℕ) (c : Course) → Knows w owner id v → course_at w.table p ≡ c → Knows w owner id (saw_course p c v)
   learn_course w owner id v p Unstarted k e = k
   learn_course w owner id v p (Running start) k e =
-      learn w owner id v (see_course p (Running start) v.seen) k refl refl refl (λ q o. o) (λ n b h. h) (λ t g h. h) k.opened k.read k.joined k.taken k.bound (λ t s h. begun t s h) k.ended
+      learn w owner id v (see_course p (Running start) v.seen) k refl refl refl (λ q o. o) (λ n b h. h) (λ t g h. h) k.opened k.read k.joined k.taken k.bound k.carried (λ t s h. begun t s h) k.ended
     where
       begun : (t s : ℕ) → Has ((p, start) ∷ v.seen.started) (t, s) → HasStart (course_at w.table t) s
       begun t s (inl i) = subst (λ (z : ℕ × ℕ). HasStart (course_at w.table z.0) z.1) i (subst (λ (c : Course). HasStart c start) (sym e) refl)
       begun t s (inr h) = k.started t s h
   learn_course w owner id v p (Ended start sync) k e =
-      learn w owner id v (see_course p (Ended start sync) v.seen) k refl refl refl (λ q o. o) (λ n b h. h) (λ t g h. inr h) k.opened k.read k.joined k.taken k.bound (λ t s h. begun t s h) (λ t g h. over t g h)
+      learn w owner id v (see_course p (Ended start sync) v.seen) k refl refl refl (λ q o. o) (λ n b h. h) (λ t g h. inr h) k.opened k.read k.joined k.taken k.bound k.carried (λ t s h. begun t s h) (λ t g h. over t g h)
     where
       begun : (t s : ℕ) → Has ((p, start) ∷ v.seen.started) (t, s) → HasStart (course_at w.table t) s
       begun t s (inl i) = subst (λ (z : ℕ × ℕ). HasStart (course_at w.table z.0) z.1) i (subst (λ (c : Course). HasStart c start) (sym e) refl)
@@ -335,13 +347,18 @@ module _ {M : Type 0} where
       over t g (inl i) = subst (λ (z : ℕ × ℕ). EndsAt (course_at w.table z.0) z.1) i (subst (λ (c : Course). EndsAt c sync) (sym e) refl)
       over t g (inr h) = k.ended t g h
 
-  pub learn_nack : (w : World) (owner : Row → ℕ) (id : ℕ) (v : View M) (n : NackName) (o : Option Binding) → Knows w owner id v → binding_at w.table n ≡ o → Knows w owner id (saw_nack n o v)
-  learn_nack w owner id v n None k e = k
-  learn_nack w owner id v n (Some b) k e = learn w owner id v (see_bound n b v.seen) k refl refl refl (λ q o. o) (λ m c h. inr h) (λ t g h. h) k.opened k.read k.joined k.taken (λ m c h. seen m c h) k.started k.ended
+  pub learn_nack : (w : World) (owner : Row → ℕ) (id : ℕ) (v : View M) (n : NackName) (says : NackWord) → Knows w owner id v → nack_says w.table n ≡ says → Knows w owner id (saw_nack n says v)
+  learn_nack w owner id v n Unbound k e = k
+  learn_nack w owner id v n (Bound b) k e = learn w owner id v (see_bound n b v.seen) k refl refl refl (λ q o. o) (λ m c h. inr h) (λ t g h. h) k.opened k.read k.joined k.taken (λ m c h. seen m c h) k.carried k.started k.ended
     where
       seen : (m : NackName) (c : Binding) → Has ((n, b) ∷ v.seen.bound) (m, c) → binding_at w.table m ≡ Some c
-      seen m c (inl p) = ap (λ (z : NackName × Binding). binding_at w.table z.0) (sym p) ∙ e ∙ ap (λ (z : NackName × Binding). Some z.1) p
+      seen m c (inl p) = ap (λ (z : NackName × Binding). binding_at w.table z.0) (sym p) ∙ bound_is w.table n ∙ ap bound_by e ∙ ap (λ (z : NackName × Binding). Some z.1) p
       seen m c (inr h) = k.bound m c h
+  learn_nack w owner id v n (Carried stamp) k e = learn w owner id v (see_carried n stamp v.seen) k refl refl refl (λ q o. o) (λ m c h. h) (λ t g h. h) k.opened k.read k.joined k.taken k.bound (λ m s h. seen m s h) k.started k.ended
+    where
+      seen : (m : NackName) (s : ℕ) → Has ((n, stamp) ∷ v.seen.carried) (m, s) → carried_at w.table m ≡ Some s
+      seen m s (inl p) = ap (λ (z : NackName × ℕ). carried_at w.table z.0) (sym p) ∙ carried_is w.table n ∙ ap carried_by e ∙ ap (λ (z : NackName × ℕ). Some z.1) p
+      seen m s (inr h) = k.carried m s h
 
 -- A WORD OF A FRESH ROW IS DRAFTED by its owner
 module _ (w : World) (x : Row) (p d : ℕ) (owner : Row → ℕ) (k : Kept w)
@@ -363,6 +380,9 @@ module _ (w : World) (x : Row) (p d : ℕ) (owner : Row → ℕ) (k : Kept w)
 
   nacks_stay : (n : NackName) → binding_at (with_word w.table x p d) n ≡ binding_at w.table n
   nacks_stay n = ap (λ (f : NackName → Option Binding). f n) (binding_after_word w.table x p d row high)
+
+  carried_stay : (n : NackName) → carried_at (with_word w.table x p d) n ≡ carried_at w.table n
+  carried_stay n = ap (λ (f : NackName → Option ℕ). f n) (carried_after_word w.table x p d row high)
 
   open_not_x : (r : Row) → is_fresh (cell_at w.table r) ≡ false → row_eq r x ≡ false
   open_not_x r h = row_ne r x (λ e. false≢true (sym h ∙ ap (λ (y : Row). is_fresh (cell_at w.table y)) e ∙ ap is_fresh unopened))
@@ -397,6 +417,8 @@ module _ (w : World) (x : Row) (p d : ℕ) (owner : Row → ℕ) (k : Kept w)
       joined = λ r j h. ap joined_of (cells_stay r) ∙ knows.joined r j h;
       taken = λ r h. ap is_taken (cells_stay r) ∙ knows.taken r h;
       bound = λ n b h. nacks_stay n ∙ knows.bound n b h;
+      carried = λ n stamp h. carried_stay n ∙ knows.carried n stamp h;
+      settled = λ n stamp h. knows.settled n stamp (sym (carried_stay n) ∙ h);
       started = λ t s h. subst (λ (k : Course). HasStart k s) (sym (lives_stay t)) (knows.started t s h);
       ended = λ t g h. subst (λ (k : Course). EndsAt k g) (sym (lives_stay t)) (knows.ended t g h);
       lasts = λ t h. let k = knows.lasts t h in (k.0, k.1, ends_stay_draft v.seen t k.2);

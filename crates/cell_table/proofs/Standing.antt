@@ -59,7 +59,7 @@ last-same xs ys x y size same =
     last-get [] z = refl
     last-get (a ∷ l) z = last-get l z
 
-module _ {M : Type 0} (stands : Stands M) (first : List M) where
+module _ {M : Type 0} (stands : Stands M) (first : List (Option M)) where
   -- WHAT COMES OUT with a taken row
   module _ (w : World) (owner : Row → ℕ) (id : ℕ) (v : View M) (known : Knows w owner id v) (k : Kept w) where
     law : IsLawful (ledger_of w.table)

@@ -27,7 +27,7 @@ use Rattle.protocol.proofs.Keeping.{begun_held, begun_other, holder_same, rows_l
 use Rattle.protocol.proofs.Linking.{cases_Option, some_parts}
 use Rattle.protocol.proofs.Onward.{grows-step}
 use Rattle.protocol.proofs.Places.{row_from, same_course_place, word_lived}
-use Rattle.protocol.proofs.Readings.{binding_after_life, cell_after_life, course_inside, course_lived, course_lived_other}
+use Rattle.protocol.proofs.Readings.{binding_after_life, carried_after_life, cell_after_life, course_inside, course_lived, course_lived_other}
 use Rattle.protocol.proofs.RowLemmas.{put, put_other, put_same, row_ne}
 use Rattle.cell_table.specs.declared.view.Shape.{Shape}
 use Rattle.cell_table.specs.declared.view.Stage.TheVariants.{Aside, Resting}
@@ -44,7 +44,7 @@ use Rattle.cell_table.proofs.Housing.{housed_step}
 use Rattle.cell_table.proofs.Lives.{agrees_life, saw_begins, saw_stays}
 use Rattle.cell_table.proofs.Others.{learn_course}
 use Rattle.cell_table.proofs.Seating.{Stays}
-use Rattle.cell_table.proofs.Truths.{coherent, last_known}
+use Rattle.cell_table.proofs.Truths.{with_itself, last_known}
 use Rattle.cell_table.proofs.Turning.{does_now, keeps_housed, keeps_view, moved_coherent, world_kept}
 
 -- THE WORLD AFTER A START
@@ -88,6 +88,7 @@ module _ (w : World) (seat : Seat) (p stamp : ℕ) (k : Kept w) (below : p < w.t
     words = λ r q row low high. word_lived w.table p (Running stamp) r q row high;
     held = λ r s h. holder_now r ∙ begun_other w seat p r (row_ne r (first_row p) (not_first r (some_seat w r s h))) below ∙ h;
     bound = λ n b e. ap (λ (f : NackName → Option Binding). f n) (binding_after_life w.table p (Running stamp)) ∙ e;
+    carried = λ n. ap (λ (f : NackName → Option ℕ). f n) (carried_after_life w.table p (Running stamp));
     starts = λ q s h. ⊎_elim
         (λ (same : q ≡ p). absurd (subst (λ (c : Course). HasStart c s) (ap (course_at w.table) same ∙ waiting) h))
         (λ (other : q ≡ p → ⊥). subst (λ (c : Course). HasStart c s) (sym (course_else q other)) h)
@@ -337,6 +338,6 @@ module _ {M : Type 0} (stands : Stands M) where
               let one : r ≡ q = one_place k.world r q kept_now same (stand_place k.world k.owner id me.0 knows r stand) (stand_place k.world k.owner id me.0 knows q also) in (
                 ap (λ (z : Row). (stood_at z (saw_course z.thread c me.0), me.1)) one,
                 subst (λ (z : ℕ × Course). AgreesLife me.0 z.0 z.1) (λ i. (same i, read i)) (agrees_life k.world k.owner id me.0 knows kept_now r.thread),
-                coherent k.world k.owner id (saw_course r.thread c me.0) sees kept_now,
+                with_itself k.world k.owner id (saw_course r.thread c me.0) sees kept_now,
               ),
         )

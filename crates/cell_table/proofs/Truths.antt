@@ -1,5 +1,5 @@
 -- What a pass has seen is true of the world, and so agrees with itself and with what it finds.
-use Rattle.std.proofs.Common.{◌≡◌, ◌≢◌, ℕ, zero, suc, ◌+◌, ◌*◌, ◌-◌, ◌<◌, ◌≤◌, Bool, true, false, List, sym, refl, ap, ◌∙◌, subst, inl, inr, ◌⊎◌, ⊎_elim, arith, unwrap_or, Option, Some, None, eqb, cond, max, length, slice_get}
+use Rattle.std.proofs.Common.{◌≡◌, ◌≢◌, ℕ, ◌+◌, ◌*◌, ◌-◌, ◌<◌, ◌≤◌, Bool, true, false, List, sym, refl, ap, ◌∙◌, subst, inl, inr, ◌⊎◌, ⊎_elim, arith, unwrap_or, Option, Some, None, eqb, cond, max, length, slice_get}
 use Rattle.std.proofs.lemmas.Bool.{cases_Bool, lt-ltb, ne_eqb, true≢false}
 use Rattle.protocol_values.specs.Words.{count_of, head_of, offer_of, is_word_for}
 use Rattle.protocol_values.specs.declared.Direction.{Direction}
@@ -8,7 +8,7 @@ use Rattle.protocol_values.specs.declared.NackName.{NackName}
 use Rattle.protocol_values.specs.declared.Row.{Row}
 use Rattle.protocol_values.specs.declared.Joined.{Joined}
 use Rattle.protocol_values.specs.declared.Cell.{Cell}
-use Rattle.protocol.specs.Tables.{Table, course_at, marks_at, start_of, is_fresh, cell_at, joined_at, offers_meet, offer_at, count_at, row_stamp, last_stamp, word_at, stands_alone, binding_at, bound_row, encloses, nack_by, cause_by, cause_of, cause_at, end_by, end_via, is_taken}
+use Rattle.protocol.specs.Tables.{Table, course_at, marks_at, start_of, is_fresh, cell_at, joined_at, offers_meet, offer_at, count_at, row_stamp, last_stamp, word_at, stands_alone, is_nack, bound_row, carried_at, carried_by, encloses, nack_by, cause_by, cause_of, cause_at, end_by, end_via, is_taken}
 use Rattle.protocol_values.specs.Values.{joined_of}
 use Rattle.protocol_values.specs.declared.Base.{Base}
 use Rattle.protocol_values.specs.declared.Base.TheVariants.{Send, Recv, Always, OnNack, OnEnd, Never}
@@ -17,7 +17,7 @@ use Rattle.protocol_values.specs.declared.Course.{Course}
 use Rattle.protocol_values.specs.declared.Course.TheVariants.{Unstarted, Running, Ended}
 use Rattle.protocol.specs.Worlds.{World, joined_with, granted_by}
 use Rattle.protocol.specs.Kept.{IsFormed, Kept, IsSideOf}
-use Rattle.protocol.proofs.Readings.{count_open, row_of_open, offer_none, joined_ranged, nack_of_bound, binding_ranged, bound_uncarried}
+use Rattle.protocol.proofs.Readings.{count_open, row_of_open, offer_none, joined_ranged, nack_of_bound, binding_ranged, bound_uncarried, carried_is, says_outside}
 use Rattle.protocol.proofs.Places.{nack_inside, row_inside}
 use Rattle.protocol.proofs.Causes.{cause_alone, enabled_at_from}
 use Rattle.protocol.proofs.Linking.{fresh_not_joined, some_inj, naming, partner_open, cases_Option}
@@ -28,7 +28,7 @@ use Rattle.cell_table.specs.Sight.{Has, HaveDirection, HaveOffer, HasSeenLast, C
 use Rattle.protocol.specs.Acting.{EndsAt}
 use Rattle.cell_table.specs.Nacks.{CanGrant, SawCause, SawEnabled}
 use Rattle.cell_table.specs.Views.{Knows, behind_last}
-use Rattle.cell_table.specs.Told.{Agrees}
+use Rattle.cell_table.specs.Told.{Agrees, AgreesWithItself}
 use Rattle.cell_table.proofs.Courses.{ended_within, fresh_is, has_ended, has_started, one_end_of, opened_before, taken_below}
 use Rattle.protocol.proofs.Acting.{start_is}
 use Rattle.cell_table.proofs.Following.{place_behind, place_last}
@@ -77,6 +77,13 @@ direction_there t words r n d formed there open_r h =
 -- an offer that is there stands below the number of offers
 below_count : (t : Table) (r : Row) (n : ℕ) (o : Offer) → offer_at t r n ≡ Some o → n < count_at t r
 below_count t r n o is = Rattle.std.proofs.Math.Nat.lt_of_not-le (λ h. let bad : None ≡ Some o = sym (offer_none t r n h) ∙ is in cc)
+
+-- a carried nack is one of the table
+pub nack_of_carried : (t : Table) (n : NackName) (stamp : ℕ) → carried_at t n ≡ Some stamp → is_nack t n ≡ true
+nack_of_carried t n stamp h = ⊎_elim
+    (λ (e : is_nack t n ≡ true). e)
+    (λ (e : is_nack t n ≡ false). let bad : None ≡ Some stamp = sym (carried_is t n ∙ ap carried_by (says_outside t n e)) ∙ h in cc)
+    (cases_Bool (is_nack t n))
 
 pub meeting_other : (a b : Option Offer) → offers_meet a b ≡ true → (o : Offer) × (b ≡ Some o)
 meeting_other None b h = absurd (true≢false (sym h))
@@ -154,7 +161,8 @@ module _ {M : Type 0} where
     cause_known (Send c m) s h = absurd h
     cause_known (Recv c) s h = absurd h
     cause_known (Always m) s h = ap (λ (x : ℕ). Some x) (sym h)
-    cause_known (OnNack n) s h = enabled_known n h.0 h.1 ∙ ap (λ (x : ℕ). Some x) (sym h.2)
+    cause_known (OnNack n) s (inl h) = enabled_known n h.0 h.1 ∙ ap (λ (x : ℕ). Some x) (sym h.2)
+    cause_known (OnNack n) s (inr h) = enabled_at_from (joined_at w.table) (offer_at w.table) (marks_at w.table) n s (inr (h.1, k.carried n s h.0))
     cause_known (OnEnd p) s h = end_known p h.0 s (k.ended p h.0 h.1) (last_known (record { thread = p; sync = h.0 }) s h.2)
     cause_known Never s h = absurd h
 
@@ -220,6 +228,8 @@ module _ {M : Type 0} where
           let t = offer_known p.0 p.1 theirs b in
           (λ x. offers_meet (sym m x) (sym t x)) ∙ (side r j p h e).meets;
       one_bound = λ n a b g h. some_inj a b (sym (k.bound n a g) ∙ k.bound n b h);
+      one_carried = λ n a b g h. some_inj a b (sym (k.carried n a g) ∙ k.carried n b h);
+      apart = λ n b stamp g h. let bad : None ≡ Some stamp = sym (bound_uncarried w.table n b (k.bound n b g)) ∙ k.carried n stamp h in cc;
       one_start = λ t a b g h. sym (start_is (course_at w.table t) a (k.started t a g)) ∙ start_is (course_at w.table t) b (k.started t b h);
       started = λ t s h.
           let low = has_started w.table t s (k.started t s h) in
@@ -239,7 +249,15 @@ module _ {M : Type 0} where
           let rows : w.table.rows ≡ v.rows = sym k.rows in
           let threads : w.table.threads ≡ v.threads = sym k.threads in
           (omega (arith, i.0), i.1, omega (arith, q.1), (binding_ranged w.table n b e).scope);
+      carried = λ n stamp h.
+          let e = k.carried n stamp h in
+          let i = nack_inside w.table n (nack_of_carried w.table n stamp e) in
+          let threads : w.table.threads ≡ v.threads = sym k.threads in
+          (omega (arith, i.0), i.1);
     }
+
+    pub with_itself : AgreesWithItself v
+    with_itself = (coherent, λ n stamp h. k.settled n stamp (k.carried n stamp h))
 
     -- what a pass has seen of a row agrees with the row's cell
     pub agrees : (r : Row) (c : Cell) → cell_at w.table r ≡ c → Agrees v r c

@@ -16,20 +16,22 @@ use Rattle.protocol.specs.Growing.{GrowsTo}
 use Rattle.protocol.specs.Ledgers.{Ledger, ledger_of}
 use Rattle.protocol.specs.Standing.{AreResults, Result, Stands}
 use Rattle.protocol.specs.Tables.{Table}
-use Rattle.protocol.specs.Worlds.{World, start_world, Allowed, after_step}
+use Rattle.protocol.specs.Openings.{HadEnded, HadStarted, Opening, greatest}
+use Rattle.protocol.specs.Worlds.{World, Allowed, after_step}
 use Rattle.protocol.proofs.Acting.{ends-step, starts-step}
 use Rattle.protocol.proofs.Onward.{grows-step}
 use Rattle.protocol.proofs.Standing.{results-stay}
 use Rattle.protocol.proofs.Playing.{plays_more}
 use Rattle.cell_table.specs.declared.view.View.{View}
 use Rattle.cell_table.specs.declared.view.Shape.{Shape}
-use Rattle.cell_table.specs.Sight.{Coherent, Has}
-use Rattle.cell_table.specs.Views.{Knows, did}
-use Rattle.cell_table.proofs.Truths.{coherent}
+use Rattle.cell_table.specs.Sight.{Has}
+use Rattle.cell_table.specs.Told.{AgreesWithItself}
+use Rattle.cell_table.specs.Views.{Knows, did, opening_in}
+use Rattle.cell_table.proofs.Truths.{with_itself}
 use Rattle.protocol.specs.Kept.{Kept}
 use Rattle.protocol.proofs.Keeping.{kept_schedule}
-use Rattle.protocol.proofs.LedgerLemmas.{kept_start}
-use Rattle.cell_table.specs.Rule.{Housed, Interleaves, IsActing, IsToBegin, Keeps, Move, StartsFirst, at_seat, beginning, in_order, steps_by}
+use Rattle.protocol.proofs.LedgerLemmas.{kept_opening}
+use Rattle.cell_table.specs.Rule.{Housed, Interleaves, IsActing, IsToBegin, Keeps, Move, at_seat, beginning, in_order, steps_by}
 use Rattle.cell_table.proofs.Courses.{KeepsLives, plain_lives}
 use Rattle.cell_table.proofs.Housing.{housed_step, housed_view}
 use Rattle.cell_table.proofs.Seating.{MovesOn, Stays, seated_seen, seated_step}
@@ -92,7 +94,7 @@ module _ {M : Type 0} where
   }
 
   -- what all views have at first, one of them being new
-  pub firsts_with : (vs : List (View M)) (id : ℕ) (v w : View M) (first : List M × ℕ) → get_elem? vs id ≡ some v → beginning w ≡ beginning v → 0 < v.threads
+  pub firsts_with : (vs : List (View M)) (id : ℕ) (v w : View M) (first : List (Option M) × Opening) → get_elem? vs id ≡ some v → beginning w ≡ beginning v → 0 < v.threads
       → ((j : ℕ) (u : View M) → get_elem? vs j ≡ some u → 0 < u.threads → beginning u ≡ first)
       → (j : ℕ) (u : View M) → get_elem? (slice_set vs id w) j ≡ some u → 0 < u.threads → beginning u ≡ first
   firsts_with vs id v w first view same at_table all j u e t = ⊎_elim
@@ -103,7 +105,7 @@ module _ {M : Type 0} where
 module _ {M : Type 0} (stands : Stands M) where
   -- the world of the rule is one that all steps keep
   pub world_kept : (shape : Shape M) (s : State (Option M) (View M)) (k : Keeps stands shape s) → Kept k.world
-  world_kept shape s k = kept_schedule _ k.world (in_order k.moves) (kept_start shape.threads shape.rows shape.passes shape.later k.few_threads k.few_rows) k.played
+  world_kept shape s k = kept_schedule k.start k.world (in_order k.moves) (kept_opening (opening_in shape) shape.rows shape.passes k.start k.opens k.few_rows k.begins) k.played
 
   -- what somebody does at a place, he does there by the ledger of a table that has grown
   pub does_now : (shape : Shape M) (s : State (Option M) (View M)) (k : Keeps stands shape s) (id : ℕ) (v : View M) (u : Table) (r : Row) (act : M → List Result → Type 0) → get_elem? s.views id ≡ some v → GrowsTo k.world.table u
@@ -120,17 +122,19 @@ module _ {M : Type 0} (stands : Stands M) where
       → (0 < length shape.first.value.items → Housed stands shape.first.value.items k.world hs (slice_set s.views id w))
       → Keeps stands shape (record { words = ws; homes = hs; views = slice_set s.views id w })
   keeps_seen shape s k id v w ws hs view at_table seat made seen first stays same knows house = record {
-    few_threads = k.few_threads;
+    opens = k.opens;
     few_rows = k.few_rows;
     moves = k.moves;
     interleaved = same_made k.moves s.views id v w view k.interleaved (λ i. at_seat (sym seat i) (sym made i));
+    start = k.start;
+    begins = k.begins;
     world = k.world;
     played = k.played;
-    table = k.table ∙ ap (λ (z : List ℕ). record { threads = shape.threads; rows = shape.rows; words = z; opening = 0 }) (sym same);
+    table = k.table ∙ ap (λ (z : List ℕ). record { threads = shape.threads; rows = shape.rows; words = z; opening = greatest (opening_in shape) }) (sym same);
     owner = k.owner;
     knows = views_with s.views id w k.world k.owner (λ j u n e t. k.knows j u e t) knows;
     seated = seated_seen s.views id v w view stays seat made k.seated;
-    firsts = firsts_with s.views id v w (shape.first.value.items, shape.later) view first at_table k.firsts;
+    firsts = firsts_with s.views id v w (shape.first.value.items, opening_in shape) view first at_table k.firsts;
     started = k.started;
     ended = k.ended;
     housed = house;
@@ -148,7 +152,7 @@ module _ {M : Type 0} (stands : Stands M) where
   pub keeps_housed : (shape : Shape M) (s : State (Option M) (View M)) (k : Keeps stands shape s) (id : ℕ) (v w : View M) (ws : List ℕ) (hs : List (Maybe (Option M))) (owner : Row → ℕ) → get_elem? s.views id ≡ some v → 0 < v.threads → w.seat ≡ v.seat → w.made ≡ v.made → beginning w ≡ beginning v
       → (step : Step) → (0 < length shape.first.value.items → StartedAs (acts_in stands shape.first.value.items).starts (after_step k.world (record { 0 = v.seat }) step).table step × EndedAs (acts_in stands shape.first.value.items).ends (after_step k.world (record { 0 = v.seat }) step).table step) → Allowed k.world (record { 0 = v.seat }) step → MovesOn v w step
       → ((t : ℕ) (rs : List Result) → Has w.results (t, rs) → Has v.results (t, rs) ⊎ AreResults (ledger_of (after_step k.world (record { 0 = v.seat }) step).table) t rs)
-      → (after_step k.world (record { 0 = v.seat }) step).table ≡ record { threads = shape.threads; rows = shape.rows; words = ws; opening = 0 }
+      → (after_step k.world (record { 0 = v.seat }) step).table ≡ record { threads = shape.threads; rows = shape.rows; words = ws; opening = greatest (opening_in shape) }
       → ((j : ℕ) (u : View M) → j ≢ id → get_elem? s.views j ≡ some u → 0 < u.threads → Knows (after_step k.world (record { 0 = v.seat }) step) owner j u)
       → Knows (after_step k.world (record { 0 = v.seat }) step) owner id w
       → (0 < length shape.first.value.items → Housed stands shape.first.value.items (after_step k.world (record { 0 = v.seat }) step) hs (slice_set s.views id (did step w)))
@@ -160,19 +164,21 @@ module _ {M : Type 0} (stands : Stands M) where
       let stays : (j t : ℕ) (u : View M) (rs : List Result) → get_elem? s.views j ≡ some u → Has u.results (t, rs) → AreResults (ledger_of (after_step k.world at step).table) t rs =
       λ j t u rs e h. results-stay k.world (after_step k.world at step).table t rs kept grows (k.results j u t rs e h) in
       record {
-        few_threads = k.few_threads;
+        opens = k.opens;
         few_rows = k.few_rows;
         moves = record { pass = id; seat = at; step = step } ∷ k.moves;
         interleaved = one_more k.moves s.views id v w step view k.interleaved seat made;
+        start = k.start;
+        begins = k.begins;
         world = after_step k.world at step;
-        played = plays_more (start_world shape.threads shape.rows shape.passes shape.later) k.world (in_order k.moves) (at, step) k.played allowed;
+        played = plays_more k.start k.world (in_order k.moves) (at, step) k.played allowed;
         table = same;
         owner = owner;
         knows = views_with s.views id (did step w) (after_step k.world at step) owner others knows;
         seated = seated_step s.views id v w step view at_table seat made on k.seated;
-        firsts = firsts_with s.views id v (did step w) (shape.first.value.items, shape.later) view first at_table k.firsts;
-        started = λ some_first. starts-step k.world at step kept allowed (StartsFirst shape.threads shape.later) (acts_in stands shape.first.value.items).starts (k.started some_first) (lives some_first).0;
-        ended = λ some_first. ends-step k.world at step kept allowed (acts_in stands shape.first.value.items).ends (k.ended some_first) (lives some_first).1;
+        firsts = firsts_with s.views id v (did step w) (shape.first.value.items, opening_in shape) view first at_table k.firsts;
+        started = λ some_first. starts-step k.world at step kept allowed (HadStarted (opening_in shape)) (acts_in stands shape.first.value.items).starts (k.started some_first) (lives some_first).0;
+        ended = λ some_first. ends-step k.world at step kept allowed (HadEnded (opening_in shape)) (acts_in stands shape.first.value.items).ends (k.ended some_first) (lives some_first).1;
         housed = house;
         results = results_with s.views id (did step w) (ledger_of (after_step k.world at step).table) (λ j u t rs n e h. stays j t u rs e h)
             (λ t rs h. ⊎_elim (λ (old : Has v.results (t, rs)). stays id t v rs view old) (λ (new : AreResults (ledger_of (after_step k.world at step).table) t rs). new) (seen t rs h));
@@ -183,7 +189,7 @@ module _ {M : Type 0} (stands : Stands M) where
       → ((r : Row) → IsToBegin w r → IsToBegin v r)
       → (step : Step) → ((r : Row) → step ≡ Open r → ⊥) → KeepsLives step → Allowed k.world (record { 0 = v.seat }) step → MovesOn v w step
       → ((t : ℕ) (rs : List Result) → Has w.results (t, rs) → Has v.results (t, rs) ⊎ AreResults (ledger_of (after_step k.world (record { 0 = v.seat }) step).table) t rs)
-      → (after_step k.world (record { 0 = v.seat }) step).table ≡ record { threads = shape.threads; rows = shape.rows; words = ws; opening = 0 }
+      → (after_step k.world (record { 0 = v.seat }) step).table ≡ record { threads = shape.threads; rows = shape.rows; words = ws; opening = greatest (opening_in shape) }
       → ((j : ℕ) (u : View M) → j ≢ id → get_elem? s.views j ≡ some u → 0 < u.threads → Knows (after_step k.world (record { 0 = v.seat }) step) owner j u)
       → Knows (after_step k.world (record { 0 = v.seat }) step) owner id w
       → Keeps stands shape (record { words = ws; homes = s.homes; views = slice_set s.views id (did step w) })
@@ -192,12 +198,12 @@ module _ {M : Type 0} (stands : Stands M) where
       (λ some_first. housed_step stands shape.first.value.items k.world (record { 0 = v.seat }) step s.homes s.views id (did step w) (world_kept shape s k) allowed opens_none (λ q b. (k.housed some_first).waiting id v q view at_table (begins q b)) (k.housed some_first))
 
   -- WHAT A PASS HAS SEEN agrees with itself, at any moment
-  pub pass_coherent : (shape : Shape M) (s : State (Option M) (View M)) (k : Keeps stands shape s) (id : ℕ) (v : View M) → get_elem? s.views id ≡ some v → 0 < v.threads → Coherent v.threads v.rows v.seen
-  pass_coherent shape s k id v view at_table = coherent k.world k.owner id v (k.knows id v view at_table) (world_kept shape s k)
+  pub pass_coherent : (shape : Shape M) (s : State (Option M) (View M)) (k : Keeps stands shape s) (id : ℕ) (v : View M) → get_elem? s.views id ≡ some v → 0 < v.threads → AgreesWithItself v
+  pass_coherent shape s k id v view at_table = with_itself k.world k.owner id v (k.knows id v view at_table) (world_kept shape s k)
 
   -- and so does what the pass that moved has seen since
   pub moved_coherent : (shape : Shape M) (vs : List (View M)) (ws : List ℕ) (hs : List (Maybe (Option M))) (id : ℕ) (v w : View M) → get_elem? vs id ≡ some v → w.threads ≡ v.threads → 0 < v.threads
-      → Keeps stands shape (record { words = ws; homes = hs; views = slice_set vs id w }) → Coherent w.threads w.rows w.seen
+      → Keeps stands shape (record { words = ws; homes = hs; views = slice_set vs id w }) → AgreesWithItself w
   moved_coherent shape vs ws hs id v w view size at_table k =
       pass_coherent shape (record { words = ws; homes = hs; views = slice_set vs id w }) k id w (get_set vs id w (below_views vs id v view)) (subst (λ (n : ℕ). 0 < n) (sym size) at_table)
     where

@@ -3,15 +3,16 @@ use Rattle.std.specs.Prelude.{◌≡◌, ◌≤◌, ℕ, false, List, Option, So
 use mathlib.Core.Option.{some}
 use lib.ListN.{get_elem?}
 use Rattle.protocol_values.specs.declared.Commit.{Commit}
-use Rattle.protocol_values.specs.declared.Row.{Row}
 use Rattle.protocol.specs.Ledgers.{HasCommit, Involves, Ledger}
+use Rattle.protocol.specs.Openings.{greatest}
 use Rattle.protocol.specs.Standing.{OffersAs, Stands}
 use Rattle.protocol.specs.Tables.{Table, cell_at, is_fresh, is_taken}
 use Rattle.cell_table.specs.declared.view.Shape.{Shape}
+use Rattle.cell_table.specs.Views.{opening_in}
 
 module _ {M : Type 0} where
   abbrev pub words_of : Shape M → List ℕ → Table
-  words_of shape ws = record { threads = shape.threads; rows = shape.rows; words = ws; opening = 0 }
+  words_of shape ws = record { threads = shape.threads; rows = shape.rows; words = ws; opening = greatest (opening_in shape) }
 
   -- by these words the row is opened, and nobody has taken it
   abbrev pub IsOpenAt : Shape M → List ℕ → ℕ → ℕ → Type 0
@@ -25,10 +26,10 @@ module _ {M : Type 0} where
 
 -- What is handed out for a thread offers what a row of it offers, after the results of the rows before, and no later row of the
 -- thread is in a commit: one result at most is left to be given.
-pub record HandedOut {M : Type 0} (stands : Stands M) (first : List M) (l : Ledger) (t : ℕ) (value : M) : Type 0 where
+pub record HandedOut {M : Type 0} (stands : Stands M) (first : List (Option M)) (l : Ledger) (t : ℕ) (value : M) : Type 0 where
   pub sync : ℕ
   pub offers : OffersAs (stands.offers first value) l (record { thread = t; sync = sync })
   pub next : (c : Commit) (g : ℕ) → HasCommit l c → Involves c (record { thread = t; sync = g }) → g ≤ sync
 
-abbrev pub HandsOut : {M : Type 0} → Stands M → List M → Ledger → List (Option M) → Type 0
+abbrev pub HandsOut : {M : Type 0} → Stands M → List (Option M) → Ledger → List (Option M) → Type 0
 HandsOut {M} stands first l machines = (t : ℕ) (value : M) → slice_get machines t ≡ Some (Some value) → HandedOut stands first l t value

@@ -1,31 +1,31 @@
 -- What the rule of the table says of a moment between two atomic steps.
-use Rattle.std.specs.Prelude.{◌≡◌, ◌<◌, ℕ, List, [], Option, None, Some, true, false, if◌then◌else◌, length, slice_get}
+use Rattle.std.specs.Prelude.{◌≡◌, ◌<◌, ℕ, List, [], Option, Some, true, false, length, slice_get}
 use mathlib.Core.Option.{some}
 use lib.ListN.{get_elem?}
 use Rattle.atomic_table.specs.Table.{State}
 use Rattle.protocol_values.specs.declared.Binding.{Binding}
 use Rattle.protocol_values.specs.declared.Cell.TheVariants.{Fresh}
-use Rattle.protocol_values.specs.declared.Course.TheVariants.{Unstarted, Running}
 use Rattle.protocol_values.specs.declared.NackName.{NackName}
 use Rattle.protocol_values.specs.declared.Row.{Row}
 use Rattle.protocol_values.specs.declared.Step.TheVariants.{Finish, Start, Take}
 use Rattle.protocol.specs.Acting.{EachEnded, EachStarted, acts_in}
 use Rattle.protocol.specs.Ledgers.{ledger_of, IsLawful}
 use Rattle.protocol.specs.Standing.{AreResults, EachStands, Result, SomeStands, Stands}
-use Rattle.protocol.specs.Tables.{binding_at, bound_row, cell_at, course_at, is_fresh, is_taken, joined_at, names}
-use Rattle.protocol.specs.Worlds.{Plays, start_world, waits, World}
+use Rattle.protocol.specs.Openings.{Begins, HadEnded, HadStarted, course_for, state_in, thread_in, word_for}
+use Rattle.protocol.specs.Tables.{binding_at, bound_row, cell_at, course_at, is_fresh, is_nack, is_taken, joined_at, nack_says, names}
+use Rattle.protocol.specs.Worlds.{Plays, World}
 use Rattle.cell_table.specs.declared.view.Shape.{Shape}
 use Rattle.cell_table.specs.declared.view.View.{View}
-use Rattle.cell_table.specs.Rule.{HasActed, Interleaves, IsAt, IsHome, IsToBegin, Move, StartsFirst, in_order, table_of}
+use Rattle.cell_table.specs.Rule.{HasActed, Interleaves, IsAt, IsHome, IsToBegin, Move, in_order, table_of}
 use Rattle.cell_table.specs.Sight.{Has}
-use Rattle.cell_table.specs.Views.{Knows, bind_of}
+use Rattle.cell_table.specs.Views.{Knows, bind_of, opening_in}
 
 pub record IsLawfulMoment {M : Type 0} (stands : Stands M) (shape : Shape M) (s : State (Option M) (View M)) : Type 0 where
   -- the ledger of the words is lawful
   pub lawful : IsLawful (ledger_of (table_of shape s))
-  -- There is one world with these words, and one owner for each row. The passes' own steps, interleaved, lead to it from the table's
-  -- start, and nobody has made any other step; and what each pass has seen is true of it.
-  pub played_and_known : (moves : List Move) × (world : World) × (owner : Row → ℕ) × Plays (start_world shape.threads shape.rows shape.passes shape.later) (in_order moves) world × (world.table ≡ table_of shape s)
+  -- There is one world with these words, and one owner for each row. The passes' own steps, interleaved, lead to it from where a
+  -- table begins that goes on from the opening, and nobody has made any other step; and what each pass has seen is true of it.
+  pub played_and_known : (moves : List Move) × (world : World) × (owner : Row → ℕ) × ((start : World) × Begins (opening_in shape) shape.rows shape.passes start × Plays start (in_order moves) world) × (world.table ≡ table_of shape s)
       × Interleaves moves s.views × ((id : ℕ) (v : View M) → IsAt s id v → Knows world owner id v)
   -- the results of threads that a pass has seen are those that the commits of their rows give
   pub results : (id : ℕ) (v : View M) (t : ℕ) (results : List Result) → IsAt s id v → Has v.results (t, results) → AreResults (ledger_of (table_of shape s)) t results
@@ -33,11 +33,12 @@ pub record IsLawfulMoment {M : Type 0} (stands : Stands M) (shape : Shape M) (s 
   -- before, with his nacks and no others, and he lies in the thread's slot until the row is taken
   pub machines : 0 < length shape.first.value.items → EachStands (SomeStands stands shape.first.value.items) (table_of shape s)
       × ((r : Row) → is_fresh (cell_at (table_of shape s) r) ≡ false → is_taken (cell_at (table_of shape s) r) ≡ false → IsHome stands shape.first.value.items (ledger_of (table_of shape s)) s.homes r)
-  -- such threads started at once, or where another one's value had started them, and ended where their own had
-  pub lives : 0 < length shape.first.value.items → EachStarted (StartsFirst shape.threads shape.later) (acts_in stands shape.first.value.items).starts (ledger_of (table_of shape s)) × EachEnded (acts_in stands shape.first.value.items).ends (ledger_of (table_of shape s))
+  -- such threads had started and ended before the table, or started where another one's value had started them, and ended where their
+  -- own had
+  pub lives : 0 < length shape.first.value.items → EachStarted (HadStarted (opening_in shape)) (acts_in stands shape.first.value.items).starts (ledger_of (table_of shape s)) × EachEnded (HadEnded (opening_in shape)) (acts_in stands shape.first.value.items).ends (ledger_of (table_of shape s))
   -- and where a pass is to begin with a thread, its first row is Fresh, and what stood for the thread at first is at home
   pub waiting : 0 < length shape.first.value.items → (id : ℕ) (v : View M) (r : Row) → IsAt s id v → IsToBegin v r
-      → (is_fresh (cell_at (table_of shape s) r) ≡ true) × (value : M) × (slice_get shape.first.value.items r.thread ≡ Some value) × (get_elem? s.homes r.thread ≡ some (some (Some value)))
+      → (is_fresh (cell_at (table_of shape s) r) ≡ true) × (value : M) × (slice_get shape.first.value.items r.thread ≡ Some (Some value)) × (get_elem? s.homes r.thread ≡ some (some (Some value)))
   -- no row is held by two passes, and none was taken by two
   pub one_holder : (i j : ℕ) (u v : View M) (r : Row) → IsAt s i u → IsAt s j v → Has u.seen.held r → Has v.seen.held r → i ≡ j
   pub one_taker : (i j : ℕ) (u v : View M) (r : Row) → IsAt s i u → IsAt s j v → Has u.made (Take r) → Has v.made (Take r) → i ≡ j
@@ -50,5 +51,8 @@ pub record IsLawfulMoment {M : Type 0} (stands : Stands M) (shape : Shape M) (s 
   pub binder : (n : NackName) (b : Binding) → binding_at (table_of shape s) n ≡ Some b → (id : ℕ) × (v : View M) × IsAt s id v × Has v.made (bind_of n b) × Has v.seen.held (bound_row n b)
   -- a pending row is named by one row
   pub named_once : (q r p : Row) → names (joined_at (table_of shape s) q) p ≡ true → names (joined_at (table_of shape s) r) p ≡ true → q ≡ r
-  -- where no pass has made a step, every row is Fresh, no nack is bound, and each thread is on its course as at the start
-  pub untouched : ((i : ℕ) (v : View M) → get_elem? s.views i ≡ some v → v.made ≡ []) → ((r : Row) → cell_at (table_of shape s) r ≡ Fresh) × ((n : NackName) → binding_at (table_of shape s) n ≡ None) × ((t : ℕ) → t < shape.threads → course_at (table_of shape s) t ≡ (if waits shape.later t then Unstarted else Running 0))
+  -- where no pass has made a step, every row is Fresh, the nacks are as the opening has them, none of them bound, and so is each
+  -- thread on its course
+  pub untouched : ((i : ℕ) (v : View M) → get_elem? s.views i ≡ some v → v.made ≡ []) → ((r : Row) → cell_at (table_of shape s) r ≡ Fresh)
+      × ((n : NackName) → is_nack (table_of shape s) n ≡ true → nack_says (table_of shape s) n ≡ word_for (state_in (opening_in shape) n))
+      × ((t : ℕ) → t < shape.threads → course_at (table_of shape s) t ≡ course_for (thread_in (opening_in shape) t).0 (thread_in (opening_in shape) t).1)

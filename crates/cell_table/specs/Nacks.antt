@@ -1,5 +1,5 @@
 -- What a pass knows of nacks, and of a row before it grants it.
-use Rattle.std.specs.Prelude.{◌≡◌, ◌⊎◌, ⊤, ℕ, false, None}
+use Rattle.std.specs.Prelude.{◌≡◌, ◌⊎◌, ◌≤◌, ⊤, ℕ, false, None}
 use Rattle.protocol_values.specs.declared.Base.{Base}
 use Rattle.protocol_values.specs.declared.Base.TheVariants.{Send, Recv, Always, OnNack, OnEnd, Never}
 use Rattle.protocol_values.specs.declared.NackName.{NackName}
@@ -25,13 +25,17 @@ pub record SawEnabled (s : Seen) (n : NackName) (j : Joined) : Type 0 where
   pub chosen : SeesOffer s (bound_row n binding) j.own offer
   pub outside : has_scope offer.scopes binding.scope ≡ false
 
+-- the nack was seen carried as one that was enabled, at this stamp
+abbrev pub SawCarried : Seen → NackName → ℕ → Type 0
+SawCarried s n stamp = Has s.carried (n, stamp) × (1 ≤ stamp)
+
 -- what lets a base event commit its row alone was seen, with its stamp: 0 for an always, for a nack the stamp of the row
--- that enabled it, and for the end of a thread the last stamp of the thread
+-- that enabled it, in this table or in an earlier one, and for the end of a thread the last stamp of the thread
 abbrev pub SawCause : Seen → Base → ℕ → Type 0
 SawCause s (Send c m) stamp = ⊥
 SawCause s (Recv c) stamp = ⊥
 SawCause s (Always m) stamp = stamp ≡ 0
-SawCause s (OnNack n) stamp = (j : Joined) × SawEnabled s n j × (stamp ≡ j.stamp)
+SawCause s (OnNack n) stamp = ((j : Joined) × SawEnabled s n j × (stamp ≡ j.stamp)) ⊎ SawCarried s n stamp
 SawCause s (OnEnd p) stamp = (g : ℕ) × Has s.ended (p, g) × HasSeenLast s (record { thread = p; sync = g }) stamp
 SawCause s Never stamp = ⊥
 
@@ -40,7 +44,7 @@ abbrev pub IsReadyAlone : Seen → Base → Type 0
 IsReadyAlone s (Send c m) = ⊥
 IsReadyAlone s (Recv c) = ⊥
 IsReadyAlone s (Always m) = ⊤
-IsReadyAlone s (OnNack n) = (j : Joined) × SawEnabled s n j
+IsReadyAlone s (OnNack n) = ((j : Joined) × SawEnabled s n j) ⊎ ((stamp : ℕ) × SawCarried s n stamp)
 IsReadyAlone s (OnEnd p) = SawEnded s p
 IsReadyAlone s Never = ⊥
 

@@ -1,5 +1,5 @@
 -- The rule of the shared table.
-use Rattle.std.specs.Prelude.{◌≡◌, ◌≢◌, ◌⊎◌, ℕ, zero, suc, ◌+◌, ◌%◌, ◌≤◌, ◌==◌, ◌<◌, ◌||◌, ◌&&◌, not, Bool, true, false, if◌then◌else◌, List, [], ◌∷◌, ◌++◌, length, Option, Some, slice_get}
+use Rattle.std.specs.Prelude.{◌≡◌, ◌≢◌, ◌⊎◌, ℕ, zero, suc, ◌+◌, ◌%◌, ◌≤◌, ◌==◌, ◌<◌, ◌||◌, ◌&&◌, Bool, true, false, if◌then◌else◌, List, [], ◌∷◌, ◌++◌, length, Option, Some, slice_get}
 use mathlib.Core.Option.{Option as Maybe, some}
 use lib.ListN.{get_elem?}
 use Rattle.atomic_table.specs.Table.{State}
@@ -15,10 +15,12 @@ use Rattle.protocol_values.specs.declared.Offer.{Offer}
 use Rattle.protocol.specs.Acting.{EachEnded, EachStarted, acts_in}
 use Rattle.protocol.specs.Ledgers.{Ledger, ledger_of}
 use Rattle.protocol.specs.Standing.{AreResults, EachStands, OffersAs, Result, SomeStands, Stands, binding_of}
-use Rattle.protocol.specs.Worlds.{World, first_row, start_world, Plays, nack_of_row, waits}
+use Rattle.protocol.specs.declared.opening.Life.TheVariants.{Ended}
+use Rattle.protocol.specs.Openings.{Begins, HadEnded, HadStarted, IsOpening, Opening, greatest, is_running, start_opening, thread_in}
+use Rattle.protocol.specs.Worlds.{World, first_row, Plays, nack_of_row}
 use Rattle.cell_table.specs.declared.view.Seen.{Seen}
 use Rattle.cell_table.specs.Sight.{Has, IsDraft}
-use Rattle.cell_table.specs.Views.{Knows, at_stage, with_results}
+use Rattle.cell_table.specs.Views.{Knows, RunsIn, at_stage, opening_by, opening_in, with_results}
 use Rattle.protocol.specs.Tables.{Table, cell_at, course_at, is_fresh, is_taken, row_eq}
 
 -- One change of the table: which pass made it, at which seat, by which step of the protocol.
@@ -43,9 +45,9 @@ at_seat seat [] = []
 at_seat seat (step ∷ steps) = (record { 0 = seat }, step) ∷ at_seat seat steps
 
 module _ {M : Type 0} where
-  -- what a pass knows of its table's start: what stood for the threads, and the mask of those that waited
-  abbrev pub beginning : View M → List M × ℕ
-  beginning v = (v.first, v.later)
+  -- what a pass knows of its table's start: what stood for the threads, and from what the table goes on
+  abbrev pub beginning : View M → List (Option M) × Opening
+  beginning v = (v.first, opening_by v)
 
   -- The history is the steps that the passes made, interleaved: each pass made its own at its seat, and nobody else any.
   pub record Interleaves (moves : List Move) (views : List (View M)) : Type 0 where
@@ -70,34 +72,30 @@ module _ {M : Type 0} where
 
   -- the words at this moment, as a table
   abbrev pub table_of : {S : Type 0} → Shape M → State S (View M) → Table
-  table_of shape s = record { threads = shape.threads; rows = shape.rows; words = s.words; opening = 0 }
+  table_of shape s = record { threads = shape.threads; rows = shape.rows; words = s.words; opening = greatest (opening_in shape) }
 
 -- WHAT STANDS FOR THE THREADS, in a table of machines: it lies in the thread's slot, which is out with a pass from when that takes
 -- the thread's row to when it opens the next
--- a thread of the table that does not wait starts at once
-abbrev pub StartsFirst : ℕ → ℕ → ℕ → Type 0
-StartsFirst threads later t = (t < threads) × (waits later t ≡ false)
-
 module _ {M : Type 0} where
   -- the pass is to begin with the row: it is the first of a thread, which the pass holds or is to deal, and has not begun with
   abbrev pub IsToBegin : View M → Row → Type 0
-  IsToBegin v r = (r.sync ≡ 0) × (Has v.seen.held r ⊎ ((r.thread < v.threads) × (waits v.later r.thread ≡ false) × (v.dealt ≤ r.thread % v.passes))) × (¬ Has v.seen.begun r)
+  IsToBegin v r = (r.sync ≡ 0) × (Has v.seen.held r ⊎ ((r.thread < v.threads) × RunsIn (opening_by v) r.thread × (v.dealt ≤ r.thread % v.passes))) × (¬ Has v.seen.begun r)
 
   -- then what stood for the thread at first is at home
-  pub record Waits (first : List M) (w : World) (homes : List (Maybe (Option M))) (r : Row) : Type 0 where
+  pub record Waits (first : List (Option M)) (w : World) (homes : List (Maybe (Option M))) (r : Row) : Type 0 where
     pub fresh : is_fresh (cell_at w.table r) ≡ true
     pub value : M
-    pub is_first : slice_get first r.thread ≡ Some value
+    pub is_first : slice_get first r.thread ≡ Some (Some value)
     pub home : get_elem? homes r.thread ≡ some (some (Some value))
 
 module _ {M : Type 0} (stands : Stands M) where
   -- The value is at home, and the row offers what it offers after the results of the rows before.
-  pub record IsHome (first : List M) (l : Ledger) (homes : List (Maybe (Option M))) (r : Row) : Type 0 where
+  pub record IsHome (first : List (Option M)) (l : Ledger) (homes : List (Maybe (Option M))) (r : Row) : Type 0 where
     pub value : M
     pub home : get_elem? homes r.thread ≡ some (some (Some value))
     pub offers : OffersAs (stands.offers first value) l r
 
-  pub record Housed (first : List M) (w : World) (homes : List (Maybe (Option M))) (views : List (View M)) : Type 0 where
+  pub record Housed (first : List (Option M)) (w : World) (homes : List (Maybe (Option M))) (views : List (View M)) : Type 0 where
     -- each opened row offers what somebody offers who stands for its thread after the results of the rows before, and has his nacks
     pub rows : EachStands (SomeStands stands first) w.table
     -- and he is at home until the row is taken
@@ -108,7 +106,7 @@ module _ {M : Type 0} (stands : Stands M) where
 
   -- The value stands for the row's thread after the results of the rows before, as the pass has them; its offers are drafted for the
   -- row, and its nacks, and no others, are bound to it.
-  pub record IsReady (first : List M) (results : List (ℕ × List Result)) (s : Seen) (r : Row) (value : M) : Type 0 where
+  pub record IsReady (first : List (Option M)) (results : List (ℕ × List Result)) (s : Seen) (r : Row) (value : M) : Type 0 where
     pub earlier : List Result
     pub count : length earlier ≡ r.sync
     pub seen : (earlier ≡ []) ⊎ Has results (r.thread, earlier)
@@ -130,32 +128,34 @@ module _ {M : Type 0} (stands : Stands M) where
     pub does : act value earlier
 
   -- it starts another thread, and it ends
-  abbrev pub IsStarting : List M → List (ℕ × List Result) → Row → ℕ → Type 0
+  abbrev pub IsStarting : List (Option M) → List (ℕ × List Result) → Row → ℕ → Type 0
   IsStarting first results r t = IsActing results r (λ value earlier. stands.starts first value r.thread earlier t)
 
-  abbrev pub IsFinishing : List M → List (ℕ × List Result) → Row → Type 0
+  abbrev pub IsFinishing : List (Option M) → List (ℕ × List Result) → Row → Type 0
   IsFinishing first results r = IsActing results r (λ value earlier. stands.ends first value r.thread earlier)
 
-  -- The history is the passes' steps interleaved, and leads from the start to the words as they stand. What each pass has
-  -- seen is true of the world that the history leads to. Nothing else ever happens to the table.
+  -- The history is the passes' steps interleaved, and leads from where the table began to the words as they stand. What each pass
+  -- has seen is true of the world that the history leads to. Nothing else ever happens to the table.
   pub record Keeps (shape : Shape M) (s : State (Option M) (View M)) : Type 0 where
-    pub few_threads : shape.threads ≤ 64
+    pub opens : IsOpening (opening_in shape) shape.rows
     pub few_rows : shape.rows ≤ 1024
     pub moves : List Move
     pub interleaved : Interleaves moves s.views
+    pub start : World
+    pub begins : Begins (opening_in shape) shape.rows shape.passes start
     pub world : World
-    pub played : Plays (start_world shape.threads shape.rows shape.passes shape.later) (in_order moves) world
+    pub played : Plays start (in_order moves) world
     pub table : world.table ≡ table_of shape s
     pub owner : Row → ℕ
     -- a pass that is of no table any more knows nothing
     pub knows : (id : ℕ) (v : View M) → get_elem? s.views id ≡ some v → 0 < v.threads → Knows world owner id v
     pub seated : Seated s.views
-    -- a pass knows what stood for the threads at first, and which of them waited
-    pub firsts : (id : ℕ) (v : View M) → get_elem? s.views id ≡ some v → 0 < v.threads → beginning v ≡ (shape.first.value.items, shape.later)
-    -- in a table of machines a thread has started at once, or where what stood for another one had started it, and has ended where
-    -- what stood for it had; and what stands for the threads lies where it should
-    pub started : 0 < length shape.first.value.items → EachStarted (StartsFirst shape.threads shape.later) (acts_in stands shape.first.value.items).starts (ledger_of world.table)
-    pub ended : 0 < length shape.first.value.items → EachEnded (acts_in stands shape.first.value.items).ends (ledger_of world.table)
+    -- a pass knows what stood for the threads at first, and from what the table goes on
+    pub firsts : (id : ℕ) (v : View M) → get_elem? s.views id ≡ some v → 0 < v.threads → beginning v ≡ (shape.first.value.items, opening_in shape)
+    -- in a table of machines a thread had started before, or has where what stood for another one had started it, and had ended, or
+    -- has where what stood for it had; and what stands for the threads lies where it should
+    pub started : 0 < length shape.first.value.items → EachStarted (HadStarted (opening_in shape)) (acts_in stands shape.first.value.items).starts (ledger_of world.table)
+    pub ended : 0 < length shape.first.value.items → EachEnded (HadEnded (opening_in shape)) (acts_in stands shape.first.value.items).ends (ledger_of world.table)
     pub housed : 0 < length shape.first.value.items → Housed shape.first.value.items world s.homes s.views
     -- the results that a pass has seen are results of the rows
     pub results : (id : ℕ) (v : View M) (t : ℕ) (rs : List Result) → get_elem? s.views id ≡ some v → Has v.results (t, rs) → AreResults (ledger_of world.table) t rs
@@ -176,31 +176,35 @@ no_offers (r ∷ rs) = (r, 1, 0) ∷ no_offers rs
 
 -- a pass that holds these rows and has seen nothing
 abbrev pub seen_nothing : List Row → Seen
-seen_nothing rows = record { held = rows; drafts = no_offers rows; opened = []; words = []; joined = []; taken = []; bound = []; begun = []; lasts = []; started = []; ended = [] }
+seen_nothing rows = record { held = rows; drafts = no_offers rows; opened = []; words = []; joined = []; taken = []; bound = []; carried = []; begun = []; lasts = []; started = []; ended = [] }
 
 module _ {M : Type 0} where
+  -- these stand for the threads of an opening at first: each one that has not ended has one, or there is none at all
+  abbrev pub AreMachines : Opening → List (Option M) → Type 0
+  AreMachines o first = (first ≡ []) ⊎ ((length first ≡ length o.threads) × ((t : ℕ) → t < length o.threads → (thread_in o t).0 ≢ Ended → (value : M) × (slice_get first t ≡ Some (Some value))))
+
   -- the first pass: it has dealt the seats below this one, and holds nothing itself
   abbrev pub dealer : Shape M → ℕ → View M
-  dealer shape k = record { threads = shape.threads; rows = shape.rows; passes = shape.passes; later = shape.later; first = shape.first.value.items; results = []; dealt = k; seat = 0; stage = Aside; from = first_row 0; seen = seen_nothing []; made = [] }
+  dealer shape k = record { threads = shape.threads; rows = shape.rows; passes = shape.passes; lives = (opening_in shape).threads; nacks = (opening_in shape).nacks; first = shape.first.value.items; results = []; dealt = k; seat = 0; stage = Aside; from = first_row 0; seen = seen_nothing []; made = [] }
 
--- the thread starts at once, and falls to seat k
-abbrev pub falls_to : ℕ → ℕ → ℕ → ℕ → Bool
-falls_to later passes k t = not (waits later t) && (t % passes == k)
+-- the thread runs at first, and falls to seat k
+abbrev pub falls_to : Opening → ℕ → ℕ → ℕ → Bool
+falls_to o passes k t = is_running (thread_in o t).0 && (t % passes == k)
 
 -- the first rows of the threads below this one that do so
-abbrev pub dealt_later : ℕ → ℕ → ℕ → ℕ → List Row
-dealt_later later zero passes k = []
-dealt_later later (suc t) passes k =
-    if falls_to later passes k t then first_row t ∷ dealt_later later t passes k else dealt_later later t passes k
+abbrev pub dealt_from : Opening → ℕ → ℕ → ℕ → List Row
+dealt_from o zero passes k = []
+dealt_from o (suc t) passes k =
+    if falls_to o passes k t then first_row t ∷ dealt_from o t passes k else dealt_from o t passes k
 
--- where all threads start at once
+-- in a first table, where all threads run
 abbrev pub dealt_rows : ℕ → ℕ → ℕ → List Row
-dealt_rows threads passes k = dealt_later 0 threads passes k
+dealt_rows threads passes k = dealt_from (start_opening threads 0) threads passes k
 
 module _ {M : Type 0} where
   -- the pass of the next seat: it holds the rows that fall to it
   abbrev pub dealt_pass : View M → View M
-  dealt_pass v = record v { dealt = v.passes; seat = v.dealt; stage = Resting; seen = seen_nothing (dealt_later v.later v.threads v.passes v.dealt); made = [] }
+  dealt_pass v = record v { dealt = v.passes; seat = v.dealt; stage = Resting; seen = seen_nothing (dealt_from (opening_by v) v.threads v.passes v.dealt); made = [] }
 
   abbrev pub dealt_one : View M → View M
   dealt_one v = record v { dealt = v.dealt + 1 }
@@ -223,7 +227,7 @@ told_of s = record s { held = []; drafts = []; words = s.words ++ drafts_of s.op
 
 -- what a pass has seen once it was told this
 abbrev pub heard : Seen → Seen → Seen
-heard s told = record s { opened = s.opened ++ told.opened; words = s.words ++ told.words; joined = s.joined ++ told.joined; taken = s.taken ++ told.taken; bound = s.bound ++ told.bound; started = s.started ++ told.started; ended = s.ended ++ told.ended }
+heard s told = record s { opened = s.opened ++ told.opened; words = s.words ++ told.words; joined = s.joined ++ told.joined; taken = s.taken ++ told.taken; bound = s.bound ++ told.bound; carried = s.carried ++ told.carried; started = s.started ++ told.started; ended = s.ended ++ told.ended }
 
 module _ {M : Type 0} where
   abbrev pub told_pass : View M → View M
@@ -234,4 +238,4 @@ module _ {M : Type 0} where
 
   -- the pass that has told all that it had seen: it is of no table any more
   abbrev pub spent_pass : View M
-  spent_pass = record { threads = 0; rows = 0; passes = 0; later = 0; first = []; results = []; dealt = 0; seat = 0; stage = Resting; from = first_row 0; seen = seen_nothing []; made = [] }
+  spent_pass = record { threads = 0; rows = 0; passes = 0; lives = []; nacks = []; first = []; results = []; dealt = 0; seat = 0; stage = Resting; from = first_row 0; seen = seen_nothing []; made = [] }

@@ -18,7 +18,8 @@ use Rattle.protocol_values.specs.declared.Course.TheVariants.{Unstarted, Running
 use Rattle.protocol_values.specs.declared.Cell.{Cell}
 use Rattle.protocol_values.specs.declared.Cell.TheVariants.{Fresh, Waiting, Claimed, Synched, Taken}
 use Rattle.cell_table.specs.declared.view.Seen.{Seen}
-use Rattle.protocol.specs.Tables.{row_eq, is_fresh, is_taken, names, offers_meet, stands_alone}
+use Rattle.protocol.specs.Openings.{Opening, state_in, word_for}
+use Rattle.protocol.specs.Tables.{carried_by, row_eq, is_fresh, is_taken, names, offers_meet, stands_alone}
 use Rattle.protocol_values.specs.Values.{directions_meet, next_row, joined_of}
 use Rattle.protocol.specs.Acting.{EndsAt, HasStart}
 use Rattle.protocol.specs.Worlds.{first_row}
@@ -66,6 +67,10 @@ see_next rows r s = if nat_lt (r.sync + 1) rows then see_held (next_row r) s els
 abbrev pub see_bound : NackName → Binding → Seen → Seen
 see_bound n b s = record s { bound = (n, b) ∷ s.bound }
 
+-- the nack was seen carried, with this stamp
+abbrev pub see_carried : NackName → ℕ → Seen → Seen
+see_carried n stamp s = record s { carried = (n, stamp) ∷ s.carried }
+
 -- what stood for the thread of this first row at first was fetched
 abbrev pub see_begun : Row → Seen → Seen
 see_begun r s = record s { begun = r ∷ s.begun }
@@ -94,6 +99,7 @@ pub record LearnsOf (About : Row → Type 0) (Nacks : NackName → Type 0) (Live
   pub joined : Adds (λ x. About x.0) s.joined t.joined
   pub taken : Adds About s.taken t.taken
   pub bound : Adds (λ x. Nacks x.0) s.bound t.bound
+  pub carried : Adds (λ x. Nacks x.0) s.carried t.carried
   pub begun : t.begun ≡ s.begun
   pub started : Adds (λ x. Lives x.0) s.started t.started
   pub ended : Adds (λ x. Lives x.0) s.ended t.ended
@@ -111,6 +117,7 @@ pub record Redrafts (Where : Row → ℕ → Type 0) (s t : Seen) : Type 0 where
   pub joined : t.joined ≡ s.joined
   pub taken : t.taken ≡ s.taken
   pub bound : t.bound ≡ s.bound
+  pub carried : t.carried ≡ s.carried
   pub begun : t.begun ≡ s.begun
   pub started : t.started ≡ s.started
   pub ended : t.ended ≡ s.ended
@@ -326,9 +333,22 @@ pub record Coherent (threads rows : ℕ) (s : Seen) : Type 0 where
   pub meet : (r : Row) (j : Joined) (p : Row × ℕ) (mine theirs : Offer) → Has s.joined (r, j) → j.partner ≡ Some p
       → HaveOffer s.words r j.own mine → HaveOffer s.words p.0 p.1 theirs → offers_meet (Some mine) (Some theirs) ≡ true
   pub one_bound : (n : NackName) (a b : Binding) → Has s.bound (n, a) → Has s.bound (n, b) → a ≡ b
+  -- a nack is carried with one stamp, and not bound then
+  pub one_carried : (n : NackName) (a b : ℕ) → Has s.carried (n, a) → Has s.carried (n, b) → a ≡ b
+  pub apart : (n : NackName) (b : Binding) (stamp : ℕ) → Has s.bound (n, b) → Has s.carried (n, stamp) → ⊥
   pub one_start : (t a b : ℕ) → Has s.started (t, a) → Has s.started (t, b) → a ≡ b
   pub started : (t stamp : ℕ) → Has s.started (t, stamp) → t < threads
   pub one_end : (t a b : ℕ) → Has s.ended (t, a) → Has s.ended (t, b) → a ≡ b
   pub ended : (t g : ℕ) → Has s.ended (t, g) → (t < threads) × (g ≤ rows)
   -- a nack of the table is bound, to a row of the table
   pub bound : (n : NackName) (b : Binding) → Has s.bound (n, b) → (n.thread < threads) × (n.k < 64) × (b.sync < rows) × (b.scope < 4)
+  -- and so is one that is carried
+  pub carried : (n : NackName) (stamp : ℕ) → Has s.carried (n, stamp) → (n.thread < threads) × (n.k < 64)
+
+-- the nack was settled before the table: with the stamp at which it was enabled, or with 0
+abbrev pub WasSettled : Opening → NackName → ℕ → Type 0
+WasSettled o n stamp = carried_by (word_for (state_in o n)) ≡ Some stamp
+
+-- and so was each that was seen carried
+abbrev pub AreSettled : Opening → Seen → Type 0
+AreSettled o s = (n : NackName) (stamp : ℕ) → Has s.carried (n, stamp) → WasSettled o n stamp

@@ -1,11 +1,12 @@
 -- What a step tells the pass that makes it: its view after, by the word that it found.
-use Rattle.std.specs.Prelude.{◌≡◌, ◌≢◌, ℕ, ◌+◌, List, ◌∷◌, length, take, ◌<◌, ◌≤◌, true, is_some, unwrap_or, Option, Some, None, slice_get}
+use Rattle.std.specs.Prelude.{◌≡◌, ◌≢◌, ℕ, ◌+◌, List, ◌∷◌, length, take, ◌<◌, ◌≤◌, true, is_some, unwrap_or, Option, Some, slice_get}
 use Rattle.atomic_table.specs.Table.{Step, Me, rest}
 use Rattle.protocol_values.specs.declared.Step.TheVariants.{Open, Claim, Yield, Join, Seal, Grant, Take}
 use Rattle.protocol_values.specs.Words.{cell_word, cell_of, course_of, course_word, nack_word, nack_of, IsBindingInRange, IsCourseInRange, IsJoinedInRange}
 use Rattle.protocol_values.specs.declared.NackName.{NackName}
 use Rattle.protocol_values.specs.declared.Binding.{Binding}
-use Rattle.protocol_values.specs.declared.NackWord.TheVariants.{Bound, Unbound}
+use Rattle.protocol_values.specs.declared.NackWord.{NackWord}
+use Rattle.protocol_values.specs.declared.NackWord.TheVariants.{Bound, Carried, Unbound}
 use Rattle.protocol_values.specs.declared.Course.{Course}
 use Rattle.protocol_values.specs.declared.Course.TheVariants.{Unstarted, Running, Ended}
 use Rattle.protocol_values.specs.declared.Row.{Row}
@@ -15,13 +16,13 @@ use Rattle.protocol_values.specs.declared.Cell.TheVariants.{Fresh, Waiting, Clai
 use Rattle.protocol_values.specs.declared.Message.{Message}
 use Rattle.protocol_values.specs.declared.Offer.{Offer}
 use Rattle.protocol.specs.Standing.{IsLeft, Result, Stands}
-use Rattle.protocol.specs.Tables.{bound_by, bound_row, course_place, is_taken, nack_place, place_of}
+use Rattle.protocol.specs.Tables.{bound_row, course_place, is_taken, nack_place, place_of}
 use Rattle.protocol_values.specs.Values.{next_row}
 use Rattle.cell_table.specs.declared.view.View.{View}
 use Rattle.cell_table.specs.declared.view.Stage.TheVariants.{Resting, Claims, Joins}
 use Rattle.cell_table.specs.declared.view.Seen.{Seen}
-use Rattle.cell_table.specs.Sight.{Has, IsExpected, IsExpectedCourse, IsResult, IsStand, IsUnseen, SawEnded, Coherent, see_begun}
-use Rattle.cell_table.specs.Views.{IsClaimer, at_stage, bind_of, bound_nack, did, ended_thread, saw, saw_course, saw_nack, started_thread, stood_at, took_with, read_word, turned, word_drafted}
+use Rattle.cell_table.specs.Sight.{Has, IsExpected, IsExpectedCourse, IsResult, IsStand, IsUnseen, SawEnded, AreSettled, Coherent, see_begun}
+use Rattle.cell_table.specs.Views.{IsClaimer, at_stage, bind_of, bound_nack, did, ended_thread, opening_by, saw, saw_course, saw_nack, started_thread, stood_at, took_with, read_word, turned, word_drafted}
 
 -- the table has the row
 abbrev pub Inside : ℕ → ℕ → Row → Type 0
@@ -50,9 +51,9 @@ module _ {M : Type 0} where
 abbrev pub course_read : ℕ → Course
 course_read n = unwrap_or (course_of n) Unstarted
 
--- where a word says that a nack is bound
-abbrev pub nack_read : ℕ → Option Binding
-nack_read n = bound_by (unwrap_or (nack_of n) Unbound)
+-- what a word says of a nack
+abbrev pub nack_read : ℕ → NackWord
+nack_read n = unwrap_or (nack_of n) Unbound
 
 -- the cell that a word stands for
 abbrev pub cell_read : ℕ → Cell
@@ -64,9 +65,9 @@ module _ {M : Type 0} where
   abbrev pub Agrees : View M → Row → Cell → Type 0
   Agrees v r c = IsExpected v.seen r c × (Has v.seen.held r → c ≡ Claimed → IsClaimer v.stage r) × (Has v.seen.lasts r.thread → r.sync < v.rows → is_taken c ≡ true)
 
-  -- what the pass has seen agrees with itself
+  -- what the pass has seen agrees with itself, and with what went before the table
   abbrev pub AgreesWithItself : View M → Type 0
-  AgreesWithItself v = Coherent v.threads v.rows v.seen
+  AgreesWithItself v = Coherent v.threads v.rows v.seen × AreSettled (opening_by v) v.seen
 
   -- the word that was found is a cell's
   abbrev pub looked : {S : Type 0} → Step S → Me S (View M) → ℕ → Me S (View M) → Type 0
@@ -83,7 +84,7 @@ module _ {M : Type 0} where
   drafted st m n w = (r : Row) (p : ℕ) → p < 34 → At st m r p → (w ≡ (word_drafted r p n m.0, m.1)) × AgreesWithItself w.0
 
   -- the front slot of those that are out goes home, in a table that has slots
-  abbrev pub GoesHome : {S : Type 0} → List M → List (ℕ × S) → List (ℕ × S) → Type 0
+  abbrev pub GoesHome : {S : Type 0} → List (Option M) → List (ℕ × S) → List (ℕ × S) → Type 0
   GoesHome first before after = (length first ≡ 0 → after ≡ before) × (0 < length first → after ≡ rest before)
 
   -- the row is Waiting now, and the call rests: the row is opened, or given up
@@ -96,7 +97,7 @@ module _ {M : Type 0} where
 
   abbrev pub has_begun : Step (Option M) → Me (Option M) (View M) → ℕ → Me (Option M) (View M) → Type 0
   has_begun st m n w = (r : Row) → At st m r 0
-      → (value : M) × (slice_get m.0.first r.thread ≡ Some value) × (w ≡ (began r m.0, (r.thread, Some value) ∷ m.1)) × AgreesWithItself w.0
+      → (value : M) × (slice_get m.0.first r.thread ≡ Some (Some value)) × (w ≡ (began r m.0, (r.thread, Some value) ∷ m.1)) × AgreesWithItself w.0
 
   abbrev pub yielded : {S : Type 0} → Step S → Me S (View M) → ℕ → Me S (View M) → Type 0
   yielded st m n w = (r : Row) → At st m r 0 → (w ≡ (did (Yield r) (turned Resting r m.0), m.1)) × AgreesWithItself w.0
@@ -133,7 +134,7 @@ module _ {M : Type 0} where
 
   -- The value of the row's thread comes out with the row, in a table that has slots. It is still to be given the last of the
   -- results: that of the row, with the message that the row gets, by what the pass had seen before and by what it has seen since.
-  abbrev pub ComesOut : Stands M → List M → Seen → Seen → Row → ℕ → List Result → List (ℕ × Option M) → List (ℕ × Option M) → Type 0
+  abbrev pub ComesOut : Stands M → List (Option M) → Seen → Seen → Row → ℕ → List Result → List (ℕ × Option M) → List (ℕ × Option M) → Type 0
   ComesOut stands first old new r own results before after =
       (length first ≡ 0 → after ≡ before)
       × (0 < length first → (value : M) × (got : Message) × (after ≡ (r.thread, Some value) ∷ before) × IsLeft stands first value r own results got × ((m : Message) → IsResult old r m → m ≡ got) × ((m : Message) → IsResult new r m → m ≡ got))
@@ -144,9 +145,9 @@ module _ {M : Type 0} where
       → (n ≡ cell_word (Synched j) → (results : List Result) × (length results ≡ r.sync + 1) × (w.0 ≡ did (Take r) (took_with r j results m.0)) × ComesOut stands m.0.first m.0.seen w.0.seen r j.own results m.1 w.1 × Agrees m.0 r (Synched j) × (¬ Has m.0.seen.opened (next_row r)) × (¬ SawEnded m.0.seen r.thread) × ((nack : NackName) (b : Binding) → Has m.0.seen.bound (nack, b) → bound_row nack b ≢ next_row r))
       × (n ≢ cell_word (Synched j) → finds m r n w) × AgreesWithItself w.0
 
-  -- what a pass knows of a nack before it looks: where it saw it bound
-  abbrev pub AgreesNack : View M → NackName → Option Binding → Type 0
-  AgreesNack v n found = (b : Binding) → Has v.seen.bound (n, b) → found ≡ Some b
+  -- what a pass knows of a nack before it looks: where it saw it bound, and as what it saw it carried
+  abbrev pub AgreesNack : View M → NackName → NackWord → Type 0
+  AgreesNack v n found = ((b : Binding) → Has v.seen.bound (n, b) → found ≡ Bound b) × ((stamp : ℕ) → Has v.seen.carried (n, stamp) → found ≡ Carried stamp)
 
   abbrev pub looked_nack : {S : Type 0} → Step S → Me S (View M) → ℕ → Me S (View M) → Type 0
   looked_nack st m n w = (nack : NackName) → AtNack st m nack
@@ -178,7 +179,7 @@ module _ {M : Type 0} where
 
   -- The nack is a scope's of an earlier row of its thread: some value stands for the thread after the results of the rows before
   -- that row, with this nack for the scope to which it is bound. Whatever further results of the thread the pass has, they begin with those.
-  pub record IsEarlier (stands : Stands M) (first : List M) (all : List (ℕ × List Result)) (n : NackName) (b : Binding) : Type 0 where
+  pub record IsEarlier (stands : Stands M) (first : List (Option M)) (all : List (ℕ × List Result)) (n : NackName) (b : Binding) : Type 0 where
     pub results : List Result
     pub count : length results ≡ b.sync
     pub value : M
@@ -188,10 +189,17 @@ module _ {M : Type 0} where
     pub scope : slice_get nacks b.scope ≡ Some n.k
     pub begins : (longer : List Result) → Has all (n.thread, longer) → b.sync ≤ length longer → results ≡ take b.sync longer
 
-  -- where the nack was not bound it is bound so, and the pass had not seen it bound; else the pass has seen where it is: not
-  -- behind the row that it tried to bind it to, and where it is a row that the pass holds, the pass had seen it
+  -- what the pass knows of a nack that is not free, where it tried to bind it so: it is bound no row behind that one, and where it is
+  -- a row that the pass holds, the pass had seen it; or it is carried, and the pass had not seen it bound
+  abbrev pub FoundNack : Stands M → View M → NackName → Binding → NackWord → Type 0
+  FoundNack stands v n b Unbound = ⊥
+  FoundNack stands v n b (Bound c) =
+      (c.sync ≤ b.sync) × (Has v.seen.held (bound_row n c) → Has v.seen.bound (n, c)) × (c.sync < b.sync → 0 < length v.first → IsEarlier stands v.first v.results n c)
+  FoundNack stands v n b (Carried stamp) = (c : Binding) → ¬ Has v.seen.bound (n, c)
+
+  -- where the nack was neither bound nor carried it is bound so, and the pass had seen neither of it; else the pass has seen what it is
   abbrev pub tried_bind : Stands M → Step (Option M) → Me (Option M) (View M) → ℕ → Me (Option M) (View M) → Type 0
   tried_bind stands st m n w = (nack : NackName) (b : Binding) → AtNack st m nack → IsBindingInRange b → st.second ≡ nack_word (Bound b)
-      → (nack_read n ≡ None → (w ≡ (did (bind_of nack b) (bound_nack nack b m.0), m.1)) × ((c : Binding) → ¬ Has m.0.seen.bound (nack, c)))
-      × ((c : Binding) → nack_read n ≡ Some c → (w ≡ (bound_nack nack c m.0, m.1)) × (c.sync ≤ b.sync) × (Has m.0.seen.held (bound_row nack c) → Has m.0.seen.bound (nack, c)) × (c.sync < b.sync → 0 < length m.0.first → IsEarlier stands m.0.first m.0.results nack c))
+      → (nack_read n ≡ Unbound → (w ≡ (did (bind_of nack b) (bound_nack nack b m.0), m.1)) × ((c : Binding) → ¬ Has m.0.seen.bound (nack, c)) × ((stamp : ℕ) → ¬ Has m.0.seen.carried (nack, stamp)))
+      × (nack_read n ≢ Unbound → (w ≡ (saw_nack nack (nack_read n) m.0, m.1)) × FoundNack stands m.0 nack b (nack_read n))
       × AgreesWithItself w.0

@@ -1,7 +1,9 @@
 -- What the rule knows of a pass, and when it is true of the table.
-use Rattle.std.specs.Prelude.{◌≡◌, ℕ, ◌%◌, ◌<◌, ◌≤◌, ◌∷◌, true, false, Option, Some, None, List}
+use Rattle.std.specs.Prelude.{◌≡◌, ℕ, ◌%◌, ◌<◌, ◌≤◌, ◌∷◌, true, false, Some, List}
 use Rattle.protocol_values.specs.declared.NackName.{NackName}
 use Rattle.protocol_values.specs.declared.Binding.{Binding}
+use Rattle.protocol_values.specs.declared.NackWord.{NackWord}
+use Rattle.protocol_values.specs.declared.NackWord.TheVariants.{Bound, Carried, Unbound}
 use Rattle.protocol_values.specs.declared.Course.{Course}
 use Rattle.protocol_values.specs.declared.Course.TheVariants.{Ended}
 use Rattle.protocol_values.specs.declared.Row.{Row}
@@ -11,13 +13,15 @@ use Rattle.protocol_values.specs.declared.Joined.{Joined}
 use Rattle.protocol_values.specs.declared.Cell.{Cell}
 use Rattle.protocol_values.specs.declared.Cell.TheVariants.{Fresh, Claimed, Taken}
 use Rattle.cell_table.specs.declared.view.Seen.{Seen}
+use Rattle.cell_table.specs.declared.view.Shape.{Shape}
 use Rattle.cell_table.specs.declared.view.View.{View}
 use Rattle.cell_table.specs.declared.view.Stage.{Stage}
 use Rattle.cell_table.specs.declared.view.Stage.TheVariants.{Resting, Claims, Joins, Aside}
-use Rattle.protocol.specs.Tables.{course_at, is_fresh, is_taken, names, word_at, cell_at, joined_at, binding_at, bound_row}
+use Rattle.protocol.specs.Tables.{course_at, is_fresh, is_taken, names, word_at, cell_at, joined_at, binding_at, bound_row, carried_at}
 use Rattle.protocol.specs.Standing.{Result}
-use Rattle.protocol.specs.Worlds.{World, first_row, holder_at, last_holder, waits}
-use Rattle.cell_table.specs.Sight.{Has, IsCounted, see_opened, see_cell, see_word, see_draft, see_next, see_bound, see_course, see_start}
+use Rattle.protocol.specs.Openings.{Opening, is_running, opening_of, thread_in}
+use Rattle.protocol.specs.Worlds.{World, first_row, holder_at, last_holder}
+use Rattle.cell_table.specs.Sight.{Has, IsCounted, WasSettled, see_opened, see_cell, see_word, see_draft, see_next, see_bound, see_carried, see_course, see_start}
 use Rattle.protocol.specs.Acting.{EndsAt, HasStart}
 
 -- the place behind the last row of a thread, in a table of so many rows
@@ -38,19 +42,31 @@ Staged w owner id (Claims m) = (owner m ≡ id) × (cell_at w.table m ≡ Claime
 Staged w owner id (Joins m o j) = (owner m ≡ id) × (cell_at w.table m ≡ Claimed) × (joined_at w.table o ≡ Some j) × (names (Some j) m ≡ true)
 Staged w owner id Aside = Unit {0}
 
+-- from what the table goes on
+abbrev pub opening_in : {M : Type 0} → Shape M → Opening
+opening_in shape = opening_of shape.opening.value
+
+-- as a pass knows it
+abbrev pub opening_by : {M : Type 0} → View M → Opening
+opening_by v = record { threads = v.lives; nacks = v.nacks }
+
+-- the thread runs there
+abbrev pub RunsIn : Opening → ℕ → Type 0
+RunsIn o t = is_running (thread_in o t).0 ≡ true
+
 -- Where a pass stands, and what it has seen: what it knows is by these, and not by what it has made.
 pub record Vantage : Type 0 where
   pub threads : ℕ
   pub rows : ℕ
   pub passes : ℕ
-  pub later : ℕ
+  pub opening : Opening
   pub dealt : ℕ
   pub seat : ℕ
   pub stage : Stage
   pub seen : Seen
 
 abbrev pub vantage : {M : Type 0} → View M → Vantage
-vantage v = record { threads = v.threads; rows = v.rows; passes = v.passes; later = v.later; dealt = v.dealt; seat = v.seat; stage = v.stage; seen = v.seen }
+vantage v = record { threads = v.threads; rows = v.rows; passes = v.passes; opening = opening_by v; dealt = v.dealt; seat = v.seat; stage = v.stage; seen = v.seen }
 
 -- the thread has ended only if it was seen so
 abbrev pub SeesEnd : World → Seen → ℕ → Type 0
@@ -63,7 +79,7 @@ pub record KnowsFrom (w : World) (owner : Row → ℕ) (id : ℕ) (from : Vantag
   pub passes : from.passes ≡ w.seats
   pub seat : from.seat < w.seats
   -- the first rows of the seats that are not dealt yet are this pass's to deal
-  pub undealt : (t : ℕ) → t < w.table.threads → waits from.later t ≡ false → from.dealt ≤ t % w.seats
+  pub undealt : (t : ℕ) → t < w.table.threads → RunsIn from.opening t → from.dealt ≤ t % w.seats
       → (owner (first_row t) ≡ id) × (holder_at w (first_row t) ≡ Some (t % w.seats)) × (¬ Has from.seen.opened (first_row t) → cell_at w.table (first_row t) ≡ Fresh)
       × (¬ IsCounted from.seen (first_row t) → word_at w.table (first_row t) 1 ≡ 0)
       × ((n : NackName) (b : Binding) → binding_at w.table n ≡ Some b → bound_row n b ≡ first_row t → Has from.seen.bound (n, b))
@@ -78,6 +94,9 @@ pub record KnowsFrom (w : World) (owner : Row → ℕ) (id : ℕ) (from : Vantag
   pub joined : (r : Row) (j : Joined) → Has from.seen.joined (r, j) → joined_at w.table r ≡ Some j
   pub taken : (r : Row) → Has from.seen.taken r → is_taken (cell_at w.table r) ≡ true
   pub bound : (n : NackName) (b : Binding) → Has from.seen.bound (n, b) → binding_at w.table n ≡ Some b
+  pub carried : (n : NackName) (stamp : ℕ) → Has from.seen.carried (n, stamp) → carried_at w.table n ≡ Some stamp
+  -- no nack is carried that was not settled before
+  pub settled : (n : NackName) (stamp : ℕ) → carried_at w.table n ≡ Some stamp → WasSettled from.opening n stamp
   pub started : (t stamp : ℕ) → Has from.seen.started (t, stamp) → HasStart (course_at w.table t) stamp
   pub ended : (t g : ℕ) → Has from.seen.ended (t, g) → EndsAt (course_at w.table t) g
   -- whoever stands at a place of a thread has seen it end, if it has
@@ -158,6 +177,11 @@ module _ {M : Type 0} where
   abbrev pub bound_nack : NackName → Binding → View M → View M
   bound_nack n b v = at_stage v.stage (see_bound n b v.seen) v
 
-  abbrev pub saw_nack : NackName → Option Binding → View M → View M
-  saw_nack n None v = v
-  saw_nack n (Some b) v = bound_nack n b v
+  -- the nack is carried so
+  abbrev pub carried_nack : NackName → ℕ → View M → View M
+  carried_nack n stamp v = at_stage v.stage (see_carried n stamp v.seen) v
+
+  abbrev pub saw_nack : NackName → NackWord → View M → View M
+  saw_nack n Unbound v = v
+  saw_nack n (Bound b) v = bound_nack n b v
+  saw_nack n (Carried stamp) v = carried_nack n stamp v

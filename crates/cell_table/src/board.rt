@@ -1,7 +1,9 @@
 //! The table and its rule.
 
 ghost use Rattle.std.specs.Prelude.{◌≡◌, ◌*◌, ◌<◌, ◌≤◌, length};
+ghost use Rattle.protocol.specs.Openings.{IsOpening, greatest};
 ghost use Rattle.protocol.specs.Tables.{thread_len};
+ghost use Rattle.cell_table.specs.Views.{opening_in};
 
 use crate::view::{Shape, View};
 use atomic_table::{Table, TableRule};
@@ -26,9 +28,12 @@ pub(crate) type Words<M> = Table<Option<M>, View<M>, Shape<M>, Law, Global>;
 pub struct Board<M: Resident> {
     pub(crate) words: Words<M>,
     pub(crate) shape: Shape<M>,
+    /// The greatest stamp of the opening.
+    pub(crate) stamps: u32,
     ghost keyed: { words.shared.key ≡ shape },
     ghost sized: { words.shared.table_id.words ≡ shape.threads * thread_len shape.rows },
     ghost slots: { words.shared.table_id.slots ≡ length shape.first.value.items },
     ghost full: { 0 < length shape.first.value.items → length shape.first.value.items ≡ shape.threads },
+    ghost opens: { IsOpening (opening_in shape) shape.rows × (length (opening_in shape).threads ≡ shape.threads) × (stamps ≡ greatest (opening_in shape)) },
     ghost small: { (1 ≤ shape.threads) × (shape.threads ≤ 64) × (1 ≤ shape.rows) × (shape.rows ≤ 1024) },
 }

@@ -1,7 +1,8 @@
 //! The end of a table: its words become a ledger.
 
-ghost use Rattle.std.specs.Prelude.{◌≡◌, ◌*◌, ◌<◌, ◌≤◌, ℕ, IfSome, List, length, None, Some, slice_get, false};
-ghost use Rattle.protocol.specs.Tables.{cell_at, thread_len};
+ghost use Rattle.std.specs.Prelude.{◌≡◌, ◌*◌, ◌<◌, ◌≤◌, ℕ, IfSome, List, length, None, Some, slice_get};
+ghost use Rattle.protocol.specs.Openings.{HadEnded, HadStarted, greatest, state_in, word_for};
+ghost use Rattle.protocol.specs.Tables.{carried_by, cell_at, thread_len};
 ghost use Rattle.cell_table.specs.Closings.{HandsOut, IsHomeOf, IsOpenAt, words_of};
 ghost use Rattle.std.specs.Slots.{slots_items, slots_len, IsFull};
 ghost use Rattle.protocol_values.specs.declared.Course.TheVariants.{Unstarted};
@@ -10,13 +11,12 @@ ghost use Rattle.protocol_values.specs.declared.Offer.{Offer};
 ghost use Rattle.protocol_values.specs.declared.Row.{Row};
 ghost use Rattle.protocol_values.specs.declared.NackName.{NackName};
 ghost use Rattle.protocol_values.specs.declared.Binding.{Binding};
-ghost use Rattle.protocol.specs.Ledgers.{IsLawful, binding_in, course_in, joined_in, offer_in};
+ghost use Rattle.protocol.specs.Ledgers.{IsLawful, binding_in, carried_in, course_in, joined_in, offer_in};
 ghost use Rattle.protocol.specs.Standing.{AreResults, Result};
-ghost use Rattle.protocol.specs.Worlds.{waits};
-ghost use Rattle.cell_table.specs.Rule.{StartsFirst};
+ghost use Rattle.cell_table.specs.Views.{opening_in};
 ghost use Rattle.cell_table.specs.Seats.{Sits};
 ghost use Rattle.cell_table.specs.Sight.{Has, IsDraft, SeesNoOffer, SeesOffer};
-ghost use Rattle.protocol.specs.Acting.{ActsAs, EndsAt, HasStart, acts_in};
+ghost use Rattle.protocol.specs.Acting.{ActsAs, EndsAt, HasStart, acts_in, before_of};
 
 use crate::board::Board;
 use crate::view::{Shape, View};
@@ -40,8 +40,10 @@ impl<M: Resident + Drop> Board<M> {
         requires places { length places.items ≡ self.words.shared.table_id.slots }
         requires empty { (t : ℕ) (value : M) → slice_get places.items t ≡ Some (Some value) → ⊥ }
         ensures size { (result.0.threads ≡ self.shape.threads) × (result.0.rows ≡ self.shape.rows) }
+        ensures opening { result.0.opening ≡ greatest (opening_in self.shape) }
         ensures lawful { IsLawful result.0 }
-        ensures at_once { (t : ℕ) → t < self.shape.threads → waits self.shape.later t ≡ false → HasStart (course_in result.0 t) 0 }
+        ensures before { (t stamp : ℕ) → HadStarted (opening_in self.shape) t stamp → HasStart (course_in result.0 t) stamp }
+        ensures over { (t : ℕ) → HadEnded (opening_in self.shape) t → EndsAt (course_in result.0 t) 0 }
         ensures outside { (t : ℕ) → self.shape.threads ≤ t → course_in result.0 t ≡ Unstarted }
         ensures started { (t stamp : ℕ) → Has seat.me.0.seen.started (t, stamp) → HasStart (course_in result.0 t) stamp }
         ensures ended { (t g : ℕ) → Has seat.me.0.seen.ended (t, g) → EndsAt (course_in result.0 t) g }
@@ -49,17 +51,22 @@ impl<M: Resident + Drop> Board<M> {
         ensures offers { (r : Row) (n : ℕ) (o : Offer) → SeesOffer seat.me.0.seen r n o → offer_in result.0 r n ≡ Some o }
         ensures lacks { (r : Row) (n : ℕ) → SeesNoOffer seat.me.0.seen r n → offer_in result.0 r n ≡ None }
         ensures bound { (n : NackName) (b : Binding) → Has seat.me.0.seen.bound (n, b) → binding_in result.0 n ≡ Some b }
+        ensures carried { (n : NackName) → n.thread < self.shape.threads → n.k < 64 → carried_in result.0 n ≡ carried_by (word_for (state_in (opening_in self.shape) n)) }
         ensures results { (t : ℕ) (results : List Result) → Has seat.me.0.results (t, results) → AreResults result.0 t results }
         ensures own { (r : Row) (j : Joined) (offers : List Offer) → IsDraft seat.me.0.seen r offers → joined_in result.0 r ≡ Some j → (j.own < length offers) × (offer_in result.0 r j.own ≡ slice_get offers j.own) }
         ensures machines { 0 < length self.shape.first.value.items → HandsOut M.stands self.shape.first.value.items result.0 result.1.items }
         ensures count { length result.1.items ≡ length places.items }
-        ensures acts { 0 < length self.shape.first.value.items → ActsAs (StartsFirst self.shape.threads self.shape.later) (acts_in M.stands self.shape.first.value.items) result.0 }
+        ensures acts { 0 < length self.shape.first.value.items → ActsAs (before_of (opening_in self.shape)) (acts_in M.stands self.shape.first.value.items) result.0 }
     {
-        let Board { words, shape } = self;
+        let Board {
+            words,
+            shape,
+            stamps,
+        } = self;
         let closed = words.close_with(seat);
         let words = copy_words(&closed, spare);
         let machines = take_home(closed, words.as_slice(), &shape, places);
-        let ledger = Ledger::of_words(shape.threads as u8, shape.rows as u16, words, 0);
+        let ledger = Ledger::of_words(shape.threads as u8, shape.rows as u16, words, stamps);
         (ledger, machines)
     }
 }

@@ -1,9 +1,10 @@
 //! How a table begins, and how its rows are dealt.
 
-ghost use Rattle.std.specs.Prelude.{◌≡◌, ◌*◌, ◌+◌, ◌<◌, ◌≤◌, [], IfOk, Some, length, map, replicate};
-ghost use Rattle.protocol.specs.Tables.{thread_len};
-ghost use Rattle.protocol.specs.Worlds.{with_lives};
-ghost use Rattle.cell_table.specs.Rule.{dealer, dealt_pass};
+ghost use Rattle.std.specs.Prelude.{◌≡◌, ◌+◌, ◌<◌, ◌≤◌, [], IfOk, length};
+ghost use Rattle.protocol.specs.Openings.{AreFirstWords, IsOpening, greatest};
+ghost use Rattle.cell_table.specs.Closings.{words_of};
+ghost use Rattle.cell_table.specs.Rule.{AreMachines, dealer, dealt_pass};
+ghost use Rattle.cell_table.specs.Views.{opening_in};
 
 use crate::board::{Board, Words};
 use crate::plays::Deal;
@@ -13,23 +14,33 @@ use protocol::Resident;
 use std::alloc::{AllocError, Global};
 
 impl<M: Resident + Drop> Board<M> {
-    /// A table of Fresh rows, and the seat that deals them. `words` are the table's first ones: all 0 but the
-    /// lives of the threads that start at once.
+    /// A table of Fresh rows that goes on from an opening, whose greatest stamp is `stamps`, and the seat that deals
+    /// them. `words` are the table's first ones. In a table of machines one lies in the slot of each thread that
+    /// has not ended.
     pub fn start(
         alloc: Global,
         shape: Shape<M>,
+        stamps: u32,
         words: &[u64],
         slots: Vec<Option<M>>,
     ) -> Result<(Board<M>, Seat<Option<M>, View<M>>), AllocError>
-        requires shape { (1 ≤ shape.threads) × (shape.threads ≤ 64) × (1 ≤ shape.rows) × (shape.rows ≤ 1024) × (1 ≤ shape.passes) }
-        requires words { words.now ≡ with_lives shape.later shape.rows shape.threads (replicate (shape.threads * thread_len shape.rows) 0) }
-        requires slots { slots.items ≡ map Some shape.first.value.items }
-        requires full { 0 < length shape.first.value.items → length shape.first.value.items ≡ shape.threads }
+        requires shape { (shape.threads ≡ length (opening_in shape).threads) × (1 ≤ shape.rows) × (shape.rows ≤ 1024) × (1 ≤ shape.passes) }
+        requires opening { IsOpening (opening_in shape) shape.rows × (stamps ≡ greatest (opening_in shape)) }
+        requires words { AreFirstWords (opening_in shape) (words_of shape words.now) }
+        requires slots { slots.items ≡ shape.first.value.items }
+        requires full { AreMachines (opening_in shape) shape.first.value.items }
         ensures board { IfOk result (λ b. (b.0.shape ≡ shape) × (b.1.table_id ≡ b.0.words.shared.table_id)) }
         ensures seat { IfOk result (λ b. b.1.me ≡ (dealer shape 0, [])) }
     {
         match Words::new(alloc, words, slots, &shape) {
-            Ok((words, seat)) => Ok((Board { words, shape }, seat)),
+            Ok((words, seat)) => Ok((
+                Board {
+                    words,
+                    shape,
+                    stamps,
+                },
+                seat,
+            )),
             Err(_) => Err(AllocError),
         }
     }

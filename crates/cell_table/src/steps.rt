@@ -1,10 +1,11 @@
 //! One function for each atomic step, and what the table has.
 
-ghost use Rattle.std.specs.Prelude.{◌≡◌, ◌≢◌, ◌*◌, ◌+◌, ◌<◌, ◌≤◌, ◌↔◌, List, ◌∷◌, length, slice_get, true, IfOk, IfErr, IsTrue, None, Some};
+ghost use Rattle.std.specs.Prelude.{◌≡◌, ◌≢◌, ◌*◌, ◌+◌, ◌<◌, ◌≤◌, ◌↔◌, ℕ, List, ◌∷◌, length, slice_get, true, IfOk, IfErr, IsTrue, None, Some};
 ghost use Rattle.protocol.specs.Standing.{Result};
 ghost use Rattle.protocol_values.specs.Words.{is_word_for, IsBindingInRange, IsJoinedInRange};
 ghost use Rattle.protocol_values.specs.declared.Binding.{Binding};
 ghost use Rattle.protocol_values.specs.declared.NackName.{NackName};
+ghost use Rattle.protocol_values.specs.declared.NackWord.TheVariants.{Unbound};
 ghost use Rattle.protocol_values.specs.declared.Cell.TheVariants.{Waiting, Synched};
 ghost use Rattle.protocol_values.specs.declared.Step.TheVariants.{
   Claim as ClaimStep,
@@ -20,7 +21,7 @@ ghost use Rattle.protocol.specs.Worlds.{mirrored};
 ghost use Rattle.cell_table.specs.declared.view.Stage.TheVariants.{Resting, Claims, Joins};
 ghost use Rattle.atomic_table.specs.Table.{rest};
 ghost use Rattle.cell_table.specs.Rule.{IsReady};
-ghost use Rattle.cell_table.specs.Told.{Agrees, AgreesNack, ComesOut, GoesHome, IsEarlier, began, cell_read, joining, nack_read, settled};
+ghost use Rattle.cell_table.specs.Told.{Agrees, AgreesNack, ComesOut, FoundNack, GoesHome, began, cell_read, joining, nack_read, settled};
 ghost use Rattle.cell_table.specs.Seats.{Sits, HasNack, HasRow, StaysAtTable, StaysSeated};
 ghost use Rattle.cell_table.specs.Nacks.{CanGrant};
 ghost use Rattle.cell_table.specs.Sight.{Has, CanJoin, SawEnded};
@@ -80,8 +81,8 @@ impl<M: Resident> Board<M> {
             + usize::from(nack.k)
     }
 
-    /// Reads where the nack is bound.
-    pub fn look_nack(&self, seat: &mut Seat<Option<M>, View<M>>, nack: NackName) -> Option<Binding>
+    /// Reads what the nack's word says.
+    pub fn look_nack(&self, seat: &mut Seat<Option<M>, View<M>>, nack: NackName) -> NackWord
         requires { Sits self.now seat.old × HasNack self.now nack }
         ensures sits { StaysSeated self.now seat.old seat.new }
         ensures saw { seat.new.me.0 ≡ saw_nack nack result seat.old.me.0 }
@@ -94,22 +95,22 @@ impl<M: Resident> Board<M> {
         )
     }
 
-    /// Binds a nack to a held row of its thread that is not opened yet, where it is not bound; else
-    /// says where it is.
+    /// Binds a nack to a held row of its thread that is not opened yet, where it is neither bound nor carried; else
+    /// says what its word is.
     pub fn bind_nack(
         &self,
         seat: &mut Seat<Option<M>, View<M>>,
         nack: NackName,
         bound: Binding,
-    ) -> Result<(), Binding>
+    ) -> Result<(), NackWord>
         requires sits { Sits self.now seat.old × HasNack self.now nack × HasRow self.now (bound_row nack bound) }
         requires resting { seat.old.me.0.stage ≡ Resting }
         requires held { Has seat.old.me.0.seen.held (bound_row nack bound) × (¬ Has seat.old.me.0.seen.opened (bound_row nack bound)) }
         requires alive { ¬ SawEnded seat.old.me.0.seen nack.thread }
         requires range { IsBindingInRange bound }
         ensures sits { StaysSeated self.now seat.old seat.new }
-        ensures bound { IfOk result (λ _. (seat.new.me.0 ≡ did (bind_of nack bound) (bound_nack nack bound seat.old.me.0)) × ((b : Binding) → ¬ Has seat.old.me.0.seen.bound (nack, b))) }
-        ensures found { IfErr result (λ b. (seat.new.me.0 ≡ bound_nack nack b seat.old.me.0) × (b.sync ≤ bound.sync) × (Has seat.old.me.0.seen.held (bound_row nack b) → Has seat.old.me.0.seen.bound (nack, b)) × (b.sync < bound.sync → 0 < length self.now.shape.first.value.items → IsEarlier M.stands self.now.shape.first.value.items seat.old.me.0.results nack b)) }
+        ensures bound { IfOk result (λ _. (seat.new.me.0 ≡ did (bind_of nack bound) (bound_nack nack bound seat.old.me.0)) × ((b : Binding) → ¬ Has seat.old.me.0.seen.bound (nack, b)) × ((stamp : ℕ) → ¬ Has seat.old.me.0.seen.carried (nack, stamp))) }
+        ensures found { IfErr result (λ word. (word ≢ Unbound) × (seat.new.me.0 ≡ saw_nack nack word seat.old.me.0) × FoundNack M.stands seat.old.me.0 nack bound word) }
     {
         let free = pack_nack(NackWord::Unbound);
         let word = pack_nack(NackWord::Bound(bound));
@@ -118,8 +119,8 @@ impl<M: Resident> Board<M> {
             .shared
             .compare_exchange::<Bind>(seat, self.nack_place(nack), free, word);
         match nack_in(found) {
-            None => Ok(()),
-            Some(bound) => Err(bound),
+            NackWord::Unbound => Ok(()),
+            other => Err(other),
         }
     }
 
@@ -180,7 +181,7 @@ impl<M: Resident> Board<M> {
         requires some { 0 < length self.now.shape.first.value.items }
         ensures sits { StaysAtTable self.now seat.old seat.new }
         ensures began { seat.new.me.0 ≡ began row seat.old.me.0 }
-        ensures out { (value : M) × (slice_get self.now.shape.first.value.items row.thread ≡ Some value) × (seat.new.me.1 ≡ (row.thread, Some value) ∷ seat.old.me.1) }
+        ensures out { (value : M) × (slice_get self.now.shape.first.value.items row.thread ≡ Some (Some value)) × (seat.new.me.1 ≡ (row.thread, Some value) ∷ seat.old.me.1) }
     {
         self.words.shared.load::<Begin>(seat, self.place(row, 0));
     }
@@ -370,12 +371,12 @@ fn cell_in(word: u64) -> Cell
     }
 }
 
-// where a word of the table says that a nack is bound
-fn nack_in(word: u64) -> Option<Binding>
+// what a word of the table says of a nack
+fn nack_in(word: u64) -> NackWord
     ensures { result ≡ nack_read word }
 {
     match unpack_nack(word) {
-        Some(NackWord::Bound(bound)) => Some(bound),
-        Some(NackWord::Unbound | NackWord::Carried(_)) | None => None,
+        Some(says) => says,
+        None => NackWord::Unbound,
     }
 }

@@ -1,20 +1,21 @@
 //! A table's size, and what a pass has seen. No value of `Stage`, `Seen` or `View` is made: contracts
 //! alone read them.
 
+use protocol::{Life, NackState, Opening};
 use protocol_values::{Binding, Joined, Message, NackName, Row, Step};
 use std::collections::LinkedList;
 use std::snapshot::Snapshot;
 
-/// How large a table is, and what stood for its threads at first.
+/// How large a table is, from what it goes on, and what stood for its threads at first.
 #[derive(Drop)]
 pub struct Shape<M> {
     pub threads: u64,
     pub rows: u64,
     pub passes: u64,
-    /// The threads that wait to be started, as a mask: bit t stands for thread t.
-    pub later: u64,
-    /// Thread by thread; none where nothing stands for them.
-    pub first: Snapshot<Vec<M>>,
+    /// Which threads run, wait to be started or have ended, with their stamps, and the nacks that were settled.
+    pub opening: Snapshot<Opening>,
+    /// Thread by thread; an empty list where nothing stands for them.
+    pub first: Snapshot<Vec<Option<M>>>,
 }
 
 /// Where a call is between two steps.
@@ -46,6 +47,8 @@ pub struct Seen {
     pub taken: LinkedList<Row>,
     /// The nacks that it bound or saw bound, and where.
     pub bound: LinkedList<(NackName, Binding)>,
+    /// The nacks that it saw carried, and their stamps.
+    pub carried: LinkedList<(NackName, u32)>,
     /// The first rows of threads whose first value it fetched.
     pub begun: LinkedList<Row>,
     /// The threads behind whose last row it stands: it took that row, and there is none behind it.
@@ -63,10 +66,11 @@ pub struct View<M> {
     pub threads: u64,
     pub rows: u64,
     pub passes: u64,
-    /// The threads that wait to be started at first, as a mask.
-    pub later: u64,
-    /// The values that stood for the threads at first, thread by thread; none where none stand for them.
-    pub first: LinkedList<M>,
+    /// The opening's threads and nacks.
+    pub lives: LinkedList<(Life, u32)>,
+    pub nacks: LinkedList<NackState>,
+    /// The values that stood for the threads at first, thread by thread; an empty list where none stand for them.
+    pub first: LinkedList<Option<M>>,
     /// The results of threads that the pass has seen: of each, those of its first rows.
     pub results: LinkedList<(u8, LinkedList<(u8, Message)>)>,
     /// The seats below this one have their rows already; this pass deals the others.

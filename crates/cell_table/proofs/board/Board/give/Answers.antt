@@ -28,10 +28,10 @@ returns-clause-sits g c =
     let told = c.compare_exchange-found.ensures.2 c.args.row c.args.joined c.requires.resting
     (at_view c.args.self.now.shape c.args.seat.now.me.0 c.args.row (search rules) (search rules) (search rules), place_view c.args.self.now.shape c.args.seat.now.me.0 c.args.row 0 c.place.result (search rules) (search rules)) c.requires.can.1 c.pack_cell-granted.ensures in
     exchange_either c.exchanged.result (c.compare_exchange-found.result ≡ c.pack_cell-waiting.result) (λ cell. (c.compare_exchange-found.result ≢ c.pack_cell-waiting.result) × (cell ≡ cell_read c.compare_exchange-found.result)) (StaysSeated c.args.self.now c.args.seat.now c.compare_exchange-found.new.seat)
-    (λ made. let is = told.0 (made ∙ c.pack_cell-waiting.ensures) in ((search rules), sits_still c.args.self.now c.args.seat.now c.compare_exchange-found.new.seat (search rules) (search rules) (ap (λ z. z.0.threads) is.0) (ap (λ z. z.0.rows) is.0) (ap (λ z. z.0.first) is.0) told.2, ap (λ z. z.1) is.0))
+    (λ made. let is = told.0 (made ∙ c.pack_cell-waiting.ensures) in ((search rules), sits_still c.args.self.now c.args.seat.now c.compare_exchange-found.new.seat (search rules) (search rules) (ap (λ z. z.0.threads) is.0) (ap (λ z. z.0.rows) is.0) (ap (λ z. z.0.first) is.0) (ap (λ z. z.0.lives) is.0) (ap (λ z. z.0.nacks) is.0) told.2, ap (λ z. z.1) is.0))
     (λ cell refused.
     let found : finds c.args.seat.now.me c.args.row c.compare_exchange-found.result c.compare_exchange-found.new.seat.me = told.1 (λ e. refused.0 (e ∙ sym c.pack_cell-waiting.ensures)) in
-    ((search rules), sits_still c.args.self.now c.args.seat.now c.compare_exchange-found.new.seat (search rules) (search rules) (ap (λ z. z.0.threads) found.0) (ap (λ z. z.0.rows) found.0) (ap (λ z. z.0.first) found.0) told.2, ap (λ z. z.1) found.0))
+    ((search rules), sits_still c.args.self.now c.args.seat.now c.compare_exchange-found.new.seat (search rules) (search rules) (ap (λ z. z.0.threads) found.0) (ap (λ z. z.0.rows) found.0) (ap (λ z. z.0.first) found.0) (ap (λ z. z.0.lives) found.0) (ap (λ z. z.0.nacks) found.0) told.2, ap (λ z. z.1) found.0))
     c.exchanged.ensures.made c.exchanged.ensures.refused
 
 pub returns-clause-given : goal.returns-clause-given

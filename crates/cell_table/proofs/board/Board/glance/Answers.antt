@@ -1,6 +1,8 @@
 -- The word of the first row's cell is glanced at.
 use Rattle.std.proofs.Common.{rules, subst, sym, ap, ◌∙◌, ◌≡◌, ℕ, ◌<◌, arith}
-use Rattle.cell_table.specs.Sight.{Coherent}
+use Rattle.protocol.specs.Openings.{Opening}
+use Rattle.cell_table.specs.Sight.{AreSettled, Coherent}
+use Rattle.cell_table.specs.Views.{opening_in}
 use mathlib.Core.Option.{none}
 use Rattle.atomic_table.specs.Table.{Allows, step}
 use Rattle.cell_table.specs.declared.view.Shape.{Shape}
@@ -23,14 +25,19 @@ pub returns-clause-sits : goal.returns-clause-sits
 returns-clause-sits g c =
     let told = c.load.ensures.2 in
     let threads : c.load.new.seat.me.0.threads ≡ c.args.self.now.shape.threads = ap (λ z. z.0.threads) told.0 ∙ c.requires.sits.1 in
+    let lives : c.load.new.seat.me.0.lives ≡ (opening_in c.args.self.now.shape).threads = ap (λ z. z.0.lives) told.0 ∙ c.requires.sits.4 in
+    let nacks : c.load.new.seat.me.0.nacks ≡ (opening_in c.args.self.now.shape).nacks = ap (λ z. z.0.nacks) told.0 ∙ c.requires.sits.5 in
     let rows : c.load.new.seat.me.0.rows ≡ c.args.self.now.shape.rows = ap (λ z. z.0.rows) told.0 ∙ c.requires.sits.2 in (
       c.load.ensures.1,
       (
         c.load.ensures.0 ∙ c.requires.sits.0,
         threads,
         rows,
-        subst (λ (z : ℕ × ℕ). Coherent z.0 z.1 c.load.new.seat.me.0.seen) (λ i. (threads i, rows i)) told.1,
+        subst (λ (z : ℕ × ℕ). Coherent z.0 z.1 c.load.new.seat.me.0.seen) (λ i. (threads i, rows i)) told.1.0,
         ap (λ z. z.0.first) told.0 ∙ c.requires.sits.3,
+        lives,
+        nacks,
+        subst (λ (o : Opening). AreSettled o c.load.new.seat.me.0.seen) (λ i. record { threads = lives i; nacks = nacks i }) told.1.1,
       ),
       ap (λ z. z.1) told.0,
     )

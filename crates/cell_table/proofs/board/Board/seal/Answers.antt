@@ -24,7 +24,7 @@ told g c = c.store.ensures.2 c.args.row (mirrored c.args.other c.args.joined c.a
     (at_view c.args.self.now.shape c.args.seat.now.me.0 c.args.row (search rules) (search rules) (search rules), place_view c.args.self.now.shape c.args.seat.now.me.0 c.args.row 0 c.place.result (search rules) (search rules)) (search rules) (search rules)
 
 pub returns-clause-sits : goal.returns-clause-sits
-returns-clause-sits g c = ((search rules), sits_still c.args.self.now c.args.seat.now c.store.new.seat (search rules) (search rules) (ap (λ z. z.0.threads) (told g c).0) (ap (λ z. z.0.rows) (told g c).0) (ap (λ z. z.0.first) (told g c).0) (told g c).1, ap (λ z. z.1) (told g c).0)
+returns-clause-sits g c = ((search rules), sits_still c.args.self.now c.args.seat.now c.store.new.seat (search rules) (search rules) (ap (λ z. z.0.threads) (told g c).0) (ap (λ z. z.0.rows) (told g c).0) (ap (λ z. z.0.first) (told g c).0) (ap (λ z. z.0.lives) (told g c).0) (ap (λ z. z.0.nacks) (told g c).0) (told g c).1, ap (λ z. z.1) (told g c).0)
 
 pub returns-clause-sealed : goal.returns-clause-sealed
 returns-clause-sealed g c = ap (λ z. z.0) (told g c).0

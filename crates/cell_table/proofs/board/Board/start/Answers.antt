@@ -1,17 +1,23 @@
-use Rattle.std.proofs.Common.{rules, ◌∙◌, ap, ℕ, List, Option, Some, length}
-use Rattle.std.proofs.lemmas.List.{length-map}
-use Rattle.protocol.proofs.LedgerLemmas.{length_start}
-use Rattle.cell_table.proofs.Dealing.{keeps_start}
+use Rattle.std.proofs.Common.{rules, ◌∙◌, ap, sym, arith, List, Option, length}
+use Rattle.cell_table.proofs.Dealing.{keeps_start, machines_full}
+use Rattle.cell_table.specs.Views.{opening_in}
 use Rattle.cell_table.proofs.board.Board.start.Goals as goal
 
 pub new-requires : goal.new-requires
-new-requires g c = keeps_start g.M.Resident.stands c.args.shape c.args.words.now c.args.slots.items c.requires.slots c.requires.full c.requires.shape.1 c.requires.shape.2 c.requires.shape.3 c.requires.shape.4 c.requires.words
+new-requires g c =
+    keeps_start g.M.Resident.stands c.args.shape c.args.words.now c.args.slots.items c.requires.slots c.requires.full c.requires.shape.0 c.requires.opening.0 c.requires.shape.1 c.requires.shape.2 c.requires.shape.3 c.requires.words
 
 pub invariant_of-result : goal.invariant_of-result
-invariant_of-result g c = record {
-  keyed = (search rules);
-  sized = c.in-Ok.ensures.ok.0 ∙ ap (λ (ws : List ℕ). length ws) c.requires.words ∙ length_start c.args.shape.threads c.args.shape.rows c.args.shape.later;
-  slots = c.in-Ok.ensures.ok.1 ∙ ap (λ (xs : List (Option g.row.M.Denot)). length xs) c.requires.slots ∙ length-map c.args.shape.first.value.items Some;
-  full = c.requires.full;
-  small = (c.requires.shape.0, c.requires.shape.1, c.requires.shape.2, c.requires.shape.3);
-}
+invariant_of-result g c =
+    let opens = c.requires.opening.0 in
+    let some = opens.some in
+    let few = opens.few in
+    let size = c.requires.shape.0 in
+    record {
+      keyed = (search rules);
+      sized = c.in-Ok.ensures.ok.0 ∙ c.requires.words.sized;
+      slots = c.in-Ok.ensures.ok.1 ∙ ap (λ (xs : List (Option g.row.M.Denot)). length xs) c.requires.slots;
+      full = λ some_first. machines_full (opening_in c.args.shape) c.args.shape.first.value.items c.requires.full some_first ∙ sym size;
+      opens = (opens, sym size, c.requires.opening.1);
+      small = (omega (arith, some, size), omega (arith, few, size), c.requires.shape.1, c.requires.shape.2);
+    }
