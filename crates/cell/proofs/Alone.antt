@@ -1,5 +1,5 @@
 -- What a pass knows of a row that it grants or takes.
-use Rattle.std.proofs.Common.{rules, ◌⊎◌, ◌≡◌, ◌≢◌, ℕ, ◌+◌, ◌≤◌, ◌<◌, ◌^◌, List, sym, refl, ap, ◌∙◌, subst, inl, inr, arith, Some, None}
+use Rattle.std.proofs.Common.{rules, ◌⊎◌, ◌≡◌, ◌≢◌, ℕ, ◌≤◌, ◌<◌, ◌^◌, List, sym, refl, ap, ◌∙◌, subst, inl, inr, arith, Some, None}
 use Rattle.protocol_values.specs.Words.{IsJoinedInRange}
 use Rattle.protocol_values.specs.declared.Base.{Base}
 use Rattle.protocol_values.specs.declared.Base.TheVariants.{Send, Recv, Always, OnNack, OnEnd, Never}
@@ -42,7 +42,8 @@ pub cause_more : {Nacks : NackName → Type 0} {Lives : ℕ → Type 0} (About :
 cause_more About s t (Send c m) stamp l h = absurd h
 cause_more About s t (Recv c) stamp l h = absurd h
 cause_more About s t (Always m) stamp l h = h
-cause_more About s t (OnNack n) stamp l h = (h.0, enabled_more About s t n h.0 l h.1, h.2)
+cause_more About s t (OnNack n) stamp l (inl h) = inl (h.0, enabled_more About s t n h.0 l h.1, h.2)
+cause_more About s t (OnNack n) stamp l (inr h) = inr (l.carried.0 (n, stamp) h.0, h.1)
 cause_more About s t (OnEnd p) stamp l h = (h.0, l.ended.0 (p, h.0) h.1, last_more s t (record { thread = p; sync = h.0 }) stamp l.joined.0 l.started.0 h.2)
 cause_more About s t Never stamp l h = absurd h
 
@@ -51,7 +52,8 @@ pub ready_more : {Nacks : NackName → Type 0} {Lives : ℕ → Type 0} (About :
 ready_more About s t (Send c m) l h = absurd h
 ready_more About s t (Recv c) l h = absurd h
 ready_more About s t (Always m) l h = h
-ready_more About s t (OnNack n) l h = (h.0, enabled_more About s t n h.0 l h.1)
+ready_more About s t (OnNack n) l (inl h) = inl (h.0, enabled_more About s t n h.0 l h.1)
+ready_more About s t (OnNack n) l (inr h) = inr (h.0, (l.carried.0 (n, h.0) h.1.0, h.1.1))
 ready_more About s t (OnEnd p) l h = (h.0, l.ended.0 (p, h.0) h.1)
 ready_more About s t Never l h = absurd h
 
@@ -59,7 +61,8 @@ pub ready_from : (s : Seen) (b : Base) (stamp : ℕ) → SawCause s b stamp → 
 ready_from s (Send c m) stamp h = absurd h
 ready_from s (Recv c) stamp h = absurd h
 ready_from s (Always m) stamp h = tt
-ready_from s (OnNack n) stamp h = (h.0, h.1)
+ready_from s (OnNack n) stamp (inl h) = inl (h.0, h.1)
+ready_from s (OnNack n) stamp (inr h) = inr (stamp, h)
 ready_from s (OnEnd p) stamp h = (h.0, h.1)
 ready_from s Never stamp h = absurd h
 

@@ -37,6 +37,7 @@ module _ {M : Type 0} where
     lacks = λ r n h. h;
     joined = λ r j h. h;
     bound = λ n b h. h;
+    carried = λ n s h. h;
     started = λ t s h. h;
     ended = λ t g h. h;
     results = λ t rs h. h;
@@ -48,6 +49,7 @@ module _ {M : Type 0} where
     lacks = λ x n h. b.lacks x n (a.lacks x n h);
     joined = λ x j h. b.joined x j (a.joined x j h);
     bound = λ n x h. b.bound n x (a.bound n x h);
+    carried = λ n x h. b.carried n x (a.carried n x h);
     started = λ t s h. b.started t s (a.started t s h);
     ended = λ t g h. b.ended t g (a.ended t g h);
     results = λ t rs h. b.results t rs (a.results t rs h);
@@ -60,6 +62,7 @@ module _ {M : Type 0} where
     lacks = λ r n h. subst (λ (s : Seen). SeesNoOffer s r n) (sym seen) (still_lacks to.seen told r n h);
     joined = λ r j h. subst (λ (s : Seen). Has s.joined (r, j)) (sym seen) (has_left to.seen.joined told.joined (r, j) h);
     bound = λ n b h. subst (λ (s : Seen). Has s.bound (n, b)) (sym seen) (has_left to.seen.bound told.bound (n, b) h);
+    carried = λ n st h. subst (λ (s : Seen). Has s.carried (n, st)) (sym seen) (has_left to.seen.carried told.carried (n, st) h);
     started = λ t st h. subst (λ (s : Seen). Has s.started (t, st)) (sym seen) (has_left to.seen.started told.started (t, st) h);
     ended = λ t g h. subst (λ (s : Seen). Has s.ended (t, g)) (sym seen) (has_left to.seen.ended told.ended (t, g) h);
     results = λ t rs h. subst (λ (all : List (ℕ × List Result)). Has all (t, rs)) (sym results) (has_left to.results more (t, rs) h);
@@ -75,6 +78,7 @@ module _ {M : Type 0} where
     lacks = lacks;
     joined = λ r j h. subst (λ (s : Seen). Has s.joined (r, j)) (sym seen) (has_right to.seen.joined from.seen.joined (r, j) h);
     bound = bound;
+    carried = λ n st h. subst (λ (s : Seen). Has s.carried (n, st)) (sym seen) (has_right to.seen.carried from.seen.carried (n, st) h);
     started = λ t st h. subst (λ (s : Seen). Has s.started (t, st)) (sym seen) (has_right to.seen.started from.seen.started (t, st) h);
     ended = λ t g h. subst (λ (s : Seen). Has s.ended (t, g)) (sym seen) (has_right to.seen.ended from.seen.ended (t, g) h);
     results = λ t rs h. subst (λ (all : List (ℕ × List Result)). Has all (t, rs)) (sym results) (has_right to.results from.results (t, rs) h);

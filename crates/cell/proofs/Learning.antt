@@ -1,10 +1,12 @@
 -- What is learnt in two calls, and of more rows.
-use Rattle.std.proofs.Common.{inl, rules, ℕ, ◌≡◌, ◌∷◌, ◌⊎◌, List, Option, Some, None, ap, sym, refl, ◌∙◌, inr, ⊎_elim}
+use Rattle.std.proofs.Common.{inl, rules, ℕ, ◌≡◌, ◌∷◌, ◌⊎◌, List, ap, sym, refl, ◌∙◌, inr, ⊎_elim}
 use Rattle.protocol_values.specs.declared.NackName.{NackName}
 use Rattle.protocol_values.specs.declared.Binding.{Binding}
+use Rattle.protocol_values.specs.declared.NackWord.{NackWord}
+use Rattle.protocol_values.specs.declared.NackWord.TheVariants.{Bound, Carried, Unbound}
 use Rattle.protocol_values.specs.declared.Row.{Row}
 use Rattle.cell_table.specs.declared.view.Seen.{Seen}
-use Rattle.cell_table.specs.Sight.{Has, Adds, Learns, LearnsOf, see_bound, see_cell, see_course}
+use Rattle.cell_table.specs.Sight.{Has, Adds, Learns, LearnsOf, see_bound, see_carried, see_cell, see_course}
 use Rattle.cell_table.specs.declared.view.View.{View}
 use Rattle.cell_table.specs.Views.{saw_nack}
 use Rattle.protocol_values.specs.declared.Course.{Course}
@@ -25,6 +27,7 @@ learns_then {Nacks} {Lives} About s t u f g = record {
   joined = adds_then (λ x. About x.0) s.joined t.joined u.joined f.joined g.joined;
   taken = adds_then About s.taken t.taken u.taken f.taken g.taken;
   bound = adds_then (λ x. Nacks x.0) s.bound t.bound u.bound f.bound g.bound;
+  carried = adds_then (λ x. Nacks x.0) s.carried t.carried u.carried f.carried g.carried;
   begun = g.begun ∙ f.begun;
   started = adds_then (λ x. Lives x.0) s.started t.started u.started f.started g.started;
   ended = adds_then (λ x. Lives x.0) s.ended t.ended u.ended f.ended g.ended;
@@ -44,6 +47,7 @@ learns_wider About About' s t w l = record {
   joined = adds_wider (λ x. About x.0) (λ x. About' x.0) s.joined t.joined (λ x. w x.0) l.joined;
   taken = adds_wider About About' s.taken t.taken w l.taken;
   bound = l.bound;
+  carried = l.carried;
   begun = l.begun;
   started = l.started;
   ended = l.ended;
@@ -60,6 +64,7 @@ nacks_wider About Nacks Nacks' s t w l = record {
   joined = l.joined;
   taken = l.taken;
   bound = adds_wider (λ x. Nacks x.0) (λ x. Nacks' x.0) s.bound t.bound (λ x. w x.0) l.bound;
+  carried = adds_wider (λ x. Nacks x.0) (λ x. Nacks' x.0) s.carried t.carried (λ x. w x.0) l.carried;
   begun = l.begun;
   started = l.started;
   ended = l.ended;
@@ -76,6 +81,7 @@ lives_wider About Lives Lives' s t w l = record {
   joined = l.joined;
   taken = l.taken;
   bound = l.bound;
+  carried = l.carried;
   begun = l.begun;
   started = adds_wider (λ x. Lives x.0) (λ x. Lives' x.0) s.started t.started (λ x. w x.0) l.started;
   ended = adds_wider (λ x. Lives x.0) (λ x. Lives' x.0) s.ended t.ended (λ x. w x.0) l.ended;
@@ -92,6 +98,7 @@ learns_nothing About Nacks Lives s = record {
   joined = ((λ x h. h), λ x h. inl h);
   taken = ((λ x h. h), λ x h. inl h);
   bound = ((λ x h. h), λ x h. inl h);
+  carried = ((λ x h. h), λ x h. inl h);
   begun = refl;
   started = ((λ x h. h), λ x h. inl h);
   ended = ((λ x h. h), λ x h. inl h);
@@ -112,6 +119,7 @@ learns_bound n b s = record {
   joined = ((λ x h. h), λ x h. inl h);
   taken = ((λ x h. h), λ x h. inl h);
   bound = ((λ x h. inr h), λ x h. only x h);
+  carried = ((λ x h. h), λ x h. inl h);
   begun = refl;
   started = ((λ x h. h), λ x h. inl h);
   ended = ((λ x h. h), λ x h. inl h);
@@ -121,10 +129,32 @@ learns_bound n b s = record {
     only x (inl e) = inr (ap (λ (z : NackName × Binding). z.0) (sym e))
     only x (inr h) = inl h
 
+-- or carried
+pub learns_carried : (n : NackName) (stamp : ℕ) (s : Seen) → LearnsOf (λ q. ⊥) (λ m. m ≡ n) (λ p. ⊥) s (see_carried n stamp s)
+learns_carried n stamp s = record {
+  held = refl;
+  drafts = refl;
+  lasts = refl;
+  opened = ((λ x h. h), λ x h. inl h);
+  words = ((λ x h. h), λ x h. inl h);
+  joined = ((λ x h. h), λ x h. inl h);
+  taken = ((λ x h. h), λ x h. inl h);
+  bound = ((λ x h. h), λ x h. inl h);
+  carried = ((λ x h. inr h), λ x h. only x h);
+  begun = refl;
+  started = ((λ x h. h), λ x h. inl h);
+  ended = ((λ x h. h), λ x h. inl h);
+}
+  where
+    only : (x : NackName × ℕ) → Has ((n, stamp) ∷ s.carried) x → Has s.carried x ⊎ (x.0 ≡ n)
+    only x (inl e) = inr (ap (λ (z : NackName × ℕ). z.0) (sym e))
+    only x (inr h) = inl h
+
 module _ {M : Type 0} where
-  pub learns_nack : (n : NackName) (o : Option Binding) (v : View M) → LearnsOf (λ q. ⊥) (λ m. m ≡ n) (λ p. ⊥) v.seen (saw_nack n o v).seen
-  learns_nack n None v = learns_nothing (λ q. ⊥) (λ m. m ≡ n) (λ p. ⊥) v.seen
-  learns_nack n (Some b) v = learns_bound n b v.seen
+  pub learns_nack : (n : NackName) (says : NackWord) (v : View M) → LearnsOf (λ q. ⊥) (λ m. m ≡ n) (λ p. ⊥) v.seen (saw_nack n says v).seen
+  learns_nack n Unbound v = learns_nothing (λ q. ⊥) (λ m. m ≡ n) (λ p. ⊥) v.seen
+  learns_nack n (Bound b) v = learns_bound n b v.seen
+  learns_nack n (Carried stamp) v = learns_carried n stamp v.seen
 
 -- a look adds what it finds of its row
 pub learns_look : (r : Row) (c : Cell) (s : Seen) → Learns (λ q. q ≡ r) s (see_cell r c s)
@@ -146,6 +176,7 @@ learns_course p (Running start) s = record {
   joined = ((λ x h. h), λ x h. inl h);
   taken = ((λ x h. h), λ x h. inl h);
   bound = ((λ x h. h), λ x h. inl h);
+  carried = ((λ x h. h), λ x h. inl h);
   begun = refl;
   started = ((λ x h. inr h), λ x h. only_its p start s.started x h);
   ended = ((λ x h. h), λ x h. inl h);
@@ -159,6 +190,7 @@ learns_course p (Ended start sync) s = record {
   joined = ((λ x h. h), λ x h. inl h);
   taken = ((λ x h. h), λ x h. inl h);
   bound = ((λ x h. h), λ x h. inl h);
+  carried = ((λ x h. h), λ x h. inl h);
   begun = refl;
   started = ((λ x h. inr h), λ x h. only_its p start s.started x h);
   ended = ((λ x h. inr h), λ x h. only_its p sync s.ended x h);

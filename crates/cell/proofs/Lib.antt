@@ -1,4 +1,6 @@
 pub mod Alone
+pub mod Beginning
+pub mod Binding
 pub mod Crossing
 pub mod Flagging
 pub mod Handing

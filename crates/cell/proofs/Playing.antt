@@ -1,11 +1,14 @@
 -- What the tests need of the passes that they are dealt.
-use Rattle.std.proofs.Common.{◌≡◌, ℕ, zero, suc, ◌+◌, ◌<◌, Bool, true, false, ◌||◌, List, [], ◌∷◌, ◌++◌, length, sym, refl, ap, ◌∙◌, subst, inl, inr, ⊎_elim, arith, Some, None, slice_get}
+use Rattle.std.proofs.Common.{◌≡◌, ℕ, zero, suc, ◌+◌, ◌<◌, Bool, true, false, cond, ◌||◌, List, [], ◌∷◌, ◌++◌, length, sym, refl, ap, ◌∙◌, subst, inl, inr, ⊎_elim, arith, Some, None, slice_get}
 use Rattle.std.proofs.lemmas.Bool.{cases_Bool, true≢false, or_left, or_right}
 use Rattle.std.proofs.lemmas.List.{length-append}
 use Rattle.std.proofs.Math.Nat.{mod-eq_of_lt}
 use Rattle.protocol_values.specs.declared.Row.{Row}
 use Rattle.protocol.specs.Tables.{row_eq}
-use Rattle.protocol.proofs.LedgerLemmas.{nobody_waits}
+use Rattle.protocol.specs.declared.opening.Life.{Life}
+use Rattle.protocol.specs.declared.opening.Life.TheVariants as life
+use Rattle.protocol.specs.Openings.{Opening, is_running, start_opening, thread_in}
+use Rattle.protocol.proofs.LedgerLemmas.{first_thread, nobody_waits}
 use Rattle.protocol.proofs.RowLemmas.{row_eq-refl, row_eq-true}
 use Rattle.cell_table.specs.Sight.{Has}
 use Rattle.protocol.specs.Worlds.{first_row}
@@ -27,7 +30,10 @@ has_among (q ∷ rows) r (inr h) = or_right (row_eq q r) (is_among rows r) (has_
 
 -- where each thread has a pass of its own, the pass holds the thread's row
 pub own_row : (threads number : ℕ) → number < threads → Has (dealt_rows threads threads number) (first_row number)
-own_row threads number h = dealt_has 0 threads threads number (first_row number) (refl, h, falls_from 0 threads number number (nobody_waits number) (mod-eq_of_lt h))
+own_row threads number h =
+    let o : Opening = start_opening threads 0 in
+    let runs : is_running (thread_in o number).0 ≡ true = ap (λ (x : Life × ℕ). is_running x.0) (first_thread threads 0 number h) ∙ ap (λ (b : Bool). is_running (cond b life.Unstarted life.Running)) (nobody_waits number) in
+    dealt_has o threads threads number (first_row number) (refl, h, falls_from o threads number number runs (mod-eq_of_lt h))
 
 -- THE LAST OF A LIST
 at_last : {A : Type 0} (ys : List A) (x : A) → slice_get (ys ++ x ∷ []) (length ys) ≡ Some x

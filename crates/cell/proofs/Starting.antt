@@ -3,7 +3,11 @@ use Rattle.std.proofs.Common.{◌≡◌, ◌≢◌, ◌⊎◌, ◌∙◌, ℕ, t
 use Rattle.protocol_values.specs.declared.Course.{Course}
 use Rattle.protocol_values.specs.declared.Course.TheVariants.{Unstarted, Running, Ended}
 use Rattle.protocol_values.specs.declared.Row.{Row}
+use Rattle.protocol.specs.Acting.{EndsAt}
 use Rattle.cell.specs.Attempts.{LearnsLast, Started}
+use Rattle.cell_table.specs.declared.board.Board.{Board}
+use Rattle.cell_table.specs.declared.view.View.{View}
+use Rattle.cell_table.specs.Told.{AgreesLife}
 use Rattle.cell_table.specs.declared.view.Seen.{Seen}
 use Rattle.cell_table.specs.Sight.{Has, HasSeenLast, IsBefore, IsExpectedCourse, IsStand, IsUnseen, Learns, LearnsOf, SawEnded, see_course, see_start}
 use Rattle.cell.proofs.Learning.{learns_course, learns_then, learns_wider, lives_wider}
@@ -86,3 +90,12 @@ module _ (before stood u after : Seen) (r : Row) (p start stamp : ℕ) (turned :
     subst (λ (s : Seen). ¬ SawEnded s r.thread) (sym is) (still_course c),
     λ q same held fresh ended. still_going rows c expected q same held fresh (subst (λ (s : Seen). SawEnded s p) is ended),
   )
+
+-- a pass stands at a place of a thread that has started, and of which it would have seen the end
+pub never_here : {M : Type 0} (b : Board M) (v : View M) (r : Row) (c : Course) → v.rows ≡ b.shape.rows → IsStand b.shape.rows v.seen r → (¬ SawEnded v.seen r.thread) → AgreesLife v r.thread c
+    → (c ≡ Unstarted) ⊎ ((start : ℕ) × (sync : ℕ) × (c ≡ Ended start sync)) → ⊥
+never_here b v r c rows stand going agrees is =
+    let stands = agrees.stands r refl (subst (λ (n : ℕ). IsStand n v.seen r) (sym rows) stand) in ⊎_elim
+    (λ (none : c ≡ Unstarted). stands.0 none)
+    (λ (over : (start : ℕ) × (sync : ℕ) × (c ≡ Ended start sync)). going (over.1, stands.1 over.1 (subst (λ (d : Course). EndsAt d over.1) (sym over.2) refl)))
+    is

@@ -1,9 +1,11 @@
 -- What the answers of an attempt mean.
-use Rattle.std.specs.Prelude.{◌≡◌, ◌≢◌, ◌⊎◌, ◌↔◌, ◌<◌, ◌≤◌, ℕ, Bool, true, false, Option, Some, None, List, ◌∷◌, ◌++◌, ◌+◌, length}
+use Rattle.std.specs.Prelude.{⊤, ◌≡◌, ◌≢◌, ◌⊎◌, ◌↔◌, ◌<◌, ◌≤◌, ℕ, Bool, true, false, Option, Some, None, List, ◌∷◌, ◌++◌, ◌+◌, length}
 use Rattle.protocol_values.specs.declared.Base.TheVariants.{OnEnd, OnNack}
 use Rattle.protocol_values.specs.declared.Direction.{Direction}
 use Rattle.protocol_values.specs.declared.NackName.{NackName}
 use Rattle.protocol_values.specs.declared.Binding.{Binding}
+use Rattle.protocol_values.specs.declared.NackWord.{NackWord}
+use Rattle.protocol_values.specs.declared.NackWord.TheVariants as word
 use Rattle.protocol_values.specs.declared.Joined.{Joined}
 use Rattle.protocol_values.specs.declared.Offer.{Offer}
 use Rattle.protocol_values.specs.declared.Row.{Row}
@@ -13,12 +15,14 @@ use Rattle.protocol.specs.Standing.{Result, Stands}
 use Rattle.protocol.specs.Tables.{bound_row, offers_meet}
 use Rattle.protocol_values.specs.Values.{next_row}
 use Rattle.protocol.specs.Worlds.{nack_of_row}
+use Rattle.cell_table.specs.declared.board.Board.{Board}
 use Rattle.cell_table.specs.declared.view.Seen.{Seen}
+use Rattle.cell_table.specs.Seats.{HasNack, HasRow}
 use Rattle.cell.specs.declared.attempt.Attempt.{Attempt}
 use Rattle.cell.specs.declared.attempt.Attempt.TheVariants.{Met, Gone, Mine, Busy, Unfit}
 use Rattle.cell.specs.declared.granting.Grant.{Grant}
 use Rattle.cell.specs.declared.granting.Grant.TheVariants.{Given, NotEnabled, Late}
-use Rattle.cell_table.specs.Sight.{Adds, Has, SeesDirection, SeesOffer, HasSeenLast, IsUnseen, LearnsOf, SawCommitted, SawEnded, IsBefore, see_bound, see_next, see_start}
+use Rattle.cell_table.specs.Sight.{Adds, Has, SeesDirection, SeesOffer, HasSeenLast, IsUnseen, LearnsOf, SawCommitted, SawEnded, IsBefore, see_bound, see_carried, see_next, see_start}
 use Rattle.protocol_values.specs.Values.{directions_meet}
 use Rattle.cell_table.specs.Nacks.{CanGrant, CanStandAlone, IsCauseRow}
 use Rattle.cell_table.specs.Told.{ComesOut, IsEarlier}
@@ -120,13 +124,15 @@ ResultsTold r None before after = after ≡ before
 
 -- What stands for the row's thread came out with the row: it is still to be given the last of the results that the pass has now. Its
 -- message is the row's, by what the pass had seen before and by what it has seen since.
-abbrev pub Hands : {M : Type 0} → Stands M → List M → Seen → Seen → Row → Option Joined → List (ℕ × List Result) → List (ℕ × Option M) → List (ℕ × Option M) → Type 0
+abbrev pub Hands : {M : Type 0} → Stands M → List (Option M) → Seen → Seen → Row → Option Joined → List (ℕ × List Result) → List (ℕ × Option M) → List (ℕ × Option M) → Type 0
 Hands stands first old new r (Some j) results before after = (told : List Result) × Has results (r.thread, told) × (length told ≡ r.sync + 1) × ComesOut stands first old new r j.own told before after
 Hands stands first old new r None results before after = after ≡ before
 
--- where the nack is bound instead: to this row, or to an earlier one of its thread, as a scope's of that row
-abbrev pub BoundBefore : {M : Type 0} → Stands M → List M → List (ℕ × List Result) → Seen → ℕ → Row → Type 0
-BoundBefore stands first results s k r = (b : Binding) × Has s.bound (nack_of_row r k, b) × ((b.sync < r.sync) → IsEarlier stands first results (nack_of_row r k) b)
+-- where the nack is bound instead: to this row, or to an earlier one of its thread, as a scope's of that row; or it is carried
+abbrev pub BoundBefore : {M : Type 0} → Stands M → List (Option M) → List (ℕ × List Result) → Seen → ℕ → Row → Type 0
+BoundBefore stands first results s k r =
+    ((b : Binding) × Has s.bound (nack_of_row r k, b) × ((b.sync < r.sync) → IsEarlier stands first results (nack_of_row r k) b))
+    ⊎ ((stamp : ℕ) × Has s.carried (nack_of_row r k, stamp))
 
 -- The pass took the row, committed so: it holds the thread's next row from now on, if there is one, which has no offers
 -- and is not opened, and it has seen nothing else anew but of the row.
@@ -147,17 +153,30 @@ pub record Took (rows : ℕ) (before after : Seen) (r : Row) (j : Joined) : Type
   pub joins : Adds (λ q. q.0 ≡ r) before.joined after.joined
   pub takes : Adds (λ q. q ≡ r) before.taken after.taken
   pub bound : after.bound ≡ before.bound
+  pub carried : after.carried ≡ before.carried
   pub begun : after.begun ≡ before.begun
   pub started : after.started ≡ before.started
   pub ended : after.ended ≡ before.ended
 
--- The answer of a bind. True: the pass had not seen the nack bound, and has now seen it bound to this row and scope.
--- False: it has now seen where the nack is bound: to this row, as it had seen before, or to an earlier one. Nothing else is new.
+-- The answer of a bind. True: the pass had seen the nack neither bound nor carried, and has now seen it bound to this row and scope.
+-- False: it has now seen where the nack is bound: to this row, as it had seen before, or to an earlier one; or that it is carried, and
+-- it had not seen it bound. Nothing else is new.
 abbrev pub Bound : Seen → Seen → ℕ → Row → ℕ → Bool → Type 0
 Bound before after k r scope true =
-    (after ≡ see_bound (nack_of_row r k) (record { sync = r.sync; scope = scope }) before) × ((b : Binding) → ¬ Has before.bound (nack_of_row r k, b))
+    (after ≡ see_bound (nack_of_row r k) (record { sync = r.sync; scope = scope }) before) × ((b : Binding) → ¬ Has before.bound (nack_of_row r k, b)) × ((stamp : ℕ) → ¬ Has before.carried (nack_of_row r k, stamp))
 Bound before after k r scope false =
-    (b : Binding) × (after ≡ see_bound (nack_of_row r k) b before) × (b.sync ≤ r.sync) × (b.sync ≡ r.sync → Has before.bound (nack_of_row r k, b))
+    ((b : Binding) × (after ≡ see_bound (nack_of_row r k) b before) × (b.sync ≤ r.sync) × (b.sync ≡ r.sync → Has before.bound (nack_of_row r k, b)))
+    ⊎ ((stamp : ℕ) × (after ≡ see_carried (nack_of_row r k) stamp before) × ((b : Binding) → ¬ Has before.bound (nack_of_row r k, b)))
+
+-- what a look at the nack has told: where it is bound, which is a row of the table, or as what it is carried
+abbrev pub SaysOf : {M : Type 0} → Board M → Seen → NackName → NackWord → Type 0
+SaysOf b s n word.Unbound = ⊤
+SaysOf b s n (word.Bound x) = Has s.bound (n, x) × HasNack b n × HasRow b (bound_row n x) × (x.scope < 4)
+SaysOf b s n (word.Carried stamp) = Has s.carried (n, stamp)
+
+-- the row to which the nack was seen bound
+abbrev pub IsBoundRow : Seen → NackName → Row → Type 0
+IsBoundRow s n q = (b : Binding) × Has s.bound (n, b) × (q ≡ bound_row n b)
 
 -- the lives that an attempt looks at: those of the two rows' threads
 abbrev pub IsLifeNear : Row → Row → ℕ → Type 0

@@ -5,21 +5,25 @@ use Rattle.atomic_table.specs.Table.{rest}
 use Rattle.protocol_values.specs.declared.NackName.{NackName}
 use Rattle.protocol_values.specs.declared.Row.{Row}
 use Rattle.protocol_values.specs.declared.Step.{Step}
+use Rattle.protocol.specs.declared.opening.Life.{Life}
+use Rattle.protocol.specs.declared.opening.NackState.{NackState}
+use Rattle.protocol.specs.Openings.{Opening}
 use Rattle.protocol.specs.Standing.{Result, Stands}
 use Rattle.protocol.specs.declared.resident.Bare.{Bare}
 use Rattle.cell_table.specs.declared.view.Seen.{Seen}
 use Rattle.cell_table.specs.Rule.{IsReady}
-use Rattle.cell_table.specs.Sight.{Coherent, Has, see_begun}
+use Rattle.cell_table.specs.Sight.{AreSettled, Coherent, Has, see_begun}
 
--- which table it is, its size, and what stood for its threads at first, thread by thread; none in a table of no machines
+-- which table it is, its size, and what stood for its threads at first, thread by thread; an empty list in a table of no machines
 pub record GridOf (M : Type 0) : Type 0 where
   pub id : TableId
   pub threads : ℕ
   pub rows : ℕ
   pub passes : ℕ
-  -- the mask of the threads that waited to be started at first
-  pub later : ℕ
-  pub first : List M
+  -- from what it goes on: the threads' lives and last stamps, and what became of each nack
+  pub lives : List (Life × ℕ)
+  pub nacks : List NackState
+  pub first : List (Option M)
 
 -- of which table a pass is, what it has seen, and the steps of the protocol that it has made, the last one first
 pub record PassOf (M : Type 0) : Type 0 where
@@ -40,9 +44,13 @@ abbrev pub PassView : Type 0
 PassView = PassOf Bare
 
 module _ {M : Type 0} where
-  -- the pass is one of this table's, and what it has seen agrees with itself
+  -- from what the table goes on
+  abbrev pub opening_at : GridOf M → Opening
+  opening_at g = record { threads = g.lives; nacks = g.nacks }
+
+  -- the pass is one of this table's, and what it has seen agrees with itself, and with what went before the table
   abbrev pub IsPassOf : GridOf M → PassOf M → Type 0
-  IsPassOf g p = (p.of.id ≡ g.id) × (p.of.threads ≡ g.threads) × (p.of.rows ≡ g.rows) × (p.of.passes ≡ g.passes) × Coherent g.threads g.rows p.seen × (p.of.first ≡ g.first)
+  IsPassOf g p = (p.of.id ≡ g.id) × (p.of.threads ≡ g.threads) × (p.of.rows ≡ g.rows) × (p.of.passes ≡ g.passes) × Coherent g.threads g.rows p.seen × (p.of.first ≡ g.first) × (p.of.lives ≡ g.lives) × (p.of.nacks ≡ g.nacks) × AreSettled (opening_at g) p.seen
 
   -- the pass has the results and the slots that it had
   abbrev pub KeepsResults : PassOf M → PassOf M → Type 0
@@ -84,7 +92,7 @@ module _ {M : Type 0} where
   -- what was fetched, and what is left
   abbrev pub FetchedAt : GridOf M → PassOf M → PassOf M → Row → M → ℕ → Type 0
   FetchedAt g before after r value zero =
-      (slice_get g.first r.thread ≡ Some value) × (after.seen ≡ see_begun r before.seen) × (after.out ≡ (r.thread, None) ∷ before.out)
+      (slice_get g.first r.thread ≡ Some (Some value)) × (after.seen ≡ see_begun r before.seen) × (after.out ≡ (r.thread, None) ∷ before.out)
   FetchedAt g before after r value (suc sync) =
       Holds before r (Some value) × (after.seen ≡ before.seen) × (after.out ≡ (r.thread, None) ∷ rest before.out)
 
@@ -92,7 +100,7 @@ module _ {M : Type 0} where
   Fetched g before after r value = FetchedAt g before after r value r.sync
 
   -- behind a thread's last row: the value stands for the thread after the results of all its rows, as the pass has them
-  abbrev pub IsFollowing : Stands M → List M → List (ℕ × List Result) → Row → M → Type 0
+  abbrev pub IsFollowing : Stands M → List (Option M) → List (ℕ × List Result) → Row → M → Type 0
   IsFollowing stands first results r value =
       (earlier : List Result) × (length earlier ≡ r.sync) × ((earlier ≡ []) ⊎ Has results (r.thread, earlier)) × stands.follows first value r.thread earlier
 

@@ -14,6 +14,7 @@ pub record HasHeard {M : Type 0} (told p : PassOf M) : Type 0 where
   pub lacks : (r : Row) (n : ℕ) → SeesNoOffer told.seen r n → SeesNoOffer p.seen r n
   pub joined : (r : Row) (j : Joined) → Has told.seen.joined (r, j) → Has p.seen.joined (r, j)
   pub bound : (n : NackName) (b : Binding) → Has told.seen.bound (n, b) → Has p.seen.bound (n, b)
+  pub carried : (n : NackName) (stamp : ℕ) → Has told.seen.carried (n, stamp) → Has p.seen.carried (n, stamp)
   pub started : (t stamp : ℕ) → Has told.seen.started (t, stamp) → Has p.seen.started (t, stamp)
   pub ended : (t g : ℕ) → Has told.seen.ended (t, g) → Has p.seen.ended (t, g)
   pub results : (t : ℕ) (results : List Result) → Has told.results (t, results) → Has p.results (t, results)

@@ -13,9 +13,11 @@ ghost use Rattle.protocol_values.specs.declared.Course.TheVariants.{Unstarted};
 ghost use Rattle.protocol_values.specs.declared.Step.TheVariants.{Finish, Open};
 ghost use Rattle.protocol_values.specs.declared.NackName.{NackName};
 ghost use Rattle.protocol_values.specs.declared.Binding.{Binding};
-ghost use Rattle.protocol.specs.Ledgers.{IsLawful, binding_in, course_in, joined_in, offer_in};
+ghost use Rattle.protocol.specs.Ledgers.{IsLawful, binding_in, carried_in, course_in, joined_in, offer_in};
+ghost use Rattle.protocol.specs.Openings.{HadEnded, HadStarted, IsOpening, greatest, opening_of, start_opening, state_in, word_for};
+ghost use Rattle.protocol.specs.Tables.{carried_by};
 ghost use Rattle.protocol.specs.Standing.{AreResults, Result};
-ghost use Rattle.protocol.specs.Worlds.{nack_of_row, waits};
+ghost use Rattle.protocol.specs.Worlds.{nack_of_row};
 ghost use Rattle.cell.specs.Attempts.{
   Attempted,
   Bound,
@@ -40,10 +42,10 @@ ghost use Rattle.cell.specs.Attempts.{
   start_made,
   take_made,
 };
-ghost use Rattle.cell.specs.Calls.{CanFetch, Fetched, Holds, HoldNothing, HoldsAt, IsFollowing, IsHousing, IsNackOf, IsParked, IsPassOf, IsRowOf, IsStandOf, KeepsResults, PassOf, PassView};
+ghost use Rattle.cell.specs.Calls.{CanFetch, Fetched, Holds, HoldNothing, HoldsAt, IsFollowing, IsHousing, IsNackOf, IsParked, IsPassOf, IsRowOf, IsStandOf, KeepsResults, PassOf, PassView, opening_at};
 ghost use Rattle.cell_table.specs.Closings.{HandsOut};
 ghost use Rattle.cell_table.specs.Told.{GoesHome};
-ghost use Rattle.cell_table.specs.Rule.{IsFinishing, IsReady, IsStarting, StartsFirst, dealt_later, dealt_rows, falls_to, heard, seen_nothing, told_of};
+ghost use Rattle.cell_table.specs.Rule.{AreMachines, IsFinishing, IsReady, IsStarting, dealt_from, dealt_rows, falls_to, heard, seen_nothing, told_of};
 ghost use Rattle.atomic_table.specs.Table.{rest, turned};
 ghost use Rattle.cell_table.specs.Nacks.{IsSeenBound};
 ghost use Rattle.cell.specs.Flags.{AreFlags};
@@ -72,7 +74,7 @@ ghost use Rattle.cell_table.specs.Sight.{
   see_course,
   see_opened,
 };
-ghost use Rattle.protocol.specs.Acting.{ActsAs, EndsAt, HasStart, acts_in};
+ghost use Rattle.protocol.specs.Acting.{ActsAs, EndsAt, HasStart, acts_in, before_of};
 
 use crate::attempt::{Attempt, StepGate, attempt_rows};
 use crate::drafting::draft_offers;
@@ -83,8 +85,8 @@ use crate::taking::take_row;
 use crate::{nacks, reading};
 use atomic_table::Seat;
 use cell_table::{Board, Shape, View};
-use protocol::{Bare, Ledger, Resident, start_words};
-use protocol_values::{Cell, Course, Direction, Joined, Message, NackName, Offer, Row};
+use protocol::{Bare, Ledger, Life, Opening, Resident, next_words};
+use protocol_values::{Cell, Course, Direction, Joined, Message, NackName, NackWord, Offer, Row};
 use std::alloc::{AllocError, Global};
 use std::marker::Model;
 use std::snapshot::Snapshot;
@@ -103,7 +105,7 @@ impl<M: Resident> Model for Cells<M> {
 
     ghost Value = { GridOf M };
 
-    ghost view = { λ c. record { id = c.board.words.shared.table_id; threads = c.board.shape.threads; rows = c.board.shape.rows; passes = c.board.shape.passes; later = c.board.shape.later; first = c.board.shape.first.value.items } };
+    ghost view = { λ c. record { id = c.board.words.shared.table_id; threads = c.board.shape.threads; rows = c.board.shape.rows; passes = c.board.shape.passes; lives = c.board.shape.opening.value.threads.items; nacks = c.board.shape.opening.value.nacks.items; first = c.board.shape.first.value.items } };
 
     ghost invariant = { λ c. (length c.spare.items ≡ c.board.words.shared.table_id.words) × (0 < length c.board.shape.first.value.items → M.houses ≡ true) × (1 ≤ c.board.shape.rows) };
 }
@@ -126,7 +128,7 @@ impl<M> Model for Pass<M> {
 
     ghost Value = { PassOf M };
 
-    ghost view = { λ p. record { of = record { id = p.seat.table_id; threads = p.seat.me.0.threads; rows = p.seat.me.0.rows; passes = p.seat.me.0.passes; later = p.seat.me.0.later; first = p.seat.me.0.first }; seen = p.seat.me.0.seen; made = p.seat.me.0.made; results = p.seat.me.0.results; out = p.seat.me.1 } };
+    ghost view = { λ p. record { of = record { id = p.seat.table_id; threads = p.seat.me.0.threads; rows = p.seat.me.0.rows; passes = p.seat.me.0.passes; lives = p.seat.me.0.lives; nacks = p.seat.me.0.nacks; first = p.seat.me.0.first }; seen = p.seat.me.0.seen; made = p.seat.me.0.made; results = p.seat.me.0.results; out = p.seat.me.1 } };
 
     ghost invariant = { λ p. (p.seat.me.0.stage ≡ Resting) × (p.seat.me.0.threads ≡ p.rows.threads) × (p.seat.me.0.rows + 1 ≡ p.rows.rows) × AreFlags p.rows.threads p.rows.rows p.rows.flags.items (places_of p.seat.me.0.rows p.seat.me.0.seen) × (length p.places.items ≡ length p.seat.me.0.first) × HoldNothing p.places.items };
 }
@@ -164,7 +166,7 @@ impl Cells<Bare> {
         requires passes { (1 ≤ passes) × (passes ≤ 16) }
         ensures size { IfOk result (λ t. (t.0.threads ≡ threads) × (t.0.rows ≡ rows) × (t.0.passes ≡ passes) × (length t.1.items ≡ passes)) }
         ensures first { IfOk result (λ t. t.0.first ≡ []) }
-        ensures waiting { IfOk result (λ t. t.0.later ≡ 0) }
+        ensures opening { IfOk result (λ t. opening_at t.0 ≡ start_opening threads 0) }
         ensures passes { IfOk result (λ t. (number : ℕ) (pass : PassView) → slice_get t.1.items number ≡ Some pass → IsPassOf t.0 pass × (pass.seen ≡ seen_nothing (dealt_rows threads passes number)) × (pass.made ≡ [])) }
         ensures results { IfOk result (λ t. (number : ℕ) (pass : PassView) → slice_get t.1.items number ≡ Some pass → (pass.results ≡ []) × (pass.out ≡ [])) }
     {
@@ -185,11 +187,12 @@ impl Cells<Bare> {
         requires passes { (1 ≤ passes) × (passes ≤ 16) }
         ensures size { IfOk result (λ t. (t.0.threads ≡ threads) × (t.0.rows ≡ rows) × (t.0.passes ≡ passes) × (length t.1.items ≡ passes)) }
         ensures first { IfOk result (λ t. t.0.first ≡ []) }
-        ensures waiting { IfOk result (λ t. t.0.later ≡ later) }
-        ensures passes { IfOk result (λ t. (number : ℕ) (pass : PassView) → slice_get t.1.items number ≡ Some pass → IsPassOf t.0 pass × (pass.seen ≡ seen_nothing (dealt_later later threads passes number)) × (pass.made ≡ [])) }
+        ensures opening { IfOk result (λ t. opening_at t.0 ≡ start_opening threads later) }
+        ensures passes { IfOk result (λ t. (number : ℕ) (pass : PassView) → slice_get t.1.items number ≡ Some pass → IsPassOf t.0 pass × (pass.seen ≡ seen_nothing (dealt_from (start_opening threads later) threads passes number)) × (pass.made ≡ [])) }
         ensures results { IfOk result (λ t. (number : ℕ) (pass : PassView) → slice_get t.1.items number ≡ Some pass → (pass.results ≡ []) × (pass.out ≡ [])) }
     {
-        Cells::over(alloc, Vec::new(alloc), threads, rows, passes, later)
+        let opening = Opening::first(alloc, threads, later)?;
+        Cells::over(alloc, &opening, Vec::new(alloc), rows, passes)
     }
 }
 
@@ -207,8 +210,8 @@ impl<M: Resident + Drop> Cells<M> {
         requires rows { (1 ≤ rows) × (rows ≤ 1024) }
         requires passes { (1 ≤ passes) × (passes ≤ 16) }
         ensures size { IfOk result (λ t. (t.0.threads ≡ length first.items) × (t.0.rows ≡ rows) × (t.0.passes ≡ passes) × (length t.1.items ≡ passes)) }
-        ensures first { IfOk result (λ t. t.0.first ≡ first.items) }
-        ensures waiting { IfOk result (λ t. t.0.later ≡ 0) }
+        ensures first { IfOk result (λ t. t.0.first ≡ map Some first.items) }
+        ensures opening { IfOk result (λ t. opening_at t.0 ≡ start_opening (length first.items) 0) }
         ensures passes { IfOk result (λ t. (number : ℕ) (pass : PassOf M) → slice_get t.1.items number ≡ Some pass → IsPassOf t.0 pass × (pass.seen ≡ seen_nothing (dealt_rows (length first.items) passes number)) × (pass.made ≡ [])) }
         ensures results { IfOk result (λ t. (number : ℕ) (pass : PassOf M) → slice_get t.1.items number ≡ Some pass → (pass.results ≡ []) × (pass.out ≡ [])) }
     {
@@ -229,13 +232,40 @@ impl<M: Resident + Drop> Cells<M> {
         requires rows { (1 ≤ rows) × (rows ≤ 1024) }
         requires passes { (1 ≤ passes) × (passes ≤ 16) }
         ensures size { IfOk result (λ t. (t.0.threads ≡ length first.items) × (t.0.rows ≡ rows) × (t.0.passes ≡ passes) × (length t.1.items ≡ passes)) }
-        ensures first { IfOk result (λ t. t.0.first ≡ first.items) }
-        ensures waiting { IfOk result (λ t. t.0.later ≡ later) }
-        ensures passes { IfOk result (λ t. (number : ℕ) (pass : PassOf M) → slice_get t.1.items number ≡ Some pass → IsPassOf t.0 pass × (pass.seen ≡ seen_nothing (dealt_later later (length first.items) passes number)) × (pass.made ≡ [])) }
+        ensures first { IfOk result (λ t. t.0.first ≡ map Some first.items) }
+        ensures opening { IfOk result (λ t. opening_at t.0 ≡ start_opening (length first.items) later) }
+        ensures passes { IfOk result (λ t. (number : ℕ) (pass : PassOf M) → slice_get t.1.items number ≡ Some pass → IsPassOf t.0 pass × (pass.seen ≡ seen_nothing (dealt_from (start_opening (length first.items) later) (length first.items) passes number)) × (pass.made ≡ [])) }
         ensures results { IfOk result (λ t. (number : ℕ) (pass : PassOf M) → slice_get t.1.items number ≡ Some pass → (pass.results ≡ []) × (pass.out ≡ [])) }
     {
-        let threads = first.len() as u8;
-        Cells::over(alloc, first, threads, rows, passes, later)
+        let opening = Opening::first(alloc, first.len() as u8, later)?;
+        let slots = slots_of(alloc, first)?;
+        Cells::over(alloc, &opening, slots, rows, passes)
+    }
+
+    /// A table that goes on from an opening: row 0 of a thread that runs is held by pass `t mod passes`, that of a thread
+    /// that waits or has ended by none, a started thread's start stamp is its last stamp, and each nack that was settled
+    /// is carried. In a table of machines there is one for each thread that has not ended: what stands for it at first.
+    /// Over no machines the list is empty. After a want of memory the machines are gone. All memory that the calls
+    /// need is taken here.
+    pub fn next(
+        alloc: Global,
+        opening: &Opening,
+        first: Vec<Option<M>>,
+        rows: u16,
+        passes: u8,
+    ) -> Result<(Cells<M>, Vec<Pass<M>>), AllocError>
+        requires housed { 0 < length first.items → M.houses ≡ true }
+        requires opening { IsOpening (opening_of opening.now) rows }
+        requires machines { AreMachines (opening_of opening.now) first.items }
+        requires rows { (1 ≤ rows) × (rows ≤ 1024) }
+        requires passes { (1 ≤ passes) × (passes ≤ 16) }
+        ensures size { IfOk result (λ t. (t.0.threads ≡ length opening.now.threads.items) × (t.0.rows ≡ rows) × (t.0.passes ≡ passes) × (length t.1.items ≡ passes)) }
+        ensures first { IfOk result (λ t. t.0.first ≡ first.items) }
+        ensures opening { IfOk result (λ t. opening_at t.0 ≡ opening_of opening.now) }
+        ensures passes { IfOk result (λ t. (number : ℕ) (pass : PassOf M) → slice_get t.1.items number ≡ Some pass → IsPassOf t.0 pass × (pass.seen ≡ seen_nothing (dealt_from (opening_of opening.now) (length opening.now.threads.items) passes number)) × (pass.made ≡ [])) }
+        ensures results { IfOk result (λ t. (number : ℕ) (pass : PassOf M) → slice_get t.1.items number ≡ Some pass → (pass.results ≡ []) × (pass.out ≡ [])) }
+    {
+        Cells::over(alloc, opening, first, rows, passes)
     }
 
     /// Starts the thread from a place of another thread at which the pass stands: a held row that is Fresh, or the place
@@ -275,41 +305,45 @@ impl<M: Resident + Drop> Cells<M> {
         finish_at(&self.board, &mut pass.seat, row);
     }
 
-    /// A table over these, or over none, in which the threads of the mask `later` wait to be started.
+    /// A table over these, or over none, that goes on from an opening.
     fn over(
         alloc: Global,
-        first: Vec<M>,
-        threads: u8,
+        opening: &Opening,
+        first: Vec<Option<M>>,
         rows: u16,
         passes: u8,
-        later: u64,
     ) -> Result<(Cells<M>, Vec<Pass<M>>), AllocError>
         requires housed { 0 < length first.items → M.houses ≡ true }
-        requires first { 0 < length first.items → length first.items ≡ threads }
-        requires threads { (1 ≤ threads) × (threads ≤ 64) }
+        requires opening { IsOpening (opening_of opening.now) rows }
+        requires machines { AreMachines (opening_of opening.now) first.items }
         requires rows { (1 ≤ rows) × (rows ≤ 1024) }
         requires passes { (1 ≤ passes) × (passes ≤ 16) }
-        ensures size { IfOk result (λ t. (t.0.threads ≡ threads) × (t.0.rows ≡ rows) × (t.0.passes ≡ passes) × (length t.1.items ≡ passes)) }
+        ensures size { IfOk result (λ t. (t.0.threads ≡ length opening.now.threads.items) × (t.0.rows ≡ rows) × (t.0.passes ≡ passes) × (length t.1.items ≡ passes)) }
         ensures first { IfOk result (λ t. t.0.first ≡ first.items) }
-        ensures waiting { IfOk result (λ t. t.0.later ≡ later) }
-        ensures passes { IfOk result (λ t. (number : ℕ) (pass : PassOf M) → slice_get t.1.items number ≡ Some pass → IsPassOf t.0 pass × (pass.seen ≡ seen_nothing (dealt_later later threads passes number)) × (pass.made ≡ [])) }
+        ensures opening { IfOk result (λ t. opening_at t.0 ≡ opening_of opening.now) }
+        ensures passes { IfOk result (λ t. (number : ℕ) (pass : PassOf M) → slice_get t.1.items number ≡ Some pass → IsPassOf t.0 pass × (pass.seen ≡ seen_nothing (dealt_from (opening_of opening.now) (length opening.now.threads.items) passes number)) × (pass.made ≡ [])) }
         ensures results { IfOk result (λ t. (number : ℕ) (pass : PassOf M) → slice_get t.1.items number ≡ Some pass → (pass.results ≡ []) × (pass.out ≡ [])) }
     {
         let shape = Shape {
-            threads: u64::from(threads),
+            threads: opening.threads.len() as u64,
             rows: u64::from(rows),
             passes: u64::from(passes),
-            later,
+            opening: Snapshot::of(opening),
             first: Snapshot::of(&first),
         };
-        let spare = start_words(alloc, usize::from(threads), usize::from(rows), later)?;
-        let slots = slots_of(alloc, first)?;
-        let count = slots.len();
-        let (board, mut dealer) = Board::start(alloc, shape, spare.as_slice(), slots)?;
+        let count = first.len();
+        let spare = next_words(alloc, opening, usize::from(rows))?;
+        let (board, mut dealer) = Board::start(
+            alloc,
+            shape,
+            opening.greatest(),
+            spare.as_slice(),
+            first,
+        )?;
         let mut dealt = Vec::with_capacity(alloc, usize::from(passes))?;
         for number in 0..passes {
             let seat = board.deal(&mut dealer, u64::from(number));
-            let rows = first_rows(alloc, threads, rows, passes, later, number)?;
+            let rows = first_rows(alloc, opening, rows, passes, number)?;
             let places = no_places(alloc, count)?;
             dealt.push(Pass { seat, rows, places })?;
         }
@@ -321,7 +355,10 @@ impl<M: Resident + Drop> Cells<M> {
         requires here { IsPassOf self pass }
         ensures size { (result.threads ≡ self.threads) × (result.rows ≡ self.rows) }
         ensures lawful { IsLawful result }
-        ensures at_once { (t : ℕ) → t < self.threads → waits self.later t ≡ false → HasStart (course_in result t) 0 }
+        ensures opening { result.opening ≡ greatest (opening_at self) }
+        ensures before { (t stamp : ℕ) → HadStarted (opening_at self) t stamp → HasStart (course_in result t) stamp }
+        ensures over { (t : ℕ) → HadEnded (opening_at self) t → EndsAt (course_in result t) 0 }
+        ensures carried { (n : NackName) → IsNackOf self n → carried_in result n ≡ carried_by (word_for (state_in (opening_at self) n)) }
         ensures outside { (t : ℕ) → self.threads ≤ t → course_in result t ≡ Unstarted }
         ensures started { (t stamp : ℕ) → Has pass.seen.started (t, stamp) → HasStart (course_in result t) stamp }
         ensures ended { (t g : ℕ) → Has pass.seen.ended (t, g) → EndsAt (course_in result t) g }
@@ -331,7 +368,7 @@ impl<M: Resident + Drop> Cells<M> {
         ensures bound { (n : NackName) (b : Binding) → Has pass.seen.bound (n, b) → binding_in result n ≡ Some b }
         ensures results { (t : ℕ) (results : List Result) → Has pass.results (t, results) → AreResults result t results }
         ensures own { (r : Row) (j : Joined) (offers : List Offer) → IsDraft pass.seen r offers → joined_in result r ≡ Some j → (j.own < length offers) × (offer_in result r j.own ≡ slice_get offers j.own) }
-        ensures acts { IsHousing self → ActsAs (StartsFirst self.threads self.later) (acts_in M.stands self.first) result }
+        ensures acts { IsHousing self → ActsAs (before_of (opening_at self)) (acts_in M.stands self.first) result }
     {
         self.close_with(pass).0
     }
@@ -342,7 +379,10 @@ impl<M: Resident + Drop> Cells<M> {
         requires here { IsPassOf self pass }
         ensures size { (result.0.threads ≡ self.threads) × (result.0.rows ≡ self.rows) }
         ensures lawful { IsLawful result.0 }
-        ensures at_once { (t : ℕ) → t < self.threads → waits self.later t ≡ false → HasStart (course_in result.0 t) 0 }
+        ensures opening { result.0.opening ≡ greatest (opening_at self) }
+        ensures before { (t stamp : ℕ) → HadStarted (opening_at self) t stamp → HasStart (course_in result.0 t) stamp }
+        ensures over { (t : ℕ) → HadEnded (opening_at self) t → EndsAt (course_in result.0 t) 0 }
+        ensures carried { (n : NackName) → IsNackOf self n → carried_in result.0 n ≡ carried_by (word_for (state_in (opening_at self) n)) }
         ensures outside { (t : ℕ) → self.threads ≤ t → course_in result.0 t ≡ Unstarted }
         ensures started { (t stamp : ℕ) → Has pass.seen.started (t, stamp) → HasStart (course_in result.0 t) stamp }
         ensures ended { (t g : ℕ) → Has pass.seen.ended (t, g) → EndsAt (course_in result.0 t) g }
@@ -354,7 +394,7 @@ impl<M: Resident + Drop> Cells<M> {
         ensures own { (r : Row) (j : Joined) (offers : List Offer) → IsDraft pass.seen r offers → joined_in result.0 r ≡ Some j → (j.own < length offers) × (offer_in result.0 r j.own ≡ slice_get offers j.own) }
         ensures count { length result.1.items ≡ length self.first }
         ensures machines { IsHousing self → HandsOut M.stands self.first result.0 result.1.items }
-        ensures acts { IsHousing self → ActsAs (StartsFirst self.threads self.later) (acts_in M.stands self.first) result.0 }
+        ensures acts { IsHousing self → ActsAs (before_of (opening_at self)) (acts_in M.stands self.first) result.0 }
     {
         let Cells { board, spare } = self;
         let Pass { seat, places, .. } = pass;
@@ -488,7 +528,7 @@ impl<M: Resident> Cells<M> {
     }
 
     /// Binds nack k of the row's thread to the row, which is held and not opened yet, and to its scope
-    /// 0 to 3. False where the nack was bound before: it stays bound as it was.
+    /// 0 to 3. False where the nack was bound before: it stays bound as it was; and where it is carried.
     pub fn bind(&self, pass: &mut Pass<M>, k: u8, row: Row, scope: u8) -> bool
         requires here { IsPassOf self.now pass.old × IsRowOf self.now row }
         requires fresh { Has pass.old.seen.held row × (¬ Has pass.old.seen.opened row) }
@@ -505,7 +545,7 @@ impl<M: Resident> Cells<M> {
     }
 
     /// The row and the scope to which the nack is bound. A nack of a thread that the table has not, or
-    /// with a number above 63, is not bound.
+    /// with a number above 63, is not bound, nor is one that is carried.
     pub fn bound(&self, pass: &mut Pass<M>, nack: NackName) -> Option<(Row, u8)>
         requires here { IsPassOf self.now pass.old }
         ensures here { IsPassOf self.now pass.new }
@@ -513,15 +553,20 @@ impl<M: Resident> Cells<M> {
         ensures some { IfSome result (λ p. IsSeenBound pass.new.seen nack p.0 p.1 × IsRowOf self.now p.0 × (p.1 < 4)) }
         ensures there { IfSome result (λ p. IsNackOf self.now nack) }
         ensures same { (r : Row) (scope : ℕ) → IsSeenBound pass.old.seen nack r scope → result ≡ Some (r, scope) }
+        ensures settled { (stamp : ℕ) → Has pass.old.seen.carried (nack, stamp) → result ≡ None }
         ensures made { pass.new.made ≡ pass.old.made }
         ensures results { KeepsResults pass.old pass.new }
     {
-        let bound = nacks::binding_of(&self.board, &mut pass.seat, nack)?;
-        let row = Row {
-            thread: nack.thread,
-            sync: bound.sync as u32,
-        };
-        Some((row, bound.scope))
+        match nacks::word_of(&self.board, &mut pass.seat, nack) {
+            NackWord::Bound(bound) => {
+                let row = Row {
+                    thread: nack.thread,
+                    sync: bound.sync as u32,
+                };
+                Some((row, bound.scope))
+            }
+            NackWord::Unbound | NackWord::Carried(_) => None,
+        }
     }
 
     /// Commits the row alone by its offer n, where that is an always, an enabled nack, or the end of a thread that
@@ -582,6 +627,7 @@ impl<M: Resident> Cells<M> {
         ensures offers { (r : Row) (n : ℕ) (o : Offer) → SeesOffer from.old.seen r n o → SeesOffer to.new.seen r n o }
         ensures lacks { (r : Row) (n : ℕ) → SeesNoOffer from.old.seen r n → SeesNoOffer to.new.seen r n }
         ensures bound { (n : NackName) (b : Binding) → Has from.old.seen.bound (n, b) → Has to.new.seen.bound (n, b) }
+        ensures carried { (n : NackName) (stamp : ℕ) → Has from.old.seen.carried (n, stamp) → Has to.new.seen.carried (n, stamp) }
     {
         self.board.tell(&mut from.seat, &mut to.seat);
     }
@@ -642,32 +688,35 @@ fn no_places<M: Drop>(alloc: Global, count: usize) -> Result<Vec<Option<M>>, All
 /// The rows that pass `number` holds at the start, with room for the places behind the last ones.
 fn first_rows(
     alloc: Global,
-    threads: u8,
+    opening: &Opening,
     rows: u16,
     passes: u8,
-    later: u64,
     number: u8,
 ) -> Result<RowSet, AllocError>
-    requires threads { threads ≤ 64 }
+    requires threads { length opening.now.threads.items ≤ 64 }
     requires rows { (1 ≤ rows) × (rows ≤ 1024) }
     requires passes { 1 ≤ passes }
-    ensures size { IfOk result (λ s. (s.threads ≡ threads) × (s.rows ≡ rows + 1)) }
-    ensures dealt { IfOk result (λ s. AreFlags s.threads s.rows s.flags.items (dealt_later later threads passes number)) }
+    ensures size { IfOk result (λ s. (s.threads ≡ length opening.now.threads.items) × (s.rows ≡ rows + 1)) }
+    ensures dealt { IfOk result (λ s. AreFlags s.threads s.rows s.flags.items (dealt_from (opening_of opening.now) (length opening.now.threads.items) passes number)) }
 {
+    let threads = opening.threads.len() as u8;
     let mut first = RowSet::new(alloc, threads, rows + 1)?;
     for thread in 0..threads {
-        if falls_to(later, passes, number, thread) {
+        if falls_to(opening, passes, number, thread) {
             first.insert(Row { thread, sync: 0 });
         }
     }
     Ok(first)
 }
 
-/// Whether the thread starts at once, and falls to pass `number`.
-fn falls_to(later: u64, passes: u8, number: u8, thread: u8) -> bool
+/// Whether the thread runs at first, and falls to pass `number`.
+fn falls_to(opening: &Opening, passes: u8, number: u8, thread: u8) -> bool
     requires passes { 1 ≤ passes }
-    requires thread { thread < 64 }
-    ensures { result ≡ falls_to later passes number thread }
+    requires thread { thread < length opening.now.threads.items }
+    ensures { result ≡ falls_to (opening_of opening.now) passes number thread }
 {
-    (later >> thread) % 2 != 1 && thread % passes == number
+    match opening.threads[usize::from(thread)].0 {
+        Life::Running => thread % passes == number,
+        Life::Unstarted | Life::Ended => false,
+    }
 }

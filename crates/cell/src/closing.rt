@@ -7,14 +7,14 @@ ghost use Rattle.protocol_values.specs.declared.Joined.{Joined};
 ghost use Rattle.protocol_values.specs.declared.NackName.{NackName};
 ghost use Rattle.protocol_values.specs.declared.Offer.{Offer};
 ghost use Rattle.protocol_values.specs.declared.Row.{Row};
-ghost use Rattle.protocol.specs.Acting.{ActsAs, EndsAt, HasStart, acts_in};
-ghost use Rattle.protocol.specs.Ledgers.{IsLawful, binding_in, course_in, joined_in, offer_in};
+ghost use Rattle.protocol.specs.Acting.{ActsAs, EndsAt, HasStart, acts_in, before_of};
+ghost use Rattle.protocol.specs.Ledgers.{IsLawful, binding_in, carried_in, course_in, joined_in, offer_in};
+ghost use Rattle.protocol.specs.Openings.{HadEnded, HadStarted, greatest, state_in, word_for};
 ghost use Rattle.protocol.specs.Standing.{AreResults, Result};
-ghost use Rattle.protocol.specs.Worlds.{waits};
+ghost use Rattle.protocol.specs.Tables.{carried_by};
 ghost use Rattle.cell_table.specs.Closings.{HandsOut};
-ghost use Rattle.cell_table.specs.Rule.{StartsFirst};
 ghost use Rattle.cell_table.specs.Sight.{Has, SeesNoOffer, SeesOffer};
-ghost use Rattle.cell.specs.Calls.{IsHousing, IsPassOf, PassOf};
+ghost use Rattle.cell.specs.Calls.{IsHousing, IsNackOf, IsPassOf, PassOf, opening_at};
 ghost use Rattle.cell.specs.Hearing.{HasHeard};
 
 use crate::cells::{Cells, Pass};
@@ -29,7 +29,10 @@ impl<M: Resident + Drop> Cells<M> {
         requires some { 1 ≤ length passes.items }
         ensures size { (result.0.threads ≡ self.threads) × (result.0.rows ≡ self.rows) }
         ensures lawful { IsLawful result.0 }
-        ensures at_once { (t : ℕ) → t < self.threads → waits self.later t ≡ false → HasStart (course_in result.0 t) 0 }
+        ensures opening { result.0.opening ≡ greatest (opening_at self) }
+        ensures before { (t stamp : ℕ) → HadStarted (opening_at self) t stamp → HasStart (course_in result.0 t) stamp }
+        ensures over { (t : ℕ) → HadEnded (opening_at self) t → EndsAt (course_in result.0 t) 0 }
+        ensures carried { (n : NackName) → IsNackOf self n → carried_in result.0 n ≡ carried_by (word_for (state_in (opening_at self) n)) }
         ensures outside { (t : ℕ) → self.threads ≤ t → course_in result.0 t ≡ Unstarted }
         ensures started { (p : PassOf M) (t stamp : ℕ) → Contains passes.items p → Has p.seen.started (t, stamp) → HasStart (course_in result.0 t) stamp }
         ensures ended { (p : PassOf M) (t g : ℕ) → Contains passes.items p → Has p.seen.ended (t, g) → EndsAt (course_in result.0 t) g }
@@ -40,7 +43,7 @@ impl<M: Resident + Drop> Cells<M> {
         ensures results { (p : PassOf M) (t : ℕ) (results : List Result) → Contains passes.items p → Has p.results (t, results) → AreResults result.0 t results }
         ensures count { length result.1.items ≡ length self.first }
         ensures machines { IsHousing self → HandsOut M.stands self.first result.0 result.1.items }
-        ensures acts { IsHousing self → ActsAs (StartsFirst self.threads self.later) (acts_in M.stands self.first) result.0 }
+        ensures acts { IsHousing self → ActsAs (before_of (opening_at self)) (acts_in M.stands self.first) result.0 }
     {
         let told = self.told_one(passes);
         self.close_with(told)

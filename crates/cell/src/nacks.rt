@@ -7,7 +7,7 @@ ghost use Rattle.protocol_values.specs.declared.Joined.{Joined};
 ghost use Rattle.protocol_values.specs.declared.NackName.{NackName};
 ghost use Rattle.protocol.specs.Tables.{bound_row};
 ghost use Rattle.protocol.specs.Worlds.{nack_of_row};
-ghost use Rattle.cell.specs.Attempts.{Bound, BoundBefore, bind_made};
+ghost use Rattle.cell.specs.Attempts.{Bound, BoundBefore, IsBoundRow, SaysOf, bind_made};
 ghost use Rattle.cell_table.specs.Nacks.{IsCauseRow, IsReadyAlone, SawCause, SawEnabled};
 ghost use Rattle.cell_table.specs.declared.view.Stage.TheVariants.{Resting};
 ghost use Rattle.cell_table.specs.Seats.{HasNack, HasRow, Sits, StaysSeated};
@@ -18,31 +18,30 @@ use crate::reading::{end_stamp, opened_offer};
 use atomic_table::Seat;
 use cell_table::{Board, View};
 use protocol::Resident;
-use protocol_values::{Base, Binding, Cell, Joined, NackName, Row};
+use protocol_values::{Base, Binding, Cell, Joined, NackName, NackWord, Row};
 
-/// Where the nack is bound, by a look at its word. A nack that the table has not is not bound.
-pub(crate) fn binding_of<M: Resident>(
+/// What the nack's word says, by a look at it. A nack that the table has not is not bound.
+pub(crate) fn word_of<M: Resident>(
     board: &Board<M>,
     seat: &mut Seat<Option<M>, View<M>>,
     nack: NackName,
-) -> Option<Binding>
+) -> NackWord
     requires { Sits board.now seat.old }
     ensures sits { StaysSeated board.now seat.old seat.new }
     ensures stays { seat.new.me.0 ≡ at_stage seat.old.me.0.stage seat.new.me.0.seen seat.old.me.0 }
     ensures learns { LearnsOf (λ q. ⊥) (λ n. n ≡ nack) (λ p. ⊥) seat.old.me.0.seen seat.new.me.0.seen }
-    ensures some { IfSome result (λ b. Has seat.new.me.0.seen.bound (nack, b)) }
-    ensures there { IfSome result (λ b. HasNack board.now nack × HasRow board.now (bound_row nack b) × (b.scope < 4)) }
-    ensures same { (b : Binding) → Has seat.old.me.0.seen.bound (nack, b) → result ≡ Some b }
+    ensures says { SaysOf board.now seat.new.me.0.seen nack result }
+    ensures same { (b : Binding) → Has seat.old.me.0.seen.bound (nack, b) → result ≡ NackWord.Bound b }
+    ensures same_stamp { (stamp : ℕ) → Has seat.old.me.0.seen.carried (nack, stamp) → result ≡ NackWord.Carried stamp }
 {
     if !board.has_nack(nack) {
-        return None;
+        return NackWord::Unbound;
     }
     board.look_nack(seat, nack)
 }
 
 /// Binds nack k of the row's thread to the row, which is held and not opened yet, and to one of
-/// its scopes. False where the nack was bound before.
-#[tactic(auto, using(crate::proofs::Learning::learns_bound))]
+/// its scopes. False where the nack was bound before, or is carried.
 pub(crate) fn bind<M: Resident>(
     board: &Board<M>,
     seat: &mut Seat<Option<M>, View<M>>,
@@ -91,30 +90,47 @@ pub(crate) fn cause_of<M: Resident>(
 {
     match base {
         Base::Always(_) => Some(0),
-        Base::OnNack(nack) => {
-            let joined = enabled_by(board, seat, nack)?;
-            Some(joined.stamp)
-        }
+        Base::OnNack(nack) => enabled_at(board, seat, nack),
         Base::OnEnd(thread) => end_stamp(board, seat, thread),
         Base::Send(..) | Base::Recv(_) | Base::Never => None,
     }
 }
 
-/// How the row that enabled the nack is committed: the nack is bound to it, and it chose an offer
-/// outside the nack's scope.
+/// The stamp at which the nack was enabled: that of the row which enabled it, or that with which it is carried.
+fn enabled_at<M: Resident>(
+    board: &Board<M>,
+    seat: &mut Seat<Option<M>, View<M>>,
+    nack: NackName,
+) -> Option<u32>
+    requires sits { Sits board.now seat.old }
+    ensures sits { StaysSeated board.now seat.old seat.new }
+    ensures stays { seat.new.me.0 ≡ at_stage seat.old.me.0.stage seat.new.me.0.seen seat.old.me.0 }
+    ensures learns { LearnsOf (IsBoundRow seat.new.me.0.seen nack) (λ n. n ≡ nack) (λ p. ⊥) seat.old.me.0.seen seat.new.me.0.seen }
+    ensures some { IfSome result (SawCause seat.new.me.0.seen (OnNack nack)) }
+    ensures none { IfNone result (¬ IsReadyAlone seat.old.me.0.seen (OnNack nack)) }
+{
+    match word_of(board, seat, nack) {
+        NackWord::Unbound | NackWord::Carried(0) => None,
+        NackWord::Carried(stamp) => Some(stamp),
+        NackWord::Bound(bound) => enabled_by(board, seat, nack, bound),
+    }
+}
+
+/// The stamp of the row that enabled the nack: the nack is bound to it, and it chose an offer outside the nack's scope.
 fn enabled_by<M: Resident>(
     board: &Board<M>,
     seat: &mut Seat<Option<M>, View<M>>,
     nack: NackName,
-) -> Option<Joined>
-    requires sits { Sits board.now seat.old }
+    bound: Binding,
+) -> Option<u32>
+    requires sits { Sits board.now seat.old × HasRow board.now (bound_row nack bound) }
+    requires bound { Has seat.old.me.0.seen.bound (nack, bound) }
     ensures sits { StaysSeated board.now seat.old seat.new }
     ensures stays { seat.new.me.0 ≡ at_stage seat.old.me.0.stage seat.new.me.0.seen seat.old.me.0 }
-    ensures learns { LearnsOf (λ q. (b : Binding) × Has seat.new.me.0.seen.bound (nack, b) × (q ≡ bound_row nack b)) (λ n. n ≡ nack) (λ p. ⊥) seat.old.me.0.seen seat.new.me.0.seen }
-    ensures some { IfSome result (SawEnabled seat.new.me.0.seen nack) }
+    ensures learns { Learns (λ q. q ≡ bound_row nack bound) seat.old.me.0.seen seat.new.me.0.seen }
+    ensures some { IfSome result (λ stamp. (j : Joined) × SawEnabled seat.new.me.0.seen nack j × (stamp ≡ j.stamp)) }
     ensures none { IfNone result ((j : Joined) → ¬ SawEnabled seat.old.me.0.seen nack j) }
 {
-    let bound = binding_of(board, seat, nack)?;
     let row = Row {
         thread: nack.thread,
         sync: bound.sync as u32,
@@ -124,7 +140,7 @@ fn enabled_by<M: Resident>(
     if chosen.has_scope(bound.scope) {
         return None;
     }
-    Some(joined)
+    Some(joined.stamp)
 }
 
 /// How the row is committed, if it is.

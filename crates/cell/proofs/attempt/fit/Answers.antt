@@ -1,16 +1,17 @@
-use Rattle.std.proofs.Common.{rules, ◌≡◌, ◌+◌, ℕ, true, false, Some, None, sym, ◌∙◌, ap, subst, min}
+use Rattle.std.proofs.Common.{rules, ◌≡◌, ◌+◌, ℕ, true, false, Some, None, inl, inr, sym, ◌∙◌, ap, subst, min}
 use Rattle.protocol_values.specs.declared.Direction.{Direction}
 use Rattle.protocol_values.specs.declared.Row.{Row}
 use Rattle.std.specs.Prelude.{Option}
 use Rattle.protocol_values.specs.Words.{IsJoinedInRange}
 use Rattle.protocol.proofs.Linking.{some_inj}
 use Rattle.cell_table.specs.declared.view.Seen.{Seen}
-use Rattle.cell_table.specs.Sight.{Has, HaveDirection, SeesDirection, CanJoin, next_stamp}
+use Rattle.cell_table.specs.Sight.{Has, HaveDirection, IsBefore, SeesDirection, CanJoin, next_stamp}
 use Rattle.protocol_values.specs.Values.{directions_meet}
-use Rattle.cell.specs.Attempts.{CanMeet}
+use Rattle.cell.specs.Attempts.{CanMeet, IsLifeNear, IsNear}
 use Rattle.cell_table.proofs.Directions.{sees_direction_apart}
 use Rattle.cell_table.proofs.Offers.{if_none}
 use Rattle.cell.proofs.Meeting.{from_some, can_join, join_ranged}
+use Rattle.cell.proofs.Learning.{learns_then, learns_wider, lives_wider}
 use Rattle.cell.proofs.attempt.fit.Goals as goal
 
 -- no direction is seen where none was found
@@ -62,3 +63,21 @@ returns-clause-can g c =
       join_ranged c.args.board.now.shape.threads c.args.board.now.shape.rows _ _ c.args.mine.0 c.args.other.0 c.args.mine.1 c.args.other.1 _ _ c.in_ok-my_direction.my_direction c.in_ok-direction.direction
           c.args.board.now.small.1 c.args.board.now.small.3 c.requires.sits.1 have_mine have_theirs,
     )
+
+-- the two rows are read, and then the rows before them
+pub returns-clause-learns : goal.returns-clause-learns
+returns-clause-learns g c =
+    let Near : Row → Type 0 = IsNear c.args.mine.0 c.args.other.0 in
+    let Lives : ℕ → Type 0 = IsLifeNear c.args.mine.0 c.args.other.0 in
+    let s = c.args.seat.now.me.0.seen in
+    let t = c.opened_direction.new.seat.me.0.seen in
+    let u = c.direction_of.new.seat.me.0.seen in
+    let v = c.last_stamp-my_last.new.seat.me.0.seen in
+    let w = c.last_stamp-last.new.seat.me.0.seen in
+    learns_then Near s t w
+    (lives_wider Near (λ p. ⊥) Lives s t (λ p h. absurd h) (learns_wider (λ q. q ≡ c.args.mine.0) Near s t (λ q e. inl e) c.opened_direction.ensures.learns))
+    (learns_then Near t u w
+    (lives_wider Near (λ p. ⊥) Lives t u (λ p h. absurd h) (learns_wider (λ q. q ≡ c.args.other.0) Near t u (λ q e. inr (inl e)) c.direction_of.ensures.learns))
+    (learns_then Near u v w
+    (lives_wider Near (λ p. p ≡ c.args.mine.0.thread) Lives u v (λ p e. inl e) (learns_wider (IsBefore c.args.mine.0) Near u v (λ q e. inr (inr (inl e))) c.last_stamp-my_last.ensures.learns))
+    (lives_wider Near (λ p. p ≡ c.args.other.0.thread) Lives v w (λ p e. inr e) (learns_wider (IsBefore c.args.other.0) Near v w (λ q e. inr (inr (inr e))) c.last_stamp-last.ensures.learns))))

@@ -1,6 +1,9 @@
-use Rattle.std.proofs.Common.{rules, ◌≡◌, ◌∙◌, ap, sym, true, None, Some, inr}
+use Rattle.std.proofs.Common.{rules, ℕ, Option, ◌≡◌, ◌∙◌, ap, sym, true, None, Some, inr}
 use Rattle.std.proofs.lemmas.Bool.{false≢true}
-use Rattle.protocol.specs.Tables.{needs_none}
+use Rattle.protocol_values.specs.declared.Row.{Row}
+use Rattle.protocol.specs.Tables.{is_partner, needs_none, row_eq}
+use Rattle.protocol.proofs.RowLemmas.{row_eq-refl}
+use Rattle.cell.proofs.Learning.{learns_wider}
 use Rattle.cell_table.specs.Sight.{Has, HaveOffer, LackOffer, IsKnownOpen}
 use Rattle.cell.proofs.Meeting.{from_none, from_some, recv_meets, chosen_not_lacking, partner_known_open}
 use Rattle.cell_table.proofs.Offers.{have_more}
@@ -40,3 +43,10 @@ offer_of-requires g c =
     let partner : c.args.joined.partner ≡ Some (c.in_ok-partner.partner, c.in_ok-partner.offer) = (search rules) in
     let inside = c.requires.sits.0.3.inside c.args.row c.args.joined (c.in_ok-partner.partner, c.in_ok-partner.offer) c.requires.committed partner in
     (c.requires.sits.0, inside)
+
+-- the partner is read
+pub returns-in-Send-clause-learns : goal.returns-in-Send-clause-learns
+returns-in-Send-clause-learns g c =
+    let partner : c.args.joined.partner ≡ Some (c.in_ok-partner.partner, c.in_ok-partner.offer) = (search rules) in
+    learns_wider (λ q. q ≡ c.in_ok-partner.partner) (λ q. is_partner c.args.joined.partner q ≡ true) c.args.seat.now.me.0.seen c.offer_of.new.seat.me.0.seen
+    (λ q e. ap (λ (p : Option (Row × ℕ)). is_partner p q) partner ∙ ap (row_eq c.in_ok-partner.partner) e ∙ row_eq-refl c.in_ok-partner.partner) c.offer_of.ensures.learns

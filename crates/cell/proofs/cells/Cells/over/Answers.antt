@@ -1,9 +1,10 @@
-use Rattle.std.proofs.Common.{rules, ◌≡◌, ℕ, List, length, ◌++◌, ◌∷◌, [], sym, ap, subst, ◌∙◌}
-use Rattle.protocol.proofs.LedgerLemmas.{length_start}
+use Rattle.std.proofs.Common.{rules, ◌≡◌, ℕ, length, ◌++◌, ◌∷◌, [], sym, ap, subst, ◌∙◌}
+use Rattle.protocol.specs.Openings.{opening_of}
 use Rattle.cell_table.specs.declared.view.Shape.{Shape}
 use Rattle.cell.specs.Calls.{PassOf}
-use Rattle.cell_table.specs.Rule.{dealer, dealt_later, dealt_pass, seen_nothing}
-use Rattle.cell_table.specs.Sight.{Coherent}
+use Rattle.cell_table.specs.Rule.{dealer, dealt_from, dealt_pass, seen_nothing}
+use Rattle.cell_table.specs.Sight.{AreSettled, Coherent}
+use Rattle.cell_table.specs.Views.{opening_in}
 use Rattle.cell_table.proofs.Dealing.{each_more, nothing_agrees}
 use Rattle.cell.proofs.cells.Cells.over.Goals as goal
 
@@ -14,16 +15,16 @@ loop-number-preserved g c =
     c.deal-seat.ensures.pass.1
     ∙ ap (λ (n : ℕ). (dealt_pass (dealer shape n), [])) (let e : c.from-in-loop-number.result ≡ c.loop-number.number = (search rules) in e) in
     let id : c.deal-seat.result.table_id ≡ c.in_ok-board.board.words.shared.table_id = (search rules) in
-    let pass : PassOf g.row.M.Denot = record { of = record { id = c.deal-seat.result.table_id; threads = c.deal-seat.result.me.0.threads; rows = c.deal-seat.result.me.0.rows; passes = c.deal-seat.result.me.0.passes; later = c.deal-seat.result.me.0.later; first = c.deal-seat.result.me.0.first }; seen = c.deal-seat.result.me.0.seen; made = c.deal-seat.result.me.0.made; results = c.deal-seat.result.me.0.results; out = c.deal-seat.result.me.1 } in
+    let pass : PassOf g.row.M.Denot = record { of = record { id = c.deal-seat.result.table_id; threads = c.deal-seat.result.me.0.threads; rows = c.deal-seat.result.me.0.rows; passes = c.deal-seat.result.me.0.passes; lives = c.deal-seat.result.me.0.lives; nacks = c.deal-seat.result.me.0.nacks; first = c.deal-seat.result.me.0.first }; seen = c.deal-seat.result.me.0.seen; made = c.deal-seat.result.me.0.made; results = c.deal-seat.result.me.0.results; out = c.deal-seat.result.me.1 } in
     let pushed : c.push.new.self.items ≡ c.loop-number.dealt.items ++ pass ∷ [] = (search rules) in
     record {
       here = (search rules);
       dealer = (search rules);
       passes = (search rules);
       count = (search rules);
-      each = each_more (λ (k : ℕ) (p : PassOf g.row.M.Denot). p ≡ record { of = record { id = c.in_ok-board.board.words.shared.table_id; threads = shape.threads; rows = shape.rows; passes = shape.passes; later = shape.later; first = shape.first.value.items }; seen = seen_nothing (dealt_later shape.later shape.threads shape.passes k); made = []; results = []; out = [] })
+      each = each_more (λ (k : ℕ) (p : PassOf g.row.M.Denot). p ≡ record { of = record { id = c.in_ok-board.board.words.shared.table_id; threads = shape.threads; rows = shape.rows; passes = shape.passes; lives = (opening_in shape).threads; nacks = (opening_in shape).nacks; first = shape.first.value.items }; seen = seen_nothing (dealt_from (opening_in shape) shape.threads shape.passes k); made = []; results = []; out = [] })
           c.loop-number.dealt.items c.push.new.self.items pass c.loop-number.number c.loop-number.invariant.count pushed
-          (λ i. record { of = record { id = id i; threads = (dealt i).0.threads; rows = (dealt i).0.rows; passes = (dealt i).0.passes; later = (dealt i).0.later; first = (dealt i).0.first }; seen = (dealt i).0.seen; made = (dealt i).0.made; results = (dealt i).0.results; out = (dealt i).1 })
+          (λ i. record { of = record { id = id i; threads = (dealt i).0.threads; rows = (dealt i).0.rows; passes = (dealt i).0.passes; lives = (dealt i).0.lives; nacks = (dealt i).0.nacks; first = (dealt i).0.first }; seen = (dealt i).0.seen; made = (dealt i).0.made; results = (dealt i).0.results; out = (dealt i).1 })
           c.loop-number.invariant.each;
     }
 
@@ -32,18 +33,21 @@ pub returns-clause-passes : goal.returns-clause-passes
 returns-clause-passes g c number pass e =
     let is = c.loop-number.invariant.each number pass e in
     let shape : Shape g.row.M.Denot = c.in_ok-board.board.shape in
-    let threads : shape.threads ≡ c.args.threads = (search rules) in
-    let passes : shape.passes ≡ c.args.passes = (search rules) in
-    let later : shape.later ≡ c.args.later = (search rules) in (
+    let opening : opening_in shape ≡ opening_of c.args.opening.now = c.loop-number.invariant.passes.1 in
+    let threads : shape.threads ≡ length c.args.opening.now.threads.items = (search rules) in
+    let passes : shape.passes ≡ c.args.passes = (search rules) in (
       (
         ap (λ (p : PassOf g.row.M.Denot). p.of.id) is,
         ap (λ (p : PassOf g.row.M.Denot). p.of.threads) is,
         ap (λ (p : PassOf g.row.M.Denot). p.of.rows) is,
         ap (λ (p : PassOf g.row.M.Denot). p.of.passes) is,
-        subst (λ (p : PassOf g.row.M.Denot). Coherent shape.threads shape.rows p.seen) (sym is) (nothing_agrees _ _ (dealt_later shape.later shape.threads shape.passes number)),
+        subst (λ (p : PassOf g.row.M.Denot). Coherent shape.threads shape.rows p.seen) (sym is) (nothing_agrees _ _ (dealt_from (opening_in shape) shape.threads shape.passes number)),
         ap (λ (p : PassOf g.row.M.Denot). p.of.first) is,
+        ap (λ (p : PassOf g.row.M.Denot). p.of.lives) is,
+        ap (λ (p : PassOf g.row.M.Denot). p.of.nacks) is,
+        subst (λ (p : PassOf g.row.M.Denot). AreSettled (opening_in shape) p.seen) (sym is) (λ n stamp h. absurd h),
       ),
-      ap (λ (p : PassOf g.row.M.Denot). p.seen) is ∙ (λ i. seen_nothing (dealt_later (later i) (threads i) (passes i) number)),
+      ap (λ (p : PassOf g.row.M.Denot). p.seen) is ∙ (λ i. seen_nothing (dealt_from (opening i) (threads i) (passes i) number)),
       ap (λ (p : PassOf g.row.M.Denot). p.made) is,
     )
 
@@ -55,5 +59,5 @@ returns-clause-results g c number pass e =
 -- as many words are spare as the table has
 pub invariant_of-result : goal.invariant_of-result
 invariant_of-result g c =
-    let words = ap (λ (ws : List ℕ). length ws) c.in_ok-spare.ensures ∙ length_start c.from-4.result c.from-5.result c.args.later in
+    let words = c.in_ok-spare.ensures.sized in
     (words ∙ (search rules), search rules, search rules)

@@ -14,7 +14,7 @@ returns-clause-out g c =
     let seen = ap (λ (p : PassOf g.row.M.Denot). p.seen) c.pass.view_is in
     let before = ap (λ (p : PassOf g.row.M.Denot). p.out) c.pass.view_is in
     let first = ap (λ (x : GridOf g.row.M.Denot). x.first) c.self.view_is in
-    subst (λ (z : Seen × List (ℕ × Option g.row.M.Denot) × List g.row.M.Denot).
+    subst (λ (z : Seen × List (ℕ × Option g.row.M.Denot) × List (Option g.row.M.Denot)).
     (told : List Result) × Has c.take_row.new.seat.me.0.results (c.args.row.thread, told) × (length told ≡ c.args.row.sync + 1) × ComesOut g.M.Resident.stands z.2 z.0 c.take_row.new.seat.me.0.seen c.args.row c.in_ok-joined.joined.own told z.1 c.take_row.new.seat.me.1)
     (λ i. (seen i, before i, first i)) c.in_ok-joined.ensures.out
 

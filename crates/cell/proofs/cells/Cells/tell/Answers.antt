@@ -4,7 +4,7 @@ use Rattle.cell_table.specs.declared.view.Seen.{Seen}
 use Rattle.cell_table.specs.declared.view.View.{View}
 use Rattle.cell_table.specs.Sight.{Has, SeesNoOffer, SeesOffer}
 use Rattle.cell_table.specs.Rule.{heard, told_of}
-use Rattle.cell_table.proofs.Hearing.{told_bound, told_lack, told_offer}
+use Rattle.cell_table.proofs.Hearing.{told_bound, told_carried, told_lack, told_offer}
 use Rattle.cell.proofs.cells.Cells.tell.Goals as goal
 
 pub returns-clause-offers : goal.returns-clause-offers
@@ -21,6 +21,11 @@ pub returns-clause-bound : goal.returns-clause-bound
 returns-clause-bound g c n b h =
     let told : c.tell.new.to.me.0.seen ≡ heard c.args.to.now.seen (told_of c.args.from.now.seen) = (search rules) in
     subst (λ (s : Seen). Has s.bound (n, b)) (sym told) (told_bound c.args.from.now.seen c.args.to.now.seen n b h)
+
+pub returns-clause-carried : goal.returns-clause-carried
+returns-clause-carried g c n stamp h =
+    let told : c.tell.new.to.me.0.seen ≡ heard c.args.to.now.seen (told_of c.args.from.now.seen) = (search rules) in
+    subst (λ (s : Seen). Has s.carried (n, stamp)) (sym told) (told_carried c.args.from.now.seen c.args.to.now.seen n stamp h)
 
 pub returns-clause-results : goal.returns-clause-results
 returns-clause-results g c =

@@ -1,0 +1,10 @@
+use Rattle.std.proofs.Common.{◌≡◌, ℕ, subst}
+use Rattle.protocol_values.specs.declared.NackName.{NackName}
+use Rattle.protocol_values.specs.declared.Row.{Row}
+use Rattle.cell.specs.Calls.{PassOf}
+use Rattle.cell_table.specs.Sight.{LearnsOf}
+use Rattle.cell.proofs.cells.Cells.direction.Goals as goal
+
+pub returns-clause-learns : goal.returns-clause-learns
+returns-clause-learns g c =
+    subst (λ (p : PassOf g.row.M.Denot). LearnsOf (λ (q : Row). q ≡ c.args.row) (λ (n : NackName). ⊥) (λ (t : ℕ). ⊥) p.seen c.opened_direction.new.seat.me.0.seen) c.pass.view_is c.opened_direction.ensures.learns
