@@ -1,4 +1,4 @@
--- A ledger's commits, led on to their end and put in order.
+-- Commits, led on to their end and put in order.
 use Rattle.std.proofs.Common.{◌≡◌, ℕ, ◌+◌, ◌≤◌, List, ◌++◌, length, refl, sym, ◌∙◌, subst}
 use Rattle.std.specs.Prelude.{IsPermutation}
 use Rattle.std.proofs.lemmas.List.Sorted.{IsPermutation-append_left, IsPermutation-trans}
@@ -6,7 +6,7 @@ use Rattle.script_tree.specs.Processes.{Proc}
 use Rattle.protocol_values.specs.declared.Atom.{Atom}
 use Rattle.protocol_values.specs.declared.Commit.{Commit}
 use Rattle.protocol_values.specs.Commits.{IsInOrder}
-use Rattle.protocol.specs.Ledgers.{Ledger, IsLawful, commits_in}
+use Rattle.protocol.specs.Ledgers.{Ledger, IsLawful}
 use Rattle.journal_replay.specs.declared.end.End.{End}
 use Rattle.journal_replay.specs.declared.state.State.{State}
 use Rattle.journal_replay.specs.declared.state.ReplayFault.{ReplayFault}
@@ -20,7 +20,7 @@ use Rattle.journal_order.proofs.Leading.{ledger-is-run}
 use Rattle.journal_order.proofs.Ordering.{ordered-is-run}
 use Rattle.journal_order.proofs.Runs.{run-front}
 use Rattle.journal_order.specs.Ledgers.{IsLedgerOf}
-use Rattle.journal.specs.Records.{IsCompletion, RefusesLedger}
+use Rattle.journal.specs.Records.{IsCompletion, IsOrdering, RefusesRun}
 
 tells-ends : (ps : List Proc) (rows : ℕ) (journal : List Commit) (s : State) (ends : List End) (outputs : List (List Atom)) → StandsAfter ps rows journal s → EndsOf s ends → OutputsOf s outputs →
     TellsEnds ps rows (config_of journal) ends outputs
@@ -33,26 +33,26 @@ tells-ends ps rows journal s ends outputs stands ended printed = record {
       ends-both ps rows t (config_of journal) end two.0 told one.0 one.1 two.1;
 }
 
-pub completes : (ps : List Proc) (rows : ℕ) (l : Ledger) (commits added journal : List Commit) (s : State) (ends : List End) (outputs : List (List Atom)) (tail : ℕ) →
-    IsLawful l → IsOrderOf l commits → IsRun ps rows commits → StandsAfter ps rows (commits ++ added) s → IsMaximal ps rows (config_of (commits ++ added)) →
-    IsPermutation (commits ++ added) journal → IsInOrder journal → EndsOf s ends → OutputsOf s outputs → length added ≡ tail → IsCompletion ps rows l journal ends outputs tail
-completes ps rows l commits added journal s ends outputs tail law order run stands maximal moved sorted ended printed count =
+pub completes : (ps : List Proc) (rows : ℕ) (given commits added journal : List Commit) (s : State) (ends : List End) (outputs : List (List Atom)) (tail : ℕ) →
+    IsOrdering given commits → IsRun ps rows commits → StandsAfter ps rows (commits ++ added) s → IsMaximal ps rows (config_of (commits ++ added)) →
+    IsPermutation (commits ++ added) journal → IsInOrder journal → EndsOf s ends → OutputsOf s outputs → length added ≡ tail → IsCompletion ps rows given journal ends outputs tail
+completes ps rows given commits added journal s ends outputs tail order run stands maximal moved sorted ended printed count =
     let ordered = ordered-is-run ps rows (commits ++ added) journal stands.run moved sorted in
     record {
       run = ordered.0;
       in_order = sorted;
       maximal = subst (IsMaximal ps rows) (sym ordered.1) maximal;
       ends_are = subst (λ (config : Config). TellsEnds ps rows config ends outputs) (sym ordered.1) (tells-ends ps rows (commits ++ added) s ends outputs stands ended printed);
-      ledger = (commits, order, run);
+      given_run = (commits, order, run);
       received = λ t chan. named-is-received ps rows journal ordered.0 t chan ∙ received-is-sent ps rows journal ordered.0 t chan;
       added = added;
-      whole = IsPermutation-trans (commits_in l ++ added) (commits ++ added) journal (IsPermutation-append_left added (commits_in l) commits order.all) moved;
+      whole = IsPermutation-trans (given ++ added) (commits ++ added) journal (IsPermutation-append_left added given commits order.all) moved;
       tail_is = count;
     }
 
-pub refuses : (ps : List Proc) (rows : ℕ) (l : Ledger) (commits : List Commit) (fault : ReplayFault) → IsLawful l → IsOrderOf l commits → Refuses ps rows commits fault → RefusesLedger ps rows l fault
-refuses ps rows l commits Memory law order h = tt
-refuses ps rows l commits (Unlawful index) law order h = (commits, order, h)
+pub refuses : (ps : List Proc) (rows : ℕ) (given commits : List Commit) (fault : ReplayFault) → IsOrdering given commits → Refuses ps rows commits fault → RefusesRun ps rows given fault
+refuses ps rows given commits Memory order h = tt
+refuses ps rows given commits (Unlawful index) order h = (commits, order, h)
 
 -- a ledger of these processes is a run of them, whatever part of it is looked at
 pub never-refuses : (ps : List Proc) (rows : ℕ) (l : Ledger) (commits : List Commit) (fault : ReplayFault) → IsLawful l → IsOrderOf l commits → Refuses ps rows commits fault →

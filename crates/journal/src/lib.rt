@@ -1,10 +1,11 @@
-//! Journals: the commits of a ledger, led on to the end of their run and put in order.
+//! Journals: commits, of a ledger or of several, led on to the end of their run and put in order.
 //!
 //! Proved:
 //! - `complete` is Ok exactly where the ledger's commits, in order, are a run of the processes, want of
 //!   memory aside, and else names the first commit with which they are none. The record's journal has
 //!   them and those of the tail, is in order, a run, and maximal; the ends and what was printed are those
 //!   to which it leads.
+//! - `complete_commits` does the same with any list of commits, which it puts in order first.
 //! - `conclude` makes such a record of a ledger of processes by the machines that made it, without a replay.
 //! - `received_from` gives the messages of the pairs on a channel with one sender, in their order. Of a
 //!   run these are what the receivers got, and what the sender sent, in its own order
@@ -20,5 +21,5 @@ mod record;
 
 pub use crate::concluding::conclude;
 pub use crate::messages::received_from;
-pub use crate::record::{Record, complete};
+pub use crate::record::{Record, complete, complete_commits};
 pub use journal_replay::{End, ReplayFault, State, replay, settle};

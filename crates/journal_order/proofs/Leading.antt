@@ -46,7 +46,7 @@ use Rattle.journal_replay.proofs.Starting.{spawns-once}
 use Rattle.journal_replay.proofs.Standing.{config_of-more, counts, row-thread}
 use Rattle.journal_order.specs.Laws.{IsOrderOf}
 use Rattle.protocol.specs.Standing.{AreResults, Gives, OffersAs, binding_of}
-use Rattle.journal_order.specs.Ledgers.{IsFirst, IsLedgerOf, LedgerIsRun, LedgersTell, ProcessOffers, ProcessSpawns, TellsNacks, TellsResults, TellsStamps, TellsStarts}
+use Rattle.journal_order.specs.Ledgers.{IsLedgerOf, nothing_before, LedgerIsRun, LedgersTell, ProcessOffers, ProcessSpawns, TellsNacks, TellsResults, TellsStamps, TellsStarts}
 use Rattle.protocol.specs.declared.opening.NackState.TheVariants.{Dead, Enabled, Unbound, Unsettled}
 use Rattle.journal_order.proofs.Runs.{RunsOn, get-take, run-whole}
 use Rattle.journal_replay.proofs.Extending.{applied-other}
@@ -152,12 +152,12 @@ module _ (ps : List Proc) (rows : ℕ) (l : Ledger) (law : IsLawful l) (of : IsL
 
   enabled-here : (n : NackName) → IsEnabled (joined_in l) (offer_in l) (marks_in l) n → IsEnabledHere (joined_in l) (offer_in l) (marks_in l) n
   enabled-here n (inl e) = e
-  enabled-here n (inr e) = let low = law.carried n e.0 e.2 in let none = of.nothing_before in absurd (omega (arith, low, none, e.1))
+  enabled-here n (inr e) = let low = law.carried n e.0 e.2 in let none = of.stamps in absurd (omega (arith, low, none, e.1))
 
   carried-nothing : (c : Commit) (stamp : ℕ) → ledgers.IsCarriedBy (marks_in l) c stamp → stamp ≡ 0
   carried-nothing (Pair sender receiver chan msg s) stamp h = absurd h
   carried-nothing (Alone at (cause.Always m) s) stamp h = absurd h
-  carried-nothing (Alone at (cause.Nack n) s) stamp h = let low = law.carried n stamp h in let none = of.nothing_before in omega (arith, low, none)
+  carried-nothing (Alone at (cause.Nack n) s) stamp h = let low = law.carried n stamp h in let none = of.stamps in omega (arith, low, none)
   carried-nothing (Alone at (cause.End p) s) stamp h = absurd h
 
   -- THE COMMITS
@@ -263,9 +263,14 @@ module _ (ps : List Proc) (rows : ℕ) (l : Ledger) (law : IsLawful l) (of : IsL
     bound-where : (n : NackName) (g : ℕ) (d : Commit) → Contains es d → Involves d (row n.thread g) → IsFiredAt ps (config_of es) n g → (b : Binding) × (binding_in l n ≡ Some b) × (b.sync ≡ g)
     bound-where n g d there has f = (binding_of (row n.thread g) f.scope, bound-scope n g d there has f, refl)
 
+    -- a thread that has ended did so here, since none had before
+    did_end : (t g : ℕ) → (⊥ × (g ≡ 0)) ⊎ DoesAt l (row t g) (HasEnded ps t) → DoesAt l (row t g) (HasEnded ps t)
+    did_end t g (inl none) = absurd none.0
+    did_end t g (inr does) = does
+
     -- STARTS in the ledger
     abbrev Begun : ℕ → ℕ → Type 0
-    Begun t stamp = IsStarted (IsFirst ps) (ProcessSpawns ps) l t stamp
+    Begun t stamp = IsStarted (nothing_before ps).started (ProcessSpawns ps) l t stamp
 
     -- a thread's start is not above what stands behind it
     start-below : (s start n stamp : ℕ) → HasStart (course_in l s) start → IsStampBehind l s start n stamp → start ≤ stamp
@@ -306,15 +311,15 @@ module _ (ps : List Proc) (rows : ℕ) (l : Ledger) (law : IsLawful l) (of : IsL
           }
 
       starts-in : {t stamp : ℕ} → Begun t stamp → stamp < top → Starts ps (config_of es) t
-      starts-in (acting.AtOnce first) less = AtOnce first
+      starts-in (acting.StartedBefore first) less = AtOnce first.0
       starts-in (StartedBy {t} {stamp} s start running started results of-s does is) less =
           Spawned s (length results) does.by (spawned-at s t start stamp results of-s does is less)
           (starts-in started (let low = start-below s start (length results) stamp running is in omega (arith, low, less)))
 
       -- what counts for a start has at most its stamp
       start-counts : {t stamp : ℕ} → Begun t stamp → stamp < top → (d : Commit) → Contains es d → CountsForStart ps (config_of es) d t → stamp_of d ≤ stamp
-      start-counts (acting.AtOnce first) less d there (InRow u n g by at below has) = absurd (none-some u (sym first ∙ by))
-      start-counts (acting.AtOnce first) less d there (InStart u by counts) = absurd (none-some u (sym first ∙ by))
+      start-counts (acting.StartedBefore first) less d there (InRow u n g by at below has) = absurd (none-some u (sym first.0 ∙ by))
+      start-counts (acting.StartedBefore first) less d there (InStart u by counts) = absurd (none-some u (sym first.0 ∙ by))
       start-counts (StartedBy {t} {stamp} s start running started results of-s does is) less d there (InRow u n g by at below has) =
           let same : u ≡ s = same_Some u s (sym by ∙ does.by) in
           let one : n ≡ length results = spawns-once ps s (config_of es s) t n (length results) (subst (λ (z : ℕ). SpawnsAt ps z (config_of es z) t n) same at) (spawned-at s t start stamp results of-s does is less) in
@@ -325,7 +330,7 @@ module _ (ps : List Proc) (rows : ℕ) (l : Ledger) (law : IsLawful l) (of : IsL
           omega (arith, low, below)
 
       start-there : {t stamp : ℕ} → Begun t stamp → stamp < top → Told t stamp
-      start-there (acting.AtOnce first) less = inl refl
+      start-there (acting.StartedBefore first) less = inl first.1
       start-there (StartedBy {t} {stamp} s start running started results of-s does is) less = by-count (length results) refl (λ below. start-there started below)
         where
           by-count : (n : ℕ) → length results ≡ n → (start < top → Told s start) → Told t stamp
@@ -357,7 +362,7 @@ module _ (ps : List Proc) (rows : ℕ) (l : Ledger) (law : IsLawful l) (of : IsL
       -- it has ended behind the results that it has
       ended : (t start sync : ℕ) → course_in l t ≡ Ended start sync → ((d : Commit) (g : ℕ) → HasCommit l d → Involves d (row t g) → ledgers.CountsFor (marks_in l) d c) → HasEnded ps t (config_of es t)
       ended t start sync e counts =
-          let end = of.ends t sync (subst (λ (x : Course). EndsAt x sync) (sym e) refl) in
+          let end = did_end t sync (of.ends t sync (subst (λ (x : Course). EndsAt x sync) (sym e) refl)) in
           let size : length (config_of es t) ≡ sync = ⊎_elim (λ same. same) (λ other. ⊎_elim (λ less. absurd (missing end less)) (λ more-than. absurd (further more-than)) other) (cases_order (length (config_of es t)) sync) in
           subst (HasEnded ps t) (one-list l law t end.results (config_of es t) (end.count ∙ sym size) end.are (are es k t)) end.does
         where
@@ -718,7 +723,7 @@ tells-nack ps rows l commits law of enough order n Unsettled h = tells-unsettled
 tells-nack ps rows l commits law of enough order n Dead (inl carried) = tells-unbound ps rows l law of enough commits order n (carried_unbound l n 0 carried)
 tells-nack ps rows l commits law of enough order n Dead (inr dead) = tells-dead ps rows l law of enough commits order n dead
 tells-nack ps rows l commits law of enough order n (Enabled stamp) (positive, inl carried) =
-    let low = law.carried n stamp carried in let none = of.nothing_before in absurd (omega (arith, low, none, positive))
+    let low = law.carried n stamp carried in let none = of.stamps in absurd (omega (arith, low, none, positive))
 tells-nack ps rows l commits law of enough order n (Enabled stamp) (positive, inr h) =
     subst (λ (s : ℕ). KnowsNack ps n.thread (config_of commits n.thread) commits n.k (Some s)) h.1 (tells-enabled ps rows l law of enough commits order n h.0)
 

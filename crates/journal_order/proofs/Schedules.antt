@@ -6,12 +6,12 @@ use Rattle.protocol.specs.Worlds.{start_world}
 use Rattle.protocol.proofs.LedgerLemmas.{kept_start, lawful_from_start}
 use Rattle.protocol.proofs.Onward.{grows-schedule}
 use Rattle.protocol.proofs.Acting.{schedule-acts}
-use Rattle.journal_order.specs.Ledgers.{IsFirst, ScheduleHasLedger, ScheduleIsRun, acts_of}
+use Rattle.journal_order.specs.Ledgers.{ScheduleHasLedger, ScheduleIsRun, acts_of, nothing_before}
 use Rattle.journal_order.proofs.Leading.{ledger-is-run}
 
 pub schedule-has-ledger : ScheduleHasLedger
 schedule-has-ledger ps threads rows seats later steps w few_threads few_rows wait plays acts =
-    schedule-acts threads rows seats later (IsFirst ps) (acts_of ps) steps w few_threads few_rows wait plays acts
+    schedule-acts threads rows seats later (nothing_before ps) (acts_of ps) steps w few_threads few_rows refl (λ t low free. (wait t low free, refl)) plays acts
 
 ledger-rows : (t : Table) → (ledger_of t).rows ≡ t.rows
 unfolding ledger_of

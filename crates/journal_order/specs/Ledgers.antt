@@ -10,7 +10,7 @@ use Rattle.protocol_values.specs.declared.NackName.{NackName}
 use Rattle.protocol_values.specs.declared.Offer.{Offer}
 use Rattle.protocol_values.specs.declared.Seat.{Seat}
 use Rattle.protocol_values.specs.declared.Step.{Step}
-use Rattle.protocol.specs.Acting.{Acts, ActsAs, EachStepsAs, HasStart}
+use Rattle.protocol.specs.Acting.{Acts, ActsAs, Before, EachStepsAs, HasStart}
 use Rattle.protocol.specs.Ledgers.{Ledger, IsLawful, course_in, ledger_of}
 use Rattle.protocol.specs.Openings.{IsLastStamp, TellsNack}
 use Rattle.protocol.specs.Standing.{AreResults}
@@ -42,8 +42,12 @@ acts_of ps = record { offers = ProcessOffers ps; starts = ProcessSpawns ps; ends
 abbrev pub IsFirst : List Proc → ℕ → Type 0
 IsFirst ps t = spawner ps t ≡ None
 
+-- nothing went before: those that no text spawns have started, with no stamp
+abbrev pub nothing_before : List Proc → Before
+nothing_before ps = record { started = λ t stamp. IsFirst ps t × (stamp ≡ 0); ended = λ t. ⊥; stamps = 0 }
+
 abbrev pub IsLedgerOf : List Proc → Ledger → Type 0
-IsLedgerOf ps l = ActsAs (IsFirst ps) (acts_of ps) l
+IsLedgerOf ps l = ActsAs (nothing_before ps) (acts_of ps) l
 
 -- the commits of a lawful ledger of processes, in order, are a run of them
 abbrev pub LedgerIsRun : Type 0

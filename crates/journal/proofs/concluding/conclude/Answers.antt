@@ -1,7 +1,9 @@
-use Rattle.std.proofs.Common.{Err, IfOk, List, Ok, Result, map, subst, sym, arith}
+use Rattle.std.proofs.Common.{List, map, subst, sym, arith}
 use Rattle.std.proofs.lemmas.List.{length-map}
+use Rattle.std.proofs.lemmas.Result.{IfOk-weaker}
 use Rattle.script_tree.specs.Processes.{Proc, proc_of}
 use Rattle.protocol_values.specs.declared.Commit.{Commit}
+use Rattle.protocol.specs.Ledgers.{commits_in}
 use Rattle.journal_order.specs.Laws.{IsOrderOf}
 use Rattle.journal_order.proofs.Leading.{ledger-is-run}
 use Rattle.journal_replay.specs.Gathering.{AreKnown}
@@ -31,22 +33,17 @@ gather-requires-clause-known c =
     let order : IsOrderOf c.args.ledger.now commits = record { all = told.once; ordered = told.in_order } in
     subst (λ (cs : List Commit). AreKnown ps cs c.in_ok-known.known.items) (sym c.deref.ensures.value)
     (are-known ps c.args.rows c.args.ledger.now commits told.lawful c.requires.of.0 c.requires.of.1 order
-    c.in_ok-opening.opening.threads.items c.in_ok-opening.opening.nacks.items c.in_ok-opening.ensures c.args.machines.items c.requires.machines
+    c.in_ok-opening.opening.threads.items c.in_ok-opening.opening.nacks.items c.in_ok-opening.ensures.end c.args.machines.items c.requires.machines
     c.in_ok-known.known.items c.in_ok-known.ensures)
 
 pub record_of-requires : goal.record_of-requires
 record_of-requires c = c.in_ok-commits.ensures.in_order
-
-map-ok : {A E : Type 0} (P Q : A → Type 0) (r : Result A E) → ((x : A) → P x → Q x) → IfOk r P → IfOk r Q
-map-ok P Q (Ok x) f h = f x h
-map-ok P Q (Err e) f h = tt
 
 pub returns : goal.returns
 returns c =
     let ps : List Proc = map proc_of c.args.processes.now in
     let told = c.in_ok-commits.ensures in
     let commits = c.in_ok-commits.commits.items in
-    let order : IsOrderOf c.args.ledger.now commits = record { all = told.once; ordered = told.in_order } in
     let stands = subst (λ (cs : List Commit). StandsAfter ps c.args.rows cs c.in_ok-state.state) c.deref.ensures.value c.in_ok-state.ensures in
-    map-ok (Records commits c.in_ok-state.state) (Completes ps c.args.rows c.args.ledger.now) c.record_of.result
-    (λ r h. h ps c.args.rows c.args.ledger.now told.lawful order stands) c.record_of.ensures
+    IfOk-weaker c.record_of.result (Records commits c.in_ok-state.state) (Completes ps c.args.rows c.args.ledger.now)
+    (λ r h. h ps c.args.rows stands (commits_in c.args.ledger.now) (record { all = told.once; ordered = told.in_order })) c.record_of.ensures

@@ -3,8 +3,8 @@ use Rattle.journal.proofs.Completing.{completes}
 use Rattle.journal.proofs.record.record_of.Goals as goal
 
 pub returns : goal.returns
-returns c = λ ps rows l law order stands.
+returns c = λ ps rows stands given order.
     let settled = c.in_ok-state.ensures ps rows c.args.commits.items stands in
-    completes ps rows l c.args.commits.items c.in_ok-state.added.items c.in_ok-journal.journal.items c.in_ok-state.state c.in_ok-ends.ends.items _ c.len-tail.result
-    law order stands.run settled.0 settled.1 c.in_ok-journal.ensures.0 c.in_ok-journal.ensures.1
+    completes ps rows given c.args.commits.items c.in_ok-state.added.items c.in_ok-journal.journal.items c.in_ok-state.state c.in_ok-ends.ends.items _ c.len-tail.result
+    order stands.run settled.0 settled.1 c.in_ok-journal.ensures.0 c.in_ok-journal.ensures.1
     c.in_ok-ends.ensures c.in_ok-outputs.ensures (sym c.in_ok-state.added.ok.0 ∙ sym c.len-tail.ensures)
