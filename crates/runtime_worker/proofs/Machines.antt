@@ -1,8 +1,9 @@
 -- What a worker does with a machine keeps what is known of it.
-use Rattle.std.proofs.Common.{◌⊎◌, ◌≡◌, ◌<◌, ◌≤◌, ◌+◌, ℕ, zero, suc, Bool, true, false, List, [], ◌∷◌, ◌++◌, length, take, Option, Some, get_or, slice_get, sym, refl, ap, ◌∙◌, subst, inl, inr, ⊎_elim, arith}
+use Rattle.std.proofs.Common.{◌⊎◌, ◌≡◌, ◌<◌, ◌≤◌, ◌+◌, ℕ, zero, suc, Bool, true, false, ◌*◌, List, [], ◌∷◌, ◌++◌, length, map, replicate, take, Option, Some, get_or, slice_get, sym, refl, ap, ◌∙◌, subst, inl, inr, ⊎_elim, arith}
 use Rattle.std.specs.Prelude.{IsFalse, ◌≢◌}
-use Rattle.std.proofs.Math.Seq.{take-length}
-use Rattle.std.proofs.lemmas.List.{length-append}
+use Rattle.std.proofs.Math.Seq.{take-append-add, take-length}
+use Rattle.std.proofs.lemmas.Bool.{cases_lt}
+use Rattle.std.proofs.lemmas.List.{get_or-replicate, get_or_past, length-append, length-map, length-replicate, take-append-le}
 use Rattle.std.proofs.lemmas.Option.{get_or_from_slice_get, none-some, same_Some, slice_get-get_or, slice_get_within}
 use Rattle.event.specs.Tree.{scope_nacks}
 use Rattle.atomic_table.specs.Table.{rest}
@@ -16,7 +17,10 @@ use Rattle.thread.specs.After.{Chosen}
 use Rattle.thread.specs.Machines.{Broken, IsOpen, Open, Over, Phase, Ready, StartsAs, Stuck, Tells, nacks_in, offers_in}
 use Rattle.thread.specs.declared.machine.Turn.TheVariants as turn
 use Rattle.protocol.specs.Standing.{binding_of}
-use Rattle.protocol.specs.Tables.{bound_row}
+use Rattle.protocol.specs.declared.opening.NackState.{NackState}
+use Rattle.protocol.specs.declared.opening.NackState.TheVariants.{Unbound}
+use Rattle.protocol.specs.Openings.{Opening, start_opening, state_in, word_for}
+use Rattle.protocol.specs.Tables.{bound_row, carried_by}
 use Rattle.protocol.specs.Worlds.{nack_of_row}
 use Rattle.journal_replay.specs.Runs.{IsOffering}
 use Rattle.journal_order.specs.Laws.{HasScopeAt}
@@ -24,14 +28,14 @@ use Rattle.journal_order.specs.Ledgers.{ProcessOffers}
 use Rattle.journal_order.proofs.Nacks.{one-sync}
 use Rattle.cell.specs.Attempts.{Bound, BoundBefore}
 use Rattle.cell_table.specs.Told.{IsEarlier}
-use Rattle.cell.specs.Calls.{GridOf, Holds, PassOf}
+use Rattle.cell.specs.Calls.{GridOf, Holds, PassOf, opening_at}
 use Rattle.cell_table.specs.declared.view.Seen.{Seen}
 use Rattle.cell_table.specs.Rule.{IsReady}
-use Rattle.cell_table.specs.Sight.{Has, IsDraft, Redrafts, see_bound}
+use Rattle.cell_table.specs.Sight.{AreSettled, Has, IsDraft, Redrafts, WasSettled, see_bound}
 use Rattle.runtime_worker.specs.declared.resident.Suspended.{Suspended}
-use Rattle.runtime_worker.proofs.Processes.{offers_as}
-use Rattle.runtime_worker.proofs.Rising.{after_rises, Rises, rises_once}
-use Rattle.runtime_worker.specs.Machines.{AreBound, AreFirst, IsNow, IsTable, LeavesOthers, OnlyBinds, StandsFor, doings}
+use Rattle.runtime_worker.proofs.Processes.{new_first, offers_as}
+use Rattle.runtime_worker.proofs.Rising.{after_rises, Rises, rises_below, rises_once}
+use Rattle.runtime_worker.specs.Machines.{AreBound, AreFirst, AreNew, IsNow, IsTable, LeavesOthers, OnlyBinds, StandsFor, doings}
 
 -- WHAT OTHER THREADS ARE LEFT WITH
 
@@ -134,15 +138,44 @@ first_more ps first t p m before at starts = (
 pub holds_from : (p : PassOf Suspended) (r : Row) (value : Option Suspended) (c : List (ℕ × Option Suspended)) → p.out ≡ (r.thread, value) ∷ c → Holds p r value
 holds_from p r value c e = e ∙ ap (λ (l : List (ℕ × Option Suspended)). (r.thread, value) ∷ l) (sym (ap rest e))
 
--- so the machines are before their processes
-pub table_of_first : (cells : GridOf Suspended) (ps : List Proc) (first : List Suspended) → cells.first ≡ first → AreFirst ps first → 1 ≤ length ps → length ps ≤ 64 → IsPlaced ps → AreSpawnedOnce ps → (1 ≤ cells.rows) × (cells.rows ≤ 1024) → IsTable cells
-table_of_first cells ps first is are some few placed once rows = record { rows = rows; processes = ps; some = some; few = few; first = subst (AreFirst ps) (sym is) are; placed = placed; once = once }
+-- a list of machines as what lies in the slots at first
+some_there : (xs : List Suspended) (t : ℕ) (m : Suspended) → slice_get (map Some xs) t ≡ Some (Some m) → slice_get xs t ≡ Some m
+some_there [] t m e = absurd (none-some (Some m) e)
+some_there (x ∷ xs) zero m e = same_Some (Some x) (Some m) e
+some_there (x ∷ xs) (suc t) m e = some_there xs t m e
+
+pub first_all : (ps : List Proc) (xs : List Suspended) → (length xs ≡ length ps) × ((i : ℕ) (n : Suspended) → slice_get xs i ≡ Some n → (q : Proc) × (slice_get ps i ≡ Some q) × StartsAs q i n.machine.value) → AreNew ps (map Some xs)
+first_all ps xs are = (length-map xs Some ∙ are.0, λ t m e. are.1 t m (some_there xs t m e))
+
+-- before a first table no nack was settled
+pub none_settled : (threads later : ℕ) (n : NackName) (stamp : ℕ) → WasSettled (start_opening threads later) n stamp → ⊥
+none_settled threads later n stamp was =
+    let at : ℕ = n.thread * 64 + n.k in
+    let is : state_in (start_opening threads later) n ≡ Unbound = ⊎_elim
+    (λ (h : at < threads * 64). get_or-replicate (threads * 64) at Unbound Unbound h)
+    (λ (h : threads * 64 ≤ at). get_or_past (replicate (threads * 64) Unbound) at Unbound (let size = length-replicate {A = NackState} (threads * 64) Unbound in omega arith))
+    (cases_lt at (threads * 64)) in
+    none-some stamp (sym (ap (λ (s : NackState). carried_by (word_for s)) is) ∙ was)
+
+-- so a table that begins with new machines is one
+unfoldable pub table_of_first : (cells : GridOf Suspended) (ps : List Proc) (first : List (Option Suspended)) → cells.first ≡ first → AreNew ps first → 1 ≤ length ps → length ps ≤ 64 → IsPlaced ps → AreSpawnedOnce ps → (1 ≤ cells.rows) × (cells.rows ≤ 1024)
+    → (threads later : ℕ) → opening_at cells ≡ start_opening threads later → IsTable cells
+table_of_first cells ps first is are some few placed once rows threads later begins = record {
+  rows = rows;
+  processes = ps;
+  some = some;
+  few = few;
+  first = subst (AreFirst ps) (sym is) (new_first ps first are);
+  placed = placed;
+  once = once;
+  settled = λ n stamp start low was there. absurd (none_settled threads later n stamp (subst (λ (o : Opening). WasSettled o n stamp) begins was));
+}
 
 pub is_housing : (cells : GridOf Suspended) → IsTable cells → 0 < length cells.first
 is_housing cells table = (let same = table.first.0 in let some = table.some in omega (arith, same, some))
 
 -- a machine that has come to an open sync is ready to be parked once its nacks are bound and its offers drafted
-pub ready : (first : List Suspended) (p q d : PassOf Suspended) (r : Row) (m : Suspended) → IsNow first p r m → m.machine.value.phase ≡ Open (offers_in m.machine.value.phase) (nacks_in m.machine.value.phase)
+pub ready : (first : List (Option Suspended)) (p q d : PassOf Suspended) (r : Row) (m : Suspended) → IsNow first p r m → m.machine.value.phase ≡ Open (offers_in m.machine.value.phase) (nacks_in m.machine.value.phase)
     → ((n : NackName) (b : Binding) → Has p.seen.bound (n, b) → bound_row n b ≢ r) → OnlyBinds p q → AreBound r (nacks_in m.machine.value.phase) (length (nacks_in m.machine.value.phase)) p.seen q.seen
     → Redrafts (λ x k. x ≡ r) q.seen d.seen → d.results ≡ q.results → IsDraft d.seen r (offers_in m.machine.value.phase) → IsReady doings first d.results d.seen r m
 ready first p q d r m now open_now free only are redrafts results drafted = record {
@@ -161,16 +194,18 @@ ready first p q d r m now open_now free only are redrafts results drafted = reco
 
 -- NACKS ARE NEW. A machine that stands for the row's thread comes there to an event with such nacks of its scopes.
 module _ (cells : GridOf Suspended) (table : IsTable cells) (t : ℕ) where
-  offered : (results : List Chosen) (m : Suspended) (os : List Offer) (ns : List ℕ) → StandsFor cells.first m t results os ns → ProcessOffers table.processes t results os ns
-  offered results m os ns stands = offers_as table.processes cells.first t results os ns table.first (m, stands)
+  offered : (results : List Chosen) (m : Suspended) (os : List Offer) (ns : List ℕ) → StandsFor cells.first m t results os ns → ProcessOffers table.processes t m.machine.value.results os ns
+  offered results m os ns stands = offers_as table.processes cells.first t m results os ns table.first stands
 
   pub nacks_rise : (results : List Chosen) (m : Suspended) (os : List Offer) (ns : List ℕ) → StandsFor cells.first m t results os ns → Rises 0 64 ns
   nacks_rise results m os ns stands =
       let o = offered results m os ns stands in
-      subst (Rises 0 64) o.scopes (after_rises o.offered.process.body (length o.offered.process.variables) t results o.event o.offered.said o.offered.offers)
+      subst (Rises 0 64) o.scopes (after_rises o.offered.process.body (length o.offered.process.variables) t m.machine.value.results o.event o.offered.said o.offered.offers)
 
-  has_scope : (earlier results : List Chosen) (m : Suspended) (os : List Offer) (ns : List ℕ) (g scope k : ℕ) → StandsFor cells.first m t results os ns → results ≡ take g earlier → g ≤ length earlier → slice_get ns scope ≡ Some k → HasScopeAt table.processes t earlier k g
-  has_scope earlier results m os ns g scope k stands begins within e =
+  -- of a thread whose first so many results are the machine's, that sync has the scope
+  pub has_scope : (whole results : List Chosen) (m : Suspended) (os : List Offer) (ns : List ℕ) (g scope k : ℕ) → StandsFor cells.first m t results os ns → m.machine.value.results ≡ take g whole → g ≤ length whole → slice_get ns scope ≡ Some k
+      → HasScopeAt table.processes t whole k g
+  has_scope whole results m os ns g scope k stands begins within e =
       let o = offered results m os ns stands in
       let at : slice_get (scope_nacks o.event) scope ≡ Some k = ap (λ (l : List ℕ). slice_get l scope) o.scopes ∙ e in
       record {
@@ -180,45 +215,90 @@ module _ (cells : GridOf Suspended) (table : IsTable cells) (t : ℕ) where
         scope = (scope, slice_get_within (scope_nacks o.event) scope k at, get_or_from_slice_get (scope_nacks o.event) scope k k at);
       }
 
-  -- so no earlier row has one of them
-  pub none_earlier : (all : List (ℕ × List Chosen)) (earlier : List Chosen) (m : Suspended) (os : List Offer) (ns : List ℕ) (scope k : ℕ) (b : Binding) → StandsFor cells.first m t earlier os ns → slice_get ns scope ≡ Some k
-      → (earlier ≡ []) ⊎ Has all (t, earlier) → b.sync < length earlier → IsEarlier doings cells.first all (record { thread = t; k = k }) b → ⊥
-  none_earlier all earlier m os ns scope k b stands e seen below before =
-      let one : b.sync ≡ length earlier =
-      one-sync table.processes t earlier k b.sync (length earlier)
-      (has_scope earlier before.results before.value before.offers before.nacks b.sync b.scope k before.standing (before.begins earlier has (omega (arith, below))) (omega (arith, below)) before.scope)
-      (has_scope earlier earlier m os ns (length earlier) scope k stands (sym (take-length earlier)) (omega arith) e) in
-      omega (arith, one, below)
-    where
-      has : Has all (t, earlier)
-      has = ⊎_elim (λ none. absurd (let no : length earlier ≡ 0 = ap (λ (l : List Chosen). length l) none in omega (arith, no, below))) (λ h. h) seen
+  -- THE MACHINE that stands for the thread at an event with this nack: the nack is of no earlier sync
+  module _ (earlier : List Chosen) (m : Suspended) (os : List Offer) (ns : List ℕ) (scope k : ℕ) (stands : StandsFor cells.first m t earlier os ns) (e : slice_get ns scope ≡ Some k) where
+    abbrev whole : List Chosen
+    whole = m.machine.value.results
+
+    abbrev from : List Chosen
+    from = stands.0.start.machine.value.results
+
+    size : length whole ≡ length from + length earlier
+    size = ap (λ (l : List Chosen). length l) stands.0.given ∙ length-append from earlier
+
+    no_other : (g : ℕ) → HasScopeAt table.processes t whole k g → g < length whole → ⊥
+    no_other g there below =
+        let one : g ≡ length whole = one-sync table.processes t whole k g (length whole) there (has_scope whole earlier m os ns (length whole) scope k stands (sym (take-length whole)) (omega arith) e) in
+        omega (arith, one, below)
+
+    -- so no earlier row has it
+    pub none_earlier : (all : List (ℕ × List Chosen)) (b : Binding) → (earlier ≡ []) ⊎ Has all (t, earlier) → b.sync < length earlier → IsEarlier doings cells.first all (record { thread = t; k = k }) b → ⊥
+    none_earlier all b seen below before =
+        let is = before.standing.0 in
+        let g = length from + b.sync in
+        let has : Has all (t, earlier) = ⊎_elim (λ none. absurd (let no : length earlier ≡ 0 = ap (λ (l : List Chosen). length l) none in omega (arith, no, below))) (λ h. h) seen in
+        let start : is.start ≡ stands.0.start = same_Some is.start stands.0.start (same_Some (Some is.start) (Some stands.0.start) (sym is.is_first ∙ stands.0.is_first)) in
+        let begins : before.value.machine.value.results ≡ take g whole =
+        is.given ∙ (λ i. (start i).machine.value.results ++ before.begins earlier has (omega (arith, below)) i) ∙ sym (take-append-add from earlier b.sync) ∙ ap (λ (l : List Chosen). take g l) (sym stands.0.given) in
+        no_other g (has_scope whole before.results before.value before.offers before.nacks g b.scope k before.standing begins (omega (arith, below, size)) before.scope) (omega (arith, below, size))
+
+    -- nor was it settled before the table
+    pub never_settled : (stamp : ℕ) → WasSettled (opening_at cells) (record { thread = t; k = k }) stamp → ⊥
+    never_settled stamp was =
+        let below = (rises_below 0 64 ns scope k (nacks_rise earlier m os ns stands) e).1 in
+        let old = table.settled (record { thread = t; k = k }) stamp stands.0.start below was stands.0.is_first in
+        let there = old.2 in
+        let low = old.1 in
+        let begins : take old.0 from ≡ take old.0 whole = sym (take-append-le old.0 from earlier (omega (arith, low))) ∙ ap (λ (l : List Chosen). take old.0 l) (sym stands.0.given) in
+        no_other old.0
+        (record {
+          within = omega (arith, low, size);
+          event = there.event;
+          offered = subst (λ (rs : List Chosen). IsOffering table.processes t rs there.event) begins there.offered;
+          scope = there.scope;
+        })
+        (omega (arith, low, size))
 
 -- so a nack that the row needs is not bound before
 pub binds : (cells : GridOf Suspended) (p : PassOf Suspended) (r : Row) (m : Suspended) (scope k : ℕ) (s t : Seen) (answer : Bool)
     → IsTable cells → IsNow cells.first p r m → (open_now : m.machine.value.phase ≡ Open (offers_in m.machine.value.phase) (nacks_in m.machine.value.phase)) → slice_get (nacks_in m.machine.value.phase) scope ≡ Some k
     → ((n : NackName) (b : Binding) → Has p.seen.bound (n, b) → bound_row n b ≢ r) → AreBound r (nacks_in m.machine.value.phase) scope p.seen s
-    → ((n : NackName) (a b : Binding) → Has t.bound (n, a) → Has t.bound (n, b) → a ≡ b)
+    → ((n : NackName) (a b : Binding) → Has t.bound (n, a) → Has t.bound (n, b) → a ≡ b) → AreSettled (opening_at cells) t
     → Bound s t k r scope answer → (IsFalse answer → BoundBefore doings cells.first p.results t k r)
     → t ≡ see_bound (nack_of_row r k) (record { sync = r.sync; scope = scope }) s
-binds cells p r m scope k s t true table now open_now e free before one bound earlier = bound.0
-binds cells p r m scope k s t false table now open_now e free before one bound earlier =
-    let b = bound.0 in
-    let other = earlier refl in
-    let same : b ≡ other.0 = one (nack_of_row r k) b other.0 (subst (λ (z : Seen). Has z.bound (nack_of_row r k, b)) (sym bound.1) (inl refl)) other.1 in
-    let at : b.sync ≡ other.0.sync = ap (λ (c : Binding). c.sync) same in
-    absurd (⊎_elim
-    (λ (here : b.sync ≡ r.sync). twice b here (before.only (nack_of_row r k) b (bound.3 here)))
-    (λ (below : b.sync < r.sync).
-    none_earlier cells table r.thread p.results now.earlier m (offers_in m.machine.value.phase) (nacks_in m.machine.value.phase) scope k other.0 (now.machine, open_now) e now.seen
-    (let size = now.count in omega (arith, at, below, size)) (other.2 (omega (arith, at, below))))
-    (Rattle.std.proofs.Math.Nat.eq-or-lt_of_le bound.2))
+binds cells p r m scope k s t true table now open_now e free before one settled bound earlier = bound.0
+binds cells p r m scope k s t false table now open_now e free before one settled bound earlier = absurd (⊎_elim
+    (λ old. ⊎_elim (λ other. twice_bound old other) (λ carried. never carried.0 carried.1) (earlier refl))
+    (λ carried. never carried.0 (subst (λ (z : Seen). Has z.carried (nack_of_row r k, carried.0)) (sym carried.1) (inl refl)))
+    bound)
   where
+    stands : StandsFor cells.first m r.thread now.earlier (offers_in m.machine.value.phase) (nacks_in m.machine.value.phase)
+    stands = (now.machine, open_now)
+
+    -- it is not carried
+    never : (stamp : ℕ) → Has t.carried (nack_of_row r k, stamp) → ⊥
+    never stamp has = never_settled cells table r.thread now.earlier m (offers_in m.machine.value.phase) (nacks_in m.machine.value.phase) scope k stands e stamp (settled (nack_of_row r k) stamp has)
+
     -- it is no other scope's
     twice : (b : Binding) → b.sync ≡ r.sync → Has p.seen.bound (nack_of_row r k, b) ⊎ ((q : ℕ) × (n : ℕ) × (slice_get (nacks_in m.machine.value.phase) q ≡ Some n) × (q < scope) × (nack_of_row r k ≡ nack_of_row r n) × (b ≡ binding_of r q)) → ⊥
     twice b here (inl old) = free (nack_of_row r k) b old (λ i. record { thread = r.thread; sync = here i })
     twice b here (inr new) =
         let number : k ≡ new.1 = ap (λ (x : NackName). x.k) new.4 in
-        let rise = nacks_rise cells table r.thread now.earlier m (offers_in m.machine.value.phase) (nacks_in m.machine.value.phase) (now.machine, open_now) in
+        let rise = nacks_rise cells table r.thread now.earlier m (offers_in m.machine.value.phase) (nacks_in m.machine.value.phase) stands in
         let place : scope ≡ new.0 = rises_once 0 64 (nacks_in m.machine.value.phase) scope new.0 k rise e (new.2 ∙ ap Some (sym number)) in
         let below = new.3 in
         omega (arith, place, below)
+
+    -- it is bound to an earlier row, or to this one already
+    twice_bound : ((b : Binding) × (t ≡ see_bound (nack_of_row r k) b s) × (b.sync ≤ r.sync) × (b.sync ≡ r.sync → Has s.bound (nack_of_row r k, b)))
+        → ((b : Binding) × Has t.bound (nack_of_row r k, b) × ((b.sync < r.sync) → IsEarlier doings cells.first p.results (nack_of_row r k) b)) → ⊥
+    twice_bound bound other =
+        let b = bound.0 in
+        let same : b ≡ other.0 = one (nack_of_row r k) b other.0 (subst (λ (z : Seen). Has z.bound (nack_of_row r k, b)) (sym bound.1) (inl refl)) other.1 in
+        let at : b.sync ≡ other.0.sync = ap (λ (c : Binding). c.sync) same in
+        ⊎_elim
+        (λ (here : b.sync ≡ r.sync). twice b here (before.only (nack_of_row r k) b (bound.3 here)))
+        (λ (below : b.sync < r.sync).
+        none_earlier cells table r.thread now.earlier m (offers_in m.machine.value.phase) (nacks_in m.machine.value.phase) scope k stands e p.results other.0 now.seen
+        (let size = now.count in omega (arith, at, below, size)) (other.2 (omega (arith, at, below))))
+        (Rattle.std.proofs.Math.Nat.eq-or-lt_of_le bound.2)

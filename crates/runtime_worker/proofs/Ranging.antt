@@ -1,5 +1,5 @@
 -- What a machine offers has room in the words of a row.
-use Rattle.std.proofs.Common.{◌≡◌, ℕ, zero, suc, ◌+◌, ◌<◌, ◌≤◌, ◌^◌, List, [], ◌∷◌, length, lit<, slice_get, Some, ap, sym, subst, ◌∙◌, ⊎_elim, arith}
+use Rattle.std.proofs.Common.{◌≡◌, ℕ, zero, suc, ◌+◌, ◌<◌, ◌≤◌, ◌^◌, List, [], ◌∷◌, length, lit<, slice_get, Option, Some, ap, sym, subst, ⊎_elim, arith}
 use Rattle.std.proofs.Math.Pow.{pow-lt}
 use Rattle.std.proofs.lemmas.List.{length-append}
 use Rattle.std.proofs.lemmas.List.Elements.{All-nil, All-cons, All-append, All-head, All-map, All-tail}
@@ -19,16 +19,16 @@ use Rattle.protocol_values.specs.declared.Message.TheVariants.{Empty, One, Two, 
 use Rattle.protocol_values.specs.declared.Offer.{Offer}
 use Rattle.protocol_values.specs.declared.Row.{Row}
 use Rattle.script_tree.specs.Limits.{BlockIsIn}
-use Rattle.script_tree.specs.Processes.{known_in}
+use Rattle.script_tree.specs.Processes.{Proc, known_in}
 use Rattle.script_tree.specs.Trees.{block_of}
 use Rattle.thread.specs.After.{Chosen}
-use Rattle.thread.specs.Ranges.{AtomIsIn, BaseIsIn, MessageIsIn, OffersAreIn, ResultsAreIn}
+use Rattle.thread.specs.Ranges.{AtomIsIn, BaseIsIn, MessageIsIn, OffersAreIn}
 use Rattle.thread.proofs.Ranging.{machine_in_range}
 use Rattle.cell.specs.Calls.{GridOf}
 use Rattle.cell_table.specs.declared.view.Seen.{Seen}
 use Rattle.runtime_worker.specs.declared.resident.Suspended.{Suspended}
-use Rattle.runtime_worker.specs.Machines.{IsMachineOf, IsTable, NamesInRange, StandsFor}
-use Rattle.runtime_worker.proofs.Processes.{offers_as}
+use Rattle.runtime_worker.specs.Machines.{AreFirst, IsTable, NamesInRange, StandsFor}
+use Rattle.runtime_worker.proofs.Processes.{offers_as, process_of}
 use Rattle.runtime_worker.proofs.Machines.{offers_of_open}
 use Rattle.cell_table.specs.Sight.{Gets, HaveOffer, IsResult, SeesOffer}
 
@@ -104,26 +104,27 @@ at_place P [] n x h e = absurd (none-some x e)
 at_place P (y ∷ xs) zero x h e = subst P (same_Some y x e) (All-head P y xs h)
 at_place P (y ∷ xs) (suc n) x h e = at_place P xs n x (All-tail P y xs h) e
 
-below_64 : (cells : GridOf Suspended) (t : ℕ) (m : Suspended) (results : List Chosen) → IsTable cells → IsMachineOf cells.first m t results → m.machine.value.thread < 64
-below_64 cells t m results table is =
-    let starts = (table.first.1 t is.start is.is_first).2 in
-    let number : m.machine.value.thread ≡ t = is.process.thread ∙ starts.thread in
-    let within = slice_get_within cells.first t is.start is.is_first in
-    let same = table.first.0 in
-    let few = table.few in
-    omega (arith, number, within, same, few)
+pub bases_in_range : (ps : List Proc) (first : List (Option Suspended)) (t : ℕ) (m : Suspended) (results : List Chosen) (os : List Offer) (ns : List ℕ) → AreFirst ps first → length ps ≤ 64 → StandsFor first m t results os ns → OffersAreIn os
+bases_in_range ps first t m results os ns are few stands =
+    let is = stands.0 in
+    let w = process_of ps first t m results are is in
+    let runs = w.2 in
+    let text : BlockIsIn (known_in w.0) (block_of m.machine.value.body) = subst (BlockIsIn (known_in w.0)) (sym runs.body) runs.limits.names in
+    let place = runs.place in
+    let low : m.machine.value.thread < 64 =
+    (let number = runs.thread in
+    let within = slice_get_within ps t w.0 w.1 in
+    omega (arith, number, within, few)) in
+    subst OffersAreIn (offers_of_open m.machine.value.phase os ns stands.1)
+    (machine_in_range m.machine.value (known_in w.0) is.after low (omega (arith, place)) text is.in_range)
+
+pub base_in_range : (ps : List Proc) (first : List (Option Suspended)) (t : ℕ) (m : Suspended) (results : List Chosen) (os : List Offer) (ns : List ℕ) → AreFirst ps first → length ps ≤ 64 → StandsFor first m t results os ns
+    → (n : ℕ) (o : Offer) → slice_get os n ≡ Some o → BaseIsIn o.base
+base_in_range ps first t m results os ns are few stands n o e = at_place (λ o. BaseIsIn o.base) os n o (bases_in_range ps first t m results os ns are few stands) e
 
 pub names_in_range : (cells : GridOf Suspended) (t : ℕ) (m : Suspended) (results : List Chosen) (os : List Offer) (ns : List ℕ) → IsTable cells → StandsFor cells.first m t results os ns → length ns ≤ 4 → NamesInRange os
 names_in_range cells t m results os ns table stands few n o e =
-    let is = stands.0 in
-    let p = offers_as table.processes cells.first t results os ns table.first (m, stands) in
+    let p = offers_as table.processes cells.first t m results os ns table.first stands in
     let size : scope_count p.event ≡ length ns = ap (λ (l : List ℕ). length l) p.scopes in
-    let w = table.first.1 t is.start is.is_first in
-    let body : block_of m.machine.value.body ≡ w.0.body = ap block_of is.process.body ∙ w.2.body in
-    let text : BlockIsIn (known_in w.0) (block_of m.machine.value.body) = subst (BlockIsIn (known_in w.0)) (sym body) w.2.limits.names in
-    let place = w.2.place in
-    let named : OffersAreIn os =
-    subst OffersAreIn (offers_of_open m.machine.value.phase os ns stands.1)
-    (machine_in_range m.machine.value (known_in w.0) is.after (below_64 cells t m results table is) (omega (arith, place)) text (subst ResultsAreIn (sym is.given) is.in_range)) in
     let masks : All (λ o. o.scopes < 16) os = subst (λ (l : List Offer). All (λ o. o.scopes < 16) l) p.are (masks_in_range p.event (omega (arith, size, few))) in
-    (at_place (λ o. BaseIsIn o.base) os n o named e, at_place (λ o. o.scopes < 16) os n o masks e)
+    (base_in_range table.processes cells.first t m results os ns table.first table.few stands n o e, at_place (λ o. o.scopes < 16) os n o masks e)

@@ -1,5 +1,5 @@
 -- Machines at rest.
-use Rattle.std.proofs.Common.{◌≡◌, ◌⊎◌, ℕ, List, [], ◌∷◌, ◌++◌, sym, subst, inl, inr, ⊎_elim}
+use Rattle.std.proofs.Common.{Option, ◌≡◌, ◌⊎◌, ℕ, List, [], ◌∷◌, ◌++◌, sym, subst, inl, inr, ⊎_elim}
 use Rattle.std.proofs.lemmas.List.Elements.{All-append}
 use Rattle.thread.specs.After.{Chosen}
 use Rattle.thread.specs.Machines.{Broken, HasStopped, Open, Over, Phase, Ready, Stuck, Tells}
@@ -10,7 +10,7 @@ use Rattle.cell_table.specs.Sight.{Has}
 use Rattle.cell.specs.Calls.{PassOf}
 use Rattle.runtime_worker.specs.declared.resident.Rest.{Rest}
 use Rattle.runtime_worker.specs.declared.resident.Suspended.{Suspended}
-use Rattle.runtime_worker.specs.Machines.{AreAtRest, IsAtRest, IsMachineOf, IsNow}
+use Rattle.runtime_worker.specs.Machines.{AreAtRest, IsAtRest, IsNow}
 use Rattle.cell.proofs.Lists.{all_one}
 
 -- a turn tells of a machine that has stopped
@@ -32,26 +32,26 @@ tells_stopped t Broken h = absurd (broken t h)
     broken (turn.Faulted fault) h = h
 
 -- the machine that a worker has comes to rest
-pub rest_now : (first : List Suspended) (p : PassOf Suspended) (place : Row) (m : Suspended) (told : List (ℕ × List Chosen)) → IsNow first p place m → HasStopped m.machine.value.phase → told ≡ p.results →
+pub rest_now : (first : List (Option Suspended)) (p : PassOf Suspended) (place : Row) (m : Suspended) (told : List (ℕ × List Chosen)) → IsNow first p place m → HasStopped m.machine.value.phase → told ≡ p.results →
     IsAtRest first told (record { thread = place.thread; suspended = m })
-rest_now first p place m told now stopped same =
-    let given = now.machine.given in
-    record {
-      machine = subst (IsMachineOf first m place.thread) (sym given) now.machine;
-      stopped = stopped;
-      seen = subst (λ (z : List Chosen × List (ℕ × List Chosen)). (z.0 ≡ []) ⊎ Has z.1 (place.thread, z.0)) (λ i. (sym given i, sym same i)) now.seen;
-    }
+rest_now first p place m told now stopped same = record {
+  results = now.earlier;
+  machine = now.machine;
+  stopped = stopped;
+  seen = subst (λ (l : List (ℕ × List Chosen)). (now.earlier ≡ []) ⊎ Has l (place.thread, now.earlier)) (sym same) now.seen;
+}
 
-rest_told : (first : List Suspended) (old new : List (ℕ × List Chosen)) (r : Rest) → ((t : ℕ) (results : List Chosen) → Has old (t, results) → Has new (t, results)) → IsAtRest first old r → IsAtRest first new r
-rest_told first old new r more h = record { machine = h.machine; stopped = h.stopped; seen = ⊎_elim (λ e. inl e) (λ has. inr (more r.thread r.suspended.machine.value.results has)) h.seen }
+rest_told : (first : List (Option Suspended)) (old new : List (ℕ × List Chosen)) (r : Rest) → ((t : ℕ) (results : List Chosen) → Has old (t, results) → Has new (t, results)) → IsAtRest first old r → IsAtRest first new r
+rest_told first old new r more h =
+    record { results = h.results; machine = h.machine; stopped = h.stopped; seen = ⊎_elim (λ e. inl e) (λ has. inr (more r.thread h.results has)) h.seen }
 
 -- whoever has more results has those of the machines at rest
-pub rests_told : (first : List Suspended) (old new : List (ℕ × List Chosen)) (rests : List Rest) → ((t : ℕ) (results : List Chosen) → Has old (t, results) → Has new (t, results)) → AreAtRest first old rests → AreAtRest first new rests
+pub rests_told : (first : List (Option Suspended)) (old new : List (ℕ × List Chosen)) (rests : List Rest) → ((t : ℕ) (results : List Chosen) → Has old (t, results) → Has new (t, results)) → AreAtRest first old rests → AreAtRest first new rests
 rests_told first old new rests more all = λ k d lt. rest_told first old new _ more (all k d lt)
 
-pub rests_same : (first : List Suspended) (old new : List (ℕ × List Chosen)) (rests : List Rest) → new ≡ old → AreAtRest first old rests → AreAtRest first new rests
+pub rests_same : (first : List (Option Suspended)) (old new : List (ℕ × List Chosen)) (rests : List Rest) → new ≡ old → AreAtRest first old rests → AreAtRest first new rests
 rests_same first old new rests same all = subst (λ (l : List (ℕ × List Chosen)). AreAtRest first l rests) (sym same) all
 
 -- one more is at rest
-pub rests_more : (first : List Suspended) (told : List (ℕ × List Chosen)) (rests : List Rest) (r : Rest) → AreAtRest first told rests → IsAtRest first told r → AreAtRest first told (rests ++ r ∷ [])
+pub rests_more : (first : List (Option Suspended)) (told : List (ℕ × List Chosen)) (rests : List Rest) (r : Rest) → AreAtRest first told rests → IsAtRest first told r → AreAtRest first told (rests ++ r ∷ [])
 rests_more first told rests r all one = All-append (IsAtRest first told) rests (r ∷ []) all (all_one (IsAtRest first told) r one)

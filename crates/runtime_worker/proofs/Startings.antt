@@ -1,5 +1,5 @@
 -- What a worker still knows of rows once it has started a thread, or found it started.
-use Rattle.std.proofs.Common.{◌≡◌, ◌≢◌, ◌⊎◌, ◌+◌, ◌<◌, ℕ, Bool, true, false, Contains, List, ap, arith, inl, inr, length, refl, subst, sym, take, ⊎_elim}
+use Rattle.std.proofs.Common.{◌≡◌, ◌≢◌, ◌⊎◌, ◌+◌, ◌<◌, ℕ, Bool, true, false, Contains, List, ap, arith, inl, inr, refl, subst, sym, ⊎_elim}
 use Rattle.std.specs.Prelude.{drop}
 use Rattle.protocol_values.specs.declared.Binding.{Binding}
 use Rattle.protocol_values.specs.declared.NackName.{NackName}
@@ -12,7 +12,7 @@ use Rattle.cell.specs.Attempts.{Finished, Started}
 use Rattle.cell.specs.Calls.{GridOf}
 use Rattle.cell_table.specs.declared.view.Seen.{Seen}
 use Rattle.cell_table.specs.Sight.{Has, IsBefore, IsStand, LearnsOf, SawEnded}
-use Rattle.runtime_worker.specs.Machines.{IsMachineOf, IsTable, IsUntouched, KeepsRows, LeavesOthers, SpawnedSince, SpawnsFor, spawned_by}
+use Rattle.runtime_worker.specs.Machines.{IsMachineOf, IsTable, IsUntouched, KeepsRows, LeavesOthers, SpawnedSince, SpawnsFor}
 use Rattle.runtime_worker.specs.declared.resident.Suspended.{Suspended}
 use Rattle.runtime_worker.proofs.Processes.{spawner_there}
 
@@ -128,10 +128,4 @@ module _ (cells : GridOf Suspended) (table : IsTable cells) (place : Row) (withi
 
   -- and which it spawns there and not before
   pub starts_now : (had : ℕ) → SpawnedSince m place.thread had → Contains (drop had m.machine.value.spawned) p → SpawnsFor cells.first m place.thread earlier p
-  starts_now had since behind = record {
-    machine = is;
-    stopped = stopped;
-    spawned = spawned;
-    not_before = λ n below before. since p n behind (let size = ap (λ (l : List Chosen). length l) is.given in omega (arith, below, size))
-        (subst (λ (rs : List Chosen). Contains (spawned_by m place.thread (take n rs)) p) (sym is.given) before);
-  }
+  starts_now had since behind = record { machine = is; stopped = stopped; spawned = spawned; not_before = λ n below before. since p n behind below before }

@@ -1,7 +1,7 @@
-//! One turn of a thread, by a worker. The functions stand in the order of a run: a thread's first turn begins it and
-//! enters its first row, which is searched for behind the first turns of all; a later turn advances a row that is
-//! ready, resumes its thread, and enters and searches for the next row. Where a turn starts other threads, their first
-//! turns follow before anything is searched for.
+//! One turn of a thread, by a worker. The functions stand in the order of a run: a thread's first turn begins it, if its
+//! machine has the whole process before it, and enters its first row, which is searched for behind the first turns of
+//! all; a later turn advances a row that is ready, resumes its thread, and enters and searches for the next row. Where a
+//! turn starts other threads, their first turns follow before anything is searched for.
 
 ghost use Rattle.std.specs.Prelude.{◌≡◌, ◌≢◌, ◌≤◌, [], ℕ, Contains, IfOk, IfSome, None, OnOk, length};
 ghost use Rattle.protocol_values.specs.declared.Binding.{Binding};
@@ -104,7 +104,8 @@ impl<R: Wait, G: Gate + StepGate> Crew<'_, R, G> {
         unreachable!()
     }
 
-    /// Runs the thread to its first stop, and enters its first row. The threads that it starts join the list.
+    /// Runs the thread to its first stop, and enters its first row. The threads that it starts join the list. A machine
+    /// that stands at an open sync has stopped already: it has spawned nothing since, and is not begun again.
     fn begin(
         &self,
         pass: &mut Pass<Suspended>,
@@ -123,8 +124,13 @@ impl<R: Wait, G: Gate + StepGate> Crew<'_, R, G> {
         ensures threads { OnOk result (AreToBegin self.now.cells.now.threads pass.new.seen threads.new.items) }
     {
         let mut suspended = self.cells.fetch(pass, row);
-        let turn = suspended.machine.begin()?;
-        self.enter(pass, row, suspended, turn, 0, rests, threads)
+        let had = suspended.machine.spawned().len();
+        let turn = if suspended.machine.is_offering() {
+            suspended.machine.turn()
+        } else {
+            suspended.machine.begin()?
+        };
+        self.enter(pass, row, suspended, turn, had, rests, threads)
     }
 
     /// What a machine comes to behind a turn: it starts the threads that it spawned since it had spawned so many, which

@@ -37,7 +37,7 @@ loop-k-preserved c =
     ap (slice_get (nacks_in phase)) before.scope ∙ at_scope (nacks_in phase) items i are c.loop-k-test.true in
     let now : c.bind.new.pass.seen ≡ see_bound (nack_of_row row k) (record { sync = row.sync; scope = c.loop-k.scope }) c.loop-k.pass.seen =
     binds c.args.cells.now c.args.pass.now row c.args.suspended.now c.loop-k.scope k c.loop-k.pass.seen c.bind.new.pass.seen c.bind.result c.requires.here.2 c.requires.stands (open_is phase c.requires.open) e c.requires.free before.bound
-    c.bind.ensures.here.4.one_bound c.bind.ensures.bound
+    c.bind.ensures.here.4.one_bound c.bind.ensures.here.8 c.bind.ensures.bound
     (λ no. subst (λ (told : List (ℕ × List Chosen)). BoundBefore doings c.args.cells.now.first told c.bind.new.pass.seen k row) before.only.results (c.bind.ensures.earlier no (is_housing c.args.cells.now c.requires.here.2))) in
     record {
       here = c.bind.ensures.here;
