@@ -1,36 +1,36 @@
 -- What machines do for their threads, their processes do: so the ledger of their table is one of the processes.
-use Rattle.std.proofs.Common.{◌≡◌, ◌<◌, ◌≤◌, ℕ, false, List, [], take, sym, refl, subst, arith}
+use Rattle.std.proofs.Common.{◌≡◌, ◌<◌, ◌≤◌, ℕ, false, List, [], Option, take, ◌∙◌, inr, ⊎_elim, sym, refl, subst, arith}
 use Rattle.std.proofs.Math.Seq.{take-length}
 use Rattle.script_tree.specs.Processes.{Proc}
 use Rattle.script_tree.specs.Spawning.{AreSpawnedOnce}
 use Rattle.script_tree.specs.Trees.{block_of}
 use Rattle.thread.specs.After.{Chosen, after}
 use Rattle.thread.specs.Machines.{Broken, IsAfterAt, Open, Over, Phase, Ready, Stuck, Thread}
-use Rattle.protocol.specs.Acting.{ActsAs, AtOnce, IsStarted, StartedBy, acts_in}
+use Rattle.protocol.specs.Acting.{ActsAs, IsStarted, StartedBefore, StartedBy, acts_in, before_of}
 use Rattle.protocol.specs.Ledgers.{IsLawful, Ledger, ledger_of}
+use Rattle.protocol.specs.Openings.{HadEnded, HadStarted, start_opening}
 use Rattle.protocol.specs.Worlds.{start_world, waits}
-use Rattle.protocol.proofs.Acting.{ends-first, starts-first}
-use Rattle.protocol.proofs.LedgerLemmas.{kept_start, lawful_ledger}
+use Rattle.protocol.proofs.Acting.{ends-first, first_started, first_unended, starts-first}
+use Rattle.protocol.proofs.LedgerLemmas.{kept_start, lawful_ledger, start_greatest}
 use Rattle.protocol.proofs.Standing.{stands-ledger, stands-start}
 use Rattle.journal_replay.specs.Starting.{HasEnded, HasSpawned, IsOver}
-use Rattle.journal_order.specs.Ledgers.{IsFirst, IsLedgerOf, ProcessOffers, ProcessSpawns, acts_of}
+use Rattle.journal_order.specs.Ledgers.{IsFirst, IsLedgerOf, nothing_before, ProcessOffers, ProcessSpawns, acts_of}
 use Rattle.journal_order.proofs.Spawners.{no_spawner}
-use Rattle.cell_table.specs.Rule.{StartsFirst}
-use Rattle.runtime_worker.proofs.Processes.{after_of, first_process, offers_as, spawned_fewer, spawned_there, spawner_there}
+use Rattle.runtime_worker.proofs.Processes.{after_of, new_first, new_given, offers_as, process_of, spawned_fewer, spawned_there, spawner_there}
 use Rattle.runtime_worker.specs.declared.resident.Suspended.{Suspended}
-use Rattle.runtime_worker.specs.Machines.{AreFirst, EndsFor, IsAtEnd, SpawnsFor, doings}
+use Rattle.runtime_worker.specs.Machines.{AreFirst, AreNew, EndsFor, IsAtEnd, SpawnsFor, doings}
 use Rattle.runtime.specs.Machines.{MarksSpawned}
 
-pub spawns_as : (ps : List Proc) (first : List Suspended) (s : ℕ) (results : List Chosen) (t : ℕ) → AreFirst ps first → AreSpawnedOnce ps → (m : Suspended) → SpawnsFor first m s results t → ProcessSpawns ps s results t
+pub spawns_as : (ps : List Proc) (first : List (Option Suspended)) (s : ℕ) (results : List Chosen) (t : ℕ) → AreFirst ps first → AreSpawnedOnce ps → (m : Suspended) → SpawnsFor first m s results t → ProcessSpawns ps s m.machine.value.results t
 spawns_as ps first s results t are once m h =
-    let p = first_process ps first s m results are h.machine in
+    let p = process_of ps first s m results are h.machine in
     let there = spawned_there ps first s results t are m h.machine h.stopped h.spawned in
     record {
       by = spawner_there ps first s results t are once m h.machine h.stopped h.spawned;
       at = record {
         within = omega arith;
-        there = subst (λ (rs : List Chosen). HasSpawned ps s rs t) (sym (take-length results)) there;
-        first = λ n below has. h.not_before n below (spawned_fewer ps s t m (take n results) p.0 p.1 p.2 p.3 has);
+        there = subst (λ (rs : List Chosen). HasSpawned ps s rs t) (sym (take-length m.machine.value.results)) there;
+        first = λ n below has. h.not_before n below (spawned_fewer ps s t m.machine.value (take n m.machine.value.results) p.0 p.1 p.2 has);
       };
     }
 
@@ -42,42 +42,59 @@ is_over m Over at_end is = subst IsOver (sym is) tt
 is_over m (Stuck fault) at_end is = subst IsOver (sym is) tt
 is_over m Broken at_end is = absurd at_end
 
-pub ends_as : (ps : List Proc) (first : List Suspended) (t : ℕ) (results : List Chosen) → AreFirst ps first → (m : Suspended) → EndsFor first m t results → HasEnded ps t results
+pub ends_as : (ps : List Proc) (first : List (Option Suspended)) (t : ℕ) (results : List Chosen) → AreFirst ps first → (m : Suspended) → EndsFor first m t results → HasEnded ps t m.machine.value.results
 ends_as ps first t results are m h =
-    let p = first_process ps first t m results are h.0 in
+    let p = process_of ps first t m results are h.0 in
     record {
       process = p.0;
       is_its = p.1;
-      over = subst IsOver (after_of p.0 m t results p.2 p.3 p.4 h.0.given) (is_over m.machine.value m.machine.value.phase h.1 h.0.after);
+      over = subst IsOver (after_of p.0 t m.machine.value p.2) (is_over m.machine.value m.machine.value.phase h.1 h.0.after);
     }
 
 -- no text spawns a process that does not wait
 pub is_first : (ps : List Proc) (later t : ℕ) → MarksSpawned ps later → t < 64 → waits later t ≡ false → IsFirst ps t
 is_first ps later t spawned low free = no_spawner t 0 ps (λ s p is. spawned t s p low free is)
 
--- so what machines do for their threads, processes do
-module _ (ps : List Proc) (first : List Suspended) (threads later : ℕ) (l : Ledger) (are : AreFirst ps first) (once : AreSpawnedOnce ps) (few : threads ≤ 64) (spawned : MarksSpawned ps later) where
-  started_so : {t stamp : ℕ} → IsStarted (StartsFirst threads later) (acts_in doings first).starts l t stamp → IsStarted (IsFirst ps) (acts_of ps).starts l t stamp
-  started_so (AtOnce {t} at_once) = AtOnce (is_first ps later t spawned (omega (arith, at_once.0, few)) at_once.1)
-  started_so (StartedBy {t} {stamp} s start running started results is does behind) = StartedBy s start running (started_so started) results is (spawns_as ps first s results t are once does.0 does.1) behind
+-- so what machines do for their threads that were new at first, processes do after the same results
+module _ (ps : List Proc) (first : List (Option Suspended)) (threads later : ℕ) (l : Ledger) (are : AreNew ps first) (once : AreSpawnedOnce ps) (few : threads ≤ 64) (spawned : MarksSpawned ps later) where
+  firsts : AreFirst ps first
+  firsts = new_first ps first are
 
-  pub ledger_of_processes : ActsAs (StartsFirst threads later) (acts_in doings first) l → IsLedgerOf ps l
+  started_so : {t stamp : ℕ} → IsStarted (HadStarted (start_opening threads later)) (acts_in doings first).starts l t stamp → IsStarted (nothing_before ps).started (acts_of ps).starts l t stamp
+  started_so (StartedBefore {t} {stamp} had) =
+      let so = first_started threads later t stamp had in
+      StartedBefore (is_first ps later t spawned (omega (arith, so.0, few)) so.1, so.2)
+  started_so (StartedBy {t} {stamp} s start running started results is does behind) =
+      StartedBy s start running (started_so started) results is
+      (subst (λ (rs : List Chosen). ProcessSpawns ps s rs t) (new_given ps first s does.0 results are does.1.machine) (spawns_as ps first s results t firsts once does.0 does.1))
+      behind
+
+  pub ledger_of_processes : ActsAs (before_of (start_opening threads later)) (acts_in doings first) l → IsLedgerOf ps l
   ledger_of_processes acts = record {
-    nothing_before = acts.nothing_before;
+    stamps = acts.stamps ∙ start_greatest threads later;
     offers = λ r n o h. let s = acts.offers r n o h in record {
       results = s.results;
       count = s.count;
       are = s.are;
       offers = s.offers;
       nacks = s.nacks;
-      standing = offers_as ps first r.thread s.results s.offers s.nacks are s.standing;
+      standing = subst (λ (rs : List Chosen). ProcessOffers ps r.thread rs s.offers s.nacks) (new_given ps first r.thread s.standing.0 s.results are s.standing.1.0)
+          (offers_as ps first r.thread s.standing.0 s.results s.offers s.nacks firsts s.standing.1);
       offered = s.offered;
       whole = s.whole;
       bound = s.bound;
       no_others = s.no_others;
     };
     starts = λ t start h. started_so (acts.starts t start h);
-    ends = λ t g h. let d = acts.ends t g h in record { results = d.results; count = d.count; are = d.are; does = ends_as ps first t d.results are d.does.0 d.does.1 };
+    ends = λ t g h. ⊎_elim
+        (λ (was : HadEnded (start_opening threads later) t × (g ≡ 0)). absurd (first_unended threads later t was.0))
+        (λ d. inr (record {
+          results = d.results;
+          count = d.count;
+          are = d.are;
+          does = subst (HasEnded ps t) (new_given ps first t d.does.0 d.results are d.does.1.0) (ends_as ps first t d.results firsts d.does.0 d.does.1);
+        }))
+        (acts.ends t g h);
   }
 
 -- the ledger of a world in which nothing was done is one of no processes
@@ -86,10 +103,10 @@ unfolding ledger_of start_world
 empty_ledger = (
   lawful_ledger (start_world 1 1 1 0).table (kept_start 1 1 1 0 (omega arith) (omega arith)).linked,
   record {
-    nothing_before = refl;
+    stamps = refl;
     offers = stands-ledger (ProcessOffers []) (start_world 1 1 1 0).table (stands-start (ProcessOffers []) 1 1 1 0);
-    starts = starts-first 1 1 1 0 (IsFirst []) (ProcessSpawns []) (λ t low free. refl);
-    ends = ends-first 1 1 1 0 (HasEnded []);
+    starts = starts-first 1 1 1 0 (nothing_before []).started (ProcessSpawns []) (λ t low free. (refl, refl));
+    ends = ends-first 1 1 1 0 (λ t. ⊥) (HasEnded []);
   },
   refl,
 )

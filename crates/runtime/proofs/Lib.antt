@@ -1,3 +1,5 @@
 pub mod Completed
 pub mod Ledgers
 mod Resting
+mod CatchingUp
+mod GoingOn

@@ -1,5 +1,5 @@
 -- What a run leaves of all machines.
-use Rattle.std.proofs.Common.{All, ◌≡◌, ◌≤◌, ◌⊎◌, ℕ, zero, suc, ◌<◌, List, [], ◌∷◌, ◌++◌, Contains, length, map, set, take, Option, Some, None, slice_get, refl, sym, ap, ◌∙◌, subst, inl, inr, arith, ⊎_elim}
+use Rattle.std.proofs.Common.{All, ◌≡◌, ℕ, zero, suc, ◌<◌, List, [], ◌∷◌, ◌++◌, Contains, length, map, set, take, Option, Some, None, slice_get, refl, sym, ap, ◌∙◌, subst, inl, inr, arith, ⊎_elim}
 use Rattle.std.proofs.lemmas.Bool.{cases_eq}
 use Rattle.std.proofs.lemmas.List.{length-map, length-set, map-append}
 use Rattle.std.proofs.lemmas.List.Elements.{Contains-append_cases, Contains-append_left, Contains-append_right}
@@ -8,7 +8,6 @@ use Rattle.std.specs.Option.{option_map}
 use Rattle.script_tree.specs.Processes.{Proc}
 use Rattle.thread.specs.After.{Chosen}
 use Rattle.thread.specs.Machines.{HasStopped, Thread}
-use Rattle.thread.specs.declared.machine.Turn.TheVariants as turn
 use Rattle.protocol.specs.Ledgers.{Ledger}
 use Rattle.protocol.specs.Standing.{AreResults}
 use Rattle.cell_table.specs.Closings.{HandedOut, HandsOut}
@@ -20,9 +19,9 @@ use Rattle.runtime_worker.specs.declared.resident.Suspended.{Suspended}
 use Rattle.runtime_worker.specs.declared.worker.Left.{Left}
 use Rattle.runtime_worker.specs.Workers.{IsLeftOf}
 use Rattle.runtime.specs.Workers.{AreParted}
-use Rattle.runtime_worker.specs.Machines.{AreFirst, IsAtRest, IsMachineOf, doings, spawned_by}
-use Rattle.runtime.specs.Machines.{AreLeft, AreOut, ComesFrom, machine_in}
-use Rattle.runtime_worker.proofs.Processes.{first_process, spawned_fewer}
+use Rattle.runtime_worker.specs.Machines.{AreNew, IsAtRest, IsMachineOf, doings}
+use Rattle.runtime.specs.Machines.{AreLeft, AreLeftBy, AreOut, ComesFrom, StandsOver, machine_in}
+use Rattle.runtime_worker.proofs.Processes.{new_first, new_given, process_of, spawned_fewer}
 use Rattle.cell.proofs.Lists.{all_at, all_is}
 
 contains_map : {A B : Type 0} (f : A → B) (xs : List A) (x : A) → Contains xs x → Contains (map f xs) (f x)
@@ -40,35 +39,26 @@ some_left (l ∷ left) (suc k) lt = some_left left k (omega (arith, lt))
 no_results : (l : Ledger) (t : ℕ) → AreResults l t []
 no_results l t = λ g result e. absurd (none-some result e)
 
-stands_of : (ps : List Proc) (first : List Suspended) (l : Ledger) (t : ℕ) (s : Suspended) (results : List Chosen) → AreFirst ps first → IsMachineOf first s t results → HasStopped s.machine.value.phase → AreResults l t results →
-    StandsIn ps l t s.machine.value
-stands_of ps first l t s results are is stopped told =
-    let p = first_process ps first t s results are is in
-    record {
-      stands = record { process = p.0; is_its = p.1; body = p.2; variables = p.3; thread = p.4; given = refl; stopped = stopped; after = is.after };
-      are = subst (AreResults l t) (sym is.given) told;
-      told = λ n u le has.
-          is.told n u (subst (λ (rs : List Chosen). n ≤ length rs) is.given le)
-          (subst (λ (rs : List Chosen). Contains (spawned_by s t (take n rs)) u) is.given
-          (spawned_fewer ps t u s (take n s.machine.value.results) p.0 p.1 p.2 p.3 has));
-    }
-
-stands_home : (ps : List Proc) (first : List Suspended) (l : Ledger) (t : ℕ) (s : Suspended) → AreFirst ps first → HandedOut doings first l t s → StandsIn ps l t s.machine.value
-stands_home ps first l t s are h =
+over_home : (first : List (Option Suspended)) (l : Ledger) (t : ℕ) (s : Suspended) → HandedOut doings first l t s → StandsOver first l t s.machine.value
+over_home first l t s h =
     let standing = h.offers.standing in
-    stands_of ps first l t s h.offers.results are standing.0 (subst HasStopped (sym standing.1) tt) h.offers.are
+    record { suspended = s; value = refl; results = h.offers.results; machine = standing.0; stopped = subst HasStopped (sym standing.1) tt; are = h.offers.are }
 
-stands_rest : (ps : List Proc) (first : List Suspended) (l : Ledger) (told : List (ℕ × List Chosen)) (r : Rest) → AreFirst ps first → ((t : ℕ) (results : List Chosen) → Has told (t, results) → AreResults l t results) → IsAtRest first told r →
-    StandsIn ps l r.thread r.suspended.machine.value
-stands_rest ps first l told r are results h =
-    stands_of ps first l r.thread r.suspended r.suspended.machine.value.results are h.machine h.stopped
-    (⊎_elim
-    (λ none. subst (AreResults l r.thread) (sym none) (no_results l r.thread))
-    (λ has. results r.thread r.suspended.machine.value.results has)
-    h.seen)
+over_rest : (first : List (Option Suspended)) (l : Ledger) (told : List (ℕ × List Chosen)) (r : Rest) → ((t : ℕ) (results : List Chosen) → Has told (t, results) → AreResults l t results) → IsAtRest first told r → StandsOver first l r.thread r.suspended.machine.value
+over_rest first l told r results h = record {
+  suspended = r.suspended;
+  value = refl;
+  results = h.results;
+  machine = h.machine;
+  stopped = h.stopped;
+  are = ⊎_elim
+      (λ none. subst (AreResults l r.thread) (sym none) (no_results l r.thread))
+      (λ has. results r.thread h.results has)
+      h.seen;
+}
 
 -- each machine at rest is so by the results of one of the passes
-abbrev pub RestWith : List Suspended → List (PassOf Suspended) → List Rest → Type 0
+abbrev pub RestWith : List (Option Suspended) → List (PassOf Suspended) → List Rest → Type 0
 RestWith first passes rests = (r : Rest) → Contains rests r → (p : PassOf Suspended) × Contains passes p × IsAtRest first p.results r
 
 pub rest_with : (cells : GridOf Suspended) (left : List Left) (passes : List (PassOf Suspended)) (rests : List Rest) → All (λ l. IsLeftOf cells l) left → AreParted left passes rests → RestWith cells.first passes rests
@@ -106,26 +96,48 @@ parted_more left passes rests l parted = (
       (Contains-append_cases rests l.rests.items r has),
 )
 
-pub left_standing : (ps : List Proc) (first : List Suspended) (l : Ledger) (passes : List (PassOf Suspended)) (homes : List (Option Suspended)) (rests : List Rest) (machines : List (Option Thread)) → AreFirst ps first → length homes ≡ length first →
-    HandsOut doings first l homes → ((p : PassOf Suspended) (t : ℕ) (results : List Chosen) → Contains passes p → Has p.results (t, results) → AreResults l t results) → RestWith first passes rests → AreLeft homes rests machines → AreStanding ps l machines
-left_standing ps first l passes homes rests machines are count hands results all left = (
-  left.0 ∙ count ∙ are.0,
+pub left_by : (first : List (Option Suspended)) (l : Ledger) (passes : List (PassOf Suspended)) (homes : List (Option Suspended)) (rests : List Rest) (machines : List (Option Thread)) → length homes ≡ length first →
+    HandsOut doings first l homes → ((p : PassOf Suspended) (t : ℕ) (results : List Chosen) → Contains passes p → Has p.results (t, results) → AreResults l t results) → RestWith first passes rests → AreLeft homes rests machines → AreLeftBy first l machines
+left_by first l passes homes rests machines count hands results all left = (
+  left.0 ∙ count,
   λ t m is. ⊎_elim
-      (λ home. subst (StandsIn ps l t) home.2 (stands_home ps first l t home.0 are (hands t home.0 home.1)))
+      (λ home. subst (StandsOver first l t) home.2 (over_home first l t home.0 (hands t home.0 home.1)))
       (λ rest.
       let w = all rest.0 rest.1 in
-      subst (λ (z : ℕ × Thread). StandsIn ps l z.0 z.1) (λ i. (rest.2 i, rest.3 i)) (stands_rest ps first l w.0.results rest.0 are (λ u rs h. results w.0 u rs w.1 h) w.2))
+      subst (λ (z : ℕ × Thread). StandsOver first l z.0 z.1) (λ i. (rest.2 i, rest.3 i)) (over_rest first l w.0.results rest.0 (λ u rs h. results w.0 u rs w.1 h) w.2))
       (left.1 t m is),
+)
+
+-- A FIRST TABLE'S MACHINES, which were given nothing before
+
+stands_of : (ps : List Proc) (first : List (Option Suspended)) (l : Ledger) (t : ℕ) (s : Suspended) (results : List Chosen) → AreNew ps first → IsMachineOf first s t results → HasStopped s.machine.value.phase → AreResults l t results →
+    StandsIn ps l t s.machine.value
+stands_of ps first l t s results are is stopped told =
+    let p = process_of ps first t s results (new_first ps first are) is in
+    let runs = p.2 in
+    record {
+      stands = record { process = p.0; is_its = p.1; body = runs.body; variables = runs.variables; thread = runs.thread; given = refl; stopped = stopped; after = is.after };
+      are = subst (AreResults l t) (sym (new_given ps first t s results are is)) told;
+      told = λ n u low has. is.told n u low (spawned_fewer ps t u s.machine.value (take n s.machine.value.results) p.0 p.1 runs has);
+    }
+
+pub left_standing : (ps : List Proc) (first : List (Option Suspended)) (l : Ledger) (machines : List (Option Thread)) → AreNew ps first → AreLeftBy first l machines → AreStanding ps l machines
+left_standing ps first l machines are left = (
+  left.0 ∙ are.0,
+  λ t m is.
+      let over = left.1 t m is in
+      let stopped : HasStopped over.suspended.machine.value.phase = subst (λ (x : Thread). HasStopped x.phase) (sym over.value) over.stopped in
+      subst (StandsIn ps l t) over.value (stands_of ps first l t over.suspended over.results are over.machine stopped over.are),
 )
 
 -- MACHINES OUT OF THEIR BOXES
 
-get_set_same : {A : Type 0} (xs : List A) (t : ℕ) (y : A) → t < length xs → slice_get (set xs t y) t ≡ Some y
+pub get_set_same : {A : Type 0} (xs : List A) (t : ℕ) (y : A) → t < length xs → slice_get (set xs t y) t ≡ Some y
 get_set_same [] t y lt = absurd (omega (arith, lt))
 get_set_same (x ∷ xs) zero y lt = refl
 get_set_same (x ∷ xs) (suc t) y lt = get_set_same xs t y (omega (arith, lt))
 
-get_set_other : {A : Type 0} (xs : List A) (t u : ℕ) (y : A) → (u ≡ t → ⊥) → slice_get (set xs t y) u ≡ slice_get xs u
+pub get_set_other : {A : Type 0} (xs : List A) (t u : ℕ) (y : A) → (u ≡ t → ⊥) → slice_get (set xs t y) u ≡ slice_get xs u
 get_set_other [] t u y ne = refl
 get_set_other (x ∷ xs) zero zero y ne = absurd (ne refl)
 get_set_other (x ∷ xs) zero (suc u) y ne = refl

@@ -1,8 +1,9 @@
 -- The headline: what the record of a run is.
-use Rattle.std.specs.Prelude.{◌≡◌, ◌≤◌, ℕ, List, length, map, Some, slice_get}
+use Rattle.std.specs.Prelude.{◌≡◌, ◌<◌, ◌≤◌, ℕ, List, length, map, Some, slice_get}
 use Rattle.script_tree.specs.Processes.{Proc}
 use Rattle.protocol_values.specs.declared.Commit.{Commit}
 use Rattle.protocol_values.specs.Commits.{IsInOrder}
+use Rattle.journal_replay.specs.declared.end.End.TheVariants.{Spent}
 use Rattle.journal_replay.specs.Runs.{HasRow, IsMaximal, IsRun, TellsEnds, config_of}
 use Rattle.journal_order.specs.Meetings.{Meets}
 use Rattle.journal_order.specs.Messages.{named, received, sent}
@@ -26,4 +27,20 @@ pub record IsMaximalRun (ps : List Proc) (rows : ℕ) (journal : List Commit) : 
 pub record TellsMaximalRun (ps : List Proc) (rows : ℕ) (r : Record) : Type 0 where
   pub journal : IsMaximalRun ps rows r.journal.items
   pub ends : TellsEnds ps rows (config_of r.journal.items) r.ends.items (map (λ v. v.items) r.outputs.items)
+  pub tail : r.tail ≤ length r.journal.items
+
+-- RUNS WITHOUT A LIMIT ON SYNCS
+
+-- the commits, in stamp order, are a run of the processes that can go no further, however many syncs they may make
+pub record IsFreeRun (ps : List Proc) (journal : List Commit) : Type 0 where
+  pub rows : ℕ
+  -- as of a maximal run of so many rows: what it says of syncs, meetings and messages does not speak of rows
+  pub run : IsMaximalRun ps rows journal
+  pub maximal : (more : ℕ) → IsMaximal ps more (config_of journal)
+
+-- the record tells such a run, and how each process ended where it may make more syncs than it did: for want of syncs none stopped
+pub record TellsFreeRun (ps : List Proc) (r : Record) : Type 0 where
+  pub journal : IsFreeRun ps r.journal.items
+  pub ends : (rows : ℕ) → ((t : ℕ) → length (config_of r.journal.items t) < rows) → TellsEnds ps rows (config_of r.journal.items) r.ends.items (map (λ v. v.items) r.outputs.items)
+  pub never_spent : (t : ℕ) → slice_get r.ends.items t ≡ Some Spent → ⊥
   pub tail : r.tail ≤ length r.journal.items

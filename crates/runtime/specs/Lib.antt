@@ -1,4 +1,7 @@
+pub mod Between
 pub mod Headline
 pub mod Limits
 pub mod Machines
+pub mod Season
+pub mod Seasons
 pub mod Workers

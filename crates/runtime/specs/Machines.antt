@@ -2,9 +2,13 @@
 use Rattle.std.specs.Prelude.{◌≡◌, ◌⊎◌, ◌<◌, ℕ, List, false, length, map, Option, None, Some, slice_get, Contains}
 use Rattle.script_tree.specs.Processes.{Proc}
 use Rattle.script_tree.specs.Spawning.{has_bit, spawns_block}
-use Rattle.thread.specs.Machines.{Thread}
+use Rattle.thread.specs.After.{Chosen}
+use Rattle.thread.specs.Machines.{HasStopped, Thread}
+use Rattle.protocol.specs.Ledgers.{Ledger}
+use Rattle.protocol.specs.Standing.{AreResults}
 use Rattle.runtime_worker.specs.declared.resident.Rest.{Rest}
 use Rattle.runtime_worker.specs.declared.resident.Suspended.{Suspended}
+use Rattle.runtime_worker.specs.Machines.{IsMachineOf}
 
 -- the mask has a bit for each process that one of them spawns
 abbrev pub MarksSpawned : List Proc → ℕ → Type 0
@@ -26,3 +30,17 @@ ComesFrom homes rests t m =
 
 abbrev pub AreLeft : List (Option Suspended) → List Rest → List (Option Thread) → Type 0
 AreLeft homes rests machines = (length machines ≡ length homes) × ((t : ℕ) (m : Thread) → slice_get machines t ≡ Some (Some m) → ComesFrom homes rests t m)
+
+-- A machine that a table leaves stands for its thread, where these machines stood for the threads at first: it was given results
+-- behind those of the first one, which the table's ledger gives to the thread's first rows.
+pub record StandsOver (first : List (Option Suspended)) (l : Ledger) (t : ℕ) (m : Thread) : Type 0 where
+  pub suspended : Suspended
+  pub value : suspended.machine.value ≡ m
+  pub results : List Chosen
+  pub machine : IsMachineOf first suspended t results
+  pub stopped : HasStopped m.phase
+  pub are : AreResults l t results
+
+-- one place for each thread, and what lies there stands so
+abbrev pub AreLeftBy : List (Option Suspended) → Ledger → List (Option Thread) → Type 0
+AreLeftBy first l machines = (length machines ≡ length first) × ((t : ℕ) (m : Thread) → slice_get machines t ≡ Some (Some m) → StandsOver first l t m)

@@ -1,16 +1,22 @@
 //! A run: its table and its workers are made, the workers work, and what they leave is led on to its end.
 
-ghost use Rattle.std.specs.Prelude.{◌≡◌, ◌≢◌, ◌<◌, ◌≤◌, ◌↔◌, [], Err, IfOk, length, map};
+ghost use Rattle.std.specs.Prelude.{◌≡◌, ◌≢◌, ◌<◌, ◌≤◌, ◌↔◌, [], ℕ, All, Err, IfOk, Some, length, map};
 ghost use Rattle.script_tree.specs.Processes.{proc_of};
-ghost use Rattle.protocol.specs.Ledgers.{Ledger, IsLawful};
+ghost use Rattle.protocol_values.specs.declared.NackName.{NackName};
+ghost use Rattle.protocol.specs.Acting.{ActsAs, EndsAt, HasStart, acts_in, before_of};
+ghost use Rattle.protocol.specs.Ledgers.{Ledger, IsLawful, carried_in, course_in};
+ghost use Rattle.protocol.specs.Openings.{HadEnded, HadStarted, greatest, state_in, word_for};
+ghost use Rattle.protocol.specs.Tables.{carried_by};
+ghost use Rattle.cell.specs.Calls.{IsNackOf, opening_at};
 ghost use Rattle.script.specs.Scripts.{script_of};
 ghost use Rattle.journal_order.specs.Ledgers.{IsLedgerOf};
 ghost use Rattle.journal.specs.Concluding.{AreStanding};
 ghost use Rattle.journal.specs.Records.{Completes};
 ghost use Rattle.runtime.specs.Headline.{TellsMaximalRun};
 ghost use Rattle.runtime.specs.Limits.{AreRows, AreWorkers};
-ghost use Rattle.runtime_worker.specs.Machines.{AreFirst};
-ghost use Rattle.runtime.specs.Machines.{MarksSpawned};
+ghost use Rattle.runtime_worker.specs.Machines.{AreNew, IsTable, doings};
+ghost use Rattle.runtime_worker.specs.Workers.{IsNewPassOf};
+ghost use Rattle.runtime.specs.Machines.{AreLeftBy, MarksSpawned};
 ghost use Rattle.runtime.specs.declared.fault.RunFault.TheVariants.{Workers, Rows};
 
 use crate::bound::rows_used;
@@ -18,7 +24,7 @@ use crate::fault::RunFault;
 use crate::gate::TurnsOnly;
 use crate::leaving::machines_of;
 use crate::workers::{all_work, parted, workers_of};
-use cell::{Cells, StepGate};
+use cell::{Cells, Pass, StepGate};
 use journal::{Record, conclude};
 use meet::Meet;
 use meet_queues::Ready;
@@ -56,9 +62,9 @@ fn check_limits(workers: u8, rows: u16) -> Result<(), RunFault>
 }
 
 /// A machine for each process, each before its process.
-fn first_machines(alloc: Global, processes: &[Proc]) -> Result<Vec<Suspended>, Halt>
+pub(crate) fn first_machines(alloc: Global, processes: &[Proc]) -> Result<Vec<Suspended>, Halt>
     requires { length processes.now ≤ 64 }
-    ensures { IfOk result (λ first. AreFirst (map proc_of processes.now) first.items) }
+    ensures { IfOk result (λ first. AreNew (map proc_of processes.now) (map Some first.items)) }
 {
     let mut first = Vec::with_capacity(alloc, processes.len())?;
     for (thread, process) in processes.iter().enumerate() {
@@ -71,7 +77,7 @@ fn first_machines(alloc: Global, processes: &[Proc]) -> Result<Vec<Suspended>, H
 }
 
 /// The processes that one of these spawns: bit t is set where one spawns process t.
-fn later(processes: &[Proc]) -> u64
+pub(crate) fn later(processes: &[Proc]) -> u64
     ensures { MarksSpawned (map proc_of processes.now) result }
 {
     let mut later = 0;
@@ -81,8 +87,58 @@ fn later(processes: &[Proc]) -> u64
     later
 }
 
-/// The workers over a table of their own, which is closed at their end, and the machines as they leave them. The table
-/// has no more rows than the processes can use. Each of its rows was opened as its process offers there.
+/// The workers over this table, which is closed at their end, and the machines as they leave them. Each row of it was
+/// opened as the machine of its thread offers there.
+pub(crate) fn work_table<R: Threads + Wait + Sync, G: Gate + StepGate + Sync>(
+    rt: &R,
+    alloc: Global,
+    script: &Script,
+    cells: Cells<Suspended>,
+    passes: Vec<Pass<Suspended>>,
+    workers: u8,
+    gate: &G,
+) -> Result<(Ledger, Vec<Option<Machine>>), Halt>
+    requires table { IsTable cells }
+    requires passes { All (λ p. IsNewPassOf cells p) passes.items }
+    ensures lawful { IfOk result (λ o. IsLawful o.0) }
+    ensures size { IfOk result (λ o. (o.0.threads ≡ cells.threads) × (o.0.rows ≡ cells.rows)) }
+    ensures opening { IfOk result (λ o. o.0.opening ≡ greatest (opening_at cells)) }
+    ensures before { IfOk result (λ o. (t stamp : ℕ) → HadStarted (opening_at cells) t stamp → HasStart (course_in o.0 t) stamp) }
+    ensures over { IfOk result (λ o. (t : ℕ) → HadEnded (opening_at cells) t → EndsAt (course_in o.0 t) 0) }
+    ensures carried { IfOk result (λ o. (n : NackName) → IsNackOf cells n → carried_in o.0 n ≡ carried_by (word_for (state_in (opening_at cells) n))) }
+    ensures acts { IfOk result (λ o. ActsAs (before_of (opening_at cells)) (acts_in doings cells.first) o.0) }
+    ensures machines { IfOk result (λ o. AreLeftBy cells.first o.0 o.1.items) }
+{
+    let threads = script.processes().len() as u8;
+    let (meet, lanes) = Meet::new(alloc, script.channels() as u16, threads, workers)?;
+    let (ready, ends) = Ready::new(alloc, workers)?;
+    let shared = Shared {
+        alloc,
+        meet,
+        ready,
+        activity: Activity::new(usize::from(workers)),
+        notes: Notes::new(alloc, usize::from(threads))?,
+    };
+    let crew = Crew {
+        rt,
+        cells: &cells,
+        shared: &shared,
+        gate,
+        threads,
+    };
+    let workers = workers_of(&crew, passes, lanes, ends)?;
+    let left = all_work(&crew, workers)?;
+    let (passes, rests) = parted(alloc, left)?;
+    if passes.is_empty() {
+        return Err(Halt::NoWorker);
+    }
+    let (ledger, homes) = cells.close_all(passes);
+    let machines = machines_of(alloc, homes, rests)?;
+    Ok((ledger, machines))
+}
+
+/// The workers over a table of their own, and the machines as they leave them. The table has no more rows than the
+/// processes can use. Each of its rows was opened as its process offers there.
 fn work_within<R: Threads + Wait + Sync, G: Gate + StepGate + Sync>(
     rt: &R,
     alloc: Global,
@@ -100,16 +156,6 @@ fn work_within<R: Threads + Wait + Sync, G: Gate + StepGate + Sync>(
 {
     let processes = script.processes();
     let first = first_machines(alloc, processes)?;
-    let threads = processes.len() as u8;
-    let (meet, lanes) = Meet::new(alloc, script.channels() as u16, threads, workers)?;
-    let (ready, ends) = Ready::new(alloc, workers)?;
-    let shared = Shared {
-        alloc,
-        meet,
-        ready,
-        activity: Activity::new(usize::from(workers)),
-        notes: Notes::new(alloc, processes.len())?,
-    };
     let used = rows_used(processes, rows);
     let (cells, passes) = Cells::with_machines_later(
         alloc,
@@ -118,22 +164,8 @@ fn work_within<R: Threads + Wait + Sync, G: Gate + StepGate + Sync>(
         workers,
         later(processes),
     )?;
-    let crew = Crew {
-        rt,
-        cells: &cells,
-        shared: &shared,
-        gate,
-        threads,
-    };
-    let workers = workers_of(&crew, passes, lanes, ends)?;
-    let left = all_work(&crew, workers)?;
-    let (passes, rests) = parted(alloc, left)?;
-    if passes.is_empty() {
-        return Err(Halt::NoWorker);
-    }
-    let (ledger, homes) = cells.close_all(passes);
-    let machines = machines_of(alloc, homes, rests)?;
-    Ok((ledger, machines))
+    let left = work_table(rt, alloc, script, cells, passes, workers, gate)?;
+    Ok(left)
 }
 
 /// A ledger with no commit.

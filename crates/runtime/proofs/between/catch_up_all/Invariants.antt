@@ -1,0 +1,11 @@
+use Rattle.std.proofs.Common.{◌≡◌, ℕ, Some, slice_get}
+use Rattle.thread.specs.Machines.{HasStopped, Thread}
+use Rattle.runtime.proofs.CatchingUp.{CatchesUpBelow}
+use Rattle.runtime.proofs.between.catch_up_all.Given as goal
+
+-- the machines have caught up with the commits before this one
+abbrev pub invariant-loop-commit : goal.invariant-loop-commit
+invariant-loop-commit l = record {
+  stopped : (t : ℕ) (m : Thread) → slice_get l.machines.items t ≡ Some (Some m) → HasStopped m.phase;
+  caught : CatchesUpBelow l.had l.commits l.commit-index l.fn.machines.items l.machines.items;
+}

@@ -1,0 +1,42 @@
+use Rattle.std.proofs.Common.{rules, ◌≡◌, ◌≤◌, ◌∙◌, List, Option, Some, ap, get_or, length, map, refl, replicate, subst, sym}
+use Rattle.std.proofs.lemmas.List.{length-map}
+use Rattle.std.proofs.lemmas.Option.{slice_get-get_or}
+use Rattle.script_tree.specs.Processes.{Proc, proc_of}
+use Rattle.script_tree.specs.Spawning.{AreSpawnedOnce}
+use Rattle.protocol.specs.Openings.{Opening}
+use Rattle.cell_table.specs.declared.view.Seen.{Seen}
+use Rattle.cell_table.specs.Sight.{WasSettled}
+use Rattle.runtime_worker.specs.declared.resident.Suspended.{Suspended}
+use Rattle.runtime_worker.specs.Machines.{AreNew, IsTable}
+use Rattle.runtime_worker.proofs.Machines.{none_settled, table_of_first}
+use Rattle.runtime.specs.Between.{AreHad}
+use Rattle.runtime.specs.Season.{IsSeason}
+use Rattle.runtime.proofs.GoingOn.{new_had}
+use Rattle.runtime.proofs.season.first_season.Goals as goal
+
+pub returns : goal.returns
+unfolding table_of_first
+returns c =
+    let ps : List Proc = map proc_of c.processes-processes.result.now in
+    let value = c.processes-processes.ensures.value in
+    let cells = c.in_ok-cells.cells in
+    let is = c.in_ok-cells.ensures.first in
+    let some : 1 ≤ length ps = subst (λ (qs : List Proc). 1 ≤ length qs) (sym value) c.requires.some in
+    let few : length (map proc_of c.processes-processes.result.now) ≤ 64 = (search rules) in
+    let rows : (1 ≤ c.in_ok-cells.cells.rows) × (c.in_ok-cells.cells.rows ≤ 1024) = (search rules) in
+    let table : IsTable cells = table_of_first cells ps (map Some c.in_ok-first.first.items) is c.in_ok-first.ensures some few c.processes-processes.ensures.placed
+    (subst AreSpawnedOnce (sym value) c.processes-processes.ensures.limits.once) rows (length c.in_ok-first.first.items) c.later.result c.in_ok-cells.ensures.opening in
+    let new : AreNew ps cells.first = subst (λ (l : List (Option Suspended)). AreNew ps l) (sym is) c.in_ok-first.ensures in
+    let none : c.in_ok-had.had.items ≡ replicate c.len.result 0 = c.in_ok-had.ensures.items_if_clones_equal (λ y h. search rules) in
+    subst (λ (qs : List Proc). IsSeason qs (record { cells = cells; passes = c.in_ok-cells.passes; had = c.in_ok-had.had })) value (record {
+      of = record {
+        table = table;
+        processes = refl;
+        threads = c.in_ok-cells.ensures.size.0 ∙ sym (ap (λ (l : List (Option Suspended)). length l) is ∙ length-map c.in_ok-first.first.items Some) ∙ new.0;
+        waiting = λ n stamp low waits was. none_settled (length c.in_ok-first.first.items) c.later.result n stamp (subst (λ (o : Opening). WasSettled o n stamp) c.in_ok-cells.ensures.opening was);
+      };
+      passes = λ k d h.
+          let x = c.in_ok-cells.ensures.passes k (get_or c.in_ok-cells.passes.items k d) (slice_get-get_or c.in_ok-cells.passes.items k d h) in
+          (x.0, ap (λ (s : Seen). s.opened) x.1, ap (λ (s : Seen). s.begun) x.1, ap (λ (s : Seen). s.bound) x.1, ap (λ (s : Seen). s.ended) x.1, table);
+      had = subst (AreHad cells.first) (sym none) (new_had ps cells.first c.len.result new);
+    })
