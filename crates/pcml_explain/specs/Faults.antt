@@ -4,7 +4,7 @@ use Rattle.std.specs.List.{list_any, starts_with, ends_with}
 use Rattle.std.specs.Fmt.{decimal}
 
 abbrev pub fault_numbers : List ℕ
-fault_numbers = 1 ∷ 2 ∷ 3 ∷ 6 ∷ 11 ∷ 12 ∷ 13 ∷ 14 ∷ 15 ∷ 16 ∷ 21 ∷ 22 ∷ 23 ∷ 31 ∷ 32 ∷ []
+fault_numbers = 1 ∷ 2 ∷ 3 ∷ 4 ∷ 5 ∷ 6 ∷ 7 ∷ 8 ∷ 11 ∷ 12 ∷ 13 ∷ 14 ∷ 15 ∷ 16 ∷ 21 ∷ 22 ∷ 23 ∷ 31 ∷ 32 ∷ []
 
 abbrev pub is_fault : ℕ → Bool
 is_fault n = list_any (λ m. n == m) fault_numbers

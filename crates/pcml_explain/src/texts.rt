@@ -21,10 +21,38 @@ comes about: where a program calls the library so. No command line can ask for i
 what to do: ask for 1 to 1024 rows.
 ";
 
+pub(crate) const LOST: &str = "\
+fault 4: a process that has not ended has no machine behind a season
+comes about: in pcml run with --seasons, where a worker gave no machine back at a season's end. No test has
+seen it.
+what to do: ask for one season, by a greater --rows and no --seasons, and report the script.
+";
+
+pub(crate) const UNLAWFUL: &str = "\
+fault 5: the commits of all seasons are no run of the script
+comes about: in pcml run with --seasons, where a replay of what the seasons left refuses it. No test has
+seen it.
+what to do: ask for one season, by a greater --rows and no --seasons, and report the script.
+";
+
 pub(crate) const NO_THREAD: &str = "\
 fault 6: a thread could not be started
 comes about: the system gave pcml run or pcml meet fewer threads than it asks for.
 what to do: ask for fewer by --workers, or raise the limit on threads.
+";
+
+pub(crate) const SEASONS: &str = "\
+fault 7: the seasons do not suffice
+comes about: where the run of pcml run with --seasons K needs a season more than K, or a process of it comes
+to one sync more than K times the number of --rows.
+what to do: ask for more seasons, by a greater --seasons, or for more syncs in each, by a greater --rows. A
+script that never ends needs more of any number: without --seasons its run ends where the rows are spent.
+";
+
+pub(crate) const SEASON_COUNT: &str = "\
+fault 8: a number of seasons that is not 1 to 65535
+comes about: where a program calls the library so. No command line can ask for it.
+what to do: ask for 1 to 65535 seasons.
 ";
 
 pub(crate) const SYNTAX: &str = "\

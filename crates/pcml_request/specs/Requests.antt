@@ -1,10 +1,18 @@
 -- What can be asked for.
-use Rattle.std.specs.Prelude.{IsTrue}
+use Rattle.std.specs.Prelude.{ℕ, ◌*◌, ◌≤◌, IsTrue, Option, None, Some}
 use Rattle.pcml_explain.specs.Faults.{is_fault}
 use Rattle.pcml_request.specs.declared.request.Request.{Request}
-use Rattle.pcml_request.specs.declared.request.Request.TheVariants.{Explain}
+use Rattle.pcml_request.specs.declared.request.Request.TheVariants.{Chart, Explain, Replay, Why}
 
--- of a fault that is to be explained there is one
+-- so many rows in each of so many seasons, and in one where no number of seasons is named
+abbrev pub all_rows : ℕ → Option ℕ → ℕ
+all_rows rows None = rows
+all_rows rows (Some seasons) = seasons * rows
+
+-- of a fault that is to be explained there is one, and a journal's processes have at most 1024 rows a season
 abbrev pub CanBeAnswered : Request → Type 0
 CanBeAnswered (Explain number) = IsTrue (is_fault number)
+CanBeAnswered (Replay script journal rows seasons) = rows ≤ 1024
+CanBeAnswered (Why script journal rows seasons) = rows ≤ 1024
+CanBeAnswered (Chart script journal rows seasons from to) = rows ≤ 1024
 CanBeAnswered asked = Unit {0}

@@ -19,37 +19,42 @@ pub enum Request<'a> {
     /// How many processes and channels the script in the file of this name has.
     Check(&'a str),
     /// What comes of running the script in the file of this name on so many workers, with so many rows a
-    /// process. The lines of the journal go to a file, where one is named, and are left out of what is
-    /// printed, where it is quiet.
+    /// process, and where a number of seasons is named, so many in each of these. The lines of the journal go
+    /// to a file, where one is named, and are left out of what is printed, where it is quiet.
     Run {
         script: &'a str,
         workers: u8,
         rows: u16,
+        seasons: Option<u16>,
         journal: Option<&'a str>,
         quiet: bool,
     },
-    /// The chart of the journal in a file, against the script in another, of so many rows a process: the
-    /// commits with a stamp from one to another.
+    /// The chart of the journal in a file, against the script in another, of so many rows a process in each
+    /// season: the commits with a stamp from one to another.
     Chart {
         script: &'a str,
         journal: &'a str,
         rows: u16,
+        seasons: Option<u16>,
         from: u32,
         to: u32,
     },
-    /// Why the processes of a script stand where the journal in a file leads them, of so many rows each.
+    /// Why the processes of a script stand where the journal in a file leads them, of so many rows each in
+    /// each season.
     Why {
         script: &'a str,
         journal: &'a str,
         rows: u16,
+        seasons: Option<u16>,
     },
     /// What the fault of this number means.
     Explain(u16),
-    /// Where the journal in a file leads the script in another, of so many rows a process.
+    /// Where the journal in a file leads the script in another, of so many rows a process in each season.
     Replay {
         script: &'a str,
         journal: &'a str,
         rows: u16,
+        seasons: Option<u16>,
     },
 }
 
@@ -97,6 +102,15 @@ fn rows_argument<'a>(alloc: Global) -> Arg<'a> {
         .help("How many syncs a process may make, 1 to 1024")
 }
 
+fn seasons_argument<'a>(alloc: Global) -> Arg<'a> {
+    Arg::new(alloc, "seasons")
+        .long("seasons")
+        .action(ArgAction::Set)
+        .value_name("K")
+        .value_parser(value_parser!(u16).range(1..=65535))
+        .help("How many times a process may make so many syncs, 1 to 65535")
+}
+
 fn run_command<'a>(alloc: Global) -> Result<Command<'a>, AllocError> {
     let workers = Arg::new(alloc, "workers")
         .long("workers")
@@ -115,7 +129,14 @@ fn run_command<'a>(alloc: Global) -> Result<Command<'a>, AllocError> {
         .action(ArgAction::SetTrue)
         .help("Prints no journal");
     let file = file_argument(alloc, "file", "FILE", "The script");
-    let arguments = vec![in alloc; file, workers, rows_argument(alloc), journal, quiet]?;
+    let arguments = vec![in alloc;
+        file,
+        workers,
+        rows_argument(alloc),
+        seasons_argument(alloc),
+        journal,
+        quiet,
+    ]?;
     Command::new(alloc, "run")
         .about("Runs the processes of a script")
         .args(arguments)
@@ -132,11 +153,9 @@ fn stamp_argument<'a>(alloc: Global, name: &'a str, stamp: &'a str, help: &'a st
 }
 
 fn chart_command<'a>(alloc: Global) -> Result<Command<'a>, AllocError> {
-    let file = file_argument(alloc, "file", "FILE", "The script");
-    let journal = file_argument(alloc, "journal", "JOURNAL", "The journal");
-    let from = stamp_argument(alloc, "from", "1", "The first stamp that is drawn");
-    let to = stamp_argument(alloc, "to", "4294967295", "The last stamp that is drawn");
-    let arguments = vec![in alloc; file, journal, rows_argument(alloc), from, to]?;
+    let mut arguments = arguments_of_journal(alloc)?;
+    arguments.push(stamp_argument(alloc, "from", "1", "The first stamp that is drawn"))?;
+    arguments.push(stamp_argument(alloc, "to", "4294967295", "The last stamp that is drawn"))?;
     Command::new(alloc, "chart")
         .about("Draws a journal as a chart (SVG)")
         .args(arguments)
@@ -148,16 +167,23 @@ fn chart_request<'a>(chart: &ArgMatches<'a>) -> Option<Request<'a>> {
         script: chart.get_str("file")?,
         journal: chart.get_str("journal")?,
         rows: chart.get_one("rows")?,
+        seasons: chart.get_one("seasons"),
         from: chart.get_one("from")?,
         to: chart.get_one("to")?,
     })
 }
 
-/// The arguments of what goes through a journal: its script, the journal, and how many rows a process has.
+/// The arguments of what goes through a journal: its script, the journal, and how many rows a process has, in how many
+/// seasons.
 fn arguments_of_journal<'a>(alloc: Global) -> Result<Vec<Arg<'a>>, AllocError> {
     let file = file_argument(alloc, "file", "FILE", "The script");
     let journal = file_argument(alloc, "journal", "JOURNAL", "The journal");
-    Ok(vec![in alloc; file, journal, rows_argument(alloc)]?)
+    Ok(vec![in alloc;
+        file,
+        journal,
+        rows_argument(alloc),
+        seasons_argument(alloc),
+    ]?)
 }
 
 fn why_command<'a>(alloc: Global) -> Result<Command<'a>, AllocError> {
@@ -173,6 +199,7 @@ fn why_request<'a>(why: &ArgMatches<'a>) -> Option<Request<'a>> {
         script: why.get_str("file")?,
         journal: why.get_str("journal")?,
         rows: why.get_one("rows")?,
+        seasons: why.get_one("seasons"),
     })
 }
 
@@ -194,6 +221,7 @@ fn run_request<'a>(run: &ArgMatches<'a>) -> Option<Request<'a>> {
         script: run.get_str("file")?,
         workers: run.get_one("workers")?,
         rows: run.get_one("rows")?,
+        seasons: run.get_one("seasons"),
         journal: run.get_str("journal"),
         quiet: run.get_flag("quiet"),
     })
@@ -212,6 +240,7 @@ fn replay_request<'a>(replay: &ArgMatches<'a>) -> Option<Request<'a>> {
         script: replay.get_str("file")?,
         journal: replay.get_str("journal")?,
         rows: replay.get_one("rows")?,
+        seasons: replay.get_one("seasons"),
     })
 }
 
@@ -251,6 +280,8 @@ fn objection(asked: &Request<'_>) -> Option<&'static str>
             Some(_) => None,
             None => Some("no fault has this number"),
         },
+        Request::Replay { rows, .. } | Request::Why { rows, .. } | Request::Chart { rows, .. }
+            if *rows > 1024 => { Some("a process makes at most 1024 syncs in a season") }
         Request::Replay {
             script: "-",
             journal: "-",

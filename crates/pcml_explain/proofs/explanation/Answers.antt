@@ -14,9 +14,25 @@ pub returns-in-3-clause-headed : goal.returns-in-3-clause-headed
 unfolding digits
 returns-in-3-clause-headed c = rw c.in-3.is
 
+pub returns-in-4-clause-headed : goal.returns-in-4-clause-headed
+unfolding digits
+returns-in-4-clause-headed c = rw c.in-4.is
+
+pub returns-in-5-clause-headed : goal.returns-in-5-clause-headed
+unfolding digits
+returns-in-5-clause-headed c = rw c.in-5.is
+
 pub returns-in-6-clause-headed : goal.returns-in-6-clause-headed
 unfolding digits
 returns-in-6-clause-headed c = rw c.in-6.is
+
+pub returns-in-7-clause-headed : goal.returns-in-7-clause-headed
+unfolding digits
+returns-in-7-clause-headed c = rw c.in-7.is
+
+pub returns-in-8-clause-headed : goal.returns-in-8-clause-headed
+unfolding digits
+returns-in-8-clause-headed c = rw c.in-8.is
 
 pub returns-in-11-clause-headed : goal.returns-in-11-clause-headed
 unfolding digits
