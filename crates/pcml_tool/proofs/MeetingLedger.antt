@@ -13,7 +13,7 @@ use Rattle.protocol_values.specs.declared.Message.TheVariants.{One}
 use Rattle.protocol_values.specs.declared.Offer.{Offer}
 use Rattle.protocol_values.specs.declared.Row.{Row}
 use Rattle.protocol_values.specs.Commits.{stamp_of}
-use Rattle.protocol.specs.Ledgers.{Ledger, IsLawful, HasCommit, IsIn, Offers, Takes, CountsFor, CountsThread, commits_in, course_in, commits_of, commit_by, commit_named, pair_by, told_at, told_by, tells, is_send, sends, rows_in, joined_in, marks_in, offer_in, has_row, entry_in, no_entry}
+use Rattle.protocol.specs.Ledgers.{Ledger, HasCommit, Offers, CountsFor, CountsThread, commits_in, course_in, commits_of, commit_by, commit_named, pair_by, told_at, told_by, tells, sends, joined_in, marks_in, offer_in, has_row, no_entry}
 use Rattle.std.specs.Prelude.{IsPermutation}
 use Rattle.std.specs.Fmt.{digits}
 use Rattle.std.specs.List.{All}
@@ -22,9 +22,21 @@ use Rattle.std.proofs.lemmas.List.Sorted.{length_permutation, All-permutation}
 use Rattle.protocol.specs.Tables.{all_rows, start_of}
 use Rattle.journal_text.specs.Names.{numbers}
 use Rattle.journal_text.specs.Texts.{commits_text}
+use Rattle.protocol.specs.declared.opening.Life.{Life}
+use Rattle.protocol.specs.declared.opening.Life.TheVariants.{Running, Unstarted}
+use Rattle.protocol.specs.Openings.{HadStarted, start_opening, thread_in}
+use Rattle.protocol.proofs.LedgerLemmas.{first_thread, nobody_waits}
 use Rattle.protocol.proofs.RowLemmas.{same_row}
 use Rattle.protocol.proofs.Linking.{some_inj}
 use Rattle.pcml_tool.specs.Meet.{first_row, meeting_of, meeting_line, send_of, receive_offer, HasTwoOffers, PrintsMeeting}
+
+-- both threads start at once
+pub both_start : (t : ℕ) → t < 2 → HadStarted (start_opening 2 0) t 0
+both_start t h =
+    let is : thread_in (start_opening 2 0) t ≡ (Running, 0) = first_thread 2 0 t h ∙ ap (λ (b : Bool). (cond b Unstarted Running, 0)) (nobody_waits t) in (
+      (λ e. let bad : Running ≡ Unstarted = sym (ap (λ (x : Life × ℕ). x.0) is) ∙ e in cc),
+      ap (λ (x : Life × ℕ). x.1) is,
+    )
 
 -- an offer is the first of one of the two rows
 abbrev IsOneOf : ℕ → Row → ℕ → Offer → Type 0

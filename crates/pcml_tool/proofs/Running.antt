@@ -1,15 +1,17 @@
 -- What the text of a run says, from what the run says of its record.
-use Rattle.std.proofs.Common.{◌⊎◌, ℕ, ◌≤◌, List, ◌∙◌, arith, inl, inr, ⊎_elim}
+use Rattle.std.proofs.Common.{◌⊎◌, ◌*◌, ℕ, ◌≤◌, List, Some, ap, ◌∙◌, arith, inl, inr, ⊎_elim}
+use Rattle.std.proofs.Math.Nat.{mul-le-mul_right}
 use Rattle.std.proofs.lemmas.Bool.{cases_lt}
-use Rattle.journal.specs.Records.{Completes}
+use Rattle.protocol_values.specs.declared.Commit.{Commit}
+use Rattle.journal.specs.Records.{Completes, CompletesRun}
 use Rattle.journal.specs.declared.record.Record.{Record}
 use Rattle.protocol.specs.Ledgers.{IsLawful, Ledger}
 use Rattle.script.specs.Sources.{Script}
 use Rattle.script.specs.Spelling.{IsSpelled}
-use Rattle.runtime.specs.Headline.{TellsMaximalRun}
-use Rattle.runtime.specs.Limits.{AreRows, AreWorkers}
+use Rattle.runtime.specs.Headline.{TellsFreeRun, TellsMaximalRun}
+use Rattle.runtime.specs.Limits.{AreRows, AreSeasons, AreWorkers}
 use Rattle.journal_lines.proofs.Lining.{printed_has_names, run_is_read_again}
-use Rattle.pcml_tool.specs.Run.{TellsRecord, TellsRun}
+use Rattle.pcml_tool.specs.Run.{TellsFreely, TellsRecord, TellsRun}
 
 pub tells_run : (s : Script) (rows : ℕ) (r : Record) (lines rest : List ℕ) → IsSpelled s → rows ≤ 67107840 → TellsMaximalRun s.processes rows r → (l : Ledger) × IsLawful l × Completes s.processes rows l r → TellsRecord s r lines rest → TellsRun s rows lines rest
 tells_run s rows r lines rest spelled few run (l, lawful, completes) told =
@@ -36,6 +38,40 @@ tells_run s rows r lines rest spelled few run (l, lawful, completes) told =
       is = told.is;
     }
 
+pub tells_freely : (s : Script) (rows : ℕ) (r : Record) (lines rest : List ℕ) → IsSpelled s → rows ≤ 67107840 → TellsFreeRun s.processes r → (given : List Commit) × CompletesRun s.processes rows given r → TellsRecord s r lines rest → TellsFreely s lines rest
+tells_freely s rows r lines rest spelled few run (given, completes) told =
+    record {
+      journal = r.journal.items;
+      run = run.journal;
+      spells = (run_is_read_again s spelled rows few r.journal.items completes.run).0;
+      standing = told.standing;
+      stand = λ more enough.
+          let ends = run.ends more enough in
+          record {
+            count = told.are.count ∙ ends.ends_count;
+            each = λ t p is. let are = told.are.each t p is in (are.0, ends.each t p.end p.printed are.1 are.2);
+          };
+      never_spent = λ t p is spent. let are = told.are.each t p is in run.never_spent t (are.1 ∙ ap Some spent);
+      nameable = λ t p is.
+          let are = told.are.each t p is in
+          printed_has_names s spelled rows few r.journal.items completes.run t p.end p.printed (completes.ends_are.each t p.end p.printed are.1 are.2);
+      tail = r.tail;
+      few = run.tail;
+      given = given;
+      added = completes.added;
+      whole = completes.whole;
+      counted = completes.tail_is;
+      are = told.are_lines;
+      is = told.is;
+    }
+
+-- all rows of so many seasons
+pub season_rows_are_few : (workers rows seasons : ℕ) → AreWorkers workers → AreRows rows → AreSeasons seasons → seasons * rows ≤ 67107840
+season_rows_are_few workers rows seasons w r s =
+    let most : seasons * rows ≤ 65535 * rows = mul-le-mul_right rows s.1 in
+    let low = r.1 in
+    omega (arith, most, low)
+
 -- a number is within two others, or not
 within_or_not : (low high n : ℕ) → ((low ≤ n) × (n ≤ high)) ⊎ ((low ≤ n) × (n ≤ high) → ⊥)
 within_or_not low high n = ⊎_elim
@@ -44,6 +80,17 @@ within_or_not low high n = ⊎_elim
     (cases_lt n low)
 
 -- where neither fault of the numbers is told, there are so many rows
+-- where no fault of the numbers is told, they are in their ranges
+pub in_ranges : (workers rows seasons : ℕ) (W R S : Type 0) → ((AreWorkers workers → ⊥) → W) → (AreWorkers workers × (AreRows rows → ⊥) → R) → (AreWorkers workers × AreRows rows × (AreSeasons seasons → ⊥) → S) → (W → ⊥) → (R → ⊥) → (S → ⊥)
+    → seasons * rows ≤ 67107840
+in_ranges workers rows seasons W R S first second third no_first no_second no_third = ⊎_elim
+    (λ are. ⊎_elim
+    (λ many. ⊎_elim (λ h. season_rows_are_few workers rows seasons are many h) (λ none. absurd (no_third (third (are, many, none)))) (within_or_not 1 65535 seasons))
+    (λ none. absurd (no_second (second (are, none))))
+    (within_or_not 1 1024 rows))
+    (λ none. absurd (no_first (first none)))
+    (within_or_not 1 16 workers)
+
 pub rows_are_few : (workers rows : ℕ) (W R : Type 0) → ((AreWorkers workers → ⊥) → W) → (AreWorkers workers × (AreRows rows → ⊥) → R) → (W → ⊥) → (R → ⊥) → rows ≤ 67107840
 rows_are_few workers rows W R first second no_first no_second = ⊎_elim
     (λ are. ⊎_elim (λ h. omega (arith, h.1)) (λ none. absurd (no_second (second (are, none)))) (within_or_not 1 1024 rows))

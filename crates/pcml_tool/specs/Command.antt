@@ -3,6 +3,7 @@ use Rattle.std.specs.Prelude.{◌≡◌, ◌≢◌, ◌⊎◌, ℕ, Bool, true, 
 use Rattle.std.specs.Io.KnownBytes.{Appends}
 use Rattle.pcml_request.specs.declared.request.Request.{Request}
 use Rattle.pcml_request.specs.declared.request.Request.TheVariants.{Meet, Play, Check, Chart, Explain, Replay, Run, Why}
+use Rattle.pcml_request.specs.Requests.{all_rows}
 use Rattle.pcml_explain.specs.Faults.{Explains}
 use Rattle.pcml_files.specs.Files.{Fits, IsTooLarge}
 use Rattle.pcml_tool.specs.Meet.{PrintsMeeting}
@@ -11,11 +12,11 @@ use Rattle.pcml_tool.specs.declared.fault.Fault.TheVariants as faults
 use Rattle.protocol_schedule.specs.Schedule.{IsFirstBadLine}
 use Rattle.pcml_tool.specs.Play.{IsPlayed, IsFirstRefused}
 use Rattle.pcml_tool.specs.Check.{IsChecked}
-use Rattle.runtime.specs.Limits.{AreRows, AreWorkers}
+use Rattle.runtime.specs.Limits.{AreRows, AreSeasons, AreWorkers}
 use Rattle.pcml_tool.specs.Replay.{IsReplayed, IsNoRun}
 use Rattle.pcml_tool.specs.Chart.{IsCharted}
 use Rattle.pcml_tool.specs.Why.{IsTold}
-use Rattle.pcml_tool.specs.Run.{TellsRun}
+use Rattle.pcml_tool.specs.Run.{TellsAsked}
 use Rattle.pcml_tool.specs.declared.replay.Replayed.{Replayed}
 use Rattle.pcml_tool.specs.declared.replay.Replayed.TheVariants as replays
 use Rattle.pcml_tool.specs.declared.from_files.Verdict.{Verdict}
@@ -68,14 +69,14 @@ AnswersChart Holds script journal rows from to verdict text = OfJournal Holds sc
 -- The line of the one pair (or none), what comes of the schedule, the script or the run that is asked for, where the journal
 -- leads the script, why the processes stand there, its chart, or what a fault means. Where the journal of a run is to go to a file, the file keeps its lines at the end.
 abbrev pub Answers : Files → Files → Request → Verdict → List ℕ → Type 0
-Answers Holds Keeps (Replay script journal rows) verdict text = AnswersReplay Holds script.now journal.now rows verdict text
-Answers Holds Keeps (Why script journal rows) verdict text = AnswersWhy Holds script.now journal.now rows verdict text
-Answers Holds Keeps (Chart script journal rows from to) verdict text = AnswersChart Holds script.now journal.now rows from to verdict text
+Answers Holds Keeps (Replay script journal rows seasons) verdict text = AnswersReplay Holds script.now journal.now (all_rows rows seasons) verdict text
+Answers Holds Keeps (Why script journal rows seasons) verdict text = AnswersWhy Holds script.now journal.now (all_rows rows seasons) verdict text
+Answers Holds Keeps (Chart script journal rows seasons from to) verdict text = AnswersChart Holds script.now journal.now (all_rows rows seasons) from to verdict text
 Answers Holds Keeps (Meet value) Done text = PrintsMeeting value text
 Answers Holds Keeps (Play name) Done text = OfSchedule Holds name.now (λ bytes. IsPlayed bytes text)
 Answers Holds Keeps (Check name) Done text = (bytes : List ℕ) × Holds name.now bytes × IsChecked bytes text
-Answers Holds Keeps (Run script workers rows journal quiet) Done text = (bytes : List ℕ) × Holds script.now bytes × (s : Script) × Spells bytes s
-    × (lines rest : List ℕ) × TellsRun s rows lines rest × IfSome journal (λ name. Keeps name.now lines) × (text ≡ printed quiet lines rest)
+Answers Holds Keeps (Run script workers rows seasons journal quiet) Done text = (bytes : List ℕ) × Holds script.now bytes × (s : Script) × Spells bytes s
+    × (lines rest : List ℕ) × TellsAsked s rows seasons lines rest × IfSome journal (λ name. Keeps name.now lines) × (text ≡ printed quiet lines rest)
 Answers Holds Keeps (Explain number) Done text = Explains number text
 Answers Holds Keeps asked Unlawful text = ⊥
 
@@ -116,22 +117,38 @@ FailsReplay Holds script journal faults.TooLarge = OfFiles Holds script journal 
 FailsReplay Holds script journal (faults.BadLine line) = OfFiles Holds script journal (λ s read. Fits read × journals.IsFirstBadLine s read line)
 FailsReplay Holds script journal fault = FailsScript Holds script fault
 
+-- what a fault of a run says of what was asked for
+abbrev pub FailsRun : ℕ → ℕ → Option ℕ → Fault → Type 0
+FailsRun workers rows seasons faults.Memory = Unit {0}
+FailsRun workers rows seasons faults.NoThread = Unit {0}
+FailsRun workers rows seasons faults.Workers = ¬ AreWorkers workers
+FailsRun workers rows seasons faults.Rows = ¬ AreRows rows
+FailsRun workers rows seasons faults.Lost = seasons ≢ None
+FailsRun workers rows seasons faults.Unlawful = seasons ≢ None
+FailsRun workers rows seasons faults.Seasons = seasons ≢ None
+FailsRun workers rows seasons faults.SeasonCount = IfSome seasons (λ count. ¬ AreSeasons count)
+FailsRun workers rows seasons fault = ⊥
+
 -- what a fault says of the request: `meet` lacks only memory or a thread, and the others may also fail by a file or by what it holds
 abbrev pub Fails : Files → Request → Fault → Type 0
 Fails Holds (Meet value) fault = (fault ≡ faults.Memory) ⊎ (fault ≡ faults.NoThread)
 Fails Holds (Play name) fault = FailsPlay Holds name.now fault
 Fails Holds (Check name) fault = FailsParse Holds name.now fault
 Fails Holds (Explain number) fault = fault ≡ faults.Memory
-Fails Holds (Why script journal rows) fault = FailsReplay Holds script.now journal.now fault
-Fails Holds (Chart script journal rows from to) fault = FailsReplay Holds script.now journal.now fault
-Fails Holds (Replay script journal rows) fault = FailsReplay Holds script.now journal.now fault
-Fails Holds (Run script workers rows journal quiet) faults.Memory = Unit {0}
-Fails Holds (Run script workers rows journal quiet) faults.Unread = Unit {0}
-Fails Holds (Run script workers rows journal quiet) faults.NoThread = Unit {0}
-Fails Holds (Run script workers rows journal quiet) faults.Workers = ¬ AreWorkers workers
-Fails Holds (Run script workers rows journal quiet) faults.Rows = ¬ AreRows rows
-Fails Holds (Run script workers rows journal quiet) faults.Unwritten = journal ≢ None
-Fails Holds (Run script workers rows journal quiet) fault = FailsScript Holds script.now fault
+Fails Holds (Why script journal rows seasons) fault = FailsReplay Holds script.now journal.now fault
+Fails Holds (Chart script journal rows seasons from to) fault = FailsReplay Holds script.now journal.now fault
+Fails Holds (Replay script journal rows seasons) fault = FailsReplay Holds script.now journal.now fault
+Fails Holds (Run script workers rows seasons journal quiet) faults.Memory = Unit {0}
+Fails Holds (Run script workers rows seasons journal quiet) faults.Unread = Unit {0}
+Fails Holds (Run script workers rows seasons journal quiet) faults.NoThread = Unit {0}
+Fails Holds (Run script workers rows seasons journal quiet) faults.Workers = ¬ AreWorkers workers
+Fails Holds (Run script workers rows seasons journal quiet) faults.Rows = ¬ AreRows rows
+Fails Holds (Run script workers rows seasons journal quiet) faults.Lost = seasons ≢ None
+Fails Holds (Run script workers rows seasons journal quiet) faults.Unlawful = seasons ≢ None
+Fails Holds (Run script workers rows seasons journal quiet) faults.Seasons = seasons ≢ None
+Fails Holds (Run script workers rows seasons journal quiet) faults.SeasonCount = IfSome seasons (λ count. ¬ AreSeasons count)
+Fails Holds (Run script workers rows seasons journal quiet) faults.Unwritten = journal ≢ None
+Fails Holds (Run script workers rows seasons journal quiet) fault = FailsScript Holds script.now fault
 
 -- The output has grown by the first n bytes of a text, and where there is one byte at least, the text answers the request.
 abbrev pub Began : Files → Files → Request → Option (List ℕ) → Option (List ℕ) → Type 0

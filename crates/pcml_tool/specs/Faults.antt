@@ -1,4 +1,4 @@
--- The faults of meeting, of playing, of files, of journals, of runs and of scripts as faults of the program.
+-- The faults of meeting, of playing, of files, of journals, of runs, of seasons and of scripts as faults of the program.
 use Rattle.pcml_tool.specs.declared.meeting.MeetFault.{MeetFault}
 use Rattle.pcml_tool.specs.declared.meeting.MeetFault.TheVariants as meets
 use Rattle.pcml_tool.specs.declared.play.PlayFault.{PlayFault}
@@ -9,6 +9,8 @@ use Rattle.journal_text.specs.declared.JournalFault.{JournalFault}
 use Rattle.journal_text.specs.declared.JournalFault.TheVariants as journals
 use Rattle.runtime.specs.declared.fault.RunFault.{RunFault}
 use Rattle.runtime.specs.declared.fault.RunFault.TheVariants as runs
+use Rattle.runtime.specs.declared.seasons.SeasonFault.{SeasonFault}
+use Rattle.runtime.specs.declared.seasons.SeasonFault.TheVariants as seasons
 use Rattle.script.specs.declared.fault.ScriptFault.{ScriptFault}
 use Rattle.script.specs.declared.fault.ScriptFault.TheVariants as scripts
 use Rattle.pcml_tool.specs.declared.fault.Fault.{Fault}
@@ -37,6 +39,16 @@ fault_of_run runs.Memory = faults.Memory
 fault_of_run runs.Workers = faults.Workers
 fault_of_run runs.Rows = faults.Rows
 fault_of_run runs.NoWorker = faults.NoThread
+
+abbrev pub fault_of_season : SeasonFault → Fault
+fault_of_season seasons.Memory = faults.Memory
+fault_of_season seasons.Workers = faults.Workers
+fault_of_season seasons.Rows = faults.Rows
+fault_of_season seasons.Lost = faults.Lost
+fault_of_season seasons.Unlawful = faults.Unlawful
+fault_of_season seasons.NoWorker = faults.NoThread
+fault_of_season seasons.Seasons = faults.Seasons
+fault_of_season seasons.SeasonCount = faults.SeasonCount
 
 abbrev pub fault_of_script : ScriptFault → Fault
 fault_of_script scripts.Memory = faults.Memory

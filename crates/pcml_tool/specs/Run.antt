@@ -1,5 +1,5 @@
 -- What running a script prints.
-use Rattle.std.specs.Prelude.{◌≡◌, ◌≤◌, ℕ, List, [], ◌∷◌, ◌++◌, length, codes, map, Some, slice_get, IsPermutation}
+use Rattle.std.specs.Prelude.{◌≡◌, ◌≢◌, ◌<◌, ◌≤◌, ℕ, List, [], ◌∷◌, ◌++◌, length, codes, map, Option, None, Some, slice_get, IsPermutation}
 use Rattle.std.specs.List.{AllByRecursion}
 use Rattle.std.specs.Fmt.{decimal}
 use Rattle.protocol_values.specs.declared.Commit.{Commit}
@@ -9,7 +9,8 @@ use Rattle.journal_text.specs.Journals.{HasAtom, Spells}
 use Rattle.journal_text.specs.Names.{names_of, named}
 use Rattle.journal_text.specs.Texts.{commits_text}
 use Rattle.journal_replay.specs.Runs.{config_of}
-use Rattle.runtime.specs.Headline.{IsMaximalRun}
+use Rattle.journal_replay.specs.declared.end.End.TheVariants.{Spent}
+use Rattle.runtime.specs.Headline.{IsFreeRun, IsMaximalRun}
 use Rattle.journal.specs.declared.record.Record.{Record}
 use Rattle.pcml_tool.specs.Standings.{Standing, AreStandings, StandAs, process_lines}
 
@@ -44,6 +45,30 @@ pub record TellsRun (s : Script) (rows : ℕ) (lines rest : List ℕ) : Type 0 w
   pub counted : length added ≡ tail
   pub are : lines ≡ commits_text (named s) journal
   pub is : rest ≡ process_lines (named s) standing ++ tail_line (length journal) tail
+
+-- The same of a run in seasons, which ends for no want of syncs: it is maximal however many each process may make, no process is
+-- spent, and each stands so wherever it may make more syncs than it did. It counts the commits that the seasons did not have.
+pub record TellsFreely (s : Script) (lines rest : List ℕ) : Type 0 where
+  pub journal : List Commit
+  pub run : IsFreeRun s.processes journal
+  pub spells : Spells s (commits_text (named s) journal) journal
+  pub standing : List Standing
+  pub stand : (rows : ℕ) → ((t : ℕ) → length (config_of journal t) < rows) → StandAs s.processes rows (config_of journal) standing
+  pub never_spent : (t : ℕ) (p : Standing) → slice_get standing t ≡ Some p → p.end ≢ Spent
+  pub nameable : (t : ℕ) (p : Standing) → slice_get standing t ≡ Some p → AllByRecursion (HasAtom (names_of s)) p.printed
+  pub tail : ℕ
+  pub few : tail ≤ length journal
+  pub given : List Commit
+  pub added : List Commit
+  pub whole : IsPermutation (given ++ added) journal
+  pub counted : length added ≡ tail
+  pub are : lines ≡ commits_text (named s) journal
+  pub is : rest ≡ process_lines (named s) standing ++ tail_line (length journal) tail
+
+-- in seasons, where a number of these is named
+abbrev pub TellsAsked : Script → ℕ → Option ℕ → List ℕ → List ℕ → Type 0
+TellsAsked s rows None lines rest = TellsRun s rows lines rest
+TellsAsked s rows (Some seasons) lines rest = TellsFreely s lines rest
 
 -- the text tells a run, its journal first
 abbrev pub IsRan : Script → ℕ → List ℕ → Type 0

@@ -2,13 +2,13 @@
 
 ghost use Rattle.std.specs.Prelude.{◌≡◌, IsTrue};
 ghost use Rattle.pcml_explain.specs.Faults.{is_fault};
-ghost use Rattle.pcml_tool.specs.Faults.{fault_of_meet, fault_of_play, fault_of_file, fault_of_journal, fault_of_run, fault_of_script};
+ghost use Rattle.pcml_tool.specs.Faults.{fault_of_meet, fault_of_play, fault_of_file, fault_of_journal, fault_of_run, fault_of_script, fault_of_season};
 ghost use Rattle.pcml_tool.specs.declared.fault.Fault.TheVariants.{Memory, Unwritten};
 
 use crate::{MeetFault, PlayFault};
 use journal_text::JournalFault;
 use pcml_files::{SourceFault, Unwritten};
-use runtime::RunFault;
+use runtime::{RunFault, SeasonFault};
 use script::ScriptFault;
 use std::alloc::AllocError;
 use thiserror::Error;
@@ -27,9 +27,21 @@ pub enum Fault {
     /// A number of rows that is not 1 to 1024. No words of a command line ask for it.
     #[error("fault 3")]
     Rows,
+    /// A process that has not ended, and has no machine behind a season.
+    #[error("fault 4")]
+    Lost,
+    /// The commits of all seasons, which are no run of the script.
+    #[error("fault 5")]
+    Unlawful,
     /// A thread that could not be started.
     #[error("fault 6")]
     NoThread,
+    /// A number of seasons that does not suffice.
+    #[error("fault 7")]
+    Seasons,
+    /// A number of seasons that is not 1 to 65535. No words of a command line ask for it.
+    #[error("fault 8")]
+    SeasonCount,
     /// A token of a script that the grammar does not allow, by its line, from 1.
     #[error("fault 11 line {0}")]
     Syntax(usize),
@@ -74,7 +86,11 @@ impl Fault {
             Fault::Memory => 1,
             Fault::NotAllowed(_) | Fault::Workers => 2,
             Fault::Rows => 3,
+            Fault::Lost => 4,
+            Fault::Unlawful => 5,
             Fault::NoThread => 6,
+            Fault::Seasons => 7,
+            Fault::SeasonCount => 8,
             Fault::Syntax(_) => 11,
             Fault::UnknownName(_) => 12,
             Fault::Twice(_) => 13,
@@ -161,6 +177,23 @@ impl From<RunFault> for Fault {
             RunFault::Workers => Fault::Workers,
             RunFault::Rows => Fault::Rows,
             RunFault::NoWorker => Fault::NoThread,
+        }
+    }
+}
+
+impl From<SeasonFault> for Fault {
+    ghost from_gives = { λ season fault. fault ≡ fault_of_season season };
+
+    fn from(fault: SeasonFault) -> Fault {
+        match fault {
+            SeasonFault::Memory => Fault::Memory,
+            SeasonFault::Workers => Fault::Workers,
+            SeasonFault::Rows => Fault::Rows,
+            SeasonFault::Lost => Fault::Lost,
+            SeasonFault::Unlawful => Fault::Unlawful,
+            SeasonFault::NoWorker => Fault::NoThread,
+            SeasonFault::Seasons => Fault::Seasons,
+            SeasonFault::SeasonCount => Fault::SeasonCount,
         }
     }
 }

@@ -107,8 +107,9 @@ pub(crate) fn replay_files<S: Source>(
     source: &mut S,
     script: &str,
     journal: &str,
-    rows: u16,
+    rows: u32,
 ) -> Result<(Verdict, Vec<u8>), Fault>
+    requires { rows ≤ 67107840 }
     ensures done { IfOk result (λ answer. AnswersReplay (S.holds source.old) script.now journal.now rows answer.0 answer.1.items) }
     ensures fault { IfErr result (FailsReplay (S.holds source.old) script.now journal.now) }
 {
@@ -123,8 +124,9 @@ pub(crate) fn why_files<S: Source>(
     source: &mut S,
     script: &str,
     journal: &str,
-    rows: u16,
+    rows: u32,
 ) -> Result<(Verdict, Vec<u8>), Fault>
+    requires { rows ≤ 67107840 }
     ensures done { IfOk result (λ answer. AnswersWhy (S.holds source.old) script.now journal.now rows answer.0 answer.1.items) }
     ensures fault { IfErr result (FailsReplay (S.holds source.old) script.now journal.now) }
 {
@@ -139,10 +141,11 @@ pub(crate) fn chart_files<S: Source>(
     source: &mut S,
     script: &str,
     journal: &str,
-    rows: u16,
+    rows: u32,
     from: u32,
     to: u32,
 ) -> Result<(Verdict, Vec<u8>), Fault>
+    requires { rows ≤ 67107840 }
     ensures done { IfOk result (λ answer. AnswersChart (S.holds source.old) script.now journal.now rows from to answer.0 answer.1.items) }
     ensures fault { IfErr result (FailsReplay (S.holds source.old) script.now journal.now) }
 {

@@ -26,7 +26,7 @@ pub use crate::meeting::{MeetFault, meet_text};
 pub use crate::play::{PlayFault, play_laws, play_text};
 pub use crate::program::{BAD_WORDS, command, tell};
 pub use crate::replay::{Replayed, replay_laws, replay_text};
-pub use crate::run::{RunText, run_parts, run_text};
+pub use crate::run::{RunText, run_parts, run_seasons_parts, run_text};
 pub use crate::why::why_journal;
 pub use pcml_files::{Source, SourceFault, SystemFiles};
 pub use pcml_request::Request;

@@ -3,7 +3,8 @@
 ghost use Rattle.std.specs.Prelude.{◌≡◌, ℕ, [], ◌∷◌, IfOk, IfErr};
 ghost use Rattle.protocol_values.specs.Words.{IsOfferInRange};
 ghost use Rattle.protocol_values.specs.declared.Offer.{Offer};
-ghost use Rattle.cell.specs.Calls.{IsPassOf, IsRowOf};
+ghost use Rattle.cell.specs.Calls.{IsPassOf, IsRowOf, opening_at};
+ghost use Rattle.protocol.specs.Openings.{start_opening};
 ghost use Rattle.cell_table.specs.Sight.{Has};
 ghost use Rattle.pcml_tool.specs.Meet.{first_row, send_of, receive_offer, HasTakenPart, HasTwoOffers, IsReady, PrintsMeeting};
 
@@ -69,7 +70,7 @@ fn try_again(cells: &Cells<Bare>, sender: &mut Pass<Bare>)
 /// The ledger at the end, after the receiver has told the sender what it has seen.
 fn end(cells: Cells<Bare>, sender: Pass<Bare>, receiver: Pass<Bare>) -> Ledger
     requires here { IsPassOf cells sender × IsPassOf cells receiver }
-    ensures { (value : ℕ) → (cells.threads ≡ 2) × (cells.rows ≡ 1) × (cells.later ≡ 0) → HasTakenPart cells sender (first_row 0) (send_of value) → HasTakenPart cells receiver (first_row 1) receive_offer → HasTwoOffers value result }
+    ensures { (value : ℕ) → (cells.threads ≡ 2) × (cells.rows ≡ 1) × (opening_at cells ≡ start_opening 2 0) → HasTakenPart cells sender (first_row 0) (send_of value) → HasTakenPart cells receiver (first_row 1) receive_offer → HasTwoOffers value result }
 {
     let mut sender = sender;
     let mut receiver = receiver;
@@ -79,7 +80,7 @@ fn end(cells: Cells<Bare>, sender: Pass<Bare>, receiver: Pass<Bare>) -> Ledger
 
 /// Cells for two threads of one row, and a pass for each.
 fn two_passes(alloc: Global) -> Result<(Cells<Bare>, Pass<Bare>, Pass<Bare>), AllocError>
-    ensures size { IfOk result (λ t. (t.0.threads ≡ 2) × (t.0.rows ≡ 1) × (t.0.later ≡ 0)) }
+    ensures size { IfOk result (λ t. (t.0.threads ≡ 2) × (t.0.rows ≡ 1) × (opening_at t.0 ≡ start_opening 2 0)) }
     ensures passes { IfOk result (λ t. IsReady t.0 t.1 (first_row 0) × IsReady t.0 t.2 (first_row 1)) }
 {
     let (cells, mut passes) = Cells::new(alloc, 2, 1, 2)?;

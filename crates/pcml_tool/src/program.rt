@@ -1,20 +1,23 @@
 //! The program, over any files and any two streams.
 
-ghost use Rattle.std.specs.Prelude.{◌≡◌, ◌≤◌, ◌⊎◌, List, ℕ, IfOk, IfErr};
+ghost use Rattle.std.specs.Prelude.{◌≡◌, ◌≤◌, ◌⊎◌, List, ℕ, IfOk, IfErr, drop, length, take};
+ghost use Rattle.script.specs.Scripts.{script_of};
 ghost use Rattle.std.specs.Io.KnownBytes.{Appends};
 ghost use Rattle.pcml_request.specs.declared.request.Request.{Request};
 ghost use Rattle.pcml_tool.specs.declared.fault.Fault.TheVariants.{Unwritten};
 ghost use Rattle.pcml_tool.specs.declared.from_files.Verdict.TheVariants.{Done};
-ghost use Rattle.pcml_request.specs.Requests.{CanBeAnswered};
-ghost use Rattle.pcml_tool.specs.Command.{Answers, Began, Fails};
+ghost use Rattle.pcml_request.specs.Requests.{CanBeAnswered, all_rows};
+ghost use Rattle.pcml_tool.specs.Command.{Answers, Began, Fails, FailsRun};
+ghost use Rattle.pcml_tool.specs.Run.{TellsAsked};
 
 use crate::fault::Fault;
 use crate::from_files::{
     Verdict, chart_files, check_file, keep_journal, play_file, read_script, replay_files, why_files,
 };
-use crate::{explain_text, meet_text, run_parts};
+use crate::{RunText, explain_text, meet_text, run_parts, run_seasons_parts};
 use pcml_files::{Source, emit};
 use pcml_request::{Request, WordsFault, read_words};
+use script::Script;
 use std::alloc::Global;
 use std::io::Write;
 use std::sync::Wait;
@@ -28,6 +31,37 @@ const UNLAWFUL: u8 = 1;
 
 /// The status after words that are not understood.
 pub const BAD_WORDS: u8 = 2;
+
+/// How many rows a process has in all seasons, of so many rows in each; in one where no number of seasons is named.
+fn all_rows(rows: u16, seasons: Option<u16>) -> u32
+    requires { rows ≤ 1024 }
+    ensures value { result ≡ all_rows rows seasons }
+    ensures few { result ≤ 67107840 }
+{
+    match seasons {
+        Some(seasons) => u32::from(seasons) * u32::from(rows),
+        None => u32::from(rows),
+    }
+}
+
+/// What comes of a run: in seasons, where a number of these is named.
+fn run_asked<R: Threads + Wait + Sync>(
+    rt: &R,
+    alloc: Global,
+    script: &Script,
+    workers: u8,
+    rows: u16,
+    seasons: Option<u16>,
+) -> Result<RunText, Fault>
+    ensures ran { IfOk result (λ t. TellsAsked (script_of script.now) rows seasons (take t.journal t.text.items) (drop t.journal t.text.items)) }
+    ensures within { IfOk result (λ t. t.journal ≤ length t.text.items) }
+    ensures fault { IfErr result (FailsRun workers rows seasons) }
+{
+    match seasons {
+        Some(seasons) => Ok(run_seasons_parts(rt, alloc, script, workers, rows, seasons)?),
+        None => Ok(run_parts(rt, alloc, script, workers, rows)?),
+    }
+}
 
 /// The text that a request is answered with.
 fn answer<R: Threads + Wait + Sync, S: Source>(
@@ -49,11 +83,12 @@ fn answer<R: Threads + Wait + Sync, S: Source>(
             script,
             workers,
             rows,
+            seasons,
             journal,
             quiet,
         } => {
             let script = read_script(alloc, source, script)?;
-            let ran = run_parts(rt, alloc, &script, workers, rows)?;
+            let ran = run_asked(rt, alloc, &script, workers, rows, seasons)?;
             let text = keep_journal(alloc, source, ran, journal, quiet)?;
             Ok((Verdict::Done, text))
         }
@@ -61,19 +96,31 @@ fn answer<R: Threads + Wait + Sync, S: Source>(
             script,
             journal,
             rows,
-        } => replay_files(alloc, source, script, journal, rows),
+            seasons,
+        } => {
+            let rows = all_rows(rows, seasons);
+            replay_files(alloc, source, script, journal, rows)
+        }
         Request::Why {
             script,
             journal,
             rows,
-        } => why_files(alloc, source, script, journal, rows),
+            seasons,
+        } => {
+            let rows = all_rows(rows, seasons);
+            why_files(alloc, source, script, journal, rows)
+        }
         Request::Chart {
             script,
             journal,
             rows,
+            seasons,
             from,
             to,
-        } => chart_files(alloc, source, script, journal, rows, from, to),
+        } => {
+            let rows = all_rows(rows, seasons);
+            chart_files(alloc, source, script, journal, rows, from, to)
+        }
     }
 }
 

@@ -1,6 +1,6 @@
 //! A journal read and replayed, for each request that asks where one leads.
 
-ghost use Rattle.std.specs.Prelude.{◌≡◌, IfOk, IfErr};
+ghost use Rattle.std.specs.Prelude.{◌≡◌, ◌≤◌, IfOk, IfErr};
 ghost use Rattle.std.specs.String.{string_bytes};
 ghost use Rattle.script.specs.Scripts.{script_of};
 ghost use Rattle.journal_text.specs.Answers.{Explains};
@@ -27,18 +27,18 @@ fn unlawful_line(alloc: Global, line: usize) -> Result<String, AllocError>
     format!(in alloc; "unlawful at line {line}\n")
 }
 
-/// Where the journal in the bytes leads the script's processes, of so many rows each.
+/// Where the journal in the bytes leads the script's processes, of so many rows each, 1 to 67107840.
 pub(crate) fn reach(
     alloc: Global,
     script: &Script,
     journal: &[u8],
-    rows: u16,
+    rows: u32,
 ) -> Result<Reached, JournalFault>
+    requires { rows ≤ 67107840 }
     ensures reached { IfOk result (Reaches (script_of script.now) rows journal.now) }
     ensures fault { IfErr result (Explains (script_of script.now) journal.now) }
 {
     let commits = read_journal(alloc, script, journal)?;
-    let rows = rows as u32;
     match replay(alloc, script.processes(), rows, commits.as_slice()) {
         Ok(state) => Ok(Reached::Run(commits, state)),
         Err(ReplayFault::Unlawful(index)) => {

@@ -1,6 +1,6 @@
 //! What `replay` prints.
 
-ghost use Rattle.std.specs.Prelude.{◌≡◌, IfOk, IfErr, OnOk, length};
+ghost use Rattle.std.specs.Prelude.{◌≡◌, ◌≤◌, IfOk, IfErr, OnOk, length};
 ghost use Rattle.std.specs.String.{string_bytes};
 ghost use Rattle.script.specs.Scripts.{script_of};
 ghost use Rattle.journal_text.specs.Answers.{Explains};
@@ -73,13 +73,14 @@ fn state_text(
     Ok(text.into_bytes())
 }
 
-/// Where the journal in the bytes leads the script's processes, of so many rows each.
+/// Where the journal in the bytes leads the script's processes, of so many rows each, 1 to 67107840.
 pub fn replay_text(
     alloc: Global,
     script: &Script,
     journal: &[u8],
-    rows: u16,
+    rows: u32,
 ) -> Result<Replayed, JournalFault>
+    requires { rows ≤ 67107840 }
     ensures replayed { IfOk result (TellsReplayed (script_of script.now) rows journal.now) }
     ensures fault { IfErr result (Explains (script_of script.now) journal.now) }
 {

@@ -6,9 +6,10 @@ ghost use Rattle.std.specs.String.{string_bytes};
 ghost use Rattle.script.specs.Scripts.{script_of};
 ghost use Rattle.journal_text.specs.Journals.{HasLine};
 ghost use Rattle.journal_text.specs.Names.{names_of, named};
-ghost use Rattle.runtime.specs.Limits.{AreRows, AreWorkers};
+ghost use Rattle.runtime.specs.Limits.{AreRows, AreSeasons, AreWorkers};
 ghost use Rattle.runtime.specs.declared.fault.RunFault.TheVariants.{Workers, Rows};
-ghost use Rattle.pcml_tool.specs.Run.{tail_line, IsRan, TellsRecord, TellsRun};
+ghost use Rattle.runtime.specs.declared.seasons.SeasonFault.TheVariants as faults;
+ghost use Rattle.pcml_tool.specs.Run.{tail_line, IsRan, TellsFreely, TellsRecord, TellsRun};
 ghost use Rattle.pcml_tool.specs.Standings.{TellsStandings};
 
 use crate::processes::push_process;
@@ -16,7 +17,7 @@ use journal::Record;
 use journal_replay::End;
 use journal_text::write_journal;
 use protocol_values::Atom;
-use runtime::{OpenGate, RunFault, run};
+use runtime::{OpenGate, RunFault, SeasonFault, run, run_seasons};
 use script::Script;
 use std::alloc::{AllocError, Global};
 use std::sync::Wait;
@@ -91,6 +92,28 @@ pub fn run_parts<R: Threads + Wait + Sync>(
     match record_text(alloc, script, &record) {
         Ok(text) => Ok(text),
         Err(_) => Err(RunFault::Memory),
+    }
+}
+
+/// The same of a run in at most so many seasons, of so many rows each: of one that ends for no want of syncs.
+pub fn run_seasons_parts<R: Threads + Wait + Sync>(
+    rt: &R,
+    alloc: Global,
+    script: &Script,
+    workers: u8,
+    rows: u16,
+    seasons: u16,
+) -> Result<RunText, SeasonFault>
+    ensures ran { IfOk result (λ t. TellsFreely (script_of script.now) (take t.journal t.text.items) (drop t.journal t.text.items)) }
+    ensures within { IfOk result (λ t. t.journal ≤ length t.text.items) }
+    ensures workers { (result ≡ Err faults.Workers) ↔ (¬ AreWorkers workers) }
+    ensures rows { (result ≡ Err faults.Rows) ↔ (AreWorkers workers × (¬ AreRows rows)) }
+    ensures seasons { (result ≡ Err faults.SeasonCount) ↔ (AreWorkers workers × AreRows rows × (¬ AreSeasons seasons)) }
+{
+    let record = run_seasons(rt, alloc, script, workers, rows, seasons as u32, &OpenGate)?;
+    match record_text(alloc, script, &record) {
+        Ok(text) => Ok(text),
+        Err(_) => Err(SeasonFault::Memory),
     }
 }
 

@@ -1,6 +1,6 @@
 //! What `why` prints.
 
-ghost use Rattle.std.specs.Prelude.{IfOk, IfErr};
+ghost use Rattle.std.specs.Prelude.{◌≤◌, IfOk, IfErr};
 ghost use Rattle.script.specs.Scripts.{script_of};
 ghost use Rattle.journal_text.specs.Answers.{Explains};
 ghost use Rattle.pcml_tool.specs.Why.{TellsWhy};
@@ -14,8 +14,8 @@ use pcml_why_numbers::numbered;
 use script::Script;
 use std::alloc::Global;
 
-/// Where the processes of the script stand after the journal in the bytes, at which lines of the script's
-/// text, and with whom each could go on.
+/// Where the processes of the script, of so many rows each, 1 to 67107840, stand after the journal in the
+/// bytes, at which lines of the script's text, and with whom each could go on.
 ///
 /// The journal is replayed twice: by the processes, and by processes that print the number of each
 /// statement before they begin it.
@@ -24,14 +24,14 @@ pub fn why_journal(
     script: &Script,
     text: &[u8],
     journal: &[u8],
-    rows: u16,
+    rows: u32,
 ) -> Result<Replayed, JournalFault>
+    requires { rows ≤ 67107840 }
     ensures told { IfOk result (TellsWhy (script_of script.now) text.now rows journal.now) }
     ensures fault { IfErr result (Explains (script_of script.now) journal.now) }
 {
     match reach(alloc, script, journal, rows)? {
         Reached::Run(commits, state) => {
-            let rows = rows as u32;
             let processes = numbered(alloc, script.processes())?;
             match replay(alloc, processes.as_slice(), rows, commits.as_slice()) {
                 Ok(standing) => {

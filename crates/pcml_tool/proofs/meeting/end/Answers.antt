@@ -1,12 +1,12 @@
-use Rattle.std.proofs.Common.{◌<◌, ℕ, ap, sym, ◌∙◌, subst}
+use Rattle.std.proofs.Common.{sym, ◌∙◌, subst}
 use Rattle.protocol.proofs.Acting.{start_is}
-use Rattle.protocol.proofs.LedgerLemmas.{nobody_waits}
+use Rattle.protocol.specs.Openings.{HadStarted, Opening}
 use Rattle.protocol.specs.Ledgers.{course_in}
-use Rattle.protocol.specs.Worlds.{waits}
 use Rattle.cell_table.specs.declared.view.Seen.{Seen}
 use Rattle.cell_table.specs.Rule.{heard, told_of}
 use Rattle.cell_table.specs.Sight.{SeesOffer, SeesNoOffer}
 use Rattle.pcml_tool.specs.Meet.{first_row, send_of, receive_offer}
+use Rattle.pcml_tool.proofs.MeetingLedger.{both_start}
 use Rattle.pcml_tool.proofs.Parts.{sees_own, sees_no_more, still_opened}
 use Rattle.pcml_tool.proofs.meeting.end.Goals as goal
 
@@ -16,7 +16,7 @@ returns c value size sends receives =
       threads = c.close.ensures.size.0 ∙ size.0;
       rows = c.close.ensures.size.1 ∙ size.1;
       lawful = c.close.ensures.lawful;
-      starts = λ t below. start_is (course_in c.close.result t) 0 (c.close.ensures.at_once t (subst (λ (n : ℕ). t < n) (sym size.0) below) (ap (λ (n : ℕ). waits n t) size.2 ∙ nobody_waits t));
+      starts = λ t below. start_is (course_in c.close.result t) 0 (c.close.ensures.before t 0 (subst (λ (o : Opening). HadStarted o t 0) (sym size.2) (both_start t below)));
       sends = c.close.ensures.offers (first_row 0) 0 (send_of value)
           (subst (λ (s : Seen). SeesOffer s (first_row 0) 0 (send_of value)) (sym c.tell.ensures.told)
           (sees_own (heard c.args.sender.seen (told_of c.args.receiver.seen)) (first_row 0) (send_of value) (still_opened c.args.sender.seen (told_of c.args.receiver.seen) (first_row 0) sends.2) sends.3));
