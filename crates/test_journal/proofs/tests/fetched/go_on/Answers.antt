@@ -10,7 +10,7 @@ use Rattle.test_journal.specs.declared.tests.fetched.Suspended.{Suspended}
 use Rattle.test_journal.proofs.tests.fetched.go_on.Goals as goal
 
 -- what came out with a row that was taken
-came_out : {M : Type 0} (stands : Stands M) (first : List M) (old new : Seen) (r : Row) (o : Option Joined) (j : Joined) (results : List (ℕ × List Result)) (before after : List (ℕ × Option M)) → o ≡ Some j → 0 < length first
+came_out : {M : Type 0} (stands : Stands M) (first : List (Option M)) (old new : Seen) (r : Row) (o : Option Joined) (j : Joined) (results : List (ℕ × List Result)) (before after : List (ℕ × Option M)) → o ≡ Some j → 0 < length first
     → Hands stands first old new r o results before after → (value : M) × (after ≡ (r.thread, Some value) ∷ before)
 came_out stands first old new r o j results before after is filled hands =
     let out = (subst (λ (x : Option Joined). Hands stands first old new r x results before after) is hands).3.1 filled in

@@ -7,4 +7,4 @@ use Rattle.test_meet.proofs.tests.threads.no_pair_is_missed.Lts as lts
 use Rattle.test_meet.proofs.tests.threads.no_pair_is_missed.Goals as goal
 
 pub join-sender-requires-send-F : goal.join-sender-requires-send-F
-join-sender-requires-send-F g c κs within = param_send 1 (lts.arg-13-1 g.bound-1-dict g.bound-2-dict g.bound-3-dict κs) (search (sendable, crosses, bare_cells_sync, bare_pass_send, meet_sync, lanes_send) depth 60 fits 30000)
+join-sender-requires-send-F g c κs within = param_send 1 (lts.arg-14-1 g.bound-1-dict g.bound-2-dict g.bound-3-dict κs) (search (sendable, crosses, bare_cells_sync, bare_pass_send, meet_sync, lanes_send) depth 60 fits 30000)
