@@ -37,7 +37,7 @@ fn try_seed<R: AllocGlobal + Threads + Wait + Sync>(rt: &R, seed: u64) -> Result
     let fired = record.journal.iter().any(|commit| is_nack(commit));
     ensure!(fired || !has_sure_nack, "seed {seed}: no nack fired");
     let journal = write_journal(alloc, &script, record.journal.as_slice())?;
-    let replayed = replay_text(alloc, &script, journal.as_slice(), ROWS)?;
+    let replayed = replay_text(alloc, &script, journal.as_slice(), u32::from(ROWS))?;
     ensure!(
         is_maximal(&replayed),
         "seed {seed}: the journal is no maximal run"

@@ -8,12 +8,16 @@ use std::test::Fail;
 use std::thread::Threads;
 
 /// Every fault: a match over them in `Fault::number` has no other.
-const FAULTS: [Fault; 16] = [
+const FAULTS: [Fault; 20] = [
     Fault::Memory,
     Fault::NotAllowed(7),
     Fault::Workers,
     Fault::Rows,
+    Fault::Lost,
+    Fault::Unlawful,
     Fault::NoThread,
+    Fault::Seasons,
+    Fault::SeasonCount,
     Fault::Syntax(7),
     Fault::UnknownName(7),
     Fault::Twice(7),

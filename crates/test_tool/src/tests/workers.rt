@@ -4,7 +4,7 @@ use super::check_same;
 use super::scripts::{EXAMPLES, Example, TWO_PAIRS, TWO_WAIT};
 use journal_text::read_journal;
 use protocol_values::Commit;
-use runtime::{OpenGate, RunFault, run, work, work_with_machines};
+use runtime::{OpenGate, RunFault, SeasonFault, run, run_seasons, work, work_with_machines};
 use script::{Script, parse};
 use std::alloc::{AllocError, Global};
 use std::process::Abort;
@@ -129,6 +129,64 @@ fn leaves_all_machines(rt: HostRuntime) -> Result<(), Fail> {
                 assert!(rt; machines.iter().all(|machine| machine.is_some()));
             }
         }
+    }
+    Ok(())
+}
+
+/// So many rows in each of so many seasons, of 60 syncs a process.
+const SEASONS: [(u16, u32); 4] = [(1, 60), (7, 9), (16, 4), (60, 1)];
+
+// All commits are made by the workers, however few rows a season has, and the replay finds that they are a run.
+#[test]
+fn seasons_go_on(rt: HostRuntime) -> Result<(), Fail> {
+    let alloc = rt.alloc();
+    let text = pairs(alloc, 60)?;
+    let script = parse(alloc, text.as_bytes())?;
+    for workers in &[1, 2, 16] {
+        for (rows, seasons) in &SEASONS {
+            let record = run_seasons(&rt, alloc, &script, *workers, *rows, *seasons, &OpenGate)?;
+            check_same(&rt, record.journal.len(), 1920, "the commits");
+            check_same(&rt, record.tail, 0, "the tail");
+            let fewer = run_seasons(
+                &rt,
+                alloc,
+                &script,
+                *workers,
+                *rows,
+                *seasons - 1,
+                &OpenGate,
+            );
+            let fault = if *seasons == 1 {
+                SeasonFault::SeasonCount
+            } else {
+                SeasonFault::Seasons
+            };
+            check_same(
+                &rt,
+                fewer.err(),
+                Some(fault),
+                "the fault of a season too few",
+            );
+        }
+    }
+    Ok(())
+}
+
+/// Workers, rows and seasons outside their limits.
+const SEASONS_OUTSIDE: [(u8, u16, u32, SeasonFault); 4] = [
+    (0, 0, 0, SeasonFault::Workers),
+    (16, 1025, 0, SeasonFault::Rows),
+    (1, 1, 0, SeasonFault::SeasonCount),
+    (1, 1, 65536, SeasonFault::SeasonCount),
+];
+
+#[test]
+fn seasons_outside_their_limits_are_refused(rt: HostRuntime) -> Result<(), Fail> {
+    let alloc = rt.alloc();
+    let script = parse(alloc, TWO_PAIRS.as_bytes())?;
+    for (workers, rows, seasons, fault) in &SEASONS_OUTSIDE {
+        let ran = run_seasons(&rt, alloc, &script, *workers, *rows, *seasons, &OpenGate).err();
+        check_same(&rt, ran, Some(*fault), "the fault of a run in seasons");
     }
     Ok(())
 }
