@@ -14,9 +14,9 @@ _pcml_files() {
 # The options of a command.
 _pcml_options() {
   case $1 in
-    run) echo --workers --rows --journal --quiet --help ;;
-    replay | why) echo --rows --help ;;
-    chart) echo --rows --from --to --help ;;
+    run) echo --workers --rows --seasons --journal --quiet --help ;;
+    replay | why) echo --rows --seasons --help ;;
+    chart) echo --rows --seasons --from --to --help ;;
     *) echo --help ;;
   esac
 }
@@ -42,7 +42,7 @@ _pcml() {
   case $before in
     --workers) _pcml_give '1 2 4 8 16' ;;
     --rows) _pcml_give '256 1024' ;;
-    --from | --to) ;;
+    --from | --to | --seasons) ;;
     --journal) _pcml_files ;;
     *) _pcml_argument ;;
   esac
@@ -55,7 +55,7 @@ _pcml_argument() {
     return
   fi
   case $command in
-    explain) _pcml_give '1 2 3 6 11 12 13 14 15 16 21 22 23 31 32' ;;
+    explain) _pcml_give '1 2 3 4 5 6 7 8 11 12 13 14 15 16 21 22 23 31 32' ;;
     help) _pcml_give "$commands" ;;
     meet) ;;
     *) _pcml_files ;;
