@@ -3,6 +3,8 @@
 #![tactic(auto)]
 
 #[cfg(test)]
+mod later_lists;
+#[cfg(test)]
 mod merge_lists;
 #[cfg(test)]
 mod merges;

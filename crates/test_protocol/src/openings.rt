@@ -12,7 +12,7 @@ use std::test::Fail;
 const LAST: u32 = 4294967295;
 
 /// An opening of these threads, in which the first nacks are so and no other is bound.
-fn opening(
+pub(crate) fn opening(
     alloc: Global,
     threads: &[(Life, u32)],
     nacks: &[NackState],

@@ -16,41 +16,84 @@ struct Life {
     behind: Option<u8>,
 }
 
+/// What a thread did before the world: it waits to be started, it runs, or it has ended, with its last
+/// stamp.
+#[derive(Clone, Copy)]
+pub(crate) enum Past {
+    Waits,
+    Runs(u32),
+    Over(u32),
+}
+
+impl Past {
+    fn life(self) -> Life {
+        let (start, end) = match self {
+            Past::Waits => (None, None),
+            Past::Runs(stamp) => (Some(stamp), None),
+            Past::Over(stamp) => (Some(stamp), Some(0)),
+        };
+        Life {
+            start,
+            end,
+            behind: None,
+        }
+    }
+
+    /// The holder of the thread's first row, where it would be this seat.
+    fn holder(self, seat: u8) -> Option<u8> {
+        match self {
+            Past::Runs(_) => Some(seat),
+            Past::Waits | Past::Over(_) => None,
+        }
+    }
+}
+
+/// A nack that is bound has its sync and its scope. What an earlier table settled was enabled at a stamp,
+/// or is dead.
+#[derive(Clone, Copy)]
+enum PlainNack {
+    Unbound,
+    Bound(u32, u8),
+    Settled(Option<u32>),
+}
+
 /// A world of three threads with two rows each, whose words stand apart; place 0 of them is not used.
-/// A nack that is bound has its sync and its scope.
 #[derive(Clone, Copy)]
 pub(crate) struct PlainWorld {
     seats: u8,
     rows: [PlainRow; 6],
     words: [[u64; 34]; 6],
-    nacks: [Option<(u32, u8)>; 192],
+    nacks: [PlainNack; 192],
     lives: [Life; 3],
 }
 
 impl PlainWorld {
-    /// All rows Fresh and no nack bound; row 0 of thread t is held by seat t mod `seats`. The last thread
-    /// may wait to be started, and then nobody holds its row.
-    pub(crate) fn start(seats: u8, last_waits: bool) -> PlainWorld
+    /// All rows Fresh and no nack bound; row 0 of a thread t that runs is held by seat t mod `seats`, and
+    /// that of another thread by nobody.
+    pub(crate) fn start(seats: u8, pasts: [Past; 3]) -> PlainWorld
         requires some_seats { 1 ≤ seats }
     {
-        let (holder, last) = if last_waits {
-            (None, unstarted())
-        } else {
-            (Some(2 % seats), started())
-        };
+        let [first, second, third] = pasts;
         PlainWorld {
             seats,
             rows: [
-                fresh_row(0, 0, Some(0)),
+                fresh_row(0, 0, first.holder(0)),
                 fresh_row(0, 1, None),
-                fresh_row(1, 0, Some(1 % seats)),
+                fresh_row(1, 0, second.holder(1 % seats)),
                 fresh_row(1, 1, None),
-                fresh_row(2, 0, holder),
+                fresh_row(2, 0, third.holder(2 % seats)),
                 fresh_row(2, 1, None),
             ],
             words: [[0; 34]; 6],
-            nacks: [None; 192],
-            lives: [started(), started(), last],
+            nacks: [PlainNack::Unbound; 192],
+            lives: [first.life(), second.life(), third.life()],
+        }
+    }
+
+    /// An earlier table settled the nack: it was enabled at the stamp, or is dead.
+    pub(crate) fn settle(&mut self, nack: NackName, stamp: Option<u32>) {
+        if let Some(place) = self.nacks.get_mut(nack_place(nack)) {
+            *place = PlainNack::Settled(stamp);
         }
     }
 
@@ -221,8 +264,11 @@ impl PlainWorld {
 
     /// The stamp of the commit that enabled the nack.
     fn enabled(&self, nack: NackName) -> Option<u32> {
-        let bound = self.nacks.get(nack_place(nack)).copied()?;
-        let (sync, scope) = bound?;
+        let (sync, scope) = match self.nacks.get(nack_place(nack)).copied()? {
+            PlainNack::Unbound => return None,
+            PlainNack::Bound(sync, scope) => (sync, scope),
+            PlainNack::Settled(stamp) => return stamp,
+        };
         let line = self.row(Row {
             thread: nack.thread,
             sync,
@@ -372,13 +418,13 @@ impl PlainWorld {
             thread: row.thread,
             k,
         };
-        let Some(bound) = self.nacks.get_mut(nack_place(nack)) else {
+        let Some(state) = self.nacks.get_mut(nack_place(nack)) else {
             return false;
         };
-        if bound.is_some() {
+        let PlainNack::Unbound = *state else {
             return false;
-        }
-        *bound = Some((row.sync, scope));
+        };
+        *state = PlainNack::Bound(row.sync, scope);
         true
     }
 
@@ -462,23 +508,6 @@ impl PlainWorld {
             cause,
             stamp: line.stamp,
         })
-    }
-}
-
-/// A thread that waits to be started, and one that began with its world.
-fn unstarted() -> Life {
-    Life {
-        start: None,
-        end: None,
-        behind: None,
-    }
-}
-
-fn started() -> Life {
-    Life {
-        start: Some(0),
-        end: None,
-        behind: None,
     }
 }
 
