@@ -97,19 +97,13 @@ fn answer<R: Threads + Wait + Sync, S: Source>(
             journal,
             rows,
             seasons,
-        } => {
-            let rows = all_rows(rows, seasons);
-            replay_files(alloc, source, script, journal, rows)
-        }
+        } => replay_files(alloc, source, script, journal, all_rows(rows, seasons)),
         Request::Why {
             script,
             journal,
             rows,
             seasons,
-        } => {
-            let rows = all_rows(rows, seasons);
-            why_files(alloc, source, script, journal, rows)
-        }
+        } => why_files(alloc, source, script, journal, all_rows(rows, seasons)),
         Request::Chart {
             script,
             journal,
@@ -117,10 +111,15 @@ fn answer<R: Threads + Wait + Sync, S: Source>(
             seasons,
             from,
             to,
-        } => {
-            let rows = all_rows(rows, seasons);
-            chart_files(alloc, source, script, journal, rows, from, to)
-        }
+        } => chart_files(
+            alloc,
+            source,
+            script,
+            journal,
+            all_rows(rows, seasons),
+            from,
+            to,
+        ),
     }
 }
 
