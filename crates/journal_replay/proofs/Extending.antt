@@ -1,5 +1,5 @@
 -- What a commit does to a thread's results: they only grow.
-use Rattle.std.proofs.Common.{◌≡◌, ℕ, List, [], ◌∷◌, ◌++◌, length, slice_get, Some, refl, sym, ap, ◌∙◌, append_assoc, append-nil, inl, inr, ⊎_elim}
+use Rattle.std.proofs.Common.{◌≡◌, ℕ, suc, List, [], ◌∷◌, ◌++◌, length, slice_get, Some, Contains, refl, sym, ap, ◌∙◌, append_assoc, append-nil, arith, inl, inr, ⊎_elim}
 use Rattle.std.proofs.lemmas.Bool.{cases_eq}
 use Rattle.thread.specs.After.{Chosen}
 use Rattle.protocol_values.specs.declared.Commit.{Commit}
@@ -8,10 +8,7 @@ use Rattle.protocol_values.specs.declared.Message.TheVariants.{Empty}
 use Rattle.journal_replay.specs.Runs.{Config, HasThread, applied, with_result, message_by, config_from}
 use Rattle.journal_replay.proofs.Lists.{slice_get-middle}
 use Rattle.journal_replay.proofs.Standing.{result-at, result-other}
-
--- these results with others behind them
-abbrev pub Extends : List Chosen → List Chosen → Type 0
-Extends before rs = (behind : List Chosen) × (rs ≡ before ++ behind)
+pub use Rattle.journal_replay.proofs.Starting.{Extends}
 
 pub extends-same : (before rs : List Chosen) → rs ≡ before → Extends before rs
 extends-same before rs e = ([], e ∙ sym (append-nil before))
@@ -49,3 +46,9 @@ applied-other config (Pair sender receiver chan msg stamp) t none =
     result-other receiver.0.thread t (receiver.1, msg) (with_result sender.0.thread (sender.1, Empty) config) (λ e. none (inr (sym e)))
     ∙ result-other sender.0.thread t (sender.1, Empty) config (λ e. none (inl (sym e)))
 applied-other config (Alone at why stamp) t none = result-other at.0.thread t (at.1, message_by why) config (λ e. none (sym e))
+
+-- nor do commits of which none is of the thread
+pub none-from : (config : Config) (cs : List Commit) (t : ℕ) → ((d : Commit) → Contains cs d → HasThread d t → ⊥) → config_from config cs t ≡ config t
+none-from config [] t none = refl
+none-from config (c ∷ cs) t none =
+    none-from (applied config c) cs t (λ d there. none d (suc there.0, omega (arith, there.1), there.2)) ∙ applied-other config c t (none c (0, omega arith, refl))

@@ -1,12 +1,13 @@
 -- Nacks that are fired as a thread's results grow.
 use Rattle.std.proofs.Common.{◌≡◌, ◌⊎◌, ℕ, zero, suc, ◌<◌, Bool, true, false, List, [], ◌∷◌, ◌++◌, length, take, slice_get, Some, Contains, refl, sym, ap, ◌∙◌, subst, arith, inl, inr, ⊎_elim}
 use Rattle.std.proofs.lemmas.Bool.{cases_eq}
+use Rattle.std.proofs.lemmas.List.{take-append-le}
 use Rattle.std.proofs.lemmas.Option.{none-some, same_Some, slice_get_within}
 use Rattle.event.specs.Tree.{Tree, BaseEvent, bases, scope_nacks}
 use Rattle.script_tree.specs.Processes.{Proc}
 use Rattle.thread.specs.After.{Chosen}
 use Rattle.journal_replay.specs.Runs.{IsOffering, FiredAt}
-use Rattle.journal_replay.proofs.Lists.{slice_get-first, slice_get-last, slice_get-more, take-first, take-whole}
+use Rattle.journal_replay.proofs.Lists.{slice_get-first, slice_get-last, slice_get-more, take-whole}
 
 -- WHETHER A NACK IS AMONG THESE, UNDER A SCOPE THAT FAILS THE TEST
 
@@ -34,14 +35,15 @@ decide (n ∷ nacks) test k = elim (decide nacks (λ s. test (suc s)) k) [
 
 -- RESULTS THAT GROW
 
-pub fired-kept : (ps : List Proc) (t : ℕ) (results : List Chosen) (r : Chosen) (k g : ℕ) → FiredAt ps t results k g → FiredAt ps t (results ++ r ∷ []) k g
-fired-kept ps t results r k g f =
+-- a nack that was fired stays so
+pub fired-behind : (ps : List Proc) (t : ℕ) (results behind : List Chosen) (k g : ℕ) → FiredAt ps t results k g → FiredAt ps t (results ++ behind) k g
+fired-behind ps t results behind k g f =
     let within : g < length results = slice_get_within results g f.chosen f.result in
     record {
       chosen = f.chosen;
-      result = slice_get-first results (r ∷ []) g within ∙ f.result;
+      result = slice_get-first results behind g within ∙ f.result;
       event = f.event;
-      offered = subst (λ (xs : List Chosen). IsOffering ps t xs f.event) (sym (take-first g results r (omega (arith, within)))) f.offered;
+      offered = subst (λ (xs : List Chosen). IsOffering ps t xs f.event) (sym (take-append-le g results behind (omega (arith, within)))) f.offered;
       scope = f.scope;
       nack = f.nack;
       base = f.base;
@@ -49,18 +51,22 @@ fired-kept ps t results r k g f =
       outside = f.outside;
     }
 
-fired-before : (ps : List Proc) (t : ℕ) (results : List Chosen) (r : Chosen) (k g : ℕ) (f : FiredAt ps t (results ++ r ∷ []) k g) → g < length results → slice_get results g ≡ Some f.chosen → FiredAt ps t results k g
-fired-before ps t results r k g f within is = record {
+-- and one that an earlier sync fired was fired by then
+pub fired-front : (ps : List Proc) (t : ℕ) (results behind : List Chosen) (k g : ℕ) → FiredAt ps t (results ++ behind) k g → g < length results → FiredAt ps t results k g
+fired-front ps t results behind k g f within = record {
   chosen = f.chosen;
-  result = is;
+  result = sym (slice_get-first results behind g within) ∙ f.result;
   event = f.event;
-  offered = subst (λ (xs : List Chosen). IsOffering ps t xs f.event) (take-first g results r (omega (arith, within))) f.offered;
+  offered = subst (λ (xs : List Chosen). IsOffering ps t xs f.event) (take-append-le g results behind (omega (arith, within))) f.offered;
   scope = f.scope;
   nack = f.nack;
   base = f.base;
   took = f.took;
   outside = f.outside;
 }
+
+pub fired-kept : (ps : List Proc) (t : ℕ) (results : List Chosen) (r : Chosen) (k g : ℕ) → FiredAt ps t results k g → FiredAt ps t (results ++ r ∷ []) k g
+fired-kept ps t results r k g f = fired-behind ps t results (r ∷ []) k g f
 
 -- a sync that fired nack k did so before, or it is the last, which offered this event and chose this
 abbrev pub FiredNow : List Proc → ℕ → List Chosen → Chosen → ℕ → Type 0
@@ -70,7 +76,7 @@ FiredNow ps t results r k =
 
 pub fired-cases : (ps : List Proc) (t : ℕ) (results : List Chosen) (r : Chosen) (k g : ℕ) → FiredAt ps t (results ++ r ∷ []) k g → FiredAt ps t results k g ⊎ ((g ≡ length results) × FiredNow ps t results r k)
 fired-cases ps t results r k g f = ⊎_elim
-    (λ h. inl (fired-before ps t results r k g f h.0 h.1))
+    (λ h. inl (fired-front ps t results (r ∷ []) k g f h.0))
     (λ h.
     let whole : take g (results ++ r ∷ []) ≡ results = ap (λ (n : ℕ). take n (results ++ r ∷ [])) h.0 ∙ take-whole results r in
     inr (

@@ -32,7 +32,7 @@ use Rattle.journal_replay.specs.Standing.{IsOrdered, KnowsNack, MachineStands, S
 use Rattle.journal_replay.specs.Starting.{AtOnce, HasSpawned, InRow, InStart}
 use Rattle.journal_replay.proofs.Bounding.{bounded-starts}
 use Rattle.journal_replay.proofs.Counting.{all_syncs, syncs_of}
-use Rattle.journal_replay.proofs.Extending.{Extends, applied-other, config-extends, result-stays}
+use Rattle.journal_replay.proofs.Extending.{Extends, config-extends, none-from, result-stays}
 use Rattle.journal_replay.proofs.Lists.{slice_get-more}
 use Rattle.journal_replay.proofs.Opening.{offers-are}
 use Rattle.journal_replay.proofs.Sounding.{run-sound, take-one}
@@ -357,11 +357,6 @@ gathering-none ps rows commits known s are g none =
     }
 
 -- THE END
-
-none-from : (config : Config) (cs : List Commit) (t : ℕ) → ((d : Commit) → Contains cs d → HasThread d t → ⊥) → config_from config cs t ≡ config t
-none-from config [] t none = refl
-none-from config (c ∷ cs) t none =
-    none-from (applied config c) cs t (λ d there. none d (suc there.0, omega (arith, there.1), there.2)) ∙ applied-other config c t (none c (0, omega arith, refl))
 
 module _ (ps : List Proc) (rows : ℕ) (commits : List Commit) (strands : List Strand) (run : IsRun ps rows commits) (all : Together ps commits (config_of commits) strands) where
   abbrev final : Config

@@ -9,7 +9,7 @@ pub mod Standing
 pub mod Running
 pub mod Extending
 pub mod Counting
-mod Sounding
+pub mod Sounding
 mod Remembering
 mod Replaying
 mod Ending

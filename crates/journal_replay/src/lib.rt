@@ -4,7 +4,7 @@
 //! - `replay` is Ok exactly where the commits are a run of the processes, want of memory aside, and else
 //!   names the first commit with which they are none.
 //! - A process that some text spawns takes part from where its spawner, once started, first spawned it.
-//! - `gather` stands where a run leads, by machines that have gone part of it.
+//! - `gather` stands where a run leads, by machines that have gone part of it, and `retrace` by none.
 #![tactic(auto)]
 
 mod end;
@@ -18,7 +18,7 @@ mod threads;
 mod waiters;
 
 pub use crate::end::End;
-pub use crate::gathering::gather;
+pub use crate::gathering::{gather, retrace};
 pub use crate::runs::{replay, settle};
 pub use crate::state::{ReplayFault, State};
 pub use crate::strand::Known;
