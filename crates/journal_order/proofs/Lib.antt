@@ -15,3 +15,4 @@ pub mod Meeting
 pub mod Spawners
 pub mod Leading
 pub mod Schedules
+pub mod Opening

@@ -1,5 +1,5 @@
 -- Each commit of a run is a meeting: what its syncs offered they took, and it stays so.
-use Rattle.std.proofs.Common.{◌≡◌, ℕ, List, [], ◌∷◌, ◌++◌, length, take, refl, sym, ap, ◌∙◌, append_assoc, append-nil, subst, arith}
+use Rattle.std.proofs.Common.{◌≡◌, ℕ, List, [], ◌∷◌, ◌++◌, length, take, refl, sym, ap, ◌∙◌, append_assoc, subst, arith}
 use Rattle.std.proofs.lemmas.List.{take_all, take_at}
 use Rattle.std.proofs.lemmas.Option.{slice_get_within}
 use Rattle.script_tree.specs.Processes.{Proc}
@@ -15,7 +15,7 @@ use Rattle.protocol_values.specs.declared.Message.TheVariants.{Empty}
 use Rattle.protocol_values.specs.declared.NackName.{NackName}
 use Rattle.protocol_values.specs.declared.Row.{Row}
 use Rattle.journal_replay.specs.Runs.{CanTake, Config, FiredAt, HasEnded, IsFiredAt, IsLegal, IsOffering, IsRun, Starts, applied, with_result, config_from, config_of, no_results}
-use Rattle.journal_replay.proofs.Firing.{fired-kept}
+use Rattle.journal_replay.proofs.Firing.{fired-behind}
 use Rattle.journal_replay.proofs.Greatest.{more}
 use Rattle.journal_replay.proofs.Standing.{config_from-append, config_of-more, result-at, result-other, touches}
 use Rattle.journal_replay.proofs.Starting.{starts-on}
@@ -41,12 +41,6 @@ took ps rows config final at b msg can h =
     }
 
 -- a nack that was fired stays so
-fired-behind : (ps : List Proc) (t : ℕ) (before behind : List Chosen) (k g : ℕ) → FiredAt ps t before k g → FiredAt ps t (before ++ behind) k g
-fired-behind ps t before [] k g f = subst (λ (rs : List Chosen). FiredAt ps t rs k g) (sym (append-nil before)) f
-fired-behind ps t before (r ∷ behind) k g f =
-    subst (λ (rs : List Chosen). FiredAt ps t rs k g) (append_assoc before (r ∷ []) behind)
-    (fired-behind ps t (before ++ r ∷ []) behind k g (fired-kept ps t before r k g f))
-
 fired-later : (ps : List Proc) (config final : Config) (n : NackName) → Extends (config n.thread) (final n.thread) → (g : ℕ) × IsFiredAt ps config n g → (g : ℕ) × IsFiredAt ps final n g
 fired-later ps config final n h f =
     (f.0, subst (λ (rs : List Chosen). FiredAt ps n.thread rs n.k f.0) (sym h.1) (fired-behind ps n.thread (config n.thread) h.0 n.k f.0 f.1))

@@ -1,10 +1,10 @@
 -- The results that a run gives to its threads: they only grow, and each row has its own.
-use Rattle.std.proofs.Common.{◌≡◌, ℕ, ◌+◌, ◌<◌, ◌≤◌, List, [], ◌∷◌, ◌++◌, length, take, drop, slice_get, Some, refl, sym, ap, ◌∙◌, subst, arith, ⊎_elim}
+use Rattle.std.proofs.Common.{◌≡◌, ℕ, ◌+◌, ◌<◌, ◌≤◌, List, [], ◌∷◌, ◌++◌, length, take, drop, slice_get, Some, Contains, refl, sym, ap, ◌∙◌, subst, arith, ⊎_elim}
 use Rattle.std.specs.Prelude.{⊤}
 use Rattle.std.specs.List.{AllByRecursion}
 use Rattle.std.proofs.lemmas.Bool.{cases_order}
-use Rattle.std.proofs.lemmas.List.{length-append, take-append-drop, take-take, take_more}
-use Rattle.std.proofs.lemmas.Option.{get_or_from_slice_get, slice_get_within}
+use Rattle.std.proofs.lemmas.List.{length-append, take-append-drop, take-take, take_all, take_more}
+use Rattle.std.proofs.lemmas.Option.{get_or_from_slice_get, slice_get-get_or, slice_get_within}
 use Rattle.script_tree.specs.Processes.{Proc}
 use Rattle.thread.specs.After.{Chosen}
 use Rattle.protocol_values.specs.declared.Commit.{Commit}
@@ -62,6 +62,18 @@ before-later journal i j c is lt within = (
       ∙ ap (λ (cs : List Commit). cs ++ drop (i + 1) (take j journal))
       (take-take (i + 1) j journal (omega (arith, lt)) ∙ take_more journal i c (omega (arith, lt, within)) ∙ ap (λ (x : Commit). take i journal ++ x ∷ []) (get_or_from_slice_get journal i c c is)),
 )
+
+-- each row of a run's commits is a sync that its thread made
+pub rows-within : (ps : List Proc) (rows : ℕ) (journal : List Commit) → IsRun ps rows journal → (c : Commit) (t g : ℕ) → Contains journal c → HasRow c t g → g < length (config_of journal t)
+rows-within ps rows journal run c t g there has =
+    let i = there.0 in
+    let at : slice_get journal i ≡ Some c = slice_get-get_or journal i c there.1 ∙ ap (λ (z : Commit). Some z) there.2 in
+    let legal = (run i c at).legal in
+    let next = rows-are ps rows (config_of (take i journal)) c legal t g has in
+    let w = before-later journal i (length journal) c at there.1 (omega arith) in
+    let grown = longer ps rows (take i journal) w.0 c t legal next.1 in
+    let whole : journal ≡ more (take i journal) c ++ w.0 = sym (take_all (length journal) journal (omega arith)) ∙ w.1 in
+    omega (arith, grown, next.0, ap (λ (zs : List Commit). length (config_of zs t)) whole)
 
 rows-rise : (ps : List Proc) (rows : ℕ) (journal : List Commit) → IsRun ps rows journal → (i j : ℕ) (c d : Commit) (t g h : ℕ) →
     slice_get journal i ≡ Some c → slice_get journal j ≡ Some d → i < j → HasRow c t g → HasRow d t h → g < h

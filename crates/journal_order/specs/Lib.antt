@@ -2,3 +2,4 @@ pub mod Laws
 pub mod Meetings
 pub mod Messages
 pub mod Ledgers
+pub mod Behind

@@ -1,6 +1,7 @@
 //! The order of a journal: laws of runs in sequential CML. No code runs here.
 #![tactic(auto)]
 
+ghost use Rattle.journal_order.specs.Behind.{OfEach, OpeningsLead, RunsBehind, TellsResultsOn, TellsRowsOn, TellsRunFirst, TellsRunOn};
 ghost use Rattle.journal_order.specs.Laws.{AboveStarts, EachMeets, EachStarted, HasOrder, NamedIsReceived, OneLedgerOrder, OneOrder, OneRowOneCommit, OneStampOneThread, OneSyncOneNack, OrderedIsRun, ReceivedIsSent, StampsRise};
 ghost use Rattle.journal_order.specs.Ledgers.{LedgerIsRun, LedgersTell, ScheduleHasLedger, ScheduleIsRun, TellsNacks, TellsResults, TellsStamps, TellsStarts};
 
@@ -72,6 +73,19 @@ pub fn ledger_tells_law()
     ensures nacks { LedgersTell TellsNacks }
     ensures stamps { LedgersTell TellsStamps }
     ensures starts { LedgersTell TellsStarts }
+    ensures run { LedgersTell TellsRunFirst }
+{}
+
+/// A table may go on where a run led: its threads have the run's results behind them, and its opening tells who had started,
+/// with which last stamp, who had ended, and which nacks were fired. Then the run, and behind it the commits of a lawful
+/// ledger of such a table, in order and numbered on, are a run; and what the ledger tells of its end is so where they lead,
+/// so that a further table can go on there.
+pub fn going_on_law()
+    ensures opens { OpeningsLead }
+    ensures run { OfEach RunsBehind }
+    ensures results { OfEach TellsResultsOn }
+    ensures rows { OfEach TellsRowsOn }
+    ensures tells { OfEach TellsRunOn }
 {}
 
 /// However the steps of a schedule fall in which the processes that texts spawn wait at the start, each row is

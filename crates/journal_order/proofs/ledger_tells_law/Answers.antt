@@ -1,4 +1,5 @@
 use Rattle.journal_order.proofs.Leading.{tells-nack, tells-stamp, tells-started, tells-thread}
+use Rattle.journal_order.proofs.Opening.{first-tells-run}
 use Rattle.journal_order.proofs.ledger_tells_law.Goals as goal
 
 pub returns-clause-results : goal.returns-clause-results
@@ -12,3 +13,6 @@ returns-clause-stamps c = tells-stamp
 
 pub returns-clause-starts : goal.returns-clause-starts
 returns-clause-starts c = tells-started
+
+pub returns-clause-run : goal.returns-clause-run
+returns-clause-run c = first-tells-run
