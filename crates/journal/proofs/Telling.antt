@@ -1,73 +1,33 @@
--- What a ledger and machines tell of each thread is so where the ledger's commits lead.
-use Rattle.std.proofs.Common.{get_or-set_same, get_or-set_other, ◌≡◌, ◌*◌, ◌+◌, ◌<◌, ◌≤◌, ◌&&◌, ℕ, zero, suc, Bool, true, false, cond, ltb, List, [], ◌∷◌, ◌++◌, length, replicate, set, get_or, slice_get, Option, Some, None, Contains, IfSome, refl, sym, ap, ◌∙◌, subst, arith, ⊎_elim}
-use Rattle.std.proofs.lemmas.Bool.{cases_eq, cases_lt, le-ltb, ltb-true, lt-ltb}
-use Rattle.std.proofs.lemmas.Option.{none-some, slice_get_within}
+-- What an opening and machines tell of each thread is known where its run leads.
+use Rattle.std.proofs.Common.{get_or-set_same, get_or-set_other, ◌≡◌, ◌*◌, ◌+◌, ◌<◌, ◌≤◌, ℕ, zero, suc, Bool, true, false, cond, ltb, List, [], ◌∷◌, ◌++◌, length, replicate, set, get_or, slice_get, Option, Some, None, Contains, IfSome, refl, sym, ap, ◌∙◌, subst, arith, inl, inr, ⊎_elim}
+use Rattle.std.proofs.lemmas.Bool.{cases_eq, cases_lt, le-ltb, lt-ltb}
+use Rattle.std.proofs.lemmas.Option.{slice_get_within}
 use Rattle.std.proofs.lemmas.List.{length-set, length_push}
-use Rattle.std.specs.Prelude.{option_and_then}
+use Rattle.std.proofs.lemmas.List.Sorted.{Contains-permutation, IsPermutation-sym}
+use Rattle.std.specs.Prelude.{IsPermutation, option_and_then}
 use Rattle.script_tree.specs.Processes.{Proc}
+use Rattle.thread.specs.After.{Chosen}
 use Rattle.thread.specs.Machines.{Thread}
 use Rattle.protocol_values.specs.declared.Commit.{Commit}
-use Rattle.protocol_values.specs.declared.Course.{Course}
-use Rattle.protocol_values.specs.declared.Course.TheVariants.{Unstarted as NotStarted, Running as Runs, Ended as HasEnded}
-use Rattle.protocol.specs.Acting.{HasStart}
-use Rattle.protocol.specs.Ledgers.{HasCommit, IsLawful, Ledger, LivesAt, binding_in, carried_in, course_in, nack_in}
-use Rattle.protocol.specs.Openings.{IsLastStamp, TellsEnd, life_of}
+use Rattle.protocol_values.specs.declared.NackName.{NackName}
+use Rattle.protocol_values.specs.Commits.{stamp_of}
+use Rattle.protocol.specs.Ledgers.{IsLawful, Ledger}
+use Rattle.protocol.specs.Openings.{HadStarted, Opening, thread_in}
 use Rattle.protocol.specs.declared.opening.Life.{Life}
+use Rattle.protocol.specs.declared.opening.Life.TheVariants.{Ended, Running, Unstarted}
 use Rattle.protocol.specs.declared.opening.NackState.{NackState}
 use Rattle.protocol.specs.declared.opening.NackState.TheVariants.{Unbound}
-use Rattle.protocol.specs.Tables.{bound_by, carried_by, start_of}
-use Rattle.protocol_values.specs.declared.NackName.{NackName}
-use Rattle.protocol_values.specs.declared.NackWord.TheVariants as word
+use Rattle.journal_order.specs.Behind.{TellsRun, nack_state}
 use Rattle.journal_order.specs.Laws.{IsOrderOf}
 use Rattle.journal_order.specs.Ledgers.{IsLedgerOf, fired_as}
-use Rattle.journal_order.proofs.Leading.{ledger-has, ledger-threads, tells-nack, tells-stamp, tells-started, tells-thread, thread-involves}
+use Rattle.journal_order.proofs.Leading.{tells-thread}
 use Rattle.journal_replay.specs.declared.strand.Known.{Known}
 use Rattle.journal_replay.proofs.Lists.{nothing-there, slice_get-first, slice_get-last, slice_get-more}
 use Rattle.journal_replay.specs.Gathering.{AreKnown, HasGone, IsKnown, KnowsLast}
-use Rattle.journal_replay.specs.Runs.{HasThread, config_of}
+use Rattle.journal_replay.specs.Runs.{Config, CountsOf, HasThread, IsGreatest, Starts, config_of}
+use Rattle.journal_replay.specs.Starting.{HasEnded}
 use Rattle.journal_replay.specs.Standing.{KnowsNack}
-use Rattle.journal.specs.Concluding.{AreStanding, EachKnownBy, KnownBy, fired_in, last_if}
-
-some-thread : (threads : List (Life × ℕ)) (t : ℕ) → t < length threads → (w : Life × ℕ) × (slice_get threads t ≡ Some w)
-some-thread [] t lt = absurd (omega (arith, lt))
-some-thread (w ∷ ws) zero lt = (w, refl)
-some-thread (w ∷ ws) (suc t) lt = some-thread ws t (omega (arith, lt))
-
-some-state : (states : List NackState) (i : ℕ) → i < length states → (s : NackState) × (slice_get states i ≡ Some s)
-some-state [] i lt = absurd (omega (arith, lt))
-some-state (s ∷ ss) zero lt = (s, refl)
-some-state (s ∷ ss) (suc i) lt = some-state ss i (omega (arith, lt))
-
--- 64 states a thread: where one is missing the thread is
-out-of-range : (states : List NackState) (threads t k : ℕ) → k < 64 → length states ≡ threads * 64 → slice_get states (t * 64 + k) ≡ None → threads ≤ t
-out-of-range states threads t k low count e = ⊎_elim
-    (λ lt.
-    let got = some-state states (t * 64 + k) (omega (arith, lt, low, count)) in
-    absurd (none-some got.0 (sym e ∙ got.1)))
-    (λ ge. ge)
-    (cases_lt t threads)
-
--- a ledger says nothing of a nack of another thread than its own, nor of one above 63
-unbound-outside : (l : Ledger) (t k : ℕ) → l.threads ≤ t → nack_in l (record { thread = t; k = k }) ≡ word.Unbound
-unfolding nack_in
-unbound-outside l t k ge = by (ltb t l.threads) refl
-  where
-    by : (b : Bool) → ltb t l.threads ≡ b → cond (b && ltb k 64) (get_or l.nacks (t * 64 + k) word.Unbound) word.Unbound ≡ word.Unbound
-    by true e = absurd (omega (arith, ltb-true t l.threads e, ge))
-    by false e = refl
-
-unbound-above : (l : Ledger) (t k : ℕ) → ltb k 64 ≡ false → nack_in l (record { thread = t; k = k }) ≡ word.Unbound
-unfolding nack_in
-unbound-above l t k e = by (ltb t l.threads) (ltb k 64) e
-  where
-    by : (a b : Bool) → b ≡ false → cond (a && b) (get_or l.nacks (t * 64 + k) word.Unbound) word.Unbound ≡ word.Unbound
-    by true b none = ap (λ (x : Bool). cond x (get_or l.nacks (t * 64 + k) word.Unbound) word.Unbound) none
-    by false b none = refl
-
--- such a nack is bound to nothing, and no earlier table settled it
-untold : (l : Ledger) (n : NackName) → nack_in l n ≡ word.Unbound → (binding_in l n ≡ None) × (carried_in l n ≡ None)
-unfolding binding_in carried_in
-untold l n e = (ap bound_by e, ap carried_by e)
+use Rattle.journal.specs.Concluding.{AreGone, AreStanding, EachKnownBy, KnownBy, fired_in, last_if, last_in}
 
 -- what is known of one thread more
 pub known-more : (threads : List (Life × ℕ)) (states : List NackState) (machines : List (Option Thread)) (known : List Known) (m : Option Thread) (k : Known) → EachKnownBy threads states machines known → KnownBy threads states (length known) m k →
@@ -118,65 +78,77 @@ fired-all states t k fired so le n = ⊎_elim
     above : (n : ℕ) → 64 ≤ n → fired_in states t n ≡ None
     above n ge = ap (λ (b : Bool). cond b (option_and_then fired_as (slice_get states (t * 64 + n))) None) (le-ltb n 64 ge)
 
-module _ (ps : List Proc) (rows : ℕ) (l : Ledger) (commits : List Commit) (law : IsLawful l) (of : IsLedgerOf ps l) (enough : l.rows ≤ rows) (order : IsOrderOf l commits) where
-  member : (d : Commit) → Contains commits d → HasCommit l d
-  member d there = ledger-has ps rows l commits law of enough order d there
+-- IN ANOTHER ORDER an opening tells of the same run
+greatest-moved : (es fs : List Commit) (Kind : Commit → Type 0) (n : ℕ) → IsPermutation es fs → IsGreatest es Kind n → IsGreatest fs Kind n
+greatest-moved es fs Kind n moved g = record {
+  above = λ d there. g.above d (Contains-permutation fs es d (IsPermutation-sym es fs moved) there);
+  there = ⊎_elim (λ none. inl none) (λ w. inr (w.0, Contains-permutation es fs w.0 moved w.1, w.2, w.3)) g.there;
+}
 
-  -- a thread that the ledger has not started is of no commit
-  none-of : (t : ℕ) → course_in l t ≡ NotStarted → (d : Commit) → Contains commits d → HasThread d t → ⊥
-  none-of t is d there has =
-      let w = thread-involves d t has in
-      subst (λ (c : Course). LivesAt c w.0) is (law.lived d (record { thread = t; sync = w.0 }) (member d there) w.1)
+knows-moved : (ps : List Proc) (t : ℕ) (results : List Chosen) (es fs : List Commit) (k : ℕ) (o : Option ℕ) → IsPermutation es fs → KnowsNack ps t results es k o → KnowsNack ps t results fs k o
+knows-moved ps t results es fs k None moved knows = knows
+knows-moved ps t results es fs k (Some stamp) moved knows = (knows.0, greatest-moved es fs _ stamp moved knows.1)
 
-  -- a nack of no table is not fired
-  unfired : (t k : ℕ) → nack_in l (record { thread = t; k = k }) ≡ word.Unbound → KnowsNack ps t (config_of commits t) commits k None
-  unfired t k none = tells-nack ps rows l commits law of enough order (record { thread = t; k = k }) Unbound (untold l (record { thread = t; k = k }) none)
+pub told-moved : (ps : List Proc) (es fs : List Commit) (o : Opening) → IsPermutation es fs → config_of fs ≡ config_of es → TellsRun ps es o → TellsRun ps fs o
+told-moved ps es fs o moved same tells = record {
+  started = λ t stamp had.
+      let w = tells.started t stamp had in
+      subst (λ (config : Config). Starts ps config t × IsGreatest fs (CountsOf ps config t) stamp) (sym same) (w.0, greatest-moved es fs (CountsOf ps (config_of es) t) stamp moved w.1);
+  ended = λ t had. subst (λ (config : Config). HasEnded ps t (config t)) (sym same) (tells.ended t had);
+  threads = λ d t there has. tells.threads d t (Contains-permutation fs es d (IsPermutation-sym es fs moved) there) has;
+  nacks = λ n.
+      subst (λ (config : Config). KnowsNack ps n.thread (config n.thread) fs n.k (fired_as (nack_state o n))) (sym same)
+      (knows-moved ps n.thread (config_of es n.thread) es fs n.k (fired_as (nack_state o n)) moved (tells.nacks n));
+  positive = tells.positive;
+}
 
-  module _ (threads : List (Life × ℕ)) (states : List NackState) (told : TellsEnd l threads states) where
-    knows-last : (t stamp : ℕ) (life : Life) → life ≡ life_of (course_in l t) → IsLastStamp l t stamp → KnowsLast ps commits t (last_if (life, stamp))
-    knows-last t stamp life is last = by (course_in l t) refl life is
-      where
-        goes : (c : Course) → course_in l t ≡ c → HasStart c (start_of c) → KnowsLast ps commits t (Some stamp)
-        goes c e runs =
-            let running : HasStart (course_in l t) (start_of c) = subst (λ (x : Course). HasStart x (start_of c)) (sym e) runs in
-            (tells-started ps rows l commits law of enough order t (start_of c) running, tells-stamp ps rows l commits law of enough order t (start_of c) stamp running last)
+pub gone-moved : (ps : List Proc) (es fs : List Commit) (machines : List (Option Thread)) → config_of fs ≡ config_of es → AreGone ps es machines → AreGone ps fs machines
+gone-moved ps es fs machines same gone = (gone.0, λ t m is. subst (λ (config : Config). HasGone ps t (config t) m) (sym same) (gone.1 t m is))
 
-        by : (c : Course) → course_in l t ≡ c → (life : Life) → life ≡ life_of (course_in l t) → KnowsLast ps commits t (last_if (life, stamp))
-        by NotStarted e life is = subst (λ (x : Life). KnowsLast ps commits t (last_if (x, stamp))) (sym (is ∙ ap life_of e)) (none-of t e)
-        by (Runs start) e life is = subst (λ (x : Life). KnowsLast ps commits t (last_if (x, stamp))) (sym (is ∙ ap life_of e)) (goes (Runs start) e refl)
-        by (HasEnded start sync) e life is = subst (λ (x : Life). KnowsLast ps commits t (last_if (x, stamp))) (sym (is ∙ ap life_of e)) (goes (HasEnded start sync) e refl)
+-- A LEDGER'S MACHINES have gone part of its commits
+pub gone-of : (ps : List Proc) (rows : ℕ) (l : Ledger) (commits : List Commit) (machines : List (Option Thread)) → IsLawful l → IsLedgerOf ps l → l.rows ≤ rows → IsOrderOf l commits → AreStanding ps l machines → AreGone ps commits machines
+gone-of ps rows l commits machines law of enough order standing = (
+  standing.0,
+  λ t m is. let s = standing.1 t m is in record { stands = s.stands; part = tells-thread ps rows l commits law of enough order t m.results s.are; told = s.told },
+)
 
-    last-known : (t : ℕ) (o : Option (Life × ℕ)) → slice_get threads t ≡ o → KnowsLast ps commits t (option_and_then last_if o)
-    last-known t (Some w) e = let h = told.0.1 t w.0 w.1 e in knows-last t w.1 w.0 h.0 h.1
-    last-known t None e = λ d there has.
-        let low = ledger-threads ps rows l commits law of enough order d t there has in
-        let got = some-thread threads t (omega (arith, low, told.0.0)) in
-        none-some got.0 (sym e ∙ got.1)
+-- WHAT IS KNOWN of each thread
+last-there : (threads : List (Life × ℕ)) (t : ℕ) → last_in threads t ≡ last_if (get_or threads t (Unstarted, 0))
+last-there [] t = refl
+last-there (w ∷ ws) zero = refl
+last-there (w ∷ ws) (suc t) = last-there ws t
 
-    fired-inside : (t k : ℕ) (o : Option NackState) → k < 64 → slice_get states (t * 64 + k) ≡ o → KnowsNack ps t (config_of commits t) commits k (option_and_then fired_as o)
-    fired-inside t k (Some state) low e = tells-nack ps rows l commits law of enough order (record { thread = t; k = k }) state (told.1.1 (record { thread = t; k = k }) state low e)
-    fired-inside t k None low e = unfired t k (unbound-outside l t k (out-of-range states l.threads t k low told.1.0 e))
+fired-there : (states : List NackState) (i : ℕ) → option_and_then fired_as (slice_get states i) ≡ fired_as (get_or states i Unbound)
+fired-there [] i = refl
+fired-there (s ∷ ss) zero = refl
+fired-there (s ∷ ss) (suc i) = fired-there ss i
 
-    fired-known : (t k : ℕ) (b : Bool) → ltb k 64 ≡ b → KnowsNack ps t (config_of commits t) commits k (cond b (option_and_then fired_as (slice_get states (t * 64 + k))) None)
-    fired-known t k true e = fired-inside t k (slice_get states (t * 64 + k)) (ltb-true k 64 e) refl
-    fired-known t k false e = unfired t k (unbound-above l t k e)
+module _ (ps : List Proc) (commits : List Commit) (o : Opening) (tells : TellsRun ps commits o) where
+  knows-last : (t : ℕ) (x : Life × ℕ) → thread_in o t ≡ x → KnowsLast ps commits t (last_if x)
+  knows-last t (Unstarted, stamp) is = λ d there has. let w = tells.threads d t there has in w.1.0 (ap (λ (y : Life × ℕ). y.0) is)
+  knows-last t (Running, stamp) is = tells.started t stamp ((λ e. let bad : Running ≡ Unstarted = sym (ap (λ (y : Life × ℕ). y.0) is) ∙ e in absurd cc), ap (λ (y : Life × ℕ). y.1) is)
+  knows-last t (Ended, stamp) is = tells.started t stamp ((λ e. let bad : Ended ≡ Unstarted = sym (ap (λ (y : Life × ℕ). y.0) is) ∙ e in absurd cc), ap (λ (y : Life × ℕ). y.1) is)
 
-    module _ (machines : List (Option Thread)) (standing : AreStanding ps l machines) where
-      gone : (t : ℕ) (m : Option Thread) → slice_get machines t ≡ Some m → IfSome m (HasGone ps t (config_of commits t))
-      gone t None e = tt
-      gone t (Some m) e =
-          let s = standing.1 t m e in
-          record { stands = s.stands; part = tells-thread ps rows l commits law of enough order t m.results s.are; told = s.told }
+  fired-known : (t k : ℕ) → fired_in o.nacks t k ≡ fired_as (nack_state o (record { thread = t; k = k }))
+  fired-known t k = by (ltb k 64)
+    where
+      by : (b : Bool) → cond b (option_and_then fired_as (slice_get o.nacks (t * 64 + k))) None ≡ fired_as (cond b (get_or o.nacks (t * 64 + k) Unbound) Unbound)
+      by true = fired-there o.nacks (t * 64 + k)
+      by false = refl
 
-      known-one : (t : ℕ) (m : Option Thread) (k : Known) → slice_get machines t ≡ Some m → KnownBy threads states t m k → IsKnown ps commits t k
-      known-one t m k is by = record {
-        machine = subst (λ (o : Option Thread). IfSome o (HasGone ps t (config_of commits t))) (sym by.machine) (gone t m is);
-        last = subst (KnowsLast ps commits t) (sym by.last) (last-known t (slice_get threads t) refl);
-        fired = λ n. subst (KnowsNack ps t (config_of commits t) commits n) (sym (by.fired n)) (fired-known t n (ltb n 64) refl);
-      }
+  known-one : (t : ℕ) (m : Option Thread) (k : Known) → IfSome m (HasGone ps t (config_of commits t)) → KnownBy o.threads o.nacks t m k → IsKnown ps commits t k
+  known-one t m k gone by = record {
+    machine = subst (λ (x : Option Thread). IfSome x (HasGone ps t (config_of commits t))) (sym by.machine) gone;
+    last = subst (KnowsLast ps commits t) (sym (by.last ∙ last-there o.threads t)) (knows-last t (thread_in o t) refl);
+    fired = λ n. subst (KnowsNack ps t (config_of commits t) commits n) (sym (by.fired n ∙ fired-known t n)) (tells.nacks (record { thread = t; k = n }));
+  }
 
-      pub are-known : (known : List Known) → EachKnownBy threads states machines known → AreKnown ps commits known
-      are-known known by = record {
-        count = by.0 ∙ standing.0;
-        each = λ t k is. let w = by.1 t k is in known-one t w.0 k w.1 w.2;
-      }
+  pub are-known : (machines : List (Option Thread)) (known : List Known) → AreGone ps commits machines → EachKnownBy o.threads o.nacks machines known → AreKnown ps commits known
+  are-known machines known gone by = record {
+    count = by.0 ∙ gone.0;
+    each = λ t k is. let w = by.1 t k is in known-one t w.0 k (gone-at t w.0 w.1) w.2;
+  }
+    where
+      gone-at : (t : ℕ) (m : Option Thread) → slice_get machines t ≡ Some m → IfSome m (HasGone ps t (config_of commits t))
+      gone-at t None e = tt
+      gone-at t (Some m) e = gone.1 t m e

@@ -9,6 +9,9 @@ use Rattle.protocol.specs.declared.opening.Life.TheVariants.{Unstarted, Running,
 use Rattle.protocol.specs.declared.opening.NackState.{NackState}
 use Rattle.journal_order.specs.Ledgers.{fired_as}
 use Rattle.journal_replay.specs.declared.strand.Known.{Known}
+use Rattle.protocol_values.specs.declared.Commit.{Commit}
+use Rattle.journal_replay.specs.Gathering.{HasGone}
+use Rattle.journal_replay.specs.Runs.{config_of}
 use Rattle.journal_replay.specs.Standing.{MachineStands}
 use Rattle.journal_replay.specs.Starting.{HasSpawned}
 
@@ -22,6 +25,10 @@ pub record StandsIn (ps : List Proc) (l : Ledger) (t : ℕ) (m : Thread) : Type 
 -- one place for each thread, and what lies there stands so
 abbrev pub AreStanding : List Proc → Ledger → List (Option Thread) → Type 0
 AreStanding ps l machines = (length machines ≡ length ps) × ((t : ℕ) (m : Thread) → slice_get machines t ≡ Some (Some m) → StandsIn ps l t m)
+
+-- one place for each thread, and what lies there stands after some of the results that the commits give to its thread
+abbrev pub AreGone : List Proc → List Commit → List (Option Thread) → Type 0
+AreGone ps commits machines = (length machines ≡ length ps) × ((t : ℕ) (m : Thread) → slice_get machines t ≡ Some (Some m) → HasGone ps t (config_of commits t) m)
 
 -- the last stamp of a thread that has started
 abbrev pub last_if : Life × ℕ → Option ℕ

@@ -1,15 +1,20 @@
-//! What a ledger's commits come to, by the machines that made them.
+//! What the commits of a ledger, or of a run, come to, by the machines that made them.
 
 ghost use Rattle.std.specs.Prelude.{◌≡◌, ◌≤◌, ◌<◌, ℕ, IfOk, None, length, map, option_and_then, slice_get, slice_index_or};
+ghost use Rattle.journal_order.specs.Behind.{TellsRun};
 ghost use Rattle.journal_order.specs.Ledgers.{IsLedgerOf, fired_as};
+ghost use Rattle.journal_replay.specs.Runs.{IsRun};
+ghost use Rattle.protocol.specs.Openings.{opening_of};
+ghost use Rattle.protocol_values.specs.Commits.{IsInOrder};
 ghost use Rattle.script_tree.specs.Processes.{proc_of};
 ghost use Rattle.script_tree.specs.Spawning.{IsPlaced};
-ghost use Rattle.journal.specs.Concluding.{AreStanding, EachKnownBy, fired_in, last_in};
-ghost use Rattle.journal.specs.Records.{Completes};
+ghost use Rattle.journal.specs.Concluding.{AreGone, AreStanding, EachKnownBy, fired_in, last_in};
+ghost use Rattle.journal.specs.Records.{Completes, CompletesOrdered, CompletesRun, IsOrdering};
 
 use crate::record::{Record, record_of};
-use journal_replay::{Known, gather};
+use journal_replay::{Known, gather, retrace};
 use protocol::{Ledger, Life, NackState, Opening};
+use protocol_values::Commit;
 use script_tree::Proc;
 use std::alloc::{AllocError, Global};
 use thread::Machine;
@@ -39,7 +44,76 @@ pub fn conclude(
 {
     let commits = ledger.commits()?;
     let opening = ledger.opening(alloc)?;
-    let known = known_by(alloc, &opening, machines)?;
+    conclude_ordered(alloc, processes, rows, commits, &opening, machines)
+}
+
+/// The same of commits in any order which are a run, such as those of several tables one after another: by an opening
+/// that tells of the run, and by the machines that are at hand. It puts the commits in order first.
+pub fn conclude_run(
+    alloc: Global,
+    processes: &[Proc],
+    rows: u32,
+    commits: Vec<Commit>,
+    opening: &Opening,
+    machines: Vec<Option<Machine>>,
+) -> Result<Record, AllocError>
+    requires few { length processes.now ≤ 64 }
+    requires rows { rows ≤ 67107840 }
+    requires placed { IsPlaced (map proc_of processes.now) }
+    requires run { IsRun (map proc_of processes.now) rows commits.items }
+    requires told { TellsRun (map proc_of processes.now) commits.items (opening_of opening.now) }
+    requires machines { AreGone (map proc_of processes.now) commits.items machines.items }
+    ensures { IfOk result (CompletesRun (map proc_of processes.now) rows commits.items) }
+{
+    let commits = ordered(commits)?;
+    conclude_ordered(alloc, processes, rows, commits, opening, machines)
+}
+
+/// The same where nothing is known but the commits: each process is run from its beginning.
+pub fn retrace_run(
+    alloc: Global,
+    processes: &[Proc],
+    rows: u32,
+    commits: Vec<Commit>,
+) -> Result<Record, AllocError>
+    requires few { length processes.now ≤ 64 }
+    requires rows { rows ≤ 67107840 }
+    requires placed { IsPlaced (map proc_of processes.now) }
+    requires run { IsRun (map proc_of processes.now) rows commits.items }
+    ensures { IfOk result (CompletesRun (map proc_of processes.now) rows commits.items) }
+{
+    let commits = ordered(commits)?;
+    let state = retrace(alloc, processes, rows, &commits)?;
+    record_of(alloc, commits, state)
+}
+
+/// The commits by stamp, and then by the thread named first.
+fn ordered(mut commits: Vec<Commit>) -> Result<Vec<Commit>, AllocError>
+    ensures { IfOk result (λ o. IsOrdering commits.items o.items) }
+{
+    commits.sort_by_key(|commit| commit.order())?;
+    Ok(commits)
+}
+
+/// `conclude_run` of commits that are in order.
+fn conclude_ordered(
+    alloc: Global,
+    processes: &[Proc],
+    rows: u32,
+    commits: Vec<Commit>,
+    opening: &Opening,
+    machines: Vec<Option<Machine>>,
+) -> Result<Record, AllocError>
+    requires few { length processes.now ≤ 64 }
+    requires rows { rows ≤ 67107840 }
+    requires placed { IsPlaced (map proc_of processes.now) }
+    requires in_order { IsInOrder commits.items }
+    requires run { IsRun (map proc_of processes.now) rows commits.items }
+    requires told { TellsRun (map proc_of processes.now) commits.items (opening_of opening.now) }
+    requires machines { AreGone (map proc_of processes.now) commits.items machines.items }
+    ensures { IfOk result (CompletesOrdered (map proc_of processes.now) rows commits.items) }
+{
+    let known = known_by(alloc, opening, machines)?;
     let state = gather(alloc, processes, rows, &commits, known)?;
     record_of(alloc, commits, state)
 }

@@ -5,8 +5,8 @@
 //!   memory aside, and else names the first commit with which they are none. The record's journal has
 //!   them and those of the tail, is in order, a run, and maximal; the ends and what was printed are those
 //!   to which it leads.
-//! - `complete_commits` does the same with any list of commits, which it puts in order first.
-//! - `conclude` makes such a record of a ledger of processes by the machines that made it, without a replay.
+//! - `conclude` makes such a record of a ledger of processes by the machines that made it, without a replay, and
+//!   `conclude_run` of any run of which an opening tells; `retrace_run` makes it of a run of which nothing else is known.
 //! - `received_from` gives the messages of the pairs on a channel with one sender, in their order. Of a
 //!   run these are what the receivers got, and what the sender sent, in its own order
 //!   (`journal_order::message_laws`); of a record this is told by `complete`.
@@ -19,7 +19,7 @@ mod concluding;
 mod messages;
 mod record;
 
-pub use crate::concluding::conclude;
+pub use crate::concluding::{conclude, conclude_run, retrace_run};
 pub use crate::messages::received_from;
-pub use crate::record::{Record, complete, complete_commits};
+pub use crate::record::{Record, complete};
 pub use journal_replay::{End, ReplayFault, State, replay, settle};

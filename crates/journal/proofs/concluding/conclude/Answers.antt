@@ -1,49 +1,36 @@
-use Rattle.std.proofs.Common.{List, map, subst, sym, arith}
-use Rattle.std.proofs.lemmas.List.{length-map}
+use Rattle.std.proofs.Common.{List, map}
 use Rattle.std.proofs.lemmas.Result.{IfOk-weaker}
 use Rattle.script_tree.specs.Processes.{Proc, proc_of}
-use Rattle.protocol_values.specs.declared.Commit.{Commit}
 use Rattle.protocol.specs.Ledgers.{commits_in}
-use Rattle.journal_order.specs.Laws.{IsOrderOf}
+use Rattle.protocol.specs.Openings.{opening_of}
 use Rattle.journal_order.proofs.Leading.{ledger-is-run}
-use Rattle.journal_replay.specs.Gathering.{AreKnown}
-use Rattle.journal_replay.specs.Replays.{StandsAfter}
-use Rattle.journal_replay.specs.Runs.{IsRun}
-use Rattle.journal.specs.Records.{Completes, Records}
-use Rattle.journal.proofs.Telling.{are-known}
+use Rattle.journal_order.proofs.Opening.{first-tells-run}
+use Rattle.journal.specs.Records.{Completes, CompletesOrdered}
+use Rattle.journal.proofs.Telling.{gone-of}
 use Rattle.journal.proofs.concluding.conclude.Goals as goal
 
-pub known_by-requires : goal.known_by-requires
-known_by-requires c = omega (arith, c.requires.machines.0, length-map c.args.processes.now proc_of, c.requires.few)
+pub conclude_ordered-requires-clause-in_order : goal.conclude_ordered-requires-clause-in_order
+conclude_ordered-requires-clause-in_order c = c.in_ok-commits.ensures.in_order
 
-pub gather-requires-clause-run : goal.gather-requires-clause-run
-gather-requires-clause-run c =
-    let ps : List Proc = map proc_of c.args.processes.now in
+pub conclude_ordered-requires-clause-run : goal.conclude_ordered-requires-clause-run
+conclude_ordered-requires-clause-run c =
     let told = c.in_ok-commits.ensures in
-    let commits = c.in_ok-commits.commits.items in
-    let order : IsOrderOf c.args.ledger.now commits = record { all = told.once; ordered = told.in_order } in
-    subst (λ (cs : List Commit). IsRun ps c.args.rows cs) (sym c.deref.ensures.value)
-    (ledger-is-run ps c.args.rows c.args.ledger.now commits told.lawful c.requires.of.0 c.requires.of.1 order)
+    ledger-is-run (map proc_of c.args.processes.now) c.args.rows c.args.ledger.now c.in_ok-commits.commits.items told.lawful c.requires.of.0 c.requires.of.1 (record { all = told.once; ordered = told.in_order })
 
-pub gather-requires-clause-known : goal.gather-requires-clause-known
-gather-requires-clause-known c =
-    let ps : List Proc = map proc_of c.args.processes.now in
+pub conclude_ordered-requires-clause-told : goal.conclude_ordered-requires-clause-told
+conclude_ordered-requires-clause-told c =
     let told = c.in_ok-commits.ensures in
-    let commits = c.in_ok-commits.commits.items in
-    let order : IsOrderOf c.args.ledger.now commits = record { all = told.once; ordered = told.in_order } in
-    subst (λ (cs : List Commit). AreKnown ps cs c.in_ok-known.known.items) (sym c.deref.ensures.value)
-    (are-known ps c.args.rows c.args.ledger.now commits told.lawful c.requires.of.0 c.requires.of.1 order
-    c.in_ok-opening.opening.threads.items c.in_ok-opening.opening.nacks.items c.in_ok-opening.ensures.end c.args.machines.items c.requires.machines
-    c.in_ok-known.known.items c.in_ok-known.ensures)
+    first-tells-run (map proc_of c.args.processes.now) c.args.rows c.args.ledger.now c.in_ok-commits.commits.items told.lawful c.requires.of.0 c.requires.of.1 (record { all = told.once; ordered = told.in_order })
+    (opening_of c.in_ok-opening.opening) c.in_ok-opening.ensures.end
 
-pub record_of-requires : goal.record_of-requires
-record_of-requires c = c.in_ok-commits.ensures.in_order
+pub conclude_ordered-requires-clause-machines : goal.conclude_ordered-requires-clause-machines
+conclude_ordered-requires-clause-machines c =
+    let told = c.in_ok-commits.ensures in
+    gone-of (map proc_of c.args.processes.now) c.args.rows c.args.ledger.now c.in_ok-commits.commits.items c.args.machines.items told.lawful c.requires.of.0 c.requires.of.1 (record { all = told.once; ordered = told.in_order }) c.requires.machines
 
 pub returns : goal.returns
 returns c =
     let ps : List Proc = map proc_of c.args.processes.now in
     let told = c.in_ok-commits.ensures in
-    let commits = c.in_ok-commits.commits.items in
-    let stands = subst (λ (cs : List Commit). StandsAfter ps c.args.rows cs c.in_ok-state.state) c.deref.ensures.value c.in_ok-state.ensures in
-    IfOk-weaker c.record_of.result (Records commits c.in_ok-state.state) (Completes ps c.args.rows c.args.ledger.now)
-    (λ r h. h ps c.args.rows stands (commits_in c.args.ledger.now) (record { all = told.once; ordered = told.in_order })) c.record_of.ensures
+    IfOk-weaker c.conclude_ordered.result (CompletesOrdered ps c.args.rows c.in_ok-commits.commits.items) (Completes ps c.args.rows c.args.ledger.now)
+    (λ r h. h (commits_in c.args.ledger.now) (record { all = told.once; ordered = told.in_order })) c.conclude_ordered.ensures
