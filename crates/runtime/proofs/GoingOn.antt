@@ -66,14 +66,16 @@ whole_next all yielded rest left x whole is = whole ∙ ap (λ (xs : List _). yi
 pub at_next : {A : Type 0} (all yielded left : List A) (x : A) → all ≡ (yielded ++ x ∷ []) ++ left → slice_get all (length yielded) ≡ Some x
 at_next all yielded left x whole = ap (λ (xs : List _). slice_get xs (length yielded)) whole ∙ get_left (yielded ++ x ∷ []) left (length yielded) x (get_last yielded x (length yielded) refl)
 
-pub go_on_none : (ps : List Proc) (lives : List (Life × ℕ)) (machines : List (Option Thread)) → GoOnBelow ps lives machines 0 [] []
-go_on_none ps lives machines = record { lives_are = refl; machines_are = refl; each = λ t low. absurd (omega (arith, low)) }
+pub go_on_none : (ps : List Proc) (lives : List (Life × ℕ)) (machines : List (Option Thread)) → GoOnBelow ps lives machines 0 [] [] []
+go_on_none ps lives machines = record { lives_are = refl; machines_are = refl; ended_are = refl; each = λ t low. absurd (omega (arith, low)) }
 
-pub go_on_more : (ps : List Proc) (lives : List (Life × ℕ)) (machines : List (Option Thread)) (n : ℕ) (next : List (Life × ℕ)) (first : List (Option Suspended)) (process : Proc) (was : Life × ℕ) (m : Option Thread) (is : Life × ℕ) (s : Option Suspended)
-    → GoOnBelow ps lives machines n next first → slice_get ps n ≡ Some process → slice_get lives n ≡ Some was → slice_get machines n ≡ Some m → GoesOnFrom process n was m is s → GoOnBelow ps lives machines (n + 1) (next ++ is ∷ []) (first ++ s ∷ [])
-go_on_more ps lives machines n next first process was m is s before there life machine goes = record {
+pub go_on_more : (ps : List Proc) (lives : List (Life × ℕ)) (machines : List (Option Thread)) (n : ℕ) (next : List (Life × ℕ)) (first : List (Option Suspended)) (ended : List (Option Thread)) (process : Proc) (was : Life × ℕ) (m : Option Thread) (is : Life × ℕ) (s : Option Suspended)
+    (e : Option Thread) → GoOnBelow ps lives machines n next first ended → slice_get ps n ≡ Some process → slice_get lives n ≡ Some was → slice_get machines n ≡ Some m → GoesOnFrom process n was m is s e
+    → GoOnBelow ps lives machines (n + 1) (next ++ is ∷ []) (first ++ s ∷ []) (ended ++ e ∷ [])
+go_on_more ps lives machines n next first ended process was m is s e before there life machine goes = record {
   lives_are = length-append next (is ∷ []) ∙ ap (λ (k : ℕ). k + 1) before.lives_are;
   machines_are = length-append first (s ∷ []) ∙ ap (λ (k : ℕ). k + 1) before.machines_are;
+  ended_are = length-append ended (e ∷ []) ∙ ap (λ (k : ℕ). k + 1) before.ended_are;
   each = λ t low. ⊎_elim
       (λ (same : t ≡ n). (
         process,
@@ -86,7 +88,9 @@ go_on_more ps lives machines n next first process was m is s before there life m
         ap (slice_get machines) same ∙ machine,
         get_last next is t (same ∙ sym before.lives_are),
         get_last first s t (same ∙ sym before.machines_are),
-        subst (λ (u : ℕ). GoesOnFrom process u was m is s) (sym same) goes,
+        e,
+        get_last ended e t (same ∙ sym before.ended_are),
+        subst (λ (u : ℕ). GoesOnFrom process u was m is s e) (sym same) goes,
       ))
       (λ (below : t < n).
       let g = before.each t below in (
@@ -101,6 +105,8 @@ go_on_more ps lives machines n next first process was m is s before there life m
         get_left next (is ∷ []) t g.3 g.8,
         get_left first (s ∷ []) t g.4 g.9,
         g.10,
+        get_left ended (e ∷ []) t g.10 g.11,
+        g.12,
       ))
       (Rattle.std.proofs.Math.Nat.eq-or-lt_of_le (let h : t ≤ n = omega (arith, low) in h));
 }
@@ -108,32 +114,32 @@ go_on_more ps lives machines n next first process was m is s before there life m
 -- WHO STANDS THERE AT FIRST
 
 -- a machine is new, or it is the one that was left, at its open sync
-stands_first : (process : Proc) (t : ℕ) (was : Life × ℕ) (m : Option Thread) (is : Life × ℕ) (s : Option Suspended) (x : Suspended) → GoesOnFrom process t was m is s → s ≡ Some x
+pub stands_first : (process : Proc) (t : ℕ) (was : Life × ℕ) (m : Option Thread) (is : Life × ℕ) (s : Option Suspended) (end : Option Thread) (x : Suspended) → GoesOnFrom process t was m is s end → s ≡ Some x
     → ((was.0 ≡ life.Unstarted) × StartsAs process t x.machine.value) ⊎ ((m ≡ Some x.machine.value) × IsOpen x.machine.value.phase)
-stands_first process t (life.Unstarted, stamp) m is s x goes e =
+stands_first process t (life.Unstarted, stamp) m is s end x goes e =
     inl (refl, subst (λ (y : Suspended). StartsAs process t y.machine.value) (same_Some goes.1.0 x (sym goes.1.1 ∙ e)) goes.1.2)
-stands_first process t (life.Running, stamp) m is s x goes e = ⊎_elim
+stands_first process t (life.Running, stamp) m is s end x goes e = ⊎_elim
     (λ on.
     let same = same_Some on.1.0 x (sym on.1.1 ∙ e) in
     inr (on.1.2 ∙ ap (λ (y : Suspended). Some y.machine.value) same, subst (λ (y : Suspended). IsOpen y.machine.value.phase) same on.1.3))
     (λ over. absurd (none-some x (sym over.1 ∙ e)))
     goes
-stands_first process t (life.Ended, stamp) m is s x goes e = absurd (none-some x (sym goes.1 ∙ e))
+stands_first process t (life.Ended, stamp) m is s end x goes e = absurd (none-some x (sym goes.1 ∙ e))
 
 -- who has not ended has one
-someone : (process : Proc) (t : ℕ) (was : Life × ℕ) (m : Option Thread) (is : Life × ℕ) (s : Option Suspended) → GoesOnFrom process t was m is s → is.0 ≢ life.Ended → (x : Suspended) × (s ≡ Some x)
-someone process t (life.Unstarted, stamp) m is s goes alive = (goes.1.0, goes.1.1)
-someone process t (life.Running, stamp) m is s goes alive = ⊎_elim (λ on. (on.1.0, on.1.1)) (λ over. absurd (alive (ap (λ (x : Life × ℕ). x.0) over.0))) goes
-someone process t (life.Ended, stamp) m is s goes alive = absurd (alive (ap (λ (x : Life × ℕ). x.0) goes.0))
+someone : (process : Proc) (t : ℕ) (was : Life × ℕ) (m : Option Thread) (is : Life × ℕ) (s : Option Suspended) (end : Option Thread) → GoesOnFrom process t was m is s end → is.0 ≢ life.Ended → (x : Suspended) × (s ≡ Some x)
+someone process t (life.Unstarted, stamp) m is s end goes alive = (goes.1.0, goes.1.1)
+someone process t (life.Running, stamp) m is s end goes alive = ⊎_elim (λ on. (on.1.0, on.1.1)) (λ over. absurd (alive (ap (λ (x : Life × ℕ). x.0) over.0))) goes
+someone process t (life.Ended, stamp) m is s end goes alive = absurd (alive (ap (λ (x : Life × ℕ). x.0) goes.0))
 
 -- and who waits did so before
-waited : (process : Proc) (t : ℕ) (was : Life × ℕ) (m : Option Thread) (is : Life × ℕ) (s : Option Suspended) → GoesOnFrom process t was m is s → is.0 ≡ life.Unstarted → was.0 ≡ life.Unstarted
-waited process t (life.Unstarted, stamp) m is s goes e = refl
-waited process t (life.Running, stamp) m is s goes e = ⊎_elim
+pub waited : (process : Proc) (t : ℕ) (was : Life × ℕ) (m : Option Thread) (is : Life × ℕ) (s : Option Suspended) (end : Option Thread) → GoesOnFrom process t was m is s end → is.0 ≡ life.Unstarted → was.0 ≡ life.Unstarted
+waited process t (life.Unstarted, stamp) m is s end goes e = refl
+waited process t (life.Running, stamp) m is s end goes e = ⊎_elim
     (λ on. let bad : life.Running ≡ life.Unstarted = sym (ap (λ (x : Life × ℕ). x.0) on.0) ∙ e in cc)
     (λ over. let bad : life.Ended ≡ life.Unstarted = sym (ap (λ (x : Life × ℕ). x.0) over.0) ∙ e in cc)
     goes
-waited process t (life.Ended, stamp) m is s goes e = let bad : life.Ended ≡ life.Unstarted = sym (ap (λ (x : Life × ℕ). x.0) goes.0) ∙ e in cc
+waited process t (life.Ended, stamp) m is s end goes e = let bad : life.Ended ≡ life.Unstarted = sym (ap (λ (x : Life × ℕ). x.0) goes.0) ∙ e in cc
 
 unstarted_course : (c : Course) → life.Unstarted ≡ life_of c → c ≡ course.Unstarted
 unstarted_course course.Unstarted e = refl
@@ -165,7 +171,7 @@ told_settled l n nack.Dead stamp tells e = ⊎_elim (λ carried. inl (0, carried
 told_settled l n (nack.Enabled at) stamp tells e = ⊎_elim (λ carried. inl (at, carried)) (λ x. inr (x.0.binding, x.0.is_bound, (x.0.commit, x.0.chosen, x.0.inside, x.0.takes))) tells.1
 
 -- who takes an offer makes it
-takes_offered : (l : Ledger) (c : Commit) (r : Row) (n : ℕ) → IsLawful l → HasCommit l c → Takes c r n → (o : Offer) × (offer_in l r n ≡ Some o)
+pub takes_offered : (l : Ledger) (c : Commit) (r : Row) (n : ℕ) → IsLawful l → HasCommit l c → Takes c r n → (o : Offer) × (offer_in l r n ≡ Some o)
 takes_offered l (Pair sender receiver chan msg stamp) r n lawful has takes =
     let fits = lawful.fits (Pair sender receiver chan msg stamp) has in
     ⊎_elim
@@ -210,8 +216,8 @@ scope_longer ps t k g from more there =
 module _ (old : GridOf Suspended) (table : IsTable old) (threads : old.threads ≡ length table.processes) (waiting : NoneSettledWaits (opening_at old)) (l : Ledger) (over : IsLedgerOver old l)
     (had : List ℕ) (counts : AreHad old.first had) (machines : List (Option Thread)) (left : AreLeftBy old.first l machines)
     (all : (c : Commit) → HasCommit l c → HasResults had machines c)
-    (o : Opening) (tells : TellsEnd l o.threads o.nacks) (lives : List (Life × ℕ)) (first : List (Option Suspended))
-    (goes : GoOnBelow table.processes o.threads machines (length table.processes) lives first) where
+    (o : Opening) (tells : TellsEnd l o.threads o.nacks) (lives : List (Life × ℕ)) (first : List (Option Suspended)) (ended : List (Option Thread))
+    (goes : GoOnBelow table.processes o.threads machines (length table.processes) lives first ended) where
   -- where the next one begins
   abbrev next : Opening
   next = record { threads = lives; nacks = o.nacks }
@@ -287,7 +293,7 @@ module _ (old : GridOf Suspended) (table : IsTable old) (threads : old.threads �
       let within : t < length table.processes = omega (arith, low, count) in
       let g = goes.each t within in
       let was = g.1 in
-      let stood = stands_first g.0 t was g.2 g.3 g.4 x g.10 (same_Some g.4 (Some x) (sym g.9 ∙ e)) in (
+      let stood = stands_first g.0 t was g.2 g.3 g.4 g.10 x g.12 (same_Some g.4 (Some x) (sym g.9 ∙ e)) in (
         g.0,
         within,
         g.5,
@@ -334,7 +340,7 @@ module _ (old : GridOf Suspended) (table : IsTable old) (threads : old.threads �
         λ t low alive.
             let g = goes.each t (omega (arith, low, count)) in
             let is : thread_in next t ≡ g.3 = get_or_from_slice_get lives t g.3 (life.Unstarted, 0) g.8 in
-            let x = someone g.0 t g.1 g.2 g.3 g.4 g.10 (λ e. alive (ap (λ (y : Life × ℕ). y.0) is ∙ e)) in
+            let x = someone g.0 t g.1 g.2 g.3 g.4 g.10 g.12 (λ e. alive (ap (λ (y : Life × ℕ). y.0) is ∙ e)) in
             (x.0, g.9 ∙ ap Some x.1),
       )
 
@@ -355,7 +361,7 @@ module _ (old : GridOf Suspended) (table : IsTable old) (threads : old.threads �
       let within : n.thread < length table.processes = (let size = over.size in omega (arith, place, count, size, threads)) in
       let g = goes.each n.thread within in
       let is : thread_in next n.thread ≡ g.3 = get_or_from_slice_get lives n.thread g.3 (life.Unstarted, 0) g.8 in
-      let waited_so : g.1.0 ≡ life.Unstarted = waited g.0 n.thread g.1 g.2 g.3 g.4 g.10 (sym (ap (λ (y : Life × ℕ). y.0) is) ∙ waits) in
+      let waited_so : g.1.0 ≡ life.Unstarted = waited g.0 n.thread g.1 g.2 g.3 g.4 g.10 g.12 (sym (ap (λ (y : Life × ℕ). y.0) is) ∙ waits) in
       never_waits n low within (unstarted_course (course_in l n.thread) (sym waited_so ∙ (tells.0.1 n.thread g.1.0 g.1.1 g.6).0)) (told_settled l n (state_in o n) stamp (tells.1.1 n (state_in o n) low (settled_place o n stamp was)) was)
 
 -- SO A SEASON LEADS TO THE NEXT
@@ -366,26 +372,27 @@ pub record NextOf (ps : List Proc) (o : Opening) (first : List (Option Suspended
   pub settled : (n : NackName) (stamp : ℕ) (start : Suspended) → n.k < 64 → WasSettled o n stamp → slice_get first n.thread ≡ Some (Some start) → (g : ℕ) × (g < length start.machine.value.results) × HasScopeAt ps n.thread start.machine.value.results n.k g
   pub waiting : NoneSettledWaits o
 
-pub next_of : (ps : List Proc) (x : ClosedSeason) (closed : IsClosed ps x) (o : Opening) (tells : TellsEnd x.ledger o.threads o.nacks) (lives : List (Life × ℕ)) (first : List (Option Suspended)) → GoOnBelow ps o.threads x.machines.items (length ps) lives first
-    → NextOf ps (record { threads = lives; nacks = o.nacks }) first
-next_of ps x closed o tells lives first goes =
+pub next_of : (ps : List Proc) (x : ClosedSeason) (closed : IsClosed ps x) (machines : List (Option Thread)) → AreLeftBy closed.cells.first x.ledger machines → ((d : Commit) → HasCommit x.ledger d → HasResults x.had.items machines d) → (lives : List (Life × ℕ)) (first : List (Option Suspended)) (ended : List (Option Thread))
+    → GoOnBelow ps x.opening.threads.items machines (length ps) lives first ended → NextOf ps (record { threads = lives; nacks = x.opening.nacks.items }) first
+next_of ps x closed machines left results lives first ended goes =
     let of = closed.of in
     let table = of.table in
+    let o : Opening = record { threads = x.opening.threads.items; nacks = x.opening.nacks.items } in
     let same : table.processes ≡ ps = of.processes in
     let threads : closed.cells.threads ≡ length table.processes = of.threads ∙ ap (λ (qs : List Proc). length qs) (sym same) in
-    let on : GoOnBelow table.processes o.threads x.machines.items (length table.processes) lives first = subst (λ (qs : List Proc). GoOnBelow qs o.threads x.machines.items (length qs) lives first) (sym same) goes in
+    let on : GoOnBelow table.processes o.threads machines (length table.processes) lives first ended = subst (λ (qs : List Proc). GoOnBelow qs o.threads machines (length qs) lives first ended) (sym same) goes in
     subst (λ (qs : List Proc). NextOf qs (record { threads = lives; nacks = o.nacks }) first) same (record {
       count = on.lives_are;
-      are = next_first closed.cells table threads of.waiting x.ledger closed.over x.had.items closed.had x.machines.items closed.left closed.results o tells lives first on;
-      machines = next_machines closed.cells table threads of.waiting x.ledger closed.over x.had.items closed.had x.machines.items closed.left closed.results o tells lives first on;
-      settled = next_settled closed.cells table threads of.waiting x.ledger closed.over x.had.items closed.had x.machines.items closed.left closed.results o tells lives first on;
-      waiting = next_waiting closed.cells table threads of.waiting x.ledger closed.over x.had.items closed.had x.machines.items closed.left closed.results o tells lives first on;
+      are = next_first closed.cells table threads of.waiting x.ledger closed.over x.had.items closed.had machines left results o closed.tells lives first ended on;
+      machines = next_machines closed.cells table threads of.waiting x.ledger closed.over x.had.items closed.had machines left results o closed.tells lives first ended on;
+      settled = next_settled closed.cells table threads of.waiting x.ledger closed.over x.had.items closed.had machines left results o closed.tells lives first ended on;
+      waiting = next_waiting closed.cells table threads of.waiting x.ledger closed.over x.had.items closed.had machines left results o closed.tells lives first ended on;
     })
 
 -- whose table is one of machines again
 pub table_of_next : (old cells : GridOf Suspended) (ps : List Proc) (o : Opening) (first : List (Option Suspended)) → IsTableOf ps old → NextOf ps o first → cells.first ≡ first → opening_at cells ≡ o → (1 ≤ cells.rows) × (cells.rows ≤ 1024) → cells.threads ≡ length o.threads
-    → IsTableOf ps cells
-table_of_next old cells ps o first of next is begins rows threads = record {
+    → length o.nacks ≡ cells.threads * 64 → IsTableOf ps cells
+table_of_next old cells ps o first of next is begins rows threads states = record {
   table = record {
     rows = rows;
     processes = ps;
@@ -398,6 +405,8 @@ table_of_next old cells ps o first of next is begins rows threads = record {
   };
   processes = refl;
   threads = threads ∙ next.count;
+  lives = ap (λ (x : Opening). length x.threads) begins ∙ sym threads;
+  states = ap (λ (x : Opening). length x.nacks) begins ∙ states;
   waiting = subst NoneSettledWaits (sym begins) next.waiting;
 }
 

@@ -3,3 +3,5 @@ pub mod Ledgers
 mod Resting
 mod CatchingUp
 mod GoingOn
+mod Keeping
+pub mod LeadingOn

@@ -24,7 +24,7 @@ use Rattle.runtime.specs.Machines.{AreLeft, AreLeftBy, AreOut, ComesFrom, Stands
 use Rattle.runtime_worker.proofs.Processes.{new_first, new_given, process_of, spawned_fewer}
 use Rattle.cell.proofs.Lists.{all_at, all_is}
 
-contains_map : {A B : Type 0} (f : A → B) (xs : List A) (x : A) → Contains xs x → Contains (map f xs) (f x)
+pub contains_map : {A B : Type 0} (f : A → B) (xs : List A) (x : A) → Contains xs x → Contains (map f xs) (f x)
 contains_map f [] x h = absurd (omega (arith, h.1))
 contains_map f (y ∷ xs) x (zero, lt, e) = (0, omega arith, ap f e)
 contains_map f (y ∷ xs) x (suc i, lt, e) = let h = contains_map f xs x (i, omega (arith, lt), e) in (suc h.0, omega (arith, h.1), h.2)

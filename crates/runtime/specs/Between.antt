@@ -85,18 +85,33 @@ CatchesUpAll had commits old new =
 
 -- WHERE THE NEXT SEASON BEGINS
 
--- By a thread's life as the ledger tells it: who has ended has no machine, who waits a new one, and who runs the one that is left, at
--- its open sync; where that has come to its end by its last result, the thread has ended.
-abbrev pub GoesOnFrom : Proc → ℕ → Life × ℕ → Option Thread → Life × ℕ → Option Suspended → Type 0
-GoesOnFrom process t (Unstarted, stamp) m life first = (life ≡ (Unstarted, stamp)) × ((s : Suspended) × (first ≡ Some s) × StartsAs process t s.machine.value)
-GoesOnFrom process t (Running, stamp) m life first =
-    ((life ≡ (Running, stamp)) × ((s : Suspended) × (first ≡ Some s) × (m ≡ Some s.machine.value) × IsOpen s.machine.value.phase)) ⊎ ((life ≡ (Ended, stamp)) × (first ≡ None))
-GoesOnFrom process t (Ended, stamp) m life first = (life ≡ (Ended, stamp)) × (first ≡ None)
+-- By a thread's life as the ledger tells it: who has ended has no machine there, who waits a new one, and who runs the one that is left, at
+-- its open sync; where that has come to its end by its last result, the thread has ended. What is left of who has ended is kept.
+abbrev pub GoesOnFrom : Proc → ℕ → Life × ℕ → Option Thread → Life × ℕ → Option Suspended → Option Thread → Type 0
+GoesOnFrom process t (Unstarted, stamp) m life first ended = (life ≡ (Unstarted, stamp)) × ((s : Suspended) × (first ≡ Some s) × StartsAs process t s.machine.value) × (ended ≡ None)
+GoesOnFrom process t (Running, stamp) m life first ended =
+    ((life ≡ (Running, stamp)) × ((s : Suspended) × (first ≡ Some s) × (m ≡ Some s.machine.value) × IsOpen s.machine.value.phase) × (ended ≡ None))
+    ⊎ ((life ≡ (Ended, stamp)) × (first ≡ None) × ((x : Thread) × (m ≡ Some x) × (¬ IsOpen x.phase)) × (ended ≡ m))
+GoesOnFrom process t (Ended, stamp) m life first ended = (life ≡ (Ended, stamp)) × (first ≡ None) × (ended ≡ m)
 
 -- so of each thread below this one
-pub record GoOnBelow (ps : List Proc) (lives : List (Life × ℕ)) (machines : List (Option Thread)) (n : ℕ) (next : List (Life × ℕ)) (first : List (Option Suspended)) : Type 0 where
+pub record GoOnBelow (ps : List Proc) (lives : List (Life × ℕ)) (machines : List (Option Thread)) (n : ℕ) (next : List (Life × ℕ)) (first : List (Option Suspended)) (ended : List (Option Thread)) : Type 0 where
   pub lives_are : length next ≡ n
   pub machines_are : length first ≡ n
+  pub ended_are : length ended ≡ n
   pub each : (t : ℕ) → t < n → (process : Proc) × (life : Life × ℕ) × (m : Option Thread) × (after : Life × ℕ) × (s : Option Suspended)
       × (slice_get ps t ≡ Some process) × (slice_get lives t ≡ Some life) × (slice_get machines t ≡ Some m) × (slice_get next t ≡ Some after) × (slice_get first t ≡ Some s)
-      × GoesOnFrom process t life m after s
+      × (e : Option Thread) × (slice_get ended t ≡ Some e) × GoesOnFrom process t life m after s e
+
+-- there is no machine at any place
+abbrev pub HasNone : List (Option Thread) → Type 0
+HasNone machines = (t : ℕ) (m : Thread) → slice_get machines t ≡ Some (Some m) → ⊥
+
+-- the machine was put at the thread's place, or nothing was done
+abbrev pub KeepsAt : ℕ → Option Thread → List (Option Thread) → List (Option Thread) → Type 0
+KeepsAt t m old new = (new ≡ old) ⊎ ((t < length old) × (new ≡ slice_set old t m))
+
+-- at each place there is what was kept, or one of these machines
+pub record AreKept (old machines new : List (Option Thread)) : Type 0 where
+  pub count : length new ≡ length old
+  pub each : (t : ℕ) (m : Thread) → slice_get new t ≡ Some (Some m) → (slice_get old t ≡ Some (Some m)) ⊎ (slice_get machines t ≡ Some (Some m))

@@ -1,11 +1,11 @@
 -- A season of a run: what is known of its table before the first turn, and behind the last one.
-use Rattle.std.specs.Prelude.{◌≡◌, ◌<◌, ℕ, All, List, length}
+use Rattle.std.specs.Prelude.{◌≡◌, ◌<◌, ◌+◌, ◌*◌, ℕ, All, Contains, List, Option, None, Some, length, slice_get}
 use Rattle.protocol_values.specs.declared.Commit.{Commit}
 use Rattle.protocol_values.specs.declared.NackName.{NackName}
 use Rattle.script_tree.specs.Processes.{Proc}
 use Rattle.protocol.specs.Acting.{ActsAs, HasStart, acts_in, before_of}
 use Rattle.protocol.specs.Ledgers.{HasCommit, IsLawful, Ledger, carried_in, course_in}
-use Rattle.protocol.specs.Openings.{HadStarted, Opening, state_in, thread_in, word_for}
+use Rattle.protocol.specs.Openings.{HadStarted, Opening, TellsEnd, opening_of, state_in, thread_in, word_for}
 use Rattle.protocol.specs.Tables.{carried_by}
 use Rattle.protocol.specs.declared.opening.Life.TheVariants.{Unstarted}
 use Rattle.cell.specs.Calls.{GridOf, IsNackOf, opening_at}
@@ -13,10 +13,16 @@ use Rattle.cell_table.specs.Sight.{WasSettled}
 use Rattle.runtime_worker.specs.declared.resident.Suspended.{Suspended}
 use Rattle.runtime_worker.specs.Machines.{IsTable, doings}
 use Rattle.runtime_worker.specs.Workers.{IsNewPassOf}
-use Rattle.runtime.specs.Between.{AreHad, HasResults}
+use Rattle.journal_replay.specs.Runs.{IsRun, config_of}
+use Rattle.journal_order.specs.Behind.{GoesOn, TellsRun, run_on}
+use Rattle.journal.specs.Concluding.{AreGone}
+use Rattle.runtime.specs.Between.{AreHad}
 use Rattle.runtime.specs.Machines.{AreLeftBy}
 use Rattle.runtime.specs.declared.season.ClosedSeason.{ClosedSeason}
+use Rattle.runtime.specs.declared.season.Next.{Next}
+use Rattle.runtime.specs.declared.season.Next.TheVariants as next
 use Rattle.runtime.specs.declared.season.Season.{Season}
+use Rattle.runtime.specs.declared.season.Standing.{Standing}
 
 -- of a thread that waits to be started no nack was settled
 abbrev pub NoneSettledWaits : Opening → Type 0
@@ -27,13 +33,9 @@ pub record IsTableOf (ps : List Proc) (cells : GridOf Suspended) : Type 0 where
   pub table : IsTable cells
   pub processes : table.processes ≡ ps
   pub threads : cells.threads ≡ length ps
+  pub lives : length (opening_at cells).threads ≡ cells.threads
+  pub states : length (opening_at cells).nacks ≡ cells.threads * 64
   pub waiting : NoneSettledWaits (opening_at cells)
-
--- workers may begin with the passes
-pub record IsSeason (ps : List Proc) (s : Season) : Type 0 where
-  pub of : IsTableOf ps s.cells
-  pub passes : All (λ p. IsNewPassOf s.cells p) s.passes.items
-  pub had : AreHad s.cells.first s.had.items
 
 -- the ledger is of a table that went on from its opening, where threads did what their machines do
 pub record IsLedgerOver (cells : GridOf Suspended) (l : Ledger) : Type 0 where
@@ -43,11 +45,46 @@ pub record IsLedgerOver (cells : GridOf Suspended) (l : Ledger) : Type 0 where
   pub carried : (n : NackName) → IsNackOf cells n → carried_in l n ≡ carried_by (word_for (state_in (opening_at cells) n))
   pub acts : ActsAs (before_of (opening_at cells)) (acts_in doings cells.first) l
 
--- the machines stand over the table, and have the results of all of its commits
+-- the first machines have the results to which these commits lead
+abbrev pub HaveResultsOf : List Commit → List (Option Suspended) → Type 0
+HaveResultsOf journal first = (t : ℕ) (start : Suspended) → slice_get first t ≡ Some (Some start) → start.machine.value.results ≡ config_of journal t
+
+-- Workers may begin with the passes. The commits of the seasons before are a run in the rows of these, of which the table's opening
+-- tells, and its machines stand where they lead.
+pub record IsSeason (ps : List Proc) (s : Season) : Type 0 where
+  pub of : IsTableOf ps s.cells
+  pub passes : All (λ p. IsNewPassOf s.cells p) s.passes.items
+  pub had : AreHad s.cells.first s.had.items
+  pub run : IsRun ps (s.done * s.cells.rows) s.journal.items
+  pub tells : TellsRun ps s.journal.items (opening_at s.cells)
+  pub given : HaveResultsOf s.journal.items s.cells.first
+  pub resting : AreGone ps s.journal.items s.resting.items
+
+-- The ledger's table went on where the commits of the seasons before led, and the machines stand over it. The journal has these
+-- commits, and behind them the ledger's.
 pub record IsClosed (ps : List Proc) (c : ClosedSeason) : Type 0 where
+  pub few : c.done < 65535
   pub cells : GridOf Suspended
   pub of : IsTableOf ps cells
   pub over : IsLedgerOver cells c.ledger
   pub had : AreHad cells.first c.had.items
   pub left : AreLeftBy cells.first c.ledger c.machines.items
-  pub results : (d : Commit) → HasCommit c.ledger d → HasResults c.had.items c.machines.items d
+  pub before : List Commit
+  pub on : GoesOn ps ((c.done + 1) * c.ledger.rows) before (before_of (opening_at cells)) c.ledger c.commits.items
+  pub members : (d : Commit) → (Contains c.commits.items d → HasCommit c.ledger d) × (HasCommit c.ledger d → Contains c.commits.items d)
+  pub whole : c.journal.items ≡ run_on before c.commits.items
+  pub given : HaveResultsOf before cells.first
+  pub tells : TellsEnd c.ledger c.opening.threads.items c.opening.nacks.items
+  pub resting : AreGone ps before c.resting.items
+
+-- WHAT FOLLOWS A SEASON
+
+-- the commits are a run in so many rows; where something is known of their end, the opening tells of it, and the machines have gone part of it
+abbrev pub EndsRun : List Proc → ℕ → List Commit → Option Standing → Type 0
+EndsRun ps rows commits None = IsRun ps rows commits
+EndsRun ps rows commits (Some s) = IsRun ps rows commits × TellsRun ps commits (opening_of s.opening) × AreGone ps commits s.machines.items
+
+-- behind so many seasons and one, of so many
+abbrev pub LeadsTo : List Proc → ℕ → ℕ → ℕ → Next → Type 0
+LeadsTo ps done rows seasons (next.Season s) = IsSeason ps s × (s.done ≡ done + 1) × (s.done < seasons) × (s.cells.rows ≡ rows)
+LeadsTo ps done rows seasons (next.End journal standing) = EndsRun ps ((done + 1) * rows) journal.items standing

@@ -1,38 +1,74 @@
 //! One season: its table is played and closed, each machine has the results of its rows, and the next table begins.
 
-ghost use Rattle.std.specs.Prelude.{◌≡◌, ◌≤◌, IfOk, length, map};
+ghost use Rattle.std.specs.Prelude.{◌≡◌, ◌≤◌, ◌<◌, ◌+◌, ◌*◌, IfOk, length, map};
 ghost use Rattle.script.specs.Scripts.{script_of};
 ghost use Rattle.runtime.specs.Limits.{AreRows, AreWorkers};
-ghost use Rattle.runtime.specs.Season.{IsClosed, IsSeason};
+ghost use Rattle.runtime.specs.Season.{IsClosed, IsSeason, LeadsTo};
 
-use crate::between::{SeasonHalt, catch_up_all, counts_of, go_on_all};
+use crate::between::{
+    SeasonHalt, add_renumbered, are_spent, catch_up_all, counts_of, go_on_all, keep_all, none_each,
+};
 use crate::running::{first_machines, later, work_table};
 use cell::{Cells, Pass, StepGate};
 use protocol::{Ledger, Opening};
 use protocol_values::Commit;
-use runtime_worker::{Gate, Halt, Suspended};
+use runtime_worker::{Gate, Suspended};
 use script::Script;
 use std::alloc::Global;
 use std::sync::Wait;
 use std::thread::Threads;
 use thread::Machine;
 
-/// A season before its first turn: its table, the passes of its workers, and how many results each thread had before.
+/// A season before its first turn.
 #[derive(Drop)]
 pub(crate) struct Season {
+    /// How many seasons were before.
+    pub(crate) done: u32,
+    /// The commits of the seasons before, as the run numbers them.
+    pub(crate) journal: Vec<Commit>,
     pub(crate) cells: Cells<Suspended>,
     pub(crate) passes: Vec<Pass<Suspended>>,
+    /// How many results each thread had before.
     pub(crate) had: Vec<usize>,
+    /// The machines of threads that had ended.
+    pub(crate) resting: Vec<Option<Machine>>,
 }
 
-/// A season behind its last turn: the ledger of its table, with its commits in order, the machines, which have the
-/// results of all of these, and how many results each thread had before.
+/// A season behind its last turn.
 #[derive(Drop)]
 pub(crate) struct ClosedSeason {
+    /// How many seasons were before.
+    pub(crate) done: u32,
+    /// The commits of these seasons and of this one, as the run numbers them.
+    pub(crate) journal: Vec<Commit>,
     pub(crate) ledger: Ledger,
+    /// The ledger's commits in order.
     pub(crate) commits: Vec<Commit>,
+    /// What the ledger tells of its end.
+    pub(crate) opening: Opening,
+    /// The machines as the table left them.
     pub(crate) machines: Vec<Option<Machine>>,
+    /// How many results each thread had before.
     pub(crate) had: Vec<usize>,
+    /// The machines of threads that had ended before.
+    pub(crate) resting: Vec<Option<Machine>>,
+}
+
+/// What is known where a run has come to its end, or cannot go on.
+#[derive(Drop)]
+pub(crate) struct Standing {
+    /// What the last ledger told of its end.
+    pub(crate) opening: Opening,
+    /// The machines that are at hand.
+    pub(crate) machines: Vec<Option<Machine>>,
+}
+
+/// What follows a season: another one, or the end of the workers' run. Where a machine was lost nothing is known there
+/// but the commits.
+#[derive(Drop)]
+pub(crate) enum Next {
+    Season(Season),
+    End(Vec<Commit>, Option<Standing>),
 }
 
 /// The first season of the script.
@@ -41,15 +77,16 @@ pub(crate) fn first_season(
     script: &Script,
     workers: u8,
     rows: u16,
-) -> Result<Season, Halt>
+) -> Result<Season, SeasonHalt>
     requires workers { AreWorkers workers }
     requires rows { AreRows rows }
     requires some { 1 ≤ length (script_of script.now).processes }
-    ensures { IfOk result (IsSeason (script_of script.now).processes) }
+    ensures { IfOk result (λ s. IsSeason (script_of script.now).processes s × (s.done ≡ 0) × (s.cells.rows ≡ rows)) }
 {
     let processes = script.processes();
     let first = first_machines(alloc, processes)?;
     let had = vec![in alloc; 0usize; first.len()]?;
+    let resting = none_each(alloc, processes.len())?;
     let (cells, passes) = Cells::with_machines_later(
         alloc,
         first,
@@ -57,7 +94,14 @@ pub(crate) fn first_season(
         workers,
         later(processes),
     )?;
-    Ok(Season { cells, passes, had })
+    Ok(Season {
+        done: 0,
+        journal: Vec::new(alloc),
+        cells,
+        passes,
+        had,
+        resting,
+    })
 }
 
 /// Plays the season to its end, where no worker finds a turn to make any more.
@@ -71,42 +115,94 @@ pub(crate) fn play_season<R: Threads + Wait + Sync, G: Gate + StepGate + Sync>(
 ) -> Result<ClosedSeason, SeasonHalt>
     requires workers { AreWorkers workers }
     requires season { IsSeason (script_of script.now).processes season }
-    ensures { IfOk result (IsClosed (script_of script.now).processes) }
+    requires few { season.done < 65535 }
+    ensures { IfOk result (λ c. IsClosed (script_of script.now).processes c × (c.done ≡ season.done) × (c.ledger.rows ≡ season.cells.rows)) }
 {
-    let Season { cells, passes, had } = season;
-    let (ledger, left) = work_table(rt, alloc, script, cells, passes, workers, gate)?;
-    let mut machines = left;
+    let Season {
+        done,
+        mut journal,
+        cells,
+        passes,
+        had,
+        resting,
+    } = season;
+    let (ledger, machines) = work_table(rt, alloc, script, cells, passes, workers, gate)?;
     let commits = ledger.commits()?;
-    catch_up_all(&mut machines, &had, &commits)?;
+    let opening = ledger.opening(alloc)?;
+    add_renumbered(&mut journal, &had, &commits)?;
     Ok(ClosedSeason {
+        done,
+        journal,
         ledger,
         commits,
+        opening,
         machines,
         had,
+        resting,
     })
 }
 
-/// The season that goes on where this one was closed. It has room for its stamps: each of 65,535 seasons counts no
-/// more than 65,536.
-pub(crate) fn next_season(
+/// What follows the season, of so many. It is the last one unless some thread has committed all of its rows and stands
+/// at a further sync. The next one has room for its stamps: each of 65,535 seasons counts no more than 65,536.
+pub(crate) fn follow(
     alloc: Global,
     script: &Script,
     closed: ClosedSeason,
     workers: u8,
     rows: u16,
-) -> Result<Season, SeasonHalt>
+    seasons: u32,
+) -> Result<Next, SeasonHalt>
     requires workers { AreWorkers workers }
     requires rows { AreRows rows }
     requires closed { IsClosed (script_of script.now).processes closed }
-    ensures { IfOk result (IsSeason (script_of script.now).processes) }
+    requires same { closed.ledger.rows ≡ rows }
+    requires few { seasons ≤ 65535 }
+    ensures { IfOk result (LeadsTo (script_of script.now).processes closed.done rows seasons) }
 {
-    let Opening { threads, nacks } = closed.ledger.opening(alloc)?;
-    let (threads, first) = go_on_all(alloc, script.processes(), &threads, closed.machines)?;
-    let opening = Opening { threads, nacks };
+    let ClosedSeason {
+        done,
+        journal,
+        ledger: _,
+        commits,
+        opening,
+        mut machines,
+        had,
+        mut resting,
+    } = closed;
+    if !catch_up_all(&mut machines, &had, &commits)? {
+        return Ok(Next::End(journal, None));
+    }
+    if !are_spent(&machines, &had, rows) {
+        keep_all(&mut resting, machines);
+        let standing = Standing {
+            opening,
+            machines: resting,
+        };
+        return Ok(Next::End(journal, Some(standing)));
+    }
+    if done + 1 >= seasons {
+        return Err(SeasonHalt::Spent);
+    }
+    let Opening { threads, nacks } = opening;
+    let Some(table) = go_on_all(alloc, script.processes(), &threads, machines)? else {
+        return Ok(Next::End(journal, None));
+    };
+    keep_all(&mut resting, table.ended);
+    let opening = Opening {
+        threads: table.threads,
+        nacks,
+    };
     if !opening.leads_on(rows) {
         return Err(SeasonHalt::Spent);
     }
-    let had = counts_of(alloc, &first)?;
-    let (cells, passes) = Cells::next(alloc, &opening, first, rows, workers)?;
-    Ok(Season { cells, passes, had })
+    let had = counts_of(alloc, &table.first)?;
+    let (cells, passes) = Cells::next(alloc, &opening, table.first, rows, workers)?;
+    Ok(Next::Season(Season {
+        done: done + 1,
+        journal,
+        cells,
+        passes,
+        had,
+        resting,
+    }))
 }

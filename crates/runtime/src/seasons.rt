@@ -6,19 +6,20 @@ ghost use Rattle.script.specs.Scripts.{script_of};
 ghost use Rattle.journal.specs.Records.{CompletesRun};
 ghost use Rattle.runtime.specs.Headline.{TellsFreeRun};
 ghost use Rattle.runtime.specs.Limits.{AreRows, AreSeasons, AreWorkers};
-ghost use Rattle.runtime.specs.Seasons.{HasSpent, RefusesCommits};
-ghost use Rattle.runtime.specs.declared.seasons.SeasonFault.TheVariants.{Workers, Rows, SeasonCount};
+ghost use Rattle.runtime.specs.Season.{EndsRun};
+ghost use Rattle.runtime.specs.Seasons.{HasSpent, IsHalt, RefusesCommits};
+ghost use Rattle.runtime.specs.declared.seasons.SeasonFault.TheVariants.{Workers, Rows, SeasonCount, Lost, Unlawful};
 
-use crate::between::{SeasonHalt, add_renumbered, are_spent};
+use crate::between::SeasonHalt;
 use crate::bound::rows_used;
 use crate::gate::TurnsOnly;
-use crate::season::{first_season, next_season, play_season};
+use crate::season::{Next, Standing, first_season, follow, play_season};
 use cell::StepGate;
-use journal::{End, Record, ReplayFault, complete_commits};
+use journal::{End, Record, conclude_run, retrace_run};
 use protocol_values::Commit;
 use runtime_worker::Gate;
 use script::Script;
-use std::alloc::Global;
+use std::alloc::{AllocError, Global};
 use std::sync::Wait;
 use std::thread::Threads;
 use thiserror::Error;
@@ -34,10 +35,10 @@ pub enum SeasonFault {
     /// The number of rows is not 1 to 1024.
     #[error("the number of rows is not 1 to 1024")]
     Rows,
-    /// Behind a season there is no machine of a thread that has not ended.
+    /// Not answered: a thread of which a season leaves no machine is run from its beginning.
     #[error("a thread that has not ended has no machine behind a season")]
     Lost,
-    /// The commits of all seasons are no run of the script.
+    /// Not answered: the commits of all seasons are a run of the script.
     #[error("the commits of all seasons are no run of the script")]
     Unlawful,
     /// A worker could not be started.
@@ -52,31 +53,51 @@ pub enum SeasonFault {
     SeasonCount,
 }
 
-/// The commits of all seasons, led on to their end: the record of a run without a limit on syncs. The rows are those of
+/// The commits of all seasons, which are a run, led on to their end, by what is known of it.
+fn led_on(
+    alloc: Global,
+    script: &Script,
+    rows: u32,
+    commits: Vec<Commit>,
+    standing: Option<Standing>,
+) -> Result<Record, AllocError>
+    requires rows { rows ≤ 67107840 }
+    requires run { EndsRun (script_of script.now).processes rows commits.items standing }
+    ensures { IfOk result (CompletesRun (script_of script.now).processes rows commits.items) }
+{
+    let processes = script.processes();
+    let Some(Standing { opening, machines }) = standing else {
+        return retrace_run(alloc, processes, rows, commits);
+    };
+    conclude_run(alloc, processes, rows, commits, &opening, machines)
+}
+
+/// The record of a run without a limit on syncs, of these commits of all seasons, which are a run. The rows are those of
 /// all seasons, 1 to 67107840.
 ///
-/// It is refused where memory ran out; where the commits, in order, are no run of the script; and where a process,
-/// behind what was added, stands at a sync with as many results as there are rows.
+/// It is refused where memory ran out, and where a process, behind what was added, stands at a sync with as many
+/// results as there are rows.
 pub(crate) fn concluded(
     alloc: Global,
     script: &Script,
     rows: u32,
     commits: Vec<Commit>,
+    standing: Option<Standing>,
 ) -> Result<Record, SeasonFault>
-    requires { rows ≤ 67107840 }
+    requires rows { rows ≤ 67107840 }
+    requires run { EndsRun (script_of script.now).processes rows commits.items standing }
     ensures headline { IfOk result (TellsFreeRun (script_of script.now).processes) }
     ensures completes { IfOk result (CompletesRun (script_of script.now).processes rows commits.items) }
     ensures refuses { IfErr result (RefusesCommits (script_of script.now).processes rows commits.items) }
 {
-    match complete_commits(alloc, script.processes(), rows, commits) {
+    match led_on(alloc, script, rows, commits, standing) {
         Ok(record) => {
             if has_spent(&record.ends) {
                 return Err(SeasonFault::Seasons);
             }
             Ok(record)
         }
-        Err(ReplayFault::Memory) => Err(SeasonFault::Memory),
-        Err(ReplayFault::Unlawful(_)) => Err(SeasonFault::Unlawful),
+        Err(AllocError) => Err(SeasonFault::Memory),
     }
 }
 
@@ -93,12 +114,11 @@ fn has_spent(ends: &[End]) -> bool
 }
 
 fn told(halt: SeasonHalt) -> SeasonFault
-    ensures { (result ≢ Workers) × (result ≢ Rows) × (result ≢ SeasonCount) }
+    ensures { IsHalt result }
 {
     match halt {
         SeasonHalt::Memory => SeasonFault::Memory,
         SeasonHalt::NoWorker => SeasonFault::NoWorker,
-        SeasonHalt::Lost => SeasonFault::Lost,
         SeasonHalt::Spent => SeasonFault::Seasons,
     }
 }
@@ -109,6 +129,7 @@ fn check_limits(workers: u8, rows: u16, seasons: u32) -> Result<(), SeasonFault>
     ensures workers { (result ≡ Err Workers) ↔ (¬ AreWorkers workers) }
     ensures rows { (result ≡ Err Rows) ↔ (AreWorkers workers × (¬ AreRows rows)) }
     ensures seasons { (result ≡ Err SeasonCount) ↔ (AreWorkers workers × AreRows rows × (¬ AreSeasons seasons)) }
+    ensures never { IfErr result (λ fault. (fault ≢ Lost) × (fault ≢ Unlawful)) }
 {
     if workers < 1 || workers > 16 {
         return Err(SeasonFault::Workers);
@@ -122,8 +143,8 @@ fn check_limits(workers: u8, rows: u16, seasons: u32) -> Result<(), SeasonFault>
     Ok(())
 }
 
-/// The commits of all seasons, as the run numbers them. A season ends when no worker finds a turn to make any more. It
-/// is the last one unless some thread has committed all of its rows and stands at a further sync.
+/// The commits of all seasons, as the run numbers them, and what is known where they lead. A season ends when no worker
+/// finds a turn to make any more.
 fn work_seasons<R: Threads + Wait + Sync, G: Gate + StepGate + Sync>(
     rt: &R,
     alloc: Global,
@@ -132,24 +153,21 @@ fn work_seasons<R: Threads + Wait + Sync, G: Gate + StepGate + Sync>(
     rows: u16,
     seasons: u32,
     gate: &G,
-) -> Result<Vec<Commit>, SeasonHalt>
+) -> Result<(Vec<Commit>, Option<Standing>), SeasonHalt>
     requires workers { AreWorkers workers }
     requires rows { AreRows rows }
+    requires seasons { AreSeasons seasons }
     requires some { 1 ≤ length (script_of script.now).processes }
+    ensures { IfOk result (λ w. EndsRun (script_of script.now).processes (seasons * rows) w.0.items w.1) }
 {
     let rows = rows_used(script.processes(), rows);
-    let mut journal = Vec::new(alloc);
     let mut season = first_season(alloc, script, workers, rows)?;
-    for number in 1..=seasons {
+    for _ in 0..seasons {
         let closed = play_season(rt, alloc, script, season, workers, gate)?;
-        add_renumbered(&mut journal, &closed.had, &closed.commits)?;
-        if !are_spent(&closed.machines, &closed.had, rows) {
-            return Ok(journal);
+        match follow(alloc, script, closed, workers, rows, seasons)? {
+            Next::Season(next) => season = next,
+            Next::End(commits, standing) => return Ok((commits, standing)),
         }
-        if number == seasons {
-            return Err(SeasonHalt::Spent);
-        }
-        season = next_season(alloc, script, closed, workers, rows)?;
     }
     Err(SeasonHalt::Spent)
 }
@@ -169,14 +187,15 @@ pub fn run_seasons_gated<R: Threads + Wait + Sync, G: Gate + StepGate + Sync>(
     ensures workers { (result ≡ Err Workers) ↔ (¬ AreWorkers workers) }
     ensures rows { (result ≡ Err Rows) ↔ (AreWorkers workers × (¬ AreRows rows)) }
     ensures seasons { (result ≡ Err SeasonCount) ↔ (AreWorkers workers × AreRows rows × (¬ AreSeasons seasons)) }
+    ensures never { IfErr result (λ fault. (fault ≢ Lost) × (fault ≢ Unlawful)) }
 {
     check_limits(workers, rows, seasons)?;
     let all = seasons * u32::from(rows);
     if script.processes().is_empty() {
-        return concluded(alloc, script, all, Vec::new(alloc));
+        return concluded(alloc, script, all, Vec::new(alloc), None);
     }
     match work_seasons(rt, alloc, script, workers, rows, seasons, gate) {
-        Ok(commits) => concluded(alloc, script, all, commits),
+        Ok((commits, standing)) => concluded(alloc, script, all, commits, standing),
         Err(halt) => Err(told(halt)),
     }
 }
@@ -188,8 +207,8 @@ pub fn run_seasons_gated<R: Threads + Wait + Sync, G: Gate + StepGate + Sync>(
 /// A season's table has so many rows a process. Where some process has committed all of its own and stands at a
 /// further sync, the table is closed behind its last turn, and the next one begins where the processes stand: of these
 /// there are so many seasons at most, 1 to 65535, and a run that needs more is refused. That the commits of all
-/// seasons are a run is checked by a replay, which refuses them where they are none. `tail` counts the commits
-/// that this added. It waits as `work` does.
+/// seasons are a run is proved, and not checked: of the faults `Lost` and `Unlawful` none is answered. `tail` counts the
+/// commits that were added behind the seasons. It waits as `work` does.
 pub fn run_seasons<R: Threads + Wait + Sync, G: Gate + Sync>(
     rt: &R,
     alloc: Global,
@@ -204,6 +223,7 @@ pub fn run_seasons<R: Threads + Wait + Sync, G: Gate + Sync>(
     ensures workers { (result ≡ Err Workers) ↔ (¬ AreWorkers workers) }
     ensures rows { (result ≡ Err Rows) ↔ (AreWorkers workers × (¬ AreRows rows)) }
     ensures seasons { (result ≡ Err SeasonCount) ↔ (AreWorkers workers × AreRows rows × (¬ AreSeasons seasons)) }
+    ensures never { IfErr result (λ fault. (fault ≢ Lost) × (fault ≢ Unlawful)) }
 {
     run_seasons_gated(
         rt,

@@ -10,12 +10,12 @@ pub loop-commit-preserved : goal.loop-commit-preserved
 loop-commit-preserved c =
     let inv = c.loop-commit.invariant in
     record {
-      stopped = stopped_with c.args.had.now _ c.loop-commit.machines.items c.catch_up_with.new.machines.items c.in_ok-catch_up_with.ensures inv.stopped;
+      stopped = stopped_with c.args.had.now _ c.loop-commit.machines.items c.catch_up_with.new.machines.items (c.in_ok-catch_up_with.ensures c.if-not-branch.false) inv.stopped;
       caught = caught_more c.args.had.now c.args.commits.now c.loop-commit.commit-index _ c.args.machines.now.items c.loop-commit.machines.items c.catch_up_with.new.machines.items
-          (slice_get-get_or c.args.commits.now c.loop-commit.commit-index _ c.loop-commit-test.true) c.in_ok-catch_up_with.ensures inv.caught;
+          (slice_get-get_or c.args.commits.now c.loop-commit.commit-index _ c.loop-commit-test.true) (c.in_ok-catch_up_with.ensures c.if-not-branch.false) inv.caught;
     }
 
 pub returns : goal.returns
-returns c = λ ps first l are counts ranges all left.
+returns c done = λ ps first l are counts ranges all left.
     let b = c.loop-commit.invariant.caught ps first l are counts ranges all left in
     (b.0, λ k x is. b.1 k x (let low = slice_get_within c.args.commits.now k x is in let over = c.loop-commit-test.false in omega (arith, low, over)) is)

@@ -1,11 +1,13 @@
-use Rattle.std.proofs.Common.{◌≡◌, ◌<◌, ◌∷◌, ◌∙◌, [], ℕ, List, Option, Some, ap, arith, get_or, length, map, refl, slice_get, subst, sym}
+use Rattle.std.proofs.Common.{◌≡◌, ◌<◌, ◌∷◌, ◌∙◌, [], ℕ, List, Option, Some, ap, arith, get_or, length, map, refl, IfSome, slice_get, subst, sym}
 use Rattle.std.specs.Option.{option_map}
 use Rattle.std.proofs.lemmas.List.{length-append}
 use Rattle.std.proofs.lemmas.Option.{slice_get-get_or, slice_get-map, slice_get_read, slice_get_within}
 use Rattle.script_tree.specs.Processes.{Proc, proc_of}
+use Rattle.thread.specs.Machines.{Thread}
 use Rattle.protocol.specs.declared.opening.Life.{Life}
 use Rattle.protocol.specs.declared.opening.Life.TheVariants as life
 use Rattle.runtime_worker.specs.declared.resident.Suspended.{Suspended}
+use Rattle.runtime.specs.declared.between.NextThread.{NextThread}
 use Rattle.runtime.specs.Between.{GoOnBelow, GoesOnFrom}
 use Rattle.runtime.proofs.GoingOn.{at_next, go_on_more, whole_next}
 use Rattle.runtime.proofs.between.go_on_all.Goals as goal
@@ -24,15 +26,15 @@ loop-machine-preserved c =
     ap (slice_get c.args.processes.now) (sym thread) ∙ slice_get_read c.args.processes.now (length c.args.processes.now) c.len-thread.result c.index-processes-thread.result refl (omega (arith, thread, within)) c.index-processes-thread.is in
     let was : Life × ℕ = get_or lives c.len-thread.result (life.Unstarted, 0) in
     let lived : slice_get lives n ≡ Some was = ap (slice_get lives) (sym thread) ∙ slice_get-get_or lives c.len-thread.result (life.Unstarted, 0) (let counts = c.requires.count.0 in omega (arith, thread, within, counts)) in
-    let goes = go_on_more ps lives c.args.machines.items n c.loop-machine.next.items c.loop-machine.first.items (proc_of c.index-processes-thread.result) was c.in-Some.machine c.in_ok-life.life c.in_ok-life.stands
+    let goes = go_on_more ps lives c.args.machines.items n c.loop-machine.threads.items c.loop-machine.first.items c.loop-machine.ended.items (proc_of c.index-processes-thread.result) was c.in-Some.machine c.in-Some-2.next.life c.in-Some-2.next.first c.in-Some-2.next.ended
     i.goes
     (slice_get-map proc_of c.args.processes.now n ∙ ap (option_map proc_of) process)
     lived
     there
-    (subst (λ (t : ℕ). GoesOnFrom (proc_of c.index-processes-thread.result) t was c.in-Some.machine c.in_ok-life.life c.in_ok-life.stands) thread c.in_ok-life.ensures) in
+    (subst (λ (t : ℕ). GoesOnFrom (proc_of c.index-processes-thread.result) t was c.in-Some.machine c.in-Some-2.next.life c.in-Some-2.next.first c.in-Some-2.next.ended) thread (subst (λ (o : Option NextThread). IfSome o (λ n. GoesOnFrom (proc_of c.index-processes-thread.result) c.len-thread.result was c.in-Some.machine n.life n.first n.ended)) c.in-Some-2.is c.in_ok-next.ensures)) in
     record {
       whole = whole;
-      goes = subst (λ (z : ℕ × List (Life × ℕ) × List (Option Suspended)). GoOnBelow ps lives c.args.machines.items z.0 z.1 z.2)
-          (λ j. (sym (length-append c.loop-machine.yielded (c.in-Some.machine ∷ [])) j, sym c.in_ok-push.ensures.items j, sym c.in_ok-push-2.ensures.items j))
+      goes = subst (λ (z : ℕ × List (Life × ℕ) × List (Option Suspended) × List (Option Thread)). GoOnBelow ps lives c.args.machines.items z.0 z.1 z.2 z.3)
+          (λ j. (sym (length-append c.loop-machine.yielded (c.in-Some.machine ∷ [])) j, sym c.in_ok-push.ensures.items j, sym c.in_ok-push-2.ensures.items j, sym c.in_ok-push-3.ensures.items j))
           goes;
     }

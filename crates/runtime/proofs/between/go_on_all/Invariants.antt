@@ -6,5 +6,5 @@ use Rattle.runtime.proofs.between.go_on_all.Given as goal
 abbrev pub invariant-loop-machine : goal.invariant-loop-machine
 invariant-loop-machine l = record {
   whole : l.fn.machines.items ≡ l.yielded ++ l.machine-iterator.rest.items;
-  goes : GoOnBelow (map proc_of l.processes) l.lives l.fn.machines.items (length l.yielded) l.next.items l.first.items;
+  goes : GoOnBelow (map proc_of l.processes) l.lives l.fn.machines.items (length l.yielded) l.threads.items l.first.items l.ended.items;
 }

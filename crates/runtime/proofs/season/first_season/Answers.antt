@@ -1,4 +1,4 @@
-use Rattle.std.proofs.Common.{rules, ◌≡◌, ◌≤◌, ◌∙◌, List, Option, Some, ap, get_or, length, map, refl, replicate, subst, sym}
+use Rattle.std.proofs.Common.{rules, ◌≡◌, ◌≤◌, ◌*◌, ◌∙◌, ℕ, List, [], Option, Some, ap, get_or, length, map, refl, replicate, subst, sym}
 use Rattle.std.proofs.lemmas.List.{length-map}
 use Rattle.std.proofs.lemmas.Option.{slice_get-get_or}
 use Rattle.script_tree.specs.Processes.{Proc, proc_of}
@@ -12,12 +12,24 @@ use Rattle.runtime_worker.proofs.Machines.{none_settled, table_of_first}
 use Rattle.runtime.specs.Between.{AreHad}
 use Rattle.runtime.specs.Season.{IsSeason}
 use Rattle.runtime.proofs.GoingOn.{new_had}
+use Rattle.std.proofs.lemmas.List.{length-replicate}
+use Rattle.protocol_values.specs.declared.Commit.{Commit}
+use Rattle.protocol.specs.Openings.{start_opening}
+use Rattle.protocol.specs.declared.opening.NackState.TheVariants.{Unbound}
+use Rattle.protocol.proofs.LedgerLemmas.{start_threads}
+use Rattle.cell.specs.Calls.{opening_at}
+use Rattle.journal_replay.specs.Runs.{IsRun, config_of}
+use Rattle.journal_replay.proofs.Running.{run-none}
+use Rattle.journal_order.specs.Behind.{TellsRun}
+use Rattle.runtime.specs.declared.season.Season.{Season}
+use Rattle.runtime.proofs.Ledgers.{tells_first}
 use Rattle.runtime.proofs.season.first_season.Goals as goal
 
 pub returns : goal.returns
 unfolding table_of_first
 returns c =
     let ps : List Proc = map proc_of c.processes-processes.result.now in
+    let empty : c.new.result.items ≡ [] = (search rules) in
     let value = c.processes-processes.ensures.value in
     let cells = c.in_ok-cells.cells in
     let is = c.in_ok-cells.ensures.first in
@@ -28,15 +40,32 @@ returns c =
     (subst AreSpawnedOnce (sym value) c.processes-processes.ensures.limits.once) rows (length c.in_ok-first.first.items) c.later.result c.in_ok-cells.ensures.opening in
     let new : AreNew ps cells.first = subst (λ (l : List (Option Suspended)). AreNew ps l) (sym is) c.in_ok-first.ensures in
     let none : c.in_ok-had.had.items ≡ replicate c.len.result 0 = c.in_ok-had.ensures.items_if_clones_equal (λ y h. search rules) in
-    subst (λ (qs : List Proc). IsSeason qs (record { cells = cells; passes = c.in_ok-cells.passes; had = c.in_ok-had.had })) value (record {
-      of = record {
-        table = table;
-        processes = refl;
-        threads = c.in_ok-cells.ensures.size.0 ∙ sym (ap (λ (l : List (Option Suspended)). length l) is ∙ length-map c.in_ok-first.first.items Some) ∙ new.0;
-        waiting = λ n stamp low waits was. none_settled (length c.in_ok-first.first.items) c.later.result n stamp (subst (λ (o : Opening). WasSettled o n stamp) c.in_ok-cells.ensures.opening was);
-      };
-      passes = λ k d h.
-          let x = c.in_ok-cells.ensures.passes k (get_or c.in_ok-cells.passes.items k d) (slice_get-get_or c.in_ok-cells.passes.items k d h) in
-          (x.0, ap (λ (s : Seen). s.opened) x.1, ap (λ (s : Seen). s.begun) x.1, ap (λ (s : Seen). s.bound) x.1, ap (λ (s : Seen). s.ended) x.1, table);
-      had = subst (AreHad cells.first) (sym none) (new_had ps cells.first c.len.result new);
-    })
+    let opens : opening_at cells ≡ start_opening (length c.in_ok-first.first.items) c.later.result = c.in_ok-cells.ensures.opening in
+    let few_first : length c.in_ok-first.first.items ≤ 64 = (search rules) in
+    let lives : length (opening_at cells).threads ≡ cells.threads = ap (λ (o : Opening). length o.threads) opens ∙ start_threads (length c.in_ok-first.first.items) c.later.result ∙ sym c.in_ok-cells.ensures.size.0 in
+    let states : length (opening_at cells).nacks ≡ cells.threads * 64 =
+    ap (λ (o : Opening). length o.nacks) opens ∙ length-replicate (length c.in_ok-first.first.items * 64) Unbound ∙ ap (λ (n : ℕ). n * 64) (sym c.in_ok-cells.ensures.size.0) in
+    let resting = c.in_ok-resting.ensures in
+    let season : Season = record { done = 0; journal = c.new.result; cells = cells; passes = c.in_ok-cells.passes; had = c.in_ok-had.had; resting = c.in_ok-resting.resting } in
+    subst (λ (qs : List Proc). IsSeason qs season × (season.done ≡ 0) × (season.cells.rows ≡ c.args.rows)) value (
+      record {
+        of = record {
+          table = table;
+          processes = refl;
+          threads = c.in_ok-cells.ensures.size.0 ∙ sym (ap (λ (l : List (Option Suspended)). length l) is ∙ length-map c.in_ok-first.first.items Some) ∙ new.0;
+          lives = lives;
+          states = states;
+          waiting = λ n stamp low waits was. none_settled (length c.in_ok-first.first.items) c.later.result n stamp (subst (λ (o : Opening). WasSettled o n stamp) opens was);
+        };
+        passes = λ k d h.
+            let x = c.in_ok-cells.ensures.passes k (get_or c.in_ok-cells.passes.items k d) (slice_get-get_or c.in_ok-cells.passes.items k d h) in
+            (x.0, ap (λ (s : Seen). s.opened) x.1, ap (λ (s : Seen). s.begun) x.1, ap (λ (s : Seen). s.bound) x.1, ap (λ (s : Seen). s.ended) x.1, table);
+        had = subst (AreHad cells.first) (sym none) (new_had ps cells.first c.len.result new);
+        run = subst (IsRun ps (0 * cells.rows)) (sym empty) (run-none ps (0 * cells.rows));
+        tells = subst (λ (z : List Commit × Opening). TellsRun ps z.0 z.1) (λ i. (sym empty i, sym opens i)) (tells_first ps (length c.in_ok-first.first.items) c.later.result few_first c.later.ensures);
+        given = λ t start e. (new.1 t start e).2.results ∙ ap (λ (cs : List Commit). config_of cs t) (sym empty);
+        resting = (resting.0 ∙ sym (length-map c.processes-processes.result.now proc_of), λ t m e. absurd (resting.1 t m e));
+      },
+      refl,
+      c.in_ok-cells.ensures.size.1,
+    )

@@ -1,0 +1,31 @@
+use Rattle.std.proofs.Common.{List, Option, subst, sym}
+use Rattle.script_tree.specs.Processes.{Proc}
+use Rattle.script.specs.Scripts.{script_of}
+use Rattle.journal_order.specs.Behind.{TellsRun}
+use Rattle.journal_replay.specs.Runs.{IsRun}
+use Rattle.journal.specs.Concluding.{AreGone}
+use Rattle.protocol.specs.Openings.{opening_of}
+use Rattle.runtime.specs.Season.{EndsRun}
+use Rattle.runtime.specs.declared.season.Standing.{Standing}
+use Rattle.runtime.proofs.LeadingOn.{ends_run}
+use Rattle.runtime.proofs.seasons.led_on.Goals as goal
+
+pub retrace_run-requires-clause-run : goal.retrace_run-requires-clause-run
+retrace_run-requires-clause-run c =
+    subst (λ (ps : List Proc). IsRun ps c.args.rows c.args.commits.items) (sym c.processes-processes.ensures.value)
+    (ends_run (script_of c.args.script.now).processes c.args.rows c.args.commits.items c.args.standing c.requires.run)
+
+pub conclude_run-requires-clause-run : goal.conclude_run-requires-clause-run
+conclude_run-requires-clause-run c =
+    subst (λ (ps : List Proc). IsRun ps c.args.rows c.args.commits.items) (sym c.processes-processes.ensures.value)
+    (ends_run (script_of c.args.script.now).processes c.args.rows c.args.commits.items c.args.standing c.requires.run)
+
+pub conclude_run-requires-clause-told : goal.conclude_run-requires-clause-told
+conclude_run-requires-clause-told c =
+    let ends = subst (λ (s : Option Standing). EndsRun (script_of c.args.script.now).processes c.args.rows c.args.commits.items s) c.in-Some.is c.requires.run in
+    subst (λ (ps : List Proc). TellsRun ps c.args.commits.items (opening_of c.in-Some.field-0.opening)) (sym c.processes-processes.ensures.value) ends.1
+
+pub conclude_run-requires-clause-machines : goal.conclude_run-requires-clause-machines
+conclude_run-requires-clause-machines c =
+    let ends = subst (λ (s : Option Standing). EndsRun (script_of c.args.script.now).processes c.args.rows c.args.commits.items s) c.in-Some.is c.requires.run in
+    subst (λ (ps : List Proc). AreGone ps c.args.commits.items c.in-Some.field-0.machines.items) (sym c.processes-processes.ensures.value) ends.2
