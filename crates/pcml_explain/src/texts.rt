@@ -23,16 +23,16 @@ what to do: ask for 1 to 1024 rows.
 
 pub(crate) const LOST: &str = "\
 fault 4: a process that has not ended has no machine behind a season
-comes about: in pcml run with --seasons, where a worker gave no machine back at a season's end. No test has
-seen it.
-what to do: ask for one season, by a greater --rows and no --seasons, and report the script.
+comes about: no more. pcml run with --seasons told it where a worker gave no machine back at a season's end; now it goes
+on without that machine.
+what to do: nothing. The number is kept, and no other fault has it.
 ";
 
 pub(crate) const UNLAWFUL: &str = "\
 fault 5: the commits of all seasons are no run of the script
-comes about: in pcml run with --seasons, where a replay of what the seasons left refuses it. No test has
-seen it.
-what to do: ask for one season, by a greater --rows and no --seasons, and report the script.
+comes about: no more. pcml run with --seasons told it where a replay of what the seasons left refused it; now it is proved
+that they are a run.
+what to do: nothing. The number is kept, and no other fault has it.
 ";
 
 pub(crate) const NO_THREAD: &str = "\
