@@ -54,7 +54,7 @@ use Rattle.cell_table.proofs.Others.{knows_begun, learn_cell, learn_word, others
 use Rattle.cell_table.proofs.Courses.{KeepsLives}
 use Rattle.cell_table.proofs.Seating.{MovesOn, Stays, saw_stays}
 use Rattle.cell_table.proofs.Turning.{world_kept, keeps_housed, keeps_seen, keeps_view, keeps_step, moved_coherent}
-use Rattle.cell_table.proofs.Housing.{first_out, housed_begin, housed_open, housed_take, some_or_none, took_begins, took_begun, took_holds, value_out}
+use Rattle.cell_table.proofs.Housing.{LeavesHomes, first_out, housed_begin, housed_open, housed_take, some_or_none, took_begins, took_begun, took_holds, value_out}
 use Rattle.cell_table.proofs.Standing.{comes_out, goes_home, sees_last}
 
 -- the table with these words
@@ -160,7 +160,7 @@ module _ {M : Type 0} (stands : Stands M) where
       wrote_word d resting held unopened alive high formed =
           let mine = known.mine r held in
           let fresh = known.fresh r held unopened in
-          keeps_step stands shape s k id me.0 (drafted_word r p d me.0) _ k.owner view at_table refl refl refl (λ q h. h) (Draft r p d) (λ q e. let bad : Draft r p d ≡ Open q = e in cc) tt (known.seat, (mine.1, fresh, lives (inl (held, unopened)) alive, high, omega arith, formed))
+          keeps_step stands shape s k id me.0 (drafted_word r p d me.0) _ k.owner view at_table refl refl refl (λ q h. h) (Draft r p d) tt tt (known.seat, (mine.1, fresh, lives (inl (held, unopened)) alive, high, omega arith, formed))
           (record { same = (refl, refl, refl); acted = rests resting; acts = rests resting; held = λ q h. h; begun = λ q h. h; binds = λ n q scope e. let bad : Draft r p d ≡ Bind n q scope = e in cc }) (λ t rs h. inl h)
           (ap (λ (t : Table). with_word t r p d) k.table ∙ ap (λ (n : ℕ). sized shape (slice_set s.words n d)) (sym here))
           (λ j u n e t. others_draft k.world r p d k.owner kept is_its_row high low fresh j u (k.knows j u e t) (λ o. n (sym o ∙ mine.0)))
@@ -200,14 +200,14 @@ module _ {M : Type 0} (stands : Stands M) where
             → w.results ≡ me.0.results
             → beginning w ≡ beginning me.0
             → ((q : Row) → IsToBegin w q → IsToBegin me.0 q)
-            → ((q : Row) → done ≡ Open q → ⊥)
+            → LeavesHomes done
             → KeepsLives done
             → MovesOn me.0 w done
             → Knows later k.owner id w
             → Keeps stands shape (stepped s place (cell_word c) id me.1 (did done w) keeps)
         unfolding with_cell
-        wrote_cell done w condition after by_other unnamed seat_same made seen first begins opens_none still on knows =
-            keeps_step stands shape s k id me.0 w _ k.owner view at_table seat_same made first begins done opens_none still (known.seat, condition) on (λ t rs h. inl (subst (λ (l : List (ℕ × List Result)). Has l (t, rs)) seen h))
+        wrote_cell done w condition after by_other unnamed seat_same made seen first begins leaves still on knows =
+            keeps_step stands shape s k id me.0 w _ k.owner view at_table seat_same made first begins done leaves still (known.seat, condition) on (λ t rs h. inl (subst (λ (l : List (ℕ × List Result)). Has l (t, rs)) seen h))
             (ap (λ (v : World). v.table) after ∙ ap (λ (t : Table). with_cell t r c) k.table ∙ ap (λ (n : ℕ). sized shape (slice_set s.words n (cell_word c))) (ap (place_of shape.rows r) (sym zero) ∙ sym here))
             (λ j u n e t. subst (λ (v : World). Knows v k.owner j u) (sym after)
             (others_cell k.world r c k.owner kept is_its_row range open_c was untaken j u (k.knows j u e t) (λ o. by_other j n o) (λ m o h. unnamed j m n o h)))
@@ -278,7 +278,7 @@ module _ {M : Type 0} (stands : Stands M) where
           let unnamed = idle_unnamed k.world r kept (λ e. let bad : Waiting ≡ Claimed = sym waits ∙ e in cc) was in
           let now = own_now Claimed zero tt refl was untaken in
           wrote_cell Claimed zero tt refl was untaken (Claim r) (turned (Claims r) r me.0) (mine.1, waits) refl
-          (λ j n o. absurd (n (sym o ∙ mine.0))) (λ j m n o h. refl) refl refl refl refl (λ q h. h) (λ q e. let bad : Claim r ≡ Open q = e in cc) tt
+          (λ j n o. absurd (n (sym o ∙ mine.0))) (λ j m n o h. refl) refl refl refl refl (λ q h. h) tt tt
           (record { same = (refl, refl, refl); acted = rests resting; acts = λ e. let bad : Claims r ≡ Aside = e in cc; held = λ q h. h; begun = λ q h. h; binds = λ n q scope e. let bad : Claim r ≡ Bind n q scope = e in cc })
           (knows_now Claimed zero tt refl was untaken (Claims r) (
             mine.0,
@@ -300,7 +300,7 @@ module _ {M : Type 0} (stands : Stands M) where
           let untaken : is_taken (cell_at k.world.table r) ≡ false = ap is_taken staged.1 in
           wrote_cell Waiting zero tt refl was untaken (Yield r) (turned Resting r me.0)
           (mine.1, staged.1, namer_none _ (joined_at k.world.table) r staged.2) refl
-          (λ j n o. absurd (n (sym o ∙ mine.0))) (λ j m n o h. refl) refl refl refl refl (λ q h. h) (λ q e. let bad : Yield r ≡ Open q = e in cc) tt
+          (λ j n o. absurd (n (sym o ∙ mine.0))) (λ j m n o h. refl) refl refl refl refl (λ q h. h) tt tt
           (record { same = (refl, refl, refl); acted = λ e. let bad : Claims r ≡ Aside = sym claiming ∙ e in cc; acts = λ e. let bad : Resting ≡ Aside = e in cc; held = λ q h. h; begun = λ q h. h; binds = λ n q scope e. let bad : Yield r ≡ Bind n q scope = e in cc })
           (knows_now Waiting zero tt refl was untaken Resting tt (λ e. let bad : Waiting ≡ Claimed = e in cc)
           (λ q e h. false≢true (sym e ∙ ap (row_eq q) (subst (λ (z : Stage). IsClaimer z q) claiming h) ∙ row_eq-refl q)))
@@ -327,7 +327,7 @@ module _ {M : Type 0} (stands : Stands M) where
           (ap (λ (y : Joined). with_table k.world (with_cell k.world.table r (Synched y))) is)
           (λ i n o. (waits, refl))
           (λ i m n o h. ap (λ (y : Option (Row × ℕ)). is_partner y m) partner_is ∙ row_ne mine m (λ e. n (sym o ∙ ap k.owner (sym e) ∙ staged.0)))
-          refl refl refl refl (λ q h. h) (λ q e. let bad : Join mine own r partner ≡ Open q = e in cc) tt
+          refl refl refl refl (λ q h. h) tt tt
           (record { same = (refl, refl, refl); acted = λ e. let bad : Claims mine ≡ Aside = sym claiming ∙ e in cc; acts = λ e. let bad : Joins mine r j ≡ Aside = e in cc; held = λ q h. h; begun = λ q h. h; binds = λ n q scope e. let bad : Join mine own r partner ≡ Bind n q scope = e in cc })
           (learn_cell _ k.owner id (turned (Joins mine r j) r me.0) r (Synched j)
           (knows_now (Synched j) zero range refl was untaken (Joins mine r j)
@@ -350,7 +350,7 @@ module _ {M : Type 0} (stands : Stands M) where
           (waits, ap (λ (o : Option ℕ). is_some o) known_grant.0)
           (ap (λ (y : Joined). with_table k.world (with_cell k.world.table r (Synched y))) known_grant.1)
           (λ i n o. (waits, refl))
-          (λ i m n o h. ap (λ (y : Option (Row × ℕ)). is_partner y m) nobody) refl refl refl refl (λ q h. h) (λ q e. let bad : Grant r n ≡ Open q = e in cc) tt
+          (λ i m n o h. ap (λ (y : Option (Row × ℕ)). is_partner y m) nobody) refl refl refl refl (λ q h. h) tt tt
           (record { same = (refl, refl, refl); acted = rests resting; acts = λ e. let bad : Resting ≡ Aside = e in cc; held = λ q h. h; begun = λ q h. h; binds = λ m q scope e. let bad : Grant r n ≡ Bind m q scope = e in cc })
           (learn_cell _ k.owner id (turned Resting r me.0) r (Synched j)
           (knows_now (Synched j) zero range refl was untaken Resting tt
@@ -478,7 +478,7 @@ module _ {M : Type 0} (stands : Stands M) where
           (mine.1, staged.1, ap (λ (y : Option Row). is_some y) namer)
           (ap (λ (y : Option Joined). with_table k.world (with_seal k.world.table r y)) (sealed_is k.world.table r other (namer_at k.world r) sealing namer))
           (λ i n o. absurd (n (sym o ∙ mine.0)))
-          (λ i m n o h. row_ne other m (λ e. let bad : None ≡ Some j = sym (ap joined_of h) ∙ ap (joined_at k.world.table) (sym e) ∙ staged.2 in cc)) refl refl refl refl (λ q h. h) (λ q e. let bad : Seal r ≡ Open q = e in cc) tt
+          (λ i m n o h. row_ne other m (λ e. let bad : None ≡ Some j = sym (ap joined_of h) ∙ ap (joined_at k.world.table) (sym e) ∙ staged.2 in cc)) refl refl refl refl (λ q h. h) tt tt
           (record { same = (refl, refl, refl); acted = λ e. let bad : Joins r other j ≡ Aside = sym joining_now ∙ e in cc; acts = λ e. let bad : Resting ≡ Aside = e in cc; held = λ q h. h; begun = λ q h. h; binds = λ n q scope e. let bad : Seal r ≡ Bind n q scope = e in cc })
           (learn_cell _ k.owner id (turned Resting r me.0) r (Synched (mirrored other j own))
           (knows_now (Synched (mirrored other j own)) zero range refl was untaken Resting tt

@@ -303,7 +303,7 @@ module _ {M : Type 0} (stands : Stands M) where
         unfolding with_nack row_bound
         binds =
             let mine = known.mine (bound_row nack b) held in
-            keeps_step stands shape s k id me.0 (bound_nack nack b me.0) _ k.owner view at_table refl refl refl (λ q h. h) (bind_of nack b) (λ q e. let bad : bind_of nack b ≡ Open q = e in cc) tt
+            keeps_step stands shape s k id me.0 (bound_nack nack b me.0) _ k.owner view at_table refl refl refl (λ q h. h) (bind_of nack b) tt tt
             (known.seat, (mine.1, known.fresh (bound_row nack b) held unopened, alive_unseen k.world me.0.seen nack.thread (stand_ends k.world k.owner id me.0 known (bound_row nack b) (inl (held, unopened))) alive, inside.1, range.scope, free))
             (record { same = (refl, refl, refl); acted = rests; acts = rests; held = λ q h. h; begun = λ q h. h; binds = λ n q scope e. subst (Has me.0.seen.held) (ap row_bound e) held }) (λ t rs h. inl h)
             (ap (λ (t : Table). with_nack t nack b) k.table ∙ ap (λ (n : ℕ). sized shape (slice_set s.words n (nack_word (Bound b)))) (sym here))

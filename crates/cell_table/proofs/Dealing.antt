@@ -99,6 +99,11 @@ lies [] t y e = let bad : None ≡ Some y = e in cc
 lies (x ∷ xs) zero y e = ap (λ z. some (some z)) (some_inj x y e)
 lies (x ∷ xs) (suc t) y e = lies xs t y e
 
+lay : {A : Type 0} (xs : List A) (t : ℕ) (y : A) → get_elem? (map some xs) t ≡ some (some y) → slice_get xs t ≡ Some y
+lay [] t y e = absurd (mathlib.Core.Option.some-ne-none (some y) (sym e))
+lay (x ∷ xs) zero y e = ap Some (mathlib.Core.Option.some-injective _ _ (mathlib.Core.Option.some-injective _ _ e))
+lay (x ∷ xs) (suc t) y e = lay xs t y e
+
 module _ {M : Type 0} (stands : Stands M) where
   -- THE START
   module _ (shape : Shape M) (ws : List ℕ) (xs : List (Option M)) (slots : xs ≡ shape.first.value.items) (machines : AreMachines (opening_in shape) shape.first.value.items)
@@ -147,6 +152,7 @@ module _ {M : Type 0} (stands : Stands M) where
       at_home = λ r open_r untaken. absurd (true≢false (sym (ap is_fresh (fresh_there r)) ∙ open_r));
       waiting = λ id v r e t b. lies_waiting id v r e b;
       asleep = λ t below e. waits_at (first_row t) below (unstarted_alive (thread_in o t).0 (thread_in o t).1 (sym (first_course o begun.table words low t below) ∙ e));
+      lies = λ t value home. inl (ap is_fresh (fresh_there (first_row t)), sym (ap (λ (ys : List (Option M)). slice_get ys t) slots) ∙ lay xs t (Some value) home);
     }
       where
         waits_at : (r : Row) → r.thread < shape.threads → (thread_in o r.thread).0 ≢ life.Ended → Waits shape.first.value.items begun (map some xs) r

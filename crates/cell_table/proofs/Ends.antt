@@ -11,7 +11,7 @@ use Rattle.protocol_values.specs.declared.Course.TheVariants.{Unstarted, Running
 use Rattle.protocol_values.specs.declared.NackName.{NackName}
 use Rattle.protocol_values.specs.declared.Row.{Row}
 use Rattle.protocol_values.specs.declared.Seat.{Seat}
-use Rattle.protocol_values.specs.declared.Step.TheVariants.{Bind, Finish, Open}
+use Rattle.protocol_values.specs.declared.Step.TheVariants.{Bind, Finish}
 use Rattle.protocol_values.specs.Values.{joined_of}
 use Rattle.protocol.specs.Kept.{Kept}
 use Rattle.protocol.specs.Standing.{Stands}
@@ -166,7 +166,7 @@ module _ {M : Type 0} (stands : Stands M) where
           (ap (λ (v : World). v.table) after_is ∙ ap (λ (t : Table). with_course t x.thread (Ended start x.sync)) k.table ∙ ap (λ (n : ℕ). sized shape (slice_set s.words n (course_word (Ended start x.sync)))) (sym here))
           (λ j u n e t. subst (λ (v : World). Knows v k.owner j u) (sym after_is) (others_end k.world x start kept_now its_thread range running k.owner id (stand_owned k.world k.owner id me.0 knows x stand) (stand_place k.world k.owner id me.0 knows x stand) j u n (k.knows j u e t)))
           (subst (λ (v : World). Knows v k.owner id (saw_course x.thread (Ended start x.sync) me.0)) (sym after_is) (own_end k.world x start kept_now its_thread range running k.owner id (stand_owned k.world k.owner id me.0 knows x stand) (stand_place k.world k.owner id me.0 knows x stand) me.0 knows))
-          (λ some_first. housed_step stands shape.first.value.items k.world at_seat (Finish x) s.homes s.views id (ended_thread x start me.0) kept_now allowed (λ q e. let bad : Finish x ≡ Open q = e in cc) (λ q b. (k.housed some_first).waiting id me.0 q view (at_table stands shape slots id place me x.thread threads rows inside here) b) (k.housed some_first))
+          (λ some_first. housed_step stands shape.first.value.items k.world at_seat (Finish x) s.homes s.views id (ended_thread x start me.0) kept_now allowed tt (λ q b. (k.housed some_first).waiting id me.0 q view (at_table stands shape slots id place me x.thread threads rows inside here) b) (k.housed some_first))
 
     pub finish_allowed : Allows (Keeps stands shape) slots id me place (λ n. course_word (Ended start x.sync)) (λ n. finished (step slots place (course_word (Ended start x.sync)) 0 none) me (course_word (Ended start x.sync)))
     finish_allowed s k homes view in_words =

@@ -1,6 +1,5 @@
 -- Handing out what lies in slots.
 use Rattle.std.proofs.Common.{◌≡◌, ◌∙◌, ◌+◌, ◌<◌, ℕ, zero, suc, Bool, false, List, [], ◌∷◌, Option, None, Some, ap, arith, get_or, length, refl, slice_get, slice_set, subst, sym, ⊎_elim}
-use Rattle.std.specs.Prelude.{if◌then◌else◌, slice_index, unwrap_or}
 use Rattle.std.proofs.lemmas.Bool.{cases_eq}
 use Rattle.std.proofs.lemmas.List.{get_or-set_other, get_or-set_same, length-set}
 use Rattle.std.proofs.lemmas.Option.{get_or_from_slice_get, slice_get-get_or, slice_get_within}

@@ -1,6 +1,7 @@
 -- What stands for the threads lies at home, and comes out and goes home, as the rule says.
+use Rattle.std.specs.Bool.{⊤}
 use Rattle.std.proofs.Common.{slice_set, ◌⊎◌, ◌≡◌, ◌≢◌, ◌<◌, ◌≤◌, ◌%◌, ℕ, Bool, true, false, cond, ◌+◌, List, [], ◌∷◌, ◌++◌, length, Option, Some, sym, refl, ap, ◌∙◌, subst, inl, inr, ⊎_elim, arith}
-use Rattle.std.proofs.lemmas.Bool.{cases_Bool, cases_lt, true≢false, false≢true}
+use Rattle.std.proofs.lemmas.Bool.{cases_Bool, cases_eq, cases_lt, true≢false, false≢true}
 use Rattle.std.proofs.Math.Nat.{eq-or-lt_of_le}
 use mathlib.Core.Option.{Option as Maybe, some, none}
 use lib.ListN.{get_elem?}
@@ -17,7 +18,7 @@ use Rattle.protocol_values.specs.declared.Step.TheVariants.{Draft, Open, Look, R
 use Rattle.protocol.specs.Growing.{GoesOn, GrowsTo}
 use Rattle.protocol.specs.Kept.{Kept}
 use Rattle.protocol.specs.Ledgers.{LivesAt, ledger_of}
-use Rattle.protocol.specs.Standing.{OffersAs, OpenedAs, Result, SomeStands, Stands}
+use Rattle.protocol.specs.Standing.{EachStands, OffersAs, OpenedAs, Result, SomeStands, Stands}
 use Rattle.protocol_values.specs.declared.Offer.{Offer}
 use Rattle.protocol.specs.Tables.{Table, cell_at, course_at, is_fresh, is_taken}
 use Rattle.protocol_values.specs.Values.{next_row}
@@ -31,7 +32,8 @@ use Rattle.cell_table.specs.declared.view.Seen.{Seen}
 use Rattle.cell_table.specs.Sight.{Has, see_held, see_next}
 use Rattle.cell_table.specs.Views.{RunsIn, opening_by}
 use Rattle.std.proofs.Math.Dec.{ltb}
-use Rattle.cell_table.specs.Rule.{Housed, IsHome, IsToBegin, Waits}
+use Rattle.cell_table.specs.Rule.{HasOpenRow, Housed, IsHome, IsToBegin, StoodFirst, Waits}
+use Rattle.cell_table.proofs.Takings.{opened_waits, takes_step}
 
 -- a list has a first element or none
 pub some_or_none : {A : Type 0} (xs : List A) → (length xs ≡ 0) ⊎ (0 < length xs)
@@ -85,7 +87,7 @@ module _ (w : World) (k : Kept w) where
       (ordered q.sync r.sync)
 
   -- where the first row of a thread is Fresh, no row of the thread is opened
-  none_open : (first r : Row) → first.sync ≡ 0 → first.thread ≡ r.thread → is_fresh (cell_at w.table first) ≡ true → IsOpen r → ⊥
+  pub none_open : (first r : Row) → first.sync ≡ 0 → first.thread ≡ r.thread → is_fresh (cell_at w.table first) ≡ true → IsOpen r → ⊥
   none_open first r zero same fresh open_r = ⊎_elim
       (λ (below : first.sync < r.sync). true≢false (sym (taken_before w k first r (sym same) below (inl open_r)) ∙ fresh_untaken (cell_at w.table first) fresh))
       (λ (other : (first.sync ≡ r.sync) ⊎ (r.sync < first.sync)). ⊎_elim
@@ -132,11 +134,48 @@ module _ (w : World) (k : Kept w) where
         (opens-step w seat step k allowed r e)))
         (cases_Bool (is_fresh (cell_at (after_step w seat step).table r)))
 
+    -- a row that is opened and that nobody has taken stays so, but for the row that the step takes
+    open_after : (t : ℕ) → ((r : Row) → r.thread ≡ t → step ≡ Take r → ⊥) → HasOpenRow w.table t → HasOpenRow (after_step w seat step).table t
+    open_after t takes_other o = (
+      o.0,
+      o.1,
+      (grows-step w seat step k allowed).opened o.0 o.2,
+      ⊎_elim
+          (λ (e : is_taken (cell_at (after_step w seat step).table o.0) ≡ true). absurd (⊎_elim
+          (λ (old : is_taken (cell_at w.table o.0) ≡ true). true≢false (sym old ∙ o.3))
+          (λ (new : step ≡ Take o.0). takes_other o.0 o.1 new)
+          (takes_step w seat step k allowed o.0 e)))
+          (λ (e : is_taken (cell_at (after_step w seat step).table o.0) ≡ false). e)
+          (cases_Bool (is_taken (cell_at (after_step w seat step).table o.0))),
+    )
+
     -- a thread that has not started after a step had not before
     asleep_before : (t : ℕ) → t < (after_step w seat step).table.threads → course_at (after_step w seat step).table t ≡ Unstarted → (t < w.table.threads) × (course_at w.table t ≡ Unstarted)
     asleep_before t below e =
         let grows = grows-step w seat step k allowed in
         (subst (λ (n : ℕ). t < n) grows.threads below, unstarted (course_at w.table t) (course_at (after_step w seat step).table t) (grows.courses t) e)
+
+-- the step opens no row and takes none, so what stands for the threads stays where it is
+abbrev pub LeavesHomes : Step → Type 0
+LeavesHomes (Draft r p v) = ⊤
+LeavesHomes (Open r) = ⊥
+LeavesHomes (Look r) = ⊤
+LeavesHomes (Read r p) = ⊤
+LeavesHomes (Claim r) = ⊤
+LeavesHomes (Yield r) = ⊤
+LeavesHomes (Join r n q m) = ⊤
+LeavesHomes (Seal r) = ⊤
+LeavesHomes (Grant r n) = ⊤
+LeavesHomes (Take r) = ⊥
+LeavesHomes (Bind n r scope) = ⊤
+LeavesHomes (Start r thread) = ⊤
+LeavesHomes (Finish r) = ⊤
+
+leaves_opens : (step : Step) → LeavesHomes step → (r : Row) → step ≡ Open r → ⊥
+leaves_opens step leaves r e = subst LeavesHomes e leaves
+
+leaves_takes : (step : Step) → LeavesHomes step → (r : Row) → step ≡ Take r → ⊥
+leaves_takes step leaves r e = subst LeavesHomes e leaves
 
 -- a step that opens no row asks for nothing of what is opened
 opened_none : (stands : ℕ → List Result → List Offer → List ℕ → Type 0) (t : Table) (step : Step) → ((r : Row) → step ≡ Open r → ⊥) → OpenedAs stands t step
@@ -211,6 +250,7 @@ module _ {M : Type 0} (stands : Stands M) (first : List (Option M)) where
         (λ (a : (j ≢ id) × (get_elem? vs j ≡ some x)). h.waiting j x r a.1 t b)
         (at_set vs id j u x e);
     asleep = h.asleep;
+    lies = h.lies;
   }
 
   pub housed_view : (w : World) (homes : List (Maybe (Option M))) (vs : List (View M)) (id : ℕ) (v u : View M) → get_elem? vs id ≡ some v → 0 < v.threads → ((r : Row) → IsToBegin u r → IsToBegin v r) → Housed stands first w homes vs → Housed stands first w homes (slice_set vs id u)
@@ -226,6 +266,7 @@ module _ {M : Type 0} (stands : Stands M) (first : List (Option M)) where
         (λ (new : u ≡ x). no_more r (subst (λ (z : View M). IsToBegin z r) (sym new) b))
         (at_snoc vs u x j e);
     asleep = h.asleep;
+    lies = h.lies;
   }
 
   -- a pass that is of no table any more
@@ -238,24 +279,57 @@ module _ {M : Type 0} (stands : Stands M) (first : List (Option M)) where
         (λ (a : (j ≢ id) × (get_elem? vs j ≡ some x)). h.waiting j x r a.1 t b)
         (at_set vs id j u x e);
     asleep = h.asleep;
+    lies = h.lies;
   }
 
-  -- a step that opens no row
-  pub housed_step : (w : World) (seat : Seat) (step : Step) (homes : List (Maybe (Option M))) (vs : List (View M)) (id : ℕ) (u : View M) → Kept w → Allowed w seat step → ((r : Row) → step ≡ Open r → ⊥) → ((r : Row) → IsToBegin u r → Waits first w homes r)
+  -- A STEP IS MADE that opens no row: what is opened, and what waits, is as it was
+  module _ (w : World) (seat : Seat) (step : Step) (homes : List (Maybe (Option M))) (vs : List (View M)) (id : ℕ) (u : View M) (k : Kept w) (allowed : Allowed w seat step) (never : (r : Row) → step ≡ Open r → ⊥) (begins : (r : Row) → IsToBegin u r → Waits first w homes r)
+      (h : Housed stands first w homes vs) where
+    on : (r : Row) → Waits first w homes r → Waits first (after_step w seat step) homes r
+    on r waits = waits_on w (after_step w seat step) homes homes r waits (fresh_after w k seat step allowed r waits.fresh (never r)) refl
+
+    rows_step : EachStands (SomeStands stands first) (after_step w seat step).table
+    rows_step = stands-step (SomeStands stands first) w seat step k allowed h.rows (opened_none (SomeStands stands first) (after_step w seat step).table step never)
+
+    was_open : (r : Row) → is_fresh (cell_at (after_step w seat step).table r) ≡ false → is_fresh (cell_at w.table r) ≡ false
+    was_open r open_r = ⊎_elim (λ (old : is_fresh (cell_at w.table r) ≡ false). old) (λ (e : step ≡ Open r). absurd (never r e)) (opens-step w seat step k allowed r open_r)
+
+    home_step : (r : Row) → is_fresh (cell_at (after_step w seat step).table r) ≡ false → is_taken (cell_at (after_step w seat step).table r) ≡ false → IsHome stands first (ledger_of (after_step w seat step).table) homes r
+    home_step r open_r untaken =
+        home_on w (after_step w seat step).table homes homes r k (grows-step w seat step k allowed) (was_open r open_r) (h.at_home r (was_open r open_r) (untaken_before w k seat step allowed r untaken)) refl
+
+    waiting_step : (j : ℕ) (x : View M) (r : Row) → get_elem? (slice_set vs id u) j ≡ some x → 0 < x.threads → IsToBegin x r → Waits first (after_step w seat step) homes r
+    waiting_step j x r e t b = on r ((housed_seen w homes vs id u begins h).waiting j x r e t b)
+
+    asleep_step : (t : ℕ) → t < (after_step w seat step).table.threads → course_at (after_step w seat step).table t ≡ Unstarted → Waits first (after_step w seat step) homes (first_row t)
+    asleep_step t below e = on (first_row t) (h.asleep t (asleep_before w k seat step allowed t below e).0 (asleep_before w k seat step allowed t below e).1)
+
+    -- and what lies in a slot of whose thread no row is taken
+    lies_step : (t : ℕ) (value : M) → ((r : Row) → r.thread ≡ t → step ≡ Take r → ⊥) → get_elem? homes t ≡ some (some (Some value)) → StoodFirst first (after_step w seat step).table t value ⊎ HasOpenRow (after_step w seat step).table t
+    lies_step t value untaken home = ⊎_elim
+        (λ (a : StoodFirst first w.table t value). inl (fresh_after w k seat step allowed (first_row t) a.0 (never (first_row t)), a.1))
+        (λ (o : HasOpenRow w.table t). inr (open_after w k seat step allowed t untaken o))
+        (h.lies t value home)
+
+  -- a step that opens no row and takes none
+  pub housed_step : (w : World) (seat : Seat) (step : Step) (homes : List (Maybe (Option M))) (vs : List (View M)) (id : ℕ) (u : View M) → Kept w → Allowed w seat step → LeavesHomes step → ((r : Row) → IsToBegin u r → Waits first w homes r)
       → Housed stands first w homes vs → Housed stands first (after_step w seat step) homes (slice_set vs id u)
-  housed_step w seat step homes vs id u k allowed never begins h =
-      let one = housed_seen w homes vs id u begins h in
+  housed_step w seat step homes vs id u k allowed leaves begins h =
+      let never = leaves_opens step leaves in
       record {
-        rows = stands-step (SomeStands stands first) w seat step k allowed h.rows (opened_none (SomeStands stands first) (after_step w seat step).table step never);
-        at_home = λ r open_r untaken.
-            let was : is_fresh (cell_at w.table r) ≡ false = ⊎_elim (λ (old : is_fresh (cell_at w.table r) ≡ false). old) (λ (e : step ≡ Open r). absurd (never r e)) (opens-step w seat step k allowed r open_r) in
-            home_on w (after_step w seat step).table homes homes r k (grows-step w seat step k allowed) was (h.at_home r was (untaken_before w k seat step allowed r untaken)) refl;
-        waiting = λ j x r e t b. on r (one.waiting j x r e t b);
-        asleep = λ t below e. on (first_row t) (h.asleep t (asleep_before w k seat step allowed t below e).0 (asleep_before w k seat step allowed t below e).1);
+        rows = rows_step w seat step homes vs id u k allowed never begins h;
+        at_home = home_step w seat step homes vs id u k allowed never begins h;
+        waiting = waiting_step w seat step homes vs id u k allowed never begins h;
+        asleep = asleep_step w seat step homes vs id u k allowed never begins h;
+        lies = λ t value home. lies_step w seat step homes vs id u k allowed never begins h t value (λ r same e. leaves_takes step leaves r e) home;
       }
-    where
-      on : (r : Row) → Waits first w homes r → Waits first (after_step w seat step) homes r
-      on r waits = waits_on w (after_step w seat step) homes homes r waits (fresh_after w k seat step allowed r waits.fresh (never r)) refl
+
+  -- nothing lies in a slot that was emptied
+  emptied : (homes : List (Maybe (Option M))) (i t : ℕ) (value : M) → get_elem? (slice_set homes i none) t ≡ some (some (Some value)) → t ≢ i
+  emptied homes i t value home = ⊎_elim
+      (λ (a : (t ≡ i) × (none ≡ some (Some value))). absurd (mathlib.Core.Option.some-ne-none (Some value) (sym a.1)))
+      (λ (b : (t ≢ i) × (get_elem? homes t ≡ some (some (Some value)))). b.0)
+      (at_set homes i t none (some (Some value)) home)
 
   -- A ROW IS TAKEN: what stood for its thread comes out
   module _ (w : World) (seat : Seat) (r : Row) (j : Joined) (homes : List (Maybe (Option M))) (vs : List (View M)) (id : ℕ) (v u : View M) (k : Kept w) (allowed : Allowed w seat (Take r))
@@ -272,27 +346,36 @@ module _ {M : Type 0} (stands : Stands M) (first : List (Option M)) where
     none_opens : (q : Row) → Take r ≡ Open q → ⊥
     none_opens q e = let bad : Take r ≡ Open q = e in cc
 
+    one_takes : (q : Row) → Take r ≡ Take q → q ≡ r
+    one_takes q e = let same : Take r ≡ Take q = e in cc
+
+    -- the other slots are as they were
+    stays : (t : ℕ) → t ≢ r.thread → get_elem? (slice_set homes r.thread none) t ≡ get_elem? homes t
+    stays t apart = set_else homes r.thread t none apart
+
     pub housed_take : Housed stands first (after_step w seat (Take r)) (slice_set homes r.thread none) (slice_set vs id u)
     housed_take =
-        let before = housed_step w seat (Take r) homes vs id u k allowed none_opens (λ q b. h.waiting id v q view at_table (begins q b)) h in
+        let waits : (q : Row) → IsToBegin u q → Waits first w homes q = λ q b. h.waiting id v q view at_table (begins q b) in
         record {
-          rows = before.rows;
+          rows = rows_step w seat (Take r) homes vs id u k allowed none_opens waits h;
           at_home = λ q open_q untaken_q.
-              let was : is_fresh (cell_at w.table q) ≡ false = ⊎_elim (λ (old : is_fresh (cell_at w.table q) ≡ false). old) (λ (e : Take r ≡ Open q). absurd (none_opens q e)) (opens-step w seat (Take r) k allowed q open_q) in
+              let was = was_open w seat (Take r) homes vs id u k allowed none_opens waits h q open_q in
               let untaken = untaken_before w k seat (Take r) allowed q untaken_q in
               let apart : q.thread ≢ r.thread = λ same. let e = one_open w k q r same was untaken open_r untaken_r in true≢false (sym after_is ∙ ap (λ (x : Row). is_taken (cell_at (after_step w seat (Take r)).table x)) (sym e) ∙ untaken_q) in
-              home_on w (after_step w seat (Take r)).table homes (slice_set homes r.thread none) q k (grows-step w seat (Take r) k allowed) was (h.at_home q was untaken) (set_else homes r.thread q.thread none apart);
+              home_on w (after_step w seat (Take r)).table homes (slice_set homes r.thread none) q k (grows-step w seat (Take r) k allowed) was (h.at_home q was untaken) (stays q.thread apart);
           waiting = λ i x q e t b.
-              let waits = before.waiting i x q e t b in
-              let one = housed_view w homes vs id v u view at_table begins h in
-              let was = one.waiting i x q e t b in
+              let now = waiting_step w seat (Take r) homes vs id u k allowed none_opens waits h i x q e t b in
+              let was = (housed_view w homes vs id v u view at_table begins h).waiting i x q e t b in
               let apart : q.thread ≢ r.thread = λ same. none_open w k q r b.0 same was.fresh open_r in
-              waits_on (after_step w seat (Take r)) (after_step w seat (Take r)) homes (slice_set homes r.thread none) q waits waits.fresh (set_else homes r.thread q.thread none apart);
+              waits_on (after_step w seat (Take r)) (after_step w seat (Take r)) homes (slice_set homes r.thread none) q now now.fresh (stays q.thread apart);
           asleep = λ t below e.
               let was = asleep_before w k seat (Take r) allowed t below e in
-              let waits = before.asleep t below e in
-              waits_on (after_step w seat (Take r)) (after_step w seat (Take r)) homes (slice_set homes r.thread none) (first_row t) waits waits.fresh
-              (set_else homes r.thread t none (λ same. open_started w k r open_r (ap (course_at w.table) (sym same) ∙ was.1)));
+              let now = asleep_step w seat (Take r) homes vs id u k allowed none_opens waits h t below e in
+              waits_on (after_step w seat (Take r)) (after_step w seat (Take r)) homes (slice_set homes r.thread none) (first_row t) now now.fresh
+              (stays t (λ same. open_started w k r open_r (ap (course_at w.table) (sym same) ∙ was.1)));
+          lies = λ t value home.
+              let apart = emptied homes r.thread t value home in
+              lies_step w seat (Take r) homes vs id u k allowed none_opens waits h t value (λ q same e. apart (sym same ∙ ap (λ (x : Row). x.thread) (one_takes q e))) (sym (stays t apart) ∙ home);
         }
 
   -- A PASS BEGINS with a thread: what stood for it at first comes out
@@ -318,6 +401,7 @@ module _ {M : Type 0} (stands : Stands M) (first : List (Option M)) where
       asleep = λ t below e.
           let waits = h.asleep t below e in
           waits_on w w homes (slice_set homes r.thread none) (first_row t) waits waits.fresh (set_else homes r.thread t none (λ same. started (ap (course_at w.table) (sym same) ∙ e)));
+      lies = λ t value home. h.lies t value (sym (set_else homes r.thread t none (emptied homes r.thread t value home)) ∙ home);
     }
       where
         still : (q : Row) → q.sync ≡ 0 → q ≢ r → Waits first w homes q → Waits first w (slice_set homes r.thread none) q
@@ -354,6 +438,9 @@ module _ {M : Type 0} (stands : Stands M) (first : List (Option M)) where
         row_in (Start x thread) = r
         row_in (Finish x) = r
 
+    waits_now : cell_at opened_world.table r ≡ Waiting
+    waits_now = opened_waits w seat r k allowed
+
     pub housed_open : Housed stands first opened_world filled (slice_set vs id u)
     housed_open = record {
       rows = stands-step (SomeStands stands first) w seat (Open r) k allowed h.rows (record {
@@ -389,4 +476,11 @@ module _ {M : Type 0} (stands : Stands M) (first : List (Option M)) where
           let waits = h.asleep t before.0 before.1 in
           let apart : t ≢ r.thread = λ same. k.begun r (is_held w r seat.0 held_r) (ap (course_at w.table) (sym same) ∙ before.1) in
           waits_on w opened_world homes filled (first_row t) waits (fresh_after w k seat (Open r) allowed (first_row t) waits.fresh (λ o. apart (ap (λ (x : Row). x.thread) (sym (one_opens (first_row t) o))))) (set_else homes r.thread t (some (Some value)) apart);
+      lies = λ t x home. ⊎_elim
+          (λ (same : t ≡ r.thread). inr (r, sym same, ap is_fresh waits_now, ap is_taken waits_now))
+          (λ (apart : t ≢ r.thread). ⊎_elim
+          (λ (a : StoodFirst first w.table t x). inl (fresh_after w k seat (Open r) allowed (first_row t) a.0 (λ o. apart (ap (λ (y : Row). y.thread) (sym (one_opens (first_row t) o)))), a.1))
+          (λ (o : HasOpenRow w.table t). inr (open_after w k seat (Open r) allowed t (λ q is e. let bad : Open r ≡ Take q = e in cc) o))
+          (h.lies t x (sym (set_else homes r.thread t (some (Some value)) apart) ∙ home)))
+          (cases_eq t r.thread);
     }

@@ -10,6 +10,7 @@ pub mod Exchanging
 pub mod Following
 pub mod Handing
 pub mod Hearing
+pub mod Homes
 pub mod Housing
 pub mod Lives
 pub mod Offers
@@ -19,5 +20,6 @@ pub mod Results
 pub mod Seating
 pub mod Standing
 pub mod Starts
+pub mod Takings
 pub mod Truths
 pub mod Turning

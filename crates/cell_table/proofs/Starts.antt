@@ -16,7 +16,7 @@ use Rattle.protocol_values.specs.declared.Course.TheVariants.{Unstarted, Running
 use Rattle.protocol_values.specs.declared.NackName.{NackName}
 use Rattle.protocol_values.specs.declared.Row.{Row}
 use Rattle.protocol_values.specs.declared.Seat.{Seat}
-use Rattle.protocol_values.specs.declared.Step.TheVariants.{Bind, Open, Start}
+use Rattle.protocol_values.specs.declared.Step.TheVariants.{Bind, Start}
 use Rattle.protocol_values.specs.Values.{joined_of}
 use Rattle.protocol.specs.Kept.{Kept}
 use Rattle.protocol.specs.Ledgers.{LivesAt}
@@ -261,7 +261,7 @@ module _ {M : Type 0} (stands : Stands M) where
             (ap (λ (v : World). v.table) after_is ∙ ap (λ (t : Table). with_course t p (Running stamp)) k.table ∙ ap (λ (n : ℕ). sized shape (slice_set s.words n (course_word (Running stamp)))) (sym here))
             (λ j u n e t. subst (λ (v : World). Knows v (owner' k.world at_seat p stamp kept its range waiting k.owner id its_rows) j u) (sym after_is) (others_start k.world at_seat p stamp kept its range waiting k.owner id its_rows j u (k.knows j u e t)))
             (subst (λ (v : World). Knows v (owner' k.world at_seat p stamp kept its range waiting k.owner id its_rows) id (at_stage me.0.stage (see_start p stamp me.0.seen) me.0)) (sym after_is) (own_start k.world at_seat p stamp kept its range waiting k.owner id its_rows me.0 refl known))
-            (λ some_first. housed_step stands shape.first.value.items k.world at_seat (Start me.0.from p) s.homes s.views id (started_thread p stamp me.0) kept allowed (λ q e. let bad : Start me.0.from p ≡ Open q = e in cc) (to_begin some_first) (k.housed some_first))
+            (λ some_first. housed_step stands shape.first.value.items k.world at_seat (Start me.0.from p) s.homes s.views id (started_thread p stamp me.0) kept allowed tt (to_begin some_first) (k.housed some_first))
           where
             -- what stood for the thread at first waits, as does that with which the pass was to begin before
             to_begin : (some_first : 0 < length shape.first.value.items) (r : Row) → IsToBegin (started_thread p stamp me.0) r → Waits shape.first.value.items k.world s.homes r

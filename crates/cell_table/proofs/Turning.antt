@@ -9,7 +9,6 @@ use Rattle.atomic_table.specs.Table.{State}
 use Rattle.atomic_table.proofs.Lists.{at_set}
 use Rattle.protocol_values.specs.declared.Seat.{Seat}
 use Rattle.protocol_values.specs.declared.Step.{Step}
-use Rattle.protocol_values.specs.declared.Step.TheVariants.{Open}
 use Rattle.protocol_values.specs.declared.Row.{Row}
 use Rattle.protocol.specs.Acting.{DoesAt, EndedAs, StartedAs, acts_in}
 use Rattle.protocol.specs.Growing.{GrowsTo}
@@ -33,7 +32,7 @@ use Rattle.protocol.proofs.Keeping.{kept_schedule}
 use Rattle.protocol.proofs.LedgerLemmas.{kept_opening}
 use Rattle.cell_table.specs.Rule.{Housed, Interleaves, IsActing, IsToBegin, Keeps, Move, at_seat, beginning, in_order, steps_by}
 use Rattle.cell_table.proofs.Courses.{KeepsLives, plain_lives}
-use Rattle.cell_table.proofs.Housing.{housed_step, housed_view}
+use Rattle.cell_table.proofs.Housing.{LeavesHomes, housed_step, housed_view}
 use Rattle.cell_table.proofs.Seating.{MovesOn, Stays, seated_seen, seated_step}
 
 module _ {M : Type 0} where
@@ -184,18 +183,18 @@ module _ {M : Type 0} (stands : Stands M) where
             (λ t rs h. ⊎_elim (λ (old : Has v.results (t, rs)). stays id t v rs view old) (λ (new : AreResults (ledger_of (after_step k.world at step).table) t rs). new) (seen t rs h));
       }
 
-  -- where the step opens no row, and leaves the slots as they are
+  -- where the step opens no row and takes none, and leaves the slots as they are
   pub keeps_step : (shape : Shape M) (s : State (Option M) (View M)) (k : Keeps stands shape s) (id : ℕ) (v w : View M) (ws : List ℕ) (owner : Row → ℕ) → get_elem? s.views id ≡ some v → 0 < v.threads → w.seat ≡ v.seat → w.made ≡ v.made → beginning w ≡ beginning v
       → ((r : Row) → IsToBegin w r → IsToBegin v r)
-      → (step : Step) → ((r : Row) → step ≡ Open r → ⊥) → KeepsLives step → Allowed k.world (record { 0 = v.seat }) step → MovesOn v w step
+      → (step : Step) → LeavesHomes step → KeepsLives step → Allowed k.world (record { 0 = v.seat }) step → MovesOn v w step
       → ((t : ℕ) (rs : List Result) → Has w.results (t, rs) → Has v.results (t, rs) ⊎ AreResults (ledger_of (after_step k.world (record { 0 = v.seat }) step).table) t rs)
       → (after_step k.world (record { 0 = v.seat }) step).table ≡ record { threads = shape.threads; rows = shape.rows; words = ws; opening = greatest (opening_in shape) }
       → ((j : ℕ) (u : View M) → j ≢ id → get_elem? s.views j ≡ some u → 0 < u.threads → Knows (after_step k.world (record { 0 = v.seat }) step) owner j u)
       → Knows (after_step k.world (record { 0 = v.seat }) step) owner id w
       → Keeps stands shape (record { words = ws; homes = s.homes; views = slice_set s.views id (did step w) })
-  keeps_step shape s k id v w ws owner view at_table seat made first begins step opens_none lives allowed on seen same others knows =
+  keeps_step shape s k id v w ws owner view at_table seat made first begins step leaves lives allowed on seen same others knows =
       keeps_housed shape s k id v w ws s.homes owner view at_table seat made first step (λ some_first. plain_lives (acts_in stands shape.first.value.items).starts (acts_in stands shape.first.value.items).ends (after_step k.world (record { 0 = v.seat }) step).table step lives) allowed on seen same others knows
-      (λ some_first. housed_step stands shape.first.value.items k.world (record { 0 = v.seat }) step s.homes s.views id (did step w) (world_kept shape s k) allowed opens_none (λ q b. (k.housed some_first).waiting id v q view at_table (begins q b)) (k.housed some_first))
+      (λ some_first. housed_step stands shape.first.value.items k.world (record { 0 = v.seat }) step s.homes s.views id (did step w) (world_kept shape s k) allowed leaves (λ q b. (k.housed some_first).waiting id v q view at_table (begins q b)) (k.housed some_first))
 
   -- WHAT A PASS HAS SEEN agrees with itself, at any moment
   pub pass_coherent : (shape : Shape M) (s : State (Option M) (View M)) (k : Keeps stands shape s) (id : ℕ) (v : View M) → get_elem? s.views id ≡ some v → 0 < v.threads → AgreesWithItself v

@@ -88,6 +88,14 @@ module _ {M : Type 0} where
     pub is_first : slice_get first r.thread ≡ Some (Some value)
     pub home : get_elem? homes r.thread ≡ some (some (Some value))
 
+  -- the value stood for the thread at first, and no row of the thread was opened since
+  abbrev pub StoodFirst : List (Option M) → Table → ℕ → M → Type 0
+  StoodFirst first t thread value = (is_fresh (cell_at t (first_row thread)) ≡ true) × (slice_get first thread ≡ Some (Some value))
+
+-- some row of the thread is opened, and nobody has taken it
+abbrev pub HasOpenRow : Table → ℕ → Type 0
+HasOpenRow t thread = (r : Row) × (r.thread ≡ thread) × (is_fresh (cell_at t r) ≡ false) × (is_taken (cell_at t r) ≡ false)
+
 module _ {M : Type 0} (stands : Stands M) where
   -- The value is at home, and the row offers what it offers after the results of the rows before.
   pub record IsHome (first : List (Option M)) (l : Ledger) (homes : List (Maybe (Option M))) (r : Row) : Type 0 where
@@ -103,6 +111,9 @@ module _ {M : Type 0} (stands : Stands M) where
     pub waiting : (id : ℕ) (v : View M) (r : Row) → get_elem? views id ≡ some v → 0 < v.threads → IsToBegin v r → Waits first w homes r
     -- and so is what stood at first for a thread that has not started
     pub asleep : (t : ℕ) → t < w.table.threads → course_at w.table t ≡ Unstarted → Waits first w homes (first_row t)
+    -- and whatever is at home lies there so: of a thread that has begun it is he of the opened row, and of another one he who stood
+    -- for it at first
+    pub lies : (t : ℕ) (value : M) → get_elem? homes t ≡ some (some (Some value)) → StoodFirst first w.table t value ⊎ HasOpenRow w.table t
 
   -- The value stands for the row's thread after the results of the rows before, as the pass has them; its offers are drafted for the
   -- row, and its nacks, and no others, are bound to it.

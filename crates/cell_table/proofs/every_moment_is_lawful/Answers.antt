@@ -1,18 +1,25 @@
-use Rattle.std.proofs.Common.{◌≡◌, ◌<◌, ◌≤◌, List, [], true, false, sym, ap, ◌∙◌, subst, arith}
+use Rattle.std.proofs.Common.{◌≡◌, ◌⊎◌, ◌<◌, ◌≤◌, ℕ, List, [], Some, true, false, slice_get, sym, ap, ◌∙◌, subst, arith}
+use mathlib.Core.Option.{some}
+use lib.ListN.{get_elem?}
+use Rattle.protocol_values.specs.declared.Binding.{Binding}
+use Rattle.protocol_values.specs.declared.Course.TheVariants.{Unstarted}
+use Rattle.protocol_values.specs.declared.NackName.{NackName}
 use Rattle.protocol_values.specs.declared.Row.{Row}
 use Rattle.protocol.specs.Tables.{Table, binding_at, bound_row, cell_at, course_at, is_fresh, is_nack, is_taken, joined_at, nack_says, names}
 use Rattle.protocol.specs.Openings.{HadEnded, HadStarted, Opening, greatest}
-use Rattle.protocol.specs.Worlds.{Plays, World}
+use Rattle.protocol.specs.Worlds.{Plays, World, first_row}
 use Rattle.protocol.specs.Kept.{Kept}
 use Rattle.protocol.specs.Acting.{EachEnded, EachStarted, acts_in}
 use Rattle.protocol.specs.Ledgers.{ledger_of, IsLawful}
 use Rattle.protocol.specs.Standing.{AreResults, EachStands, SomeStands}
 use Rattle.protocol.proofs.Beginning.{first_binding, first_cell, first_course, first_says}
 use Rattle.protocol.proofs.LedgerLemmas.{kept_opening, lawful_ledger}
+use Rattle.cell_table.specs.Laws.{IsNackThere, StandsFor}
 use Rattle.cell_table.specs.Rule.{IsHome, Move, in_order}
 use Rattle.cell_table.specs.Views.{bind_of, opening_in}
 use Rattle.cell_table.proofs.Binders.{bound_by}
 use Rattle.cell_table.proofs.Seating.{acts, stays_of}
+use Rattle.cell_table.proofs.Homes.{home_stands, nack_stands}
 use Rattle.cell_table.proofs.Once.{ended_once, nothing_yet, started_once, taken_once}
 use Rattle.cell_table.proofs.Turning.{world_kept}
 use Rattle.cell_table.proofs.every_moment_is_lawful.Goals as goal
@@ -36,6 +43,16 @@ returns g c shape s k =
       waiting = λ some_first id v r at begins.
           let one = (k.housed some_first).waiting id v r at.0 at.1 begins in
           (subst (λ (t : Table). is_fresh (cell_at t r) ≡ true) k.table one.fresh, one.value, one.is_first, one.home);
+      asleep = λ some_first.
+          let house = k.housed some_first in
+          subst (λ (t : Table). (p : ℕ) → p < t.threads → course_at t p ≡ Unstarted → (is_fresh (cell_at t (first_row p)) ≡ true) × (value : g.row.M.Denot) × (slice_get shape.first.value.items p ≡ Some (Some value)) × (get_elem? s.homes p ≡ some (some (Some value)))) k.table
+          (λ p below waits. let one = house.asleep p below waits in (one.fresh, one.value, one.is_first, one.home));
+      at_home = λ some_first.
+          subst (λ (t : Table). (p : ℕ) (value : g.row.M.Denot) → get_elem? s.homes p ≡ some (some (Some value)) → StandsFor g.M.Resident.stands shape.first.value.items t p value) k.table
+          (home_stands g.M.Resident.stands shape.first.value.items k.world kept s.homes s.views (k.housed some_first));
+      nacks = λ some_first.
+          subst (λ (t : Table). (n : NackName) (b : Binding) → binding_at t n ≡ Some b → (is_fresh (cell_at t (bound_row n b)) ≡ true) ⊎ IsNackThere g.M.Resident.stands shape.first.value.items t n b) k.table
+          (nack_stands g.M.Resident.stands shape.first.value.items k.world kept s.homes s.views (k.housed some_first));
       one_holder = λ i j u v r at also held too. sym ((k.knows i u at.0 at.1).mine r held).0 ∙ ((k.knows j v also.0 also.1).mine r too).0;
       one_taker = λ i j u v r at also took too.
           taken_once start k.world k.moves s.views i j u v r begun k.played k.interleaved at.0 also.0 took too;

@@ -1,4 +1,4 @@
-use Rattle.std.proofs.Common.{rules, ◌≡◌, ◌∙◌, ℕ, Some, get_or, sym, subst, ap, List, Bool, false}
+use Rattle.std.proofs.Common.{rules, ◌≡◌, ◌∙◌, get_or, sym, subst, ap, false}
 use mathlib.Core.Option.{some}
 use lib.ListN.{get_elem?}
 use Rattle.std.specs.Slots.{slots_items, slots_filled}
