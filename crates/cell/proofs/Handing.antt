@@ -1,5 +1,5 @@
 -- Places in which nothing lies.
-use Rattle.std.proofs.Common.{◌≡◌, ◌++◌, ◌∷◌, [], ℕ, zero, suc, List, None, Option, Some, slice_get}
+use Rattle.std.proofs.Common.{◌++◌, ◌∷◌, [], zero, suc, List, None, Option, Some}
 use Rattle.std.proofs.lemmas.Option.{none-some, same_Some}
 use Rattle.cell.specs.Calls.{HoldNothing}
 

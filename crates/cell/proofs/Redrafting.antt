@@ -147,6 +147,11 @@ pub count_place : (count : ℕ) → count ≤ 8 → is_word_for 1 count ≡ true
 unfolding is_word_for count_of
 count_place count few = ap (λ (b : Bool). is_some {T = ℕ} (cond b (Some count) None)) (le-leb count 8 few)
 
+-- the word of a number of offers says that number
+pub told_count : (count most : ℕ) → count ≤ 8 → count ≤ most → unwrap_or (count_of count) 0 ≤ most
+unfolding count_of
+told_count count most few room = subst (λ (b : Bool). unwrap_or (cond b (Some count) None) 0 ≤ most) (sym (le-leb count 8 few)) room
+
 pub drafted_none : (row : Row) (offers : List Offer) (s : Seen) → IsDraftedTo row offers 0 s (see_draft row 1 (length offers) s)
 drafted_none row offers s = record {
   others = redrafts_wider (λ q o. (q ≡ row) × (o ≡ 1)) (λ q p. q ≡ row) s _ (λ q o h. h.0) (redrafts_word row 1 (length offers) s);

@@ -19,6 +19,8 @@ pub record GridOf (M : Type 0) : Type 0 where
   pub id : TableId
   pub threads : ℕ
   pub rows : ℕ
+  -- how many offers a row has room for
+  pub offers : ℕ
   pub passes : ℕ
   -- from what it goes on: the threads' lives and last stamps, and what became of each nack
   pub lives : List (Life × ℕ)
@@ -50,7 +52,7 @@ module _ {M : Type 0} where
 
   -- the pass is one of this table's, and what it has seen agrees with itself, and with what went before the table
   abbrev pub IsPassOf : GridOf M → PassOf M → Type 0
-  IsPassOf g p = (p.of.id ≡ g.id) × (p.of.threads ≡ g.threads) × (p.of.rows ≡ g.rows) × (p.of.passes ≡ g.passes) × Coherent g.threads g.rows p.seen × (p.of.first ≡ g.first) × (p.of.lives ≡ g.lives) × (p.of.nacks ≡ g.nacks) × AreSettled (opening_at g) p.seen
+  IsPassOf g p = (p.of.id ≡ g.id) × (p.of.threads ≡ g.threads) × (p.of.rows ≡ g.rows) × (p.of.passes ≡ g.passes) × Coherent g.threads g.rows p.seen × (p.of.first ≡ g.first) × (p.of.lives ≡ g.lives) × (p.of.nacks ≡ g.nacks) × AreSettled (opening_at g) p.seen × (p.of.offers ≡ g.offers)
 
   -- the pass has the results and the slots that it had
   abbrev pub KeepsResults : PassOf M → PassOf M → Type 0

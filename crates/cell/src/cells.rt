@@ -85,7 +85,7 @@ use crate::taking::take_row;
 use crate::{nacks, reading};
 use atomic_table::Seat;
 use cell_table::{Board, Shape, View};
-use protocol::{Bare, Ledger, Life, Opening, Resident, next_words};
+use protocol::{Bare, Ledger, Life, OFFERS, Opening, Resident, next_words};
 use protocol_values::{Cell, Course, Direction, Joined, Message, NackName, NackWord, Offer, Row};
 use std::alloc::{AllocError, Global};
 use std::marker::Model;
@@ -100,14 +100,14 @@ pub struct Cells<M: Resident> {
 }
 
 impl<M: Resident> Model for Cells<M> {
-    ghost use Rattle.std.specs.Prelude.{◌≡◌, ◌<◌, ◌≤◌, true, length};
+    ghost use Rattle.std.specs.Prelude.{◌≡◌, ◌<◌, ◌≤◌, true, false, length};
     ghost use Rattle.cell.specs.Calls.{GridOf};
 
     ghost Value = { GridOf M };
 
-    ghost view = { λ c. record { id = c.board.words.shared.table_id; threads = c.board.shape.threads; rows = c.board.shape.rows; passes = c.board.shape.passes; lives = c.board.shape.opening.value.threads.items; nacks = c.board.shape.opening.value.nacks.items; first = c.board.shape.first.value.items } };
+    ghost view = { λ c. record { id = c.board.words.shared.table_id; threads = c.board.shape.threads; rows = c.board.shape.rows; offers = c.board.shape.offers; passes = c.board.shape.passes; lives = c.board.shape.opening.value.threads.items; nacks = c.board.shape.opening.value.nacks.items; first = c.board.shape.first.value.items } };
 
-    ghost invariant = { λ c. (length c.spare.items ≡ c.board.words.shared.table_id.words) × (0 < length c.board.shape.first.value.items → M.houses ≡ true) × (1 ≤ c.board.shape.rows) };
+    ghost invariant = { λ c. (length c.spare.items ≡ c.board.words.shared.table_id.words) × (0 < length c.board.shape.first.value.items → M.houses ≡ true) × (1 ≤ c.board.shape.rows) × (M.houses ≡ false → c.board.shape.offers ≡ 8) };
 }
 
 /// What a thread calls the table with. It holds rows, and its value is what it has seen.
@@ -128,7 +128,7 @@ impl<M> Model for Pass<M> {
 
     ghost Value = { PassOf M };
 
-    ghost view = { λ p. record { of = record { id = p.seat.table_id; threads = p.seat.me.0.threads; rows = p.seat.me.0.rows; passes = p.seat.me.0.passes; lives = p.seat.me.0.lives; nacks = p.seat.me.0.nacks; first = p.seat.me.0.first }; seen = p.seat.me.0.seen; made = p.seat.me.0.made; results = p.seat.me.0.results; out = p.seat.me.1 } };
+    ghost view = { λ p. record { of = record { id = p.seat.table_id; threads = p.seat.me.0.threads; rows = p.seat.me.0.rows; offers = p.seat.me.0.offers; passes = p.seat.me.0.passes; lives = p.seat.me.0.lives; nacks = p.seat.me.0.nacks; first = p.seat.me.0.first }; seen = p.seat.me.0.seen; made = p.seat.me.0.made; results = p.seat.me.0.results; out = p.seat.me.1 } };
 
     ghost invariant = { λ p. (p.seat.me.0.stage ≡ Resting) × (p.seat.me.0.threads ≡ p.rows.threads) × (p.seat.me.0.rows + 1 ≡ p.rows.rows) × AreFlags p.rows.threads p.rows.rows p.rows.flags.items (places_of p.seat.me.0.rows p.seat.me.0.seen) × (length p.places.items ≡ length p.seat.me.0.first) × HoldNothing p.places.items };
 }
@@ -165,6 +165,7 @@ impl Cells<Bare> {
         requires rows { (1 ≤ rows) × (rows ≤ 1024) }
         requires passes { (1 ≤ passes) × (passes ≤ 16) }
         ensures size { IfOk result (λ t. (t.0.threads ≡ threads) × (t.0.rows ≡ rows) × (t.0.passes ≡ passes) × (length t.1.items ≡ passes)) }
+        ensures room { IfOk result (λ t. t.0.offers ≡ 8) }
         ensures first { IfOk result (λ t. t.0.first ≡ []) }
         ensures opening { IfOk result (λ t. opening_at t.0 ≡ start_opening threads 0) }
         ensures passes { IfOk result (λ t. (number : ℕ) (pass : PassView) → slice_get t.1.items number ≡ Some pass → IsPassOf t.0 pass × (pass.seen ≡ seen_nothing (dealt_rows threads passes number)) × (pass.made ≡ [])) }
@@ -186,13 +187,14 @@ impl Cells<Bare> {
         requires rows { (1 ≤ rows) × (rows ≤ 1024) }
         requires passes { (1 ≤ passes) × (passes ≤ 16) }
         ensures size { IfOk result (λ t. (t.0.threads ≡ threads) × (t.0.rows ≡ rows) × (t.0.passes ≡ passes) × (length t.1.items ≡ passes)) }
+        ensures room { IfOk result (λ t. t.0.offers ≡ 8) }
         ensures first { IfOk result (λ t. t.0.first ≡ []) }
         ensures opening { IfOk result (λ t. opening_at t.0 ≡ start_opening threads later) }
         ensures passes { IfOk result (λ t. (number : ℕ) (pass : PassView) → slice_get t.1.items number ≡ Some pass → IsPassOf t.0 pass × (pass.seen ≡ seen_nothing (dealt_from (start_opening threads later) threads passes number)) × (pass.made ≡ [])) }
         ensures results { IfOk result (λ t. (number : ℕ) (pass : PassView) → slice_get t.1.items number ≡ Some pass → (pass.results ≡ []) × (pass.out ≡ [])) }
     {
         let opening = Opening::first(alloc, threads, later)?;
-        Cells::over(alloc, &opening, Vec::new(alloc), rows, passes)
+        Cells::over(alloc, &opening, Vec::new(alloc), rows, OFFERS as u8, passes)
     }
 }
 
@@ -210,6 +212,7 @@ impl<M: Resident + Drop> Cells<M> {
         requires rows { (1 ≤ rows) × (rows ≤ 1024) }
         requires passes { (1 ≤ passes) × (passes ≤ 16) }
         ensures size { IfOk result (λ t. (t.0.threads ≡ length first.items) × (t.0.rows ≡ rows) × (t.0.passes ≡ passes) × (length t.1.items ≡ passes)) }
+        ensures room { IfOk result (λ t. t.0.offers ≡ 8) }
         ensures first { IfOk result (λ t. t.0.first ≡ map Some first.items) }
         ensures opening { IfOk result (λ t. opening_at t.0 ≡ start_opening (length first.items) 0) }
         ensures passes { IfOk result (λ t. (number : ℕ) (pass : PassOf M) → slice_get t.1.items number ≡ Some pass → IsPassOf t.0 pass × (pass.seen ≡ seen_nothing (dealt_rows (length first.items) passes number)) × (pass.made ≡ [])) }
@@ -232,6 +235,32 @@ impl<M: Resident + Drop> Cells<M> {
         requires rows { (1 ≤ rows) × (rows ≤ 1024) }
         requires passes { (1 ≤ passes) × (passes ≤ 16) }
         ensures size { IfOk result (λ t. (t.0.threads ≡ length first.items) × (t.0.rows ≡ rows) × (t.0.passes ≡ passes) × (length t.1.items ≡ passes)) }
+        ensures room { IfOk result (λ t. t.0.offers ≡ 8) }
+        ensures first { IfOk result (λ t. t.0.first ≡ map Some first.items) }
+        ensures opening { IfOk result (λ t. opening_at t.0 ≡ start_opening (length first.items) later) }
+        ensures passes { IfOk result (λ t. (number : ℕ) (pass : PassOf M) → slice_get t.1.items number ≡ Some pass → IsPassOf t.0 pass × (pass.seen ≡ seen_nothing (dealt_from (start_opening (length first.items) later) (length first.items) passes number)) × (pass.made ≡ [])) }
+        ensures results { IfOk result (λ t. (number : ℕ) (pass : PassOf M) → slice_get t.1.items number ≡ Some pass → (pass.results ≡ []) × (pass.out ≡ [])) }
+    {
+        Cells::with_machines_short(alloc, first, rows, OFFERS as u8, passes, later)
+    }
+
+    /// The same of rows that have room for `offers` offers, 0 to 8: a row takes 2 words, and 4 for each offer, where
+    /// those of the other tables take 34.
+    pub fn with_machines_short(
+        alloc: Global,
+        first: Vec<M>,
+        rows: u16,
+        offers: u8,
+        passes: u8,
+        later: u64,
+    ) -> Result<(Cells<M>, Vec<Pass<M>>), AllocError>
+        requires housed { M.houses ≡ true }
+        requires threads { (1 ≤ length first.items) × (length first.items ≤ 64) }
+        requires rows { (1 ≤ rows) × (rows ≤ 1024) }
+        requires offers { offers ≤ 8 }
+        requires passes { (1 ≤ passes) × (passes ≤ 16) }
+        ensures size { IfOk result (λ t. (t.0.threads ≡ length first.items) × (t.0.rows ≡ rows) × (t.0.passes ≡ passes) × (length t.1.items ≡ passes)) }
+        ensures room { IfOk result (λ t. t.0.offers ≡ offers) }
         ensures first { IfOk result (λ t. t.0.first ≡ map Some first.items) }
         ensures opening { IfOk result (λ t. opening_at t.0 ≡ start_opening (length first.items) later) }
         ensures passes { IfOk result (λ t. (number : ℕ) (pass : PassOf M) → slice_get t.1.items number ≡ Some pass → IsPassOf t.0 pass × (pass.seen ≡ seen_nothing (dealt_from (start_opening (length first.items) later) (length first.items) passes number)) × (pass.made ≡ [])) }
@@ -239,7 +268,7 @@ impl<M: Resident + Drop> Cells<M> {
     {
         let opening = Opening::first(alloc, first.len() as u8, later)?;
         let slots = slots_of(alloc, first)?;
-        Cells::over(alloc, &opening, slots, rows, passes)
+        Cells::over(alloc, &opening, slots, rows, offers, passes)
     }
 
     /// A table that goes on from an opening: row 0 of a thread that runs is held by pass `t mod passes`, that of a thread
@@ -260,12 +289,38 @@ impl<M: Resident + Drop> Cells<M> {
         requires rows { (1 ≤ rows) × (rows ≤ 1024) }
         requires passes { (1 ≤ passes) × (passes ≤ 16) }
         ensures size { IfOk result (λ t. (t.0.threads ≡ length opening.now.threads.items) × (t.0.rows ≡ rows) × (t.0.passes ≡ passes) × (length t.1.items ≡ passes)) }
+        ensures room { IfOk result (λ t. t.0.offers ≡ 8) }
         ensures first { IfOk result (λ t. t.0.first ≡ first.items) }
         ensures opening { IfOk result (λ t. opening_at t.0 ≡ opening_of opening.now) }
         ensures passes { IfOk result (λ t. (number : ℕ) (pass : PassOf M) → slice_get t.1.items number ≡ Some pass → IsPassOf t.0 pass × (pass.seen ≡ seen_nothing (dealt_from (opening_of opening.now) (length opening.now.threads.items) passes number)) × (pass.made ≡ [])) }
         ensures results { IfOk result (λ t. (number : ℕ) (pass : PassOf M) → slice_get t.1.items number ≡ Some pass → (pass.results ≡ []) × (pass.out ≡ [])) }
     {
-        Cells::over(alloc, opening, first, rows, passes)
+        Cells::over(alloc, opening, first, rows, OFFERS as u8, passes)
+    }
+
+    /// The same of machines alone, of rows that have room for `offers` offers, 0 to 8.
+    pub fn next_short(
+        alloc: Global,
+        opening: &Opening,
+        first: Vec<Option<M>>,
+        rows: u16,
+        offers: u8,
+        passes: u8,
+    ) -> Result<(Cells<M>, Vec<Pass<M>>), AllocError>
+        requires housed { M.houses ≡ true }
+        requires opening { IsOpening (opening_of opening.now) rows }
+        requires machines { AreMachines (opening_of opening.now) first.items }
+        requires rows { (1 ≤ rows) × (rows ≤ 1024) }
+        requires offers { offers ≤ 8 }
+        requires passes { (1 ≤ passes) × (passes ≤ 16) }
+        ensures size { IfOk result (λ t. (t.0.threads ≡ length opening.now.threads.items) × (t.0.rows ≡ rows) × (t.0.passes ≡ passes) × (length t.1.items ≡ passes)) }
+        ensures room { IfOk result (λ t. t.0.offers ≡ offers) }
+        ensures first { IfOk result (λ t. t.0.first ≡ first.items) }
+        ensures opening { IfOk result (λ t. opening_at t.0 ≡ opening_of opening.now) }
+        ensures passes { IfOk result (λ t. (number : ℕ) (pass : PassOf M) → slice_get t.1.items number ≡ Some pass → IsPassOf t.0 pass × (pass.seen ≡ seen_nothing (dealt_from (opening_of opening.now) (length opening.now.threads.items) passes number)) × (pass.made ≡ [])) }
+        ensures results { IfOk result (λ t. (number : ℕ) (pass : PassOf M) → slice_get t.1.items number ≡ Some pass → (pass.results ≡ []) × (pass.out ≡ [])) }
+    {
+        Cells::over(alloc, opening, first, rows, offers, passes)
     }
 
     /// Starts the thread from a place of another thread at which the pass stands: a held row that is Fresh, or the place
@@ -305,20 +360,24 @@ impl<M: Resident + Drop> Cells<M> {
         finish_at(&self.board, &mut pass.seat, row);
     }
 
-    /// A table over these, or over none, that goes on from an opening.
+    /// A table over these, or over none, that goes on from an opening, of rows that have room for so many offers.
     fn over(
         alloc: Global,
         opening: &Opening,
         first: Vec<Option<M>>,
         rows: u16,
+        offers: u8,
         passes: u8,
     ) -> Result<(Cells<M>, Vec<Pass<M>>), AllocError>
         requires housed { 0 < length first.items → M.houses ≡ true }
         requires opening { IsOpening (opening_of opening.now) rows }
         requires machines { AreMachines (opening_of opening.now) first.items }
         requires rows { (1 ≤ rows) × (rows ≤ 1024) }
+        requires offers { offers ≤ 8 }
+        requires whole { M.houses ≡ false → offers ≡ 8 }
         requires passes { (1 ≤ passes) × (passes ≤ 16) }
         ensures size { IfOk result (λ t. (t.0.threads ≡ length opening.now.threads.items) × (t.0.rows ≡ rows) × (t.0.passes ≡ passes) × (length t.1.items ≡ passes)) }
+        ensures room { IfOk result (λ t. t.0.offers ≡ offers) }
         ensures first { IfOk result (λ t. t.0.first ≡ first.items) }
         ensures opening { IfOk result (λ t. opening_at t.0 ≡ opening_of opening.now) }
         ensures passes { IfOk result (λ t. (number : ℕ) (pass : PassOf M) → slice_get t.1.items number ≡ Some pass → IsPassOf t.0 pass × (pass.seen ≡ seen_nothing (dealt_from (opening_of opening.now) (length opening.now.threads.items) passes number)) × (pass.made ≡ [])) }
@@ -327,12 +386,13 @@ impl<M: Resident + Drop> Cells<M> {
         let shape = Shape {
             threads: opening.threads.len() as u64,
             rows: u64::from(rows),
+            offers: u64::from(offers),
             passes: u64::from(passes),
             opening: Snapshot::of(opening),
             first: Snapshot::of(&first),
         };
         let count = first.len();
-        let spare = next_words(alloc, opening, usize::from(rows))?;
+        let spare = next_words(alloc, opening, usize::from(rows), usize::from(offers))?;
         let (board, mut dealer) = Board::start(
             alloc,
             shape,
@@ -599,13 +659,14 @@ impl<M: Resident> Cells<M> {
         Some(joined)
     }
 
-    /// Writes a list of at most 8 offers for a held row that is not opened yet, in place of the list
-    /// that was written before.
+    /// Writes a list of at most 8 offers for a held row that is not opened yet, in place of the list that was written
+    /// before. In a table of machines the rows have room for them.
     pub fn draft(&self, pass: &mut Pass<M>, row: Row, offers: &[Offer])
         requires here { IsPassOf self.now pass.old × IsRowOf self.now row }
         requires fresh { Has pass.old.seen.held row × (¬ Has pass.old.seen.opened row) }
         requires alive { ¬ SawEnded pass.old.seen row.thread }
         requires offers { AreOffers offers.now }
+        requires room { M.houses ≡ true → length offers.now ≤ self.now.offers }
         ensures here { IsPassOf self.now pass.new }
         ensures others { Redrafts (λ q p. q ≡ row) pass.old.seen pass.new.seen }
         ensures drafted { IsDraft pass.new.seen row offers.now }

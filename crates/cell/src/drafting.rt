@@ -15,8 +15,8 @@ use cell_table::{Board, View};
 use protocol::Resident;
 use protocol_values::{Offer, Row, pack_count, pack_offer, read_head};
 
-/// Writes a list of at most 8 offers for a held row that is not opened yet, in place of what was
-/// written before.
+/// Writes a list of offers for a held row that is not opened yet, in place of what was written before: no more than
+/// rows have room for.
 pub(crate) fn draft_offers<M: Resident>(
     board: &Board<M>,
     seat: &mut Seat<Option<M>, View<M>>,
@@ -28,6 +28,7 @@ pub(crate) fn draft_offers<M: Resident>(
     requires held { Has seat.old.me.0.seen.held row × (¬ Has seat.old.me.0.seen.opened row) }
     requires alive { ¬ SawEnded seat.old.me.0.seen row.thread }
     requires offers { AreOffers offers.now }
+    requires room { length offers.now ≤ board.now.shape.offers }
     ensures sits { StaysSeated board.now seat.old seat.new }
     ensures stays { seat.new.me.0 ≡ worked seat.old.me.0.stage seat.new.me.0.seen seat.new.me.0.made seat.old.me.0 }
     ensures made { OnlyDrafts row seat.old.me.0.made seat.new.me.0.made }
@@ -52,7 +53,7 @@ fn draft_offer<M: Resident>(
     requires resting { seat.old.me.0.stage ≡ Resting }
     requires held { Has seat.old.me.0.seen.held row × (¬ Has seat.old.me.0.seen.opened row) }
     requires alive { ¬ SawEnded seat.old.me.0.seen row.thread }
-    requires offer { (n < 8) × IsOfferInRange offer }
+    requires offer { (n < board.now.shape.offers) × IsOfferInRange offer }
     ensures sits { StaysSeated board.now seat.old seat.new }
     ensures stays { seat.new.me.0 ≡ worked seat.old.me.0.stage seat.new.me.0.seen seat.new.me.0.made seat.old.me.0 }
     ensures made { OnlyDrafts row seat.old.me.0.made seat.new.me.0.made }
@@ -81,7 +82,7 @@ fn draft_atom<M: Resident>(
     requires resting { seat.old.me.0.stage ≡ Resting }
     requires held { Has seat.old.me.0.seen.held row × (¬ Has seat.old.me.0.seen.opened row) }
     requires alive { ¬ SawEnded seat.old.me.0.seen row.thread }
-    requires atom { (n < 8) × (1 ≤ k) × (k < 4) × (is_some (atom_of word) ≡ true) }
+    requires atom { (n < board.now.shape.offers) × (1 ≤ k) × (k < 4) × (is_some (atom_of word) ≡ true) }
     ensures sits { StaysSeated board.now seat.old seat.new }
     ensures stays { seat.new.me.0 ≡ worked seat.old.me.0.stage seat.new.me.0.seen seat.new.me.0.made seat.old.me.0 }
     ensures made { OnlyDrafts row seat.old.me.0.made seat.new.me.0.made }

@@ -79,7 +79,7 @@ fn read_atom<M: Resident>(
     has: bool,
 ) -> u64
     requires sits { Sits board.now seat.old × HasRow board.now row × Has seat.old.me.0.seen.opened row }
-    requires place { (n < 8) × (1 ≤ k) × (k < 4) }
+    requires place { (n < board.now.shape.offers) × (1 ≤ k) × (k < 4) }
     ensures sits { StaysSeated board.now seat.old seat.new }
     ensures stays { seat.new.me.0 ≡ at_stage seat.old.me.0.stage seat.new.me.0.seen seat.old.me.0 }
     ensures learns { Learns (λ q. q ≡ row) seat.old.me.0.seen seat.new.me.0.seen }

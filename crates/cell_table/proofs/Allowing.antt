@@ -1,5 +1,5 @@
 -- Each atomic step is admitted by the rule.
-use Rattle.std.proofs.Common.{inl, inr, ◌∷◌, ◌++◌, cond, ◌+◌, slice_index, slice_set, slice_get, length, ◌%◌, ◌⊎◌, ◌≡◌, ◌≢◌, ℕ, ◌<◌, ◌≤◌, true, false, List, [], sym, refl, ap, ◌∙◌, subst, ⊎_elim, arith, unwrap_or, Option, Some, None, is_some, eqb, Bool, ltb}
+use Rattle.std.proofs.Common.{inl, inr, ◌∷◌, ◌++◌, cond, ◌+◌, slice_index, slice_set, slice_get, length, ◌%◌, ◌⊎◌, ◌≡◌, ◌≢◌, ℕ, ◌<◌, ◌≤◌, true, false, List, [], sym, refl, ap, ◌∙◌, subst, ⊎_elim, arith, unwrap_or, Option, Some, None, is_some, eqb, Bool, ltb, length-set}
 use Rattle.std.proofs.lemmas.List.{set-get_or}
 use Rattle.std.proofs.lemmas.Bool.{false≢true, ltb-false, ltb-true}
 use mathlib.Core.Option.{Option as Maybe, some, none}
@@ -7,7 +7,7 @@ use lib.ListN.{get_elem?}
 use prog.Atomic.{either}
 use Rattle.atomic_table.specs.Table.{State, Me, Allows, Act, Valid, gives, step, keeps, put_back, rest, stepped, carried_after, takes as takes_it}
 use Rattle.atomic_table.proofs.Lists.{exchanged}
-use Rattle.protocol_values.specs.Words.{cell_word, cell_of, is_word_for, IsCellInRange, IsJoinedInRange}
+use Rattle.protocol_values.specs.Words.{cell_word, cell_of, is_word_for, IsCellInRange, IsJoinedInRange, count_of}
 use Rattle.protocol_values.proofs.WordLemmas.{cell_is_word, cell_of-cell_word, cell_word-cell_of}
 use Rattle.protocol_values.specs.declared.Seat.{Seat as StepSeat}
 use Rattle.atomic_table.specs.declared.shared.Seat.{Seat}
@@ -21,14 +21,15 @@ use Rattle.protocol_values.specs.declared.Joined.{Joined}
 use Rattle.protocol_values.specs.declared.Message.{Message}
 use Rattle.protocol_values.specs.declared.Cell.{Cell}
 use Rattle.protocol_values.specs.declared.Cell.TheVariants.{Fresh, Waiting, Claimed, Synched, Taken}
-use Rattle.protocol.specs.Tables.{Table, place_of, is_row, is_fresh, cell_at, joined_at, names, is_partner, word_at, row_eq, synched_of, is_taken, course_at}
+use Rattle.protocol.specs.Short.{row_len, short_place, wide_table, widen}
+use Rattle.protocol.specs.Tables.{Table, is_row, is_fresh, cell_at, joined_at, names, is_partner, word_at, row_eq, synched_of, is_taken, course_at}
 use Rattle.protocol_values.specs.Values.{joined_of, next_row}
 use Rattle.protocol.specs.Openings.{Opening, greatest}
 use Rattle.protocol.specs.Worlds.{World, Condition, after_step, namer_at, joined_with, mirrored, with_seal, with_table, with_cell, with_word, holder_at, with_take, Allowed, IsAlive, first_row, last_holder}
 use Rattle.protocol.specs.Kept.{Kept}
 use Rattle.protocol.proofs.RowLemmas.{row_ne, row_cases, row_eq-refl, same_row, put, put_other, put_same}
 use Rattle.protocol.proofs.Naming.{namer_none, namer_is}
-use Rattle.protocol.proofs.Places.{row_from, row_inside, same_place}
+use Rattle.protocol.proofs.Places.{row_from, row_inside}
 use Rattle.protocol.proofs.Readings.{cell_inside, row_of_open}
 use Rattle.protocol.proofs.Linking.{fresh_not_joined, some_inj, cases_Option}
 use Rattle.protocol.proofs.Keeping.{kept_step, idle_unnamed, join_in_range, grant_in_range, waits_unjoined, IsSealing, sealed_is, seal_in_range, is_held}
@@ -54,22 +55,19 @@ use Rattle.cell_table.proofs.Others.{knows_begun, learn_cell, learn_word, others
 use Rattle.cell_table.proofs.Courses.{KeepsLives}
 use Rattle.cell_table.proofs.Seating.{MovesOn, Stays, saw_stays}
 use Rattle.cell_table.proofs.Turning.{world_kept, keeps_housed, keeps_seen, keeps_view, keeps_step, moved_coherent}
+use Rattle.protocol.proofs.Short.{set_word, short_word}
+use Rattle.cell_table.proofs.Counts.{DraftsFew}
+use Rattle.cell_table.proofs.Shortness.{same_short}
 use Rattle.cell_table.proofs.Housing.{LeavesHomes, first_out, housed_begin, housed_open, housed_take, some_or_none, took_begins, took_begun, took_holds, value_out}
 use Rattle.cell_table.proofs.Standing.{comes_out, goes_home, sees_last}
 
 -- the table with these words
 abbrev pub sized : {M : Type 0} → Shape M → List ℕ → Table
-sized shape ws = record { threads = shape.threads; rows = shape.rows; words = ws; opening = greatest (opening_in shape) }
+sized shape ws = wide_table shape.offers (record { threads = shape.threads; rows = shape.rows; words = ws; opening = greatest (opening_in shape) })
 
 -- the word of a Waiting cell reads as one
 waiting_read : cell_read (cell_word Waiting) ≡ Waiting
 waiting_read = ap (λ (o : Option Cell). unwrap_or o Fresh) (cell_of-cell_word Waiting tt)
-
--- one place is one word of one row
-same_word : (threads rows : ℕ) (r q : Row) (p o : ℕ) → Inside threads rows r → Inside threads rows q → p < 34 → o < 34 → place_of rows r p ≡ place_of rows q o → (r ≡ q) × (p ≡ o)
-same_word threads rows r q p o a b h i e =
-    let t : Table = record { threads = threads; rows = rows; words = []; opening = 0 } in
-    same_place t r q p o (row_from t r a.0 a.1) (row_from t q b.0 b.1) h i e
 
 abbrev joined_in : Option Cell → Option Joined
 joined_in None = None
@@ -95,15 +93,15 @@ module _ {M : Type 0} (stands : Stands M) where
 
   -- A pass that makes a step on a word of row r
   module _ (shape : Shape M) (id place : ℕ) (me : Me (Option M) (View M)) (r : Row) (p : ℕ)
-      (threads : me.0.threads ≡ shape.threads) (rows : me.0.rows ≡ shape.rows)
-      (inside : Inside shape.threads shape.rows r) (low : p < 34) (here : place ≡ place_of shape.rows r p) where
+      (threads : me.0.threads ≡ shape.threads) (rows : me.0.rows ≡ shape.rows) (wide : me.0.offers ≡ shape.offers)
+      (inside : Inside shape.threads shape.rows r) (low : p < row_len shape.offers) (here : place ≡ short_place shape.offers shape.rows r p) where
     at_table : 0 < me.0.threads
     at_table = let i = inside.0 in omega arith
 
-    one_word : (q : Row) (o : ℕ) → o < 34 → Inside me.0.threads me.0.rows q → place ≡ place_of me.0.rows q o → (r ≡ q) × (p ≡ o)
+    one_word : (q : Row) (o : ℕ) → o < row_len me.0.offers → Inside me.0.threads me.0.rows q → place ≡ short_place me.0.offers me.0.rows q o → (r ≡ q) × (p ≡ o)
     one_word q o h i e =
-        same_word me.0.threads me.0.rows r q p o (subst (λ (z : ℕ × ℕ). Inside z.0 z.1 r) (λ i. (sym threads i, sym rows i)) inside) i low h
-        (ap (λ (n : ℕ). place_of n r p) rows ∙ sym here ∙ e)
+        same_short shape.offers shape.threads shape.rows r q p o inside (subst (λ (z : ℕ × ℕ). Inside z.0 z.1 q) (λ j. (threads j, rows j)) i) low (subst (λ (n : ℕ). o < row_len n) wide h)
+        (sym here ∙ e ∙ (λ j. short_place (wide j) (rows j) q o))
 
     abbrev IsUnended : Type 0
     IsUnended = ¬ SawEnded me.0.seen r.thread
@@ -120,7 +118,20 @@ module _ {M : Type 0} (stands : Stands M) where
 
       word_is : word_at k.world.table r p ≡ slice_index s.words place
       unfolding word_at
-      word_is = ap (λ (t : Table). word_at t r p) k.table ∙ ap (slice_index s.words) (sym here)
+      word_is = ap (λ (t : Table). word_at t r p) k.table ∙ short_word shape.offers shape.rows k.few_offers shape.threads s.words k.sized r p inside.0 inside.1 low ∙ ap (slice_index s.words) (sym here)
+
+      -- a short row's places are among those of a row
+      within : p < 34
+      within = let few = k.few_offers in omega arith
+
+      -- a word is written where it stands
+      wrote : (d : ℕ) → with_word (sized shape s.words) r p d ≡ sized shape (slice_set s.words place d)
+      wrote d =
+          ap (λ (ws : List ℕ). record { threads = shape.threads; rows = shape.rows; words = ws; opening = greatest (opening_in shape) })
+          (sym (set_word shape.offers shape.rows k.few_offers shape.threads s.words k.sized r p d inside.0 inside.1 low) ∙ ap (λ (n : ℕ). widen shape.offers shape.rows shape.threads (slice_set s.words n d)) (sym here))
+
+      kept_size : (d : ℕ) → length (slice_set s.words place d) ≡ length s.words
+      kept_size d = length-set s.words place d
 
       is_its_row : is_row k.world.table r ≡ true
       is_its_row = ap (λ (t : Table). is_row t r) k.table ∙ row_from (sized shape s.words) r inside.0 inside.1
@@ -145,7 +156,7 @@ module _ {M : Type 0} (stands : Stands M) where
       cell_is e = cell_inside k.world.table r is_its_row ∙ ap cell_read (ap (word_at k.world.table r) (sym e) ∙ word_is)
 
       is_cell : p ≡ 0 → is_some (cell_of (slice_index s.words place)) ≡ true
-      is_cell e = sym (cell_is_word (slice_index s.words place)) ∙ subst (λ (n : ℕ × ℕ). is_word_for n.0 n.1 ≡ true) (λ i. (e i, word_is i)) (kept.formed.rows r p is_its_row low)
+      is_cell e = sym (cell_is_word (slice_index s.words place)) ∙ subst (λ (n : ℕ × ℕ). is_word_for n.0 n.1 ≡ true) (λ i. (e i, word_is i)) (kept.formed.rows r p is_its_row within)
 
       -- a pass that rests makes steps, and so does one that claims or joins
       rests : me.0.stage ≡ Resting → me.0.stage ≢ Aside
@@ -156,15 +167,16 @@ module _ {M : Type 0} (stands : Stands M) where
       lives stand alive = alive_unseen k.world me.0.seen r.thread (stand_ends k.world k.owner id me.0 known r stand) alive
 
       -- where it writes a word behind the cell
-      wrote_word : (d : ℕ) → me.0.stage ≡ Resting → Has me.0.seen.held r → ¬ Has me.0.seen.opened r → IsUnended → 1 ≤ p → is_word_for p d ≡ true → Keeps stands shape (stepped s place d id me.1 (word_drafted r p d me.0) keeps)
-      wrote_word d resting held unopened alive high formed =
+      wrote_word : (d : ℕ) → (p ≡ 1 → unwrap_or (count_of d) 0 ≤ shape.offers) → me.0.stage ≡ Resting → Has me.0.seen.held r → ¬ Has me.0.seen.opened r → IsUnended → 1 ≤ p → is_word_for p d ≡ true → Keeps stands shape (stepped s place d id me.1 (word_drafted r p d me.0) keeps)
+      wrote_word d few resting held unopened alive high formed =
           let mine = known.mine r held in
           let fresh = known.fresh r held unopened in
-          keeps_step stands shape s k id me.0 (drafted_word r p d me.0) _ k.owner view at_table refl refl refl (λ q h. h) (Draft r p d) tt tt (known.seat, (mine.1, fresh, lives (inl (held, unopened)) alive, high, omega arith, formed))
+          keeps_step stands shape s k id me.0 (drafted_word r p d me.0) _ k.owner view at_table refl refl refl (λ q h. h) (Draft r p d) tt tt few (known.seat, (mine.1, fresh, lives (inl (held, unopened)) alive, high, (let low_p = within in omega arith), formed))
           (record { same = (refl, refl, refl); acted = rests resting; acts = rests resting; held = λ q h. h; begun = λ q h. h; binds = λ n q scope e. let bad : Draft r p d ≡ Bind n q scope = e in cc }) (λ t rs h. inl h)
-          (ap (λ (t : Table). with_word t r p d) k.table ∙ ap (λ (n : ℕ). sized shape (slice_set s.words n d)) (sym here))
-          (λ j u n e t. others_draft k.world r p d k.owner kept is_its_row high low fresh j u (k.knows j u e t) (λ o. n (sym o ∙ mine.0)))
-          (own_draft k.world r p d k.owner kept is_its_row high low fresh id me.0 known mine.0 mine.1)
+          (ap (λ (t : Table). with_word t r p d) k.table ∙ wrote d)
+          (kept_size d)
+          (λ j u n e t. others_draft k.world r p d k.owner kept is_its_row high within fresh j u (k.knows j u e t) (λ o. n (sym o ∙ mine.0)))
+          (own_draft k.world r p d k.owner kept is_its_row high within fresh id me.0 known mine.0 mine.1)
 
       -- where it writes the cell
       module _ (c : Cell) (zero : p ≡ 0) (range : IsCellInRange c) (open_c : is_fresh c ≡ false)
@@ -202,13 +214,15 @@ module _ {M : Type 0} (stands : Stands M) where
             → ((q : Row) → IsToBegin w q → IsToBegin me.0 q)
             → LeavesHomes done
             → KeepsLives done
+            → DraftsFew shape.offers done
             → MovesOn me.0 w done
             → Knows later k.owner id w
             → Keeps stands shape (stepped s place (cell_word c) id me.1 (did done w) keeps)
         unfolding with_cell
-        wrote_cell done w condition after by_other unnamed seat_same made seen first begins leaves still on knows =
-            keeps_step stands shape s k id me.0 w _ k.owner view at_table seat_same made first begins done leaves still (known.seat, condition) on (λ t rs h. inl (subst (λ (l : List (ℕ × List Result)). Has l (t, rs)) seen h))
-            (ap (λ (v : World). v.table) after ∙ ap (λ (t : Table). with_cell t r c) k.table ∙ ap (λ (n : ℕ). sized shape (slice_set s.words n (cell_word c))) (ap (place_of shape.rows r) (sym zero) ∙ sym here))
+        wrote_cell done w condition after by_other unnamed seat_same made seen first begins leaves still few on knows =
+            keeps_step stands shape s k id me.0 w _ k.owner view at_table seat_same made first begins done leaves still few (known.seat, condition) on (λ t rs h. inl (subst (λ (l : List (ℕ × List Result)). Has l (t, rs)) seen h))
+            (ap (λ (v : World). v.table) after ∙ ap (λ (t : Table). with_cell t r c) k.table ∙ ap (λ (q : ℕ). with_word (sized shape s.words) r q (cell_word c)) (sym zero) ∙ wrote (cell_word c))
+            (kept_size (cell_word c))
             (λ j u n e t. subst (λ (v : World). Knows v k.owner j u) (sym after)
             (others_cell k.world r c k.owner kept is_its_row range open_c was untaken j u (k.knows j u e t) (λ o. by_other j n o) (λ m o h. unnamed j m n o h)))
             (subst (λ (v : World). Knows v k.owner id w) (sym after) knows)
@@ -250,9 +264,10 @@ module _ {M : Type 0} (stands : Stands M) where
             → Keeps stands shape (record { words = slice_set s.words place (cell_word Waiting); homes = hs; views = slice_set s.views id (did (Open r) (turned Resting r me.0)) })
         unfolding with_cell
         opens hs house =
-            keeps_housed stands shape s k id me.0 (turned Resting r me.0) _ hs k.owner view at_table refl refl refl (Open r) (λ some_first. (tt, tt)) allowed_open
+            keeps_housed stands shape s k id me.0 (turned Resting r me.0) _ hs k.owner view at_table refl refl refl (Open r) (λ some_first. (tt, tt)) tt allowed_open
             (record { same = (refl, refl, refl); acted = rests resting; acts = λ e. let bad : Resting ≡ Aside = e in cc; held = λ q h. h; begun = λ q h. h; binds = λ n q scope e. let bad : Open r ≡ Bind n q scope = e in cc }) (λ t rs h. inl h)
-            (ap (λ (t : Table). with_cell t r Waiting) k.table ∙ ap (λ (n : ℕ). sized shape (slice_set s.words n (cell_word Waiting))) (ap (place_of shape.rows r) (sym zero) ∙ sym here))
+            (ap (λ (t : Table). with_cell t r Waiting) k.table ∙ ap (λ (q : ℕ). with_word (sized shape s.words) r q (cell_word Waiting)) (sym zero) ∙ wrote (cell_word Waiting))
+            (kept_size (cell_word Waiting))
             others_open opened_knows house
 
         -- in a table of machines: the row's goes home
@@ -278,7 +293,7 @@ module _ {M : Type 0} (stands : Stands M) where
           let unnamed = idle_unnamed k.world r kept (λ e. let bad : Waiting ≡ Claimed = sym waits ∙ e in cc) was in
           let now = own_now Claimed zero tt refl was untaken in
           wrote_cell Claimed zero tt refl was untaken (Claim r) (turned (Claims r) r me.0) (mine.1, waits) refl
-          (λ j n o. absurd (n (sym o ∙ mine.0))) (λ j m n o h. refl) refl refl refl refl (λ q h. h) tt tt
+          (λ j n o. absurd (n (sym o ∙ mine.0))) (λ j m n o h. refl) refl refl refl refl (λ q h. h) tt tt tt
           (record { same = (refl, refl, refl); acted = rests resting; acts = λ e. let bad : Claims r ≡ Aside = e in cc; held = λ q h. h; begun = λ q h. h; binds = λ n q scope e. let bad : Claim r ≡ Bind n q scope = e in cc })
           (knows_now Claimed zero tt refl was untaken (Claims r) (
             mine.0,
@@ -300,7 +315,7 @@ module _ {M : Type 0} (stands : Stands M) where
           let untaken : is_taken (cell_at k.world.table r) ≡ false = ap is_taken staged.1 in
           wrote_cell Waiting zero tt refl was untaken (Yield r) (turned Resting r me.0)
           (mine.1, staged.1, namer_none _ (joined_at k.world.table) r staged.2) refl
-          (λ j n o. absurd (n (sym o ∙ mine.0))) (λ j m n o h. refl) refl refl refl refl (λ q h. h) tt tt
+          (λ j n o. absurd (n (sym o ∙ mine.0))) (λ j m n o h. refl) refl refl refl refl (λ q h. h) tt tt tt
           (record { same = (refl, refl, refl); acted = λ e. let bad : Claims r ≡ Aside = sym claiming ∙ e in cc; acts = λ e. let bad : Resting ≡ Aside = e in cc; held = λ q h. h; begun = λ q h. h; binds = λ n q scope e. let bad : Yield r ≡ Bind n q scope = e in cc })
           (knows_now Waiting zero tt refl was untaken Resting tt (λ e. let bad : Waiting ≡ Claimed = e in cc)
           (λ q e h. false≢true (sym e ∙ ap (row_eq q) (subst (λ (z : Stage). IsClaimer z q) claiming h) ∙ row_eq-refl q)))
@@ -327,7 +342,7 @@ module _ {M : Type 0} (stands : Stands M) where
           (ap (λ (y : Joined). with_table k.world (with_cell k.world.table r (Synched y))) is)
           (λ i n o. (waits, refl))
           (λ i m n o h. ap (λ (y : Option (Row × ℕ)). is_partner y m) partner_is ∙ row_ne mine m (λ e. n (sym o ∙ ap k.owner (sym e) ∙ staged.0)))
-          refl refl refl refl (λ q h. h) tt tt
+          refl refl refl refl (λ q h. h) tt tt tt
           (record { same = (refl, refl, refl); acted = λ e. let bad : Claims mine ≡ Aside = sym claiming ∙ e in cc; acts = λ e. let bad : Joins mine r j ≡ Aside = e in cc; held = λ q h. h; begun = λ q h. h; binds = λ n q scope e. let bad : Join mine own r partner ≡ Bind n q scope = e in cc })
           (learn_cell _ k.owner id (turned (Joins mine r j) r me.0) r (Synched j)
           (knows_now (Synched j) zero range refl was untaken (Joins mine r j)
@@ -350,7 +365,7 @@ module _ {M : Type 0} (stands : Stands M) where
           (waits, ap (λ (o : Option ℕ). is_some o) known_grant.0)
           (ap (λ (y : Joined). with_table k.world (with_cell k.world.table r (Synched y))) known_grant.1)
           (λ i n o. (waits, refl))
-          (λ i m n o h. ap (λ (y : Option (Row × ℕ)). is_partner y m) nobody) refl refl refl refl (λ q h. h) tt tt
+          (λ i m n o h. ap (λ (y : Option (Row × ℕ)). is_partner y m) nobody) refl refl refl refl (λ q h. h) tt tt tt
           (record { same = (refl, refl, refl); acted = rests resting; acts = λ e. let bad : Resting ≡ Aside = e in cc; held = λ q h. h; begun = λ q h. h; binds = λ m q scope e. let bad : Grant r n ≡ Bind m q scope = e in cc })
           (learn_cell _ k.owner id (turned Resting r me.0) r (Synched j)
           (knows_now (Synched j) zero range refl was untaken Resting tt
@@ -426,12 +441,13 @@ module _ {M : Type 0} (stands : Stands M) where
           unfolding with_cell
           takes hs house =
               let stay = results-stay k.world (after_step k.world seat (Take r)).table r.thread results kept (grows-step k.world seat (Take r) kept allowed_take) are in
-              keeps_housed stands shape s k id me.0 (took_with r j results me.0) _ hs owner' view at_table refl refl refl (Take r) (λ some_first. (tt, tt)) allowed_take
+              keeps_housed stands shape s k id me.0 (took_with r j results me.0) _ hs owner' view at_table refl refl refl (Take r) (λ some_first. (tt, tt)) tt allowed_take
               (record { same = (refl, refl, refl); acted = rests resting; acts = rests resting; held = λ q h. took_holds me.0.rows r (see_cell r (Taken j) me.0.seen) q h; begun = λ q h. took_begun me.0.rows r (see_cell r (Taken j) me.0.seen) q h; binds = λ n q scope e. let bad : Take r ≡ Bind n q scope = e in cc })
               (λ t rs. ⊎_elim
               (λ (e : (r.thread, results) ≡ (t, rs)). inr (subst (λ (z : ℕ × List Result). AreResults (ledger_of (after_step k.world seat (Take r)).table) z.0 z.1) e stay))
               (λ (old : Has me.0.results (t, rs)). inl old))
-              (ap (λ (v : World). v.table) after_take ∙ ap (λ (t : Table). with_cell t r (Taken j)) k.table ∙ ap (λ (n : ℕ). sized shape (slice_set s.words n (cell_word (Taken j)))) (ap (place_of shape.rows r) (sym zero) ∙ sym here))
+              (ap (λ (v : World). v.table) after_take ∙ ap (λ (t : Table). with_cell t r (Taken j)) k.table ∙ ap (λ (q : ℕ). with_word (sized shape s.words) r q (cell_word (Taken j))) (sym zero) ∙ wrote (cell_word (Taken j)))
+              (kept_size (cell_word (Taken j)))
               (λ i u n e t. subst (λ (v : World). Knows v owner' i u) (sym after_take) (still_knows i u (k.knows i u e t)))
               (subst (λ (v : World). Knows v owner' id (took_with r j results me.0)) (sym after_take) took_knows)
               house
@@ -478,7 +494,7 @@ module _ {M : Type 0} (stands : Stands M) where
           (mine.1, staged.1, ap (λ (y : Option Row). is_some y) namer)
           (ap (λ (y : Option Joined). with_table k.world (with_seal k.world.table r y)) (sealed_is k.world.table r other (namer_at k.world r) sealing namer))
           (λ i n o. absurd (n (sym o ∙ mine.0)))
-          (λ i m n o h. row_ne other m (λ e. let bad : None ≡ Some j = sym (ap joined_of h) ∙ ap (joined_at k.world.table) (sym e) ∙ staged.2 in cc)) refl refl refl refl (λ q h. h) tt tt
+          (λ i m n o h. row_ne other m (λ e. let bad : None ≡ Some j = sym (ap joined_of h) ∙ ap (joined_at k.world.table) (sym e) ∙ staged.2 in cc)) refl refl refl refl (λ q h. h) tt tt tt
           (record { same = (refl, refl, refl); acted = λ e. let bad : Joins r other j ≡ Aside = sym joining_now ∙ e in cc; acts = λ e. let bad : Resting ≡ Aside = e in cc; held = λ q h. h; begun = λ q h. h; binds = λ n q scope e. let bad : Seal r ≡ Bind n q scope = e in cc })
           (learn_cell _ k.owner id (turned Resting r me.0) r (Synched (mirrored other j own))
           (knows_now (Synched (mirrored other j own)) zero range refl was untaken Resting tt
@@ -487,66 +503,70 @@ module _ {M : Type 0} (stands : Stands M) where
           now)
 
   module _ (shape : Shape M) (slots id place : ℕ) (me : Me (Option M) (View M)) (r : Row)
-      (threads : me.0.threads ≡ shape.threads) (rows : me.0.rows ≡ shape.rows)
+      (threads : me.0.threads ≡ shape.threads) (rows : me.0.rows ≡ shape.rows) (wide : me.0.offers ≡ shape.offers)
       (inside : Inside shape.threads shape.rows r) where
-    pub look_allowed : place ≡ place_of shape.rows r 0 → Allows (Keeps stands shape) slots id me place (λ n. n) (looked (step slots place 0 0 none) me)
+    pub look_allowed : place ≡ short_place shape.offers shape.rows r 0 → Allows (Keeps stands shape) slots id me place (λ n. n) (looked (step slots place 0 0 none) me)
     look_allowed here s k homes view range =
         let c = cell_read (slice_index s.words place) in
-        let knows = known shape id place me r 0 threads rows inside (omega arith) here s k view in
-        let read = cell_is shape id place me r 0 threads rows inside (omega arith) here s k view refl in (
+        let knows = known shape id place me r 0 threads rows wide inside (omega arith) here s k view in
+        let read = cell_is shape id place me r 0 threads rows wide inside (omega arith) here s k view refl in (
           saw r c me.0,
           keeps,
           tt,
-          learnt shape id place me r 0 threads rows inside (omega arith) here s k view (saw r c me.0) refl refl refl refl (saw_stays r c me.0) (saw_begins shape id place me r 0 threads rows inside (omega arith) here s k view c) (learn_cell k.world k.owner id me.0 r c knows read),
+          learnt shape id place me r 0 threads rows wide inside (omega arith) here s k view (saw r c me.0) refl refl refl refl (saw_stays r c me.0) (saw_begins shape id place me r 0 threads rows wide inside (omega arith) here s k view c) (learn_cell k.world k.owner id me.0 r c knows read),
           λ q at.
-              let there = seen_there k.world k.owner id me r q c (world_kept stands shape s k) knows read (one_word shape id place me r 0 threads rows inside (omega arith) here q 0 (omega arith) at.0 at.1).0 in
-              (there.0, there.1, with_itself k.world k.owner id (saw r c me.0) (learn_cell k.world k.owner id me.0 r c knows read) (world_kept stands shape s k), is_cell shape id place me r 0 threads rows inside (omega arith) here s k view refl),
+              let there = seen_there k.world k.owner id me r q c (world_kept stands shape s k) knows read (one_word shape id place me r 0 threads rows wide inside (omega arith) here q 0 (omega arith) at.0 at.1).0 in
+              (there.0, there.1, with_itself k.world k.owner id (saw r c me.0) (learn_cell k.world k.owner id me.0 r c knows read) (world_kept stands shape s k), is_cell shape id place me r 0 threads rows wide inside (omega arith) here s k view refl),
         )
 
     -- whoever learns nothing sees that what he has seen is of one table
-    pub glance_allowed : place ≡ place_of shape.rows r 0 → Allows (Keeps stands shape) slots id me place (λ n. n) (glanced (step slots place 0 0 none) me)
+    pub glance_allowed : place ≡ short_place shape.offers shape.rows r 0 → Allows (Keeps stands shape) slots id me place (λ n. n) (glanced (step slots place 0 0 none) me)
     glance_allowed here s k homes view range =
-        let knows = known shape id place me r 0 threads rows inside (omega arith) here s k view in (
+        let knows = known shape id place me r 0 threads rows wide inside (omega arith) here s k view in (
           me.0,
           keeps,
           tt,
-          learnt shape id place me r 0 threads rows inside (omega arith) here s k view me.0 refl refl refl refl (refl, refl, refl, refl, refl, λ q h. inl h) (λ q h. h) knows,
+          learnt shape id place me r 0 threads rows wide inside (omega arith) here s k view me.0 refl refl refl refl (refl, refl, refl, refl, refl, λ q h. inl h) (λ q h. h) knows,
           (refl, with_itself k.world k.owner id me.0 knows (world_kept stands shape s k)),
         )
 
-    pub read_allowed : (p : ℕ) → 1 ≤ p → p < 34 → Has me.0.seen.opened r → place ≡ place_of shape.rows r p → Allows (Keeps stands shape) slots id me place (λ n. n) (has_read (step slots place 0 0 none) me)
+    pub read_allowed : (p : ℕ) → 1 ≤ p → p < row_len shape.offers → Has me.0.seen.opened r → place ≡ short_place shape.offers shape.rows r p → Allows (Keeps stands shape) slots id me place (λ n. n) (has_read (step slots place 0 0 none) me)
     read_allowed p high low seen here s k homes view range =
         let x = slice_index s.words place in
-        let knows = known shape id place me r p threads rows inside low here s k view in (
+        let knows = known shape id place me r p threads rows wide inside low here s k view in (
           read_word r p x me.0,
           keeps,
           tt,
-          learnt shape id place me r p threads rows inside low here s k view (read_word r p x me.0) refl refl refl refl (refl, refl, refl, refl, refl, λ q h. inl h) (λ q h. h)
-              (learn_word k.world k.owner id me.0 r p x knows (knows.opened r seen) high low (word_is shape id place me r p threads rows inside low here s k view)),
+          learnt shape id place me r p threads rows wide inside low here s k view (read_word r p x me.0) refl refl refl refl (refl, refl, refl, refl, refl, λ q h. inl h) (λ q h. h)
+              (learn_word k.world k.owner id me.0 r p x knows (knows.opened r seen) high (within shape id place me r p threads rows wide inside low here s k view) (word_is shape id place me r p threads rows wide inside low here s k view)),
           λ q o h at. (
-            ap (λ (z : Row × ℕ). (read_word z.0 z.1 x me.0, me.1)) (let e = one_word shape id place me r p threads rows inside low here q o h at.0 at.1 in λ i. (e.0 i, e.1 i)),
-            with_itself k.world k.owner id (read_word r p x me.0) (learn_word k.world k.owner id me.0 r p x knows (knows.opened r seen) high low (word_is shape id place me r p threads rows inside low here s k view)) (world_kept stands shape s k),
+            ap (λ (z : Row × ℕ). (read_word z.0 z.1 x me.0, me.1)) (let e = one_word shape id place me r p threads rows wide inside low here q o h at.0 at.1 in λ i. (e.0 i, e.1 i)),
+            with_itself k.world k.owner id (read_word r p x me.0) (learn_word k.world k.owner id me.0 r p x knows (knows.opened r seen) high (within shape id place me r p threads rows wide inside low here s k view) (word_is shape id place me r p threads rows wide inside low here s k view)) (world_kept stands shape s k),
+            λ first.
+                let second : p ≡ 1 = (one_word shape id place me r p threads rows wide inside low here q o h at.0 at.1).1 ∙ first in
+                subst (λ (z : ℕ × ℕ). unwrap_or (count_of z.0) 0 ≤ z.1) (λ i. ((ap (word_at k.world.table r) (sym second) ∙ word_is shape id place me r p threads rows wide inside low here s k view) i, sym wide i))
+                (k.counts r (is_its_row shape id place me r p threads rows wide inside low here s k view)),
           ),
         )
 
-    pub draft_allowed : (p d : ℕ) → 1 ≤ p → p < 34 → is_word_for p d ≡ true → me.0.stage ≡ Resting → Has me.0.seen.held r → ¬ Has me.0.seen.opened r → (¬ SawEnded me.0.seen r.thread) → place ≡ place_of shape.rows r p
+    pub draft_allowed : (p d : ℕ) → 1 ≤ p → p < row_len shape.offers → is_word_for p d ≡ true → (p ≡ 1 → unwrap_or (count_of d) 0 ≤ shape.offers) → me.0.stage ≡ Resting → Has me.0.seen.held r → ¬ Has me.0.seen.opened r → (¬ SawEnded me.0.seen r.thread) → place ≡ short_place shape.offers shape.rows r p
         → Allows (Keeps stands shape) slots id me place (λ n. d) (λ n. drafted (step slots place d 0 none) me d)
-    draft_allowed p d high low formed resting held unopened alive here s k homes view range =
+    draft_allowed p d high low formed few resting held unopened alive here s k homes view range =
         let after = word_drafted r p d me.0 in
-        let moved : Keeps stands shape (stepped s place d id me.1 after keeps) = wrote_word shape id place me r p threads rows inside low here s k view d resting held unopened alive high formed in (
+        let moved : Keeps stands shape (stepped s place d id me.1 after keeps) = wrote_word shape id place me r p threads rows wide inside low here s k view d few resting held unopened alive high formed in (
           after,
           keeps,
           tt,
           moved,
           λ q o h at. (
-            ap (λ (z : Row × ℕ). (word_drafted z.0 z.1 d me.0, me.1)) (let e = one_word shape id place me r p threads rows inside low here q o h at.0 at.1 in λ i. (e.0 i, e.1 i)),
-            agreed shape id place me r p threads rows inside low here s k view d after refl moved,
+            ap (λ (z : Row × ℕ). (word_drafted z.0 z.1 d me.0, me.1)) (let e = one_word shape id place me r p threads rows wide inside low here q o h at.0 at.1 in λ i. (e.0 i, e.1 i)),
+            agreed shape id place me r p threads rows wide inside low here s k view d after refl moved,
           ),
         )
 
     -- a held row that is not opened
     pub open_allowed : slots ≡ length shape.first.value.items → (0 < length shape.first.value.items → length shape.first.value.items ≡ shape.threads) → me.0.stage ≡ Resting → Has me.0.seen.held r → ¬ Has me.0.seen.opened r → (¬ SawEnded me.0.seen r.thread)
-        → (0 < length shape.first.value.items → (value : M) × (me.1 ≡ (r.thread, Some value) ∷ rest me.1) × IsReady stands shape.first.value.items me.0.results me.0.seen r value) → place ≡ place_of shape.rows r 0
+        → (0 < length shape.first.value.items → (value : M) × (me.1 ≡ (r.thread, Some value) ∷ rest me.1) × IsReady stands shape.first.value.items me.0.results me.0.seen r value) → place ≡ short_place shape.offers shape.rows r 0
         → Allows (Keeps stands shape) slots id me place (λ n. cell_word Waiting) (λ n. opened (step slots place (cell_word Waiting) 0 none) me (cell_word Waiting))
     open_allowed count full resting held unopened alive parked here s k homes view range = by_slots (some_or_none shape.first.value.items)
       where
@@ -554,21 +574,21 @@ module _ {M : Type 0} (stands : Stands M) where
         after = did (Open r) (turned Resting r me.0)
 
         firsts : me.0.first ≡ shape.first.value.items
-        firsts = ap (λ (z : List (Option M) × Opening). z.0) (k.firsts id me.0 view (at_table shape id place me r 0 threads rows inside (omega arith) here))
+        firsts = ap (λ (z : List (Option M) × Opening × ℕ). z.0) (k.firsts id me.0 view (at_table shape id place me r 0 threads rows wide inside (omega arith) here))
 
         told : (c : List (ℕ × Option M)) → GoesHome me.0.first me.1 c → AgreesWithItself after → opened (step slots place (cell_word Waiting) 0 none) me (cell_word Waiting) (after, c)
-        told c home agree q at = (ap (λ (z : Row). did (Open z) (turned Resting z me.0)) (one_word shape id place me r 0 threads rows inside (omega arith) here q 0 (omega arith) at.0 at.1).0, home, agree)
+        told c home agree q at = (ap (λ (z : Row). did (Open z) (turned Resting z me.0)) (one_word shape id place me r 0 threads rows wide inside (omega arith) here q 0 (omega arith) at.0 at.1).0, home, agree)
 
         by_slots : (length shape.first.value.items ≡ 0) ⊎ (0 < length shape.first.value.items)
             → (w : View M) × (a : Act (Option M)) × Valid s.homes me.1 a × Keeps stands shape (stepped s place (cell_word Waiting) id me.1 w a) × opened (step slots place (cell_word Waiting) 0 none) me (cell_word Waiting) (w, carried_after me.1 a)
         by_slots (inl empty) =
-            let moved : Keeps stands shape (stepped s place (cell_word Waiting) id me.1 after keeps) = opens shape id place me r 0 threads rows inside (omega arith) here s k view refl resting held unopened alive s.homes (λ some_first. absurd (omega (arith, empty))) in (
+            let moved : Keeps stands shape (stepped s place (cell_word Waiting) id me.1 after keeps) = opens shape id place me r 0 threads rows wide inside (omega arith) here s k view refl resting held unopened alive s.homes (λ some_first. absurd (omega (arith, empty))) in (
               after,
               keeps,
               tt,
               moved,
               told me.1 ((λ e. refl), λ filled. absurd (let same : length me.0.first ≡ 0 = ap (λ (l : List (Option M)). length l) firsts ∙ empty in omega arith))
-                  (agreed shape id place me r 0 threads rows inside (omega arith) here s k view (cell_word Waiting) after refl moved),
+                  (agreed shape id place me r 0 threads rows wide inside (omega arith) here s k view (cell_word Waiting) after refl moved),
             )
         by_slots (inr some_first) =
             let p = parked some_first in
@@ -576,36 +596,36 @@ module _ {M : Type 0} (stands : Stands M) where
             let put : put_back s.homes me.1 ≡ slice_set s.homes r.thread (some (Some p.0)) = ap (put_back s.homes) p.1 in
             let moved : Keeps stands shape (stepped s place (cell_word Waiting) id me.1 after gives) =
             subst (λ (hs : List (Maybe (Option M))). Keeps stands shape (record { words = slice_set s.words place (cell_word Waiting); homes = hs; views = slice_set s.views id after })) (sym put)
-            (opens shape id place me r 0 threads rows inside (omega arith) here s k view refl resting held unopened alive (slice_set s.homes r.thread (some (Some p.0)))
-            (λ again. house_open shape id place me r 0 threads rows inside (omega arith) here s k view refl resting held unopened alive some_first p.0 room p.2)) in (
+            (opens shape id place me r 0 threads rows wide inside (omega arith) here s k view refl resting held unopened alive (slice_set s.homes r.thread (some (Some p.0)))
+            (λ again. house_open shape id place me r 0 threads rows wide inside (omega arith) here s k view refl resting held unopened alive some_first p.0 room p.2)) in (
               after,
               gives,
               tt,
               moved,
               told (rest me.1) ((λ e. absurd (let same : length me.0.first ≡ length shape.first.value.items = ap (λ (l : List (Option M)). length l) firsts in omega arith)), λ filled. refl)
-                  (moved_coherent stands shape s.views _ _ id me.0 after view refl (at_table shape id place me r 0 threads rows inside (omega arith) here) moved),
+                  (moved_coherent stands shape s.views _ _ id me.0 after view refl (at_table shape id place me r 0 threads rows wide inside (omega arith) here) moved),
             )
 
     -- the first row of a thread, with which the pass has not begun
-    pub begin_allowed : (0 < length shape.first.value.items) → r.sync ≡ 0 → Has me.0.seen.held r → ¬ Has me.0.seen.begun r → place ≡ place_of shape.rows r 0
+    pub begin_allowed : (0 < length shape.first.value.items) → r.sync ≡ 0 → Has me.0.seen.held r → ¬ Has me.0.seen.begun r → place ≡ short_place shape.offers shape.rows r 0
         → Allows (Keeps stands shape) slots id me place (λ n. n) (has_begun (step slots place 0 0 none) me)
     begin_allowed some_first zero held unbegun here s k homes view range =
-        let knows = known shape id place me r 0 threads rows inside (omega arith) here s k view in
+        let knows = known shape id place me r 0 threads rows wide inside (omega arith) here s k view in
         let after : View M = began r me.0 in
         let to_begin : IsToBegin me.0 r = (zero, inl held, unbegun) in
-        let firsts : me.0.first ≡ shape.first.value.items = ap (λ (z : List (Option M) × Opening). z.0) (k.firsts id me.0 view (at_table shape id place me r 0 threads rows inside (omega arith) here)) in
+        let firsts : me.0.first ≡ shape.first.value.items = ap (λ (z : List (Option M) × Opening × ℕ). z.0) (k.firsts id me.0 view (at_table shape id place me r 0 threads rows wide inside (omega arith) here)) in
         let started : course_at k.world.table r.thread ≢ Unstarted = (world_kept stands shape s k).begun r (is_held k.world r me.0.seat (knows.mine r held).1) in
-        let others = none_begins shape id place me r 0 threads rows inside (omega arith) here s k view held in
-        let waits = first_out stands shape.first.value.items k.world r s.homes s.views id me.0 after (world_kept stands shape s k) to_begin started others view (at_table shape id place me r 0 threads rows inside (omega arith) here) (λ q b. began_before q b) (k.housed some_first) in
+        let others = none_begins shape id place me r 0 threads rows wide inside (omega arith) here s k view held in
+        let waits = first_out stands shape.first.value.items k.world r s.homes s.views id me.0 after (world_kept stands shape s k) to_begin started others view (at_table shape id place me r 0 threads rows wide inside (omega arith) here) (λ q b. began_before q b) (k.housed some_first) in
         let moved : Keeps stands shape (stepped s place (slice_index s.words place) id me.1 after (takes_it r.thread (Some waits.value))) =
-        keeps_seen stands shape s k id me.0 after _ (slice_set s.homes r.thread none) view (at_table shape id place me r 0 threads rows inside (omega arith) here) refl refl refl refl (refl, refl, refl, refl, refl, λ q. ⊎_elim (λ (e : r ≡ q). inr (subst (λ (x : Row). Has me.0.seen.held x) e held)) (λ (old : Has me.0.seen.begun q). inl old)) (set-get_or s.words place 0) (knows_begun k.world k.owner id me.0 r knows)
-        (λ again. housed_begin stands shape.first.value.items k.world r s.homes s.views id me.0 after (world_kept stands shape s k) to_begin started others view (at_table shape id place me r 0 threads rows inside (omega arith) here) (λ q b. began_before q b) (k.housed some_first)) in (
+        keeps_seen stands shape s k id me.0 after _ (slice_set s.homes r.thread none) view (at_table shape id place me r 0 threads rows wide inside (omega arith) here) refl refl refl refl (refl, refl, refl, refl, refl, λ q. ⊎_elim (λ (e : r ≡ q). inr (subst (λ (x : Row). Has me.0.seen.held x) e held)) (λ (old : Has me.0.seen.begun q). inl old)) (set-get_or s.words place 0) (knows_begun k.world k.owner id me.0 r knows)
+        (λ again. housed_begin stands shape.first.value.items k.world r s.homes s.views id me.0 after (world_kept stands shape s k) to_begin started others view (at_table shape id place me r 0 threads rows wide inside (omega arith) here) (λ q b. began_before q b) (k.housed some_first)) in (
           after,
           takes_it r.thread (Some waits.value),
           waits.home,
           moved,
           λ q at.
-              let same = (one_word shape id place me r 0 threads rows inside (omega arith) here q 0 (omega arith) at.0 at.1).0 in (
+              let same = (one_word shape id place me r 0 threads rows wide inside (omega arith) here q 0 (omega arith) at.0 at.1).0 in (
                 waits.value,
                 ap (λ (l : List (Option M)). slice_get l q.thread) firsts ∙ ap (λ (z : Row). slice_get shape.first.value.items z.thread) (sym same) ∙ waits.is_first,
                 ap (λ (z : Row). (began z me.0, (z.thread, Some waits.value) ∷ me.1)) same,
@@ -617,34 +637,34 @@ module _ {M : Type 0} (stands : Stands M) where
         began_before q b = ((b.0, b.1, (λ h. b.2 (inr h))), λ e. b.2 (inl (sym e)))
 
     -- a row that this call has claimed
-    pub yield_allowed : me.0.stage ≡ Claims r → Has me.0.seen.held r → place ≡ place_of shape.rows r 0
+    pub yield_allowed : me.0.stage ≡ Claims r → Has me.0.seen.held r → place ≡ short_place shape.offers shape.rows r 0
         → Allows (Keeps stands shape) slots id me place (λ n. cell_word Waiting) (λ n. yielded (step slots place (cell_word Waiting) 0 none) me (cell_word Waiting))
     yield_allowed claiming held here s k homes view range =
         let after = did (Yield r) (turned Resting r me.0) in
-        let moved : Keeps stands shape (stepped s place (cell_word Waiting) id me.1 after keeps) = yields shape id place me r 0 threads rows inside (omega arith) here s k view refl claiming held in (
+        let moved : Keeps stands shape (stepped s place (cell_word Waiting) id me.1 after keeps) = yields shape id place me r 0 threads rows wide inside (omega arith) here s k view refl claiming held in (
           after,
           keeps,
           tt,
           moved,
           λ q at. (
-            ap (λ (z : Row). (did (Yield z) (turned Resting z me.0), me.1)) (one_word shape id place me r 0 threads rows inside (omega arith) here q 0 (omega arith) at.0 at.1).0,
-            agreed shape id place me r 0 threads rows inside (omega arith) here s k view (cell_word Waiting) after refl moved,
+            ap (λ (z : Row). (did (Yield z) (turned Resting z me.0), me.1)) (one_word shape id place me r 0 threads rows wide inside (omega arith) here q 0 (omega arith) at.0 at.1).0,
+            agreed shape id place me r 0 threads rows wide inside (omega arith) here s k view (cell_word Waiting) after refl moved,
           ),
         )
 
     -- a held row: where it is Waiting, it is this call's
-    pub claim_allowed : me.0.stage ≡ Resting → Has me.0.seen.held r → place ≡ place_of shape.rows r 0
+    pub claim_allowed : me.0.stage ≡ Resting → Has me.0.seen.held r → place ≡ short_place shape.offers shape.rows r 0
         → Allows (Keeps stands shape) slots id me place (λ n. either (eqb n (cell_word Waiting)) (cell_word Claimed) n) (claimed (step slots place (cell_word Waiting) (cell_word Claimed) none) me)
     claim_allowed resting held here s k homes view range =
         let n = slice_index s.words place in
-        let read = cell_is shape id place me r 0 threads rows inside (omega arith) here s k view refl in
-        let knows = known shape id place me r 0 threads rows inside (omega arith) here s k view in
-        let one : (q : Row) → At (step {S = Option M} slots place (cell_word Waiting) (cell_word Claimed) none) me q 0 → r ≡ q = λ q at. (one_word shape id place me r 0 threads rows inside (omega arith) here q 0 (omega arith) at.0 at.1).0 in
+        let read = cell_is shape id place me r 0 threads rows wide inside (omega arith) here s k view refl in
+        let knows = known shape id place me r 0 threads rows wide inside (omega arith) here s k view in
+        let one : (q : Row) → At (step {S = Option M} slots place (cell_word Waiting) (cell_word Claimed) none) me q 0 → r ≡ q = λ q at. (one_word shape id place me r 0 threads rows wide inside (omega arith) here q 0 (omega arith) at.0 at.1).0 in
         exchanged n (cell_word Waiting) (cell_word Claimed)
         (λ x. (w : View M) × (a : Act (Option M)) × Valid s.homes me.1 a × Keeps stands shape (stepped s place x id me.1 w a) × claimed (step slots place (cell_word Waiting) (cell_word Claimed) none) me n (w, carried_after me.1 a))
         (λ e.
         let after = did (Claim r) (turned (Claims r) r me.0) in
-        let moved : Keeps stands shape (stepped s place (cell_word Claimed) id me.1 after keeps) = claims shape id place me r 0 threads rows inside (omega arith) here s k view refl resting held (read ∙ ap cell_read e ∙ waiting_read) in (
+        let moved : Keeps stands shape (stepped s place (cell_word Claimed) id me.1 after keeps) = claims shape id place me r 0 threads rows wide inside (omega arith) here s k view refl resting held (read ∙ ap cell_read e ∙ waiting_read) in (
           after,
           keeps,
           tt,
@@ -652,13 +672,13 @@ module _ {M : Type 0} (stands : Stands M) where
           λ q at. (
             λ f. ap (λ (z : Row). (did (Claim z) (turned (Claims z) z me.0), me.1)) (one q at),
             λ f. absurd (f e),
-            agreed shape id place me r 0 threads rows inside (omega arith) here s k view (cell_word Claimed) after refl moved,
+            agreed shape id place me r 0 threads rows wide inside (omega arith) here s k view (cell_word Claimed) after refl moved,
           ),
         ))
         (λ f.
         let moved : Keeps stands shape (stepped s place n id me.1 (saw r (cell_read n) me.0) keeps) =
-        learnt shape id place me r 0 threads rows inside (omega arith) here s k view (saw r (cell_read n) me.0) refl refl refl refl (saw_stays r (cell_read n) me.0) (saw_begins shape id place me r 0 threads rows inside (omega arith) here s k view (cell_read n)) (learn_cell k.world k.owner id me.0 r (cell_read n) knows read) in
-        let agrees_now = agreed shape id place me r 0 threads rows inside (omega arith) here s k view n (saw r (cell_read n) me.0) refl moved in (
+        learnt shape id place me r 0 threads rows wide inside (omega arith) here s k view (saw r (cell_read n) me.0) refl refl refl refl (saw_stays r (cell_read n) me.0) (saw_begins shape id place me r 0 threads rows wide inside (omega arith) here s k view (cell_read n)) (learn_cell k.world k.owner id me.0 r (cell_read n) knows read) in
+        let agrees_now = agreed shape id place me r 0 threads rows wide inside (omega arith) here s k view n (saw r (cell_read n) me.0) refl moved in (
           saw r (cell_read n) me.0,
           keeps,
           tt,
@@ -667,22 +687,22 @@ module _ {M : Type 0} (stands : Stands M) where
         ))
 
   module _ (shape : Shape M) (slots id place : ℕ) (me : Me (Option M) (View M)) (r : Row)
-      (threads : me.0.threads ≡ shape.threads) (rows : me.0.rows ≡ shape.rows)
+      (threads : me.0.threads ≡ shape.threads) (rows : me.0.rows ≡ shape.rows) (wide : me.0.offers ≡ shape.offers)
       (inside : Inside shape.threads shape.rows r) where
     -- another row: where it is Waiting, it is joined with the row that this call has claimed
-    pub join_allowed : (mine : Row) (own partner : ℕ) (j : Joined) → me.0.stage ≡ Claims mine → Has me.0.seen.held mine → CanJoin me.0.seen mine own r partner j → IsJoinedInRange j → place ≡ place_of shape.rows r 0
+    pub join_allowed : (mine : Row) (own partner : ℕ) (j : Joined) → me.0.stage ≡ Claims mine → Has me.0.seen.held mine → CanJoin me.0.seen mine own r partner j → IsJoinedInRange j → place ≡ short_place shape.offers shape.rows r 0
         → Allows (Keeps stands shape) slots id me place (λ n. either (eqb n (cell_word Waiting)) (cell_word (Synched j)) n) (joined (step slots place (cell_word Waiting) (cell_word (Synched j)) none) me)
     join_allowed mine own partner j claiming held can in_range here s k homes view range =
         let n = slice_index s.words place in
-        let read = cell_is shape id place me r 0 threads rows inside (omega arith) here s k view refl in
-        let knows = known shape id place me r 0 threads rows inside (omega arith) here s k view in
-        let one : (q : Row) → At (step {S = Option M} slots place (cell_word Waiting) (cell_word (Synched j)) none) me q 0 → r ≡ q = λ q at. (one_word shape id place me r 0 threads rows inside (omega arith) here q 0 (omega arith) at.0 at.1).0 in
+        let read = cell_is shape id place me r 0 threads rows wide inside (omega arith) here s k view refl in
+        let knows = known shape id place me r 0 threads rows wide inside (omega arith) here s k view in
+        let one : (q : Row) → At (step {S = Option M} slots place (cell_word Waiting) (cell_word (Synched j)) none) me q 0 → r ≡ q = λ q at. (one_word shape id place me r 0 threads rows wide inside (omega arith) here q 0 (omega arith) at.0 at.1).0 in
         exchanged n (cell_word Waiting) (cell_word (Synched j))
         (λ x. (w : View M) × (a : Act (Option M)) × Valid s.homes me.1 a × Keeps stands shape (stepped s place x id me.1 w a) × joined (step slots place (cell_word Waiting) (cell_word (Synched j)) none) me n (w, carried_after me.1 a))
         (λ e.
         let after = did (Join mine own r partner) (saw r (Synched j) (turned (Joins mine r j) r me.0)) in
         let moved : Keeps stands shape (stepped s place (cell_word (Synched j)) id me.1 after keeps) =
-        joins shape id place me r 0 threads rows inside (omega arith) here s k view refl mine own partner j claiming held can (read ∙ ap cell_read e ∙ waiting_read) in (
+        joins shape id place me r 0 threads rows wide inside (omega arith) here s k view refl mine own partner j claiming held can (read ∙ ap cell_read e ∙ waiting_read) in (
           after,
           keeps,
           tt,
@@ -696,13 +716,13 @@ module _ {M : Type 0} (stands : Stands M) where
                 let theirs : partner ≡ i.own = sym (ap (λ (z : Joined). z.own) can.is) ∙ ap (λ (z : Joined). z.own) same in
                 λ x. (did (Join (my x) (my_own x) (row x) (theirs x)) (saw (row x) (Synched (same x)) (turned (Joins (my x) (row x) (same x)) (row x) me.0)), me.1),
             λ f. absurd (f e),
-            agreed shape id place me r 0 threads rows inside (omega arith) here s k view (cell_word (Synched j)) after refl moved,
+            agreed shape id place me r 0 threads rows wide inside (omega arith) here s k view (cell_word (Synched j)) after refl moved,
           ),
         ))
         (λ f.
         let moved : Keeps stands shape (stepped s place n id me.1 (saw r (cell_read n) me.0) keeps) =
-        learnt shape id place me r 0 threads rows inside (omega arith) here s k view (saw r (cell_read n) me.0) refl refl refl refl (saw_stays r (cell_read n) me.0) (saw_begins shape id place me r 0 threads rows inside (omega arith) here s k view (cell_read n)) (learn_cell k.world k.owner id me.0 r (cell_read n) knows read) in
-        let agrees_now = agreed shape id place me r 0 threads rows inside (omega arith) here s k view n (saw r (cell_read n) me.0) refl moved in (
+        learnt shape id place me r 0 threads rows wide inside (omega arith) here s k view (saw r (cell_read n) me.0) refl refl refl refl (saw_stays r (cell_read n) me.0) (saw_begins shape id place me r 0 threads rows wide inside (omega arith) here s k view (cell_read n)) (learn_cell k.world k.owner id me.0 r (cell_read n) knows read) in
+        let agrees_now = agreed shape id place me r 0 threads rows wide inside (omega arith) here s k view n (saw r (cell_read n) me.0) refl moved in (
           saw r (cell_read n) me.0,
           keeps,
           tt,
@@ -720,20 +740,20 @@ module _ {M : Type 0} (stands : Stands M) where
             row_in (Joins m o j) = m
 
     -- a row that is committed alone, where it is Waiting
-    pub grant_allowed : (n : ℕ) (j : Joined) → me.0.stage ≡ Resting → CanGrant me.0.seen r n j → IsJoinedInRange j → place ≡ place_of shape.rows r 0
+    pub grant_allowed : (n : ℕ) (j : Joined) → me.0.stage ≡ Resting → CanGrant me.0.seen r n j → IsJoinedInRange j → place ≡ short_place shape.offers shape.rows r 0
         → Allows (Keeps stands shape) slots id me place (λ x. either (eqb x (cell_word Waiting)) (cell_word (Synched j)) x) (granted (step slots place (cell_word Waiting) (cell_word (Synched j)) none) me)
     grant_allowed n j resting can in_range here s k homes view range =
         let x = slice_index s.words place in
-        let read = cell_is shape id place me r 0 threads rows inside (omega arith) here s k view refl in
-        let knows = known shape id place me r 0 threads rows inside (omega arith) here s k view in
-        let one : (q : Row) → At (step {S = Option M} slots place (cell_word Waiting) (cell_word (Synched j)) none) me q 0 → r ≡ q = λ q at. (one_word shape id place me r 0 threads rows inside (omega arith) here q 0 (omega arith) at.0 at.1).0 in
+        let read = cell_is shape id place me r 0 threads rows wide inside (omega arith) here s k view refl in
+        let knows = known shape id place me r 0 threads rows wide inside (omega arith) here s k view in
+        let one : (q : Row) → At (step {S = Option M} slots place (cell_word Waiting) (cell_word (Synched j)) none) me q 0 → r ≡ q = λ q at. (one_word shape id place me r 0 threads rows wide inside (omega arith) here q 0 (omega arith) at.0 at.1).0 in
         exchanged x (cell_word Waiting) (cell_word (Synched j))
         (λ y. (w : View M) × (a : Act (Option M)) × Valid s.homes me.1 a × Keeps stands shape (stepped s place y id me.1 w a) × granted (step slots place (cell_word Waiting) (cell_word (Synched j)) none) me x (w, carried_after me.1 a))
         (λ e.
         let waits = read ∙ ap cell_read e ∙ waiting_read in
         let after = did (Grant r n) (settled r j me.0) in
         let moved : Keeps stands shape (stepped s place (cell_word (Synched j)) id me.1 after keeps) =
-        grants shape id place me r 0 threads rows inside (omega arith) here s k view refl n j resting can waits in (
+        grants shape id place me r 0 threads rows wide inside (omega arith) here s k view refl n j resting can waits in (
           after,
           keeps,
           tt,
@@ -744,13 +764,13 @@ module _ {M : Type 0} (stands : Stands M) where
                 let own : n ≡ i.own = sym (ap (λ (z : Joined). z.own) can.is) ∙ ap (λ (z : Joined). z.own) same in
                 ((λ z. (did (Grant (row z) (own z)) (settled (row z) (same z) me.0), me.1)), (seen_there k.world k.owner id me r q Waiting (world_kept stands shape s k) knows waits row).1),
             λ f. absurd (f e),
-            agreed shape id place me r 0 threads rows inside (omega arith) here s k view (cell_word (Synched j)) after refl moved,
+            agreed shape id place me r 0 threads rows wide inside (omega arith) here s k view (cell_word (Synched j)) after refl moved,
           ),
         ))
         (λ f.
         let moved : Keeps stands shape (stepped s place x id me.1 (saw r (cell_read x) me.0) keeps) =
-        learnt shape id place me r 0 threads rows inside (omega arith) here s k view (saw r (cell_read x) me.0) refl refl refl refl (saw_stays r (cell_read x) me.0) (saw_begins shape id place me r 0 threads rows inside (omega arith) here s k view (cell_read x)) (learn_cell k.world k.owner id me.0 r (cell_read x) knows read) in
-        let agrees_now = agreed shape id place me r 0 threads rows inside (omega arith) here s k view x (saw r (cell_read x) me.0) refl moved in (
+        learnt shape id place me r 0 threads rows wide inside (omega arith) here s k view (saw r (cell_read x) me.0) refl refl refl refl (saw_stays r (cell_read x) me.0) (saw_begins shape id place me r 0 threads rows wide inside (omega arith) here s k view (cell_read x)) (learn_cell k.world k.owner id me.0 r (cell_read x) knows read) in
+        let agrees_now = agreed shape id place me r 0 threads rows wide inside (omega arith) here s k view x (saw r (cell_read x) me.0) refl moved in (
           saw r (cell_read x) me.0,
           keeps,
           tt,
@@ -759,7 +779,7 @@ module _ {M : Type 0} (stands : Stands M) where
         ))
 
     -- a committed row, where it is Synched: it is taken
-    pub take_allowed : slots ≡ length shape.first.value.items → me.0.stage ≡ Resting → (j : Joined) → IsJoinedInRange j → place ≡ place_of shape.rows r 0
+    pub take_allowed : slots ≡ length shape.first.value.items → me.0.stage ≡ Resting → (j : Joined) → IsJoinedInRange j → place ≡ short_place shape.offers shape.rows r 0
         → Allows (Keeps stands shape) slots id me place (λ x. either (eqb x (cell_word (Synched j))) (cell_word (Taken j)) x) (taken stands (step slots place (cell_word (Synched j)) (cell_word (Taken j)) none) me)
     take_allowed count resting j in_range here s k homes view range =
         exchanged x (cell_word (Synched j)) (cell_word (Taken j))
@@ -767,8 +787,8 @@ module _ {M : Type 0} (stands : Stands M) where
         (λ e. by_slots e (some_or_none shape.first.value.items))
         (λ f.
         let moved : Keeps stands shape (stepped s place x id me.1 (saw r (cell_read x) me.0) keeps) =
-        learnt shape id place me r 0 threads rows inside (omega arith) here s k view (saw r (cell_read x) me.0) refl refl refl refl (saw_stays r (cell_read x) me.0) (saw_begins shape id place me r 0 threads rows inside (omega arith) here s k view (cell_read x)) (learn_cell k.world k.owner id me.0 r (cell_read x) knows read) in
-        let agrees_now = agreed shape id place me r 0 threads rows inside (omega arith) here s k view x (saw r (cell_read x) me.0) refl moved in (
+        learnt shape id place me r 0 threads rows wide inside (omega arith) here s k view (saw r (cell_read x) me.0) refl refl refl refl (saw_stays r (cell_read x) me.0) (saw_begins shape id place me r 0 threads rows wide inside (omega arith) here s k view (cell_read x)) (learn_cell k.world k.owner id me.0 r (cell_read x) knows read) in
+        let agrees_now = agreed shape id place me r 0 threads rows wide inside (omega arith) here s k view x (saw r (cell_read x) me.0) refl moved in (
           saw r (cell_read x) me.0,
           keeps,
           tt,
@@ -784,16 +804,16 @@ module _ {M : Type 0} (stands : Stands M) where
         x = slice_index s.words place
 
         read : cell_at k.world.table r ≡ cell_read (slice_index s.words place)
-        read = cell_is shape id place me r 0 threads rows inside (omega arith) here s k view refl
+        read = cell_is shape id place me r 0 threads rows wide inside (omega arith) here s k view refl
 
         knows : Knows k.world k.owner id me.0
-        knows = known shape id place me r 0 threads rows inside (omega arith) here s k view
+        knows = known shape id place me r 0 threads rows wide inside (omega arith) here s k view
 
         firsts : me.0.first ≡ shape.first.value.items
-        firsts = ap (λ (z : List (Option M) × Opening). z.0) (k.firsts id me.0 view (at_table shape id place me r 0 threads rows inside (omega arith) here))
+        firsts = ap (λ (z : List (Option M) × Opening × ℕ). z.0) (k.firsts id me.0 view (at_table shape id place me r 0 threads rows wide inside (omega arith) here))
 
         one : (q : Row) → At (step {S = Option M} slots place (cell_word (Synched j)) (cell_word (Taken j)) none) me q 0 → r ≡ q
-        one q at = (one_word shape id place me r 0 threads rows inside (omega arith) here q 0 (omega arith) at.0 at.1).0
+        one q at = (one_word shape id place me r 0 threads rows wide inside (omega arith) here q 0 (omega arith) at.0 at.1).0
 
         synched : (e : x ≡ cell_word (Synched j)) → cell_at k.world.table r ≡ Synched j
         synched e = read ∙ ap cell_read e ∙ ap (λ (o : Option Cell). unwrap_or o Fresh) (cell_of-cell_word (Synched j) in_range)
@@ -830,17 +850,17 @@ module _ {M : Type 0} (stands : Stands M) where
         by_slots : (e : x ≡ cell_word (Synched j)) → (length shape.first.value.items ≡ 0) ⊎ (0 < length shape.first.value.items)
             → (w : View M) × (a : Act (Option M)) × Valid s.homes me.1 a × Keeps stands shape (stepped s place (cell_word (Taken j)) id me.1 w a) × taken stands (step slots place (cell_word (Synched j)) (cell_word (Taken j)) none) me x (w, carried_after me.1 a)
         by_slots e (inl empty) =
-            let moved : Keeps stands shape (stepped s place (cell_word (Taken j)) id me.1 (after e) keeps) = takes_bare shape id place me r 0 threads rows inside (omega arith) here s k view j (synched e) refl resting (has e).0 (has e).2 empty in (
+            let moved : Keeps stands shape (stepped s place (cell_word (Taken j)) id me.1 (after e) keeps) = takes_bare shape id place me r 0 threads rows wide inside (omega arith) here s k view j (synched e) refl resting (has e).0 (has e).2 empty in (
               after e,
               keeps,
               tt,
               moved,
               told e me.1 ((λ z. refl), λ filled. absurd (let same : length me.0.first ≡ 0 = ap (λ (l : List (Option M)). length l) firsts ∙ empty in omega arith))
-                  (agreed shape id place me r 0 threads rows inside (omega arith) here s k view (cell_word (Taken j)) (after e) refl moved),
+                  (agreed shape id place me r 0 threads rows wide inside (omega arith) here s k view (cell_word (Taken j)) (after e) refl moved),
             )
         by_slots e (inr some_first) =
-            let home = at_home shape id place me r 0 threads rows inside (omega arith) here s k view j (synched e) refl resting (has e).0 (has e).2 some_first in
-            let moved : Keeps stands shape (stepped s place (cell_word (Taken j)) id me.1 (after e) (takes_it r.thread (Some home.value))) = takes_out shape id place me r 0 threads rows inside (omega arith) here s k view j (synched e) refl resting (has e).0 (has e).2 some_first in
+            let home = at_home shape id place me r 0 threads rows wide inside (omega arith) here s k view j (synched e) refl resting (has e).0 (has e).2 some_first in
+            let moved : Keeps stands shape (stepped s place (cell_word (Taken j)) id me.1 (after e) (takes_it r.thread (Some home.value))) = takes_out shape id place me r 0 threads rows wide inside (omega arith) here s k view j (synched e) refl resting (has e).0 (has e).2 some_first in
             let out = comes_out stands shape.first.value.items k.world k.owner id me.0 knows (world_kept stands shape s k) r j (has e).0 home.value (ap joined_of (synched e)) (has e).1 (has e).2 home.offers in (
               after e,
               takes_it r.thread (Some home.value),
@@ -848,45 +868,45 @@ module _ {M : Type 0} (stands : Stands M) where
               moved,
               told e ((r.thread, Some home.value) ∷ me.1) (
                 (λ z. absurd (let same : length me.0.first ≡ length shape.first.value.items = ap (λ (l : List (Option M)). length l) firsts in omega arith)),
-                λ filled. (home.value, out.0, refl, subst (λ (l : List (Option M)). IsLeft stands l home.value r j.own (has e).0 out.0) (sym firsts) out.1, out.2, sees_since shape id place me r 0 threads rows inside (omega arith) here s k view j (synched e) refl resting (has e).0 (has e).2 (has e).1 out.0 out.1.earlier out.1.whole out.1.count),
+                λ filled. (home.value, out.0, refl, subst (λ (l : List (Option M)). IsLeft stands l home.value r j.own (has e).0 out.0) (sym firsts) out.1, out.2, sees_since shape id place me r 0 threads rows wide inside (omega arith) here s k view j (synched e) refl resting (has e).0 (has e).2 (has e).1 out.0 out.1.earlier out.1.whole out.1.count),
               )
-                  (moved_coherent stands shape s.views _ _ id me.0 (after e) view refl (at_table shape id place me r 0 threads rows inside (omega arith) here) moved),
+                  (moved_coherent stands shape s.views _ _ id me.0 (after e) view refl (at_table shape id place me r 0 threads rows wide inside (omega arith) here) moved),
             )
 
     -- a row that this call has claimed, and joined with another
-    pub seal_allowed : (other : Row) (own : ℕ) (j : Joined) → me.0.stage ≡ Joins r other j → j.partner ≡ Some (r, own) → Has me.0.seen.held r → IsJoinedInRange (mirrored other j own) → place ≡ place_of shape.rows r 0
+    pub seal_allowed : (other : Row) (own : ℕ) (j : Joined) → me.0.stage ≡ Joins r other j → j.partner ≡ Some (r, own) → Has me.0.seen.held r → IsJoinedInRange (mirrored other j own) → place ≡ short_place shape.offers shape.rows r 0
         → Allows (Keeps stands shape) slots id me place (λ n. cell_word (Synched (mirrored other j own))) (λ n. sealed (step slots place (cell_word (Synched (mirrored other j own))) 0 none) me (cell_word (Synched (mirrored other j own))))
     seal_allowed other own j joining_now partner_is held in_range here s k homes view range =
         let after = did (Seal r) (settled r (mirrored other j own) me.0) in
         let moved : Keeps stands shape (stepped s place (cell_word (Synched (mirrored other j own))) id me.1 after keeps) =
-        seals shape id place me r 0 threads rows inside (omega arith) here s k view refl other own j joining_now partner_is held in (
+        seals shape id place me r 0 threads rows wide inside (omega arith) here s k view refl other own j joining_now partner_is held in (
           after,
           keeps,
           tt,
           moved,
           λ q i at i_range e. (
             (λ x. (did (Seal ((one q at) x)) (settled ((one q at) x) ((one_joined (mirrored other j own) i in_range i_range e) x) me.0), me.1)),
-            agreed shape id place me r 0 threads rows inside (omega arith) here s k view (cell_word (Synched (mirrored other j own))) after refl moved,
+            agreed shape id place me r 0 threads rows wide inside (omega arith) here s k view (cell_word (Synched (mirrored other j own))) after refl moved,
           ),
         )
       where
         one : (q : Row) → At (step {S = Option M} slots place (cell_word (Synched (mirrored other j own))) 0 none) me q 0 → r ≡ q
-        one q at = (one_word shape id place me r 0 threads rows inside (omega arith) here q 0 (omega arith) at.0 at.1).0
+        one q at = (one_word shape id place me r 0 threads rows wide inside (omega arith) here q 0 (omega arith) at.0 at.1).0
 
 module _ {M : Type 0} where
   -- the row is inside the table that the view speaks of
   pub at_view : (shape : Shape M) (v : View M) (r : Row) → v.threads ≡ shape.threads → v.rows ≡ shape.rows → Inside shape.threads shape.rows r → Inside v.threads v.rows r
   at_view shape v r threads rows inside = subst (λ (z : ℕ × ℕ). Inside z.0 z.1 r) (λ i. (sym threads i, sym rows i)) inside
 
-  pub place_view : (shape : Shape M) (v : View M) (r : Row) (p place : ℕ) → v.rows ≡ shape.rows → place ≡ place_of shape.rows r p → place ≡ place_of v.rows r p
-  place_view shape v r p place rows e = e ∙ ap (λ (n : ℕ). place_of n r p) (sym rows)
+  pub place_view : (shape : Shape M) (v : View M) (r : Row) (p place : ℕ) → v.rows ≡ shape.rows → v.offers ≡ shape.offers → place ≡ short_place shape.offers shape.rows r p → place ≡ short_place v.offers v.rows r p
+  place_view shape v r p place rows wide e = e ∙ (λ i. short_place (sym wide i) (sym rows i) r p)
 
   -- a pass that has moved still sits at its table
-  pub sits_still : (b : Board M) (old new : Seat (Option M) (View M)) → Sits b old → new.table_id ≡ old.table_id → new.me.0.threads ≡ old.me.0.threads → new.me.0.rows ≡ old.me.0.rows → new.me.0.first ≡ old.me.0.first → new.me.0.lives ≡ old.me.0.lives → new.me.0.nacks ≡ old.me.0.nacks → AgreesWithItself new.me.0 → Sits b new
-  sits_still b old new sits table threads rows first lives nacks agree =
+  pub sits_still : (b : Board M) (old new : Seat (Option M) (View M)) → Sits b old → new.table_id ≡ old.table_id → new.me.0.threads ≡ old.me.0.threads → new.me.0.rows ≡ old.me.0.rows → new.me.0.offers ≡ old.me.0.offers → new.me.0.first ≡ old.me.0.first → new.me.0.lives ≡ old.me.0.lives → new.me.0.nacks ≡ old.me.0.nacks → AgreesWithItself new.me.0 → Sits b new
+  sits_still b old new sits table threads rows wide first lives nacks agree =
       let same_threads = threads ∙ sits.1 in
       let same_rows = rows ∙ sits.2 in
-      (table ∙ sits.0, same_threads, same_rows, subst (λ (z : ℕ × ℕ). Coherent z.0 z.1 new.me.0.seen) (λ i. (same_threads i, same_rows i)) agree.0, first ∙ sits.4, lives ∙ sits.5, nacks ∙ sits.6, subst (λ (o : Opening). AreSettled o new.me.0.seen) (λ i. record { threads = (lives ∙ sits.5) i; nacks = (nacks ∙ sits.6) i }) agree.1)
+      (table ∙ sits.0, same_threads, same_rows, subst (λ (z : ℕ × ℕ). Coherent z.0 z.1 new.me.0.seen) (λ i. (same_threads i, same_rows i)) agree.0, first ∙ sits.4, lives ∙ sits.5, nacks ∙ sits.6, subst (λ (o : Opening). AreSettled o new.me.0.seen) (λ i. record { threads = (lives ∙ sits.5) i; nacks = (nacks ∙ sits.6) i }) agree.1, wide ∙ sits.8)
 
 -- no other word reads as a cell that is not Fresh
 pub not_cell : (c : Cell) (n : ℕ) → c ≢ Fresh → n ≢ cell_word c → cell_read n ≢ c

@@ -1,5 +1,5 @@
 -- A look at a nack, and a bind, are admitted by the rule.
-use Rattle.std.proofs.Common.{List, length, ◌+◌, ◌≤◌, false, ◌∷◌, inl, inr, ◌⊎◌, slice_index, slice_set, ◌≡◌, ◌≢◌, ℕ, ◌<◌, true, [], sym, refl, ap, ◌∙◌, subst, ⊎_elim, arith, unwrap_or, Option, Some, None, eqb}
+use Rattle.std.proofs.Common.{List, length, ◌+◌, ◌≤◌, false, ◌∷◌, inl, inr, ◌⊎◌, slice_index, slice_set, ◌≡◌, ◌≢◌, ℕ, ◌<◌, true, sym, refl, ap, ◌∙◌, subst, ⊎_elim, arith, unwrap_or, Option, Some, None, eqb, length-set}
 use Rattle.std.proofs.lemmas.List.{set-get_or}
 use Rattle.std.proofs.lemmas.Bool.{and_from, false≢true, lt-ltb}
 use mathlib.Core.Option.{some, none}
@@ -15,13 +15,16 @@ use Rattle.protocol_values.specs.declared.NackWord.{NackWord}
 use Rattle.protocol_values.specs.declared.NackWord.TheVariants.{Bound, Carried, Unbound}
 use Rattle.protocol_values.specs.declared.Course.{Course}
 use Rattle.protocol_values.specs.declared.Row.{Row}
-use Rattle.protocol.specs.Tables.{Table, bound_row, cell_at, course_at, is_fresh, is_nack, is_taken, nack_at, nack_place, nack_says, binding_at, bound_by, carried_at, carried_by}
+use Rattle.protocol.specs.Tables.{Table, bound_row, cell_at, course_at, is_fresh, is_nack, is_taken, nack_at, nack_says, binding_at, bound_by, carried_at, carried_by}
 use Rattle.protocol_values.specs.Values.{joined_of}
-use Rattle.protocol.specs.Openings.{Opening}
+use Rattle.protocol.specs.Openings.{Opening, greatest}
 use Rattle.protocol.specs.Worlds.{World, holder_at, with_nack, with_table}
 use Rattle.protocol.specs.Kept.{Kept}
 use Rattle.protocol.proofs.Linking.{cases_Option, some_inj, some_parts}
-use Rattle.protocol.proofs.Places.{same_nack_place, word_bound}
+use Rattle.protocol.specs.Short.{short_nack_place, widen}
+use Rattle.protocol.proofs.Places.{word_bound}
+use Rattle.protocol.proofs.Short.{set_nack, short_nack}
+use Rattle.cell_table.proofs.Shortness.{same_short_nack}
 use Rattle.protocol.proofs.Readings.{bound_is, carried_is, says_inside, carried_after_bind, course_after_bind, binding_bound, binding_kept, binding_was, cell_after_bind}
 use Rattle.protocol.proofs.Keeping.{holder_same, taken_before}
 use Rattle.cell_table.specs.declared.view.View.{View}
@@ -29,7 +32,7 @@ use Rattle.cell_table.specs.declared.view.Shape.{Shape}
 use Rattle.cell_table.specs.declared.view.Stage.TheVariants.{Aside, Resting}
 use Rattle.cell_table.specs.Sight.{Has, SawEnded}
 use Rattle.protocol.specs.Acting.{EndsAt, HasStart}
-use Rattle.cell_table.specs.Views.{Knows, bind_of, bound_nack, carried_nack, did, saw_nack}
+use Rattle.cell_table.specs.Views.{Knows, bind_of, bound_nack, carried_nack, did, saw_nack, opening_in}
 use Rattle.cell_table.specs.Rule.{IsToBegin, Keeps, beginning}
 use Rattle.cell_table.proofs.Standing.{is_earlier}
 use Rattle.protocol.specs.Standing.{Stands}
@@ -76,10 +79,10 @@ carried_so (Carried s) stamp e = ap Carried (some_inj s stamp e)
 
 module _ {M : Type 0} where
   -- a look at a nack leaves what a pass knows of its table
-  pub looked_same : (n : NackName) (says : NackWord) (v : View M) → ((saw_nack n says v).threads ≡ v.threads) × ((saw_nack n says v).rows ≡ v.rows) × ((saw_nack n says v).first ≡ v.first) × ((saw_nack n says v).lives ≡ v.lives) × ((saw_nack n says v).nacks ≡ v.nacks)
-  looked_same n Unbound v = (refl, refl, refl, refl, refl)
-  looked_same n (Bound b) v = (refl, refl, refl, refl, refl)
-  looked_same n (Carried stamp) v = (refl, refl, refl, refl, refl)
+  pub looked_same : (n : NackName) (says : NackWord) (v : View M) → ((saw_nack n says v).threads ≡ v.threads) × ((saw_nack n says v).rows ≡ v.rows) × ((saw_nack n says v).first ≡ v.first) × ((saw_nack n says v).lives ≡ v.lives) × ((saw_nack n says v).nacks ≡ v.nacks) × ((saw_nack n says v).offers ≡ v.offers)
+  looked_same n Unbound v = (refl, refl, refl, refl, refl, refl)
+  looked_same n (Bound b) v = (refl, refl, refl, refl, refl, refl)
+  looked_same n (Carried stamp) v = (refl, refl, refl, refl, refl, refl)
 
   -- what was seen by then agrees with itself
   coherent_nack : (w : World) (owner : Row → ℕ) (id : ℕ) (v : View M) (n : NackName) (says : NackWord) → Knows w owner id (saw_nack n says v) → Kept w → AgreesWithItself (saw_nack n says v)
@@ -136,17 +139,15 @@ taken_opened (Taken j) e = refl
 module _ {M : Type 0} (stands : Stands M) where
   -- A pass that makes a step on the word of a nack
   module _ (shape : Shape M) (id place : ℕ) (me : Me (Option M) (View M)) (nack : NackName)
-      (threads : me.0.threads ≡ shape.threads) (rows : me.0.rows ≡ shape.rows)
-      (inside : InsideNack shape.threads nack) (here : place ≡ nack_place shape.rows nack) where
+      (threads : me.0.threads ≡ shape.threads) (rows : me.0.rows ≡ shape.rows) (wide : me.0.offers ≡ shape.offers)
+      (inside : InsideNack shape.threads nack) (here : place ≡ short_nack_place shape.offers shape.rows nack) where
     at_table : 0 < me.0.threads
     at_table = let i = inside.0 in omega arith
 
-    one_nack : (m : NackName) → InsideNack me.0.threads m → place ≡ nack_place me.0.rows m → nack ≡ m
+    one_nack : (m : NackName) → InsideNack me.0.threads m → place ≡ short_nack_place me.0.offers me.0.rows m → nack ≡ m
     one_nack m i e =
-        let t : Table = record { threads = shape.threads; rows = shape.rows; words = []; opening = 0 } in
-        let at : nack_place shape.rows nack ≡ nack_place shape.rows m = sym here ∙ e ∙ ap (λ (n : ℕ). nack_place n m) rows in
-        let there : m.thread < shape.threads = subst (λ (n : ℕ). m.thread < n) threads i.0 in
-        let same = same_nack_place t nack m (nack_from t nack inside.0 inside.1) (nack_from t m there i.1) at in
+        let there : InsideNack shape.threads m = subst (λ (n : ℕ). InsideNack n m) threads i in
+        let same = same_short_nack shape.offers shape.threads shape.rows nack m inside there (sym here ∙ e ∙ (λ j. short_nack_place (wide j) (rows j) m)) in
         λ x. record { thread = same.0 x; k = same.1 x }
 
     module _ (s : State (Option M) (View M)) (k : Keeps stands shape s) (view : get_elem? s.views id ≡ some me.0) where
@@ -161,7 +162,7 @@ module _ {M : Type 0} (stands : Stands M) where
 
       word_is : nack_at k.world.table nack ≡ slice_index s.words place
       unfolding nack_at
-      word_is = ap (λ (t : Table). nack_at t nack) k.table ∙ ap (slice_index s.words) (sym here)
+      word_is = ap (λ (t : Table). nack_at t nack) k.table ∙ short_nack shape.offers shape.rows k.few_offers shape.threads s.words k.sized nack inside.0 inside.1 ∙ ap (slice_index s.words) (sym here)
 
       says_is : nack_says k.world.table nack ≡ nack_read (slice_index s.words place)
       says_is = says_inside k.world.table nack is_its_nack ∙ ap (λ w. unwrap_or (nack_of w) Unbound) word_is
@@ -231,7 +232,7 @@ module _ {M : Type 0} (stands : Stands M) where
       -- a nack that is bound to an earlier row of a held row's thread
       earlier_there : (b : Binding) → Has me.0.seen.held (bound_row nack b) → (c : Binding) → binding_at k.world.table nack ≡ Some c → c.sync < b.sync → 0 < length me.0.first → IsEarlier stands me.0.first me.0.results nack c
       earlier_there b held c is below filled =
-          let firsts : me.0.first ≡ shape.first.value.items = ap (λ (z : List (Option M) × Opening). z.0) (k.firsts id me.0 view at_table) in
+          let firsts : me.0.first ≡ shape.first.value.items = ap (λ (z : List (Option M) × Opening × ℕ). z.0) (k.firsts id me.0 view at_table) in
           let taken : is_taken (cell_at k.world.table (bound_row nack c)) ≡ true = taken_before k.world kept (bound_row nack c) (bound_row nack b) refl below (inr (me.0.seat, (known.mine (bound_row nack b) held).1)) in
           subst (λ (l : List (Option M)). IsEarlier stands l me.0.results nack c) (sym firsts)
           (is_earlier stands shape.first.value.items k.world k.owner id me.0 known kept nack c (k.housed (subst (λ (l : List (Option M)). 0 < length l) firsts filled)).rows (λ t rs h. k.results id me.0 t rs view h)
@@ -303,48 +304,51 @@ module _ {M : Type 0} (stands : Stands M) where
         unfolding with_nack row_bound
         binds =
             let mine = known.mine (bound_row nack b) held in
-            keeps_step stands shape s k id me.0 (bound_nack nack b me.0) _ k.owner view at_table refl refl refl (λ q h. h) (bind_of nack b) tt tt
+            keeps_step stands shape s k id me.0 (bound_nack nack b me.0) _ k.owner view at_table refl refl refl (λ q h. h) (bind_of nack b) tt tt tt
             (known.seat, (mine.1, known.fresh (bound_row nack b) held unopened, alive_unseen k.world me.0.seen nack.thread (stand_ends k.world k.owner id me.0 known (bound_row nack b) (inl (held, unopened))) alive, inside.1, range.scope, free))
             (record { same = (refl, refl, refl); acted = rests; acts = rests; held = λ q h. h; begun = λ q h. h; binds = λ n q scope e. subst (Has me.0.seen.held) (ap row_bound e) held }) (λ t rs h. inl h)
-            (ap (λ (t : Table). with_nack t nack b) k.table ∙ ap (λ (n : ℕ). sized shape (slice_set s.words n (nack_word (Bound b)))) (sym here))
+            (ap (λ (t : Table). with_nack t nack b) k.table
+            ∙ ap (λ (ws : List ℕ). record { threads = shape.threads; rows = shape.rows; words = ws; opening = greatest (opening_in shape) })
+            (sym (set_nack shape.offers shape.rows k.few_offers shape.threads s.words k.sized nack (nack_word (Bound b)) inside.0 inside.1) ∙ ap (λ (n : ℕ). widen shape.offers shape.rows shape.threads (slice_set s.words n (nack_word (Bound b)))) (sym here)))
+            (length-set s.words place (nack_word (Bound b)))
             (λ j u n e t. others j u n (k.knows j u e t))
             own
 
   module _ (shape : Shape M) (slots id place : ℕ) (me : Me (Option M) (View M)) (nack : NackName)
-      (threads : me.0.threads ≡ shape.threads) (rows : me.0.rows ≡ shape.rows)
+      (threads : me.0.threads ≡ shape.threads) (rows : me.0.rows ≡ shape.rows) (wide : me.0.offers ≡ shape.offers)
       (inside : InsideNack shape.threads nack) where
-    pub look_nack_allowed : place ≡ nack_place shape.rows nack → Allows (Keeps stands shape) slots id me place (λ n. n) (looked_nack (step slots place 0 0 none) me)
+    pub look_nack_allowed : place ≡ short_nack_place shape.offers shape.rows nack → Allows (Keeps stands shape) slots id me place (λ n. n) (looked_nack (step slots place 0 0 none) me)
     look_nack_allowed here s k homes view range =
         let o = nack_read (slice_index s.words place) in (
           saw_nack nack o me.0,
           keeps,
           tt,
-          learnt shape id place me nack threads rows inside here s k view (saw_nack nack o me.0) (seat_kept shape id place me nack threads rows inside here s k view o) (made_kept shape id place me nack threads rows inside here s k view o) (results_kept shape id place me nack threads rows inside here s k view o) (first_kept shape id place me nack threads rows inside here s k view o) (stays_kept shape id place me nack threads rows inside here s k view o) (begins_kept shape id place me nack threads rows inside here s k view o) (sees shape id place me nack threads rows inside here s k view),
+          learnt shape id place me nack threads rows wide inside here s k view (saw_nack nack o me.0) (seat_kept shape id place me nack threads rows wide inside here s k view o) (made_kept shape id place me nack threads rows wide inside here s k view o) (results_kept shape id place me nack threads rows wide inside here s k view o) (first_kept shape id place me nack threads rows wide inside here s k view o) (stays_kept shape id place me nack threads rows wide inside here s k view o) (begins_kept shape id place me nack threads rows wide inside here s k view o) (sees shape id place me nack threads rows wide inside here s k view),
           λ m at.
-              let same = one_nack shape id place me nack threads rows inside here m at.0 at.1 in (
+              let same = one_nack shape id place me nack threads rows wide inside here m at.0 at.1 in (
                 ap (λ (n : NackName). (saw_nack n o me.0, me.1)) same,
-                agrees_nack shape id place me nack threads rows inside here s k view m same,
-                coherent_nack k.world k.owner id me.0 nack o (sees shape id place me nack threads rows inside here s k view) (world_kept stands shape s k),
+                agrees_nack shape id place me nack threads rows wide inside here s k view m same,
+                coherent_nack k.world k.owner id me.0 nack o (sees shape id place me nack threads rows wide inside here s k view) (world_kept stands shape s k),
               ),
         )
 
     -- a nack of a held row's thread: where it is not bound, it is bound to the row
-    pub bind_allowed : (b : Binding) → IsBindingInRange b → me.0.stage ≡ Resting → Has me.0.seen.held (bound_row nack b) → ¬ Has me.0.seen.opened (bound_row nack b) → (¬ SawEnded me.0.seen nack.thread) → place ≡ nack_place shape.rows nack
+    pub bind_allowed : (b : Binding) → IsBindingInRange b → me.0.stage ≡ Resting → Has me.0.seen.held (bound_row nack b) → ¬ Has me.0.seen.opened (bound_row nack b) → (¬ SawEnded me.0.seen nack.thread) → place ≡ short_nack_place shape.offers shape.rows nack
         → Allows (Keeps stands shape) slots id me place (λ x. either (eqb x (nack_word Unbound)) (nack_word (Bound b)) x) (tried_bind stands (step slots place (nack_word Unbound) (nack_word (Bound b)) none) me)
     bind_allowed b in_range resting held unopened alive here s k homes view range =
         let x = slice_index s.words place in
-        let read = binding_is shape id place me nack threads rows inside here s k view in
-        let knows = known shape id place me nack threads rows inside here s k view in
-        let one : (m : NackName) → AtNack (step {S = Option M} slots place (nack_word Unbound) (nack_word (Bound b)) none) me m → nack ≡ m = λ m at. one_nack shape id place me nack threads rows inside here m at.0 at.1 in
+        let read = binding_is shape id place me nack threads rows wide inside here s k view in
+        let knows = known shape id place me nack threads rows wide inside here s k view in
+        let one : (m : NackName) → AtNack (step {S = Option M} slots place (nack_word Unbound) (nack_word (Bound b)) none) me m → nack ≡ m = λ m at. one_nack shape id place me nack threads rows wide inside here m at.0 at.1 in
         exchanged x (nack_word Unbound) (nack_word (Bound b))
         (λ y. (w : View M) × (a : Act (Option M)) × Valid s.homes me.1 a × Keeps stands shape (stepped s place y id me.1 w a) × tried_bind stands (step slots place (nack_word Unbound) (nack_word (Bound b)) none) me x (w, carried_after me.1 a))
         (λ e.
         let unbound_read : nack_read x ≡ Unbound = ap (λ w. unwrap_or (nack_of w) Unbound) e ∙ ap (λ (w : Option NackWord). unwrap_or w Unbound) (nack_of-nack_word Unbound tt) in
-        let free : nack_says k.world.table nack ≡ Unbound = says_is shape id place me nack threads rows inside here s k view ∙ unbound_read in
+        let free : nack_says k.world.table nack ≡ Unbound = says_is shape id place me nack threads rows wide inside here s k view ∙ unbound_read in
         let unbound : binding_at k.world.table nack ≡ None = read ∙ ap bound_by unbound_read in
-        let uncarried : carried_at k.world.table nack ≡ None = carried_now shape id place me nack threads rows inside here s k view ∙ ap carried_by unbound_read in
+        let uncarried : carried_at k.world.table nack ≡ None = carried_now shape id place me nack threads rows wide inside here s k view ∙ ap carried_by unbound_read in
         let after = did (bind_of nack b) (bound_nack nack b me.0) in
-        let moved : Keeps stands shape (stepped s place (nack_word (Bound b)) id me.1 after keeps) = binds shape id place me nack threads rows inside here s k view b in_range resting held unopened alive free in (
+        let moved : Keeps stands shape (stepped s place (nack_word (Bound b)) id me.1 after keeps) = binds shape id place me nack threads rows wide inside here s k view b in_range resting held unopened alive free in (
           after,
           keeps,
           tt,
@@ -357,17 +361,17 @@ module _ {M : Type 0} (stands : Stands M) where
                   λ stamp h. let bad : None ≡ Some stamp = sym uncarried ∙ knows.carried nack stamp (subst (λ (n : NackName). Has me.0.seen.carried (n, stamp)) (sym nack_same) h) in cc,
                 ),
             λ other. absurd (other unbound_read),
-            agreed shape id place me nack threads rows inside here s k view (nack_word (Bound b)) after refl moved,
+            agreed shape id place me nack threads rows wide inside here s k view (nack_word (Bound b)) after refl moved,
           ),
         ))
         (λ f.
         let says : NackWord = nack_read x in
-        let taken : says ≢ Unbound = not_free shape id place me nack threads rows inside here s k view f in
+        let taken : says ≢ Unbound = not_free shape id place me nack threads rows wide inside here s k view f in
         let after = saw_nack nack says me.0 in
-        let seen = sees shape id place me nack threads rows inside here s k view in
-        let found : FoundNack stands me.0 nack b says = found_so shape id place me nack threads rows inside here s k view b held unopened says refl taken in
+        let seen = sees shape id place me nack threads rows wide inside here s k view in
+        let found : FoundNack stands me.0 nack b says = found_so shape id place me nack threads rows wide inside here s k view b held unopened says refl taken in
         let moved : Keeps stands shape (stepped s place x id me.1 after keeps) =
-        learnt shape id place me nack threads rows inside here s k view after (seat_kept shape id place me nack threads rows inside here s k view says) (made_kept shape id place me nack threads rows inside here s k view says) (results_kept shape id place me nack threads rows inside here s k view says) (first_kept shape id place me nack threads rows inside here s k view says) (stays_kept shape id place me nack threads rows inside here s k view says) (begins_kept shape id place me nack threads rows inside here s k view says) seen in (
+        learnt shape id place me nack threads rows wide inside here s k view after (seat_kept shape id place me nack threads rows wide inside here s k view says) (made_kept shape id place me nack threads rows wide inside here s k view says) (results_kept shape id place me nack threads rows wide inside here s k view says) (first_kept shape id place me nack threads rows wide inside here s k view says) (stays_kept shape id place me nack threads rows wide inside here s k view says) (begins_kept shape id place me nack threads rows wide inside here s k view says) seen in (
           after,
           keeps,
           tt,

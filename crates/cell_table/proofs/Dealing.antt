@@ -1,5 +1,5 @@
 -- The rule holds at the start, and while the first pass deals the rows.
-use Rattle.std.proofs.Common.{slice_set, ◌≡◌, ◌≢◌, ℕ, zero, suc, ◌+◌, ◌*◌, ◌%◌, ◌<◌, ◌≤◌, Bool, true, false, cond, eqb, ◌&&◌, List, [], ◌∷◌, ◌++◌, map, length, replicate, Option, sym, refl, ap, ◌∙◌, subst, ◌⊎◌, inl, inr, ⊎_elim, arith, Some, None, slice_get}
+use Rattle.std.proofs.Common.{slice_set, ◌≡◌, ◌≢◌, ℕ, zero, suc, ◌+◌, ◌*◌, ◌%◌, ◌<◌, ◌≤◌, Bool, true, false, cond, eqb, ◌&&◌, List, [], ◌∷◌, ◌++◌, map, length, replicate, Option, sym, refl, ap, ◌∙◌, subst, ◌⊎◌, inl, inr, ⊎_elim, arith, Some, None, slice_get, unwrap_or}
 use Rattle.std.proofs.lemmas.Bool.{true≢false, cases_Bool, lt-ltb, ltb-true, eq-eqb, eqb-true, ne_eqb, and_parts, and_from}
 use Rattle.std.proofs.Math.Bool.{and-false}
 use Rattle.std.proofs.Math.Dec.{ltb}
@@ -17,8 +17,10 @@ use Rattle.protocol_values.specs.declared.Row.{Row}
 use Rattle.protocol_values.specs.declared.Cell.TheVariants.{Fresh, Claimed}
 use Rattle.protocol.specs.declared.opening.Life.{Life}
 use Rattle.protocol.specs.declared.opening.Life.TheVariants as life
+use Rattle.protocol_values.specs.Words.{count_of}
+use Rattle.protocol.specs.Short.{short_len}
 use Rattle.protocol.specs.Openings.{AreFirstWords, Begins, HadEnded, HadStarted, IsOpening, Opening, course_for, greatest, held_first, is_running, thread_in}
-use Rattle.protocol.specs.Tables.{all_rows, course_at, thread_len, cell_at, word_at, binding_at, bound_row, carried_at, is_fresh, is_row}
+use Rattle.protocol.specs.Tables.{all_rows, course_at, cell_at, word_at, binding_at, bound_row, carried_at, is_fresh, is_row}
 use Rattle.protocol.specs.Worlds.{World, holder_at, first_row}
 use Rattle.protocol.proofs.Beginning.{first_binding, first_carried, first_cell, first_course}
 use Rattle.protocol.proofs.Linking.{some_inj}
@@ -104,10 +106,15 @@ lay [] t y e = absurd (mathlib.Core.Option.some-ne-none (some y) (sym e))
 lay (x ∷ xs) zero y e = ap Some (mathlib.Core.Option.some-injective _ _ (mathlib.Core.Option.some-injective _ _ e))
 lay (x ∷ xs) (suc t) y e = lay xs t y e
 
+-- the word of no offers
+none_told : (most : ℕ) → unwrap_or (count_of 0) 0 ≤ most
+unfolding count_of
+none_told most = omega arith
+
 module _ {M : Type 0} (stands : Stands M) where
   -- THE START
   module _ (shape : Shape M) (ws : List ℕ) (xs : List (Option M)) (slots : xs ≡ shape.first.value.items) (machines : AreMachines (opening_in shape) shape.first.value.items)
-      (size : shape.threads ≡ length (opening_in shape).threads) (opens : IsOpening (opening_in shape) shape.rows) (one_row : 1 ≤ shape.rows) (few_rows : shape.rows ≤ 1024) (one_pass : 1 ≤ shape.passes)
+      (size : shape.threads ≡ length (opening_in shape).threads) (opens : IsOpening (opening_in shape) shape.rows) (one_row : 1 ≤ shape.rows) (few_rows : shape.rows ≤ 1024) (one_pass : 1 ≤ shape.passes) (few_offers : shape.offers ≤ 8) (sized : length ws ≡ shape.threads * short_len shape.offers shape.rows)
       (words : AreFirstWords (opening_in shape) (words_of shape ws)) where
     abbrev o : Opening
     o = opening_in shape
@@ -135,7 +142,7 @@ module _ {M : Type 0} (stands : Stands M) where
     its_course : (t g : ℕ) → t < shape.threads → RunsIn o t → EndsAt (course_at begun.table t) g → ⊥
     its_course t g h runs e = running_unended (thread_in o t).0 (thread_in o t).1 g runs (subst (λ (c : Course). EndsAt c g) (first_course o begun.table words low t h) e)
 
-    first_there : (id : ℕ) (v : View M) → get_elem? (dealer shape 0 ∷ []) id ≡ some v → beginning v ≡ (shape.first.value.items, o)
+    first_there : (id : ℕ) (v : View M) → get_elem? (dealer shape 0 ∷ []) id ≡ some v → beginning v ≡ (shape.first.value.items, o, shape.offers)
     first_there zero v e = ap (λ (u : View M). beginning u) (sym (mathlib.Core.Option.some-injective _ _ e))
     first_there (suc id) v e = absurd (mathlib.Core.Option.some-ne-none v (sym e))
 
@@ -203,6 +210,9 @@ module _ {M : Type 0} (stands : Stands M) where
     keeps_start = record {
       opens = opens;
       few_rows = few_rows;
+      few_offers = few_offers;
+      sized = sized;
+      counts = λ r row. subst (λ (n : ℕ). unwrap_or (count_of n) 0 ≤ shape.offers) (sym (words.blank r 1 row (omega arith))) (none_told shape.offers);
       moves = [];
       interleaved = record { made = λ id v e. one_view id v e; no_others = λ id h. refl };
       start = begun;
@@ -445,6 +455,9 @@ module _ {M : Type 0} (stands : Stands M) where
     deals = record {
       opens = h.opens;
       few_rows = h.few_rows;
+      few_offers = h.few_offers;
+      sized = h.sized;
+      counts = h.counts;
       moves = h.moves;
       interleaved = one_more_pass h.moves (slice_set s.views id (dealer shape (k + 1))) (dealt_pass (dealer shape k))
           (same_made h.moves s.views id (dealer shape k) (dealer shape (k + 1)) view h.interleaved refl) refl;
@@ -457,7 +470,7 @@ module _ {M : Type 0} (stands : Stands M) where
       knows = λ j u e t. ⊎_elim (λ old. at_old j u old t) (λ now. subst (λ (z : ℕ × (View M)). Knows h.world owner' z.0 z.1) (λ i. (sym (now.0 ∙ length-set s.views id (dealer shape (k + 1))) i, now.1 i)) its_pass) (at_end (slice_set s.views id (dealer shape (k + 1))) (dealt_pass (dealer shape k)) u j e);
       seated = new_seat;
       firsts = λ j u e t. ⊎_elim
-          (λ old. firsts_with s.views id (dealer shape k) (dealer shape (k + 1)) (shape.first.value.items, opening_in shape) view refl some_threads h.firsts j u old t)
+          (λ old. firsts_with s.views id (dealer shape k) (dealer shape (k + 1)) (shape.first.value.items, opening_in shape, shape.offers) view refl some_threads h.firsts j u old t)
           (λ now. ap (λ (z : View M). beginning z) (sym now.1))
           (at_end (slice_set s.views id (dealer shape (k + 1))) (dealt_pass (dealer shape k)) u j e);
       started = h.started;
@@ -480,9 +493,9 @@ module _ {M : Type 0} (stands : Stands M) where
   deal_allowed shape id k below some_threads s h view = deals shape id k below some_threads s h view
 
 -- a table has some words
-pub some_words : (threads rows : ℕ) → 1 ≤ threads → 0 < threads * thread_len rows
-some_words zero rows h = absurd (omega arith)
-some_words (suc threads) rows h = omega (arith, Rattle.std.proofs.Math.Nat.suc-mul threads (thread_len rows))
+pub some_words : (offers threads rows : ℕ) → 1 ≤ threads → 0 < threads * short_len offers rows
+some_words offers zero rows h = absurd (omega arith)
+some_words offers (suc threads) rows h = omega (arith, Rattle.std.proofs.Math.Nat.suc-mul threads (short_len offers rows))
 
 -- one more in a list that is read by number
 pub each_more : {A : Type 0} (P : ℕ → A → Type 0) (xs ys : List A) (x : A) (n : ℕ) → length xs ≡ n → ys ≡ xs ++ x ∷ [] → P n x → ((k : ℕ) (y : A) → slice_get xs k ≡ Some y → P k y) → (k : ℕ) (y : A) → slice_get ys k ≡ Some y → P k y

@@ -1,5 +1,5 @@
 -- The words of a table at its end, and what their ledger says.
-use Rattle.std.proofs.Common.{Option, Bool, false, ◌≡◌, ◌≢◌, ℕ, zero, suc, ◌+◌, ◌<◌, ◌≤◌, List, [], ◌∷◌, length, slice_index, slice_set, slice_get, get_or, sym, refl, ap, ◌∙◌, subst, ⊎_elim, arith, Some, None}
+use Rattle.std.proofs.Common.{Option, Bool, false, ◌≡◌, ◌≢◌, ℕ, zero, suc, ◌+◌, ◌<◌, ◌≤◌, List, [], ◌∷◌, length, slice_index, slice_set, slice_get, get_or, sym, refl, ap, ◌∙◌, subst, ⊎_elim, arith, Some, None, ◌*◌}
 use Rattle.std.proofs.lemmas.List.{ext_get_or, get_or-set_same, get_or-set_other}
 use mathlib.Core.Option.{some, none}
 use lib.ListN.{get_elem?}
@@ -14,7 +14,9 @@ use Rattle.protocol.specs.Kept.{Linked}
 use Rattle.protocol.specs.declared.opening.Life.{Life}
 use Rattle.protocol.specs.declared.opening.Life.TheVariants as life
 use Rattle.protocol.specs.Openings.{HadEnded, HadStarted, Opening, course_for, greatest, state_in, thread_in, word_for}
-use Rattle.protocol.specs.Tables.{Table, carried_by, cell_at, course_at, is_fresh, is_taken, joined_at, marks_at, offer_at, place_of, word_at}
+use Rattle.protocol.specs.Short.{short_len, short_place, wide_table}
+use Rattle.protocol.proofs.Short.{short_word}
+use Rattle.protocol.specs.Tables.{Table, carried_by, cell_at, course_at, is_fresh, is_taken, joined_at, marks_at, offer_at, word_at}
 use Rattle.protocol.proofs.Closing.{none_later}
 use Rattle.protocol.proofs.Places.{row_from}
 use Rattle.protocol_values.specs.Words.{cell_of}
@@ -172,11 +174,13 @@ module _ {M : Type 0} (stands : Stands M) where
         }
 
 -- the ledger of these words, where the greatest stamp before the table is told
-pub sized_ledger : {M : Type 0} (shape : Shape M) (ws : List ℕ) (stamps : ℕ) (l : Ledger) → stamps ≡ greatest (opening_in shape) → l ≡ ledger_of (record { threads = shape.threads; rows = shape.rows; words = ws; opening = stamps }) → l ≡ ledger_of (sized shape ws)
-sized_ledger shape ws stamps l is told = told ∙ ap (λ (n : ℕ). ledger_of (record { threads = shape.threads; rows = shape.rows; words = ws; opening = n })) is
+pub sized_ledger : {M : Type 0} (shape : Shape M) (ws : List ℕ) (stamps : ℕ) (l : Ledger) → stamps ≡ greatest (opening_in shape) → l ≡ ledger_of (wide_table shape.offers (record { threads = shape.threads; rows = shape.rows; words = ws; opening = stamps })) → l ≡ ledger_of (sized shape ws)
+sized_ledger shape ws stamps l is told = told ∙ ap (λ (n : ℕ). ledger_of (wide_table shape.offers (record { threads = shape.threads; rows = shape.rows; words = ws; opening = n }))) is
 
 -- A CELL, by the words alone
-pub cell_from : {M : Type 0} (shape : Shape M) (ws : List ℕ) (r : Row) → r.thread < shape.threads → r.sync < shape.rows
-    → cell_at (sized shape ws) r ≡ unwrap_or (cell_of (slice_index ws (place_of shape.rows r 0))) Fresh
+pub cell_from : {M : Type 0} (shape : Shape M) (ws : List ℕ) (r : Row) → shape.offers ≤ 8 → length ws ≡ shape.threads * short_len shape.offers shape.rows → r.thread < shape.threads → r.sync < shape.rows
+    → cell_at (sized shape ws) r ≡ unwrap_or (cell_of (slice_index ws (short_place shape.offers shape.rows r 0))) Fresh
 unfolding cell_at word_at
-cell_from shape ws r a b = ap (λ (c : Bool). if c then unwrap_or (cell_of (slice_index ws (place_of shape.rows r 0))) Fresh else Fresh) (row_from (sized shape ws) r a b)
+cell_from shape ws r few size a b =
+    ap (λ (c : Bool). if c then unwrap_or (cell_of (word_at (sized shape ws) r 0)) Fresh else Fresh) (row_from (sized shape ws) r a b)
+    ∙ ap (λ (n : ℕ). unwrap_or (cell_of n) Fresh) (short_word shape.offers shape.rows few shape.threads ws size r 0 a b (omega arith))

@@ -1,5 +1,6 @@
 -- A thread is ended at a place of it: the rule admits it, and whoever stands there has seen it.
-use Rattle.std.proofs.Common.{◌≡◌, ◌≢◌, ◌<◌, ℕ, ◌∷◌, length, Option, Some, slice_set, sym, refl, ap, ◌∙◌, subst, inl, inr, ⊎_elim}
+use Rattle.cell_table.proofs.Lives.{wrote_life}
+use Rattle.std.proofs.Common.{◌≡◌, ◌≢◌, ◌<◌, ℕ, ◌∷◌, length, Option, Some, sym, refl, ap, ◌∙◌, subst, inl, inr, ⊎_elim, length-set}
 use Rattle.std.proofs.lemmas.Bool.{cases_eq}
 use mathlib.Core.Option.{some, none}
 use lib.ListN.{get_elem?}
@@ -15,7 +16,8 @@ use Rattle.protocol_values.specs.declared.Step.TheVariants.{Bind, Finish}
 use Rattle.protocol_values.specs.Values.{joined_of}
 use Rattle.protocol.specs.Kept.{Kept}
 use Rattle.protocol.specs.Standing.{Stands}
-use Rattle.protocol.specs.Tables.{Table, binding_at, course_at, course_place, is_fresh, is_taken, start_of}
+use Rattle.protocol.specs.Short.{short_course_place}
+use Rattle.protocol.specs.Tables.{Table, binding_at, course_at, is_fresh, is_taken, start_of}
 use Rattle.protocol.specs.Worlds.{Allowed, World, after_step, ended_at, with_course, with_table}
 use Rattle.protocol.proofs.Keeping.{holder_same, rows_lived, threads_lived}
 use Rattle.protocol.proofs.Places.{word_lived}
@@ -31,7 +33,6 @@ use Rattle.cell_table.specs.Told.{finished}
 use Rattle.cell_table.specs.Views.{Knows, ended_thread, saw_course}
 use Rattle.protocol.proofs.Onward.{grows-step}
 use Rattle.cell_table.proofs.Housing.{housed_step}
-use Rattle.cell_table.proofs.Allowing.{sized}
 use Rattle.cell_table.proofs.Following.{Follows, IsPlace, alive_unseen, knows_anew, one_place, stand_ends, stand_owned, stand_place, stands_at}
 use Rattle.cell_table.proofs.Starts.{at_table, known, kept, its, one_course, one_life}
 use Rattle.cell_table.proofs.Turning.{does_now, keeps_housed, moved_coherent}
@@ -126,18 +127,18 @@ sync_of_end (Ended start sync) = sync
 
 module _ {M : Type 0} (stands : Stands M) where
   module _ (shape : Shape M) (slots id place : ℕ) (me : Me (Option M) (View M)) (x : Row)
-      (threads : me.0.threads ≡ shape.threads) (rows : me.0.rows ≡ shape.rows) (inside : x.thread < shape.threads) (here : place ≡ course_place shape.rows x.thread)
+      (threads : me.0.threads ≡ shape.threads) (rows : me.0.rows ≡ shape.rows) (wide : me.0.offers ≡ shape.offers) (inside : x.thread < shape.threads) (here : place ≡ short_course_place shape.offers shape.rows x.thread)
       (finishing : 0 < length shape.first.value.items → IsFinishing stands shape.first.value.items me.0.results x) (resting : me.0.stage ≡ Resting) (stand : IsStand me.0.rows me.0.seen x) (going : ¬ SawEnded me.0.seen x.thread)
       (start : ℕ) (begun : Has me.0.seen.started (x.thread, start)) (range : IsCourseInRange (Ended start x.sync)) where
     module _ (s : State (Option M) (View M)) (k : Keeps stands shape s) (view : get_elem? s.views id ≡ some me.0) where
       knows : Knows k.world k.owner id me.0
-      knows = known stands shape slots id place me x.thread threads rows inside here s k view
+      knows = known stands shape slots id place me x.thread threads rows wide inside here s k view
 
       kept_now : Kept k.world
-      kept_now = kept stands shape slots id place me x.thread threads rows inside here s k view
+      kept_now = kept stands shape slots id place me x.thread threads rows wide inside here s k view
 
       its_thread : x.thread < k.world.table.threads
-      its_thread = its stands shape slots id place me x.thread threads rows inside here s k view
+      its_thread = its stands shape slots id place me x.thread threads rows wide inside here s k view
 
       abbrev at_seat : Seat
       at_seat = record { 0 = me.0.seat }
@@ -160,13 +161,14 @@ module _ {M : Type 0} (stands : Stands M) where
       ends_so : Keeps stands shape (stepped s place (course_word (Ended start x.sync)) id me.1 (ended_thread x start me.0) keeps)
       unfolding with_course
       ends_so =
-          keeps_housed stands shape s k id me.0 (saw_course x.thread (Ended start x.sync) me.0) _ s.homes k.owner view (at_table stands shape slots id place me x.thread threads rows inside here) refl refl refl
-          (Finish x) (λ some_first. (tt, does_now stands shape s k id me.0 (after_step k.world at_seat (Finish x)).table x (λ value earlier. stands.ends shape.first.value.items value x.thread earlier) view (grows-step k.world at_seat (Finish x) kept_now allowed) (finishing some_first))) allowed
+          keeps_housed stands shape s k id me.0 (saw_course x.thread (Ended start x.sync) me.0) _ s.homes k.owner view (at_table stands shape slots id place me x.thread threads rows wide inside here) refl refl refl
+          (Finish x) (λ some_first. (tt, does_now stands shape s k id me.0 (after_step k.world at_seat (Finish x)).table x (λ value earlier. stands.ends shape.first.value.items value x.thread earlier) view (grows-step k.world at_seat (Finish x) kept_now allowed) (finishing some_first))) tt allowed
           (record { same = (refl, refl, refl); acted = rests; acts = rests; held = λ q h. h; begun = λ q h. h; binds = λ n q scope e. let bad : Finish x ≡ Bind n q scope = e in cc }) (λ t rs h. inl h)
-          (ap (λ (v : World). v.table) after_is ∙ ap (λ (t : Table). with_course t x.thread (Ended start x.sync)) k.table ∙ ap (λ (n : ℕ). sized shape (slice_set s.words n (course_word (Ended start x.sync)))) (sym here))
+          (ap (λ (v : World). v.table) after_is ∙ ap (λ (t : Table). with_course t x.thread (Ended start x.sync)) k.table ∙ wrote_life stands shape s k place x.thread (course_word (Ended start x.sync)) inside here)
+          (length-set s.words place (course_word (Ended start x.sync)))
           (λ j u n e t. subst (λ (v : World). Knows v k.owner j u) (sym after_is) (others_end k.world x start kept_now its_thread range running k.owner id (stand_owned k.world k.owner id me.0 knows x stand) (stand_place k.world k.owner id me.0 knows x stand) j u n (k.knows j u e t)))
           (subst (λ (v : World). Knows v k.owner id (saw_course x.thread (Ended start x.sync) me.0)) (sym after_is) (own_end k.world x start kept_now its_thread range running k.owner id (stand_owned k.world k.owner id me.0 knows x stand) (stand_place k.world k.owner id me.0 knows x stand) me.0 knows))
-          (λ some_first. housed_step stands shape.first.value.items k.world at_seat (Finish x) s.homes s.views id (ended_thread x start me.0) kept_now allowed tt (λ q b. (k.housed some_first).waiting id me.0 q view (at_table stands shape slots id place me x.thread threads rows inside here) b) (k.housed some_first))
+          (λ some_first. housed_step stands shape.first.value.items k.world at_seat (Finish x) s.homes s.views id (ended_thread x start me.0) kept_now allowed tt (λ q b. (k.housed some_first).waiting id me.0 q view (at_table stands shape slots id place me x.thread threads rows wide inside here) b) (k.housed some_first))
 
     pub finish_allowed : Allows (Keeps stands shape) slots id me place (λ n. course_word (Ended start x.sync)) (λ n. finished (step slots place (course_word (Ended start x.sync)) 0 none) me (course_word (Ended start x.sync)))
     finish_allowed s k homes view in_words =
@@ -176,11 +178,11 @@ module _ {M : Type 0} (stands : Stands M) where
           tt,
           moved,
           λ r first at given_range same_word.
-              let thread : x.thread ≡ r.thread = one_life stands shape slots id place me x.thread threads rows inside here r.thread at in
+              let thread : x.thread ≡ r.thread = one_life stands shape slots id place me x.thread threads rows wide inside here r.thread at in
               let course : Ended start x.sync ≡ Ended first r.sync = one_course (Ended start x.sync) (Ended first r.sync) range given_range same_word in
               let starts : start ≡ first = ap start_of course in
               let row : x ≡ r = same_row x r thread (ap sync_of_end course) in (
                 (λ i. (ended_thread (row i) (starts i) me.0, me.1)),
-                moved_coherent stands shape s.views _ _ id me.0 (ended_thread x start me.0) view refl (at_table stands shape slots id place me x.thread threads rows inside here) moved,
+                moved_coherent stands shape s.views _ _ id me.0 (ended_thread x start me.0) view refl (at_table stands shape slots id place me x.thread threads rows wide inside here) moved,
               ),
         )

@@ -169,6 +169,9 @@ module _ {M : Type 0} (stands : Stands M) where
   tell_allowed shape id v at_table s k view = record {
     opens = k.opens;
     few_rows = k.few_rows;
+    few_offers = k.few_offers;
+    sized = k.sized;
+    counts = k.counts;
     moves = k.moves;
     interleaved = one_more_pass k.moves (slice_set s.views id v) (told_pass v) (same_made k.moves s.views id v v view k.interleaved refl) refl;
     start = k.start;
@@ -189,7 +192,7 @@ module _ {M : Type 0} (stands : Stands M) where
         (λ t moves. absurd (moves refl))
         (seated_seen s.views id v v view (refl, refl, refl, refl, refl, λ q h. inl h) refl refl k.seated);
     firsts = λ j u e t. ⊎_elim
-        (λ old. firsts_with s.views id v v (shape.first.value.items, opening_in shape) view refl at_table k.firsts j u old t)
+        (λ old. firsts_with s.views id v v (shape.first.value.items, opening_in shape, shape.offers) view refl at_table k.firsts j u old t)
         (λ (now : (j ≡ length (slice_set s.views id v)) × (told_pass v ≡ u)). ap (λ (z : View M). beginning z) (sym now.1) ∙ k.firsts id v view at_table)
         (at_end (slice_set s.views id v) (told_pass v) u j e);
     started = k.started;
@@ -222,6 +225,9 @@ module _ {M : Type 0} (stands : Stands M) where
   hear_allowed shape id v other w at_table told_at nothing s k view apart told = record {
     opens = k.opens;
     few_rows = k.few_rows;
+    few_offers = k.few_offers;
+    sized = k.sized;
+    counts = k.counts;
     moves = k.moves;
     interleaved = same_made k.moves (slice_set s.views id (heard_pass v w)) other w spent_pass told
         (same_made k.moves s.views id v (heard_pass v w) view k.interleaved refl) (ap (at_seat w.seat) nothing);
@@ -238,7 +244,7 @@ module _ {M : Type 0} (stands : Stands M) where
     seated = seated_spent (slice_set s.views id (heard_pass v w)) other w told (seated_seen s.views id v (heard_pass v w) view (refl, refl, refl, refl, refl, λ q h. inl h) refl refl k.seated);
     firsts = λ j u e t. ⊎_elim
         (λ (a : (j ≡ other) × (spent_pass ≡ u)). let z : u.threads ≡ 0 = ap (λ (y : View M). y.threads) (sym a.1) in absurd (omega arith))
-        (λ (a : (j ≢ other) × (get_elem? (slice_set s.views id (heard_pass v w)) j ≡ some u)). firsts_with s.views id v (heard_pass v w) (shape.first.value.items, opening_in shape) view refl at_table k.firsts j u a.1 t)
+        (λ (a : (j ≢ other) × (get_elem? (slice_set s.views id (heard_pass v w)) j ≡ some u)). firsts_with s.views id v (heard_pass v w) (shape.first.value.items, opening_in shape, shape.offers) view refl at_table k.firsts j u a.1 t)
         (at_set (slice_set s.views id (heard_pass v w)) other j spent_pass u e);
     started = k.started;
     ended = k.ended;

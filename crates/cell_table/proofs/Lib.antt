@@ -1,6 +1,7 @@
 pub mod Allowing
 pub mod Binders
 pub mod Binding
+pub mod Counts
 pub mod Courses
 pub mod Dealing
 pub mod Directions
@@ -18,6 +19,7 @@ pub mod Once
 pub mod Others
 pub mod Results
 pub mod Seating
+pub mod Shortness
 pub mod Standing
 pub mod Starts
 pub mod Takings

@@ -1,5 +1,5 @@
 -- A thread is started: the rule admits it, and whoever starts it holds its first row.
-use Rattle.std.proofs.Common.{◌≡◌, ◌≢◌, ◌<◌, ℕ, true, false, ◌∷◌, length, Option, Some, None, slice_index, slice_set, sym, refl, ap, ◌∙◌, subst, inl, inr, ⊎_elim, arith, unwrap_or, eqb}
+use Rattle.std.proofs.Common.{◌≡◌, ◌≢◌, ◌<◌, ℕ, true, false, ◌∷◌, length, Option, Some, None, slice_index, sym, refl, ap, ◌∙◌, subst, inl, inr, ⊎_elim, arith, unwrap_or, eqb, length-set}
 use Rattle.std.proofs.lemmas.Bool.{cases_Bool, cases_eq}
 use Rattle.std.proofs.lemmas.List.{set-get_or}
 use mathlib.Core.Option.{some, none}
@@ -26,7 +26,10 @@ use Rattle.protocol.specs.Worlds.{Allowed, World, after_step, begun, first_row, 
 use Rattle.protocol.proofs.Keeping.{begun_held, begun_other, holder_same, rows_lived, stamp_in_range, threads_lived}
 use Rattle.protocol.proofs.Linking.{cases_Option, some_parts}
 use Rattle.protocol.proofs.Onward.{grows-step}
-use Rattle.protocol.proofs.Places.{row_from, same_course_place, word_lived}
+use Rattle.protocol.specs.Short.{short_course_place}
+use Rattle.protocol.proofs.Places.{row_from, word_lived}
+use Rattle.protocol.proofs.Short.{short_course}
+use Rattle.cell_table.proofs.Shortness.{same_short_course}
 use Rattle.protocol.proofs.Readings.{binding_after_life, carried_after_life, cell_after_life, course_inside, course_lived, course_lived_other}
 use Rattle.protocol.proofs.RowLemmas.{put, put_other, put_same, row_ne}
 use Rattle.cell_table.specs.declared.view.Shape.{Shape}
@@ -37,11 +40,10 @@ use Rattle.cell_table.specs.Sight.{Has, HasSeenLast, IsStand, IsUnseen, SawEnded
 use Rattle.protocol.specs.Acting.{EndsAt, HasStart}
 use Rattle.cell_table.specs.Told.{AgreesLife, course_read, tried_start, turned_to}
 use Rattle.cell_table.specs.Views.{Knows, at_stage, behind_last, saw_course, started_thread, stood_at}
-use Rattle.cell_table.proofs.Allowing.{sized}
 use Rattle.cell_table.proofs.Courses.{fresh_is}
 use Rattle.cell_table.proofs.Following.{Follows, alive_unseen, hold_more, knows_anew, knows_follows, knows_owned, one_place, some_last, some_seat, stand_ends, stand_place, stands_at}
 use Rattle.cell_table.proofs.Housing.{housed_step}
-use Rattle.cell_table.proofs.Lives.{agrees_life, saw_begins, saw_stays}
+use Rattle.cell_table.proofs.Lives.{agrees_life, saw_begins, saw_stays, wrote_life}
 use Rattle.cell_table.proofs.Others.{learn_course}
 use Rattle.cell_table.proofs.Seating.{Stays}
 use Rattle.cell_table.proofs.Truths.{with_itself, last_known}
@@ -185,12 +187,12 @@ one_course c d g h e = sym (course_back c g) ∙ ap course_read e ∙ course_bac
 
 module _ {M : Type 0} (stands : Stands M) where
   module _ (shape : Shape M) (slots id place : ℕ) (me : Me (Option M) (View M)) (p : ℕ)
-      (threads : me.0.threads ≡ shape.threads) (rows : me.0.rows ≡ shape.rows) (inside : p < shape.threads) (here : place ≡ course_place shape.rows p) where
+      (threads : me.0.threads ≡ shape.threads) (rows : me.0.rows ≡ shape.rows) (wide : me.0.offers ≡ shape.offers) (inside : p < shape.threads) (here : place ≡ short_course_place shape.offers shape.rows p) where
     pub at_table : 0 < me.0.threads
     at_table = omega (arith, threads, inside)
 
-    pub one_life : (q : ℕ) → (q < me.0.threads) × (place ≡ course_place me.0.rows q) → p ≡ q
-    one_life q at = same_course_place shape.rows p q (sym here ∙ at.1 ∙ ap (λ (n : ℕ). course_place n q) rows)
+    pub one_life : (q : ℕ) → (q < me.0.threads) × (place ≡ short_course_place me.0.offers me.0.rows q) → p ≡ q
+    one_life q at = same_short_course shape.offers shape.rows p q (sym here ∙ at.1 ∙ (λ i. short_course_place (wide i) (rows i) q))
 
     module _ (s : State (Option M) (View M)) (k : Keeps stands shape s) (view : get_elem? s.views id ≡ some me.0) where
       pub known : Knows k.world k.owner id me.0
@@ -203,7 +205,7 @@ module _ {M : Type 0} (stands : Stands M) where
       its = subst (λ (n : ℕ). p < n) (sym (ap (λ (t : Table). t.threads) k.table)) inside
 
       word_is : slice_index k.world.table.words (course_place k.world.table.rows p) ≡ slice_index s.words place
-      word_is = ap (λ (t : Table). slice_index t.words (course_place t.rows p)) k.table ∙ ap (slice_index s.words) (sym here)
+      word_is = ap (λ (t : Table). slice_index t.words (course_place t.rows p)) k.table ∙ short_course shape.offers shape.rows k.few_offers shape.threads s.words k.sized p inside ∙ ap (slice_index s.words) (sym here)
 
       pub course_is : course_at k.world.table p ≡ course_read (slice_index s.words place)
       course_is = course_inside k.world.table p its ∙ ap course_read word_is
@@ -256,9 +258,10 @@ module _ {M : Type 0} (stands : Stands M) where
         unfolding with_course
         starts =
             keeps_housed stands shape s k id me.0 (at_stage me.0.stage (see_start p stamp me.0.seen) me.0) _ s.homes (owner' k.world at_seat p stamp kept its range waiting k.owner id its_rows) view at_table refl refl refl
-            (Start me.0.from p) (λ some_first. (does_now stands shape s k id me.0 (after_step k.world at_seat (Start me.0.from p)).table me.0.from (λ value earlier. stands.starts shape.first.value.items value me.0.from.thread earlier p) view (grows-step k.world at_seat (Start me.0.from p) kept allowed) (starting some_first), tt)) allowed
+            (Start me.0.from p) (λ some_first. (does_now stands shape s k id me.0 (after_step k.world at_seat (Start me.0.from p)).table me.0.from (λ value earlier. stands.starts shape.first.value.items value me.0.from.thread earlier p) view (grows-step k.world at_seat (Start me.0.from p) kept allowed) (starting some_first), tt)) tt allowed
             (record { same = (refl, refl, refl); acted = rests; acts = rests; held = λ q h. inr h; begun = λ q h. h; binds = λ n q scope e. let bad : Start me.0.from p ≡ Bind n q scope = e in cc }) (λ t rs h. inl h)
-            (ap (λ (v : World). v.table) after_is ∙ ap (λ (t : Table). with_course t p (Running stamp)) k.table ∙ ap (λ (n : ℕ). sized shape (slice_set s.words n (course_word (Running stamp)))) (sym here))
+            (ap (λ (v : World). v.table) after_is ∙ ap (λ (t : Table). with_course t p (Running stamp)) k.table ∙ wrote_life stands shape s k place p (course_word (Running stamp)) inside here)
+            (length-set s.words place (course_word (Running stamp)))
             (λ j u n e t. subst (λ (v : World). Knows v (owner' k.world at_seat p stamp kept its range waiting k.owner id its_rows) j u) (sym after_is) (others_start k.world at_seat p stamp kept its range waiting k.owner id its_rows j u (k.knows j u e t)))
             (subst (λ (v : World). Knows v (owner' k.world at_seat p stamp kept its range waiting k.owner id its_rows) id (at_stage me.0.stage (see_start p stamp me.0.seen) me.0)) (sym after_is) (own_start k.world at_seat p stamp kept its range waiting k.owner id its_rows me.0 refl known))
             (λ some_first. housed_step stands shape.first.value.items k.world at_seat (Start me.0.from p) s.homes s.views id (started_thread p stamp me.0) kept allowed tt (to_begin some_first) (k.housed some_first))
@@ -321,20 +324,20 @@ module _ {M : Type 0} (stands : Stands M) where
 
   -- THE TURN to a place
   module _ (shape : Shape M) (slots id place : ℕ) (me : Me (Option M) (View M)) (r : Row)
-      (threads : me.0.threads ≡ shape.threads) (rows : me.0.rows ≡ shape.rows) (inside : r.thread < shape.threads) (here : place ≡ course_place shape.rows r.thread) (stand : IsStand me.0.rows me.0.seen r) where
+      (threads : me.0.threads ≡ shape.threads) (rows : me.0.rows ≡ shape.rows) (wide : me.0.offers ≡ shape.offers) (inside : r.thread < shape.threads) (here : place ≡ short_course_place shape.offers shape.rows r.thread) (stand : IsStand me.0.rows me.0.seen r) where
     pub stand_allowed : Allows (Keeps stands shape) slots id me place (λ n. n) (turned_to (step slots place 0 0 none) me)
     stand_allowed s k homes view in_words =
         let c = course_read (slice_index s.words place) in
         let kept_now = world_kept stands shape s k in
-        let knows = known shape slots id place me r.thread threads rows inside here s k view in
-        let sees = sees_life shape slots id place me r.thread threads rows inside here s k view in
-        let read = course_is shape slots id place me r.thread threads rows inside here s k view in (
+        let knows = known shape slots id place me r.thread threads rows wide inside here s k view in
+        let sees = sees_life shape slots id place me r.thread threads rows wide inside here s k view in
+        let read = course_is shape slots id place me r.thread threads rows wide inside here s k view in (
           stood_at r (saw_course r.thread c me.0),
           keeps,
           tt,
-          learnt_life shape slots id place me r.thread threads rows inside here s k view (stood_at r (saw_course r.thread c me.0)) refl refl refl refl (saw_stays r.thread c me.0) (λ q h. saw_begins r.thread c me.0 q h) sees,
+          learnt_life shape slots id place me r.thread threads rows wide inside here s k view (stood_at r (saw_course r.thread c me.0)) refl refl refl refl (saw_stays r.thread c me.0) (λ q h. saw_begins r.thread c me.0 q h) sees,
           λ q at also.
-              let same : r.thread ≡ q.thread = one_life shape slots id place me r.thread threads rows inside here q.thread at in
+              let same : r.thread ≡ q.thread = one_life shape slots id place me r.thread threads rows wide inside here q.thread at in
               let one : r ≡ q = one_place k.world r q kept_now same (stand_place k.world k.owner id me.0 knows r stand) (stand_place k.world k.owner id me.0 knows q also) in (
                 ap (λ (z : Row). (stood_at z (saw_course z.thread c me.0), me.1)) one,
                 subst (λ (z : ℕ × Course). AgreesLife me.0 z.0 z.1) (λ i. (same i, read i)) (agrees_life k.world k.owner id me.0 knows kept_now r.thread),

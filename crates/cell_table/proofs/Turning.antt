@@ -32,6 +32,8 @@ use Rattle.protocol.proofs.Keeping.{kept_schedule}
 use Rattle.protocol.proofs.LedgerLemmas.{kept_opening}
 use Rattle.cell_table.specs.Rule.{Housed, Interleaves, IsActing, IsToBegin, Keeps, Move, at_seat, beginning, in_order, steps_by}
 use Rattle.cell_table.proofs.Courses.{KeepsLives, plain_lives}
+use Rattle.protocol.specs.Short.{wide_table}
+use Rattle.cell_table.proofs.Counts.{DraftsFew, few_step}
 use Rattle.cell_table.proofs.Housing.{LeavesHomes, housed_step, housed_view}
 use Rattle.cell_table.proofs.Seating.{MovesOn, Stays, seated_seen, seated_step}
 
@@ -93,7 +95,7 @@ module _ {M : Type 0} where
   }
 
   -- what all views have at first, one of them being new
-  pub firsts_with : (vs : List (View M)) (id : ℕ) (v w : View M) (first : List (Option M) × Opening) → get_elem? vs id ≡ some v → beginning w ≡ beginning v → 0 < v.threads
+  pub firsts_with : (vs : List (View M)) (id : ℕ) (v w : View M) (first : List (Option M) × Opening × ℕ) → get_elem? vs id ≡ some v → beginning w ≡ beginning v → 0 < v.threads
       → ((j : ℕ) (u : View M) → get_elem? vs j ≡ some u → 0 < u.threads → beginning u ≡ first)
       → (j : ℕ) (u : View M) → get_elem? (slice_set vs id w) j ≡ some u → 0 < u.threads → beginning u ≡ first
   firsts_with vs id v w first view same at_table all j u e t = ⊎_elim
@@ -123,17 +125,20 @@ module _ {M : Type 0} (stands : Stands M) where
   keeps_seen shape s k id v w ws hs view at_table seat made seen first stays same knows house = record {
     opens = k.opens;
     few_rows = k.few_rows;
+    few_offers = k.few_offers;
+    sized = ap (λ (z : List ℕ). length z) same ∙ k.sized;
+    counts = k.counts;
     moves = k.moves;
     interleaved = same_made k.moves s.views id v w view k.interleaved (λ i. at_seat (sym seat i) (sym made i));
     start = k.start;
     begins = k.begins;
     world = k.world;
     played = k.played;
-    table = k.table ∙ ap (λ (z : List ℕ). record { threads = shape.threads; rows = shape.rows; words = z; opening = greatest (opening_in shape) }) (sym same);
+    table = k.table ∙ ap (λ (z : List ℕ). wide_table shape.offers (record { threads = shape.threads; rows = shape.rows; words = z; opening = greatest (opening_in shape) })) (sym same);
     owner = k.owner;
     knows = views_with s.views id w k.world k.owner (λ j u n e t. k.knows j u e t) knows;
     seated = seated_seen s.views id v w view stays seat made k.seated;
-    firsts = firsts_with s.views id v w (shape.first.value.items, opening_in shape) view first at_table k.firsts;
+    firsts = firsts_with s.views id v w (shape.first.value.items, opening_in shape, shape.offers) view first at_table k.firsts;
     started = k.started;
     ended = k.ended;
     housed = house;
@@ -149,14 +154,15 @@ module _ {M : Type 0} (stands : Stands M) where
 
   -- the protocol's step is made by the pass at its seat, and it knows more; what the slots hold then is given
   pub keeps_housed : (shape : Shape M) (s : State (Option M) (View M)) (k : Keeps stands shape s) (id : ℕ) (v w : View M) (ws : List ℕ) (hs : List (Maybe (Option M))) (owner : Row → ℕ) → get_elem? s.views id ≡ some v → 0 < v.threads → w.seat ≡ v.seat → w.made ≡ v.made → beginning w ≡ beginning v
-      → (step : Step) → (0 < length shape.first.value.items → StartedAs (acts_in stands shape.first.value.items).starts (after_step k.world (record { 0 = v.seat }) step).table step × EndedAs (acts_in stands shape.first.value.items).ends (after_step k.world (record { 0 = v.seat }) step).table step) → Allowed k.world (record { 0 = v.seat }) step → MovesOn v w step
+      → (step : Step) → (0 < length shape.first.value.items → StartedAs (acts_in stands shape.first.value.items).starts (after_step k.world (record { 0 = v.seat }) step).table step × EndedAs (acts_in stands shape.first.value.items).ends (after_step k.world (record { 0 = v.seat }) step).table step) → DraftsFew shape.offers step → Allowed k.world (record { 0 = v.seat }) step → MovesOn v w step
       → ((t : ℕ) (rs : List Result) → Has w.results (t, rs) → Has v.results (t, rs) ⊎ AreResults (ledger_of (after_step k.world (record { 0 = v.seat }) step).table) t rs)
-      → (after_step k.world (record { 0 = v.seat }) step).table ≡ record { threads = shape.threads; rows = shape.rows; words = ws; opening = greatest (opening_in shape) }
+      → (after_step k.world (record { 0 = v.seat }) step).table ≡ wide_table shape.offers (record { threads = shape.threads; rows = shape.rows; words = ws; opening = greatest (opening_in shape) })
+      → length ws ≡ length s.words
       → ((j : ℕ) (u : View M) → j ≢ id → get_elem? s.views j ≡ some u → 0 < u.threads → Knows (after_step k.world (record { 0 = v.seat }) step) owner j u)
       → Knows (after_step k.world (record { 0 = v.seat }) step) owner id w
       → (0 < length shape.first.value.items → Housed stands shape.first.value.items (after_step k.world (record { 0 = v.seat }) step) hs (slice_set s.views id (did step w)))
       → Keeps stands shape (record { words = ws; homes = hs; views = slice_set s.views id (did step w) })
-  keeps_housed shape s k id v w ws hs owner view at_table seat made first step lives allowed on seen same others knows house =
+  keeps_housed shape s k id v w ws hs owner view at_table seat made first step lives few allowed on seen same size others knows house =
       let at : Seat = record { 0 = v.seat } in
       let kept = world_kept shape s k in
       let grows = grows-step k.world at step kept allowed in
@@ -165,6 +171,9 @@ module _ {M : Type 0} (stands : Stands M) where
       record {
         opens = k.opens;
         few_rows = k.few_rows;
+        few_offers = k.few_offers;
+        sized = size ∙ k.sized;
+        counts = few_step shape.offers k.world at step kept allowed few k.counts;
         moves = record { pass = id; seat = at; step = step } ∷ k.moves;
         interleaved = one_more k.moves s.views id v w step view k.interleaved seat made;
         start = k.start;
@@ -175,7 +184,7 @@ module _ {M : Type 0} (stands : Stands M) where
         owner = owner;
         knows = views_with s.views id (did step w) (after_step k.world at step) owner others knows;
         seated = seated_step s.views id v w step view at_table seat made on k.seated;
-        firsts = firsts_with s.views id v (did step w) (shape.first.value.items, opening_in shape) view first at_table k.firsts;
+        firsts = firsts_with s.views id v (did step w) (shape.first.value.items, opening_in shape, shape.offers) view first at_table k.firsts;
         started = λ some_first. starts-step k.world at step kept allowed (HadStarted (opening_in shape)) (acts_in stands shape.first.value.items).starts (k.started some_first) (lives some_first).0;
         ended = λ some_first. ends-step k.world at step kept allowed (HadEnded (opening_in shape)) (acts_in stands shape.first.value.items).ends (k.ended some_first) (lives some_first).1;
         housed = house;
@@ -186,14 +195,15 @@ module _ {M : Type 0} (stands : Stands M) where
   -- where the step opens no row and takes none, and leaves the slots as they are
   pub keeps_step : (shape : Shape M) (s : State (Option M) (View M)) (k : Keeps stands shape s) (id : ℕ) (v w : View M) (ws : List ℕ) (owner : Row → ℕ) → get_elem? s.views id ≡ some v → 0 < v.threads → w.seat ≡ v.seat → w.made ≡ v.made → beginning w ≡ beginning v
       → ((r : Row) → IsToBegin w r → IsToBegin v r)
-      → (step : Step) → LeavesHomes step → KeepsLives step → Allowed k.world (record { 0 = v.seat }) step → MovesOn v w step
+      → (step : Step) → LeavesHomes step → KeepsLives step → DraftsFew shape.offers step → Allowed k.world (record { 0 = v.seat }) step → MovesOn v w step
       → ((t : ℕ) (rs : List Result) → Has w.results (t, rs) → Has v.results (t, rs) ⊎ AreResults (ledger_of (after_step k.world (record { 0 = v.seat }) step).table) t rs)
-      → (after_step k.world (record { 0 = v.seat }) step).table ≡ record { threads = shape.threads; rows = shape.rows; words = ws; opening = greatest (opening_in shape) }
+      → (after_step k.world (record { 0 = v.seat }) step).table ≡ wide_table shape.offers (record { threads = shape.threads; rows = shape.rows; words = ws; opening = greatest (opening_in shape) })
+      → length ws ≡ length s.words
       → ((j : ℕ) (u : View M) → j ≢ id → get_elem? s.views j ≡ some u → 0 < u.threads → Knows (after_step k.world (record { 0 = v.seat }) step) owner j u)
       → Knows (after_step k.world (record { 0 = v.seat }) step) owner id w
       → Keeps stands shape (record { words = ws; homes = s.homes; views = slice_set s.views id (did step w) })
-  keeps_step shape s k id v w ws owner view at_table seat made first begins step leaves lives allowed on seen same others knows =
-      keeps_housed shape s k id v w ws s.homes owner view at_table seat made first step (λ some_first. plain_lives (acts_in stands shape.first.value.items).starts (acts_in stands shape.first.value.items).ends (after_step k.world (record { 0 = v.seat }) step).table step lives) allowed on seen same others knows
+  keeps_step shape s k id v w ws owner view at_table seat made first begins step leaves lives few allowed on seen same size others knows =
+      keeps_housed shape s k id v w ws s.homes owner view at_table seat made first step (λ some_first. plain_lives (acts_in stands shape.first.value.items).starts (acts_in stands shape.first.value.items).ends (after_step k.world (record { 0 = v.seat }) step).table step lives) few allowed on seen same size others knows
       (λ some_first. housed_step stands shape.first.value.items k.world (record { 0 = v.seat }) step s.homes s.views id (did step w) (world_kept shape s k) allowed leaves (λ q b. (k.housed some_first).waiting id v q view at_table (begins q b)) (k.housed some_first))
 
   -- WHAT A PASS HAS SEEN agrees with itself, at any moment

@@ -6,13 +6,14 @@ use Rattle.protocol_values.specs.declared.Commit.{Commit}
 use Rattle.protocol.specs.Ledgers.{HasCommit, Involves, Ledger}
 use Rattle.protocol.specs.Openings.{greatest}
 use Rattle.protocol.specs.Standing.{OffersAs, Stands}
+use Rattle.protocol.specs.Short.{wide_table}
 use Rattle.protocol.specs.Tables.{Table, cell_at, is_fresh, is_taken}
 use Rattle.cell_table.specs.declared.view.Shape.{Shape}
 use Rattle.cell_table.specs.Views.{opening_in}
 
 module _ {M : Type 0} where
   abbrev pub words_of : Shape M → List ℕ → Table
-  words_of shape ws = record { threads = shape.threads; rows = shape.rows; words = ws; opening = greatest (opening_in shape) }
+  words_of shape ws = wide_table shape.offers (record { threads = shape.threads; rows = shape.rows; words = ws; opening = greatest (opening_in shape) })
 
   -- by these words the row is opened, and nobody has taken it
   abbrev pub IsOpenAt : Shape M → List ℕ → ℕ → ℕ → Type 0

@@ -12,7 +12,7 @@ use Rattle.cell_table.specs.Told.{Inside, InsideNack}
 module _ {M : Type 0} where
   -- the seat is one of this table's, its pass knows the table's size and beginning, and what it has seen agrees with itself
   abbrev pub Sits : Board M → Seat (Option M) (View M) → Type 0
-  Sits b s = (s.table_id ≡ b.words.shared.table_id) × (s.me.0.threads ≡ b.shape.threads) × (s.me.0.rows ≡ b.shape.rows) × Coherent b.shape.threads b.shape.rows s.me.0.seen × (s.me.0.first ≡ b.shape.first.value.items) × (s.me.0.lives ≡ (opening_in b.shape).threads) × (s.me.0.nacks ≡ (opening_in b.shape).nacks) × AreSettled (opening_in b.shape) s.me.0.seen
+  Sits b s = (s.table_id ≡ b.words.shared.table_id) × (s.me.0.threads ≡ b.shape.threads) × (s.me.0.rows ≡ b.shape.rows) × Coherent b.shape.threads b.shape.rows s.me.0.seen × (s.me.0.first ≡ b.shape.first.value.items) × (s.me.0.lives ≡ (opening_in b.shape).threads) × (s.me.0.nacks ≡ (opening_in b.shape).nacks) × AreSettled (opening_in b.shape) s.me.0.seen × (s.me.0.offers ≡ b.shape.offers)
 
   -- the pass is the same one after a call, and still sits at the table
   abbrev pub StaysAtTable : Board M → Seat (Option M) (View M) → Seat (Option M) (View M) → Type 0

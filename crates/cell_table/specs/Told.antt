@@ -2,7 +2,7 @@
 use Rattle.std.specs.Prelude.{◌≡◌, ◌≢◌, ℕ, ◌+◌, List, ◌∷◌, length, take, ◌<◌, ◌≤◌, true, is_some, unwrap_or, Option, Some, slice_get}
 use Rattle.atomic_table.specs.Table.{Step, Me, rest}
 use Rattle.protocol_values.specs.declared.Step.TheVariants.{Open, Claim, Yield, Join, Seal, Grant, Take}
-use Rattle.protocol_values.specs.Words.{cell_word, cell_of, course_of, course_word, nack_word, nack_of, IsBindingInRange, IsCourseInRange, IsJoinedInRange}
+use Rattle.protocol_values.specs.Words.{cell_word, cell_of, count_of, course_of, course_word, nack_word, nack_of, IsBindingInRange, IsCourseInRange, IsJoinedInRange}
 use Rattle.protocol_values.specs.declared.NackName.{NackName}
 use Rattle.protocol_values.specs.declared.Binding.{Binding}
 use Rattle.protocol_values.specs.declared.NackWord.{NackWord}
@@ -16,7 +16,8 @@ use Rattle.protocol_values.specs.declared.Cell.TheVariants.{Fresh, Waiting, Clai
 use Rattle.protocol_values.specs.declared.Message.{Message}
 use Rattle.protocol_values.specs.declared.Offer.{Offer}
 use Rattle.protocol.specs.Standing.{IsLeft, Result, Stands}
-use Rattle.protocol.specs.Tables.{bound_row, course_place, is_taken, nack_place, place_of}
+use Rattle.protocol.specs.Short.{row_len, short_course_place, short_nack_place, short_place}
+use Rattle.protocol.specs.Tables.{bound_row, is_taken}
 use Rattle.protocol_values.specs.Values.{next_row}
 use Rattle.cell_table.specs.declared.view.View.{View}
 use Rattle.cell_table.specs.declared.view.Stage.TheVariants.{Resting, Claims, Joins}
@@ -31,7 +32,7 @@ Inside threads rows r = (r.thread < threads) × (r.sync < rows)
 module _ {M : Type 0} where
   -- the step is on this word of this row
   abbrev pub At : {S : Type 0} → Step S → Me S (View M) → Row → ℕ → Type 0
-  At st m r p = Inside m.0.threads m.0.rows r × (st.word ≡ place_of m.0.rows r p)
+  At st m r p = Inside m.0.threads m.0.rows r × (st.word ≡ short_place m.0.offers m.0.rows r p)
 
 -- the table has the nack
 abbrev pub InsideNack : ℕ → NackName → Type 0
@@ -40,12 +41,12 @@ InsideNack threads n = (n.thread < threads) × (n.k < 64)
 module _ {M : Type 0} where
   -- the step is on the word of this nack
   abbrev pub AtNack : {S : Type 0} → Step S → Me S (View M) → NackName → Type 0
-  AtNack st m n = InsideNack m.0.threads n × (st.word ≡ nack_place m.0.rows n)
+  AtNack st m n = InsideNack m.0.threads n × (st.word ≡ short_nack_place m.0.offers m.0.rows n)
 
 module _ {M : Type 0} where
   -- the step is on the word of this thread's life
   abbrev pub AtLife : {S : Type 0} → Step S → Me S (View M) → ℕ → Type 0
-  AtLife st m p = (p < m.0.threads) × (st.word ≡ course_place m.0.rows p)
+  AtLife st m p = (p < m.0.threads) × (st.word ≡ short_course_place m.0.offers m.0.rows p)
 
 -- where a word says that a thread is on its course
 abbrev pub course_read : ℕ → Course
@@ -73,15 +74,16 @@ module _ {M : Type 0} where
   abbrev pub looked : {S : Type 0} → Step S → Me S (View M) → ℕ → Me S (View M) → Type 0
   looked st m n w = (r : Row) → At st m r 0 → (w ≡ (saw r (cell_read n) m.0, m.1)) × Agrees m.0 r (cell_read n) × AgreesWithItself w.0 × (is_some (cell_of n) ≡ true)
 
+  -- and of the number of a row's offers, that rows have room for so many
   abbrev pub has_read : {S : Type 0} → Step S → Me S (View M) → ℕ → Me S (View M) → Type 0
-  has_read st m n w = (r : Row) (p : ℕ) → p < 34 → At st m r p → (w ≡ (read_word r p n m.0, m.1)) × AgreesWithItself w.0
+  has_read st m n w = (r : Row) (p : ℕ) → p < row_len m.0.offers → At st m r p → (w ≡ (read_word r p n m.0, m.1)) × AgreesWithItself w.0 × (p ≡ 1 → unwrap_or (count_of n) 0 ≤ m.0.offers)
 
   -- a glance finds nothing new: the pass has heard of one table only, so what it has heard agrees with what it had seen
   abbrev pub glanced : {S : Type 0} → Step S → Me S (View M) → ℕ → Me S (View M) → Type 0
   glanced st m n w = (w ≡ m) × AgreesWithItself w.0
 
   abbrev pub drafted : {S : Type 0} → Step S → Me S (View M) → ℕ → Me S (View M) → Type 0
-  drafted st m n w = (r : Row) (p : ℕ) → p < 34 → At st m r p → (w ≡ (word_drafted r p n m.0, m.1)) × AgreesWithItself w.0
+  drafted st m n w = (r : Row) (p : ℕ) → p < row_len m.0.offers → At st m r p → (w ≡ (word_drafted r p n m.0, m.1)) × AgreesWithItself w.0
 
   -- the front slot of those that are out goes home, in a table that has slots
   abbrev pub GoesHome : {S : Type 0} → List (Option M) → List (ℕ × S) → List (ℕ × S) → Type 0

@@ -2,7 +2,7 @@
 
 ghost use Rattle.std.specs.Prelude.{◌≡◌, ◌*◌, ◌<◌, ◌≤◌, length};
 ghost use Rattle.protocol.specs.Openings.{IsOpening, greatest};
-ghost use Rattle.protocol.specs.Tables.{thread_len};
+ghost use Rattle.protocol.specs.Short.{short_len};
 ghost use Rattle.cell_table.specs.Views.{opening_in};
 
 use crate::view::{Shape, View};
@@ -31,9 +31,9 @@ pub struct Board<M: Resident> {
     /// The greatest stamp of the opening.
     pub(crate) stamps: u32,
     ghost keyed: { words.shared.key ≡ shape },
-    ghost sized: { words.shared.table_id.words ≡ shape.threads * thread_len shape.rows },
+    ghost sized: { words.shared.table_id.words ≡ shape.threads * short_len shape.offers shape.rows },
     ghost slots: { words.shared.table_id.slots ≡ length shape.first.value.items },
     ghost full: { 0 < length shape.first.value.items → length shape.first.value.items ≡ shape.threads },
     ghost opens: { IsOpening (opening_in shape) shape.rows × (length (opening_in shape).threads ≡ shape.threads) × (stamps ≡ greatest (opening_in shape)) },
-    ghost small: { (1 ≤ shape.threads) × (shape.threads ≤ 64) × (1 ≤ shape.rows) × (shape.rows ≤ 1024) },
+    ghost small: { (1 ≤ shape.threads) × (shape.threads ≤ 64) × (1 ≤ shape.rows) × (shape.rows ≤ 1024) × (shape.offers ≤ 8) },
 }

@@ -2,7 +2,8 @@
 
 ghost use Rattle.std.specs.Prelude.{◌≡◌, ◌*◌, ◌<◌, ◌≤◌, ℕ, IfSome, List, length, None, Some, slice_get};
 ghost use Rattle.protocol.specs.Openings.{HadEnded, HadStarted, greatest, state_in, word_for};
-ghost use Rattle.protocol.specs.Tables.{carried_by, cell_at, thread_len};
+ghost use Rattle.protocol.specs.Short.{short_len};
+ghost use Rattle.protocol.specs.Tables.{carried_by, cell_at};
 ghost use Rattle.cell_table.specs.Closings.{HandsOut, IsHomeOf, IsOpenAt, words_of};
 ghost use Rattle.std.specs.Slots.{slots_items, slots_len, IsFull};
 ghost use Rattle.protocol_values.specs.declared.Course.TheVariants.{Unstarted};
@@ -21,7 +22,7 @@ ghost use Rattle.protocol.specs.Acting.{ActsAs, EndsAt, HasStart, acts_in, befor
 use crate::board::Board;
 use crate::view::{Shape, View};
 use atomic_table::{Closed, Seat};
-use protocol::{Cell, LIVES, Ledger, NACKS, ROW_LEN, Resident, Row, unpack_cell};
+use protocol::{Cell, LIVES, Ledger, NACKS, Resident, Row, unpack_cell};
 use std::alloc::Global;
 
 impl<M: Resident + Drop> Board<M> {
@@ -66,7 +67,13 @@ impl<M: Resident + Drop> Board<M> {
         let closed = words.close_with(seat);
         let words = copy_words(&closed, spare);
         let machines = take_home(closed, words.as_slice(), &shape, places);
-        let ledger = Ledger::of_words(shape.threads as u8, shape.rows as u16, words, stamps);
+        let ledger = Ledger::of_short_words(
+            shape.threads as u8,
+            shape.rows as u16,
+            shape.offers as u8,
+            words,
+            stamps,
+        );
         (ledger, machines)
     }
 }
@@ -79,7 +86,7 @@ fn take_home<M: Drop>(
     places: Vec<Option<M>>,
 ) -> Vec<Option<M>>
     requires full { IsFull closed.slots }
-    requires shape { (shape.now.threads ≤ 64) × (shape.now.rows ≤ 1024) × (length words.now ≡ shape.now.threads * thread_len shape.now.rows) }
+    requires shape { (shape.now.threads ≤ 64) × (shape.now.rows ≤ 1024) × (shape.now.offers ≤ 8) × (length words.now ≡ shape.now.threads * short_len shape.now.offers shape.now.rows) }
     requires slots { slots_len closed.slots ≤ shape.now.threads }
     requires places { length places.items ≡ slots_len closed.slots }
     requires empty { (t : ℕ) (value : M) → slice_get places.items t ≡ Some (Some value) → ⊥ }
@@ -100,7 +107,7 @@ fn take_home<M: Drop>(
 
 /// What lies in the slot of the thread, where a row of it is opened that nobody has taken.
 fn at_home<M: Drop>(words: &[u64], shape: &Shape<M>, thread: u8, value: Option<M>) -> Option<M>
-    requires shape { (shape.now.threads ≤ 64) × (shape.now.rows ≤ 1024) × (length words.now ≡ shape.now.threads * thread_len shape.now.rows) }
+    requires shape { (shape.now.threads ≤ 64) × (shape.now.rows ≤ 1024) × (shape.now.offers ≤ 8) × (length words.now ≡ shape.now.threads * short_len shape.now.offers shape.now.rows) }
     requires thread { thread < shape.now.threads }
     ensures { (m : M) → result ≡ Some m → (value ≡ Some m) × ((g : ℕ) × IsOpenAt shape.now words.now thread g) }
 {
@@ -113,7 +120,7 @@ fn at_home<M: Drop>(words: &[u64], shape: &Shape<M>, thread: u8, value: Option<M
 /// The thread's row that is opened and that nobody has taken, if it has one. The rows that were taken are its first
 /// ones, and those that are not opened its last ones, so it is found by halves.
 fn open_row<M>(words: &[u64], shape: &Shape<M>, thread: u8) -> Option<u32>
-    requires shape { (shape.now.threads ≤ 64) × (shape.now.rows ≤ 1024) × (length words.now ≡ shape.now.threads * thread_len shape.now.rows) }
+    requires shape { (shape.now.threads ≤ 64) × (shape.now.rows ≤ 1024) × (shape.now.offers ≤ 8) × (length words.now ≡ shape.now.threads * short_len shape.now.offers shape.now.rows) }
     requires thread { thread < shape.now.threads }
     ensures { IfSome result (λ g. IsOpenAt shape.now words.now thread g) }
 {
@@ -133,12 +140,13 @@ fn open_row<M>(words: &[u64], shape: &Shape<M>, thread: u8) -> Option<u32>
 /// The row's cell, by these words.
 #[tactic(auto, using(crate::proofs::Endings::cell_from))]
 fn cell_there<M>(words: &[u64], shape: &Shape<M>, row: Row) -> Cell
-    requires shape { (shape.now.threads ≤ 64) × (shape.now.rows ≤ 1024) × (length words.now ≡ shape.now.threads * thread_len shape.now.rows) }
+    requires shape { (shape.now.threads ≤ 64) × (shape.now.rows ≤ 1024) × (shape.now.offers ≤ 8) × (length words.now ≡ shape.now.threads * short_len shape.now.offers shape.now.rows) }
     requires row { (row.thread < shape.now.threads) × (row.sync < shape.now.rows) }
     ensures { result ≡ cell_at (words_of shape.now words.now) row }
 {
-    let thread_len = shape.rows as usize * ROW_LEN + NACKS + LIVES;
-    let place = usize::from(row.thread) * thread_len + row.sync as usize * ROW_LEN;
+    let row_len = 2 + 4 * shape.offers as usize;
+    let thread_len = shape.rows as usize * row_len + NACKS + LIVES;
+    let place = usize::from(row.thread) * thread_len + row.sync as usize * row_len;
     match unpack_cell(words[place]) {
         Some(cell) => cell,
         None => Cell::Fresh,

@@ -3,7 +3,7 @@
 ghost use Rattle.std.specs.Prelude.{◌≡◌, ◌≢◌, ◌<◌, ◌≤◌, ◌↔◌, length, IsFalse, IsTrue};
 ghost use Rattle.protocol_values.specs.declared.Course.{Course};
 ghost use Rattle.protocol_values.specs.declared.Course.TheVariants.{Unstarted};
-ghost use Rattle.protocol.specs.Tables.{course_place};
+ghost use Rattle.protocol.specs.Short.{short_course_place};
 ghost use Rattle.cell_table.specs.declared.view.Stage.TheVariants.{Resting};
 ghost use Rattle.cell_table.specs.Rule.{IsFinishing, IsStarting};
 ghost use Rattle.cell_table.specs.Told.{AgreesLife, course_read};
@@ -15,7 +15,7 @@ use crate::board::Board;
 use crate::plays::{Finish, LookLife, Stand, Start};
 use crate::view::View;
 use atomic_table::Seat;
-use protocol::{NACKS, ROW_LEN, Resident};
+use protocol::{NACKS, Resident};
 use protocol_values::{Course, Row, pack_course, unpack_course};
 
 impl<M: Resident> Board<M> {
@@ -29,9 +29,9 @@ impl<M: Resident> Board<M> {
     // where the word of a thread's life lies
     fn life_place(&self, thread: u8) -> usize
         requires { thread < self.now.shape.threads }
-        ensures { (result ≡ course_place self.now.shape.rows thread) × (result < self.now.words.shared.table_id.words) }
+        ensures { (result ≡ short_course_place self.now.shape.offers self.now.shape.rows thread) × (result < self.now.words.shared.table_id.words) }
     {
-        usize::from(thread) * self.thread_len() + self.shape.rows as usize * ROW_LEN + NACKS
+        usize::from(thread) * self.thread_len() + self.shape.rows as usize * self.row_len() + NACKS
     }
 
     /// Reads where the thread is on its course.

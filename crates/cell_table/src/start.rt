@@ -1,7 +1,8 @@
 //! How a table begins, and how its rows are dealt.
 
-ghost use Rattle.std.specs.Prelude.{◌≡◌, ◌+◌, ◌<◌, ◌≤◌, [], IfOk, length};
+ghost use Rattle.std.specs.Prelude.{◌≡◌, ◌*◌, ◌+◌, ◌<◌, ◌≤◌, [], IfOk, length};
 ghost use Rattle.protocol.specs.Openings.{AreFirstWords, IsOpening, greatest};
+ghost use Rattle.protocol.specs.Short.{short_len};
 ghost use Rattle.cell_table.specs.Closings.{words_of};
 ghost use Rattle.cell_table.specs.Rule.{AreMachines, dealer, dealt_pass};
 ghost use Rattle.cell_table.specs.Views.{opening_in};
@@ -24,8 +25,9 @@ impl<M: Resident + Drop> Board<M> {
         words: &[u64],
         slots: Vec<Option<M>>,
     ) -> Result<(Board<M>, Seat<Option<M>, View<M>>), AllocError>
-        requires shape { (shape.threads ≡ length (opening_in shape).threads) × (1 ≤ shape.rows) × (shape.rows ≤ 1024) × (1 ≤ shape.passes) }
+        requires shape { (shape.threads ≡ length (opening_in shape).threads) × (1 ≤ shape.rows) × (shape.rows ≤ 1024) × (1 ≤ shape.passes) × (shape.offers ≤ 8) }
         requires opening { IsOpening (opening_in shape) shape.rows × (stamps ≡ greatest (opening_in shape)) }
+        requires sized { length words.now ≡ shape.threads * short_len shape.offers shape.rows }
         requires words { AreFirstWords (opening_in shape) (words_of shape words.now) }
         requires slots { slots.items ≡ shape.first.value.items }
         requires full { AreMachines (opening_in shape) shape.first.value.items }

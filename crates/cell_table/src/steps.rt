@@ -1,8 +1,8 @@
 //! One function for each atomic step, and what the table has.
 
-ghost use Rattle.std.specs.Prelude.{◌≡◌, ◌≢◌, ◌*◌, ◌+◌, ◌<◌, ◌≤◌, ◌↔◌, ℕ, List, ◌∷◌, length, slice_get, true, IfOk, IfErr, IsTrue, None, Some};
+ghost use Rattle.std.specs.Prelude.{◌≡◌, ◌≢◌, ◌*◌, ◌+◌, ◌<◌, ◌≤◌, ◌↔◌, ℕ, List, ◌∷◌, length, slice_get, true, unwrap_or, IfOk, IfErr, IsTrue, None, Some};
 ghost use Rattle.protocol.specs.Standing.{Result};
-ghost use Rattle.protocol_values.specs.Words.{is_word_for, IsBindingInRange, IsJoinedInRange};
+ghost use Rattle.protocol_values.specs.Words.{count_of, is_word_for, IsBindingInRange, IsJoinedInRange};
 ghost use Rattle.protocol_values.specs.declared.Binding.{Binding};
 ghost use Rattle.protocol_values.specs.declared.NackName.{NackName};
 ghost use Rattle.protocol_values.specs.declared.NackWord.TheVariants.{Unbound};
@@ -15,7 +15,8 @@ ghost use Rattle.protocol_values.specs.declared.Step.TheVariants.{
   Take as TakeStep,
   Yield as YieldStep,
 };
-ghost use Rattle.protocol.specs.Tables.{bound_row, thread_len, nack_place, place_of};
+ghost use Rattle.protocol.specs.Short.{row_len, short_len, short_nack_place, short_place};
+ghost use Rattle.protocol.specs.Tables.{bound_row};
 ghost use Rattle.protocol_values.specs.Values.{next_row};
 ghost use Rattle.protocol.specs.Worlds.{mirrored};
 ghost use Rattle.cell_table.specs.declared.view.Stage.TheVariants.{Resting, Claims, Joins};
@@ -33,7 +34,7 @@ use crate::plays::{
 };
 use crate::view::View;
 use atomic_table::Seat;
-use protocol::{LIVES, NACKS, ROW_LEN, Resident};
+use protocol::{LIVES, NACKS, Resident};
 use protocol_values::{
     Binding, Cell, Joined, NackName, NackWord, Row, pack_cell, pack_nack, read_cell, unpack_cell,
     unpack_nack,
@@ -54,30 +55,37 @@ impl<M: Resident> Board<M> {
         u64::from(nack.thread) < self.shape.threads && usize::from(nack.k) < NACKS
     }
 
+    // how many words a row has
+    pub(crate) fn row_len(&self) -> usize
+        ensures { result ≡ row_len self.now.shape.offers }
+    {
+        2 + 4 * self.shape.offers as usize
+    }
+
     // how many words a thread has
     pub(crate) fn thread_len(&self) -> usize
-        ensures { result ≡ thread_len self.now.shape.rows }
+        ensures { result ≡ short_len self.now.shape.offers self.now.shape.rows }
     {
-        self.shape.rows as usize * ROW_LEN + NACKS + LIVES
+        self.shape.rows as usize * self.row_len() + NACKS + LIVES
     }
 
     // where the word of a row at a place lies
     fn place(&self, row: Row, place: u8) -> usize
-        requires { HasRow self.now row × (place < 34) }
-        ensures { (result ≡ place_of self.now.shape.rows row place) × (result < self.now.words.shared.table_id.words) }
+        requires { HasRow self.now row × (place < row_len self.now.shape.offers) }
+        ensures { (result ≡ short_place self.now.shape.offers self.now.shape.rows row place) × (result < self.now.words.shared.table_id.words) }
     {
         usize::from(row.thread) * self.thread_len()
-            + row.sync as usize * ROW_LEN
+            + row.sync as usize * self.row_len()
             + usize::from(place)
     }
 
     // where the word of a nack lies
     fn nack_place(&self, nack: NackName) -> usize
         requires { HasNack self.now nack }
-        ensures { (result ≡ nack_place self.now.shape.rows nack) × (result < self.now.words.shared.table_id.words) }
+        ensures { (result ≡ short_nack_place self.now.shape.offers self.now.shape.rows nack) × (result < self.now.words.shared.table_id.words) }
     {
         usize::from(nack.thread) * self.thread_len()
-            + self.shape.rows as usize * ROW_LEN
+            + self.shape.rows as usize * self.row_len()
             + usize::from(nack.k)
     }
 
@@ -137,17 +145,19 @@ impl<M: Resident> Board<M> {
     /// Reads a word of a row that was seen opened.
     pub fn read(&self, seat: &mut Seat<Option<M>, View<M>>, row: Row, place: u8) -> u64
         requires sits { Sits self.now seat.old × HasRow self.now row }
-        requires place { (1 ≤ place) × (place < 34) × Has seat.old.me.0.seen.opened row }
+        requires place { (1 ≤ place) × (place < row_len self.now.shape.offers) × Has seat.old.me.0.seen.opened row }
         ensures sits { StaysSeated self.now seat.old seat.new }
         ensures read { seat.new.me.0 ≡ read_word row place result seat.old.me.0 }
+        ensures few { place ≡ 1 → unwrap_or (count_of result) 0 ≤ self.now.shape.offers }
     {
         self.words.shared.load::<Read>(seat, self.place(row, place))
     }
 
-    /// Writes a word of a held row that is not opened yet.
+    /// Writes a word of a held row that is not opened yet: no greater number of offers than a row has room for.
     pub fn draft(&self, seat: &mut Seat<Option<M>, View<M>>, row: Row, place: u8, word: u64)
         requires sits { Sits self.now seat.old × HasRow self.now row }
-        requires place { (1 ≤ place) × (place < 34) × (is_word_for place word ≡ true) }
+        requires place { (1 ≤ place) × (place < row_len self.now.shape.offers) × (is_word_for place word ≡ true) }
+        requires few { place ≡ 1 → unwrap_or (count_of word) 0 ≤ self.now.shape.offers }
         requires resting { seat.old.me.0.stage ≡ Resting }
         requires held { Has seat.old.me.0.seen.held row × (¬ Has seat.old.me.0.seen.opened row) }
         requires alive { ¬ SawEnded seat.old.me.0.seen row.thread }

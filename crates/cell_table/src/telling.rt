@@ -28,7 +28,7 @@ impl<M: Resident> Board<M> {
     /// Reads a word and learns nothing by it: a pass that was told something sees so that all that it
     /// has seen is of one table.
     fn glance(&self, seat: &mut Seat<Option<M>, View<M>>)
-        requires sits { (seat.old.table_id ≡ self.now.words.shared.table_id) × (seat.old.me.0.threads ≡ self.now.shape.threads) × (seat.old.me.0.rows ≡ self.now.shape.rows) × (seat.old.me.0.first ≡ self.now.shape.first.value.items) × (seat.old.me.0.lives ≡ (opening_in self.now.shape).threads) × (seat.old.me.0.nacks ≡ (opening_in self.now.shape).nacks) }
+        requires sits { (seat.old.table_id ≡ self.now.words.shared.table_id) × (seat.old.me.0.threads ≡ self.now.shape.threads) × (seat.old.me.0.rows ≡ self.now.shape.rows) × (seat.old.me.0.first ≡ self.now.shape.first.value.items) × (seat.old.me.0.lives ≡ (opening_in self.now.shape).threads) × (seat.old.me.0.nacks ≡ (opening_in self.now.shape).nacks) × (seat.old.me.0.offers ≡ self.now.shape.offers) }
         ensures sits { StaysSeated self.now seat.old seat.new }
         ensures stays { seat.new.me.0 ≡ seat.old.me.0 }
     {

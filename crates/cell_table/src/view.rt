@@ -11,6 +11,8 @@ use std::snapshot::Snapshot;
 pub struct Shape<M> {
     pub threads: u64,
     pub rows: u64,
+    /// How many offers a row has room for: 0 to 8.
+    pub offers: u64,
     pub passes: u64,
     /// Which threads run, wait to be started or have ended, with their stamps, and the nacks that were settled.
     pub opening: Snapshot<Opening>,
@@ -65,6 +67,7 @@ pub struct View<M> {
     /// The table's size.
     pub threads: u64,
     pub rows: u64,
+    pub offers: u64,
     pub passes: u64,
     /// The opening's threads and nacks.
     pub lives: LinkedList<(Life, u32)>,

@@ -26,3 +26,5 @@ pub mod Onward
 pub mod Standing
 pub mod Acting
 pub mod Results
+pub mod Short
+pub mod Sheets

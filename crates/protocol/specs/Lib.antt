@@ -9,3 +9,4 @@ pub mod Growing
 pub mod Standing
 pub mod Acting
 pub mod Openings
+pub mod Short

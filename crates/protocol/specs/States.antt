@@ -5,15 +5,16 @@ use Rattle.protocol_values.specs.declared.Seat.{Seat}
 use Rattle.protocol_values.specs.declared.Step.{Step}
 use Rattle.protocol.specs.declared.sheet.Sheet.{Sheet}
 use Rattle.protocol.specs.declared.state.State.{State}
+use Rattle.protocol.specs.Short.{wide_table}
 use Rattle.protocol.specs.Tables.{Table, is_row, number_of}
 use Rattle.protocol.specs.Worlds.{World, Condition, Allowed, after_step, namer_at, IsRefused}
 use Rattle.protocol.specs.Kept.{Kept}
 use Rattle.protocol.specs.declared.ProtoFault.{ProtoFault}
 use Rattle.protocol.specs.declared.ProtoFault.TheVariants.{Memory, NotAllowed}
 
--- the table that a sheet's words are
+-- the table for which a sheet's words stand, whose rows may be short
 abbrev pub table_of : Sheet → Table
-table_of b = record { threads = b.threads; rows = b.rows; words = b.words.items; opening = b.opening }
+table_of b = wide_table b.offers (record { threads = b.threads; rows = b.rows; words = b.words.items; opening = b.opening })
 
 abbrev pub world_of : State → World
 world_of s = record { table = table_of s.sheet; seats = s.seats; holders = s.holders.items; lasts = s.lasts.items }

@@ -2,7 +2,7 @@
 
 ghost use Rattle.std.specs.Prelude.{◌≡◌, ◌*◌, ◌≤◌, ◌↔◌, IfOk, IfSome, IfNone, IsPermutation, Contains, length};
 
-use crate::sheet::Sheet;
+use crate::sheet::{OFFERS, Sheet};
 use crate::stamps::nearly_by_stamp;
 use protocol_values::{Commit, Row};
 use std::alloc::AllocError;
@@ -30,6 +30,7 @@ impl Model for Ledger {
 
 ghost use Rattle.protocol.specs.Ledgers.{ledger_of, IsLawful, HasCommit, Involves, IsCausal, marks_in, commits_in, pending_in};
 ghost use Rattle.protocol_values.specs.Commits.{IsInOrder};
+ghost use Rattle.protocol.specs.Short.{short_len, wide_table};
 ghost use Rattle.protocol.specs.Tables.{thread_len};
 ghost use Rattle.protocol.specs.States.{table_of};
 ghost use Rattle.protocol_values.specs.declared.Commit.{Commit};
@@ -54,10 +55,32 @@ impl Ledger {
         requires lawful { IsLawful (ledger_of (record { threads = threads; rows = rows; words = words.items; opening = opening })) }
         ensures { result ≡ ledger_of (record { threads = threads; rows = rows; words = words.items; opening = opening }) }
     {
+        Ledger::of_short_words(threads, rows, OFFERS as u8, words, opening)
+    }
+
+    /// The same of short rows, each of which has room for so many offers: of 2 words, and of 4 for each offer. The words
+    /// that a row has not are 0.
+    pub fn of_short_words(
+        threads: u8,
+        rows: u16,
+        offers: u8,
+        words: Vec<u64>,
+        opening: u32,
+    ) -> Ledger
+        requires some_threads { 1 ≤ threads }
+        requires few_threads { threads ≤ 64 }
+        requires some_rows { 1 ≤ rows }
+        requires few_rows { rows ≤ 1024 }
+        requires few_offers { offers ≤ 8 }
+        requires sized { length words.items ≡ threads * short_len offers rows }
+        requires lawful { IsLawful (ledger_of (wide_table offers (record { threads = threads; rows = rows; words = words.items; opening = opening }))) }
+        ensures { result ≡ ledger_of (wide_table offers (record { threads = threads; rows = rows; words = words.items; opening = opening })) }
+    {
         Ledger {
             sheet: Sheet {
                 threads: usize::from(threads),
                 rows: usize::from(rows),
+                offers: usize::from(offers),
                 words,
                 opening,
             },

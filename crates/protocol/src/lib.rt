@@ -22,7 +22,7 @@ mod world;
 pub use crate::ledger::Ledger;
 pub use crate::opening::{Life, NackState, Opening};
 pub use crate::resident::{Bare, Resident};
-pub use crate::sheet::{LIVES, NACKS, ROW_LEN, next_words, start_words};
+pub use crate::sheet::{LIVES, NACKS, OFFERS, ROW_LEN, next_words, start_words};
 pub use crate::world::{World, play};
 pub use protocol_values::{
     Atom, Base, Binding, Cause, Cell, Commit, Direction, Head, Joined, Message, NackName, NackWord,

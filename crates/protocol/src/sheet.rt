@@ -9,8 +9,11 @@ use protocol_values::{
 };
 use std::alloc::{AllocError, Global};
 
-/// The words of a row.
+/// The words of a row that has room for all offers that a row can have.
 pub const ROW_LEN: usize = 34;
+
+/// The offers that such a row has room for.
+pub const OFFERS: usize = 8;
 
 /// The nacks of a thread, of one word each.
 pub const NACKS: usize = 64;
@@ -18,22 +21,27 @@ pub const NACKS: usize = 64;
 /// The word of a thread's life.
 pub const LIVES: usize = 1;
 
-/// A table's words, thread by thread: a thread's rows first, then its nacks, and then its life.
+/// A table's words, thread by thread: a thread's rows first, then its nacks, and then its life. The rows may be short:
+/// then the words that they have not are 0.
 #[derive(Debug, Drop)]
 pub(crate) struct Sheet {
     pub(crate) threads: usize,
     pub(crate) rows: usize,
+    /// How many offers a row has room for.
+    pub(crate) offers: usize,
     pub(crate) words: Vec<u64>,
     /// The greatest stamp of what went before the table.
     pub(crate) opening: u32,
-    ghost sized: { length words.items ≡ threads * (rows * 34 + 65) },
+    ghost sized: { length words.items ≡ threads * (rows * (2 + 4 * offers) + 65) },
     ghost few_threads: { threads ≤ 64 },
     ghost few_rows: { rows ≤ 1024 },
+    ghost few_offers: { offers ≤ 8 },
 }
 
 impl Sheet {
     ghost use Rattle.protocol_values.specs.Words.{IsBindingInRange, IsCellInRange, IsCourseInRange, IsNackWordInRange};
-    ghost use Rattle.protocol.specs.Tables.{is_row, number_of, place_of, is_nack, nack_place, nack_says, word_at, cell_at, count_at, course_at, course_place, marks_at, offer_at, joined_at, last_stamp, binding_at, carried_at, end_by, nack_by, nack_via, cause_of};
+    ghost use Rattle.protocol.specs.Short.{row_len, short_course_place, short_len, short_nack_place, short_place};
+    ghost use Rattle.protocol.specs.Tables.{is_row, number_of, is_nack, nack_says, word_at, cell_at, count_at, course_at, marks_at, offer_at, joined_at, last_stamp, binding_at, carried_at, end_by, nack_by, nack_via, cause_of};
     ghost use Rattle.protocol.specs.Openings.{AreFirstWords, IsOpening, greatest, opening_of};
     ghost use Rattle.protocol.specs.Worlds.{with_course, with_word, with_cell, with_nack};
     ghost use Rattle.protocol.specs.States.{table_of};
@@ -47,15 +55,17 @@ impl Sheet {
     ) -> Result<Sheet, AllocError>
         requires few_threads { threads ≤ 64 }
         requires few_rows { rows ≤ 1024 }
-        ensures words { IfOk result (λ b. b.words.items ≡ with_lives later rows threads (replicate (threads * (rows * 34 + 65)) 0)) }
+        ensures words { IfOk result (λ b. (table_of b).words ≡ with_lives later rows threads (replicate (threads * (rows * 34 + 65)) 0)) }
         ensures threads { IfOk result (λ b. b.threads ≡ threads) }
         ensures rows { IfOk result (λ b. b.rows ≡ rows) }
+        ensures offers { IfOk result (λ b. b.offers ≡ 8) }
         ensures opening { IfOk result (λ b. b.opening ≡ 0) }
     {
         let words = start_words(alloc, threads, rows, later)?;
         Ok(Sheet {
             threads,
             rows,
+            offers: OFFERS,
             words,
             opening: 0,
         })
@@ -68,12 +78,14 @@ impl Sheet {
         ensures words { IfOk result (λ b. AreFirstWords (opening_of opening.now) (table_of b)) }
         ensures threads { IfOk result (λ b. b.threads ≡ length opening.now.threads.items) }
         ensures rows { IfOk result (λ b. b.rows ≡ rows) }
+        ensures offers { IfOk result (λ b. b.offers ≡ 8) }
         ensures opening { IfOk result (λ b. b.opening ≡ greatest (opening_of opening.now)) }
     {
-        let words = next_words(alloc, opening, rows)?;
+        let words = next_words(alloc, opening, rows, OFFERS)?;
         Ok(Sheet {
             threads: opening.threads.len(),
             rows,
+            offers: OFFERS,
             words,
             opening: opening.greatest(),
         })
@@ -103,29 +115,39 @@ impl Sheet {
         self.threads * self.rows
     }
 
+    /// How many words a row has.
+    fn row_len(&self) -> usize
+        ensures { result ≡ row_len self.now.offers }
+    {
+        2 + 4 * self.offers
+    }
+
     /// How many words a thread has.
     fn thread_len(&self) -> usize
-        ensures { result ≡ self.now.rows * 34 + 65 }
+        ensures { result ≡ short_len self.now.offers self.now.rows }
     {
-        self.rows * ROW_LEN + NACKS + LIVES
+        self.rows * self.row_len() + NACKS + LIVES
     }
 
     /// Where the row's word at a place lies.
     fn place(&self, row: Row, place: usize) -> usize
         requires row { is_row (table_of self.now) row ≡ true }
-        requires place { place < 34 }
-        ensures value { result ≡ place_of self.now.rows row place }
+        requires place { place < row_len self.now.offers }
+        ensures value { result ≡ short_place self.now.offers self.now.rows row place }
         ensures inside { result < vec_len self.now.words }
     {
-        usize::from(row.thread) * self.thread_len() + row.sync as usize * ROW_LEN + place
+        usize::from(row.thread) * self.thread_len() + row.sync as usize * self.row_len() + place
     }
 
-    #[tactic(auto, unfolding(crate::specs::Tables::word_at))]
+    /// The row's word at a place, 0 where a short row has none.
     fn word(&self, row: Row, place: usize) -> u64
         requires row { is_row (table_of self.now) row ≡ true }
         requires place { place < 34 }
         ensures { result ≡ word_at (table_of self.now) row place }
     {
+        if place >= self.row_len() {
+            return 0;
+        }
         let at = self.place(row, place);
         self.words[at]
     }
@@ -171,11 +193,13 @@ impl Sheet {
 
     /// Offer n of a row that is known to have it: nothing is tested, and only the atoms that the
     /// offer has are unpacked.
-    #[tactic(auto, unfolding(crate::specs::Tables::word_at))]
     pub(crate) fn known_offer(&self, row: Row, n: u8) -> Offer
         requires { is_some (offer_at (table_of self.now) row n) ≡ true }
         ensures { offer_at (table_of self.now) row n ≡ Some result }
     {
+        if usize::from(n) >= self.offers {
+            return read_offer(0, 0, 0, 0);
+        }
         let head = self.place(row, 2 + 4 * usize::from(n));
         read_offer(
             self.words[head],
@@ -195,10 +219,10 @@ impl Sheet {
     /// Where the word of the thread's life lies.
     fn course_place(&self, thread: u8) -> usize
         requires { thread < self.now.threads }
-        ensures value { result ≡ course_place self.now.rows thread }
+        ensures value { result ≡ short_course_place self.now.offers self.now.rows thread }
         ensures inside { result < vec_len self.now.words }
     {
-        usize::from(thread) * self.thread_len() + self.rows * ROW_LEN + NACKS
+        usize::from(thread) * self.thread_len() + self.rows * self.row_len() + NACKS
     }
 
     /// Where the thread is on its course. One that the table has not never starts.
@@ -241,10 +265,12 @@ impl Sheet {
     /// Where the nack's word lies.
     fn nack_place(&self, nack: NackName) -> usize
         requires { is_nack (table_of self.now) nack ≡ true }
-        ensures value { result ≡ nack_place self.now.rows nack }
+        ensures value { result ≡ short_nack_place self.now.offers self.now.rows nack }
         ensures inside { result < vec_len self.now.words }
     {
-        usize::from(nack.thread) * self.thread_len() + self.rows * ROW_LEN + usize::from(nack.k)
+        usize::from(nack.thread) * self.thread_len()
+            + self.rows * self.row_len()
+            + usize::from(nack.k)
     }
 
     /// What the nack's word says. A nack that the table has not is not bound.
@@ -317,13 +343,13 @@ impl Sheet {
     }
 
     /// Binds the nack.
-    #[tactic(auto, unfolding(crate::specs::Worlds::with_nack))]
     pub(crate) fn set_nack(&mut self, nack: NackName, bound: Binding)
         requires nack { is_nack (table_of self.old) nack ≡ true }
         requires range { IsBindingInRange bound }
         ensures written { table_of self.new ≡ with_nack (table_of self.old) nack bound }
         ensures threads { self.new.threads ≡ self.old.threads }
         ensures rows { self.new.rows ≡ self.old.rows }
+        ensures offers { self.new.offers ≡ self.old.offers }
         ensures opening { self.new.opening ≡ self.old.opening }
     {
         let at = self.nack_place(nack);
@@ -331,13 +357,13 @@ impl Sheet {
     }
 
     /// Writes where the thread is on its course.
-    #[tactic(auto, unfolding(crate::specs::Worlds::with_course))]
     pub(crate) fn set_course(&mut self, thread: u8, course: Course)
         requires thread { thread < self.old.threads }
         requires range { IsCourseInRange course }
         ensures written { table_of self.new ≡ with_course (table_of self.old) thread course }
         ensures threads { self.new.threads ≡ self.old.threads }
         ensures rows { self.new.rows ≡ self.old.rows }
+        ensures offers { self.new.offers ≡ self.old.offers }
         ensures opening { self.new.opening ≡ self.old.opening }
     {
         let at = self.course_place(thread);
@@ -347,8 +373,9 @@ impl Sheet {
     /// Writes the row's word at a place.
     pub(crate) fn set_word(&mut self, row: Row, place: usize, word: u64)
         requires row { is_row (table_of self.old) row ≡ true }
-        requires place { place < 34 }
-        ensures { table_of self.new ≡ with_word (table_of self.old) row place word }
+        requires place { place < row_len self.old.offers }
+        ensures written { table_of self.new ≡ with_word (table_of self.old) row place word }
+        ensures offers { self.new.offers ≡ self.old.offers }
     {
         let at = self.place(row, place);
         self.words[at] = word;
@@ -362,6 +389,7 @@ impl Sheet {
         ensures written { table_of self.new ≡ with_cell (table_of self.old) row cell }
         ensures threads { self.new.threads ≡ self.old.threads }
         ensures rows { self.new.rows ≡ self.old.rows }
+        ensures offers { self.new.offers ≡ self.old.offers }
         ensures opening { self.new.opening ≡ self.old.opening }
     {
         self.set_word(row, 0, pack_cell(cell));
@@ -370,6 +398,7 @@ impl Sheet {
 
 ghost use Rattle.protocol.specs.Tables.{encloses, is_fresh, start_of};
 ghost use Rattle.protocol.specs.Openings.{AreFirstWords, IsOpening, opening_of, table_with};
+ghost use Rattle.protocol.specs.Short.{short_len, wide_table};
 ghost use Rattle.protocol.specs.Worlds.{waits, with_lives};
 
 /// The words of a table at the start: all 0, but the lives of the threads that have started, at stamp 0.
@@ -394,20 +423,28 @@ pub fn start_words(
     Ok(words)
 }
 
-/// The words of a table that goes on from an opening: those of its rows 0, the life of each thread with its last stamp,
-/// and carried what became of each nack.
-pub fn next_words(alloc: Global, opening: &Opening, rows: usize) -> Result<Vec<u64>, AllocError>
+/// The words of a table that goes on from an opening, whose rows have room for so many offers: those of its rows 0, the
+/// life of each thread with its last stamp, and carried what became of each nack.
+pub fn next_words(
+    alloc: Global,
+    opening: &Opening,
+    rows: usize,
+    offers: usize,
+) -> Result<Vec<u64>, AllocError>
     requires opening { IsOpening (opening_of opening.now) rows }
     requires few_rows { rows ≤ 1024 }
-    ensures { IfOk result (λ v. AreFirstWords (opening_of opening.now) (table_with (opening_of opening.now) rows v.items)) }
+    requires few_offers { offers ≤ 8 }
+    ensures sized { IfOk result (λ v. length v.items ≡ length opening.now.threads.items * short_len offers rows) }
+    ensures first { IfOk result (λ v. AreFirstWords (opening_of opening.now) (wide_table offers (table_with (opening_of opening.now) rows v.items))) }
 {
-    let len = rows * ROW_LEN + NACKS + LIVES;
+    let behind = rows * (2 + 4 * offers);
+    let len = behind + NACKS + LIVES;
     let mut words = vec![in alloc; 0; opening.threads.len() * len]?;
     for (thread, (life, stamp)) in opening.threads.iter().enumerate() {
-        words[thread * len + rows * ROW_LEN + NACKS] = pack_course(life.course(*stamp));
+        words[thread * len + behind + NACKS] = pack_course(life.course(*stamp));
     }
     for (number, state) in opening.nacks.iter().enumerate() {
-        let nack = number / NACKS * len + rows * ROW_LEN + number % NACKS;
+        let nack = number / NACKS * len + behind + number % NACKS;
         words[nack] = pack_nack(state.word());
     }
     Ok(words)

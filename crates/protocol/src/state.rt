@@ -20,6 +20,7 @@ pub(crate) struct State {
     pub(crate) namers: Vec<Option<Row>>,
     pub(crate) lasts: Vec<Option<u8>>,
     ghost some_rows: { 1 ≤ sheet.rows },
+    ghost whole: { sheet.offers ≡ 8 },
     ghost held: { length holders.items ≡ sheet.threads * sheet.rows },
     ghost named: { length namers.items ≡ sheet.threads * sheet.rows },
     ghost behind: { length lasts.items ≡ sheet.threads },

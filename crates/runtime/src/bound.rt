@@ -1,4 +1,4 @@
-//! How many rows a table needs.
+//! How many rows a table needs, and for how many offers a row needs room.
 //!
 //! A thread's syncs take its rows one after another, those in the blocks of its guards and nacks too. So a
 //! thread uses no more rows than its process comes to syncs, and the longest process says how large the
@@ -8,8 +8,16 @@
 //! No promise hangs on it. Of a row that the table has not the workers open none, and what a thread offers
 //! behind its last row its machine tells. Were the bound too small, then the commits that are missing would
 //! be added at the run's end, as they are where the stated rows are too few.
+//!
+//! A sync makes an offer for each base event of its event, and how many these are the text says. So the offers are
+//! counted exactly: the most that some sync makes, also one in the body of a guard or a nack. On this a promise
+//! does hang: a row has to have room for all that a machine offers at once.
 
-ghost use Rattle.std.specs.Prelude.{◌≤◌};
+ghost use Rattle.std.specs.Prelude.{◌≡◌, ◌≤◌, ◌↔◌, ℕ, map};
+ghost use Rattle.script_tree.specs.Limits.{base_count};
+ghost use Rattle.script_tree.specs.Processes.{proc_of};
+ghost use Rattle.script_tree.specs.Trees.{block_of, event_of, stmt_of, turn_of};
+ghost use Rattle.runtime_worker.specs.Widths.{AllOfferAtMost, BodiesOfferAtMost, OffersAtMost, StmtOffersAtMost, TurnOffersAtMost};
 
 use script_tree::{Block, Event, Events, LoopBody, Proc, Stmt};
 
@@ -78,4 +86,112 @@ pub(crate) fn rows_used(processes: &[Proc], stated: u16) -> u16
         most = most.max(block_syncs(process.body()));
     }
     most.clamp(1, u32::from(stated)) as u16
+}
+
+/// The base events of an event: a sync on it offers each.
+fn base_events(event: &Event) -> u8
+    requires { base_count (event_of event.now) ≤ 8 }
+    ensures { result ≡ base_count (event_of event.now) }
+{
+    match event {
+        Event::Choose(members) => {
+            let mut count = 0;
+            let mut rest: &Events = members;
+            while let Events::More(member, others) = rest {
+                count += base_events(member);
+                rest = others;
+            }
+            count
+        }
+        Event::Wrap(inner, _, _) => base_events(inner),
+        Event::Guard(_, inner) => base_events(inner),
+        Event::Nack(_, _, inner) => base_events(inner),
+        Event::Send(_, _)
+        | Event::Recv(_)
+        | Event::Always(_)
+        | Event::Never
+        | Event::Cancelled(_)
+        | Event::Joined(_) => 1,
+    }
+}
+
+/// The most offers that a sync of the statements makes.
+#[cycle(offering)]
+fn block_offers(block: &Block) -> u8
+    requires { OffersAtMost 8 (block_of block.now) }
+    ensures { (k : ℕ) → OffersAtMost k (block_of block.now) ↔ (result ≤ k) }
+{
+    let mut most = 0;
+    let mut rest = block;
+    while let Block::Then(statement, behind) = rest {
+        most = most.max(statement_offers(statement));
+        rest = behind;
+    }
+    most
+}
+
+#[cycle(offering)]
+fn statement_offers(statement: &Stmt) -> u8
+    requires { StmtOffersAtMost 8 (stmt_of statement.now) }
+    ensures { (k : ℕ) → StmtOffersAtMost k (stmt_of statement.now) ↔ (result ≤ k) }
+{
+    match statement {
+        Stmt::Let(_, _) | Stmt::Print(_) | Stmt::End | Stmt::Spawn(_) => 0,
+        Stmt::Sync(_, event) => base_events(event).max(body_offers(event)),
+        Stmt::If(_, first, second) => block_offers(first).max(block_offers(second)),
+        Stmt::Loop(_, turn) => turn_offers(turn),
+        Stmt::Forever(turn) => turn_offers(turn),
+    }
+}
+
+/// The most in one turn of a loop, with the sync that it begins with.
+#[cycle(offering)]
+fn turn_offers(turn: &LoopBody) -> u8
+    requires { TurnOffersAtMost 8 (turn_of turn.now) }
+    ensures { (k : ℕ) → TurnOffersAtMost k (turn_of turn.now) ↔ (result ≤ k) }
+{
+    base_events(&turn.event)
+        .max(body_offers(&turn.event))
+        .max(block_offers(&turn.rest))
+}
+
+/// The most in the bodies of the event's guards and nacks.
+#[cycle(offering)]
+fn body_offers(event: &Event) -> u8
+    requires { BodiesOfferAtMost 8 (event_of event.now) }
+    ensures { (k : ℕ) → BodiesOfferAtMost k (event_of event.now) ↔ (result ≤ k) }
+{
+    match event {
+        Event::Choose(members) => {
+            let mut most = 0;
+            let mut rest: &Events = members;
+            while let Events::More(member, others) = rest {
+                most = most.max(body_offers(member));
+                rest = others;
+            }
+            most
+        }
+        Event::Wrap(inner, _, _) => body_offers(inner),
+        Event::Guard(body, inner) => block_offers(body).max(body_offers(inner)),
+        Event::Nack(_, body, inner) => block_offers(body).max(body_offers(inner)),
+        Event::Send(_, _)
+        | Event::Recv(_)
+        | Event::Always(_)
+        | Event::Never
+        | Event::Cancelled(_)
+        | Event::Joined(_) => 0,
+    }
+}
+
+/// For how many offers a row needs room: the most that some sync of the processes makes, and 1 at least.
+pub(crate) fn offers_used(processes: &[Proc]) -> u8
+    ensures range { (1 ≤ result) × (result ≤ 8) }
+    ensures enough { AllOfferAtMost result (map proc_of processes.now) }
+    ensures least { (k : ℕ) → 1 ≤ k → AllOfferAtMost k (map proc_of processes.now) → result ≤ k }
+{
+    let mut most = 1;
+    for process in processes {
+        most = most.max(block_offers(process.body()));
+    }
+    most
 }

@@ -19,7 +19,7 @@ ghost use Rattle.runtime_worker.specs.Workers.{IsNewPassOf};
 ghost use Rattle.runtime.specs.Machines.{AreLeftBy, MarksSpawned};
 ghost use Rattle.runtime.specs.declared.fault.RunFault.TheVariants.{Workers, Rows};
 
-use crate::bound::rows_used;
+use crate::bound::{offers_used, rows_used};
 use crate::fault::RunFault;
 use crate::gate::TurnsOnly;
 use crate::leaving::machines_of;
@@ -138,7 +138,7 @@ pub(crate) fn work_table<R: Threads + Wait + Sync, G: Gate + StepGate + Sync>(
 }
 
 /// The workers over a table of their own, and the machines as they leave them. The table has no more rows than the
-/// processes can use. Each of its rows was opened as its process offers there.
+/// processes can use, and its rows have room for no more offers. Each of its rows was opened as its process offers there.
 fn work_within<R: Threads + Wait + Sync, G: Gate + StepGate + Sync>(
     rt: &R,
     alloc: Global,
@@ -157,10 +157,11 @@ fn work_within<R: Threads + Wait + Sync, G: Gate + StepGate + Sync>(
     let processes = script.processes();
     let first = first_machines(alloc, processes)?;
     let used = rows_used(processes, rows);
-    let (cells, passes) = Cells::with_machines_later(
+    let (cells, passes) = Cells::with_machines_short(
         alloc,
         first,
         used,
+        offers_used(processes),
         workers,
         later(processes),
     )?;

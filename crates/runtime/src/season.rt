@@ -8,6 +8,7 @@ ghost use Rattle.runtime.specs.Season.{IsClosed, IsSeason, LeadsTo};
 use crate::between::{
     SeasonHalt, add_renumbered, are_spent, catch_up_all, counts_of, go_on_all, keep_all, none_each,
 };
+use crate::bound::offers_used;
 use crate::running::{first_machines, later, work_table};
 use cell::{Cells, Pass, StepGate};
 use protocol::{Ledger, Opening};
@@ -87,10 +88,11 @@ pub(crate) fn first_season(
     let first = first_machines(alloc, processes)?;
     let had = vec![in alloc; 0usize; first.len()]?;
     let resting = none_each(alloc, processes.len())?;
-    let (cells, passes) = Cells::with_machines_later(
+    let (cells, passes) = Cells::with_machines_short(
         alloc,
         first,
         rows,
+        offers_used(processes),
         workers,
         later(processes),
     )?;
@@ -196,7 +198,8 @@ pub(crate) fn follow(
         return Err(SeasonHalt::Spent);
     }
     let had = counts_of(alloc, &table.first)?;
-    let (cells, passes) = Cells::next(alloc, &opening, table.first, rows, workers)?;
+    let offers = offers_used(script.processes());
+    let (cells, passes) = Cells::next_short(alloc, &opening, table.first, rows, offers, workers)?;
     Ok(Next::Season(Season {
         done: done + 1,
         journal,

@@ -8,3 +8,4 @@ pub mod Rising
 pub mod Spawns
 pub mod Startings
 pub mod Turning
+pub mod Widths

@@ -35,6 +35,7 @@ use Rattle.cell_table.specs.Sight.{AreSettled, Has, IsDraft, Redrafts, WasSettle
 use Rattle.runtime_worker.specs.declared.resident.Suspended.{Suspended}
 use Rattle.runtime_worker.proofs.Processes.{new_first, offers_as}
 use Rattle.runtime_worker.proofs.Rising.{after_rises, Rises, rises_below, rises_once}
+use Rattle.runtime_worker.specs.Widths.{AllOfferAtMost}
 use Rattle.runtime_worker.specs.Machines.{AreBound, AreFirst, AreNew, IsNow, IsTable, LeavesOthers, OnlyBinds, StandsFor, doings}
 
 -- WHAT OTHER THREADS ARE LEFT WITH
@@ -158,9 +159,9 @@ none_settled threads later n stamp was =
     none-some stamp (sym (ap (λ (s : NackState). carried_by (word_for s)) is) ∙ was)
 
 -- so a table that begins with new machines is one
-unfoldable pub table_of_first : (cells : GridOf Suspended) (ps : List Proc) (first : List (Option Suspended)) → cells.first ≡ first → AreNew ps first → 1 ≤ length ps → length ps ≤ 64 → IsPlaced ps → AreSpawnedOnce ps → (1 ≤ cells.rows) × (cells.rows ≤ 1024)
+unfoldable pub table_of_first : (cells : GridOf Suspended) (ps : List Proc) (first : List (Option Suspended)) → cells.first ≡ first → AreNew ps first → 1 ≤ length ps → length ps ≤ 64 → IsPlaced ps → AreSpawnedOnce ps → AllOfferAtMost cells.offers ps → (1 ≤ cells.rows) × (cells.rows ≤ 1024)
     → (threads later : ℕ) → opening_at cells ≡ start_opening threads later → IsTable cells
-table_of_first cells ps first is are some few placed once rows threads later begins = record {
+table_of_first cells ps first is are some few placed once narrow rows threads later begins = record {
   rows = rows;
   processes = ps;
   some = some;
@@ -168,6 +169,7 @@ table_of_first cells ps first is are some few placed once rows threads later beg
   first = subst (AreFirst ps) (sym is) (new_first ps first are);
   placed = placed;
   once = once;
+  narrow = narrow;
   settled = λ n stamp start low was there. absurd (none_settled threads later n stamp (subst (λ (o : Opening). WasSettled o n stamp) begins was));
 }
 

@@ -20,6 +20,7 @@ use Rattle.atomic_table.specs.Table.{rest}
 use Rattle.cell.specs.Calls.{GridOf, PassOf, opening_at}
 use Rattle.cell_table.specs.declared.view.Seen.{Seen}
 use Rattle.cell_table.specs.Sight.{Has, SawEnded, WasSettled}
+use Rattle.runtime_worker.specs.Widths.{AllOfferAtMost}
 use Rattle.runtime_worker.specs.declared.resident.Rest.{Rest}
 use Rattle.runtime_worker.specs.declared.resident.Suspended.{Suspended}
 use Rattle.runtime_worker.specs.declared.turns.Taken.{Taken}
@@ -102,6 +103,8 @@ pub record IsTable (cells : GridOf Suspended) : Type 0 where
   pub first : AreFirst processes cells.first
   pub placed : IsPlaced processes
   pub once : AreSpawnedOnce processes
+  -- the table's rows have room for what a sync of these offers
+  pub narrow : AllOfferAtMost cells.offers processes
   -- a nack that was settled before it is a scope's of an earlier sync of its thread
   pub settled : (n : NackName) (stamp : ℕ) (start : Suspended) → n.k < 64 → WasSettled (opening_at cells) n stamp → slice_get cells.first n.thread ≡ Some (Some start)
       → (g : ℕ) × (g < length start.machine.value.results) × HasScopeAt processes n.thread start.machine.value.results n.k g

@@ -1,14 +1,17 @@
-use Rattle.std.proofs.Common.{rules, true, ◌≡◌, ◌<◌, ℕ, length, sym, subst, arith}
+use Rattle.std.proofs.Common.{rules, true, ◌≡◌, ◌<◌, ◌≤◌, ℕ, length, unwrap_or, sym, subst, arith}
 use Rattle.std.proofs.lemmas.Option.{slice_get-get_or}
-use Rattle.protocol_values.specs.Words.{is_word_for}
+use Rattle.protocol_values.specs.Words.{count_of, is_word_for}
 use Rattle.cell_table.specs.declared.view.View.{View}
 use Rattle.cell.specs.Attempts.{OnlyDrafts}
 use Rattle.cell_table.specs.Views.{drafted_word}
-use Rattle.cell.proofs.Redrafting.{IsDraftedTo, count_place, drafted_none, drafted_more, drafted_all, drafts_then, one_draft}
+use Rattle.cell.proofs.Redrafting.{IsDraftedTo, told_count, count_place, drafted_none, drafted_more, drafted_all, drafts_then, one_draft}
 use Rattle.cell.proofs.drafting.draft_offers.Goals as goal
 
 pub draft-requires-clause-place : goal.draft-requires-clause-place
 draft-requires-clause-place g c = (omega arith, omega arith, subst (λ (n : ℕ). is_word_for 1 n ≡ true) (sym c.pack_count.ensures) (count_place _ c.requires.offers.0))
+
+pub draft-requires-clause-few : goal.draft-requires-clause-few
+draft-requires-clause-few g c = λ first. subst (λ (n : ℕ). unwrap_or (count_of n) 0 ≤ c.args.board.now.shape.offers) (sym c.pack_count.ensures) (told_count _ _ c.requires.offers.0 c.requires.room)
 
 pub loop-n-init : goal.loop-n-init
 loop-n-init g c =

@@ -1,4 +1,4 @@
-use Rattle.std.proofs.Common.{rules, ◌≡◌, ℕ, ◌+◌, ◌≤◌, None, Some, sym, ap, ◌∙◌, min, subst}
+use Rattle.std.proofs.Common.{rules, ◌≡◌, ℕ, ◌+◌, None, Some, sym, ap, ◌∙◌, min, subst}
 use Rattle.protocol_values.specs.declared.Offer.{Offer}
 use Rattle.protocol_values.specs.Words.{IsJoinedInRange}
 use Rattle.protocol.proofs.Linking.{some_inj}

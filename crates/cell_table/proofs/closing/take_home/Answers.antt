@@ -1,4 +1,4 @@
-use Rattle.std.proofs.Common.{rules, ◌≡◌, ◌∙◌, get_or, sym, subst, ap, false}
+use Rattle.std.proofs.Common.{rules, ◌≡◌, ◌∙◌, get_or, get_or-set_other, sym, subst, ap, arith, false, true}
 use mathlib.Core.Option.{some}
 use lib.ListN.{get_elem?}
 use Rattle.std.specs.Slots.{slots_items, slots_filled}
@@ -10,7 +10,8 @@ pub loop-at-preserved : goal.loop-at-preserved
 loop-at-preserved g c =
     let others = c.take-value.ensures.others in
     let items = others.0 in (
-      (search rules),
+      (λ k high low. subst (λ xs. get_or xs k false ≡ true) (sym others.1)
+          (get_or-set_other (slots_filled c.loop-at.closed.slots) c.loop-at.at k false false (λ e. omega arith) ∙ c.loop-at.invariant.0 k (omega arith) (omega (arith, others.2)))),
       (λ k below. subst (λ xs. get_or xs k false ≡ false) (sym others.1) (emptied_more (slots_filled c.loop-at.closed.slots) c.loop-at.at c.loop-at.invariant.1 k below)),
       (search rules),
       (search rules),

@@ -8,6 +8,7 @@ use Rattle.cell_table.specs.declared.view.Seen.{Seen}
 use Rattle.cell_table.specs.Sight.{WasSettled}
 use Rattle.runtime_worker.specs.declared.resident.Suspended.{Suspended}
 use Rattle.runtime_worker.specs.Machines.{AreNew, IsTable}
+use Rattle.runtime_worker.specs.Widths.{AllOfferAtMost}
 use Rattle.runtime_worker.proofs.Machines.{none_settled, table_of_first}
 use Rattle.runtime.specs.Between.{AreHad}
 use Rattle.runtime.specs.Season.{IsSeason}
@@ -37,7 +38,8 @@ returns c =
     let few : length (map proc_of c.processes-processes.result.now) ≤ 64 = (search rules) in
     let rows : (1 ≤ c.in_ok-cells.cells.rows) × (c.in_ok-cells.cells.rows ≤ 1024) = (search rules) in
     let table : IsTable cells = table_of_first cells ps (map Some c.in_ok-first.first.items) is c.in_ok-first.ensures some few c.processes-processes.ensures.placed
-    (subst AreSpawnedOnce (sym value) c.processes-processes.ensures.limits.once) rows (length c.in_ok-first.first.items) c.later.result c.in_ok-cells.ensures.opening in
+    (subst AreSpawnedOnce (sym value) c.processes-processes.ensures.limits.once)
+    (subst (λ (n : ℕ). AllOfferAtMost n ps) (sym c.in_ok-cells.ensures.room) c.offers_used.ensures.enough) rows (length c.in_ok-first.first.items) c.later.result c.in_ok-cells.ensures.opening in
     let new : AreNew ps cells.first = subst (λ (l : List (Option Suspended)). AreNew ps l) (sym is) c.in_ok-first.ensures in
     let none : c.in_ok-had.had.items ≡ replicate c.len.result 0 = c.in_ok-had.ensures.items_if_clones_equal (λ y h. search rules) in
     let opens : opening_at cells ≡ start_opening (length c.in_ok-first.first.items) c.later.result = c.in_ok-cells.ensures.opening in

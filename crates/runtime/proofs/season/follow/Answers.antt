@@ -9,6 +9,7 @@ use Rattle.protocol.specs.Openings.{Opening}
 use Rattle.cell_table.specs.declared.view.Seen.{Seen}
 use Rattle.journal_replay.specs.Runs.{IsRun}
 use Rattle.journal_order.specs.Behind.{TellsRun}
+use Rattle.runtime_worker.specs.Widths.{AllOfferAtMost}
 use Rattle.runtime_worker.specs.declared.resident.Suspended.{Suspended}
 use Rattle.runtime.specs.declared.between.NextTable.{NextTable}
 use Rattle.runtime.specs.Between.{AreHad, CatchesUpAll, GoOnBelow}
@@ -57,8 +58,8 @@ go_on_all-requires-clause-count c =
     let size : length ps ≡ length c.processes.result.now = sym (ap (λ (qs : List Proc). length qs) c.processes.ensures.value) ∙ length-map c.processes.result.now proc_of in
     (ap (λ (ls : List (Life × ℕ)). length ls) c.deref-5.ensures.value ∙ from_size ps x c.requires.closed ∙ size, gone.0 ∙ size)
 
-pub next-requires-clause-machines : goal.next-requires-clause-machines
-next-requires-clause-machines c =
+pub next_short-requires-clause-machines : goal.next_short-requires-clause-machines
+next_short-requires-clause-machines c =
     let ps : List Proc = (script_of c.args.script.now).processes in
     let x = c.args.closed in
     let machines = c.catch_up_all.new.machines.items in
@@ -94,7 +95,8 @@ returns c =
     let rows : (1 ≤ cells.rows) × (cells.rows ≤ 1024) = (search rules) in
     let states : length x.opening.nacks.items ≡ cells.threads * 64 =
     closed.tells.1.0 ∙ ap (λ (n : ℕ). n * 64) (closed.over.size ∙ closed.of.threads ∙ sym next.count ∙ sym size.0) in
-    let of = table_of_next closed.cells cells ps o first closed.of next c.in_ok-cells.ensures.first c.in_ok-cells.ensures.opening rows size.0 states in
+    let narrow : AllOfferAtMost cells.offers ps = subst (λ (z : ℕ × List Proc). AllOfferAtMost z.0 z.1) (λ i. (sym c.in_ok-cells.ensures.room i, c.processes-2.ensures.value i)) c.offers_used-offers.ensures.enough in
+    let of = table_of_next closed.cells cells ps o first closed.of next narrow c.in_ok-cells.ensures.first c.in_ok-cells.ensures.opening rows size.0 states in
     let more = c.if-done-seasons.false in (
       record {
         of = of;

@@ -1,4 +1,3 @@
-use Rattle.std.proofs.Common.{Contains, subst}
 use Rattle.cell.specs.Calls.{PassOf}
 use Rattle.cell.specs.Hearing.{HasHeard}
 use Rattle.cell.proofs.Lists.{all_at}

@@ -5,8 +5,8 @@ use Rattle.std.specs.Vec.Iter.{into_iter_items}
 use Rattle.cell_table.specs.Rule.{told_of}
 use Rattle.cell.specs.Calls.{IsPassOf, PassOf}
 use Rattle.cell.specs.Hearing.{HasHeard}
-use Rattle.cell.proofs.Hearing.{heard_itself, heard_through, kept, told}
-use Rattle.cell.proofs.Lists.{all_head, all_is, all_none, all_one, all_rest}
+use Rattle.cell.proofs.Hearing.{heard_through, kept, told}
+use Rattle.cell.proofs.Lists.{all_head, all_is, all_one, all_rest}
 use Rattle.cell.proofs.cells.Cells.told_one.Goals as goal
 
 pub loop-pass-init : goal.loop-pass-init

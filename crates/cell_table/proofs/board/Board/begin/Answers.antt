@@ -12,5 +12,5 @@ load-requires g c = (
   search rules,
   search rules,
   subst (λ (z : Shape g.row.M.Denot). Allows (Keeps g.M.Resident.stands z) c.args.self.now.words.shared.table_id.slots c.args.seat.now.id c.args.seat.now.me c.place.result (λ n. n) (has_begun (step c.args.self.now.words.shared.table_id.slots c.place.result 0 0 none) c.args.seat.now.me)) (sym c.args.self.now.keyed)
-      (begin_allowed g.M.Resident.stands c.args.self.now.shape c.args.self.now.words.shared.table_id.slots c.args.seat.now.id c.place.result c.args.seat.now.me c.args.row (search rules) (search rules) (search rules) c.requires.some c.requires.first.0 c.requires.first.1 c.requires.first.2 (search rules)),
+      (begin_allowed g.M.Resident.stands c.args.self.now.shape c.args.self.now.words.shared.table_id.slots c.args.seat.now.id c.place.result c.args.seat.now.me c.args.row (search rules) (search rules) (search rules) (search rules) c.requires.some c.requires.first.0 c.requires.first.1 c.requires.first.2 (search rules)),
 )

@@ -18,12 +18,12 @@ compare_exchange-found-requires g c = (
   search rules,
   search rules,
   subst (λ (z : Shape g.row.M.Denot × ℕ × ℕ). Allows (Keeps g.M.Resident.stands z.0) c.args.self.now.words.shared.table_id.slots c.args.seat.now.id c.args.seat.now.me c.place.result (λ n. either (eqb n z.1) z.2 n) (claimed (step c.args.self.now.words.shared.table_id.slots c.place.result z.1 z.2 none) c.args.seat.now.me)) (λ i. (sym c.args.self.now.keyed i, sym c.pack_cell-waiting.ensures i, sym c.pack_cell-claimed.ensures i))
-      (claim_allowed g.M.Resident.stands c.args.self.now.shape c.args.self.now.words.shared.table_id.slots c.args.seat.now.id c.place.result c.args.seat.now.me c.args.row (search rules) (search rules) (search rules) (search rules) (search rules) (search rules)),
+      (claim_allowed g.M.Resident.stands c.args.self.now.shape c.args.self.now.words.shared.table_id.slots c.args.seat.now.id c.place.result c.args.seat.now.me c.args.row (search rules) (search rules) (search rules) (search rules) (search rules) (search rules) (search rules)),
 )
 
 pub returns-clause-found : goal.returns-clause-found
 returns-clause-found g c =
-    let told = c.compare_exchange-found.ensures.2 c.args.row (at_view c.args.self.now.shape c.args.seat.now.me.0 c.args.row (search rules) (search rules) (search rules), place_view c.args.self.now.shape c.args.seat.now.me.0 c.args.row 0 c.place.result (search rules) (search rules)) in
+    let told = c.compare_exchange-found.ensures.2 c.args.row (at_view c.args.self.now.shape c.args.seat.now.me.0 c.args.row (search rules) (search rules) (search rules), place_view c.args.self.now.shape c.args.seat.now.me.0 c.args.row 0 c.place.result (search rules) (search rules) (search rules)) in
     exchange_refused c.exchanged.result (λ cell. (c.compare_exchange-found.result ≢ c.pack_cell-waiting.result) × (cell ≡ cell_read c.compare_exchange-found.result)) (λ cell. (cell ≢ Waiting) × (c.compare_exchange-found.new.seat.me.0 ≡ saw c.args.row cell c.args.seat.now.me.0) × Agrees c.args.seat.now.me.0 c.args.row cell)
     (λ cell refused.
     let other : c.compare_exchange-found.result ≢ cell_word Waiting = (λ e. refused.0 (e ∙ sym c.pack_cell-waiting.ensures)) in

@@ -7,31 +7,32 @@ use Rattle.protocol.proofs.LedgerLemmas.{course_in_ledger}
 use Rattle.protocol.proofs.Readings.{course_outside}
 use Rattle.std.specs.Slots.{slots_items}
 use Rattle.cell_table.specs.Closings.{HandedOut, IsHomeOf}
+use Rattle.protocol.specs.Short.{wide_table}
 use Rattle.cell_table.proofs.Allowing.{sized}
 use Rattle.cell_table.proofs.Endings.{ended, final_acts, final_before, final_bound, final_carried, final_ended, final_lawful, final_joined, final_lack, final_machine, final_offer, final_over, final_own, final_results, final_started, sized_ledger}
 use Rattle.cell_table.proofs.board.Board.close.Goals as goal
 
-pub of_words-ledger-requires-clause-lawful : goal.of_words-ledger-requires-clause-lawful
-of_words-ledger-requires-clause-lawful g c =
+pub of_short_words-ledger-requires-clause-lawful : goal.of_short_words-ledger-requires-clause-lawful
+of_short_words-ledger-requires-clause-lawful g c =
     let size : c.args.seat.me.0.threads ≡ c.args.self.shape.threads = (search rules) in
     let some = c.args.self.small.0 in
-    subst (λ (n : ℕ). IsLawful (ledger_of (record { threads = c.args.self.shape.threads; rows = c.args.self.shape.rows; words = c.copy_words-words.result.items; opening = n }))) (sym c.args.self.opens.2)
+    subst (λ (n : ℕ). IsLawful (ledger_of (wide_table c.args.self.shape.offers (record { threads = c.args.self.shape.threads; rows = c.args.self.shape.rows; words = c.copy_words-words.result.items; opening = n })))) (sym c.args.self.opens.2)
     (final_lawful g.M.Resident.stands c.args.self.shape c.args.seat.id c.args.seat.me.0 (omega arith) c.copy_words-words.result.items _
     (ended g.M.Resident.stands _ _ _ _ _ _ _ c.args.self.keyed c.copy_words-words.ensures c.close_with-closed.ensures.values.2))
 
 pub returns-clause-size : goal.returns-clause-size
 unfolding ledger_of
-returns-clause-size g c = (ap (λ (l : Ledger). l.threads) (sized_ledger c.args.self.shape c.copy_words-words.result.items c.args.self.stamps _ c.args.self.opens.2 c.of_words-ledger.ensures), ap (λ (l : Ledger). l.rows) (sized_ledger c.args.self.shape c.copy_words-words.result.items c.args.self.stamps _ c.args.self.opens.2 c.of_words-ledger.ensures))
+returns-clause-size g c = (ap (λ (l : Ledger). l.threads) (sized_ledger c.args.self.shape c.copy_words-words.result.items c.args.self.stamps _ c.args.self.opens.2 c.of_short_words-ledger.ensures), ap (λ (l : Ledger). l.rows) (sized_ledger c.args.self.shape c.copy_words-words.result.items c.args.self.stamps _ c.args.self.opens.2 c.of_short_words-ledger.ensures))
 
 pub returns-clause-opening : goal.returns-clause-opening
 unfolding ledger_of
-returns-clause-opening g c = ap (λ (l : Ledger). l.opening) (sized_ledger c.args.self.shape c.copy_words-words.result.items c.args.self.stamps _ c.args.self.opens.2 c.of_words-ledger.ensures)
+returns-clause-opening g c = ap (λ (l : Ledger). l.opening) (sized_ledger c.args.self.shape c.copy_words-words.result.items c.args.self.stamps _ c.args.self.opens.2 c.of_short_words-ledger.ensures)
 
 pub returns-clause-seen : goal.returns-clause-seen
 returns-clause-seen g c r j h =
     let size : c.args.seat.me.0.threads ≡ c.args.self.shape.threads = (search rules) in
     let some = c.args.self.small.0 in
-    subst (λ (l : Ledger). joined_in l r ≡ Some j) (sym (sized_ledger c.args.self.shape c.copy_words-words.result.items c.args.self.stamps _ c.args.self.opens.2 c.of_words-ledger.ensures))
+    subst (λ (l : Ledger). joined_in l r ≡ Some j) (sym (sized_ledger c.args.self.shape c.copy_words-words.result.items c.args.self.stamps _ c.args.self.opens.2 c.of_short_words-ledger.ensures))
     (final_joined g.M.Resident.stands c.args.self.shape c.args.seat.id c.args.seat.me.0 (omega arith) c.copy_words-words.result.items _
     (ended g.M.Resident.stands _ _ _ _ _ _ _ c.args.self.keyed c.copy_words-words.ensures c.close_with-closed.ensures.values.2) r j h)
 
@@ -39,15 +40,15 @@ pub returns-clause-own : goal.returns-clause-own
 returns-clause-own g c r j offers draft e =
     let size : c.args.seat.me.0.threads ≡ c.args.self.shape.threads = (search rules) in
     let some = c.args.self.small.0 in
-    subst (λ (l : Ledger). (j.own < length offers) × (offer_in l r j.own ≡ slice_get offers j.own)) (sym (sized_ledger c.args.self.shape c.copy_words-words.result.items c.args.self.stamps _ c.args.self.opens.2 c.of_words-ledger.ensures))
+    subst (λ (l : Ledger). (j.own < length offers) × (offer_in l r j.own ≡ slice_get offers j.own)) (sym (sized_ledger c.args.self.shape c.copy_words-words.result.items c.args.self.stamps _ c.args.self.opens.2 c.of_short_words-ledger.ensures))
     (final_own g.M.Resident.stands c.args.self.shape c.args.seat.id c.args.seat.me.0 (omega arith) c.copy_words-words.result.items _
-    (ended g.M.Resident.stands _ _ _ _ _ _ _ c.args.self.keyed c.copy_words-words.ensures c.close_with-closed.ensures.values.2) r j offers draft (subst (λ (l : Ledger). joined_in l r ≡ Some j) (sized_ledger c.args.self.shape c.copy_words-words.result.items c.args.self.stamps _ c.args.self.opens.2 c.of_words-ledger.ensures) e))
+    (ended g.M.Resident.stands _ _ _ _ _ _ _ c.args.self.keyed c.copy_words-words.ensures c.close_with-closed.ensures.values.2) r j offers draft (subst (λ (l : Ledger). joined_in l r ≡ Some j) (sized_ledger c.args.self.shape c.copy_words-words.result.items c.args.self.stamps _ c.args.self.opens.2 c.of_short_words-ledger.ensures) e))
 
 pub returns-clause-offers : goal.returns-clause-offers
 returns-clause-offers g c r n o sees =
     let size : c.args.seat.me.0.threads ≡ c.args.self.shape.threads = (search rules) in
     let some = c.args.self.small.0 in
-    subst (λ (l : Ledger). offer_in l r n ≡ Some o) (sym (sized_ledger c.args.self.shape c.copy_words-words.result.items c.args.self.stamps _ c.args.self.opens.2 c.of_words-ledger.ensures))
+    subst (λ (l : Ledger). offer_in l r n ≡ Some o) (sym (sized_ledger c.args.self.shape c.copy_words-words.result.items c.args.self.stamps _ c.args.self.opens.2 c.of_short_words-ledger.ensures))
     (final_offer g.M.Resident.stands c.args.self.shape c.args.seat.id c.args.seat.me.0 (omega arith) c.copy_words-words.result.items _
     (ended g.M.Resident.stands _ _ _ _ _ _ _ c.args.self.keyed c.copy_words-words.ensures c.close_with-closed.ensures.values.2) r n o sees)
 
@@ -55,7 +56,7 @@ pub returns-clause-lacks : goal.returns-clause-lacks
 returns-clause-lacks g c r n sees =
     let size : c.args.seat.me.0.threads ≡ c.args.self.shape.threads = (search rules) in
     let some = c.args.self.small.0 in
-    subst (λ (l : Ledger). offer_in l r n ≡ None) (sym (sized_ledger c.args.self.shape c.copy_words-words.result.items c.args.self.stamps _ c.args.self.opens.2 c.of_words-ledger.ensures))
+    subst (λ (l : Ledger). offer_in l r n ≡ None) (sym (sized_ledger c.args.self.shape c.copy_words-words.result.items c.args.self.stamps _ c.args.self.opens.2 c.of_short_words-ledger.ensures))
     (final_lack g.M.Resident.stands c.args.self.shape c.args.seat.id c.args.seat.me.0 (omega arith) c.copy_words-words.result.items _
     (ended g.M.Resident.stands _ _ _ _ _ _ _ c.args.self.keyed c.copy_words-words.ensures c.close_with-closed.ensures.values.2) r n sees)
 
@@ -63,7 +64,7 @@ pub returns-clause-lawful : goal.returns-clause-lawful
 returns-clause-lawful g c =
     let size : c.args.seat.me.0.threads ≡ c.args.self.shape.threads = (search rules) in
     let some = c.args.self.small.0 in
-    subst IsLawful (sym (sized_ledger c.args.self.shape c.copy_words-words.result.items c.args.self.stamps _ c.args.self.opens.2 c.of_words-ledger.ensures))
+    subst IsLawful (sym (sized_ledger c.args.self.shape c.copy_words-words.result.items c.args.self.stamps _ c.args.self.opens.2 c.of_short_words-ledger.ensures))
     (final_lawful g.M.Resident.stands c.args.self.shape c.args.seat.id c.args.seat.me.0 (omega arith) c.copy_words-words.result.items _
     (ended g.M.Resident.stands _ _ _ _ _ _ _ c.args.self.keyed c.copy_words-words.ensures c.close_with-closed.ensures.values.2))
 
@@ -71,7 +72,7 @@ pub returns-clause-bound : goal.returns-clause-bound
 returns-clause-bound g c n b h =
     let size : c.args.seat.me.0.threads ≡ c.args.self.shape.threads = (search rules) in
     let some = c.args.self.small.0 in
-    subst (λ (l : Ledger). binding_in l n ≡ Some b) (sym (sized_ledger c.args.self.shape c.copy_words-words.result.items c.args.self.stamps _ c.args.self.opens.2 c.of_words-ledger.ensures))
+    subst (λ (l : Ledger). binding_in l n ≡ Some b) (sym (sized_ledger c.args.self.shape c.copy_words-words.result.items c.args.self.stamps _ c.args.self.opens.2 c.of_short_words-ledger.ensures))
     (final_bound g.M.Resident.stands c.args.self.shape c.args.seat.id c.args.seat.me.0 (omega arith) c.copy_words-words.result.items _
     (ended g.M.Resident.stands _ _ _ _ _ _ _ c.args.self.keyed c.copy_words-words.ensures c.close_with-closed.ensures.values.2) n b h)
 
@@ -79,7 +80,7 @@ pub returns-clause-results : goal.returns-clause-results
 returns-clause-results g c t rs h =
     let size : c.args.seat.me.0.threads ≡ c.args.self.shape.threads = (search rules) in
     let some = c.args.self.small.0 in
-    subst (λ (l : Ledger). AreResults l t rs) (sym (sized_ledger c.args.self.shape c.copy_words-words.result.items c.args.self.stamps _ c.args.self.opens.2 c.of_words-ledger.ensures))
+    subst (λ (l : Ledger). AreResults l t rs) (sym (sized_ledger c.args.self.shape c.copy_words-words.result.items c.args.self.stamps _ c.args.self.opens.2 c.of_short_words-ledger.ensures))
     (final_results g.M.Resident.stands c.args.self.shape c.args.seat.id c.args.seat.me.0 (omega arith) c.copy_words-words.result.items _
     (ended g.M.Resident.stands _ _ _ _ _ _ _ c.args.self.keyed c.copy_words-words.ensures c.close_with-closed.ensures.values.2) t rs h)
 
@@ -87,7 +88,7 @@ pub returns-clause-acts : goal.returns-clause-acts
 returns-clause-acts g c some_first =
     let size : c.args.seat.me.0.threads ≡ c.args.self.shape.threads = (search rules) in
     let some = c.args.self.small.0 in
-    subst (ActsAs (before_of (opening_in c.args.self.shape)) (acts_in g.M.Resident.stands c.args.self.shape.first.value.items)) (sym (sized_ledger c.args.self.shape c.copy_words-words.result.items c.args.self.stamps _ c.args.self.opens.2 c.of_words-ledger.ensures))
+    subst (ActsAs (before_of (opening_in c.args.self.shape)) (acts_in g.M.Resident.stands c.args.self.shape.first.value.items)) (sym (sized_ledger c.args.self.shape c.copy_words-words.result.items c.args.self.stamps _ c.args.self.opens.2 c.of_short_words-ledger.ensures))
     (final_acts g.M.Resident.stands c.args.self.shape c.args.seat.id c.args.seat.me.0 (omega arith) c.copy_words-words.result.items _
     (ended g.M.Resident.stands _ _ _ _ _ _ _ c.args.self.keyed c.copy_words-words.ensures c.close_with-closed.ensures.values.2) some_first)
 
@@ -95,7 +96,7 @@ pub returns-clause-started : goal.returns-clause-started
 returns-clause-started g c t stamp h =
     let size : c.args.seat.me.0.threads ≡ c.args.self.shape.threads = (search rules) in
     let some = c.args.self.small.0 in
-    subst (λ (l : Ledger). HasStart (course_in l t) stamp) (sym (sized_ledger c.args.self.shape c.copy_words-words.result.items c.args.self.stamps _ c.args.self.opens.2 c.of_words-ledger.ensures))
+    subst (λ (l : Ledger). HasStart (course_in l t) stamp) (sym (sized_ledger c.args.self.shape c.copy_words-words.result.items c.args.self.stamps _ c.args.self.opens.2 c.of_short_words-ledger.ensures))
     (final_started g.M.Resident.stands c.args.self.shape c.args.seat.id c.args.seat.me.0 (omega arith) c.copy_words-words.result.items _
     (ended g.M.Resident.stands _ _ _ _ _ _ _ c.args.self.keyed c.copy_words-words.ensures c.close_with-closed.ensures.values.2) t stamp h)
 
@@ -103,7 +104,7 @@ pub returns-clause-ended : goal.returns-clause-ended
 returns-clause-ended g c t g' h =
     let size : c.args.seat.me.0.threads ≡ c.args.self.shape.threads = (search rules) in
     let some = c.args.self.small.0 in
-    subst (λ (l : Ledger). EndsAt (course_in l t) g') (sym (sized_ledger c.args.self.shape c.copy_words-words.result.items c.args.self.stamps _ c.args.self.opens.2 c.of_words-ledger.ensures))
+    subst (λ (l : Ledger). EndsAt (course_in l t) g') (sym (sized_ledger c.args.self.shape c.copy_words-words.result.items c.args.self.stamps _ c.args.self.opens.2 c.of_short_words-ledger.ensures))
     (final_ended g.M.Resident.stands c.args.self.shape c.args.seat.id c.args.seat.me.0 (omega arith) c.copy_words-words.result.items _
     (ended g.M.Resident.stands _ _ _ _ _ _ _ c.args.self.keyed c.copy_words-words.ensures c.close_with-closed.ensures.values.2) t g' h)
 
@@ -111,7 +112,7 @@ pub returns-clause-before : goal.returns-clause-before
 returns-clause-before g c t stamp had =
     let size : c.args.seat.me.0.threads ≡ c.args.self.shape.threads = (search rules) in
     let some = c.args.self.small.0 in
-    subst (λ (l : Ledger). HasStart (course_in l t) stamp) (sym (sized_ledger c.args.self.shape c.copy_words-words.result.items c.args.self.stamps _ c.args.self.opens.2 c.of_words-ledger.ensures))
+    subst (λ (l : Ledger). HasStart (course_in l t) stamp) (sym (sized_ledger c.args.self.shape c.copy_words-words.result.items c.args.self.stamps _ c.args.self.opens.2 c.of_short_words-ledger.ensures))
     (final_before g.M.Resident.stands c.args.self.shape c.args.seat.id c.args.seat.me.0 (omega arith) c.copy_words-words.result.items _
     (ended g.M.Resident.stands _ _ _ _ _ _ _ c.args.self.keyed c.copy_words-words.ensures c.close_with-closed.ensures.values.2) t stamp had)
 
@@ -119,7 +120,7 @@ pub returns-clause-over : goal.returns-clause-over
 returns-clause-over g c t had =
     let size : c.args.seat.me.0.threads ≡ c.args.self.shape.threads = (search rules) in
     let some = c.args.self.small.0 in
-    subst (λ (l : Ledger). EndsAt (course_in l t) 0) (sym (sized_ledger c.args.self.shape c.copy_words-words.result.items c.args.self.stamps _ c.args.self.opens.2 c.of_words-ledger.ensures))
+    subst (λ (l : Ledger). EndsAt (course_in l t) 0) (sym (sized_ledger c.args.self.shape c.copy_words-words.result.items c.args.self.stamps _ c.args.self.opens.2 c.of_short_words-ledger.ensures))
     (final_over g.M.Resident.stands c.args.self.shape c.args.seat.id c.args.seat.me.0 (omega arith) c.copy_words-words.result.items _
     (ended g.M.Resident.stands _ _ _ _ _ _ _ c.args.self.keyed c.copy_words-words.ensures c.close_with-closed.ensures.values.2) t had)
 
@@ -127,12 +128,12 @@ pub returns-clause-carried : goal.returns-clause-carried
 returns-clause-carried g c n thread low =
     let size : c.args.seat.me.0.threads ≡ c.args.self.shape.threads = (search rules) in
     let some = c.args.self.small.0 in
-    ap (λ (l : Ledger). carried_in l n) (sized_ledger c.args.self.shape c.copy_words-words.result.items c.args.self.stamps _ c.args.self.opens.2 c.of_words-ledger.ensures)
+    ap (λ (l : Ledger). carried_in l n) (sized_ledger c.args.self.shape c.copy_words-words.result.items c.args.self.stamps _ c.args.self.opens.2 c.of_short_words-ledger.ensures)
     ∙ final_carried g.M.Resident.stands c.args.self.shape c.args.seat.id c.args.seat.me.0 (omega arith) c.copy_words-words.result.items _
     (ended g.M.Resident.stands _ _ _ _ _ _ _ c.args.self.keyed c.copy_words-words.ensures c.close_with-closed.ensures.values.2) n thread low
 
 pub returns-clause-outside : goal.returns-clause-outside
-returns-clause-outside g c t above = ap (λ (l : Ledger). course_in l t) (sized_ledger c.args.self.shape c.copy_words-words.result.items c.args.self.stamps _ c.args.self.opens.2 c.of_words-ledger.ensures) ∙ (λ i. course_in_ledger (sized c.args.self.shape c.copy_words-words.result.items) i t) ∙ course_outside (sized c.args.self.shape c.copy_words-words.result.items) t above
+returns-clause-outside g c t above = ap (λ (l : Ledger). course_in l t) (sized_ledger c.args.self.shape c.copy_words-words.result.items c.args.self.stamps _ c.args.self.opens.2 c.of_short_words-ledger.ensures) ∙ (λ i. course_in_ledger (sized c.args.self.shape c.copy_words-words.result.items) i t) ∙ course_outside (sized c.args.self.shape c.copy_words-words.result.items) t above
 
 pub returns-clause-machines : goal.returns-clause-machines
 returns-clause-machines g c some_first t value h =
@@ -141,4 +142,4 @@ returns-clause-machines g c some_first t value h =
     let home = final_machine g.M.Resident.stands c.args.self.shape c.args.seat.id c.args.seat.me.0 (omega arith) c.copy_words-words.result.items _
     (ended g.M.Resident.stands _ _ _ _ _ _ _ c.args.self.keyed c.copy_words-words.ensures c.close_with-closed.ensures.values.2) some_first t value
     (subst (λ (ws : List ℕ). IsHomeOf c.args.self.shape ws (slots_items c.close_with-closed.result.slots) t value) c.as_slice.ensures.value (c.take_home-machines.ensures.home t value h)) in
-    subst (λ (l : Ledger). HandedOut g.M.Resident.stands c.args.self.shape.first.value.items l t value) (sym (sized_ledger c.args.self.shape c.copy_words-words.result.items c.args.self.stamps _ c.args.self.opens.2 c.of_words-ledger.ensures)) home
+    subst (λ (l : Ledger). HandedOut g.M.Resident.stands c.args.self.shape.first.value.items l t value) (sym (sized_ledger c.args.self.shape c.copy_words-words.result.items c.args.self.stamps _ c.args.self.opens.2 c.of_short_words-ledger.ensures)) home

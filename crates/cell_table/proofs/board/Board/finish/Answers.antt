@@ -12,5 +12,5 @@ store-requires g c = (
   search rules,
   search rules,
   subst (λ (z : Shape g.row.M.Denot × ℕ). Allows (Keeps g.M.Resident.stands z.0) c.args.self.now.words.shared.table_id.slots c.args.seat.now.id c.args.seat.now.me c.life_place.result (λ n. z.1) (λ n. finished (step c.args.self.now.words.shared.table_id.slots c.life_place.result z.1 0 none) c.args.seat.now.me z.1)) (λ i. (sym c.args.self.now.keyed i, sym c.pack_course.ensures i))
-      (finish_allowed g.M.Resident.stands c.args.self.now.shape c.args.self.now.words.shared.table_id.slots c.args.seat.now.id c.life_place.result c.args.seat.now.me c.args.row (search rules) (search rules) (search rules) (search rules) c.requires.finishing c.requires.resting (search rules) (search rules) c.args.start (search rules) (search rules)),
+      (finish_allowed g.M.Resident.stands c.args.self.now.shape c.args.self.now.words.shared.table_id.slots c.args.seat.now.id c.life_place.result c.args.seat.now.me c.args.row (search rules) (search rules) (search rules) (search rules) (search rules) c.requires.finishing c.requires.resting (search rules) (search rules) c.args.start (search rules) (search rules)),
 )

@@ -12,5 +12,5 @@ store-requires g c = (
   search rules,
   search rules,
   subst (λ (z : Shape g.row.M.Denot × ℕ). Allows (Keeps g.M.Resident.stands z.0) c.args.self.now.words.shared.table_id.slots c.args.seat.now.id c.args.seat.now.me c.place.result (λ n. z.1) (λ n. yielded (step c.args.self.now.words.shared.table_id.slots c.place.result z.1 0 none) c.args.seat.now.me z.1)) (λ i. (sym c.args.self.now.keyed i, sym c.pack_cell.ensures i))
-      (yield_allowed g.M.Resident.stands c.args.self.now.shape c.args.self.now.words.shared.table_id.slots c.args.seat.now.id c.place.result c.args.seat.now.me c.args.row (search rules) (search rules) (search rules) (search rules) (search rules) (search rules)),
+      (yield_allowed g.M.Resident.stands c.args.self.now.shape c.args.self.now.words.shared.table_id.slots c.args.seat.now.id c.place.result c.args.seat.now.me c.args.row (search rules) (search rules) (search rules) (search rules) (search rules) (search rules) (search rules)),
 )

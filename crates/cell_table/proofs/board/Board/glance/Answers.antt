@@ -16,9 +16,9 @@ pub load-requires : goal.load-requires
 load-requires g c =
     let size = c.args.self.now.small in (
       search rules,
-      subst (λ (n : _). 0 < n) (sym c.args.self.now.sized) (some_words c.args.self.now.shape.threads c.args.self.now.shape.rows size.0),
+      subst (λ (n : _). 0 < n) (sym c.args.self.now.sized) (some_words c.args.self.now.shape.offers c.args.self.now.shape.threads c.args.self.now.shape.rows size.0),
       subst (λ (z : Shape g.row.M.Denot). Allows (Keeps g.M.Resident.stands z) c.args.self.now.words.shared.table_id.slots c.args.seat.now.id c.args.seat.now.me 0 (λ n. n) (glanced (step c.args.self.now.words.shared.table_id.slots 0 0 0 none) c.args.seat.now.me)) (sym c.args.self.now.keyed)
-          (glance_allowed g.M.Resident.stands c.args.self.now.shape c.args.self.now.words.shared.table_id.slots c.args.seat.now.id 0 c.args.seat.now.me (record { thread = 0; sync = 0 }) (search rules) (search rules) (omega (arith, size.0), omega (arith, size.2)) (omega arith)),
+          (glance_allowed g.M.Resident.stands c.args.self.now.shape c.args.self.now.words.shared.table_id.slots c.args.seat.now.id 0 c.args.seat.now.me (record { thread = 0; sync = 0 }) (search rules) (search rules) (search rules) (omega (arith, size.0), omega (arith, size.2)) (omega arith)),
     )
 
 pub returns-clause-sits : goal.returns-clause-sits
@@ -38,6 +38,7 @@ returns-clause-sits g c =
         lives,
         nacks,
         subst (λ (o : Opening). AreSettled o c.load.new.seat.me.0.seen) (λ i. record { threads = lives i; nacks = nacks i }) told.1.1,
+        ap (λ z. z.0.offers) told.0 ∙ c.requires.sits.6,
       ),
       ap (λ z. z.1) told.0,
     )

@@ -12,5 +12,5 @@ load-requires g c = (
   search rules,
   search rules,
   subst (λ (z : Shape g.row.M.Denot). Allows (Keeps g.M.Resident.stands z) c.args.self.now.words.shared.table_id.slots c.args.seat.now.id c.args.seat.now.me c.place.result (λ n. n) (looked (step c.args.self.now.words.shared.table_id.slots c.place.result 0 0 none) c.args.seat.now.me)) (sym c.args.self.now.keyed)
-      (look_allowed g.M.Resident.stands c.args.self.now.shape c.args.self.now.words.shared.table_id.slots c.args.seat.now.id c.place.result c.args.seat.now.me c.args.row (search rules) (search rules) (search rules) (search rules)),
+      (look_allowed g.M.Resident.stands c.args.self.now.shape c.args.self.now.words.shared.table_id.slots c.args.seat.now.id c.place.result c.args.seat.now.me c.args.row (search rules) (search rules) (search rules) (search rules) (search rules)),
 )

@@ -22,7 +22,7 @@ compare_exchange-found-requires g c = (
   search rules,
   search rules,
   subst (λ (z : Shape g.row.M.Denot × ℕ × ℕ). Allows (Keeps g.M.Resident.stands z.0) c.args.self.now.words.shared.table_id.slots c.args.seat.now.id c.args.seat.now.me c.life_place.result (λ n. either (eqb n z.1) z.2 n) (tried_start (step c.args.self.now.words.shared.table_id.slots c.life_place.result z.1 z.2 none) c.args.seat.now.me)) (λ i. (sym c.args.self.now.keyed i, sym c.pack_course-unstarted.ensures i, sym c.pack_course-started.ensures i))
-      (start_allowed g.M.Resident.stands c.args.self.now.shape c.args.self.now.words.shared.table_id.slots c.args.seat.now.id c.life_place.result c.args.seat.now.me c.args.thread (search rules) (search rules) (search rules) (search rules)
+      (start_allowed g.M.Resident.stands c.args.self.now.shape c.args.self.now.words.shared.table_id.slots c.args.seat.now.id c.life_place.result c.args.seat.now.me c.args.thread (search rules) (search rules) (search rules) (search rules) (search rules)
       (subst (λ (r : Row). 0 < length c.args.self.now.shape.first.value.items → IsStarting g.M.Resident.stands c.args.self.now.shape.first.value.items c.args.seat.now.me.0.results r c.args.thread) (sym c.requires.stands.0) c.requires.starting) (search rules) c.requires.resting (search rules) (search rules) (search rules) (search rules) c.args.stamp (subst (λ (r : Row). HasSeenLast c.args.seat.now.me.0.seen r c.args.stamp) (sym c.requires.stands.0) c.requires.stamp) (search rules)),
 )
 
@@ -35,13 +35,13 @@ told g c = c.compare_exchange-found.ensures.2 c.args.thread c.args.stamp (search
 
 pub returns-clause-sits : goal.returns-clause-sits
 returns-clause-sits g c = ⊎_elim
-    (λ (e : c.compare_exchange-found.result ≡ course_word Unstarted). sits _ ((told g c).0 e).0 refl refl refl refl refl)
-    (λ (e : c.compare_exchange-found.result ≡ course_word Unstarted → ⊥). sits _ ((told g c).1 e).0 refl refl refl refl refl)
+    (λ (e : c.compare_exchange-found.result ≡ course_word Unstarted). sits _ ((told g c).0 e).0 refl refl refl refl refl refl)
+    (λ (e : c.compare_exchange-found.result ≡ course_word Unstarted → ⊥). sits _ ((told g c).1 e).0 refl refl refl refl refl refl)
     (cases_eq c.compare_exchange-found.result (course_word Unstarted))
   where
-    sits : (v : View g.row.M.Denot) → c.compare_exchange-found.new.seat.me ≡ (v, c.args.seat.now.me.1) → v.threads ≡ c.args.seat.now.me.0.threads → v.rows ≡ c.args.seat.now.me.0.rows → v.first ≡ c.args.seat.now.me.0.first
+    sits : (v : View g.row.M.Denot) → c.compare_exchange-found.new.seat.me ≡ (v, c.args.seat.now.me.1) → v.threads ≡ c.args.seat.now.me.0.threads → v.rows ≡ c.args.seat.now.me.0.rows → v.offers ≡ c.args.seat.now.me.0.offers → v.first ≡ c.args.seat.now.me.0.first
         → v.lives ≡ c.args.seat.now.me.0.lives → v.nacks ≡ c.args.seat.now.me.0.nacks → StaysSeated c.args.self.now c.args.seat.now c.compare_exchange-found.new.seat
-    sits v is threads rows first lives nacks = ((search rules), sits_still c.args.self.now c.args.seat.now c.compare_exchange-found.new.seat (search rules) (search rules) (ap (λ z. z.0.threads) is ∙ threads) (ap (λ z. z.0.rows) is ∙ rows) (ap (λ z. z.0.first) is ∙ first) (ap (λ z. z.0.lives) is ∙ lives) (ap (λ z. z.0.nacks) is ∙ nacks) (told g c).2, ap (λ z. z.1) is)
+    sits v is threads rows wide first lives nacks = ((search rules), sits_still c.args.self.now c.args.seat.now c.compare_exchange-found.new.seat (search rules) (search rules) (ap (λ z. z.0.threads) is ∙ threads) (ap (λ z. z.0.rows) is ∙ rows) (ap (λ z. z.0.offers) is ∙ wide) (ap (λ z. z.0.first) is ∙ first) (ap (λ z. z.0.lives) is ∙ lives) (ap (λ z. z.0.nacks) is ∙ nacks) (told g c).2, ap (λ z. z.1) is)
 
 pub returns-clause-started : goal.returns-clause-started
 returns-clause-started g c made =

@@ -1,4 +1,5 @@
-use Rattle.std.proofs.Common.{ℕ, List, length, replicate, ap, ◌∙◌, ◌*◌, ◌+◌}
+use Rattle.std.proofs.Common.{ℕ, List, length, replicate, ap, ◌∙◌, ◌*◌, ◌+◌, arith}
+use Rattle.protocol.proofs.Short.{whole}
 use Rattle.std.proofs.lemmas.List.{length-replicate}
 use Rattle.protocol.proofs.LedgerLemmas.{length_lives}
 use Rattle.protocol.proofs.sheet.Sheet.new.Goals as goal
@@ -10,5 +11,13 @@ invariant_of-result c = record {
       ∙ length_lives c.args.later c.args.rows (replicate (c.args.threads * (c.args.rows * 34 + 65)) 0) c.args.threads
       ∙ length-replicate (c.args.threads * (c.args.rows * 34 + 65)) 0;
   few_threads = c.requires.few_threads;
+  few_offers = omega arith;
   few_rows = c.requires.few_rows;
 }
+
+pub returns-clause-words : goal.returns-clause-words
+returns-clause-words c = whole c.args.rows c.args.threads c.in_ok-words.words.items
+    (ap (λ (xs : List ℕ). length xs) c.in_ok-words.ensures
+    ∙ length_lives c.args.later c.args.rows (replicate (c.args.threads * (c.args.rows * 34 + 65)) 0) c.args.threads
+    ∙ length-replicate (c.args.threads * (c.args.rows * 34 + 65)) 0)
+    ∙ c.in_ok-words.ensures

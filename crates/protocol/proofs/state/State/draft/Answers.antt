@@ -17,7 +17,7 @@ returns-clause-sound c =
     let low : 1 ≤ c.args.place = c.if-place-lt1.false in
     let high : c.args.place ≤ 33 = (let below = c.if-from-ge-ROW_LEN.false in let same = c.from.ensures in omega arith) in
     let written : table_of c.set_word.new.self ≡ with_word w.table c.args.row c.args.place c.args.value =
-    c.set_word.ensures ∙ ap (λ n. with_word w.table c.args.row n c.args.value) c.from-2.ensures in
+    c.set_word.ensures.written ∙ ap (λ n. with_word w.table c.args.row n c.args.value) c.from-2.ensures in
     let condition : Condition w c.args.seat (Draft c.args.row c.args.place c.args.value) =
     (held, sym c.in-Fresh.ensures, c.is_alive.ensures.0 c.if-not-is_alive.false, low, high, sym c.is_word_for.ensures ∙ c.if-not-is_word_for.false) in
     sound_state _ w (with_word w.table c.args.row c.args.place c.args.value) written refl refl refl

@@ -12,6 +12,7 @@ invariant_of-result c =
     let holders = map (held_first (opening_of c.args.opening.now) c.args.seats) (all_rows c.in_ok-sheet.sheet.threads c.in_ok-sheet.sheet.rows) in
     record {
       some_rows = omega (arith, c.in_ok-sheet.ensures.rows, c.requires.some_rows);
+      whole = c.in_ok-sheet.ensures.offers;
       held =
           ap (λ (xs : List (Option ℕ)). length xs) c.in_ok-holders.ensures
           ∙ length-map (all_rows c.in_ok-sheet.sheet.threads c.in_ok-sheet.sheet.rows) (held_first (opening_of c.args.opening.now) c.args.seats)

@@ -8,6 +8,8 @@ use Rattle.runtime_worker.specs.Machines.{NamesInRange, doings}
 use Rattle.runtime_worker.specs.declared.resident.Suspended.{Suspended}
 use Rattle.runtime_worker.proofs.Machines.{open_is, ready}
 use Rattle.runtime_worker.proofs.Ranging.{names_in_range}
+use Rattle.runtime_worker.proofs.Widths.{stands_at_most}
+use Rattle.protocol_values.specs.declared.Offer.{Offer}
 use Rattle.runtime_worker.proofs.crew.Crew.offer.Goals as goal
 
 -- what a machine offers has room in words
@@ -21,6 +23,16 @@ offers_fit-requires-clause-names g c =
     let few : length (nacks_in phase) ≤ 4 = subst (λ (l : List ℕ). length l ≤ 4) nacks c.nacks.ensures.few in
     subst NamesInRange offers
     (names_in_range c.args.self.now.cells.now c.args.place.thread m c.requires.now.earlier (offers_in phase) (nacks_in phase) c.requires.here.2 (c.requires.now.machine, open_now) few)
+
+-- and so have the table's rows
+pub draft-requires-clause-room : goal.draft-requires-clause-room
+draft-requires-clause-room g c = λ housed.
+    let m = c.args.suspended in
+    let phase = m.machine.value.phase in
+    let table = c.requires.here.2 in
+    let offers : offers_in phase ≡ c.offers-2.result.now = (search rules) in
+    subst (λ (l : List Offer). length l ≤ c.args.self.now.cells.now.offers) offers
+    (stands_at_most c.args.self.now.cells.now.offers table.processes c.args.self.now.cells.now.first c.args.place.thread m c.requires.now.earlier (offers_in phase) (nacks_in phase) table.first table.narrow (c.requires.now.machine, open_is phase c.requires.open))
 
 pub park-requires-clause-ready : goal.park-requires-clause-ready
 park-requires-clause-ready g c = λ below.

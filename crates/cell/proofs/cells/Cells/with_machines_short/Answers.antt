@@ -6,7 +6,7 @@ use Rattle.cell.specs.Calls.{IsPassOf, PassOf}
 use Rattle.cell_table.specs.Rule.{AreMachines, dealt_from, seen_nothing}
 use Rattle.protocol.proofs.Going.{start_opens}
 use Rattle.cell.proofs.Beginning.{first_machines}
-use Rattle.cell.proofs.cells.Cells.with_machines_later.Goals as goal
+use Rattle.cell.proofs.cells.Cells.with_machines_short.Goals as goal
 
 pub over-requires-clause-opening : goal.over-requires-clause-opening
 over-requires-clause-opening g c =
