@@ -79,6 +79,31 @@ func pingpong(rounds int) {
 	}})
 }
 
+// fanin has 62 senders on four channels, and two receivers that choose among these.
+func fanin(rounds int) {
+	made := channels(4)
+	var tasks []func()
+	for p := 0; p < 62; p++ {
+		channel := made[p%4]
+		tasks = append(tasks, func() {
+			for i := 0; i < rounds; i++ {
+				channel <- i
+			}
+		})
+	}
+	receive := func() {
+		for i := 0; i < 31*rounds; i++ {
+			select {
+			case <-made[0]:
+			case <-made[1]:
+			case <-made[2]:
+			case <-made[3]:
+			}
+		}
+	}
+	all(append(tasks, receive, receive))
+}
+
 // starts starts 63 goroutines that do nothing, and waits for their ends.
 func starts(rounds int) {
 	tasks := make([]func(), 63)
@@ -96,12 +121,14 @@ func main() {
 		panic(err)
 	}
 	switch os.Args[1] {
-	case "pairs":
+	case "pairs", "pairs_split":
 		pairs(rounds)
 	case "ring":
 		ring(rounds)
 	case "pingpong":
 		pingpong(rounds)
+	case "fanin":
+		fanin(rounds)
 	case "starts":
 		starts(rounds)
 	}

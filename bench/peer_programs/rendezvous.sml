@@ -42,12 +42,24 @@ structure Rendezvous = struct
          fn () => times rounds (fn _ => CML.send (pong, CML.recv ping))]
   end
 
+  (* 62 senders on four channels, and two receivers that choose among these *)
+  fun fanin rounds = let
+    val made = Vector.fromList (channels 4)
+    val any = CML.choose (List.tabulate (4, fn n => CML.recvEvt (Vector.sub (made, n))))
+    fun sender p () = times rounds (fn n => CML.send (Vector.sub (made, p mod 4), n))
+    fun receiver () = times (31 * rounds) (fn _ => ignore (CML.sync any))
+  in
+    all (receiver :: receiver :: List.tabulate (62, sender))
+  end
+
   (* starts 63 threads that do nothing, and waits for their ends *)
   fun starts rounds =
     times rounds (fn _ =>
       app (CML.sync o CML.joinEvt) (List.tabulate (63, fn _ => CML.spawn (fn () => ()))))
 
   fun work ["pairs", rounds] = pairs (valOf (Int.fromString rounds))
+    | work ["pairs_split", rounds] = pairs (valOf (Int.fromString rounds))
+    | work ["fanin", rounds] = fanin (valOf (Int.fromString rounds))
     | work ["ring", rounds] = ring (valOf (Int.fromString rounds))
     | work ["pingpong", rounds] = pingpong (valOf (Int.fromString rounds))
     | work ["starts", rounds] = starts (valOf (Int.fromString rounds))
