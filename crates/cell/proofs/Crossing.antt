@@ -21,7 +21,7 @@ option_send : (M : RattleType) → IsSend M → IsSend (Option.the_row M)
 option_send M s = search (sendable, crosses) depth 20
 
 board_sync : (M : RattleType) (g : Ghosts M.Denot) → IsSend M → IsSync (Board.the_row M g)
-board_sync M g s = declared_sync (Board.the_type M g) (table_sync _ (View.the_row M) (Shape.the_row M) Law.the_row _ (rule.ghosts M g rule.no_dict) _ (option_send M s) send sync frees, (shape_sync M, (search (sendable, crosses) depth 20, tt)))
+board_sync M g s = declared_sync (Board.the_type M g) (table_sync _ (View.the_row M) (Shape.the_row M) Law.the_row _ (rule.ghosts M g rule.no_dict) _ (option_send M s) send sync frees, (shape_sync M, (search (sendable, crosses) depth 20, (search (sendable, crosses) depth 20, (search (sendable, crosses) depth 20, tt)))))
 
 pub cells_sync : (M : RattleType) (g : Ghosts M.Denot) → IsSend M → IsSync (Cells.the_row M g)
 cells_sync M g s =

@@ -42,6 +42,7 @@ pub(crate) fn offer_of<M: Resident>(
 }
 
 /// Offer n of a row that was seen opened, where it has one.
+#[inline(always)]
 pub(crate) fn opened_offer<M: Resident>(
     board: &Board<M>,
     seat: &mut Seat<Option<M>, View<M>>,

@@ -2,7 +2,7 @@
 
 ghost use Rattle.std.specs.Prelude.{◌≡◌, ◌*◌, ◌<◌, ◌≤◌, length};
 ghost use Rattle.protocol.specs.Openings.{IsOpening, greatest};
-ghost use Rattle.protocol.specs.Short.{short_len};
+ghost use Rattle.protocol.specs.Short.{row_len, short_len};
 ghost use Rattle.cell_table.specs.Views.{opening_in};
 
 use crate::view::{Shape, View};
@@ -30,8 +30,12 @@ pub struct Board<M: Resident> {
     pub(crate) shape: Shape<M>,
     /// The greatest stamp of the opening.
     pub(crate) stamps: u32,
+    /// How many words a row has, and a thread.
+    pub(crate) row_words: usize,
+    pub(crate) thread_words: usize,
     ghost keyed: { words.shared.key ≡ shape },
     ghost sized: { words.shared.table_id.words ≡ shape.threads * short_len shape.offers shape.rows },
+    ghost lengths: { (row_words ≡ row_len shape.offers) × (thread_words ≡ short_len shape.offers shape.rows) },
     ghost slots: { words.shared.table_id.slots ≡ length shape.first.value.items },
     ghost full: { 0 < length shape.first.value.items → length shape.first.value.items ≡ shape.threads },
     ghost opens: { IsOpening (opening_in shape) shape.rows × (length (opening_in shape).threads ≡ shape.threads) × (stamps ≡ greatest (opening_in shape)) },

@@ -63,6 +63,7 @@ impl<M: Resident + Drop> Board<M> {
             words,
             shape,
             stamps,
+            ..
         } = self;
         let closed = words.close_with(seat);
         let words = copy_words(&closed, spare);

@@ -11,7 +11,7 @@ use crate::board::{Board, Words};
 use crate::plays::Deal;
 use crate::view::{Shape, View};
 use atomic_table::Seat;
-use protocol::Resident;
+use protocol::{LIVES, NACKS, Resident};
 use std::alloc::{AllocError, Global};
 
 impl<M: Resident + Drop> Board<M> {
@@ -34,12 +34,16 @@ impl<M: Resident + Drop> Board<M> {
         ensures board { IfOk result (λ b. (b.0.shape ≡ shape) × (b.1.table_id ≡ b.0.words.shared.table_id)) }
         ensures seat { IfOk result (λ b. b.1.me ≡ (dealer shape 0, [])) }
     {
+        let row_words = 2 + 4 * shape.offers as usize;
+        let thread_words = shape.rows as usize * row_words + NACKS + LIVES;
         match Words::new(alloc, words, slots, &shape) {
             Ok((words, seat)) => Ok((
                 Board {
                     words,
                     shape,
                     stamps,
+                    row_words,
+                    thread_words,
                 },
                 seat,
             )),

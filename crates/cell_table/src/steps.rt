@@ -34,7 +34,7 @@ use crate::plays::{
 };
 use crate::view::View;
 use atomic_table::Seat;
-use protocol::{LIVES, NACKS, Resident};
+use protocol::{NACKS, Resident};
 use protocol_values::{
     Binding, Cell, Joined, NackName, NackWord, Row, pack_cell, pack_nack, read_cell, unpack_cell,
     unpack_nack,
@@ -59,14 +59,14 @@ impl<M: Resident> Board<M> {
     pub(crate) fn row_len(&self) -> usize
         ensures { result ≡ row_len self.now.shape.offers }
     {
-        2 + 4 * self.shape.offers as usize
+        self.row_words
     }
 
     // how many words a thread has
     pub(crate) fn thread_len(&self) -> usize
         ensures { result ≡ short_len self.now.shape.offers self.now.shape.rows }
     {
-        self.shape.rows as usize * self.row_len() + NACKS + LIVES
+        self.thread_words
     }
 
     // where the word of a row at a place lies

@@ -13,6 +13,7 @@ use std::alloc::AllocError;
 impl Sheet {
     /// The commit of a row by its own offer. A partner's offer is read only where the own one is no
     /// send.
+    #[inline(always)]
     fn commit_by(&self, row: Row, joined: Joined, own: Offer) -> Option<Commit>
         requires { is_some (commit_by (offer_at (table_of self.now)) row joined joined.partner (Some own)) ≡ true }
         ensures { result ≡ commit_by (offer_at (table_of self.now)) row joined joined.partner (Some own) }

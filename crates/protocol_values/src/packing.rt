@@ -160,6 +160,7 @@ fn has_stamp(cell: Cell) -> bool
 }
 
 /// The cell of a word, or none where the word is no cell's.
+#[inline(always)]
 #[tactic(auto, unfolding(crate::specs::Words::cell_of))]
 pub fn unpack_cell(word: u64) -> Option<Cell>
     ensures value { result ≡ cell_of word }
@@ -178,6 +179,7 @@ pub fn unpack_cell(word: u64) -> Option<Cell>
 }
 
 /// The cell of a word of which it is known that it is a cell's: nothing is tested.
+#[inline(always)]
 pub fn read_cell(word: u64) -> Cell
     requires { is_some (cell_of word) ≡ true }
     ensures { cell_of word ≡ Some result }
@@ -196,6 +198,7 @@ pub fn pack_count(count: u8) -> u64
 }
 
 /// The number of offers that a word stands for, 0 to 8, or none where the word is larger.
+#[inline(always)]
 #[tactic(auto, unfolding(crate::specs::Words::count_of))]
 pub fn unpack_count(word: u64) -> Option<u8>
     ensures value { result ≡ count_of word }
@@ -284,6 +287,7 @@ pub fn unpack_head(word: u64) -> Option<Head>
 }
 
 /// The head of a word of which it is known that it is a head's: nothing is tested.
+#[inline(always)]
 pub fn read_head(word: u64) -> Head
     requires { is_some (head_of word) ≡ true }
     ensures { head_of word ≡ Some result }
@@ -508,6 +512,7 @@ fn message_words(message: Message) -> [u64; 3]
 }
 
 /// The four words of an offer: its head, and three atoms, of which those past the message are 0.
+#[inline(always)]
 pub fn pack_offer(offer: Offer) -> [u64; 4]
     requires { IsOfferInRange offer }
     ensures words { result ≡ offer_words offer }
@@ -561,6 +566,7 @@ pub fn unpack_offer(head: u64, first: u64, second: u64, third: u64) -> Option<Of
     })
 }
 
+#[inline(always)]
 fn read_message(count: u8, first: u64, second: u64, third: u64) -> Message
     ensures { result ≡ message_of count (atom_fields first) (atom_fields second) (atom_fields third) }
 {
@@ -572,6 +578,7 @@ fn read_message(count: u8, first: u64, second: u64, third: u64) -> Message
     }
 }
 
+#[inline(always)]
 fn read_base(direction: Direction, first: u64, second: u64, third: u64) -> Base
     ensures { result ≡ base_of direction (atom_fields first) (atom_fields second) (atom_fields third) }
 {
@@ -590,6 +597,7 @@ fn read_base(direction: Direction, first: u64, second: u64, third: u64) -> Base
 
 /// The offer of four words of which it is known that they are an offer's: nothing is tested, and the
 /// atoms past the number in the head are not unpacked.
+#[inline(always)]
 pub fn read_offer(head: u64, first: u64, second: u64, third: u64) -> Offer
     requires { is_some (offer_of head first second third) ≡ true }
     ensures { offer_of head first second third ≡ Some result }

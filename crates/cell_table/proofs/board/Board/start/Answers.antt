@@ -16,6 +16,7 @@ invariant_of-result g c =
     record {
       keyed = (search rules);
       sized = c.in-Ok.ensures.ok.0 ∙ c.requires.sized;
+      lengths = (search rules);
       slots = c.in-Ok.ensures.ok.1 ∙ ap (λ (xs : List (Option g.row.M.Denot)). length xs) c.requires.slots;
       full = λ some_first. machines_full (opening_in c.args.shape) c.args.shape.first.value.items c.requires.full some_first ∙ sym size;
       opens = (opens, sym size, c.requires.opening.1);
