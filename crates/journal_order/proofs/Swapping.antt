@@ -82,14 +82,14 @@ has-or-not (Alone at why stamp) t = cases_eq at.0.thread t
 -- THREADS THAT HAVE ENDED
 
 -- what has ended offers nothing
-ended-offers : (ps : List Proc) (t : ℕ) (results : List Chosen) (event : Tree) → HasEnded ps t results → IsOffering ps t results event → ⊥
+pub ended-offers : (ps : List Proc) (t : ℕ) (results : List Chosen) (event : Tree) → HasEnded ps t results → IsOffering ps t results event → ⊥
 ended-offers ps t results event ended offering =
     let same : ended.process ≡ offering.process = same_Some ended.process offering.process (sym ended.is_its ∙ offering.is_its) in
     let over : IsOver (after offering.process.body (length offering.process.variables) t results) =
     subst (λ (p : Proc). IsOver (after p.body (length p.variables) t results)) same ended.over in
     subst (λ (o : Outcome State). IsOver o) offering.offers over
 
-abbrev Offering : List Proc → Config → ℕ → Type 0
+abbrev pub Offering : List Proc → Config → ℕ → Type 0
 Offering ps config t = (event : Tree) × IsOffering ps t (config t) event
 
 taker-offers : (ps : List Proc) (rows : ℕ) (config : Config) (at : Row × ℕ) (b : Base) → MayTake ps rows config at b → Offering ps config at.0.thread
@@ -100,7 +100,7 @@ alone-offers ps rows config at (cause.Always m) h = taker-offers ps rows config 
 alone-offers ps rows config at (cause.Nack n) h = taker-offers ps rows config at (OnNack n) h.0
 alone-offers ps rows config at (cause.End t) h = taker-offers ps rows config at (OnEnd t) h.0
 
-legal-offers : (ps : List Proc) (rows : ℕ) (config : Config) (c : Commit) (t : ℕ) → IsLegal ps rows config c → HasThread c t → Offering ps config t
+pub legal-offers : (ps : List Proc) (rows : ℕ) (config : Config) (c : Commit) (t : ℕ) → IsLegal ps rows config c → HasThread c t → Offering ps config t
 legal-offers ps rows config (Pair sender receiver chan msg stamp) t legal has = ⊎_elim
     (λ s. subst (Offering ps config) s (taker-offers ps rows config sender (Send chan msg) legal.1))
     (λ r. subst (Offering ps config) r (taker-offers ps rows config receiver (Recv chan) legal.2)) has
@@ -313,7 +313,7 @@ first-second ps rows config es c d f other apart = record {
 -- WHERE BOTH LEAD
 
 -- what a commit does to a thread depends on that thread's results alone
-applied-at : (config other : Config) (c : Commit) (t : ℕ) → config t ≡ other t → applied config c t ≡ applied other c t
+pub applied-at : (config other : Config) (c : Commit) (t : ℕ) → config t ≡ other t → applied config c t ≡ applied other c t
 applied-at config other (Pair sender receiver chan msg stamp) t e =
     let one : List Chosen → List Chosen = λ rs. cond (eqb t sender.0.thread) (rs ++ (sender.1, Empty) ∷ []) rs in
     let two : List Chosen → List Chosen = λ rs. cond (eqb t receiver.0.thread) (rs ++ (receiver.1, msg) ∷ []) rs in

@@ -16,7 +16,7 @@ use Rattle.journal_replay.specs.Runs.{Config, EndsAs, Starts, config_of, end_of}
 use Rattle.journal_replay.specs.Standing.{StrandStands, end_after, end_at, nacks_at, offers_at, printed_at}
 use Rattle.journal_replay.proofs.Opening.{moved, opens-as}
 
-end-in : (rows n : ℕ) (m : Thread) (p : Phase) (turn : Turn) → IsAfterAt m p → HasStopped p → Tells turn p →
+pub end-in : (rows n : ℕ) (m : Thread) (p : Phase) (turn : Turn) → IsAfterAt m p → HasStopped p → Tells turn p →
     end_of rows n (after (block_of m.body) m.variables m.thread m.results) ≡ Some (end_after rows n turn, m.output)
 end-in rows n m Ready turn is stopped tells = absurd stopped
 end-in rows n m (Open os ns) Offering is stopped tells = ap (end_of rows n) is.after

@@ -128,7 +128,7 @@ last-of ps journal strands rows at b stands take = last-is ps journal strands at
 -- ENDS
 
 -- a machine that has stopped is over where its turn says so
-over-at : (m : Thread) (p : Phase) (turn : Turn) → HasStopped p → IsAfterAt m p → Tells turn p → is_over turn ≡ true → IsOver (after (block_of m.body) m.variables m.thread m.results)
+pub over-at : (m : Thread) (p : Phase) (turn : Turn) → HasStopped p → IsAfterAt m p → Tells turn p → is_over turn ≡ true → IsOver (after (block_of m.body) m.variables m.thread m.results)
 over-at m Ready turn stopped is tells over = absurd stopped
 over-at m (Open os ns) Offering stopped is tells over = absurd (false≢true over)
 over-at m (Open os ns) Ended stopped is tells over = absurd tells
@@ -137,7 +137,7 @@ over-at m Over turn stopped is tells over = subst IsOver (sym is) tt
 over-at m (Stuck fault) turn stopped is tells over = subst IsOver (sym is) tt
 over-at m Broken turn stopped is tells over = absurd stopped
 
-at-over : (m : Thread) (p : Phase) (turn : Turn) → HasStopped p → IsAfterAt m p → Tells turn p → IsOver (after (block_of m.body) m.variables m.thread m.results) → is_over turn ≡ true
+pub at-over : (m : Thread) (p : Phase) (turn : Turn) → HasStopped p → IsAfterAt m p → Tells turn p → IsOver (after (block_of m.body) m.variables m.thread m.results) → is_over turn ≡ true
 at-over m Ready turn stopped is tells over = absurd stopped
 at-over m (Open os ns) turn stopped is tells over = absurd (subst IsOver is.after over)
 at-over m Over Offering stopped is tells over = absurd tells

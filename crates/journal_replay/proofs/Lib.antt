@@ -22,3 +22,4 @@ mod Gathered
 pub mod Telling
 pub mod Fronts
 pub mod Nacks
+pub mod Stamping

@@ -42,7 +42,7 @@ pub record OpenAt (ps : List Proc) (t : ℕ) (results : List Chosen) (n : ℕ) (
 pub moved : (ps : List Proc) (t : ℕ) (results : List Chosen) (m : Thread) (s : MachineStands ps t results m) → after (block_of m.body) m.variables m.thread m.results ≡ after s.process.body (length s.process.variables) t results
 moved ps t results m s = same-after _ _ _ _ _ _ _ _ s.body s.variables s.thread s.given
 
-open-in : (ps : List Proc) (t : ℕ) (results : List Chosen) (m : Thread) (n : ℕ) (o : Offer) (p : Phase) → MachineStands ps t results m → IsAfterAt m p → slice_get (offers_in p) n ≡ Some o → OpenAt ps t results n o (nacks_in p)
+pub open-in : (ps : List Proc) (t : ℕ) (results : List Chosen) (m : Thread) (n : ℕ) (o : Offer) (p : Phase) → MachineStands ps t results m → IsAfterAt m p → slice_get (offers_in p) n ≡ Some o → OpenAt ps t results n o (nacks_in p)
 open-in ps t results m n o Ready s is_after e = absurd (none-some o e)
 open-in ps t results m n o (Open os ns) s is_after e =
     let event = is_after.tree in
@@ -62,7 +62,7 @@ open-in ps t results m n o Broken s is_after e = absurd (none-some o e)
 pub open-at : (ps : List Proc) (t : ℕ) (results : List Chosen) (m : Thread) (n : ℕ) (o : Offer) → MachineStands ps t results m → slice_get (offers_in m.phase) n ≡ Some o → OpenAt ps t results n o (nacks_in m.phase)
 open-at ps t results m n o s e = open-in ps t results m n o m.phase s s.after e
 
-offers-now : (ps : List Proc) (t : ℕ) (results : List Chosen) (m : Thread) (p : Phase) (event : Tree) → MachineStands ps t results m → HasStopped p → IsAfterAt m p → IsOffering ps t results event → offers_in p ≡ offers event
+pub offers-now : (ps : List Proc) (t : ℕ) (results : List Chosen) (m : Thread) (p : Phase) (event : Tree) → MachineStands ps t results m → HasStopped p → IsAfterAt m p → IsOffering ps t results event → offers_in p ≡ offers event
 offers-now ps t results m Ready event s stopped is_after offering = absurd stopped
 offers-now ps t results m (Open os ns) event s stopped is_after offering =
     let here : IsOffering ps t results is_after.tree = record { process = s.process; is_its = s.is_its; said = said_in m; offers = sym (moved ps t results m s) ∙ is_after.after } in

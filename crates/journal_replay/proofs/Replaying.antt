@@ -80,7 +80,7 @@ Fits s = HasRoom s.strands.items × (length s.strands.items ≤ 64)
 Fits-prop : (s : Threads) → IsProp (Fits s)
 Fits-prop s = hlevel le_prop
 
-after-room : (ps : List Proc) (rows : ℕ) (journal : List Commit) (s : Threads) → AreAfter ps rows journal s → Fits s
+pub after-room : (ps : List Proc) (rows : ℕ) (journal : List Commit) (s : Threads) → AreAfter ps rows journal s → Fits s
 after-room ps rows journal s stands =
     let few : length s.strands.items ≤ 64 = omega (arith, stands.strands.stands.count, stands.few) in
     (room rows s.strands.items stands.bounded few stands.low, few)

@@ -329,11 +329,11 @@ spawned-at m Over stopped is = ap spawned_in is
 spawned-at m (Stuck fault) stopped is = ap spawned_in is
 spawned-at m Broken stopped is = absurd stopped
 
-spawned-is : (ps : List Proc) (t : ℕ) (results : List Chosen) (m : Thread) (s : MachineStands ps t results m) →
+pub spawned-is : (ps : List Proc) (t : ℕ) (results : List Chosen) (m : Thread) (s : MachineStands ps t results m) →
     spawned_in (after s.process.body (length s.process.variables) t results) ≡ m.spawned
 spawned-is ps t results m s = ap spawned_in (sym (moved ps t results m s)) ∙ spawned-at m m.phase s.stopped s.after
 
-machine-spawned : (ps : List Proc) (s t : ℕ) (results : List Chosen) (m : Thread) → MachineStands ps s results m → list_any (λ p. p == t) m.spawned ≡ true → HasSpawned ps s results t
+pub machine-spawned : (ps : List Proc) (s t : ℕ) (results : List Chosen) (m : Thread) → MachineStands ps s results m → list_any (λ p. p == t) m.spawned ≡ true → HasSpawned ps s results t
 machine-spawned ps s t results m stands h = record {
   process = stands.process;
   is_its = stands.is_its;

@@ -6,3 +6,4 @@ pub mod Replays
 pub mod Searching
 pub mod Ends
 pub mod Gathering
+pub mod Stamping

@@ -19,6 +19,6 @@ mod waiters;
 
 pub use crate::end::End;
 pub use crate::gathering::{gather, retrace};
-pub use crate::runs::{replay, settle};
+pub use crate::runs::{replay, restamp, settle};
 pub use crate::state::{ReplayFault, State};
 pub use crate::strand::Known;

@@ -4,6 +4,7 @@ ghost use Rattle.std.specs.Prelude.{◌≤◌, IfOk, length, map, MatchResult};
 ghost use Rattle.script_tree.specs.Processes.{proc_of};
 ghost use Rattle.script_tree.specs.Spawning.{IsPlaced};
 ghost use Rattle.journal_replay.specs.Replays.{Refuses, Settles, StandsAfter};
+ghost use Rattle.journal_replay.specs.Stamping.{AreLegal, AreRestamped};
 
 use crate::openings::Openings;
 use crate::state::{ReplayFault, State};
@@ -33,6 +34,33 @@ pub fn replay(
         threads.apply(commit)?;
     }
     Ok(State { threads })
+}
+
+/// Adds the commits one after another, each with the stamp that it has there: the stamps that they come with count for
+/// nothing. It tells where they lead, and the run that they are with their stamps.
+pub fn restamp(
+    alloc: Global,
+    processes: &[Proc],
+    rows: u32,
+    commits: &[Commit],
+) -> Result<(State, Vec<Commit>), AllocError>
+    requires few { length processes.now ≤ 64 }
+    requires rows { rows ≤ 67107840 }
+    requires placed { IsPlaced (map proc_of processes.now) }
+    requires legal { AreLegal (map proc_of processes.now) rows commits.now }
+    ensures stands { IfOk result (λ run. StandsAfter (map proc_of processes.now) rows run.1.items run.0) }
+    ensures same { IfOk result (λ run. AreRestamped commits.now run.1.items) }
+{
+    let mut threads = Threads::start(alloc, processes, rows)?;
+    let mut run = Vec::new(alloc);
+    for (index, commit) in commits.iter().enumerate() {
+        let Some(next) = threads.stamped(commit) else {
+            unreachable!()
+        };
+        threads.apply(&next)?;
+        run.push(next)?;
+    }
+    Ok((State { threads }, run))
 }
 
 /// Adds commits that may come next, until there is none. Which ones is open.

@@ -68,7 +68,7 @@ pub(crate) fn first_machines(alloc: Global, processes: &[Proc]) -> Result<Vec<Su
 {
     let mut first = Vec::with_capacity(alloc, processes.len())?;
     for (thread, process) in processes.iter().enumerate() {
-        let machine = Machine::new(alloc, process, thread as u8)?;
+        let machine = Machine::counting(alloc, process, thread as u8)?;
         first.push(Suspended {
             machine: Box::new(alloc, machine)?,
         })?;

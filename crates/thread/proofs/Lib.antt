@@ -16,3 +16,4 @@ pub mod Ranging
 pub mod Nacks
 pub mod Crossing
 pub mod Spawning
+pub mod Walks

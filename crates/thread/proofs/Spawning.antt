@@ -1,5 +1,5 @@
 -- What a thread has spawned, as it goes on.
-use Rattle.std.proofs.Common.{◌≡◌, ◌+◌, ◌<◌, ◌⊎◌, ◌∙◌, ◌++◌, ◌∷◌, [], ℕ, zero, suc, List, Contains, ap, append_assoc, arith, inl, inr, length, refl, subst, sym, ⊎_elim}
+use Rattle.std.proofs.Common.{◌⊎◌, ◌∙◌, ◌++◌, ◌∷◌, [], ℕ, zero, suc, List, Contains, ap, append_assoc, arith, inl, inr, subst, sym, ⊎_elim}
 use Rattle.std.proofs.lemmas.List.{append-nil}
 use Rattle.thread.specs.Memories.{AddsNew}
 

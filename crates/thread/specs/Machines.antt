@@ -1,5 +1,5 @@
 -- A machine, as it is seen from outside: its process, what was given to it, and what it came to.
-use Rattle.std.specs.Prelude.{◌≡◌, ◌<◌, ℕ, List, [], length, ⊤}
+use Rattle.std.specs.Prelude.{◌≡◌, ◌<◌, ℕ, Bool, List, [], length, ⊤}
 use Rattle.event.specs.Tree.{Tree, offers, scope_nacks}
 use Rattle.script_tree.specs.Processes.{IsProc, Proc}
 use Rattle.script_tree.specs.Trees.{block_of}
@@ -24,6 +24,8 @@ pub record Thread : Type 0 where
   pub variables : ℕ
   pub thread : ℕ
   pub results : List Chosen
+  -- whether it can tell them again
+  pub keeps : Bool
   pub phase : Phase
   pub output : List Atom
   pub spawned : List ℕ

@@ -10,9 +10,11 @@ ghost use Rattle.thread.specs.Ranges.{OffersAreIn, ResultsAreIn};
 ghost use Rattle.thread.specs.contracts.machine.Machine as machine;
 
 mod commit;
+pub mod log;
 mod machine;
 mod memory;
 mod resolving;
+mod results;
 mod stack;
 mod statement;
 mod value;

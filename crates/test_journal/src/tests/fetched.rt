@@ -149,8 +149,8 @@ fn start(rt: &impl Abort, cells: &Cells<Suspended>, pass: &mut Pass<Suspended>)
     let (client, server) = (Row { thread: 0, sync: 0 }, Row { thread: 1, sync: 0 });
     let first = cells.fetch(pass, client);
     let second = cells.fetch(pass, server);
-    check_same(rt, first.machine.results(), &[]);
-    check_same(rt, second.machine.results(), &[]);
+    check_same(rt, first.machine.count(), 0);
+    check_same(rt, second.machine.count(), 0);
     enter(rt, cells, pass, server, second, &[offer(Base::Recv(1), 0)]);
     enter(
         rt,
@@ -180,14 +180,14 @@ fn meet(
     cells.attempt(pass, &NoGate, mine.0, mine.1, other.0, other.1)
 }
 
-/// Takes the row, which is committed, and fetches its thread's machine, which was given these results and not yet
+/// Takes the row, which is committed, and fetches its thread's machine, which was given so many results and not yet
 /// the row's own. Gives it that, and opens the next row with what the machine offers there: these, none at its end.
 fn go_on(
     rt: &impl Abort,
     cells: &Cells<Suspended>,
     pass: &mut Pass<Suspended>,
     row: Row,
-    given: &[(u8, Message)],
+    given: usize,
     offers: &[Offer],
 ) -> Result<(), Fail>
     requires here { IsPassOf cells.now pass.old × IsRowOf cells.now (next_row row) × IsHousing cells.now × (row.sync < 3) }
@@ -199,7 +199,7 @@ fn go_on(
     let joined = cells.take(pass, row).ok_or("taken before")?;
     let next = row.next();
     let mut fetched = cells.fetch(pass, next);
-    check_same(rt, fetched.machine.results(), given);
+    check_same(rt, fetched.machine.count(), given);
     match resume(&mut fetched.machine, joined.own, message)? {
         Turn::Offering => {
             bind(rt, cells, pass, next, fetched.machine.nacks());
@@ -227,30 +227,22 @@ fn a_machine_has_the_results_before_the_last(rt: HostRuntime) -> Result<(), Fail
     let met = meet(&rt, &cells, &mut pass, (client[0], 0), (server[0], 0));
     check_same(&rt, met, Attempt::Met(1));
     let replies = [offer(Base::Recv(0), 1), offer(Base::Recv(2), 0)];
-    go_on(&rt, &cells, &mut pass, client[0], &[], &replies)?;
+    go_on(&rt, &cells, &mut pass, client[0], 0, &replies)?;
     let go = Message::One(Atom::Num(9));
     go_on(
         &rt,
         &cells,
         &mut pass,
         server[0],
-        &[],
+        0,
         &[offer(Base::Send(2, go), 0)],
     )?;
     let met = meet(&rt, &cells, &mut pass, (server[1], 0), (client[1], 1));
     check_same(&rt, met, Attempt::Met(2));
-    go_on(
-        &rt,
-        &cells,
-        &mut pass,
-        client[1],
-        &[(0, Message::Empty)],
-        &[],
-    )?;
+    go_on(&rt, &cells, &mut pass, client[1], 1, &[])?;
     let reply = Message::One(Atom::Num(7));
     let answers = [offer(Base::Send(0, reply), 0), offer(Base::OnNack(NACK), 0)];
-    go_on(&rt, &cells, &mut pass, server[1], &[(0, REQUEST)], &answers)?;
+    go_on(&rt, &cells, &mut pass, server[1], 1, &answers)?;
     check_same(&rt, cells.grant(&mut pass, server[2], 1), Grant::Given);
-    let given = [(0, REQUEST), (0, Message::Empty)];
-    go_on(&rt, &cells, &mut pass, server[2], &given, &[])
+    go_on(&rt, &cells, &mut pass, server[2], 2, &[])
 }

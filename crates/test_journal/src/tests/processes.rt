@@ -41,6 +41,26 @@ fn after(alloc: Global, text: &str, results: &[(u8, Message)]) -> Result<(Machin
     Ok((machine, turn))
 }
 
+#[test]
+fn results_are_kept_or_counted(rt: HostRuntime) -> Result<(), Fail> {
+    let alloc = rt.alloc();
+    let script = parse(alloc, b"channel c; process b { sync recv c; sync recv c; }")?;
+    let process = script.processes().first().ok_or("no process")?;
+    let mut counting = Machine::counting(alloc, process, 0)?;
+    counting.begin()?;
+    resume(&mut counting, 0, one(42))?;
+    check_same(&rt, counting.count(), 1);
+    let mut keeping = Machine::new(alloc, process, 0)?;
+    keeping.begin()?;
+    assert!(rt; keeping.offers().len() == 1);
+    keeping.resume(0, one(42))?;
+    check_same(&rt, keeping.results(), [(0, one(42))].as_slice());
+    let copy = keeping.try_clone(alloc)?;
+    check_same(&rt, copy.results(), keeping.results());
+    check_same(&rt, copy.offers(), keeping.offers());
+    Ok(())
+}
+
 fn one(number: u32) -> Message {
     Message::One(Atom::Num(number))
 }
@@ -71,7 +91,7 @@ fn a_message_is_received(rt: HostRuntime) -> Result<(), Fail> {
     let turn = resume(&mut b, 0, one(42))?;
     assert!(rt; turn == Turn::Ended);
     check_prints(&rt, &b, &[42]);
-    check_same(&rt, b.results(), [(0, one(42))].as_slice());
+    check_same(&rt, b.count(), 1);
     check_same(&rt, b.offers().len(), 0);
     check_same(&rt, b.nacks().len(), 0);
     Ok(())

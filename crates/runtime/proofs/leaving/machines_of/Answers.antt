@@ -36,6 +36,17 @@ loop-rest-preserved-then-thread-len-2 c =
           (left_put c.args.homes.items c.loop-rest.yielded r c.loop-rest.machines.items i.left lt);
     }
 
+pub loop-rest-preserved-then-thread-len-3 : goal.loop-rest-preserved-then-thread-len-3
+loop-rest-preserved-then-thread-len-3 c =
+    let i = c.loop-rest.invariant in
+    let r : Rest = c.in-Some.rest in
+    let lt : r.thread < length c.loop-rest.machines.items = omega (arith, c.if-thread-len.true, c.from-thread.ensures, c.len.ensures, c.loop-rest.machines.ok) in
+    record {
+      whole = next_whole c.args.rests.items c.loop-rest.yielded c.loop-rest.rest-iterator.rest.items c.next.new.self.rest.items r i.whole c.in-Some.ensures.steps.0;
+      left = subst (λ (z : ℕ × Thread). AreLeft c.args.homes.items (c.loop-rest.yielded ++ r ∷ []) (set c.loop-rest.machines.items z.0 (Some z.1))) (λ k. (sym c.from-thread.ensures k, sym c.into_inner.ensures k))
+          (left_put c.args.homes.items c.loop-rest.yielded r c.loop-rest.machines.items i.left lt);
+    }
+
 pub loop-rest-preserved : goal.loop-rest-preserved
 loop-rest-preserved c =
     let i = c.loop-rest.invariant in
