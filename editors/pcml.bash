@@ -17,13 +17,15 @@ _pcml_options() {
     run) echo --workers --rows --seasons --journal --quiet --help ;;
     replay | why) echo --rows --seasons --help ;;
     chart) echo --rows --seasons --from --to --help ;;
+    next) echo --rows --help ;;
+    outcomes) echo --rows --limit --waiting --journal --of --help ;;
     *) echo --help ;;
   esac
 }
 
 _pcml() {
   local now=${COMP_WORDS[COMP_CWORD]} before=${COMP_WORDS[COMP_CWORD - 1]} command=${COMP_WORDS[1]-}
-  local commands='run check why chart replay explain play meet help'
+  local commands='run check why chart replay next outcomes explain play meet help'
   COMPREPLY=()
   if [ "$COMP_CWORD" -eq 1 ]; then
     case $now in
@@ -42,7 +44,7 @@ _pcml() {
   case $before in
     --workers) _pcml_give '1 2 4 8 16' ;;
     --rows) _pcml_give '256 1024' ;;
-    --from | --to | --seasons) ;;
+    --from | --to | --seasons | --limit | --of) ;;
     --journal) _pcml_files ;;
     *) _pcml_argument ;;
   esac

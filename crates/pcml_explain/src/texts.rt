@@ -3,7 +3,7 @@
 pub(crate) const MEMORY: &str = "\
 fault 1: memory ran out
 comes about: the system, or a limit set on the process, gave the program no more memory.
-what to do: run it where there is more, or ask for less, by a smaller file or a smaller --rows.
+what to do: run it where there is more, or ask for less, by a smaller file, --rows or --limit.
 ";
 
 pub(crate) const NOT_ALLOWED: &str = "\
@@ -99,7 +99,8 @@ what to do: begin the loop with a sync. `sync always ();` is one that waits for 
 
 pub(crate) const TOO_LONG: &str = "\
 fault 16: the script has more than 65,536 bytes
-comes about: where FILE of pcml check, run, replay, why or chart is so long, or never ends, as a device.
+comes about: where FILE of pcml check, run, replay, why, chart, outcomes or next is so long, or never ends,
+as a device.
 what to do: shorten the script.
 ";
 
@@ -123,7 +124,7 @@ what to do: write the line as docs/FORMATS.md has it. Line 1 is the world, also 
 
 pub(crate) const TOO_LARGE: &str = "\
 fault 23: the journal or the schedule has more than 16,777,216 bytes
-comes about: where JOURNAL of pcml replay, why or chart, or FILE of pcml play, is so long, or never ends,
+comes about: where JOURNAL of pcml replay, why, chart or next, or FILE of pcml play, is so long, or never ends,
 as a device.
 what to do: shorten it.
 ";

@@ -5,4 +5,4 @@ mod fault;
 mod request;
 
 pub use crate::fault::WordsFault;
-pub use crate::request::{Request, read_words};
+pub use crate::request::{Request, Search, read_words};

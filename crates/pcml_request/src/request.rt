@@ -9,6 +9,20 @@ use clap::{Arg, ArgAction, ArgMatches, Command, Error, value_parser};
 use pcml_explain::explanation;
 use std::alloc::{AllocError, Global};
 
+/// What is to be found of all that the script in a file can come to, of so many rows a process, where at most so
+/// many configurations are seen: each outcome, or where it is `waiting` those in which some process is left
+/// waiting. The journal that leads to one of them goes to a file, where one is named: to the one of the number
+/// `of`, from 1, and else to the first that is told.
+#[derive(Clone, Copy, Debug)]
+pub struct Search<'a> {
+    pub script: &'a str,
+    pub rows: u16,
+    pub limit: u32,
+    pub waiting: bool,
+    pub journal: Option<&'a str>,
+    pub of: Option<u32>,
+}
+
 /// What to print.
 #[derive(Clone, Copy, Debug)]
 pub enum Request<'a> {
@@ -55,6 +69,15 @@ pub enum Request<'a> {
         journal: &'a str,
         rows: u16,
         seasons: Option<u16>,
+    },
+    /// What a script can come to.
+    Outcomes(Search<'a>),
+    /// Which commits may come next where the journal in a file leads the script in another, of so many rows a
+    /// process.
+    Next {
+        script: &'a str,
+        journal: &'a str,
+        rows: u16,
     },
 }
 
@@ -111,6 +134,21 @@ fn seasons_argument<'a>(alloc: Global) -> Arg<'a> {
         .help("How many times a process may make so many syncs, 1 to 65535")
 }
 
+fn kept_argument<'a>(alloc: Global, help: &'a str) -> Arg<'a> {
+    Arg::new(alloc, "journal")
+        .long("journal")
+        .action(ArgAction::Set)
+        .value_name("TO")
+        .help(help)
+}
+
+fn flag_argument<'a>(alloc: Global, name: &'a str, help: &'a str) -> Arg<'a> {
+    Arg::new(alloc, name)
+        .long(name)
+        .action(ArgAction::SetTrue)
+        .help(help)
+}
+
 fn run_command<'a>(alloc: Global) -> Result<Command<'a>, AllocError> {
     let workers = Arg::new(alloc, "workers")
         .long("workers")
@@ -119,23 +157,14 @@ fn run_command<'a>(alloc: Global) -> Result<Command<'a>, AllocError> {
         .value_parser(value_parser!(u8).range(1..=16))
         .default_value("4")
         .help("How many workers run the processes, 1 to 16");
-    let journal = Arg::new(alloc, "journal")
-        .long("journal")
-        .action(ArgAction::Set)
-        .value_name("TO")
-        .help("Writes the journal to a file too");
-    let quiet = Arg::new(alloc, "quiet")
-        .long("quiet")
-        .action(ArgAction::SetTrue)
-        .help("Prints no journal");
     let file = file_argument(alloc, "file", "FILE", "The script");
     let arguments = vec![in alloc;
         file,
         workers,
         rows_argument(alloc),
         seasons_argument(alloc),
-        journal,
-        quiet,
+        kept_argument(alloc, "Writes the journal to a file too"),
+        flag_argument(alloc, "quiet", "Prints no journal"),
     ]?;
     Command::new(alloc, "run")
         .about("Runs the processes of a script")
@@ -244,6 +273,75 @@ fn replay_request<'a>(replay: &ArgMatches<'a>) -> Option<Request<'a>> {
     })
 }
 
+fn limit_argument<'a>(alloc: Global) -> Arg<'a> {
+    Arg::new(alloc, "limit")
+        .long("limit")
+        .action(ArgAction::Set)
+        .value_name("C")
+        .value_parser(value_parser!(u32).range(1..=4194304))
+        .default_value("1048576")
+        .help("How many configurations are seen, 1 to 4194304")
+}
+
+fn of_argument<'a>(alloc: Global) -> Result<Arg<'a>, AllocError> {
+    Arg::new(alloc, "of")
+        .long("of")
+        .action(ArgAction::Set)
+        .value_name("K")
+        .value_parser(value_parser!(u32).range(1..))
+        .help("The outcome whose journal is written, else the first that is printed")
+        .requires_arg("journal")
+}
+
+fn outcomes_command<'a>(alloc: Global) -> Result<Command<'a>, AllocError> {
+    let file = file_argument(alloc, "file", "FILE", "The script");
+    let arguments = vec![in alloc;
+        file,
+        rows_argument(alloc),
+        limit_argument(alloc),
+        flag_argument(
+            alloc,
+            "waiting",
+            "Prints only what leaves a process waiting"
+        ),
+        kept_argument(alloc, "Writes a journal that leads to an outcome to a file"),
+        of_argument(alloc)?,
+    ]?;
+    Command::new(alloc, "outcomes")
+        .about("Tells all that a script can come to")
+        .args(arguments)
+}
+
+/// The request of `outcomes`, by the words behind it.
+fn outcomes_request<'a>(outcomes: &ArgMatches<'a>) -> Option<Request<'a>> {
+    Some(Request::Outcomes(Search {
+        script: outcomes.get_str("file")?,
+        rows: outcomes.get_one("rows")?,
+        limit: outcomes.get_one("limit")?,
+        waiting: outcomes.get_flag("waiting"),
+        journal: outcomes.get_str("journal"),
+        of: outcomes.get_one("of"),
+    }))
+}
+
+fn next_command<'a>(alloc: Global) -> Result<Command<'a>, AllocError> {
+    let file = file_argument(alloc, "file", "FILE", "The script");
+    let journal = file_argument(alloc, "journal", "JOURNAL", "The journal");
+    let arguments = vec![in alloc; file, journal, rows_argument(alloc)]?;
+    Command::new(alloc, "next")
+        .about("Tells which commits may come next")
+        .args(arguments)
+}
+
+/// The request of `next`, by the words behind it.
+fn next_request<'a>(next: &ArgMatches<'a>) -> Option<Request<'a>> {
+    Some(Request::Next {
+        script: next.get_str("file")?,
+        journal: next.get_str("journal")?,
+        rows: next.get_one("rows")?,
+    })
+}
+
 /// The command with one more below it.
 fn with<'a>(
     command: Result<Command<'a>, AllocError>,
@@ -268,11 +366,13 @@ fn command_line<'a>(alloc: Global) -> Result<Command<'a>, AllocError> {
     let command = with(command, replay_command(alloc));
     let command = with(command, why_command(alloc));
     let command = with(command, chart_command(alloc));
+    let command = with(command, outcomes_command(alloc));
+    let command = with(command, next_command(alloc));
     with(command, explain_command(alloc))
 }
 
-/// Why what the words ask for cannot be had.
-fn objection(asked: &Request<'_>) -> Option<&'static str>
+/// Why numbers of the request are out of their range.
+fn range_objection(asked: &Request<'_>) -> Option<&'static str>
     ensures { result ≡ None → CanBeAnswered asked.now }
 {
     match asked {
@@ -280,8 +380,21 @@ fn objection(asked: &Request<'_>) -> Option<&'static str>
             Some(_) => None,
             None => Some("no fault has this number"),
         },
-        Request::Replay { rows, .. } | Request::Why { rows, .. } | Request::Chart { rows, .. }
+        Request::Replay { rows, .. }
+        | Request::Why { rows, .. }
+        | Request::Chart { rows, .. }
+        | Request::Outcomes(Search { rows, .. })
+        | Request::Next { rows, .. }
             if *rows > 1024 => { Some("a process makes at most 1024 syncs in a season") }
+        Request::Outcomes(Search { limit: 0, .. }) => Some("at least one configuration is seen"),
+        Request::Outcomes(Search { of: Some(0), .. }) => Some("the outcomes are numbered from 1"),
+        _ => None,
+    }
+}
+
+/// Why files that the request names cannot be had as it names them.
+fn file_objection(asked: &Request<'_>) -> Option<&'static str> {
+    match asked {
         Request::Replay {
             script: "-",
             journal: "-",
@@ -296,13 +409,31 @@ fn objection(asked: &Request<'_>) -> Option<&'static str>
             script: "-",
             journal: "-",
             ..
+        }
+        | Request::Next {
+            script: "-",
+            journal: "-",
+            ..
         } => Some("only one of the two files can be the standard input"),
         Request::Run {
             journal: Some("-"),
             ..
-        } => Some("the journal goes to a file with a name"),
+        }
+        | Request::Outcomes(
+            Search {
+                journal: Some("-"),
+                ..
+            },
+        ) => Some("the journal goes to a file with a name"),
         _ => None,
     }
+}
+
+/// Why what the words ask for cannot be had.
+fn objection(asked: &Request<'_>) -> Option<&'static str>
+    ensures { result ≡ None → CanBeAnswered asked.now }
+{
+    range_objection(asked).or(file_objection(asked))
 }
 
 /// The request of the subcommand of this name, by the words behind it.
@@ -315,6 +446,8 @@ fn request_of<'a>(name: &str, behind: &ArgMatches<'a>) -> Option<Request<'a>> {
         "replay" => replay_request(behind),
         "why" => why_request(behind),
         "chart" => chart_request(behind),
+        "outcomes" => outcomes_request(behind),
+        "next" => next_request(behind),
         "explain" => {
             behind
                 .get_one("number")

@@ -1,8 +1,10 @@
 -- What the program prints for what is asked, and what its faults say.
-use Rattle.std.specs.Prelude.{◌≡◌, ◌≢◌, ◌⊎◌, ℕ, Bool, true, false, List, ◌++◌, Option, None, IfSome, take}
+use Rattle.std.specs.Prelude.{◌≡◌, ◌≢◌, ◌⊎◌, ℕ, Bool, true, false, List, ◌++◌, Option, None, Some, IfSome, take, not, ◌&&◌, ◌||◌, is_none, is_some, if◌then◌else◌}
 use Rattle.std.specs.Io.KnownBytes.{Appends}
+use Rattle.std.specs.Option.{option_copied}
 use Rattle.pcml_request.specs.declared.request.Request.{Request}
-use Rattle.pcml_request.specs.declared.request.Request.TheVariants.{Meet, Play, Check, Chart, Explain, Replay, Run, Why}
+use Rattle.pcml_request.specs.declared.request.Request.TheVariants.{Meet, Next, Outcomes, Play, Check, Chart, Explain, Replay, Run, Why}
+use Rattle.pcml_request.specs.declared.request.Search.{Search}
 use Rattle.pcml_request.specs.Requests.{all_rows}
 use Rattle.pcml_explain.specs.Faults.{Explains}
 use Rattle.pcml_files.specs.Files.{Fits, IsTooLarge}
@@ -16,12 +18,16 @@ use Rattle.runtime.specs.Limits.{AreRows, AreSeasons, AreWorkers}
 use Rattle.pcml_tool.specs.Replay.{IsReplayed, IsNoRun}
 use Rattle.pcml_tool.specs.Chart.{IsCharted}
 use Rattle.pcml_tool.specs.Why.{IsTold}
+use Rattle.pcml_tool.specs.Next.{IsNext}
 use Rattle.pcml_tool.specs.Run.{TellsAsked}
 use Rattle.pcml_tool.specs.declared.replay.Replayed.{Replayed}
 use Rattle.pcml_tool.specs.declared.replay.Replayed.TheVariants as replays
 use Rattle.pcml_tool.specs.declared.from_files.Verdict.{Verdict}
-use Rattle.pcml_tool.specs.declared.from_files.Verdict.TheVariants.{Done, Unlawful}
+use Rattle.pcml_tool.specs.declared.from_files.Verdict.TheVariants.{Denied, Done, Unlawful}
 use Rattle.journal_text.specs.Journals as journals
+use Rattle.journal_text.specs.Names.{named}
+use Rattle.outcomes.specs.declared.Outcomes.{Outcomes as Found}
+use Rattle.pcml_outcomes.specs.Told.{AreFound, SpellsAsked, asked_for, is_clear, outcomes_text}
 use Rattle.script.specs.Sources.{Script}
 use Rattle.script.specs.Spelling.{Spells}
 use Rattle.script.specs.FirstFaults.{Tells}
@@ -55,8 +61,9 @@ abbrev pub OfJournal : Files → List ℕ → List ℕ → ℕ → (List ℕ →
 OfJournal Holds script journal rows Says Done text = (source : List ℕ) × Holds script source × (s : Script) × Spells source s
     × (read : List ℕ) × Holds journal read × Fits read × Says source s read text
 OfJournal Holds script journal rows Says Unlawful text = OfFiles Holds script journal (λ s read. Fits read × IsNoRun s rows read text)
+OfJournal Holds script journal rows Says Denied text = ⊥
 
--- where a journal leads, as text, why the processes stand there, and its chart
+-- where a journal leads, as text, why the processes stand there, its chart, and what may come next
 abbrev pub AnswersReplay : Files → List ℕ → List ℕ → ℕ → Verdict → List ℕ → Type 0
 AnswersReplay Holds script journal rows verdict text = OfJournal Holds script journal rows (λ source s read told. IsReplayed s rows read told) verdict text
 
@@ -66,19 +73,60 @@ AnswersWhy Holds script journal rows verdict text = OfJournal Holds script journ
 abbrev pub AnswersChart : Files → List ℕ → List ℕ → ℕ → ℕ → ℕ → Verdict → List ℕ → Type 0
 AnswersChart Holds script journal rows from to verdict text = OfJournal Holds script journal rows (λ source s read told. IsCharted s rows read from to told) verdict text
 
+abbrev pub AnswersNext : Files → List ℕ → List ℕ → ℕ → Verdict → List ℕ → Type 0
+AnswersNext Holds script journal rows verdict text = OfJournal Holds script journal rows (λ source s read told. IsNext s rows read told) verdict text
+
+-- The journal that is asked for is kept in the file that is named; where none is named, or there is no such journal, no file holds
+-- what it did not.
+abbrev pub KeepsAsked : Files → Files → Option (List ℕ) → Option (List ℕ) → Type 0
+KeepsAsked Holds Keeps (Some name) (Some lines) = Keeps name lines
+KeepsAsked Holds Keeps name lines = (file bytes : List ℕ) → Keeps file bytes → Holds file bytes
+
+-- Where what waits is asked for, nothing was told and all was seen; and where the journal of one outcome is asked for, there is one.
+abbrev pub is_so : Bool → Bool → Option ℕ → Option (List ℕ) → Bool
+is_so waiting clear number lines = (not waiting || clear) && (is_none number || is_some lines)
+
+abbrev pub verdict_of : Bool → Verdict
+verdict_of so = if so then Done else Denied
+
+-- the text of outcomes that were found of a script, and the journal of the one that is asked for, in a file where one is named
+pub record AnswersOutcomes (Holds Keeps : Files) (search : Search) (verdict : Verdict) (text : List ℕ) : Type 0 where
+  pub source : List ℕ
+  pub holds : Holds search.script.now source
+  pub s : Script
+  pub spells : Spells source s
+  pub found : Found
+  pub are : AreFound s search.rows search.limit found
+  pub lines : Option (List ℕ)
+  pub asked : SpellsAsked s (asked_for search.of search.waiting found.outcomes.items) lines
+  pub kept : KeepsAsked Holds Keeps (option_copied search.journal) lines
+  pub so : verdict ≡ verdict_of (is_so search.waiting (is_clear search.waiting found) search.of lines)
+  pub is : text ≡ outcomes_text (named s) search.waiting found
+
+-- it is about where the journal in a file leads
+abbrev pub AsksOfJournal : Request → Type 0
+AsksOfJournal (Replay script journal rows seasons) = Unit {0}
+AsksOfJournal (Why script journal rows seasons) = Unit {0}
+AsksOfJournal (Chart script journal rows seasons from to) = Unit {0}
+AsksOfJournal (Next script journal rows) = Unit {0}
+AsksOfJournal asked = ⊥
+
 -- The line of the one pair (or none), what comes of the schedule, the script or the run that is asked for, where the journal
--- leads the script, why the processes stand there, its chart, or what a fault means. Where the journal of a run is to go to a file, the file keeps its lines at the end.
+-- leads the script, why the processes stand there, its chart, what may come next there, what the script can come to, or what a
+-- fault means. Where the journal of a run is to go to a file, the file keeps its lines at the end.
 abbrev pub Answers : Files → Files → Request → Verdict → List ℕ → Type 0
 Answers Holds Keeps (Replay script journal rows seasons) verdict text = AnswersReplay Holds script.now journal.now (all_rows rows seasons) verdict text
 Answers Holds Keeps (Why script journal rows seasons) verdict text = AnswersWhy Holds script.now journal.now (all_rows rows seasons) verdict text
 Answers Holds Keeps (Chart script journal rows seasons from to) verdict text = AnswersChart Holds script.now journal.now (all_rows rows seasons) from to verdict text
+Answers Holds Keeps (Next script journal rows) verdict text = AnswersNext Holds script.now journal.now rows verdict text
+Answers Holds Keeps (Outcomes search) verdict text = AnswersOutcomes Holds Keeps search verdict text
 Answers Holds Keeps (Meet value) Done text = PrintsMeeting value text
 Answers Holds Keeps (Play name) Done text = OfSchedule Holds name.now (λ bytes. IsPlayed bytes text)
 Answers Holds Keeps (Check name) Done text = (bytes : List ℕ) × Holds name.now bytes × IsChecked bytes text
 Answers Holds Keeps (Run script workers rows seasons journal quiet) Done text = (bytes : List ℕ) × Holds script.now bytes × (s : Script) × Spells bytes s
     × (lines rest : List ℕ) × TellsAsked s rows seasons lines rest × IfSome journal (λ name. Keeps name.now lines) × (text ≡ printed quiet lines rest)
 Answers Holds Keeps (Explain number) Done text = Explains number text
-Answers Holds Keeps asked Unlawful text = ⊥
+Answers Holds Keeps asked verdict text = ⊥
 
 -- what a fault of a script says: the file's text has it as its first
 abbrev pub FailsScript : Files → List ℕ → Fault → Type 0
@@ -129,6 +177,11 @@ FailsRun workers rows seasons faults.Seasons = seasons ≢ None
 FailsRun workers rows seasons faults.SeasonCount = IfSome seasons (λ count. ¬ AreSeasons count)
 FailsRun workers rows seasons fault = ⊥
 
+-- what a fault says of a search: that of the script, or that the journal's file was not written
+abbrev pub FailsOutcomes : Files → Search → Fault → Type 0
+FailsOutcomes Holds search faults.Unwritten = search.journal ≢ None
+FailsOutcomes Holds search fault = FailsParse Holds search.script.now fault
+
 -- what a fault says of the request: `meet` lacks only memory or a thread, and the others may also fail by a file or by what it holds
 abbrev pub Fails : Files → Request → Fault → Type 0
 Fails Holds (Meet value) fault = (fault ≡ faults.Memory) ⊎ (fault ≡ faults.NoThread)
@@ -137,6 +190,8 @@ Fails Holds (Check name) fault = FailsParse Holds name.now fault
 Fails Holds (Explain number) fault = fault ≡ faults.Memory
 Fails Holds (Why script journal rows seasons) fault = FailsReplay Holds script.now journal.now fault
 Fails Holds (Chart script journal rows seasons from to) fault = FailsReplay Holds script.now journal.now fault
+Fails Holds (Next script journal rows) fault = FailsReplay Holds script.now journal.now fault
+Fails Holds (Outcomes search) fault = FailsOutcomes Holds search fault
 Fails Holds (Replay script journal rows seasons) fault = FailsReplay Holds script.now journal.now fault
 Fails Holds (Run script workers rows seasons journal quiet) faults.Memory = Unit {0}
 Fails Holds (Run script workers rows seasons journal quiet) faults.Unread = Unit {0}

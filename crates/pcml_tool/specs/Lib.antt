@@ -1,10 +1,10 @@
 pub mod Meet
 pub mod Play
 pub mod Check
-pub mod Standings
 pub mod Replay
 pub mod Run
 pub mod Chart
 pub mod Why
+pub mod Next
 pub mod Faults
 pub mod Command

@@ -1,17 +1,22 @@
 //! What comes of the files that a request names.
 
 ghost use Rattle.std.specs.Prelude.{◌≡◌, ◌≢◌, ◌≤◌, ◌⊎◌, List, ℕ, None, IfSome, IfOk, IfErr, OnOk, length, take, drop};
+ghost use Rattle.std.specs.Option.{option_copied};
 ghost use Rattle.script.specs.Scripts.{script_of};
 ghost use Rattle.script.specs.Spelling.{Spells};
 ghost use Rattle.pcml_tool.specs.declared.fault.Fault.TheVariants.{Memory, Unwritten};
 ghost use Rattle.pcml_tool.specs.Check.{IsChecked};
 ghost use Rattle.pcml_tool.specs.Play.{IsPlayed};
-ghost use Rattle.pcml_tool.specs.Command.{AnswersChart, AnswersReplay, AnswersWhy, IsJudged, FailsParse, FailsPlay, FailsRead, FailsReplay, OfSchedule, printed};
+ghost use Rattle.pcml_tool.specs.Command.{AnswersChart, AnswersNext, AnswersReplay, AnswersWhy, IsJudged, FailsParse, FailsPlay, FailsRead, FailsReplay, KeepsAsked, OfSchedule, is_so, printed, verdict_of};
 ghost use Rattle.pcml_files.specs.Files.{Fits};
+ghost use Rattle.pcml_outcomes.specs.Told.{bytes_of};
 
 use crate::fault::Fault;
-use crate::{Replayed, RunText, chart_journal, check_text, play_text, replay_text, why_journal};
+use crate::{
+    Replayed, RunText, chart_journal, check_text, next_journal, play_text, replay_text, why_journal,
+};
 use pcml_files::{MOST_BYTES, Source};
+use pcml_outcomes::OutcomesText;
 use script::{Script, parse};
 use std::alloc::Global;
 
@@ -21,6 +26,9 @@ pub(crate) enum Verdict {
     Done,
     /// The journal that was to be replayed is no run.
     Unlawful,
+    /// It was asked what leaves a process waiting, and some outcome does, or not all was seen; or the journal of an
+    /// outcome was to be kept that is not there.
+    Denied,
 }
 
 /// The bytes of the schedule or the journal in a file.
@@ -154,6 +162,23 @@ pub(crate) fn chart_files<S: Source>(
     Ok(judged(chart_journal(alloc, &script, journal.as_slice(), rows, from, to)?))
 }
 
+/// Which commits may come next where the journal in a file leads the script in another.
+pub(crate) fn next_files<S: Source>(
+    alloc: Global,
+    source: &mut S,
+    script: &str,
+    journal: &str,
+    rows: u32,
+) -> Result<(Verdict, Vec<u8>), Fault>
+    requires { rows ≤ 67107840 }
+    ensures done { IfOk result (λ answer. AnswersNext (S.holds source.old) script.now journal.now rows answer.0 answer.1.items) }
+    ensures fault { IfErr result (FailsReplay (S.holds source.old) script.now journal.now) }
+{
+    let script = read_script(alloc, source, script)?;
+    let journal = read_bounded(source, journal)?;
+    Ok(judged(next_journal(alloc, &script, journal.as_slice(), rows)?))
+}
+
 /// Keeps the journal of a run in a file, where one is named, and gives what is printed.
 pub(crate) fn keep_journal<S: Source>(
     alloc: Global,
@@ -177,4 +202,40 @@ pub(crate) fn keep_journal<S: Source>(
         source.store(name, &text[..end])?;
     }
     Ok(rest.unwrap_or(text))
+}
+
+/// Keeps the journal of the outcome that is asked for in a file, where one is named and there is such an outcome, and
+/// gives what is printed, with the verdict.
+pub(crate) fn keep_outcome<S: Source>(
+    source: &mut S,
+    listed: OutcomesText,
+    waiting: bool,
+    of: Option<u32>,
+    journal: Option<&str>,
+) -> Result<(Verdict, Vec<u8>), Fault>
+    ensures kept { OnOk result (KeepsAsked (S.holds source.old) (S.holds source.new) (option_copied journal.entry) (bytes_of listed.journal)) }
+    ensures verdict { IfOk result (λ answer. answer.0 ≡ verdict_of (is_so waiting listed.is_clear of (bytes_of listed.journal))) }
+    ensures printed { IfOk result (λ answer. answer.1.items ≡ listed.text.items) }
+    ensures fault { IfErr result (λ fault. (fault ≡ Memory) ⊎ ((fault ≡ Unwritten) × (journal.entry ≢ None))) }
+{
+    let OutcomesText {
+        text,
+        journal: lines,
+        is_clear,
+    } = listed;
+    let mut is_so = !waiting || is_clear;
+    match lines {
+        Some(lines) => {
+            if let Some(name) = journal {
+                source.store(name, &lines)?;
+            }
+        }
+        None => is_so = is_so && of.is_none(),
+    }
+    let verdict = if is_so {
+        Verdict::Done
+    } else {
+        Verdict::Denied
+    };
+    Ok((verdict, text))
 }

@@ -4,19 +4,22 @@ ghost use Rattle.std.specs.Prelude.{◌≡◌, ◌≤◌, ◌⊎◌, List, ℕ, 
 ghost use Rattle.script.specs.Scripts.{script_of};
 ghost use Rattle.std.specs.Io.KnownBytes.{Appends};
 ghost use Rattle.pcml_request.specs.declared.request.Request.{Request};
+ghost use Rattle.pcml_request.specs.declared.request.Request.TheVariants.{Outcomes};
 ghost use Rattle.pcml_tool.specs.declared.fault.Fault.TheVariants.{Unwritten};
 ghost use Rattle.pcml_tool.specs.declared.from_files.Verdict.TheVariants.{Done};
 ghost use Rattle.pcml_request.specs.Requests.{CanBeAnswered, all_rows};
-ghost use Rattle.pcml_tool.specs.Command.{Answers, Began, Fails, FailsRun};
+ghost use Rattle.pcml_tool.specs.Command.{Answers, AnswersOutcomes, AsksOfJournal, Began, Fails, FailsOutcomes, FailsRun};
 ghost use Rattle.pcml_tool.specs.Run.{TellsAsked};
 
 use crate::fault::Fault;
 use crate::from_files::{
-    Verdict, chart_files, check_file, keep_journal, play_file, read_script, replay_files, why_files,
+    Verdict, chart_files, check_file, keep_journal, keep_outcome, next_files, play_file,
+    read_script, replay_files, why_files,
 };
 use crate::{RunText, explain_text, meet_text, run_parts, run_seasons_parts};
 use pcml_files::{Source, emit};
-use pcml_request::{Request, WordsFault, read_words};
+use pcml_outcomes::outcomes_text;
+use pcml_request::{Request, Search, WordsFault, read_words};
 use script::Script;
 use std::alloc::Global;
 use std::io::Write;
@@ -28,6 +31,8 @@ const DONE: u8 = 0;
 const FAULT: u8 = 1;
 
 const UNLAWFUL: u8 = 1;
+
+const DENIED: u8 = 1;
 
 /// The status after words that are not understood.
 pub const BAD_WORDS: u8 = 2;
@@ -63,6 +68,72 @@ fn run_asked<R: Threads + Wait + Sync>(
     }
 }
 
+/// The text that a request is answered with which asks of the journal in a file.
+fn answer_journal<S: Source>(
+    alloc: Global,
+    asked: Request<'_>,
+    source: &mut S,
+) -> Result<(Verdict, Vec<u8>), Fault>
+    requires about { AsksOfJournal asked }
+    requires can { CanBeAnswered asked }
+    ensures done { IfOk result (λ answer. Answers (S.holds source.old) (S.holds source.new) asked.entry answer.0 answer.1.items) }
+    ensures fault { IfErr result (Fails (S.holds source.old) asked.entry) }
+{
+    match asked {
+        Request::Replay {
+            script,
+            journal,
+            rows,
+            seasons,
+        } => replay_files(alloc, source, script, journal, all_rows(rows, seasons)),
+        Request::Why {
+            script,
+            journal,
+            rows,
+            seasons,
+        } => why_files(alloc, source, script, journal, all_rows(rows, seasons)),
+        Request::Chart {
+            script,
+            journal,
+            rows,
+            seasons,
+            from,
+            to,
+        } => chart_files(
+            alloc,
+            source,
+            script,
+            journal,
+            all_rows(rows, seasons),
+            from,
+            to,
+        ),
+        Request::Next {
+            script,
+            journal,
+            rows,
+        } => next_files(alloc, source, script, journal, u32::from(rows)),
+        _ => unreachable!(),
+    }
+}
+
+/// What a script can come to, as text, with the verdict; the journal of an outcome is kept, where that is asked for.
+fn answer_search<S: Source>(
+    alloc: Global,
+    search: Search<'_>,
+    source: &mut S,
+) -> Result<(Verdict, Vec<u8>), Fault>
+    requires { CanBeAnswered (Outcomes search) }
+    ensures done { IfOk result (λ answer. AnswersOutcomes (S.holds source.old) (S.holds source.new) search.entry answer.0 answer.1.items) }
+    ensures fault { IfErr result (FailsOutcomes (S.holds source.old) search.entry) }
+{
+    let script = read_script(alloc, source, search.script)?;
+    let rows = u32::from(search.rows);
+    let limit = search.limit as usize;
+    let listed = outcomes_text(alloc, &script, rows, limit, search.waiting, search.of)?;
+    keep_outcome(source, listed, search.waiting, search.of, search.journal)
+}
+
 /// The text that a request is answered with.
 fn answer<R: Threads + Wait + Sync, S: Source>(
     rt: &R,
@@ -92,34 +163,11 @@ fn answer<R: Threads + Wait + Sync, S: Source>(
             let text = keep_journal(alloc, source, ran, journal, quiet)?;
             Ok((Verdict::Done, text))
         }
-        Request::Replay {
-            script,
-            journal,
-            rows,
-            seasons,
-        } => replay_files(alloc, source, script, journal, all_rows(rows, seasons)),
-        Request::Why {
-            script,
-            journal,
-            rows,
-            seasons,
-        } => why_files(alloc, source, script, journal, all_rows(rows, seasons)),
-        Request::Chart {
-            script,
-            journal,
-            rows,
-            seasons,
-            from,
-            to,
-        } => chart_files(
-            alloc,
-            source,
-            script,
-            journal,
-            all_rows(rows, seasons),
-            from,
-            to,
-        ),
+        Request::Outcomes(search) => answer_search(alloc, search, source),
+        Request::Replay { .. }
+        | Request::Why { .. }
+        | Request::Chart { .. }
+        | Request::Next { .. } => answer_journal(alloc, asked, source),
     }
 }
 
@@ -145,8 +193,9 @@ fn respond<R: Threads + Wait + Sync, S: Source, O: Write>(
 }
 
 /// Does what the words behind the program's name ask for, and answers the status: 0, or 1 after a
-/// fault or for a journal that is no run, or 2 after words that are not understood and after a wish for
-/// help. A fault is a line on the error stream; whether that stream takes it changes nothing.
+/// fault, for a journal that is no run, or where what was asked of a script's outcomes is not so, or 2 after
+/// words that are not understood and after a wish for help. A fault is a line on the error stream; whether that
+/// stream takes it changes nothing.
 pub fn command<R: Threads + Wait + Sync, S: Source, O: Write, E: Write>(
     rt: &R,
     alloc: Global,
@@ -174,6 +223,7 @@ pub fn command<R: Threads + Wait + Sync, S: Source, O: Write, E: Write>(
     match respond(rt, alloc, asked, source, out) {
         Ok(Verdict::Done) => DONE,
         Ok(Verdict::Unlawful) => UNLAWFUL,
+        Ok(Verdict::Denied) => DENIED,
         Err(fault) => tell(err, fault),
     }
 }

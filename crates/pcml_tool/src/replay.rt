@@ -9,10 +9,10 @@ ghost use Rattle.pcml_tool.specs.Replay.{lawful_line, reach_text, TellsProcesses
 ghost use Rattle.journal_text.specs.Names.{named};
 ghost use Rattle.script.specs.Appending.{Adds};
 
-use crate::processes::push_process;
 use crate::reach::{Reached, reach};
 use journal_replay::State;
 use journal_text::JournalFault;
+use pcml_outcomes::push_process;
 use script::Script;
 use std::alloc::{AllocError, Global};
 

@@ -10,37 +10,16 @@ ghost use Rattle.runtime.specs.Limits.{AreRows, AreSeasons, AreWorkers};
 ghost use Rattle.runtime.specs.declared.fault.RunFault.TheVariants.{Workers, Rows};
 ghost use Rattle.runtime.specs.declared.seasons.SeasonFault.TheVariants as faults;
 ghost use Rattle.pcml_tool.specs.Run.{tail_line, IsRan, TellsFreely, TellsRecord, TellsRun};
-ghost use Rattle.pcml_tool.specs.Standings.{TellsStandings};
+ghost use Rattle.pcml_outcomes.specs.Standings.{TellsStandings};
 
-use crate::processes::push_process;
 use journal::Record;
-use journal_replay::End;
 use journal_text::write_journal;
-use protocol_values::Atom;
+use pcml_outcomes::standing_lines;
 use runtime::{OpenGate, RunFault, SeasonFault, run, run_seasons};
 use script::Script;
 use std::alloc::{AllocError, Global};
 use std::sync::Wait;
 use std::thread::Threads;
-
-/// A line for each process, by how it ended and what it printed.
-fn standing_lines(
-    alloc: Global,
-    script: &Script,
-    ends: &[End],
-    outputs: &[Vec<Atom>],
-) -> Result<String, AllocError>
-    requires ends { length ends.now ≡ length (script_of script.now).processes }
-    requires outputs { length outputs.now ≡ length (script_of script.now).processes }
-    ensures { IfOk result (λ lines. TellsStandings (named (script_of script.now)) ends.now (map (λ v. v.items) outputs.now) (string_bytes lines)) }
-{
-    let mut lines = String::new(alloc);
-    for thread in 0..ends.len() {
-        let printed = outputs[thread].as_slice();
-        push_process(&mut lines, script, thread, ends[thread], printed)?;
-    }
-    Ok(lines)
-}
 
 fn tail_line(alloc: Global, commits: usize, tail: usize) -> Result<String, AllocError>
     ensures { IfOk result (λ line. string_bytes line ≡ tail_line commits tail) }

@@ -14,6 +14,11 @@ returns-in-Ok-Unlawful-clause-fault g c one =
     let done = c.in-Ok-Unlawful.ensures.done in
     (c.in-Ok.asked, (length done.0, c.in-Ok-Unlawful.field-0, done.0, inr done.1, all_taken (g.O.Write.contents c.args.out.now) (g.O.Write.contents c.respond.new.out) done.0 done.2))
 
+pub returns-in-Ok-Denied-clause-fault : goal.returns-in-Ok-Denied-clause-fault
+returns-in-Ok-Denied-clause-fault g c one =
+    let done = c.in-Ok-Denied.ensures.done in
+    (c.in-Ok.asked, (length done.0, c.in-Ok-Denied.field-0, done.0, inr done.1, all_taken (g.O.Write.contents c.args.out.now) (g.O.Write.contents c.respond.new.out) done.0 done.2))
+
 pub returns-in-Err-clause-fault : goal.returns-in-Err-clause-fault
 returns-in-Err-clause-fault g c one = ⊎_elim
     (λ unwritten. (c.in-Ok.asked, unwritten.1))

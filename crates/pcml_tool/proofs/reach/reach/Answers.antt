@@ -1,5 +1,4 @@
-use Rattle.std.proofs.Common.{ℕ, List, subst}
-use Rattle.script.specs.Scripts.{script_of}
+use Rattle.std.proofs.Common.{List, subst}
 use Rattle.script_tree.specs.Processes.{Proc}
 use Rattle.protocol_values.specs.declared.Commit.{Commit}
 use Rattle.journal_replay.specs.Replays.{StandsAfter}

@@ -1,10 +1,10 @@
 use Rattle.std.specs.Prelude.{map}
 use Rattle.std.specs.String.{string_bytes}
 use Rattle.script.specs.Scripts.{script_of}
-use Rattle.pcml_tool.specs.Standings.{IsStandingOf}
-use Rattle.pcml_tool.proofs.Lines.{LinesTo}
+use Rattle.pcml_outcomes.specs.Standings.{IsStandingOf}
+use Rattle.pcml_outcomes.proofs.Lines.{LinesTo}
 use Rattle.journal_text.specs.Names.{named}
-use Rattle.pcml_tool.proofs.run.standing_lines.Given as goal
+use Rattle.pcml_outcomes.proofs.processes.standing_lines.Given as goal
 
 abbrev pub invariant-loop-thread : goal.invariant-loop-thread
 invariant-loop-thread l = LinesTo (named (script_of l.script)) (IsStandingOf l.ends (map (λ v. v.items) l.outputs)) l.thread (string_bytes l.lines)

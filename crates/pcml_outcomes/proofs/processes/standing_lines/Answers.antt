@@ -7,10 +7,10 @@ use Rattle.std.proofs.lemmas.Option.{slice_get-get_or, slice_get-map, slice_get_
 use Rattle.protocol_values.specs.declared.Atom.{Atom}
 use Rattle.script.specs.Scripts.{script_of}
 use Rattle.journal_replay.specs.declared.end.End.TheVariants.{Ended}
-use Rattle.pcml_tool.specs.Standings.{IsStandingOf}
-use Rattle.pcml_tool.proofs.Lines.{one_line}
+use Rattle.pcml_outcomes.specs.Standings.{IsStandingOf}
+use Rattle.pcml_outcomes.proofs.Lines.{one_line}
 use Rattle.journal_text.specs.Names.{named}
-use Rattle.pcml_tool.proofs.run.standing_lines.Goals as goal
+use Rattle.pcml_outcomes.proofs.processes.standing_lines.Goals as goal
 
 pub loop-thread-preserved : goal.loop-thread-preserved
 loop-thread-preserved c =

@@ -1,0 +1,5 @@
+pub mod Lines
+pub mod Showing
+pub mod Asking
+pub mod Following
+pub mod Clearing

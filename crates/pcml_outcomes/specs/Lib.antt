@@ -1,0 +1,3 @@
+pub mod Standings
+pub mod Told
+pub mod Coming
