@@ -4,7 +4,7 @@ pub mod Lists
 pub mod Opening
 pub mod Firing
 pub mod Growing
-mod Finding
+pub mod Finding
 pub mod Standing
 pub mod Running
 pub mod Extending
@@ -12,12 +12,12 @@ pub mod Counting
 pub mod Sounding
 mod Remembering
 mod Replaying
-mod Ending
+pub mod Ending
 mod Listing
 mod Removing
 mod Covering
 mod Bounding
-mod Waking
+pub mod Waking
 mod Gathered
 pub mod Telling
 pub mod Fronts
