@@ -20,6 +20,7 @@ use protocol_values::{
 };
 
 /// Offer n of the row, where it is opened and has one.
+#[inline(always)]
 pub(crate) fn offer_of<M: Resident>(
     board: &Board<M>,
     seat: &mut Seat<Option<M>, View<M>>,
@@ -262,6 +263,7 @@ pub(crate) fn result_of<M: Resident>(
 }
 
 /// What the thread of a committed row gets.
+#[inline(always)]
 fn gained<M: Resident>(
     board: &Board<M>,
     seat: &mut Seat<Option<M>, View<M>>,
@@ -283,6 +285,7 @@ fn gained<M: Resident>(
 }
 
 /// What the partner of a committed row sent to it.
+#[inline(always)]
 fn received<M: Resident>(
     board: &Board<M>,
     seat: &mut Seat<Option<M>, View<M>>,

@@ -360,6 +360,7 @@ impl<M: Resident> Board<M> {
 }
 
 // what an exchange came to: it was made where the word was the expected one; else the cell that was found
+#[inline(always)]
 fn exchanged(found: u64, expected: u64) -> Result<(), Cell>
     ensures made { IfOk result (λ _. found ≡ expected) }
     ensures refused { IfErr result (λ cell. (found ≢ expected) × (cell ≡ cell_read found)) }
@@ -372,6 +373,7 @@ fn exchanged(found: u64, expected: u64) -> Result<(), Cell>
 }
 
 // the cell that a word of the table stands for
+#[inline(never)]
 fn cell_in(word: u64) -> Cell
     ensures { result ≡ cell_read word }
 {

@@ -136,6 +136,7 @@ impl<R: Wait, G: Gate + StepGate> Crew<'_, R, G> {
     /// What a machine comes to behind a turn: it starts the threads that it spawned since it had spawned so many, which
     /// join the list; then it opens the place's row with what it offers, or ends its thread. A machine whose thread does
     /// no more is at rest.
+    #[inline(always)]
     fn enter(
         &self,
         pass: &mut Pass<Suspended>,
@@ -224,6 +225,7 @@ impl<R: Wait, G: Gate + StepGate> Crew<'_, R, G> {
 
     /// Opens the row with what the machine offers, which has come to an event, and the machine goes home. The answer is
     /// its nacks.
+    #[inline(always)]
     fn offer(&self, pass: &mut Pass<Suspended>, place: Row, suspended: Suspended) -> Nacks
         requires here { IsPassOf self.now.cells.now pass.old × IsRowOf self.now.cells.now place × IsTable self.now.cells.now }
         requires stands { IsStand self.now.cells.now.rows pass.old.seen place }
@@ -286,6 +288,7 @@ impl<R: Wait, G: Gate + StepGate> Crew<'_, R, G> {
 
     /// Looks for a row that the opened row, of these nacks, can meet. The answer is what came to be committed
     /// here.
+    #[inline(always)]
     fn meet(&self, worker: &mut Worker, row: Row, opened: Option<Nacks>) -> Result<Committed, Halt>
         requires here { IsWorkerOf self.now worker.old }
         requires opened { IfSome opened (λ nacks. IsRowOf self.now.cells.now row × Has worker.old.pass.seen.held row × Has worker.old.pass.seen.opened row) }
@@ -344,6 +347,7 @@ impl<R: Wait, G: Gate + StepGate> Crew<'_, R, G> {
     }
 
     /// One turn of the thread of the row that was taken, and the first turns of the threads that it starts.
+    #[inline(always)]
     fn turn(&self, worker: &mut Worker, taken: Taken, next: Row) -> Result<Committed, Halt>
         requires here { IsWorkerOf self.now worker.old × IsRowOf self.now.cells.now taken.row }
         requires next { next ≡ next_row taken.row }
@@ -377,6 +381,7 @@ impl<R: Wait, G: Gate + StepGate> Crew<'_, R, G> {
 
     /// Goes on with the thread of the row that was taken, and enters its next row. The threads that it starts join the
     /// list.
+    #[inline(always)]
     fn resume(
         &self,
         pass: &mut Pass<Suspended>,
