@@ -1,17 +1,63 @@
-//! What the faults of the program `pcml` mean: a text for each, by its number.
+//! What the faults of the program `pcml` mean, and the words that it tells: a text for each.
 #![tactic(auto)]
 
-ghost use Rattle.std.specs.Prelude.{◌≡◌, [], ◌∷◌, IsTrue, IfSome, is_some, nat_eq};
+ghost use Rattle.std.specs.Prelude.{◌≡◌, ◌≢◌, [], ◌∷◌, IsTrue, IfNone, IfSome, is_some, nat_eq};
 ghost use Rattle.std.specs.List.{starts_with, ends_with};
-ghost use Rattle.pcml_explain.specs.Faults.{is_fault, heading};
+ghost use Rattle.pcml_explain.specs.declared.Topic.TheVariants as topics;
+ghost use Rattle.pcml_explain.specs.declared.Word.{Word};
+ghost use Rattle.pcml_explain.specs.Topics.{heading, is_topic, letters};
 
 mod texts;
+mod words;
 
-/// What a fault means, in lines of text; none where no fault has the number. What the text says behind its
-/// heading no clause tells.
-pub fn explanation(number: u16) -> Option<&'static str>
-    ensures of_faults { is_some result ≡ is_fault number }
-    ensures headed { IfSome result (λ text. IsTrue (starts_with nat_eq text.now (heading number))) }
+/// A word that the program tells of a process, of a fault that it stopped at, or of a run.
+#[derive(Clone, Copy, Debug, PartialEq, Eq)]
+pub enum Word {
+    Unset,
+    Kind,
+    Range,
+    Shape,
+    Waiting,
+    Spent,
+    Unstarted,
+    Journal,
+    Stamp,
+}
+
+impl Word {
+    /// The word of these letters.
+    pub fn of(name: &str) -> Option<Word>
+        ensures found { IfSome result (λ word. name.now ≡ letters word) }
+        ensures none { IfNone result ((word : Word) → name.now ≢ letters word) }
+    {
+        match name {
+            "unset" => Some(Word::Unset),
+            "kind" => Some(Word::Kind),
+            "range" => Some(Word::Range),
+            "shape" => Some(Word::Shape),
+            "waiting" => Some(Word::Waiting),
+            "spent" => Some(Word::Spent),
+            "unstarted" => Some(Word::Unstarted),
+            "journal" => Some(Word::Journal),
+            "stamp" => Some(Word::Stamp),
+            _ => None,
+        }
+    }
+}
+
+/// What can be explained.
+#[derive(Clone, Copy, Debug, PartialEq, Eq)]
+pub enum Topic {
+    /// Which faults and words there are.
+    Contents,
+    /// The fault of this number.
+    Fault(u16),
+    Word(Word),
+}
+
+fn fault_text(number: u16) -> Option<&'static str>
+    ensures of_faults { is_some result ≡ is_topic (topics.Fault number) }
+    ensures headed { IfSome result (λ text. IsTrue (starts_with nat_eq text.now (heading (topics.Fault number)))) }
     ensures whole_lines { IfSome result (λ text. IsTrue (ends_with nat_eq text.now (10 ∷ []))) }
 {
     match number {
@@ -35,5 +81,36 @@ pub fn explanation(number: u16) -> Option<&'static str>
         31 => Some(texts::UNREAD),
         32 => Some(texts::UNWRITTEN),
         _ => None,
+    }
+}
+
+fn word_text(word: Word) -> &'static str
+    ensures headed { IsTrue (starts_with nat_eq result.now (heading (topics.Word word))) }
+    ensures whole_lines { IsTrue (ends_with nat_eq result.now (10 ∷ [])) }
+{
+    match word {
+        Word::Unset => words::UNSET,
+        Word::Kind => words::KIND,
+        Word::Range => words::RANGE,
+        Word::Shape => words::SHAPE,
+        Word::Waiting => words::WAITING,
+        Word::Spent => words::SPENT,
+        Word::Unstarted => words::UNSTARTED,
+        Word::Journal => words::JOURNAL,
+        Word::Stamp => words::STAMP,
+    }
+}
+
+/// What a fault or a word means, in lines of text, or which there are; none where no fault has the number. What the
+/// text says behind its heading no clause tells.
+pub fn explanation(topic: Topic) -> Option<&'static str>
+    ensures of_topics { is_some result ≡ is_topic topic }
+    ensures headed { IfSome result (λ text. IsTrue (starts_with nat_eq text.now (heading topic))) }
+    ensures whole_lines { IfSome result (λ text. IsTrue (ends_with nat_eq text.now (10 ∷ []))) }
+{
+    match topic {
+        Topic::Contents => Some(texts::CONTENTS),
+        Topic::Fault(number) => fault_text(number),
+        Topic::Word(word) => Some(word_text(word)),
     }
 }

@@ -1,4 +1,35 @@
-//! The texts, one for each fault. An example's file stands by two spaces to the right.
+//! The texts, one for each fault, and which topics there are. An example's file stands by two spaces to the right.
+
+pub(crate) const CONTENTS: &str = "\
+pcml explain N, or a word of these, tells more:
+  1          memory ran out
+  2          a step of a schedule is not allowed
+  3          a number of rows that is not 1 to 1024
+  4, 5       told no more
+  6          a thread could not be started
+  7          the seasons do not suffice
+  8          a number of seasons that is not 1 to 65535
+  11         a token of a script is none, or stands where it may not
+  12         a name of a script stands for nothing
+  13         a name of a script stands for something already
+  14         a script has more than its limits allow
+  15         a loop of a script does not begin with a sync
+  16         a script is too long
+  21         a line of a journal is not of the form
+  22         a line of a schedule is not of the form
+  23         a journal or a schedule is too long
+  31         a file cannot be read
+  32         an output cannot be written
+  unset      a process read a variable before it was set
+  kind       a process had a value of another kind
+  range      a process came to a number out of range, or to a nack too many
+  shape      a process got a message of another size
+  waiting    a process stands in a sync that nobody takes
+  spent      a process made as many syncs as it may
+  unstarted  a process was not spawned
+  journal    what a run's lines say
+  stamp      the number that a line begins with
+";
 
 pub(crate) const MEMORY: &str = "\
 fault 1: memory ran out
@@ -99,8 +130,8 @@ what to do: begin the loop with a sync. `sync always ();` is one that waits for 
 
 pub(crate) const TOO_LONG: &str = "\
 fault 16: the script has more than 65,536 bytes
-comes about: where FILE of pcml check, run, replay, why, chart, outcomes or next is so long, or never ends,
-as a device.
+comes about: where FILE of pcml check, run, replay, why, chart, outcomes, next or stats is so long, or never
+ends, as a device.
 what to do: shorten the script.
 ";
 
@@ -124,8 +155,8 @@ what to do: write the line as docs/FORMATS.md has it. Line 1 is the world, also 
 
 pub(crate) const TOO_LARGE: &str = "\
 fault 23: the journal or the schedule has more than 16,777,216 bytes
-comes about: where JOURNAL of pcml replay, why, chart or next, or FILE of pcml play, is so long, or never ends,
-as a device.
+comes about: where JOURNAL of pcml replay, why, chart, next or stats, or FILE of pcml play, is so long, or
+never ends, as a device.
 what to do: shorten it.
 ";
 

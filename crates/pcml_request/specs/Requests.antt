@@ -1,21 +1,23 @@
 -- What can be asked for.
 use Rattle.std.specs.Prelude.{ℕ, ◌*◌, ◌≤◌, IsTrue, Option, None, Some, IfSome}
-use Rattle.pcml_explain.specs.Faults.{is_fault}
+use Rattle.pcml_explain.specs.Topics.{is_topic}
 use Rattle.pcml_request.specs.declared.request.Request.{Request}
-use Rattle.pcml_request.specs.declared.request.Request.TheVariants.{Chart, Explain, Next, Outcomes, Replay, Why}
+use Rattle.pcml_request.specs.declared.request.Request.TheVariants.{Chart, Explain, Next, Outcomes, Replay, Run, Stats, Why}
 
 -- so many rows in each of so many seasons, and in one where no number of seasons is named
 abbrev pub all_rows : ℕ → Option ℕ → ℕ
 all_rows rows None = rows
 all_rows rows (Some seasons) = seasons * rows
 
--- Of a fault that is to be explained there is one, processes whose journal is followed or whose outcomes are looked for have at most
--- 1024 rows a season, and outcomes are looked for in one configuration at least, and numbered from 1.
+-- Of a fault that is to be explained there is one, processes that are run, whose journal is followed or whose outcomes are looked for have at
+-- most 1024 rows a season, and outcomes are looked for in one configuration at least, and numbered from 1.
 abbrev pub CanBeAnswered : Request → Type 0
-CanBeAnswered (Explain number) = IsTrue (is_fault number)
+CanBeAnswered (Explain topic) = IsTrue (is_topic topic)
+CanBeAnswered (Run asked) = asked.rows ≤ 1024
 CanBeAnswered (Replay script journal rows seasons) = rows ≤ 1024
 CanBeAnswered (Why script journal rows seasons) = rows ≤ 1024
 CanBeAnswered (Chart script journal rows seasons from to) = rows ≤ 1024
 CanBeAnswered (Next script journal rows) = rows ≤ 1024
+CanBeAnswered (Stats script journal rows seasons) = rows ≤ 1024
 CanBeAnswered (Outcomes search) = (search.rows ≤ 1024) × (1 ≤ search.limit) × IfSome search.of (λ number. 1 ≤ number)
 CanBeAnswered asked = Unit {0}

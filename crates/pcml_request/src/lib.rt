@@ -1,8 +1,12 @@
 //! What the words of the command line ask for.
 #![tactic(auto)]
 
+mod arguments;
+mod commands;
 mod fault;
 mod request;
+mod words;
 
 pub use crate::fault::WordsFault;
-pub use crate::request::{Request, Search, read_words};
+pub use crate::request::{Request, Running, Search};
+pub use crate::words::read_words;

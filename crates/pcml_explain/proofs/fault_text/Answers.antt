@@ -1,6 +1,6 @@
 -- Where the number is written out, how its text begins is computed.
 use Rattle.std.specs.Fmt.{digits}
-use Rattle.pcml_explain.proofs.explanation.Goals as goal
+use Rattle.pcml_explain.proofs.fault_text.Goals as goal
 
 pub returns-in-1-clause-headed : goal.returns-in-1-clause-headed
 unfolding digits

@@ -1,0 +1,77 @@
+//! The texts, one for each word. An example's file stands by two spaces to the right.
+
+pub(crate) const UNSET: &str = "\
+unset: a process stopped at a variable that was read before anything set it
+example: pcml run FILE tells a faulted unset, where FILE is
+  process a { if 1 = 2 { let x = 1; } else { } print x; }
+what to do: set the variable on each way that leads to where it is read. pcml why FILE JOURNAL tells the line.
+";
+
+pub(crate) const KIND: &str = "\
+kind: a process stopped at a value of another kind than is wanted there
+comes about: where `+`, `-` or `<` has what is no number, `send` or `recv` what is no channel, or `cancelled`
+what is no nack.
+example: pcml run FILE tells a faulted kind, where FILE is
+  process a { let x = 7; sync send x (); }
+what to do: look at what the variable holds there. pcml why FILE JOURNAL tells the line.
+";
+
+pub(crate) const RANGE: &str = "\
+range: a process stopped at a number below 0 or above 4294967295, or at its 65th nack
+example: pcml run FILE tells a faulted range, where FILE is
+  process a { print 7 - 8; }
+what to do: test with `<` before something is taken away; make fewer nacks, as by more processes.
+";
+
+pub(crate) const SHAPE: &str = "\
+shape: a process stopped at a message that has more atoms than there are names for it, or fewer
+comes about: where `x, y <- sync ..` or `as x, y` takes a message that has not as many atoms. A send, a nack
+and an end give the empty message.
+example: pcml run FILE tells a faulted shape, where FILE is
+  process a { x <- sync always (); }
+what to do: write as many names as the message has atoms, or none.
+";
+
+pub(crate) const WAITING: &str = "\
+waiting: a process stands in a sync that nobody takes, and nothing more happens
+comes about: also in a script that is as it should be, as a server that nobody asks any more.
+example: pcml run FILE tells a waiting, where FILE is
+  channel c; process a { sync send c (1); }
+what to do: pcml why FILE JOURNAL tells where it waits, for what, and who waits for one another; pcml outcomes
+FILE --waiting whether any run comes to it.
+";
+
+pub(crate) const SPENT: &str = "\
+spent: a process came to one more sync than --rows allows, and does not offer it
+example: pcml run FILE --rows 4 tells a spent, where FILE is
+  process a { forever { sync always (); } }
+what to do: allow more by --rows, at most 1024, or run it in seasons by --seasons. replay, why, chart, outcomes
+and next have to be told the --rows of the run.
+";
+
+pub(crate) const UNSTARTED: &str = "\
+unstarted: a process that another one spawns was not spawned
+comes about: where the process with the `spawn` did not come there. It printed nothing.
+example: pcml run FILE tells kid unstarted, where FILE is
+  channel c; process kid { print 1; } process a { sync recv c; spawn kid; }
+what to do: look at where the process stands that is to spawn it.
+";
+
+pub(crate) const JOURNAL: &str = "\
+journal: the rendezvous of a run, a line for each, in the order of their stamps
+comes about: pcml run prints it, and with --journal TO keeps it in a file. A line is one of
+  1 a.0.0 -> b.0.0 c (42)        stamp 1: sync 0 of a, by its offer 0, sent 42 on c to sync 0 of b
+  2 a.1.1 always ()              stamp 2: sync 1 of a took its offer 1, an always
+  3 b.1.0 cancelled a.0          stamp 3: sync 1 of b took that nack 0 of a is enabled
+  4 b.2.0 joined a               stamp 4: sync 2 of b took that a has ended
+Any beginning of a journal is a journal: so head -n 3 JOURNAL | pcml why FILE - tells how it stood then.
+what to do: pcml replay tells if it is one, why, chart, next and stats tell of it. docs/FORMATS.md has the form.
+";
+
+pub(crate) const STAMP: &str = "\
+stamp: the number with which a line of a journal begins
+comes about: it is one more than the greatest of the lines that had to come before: those of its processes,
+of what spawned them, of what enabled its nack, and of the process whose end it takes. So lines of one stamp
+may have happened side by side, and the greatest stamp is how many had to follow one another.
+what to do: pcml chart draws a journal by its stamps.
+";

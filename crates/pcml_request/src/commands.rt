@@ -1,0 +1,285 @@
+//! A command of the program for each request, and the request by the words behind it.
+
+use crate::arguments::{
+    arguments_of_journal, file_argument, flag_argument, kept_argument, limit_argument, of_argument,
+    rows_argument, seasons_argument, stamp_argument,
+};
+use crate::request::{Request, Running, Search};
+use clap::{Arg, ArgAction, ArgMatches, Command, value_parser};
+use pcml_explain::{Topic, Word};
+use std::alloc::{AllocError, Global};
+
+fn need_argument<'a>(alloc: Global) -> Arg<'a> {
+    Arg::new(alloc, "need")
+        .long("need")
+        .action(ArgAction::Set)
+        .value_name("NAMES")
+        .help("Processes that have to end, with commas between, or all: else the status is 3")
+}
+
+fn run_command<'a>(alloc: Global) -> Result<Command<'a>, AllocError> {
+    let workers = Arg::new(alloc, "workers")
+        .long("workers")
+        .action(ArgAction::Set)
+        .value_name("N")
+        .value_parser(value_parser!(u8).range(1..=16))
+        .default_value("4")
+        .help("How many workers run the processes, 1 to 16");
+    let file = file_argument(alloc, "file", "FILE", "The script");
+    let arguments = vec![in alloc;
+        file,
+        workers,
+        rows_argument(alloc),
+        seasons_argument(alloc),
+        kept_argument(alloc, "Writes the journal to a file too"),
+        flag_argument(alloc, "quiet", "Prints no journal"),
+        flag_argument(
+            alloc,
+            "why",
+            "Tells why each process stands where it does, too"
+        ),
+        need_argument(alloc),
+    ]?;
+    Command::new(alloc, "run")
+        .about("Runs the processes of a script")
+        .args(arguments)
+}
+
+/// The request of `run`, by the words behind it.
+fn run_request<'a>(run: &ArgMatches<'a>) -> Option<Request<'a>> {
+    Some(Request::Run(Running {
+        script: run.get_str("file")?,
+        workers: run.get_one("workers")?,
+        rows: run.get_one("rows")?,
+        seasons: run.get_one("seasons"),
+        journal: run.get_str("journal"),
+        quiet: run.get_flag("quiet"),
+        why: run.get_flag("why"),
+        need: run.get_str("need"),
+    }))
+}
+
+fn check_command<'a>(alloc: Global) -> Result<Command<'a>, AllocError> {
+    let file = file_argument(alloc, "file", "FILE", "The script");
+    Command::new(alloc, "check")
+        .about("Checks the text of a script")
+        .arg(file)
+}
+
+fn why_command<'a>(alloc: Global) -> Result<Command<'a>, AllocError> {
+    let arguments = arguments_of_journal(alloc)?;
+    Command::new(alloc, "why")
+        .about("Tells why each process stands where it does")
+        .args(arguments)
+}
+
+/// The request of `why`, by the words behind it.
+fn why_request<'a>(why: &ArgMatches<'a>) -> Option<Request<'a>> {
+    Some(Request::Why {
+        script: why.get_str("file")?,
+        journal: why.get_str("journal")?,
+        rows: why.get_one("rows")?,
+        seasons: why.get_one("seasons"),
+    })
+}
+
+fn chart_command<'a>(alloc: Global) -> Result<Command<'a>, AllocError> {
+    let mut arguments = arguments_of_journal(alloc)?;
+    arguments.push(stamp_argument(alloc, "from", "1", "The first stamp that is drawn"))?;
+    arguments.push(stamp_argument(alloc, "to", "4294967295", "The last stamp that is drawn"))?;
+    Command::new(alloc, "chart")
+        .about("Draws a journal as a chart (SVG)")
+        .args(arguments)
+}
+
+/// The request of `chart`, by the words behind it.
+fn chart_request<'a>(chart: &ArgMatches<'a>) -> Option<Request<'a>> {
+    Some(Request::Chart {
+        script: chart.get_str("file")?,
+        journal: chart.get_str("journal")?,
+        rows: chart.get_one("rows")?,
+        seasons: chart.get_one("seasons"),
+        from: chart.get_one("from")?,
+        to: chart.get_one("to")?,
+    })
+}
+
+fn replay_command<'a>(alloc: Global) -> Result<Command<'a>, AllocError> {
+    let arguments = arguments_of_journal(alloc)?;
+    Command::new(alloc, "replay")
+        .about("Replays a journal against its script")
+        .args(arguments)
+}
+
+/// The request of `replay`, by the words behind it.
+fn replay_request<'a>(replay: &ArgMatches<'a>) -> Option<Request<'a>> {
+    Some(Request::Replay {
+        script: replay.get_str("file")?,
+        journal: replay.get_str("journal")?,
+        rows: replay.get_one("rows")?,
+        seasons: replay.get_one("seasons"),
+    })
+}
+
+fn outcomes_command<'a>(alloc: Global) -> Result<Command<'a>, AllocError> {
+    let file = file_argument(alloc, "file", "FILE", "The script");
+    let arguments = vec![in alloc;
+        file,
+        rows_argument(alloc),
+        limit_argument(alloc),
+        flag_argument(
+            alloc,
+            "waiting",
+            "Prints only what leaves a process waiting"
+        ),
+        kept_argument(alloc, "Writes a journal that leads to an outcome to a file"),
+        of_argument(alloc)?,
+    ]?;
+    Command::new(alloc, "outcomes")
+        .about("Tells all that a script can come to")
+        .args(arguments)
+}
+
+/// The request of `outcomes`, by the words behind it.
+fn outcomes_request<'a>(outcomes: &ArgMatches<'a>) -> Option<Request<'a>> {
+    Some(Request::Outcomes(Search {
+        script: outcomes.get_str("file")?,
+        rows: outcomes.get_one("rows")?,
+        limit: outcomes.get_one("limit")?,
+        waiting: outcomes.get_flag("waiting"),
+        journal: outcomes.get_str("journal"),
+        of: outcomes.get_one("of"),
+    }))
+}
+
+fn next_command<'a>(alloc: Global) -> Result<Command<'a>, AllocError> {
+    let file = file_argument(alloc, "file", "FILE", "The script");
+    let journal = file_argument(alloc, "journal", "JOURNAL", "The journal");
+    let arguments = vec![in alloc; file, journal, rows_argument(alloc)]?;
+    Command::new(alloc, "next")
+        .about("Tells which commits may come next")
+        .args(arguments)
+}
+
+/// The request of `next`, by the words behind it.
+fn next_request<'a>(next: &ArgMatches<'a>) -> Option<Request<'a>> {
+    Some(Request::Next {
+        script: next.get_str("file")?,
+        journal: next.get_str("journal")?,
+        rows: next.get_one("rows")?,
+    })
+}
+
+fn stats_command<'a>(alloc: Global) -> Result<Command<'a>, AllocError> {
+    let arguments = arguments_of_journal(alloc)?;
+    Command::new(alloc, "stats")
+        .about("Tells how often each process and channel took part in a journal")
+        .args(arguments)
+}
+
+/// The request of `stats`, by the words behind it.
+fn stats_request<'a>(stats: &ArgMatches<'a>) -> Option<Request<'a>> {
+    Some(Request::Stats {
+        script: stats.get_str("file")?,
+        journal: stats.get_str("journal")?,
+        rows: stats.get_one("rows")?,
+        seasons: stats.get_one("seasons"),
+    })
+}
+
+fn explain_command<'a>(alloc: Global) -> Result<Command<'a>, AllocError> {
+    let topic = Arg::new(alloc, "topic")
+        .action(ArgAction::Set)
+        .value_name("N")
+        .help("The fault's number, or the word: else all of them are listed");
+    Command::new(alloc, "explain")
+        .about("Explains a fault, or a word that is told")
+        .arg(topic)
+}
+
+/// The request of `explain`, by the word behind it, where it is a number or a word that the program tells.
+fn explain_request<'a>(explain: &ArgMatches<'a>) -> Option<Request<'a>> {
+    let Some(topic) = explain.get_str("topic") else {
+        return Some(Request::Explain(Topic::Contents));
+    };
+    if let Ok(number) = topic.parse::<u16>() {
+        return Some(Request::Explain(Topic::Fault(number)));
+    }
+    Word::of(topic).map(|word| Request::Explain(Topic::Word(word)))
+}
+
+fn version_command<'a>(alloc: Global) -> Result<Command<'a>, AllocError> {
+    Ok(Command::new(alloc, "version").about("Tells the version"))
+}
+
+fn meet_command<'a>(alloc: Global) -> Result<Command<'a>, AllocError> {
+    let value = Arg::new(alloc, "value")
+        .required(true)
+        .action(ArgAction::Set)
+        .value_name("V")
+        .value_parser(value_parser!(u32))
+        .help("The number that is sent");
+    Command::new(alloc, "meet")
+        .about("Sends one number from a thread to another")
+        .arg(value)
+}
+
+fn play_command<'a>(alloc: Global) -> Result<Command<'a>, AllocError> {
+    let file = file_argument(alloc, "file", "FILE", "The schedule");
+    Command::new(alloc, "play")
+        .about("Plays the steps of a schedule")
+        .arg(file)
+}
+
+/// The command with one more below it.
+fn with<'a>(
+    command: Result<Command<'a>, AllocError>,
+    below: Result<Command<'a>, AllocError>,
+) -> Result<Command<'a>, AllocError> {
+    command?.subcommand(below?)
+}
+
+fn bare_command<'a>(alloc: Global) -> Result<Command<'a>, AllocError> {
+    Command::new(alloc, "pcml")
+        .about(
+            "Runs scripts of Concurrent ML's events, and tells of any run what it was and why it stands where it does",
+        )
+        .no_binary_name(true)
+        .subcommand_required(true)
+        .bin_name("pcml")
+}
+
+/// All commands, those that are used most first.
+pub(crate) fn command_line<'a>(alloc: Global) -> Result<Command<'a>, AllocError> {
+    let command = with(bare_command(alloc), run_command(alloc));
+    let command = with(command, check_command(alloc));
+    let command = with(command, why_command(alloc));
+    let command = with(command, chart_command(alloc));
+    let command = with(command, replay_command(alloc));
+    let command = with(command, outcomes_command(alloc));
+    let command = with(command, next_command(alloc));
+    let command = with(command, stats_command(alloc));
+    let command = with(command, explain_command(alloc));
+    let command = with(command, version_command(alloc));
+    let command = with(command, meet_command(alloc));
+    with(command, play_command(alloc))
+}
+
+/// The request of the subcommand of this name, by the words behind it.
+pub(crate) fn request_of<'a>(name: &str, behind: &ArgMatches<'a>) -> Option<Request<'a>> {
+    match name {
+        "run" => run_request(behind),
+        "check" => behind.get_str("file").map(|name| Request::Check(name)),
+        "why" => why_request(behind),
+        "chart" => chart_request(behind),
+        "replay" => replay_request(behind),
+        "outcomes" => outcomes_request(behind),
+        "next" => next_request(behind),
+        "stats" => stats_request(behind),
+        "explain" => explain_request(behind),
+        "version" => Some(Request::Version),
+        "meet" => behind.get_one("value").map(|value| Request::Meet(value)),
+        "play" => behind.get_str("file").map(|name| Request::Play(name)),
+        _ => None,
+    }
+}
