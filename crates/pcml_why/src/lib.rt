@@ -12,4 +12,4 @@ mod parts;
 mod site;
 mod text;
 
-pub use crate::text::why_text;
+pub use crate::text::{push_offer, push_syncs, why_text};

@@ -34,7 +34,8 @@ struct Teller<'a> {
     sites: &'a [Site<'a>],
 }
 
-fn push_offer(out: &mut String, script: &Script, base: Base) -> Result<(), AllocError>
+/// Appends what an offer is, in the names of the script.
+pub fn push_offer(out: &mut String, script: &Script, base: Base) -> Result<(), AllocError>
     ensures { OnOk result (Adds out.old out.new (offer_text (named (script_of script.now)) base)) }
 {
     match base {
@@ -193,8 +194,9 @@ fn syncs_word(rows: u32) -> &'static str
     if rows == 1 { " sync\n" } else { " syncs\n" }
 }
 
+/// Appends how many syncs a process made that is spent.
 #[tactic(auto, unfolding(crate::specs::Whys::syncs_text))]
-fn push_syncs(out: &mut String, rows: u32) -> Result<(), AllocError>
+pub fn push_syncs(out: &mut String, rows: u32) -> Result<(), AllocError>
     ensures { OnOk result (Adds out.old out.new (syncs_text rows)) }
 {
     write!(out, ": it made {rows}")?;

@@ -1,0 +1,5 @@
+mod Counting
+mod Needing
+mod Rows
+mod Breaking
+mod Refusing
