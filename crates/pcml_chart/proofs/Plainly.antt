@@ -1,4 +1,4 @@
--- Names, messages and causes are plain.
+-- Names, messages, causes, what was printed and offers are plain.
 use Rattle.std.proofs.Common.{◌≡◌, ℕ, zero, suc, ◌+◌, ◌%◌, ◌<◌, ◌≤◌, ◌^◌, Bool, true, ◌&&◌, List, [], ◌∷◌, ◌++◌, get_or, refl, ap₂, ◌∙◌, arith}
 use Rattle.std.specs.Prelude.{codes, map}
 use Rattle.std.specs.Fmt.{decimal}
@@ -9,6 +9,7 @@ use Rattle.std.proofs.lemmas.List.Folds.{list_all-append}
 use Rattle.script_token.specs.Tokens.{is_name, is_word}
 use Rattle.protocol_values.specs.declared.Atom.{Atom}
 use Rattle.protocol_values.specs.declared.Atom.TheVariants.{Num, Chan, Nack}
+use Rattle.protocol_values.specs.declared.Base.TheVariants as base
 use Rattle.protocol_values.specs.declared.Cause.TheVariants as causes
 use Rattle.protocol_values.specs.declared.Message.TheVariants.{Empty, One, Two, Three}
 use Rattle.protocol_values.specs.declared.NackName.{NackName}
@@ -18,7 +19,8 @@ use Rattle.script.proofs.Declared.{declares_names}
 use Rattle.journal_text.specs.Journals.{HasAtom, HasNack}
 use Rattle.journal_text.specs.Names.{names_of, named}
 use Rattle.journal_text.specs.Texts.{atom_text, message_text, nack_text}
-use Rattle.pcml_chart.specs.Plain.{is_plain, IsPlain, NamesArePlain, MessagesArePlain, CausesArePlain}
+use Rattle.pcml_chart.specs.Feet.{printed_text}
+use Rattle.pcml_chart.specs.Plain.{is_plain, IsPlain, NamesArePlain, MessagesArePlain, CausesArePlain, PrintedIsPlain, OffersArePlain}
 
 plain_both : (xs ys : List ℕ) → IsPlain xs → IsPlain ys → IsPlain (xs ++ ys)
 plain_both xs ys first second = list_all-append is_plain xs ys ∙ ap₂ (λ (a b : Bool). a && b) first second
@@ -84,3 +86,21 @@ pub causes_plain : CausesArePlain
 causes_plain s spelled (causes.Always m) has = plain_both (codes "always ") (message_text (named s) m) refl (messages_plain s spelled m has)
 causes_plain s spelled (causes.Nack n) has = plain_both (codes "cancelled ") (nack_text (named s) n) refl (nack_plain s spelled n has)
 causes_plain s spelled (causes.End t) has = plain_both (codes "joined ") ((named s).thread t) refl (names_plain s spelled t).0
+
+-- WHAT WAS PRINTED, AND OFFERS
+
+pub printed_plain : PrintedIsPlain
+printed_plain s spelled [] all = refl
+printed_plain s spelled (a ∷ printed) all =
+    plain_both (codes " " ++ atom_text (named s) a) (printed_text (named s) printed) (plain_both (codes " ") (atom_text (named s) a) refl (atom_plain s spelled a all.0)) (printed_plain s spelled printed all.1)
+
+pub offers_plain : OffersArePlain
+offers_plain s spelled (base.Send c m) has =
+    plain_both (codes "send " ++ (named s).channel c ++ codes " ") (message_text (named s) m)
+    (plain_both (codes "send " ++ (named s).channel c) (codes " ") (plain_both (codes "send ") ((named s).channel c) refl (names_plain s spelled c).1) refl)
+    (messages_plain s spelled m has)
+offers_plain s spelled (base.Recv c) has = plain_both (codes "recv ") ((named s).channel c) refl (names_plain s spelled c).1
+offers_plain s spelled (base.Always m) has = causes_plain s spelled (causes.Always m) has
+offers_plain s spelled (base.OnNack n) has = causes_plain s spelled (causes.Nack n) has
+offers_plain s spelled (base.OnEnd t) has = plain_both (codes "joined ") ((named s).thread t) refl (names_plain s spelled t).0
+offers_plain s spelled base.Never has = refl

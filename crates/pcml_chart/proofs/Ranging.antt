@@ -1,20 +1,19 @@
--- The commits of a range, one more at a time.
+-- The commits of a range, and a greatest number, one element more at a time.
 use Rattle.std.proofs.Common.{◌≡◌, ℕ, ◌<◌, ◌≤◌, ◌+◌, List, [], ◌∷◌, ◌++◌, length, take, get_or, refl, sym, ap, ◌∙◌, arith}
 use Rattle.std.proofs.lemmas.List.{take_more}
 use Rattle.std.proofs.lemmas.Bool.Decides.{nat_tests}
 use Rattle.std.specs.Prelude.{max}
 use Rattle.protocol_values.specs.declared.Commit.{Commit}
-use Rattle.protocol_values.specs.Commits.{stamp_of}
-use Rattle.pcml_chart.specs.Range.{count_shown, greatest}
+use Rattle.pcml_chart.specs.Range.{count_shown, most_by}
 
--- one more commit
-greatest_more : (cs : List Commit) (c : Commit) → greatest (cs ++ c ∷ []) ≡ max (stamp_of c) (greatest cs)
-greatest_more [] c = refl
-greatest_more (d ∷ cs) c = let later = greatest_more cs c in grind (arith, nat_tests, later)
+-- one more element
+most_by-more : {X : Type 0} (f : X → ℕ) (xs : List X) (x : X) → most_by f (xs ++ x ∷ []) ≡ max (f x) (most_by f xs)
+most_by-more f [] x = refl
+most_by-more f (y ∷ xs) x = let later = most_by-more f xs x in grind (arith, nat_tests, later)
 
-pub greatest_step : (cs : List Commit) (i : ℕ) (d : Commit) (before after : ℕ) → i < length cs → before ≡ greatest (take i cs) → after ≡ max (stamp_of (get_or cs i d)) before → after ≡ greatest (take (i + 1) cs)
-greatest_step cs i d before after h is grown =
-    grown ∙ ap (λ (n : ℕ). max (stamp_of (get_or cs i d)) n) is ∙ sym (ap greatest (take_more cs i d h) ∙ greatest_more (take i cs) (get_or cs i d))
+pub most_by-step : {X : Type 0} (f : X → ℕ) (xs : List X) (i : ℕ) (d : X) (before after : ℕ) → i < length xs → before ≡ most_by f (take i xs) → after ≡ max (f (get_or xs i d)) before → after ≡ most_by f (take (i + 1) xs)
+most_by-step f xs i d before after h is grown =
+    grown ∙ ap (λ (n : ℕ). max (f (get_or xs i d)) n) is ∙ sym (ap (most_by f) (take_more xs i d h) ∙ most_by-more f (take i xs) (get_or xs i d))
 
 -- no stamp is from a number on and below it
 pub none_shown : (from below : ℕ) (cs : List Commit) → below ≤ from → count_shown from below cs ≡ 0

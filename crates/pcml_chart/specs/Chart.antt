@@ -1,25 +1,24 @@
 -- A chart: what its text is, and of which commits.
-use Rattle.std.specs.Prelude.{◌≡◌, ◌+◌, ◌*◌, ◌==◌, ℕ, zero, suc, Bool, true, false, if◌then◌else◌, List, [], ◌++◌, length, codes, get_or, nat_le}
+use Rattle.std.specs.Prelude.{◌≡◌, ◌+◌, ◌*◌, ◌==◌, ℕ, zero, suc, Bool, true, false, if◌then◌else◌, List, [], ◌++◌, length, codes, min, nat_le, slice_get}
 use Rattle.std.specs.Fmt.{decimal}
-use Rattle.std.specs.List.{flat_map}
 use Rattle.protocol_values.specs.declared.Commit.{Commit}
 use Rattle.protocol_values.specs.declared.NackName.{NackName}
 use Rattle.script.specs.Sources.{Script}
 use Rattle.journal_text.specs.Names.{Naming, named}
-use Rattle.journal_replay.specs.Ends.{end_text}
-use Rattle.journal_replay.specs.Replays.{EndsOf, TellsEnded, TellsFired}
-use Rattle.journal_replay.specs.declared.end.End.{End}
-use Rattle.journal_replay.specs.declared.end.End.TheVariants.{Ended}
+use Rattle.journal_replay.specs.Replays.{TellsEnded, TellsFired}
 use Rattle.journal_replay.specs.declared.state.State.{State}
-use Rattle.pcml_chart.specs.Marks.{Stamps, centered, mark, starting, text_end}
-use Rattle.pcml_chart.specs.Places.{bottom, column}
-use Rattle.pcml_chart.specs.Range.{IsEnd, greatest, shown}
+use Rattle.pcml_chart.specs.Feet.{AreFeet, foot_at, offers_of}
+use Rattle.pcml_chart.specs.Marks.{Stamps, centered, starting, text_end}
+use Rattle.pcml_chart.specs.Places.{bottom, column, page_width}
+use Rattle.pcml_chart.specs.Range.{IsEnd, greatest, most_by, shown}
+use Rattle.pcml_chart.specs.Rows.{row}
+use Rattle.pcml_chart.specs.declared.foot.Foot.{Foot}
 
 -- what is drawn: the names, how each process stands, the stamps at which nacks were enabled and processes ended, the commits that
 -- are shown of how many, and whether the range was cut
 pub record Picture : Type 0 where
   pub names : Naming
-  pub ends : List End
+  pub feet : List Foot
   pub stamps : Stamps
   pub commits : List Commit
   pub total : ℕ
@@ -33,15 +32,13 @@ abbrev pub each_below : ℕ → (ℕ → List ℕ) → List ℕ
 each_below zero f = []
 each_below (suc n) f = each_below n f ++ f n
 
-abbrev pub page_width : ℕ → ℕ
-page_width threads = 140 * threads + 140
-
-abbrev pub page_height : ℕ → ℕ
-page_height low = low + 32
+-- so many lines stand below the foot of the lines of life; a sync has at most 8 offers
+abbrev pub page_height : ℕ → ℕ → ℕ
+page_height low lines = low + 32 + 16 * min lines 8
 
 unfoldable pub style : List ℕ
 style =
-    codes "<style>text{stroke:white;stroke-width:3px;paint-order:stroke}.s{text-anchor:start}path{stroke:black;fill:none}.n{stroke-dasharray:4 4}.a{marker-start:url(#tail);marker-end:url(#head)}</style>\n"
+    codes "<style>text{stroke:white;stroke-width:3px;paint-order:stroke}.s{text-anchor:start}path{stroke:black;fill:none}.t{stroke:#ccc}.n{stroke-dasharray:4 4}.a{marker-start:url(#tail);marker-end:url(#head)}</style>\n"
 
 -- how an arrow begins
 unfoldable pub arrow_tail : List ℕ
@@ -59,8 +56,8 @@ page width tall =
     codes "<svg xmlns='http://www.w3.org/2000/svg' width='" ++ decimal width ++ codes "' height='" ++ decimal tall ++ codes "' viewBox='0 0 " ++ decimal width ++ codes " " ++ decimal tall
     ++ codes "' font-family='monospace' font-size='12' text-anchor='middle'>\n"
 
-abbrev pub front : ℕ → ℕ → List ℕ
-front threads low = page (page_width threads) (page_height low) ++ style ++ arrow_tail ++ arrow_head ++ background
+abbrev pub front : ℕ → ℕ → ℕ → List ℕ
+front threads low lines = page (page_width threads) (page_height low lines) ++ style ++ arrow_tail ++ arrow_head ++ background
 
 -- THE HEADING
 
@@ -68,7 +65,7 @@ abbrev pub stamps_text : ℕ → ℕ → ℕ → List ℕ
 stamps_text count from last = if count == 0 then [] else codes ", stamps " ++ decimal from ++ codes " to " ++ decimal last
 
 abbrev pub cut_text : Bool → List ℕ
-cut_text true = codes ", cut at 2000 commits"
+cut_text true = codes ", cut at 1250 commits"
 cut_text false = []
 
 abbrev pub heading_of : ℕ → ℕ → ℕ → ℕ → Bool → List ℕ
@@ -88,33 +85,33 @@ line x low = codes "<path d='M" ++ decimal x ++ codes " 52V" ++ decimal low ++ c
 abbrev pub lifeline : Naming → ℕ → ℕ → List ℕ
 lifeline names low t = centered (column t) 42 ++ names.thread t ++ text_end ++ line (column t) low
 
-abbrev pub end_at : ℕ → ℕ → End → List ℕ
-end_at x y end = centered x y ++ end_text end ++ text_end
-
 -- how the process stands, below its line
-abbrev pub end_mark : List End → ℕ → ℕ → List ℕ
-end_mark ends low t = end_at (column t) (low + 18) (get_or ends t Ended)
+abbrev pub foot_mark : Naming → List Foot → ℕ → ℕ → List ℕ
+foot_mark names feet low t = foot_at names (column t) (low + 18) (slice_get feet t)
 
-abbrev pub foot : List ℕ
-foot = codes "</svg>\n"
+abbrev pub page_end : List ℕ
+page_end = codes "</svg>\n"
 
 -- THE WHOLE
 
 abbrev pub low_of : Picture → ℕ
-low_of p = bottom p.from (greatest p.commits)
+low_of p = bottom (length p.commits)
+
+abbrev pub lines_below : Picture → ℕ
+lines_below p = most_by (λ f. length (offers_of f)) p.feet
 
 abbrev pub lifelines : Picture → List ℕ
-lifelines p = each_below (length p.ends) (lifeline p.names (low_of p))
+lifelines p = each_below (length p.feet) (lifeline p.names (low_of p))
 
--- one for each commit that is shown, in their order
+-- a row for each commit that is shown, in their order
 abbrev pub marks : Picture → List ℕ
-marks p = flat_map (mark p.names p.stamps p.from) p.commits
+marks p = each_below (length p.commits) (row p.names p.stamps (page_width (length p.feet)) p.commits)
 
-abbrev pub end_marks : Picture → List ℕ
-end_marks p = each_below (length p.ends) (end_mark p.ends (low_of p))
+abbrev pub feet_below : Picture → List ℕ
+feet_below p = each_below (length p.feet) (foot_mark p.names p.feet (low_of p))
 
 abbrev pub picture_text : Picture → List ℕ
-picture_text p = front (length p.ends) (low_of p) ++ heading p ++ lifelines p ++ marks p ++ end_marks p ++ foot
+picture_text p = front (length p.feet) (low_of p) (lines_below p) ++ heading p ++ lifelines p ++ marks p ++ feet_below p ++ page_end
 
 -- WHAT A CHART SHOWS
 
@@ -123,9 +120,9 @@ picture_text p = front (length p.ends) (low_of p) ++ heading p ++ lifelines p ++
 pub record IsChart (s : Script) (state : State) (commits : List Commit) (from to : ℕ) (text : List ℕ) : Type 0 where
   pub below : ℕ
   pub range : IsEnd from to commits below
-  pub ends : List End
-  pub tells_ends : EndsOf state ends
+  pub feet : List Foot
+  pub are_feet : AreFeet state feet
   pub stamps : Stamps
   pub tells_fired : (n : NackName) → TellsFired state n (stamps.fired n)
   pub tells_ended : (t : ℕ) → TellsEnded state t (stamps.ended t)
-  pub is : text ≡ picture_text (record { names = named s; ends = ends; stamps = stamps; commits = shown from below commits; total = length commits; from = from; is_cut = nat_le below to })
+  pub is : text ≡ picture_text (record { names = named s; feet = feet; stamps = stamps; commits = shown from below commits; total = length commits; from = from; is_cut = nat_le below to })

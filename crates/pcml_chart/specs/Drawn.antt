@@ -11,4 +11,4 @@ abbrev pub stamps_of : State → Stamps
 stamps_of s = record { fired = fired_by s; ended = ended_by s }
 
 abbrev pub picture_of : Naming → Stamps → Drawing → Picture
-picture_of names stamps d = record { names = names; ends = d.ends.now; stamps = stamps; commits = d.commits.now; total = d.total; from = d.from; is_cut = d.is_cut }
+picture_of names stamps d = record { names = names; feet = d.feet.now; stamps = stamps; commits = d.commits.now; total = d.total; from = d.from; is_cut = d.is_cut }

@@ -1,6 +1,10 @@
 pub mod Places
 pub mod Range
+pub mod Labels
 pub mod Marks
+pub mod Rows
+pub mod Feet
 pub mod Chart
+pub mod Apart
 pub mod Drawn
 pub mod Plain

@@ -1,13 +1,18 @@
 -- Which texts cannot break out of the markup.
-use Rattle.std.specs.Prelude.{◌≡◌, ◌==◌, ◌||◌, ℕ, Bool, true, List, not}
-use Rattle.std.specs.List.{list_all}
+use Rattle.std.specs.Prelude.{◌≡◌, ◌==◌, ◌||◌, ℕ, Bool, true, List, not, ⊤}
+use Rattle.std.specs.List.{AllByRecursion, list_all}
+use Rattle.protocol_values.specs.declared.Atom.{Atom}
+use Rattle.protocol_values.specs.declared.Base.{Base}
+use Rattle.protocol_values.specs.declared.Base.TheVariants.{Send, Recv, Always, OnNack, OnEnd, Never}
 use Rattle.protocol_values.specs.declared.Cause.{Cause}
 use Rattle.protocol_values.specs.declared.Message.{Message}
 use Rattle.script.specs.Sources.{Script}
 use Rattle.script.specs.Spelling.{IsSpelled}
-use Rattle.journal_text.specs.Journals.{HasCause, HasMessage}
-use Rattle.journal_text.specs.Names.{names_of, named}
+use Rattle.journal_text.specs.Journals.{HasAtom, HasCause, HasMessage, HasNack}
+use Rattle.journal_text.specs.Names.{Declared, names_of, named}
 use Rattle.journal_text.specs.Texts.{cause_text, message_text}
+use Rattle.pcml_why.specs.Whys.{offer_text}
+use Rattle.pcml_chart.specs.Feet.{printed_text}
 
 -- neither `<` nor `>` nor `&`, and no quote
 abbrev pub is_plain : ℕ → Bool
@@ -26,3 +31,18 @@ MessagesArePlain = (s : Script) → IsSpelled s → (m : Message) → HasMessage
 
 abbrev pub CausesArePlain : Type 0
 CausesArePlain = (s : Script) → IsSpelled s → (why : Cause) → HasCause (names_of s) why → IsPlain (cause_text (named s) why)
+
+abbrev pub PrintedIsPlain : Type 0
+PrintedIsPlain = (s : Script) → IsSpelled s → (printed : List Atom) → AllByRecursion (HasAtom (names_of s)) printed → IsPlain (printed_text (named s) printed)
+
+-- an offer's channel or thread may have any number, and its values are those of a line
+abbrev pub HasBase : Declared → Base → Type 0
+HasBase d (Send c m) = HasMessage d m
+HasBase d (Recv c) = ⊤
+HasBase d (Always m) = HasMessage d m
+HasBase d (OnNack n) = HasNack d n
+HasBase d (OnEnd t) = ⊤
+HasBase d Never = ⊤
+
+abbrev pub OffersArePlain : Type 0
+OffersArePlain = (s : Script) → IsSpelled s → (b : Base) → HasBase (names_of s) b → IsPlain (offer_text (named s) b)

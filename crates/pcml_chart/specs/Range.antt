@@ -1,4 +1,4 @@
--- Which commits a chart shows: those of a range of stamps, 2,000 at most.
+-- Which commits a chart shows: those of a range of stamps, 1,250 at most.
 use Rattle.std.specs.Prelude.{◌≡◌, ◌⊎◌, ◌&&◌, ℕ, ◌+◌, ◌<◌, ◌≤◌, max, List, [], ◌∷◌, length, filter, nat_le, nat_lt}
 use Rattle.protocol_values.specs.declared.Commit.{Commit}
 use Rattle.protocol_values.specs.Commits.{stamp_of}
@@ -14,10 +14,13 @@ count_shown from below commits = length (shown from below commits)
 -- The end of the range is one past `to` where that shows few enough. Else it is the last stamp for which they are few enough.
 pub record IsEnd (from to : ℕ) (commits : List Commit) (below : ℕ) : Type 0 where
   pub within : below ≤ to + 1
-  pub few : count_shown from below commits ≤ 2000
-  pub most : (below ≡ to + 1) ⊎ (2000 < count_shown from (below + 1) commits)
+  pub few : count_shown from below commits ≤ 1250
+  pub most : (below ≡ to + 1) ⊎ (1250 < count_shown from (below + 1) commits)
 
--- the greatest stamp, 0 where there is no commit
+-- the greatest number of the list's elements, 0 where there is none
+abbrev pub most_by : {X : Type 0} → (X → ℕ) → List X → ℕ
+most_by f [] = 0
+most_by f (x ∷ xs) = max (f x) (most_by f xs)
+
 abbrev pub greatest : List Commit → ℕ
-greatest [] = 0
-greatest (c ∷ cs) = max (stamp_of c) (greatest cs)
+greatest commits = most_by stamp_of commits

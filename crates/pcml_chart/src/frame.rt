@@ -1,15 +1,13 @@
-//! What stands round the marks: the page, the heading, and the lines of life with their ends.
+//! What stands round the marks: the page, the heading, and the lines of life with how many commits are shown.
 
-ghost use Rattle.std.specs.Prelude.{◌≡◌, ◌<◌, ◌≤◌, ◌+◌, ◌^◌, OnOk, length};
+ghost use Rattle.std.specs.Prelude.{◌≡◌, ◌<◌, ◌≤◌, ◌^◌, OnOk};
 ghost use Rattle.script.specs.Scripts.{script_of};
-ghost use Rattle.pcml_chart.specs.Chart.{arrow_head, arrow_tail, background, cut_text, each_below, end_at, end_mark, foot, front, heading_of, lifeline, line, page, page_height, page_width, stamps_text, style};
-ghost use Rattle.pcml_chart.specs.Places.{column};
+ghost use Rattle.pcml_chart.specs.Chart.{arrow_head, arrow_tail, background, cut_text, each_below, front, heading_of, lifeline, line, page, page_end, page_height, stamps_text, style};
 ghost use Rattle.journal_text.specs.Names.{named};
 ghost use Rattle.script.specs.Appending.{Adds};
 
 use crate::label::{push_centered, push_starting, push_text_end};
-use crate::places::column;
-use journal_replay::End;
+use crate::places::{column, page_width};
 use journal_text::push_thread;
 use script::Script;
 use std::alloc::AllocError;
@@ -28,7 +26,7 @@ fn push_style(out: &mut String) -> Result<(), AllocError>
     ensures { OnOk result (Adds out.old out.new style) }
 {
     out.push_str(
-        "<style>text{stroke:white;stroke-width:3px;paint-order:stroke}.s{text-anchor:start}path{stroke:black;fill:none}.n{stroke-dasharray:4 4}.a{marker-start:url(#tail);marker-end:url(#head)}</style>\n",
+        "<style>text{stroke:white;stroke-width:3px;paint-order:stroke}.s{text-anchor:start}path{stroke:black;fill:none}.t{stroke:#ccc}.n{stroke-dasharray:4 4}.a{marker-start:url(#tail);marker-end:url(#head)}</style>\n",
     )
 }
 
@@ -57,13 +55,25 @@ fn push_background(out: &mut String) -> Result<(), AllocError>
     out.push_str("<rect width='100%' height='100%' fill='white'/>\n")
 }
 
-/// The page of so many threads, whose lines of life end at this height.
-pub(crate) fn push_front(out: &mut String, threads: usize, low: u64) -> Result<(), AllocError>
+fn page_height(low: u64, lines: usize) -> u64
+    requires { low < 2 ^ 60 }
+    ensures { result ≡ page_height low lines }
+{
+    low + 32 + 16 * lines.min(8) as u64
+}
+
+/// The page of so many threads, whose lines of life end at this height, with so many lines below.
+pub(crate) fn push_front(
+    out: &mut String,
+    threads: usize,
+    low: u64,
+    lines: usize,
+) -> Result<(), AllocError>
     requires threads { threads ≤ 64 }
     requires low { low < 2 ^ 60 }
-    ensures { OnOk result (Adds out.old out.new (front threads low)) }
+    ensures { OnOk result (Adds out.old out.new (front threads low lines)) }
 {
-    push_page(out, 140 * threads as u64 + 140, low + 32)?;
+    push_page(out, page_width(threads), page_height(low, lines))?;
     push_style(out)?;
     push_arrow_tail(out)?;
     push_arrow_head(out)?;
@@ -82,7 +92,7 @@ fn push_stamps(out: &mut String, count: usize, from: u32, last: u32) -> Result<(
 fn cut_text(is_cut: bool) -> &'static str
     ensures { result.now ≡ cut_text is_cut }
 {
-    if is_cut { ", cut at 2000 commits" } else { "" }
+    if is_cut { ", cut at 1250 commits" } else { "" }
 }
 
 /// How many commits are shown of how many, and which stamps.
@@ -135,29 +145,8 @@ pub(crate) fn push_lifelines(
     Ok(())
 }
 
-fn push_end(out: &mut String, thread: u8, low: u64, end: End) -> Result<(), AllocError>
-    requires { low < 2 ^ 60 }
-    ensures { OnOk result (Adds out.old out.new (end_at (column thread) (low + 18) end)) }
-{
-    push_centered(out, column(thread), low + 18)?;
-    out.push_str(end.text())?;
-    push_text_end(out)
-}
-
-/// How each process stands, below its line.
-pub(crate) fn push_ends(out: &mut String, ends: &[End], low: u64) -> Result<(), AllocError>
-    requires threads { length ends.now ≤ 64 }
-    requires low { low < 2 ^ 60 }
-    ensures { OnOk result (Adds out.old out.new (each_below (length ends.now) (end_mark ends.now low))) }
-{
-    for thread in 0..ends.len() {
-        push_end(out, thread as u8, low, ends[thread])?;
-    }
-    Ok(())
-}
-
-pub(crate) fn push_foot(out: &mut String) -> Result<(), AllocError>
-    ensures { OnOk result (Adds out.old out.new foot) }
+pub(crate) fn push_page_end(out: &mut String) -> Result<(), AllocError>
+    ensures { OnOk result (Adds out.old out.new page_end) }
 {
     out.push_str("</svg>\n")
 }

@@ -6,10 +6,12 @@
 #![tactic(auto)]
 
 mod chart;
+mod foot;
 mod frame;
 mod label;
 mod mark;
 mod places;
 mod range;
+mod row;
 
 pub use crate::chart::{chart_laws, chart_text};

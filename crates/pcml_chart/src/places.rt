@@ -1,7 +1,10 @@
 //! Where things stand in a chart.
 
-ghost use Rattle.std.specs.Prelude.{◌≡◌};
-ghost use Rattle.pcml_chart.specs.Places.{bottom, column, gap, height};
+ghost use Rattle.std.specs.Prelude.{◌≡◌, ◌≤◌};
+ghost use Rattle.pcml_chart.specs.Places.{bottom, column, gap, height, page_width};
+
+/// The top of the lines of life.
+pub(crate) const TOP: u64 = 52;
 
 /// Where a thread's line of life stands.
 pub(crate) fn column(thread: u8) -> u64
@@ -21,17 +24,25 @@ pub(crate) fn gap(thread: u8, other: u8) -> u64
     }
 }
 
-/// The height of a stamp. The first row is that of `from`; what is above it is at the top.
-pub(crate) fn height(from: u32, stamp: u32) -> u64
-    ensures { result ≡ height from stamp }
+pub(crate) fn page_width(threads: usize) -> u64
+    requires { threads ≤ 64 }
+    ensures { result ≡ page_width threads }
 {
-    let row = (u64::from(stamp) + 1).saturating_sub(u64::from(from));
-    26 * row + 52
+    140 * threads as u64 + 140
 }
 
-/// The foot of the lines of life, where this is the greatest stamp that is shown.
-pub(crate) fn bottom(from: u32, last: u32) -> u64
-    ensures { result ≡ bottom from last }
+/// The height of a commit by its place among those that are shown.
+pub(crate) fn height(place: usize) -> u64
+    requires { place ≤ 1250 }
+    ensures { result ≡ height place }
 {
-    height(from, last) + 26
+    26 * place as u64 + 78
+}
+
+/// The foot of the lines of life, below so many commits.
+pub(crate) fn bottom(count: usize) -> u64
+    requires { count ≤ 1250 }
+    ensures { result ≡ bottom count }
+{
+    height(count)
 }

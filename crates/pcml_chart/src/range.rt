@@ -8,7 +8,7 @@ use protocol_values::Commit;
 use std::alloc::{AllocError, Global};
 
 /// How many commits are shown at most.
-const MOST: usize = 2000;
+const MOST: usize = 1250;
 
 fn is_shown(commit: &Commit, from: u32, below: u64) -> bool
     ensures { IsTrue result ↔ ((from ≤ stamp_of commit.now) × (stamp_of commit.now < below)) }

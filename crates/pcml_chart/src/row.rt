@@ -1,0 +1,121 @@
+//! The rows of a chart, one for each commit that is shown.
+
+ghost use Rattle.std.specs.Prelude.{◌≡◌, ◌<◌, ◌≤◌, ◌^◌, OnOk, length};
+ghost use Rattle.script.specs.Scripts.{script_of};
+ghost use Rattle.pcml_chart.specs.Chart.{each_below};
+ghost use Rattle.pcml_chart.specs.Drawn.{stamps_of};
+ghost use Rattle.pcml_chart.specs.Rows.{border, border_above, is_first, row, stamp_at, stamp_mark, stamp_text};
+ghost use Rattle.journal_text.specs.Names.{named};
+ghost use Rattle.script.specs.Appending.{Adds};
+
+use crate::label::{push_starting, push_text_end};
+use crate::mark::push_mark;
+use crate::places::height;
+use journal_replay::State;
+use protocol_values::Commit;
+use script::Script;
+use std::alloc::{AllocError, Global};
+
+fn stamp_at(commits: &[Commit], place: usize) -> u32
+    requires { place < length commits.now }
+    ensures { result ≡ stamp_at commits.now place }
+{
+    commits[place].order().0
+}
+
+/// Whether the commit at the place is the first of its stamp.
+fn is_first(commits: &[Commit], place: usize) -> bool
+    requires { place < length commits.now }
+    ensures { result ≡ is_first commits.now place }
+{
+    place == 0 || stamp_at(commits, place - 1) != stamp_at(commits, place)
+}
+
+/// A line across the page.
+fn push_border(out: &mut String, width: u64, y: u64) -> Result<(), AllocError>
+    ensures { OnOk result (Adds out.old out.new (border width y)) }
+{
+    write!(out, "<path class='t' d='M0 {y}H{width}'/>\n")
+}
+
+/// The border between a stamp and the one before.
+fn push_border_above(out: &mut String, width: u64, place: usize) -> Result<(), AllocError>
+    requires { place ≤ 1250 }
+    ensures { OnOk result (Adds out.old out.new (border_above width place)) }
+{
+    if place == 0 {
+        return Ok(());
+    }
+    push_border(out, width, height(place) - 18)
+}
+
+/// The stamp at the left margin.
+fn push_stamp(out: &mut String, y: u64, stamp: u32) -> Result<(), AllocError>
+    requires { y < 2 ^ 60 }
+    ensures { OnOk result (Adds out.old out.new (stamp_text y stamp)) }
+{
+    push_starting(out, 8, y + 4)?;
+    write!(out, "{stamp}")?;
+    push_text_end(out)
+}
+
+/// The border and the stamp, at the first commit of each stamp.
+fn push_stamp_mark(
+    out: &mut String,
+    width: u64,
+    commits: &[Commit],
+    place: usize,
+) -> Result<(), AllocError>
+    requires few { length commits.now ≤ 1250 }
+    requires place { place < length commits.now }
+    ensures { OnOk result (Adds out.old out.new (stamp_mark width commits.now place)) }
+{
+    if !is_first(commits, place) {
+        return Ok(());
+    }
+    push_border_above(out, width, place)?;
+    push_stamp(out, height(place), stamp_at(commits, place))
+}
+
+fn push_row(
+    alloc: Global,
+    out: &mut String,
+    script: &Script,
+    state: &State,
+    width: u64,
+    commits: &[Commit],
+    place: usize,
+) -> Result<(), AllocError>
+    requires few { length commits.now ≤ 1250 }
+    requires place { place < length commits.now }
+    ensures { OnOk result (Adds out.old out.new (row (named (script_of script.now)) (stamps_of state.now) width commits.now place)) }
+{
+    push_stamp_mark(out, width, commits, place)?;
+    push_mark(
+        alloc,
+        out,
+        script,
+        state,
+        commits,
+        height(place),
+        &commits[place],
+    )
+}
+
+/// A row for each of the commits, in their order.
+pub(crate) fn push_rows(
+    alloc: Global,
+    out: &mut String,
+    script: &Script,
+    state: &State,
+    width: u64,
+    commits: &[Commit],
+) -> Result<(), AllocError>
+    requires { length commits.now ≤ 1250 }
+    ensures { OnOk result (Adds out.old out.new (each_below (length commits.now) (row (named (script_of script.now)) (stamps_of state.now) width commits.now))) }
+{
+    for place in 0..commits.len() {
+        push_row(alloc, out, script, state, width, commits, place)?;
+    }
+    Ok(())
+}
