@@ -1,5 +1,5 @@
 -- What the text of a run says, from what the run says of its record.
-use Rattle.std.proofs.Common.{◌⊎◌, ◌*◌, ℕ, ◌≤◌, List, Some, ap, ◌∙◌, arith, inl, inr, ⊎_elim}
+use Rattle.std.proofs.Common.{◌⊎◌, ◌*◌, ℕ, ◌≤◌, List, Some, ap, sym, ◌∙◌, arith, inl, inr, ⊎_elim}
 use Rattle.std.proofs.Math.Nat.{mul-le-mul_right}
 use Rattle.std.proofs.lemmas.Bool.{cases_lt}
 use Rattle.protocol_values.specs.declared.Commit.{Commit}
@@ -11,12 +11,14 @@ use Rattle.script.specs.Spelling.{IsSpelled}
 use Rattle.runtime.specs.Headline.{TellsFreeRun, TellsMaximalRun}
 use Rattle.runtime.specs.Limits.{AreRows, AreSeasons, AreWorkers}
 use Rattle.journal_lines.proofs.Lining.{printed_has_names, run_is_read_again}
-use Rattle.pcml_tool.specs.Run.{TellsFreely, TellsRecord, TellsRun}
+use Rattle.pcml_tool.specs.Run.{AreEnds, TellsFreelyOf, TellsRecord, TellsRunOf}
 
-pub tells_run : (s : Script) (rows : ℕ) (r : Record) (lines rest : List ℕ) → IsSpelled s → rows ≤ 67107840 → TellsMaximalRun s.processes rows r → (l : Ledger) × IsLawful l × Completes s.processes rows l r → TellsRecord s r lines rest → TellsRun s rows lines rest
+are_ends : (s : Script) (r : Record) (lines rest : List ℕ) (told : TellsRecord s r lines rest) → AreEnds told.standing r.ends.items
+are_ends s r lines rest told = record { count = sym told.are.count; each = λ t p is. (told.are.each t p is).1 }
+
+pub tells_run : (s : Script) (rows : ℕ) (r : Record) (lines rest : List ℕ) → IsSpelled s → rows ≤ 67107840 → TellsMaximalRun s.processes rows r → (l : Ledger) × IsLawful l × Completes s.processes rows l r → TellsRecord s r lines rest → TellsRunOf s rows r.journal.items r.ends.items lines rest
 tells_run s rows r lines rest spelled few run (l, lawful, completes) told =
     record {
-      journal = r.journal.items;
       run = run.journal;
       spells = (run_is_read_again s spelled rows few r.journal.items run.journal.run).0;
       standing = told.standing;
@@ -24,6 +26,7 @@ tells_run s rows r lines rest spelled few run (l, lawful, completes) told =
         count = told.are.count ∙ run.ends.ends_count;
         each = λ t p is. let are = told.are.each t p is in (are.0, run.ends.each t p.end p.printed are.1 are.2);
       };
+      ended = are_ends s r lines rest told;
       nameable = λ t p is.
           let are = told.are.each t p is in
           printed_has_names s spelled rows few r.journal.items run.journal.run t p.end p.printed (run.ends.each t p.end p.printed are.1 are.2);
@@ -38,10 +41,9 @@ tells_run s rows r lines rest spelled few run (l, lawful, completes) told =
       is = told.is;
     }
 
-pub tells_freely : (s : Script) (rows : ℕ) (r : Record) (lines rest : List ℕ) → IsSpelled s → rows ≤ 67107840 → TellsFreeRun s.processes r → (given : List Commit) × CompletesRun s.processes rows given r → TellsRecord s r lines rest → TellsFreely s lines rest
+pub tells_freely : (s : Script) (rows : ℕ) (r : Record) (lines rest : List ℕ) → IsSpelled s → rows ≤ 67107840 → TellsFreeRun s.processes r → (given : List Commit) × CompletesRun s.processes rows given r → TellsRecord s r lines rest → TellsFreelyOf s r.journal.items r.ends.items lines rest
 tells_freely s rows r lines rest spelled few run (given, completes) told =
     record {
-      journal = r.journal.items;
       run = run.journal;
       spells = (run_is_read_again s spelled rows few r.journal.items completes.run).0;
       standing = told.standing;
@@ -52,6 +54,7 @@ tells_freely s rows r lines rest spelled few run (given, completes) told =
             each = λ t p is. let are = told.are.each t p is in (are.0, ends.each t p.end p.printed are.1 are.2);
           };
       never_spent = λ t p is spent. let are = told.are.each t p is in run.never_spent t (are.1 ∙ ap Some spent);
+      ended = are_ends s r lines rest told;
       nameable = λ t p is.
           let are = told.are.each t p is in
           printed_has_names s spelled rows few r.journal.items completes.run t p.end p.printed (completes.ends_are.each t p.end p.printed are.1 are.2);

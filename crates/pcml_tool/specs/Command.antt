@@ -1,12 +1,14 @@
 -- What the program prints for what is asked, and what its faults say.
-use Rattle.std.specs.Prelude.{◌≡◌, ◌≢◌, ◌⊎◌, ℕ, Bool, true, false, List, ◌++◌, Option, None, Some, IfSome, take, not, ◌&&◌, ◌||◌, is_none, is_some, if◌then◌else◌}
+use Rattle.std.specs.Prelude.{◌≡◌, ◌≢◌, ◌⊎◌, ℕ, Bool, true, false, List, [], ◌++◌, Option, None, Some, IfSome, take, not, ◌&&◌, ◌||◌, is_none, is_some, if◌then◌else◌}
 use Rattle.std.specs.Io.KnownBytes.{Appends}
 use Rattle.std.specs.Option.{option_copied}
 use Rattle.pcml_request.specs.declared.request.Request.{Request}
-use Rattle.pcml_request.specs.declared.request.Request.TheVariants.{Meet, Next, Outcomes, Play, Check, Chart, Explain, Replay, Run, Why}
+use Rattle.pcml_request.specs.declared.request.Request.TheVariants.{Meet, Next, Outcomes, Play, Check, Chart, Explain, Replay, Run, Stats, Version, Why}
+use Rattle.pcml_request.specs.declared.request.Running.{Running}
 use Rattle.pcml_request.specs.declared.request.Search.{Search}
 use Rattle.pcml_request.specs.Requests.{all_rows}
-use Rattle.pcml_explain.specs.Faults.{Explains}
+use Rattle.pcml_explain.specs.Topics.{Explains}
+use Rattle.pcml_need.specs.Needs.{AreEnded}
 use Rattle.pcml_files.specs.Files.{Fits, IsTooLarge}
 use Rattle.pcml_tool.specs.Meet.{PrintsMeeting}
 use Rattle.pcml_tool.specs.declared.fault.Fault.{Fault}
@@ -17,13 +19,17 @@ use Rattle.pcml_tool.specs.Check.{IsChecked}
 use Rattle.runtime.specs.Limits.{AreRows, AreSeasons, AreWorkers}
 use Rattle.pcml_tool.specs.Replay.{IsReplayed, IsNoRun}
 use Rattle.pcml_tool.specs.Chart.{IsCharted}
-use Rattle.pcml_tool.specs.Why.{IsTold}
+use Rattle.pcml_tool.specs.Why.{IsRefused, IsTold, IsWhyOf}
+use Rattle.protocol_values.specs.declared.Commit.{Commit}
 use Rattle.pcml_tool.specs.Next.{IsNext}
 use Rattle.pcml_tool.specs.Run.{TellsAsked}
+use Rattle.pcml_tool.specs.Stats.{IsCounted}
+use Rattle.pcml_tool.specs.Version.{version_line}
+use Rattle.journal_replay.specs.declared.end.End.{End}
 use Rattle.pcml_tool.specs.declared.replay.Replayed.{Replayed}
 use Rattle.pcml_tool.specs.declared.replay.Replayed.TheVariants as replays
 use Rattle.pcml_tool.specs.declared.from_files.Verdict.{Verdict}
-use Rattle.pcml_tool.specs.declared.from_files.Verdict.TheVariants.{Denied, Done, Unlawful}
+use Rattle.pcml_tool.specs.declared.from_files.Verdict.TheVariants.{Denied, Done, Lacking, Unlawful}
 use Rattle.journal_text.specs.Journals as journals
 use Rattle.journal_text.specs.Names.{named}
 use Rattle.outcomes.specs.declared.Outcomes.{Outcomes as Found}
@@ -56,25 +62,29 @@ printed true lines rest = rest
 printed false lines rest = lines ++ rest
 
 -- What is told of the journal in one file and the script in another: of a run what is to be said of the script's text, of the
--- script and of the journal, and else that it is none.
-abbrev pub OfJournal : Files → List ℕ → List ℕ → ℕ → (List ℕ → Script → List ℕ → List ℕ → Type 0) → Verdict → List ℕ → Type 0
-OfJournal Holds script journal rows Says Done text = (source : List ℕ) × Holds script source × (s : Script) × Spells source s
+-- script and of the journal, and else what is to be said of one that is none.
+abbrev pub OfJournal : Files → List ℕ → List ℕ → (List ℕ → Script → List ℕ → List ℕ → Type 0) → (Script → List ℕ → List ℕ → Type 0) → Verdict → List ℕ → Type 0
+OfJournal Holds script journal Says Refuses Done text = (source : List ℕ) × Holds script source × (s : Script) × Spells source s
     × (read : List ℕ) × Holds journal read × Fits read × Says source s read text
-OfJournal Holds script journal rows Says Unlawful text = OfFiles Holds script journal (λ s read. Fits read × IsNoRun s rows read text)
-OfJournal Holds script journal rows Says Denied text = ⊥
+OfJournal Holds script journal Says Refuses Unlawful text = OfFiles Holds script journal (λ s read. Fits read × Refuses s read text)
+OfJournal Holds script journal Says Refuses Denied text = ⊥
+OfJournal Holds script journal Says Refuses Lacking text = ⊥
 
--- where a journal leads, as text, why the processes stand there, its chart, and what may come next
+-- where a journal leads, as text, why the processes stand there or why it is no run, its chart, what may come next, and how often each took part
 abbrev pub AnswersReplay : Files → List ℕ → List ℕ → ℕ → Verdict → List ℕ → Type 0
-AnswersReplay Holds script journal rows verdict text = OfJournal Holds script journal rows (λ source s read told. IsReplayed s rows read told) verdict text
+AnswersReplay Holds script journal rows verdict text = OfJournal Holds script journal (λ source s read told. IsReplayed s rows read told) (λ s read told. IsNoRun s rows read told) verdict text
 
 abbrev pub AnswersWhy : Files → List ℕ → List ℕ → ℕ → Verdict → List ℕ → Type 0
-AnswersWhy Holds script journal rows verdict text = OfJournal Holds script journal rows (λ source s read told. IsTold s source rows read told) verdict text
+AnswersWhy Holds script journal rows verdict text = OfJournal Holds script journal (λ source s read told. IsTold s source rows read told) (λ s read told. IsRefused s rows read told) verdict text
 
 abbrev pub AnswersChart : Files → List ℕ → List ℕ → ℕ → ℕ → ℕ → Verdict → List ℕ → Type 0
-AnswersChart Holds script journal rows from to verdict text = OfJournal Holds script journal rows (λ source s read told. IsCharted s rows read from to told) verdict text
+AnswersChart Holds script journal rows from to verdict text = OfJournal Holds script journal (λ source s read told. IsCharted s rows read from to told) (λ s read told. IsNoRun s rows read told) verdict text
 
 abbrev pub AnswersNext : Files → List ℕ → List ℕ → ℕ → Verdict → List ℕ → Type 0
-AnswersNext Holds script journal rows verdict text = OfJournal Holds script journal rows (λ source s read told. IsNext s rows read told) verdict text
+AnswersNext Holds script journal rows verdict text = OfJournal Holds script journal (λ source s read told. IsNext s rows read told) (λ s read told. IsNoRun s rows read told) verdict text
+
+abbrev pub AnswersStats : Files → List ℕ → List ℕ → ℕ → Verdict → List ℕ → Type 0
+AnswersStats Holds script journal rows verdict text = OfJournal Holds script journal (λ source s read told. IsCounted s rows read told) (λ s read told. IsNoRun s rows read told) verdict text
 
 -- The journal that is asked for is kept in the file that is named; where none is named, or there is no such journal, no file holds
 -- what it did not.
@@ -103,29 +113,62 @@ pub record AnswersOutcomes (Holds Keeps : Files) (search : Search) (verdict : Ve
   pub so : verdict ≡ verdict_of (is_so search.waiting (is_clear search.waiting found) search.of lines)
   pub is : text ≡ outcomes_text (named s) search.waiting found
 
+-- Whether what has to end has ended, where names are needed.
+abbrev pub IsVerdictOf : Script → List End → Option (List ℕ) → Verdict → Type 0
+IsVerdictOf s ends need Done = IfSome need (AreEnded s ends)
+IsVerdictOf s ends None Lacking = ⊥
+IsVerdictOf s ends (Some names) Lacking = ¬ AreEnded s ends names
+IsVerdictOf s ends need verdict = ⊥
+
+-- why the processes stand where the commits lead, where that is asked for
+abbrev pub TellsWhyAsked : Bool → Script → List ℕ → ℕ → List Commit → List ℕ → Type 0
+TellsWhyAsked true s source rows commits told = IsWhyOf s source rows commits told
+TellsWhyAsked false s source rows commits told = told ≡ []
+
+-- What a run of the script that a file spells prints, in its lines and the rest; the lines are kept in the file that is named. Where
+-- names are needed it is done where the processes of these names have ended. Behind it stands why the processes stand so, where that
+-- is asked for.
+pub record AnswersRun (Holds Keeps : Files) (asked : Running) (verdict : Verdict) (text : List ℕ) : Type 0 where
+  pub source : List ℕ
+  pub holds : Holds asked.script.now source
+  pub s : Script
+  pub spells : Spells source s
+  pub journal : List Commit
+  pub ends : List End
+  pub lines : List ℕ
+  pub rest : List ℕ
+  pub tells : TellsAsked s asked.rows asked.seasons journal ends lines rest
+  pub kept : IfSome asked.journal (λ name. Keeps name.now lines)
+  pub so : IsVerdictOf s ends (option_copied asked.need) verdict
+  pub why : List ℕ
+  pub told : TellsWhyAsked asked.why s source (all_rows asked.rows asked.seasons) journal why
+  pub is : text ≡ printed asked.quiet lines rest ++ why
+
 -- it is about where the journal in a file leads
 abbrev pub AsksOfJournal : Request → Type 0
 AsksOfJournal (Replay script journal rows seasons) = Unit {0}
 AsksOfJournal (Why script journal rows seasons) = Unit {0}
 AsksOfJournal (Chart script journal rows seasons from to) = Unit {0}
 AsksOfJournal (Next script journal rows) = Unit {0}
+AsksOfJournal (Stats script journal rows seasons) = Unit {0}
 AsksOfJournal asked = ⊥
 
 -- The line of the one pair (or none), what comes of the schedule, the script or the run that is asked for, where the journal
--- leads the script, why the processes stand there, its chart, what may come next there, what the script can come to, or what a
--- fault means. Where the journal of a run is to go to a file, the file keeps its lines at the end.
+-- leads the script, why the processes stand there, its chart, what may come next there, how often each took part, what the script
+-- can come to, what a fault means, or the version. Where the journal of a run is to go to a file, the file keeps its lines at the end.
 abbrev pub Answers : Files → Files → Request → Verdict → List ℕ → Type 0
 Answers Holds Keeps (Replay script journal rows seasons) verdict text = AnswersReplay Holds script.now journal.now (all_rows rows seasons) verdict text
 Answers Holds Keeps (Why script journal rows seasons) verdict text = AnswersWhy Holds script.now journal.now (all_rows rows seasons) verdict text
 Answers Holds Keeps (Chart script journal rows seasons from to) verdict text = AnswersChart Holds script.now journal.now (all_rows rows seasons) from to verdict text
 Answers Holds Keeps (Next script journal rows) verdict text = AnswersNext Holds script.now journal.now rows verdict text
+Answers Holds Keeps (Stats script journal rows seasons) verdict text = AnswersStats Holds script.now journal.now (all_rows rows seasons) verdict text
 Answers Holds Keeps (Outcomes search) verdict text = AnswersOutcomes Holds Keeps search verdict text
 Answers Holds Keeps (Meet value) Done text = PrintsMeeting value text
 Answers Holds Keeps (Play name) Done text = OfSchedule Holds name.now (λ bytes. IsPlayed bytes text)
 Answers Holds Keeps (Check name) Done text = (bytes : List ℕ) × Holds name.now bytes × IsChecked bytes text
-Answers Holds Keeps (Run script workers rows seasons journal quiet) Done text = (bytes : List ℕ) × Holds script.now bytes × (s : Script) × Spells bytes s
-    × (lines rest : List ℕ) × TellsAsked s rows seasons lines rest × IfSome journal (λ name. Keeps name.now lines) × (text ≡ printed quiet lines rest)
-Answers Holds Keeps (Explain number) Done text = Explains number text
+Answers Holds Keeps (Run asked) verdict text = AnswersRun Holds Keeps asked verdict text
+Answers Holds Keeps (Explain topic) Done text = Explains topic text
+Answers Holds Keeps Version Done text = text ≡ version_line
 Answers Holds Keeps asked verdict text = ⊥
 
 -- what a fault of a script says: the file's text has it as its first
@@ -177,6 +220,20 @@ FailsRun workers rows seasons faults.Seasons = seasons ≢ None
 FailsRun workers rows seasons faults.SeasonCount = IfSome seasons (λ count. ¬ AreSeasons count)
 FailsRun workers rows seasons fault = ⊥
 
+-- what a fault says of a run of a script: that of the script, of the run, or that the journal's file was not written
+abbrev pub FailsRunning : Files → Running → Fault → Type 0
+FailsRunning Holds asked faults.Memory = Unit {0}
+FailsRunning Holds asked faults.Unread = Unit {0}
+FailsRunning Holds asked faults.NoThread = Unit {0}
+FailsRunning Holds asked faults.Workers = ¬ AreWorkers asked.workers
+FailsRunning Holds asked faults.Rows = ¬ AreRows asked.rows
+FailsRunning Holds asked faults.Lost = asked.seasons ≢ None
+FailsRunning Holds asked faults.Unlawful = asked.seasons ≢ None
+FailsRunning Holds asked faults.Seasons = asked.seasons ≢ None
+FailsRunning Holds asked faults.SeasonCount = IfSome asked.seasons (λ count. ¬ AreSeasons count)
+FailsRunning Holds asked faults.Unwritten = asked.journal ≢ None
+FailsRunning Holds asked fault = FailsScript Holds asked.script.now fault
+
 -- what a fault says of a search: that of the script, or that the journal's file was not written
 abbrev pub FailsOutcomes : Files → Search → Fault → Type 0
 FailsOutcomes Holds search faults.Unwritten = search.journal ≢ None
@@ -187,23 +244,15 @@ abbrev pub Fails : Files → Request → Fault → Type 0
 Fails Holds (Meet value) fault = (fault ≡ faults.Memory) ⊎ (fault ≡ faults.NoThread)
 Fails Holds (Play name) fault = FailsPlay Holds name.now fault
 Fails Holds (Check name) fault = FailsParse Holds name.now fault
-Fails Holds (Explain number) fault = fault ≡ faults.Memory
+Fails Holds (Explain topic) fault = fault ≡ faults.Memory
 Fails Holds (Why script journal rows seasons) fault = FailsReplay Holds script.now journal.now fault
 Fails Holds (Chart script journal rows seasons from to) fault = FailsReplay Holds script.now journal.now fault
 Fails Holds (Next script journal rows) fault = FailsReplay Holds script.now journal.now fault
+Fails Holds (Stats script journal rows seasons) fault = FailsReplay Holds script.now journal.now fault
 Fails Holds (Outcomes search) fault = FailsOutcomes Holds search fault
 Fails Holds (Replay script journal rows seasons) fault = FailsReplay Holds script.now journal.now fault
-Fails Holds (Run script workers rows seasons journal quiet) faults.Memory = Unit {0}
-Fails Holds (Run script workers rows seasons journal quiet) faults.Unread = Unit {0}
-Fails Holds (Run script workers rows seasons journal quiet) faults.NoThread = Unit {0}
-Fails Holds (Run script workers rows seasons journal quiet) faults.Workers = ¬ AreWorkers workers
-Fails Holds (Run script workers rows seasons journal quiet) faults.Rows = ¬ AreRows rows
-Fails Holds (Run script workers rows seasons journal quiet) faults.Lost = seasons ≢ None
-Fails Holds (Run script workers rows seasons journal quiet) faults.Unlawful = seasons ≢ None
-Fails Holds (Run script workers rows seasons journal quiet) faults.Seasons = seasons ≢ None
-Fails Holds (Run script workers rows seasons journal quiet) faults.SeasonCount = IfSome seasons (λ count. ¬ AreSeasons count)
-Fails Holds (Run script workers rows seasons journal quiet) faults.Unwritten = journal ≢ None
-Fails Holds (Run script workers rows seasons journal quiet) fault = FailsScript Holds script.now fault
+Fails Holds (Run asked) fault = FailsRunning Holds asked fault
+Fails Holds Version fault = fault ≡ faults.Memory
 
 -- The output has grown by the first n bytes of a text, and where there is one byte at least, the text answers the request.
 abbrev pub Began : Files → Files → Request → Option (List ℕ) → Option (List ℕ) → Type 0

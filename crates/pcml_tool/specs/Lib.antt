@@ -6,5 +6,7 @@ pub mod Run
 pub mod Chart
 pub mod Why
 pub mod Next
+pub mod Stats
 pub mod Faults
 pub mod Command
+pub mod Version

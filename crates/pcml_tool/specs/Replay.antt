@@ -1,6 +1,7 @@
 -- What replaying a journal prints.
 use Rattle.std.specs.Prelude.{◌≡◌, ℕ, ◌+◌, Bool, true, false, List, [], ◌∷◌, ◌++◌, length, codes, Option, Some, is_none, slice_get}
 use Rattle.std.specs.Fmt.{decimal}
+use Rattle.std.specs.String.{string_bytes}
 use Rattle.protocol_values.specs.declared.Commit.{Commit}
 use Rattle.script_tree.specs.Processes.{Proc}
 use Rattle.script.specs.Sources.{Script}
@@ -80,9 +81,15 @@ pub record LeadsTo (s : Script) (rows : ℕ) (bytes : List ℕ) (commits : List 
   pub spells : Spells s bytes commits
   pub stands : StandsAfter s.processes rows commits state
 
+-- the bytes spell these commits, of which the first so many are a run, and with the next they are none; the text tells its line
+pub record Breaks (s : Script) (rows : ℕ) (bytes : List ℕ) (commits : List Commit) (index : ℕ) (text : List ℕ) : Type 0 where
+  pub spells : Spells s bytes commits
+  pub breaks : BreaksOffAt s.processes rows commits index
+  pub is : text ≡ unlawful_line (index + 1)
+
 abbrev pub Reaches : Script → ℕ → List ℕ → Reached → Type 0
 Reaches s rows bytes (Run commits state) = LeadsTo s rows bytes commits.items state
-Reaches s rows bytes (NoRun text) = IsNoRun s rows bytes text.items
+Reaches s rows bytes (NoRun commits index text) = Breaks s rows bytes commits.items index (string_bytes text)
 
 abbrev pub TellsReplayed : Script → ℕ → List ℕ → Replayed → Type 0
 TellsReplayed s rows bytes (Lawful text) = IsReplayed s rows bytes text.items

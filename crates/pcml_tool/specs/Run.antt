@@ -9,6 +9,7 @@ use Rattle.journal_text.specs.Journals.{HasAtom, Spells}
 use Rattle.journal_text.specs.Names.{names_of, named}
 use Rattle.journal_text.specs.Texts.{commits_text}
 use Rattle.journal_replay.specs.Runs.{config_of}
+use Rattle.journal_replay.specs.declared.end.End.{End}
 use Rattle.journal_replay.specs.declared.end.End.TheVariants.{Spent}
 use Rattle.runtime.specs.Headline.{IsFreeRun, IsMaximalRun}
 use Rattle.journal.specs.declared.record.Record.{Record}
@@ -25,15 +26,20 @@ pub record TellsRecord (s : Script) (r : Record) (lines rest : List ℕ) : Type 
   pub are_lines : lines ≡ commits_text (named s) r.journal.items
   pub is : rest ≡ process_lines (named s) standing ++ tail_line (length r.journal.items) r.tail
 
+-- these are the ends of the processes that stand so
+pub record AreEnds (standing : List Standing) (ends : List End) : Type 0 where
+  pub count : length ends ≡ length standing
+  pub each : (t : ℕ) (p : Standing) → slice_get standing t ≡ Some p → slice_get ends t ≡ Some p.end
+
 -- The lines tell the commits of a maximal run of the script's processes, of so many rows each, in stamp order and in the script's
 -- names; the rest tells how each process stands where they lead, and how many commits there are. The lines are read as those
 -- commits again, and each atom that is printed has a name.
-pub record TellsRun (s : Script) (rows : ℕ) (lines rest : List ℕ) : Type 0 where
-  pub journal : List Commit
+pub record TellsRunOf (s : Script) (rows : ℕ) (journal : List Commit) (ends : List End) (lines rest : List ℕ) : Type 0 where
   pub run : IsMaximalRun s.processes rows journal
   pub spells : Spells s (commits_text (named s) journal) journal
   pub standing : List Standing
   pub stand : StandAs s.processes rows (config_of journal) standing
+  pub ended : AreEnds standing ends
   pub nameable : (t : ℕ) (p : Standing) → slice_get standing t ≡ Some p → AllByRecursion (HasAtom (names_of s)) p.printed
   pub tail : ℕ
   pub few : tail ≤ length journal
@@ -48,12 +54,12 @@ pub record TellsRun (s : Script) (rows : ℕ) (lines rest : List ℕ) : Type 0 w
 
 -- The same of a run in seasons, which ends for no want of syncs: it is maximal however many each process may make, no process is
 -- spent, and each stands so wherever it may make more syncs than it did. It counts the commits that the seasons did not have.
-pub record TellsFreely (s : Script) (lines rest : List ℕ) : Type 0 where
-  pub journal : List Commit
+pub record TellsFreelyOf (s : Script) (journal : List Commit) (ends : List End) (lines rest : List ℕ) : Type 0 where
   pub run : IsFreeRun s.processes journal
   pub spells : Spells s (commits_text (named s) journal) journal
   pub standing : List Standing
   pub stand : (rows : ℕ) → ((t : ℕ) → length (config_of journal t) < rows) → StandAs s.processes rows (config_of journal) standing
+  pub ended : AreEnds standing ends
   pub never_spent : (t : ℕ) (p : Standing) → slice_get standing t ≡ Some p → p.end ≢ Spent
   pub nameable : (t : ℕ) (p : Standing) → slice_get standing t ≡ Some p → AllByRecursion (HasAtom (names_of s)) p.printed
   pub tail : ℕ
@@ -66,10 +72,10 @@ pub record TellsFreely (s : Script) (lines rest : List ℕ) : Type 0 where
   pub is : rest ≡ process_lines (named s) standing ++ tail_line (length journal) tail
 
 -- in seasons, where a number of these is named
-abbrev pub TellsAsked : Script → ℕ → Option ℕ → List ℕ → List ℕ → Type 0
-TellsAsked s rows None lines rest = TellsRun s rows lines rest
-TellsAsked s rows (Some seasons) lines rest = TellsFreely s lines rest
+abbrev pub TellsAsked : Script → ℕ → Option ℕ → List Commit → List End → List ℕ → List ℕ → Type 0
+TellsAsked s rows None journal ends lines rest = TellsRunOf s rows journal ends lines rest
+TellsAsked s rows (Some seasons) journal ends lines rest = TellsFreelyOf s journal ends lines rest
 
 -- the text tells a run, its journal first
 abbrev pub IsRan : Script → ℕ → List ℕ → Type 0
-IsRan s rows text = (lines rest : List ℕ) × TellsRun s rows lines rest × (text ≡ lines ++ rest)
+IsRan s rows text = (journal : List Commit) × (ends : List End) × (lines rest : List ℕ) × TellsRunOf s rows journal ends lines rest × (text ≡ lines ++ rest)

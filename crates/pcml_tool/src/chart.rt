@@ -13,7 +13,7 @@ use script::Script;
 use std::alloc::Global;
 
 /// The chart of the journal in the bytes, of processes of so many rows each, 1 to 67107840, as SVG: its commits
-/// with a stamp from `from` to `to`, or to an earlier one where they are more than 2,000.
+/// with a stamp from `from` to `to`, or to an earlier one where they are more than 1,250.
 pub fn chart_journal(
     alloc: Global,
     script: &Script,
@@ -31,6 +31,6 @@ pub fn chart_journal(
             let text = chart_text(alloc, script, &state, commits.as_slice(), from, to)?;
             Ok(Replayed::Lawful(text.into_bytes()))
         }
-        Reached::NoRun(line) => Ok(Replayed::Unlawful(line)),
+        Reached::NoRun { text, .. } => Ok(Replayed::Unlawful(text.into_bytes())),
     }
 }

@@ -1,16 +1,16 @@
 //! What `explain` prints.
 
 ghost use Rattle.std.specs.Prelude.{IsTrue, IfOk};
-ghost use Rattle.pcml_explain.specs.Faults.{Explains, is_fault};
+ghost use Rattle.pcml_explain.specs.Topics.{Explains, is_topic};
 
-use pcml_explain::explanation;
+use pcml_explain::{Topic, explanation};
 use std::alloc::{AllocError, Global};
 
-/// What a fault means.
-pub fn explain_text(alloc: Global, number: u16) -> Result<Vec<u8>, AllocError>
-    requires { IsTrue (is_fault number) }
-    ensures { IfOk result (λ text. Explains number text.items) }
+/// What a fault or a word means, or which there are.
+pub fn explain_text(alloc: Global, topic: Topic) -> Result<Vec<u8>, AllocError>
+    requires { IsTrue (is_topic topic) }
+    ensures { IfOk result (λ text. Explains topic text.items) }
 {
-    let text = explanation(number).unwrap_or("");
+    let text = explanation(topic).unwrap_or("");
     Vec::from_slice(alloc, text.as_bytes())
 }

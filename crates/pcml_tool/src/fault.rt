@@ -1,7 +1,7 @@
 //! The faults of the program, each with its number.
 
 ghost use Rattle.std.specs.Prelude.{◌≡◌, IsTrue};
-ghost use Rattle.pcml_explain.specs.Faults.{is_fault};
+ghost use Rattle.pcml_explain.specs.Topics.{is_fault};
 ghost use Rattle.pcml_tool.specs.Faults.{fault_of_meet, fault_of_play, fault_of_file, fault_of_journal, fault_of_run, fault_of_script, fault_of_season};
 ghost use Rattle.pcml_tool.specs.declared.fault.Fault.TheVariants.{Memory, Unwritten};
 

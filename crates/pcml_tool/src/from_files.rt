@@ -7,13 +7,14 @@ ghost use Rattle.script.specs.Spelling.{Spells};
 ghost use Rattle.pcml_tool.specs.declared.fault.Fault.TheVariants.{Memory, Unwritten};
 ghost use Rattle.pcml_tool.specs.Check.{IsChecked};
 ghost use Rattle.pcml_tool.specs.Play.{IsPlayed};
-ghost use Rattle.pcml_tool.specs.Command.{AnswersChart, AnswersNext, AnswersReplay, AnswersWhy, IsJudged, FailsParse, FailsPlay, FailsRead, FailsReplay, KeepsAsked, OfSchedule, is_so, printed, verdict_of};
+ghost use Rattle.pcml_tool.specs.Command.{AnswersChart, AnswersNext, AnswersReplay, AnswersStats, AnswersWhy, IsJudged, FailsParse, FailsPlay, FailsRead, FailsReplay, KeepsAsked, OfSchedule, is_so, printed, verdict_of};
 ghost use Rattle.pcml_files.specs.Files.{Fits};
 ghost use Rattle.pcml_outcomes.specs.Told.{bytes_of};
 
 use crate::fault::Fault;
 use crate::{
-    Replayed, RunText, chart_journal, check_text, next_journal, play_text, replay_text, why_journal,
+    Replayed, RunText, chart_journal, check_text, next_journal, play_text, replay_text,
+    stats_journal, why_journal,
 };
 use pcml_files::{MOST_BYTES, Source};
 use pcml_outcomes::OutcomesText;
@@ -29,6 +30,8 @@ pub(crate) enum Verdict {
     /// It was asked what leaves a process waiting, and some outcome does, or not all was seen; or the journal of an
     /// outcome was to be kept that is not there.
     Denied,
+    /// A process that had to end has not.
+    Lacking,
 }
 
 /// The bytes of the schedule or the journal in a file.
@@ -45,7 +48,7 @@ fn read_bounded<S: Source>(source: &mut S, name: &str) -> Result<Vec<u8>, Fault>
 }
 
 /// The text of a script in a file, and the script.
-fn read_source<S: Source>(
+pub(crate) fn read_source<S: Source>(
     alloc: Global,
     source: &mut S,
     name: &str,
@@ -179,6 +182,23 @@ pub(crate) fn next_files<S: Source>(
     Ok(judged(next_journal(alloc, &script, journal.as_slice(), rows)?))
 }
 
+/// How often each process and each channel of the script in a file took part in the journal in another.
+pub(crate) fn stats_files<S: Source>(
+    alloc: Global,
+    source: &mut S,
+    script: &str,
+    journal: &str,
+    rows: u32,
+) -> Result<(Verdict, Vec<u8>), Fault>
+    requires { rows ≤ 67107840 }
+    ensures done { IfOk result (λ answer. AnswersStats (S.holds source.old) script.now journal.now rows answer.0 answer.1.items) }
+    ensures fault { IfErr result (FailsReplay (S.holds source.old) script.now journal.now) }
+{
+    let script = read_script(alloc, source, script)?;
+    let journal = read_bounded(source, journal)?;
+    Ok(judged(stats_journal(alloc, &script, journal.as_slice(), rows)?))
+}
+
 /// Keeps the journal of a run in a file, where one is named, and gives what is printed.
 pub(crate) fn keep_journal<S: Source>(
     alloc: Global,
@@ -192,7 +212,11 @@ pub(crate) fn keep_journal<S: Source>(
     ensures printed { IfOk result (λ text. text.items ≡ printed quiet (take ran.journal ran.text.items) (drop ran.journal ran.text.items)) }
     ensures fault { IfErr result (λ fault. (fault ≡ Memory) ⊎ ((fault ≡ Unwritten) × (journal.entry ≢ None))) }
 {
-    let RunText { text, journal: end } = ran;
+    let RunText {
+        text,
+        journal: end,
+        ..
+    } = ran;
     let rest = if quiet {
         Some(Vec::from_slice(alloc, &text[end..])?)
     } else {

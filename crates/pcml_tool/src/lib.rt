@@ -16,6 +16,8 @@ mod program;
 mod reach;
 mod replay;
 mod run;
+mod stats;
+mod version;
 mod why;
 
 pub use crate::chart::chart_journal;
@@ -28,6 +30,8 @@ pub use crate::play::{PlayFault, play_laws, play_text};
 pub use crate::program::{BAD_WORDS, command, tell};
 pub use crate::replay::{Replayed, replay_laws, replay_text};
 pub use crate::run::{RunText, run_parts, run_seasons_parts, run_text};
-pub use crate::why::why_journal;
+pub use crate::stats::stats_journal;
+pub use crate::version::version_text;
+pub use crate::why::{why_journal, why_run};
 pub use pcml_files::{Source, SourceFault, SystemFiles};
 pub use pcml_request::Request;

@@ -29,6 +29,6 @@ pub fn next_journal(
             let text = next_text(alloc, script, rows, &commits, &state)?;
             Ok(Replayed::Lawful(text))
         }
-        Reached::NoRun(line) => Ok(Replayed::Unlawful(line)),
+        Reached::NoRun { text, .. } => Ok(Replayed::Unlawful(text.into_bytes())),
     }
 }

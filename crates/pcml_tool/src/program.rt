@@ -3,23 +3,30 @@
 ghost use Rattle.std.specs.Prelude.{◌≡◌, ◌≤◌, ◌⊎◌, List, ℕ, IfOk, IfErr, drop, length, take};
 ghost use Rattle.script.specs.Scripts.{script_of};
 ghost use Rattle.std.specs.Io.KnownBytes.{Appends};
+ghost use Rattle.journal_replay.specs.Runs.{IsRun};
+ghost use Rattle.std.specs.Option.{option_copied};
 ghost use Rattle.pcml_request.specs.declared.request.Request.{Request};
-ghost use Rattle.pcml_request.specs.declared.request.Request.TheVariants.{Outcomes};
-ghost use Rattle.pcml_tool.specs.declared.fault.Fault.TheVariants.{Unwritten};
-ghost use Rattle.pcml_tool.specs.declared.from_files.Verdict.TheVariants.{Done};
+ghost use Rattle.pcml_request.specs.declared.request.Request.TheVariants.{Outcomes, Run};
+ghost use Rattle.pcml_tool.specs.declared.fault.Fault.TheVariants.{Memory, Unwritten};
+ghost use Rattle.pcml_tool.specs.declared.from_files.Verdict.TheVariants.{Done, Lacking};
 ghost use Rattle.pcml_request.specs.Requests.{CanBeAnswered, all_rows};
-ghost use Rattle.pcml_tool.specs.Command.{Answers, AnswersOutcomes, AsksOfJournal, Began, Fails, FailsOutcomes, FailsRun};
+ghost use Rattle.pcml_tool.specs.Command.{Answers, AnswersOutcomes, AnswersRun, AsksOfJournal, Began, Fails, FailsOutcomes, FailsRun, FailsRunning, IsVerdictOf, TellsWhyAsked};
 ghost use Rattle.pcml_tool.specs.Run.{TellsAsked};
 
 use crate::fault::Fault;
 use crate::from_files::{
     Verdict, chart_files, check_file, keep_journal, keep_outcome, next_files, play_file,
-    read_script, replay_files, why_files,
+    read_script, read_source, replay_files, stats_files, why_files,
 };
-use crate::{RunText, explain_text, meet_text, run_parts, run_seasons_parts};
+use crate::{
+    RunText, explain_text, meet_text, run_parts, run_seasons_parts, version_text, why_run,
+};
+use journal_replay::End;
 use pcml_files::{Source, emit};
+use pcml_need::have_ended;
 use pcml_outcomes::outcomes_text;
-use pcml_request::{Request, Search, WordsFault, read_words};
+use pcml_request::{Request, Running, Search, WordsFault, read_words};
+use protocol_values::Commit;
 use script::Script;
 use std::alloc::Global;
 use std::io::Write;
@@ -33,6 +40,8 @@ const FAULT: u8 = 1;
 const UNLAWFUL: u8 = 1;
 
 const DENIED: u8 = 1;
+
+const LACKING: u8 = 3;
 
 /// The status after words that are not understood.
 pub const BAD_WORDS: u8 = 2;
@@ -58,7 +67,9 @@ fn run_asked<R: Threads + Wait + Sync>(
     rows: u16,
     seasons: Option<u16>,
 ) -> Result<RunText, Fault>
-    ensures ran { IfOk result (λ t. TellsAsked (script_of script.now) rows seasons (take t.journal t.text.items) (drop t.journal t.text.items)) }
+    ensures ran { IfOk result (λ t. TellsAsked (script_of script.now) rows seasons t.commits.items t.ends.items (take t.journal t.text.items) (drop t.journal t.text.items)) }
+    ensures ends { IfOk result (λ t. length t.ends.items ≡ length (script_of script.now).processes) }
+    ensures run { IfOk result (λ t. IsRun (script_of script.now).processes (all_rows rows seasons) t.commits.items) }
     ensures within { IfOk result (λ t. t.journal ≤ length t.text.items) }
     ensures fault { IfErr result (FailsRun workers rows seasons) }
 {
@@ -66,6 +77,59 @@ fn run_asked<R: Threads + Wait + Sync>(
         Some(seasons) => Ok(run_seasons_parts(rt, alloc, script, workers, rows, seasons)?),
         None => Ok(run_parts(rt, alloc, script, workers, rows)?),
     }
+}
+
+/// Whether what has to end has ended, by the ends of the processes.
+fn verdict_by(script: &Script, ends: &[End], need: Option<&str>) -> Verdict
+    requires { length ends.now ≡ length (script_of script.now).processes }
+    ensures { IsVerdictOf (script_of script.now) ends.now (option_copied need.entry) result }
+{
+    match need {
+        Some(names) if !have_ended(script, ends, names.as_bytes()) => Verdict::Lacking,
+        Some(_) | None => Verdict::Done,
+    }
+}
+
+/// What `why` tells of a run, where that is asked for.
+fn why_asked(
+    alloc: Global,
+    script: &Script,
+    text: &[u8],
+    commits: &[Commit],
+    rows: u32,
+    why: bool,
+) -> Result<Vec<u8>, Fault>
+    requires rows { rows ≤ 67107840 }
+    requires run { IsRun (script_of script.now).processes rows commits.now }
+    ensures told { IfOk result (λ told. TellsWhyAsked why (script_of script.now) text.now rows commits.now told.items) }
+    ensures fault { IfErr result (λ fault. fault ≡ Memory) }
+{
+    if why {
+        Ok(why_run(alloc, script, text, commits, rows)?)
+    } else {
+        Ok(Vec::new(alloc))
+    }
+}
+
+/// What comes of running a script, as text, with the verdict; the journal is kept, where that is asked for.
+fn answer_run<R: Threads + Wait + Sync, S: Source>(
+    rt: &R,
+    alloc: Global,
+    asked: Running<'_>,
+    source: &mut S,
+) -> Result<(Verdict, Vec<u8>), Fault>
+    requires { CanBeAnswered (Run asked) }
+    ensures done { IfOk result (λ answer. AnswersRun (S.holds source.old) (S.holds source.new) asked.entry answer.0 answer.1.items) }
+    ensures fault { IfErr result (FailsRunning (S.holds source.old) asked.entry) }
+{
+    let (source_text, script) = read_source(alloc, source, asked.script)?;
+    let ran = run_asked(rt, alloc, &script, asked.workers, asked.rows, asked.seasons)?;
+    let verdict = verdict_by(&script, &ran.ends, asked.need);
+    let rows = all_rows(asked.rows, asked.seasons);
+    let why = why_asked(alloc, &script, &source_text, &ran.commits, rows, asked.why)?;
+    let mut text = keep_journal(alloc, source, ran, asked.journal, asked.quiet)?;
+    text.extend_from_slice(&why)?;
+    Ok((verdict, text))
 }
 
 /// The text that a request is answered with which asks of the journal in a file.
@@ -113,6 +177,12 @@ fn answer_journal<S: Source>(
             journal,
             rows,
         } => next_files(alloc, source, script, journal, u32::from(rows)),
+        Request::Stats {
+            script,
+            journal,
+            rows,
+            seasons,
+        } => stats_files(alloc, source, script, journal, all_rows(rows, seasons)),
         _ => unreachable!(),
     }
 }
@@ -149,25 +219,15 @@ fn answer<R: Threads + Wait + Sync, S: Source>(
         Request::Meet(value) => Ok((Verdict::Done, meet_text(rt, alloc, value)?)),
         Request::Play(name) => Ok((Verdict::Done, play_file(alloc, source, name)?)),
         Request::Check(name) => Ok((Verdict::Done, check_file(alloc, source, name)?)),
-        Request::Explain(number) => Ok((Verdict::Done, explain_text(alloc, number)?)),
-        Request::Run {
-            script,
-            workers,
-            rows,
-            seasons,
-            journal,
-            quiet,
-        } => {
-            let script = read_script(alloc, source, script)?;
-            let ran = run_asked(rt, alloc, &script, workers, rows, seasons)?;
-            let text = keep_journal(alloc, source, ran, journal, quiet)?;
-            Ok((Verdict::Done, text))
-        }
+        Request::Explain(topic) => Ok((Verdict::Done, explain_text(alloc, topic)?)),
+        Request::Version => Ok((Verdict::Done, version_text(alloc)?)),
+        Request::Run(asked) => answer_run(rt, alloc, asked, source),
         Request::Outcomes(search) => answer_search(alloc, search, source),
         Request::Replay { .. }
         | Request::Why { .. }
         | Request::Chart { .. }
-        | Request::Next { .. } => answer_journal(alloc, asked, source),
+        | Request::Next { .. }
+        | Request::Stats { .. } => answer_journal(alloc, asked, source),
     }
 }
 
@@ -193,9 +253,9 @@ fn respond<R: Threads + Wait + Sync, S: Source, O: Write>(
 }
 
 /// Does what the words behind the program's name ask for, and answers the status: 0, or 1 after a
-/// fault, for a journal that is no run, or where what was asked of a script's outcomes is not so, or 2 after
-/// words that are not understood and after a wish for help. A fault is a line on the error stream; whether that
-/// stream takes it changes nothing.
+/// fault, for a journal that is no run, or where what was asked of a script's outcomes is not so, 2 after
+/// words that are not understood and after a wish for help, or 3 where a process that had to end has not. A fault is
+/// a line on the error stream; whether that stream takes it changes nothing.
 pub fn command<R: Threads + Wait + Sync, S: Source, O: Write, E: Write>(
     rt: &R,
     alloc: Global,
@@ -204,13 +264,16 @@ pub fn command<R: Threads + Wait + Sync, S: Source, O: Write, E: Write>(
     out: &mut O,
     err: &mut E,
 ) -> u8
-    ensures status { result ≤ 2 }
+    ensures status { result ≤ 3 }
     // Where all went well, the output has grown by the answer to some request.
     ensures done { result ≡ 0 → (asked : Request) × (text : List ℕ) × Answers (S.holds source.old) (S.holds source.new) asked Done text
         × Appends (O.contents out.old) (O.contents out.new) text }
     // Where not, it has grown by a beginning of such an answer at most.
     ensures fault { result ≡ 1 → (asked : Request) × Began (S.holds source.old) (S.holds source.new) asked (O.contents out.old) (O.contents out.new) }
     ensures bad_words { result ≡ 2 → out.new ≡ out.old }
+    // A process that had to end has not: the output has grown by the whole answer.
+    ensures lacking { result ≡ 3 → (asked : Request) × (text : List ℕ) × Answers (S.holds source.old) (S.holds source.new) asked Lacking text
+        × Appends (O.contents out.old) (O.contents out.new) text }
 {
     let asked = match read_words(alloc, words) {
         Ok(asked) => asked,
@@ -224,6 +287,7 @@ pub fn command<R: Threads + Wait + Sync, S: Source, O: Write, E: Write>(
         Ok(Verdict::Done) => DONE,
         Ok(Verdict::Unlawful) => UNLAWFUL,
         Ok(Verdict::Denied) => DENIED,
+        Ok(Verdict::Lacking) => LACKING,
         Err(fault) => tell(err, fault),
     }
 }

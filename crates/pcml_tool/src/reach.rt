@@ -17,8 +17,13 @@ use std::alloc::{AllocError, Global};
 pub(crate) enum Reached {
     /// It is a run, of these commits, and leads to that state.
     Run(Vec<Commit>, State),
-    /// The text tells the first line with which it is no run.
-    NoRun(Vec<u8>),
+    /// It is no run: the first commits are one, and with the commit of this number, from 0, they are none. The text
+    /// tells the line of that commit.
+    NoRun {
+        commits: Vec<Commit>,
+        index: usize,
+        text: String,
+    },
 }
 
 fn unlawful_line(alloc: Global, line: usize) -> Result<String, AllocError>
@@ -42,8 +47,12 @@ pub(crate) fn reach(
     match replay(alloc, script.processes(), rows, commits.as_slice()) {
         Ok(state) => Ok(Reached::Run(commits, state)),
         Err(ReplayFault::Unlawful(index)) => {
-            let line = unlawful_line(alloc, index + 1)?;
-            Ok(Reached::NoRun(line.into_bytes()))
+            let text = unlawful_line(alloc, index + 1)?;
+            Ok(Reached::NoRun {
+                commits,
+                index,
+                text,
+            })
         }
         Err(ReplayFault::Memory) => Err(JournalFault::Memory),
     }

@@ -89,7 +89,7 @@ pub fn replay_text(
             let text = state_text(alloc, script, &state, commits.len())?;
             Ok(Replayed::Lawful(text))
         }
-        Reached::NoRun(line) => Ok(Replayed::Unlawful(line)),
+        Reached::NoRun { text, .. } => Ok(Replayed::Unlawful(text.into_bytes())),
     }
 }
 

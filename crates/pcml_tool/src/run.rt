@@ -1,20 +1,23 @@
 //! What `run` prints.
 
-ghost use Rattle.std.specs.Prelude.{◌≡◌, ◌↔◌, ◌≤◌, Err, IfOk, length, map, take, drop};
+ghost use Rattle.std.specs.Prelude.{◌≡◌, ◌↔◌, ◌≤◌, ◌*◌, Err, IfOk, length, map, take, drop};
 ghost use Rattle.std.specs.List.{AllByRecursion};
 ghost use Rattle.std.specs.String.{string_bytes};
 ghost use Rattle.script.specs.Scripts.{script_of};
+ghost use Rattle.journal_replay.specs.Runs.{IsRun};
 ghost use Rattle.journal_text.specs.Journals.{HasLine};
 ghost use Rattle.journal_text.specs.Names.{names_of, named};
 ghost use Rattle.runtime.specs.Limits.{AreRows, AreSeasons, AreWorkers};
 ghost use Rattle.runtime.specs.declared.fault.RunFault.TheVariants.{Workers, Rows};
 ghost use Rattle.runtime.specs.declared.seasons.SeasonFault.TheVariants as faults;
-ghost use Rattle.pcml_tool.specs.Run.{tail_line, IsRan, TellsFreely, TellsRecord, TellsRun};
+ghost use Rattle.pcml_tool.specs.Run.{tail_line, IsRan, TellsFreelyOf, TellsRecord, TellsRunOf};
 ghost use Rattle.pcml_outcomes.specs.Standings.{TellsStandings};
 
 use journal::Record;
+use journal_replay::End;
 use journal_text::write_journal;
 use pcml_outcomes::standing_lines;
+use protocol_values::Commit;
 use runtime::{OpenGate, RunFault, SeasonFault, run, run_seasons};
 use script::Script;
 use std::alloc::{AllocError, Global};
@@ -27,22 +30,25 @@ fn tail_line(alloc: Global, commits: usize, tail: usize) -> Result<String, Alloc
     format!(in alloc; "commits {commits} tail {tail}\n")
 }
 
-/// What a run prints.
+/// What a run prints, its journal's commits, and how each process ended.
 #[derive(Debug, Drop)]
 pub struct RunText {
     /// A line for each commit of the journal, then a line for each process, and the counts.
     pub text: Vec<u8>,
     /// How many bytes the lines of the journal take.
     pub journal: usize,
+    pub commits: Vec<Commit>,
+    pub ends: Vec<End>,
 }
 
 /// The journal, a line for each process, and the counts.
-fn record_text(alloc: Global, script: &Script, ran: &Record) -> Result<RunText, AllocError>
-    requires lines { AllByRecursion (HasLine (names_of (script_of script.now))) ran.now.journal.items }
-    requires ends { length ran.now.ends.items ≡ length (script_of script.now).processes }
-    requires outputs { length ran.now.outputs.items ≡ length (script_of script.now).processes }
-    ensures tells { IfOk result (λ t. TellsRecord (script_of script.now) ran.now (take t.journal t.text.items) (drop t.journal t.text.items)) }
+fn record_text(alloc: Global, script: &Script, ran: Record) -> Result<RunText, AllocError>
+    requires lines { AllByRecursion (HasLine (names_of (script_of script.now))) ran.journal.items }
+    requires ends { length ran.ends.items ≡ length (script_of script.now).processes }
+    requires outputs { length ran.outputs.items ≡ length (script_of script.now).processes }
+    ensures tells { IfOk result (λ t. TellsRecord (script_of script.now) ran (take t.journal t.text.items) (drop t.journal t.text.items)) }
     ensures within { IfOk result (λ t. t.journal ≤ length t.text.items) }
+    ensures same { IfOk result (λ t. (t.commits.items ≡ ran.journal.items) × (t.ends.items ≡ ran.ends.items)) }
 {
     let mut text = write_journal(alloc, script, ran.journal.as_slice())?;
     let journal = text.len();
@@ -50,7 +56,17 @@ fn record_text(alloc: Global, script: &Script, ran: &Record) -> Result<RunText, 
     let last = tail_line(alloc, ran.journal.len(), ran.tail)?;
     text.extend_from_slice(lines.as_bytes())?;
     text.extend_from_slice(last.as_bytes())?;
-    Ok(RunText { text, journal })
+    let Record {
+        journal: commits,
+        ends,
+        ..
+    } = ran;
+    Ok(RunText {
+        text,
+        journal,
+        commits,
+        ends,
+    })
 }
 
 /// What comes of running the script's processes on so many workers, in so many rows each, in two parts. It
@@ -62,13 +78,15 @@ pub fn run_parts<R: Threads + Wait + Sync>(
     workers: u8,
     rows: u16,
 ) -> Result<RunText, RunFault>
-    ensures ran { IfOk result (λ t. TellsRun (script_of script.now) rows (take t.journal t.text.items) (drop t.journal t.text.items)) }
+    ensures ran { IfOk result (λ t. TellsRunOf (script_of script.now) rows t.commits.items t.ends.items (take t.journal t.text.items) (drop t.journal t.text.items)) }
     ensures within { IfOk result (λ t. t.journal ≤ length t.text.items) }
+    ensures ends { IfOk result (λ t. length t.ends.items ≡ length (script_of script.now).processes) }
+    ensures run { IfOk result (λ t. IsRun (script_of script.now).processes rows t.commits.items) }
     ensures workers { (result ≡ Err Workers) ↔ (¬ AreWorkers workers) }
     ensures rows { (result ≡ Err Rows) ↔ (AreWorkers workers × (¬ AreRows rows)) }
 {
     let record = run(rt, alloc, script, workers, rows, &OpenGate)?;
-    match record_text(alloc, script, &record) {
+    match record_text(alloc, script, record) {
         Ok(text) => Ok(text),
         Err(_) => Err(RunFault::Memory),
     }
@@ -83,14 +101,16 @@ pub fn run_seasons_parts<R: Threads + Wait + Sync>(
     rows: u16,
     seasons: u16,
 ) -> Result<RunText, SeasonFault>
-    ensures ran { IfOk result (λ t. TellsFreely (script_of script.now) (take t.journal t.text.items) (drop t.journal t.text.items)) }
+    ensures ran { IfOk result (λ t. TellsFreelyOf (script_of script.now) t.commits.items t.ends.items (take t.journal t.text.items) (drop t.journal t.text.items)) }
     ensures within { IfOk result (λ t. t.journal ≤ length t.text.items) }
+    ensures ends { IfOk result (λ t. length t.ends.items ≡ length (script_of script.now).processes) }
+    ensures run { IfOk result (λ t. IsRun (script_of script.now).processes (seasons * rows) t.commits.items) }
     ensures workers { (result ≡ Err faults.Workers) ↔ (¬ AreWorkers workers) }
     ensures rows { (result ≡ Err faults.Rows) ↔ (AreWorkers workers × (¬ AreRows rows)) }
     ensures seasons { (result ≡ Err faults.SeasonCount) ↔ (AreWorkers workers × AreRows rows × (¬ AreSeasons seasons)) }
 {
     let record = run_seasons(rt, alloc, script, workers, rows, seasons as u32, &OpenGate)?;
-    match record_text(alloc, script, &record) {
+    match record_text(alloc, script, record) {
         Ok(text) => Ok(text),
         Err(_) => Err(SeasonFault::Memory),
     }

@@ -13,8 +13,8 @@ chart_text-requires c =
     subst (λ (r : Reached). Reaches s c.args.rows c.args.journal.now r) c.in-Run.is c.in_ok-commits.ensures.reached in
     led.stands.strands.stands.count
 
-pub returns-in_ok-text-in-Run-clause-charted : goal.returns-in_ok-text-in-Run-clause-charted
-returns-in_ok-text-in-Run-clause-charted c =
+pub returns-in-Run-clause-charted : goal.returns-in-Run-clause-charted
+returns-in-Run-clause-charted c =
     let s = script_of c.args.script.now in
     let led : LeadsTo s c.args.rows c.args.journal.now c.in-Run.commits.items c.in-Run.state =
     subst (λ (r : Reached). Reaches s c.args.rows c.args.journal.now r) c.in-Run.is c.in_ok-commits.ensures.reached in
@@ -25,7 +25,3 @@ returns-in_ok-text-in-Run-clause-charted c =
       stands = led.stands;
       is = subst (λ (z : List Commit × List ℕ). IsChart s c.in-Run.state z.0 c.args.from c.args.to z.1) (λ i. (c.as_slice.ensures.value i, (sym c.into_bytes.ensures.value i).items)) c.in_ok-text-in-Run.ensures;
     }
-
-pub returns-in-NoRun-clause-charted : goal.returns-in-NoRun-clause-charted
-returns-in-NoRun-clause-charted c =
-    subst (λ (r : Reached). Reaches (script_of c.args.script.now) c.args.rows c.args.journal.now r) c.in-NoRun.is c.in_ok-commits.ensures.reached

@@ -14,8 +14,8 @@ next_text-requires-clause-stands c =
     subst (λ (r : Reached). Reaches s c.args.rows c.args.journal.now r) c.in-Run.is c.in_ok-commits.ensures.reached in
     subst (λ (cs : List Commit). StandsAfter s.processes c.args.rows cs c.in-Run.state) (sym c.deref.ensures.value) led.stands
 
-pub returns-in_ok-text-in-Run-clause-told : goal.returns-in_ok-text-in-Run-clause-told
-returns-in_ok-text-in-Run-clause-told c =
+pub returns-in-Run-clause-told : goal.returns-in-Run-clause-told
+returns-in-Run-clause-told c =
     let s = script_of c.args.script.now in
     let led : LeadsTo s c.args.rows c.args.journal.now c.in-Run.commits.items c.in-Run.state =
     subst (λ (r : Reached). Reaches s c.args.rows c.args.journal.now r) c.in-Run.is c.in_ok-commits.ensures.reached in

@@ -1,4 +1,8 @@
-use Rattle.std.proofs.Common.{◌*◌, ◌≤◌, ◌∙◌, sym, Vec}
+use Rattle.std.proofs.Common.{◌*◌, ◌≤◌, ◌∙◌, List, take, drop, sym, subst, Vec}
+use Rattle.protocol_values.specs.declared.Commit.{Commit}
+use Rattle.journal_replay.specs.Runs.{IsRun}
+use Rattle.journal_replay.specs.declared.end.End.{End}
+use Rattle.pcml_tool.specs.Run.{TellsFreelyOf}
 use Rattle.std.specs.Global.{Global}
 use Rattle.std.proofs.lemmas.List.{length-map}
 use Rattle.protocol_values.specs.declared.Atom.{Atom}
@@ -22,5 +26,12 @@ record_text-requires-clause-outputs g c = sym (length-map c.in_ok-record.record.
 pub returns-in-Ok-clause-ran : goal.returns-in-Ok-clause-ran
 returns-in-Ok-clause-ran g c =
     let told = c.in_ok-record.ensures in
+    let t = c.in-Ok.text in
+    let same = c.in-Ok.ensures.same in
     let few : c.args.seasons * c.args.rows ≤ 67107840 = in_ranges c.args.workers c.args.rows c.args.seasons _ _ _ told.workers.1 told.rows.1 told.seasons.1 (λ e. absurd cc) (λ e. absurd cc) (λ e. absurd cc) in
-    tells_freely (script_of c.args.script.now) (c.args.seasons * c.args.rows) c.in_ok-record.record _ _ c.args.script.now.spelled few told.headline told.completes c.in-Ok.ensures.tells
+    subst (λ (z : List Commit × List End). TellsFreelyOf (script_of c.args.script.now) z.0 z.1 (take t.journal t.text.items) (drop t.journal t.text.items)) (λ i. (sym same.0 i, sym same.1 i))
+    (tells_freely (script_of c.args.script.now) (c.args.seasons * c.args.rows) c.in_ok-record.record _ _ c.args.script.now.spelled few told.headline told.completes c.in-Ok.ensures.tells)
+
+pub returns-in-Ok-clause-run : goal.returns-in-Ok-clause-run
+returns-in-Ok-clause-run g c =
+    subst (λ (cs : List Commit). IsRun (script_of c.args.script.now).processes (c.args.seasons * c.args.rows) cs) (sym c.in-Ok.ensures.same.0) c.in_ok-record.ensures.completes.1.run
