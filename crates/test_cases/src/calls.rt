@@ -16,18 +16,56 @@ pub(crate) struct Outcome {
 pub(crate) enum Wanted {
     Prints,
     Fails,
+    /// A process has not ended that had to.
+    Lacks,
     /// A journal that is no run.
     Unlawful,
     /// Words that are not understood, with whatever text.
     Refuses,
 }
 
+/// What a listing of outcomes tells: the lines of each, sorted, how many there are, and whether that is all.
+#[derive(Drop, PartialEq)]
+struct Listing<'a> {
+    outcomes: Vec<&'a str>,
+    count: Option<&'a str>,
+    whole: Option<&'a str>,
+}
+
+fn read_listing(alloc: Global, text: &str) -> Result<Listing<'_>, AllocError> {
+    let (blocks, last) = text.rsplit_once("outcomes ").unwrap_or(("", text));
+    let mut outcomes = Vec::new(alloc);
+    for block in blocks.split("outcome ").skip(1) {
+        let (_, lines) = block.split_once('\n').unwrap_or((block, ""));
+        outcomes.push(lines)?;
+    }
+    outcomes.sort()?;
+    Ok(Listing {
+        outcomes,
+        count: last.split_whitespace().next(),
+        whole: last.split_whitespace().last(),
+    })
+}
+
 impl Outcome {
+    /// Whether it tells the outcomes of the text, in whatever order, and whether that is all as the text does.
+    pub(crate) fn tells(&self, alloc: Global, text: &str) -> Result<bool, AllocError> {
+        let Ok(out) = str::from_utf8(self.out.as_slice()) else {
+            return Ok(false);
+        };
+        Ok(
+            self.status == 0
+                && self.err.is_empty()
+                && read_listing(alloc, out)? == read_listing(alloc, text)?,
+        )
+    }
+
     /// Whether it is what is wanted, with this text.
     pub(crate) fn is(&self, wanted: Wanted, text: &str) -> bool {
         let (status, out, err) = match wanted {
             Wanted::Prints => (0, text, ""),
             Wanted::Unlawful => (1, text, ""),
+            Wanted::Lacks => (3, text, ""),
             Wanted::Fails => (1, "", text),
             Wanted::Refuses => {
                 return self.status == 2 && self.out.is_empty() && !self.err.is_empty();

@@ -77,6 +77,16 @@ impl<'a, R: AllocGlobal + Files + Input + Threads + Wait + Sync> Player<'a, R> {
         self.note(block, "it came to", found.as_str())
     }
 
+    /// Makes the call, which is to tell the outcomes that the block has, in whatever order.
+    fn check_outcomes(&mut self, words: &[&str], block: &Block<'_>) -> Result<()> {
+        let outcome = self.call(words)?;
+        if outcome.tells(self.rt.alloc(), block.body)? {
+            return Ok(());
+        }
+        let found = outcome.text(self.rt.alloc())?;
+        self.note(block, "it came to", found.as_str())
+    }
+
     /// The journal that was kept leads to the end that its run had.
     fn check_kept<'w>(
         &mut self,
@@ -191,7 +201,9 @@ impl<'a, R: AllocGlobal + Files + Input + Threads + Wait + Sync> Player<'a, R> {
             ["more", name, times] => self.append(name, text, times),
             ["holds", name] => self.check_file(name, block),
             ["prints", call @ ..] => self.check(call, Wanted::Prints, block, others),
+            ["tells", call @ ..] => self.check_outcomes(call, block),
             ["unlawful", call @ ..] => self.check(call, Wanted::Unlawful, block, others),
+            ["lacks", call @ ..] => self.check(call, Wanted::Lacks, block, others),
             ["fails", call @ ..] => self.check(call, Wanted::Fails, block, others),
             ["refuses", call @ ..] => self.check(call, Wanted::Refuses, block, others),
             ["runs", script, more @ ..] => {

@@ -7,6 +7,7 @@ mod fetched;
 mod journals;
 mod processes;
 mod runs;
+mod searches;
 
 /// Process a sends 42 to b.
 const ONE_SEND: &str =

@@ -1,0 +1,89 @@
+//! What a script can come to, as values.
+
+use super::check_same;
+use journal_replay::{End, replay};
+use outcomes::{Outcomes, find_outcomes, next_commits};
+use protocol_values::{Atom, Commit, Message, Row};
+use script::parse;
+use std::alloc::Global;
+use std::process::Abort;
+use std::test::Fail;
+
+/// Two send, and one receives once.
+const EITHER: &str =
+    "channel c; process a { sync send c (1); } process b { sync send c (2); } process d { x <- sync recv c; print x; }";
+
+/// The commit in which this thread sends this number to the last one.
+fn sent(thread: u8, number: u32) -> Commit {
+    let first = |thread| (Row { thread, sync: 0 }, 0);
+    Commit::Pair {
+        sender: first(thread),
+        receiver: first(2),
+        chan: 0,
+        msg: Message::One(Atom::Num(number)),
+        stamp: 1,
+    }
+}
+
+fn found(alloc: Global, limit: usize) -> Result<Outcomes, Fail> {
+    let script = parse(alloc, EITHER.as_bytes())?;
+    Ok(find_outcomes(alloc, script.processes(), 256, limit)?)
+}
+
+/// One of the outcomes has these ends, and the number as the last process's output, and its journal is this commit.
+fn check_has(
+    rt: &(impl Abort + AllocGlobal),
+    found: &Outcomes,
+    ends: [End; 3],
+    number: u32,
+    commit: Commit,
+) -> Result<(), Fail> {
+    for outcome in found.outcomes.iter() {
+        if outcome.ends.as_slice() == ends.as_slice() {
+            check_same(rt, outcome.journal.as_slice(), [commit].as_slice());
+            check_same(rt, outcome.outputs.len(), 3);
+            let last = outcome.outputs.last().ok_or("no output")?;
+            check_same(rt, last.as_slice(), [Atom::Num(number)].as_slice());
+            return Ok(());
+        }
+    }
+    Err(Fail::from("no such outcome"))
+}
+
+#[test]
+fn either_is_left_waiting(rt: HostRuntime) -> Result<(), Fail> {
+    let found = found(rt.alloc(), 256)?;
+    check_same(&rt, found.whole, true);
+    check_same(&rt, found.visited, 3);
+    check_same(&rt, found.outcomes.len(), 2);
+    let first = [End::Ended, End::Waiting, End::Ended];
+    check_has(&rt, &found, first, 1, sent(0, 1))?;
+    let second = [End::Waiting, End::Ended, End::Ended];
+    check_has(&rt, &found, second, 2, sent(1, 2))
+}
+
+#[test]
+fn a_search_is_cut_at_its_limit(rt: HostRuntime) -> Result<(), Fail> {
+    let found = found(rt.alloc(), 2)?;
+    check_same(&rt, found.whole, false);
+    check_same(&rt, found.visited, 2);
+    Ok(())
+}
+
+#[test]
+fn next_are_all_that_may_come(rt: HostRuntime) -> Result<(), Fail> {
+    let alloc = rt.alloc();
+    let script = parse(alloc, EITHER.as_bytes())?;
+    let Ok(start) = replay(alloc, script.processes(), 256, &[]) else {
+        return Err(Fail::from("no start"));
+    };
+    let next = next_commits(alloc, script.processes(), 256, &[], &start)?;
+    check_same(&rt, next.as_slice(), [sent(0, 1), sent(1, 2)].as_slice());
+    let one = [sent(0, 1)];
+    let Ok(end) = replay(alloc, script.processes(), 256, &one) else {
+        return Err(Fail::from("no end"));
+    };
+    let none = next_commits(alloc, script.processes(), 256, &one, &end)?;
+    check_same(&rt, none.len(), 0);
+    Ok(())
+}
