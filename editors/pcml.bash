@@ -14,8 +14,8 @@ _pcml_files() {
 # The options of a command.
 _pcml_options() {
   case $1 in
-    run) echo --workers --rows --seasons --journal --quiet --help ;;
-    replay | why) echo --rows --seasons --help ;;
+    run) echo --workers --rows --seasons --journal --quiet --why --need --help ;;
+    replay | why | stats) echo --rows --seasons --help ;;
     chart) echo --rows --seasons --from --to --help ;;
     next) echo --rows --help ;;
     outcomes) echo --rows --limit --waiting --journal --of --help ;;
@@ -25,7 +25,7 @@ _pcml_options() {
 
 _pcml() {
   local now=${COMP_WORDS[COMP_CWORD]} before=${COMP_WORDS[COMP_CWORD - 1]} command=${COMP_WORDS[1]-}
-  local commands='run check why chart replay next outcomes explain play meet help'
+  local commands='run check why chart replay outcomes next stats explain version meet play help'
   COMPREPLY=()
   if [ "$COMP_CWORD" -eq 1 ]; then
     case $now in
@@ -45,6 +45,7 @@ _pcml() {
     --workers) _pcml_give '1 2 4 8 16' ;;
     --rows) _pcml_give '256 1024' ;;
     --from | --to | --seasons | --limit | --of) ;;
+    --need) _pcml_give all ;;
     --journal) _pcml_files ;;
     *) _pcml_argument ;;
   esac
@@ -57,9 +58,9 @@ _pcml_argument() {
     return
   fi
   case $command in
-    explain) _pcml_give '1 2 3 4 5 6 7 8 11 12 13 14 15 16 21 22 23 31 32' ;;
+    explain) _pcml_give '1 2 3 4 5 6 7 8 11 12 13 14 15 16 21 22 23 31 32 unset kind range shape waiting spent unstarted journal stamp' ;;
     help) _pcml_give "$commands" ;;
-    meet) ;;
+    meet | version) ;;
     *) _pcml_files ;;
   esac
 }
