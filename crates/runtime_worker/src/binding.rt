@@ -15,6 +15,7 @@ use protocol_values::Row;
 
 /// Binds the nacks of the machine's event, scope by scope, to the row, which is held and not opened yet. `bind` cannot
 /// answer false of one: a thread takes its nacks in turn, so those that its earlier rows bound are others.
+#[inline(always)]
 pub(crate) fn bind_all(
     cells: &Cells<Suspended>,
     pass: &mut Pass<Suspended>,

@@ -132,6 +132,7 @@ impl<R: Wait, G: StepGate> Crew<'_, R, G> {
     }
 
     /// Puts the rows that a turn committed into the ready queues.
+    #[inline(always)]
     pub(crate) fn put_committed(&self, end: &mut ReadyEnd, committed: Committed) -> Result<(), Halt>
         requires { IsEndOf self.now.shared.now.ready end.old }
         ensures { IsEndOf self.now.shared.now.ready end.new }

@@ -33,6 +33,7 @@ impl Notes {
     }
 
     /// Notes the nacks of the thread's next row, before it is opened.
+    #[inline(always)]
     pub(crate) fn note<R: Wait>(&self, rt: &R, thread: u8, nacks: Nacks) {
         let Some(note) = self.notes.get(usize::from(thread)) else {
             return;

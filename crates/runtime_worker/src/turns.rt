@@ -193,6 +193,7 @@ impl<R: Wait, G: Gate + StepGate> Crew<'_, R, G> {
     /// Starts, from the place at which its thread stands, the threads that the machine spawned since it had spawned so
     /// many. They join the list, but for one that has been started before: that cannot be, since a process is spawned
     /// by one other, and once.
+    #[inline(always)]
     fn start_spawned(
         &self,
         pass: &mut Pass<Suspended>,
