@@ -4,7 +4,7 @@ use Rattle.std.specs.List.{list_all}
 use Rattle.std.proofs.lemmas.Bool.{and_parts}
 use Rattle.std.proofs.lemmas.List.{take-append-drop, at_drop_more, drop_all, length-take-le}
 use Rattle.script_token.specs.Tokens.{is_word}
-use Rattle.script_token.specs.Lexemes.{lexemes, put, joins, tokens_from, token_at, line_after, line_behind}
+use Rattle.script_token.specs.Lexemes.{lexemes, put, joins, tokens_from, token_at, line_after, line_behind, starts_from, start_at}
 
 -- the first lexeme begins with the first byte
 pub record Begins (b : ℕ) (ws : List (List ℕ)) : Type 0 where
@@ -141,3 +141,12 @@ line_step line w = at_test (eqb (get_or w 0 0) 10) refl
     at_test : (v : Bool) → eqb (get_or w 0 0) 10 ≡ v → line_after line w ≤ line + 1
     at_test true e = rw e (omega arith)
     at_test false e = rw e (omega arith)
+
+pub starts_front : (at : ℕ) (bytes w rest : List ℕ) → lexemes bytes ≡ w ∷ lexemes rest → starts_from at (lexemes bytes) ≡ start_at at w ++ starts_from (at + length w) (lexemes rest)
+unfolding starts_from
+starts_front at bytes w rest e = ap (starts_from at) e
+
+pub starts_end : (at : ℕ) (bytes : List ℕ) → length bytes ≡ 0 → starts_from at (lexemes bytes) ≡ []
+unfolding starts_from lexemes
+starts_end at [] h = refl
+starts_end at (b ∷ bytes) h = absurd (omega (arith, h))

@@ -1,5 +1,5 @@
 -- The lexemes of a text, and its tokens with their lines.
-use Rattle.std.specs.Prelude.{ℕ, ◌+◌, List, [], ◌∷◌, ◌++◌, map, slice_index, Bool, false, ◌||◌, ◌&&◌, ◌==◌, if◌then◌else◌}
+use Rattle.std.specs.Prelude.{ℕ, ◌+◌, List, [], ◌∷◌, ◌++◌, map, length, slice_index, Bool, false, ◌||◌, ◌&&◌, ◌==◌, if◌then◌else◌}
 use Rattle.script_token.specs.Tokens.{Token, is_word, token_of, view}
 use Rattle.script_token.specs.declared.lexeme.Placed.{Placed}
 
@@ -51,3 +51,16 @@ seen_at p = (view p.token, p.line)
 
 abbrev pub seen : List Placed → List (Token × ℕ)
 seen ps = map seen_at ps
+
+-- where the token begins that a lexeme behind so many bytes is; none for white space
+abbrev pub start_at : ℕ → List ℕ → List ℕ
+start_at at w = if is_white (slice_index w 0) then [] else at ∷ []
+
+-- where the tokens of lexemes begin, of which the first stands behind so many bytes
+unfoldable pub starts_from : ℕ → List (List ℕ) → List ℕ
+starts_from at [] = []
+starts_from at (w ∷ ws) = start_at at w ++ starts_from (at + length w) ws
+
+-- how many bytes of a text stand before each of its tokens
+abbrev pub token_starts : List ℕ → List ℕ
+token_starts bytes = starts_from 0 (lexemes bytes)

@@ -2,7 +2,7 @@
 
 ghost use Rattle.std.specs.Prelude.{◌≡◌, ◌≢◌, ◌+◌, ◌<◌, ◌≤◌, ◌^◌, ◌∷◌, ◌++◌, length, take, drop, slice_index, IfOk, OnOk, true, false};
 ghost use Rattle.script_token.specs.Tokens.{is_word};
-ghost use Rattle.script_token.specs.Lexemes.{lexemes, is_white, placed_tokens, last_line, seen, token_at, line_after};
+ghost use Rattle.script_token.specs.Lexemes.{lexemes, is_white, placed_tokens, last_line, seen, token_at, line_after, start_at, token_starts};
 
 use crate::kind::{Token, is_word, token_of};
 use std::alloc::{AllocError, Global};
@@ -113,4 +113,32 @@ pub fn scan(alloc: Global, bytes: &[u8]) -> Result<Tokens<'_>, AllocError>
         rest = after;
     }
     Ok(Tokens { placed, last_line })
+}
+
+/// Appends where the lexeme begins, if it is a token.
+fn put_start(starts: &mut Vec<usize>, lexeme: &[u8], at: usize) -> Result<(), AllocError>
+    requires { 0 < length lexeme.now }
+    ensures { OnOk result (starts.new.items ≡ starts.old.items ++ start_at at lexeme.now) }
+{
+    if is_white(lexeme[0]) {
+        return Ok(());
+    }
+    starts.push(at)?;
+    Ok(())
+}
+
+/// Where each token of a text begins: how many bytes stand before it.
+pub fn token_starts(alloc: Global, bytes: &[u8]) -> Result<Vec<usize>, AllocError>
+    ensures { IfOk result (λ starts. starts.items ≡ token_starts bytes.now) }
+{
+    let mut starts = Vec::new(alloc);
+    let mut at = 0;
+    let mut rest = bytes;
+    while !rest.is_empty() {
+        let (lexeme, after) = rest.split_at(lexeme_len(rest));
+        put_start(&mut starts, lexeme, at)?;
+        at += lexeme.len();
+        rest = after;
+    }
+    Ok(starts)
 }

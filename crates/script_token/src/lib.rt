@@ -7,4 +7,4 @@ pub mod kind;
 pub mod lexeme;
 
 pub use kind::{Symbol, Token, is_same};
-pub use lexeme::{Placed, Tokens, scan};
+pub use lexeme::{Placed, Tokens, scan, token_starts};
