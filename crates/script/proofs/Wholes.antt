@@ -134,7 +134,7 @@ processes_agree [] channels names spawned = agrees_none
 processes_agree (p ∷ ps) channels names spawned =
     agrees_seq (process_spell p) (spell_all process_spell ps) _ _ (front (Fixed Process) _ _ _ (λ prior. tt) (front (Name p.name) _ (block_tokens p.body) _ (declare_here 64 names p.name) (block_agrees p.body true 49 (start channels names spawned)))) (processes_agree ps channels (names ++ p.name ∷ []) (block_after (start channels names spawned) p.body).spawned)
 
-script_agrees : (s : written.Script) → Agrees (λ rest. script_tokens s ++ rest) (script_notes s)
+pub script_agrees : (s : written.Script) → Agrees (λ rest. script_tokens s ++ rest) (script_notes s)
 unfolding script_notes
 script_agrees s =
     let parts = agrees_seq (channels_tokens s.channels) (spell_all process_spell s.processes) _ _ (channels_agree s.channels []) (processes_agree s.processes s.channels [] []) in

@@ -13,6 +13,7 @@
 //! - A fault with a line is the first of a text that is not too long, as the notes of `script_faults` and the
 //!   grammar say it (`FirstFaults`): whatever is written and begins with the tokens up to the fault's has
 //!   it. And the first fault of a text that is not too long is told, unless memory runs out.
+//! - `first_fault` tells of tokens what a reading of them from left to right does.
 //! - What is read keeps the limits: each process has them by its own invariant (`script_tree::Proc`).
 //! - The counts and the names of a script are those of the script that was read.
 //! - Each call ends. Reading goes down by what is left of 49 levels, and loops over statements,
@@ -28,7 +29,7 @@ mod reading;
 mod script;
 
 pub use fault::ScriptFault;
-pub use reading::parse;
+pub use reading::{first_fault, parse};
 pub use script::Script;
 pub use script_tree::Proc;
 

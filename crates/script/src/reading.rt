@@ -1,10 +1,11 @@
 //! Declared channels, processes and whole texts, read from the front.
 
-ghost use Rattle.std.specs.Prelude.{◌≡◌, ◌<◌, ◌≤◌, [], ◌∷◌, ◌++◌, None, IfOk, IfErr, OnOk, length, map};
+ghost use Rattle.std.specs.Prelude.{◌≡◌, ◌<◌, ◌≤◌, [], ◌∷◌, ◌++◌, None, Err, IfOk, IfErr, OnOk, MatchOption, length, map};
 ghost use Rattle.script_token.specs.Lexemes.{last_line, seen};
 ghost use Rattle.script_reader.specs.Places.{texts};
 ghost use Rattle.script_grammar.specs.Meaning.{place};
-ghost use Rattle.script_reader.specs.Steps.{Gives, Tells as Tells', bare, here};
+ghost use Rattle.script_faults.specs.Laws.{IsRead};
+ghost use Rattle.script_reader.specs.Steps.{Gives, Tells as Tells', bare, here, told};
 ghost use Rattle.script.specs.Scripts.{drawn, proc_from, declare_at, channel_next, channels_at, process_next, processes_at, script_at, script_of, line_left, fault_at, text_at, Answers};
 ghost use Rattle.script.specs.FirstFaults.{Tells, FirstIsTold};
 ghost use Rattle.script.specs.Spelling.{Spells, Refuses};
@@ -226,6 +227,17 @@ fn read_text(alloc: Global, bytes: &[u8]) -> Result<Script, ScriptFault>
         }),
         Err(Stop::Memory) => Err(ScriptFault::Memory),
         Err(Stop::At(fault)) => Err(fault_at(fault.problem, line_at(&tokens, fault.left))),
+    }
+}
+
+/// The first fault of tokens that are read as those of a whole script. What is read is not kept.
+pub fn first_fault(alloc: Global, tokens: &[Placed<'_>]) -> Result<Option<Fault>, AllocError>
+    ensures { IfOk result (λ found. MatchOption found (IsRead (script_at (bare tokens.now))) (λ fault. script_at (bare tokens.now) ≡ Err (told fault))) }
+{
+    match whole(alloc, tokens) {
+        Ok(_) => Ok(None),
+        Err(Stop::At(fault)) => Ok(Some(fault)),
+        Err(Stop::Memory) => Err(AllocError),
     }
 }
 

@@ -14,7 +14,7 @@ use Rattle.script_faults.proofs.Places.{nth, BackIs, Agree, Agrees}
 -- ONLY ONE FAULT IS DEMANDED
 
 -- of two ways to cut a list in two, one cuts later, or both cut at one place
-data Cut (a b c d : List Token) : Type 0 where
+pub data Cut (a b c d : List Token) : Type 0 where
   Later : (t : Token) (m : List Token) → c ≡ a ++ t ∷ m → b ≡ (t ∷ m) ++ d → Cut a b c d
   Same : a ≡ c → b ≡ d → Cut a b c d
   Earlier : (t : Token) (m : List Token) → a ≡ c ++ t ∷ m → d ≡ (t ∷ m) ++ b → Cut a b c d
@@ -22,7 +22,7 @@ data Cut (a b c d : List Token) : Type 0 where
 tail_is : (t u : Token) (ts us : List Token) → t ∷ ts ≡ u ∷ us → (t ≡ u) × (ts ≡ us)
 tail_is t u ts us e = (cc, cc)
 
-cut : (a b c d : List Token) → a ++ b ≡ c ++ d → Cut a b c d
+pub cut : (a b c d : List Token) → a ++ b ≡ c ++ d → Cut a b c d
 cut [] b [] d e = Same refl e
 cut [] b (t ∷ c) d e = Later t c refl e
 cut (t ∷ a) b [] d e = Earlier t a refl (sym e)
@@ -41,7 +41,7 @@ first_behind (None ∷ before) behind fault (suc n) few e = first_behind before 
 first_behind (Some p ∷ before) behind fault zero few e = omega (arith, few)
 first_behind (Some p ∷ before) behind fault (suc n) few e = absurd cc
 
-none_before : (notes : List Note) (place n : ℕ) (fault : Problem × ℕ) → IsFirst notes place fault → place < n → first_fault (take n notes) ≡ None → ⊥
+pub none_before : (notes : List Note) (place n : ℕ) (fault : Problem × ℕ) → IsFirst notes place fault → place < n → first_fault (take n notes) ≡ None → ⊥
 none_before notes place n fault f few e = (let c = f.count in first_behind f.before f.behind fault n (omega (arith, few, c)) (ap (λ (x : List Note). first_fault (take n x)) (sym f.parts) ∙ e))
 
 seam : (x y u v : List Note) (a b : Problem × ℕ) → length x ≡ length y → x ++ Some a ∷ u ≡ y ++ Some b ∷ v → a ≡ b
@@ -100,7 +100,7 @@ prior_at zero prior ts = prior
 prior_at (suc n) prior [] = prior
 prior_at (suc n) prior (t ∷ ts) = prior_at n (t ∷ prior) ts
 
-agree_at : (before behind : List Note) (fault : Problem × ℕ) (prior ts : List Token) → Agree prior ts (before ++ Some fault ∷ behind) → BackIs (prior_at (length before) prior ts) fault.0 fault.1
+pub agree_at : (before behind : List Note) (fault : Problem × ℕ) (prior ts : List Token) → Agree prior ts (before ++ Some fault ∷ behind) → BackIs (prior_at (length before) prior ts) fault.0 fault.1
 agree_at [] behind fault prior [] a = absurd a
 agree_at [] behind fault prior (t ∷ ts) a = a.0
 agree_at (n ∷ before) behind fault prior [] a = absurd a
