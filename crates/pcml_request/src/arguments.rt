@@ -65,6 +65,19 @@ pub(crate) fn stamp_argument<'a>(
         .help(help)
 }
 
+/// A file that need not be named.
+pub(crate) fn optional_file_argument<'a>(
+    alloc: Global,
+    id: &'a str,
+    value_name: &'a str,
+    help: &'a str,
+) -> Arg<'a> {
+    Arg::new(alloc, id)
+        .action(ArgAction::Set)
+        .value_name(value_name)
+        .help(help)
+}
+
 /// The arguments of what goes through a journal: its script, the journal, and how many rows a process has, in how many
 /// seasons.
 pub(crate) fn arguments_of_journal<'a>(alloc: Global) -> Result<Vec<Arg<'a>>, AllocError> {

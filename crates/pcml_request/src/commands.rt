@@ -2,7 +2,7 @@
 
 use crate::arguments::{
     arguments_of_journal, file_argument, flag_argument, kept_argument, limit_argument, of_argument,
-    rows_argument, seasons_argument, stamp_argument,
+    optional_file_argument, rows_argument, seasons_argument, stamp_argument,
 };
 use crate::request::{Request, Running, Search};
 use clap::{Arg, ArgAction, ArgMatches, Command, value_parser};
@@ -67,17 +67,33 @@ fn check_command<'a>(alloc: Global) -> Result<Command<'a>, AllocError> {
 }
 
 fn why_command<'a>(alloc: Global) -> Result<Command<'a>, AllocError> {
-    let arguments = arguments_of_journal(alloc)?;
+    let file = file_argument(alloc, "file", "FILE", "The script");
+    let journal = optional_file_argument(
+        alloc,
+        "journal",
+        "JOURNAL",
+        "The journal: without it, it is told why the text is no script",
+    );
+    let arguments = vec![in alloc;
+        file,
+        journal,
+        rows_argument(alloc),
+        seasons_argument(alloc),
+    ]?;
     Command::new(alloc, "why")
-        .about("Tells why each process stands where it does")
+        .about("Tells why each process stands where it does, or why a text is no script")
         .args(arguments)
 }
 
 /// The request of `why`, by the words behind it.
 fn why_request<'a>(why: &ArgMatches<'a>) -> Option<Request<'a>> {
+    let script = why.get_str("file")?;
+    let Some(journal) = why.get_str("journal") else {
+        return Some(Request::WhyScript(script));
+    };
     Some(Request::Why {
-        script: why.get_str("file")?,
-        journal: why.get_str("journal")?,
+        script,
+        journal,
         rows: why.get_one("rows")?,
         seasons: why.get_one("seasons"),
     })

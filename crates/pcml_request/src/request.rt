@@ -47,6 +47,8 @@ pub enum Request<'a> {
         rows: u16,
         seasons: Option<u16>,
     },
+    /// Why the text in the file of this name is no script.
+    WhyScript(&'a str),
     /// The chart of the journal in a file, against the script in another, of so many rows a process in each
     /// season: the commits with a stamp from one to another.
     Chart {

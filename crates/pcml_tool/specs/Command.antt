@@ -1,9 +1,9 @@
 -- What the program prints for what is asked, and what its faults say.
-use Rattle.std.specs.Prelude.{◌≡◌, ◌≢◌, ◌⊎◌, ℕ, Bool, true, false, List, [], ◌++◌, Option, None, Some, IfSome, take, not, ◌&&◌, ◌||◌, is_none, is_some, if◌then◌else◌}
+use Rattle.std.specs.Prelude.{◌≡◌, ◌≢◌, ◌⊎◌, ℕ, Bool, true, false, List, [], ◌++◌, Option, None, Some, IfSome, take, not, ◌&&◌, ◌||◌, is_none, is_some, if◌then◌else◌, codes}
 use Rattle.std.specs.Io.KnownBytes.{Appends}
 use Rattle.std.specs.Option.{option_copied}
 use Rattle.pcml_request.specs.declared.request.Request.{Request}
-use Rattle.pcml_request.specs.declared.request.Request.TheVariants.{Meet, Next, Outcomes, Play, Check, Chart, Explain, Replay, Run, Stats, Version, Why}
+use Rattle.pcml_request.specs.declared.request.Request.TheVariants.{Meet, Next, Outcomes, Play, Check, Chart, Explain, Replay, Run, Stats, Version, Why, WhyScript}
 use Rattle.pcml_request.specs.declared.request.Running.{Running}
 use Rattle.pcml_request.specs.declared.request.Search.{Search}
 use Rattle.pcml_request.specs.Requests.{all_rows}
@@ -34,6 +34,7 @@ use Rattle.journal_text.specs.Journals as journals
 use Rattle.journal_text.specs.Names.{named}
 use Rattle.outcomes.specs.declared.Outcomes.{Outcomes as Found}
 use Rattle.pcml_outcomes.specs.Told.{AreFound, SpellsAsked, asked_for, is_clear, outcomes_text}
+use Rattle.pcml_why_script.specs.Telling.{TellsWhyNot}
 use Rattle.script.specs.Sources.{Script}
 use Rattle.script.specs.Spelling.{Spells}
 use Rattle.script.specs.FirstFaults.{Tells}
@@ -85,6 +86,15 @@ AnswersNext Holds script journal rows verdict text = OfJournal Holds script jour
 
 abbrev pub AnswersStats : Files → List ℕ → List ℕ → ℕ → Verdict → List ℕ → Type 0
 AnswersStats Holds script journal rows verdict text = OfJournal Holds script journal (λ source s read told. IsCounted s rows read told) (λ s read told. IsNoRun s rows read told) verdict text
+
+-- what is printed where this is told of why a text is no script: of a script that it is one
+abbrev pub IsToldWhyNot : Option (List ℕ) → Verdict → List ℕ → Type 0
+IsToldWhyNot None verdict text = (verdict ≡ Done) × (text ≡ codes "this is a script\n")
+IsToldWhyNot (Some told) verdict text = (verdict ≡ Denied) × (text ≡ told)
+
+-- why the text in a file is no script
+abbrev pub AnswersWhyScript : Files → List ℕ → Verdict → List ℕ → Type 0
+AnswersWhyScript Holds name verdict text = (bytes : List ℕ) × Holds name bytes × (told : Option (List ℕ)) × TellsWhyNot bytes told × IsToldWhyNot told verdict text
 
 -- The journal that is asked for is kept in the file that is named; where none is named, or there is no such journal, no file holds
 -- what it did not.
@@ -154,7 +164,7 @@ AsksOfJournal (Stats script journal rows seasons) = Unit {0}
 AsksOfJournal asked = ⊥
 
 -- The line of the one pair (or none), what comes of the schedule, the script or the run that is asked for, where the journal
--- leads the script, why the processes stand there, its chart, what may come next there, how often each took part, what the script
+-- leads the script, why the processes stand there, why a text is no script, a chart, what may come next there, how often each took part, what the script
 -- can come to, what a fault means, or the version. Where the journal of a run is to go to a file, the file keeps its lines at the end.
 abbrev pub Answers : Files → Files → Request → Verdict → List ℕ → Type 0
 Answers Holds Keeps (Replay script journal rows seasons) verdict text = AnswersReplay Holds script.now journal.now (all_rows rows seasons) verdict text
@@ -162,6 +172,7 @@ Answers Holds Keeps (Why script journal rows seasons) verdict text = AnswersWhy 
 Answers Holds Keeps (Chart script journal rows seasons from to) verdict text = AnswersChart Holds script.now journal.now (all_rows rows seasons) from to verdict text
 Answers Holds Keeps (Next script journal rows) verdict text = AnswersNext Holds script.now journal.now rows verdict text
 Answers Holds Keeps (Stats script journal rows seasons) verdict text = AnswersStats Holds script.now journal.now (all_rows rows seasons) verdict text
+Answers Holds Keeps (WhyScript name) verdict text = AnswersWhyScript Holds name.now verdict text
 Answers Holds Keeps (Outcomes search) verdict text = AnswersOutcomes Holds Keeps search verdict text
 Answers Holds Keeps (Meet value) Done text = PrintsMeeting value text
 Answers Holds Keeps (Play name) Done text = OfSchedule Holds name.now (λ bytes. IsPlayed bytes text)
@@ -246,6 +257,7 @@ Fails Holds (Play name) fault = FailsPlay Holds name.now fault
 Fails Holds (Check name) fault = FailsParse Holds name.now fault
 Fails Holds (Explain topic) fault = fault ≡ faults.Memory
 Fails Holds (Why script journal rows seasons) fault = FailsReplay Holds script.now journal.now fault
+Fails Holds (WhyScript name) fault = FailsRead (λ bytes. ⊥) fault
 Fails Holds (Chart script journal rows seasons from to) fault = FailsReplay Holds script.now journal.now fault
 Fails Holds (Next script journal rows) fault = FailsReplay Holds script.now journal.now fault
 Fails Holds (Stats script journal rows seasons) fault = FailsReplay Holds script.now journal.now fault

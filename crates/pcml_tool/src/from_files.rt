@@ -1,13 +1,13 @@
 //! What comes of the files that a request names.
 
 ghost use Rattle.std.specs.Prelude.{◌≡◌, ◌≢◌, ◌≤◌, ◌⊎◌, List, ℕ, None, IfSome, IfOk, IfErr, OnOk, length, take, drop};
-ghost use Rattle.std.specs.Option.{option_copied};
+ghost use Rattle.std.specs.Option.{option_copied, option_map};
 ghost use Rattle.script.specs.Scripts.{script_of};
 ghost use Rattle.script.specs.Spelling.{Spells};
 ghost use Rattle.pcml_tool.specs.declared.fault.Fault.TheVariants.{Memory, Unwritten};
 ghost use Rattle.pcml_tool.specs.Check.{IsChecked};
 ghost use Rattle.pcml_tool.specs.Play.{IsPlayed};
-ghost use Rattle.pcml_tool.specs.Command.{AnswersChart, AnswersNext, AnswersReplay, AnswersStats, AnswersWhy, IsJudged, FailsParse, FailsPlay, FailsRead, FailsReplay, KeepsAsked, OfSchedule, is_so, printed, verdict_of};
+ghost use Rattle.pcml_tool.specs.Command.{AnswersChart, AnswersNext, AnswersReplay, AnswersStats, AnswersWhy, AnswersWhyScript, IsJudged, FailsParse, FailsPlay, FailsRead, FailsReplay, IsToldWhyNot, KeepsAsked, OfSchedule, is_so, printed, verdict_of};
 ghost use Rattle.pcml_files.specs.Files.{Fits};
 ghost use Rattle.pcml_outcomes.specs.Told.{bytes_of};
 
@@ -18,6 +18,7 @@ use crate::{
 };
 use pcml_files::{MOST_BYTES, Source};
 use pcml_outcomes::OutcomesText;
+use pcml_why_script::why_not;
 use script::{Script, parse};
 use std::alloc::Global;
 
@@ -27,7 +28,7 @@ pub(crate) enum Verdict {
     Done,
     /// The journal that was to be replayed is no run.
     Unlawful,
-    /// It was asked what leaves a process waiting, and some outcome does, or not all was seen; or the journal of an
+    /// The text that was to be a script is none; or it was asked what leaves a process waiting, and some outcome does, or not all was seen; or the journal of an
     /// outcome was to be kept that is not there.
     Denied,
     /// A process that had to end has not.
@@ -144,6 +145,33 @@ pub(crate) fn why_files<S: Source>(
     let (text, script) = read_source(alloc, source, script)?;
     let journal = read_bounded(source, journal)?;
     Ok(judged(why_journal(alloc, &script, &text, &journal, rows)?))
+}
+
+/// What is told of why a text is no script, with the verdict.
+fn told_why_not(alloc: Global, text: Option<Vec<u8>>) -> Result<(Verdict, Vec<u8>), Fault>
+    ensures told { IfOk result (λ answer. IsToldWhyNot (option_map (λ t. t.items) text) answer.0 answer.1.items) }
+    ensures fault { IfErr result (λ fault. fault ≡ Memory) }
+{
+    match text {
+        Some(text) => Ok((Verdict::Denied, text)),
+        None => Ok((
+            Verdict::Done,
+            Vec::from_slice(alloc, b"this is a script\n")?,
+        )),
+    }
+}
+
+/// Why the text in a file is no script.
+pub(crate) fn why_file<S: Source>(
+    alloc: Global,
+    source: &mut S,
+    name: &str,
+) -> Result<(Verdict, Vec<u8>), Fault>
+    ensures done { IfOk result (λ answer. AnswersWhyScript (S.holds source.old) name.now answer.0 answer.1.items) }
+    ensures fault { IfErr result (FailsRead (λ bytes. ⊥)) }
+{
+    let bytes = source.read(name)?;
+    told_why_not(alloc, why_not(alloc, &bytes)?)
 }
 
 /// The chart of the journal in a file, against the script in another.

@@ -16,7 +16,7 @@ ghost use Rattle.pcml_tool.specs.Run.{TellsAsked};
 use crate::fault::Fault;
 use crate::from_files::{
     Verdict, chart_files, check_file, keep_journal, keep_outcome, next_files, play_file,
-    read_script, read_source, replay_files, stats_files, why_files,
+    read_script, read_source, replay_files, stats_files, why_file, why_files,
 };
 use crate::{
     RunText, explain_text, meet_text, run_parts, run_seasons_parts, version_text, why_run,
@@ -221,6 +221,7 @@ fn answer<R: Threads + Wait + Sync, S: Source>(
         Request::Check(name) => Ok((Verdict::Done, check_file(alloc, source, name)?)),
         Request::Explain(topic) => Ok((Verdict::Done, explain_text(alloc, topic)?)),
         Request::Version => Ok((Verdict::Done, version_text(alloc)?)),
+        Request::WhyScript(name) => why_file(alloc, source, name),
         Request::Run(asked) => answer_run(rt, alloc, asked, source),
         Request::Outcomes(search) => answer_search(alloc, search, source),
         Request::Replay { .. }
@@ -253,7 +254,8 @@ fn respond<R: Threads + Wait + Sync, S: Source, O: Write>(
 }
 
 /// Does what the words behind the program's name ask for, and answers the status: 0, or 1 after a
-/// fault, for a journal that is no run, or where what was asked of a script's outcomes is not so, 2 after
+/// fault, for a journal that is no run, where it is told why a text is no script, or where what was asked of a script's
+/// outcomes is not so, 2 after
 /// words that are not understood and after a wish for help, or 3 where a process that had to end has not. A fault is
 /// a line on the error stream; whether that stream takes it changes nothing.
 pub fn command<R: Threads + Wait + Sync, S: Source, O: Write, E: Write>(
