@@ -21,9 +21,13 @@ in_text d t below = record {
   Named = λ c. c < length d.channels;
   Spawned = λ p. ⊤;
   Joined = IsThread d;
+  Into = λ c. c < length d.channels;
+  From = λ c. c < length d.channels;
   literal = λ n h. h;
   total = λ n h. omega (arith, h);
   less = λ m n h. omega (arith, h);
   channel = λ c h. h;
+  into = λ c h. h;
+  from = λ c h. h;
   nack = λ k few h. ((below, omega (arith, few)), tt, tt);
 }

@@ -26,7 +26,7 @@ use Rattle.script_reader.proofs.ReadNames.{name_again, neither}
 use Rattle.script.specs.Sources.{Script}
 use Rattle.script.specs.Spelling.{script_meaning, Spells}
 use Rattle.script.proofs.Good.{Good, AllGood, texts_are_good}
-use Rattle.thread.proofs.Keeping.{Rule, NameOf, OperandOf, TermOf, TermsOf, ExprOf, ListOf, EventOf, MembersOf, StmtOf, BlockOf}
+use Rattle.thread.proofs.Keeping.{Rule, NameOf, OperandOf, TermOf, TermsOf, ExprOf, ListOf, EventOf, MembersOf, StmtOf, BlockOf, into_name, from_name}
 use Rattle.journal_text.specs.Names.{Declared, names_of}
 use Rattle.journal_lines.proofs.Rules.{in_text}
 
@@ -225,10 +225,10 @@ module _ (d : Declared) (t : ℕ) (below : t < length d.threads) where
         let p = part (name_meaning ns channel) _ x e in
         let q = part (list_meaning ns list) _ x p.then in
         let one = list_text list ns q.first rest f q.is g.1.1 in
-        subst (Told (EventOf rule) rest) (some_is _ _ q.then) ((name_text ns channel p.first f p.is, one.0), f, one.1)
+        subst (Told (EventOf rule) rest) (some_is _ _ q.then) ((into_name rule p.first (name_text ns channel p.first f p.is), one.0), f, one.1)
     event_text (written.Recv channel) ns x rest f e g =
         let p = part (name_meaning ns channel) _ x e in
-        subst (Told (EventOf rule) rest) (some_is _ _ p.then) (name_text ns channel p.first f p.is, f, g.1.1)
+        subst (Told (EventOf rule) rest) (some_is _ _ p.then) (from_name rule p.first (name_text ns channel p.first f p.is), f, g.1.1)
     event_text (written.Always list) ns x rest f e g =
         let q = part (list_meaning ns list) _ x e in
         let one = list_text list ns q.first rest f q.is g.1 in

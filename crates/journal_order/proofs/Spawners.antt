@@ -7,7 +7,7 @@ use Rattle.script_tree.specs.Processes.{Proc}
 use Rattle.script_tree.specs.Spawning.{AreSpawnedOnce, spawner, spawner_from, spawns_block, spawns_event, spawns_members, spawns_stmt}
 use Rattle.script_tree.specs.Trees.{Event, Sends, Receives, IsReady, IsNever, IsCancelled, IsJoined, Chooses, Wraps, Guards, Nacks, Events, NoMembers, Members, Stmt, Lets, Prints, Syncs, Branches, Loops, LoopsForever, Ends, Spawns, Block, Stops, Runs}
 use Rattle.thread.specs.After.{Chosen, State, Outcome, Goes, Offers, Finishes, Fails, Strays}
-use Rattle.thread.proofs.Keeping.{Rule, AnyValues, EachOf, MessageOf, ResultsOf, Keeps, EventOf, MembersOf, StmtOf, BlockOf, any_name, any_expr, any_list, after_keeps}
+use Rattle.thread.proofs.Keeping.{Rule, AnyValues, EachOf, MessageOf, ResultsOf, Keeps, EventOf, MembersOf, StmtOf, BlockOf, any_name, any_expr, any_list, after_keeps, into_name, from_name}
 use Rattle.protocol_values.specs.declared.Message.{Message}
 use Rattle.protocol_values.specs.declared.Message.TheVariants.{Empty, One, Two, Three}
 use Rattle.journal_replay.specs.Starting.{HasSpawned, spawned_in}
@@ -26,10 +26,14 @@ spawning Q t = record {
   Named = λ c. ⊤;
   Spawned = Q;
   Joined = λ p. ⊤;
+  Into = λ c. ⊤;
+  From = λ c. ⊤;
   literal = λ n h. tt;
   total = λ n h. tt;
   less = λ m n h. tt;
   channel = λ c h. tt;
+  into = λ c h. h;
+  from = λ c h. h;
   nack = λ k few h. (tt, tt, tt);
 }
 
@@ -68,8 +72,8 @@ module _ (Q : ℕ → Type 0) (t : ℕ) where
     stmt_of (Spawns process) h = h process (eq-eqb process process refl)
 
     event_of : (e : Event) → ((q : ℕ) → spawns_event q e ≡ true → Q q) → EventOf rule e
-    event_of (Sends channel list) h = (any_name rule any channel, any_list rule any list)
-    event_of (Receives channel) h = any_name rule any channel
+    event_of (Sends channel list) h = (into_name rule channel (any_name rule any channel), any_list rule any list)
+    event_of (Receives channel) h = from_name rule channel (any_name rule any channel)
     event_of (IsReady list) h = any_list rule any list
     event_of IsNever h = tt
     event_of (IsCancelled nack) h = any_name rule any nack

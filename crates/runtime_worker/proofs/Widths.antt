@@ -12,7 +12,7 @@ use Rattle.protocol_values.specs.declared.Message.TheVariants.{Empty, One, Two, 
 use Rattle.protocol_values.specs.declared.Offer.{Offer}
 use Rattle.thread.specs.After.{Chosen, Outcome, State}
 use Rattle.thread.specs.Machines.{IsAfter, IsAfterAt, Open, OpensWith, Thread}
-use Rattle.thread.proofs.Keeping.{AnyValues, BlockOf, EventOf, Keeps, MembersOf, MessageOf, ResultsOf, Rule, StmtOf, after_keeps, any_expr, any_list, any_name}
+use Rattle.thread.proofs.Keeping.{AnyValues, BlockOf, EventOf, Keeps, MembersOf, MessageOf, ResultsOf, Rule, StmtOf, after_keeps, any_expr, any_list, any_name, from_name, into_name}
 use Rattle.runtime_worker.specs.declared.resident.Suspended.{Suspended}
 use Rattle.runtime_worker.specs.Machines.{AreFirst, StandsFor}
 use Rattle.runtime_worker.specs.Widths.{AllOfferAtMost, BodiesOfferAtMost, MembersOfferAtMost, OffersAtMost, StmtOffersAtMost}
@@ -41,10 +41,14 @@ module _ (k : ℕ) (t : ℕ) where
     Named = λ c. ⊤;
     Spawned = λ p. ⊤;
     Joined = λ p. ⊤;
+    Into = λ c. ⊤;
+    From = λ c. ⊤;
     literal = λ n h. tt;
     total = λ n h. tt;
     less = λ m n h. tt;
     channel = λ c h. tt;
+    into = λ c h. h;
+    from = λ c h. h;
     nack = λ n few h. (tt, tt, tt);
   }
 
@@ -53,8 +57,8 @@ module _ (k : ℕ) (t : ℕ) where
 
   mutual
     event_is : (event : Event) → BodiesOfferAtMost k event → EventOf narrow event
-    event_is (Sends channel list) h = (any_name narrow any_values channel, any_list narrow any_values list)
-    event_is (Receives channel) h = any_name narrow any_values channel
+    event_is (Sends channel list) h = (into_name narrow channel (any_name narrow any_values channel), any_list narrow any_values list)
+    event_is (Receives channel) h = from_name narrow channel (any_name narrow any_values channel)
     event_is (IsReady list) h = any_list narrow any_values list
     event_is IsNever h = tt
     event_is (IsCancelled nack) h = any_name narrow any_values nack

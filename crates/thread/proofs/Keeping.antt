@@ -27,7 +27,8 @@ use Rattle.thread.specs.After.{Said, State, Chosen, Outcome, Goes, Offers, Finis
 
 -- What is kept of one thread: of each atom (Good) and of the number of nacks that it took (Taken); of the nack of a scope
 -- (Scoped) and of how many base events a sync has (Small); if the process's text has such numbers (Literal) and channels
--- (Named), and of the processes that it spawns (Spawned) and joins (Joined).
+-- (Named), and of the processes that it spawns (Spawned) and joins (Joined). It sends on channels of one kind (Into) and receives
+-- on those of one (From): among them is each that it has as an atom, and each that its text names there.
 pub record Rule : Type 1 where
   pub thread : ℕ
   pub Good : Atom → Type 0
@@ -38,10 +39,14 @@ pub record Rule : Type 1 where
   pub Named : ℕ → Type 0
   pub Spawned : ℕ → Type 0
   pub Joined : ℕ → Type 0
+  pub Into : ℕ → Type 0
+  pub From : ℕ → Type 0
   pub literal : (n : ℕ) → Literal n → Good (Num n)
   pub total : (n : ℕ) → n < 4294967296 → Good (Num n)
   pub less : (m n : ℕ) → Good (Num m) → Good (Num (m - n))
   pub channel : (c : ℕ) → Named c → Good (Chan c)
+  pub into : (c : ℕ) → Good (Chan c) → Into c
+  pub from : (c : ℕ) → Good (Chan c) → From c
   pub nack : (k : ℕ) → k < 64 → Taken k → Good (Nack (record { thread = thread; k = k })) × Taken (k + 1) × Scoped k
 
 -- PARTS
@@ -56,13 +61,17 @@ MessageOf P (One a) = P a
 MessageOf P (Two a b) = P a × P b
 MessageOf P (Three a b c) = P a × (P b × P c)
 
+-- with channels of some kind to send on, and of some kind to receive on
+abbrev pub BaseOn : (ℕ → Type 0) → (ℕ → Type 0) → (Atom → Type 0) → (ℕ → Type 0) → Base → Type 0
+BaseOn I F P J (Send channel message) = I channel × MessageOf P message
+BaseOn I F P J (Recv channel) = F channel
+BaseOn I F P J (Always message) = MessageOf P message
+BaseOn I F P J (OnNack n) = P (Nack n)
+BaseOn I F P J (OnEnd thread) = J thread
+BaseOn I F P J Never = ⊤
+
 abbrev pub BaseOf : (Atom → Type 0) → (ℕ → Type 0) → Base → Type 0
-BaseOf P J (Send channel message) = P (Chan channel) × MessageOf P message
-BaseOf P J (Recv channel) = P (Chan channel)
-BaseOf P J (Always message) = MessageOf P message
-BaseOf P J (OnNack n) = P (Nack n)
-BaseOf P J (OnEnd thread) = J thread
-BaseOf P J Never = ⊤
+BaseOf P J base = BaseOn (λ c. P (Chan c)) (λ c. P (Chan c)) P J base
 
 abbrev pub ResultsOf : (Atom → Type 0) → List Chosen → Type 0
 ResultsOf P [] = ⊤
@@ -72,12 +81,15 @@ abbrev pub PlaceOf : (Atom → Type 0) → Option Atom → Type 0
 PlaceOf P None = ⊤
 PlaceOf P (Some a) = P a
 
+abbrev pub TreeOn : (Base → Type 0) → (ℕ → Type 0) → Tree → Type 0
+TreeOn B S (Single base) = B base
+TreeOn B S Nothing = ⊤
+TreeOn B S (Or first second) = TreeOn B S first × TreeOn B S second
+TreeOn B S (Wrap wrap event) = TreeOn B S event
+TreeOn B S (Scope nack event) = S nack × TreeOn B S event
+
 abbrev pub TreeOf : (Atom → Type 0) → (ℕ → Type 0) → (ℕ → Type 0) → Tree → Type 0
-TreeOf P J S (Single base) = BaseOf P J base
-TreeOf P J S Nothing = ⊤
-TreeOf P J S (Or first second) = TreeOf P J S first × TreeOf P J S second
-TreeOf P J S (Wrap wrap event) = TreeOf P J S event
-TreeOf P J S (Scope nack event) = S nack × TreeOf P J S event
+TreeOf P J S tree = TreeOn (BaseOf P J) S tree
 
 abbrev IfFine : {A : Type 0} → Result A Fault → (A → Type 0) → Type 0
 IfFine (Ok a) P = P a
@@ -112,6 +124,23 @@ module _ (r : Rule) where
   NameOf (Variable v) = ⊤
   NameOf (Channel c) = r.Named c
 
+  -- the name of a channel to send on, and of one to receive on
+  abbrev pub IntoOf : Name → Type 0
+  IntoOf (Variable v) = ⊤
+  IntoOf (Channel c) = r.Into c
+
+  abbrev pub FromOf : Name → Type 0
+  FromOf (Variable v) = ⊤
+  FromOf (Channel c) = r.From c
+
+  pub into_name : (name : Name) → NameOf name → IntoOf name
+  into_name (Variable v) h = tt
+  into_name (Channel c) h = r.into c (r.channel c h)
+
+  pub from_name : (name : Name) → NameOf name → FromOf name
+  from_name (Variable v) h = tt
+  from_name (Channel c) h = r.from c (r.channel c h)
+
   abbrev pub OperandOf : Operand → Type 0
   OperandOf (Number n) = r.Literal n
   OperandOf (Named name) = NameOf name
@@ -134,8 +163,8 @@ module _ (r : Rule) where
 
   abbrev mutual
     pub EventOf : Event → Type 0
-    EventOf (Sends channel list) = NameOf channel × ListOf list
-    EventOf (Receives channel) = NameOf channel
+    EventOf (Sends channel list) = IntoOf channel × ListOf list
+    EventOf (Receives channel) = FromOf channel
     EventOf (IsReady list) = ListOf list
     EventOf IsNever = ⊤
     EventOf (IsCancelled nack) = NameOf nack
@@ -201,8 +230,8 @@ module _ (r : Rule) where
 
   mutual
     pub any_event : AnyText → (event : Event) → EventOf event
-    any_event h (Sends channel list) = (any_name h.values channel, any_list h.values list)
-    any_event h (Receives channel) = any_name h.values channel
+    any_event h (Sends channel list) = (into_name channel (any_name h.values channel), any_list h.values list)
+    any_event h (Receives channel) = from_name channel (any_name h.values channel)
     any_event h (IsReady list) = any_list h.values list
     any_event h IsNever = tt
     any_event h (IsCancelled nack) = any_name h.values nack
@@ -326,24 +355,41 @@ module _ (r : Rule) where
   nack_fine (Chan c) h = tt
   nack_fine (Nack n) h = h
 
-  channel_value_fine : (store : Store) (name : Name) → StoreIs store → NameOf name → IfFine (channel_value store name) (λ c. r.Good (Chan c))
-  channel_value_fine store name h w = then_fine (name_value store name) channel_in r.Good (λ c. r.Good (Chan c)) (name_fine store name h w) (λ a k. channel_fine a k)
+  variable_fine : (store : Store) (v : ℕ) → StoreIs store → IfFine (channel_value store (Variable v)) (λ c. r.Good (Chan c))
+  variable_fine store v h =
+      then_fine (name_value store (Variable v)) channel_in r.Good (λ c. r.Good (Chan c)) (name_fine store (Variable v) h tt) (λ a k. channel_fine a k)
 
-  send_fine : (store : Store) (channel : Name) (es : List Expr) → StoreIs store → NameOf channel → ListOf es → IfFine (send_value store channel es) (BaseOf r.Good r.Joined)
+  fine_so : {A : Type 0} (x : Result A Fault) (P Q : A → Type 0) → ((a : A) → P a → Q a) → IfFine x P → IfFine x Q
+  fine_so (Ok a) P Q so h = so a h
+  fine_so (Err fault) P Q so h = tt
+
+  into_fine : (store : Store) (name : Name) → StoreIs store → IntoOf name → IfFine (channel_value store name) r.Into
+  into_fine store (Variable v) h w = fine_so (channel_value store (Variable v)) (λ c. r.Good (Chan c)) r.Into r.into (variable_fine store v h)
+  into_fine store (Channel c) h w = w
+
+  from_fine : (store : Store) (name : Name) → StoreIs store → FromOf name → IfFine (channel_value store name) r.From
+  from_fine store (Variable v) h w = fine_so (channel_value store (Variable v)) (λ c. r.Good (Chan c)) r.From r.from (variable_fine store v h)
+  from_fine store (Channel c) h w = w
+
+  -- what it offers
+  abbrev pub BaseIs : Base → Type 0
+  BaseIs base = BaseOn r.Into r.From r.Good r.Joined base
+
+  send_fine : (store : Store) (channel : Name) (es : List Expr) → StoreIs store → IntoOf channel → ListOf es → IfFine (send_value store channel es) BaseIs
   send_fine store channel es h w v =
-      then_fine (channel_value store channel) _ (λ c. r.Good (Chan c)) (BaseOf r.Good r.Joined) (channel_value_fine store channel h w) (λ c k.
-      then_fine (list_value store es) _ (MessageOf r.Good) (BaseOf r.Good r.Joined) (list_fine store h es v) (λ m l. (k, l)))
+      then_fine (channel_value store channel) _ r.Into BaseIs (into_fine store channel h w) (λ c k.
+      then_fine (list_value store es) _ (MessageOf r.Good) BaseIs (list_fine store h es v) (λ m l. (k, l)))
 
-  recv_fine : (store : Store) (channel : Name) → StoreIs store → NameOf channel → IfFine (recv_value store channel) (BaseOf r.Good r.Joined)
+  recv_fine : (store : Store) (channel : Name) → StoreIs store → FromOf channel → IfFine (recv_value store channel) BaseIs
   recv_fine store channel h w =
-      then_fine (channel_value store channel) _ (λ c. r.Good (Chan c)) (BaseOf r.Good r.Joined) (channel_value_fine store channel h w) (λ c k. k)
+      then_fine (channel_value store channel) _ r.From BaseIs (from_fine store channel h w) (λ c k. k)
 
-  always_fine : (store : Store) (es : List Expr) → StoreIs store → ListOf es → IfFine (always_value store es) (BaseOf r.Good r.Joined)
-  always_fine store es h w = then_fine (list_value store es) _ (MessageOf r.Good) (BaseOf r.Good r.Joined) (list_fine store h es w) (λ m l. l)
+  always_fine : (store : Store) (es : List Expr) → StoreIs store → ListOf es → IfFine (always_value store es) BaseIs
+  always_fine store es h w = then_fine (list_value store es) _ (MessageOf r.Good) BaseIs (list_fine store h es w) (λ m l. l)
 
-  cancelled_fine : (store : Store) (name : Name) → StoreIs store → NameOf name → IfFine (cancelled_value store name) (BaseOf r.Good r.Joined)
+  cancelled_fine : (store : Store) (name : Name) → StoreIs store → NameOf name → IfFine (cancelled_value store name) BaseIs
   cancelled_fine store name h w =
-      then_fine (nack_value store name) _ (λ n. r.Good (Nack n)) (BaseOf r.Good r.Joined)
+      then_fine (nack_value store name) _ (λ n. r.Good (Nack n)) BaseIs
       (then_fine (name_value store name) nack_in r.Good (λ n. r.Good (Nack n)) (name_fine store name h w) (λ a k. nack_fine a k))
       (λ n l. l)
 
@@ -380,7 +426,7 @@ module _ (r : Rule) where
 
   -- it was formed of an event with so many base events
   pub record FormedIs (n : ℕ) (f : Formed) : Type 0 where
-    pub tree : TreeOf r.Good r.Joined r.Scoped f.tree
+    pub tree : TreeOn BaseIs r.Scoped f.tree
     pub count : base_count f.tree ≡ n
     pub wraps : WrapsAre f.wraps
     pub state : StateIs f.state
@@ -391,7 +437,7 @@ module _ (r : Rule) where
 
   -- an event that is offered, with what was told before
   pub record OfferedIs (tree : Tree) (told : Said) : Type 0 where
-    pub parts : TreeOf r.Good r.Joined r.Scoped tree
+    pub parts : TreeOn BaseIs r.Scoped tree
     pub small : r.Small (base_count tree)
     pub said : SaidIs told
 
@@ -498,9 +544,9 @@ module _ (r : Rule) where
         taken.2,
       ))
 
-  base_keeps : (wraps : List Wrapping) (s : State) (x : Result Base Fault) → WrapsAre wraps → IfFine x (BaseOf r.Good r.Joined) → StateIs s → Keeps (given s x >>= formed wraps s) (FormedIs 1)
+  base_keeps : (wraps : List Wrapping) (s : State) (x : Result Base Fault) → WrapsAre wraps → IfFine x BaseIs → StateIs s → Keeps (given s x >>= formed wraps s) (FormedIs 1)
   base_keeps wraps s x v k h =
-      bind_keeps (given s x) (formed wraps s) (BaseOf r.Good r.Joined) (FormedIs 1) (given_keeps s x (BaseOf r.Good r.Joined) h k) (λ base l. record { tree = l; count = refl; wraps = v; state = h })
+      bind_keeps (given s x) (formed wraps s) BaseIs (FormedIs 1) (given_keeps s x BaseIs h k) (λ base l. record { tree = l; count = refl; wraps = v; state = h })
 
   mutual
     pub block_keeps : (b : Block) (s : State) → BlockOf b → StateIs s → Keeps (run_block b s) StateIs

@@ -60,10 +60,14 @@ module _ (k : ℕ) where
     Named = λ c. ⊤;
     Spawned = λ p. ⊤;
     Joined = λ p. ⊤;
+    Into = λ c. ⊤;
+    From = λ c. ⊤;
     literal = λ n h. tt;
     total = λ n h. tt;
     less = λ m n h. tt;
     channel = λ c h. tt;
+    into = λ c h. h;
+    from = λ c h. h;
     nack = λ n few h. (tt, omega (arith, h), λ e. omega (arith, e, h));
   }
 

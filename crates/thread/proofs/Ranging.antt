@@ -12,7 +12,7 @@ use Rattle.protocol_values.specs.declared.Message.TheVariants.{Empty, One, Two, 
 use Rattle.thread.specs.After.{Chosen, Outcome, State}
 use Rattle.thread.specs.Machines.{Thread, Phase, Ready, Open, Over, Stuck, Broken, IsAfter, IsAfterAt, offers_in}
 use Rattle.thread.specs.Ranges.{AtomIsIn, MessageIsIn, BaseIsIn, OffersAreIn, ResultsAreIn}
-use Rattle.thread.proofs.Keeping.{Rule, BaseOf, MessageOf, ResultsOf, TreeOf, Keeps, after_keeps, AnyValues, any_expr, any_list, any_name, EventOf, MembersOf, StmtOf, BlockOf}
+use Rattle.thread.proofs.Keeping.{Rule, BaseOf, MessageOf, ResultsOf, TreeOf, Keeps, after_keeps, AnyValues, any_expr, any_list, any_name, into_name, from_name, EventOf, MembersOf, StmtOf, BlockOf}
 
 -- nacks and threads in range, if the text joins processes in range
 abbrev in_range : (t : ℕ) → t < 64 → Rule
@@ -26,10 +26,14 @@ in_range t below = record {
   Named = λ c. ⊤;
   Spawned = λ p. ⊤;
   Joined = λ p. p < 64;
+  Into = λ c. ⊤;
+  From = λ c. ⊤;
   literal = λ n h. tt;
   total = λ n h. tt;
   less = λ m n h. tt;
   channel = λ c h. tt;
+  into = λ c h. h;
+  from = λ c h. h;
   nack = λ k few h. (record { thread = below; k = few }, tt, tt);
 }
 
@@ -68,8 +72,8 @@ module _ (t : ℕ) (below : t < 64) (k : Known) (few : k.processes ≤ 64) where
 
   mutual
     event_joins : (event : Event) → EventIsIn k event → EventOf rule event
-    event_joins (Sends channel list) h = (any_name rule any_values channel, any_list rule any_values list)
-    event_joins (Receives channel) h = any_name rule any_values channel
+    event_joins (Sends channel list) h = (into_name rule channel (any_name rule any_values channel), any_list rule any_values list)
+    event_joins (Receives channel) h = from_name rule channel (any_name rule any_values channel)
     event_joins (IsReady list) h = any_list rule any_values list
     event_joins IsNever h = tt
     event_joins (IsCancelled nack) h = any_name rule any_values nack
