@@ -68,29 +68,29 @@ impl<R: Wait, G: Gate + StepGate> Crew<'_, R, G> {
         ensures { IsWorkerOf self.now worker.new }
     {
         self.begin_all(worker)?;
-        let mut kept = None;
+        let mut kept = Committed::Nothing;
         // Who has often found nothing looks seldom, also after a row was found.
         let mut snoozes = 1;
         for _ in self.rt.forever() {
-            let Some(row) = self.next_row(&mut worker.end, kept, &mut snoozes) else {
+            let Some(row) = self.next_row(&mut worker.end, &mut kept, &mut snoozes) else {
                 return Ok(());
             };
             let committed = self.advance(worker, row)?;
-            kept = self.keep_one(&mut worker.end, committed)?;
+            self.keep(&mut worker.end, &mut kept, committed)?;
         }
         unreachable!()
     }
 
-    /// The row of the next turn: the one that was kept, or else one that is ready. There is none where all workers
+    /// The row of the next turn: the first that was kept, or else one that is ready. There is none where all workers
     /// are to stop.
-    fn next_row(&self, end: &mut ReadyEnd, kept: Option<Row>, snoozes: &mut u32) -> Option<Row>
+    fn next_row(&self, end: &mut ReadyEnd, kept: &mut Committed, snoozes: &mut u32) -> Option<Row>
         requires { IsEndOf self.now.shared.now.ready end.old }
         ensures { IsEndOf self.now.shared.now.ready end.new }
     {
         if self.shared.activity.is_stopped() {
             return None;
         }
-        if let Some(row) = kept {
+        if let Some(row) = kept.first() {
             return Some(row);
         }
         if let Some(row) = self.shared.ready.get(self.rt, end) {
@@ -119,23 +119,26 @@ impl<R: Wait, G: Gate + StepGate> Crew<'_, R, G> {
         unreachable!()
     }
 
-    /// Of the rows that a turn committed one is kept for the next turn, where no row waits in the worker's own
-    /// deque: so none is overtaken, and the order is that of a queue. The others are put into the ready queues.
-    fn keep_one(&self, end: &mut ReadyEnd, committed: Committed) -> Result<Option<Row>, Halt>
+    /// The rows that a turn committed are kept for the next turns, where the worker has no other row, neither kept nor
+    /// in its own deque: so none is overtaken, and the order is that of a queue. Where it has one, they are put into the
+    /// ready queues, from which others may take them. A worker that has nothing but a pair so keeps the pair: of two
+    /// that go on in turn, as in a ring, another worker gains nothing, and all that they touch would have to come over.
+    fn keep(
+        &self,
+        end: &mut ReadyEnd,
+        kept: &mut Committed,
+        committed: Committed,
+    ) -> Result<(), Halt>
         requires { IsEndOf self.now.shared.now.ready end.old }
         ensures { IsEndOf self.now.shared.now.ready end.new }
     {
+        if kept.is_some() {
+            return self.put_committed(end, committed);
+        }
         if !end.is_clear() {
-            self.put_committed(end, committed)?;
-            return Ok(None);
+            return self.put_committed(end, committed);
         }
-        match committed {
-            Committed::Nothing => Ok(None),
-            Committed::Alone(row) => Ok(Some(row)),
-            Committed::Pair(row, partner) => {
-                self.put_ready(end, partner)?;
-                Ok(Some(row))
-            }
-        }
+        *kept = committed;
+        Ok(())
     }
 }
