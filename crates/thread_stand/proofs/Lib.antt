@@ -1,0 +1,4 @@
+pub mod Valuing
+pub mod Forgetting
+pub mod Passing
+pub mod Seeing

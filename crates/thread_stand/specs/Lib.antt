@@ -1,0 +1,6 @@
+pub mod Troubles
+pub mod Standing
+pub mod Forgetting
+pub mod Stands
+pub mod Walks
+pub mod Ends
