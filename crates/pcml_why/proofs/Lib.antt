@@ -1,3 +1,4 @@
 pub mod Knotting
 pub mod Places
 pub mod Telling
+pub mod Sites

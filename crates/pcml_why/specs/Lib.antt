@@ -1,4 +1,6 @@
+pub mod Edges
 pub mod Knots
 pub mod Lines
 pub mod Offering
+pub mod Variables
 pub mod Whys

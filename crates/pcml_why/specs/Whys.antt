@@ -1,9 +1,13 @@
 -- Where each process stands, and with whom it could go on: what is told of a run.
-use Rattle.std.specs.Prelude.{◌≡◌, ◌==◌, ℕ, zero, suc, Bool, true, false, if◌then◌else◌, List, [], ◌∷◌, ◌++◌, length, codes, Option, Some, None, slice_get}
+use Rattle.std.specs.Prelude.{◌≡◌, ◌==◌, ℕ, zero, suc, Bool, true, false, if◌then◌else◌, List, [], ◌∷◌, ◌++◌, length, codes, Option, Some, None, slice_get, ⊤}
 use Rattle.std.specs.Fmt.{decimal}
 use Rattle.std.specs.List.{flat_map}
-use Rattle.thread.specs.declared.Fault.{Fault}
-use Rattle.thread.specs.declared.Fault.TheVariants.{Unset, Kind, Range, Shape}
+use Rattle.thread.specs.After.{State as Thread}
+use Rattle.thread_stand.specs.Standing.{Standing}
+use Rattle.thread_stand.specs.Stands.{IsTold, standing_of}
+use Rattle.thread_stand.specs.declared.stand.Stand.{Stand}
+use Rattle.script_tree.specs.Processes.{Proc}
+use Rattle.outcomes.specs.Serving.{nobody_serves}
 use Rattle.protocol_values.specs.declared.Atom.{Atom}
 use Rattle.protocol_values.specs.declared.Base.{Base}
 use Rattle.protocol_values.specs.declared.Base.TheVariants.{Send, Recv, Always, OnNack, OnEnd, Never}
@@ -14,25 +18,39 @@ use Rattle.script.specs.Sources.{Script}
 use Rattle.journal_text.specs.Names.{Naming, named}
 use Rattle.journal_text.specs.Texts.{message_text, nack_text}
 use Rattle.journal_replay.specs.Replays.{TellsEnabled, TellsEnd, TellsEnded, TellsFired, TellsOpen, TellsOutput, ended_by, fired_by, thread_count}
+use Rattle.journal_replay.specs.Runs.{config_of}
 use Rattle.journal_replay.specs.declared.end.End.{End}
 use Rattle.journal_replay.specs.declared.end.End.TheVariants.{Ended, Waiting, Spent, Faulted, Unstarted}
 use Rattle.journal_replay.specs.declared.state.State.{State}
 use Rattle.script_token.specs.Lexemes.{placed_tokens}
+use Rattle.script_token.specs.Tokens.{Token}
+use Rattle.pcml_why.specs.Edges.{edges_text}
 use Rattle.pcml_why.specs.Knots.{IsKnot, parts_below, waits_for}
 use Rattle.pcml_why.specs.Lines.{line_of, statement_lines}
 use Rattle.pcml_why.specs.Offering.{is_open, is_waiting, others}
+use Rattle.pcml_why.specs.Variables.{known_text, wrong_text}
 use Rattle.pcml_why.specs.declared.site.Site.{Site}
+use Rattle.protocol_values.specs.declared.Side.{Side}
 use Rattle.protocol_values.specs.declared.Side.TheVariants.{Sends, Receives}
 
--- STAMPS
+-- WHAT IS KNOWN OF A RUN
 
--- the stamps of the nacks that are fired, and of the processes that ended
-pub record Stamps : Type 0 where
+-- the stamps of the nacks that are fired, and of the processes that ended; and the script's processes
+pub record Facts : Type 0 where
   pub fired : NackName → Option ℕ
   pub ended : ℕ → Option ℕ
+  pub processes : List Proc
 
-abbrev pub stamps_of : State → Stamps
-stamps_of s = record { fired = fired_by s; ended = ended_by s }
+abbrev pub facts_of : List Proc → State → Facts
+facts_of ps s = record { fired = fired_by s; ended = ended_by s; processes = ps }
+
+abbrev pub variables_in : Option Proc → List (List ℕ)
+variables_in None = []
+variables_in (Some p) = p.variables
+
+-- the names of the variables of a process
+abbrev pub variables_of : Facts → ℕ → List (List ℕ)
+variables_of facts t = variables_in (slice_get facts.processes t)
 
 -- THE TEXT OF AN OFFER
 
@@ -64,10 +82,24 @@ lone_text names same = if length same == 0 then nobody_words else same_words ++ 
 abbrev pub also_text : Naming → List ℕ → List ℕ
 also_text names same = if length same == 0 then [] else also_words ++ listed names same
 
--- who could meet the offer, and who makes the same
-abbrev pub partners_text : Naming → List ℕ → List ℕ → List ℕ
-partners_text names partners same =
-    if length partners == 0 then lone_text names same else codes "may meet" ++ listed names partners ++ also_text names same
+unfoldable pub receives_words : List ℕ
+receives_words = codes ", and no process receives on "
+
+unfoldable pub sends_words : List ℕ
+sends_words = codes ", and no process sends on "
+
+-- that by no text anybody ever offers on this side of a channel
+abbrev pub never_text : Naming → Side → ℕ → List ℕ
+never_text names Sends c = sends_words ++ names.channel c
+never_text names Receives c = receives_words ++ names.channel c
+
+abbrev pub never_if : Naming → Facts → Side → ℕ → List ℕ
+never_if names facts side c = if nobody_serves facts.processes side c then never_text names side c else []
+
+-- who could meet the offer on the other side, and who makes the same; where nobody could, also whether nobody ever can
+abbrev pub partners_text : Naming → Facts → Side → ℕ → List ℕ → List ℕ → List ℕ
+partners_text names facts side c partners same =
+    if length partners == 0 then lone_text names same ++ never_if names facts side c else codes "may meet" ++ listed names partners ++ also_text names same
 
 unfoldable pub sync_words : List ℕ
 sync_words = codes "the sync of "
@@ -99,24 +131,18 @@ end_state_text names sites u (Some stamp) = codes "ended at " ++ decimal stamp
 end_state_text names sites u None = names.thread u ++ unended_at (slice_get sites u)
 
 -- what would let the offer be taken
-abbrev pub chance_text : Naming → Stamps → List Site → ℕ → Base → List ℕ
-chance_text names stamps sites t (Send c m) = partners_text names (others sites Receives c t) (others sites Sends c t)
-chance_text names stamps sites t (Recv c) = partners_text names (others sites Sends c t) (others sites Receives c t)
-chance_text names stamps sites t (Always m) = codes "may be taken"
-chance_text names stamps sites t (OnNack n) = nack_state_text names sites n (stamps.fired n)
-chance_text names stamps sites t (OnEnd u) = end_state_text names sites u (stamps.ended u)
-chance_text names stamps sites t Never = codes "is never taken"
+abbrev pub chance_text : Naming → Facts → List Site → ℕ → Base → List ℕ
+chance_text names facts sites t (Send c m) = partners_text names facts Receives c (others sites Receives c t) (others sites Sends c t)
+chance_text names facts sites t (Recv c) = partners_text names facts Sends c (others sites Sends c t) (others sites Receives c t)
+chance_text names facts sites t (Always m) = codes "may be taken"
+chance_text names facts sites t (OnNack n) = nack_state_text names sites n (facts.fired n)
+chance_text names facts sites t (OnEnd u) = end_state_text names sites u (facts.ended u)
+chance_text names facts sites t Never = codes "is never taken"
 
-abbrev pub offer_line : Naming → Stamps → List Site → ℕ → Offer → List ℕ
-offer_line names stamps sites t o = codes "  " ++ offer_text names o.base ++ codes ": " ++ chance_text names stamps sites t o.base ++ 10 ∷ []
+abbrev pub offer_line : Naming → Facts → List Site → ℕ → Offer → List ℕ
+offer_line names facts sites t o = codes "  " ++ offer_text names o.base ++ codes ": " ++ chance_text names facts sites t o.base ++ 10 ∷ []
 
 -- THE TEXT OF A PROCESS
-
-abbrev pub fault_text : Fault → List ℕ
-fault_text Unset = codes "a name is read that is not set"
-fault_text Kind = codes "a value is not of the kind that is wanted"
-fault_text Range = codes "a number or a nack is out of range"
-fault_text Shape = codes "a message has more or fewer values than there are names"
 
 unfoldable pub spent_text : ℕ → List ℕ
 spent_text line = codes " is spent at line " ++ decimal line
@@ -128,71 +154,92 @@ unfoldable pub syncs_text : ℕ → List ℕ
 syncs_text rows = codes ": it made " ++ decimal rows ++ syncs_word rows
 
 -- how a process stands, at a line, of so many syncs at most
-abbrev pub stand_text : ℕ → ℕ → End → List ℕ
-stand_text rows line Ended = codes " ended\n"
-stand_text rows line Waiting = codes " waits at line " ++ decimal line ++ 10 ∷ []
-stand_text rows line Spent = spent_text line ++ syncs_text rows
-stand_text rows line Unstarted = codes " has not started\n"
-stand_text rows line (Faulted fault) = codes " faulted at line " ++ decimal line ++ codes ": " ++ fault_text fault ++ 10 ∷ []
+abbrev pub stand_text : Naming → List (List ℕ) → ℕ → ℕ → End → Stand → List ℕ
+stand_text names variables rows line Ended stand = codes " ended\n"
+stand_text names variables rows line Waiting stand = codes " waits at line " ++ decimal line ++ 10 ∷ []
+stand_text names variables rows line Spent stand = spent_text line ++ syncs_text rows
+stand_text names variables rows line Unstarted stand = codes " has not started\n"
+stand_text names variables rows line (Faulted fault) stand = codes " faulted at line " ++ decimal line ++ codes ": " ++ wrong_text names variables fault stand ++ 10 ∷ []
 
 -- the offers of a process that waits, each on a line of its own
-abbrev pub offers_text : Naming → Stamps → List Site → ℕ → Site → List ℕ
-offers_text names stamps sites t s = if is_waiting s.end then flat_map (offer_line names stamps sites t) s.offers.now else []
+abbrev pub offers_text : Naming → Facts → List Site → ℕ → Site → List ℕ
+offers_text names facts sites t s = if is_waiting s.end then flat_map (offer_line names facts sites t) s.offers.now else []
 
-abbrev pub site_text : Naming → Stamps → ℕ → List Site → ℕ → Site → List ℕ
-site_text names stamps rows sites t s = names.thread t ++ stand_text rows s.line s.end ++ offers_text names stamps sites t s
+-- the variables of a process that waits
+abbrev pub known_at : Naming → List (List ℕ) → Site → List ℕ
+known_at names variables s = if is_waiting s.end then known_text names variables s.stand else []
 
-abbrev pub text_at : Naming → Stamps → ℕ → List Site → ℕ → Option Site → List ℕ
-text_at names stamps rows sites t None = []
-text_at names stamps rows sites t (Some s) = site_text names stamps rows sites t s
+-- by the names of its variables
+abbrev pub process_text : Naming → List (List ℕ) → Facts → ℕ → List Site → ℕ → Site → List ℕ
+process_text names variables facts rows sites t s =
+    names.thread t ++ stand_text names variables rows s.line s.end s.stand ++ known_at names variables s ++ offers_text names facts sites t s
+
+abbrev pub site_text : Naming → Facts → ℕ → List Site → ℕ → Site → List ℕ
+site_text names facts rows sites t s = process_text names (variables_of facts t) facts rows sites t s
+
+abbrev pub text_at : Naming → Facts → ℕ → List Site → ℕ → Option Site → List ℕ
+text_at names facts rows sites t None = []
+text_at names facts rows sites t (Some s) = site_text names facts rows sites t s
 
 -- the first so many processes
-abbrev pub sites_below : Naming → Stamps → ℕ → List Site → ℕ → List ℕ
-sites_below names stamps rows sites zero = []
-sites_below names stamps rows sites (suc t) = sites_below names stamps rows sites t ++ text_at names stamps rows sites t (slice_get sites t)
+abbrev pub sites_below : Naming → Facts → ℕ → List Site → ℕ → List ℕ
+sites_below names facts rows sites zero = []
+sites_below names facts rows sites (suc t) = sites_below names facts rows sites t ++ text_at names facts rows sites t (slice_get sites t)
 
-abbrev pub why_text : Naming → Stamps → ℕ → List Site → List ℕ
-why_text names stamps rows sites = sites_below names stamps rows sites (length sites)
+abbrev pub why_text : Naming → Facts → ℕ → List Site → List ℕ
+why_text names facts rows sites = sites_below names facts rows sites (length sites)
 
--- THE LAST LINE
+-- THE LAST LINES
 
 unfoldable pub knot_words : List ℕ
 knot_words = codes "waiting for one another:"
 
--- who wait for one another, where some do
-abbrev pub knot_text : Naming → List ℕ → List ℕ
-knot_text names knot = if length knot == 0 then [] else knot_words ++ listed names knot ++ 10 ∷ []
+-- who wait for one another, where some do, and who of them for whom, by the tokens of each process
+abbrev pub knot_text : Naming → List (List (Token × ℕ)) → List Site → List ℕ → List ℕ
+knot_text names parts sites knot =
+    if length knot == 0 then [] else knot_words ++ listed names knot ++ 10 ∷ [] ++ edges_text names parts sites knot
 
 -- told only where no commit may come next
-abbrev pub last_text : Naming → Option Commit → List ℕ → List ℕ
-last_text names (Some commit) knot = []
-last_text names None knot = knot_text names knot
+abbrev pub last_text : Naming → List (List (Token × ℕ)) → List Site → Option Commit → List ℕ → List ℕ
+last_text names parts sites (Some commit) knot = []
+last_text names parts sites None knot = knot_text names parts sites knot
 
 -- WHAT IS TOLD
 
--- a process as the state has it; where it stands is told by a state whose processes print the numbers of their statements
-pub record TellsSite (state standing : State) (lines : List ℕ) (t : ℕ) (s : Site) : Type 0 where
+-- how a process that waits or faulted stands, with its variables and with what went wrong
+abbrev pub TellsStand : End → Standing Thread → Stand → Type 0
+TellsStand Waiting standing stand = IsTold standing stand
+TellsStand (Faulted fault) standing stand = IsTold standing stand
+TellsStand end standing stand = ⊤
+
+-- A process as the state has it, where these commits led; at which statement it stands is told by a state whose processes print the
+-- numbers of their statements.
+pub record TellsSite (ps : List Proc) (commits : List Commit) (state standing : State) (lines : List ℕ) (t : ℕ) (s : Site) : Type 0 where
   pub end : TellsEnd state t s.end
   pub offers : TellsOpen state t s.offers.now s.nacks.now
+  pub stand : (p : Proc) → slice_get ps t ≡ Some p → TellsStand s.end (standing_of p t (config_of commits t)) s.stand
   pub printed : List Atom
   pub tells_printed : TellsOutput standing t printed
   pub line : s.line ≡ line_of lines printed
 
 -- one for each process of the state, in their order
-pub record AreSites (state standing : State) (lines : List ℕ) (sites : List Site) : Type 0 where
+pub record AreSites (ps : List Proc) (commits : List Commit) (state standing : State) (lines : List ℕ) (sites : List Site) : Type 0 where
   pub count : length sites ≡ thread_count state
-  pub each : (t : ℕ) (s : Site) → slice_get sites t ≡ Some s → TellsSite state standing lines t s
+  pub each : (t : ℕ) (s : Site) → slice_get sites t ≡ Some s → TellsSite ps commits state standing lines t s
 
--- The text tells of each process of the state, in the names of the script, whose source is given; and where no commit
--- may come next, who wait for one another.
-pub record IsWhy (script : Script) (state standing : State) (source : List ℕ) (rows : ℕ) (text : List ℕ) : Type 0 where
+-- The text tells of each process of the state, in the names of the script, whose source is given, after these commits; and where no
+-- commit may come next, who wait for one another, and who of them for whom.
+pub record IsWhy (script : Script) (state standing : State) (commits : List Commit) (source : List ℕ) (rows : ℕ) (text : List ℕ) : Type 0 where
   pub sites : List Site
-  pub are : AreSites state standing (statement_lines source) sites
-  pub stamps : Stamps
-  pub tells_fired : (n : NackName) → TellsFired state n (stamps.fired n)
-  pub tells_ended : (t : ℕ) → TellsEnded state t (stamps.ended t)
+  pub are : AreSites script.processes commits state standing (statement_lines source) sites
+  pub facts : Facts
+  pub tells_fired : (n : NackName) → TellsFired state n (facts.fired n)
+  pub tells_ended : (t : ℕ) → TellsEnded state t (facts.ended t)
+  pub processes : facts.processes ≡ script.processes
   pub next : Option Commit
   pub tells_next : TellsEnabled state next
+  pub parts : List (List (Token × ℕ))
+  pub are_parts : parts ≡ parts_below (placed_tokens source) (length sites)
   pub knot : List ℕ
-  pub is_knot : IsKnot (length sites) (waits_for (named script) (parts_below (placed_tokens source) (length sites)) sites) knot
-  pub is : text ≡ why_text (named script) stamps rows sites ++ last_text (named script) next knot
+  pub is_knot : IsKnot (length sites) (waits_for (named script) parts sites) knot
+  pub is : text ≡ why_text (named script) facts rows sites ++ last_text (named script) parts sites next knot

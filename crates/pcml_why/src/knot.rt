@@ -23,7 +23,7 @@ pub(crate) struct WaitGraph<'a> {
 }
 
 /// The name of the channel; that of one that is not declared is empty.
-fn channel_name(script: &Script, chan: u8) -> &str
+pub(crate) fn channel_name(script: &Script, chan: u8) -> &str
     ensures { result.now ≡ (named (script_of script.now)).channel chan }
 {
     if usize::from(chan) < script.channels() {
@@ -36,7 +36,7 @@ fn channel_name(script: &Script, chan: u8) -> &str
 impl<'a> WaitGraph<'a> {
     /// Whether process b could meet the offer, holds its nack in a sync that is open, or is the one whose end it
     /// waits for.
-    fn could_serve(&self, b: usize, base: Base) -> bool
+    pub(crate) fn could_serve(&self, b: usize, base: Base) -> bool
         requires { b < length self.now.parts.now }
         ensures { result ≡ could_serve (named (script_of self.now.script.now)) (map (λ p. seen p.now) self.now.parts.now) self.now.sites.now b base }
     {
@@ -69,7 +69,7 @@ impl<'a> WaitGraph<'a> {
         false
     }
 
-    fn waits_for(&self, a: usize, b: usize) -> bool
+    pub(crate) fn waits_for(&self, a: usize, b: usize) -> bool
         requires first { a < length self.now.sites.now }
         requires second { b < length self.now.sites.now }
         requires parts { length self.now.parts.now ≡ length self.now.sites.now }

@@ -6,10 +6,13 @@
 //! `specs/Knots.antt`).
 #![tactic(auto)]
 
+mod edges;
 mod knot;
 mod lines;
 mod parts;
+mod results;
 mod site;
 mod text;
+mod variables;
 
 pub use crate::text::{push_offer, push_syncs, why_text};

@@ -63,7 +63,7 @@ pub(crate) fn parts<'a>(
     Ok(parts)
 }
 
-fn begins(side: Side, token: &Token<'_>) -> bool
+pub(crate) fn begins(side: Side, token: &Token<'_>) -> bool
     ensures { result ≡ begins side (view token.now) }
 {
     match side {
@@ -81,7 +81,7 @@ fn is_called(name: &str, token: &Token<'_>) -> bool
     }
 }
 
-fn is_first_called(name: &str, tokens: &[Placed<'_>]) -> bool
+pub(crate) fn is_first_called(name: &str, tokens: &[Placed<'_>]) -> bool
     ensures { result ≡ is_first_called name.now (seen tokens.now) }
 {
     match tokens {

@@ -1,6 +1,7 @@
 //! Where a process stands.
 
-ghost use Rattle.std.specs.Prelude.{◌≡◌, ◌==◌, ◌&&◌, ◌≤◌, IfOk, length};
+ghost use Rattle.std.specs.Prelude.{◌≡◌, ◌==◌, ◌&&◌, ◌≤◌, IfOk, length, map};
+ghost use Rattle.script_tree.specs.Processes.{proc_of};
 ghost use Rattle.std.specs.List.{list_any};
 ghost use Rattle.journal_replay.specs.Replays.{thread_count};
 ghost use Rattle.pcml_why.specs.Lines.{line_of};
@@ -8,15 +9,20 @@ ghost use Rattle.pcml_why.specs.Offering.{is_open, is_waiting, offers_on, others
 ghost use Rattle.protocol_values.specs.Values.{is_on};
 ghost use Rattle.pcml_why.specs.Whys.{AreSites};
 
+use crate::results::stand_after;
 use journal_replay::{End, State};
-use protocol_values::{Atom, NackName, Offer, Side};
+use protocol_values::{Atom, Commit, NackName, Offer, Side};
+use script_tree::Proc;
 use std::alloc::{AllocError, Global};
+use thread_stand::Stand;
 
-/// Where a process stands: its end, the line of its statement, and what its open sync offers.
+/// Where a process stands: its end, the line of its statement, its variables or what went wrong, and what its open sync
+/// offers.
 #[derive(Drop)]
 pub struct Site<'a> {
     pub(crate) end: End,
     pub(crate) line: usize,
+    pub(crate) stand: Stand,
     pub(crate) offers: &'a [Offer],
     pub(crate) nacks: &'a [u8],
 }
@@ -102,22 +108,29 @@ pub(crate) fn is_open(sites: &[Site<'_>], nack: NackName) -> bool
     }
 }
 
-/// Where each process of the state stands, by the numbers of statements that those of the other print.
+/// Where each process of the state stands after the commits, by the numbers of statements that those of the other print.
 pub(crate) fn sites_of<'a>(
     alloc: Global,
+    processes: &[Proc],
+    commits: &[Commit],
     state: &'a State,
     standing: &State,
     lines: &[usize],
 ) -> Result<Vec<Site<'a>>, AllocError>
-    requires { thread_count standing.now ≡ thread_count state.now }
-    ensures { IfOk result (λ sites. AreSites state.now standing.now lines.now sites.items) }
+    requires few { thread_count state.now ≤ 64 }
+    requires processes { thread_count state.now ≡ length processes.now }
+    requires same { thread_count standing.now ≡ thread_count state.now }
+    ensures { IfOk result (λ sites. AreSites (map proc_of processes.now) commits.now state.now standing.now lines.now sites.items) }
 {
     let mut sites = Vec::new(alloc);
     for thread in 0..state.threads() {
         let (offers, nacks) = state.open(thread);
+        let end = state.end(thread);
+        let stand = stand_after(alloc, &processes[thread], thread as u8, commits, end)?;
         sites.push(Site {
-            end: state.end(thread),
+            end,
             line: line_of(lines, standing.output(thread)),
+            stand,
             offers,
             nacks,
         })?;

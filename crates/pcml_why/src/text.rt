@@ -1,29 +1,32 @@
 //! The text.
 
-ghost use Rattle.std.specs.Prelude.{◌≡◌, ◌<◌, ◌≤◌, IfOk, OnOk, length, slice_get};
+ghost use Rattle.std.specs.Prelude.{◌≡◌, ◌<◌, ◌≤◌, IfOk, OnOk, length, map, slice_get};
 ghost use Rattle.std.specs.List.{flat_map};
 ghost use Rattle.std.specs.String.{string_bytes};
 ghost use Rattle.script.specs.Scripts.{script_of};
+ghost use Rattle.script_tree.specs.Processes.{proc_of};
 ghost use Rattle.journal_replay.specs.Replays.{thread_count};
 ghost use Rattle.script_token.specs.Lexemes.{seen};
-ghost use Rattle.pcml_why.specs.Knots.{IsKnot, parts_below, waits_for};
 ghost use Rattle.pcml_why.specs.Lines.{line_at};
 ghost use Rattle.pcml_why.specs.Offering.{others};
-ghost use Rattle.pcml_why.specs.Whys.{AreSites, IsWhy, also_text, also_words, chance_text, end_state_text, fault_text, knot_text, knot_words, last_text, listed, lone_text, nack_state_text, nobody_words, offer_line, offer_text, offers_text, partners_text, same_words, site_text, spent_text, stamps_of, stand_text, sync_words, syncs_text, syncs_word, unended_at, unended_text, unfired_text, why_text};
+ghost use Rattle.pcml_why.specs.Whys.{AreSites, IsWhy, process_text, also_text, known_at, never_if, never_text, receives_words, sends_words, also_words, chance_text, end_state_text, knot_text, knot_words, last_text, listed, lone_text, nack_state_text, nobody_words, offer_line, offer_text, offers_text, partners_text, same_words, site_text, spent_text, facts_of, stand_text, sync_words, syncs_text, syncs_word, unended_at, unended_text, unfired_text, why_text};
 ghost use Rattle.journal_text.specs.Names.{named};
 ghost use Rattle.script.specs.Appending.{Adds};
 
 use crate::knot::WaitGraph;
 use crate::lines::lines_of;
 use crate::parts::parts;
-use crate::site::{Site, is_open, others, sites_of};
+use crate::site::{Site, is_open, is_waiting, others, sites_of};
+use crate::variables::Namer;
 use journal_replay::{End, State};
 use journal_text::{push_channel, push_message, push_nack, push_thread};
+use outcomes::nobody_serves;
 use protocol_values::{Base, Commit, NackName, Offer, Side};
 use script::Script;
 use script_token::{Placed, scan};
+use script_tree::Proc;
 use std::alloc::{AllocError, Global};
-use thread::Fault;
+use thread_stand::Stand;
 
 /// What is told of a run: the names, what may come next, and where its processes stand.
 #[derive(Drop)]
@@ -125,21 +128,29 @@ fn push_also(out: &mut String, script: &Script, same: &[u8]) -> Result<(), Alloc
     push_listed(out, script, same)
 }
 
-/// Who could meet an offer, and who makes the same.
-fn push_partners(
-    out: &mut String,
-    script: &Script,
-    partners: &[u8],
-    same: &[u8],
-) -> Result<(), AllocError>
-    ensures { OnOk result (Adds out.old out.new (partners_text (named (script_of script.now)) partners.now same.now)) }
+#[tactic(auto, unfolding(crate::specs::Whys::receives_words))]
+fn receives_words() -> &'static str
+    ensures { result.now ≡ receives_words }
 {
-    if partners.len() == 0 {
-        return push_lone(out, script, same);
+    ", and no process receives on "
+}
+
+#[tactic(auto, unfolding(crate::specs::Whys::sends_words))]
+fn sends_words() -> &'static str
+    ensures { result.now ≡ sends_words }
+{
+    ", and no process sends on "
+}
+
+/// That nobody ever offers on this side of the channel.
+fn push_never(out: &mut String, script: &Script, side: Side, chan: u8) -> Result<(), AllocError>
+    ensures { OnOk result (Adds out.old out.new (never_text (named (script_of script.now)) side chan)) }
+{
+    match side {
+        Side::Sends => out.push_str(sends_words())?,
+        Side::Receives => out.push_str(receives_words())?,
     }
-    out.push_str("may meet")?;
-    push_listed(out, script, partners)?;
-    push_also(out, script, same)
+    push_channel(out, script, chan)
 }
 
 fn unfired_text(is_open: bool) -> &'static str
@@ -170,17 +181,6 @@ fn unended_at(sites: &[Site<'_>], process: u8) -> &'static str
     }
 }
 
-fn fault_text(fault: Fault) -> &'static str
-    ensures { result.now ≡ fault_text fault }
-{
-    match fault {
-        Fault::Unset => "a name is read that is not set",
-        Fault::Kind => "a value is not of the kind that is wanted",
-        Fault::Range => "a number or a nack is out of range",
-        Fault::Shape => "a message has more or fewer values than there are names",
-    }
-}
-
 #[tactic(auto, unfolding(crate::specs::Whys::spent_text))]
 fn push_spent(out: &mut String, line: usize) -> Result<(), AllocError>
     ensures { OnOk result (Adds out.old out.new (spent_text line)) }
@@ -204,10 +204,16 @@ pub fn push_syncs(out: &mut String, rows: u32) -> Result<(), AllocError>
 }
 
 /// How a process stands, at a line, of at most `rows` syncs.
-fn push_stand(out: &mut String, rows: u32, line: usize, end: End) -> Result<(), AllocError>
-    ensures { OnOk result (Adds out.old out.new (stand_text rows line end)) }
+fn push_stand(
+    out: &mut String,
+    namer: &Namer<'_>,
+    rows: u32,
+    site: &Site<'_>,
+) -> Result<(), AllocError>
+    ensures { OnOk result (Adds out.old out.new (stand_text (named (script_of namer.now.script.now)) (proc_of namer.now.process.now).variables rows site.now.line site.now.end site.now.stand)) }
 {
-    match end {
+    let line = site.line;
+    match site.end {
         End::Ended => out.push_str(" ended\n"),
         End::Waiting => write!(out, " waits at line {line}\n"),
         End::Spent => {
@@ -216,11 +222,21 @@ fn push_stand(out: &mut String, rows: u32, line: usize, end: End) -> Result<(), 
         }
         End::Faulted(fault) => {
             write!(out, " faulted at line {line}: ")?;
-            out.push_str(fault_text(fault))?;
+            namer.push_wrong(out, fault, &site.stand)?;
             out.push_str("\n")
         }
         End::Unstarted => out.push_str(" has not started\n"),
     }
+}
+
+/// The variables of a process that waits.
+fn push_known(out: &mut String, namer: &Namer<'_>, site: &Site<'_>) -> Result<(), AllocError>
+    ensures { OnOk result (Adds out.old out.new (known_at (named (script_of namer.now.script.now)) (proc_of namer.now.process.now).variables site.now)) }
+{
+    if !is_waiting(site.end) {
+        return Ok(());
+    }
+    namer.push_known(out, &site.stand)
 }
 
 impl Teller<'_> {
@@ -265,6 +281,36 @@ impl Teller<'_> {
         }
     }
 
+    /// That by no text anybody ever offers on this side of the channel, where that is so.
+    fn push_never_if(&self, out: &mut String, side: Side, chan: u8) -> Result<(), AllocError>
+        ensures { OnOk result (Adds out.old out.new (never_if (named (script_of self.now.script.now)) (facts_of (script_of self.now.script.now).processes self.now.state.now) side chan)) }
+    {
+        if !nobody_serves(self.script.processes(), side, chan) {
+            return Ok(());
+        }
+        push_never(out, self.script, side, chan)
+    }
+
+    /// Who could meet an offer on the other side of the channel, and who makes the same.
+    fn push_partners(
+        &self,
+        out: &mut String,
+        side: Side,
+        chan: u8,
+        partners: &[u8],
+        same: &[u8],
+    ) -> Result<(), AllocError>
+        ensures { OnOk result (Adds out.old out.new (partners_text (named (script_of self.now.script.now)) (facts_of (script_of self.now.script.now).processes self.now.state.now) side chan partners.now same.now)) }
+    {
+        if partners.len() == 0 {
+            push_lone(out, self.script, same)?;
+            return self.push_never_if(out, side, chan);
+        }
+        out.push_str("may meet")?;
+        push_listed(out, self.script, partners)?;
+        push_also(out, self.script, same)
+    }
+
     /// What would let an offer on this side of the channel meet another.
     fn push_meeting(
         &self,
@@ -274,18 +320,18 @@ impl Teller<'_> {
         chan: u8,
     ) -> Result<(), AllocError>
         requires { length self.now.sites.now ≤ 64 }
-        ensures { OnOk result (Adds out.old out.new (partners_text (named (script_of self.now.script.now)) (others self.now.sites.now sides.1 chan thread) (others self.now.sites.now sides.0 chan thread))) }
+        ensures { OnOk result (Adds out.old out.new (partners_text (named (script_of self.now.script.now)) (facts_of (script_of self.now.script.now).processes self.now.state.now) sides.1 chan (others self.now.sites.now sides.1 chan thread) (others self.now.sites.now sides.0 chan thread))) }
     {
         let (own, other) = sides;
         let partners = others(self.alloc, self.sites, other, chan, thread)?;
         let same = others(self.alloc, self.sites, own, chan, thread)?;
-        push_partners(out, self.script, &partners, &same)
+        self.push_partners(out, other, chan, &partners, &same)
     }
 
     /// What would let the offer be taken.
     fn push_chance(&self, out: &mut String, thread: usize, base: Base) -> Result<(), AllocError>
         requires { length self.now.sites.now ≤ 64 }
-        ensures { OnOk result (Adds out.old out.new (chance_text (named (script_of self.now.script.now)) (stamps_of self.now.state.now) self.now.sites.now thread base)) }
+        ensures { OnOk result (Adds out.old out.new (chance_text (named (script_of self.now.script.now)) (facts_of (script_of self.now.script.now).processes self.now.state.now) self.now.sites.now thread base)) }
     {
         match base {
             Base::Send(chan, _) => {
@@ -308,7 +354,7 @@ impl Teller<'_> {
         offer: &Offer,
     ) -> Result<(), AllocError>
         requires { length self.now.sites.now ≤ 64 }
-        ensures { OnOk result (Adds out.old out.new (offer_line (named (script_of self.now.script.now)) (stamps_of self.now.state.now) self.now.sites.now thread offer.now)) }
+        ensures { OnOk result (Adds out.old out.new (offer_line (named (script_of self.now.script.now)) (facts_of (script_of self.now.script.now).processes self.now.state.now) self.now.sites.now thread offer.now)) }
     {
         out.push_str("  ")?;
         push_offer(out, self.script, offer.base)?;
@@ -325,7 +371,7 @@ impl Teller<'_> {
         site: &Site<'_>,
     ) -> Result<(), AllocError>
         requires { length self.now.sites.now ≤ 64 }
-        ensures { OnOk result (Adds out.old out.new (offers_text (named (script_of self.now.script.now)) (stamps_of self.now.state.now) self.now.sites.now thread site.now)) }
+        ensures { OnOk result (Adds out.old out.new (offers_text (named (script_of self.now.script.now)) (facts_of (script_of self.now.script.now).processes self.now.state.now) self.now.sites.now thread site.now)) }
     {
         if !matches!(site.end, End::Waiting) {
             return Ok(());
@@ -334,6 +380,29 @@ impl Teller<'_> {
             self.push_offer_line(out, thread, offer)?;
         }
         Ok(())
+    }
+
+    /// A process, which is this one of the script.
+    fn push_process(
+        &self,
+        out: &mut String,
+        rows: u32,
+        thread: usize,
+        process: &Proc,
+        site: &Site<'_>,
+    ) -> Result<(), AllocError>
+        requires few { length self.now.sites.now ≤ 64 }
+        requires thread { thread < 64 }
+        ensures { OnOk result (Adds out.old out.new (process_text (named (script_of self.now.script.now)) (proc_of process.now).variables (facts_of (script_of self.now.script.now).processes self.now.state.now) rows self.now.sites.now thread site.now)) }
+    {
+        let namer = Namer {
+            script: self.script,
+            process,
+        };
+        push_thread(out, self.script, thread as u8)?;
+        push_stand(out, &namer, rows, site)?;
+        push_known(out, &namer, site)?;
+        self.push_offers(out, thread, site)
     }
 
     fn push_site(
@@ -345,16 +414,17 @@ impl Teller<'_> {
     ) -> Result<(), AllocError>
         requires few { length self.now.sites.now ≤ 64 }
         requires thread { thread < 64 }
-        ensures { OnOk result (Adds out.old out.new (site_text (named (script_of self.now.script.now)) (stamps_of self.now.state.now) rows self.now.sites.now thread site.now)) }
+        requires process { thread < length (script_of self.now.script.now).processes }
+        ensures { OnOk result (Adds out.old out.new (site_text (named (script_of self.now.script.now)) (facts_of (script_of self.now.script.now).processes self.now.state.now) rows self.now.sites.now thread site.now)) }
     {
-        push_thread(out, self.script, thread as u8)?;
-        push_stand(out, rows, site.line, site.end)?;
-        self.push_offers(out, thread, site)
+        let processes = self.script.processes();
+        self.push_process(out, rows, thread, &processes[thread], site)
     }
 
     fn push_sites(&self, out: &mut String, rows: u32) -> Result<(), AllocError>
-        requires { length self.now.sites.now ≤ 64 }
-        ensures { OnOk result (Adds out.old out.new (why_text (named (script_of self.now.script.now)) (stamps_of self.now.state.now) rows self.now.sites.now)) }
+        requires few { length self.now.sites.now ≤ 64 }
+        requires processes { length self.now.sites.now ≡ length (script_of self.now.script.now).processes }
+        ensures { OnOk result (Adds out.old out.new (why_text (named (script_of self.now.script.now)) (facts_of (script_of self.now.script.now).processes self.now.state.now) rows self.now.sites.now)) }
     {
         for thread in 0..self.sites.len() {
             self.push_site(out, rows, thread, &self.sites[thread])?;
@@ -370,69 +440,59 @@ fn knot_words() -> &'static str
     "waiting for one another:"
 }
 
-/// Who wait for one another, where some do.
-fn push_knot(out: &mut String, script: &Script, knot: &[u8]) -> Result<(), AllocError>
-    ensures { OnOk result (Adds out.old out.new (knot_text (named (script_of script.now)) knot.now)) }
-{
-    if knot.len() == 0 {
-        return Ok(());
+impl WaitGraph<'_> {
+    /// Who wait for one another, where some do, and who of them for whom.
+    fn push_knot(&self, out: &mut String, knot: &[u8]) -> Result<(), AllocError>
+        requires { length self.now.parts.now ≡ length self.now.sites.now }
+        ensures { OnOk result (Adds out.old out.new (knot_text (named (script_of self.now.script.now)) (map (λ p. seen p.now) self.now.parts.now) self.now.sites.now knot.now)) }
+    {
+        if knot.len() == 0 {
+            return Ok(());
+        }
+        out.push_str(knot_words())?;
+        push_listed(out, self.script, knot)?;
+        out.push_str("\n")?;
+        self.push_edges(out, knot)
     }
-    out.push_str(knot_words())?;
-    push_listed(out, script, knot)?;
-    out.push_str("\n")
-}
 
-/// Who wait for one another, where no commit may come next.
-fn push_last(
-    out: &mut String,
-    script: &Script,
-    next: &Option<Commit>,
-    knot: &[u8],
-) -> Result<(), AllocError>
-    ensures { OnOk result (Adds out.old out.new (last_text (named (script_of script.now)) next.now knot.now)) }
-{
-    match next {
-        Some(_) => Ok(()),
-        None => push_knot(out, script, knot),
+    /// Who wait for one another, where no commit may come next.
+    fn push_last(
+        &self,
+        out: &mut String,
+        next: &Option<Commit>,
+        knot: &[u8],
+    ) -> Result<(), AllocError>
+        requires { length self.now.parts.now ≡ length self.now.sites.now }
+        ensures { OnOk result (Adds out.old out.new (last_text (named (script_of self.now.script.now)) (map (λ p. seen p.now) self.now.parts.now) self.now.sites.now next.now knot.now)) }
+    {
+        match next {
+            Some(_) => Ok(()),
+            None => self.push_knot(out, knot),
+        }
     }
 }
 
-/// Those that wait for one another, by the tokens of the script's text.
-fn knot_of(
-    alloc: Global,
-    script: &Script,
-    sites: &[Site<'_>],
-    tokens: &[Placed<'_>],
-) -> Result<Vec<u8>, AllocError>
-    requires { length sites.now ≤ 64 }
-    ensures { IfOk result (λ knot. IsKnot (length sites.now) (waits_for (named (script_of script.now)) (parts_below (seen tokens.now) (length sites.now)) sites.now) knot.items) }
-{
-    let parts = parts(alloc, tokens, sites.len())?;
-    let waits = WaitGraph {
-        script,
-        sites,
-        parts: &parts,
-    };
-    waits.knot(alloc)
-}
-
-/// Where each process of the state stands, by the tokens of the script's text.
+/// Where each process of the state stands after the commits, by the tokens of the script's text.
 fn sites_at<'a>(
     alloc: Global,
+    script: &Script,
+    commits: &[Commit],
     state: &'a State,
     standing: &State,
     tokens: &[Placed<'_>],
 ) -> Result<Vec<Site<'a>>, AllocError>
-    requires { thread_count standing.now ≡ thread_count state.now }
-    ensures { IfOk result (λ sites. AreSites state.now standing.now (flat_map line_at (seen tokens.now)) sites.items) }
+    requires few { thread_count state.now ≤ 64 }
+    requires processes { thread_count state.now ≡ length (script_of script.now).processes }
+    requires same { thread_count standing.now ≡ thread_count state.now }
+    ensures { IfOk result (λ sites. AreSites (script_of script.now).processes commits.now state.now standing.now (flat_map line_at (seen tokens.now)) sites.items) }
 {
     let lines = lines_of(alloc, tokens)?;
-    sites_of(alloc, state, standing, &lines)
+    sites_of(alloc, script.processes(), commits, state, standing, &lines)
 }
 
-/// Why each process of the state stands where it does, a line for each process and each of its offers; and
-/// where no commit may come next, a line of those that wait for one another. The text of the script is
-/// `source`. The processes of `standing` are those of the script, but print the number of each statement
+/// Why each process of the state, where these commits led, stands where it does, a line for each process and each of its offers; and
+/// where no commit may come next, a line of those that wait for one another, and behind it a line for each two of them of
+/// which the one waits for the other. The text of the script is `source`. The processes of `standing` are those of the script, but print the number of each statement
 /// before it begins. A process waits for another by what the text of that one could offer: a channel that
 /// it holds in a variable is not seen.
 pub fn why_text(
@@ -440,16 +500,18 @@ pub fn why_text(
     script: &Script,
     state: &State,
     standing: &State,
+    commits: &[Commit],
     source: &[u8],
     rows: u32,
 ) -> Result<String, AllocError>
     requires few { thread_count state.now ≤ 64 }
+    requires processes { thread_count state.now ≡ length (script_of script.now).processes }
     requires same { thread_count standing.now ≡ thread_count state.now }
-    ensures { IfOk result (λ text. IsWhy (script_of script.now) state.now standing.now source.now rows (string_bytes text)) }
+    ensures { IfOk result (λ text. IsWhy (script_of script.now) state.now standing.now commits.now source.now rows (string_bytes text)) }
 {
     let tokens = scan(alloc, source)?;
     let placed: &[Placed<'_>] = &tokens.placed;
-    let told = sites_at(alloc, state, standing, placed)?;
+    let told = sites_at(alloc, script, commits, state, standing, placed)?;
     let sites: &[Site<'_>] = &told;
     let teller = Teller {
         alloc,
@@ -460,7 +522,13 @@ pub fn why_text(
     let mut out = String::new(alloc);
     teller.push_sites(&mut out, rows)?;
     let next = state.enabled(alloc)?;
-    let knot = knot_of(alloc, script, sites, placed)?;
-    push_last(&mut out, script, &next, &knot)?;
+    let parts = parts(alloc, placed, sites.len())?;
+    let graph = WaitGraph {
+        script,
+        sites,
+        parts: &parts,
+    };
+    let knot = graph.knot(alloc)?;
+    graph.push_last(&mut out, &next, &knot)?;
     Ok(out)
 }

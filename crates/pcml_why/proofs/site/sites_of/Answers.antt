@@ -1,11 +1,26 @@
+use Rattle.std.proofs.Common.{ℕ, ◌<◌, ap, map, subst, ◌∙◌}
+use Rattle.script_tree.specs.Processes.{Proc, proc_of}
 use Rattle.journal_replay.proofs.Telling.{holds-more}
-use Rattle.pcml_why.specs.Whys.{TellsSite}
+use Rattle.journal_replay.specs.Runs.{config_of}
+use Rattle.thread_stand.specs.Stands.{standing_of}
+use Rattle.pcml_why.specs.Whys.{TellsSite, TellsStand}
+use Rattle.pcml_why.proofs.Sites.{process-at}
 use Rattle.pcml_why.proofs.site.sites_of.Goals as goal
 
 pub loop-thread-preserved : goal.loop-thread-preserved
 loop-thread-preserved c =
-    holds-more (TellsSite c.args.state.now c.args.standing.now c.args.lines.now) c.loop-thread.thread c.loop-thread.sites.items c.push.new.self.items
-    (record { end = c.end.result; line = c.line_of.result; offers = c.open.result.0; nacks = c.open.result.1 })
+    holds-more (TellsSite (map proc_of c.args.processes.now) c.args.commits.now c.args.state.now c.args.standing.now c.args.lines.now) c.loop-thread.thread c.loop-thread.sites.items c.push.new.self.items
+    (record { end = c.end-end.result; line = c.line_of.result; stand = c.in_ok-stand.stand; offers = c.open.result.0; nacks = c.open.result.1 })
     c.loop-thread.invariant
-    (record { end = c.end.ensures; offers = c.open.ensures.told; printed = c.output.result.now; tells_printed = c.output.ensures; line = c.line_of.ensures })
+    (record {
+      end = c.end-end.ensures;
+      offers = c.open.ensures.told;
+      stand = λ p is.
+          subst (λ (q : Proc). TellsStand c.end-end.result (standing_of q c.loop-thread.thread (config_of c.args.commits.now c.loop-thread.thread)) c.in_ok-stand.stand)
+          (ap proc_of c.index-processes-thread.is ∙ process-at proc_of c.args.processes.now c.loop-thread.thread c.index-processes-thread.result p (subst (λ (n : ℕ). c.loop-thread.thread < n) c.requires.processes (subst (λ (n : ℕ). c.loop-thread.thread < n) c.threads-thread-end.ensures c.loop-thread-test.true)) is)
+          c.in_ok-stand.ensures;
+      printed = c.output.result.now;
+      tells_printed = c.output.ensures;
+      line = c.line_of.ensures;
+    })
     c.in_ok-push.ensures.items
