@@ -3,9 +3,9 @@ use Rattle.std.proofs.Common.{◌≡◌, ℕ, zero, suc, ◌<◌, List, [], ◌+
 use Rattle.std.proofs.lemmas.Bool.{cases_lt}
 use Rattle.std.proofs.lemmas.Option.{slice_get_within}
 use Rattle.pcml_chart.specs.Apart.{MarksAreApart}
-use Rattle.pcml_chart.specs.Chart.{each_below, feet_below, front, heading, lifelines, lines_below, low_of, page_end}
+use Rattle.pcml_chart.specs.Chart.{each_below, feet_below, front, heading, heading_of, layout_of, lifelines, lines_below, low_of, page_end}
 use Rattle.pcml_chart.specs.Marks.{mark}
-use Rattle.pcml_chart.specs.Places.{height, page_width}
+use Rattle.pcml_chart.specs.Places.{Layout, height}
 use Rattle.pcml_chart.specs.Rows.{mark_at, row, stamp_mark}
 
 -- one of the pieces, and what stands before and behind it
@@ -29,22 +29,24 @@ regroup h a s m r t n q e g = simp append_assoc
 pub marks_apart : MarksAreApart
 unfolding Splits
 marks_apart p j k c d low first last =
-    let f : ℕ → List ℕ = row p.names p.stamps (page_width (length p.feet)) p.commits in
+    let l : Layout = layout_of p in
+    let f : ℕ → List ℕ = row p.names p.stamps l p.commits in
     let outer : Splits f k (length p.commits) = each_below-split f k (length p.commits) (slice_get_within p.commits k d last) in
     let inner : Splits f j k = each_below-split f j k low in
-    let of_mark : ℕ → List ℕ = λ i. stamp_mark (page_width (length p.feet)) p.commits i in
-    let head : List ℕ = front (length p.feet) (low_of p) (lines_below p) ++ heading p ++ lifelines p in
-    let one : f j ≡ of_mark j ++ mark p.names p.stamps p.commits (height j) c = ap (λ o. of_mark j ++ mark_at p.names p.stamps p.commits (height j) o) first in
-    let two : f k ≡ of_mark k ++ mark p.names p.stamps p.commits (height k) d = ap (λ o. of_mark k ++ mark_at p.names p.stamps p.commits (height k) o) last in
+    let of_mark : ℕ → List ℕ = λ i. stamp_mark l.width p.commits i in
+    let head : List ℕ = front l.width (low_of p) (lines_below p.own p.feet) ++ heading_of (heading p) ++ lifelines p.names l (low_of p) in
+    let feet : List ℕ = feet_below p.names l p.feet (low_of p) in
+    let one : f j ≡ of_mark j ++ mark p.names p.stamps l p.commits (height j) c = ap (λ o. of_mark j ++ mark_at p.names p.stamps l p.commits (height j) o) first in
+    let two : f k ≡ of_mark k ++ mark p.names p.stamps l p.commits (height k) d = ap (λ o. of_mark k ++ mark_at p.names p.stamps l p.commits (height k) o) last in
     record {
       height = height j;
       other = height k;
       rises = omega arith;
       before = head ++ each_below j f ++ of_mark j;
       between = inner.0 ++ of_mark k;
-      after = outer.0 ++ feet_below p ++ page_end;
+      after = outer.0 ++ feet ++ page_end;
       is =
-          ap (λ (l : List ℕ). head ++ l ++ feet_below p ++ page_end)
-          (outer.1 ∙ ap (λ (l : List ℕ). l ++ f k ++ outer.0) inner.1 ∙ ap₂ (λ (x y : List ℕ). each_below j f ++ x ++ inner.0 ++ y ++ outer.0) one two)
-          ∙ regroup head (each_below j f) (of_mark j) (mark p.names p.stamps p.commits (height j) c) inner.0 (of_mark k) (mark p.names p.stamps p.commits (height k) d) outer.0 (feet_below p) page_end;
+          ap (λ (m : List ℕ). head ++ m ++ feet ++ page_end)
+          (outer.1 ∙ ap (λ (m : List ℕ). m ++ f k ++ outer.0) inner.1 ∙ ap₂ (λ (x y : List ℕ). each_below j f ++ x ++ inner.0 ++ y ++ outer.0) one two)
+          ∙ regroup head (each_below j f) (of_mark j) (mark p.names p.stamps l p.commits (height j) c) inner.0 (of_mark k) (mark p.names p.stamps l p.commits (height k) d) outer.0 feet page_end;
     }

@@ -1,5 +1,5 @@
 -- A chart: what its text is, and of which commits.
-use Rattle.std.specs.Prelude.{◌≡◌, ◌+◌, ◌*◌, ◌==◌, ℕ, zero, suc, Bool, true, false, if◌then◌else◌, List, [], ◌++◌, length, codes, min, nat_le, slice_get}
+use Rattle.std.specs.Prelude.{◌≡◌, ◌+◌, ◌*◌, ◌==◌, ℕ, zero, suc, Bool, true, false, if◌then◌else◌, List, [], ◌++◌, length, codes, min, nat_le, slice_get, Option, Some, None}
 use Rattle.std.specs.Fmt.{decimal}
 use Rattle.protocol_values.specs.declared.Commit.{Commit}
 use Rattle.protocol_values.specs.declared.NackName.{NackName}
@@ -8,16 +8,19 @@ use Rattle.journal_text.specs.Names.{Naming, named}
 use Rattle.journal_replay.specs.Replays.{TellsEnded, TellsFired}
 use Rattle.journal_replay.specs.declared.state.State.{State}
 use Rattle.pcml_chart.specs.Feet.{AreFeet, foot_at, offers_of}
-use Rattle.pcml_chart.specs.Marks.{Stamps, centered, starting, text_end}
-use Rattle.pcml_chart.specs.Places.{bottom, column, page_width}
-use Rattle.pcml_chart.specs.Range.{IsEnd, greatest, most_by, shown}
+use Rattle.pcml_chart.specs.Labels.{centered, label, starting, text_end}
+use Rattle.pcml_chart.specs.Marks.{Stamps}
+use Rattle.pcml_chart.specs.Places.{Layout, bottom, has_others, is_own, line_at, line_of, others_column}
+use Rattle.pcml_chart.specs.Range.{IsEnd, greatest, most_below, shown}
 use Rattle.pcml_chart.specs.Rows.{row}
+use Rattle.pcml_chart.specs.Widths.{gap_widths, page_width}
 use Rattle.pcml_chart.specs.declared.foot.Foot.{Foot}
 
--- what is drawn: the names, how each process stands, the stamps at which nacks were enabled and processes ended, the commits that
+-- what is drawn: the names, which processes have a column of their own, how each process stands, the stamps at which nacks were enabled and processes ended, the commits that
 -- are shown of how many, and whether the range was cut
 pub record Picture : Type 0 where
   pub names : Naming
+  pub own : List Bool
   pub feet : List Foot
   pub stamps : Stamps
   pub commits : List Commit
@@ -57,7 +60,7 @@ page width tall =
     ++ codes "' font-family='monospace' font-size='12' text-anchor='middle'>\n"
 
 abbrev pub front : ℕ → ℕ → ℕ → List ℕ
-front threads low lines = page (page_width threads) (page_height low lines) ++ style ++ arrow_tail ++ arrow_head ++ background
+front width low lines = page width (page_height low lines) ++ style ++ arrow_tail ++ arrow_head ++ background
 
 -- THE HEADING
 
@@ -68,12 +71,16 @@ abbrev pub cut_text : Bool → List ℕ
 cut_text true = codes ", cut at 1250 commits"
 cut_text false = []
 
-abbrev pub heading_of : ℕ → ℕ → ℕ → ℕ → Bool → List ℕ
-heading_of count total from last is_cut =
-    starting 8 18 ++ decimal count ++ codes " of " ++ decimal total ++ codes " commits" ++ stamps_text count from last ++ cut_text is_cut ++ text_end
+-- how many commits are shown of how many, and which stamps
+abbrev pub heading_text : ℕ → ℕ → ℕ → ℕ → Bool → List ℕ
+heading_text count total from last is_cut =
+    decimal count ++ codes " of " ++ decimal total ++ codes " commits" ++ stamps_text count from last ++ cut_text is_cut
+
+abbrev pub heading_of : List ℕ → List ℕ
+heading_of text = starting 8 18 ++ text ++ text_end
 
 abbrev pub heading : Picture → List ℕ
-heading p = heading_of (length p.commits) p.total p.from (greatest p.commits) p.is_cut
+heading p = heading_text (length p.commits) p.total p.from (greatest p.commits) p.is_cut
 
 -- THE LINES OF LIFE
 
@@ -81,43 +88,71 @@ heading p = heading_of (length p.commits) p.total p.from (greatest p.commits) p.
 unfoldable pub line : ℕ → ℕ → List ℕ
 line x low = codes "<path d='M" ++ decimal x ++ codes " 52V" ++ decimal low ++ codes "'/>\n"
 
--- the name of the thread, and its line
-abbrev pub lifeline : Naming → ℕ → ℕ → List ℕ
-lifeline names low t = centered (column t) 42 ++ names.thread t ++ text_end ++ line (column t) low
+-- a name, and its line
+abbrev pub life : List ℕ → ℕ → ℕ → List ℕ
+life name x low = centered x 42 ++ label name ++ text_end ++ line x low
+
+-- that of a process with a column of its own
+abbrev pub lifeline : Naming → Layout → ℕ → ℕ → List ℕ
+lifeline names l low t = if is_own l.own t then life (names.thread t) (line_of l t) low else []
+
+-- that of the others
+abbrev pub others_line : Layout → ℕ → List ℕ
+others_line l low = if has_others l.own then life (codes "others") (line_at l.gaps (others_column l.own)) low else []
 
 -- how the process stands, below its line
-abbrev pub foot_mark : Naming → List Foot → ℕ → ℕ → List ℕ
-foot_mark names feet low t = foot_at names (column t) (low + 18) (slice_get feet t)
+abbrev pub foot_mark : Naming → Layout → List Foot → ℕ → ℕ → List ℕ
+foot_mark names l feet low t = if is_own l.own t then foot_at names (line_of l t) (low + 18) (slice_get feet t) else []
 
 abbrev pub page_end : List ℕ
 page_end = codes "</svg>\n"
 
 -- THE WHOLE
 
+abbrev pub gaps_of : Picture → List ℕ
+gaps_of p = gap_widths p.names p.own p.feet p.commits
+
+abbrev pub layout_of : Picture → Layout
+layout_of p = record { own = p.own; gaps = gaps_of p; width = page_width p.own (gaps_of p) (length (heading p)) }
+
 abbrev pub low_of : Picture → ℕ
 low_of p = bottom (length p.commits)
 
-abbrev pub lines_below : Picture → ℕ
-lines_below p = most_by (λ f. length (offers_of f)) p.feet
+abbrev pub offers_at : Option Foot → ℕ
+offers_at None = 0
+offers_at (Some f) = length (offers_of f)
 
-abbrev pub lifelines : Picture → List ℕ
-lifelines p = each_below (length p.feet) (lifeline p.names (low_of p))
+abbrev pub offers_below : List Bool → List Foot → ℕ → ℕ
+offers_below own feet t = if is_own own t then offers_at (slice_get feet t) else 0
+
+-- how many lines stand below a foot at most
+abbrev pub lines_below : List Bool → List Foot → ℕ
+lines_below own feet = most_below (length own) (offers_below own feet)
+
+abbrev pub lifelines : Naming → Layout → ℕ → List ℕ
+lifelines names l low = each_below (length l.own) (lifeline names l low) ++ others_line l low
 
 -- a row for each commit that is shown, in their order
-abbrev pub marks : Picture → List ℕ
-marks p = each_below (length p.commits) (row p.names p.stamps (page_width (length p.feet)) p.commits)
+abbrev pub marks : Naming → Stamps → Layout → List Commit → List ℕ
+marks names stamps l commits = each_below (length commits) (row names stamps l commits)
 
-abbrev pub feet_below : Picture → List ℕ
-feet_below p = each_below (length p.feet) (foot_mark p.names p.feet (low_of p))
+abbrev pub feet_below : Naming → Layout → List Foot → ℕ → List ℕ
+feet_below names l feet low = each_below (length l.own) (foot_mark names l feet low)
+
+-- the picture in a layout
+abbrev pub laid_out : Picture → Layout → List ℕ
+laid_out p l =
+    front l.width (low_of p) (lines_below p.own p.feet) ++ heading_of (heading p) ++ lifelines p.names l (low_of p) ++ marks p.names p.stamps l p.commits
+    ++ feet_below p.names l p.feet (low_of p) ++ page_end
 
 abbrev pub picture_text : Picture → List ℕ
-picture_text p = front (length p.feet) (low_of p) (lines_below p) ++ heading p ++ lifelines p ++ marks p ++ feet_below p ++ page_end
+picture_text p = laid_out p (layout_of p)
 
 -- WHAT A CHART SHOWS
 
 -- The text draws the commits with a stamp from `from` to `to`, or to an earlier one where they are too many, with the names of the
--- script, and how the processes stand where the state does.
-pub record IsChart (s : Script) (state : State) (commits : List Commit) (from to : ℕ) (text : List ℕ) : Type 0 where
+-- script, and how the processes stand where the state does; those have a column of their own that `own` tells.
+pub record IsChart (s : Script) (state : State) (own : List Bool) (commits : List Commit) (from to : ℕ) (text : List ℕ) : Type 0 where
   pub below : ℕ
   pub range : IsEnd from to commits below
   pub feet : List Foot
@@ -125,4 +160,4 @@ pub record IsChart (s : Script) (state : State) (commits : List Commit) (from to
   pub stamps : Stamps
   pub tells_fired : (n : NackName) → TellsFired state n (stamps.fired n)
   pub tells_ended : (t : ℕ) → TellsEnded state t (stamps.ended t)
-  pub is : text ≡ picture_text (record { names = named s; feet = feet; stamps = stamps; commits = shown from below commits; total = length commits; from = from; is_cut = nat_le below to })
+  pub is : text ≡ picture_text (record { names = named s; own = own; feet = feet; stamps = stamps; commits = shown from below commits; total = length commits; from = from; is_cut = nat_le below to })

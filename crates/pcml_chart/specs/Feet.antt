@@ -12,8 +12,7 @@ use Rattle.journal_replay.specs.declared.end.End.{End}
 use Rattle.journal_replay.specs.declared.end.End.TheVariants.{Ended, Waiting}
 use Rattle.journal_replay.specs.declared.state.State.{State}
 use Rattle.pcml_why.specs.Whys.{offer_text}
-use Rattle.pcml_chart.specs.Labels.{label}
-use Rattle.pcml_chart.specs.Marks.{centered, text_end}
+use Rattle.pcml_chart.specs.Labels.{centered, label, text_end}
 use Rattle.pcml_chart.specs.declared.foot.Foot.{Foot}
 
 -- a process as the state has it

@@ -4,7 +4,9 @@ pub mod Labels
 pub mod Marks
 pub mod Rows
 pub mod Feet
+pub mod Widths
 pub mod Chart
 pub mod Apart
+pub mod Clear
 pub mod Drawn
 pub mod Plain

@@ -1,5 +1,5 @@
 -- What is drawn for a commit.
-use Rattle.std.specs.Prelude.{ℕ, ◌+◌, ◌-◌, ◌==◌, ◌&&◌, ◌||◌, Bool, if◌then◌else◌, List, [], ◌++◌, codes, position, Option, Some, None}
+use Rattle.std.specs.Prelude.{ℕ, ◌==◌, ◌&&◌, ◌||◌, not, Bool, false, if◌then◌else◌, List, [], ◌++◌, codes, position, Option, Some, None}
 use Rattle.std.specs.Fmt.{decimal}
 use Rattle.protocol_values.specs.declared.Cause.{Cause}
 use Rattle.protocol_values.specs.declared.Cause.TheVariants as causes
@@ -10,18 +10,9 @@ use Rattle.protocol_values.specs.declared.NackName.{NackName}
 use Rattle.protocol_values.specs.Commits.{stamp_of}
 use Rattle.journal_text.specs.Names.{Naming}
 use Rattle.journal_text.specs.Texts.{cause_text, message_text}
-use Rattle.pcml_chart.specs.Labels.{label}
-use Rattle.pcml_chart.specs.Places.{column, gap, height_or_top}
-
--- a text round the place, and a text from the place on
-unfoldable pub centered : ℕ → ℕ → List ℕ
-centered x y = codes "<text x='" ++ decimal x ++ codes "' y='" ++ decimal y ++ codes "'>"
-
-unfoldable pub starting : ℕ → ℕ → List ℕ
-starting x y = codes "<text class='s' x='" ++ decimal x ++ codes "' y='" ++ decimal y ++ codes "'>"
-
-unfoldable pub text_end : List ℕ
-text_end = codes "</text>\n"
+use Rattle.pcml_chart.specs.Labels.{beginning, label, text_end}
+use Rattle.pcml_chart.specs.Places.{Layout, beside, column, height_or_top, is_own, line_of, spot_in}
+use Rattle.pcml_chart.specs.declared.label.Spot.{Spot}
 
 unfoldable pub arrow : ℕ → ℕ → ℕ → List ℕ
 arrow x other y = codes "<path class='a' d='M" ++ decimal x ++ codes " " ++ decimal y ++ codes "H" ++ decimal other ++ codes "'/>\n"
@@ -49,31 +40,73 @@ place_of commits t stamp = position (λ c. stamp_of c == stamp && takes_part t c
 abbrev pub height_of : List Commit → ℕ → ℕ → ℕ
 height_of commits t stamp = height_or_top (place_of commits t stamp)
 
--- from where the nack was enabled, on the line of its thread, to the place
-abbrev pub nack_line : List Commit → NackName → Option ℕ → ℕ → ℕ → List ℕ
-nack_line commits n None x y = []
-nack_line commits n (Some stamp) x y = dashes (column n.thread) (height_of commits n.thread stamp) x y
+-- DASHED LINES
 
--- from where the thread ended, on its line, to the place; none from a thread for whose end no commit counts
-abbrev pub end_line : List Commit → ℕ → Option ℕ → ℕ → ℕ → List ℕ
-end_line commits t None x y = []
-end_line commits t (Some stamp) x y = if stamp == 0 then [] else dashes (column t) (height_of commits t stamp) x y
+-- from the line of one thread to a mark on that of the other; none within the column of the others
+abbrev pub dashes_to : Layout → ℕ → ℕ → ℕ → ℕ → List ℕ
+dashes_to l t high at y = if is_own l.own t || is_own l.own at then dashes (line_of l t) high (line_of l at) y else []
+
+-- from where the nack was enabled, on the line of its thread
+abbrev pub nack_line : Layout → List Commit → NackName → Option ℕ → ℕ → ℕ → List ℕ
+nack_line l commits n None at y = []
+nack_line l commits n (Some stamp) at y = dashes_to l n.thread (height_of commits n.thread stamp) at y
+
+-- from where the thread ended, on its line; none from a thread for whose end no commit counts
+abbrev pub end_line : Layout → List Commit → ℕ → Option ℕ → ℕ → ℕ → List ℕ
+end_line l commits t None at y = []
+end_line l commits t (Some stamp) at y = if stamp == 0 then [] else dashes_to l t (height_of commits t stamp) at y
 
 -- the dashed line of a commit alone by a nack or an end
-abbrev pub cause_line : Stamps → List Commit → Cause → ℕ → ℕ → List ℕ
-cause_line stamps commits (causes.Always m) x y = []
-cause_line stamps commits (causes.Nack n) x y = nack_line commits n (stamps.fired n) x y
-cause_line stamps commits (causes.End t) x y = end_line commits t (stamps.ended t) x y
+abbrev pub cause_line : Stamps → Layout → List Commit → Cause → ℕ → ℕ → List ℕ
+cause_line stamps l commits (causes.Always m) at y = []
+cause_line stamps l commits (causes.Nack n) at y = nack_line l commits n (stamps.fired n) at y
+cause_line stamps l commits (causes.End t) at y = end_line l commits t (stamps.ended t) at y
+
+-- LABELS
 
 -- what an arrow carries
 abbrev pub sent_text : Naming → ℕ → Message → List ℕ
 sent_text names chan msg = names.channel chan ++ codes " " ++ message_text names msg
 
+-- whose mark it is, where the column does not tell it
+abbrev pub whose : Naming → List Bool → ℕ → List ℕ
+whose names own t = if is_own own t then [] else names.thread t ++ codes ": "
+
+-- from whom to whom, where the columns do not tell it
+abbrev pub parties : Naming → List Bool → ℕ → ℕ → List ℕ
+parties names own one other =
+    if column own one == column own other then names.thread one ++ codes "->" ++ names.thread other ++ codes " " else whose names own one ++ whose names own other
+
+abbrev pub label_text : Naming → List Bool → Commit → List ℕ
+label_text names own (Pair sender receiver chan msg stamp) = parties names own sender.0.thread receiver.0.thread ++ sent_text names chan msg
+label_text names own (Alone at cause stamp) = whose names own at.0.thread ++ cause_text names cause
+
+-- MARKS
+
+-- an arrow stands between two columns
+abbrev pub is_arrow : List Bool → Commit → Bool
+is_arrow own (Pair sender receiver chan msg stamp) = not (column own sender.0.thread == column own receiver.0.thread)
+is_arrow own (Alone at cause stamp) = false
+
+-- the gap in which the label stands
+abbrev pub gap_of : List Bool → Commit → ℕ
+gap_of own (Pair sender receiver chan msg stamp) = beside (column own sender.0.thread) (column own receiver.0.thread)
+gap_of own (Alone at cause stamp) = column own at.0.thread
+
+-- where it stands
+abbrev pub spot_of : List Bool → List ℕ → Commit → Spot
+spot_of own gaps c = spot_in gaps (gap_of own c) (is_arrow own c)
+
+-- an arrow, or a dot; to a commit alone goes the dashed line of its cause
+abbrev pub figure : Stamps → Layout → List Commit → ℕ → Commit → List ℕ
+figure stamps l commits y (Pair sender receiver chan msg stamp) =
+    if column l.own sender.0.thread == column l.own receiver.0.thread then dot (line_of l sender.0.thread) y
+    else arrow (line_of l sender.0.thread) (line_of l receiver.0.thread) y
+figure stamps l commits y (Alone at cause stamp) = cause_line stamps l commits cause at.0.thread y ++ dot (line_of l at.0.thread) y
+
+abbrev pub mark_label : Naming → Layout → ℕ → Commit → List ℕ
+mark_label names l y c = beginning (spot_of l.own l.gaps c) y ++ label (label_text names l.own c) ++ text_end
+
 -- An arrow with the channel and the message, or a dot with its cause.
-abbrev pub mark : Naming → Stamps → List Commit → ℕ → Commit → List ℕ
-mark names stamps commits y (Pair sender receiver chan msg stamp) =
-    arrow (column sender.0.thread) (column receiver.0.thread) y
-    ++ centered (gap sender.0.thread receiver.0.thread) (y - 5) ++ label (sent_text names chan msg) ++ text_end
-mark names stamps commits y (Alone at cause stamp) =
-    cause_line stamps commits cause (column at.0.thread) y ++ dot (column at.0.thread) y
-    ++ starting (column at.0.thread + 9) (y + 4) ++ label (cause_text names cause) ++ text_end
+abbrev pub mark : Naming → Stamps → Layout → List Commit → ℕ → Commit → List ℕ
+mark names stamps l commits y c = figure stamps l commits y c ++ mark_label names l y c

@@ -1,5 +1,5 @@
 -- Which commits a chart shows: those of a range of stamps, 1,250 at most.
-use Rattle.std.specs.Prelude.{◌≡◌, ◌⊎◌, ◌&&◌, ℕ, ◌+◌, ◌<◌, ◌≤◌, max, List, [], ◌∷◌, length, filter, nat_le, nat_lt}
+use Rattle.std.specs.Prelude.{◌≡◌, ◌⊎◌, ◌&&◌, ℕ, zero, suc, ◌+◌, ◌<◌, ◌≤◌, max, List, [], ◌∷◌, length, filter, nat_le, nat_lt}
 use Rattle.protocol_values.specs.declared.Commit.{Commit}
 use Rattle.protocol_values.specs.Commits.{stamp_of}
 
@@ -21,6 +21,11 @@ pub record IsEnd (from to : ℕ) (commits : List Commit) (below : ℕ) : Type 0 
 abbrev pub most_by : {X : Type 0} → (X → ℕ) → List X → ℕ
 most_by f [] = 0
 most_by f (x ∷ xs) = max (f x) (most_by f xs)
+
+-- the same of the numbers below n
+abbrev pub most_below : ℕ → (ℕ → ℕ) → ℕ
+most_below zero f = 0
+most_below (suc n) f = max (f n) (most_below n f)
 
 abbrev pub greatest : List Commit → ℕ
 greatest commits = most_by stamp_of commits

@@ -1,11 +1,14 @@
 -- The rows of a chart, one for each commit that is shown, in their order.
-use Rattle.std.specs.Prelude.{ℕ, ◌+◌, ◌-◌, ◌==◌, ◌||◌, Bool, not, if◌then◌else◌, List, [], ◌++◌, codes, map, slice_get, slice_index, Option, Some, None}
+use Rattle.std.specs.Prelude.{ℕ, ◌-◌, ◌==◌, ◌||◌, Bool, not, if◌then◌else◌, List, [], ◌++◌, codes, map, slice_get, slice_index, Option, Some, None}
 use Rattle.std.specs.Fmt.{decimal}
 use Rattle.protocol_values.specs.declared.Commit.{Commit}
 use Rattle.protocol_values.specs.Commits.{stamp_of}
 use Rattle.journal_text.specs.Names.{Naming}
-use Rattle.pcml_chart.specs.Marks.{Stamps, mark, starting, text_end}
-use Rattle.pcml_chart.specs.Places.{height}
+use Rattle.pcml_chart.specs.Labels.{beginning, text_end}
+use Rattle.pcml_chart.specs.Marks.{Stamps, mark}
+use Rattle.pcml_chart.specs.Places.{Layout, height}
+use Rattle.pcml_chart.specs.declared.label.Spot.{Spot}
+use Rattle.pcml_chart.specs.declared.label.Spot.TheVariants.{Behind}
 
 -- STAMPS
 
@@ -24,9 +27,13 @@ border width y = codes "<path class='t' d='M0 " ++ decimal y ++ codes "H" ++ dec
 abbrev pub border_above : ℕ → ℕ → List ℕ
 border_above width place = if place == 0 then [] else border width (height place - 18)
 
+-- where the stamps stand
+abbrev pub margin : Spot
+margin = Behind 8
+
 -- the stamp at the left margin
 abbrev pub stamp_text : ℕ → ℕ → List ℕ
-stamp_text y stamp = starting 8 (y + 4) ++ decimal stamp ++ text_end
+stamp_text y stamp = beginning margin y ++ decimal stamp ++ text_end
 
 -- the border and the stamp, at the first commit of each stamp
 abbrev pub stamp_mark : ℕ → List Commit → ℕ → List ℕ
@@ -35,9 +42,9 @@ stamp_mark width commits place =
 
 -- THE WHOLE ROW
 
-abbrev pub mark_at : Naming → Stamps → List Commit → ℕ → Option Commit → List ℕ
-mark_at names stamps commits y None = []
-mark_at names stamps commits y (Some c) = mark names stamps commits y c
+abbrev pub mark_at : Naming → Stamps → Layout → List Commit → ℕ → Option Commit → List ℕ
+mark_at names stamps l commits y None = []
+mark_at names stamps l commits y (Some c) = mark names stamps l commits y c
 
-abbrev pub row : Naming → Stamps → ℕ → List Commit → ℕ → List ℕ
-row names stamps width commits place = stamp_mark width commits place ++ mark_at names stamps commits (height place) (slice_get commits place)
+abbrev pub row : Naming → Stamps → Layout → List Commit → ℕ → List ℕ
+row names stamps l commits place = stamp_mark l.width commits place ++ mark_at names stamps l commits (height place) (slice_get commits place)

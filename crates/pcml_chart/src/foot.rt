@@ -2,16 +2,20 @@
 
 ghost use Rattle.std.specs.Prelude.{◌≡◌, ◌<◌, ◌≤◌, ◌^◌, IfOk, OnOk, length};
 ghost use Rattle.std.specs.List.{flat_map};
+ghost use Rattle.std.specs.String.{string_bytes};
 ghost use Rattle.script.specs.Scripts.{script_of};
-ghost use Rattle.pcml_chart.specs.Chart.{each_below, foot_mark};
+ghost use Rattle.pcml_chart.specs.Chart.{feet_below, foot_mark, lines_below, offers_below};
+ghost use Rattle.pcml_chart.specs.Drawn.{laid};
 ghost use Rattle.pcml_chart.specs.Feet.{AreFeet, foot_text, is_ended, is_waiting, line_end, line_start, offer_line, offers_of, printed_text, stand_text};
 ghost use Rattle.pcml_chart.specs.Labels.{label};
-ghost use Rattle.pcml_chart.specs.Range.{most_by};
+ghost use Rattle.pcml_chart.specs.Widths.{foot_length};
 ghost use Rattle.journal_text.specs.Names.{named};
+ghost use Rattle.pcml_why.specs.Whys.{offer_text};
 ghost use Rattle.script.specs.Appending.{Adds};
 
-use crate::label::{push_centered, push_label, push_text_end};
-use crate::places::column;
+use crate::label::{push_centered, push_label, push_text_end, seen_length};
+use crate::layout::Layout;
+use crate::places::{is_own, line_of};
 use journal_replay::{End, State};
 use journal_text::push_atom;
 use pcml_why::push_offer;
@@ -66,13 +70,26 @@ fn offers_of<'a>(foot: &Foot<'a>) -> &'a [Offer]
     }
 }
 
-/// The lines below the foot of a line of life where most stand.
-pub(crate) fn lines_below(feet: &[Foot<'_>]) -> usize
-    ensures { result ≡ most_by (λ f. length (offers_of f)) feet.now }
+/// How many offers stand below the foot of a process.
+fn offers_below(own: &[bool], feet: &[Foot<'_>], thread: usize) -> usize
+    requires { thread < length feet.now }
+    ensures { result ≡ offers_below own.now feet.now thread }
+{
+    if is_own(own, thread) {
+        offers_of(&feet[thread]).len()
+    } else {
+        0
+    }
+}
+
+/// How many lines stand below a foot at most.
+pub(crate) fn lines_below(own: &[bool], feet: &[Foot<'_>]) -> usize
+    requires { length feet.now ≡ length own.now }
+    ensures { result ≡ lines_below own.now feet.now }
 {
     let mut most = 0;
-    for foot in feet {
-        most = offers_of(foot).len().max(most);
+    for thread in 0..own.len() {
+        most = offers_below(own, feet, thread).max(most);
     }
     most
 }
@@ -89,20 +106,34 @@ fn push_printed(out: &mut String, script: &Script, printed: &[Atom]) -> Result<(
 }
 
 /// How the process stands, and behind it what it printed where it ended.
-fn push_stand(
-    alloc: Global,
-    out: &mut String,
-    script: &Script,
-    foot: &Foot<'_>,
-) -> Result<(), AllocError>
-    ensures { OnOk result (Adds out.old out.new (label (stand_text (named (script_of script.now)) foot.now))) }
+fn stand_text(alloc: Global, script: &Script, foot: &Foot<'_>) -> Result<String, AllocError>
+    ensures { IfOk result (λ text. string_bytes text ≡ stand_text (named (script_of script.now)) foot.now) }
 {
     let mut text = String::new(alloc);
     text.push_str(foot.end.text())?;
     if is_ended(foot.end) {
         push_printed(&mut text, script, foot.printed)?;
     }
-    push_label(out, &text)
+    Ok(text)
+}
+
+fn offer_text(alloc: Global, script: &Script, offer: &Offer) -> Result<String, AllocError>
+    ensures { IfOk result (λ text. string_bytes text ≡ offer_text (named (script_of script.now)) offer.now.base) }
+{
+    let mut text = String::new(alloc);
+    push_offer(&mut text, script, offer.base)?;
+    Ok(text)
+}
+
+/// The length of the longest line of a foot.
+pub(crate) fn foot_length(alloc: Global, script: &Script, foot: &Foot<'_>) -> Result<u8, AllocError>
+    ensures { IfOk result (λ long. long ≡ foot_length (named (script_of script.now)) foot.now) }
+{
+    let mut longest = 0;
+    for offer in offers_of(foot) {
+        longest = seen_length(&offer_text(alloc, script, offer)?).max(longest);
+    }
+    Ok(seen_length(&stand_text(alloc, script, foot)?).max(longest))
 }
 
 /// Begins a line below.
@@ -129,8 +160,7 @@ fn push_offer_line(
 ) -> Result<(), AllocError>
     ensures { OnOk result (Adds out.old out.new (offer_line (named (script_of script.now)) x offer.now)) }
 {
-    let mut text = String::new(alloc);
-    push_offer(&mut text, script, offer.base)?;
+    let text = offer_text(alloc, script, offer)?;
     push_line_start(out, x)?;
     push_label(out, &text)?;
     push_line_end(out)
@@ -162,33 +192,56 @@ fn push_foot(
 ) -> Result<(), AllocError>
     ensures { OnOk result (Adds out.old out.new (foot_text (named (script_of script.now)) x y foot.now)) }
 {
+    let stand = stand_text(alloc, script, foot)?;
     push_centered(out, x, y)?;
-    push_stand(alloc, out, script, foot)?;
+    push_label(out, &stand)?;
     push_offer_lines(alloc, out, script, x, offers_of(foot))?;
     push_text_end(out)
 }
 
-/// How each process stands, below its line.
+/// How a process with a column of its own stands, below its line.
+fn push_foot_mark(
+    alloc: Global,
+    out: &mut String,
+    script: &Script,
+    layout: &Layout<'_>,
+    feet: &[Foot<'_>],
+    low: u64,
+    thread: u8,
+) -> Result<(), AllocError>
+    requires there { thread < length feet.now }
+    requires low { low < 2 ^ 60 }
+    ensures { OnOk result (Adds out.old out.new (foot_mark (named (script_of script.now)) (laid layout.now) feet.now low thread)) }
+{
+    let place = usize::from(thread);
+    if !is_own(layout.own, place) {
+        return Ok(());
+    }
+    push_foot(
+        alloc,
+        out,
+        script,
+        line_of(layout, thread),
+        low + 18,
+        &feet[place],
+    )
+}
+
+/// How each of these processes stands.
 pub(crate) fn push_feet(
     alloc: Global,
     out: &mut String,
     script: &Script,
+    layout: &Layout<'_>,
     feet: &[Foot<'_>],
     low: u64,
 ) -> Result<(), AllocError>
-    requires threads { length feet.now ≤ 64 }
+    requires count { length feet.now ≡ length layout.now.own.now }
     requires low { low < 2 ^ 60 }
-    ensures { OnOk result (Adds out.old out.new (each_below (length feet.now) (foot_mark (named (script_of script.now)) feet.now low))) }
+    ensures { OnOk result (Adds out.old out.new (feet_below (named (script_of script.now)) (laid layout.now) feet.now low)) }
 {
-    for thread in 0..feet.len() {
-        push_foot(
-            alloc,
-            out,
-            script,
-            column(thread as u8),
-            low + 18,
-            &feet[thread],
-        )?;
+    for thread in 0..layout.own.len() {
+        push_foot_mark(alloc, out, script, layout, feet, low, thread as u8)?;
     }
     Ok(())
 }

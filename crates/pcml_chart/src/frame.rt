@@ -1,16 +1,19 @@
 //! What stands round the marks: the page, the heading, and the lines of life with how many commits are shown.
 
-ghost use Rattle.std.specs.Prelude.{◌≡◌, ◌<◌, ◌≤◌, ◌^◌, OnOk};
+ghost use Rattle.std.specs.Prelude.{◌≡◌, ◌<◌, ◌^◌, IfOk, OnOk};
+ghost use Rattle.std.specs.String.{string_bytes};
 ghost use Rattle.script.specs.Scripts.{script_of};
-ghost use Rattle.pcml_chart.specs.Chart.{arrow_head, arrow_tail, background, cut_text, each_below, front, heading_of, lifeline, line, page, page_end, page_height, stamps_text, style};
+ghost use Rattle.pcml_chart.specs.Chart.{arrow_head, arrow_tail, background, cut_text, front, heading_of, heading_text, life, lifeline, lifelines, line, others_line, page, page_end, page_height, stamps_text, style};
+ghost use Rattle.pcml_chart.specs.Drawn.{laid};
 ghost use Rattle.journal_text.specs.Names.{named};
 ghost use Rattle.script.specs.Appending.{Adds};
 
-use crate::label::{push_centered, push_starting, push_text_end};
-use crate::places::{column, page_width};
-use journal_text::push_thread;
+use crate::label::{push_centered, push_label, push_starting, push_text_end};
+use crate::layout::Layout;
+use crate::name::thread_name;
+use crate::places::{has_others, is_own, line_at, line_of, others_column};
 use script::Script;
-use std::alloc::AllocError;
+use std::alloc::{AllocError, Global};
 
 fn push_page(out: &mut String, width: u64, tall: u64) -> Result<(), AllocError>
     ensures { OnOk result (Adds out.old out.new (page width tall)) }
@@ -62,18 +65,17 @@ fn page_height(low: u64, lines: usize) -> u64
     low + 32 + 16 * lines.min(8) as u64
 }
 
-/// The page of so many threads, whose lines of life end at this height, with so many lines below.
+/// The page of this width, on which the lines of life end at this height, with so many lines below.
 pub(crate) fn push_front(
     out: &mut String,
-    threads: usize,
+    width: u64,
     low: u64,
     lines: usize,
 ) -> Result<(), AllocError>
-    requires threads { threads ≤ 64 }
-    requires low { low < 2 ^ 60 }
-    ensures { OnOk result (Adds out.old out.new (front threads low lines)) }
+    requires { low < 2 ^ 60 }
+    ensures { OnOk result (Adds out.old out.new (front width low lines)) }
 {
-    push_page(out, page_width(threads), page_height(low, lines))?;
+    push_page(out, width, page_height(low, lines))?;
     push_style(out)?;
     push_arrow_tail(out)?;
     push_arrow_head(out)?;
@@ -96,20 +98,28 @@ fn cut_text(is_cut: bool) -> &'static str
 }
 
 /// How many commits are shown of how many, and which stamps.
-pub(crate) fn push_heading(
-    out: &mut String,
+pub(crate) fn heading_text(
+    alloc: Global,
     count: usize,
     total: usize,
     from: u32,
     last: u32,
     is_cut: bool,
-) -> Result<(), AllocError>
-    ensures { OnOk result (Adds out.old out.new (heading_of count total from last is_cut)) }
+) -> Result<String, AllocError>
+    ensures { IfOk result (λ text. string_bytes text ≡ heading_text count total from last is_cut) }
+{
+    let mut text = String::new(alloc);
+    write!(&mut text, "{count} of {total} commits")?;
+    push_stamps(&mut text, count, from, last)?;
+    text.push_str(cut_text(is_cut))?;
+    Ok(text)
+}
+
+pub(crate) fn push_heading(out: &mut String, text: &str) -> Result<(), AllocError>
+    ensures { OnOk result (Adds out.old out.new (heading_of text.now)) }
 {
     push_starting(out, 8, 18)?;
-    write!(out, "{count} of {total} commits")?;
-    push_stamps(out, count, from, last)?;
-    out.push_str(cut_text(is_cut))?;
+    out.push_str(text)?;
     push_text_end(out)
 }
 
@@ -120,29 +130,63 @@ fn push_line(out: &mut String, x: u64, low: u64) -> Result<(), AllocError>
     write!(out, "<path d='M{x} 52V{low}'/>\n")
 }
 
-fn push_lifeline(out: &mut String, script: &Script, low: u64, thread: u8) -> Result<(), AllocError>
-    ensures { OnOk result (Adds out.old out.new (lifeline (named (script_of script.now)) low thread)) }
+/// A name, and its line.
+fn push_life(out: &mut String, name: &str, x: u64, low: u64) -> Result<(), AllocError>
+    ensures { OnOk result (Adds out.old out.new (life name.now x low)) }
 {
-    push_centered(out, column(thread), 42)?;
-    push_thread(out, script, thread)?;
+    push_centered(out, x, 42)?;
+    push_label(out, name)?;
     push_text_end(out)?;
-    push_line(out, column(thread), low)
+    push_line(out, x, low)
 }
 
-/// The lines of life of the first so many threads.
-pub(crate) fn push_lifelines(
+/// The line of life of a process with a column of its own.
+fn push_lifeline(
+    alloc: Global,
     out: &mut String,
     script: &Script,
+    layout: &Layout<'_>,
     low: u64,
-    threads: usize,
+    thread: u8,
 ) -> Result<(), AllocError>
-    requires { threads ≤ 64 }
-    ensures { OnOk result (Adds out.old out.new (each_below threads (lifeline (named (script_of script.now)) low))) }
+    ensures { OnOk result (Adds out.old out.new (lifeline (named (script_of script.now)) (laid layout.now) low thread)) }
 {
-    for thread in 0..threads {
-        push_lifeline(out, script, low, thread as u8)?;
+    if !is_own(layout.own, usize::from(thread)) {
+        return Ok(());
     }
-    Ok(())
+    let name = thread_name(alloc, script, thread)?;
+    push_life(out, &name, line_of(layout, thread), low)
+}
+
+/// That of the others.
+fn push_others_line(out: &mut String, layout: &Layout<'_>, low: u64) -> Result<(), AllocError>
+    ensures { OnOk result (Adds out.old out.new (others_line (laid layout.now) low)) }
+{
+    if !has_others(layout.own) {
+        return Ok(());
+    }
+    push_life(
+        out,
+        "others",
+        line_at(layout.gaps, others_column(layout.own)),
+        low,
+    )
+}
+
+/// The lines of life of the columns.
+pub(crate) fn push_lifelines(
+    alloc: Global,
+    out: &mut String,
+    script: &Script,
+    layout: &Layout<'_>,
+    low: u64,
+) -> Result<(), AllocError>
+    ensures { OnOk result (Adds out.old out.new (lifelines (named (script_of script.now)) (laid layout.now) low)) }
+{
+    for thread in 0..layout.own.len() {
+        push_lifeline(alloc, out, script, layout, low, thread as u8)?;
+    }
+    push_others_line(out, layout, low)
 }
 
 pub(crate) fn push_page_end(out: &mut String) -> Result<(), AllocError>

@@ -1,18 +1,23 @@
 //! Texts in a chart, and where they stand.
 
-ghost use Rattle.std.specs.Prelude.{◌≡◌, ◌<◌, OnOk, length};
-ghost use Rattle.std.specs.Fmt.{decimal};
-ghost use Rattle.pcml_chart.specs.Labels.{begins, label, titled};
-ghost use Rattle.pcml_chart.specs.Marks.{centered, starting, text_end};
+ghost use Rattle.std.specs.Prelude.{◌≡◌, ◌<◌, ◌≤◌, ◌^◌, OnOk, length};
+ghost use Rattle.pcml_chart.specs.Labels.{beginning, begins, centered, front, label, seen, starting, text_end, title};
 ghost use Rattle.script.specs.Appending.{Adds};
 
 use std::alloc::AllocError;
 
-/// How many characters of a text stand at most.
-const LONGEST: usize = 18;
+/// How many characters of a text are seen at most.
+const LONGEST: usize = 40;
+
+/// Where a text stands: from a place on, or round it.
+#[derive(Clone, Copy)]
+pub enum Spot {
+    Behind(u64),
+    Round(u64),
+}
 
 /// Begins a text round the place.
-#[tactic(auto, unfolding(crate::specs::Marks::centered))]
+#[tactic(auto, unfolding(crate::specs::Labels::centered))]
 pub(crate) fn push_centered(out: &mut String, x: u64, y: u64) -> Result<(), AllocError>
     ensures { OnOk result (Adds out.old out.new (centered x y)) }
 {
@@ -20,14 +25,26 @@ pub(crate) fn push_centered(out: &mut String, x: u64, y: u64) -> Result<(), Allo
 }
 
 /// Begins a text from the place on.
-#[tactic(auto, unfolding(crate::specs::Marks::starting))]
+#[tactic(auto, unfolding(crate::specs::Labels::starting))]
 pub(crate) fn push_starting(out: &mut String, x: u64, y: u64) -> Result<(), AllocError>
     ensures { OnOk result (Adds out.old out.new (starting x y)) }
 {
     write!(out, "<text class='s' x='{x}' y='{y}'>")
 }
 
-#[tactic(auto, unfolding(crate::specs::Marks::text_end))]
+/// Begins a text at a mark of this height.
+pub(crate) fn push_beginning(out: &mut String, spot: Spot, y: u64) -> Result<(), AllocError>
+    requires low { 5 ≤ y }
+    requires high { y < 2 ^ 60 }
+    ensures { OnOk result (Adds out.old out.new (beginning spot y)) }
+{
+    match spot {
+        Spot::Behind(x) => push_starting(out, x, y + 4),
+        Spot::Round(x) => push_centered(out, x, y - 5),
+    }
+}
+
+#[tactic(auto, unfolding(crate::specs::Labels::text_end))]
 pub(crate) fn push_text_end(out: &mut String) -> Result<(), AllocError>
     ensures { OnOk result (Adds out.old out.new text_end) }
 {
@@ -43,12 +60,45 @@ fn begins(text: &str, place: usize) -> bool
     byte < 128 || 192 <= byte
 }
 
-#[tactic(auto, unfolding(crate::specs::Labels::titled))]
-fn push_titled(out: &mut String, whole: &str, front: &str) -> Result<(), AllocError>
-    ensures { OnOk result (Adds out.old out.new (titled whole.now front.now)) }
+/// What is left of a text that is cut.
+fn front(text: &str) -> &str
+    requires { 40 < length text.now }
+    ensures value { result.now ≡ front text.now }
+    ensures short { length result.now ≤ 38 }
 {
-    out.push_str(front)?;
-    out.push_str("..<title>")?;
+    if !begins(text, LONGEST - 2) {
+        return "";
+    }
+    let (front, _) = text.split_at(LONGEST - 2);
+    front
+}
+
+/// How many characters are seen of the text.
+pub(crate) fn seen_length(text: &str) -> u8
+    ensures { result ≡ length (seen text.now) }
+{
+    if text.len() <= LONGEST {
+        return text.len() as u8;
+    }
+    front(text).len() as u8 + 2
+}
+
+/// What is seen of the text.
+fn push_seen(out: &mut String, text: &str) -> Result<(), AllocError>
+    ensures { OnOk result (Adds out.old out.new (seen text.now)) }
+{
+    if text.len() <= LONGEST {
+        return out.push_str(text);
+    }
+    out.push_str(front(text))?;
+    out.push_str("..")
+}
+
+#[tactic(auto, unfolding(crate::specs::Labels::title))]
+fn push_title(out: &mut String, whole: &str) -> Result<(), AllocError>
+    ensures { OnOk result (Adds out.old out.new (title whole.now)) }
+{
+    out.push_str("<title>")?;
     out.push_str(whole)?;
     out.push_str("</title>")
 }
@@ -57,9 +107,9 @@ fn push_titled(out: &mut String, whole: &str, front: &str) -> Result<(), AllocEr
 pub(crate) fn push_label(out: &mut String, text: &str) -> Result<(), AllocError>
     ensures { OnOk result (Adds out.old out.new (label text.now)) }
 {
-    if text.len() <= LONGEST || !begins(text, LONGEST - 1) {
-        return out.push_str(text);
+    push_seen(out, text)?;
+    if text.len() <= LONGEST {
+        return Ok(());
     }
-    let (front, _) = text.split_at(LONGEST - 1);
-    push_titled(out, text, front)
+    push_title(out, text)
 }

@@ -2,14 +2,15 @@
 
 ghost use Rattle.std.specs.Prelude.{◌≡◌, ◌<◌, ◌≤◌, ◌^◌, OnOk, length};
 ghost use Rattle.script.specs.Scripts.{script_of};
-ghost use Rattle.pcml_chart.specs.Chart.{each_below};
-ghost use Rattle.pcml_chart.specs.Drawn.{stamps_of};
+ghost use Rattle.pcml_chart.specs.Chart.{marks};
+ghost use Rattle.pcml_chart.specs.Drawn.{laid, stamps_of};
 ghost use Rattle.pcml_chart.specs.Rows.{border, border_above, is_first, row, stamp_at, stamp_mark, stamp_text};
 ghost use Rattle.journal_text.specs.Names.{named};
 ghost use Rattle.script.specs.Appending.{Adds};
 
-use crate::label::{push_starting, push_text_end};
-use crate::mark::push_mark;
+use crate::label::{Spot, push_beginning, push_text_end};
+use crate::layout::Layout;
+use crate::mark::{push_figure, push_mark_label};
 use crate::places::height;
 use journal_replay::State;
 use protocol_values::Commit;
@@ -51,10 +52,11 @@ fn push_border_above(out: &mut String, width: u64, place: usize) -> Result<(), A
 
 /// The stamp at the left margin.
 fn push_stamp(out: &mut String, y: u64, stamp: u32) -> Result<(), AllocError>
-    requires { y < 2 ^ 60 }
+    requires low { 5 ≤ y }
+    requires high { y < 2 ^ 60 }
     ensures { OnOk result (Adds out.old out.new (stamp_text y stamp)) }
 {
-    push_starting(out, 8, y + 4)?;
+    push_beginning(out, Spot::Behind(8), y)?;
     write!(out, "{stamp}")?;
     push_text_end(out)
 }
@@ -82,24 +84,19 @@ fn push_row(
     out: &mut String,
     script: &Script,
     state: &State,
-    width: u64,
+    layout: &Layout<'_>,
     commits: &[Commit],
     place: usize,
 ) -> Result<(), AllocError>
     requires few { length commits.now ≤ 1250 }
     requires place { place < length commits.now }
-    ensures { OnOk result (Adds out.old out.new (row (named (script_of script.now)) (stamps_of state.now) width commits.now place)) }
+    ensures { OnOk result (Adds out.old out.new (row (named (script_of script.now)) (stamps_of state.now) (laid layout.now) commits.now place)) }
 {
-    push_stamp_mark(out, width, commits, place)?;
-    push_mark(
-        alloc,
-        out,
-        script,
-        state,
-        commits,
-        height(place),
-        &commits[place],
-    )
+    let y = height(place);
+    let commit = &commits[place];
+    push_stamp_mark(out, layout.width, commits, place)?;
+    push_figure(out, state, layout, commits, y, commit)?;
+    push_mark_label(alloc, out, script, layout, y, commit)
 }
 
 /// A row for each of the commits, in their order.
@@ -108,14 +105,14 @@ pub(crate) fn push_rows(
     out: &mut String,
     script: &Script,
     state: &State,
-    width: u64,
+    layout: &Layout<'_>,
     commits: &[Commit],
 ) -> Result<(), AllocError>
     requires { length commits.now ≤ 1250 }
-    ensures { OnOk result (Adds out.old out.new (each_below (length commits.now) (row (named (script_of script.now)) (stamps_of state.now) width commits.now))) }
+    ensures { OnOk result (Adds out.old out.new (marks (named (script_of script.now)) (stamps_of state.now) (laid layout.now) commits.now)) }
 {
     for place in 0..commits.len() {
-        push_row(alloc, out, script, state, width, commits, place)?;
+        push_row(alloc, out, script, state, layout, commits, place)?;
     }
     Ok(())
 }
