@@ -1,5 +1,5 @@
 -- The names of a text, part by part.
-use Rattle.std.proofs.Common.{◌≡◌, ◌≢◌, ◌==◌, ℕ, zero, suc, ◌+◌, ◌-◌, ◌<◌, ◌≤◌, List, [], ◌∷◌, ◌++◌, length, slice_index_or, get_or, take, drop, if◌then◌else◌, refl, sym, ap, ◌∙◌, subst, arith, true, false, Bool}
+use Rattle.std.proofs.Common.{◌≡◌, ◌≢◌, ◌==◌, ℕ, zero, suc, ◌+◌, ◌-◌, ◌<◌, ◌≤◌, List, [], ◌∷◌, ◌++◌, length, slice_index_or, get_or, take, drop, if◌then◌else◌, ◌||◌, refl, sym, ap, ◌∙◌, subst, arith, true, false, Bool}
 use Rattle.std.specs.Prelude.{Contains, Some, map, slice_get}
 use Rattle.std.specs.Option.{option_map}
 use Rattle.std.proofs.lemmas.Option.{none-some, same_Some}
@@ -9,7 +9,9 @@ use Rattle.std.proofs.lemmas.List.{drop_more, get_or-drop, length-drop}
 use Rattle.std.proofs.Math.Seq.{take-suc}
 use Rattle.script.specs.Sources.{Script}
 use Rattle.journal_replay.specs.declared.end.End.{End}
-use Rattle.pcml_need.specs.Needs.{AreEnded, HasEndedSo, names_from}
+use Rattle.std.specs.List.{list_any}
+use Rattle.script_token.specs.Tokens.{same}
+use Rattle.pcml_need.specs.Needs.{AreEnded, HasEndedSo, is_in, names_from}
 
 -- the processes of each of these names have ended
 abbrev pub EachEnded : Script → List End → List (List ℕ) → Type 0
@@ -100,3 +102,31 @@ pub name-at : (ps : List Proc) (t : ℕ) (name : List ℕ) → Some name ≡ opt
 name-at [] t name is = absurd (none-some name (sym is))
 name-at (p ∷ ps) zero name is = same_Some name p.name is
 name-at (p ∷ ps) (suc t) name is = name-at ps t name is
+
+-- at this place, where a name began at another, the name is one of all where it is one of those that are left
+pub record HasLeft (name text : List ℕ) (first at : ℕ) : Type 0 where
+  pub low : first ≤ at
+  pub left : list_any (λ n. same n name) (names_left text first at) ≡ is_in name text
+
+pub in-at-comma : (name text : List ℕ) (first at : ℕ) → at < length text → get_or text at 0 ≡ 44 → HasLeft name text first at →
+    (same (read_so_far text first at) name || list_any (λ n. same n name) (names_from [] (drop (at + 1) text))) ≡ is_in name text
+in-at-comma name text first at lt is left = ap (list_any (λ n. same n name)) (sym (left-at-comma text first at lt is)) ∙ left.left
+
+pub in-behind-comma : (name text : List ℕ) (first at : ℕ) → at < length text → get_or text at 0 ≡ 44 → same (read_so_far text first at) name ≡ false → HasLeft name text first at → HasLeft name text (at + 1) (at + 1)
+in-behind-comma name text first at lt is other left =
+    let rest = names_from [] (drop (at + 1) text) in
+    let zero_more : at + 1 - (at + 1) ≡ 0 = omega arith in
+    let none : read_so_far text (at + 1) (at + 1) ≡ [] = ap (λ (k : ℕ). take k (drop (at + 1) text)) zero_more in
+    let begun : names_left text (at + 1) (at + 1) ≡ rest = ap (λ (read : List ℕ). names_from read (drop (at + 1) text)) none in
+    record {
+      low = omega arith;
+      left =
+          ap (list_any (λ n. same n name)) begun ∙ ap (λ (b : Bool). b || list_any (λ n. same n name) rest) (sym other)
+          ∙ in-at-comma name text first at lt is left;
+    }
+
+pub in-behind-letter : (name text : List ℕ) (first at : ℕ) → at < length text → get_or text at 0 ≢ 44 → HasLeft name text first at → HasLeft name text first (at + 1)
+in-behind-letter name text first at lt is left = record {
+  low = omega (arith, left.low);
+  left = ap (list_any (λ n. same n name)) (sym (left-at-letter text first at left.low lt is)) ∙ left.left;
+}

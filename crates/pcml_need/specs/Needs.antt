@@ -1,5 +1,7 @@
--- Whether processes that have to end have ended.
-use Rattle.std.specs.Prelude.{◌≡◌, ◌≢◌, ◌⊎◌, ◌==◌, ℕ, List, [], ◌∷◌, ◌++◌, Contains, Some, if◌then◌else◌, codes, slice_get}
+-- Whether processes that have to end have ended, and which processes are named.
+use Rattle.std.specs.Prelude.{◌≡◌, ◌≢◌, ◌⊎◌, ◌==◌, ℕ, Bool, List, [], ◌∷◌, ◌++◌, Contains, Some, if◌then◌else◌, codes, map, slice_get}
+use Rattle.std.specs.List.{list_any}
+use Rattle.script_token.specs.Tokens.{same}
 use Rattle.script.specs.Sources.{Script}
 use Rattle.journal_text.specs.Names.{named}
 use Rattle.journal_replay.specs.declared.end.End.{End}
@@ -27,3 +29,10 @@ HasEndedSo s ends name = ((name ≡ codes "all") × HaveAllEnded ends) ⊎ ((nam
 -- the processes of these names have ended
 abbrev pub AreEnded : Script → List End → List ℕ → Type 0
 AreEnded s ends text = (name : List ℕ) → Contains (names_in text) name → HasEndedSo s ends name
+
+abbrev pub is_in : List ℕ → List ℕ → Bool
+is_in name text = list_any (λ n. same n name) (names_in text)
+
+-- of each process whether its name is one of those of a text
+abbrev pub are_named : Script → List ℕ → List Bool
+are_named s text = map (λ p. is_in p.name text) s.processes

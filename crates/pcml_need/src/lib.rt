@@ -1,14 +1,17 @@
-//! Whether the processes that have to end have ended.
+//! Whether the processes that have to end have ended, and which processes are named.
 #![tactic(auto)]
 
-ghost use Rattle.std.specs.Prelude.{◌≡◌, ◌↔◌, ◌<◌, IsTrue, length};
+ghost use Rattle.std.specs.Prelude.{◌≡◌, ◌↔◌, ◌<◌, IfOk, IsTrue, length, map};
+ghost use Rattle.std.specs.List.{list_any};
+ghost use Rattle.script_token.specs.Tokens.{same};
 ghost use Rattle.script.specs.Scripts.{script_of};
 ghost use Rattle.journal_text.specs.Names.{named};
 ghost use Rattle.journal_replay.specs.declared.end.End.TheVariants.{Ended};
-ghost use Rattle.pcml_need.specs.Needs.{AreEnded, HasEnded, HasEndedSo, HaveAllEnded};
+ghost use Rattle.pcml_need.specs.Needs.{AreEnded, HasEnded, HasEndedSo, HaveAllEnded, are_named, is_in, names_in};
 
 use journal_replay::End;
 use script::Script;
+use std::alloc::{AllocError, Global};
 
 /// What stands for all processes.
 const ALL: &[u8] = b"all";
@@ -82,4 +85,33 @@ pub fn have_ended(script: &Script, ends: &[End], names: &[u8]) -> bool
         }
     }
     has_ended_so(script, ends, &names[first..])
+}
+
+/// Whether the name is one of these, between which commas stand.
+fn is_in(name: &[u8], names: &[u8]) -> bool
+    ensures { result ≡ is_in name.now names.now }
+{
+    let mut begun = 0;
+    for at in 0..names.len() {
+        if names[at] == b',' {
+            if &names[begun..at] == name {
+                return true;
+            }
+            begun = at + 1;
+        }
+    }
+    &names[begun..] == name
+}
+
+/// Of each process whether its name is one of these, between which commas stand. A name that no process has counts for
+/// nothing.
+pub fn are_named(alloc: Global, script: &Script, names: &[u8]) -> Result<Vec<bool>, AllocError>
+    ensures { IfOk result (λ named. named.items ≡ are_named (script_of script.now) names.now) }
+{
+    let mut named = Vec::new(alloc);
+    let processes = script.processes();
+    for process in processes {
+        named.push(is_in(process.name().as_bytes(), names))?;
+    }
+    Ok(named)
 }
