@@ -16,7 +16,7 @@ _pcml_options() {
   case $1 in
     run) echo --workers --rows --seasons --journal --quiet --why --need --help ;;
     replay | why | stats) echo --rows --seasons --help ;;
-    chart) echo --rows --seasons --from --to --help ;;
+    chart) echo --rows --seasons --from --to --only --help ;;
     next) echo --rows --help ;;
     outcomes) echo --rows --limit --waiting --journal --of --help ;;
     *) echo --help ;;
@@ -25,7 +25,7 @@ _pcml_options() {
 
 _pcml() {
   local now=${COMP_WORDS[COMP_CWORD]} before=${COMP_WORDS[COMP_CWORD - 1]} command=${COMP_WORDS[1]-}
-  local commands='run check why chart replay outcomes next stats explain version meet play help'
+  local commands='run check why chart replay outcomes next stats explain manual version meet play help'
   COMPREPLY=()
   if [ "$COMP_CWORD" -eq 1 ]; then
     case $now in

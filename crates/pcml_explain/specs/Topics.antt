@@ -1,10 +1,10 @@
--- What can be explained: the faults of the program, by their numbers, and words that it tells.
+-- What can be explained: the faults of the program, by their numbers, and words that it tells; and the manual page.
 use Rattle.std.specs.Prelude.{IsTrue, nat_eq, ℕ, List, [], ◌∷◌, ◌++◌, codes, Bool, true, ◌||◌, ◌&&◌, ◌==◌, nat_le, if◌then◌else◌}
 use Rattle.std.specs.List.{list_any, starts_with, ends_with}
 use Rattle.std.specs.Fmt.{decimal}
 use Rattle.pcml_explain.specs.declared.Topic.{Topic}
 use Rattle.pcml_explain.specs.declared.Topic.TheVariants as topics
-use Rattle.pcml_explain.specs.declared.Topic.TheVariants.{Contents, Fault}
+use Rattle.pcml_explain.specs.declared.Topic.TheVariants.{Contents, Fault, Manual}
 use Rattle.pcml_explain.specs.declared.Word.{Word}
 use Rattle.pcml_explain.specs.declared.Word.TheVariants.{Unset, Kind, Range, Shape, Waiting, Spent, Unstarted, Journal, Stamp}
 
@@ -36,11 +36,13 @@ letters Stamp = codes "stamp"
 -- how the text of a topic begins
 abbrev pub heading : Topic → List ℕ
 heading Contents = codes "pcml explain "
+heading Manual = codes "PCML(1)"
 heading (Fault n) = codes "fault " ++ decimal n ++ place n ++ codes ": "
 heading (topics.Word word) = letters word ++ codes ": "
 
 abbrev pub is_topic : Topic → Bool
 is_topic Contents = true
+is_topic Manual = true
 is_topic (Fault n) = is_fault n
 is_topic (topics.Word word) = true
 

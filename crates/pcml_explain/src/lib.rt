@@ -7,6 +7,7 @@ ghost use Rattle.pcml_explain.specs.declared.Topic.TheVariants as topics;
 ghost use Rattle.pcml_explain.specs.declared.Word.{Word};
 ghost use Rattle.pcml_explain.specs.Topics.{heading, is_topic, letters};
 
+mod manual;
 mod texts;
 mod words;
 
@@ -50,6 +51,8 @@ impl Word {
 pub enum Topic {
     /// Which faults and words there are.
     Contents,
+    /// The whole manual page.
+    Manual,
     /// The fault of this number.
     Fault(u16),
     Word(Word),
@@ -101,7 +104,7 @@ fn word_text(word: Word) -> &'static str
     }
 }
 
-/// What a fault or a word means, in lines of text, or which there are; none where no fault has the number. What the
+/// What a fault or a word means, in lines of text, or which there are, or the manual page; none where no fault has the number. What the
 /// text says behind its heading no clause tells.
 pub fn explanation(topic: Topic) -> Option<&'static str>
     ensures of_topics { is_some result ≡ is_topic topic }
@@ -110,6 +113,7 @@ pub fn explanation(topic: Topic) -> Option<&'static str>
 {
     match topic {
         Topic::Contents => Some(texts::CONTENTS),
+        Topic::Manual => Some(manual::PAGE),
         Topic::Fault(number) => fault_text(number),
         Topic::Word(word) => Some(word_text(word)),
     }

@@ -99,10 +99,19 @@ fn why_request<'a>(why: &ArgMatches<'a>) -> Option<Request<'a>> {
     })
 }
 
+fn only_argument<'a>(alloc: Global) -> Arg<'a> {
+    Arg::new(alloc, "only")
+        .long("only")
+        .action(ArgAction::Set)
+        .value_name("NAMES")
+        .help("Processes with a column each, with commas between: the others share one")
+}
+
 fn chart_command<'a>(alloc: Global) -> Result<Command<'a>, AllocError> {
     let mut arguments = arguments_of_journal(alloc)?;
     arguments.push(stamp_argument(alloc, "from", "1", "The first stamp that is drawn"))?;
     arguments.push(stamp_argument(alloc, "to", "4294967295", "The last stamp that is drawn"))?;
+    arguments.push(only_argument(alloc))?;
     Command::new(alloc, "chart")
         .about("Draws a journal as a chart (SVG)")
         .args(arguments)
@@ -117,6 +126,7 @@ fn chart_request<'a>(chart: &ArgMatches<'a>) -> Option<Request<'a>> {
         seasons: chart.get_one("seasons"),
         from: chart.get_one("from")?,
         to: chart.get_one("to")?,
+        only: chart.get_str("only"),
     })
 }
 
@@ -224,6 +234,10 @@ fn explain_request<'a>(explain: &ArgMatches<'a>) -> Option<Request<'a>> {
     Word::of(topic).map(|word| Request::Explain(Topic::Word(word)))
 }
 
+fn manual_command<'a>(alloc: Global) -> Result<Command<'a>, AllocError> {
+    Ok(Command::new(alloc, "manual").about("Prints the manual page"))
+}
+
 fn version_command<'a>(alloc: Global) -> Result<Command<'a>, AllocError> {
     Ok(Command::new(alloc, "version").about("Tells the version"))
 }
@@ -276,6 +290,7 @@ pub(crate) fn command_line<'a>(alloc: Global) -> Result<Command<'a>, AllocError>
     let command = with(command, next_command(alloc));
     let command = with(command, stats_command(alloc));
     let command = with(command, explain_command(alloc));
+    let command = with(command, manual_command(alloc));
     let command = with(command, version_command(alloc));
     let command = with(command, meet_command(alloc));
     with(command, play_command(alloc))
@@ -293,6 +308,7 @@ pub(crate) fn request_of<'a>(name: &str, behind: &ArgMatches<'a>) -> Option<Requ
         "next" => next_request(behind),
         "stats" => stats_request(behind),
         "explain" => explain_request(behind),
+        "manual" => Some(Request::Explain(Topic::Manual)),
         "version" => Some(Request::Version),
         "meet" => behind.get_one("value").map(|value| Request::Meet(value)),
         "play" => behind.get_str("file").map(|name| Request::Play(name)),

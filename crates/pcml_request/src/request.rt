@@ -50,7 +50,8 @@ pub enum Request<'a> {
     /// Why the text in the file of this name is no script.
     WhyScript(&'a str),
     /// The chart of the journal in a file, against the script in another, of so many rows a process in each
-    /// season: the commits with a stamp from one to another.
+    /// season: the commits with a stamp from one to another. Where names are given (separated by commas), only the
+    /// processes of these names have columns of their own, and all others share one.
     Chart {
         script: &'a str,
         journal: &'a str,
@@ -58,6 +59,7 @@ pub enum Request<'a> {
         seasons: Option<u16>,
         from: u32,
         to: u32,
+        only: Option<&'a str>,
     },
     /// Where the journal in a file leads the script in another, of so many rows a process in each season.
     Replay {
@@ -83,7 +85,7 @@ pub enum Request<'a> {
         rows: u16,
         seasons: Option<u16>,
     },
-    /// What a fault or a word means.
+    /// What a fault or a word means, or the manual page.
     Explain(Topic),
     /// Which version of the program this is.
     Version,

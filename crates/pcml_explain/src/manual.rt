@@ -1,0 +1,368 @@
+//! The manual page, which `docs/manual --write` writes here from `docs/pcml.1`.
+
+/// The page as text of at most 79 columns.
+pub(crate) const PAGE: &str =
+    "PCML(1)                         User commands                         PCML(1)
+
+NAME
+       pcml - run, check and replay scripts of Concurrent ML's first-class
+       events
+
+SYNOPSIS
+       pcml run FILE [--workers N] [--rows G] [--seasons K] [--journal TO]
+       [--quiet] [--why] [--need NAMES]
+       pcml replay FILE JOURNAL [--rows G] [--seasons K]
+       pcml why FILE JOURNAL [--rows G] [--seasons K]
+       pcml why FILE
+       pcml chart FILE JOURNAL [--rows G] [--seasons K] [--from S] [--to S]
+       [--only NAMES]
+       pcml next FILE JOURNAL [--rows G]
+       pcml outcomes FILE [--rows G] [--limit C] [--waiting] [--journal TO
+       [--of K]]
+       pcml check FILE
+       pcml play FILE
+       pcml stats FILE JOURNAL [--rows G] [--seasons K]
+       pcml explain [N]
+       pcml manual
+       pcml version
+       pcml meet V
+       pcml help [COMMAND]
+
+DESCRIPTION
+       A script declares channels and processes. Its processes send and
+       receive on the channels, offer several events at once, wait for nacks,
+       start others and wait for their ends, on one worker or several. What a
+       run comes to is its journal: a line for each rendezvous, with its
+       stamp.
+
+       A script may have several outcomes: of several events that may be
+       taken any one is, and the next run may take another. A run shows one
+       of them, outcomes all.
+
+COMMANDS
+       run    Runs the processes of a script, and prints the journal, a line
+              for each process and the counts.
+
+       replay Replays a journal against its script, and prints how each
+              process stands, and whether a commit may still come; or the
+              first line with which the journal is no run.
+
+       why    Tells why each process stands where a journal leads it: of one
+              that waits the line of its sync, its variables and each of its
+              offers, with who could meet it and who makes the same, and
+              whether by the script's text nobody ever can; of one that
+              faulted where and why, with the value that was there; and at
+              the end which processes wait for one another, and a line for
+              each two of them of which one waits for the other, with where
+              that one could serve it. Of a journal that is no run it tells
+              the first line with which it is none, as replay, and behind it
+              which part of the rule does not hold of that line.  Without a
+              journal it tells why the text is no script: its first fault
+              with line and column, the line with a mark under the place,
+              what helps where something is known, and what may stand there;
+              of a script, that it is one.
+
+       chart  Draws a journal against its script, as SVG: a line of life for
+              each process, in the journal's order an arrow for each
+              rendezvous and a dot for what was committed alone, each in a
+              row of its own, a dashed line from what fired a nack, or ended,
+              to its use, and how each process stands, with what it offers or
+              printed. The stamp stands at the first row of each. A long text
+              is cut, and whole in its title. Of a journal that is no run
+              there is no chart: the line that replay prints of it goes to
+              standard error, with status 1.  Of more than 1,250 commits the
+              first are drawn, and the heading says so.
+
+       next   Prints the line of each commit that may come next where a
+              journal leads its script. A journal that is no run is answered
+              as by replay.
+
+       outcomes
+              Tells all that a script can come to: for each outcome its
+              number and a line for each process, then how many outcomes
+              there are, how many configurations were seen, and whether that
+              is all. In which order outcomes are told is open.
+
+       check  Checks the text of a script, and prints how many processes and
+              channels it has.
+
+       play   Plays the steps of a schedule, and prints the commits of the
+              world that it leads to.
+
+       meet   Sends one number from a thread to another, and prints the line
+              of their rendezvous.
+
+       stats  Prints how often each process sent, received and was committed
+              alone in a journal, with the stamp of its last commit, how
+              often each channel was used, and how many commits there are,
+              with their greatest stamp. The two numbers of the last line are
+              equal where one commit had to follow another; where there are
+              twice as many commits as stamps, workers that run side by side
+              could take half the time.
+
+       explain
+              Prints what fault N means, the smallest file that gives it or
+              how it comes about, and what to do. N may also be one of the
+              words unset, kind, range, shape, waiting, spent, unstarted,
+              journal and stamp.  Without N it lists them all.
+
+       manual Prints this page.
+
+       version
+              Prints the version, and the line of the kit by which it was
+              proved.
+
+       help   Prints the help of the program or of a command.
+
+OPTIONS
+       --workers N
+              How many workers run the processes, 1 to 16; else 4.
+
+       --rows G
+              How many syncs a process may make, 1 to 1024; else 256.
+              replay, why, chart and stats have to be told what the run had,
+              or they take a process for spent that was not, and the other
+              way round.
+
+       --seasons K
+              How many tables of G rows a process a run may take, 1 to 65535.
+              Where some process has made G syncs in a table and comes to a
+              further one, the table is closed when no worker finds a turn to
+              make any more, and the run goes on in a new one: so no process
+              is spent, and a run ends for no want of syncs, or with fault 7
+              where it needs more tables.  Of long runs 128 rows are a good
+              number, and 64 to 256 little worse: a change of tables costs
+              work and waits for the slowest process, so a few rows are slow
+              with many workers, and a large table does not fit the caches.
+              Without the option there is one table, in which a process may
+              be spent.  replay, why, chart and stats let a process make K
+              times G syncs.
+
+       --from S, --to S
+              The first and the last stamp that is drawn, from 1; else all
+              are.
+
+       --only NAMES
+              Only the processes of these names, which have commas between,
+              have a column each in the chart; all others share one, headed
+              others.  A name that no process has counts for nothing.
+
+       --journal TO
+              Writes the lines of the journal to the file TO too, whole or
+              not at all, before anything is printed. They are written to a
+              new file in its folder, pcml.K.part, which then takes its
+              place, with its mode and, where the system lets it, its owner.
+              Where TO is a link, the file behind it is the one. It is fault
+              32, and TO stays as it is, where that is no regular file, may
+              not be written, is the script, or is where a standard stream
+              goes.  For outcomes it is a journal that leads to the outcome
+              of --of, or else to the first that is told; where there is no
+              such outcome, TO stays as it is.
+
+       --of K The number of the outcome whose journal is written, from 1.
+              Where there is none of that number, the status is 1.
+
+       --limit C
+              How many configurations are seen, 1 to 4194304; else 1048576.
+              Where there are more, the last line ends with cut in place of
+              all.
+
+       --waiting
+              Tells only the outcomes in which some process is left waiting.
+              The status is 0 only where there are none and all was seen.
+
+       --quiet
+              Prints no journal.
+
+       --why  Tells behind the counts of a run why each process stands where
+              it does, as why does of its journal.
+
+       --need NAMES
+              The status is 3 where one of the processes of these names,
+              which have commas between, has not ended, or no process has
+              such a name.  all stands for each process.
+
+       -h, --help
+              Prints the help.
+
+FILES
+       The name - is the standard input, for one file of a command. Of a file
+       no more than 16,777,217 bytes are read, so that a device or a pipe may
+       be named too.
+
+       Any beginning of a journal is a journal of the same script.
+
+LANGUAGE
+       A script is channels (channel c;) and processes (process p { .. }).
+       Statements are let x = e;, print e;, sync E;, x, y <- sync E;, if a =
+       b { .. } else { .. } (or <), loop 3 { .. }, forever { .. }, end; and
+       spawn p;, which starts the process p when it is first reached. The
+       name behind spawn and joined is that of a process whose block has
+       ended before; of each process a script has one spawn at most, and a
+       process that one names does not start by itself.  A loop begins with a
+       sync, each if has an else, and there are no comments. A message is 0
+       to 3 numbers, channels or nacks. The events E are
+
+       send c (e, ..), recv c
+              taken together, by two processes; a channel has no buffer
+
+       always (e, ..), never
+              taken at once, and not at all
+
+       choose [E, ..]
+              one of them is taken; which one of those that may be is open
+
+       wrap E as x, y to (e, ..)
+              sets x and y to what E gives, and gives the list
+
+       guard { .. } E
+              runs the block at each sync, before anything is offered
+
+       nack n { .. } E
+              sets n to a new nack, which is enabled once the sync takes
+              something outside E, and runs the block before anything is
+              offered
+
+       cancelled n
+              may be taken once the nack n is enabled
+
+       joined p
+              may be taken once the process p has started, and has ended or
+              faulted
+
+       A process ends as ended; waiting, in a sync that nobody takes; spent,
+       where it came to a sync more than --rows allows; unstarted, where
+       nobody spawned it; or faulted, by unset (a name is read that is not
+       set), kind (a value is of the wrong kind), range (a number below 0 or
+       above 4294967295, or a 65th nack) or shape (more or fewer names than
+       values). LANGUAGE.md in the folder docs of the sources says it in
+       full.
+
+LIMITS
+       The program needs 1 MiB of stack (ulimit -s) for the deepest scripts,
+       and each worker but the first another 512 KiB. Where a limit on memory
+       is near (ulimit -v), it asks for that stack before it does anything,
+       and tells fault 1 where it cannot be had.
+
+EXIT STATUS
+       0      The answer is on standard output.
+
+       1      A fault, which is one line on standard error, with nothing on
+              standard output but after fault 32; or a journal that is no
+              run, whose line is on standard output, and after chart on
+              standard error; or a text that is no script, of which why tells
+              that on standard output; or outcomes of which one leaves a
+              process waiting, or not all are known, with --waiting, or of
+              which none has the number of --of.
+
+       2      Words that are not understood, and a wish for help: the help is
+              on standard error.
+
+       3      A process that --need names has not ended: all is on standard
+              output.
+
+       70     The script ./pcml of the sources has no program to run and
+              cannot answer without: its message says why.
+
+EXAMPLES
+       pcml run ping_pong.pcml --workers 2
+              Runs a script on two workers.
+
+       pcml run s.pcml --journal s.journal --quiet --why
+              Runs a script, keeps its journal, and tells why each process
+              stands where it does.
+
+       pcml run s.pcml --quiet --need client,server
+              Tests that these two come to their end.
+
+       head -n 3 s.journal | pcml why s.pcml -
+              Tells how it stood after three commits.
+
+       pcml chart s.pcml s.journal > s.svg
+              Draws the run.
+
+       pcml run s.pcml --quiet | grep waiting
+              Lists the processes that wait in the end.
+
+       pcml outcomes s.pcml --waiting --journal s.journal || pcml why s.pcml
+       s.journal
+              Tests that no run of a script gets stuck, and of one that may
+              get so tells how.
+
+       while pcml next s.pcml s.journal | head -n 1 > s.step && test -s
+       s.step; do cat s.step >> s.journal; done
+              Goes on by one commit after another where the journal leads
+              (from the beginning, where the file is empty), of those that
+              may come next always with the first; in the place of head a
+              user may choose.
+
+FAULTS
+       fault 1
+              Memory ran out.
+
+       fault 2 step K
+              Step K of the schedule, from 1, is not allowed.
+
+       fault 3
+              A number of rows that is not 1 to 1024, where a program calls
+              the library so; a command line cannot.
+
+       fault 4
+              A process that has not ended has no machine behind a season. It
+              comes about no more.
+
+       fault 5
+              The commits of all seasons are no run of the script. It comes
+              about no more.
+
+       fault 6
+              A thread could not be started.
+
+       fault 7
+              The seasons do not suffice.
+
+       fault 8
+              A number of seasons that is not 1 to 65535, where a program
+              calls the library so; a command line cannot.
+
+       fault 11 line L
+              The grammar does not allow the token.
+
+       fault 12 line L
+              A name stands for nothing.
+
+       fault 13 line L
+              A name stands for something already.
+
+       fault 14 line L
+              More than the limits of a script allow.
+
+       fault 15 line L
+              A loop does not begin with a sync.
+
+       fault 16
+              A script of more than 65,536 bytes.
+
+       fault 21 line L
+              A line of the journal is not of the form.
+
+       fault 22 line L
+              A line of the schedule is not of the form.
+
+       fault 23
+              A journal or a schedule of more than 16,777,216 bytes.
+
+       fault 31
+              A file cannot be read.
+
+       fault 32
+              An output, or the file for the journal, cannot be written.
+
+SEE ALSO
+       The folder docs of the sources has the texts of scripts, journals and
+       schedules (FORMATS.md), what is proved (PROVED.md) and the map of the
+       code (ARCHITECTURE.md), what the language means (LANGUAGE.md) and the
+       theorems (THEOREMS.md).
+
+Puttolive                         2026-11-27                          PCML(1)
+";
