@@ -7,3 +7,4 @@ pub mod Running
 pub mod Numbering
 pub mod Judging
 pub mod Crossing
+pub mod Columns

@@ -1,24 +1,39 @@
--- What the chart of a journal is.
-use Rattle.std.specs.Prelude.{ℕ, List}
+-- What the chart of a journal is, and why there is none.
+use Rattle.std.specs.Prelude.{ℕ, Bool, true, List, Option, Some, None, length, replicate}
 use Rattle.protocol_values.specs.declared.Commit.{Commit}
 use Rattle.script.specs.Sources.{Script}
+use Rattle.journal_text.specs.Answers.{Explains}
 use Rattle.journal_text.specs.Journals.{Spells}
 use Rattle.journal_replay.specs.Replays.{StandsAfter}
 use Rattle.journal_replay.specs.declared.state.State.{State}
 use Rattle.pcml_chart.specs.Chart.{IsChart}
-use Rattle.pcml_tool.specs.Replay.{IsNoRun}
-use Rattle.pcml_tool.specs.declared.replay.Replayed.{Replayed}
-use Rattle.pcml_tool.specs.declared.replay.Replayed.TheVariants.{Lawful, Unlawful}
+use Rattle.pcml_need.specs.Needs.{are_named}
+use Rattle.pcml_tool.specs.Replay.{IsNoRun, unlawful_line}
+use Rattle.pcml_tool.specs.declared.chart.ChartFault.{ChartFault}
+use Rattle.journal_text.specs.declared.JournalFault.{JournalFault}
+use Rattle.journal_text.specs.declared.JournalFault.TheVariants as journals
+use Rattle.pcml_tool.specs.declared.chart.ChartFault.TheVariants.{Memory, BadLine, NoRun}
+
+-- which processes have columns of their own: where names are given, those of these names, and else all
+abbrev pub own_by : Script → Option (List ℕ) → List Bool
+own_by s None = replicate (length s.processes) true
+own_by s (Some names) = are_named s names
 
 -- The bytes are a journal in the names of the script, and its commits are a run of the script's processes, of so many rows each,
 -- which the state stands after. The text is the chart of those with a stamp from `from` to `to`.
-pub record IsCharted (s : Script) (rows : ℕ) (bytes : List ℕ) (from to : ℕ) (text : List ℕ) : Type 0 where
+pub record IsCharted (s : Script) (rows : ℕ) (bytes : List ℕ) (only : Option (List ℕ)) (from to : ℕ) (text : List ℕ) : Type 0 where
   pub commits : List Commit
   pub spells : Spells s bytes commits
   pub state : State
   pub stands : StandsAfter s.processes rows commits state
-  pub is : IsChart s state commits from to text
+  pub is : IsChart s state (own_by s only) commits from to text
 
-abbrev pub TellsCharted : Script → ℕ → List ℕ → ℕ → ℕ → Replayed → Type 0
-TellsCharted s rows bytes from to (Lawful text) = IsCharted s rows bytes from to text.items
-TellsCharted s rows bytes from to (Unlawful text) = IsNoRun s rows bytes text.items
+-- the fault of reading a journal as one of drawing it
+abbrev pub of_journal : JournalFault → ChartFault
+of_journal journals.Memory = Memory
+of_journal (journals.BadLine line) = BadLine line
+
+abbrev pub ExplainsChart : Script → ℕ → List ℕ → ChartFault → Type 0
+ExplainsChart s rows bytes Memory = Explains s bytes journals.Memory
+ExplainsChart s rows bytes (BadLine line) = Explains s bytes (journals.BadLine line)
+ExplainsChart s rows bytes (NoRun line) = IsNoRun s rows bytes (unlawful_line line)

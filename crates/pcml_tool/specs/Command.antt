@@ -17,7 +17,7 @@ use Rattle.protocol_schedule.specs.Schedule.{IsFirstBadLine}
 use Rattle.pcml_tool.specs.Play.{IsPlayed, IsFirstRefused}
 use Rattle.pcml_tool.specs.Check.{IsChecked}
 use Rattle.runtime.specs.Limits.{AreRows, AreSeasons, AreWorkers}
-use Rattle.pcml_tool.specs.Replay.{IsReplayed, IsNoRun}
+use Rattle.pcml_tool.specs.Replay.{IsReplayed, IsNoRun, unlawful_line}
 use Rattle.pcml_tool.specs.Chart.{IsCharted}
 use Rattle.pcml_tool.specs.Why.{IsRefused, IsTold, IsWhyOf}
 use Rattle.protocol_values.specs.declared.Commit.{Commit}
@@ -78,8 +78,9 @@ AnswersReplay Holds script journal rows verdict text = OfJournal Holds script jo
 abbrev pub AnswersWhy : Files → List ℕ → List ℕ → ℕ → Verdict → List ℕ → Type 0
 AnswersWhy Holds script journal rows verdict text = OfJournal Holds script journal (λ source s read told. IsTold s source rows read told) (λ s read told. IsRefused s rows read told) verdict text
 
-abbrev pub AnswersChart : Files → List ℕ → List ℕ → ℕ → ℕ → ℕ → Verdict → List ℕ → Type 0
-AnswersChart Holds script journal rows from to verdict text = OfJournal Holds script journal (λ source s read told. IsCharted s rows read from to told) (λ s read told. IsNoRun s rows read told) verdict text
+-- of a journal that is no run there is no chart: that is a fault
+abbrev pub AnswersChart : Files → List ℕ → List ℕ → ℕ → Option (List ℕ) → ℕ → ℕ → Verdict → List ℕ → Type 0
+AnswersChart Holds script journal rows only from to verdict text = OfJournal Holds script journal (λ source s read told. IsCharted s rows read only from to told) (λ s read told. ⊥) verdict text
 
 abbrev pub AnswersNext : Files → List ℕ → List ℕ → ℕ → Verdict → List ℕ → Type 0
 AnswersNext Holds script journal rows verdict text = OfJournal Holds script journal (λ source s read told. IsNext s rows read told) (λ s read told. IsNoRun s rows read told) verdict text
@@ -158,7 +159,7 @@ pub record AnswersRun (Holds Keeps : Files) (asked : Running) (verdict : Verdict
 abbrev pub AsksOfJournal : Request → Type 0
 AsksOfJournal (Replay script journal rows seasons) = Unit {0}
 AsksOfJournal (Why script journal rows seasons) = Unit {0}
-AsksOfJournal (Chart script journal rows seasons from to) = Unit {0}
+AsksOfJournal (Chart script journal rows seasons from to only) = Unit {0}
 AsksOfJournal (Next script journal rows) = Unit {0}
 AsksOfJournal (Stats script journal rows seasons) = Unit {0}
 AsksOfJournal asked = ⊥
@@ -169,7 +170,7 @@ AsksOfJournal asked = ⊥
 abbrev pub Answers : Files → Files → Request → Verdict → List ℕ → Type 0
 Answers Holds Keeps (Replay script journal rows seasons) verdict text = AnswersReplay Holds script.now journal.now (all_rows rows seasons) verdict text
 Answers Holds Keeps (Why script journal rows seasons) verdict text = AnswersWhy Holds script.now journal.now (all_rows rows seasons) verdict text
-Answers Holds Keeps (Chart script journal rows seasons from to) verdict text = AnswersChart Holds script.now journal.now (all_rows rows seasons) from to verdict text
+Answers Holds Keeps (Chart script journal rows seasons from to only) verdict text = AnswersChart Holds script.now journal.now (all_rows rows seasons) (option_copied only) from to verdict text
 Answers Holds Keeps (Next script journal rows) verdict text = AnswersNext Holds script.now journal.now rows verdict text
 Answers Holds Keeps (Stats script journal rows seasons) verdict text = AnswersStats Holds script.now journal.now (all_rows rows seasons) verdict text
 Answers Holds Keeps (WhyScript name) verdict text = AnswersWhyScript Holds name.now verdict text
@@ -219,6 +220,11 @@ FailsReplay Holds script journal faults.TooLarge = OfFiles Holds script journal 
 FailsReplay Holds script journal (faults.BadLine line) = OfFiles Holds script journal (λ s read. Fits read × journals.IsFirstBadLine s read line)
 FailsReplay Holds script journal fault = FailsScript Holds script fault
 
+-- what a fault of drawing one says: also that the journal is no run, and with which line first
+abbrev pub FailsChart : Files → List ℕ → List ℕ → ℕ → Fault → Type 0
+FailsChart Holds script journal rows (faults.NoRun line) = OfFiles Holds script journal (λ s read. Fits read × IsNoRun s rows read (unlawful_line line))
+FailsChart Holds script journal rows fault = FailsReplay Holds script journal fault
+
 -- what a fault of a run says of what was asked for
 abbrev pub FailsRun : ℕ → ℕ → Option ℕ → Fault → Type 0
 FailsRun workers rows seasons faults.Memory = Unit {0}
@@ -258,7 +264,7 @@ Fails Holds (Check name) fault = FailsParse Holds name.now fault
 Fails Holds (Explain topic) fault = fault ≡ faults.Memory
 Fails Holds (Why script journal rows seasons) fault = FailsReplay Holds script.now journal.now fault
 Fails Holds (WhyScript name) fault = FailsRead (λ bytes. ⊥) fault
-Fails Holds (Chart script journal rows seasons from to) fault = FailsReplay Holds script.now journal.now fault
+Fails Holds (Chart script journal rows seasons from to only) fault = FailsChart Holds script.now journal.now (all_rows rows seasons) fault
 Fails Holds (Next script journal rows) fault = FailsReplay Holds script.now journal.now fault
 Fails Holds (Stats script journal rows seasons) fault = FailsReplay Holds script.now journal.now fault
 Fails Holds (Outcomes search) fault = FailsOutcomes Holds search fault

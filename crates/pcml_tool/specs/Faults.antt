@@ -1,4 +1,4 @@
--- The faults of meeting, of playing, of files, of journals, of runs, of seasons and of scripts as faults of the program.
+-- The faults of meeting, of playing, of files, of journals, of charts, of runs, of seasons and of scripts as faults of the program.
 use Rattle.pcml_tool.specs.declared.meeting.MeetFault.{MeetFault}
 use Rattle.pcml_tool.specs.declared.meeting.MeetFault.TheVariants as meets
 use Rattle.pcml_tool.specs.declared.play.PlayFault.{PlayFault}
@@ -13,6 +13,8 @@ use Rattle.runtime.specs.declared.seasons.SeasonFault.{SeasonFault}
 use Rattle.runtime.specs.declared.seasons.SeasonFault.TheVariants as seasons
 use Rattle.script.specs.declared.fault.ScriptFault.{ScriptFault}
 use Rattle.script.specs.declared.fault.ScriptFault.TheVariants as scripts
+use Rattle.pcml_tool.specs.declared.chart.ChartFault.{ChartFault}
+use Rattle.pcml_tool.specs.declared.chart.ChartFault.TheVariants as charts
 use Rattle.pcml_tool.specs.declared.fault.Fault.{Fault}
 use Rattle.pcml_tool.specs.declared.fault.Fault.TheVariants as faults
 
@@ -33,6 +35,11 @@ fault_of_file files.Unwritten = faults.Unwritten
 abbrev pub fault_of_journal : JournalFault → Fault
 fault_of_journal journals.Memory = faults.Memory
 fault_of_journal (journals.BadLine line) = faults.BadLine line
+
+abbrev pub fault_of_chart : ChartFault → Fault
+fault_of_chart charts.Memory = faults.Memory
+fault_of_chart (charts.BadLine line) = faults.BadLine line
+fault_of_chart (charts.NoRun line) = faults.NoRun line
 
 abbrev pub fault_of_run : RunFault → Fault
 fault_of_run runs.Memory = faults.Memory

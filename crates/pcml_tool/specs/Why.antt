@@ -24,7 +24,7 @@ pub record IsWhyOf (s : Script) (source : List ℕ) (rows : ℕ) (commits : List
   pub stands : StandsAfter s.processes rows commits state
   pub standing : State
   pub numbered : StandsAfter (numbered_all 1 s.processes) rows commits standing
-  pub is : IsWhy s state standing source rows told
+  pub is : IsWhy s state standing commits source rows told
 
 -- the bytes are a journal in the names of the script, and the text says so of its commits
 pub record IsTold (s : Script) (source : List ℕ) (rows : ℕ) (bytes told : List ℕ) : Type 0 where

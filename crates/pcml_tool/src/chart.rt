@@ -1,36 +1,82 @@
 //! What `chart` prints.
 
-ghost use Rattle.std.specs.Prelude.{◌≤◌, IfOk, IfErr};
+ghost use Rattle.std.specs.Prelude.{◌≡◌, ◌≤◌, IfOk, IfErr};
+ghost use Rattle.std.specs.Option.{option_copied};
 ghost use Rattle.script.specs.Scripts.{script_of};
-ghost use Rattle.journal_text.specs.Answers.{Explains};
-ghost use Rattle.pcml_tool.specs.Chart.{TellsCharted};
+ghost use Rattle.pcml_tool.specs.Chart.{ExplainsChart, IsCharted, of_journal, own_by};
+ghost use Rattle.pcml_tool.specs.declared.chart.ChartFault.TheVariants.{Memory};
 
 use crate::reach::{Reached, reach};
-use crate::replay::Replayed;
 use journal_text::JournalFault;
 use pcml_chart::chart_text;
+use pcml_need::are_named;
 use script::Script;
-use std::alloc::Global;
+use std::alloc::{AllocError, Global};
+
+/// Why there is no chart of a journal.
+#[derive(Clone, Copy, Debug, PartialEq, Eq)]
+pub enum ChartFault {
+    Memory,
+    /// The first line, from 1, that is no line of a journal.
+    BadLine(usize),
+    /// The first line, from 1, with which the journal is no run.
+    NoRun(usize),
+}
+
+impl From<JournalFault> for ChartFault {
+    ghost from_gives = { λ journal fault. fault ≡ of_journal journal };
+
+    fn from(fault: JournalFault) -> ChartFault {
+        match fault {
+            JournalFault::Memory => ChartFault::Memory,
+            JournalFault::BadLine(line) => ChartFault::BadLine(line),
+        }
+    }
+}
+
+impl From<AllocError> for ChartFault {
+    ghost from_gives = { λ _ fault. fault ≡ Memory };
+
+    fn from(_error: AllocError) -> ChartFault {
+        ChartFault::Memory
+    }
+}
+
+/// Which processes have columns of their own: those of the names, where names are given, and else all.
+fn own_by(alloc: Global, script: &Script, only: Option<&str>) -> Result<Vec<bool>, AllocError>
+    ensures { IfOk result (λ own. own.items ≡ own_by (script_of script.now) (option_copied only.entry)) }
+{
+    match only {
+        Some(names) => are_named(alloc, script, names.as_bytes()),
+        None => {
+            let own = vec![in alloc; true; script.processes().len()]?;
+            Ok(own)
+        }
+    }
+}
 
 /// The chart of the journal in the bytes, of processes of so many rows each, 1 to 67107840, as SVG: its commits
-/// with a stamp from `from` to `to`, or to an earlier one where they are more than 1,250.
+/// with a stamp from `from` to `to`, or to an earlier one where they are more than 1,250. Where names are given, with
+/// commas between, only their processes have columns of their own.
 pub fn chart_journal(
     alloc: Global,
     script: &Script,
     journal: &[u8],
     rows: u32,
+    only: Option<&str>,
     from: u32,
     to: u32,
-) -> Result<Replayed, JournalFault>
+) -> Result<Vec<u8>, ChartFault>
     requires { rows ≤ 67107840 }
-    ensures charted { IfOk result (TellsCharted (script_of script.now) rows journal.now from to) }
-    ensures fault { IfErr result (Explains (script_of script.now) journal.now) }
+    ensures charted { IfOk result (λ text. IsCharted (script_of script.now) rows journal.now (option_copied only.entry) from to text.items) }
+    ensures fault { IfErr result (ExplainsChart (script_of script.now) rows journal.now) }
 {
     match reach(alloc, script, journal, rows)? {
         Reached::Run(commits, state) => {
-            let text = chart_text(alloc, script, &state, commits.as_slice(), from, to)?;
-            Ok(Replayed::Lawful(text.into_bytes()))
+            let own = own_by(alloc, script, only)?;
+            let text = chart_text(alloc, script, &state, &own, commits.as_slice(), from, to)?;
+            Ok(text.into_bytes())
         }
-        Reached::NoRun { text, .. } => Ok(Replayed::Unlawful(text.into_bytes())),
+        Reached::NoRun { index, .. } => Err(ChartFault::NoRun(index + 1)),
     }
 }

@@ -1,11 +1,11 @@
 //! The faults of the program, each with its number.
 
-ghost use Rattle.std.specs.Prelude.{◌≡◌, IsTrue};
+ghost use Rattle.std.specs.Prelude.{◌≡◌, IfSome, IsTrue};
 ghost use Rattle.pcml_explain.specs.Topics.{is_fault};
-ghost use Rattle.pcml_tool.specs.Faults.{fault_of_meet, fault_of_play, fault_of_file, fault_of_journal, fault_of_run, fault_of_script, fault_of_season};
+ghost use Rattle.pcml_tool.specs.Faults.{fault_of_chart, fault_of_meet, fault_of_play, fault_of_file, fault_of_journal, fault_of_run, fault_of_script, fault_of_season};
 ghost use Rattle.pcml_tool.specs.declared.fault.Fault.TheVariants.{Memory, Unwritten};
 
-use crate::{MeetFault, PlayFault};
+use crate::{ChartFault, MeetFault, PlayFault};
 use journal_text::JournalFault;
 use pcml_files::{SourceFault, Unwritten};
 use runtime::{RunFault, SeasonFault};
@@ -75,14 +75,19 @@ pub enum Fault {
     /// An output that cannot be written.
     #[error("fault 32")]
     Unwritten,
+    /// The first line, from 1, with which a journal of which a chart is wanted is no run. It is told as `replay` tells
+    /// it, and has no number.
+    #[error("unlawful at line {0}")]
+    NoRun(usize),
 }
 
 impl Fault {
-    /// The number that it is told with.
-    pub fn number(self) -> u16
-        ensures { IsTrue (is_fault result) }
+    /// The number that it is told with, if it is told with one.
+    pub fn number(self) -> Option<u16>
+        ensures { IfSome result (λ number. IsTrue (is_fault number)) }
     {
-        match self {
+        let number = match self {
+            Fault::NoRun(_) => return None,
             Fault::Memory => 1,
             Fault::NotAllowed(_) | Fault::Workers => 2,
             Fault::Rows => 3,
@@ -102,7 +107,8 @@ impl Fault {
             Fault::TooLarge => 23,
             Fault::Unread => 31,
             Fault::Unwritten => 32,
-        }
+        };
+        Some(number)
     }
 }
 
@@ -164,6 +170,18 @@ impl From<JournalFault> for Fault {
         match fault {
             JournalFault::Memory => Fault::Memory,
             JournalFault::BadLine(line) => Fault::BadLine(line),
+        }
+    }
+}
+
+impl From<ChartFault> for Fault {
+    ghost from_gives = { λ chart fault. fault ≡ fault_of_chart chart };
+
+    fn from(fault: ChartFault) -> Fault {
+        match fault {
+            ChartFault::Memory => Fault::Memory,
+            ChartFault::BadLine(line) => Fault::BadLine(line),
+            ChartFault::NoRun(line) => Fault::NoRun(line),
         }
     }
 }

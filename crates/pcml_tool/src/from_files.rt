@@ -7,7 +7,8 @@ ghost use Rattle.script.specs.Spelling.{Spells};
 ghost use Rattle.pcml_tool.specs.declared.fault.Fault.TheVariants.{Memory, Unwritten};
 ghost use Rattle.pcml_tool.specs.Check.{IsChecked};
 ghost use Rattle.pcml_tool.specs.Play.{IsPlayed};
-ghost use Rattle.pcml_tool.specs.Command.{AnswersChart, AnswersNext, AnswersReplay, AnswersStats, AnswersWhy, AnswersWhyScript, IsJudged, FailsParse, FailsPlay, FailsRead, FailsReplay, IsToldWhyNot, KeepsAsked, OfSchedule, is_so, printed, verdict_of};
+ghost use Rattle.pcml_tool.specs.Command.{AnswersChart, AnswersNext, AnswersReplay, AnswersStats, AnswersWhy, AnswersWhyScript, IsJudged, FailsChart, FailsParse, FailsPlay, FailsRead, FailsReplay, IsToldWhyNot, KeepsAsked, OfSchedule, is_so, printed, verdict_of};
+ghost use Rattle.pcml_tool.specs.declared.from_files.Verdict.TheVariants.{Done};
 ghost use Rattle.pcml_files.specs.Files.{Fits};
 ghost use Rattle.pcml_outcomes.specs.Told.{bytes_of};
 
@@ -181,16 +182,17 @@ pub(crate) fn chart_files<S: Source>(
     script: &str,
     journal: &str,
     rows: u32,
+    only: Option<&str>,
     from: u32,
     to: u32,
-) -> Result<(Verdict, Vec<u8>), Fault>
+) -> Result<Vec<u8>, Fault>
     requires { rows ≤ 67107840 }
-    ensures done { IfOk result (λ answer. AnswersChart (S.holds source.old) script.now journal.now rows from to answer.0 answer.1.items) }
-    ensures fault { IfErr result (FailsReplay (S.holds source.old) script.now journal.now) }
+    ensures done { IfOk result (λ text. AnswersChart (S.holds source.old) script.now journal.now rows (option_copied only.entry) from to Done text.items) }
+    ensures fault { IfErr result (FailsChart (S.holds source.old) script.now journal.now rows) }
 {
     let script = read_script(alloc, source, script)?;
     let journal = read_bounded(source, journal)?;
-    Ok(judged(chart_journal(alloc, &script, journal.as_slice(), rows, from, to)?))
+    Ok(chart_journal(alloc, &script, journal.as_slice(), rows, only, from, to)?)
 }
 
 /// Which commits may come next where the journal in a file leads the script in another.

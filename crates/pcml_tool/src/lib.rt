@@ -20,7 +20,7 @@ mod stats;
 mod version;
 mod why;
 
-pub use crate::chart::chart_journal;
+pub use crate::chart::{ChartFault, chart_journal};
 pub use crate::check::check_text;
 pub use crate::explain::explain_text;
 pub use crate::fault::Fault;

@@ -163,15 +163,12 @@ fn answer_journal<S: Source>(
             seasons,
             from,
             to,
-        } => chart_files(
-            alloc,
-            source,
-            script,
-            journal,
-            all_rows(rows, seasons),
-            from,
-            to,
-        ),
+            only,
+        } => {
+            let rows = all_rows(rows, seasons);
+            let text = chart_files(alloc, source, script, journal, rows, only, from, to)?;
+            Ok((Verdict::Done, text))
+        }
         Request::Next {
             script,
             journal,

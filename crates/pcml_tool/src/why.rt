@@ -61,7 +61,7 @@ fn why_standing(
     let processes = numbered(alloc, script.processes())?;
     match replay(alloc, processes.as_slice(), rows, commits) {
         Ok(standing) => {
-            let told = why_text(alloc, script, state, &standing, text, rows)?;
+            let told = why_text(alloc, script, state, &standing, commits, text, rows)?;
             Ok(told.into_bytes())
         }
         Err(ReplayFault::Memory) => Err(AllocError),

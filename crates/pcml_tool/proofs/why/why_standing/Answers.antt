@@ -40,6 +40,9 @@ why_text-requires-clause-same c =
     let follows : StandsAfter (numbered_all 1 ps) c.args.rows commits c.in-Ok.standing = subst (λ (z : List Proc). StandsAfter z c.args.rows commits c.in-Ok.standing) are c.in-Ok.ensures in
     threads-numbered ps c.args.rows commits c.args.state.now c.in-Ok.standing c.requires.stands follows
 
+pub why_text-requires-clause-processes : goal.why_text-requires-clause-processes
+why_text-requires-clause-processes c = c.requires.stands.strands.stands.count
+
 pub returns-in-Ok : goal.returns-in-Ok
 returns-in-Ok c =
     let s = script_of c.args.script.now in
@@ -53,7 +56,7 @@ returns-in-Ok c =
       stands = c.requires.stands;
       standing = c.in-Ok.standing;
       numbered = follows;
-      is = subst (λ (told : List ℕ). IsWhy s c.args.state.now c.in-Ok.standing c.args.text.now c.args.rows told) (λ i. (sym c.into_bytes.ensures.value i).items) c.in_ok-told-in-Ok.ensures;
+      is = subst (λ (told : List ℕ). IsWhy s c.args.state.now c.in-Ok.standing c.args.commits.now c.args.text.now c.args.rows told) (λ i. (sym c.into_bytes.ensures.value i).items) c.in_ok-told-in-Ok.ensures;
     }
 
 pub unreachable-requires : goal.unreachable-requires
