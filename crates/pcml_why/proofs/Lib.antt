@@ -1,4 +1,2 @@
-pub mod Knotting
-pub mod Places
-pub mod Telling
 pub mod Sites
+pub mod Telling

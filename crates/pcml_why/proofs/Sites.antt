@@ -1,20 +1,18 @@
--- The processes of a script by their numbers, and what commits give them.
-use Rattle.std.proofs.Common.{◌≡◌, ℕ, zero, suc, ◌+◌, ◌<◌, List, [], ◌∷◌, Some, None, ap, get_or, length, map, refl, sym, subst, slice_get, take, ◌∙◌}
+-- The processes of a script by their numbers, the names of their variables, and answers for channels.
+use Rattle.std.proofs.Common.{◌≡◌, ◌==◌, ◌&&◌, ℕ, zero, suc, ◌<◌, Bool, true, false, List, [], ◌∷◌, ◌++◌, Contains, Some, None, ap, get_or, length, map, refl, sym, subst, slice_get, ◌∙◌, ⊎_elim}
+use Rattle.std.proofs.lemmas.Bool.{eqb-true, false≢true}
 use Rattle.std.proofs.lemmas.List.{get_or-map, length-map}
-use Rattle.std.proofs.lemmas.Option.{get_or_from_slice_get, none-some, slice_get-get_or}
+use Rattle.std.proofs.lemmas.Option.{none-some, slice_get-get_or}
 use Rattle.script_tree.specs.Processes.{Proc}
-use Rattle.protocol_values.specs.declared.Commit.{Commit}
-use Rattle.protocol_values.specs.declared.Commit.TheVariants.{Pair, Alone}
-use Rattle.thread.specs.After.{Chosen}
-use Rattle.journal_replay.specs.Runs.{Config, applied, config_of}
-use Rattle.journal_replay.proofs.Sounding.{take-one}
-use Rattle.journal_replay.proofs.Standing.{config_of-more}
+use Rattle.outcomes.specs.Serving.{nobody_serves}
+use Rattle.protocol_values.specs.declared.Side.{Side}
+use Rattle.protocol_values.specs.declared.Side.TheVariants.{Sends, Receives}
+use Rattle.journal_replay.proofs.Lists.{contains-cases}
 use Rattle.journal_replay.specs.declared.state.State.{State}
+use Rattle.pcml_why_sites.specs.Writing.{same_side}
+use Rattle.pcml_why.specs.Served.{AreAnswers, is_for}
+use Rattle.pcml_why.specs.declared.served.Answer.{Answer}
 use Rattle.pcml_why.specs.Whys.{facts_of, variables_in, variables_of}
-
--- what stands at a place of a list that a function made
-pub process-at : {A : Type 0} (f : A → Proc) (xs : List A) (t : ℕ) (d : A) (p : Proc) → t < length xs → slice_get (map f xs) t ≡ Some p → f (get_or xs t d) ≡ p
-process-at f xs t d p lt is = sym (get_or-map f xs t d p lt) ∙ get_or_from_slice_get (map f xs) t p p is
 
 map-at : {A : Type 0} (f : A → Proc) (xs : List A) (t : ℕ) (d : A) → t < length xs → slice_get (map f xs) t ≡ Some (f (get_or xs t d))
 map-at f xs t d lt =
@@ -30,13 +28,29 @@ no-name [] v e = refl
 no-name (n ∷ names) zero e = absurd (none-some n e)
 no-name (n ∷ names) (suc v) e = no-name names v e
 
--- what a commit gives a thread depends on what that had
-one-applied : (config : Config) (d : Commit) (t : ℕ) → applied (λ u. config t) d t ≡ applied config d t
-one-applied config (Pair sender receiver chan msg stamp) t = refl
-one-applied config (Alone at why stamp) t = refl
+-- ANSWERS
 
-pub one-more-result : (commits : List Commit) (i t : ℕ) (e : Commit) (before after : List Chosen) → i < length commits → before ≡ config_of (take i commits) t → after ≡ applied (λ _. before) (get_or commits i e) t → after ≡ config_of (take (i + 1) commits) t
-one-more-result commits i t e before after lt had gives =
-    let d = get_or commits i e in
-    let more : config_of (take (i + 1) commits) ≡ applied (config_of (take i commits)) d = ap config_of (take-one commits i d (slice_get-get_or commits i e lt) lt) ∙ config_of-more (take i commits) d in
-    gives ∙ ap (λ (rs : List Chosen). applied (λ u. rs) d t) had ∙ one-applied (config_of (take i commits)) d t ∙ ap (λ (c : Config). c t) (sym more)
+pub one-more-answer : (ps : List Proc) (answers more : List Answer) (side : Side) (chan : ℕ) (b : Bool) → b ≡ nobody_serves ps side chan → more ≡ answers ++ record { side = side; chan = chan; is_by_nobody = b } ∷ [] →
+    AreAnswers ps answers → AreAnswers ps more
+one-more-answer ps answers more side chan b is grown are a there =
+    let new : Answer = record { side = side; chan = chan; is_by_nobody = b } in
+    ⊎_elim
+    (λ before. are a before)
+    (λ (last : new ≡ a). subst (λ (x : Answer). x.is_by_nobody ≡ nobody_serves ps x.side x.chan) last is)
+    (contains-cases answers new a (subst (λ (l : List Answer). Contains l a) grown there))
+
+sides-same : (a b : Side) → same_side a b ≡ true → a ≡ b
+sides-same Sends Sends e = refl
+sides-same Receives Receives e = refl
+sides-same Sends Receives e = absurd (false≢true e)
+sides-same Receives Sends e = absurd (false≢true e)
+
+parted : (x y : Bool) → (x && y) ≡ true → (x ≡ true) × (y ≡ true)
+parted true y e = (refl, e)
+parted false y e = absurd (false≢true e)
+
+-- an answer for this side of the channel
+pub answer-is : (ps : List Proc) (a : Answer) (side : Side) (chan : ℕ) → is_for side chan a ≡ true → a.is_by_nobody ≡ nobody_serves ps a.side a.chan → a.is_by_nobody ≡ nobody_serves ps side chan
+answer-is ps a side chan for is =
+    let e = parted (same_side a.side side) (a.chan == chan) for in
+    is ∙ ap (λ (s : Side). nobody_serves ps s a.chan) (sides-same a.side side e.0) ∙ ap (λ (c : ℕ). nobody_serves ps side c) (eqb-true a.chan chan e.1)

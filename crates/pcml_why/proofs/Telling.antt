@@ -5,7 +5,7 @@ use Rattle.journal_text.specs.Names.{Naming}
 use Rattle.pcml_why.specs.Whys.{Facts, site_text, sites_below}
 use Rattle.protocol_values.specs.declared.Atom.{Atom}
 use Rattle.pcml_why.specs.Variables.{some_set, variable_text, variables_below}
-use Rattle.pcml_why.specs.declared.site.Site.{Site}
+use Rattle.pcml_why_sites.specs.declared.site.Site.{Site}
 
 below-one : (names : Naming) (facts : Facts) (rows : ℕ) (sites : List Site) (n : ℕ) (s : Site) → slice_get sites n ≡ Some s → sites_below names facts rows sites n ++ site_text names facts rows sites n s ≡ sites_below names facts rows sites (n + 1)
 below-one names facts rows sites n s is = rw add-one (rw is refl)

@@ -1,6 +1,3 @@
-pub mod Edges
-pub mod Knots
-pub mod Lines
-pub mod Offering
+pub mod Served
 pub mod Variables
 pub mod Whys

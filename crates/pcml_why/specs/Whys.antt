@@ -1,14 +1,10 @@
 -- Where each process stands, and with whom it could go on: what is told of a run.
-use Rattle.std.specs.Prelude.{◌≡◌, ◌==◌, ℕ, zero, suc, Bool, true, false, if◌then◌else◌, List, [], ◌∷◌, ◌++◌, length, codes, Option, Some, None, slice_get, ⊤}
+use Rattle.std.specs.Prelude.{◌≡◌, ◌==◌, ℕ, zero, suc, Bool, true, false, if◌then◌else◌, List, [], ◌∷◌, ◌++◌, length, codes, Option, Some, None, slice_get}
 use Rattle.std.specs.Fmt.{decimal}
 use Rattle.std.specs.List.{flat_map}
-use Rattle.thread.specs.After.{State as Thread}
-use Rattle.thread_stand.specs.Standing.{Standing}
-use Rattle.thread_stand.specs.Stands.{IsTold, standing_of}
 use Rattle.thread_stand.specs.declared.stand.Stand.{Stand}
 use Rattle.script_tree.specs.Processes.{Proc}
 use Rattle.outcomes.specs.Serving.{nobody_serves}
-use Rattle.protocol_values.specs.declared.Atom.{Atom}
 use Rattle.protocol_values.specs.declared.Base.{Base}
 use Rattle.protocol_values.specs.declared.Base.TheVariants.{Send, Recv, Always, OnNack, OnEnd, Never}
 use Rattle.protocol_values.specs.declared.Commit.{Commit}
@@ -17,19 +13,19 @@ use Rattle.protocol_values.specs.declared.Offer.{Offer}
 use Rattle.script.specs.Sources.{Script}
 use Rattle.journal_text.specs.Names.{Naming, named}
 use Rattle.journal_text.specs.Texts.{message_text, nack_text}
-use Rattle.journal_replay.specs.Replays.{TellsEnabled, TellsEnd, TellsEnded, TellsFired, TellsOpen, TellsOutput, ended_by, fired_by, thread_count}
-use Rattle.journal_replay.specs.Runs.{config_of}
+use Rattle.journal_replay.specs.Replays.{TellsEnabled, TellsEnded, TellsFired, ended_by, fired_by}
 use Rattle.journal_replay.specs.declared.end.End.{End}
 use Rattle.journal_replay.specs.declared.end.End.TheVariants.{Ended, Waiting, Spent, Faulted, Unstarted}
 use Rattle.journal_replay.specs.declared.state.State.{State}
 use Rattle.script_token.specs.Lexemes.{placed_tokens}
-use Rattle.script_token.specs.Tokens.{Token}
-use Rattle.pcml_why.specs.Edges.{edges_text}
-use Rattle.pcml_why.specs.Knots.{IsKnot, parts_below, waits_for}
-use Rattle.pcml_why.specs.Lines.{line_of, statement_lines}
-use Rattle.pcml_why.specs.Offering.{is_open, is_waiting, others}
+use Rattle.pcml_why_sites.specs.Edges.{edges_text}
+use Rattle.pcml_why_sites.specs.Knots.{IsKnot, waits_for}
+use Rattle.pcml_why_sites.specs.Sites.{AreSites}
+use Rattle.pcml_why_sites.specs.Writing.{Written, texts_below}
+use Rattle.pcml_why_sites.specs.Lines.{statement_lines}
+use Rattle.pcml_why_sites.specs.Offering.{is_open, is_waiting, others}
 use Rattle.pcml_why.specs.Variables.{known_text, wrong_text}
-use Rattle.pcml_why.specs.declared.site.Site.{Site}
+use Rattle.pcml_why_sites.specs.declared.site.Site.{Site}
 use Rattle.protocol_values.specs.declared.Side.{Side}
 use Rattle.protocol_values.specs.declared.Side.TheVariants.{Sends, Receives}
 
@@ -194,38 +190,17 @@ why_text names facts rows sites = sites_below names facts rows sites (length sit
 unfoldable pub knot_words : List ℕ
 knot_words = codes "waiting for one another:"
 
--- who wait for one another, where some do, and who of them for whom, by the tokens of each process
-abbrev pub knot_text : Naming → List (List (Token × ℕ)) → List Site → List ℕ → List ℕ
-knot_text names parts sites knot =
-    if length knot == 0 then [] else knot_words ++ listed names knot ++ 10 ∷ [] ++ edges_text names parts sites knot
+-- who wait for one another, where some do, and who of them for whom, by what the text of each process writes
+abbrev pub knot_text : Naming → List (List Written) → List Site → List ℕ → List ℕ
+knot_text names texts sites knot =
+    if length knot == 0 then [] else knot_words ++ listed names knot ++ 10 ∷ [] ++ edges_text names texts sites knot
 
 -- told only where no commit may come next
-abbrev pub last_text : Naming → List (List (Token × ℕ)) → List Site → Option Commit → List ℕ → List ℕ
-last_text names parts sites (Some commit) knot = []
-last_text names parts sites None knot = knot_text names parts sites knot
+abbrev pub last_text : Naming → List (List Written) → List Site → Option Commit → List ℕ → List ℕ
+last_text names texts sites (Some commit) knot = []
+last_text names texts sites None knot = knot_text names texts sites knot
 
 -- WHAT IS TOLD
-
--- how a process that waits or faulted stands, with its variables and with what went wrong
-abbrev pub TellsStand : End → Standing Thread → Stand → Type 0
-TellsStand Waiting standing stand = IsTold standing stand
-TellsStand (Faulted fault) standing stand = IsTold standing stand
-TellsStand end standing stand = ⊤
-
--- A process as the state has it, where these commits led; at which statement it stands is told by a state whose processes print the
--- numbers of their statements.
-pub record TellsSite (ps : List Proc) (commits : List Commit) (state standing : State) (lines : List ℕ) (t : ℕ) (s : Site) : Type 0 where
-  pub end : TellsEnd state t s.end
-  pub offers : TellsOpen state t s.offers.now s.nacks.now
-  pub stand : (p : Proc) → slice_get ps t ≡ Some p → TellsStand s.end (standing_of p t (config_of commits t)) s.stand
-  pub printed : List Atom
-  pub tells_printed : TellsOutput standing t printed
-  pub line : s.line ≡ line_of lines printed
-
--- one for each process of the state, in their order
-pub record AreSites (ps : List Proc) (commits : List Commit) (state standing : State) (lines : List ℕ) (sites : List Site) : Type 0 where
-  pub count : length sites ≡ thread_count state
-  pub each : (t : ℕ) (s : Site) → slice_get sites t ≡ Some s → TellsSite ps commits state standing lines t s
 
 -- The text tells of each process of the state, in the names of the script, whose source is given, after these commits; and where no
 -- commit may come next, who wait for one another, and who of them for whom.
@@ -238,8 +213,8 @@ pub record IsWhy (script : Script) (state standing : State) (commits : List Comm
   pub processes : facts.processes ≡ script.processes
   pub next : Option Commit
   pub tells_next : TellsEnabled state next
-  pub parts : List (List (Token × ℕ))
-  pub are_parts : parts ≡ parts_below (placed_tokens source) (length sites)
+  pub texts : List (List Written)
+  pub are_texts : texts ≡ texts_below (placed_tokens source) (length sites)
   pub knot : List ℕ
-  pub is_knot : IsKnot (length sites) (waits_for (named script) parts sites) knot
-  pub is : text ≡ why_text (named script) facts rows sites ++ last_text (named script) parts sites next knot
+  pub is_knot : IsKnot (length sites) (waits_for (named script) texts sites) knot
+  pub is : text ≡ why_text (named script) facts rows sites ++ last_text (named script) texts sites next knot

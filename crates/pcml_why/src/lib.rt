@@ -2,16 +2,10 @@
 //! whom each of them could meet; of one that faulted, where and why; of one that is spent, where; of one that has
 //! not started, that. Where no commit may come next, those that wait for one another are named together.
 //!
-//! What is told is a function of how the processes stand and of the script's text (`specs/Whys.antt`,
-//! `specs/Knots.antt`).
+//! What is told is a function of how the processes stand and of the script's text (`specs/Whys.antt`).
 #![tactic(auto)]
 
-mod edges;
-mod knot;
-mod lines;
-mod parts;
-mod results;
-mod site;
+mod served;
 mod text;
 mod variables;
 

@@ -1,26 +1,22 @@
 //! The text.
 
 ghost use Rattle.std.specs.Prelude.{◌≡◌, ◌<◌, ◌≤◌, IfOk, OnOk, length, map, slice_get};
-ghost use Rattle.std.specs.List.{flat_map};
 ghost use Rattle.std.specs.String.{string_bytes};
 ghost use Rattle.script.specs.Scripts.{script_of};
 ghost use Rattle.script_tree.specs.Processes.{proc_of};
 ghost use Rattle.journal_replay.specs.Replays.{thread_count};
-ghost use Rattle.script_token.specs.Lexemes.{seen};
-ghost use Rattle.pcml_why.specs.Lines.{line_at};
-ghost use Rattle.pcml_why.specs.Offering.{others};
-ghost use Rattle.pcml_why.specs.Whys.{AreSites, IsWhy, process_text, also_text, known_at, never_if, never_text, receives_words, sends_words, also_words, chance_text, end_state_text, knot_text, knot_words, last_text, listed, lone_text, nack_state_text, nobody_words, offer_line, offer_text, offers_text, partners_text, same_words, site_text, spent_text, facts_of, stand_text, sync_words, syncs_text, syncs_word, unended_at, unended_text, unfired_text, why_text};
+ghost use Rattle.pcml_why.specs.Served.{AreAnswers};
+ghost use Rattle.pcml_why_sites.specs.Writing.{seen_texts};
+ghost use Rattle.pcml_why_sites.specs.Offering.{others};
+ghost use Rattle.pcml_why.specs.Whys.{IsWhy, process_text, also_text, known_at, never_if, never_text, receives_words, sends_words, also_words, chance_text, end_state_text, knot_text, knot_words, last_text, listed, lone_text, nack_state_text, nobody_words, offer_line, offer_text, offers_text, partners_text, same_words, site_text, spent_text, facts_of, stand_text, sync_words, syncs_text, syncs_word, unended_at, unended_text, unfired_text, why_text};
 ghost use Rattle.journal_text.specs.Names.{named};
 ghost use Rattle.script.specs.Appending.{Adds};
 
-use crate::knot::WaitGraph;
-use crate::lines::lines_of;
-use crate::parts::parts;
-use crate::site::{Site, is_open, is_waiting, others, sites_of};
+use crate::served::{Answer, answers_of, is_by_nobody};
 use crate::variables::Namer;
 use journal_replay::{End, State};
 use journal_text::{push_channel, push_message, push_nack, push_thread};
-use outcomes::nobody_serves;
+use pcml_why_sites::{Site, WaitGraph, is_open, is_waiting, others, process_texts, sites_at};
 use protocol_values::{Base, Commit, NackName, Offer, Side};
 use script::Script;
 use script_token::{Placed, scan};
@@ -35,6 +31,8 @@ struct Teller<'a> {
     script: &'a Script,
     state: &'a State,
     sites: &'a [Site<'a>],
+    answers: &'a [Answer],
+    ghost are_answers: { AreAnswers (script_of script.now).processes answers.now },
 }
 
 /// Appends what an offer is, in the names of the script.
@@ -285,7 +283,7 @@ impl Teller<'_> {
     fn push_never_if(&self, out: &mut String, side: Side, chan: u8) -> Result<(), AllocError>
         ensures { OnOk result (Adds out.old out.new (never_if (named (script_of self.now.script.now)) (facts_of (script_of self.now.script.now).processes self.now.state.now) side chan)) }
     {
-        if !nobody_serves(self.script.processes(), side, chan) {
+        if !is_by_nobody(self.answers, self.script.processes(), side, chan) {
             return Ok(());
         }
         push_never(out, self.script, side, chan)
@@ -440,54 +438,58 @@ fn knot_words() -> &'static str
     "waiting for one another:"
 }
 
-impl WaitGraph<'_> {
-    /// Who wait for one another, where some do, and who of them for whom.
-    fn push_knot(&self, out: &mut String, knot: &[u8]) -> Result<(), AllocError>
-        requires { length self.now.parts.now ≡ length self.now.sites.now }
-        ensures { OnOk result (Adds out.old out.new (knot_text (named (script_of self.now.script.now)) (map (λ p. seen p.now) self.now.parts.now) self.now.sites.now knot.now)) }
-    {
-        if knot.len() == 0 {
-            return Ok(());
-        }
-        out.push_str(knot_words())?;
-        push_listed(out, self.script, knot)?;
-        out.push_str("\n")?;
-        self.push_edges(out, knot)
+/// Who wait for one another, where some do, and who of them for whom.
+fn push_knot(out: &mut String, graph: &WaitGraph<'_>, knot: &[u8]) -> Result<(), AllocError>
+    requires { length graph.now.texts.now ≡ length graph.now.sites.now }
+    ensures { OnOk result (Adds out.old out.new (knot_text (named (script_of graph.now.script.now)) (seen_texts graph.now.texts.now) graph.now.sites.now knot.now)) }
+{
+    if knot.len() == 0 {
+        return Ok(());
     }
+    out.push_str(knot_words())?;
+    push_listed(out, graph.script, knot)?;
+    out.push_str("\n")?;
+    graph.push_edges(out, knot)
+}
 
-    /// Who wait for one another, where no commit may come next.
-    fn push_last(
-        &self,
-        out: &mut String,
-        next: &Option<Commit>,
-        knot: &[u8],
-    ) -> Result<(), AllocError>
-        requires { length self.now.parts.now ≡ length self.now.sites.now }
-        ensures { OnOk result (Adds out.old out.new (last_text (named (script_of self.now.script.now)) (map (λ p. seen p.now) self.now.parts.now) self.now.sites.now next.now knot.now)) }
-    {
-        match next {
-            Some(_) => Ok(()),
-            None => self.push_knot(out, knot),
-        }
+/// Who wait for one another, where no commit may come next.
+fn push_last(
+    out: &mut String,
+    graph: &WaitGraph<'_>,
+    next: &Option<Commit>,
+    knot: &[u8],
+) -> Result<(), AllocError>
+    requires { length graph.now.texts.now ≡ length graph.now.sites.now }
+    ensures { OnOk result (Adds out.old out.new (last_text (named (script_of graph.now.script.now)) (seen_texts graph.now.texts.now) graph.now.sites.now next.now knot.now)) }
+{
+    match next {
+        Some(_) => Ok(()),
+        None => push_knot(out, graph, knot),
     }
 }
 
-/// Where each process of the state stands after the commits, by the tokens of the script's text.
-fn sites_at<'a>(
+/// Each process, and each of its offers, on a line of its own.
+fn push_processes(
     alloc: Global,
+    out: &mut String,
     script: &Script,
-    commits: &[Commit],
-    state: &'a State,
-    standing: &State,
-    tokens: &[Placed<'_>],
-) -> Result<Vec<Site<'a>>, AllocError>
-    requires few { thread_count state.now ≤ 64 }
-    requires processes { thread_count state.now ≡ length (script_of script.now).processes }
-    requires same { thread_count standing.now ≡ thread_count state.now }
-    ensures { IfOk result (λ sites. AreSites (script_of script.now).processes commits.now state.now standing.now (flat_map line_at (seen tokens.now)) sites.items) }
+    state: &State,
+    sites: &[Site<'_>],
+    rows: u32,
+) -> Result<(), AllocError>
+    requires few { length sites.now ≤ 64 }
+    requires processes { length sites.now ≡ length (script_of script.now).processes }
+    ensures { OnOk result (Adds out.old out.new (why_text (named (script_of script.now)) (facts_of (script_of script.now).processes state.now) rows sites.now)) }
 {
-    let lines = lines_of(alloc, tokens)?;
-    sites_of(alloc, script.processes(), commits, state, standing, &lines)
+    let answers = answers_of(alloc, script.processes(), sites)?;
+    let teller = Teller {
+        alloc,
+        script,
+        state,
+        sites,
+        answers: &answers,
+    };
+    teller.push_sites(out, rows)
 }
 
 /// Why each process of the state, where these commits led, stands where it does, a line for each process and each of its offers; and
@@ -513,22 +515,16 @@ pub fn why_text(
     let placed: &[Placed<'_>] = &tokens.placed;
     let told = sites_at(alloc, script, commits, state, standing, placed)?;
     let sites: &[Site<'_>] = &told;
-    let teller = Teller {
-        alloc,
-        script,
-        state,
-        sites,
-    };
     let mut out = String::new(alloc);
-    teller.push_sites(&mut out, rows)?;
+    push_processes(alloc, &mut out, script, state, sites, rows)?;
     let next = state.enabled(alloc)?;
-    let parts = parts(alloc, placed, sites.len())?;
+    let texts = process_texts(alloc, placed, sites.len())?;
     let graph = WaitGraph {
         script,
         sites,
-        parts: &parts,
+        texts: &texts,
     };
     let knot = graph.knot(alloc)?;
-    graph.push_last(&mut out, &next, &knot)?;
+    push_last(&mut out, &graph, &next, &knot)?;
     Ok(out)
 }

@@ -1,0 +1,3 @@
+pub mod Knotting
+pub mod Places
+pub mod Standing

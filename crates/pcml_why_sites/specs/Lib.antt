@@ -1,0 +1,7 @@
+pub mod Edges
+pub mod Knots
+pub mod Lines
+pub mod Offering
+pub mod Results
+pub mod Sites
+pub mod Writing

@@ -1,0 +1,173 @@
+//! Where a process stands.
+
+ghost use Rattle.std.specs.Prelude.{◌≡◌, ◌==◌, ◌&&◌, ◌≤◌, IfOk, length, map};
+ghost use Rattle.script_tree.specs.Processes.{proc_of};
+ghost use Rattle.std.specs.List.{flat_map, list_any};
+ghost use Rattle.journal_replay.specs.Replays.{thread_count};
+ghost use Rattle.pcml_why_sites.specs.Lines.{line_at, line_of};
+ghost use Rattle.script.specs.Scripts.{script_of};
+ghost use Rattle.script_token.specs.Lexemes.{seen};
+ghost use Rattle.pcml_why_sites.specs.Offering.{is_open, is_waiting, offers_on, others};
+ghost use Rattle.protocol_values.specs.Values.{is_on};
+ghost use Rattle.pcml_why_sites.specs.Sites.{AreSites};
+
+use crate::lines::lines_of;
+use crate::results::{results_of, stand_after};
+use journal_replay::{End, State};
+use protocol_values::{Atom, Commit, NackName, Offer, Side};
+use script::Script;
+use script_token::Placed;
+use script_tree::Proc;
+use std::alloc::{AllocError, Global};
+use thread_stand::Stand;
+
+/// Where a process stands: its end, the line of its statement, its variables or what went wrong, and what its open sync
+/// offers.
+#[derive(Drop)]
+pub struct Site<'a> {
+    pub end: End,
+    /// From 1; 0 where it is not known.
+    pub line: usize,
+    pub stand: Stand,
+    pub offers: &'a [Offer],
+    pub nacks: &'a [u8],
+}
+
+/// The line of the statement whose number was printed last.
+fn line_of(lines: &[usize], printed: &[Atom]) -> usize
+    ensures { result ≡ line_of lines.now printed.now }
+{
+    match printed.last() {
+        Some(Atom::Num(number)) => {
+            let before = number.saturating_sub(1);
+            match lines.get(before as usize) {
+                Some(line) => *line,
+                None => 0,
+            }
+        }
+        _ => 0,
+    }
+}
+
+/// Whether a process waits.
+pub fn is_waiting(end: End) -> bool
+    ensures { result ≡ is_waiting end }
+{
+    matches!(end, End::Waiting)
+}
+
+/// Whether the process waits with an offer on this side of the channel.
+pub fn offers_on(side: Side, chan: u8, site: &Site<'_>) -> bool
+    ensures { result ≡ offers_on side chan site.now }
+{
+    if !is_waiting(site.end) {
+        return false;
+    }
+    for offer in site.offers {
+        if offer.base.is_on(side, chan) {
+            return true;
+        }
+    }
+    false
+}
+
+/// The processes that wait with an offer on this side of the channel, but for one; in their order.
+pub fn others(
+    alloc: Global,
+    sites: &[Site<'_>],
+    side: Side,
+    chan: u8,
+    thread: usize,
+) -> Result<Vec<u8>, AllocError>
+    requires { length sites.now ≤ 64 }
+    ensures { IfOk result (λ found. found.items ≡ others sites.now side chan thread) }
+{
+    let mut found = Vec::new(alloc);
+    for other in 0..sites.len() {
+        if other != thread && offers_on(side, chan, &sites[other]) {
+            found.push(other as u8)?;
+        }
+    }
+    Ok(found)
+}
+
+/// Whether the process waits in a sync with this nack.
+fn has_nack(site: &Site<'_>, nack: u8) -> bool
+    ensures { result ≡ (is_waiting site.now.end && list_any (λ n. n == nack) site.now.nacks.now) }
+{
+    if !is_waiting(site.end) {
+        return false;
+    }
+    for number in site.nacks {
+        if *number == nack {
+            return true;
+        }
+    }
+    false
+}
+
+/// Whether the nack is of a sync that is open.
+pub fn is_open(sites: &[Site<'_>], nack: NackName) -> bool
+    ensures { result ≡ is_open sites.now nack }
+{
+    match sites.get(usize::from(nack.thread)) {
+        Some(site) => has_nack(site, nack.k),
+        None => false,
+    }
+}
+
+/// Where each process of the state stands after the commits, by the numbers of statements that those of the other print.
+fn sites_of<'a>(
+    alloc: Global,
+    processes: &[Proc],
+    commits: &[Commit],
+    state: &'a State,
+    standing: &State,
+    lines: &[usize],
+) -> Result<Vec<Site<'a>>, AllocError>
+    requires few { thread_count state.now ≤ 64 }
+    requires processes { thread_count state.now ≡ length processes.now }
+    requires same { thread_count standing.now ≡ thread_count state.now }
+    ensures { IfOk result (λ sites. AreSites (map proc_of processes.now) commits.now state.now standing.now lines.now sites.items) }
+{
+    let results = results_of(alloc, commits, state.threads())?;
+    let mut sites = Vec::new(alloc);
+    for thread in 0..state.threads() {
+        let (offers, nacks) = state.open(thread);
+        let end = state.end(thread);
+        let stand = stand_after(
+            alloc,
+            &processes[thread],
+            thread as u8,
+            &results[thread],
+            end,
+        )?;
+        sites.push(Site {
+            end,
+            line: line_of(lines, standing.output(thread)),
+            stand,
+            offers,
+            nacks,
+        })?;
+    }
+    Ok(sites)
+}
+
+/// Where each process of the state stands after the commits, by the tokens of the script's text. The processes of
+/// `standing` are those of the script, but print the number of each statement before it begins.
+pub fn sites_at<'a>(
+    alloc: Global,
+    script: &Script,
+    commits: &[Commit],
+    state: &'a State,
+    standing: &State,
+    tokens: &[Placed<'_>],
+) -> Result<Vec<Site<'a>>, AllocError>
+    requires few { thread_count state.now ≤ 64 }
+    requires processes { thread_count state.now ≡ length (script_of script.now).processes }
+    requires same { thread_count standing.now ≡ thread_count state.now }
+    ensures { IfOk result (λ sites. AreSites (script_of script.now).processes commits.now state.now standing.now (flat_map line_at (seen tokens.now)) sites.items) }
+{
+    let lines = lines_of(alloc, tokens)?;
+    sites_of(alloc, script.processes(), commits, state, standing, &lines)
+}
