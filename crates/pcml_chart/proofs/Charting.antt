@@ -6,10 +6,10 @@ use Rattle.script.specs.Sources.{Script}
 use Rattle.journal_replay.specs.declared.state.State.{State}
 use Rattle.journal_replay.proofs.Nacks.{tells-ended, tells-fired}
 use Rattle.pcml_chart.specs.Chart.{IsChart, Picture, picture_text}
-use Rattle.pcml_chart.specs.Feet.{AreFeet}
+use Rattle.pcml_chart_layout.specs.Feet.{AreFeet}
 use Rattle.pcml_chart.specs.Drawn.{stamps_of}
 use Rattle.pcml_chart.specs.Range.{IsEnd, shown}
-use Rattle.pcml_chart.specs.declared.foot.Foot.{Foot}
+use Rattle.pcml_chart_layout.specs.declared.foot.Foot.{Foot}
 use Rattle.journal_text.specs.Names.{named}
 
 -- the picture of a state

@@ -5,8 +5,8 @@ use Rattle.std.proofs.lemmas.Option.{slice_get-get_or}
 use Rattle.journal_text.specs.Names.{Naming}
 use Rattle.pcml_chart.specs.Chart.{foot_mark}
 use Rattle.pcml_chart.specs.Feet.{foot_at, foot_text}
-use Rattle.pcml_chart.specs.Places.{Layout, is_own, line_of}
-use Rattle.pcml_chart.specs.declared.foot.Foot.{Foot}
+use Rattle.pcml_chart_layout.specs.Places.{Layout, is_own, line_of}
+use Rattle.pcml_chart_layout.specs.declared.foot.Foot.{Foot}
 
 pub foot_there : (names : Naming) (l : Layout) (feet : List Foot) (low t x : ℕ) (d : Foot) (text more : List ℕ) → t < length feet → is_own l.own t ≡ true → x ≡ line_of l t
     → more ≡ text ++ foot_text names x (low + 18) (get_or feet t d) → more ≡ text ++ foot_mark names l feet low t

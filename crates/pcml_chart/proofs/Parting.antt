@@ -3,9 +3,10 @@ use Rattle.std.proofs.Common.{◌≡◌, ℕ, zero, suc, ◌<◌, List, [], ◌+
 use Rattle.std.proofs.lemmas.Bool.{cases_lt}
 use Rattle.std.proofs.lemmas.Option.{slice_get_within}
 use Rattle.pcml_chart.specs.Apart.{MarksAreApart}
-use Rattle.pcml_chart.specs.Chart.{each_below, feet_below, front, heading, heading_of, layout_of, lifelines, lines_below, low_of, page_end}
+use Rattle.pcml_chart.specs.Chart.{each_below, feet_below, front, heading, heading_of, layout_of, lifelines, low_of, page_end}
 use Rattle.pcml_chart.specs.Marks.{mark}
-use Rattle.pcml_chart.specs.Places.{Layout, height}
+use Rattle.pcml_chart_layout.specs.Feet.{lines_below}
+use Rattle.pcml_chart_layout.specs.Places.{Layout, height}
 use Rattle.pcml_chart.specs.Rows.{mark_at, row, stamp_mark}
 
 -- one of the pieces, and what stands before and behind it

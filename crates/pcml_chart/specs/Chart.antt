@@ -1,5 +1,5 @@
 -- A chart: what its text is, and of which commits.
-use Rattle.std.specs.Prelude.{◌≡◌, ◌+◌, ◌*◌, ◌==◌, ℕ, zero, suc, Bool, true, false, if◌then◌else◌, List, [], ◌++◌, length, codes, min, nat_le, slice_get, Option, Some, None}
+use Rattle.std.specs.Prelude.{◌≡◌, ◌+◌, ◌==◌, ℕ, zero, suc, Bool, true, false, if◌then◌else◌, List, [], ◌++◌, length, codes, nat_le, slice_get}
 use Rattle.std.specs.Fmt.{decimal}
 use Rattle.protocol_values.specs.declared.Commit.{Commit}
 use Rattle.protocol_values.specs.declared.NackName.{NackName}
@@ -7,14 +7,15 @@ use Rattle.script.specs.Sources.{Script}
 use Rattle.journal_text.specs.Names.{Naming, named}
 use Rattle.journal_replay.specs.Replays.{TellsEnded, TellsFired}
 use Rattle.journal_replay.specs.declared.state.State.{State}
-use Rattle.pcml_chart.specs.Feet.{AreFeet, foot_at, offers_of}
-use Rattle.pcml_chart.specs.Labels.{centered, label, starting, text_end}
+use Rattle.pcml_chart_layout.specs.Feet.{AreFeet, lines_below}
+use Rattle.pcml_chart_layout.specs.Places.{Layout, bottom, has_others, is_own, line_at, line_of, others_column, page_height}
+use Rattle.pcml_chart_layout.specs.Widths.{gap_widths, page_width}
+use Rattle.pcml_chart_layout.specs.declared.foot.Foot.{Foot}
+use Rattle.pcml_chart.specs.Feet.{foot_at}
 use Rattle.pcml_chart.specs.Marks.{Stamps}
-use Rattle.pcml_chart.specs.Places.{Layout, bottom, has_others, is_own, line_at, line_of, others_column}
-use Rattle.pcml_chart.specs.Range.{IsEnd, greatest, most_below, shown}
+use Rattle.pcml_chart.specs.Range.{IsEnd, greatest, shown}
 use Rattle.pcml_chart.specs.Rows.{row}
-use Rattle.pcml_chart.specs.Widths.{gap_widths, page_width}
-use Rattle.pcml_chart.specs.declared.foot.Foot.{Foot}
+use Rattle.pcml_chart.specs.Texts.{centered, label, starting, text_end}
 
 -- what is drawn: the names, which processes have a column of their own, how each process stands, the stamps at which nacks were enabled and processes ended, the commits that
 -- are shown of how many, and whether the range was cut
@@ -34,10 +35,6 @@ pub record Picture : Type 0 where
 abbrev pub each_below : ℕ → (ℕ → List ℕ) → List ℕ
 each_below zero f = []
 each_below (suc n) f = each_below n f ++ f n
-
--- so many lines stand below the foot of the lines of life; a sync has at most 8 offers
-abbrev pub page_height : ℕ → ℕ → ℕ
-page_height low lines = low + 32 + 16 * min lines 8
 
 unfoldable pub style : List ℕ
 style =
@@ -59,8 +56,12 @@ page width tall =
     codes "<svg xmlns='http://www.w3.org/2000/svg' width='" ++ decimal width ++ codes "' height='" ++ decimal tall ++ codes "' viewBox='0 0 " ++ decimal width ++ codes " " ++ decimal tall
     ++ codes "' font-family='monospace' font-size='12' text-anchor='middle'>\n"
 
+-- a page of this size
+abbrev pub page_front : ℕ → ℕ → List ℕ
+page_front width tall = page width tall ++ style ++ arrow_tail ++ arrow_head ++ background
+
 abbrev pub front : ℕ → ℕ → ℕ → List ℕ
-front width low lines = page width (page_height low lines) ++ style ++ arrow_tail ++ arrow_head ++ background
+front width low lines = page_front width (page_height low lines)
 
 -- THE HEADING
 
@@ -117,17 +118,6 @@ layout_of p = record { own = p.own; gaps = gaps_of p; width = page_width p.own (
 
 abbrev pub low_of : Picture → ℕ
 low_of p = bottom (length p.commits)
-
-abbrev pub offers_at : Option Foot → ℕ
-offers_at None = 0
-offers_at (Some f) = length (offers_of f)
-
-abbrev pub offers_below : List Bool → List Foot → ℕ → ℕ
-offers_below own feet t = if is_own own t then offers_at (slice_get feet t) else 0
-
--- how many lines stand below a foot at most
-abbrev pub lines_below : List Bool → List Foot → ℕ
-lines_below own feet = most_below (length own) (offers_below own feet)
 
 abbrev pub lifelines : Naming → Layout → ℕ → List ℕ
 lifelines names l low = each_below (length l.own) (lifeline names l low) ++ others_line l low

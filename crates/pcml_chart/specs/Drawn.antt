@@ -4,16 +4,11 @@ use Rattle.journal_replay.specs.Replays.{ended_by, fired_by}
 use Rattle.journal_replay.specs.declared.state.State.{State}
 use Rattle.pcml_chart.specs.Chart.{Picture}
 use Rattle.pcml_chart.specs.Marks.{Stamps}
-use Rattle.pcml_chart.specs.Places.{Layout}
 use Rattle.pcml_chart.specs.declared.chart.Drawing.{Drawing}
-use Rattle.pcml_chart.specs.declared.layout.Layout as code
 
 -- the stamps that a state has
 abbrev pub stamps_of : State → Stamps
 stamps_of s = record { fired = fired_by s; ended = ended_by s }
-
-abbrev pub laid : code.Layout → Layout
-laid l = record { own = l.own.now; gaps = l.gaps.now; width = l.width }
 
 abbrev pub picture_of : Naming → Stamps → Drawing → Picture
 picture_of names stamps d = record { names = names; own = d.own.now; feet = d.feet.now; stamps = stamps; commits = d.commits.now; total = d.total; from = d.from; is_cut = d.is_cut }

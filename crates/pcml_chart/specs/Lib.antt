@@ -1,12 +1,9 @@
-pub mod Places
 pub mod Range
-pub mod Labels
+pub mod Texts
 pub mod Marks
 pub mod Rows
 pub mod Feet
-pub mod Widths
 pub mod Chart
 pub mod Apart
-pub mod Clear
 pub mod Drawn
 pub mod Plain

@@ -1,18 +1,16 @@
 -- What is drawn for a commit.
-use Rattle.std.specs.Prelude.{ℕ, ◌==◌, ◌&&◌, ◌||◌, not, Bool, false, if◌then◌else◌, List, [], ◌++◌, codes, position, Option, Some, None}
+use Rattle.std.specs.Prelude.{ℕ, ◌==◌, ◌&&◌, ◌||◌, Bool, if◌then◌else◌, List, [], ◌++◌, codes, position, Option, Some, None}
 use Rattle.std.specs.Fmt.{decimal}
 use Rattle.protocol_values.specs.declared.Cause.{Cause}
 use Rattle.protocol_values.specs.declared.Cause.TheVariants as causes
 use Rattle.protocol_values.specs.declared.Commit.{Commit}
 use Rattle.protocol_values.specs.declared.Commit.TheVariants.{Pair, Alone}
-use Rattle.protocol_values.specs.declared.Message.{Message}
 use Rattle.protocol_values.specs.declared.NackName.{NackName}
 use Rattle.protocol_values.specs.Commits.{stamp_of}
 use Rattle.journal_text.specs.Names.{Naming}
-use Rattle.journal_text.specs.Texts.{cause_text, message_text}
-use Rattle.pcml_chart.specs.Labels.{beginning, label, text_end}
-use Rattle.pcml_chart.specs.Places.{Layout, beside, column, height_or_top, is_own, line_of, spot_in}
-use Rattle.pcml_chart.specs.declared.label.Spot.{Spot}
+use Rattle.pcml_chart_layout.specs.Labels.{label_text, spot_of}
+use Rattle.pcml_chart_layout.specs.Places.{Layout, column, height_or_top, is_own, line_of}
+use Rattle.pcml_chart.specs.Texts.{beginning, label, text_end}
 
 unfoldable pub arrow : ℕ → ℕ → ℕ → List ℕ
 arrow x other y = codes "<path class='a' d='M" ++ decimal x ++ codes " " ++ decimal y ++ codes "H" ++ decimal other ++ codes "'/>\n"
@@ -62,40 +60,7 @@ cause_line stamps l commits (causes.Always m) at y = []
 cause_line stamps l commits (causes.Nack n) at y = nack_line l commits n (stamps.fired n) at y
 cause_line stamps l commits (causes.End t) at y = end_line l commits t (stamps.ended t) at y
 
--- LABELS
-
--- what an arrow carries
-abbrev pub sent_text : Naming → ℕ → Message → List ℕ
-sent_text names chan msg = names.channel chan ++ codes " " ++ message_text names msg
-
--- whose mark it is, where the column does not tell it
-abbrev pub whose : Naming → List Bool → ℕ → List ℕ
-whose names own t = if is_own own t then [] else names.thread t ++ codes ": "
-
--- from whom to whom, where the columns do not tell it
-abbrev pub parties : Naming → List Bool → ℕ → ℕ → List ℕ
-parties names own one other =
-    if column own one == column own other then names.thread one ++ codes "->" ++ names.thread other ++ codes " " else whose names own one ++ whose names own other
-
-abbrev pub label_text : Naming → List Bool → Commit → List ℕ
-label_text names own (Pair sender receiver chan msg stamp) = parties names own sender.0.thread receiver.0.thread ++ sent_text names chan msg
-label_text names own (Alone at cause stamp) = whose names own at.0.thread ++ cause_text names cause
-
 -- MARKS
-
--- an arrow stands between two columns
-abbrev pub is_arrow : List Bool → Commit → Bool
-is_arrow own (Pair sender receiver chan msg stamp) = not (column own sender.0.thread == column own receiver.0.thread)
-is_arrow own (Alone at cause stamp) = false
-
--- the gap in which the label stands
-abbrev pub gap_of : List Bool → Commit → ℕ
-gap_of own (Pair sender receiver chan msg stamp) = beside (column own sender.0.thread) (column own receiver.0.thread)
-gap_of own (Alone at cause stamp) = column own at.0.thread
-
--- where it stands
-abbrev pub spot_of : List Bool → List ℕ → Commit → Spot
-spot_of own gaps c = spot_in gaps (gap_of own c) (is_arrow own c)
 
 -- an arrow, or a dot; to a commit alone goes the dashed line of its cause
 abbrev pub figure : Stamps → Layout → List Commit → ℕ → Commit → List ℕ
@@ -104,8 +69,12 @@ figure stamps l commits y (Pair sender receiver chan msg stamp) =
     else arrow (line_of l sender.0.thread) (line_of l receiver.0.thread) y
 figure stamps l commits y (Alone at cause stamp) = cause_line stamps l commits cause at.0.thread y ++ dot (line_of l at.0.thread) y
 
+-- a text beside it
+abbrev pub beside_mark : Layout → ℕ → Commit → List ℕ → List ℕ
+beside_mark l y c text = beginning (spot_of l.own l.gaps c) y ++ label text ++ text_end
+
 abbrev pub mark_label : Naming → Layout → ℕ → Commit → List ℕ
-mark_label names l y c = beginning (spot_of l.own l.gaps c) y ++ label (label_text names l.own c) ++ text_end
+mark_label names l y c = beside_mark l y c (label_text names l.own c)
 
 -- An arrow with the channel and the message, or a dot with its cause.
 abbrev pub mark : Naming → Stamps → Layout → List Commit → ℕ → Commit → List ℕ

@@ -12,7 +12,7 @@ use Rattle.journal_text.specs.Journals.{HasAtom, HasCause, HasMessage, HasNack}
 use Rattle.journal_text.specs.Names.{Declared, names_of, named}
 use Rattle.journal_text.specs.Texts.{cause_text, message_text}
 use Rattle.pcml_why.specs.Whys.{offer_text}
-use Rattle.pcml_chart.specs.Feet.{printed_text}
+use Rattle.pcml_chart_layout.specs.Feet.{printed_text}
 
 -- neither `<` nor `>` nor `&`, and no quote
 abbrev pub is_plain : ℕ → Bool

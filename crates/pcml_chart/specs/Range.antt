@@ -1,7 +1,8 @@
 -- Which commits a chart shows: those of a range of stamps, 1,250 at most.
-use Rattle.std.specs.Prelude.{◌≡◌, ◌⊎◌, ◌&&◌, ℕ, zero, suc, ◌+◌, ◌<◌, ◌≤◌, max, List, [], ◌∷◌, length, filter, nat_le, nat_lt}
+use Rattle.std.specs.Prelude.{◌≡◌, ◌⊎◌, ◌&&◌, ℕ, ◌+◌, ◌<◌, ◌≤◌, List, length, filter, nat_le, nat_lt}
 use Rattle.protocol_values.specs.declared.Commit.{Commit}
 use Rattle.protocol_values.specs.Commits.{stamp_of}
+use Rattle.pcml_chart_layout.specs.Most.{most_by}
 
 -- the commits with a stamp from `from` on and below `below`, in their order
 abbrev pub shown : ℕ → ℕ → List Commit → List Commit
@@ -16,16 +17,6 @@ pub record IsEnd (from to : ℕ) (commits : List Commit) (below : ℕ) : Type 0 
   pub within : below ≤ to + 1
   pub few : count_shown from below commits ≤ 1250
   pub most : (below ≡ to + 1) ⊎ (1250 < count_shown from (below + 1) commits)
-
--- the greatest number of the list's elements, 0 where there is none
-abbrev pub most_by : {X : Type 0} → (X → ℕ) → List X → ℕ
-most_by f [] = 0
-most_by f (x ∷ xs) = max (f x) (most_by f xs)
-
--- the same of the numbers below n
-abbrev pub most_below : ℕ → (ℕ → ℕ) → ℕ
-most_below zero f = 0
-most_below (suc n) f = max (f n) (most_below n f)
 
 abbrev pub greatest : List Commit → ℕ
 greatest commits = most_by stamp_of commits

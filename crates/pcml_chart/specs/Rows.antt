@@ -4,11 +4,9 @@ use Rattle.std.specs.Fmt.{decimal}
 use Rattle.protocol_values.specs.declared.Commit.{Commit}
 use Rattle.protocol_values.specs.Commits.{stamp_of}
 use Rattle.journal_text.specs.Names.{Naming}
-use Rattle.pcml_chart.specs.Labels.{beginning, text_end}
 use Rattle.pcml_chart.specs.Marks.{Stamps, mark}
-use Rattle.pcml_chart.specs.Places.{Layout, height}
-use Rattle.pcml_chart.specs.declared.label.Spot.{Spot}
-use Rattle.pcml_chart.specs.declared.label.Spot.TheVariants.{Behind}
+use Rattle.pcml_chart.specs.Texts.{beginning, text_end}
+use Rattle.pcml_chart_layout.specs.Places.{Layout, height, margin}
 
 -- STAMPS
 
@@ -26,10 +24,6 @@ border width y = codes "<path class='t' d='M0 " ++ decimal y ++ codes "H" ++ dec
 -- the border between a stamp and the one before
 abbrev pub border_above : ℕ → ℕ → List ℕ
 border_above width place = if place == 0 then [] else border width (height place - 18)
-
--- where the stamps stand
-abbrev pub margin : Spot
-margin = Behind 8
 
 -- the stamp at the left margin
 abbrev pub stamp_text : ℕ → ℕ → List ℕ

@@ -4,22 +4,22 @@ ghost use Rattle.std.specs.Prelude.{◌≡◌, ◌≤◌, IfOk, length};
 ghost use Rattle.std.specs.String.{string_bytes};
 ghost use Rattle.script.specs.Scripts.{script_of};
 ghost use Rattle.journal_replay.specs.Replays.{thread_count};
+ghost use Rattle.pcml_chart_layout.specs.Feet.{lines_below};
+ghost use Rattle.pcml_chart_layout.specs.Laid.{AreLabels, laid, tall, written};
+ghost use Rattle.pcml_chart_layout.specs.Places.{bottom, page_height};
 ghost use Rattle.pcml_chart.specs.Apart.{MarksAreApart};
 ghost use Rattle.pcml_chart.specs.Chart.{IsChart, heading, laid_out, picture_text};
-ghost use Rattle.pcml_chart.specs.Clear.{LabelsAreClear, NamesAreClear, OffersAreClear, OthersAreClear, StampsAreClear, StandsAreClear};
-ghost use Rattle.pcml_chart.specs.Drawn.{laid, picture_of, stamps_of};
+ghost use Rattle.pcml_chart.specs.Drawn.{picture_of, stamps_of};
 ghost use Rattle.pcml_chart.specs.Plain.{NamesArePlain, MessagesArePlain, CausesArePlain, PrintedIsPlain, OffersArePlain};
 ghost use Rattle.pcml_chart.specs.Marks.{Stamps};
 ghost use Rattle.journal_text.specs.Names.{Naming, named};
 
-use crate::foot::{Foot, feet_of, lines_below, push_feet};
+use crate::foot::push_feet;
 use crate::frame::{heading_text, push_front, push_heading, push_lifelines, push_page_end};
-use crate::layout::Layout;
-use crate::places::{bottom, page_width};
 use crate::range::{greatest, range_end, shown};
 use crate::row::push_rows;
-use crate::widths::gap_widths;
 use journal_replay::State;
+use pcml_chart_layout::{Foot, Layout, bottom, feet_of};
 use protocol_values::Commit;
 use script::Script;
 use std::alloc::{AllocError, Global};
@@ -57,7 +57,9 @@ fn laid_out(
     words: &str,
     layout: &Layout<'_>,
 ) -> Result<String, AllocError>
-    requires own { layout.now.own.now ≡ drawing.now.own.now }
+    requires own { (laid layout.now).own ≡ drawing.now.own.now }
+    requires labels { AreLabels (named (script_of script.now)) drawing.now.own.now drawing.now.commits.now (written layout.now) }
+    requires tall { tall layout.now ≡ page_height (bottom (length drawing.now.commits.now)) (lines_below drawing.now.own.now drawing.now.feet.now) }
     requires count { length drawing.now.feet.now ≡ length drawing.now.own.now }
     requires few { length drawing.now.commits.now ≤ 1250 }
     requires words { words.now ≡ heading (picture_of (named (script_of script.now)) (stamps_of state.now) drawing.now) }
@@ -65,15 +67,10 @@ fn laid_out(
 {
     let low = bottom(drawing.commits.len());
     let mut out = String::new(alloc);
-    push_front(
-        &mut out,
-        layout.width,
-        low,
-        lines_below(drawing.own, drawing.feet),
-    )?;
+    push_front(&mut out, layout.width(), layout.height())?;
     push_heading(&mut out, words)?;
     push_lifelines(alloc, &mut out, script, layout, low)?;
-    push_rows(alloc, &mut out, script, state, layout, drawing.commits)?;
+    push_rows(&mut out, state, layout, drawing.commits)?;
     push_feet(alloc, &mut out, script, layout, drawing.feet, low)?;
     push_page_end(&mut out)?;
     Ok(out)
@@ -91,12 +88,14 @@ fn picture_text(
     ensures { IfOk result (λ text. string_bytes text ≡ picture_text (picture_of (named (script_of script.now)) (stamps_of state.now) drawing.now)) }
 {
     let heading = heading(alloc, drawing)?;
-    let gaps = gap_widths(alloc, script, drawing.own, drawing.feet, drawing.commits)?;
-    let layout = Layout {
-        own: drawing.own,
-        gaps: &gaps,
-        width: page_width(drawing.own, &gaps, &heading),
-    };
+    let layout = Layout::new(
+        alloc,
+        script,
+        drawing.own,
+        drawing.feet,
+        drawing.commits,
+        heading.len(),
+    )?;
     laid_out(alloc, script, state, drawing, &heading, &layout)
 }
 
@@ -133,20 +132,11 @@ pub fn chart_text(
 /// No two commits are drawn at one height: of two that are shown, the mark of the later stands behind that of the
 /// other, and lower.
 ///
-/// No text crosses a line of life, with 8 for each character that is seen: a stamp stands before the first line, the
-/// label of a commit between two lines, and a name or a foot between the lines beside its own.
-///
 /// Nothing that is written between the marks can be read as markup: in the names of a script that some text
 /// spells, in the messages and causes of commits that have a line, and in outputs and offers of such values, no
 /// byte is `<`, `>`, `&` or a quote.
 pub fn chart_laws()
     ensures apart { MarksAreApart }
-    ensures clear_stamps { StampsAreClear }
-    ensures clear_labels { LabelsAreClear }
-    ensures clear_names { NamesAreClear }
-    ensures clear_others { OthersAreClear }
-    ensures clear_stands { StandsAreClear }
-    ensures clear_offers { OffersAreClear }
     ensures names { NamesArePlain }
     ensures messages { MessagesArePlain }
     ensures causes { CausesArePlain }

@@ -1,17 +1,15 @@
 //! What stands round the marks: the page, the heading, and the lines of life with how many commits are shown.
 
-ghost use Rattle.std.specs.Prelude.{◌≡◌, ◌<◌, ◌^◌, IfOk, OnOk};
+ghost use Rattle.std.specs.Prelude.{◌≡◌, IfOk, OnOk};
 ghost use Rattle.std.specs.String.{string_bytes};
 ghost use Rattle.script.specs.Scripts.{script_of};
-ghost use Rattle.pcml_chart.specs.Chart.{arrow_head, arrow_tail, background, cut_text, front, heading_of, heading_text, life, lifeline, lifelines, line, others_line, page, page_end, page_height, stamps_text, style};
-ghost use Rattle.pcml_chart.specs.Drawn.{laid};
+ghost use Rattle.pcml_chart_layout.specs.Laid.{laid};
+ghost use Rattle.pcml_chart.specs.Chart.{arrow_head, arrow_tail, background, cut_text, heading_of, heading_text, life, lifeline, lifelines, line, others_line, page, page_end, page_front, stamps_text, style};
 ghost use Rattle.journal_text.specs.Names.{named};
 ghost use Rattle.script.specs.Appending.{Adds};
 
-use crate::label::{push_centered, push_label, push_starting, push_text_end};
-use crate::layout::Layout;
-use crate::name::thread_name;
-use crate::places::{has_others, is_own, line_at, line_of, others_column};
+use crate::text::{push_centered, push_label, push_starting, push_text_end};
+use pcml_chart_layout::{Layout, thread_name};
 use script::Script;
 use std::alloc::{AllocError, Global};
 
@@ -58,24 +56,11 @@ fn push_background(out: &mut String) -> Result<(), AllocError>
     out.push_str("<rect width='100%' height='100%' fill='white'/>\n")
 }
 
-fn page_height(low: u64, lines: usize) -> u64
-    requires { low < 2 ^ 60 }
-    ensures { result ≡ page_height low lines }
+/// A page of this size.
+pub(crate) fn push_front(out: &mut String, width: u64, tall: u64) -> Result<(), AllocError>
+    ensures { OnOk result (Adds out.old out.new (page_front width tall)) }
 {
-    low + 32 + 16 * lines.min(8) as u64
-}
-
-/// The page of this width, on which the lines of life end at this height, with so many lines below.
-pub(crate) fn push_front(
-    out: &mut String,
-    width: u64,
-    low: u64,
-    lines: usize,
-) -> Result<(), AllocError>
-    requires { low < 2 ^ 60 }
-    ensures { OnOk result (Adds out.old out.new (front width low lines)) }
-{
-    push_page(out, width, page_height(low, lines))?;
+    push_page(out, width, tall)?;
     push_style(out)?;
     push_arrow_tail(out)?;
     push_arrow_head(out)?;
@@ -151,26 +136,21 @@ fn push_lifeline(
 ) -> Result<(), AllocError>
     ensures { OnOk result (Adds out.old out.new (lifeline (named (script_of script.now)) (laid layout.now) low thread)) }
 {
-    if !is_own(layout.own, usize::from(thread)) {
+    if !layout.is_own(usize::from(thread)) {
         return Ok(());
     }
     let name = thread_name(alloc, script, thread)?;
-    push_life(out, &name, line_of(layout, thread), low)
+    push_life(out, &name, layout.line_of(thread), low)
 }
 
 /// That of the others.
 fn push_others_line(out: &mut String, layout: &Layout<'_>, low: u64) -> Result<(), AllocError>
     ensures { OnOk result (Adds out.old out.new (others_line (laid layout.now) low)) }
 {
-    if !has_others(layout.own) {
+    if !layout.has_others() {
         return Ok(());
     }
-    push_life(
-        out,
-        "others",
-        line_at(layout.gaps, others_column(layout.own)),
-        low,
-    )
+    push_life(out, "others", layout.others_line(), low)
 }
 
 /// The lines of life of the columns.
@@ -183,7 +163,7 @@ pub(crate) fn push_lifelines(
 ) -> Result<(), AllocError>
     ensures { OnOk result (Adds out.old out.new (lifelines (named (script_of script.now)) (laid layout.now) low)) }
 {
-    for thread in 0..layout.own.len() {
+    for thread in 0..layout.processes() {
         push_lifeline(alloc, out, script, layout, low, thread as u8)?;
     }
     push_others_line(out, layout, low)

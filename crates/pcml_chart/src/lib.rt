@@ -1,7 +1,8 @@
 //! A journal as a picture: a message sequence chart, as SVG text.
 //!
 //! - `chart_text` draws the commits of a range of stamps between the lines of life of their processes.
-//! - A process has a column of its own, or shares one with others; the columns are as wide as their labels need.
+//! - A process has a column of its own, or shares one with others; the columns are as wide as their labels need
+//!   (`pcml_chart_layout`).
 //! - What it draws is a function of the commits, of where they lead, and of the names of the script
 //!   (`specs/Chart.antt`).
 #![tactic(auto)]
@@ -9,13 +10,9 @@
 mod chart;
 mod foot;
 mod frame;
-mod label;
-mod layout;
 mod mark;
-mod name;
-mod places;
 mod range;
 mod row;
-mod widths;
+mod text;
 
 pub use crate::chart::{chart_laws, chart_text};

@@ -1,23 +1,20 @@
 //! What is drawn for a commit.
 
-ghost use Rattle.std.specs.Prelude.{◌≡◌, ◌<◌, ◌≤◌, ◌+◌, ◌^◌, IfOk, OnOk, length};
-ghost use Rattle.std.specs.String.{string_bytes};
-ghost use Rattle.script.specs.Scripts.{script_of};
+ghost use Rattle.std.specs.Prelude.{◌≡◌, ◌<◌, ◌≤◌, ◌^◌, OnOk, length};
 ghost use Rattle.journal_replay.specs.Replays.{ended_by, fired_by};
-ghost use Rattle.pcml_chart.specs.Drawn.{laid, stamps_of};
-ghost use Rattle.pcml_chart.specs.Marks.{arrow, cause_line, dashes, dashes_to, dot, end_line, figure, gap_of, height_of, is_arrow, label_text, mark_label, nack_line, parties, place_of, sent_text, takes_part, whose};
-ghost use Rattle.pcml_chart.specs.Places.{owners};
-ghost use Rattle.journal_text.specs.Names.{named};
+ghost use Rattle.pcml_chart_layout.specs.Laid.{laid};
+ghost use Rattle.pcml_chart.specs.Drawn.{stamps_of};
+ghost use Rattle.pcml_chart.specs.Marks.{arrow, beside_mark, cause_line, dashes, dashes_to, dot, end_line, figure, height_of, nack_line, place_of, takes_part};
 ghost use Rattle.script.specs.Appending.{Adds};
 
-use crate::label::{push_beginning, push_label, push_text_end};
-use crate::layout::Layout;
-use crate::places::{TOP, beside, column, height, is_own, line_of, spot_in};
+use crate::text::{push_beginning, push_label, push_text_end};
 use journal_replay::State;
-use journal_text::{push_cause, push_channel, push_message, push_thread};
-use protocol_values::{Cause, Commit, Message, NackName};
-use script::Script;
-use std::alloc::{AllocError, Global};
+use pcml_chart_layout::{Layout, height};
+use protocol_values::{Cause, Commit, NackName};
+use std::alloc::AllocError;
+
+/// The top of the lines of life.
+const TOP: u64 = 52;
 
 #[tactic(auto, unfolding(crate::specs::Marks::arrow))]
 fn push_arrow(out: &mut String, x: u64, other: u64, y: u64) -> Result<(), AllocError>
@@ -80,8 +77,8 @@ fn push_dashes_to(
 ) -> Result<(), AllocError>
     ensures { OnOk result (Adds out.old out.new (dashes_to (laid layout.now) thread high at y)) }
 {
-    if is_own(layout.own, usize::from(thread)) || is_own(layout.own, usize::from(at)) {
-        push_dashes(out, line_of(layout, thread), high, line_of(layout, at), y)
+    if layout.is_own(usize::from(thread)) || layout.is_own(usize::from(at)) {
+        push_dashes(out, layout.line_of(thread), high, layout.line_of(at), y)
     } else {
         Ok(())
     }
@@ -153,104 +150,6 @@ fn push_cause_line(
     }
 }
 
-/// The channel and the message of an arrow.
-fn push_sent(out: &mut String, script: &Script, chan: u8, msg: Message) -> Result<(), AllocError>
-    ensures { OnOk result (Adds out.old out.new (sent_text (named (script_of script.now)) chan msg)) }
-{
-    push_channel(out, script, chan)?;
-    out.push_str(" ")?;
-    push_message(out, script, msg)
-}
-
-/// Whose mark it is, where the column does not tell it.
-fn push_whose(out: &mut String, script: &Script, own: &[bool], thread: u8) -> Result<(), AllocError>
-    ensures { OnOk result (Adds out.old out.new (whose (named (script_of script.now)) own.now thread)) }
-{
-    if is_own(own, usize::from(thread)) {
-        return Ok(());
-    }
-    push_thread(out, script, thread)?;
-    out.push_str(": ")
-}
-
-/// From whom to whom, where the columns do not tell it.
-fn push_parties(
-    out: &mut String,
-    script: &Script,
-    own: &[bool],
-    one: u8,
-    other: u8,
-) -> Result<(), AllocError>
-    ensures { OnOk result (Adds out.old out.new (parties (named (script_of script.now)) own.now one other)) }
-{
-    if column(own, one) == column(own, other) {
-        push_thread(out, script, one)?;
-        out.push_str("->")?;
-        push_thread(out, script, other)?;
-        out.push_str(" ")
-    } else {
-        push_whose(out, script, own, one)?;
-        push_whose(out, script, own, other)
-    }
-}
-
-/// What stands beside a commit.
-pub(crate) fn label_text(
-    alloc: Global,
-    script: &Script,
-    own: &[bool],
-    commit: &Commit,
-) -> Result<String, AllocError>
-    ensures { IfOk result (λ text. string_bytes text ≡ label_text (named (script_of script.now)) own.now commit.now) }
-{
-    let mut text = String::new(alloc);
-    match *commit {
-        Commit::Pair {
-            sender,
-            receiver,
-            chan,
-            msg,
-            ..
-        } => {
-            push_parties(&mut text, script, own, sender.0.thread, receiver.0.thread)?;
-            push_sent(&mut text, script, chan, msg)?;
-        }
-        Commit::Alone { at, cause, .. } => {
-            push_whose(&mut text, script, own, at.0.thread)?;
-            push_cause(&mut text, script, cause)?;
-        }
-    }
-    Ok(text)
-}
-
-fn is_arrow(own: &[bool], commit: &Commit) -> bool
-    ensures { result ≡ is_arrow own.now commit.now }
-{
-    match commit {
-        Commit::Pair {
-            sender,
-            receiver,
-            ..
-        } => column(own, sender.0.thread) != column(own, receiver.0.thread),
-        Commit::Alone { .. } => false,
-    }
-}
-
-/// The gap in which the label of a commit stands.
-pub(crate) fn gap_of(own: &[bool], commit: &Commit) -> usize
-    ensures value { result ≡ gap_of own.now commit.now }
-    ensures within { result ≤ owners own.now + 1 }
-{
-    match commit {
-        Commit::Pair {
-            sender,
-            receiver,
-            ..
-        } => beside(column(own, sender.0.thread), column(own, receiver.0.thread)),
-        Commit::Alone { at, .. } => column(own, at.0.thread),
-    }
-}
-
 /// An arrow, or a dot with the dashed line of its cause.
 pub(crate) fn push_figure(
     out: &mut String,
@@ -270,40 +169,33 @@ pub(crate) fn push_figure(
             ..
         } => {
             let (one, other) = (sender.0.thread, receiver.0.thread);
-            let x = line_of(layout, one);
-            if column(layout.own, one) == column(layout.own, other) {
+            let x = layout.line_of(one);
+            if layout.column(one) == layout.column(other) {
                 push_dot(out, x, y)
             } else {
-                push_arrow(out, x, line_of(layout, other), y)
+                push_arrow(out, x, layout.line_of(other), y)
             }
         }
         Commit::Alone { at, cause, .. } => {
             push_cause_line(out, state, layout, commits, cause, at.0.thread, y)?;
-            push_dot(out, line_of(layout, at.0.thread), y)
+            push_dot(out, layout.line_of(at.0.thread), y)
         }
     }
 }
 
-/// The label beside it.
-pub(crate) fn push_mark_label(
-    alloc: Global,
+/// The text beside it.
+pub(crate) fn push_beside(
     out: &mut String,
-    script: &Script,
     layout: &Layout<'_>,
     y: u64,
     commit: &Commit,
+    text: &str,
 ) -> Result<(), AllocError>
     requires low { 5 ≤ y }
     requires high { y < 2 ^ 60 }
-    ensures { OnOk result (Adds out.old out.new (mark_label (named (script_of script.now)) (laid layout.now) y commit.now)) }
+    ensures { OnOk result (Adds out.old out.new (beside_mark (laid layout.now) y commit.now text.now)) }
 {
-    let text = label_text(alloc, script, layout.own, commit)?;
-    let gap = gap_of(layout.own, commit);
-    push_beginning(
-        out,
-        spot_in(layout.gaps, gap, is_arrow(layout.own, commit)),
-        y,
-    )?;
-    push_label(out, &text)?;
+    push_beginning(out, layout.spot_of(commit), y)?;
+    push_label(out, text)?;
     push_text_end(out)
 }

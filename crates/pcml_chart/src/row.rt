@@ -1,21 +1,19 @@
 //! The rows of a chart, one for each commit that is shown.
 
 ghost use Rattle.std.specs.Prelude.{◌≡◌, ◌<◌, ◌≤◌, ◌^◌, OnOk, length};
-ghost use Rattle.script.specs.Scripts.{script_of};
+ghost use Rattle.pcml_chart_layout.specs.Laid.{AreLabels, laid, written};
 ghost use Rattle.pcml_chart.specs.Chart.{marks};
-ghost use Rattle.pcml_chart.specs.Drawn.{laid, stamps_of};
+ghost use Rattle.pcml_chart.specs.Drawn.{stamps_of};
 ghost use Rattle.pcml_chart.specs.Rows.{border, border_above, is_first, row, stamp_at, stamp_mark, stamp_text};
-ghost use Rattle.journal_text.specs.Names.{named};
+ghost use Rattle.journal_text.specs.Names.{Naming};
 ghost use Rattle.script.specs.Appending.{Adds};
 
-use crate::label::{Spot, push_beginning, push_text_end};
-use crate::layout::Layout;
-use crate::mark::{push_figure, push_mark_label};
-use crate::places::height;
+use crate::mark::{push_beside, push_figure};
+use crate::text::{push_beginning, push_text_end};
 use journal_replay::State;
+use pcml_chart_layout::{Layout, Spot, height};
 use protocol_values::Commit;
-use script::Script;
-use std::alloc::{AllocError, Global};
+use std::alloc::AllocError;
 
 fn stamp_at(commits: &[Commit], place: usize) -> u32
     requires { place < length commits.now }
@@ -80,9 +78,7 @@ fn push_stamp_mark(
 }
 
 fn push_row(
-    alloc: Global,
     out: &mut String,
-    script: &Script,
     state: &State,
     layout: &Layout<'_>,
     commits: &[Commit],
@@ -90,29 +86,29 @@ fn push_row(
 ) -> Result<(), AllocError>
     requires few { length commits.now ≤ 1250 }
     requires place { place < length commits.now }
-    ensures { OnOk result (Adds out.old out.new (row (named (script_of script.now)) (stamps_of state.now) (laid layout.now) commits.now place)) }
+    requires labels { length (written layout.now) ≡ length commits.now }
+    ensures { (names : Naming) → AreLabels names (laid layout.now).own commits.now (written layout.now) → OnOk result (Adds out.old out.new (row names (stamps_of state.now) (laid layout.now) commits.now place)) }
 {
     let y = height(place);
     let commit = &commits[place];
-    push_stamp_mark(out, layout.width, commits, place)?;
+    push_stamp_mark(out, layout.width(), commits, place)?;
     push_figure(out, state, layout, commits, y, commit)?;
-    push_mark_label(alloc, out, script, layout, y, commit)
+    push_beside(out, layout, y, commit, layout.label(place))
 }
 
-/// A row for each of the commits, in their order.
+/// A row for each of the commits of the layout, in their order.
 pub(crate) fn push_rows(
-    alloc: Global,
     out: &mut String,
-    script: &Script,
     state: &State,
     layout: &Layout<'_>,
     commits: &[Commit],
 ) -> Result<(), AllocError>
-    requires { length commits.now ≤ 1250 }
-    ensures { OnOk result (Adds out.old out.new (marks (named (script_of script.now)) (stamps_of state.now) (laid layout.now) commits.now)) }
+    requires few { length commits.now ≤ 1250 }
+    requires labels { length (written layout.now) ≡ length commits.now }
+    ensures { (names : Naming) → AreLabels names (laid layout.now).own commits.now (written layout.now) → OnOk result (Adds out.old out.new (marks names (stamps_of state.now) (laid layout.now) commits.now)) }
 {
     for place in 0..commits.len() {
-        push_row(alloc, out, script, state, layout, commits, place)?;
+        push_row(out, state, layout, commits, place)?;
     }
     Ok(())
 }

@@ -1,7 +1,7 @@
 use Rattle.std.specs.String.{string_bytes}
 use Rattle.script.specs.Scripts.{script_of}
 use Rattle.pcml_chart.specs.Chart.{foot_mark}
-use Rattle.pcml_chart.specs.Drawn.{laid}
+use Rattle.pcml_chart_layout.specs.Laid.{laid}
 use Rattle.pcml_chart.proofs.Pieces.{each_below-more}
 use Rattle.journal_text.specs.Names.{named}
 use Rattle.pcml_chart.proofs.foot.push_feet.Goals as goal

@@ -2,7 +2,7 @@ use Rattle.std.proofs.Common.{◌≡◌, ◌++◌}
 use Rattle.std.specs.String.{string_bytes}
 use Rattle.script.specs.Scripts.{script_of}
 use Rattle.pcml_chart.specs.Chart.{each_below, lifeline}
-use Rattle.pcml_chart.specs.Drawn.{laid}
+use Rattle.pcml_chart_layout.specs.Laid.{laid}
 use Rattle.journal_text.specs.Names.{named}
 use Rattle.pcml_chart.proofs.frame.push_lifelines.Given as goal
 

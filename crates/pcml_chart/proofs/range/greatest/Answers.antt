@@ -1,5 +1,5 @@
 use Rattle.protocol_values.specs.Commits.{stamp_of}
-use Rattle.pcml_chart.proofs.Ranging.{most_by-step}
+use Rattle.pcml_chart_layout.proofs.Greatest.{most_by-step}
 use Rattle.pcml_chart.proofs.range.greatest.Goals as goal
 
 pub loop-commit-preserved : goal.loop-commit-preserved

@@ -1,6 +1,0 @@
-use Rattle.std.proofs.Common.{◌≡◌, ◌≤◌, take}
-use Rattle.pcml_chart.specs.Places.{owners}
-use Rattle.pcml_chart.proofs.places.owners.Given as goal
-
-abbrev pub invariant-loop-owns : goal.invariant-loop-owns
-invariant-loop-owns l = (l.count ≡ owners (take l.owns-index l.own)) × (l.count ≤ l.owns-index)

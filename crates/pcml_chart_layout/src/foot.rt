@@ -1,0 +1,133 @@
+//! How each process stands, with what it printed or what it offers.
+
+ghost use Rattle.std.specs.Prelude.{◌≡◌, ◌<◌, ◌≤◌, IfOk, OnOk, length};
+ghost use Rattle.std.specs.String.{string_bytes};
+ghost use Rattle.script.specs.Scripts.{script_of};
+ghost use Rattle.pcml_chart_layout.specs.Feet.{AreFeet, is_ended, is_waiting, lines_below, offers_below, offers_of, printed_text, stand_text};
+ghost use Rattle.pcml_chart_layout.specs.Widths.{foot_length};
+ghost use Rattle.journal_text.specs.Names.{named};
+ghost use Rattle.pcml_why.specs.Whys.{offer_text};
+ghost use Rattle.script.specs.Appending.{Adds};
+
+use crate::columns::Columns;
+use crate::seen::seen_length;
+use journal_replay::{End, State};
+use journal_text::push_atom;
+use pcml_why::push_offer;
+use protocol_values::{Atom, Offer};
+use script::Script;
+use std::alloc::{AllocError, Global};
+
+/// How a process stands, what it printed, and what its open sync offers.
+#[derive(Drop)]
+pub struct Foot<'a> {
+    end: End,
+    printed: &'a [Atom],
+    offers: &'a [Offer],
+}
+
+/// One for each process of the state, in their order.
+pub fn feet_of<'a>(alloc: Global, state: &'a State) -> Result<Vec<Foot<'a>>, AllocError>
+    ensures { IfOk result (λ feet. AreFeet state.now feet.items) }
+{
+    let mut feet = Vec::new(alloc);
+    for thread in 0..state.threads() {
+        let (offers, _) = state.open(thread);
+        feet.push(Foot {
+            end: state.end(thread),
+            printed: state.output(thread),
+            offers,
+        })?;
+    }
+    Ok(feet)
+}
+
+fn is_ended(end: End) -> bool
+    ensures { result ≡ is_ended end }
+{
+    matches!(end, End::Ended)
+}
+
+fn is_waiting(end: End) -> bool
+    ensures { result ≡ is_waiting end }
+{
+    matches!(end, End::Waiting)
+}
+
+/// What the process offers where it waits.
+pub fn offers_of<'a>(foot: &Foot<'a>) -> &'a [Offer]
+    ensures { result.now ≡ offers_of foot.now }
+{
+    if is_waiting(foot.end) {
+        foot.offers
+    } else {
+        &[]
+    }
+}
+
+/// How many offers stand below the foot of a process.
+fn offers_below(columns: &Columns<'_>, feet: &[Foot<'_>], thread: usize) -> usize
+    requires { thread < length feet.now }
+    ensures { result ≡ offers_below columns.now.own.now feet.now thread }
+{
+    if columns.is_own(thread) {
+        offers_of(&feet[thread]).len()
+    } else {
+        0
+    }
+}
+
+/// How many lines stand below a foot at most.
+pub(crate) fn lines_below(columns: &Columns<'_>, feet: &[Foot<'_>]) -> usize
+    requires { length feet.now ≡ length columns.now.own.now }
+    ensures { result ≡ lines_below columns.now.own.now feet.now }
+{
+    let mut most = 0;
+    for thread in 0..columns.processes() {
+        most = offers_below(columns, feet, thread).max(most);
+    }
+    most
+}
+
+/// Each atom behind a space.
+fn push_printed(out: &mut String, script: &Script, printed: &[Atom]) -> Result<(), AllocError>
+    ensures { OnOk result (Adds out.old out.new (printed_text (named (script_of script.now)) printed.now)) }
+{
+    for atom in printed {
+        out.push_str(" ")?;
+        push_atom(out, script, *atom)?;
+    }
+    Ok(())
+}
+
+/// How the process stands, and behind it what it printed where it ended.
+pub fn stand_text(alloc: Global, script: &Script, foot: &Foot<'_>) -> Result<String, AllocError>
+    ensures { IfOk result (λ text. string_bytes text ≡ stand_text (named (script_of script.now)) foot.now) }
+{
+    let mut text = String::new(alloc);
+    text.push_str(foot.end.text())?;
+    if is_ended(foot.end) {
+        push_printed(&mut text, script, foot.printed)?;
+    }
+    Ok(text)
+}
+
+/// What the offer says.
+pub fn offer_text(alloc: Global, script: &Script, offer: &Offer) -> Result<String, AllocError>
+    ensures { IfOk result (λ text. string_bytes text ≡ offer_text (named (script_of script.now)) offer.now.base) }
+{
+    let mut text = String::new(alloc);
+    push_offer(&mut text, script, offer.base)?;
+    Ok(text)
+}
+
+/// The length of the longest line of a foot.
+pub(crate) fn foot_length(alloc: Global, script: &Script, foot: &Foot<'_>) -> Result<u8, AllocError>
+    ensures { IfOk result (λ long. long ≡ foot_length (named (script_of script.now)) foot.now) }
+{
+    let mut longest = 0;
+    for offer in offers_of(foot) {
+        longest = seen_length(&offer_text(alloc, script, offer)?).max(longest);
+    }
+    Ok(seen_length(&stand_text(alloc, script, foot)?).max(longest))
+}
