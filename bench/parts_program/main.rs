@@ -1,8 +1,8 @@
-//! `bench_parts machine PART N`: a process without end, resumed N times by its first offer.
-//! `bench_parts machine code N FILE`: the first process of a script, made into N machines.
-//! `bench_parts settle ROWS`: 32 pairs of processes, led on until each made so many syncs.
-//! `bench_parts journal PART N`: a journal's text of N lines, made, read or written.
-//! `bench_parts all`: a little of each.
+//! `bench/parts machine PART N`: a process without end, resumed N times by its first offer.
+//! `bench/parts machine code N FILE`: the first process of a script, made into N machines.
+//! `bench/parts settle ROWS`: 32 pairs of processes, led on until each made so many syncs.
+//! `bench/parts journal PART N`: a journal's text of N lines, made, read or written.
+//! `bench/parts all`: a little of each.
 #![tactic(auto)]
 
 mod journals;
