@@ -1,5 +1,5 @@
 -- What is told of the outcomes that were found.
-use Rattle.std.specs.Prelude.{◌≡◌, ◌≤◌, ◌-◌, ◌==◌, ◌&&◌, ℕ, Bool, true, false, List, [], ◌∷◌, ◌++◌, length, codes, Contains, Option, None, Some, IfSome, slice_get, ⊤}
+use Rattle.std.specs.Prelude.{◌≡◌, ◌⊎◌, ◌≤◌, ◌-◌, ◌==◌, ◌&&◌, not, ℕ, Bool, true, false, List, [], ◌∷◌, ◌++◌, length, codes, Contains, Option, None, Some, IfSome, slice_get, ⊤}
 use Rattle.std.specs.Fmt.{decimal}
 use Rattle.std.specs.List.{AllByRecursion, enumerate_from, filter, find, flat_map, list_any}
 use Rattle.std.specs.Global.{Vec}
@@ -10,7 +10,7 @@ use Rattle.script.specs.Sources.{Script}
 use Rattle.journal_text.specs.Journals.{HasLine, Spells}
 use Rattle.journal_text.specs.Names.{Naming, named, names_of}
 use Rattle.journal_replay.specs.declared.end.End.{End}
-use Rattle.journal_replay.specs.declared.end.End.TheVariants.{Waiting}
+use Rattle.journal_replay.specs.declared.end.End.TheVariants.{Spent, Waiting}
 use Rattle.outcomes.specs.Outcomes.{AreAll, AreDifferent, AreOutcomes, LeadsTo, ends_in, outputs_in}
 use Rattle.outcomes.specs.declared.Outcome.{Outcome}
 use Rattle.outcomes.specs.declared.Outcomes.{Outcomes}
@@ -26,6 +26,18 @@ is_waiting end = false
 -- whether some process is left waiting
 abbrev pub leaves_waiting : Outcome → Bool
 leaves_waiting o = list_any is_waiting (ends_in o)
+
+abbrev pub is_spent : End → Bool
+is_spent Spent = true
+is_spent end = false
+
+-- whether some process had no row left for its sync
+abbrev pub leaves_spent : Outcome → Bool
+leaves_spent o = list_any is_spent (ends_in o)
+
+-- whether some outcome has such a process: how it would go on is not known
+abbrev pub is_bounded : List Outcome → Bool
+is_bounded outcomes = list_any leaves_spent outcomes
 
 -- where what waits is asked for, only that is told, and else each outcome
 abbrev pub is_shown : Bool → Outcome → Bool
@@ -45,17 +57,20 @@ outcome_line number = codes "outcome " ++ decimal number ++ 10 ∷ []
 abbrev pub outcome_text : Naming → ℕ × Outcome → List ℕ
 outcome_text names n = outcome_line n.0 ++ process_lines names (standings (ends_in n.1) (outputs_in n.1))
 
-abbrev pub whole_text : Bool → List ℕ
-whole_text true = codes "all"
-whole_text false = codes "cut"
+-- whether that is all there is, and within how many syncs a process where some had none left
+abbrev pub extent_text : ℕ → Bool → Bool → List ℕ
+extent_text rows false bounded = codes "cut"
+extent_text rows true false = codes "all"
+extent_text rows true true = codes "all within " ++ decimal rows ++ codes " syncs"
 
 -- how many outcomes are told, how many configurations were seen, and whether that is all
-abbrev pub last_line : ℕ → ℕ → Bool → List ℕ
-last_line told visited whole = codes "outcomes " ++ decimal told ++ codes " configurations " ++ decimal visited ++ codes " " ++ whole_text whole ++ 10 ∷ []
+abbrev pub last_line : ℕ → ℕ → Outcomes → List ℕ
+last_line rows told found =
+    codes "outcomes " ++ decimal told ++ codes " configurations " ++ decimal found.visited ++ codes " " ++ extent_text rows found.whole (is_bounded found.outcomes.items) ++ 10 ∷ []
 
-abbrev pub outcomes_text : Naming → Bool → Outcomes → List ℕ
-outcomes_text names waiting found =
-    flat_map (outcome_text names) (shown waiting found.outcomes.items) ++ last_line (length (shown waiting found.outcomes.items)) found.visited found.whole
+abbrev pub outcomes_text : Naming → ℕ → Bool → Outcomes → List ℕ
+outcomes_text names rows waiting found =
+    flat_map (outcome_text names) (shown waiting found.outcomes.items) ++ last_line rows (length (shown waiting found.outcomes.items)) found
 
 -- THE JOURNAL OF ONE
 
@@ -88,13 +103,13 @@ pub record AreFound (s : Script) (rows limit : ℕ) (found : Outcomes) : Type 0 
   pub all : found.whole ≡ true → AreAll s.processes rows found.outcomes.items
   pub cut : found.whole ≡ false → found.visited ≡ limit
 
--- all was seen, and nothing is told
+-- all was seen, no process was spent, and nothing is told
 abbrev pub is_clear : Bool → Outcomes → Bool
-is_clear waiting found = found.whole && (length (shown waiting found.outcomes.items) == 0)
+is_clear waiting found = found.whole && (not (is_bounded found.outcomes.items) && (length (shown waiting found.outcomes.items) == 0))
 
 -- the text of what was found, and of the journal of the outcome that is asked for
-pub record IsListed (s : Script) (waiting : Bool) (of : Option ℕ) (found : Outcomes) (t : OutcomesText) : Type 0 where
-  pub text : t.text.items ≡ outcomes_text (named s) waiting found
+pub record IsListed (s : Script) (rows : ℕ) (waiting : Bool) (of : Option ℕ) (found : Outcomes) (t : OutcomesText) : Type 0 where
+  pub text : t.text.items ≡ outcomes_text (named s) rows waiting found
   pub journal : SpellsAsked s (asked_for of waiting found.outcomes.items) (bytes_of t.journal)
   pub clear : t.is_clear ≡ is_clear waiting found
 
@@ -102,7 +117,7 @@ pub record IsListed (s : Script) (waiting : Bool) (of : Option ℕ) (found : Out
 pub record TellsOutcomes (s : Script) (rows limit : ℕ) (waiting : Bool) (of : Option ℕ) (t : OutcomesText) : Type 0 where
   pub found : Outcomes
   pub are : AreFound s rows limit found
-  pub is : IsListed s waiting of found t
+  pub is : IsListed s rows waiting of found t
 
 -- OUTCOMES OF A SCRIPT
 
@@ -120,8 +135,8 @@ HaveLines s outcomes = (k : ℕ) (o : Outcome) → slice_get outcomes k ≡ Some
 
 -- LAWS
 
--- where all was seen and nothing is told that waits, no maximal run leaves a process waiting
+-- where all was seen, no process was spent and nothing is told that waits, no maximal run leaves a process waiting or spent
 abbrev pub ClearNeverWaits : Type 0
 ClearNeverWaits =
     (s : Script) (rows limit : ℕ) (found : Outcomes) → AreFound s rows limit found → is_clear true found ≡ true
-    → (journal : List Commit) (ends : List End) (outputs : List (List Atom)) → LeadsTo s.processes rows journal ends outputs → Contains ends Waiting → ⊥
+    → (journal : List Commit) (ends : List End) (outputs : List (List Atom)) → LeadsTo s.processes rows journal ends outputs → Contains ends Waiting ⊎ Contains ends Spent → ⊥

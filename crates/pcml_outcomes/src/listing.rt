@@ -5,7 +5,7 @@ ghost use Rattle.script.specs.Scripts.{script_of};
 ghost use Rattle.pcml_outcomes.specs.Told.{AreOf, ClearNeverWaits, HaveLines, IsListed, IsNumber, TellsOutcomes};
 
 use crate::asked::journal_asked;
-use crate::shown::{count_shown, push_last_line, shown_lines};
+use crate::shown::{count_shown, is_bounded, push_last_line, shown_lines};
 use outcomes::{Outcomes, find_outcomes};
 use script::Script;
 use std::alloc::{AllocError, Global};
@@ -17,7 +17,7 @@ pub struct OutcomesText {
     pub text: Vec<u8>,
     /// The journal that leads to the outcome that is asked for, as text; none where there is no such outcome.
     pub journal: Option<Vec<u8>>,
-    /// Whether all configurations were seen and no outcome is told.
+    /// Whether all configurations were seen, no process was spent, and no outcome is told.
     pub is_clear: bool,
 }
 
@@ -25,6 +25,7 @@ pub struct OutcomesText {
 fn found_text(
     alloc: Global,
     script: &Script,
+    rows: u32,
     found: &Outcomes,
     waiting: bool,
     of: Option<u32>,
@@ -32,17 +33,17 @@ fn found_text(
     requires outcomes { AreOf (script_of script.now) found.now.outcomes.items }
     requires lines { HaveLines (script_of script.now) found.now.outcomes.items }
     requires number { IsNumber of }
-    ensures { IfOk result (IsListed (script_of script.now) waiting of found.now) }
+    ensures { IfOk result (IsListed (script_of script.now) rows waiting of found.now) }
 {
     let outcomes = found.outcomes.as_slice();
     let told = count_shown(outcomes, waiting);
     let mut text = shown_lines(alloc, script, outcomes, waiting)?;
-    push_last_line(&mut text, told, found.visited, found.whole)?;
+    push_last_line(&mut text, rows, told, found)?;
     let journal = journal_asked(alloc, script, outcomes, waiting, of)?;
     Ok(OutcomesText {
         text: text.into_bytes(),
         journal,
-        is_clear: found.whole && told == 0,
+        is_clear: found.whole && !is_bounded(outcomes) && told == 0,
     })
 }
 
@@ -63,10 +64,10 @@ pub fn outcomes_text(
     ensures { IfOk result (TellsOutcomes (script_of script.now) rows limit waiting of) }
 {
     let found = find_outcomes(alloc, script.processes(), rows, limit)?;
-    found_text(alloc, script, &found, waiting, of)
+    found_text(alloc, script, rows, &found, waiting, of)
 }
 
-/// Where nothing is told that waits, and all was seen, the script leaves no process waiting, whatever its runs do.
+/// Where nothing is told that waits, all was seen and no process was spent, the script leaves no process waiting, whatever its runs do.
 pub fn outcomes_laws()
     ensures { ClearNeverWaits }
 {}

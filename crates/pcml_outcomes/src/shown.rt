@@ -7,11 +7,11 @@ ghost use Rattle.std.specs.String.{string_bytes};
 ghost use Rattle.script.specs.Appending.{Adds};
 ghost use Rattle.script.specs.Scripts.{script_of};
 ghost use Rattle.journal_text.specs.Names.{named};
-ghost use Rattle.pcml_outcomes.specs.Told.{AreOf, IsOf, is_shown, is_waiting, last_line, leaves_waiting, outcome_line, outcome_text, shown, whole_text};
+ghost use Rattle.pcml_outcomes.specs.Told.{AreOf, IsOf, extent_text, is_bounded, is_shown, is_spent, is_waiting, last_line, leaves_spent, leaves_waiting, outcome_line, outcome_text, shown};
 
 use crate::processes::standing_lines;
 use journal_replay::End;
-use outcomes::Outcome;
+use outcomes::{Outcome, Outcomes};
 use script::Script;
 use std::alloc::{AllocError, Global};
 
@@ -27,6 +27,36 @@ fn leaves_waiting(outcome: &Outcome) -> bool
 {
     for end in &outcome.ends {
         if is_waiting(*end) {
+            return true;
+        }
+    }
+    false
+}
+
+fn is_spent(end: End) -> bool
+    ensures { result ≡ is_spent end }
+{
+    matches!(end, End::Spent)
+}
+
+/// Whether some process had no row left for its sync.
+fn leaves_spent(outcome: &Outcome) -> bool
+    ensures { result ≡ leaves_spent outcome.now }
+{
+    for end in &outcome.ends {
+        if is_spent(*end) {
+            return true;
+        }
+    }
+    false
+}
+
+/// Whether some outcome has such a process: how it would go on is not known.
+pub(crate) fn is_bounded(outcomes: &[Outcome]) -> bool
+    ensures { result ≡ is_bounded outcomes.now }
+{
+    for outcome in outcomes {
+        if leaves_spent(outcome) {
             return true;
         }
     }
@@ -100,22 +130,31 @@ pub(crate) fn shown_lines(
     Ok(lines)
 }
 
-fn whole_text(whole: bool) -> &'static str
-    ensures { result.now ≡ whole_text whole }
+/// Appends whether that is all there is, and within how many syncs a process where some had none left.
+fn push_extent(out: &mut String, rows: u32, whole: bool, bounded: bool) -> Result<(), AllocError>
+    ensures { OnOk result (Adds out.old out.new (extent_text rows whole bounded)) }
 {
-    if whole { "all" } else { "cut" }
+    if !whole {
+        return out.push_str("cut");
+    }
+    if bounded {
+        return write!(out, "all within {rows} syncs");
+    }
+    out.push_str("all")
 }
 
 /// Appends how many outcomes are told, how many configurations were seen, and whether that is all.
 pub(crate) fn push_last_line(
     out: &mut String,
+    rows: u32,
     told: usize,
-    visited: usize,
-    whole: bool,
+    found: &Outcomes,
 ) -> Result<(), AllocError>
-    ensures { OnOk result (Adds out.old out.new (last_line told visited whole)) }
+    ensures { OnOk result (Adds out.old out.new (last_line rows told found.now)) }
 {
+    let bounded = is_bounded(found.outcomes.as_slice());
+    let visited = found.visited;
     write!(out, "outcomes {told} configurations {visited} ")?;
-    out.push_str(whole_text(whole))?;
+    push_extent(out, rows, found.whole, bounded)?;
     out.push_str("\n")
 }

@@ -103,7 +103,7 @@ abbrev pub KeepsAsked : Files → Files → Option (List ℕ) → Option (List �
 KeepsAsked Holds Keeps (Some name) (Some lines) = Keeps name lines
 KeepsAsked Holds Keeps name lines = (file bytes : List ℕ) → Keeps file bytes → Holds file bytes
 
--- Where what waits is asked for, nothing was told and all was seen; and where the journal of one outcome is asked for, there is one.
+-- Where what waits is asked for, nothing was told, all was seen and no process was spent; and where the journal of one outcome is asked for, there is one.
 abbrev pub is_so : Bool → Bool → Option ℕ → Option (List ℕ) → Bool
 is_so waiting clear number lines = (not waiting || clear) && (is_none number || is_some lines)
 
@@ -122,7 +122,7 @@ pub record AnswersOutcomes (Holds Keeps : Files) (search : Search) (verdict : Ve
   pub asked : SpellsAsked s (asked_for search.of search.waiting found.outcomes.items) lines
   pub kept : KeepsAsked Holds Keeps (option_copied search.journal) lines
   pub so : verdict ≡ verdict_of (is_so search.waiting (is_clear search.waiting found) search.of lines)
-  pub is : text ≡ outcomes_text (named s) search.waiting found
+  pub is : text ≡ outcomes_text (named s) search.rows search.waiting found
 
 -- Whether what has to end has ended, where names are needed.
 abbrev pub IsVerdictOf : Script → List End → Option (List ℕ) → Verdict → Type 0

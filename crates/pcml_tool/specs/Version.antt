@@ -2,4 +2,4 @@
 use Rattle.std.specs.Prelude.{ℕ, List, [], ◌∷◌, ◌++◌, codes}
 
 abbrev pub version_line : List ℕ
-version_line = codes "pcml 1.0.0, proved with rattle-kit-13f logic dac8208d650f15bf" ++ 10 ∷ []
+version_line = codes "pcml 1.1.0, proved with logic dac8208d650f15bf by rattle-kit-13f" ++ 10 ∷ []

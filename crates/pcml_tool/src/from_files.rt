@@ -29,8 +29,9 @@ pub(crate) enum Verdict {
     Done,
     /// The journal that was to be replayed is no run.
     Unlawful,
-    /// The text that was to be a script is none; or it was asked what leaves a process waiting, and some outcome does, or not all was seen; or the journal of an
-    /// outcome was to be kept that is not there.
+    /// The text that was to be a script is none; or it was asked what leaves a process waiting, and some outcome
+    /// does, or not all was seen, or some process was spent; or the journal of an outcome was to be kept that is
+    /// not there.
     Denied,
     /// A process that had to end has not.
     Lacking,

@@ -6,7 +6,7 @@ ghost use Rattle.pcml_tool.specs.Version.{version_line};
 use std::alloc::{AllocError, Global};
 
 /// The version, and the kit by which it was proved: the line that `rt version` prints.
-const VERSION: &str = "pcml 1.0.0, proved with rattle-kit-13f logic dac8208d650f15bf\n";
+const VERSION: &str = "pcml 1.1.0, proved with logic dac8208d650f15bf by rattle-kit-13f\n";
 
 /// Which version of the program this is.
 pub fn version_text(alloc: Global) -> Result<Vec<u8>, AllocError>
