@@ -3,6 +3,16 @@
 use crate::blocks::Block;
 use std::alloc::{AllocError, Global};
 
+/// The last line of a text, without its end.
+pub(crate) fn last_line(text: &[u8]) -> &str {
+    let text = str::from_utf8(text).unwrap_or("(no text)");
+    let text = text.strip_suffix("\n").unwrap_or(text);
+    match text.rsplit_once('\n') {
+        Some((_, line)) => line,
+        None => text,
+    }
+}
+
 /// What a call came to.
 #[derive(Drop)]
 pub(crate) struct Outcome {
@@ -24,16 +34,27 @@ pub(crate) enum Wanted {
     Refuses,
 }
 
-/// What a listing of outcomes tells: the lines of each, sorted, how many there are, and whether that is all.
+/// What a listing of outcomes tells: the lines of each, sorted, how many there are, and whether that is all, and within
+/// what.
 #[derive(Drop, PartialEq)]
 struct Listing<'a> {
     outcomes: Vec<&'a str>,
-    count: Option<&'a str>,
-    whole: Option<&'a str>,
+    count: &'a str,
+    extent: &'a str,
+}
+
+/// The number of outcomes and what is told of the search behind it, without how many configurations were seen.
+fn read_counts(line: &str) -> (&str, &str) {
+    let (count, behind) = line.split_once(' ').unwrap_or((line, ""));
+    match behind.strip_prefix("configurations ") {
+        Some(seen) => (count, seen.split_once(' ').unwrap_or((seen, "")).1),
+        None => (count, behind),
+    }
 }
 
 fn read_listing(alloc: Global, text: &str) -> Result<Listing<'_>, AllocError> {
     let (blocks, last) = text.rsplit_once("outcomes ").unwrap_or(("", text));
+    let (count, extent) = read_counts(last);
     let mut outcomes = Vec::new(alloc);
     for block in blocks.split("outcome ").skip(1) {
         let (_, lines) = block.split_once('\n').unwrap_or((block, ""));
@@ -42,8 +63,8 @@ fn read_listing(alloc: Global, text: &str) -> Result<Listing<'_>, AllocError> {
     outcomes.sort()?;
     Ok(Listing {
         outcomes,
-        count: last.split_whitespace().next(),
-        whole: last.split_whitespace().last(),
+        count,
+        extent,
     })
 }
 
@@ -74,6 +95,15 @@ impl Outcome {
         self.status == status
             && self.out.as_slice() == out.as_bytes()
             && self.err.as_slice() == err.as_bytes()
+    }
+
+    /// The last line that it printed, or told where it printed nothing.
+    pub(crate) fn last_line(&self) -> &str {
+        if self.out.is_empty() {
+            last_line(self.err.as_slice())
+        } else {
+            last_line(self.out.as_slice())
+        }
     }
 
     /// What was found in place of what is wanted.

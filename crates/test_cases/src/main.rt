@@ -3,6 +3,7 @@
 //! comes to something else, by file and line, on the error stream; then its status is 1.
 #![tactic(auto)]
 
+mod answers;
 mod blocks;
 mod calls;
 mod player;

@@ -1,10 +1,14 @@
 //! Plays the blocks of a case file in their order.
 
+use crate::answers::Answers;
 use crate::blocks::{Block, Blocks};
-use crate::calls::{Outcome, Wanted, replayed};
+use crate::calls::{Outcome, Wanted, last_line, replayed};
 use crate::shelf::Shelf;
 use anyhow::{Result, bail};
-use pcml_tool::command;
+use journal_text::JournalFault;
+use pcml_tool::{Replayed, command, replay_text};
+use script::{Script, parse};
+use std::alloc::{AllocError, Global};
 use std::fs::Files;
 use std::sync::Wait;
 use std::thread::Threads;
@@ -17,6 +21,22 @@ const QUIET: &str = "--quiet";
 
 /// The name of the file in which the journal of a run is kept.
 const KEPT: &str = "kept";
+
+/// The name of a beginning of a file.
+const CUT: &str = "cut";
+
+/// How many syncs a process may make in the journals that are changed.
+const ROWS: u32 = 256;
+
+/// The last line of what a journal's replay tells.
+fn replay_line(alloc: Global, script: &Script, journal: &[u8]) -> Result<String, AllocError> {
+    match replay_text(alloc, script, journal, ROWS) {
+        Ok(Replayed::Lawful(text)) => String::from_str(alloc, last_line(text.as_slice())),
+        Ok(Replayed::Unlawful(text)) => String::from_str(alloc, last_line(text.as_slice())),
+        Err(JournalFault::BadLine(line)) => format!(in alloc; "fault 21 line {line}"),
+        Err(JournalFault::Memory) => Err(AllocError),
+    }
+}
 
 /// Plays a case file: its files, how many calls were made, and what was wrong.
 #[derive(Drop)]
@@ -157,6 +177,49 @@ impl<'a, R: AllocGlobal + Files + Input + Threads + Wait + Sync> Player<'a, R> {
         Ok(())
     }
 
+    /// Calls the program over each beginning of a file, which it finds under the name `cut`, up to the first that
+    /// comes to something else.
+    fn check_beginnings(&mut self, name: &str, words: &[&str], block: &Block<'_>) -> Result<()> {
+        let alloc = self.rt.alloc();
+        let whole = self.files.bytes_of(name)?;
+        let answers = Answers::new(alloc, block.body)?;
+        for length in 0..whole.len() + 1 {
+            self.files.make(CUT, &whole.as_slice()[..length], 1)?;
+            let outcome = self.call(words)?;
+            if !answers.allow(length, outcome.last_line()) {
+                let what = format!(in alloc; "cut behind {length} bytes it came to")?;
+                let found = outcome.text(alloc)?;
+                return self.note(block, what.as_str(), found.as_str());
+            }
+        }
+        Ok(())
+    }
+
+    /// Replays each journal that differs from this one in one byte, up to the first that comes to something else.
+    fn check_changes(&mut self, script: &str, journal: &str, block: &Block<'_>) -> Result<()> {
+        let alloc = self.rt.alloc();
+        let script = parse(alloc, self.files.bytes_of(script)?.as_slice())?;
+        let mut text = self.files.bytes_of(journal)?;
+        let answers = Answers::new(alloc, block.body)?;
+        for at in 0..text.len() {
+            let right = text[at];
+            for value in 0..=255u8 {
+                if value == right {
+                    continue;
+                }
+                text[at] = value;
+                let found = replay_line(alloc, &script, text.as_slice())?;
+                self.calls = self.calls.saturating_add(1);
+                if !answers.allow(at, found.as_str()) {
+                    let what = format!(in alloc; "with {value} as byte {at} it came to")?;
+                    return self.note(block, what.as_str(), found.as_str());
+                }
+            }
+            text[at] = right;
+        }
+        Ok(())
+    }
+
     /// The file of this name that was made last, or that a call kept, has this text.
     fn check_file(&mut self, name: &str, block: &Block<'_>) -> Result<()> {
         let found = self.files.text_of(name)?;
@@ -200,6 +263,8 @@ impl<'a, R: AllocGlobal + Files + Input + Threads + Wait + Sync> Player<'a, R> {
             ["more", name] => self.append(name, text, "1"),
             ["more", name, times] => self.append(name, text, times),
             ["holds", name] => self.check_file(name, block),
+            ["beginnings", file, call @ ..] => self.check_beginnings(file, call, block),
+            ["changes", script, journal] => self.check_changes(script, journal, block),
             ["prints", call @ ..] => self.check(call, Wanted::Prints, block, others),
             ["tells", call @ ..] => self.check_outcomes(call, block),
             ["unlawful", call @ ..] => self.check(call, Wanted::Unlawful, block, others),

@@ -62,6 +62,11 @@ impl<'a, R: Files + Input + AllocGlobal> Shelf<'a, R> {
         String::from_str(self.alloc, str::from_utf8(found).unwrap_or("(no text)\n"))
     }
 
+    /// The bytes of the file that was made under this name last; none where there is none.
+    pub(crate) fn bytes_of(&self, name: &str) -> Result<Vec<u8>, AllocError> {
+        Vec::from_slice(self.alloc, self.find(name).unwrap_or(b""))
+    }
+
     /// The file that was made under this name last.
     fn find(&self, name: &str) -> Option<&[u8]> {
         let mut found = None;

@@ -1,4 +1,4 @@
-//! Tests of the whole on what may go wrong around it: damaged texts, outputs and files that fail, and little
+//! Tests of the whole on what may go wrong around it: outputs and files that fail, journals that are kept, and little
 //! stack.
 #![tactic(auto)]
 

@@ -1,4 +1,3 @@
-mod damaged;
 mod depth;
 mod keeping;
 mod outputs;

@@ -136,7 +136,7 @@ fn leaves_all_machines(rt: HostRuntime) -> Result<(), Fail> {
 /// So many rows in each of so many seasons, of 60 syncs a process.
 const SEASONS: [(u16, u32); 4] = [(1, 60), (7, 9), (16, 4), (60, 1)];
 
-// All commits are made by the workers, however few rows a season has, and the replay finds that they are a run.
+// All commits are made by the workers, however few rows a season has, and their journal replays as a run.
 #[test]
 fn seasons_go_on(rt: HostRuntime) -> Result<(), Fail> {
     let alloc = rt.alloc();
