@@ -41,7 +41,10 @@ DESCRIPTION
 
 COMMANDS
        run    Runs the processes of a script, and prints the journal, a line
-              for each process and the counts.
+              for each process and the counts: how many commits there are,
+              and behind tail how many of them the workers had not made when
+              they were done. Those were added at the end, so that the run is
+              whole; there were none in any run of the tests.
 
        replay Replays a journal against its script, and prints how each
               process stands, and whether a commit may still come; or the
@@ -81,13 +84,19 @@ COMMANDS
               Tells all that a script can come to: for each outcome its
               number and a line for each process, then how many outcomes
               there are, how many configurations were seen, and whether that
-              is all. In which order outcomes are told is open.
+              is all: whether no run within --rows syncs a process comes to
+              anything else. Where a process of some outcome is spent, the
+              last line ends with all within and that number of syncs. A
+              configuration is what the processes have as their results so
+              far. There are many where many processes have little to do with
+              one another, and fewer with fewer rows. In which order outcomes
+              are told is open.
 
        check  Checks the text of a script, and prints how many processes and
               channels it has.
 
        play   Plays the steps of a schedule, and prints the commits of the
-              world that it leads to.
+              world that it leads to, and how many are pending.
 
        meet   Sends one number from a thread to another, and prints the line
               of their rendezvous.
@@ -109,14 +118,15 @@ COMMANDS
        manual Prints this page.
 
        version
-              Prints the version, and the line of the kit by which it was
-              proved.
+              Prints the version, and the logic and the kit with which it was
+              proved. An unproved build of the sources says that it is not.
 
        help   Prints the help of the program or of a command.
 
 OPTIONS
        --workers N
-              How many workers run the processes, 1 to 16; else 4.
+              How many workers, which are threads of the machine, run the
+              processes, 1 to 16; else 4.
 
        --rows G
               How many syncs a process may make, 1 to 1024; else 256.
@@ -169,7 +179,9 @@ OPTIONS
 
        --waiting
               Tells only the outcomes in which some process is left waiting.
-              The status is 0 only where there are none and all was seen.
+              The status is 0 only where there are none, all was seen, and no
+              process of any outcome is spent: of a process that is spent
+              nothing is known.
 
        --quiet
               Prints no journal.
@@ -252,8 +264,8 @@ EXIT STATUS
               run, whose line is on standard output, and after chart on
               standard error; or a text that is no script, of which why tells
               that on standard output; or outcomes of which one leaves a
-              process waiting, or not all are known, with --waiting, or of
-              which none has the number of --of.
+              process waiting or spent, or not all are known, with --waiting,
+              or of which none has the number of --of.
 
        2      Words that are not understood, and a wish for help: the help is
               on standard error.
@@ -262,7 +274,8 @@ EXIT STATUS
               output.
 
        70     The script ./pcml of the sources has no program to run and
-              cannot answer without: its message says why.
+              cannot answer without, or a check of an unproved build found
+              something at run time: its message says why.
 
 EXAMPLES
        pcml run ping_pong.pcml --workers 2
@@ -286,8 +299,8 @@ EXAMPLES
 
        pcml outcomes s.pcml --waiting --journal s.journal || pcml why s.pcml
        s.journal
-              Tests that no run of a script gets stuck, and of one that may
-              get so tells how.
+              Tests that no run of a script gets stuck within 256 syncs a
+              process, and of one that gets so tells how.
 
        while pcml next s.pcml s.journal | head -n 1 > s.step && test -s
        s.step; do cat s.step >> s.journal; done
