@@ -1,0 +1,155 @@
+// What the program prints, read and drawn.
+
+const MOST_OUTCOMES = 200;
+
+function counted(count, noun) {
+  return `${count.toLocaleString("en")} ${noun}${count === 1 ? "" : "s"}`;
+}
+
+function lines_of(text) {
+  return text.split("\n").filter((line) => line !== "");
+}
+
+// How a process stands, of a line as `b ended 1 #c` or `b faulted kind 1`.
+function stand_of(line) {
+  const [name, stand, ...rest] = line.split(" ");
+  const fault = stand === "faulted" ? ` (${rest.shift()})` : "";
+  return { name, stand, fault, printed: rest.join(" ") };
+}
+
+// The commits, the ends and the counts of what `run` prints. A commit's line alone begins with a digit.
+function read_run(text) {
+  const lines = lines_of(text);
+  const commits = lines.filter((line) => /^[0-9]/.test(line));
+  return { commits, stands: lines.slice(commits.length, -1).map(stand_of) };
+}
+
+// The outcomes and the last line of what `outcomes` prints.
+function read_outcomes(text) {
+  const lines = lines_of(text);
+  const last = lines.pop() ?? "";
+  const outcomes = [];
+  for (const line of lines) {
+    const head = /^outcome ([0-9]+)$/.exec(line);
+    if (head) outcomes.push({ number: Number(head[1]), stands: [] });
+    else outcomes.at(-1).stands.push(stand_of(line));
+  }
+  const counts = /^outcomes [0-9]+ configurations ([0-9]+) ?(.*)$/.exec(last) ?? [];
+  return { outcomes, seen: Number(counts[1]), extent: counts[2] ?? "" };
+}
+
+// A text in which what stands between backquotes is code.
+function quoted(text) {
+  return text.split("`").map((part, at) => (at % 2 ? made("code", {}, part) : part));
+}
+
+// A text in which each `line N` leads to that line of the script; where a column stands behind it, to that.
+function with_places(text, go_to) {
+  const pieces = text.split(/(line [0-9]+(?: column [0-9]+)?)/);
+  return pieces.map((piece, at) => {
+    if (at % 2 === 0) return piece;
+    const [line, column] = piece.match(/[0-9]+/g).map(Number);
+    return made_button(piece, () => go_to(line, column), { class: "here" });
+  });
+}
+
+// A text as the program prints it, with a name at the head of each line that is not indented.
+function drawn_text(text, go_to) {
+  const block = made("pre", { class: "text", tabindex: "0" });
+  for (const line of text.replace(/\n$/, "").split("\n")) {
+    const name = /^[A-Za-z]\w*(?= (waits|ended|has not|faulted|is spent))/.exec(line)?.[0] ?? "";
+    if (name) block.append(made("span", { class: "name" }, name));
+    block.append(...with_places(line.slice(name.length), go_to), "\n");
+  }
+  return block;
+}
+
+function drawn_stand({ stand, fault, printed }) {
+  const pieces = [made("span", { class: stand }, stand + fault)];
+  if (printed) pieces.push(made("span", { class: "printed" }, printed));
+  return pieces;
+}
+
+function drawn_ends(stands) {
+  const rows = stands.map((it) => made("tr", {},
+    made("th", { scope: "row" }, it.name),
+    made("td", {}, made("span", { class: it.stand }, it.stand + it.fault)),
+    made("td", { class: "mono" }, it.printed)));
+  const head = ["Process", "End", "Printed"].map((name) => made("th", { scope: "col" }, name));
+  return made("div", { class: "wide" },
+    made("table", {}, made("thead", {}, made("tr", {}, ...head)), made("tbody", {}, ...rows)));
+}
+
+// A heading with buttons behind it.
+function drawn_title(text, ...buttons) {
+  return made("div", { class: "title" }, made("h2", {}, text), ...buttons);
+}
+
+function drawn_journal(commits) {
+  const text = commits.map((line) => `${line}\n`).join("");
+  if (!commits.length) return [drawn_title("Journal"), made("p", { class: "hint" }, "No commit was made.")];
+  const block = made("pre", { class: "text", tabindex: "0", "aria-label": "Journal" }, text);
+  return [drawn_title("Journal", made_copier("Copy journal", () => text)), block];
+}
+
+function drawn_outcome({ number, stands }, follow) {
+  const cells = stands.map((it) => made("td", {}, ...drawn_stand(it)));
+  const button = made_button("Show", () => follow(number), { class: "plain", "aria-label": `Show outcome ${number}` });
+  return made("tr", {}, made("th", { scope: "row" }, String(number)), ...cells, made("td", { class: "last" }, button));
+}
+
+// A row for each outcome, a column for each process. Of many outcomes the first are drawn, and the rest when asked for.
+function drawn_outcomes(outcomes, follow) {
+  const names = outcomes[0].stands.map((it) => it.name);
+  const head = ["Outcome", ...names].map((name) => made("th", { scope: "col" }, name));
+  head.push(made("td", { class: "last" }));
+  const body = made("tbody", {}, ...outcomes.slice(0, MOST_OUTCOMES).map((it) => drawn_outcome(it, follow)));
+  const block = made("div", { class: "wide" }, made("table", {}, made("thead", {}, made("tr", {}, ...head)), body));
+  const rest = outcomes.slice(MOST_OUTCOMES);
+  if (!rest.length) return [block];
+  const more = made_button(`Show ${counted(rest.length, "more outcome")}`, () => {
+    body.append(...rest.map((it) => drawn_outcome(it, follow)));
+    more.remove();
+  });
+  return [block, made("p", {}, more)];
+}
+
+// The chart's own rules are for black on white. These are of the page, and hold where the chart is drawn.
+const CHART_RULES = `
+  svg { display: block; color: var(--ink); background: var(--paper); }
+  rect { fill: var(--paper) !important; }
+  text { fill: var(--ink); stroke: var(--paper) !important; }
+  path { stroke: var(--ink) !important; }
+  path.t { stroke: var(--line) !important; }
+  marker circle { fill: var(--paper) !important; stroke: var(--ink) !important; }
+  marker path { fill: var(--ink) !important; stroke: none !important; }
+  circle { fill: var(--ink); }
+`;
+
+// The chart, in a tree of its own, so that its rules are none of the page.
+function drawn_chart(svg, label) {
+  const place = made("div", { class: "picture", role: "img", tabindex: "0", "aria-label": label });
+  const read = new DOMParser().parseFromString(svg, "image/svg+xml");
+  const tree = place.attachShadow({ mode: "open" });
+  tree.append(document.importNode(read.documentElement, true), made("style", {}, CHART_RULES));
+  return place;
+}
+
+// A button that keeps a text as a file.
+function made_keeper(label, name, type, text) {
+  return made_button(label, () => {
+    const address = URL.createObjectURL(new Blob([text], { type }));
+    made("a", { href: address, download: name }).click();
+    setTimeout(() => URL.revokeObjectURL(address), 1000);
+  }, { class: "plain" });
+}
+
+// The processes that wait, by the lines at which they do, of what `why` tells.
+function waiting_in(text) {
+  const waiting = new Map();
+  for (const [, name, line] of text.matchAll(/^(\w+) waits at line ([0-9]+)/gm)) {
+    const number = Number(line);
+    waiting.set(number, [...(waiting.get(number) ?? []), name]);
+  }
+  return waiting;
+}

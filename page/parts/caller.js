@@ -1,0 +1,83 @@
+// Calls of the program, in workers of the browser.
+
+// A module of one memory with addresses of 64 bits, which browsers without them refuse.
+const WIDE_MEMORY = [0, 0x61, 0x73, 0x6d, 1, 0, 0, 0, 5, 3, 1, 4, 1];
+
+function has_wide_memory() {
+  return typeof WebAssembly === "object" && WebAssembly.validate(new Uint8Array(WIDE_MEMORY));
+}
+
+// The bytes behind a text of base64 that was packed by gzip or, in links, by deflate.
+async function unpacked(text, form) {
+  const bytes = Uint8Array.from(atob(text), (letter) => letter.charCodeAt(0));
+  const stream = new Blob([bytes]).stream().pipeThrough(new DecompressionStream(form));
+  return new Uint8Array(await new Response(stream).arrayBuffer());
+}
+
+async function compiled_module() {
+  return WebAssembly.compile(await unpacked(found("module").textContent, "gzip"));
+}
+
+class Stopped extends Error {}
+
+// Asks one call after another of a worker. A call that is stopped ends with its worker, and the next has a new one.
+// The module may still be on its way: calls wait for it.
+class Caller {
+  constructor(module) {
+    this.module = module;
+    this.source = URL.createObjectURL(new Blob([found("program").textContent], { type: "text/javascript" }));
+    this.number = 0;
+    this.open = new Map();
+    this.begin();
+  }
+
+  begin() {
+    const worker = new Worker(this.source);
+    worker.onmessage = ({ data }) => {
+      const { resolve } = this.open.get(data.number);
+      this.open.delete(data.number);
+      resolve(data);
+    };
+    worker.onerror = ({ message }) => this.fail(new Error(message));
+    this.worker = worker;
+    this.module.then((module) => worker.postMessage({ module }), (error) => this.fail(error));
+  }
+
+  // What a call of the program came to, as bytes. The files are bytes by their names.
+  ask(words, files) {
+    this.number += 1;
+    const { number, worker } = this;
+    return new Promise((resolve, reject) => {
+      this.open.set(number, { resolve, reject });
+      this.module.then(() => worker.postMessage({ number, words, files }), reject);
+    });
+  }
+
+  // The same as texts.
+  async call(words, files) {
+    const encoder = new TextEncoder();
+    const decoder = new TextDecoder();
+    const bytes = Object.entries(files).map(([name, text]) => [name, encoder.encode(text)]);
+    const answer = await this.ask(words, Object.fromEntries(bytes));
+    const kept = Object.entries(answer.files).map(([name, text]) => [name, decoder.decode(text)]);
+    return {
+      ...answer,
+      out: decoder.decode(answer.out),
+      err: decoder.decode(answer.err),
+      files: Object.fromEntries(kept),
+    };
+  }
+
+  stop() {
+    this.worker.terminate();
+    this.fail(new Stopped());
+    this.begin();
+  }
+
+  // Ends all calls that are open.
+  fail(error) {
+    const open = [...this.open.values()];
+    this.open.clear();
+    for (const { reject } of open) reject(error);
+  }
+}

@@ -1,0 +1,45 @@
+// Elements of the page.
+
+function found(id) {
+  return document.getElementById(id);
+}
+
+// Makes an element with attributes and what is in it. An attribute that is a function listens to the event of its name.
+function made(name, attributes = {}, ...inside) {
+  const element = document.createElement(name);
+  for (const [attribute, value] of Object.entries(attributes)) {
+    if (typeof value === "function") element.addEventListener(attribute, value);
+    else element.setAttribute(attribute, value);
+  }
+  element.append(...inside);
+  return element;
+}
+
+// A button with a text, and what it does.
+function made_button(text, pressed, attributes = {}) {
+  return made("button", { type: "button", click: pressed, ...attributes }, text);
+}
+
+// Puts a text where it can be pasted from. Where the browser keeps that from a page, a selection is copied.
+async function copy(text) {
+  try {
+    await navigator.clipboard.writeText(text);
+  } catch {
+    const area = made("textarea", { "aria-hidden": "true" });
+    area.value = text;
+    document.body.append(area);
+    area.select();
+    document.execCommand("copy");
+    area.remove();
+  }
+}
+
+// A button that copies a text, and says for a while that it did.
+function made_copier(label, text) {
+  const button = made_button(label, async () => {
+    await copy(text());
+    button.textContent = "Copied";
+    setTimeout(() => { button.textContent = label; }, 1500);
+  }, { class: "plain" });
+  return button;
+}

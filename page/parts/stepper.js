@@ -1,0 +1,69 @@
+// A run that the user makes: of the commits that may come next he takes one, and takes it back.
+
+class Stepper {
+  constructor(play, redraw) {
+    this.play = play;
+    this.redraw = redraw;
+    this.commits = [];
+  }
+
+  begin(commits) {
+    this.commits = commits;
+  }
+
+  get journal() {
+    return this.commits.map((line) => `${line}\n`).join("");
+  }
+
+  // Asks what may come next, and draws it with the chart of what was taken.
+  async draw() {
+    const files = { [JOURNAL]: this.journal };
+    const next = await this.play(["next", SCRIPT, JOURNAL], files);
+    const why = await this.play(["why", SCRIPT, JOURNAL], files);
+    const chart = await this.play(["chart", SCRIPT, JOURNAL], files);
+    const choices = lines_of(next.out);
+    const told = `${counted(this.commits.length, "commit")} taken. ` + (choices.length
+      ? `${choices.length} may come next.` : "No commit may come next.");
+    const label = `Chart of ${counted(this.commits.length, "commit")}`;
+    return {
+      told,
+      asked: next,
+      waiting: waiting_in(why.out),
+      inside: [
+        ...this.drawn_choices(choices),
+        this.drawn_moves(choices),
+        drawn_title("So far"),
+        drawn_chart(chart.out, label),
+        ...drawn_journal(this.commits),
+      ],
+    };
+  }
+
+  drawn_choices(choices) {
+    if (!choices.length) return [made("p", { class: "hint" }, "The run is at its end. Take commits back to go another way.")];
+    const buttons = choices.map((line) => made("li", {}, made_button(line, () => this.take(line))));
+    return [made("ul", { class: "commits", "aria-label": "Commits that may come next" }, ...buttons)];
+  }
+
+  drawn_moves(choices) {
+    const back = made_button("Take back", () => this.go([...this.commits.slice(0, -1)]));
+    const over = made_button("Start over", () => this.go([]));
+    const any = made_button("Take any", () => this.take(choices[Math.floor(Math.random() * choices.length)]));
+    back.disabled = over.disabled = !this.commits.length;
+    any.disabled = !choices.length;
+    return made("div", { class: "moves" }, back, over, any);
+  }
+
+  take(line) {
+    return this.go([...this.commits, line]);
+  }
+
+  // Goes to a journal, and keeps the place of the keyboard: at the button of that name, or the first choice.
+  async go(commits) {
+    const label = document.activeElement?.textContent;
+    this.commits = commits;
+    await this.redraw();
+    const buttons = [...found("answer").querySelectorAll(".moves button, .commits button")].filter((it) => !it.disabled);
+    (buttons.find((it) => it.textContent === label) ?? buttons[0])?.focus({ preventScroll: true });
+  }
+}
