@@ -1,0 +1,333 @@
+"""What the page shows and does, as a user presses and types."""
+
+import json
+import time
+
+from browser import BrowserError
+
+WIDE = (1440, 900)
+NARROW = (390, 844)
+VIEWS = ["run", "outcomes", "why", "chart", "step", "language", "about"]
+# The page answers its first example within so many milliseconds of its loading.
+SOON = 1000
+# Notes when the first answer is there.
+NOTE_ANSWER = """
+const noting = setInterval(() => {
+  if (!document.getElementById("answer")?.hasChildNodes()) return;
+  window.answered = performance.now();
+  clearInterval(noting);
+}, 2);
+"""
+# Two that send to and fro without end, beside four who do the same: far more configurations than are seen in a second.
+LONG = "".join(f"channel c{n}; " for n in range(6)) + "".join(
+    f"process a{n} {{ forever {{ sync choose [send c{n} (1), send c{(n + 1) % 6} (2)]; }} }}\n"
+    f"process b{n} {{ forever {{ x <- sync recv c{n}; }} }}\n"
+    for n in range(6)
+)
+WRONG = "channel c;\nprocess a {\n  x = 1;\n}\n"
+
+
+def wait_until(page, expression, what, seconds=20):
+    """Waits until an expression holds in the page."""
+    ends = time.monotonic() + seconds
+    while time.monotonic() < ends:
+        try:
+            if page.evaluate(f"Boolean({expression})"):
+                return
+        except BrowserError:
+            pass
+        time.sleep(0.02)
+    raise AssertionError(f"never came: {what}")
+
+
+def wait_answer(page):
+    rest = "!playground.caller.open.size && document.querySelector('#busy').hidden"
+    wait_until(page, f"{rest} && document.querySelector('#answer').hasChildNodes()", "an answer")
+    # A view may make several calls, one after another.
+    time.sleep(0.15)
+    wait_until(page, rest, "an answer")
+
+
+def opened(driven, address, size=WIDE, before=NOTE_ANSWER):
+    page = driven.page(*size, before)
+    page.open(address)
+    wait_until(page, "Boolean(window.playground)", "the page")
+    wait_answer(page)
+    return page
+
+
+def text_of(page, selector):
+    return page.evaluate(f"document.querySelector({json.dumps(selector)}).textContent")
+
+
+def choose_example(page, name):
+    page.evaluate(
+        f"(() => {{ const it = document.querySelector('#example'); it.value = '{name}';"
+        " it.dispatchEvent(new Event('change')); })()"
+    )
+    wait_answer(page)
+
+
+def fill(page, selector, text):
+    """Puts a text in the place of what stands in a field, as a user types it."""
+    page.evaluate(f"(() => {{ const it = document.querySelector('{selector}'); it.focus(); it.select(); }})()")
+    page.write(text)
+
+
+def press_view(page, view):
+    page.click(f"[data-view={view}]")
+    if view not in ("language", "about"):
+        wait_answer(page)
+
+
+def meets(found, *wanted):
+    for it in wanted:
+        assert it in found, f"{it!r} is not in {found!r}"
+
+
+# TRIALS: each is given the browser and the page's address.
+
+
+def answers_soon(driven, address):
+    page = opened(driven, address)
+    spent = page.evaluate("window.answered")
+    print(f"the first answer is there {spent:.0f} ms after the page began to load")
+    assert spent < SOON, f"it took {spent:.0f} ms"
+    meets(text_of(page, "#told"), "6 commits. Every process ended.")
+    meets(text_of(page, "#state"), "A script: 2 processes and 2 channels.")
+
+
+def views_show(driven, address):
+    page = opened(driven, address)
+    choose_example(page, "fan_in")
+    press_view(page, "outcomes")
+    meets(text_of(page, "#told"), "6 outcomes, and that is all.")
+    meets(text_of(page, "#answer"), "pcml outcomes script.pcml", "1 2 4 3", "2 4 1 3")
+    page.click("#answer tbody tr:nth-child(3) button")
+    wait_answer(page)
+    meets(text_of(page, "#told"), "The chart of the 8 commits of outcome 3.")
+    press_view(page, "why")
+    meets(text_of(page, "#told"), "the 8 commits of outcome 3")
+    meets(text_of(page, "#answer"), "merge waits at line 23", "recv left: nobody offers")
+    assert page.evaluate("document.querySelectorAll('#lines .waits').length") == 2
+    page.click("#answer button.here")
+    assert page.evaluate("document.activeElement.id") == "script"
+    press_view(page, "chart")
+    inside = "document.querySelector('.picture').shadowRoot.querySelectorAll('path.a').length"
+    assert page.evaluate(inside) == 8
+
+
+def options_count(driven, address):
+    page = opened(driven, address)
+    choose_example(page, "dining_philosophers")
+    press_view(page, "outcomes")
+    meets(text_of(page, "#told"), "24 outcomes, and that is all within 8 syncs a process.")
+    page.click("#waiting")
+    wait_answer(page)
+    meets(text_of(page, "#told"), "outcomes that leave somebody waiting")
+    meets(text_of(page, ".asked"), "--waiting --rows 8")
+    has_need = page.evaluate("playground.checking.caller.call(['help', 'outcomes'], {}).then(it => it.err.includes('--need'))")
+    assert page.evaluate("!document.querySelector('#for-need').hidden") == has_need
+    if has_need:
+        fill(page, "#need", "plato")
+        page.press("Enter")
+        wait_answer(page)
+        meets(text_of(page, ".asked"), "--need plato")
+
+
+def steps_go_and_come(driven, address):
+    page = opened(driven, address)
+    choose_example(page, "client_server")
+    press_view(page, "step")
+    meets(text_of(page, "#told"), "0 commits taken. 1 may come next.")
+    meets(text_of(page, "#answer .commits"), "1 client.0.0 -> server.0.0 request (#reply, !client.0)")
+    page.evaluate("document.querySelector('.commits button').focus()")
+    for count in range(1, 5):
+        page.press("Enter")
+        wait_answer(page)
+        meets(text_of(page, "#told"), f"{count} commit{'s' * (count > 1)} taken.")
+    meets(text_of(page, "#told"), "No commit may come next.")
+    page.click(".moves button")
+    wait_answer(page)
+    meets(text_of(page, "#told"), "3 commits taken. 1 may come next.")
+    assert page.evaluate("document.activeElement.textContent") == "Take back", "the keyboard lost its place"
+    press_view(page, "why")
+    meets(text_of(page, "#told"), "the 3 commits of your own run")
+
+
+def faults_are_told(driven, address):
+    page = opened(driven, address)
+    fill(page, "#script", WRONG)
+    wait_until(page, "document.querySelector('#state .fault')", "the fault")
+    meets(text_of(page, "#state"), "Line 3, column 5: the grammar does not allow this here.", "set by let", "<-")
+    assert text_of(page, "#colours .fault") == "="
+    assert text_of(page, "#lines .faulty") == "3"
+    assert page.evaluate("!document.querySelector('#old').hidden"), "the answer is old, and nothing says so"
+    page.click("#state button")
+    assert page.evaluate("document.querySelector('#script').selectionStart") == WRONG.index("=")
+    press_view(page, "run")
+    meets(text_of(page, "#told"), "This text is no script.")
+    fill(page, "#script", "")
+    wait_until(page, "document.querySelector('#state').textContent.startsWith('A script: 0')", "the empty script")
+
+
+def long_search_stops(driven, address):
+    page = opened(driven, address)
+    fill(page, "#script", LONG)
+    page.click("[data-view=outcomes]")
+    wait_until(page, "!document.querySelector('#busy').hidden", "that it takes long")
+    fill(page, "#script", WRONG)
+    wait_until(page, "document.querySelector('#state .fault')", "a fault while the search is under way", 2)
+    assert page.evaluate("playground.caller.open.size") == 1, "the search had ended before"
+    began = time.monotonic()
+    page.click("#stop")
+    wait_until(page, "document.querySelector('#told').textContent === 'Stopped.'", "the stop", 2)
+    print(f"a long search is stopped in {1000 * (time.monotonic() - began):.0f} ms")
+    choose_example(page, "ping_pong")
+    meets(text_of(page, "#told"), "6 commits.")
+    fill(page, "#script", LONG)
+    page.click("[data-view=outcomes]")
+    wait_until(page, "!document.querySelector('#busy').hidden", "that it takes long")
+    page.press("Escape")
+    wait_until(page, "document.querySelector('#told').textContent === 'Stopped.'", "the stop by a key", 2)
+
+
+def links_hold_scripts(driven, address):
+    page = opened(driven, address)
+    text = "channel c;\nprocess a { sync send c (7); }\nprocess b { x <- sync recv c; print x; }\n"
+    fill(page, "#script", text)
+    fill(page, "#rows", "9")
+    page.click("#copy-link")
+    wait_until(page, "location.hash.includes('script=')", "the link")
+    link = page.evaluate("location.href")
+    other = opened(driven, link)
+    assert page.evaluate("playground.editor.text") == text
+    assert other.evaluate("playground.editor.text") == text
+    assert other.evaluate("document.querySelector('#rows').value") == "9"
+    meets(text_of(other, "#answer"), "1 a.0.0 -> b.0.0 c (7)")
+    meets(text_of(other, ".asked"), "--rows 9")
+    damaged = opened(driven, address + "#script=nonsense!")
+    meets(text_of(damaged, "#notes"), "The link holds no script that can be read.")
+
+
+def keyboard_reaches_all(driven, address):
+    page = opened(driven, address)
+    page.evaluate("document.querySelector('#example').focus()")
+    reached = []
+    for _ in range(12):
+        page.press("Tab")
+        reached.append(page.evaluate("document.activeElement.dataset.view ?? document.activeElement.id"))
+    assert reached[:2] == ["copy-link", "script"], reached
+    assert [it for it in reached if it in VIEWS] == VIEWS, reached
+    choose_example(page, "crossed_sends")
+    page.evaluate("document.querySelector('#script').focus()")
+    press_view(page, "language")
+    page.press("Enter", control=True)
+    wait_answer(page)
+    meets(text_of(page, "#told"), "0 commits. Not ended: a, b.")
+
+
+def all_is_named(driven, address):
+    """Whatever can be reached has a name for a screen reader."""
+    page = opened(driven, address)
+    choose_example(page, "fan_in")
+    for view in VIEWS:
+        press_view(page, view)
+        page.call("Accessibility.enable")
+        for node in page.call("Accessibility.getFullAXTree")["nodes"]:
+            role = node.get("role", {}).get("value")
+            if role in ("button", "textbox", "combobox", "spinbutton", "checkbox", "image", "navigation"):
+                assert node.get("name", {}).get("value"), f"a {role} has no name in {view}"
+
+
+def fits_a_narrow_screen(driven, address):
+    page = opened(driven, address, NARROW)
+    choose_example(page, "dining_philosophers")
+    for view in VIEWS:
+        press_view(page, view)
+        wide = page.evaluate("document.documentElement.scrollWidth")
+        assert wide <= NARROW[0], f"{view} is {wide} wide"
+
+
+def old_browsers_are_told(driven, address):
+    page = driven.page(*WIDE, "WebAssembly.validate = () => false;")
+    page.open(address)
+    wait_until(page, "!document.querySelector('#lacks').hidden", "what the browser lacks")
+    meets(text_of(page, "#lacks"), "memory64", "Chrome", "Firefox")
+    assert page.evaluate("document.querySelector('[data-view=run]').disabled")
+    assert page.evaluate("document.querySelector('#script').value.startsWith('channel ping')")
+    assert page.evaluate("!document.querySelector('#language').hidden")
+
+
+def language_can_be_tried(driven, address):
+    page = opened(driven, address)
+    press_view(page, "language")
+    meets(text_of(page, "#language"), "The language", "may be taken")
+    if page.evaluate("Boolean(document.querySelector('#language .try button'))"):
+        page.evaluate("document.querySelector('#language .try button').click()")
+        wait_answer(page)
+        meets(text_of(page, "#told"), "commit")
+    press_view(page, "about")
+    meets(text_of(page, "#about"), "What is proved", "What is trusted", "memory.c", "SHA-256")
+
+
+TRIALS = [
+    answers_soon,
+    views_show,
+    options_count,
+    steps_go_and_come,
+    faults_are_told,
+    long_search_stops,
+    links_hold_scripts,
+    keyboard_reaches_all,
+    all_is_named,
+    fits_a_narrow_screen,
+    old_browsers_are_told,
+    language_can_be_tried,
+]
+
+
+def told_wrong(driven, address):
+    """What pages asked for from elsewhere, and the errors that they told."""
+    wrong = []
+    for message in driven.told:
+        told = message.get("params", {})
+        if message.get("method") == "Network.requestWillBeSent":
+            asked = told["request"]["url"]
+            if not asked.startswith((address, "blob:", "data:")):
+                wrong.append(f"the page asked for {asked}")
+        elif message.get("method") == "Runtime.exceptionThrown":
+            wrong.append(f"an error was thrown: {json.dumps(told['exceptionDetails'])[:400]}")
+        elif message.get("method") == "Log.entryAdded" and told["entry"]["level"] == "error":
+            wrong.append(f"the browser told {told['entry']['text']}")
+    return wrong
+
+
+def take_pictures(driven, address, folder):
+    """A picture of each view, wide and narrow, light and dark."""
+    folder.mkdir(parents=True, exist_ok=True)
+    for (width, height), shape in ((WIDE, "wide"), (NARROW, "narrow")):
+        for is_dark in (False, True):
+            page = opened(driven, address, (width, height))
+            page.dark(is_dark)
+            choose_example(page, "client_server")
+            for view in VIEWS:
+                press_view(page, view)
+                name = f"{view}-{shape}-{'dark' if is_dark else 'light'}.png"
+                page.picture(folder / name, whole=shape == "narrow")
+            page.close()
+
+
+def try_views(driven, address, pictures):
+    """Makes each trial. It answers what was wrong."""
+    wrong = []
+    for trial in TRIALS:
+        try:
+            trial(driven, address)
+            print(f"{trial.__name__}: as wanted", flush=True)
+        except (AssertionError, BrowserError) as error:
+            wrong.append(f"{trial.__name__}: {error}")
+    wrong += told_wrong(driven, address)
+    if pictures:
+        take_pictures(driven, address, pictures)
+    return wrong
