@@ -47,10 +47,13 @@ def table(lines):
     """A table of Markdown as HTML."""
     rows = [re.split(r"\s*(?<!\\)\|\s*", line.strip().strip("|").strip()) for line in lines]
     head, body = rows[0], rows[2:]
-    cells = lambda name, row: "".join(f"<{name}>{marked_up(it)}</{name}>" for it in row)
-    top = f"<thead><tr>{cells('th', head)}</tr></thead>"
-    rest = "".join(f"<tr>{cells('td', row)}</tr>" for row in body)
-    return f'<div class="wide" tabindex="0"><table>{top}<tbody>{rest}</tbody></table></div>'
+    top = "".join(f"<th>{marked_up(it)}</th>" for it in head)
+    # On a narrow screen a row is a list, and each cell begins with the name of its column.
+    row = lambda cells: "".join(
+        f'<td data-name="{html.escape(name)}">{marked_up(it)}</td>' for name, it in zip(head, cells)
+    )
+    rest = "".join(f"<tr>{row(it)}</tr>" for it in body)
+    return f'<div class="wide"><table><thead><tr>{top}</tr></thead><tbody>{rest}</tbody></table></div>'
 
 
 def block(text):
