@@ -47,6 +47,7 @@ class Browser:
         self.number = 0
         self.left = b""
         self.told = []
+        self.addresses = set()
         words = [program, *WORDS, f"--user-data-dir={self.folder}"]
         # As root Chromium has no sandbox.
         words += ["--no-sandbox"] * (os.geteuid() == 0)
@@ -135,6 +136,7 @@ class Page:
 
     def open(self, address):
         """Goes to an address. Where only its fragment is another, the page stays."""
+        self.browser.addresses.add(address.partition("#")[0])
         self.call("Page.navigate", url=address)
 
     def evaluate(self, expression):

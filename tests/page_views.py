@@ -1,7 +1,12 @@
 """What the page shows and does, as a user presses and types."""
 
+import functools
+import http.server
 import json
+import pathlib
+import threading
 import time
+import urllib.parse
 
 from browser import BrowserError
 
@@ -271,8 +276,28 @@ def language_can_be_tried(driven, address):
     meets(text_of(page, "#about"), "What is proved", "What is trusted", "memory.c", "SHA-256")
 
 
+class Host(http.server.SimpleHTTPRequestHandler):
+    """A static host that tells nothing of its requests."""
+
+    def log_message(self, *_):
+        pass
+
+
+def any_host_serves_it(driven, address):
+    path = pathlib.Path(urllib.parse.unquote(urllib.parse.urlparse(address).path))
+    host = http.server.ThreadingHTTPServer(("127.0.0.1", 0), functools.partial(Host, directory=path.parent))
+    threading.Thread(target=host.serve_forever, daemon=True).start()
+    try:
+        page = opened(driven, f"http://127.0.0.1:{host.server_port}/{urllib.parse.quote(path.name)}")
+        meets(text_of(page, "#told"), "6 commits. Every process ended.")
+        page.close()
+    finally:
+        host.shutdown()
+
+
 TRIALS = [
     answers_soon,
+    any_host_serves_it,
     views_show,
     options_count,
     steps_go_and_come,
@@ -287,14 +312,15 @@ TRIALS = [
 ]
 
 
-def told_wrong(driven, address):
+def told_wrong(driven):
     """What pages asked for from elsewhere, and the errors that they told."""
     wrong = []
+    own = (*driven.addresses, "blob:", "data:")
     for message in driven.told:
         told = message.get("params", {})
         if message.get("method") == "Network.requestWillBeSent":
             asked = told["request"]["url"]
-            if not asked.startswith((address, "blob:", "data:")):
+            if not asked.startswith(own):
                 wrong.append(f"the page asked for {asked}")
         elif message.get("method") == "Runtime.exceptionThrown":
             wrong.append(f"an error was thrown: {json.dumps(told['exceptionDetails'])[:400]}")
@@ -303,8 +329,13 @@ def told_wrong(driven, address):
     return wrong
 
 
+def take_picture(page, folder, view, shape, is_dark):
+    name = f"{view}-{shape}-{'dark' if is_dark else 'light'}.png"
+    page.picture(folder / name, whole=shape == "narrow")
+
+
 def take_pictures(driven, address, folder):
-    """A picture of each view, wide and narrow, light and dark."""
+    """A picture of each view and of a fault, wide and narrow, light and dark."""
     folder.mkdir(parents=True, exist_ok=True)
     for (width, height), shape in ((WIDE, "wide"), (NARROW, "narrow")):
         for is_dark in (False, True):
@@ -313,8 +344,11 @@ def take_pictures(driven, address, folder):
             choose_example(page, "client_server")
             for view in VIEWS:
                 press_view(page, view)
-                name = f"{view}-{shape}-{'dark' if is_dark else 'light'}.png"
-                page.picture(folder / name, whole=shape == "narrow")
+                take_picture(page, folder, view, shape, is_dark)
+            press_view(page, "run")
+            fill(page, "#script", WRONG)
+            wait_until(page, "document.querySelector('#state .fault')", "the fault")
+            take_picture(page, folder, "fault", shape, is_dark)
             page.close()
 
 
@@ -327,7 +361,7 @@ def try_views(driven, address, pictures):
             print(f"{trial.__name__}: as wanted", flush=True)
         except (AssertionError, BrowserError) as error:
             wrong.append(f"{trial.__name__}: {error}")
-    wrong += told_wrong(driven, address)
+    wrong += told_wrong(driven)
     if pictures:
         take_pictures(driven, address, pictures)
     return wrong

@@ -7,15 +7,22 @@ function has_wide_memory() {
   return typeof WebAssembly === "object" && WebAssembly.validate(new Uint8Array(WIDE_MEMORY));
 }
 
-// The bytes behind a text of base64 that was packed by gzip or, in links, by deflate.
-async function unpacked(text, form) {
+// The bytes behind a text of base64 that was packed by gzip or, in links, by deflate. It fails where they are more.
+async function unpacked(text, form, most) {
   const bytes = Uint8Array.from(atob(text), (letter) => letter.charCodeAt(0));
-  const stream = new Blob([bytes]).stream().pipeThrough(new DecompressionStream(form));
-  return new Uint8Array(await new Response(stream).arrayBuffer());
+  const reader = new Blob([bytes]).stream().pipeThrough(new DecompressionStream(form)).getReader();
+  const parts = [];
+  let length = 0;
+  for (let step = await reader.read(); !step.done; step = await reader.read()) {
+    parts.push(step.value);
+    length += step.value.length;
+    if (length > most) throw new Error("it is too long");
+  }
+  return new Uint8Array(await new Blob(parts).arrayBuffer());
 }
 
 async function compiled_module() {
-  return WebAssembly.compile(await unpacked(found("module").textContent, "gzip"));
+  return WebAssembly.compile(await unpacked(found("module").textContent, "gzip", Infinity));
 }
 
 class Stopped extends Error {}

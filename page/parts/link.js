@@ -1,6 +1,7 @@
 // A link that holds the script in its fragment: packed by deflate, in the letters of base64 that need no escape there.
 
-const MOST_IN_LINK = 1 << 20;
+// A script that is longer is refused anyway.
+const MOST_IN_LINK = 1 << 17;
 
 async function packed(text) {
   const stream = new Blob([text]).stream().pipeThrough(new CompressionStream("deflate-raw"));
@@ -18,8 +19,7 @@ async function held_by(fragment) {
   const held = new URLSearchParams(fragment.replace(/^#/, ""));
   if (!held.has("script")) return null;
   const text = held.get("script").replaceAll("-", "+").replaceAll("_", "/");
-  if (text.length > MOST_IN_LINK) throw new Error("the link is too long");
-  const bytes = await unpacked(text, "deflate-raw");
+  const bytes = await unpacked(text, "deflate-raw", MOST_IN_LINK);
   const rows = Number(held.get("rows") ?? 256);
   return { text: new TextDecoder().decode(bytes), rows: rows >= 1 && rows <= 1024 ? Math.floor(rows) : 256 };
 }

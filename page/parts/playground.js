@@ -1,0 +1,279 @@
+// What the page's buttons show: a view for each, of the script as it stands.
+
+const SCRIPT = "script.pcml";
+const JOURNAL = "script.journal";
+const ROWS = 256;
+const SOON_BUSY = 250;
+const PAGES = ["language", "about"];
+
+// Marks the button of a view, and shows the page of that name where there is one.
+function show_page(view) {
+  for (const button of document.querySelectorAll(".acts button")) {
+    button.setAttribute("aria-current", String(button.dataset.view === view));
+  }
+  for (const page of PAGES) found(page).hidden = page !== view;
+}
+
+class Playground {
+  constructor(module) {
+    this.caller = new Caller(module);
+    this.editor = new Editor(() => this.changed());
+    this.checking = new Checking(new Caller(module), this.editor);
+    this.stepper = new Stepper((words, files) => this.play(words, files), () => this.show("step"));
+    this.journal = null;
+    this.view = "";
+    this.turn = 0;
+    this.text = "";
+  }
+
+  get rows() {
+    const rows = Number(found("rows").value);
+    return rows >= 1 && rows <= 1024 ? Math.floor(rows) : ROWS;
+  }
+
+  // Puts a script into the editor. What was made of an earlier one is no journal of it.
+  load(text, rows) {
+    found("rows").value = rows;
+    found("example").value = "";
+    this.editor.text = text;
+    this.forget();
+    this.checking.now();
+  }
+
+  forget() {
+    this.journal = null;
+    this.stepper.begin([]);
+  }
+
+  changed() {
+    this.forget();
+    this.checking.soon();
+    found("example").value = "";
+    this.set_old(this.view !== "" && !PAGES.includes(this.view));
+  }
+
+  set_old(is_old) {
+    found("old").hidden = !is_old;
+    this.set_dim(is_old);
+  }
+
+  // An answer that is old, or in whose place another comes, is seen but not pressed.
+  set_dim(is_dim) {
+    found("panel").classList.toggle("is-dim", is_dim);
+    found("answer").inert = is_dim;
+  }
+
+  // Calls the program on the script as it stood when the view was asked for, with the syncs that a process may make
+  // where they are not as many as always.
+  async play(words, files = {}) {
+    const all = this.rows === ROWS ? words : [...words, "--rows", String(this.rows)];
+    const answer = await this.caller.call(all, { [SCRIPT]: this.text, ...files });
+    if (answer.broke || (answer.status !== 0 && answer.out === "")) throw new Refusal(answer, all);
+    return { ...answer, words: all };
+  }
+
+  // Shows a view. What was under way is stopped: the last button counts.
+  async show(view) {
+    this.turn += 1;
+    const turn = this.turn;
+    if (this.caller.open.size) this.caller.stop();
+    this.text = this.editor.text;
+    this.open_view(view);
+    if (PAGES.includes(view)) return this.end_busy();
+    this.begin_busy();
+    let drawn = null;
+    try {
+      drawn = await this[view]();
+    } catch (error) {
+      if (turn === this.turn) drawn = await this.refused(error);
+    }
+    if (turn === this.turn) this.draw(drawn);
+  }
+
+  open_view(view) {
+    this.view = view;
+    show_page(view);
+    const is_page = PAGES.includes(view);
+    for (const id of ["choices", "told", "answer"]) found(id).hidden = is_page;
+    found("for-outcomes").hidden = view !== "outcomes";
+    this.set_old(false);
+    if (is_page) found("panel").scrollTop = 0;
+  }
+
+  draw({ told, asked, inside, waiting = new Map(), is_fault = false }) {
+    this.end_busy();
+    found("told").textContent = told;
+    found("told").classList.toggle("fault", is_fault);
+    const call = asked ? [made("p", { class: "asked" }, `pcml ${asked.words.join(" ")}`)] : [];
+    found("answer").replaceChildren(...call, ...inside);
+    this.editor.mark_waiting(waiting);
+  }
+
+  // While a call takes long, how long, and a button that stops it.
+  begin_busy() {
+    const began = performance.now();
+    clearInterval(this.ticking);
+    this.ticking = setInterval(() => {
+      const spent = performance.now() - began;
+      if (spent < SOON_BUSY) return;
+      found("busy").hidden = false;
+      this.set_dim(true);
+      found("busy-text").textContent = `Under way for ${Math.floor(spent / 1000)} s`;
+    }, SOON_BUSY);
+  }
+
+  end_busy() {
+    clearInterval(this.ticking);
+    found("busy").hidden = true;
+    this.set_dim(!found("old").hidden);
+  }
+
+  // VIEWS: each answers what is told, the call that was asked, and what is drawn.
+
+  async run() {
+    const answer = await this.play(["run", SCRIPT, "--workers", "1"]);
+    const { commits, stands } = read_run(answer.out);
+    this.keep(commits, "the run");
+    const left = stands.filter((it) => it.stand !== "ended");
+    const names = left.map((it) => it.name).join(", ");
+    const end = left.length ? `Not ended: ${names}.` : "Every process ended.";
+    return {
+      told: `${counted(commits.length, "commit")}. ${end}`,
+      asked: answer,
+      inside: [drawn_ends(stands), ...drawn_journal(commits), made("p", { class: "hint" },
+        "A run shows one outcome. Outcomes tells all, and Step lets you choose.")],
+    };
+  }
+
+  outcome_words() {
+    const need = found("need").value.trim();
+    const words = ["outcomes", SCRIPT];
+    if (found("waiting").checked) words.push("--waiting");
+    if (need && !found("for-need").hidden) words.push("--need", need);
+    return words;
+  }
+
+  async outcomes() {
+    const words = this.outcome_words();
+    const answer = await this.play(words);
+    const { outcomes, seen, extent } = read_outcomes(answer.out);
+    const hint = `${counted(seen, "configuration")} seen in ${Math.round(answer.milliseconds)} ms.`;
+    const drawn = outcomes.length ? drawn_outcomes(outcomes, (number) => this.follow(words, number)) : [];
+    return {
+      told: told_of_outcomes(outcomes.length, extent, words),
+      asked: answer,
+      inside: [...drawn, made("p", { class: "hint" }, hint)],
+    };
+  }
+
+  // Draws the journal that leads to an outcome. Why and Step go on from there.
+  async follow(words, number) {
+    this.begin_busy();
+    try {
+      const answer = await this.play([...words, "--journal", JOURNAL, "--of", String(number)]);
+      const commits = lines_of(answer.files[JOURNAL] ?? "");
+      this.keep(commits, `outcome ${number}`);
+      this.stepper.begin(commits);
+    } catch (error) {
+      return this.draw(await this.refused(error));
+    }
+    return this.show("chart");
+  }
+
+  keep(commits, of) {
+    this.journal = { commits, of, text: commits.map((line) => `${line}\n`).join("") };
+  }
+
+  // The journal that is shown: the last one of this script, or that of a run that is made now.
+  async shown_journal() {
+    if (!this.journal) await this.run();
+    return this.journal;
+  }
+
+  async why() {
+    const journal = await this.shown_journal();
+    const answer = await this.play(["why", SCRIPT, JOURNAL], { [JOURNAL]: journal.text });
+    return {
+      told: `Where each process stands after ${of_journal(journal)}.`,
+      asked: answer,
+      waiting: waiting_in(answer.out),
+      inside: [drawn_text(answer.out, (...place) => this.editor.go_to(...place))],
+    };
+  }
+
+  async chart() {
+    const journal = await this.shown_journal();
+    const answer = await this.play(["chart", SCRIPT, JOURNAL], { [JOURNAL]: journal.text });
+    const told = `The chart of ${of_journal(journal)}.`;
+    const keeper = made_keeper("Save as SVG", "chart.svg", "image/svg+xml", answer.out);
+    return {
+      told,
+      asked: answer,
+      inside: [drawn_chart(answer.out, told), made("p", { class: "moves" }, keeper), ...drawn_journal(journal.commits)],
+    };
+  }
+
+  async step() {
+    const drawn = await this.stepper.draw();
+    this.keep(this.stepper.commits, "your own run");
+    return drawn;
+  }
+
+  // What is told where a call was stopped, broke off, or was refused by the program.
+  async refused(error) {
+    if (error instanceof Stopped) {
+      const hint = "A search is shorter where a process may make fewer syncs.";
+      return { told: "Stopped.", is_fault: true, inside: [made("p", { class: "hint" }, hint)] };
+    }
+    if (error instanceof Refusal) return error.drawn(this.checking.caller, this.editor);
+    return { told: "The page failed.", is_fault: true, inside: [made("p", {}, String(error))] };
+  }
+
+  // Shows the field of an option where the program has it.
+  async learn_options() {
+    const help = await this.checking.caller.call(["help", "outcomes"], {});
+    found("for-need").hidden = !help.err.includes("--need");
+  }
+}
+
+// A call that the program did not answer, or that broke off.
+class Refusal extends Error {
+  constructor(answer, words) {
+    super("refused");
+    this.answer = answer;
+    this.words = words;
+  }
+
+  // Tells why: of a text that is no script where, and of another fault what it means.
+  async drawn(caller, editor) {
+    const { broke, err } = this.answer;
+    const number = /^fault ([0-9]+)/.exec(err)?.[1];
+    const go_to = (...place) => editor.go_to(...place);
+    const told = broke ? "The call broke off." : "The program refuses this.";
+    if (broke || !number) return { told, is_fault: true, asked: this, inside: [drawn_text(broke || err, go_to)] };
+    const files = { [SCRIPT]: editor.text };
+    const why = await caller.call(["why", SCRIPT], files);
+    if (why.status !== 0) return { told: "This text is no script.", is_fault: true, asked: this, inside: [drawn_text(why.out, go_to)] };
+    const meaning = await caller.call(["explain", number], files);
+    return { told, is_fault: true, asked: this, inside: [drawn_text(`${err}\n${meaning.out}`, go_to)] };
+  }
+}
+
+function of_journal({ commits, of }) {
+  return commits.length ? `the ${counted(commits.length, "commit")} of ${of}` : `${of}, which made no commit`;
+}
+
+// Which outcomes are told, by the words of the call.
+function kind_of_outcomes(count, words) {
+  const outcomes = counted(count, "outcome");
+  if (words.includes("--need")) return `${outcomes} in which one of these has not ended`;
+  return words.includes("--waiting") ? `${outcomes} that leave${count === 1 ? "s" : ""} somebody waiting` : outcomes;
+}
+
+function told_of_outcomes(count, extent, words) {
+  const kind = kind_of_outcomes(count, words);
+  if (extent === "all") return `${kind}, and that is all.`;
+  const within = /^all within ([0-9]+) syncs/.exec(extent);
+  if (within) return `${kind}, and that is all within ${counted(Number(within[1]), "sync")} a process.`;
+  return `${kind}. The search was cut, so there may be more.`;
+}
