@@ -24,7 +24,8 @@ SHORT = 24
 ICON = (
     "data:image/svg+xml,%3Csvg xmlns='http://www.w3.org/2000/svg' viewBox='0 0 16 16'%3E"
     "%3Crect width='16' height='16' rx='3' fill='%231d5f8a'/%3E"
-    "%3Cpath d='M4.5 3v10M11.500 3v10M4.5 8h5.500M8 6l2.500 2L8 10' stroke='white' stroke-width='1.400' fill='none'/%3E%3C/svg%3E"
+    "%3Cpath d='M4.5 3v10M11.5 3v10M4.5 8h5.5M8 6l2.5 2L8 10' stroke='white' stroke-width='1.4' fill='none'/%3E"
+    "%3C/svg%3E"
 )
 
 

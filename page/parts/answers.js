@@ -2,8 +2,8 @@
 
 const MOST_OUTCOMES = 200;
 
-function counted(count, noun) {
-  return `${count.toLocaleString("en")} ${noun}${count === 1 ? "" : "s"}`;
+function counted(count, noun, plural = "s") {
+  return `${count.toLocaleString("en")} ${noun}${count === 1 ? "" : plural}`;
 }
 
 function lines_of(text) {

@@ -7,10 +7,17 @@ function has_wide_memory() {
   return typeof WebAssembly === "object" && WebAssembly.validate(new Uint8Array(WIDE_MEMORY));
 }
 
+// The bytes of a text of base64. `Uint8Array.from` takes ten times as long.
+function bytes_of(text) {
+  const letters = atob(text);
+  const bytes = new Uint8Array(letters.length);
+  for (let at = 0; at < letters.length; at++) bytes[at] = letters.charCodeAt(at);
+  return bytes;
+}
+
 // The bytes behind a text of base64 that was packed by gzip or, in links, by deflate. It fails where they are more.
 async function unpacked(text, form, most) {
-  const bytes = Uint8Array.from(atob(text), (letter) => letter.charCodeAt(0));
-  const reader = new Blob([bytes]).stream().pipeThrough(new DecompressionStream(form)).getReader();
+  const reader = new Blob([bytes_of(text)]).stream().pipeThrough(new DecompressionStream(form)).getReader();
   const parts = [];
   let length = 0;
   for (let step = await reader.read(); !step.done; step = await reader.read()) {

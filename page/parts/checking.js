@@ -29,16 +29,17 @@ class Checking {
 
   tell_script(text) {
     const [processes, channels] = text.match(/[0-9]+/g).map(Number);
-    const parts = `${counted(processes, "process").replace("processs", "processes")} and ${counted(channels, "channel")}`;
+    const parts = [counted(processes, "process", "es"), counted(channels, "channel")];
     this.editor.mark_fault(0, 0);
-    found("state").replaceChildren(`A script: ${parts}.`);
+    found("state").replaceChildren(`A script: ${parts.join(" and ")}.`);
   }
 
   tell_fault({ out, broke }) {
     const told = /^fault [0-9]+(?: line ([0-9]+) column ([0-9]+))?: (.*)/.exec(out);
     if (!told) return found("state").replaceChildren(broke || out);
     const [line, column] = [Number(told[1] ?? 0), Number(told[2] ?? 0)];
-    const place = made_button(`Line ${line}, column ${column}`, () => this.editor.go_to(line, column), { class: "here" });
+    const go_to = () => this.editor.go_to(line, column);
+    const place = made_button(`Line ${line}, column ${column}`, go_to, { class: "here" });
     const first = made("div", { class: "fault" }, ...(line ? [place, ": "] : []), ...quoted(`${told[3]}.`));
     const more = lines_of(out).filter((it) => it.startsWith("help: ") || it.startsWith("here may stand: "));
     const rest = more.map((it) => made("div", {}, ...quoted(`${it[0].toUpperCase()}${it.slice(1)}`)));

@@ -59,14 +59,13 @@ class Editor {
     this.draw();
   }
 
-  // Moves the cursor to a place, which is selected up to its token's end.
+  // Moves the cursor to a place, and selects the token that stands there, or without a column the line.
   go_to(line, column = 0) {
-    const text = this.text;
-    const from = place_in(text, line, Math.max(column, 1));
-    const end = text.indexOf("\n", from);
-    const length = column ? (text.slice(from).match(TOKEN) ?? [""])[0].trimEnd().length : (end < 0 ? text.length : end) - from;
+    const from = place_in(this.text, line, Math.max(column, 1));
+    const rest = this.text.slice(from).split("\n")[0];
+    const selected = column ? rest.match(TOKEN)?.[0].trimEnd() ?? "" : rest;
     this.area.focus();
-    this.area.setSelectionRange(from, from + length);
+    this.area.setSelectionRange(from, from + selected.length);
     const step = parseFloat(getComputedStyle(this.area).lineHeight);
     this.area.scrollTop = Math.max(0, (line - 4) * step);
     this.scroll();

@@ -1,8 +1,9 @@
 // How the page begins: what is loaded, and what each button and key does.
 
 function told_lack() {
-  found("lacks").textContent = "This browser has no 64-bit memories for WebAssembly (memory64), which the program needs. "
-    + "Open it in Chrome or Edge from version 133 on, or in Firefox from 134. Here you can read, write and copy links.";
+  found("lacks").textContent = "This browser has no 64-bit memories for WebAssembly (memory64), which the program "
+    + "needs. Open the page in Chrome or Edge from version 133 on, or in Firefox from 134. Here you can read, write "
+    + "and copy links.";
   found("lacks").hidden = false;
   for (const button of document.querySelectorAll(".acts button:not(.plain)")) button.disabled = true;
 }
@@ -94,7 +95,9 @@ async function begin() {
   connect_link(() => page.editor.text, () => page.rows);
   let_try(load);
   const load_first = connect_examples(load);
-  window.addEventListener("hashchange", () => load_fragment((text, rows) => text !== page.editor.text && load(text, rows)));
+  // A link that was copied here names the script that is there already.
+  const load_other = (text, rows) => text !== page.editor.text && load(text, rows);
+  window.addEventListener("hashchange", () => load_fragment(load_other));
   if (!(await load_fragment(load))) load_first();
   return page.learn_options();
 }

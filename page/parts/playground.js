@@ -5,6 +5,7 @@ const JOURNAL = "script.journal";
 const ROWS = 256;
 const SOON_BUSY = 250;
 const PAGES = ["language", "about"];
+const AFTER_RUN = "A run shows one outcome. Outcomes tells all, and Step lets you choose.";
 
 // Marks the button of a view, and shows the page of that name where there is one.
 function show_page(view) {
@@ -140,8 +141,7 @@ class Playground {
     return {
       told: `${counted(commits.length, "commit")}. ${end}`,
       asked: answer,
-      inside: [drawn_ends(stands), ...drawn_journal(commits), made("p", { class: "hint" },
-        "A run shows one outcome. Outcomes tells all, and Step lets you choose.")],
+      inside: [drawn_ends(stands), ...drawn_journal(commits), made("p", { class: "hint" }, AFTER_RUN)],
     };
   }
 
@@ -168,6 +168,8 @@ class Playground {
 
   // Draws the journal that leads to an outcome. Why and Step go on from there.
   async follow(words, number) {
+    this.turn += 1;
+    const turn = this.turn;
     this.begin_busy();
     try {
       const answer = await this.play([...words, "--journal", JOURNAL, "--of", String(number)]);
@@ -175,18 +177,19 @@ class Playground {
       this.keep(commits, `outcome ${number}`);
       this.stepper.begin(commits);
     } catch (error) {
-      return this.draw(await this.refused(error));
+      if (turn === this.turn) this.draw(await this.refused(error));
+      return;
     }
-    return this.show("chart");
+    if (turn === this.turn) await this.show("chart");
   }
 
   keep(commits, of) {
-    this.journal = { commits, of, text: commits.map((line) => `${line}\n`).join("") };
+    this.journal = { commits, of, script: this.text, text: commits.map((line) => `${line}\n`).join("") };
   }
 
   // The journal that is shown: the last one of this script, or that of a run that is made now.
   async shown_journal() {
-    if (!this.journal) await this.run();
+    if (this.journal?.script !== this.text) await this.run();
     return this.journal;
   }
 
@@ -209,7 +212,11 @@ class Playground {
     return {
       told,
       asked: answer,
-      inside: [drawn_chart(answer.out, told), made("p", { class: "moves" }, keeper), ...drawn_journal(journal.commits)],
+      inside: [
+        drawn_chart(answer.out, told),
+        made("p", { class: "moves" }, keeper),
+        ...drawn_journal(journal.commits),
+      ],
     };
   }
 
@@ -223,7 +230,7 @@ class Playground {
   async refused(error) {
     if (error instanceof Stopped) {
       const hint = "A search is shorter where a process may make fewer syncs.";
-      return { told: "Stopped.", is_fault: true, inside: [made("p", { class: "hint" }, hint)] };
+      return { told: "Stopped.", inside: [made("p", { class: "hint" }, hint)] };
     }
     if (error instanceof Refusal) return error.drawn(this.checking.caller, this.editor);
     return { told: "The page failed.", is_fault: true, inside: [made("p", {}, String(error))] };
@@ -247,15 +254,16 @@ class Refusal extends Error {
   // Tells why: of a text that is no script where, and of another fault what it means.
   async drawn(caller, editor) {
     const { broke, err } = this.answer;
+    const draw = (told, text) =>
+      ({ told, is_fault: true, asked: this, inside: [drawn_text(text, (...place) => editor.go_to(...place))] });
+    if (broke) return draw("The call broke off.", broke);
     const number = /^fault ([0-9]+)/.exec(err)?.[1];
-    const go_to = (...place) => editor.go_to(...place);
-    const told = broke ? "The call broke off." : "The program refuses this.";
-    if (broke || !number) return { told, is_fault: true, asked: this, inside: [drawn_text(broke || err, go_to)] };
+    if (!number) return draw("The program refuses this.", err);
     const files = { [SCRIPT]: editor.text };
     const why = await caller.call(["why", SCRIPT], files);
-    if (why.status !== 0) return { told: "This text is no script.", is_fault: true, asked: this, inside: [drawn_text(why.out, go_to)] };
+    if (why.status !== 0) return draw("This text is no script.", why.out);
     const meaning = await caller.call(["explain", number], files);
-    return { told, is_fault: true, asked: this, inside: [drawn_text(`${err}\n${meaning.out}`, go_to)] };
+    return draw("The program refuses this.", `${err}\n${meaning.out}`);
   }
 }
 

@@ -40,13 +40,14 @@ class Stepper {
   }
 
   drawn_choices(choices) {
-    if (!choices.length) return [made("p", { class: "hint" }, "The run is at its end. Take commits back to go another way.")];
+    const end = "The run is at its end. Take commits back to go another way.";
+    if (!choices.length) return [made("p", { class: "hint" }, end)];
     const buttons = choices.map((line) => made("li", {}, made_button(line, () => this.take(line))));
     return [made("ul", { class: "commits", "aria-label": "Commits that may come next" }, ...buttons)];
   }
 
   drawn_moves(choices) {
-    const back = made_button("Take back", () => this.go([...this.commits.slice(0, -1)]));
+    const back = made_button("Take back", () => this.go(this.commits.slice(0, -1)));
     const over = made_button("Start over", () => this.go([]));
     const any = made_button("Take any", () => this.take(choices[Math.floor(Math.random() * choices.length)]));
     back.disabled = over.disabled = !this.commits.length;
@@ -63,7 +64,8 @@ class Stepper {
     const label = document.activeElement?.textContent;
     this.commits = commits;
     await this.redraw();
-    const buttons = [...found("answer").querySelectorAll(".moves button, .commits button")].filter((it) => !it.disabled);
+    const all = found("answer").querySelectorAll(".moves button, .commits button");
+    const buttons = [...all].filter((it) => !it.disabled);
     (buttons.find((it) => it.textContent === label) ?? buttons[0])?.focus({ preventScroll: true });
   }
 }
