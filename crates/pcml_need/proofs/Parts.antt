@@ -1,34 +1,13 @@
 -- The names of a text, part by part.
-use Rattle.std.proofs.Common.{◌≡◌, ◌≢◌, ◌==◌, ℕ, zero, suc, ◌+◌, ◌-◌, ◌<◌, ◌≤◌, List, [], ◌∷◌, ◌++◌, length, slice_index_or, get_or, take, drop, if◌then◌else◌, ◌||◌, refl, sym, ap, ◌∙◌, subst, arith, true, false, Bool}
-use Rattle.std.specs.Prelude.{Contains, Some, map, slice_get}
-use Rattle.std.specs.Option.{option_map}
-use Rattle.std.proofs.lemmas.Option.{none-some, same_Some}
-use Rattle.script_tree.specs.Processes.{Proc}
+use Rattle.std.proofs.Common.{◌≡◌, ◌≢◌, ◌==◌, ℕ, suc, ◌+◌, ◌-◌, ◌<◌, ◌≤◌, List, [], ◌∷◌, ◌++◌, length, get_or, take, drop, if◌then◌else◌, ◌||◌, refl, sym, ap, ◌∙◌, arith, true, false, Bool}
+use Rattle.std.specs.Prelude.{None, Some, not}
 use Rattle.std.proofs.lemmas.Bool.Decides.{Decides-eqb}
-use Rattle.std.proofs.lemmas.List.{drop_more, get_or-drop, length-drop}
+use Rattle.std.proofs.lemmas.List.{drop_all, drop_more, get_or-drop, length-drop}
 use Rattle.std.proofs.Math.Seq.{take-suc}
 use Rattle.script.specs.Sources.{Script}
-use Rattle.journal_replay.specs.declared.end.End.{End}
-use Rattle.std.specs.List.{list_any}
+use Rattle.std.specs.List.{find, list_any}
 use Rattle.script_token.specs.Tokens.{same}
-use Rattle.pcml_need.specs.Needs.{AreEnded, HasEndedSo, is_in, names_from}
-
--- the processes of each of these names have ended
-abbrev pub EachEnded : Script → List End → List (List ℕ) → Type 0
-EachEnded s ends names = (name : List ℕ) → Contains names name → HasEndedSo s ends name
-
-pub first-ended : (s : Script) (ends : List End) (name : List ℕ) (names : List (List ℕ)) → EachEnded s ends (name ∷ names) → HasEndedSo s ends name
-first-ended s ends name names each = each name (0, omega arith, refl)
-
-pub others-ended : (s : Script) (ends : List End) (name : List ℕ) (names : List (List ℕ)) → EachEnded s ends (name ∷ names) → EachEnded s ends names
-others-ended s ends name names each other there = each other (suc there.0, omega (arith, there.1), there.2)
-
-ended-at : (s : Script) (ends : List End) (name : List ℕ) (names : List (List ℕ)) → HasEndedSo s ends name → EachEnded s ends names → (other : List ℕ) (k : ℕ) → k < length (name ∷ names) → slice_index_or (name ∷ names) k other ≡ other → HasEndedSo s ends other
-ended-at s ends name names one each other zero lt is = subst (HasEndedSo s ends) is one
-ended-at s ends name names one each other (suc k) lt is = each other (k, omega (arith, lt), is)
-
-pub both-ended : (s : Script) (ends : List End) (name : List ℕ) (names : List (List ℕ)) → HasEndedSo s ends name → EachEnded s ends names → EachEnded s ends (name ∷ names)
-both-ended s ends name names one each other there = ended-at s ends name names one each other there.0 there.1 there.2
+use Rattle.pcml_need.specs.Needs.{is_in, is_process, names_from, unnamed_in}
 
 -- what stands behind a comma is another name
 comma : (before rest : List ℕ) (x : ℕ) → x ≡ 44 → names_from before (x ∷ rest) ≡ before ∷ names_from [] rest
@@ -70,38 +49,49 @@ left-at-letter text first at low lt is =
     ∙ letter (read_so_far text first at) (drop (at + 1) text) (get_or text at 0) is
     ∙ ap (λ (read : List ℕ). names_from read (drop (at + 1) text)) (read-more text first at low lt)
 
--- at this place, where a name began at another, the processes of all names have ended where those of the names that are left have
-pub record IsLeft (s : Script) (ends : List End) (text : List ℕ) (first at : ℕ) : Type 0 where
-  pub low : first ≤ at
-  pub from : AreEnded s ends text → EachEnded s ends (names_left text first at)
-  pub back : EachEnded s ends (names_left text first at) → AreEnded s ends text
-
-pub left-behind-comma : (s : Script) (ends : List End) (text : List ℕ) (first at : ℕ) → at < length text → get_or text at 0 ≡ 44 → HasEndedSo s ends (read_so_far text first at) → IsLeft s ends text first at → IsLeft s ends text (at + 1) (at + 1)
-left-behind-comma s ends text first at lt is ended left =
-    let all = left-at-comma text first at lt is in
+-- behind a comma another name begins
+begins : (text : List ℕ) (at : ℕ) → names_left text (at + 1) (at + 1) ≡ names_from [] (drop (at + 1) text)
+begins text at =
     let zero_more : at + 1 - (at + 1) ≡ 0 = omega arith in
     let none : read_so_far text (at + 1) (at + 1) ≡ [] = ap (λ (k : ℕ). take k (drop (at + 1) text)) zero_more in
-    let same : names_left text (at + 1) (at + 1) ≡ names_from [] (drop (at + 1) text) = ap (λ (read : List ℕ). names_from read (drop (at + 1) text)) none in
-    record {
-      low = omega arith;
-      from = λ are. subst (EachEnded s ends) (sym same) (others-ended s ends (read_so_far text first at) _ (subst (EachEnded s ends) all (left.from are)));
-      back = λ each. left.back (subst (EachEnded s ends) (sym all) (both-ended s ends (read_so_far text first at) _ ended (subst (EachEnded s ends) same each)));
-    }
+    ap (λ (read : List ℕ). names_from read (drop (at + 1) text)) none
 
-pub left-behind-letter : (s : Script) (ends : List End) (text : List ℕ) (first at : ℕ) → at < length text → get_or text at 0 ≢ 44 → IsLeft s ends text first at → IsLeft s ends text first (at + 1)
-left-behind-letter s ends text first at lt is left =
-    let same = left-at-letter text first at left.low lt is in
-    record {
-      low = omega (arith, left.low);
-      from = λ are. subst (EachEnded s ends) same (left.from are);
-      back = λ each. left.back (subst (EachEnded s ends) (sym same) each);
-    }
+-- at this place, where a name began at another, the first that no process has is the first of those that are left
+pub record FindsLeft (s : Script) (text : List ℕ) (first at : ℕ) : Type 0 where
+  pub low : first ≤ at
+  pub left : find (λ name. not (is_process s name)) (names_left text first at) ≡ unnamed_in s text
 
--- the name of the process of this number
-pub name-at : (ps : List Proc) (t : ℕ) (name : List ℕ) → Some name ≡ option_map (λ (p : Proc). p.name) (slice_get ps t) → name ≡ slice_index_or (map (λ (p : Proc). p.name) ps) t []
-name-at [] t name is = absurd (none-some name (sym is))
-name-at (p ∷ ps) zero name is = same_Some name p.name is
-name-at (p ∷ ps) (suc t) name is = name-at ps t name is
+found-at : (s : Script) (name : List ℕ) (names : List (List ℕ)) (b : Bool) → is_process s name ≡ b → find (λ n. not (is_process s n)) (name ∷ names) ≡ (if b then find (λ n. not (is_process s n)) names else Some name)
+found-at s name names true is = ap (λ (t : Bool). if not t then Some name else find (λ n. not (is_process s n)) names) is
+found-at s name names false is = ap (λ (t : Bool). if not t then Some name else find (λ n. not (is_process s n)) names) is
+
+finds-here : (s : Script) (text : List ℕ) (first at : ℕ) (b : Bool) → at < length text → get_or text at 0 ≡ 44 → is_process s (read_so_far text first at) ≡ b → FindsLeft s text first at →
+    (if b then find (λ n. not (is_process s n)) (names_left text (at + 1) (at + 1)) else Some (read_so_far text first at)) ≡ unnamed_in s text
+finds-here s text first at b lt is process left =
+    ap (λ (names : List (List ℕ)). if b then find (λ n. not (is_process s n)) names else Some (read_so_far text first at)) (begins text at)
+    ∙ sym (found-at s (read_so_far text first at) (names_from [] (drop (at + 1) text)) b process) ∙ ap (find (λ n. not (is_process s n))) (sym (left-at-comma text first at lt is)) ∙ left.left
+
+-- no process has the name that ends here
+pub finds-unnamed : (s : Script) (text : List ℕ) (first at : ℕ) → at < length text → get_or text at 0 ≡ 44 → is_process s (read_so_far text first at) ≡ false → FindsLeft s text first at → Some (read_so_far text first at) ≡ unnamed_in s text
+finds-unnamed s text first at lt is process left = finds-here s text first at false lt is process left
+
+pub finds-behind-comma : (s : Script) (text : List ℕ) (first at : ℕ) → at < length text → get_or text at 0 ≡ 44 → is_process s (read_so_far text first at) ≡ true → FindsLeft s text first at → FindsLeft s text (at + 1) (at + 1)
+finds-behind-comma s text first at lt is process left = record { low = omega arith; left = finds-here s text first at true lt is process left }
+
+pub finds-behind-letter : (s : Script) (text : List ℕ) (first at : ℕ) → at < length text → get_or text at 0 ≢ 44 → FindsLeft s text first at → FindsLeft s text first (at + 1)
+finds-behind-letter s text first at lt is left = record {
+  low = omega (arith, left.low);
+  left = ap (find (λ n. not (is_process s n))) (sym (left-at-letter text first at left.low lt is)) ∙ left.left;
+}
+
+-- the last name
+pub finds-last : (s : Script) (text : List ℕ) (first at : ℕ) (b : Bool) → length text ≤ at → is_process s (read_so_far text first at) ≡ b → FindsLeft s text first at → (if b then None else Some (read_so_far text first at)) ≡ unnamed_in s text
+finds-last s text first at b past process left =
+    split b ∙ sym (found-at s (read_so_far text first at) [] b process) ∙ ap (λ (rest : List ℕ). find (λ n. not (is_process s n)) (names_from (read_so_far text first at) rest)) (sym (drop_all at text past)) ∙ left.left
+  where
+    split : (b : Bool) → (if b then None else Some (read_so_far text first at)) ≡ (if b then find (λ n. not (is_process s n)) [] else Some (read_so_far text first at))
+    split true = refl
+    split false = refl
 
 -- at this place, where a name began at another, the name is one of all where it is one of those that are left
 pub record HasLeft (name text : List ℕ) (first at : ℕ) : Type 0 where
@@ -115,13 +105,10 @@ in-at-comma name text first at lt is left = ap (list_any (λ n. same n name)) (s
 pub in-behind-comma : (name text : List ℕ) (first at : ℕ) → at < length text → get_or text at 0 ≡ 44 → same (read_so_far text first at) name ≡ false → HasLeft name text first at → HasLeft name text (at + 1) (at + 1)
 in-behind-comma name text first at lt is other left =
     let rest = names_from [] (drop (at + 1) text) in
-    let zero_more : at + 1 - (at + 1) ≡ 0 = omega arith in
-    let none : read_so_far text (at + 1) (at + 1) ≡ [] = ap (λ (k : ℕ). take k (drop (at + 1) text)) zero_more in
-    let begun : names_left text (at + 1) (at + 1) ≡ rest = ap (λ (read : List ℕ). names_from read (drop (at + 1) text)) none in
     record {
       low = omega arith;
       left =
-          ap (list_any (λ n. same n name)) begun ∙ ap (λ (b : Bool). b || list_any (λ n. same n name) rest) (sym other)
+          ap (list_any (λ n. same n name)) (begins text at) ∙ ap (λ (b : Bool). b || list_any (λ n. same n name) rest) (sym other)
           ∙ in-at-comma name text first at lt is left;
     }
 

@@ -1,11 +1,12 @@
--- Whether processes that have to end have ended, and which processes are named.
-use Rattle.std.specs.Prelude.{◌≡◌, ◌≢◌, ◌⊎◌, ◌==◌, ℕ, Bool, List, [], ◌∷◌, ◌++◌, Contains, Some, if◌then◌else◌, codes, map, slice_get}
-use Rattle.std.specs.List.{list_any}
+-- Which processes names stand for.
+use Rattle.std.specs.Prelude.{◌≡◌, ◌==◌, ℕ, Bool, true, not, List, [], ◌∷◌, ◌++◌, Option, None, Some, if◌then◌else◌, codes, length, map, replicate}
+use Rattle.std.specs.List.{find, list_any}
+use Rattle.std.specs.Str.Lossy.{utf8_lossy}
+use Rattle.std.specs.String.{string_bytes}
 use Rattle.script_token.specs.Tokens.{same}
 use Rattle.script.specs.Sources.{Script}
-use Rattle.journal_text.specs.Names.{named}
-use Rattle.journal_replay.specs.declared.end.End.{End}
-use Rattle.journal_replay.specs.declared.end.End.TheVariants.{Ended}
+use Rattle.pcml_need.specs.declared.NamesFault.{NamesFault}
+use Rattle.pcml_need.specs.declared.NamesFault.TheVariants.{Memory, Unnamed}
 
 -- the names between the commas of a text, where this stands before it
 abbrev pub names_from : List ℕ → List ℕ → List (List ℕ)
@@ -15,24 +16,36 @@ names_from before (b ∷ bs) = if b == 44 then before ∷ names_from [] bs else 
 abbrev pub names_in : List ℕ → List (List ℕ)
 names_in text = names_from [] text
 
--- the process of this name has ended
-abbrev pub HasEnded : Script → List End → List ℕ → Type 0
-HasEnded s ends name = (t : ℕ) × (slice_get ends t ≡ Some Ended) × (name ≡ (named s).thread t)
+-- `all`, alone, stands for all processes
+abbrev pub names_all : List ℕ → Bool
+names_all text = same text (codes "all")
 
-abbrev pub HaveAllEnded : List End → Type 0
-HaveAllEnded ends = (t : ℕ) (end : End) → slice_get ends t ≡ Some end → end ≡ Ended
+abbrev pub is_process : Script → List ℕ → Bool
+is_process s name = list_any (λ p. same p.name name) s.processes
 
--- and where the name is `all`, each process has
-abbrev pub HasEndedSo : Script → List End → List ℕ → Type 0
-HasEndedSo s ends name = ((name ≡ codes "all") × HaveAllEnded ends) ⊎ ((name ≢ codes "all") × HasEnded s ends name)
+-- the first of the names that no process has
+abbrev pub unnamed_in : Script → List ℕ → Option (List ℕ)
+unnamed_in s text = find (λ name. not (is_process s name)) (names_in text)
 
--- the processes of these names have ended
-abbrev pub AreEnded : Script → List End → List ℕ → Type 0
-AreEnded s ends text = (name : List ℕ) → Contains (names_in text) name → HasEndedSo s ends name
+abbrev pub first_unnamed : Script → List ℕ → Option (List ℕ)
+first_unnamed s text = if names_all text then None else unnamed_in s text
 
 abbrev pub is_in : List ℕ → List ℕ → Bool
 is_in name text = list_any (λ n. same n name) (names_in text)
 
 -- of each process whether its name is one of those of a text
-abbrev pub are_named : Script → List ℕ → List Bool
-are_named s text = map (λ p. is_in p.name text) s.processes
+abbrev pub are_in : Script → List ℕ → List Bool
+are_in s text = map (λ p. is_in p.name text) s.processes
+
+-- of each process whether the text stands for it
+abbrev pub named_by : Script → List ℕ → List Bool
+named_by s text = if names_all text then replicate (length s.processes) true else are_in s text
+
+-- each name is a process's, and these marks are those of the text
+abbrev pub Names : Script → List ℕ → List Bool → Type 0
+Names s text marks = (first_unnamed s text ≡ None) × (marks ≡ named_by s text)
+
+-- what a fault says: the first of the names that no process has
+abbrev pub Misnames : Script → List ℕ → NamesFault → Type 0
+Misnames s text Memory = Unit {0}
+Misnames s text (Unnamed name) = (first : List ℕ) × (first_unnamed s text ≡ Some first) × (string_bytes name ≡ utf8_lossy first)

@@ -1,90 +1,75 @@
-//! Whether the processes that have to end have ended, and which processes are named.
+//! Which processes names stand for.
 #![tactic(auto)]
 
-ghost use Rattle.std.specs.Prelude.{◌≡◌, ◌↔◌, ◌<◌, IfOk, IsTrue, length, map};
+ghost use Rattle.std.specs.Prelude.{◌≡◌, IfErr, IfOk, map};
 ghost use Rattle.std.specs.List.{list_any};
+ghost use Rattle.std.specs.Option.{option_copied};
 ghost use Rattle.script_token.specs.Tokens.{same};
 ghost use Rattle.script.specs.Scripts.{script_of};
-ghost use Rattle.journal_text.specs.Names.{named};
-ghost use Rattle.journal_replay.specs.declared.end.End.TheVariants.{Ended};
-ghost use Rattle.pcml_need.specs.Needs.{AreEnded, HasEnded, HasEndedSo, HaveAllEnded, are_named, is_in, names_in};
+ghost use Rattle.pcml_need.specs.Needs.{Misnames, Names, are_in, first_unnamed, is_in, is_process, names_all, unnamed_in};
+ghost use Rattle.pcml_need.specs.declared.NamesFault.TheVariants.{Memory};
 
-use journal_replay::End;
 use script::Script;
 use std::alloc::{AllocError, Global};
 
-/// What stands for all processes.
+/// What stands for all processes, where it stands alone.
 const ALL: &[u8] = b"all";
 
-fn is_ended(end: End) -> bool
-    ensures { IsTrue result ↔ (end ≡ Ended) }
-{
-    match end {
-        End::Ended => true,
-        End::Waiting | End::Spent | End::Faulted(_) | End::Unstarted => false,
+/// Why names stand for no processes.
+#[derive(Debug, Drop)]
+pub enum NamesFault {
+    Memory,
+    /// The first of the names that no process has.
+    Unnamed(String),
+}
+
+impl From<AllocError> for NamesFault {
+    ghost from_gives = { λ _ fault. fault ≡ Memory };
+
+    fn from(_error: AllocError) -> NamesFault {
+        NamesFault::Memory
     }
 }
 
-fn have_all_ended(ends: &[End]) -> bool
-    ensures { IsTrue result ↔ HaveAllEnded ends.now }
+fn names_all(names: &[u8]) -> bool
+    ensures { result ≡ names_all names.now }
 {
-    for end in ends {
-        if !is_ended(*end) {
-            return false;
-        }
-    }
-    true
+    names == ALL
 }
 
-/// Whether the process of this number has this name.
-fn is_named(script: &Script, thread: usize, name: &[u8]) -> bool
-    requires { thread < length (script_of script.now).processes }
-    ensures { IsTrue result ↔ (name.now ≡ (named (script_of script.now)).thread thread) }
+/// Whether a process has this name.
+fn is_process(script: &Script, name: &[u8]) -> bool
+    ensures { result ≡ is_process (script_of script.now) name.now }
 {
-    name == script.process_name(thread).as_bytes()
-}
-
-/// Whether the process of this name has ended.
-fn has_ended(script: &Script, ends: &[End], name: &[u8]) -> bool
-    requires { length ends.now ≡ length (script_of script.now).processes }
-    ensures { IsTrue result ↔ HasEnded (script_of script.now) ends.now name.now }
-{
-    for thread in 0..ends.len() {
-        if is_ended(ends[thread]) && is_named(script, thread, name) {
+    let processes = script.processes();
+    for process in processes {
+        if process.name().as_bytes() == name {
             return true;
         }
     }
     false
 }
 
-/// Whether the process of this name has ended, and where the name is `all`, each of them.
-fn has_ended_so(script: &Script, ends: &[End], name: &[u8]) -> bool
-    requires { length ends.now ≡ length (script_of script.now).processes }
-    ensures { IsTrue result ↔ HasEndedSo (script_of script.now) ends.now name.now }
+/// The first of the names that no process has.
+fn unnamed_in<'a>(script: &Script, names: &'a [u8]) -> Option<&'a [u8]>
+    ensures { option_copied result ≡ unnamed_in (script_of script.now) names.now }
 {
-    if name == ALL {
-        have_all_ended(ends)
-    } else {
-        has_ended(script, ends, name)
-    }
-}
-
-/// Whether the processes of these names have ended, by the end of each process. Commas stand between the names, and
-/// `all` stands for all processes. A name that no process has is one that has not ended.
-pub fn have_ended(script: &Script, ends: &[End], names: &[u8]) -> bool
-    requires { length ends.now ≡ length (script_of script.now).processes }
-    ensures { IsTrue result ↔ AreEnded (script_of script.now) ends.now names.now }
-{
-    let mut first = 0;
+    let mut begun = 0;
     for at in 0..names.len() {
         if names[at] == b',' {
-            if !has_ended_so(script, ends, &names[first..at]) {
-                return false;
+            let name = &names[begun..at];
+            if !is_process(script, name) {
+                return Some(name);
             }
-            first = at + 1;
+            begun = at + 1;
         }
     }
-    has_ended_so(script, ends, &names[first..])
+    let last = &names[begun..];
+    if is_process(script, last) {
+        None
+    } else {
+        Some(last)
+    }
 }
 
 /// Whether the name is one of these, between which commas stand.
@@ -103,10 +88,9 @@ fn is_in(name: &[u8], names: &[u8]) -> bool
     &names[begun..] == name
 }
 
-/// Of each process whether its name is one of these, between which commas stand. A name that no process has counts for
-/// nothing.
-pub fn are_named(alloc: Global, script: &Script, names: &[u8]) -> Result<Vec<bool>, AllocError>
-    ensures { IfOk result (λ named. named.items ≡ are_named (script_of script.now) names.now) }
+/// Of each process whether its name is one of these.
+fn are_in(alloc: Global, script: &Script, names: &[u8]) -> Result<Vec<bool>, AllocError>
+    ensures { IfOk result (λ named. named.items ≡ are_in (script_of script.now) names.now) }
 {
     let mut named = Vec::new(alloc);
     let processes = script.processes();
@@ -114,4 +98,20 @@ pub fn are_named(alloc: Global, script: &Script, names: &[u8]) -> Result<Vec<boo
         named.push(is_in(process.name().as_bytes(), names))?;
     }
     Ok(named)
+}
+
+/// Of each process whether it is one of those that the names stand for: processes' names with commas between, or `all`
+/// alone for all of them. A process that is named `all` is named by `all,all`.
+pub fn named_processes(alloc: Global, script: &Script, names: &str) -> Result<Vec<bool>, NamesFault>
+    ensures named { IfOk result (λ named. Names (script_of script.now) names.now named.items) }
+    ensures fault { IfErr result (Misnames (script_of script.now) names.now) }
+{
+    let bytes = names.as_bytes();
+    if names_all(bytes) {
+        return Ok(vec![in alloc; true; script.processes().len()]?);
+    }
+    match unnamed_in(script, bytes) {
+        Some(name) => Err(NamesFault::Unnamed(String::from_utf8_lossy(alloc, name)?)),
+        None => Ok(are_in(alloc, script, bytes)?),
+    }
 }

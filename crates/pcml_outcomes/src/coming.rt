@@ -7,7 +7,7 @@ ghost use Rattle.pcml_outcomes.specs.Coming.{TellsComing};
 
 use journal_replay::State;
 use journal_text::write_journal;
-use outcomes::next_commits;
+use configurations::next_commits;
 use protocol_values::Commit;
 use script::Script;
 use std::alloc::{AllocError, Global};

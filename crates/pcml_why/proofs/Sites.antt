@@ -4,7 +4,7 @@ use Rattle.std.proofs.lemmas.Bool.{eqb-true, false≢true}
 use Rattle.std.proofs.lemmas.List.{get_or-map, length-map}
 use Rattle.std.proofs.lemmas.Option.{none-some, slice_get-get_or}
 use Rattle.script_tree.specs.Processes.{Proc}
-use Rattle.outcomes.specs.Serving.{nobody_serves}
+use Rattle.configurations.specs.Serving.{nobody_serves}
 use Rattle.protocol_values.specs.declared.Side.{Side}
 use Rattle.protocol_values.specs.declared.Side.TheVariants.{Sends, Receives}
 use Rattle.journal_replay.proofs.Lists.{contains-cases}

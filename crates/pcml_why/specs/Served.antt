@@ -2,7 +2,7 @@
 use Rattle.std.specs.Prelude.{◌≡◌, ◌==◌, ◌&&◌, ℕ, Bool, List, Contains, Option, Some, None}
 use Rattle.std.specs.List.{list_any}
 use Rattle.script_tree.specs.Processes.{Proc}
-use Rattle.outcomes.specs.Serving.{nobody_serves}
+use Rattle.configurations.specs.Serving.{nobody_serves}
 use Rattle.protocol_values.specs.declared.Base.{Base}
 use Rattle.protocol_values.specs.declared.Base.TheVariants.{Send, Recv, Always, OnNack, OnEnd, Never}
 use Rattle.protocol_values.specs.declared.Side.{Side}

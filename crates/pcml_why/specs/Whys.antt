@@ -4,7 +4,7 @@ use Rattle.std.specs.Fmt.{decimal}
 use Rattle.std.specs.List.{flat_map}
 use Rattle.thread_stand.specs.declared.stand.Stand.{Stand}
 use Rattle.script_tree.specs.Processes.{Proc}
-use Rattle.outcomes.specs.Serving.{nobody_serves}
+use Rattle.configurations.specs.Serving.{nobody_serves}
 use Rattle.protocol_values.specs.declared.Base.{Base}
 use Rattle.protocol_values.specs.declared.Base.TheVariants.{Send, Recv, Always, OnNack, OnEnd, Never}
 use Rattle.protocol_values.specs.declared.Commit.{Commit}

@@ -2,12 +2,12 @@
 //! for all offers that wait there.
 
 ghost use Rattle.std.specs.Prelude.{◌≡◌, IfOk, OnOk, map};
-ghost use Rattle.outcomes.specs.Serving.{nobody_serves};
+ghost use Rattle.configurations.specs.Serving.{nobody_serves};
 ghost use Rattle.script_tree.specs.Processes.{proc_of};
 ghost use Rattle.pcml_why.specs.Served.{AreAnswers, is_for, is_offered, partner_of};
 ghost use Rattle.std.specs.List.{list_any};
 
-use outcomes::nobody_serves;
+use configurations::nobody_serves;
 use pcml_why_sites::{Site, is_waiting, offers_on, same_side};
 use protocol_values::{Base, Offer, Side};
 use script_tree::Proc;

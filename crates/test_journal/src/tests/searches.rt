@@ -2,7 +2,8 @@
 
 use super::check_same;
 use journal_replay::{End, replay};
-use outcomes::{Outcomes, find_outcomes, next_commits};
+use configurations::next_commits;
+use outcomes::{Outcomes, find_outcomes};
 use protocol_values::{Atom, Commit, Message, Row};
 use script::parse;
 use std::alloc::Global;

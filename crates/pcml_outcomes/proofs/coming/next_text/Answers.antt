@@ -2,7 +2,7 @@ use Rattle.std.proofs.Common.{List, subst, sym}
 use Rattle.std.specs.List.{AllByRecursion}
 use Rattle.std.proofs.lemmas.Result.{IfOk-weaker}
 use Rattle.script.specs.Scripts.{script_of}
-use Rattle.outcomes.specs.Next.{TellsNext}
+use Rattle.configurations.specs.Next.{TellsNext}
 use Rattle.protocol_values.specs.declared.Commit.{Commit}
 use Rattle.journal_text.specs.Journals.{HasLine, Spells}
 use Rattle.journal_text.specs.Names.{names_of}

@@ -1,7 +1,7 @@
 use Rattle.std.proofs.Common.{List, subst, sym}
 use Rattle.protocol_values.specs.declared.Commit.{Commit}
 use Rattle.journal_replay.specs.Replays.{StandsAfter}
-use Rattle.outcomes.specs.Next.{TellsNext}
+use Rattle.configurations.specs.Next.{TellsNext}
 use Rattle.script.specs.Scripts.{script_of}
 use Rattle.pcml_tool.specs.Replay.{LeadsTo, Reaches}
 use Rattle.pcml_tool.specs.declared.reach.Reached.{Reached}
