@@ -18,7 +18,7 @@ _pcml_options() {
     replay | why | stats) echo --rows --seasons --help ;;
     chart) echo --rows --seasons --from --to --only --help ;;
     next) echo --rows --help ;;
-    outcomes) echo --rows --limit --waiting --journal --of --help ;;
+    outcomes) echo --rows --limit --waiting --need --only --first --journal --of --help ;;
     *) echo --help ;;
   esac
 }
@@ -45,7 +45,7 @@ _pcml() {
     --workers) _pcml_give '1 2 4 8 16' ;;
     --rows) _pcml_give '256 1024' ;;
     --from | --to | --seasons | --limit | --of) ;;
-    --need) _pcml_give all ;;
+    --need | --only) _pcml_give all ;;
     --journal) _pcml_files ;;
     *) _pcml_argument ;;
   esac
@@ -58,7 +58,7 @@ _pcml_argument() {
     return
   fi
   case $command in
-    explain) _pcml_give '1 2 3 4 5 6 7 8 11 12 13 14 15 16 21 22 23 31 32 unset kind range shape waiting spent unstarted journal stamp' ;;
+    explain) _pcml_give '1 2 3 4 5 6 7 8 11 12 13 14 15 16 21 22 23 31 32 unset kind range shape waiting spent unstarted deadlock nack journal stamp tail lawful maximal outcome configuration' ;;
     help) _pcml_give "$commands" ;;
     meet | version) ;;
     *) _pcml_files ;;

@@ -109,7 +109,10 @@ class Player:
 
     def is_met(self, answer, kind, body):
         if kind == "refuses":
-            return answer.status == 2 and answer.out == b"" and answer.err != b""
+            return answer.status == 2 and answer.out == b"" and answer.err != b"" and answer.err.startswith(body.encode())
+        if kind.startswith("warns "):
+            out, _, err = body.removesuffix("\n").rpartition("\n")
+            return (answer.status, answer.out, answer.err) == (int(kind[6:]), f"{out}\n".encode(), f"{err}\n".encode())
         if kind == "tells":
             return (answer.status, answer.err) == (0, b"") and listing(answer.out.decode()) == listing(body)
         streams = (b"", body.encode()) if kind == "fails" else (body.encode(), b"")
@@ -174,6 +177,8 @@ class Player:
         if words[0].isdigit():
             times, words = int(words[0]), words[1:]
         kind, words = words[0], words[1:]
+        if kind == "warns":
+            kind, words = f"warns {words[0]}", words[1:]
         bodies = [it.body for it in [block, *others]]
         if kind in ("file", "text", "more"):
             self.make(kind, words, block.body)

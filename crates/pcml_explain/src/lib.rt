@@ -11,7 +11,8 @@ mod manual;
 mod texts;
 mod words;
 
-/// A word that the program tells of a process, of a fault that it stopped at, or of a run.
+/// A word that the program tells, of a process, of a fault that it stopped at, of a run or of all that a script can come
+/// to, or one that users know such a thing by.
 #[derive(Clone, Copy, Debug, PartialEq, Eq)]
 pub enum Word {
     Unset,
@@ -21,8 +22,15 @@ pub enum Word {
     Waiting,
     Spent,
     Unstarted,
+    Deadlock,
+    Nack,
     Journal,
     Stamp,
+    Tail,
+    Lawful,
+    Maximal,
+    Outcome,
+    Configuration,
 }
 
 impl Word {
@@ -39,8 +47,15 @@ impl Word {
             "waiting" => Some(Word::Waiting),
             "spent" => Some(Word::Spent),
             "unstarted" => Some(Word::Unstarted),
+            "deadlock" => Some(Word::Deadlock),
+            "nack" => Some(Word::Nack),
             "journal" => Some(Word::Journal),
             "stamp" => Some(Word::Stamp),
+            "tail" => Some(Word::Tail),
+            "lawful" => Some(Word::Lawful),
+            "maximal" => Some(Word::Maximal),
+            "outcome" => Some(Word::Outcome),
+            "configuration" => Some(Word::Configuration),
             _ => None,
         }
     }
@@ -99,8 +114,15 @@ fn word_text(word: Word) -> &'static str
         Word::Waiting => words::WAITING,
         Word::Spent => words::SPENT,
         Word::Unstarted => words::UNSTARTED,
+        Word::Deadlock => words::DEADLOCK,
+        Word::Nack => words::NACK,
         Word::Journal => words::JOURNAL,
         Word::Stamp => words::STAMP,
+        Word::Tail => words::TAIL,
+        Word::Lawful => words::LAWFUL,
+        Word::Maximal => words::MAXIMAL,
+        Word::Outcome => words::OUTCOME,
+        Word::Configuration => words::CONFIGURATION,
     }
 }
 

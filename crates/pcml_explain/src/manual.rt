@@ -1,8 +1,7 @@
 //! The manual page, which `docs/manual --write` writes here from `docs/pcml.1`.
 
 /// The page as text of at most 79 columns.
-pub(crate) const PAGE: &str =
-    "PCML(1)                         User commands                         PCML(1)
+pub(crate) const PAGE: &str = "PCML(1)                         User commands                         PCML(1)
 
 NAME
        pcml - run, check and replay scripts of Concurrent ML's first-class
@@ -17,8 +16,8 @@ SYNOPSIS
        pcml chart FILE JOURNAL [--rows G] [--seasons K] [--from S] [--to S]
        [--only NAMES]
        pcml next FILE JOURNAL [--rows G]
-       pcml outcomes FILE [--rows G] [--limit C] [--waiting] [--journal TO
-       [--of K]]
+       pcml outcomes FILE [--rows G] [--limit C] [--waiting] [--need NAMES]
+       [--only NAMES] [--first] [--journal TO [--of K]]
        pcml check FILE
        pcml play FILE
        pcml stats FILE JOURNAL [--rows G] [--seasons K]
@@ -86,11 +85,20 @@ COMMANDS
               there are, how many configurations were seen, and whether that
               is all: whether no run within --rows syncs a process comes to
               anything else. Where a process of some outcome is spent, the
-              last line ends with all within and that number of syncs. A
-              configuration is what the processes have as their results so
-              far. There are many where many processes have little to do with
-              one another, and fewer with fewer rows. In which order outcomes
-              are told is open.
+              last line ends with all within and that number of syncs. In
+              which order outcomes are told is open.
+
+              With --need it is a test that some processes always come to
+              their end: the status is 0 only where they do.
+
+              A configuration is how far each process has come, by what its
+              syncs were given. There are many where many processes have
+              little to do with one another. Where there are more than
+              --limit, the last line ends with cut, and standard error says
+              what helps: a larger --limit; fewer --rows or messages; and,
+              where there are many outcomes, --need or --only.  Where
+              standard error is a terminal, it shows once a second how many
+              were seen and how many are open.
 
        check  Checks the text of a script, and prints how many processes and
               channels it has.
@@ -113,7 +121,8 @@ COMMANDS
               Prints what fault N means, the smallest file that gives it or
               how it comes about, and what to do. N may also be one of the
               words unset, kind, range, shape, waiting, spent, unstarted,
-              journal and stamp.  Without N it lists them all.
+              deadlock, nack, journal, stamp, tail, lawful, maximal, outcome
+              and configuration.  Without N it lists them all.
 
        manual Prints this page.
 
@@ -153,9 +162,11 @@ OPTIONS
               are.
 
        --only NAMES
-              Only the processes of these names, which have commas between,
-              have a column each in the chart; all others share one, headed
-              others.  A name that no process has counts for nothing.
+              Names of processes, as for --need.  Of chart only these have a
+              column each in the chart; all others share one, headed others.
+              Of outcomes only these are told, with those that --need names:
+              how the others end, and what they print, makes no other
+              outcome.
 
        --journal TO
               Writes the lines of the journal to the file TO too, whole or
@@ -178,10 +189,16 @@ OPTIONS
               all.
 
        --waiting
-              Tells only the outcomes in which some process is left waiting.
-              The status is 0 only where there are none, all was seen, and no
-              process of any outcome is spent: of a process that is spent
-              nothing is known.
+              Tells only the outcomes in which some process that is told is
+              left waiting. The status is 0 only where there are none, all
+              was seen, and no process of any outcome is spent: of a process
+              that is spent nothing is known. It cannot tell a server that
+              waits for its next client from a client that is stuck: both
+              wait. Where a script has servers, --need can.
+
+       --first
+              Stops at the first outcome that is told: the last line then
+              ends with first.  Where none is told, it changes nothing.
 
        --quiet
               Prints no journal.
@@ -190,9 +207,23 @@ OPTIONS
               it does, as why does of its journal.
 
        --need NAMES
-              The status is 3 where one of the processes of these names,
-              which have commas between, has not ended, or no process has
-              such a name.  all stands for each process.
+              Processes that have to end. NAMES are names with commas
+              between, or all alone for each process; among others all is the
+              process of that name, so all,all names it. A name that no
+              process has is told on standard error, with status 2, and
+              nothing is run.
+
+              Of run the status is 3 where one of these has not ended.
+
+              Of outcomes only those outcomes are told in which one of these
+              has not ended, by the numbers that they have among all. The
+              status is 3 where one of these is left waiting, has faulted or
+              was never started. Else it is 1 where one of these is spent, or
+              the search was cut: whether it ends is not known then. Else it
+              is 0, and each run within --rows syncs a process brings them to
+              their end.  Name the clients, and not a server that waits for
+              its next client for ever. It does not go together with
+              --waiting.
 
        -h, --help
               Prints the help.
@@ -264,14 +295,15 @@ EXIT STATUS
               run, whose line is on standard output, and after chart on
               standard error; or a text that is no script, of which why tells
               that on standard output; or outcomes of which one leaves a
-              process waiting or spent, or not all are known, with --waiting,
-              or of which none has the number of --of.
+              process waiting or spent, or not all are known, with --waiting
+              or --need, or of which none has the number of --of.
 
-       2      Words that are not understood, and a wish for help: the help is
-              on standard error.
+       2      Words that are not understood, a name that no process has, and
+              a wish for help: what is to be said of it, or the help, is on
+              standard error.
 
-       3      A process that --need names has not ended: all is on standard
-              output.
+       3      A process that --need names has not ended, in the run or in
+              some outcome: all is on standard output.
 
        70     The script ./pcml of the sources has no program to run and
               cannot answer without, or a check of an unproved build found
@@ -297,10 +329,18 @@ EXAMPLES
        pcml run s.pcml --quiet | grep waiting
               Lists the processes that wait in the end.
 
-       pcml outcomes s.pcml --waiting --journal s.journal || pcml why s.pcml
-       s.journal
-              Tests that no run of a script gets stuck within 256 syncs a
-              process, and of one that gets so tells how.
+       pcml outcomes s.pcml --need client_a,client_b || exit 1
+              Tests that these two never get stuck within 256 syncs a
+              process, for a test of one's own.
+
+       pcml outcomes s.pcml --need all --first --journal s.journal || pcml
+       why s.pcml s.journal
+              Tests that every process comes to its end in each run, and of
+              the first outcome where one does not tells why.
+
+       pcml outcomes s.pcml --only judge
+              Tells what a process can print, and how it can end, whatever
+              the others do.
 
        while pcml next s.pcml s.journal | head -n 1 > s.step && test -s
        s.step; do cat s.step >> s.journal; done
@@ -377,5 +417,5 @@ SEE ALSO
        code (ARCHITECTURE.md), what the language means (LANGUAGE.md) and the
        theorems (THEOREMS.md).
 
-Puttolive                         2026-11-27                          PCML(1)
+Puttolive                         2026-11-28                          PCML(1)
 ";

@@ -2,33 +2,40 @@
 
 pub(crate) const CONTENTS: &str = "\
 pcml explain N, or a word of these, tells more:
-  1          memory ran out
-  2          a step of a schedule is not allowed
-  3          a number of rows that is not 1 to 1024
-  4, 5       told no more
-  6          a thread could not be started
-  7          the seasons do not suffice
-  8          a number of seasons that is not 1 to 65535
-  11         a token of a script is none, or stands where it may not
-  12         a name of a script stands for nothing
-  13         a name of a script stands for something already
-  14         a script has more than its limits allow
-  15         a loop of a script does not begin with a sync
-  16         a script is too long
-  21         a line of a journal is not of the form
-  22         a line of a schedule is not of the form
-  23         a journal or a schedule is too long
-  31         a file cannot be read
-  32         an output cannot be written
-  unset      a process read a variable before it was set
-  kind       a process had a value of another kind
-  range      a process came to a number out of range, or to a nack too many
-  shape      a process got a message of another size
-  waiting    a process stands in a sync that nobody takes
-  spent      a process made as many syncs as it may
-  unstarted  a process was not spawned
-  journal    what a run's lines say
-  stamp      the number that a line begins with
+  1              memory ran out
+  2              a step of a schedule is not allowed
+  3              a number of rows that is not 1 to 1024
+  4, 5           told no more
+  6              a thread could not be started
+  7              the seasons do not suffice
+  8              a number of seasons that is not 1 to 65535
+  11             a token of a script is none, or stands where it may not
+  12             a name of a script stands for nothing
+  13             a name of a script stands for something already
+  14             a script has more than its limits allow
+  15             a loop of a script does not begin with a sync
+  16             a script is too long
+  21             a line of a journal is not of the form
+  22             a line of a schedule is not of the form
+  23             a journal or a schedule is too long
+  31             a file cannot be read
+  32             an output cannot be written
+  unset          a process read a variable before it was set
+  kind           a process had a value of another kind
+  range          a process came to a number out of range, or to a nack too many
+  shape          a process got a message of another size
+  waiting        a process stands in a sync that nobody takes
+  spent          a process made as many syncs as it may
+  unstarted      a process was not spawned
+  deadlock       processes wait for one another
+  nack           what tells others that a sync took something else
+  journal        what a run's lines say
+  stamp          the number that a line begins with
+  tail           the commits of a run that its workers left
+  lawful         a journal is a run of the script
+  maximal        no commit may come next
+  outcome        how all processes end, and what they print
+  configuration  how far the processes have come
 ";
 
 pub(crate) const MEMORY: &str = "\

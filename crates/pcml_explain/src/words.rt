@@ -38,7 +38,7 @@ comes about: also in a script that is as it should be, as a server that nobody a
 example: pcml run FILE tells a waiting, where FILE is
   channel c; process a { sync send c (1); }
 what to do: pcml why FILE JOURNAL tells where it waits, for what, and who waits for one another; pcml outcomes
-FILE --waiting whether any run comes to it.
+FILE --need NAMES whether any run keeps one of these from its end.
 ";
 
 pub(crate) const SPENT: &str = "\
@@ -55,6 +55,28 @@ comes about: where the process with the `spawn` did not come there. It printed n
 example: pcml run FILE tells kid unstarted, where FILE is
   channel c; process kid { print 1; } process a { sync recv c; spawn kid; }
 what to do: look at where the process stands that is to spawn it.
+";
+
+pub(crate) const DEADLOCK: &str = "\
+deadlock: processes wait for one another, and none of them goes on
+comes about: where each of them stands in a sync that only another one of them could take.
+example: pcml run FILE --why tells waiting for one another: a b, where FILE is
+  channel c; channel d;
+  process a { sync send c (1); sync recv d; }
+  process b { sync send d (2); sync recv c; }
+what to do: look at the lines that it tells behind that. pcml outcomes FILE --need a,b tells whether any run keeps
+one of the two from its end: the status is then 3, and --journal TO keeps such a run.
+";
+
+pub(crate) const NACK: &str = "\
+nack: what tells others that a sync took something else
+comes about: where `nack n { .. } E` is offered, n is set to a new nack, which a process can send to others. It is
+enabled once the sync takes what is not in E, and stays so: `cancelled n` may be taken then, by anybody.
+example: pcml run FILE tells b ended 1, since a takes the always, where FILE is
+  channel c;
+  process a { sync choose [nack n { sync send c (n); } never, always ()]; }
+  process b { n <- sync recv c; sync cancelled n; print 1; }
+what to do: offer `cancelled n` beside the answer to a request. A process makes at most 64 nacks.
 ";
 
 pub(crate) const JOURNAL: &str = "\
@@ -74,4 +96,52 @@ comes about: it is one more than the greatest of the lines that had to come befo
 of what spawned them, of what enabled its nack, and of the process whose end it takes. So lines of one stamp
 may have happened side by side, and the greatest stamp is how many had to follow one another.
 what to do: pcml chart draws a journal by its stamps.
+";
+
+pub(crate) const TAIL: &str = "\
+tail: how many commits of a run its workers left, and were added at its end
+comes about: the last line of pcml run is commits N tail M: the workers made N - M of the N commits.
+what to do: nothing. The run is whole, and its journal has all N lines. In all tests M is 0.
+";
+
+pub(crate) const LAWFUL: &str = "\
+lawful: the lines of a journal are a run of the script
+comes about: pcml replay tells lawful N maximal or lawful N open, of N lines. Each is then a commit that may come where
+those before it lead, with its stamp. Else it tells unlawful at line L: the lines before that are a run.
+example: pcml replay FILE JOURNAL tells unlawful at line 2, where FILE is
+  process a { sync always (); }
+and JOURNAL is
+  1 a.0.0 always ()
+  2 a.1.0 always ()
+what to do: pcml why FILE JOURNAL tells what of line L is wrong.
+";
+
+pub(crate) const MAXIMAL: &str = "\
+maximal: no commit may come next
+comes about: pcml replay tells lawful N maximal of a run behind which none may come, of as many syncs a process as
+--rows says, and lawful N open of another. What pcml run prints is maximal.
+example: pcml replay FILE JOURNAL tells lawful 1 maximal, where FILE is
+  process a { sync always (); }
+and JOURNAL is
+  1 a.0.0 always ()
+what to do: where it is open, pcml next FILE JOURNAL tells which commits may come next.
+";
+
+pub(crate) const OUTCOME: &str = "\
+outcome: how each process ends and what it prints, at the end of a maximal run
+comes about: where several events may be taken, a run takes one of them. So a script can have several outcomes, and
+a run shows one.
+example: pcml outcomes FILE tells two, where FILE is
+  process a { x <- sync choose [always (1), always (2)]; print x; }
+what to do: pcml outcomes FILE tells all of them, with --only NAMES by these processes alone, and with --need NAMES
+those alone in which one of these has not ended.
+";
+
+pub(crate) const CONFIGURATION: &str = "\
+configuration: how far each process has come, by what each of its syncs was given
+comes about: pcml outcomes goes from one to the next, and its last line tells how many it saw. Where there are more
+than --limit allows, that line ends with cut.
+example: pcml outcomes FILE tells configurations 3, where FILE is
+  process a { x <- sync choose [always (1), always (2)]; print x; }
+what to do: where it ends with cut, allow more by --limit, at most 4194304, or have fewer by fewer --rows or messages.
 ";

@@ -4,17 +4,17 @@ use crate::arguments::{
     arguments_of_journal, file_argument, flag_argument, kept_argument, limit_argument, of_argument,
     optional_file_argument, rows_argument, seasons_argument, stamp_argument,
 };
-use crate::request::{Request, Running, Search};
+use crate::request::{Request, Running, Search, Wanted};
 use clap::{Arg, ArgAction, ArgMatches, Command, value_parser};
 use pcml_explain::{Topic, Word};
 use std::alloc::{AllocError, Global};
 
-fn need_argument<'a>(alloc: Global) -> Arg<'a> {
+fn need_argument<'a>(alloc: Global, help: &'a str) -> Arg<'a> {
     Arg::new(alloc, "need")
         .long("need")
         .action(ArgAction::Set)
         .value_name("NAMES")
-        .help("Processes that have to end, with commas between, or all: else the status is 3")
+        .help(help)
 }
 
 fn run_command<'a>(alloc: Global) -> Result<Command<'a>, AllocError> {
@@ -38,7 +38,10 @@ fn run_command<'a>(alloc: Global) -> Result<Command<'a>, AllocError> {
             "why",
             "Tells why each process stands where it does, too"
         ),
-        need_argument(alloc),
+        need_argument(
+            alloc,
+            "Processes that have to end, with commas between, or all: else the status is 3"
+        ),
     ]?;
     Command::new(alloc, "run")
         .about("Runs the processes of a script")
@@ -99,19 +102,22 @@ fn why_request<'a>(why: &ArgMatches<'a>) -> Option<Request<'a>> {
     })
 }
 
-fn only_argument<'a>(alloc: Global) -> Arg<'a> {
+fn only_argument<'a>(alloc: Global, help: &'a str) -> Arg<'a> {
     Arg::new(alloc, "only")
         .long("only")
         .action(ArgAction::Set)
         .value_name("NAMES")
-        .help("Processes with a column each, with commas between: the others share one")
+        .help(help)
 }
 
 fn chart_command<'a>(alloc: Global) -> Result<Command<'a>, AllocError> {
     let mut arguments = arguments_of_journal(alloc)?;
     arguments.push(stamp_argument(alloc, "from", "1", "The first stamp that is drawn"))?;
     arguments.push(stamp_argument(alloc, "to", "4294967295", "The last stamp that is drawn"))?;
-    arguments.push(only_argument(alloc))?;
+    arguments.push(only_argument(
+        alloc,
+        "Processes with a column each, with commas between, or all: the others share one",
+    ))?;
     Command::new(alloc, "chart")
         .about("Draws a journal as a chart (SVG)")
         .args(arguments)
@@ -149,15 +155,25 @@ fn replay_request<'a>(replay: &ArgMatches<'a>) -> Option<Request<'a>> {
 
 fn outcomes_command<'a>(alloc: Global) -> Result<Command<'a>, AllocError> {
     let file = file_argument(alloc, "file", "FILE", "The script");
+    let waiting = flag_argument(
+        alloc,
+        "waiting",
+        "Prints only what leaves a process waiting",
+    );
     let arguments = vec![in alloc;
         file,
         rows_argument(alloc),
         limit_argument(alloc),
-        flag_argument(
+        waiting.conflicts_with("need")?,
+        need_argument(
             alloc,
-            "waiting",
-            "Prints only what leaves a process waiting"
+            "Processes that have to end, with commas between, or all: prints only what keeps one from it"
         ),
+        only_argument(
+            alloc,
+            "Processes that are told, with commas between, or all: the others make no other outcome"
+        ),
+        flag_argument(alloc, "first", "Stops at the first outcome that is printed"),
         kept_argument(alloc, "Writes a journal that leads to an outcome to a file"),
         of_argument(alloc)?,
     ]?;
@@ -166,13 +182,24 @@ fn outcomes_command<'a>(alloc: Global) -> Result<Command<'a>, AllocError> {
         .args(arguments)
 }
 
+/// Which outcomes the words behind `outcomes` want.
+fn wanted_of<'a>(outcomes: &ArgMatches<'a>) -> Wanted<'a> {
+    match outcomes.get_str("need") {
+        Some(names) => Wanted::Lacking(names),
+        None if outcomes.get_flag("waiting") => Wanted::Waiting,
+        None => Wanted::Each,
+    }
+}
+
 /// The request of `outcomes`, by the words behind it.
 fn outcomes_request<'a>(outcomes: &ArgMatches<'a>) -> Option<Request<'a>> {
     Some(Request::Outcomes(Search {
         script: outcomes.get_str("file")?,
         rows: outcomes.get_one("rows")?,
         limit: outcomes.get_one("limit")?,
-        waiting: outcomes.get_flag("waiting"),
+        wanted: wanted_of(outcomes),
+        only: outcomes.get_str("only"),
+        first: outcomes.get_flag("first"),
         journal: outcomes.get_str("journal"),
         of: outcomes.get_one("of"),
     }))

@@ -2,16 +2,28 @@
 
 use pcml_explain::Topic;
 
+/// Which outcomes are to be told: each, those in which some named process is left waiting, or those in which one of the
+/// processes of these names (separated by commas, or `all`) has not ended.
+#[derive(Clone, Copy, Debug)]
+pub enum Wanted<'a> {
+    Each,
+    Waiting,
+    Lacking(&'a str),
+}
+
 /// What is to be found of all that the script in a file can come to, of so many rows a process, where at most so
-/// many configurations are seen: each outcome, or where it is `waiting` those in which some process is left
-/// waiting. The journal that leads to one of them goes to a file, where one is named: to the one of the number
-/// `of`, from 1, and else to the first that is told.
+/// many configurations are seen: the outcomes that are wanted, or where it is asked the first of them alone. Where
+/// names are given (separated by commas, or `all`), only the processes of these names, and those that are wanted to
+/// end, make one outcome another, and are told. The journal that leads to one of them goes to a file, where one is
+/// named: to the one of the number `of`, from 1, and else to the first that is told.
 #[derive(Clone, Copy, Debug)]
 pub struct Search<'a> {
     pub script: &'a str,
     pub rows: u16,
     pub limit: u32,
-    pub waiting: bool,
+    pub wanted: Wanted<'a>,
+    pub only: Option<&'a str>,
+    pub first: bool,
     pub journal: Option<&'a str>,
     pub of: Option<u32>,
 }
@@ -50,8 +62,8 @@ pub enum Request<'a> {
     /// Why the text in the file of this name is no script.
     WhyScript(&'a str),
     /// The chart of the journal in a file, against the script in another, of so many rows a process in each
-    /// season: the commits with a stamp from one to another. Where names are given (separated by commas), only the
-    /// processes of these names have columns of their own, and all others share one.
+    /// season: the commits with a stamp from one to another. Where names are given (separated by commas, or `all`),
+    /// only the processes of these names have columns of their own, and all others share one.
     Chart {
         script: &'a str,
         journal: &'a str,

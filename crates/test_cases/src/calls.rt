@@ -30,8 +30,18 @@ pub(crate) enum Wanted {
     Lacks,
     /// A journal that is no run.
     Unlawful,
-    /// Words that are not understood, with whatever text.
+    /// Words that are not understood, or name what is not there, with a text that begins so.
     Refuses,
+    /// With this status, and its last line on the error stream.
+    Warns(u8),
+}
+
+/// Whether what a stream got is this text and a line end.
+fn is_line(found: &[u8], text: &str) -> bool {
+    match str::from_utf8(found).unwrap_or("").strip_suffix("\n") {
+        Some(found) => found == text,
+        None => false,
+    }
 }
 
 /// What a listing of outcomes tells: the lines of each, sorted, how many there are, and whether that is all, and within
@@ -89,7 +99,18 @@ impl Outcome {
             Wanted::Lacks => (3, text, ""),
             Wanted::Fails => (1, "", text),
             Wanted::Refuses => {
-                return self.status == 2 && self.out.is_empty() && !self.err.is_empty();
+                let err = str::from_utf8(self.err.as_slice()).unwrap_or("");
+                return self.status == 2
+                    && self.out.is_empty()
+                    && !err.is_empty()
+                    && err.starts_with(text);
+            }
+            Wanted::Warns(status) => {
+                let text = text.strip_suffix("\n").unwrap_or(text);
+                let (out, err) = text.rsplit_once('\n').unwrap_or(("", text));
+                return self.status == status
+                    && is_line(self.out.as_slice(), out)
+                    && is_line(self.err.as_slice(), err);
             }
         };
         self.status == status

@@ -247,6 +247,21 @@ impl<'a, R: AllocGlobal + Files + Input + Threads + Wait + Sync> Player<'a, R> {
         Ok(())
     }
 
+    /// Makes the call, whose status is that of the word, and which tells the last line of the block's text on the error
+    /// stream.
+    fn check_warning(
+        &mut self,
+        status: &str,
+        words: &[&str],
+        block: &Block<'_>,
+        others: &[Block<'_>],
+    ) -> Result<()> {
+        let Ok(status) = status.parse::<u8>() else {
+            bail!("no such status: {status}");
+        };
+        self.check(words, Wanted::Warns(status), block, others)
+    }
+
     /// Does once what the words of a block say, with the other answers behind it that will do.
     fn play_words<'w, 'b>(
         &mut self,
@@ -271,6 +286,7 @@ impl<'a, R: AllocGlobal + Files + Input + Threads + Wait + Sync> Player<'a, R> {
             ["lacks", call @ ..] => self.check(call, Wanted::Lacks, block, others),
             ["fails", call @ ..] => self.check(call, Wanted::Fails, block, others),
             ["refuses", call @ ..] => self.check(call, Wanted::Refuses, block, others),
+            ["warns", status, call @ ..] => self.check_warning(status, call, block, others),
             ["runs", script, more @ ..] => {
                 let mut all = vec![in self.rt.alloc(); *block]?;
                 all.extend_from_slice(others)?;
