@@ -3,8 +3,9 @@ use Rattle.std.proofs.Common.{◌≡◌, ℕ, ◌-◌, Bool, List, slice_get, Op
 use Rattle.std.specs.List.{position_or_len}
 use Rattle.std.proofs.lemmas.List.Folds.{find_at}
 use Rattle.outcomes.specs.declared.Outcome.{Outcome}
+use Rattle.outcomes.specs.declared.asked.Asked.{Asked}
 use Rattle.pcml_outcomes.specs.Told.{asked_for, is_shown}
 
-pub asked-in : (of : Option ℕ) (waiting : Bool) (outcomes : List Outcome) (o : Outcome) → asked_for of waiting outcomes ≡ Some o → (k : ℕ) × (slice_get outcomes k ≡ Some o)
-asked-in (Some number) waiting outcomes o is = (number - 1, is)
-asked-in None waiting outcomes o is = (position_or_len (is_shown waiting) outcomes, sym (find_at (is_shown waiting) outcomes) ∙ is)
+pub asked-in : (of : Option ℕ) (asked : Asked) (outcomes : List Outcome) (o : Outcome) → asked_for of asked outcomes ≡ Some o → (k : ℕ) × (slice_get outcomes k ≡ Some o)
+asked-in (Some number) asked outcomes o is = (number - 1, is)
+asked-in None asked outcomes o is = (position_or_len (is_shown asked) outcomes, sym (find_at (is_shown asked) outcomes) ∙ is)

@@ -1,13 +1,14 @@
 -- Lines of processes, one after another.
-use Rattle.std.proofs.Common.{◌≡◌, ℕ, suc, ◌+◌, List, [], ◌∷◌, ◌++◌, length, map, slice_get, Some, Result, Ok, Err, is_ok, if◌then◌else◌, append_assoc, refl, sym, ap, ◌∙◌, arith}
+use Rattle.std.proofs.Common.{◌≡◌, ℕ, zero, suc, ◌+◌, Bool, true, false, drop, List, [], ◌∷◌, ◌++◌, length, map, slice_get, Some, Result, Ok, Err, is_ok, if◌then◌else◌, append_assoc, refl, sym, ap, ◌∙◌, arith}
 use Rattle.std.specs.Prelude.{OnOk}
 use Rattle.std.specs.List.{enumerate_from, zip}
 use Rattle.std.proofs.lemmas.List.{flat_map_more}
-use Rattle.std.proofs.lemmas.Option.{same_Some}
+use Rattle.std.proofs.lemmas.Option.{none-some, same_Some}
 use Rattle.protocol_values.specs.declared.Atom.{Atom}
 use Rattle.journal_text.specs.Names.{Naming}
 use Rattle.journal_replay.specs.declared.end.End.{End}
 use Rattle.journal_replay.proofs.Telling.{HoldsOf, holds-more}
+use Rattle.outcomes.specs.Asking.{marked}
 use Rattle.pcml_outcomes.specs.Standings.{Standing, TellsStandings, process_line, process_lines, standings}
 
 -- the lines of the first so many, of each of which P holds by its number
@@ -24,31 +25,45 @@ one_line names P n text more p (standing, holds, is) told grown = (
   grown ∙ ap (λ (l : List ℕ). l ++ process_line names p) is ∙ flat_map_more (process_line names) [] standing p,
 )
 
--- THE PROCESSES BY THEIR ENDS AND OUTPUTS
+-- THOSE THAT ARE MARKED, from a place on
 
-are_from : (n : ℕ) (ends : List End) (outputs : List (List Atom)) (standing : List Standing) → length standing ≡ length ends → length outputs ≡ length ends
-    → ((k : ℕ) (p : Standing) → slice_get standing k ≡ Some p → (p.thread ≡ n + k) × (slice_get ends k ≡ Some p.end) × (slice_get outputs k ≡ Some p.printed))
-    → standing ≡ map (λ p. record { thread = p.0; end = p.1.0; printed = p.1.1 }) (enumerate_from n (zip ends outputs))
-are_from n [] outputs [] count same each = refl
-are_from n [] outputs (p ∷ standing) count same each = absurd (omega (arith, count))
-are_from n (end ∷ ends) outputs [] count same each = absurd (omega (arith, count))
-are_from n (end ∷ ends) [] (p ∷ standing) count same each = absurd (omega (arith, same))
-are_from n (end ∷ ends) (printed ∷ outputs) (p ∷ standing) count same each =
-    let first = each 0 p refl in
-    let thread : p.thread ≡ n = first.0 ∙ omega arith in
-    let is : p ≡ record { thread = n; end = end; printed = printed } =
-    λ i. record { thread = thread i; end = same_Some p.end end (sym first.1) i; printed = same_Some p.printed printed (sym first.2) i } in
-    let rest = are_from (n + 1) ends outputs standing (omega (arith, count)) (omega (arith, same))
-    (λ k q at. let h = each (suc k) q at in (h.0 ∙ omega arith, h.1, h.2)) in
-    λ i. is i ∷ rest i
+abbrev standings_from : ℕ → List End → List (List Atom) → List Standing
+standings_from n ends outputs = map (λ p. record { thread = p.0; end = p.1.0; printed = p.1.1 }) (enumerate_from n (zip ends outputs))
 
--- the lines of processes are those of their ends and outputs
-pub are_standings : (names : Naming) (ends : List End) (outputs : List (List Atom)) (text : List ℕ) → length outputs ≡ length ends → TellsStandings names ends outputs text → text ≡ process_lines names (standings ends outputs)
-are_standings names ends outputs text same told =
-    told.is
-    ∙ ap (process_lines names) (are_from 0 ends outputs told.standing told.are.count same (λ k p is. let h = told.are.each k p is in (h.0 ∙ omega arith, h.1, h.2)))
+suc-more : (k : ℕ) → suc k + 1 ≡ suc (k + 1)
+suc-more k = omega arith
 
--- two texts behind one another
-pub two_added : {T E : Type 0} (r : Result T E) (old first new text more : List ℕ) → first ≡ old ++ text → new ≡ (if is_ok r then first ++ more else first) → OnOk r (new ≡ old ++ (text ++ more))
-two_added (Ok v) old first new text more one two = two ∙ ap (λ (l : List ℕ). l ++ more) one ∙ append_assoc old text more
-two_added (Err e) old first new text more one two = tt
+drop-mark : (marks : List Bool) (k : ℕ) (m : Bool) → slice_get marks k ≡ Some m → drop k marks ≡ m ∷ drop (k + 1) marks
+drop-mark [] k m is = absurd (none-some m is)
+drop-mark (n ∷ marks) zero m is = λ i. same_Some n m is i ∷ marks
+drop-mark (n ∷ marks) (suc k) m is = drop-mark marks k m is ∙ ap (λ (j : ℕ). m ∷ drop j (n ∷ marks)) (sym (suc-more k))
+
+drop-standing : (n : ℕ) (ends : List End) (outputs : List (List Atom)) (k : ℕ) (e : End) (o : List Atom) → slice_get ends k ≡ Some e → slice_get outputs k ≡ Some o →
+    drop k (standings_from n ends outputs) ≡ record { thread = n + k; end = e; printed = o } ∷ drop (k + 1) (standings_from n ends outputs)
+drop-standing n [] outputs k e o is out = absurd (none-some e is)
+drop-standing n (f ∷ ends) [] k e o is out = absurd (none-some o out)
+drop-standing n (f ∷ ends) (p ∷ outputs) zero e o is out =
+    let same : n ≡ n + 0 = omega arith in
+    λ i. record { thread = same i; end = same_Some f e is i; printed = same_Some p o out i } ∷ standings_from (n + 1) ends outputs
+drop-standing n (f ∷ ends) (p ∷ outputs) (suc k) e o is out =
+    let place : n + 1 + k ≡ n + suc k = omega arith in
+    let less : suc (k + 1) ≡ suc k + 1 = omega arith in
+    drop-standing (n + 1) ends outputs k e o is out ∙ (λ i. record { thread = place i; end = e; printed = o } ∷ drop (less i) (standings_from n (f ∷ ends) (p ∷ outputs)))
+
+one-marked : (names : Naming) (m : Bool) (marks : List Bool) (p : Standing) (all : List Standing) → process_lines names (marked (m ∷ marks) (p ∷ all)) ≡ (if m then process_line names p else []) ++ process_lines names (marked marks all)
+one-marked names true marks p all = refl
+one-marked names false marks p all = refl
+
+-- the line of the process at a place, where it is marked, and those behind it
+pub marked-from : (names : Naming) (marks : List Bool) (ends : List End) (outputs : List (List Atom)) (k : ℕ) (m : Bool) (e : End) (o : List Atom) → slice_get marks k ≡ Some m → slice_get ends k ≡ Some e → slice_get outputs k ≡ Some o →
+    process_lines names (marked (drop k marks) (drop k (standings ends outputs)))
+    ≡ (if m then process_line names (record { thread = k; end = e; printed = o }) else []) ++ process_lines names (marked (drop (k + 1) marks) (drop (k + 1) (standings ends outputs)))
+marked-from names marks ends outputs k m e o mark is out =
+    (λ i. process_lines names (marked (drop-mark marks k m mark i) (drop-standing 0 ends outputs k e o is out i)))
+    ∙ one-marked names m (drop (k + 1) marks) (record { thread = 0 + k; end = e; printed = o }) (drop (k + 1) (standings ends outputs))
+    ∙ ap (λ (t : ℕ). (if m then process_line names (record { thread = t; end = e; printed = o }) else []) ++ process_lines names (marked (drop (k + 1) marks) (drop (k + 1) (standings ends outputs)))) (omega arith)
+
+-- a text behind what was added
+pub added-behind : {T E : Type 0} (r : Result T E) (old first new text more : List ℕ) → first ≡ old ++ text → OnOk r (new ≡ first ++ more) → OnOk r (new ≡ old ++ (text ++ more))
+added-behind (Ok v) old first new text more one two = two ∙ ap (λ (l : List ℕ). l ++ more) one ∙ append_assoc old text more
+added-behind (Err e) old first new text more one two = tt

@@ -7,6 +7,7 @@ use Rattle.std.proofs.lemmas.List.{append-nil, length-take-le, take-append-drop}
 use Rattle.std.proofs.lemmas.List.Elements.{filter-append}
 use Rattle.std.proofs.lemmas.List.Folds.{find-append}
 use Rattle.outcomes.specs.declared.Outcome.{Outcome}
+use Rattle.outcomes.specs.declared.asked.Asked.{Asked}
 use Rattle.pcml_outcomes.specs.Told.{is_shown, shown}
 
 numbered-more : {A : Type 0} (n : ℕ) (xs : List A) (x : A) → enumerate_from n (xs ++ x ∷ []) ≡ enumerate_from n xs ++ (n + length xs, x) ∷ []
@@ -18,39 +19,39 @@ pub taken-more : (xs : List Outcome) (k : ℕ) (o : Outcome) → k < length xs �
 taken-more xs k o within is = ap (λ (n : ℕ). take n xs) (add-one k) ∙ take-suc xs k o within ∙ ap (λ (p : Outcome). take k xs ++ p ∷ []) (sym is)
 
 -- one outcome more, with its number where it is told
-shown-more : (waiting : Bool) (xs : List Outcome) (k : ℕ) (o : Outcome) → k < length xs → o ≡ get_or xs k o
-    → shown waiting (take (k + 1) xs) ≡ shown waiting (take k xs) ++ (if is_shown waiting o then (k + 1, o) ∷ [] else [])
-shown-more waiting xs k o within is =
-    let test = λ (n : ℕ × Outcome). is_shown waiting n.1 in
+shown-more : (asked : Asked) (xs : List Outcome) (k : ℕ) (o : Outcome) → k < length xs → o ≡ get_or xs k o
+    → shown asked (take (k + 1) xs) ≡ shown asked (take k xs) ++ (if is_shown asked o then (k + 1, o) ∷ [] else [])
+shown-more asked xs k o within is =
+    let test = λ (n : ℕ × Outcome). is_shown asked n.1 in
     let number : 1 + length (take k xs) ≡ k + 1 = ap (λ (n : ℕ). 1 + n) (length-take-le k xs (omega (arith, within))) ∙ omega arith in
-    ap (shown waiting) (taken-more xs k o within is)
+    ap (shown asked) (taken-more xs k o within is)
     ∙ ap (filter test) (numbered-more 1 (take k xs) o)
     ∙ filter-append test (enumerate_from 1 (take k xs)) ((1 + length (take k xs), o) ∷ [])
-    ∙ ap (λ (m : ℕ). shown waiting (take k xs) ++ (if is_shown waiting o then (m, o) ∷ [] else [])) number
+    ∙ ap (λ (m : ℕ). shown asked (take k xs) ++ (if is_shown asked o then (m, o) ∷ [] else [])) number
 
-pub shown-told : (waiting : Bool) (xs : List Outcome) (k : ℕ) (o : Outcome) → k < length xs → o ≡ get_or xs k o → is_shown waiting o ≡ true → shown waiting (take (k + 1) xs) ≡ shown waiting (take k xs) ++ (k + 1, o) ∷ []
-shown-told waiting xs k o within is told =
-    shown-more waiting xs k o within is ∙ ap (λ (b : Bool). shown waiting (take k xs) ++ (if b then (k + 1, o) ∷ [] else [])) told
+pub shown-told : (asked : Asked) (xs : List Outcome) (k : ℕ) (o : Outcome) → k < length xs → o ≡ get_or xs k o → is_shown asked o ≡ true → shown asked (take (k + 1) xs) ≡ shown asked (take k xs) ++ (k + 1, o) ∷ []
+shown-told asked xs k o within is told =
+    shown-more asked xs k o within is ∙ ap (λ (b : Bool). shown asked (take k xs) ++ (if b then (k + 1, o) ∷ [] else [])) told
 
-pub shown-hidden : (waiting : Bool) (xs : List Outcome) (k : ℕ) (o : Outcome) → k < length xs → o ≡ get_or xs k o → is_shown waiting o ≡ false → shown waiting (take (k + 1) xs) ≡ shown waiting (take k xs)
-shown-hidden waiting xs k o within is hidden =
-    shown-more waiting xs k o within is
-    ∙ ap (λ (b : Bool). shown waiting (take k xs) ++ (if b then (k + 1, o) ∷ [] else [])) hidden
-    ∙ append-nil (shown waiting (take k xs))
+pub shown-hidden : (asked : Asked) (xs : List Outcome) (k : ℕ) (o : Outcome) → k < length xs → o ≡ get_or xs k o → is_shown asked o ≡ false → shown asked (take (k + 1) xs) ≡ shown asked (take k xs)
+shown-hidden asked xs k o within is hidden =
+    shown-more asked xs k o within is
+    ∙ ap (λ (b : Bool). shown asked (take k xs) ++ (if b then (k + 1, o) ∷ [] else [])) hidden
+    ∙ append-nil (shown asked (take k xs))
 
 -- where the first ones are not told, one more
-pub first-more : (waiting : Bool) (xs : List Outcome) (k : ℕ) (o : Outcome) → k < length xs → o ≡ get_or xs k o → find (is_shown waiting) (take k xs) ≡ None → is_shown waiting o ≡ false
-    → find (is_shown waiting) (take (k + 1) xs) ≡ None
-first-more waiting xs k o within is none hidden =
-    ap (find (is_shown waiting)) (taken-more xs k o within is)
-    ∙ find-append (is_shown waiting) (take k xs) (o ∷ [])
+pub first-more : (asked : Asked) (xs : List Outcome) (k : ℕ) (o : Outcome) → k < length xs → o ≡ get_or xs k o → find (is_shown asked) (take k xs) ≡ None → is_shown asked o ≡ false
+    → find (is_shown asked) (take (k + 1) xs) ≡ None
+first-more asked xs k o within is none hidden =
+    ap (find (is_shown asked)) (taken-more xs k o within is)
+    ∙ find-append (is_shown asked) (take k xs) (o ∷ [])
     ∙ (λ i. option_or (none i) (if hidden i then Some o else None))
 
 -- and where it is told, it is the first of all
-pub first-here : (waiting : Bool) (xs : List Outcome) (k : ℕ) (o : Outcome) → k < length xs → o ≡ get_or xs k o → find (is_shown waiting) (take k xs) ≡ None → is_shown waiting o ≡ true
-    → find (is_shown waiting) xs ≡ Some o
-first-here waiting xs k o within is none told =
+pub first-here : (asked : Asked) (xs : List Outcome) (k : ℕ) (o : Outcome) → k < length xs → o ≡ get_or xs k o → find (is_shown asked) (take k xs) ≡ None → is_shown asked o ≡ true
+    → find (is_shown asked) xs ≡ Some o
+first-here asked xs k o within is none told =
     let rest = drop (k + 1) xs in
-    ap (find (is_shown waiting)) (sym (take-append-drop (k + 1) xs) ∙ ap (λ (l : List Outcome). l ++ rest) (taken-more xs k o within is))
-    ∙ find-append (is_shown waiting) (take k xs ++ o ∷ []) rest
-    ∙ ap (λ (f : Option Outcome). option_or f (find (is_shown waiting) rest)) (find-append (is_shown waiting) (take k xs) (o ∷ []) ∙ (λ i. option_or (none i) (if told i then Some o else None)))
+    ap (find (is_shown asked)) (sym (take-append-drop (k + 1) xs) ∙ ap (λ (l : List Outcome). l ++ rest) (taken-more xs k o within is))
+    ∙ find-append (is_shown asked) (take k xs ++ o ∷ []) rest
+    ∙ ap (λ (f : Option Outcome). option_or f (find (is_shown asked) rest)) (find-append (is_shown asked) (take k xs) (o ∷ []) ∙ (λ i. option_or (none i) (if told i then Some o else None)))

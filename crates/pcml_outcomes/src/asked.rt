@@ -8,16 +8,16 @@ ghost use Rattle.pcml_outcomes.specs.Told.{HaveLines, IsNumber, SpellsAsked, ask
 
 use crate::shown::is_shown;
 use journal_text::write_journal;
-use outcomes::Outcome;
+use outcomes::{Asked, Outcome};
 use script::Script;
 use std::alloc::{AllocError, Global};
 
-fn first_shown(outcomes: &[Outcome], waiting: bool) -> Option<&Outcome>
-    ensures { option_copied result ≡ find (is_shown waiting) outcomes.now }
+fn first_shown<'a>(outcomes: &'a [Outcome], asked: &Asked) -> Option<&'a Outcome>
+    ensures { option_copied result ≡ find (is_shown asked.now) outcomes.now }
 {
     for index in 0..outcomes.len() {
         let outcome = &outcomes[index];
-        if is_shown(outcome, waiting) {
+        if is_shown(outcome, asked) {
             return Some(outcome);
         }
     }
@@ -25,13 +25,13 @@ fn first_shown(outcomes: &[Outcome], waiting: bool) -> Option<&Outcome>
 }
 
 /// The outcome of this number, from 1, or where none is named the first that is told.
-fn asked_for(outcomes: &[Outcome], waiting: bool, of: Option<u32>) -> Option<&Outcome>
+fn asked_for<'a>(outcomes: &'a [Outcome], asked: &Asked, of: Option<u32>) -> Option<&'a Outcome>
     requires { IsNumber of }
-    ensures { option_copied result ≡ asked_for of waiting outcomes.now }
+    ensures { option_copied result ≡ asked_for of asked.now outcomes.now }
 {
     match of {
         Some(number) => outcomes.get(number as usize - 1),
-        None => first_shown(outcomes, waiting),
+        None => first_shown(outcomes, asked),
     }
 }
 
@@ -40,14 +40,14 @@ pub(crate) fn journal_asked(
     alloc: Global,
     script: &Script,
     outcomes: &[Outcome],
-    waiting: bool,
+    asked: &Asked,
     of: Option<u32>,
 ) -> Result<Option<Vec<u8>>, AllocError>
     requires lines { HaveLines (script_of script.now) outcomes.now }
     requires number { IsNumber of }
-    ensures { IfOk result (λ text. SpellsAsked (script_of script.now) (asked_for of waiting outcomes.now) (bytes_of text)) }
+    ensures { IfOk result (λ text. SpellsAsked (script_of script.now) (asked_for of asked.now outcomes.now) (bytes_of text)) }
 {
-    match asked_for(outcomes, waiting, of) {
+    match asked_for(outcomes, asked, of) {
         Some(outcome) => {
             let text = write_journal(alloc, script, outcome.journal.as_slice())?;
             Ok(Some(text))

@@ -5,9 +5,9 @@ ghost use Rattle.script.specs.Scripts.{script_of};
 ghost use Rattle.journal_replay.specs.Replays.{StandsAfter};
 ghost use Rattle.pcml_outcomes.specs.Coming.{TellsComing};
 
+use configurations::next_commits;
 use journal_replay::State;
 use journal_text::write_journal;
-use configurations::next_commits;
 use protocol_values::Commit;
 use script::Script;
 use std::alloc::{AllocError, Global};

@@ -9,10 +9,12 @@
 
 mod asked;
 mod coming;
+mod finding;
 mod listing;
 mod processes;
 mod shown;
 
 pub use crate::coming::next_text;
+pub use crate::finding::Finding;
 pub use crate::listing::{OutcomesText, outcomes_laws, outcomes_text};
 pub use crate::processes::{push_process, standing_lines};

@@ -1,12 +1,13 @@
 //! The text of all that a script can come to.
 
-ghost use Rattle.std.specs.Prelude.{◌≤◌, IfOk};
+ghost use Rattle.std.specs.Prelude.{◌≡◌, ◌≤◌, IfOk, length};
 ghost use Rattle.script.specs.Scripts.{script_of};
-ghost use Rattle.pcml_outcomes.specs.Told.{AreOf, ClearNeverWaits, HaveLines, IsListed, IsNumber, TellsOutcomes};
+ghost use Rattle.pcml_outcomes.specs.Told.{AreOf, ClearAlwaysEnds, ClearNeverWaits, HaveLines, IsListed, IsNumber, StuckIsLeft, TellsOutcomes};
 
 use crate::asked::journal_asked;
-use crate::shown::{count_shown, is_bounded, push_last_line, shown_lines};
-use outcomes::{Outcomes, find_outcomes};
+use crate::finding::{Finding, is_cut, judge};
+use crate::shown::{count_shown, push_last_line, shown_lines};
+use outcomes::{Asked, Outcomes, Watch, find_outcomes};
 use script::Script;
 use std::alloc::{AllocError, Global};
 
@@ -17,8 +18,10 @@ pub struct OutcomesText {
     pub text: Vec<u8>,
     /// The journal that leads to the outcome that is asked for, as text; none where there is no such outcome.
     pub journal: Option<Vec<u8>>,
-    /// Whether all configurations were seen, no process was spent, and no outcome is told.
-    pub is_clear: bool,
+    /// What was found of what was asked for.
+    pub finding: Finding,
+    /// Whether not all configurations were seen.
+    pub is_cut: bool,
 }
 
 /// What was found, as text.
@@ -27,47 +30,55 @@ fn found_text(
     script: &Script,
     rows: u32,
     found: &Outcomes,
-    waiting: bool,
+    asked: &Asked,
     of: Option<u32>,
 ) -> Result<OutcomesText, AllocError>
     requires outcomes { AreOf (script_of script.now) found.now.outcomes.items }
     requires lines { HaveLines (script_of script.now) found.now.outcomes.items }
+    requires marks { length asked.now.named.items ≡ length (script_of script.now).processes }
     requires number { IsNumber of }
-    ensures { IfOk result (IsListed (script_of script.now) rows waiting of found.now) }
+    ensures { IfOk result (IsListed (script_of script.now) rows asked.now of found.now) }
 {
     let outcomes = found.outcomes.as_slice();
-    let told = count_shown(outcomes, waiting);
-    let mut text = shown_lines(alloc, script, outcomes, waiting)?;
+    let told = count_shown(outcomes, asked);
+    let mut text = shown_lines(alloc, script, outcomes, asked)?;
     push_last_line(&mut text, rows, told, found)?;
-    let journal = journal_asked(alloc, script, outcomes, waiting, of)?;
+    let journal = journal_asked(alloc, script, outcomes, asked, of)?;
     Ok(OutcomesText {
         text: text.into_bytes(),
         journal,
-        is_clear: found.whole && !is_bounded(outcomes) && told == 0,
+        finding: judge(asked, found, told),
+        is_cut: is_cut(found.extent),
     })
 }
 
 /// All that the script's processes can come to, of so many rows each, 1 to 67107840, as far as at most `limit`
 /// configurations show it, with the journal that leads to the outcome of the number `of`, from 1, or else to the
-/// first that is told. Where `waiting` is set, only the outcomes are told in which some process is left waiting.
-pub fn outcomes_text(
+/// first that is told. What makes an outcome, and which are told, is `asked`, whose marks are one for each process.
+pub fn outcomes_text<W: Watch>(
     alloc: Global,
     script: &Script,
     rows: u32,
     limit: usize,
-    waiting: bool,
+    asked: &Asked,
     of: Option<u32>,
+    watch: &mut W,
 ) -> Result<OutcomesText, AllocError>
     requires rows { rows ≤ 67107840 }
     requires limit { 1 ≤ limit }
+    requires marks { length asked.now.named.items ≡ length (script_of script.now).processes }
     requires number { IsNumber of }
-    ensures { IfOk result (TellsOutcomes (script_of script.now) rows limit waiting of) }
+    ensures { IfOk result (TellsOutcomes (script_of script.now) rows limit asked.now of) }
 {
-    let found = find_outcomes(alloc, script.processes(), rows, limit)?;
-    found_text(alloc, script, rows, &found, waiting, of)
+    let found = find_outcomes(alloc, script.processes(), rows, limit, asked, watch)?;
+    found_text(alloc, script, rows, &found, asked, of)
 }
 
-/// Where nothing is told that waits, all was seen and no process was spent, the script leaves no process waiting, whatever its runs do.
+/// What a finding means. Where what waits was asked for and all is clear, no maximal run leaves a named process waiting,
+/// or any process spent. Where processes have to end and all is clear, they have ended behind every maximal run. Where
+/// one is said to be stuck, some maximal run leaves it so.
 pub fn outcomes_laws()
-    ensures { ClearNeverWaits }
+    ensures waiting { ClearNeverWaits }
+    ensures ends { ClearAlwaysEnds }
+    ensures stuck { StuckIsLeft }
 {}

@@ -1,82 +1,36 @@
 //! Which outcomes are told, and their lines.
 
-ghost use Rattle.std.specs.Prelude.{◌≡◌, ◌+◌, IfOk, OnOk, length};
+ghost use Rattle.std.specs.Prelude.{◌≡◌, ◌+◌, ◌<◌, IfOk, OnOk, length};
 ghost use Rattle.std.specs.Fmt.{decimal};
 ghost use Rattle.std.specs.List.{flat_map};
 ghost use Rattle.std.specs.String.{string_bytes};
 ghost use Rattle.script.specs.Appending.{Adds};
 ghost use Rattle.script.specs.Scripts.{script_of};
 ghost use Rattle.journal_text.specs.Names.{named};
-ghost use Rattle.pcml_outcomes.specs.Told.{AreOf, IsOf, extent_text, is_bounded, is_shown, is_spent, is_waiting, last_line, leaves_spent, leaves_waiting, outcome_line, outcome_text, shown};
+ghost use Rattle.outcomes.specs.Asking.{is_told, marked};
+ghost use Rattle.outcomes.specs.Outcomes.{ends_in, outputs_in};
+ghost use Rattle.pcml_outcomes.specs.Standings.{process_lines, standings};
+ghost use Rattle.pcml_outcomes.specs.Told.{AreOf, IsOf, extent_text, is_shown, last_line, outcome_line, outcome_text, shown};
 
-use crate::processes::standing_lines;
-use journal_replay::End;
-use outcomes::{Outcome, Outcomes};
+use crate::processes::push_process;
+use outcomes::{Asked, Extent, Outcome, Outcomes};
 use script::Script;
 use std::alloc::{AllocError, Global};
 
-fn is_waiting(end: End) -> bool
-    ensures { result ≡ is_waiting end }
-{
-    matches!(end, End::Waiting)
-}
-
-/// Whether some process is left waiting.
-fn leaves_waiting(outcome: &Outcome) -> bool
-    ensures { result ≡ leaves_waiting outcome.now }
-{
-    for end in &outcome.ends {
-        if is_waiting(*end) {
-            return true;
-        }
-    }
-    false
-}
-
-fn is_spent(end: End) -> bool
-    ensures { result ≡ is_spent end }
-{
-    matches!(end, End::Spent)
-}
-
-/// Whether some process had no row left for its sync.
-fn leaves_spent(outcome: &Outcome) -> bool
-    ensures { result ≡ leaves_spent outcome.now }
-{
-    for end in &outcome.ends {
-        if is_spent(*end) {
-            return true;
-        }
-    }
-    false
-}
-
-/// Whether some outcome has such a process: how it would go on is not known.
-pub(crate) fn is_bounded(outcomes: &[Outcome]) -> bool
-    ensures { result ≡ is_bounded outcomes.now }
-{
-    for outcome in outcomes {
-        if leaves_spent(outcome) {
-            return true;
-        }
-    }
-    false
-}
-
 /// Whether the outcome is told.
-pub(crate) fn is_shown(outcome: &Outcome, waiting: bool) -> bool
-    ensures { result ≡ is_shown waiting outcome.now }
+pub(crate) fn is_shown(outcome: &Outcome, asked: &Asked) -> bool
+    ensures { result ≡ is_shown asked.now outcome.now }
 {
-    !waiting || leaves_waiting(outcome)
+    asked.is_told(&outcome.ends)
 }
 
 /// How many outcomes are told.
-pub(crate) fn count_shown(outcomes: &[Outcome], waiting: bool) -> usize
-    ensures { result ≡ length (shown waiting outcomes.now) }
+pub(crate) fn count_shown(outcomes: &[Outcome], asked: &Asked) -> usize
+    ensures { result ≡ length (shown asked.now outcomes.now) }
 {
     let mut count = 0;
     for index in 0..outcomes.len() {
-        if is_shown(&outcomes[index], waiting) {
+        if is_shown(&outcomes[index], asked) {
             count += 1;
         }
     }
@@ -89,25 +43,40 @@ fn push_outcome_line(out: &mut String, number: usize) -> Result<(), AllocError>
     write!(out, "outcome {number}\n")
 }
 
-/// Appends the number of the outcome, and a line for each process.
-fn push_outcome(
-    alloc: Global,
+/// Appends a line for each process that is named.
+fn push_named(
     out: &mut String,
     script: &Script,
+    marks: &[bool],
+    outcome: &Outcome,
+) -> Result<(), AllocError>
+    requires of { IsOf (script_of script.now) outcome.now }
+    requires marks { length marks.now ≡ length (script_of script.now).processes }
+    ensures { OnOk result (Adds out.old out.new (process_lines (named (script_of script.now)) (marked marks.now (standings (ends_in outcome.now) (outputs_in outcome.now))))) }
+{
+    for thread in 0..outcome.ends.len() {
+        if marks[thread] {
+            let printed = outcome.outputs[thread].as_slice();
+            push_process(out, script, thread, outcome.ends[thread], printed)?;
+        }
+    }
+    Ok(())
+}
+
+/// Appends the number of the outcome, and a line for each process that is named.
+fn push_outcome(
+    out: &mut String,
+    script: &Script,
+    marks: &[bool],
     number: usize,
     outcome: &Outcome,
 ) -> Result<(), AllocError>
-    requires { IsOf (script_of script.now) outcome.now }
-    ensures { OnOk result (Adds out.old out.new (outcome_text (named (script_of script.now)) (number, outcome.now))) }
+    requires of { IsOf (script_of script.now) outcome.now }
+    requires marks { length marks.now ≡ length (script_of script.now).processes }
+    ensures { OnOk result (Adds out.old out.new (outcome_text (named (script_of script.now)) marks.now (number, outcome.now))) }
 {
     push_outcome_line(out, number)?;
-    let lines = standing_lines(
-        alloc,
-        script,
-        outcome.ends.as_slice(),
-        outcome.outputs.as_slice(),
-    )?;
-    out.push_str(lines.as_str())
+    push_named(out, script, marks, outcome)
 }
 
 /// The lines of the outcomes that are told.
@@ -115,32 +84,32 @@ pub(crate) fn shown_lines(
     alloc: Global,
     script: &Script,
     outcomes: &[Outcome],
-    waiting: bool,
+    asked: &Asked,
 ) -> Result<String, AllocError>
-    requires { AreOf (script_of script.now) outcomes.now }
-    ensures { IfOk result (λ lines. string_bytes lines ≡ flat_map (outcome_text (named (script_of script.now))) (shown waiting outcomes.now)) }
+    requires of { AreOf (script_of script.now) outcomes.now }
+    requires marks { length asked.now.named.items ≡ length (script_of script.now).processes }
+    ensures { IfOk result (λ lines. string_bytes lines ≡ flat_map (outcome_text (named (script_of script.now)) asked.now.named.items) (shown asked.now outcomes.now)) }
 {
     let mut lines = String::new(alloc);
     for index in 0..outcomes.len() {
         let outcome = &outcomes[index];
-        if is_shown(outcome, waiting) {
-            push_outcome(alloc, &mut lines, script, index + 1, outcome)?;
+        if is_shown(outcome, asked) {
+            push_outcome(&mut lines, script, &asked.named, index + 1, outcome)?;
         }
     }
     Ok(lines)
 }
 
 /// Appends whether that is all there is, and within how many syncs a process where some had none left.
-fn push_extent(out: &mut String, rows: u32, whole: bool, bounded: bool) -> Result<(), AllocError>
-    ensures { OnOk result (Adds out.old out.new (extent_text rows whole bounded)) }
+fn push_extent(out: &mut String, rows: u32, extent: Extent, bounded: bool) -> Result<(), AllocError>
+    ensures { OnOk result (Adds out.old out.new (extent_text rows extent bounded)) }
 {
-    if !whole {
-        return out.push_str("cut");
+    match extent {
+        Extent::First => out.push_str("first"),
+        Extent::Cut => out.push_str("cut"),
+        Extent::Whole if bounded => write!(out, "all within {rows} syncs"),
+        Extent::Whole => out.push_str("all"),
     }
-    if bounded {
-        return write!(out, "all within {rows} syncs");
-    }
-    out.push_str("all")
 }
 
 /// Appends how many outcomes are told, how many configurations were seen, and whether that is all.
@@ -152,9 +121,8 @@ pub(crate) fn push_last_line(
 ) -> Result<(), AllocError>
     ensures { OnOk result (Adds out.old out.new (last_line rows told found.now)) }
 {
-    let bounded = is_bounded(found.outcomes.as_slice());
     let visited = found.visited;
     write!(out, "outcomes {told} configurations {visited} ")?;
-    push_extent(out, rows, found.whole, bounded)?;
+    push_extent(out, rows, found.extent, found.is_bounded)?;
     out.push_str("\n")
 }

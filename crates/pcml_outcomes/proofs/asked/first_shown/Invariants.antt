@@ -4,4 +4,4 @@ use Rattle.pcml_outcomes.specs.Told.{is_shown}
 use Rattle.pcml_outcomes.proofs.asked.first_shown.Given as goal
 
 abbrev pub invariant-loop-index : goal.invariant-loop-index
-invariant-loop-index l = find (is_shown l.waiting) (take l.index l.outcomes) ≡ None
+invariant-loop-index l = find (is_shown l.asked) (take l.index l.outcomes) ≡ None

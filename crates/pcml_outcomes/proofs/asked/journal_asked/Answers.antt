@@ -12,6 +12,6 @@ use Rattle.pcml_outcomes.proofs.asked.journal_asked.Goals as goal
 pub write_journal-requires : goal.write_journal-requires
 write_journal-requires c =
     let o = c.in-Some.outcome.now in
-    let asked : asked_for c.args.of c.args.waiting c.args.outcomes.now ≡ Some o = sym c.asked_for.ensures ∙ ap option_copied c.in-Some.is in
-    let place = asked-in c.args.of c.args.waiting c.args.outcomes.now o asked in
+    let asked : asked_for c.args.of c.args.asked.now c.args.outcomes.now ≡ Some o = sym c.asked_for.ensures ∙ ap option_copied c.in-Some.is in
+    let place = asked-in c.args.of c.args.asked.now c.args.outcomes.now o asked in
     subst (λ (cs : List Commit). AllByRecursion (HasLine (names_of (script_of c.args.script.now))) cs) (sym c.as_slice.ensures.value) (c.requires.lines place.0 o place.1)

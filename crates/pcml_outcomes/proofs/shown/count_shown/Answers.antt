@@ -7,7 +7,7 @@ use Rattle.pcml_outcomes.proofs.shown.count_shown.Goals as goal
 
 pub loop-index-preserved : goal.loop-index-preserved
 loop-index-preserved c =
-    let waiting = c.args.waiting in
+    let asked = c.args.asked.now in
     let outcomes = c.args.outcomes.now in
     let o = c.index-outcomes-index.result in
     let is = c.index-outcomes-index.is in
@@ -16,11 +16,11 @@ loop-index-preserved c =
     elim c.if-is_shown.branch [
       | then-is_shown w ↦ (
         w.count-is ∙ ap (λ (n : ℕ). n + 1) before.0
-            ∙ sym (ap length (shown-told waiting outcomes c.loop-index.index o (omega arith) is (sym c.is_shown.ensures ∙ w.if-is_shown.true)) ∙ length_push (shown waiting _) _),
+            ∙ sym (ap length (shown-told asked outcomes c.loop-index.index o (omega arith) is (sym c.is_shown.ensures ∙ w.if-is_shown.true)) ∙ length_push (shown asked _) _),
         omega (arith, w.count-is, few),
       )
       | else-is_shown w ↦ (
-        w.count-is ∙ before.0 ∙ sym (ap length (shown-hidden waiting outcomes c.loop-index.index o (omega arith) is (sym c.is_shown.ensures ∙ w.if-is_shown.false))),
+        w.count-is ∙ before.0 ∙ sym (ap length (shown-hidden asked outcomes c.loop-index.index o (omega arith) is (sym c.is_shown.ensures ∙ w.if-is_shown.false))),
         omega (arith, w.count-is, few),
       )
     ]

@@ -7,4 +7,4 @@ use Rattle.pcml_outcomes.specs.Told.{outcome_text, shown}
 use Rattle.pcml_outcomes.proofs.shown.shown_lines.Given as goal
 
 abbrev pub invariant-loop-index : goal.invariant-loop-index
-invariant-loop-index l = string_bytes l.lines ≡ flat_map (outcome_text (named (script_of l.script))) (shown l.waiting (take l.index l.outcomes))
+invariant-loop-index l = string_bytes l.lines ≡ flat_map (outcome_text (named (script_of l.script)) l.asked.named.items) (shown l.asked (take l.index l.outcomes))
