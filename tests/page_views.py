@@ -136,14 +136,28 @@ def options_count(driven, address):
     wait_answer(page)
     meets(text_of(page, "#told"), "outcomes that leave somebody waiting")
     meets(text_of(page, ".asked"), "--waiting --rows 8")
-    help_of_outcomes = "playground.checking.caller.call(['help', 'outcomes'], {})"
-    has_need = page.evaluate(f"{help_of_outcomes}.then((it) => it.err.includes('--need'))")
-    assert page.evaluate("!document.querySelector('#for-need').hidden") == has_need
-    if has_need:
-        fill(page, "#need", "plato")
-        page.press("Enter")
-        wait_answer(page)
-        meets(text_of(page, ".asked"), "--need plato")
+    # A fork may be spent before who waits for it.
+    needs_end(page, "plato , kant", "--need plato,kant --rows 8", "in which one of these has not ended", "fault")
+    needs_end(page, "nobody", "--need nobody --rows 8", "The program refuses this.", "fault")
+    meets(text_of(page, "#answer"), "no process is named 'nobody'")
+    choose_example(page, "ordered_philosophers")
+    press_view(page, "outcomes")
+    needs_end(page, "plato,kant,hume", "--need plato,kant,hume", "Each of these ends in every outcome.", "met")
+    needs_end(page, "all", "--need all", "1 outcome in which one of these has not ended, and that is all.", "fault")
+    fill(page, "#script", "process a { forever { sync always (); } }\n")
+    press_view(page, "outcomes")
+    needs_end(page, "a", "--need a", "1 outcome in which one of these has not ended, and that is all within 256 syncs", "open")
+
+
+def needs_end(page, names, words, told, kind):
+    """These names in the field ask by these words; what is told has this kind, by which it has its colour."""
+    fill(page, "#need", names)
+    page.press("Enter")
+    wait_answer(page)
+    meets(text_of(page, ".asked"), words)
+    assert "--waiting" not in text_of(page, ".asked")
+    meets(text_of(page, "#told"), told)
+    assert page.evaluate("document.querySelector('#told').className") == f"told {kind}"
 
 
 def steps_go_and_come(driven, address):

@@ -99,7 +99,6 @@ async function begin() {
   const load_other = (text, rows) => text !== page.editor.text && load(text, rows);
   window.addEventListener("hashchange", () => load_fragment(load_other));
   if (!(await load_fragment(load))) load_first();
-  return page.learn_options();
 }
 
 begin();

@@ -5,6 +5,8 @@ const JOURNAL = "script.journal";
 const ROWS = 256;
 const SOON_BUSY = 250;
 const PAGES = ["language", "about"];
+// How it is told whether processes always end, by the status: they do, it is not known, one gets stuck.
+const KINDS = { 0: "met", 1: "open", 3: "fault" };
 const AFTER_RUN = "A run shows one outcome. Outcomes tells all, and Step lets you choose.";
 
 // Marks the button of a view, and shows the page of that name where there is one.
@@ -101,10 +103,10 @@ class Playground {
     if (is_page) found("panel").scrollTop = 0;
   }
 
-  draw({ told, asked, inside, waiting = new Map(), is_fault = false }) {
+  draw({ told, asked, inside, waiting = new Map(), is_fault = false, kind = is_fault ? "fault" : "" }) {
     this.end_busy();
     found("told").textContent = told;
-    found("told").classList.toggle("fault", is_fault);
+    found("told").className = `told ${kind}`.trim();
     const call = asked ? [made("p", { class: "asked" }, `pcml ${asked.words.join(" ")}`)] : [];
     found("answer").replaceChildren(...call, ...inside);
     this.editor.mark_waiting(waiting);
@@ -145,24 +147,30 @@ class Playground {
     };
   }
 
+  // The processes that have to end, as the program reads their names.
+  get need() {
+    return found("need").value.trim().replace(/\s*,\s*/g, ",");
+  }
+
+  // Who has to end goes before who is left waiting: the program takes one of the two.
   outcome_words() {
-    const need = found("need").value.trim();
     const words = ["outcomes", SCRIPT];
-    if (found("waiting").checked) words.push("--waiting");
-    if (need && !found("for-need").hidden) words.push("--need", need);
-    return words;
+    if (this.need) return [...words, "--need", this.need];
+    return found("waiting").checked ? [...words, "--waiting"] : words;
   }
 
   async outcomes() {
     const words = this.outcome_words();
     const answer = await this.play(words);
     const { outcomes, seen, extent } = read_outcomes(answer.out);
-    const hint = `${counted(seen, "configuration")} seen in ${Math.round(answer.milliseconds)} ms.`;
+    const seen_in = `${counted(seen, "configuration")} seen in ${Math.round(answer.milliseconds)} ms.`;
+    const hints = [seen_in, ...lines_of(answer.err)].map((line) => made("p", { class: "hint" }, line));
     const drawn = outcomes.length ? drawn_outcomes(outcomes, (number) => this.follow(words, number)) : [];
     return {
       told: told_of_outcomes(outcomes.length, extent, words),
+      kind: words.includes("--need") ? KINDS[answer.status] : "",
       asked: answer,
-      inside: [...drawn, made("p", { class: "hint" }, hint)],
+      inside: [...drawn, ...hints],
     };
   }
 
@@ -235,12 +243,6 @@ class Playground {
     if (error instanceof Refusal) return error.drawn(this.checking.caller, this.editor);
     return { told: "The page failed.", is_fault: true, inside: [made("p", {}, String(error))] };
   }
-
-  // Shows the field of an option where the program has it.
-  async learn_options() {
-    const help = await this.checking.caller.call(["help", "outcomes"], {});
-    found("for-need").hidden = !help.err.includes("--need");
-  }
 }
 
 // A call that the program did not answer, or that broke off.
@@ -274,14 +276,19 @@ function of_journal({ commits, of }) {
 // Which outcomes are told, by the words of the call.
 function kind_of_outcomes(count, words) {
   const outcomes = counted(count, "outcome");
-  if (words.includes("--need")) return `${outcomes} in which one of these has not ended`;
+  if (words.includes("--need")) return count ? `${outcomes} in which one of these has not ended` : "Each of these ends";
   return words.includes("--waiting") ? `${outcomes} that leave${count === 1 ? "s" : ""} somebody waiting` : outcomes;
 }
 
 function told_of_outcomes(count, extent, words) {
   const kind = kind_of_outcomes(count, words);
-  if (extent === "all") return `${kind}, and that is all.`;
+  const is_met = words.includes("--need") && count === 0;
+  if (extent === "all") return is_met ? `${kind} in every outcome.` : `${kind}, and that is all.`;
   const within = /^all within ([0-9]+) syncs/.exec(extent);
-  if (within) return `${kind}, and that is all within ${counted(Number(within[1]), "sync")} a process.`;
+  if (within) {
+    const syncs = `within ${counted(Number(within[1]), "sync")} a process.`;
+    return is_met ? `${kind} in every outcome ${syncs}` : `${kind}, and that is all ${syncs}`;
+  }
+  if (is_met) return `${kind} in what was seen. The search was cut, so it is not known of the rest.`;
   return `${kind}. The search was cut, so there may be more.`;
 }

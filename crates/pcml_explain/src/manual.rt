@@ -1,7 +1,8 @@
 //! The manual page, which `docs/manual --write` writes here from `docs/pcml.1`.
 
 /// The page as text of at most 79 columns.
-pub(crate) const PAGE: &str = "PCML(1)                         User commands                         PCML(1)
+pub(crate) const PAGE: &str =
+    "PCML(1)                         User commands                         PCML(1)
 
 NAME
        pcml - run, check and replay scripts of Concurrent ML's first-class
