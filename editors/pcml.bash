@@ -1,4 +1,5 @@
 # Completion for pcml in bash: install -Dm644 editors/pcml.bash ~/.local/share/bash-completion/completions/pcml
+# Made by tools/completion.
 # shellcheck shell=bash
 
 # _pcml_give WORDS FLAGS..: those of the words, or of what compgen finds, that begin as the word at the cursor.
@@ -15,17 +16,19 @@ _pcml_files() {
 _pcml_options() {
   case $1 in
     run) echo --workers --rows --seasons --journal --quiet --why --need --help ;;
-    replay | why | stats) echo --rows --seasons --help ;;
+    replay) echo --rows --seasons --help ;;
+    why) echo --rows --seasons --help ;;
     chart) echo --rows --seasons --from --to --only --help ;;
     next) echo --rows --help ;;
     outcomes) echo --rows --limit --waiting --need --only --first --journal --of --help ;;
+    stats) echo --rows --seasons --help ;;
     *) echo --help ;;
   esac
 }
 
 _pcml() {
   local now=${COMP_WORDS[COMP_CWORD]} before=${COMP_WORDS[COMP_CWORD - 1]} command=${COMP_WORDS[1]-}
-  local commands='run check why chart replay outcomes next stats explain manual version meet play help'
+  local commands='run replay why chart next outcomes check play stats explain manual version meet help'
   COMPREPLY=()
   if [ "$COMP_CWORD" -eq 1 ]; then
     case $now in
@@ -44,9 +47,10 @@ _pcml() {
   case $before in
     --workers) _pcml_give '1 2 4 8 16' ;;
     --rows) _pcml_give '256 1024' ;;
-    --from | --to | --seasons | --limit | --of) ;;
-    --need | --only) _pcml_give all ;;
     --journal) _pcml_files ;;
+    --need) _pcml_give all ;;
+    --only) _pcml_give all ;;
+    --seasons | --from | --to | --limit | --of) ;;
     *) _pcml_argument ;;
   esac
 }
@@ -60,7 +64,7 @@ _pcml_argument() {
   case $command in
     explain) _pcml_give '1 2 3 4 5 6 7 8 11 12 13 14 15 16 21 22 23 31 32 unset kind range shape waiting spent unstarted deadlock nack journal stamp tail lawful maximal outcome configuration' ;;
     help) _pcml_give "$commands" ;;
-    meet | version) ;;
+    manual | version | meet) ;;
     *) _pcml_files ;;
   esac
 }
