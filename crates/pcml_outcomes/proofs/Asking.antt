@@ -1,5 +1,5 @@
 -- The outcome that is asked for is one of those that were found.
-use Rattle.std.proofs.Common.{◌≡◌, ℕ, ◌-◌, Bool, List, slice_get, Option, Some, None, sym, ◌∙◌}
+use Rattle.std.proofs.Common.{◌≡◌, ℕ, ◌-◌, List, slice_get, Option, Some, None, sym, ◌∙◌}
 use Rattle.std.specs.List.{position_or_len}
 use Rattle.std.proofs.lemmas.List.Folds.{find_at}
 use Rattle.outcomes.specs.declared.Outcome.{Outcome}

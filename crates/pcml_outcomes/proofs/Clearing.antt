@@ -1,5 +1,5 @@
 -- What a finding means for the runs of the script.
-use Rattle.std.proofs.Common.{◌≡◌, ◌≢◌, ◌<◌, ℕ, zero, suc, ◌+◌, Bool, true, false, not, ◌&&◌, ◌||◌, ◌==◌, if◌then◌else◌, List, [], ◌∷◌, Contains, get_or, length, slice_get, Some, refl, sym, ap, ◌∙◌, subst, arith}
+use Rattle.std.proofs.Common.{◌≡◌, ◌≢◌, ◌<◌, ℕ, zero, suc, ◌+◌, Bool, true, false, not, ◌&&◌, ◌||◌, ◌==◌, if◌then◌else◌, List, [], ◌∷◌, Contains, get_or, length, slice_get, Some, refl, sym, ap, ◌∙◌, arith}
 use Rattle.std.specs.Global.{Vec}
 use Rattle.std.specs.List.{enumerate_from, filter, list_any, zip}
 use Rattle.std.proofs.lemmas.Bool.{eqb-true, false≢true}
@@ -9,19 +9,17 @@ use Rattle.protocol_values.specs.declared.Commit.{Commit}
 use Rattle.script.specs.Sources.{Script}
 use Rattle.journal_replay.specs.declared.end.End.{End}
 use Rattle.journal_replay.specs.declared.end.End.TheVariants.{Ended, Faulted, Spent, Unstarted, Waiting}
-use Rattle.outcomes.specs.Asking.{has_unended, has_waiting, is_ended, is_spent, is_told, is_waiting, leaves_spent, marked, tells}
-use Rattle.outcomes.specs.Outcomes.{CanSpend, Has, IsOutcome, LeadsTo, ends_in}
+use Rattle.outcomes.specs.Asking.{has_unended, has_waiting, is_ended, is_spent, is_waiting, marked, tells}
+use Rattle.outcomes.specs.Outcomes.{Has, LeadsTo, ends_in}
 use Rattle.outcomes.specs.declared.Extent.{Extent}
 use Rattle.outcomes.specs.declared.Extent.TheVariants.{Cut, First, Whole}
 use Rattle.outcomes.specs.declared.Outcome.{Outcome}
 use Rattle.outcomes.specs.declared.Outcomes.{Outcomes}
 use Rattle.outcomes.specs.declared.asked.Asked.{Asked}
-use Rattle.outcomes.specs.declared.asked.Told.{Told}
-use Rattle.outcomes.specs.declared.asked.Told.TheVariants.{Each, Lacking, Waiting as TheWaiting}
+use Rattle.outcomes.specs.declared.asked.Told.TheVariants.{Lacking, Waiting as TheWaiting}
 use Rattle.configurations.proofs.Leading.{run-leads}
-use Rattle.pcml_outcomes.specs.declared.finding.Finding.{Finding}
 use Rattle.pcml_outcomes.specs.declared.finding.Finding.TheVariants.{Clear, Open, Stuck}
-use Rattle.pcml_outcomes.specs.Told.{AreFound, ClearAlwaysEnds, ClearNeverWaits, IsMarked, LeavesStuck, NamesNeeded, StuckIsLeft, clears, finding, has_stuck, is_clear, is_shown, is_stuck, is_whole, shown}
+use Rattle.pcml_outcomes.specs.Told.{AreFound, ClearAlwaysEnds, ClearNeverWaits, IsMarked, NamesNeeded, StuckIsLeft, clears, has_stuck, is_clear, is_shown, is_stuck, is_whole, shown}
 
 -- TESTS over lists
 

@@ -1,5 +1,5 @@
 -- Lines of processes, one after another.
-use Rattle.std.proofs.Common.{◌≡◌, ℕ, zero, suc, ◌+◌, Bool, true, false, drop, List, [], ◌∷◌, ◌++◌, length, map, slice_get, Some, Result, Ok, Err, is_ok, if◌then◌else◌, append_assoc, refl, sym, ap, ◌∙◌, arith}
+use Rattle.std.proofs.Common.{◌≡◌, ℕ, zero, suc, ◌+◌, Bool, true, false, drop, List, [], ◌∷◌, ◌++◌, map, slice_get, Some, Result, Ok, Err, if◌then◌else◌, append_assoc, refl, sym, ap, ◌∙◌, arith}
 use Rattle.std.specs.Prelude.{OnOk}
 use Rattle.std.specs.List.{enumerate_from, zip}
 use Rattle.std.proofs.lemmas.List.{flat_map_more}
@@ -9,7 +9,7 @@ use Rattle.journal_text.specs.Names.{Naming}
 use Rattle.journal_replay.specs.declared.end.End.{End}
 use Rattle.journal_replay.proofs.Telling.{HoldsOf, holds-more}
 use Rattle.outcomes.specs.Asking.{marked}
-use Rattle.pcml_outcomes.specs.Standings.{Standing, TellsStandings, process_line, process_lines, standings}
+use Rattle.pcml_outcomes.specs.Standings.{Standing, process_line, process_lines, standings}
 
 -- the lines of the first so many, of each of which P holds by its number
 abbrev pub LinesTo : Naming → (ℕ → Standing → Type 0) → ℕ → List ℕ → Type 0
