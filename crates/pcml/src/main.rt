@@ -1,13 +1,17 @@
 //! `pcml`: the program of `pcml_tool`, over the files, words and streams of the process.
 #![tactic(auto)]
 
+mod progress;
+
+use crate::progress::Progress;
 use pcml_tool::{BAD_WORDS, Fault, SystemFiles, command, tell};
 use std::alloc::{AllocError, Global};
-use std::io::{ErrorKind, Write};
+use std::io::{ErrorKind, IsTerminal, Write};
 use std::process::ExitCode;
 use std::rt::{Env, Files};
 use std::sync::Wait;
 use std::thread::{Builder, Threads};
+use std::time::Clock;
 use std::{env, io, thread};
 
 /// The bytes of stack for which a script may be as deep as its limit lets it.
@@ -17,24 +21,39 @@ const STACK: usize = 1 << 20;
 const AMPLE: usize = 64 << 20;
 
 /// Runs on the words that the process was given. It fails where they lack memory or are no text.
-fn run<R: Env + Files + Input + Print + AllocGlobal + Threads + Wait + Sync, E: Write>(
-    rt: &R,
-    err: &mut E,
-) -> io::Result<u8> {
+fn run<
+    R: Env + Files + Input + Print + AllocGlobal + Threads + Wait + Clock + Sync,
+    E: Write,
+    P: Write + Drop,
+>(rt: &R, err: &mut E, person: Option<P>) -> io::Result<u8> {
     let words: Vec<String> = env::args(rt)?.skip(1).collect(rt.alloc())?;
     let words: Vec<&str> = words.iter().map(|word| word.as_str()).collect(rt.alloc())?;
     let mut files = SystemFiles::new(rt);
     let mut out = io::writer(rt);
-    Ok(command(rt, rt.alloc(), words.as_slice(), &mut files, &mut out, err))
+    let mut watch = Progress::new(rt, person);
+    Ok(command(
+        rt,
+        rt.alloc(),
+        words.as_slice(),
+        &mut files,
+        &mut out,
+        err,
+        &mut watch,
+    ))
 }
 
 /// Runs, and tells why where that fails. It answers the status.
-fn ended<R: Env + Files + Input + Print + AllocGlobal + Threads + Wait + Sync, E: Print>(
-    rt: &R,
-    errors: &E,
-) -> u8 {
+fn ended<
+    R: Env + Files + Input + Print + AllocGlobal + Threads + Wait + Clock + Sync,
+    E: Print + Write + IsTerminal + Copy,
+>(rt: &R, errors: &E) -> u8 {
     let mut err = io::writer(errors);
-    match run(rt, &mut err) {
+    let person = if errors.is_terminal() {
+        Some(*errors)
+    } else {
+        None
+    };
+    match run(rt, &mut err, person) {
         Ok(status) => status,
         Err(error) if error.kind() == ErrorKind::OutOfMemory => tell(&mut err, Fault::Memory),
         Err(_) => {

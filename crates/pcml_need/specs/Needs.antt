@@ -49,3 +49,21 @@ Names s text marks = (first_unnamed s text ≡ None) × (marks ≡ named_by s te
 abbrev pub Misnames : Script → List ℕ → NamesFault → Type 0
 Misnames s text Memory = Unit {0}
 Misnames s text (Unnamed name) = (first : List ℕ) × (first_unnamed s text ≡ Some first) × (string_bytes name ≡ utf8_lossy first)
+
+-- WHERE NAMES NEED NOT BE GIVEN: else all processes are meant
+
+abbrev pub unnamed_of : Script → Option (List ℕ) → Option (List ℕ)
+unnamed_of s None = None
+unnamed_of s (Some text) = first_unnamed s text
+
+abbrev pub named_or_all : Script → Option (List ℕ) → List Bool
+named_or_all s None = replicate (length s.processes) true
+named_or_all s (Some text) = named_by s text
+
+abbrev pub NamesOrAll : Script → Option (List ℕ) → List Bool → Type 0
+NamesOrAll s names marks = (unnamed_of s names ≡ None) × (marks ≡ named_or_all s names)
+
+abbrev pub MisnamesAny : Script → Option (List ℕ) → NamesFault → Type 0
+MisnamesAny s None Memory = Unit {0}
+MisnamesAny s None (Unnamed name) = ⊥
+MisnamesAny s (Some text) fault = Misnames s text fault

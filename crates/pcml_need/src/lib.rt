@@ -6,7 +6,7 @@ ghost use Rattle.std.specs.List.{list_any};
 ghost use Rattle.std.specs.Option.{option_copied};
 ghost use Rattle.script_token.specs.Tokens.{same};
 ghost use Rattle.script.specs.Scripts.{script_of};
-ghost use Rattle.pcml_need.specs.Needs.{Misnames, Names, are_in, first_unnamed, is_in, is_process, names_all, unnamed_in};
+ghost use Rattle.pcml_need.specs.Needs.{Misnames, MisnamesAny, Names, NamesOrAll, are_in, first_unnamed, is_in, is_process, names_all, unnamed_in};
 ghost use Rattle.pcml_need.specs.declared.NamesFault.TheVariants.{Memory};
 
 use script::Script;
@@ -113,5 +113,20 @@ pub fn named_processes(alloc: Global, script: &Script, names: &str) -> Result<Ve
     match unnamed_in(script, bytes) {
         Some(name) => Err(NamesFault::Unnamed(String::from_utf8_lossy(alloc, name)?)),
         None => Ok(are_in(alloc, script, bytes)?),
+    }
+}
+
+/// The same, and all processes where no names are given.
+pub fn named_or_all(
+    alloc: Global,
+    script: &Script,
+    names: Option<&str>,
+) -> Result<Vec<bool>, NamesFault>
+    ensures named { IfOk result (λ named. NamesOrAll (script_of script.now) (option_copied names.entry) named.items) }
+    ensures fault { IfErr result (MisnamesAny (script_of script.now) (option_copied names.entry)) }
+{
+    match names {
+        Some(names) => named_processes(alloc, script, names),
+        None => Ok(vec![in alloc; true; script.processes().len()]?),
     }
 }

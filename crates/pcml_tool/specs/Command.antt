@@ -1,14 +1,16 @@
 -- What the program prints for what is asked, and what its faults say.
-use Rattle.std.specs.Prelude.{◌≡◌, ◌≢◌, ◌⊎◌, ℕ, Bool, true, false, List, [], ◌++◌, Option, None, Some, IfSome, take, not, ◌&&◌, ◌||◌, is_none, is_some, if◌then◌else◌, codes}
+use Rattle.std.specs.Prelude.{◌≡◌, ◌≢◌, ◌⊎◌, ℕ, Bool, true, false, List, [], ◌++◌, Option, None, Some, IfSome, take, ⊤, is_some, if◌then◌else◌, codes}
 use Rattle.std.specs.Io.KnownBytes.{Appends}
-use Rattle.std.specs.Option.{option_copied}
+use Rattle.std.specs.Global.{Vec}
+use Rattle.std.specs.Option.{option_copied, option_map}
 use Rattle.pcml_request.specs.declared.request.Request.{Request}
 use Rattle.pcml_request.specs.declared.request.Request.TheVariants.{Meet, Next, Outcomes, Play, Check, Chart, Explain, Replay, Run, Stats, Version, Why, WhyScript}
 use Rattle.pcml_request.specs.declared.request.Running.{Running}
 use Rattle.pcml_request.specs.declared.request.Search.{Search}
 use Rattle.pcml_request.specs.Requests.{all_rows}
 use Rattle.pcml_explain.specs.Topics.{Explains}
-use Rattle.pcml_need.specs.Needs.{AreEnded}
+use Rattle.pcml_need.specs.Needs.{MisnamesAny, Names}
+use Rattle.pcml_need.specs.declared.NamesFault.TheVariants as names
 use Rattle.pcml_files.specs.Files.{Fits, IsTooLarge}
 use Rattle.pcml_tool.specs.Meet.{PrintsMeeting}
 use Rattle.pcml_tool.specs.declared.fault.Fault.{Fault}
@@ -33,7 +35,10 @@ use Rattle.pcml_tool.specs.declared.from_files.Verdict.TheVariants.{Denied, Done
 use Rattle.journal_text.specs.Journals as journals
 use Rattle.journal_text.specs.Names.{named}
 use Rattle.outcomes.specs.declared.Outcomes.{Outcomes as Found}
-use Rattle.pcml_outcomes.specs.Told.{AreFound, SpellsAsked, asked_for, is_clear, outcomes_text}
+use Rattle.outcomes.specs.declared.asked.Asked.{Asked}
+use Rattle.outcomes.specs.Asking.{has_unended}
+use Rattle.pcml_outcomes.specs.Told.{AreFound, NamesNeeded, SpellsAsked, asked_for, finding, outcomes_text}
+use Rattle.pcml_tool.specs.Searching.{FailsAsked, IsAskedOf, verdict_of}
 use Rattle.pcml_why_script.specs.Telling.{TellsWhyNot}
 use Rattle.script.specs.Sources.{Script}
 use Rattle.script.specs.Spelling.{Spells}
@@ -47,6 +52,10 @@ Files = List ℕ → List ℕ → Type 0
 -- a schedule that is not too large
 abbrev pub OfSchedule : Files → List ℕ → (List ℕ → Type 0) → Type 0
 OfSchedule Holds name Says = (bytes : List ℕ) × Holds name bytes × Fits bytes × Says bytes
+
+-- of the script that the file spells
+abbrev pub OfScript : Files → List ℕ → (Script → Type 0) → Type 0
+OfScript Holds script Says = (bytes : List ℕ) × Holds script bytes × (s : Script) × Spells bytes s × Says s
 
 -- of the script that the one file spells, and the journal that the other holds
 abbrev pub OfFiles : Files → List ℕ → List ℕ → (Script → List ℕ → Type 0) → Type 0
@@ -103,33 +112,36 @@ abbrev pub KeepsAsked : Files → Files → Option (List ℕ) → Option (List �
 KeepsAsked Holds Keeps (Some name) (Some lines) = Keeps name lines
 KeepsAsked Holds Keeps name lines = (file bytes : List ℕ) → Keeps file bytes → Holds file bytes
 
--- Where what waits is asked for, nothing was told, all was seen and no process was spent; and where the journal of one outcome is asked for, there is one.
-abbrev pub is_so : Bool → Bool → Option ℕ → Option (List ℕ) → Bool
-is_so waiting clear number lines = (not waiting || clear) && (is_none number || is_some lines)
-
-abbrev pub verdict_of : Bool → Verdict
-verdict_of so = if so then Done else Denied
-
 -- the text of outcomes that were found of a script, and the journal of the one that is asked for, in a file where one is named
 pub record AnswersOutcomes (Holds Keeps : Files) (search : Search) (verdict : Verdict) (text : List ℕ) : Type 0 where
   pub source : List ℕ
   pub holds : Holds search.script.now source
   pub s : Script
   pub spells : Spells source s
+  pub asked : Asked
+  pub asks : IsAskedOf s search asked
+  pub needed : NamesNeeded asked
   pub found : Found
-  pub are : AreFound s search.rows search.limit found
+  pub are : AreFound s search.rows search.limit asked found
   pub lines : Option (List ℕ)
-  pub asked : SpellsAsked s (asked_for search.of search.waiting found.outcomes.items) lines
+  pub is_asked : SpellsAsked s (asked_for search.of asked found.outcomes.items) lines
   pub kept : KeepsAsked Holds Keeps (option_copied search.journal) lines
-  pub so : verdict ≡ verdict_of (is_so search.waiting (is_clear search.waiting found) search.of lines)
-  pub is : text ≡ outcomes_text (named s) search.rows search.waiting found
+  pub so : verdict ≡ verdict_of (finding asked found) (is_some search.of) (is_some lines)
+  pub is : text ≡ outcomes_text (named s) search.rows asked found
 
--- Whether what has to end has ended, where names are needed.
-abbrev pub IsVerdictOf : Script → List End → Option (List ℕ) → Verdict → Type 0
-IsVerdictOf s ends need Done = IfSome need (AreEnded s ends)
-IsVerdictOf s ends None Lacking = ⊥
-IsVerdictOf s ends (Some names) Lacking = ¬ AreEnded s ends names
-IsVerdictOf s ends need verdict = ⊥
+-- of each process whether it has to end, where names are needed
+abbrev pub AreNeeded : Script → Option (List ℕ) → Option (List Bool) → Type 0
+AreNeeded s None None = ⊤
+AreNeeded s (Some names) (Some marks) = Names s names marks
+AreNeeded s need marks = ⊥
+
+abbrev pub marks_of : Option (Vec Bool) → Option (List Bool)
+marks_of marks = option_map (λ v. v.items) marks
+
+-- whether what has to end has ended
+abbrev pub verdict_by : Option (List Bool) → List End → Verdict
+verdict_by None ends = Done
+verdict_by (Some marks) ends = if has_unended marks ends then Lacking else Done
 
 -- why the processes stand where the commits lead, where that is asked for
 abbrev pub TellsWhyAsked : Bool → Script → List ℕ → ℕ → List Commit → List ℕ → Type 0
@@ -150,10 +162,17 @@ pub record AnswersRun (Holds Keeps : Files) (asked : Running) (verdict : Verdict
   pub rest : List ℕ
   pub tells : TellsAsked s asked.rows asked.seasons journal ends lines rest
   pub kept : IfSome asked.journal (λ name. Keeps name.now lines)
-  pub so : IsVerdictOf s ends (option_copied asked.need) verdict
+  pub needed : Option (List Bool)
+  pub are_needed : AreNeeded s (option_copied asked.need) needed
+  pub so : verdict ≡ verdict_by needed ends
   pub why : List ℕ
   pub told : TellsWhyAsked asked.why s source (all_rows asked.rows asked.seasons) journal why
   pub is : text ≡ printed asked.quiet lines rest ++ why
+
+-- it is about anything but outcomes
+abbrev pub AsksOfNoOutcome : Request → Type 0
+AsksOfNoOutcome (Outcomes search) = ⊥
+AsksOfNoOutcome asked = Unit {0}
 
 -- it is about where the journal in a file leads
 abbrev pub AsksOfJournal : Request → Type 0
@@ -220,10 +239,17 @@ FailsReplay Holds script journal faults.TooLarge = OfFiles Holds script journal 
 FailsReplay Holds script journal (faults.BadLine line) = OfFiles Holds script journal (λ s read. Fits read × journals.IsFirstBadLine s read line)
 FailsReplay Holds script journal fault = FailsScript Holds script fault
 
--- what a fault of drawing one says: also that the journal is no run, and with which line first
-abbrev pub FailsChart : Files → List ℕ → List ℕ → ℕ → Fault → Type 0
-FailsChart Holds script journal rows (faults.NoRun line) = OfFiles Holds script journal (λ s read. Fits read × IsNoRun s rows read (unlawful_line line))
-FailsChart Holds script journal rows fault = FailsReplay Holds script journal fault
+-- what a fault of drawing one says: also that the journal is no run, and with which line first, or that no process has a name
+abbrev pub FailsChart : Files → List ℕ → List ℕ → ℕ → Option (List ℕ) → Fault → Type 0
+FailsChart Holds script journal rows only (faults.NoRun line) = OfFiles Holds script journal (λ s read. Fits read × IsNoRun s rows read (unlawful_line line))
+FailsChart Holds script journal rows only (faults.Unnamed name) = OfScript Holds script (λ s. MisnamesAny s only (names.Unnamed name))
+FailsChart Holds script journal rows only fault = FailsReplay Holds script journal fault
+
+-- want of memory, or the first name that no process has
+abbrev pub FailsNamed : Script → Option (List ℕ) → Fault → Type 0
+FailsNamed s need faults.Memory = Unit {0}
+FailsNamed s need (faults.Unnamed name) = MisnamesAny s need (names.Unnamed name)
+FailsNamed s need fault = ⊥
 
 -- what a fault of a run says of what was asked for
 abbrev pub FailsRun : ℕ → ℕ → Option ℕ → Fault → Type 0
@@ -237,7 +263,7 @@ FailsRun workers rows seasons faults.Seasons = seasons ≢ None
 FailsRun workers rows seasons faults.SeasonCount = IfSome seasons (λ count. ¬ AreSeasons count)
 FailsRun workers rows seasons fault = ⊥
 
--- what a fault says of a run of a script: that of the script, of the run, or that the journal's file was not written
+-- what a fault says of a run of a script: that of the script, of the run, of a name that is needed, or that the journal's file was not written
 abbrev pub FailsRunning : Files → Running → Fault → Type 0
 FailsRunning Holds asked faults.Memory = Unit {0}
 FailsRunning Holds asked faults.Unread = Unit {0}
@@ -249,11 +275,13 @@ FailsRunning Holds asked faults.Unlawful = asked.seasons ≢ None
 FailsRunning Holds asked faults.Seasons = asked.seasons ≢ None
 FailsRunning Holds asked faults.SeasonCount = IfSome asked.seasons (λ count. ¬ AreSeasons count)
 FailsRunning Holds asked faults.Unwritten = asked.journal ≢ None
+FailsRunning Holds asked (faults.Unnamed name) = OfScript Holds asked.script.now (λ s. FailsNamed s (option_copied asked.need) (faults.Unnamed name))
 FailsRunning Holds asked fault = FailsScript Holds asked.script.now fault
 
--- what a fault says of a search: that of the script, or that the journal's file was not written
+-- what a fault says of a search: that of the script, of a name, or that the journal's file was not written
 abbrev pub FailsOutcomes : Files → Search → Fault → Type 0
 FailsOutcomes Holds search faults.Unwritten = search.journal ≢ None
+FailsOutcomes Holds search (faults.Unnamed name) = OfScript Holds search.script.now (λ s. FailsAsked s search (faults.Unnamed name))
 FailsOutcomes Holds search fault = FailsParse Holds search.script.now fault
 
 -- what a fault says of the request: `meet` lacks only memory or a thread, and the others may also fail by a file or by what it holds
@@ -264,7 +292,7 @@ Fails Holds (Check name) fault = FailsParse Holds name.now fault
 Fails Holds (Explain topic) fault = fault ≡ faults.Memory
 Fails Holds (Why script journal rows seasons) fault = FailsReplay Holds script.now journal.now fault
 Fails Holds (WhyScript name) fault = FailsRead (λ bytes. ⊥) fault
-Fails Holds (Chart script journal rows seasons from to only) fault = FailsChart Holds script.now journal.now (all_rows rows seasons) fault
+Fails Holds (Chart script journal rows seasons from to only) fault = FailsChart Holds script.now journal.now (all_rows rows seasons) (option_copied only) fault
 Fails Holds (Next script journal rows) fault = FailsReplay Holds script.now journal.now fault
 Fails Holds (Stats script journal rows seasons) fault = FailsReplay Holds script.now journal.now fault
 Fails Holds (Outcomes search) fault = FailsOutcomes Holds search fault

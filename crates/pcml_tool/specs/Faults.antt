@@ -1,4 +1,5 @@
--- The faults of meeting, of playing, of files, of journals, of charts, of runs, of seasons and of scripts as faults of the program.
+-- The faults of meeting, of playing, of files, of journals, of charts, of names, of runs, of seasons and of scripts as faults of the program.
+use Rattle.std.specs.Prelude.{ℕ}
 use Rattle.pcml_tool.specs.declared.meeting.MeetFault.{MeetFault}
 use Rattle.pcml_tool.specs.declared.meeting.MeetFault.TheVariants as meets
 use Rattle.pcml_tool.specs.declared.play.PlayFault.{PlayFault}
@@ -15,6 +16,8 @@ use Rattle.script.specs.declared.fault.ScriptFault.{ScriptFault}
 use Rattle.script.specs.declared.fault.ScriptFault.TheVariants as scripts
 use Rattle.pcml_tool.specs.declared.chart.ChartFault.{ChartFault}
 use Rattle.pcml_tool.specs.declared.chart.ChartFault.TheVariants as charts
+use Rattle.pcml_need.specs.declared.NamesFault.{NamesFault}
+use Rattle.pcml_need.specs.declared.NamesFault.TheVariants as names
 use Rattle.pcml_tool.specs.declared.fault.Fault.{Fault}
 use Rattle.pcml_tool.specs.declared.fault.Fault.TheVariants as faults
 
@@ -40,6 +43,11 @@ abbrev pub fault_of_chart : ChartFault → Fault
 fault_of_chart charts.Memory = faults.Memory
 fault_of_chart (charts.BadLine line) = faults.BadLine line
 fault_of_chart (charts.NoRun line) = faults.NoRun line
+fault_of_chart (charts.Unnamed name) = faults.Unnamed name
+
+abbrev pub fault_of_names : NamesFault → Fault
+fault_of_names names.Memory = faults.Memory
+fault_of_names (names.Unnamed name) = faults.Unnamed name
 
 abbrev pub fault_of_run : RunFault → Fault
 fault_of_run runs.Memory = faults.Memory
@@ -65,3 +73,8 @@ fault_of_script (scripts.Twice line) = faults.Twice line
 fault_of_script (scripts.TooMany line) = faults.TooMany line
 fault_of_script (scripts.LoopWithoutSync line) = faults.LoopWithoutSync line
 fault_of_script scripts.TooLong = faults.TooLong
+
+-- the status that it is told with: that of words that are not understood where a name is no process's, and else 1
+abbrev pub status_of : Fault → ℕ
+status_of (faults.Unnamed name) = 2
+status_of fault = 1

@@ -10,3 +10,4 @@ pub mod Stats
 pub mod Faults
 pub mod Command
 pub mod Version
+pub mod Searching

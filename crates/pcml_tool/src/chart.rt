@@ -3,24 +3,26 @@
 ghost use Rattle.std.specs.Prelude.{◌≡◌, ◌≤◌, IfOk, IfErr};
 ghost use Rattle.std.specs.Option.{option_copied};
 ghost use Rattle.script.specs.Scripts.{script_of};
-ghost use Rattle.pcml_tool.specs.Chart.{ExplainsChart, IsCharted, of_journal, own_by};
+ghost use Rattle.pcml_tool.specs.Chart.{ExplainsChart, IsCharted, of_journal, of_names};
 ghost use Rattle.pcml_tool.specs.declared.chart.ChartFault.TheVariants.{Memory};
 
 use crate::reach::{Reached, reach};
 use journal_text::JournalFault;
 use pcml_chart::chart_text;
-use pcml_need::are_named;
+use pcml_need::{NamesFault, named_or_all};
 use script::Script;
 use std::alloc::{AllocError, Global};
 
 /// Why there is no chart of a journal.
-#[derive(Clone, Copy, Debug, PartialEq, Eq)]
+#[derive(Debug, Drop)]
 pub enum ChartFault {
     Memory,
     /// The first line, from 1, that is no line of a journal.
     BadLine(usize),
     /// The first line, from 1, with which the journal is no run.
     NoRun(usize),
+    /// The first of the names that no process has.
+    Unnamed(String),
 }
 
 impl From<JournalFault> for ChartFault {
@@ -42,15 +44,13 @@ impl From<AllocError> for ChartFault {
     }
 }
 
-/// Which processes have columns of their own: those of the names, where names are given, and else all.
-fn own_by(alloc: Global, script: &Script, only: Option<&str>) -> Result<Vec<bool>, AllocError>
-    ensures { IfOk result (λ own. own.items ≡ own_by (script_of script.now) (option_copied only.entry)) }
-{
-    match only {
-        Some(names) => are_named(alloc, script, names.as_bytes()),
-        None => {
-            let own = vec![in alloc; true; script.processes().len()]?;
-            Ok(own)
+impl From<NamesFault> for ChartFault {
+    ghost from_gives = { λ names fault. fault ≡ of_names names };
+
+    fn from(fault: NamesFault) -> ChartFault {
+        match fault {
+            NamesFault::Memory => ChartFault::Memory,
+            NamesFault::Unnamed(name) => ChartFault::Unnamed(name),
         }
     }
 }
@@ -69,11 +69,11 @@ pub fn chart_journal(
 ) -> Result<Vec<u8>, ChartFault>
     requires { rows ≤ 67107840 }
     ensures charted { IfOk result (λ text. IsCharted (script_of script.now) rows journal.now (option_copied only.entry) from to text.items) }
-    ensures fault { IfErr result (ExplainsChart (script_of script.now) rows journal.now) }
+    ensures fault { IfErr result (ExplainsChart (script_of script.now) rows journal.now (option_copied only.entry)) }
 {
     match reach(alloc, script, journal, rows)? {
         Reached::Run(commits, state) => {
-            let own = own_by(alloc, script, only)?;
+            let own = named_or_all(alloc, script, only)?;
             let text = chart_text(alloc, script, &state, &own, commits.as_slice(), from, to)?;
             Ok(text.into_bytes())
         }

@@ -2,19 +2,20 @@
 
 ghost use Rattle.std.specs.Prelude.{◌≡◌, IfSome, IsTrue};
 ghost use Rattle.pcml_explain.specs.Topics.{is_fault};
-ghost use Rattle.pcml_tool.specs.Faults.{fault_of_chart, fault_of_meet, fault_of_play, fault_of_file, fault_of_journal, fault_of_run, fault_of_script, fault_of_season};
+ghost use Rattle.pcml_tool.specs.Faults.{fault_of_chart, fault_of_meet, fault_of_play, fault_of_file, fault_of_journal, fault_of_names, fault_of_run, fault_of_script, fault_of_season, status_of};
 ghost use Rattle.pcml_tool.specs.declared.fault.Fault.TheVariants.{Memory, Unwritten};
 
 use crate::{ChartFault, MeetFault, PlayFault};
 use journal_text::JournalFault;
 use pcml_files::{SourceFault, Unwritten};
+use pcml_need::NamesFault;
 use runtime::{RunFault, SeasonFault};
 use script::ScriptFault;
 use std::alloc::AllocError;
 use thiserror::Error;
 
 /// Why the program printed nothing, or not all. What it shows is the line on the error stream.
-#[derive(Clone, Copy, Debug, PartialEq, Eq, Error)]
+#[derive(Debug, Drop, Error)]
 pub enum Fault {
     #[error("fault 1")]
     Memory,
@@ -79,15 +80,28 @@ pub enum Fault {
     /// it, and has no number.
     #[error("unlawful at line {0}")]
     NoRun(usize),
+    /// A name that was to be a process's, and is none's. It is told as words that are not understood, and has no number.
+    #[error("error: no process is named '{0}'")]
+    Unnamed(String),
 }
 
 impl Fault {
+    /// The status that it is told with: 2, as words that are not understood, where a name is no process's, and else 1.
+    pub(crate) fn status(&self) -> u8
+        ensures { result ≡ status_of self.now }
+    {
+        match self {
+            Fault::Unnamed(_) => 2,
+            _ => 1,
+        }
+    }
+
     /// The number that it is told with, if it is told with one.
-    pub fn number(self) -> Option<u16>
+    pub fn number(&self) -> Option<u16>
         ensures { IfSome result (λ number. IsTrue (is_fault number)) }
     {
         let number = match self {
-            Fault::NoRun(_) => return None,
+            Fault::NoRun(_) | Fault::Unnamed(_) => return None,
             Fault::Memory => 1,
             Fault::NotAllowed(_) | Fault::Workers => 2,
             Fault::Rows => 3,
@@ -182,6 +196,18 @@ impl From<ChartFault> for Fault {
             ChartFault::Memory => Fault::Memory,
             ChartFault::BadLine(line) => Fault::BadLine(line),
             ChartFault::NoRun(line) => Fault::NoRun(line),
+            ChartFault::Unnamed(name) => Fault::Unnamed(name),
+        }
+    }
+}
+
+impl From<NamesFault> for Fault {
+    ghost from_gives = { λ names fault. fault ≡ fault_of_names names };
+
+    fn from(fault: NamesFault) -> Fault {
+        match fault {
+            NamesFault::Memory => Fault::Memory,
+            NamesFault::Unnamed(name) => Fault::Unnamed(name),
         }
     }
 }

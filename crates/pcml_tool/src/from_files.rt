@@ -7,10 +7,9 @@ ghost use Rattle.script.specs.Spelling.{Spells};
 ghost use Rattle.pcml_tool.specs.declared.fault.Fault.TheVariants.{Memory, Unwritten};
 ghost use Rattle.pcml_tool.specs.Check.{IsChecked};
 ghost use Rattle.pcml_tool.specs.Play.{IsPlayed};
-ghost use Rattle.pcml_tool.specs.Command.{AnswersChart, AnswersNext, AnswersReplay, AnswersStats, AnswersWhy, AnswersWhyScript, IsJudged, FailsChart, FailsParse, FailsPlay, FailsRead, FailsReplay, IsToldWhyNot, KeepsAsked, OfSchedule, is_so, printed, verdict_of};
+ghost use Rattle.pcml_tool.specs.Command.{AnswersChart, AnswersNext, AnswersReplay, AnswersStats, AnswersWhy, AnswersWhyScript, IsJudged, FailsChart, FailsParse, FailsPlay, FailsRead, FailsReplay, IsToldWhyNot, OfSchedule, printed};
 ghost use Rattle.pcml_tool.specs.declared.from_files.Verdict.TheVariants.{Done};
 ghost use Rattle.pcml_files.specs.Files.{Fits};
-ghost use Rattle.pcml_outcomes.specs.Told.{bytes_of};
 
 use crate::fault::Fault;
 use crate::{
@@ -18,7 +17,6 @@ use crate::{
     stats_journal, why_journal,
 };
 use pcml_files::{MOST_BYTES, Source};
-use pcml_outcomes::OutcomesText;
 use pcml_why_script::why_not;
 use script::{Script, parse};
 use std::alloc::Global;
@@ -29,11 +27,10 @@ pub(crate) enum Verdict {
     Done,
     /// The journal that was to be replayed is no run.
     Unlawful,
-    /// The text that was to be a script is none; or it was asked what leaves a process waiting, and some outcome
-    /// does, or not all was seen, or some process was spent; or the journal of an outcome was to be kept that is
-    /// not there.
+    /// The text that was to be a script is none; or what was asked of a script's outcomes is not so, or not known; or
+    /// the journal of an outcome was to be kept that is not there.
     Denied,
-    /// A process that had to end has not.
+    /// A process that had to end has not, or does not in some outcome.
     Lacking,
 }
 
@@ -189,7 +186,7 @@ pub(crate) fn chart_files<S: Source>(
 ) -> Result<Vec<u8>, Fault>
     requires { rows ≤ 67107840 }
     ensures done { IfOk result (λ text. AnswersChart (S.holds source.old) script.now journal.now rows (option_copied only.entry) from to Done text.items) }
-    ensures fault { IfErr result (FailsChart (S.holds source.old) script.now journal.now rows) }
+    ensures fault { IfErr result (FailsChart (S.holds source.old) script.now journal.now rows (option_copied only.entry)) }
 {
     let script = read_script(alloc, source, script)?;
     let journal = read_bounded(source, journal)?;
@@ -257,40 +254,4 @@ pub(crate) fn keep_journal<S: Source>(
         source.store(name, &text[..end])?;
     }
     Ok(rest.unwrap_or(text))
-}
-
-/// Keeps the journal of the outcome that is asked for in a file, where one is named and there is such an outcome, and
-/// gives what is printed, with the verdict.
-pub(crate) fn keep_outcome<S: Source>(
-    source: &mut S,
-    listed: OutcomesText,
-    waiting: bool,
-    of: Option<u32>,
-    journal: Option<&str>,
-) -> Result<(Verdict, Vec<u8>), Fault>
-    ensures kept { OnOk result (KeepsAsked (S.holds source.old) (S.holds source.new) (option_copied journal.entry) (bytes_of listed.journal)) }
-    ensures verdict { IfOk result (λ answer. answer.0 ≡ verdict_of (is_so waiting listed.is_clear of (bytes_of listed.journal))) }
-    ensures printed { IfOk result (λ answer. answer.1.items ≡ listed.text.items) }
-    ensures fault { IfErr result (λ fault. (fault ≡ Memory) ⊎ ((fault ≡ Unwritten) × (journal.entry ≢ None))) }
-{
-    let OutcomesText {
-        text,
-        journal: lines,
-        is_clear,
-    } = listed;
-    let mut is_so = !waiting || is_clear;
-    match lines {
-        Some(lines) => {
-            if let Some(name) = journal {
-                source.store(name, &lines)?;
-            }
-        }
-        None => is_so = is_so && of.is_none(),
-    }
-    let verdict = if is_so {
-        Verdict::Done
-    } else {
-        Verdict::Denied
-    };
-    Ok((verdict, text))
 }

@@ -10,20 +10,23 @@ ghost use Rattle.pcml_request.specs.declared.request.Request.TheVariants.{Outcom
 ghost use Rattle.pcml_tool.specs.declared.fault.Fault.TheVariants.{Memory, Unwritten};
 ghost use Rattle.pcml_tool.specs.declared.from_files.Verdict.TheVariants.{Done, Lacking};
 ghost use Rattle.pcml_request.specs.Requests.{CanBeAnswered, all_rows};
-ghost use Rattle.pcml_tool.specs.Command.{Answers, AnswersOutcomes, AnswersRun, AsksOfJournal, Began, Fails, FailsOutcomes, FailsRun, FailsRunning, IsVerdictOf, TellsWhyAsked};
+ghost use Rattle.pcml_tool.specs.Command.{Answers, AnswersOutcomes, AnswersRun, AreNeeded, AsksOfJournal, AsksOfNoOutcome, Began, Fails, FailsNamed, FailsOutcomes, FailsRun, FailsRunning, TellsWhyAsked, marks_of, verdict_by};
+ghost use Rattle.pcml_tool.specs.Faults.{status_of};
 ghost use Rattle.pcml_tool.specs.Run.{TellsAsked};
 
 use crate::fault::Fault;
 use crate::from_files::{
-    Verdict, chart_files, check_file, keep_journal, keep_outcome, next_files, play_file,
-    read_script, read_source, replay_files, stats_files, why_file, why_files,
+    Verdict, chart_files, check_file, keep_journal, next_files, play_file, read_script,
+    read_source, replay_files, stats_files, why_file, why_files,
 };
+use crate::searching::{CUT, asked_of, keep_outcome};
 use crate::{
     RunText, explain_text, meet_text, run_parts, run_seasons_parts, version_text, why_run,
 };
 use journal_replay::End;
+use outcomes::{Watch, has_unended};
 use pcml_files::{Source, emit};
-use pcml_need::have_ended;
+use pcml_need::named_processes;
 use pcml_outcomes::outcomes_text;
 use pcml_request::{Request, Running, Search, WordsFault, read_words};
 use protocol_values::Commit;
@@ -34,8 +37,6 @@ use std::sync::Wait;
 use std::thread::Threads;
 
 const DONE: u8 = 0;
-
-const FAULT: u8 = 1;
 
 const UNLAWFUL: u8 = 1;
 
@@ -79,13 +80,23 @@ fn run_asked<R: Threads + Wait + Sync>(
     }
 }
 
-/// Whether what has to end has ended, by the ends of the processes.
-fn verdict_by(script: &Script, ends: &[End], need: Option<&str>) -> Verdict
-    requires { length ends.now ≡ length (script_of script.now).processes }
-    ensures { IsVerdictOf (script_of script.now) ends.now (option_copied need.entry) result }
+/// Of each process whether it has to end, where names are needed.
+fn needed_by(alloc: Global, script: &Script, need: Option<&str>) -> Result<Option<Vec<bool>>, Fault>
+    ensures needed { IfOk result (λ needed. AreNeeded (script_of script.now) (option_copied need.entry) (marks_of needed)) }
+    ensures fault { IfErr result (FailsNamed (script_of script.now) (option_copied need.entry)) }
 {
     match need {
-        Some(names) if !have_ended(script, ends, names.as_bytes()) => Verdict::Lacking,
+        Some(names) => Ok(Some(named_processes(alloc, script, names)?)),
+        None => Ok(None),
+    }
+}
+
+/// Whether what has to end has ended, by the ends of the processes.
+fn verdict_by(ends: &[End], needed: &Option<Vec<bool>>) -> Verdict
+    ensures { result ≡ verdict_by (marks_of needed.now) ends.now }
+{
+    match needed {
+        Some(marks) if has_unended(marks, ends) => Verdict::Lacking,
         Some(_) | None => Verdict::Done,
     }
 }
@@ -123,8 +134,9 @@ fn answer_run<R: Threads + Wait + Sync, S: Source>(
     ensures fault { IfErr result (FailsRunning (S.holds source.old) asked.entry) }
 {
     let (source_text, script) = read_source(alloc, source, asked.script)?;
+    let needed = needed_by(alloc, &script, asked.need)?;
     let ran = run_asked(rt, alloc, &script, asked.workers, asked.rows, asked.seasons)?;
-    let verdict = verdict_by(&script, &ran.ends, asked.need);
+    let verdict = verdict_by(&ran.ends, &needed);
     let rows = all_rows(asked.rows, asked.seasons);
     let why = why_asked(alloc, &script, &source_text, &ran.commits, rows, asked.why)?;
     let mut text = keep_journal(alloc, source, ran, asked.journal, asked.quiet)?;
@@ -184,31 +196,37 @@ fn answer_journal<S: Source>(
     }
 }
 
-/// What a script can come to, as text, with the verdict; the journal of an outcome is kept, where that is asked for.
-fn answer_search<S: Source>(
+/// What a script can come to, as text, with the verdict, and what is told behind it; the journal of an outcome is kept,
+/// where that is asked for.
+fn answer_search<S: Source, W: Watch>(
     alloc: Global,
     search: Search<'_>,
     source: &mut S,
-) -> Result<(Verdict, Vec<u8>), Fault>
+    watch: &mut W,
+) -> Result<(Verdict, Vec<u8>, &'static str), Fault>
     requires { CanBeAnswered (Outcomes search) }
     ensures done { IfOk result (λ answer. AnswersOutcomes (S.holds source.old) (S.holds source.new) search.entry answer.0 answer.1.items) }
     ensures fault { IfErr result (FailsOutcomes (S.holds source.old) search.entry) }
 {
     let script = read_script(alloc, source, search.script)?;
+    let asked = asked_of(alloc, &script, &search)?;
     let rows = u32::from(search.rows);
     let limit = search.limit as usize;
-    let listed = outcomes_text(alloc, &script, rows, limit, search.waiting, search.of)?;
-    keep_outcome(source, listed, search.waiting, search.of, search.journal)
+    let listed = outcomes_text(alloc, &script, rows, limit, &asked, search.of, watch)?;
+    let advice = if listed.is_cut { CUT } else { "" };
+    let (verdict, text) = keep_outcome(source, listed, search.of, search.journal)?;
+    Ok((verdict, text, advice))
 }
 
-/// The text that a request is answered with.
+/// The text that a request is answered with, of any but one for outcomes.
 fn answer<R: Threads + Wait + Sync, S: Source>(
     rt: &R,
     alloc: Global,
     asked: Request<'_>,
     source: &mut S,
 ) -> Result<(Verdict, Vec<u8>), Fault>
-    requires { CanBeAnswered asked }
+    requires about { AsksOfNoOutcome asked }
+    requires can { CanBeAnswered asked }
     ensures done { IfOk result (λ answer. Answers (S.holds source.old) (S.holds source.new) asked.entry answer.0 answer.1.items) }
     ensures fault { IfErr result (Fails (S.holds source.old) asked.entry) }
 {
@@ -220,7 +238,7 @@ fn answer<R: Threads + Wait + Sync, S: Source>(
         Request::Version => Ok((Verdict::Done, version_text(alloc)?)),
         Request::WhyScript(name) => why_file(alloc, source, name),
         Request::Run(asked) => answer_run(rt, alloc, asked, source),
-        Request::Outcomes(search) => answer_search(alloc, search, source),
+        Request::Outcomes(_) => unreachable!(),
         Request::Replay { .. }
         | Request::Why { .. }
         | Request::Chart { .. }
@@ -229,14 +247,37 @@ fn answer<R: Threads + Wait + Sync, S: Source>(
     }
 }
 
+/// The text that a request is answered with, and what is told behind it.
+fn answer_whole<R: Threads + Wait + Sync, S: Source, W: Watch>(
+    rt: &R,
+    alloc: Global,
+    asked: Request<'_>,
+    source: &mut S,
+    watch: &mut W,
+) -> Result<(Verdict, Vec<u8>, &'static str), Fault>
+    requires { CanBeAnswered asked }
+    ensures done { IfOk result (λ answer. Answers (S.holds source.old) (S.holds source.new) asked.entry answer.0 answer.1.items) }
+    ensures fault { IfErr result (Fails (S.holds source.old) asked.entry) }
+{
+    match asked {
+        Request::Outcomes(search) => answer_search(alloc, search, source, watch),
+        _ => {
+            let (verdict, text) = answer(rt, alloc, asked, source)?;
+            Ok((verdict, text, ""))
+        }
+    }
+}
+
 /// Answers a request on the output. After a fault nothing was written, but for that of the output,
-/// which may have taken a beginning of the answer.
-fn respond<R: Threads + Wait + Sync, S: Source, O: Write>(
+/// which may have taken a beginning of the answer. What is told behind it goes to the error stream.
+fn respond<R: Threads + Wait + Sync, S: Source, O: Write, E: Write, W: Watch>(
     rt: &R,
     alloc: Global,
     asked: Request<'_>,
     source: &mut S,
     out: &mut O,
+    err: &mut E,
+    watch: &mut W,
 ) -> Result<Verdict, Fault>
     requires { CanBeAnswered asked }
     ensures done { IfOk result (λ verdict. (text : List ℕ) × Answers (S.holds source.old) (S.holds source.new) asked.entry verdict text
@@ -245,23 +286,25 @@ fn respond<R: Threads + Wait + Sync, S: Source, O: Write>(
         ((fault ≡ Unwritten) × Began (S.holds source.old) (S.holds source.new) asked.entry (O.contents out.old) (O.contents out.new))
         ⊎ (Fails (S.holds source.old) asked.entry fault × (out.new ≡ out.old))) }
 {
-    let (verdict, text) = answer(rt, alloc, asked, source)?;
+    let (verdict, text, advice) = answer_whole(rt, alloc, asked, source, watch)?;
     emit(out, text.as_slice())?;
+    let _ = write!(err, "{advice}");
     Ok(verdict)
 }
 
 /// Does what the words behind the program's name ask for, and answers the status: 0, or 1 after a
 /// fault, for a journal that is no run, where it is told why a text is no script, or where what was asked of a script's
-/// outcomes is not so, 2 after
-/// words that are not understood and after a wish for help, or 3 where a process that had to end has not. A fault is
-/// a line on the error stream; whether that stream takes it changes nothing.
-pub fn command<R: Threads + Wait + Sync, S: Source, O: Write, E: Write>(
+/// outcomes is not so or not known, 2 after words that are not understood, after a name that no process has and after a
+/// wish for help, or 3 where a process that had to end has not, or does not in some outcome. A fault is
+/// a line on the error stream; whether that stream takes it changes nothing. Who watches is told how far a search is.
+pub fn command<R: Threads + Wait + Sync, S: Source, O: Write, E: Write, W: Watch>(
     rt: &R,
     alloc: Global,
     words: &[&str],
     source: &mut S,
     out: &mut O,
     err: &mut E,
+    watch: &mut W,
 ) -> u8
     ensures status { result ≤ 3 }
     // Where all went well, the output has grown by the answer to some request.
@@ -282,7 +325,7 @@ pub fn command<R: Threads + Wait + Sync, S: Source, O: Write, E: Write>(
             return BAD_WORDS;
         }
     };
-    match respond(rt, alloc, asked, source, out) {
+    match respond(rt, alloc, asked, source, out, err, watch) {
         Ok(Verdict::Done) => DONE,
         Ok(Verdict::Unlawful) => UNLAWFUL,
         Ok(Verdict::Denied) => DENIED,
@@ -293,8 +336,8 @@ pub fn command<R: Threads + Wait + Sync, S: Source, O: Write, E: Write>(
 
 /// Tells the fault on a line of its own, and answers its status.
 pub fn tell<E: Write>(err: &mut E, fault: Fault) -> u8
-    ensures { result ≡ 1 }
+    ensures { result ≡ status_of fault }
 {
     let _ = writeln!(err, "{fault}");
-    FAULT
+    fault.status()
 }

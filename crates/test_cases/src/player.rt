@@ -6,7 +6,7 @@ use crate::calls::{Outcome, Wanted, last_line, replayed};
 use crate::shelf::Shelf;
 use anyhow::{Result, bail};
 use journal_text::JournalFault;
-use pcml_tool::{Replayed, command, replay_text};
+use pcml_tool::{Replayed, Unwatched, command, replay_text};
 use script::{Script, parse};
 use std::alloc::{AllocError, Global};
 use std::fs::Files;
@@ -71,7 +71,7 @@ impl<'a, R: AllocGlobal + Files + Input + Threads + Wait + Sync> Player<'a, R> {
         let alloc = self.rt.alloc();
         let mut out = Vec::new(alloc);
         let mut err = Vec::new(alloc);
-        let status = command(self.rt, alloc, words, &mut self.files, &mut out, &mut err);
+        let status = command(self.rt, alloc, words, &mut self.files, &mut out, &mut err, &mut Unwatched);
         self.calls = self.calls.saturating_add(1);
         Ok(Outcome { status, out, err })
     }

@@ -1,4 +1,4 @@
-use pcml_tool::{Fault, Source, SourceFault, command, play_laws, replay_laws};
+use pcml_tool::{Fault, Source, SourceFault, Unwatched, command, play_laws, replay_laws};
 use std::alloc::{AllocError, Global};
 use std::fmt::Debug;
 use std::io;
@@ -68,7 +68,7 @@ fn run<R: AllocGlobal + Threads + Wait + Sync>(
     let mut source = OneFile { alloc, text };
     let mut out = Vec::with_capacity(alloc, 256)?;
     let mut err = Vec::with_capacity(alloc, 4096)?;
-    let status = command(rt, alloc, words, &mut source, &mut out, &mut err);
+    let status = command(rt, alloc, words, &mut source, &mut out, &mut err, &mut Unwatched);
     if status == 1 && out.is_empty() && err.as_slice() == b"fault 1\n".as_slice() {
         return Err(Fault::Memory);
     }
@@ -111,6 +111,7 @@ fn check_narrow<R: Abort + AllocGlobal + Threads + Wait + Sync>(
         &mut OneFile { alloc, text: b"" },
         &mut Narrow { room },
         &mut err,
+        &mut Unwatched,
     );
     if status == 1 && err.as_slice() == b"fault 1\n".as_slice() {
         return Err(Fault::Memory);

@@ -1,7 +1,7 @@
 //! Journals that are kept on the disk: links, and what nobody may lose by them.
 
 use crate::tests::check_same;
-use pcml_tool::{SystemFiles, command};
+use pcml_tool::{SystemFiles, Unwatched, command};
 use std::io::ErrorKind;
 use std::os::unix::fs::{PermissionsExt, symlink};
 use std::process::Abort;
@@ -52,7 +52,7 @@ fn keep<R: Abort + AllocGlobal + Files + Input + Threads + Wait + Sync>(
     let mut files = SystemFiles::new(rt);
     let mut out = Vec::new(rt.alloc());
     let mut told = Vec::new(rt.alloc());
-    let status = command(rt, rt.alloc(), &words, &mut files, &mut out, &mut told);
+    let status = command(rt, rt.alloc(), &words, &mut files, &mut out, &mut told, &mut Unwatched);
     check_same(rt, told.as_slice(), err.as_bytes(), name);
     check_same(rt, status, u8::from(!err.is_empty()), name);
     Ok(())

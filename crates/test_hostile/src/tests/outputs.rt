@@ -1,7 +1,7 @@
 //! Outputs that take little, fail or are interrupted.
 
 use crate::tests::{LINES, SERVER, check_same};
-use pcml_tool::{Source, SourceFault, command};
+use pcml_tool::{Source, SourceFault, Unwatched, command};
 use std::alloc::{AllocError, Global};
 use std::io;
 use std::io::{ErrorKind, Write};
@@ -93,7 +93,7 @@ fn replays_onto<R: AllocGlobal + Threads + Wait + Sync>(
     let alloc = rt.alloc();
     let mut err = Vec::with_capacity(alloc, 64)?;
     let words = ["replay", "script", "journal"];
-    let status = command(rt, alloc, &words, &mut ServerFiles { alloc }, out, &mut err);
+    let status = command(rt, alloc, &words, &mut ServerFiles { alloc }, out, &mut err, &mut Unwatched);
     Ok((status, err))
 }
 

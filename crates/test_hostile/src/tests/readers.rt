@@ -3,7 +3,7 @@
 ghost use Rattle.std.specs.Prelude.{◌≤◌, length};
 
 use crate::tests::{SERVER, check_same};
-use pcml_tool::{Source, SourceFault, SystemFiles, command};
+use pcml_tool::{Source, SourceFault, SystemFiles, Unwatched, command};
 use std::alloc::{AllocError, Allocator, Global};
 use std::fs::{Files, Metadata, OpenFile, OpenOptions};
 use std::io;
@@ -218,7 +218,7 @@ fn tells<R: Abort + AllocGlobal + Threads + Wait + Sync, S: Source>(
     let alloc = rt.alloc();
     let mut printed = Vec::with_capacity(alloc, 64)?;
     let mut told = Vec::with_capacity(alloc, 64)?;
-    let status = command(rt, alloc, words, source, &mut printed, &mut told);
+    let status = command(rt, alloc, words, source, &mut printed, &mut told, &mut Unwatched);
     let request = words.last().copied().unwrap_or("");
     check_same(rt, told.as_slice(), err.as_bytes(), request);
     check_same(rt, printed.as_slice(), out.as_bytes(), request);

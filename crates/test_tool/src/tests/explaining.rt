@@ -39,7 +39,7 @@ fn explained<R: AllocGlobal + Threads + Wait + Sync>(rt: &R, number: u16) -> Res
 /// The fault is told with its number, and under that number it is explained.
 fn check_explained<R: Abort + AllocGlobal + Threads + Wait + Sync>(
     rt: &R,
-    fault: Fault,
+    fault: &Fault,
 ) -> Result<(), Fail> {
     let told = format!(in rt.alloc(); "{fault} ")?;
     let number = fault.number().unwrap_or(0);
@@ -54,7 +54,7 @@ fn check_explained<R: Abort + AllocGlobal + Threads + Wait + Sync>(
 #[test]
 fn explains_each_fault(rt: HostRuntime) -> Result<(), Fail> {
     for fault in &FAULTS {
-        check_explained(&rt, *fault)?;
+        check_explained(&rt, fault)?;
     }
     Ok(())
 }

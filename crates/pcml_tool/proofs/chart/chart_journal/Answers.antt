@@ -3,7 +3,7 @@ use Rattle.std.specs.Option.{option_copied}
 use Rattle.script.specs.Scripts.{script_of}
 use Rattle.protocol_values.specs.declared.Commit.{Commit}
 use Rattle.pcml_chart.specs.Chart.{IsChart}
-use Rattle.pcml_tool.specs.Chart.{own_by}
+use Rattle.pcml_need.specs.Needs.{named_or_all}
 use Rattle.pcml_tool.specs.Replay.{Breaks, LeadsTo, Reaches, unlawful_line}
 use Rattle.pcml_tool.specs.declared.reach.Reached.{Reached}
 use Rattle.pcml_tool.proofs.Columns.{each-column}
@@ -18,19 +18,20 @@ chart_text-requires-clause-threads c =
 
 pub chart_text-requires-clause-columns : goal.chart_text-requires-clause-columns
 chart_text-requires-clause-columns c =
-    ap (λ (own : List Bool). length own) (c.deref.ensures.value ∙ c.in_ok-own-in-Run.ensures) ∙ each-column (script_of c.args.script.now) (option_copied c.args.only)
+    ap (λ (own : List Bool). length own) (c.deref.ensures.value ∙ c.in_ok-own-in-Run.ensures.named.1) ∙ each-column (script_of c.args.script.now) (option_copied c.args.only)
 
 pub returns-in-Run-clause-charted : goal.returns-in-Run-clause-charted
 returns-in-Run-clause-charted c =
     let s = script_of c.args.script.now in
     let led : LeadsTo s c.args.rows c.args.journal.now c.in-Run.commits.items c.in-Run.state =
     subst (λ (r : Reached). Reaches s c.args.rows c.args.journal.now r) c.in-Run.is c.in_ok-commits.ensures.reached in
-    let own : c.deref.result.now ≡ own_by s (option_copied c.args.only) = c.deref.ensures.value ∙ c.in_ok-own-in-Run.ensures in
+    let own : c.deref.result.now ≡ named_or_all s (option_copied c.args.only) = c.deref.ensures.value ∙ c.in_ok-own-in-Run.ensures.named.1 in
     record {
       commits = c.in-Run.commits.items;
       spells = led.spells;
       state = c.in-Run.state;
       stands = led.stands;
+      named = c.in_ok-own-in-Run.ensures.named.0;
       is =
           subst (λ (z : List Bool × List Commit × List ℕ). IsChart s c.in-Run.state z.0 z.1 c.args.from c.args.to z.2)
           (λ i. (own i, c.as_slice.ensures.value i, (sym c.into_bytes.ensures.value i).items)) c.in_ok-text-in-Run.ensures;

@@ -1,0 +1,58 @@
+//! How far a search is, on a terminal.
+
+use pcml_tool::Watch;
+use std::io::Write;
+use std::time::{Clock, Duration, Instant};
+
+/// Between two looks at the clock so many configurations are looked at.
+const LOOKS: u32 = 1024;
+
+/// Tells a person at a terminal once a second how far a search is. Without a stream nothing is told.
+#[derive(Drop)]
+pub(crate) struct Progress<'a, R: Clock, E: Write> {
+    clock: &'a R,
+    err: Option<E>,
+    looks: u32,
+    told: Option<Instant>,
+}
+
+impl<'a, R: Clock, E: Write> Progress<'a, R, E> {
+    pub(crate) fn new(clock: &'a R, err: Option<E>) -> Progress<'a, R, E> {
+        Progress {
+            clock,
+            err,
+            looks: 0,
+            told: None,
+        }
+    }
+
+    /// Whether a second has gone by since the last time that it was told, or since the first look.
+    fn is_due(&mut self) -> bool {
+        let Ok(now) = Instant::now(self.clock) else {
+            return false;
+        };
+        match self.told {
+            Some(told) if now.duration_since(told) < Duration::from_secs(1) => false,
+            Some(_) => {
+                self.told = Some(now);
+                true
+            }
+            None => {
+                self.told = Some(now);
+                false
+            }
+        }
+    }
+}
+
+impl<'a, R: Clock, E: Write> Watch for Progress<'a, R, E> {
+    fn look(&mut self, seen: usize, open: usize) {
+        self.looks = (self.looks + 1) % LOOKS;
+        if self.looks != 1 || self.err.is_none() || !self.is_due() {
+            return;
+        }
+        if let Some(err) = &mut self.err {
+            let _ = writeln!(err, "{seen} configurations seen, {open} open");
+        }
+    }
+}

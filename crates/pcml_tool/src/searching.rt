@@ -1,0 +1,103 @@
+//! What is asked for of the outcomes, and what is answered.
+
+ghost use Rattle.std.specs.Prelude.{◌≡◌, ◌≢◌, ◌⊎◌, ◌||◌, None, IfErr, IfOk, OnOk, length, map};
+ghost use Rattle.std.specs.List.{zip};
+ghost use Rattle.std.specs.Option.{option_copied};
+ghost use Rattle.script.specs.Scripts.{script_of};
+ghost use Rattle.outcomes.specs.declared.asked.Told.{Told as WhichTold};
+ghost use Rattle.pcml_outcomes.specs.Told.{NamesNeeded, bytes_of};
+ghost use Rattle.pcml_tool.specs.declared.fault.Fault.TheVariants.{Memory, Unwritten};
+ghost use Rattle.pcml_tool.specs.Command.{KeepsAsked};
+ghost use Rattle.pcml_tool.specs.Searching.{FailsAsked, IsAskedOf, verdict_of};
+
+use crate::fault::Fault;
+use crate::from_files::Verdict;
+use outcomes::{Asked, Told};
+use pcml_files::Source;
+use pcml_need::{named_or_all, named_processes};
+use pcml_outcomes::{Finding, OutcomesText};
+use pcml_request::{Search, Wanted};
+use script::Script;
+use std::alloc::{AllocError, Global};
+
+/// What is told behind an answer for which not all was seen.
+pub(crate) const CUT: &str =
+    "cut: not all configurations were seen. A larger --limit (up to 4194304) sees more; fewer --rows or messages make fewer. --need and --only tell less of what was seen.\n";
+
+/// The marks of both.
+fn either(alloc: Global, first: &[bool], second: &[bool]) -> Result<Vec<bool>, AllocError>
+    ensures { IfOk result (λ marks. marks.items ≡ map (λ p. p.0 || p.1) (zip first.now second.now)) }
+{
+    first
+        .iter()
+        .zip(second)
+        .map(|(one, other)| *one || *other)
+        .collect(alloc)
+}
+
+/// What is asked for. Of the names of the processes that have to end, and then of those that are named alone, the first
+/// that no process has is a fault.
+pub(crate) fn asked_of(alloc: Global, script: &Script, search: &Search<'_>) -> Result<Asked, Fault>
+    ensures asked { IfOk result (IsAskedOf (script_of script.now) search.now) }
+    ensures needed { IfOk result NamesNeeded }
+    ensures marks { IfOk result (λ asked. length asked.named.items ≡ length (script_of script.now).processes) }
+    ensures fault { IfErr result (FailsAsked (script_of script.now) search.now) }
+{
+    let first = search.first;
+    match search.wanted {
+        Wanted::Each => {
+            let named = named_or_all(alloc, script, search.only)?;
+            let told = Told::Each;
+            Ok(Asked { named, told, first })
+        }
+        Wanted::Waiting => {
+            let named = named_or_all(alloc, script, search.only)?;
+            let told = Told::Waiting;
+            Ok(Asked { named, told, first })
+        }
+        Wanted::Lacking(names) => {
+            let needed = named_processes(alloc, script, names)?;
+            let only = named_or_all(alloc, script, search.only)?;
+            let named = either(alloc, &only, &needed)?;
+            let told = Told::Lacking(needed);
+            Ok(Asked { named, told, first })
+        }
+    }
+}
+
+/// What the finding says of what was asked, where the journal of an outcome was asked for or not, and is there or not.
+fn verdict_of(finding: Finding, is_asked: bool, is_there: bool) -> Verdict
+    ensures { result ≡ verdict_of finding is_asked is_there }
+{
+    match finding {
+        Finding::Stuck => Verdict::Lacking,
+        Finding::Clear if !is_asked || is_there => Verdict::Done,
+        Finding::Clear | Finding::Open => Verdict::Denied,
+    }
+}
+
+/// Keeps the journal of the outcome that is asked for in a file, where one is named and there is such an outcome, and
+/// gives what is printed, with the verdict.
+pub(crate) fn keep_outcome<S: Source>(
+    source: &mut S,
+    listed: OutcomesText,
+    of: Option<u32>,
+    journal: Option<&str>,
+) -> Result<(Verdict, Vec<u8>), Fault>
+    ensures kept { OnOk result (KeepsAsked (S.holds source.old) (S.holds source.new) (option_copied journal.entry) (bytes_of listed.journal)) }
+    ensures verdict { IfOk result (λ answer. answer.0 ≡ verdict_of listed.finding (is_some of) (is_some (bytes_of listed.journal))) }
+    ensures printed { IfOk result (λ answer. answer.1.items ≡ listed.text.items) }
+    ensures fault { IfErr result (λ fault. (fault ≡ Memory) ⊎ ((fault ≡ Unwritten) × (journal.entry ≢ None))) }
+{
+    let OutcomesText {
+        text,
+        journal: lines,
+        finding,
+        ..
+    } = listed;
+    let is_there = lines.is_some();
+    if let (Some(lines), Some(name)) = (lines, journal) {
+        source.store(name, &lines)?;
+    }
+    Ok((verdict_of(finding, of.is_some(), is_there), text))
+}
