@@ -1,7 +1,7 @@
 -- A mark for each process.
 use Rattle.std.proofs.Common.{◌≡◌, ◌∙◌, ◌||◌, List, [], ◌∷◌, ℕ, zero, suc, Bool, Option, Some, None, ap, arith, if◌then◌else◌, length, refl, sym, true, false}
 use Rattle.std.specs.List.{zip}
-use Rattle.std.specs.Prelude.{map, replicate, slice_get}
+use Rattle.std.specs.Prelude.{replicate, slice_get}
 use Rattle.std.proofs.lemmas.Option.{none-some, same_Some}
 use Rattle.pcml_tool.specs.Searching.{either}
 use Rattle.std.proofs.lemmas.List.{length-map, length-replicate}

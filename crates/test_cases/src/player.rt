@@ -71,7 +71,15 @@ impl<'a, R: AllocGlobal + Files + Input + Threads + Wait + Sync> Player<'a, R> {
         let alloc = self.rt.alloc();
         let mut out = Vec::new(alloc);
         let mut err = Vec::new(alloc);
-        let status = command(self.rt, alloc, words, &mut self.files, &mut out, &mut err, &mut Unwatched);
+        let status = command(
+            self.rt,
+            alloc,
+            words,
+            &mut self.files,
+            &mut out,
+            &mut err,
+            &mut Unwatched,
+        );
         self.calls = self.calls.saturating_add(1);
         Ok(Outcome { status, out, err })
     }

@@ -68,7 +68,15 @@ fn run<R: AllocGlobal + Threads + Wait + Sync>(
     let mut source = OneFile { alloc, text };
     let mut out = Vec::with_capacity(alloc, 256)?;
     let mut err = Vec::with_capacity(alloc, 4096)?;
-    let status = command(rt, alloc, words, &mut source, &mut out, &mut err, &mut Unwatched);
+    let status = command(
+        rt,
+        alloc,
+        words,
+        &mut source,
+        &mut out,
+        &mut err,
+        &mut Unwatched,
+    );
     if status == 1 && out.is_empty() && err.as_slice() == b"fault 1\n".as_slice() {
         return Err(Fault::Memory);
     }

@@ -52,7 +52,15 @@ fn keep<R: Abort + AllocGlobal + Files + Input + Threads + Wait + Sync>(
     let mut files = SystemFiles::new(rt);
     let mut out = Vec::new(rt.alloc());
     let mut told = Vec::new(rt.alloc());
-    let status = command(rt, rt.alloc(), &words, &mut files, &mut out, &mut told, &mut Unwatched);
+    let status = command(
+        rt,
+        rt.alloc(),
+        &words,
+        &mut files,
+        &mut out,
+        &mut told,
+        &mut Unwatched,
+    );
     check_same(rt, told.as_slice(), err.as_bytes(), name);
     check_same(rt, status, u8::from(!err.is_empty()), name);
     Ok(())

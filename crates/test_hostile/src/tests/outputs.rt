@@ -93,7 +93,15 @@ fn replays_onto<R: AllocGlobal + Threads + Wait + Sync>(
     let alloc = rt.alloc();
     let mut err = Vec::with_capacity(alloc, 64)?;
     let words = ["replay", "script", "journal"];
-    let status = command(rt, alloc, &words, &mut ServerFiles { alloc }, out, &mut err, &mut Unwatched);
+    let status = command(
+        rt,
+        alloc,
+        &words,
+        &mut ServerFiles { alloc },
+        out,
+        &mut err,
+        &mut Unwatched,
+    );
     Ok((status, err))
 }
 

@@ -218,7 +218,15 @@ fn tells<R: Abort + AllocGlobal + Threads + Wait + Sync, S: Source>(
     let alloc = rt.alloc();
     let mut printed = Vec::with_capacity(alloc, 64)?;
     let mut told = Vec::with_capacity(alloc, 64)?;
-    let status = command(rt, alloc, words, source, &mut printed, &mut told, &mut Unwatched);
+    let status = command(
+        rt,
+        alloc,
+        words,
+        source,
+        &mut printed,
+        &mut told,
+        &mut Unwatched,
+    );
     let request = words.last().copied().unwrap_or("");
     check_same(rt, told.as_slice(), err.as_bytes(), request);
     check_same(rt, printed.as_slice(), out.as_bytes(), request);

@@ -1,8 +1,8 @@
 //! What a script can come to, as values.
 
 use super::check_same;
-use journal_replay::{End, replay};
 use configurations::next_commits;
+use journal_replay::{End, replay};
 use outcomes::{Outcomes, find_outcomes};
 use protocol_values::{Atom, Commit, Message, Row};
 use script::parse;

@@ -4,7 +4,7 @@ use Rattle.script.specs.Scripts.{script_of}
 use Rattle.protocol_values.specs.declared.Commit.{Commit}
 use Rattle.pcml_chart.specs.Chart.{IsChart}
 use Rattle.pcml_need.specs.Needs.{named_or_all}
-use Rattle.pcml_tool.specs.Replay.{Breaks, LeadsTo, Reaches, unlawful_line}
+use Rattle.pcml_tool.specs.Replay.{LeadsTo, Reaches}
 use Rattle.pcml_tool.specs.declared.reach.Reached.{Reached}
 use Rattle.pcml_tool.proofs.Columns.{each-column}
 use Rattle.pcml_tool.proofs.chart.chart_journal.Goals as goal

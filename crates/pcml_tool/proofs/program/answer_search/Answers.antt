@@ -1,4 +1,4 @@
-use Rattle.std.proofs.Common.{ℕ, Bool, List, Option, Some, None, ap, subst, ◌∙◌}
+use Rattle.std.proofs.Common.{ℕ, List, Option, Some, None, ap, subst, ◌∙◌}
 use Rattle.std.specs.Option.{option_copied}
 use Rattle.std.specs.Prelude.{is_some}
 use Rattle.script.specs.Scripts.{script_of}

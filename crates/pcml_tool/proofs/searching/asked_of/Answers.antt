@@ -1,11 +1,10 @@
-use Rattle.std.proofs.Common.{◌≡◌, ◌∙◌, ℕ, Bool, List, [], Some, ap, length, refl, subst, sym, true}
+use Rattle.std.proofs.Common.{◌≡◌, ◌∙◌, Bool, List, [], Some, ap, length, refl, subst, sym, true}
 use Rattle.std.specs.Prelude.{slice_get}
 use Rattle.std.specs.Option.{option_copied}
 use Rattle.script.specs.Scripts.{script_of}
 use Rattle.outcomes.specs.declared.asked.Told.{Told}
 use Rattle.outcomes.specs.declared.asked.Told.TheVariants.{Lacking}
-use Rattle.pcml_need.specs.Needs.{named_by, named_or_all}
-use Rattle.pcml_outcomes.specs.Told.{IsMarked}
+use Rattle.pcml_need.specs.Needs.{named_or_all}
 use Rattle.pcml_request.specs.declared.request.Wanted.{Wanted}
 use Rattle.pcml_tool.specs.Searching.{Asks, either}
 use Rattle.pcml_tool.proofs.Columns.{each-column, each-either, each-named, either-second}
