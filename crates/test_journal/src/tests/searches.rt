@@ -3,7 +3,7 @@
 use super::check_same;
 use configurations::next_commits;
 use journal_replay::{End, replay};
-use outcomes::{Outcomes, find_outcomes};
+use outcomes::{Asked, Extent, Outcomes, Told, Unwatched, find_outcomes};
 use protocol_values::{Atom, Commit, Message, Row};
 use script::parse;
 use std::alloc::Global;
@@ -28,7 +28,13 @@ fn sent(thread: u8, number: u32) -> Commit {
 
 fn found(alloc: Global, limit: usize) -> Result<Outcomes, Fail> {
     let script = parse(alloc, EITHER.as_bytes())?;
-    Ok(find_outcomes(alloc, script.processes(), 256, limit)?)
+    let asked = Asked {
+        named: vec![in alloc; true; 3]?,
+        told: Told::Each,
+        first: false,
+    };
+    let processes = script.processes();
+    Ok(find_outcomes(alloc, processes, 256, limit, &asked, &mut Unwatched)?)
 }
 
 /// One of the outcomes has these ends, and the number as the last process's output, and its journal is this commit.
@@ -54,7 +60,7 @@ fn check_has(
 #[test]
 fn either_is_left_waiting(rt: HostRuntime) -> Result<(), Fail> {
     let found = found(rt.alloc(), 256)?;
-    check_same(&rt, found.whole, true);
+    check_same(&rt, found.extent, Extent::Whole);
     check_same(&rt, found.visited, 3);
     check_same(&rt, found.outcomes.len(), 2);
     let first = [End::Ended, End::Waiting, End::Ended];
@@ -66,7 +72,7 @@ fn either_is_left_waiting(rt: HostRuntime) -> Result<(), Fail> {
 #[test]
 fn a_search_is_cut_at_its_limit(rt: HostRuntime) -> Result<(), Fail> {
     let found = found(rt.alloc(), 2)?;
-    check_same(&rt, found.whole, false);
+    check_same(&rt, found.extent, Extent::Cut);
     check_same(&rt, found.visited, 2);
     Ok(())
 }
