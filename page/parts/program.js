@@ -159,6 +159,7 @@ class System {
       write: (handle, from, length) => this.write(handle, from, length),
       __write: (handle, from, length) => this.write(handle, from, length),
       close: done,
+      isatty: done,
       statx: (...all) => this.tell(...all),
       rename: (from, to) => this.rename(from, to),
       unlink: (name) => this.remove(name),
