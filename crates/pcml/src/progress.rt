@@ -47,7 +47,7 @@ impl<'a, R: Clock, E: Write> Progress<'a, R, E> {
 
 impl<'a, R: Clock, E: Write> Watch for Progress<'a, R, E> {
     fn look(&mut self, seen: usize, open: usize) {
-        self.looks = (self.looks + 1) % LOOKS;
+        self.looks = self.looks.wrapping_add(1) % LOOKS;
         if self.looks != 1 || self.err.is_none() || !self.is_due() {
             return;
         }
