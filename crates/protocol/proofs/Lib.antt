@@ -4,6 +4,7 @@ pub mod Causes
 pub mod StepLemmas
 pub mod Lawfulness
 pub mod Places
+pub mod Reaching
 pub mod Readings
 pub mod Naming
 pub mod Keeping

@@ -1,5 +1,5 @@
 -- What a ledger tells of its end, which a later table goes on from: the last stamp of each thread, and what became of each nack.
-use Rattle.std.specs.Prelude.{◌≡◌, ◌⊎◌, ◌≤◌, ◌<◌, ◌+◌, ◌*◌, ◌%◌, ◌&&◌, ◌==◌, if◌then◌else◌, ℕ, Bool, List, Option, None, Some, true, false, length, map, max, replicate, ◌≢◌, All, slice_get, slice_index, slice_index_or}
+use Rattle.std.specs.Prelude.{◌≡◌, ◌⊎◌, ◌≤◌, ◌<◌, ◌+◌, ◌*◌, ◌%◌, ◌&&◌, ◌==◌, if◌then◌else◌, ℕ, Bool, List, Option, None, Some, true, false, length, map, max, replicate, ◌≢◌, All, slice_get, slice_index, slice_index_or, slice_set}
 use Rattle.std.specs.List.{fold, range_with_len}
 use Rattle.protocol_values.specs.declared.Binding.{Binding}
 use Rattle.protocol_values.specs.declared.Commit.{Commit}
@@ -20,6 +20,8 @@ use Rattle.protocol.specs.declared.opening.Life.{Life}
 use Rattle.protocol.specs.declared.opening.Life.TheVariants.{Unstarted, Running, Ended}
 use Rattle.protocol.specs.declared.opening.NackState.{NackState}
 use Rattle.protocol.specs.declared.opening.Opening.{Opening as StatedOpening}
+use Rattle.protocol.specs.declared.reached.Reached.{Reached}
+use Rattle.protocol_values.specs.declared.Commit.TheVariants.{Alone, Pair}
 use Rattle.protocol.specs.declared.opening.NackState.TheVariants.{Unbound, Unsettled, Dead, Enabled}
 
 -- THREADS
@@ -39,6 +41,34 @@ life_of (HasEnded start sync) = Ended
 abbrev pub TellsThreads : Ledger → List (Life × ℕ) → Type 0
 TellsThreads l threads =
     (length threads ≡ l.threads) × ((t : ℕ) (life : Life) (stamp : ℕ) → slice_get threads t ≡ Some (life, stamp) → (life ≡ life_of (course_in l t)) × IsLastStamp l t stamp)
+
+-- HOW FAR A THREAD GOT: its last stamp, and how many of its rows there are up to that of its last commit
+
+-- from this one on no row of the thread is in a commit
+abbrev pub IsPast : Ledger → ℕ → ℕ → Type 0
+IsPast l t rows = (c : Commit) (g : ℕ) → HasCommit l c → Involves c (record { thread = t; sync = g }) → g < rows
+
+pub record HasReached (l : Ledger) (t : ℕ) (reached : Reached) : Type 0 where
+  pub last : IsLastStamp l t reached.stamp
+  pub past : IsPast l t reached.rows
+
+abbrev pub HaveReached : Ledger → List Reached → Type 0
+HaveReached l all = (length all ≡ l.threads) × ((t : ℕ) (reached : Reached) → slice_get all t ≡ Some reached → HasReached l t reached)
+
+-- with no commit
+abbrev pub AreStarts : Ledger → List Reached → Type 0
+AreStarts l all = (length all ≡ l.threads) × ((t : ℕ) (reached : Reached) → slice_get all t ≡ Some reached → reached ≡ record { stamp = start_of (course_in l t); rows = 0 })
+
+-- the row of the thread is noted with this stamp, unless one that is no earlier was
+abbrev pub Notes : Row → ℕ → List Reached → List Reached → Type 0
+Notes row stamp old new =
+    ((new ≡ old) × ((before : Reached) → slice_get old row.thread ≡ Some before → row.sync < before.rows))
+    ⊎ ((new ≡ slice_set old row.thread (record { stamp = stamp; rows = row.sync + 1 })) × ((before : Reached) → slice_get old row.thread ≡ Some before → before.rows ≤ row.sync))
+
+-- each row of the commit is
+abbrev pub NotesCommit : Commit → List Reached → List Reached → Type 0
+NotesCommit (Pair sender receiver channel message stamp) old new = (between : List Reached) × Notes sender.0 stamp old between × Notes receiver.0 stamp between new
+NotesCommit (Alone at k stamp) old new = Notes at.0 stamp old new
 
 -- NACKS
 

@@ -154,7 +154,7 @@ impl Sheet {
         requires { IsLawful (ledger_of (table_of self.now)) }
         ensures { IfOk result (λ cs. cs.items ≡ commits_of (all_rows self.now.threads self.now.rows) (joined_at (table_of self.now)) (offer_at (table_of self.now))) }
     {
-        let mut commits = Vec::with_capacity(*self.words.allocator(), self.len() / 2)?;
+        let mut commits = Vec::with_capacity(self.allocator(), self.len() / 2)?;
         for thread in 0..self.threads {
             self.tell(thread as u8, &mut commits)?;
         }

@@ -13,6 +13,7 @@ ghost use Rattle.std.specs.Prelude.{◌≡◌, ℕ, ◌≤◌, List};
 mod commits;
 mod ledger;
 mod opening;
+mod reached;
 mod resident;
 mod sheet;
 mod stamps;
@@ -25,9 +26,10 @@ pub use crate::resident::{Bare, Resident};
 pub use crate::sheet::{LIVES, NACKS, OFFERS, ROW_LEN, next_words, start_words};
 pub use crate::world::{World, play};
 pub use protocol_values::{
-    Atom, Base, Binding, Cause, Cell, Commit, Direction, Head, Joined, Message, NackName, NackWord,
-    Offer, Row, Seat, Step, is_word_for, pack_atom, pack_cell, pack_count, pack_head, pack_nack,
-    pack_offer, unpack_atom, unpack_cell, unpack_count, unpack_head, unpack_nack, unpack_offer,
+    Atom, Base, Binding, Cause, Cell, Commit, Course, Direction, Head, Joined, Message, NackName,
+    NackWord, Offer, Row, Seat, Side, Step, is_word_for, pack_atom, pack_cell, pack_count,
+    pack_course, pack_head, pack_nack, pack_offer, unpack_atom, unpack_cell, unpack_count,
+    unpack_course, unpack_head, unpack_nack, unpack_offer,
 };
 use thiserror::Error;
 

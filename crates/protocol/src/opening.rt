@@ -1,12 +1,13 @@
 //! What a ledger tells of its end: each thread's life and last stamp, and what became of each nack.
 
-ghost use Rattle.std.specs.Prelude.{◌≡◌, ◌+◌, ◌*◌, ◌<◌, ◌≤◌, ◌↔◌, IfOk, IsTrue};
-ghost use Rattle.protocol.specs.Ledgers.{Involves, IsLawful, Takes};
+ghost use Rattle.std.specs.Prelude.{◌≡◌, ◌+◌, ◌*◌, ◌<◌, ◌≤◌, ◌↔◌, Contains, IfOk, IsTrue};
+ghost use Rattle.protocol.specs.Ledgers.{HasCommit, Involves, IsLawful, Takes};
 ghost use Rattle.protocol_values.specs.Commits.{stamp_of};
-ghost use Rattle.protocol.specs.Openings.{IsLastStamp, IsOpening, LeadsOn, TellsEnd, TellsNack, TellsNacks, TellsThreads, course_for, first_life, greatest, life_of, opening_of, stamp_in, start_opening, word_for};
+ghost use Rattle.protocol.specs.Openings.{HaveReached, IsOpening, IsPast, LeadsOn, TellsEnd, TellsNack, TellsNacks, TellsThreads, course_for, first_life, greatest, life_of, opening_of, stamp_in, start_opening, word_for};
 
 use crate::ledger::Ledger;
-use crate::sheet::{NACKS, encloses, start_of, waits};
+use crate::reached::Reached;
+use crate::sheet::{NACKS, encloses, waits};
 use protocol_values::{Commit, Course, NackName, NackWord, Row};
 use std::alloc::{AllocError, Global};
 
@@ -139,71 +140,61 @@ impl Life {
 
 impl Ledger {
     /// What the ledger tells of its end. A table can go on from it while the stamps to come have room.
-    pub fn opening(&self, alloc: Global) -> Result<Opening, AllocError>
+    pub fn opening(&self) -> Result<Opening, AllocError>
         ensures end { IfOk result (λ o. TellsEnd self.now o.threads.items o.nacks.items) }
         ensures greatest { IfOk result (λ o. IsLawful self.now → greatest (opening_of o) ≤ self.now.opening + self.now.threads * self.now.rows) }
         ensures leads_on { IfOk result (λ o. IsLawful self.now → LeadsOn self.now (opening_of o)) }
     {
+        self.opening_by(&self.commits()?)
+    }
+
+    /// The same by the commits of the ledger, for who has listed them already.
+    pub fn opening_by(&self, commits: &[Commit]) -> Result<Opening, AllocError>
+        requires { (c : Commit) → Contains commits.now c ↔ HasCommit self.now c }
+        ensures end { IfOk result (λ o. TellsEnd self.now o.threads.items o.nacks.items) }
+        ensures greatest { IfOk result (λ o. IsLawful self.now → greatest (opening_of o) ≤ self.now.opening + self.now.threads * self.now.rows) }
+        ensures leads_on { IfOk result (λ o. IsLawful self.now → LeadsOn self.now (opening_of o)) }
+    {
+        let reached = self.reached(commits)?;
         Ok(Opening {
-            threads: self.ends(alloc)?,
-            nacks: self.nack_states(alloc)?,
+            threads: self.ends(&reached)?,
+            nacks: self.nack_states(&reached)?,
         })
     }
 
     /// Each thread's life and last stamp.
-    fn ends(&self, alloc: Global) -> Result<Vec<(Life, u32)>, AllocError>
+    fn ends(&self, reached: &[Reached]) -> Result<Vec<(Life, u32)>, AllocError>
+        requires { HaveReached self.now reached.now }
         ensures { IfOk result (λ ends. TellsThreads self.now ends.items) }
     {
-        let mut ends = Vec::with_capacity(alloc, self.sheet.threads)?;
-        for thread in 0..self.sheet.threads {
+        let mut ends = Vec::with_capacity(self.sheet.allocator(), reached.len())?;
+        for (thread, reached) in reached.iter().enumerate() {
             let life = life_of(self.sheet.course(thread as u8));
-            ends.push((life, self.last_stamp(thread as u8)))?;
+            ends.push((life, reached.stamp))?;
         }
         Ok(ends)
     }
 
-    /// The last stamp of a thread: that of its last commit, or of its start where it has none. The rows of its
-    /// commits are its first ones, so the last of them is found by halves.
-    fn last_stamp(&self, thread: u8) -> u32
-        ensures { IsLastStamp self.now thread result }
-    {
-        let mut last = start_of(self.sheet.course(thread));
-        let mut from = 0;
-        let mut to = self.sheet.rows;
-        while from < to {
-            let sync = from + (to - from) / 2;
-            match self.commit_of(Row {
-                thread,
-                sync: sync as u32,
-            }) {
-                Some(commit) => {
-                    last = stamp_of(commit);
-                    from = sync + 1;
-                }
-                None => to = sync,
-            }
-        }
-        last
-    }
-
     /// What became of the nacks, 64 a thread, thread by thread.
-    fn nack_states(&self, alloc: Global) -> Result<Vec<NackState>, AllocError>
+    fn nack_states(&self, reached: &[Reached]) -> Result<Vec<NackState>, AllocError>
+        requires { HaveReached self.now reached.now }
         ensures { IfOk result (λ states. TellsNacks self.now states.items) }
     {
         let count = self.sheet.threads * NACKS;
-        let mut states = Vec::with_capacity(alloc, count)?;
+        let mut states = Vec::with_capacity(self.sheet.allocator(), count)?;
         for number in 0..count {
             let nack = NackName {
                 thread: (number / NACKS) as u8,
                 k: (number % NACKS) as u8,
             };
-            states.push(self.nack_state(nack))?;
+            states.push(self.nack_state(nack, reached[number / NACKS].rows))?;
         }
         Ok(states)
     }
 
-    /// What became of the nack.
-    fn nack_state(&self, nack: NackName) -> NackState
+    /// What became of a nack of a thread that got to so many rows.
+    fn nack_state(&self, nack: NackName, rows: usize) -> NackState
+        requires { IsPast self.now nack.thread rows }
         ensures { TellsNack self.now nack result }
     {
         let bound = match self.sheet.nack(nack) {
@@ -212,6 +203,9 @@ impl Ledger {
             NackWord::Carried(stamp) => return NackState::Enabled(stamp),
             NackWord::Bound(bound) => bound,
         };
+        if usize::from(bound.sync) >= rows {
+            return NackState::Unsettled;
+        }
         let row = Row {
             thread: nack.thread,
             sync: bound.sync as u32,
@@ -227,7 +221,7 @@ impl Ledger {
     }
 }
 
-fn stamp_of(commit: Commit) -> u32
+pub(crate) fn stamp_of(commit: Commit) -> u32
     ensures { result ≡ stamp_of commit }
 {
     commit.order().0

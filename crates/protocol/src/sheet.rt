@@ -91,6 +91,11 @@ impl Sheet {
         })
     }
 
+    /// What allots its words.
+    pub(crate) fn allocator(&self) -> Global {
+        *self.words.allocator()
+    }
+
     /// Whether the table has the row.
     #[tactic(auto, unfolding(crate::specs::Tables::is_row))]
     pub(crate) fn contains(&self, row: Row) -> bool

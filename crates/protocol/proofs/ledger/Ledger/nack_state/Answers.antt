@@ -16,6 +16,13 @@ pub returns-in-Carried : goal.returns-in-Carried
 returns-in-Carried c =
     (omega (arith, c.in-Carried.stamp-test.1), inl (nack_told (table_of c.self.inside.sheet) c.args.self.now c.args.nack _ c.self.view_is c.in-Carried.ensures.value).1)
 
+pub returns-then-from-rows : goal.returns-then-from-rows
+returns-then-from-rows c =
+    let bound = (nack_told (table_of c.self.inside.sheet) c.args.self.now c.args.nack _ c.self.view_is c.in-Bound.ensures.value).0 in
+    let over = c.if-from-rows.true in
+    let same = c.from.ensures in
+    (c.in-Bound.bound, bound, λ d has of. let low = c.requires d c.in-Bound.bound.sync has of in absurd (omega (arith, over, same, low)))
+
 pub returns-in_default : goal.returns-in_default
 returns-in_default c =
     let bound = (nack_told (table_of c.self.inside.sheet) c.args.self.now c.args.nack _ c.self.view_is c.in-Bound.ensures.value).0 in

@@ -1,6 +1,6 @@
-use Rattle.std.proofs.Common.{◌≡◌, ◌∙◌, ◌+◌, ◌*◌, ℕ, List, ap, arith, length, slice_get, subst, sym}
+use Rattle.std.proofs.Common.{◌≡◌, ◌∙◌, ◌+◌, ◌*◌, ◌/◌, ◌<◌, ℕ, List, ap, arith, length, slice_get, subst, sym}
 use Rattle.std.proofs.lemmas.List.{length-append}
-use Rattle.std.proofs.lemmas.Option.{none-some}
+use Rattle.std.proofs.lemmas.Option.{none-some, slice_get-get_or}
 use Rattle.protocol_values.specs.declared.NackName.{NackName}
 use Rattle.protocol.specs.Ledgers.{Ledger, ledger_of}
 use Rattle.protocol.specs.Openings.{TellsNack}
@@ -13,6 +13,20 @@ loop-number-init c = (
   ap (λ (l : List NackState). length l) c.in_ok-states.ensures.items,
   λ i state e. absurd (none-some state (sym (ap (λ (l : List NackState). slice_get l i) c.in_ok-states.ensures.items) ∙ e)),
 )
+
+-- the nack's thread is one of the ledger's
+thread_inside : (n size threads few : ℕ) → few ≡ threads → size ≡ few → n < threads * 64 → n / 64 < size
+thread_inside n size threads few same count low = omega (arith, same, count, low)
+
+pub bounds-reached-number : goal.bounds-reached-number
+unfolding ledger_of
+bounds-reached-number c = thread_inside c.loop-number.number (length c.args.reached.now) c.self.inside.sheet.threads c.args.self.now.threads (sym (ap (λ (l : Ledger). l.threads) c.self.view_is)) c.requires.0 c.loop-number-test.true
+
+pub nack_state-requires : goal.nack_state-requires
+unfolding ledger_of
+nack_state-requires c =
+    let inside = thread_inside c.loop-number.number (length c.args.reached.now) c.self.inside.sheet.threads c.args.self.now.threads (sym (ap (λ (l : Ledger). l.threads) c.self.view_is)) c.requires.0 c.loop-number-test.true in
+    (c.requires.1 (c.loop-number.number / 64) _ (slice_get-get_or c.args.reached.now (c.loop-number.number / 64) (record { stamp = 0; rows = 0 }) inside)).past
 
 pub loop-number-preserved : goal.loop-number-preserved
 loop-number-preserved c =

@@ -1,8 +1,7 @@
-use Rattle.protocol.proofs.Going.{told_greatest, told_opens}
+use Rattle.std.proofs.Common.{◌↔◌, Contains, List, subst, sym}
+use Rattle.protocol_values.specs.declared.Commit.{Commit}
+use Rattle.protocol.specs.Ledgers.{HasCommit}
 use Rattle.protocol.proofs.ledger.Ledger.opening.Goals as goal
 
-pub returns-clause-greatest : goal.returns-clause-greatest
-returns-clause-greatest c lawful = told_greatest c.args.self.now lawful (record { threads = c.in_ok-ends.field-0.items; nacks = c.in_ok-nack_states.field-0.items }) (c.in_ok-ends.ensures, c.in_ok-nack_states.ensures)
-
-pub returns-clause-leads_on : goal.returns-clause-leads_on
-returns-clause-leads_on c lawful = told_opens c.args.self.now lawful (record { threads = c.in_ok-ends.field-0.items; nacks = c.in_ok-nack_states.field-0.items }) (c.in_ok-ends.ensures, c.in_ok-nack_states.ensures)
+pub opening_by-requires : goal.opening_by-requires
+opening_by-requires c d = subst (λ (commits : List Commit). Contains commits d ↔ HasCommit c.args.self.now d) (sym c.deref.ensures.value) (c.in_ok-commits.ensures.members d)
