@@ -17,6 +17,7 @@ mod Listing
 mod Removing
 mod Covering
 mod Bounding
+pub mod Placing
 pub mod Waking
 mod Gathered
 pub mod Telling

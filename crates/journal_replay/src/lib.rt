@@ -10,6 +10,7 @@
 mod end;
 mod gathering;
 mod openings;
+mod placed;
 mod runs;
 mod search;
 mod state;
@@ -19,6 +20,7 @@ mod waiters;
 
 pub use crate::end::End;
 pub use crate::gathering::{gather, retrace};
+pub use crate::placed::is_placed;
 pub use crate::runs::{replay, restamp, settle};
 pub use crate::state::{ReplayFault, State};
 pub use crate::strand::Known;
