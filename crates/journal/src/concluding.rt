@@ -43,7 +43,7 @@ pub fn conclude(
     ensures { IfOk result (Completes (map proc_of processes.now) rows ledger.now) }
 {
     let commits = ledger.commits()?;
-    let opening = ledger.opening(alloc)?;
+    let opening = ledger.opening_by(&commits)?;
     conclude_ordered(alloc, processes, rows, commits, &opening, machines)
 }
 

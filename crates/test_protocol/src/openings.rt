@@ -37,7 +37,7 @@ fn check_opening(
     threads: &[(Life, u32)],
     nacks: &[NackState],
 ) -> Result<Opening, Fail> {
-    let told = ledger.opening(rt.alloc())?;
+    let told = ledger.opening()?;
     let wanted = opening(rt.alloc(), threads, nacks)?;
     assert!(rt; told.threads == wanted.threads, "the threads");
     assert!(rt; told.nacks == wanted.nacks, "the nacks");

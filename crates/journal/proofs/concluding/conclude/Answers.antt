@@ -1,13 +1,17 @@
-use Rattle.std.proofs.Common.{List, map}
+use Rattle.std.proofs.Common.{◌↔◌, Contains, List, map, subst, sym}
 use Rattle.std.proofs.lemmas.Result.{IfOk-weaker}
 use Rattle.script_tree.specs.Processes.{Proc, proc_of}
-use Rattle.protocol.specs.Ledgers.{commits_in}
+use Rattle.protocol_values.specs.declared.Commit.{Commit}
+use Rattle.protocol.specs.Ledgers.{HasCommit, commits_in}
 use Rattle.protocol.specs.Openings.{opening_of}
 use Rattle.journal_order.proofs.Leading.{ledger-is-run}
 use Rattle.journal_order.proofs.Opening.{first-tells-run}
 use Rattle.journal.specs.Records.{Completes, CompletesOrdered}
 use Rattle.journal.proofs.Telling.{gone-of}
 use Rattle.journal.proofs.concluding.conclude.Goals as goal
+
+pub opening_by-requires : goal.opening_by-requires
+opening_by-requires c = λ d. subst (λ (commits : List Commit). Contains commits d ↔ HasCommit c.args.ledger.now d) (sym c.deref.ensures.value) (c.in_ok-commits.ensures.members d)
 
 pub conclude_ordered-requires-clause-in_order : goal.conclude_ordered-requires-clause-in_order
 conclude_ordered-requires-clause-in_order c = c.in_ok-commits.ensures.in_order
