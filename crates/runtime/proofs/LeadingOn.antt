@@ -41,6 +41,7 @@ use Rattle.runtime_worker.specs.declared.resident.Suspended.{Suspended}
 use Rattle.runtime_worker.specs.Machines.{AreFirst, IsAtEnd}
 use Rattle.runtime.specs.Between.{AreHad, AreKept, CatchesUpAll, GoOnBelow, GoesOnFrom, HasResults, had_by, numbered, renumbered}
 use Rattle.runtime.specs.Machines.{AreLeftBy, StandsOver}
+use Rattle.runtime.specs.Played.{ArePlayed, OneMore, PlaysSeason}
 use Rattle.runtime.specs.Season.{EndsRun, HaveResultsOf, IsClosed, IsLedgerOver, IsTableOf}
 use Rattle.runtime.specs.declared.season.ClosedSeason.{ClosedSeason}
 use Rattle.runtime.specs.declared.season.Standing.{Standing}
@@ -192,6 +193,12 @@ module _ (ps : List Proc) (x : ClosedSeason) (closed : IsClosed ps x) where
 
   pub run_is : IsRun ps rows_in journal
   run_is = subst (IsRun ps rows_in) (sym closed.whole) (ledger-goes-on ps rows_in closed.before start x.ledger x.commits.items closed.on)
+
+  pub season_is : PlaysSeason ps x.ledger.rows (x.done + 1) closed.before journal
+  season_is = record { opening = start; ledger = x.ledger; commits = x.commits.items; size = refl; on = closed.on; whole = closed.whole }
+
+  pub played_is : ArePlayed ps x.ledger.rows (x.done + 1) journal
+  played_is = OneMore closed.earlier season_is
 
   pub tells_is : TellsRun ps journal (opening_of x.opening)
   tells_is = subst (λ (cs : List Commit). TellsRun ps cs (opening_of x.opening)) (sym closed.whole) (tells-run-on ps rows_in closed.before start x.ledger x.commits.items closed.on (opening_of x.opening) closed.tells)

@@ -18,6 +18,7 @@ use Rattle.journal_order.specs.Behind.{GoesOn, TellsRun, run_on}
 use Rattle.journal.specs.Concluding.{AreGone}
 use Rattle.runtime.specs.Between.{AreHad}
 use Rattle.runtime.specs.Machines.{AreLeftBy}
+use Rattle.runtime.specs.Played.{ArePlayed}
 use Rattle.runtime.specs.declared.season.ClosedSeason.{ClosedSeason}
 use Rattle.runtime.specs.declared.season.Next.{Next}
 use Rattle.runtime.specs.declared.season.Next.TheVariants as next
@@ -56,6 +57,7 @@ pub record IsSeason (ps : List Proc) (s : Season) : Type 0 where
   pub passes : All (λ p. IsNewPassOf s.cells p) s.passes.items
   pub had : AreHad s.cells.first s.had.items
   pub run : IsRun ps (s.done * s.cells.rows) s.journal.items
+  pub played : ArePlayed ps s.cells.rows s.done s.journal.items
   pub tells : TellsRun ps s.journal.items (opening_at s.cells)
   pub given : HaveResultsOf s.journal.items s.cells.first
   pub resting : AreGone ps s.journal.items s.resting.items
@@ -70,6 +72,7 @@ pub record IsClosed (ps : List Proc) (c : ClosedSeason) : Type 0 where
   pub had : AreHad cells.first c.had.items
   pub left : AreLeftBy cells.first c.ledger c.machines.items
   pub before : List Commit
+  pub earlier : ArePlayed ps c.ledger.rows c.done before
   pub on : GoesOn ps ((c.done + 1) * c.ledger.rows) before (before_of (opening_at cells)) c.ledger c.commits.items
   pub members : (d : Commit) → (Contains c.commits.items d → HasCommit c.ledger d) × (HasCommit c.ledger d → Contains c.commits.items d)
   pub whole : c.journal.items ≡ run_on before c.commits.items
@@ -87,4 +90,4 @@ EndsRun ps rows commits (Some s) = IsRun ps rows commits × TellsRun ps commits 
 -- behind so many seasons and one, of so many
 abbrev pub LeadsTo : List Proc → ℕ → ℕ → ℕ → Next → Type 0
 LeadsTo ps done rows seasons (next.Season s) = IsSeason ps s × (s.done ≡ done + 1) × (s.done < seasons) × (s.cells.rows ≡ rows)
-LeadsTo ps done rows seasons (next.End journal standing) = EndsRun ps ((done + 1) * rows) journal.items standing
+LeadsTo ps done rows seasons (next.End journal standing) = EndsRun ps ((done + 1) * rows) journal.items standing × ArePlayed ps rows (done + 1) journal.items

@@ -6,6 +6,7 @@ ghost use Rattle.script.specs.Scripts.{script_of};
 ghost use Rattle.journal.specs.Records.{CompletesRun};
 ghost use Rattle.runtime.specs.Headline.{TellsFreeRun};
 ghost use Rattle.runtime.specs.Limits.{AreRows, AreSeasons, AreWorkers};
+ghost use Rattle.runtime.specs.Played.{ArePlayedWithin};
 ghost use Rattle.runtime.specs.Season.{EndsRun};
 ghost use Rattle.runtime.specs.Seasons.{HasSpent, IsHalt, RefusesCommits};
 ghost use Rattle.runtime.specs.declared.seasons.SeasonFault.TheVariants.{Workers, Rows, SeasonCount, Lost, Unlawful};
@@ -158,7 +159,8 @@ fn work_seasons<R: Threads + Wait + Sync, G: Gate + StepGate + Sync>(
     requires rows { AreRows rows }
     requires seasons { AreSeasons seasons }
     requires some { 1 ≤ length (script_of script.now).processes }
-    ensures { IfOk result (λ w. EndsRun (script_of script.now).processes (seasons * rows) w.0.items w.1) }
+    ensures ends { IfOk result (λ w. EndsRun (script_of script.now).processes (seasons * rows) w.0.items w.1) }
+    ensures played { IfOk result (λ w. ArePlayedWithin (script_of script.now).processes rows seasons w.0.items) }
 {
     let rows = rows_used(script.processes(), rows);
     let mut season = first_season(alloc, script, workers, rows)?;
@@ -183,7 +185,7 @@ pub fn run_seasons_gated<R: Threads + Wait + Sync, G: Gate + StepGate + Sync>(
     gate: &G,
 ) -> Result<Record, SeasonFault>
     ensures headline { IfOk result (TellsFreeRun (script_of script.now).processes) }
-    ensures completes { IfOk result (λ r. (commits : List Commit) × CompletesRun (script_of script.now).processes (seasons * rows) commits r) }
+    ensures completes { IfOk result (λ r. (commits : List Commit) × CompletesRun (script_of script.now).processes (seasons * rows) commits r × ArePlayedWithin (script_of script.now).processes rows seasons commits) }
     ensures workers { (result ≡ Err Workers) ↔ (¬ AreWorkers workers) }
     ensures rows { (result ≡ Err Rows) ↔ (AreWorkers workers × (¬ AreRows rows)) }
     ensures seasons { (result ≡ Err SeasonCount) ↔ (AreWorkers workers × AreRows rows × (¬ AreSeasons seasons)) }
@@ -219,7 +221,7 @@ pub fn run_seasons<R: Threads + Wait + Sync, G: Gate + Sync>(
     gate: &G,
 ) -> Result<Record, SeasonFault>
     ensures headline { IfOk result (TellsFreeRun (script_of script.now).processes) }
-    ensures completes { IfOk result (λ r. (commits : List Commit) × CompletesRun (script_of script.now).processes (seasons * rows) commits r) }
+    ensures completes { IfOk result (λ r. (commits : List Commit) × CompletesRun (script_of script.now).processes (seasons * rows) commits r × ArePlayedWithin (script_of script.now).processes rows seasons commits) }
     ensures workers { (result ≡ Err Workers) ↔ (¬ AreWorkers workers) }
     ensures rows { (result ≡ Err Rows) ↔ (AreWorkers workers × (¬ AreRows rows)) }
     ensures seasons { (result ≡ Err SeasonCount) ↔ (AreWorkers workers × AreRows rows × (¬ AreSeasons seasons)) }

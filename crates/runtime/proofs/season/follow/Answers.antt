@@ -13,9 +13,10 @@ use Rattle.runtime_worker.specs.Widths.{AllOfferAtMost}
 use Rattle.runtime_worker.specs.declared.resident.Suspended.{Suspended}
 use Rattle.runtime.specs.declared.between.NextTable.{NextTable}
 use Rattle.runtime.specs.Between.{AreHad, CatchesUpAll, GoOnBelow}
+use Rattle.runtime.specs.Played.{ArePlayed}
 use Rattle.runtime.specs.Season.{HaveResultsOf}
 use Rattle.runtime.proofs.GoingOn.{counted, next_of, table_of_next}
-use Rattle.runtime.proofs.LeadingOn.{caught_all, ended_gone, from_size, given_next, kept_gone, left_gone, resting_gone, run_is, tells_is, tells_next}
+use Rattle.runtime.proofs.LeadingOn.{caught_all, ended_gone, from_size, given_next, kept_gone, left_gone, played_is, resting_gone, run_is, tells_is, tells_next}
 use Rattle.runtime.proofs.season.follow.Goals as goal
 
 pub catch_up_all-requires : goal.catch_up_all-requires
@@ -23,12 +24,16 @@ catch_up_all-requires c = λ t m e. (c.requires.closed.left.1 t m e).stopped
 
 -- so far the run is one in the rows of these seasons
 pub returns-then-not-branch : goal.returns-then-not-branch
-returns-then-not-branch c =
-    subst (λ (n : ℕ). IsRun (script_of c.args.script.now).processes ((c.args.closed.done + 1) * n) c.args.closed.journal.items) c.requires.same (run_is (script_of c.args.script.now).processes c.args.closed c.requires.closed)
+returns-then-not-branch c = (
+  subst (λ (n : ℕ). IsRun (script_of c.args.script.now).processes ((c.args.closed.done + 1) * n) c.args.closed.journal.items) c.requires.same (run_is (script_of c.args.script.now).processes c.args.closed c.requires.closed),
+  subst (λ (n : ℕ). ArePlayed (script_of c.args.script.now).processes n (c.args.closed.done + 1) c.args.closed.journal.items) c.requires.same (played_is (script_of c.args.script.now).processes c.args.closed c.requires.closed),
+)
 
 pub returns-in_default : goal.returns-in_default
-returns-in_default c =
-    subst (λ (n : ℕ). IsRun (script_of c.args.script.now).processes ((c.args.closed.done + 1) * n) c.args.closed.journal.items) c.requires.same (run_is (script_of c.args.script.now).processes c.args.closed c.requires.closed)
+returns-in_default c = (
+  subst (λ (n : ℕ). IsRun (script_of c.args.script.now).processes ((c.args.closed.done + 1) * n) c.args.closed.journal.items) c.requires.same (run_is (script_of c.args.script.now).processes c.args.closed c.requires.closed),
+  subst (λ (n : ℕ). ArePlayed (script_of c.args.script.now).processes n (c.args.closed.done + 1) c.args.closed.journal.items) c.requires.same (played_is (script_of c.args.script.now).processes c.args.closed c.requires.closed),
+)
 
 pub returns-then-not-are_spent : goal.returns-then-not-are_spent
 returns-then-not-are_spent c =
@@ -39,9 +44,12 @@ returns-then-not-are_spent c =
     let caught : CatchesUpAll x.had.items x.commits.items x.machines.items machines =
     subst (λ (z : List ℕ × List Commit). CatchesUpAll z.0 z.1 x.machines.items machines) (λ i. (c.deref.ensures.value i, c.deref-2.ensures.value i)) (c.in_ok-catch_up_all.ensures c.if-not-branch.false) in
     let all = caught_all ps x closed machines caught in (
-      subst (λ (n : ℕ). IsRun ps ((x.done + 1) * n) x.journal.items) c.requires.same (run_is ps x closed),
-      tells_is ps x closed,
-      kept_gone ps x.journal.items x.resting.items machines c.keep_all.new.kept.items (resting_gone ps x closed) (left_gone ps x closed machines all.0) c.keep_all.ensures,
+      (
+        subst (λ (n : ℕ). IsRun ps ((x.done + 1) * n) x.journal.items) c.requires.same (run_is ps x closed),
+        tells_is ps x closed,
+        kept_gone ps x.journal.items x.resting.items machines c.keep_all.new.kept.items (resting_gone ps x closed) (left_gone ps x closed machines all.0) c.keep_all.ensures,
+      ),
+      subst (λ (n : ℕ). ArePlayed (script_of c.args.script.now).processes n (c.args.closed.done + 1) c.args.closed.journal.items) c.requires.same (played_is (script_of c.args.script.now).processes c.args.closed c.requires.closed),
     )
 
 pub overflow_add-done : goal.overflow_add-done
@@ -106,6 +114,7 @@ returns c =
         had = subst (λ (l : List (Option Suspended)). AreHad l c.in_ok-had.had.items) (sym c.in_ok-cells.ensures.first)
             (subst (AreHad first) (sym (c.in_ok-had.ensures ∙ ap (map _) c.deref-6.ensures.value)) (counted first));
         run = subst (λ (n : ℕ). IsRun ps ((x.done + 1) * n) x.journal.items) (c.requires.same ∙ sym size.1) (run_is ps x closed);
+        played = subst (λ (n : ℕ). ArePlayed ps n (x.done + 1) x.journal.items) (c.requires.same ∙ sym size.1) (played_is ps x closed);
         tells = subst (TellsRun ps x.journal.items) (sym c.in_ok-cells.ensures.opening) (tells_next ps x closed machines all.0 all.1 lives first ended goes);
         given = subst (HaveResultsOf x.journal.items) (sym c.in_ok-cells.ensures.first) (given_next ps x closed machines all.0 all.1 lives first ended goes);
         resting = kept_gone ps x.journal.items x.resting.items ended c.keep_all-2.new.kept.items (resting_gone ps x closed) (ended_gone ps x closed machines all.0 all.1 lives first ended goes) c.keep_all-2.ensures;

@@ -1,7 +1,8 @@
-use Rattle.std.proofs.Common.{◌≡◌, List, ◌++◌, map, ◌∙◌, subst, refl}
+use Rattle.std.proofs.Common.{◌≡◌, ℕ, List, ◌++◌, map, ◌∙◌, subst, sym, refl}
 use Rattle.protocol_values.specs.declared.Commit.{Commit}
 use Rattle.journal_order.specs.Laws.{IsOrderOf}
 use Rattle.runtime.specs.Between.{renumbered}
+use Rattle.runtime.specs.Played.{ArePlayed}
 use Rattle.runtime.specs.Season.{IsLedgerOver}
 use Rattle.runtime.proofs.LeadingOn.{goes_on, same-journal}
 use Rattle.script.specs.Scripts.{script_of}
@@ -31,6 +32,7 @@ returns g c =
         had = season.had;
         left = closed.machines;
         before = before;
+        earlier = subst (λ (n : ℕ). ArePlayed ps n done before) (sym closed.size.1) season.played;
         on = goes_on ps cells season.of before done c.args.season.had.items season.had c.requires.few season.run season.tells season.given ledger over closed.size.1 commits order;
         whole = added ∙ same-journal ps cells season.of before done c.args.season.had.items season.had c.requires.few season.run season.tells season.given ledger over closed.size.1 commits order (λ d there. (told.members d).0 there);
         given = season.given;
