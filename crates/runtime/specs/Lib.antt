@@ -5,4 +5,5 @@ pub mod Machines
 pub mod Played
 pub mod Season
 pub mod Seasons
+pub mod Syncs
 pub mod Workers

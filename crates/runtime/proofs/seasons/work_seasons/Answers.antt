@@ -12,7 +12,7 @@ returns-in-End-clause-ends g c =
     let done = c.in_ok-closed.closed.done in
     let i = c.loop.invariant in
     let leads = subst (LeadsTo ps done used c.args.seasons) c.in-End.is c.in_ok-next.ensures in
-    let fits = c.rows_used-rows.ensures in
+    let fits = c.rows_used-rows.ensures.range in
     let few : done + 1 ≤ c.args.seasons = omega (arith, c.in_ok-closed.ensures.1, i.1) in
     ends_wider ps ((done + 1) * used) (c.args.seasons * c.args.rows) c.in-End.commits.items c.in-End.standing (mul-le (done + 1) used c.args.seasons c.args.rows few fits.1) leads.0
 
@@ -24,4 +24,4 @@ returns-in-End-clause-played g c =
     let i = c.loop.invariant in
     let leads = subst (LeadsTo ps done used c.args.seasons) c.in-End.is c.in_ok-next.ensures in
     let few : done + 1 ≤ c.args.seasons = omega (arith, c.in_ok-closed.ensures.1, i.1) in
-    record { each = used; count = done + 1; narrow = c.rows_used-rows.ensures.1; few = few; played = leads.1 }
+    record { each = used; count = done + 1; narrow = c.rows_used-rows.ensures.range.1; few = few; played = leads.1 }
