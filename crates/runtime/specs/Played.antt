@@ -1,10 +1,13 @@
 -- Which commits so many seasons can make.
-use Rattle.std.specs.Prelude.{◌≡◌, ◌≤◌, ◌+◌, ◌*◌, ℕ, List, []}
+use Rattle.std.specs.Prelude.{◌≡◌, ◌≤◌, ◌+◌, ◌*◌, ℕ, List, [], length}
 use Rattle.protocol_values.specs.declared.Commit.{Commit}
 use Rattle.script_tree.specs.Processes.{Proc}
 use Rattle.protocol.specs.Acting.{before_of}
 use Rattle.protocol.specs.Ledgers.{Ledger}
 use Rattle.protocol.specs.Openings.{Opening}
+use Rattle.protocol_values.specs.declared.Offer.{Offer}
+use Rattle.journal_replay.specs.Runs.{config_of}
+use Rattle.journal_order.specs.Ledgers.{ProcessOffers}
 use Rattle.journal_order.specs.Behind.{GoesOn, run_on}
 
 -- One season, the n-th: its table has so many rows a process and went on from an opening, where the commits of the seasons before led. It
@@ -30,3 +33,18 @@ pub record ArePlayedWithin (ps : List Proc) (rows seasons : ℕ) (journal : List
   pub narrow : each ≤ rows
   pub few : count ≤ seasons
   pub played : ArePlayed ps each count journal
+
+-- So many seasons were played, of so many rows each, and one more is needed: behind them a process stands at a sync, and has made as many
+-- in the last one as that has rows.
+pub record NeedsOneMore (ps : List Proc) (rows seasons : ℕ) : Type 0 where
+  pub done : ℕ
+  pub before : List Commit
+  pub journal : List Commit
+  pub count : seasons ≡ done + 1
+  pub earlier : ArePlayed ps rows done before
+  pub last : PlaysSeason ps rows (done + 1) before journal
+  pub thread : ℕ
+  pub offers : List Offer
+  pub nacks : List ℕ
+  pub stands : ProcessOffers ps thread (config_of journal thread) offers nacks
+  pub spent : length (config_of before thread) + rows ≤ length (config_of journal thread)
