@@ -1,36 +1,43 @@
 -- A season leads the run on: its commits, numbered on, are a run behind those of the seasons before, and the next season begins where they lead.
-use Rattle.std.proofs.Common.{◌≡◌, ◌⊎◌, ◌+◌, ◌*◌, ◌<◌, ◌≤◌, ℕ, suc, List, [], ◌∷◌, ◌++◌, length, map, take, get_or, Contains, Option, None, Some, slice_get, refl, sym, ap, ◌∙◌, subst, inl, inr, arith, ⊎_elim}
-use Rattle.std.specs.Prelude.{min}
+use Rattle.std.proofs.Common.{◌≡◌, ◌⊎◌, ◌+◌, ◌*◌, ◌<◌, ◌≤◌, ℕ, suc, List, [], ◌∷◌, ◌++◌, length, map, take, get_or, Contains, Option, None, Some, Vec, slice_get, refl, sym, ap, ◌∙◌, subst, inl, inr, arith, ⊎_elim}
+use Rattle.std.specs.Global.{Global}
+use Rattle.std.specs.List.{fold}
+use Rattle.std.specs.Prelude.{max, min}
 use Rattle.std.proofs.Math.Nat.{add-mul, one-mul}
 use Rattle.std.proofs.lemmas.Nat.{mul-le}
 use Rattle.std.proofs.lemmas.Bool.{cases_lt}
 use Rattle.std.proofs.lemmas.List.{length-append, length-take, take-append-le, take_all}
-use Rattle.std.proofs.lemmas.List.Elements.{Contains-append_right}
+use Rattle.std.proofs.lemmas.List.Elements.{All-from_get_or, Contains-append_right}
 use Rattle.std.proofs.lemmas.Option.{get_or_from_slice_get, none-some, same_Some, slice_get-get_or, slice_get_within}
 use Rattle.protocol_values.specs.declared.Commit.{Commit}
 use Rattle.protocol_values.specs.declared.Commit.TheVariants.{Pair, Alone}
 use Rattle.protocol_values.specs.declared.Message.TheVariants.{Empty}
+use Rattle.protocol_values.specs.declared.Offer.{Offer}
 use Rattle.protocol_values.specs.declared.Row.{Row}
 use Rattle.script_tree.specs.Processes.{Proc}
 use Rattle.script_tree.specs.Spawning.{AreSpawnedOnce}
 use Rattle.thread.specs.After.{Chosen}
-use Rattle.thread.specs.Machines.{Broken, HasStopped, IsOpen, Open, Over, Phase, Ready, Stuck, Thread}
+use Rattle.thread.specs.Machines.{Broken, HasStopped, IsAfterAt, IsOpen, Open, Over, Phase, Ready, Stuck, Thread, said_in}
 use Rattle.protocol.specs.Acting.{ActsAs, before_of}
 use Rattle.protocol.specs.Ledgers.{HasCommit, Ledger, Takes}
-use Rattle.protocol.specs.Openings.{HadEnded, HadStarted, Opening, opening_of, thread_in}
+use Rattle.protocol.specs.Openings.{HadEnded, HadStarted, IsOpening, Opening, greatest, opening_of, thread_in}
 use Rattle.protocol.specs.declared.opening.Life.{Life}
 use Rattle.protocol.specs.declared.opening.Life.TheVariants as life
+use Rattle.protocol.proofs.Beginning.{thread_below}
 use Rattle.protocol.proofs.Results.{gives-involves}
 use Rattle.cell.specs.Calls.{GridOf, opening_at}
 use Rattle.journal_replay.specs.Gathering.{HasGone}
 use Rattle.journal_replay.specs.Runs.{Config, HasRow, IsRun, config_of, no_results}
+use Rattle.journal_replay.specs.Standing.{MachineStands}
 use Rattle.journal_replay.specs.Starting.{HasEnded}
 use Rattle.journal_replay.proofs.Extending.{Extends, config-extends, none-from}
+use Rattle.journal_replay.proofs.Opening.{moved}
 use Rattle.journal_replay.proofs.Sounding.{run-sound}
 use Rattle.journal_replay.proofs.Standing.{config_from-append}
 use Rattle.journal_order.specs.Behind as behind
 use Rattle.journal_order.specs.Behind.{GoesOn, TellsRun, WentOn, acts_behind, run_on}
 use Rattle.journal_order.specs.Laws.{IsOrderOf}
+use Rattle.journal_order.specs.Ledgers.{ProcessOffers}
 use Rattle.journal_order.proofs.Leading.{ledger-goes-on, results-go-on, rows-go-on}
 use Rattle.journal_order.proofs.Opening.{opening-leads, placed-at, tells-run-on}
 use Rattle.journal_order.proofs.Results.{rows-within}
@@ -39,15 +46,20 @@ use Rattle.journal.specs.Concluding.{AreGone}
 use Rattle.runtime_worker.proofs.Processes.{process_of, spawned_fewer}
 use Rattle.runtime_worker.specs.declared.resident.Suspended.{Suspended}
 use Rattle.runtime_worker.specs.Machines.{AreFirst, IsAtEnd}
-use Rattle.runtime.specs.Between.{AreHad, AreKept, CatchesUpAll, GoOnBelow, GoesOnFrom, HasResults, had_by, numbered, renumbered}
+use Rattle.runtime.specs.Between.{AreHad, AreKept, CatchesUpAll, GoOnBelow, GoesOnFrom, HasResults, SomeIsSpent, had_by, numbered, renumbered}
 use Rattle.runtime.specs.Machines.{AreLeftBy, StandsOver}
-use Rattle.runtime.specs.Season.{EndsRun, HaveResultsOf, IsClosed, IsLedgerOver, IsTableOf}
+use Rattle.runtime.specs.Played.{ArePlayed, NeedsOneMore, OneMore, PlaysSeason}
+use Rattle.runtime.specs.Season.{EndsRun, HaveCaughtUp, HaveResultsOf, IsClosed, IsLedgerOver, IsTableOf, LeadsTo}
 use Rattle.runtime.specs.declared.season.ClosedSeason.{ClosedSeason}
+use Rattle.runtime.specs.Syncs.{AllSyncAtMost}
+use Rattle.runtime.specs.declared.season.Next.{Next}
+use Rattle.runtime.specs.declared.season.Next.TheVariants as following
 use Rattle.runtime.specs.declared.season.Standing.{Standing}
 use Rattle.runtime.proofs.CatchingUp.{give_in_range}
 use Rattle.runtime.proofs.GoingOn.{contains_at, place_of_commit, stands_first, takes_offered, waited}
 use Rattle.runtime.proofs.Ledgers.{acts_as, ends_as}
 use Rattle.runtime.proofs.Resting.{contains_map}
+use Rattle.runtime.proofs.Syncs.{offers_below}
 
 -- THE NUMBERS of a table's syncs, which have room
 small : (a b : ℕ) → a + b ≤ 4294967295 → min (a + b) 4294967295 ≡ a + b
@@ -125,6 +137,12 @@ module _ (ps : List Proc) (cells : GridOf Suspended) (of : IsTableOf ps cells) (
       (same-number receiver (Pair sender receiver chan msg stamp) there has (inr refl) (inr (refl, refl)) i) chan msg stamp
   same-commit (Alone at why stamp) there has = λ i. Alone (same-number at (Alone at why stamp) there has refl (refl, refl) i) why stamp
 
+  -- it counts no more stamps than it has rows
+  pub stamps_on : (greatest_now : ℕ) → greatest (opening_at cells) ≤ done * 65536 → greatest_now ≤ l.opening + l.threads * l.rows → greatest_now ≤ (done + 1) * 65536
+  stamps_on greatest_now low told =
+      let most = mul-le l.threads l.rows 64 1024 (omega (arith, of.table.few, ap (λ (qs : List Proc). length qs) of.processes, of.threads, over.size)) (omega (arith, of.table.rows.1, rows)) in
+      omega (arith, low, told, most, over.acts.stamps)
+
   pub same-journal : ((c : Commit) → Contains commits c → HasCommit l c) → before ++ map (renumbered had) commits ≡ run_on before commits
   same-journal members = ap (λ (cs : List Commit). before ++ cs) (maps-same (renumbered had) (behind.renumbered (config_of before)) commits (λ c there. same-commit c there (members c there)))
 
@@ -176,6 +194,33 @@ at_its_end Over stopped no_offer = tt
 at_its_end (Stuck fault) stopped no_offer = tt
 at_its_end Broken stopped no_offer = stopped
 
+-- a machine that offers stands at a sync of its process
+pub record StandsOffering (ps : List Proc) (t : ℕ) (results : List Chosen) : Type 0 where
+  pub offers : List Offer
+  pub nacks : List ℕ
+  pub stands : ProcessOffers ps t results offers nacks
+
+offering_at : (ps : List Proc) (t : ℕ) (results : List Chosen) (m : Thread) (phase : Phase) → MachineStands ps t results m → IsOpen phase → IsAfterAt m phase → StandsOffering ps t results
+offering_at ps t results m Ready s open_now is = absurd open_now
+offering_at ps t results m (Open os ns) s open_now is = record {
+  offers = os;
+  nacks = ns;
+  stands = record {
+    event = is.tree;
+    offered = record { process = s.process; is_its = s.is_its; said = said_in m; offers = sym (moved ps t results m s) ∙ is.after };
+    are = is.offers;
+    scopes = is.nacks;
+  };
+}
+offering_at ps t results m Over s open_now is = absurd open_now
+offering_at ps t results m (Stuck fault) s open_now is = absurd open_now
+offering_at ps t results m Broken s open_now is = absurd open_now
+
+-- no number is above a bound of all
+fold_below : {X : Type 0} (h : X → ℕ) (top a : ℕ) (xs : List X) → a ≤ top → ((i : ℕ) (x : X) → slice_get xs i ≡ Some x → h x ≤ top) → fold (λ most x. max most (h x)) a xs ≤ top
+fold_below h top a [] low each = low
+fold_below h top a (x ∷ xs) low each = fold_below h top (max a (h x)) xs (let here = each 0 x refl in omega arith) (λ i y e. each (suc i) y e)
+
 -- BEHIND A SEASON
 module _ (ps : List Proc) (x : ClosedSeason) (closed : IsClosed ps x) where
   abbrev journal : List Commit
@@ -192,6 +237,12 @@ module _ (ps : List Proc) (x : ClosedSeason) (closed : IsClosed ps x) where
 
   pub run_is : IsRun ps rows_in journal
   run_is = subst (IsRun ps rows_in) (sym closed.whole) (ledger-goes-on ps rows_in closed.before start x.ledger x.commits.items closed.on)
+
+  pub season_is : PlaysSeason ps x.ledger.rows (x.done + 1) closed.before journal
+  season_is = record { opening = start; ledger = x.ledger; commits = x.commits.items; size = refl; on = closed.on; whole = closed.whole }
+
+  pub played_is : ArePlayed ps x.ledger.rows (x.done + 1) journal
+  played_is = OneMore closed.earlier season_is
 
   pub tells_is : TellsRun ps journal (opening_of x.opening)
   tells_is = subst (λ (cs : List Commit). TellsRun ps cs (opening_of x.opening)) (sym closed.whole) (tells-run-on ps rows_in closed.before start x.ledger x.commits.items closed.on (opening_of x.opening) closed.tells)
@@ -219,6 +270,30 @@ module _ (ps : List Proc) (x : ClosedSeason) (closed : IsClosed ps x) where
       let over = catches ps closed.cells.first x.ledger first_are closed.had ranges (λ k d e. (closed.members d).0 (contains_at x.commits.items k d e)) closed.left in (
         over.0,
         λ d has. let at = place_of_commit x.commits.items d ((closed.members d).1 has) in over.1 at.0 d at.1,
+      )
+
+  pub caught_is : (machines : Vec (Option Thread) Global) → CatchesUpAll x.had.items x.commits.items x.machines.items machines.items → IsClosed ps (record x { machines = machines }) × HaveCaughtUp (record x { machines = machines })
+  caught_is machines catches =
+      let all = caught_all machines.items catches in (
+        record {
+          few = closed.few;
+          cells = closed.cells;
+          of = closed.of;
+          over = closed.over;
+          had = closed.had;
+          left = all.0;
+          before = closed.before;
+          earlier = closed.earlier;
+          on = closed.on;
+          members = closed.members;
+          whole = closed.whole;
+          given = closed.given;
+          tells = closed.tells;
+          leads = closed.leads;
+          stamps = closed.stamps;
+          resting = closed.resting;
+        },
+        all.1,
       )
 
   module _ (machines : List (Option Thread)) (left : AreLeftBy closed.cells.first x.ledger machines) where
@@ -268,6 +343,28 @@ module _ (ps : List Proc) (x : ClosedSeason) (closed : IsClosed ps x) where
               let more = subst (λ (y : Thread). had_by x.had.items t + length over.results < length y.results) same had_it.2 in
               omega (arith, more, count, size)
 
+      -- a thread whose machine is spent needs one more season
+      pub one_more : SomeIsSpent x.had.items x.ledger.rows machines → NeedsOneMore ps x.ledger.rows (x.done + 1)
+      one_more (t, m, is, spent) =
+          let over = left.1 t m is in
+          let all : m.results ≡ config_of journal t = all_had t m is in
+          let start_is : had_by x.had.items t ≡ length (config_of closed.before t) =
+          closed.had t over.machine.start over.machine.is_first ∙ ap (λ (rs : List Chosen). length rs) (closed.given t over.machine.start over.machine.is_first) in
+          let at = offering_at ps t m.results m m.phase (one_gone t m over).stands spent.0 (one_gone t m over).stands.after in
+          record {
+            done = x.done;
+            before = closed.before;
+            journal = journal;
+            count = refl;
+            earlier = closed.earlier;
+            last = season_is;
+            thread = t;
+            offers = at.offers;
+            nacks = at.nacks;
+            stands = subst (λ (rs : List Chosen). ProcessOffers ps t rs at.offers at.nacks) all at.stands;
+            spent = (let size = ap (λ (rs : List Chosen). length rs) all in let enough = spent.1 in omega (arith, size, enough, start_is));
+          }
+
       module _ (lives : List (Life × ℕ)) (first : List (Option Suspended)) (ended : List (Option Thread)) (goes : GoOnBelow ps x.opening.threads.items machines (length ps) lives first ended) where
         abbrev from : Opening
         from = opening_of x.opening
@@ -315,6 +412,44 @@ module _ (ps : List Proc) (x : ClosedSeason) (closed : IsClosed ps x) where
             (λ now. ended_there t now.0 (g.7 ∙ ap Some now.1) now.2)
             (ended_so g.0 t g.1 g.2 g.3 g.4 g.10 g.12 (sym (ap (λ (y : Life × ℕ). y.0) (is_there t low)) ∙ had))
 
+        kept_stamp : (t : ℕ) → t < length ps → (thread_in next t).1 ≡ (thread_in from t).1
+        kept_stamp t within =
+            let g = goes.each t within in
+            ap (λ (y : Life × ℕ). y.1) (is_there t within) ∙ same_stamp g.0 t g.1 g.2 g.3 g.4 g.10 g.12 ∙ sym (ap (λ (y : Life × ℕ). y.1) (was_there t within))
+
+        pub stamps_next : greatest next ≤ greatest from
+        stamps_next =
+            let lasts = fold_below (λ (y : Life × ℕ). y.1) (greatest from) 0 lives (omega arith) (λ t y is.
+            let within : t < length ps = omega (arith, slice_get_within lives t y is, goes.lives_are) in
+            let here = ap (λ (z : Life × ℕ). z.1) (get_or_from_slice_get lives t y (life.Unstarted, 0) is) in
+            let same = kept_stamp t within in
+            let below = thread_below from t in
+            omega (arith, here, same, below)) in
+            omega (arith, lasts)
+
+        -- the stamps of the next table have room
+        pub opens_next : (rows : ℕ) → rows ≤ 1024 → x.done < 65534 → IsOpening next rows
+        opens_next rows small few =
+            let size : x.ledger.threads ≡ length ps = closed.over.size ∙ closed.of.threads in
+            let some : 1 ≤ length ps = subst (λ (qs : List Proc). 1 ≤ length qs) closed.of.processes closed.of.table.some in
+            let most : length ps ≤ 64 = subst (λ (qs : List Proc). length qs ≤ 64) closed.of.processes closed.of.table.few in
+            let low = closed.stamps in
+            let kept = stamps_next in
+            let was : IsOpening from 0 = closed.leads 0 (omega (arith, some, size)) (omega (arith, most, size)) (omega (arith, low, few)) in
+            let all_rows = mul-le (length lives) rows 64 1024 (omega (arith, most, goes.lives_are)) small in
+            record {
+              some = omega (arith, some, goes.lives_are);
+              few = omega (arith, most, goes.lives_are);
+              all_nacks = closed.tells.1.0 ∙ ap (λ (n : ℕ). n * 64) (size ∙ sym goes.lives_are);
+              unstarted = All-from_get_or (λ (y : Life × ℕ). y.0 ≡ life.Unstarted → y.1 ≡ 0) lives (life.Unstarted, 0) (λ t h waits.
+                  let within : t < length ps = omega (arith, h, goes.lives_are) in
+                  let g = goes.each t within in
+                  let waited_so : (thread_in from t).0 ≡ life.Unstarted = ap (λ (y : Life × ℕ). y.0) (was_there t within) ∙ waited g.0 t g.1 g.2 g.3 g.4 g.10 g.12 (sym (ap (λ (y : Life × ℕ). y.0) (is_there t within)) ∙ waits) in
+                  kept_stamp t within ∙ was.unstarted t (life.Unstarted, 0) (omega (arith, within, from_size)) waited_so);
+              enabled = was.enabled;
+              room = omega (arith, kept, low, few, all_rows);
+            }
+
         pub tells_next : TellsRun ps journal next
         tells_next = record {
           started = λ t stamp had. tells_is.started t stamp (begun_before t stamp had);
@@ -354,3 +489,21 @@ ends_run ps rows commits (Some s) ends = ends.0
 pub ends_wider : (ps : List Proc) (rows more : ℕ) (commits : List Commit) (standing : Option Standing) → rows ≤ more → EndsRun ps rows commits standing → EndsRun ps more commits standing
 ends_wider ps rows more commits None wider ends = run-wider ps rows more commits wider ends
 ends_wider ps rows more commits (Some s) wider ends = (run-wider ps rows more commits wider ends.0, ends.1, ends.2)
+
+-- WHICH SEASONS A RUN NEEDS
+
+-- where the rows used are fewer than those stated, no process makes as many syncs
+pub all_rows : (ps : List Proc) (used rows seasons : ℕ) → used ≤ rows → (used < rows → AllSyncAtMost used ps) → NeedsOneMore ps used seasons → NeedsOneMore ps rows seasons
+all_rows ps used rows seasons fits enough needs = ⊎_elim
+    (λ (less : used < rows).
+    let few = offers_below used ps needs.thread (config_of needs.journal needs.thread) needs.offers needs.nacks (enough less) needs.stands in
+    let spent = needs.spent in
+    absurd (omega (arith, few, spent)))
+    (λ (all : rows ≤ used). let same : used ≡ rows = omega (arith, all, fits) in subst (λ (n : ℕ). NeedsOneMore ps n seasons) same needs)
+    (cases_lt used rows)
+
+-- of more seasons
+pub leads_further : (ps : List Proc) (done rows seasons : ℕ) (n : Next) → done + 1 < seasons → LeadsTo ps done rows (done + 2) n → LeadsTo ps done rows seasons n
+leads_further ps done rows seasons (following.Season s) more leads = (leads.0, leads.1, (let is = leads.1 in omega (arith, is, more)), leads.3)
+leads_further ps done rows seasons (following.End journal standing) more leads = leads
+leads_further ps done rows seasons following.Spent more leads = let bad = leads.1 in absurd (omega (arith, bad))

@@ -4,4 +4,5 @@ mod Resting
 mod CatchingUp
 mod GoingOn
 mod Keeping
+mod Syncs
 pub mod LeadingOn

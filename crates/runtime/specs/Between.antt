@@ -1,5 +1,5 @@
 -- Between two seasons: with which results the machines of a table catch up, and where the next table begins.
-use Rattle.std.specs.Prelude.{◌≡◌, ◌⊎◌, ◌+◌, ◌<◌, ℕ, List, [], ◌∷◌, ◌++◌, Option, None, Some, length, min, slice_get, slice_index_or, slice_set}
+use Rattle.std.specs.Prelude.{◌≡◌, ◌⊎◌, ◌+◌, ◌<◌, ◌≤◌, ℕ, List, [], ◌∷◌, ◌++◌, Option, None, Some, length, min, slice_get, slice_index_or, slice_set}
 use Rattle.protocol_values.specs.declared.Commit.{Commit}
 use Rattle.protocol_values.specs.declared.Commit.TheVariants.{Pair, Alone}
 use Rattle.protocol_values.specs.declared.Message.{Message}
@@ -82,6 +82,16 @@ abbrev pub CatchesUpAll : List ℕ → List Commit → List (Option Thread) → 
 CatchesUpAll had commits old new =
     (ps : List Proc) (first : List (Option Suspended)) (l : Ledger) → AreFirst ps first → AreHad first had → GiveInRange l → ((k : ℕ) (c : Commit) → slice_get commits k ≡ Some c → HasCommit l c) → AreLeftBy first l old
     → AreLeftBy first l new × ((k : ℕ) (c : Commit) → slice_get commits k ≡ Some c → HasResults had new c)
+
+-- WHO WANTS A FURTHER SEASON
+
+-- the machine stands at a sync, and has as many results behind those that its thread had before as the table has rows
+abbrev pub IsSpent : Thread → ℕ → ℕ → Type 0
+IsSpent m before rows = IsOpen m.phase × (before + rows ≤ length m.results)
+
+-- some thread's machine does
+abbrev pub SomeIsSpent : List ℕ → ℕ → List (Option Thread) → Type 0
+SomeIsSpent had rows machines = (t : ℕ) × (m : Thread) × (slice_get machines t ≡ Some (Some m)) × IsSpent m (had_by had t) rows
 
 -- WHERE THE NEXT SEASON BEGINS
 

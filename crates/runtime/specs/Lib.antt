@@ -2,6 +2,8 @@ pub mod Between
 pub mod Headline
 pub mod Limits
 pub mod Machines
+pub mod Played
 pub mod Season
 pub mod Seasons
+pub mod Syncs
 pub mod Workers

@@ -1,11 +1,11 @@
 -- A season of a run: what is known of its table before the first turn, and behind the last one.
-use Rattle.std.specs.Prelude.{◌≡◌, ◌<◌, ◌+◌, ◌*◌, ℕ, All, Contains, List, Option, None, Some, length, slice_get}
+use Rattle.std.specs.Prelude.{◌≡◌, ◌<◌, ◌≤◌, ◌+◌, ◌*◌, ℕ, All, Contains, List, Option, None, Some, length, slice_get}
 use Rattle.protocol_values.specs.declared.Commit.{Commit}
 use Rattle.protocol_values.specs.declared.NackName.{NackName}
 use Rattle.script_tree.specs.Processes.{Proc}
 use Rattle.protocol.specs.Acting.{ActsAs, HasStart, acts_in, before_of}
 use Rattle.protocol.specs.Ledgers.{HasCommit, IsLawful, Ledger, carried_in, course_in}
-use Rattle.protocol.specs.Openings.{HadStarted, Opening, TellsEnd, opening_of, state_in, thread_in, word_for}
+use Rattle.protocol.specs.Openings.{HadStarted, LeadsOn, Opening, TellsEnd, greatest, opening_of, state_in, thread_in, word_for}
 use Rattle.protocol.specs.Tables.{carried_by}
 use Rattle.protocol.specs.declared.opening.Life.TheVariants.{Unstarted}
 use Rattle.cell.specs.Calls.{GridOf, IsNackOf, opening_at}
@@ -16,8 +16,9 @@ use Rattle.runtime_worker.specs.Workers.{IsNewPassOf}
 use Rattle.journal_replay.specs.Runs.{IsRun, config_of}
 use Rattle.journal_order.specs.Behind.{GoesOn, TellsRun, run_on}
 use Rattle.journal.specs.Concluding.{AreGone}
-use Rattle.runtime.specs.Between.{AreHad}
+use Rattle.runtime.specs.Between.{AreHad, HasResults}
 use Rattle.runtime.specs.Machines.{AreLeftBy}
+use Rattle.runtime.specs.Played.{ArePlayed, NeedsOneMore}
 use Rattle.runtime.specs.declared.season.ClosedSeason.{ClosedSeason}
 use Rattle.runtime.specs.declared.season.Next.{Next}
 use Rattle.runtime.specs.declared.season.Next.TheVariants as next
@@ -50,13 +51,15 @@ abbrev pub HaveResultsOf : List Commit → List (Option Suspended) → Type 0
 HaveResultsOf journal first = (t : ℕ) (start : Suspended) → slice_get first t ≡ Some (Some start) → start.machine.value.results ≡ config_of journal t
 
 -- Workers may begin with the passes. The commits of the seasons before are a run in the rows of these, of which the table's opening
--- tells, and its machines stand where they lead.
+-- tells, and its machines stand where they lead. A season counts no more than 65,536 stamps: 1,024 rows of each of 64 threads.
 pub record IsSeason (ps : List Proc) (s : Season) : Type 0 where
   pub of : IsTableOf ps s.cells
   pub passes : All (λ p. IsNewPassOf s.cells p) s.passes.items
   pub had : AreHad s.cells.first s.had.items
   pub run : IsRun ps (s.done * s.cells.rows) s.journal.items
+  pub played : ArePlayed ps s.cells.rows s.done s.journal.items
   pub tells : TellsRun ps s.journal.items (opening_at s.cells)
+  pub stamps : greatest (opening_at s.cells) ≤ s.done * 65536
   pub given : HaveResultsOf s.journal.items s.cells.first
   pub resting : AreGone ps s.journal.items s.resting.items
 
@@ -70,12 +73,19 @@ pub record IsClosed (ps : List Proc) (c : ClosedSeason) : Type 0 where
   pub had : AreHad cells.first c.had.items
   pub left : AreLeftBy cells.first c.ledger c.machines.items
   pub before : List Commit
+  pub earlier : ArePlayed ps c.ledger.rows c.done before
   pub on : GoesOn ps ((c.done + 1) * c.ledger.rows) before (before_of (opening_at cells)) c.ledger c.commits.items
   pub members : (d : Commit) → (Contains c.commits.items d → HasCommit c.ledger d) × (HasCommit c.ledger d → Contains c.commits.items d)
   pub whole : c.journal.items ≡ run_on before c.commits.items
   pub given : HaveResultsOf before cells.first
   pub tells : TellsEnd c.ledger c.opening.threads.items c.opening.nacks.items
+  pub leads : LeadsOn c.ledger (opening_of c.opening)
+  pub stamps : greatest (opening_of c.opening) ≤ (c.done + 1) * 65536
   pub resting : AreGone ps before c.resting.items
+
+-- each commit of the ledger has machines with its results
+abbrev pub HaveCaughtUp : ClosedSeason → Type 0
+HaveCaughtUp c = (d : Commit) → HasCommit c.ledger d → HasResults c.had.items c.machines.items d
 
 -- WHAT FOLLOWS A SEASON
 
@@ -87,4 +97,5 @@ EndsRun ps rows commits (Some s) = IsRun ps rows commits × TellsRun ps commits 
 -- behind so many seasons and one, of so many
 abbrev pub LeadsTo : List Proc → ℕ → ℕ → ℕ → Next → Type 0
 LeadsTo ps done rows seasons (next.Season s) = IsSeason ps s × (s.done ≡ done + 1) × (s.done < seasons) × (s.cells.rows ≡ rows)
-LeadsTo ps done rows seasons (next.End journal standing) = EndsRun ps ((done + 1) * rows) journal.items standing
+LeadsTo ps done rows seasons (next.End journal standing) = EndsRun ps ((done + 1) * rows) journal.items standing × ArePlayed ps rows (done + 1) journal.items
+LeadsTo ps done rows seasons next.Spent = NeedsOneMore ps rows (done + 1) × (seasons ≤ done + 1)

@@ -5,25 +5,28 @@
 //! table is to be. What is counted is a bound: of a branch the side with more syncs, of a block also what
 //! stands behind an `end`.
 //!
-//! No promise hangs on it. Of a row that the table has not the workers open none, and what a thread offers
-//! behind its last row its machine tells. Were the bound too small, then the commits that are missing would
-//! be added at the run's end, as they are where the stated rows are too few.
+//! A count above 4294967294 says nothing but that it is large. Of a row that the table has not the workers open none, and
+//! what a thread offers behind its last row its machine tells: so were the bound too small, then commits would be missing
+//! until the run's end, as where the stated rows are too few, and a run in seasons would take more of them.
 //!
 //! A sync makes an offer for each base event of its event, and how many these are the text says. So the offers are
 //! counted exactly: the most that some sync makes, also one in the body of a guard or a nack. On this a promise
 //! does hang: a row has to have room for all that a machine offers at once.
 
-ghost use Rattle.std.specs.Prelude.{◌≡◌, ◌≤◌, ◌↔◌, ℕ, map};
+ghost use Rattle.std.specs.Prelude.{◌≡◌, ◌<◌, ◌≤◌, ◌↔◌, ℕ, map};
 ghost use Rattle.script_tree.specs.Limits.{base_count};
 ghost use Rattle.script_tree.specs.Processes.{proc_of};
 ghost use Rattle.script_tree.specs.Trees.{block_of, event_of, stmt_of, turn_of};
+ghost use Rattle.runtime.specs.Syncs.{AllSyncAtMost, BlockSyncsAtMost, EventSyncsAtMost, StmtSyncsAtMost, TurnSyncsAtMost};
 ghost use Rattle.runtime_worker.specs.Widths.{AllOfferAtMost, BodiesOfferAtMost, OffersAtMost, StmtOffersAtMost, TurnOffersAtMost};
 
 use script_tree::{Block, Event, Events, LoopBody, Proc, Stmt};
 
 /// The syncs of the statements.
 #[cycle(counting)]
-fn block_syncs(block: &Block) -> u32 {
+fn block_syncs(block: &Block) -> u32
+    ensures { result < 4294967295 → BlockSyncsAtMost result (block_of block.now) }
+{
     let mut count = 0u32;
     let mut rest = block;
     while let Block::Then(statement, behind) = rest {
@@ -34,7 +37,9 @@ fn block_syncs(block: &Block) -> u32 {
 }
 
 #[cycle(counting)]
-fn statement_syncs(statement: &Stmt) -> u32 {
+fn statement_syncs(statement: &Stmt) -> u32
+    ensures { result < 4294967295 → StmtSyncsAtMost result (stmt_of statement.now) }
+{
     match statement {
         Stmt::Let(_, _) | Stmt::Print(_) | Stmt::End | Stmt::Spawn(_) => 0,
         Stmt::Sync(_, event) => 1u32.saturating_add(event_syncs(event)),
@@ -46,14 +51,18 @@ fn statement_syncs(statement: &Stmt) -> u32 {
 
 /// The syncs of one turn of a loop, with the one that it begins with.
 #[cycle(counting)]
-fn turn_syncs(turn: &LoopBody) -> u32 {
+fn turn_syncs(turn: &LoopBody) -> u32
+    ensures { result < 4294967295 → TurnSyncsAtMost result (turn_of turn.now) }
+{
     1u32.saturating_add(event_syncs(&turn.event))
         .saturating_add(block_syncs(&turn.rest))
 }
 
 /// The syncs of the blocks that run before the event is offered, each once.
 #[cycle(counting)]
-fn event_syncs(event: &Event) -> u32 {
+fn event_syncs(event: &Event) -> u32
+    ensures { result < 4294967295 → EventSyncsAtMost result (event_of event.now) }
+{
     match event {
         Event::Choose(members) => {
             let mut count = 0u32;
@@ -79,7 +88,8 @@ fn event_syncs(event: &Event) -> u32 {
 /// As many rows as the processes can use, and no more than are stated.
 pub(crate) fn rows_used(processes: &[Proc], stated: u16) -> u16
     requires { 1 ≤ stated }
-    ensures { (1 ≤ result) × (result ≤ stated) }
+    ensures range { (1 ≤ result) × (result ≤ stated) }
+    ensures enough { result < stated → AllSyncAtMost result (map proc_of processes.now) }
 {
     let mut most = 0u32;
     for process in processes {

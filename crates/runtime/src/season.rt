@@ -1,21 +1,22 @@
 //! One season: its table is played and closed, each machine has the results of its rows, and the next table begins.
 
-ghost use Rattle.std.specs.Prelude.{◌≡◌, ◌≤◌, ◌<◌, ◌+◌, ◌*◌, IfOk, length, map};
+ghost use Rattle.std.specs.Prelude.{◌≡◌, ◌≤◌, ◌<◌, ◌+◌, ◌*◌, ℕ, IfOk, List, length, map};
+ghost use Rattle.script_tree.specs.Processes.{Proc};
 ghost use Rattle.script.specs.Scripts.{script_of};
 ghost use Rattle.runtime.specs.Limits.{AreRows, AreWorkers};
-ghost use Rattle.runtime.specs.Season.{IsClosed, IsSeason, LeadsTo};
+ghost use Rattle.runtime.specs.Season.{HaveCaughtUp, IsClosed, IsSeason, LeadsTo};
 
 use crate::between::{
-    SeasonHalt, add_renumbered, are_spent, catch_up_all, counts_of, go_on_all, keep_all, none_each,
+    add_renumbered, are_spent, catch_up_all, counts_of, go_on_all, keep_all, none_each,
 };
 use crate::bound::offers_used;
 use crate::running::{first_machines, later, work_table};
 use cell::{Cells, Pass, StepGate};
 use protocol::{Ledger, Opening};
 use protocol_values::Commit;
-use runtime_worker::{Gate, Suspended};
+use runtime_worker::{Gate, Halt, Suspended};
 use script::Script;
-use std::alloc::Global;
+use std::alloc::{AllocError, Global};
 use std::sync::Wait;
 use std::thread::Threads;
 use thread::Machine;
@@ -64,12 +65,13 @@ pub(crate) struct Standing {
     pub(crate) machines: Vec<Option<Machine>>,
 }
 
-/// What follows a season: another one, or the end of the workers' run. Where a machine was lost nothing is known there
-/// but the commits.
+/// What follows a season: another one, the end of the workers' run, or nothing, where another one is needed and none is
+/// left. Where a machine was lost nothing is known of the end but the commits.
 #[derive(Drop)]
 pub(crate) enum Next {
     Season(Season),
     End(Vec<Commit>, Option<Standing>),
+    Spent,
 }
 
 /// The first season of the script.
@@ -78,7 +80,7 @@ pub(crate) fn first_season(
     script: &Script,
     workers: u8,
     rows: u16,
-) -> Result<Season, SeasonHalt>
+) -> Result<Season, Halt>
     requires workers { AreWorkers workers }
     requires rows { AreRows rows }
     requires some { 1 ≤ length (script_of script.now).processes }
@@ -114,7 +116,7 @@ pub(crate) fn play_season<R: Threads + Wait + Sync, G: Gate + StepGate + Sync>(
     season: Season,
     workers: u8,
     gate: &G,
-) -> Result<ClosedSeason, SeasonHalt>
+) -> Result<ClosedSeason, Halt>
     requires workers { AreWorkers workers }
     requires season { IsSeason (script_of script.now).processes season }
     requires few { season.done < 65535 }
@@ -145,7 +147,7 @@ pub(crate) fn play_season<R: Threads + Wait + Sync, G: Gate + StepGate + Sync>(
 }
 
 /// What follows the season, of so many. It is the last one unless some thread has committed all of its rows and stands
-/// at a further sync. The next one has room for its stamps: each of 65,535 seasons counts no more than 65,536.
+/// at a further sync.
 pub(crate) fn follow(
     alloc: Global,
     script: &Script,
@@ -153,7 +155,7 @@ pub(crate) fn follow(
     workers: u8,
     rows: u16,
     seasons: u32,
-) -> Result<Next, SeasonHalt>
+) -> Result<Next, AllocError>
     requires workers { AreWorkers workers }
     requires rows { AreRows rows }
     requires closed { IsClosed (script_of script.now).processes closed }
@@ -161,31 +163,63 @@ pub(crate) fn follow(
     requires few { seasons ≤ 65535 }
     ensures { IfOk result (LeadsTo (script_of script.now).processes closed.done rows seasons) }
 {
+    let mut closed = closed;
+    if !catch_up_all(&mut closed.machines, &closed.had, &closed.commits)? {
+        return Ok(Next::End(closed.journal, None));
+    }
+    if !are_spent(&closed.machines, &closed.had, rows) {
+        return Ok(end_of(closed));
+    }
+    if closed.done + 1 >= seasons {
+        return Ok(Next::Spent);
+    }
+    next_season(alloc, script, closed, workers, rows)
+}
+
+/// The end of the workers' run behind the last season, whose machines have caught up.
+fn end_of(closed: ClosedSeason) -> Next
+    ensures { (ps : List Proc) (seasons : ℕ) → IsClosed ps closed → LeadsTo ps closed.done closed.ledger.rows seasons result }
+{
+    let ClosedSeason {
+        journal,
+        opening,
+        machines,
+        mut resting,
+        ..
+    } = closed;
+    keep_all(&mut resting, machines);
+    let standing = Standing {
+        opening,
+        machines: resting,
+    };
+    Next::End(journal, Some(standing))
+}
+
+/// The season behind another one, whose machines have caught up. Its stamps have room: each of 65,535 seasons counts no
+/// more than 65,536.
+fn next_season(
+    alloc: Global,
+    script: &Script,
+    closed: ClosedSeason,
+    workers: u8,
+    rows: u16,
+) -> Result<Next, AllocError>
+    requires workers { AreWorkers workers }
+    requires rows { AreRows rows }
+    requires closed { IsClosed (script_of script.now).processes closed }
+    requires caught { HaveCaughtUp closed }
+    requires same { closed.ledger.rows ≡ rows }
+    requires few { closed.done < 65534 }
+    ensures { IfOk result (LeadsTo (script_of script.now).processes closed.done rows (closed.done + 2)) }
+{
     let ClosedSeason {
         done,
         journal,
-        ledger: _,
-        commits,
-        opening,
-        mut machines,
-        had,
+        opening: Opening { threads, nacks },
+        machines,
         mut resting,
+        ..
     } = closed;
-    if !catch_up_all(&mut machines, &had, &commits)? {
-        return Ok(Next::End(journal, None));
-    }
-    if !are_spent(&machines, &had, rows) {
-        keep_all(&mut resting, machines);
-        let standing = Standing {
-            opening,
-            machines: resting,
-        };
-        return Ok(Next::End(journal, Some(standing)));
-    }
-    if done + 1 >= seasons {
-        return Err(SeasonHalt::Spent);
-    }
-    let Opening { threads, nacks } = opening;
     let Some(table) = go_on_all(alloc, script.processes(), &threads, machines)? else {
         return Ok(Next::End(journal, None));
     };
@@ -194,9 +228,6 @@ pub(crate) fn follow(
         threads: table.threads,
         nacks,
     };
-    if !opening.leads_on(rows) {
-        return Err(SeasonHalt::Spent);
-    }
     let had = counts_of(alloc, &table.first)?;
     let offers = offers_used(script.processes());
     let (cells, passes) = Cells::next_short(alloc, &opening, table.first, rows, offers, workers)?;

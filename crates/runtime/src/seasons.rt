@@ -6,18 +6,18 @@ ghost use Rattle.script.specs.Scripts.{script_of};
 ghost use Rattle.journal.specs.Records.{CompletesRun};
 ghost use Rattle.runtime.specs.Headline.{TellsFreeRun};
 ghost use Rattle.runtime.specs.Limits.{AreRows, AreSeasons, AreWorkers};
+ghost use Rattle.runtime.specs.Played.{ArePlayedWithin};
 ghost use Rattle.runtime.specs.Season.{EndsRun};
-ghost use Rattle.runtime.specs.Seasons.{HasSpent, IsHalt, RefusesCommits};
-ghost use Rattle.runtime.specs.declared.seasons.SeasonFault.TheVariants.{Workers, Rows, SeasonCount, Lost, Unlawful};
+ghost use Rattle.runtime.specs.Seasons.{EndSeasons, HasSpent, IsHalt, NeedsSeasons, RefusesCommits};
+ghost use Rattle.runtime.specs.declared.seasons.SeasonFault.TheVariants.{Workers, Rows, Seasons, SeasonCount, Lost, Unlawful};
 
-use crate::between::SeasonHalt;
 use crate::bound::rows_used;
 use crate::gate::TurnsOnly;
 use crate::season::{Next, Standing, first_season, follow, play_season};
 use cell::StepGate;
 use journal::{End, Record, conclude_run, retrace_run};
 use protocol_values::Commit;
-use runtime_worker::Gate;
+use runtime_worker::{Gate, Halt};
 use script::Script;
 use std::alloc::{AllocError, Global};
 use std::sync::Wait;
@@ -113,13 +113,12 @@ fn has_spent(ends: &[End]) -> bool
     false
 }
 
-fn told(halt: SeasonHalt) -> SeasonFault
+fn told(halt: Halt) -> SeasonFault
     ensures { IsHalt result }
 {
     match halt {
-        SeasonHalt::Memory => SeasonFault::Memory,
-        SeasonHalt::NoWorker => SeasonFault::NoWorker,
-        SeasonHalt::Spent => SeasonFault::Seasons,
+        Halt::Memory => SeasonFault::Memory,
+        Halt::NoWorker => SeasonFault::NoWorker,
     }
 }
 
@@ -129,6 +128,7 @@ fn check_limits(workers: u8, rows: u16, seasons: u32) -> Result<(), SeasonFault>
     ensures workers { (result ≡ Err Workers) ↔ (¬ AreWorkers workers) }
     ensures rows { (result ≡ Err Rows) ↔ (AreWorkers workers × (¬ AreRows rows)) }
     ensures seasons { (result ≡ Err SeasonCount) ↔ (AreWorkers workers × AreRows rows × (¬ AreSeasons seasons)) }
+    ensures needed { result ≢ Err Seasons }
     ensures never { IfErr result (λ fault. (fault ≢ Lost) × (fault ≢ Unlawful)) }
 {
     if workers < 1 || workers > 16 {
@@ -143,8 +143,8 @@ fn check_limits(workers: u8, rows: u16, seasons: u32) -> Result<(), SeasonFault>
     Ok(())
 }
 
-/// The commits of all seasons, as the run numbers them, and what is known where they lead. A season ends when no worker
-/// finds a turn to make any more.
+/// The commits of all seasons, as the run numbers them, and what is known where they lead, or nothing where one more
+/// season is needed. A season ends when no worker finds a turn to make any more.
 fn work_seasons<R: Threads + Wait + Sync, G: Gate + StepGate + Sync>(
     rt: &R,
     alloc: Global,
@@ -153,23 +153,23 @@ fn work_seasons<R: Threads + Wait + Sync, G: Gate + StepGate + Sync>(
     rows: u16,
     seasons: u32,
     gate: &G,
-) -> Result<(Vec<Commit>, Option<Standing>), SeasonHalt>
+) -> Result<Option<(Vec<Commit>, Option<Standing>)>, Halt>
     requires workers { AreWorkers workers }
     requires rows { AreRows rows }
     requires seasons { AreSeasons seasons }
     requires some { 1 ≤ length (script_of script.now).processes }
-    ensures { IfOk result (λ w. EndsRun (script_of script.now).processes (seasons * rows) w.0.items w.1) }
+    ensures { IfOk result (EndSeasons (script_of script.now).processes rows seasons) }
 {
-    let rows = rows_used(script.processes(), rows);
-    let mut season = first_season(alloc, script, workers, rows)?;
-    for _ in 0..seasons {
+    let used = rows_used(script.processes(), rows);
+    let mut season = first_season(alloc, script, workers, used)?;
+    loop {
         let closed = play_season(rt, alloc, script, season, workers, gate)?;
-        match follow(alloc, script, closed, workers, rows, seasons)? {
+        match follow(alloc, script, closed, workers, used, seasons)? {
             Next::Season(next) => season = next,
-            Next::End(commits, standing) => return Ok((commits, standing)),
+            Next::End(commits, standing) => return Ok(Some((commits, standing))),
+            Next::Spent => return Ok(None),
         }
     }
-    Err(SeasonHalt::Spent)
 }
 
 /// `run_seasons` with a gate of steps, as `run_gated` has one.
@@ -183,10 +183,11 @@ pub fn run_seasons_gated<R: Threads + Wait + Sync, G: Gate + StepGate + Sync>(
     gate: &G,
 ) -> Result<Record, SeasonFault>
     ensures headline { IfOk result (TellsFreeRun (script_of script.now).processes) }
-    ensures completes { IfOk result (λ r. (commits : List Commit) × CompletesRun (script_of script.now).processes (seasons * rows) commits r) }
+    ensures completes { IfOk result (λ r. (commits : List Commit) × CompletesRun (script_of script.now).processes (seasons * rows) commits r × ArePlayedWithin (script_of script.now).processes rows seasons commits) }
     ensures workers { (result ≡ Err Workers) ↔ (¬ AreWorkers workers) }
     ensures rows { (result ≡ Err Rows) ↔ (AreWorkers workers × (¬ AreRows rows)) }
     ensures seasons { (result ≡ Err SeasonCount) ↔ (AreWorkers workers × AreRows rows × (¬ AreSeasons seasons)) }
+    ensures needed { (result ≡ Err Seasons) → NeedsSeasons (script_of script.now).processes rows seasons }
     ensures never { IfErr result (λ fault. (fault ≢ Lost) × (fault ≢ Unlawful)) }
 {
     check_limits(workers, rows, seasons)?;
@@ -195,7 +196,8 @@ pub fn run_seasons_gated<R: Threads + Wait + Sync, G: Gate + StepGate + Sync>(
         return concluded(alloc, script, all, Vec::new(alloc), None);
     }
     match work_seasons(rt, alloc, script, workers, rows, seasons, gate) {
-        Ok((commits, standing)) => concluded(alloc, script, all, commits, standing),
+        Ok(Some((commits, standing))) => concluded(alloc, script, all, commits, standing),
+        Ok(None) => Err(SeasonFault::Seasons),
         Err(halt) => Err(told(halt)),
     }
 }
@@ -219,10 +221,11 @@ pub fn run_seasons<R: Threads + Wait + Sync, G: Gate + Sync>(
     gate: &G,
 ) -> Result<Record, SeasonFault>
     ensures headline { IfOk result (TellsFreeRun (script_of script.now).processes) }
-    ensures completes { IfOk result (λ r. (commits : List Commit) × CompletesRun (script_of script.now).processes (seasons * rows) commits r) }
+    ensures completes { IfOk result (λ r. (commits : List Commit) × CompletesRun (script_of script.now).processes (seasons * rows) commits r × ArePlayedWithin (script_of script.now).processes rows seasons commits) }
     ensures workers { (result ≡ Err Workers) ↔ (¬ AreWorkers workers) }
     ensures rows { (result ≡ Err Rows) ↔ (AreWorkers workers × (¬ AreRows rows)) }
     ensures seasons { (result ≡ Err SeasonCount) ↔ (AreWorkers workers × AreRows rows × (¬ AreSeasons seasons)) }
+    ensures needed { (result ≡ Err Seasons) → NeedsSeasons (script_of script.now).processes rows seasons }
     ensures never { IfErr result (λ fault. (fault ≢ Lost) × (fault ≢ Unlawful)) }
 {
     run_seasons_gated(

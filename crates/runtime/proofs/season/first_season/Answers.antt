@@ -1,4 +1,4 @@
-use Rattle.std.proofs.Common.{rules, ◌≡◌, ◌≤◌, ◌*◌, ◌∙◌, ℕ, List, [], Option, Some, ap, get_or, length, map, refl, replicate, subst, sym}
+use Rattle.std.proofs.Common.{rules, ◌≡◌, ◌≤◌, ◌*◌, ◌∙◌, ℕ, List, [], Option, Some, ap, arith, get_or, length, map, refl, replicate, subst, sym}
 use Rattle.std.proofs.lemmas.List.{length-map}
 use Rattle.std.proofs.lemmas.Option.{slice_get-get_or}
 use Rattle.script_tree.specs.Processes.{Proc, proc_of}
@@ -11,13 +11,14 @@ use Rattle.runtime_worker.specs.Machines.{AreNew, IsTable}
 use Rattle.runtime_worker.specs.Widths.{AllOfferAtMost}
 use Rattle.runtime_worker.proofs.Machines.{none_settled, table_of_first}
 use Rattle.runtime.specs.Between.{AreHad}
+use Rattle.runtime.specs.Played.{ArePlayed, NoSeason}
 use Rattle.runtime.specs.Season.{IsSeason}
 use Rattle.runtime.proofs.GoingOn.{new_had}
 use Rattle.std.proofs.lemmas.List.{length-replicate}
 use Rattle.protocol_values.specs.declared.Commit.{Commit}
-use Rattle.protocol.specs.Openings.{start_opening}
+use Rattle.protocol.specs.Openings.{greatest, start_opening}
 use Rattle.protocol.specs.declared.opening.NackState.TheVariants.{Unbound}
-use Rattle.protocol.proofs.LedgerLemmas.{start_threads}
+use Rattle.protocol.proofs.LedgerLemmas.{start_greatest, start_threads}
 use Rattle.cell.specs.Calls.{opening_at}
 use Rattle.journal_replay.specs.Runs.{IsRun, config_of}
 use Rattle.journal_replay.proofs.Running.{run-none}
@@ -63,8 +64,10 @@ returns c =
             let x = c.in_ok-cells.ensures.passes k (get_or c.in_ok-cells.passes.items k d) (slice_get-get_or c.in_ok-cells.passes.items k d h) in
             (x.0, ap (λ (s : Seen). s.opened) x.1, ap (λ (s : Seen). s.begun) x.1, ap (λ (s : Seen). s.bound) x.1, ap (λ (s : Seen). s.ended) x.1, table);
         had = subst (AreHad cells.first) (sym none) (new_had ps cells.first c.len.result new);
+        played = subst (ArePlayed ps cells.rows 0) (sym empty) NoSeason;
         run = subst (IsRun ps (0 * cells.rows)) (sym empty) (run-none ps (0 * cells.rows));
         tells = subst (λ (z : List Commit × Opening). TellsRun ps z.0 z.1) (λ i. (sym empty i, sym opens i)) (tells_first ps (length c.in_ok-first.first.items) c.later.result few_first c.later.ensures);
+        stamps = (let none_yet = ap greatest opens ∙ start_greatest (length c.in_ok-first.first.items) c.later.result in omega (arith, none_yet));
         given = λ t start e. (new.1 t start e).2.results ∙ ap (λ (cs : List Commit). config_of cs t) (sym empty);
         resting = (resting.0 ∙ sym (length-map c.processes-processes.result.now proc_of), λ t m e. absurd (resting.1 t m e));
       },

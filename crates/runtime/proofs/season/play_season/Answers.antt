@@ -1,9 +1,10 @@
-use Rattle.std.proofs.Common.{◌≡◌, List, ◌++◌, map, ◌∙◌, subst, refl}
+use Rattle.std.proofs.Common.{◌≡◌, ℕ, List, ◌++◌, map, ◌∙◌, subst, sym, refl}
 use Rattle.protocol_values.specs.declared.Commit.{Commit}
 use Rattle.journal_order.specs.Laws.{IsOrderOf}
 use Rattle.runtime.specs.Between.{renumbered}
+use Rattle.runtime.specs.Played.{ArePlayed}
 use Rattle.runtime.specs.Season.{IsLedgerOver}
-use Rattle.runtime.proofs.LeadingOn.{goes_on, same-journal}
+use Rattle.runtime.proofs.LeadingOn.{goes_on, same-journal, stamps_on}
 use Rattle.script.specs.Scripts.{script_of}
 use Rattle.runtime.proofs.season.play_season.Goals as goal
 
@@ -31,10 +32,13 @@ returns g c =
         had = season.had;
         left = closed.machines;
         before = before;
+        earlier = subst (λ (n : ℕ). ArePlayed ps n done before) (sym closed.size.1) season.played;
         on = goes_on ps cells season.of before done c.args.season.had.items season.had c.requires.few season.run season.tells season.given ledger over closed.size.1 commits order;
         whole = added ∙ same-journal ps cells season.of before done c.args.season.had.items season.had c.requires.few season.run season.tells season.given ledger over closed.size.1 commits order (λ d there. (told.members d).0 there);
         given = season.given;
         tells = c.in_ok-opening.ensures.end;
+        leads = c.in_ok-opening.ensures.leads_on closed.lawful;
+        stamps = stamps_on ps cells season.of before done c.args.season.had.items season.had c.requires.few season.run season.tells season.given ledger over closed.size.1 commits order _ season.stamps (c.in_ok-opening.ensures.greatest closed.lawful);
         resting = season.resting;
       },
       refl,

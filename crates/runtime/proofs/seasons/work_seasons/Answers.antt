@@ -1,17 +1,32 @@
-use Rattle.std.proofs.Common.{◌≤◌, ◌+◌, ◌*◌, subst, arith}
+use Rattle.std.proofs.Common.{◌≡◌, ◌≤◌, ◌+◌, ◌*◌, subst, arith}
 use Rattle.std.proofs.lemmas.Nat.{mul-le}
 use Rattle.script.specs.Scripts.{script_of}
+use Rattle.runtime.specs.Played.{NeedsOneMore}
 use Rattle.runtime.specs.Season.{LeadsTo}
-use Rattle.runtime.proofs.LeadingOn.{ends_wider}
+use Rattle.runtime.specs.Syncs.{AllSyncAtMost}
+use Rattle.runtime.proofs.LeadingOn.{all_rows, ends_wider}
 use Rattle.runtime.proofs.seasons.work_seasons.Goals as goal
 
 pub returns-in-End : goal.returns-in-End
 returns-in-End g c =
     let ps = (script_of c.args.script.now).processes in
-    let used = c.rows_used-rows.result in
+    let used = c.rows_used-used.result in
     let done = c.in_ok-closed.closed.done in
-    let i = c.loop.invariant in
+    let i = c.loop-closed.invariant in
     let leads = subst (LeadsTo ps done used c.args.seasons) c.in-End.is c.in_ok-next.ensures in
-    let fits = c.rows_used-rows.ensures in
-    let few : done + 1 ≤ c.args.seasons = omega (arith, c.in_ok-closed.ensures.1, i.1) in
-    ends_wider ps ((done + 1) * used) (c.args.seasons * c.args.rows) c.in-End.commits.items c.in-End.standing (mul-le (done + 1) used c.args.seasons c.args.rows few fits.1) leads
+    let fits = c.rows_used-used.ensures.range in
+    let few : done + 1 ≤ c.args.seasons = omega (arith, c.in_ok-closed.ensures.1, i.1) in (
+      ends_wider ps ((done + 1) * used) (c.args.seasons * c.args.rows) c.in-End.commits.items c.in-End.standing (mul-le (done + 1) used c.args.seasons c.args.rows few fits.1) leads.0,
+      record { each = used; count = done + 1; narrow = fits.1; few = few; played = leads.1 },
+    )
+
+pub returns-in-Spent : goal.returns-in-Spent
+returns-in-Spent g c =
+    let ps = (script_of c.args.script.now).processes in
+    let used = c.rows_used-used.result in
+    let done = c.in_ok-closed.closed.done in
+    let i = c.loop-closed.invariant in
+    let leads = subst (LeadsTo ps done used c.args.seasons) c.in-Spent.is c.in_ok-next.ensures in
+    let least = leads.1 in
+    let all : done + 1 ≡ c.args.seasons = omega (arith, c.in_ok-closed.ensures.1, i.1, least) in
+    all_rows ps used c.args.rows c.args.seasons c.rows_used-used.ensures.range.1 (λ less. subst (AllSyncAtMost used) c.processes.ensures.value (c.rows_used-used.ensures.enough less)) (subst (NeedsOneMore ps used) all leads.0)

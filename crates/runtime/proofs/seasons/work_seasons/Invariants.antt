@@ -1,7 +1,10 @@
-use Rattle.std.proofs.Common.{◌≡◌, ◌<◌}
+use Rattle.std.proofs.Common.{◌≡◌, ◌-◌, ◌<◌}
 use Rattle.script.specs.Scripts.{script_of}
 use Rattle.runtime.specs.Season.{IsSeason}
 use Rattle.runtime.proofs.seasons.work_seasons.Given as goal
 
-abbrev pub invariant-loop : goal.invariant-loop
-invariant-loop g l = IsSeason (script_of l.script).processes l.season × (l.season.done < l.seasons) × (l.season.cells.rows ≡ l.rows)
+abbrev pub invariant-loop-closed : goal.invariant-loop-closed
+invariant-loop-closed g l = IsSeason (script_of l.script).processes l.season × (l.season.done < l.seasons) × (l.season.cells.rows ≡ l.used)
+
+abbrev pub decreases-loop-closed : goal.decreases-loop-closed
+decreases-loop-closed g l = l.seasons - l.season.done
