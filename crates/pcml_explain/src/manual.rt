@@ -177,9 +177,13 @@ OPTIONS
               Where TO is a link, the file behind it is the one. It is fault
               32, and TO stays as it is, where that is no regular file, may
               not be written, is the script, or is where a standard stream
-              goes.  For outcomes it is a journal that leads to the outcome
-              of --of, or else to the first that is told; where there is no
-              such outcome, TO stays as it is.
+              goes.  A run that a signal stops, as Ctrl-C, leaves TO as it
+              was or whole, and may leave pcml.K.part beside it, which can be
+              removed. A journal of more than 16,777,216 bytes is kept whole;
+              standard error then says that no other command reads it.  For
+              outcomes it is a journal that leads to the outcome of --of, or
+              else to the first that is told; where there is no such outcome,
+              TO stays as it is.
 
        --of K The number of the outcome whose journal is written, from 1.
               Where there is none of that number, the status is 1.

@@ -75,8 +75,9 @@ what to do: nothing. The number is kept, and no other fault has it.
 
 pub(crate) const NO_THREAD: &str = "\
 fault 6: a thread could not be started
-comes about: the system gave pcml run or pcml meet fewer threads than it asks for.
-what to do: ask for fewer by --workers, or raise the limit on threads.
+comes about: the system gave pcml run or pcml meet fewer threads than it asks for, or too little memory for their
+stacks.
+what to do: ask for fewer by --workers, or raise the limit on threads (ulimit -u) or on memory (ulimit -v).
 ";
 
 pub(crate) const SEASONS: &str = "\
@@ -163,8 +164,8 @@ what to do: write the line as docs/FORMATS.md has it. Line 1 is the world, also 
 pub(crate) const TOO_LARGE: &str = "\
 fault 23: the journal or the schedule has more than 16,777,216 bytes
 comes about: where JOURNAL of pcml replay, why, chart, next or stats, or FILE of pcml play, is so long, or
-never ends, as a device.
-what to do: shorten it.
+never ends, as a device. pcml run with --journal keeps a longer one, and says so.
+what to do: shorten it. Any beginning of a journal, in whole lines, is a journal of the same script.
 ";
 
 pub(crate) const UNREAD: &str = "\

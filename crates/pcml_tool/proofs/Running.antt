@@ -3,12 +3,14 @@ use Rattle.std.proofs.Common.{◌⊎◌, ◌*◌, ℕ, ◌≤◌, List, Some, ap
 use Rattle.std.proofs.Math.Nat.{mul-le-mul_right}
 use Rattle.std.proofs.lemmas.Bool.{cases_lt}
 use Rattle.protocol_values.specs.declared.Commit.{Commit}
+use Rattle.journal_order.specs.Ledgers.{IsLedgerOf}
 use Rattle.journal.specs.Records.{Completes, CompletesRun}
 use Rattle.journal.specs.declared.record.Record.{Record}
 use Rattle.protocol.specs.Ledgers.{IsLawful, Ledger}
 use Rattle.script.specs.Sources.{Script}
 use Rattle.script.specs.Spelling.{IsSpelled}
 use Rattle.runtime.specs.Headline.{TellsFreeRun, TellsMaximalRun}
+use Rattle.runtime.specs.Played.{ArePlayedWithin}
 use Rattle.runtime.specs.Limits.{AreRows, AreSeasons, AreWorkers}
 use Rattle.journal_lines.proofs.Lining.{printed_has_names, run_is_read_again}
 use Rattle.pcml_tool.specs.Run.{AreEnds, TellsFreelyOf, TellsRecord, TellsRunOf}
@@ -16,8 +18,8 @@ use Rattle.pcml_tool.specs.Run.{AreEnds, TellsFreelyOf, TellsRecord, TellsRunOf}
 are_ends : (s : Script) (r : Record) (lines rest : List ℕ) (told : TellsRecord s r lines rest) → AreEnds told.standing r.ends.items
 are_ends s r lines rest told = record { count = sym told.are.count; each = λ t p is. (told.are.each t p is).1 }
 
-pub tells_run : (s : Script) (rows : ℕ) (r : Record) (lines rest : List ℕ) → IsSpelled s → rows ≤ 67107840 → TellsMaximalRun s.processes rows r → (l : Ledger) × IsLawful l × Completes s.processes rows l r → TellsRecord s r lines rest → TellsRunOf s rows r.journal.items r.ends.items lines rest
-tells_run s rows r lines rest spelled few run (l, lawful, completes) told =
+pub tells_run : (s : Script) (rows : ℕ) (r : Record) (lines rest : List ℕ) → IsSpelled s → rows ≤ 67107840 → TellsMaximalRun s.processes rows r → (l : Ledger) × IsLawful l × IsLedgerOf s.processes l × (l.rows ≤ rows) × Completes s.processes rows l r → TellsRecord s r lines rest → TellsRunOf s rows r.journal.items r.ends.items lines rest
+tells_run s rows r lines rest spelled few run (l, lawful, of, within, completes) told =
     record {
       run = run.journal;
       spells = (run_is_read_again s spelled rows few r.journal.items run.journal.run).0;
@@ -34,6 +36,7 @@ tells_run s rows r lines rest spelled few run (l, lawful, completes) told =
       few = run.tail;
       ledger = l;
       lawful = lawful;
+      of = of;
       added = completes.added;
       whole = completes.whole;
       counted = completes.tail_is;
@@ -41,11 +44,11 @@ tells_run s rows r lines rest spelled few run (l, lawful, completes) told =
       is = told.is;
     }
 
-pub tells_freely : (s : Script) (rows : ℕ) (r : Record) (lines rest : List ℕ) → IsSpelled s → rows ≤ 67107840 → TellsFreeRun s.processes r → (given : List Commit) × CompletesRun s.processes rows given r → TellsRecord s r lines rest → TellsFreelyOf s r.journal.items r.ends.items lines rest
-tells_freely s rows r lines rest spelled few run (given, completes) told =
+pub tells_freely : (s : Script) (rows seasons : ℕ) (r : Record) (lines rest : List ℕ) → IsSpelled s → seasons * rows ≤ 67107840 → TellsFreeRun s.processes r → (given : List Commit) × CompletesRun s.processes (seasons * rows) given r × ArePlayedWithin s.processes rows seasons given → TellsRecord s r lines rest → TellsFreelyOf s rows seasons r.journal.items r.ends.items lines rest
+tells_freely s rows seasons r lines rest spelled few run (given, completes, played) told =
     record {
       run = run.journal;
-      spells = (run_is_read_again s spelled rows few r.journal.items completes.run).0;
+      spells = (run_is_read_again s spelled (seasons * rows) few r.journal.items completes.run).0;
       standing = told.standing;
       stand = λ more enough.
           let ends = run.ends more enough in
@@ -57,10 +60,12 @@ tells_freely s rows r lines rest spelled few run (given, completes) told =
       ended = are_ends s r lines rest told;
       nameable = λ t p is.
           let are = told.are.each t p is in
-          printed_has_names s spelled rows few r.journal.items completes.run t p.end p.printed (completes.ends_are.each t p.end p.printed are.1 are.2);
+          printed_has_names s spelled (seasons * rows) few r.journal.items completes.run t p.end p.printed (completes.ends_are.each t p.end p.printed are.1 are.2);
       tail = r.tail;
       few = run.tail;
+      in_rows = completes.run;
       given = given;
+      played = played;
       added = completes.added;
       whole = completes.whole;
       counted = completes.tail_is;

@@ -18,6 +18,7 @@ use Rattle.pcml_tool.specs.declared.fault.Fault.TheVariants as faults
 use Rattle.protocol_schedule.specs.Schedule.{IsFirstBadLine}
 use Rattle.pcml_tool.specs.Play.{IsPlayed, IsFirstRefused}
 use Rattle.pcml_tool.specs.Check.{IsChecked}
+use Rattle.runtime.specs.Seasons.{NeedsSeasons}
 use Rattle.runtime.specs.Limits.{AreRows, AreSeasons, AreWorkers}
 use Rattle.pcml_tool.specs.Replay.{IsReplayed, IsNoRun, unlawful_line}
 use Rattle.pcml_tool.specs.Chart.{IsCharted}
@@ -169,10 +170,11 @@ pub record AnswersRun (Holds Keeps : Files) (asked : Running) (verdict : Verdict
   pub told : TellsWhyAsked asked.why s source (all_rows asked.rows asked.seasons) journal why
   pub is : text ≡ printed asked.quiet lines rest ++ why
 
--- it is about anything but outcomes
-abbrev pub AsksOfNoOutcome : Request → Type 0
-AsksOfNoOutcome (Outcomes search) = ⊥
-AsksOfNoOutcome asked = Unit {0}
+-- nothing is told behind its answer: it is about neither a run nor outcomes
+abbrev pub AsksPlainly : Request → Type 0
+AsksPlainly (Run asked) = ⊥
+AsksPlainly (Outcomes search) = ⊥
+AsksPlainly asked = Unit {0}
 
 -- it is about where the journal in a file leads
 abbrev pub AsksOfJournal : Request → Type 0
@@ -251,17 +253,15 @@ FailsNamed s need faults.Memory = Unit {0}
 FailsNamed s need (faults.Unnamed name) = MisnamesAny s need (names.Unnamed name)
 FailsNamed s need fault = ⊥
 
--- what a fault of a run says of what was asked for
-abbrev pub FailsRun : ℕ → ℕ → Option ℕ → Fault → Type 0
-FailsRun workers rows seasons faults.Memory = Unit {0}
-FailsRun workers rows seasons faults.NoThread = Unit {0}
-FailsRun workers rows seasons faults.Workers = ¬ AreWorkers workers
-FailsRun workers rows seasons faults.Rows = ¬ AreRows rows
-FailsRun workers rows seasons faults.Lost = seasons ≢ None
-FailsRun workers rows seasons faults.Unlawful = seasons ≢ None
-FailsRun workers rows seasons faults.Seasons = seasons ≢ None
-FailsRun workers rows seasons faults.SeasonCount = IfSome seasons (λ count. ¬ AreSeasons count)
-FailsRun workers rows seasons fault = ⊥
+-- what a fault of a run of the script says of what was asked for
+abbrev pub FailsRun : Script → ℕ → ℕ → Option ℕ → Fault → Type 0
+FailsRun s workers rows seasons faults.Memory = Unit {0}
+FailsRun s workers rows seasons faults.NoThread = Unit {0}
+FailsRun s workers rows seasons faults.Workers = ¬ AreWorkers workers
+FailsRun s workers rows seasons faults.Rows = ¬ AreRows rows
+FailsRun s workers rows seasons faults.Seasons = (count : ℕ) × (seasons ≡ Some count) × NeedsSeasons s.processes rows count
+FailsRun s workers rows seasons faults.SeasonCount = IfSome seasons (λ count. ¬ AreSeasons count)
+FailsRun s workers rows seasons fault = ⊥
 
 -- what a fault says of a run of a script: that of the script, of the run, of a name that is needed, or that the journal's file was not written
 abbrev pub FailsRunning : Files → Running → Fault → Type 0
@@ -270,9 +270,9 @@ FailsRunning Holds asked faults.Unread = Unit {0}
 FailsRunning Holds asked faults.NoThread = Unit {0}
 FailsRunning Holds asked faults.Workers = ¬ AreWorkers asked.workers
 FailsRunning Holds asked faults.Rows = ¬ AreRows asked.rows
-FailsRunning Holds asked faults.Lost = asked.seasons ≢ None
-FailsRunning Holds asked faults.Unlawful = asked.seasons ≢ None
-FailsRunning Holds asked faults.Seasons = asked.seasons ≢ None
+FailsRunning Holds asked faults.Lost = ⊥
+FailsRunning Holds asked faults.Unlawful = ⊥
+FailsRunning Holds asked faults.Seasons = OfScript Holds asked.script.now (λ s. FailsRun s asked.workers asked.rows asked.seasons faults.Seasons)
 FailsRunning Holds asked faults.SeasonCount = IfSome asked.seasons (λ count. ¬ AreSeasons count)
 FailsRunning Holds asked faults.Unwritten = asked.journal ≢ None
 FailsRunning Holds asked (faults.Unnamed name) = OfScript Holds asked.script.now (λ s. FailsNamed s (option_copied asked.need) (faults.Unnamed name))

@@ -1,5 +1,5 @@
 -- What running a script prints.
-use Rattle.std.specs.Prelude.{◌≡◌, ◌≢◌, ◌<◌, ◌≤◌, ℕ, List, [], ◌∷◌, ◌++◌, length, codes, map, Option, None, Some, slice_get, IsPermutation}
+use Rattle.std.specs.Prelude.{◌≡◌, ◌≢◌, ◌*◌, ◌<◌, ◌≤◌, ℕ, List, [], ◌∷◌, ◌++◌, length, codes, map, Option, None, Some, slice_get, IsPermutation}
 use Rattle.std.specs.List.{AllByRecursion}
 use Rattle.std.specs.Fmt.{decimal}
 use Rattle.protocol_values.specs.declared.Commit.{Commit}
@@ -8,10 +8,12 @@ use Rattle.script.specs.Sources.{Script}
 use Rattle.journal_text.specs.Journals.{HasAtom, Spells}
 use Rattle.journal_text.specs.Names.{names_of, named}
 use Rattle.journal_text.specs.Texts.{commits_text}
-use Rattle.journal_replay.specs.Runs.{config_of}
+use Rattle.journal_order.specs.Ledgers.{IsLedgerOf}
+use Rattle.journal_replay.specs.Runs.{IsRun, config_of}
 use Rattle.journal_replay.specs.declared.end.End.{End}
 use Rattle.journal_replay.specs.declared.end.End.TheVariants.{Spent}
 use Rattle.runtime.specs.Headline.{IsFreeRun, IsMaximalRun}
+use Rattle.runtime.specs.Played.{ArePlayedWithin}
 use Rattle.journal.specs.declared.record.Record.{Record}
 use Rattle.pcml_outcomes.specs.Standings.{Standing, AreStandings, StandAs, process_lines}
 
@@ -43,18 +45,20 @@ pub record TellsRunOf (s : Script) (rows : ℕ) (journal : List Commit) (ends : 
   pub nameable : (t : ℕ) (p : Standing) → slice_get standing t ≡ Some p → AllByRecursion (HasAtom (names_of s)) p.printed
   pub tail : ℕ
   pub few : tail ≤ length journal
-  -- it counts the commits that a lawful ledger did not have
+  -- it counts the commits that a lawful ledger of the script's processes did not have
   pub ledger : Ledger
   pub lawful : IsLawful ledger
+  pub of : IsLedgerOf s.processes ledger
   pub added : List Commit
   pub whole : IsPermutation (commits_in ledger ++ added) journal
   pub counted : length added ≡ tail
   pub are : lines ≡ commits_text (named s) journal
   pub is : rest ≡ process_lines (named s) standing ++ tail_line (length journal) tail
 
--- The same of a run in seasons, which ends for no want of syncs: it is maximal however many each process may make, no process is
--- spent, and each stands so wherever it may make more syncs than it did. It counts the commits that the seasons did not have.
-pub record TellsFreelyOf (s : Script) (journal : List Commit) (ends : List End) (lines rest : List ℕ) : Type 0 where
+-- The same of a run in at most so many seasons, of so many rows each, which ends for no want of syncs: it is maximal however many each
+-- process may make, no process is spent, and each stands so wherever it may make more syncs than it did. Yet none makes more than all
+-- seasons have rows. It counts the commits that the seasons did not have.
+pub record TellsFreelyOf (s : Script) (rows seasons : ℕ) (journal : List Commit) (ends : List End) (lines rest : List ℕ) : Type 0 where
   pub run : IsFreeRun s.processes journal
   pub spells : Spells s (commits_text (named s) journal) journal
   pub standing : List Standing
@@ -64,7 +68,9 @@ pub record TellsFreelyOf (s : Script) (journal : List Commit) (ends : List End) 
   pub nameable : (t : ℕ) (p : Standing) → slice_get standing t ≡ Some p → AllByRecursion (HasAtom (names_of s)) p.printed
   pub tail : ℕ
   pub few : tail ≤ length journal
+  pub in_rows : IsRun s.processes (seasons * rows) journal
   pub given : List Commit
+  pub played : ArePlayedWithin s.processes rows seasons given
   pub added : List Commit
   pub whole : IsPermutation (given ++ added) journal
   pub counted : length added ≡ tail
@@ -74,7 +80,7 @@ pub record TellsFreelyOf (s : Script) (journal : List Commit) (ends : List End) 
 -- in seasons, where a number of these is named
 abbrev pub TellsAsked : Script → ℕ → Option ℕ → List Commit → List End → List ℕ → List ℕ → Type 0
 TellsAsked s rows None journal ends lines rest = TellsRunOf s rows journal ends lines rest
-TellsAsked s rows (Some seasons) journal ends lines rest = TellsFreelyOf s journal ends lines rest
+TellsAsked s rows (Some seasons) journal ends lines rest = TellsFreelyOf s rows seasons journal ends lines rest
 
 -- the text tells a run, its journal first
 abbrev pub IsRan : Script → ℕ → List ℕ → Type 0

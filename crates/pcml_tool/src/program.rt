@@ -10,7 +10,7 @@ ghost use Rattle.pcml_request.specs.declared.request.Request.TheVariants.{Outcom
 ghost use Rattle.pcml_tool.specs.declared.fault.Fault.TheVariants.{Memory, Unwritten};
 ghost use Rattle.pcml_tool.specs.declared.from_files.Verdict.TheVariants.{Done, Lacking};
 ghost use Rattle.pcml_request.specs.Requests.{CanBeAnswered, all_rows};
-ghost use Rattle.pcml_tool.specs.Command.{Answers, AnswersOutcomes, AnswersRun, AreNeeded, AsksOfJournal, AsksOfNoOutcome, Began, Fails, FailsNamed, FailsOutcomes, FailsRun, FailsRunning, TellsWhyAsked, marks_of, verdict_by};
+ghost use Rattle.pcml_tool.specs.Command.{Answers, AnswersOutcomes, AnswersRun, AreNeeded, AsksOfJournal, AsksPlainly, Began, Fails, FailsNamed, FailsOutcomes, FailsRun, FailsRunning, TellsWhyAsked, marks_of, verdict_by};
 ghost use Rattle.pcml_tool.specs.Faults.{status_of};
 ghost use Rattle.pcml_tool.specs.Run.{TellsAsked};
 
@@ -25,7 +25,7 @@ use crate::{
 };
 use journal_replay::End;
 use outcomes::{Watch, has_unended};
-use pcml_files::{Source, emit};
+use pcml_files::{MOST_BYTES, Source, emit};
 use pcml_need::named_processes;
 use pcml_outcomes::outcomes_text;
 use pcml_request::{Request, Running, Search, WordsFault, read_words};
@@ -72,7 +72,7 @@ fn run_asked<R: Threads + Wait + Sync>(
     ensures ends { IfOk result (λ t. length t.ends.items ≡ length (script_of script.now).processes) }
     ensures run { IfOk result (λ t. IsRun (script_of script.now).processes (all_rows rows seasons) t.commits.items) }
     ensures within { IfOk result (λ t. t.journal ≤ length t.text.items) }
-    ensures fault { IfErr result (FailsRun workers rows seasons) }
+    ensures fault { IfErr result (FailsRun (script_of script.now) workers rows seasons) }
 {
     match seasons {
         Some(seasons) => Ok(run_seasons_parts(rt, alloc, script, workers, rows, seasons)?),
@@ -122,13 +122,18 @@ fn why_asked(
     }
 }
 
-/// What comes of running a script, as text, with the verdict; the journal is kept, where that is asked for.
+/// What is told behind a run whose journal was kept, and is longer than other commands read.
+const LONG: &str =
+    "the journal has more than 16777216 bytes: it was kept whole, and replay, why, chart, next and stats answer fault 23 to it. Fewer --rows or messages make a shorter one.\n";
+
+/// What comes of running a script, as text, with the verdict, and what is told behind it; the journal is kept, where that
+/// is asked for.
 fn answer_run<R: Threads + Wait + Sync, S: Source>(
     rt: &R,
     alloc: Global,
     asked: Running<'_>,
     source: &mut S,
-) -> Result<(Verdict, Vec<u8>), Fault>
+) -> Result<(Verdict, Vec<u8>, &'static str), Fault>
     requires { CanBeAnswered (Run asked) }
     ensures done { IfOk result (λ answer. AnswersRun (S.holds source.old) (S.holds source.new) asked.entry answer.0 answer.1.items) }
     ensures fault { IfErr result (FailsRunning (S.holds source.old) asked.entry) }
@@ -139,9 +144,10 @@ fn answer_run<R: Threads + Wait + Sync, S: Source>(
     let verdict = verdict_by(&ran.ends, &needed);
     let rows = all_rows(asked.rows, asked.seasons);
     let why = why_asked(alloc, &script, &source_text, &ran.commits, rows, asked.why)?;
+    let is_long = asked.journal.is_some() && ran.journal > MOST_BYTES;
     let mut text = keep_journal(alloc, source, ran, asked.journal, asked.quiet)?;
     text.extend_from_slice(&why)?;
-    Ok((verdict, text))
+    Ok((verdict, text, if is_long { LONG } else { "" }))
 }
 
 /// The text that a request is answered with which asks of the journal in a file.
@@ -218,14 +224,14 @@ fn answer_search<S: Source, W: Watch>(
     Ok((verdict, text, advice))
 }
 
-/// The text that a request is answered with, of any but one for outcomes.
+/// The text that a request is answered with behind which nothing is told: any but one for a run or for outcomes.
 fn answer<R: Threads + Wait + Sync, S: Source>(
     rt: &R,
     alloc: Global,
     asked: Request<'_>,
     source: &mut S,
 ) -> Result<(Verdict, Vec<u8>), Fault>
-    requires about { AsksOfNoOutcome asked }
+    requires about { AsksPlainly asked }
     requires can { CanBeAnswered asked }
     ensures done { IfOk result (λ answer. Answers (S.holds source.old) (S.holds source.new) asked.entry answer.0 answer.1.items) }
     ensures fault { IfErr result (Fails (S.holds source.old) asked.entry) }
@@ -237,8 +243,7 @@ fn answer<R: Threads + Wait + Sync, S: Source>(
         Request::Explain(topic) => Ok((Verdict::Done, explain_text(alloc, topic)?)),
         Request::Version => Ok((Verdict::Done, version_text(alloc)?)),
         Request::WhyScript(name) => why_file(alloc, source, name),
-        Request::Run(asked) => answer_run(rt, alloc, asked, source),
-        Request::Outcomes(_) => unreachable!(),
+        Request::Run(_) | Request::Outcomes(_) => unreachable!(),
         Request::Replay { .. }
         | Request::Why { .. }
         | Request::Chart { .. }
@@ -260,6 +265,7 @@ fn answer_whole<R: Threads + Wait + Sync, S: Source, W: Watch>(
     ensures fault { IfErr result (Fails (S.holds source.old) asked.entry) }
 {
     match asked {
+        Request::Run(asked) => answer_run(rt, alloc, asked, source),
         Request::Outcomes(search) => answer_search(alloc, search, source, watch),
         _ => {
             let (verdict, text) = answer(rt, alloc, asked, source)?;

@@ -1,6 +1,6 @@
 //! What `run` prints.
 
-ghost use Rattle.std.specs.Prelude.{◌≡◌, ◌↔◌, ◌≤◌, ◌*◌, Err, IfOk, length, map, take, drop};
+ghost use Rattle.std.specs.Prelude.{◌≡◌, ◌≢◌, ◌↔◌, ◌≤◌, ◌*◌, Err, IfErr, IfOk, length, map, take, drop};
 ghost use Rattle.std.specs.List.{AllByRecursion};
 ghost use Rattle.std.specs.String.{string_bytes};
 ghost use Rattle.script.specs.Scripts.{script_of};
@@ -8,6 +8,7 @@ ghost use Rattle.journal_replay.specs.Runs.{IsRun};
 ghost use Rattle.journal_text.specs.Journals.{HasLine};
 ghost use Rattle.journal_text.specs.Names.{names_of, named};
 ghost use Rattle.runtime.specs.Limits.{AreRows, AreSeasons, AreWorkers};
+ghost use Rattle.runtime.specs.Seasons.{NeedsSeasons};
 ghost use Rattle.runtime.specs.declared.fault.RunFault.TheVariants.{Workers, Rows};
 ghost use Rattle.runtime.specs.declared.seasons.SeasonFault.TheVariants as faults;
 ghost use Rattle.pcml_tool.specs.Run.{tail_line, IsRan, TellsFreelyOf, TellsRecord, TellsRunOf};
@@ -101,13 +102,15 @@ pub fn run_seasons_parts<R: Threads + Wait + Sync>(
     rows: u16,
     seasons: u16,
 ) -> Result<RunText, SeasonFault>
-    ensures ran { IfOk result (λ t. TellsFreelyOf (script_of script.now) t.commits.items t.ends.items (take t.journal t.text.items) (drop t.journal t.text.items)) }
+    ensures ran { IfOk result (λ t. TellsFreelyOf (script_of script.now) rows seasons t.commits.items t.ends.items (take t.journal t.text.items) (drop t.journal t.text.items)) }
     ensures within { IfOk result (λ t. t.journal ≤ length t.text.items) }
     ensures ends { IfOk result (λ t. length t.ends.items ≡ length (script_of script.now).processes) }
     ensures run { IfOk result (λ t. IsRun (script_of script.now).processes (seasons * rows) t.commits.items) }
     ensures workers { (result ≡ Err faults.Workers) ↔ (¬ AreWorkers workers) }
     ensures rows { (result ≡ Err faults.Rows) ↔ (AreWorkers workers × (¬ AreRows rows)) }
     ensures seasons { (result ≡ Err faults.SeasonCount) ↔ (AreWorkers workers × AreRows rows × (¬ AreSeasons seasons)) }
+    ensures needed { result ≡ Err faults.Seasons → NeedsSeasons (script_of script.now).processes rows seasons }
+    ensures never { IfErr result (λ fault. (fault ≢ faults.Lost) × (fault ≢ faults.Unlawful)) }
 {
     let record = run_seasons(rt, alloc, script, workers, rows, seasons as u32, &OpenGate)?;
     match record_text(alloc, script, record) {

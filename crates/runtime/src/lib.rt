@@ -15,4 +15,5 @@ pub use crate::fault::RunFault;
 pub use crate::gate::OpenGate;
 pub use crate::running::{run, run_gated, work, work_with_machines};
 pub use crate::seasons::{SeasonFault, run_seasons, run_seasons_gated};
+pub use meet_queues::{Entry, Hand, Lane, LanePass, Ready, ReadyEnd, WaitingOffer};
 pub use runtime_worker::Gate;

@@ -241,7 +241,7 @@ pub fn run_gated<R: Threads + Wait + Sync, G: Gate + StepGate + Sync>(
     gate: &G,
 ) -> Result<Record, RunFault>
     ensures headline { IfOk result (TellsMaximalRun (script_of script.now).processes rows) }
-    ensures completes { IfOk result (λ r. (l : Ledger) × IsLawful l × Completes (script_of script.now).processes rows l r) }
+    ensures completes { IfOk result (λ r. (l : Ledger) × IsLawful l × IsLedgerOf (script_of script.now).processes l × (l.rows ≤ rows) × Completes (script_of script.now).processes rows l r) }
     ensures workers { (result ≡ Err Workers) ↔ (¬ AreWorkers workers) }
     ensures rows { (result ≡ Err Rows) ↔ (AreWorkers workers × (¬ AreRows rows)) }
 {
@@ -269,7 +269,7 @@ pub fn run<R: Threads + Wait + Sync, G: Gate + Sync>(
     gate: &G,
 ) -> Result<Record, RunFault>
     ensures headline { IfOk result (TellsMaximalRun (script_of script.now).processes rows) }
-    ensures completes { IfOk result (λ r. (l : Ledger) × IsLawful l × Completes (script_of script.now).processes rows l r) }
+    ensures completes { IfOk result (λ r. (l : Ledger) × IsLawful l × IsLedgerOf (script_of script.now).processes l × (l.rows ≤ rows) × Completes (script_of script.now).processes rows l r) }
     ensures workers { (result ≡ Err Workers) ↔ (¬ AreWorkers workers) }
     ensures rows { (result ≡ Err Rows) ↔ (AreWorkers workers × (¬ AreRows rows)) }
 {

@@ -132,7 +132,7 @@ pub(crate) fn play_season<R: Threads + Wait + Sync, G: Gate + StepGate + Sync>(
     } = season;
     let (ledger, machines) = work_table(rt, alloc, script, cells, passes, workers, gate)?;
     let commits = ledger.commits()?;
-    let opening = ledger.opening(alloc)?;
+    let opening = ledger.opening_by(&commits)?;
     add_renumbered(&mut journal, &had, &commits)?;
     Ok(ClosedSeason {
         done,

@@ -8,6 +8,7 @@ mod journals;
 mod processes;
 mod runs;
 mod searches;
+mod suspended;
 
 /// Process a sends 42 to b.
 const ONE_SEND: &str =

@@ -11,17 +11,18 @@ ghost use Rattle.cell_table.specs.Rule.{seen_nothing};
 ghost use Rattle.cell_table.specs.Sight.{AreOffers, Has, SawEnded};
 ghost use Rattle.protocol.specs.Worlds.{first_row};
 ghost use Rattle.test_journal.specs.Fetched.{HasNacks, HasResults};
-ghost use Rattle.test_journal.specs.declared.tests.fetched.Suspended.{Suspended};
+ghost use Rattle.test_journal.specs.declared.tests.suspended.Suspended.{Suspended};
 
 use super::processes::resume;
+use super::suspended::{Suspended, begun};
 use super::{SERVER, check_same};
-use cell::{Attempt, Cells, Grant, NoGate, Pass, Resident};
+use cell::{Attempt, Cells, Grant, NoGate, Pass};
 use protocol_values::{Atom, Base, Cell, Message, NackName, Offer, Row};
 use script::{Script, parse};
 use std::alloc::Global;
 use std::process::Abort;
 use std::test::Fail;
-use thread::{Machine, Turn};
+use thread::Turn;
 
 /// The client's one nack.
 const NACK: NackName = NackName { thread: 0, k: 0 };
@@ -29,33 +30,8 @@ const NACK: NackName = NackName { thread: 0, k: 0 };
 /// The request: the channel for the reply, and the client's nack.
 const REQUEST: Message = Message::Two(Atom::Chan(0), Atom::Nack(NACK));
 
-/// A suspended machine, as a run has it. What it was given is compared when the test runs.
-#[derive(Drop)]
-struct Suspended {
-    machine: Box<Machine>,
-}
-
-impl Resident for Suspended {
-    ghost use Rattle.std.specs.Prelude.{true, ⊤};
-
-    ghost houses = { true };
-
-    ghost stands = { record { follows = λ first value thread results. ⊤; offers = λ first value thread results offers nacks. ⊤; starts = λ first value thread results other. ⊥; ends = λ first value thread results. ⊥ } };
-}
-
-/// The machine of a process, at its first stop.
-fn begun(alloc: Global, script: &Script, thread: u8) -> Result<Suspended, Fail>
-    requires { thread < 64 }
-{
-    let process = script
-        .processes()
-        .get(usize::from(thread))
-        .ok_or("no such process")?;
-    let mut machine = Machine::new(alloc, process, thread)?;
-    machine.begin()?;
-    let machine = Box::new(alloc, machine)?;
-    Ok(Suspended { machine })
-}
+/// What a send gives, which is the row's only offer.
+const SENT: (u8, Message) = (0, Message::Empty);
 
 /// A table of the script's first two processes with four rows each, and the pass that holds their first rows.
 fn table(alloc: Global, script: &Script) -> Result<(Cells<Suspended>, Pass<Suspended>), Fail>
@@ -149,8 +125,8 @@ fn start(rt: &impl Abort, cells: &Cells<Suspended>, pass: &mut Pass<Suspended>)
     let (client, server) = (Row { thread: 0, sync: 0 }, Row { thread: 1, sync: 0 });
     let first = cells.fetch(pass, client);
     let second = cells.fetch(pass, server);
-    check_same(rt, first.machine.count(), 0);
-    check_same(rt, second.machine.count(), 0);
+    check_same(rt, first.machine.results(), [].as_slice());
+    check_same(rt, second.machine.results(), [].as_slice());
     enter(rt, cells, pass, server, second, &[offer(Base::Recv(1), 0)]);
     enter(
         rt,
@@ -180,14 +156,14 @@ fn meet(
     cells.attempt(pass, &NoGate, mine.0, mine.1, other.0, other.1)
 }
 
-/// Takes the row, which is committed, and fetches its thread's machine, which was given so many results and not yet
+/// Takes the row, which is committed, and fetches its thread's machine, which was given these results and not yet
 /// the row's own. Gives it that, and opens the next row with what the machine offers there: these, none at its end.
 fn go_on(
     rt: &impl Abort,
     cells: &Cells<Suspended>,
     pass: &mut Pass<Suspended>,
     row: Row,
-    given: usize,
+    given: &[(u8, Message)],
     offers: &[Offer],
 ) -> Result<(), Fail>
     requires here { IsPassOf cells.now pass.old × IsRowOf cells.now (next_row row) × IsHousing cells.now × (row.sync < 3) }
@@ -199,7 +175,7 @@ fn go_on(
     let joined = cells.take(pass, row).ok_or("taken before")?;
     let next = row.next();
     let mut fetched = cells.fetch(pass, next);
-    check_same(rt, fetched.machine.count(), given);
+    check_same(rt, fetched.machine.results(), given);
     match resume(&mut fetched.machine, joined.own, message)? {
         Turn::Offering => {
             bind(rt, cells, pass, next, fetched.machine.nacks());
@@ -227,22 +203,29 @@ fn a_machine_has_the_results_before_the_last(rt: HostRuntime) -> Result<(), Fail
     let met = meet(&rt, &cells, &mut pass, (client[0], 0), (server[0], 0));
     check_same(&rt, met, Attempt::Met(1));
     let replies = [offer(Base::Recv(0), 1), offer(Base::Recv(2), 0)];
-    go_on(&rt, &cells, &mut pass, client[0], 0, &replies)?;
+    go_on(&rt, &cells, &mut pass, client[0], &[], &replies)?;
     let go = Message::One(Atom::Num(9));
     go_on(
         &rt,
         &cells,
         &mut pass,
         server[0],
-        0,
+        &[],
         &[offer(Base::Send(2, go), 0)],
     )?;
     let met = meet(&rt, &cells, &mut pass, (server[1], 0), (client[1], 1));
     check_same(&rt, met, Attempt::Met(2));
-    go_on(&rt, &cells, &mut pass, client[1], 1, &[])?;
+    go_on(&rt, &cells, &mut pass, client[1], &[SENT], &[])?;
     let reply = Message::One(Atom::Num(7));
     let answers = [offer(Base::Send(0, reply), 0), offer(Base::OnNack(NACK), 0)];
-    go_on(&rt, &cells, &mut pass, server[1], 1, &answers)?;
+    go_on(&rt, &cells, &mut pass, server[1], &[(0, REQUEST)], &answers)?;
     check_same(&rt, cells.grant(&mut pass, server[2], 1), Grant::Given);
-    go_on(&rt, &cells, &mut pass, server[2], 2, &[])
+    go_on(
+        &rt,
+        &cells,
+        &mut pass,
+        server[2],
+        &[(0, REQUEST), SENT],
+        &[],
+    )
 }

@@ -23,7 +23,9 @@ fn machine(alloc: Global, text: &str, process: usize) -> Result<Machine, Fail>
 }
 
 /// Commits the open sync by an offer, which has to be there.
-pub(super) fn resume(machine: &mut Machine, chosen: u8, message: Message) -> Result<Turn, Fail> {
+pub(super) fn resume(machine: &mut Machine, chosen: u8, message: Message) -> Result<Turn, Fail>
+    ensures { machine.new.keeps ≡ machine.old.keeps }
+{
     if usize::from(chosen) >= machine.offers().len() {
         return Err(Fail::from("no such offer"));
     }

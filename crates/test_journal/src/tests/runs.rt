@@ -3,7 +3,7 @@
 ghost use Rattle.std.specs.Prelude.{◌≤◌};
 
 use super::{ONE_SEND, SERVER, check_same};
-use journal_replay::{End, ReplayFault, State, replay, settle};
+use journal_replay::{End, ReplayFault, State, is_placed, replay, settle};
 use protocol_values::{Atom, Cause, Commit, Message, NackName, Row};
 use script::parse;
 use std::alloc::Global;
@@ -182,4 +182,16 @@ fn starts_and_ends_count(rt: HostRuntime) -> Result<(), Fail> {
     check_same(&rt, waits.ended(0), None);
     check_same(&rt, waits.ended(1), Some(0));
     check_end(&rt, &waits, 0, End::Unstarted, &[])
+}
+
+// Alone, the process behind would stand where the one is that it spawns.
+#[test]
+fn a_spawner_stands_behind(rt: HostRuntime) -> Result<(), Fail> {
+    let script = parse(rt.alloc(), b"process k { } process a { spawn k; }")?;
+    let processes = script.processes();
+    assert!(rt; processes.len() == 2);
+    check_same(&rt, is_placed(processes), true);
+    check_same(&rt, is_placed(&processes[..1]), true);
+    check_same(&rt, is_placed(&processes[1..]), false);
+    Ok(())
 }

@@ -29,8 +29,8 @@ returns-in-Ok-clause-ran g c =
     let t = c.in-Ok.text in
     let same = c.in-Ok.ensures.same in
     let few : c.args.seasons * c.args.rows ≤ 67107840 = in_ranges c.args.workers c.args.rows c.args.seasons _ _ _ told.workers.1 told.rows.1 told.seasons.1 (λ e. absurd cc) (λ e. absurd cc) (λ e. absurd cc) in
-    subst (λ (z : List Commit × List End). TellsFreelyOf (script_of c.args.script.now) z.0 z.1 (take t.journal t.text.items) (drop t.journal t.text.items)) (λ i. (sym same.0 i, sym same.1 i))
-    (tells_freely (script_of c.args.script.now) (c.args.seasons * c.args.rows) c.in_ok-record.record _ _ c.args.script.now.spelled few told.headline told.completes c.in-Ok.ensures.tells)
+    subst (λ (z : List Commit × List End). TellsFreelyOf (script_of c.args.script.now) c.args.rows c.args.seasons z.0 z.1 (take t.journal t.text.items) (drop t.journal t.text.items)) (λ i. (sym same.0 i, sym same.1 i))
+    (tells_freely (script_of c.args.script.now) c.args.rows c.args.seasons c.in_ok-record.record _ _ c.args.script.now.spelled few told.headline told.completes c.in-Ok.ensures.tells)
 
 pub returns-in-Ok-clause-run : goal.returns-in-Ok-clause-run
 returns-in-Ok-clause-run g c =

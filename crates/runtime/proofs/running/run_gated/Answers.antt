@@ -30,5 +30,7 @@ returns-in-Ok-clause-completes g c =
     let record' = c.in-Ok.record in (
       ledger,
       c.in_ok-ledger.ensures.lawful,
+      c.in_ok-ledger.ensures.run.0,
+      c.in_ok-ledger.ensures.run.1,
       subst (λ (ps : List Proc). Completes ps c.args.rows ledger record') c.processes.ensures.value c.in-Ok.ensures,
     )

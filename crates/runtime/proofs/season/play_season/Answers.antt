@@ -1,5 +1,6 @@
-use Rattle.std.proofs.Common.{◌≡◌, ℕ, List, ◌++◌, map, ◌∙◌, subst, sym, refl}
+use Rattle.std.proofs.Common.{◌≡◌, ◌↔◌, ℕ, Contains, List, ◌++◌, map, ◌∙◌, subst, sym, refl}
 use Rattle.protocol_values.specs.declared.Commit.{Commit}
+use Rattle.protocol.specs.Ledgers.{HasCommit}
 use Rattle.journal_order.specs.Laws.{IsOrderOf}
 use Rattle.runtime.specs.Between.{renumbered}
 use Rattle.runtime.specs.Played.{ArePlayed}
@@ -7,6 +8,9 @@ use Rattle.runtime.specs.Season.{IsLedgerOver}
 use Rattle.runtime.proofs.LeadingOn.{goes_on, same-journal, stamps_on}
 use Rattle.script.specs.Scripts.{script_of}
 use Rattle.runtime.proofs.season.play_season.Goals as goal
+
+pub opening_by-requires : goal.opening_by-requires
+opening_by-requires g c = λ d. subst (λ (commits : List Commit). Contains commits d ↔ HasCommit c.in_ok-ledger.ledger d) (sym c.deref.ensures.value) (c.in_ok-commits.ensures.members d)
 
 pub returns : goal.returns
 returns g c =

@@ -3,8 +3,8 @@ use Rattle.protocol.specs.Standing.{Result}
 use Rattle.cell_table.specs.declared.view.Seen.{Seen}
 use Rattle.cell.specs.Calls.{Holds}
 use Rattle.cell_table.specs.Rule.{IsReady}
-use Rattle.test_journal.specs.declared.tests.fetched.Suspended.{Suspended}
-use Rattle.test_journal.specs.contracts.tests.fetched.SuspendedResident.TheImpl as resident
+use Rattle.test_journal.specs.declared.tests.suspended.Suspended.{Suspended}
+use Rattle.test_journal.specs.contracts.tests.suspended.SuspendedResident.TheImpl as resident
 use Rattle.test_journal.proofs.tests.fetched.enter.Goals as goal
 
 pub open-requires-clause-parked : goal.open-requires-clause-parked

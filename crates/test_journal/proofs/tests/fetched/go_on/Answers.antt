@@ -6,7 +6,7 @@ use Rattle.protocol_values.specs.Values.{next_row}
 use Rattle.cell.specs.Attempts.{Hands}
 use Rattle.cell.specs.Calls.{CanFetch, CanFetchAt, Holds, PassOf}
 use Rattle.cell_table.specs.declared.view.Seen.{Seen}
-use Rattle.test_journal.specs.declared.tests.fetched.Suspended.{Suspended}
+use Rattle.test_journal.specs.declared.tests.suspended.Suspended.{Suspended}
 use Rattle.test_journal.proofs.tests.fetched.go_on.Goals as goal
 
 -- what came out with a row that was taken

@@ -2,7 +2,7 @@ use Rattle.std.proofs.Common.{rules, ◌≡◌, ℕ, [], length, subst}
 use Rattle.cell.specs.Calls.{IsPassOf, PassOf}
 use Rattle.cell_table.specs.Rule.{seen_nothing, dealt_rows}
 use Rattle.cell.proofs.Playing.{popped}
-use Rattle.test_journal.specs.declared.tests.fetched.Suspended.{Suspended}
+use Rattle.test_journal.specs.declared.tests.suspended.Suspended.{Suspended}
 use Rattle.test_journal.proofs.tests.fetched.table.Goals as goal
 
 pub returns-clause-here : goal.returns-clause-here
