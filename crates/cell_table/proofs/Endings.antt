@@ -23,7 +23,7 @@ use Rattle.protocol_values.specs.Words.{cell_of}
 use Rattle.protocol_values.specs.declared.Cell.TheVariants.{Fresh}
 use Rattle.std.specs.Prelude.{if◌then◌else◌, unwrap_or}
 use Rattle.std.proofs.lemmas.Option.{same_Some}
-use Rattle.cell_table.specs.Closings.{HandedOut, IsHomeOf}
+use Rattle.cell_table.specs.Closings.{AreInTurn, HandedOut, IsHomeOf, IsOpenAt}
 use Rattle.protocol.specs.Growing.{GoesOn, GrowsTo}
 use Rattle.protocol.specs.Ledgers.{Ledger, ledger_of, IsLawful, binding_in, carried_in, course_in, joined_in, offer_in}
 use Rattle.protocol.proofs.Acting.{first_course_at, start_stays}
@@ -40,6 +40,7 @@ use Rattle.cell_table.specs.Views.{Knows, opening_in}
 use Rattle.cell_table.specs.Rule.{Keeps, in_order}
 use Rattle.cell_table.proofs.Allowing.{sized}
 use Rattle.cell_table.proofs.Binding.{nack_from}
+use Rattle.cell_table.proofs.InTurn.{offers_open, taken_before, untaken}
 use Rattle.cell_table.proofs.Turning.{world_kept}
 use Rattle.cell_table.proofs.Truths.{own_chose, sees_known, lacks_known}
 
@@ -172,6 +173,24 @@ module _ {M : Type 0} (stands : Stands M) where
           next = λ c x has involved.
               none_later (sized shape ws) (subst (λ (z : Table). Linked z.threads z.rows (cell_at z) (offer_at z) (marks_at z)) table_is (world_kept stands shape final.0 kept).linked) t g h.1.1.1 c x has involved;
         }
+
+    -- the rows of a thread were taken one after another
+    pub final_turns : AreInTurn shape ws
+    final_turns = taken_before (sized shape ws) (subst (λ (z : Table). Linked z.threads z.rows (cell_at z) (offer_at z) (marks_at z)) table_is (world_kept stands shape final.0 kept).linked)
+
+    -- what stands for the thread of a row that is opened and not taken lies at home
+    pub final_home : 0 < length shape.first.value.items → (t g : ℕ) → IsOpenAt shape ws t g → (value : M) × IsHomeOf shape ws slots t value
+    final_home some_first t g open_there =
+        let r : Row = record { thread = t; sync = g } in
+        let home = (kept.housed some_first).at_home r (subst (λ (z : Table). is_fresh (cell_at z r) ≡ false) (sym table_is) open_there.0) (subst (λ (z : Table). is_taken (cell_at z r) ≡ false) (sym table_is) open_there.1) in
+        (home.value, (final.4 t (Some home.value) home.home, (g, open_there)))
+
+    -- a row that offers something and is not committed is such a row
+    pub final_waiting : 0 < length shape.first.value.items → (r : Row) (n : ℕ) (o : Offer) → offer_in (ledger_of (sized shape ws)) r n ≡ Some o → joined_in (ledger_of (sized shape ws)) r ≡ None → (value : M) × IsHomeOf shape ws slots r.thread value
+    final_waiting some_first r n o offers waits = final_home some_first r.thread r.sync (
+      offers_open (sized shape ws) r n o (sym (λ i. offer_in_ledger (sized shape ws) i r n) ∙ offers),
+      untaken (cell_at (sized shape ws) r) (sym (λ i. joined_in_ledger (sized shape ws) i r) ∙ waits),
+    )
 
 -- the ledger of these words, where the greatest stamp before the table is told
 pub sized_ledger : {M : Type 0} (shape : Shape M) (ws : List ℕ) (stamps : ℕ) (l : Ledger) → stamps ≡ greatest (opening_in shape) → l ≡ ledger_of (wide_table shape.offers (record { threads = shape.threads; rows = shape.rows; words = ws; opening = stamps })) → l ≡ ledger_of (sized shape ws)

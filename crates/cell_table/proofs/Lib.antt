@@ -13,6 +13,7 @@ pub mod Handing
 pub mod Hearing
 pub mod Homes
 pub mod Housing
+pub mod InTurn
 pub mod Lives
 pub mod Offers
 pub mod Once
