@@ -14,6 +14,7 @@ pub mod Hearing
 pub mod Homes
 pub mod Housing
 pub mod InTurn
+pub mod Leaving
 pub mod Lives
 pub mod Offers
 pub mod Once
@@ -26,3 +27,4 @@ pub mod Starts
 pub mod Takings
 pub mod Truths
 pub mod Turning
+pub mod Whole

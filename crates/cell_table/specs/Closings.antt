@@ -1,16 +1,20 @@
 -- What a table hands out at its end.
-use Rattle.std.specs.Prelude.{◌≡◌, ◌<◌, ◌≤◌, ℕ, true, false, List, Option, None, Some, slice_get}
+use Rattle.std.specs.Prelude.{◌≡◌, ◌⊎◌, ◌+◌, ◌<◌, ◌≤◌, ℕ, true, false, List, Option, None, Some, length, slice_get}
 use mathlib.Core.Option.{some}
 use lib.ListN.{get_elem?}
 use Rattle.protocol_values.specs.declared.Commit.{Commit}
 use Rattle.protocol_values.specs.declared.Offer.{Offer}
 use Rattle.protocol_values.specs.declared.Row.{Row}
+use Rattle.protocol_values.specs.declared.Step.{Step}
 use Rattle.protocol.specs.Ledgers.{HasCommit, Involves, Ledger, joined_in, offer_in}
 use Rattle.protocol.specs.Openings.{greatest}
 use Rattle.protocol.specs.Standing.{OffersAs, Stands}
 use Rattle.protocol.specs.Short.{wide_table}
 use Rattle.protocol.specs.Tables.{Table, cell_at, is_fresh, is_taken}
 use Rattle.cell_table.specs.declared.view.Shape.{Shape}
+use Rattle.cell_table.specs.declared.view.Stage.TheVariants.{Resting}
+use Rattle.cell_table.specs.declared.view.View.{View}
+use Rattle.cell_table.specs.Sight.{Has}
 use Rattle.cell_table.specs.Views.{opening_in}
 
 module _ {M : Type 0} where
@@ -26,6 +30,14 @@ module _ {M : Type 0} where
   -- the rows of a thread are taken one after another: those before an opened one were
   abbrev pub AreInTurn : Shape M → List ℕ → Type 0
   AreInTurn shape ws = (t g h : ℕ) → g < h → is_fresh (cell_at (words_of shape ws) (record { thread = t; sync = h })) ≡ false → is_taken (cell_at (words_of shape ws) (record { thread = t; sync = g })) ≡ true
+
+  -- a pass made these steps, or one that left the table to it
+  abbrev pub MadeBy : View M → List Step → Type 0
+  MadeBy v steps = (steps ≡ v.made) ⊎ ((seat : ℕ) × Has v.gathered (seat, steps))
+
+  -- all passes of the table are here: this one, and those that left to it
+  abbrev pub HasAll : View M → Type 0
+  HasAll v = (v.stage ≡ Resting) × (v.passes ≤ length v.gathered + 1)
 
   -- the value lies in the thread's slot, and a row of the thread is so
   abbrev pub IsHomeOf : Shape M → List ℕ → List (Option M) → ℕ → M → Type 0

@@ -1,15 +1,18 @@
 //! The end of a table: its words become a ledger.
 
-ghost use Rattle.std.specs.Prelude.{◌≡◌, ◌*◌, ◌<◌, ◌≤◌, ℕ, IfNone, IfSome, List, length, None, Some, slice_get};
+ghost use Rattle.std.specs.Prelude.{◌≡◌, ◌+◌, ◌*◌, ◌<◌, ◌≤◌, ℕ, IfNone, IfSome, List, length, None, Some, slice_get};
 ghost use Rattle.protocol.specs.Openings.{HadEnded, HadStarted, greatest, state_in, word_for};
 ghost use Rattle.protocol.specs.Short.{short_len};
 ghost use Rattle.protocol.specs.Tables.{carried_by, cell_at};
-ghost use Rattle.cell_table.specs.Closings.{AreInTurn, HandsOut, HandsOutWaiting, IsHomeOf, IsOpenAt, words_of};
+ghost use Rattle.cell_table.specs.Closings.{AreInTurn, HandsOut, HandsOutWaiting, HasAll, IsHandedOut, IsHomeOf, IsOpenAt, MadeBy, words_of};
 ghost use Rattle.std.specs.Slots.{slots_items, slots_len, IsFull};
 ghost use Rattle.protocol_values.specs.declared.Course.TheVariants.{Unstarted};
 ghost use Rattle.protocol_values.specs.declared.Joined.{Joined};
 ghost use Rattle.protocol_values.specs.declared.Offer.{Offer};
 ghost use Rattle.protocol_values.specs.declared.Row.{Row};
+ghost use Rattle.protocol_values.specs.declared.Step.{Step};
+ghost use Rattle.protocol_values.specs.declared.Step.TheVariants.{Open, Take};
+ghost use Rattle.cell_table.specs.declared.view.Stage.TheVariants.{Resting};
 ghost use Rattle.protocol_values.specs.declared.NackName.{NackName};
 ghost use Rattle.protocol_values.specs.declared.Binding.{Binding};
 ghost use Rattle.protocol.specs.Ledgers.{IsLawful, binding_in, carried_in, course_in, joined_in, offer_in};
@@ -57,6 +60,9 @@ impl<M: Resident + Drop> Board<M> {
         ensures own { (r : Row) (j : Joined) (offers : List Offer) → IsDraft seat.me.0.seen r offers → joined_in result.0 r ≡ Some j → (j.own < length offers) × (offer_in result.0 r j.own ≡ slice_get offers j.own) }
         ensures machines { 0 < length self.shape.first.value.items → HandsOut M.stands self.shape.first.value.items result.0 result.1.items }
         ensures waiting { 0 < length self.shape.first.value.items → HandsOutWaiting result.0 result.1.items }
+        ensures few { seat.me.0.stage ≡ Resting → length seat.me.0.gathered + 1 ≤ seat.me.0.passes }
+        ensures opened { HasAll seat.me.0 → (r : Row) (n : ℕ) (o : Offer) → offer_in result.0 r n ≡ Some o → (steps : List Step) × MadeBy seat.me.0 steps × Has steps (Open r) }
+        ensures handed { 0 < length self.shape.first.value.items → HasAll seat.me.0 → (r : Row) (steps : List Step) → MadeBy seat.me.0 steps → Has steps (Open r) → ((others : List Step) → MadeBy seat.me.0 others → Has others (Take r) → ⊥) → IsHandedOut result.1.items r.thread }
         ensures count { length result.1.items ≡ length places.items }
         ensures acts { 0 < length self.shape.first.value.items → ActsAs (before_of (opening_in self.shape)) (acts_in M.stands self.shape.first.value.items) result.0 }
     {

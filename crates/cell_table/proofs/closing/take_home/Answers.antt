@@ -1,4 +1,4 @@
-use Rattle.std.proofs.Common.{rules, Some, ℕ, List, Option, ◌<◌, length, ◌≡◌, ◌∙◌, get_or, get_or-set_other, sym, subst, ap, arith, false, true}
+use Rattle.std.proofs.Common.{rules, Some, List, Option, length, ◌≡◌, ◌∙◌, get_or, get_or-set_other, sym, subst, ap, arith, false, true}
 use mathlib.Core.Option.{some}
 use lib.ListN.{get_elem?}
 use Rattle.std.specs.Slots.{slots_filled, slots_items, slots_len}
