@@ -36,7 +36,7 @@ use Rattle.protocol.proofs.Keeping.{kept_step, idle_unnamed, join_in_range, gran
 use Rattle.cell_table.specs.declared.view.View.{View}
 use Rattle.cell_table.specs.declared.view.Shape.{Shape}
 use Rattle.cell_table.specs.declared.view.Stage.{Stage}
-use Rattle.cell_table.specs.declared.view.Stage.TheVariants.{Resting, Claims, Joins, Aside}
+use Rattle.cell_table.specs.declared.view.Stage.TheVariants.{Resting, Claims, Joins, Aside, Left}
 use Rattle.cell_table.specs.declared.view.Seen.{Seen}
 use Rattle.cell_table.specs.Sight.{AreSettled, Has, CanJoin, Coherent, IsResult, IsStand, SawEnded, see_cell, see_held}
 use Rattle.protocol.specs.Standing.{AreResults, IsLeft, Result, Stands}
@@ -162,6 +162,9 @@ module _ {M : Type 0} (stands : Stands M) where
       rests : me.0.stage ≡ Resting → me.0.stage ≢ Aside
       rests resting e = let bad : Resting ≡ Aside = sym resting ∙ e in cc
 
+      stays_on : me.0.stage ≡ Resting → me.0.stage ≢ Left
+      stays_on resting e = let bad : Resting ≡ Left = sym resting ∙ e in cc
+
       -- where it stands at the row, and has not seen its thread end
       lives : IsStand me.0.rows me.0.seen r → IsUnended → IsAlive k.world r.thread
       lives stand alive = alive_unseen k.world me.0.seen r.thread (stand_ends k.world k.owner id me.0 known r stand) alive
@@ -172,7 +175,7 @@ module _ {M : Type 0} (stands : Stands M) where
           let mine = known.mine r held in
           let fresh = known.fresh r held unopened in
           keeps_step stands shape s k id me.0 (drafted_word r p d me.0) _ k.owner view at_table refl refl refl (λ q h. h) (Draft r p d) tt tt few (known.seat, (mine.1, fresh, lives (inl (held, unopened)) alive, high, (let low_p = within in omega arith), formed))
-          (record { same = (refl, refl, refl); acted = rests resting; acts = rests resting; held = λ q h. h; begun = λ q h. h; binds = λ n q scope e. let bad : Draft r p d ≡ Bind n q scope = e in cc }) (λ t rs h. inl h)
+          (record { same = (refl, refl, refl); acted = rests resting; goes = stays_on resting; acts = rests resting; held = λ q h. h; begun = λ q h. h; binds = λ n q scope e. let bad : Draft r p d ≡ Bind n q scope = e in cc }) (λ t rs h. inl h)
           (ap (λ (t : Table). with_word t r p d) k.table ∙ wrote d)
           (kept_size d)
           (λ j u n e t. others_draft k.world r p d k.owner kept is_its_row high within fresh j u (k.knows j u e t) (λ o. n (sym o ∙ mine.0)))
@@ -265,7 +268,7 @@ module _ {M : Type 0} (stands : Stands M) where
         unfolding with_cell
         opens hs house =
             keeps_housed stands shape s k id me.0 (turned Resting r me.0) _ hs k.owner view at_table refl refl refl (Open r) (λ some_first. (tt, tt)) tt allowed_open
-            (record { same = (refl, refl, refl); acted = rests resting; acts = λ e. let bad : Resting ≡ Aside = e in cc; held = λ q h. h; begun = λ q h. h; binds = λ n q scope e. let bad : Open r ≡ Bind n q scope = e in cc }) (λ t rs h. inl h)
+            (record { same = (refl, refl, refl); acted = rests resting; goes = stays_on resting; acts = λ e. let bad : Resting ≡ Aside = e in cc; held = λ q h. h; begun = λ q h. h; binds = λ n q scope e. let bad : Open r ≡ Bind n q scope = e in cc }) (λ t rs h. inl h)
             (ap (λ (t : Table). with_cell t r Waiting) k.table ∙ ap (λ (q : ℕ). with_word (sized shape s.words) r q (cell_word Waiting)) (sym zero) ∙ wrote (cell_word Waiting))
             (kept_size (cell_word Waiting))
             others_open opened_knows house
@@ -294,7 +297,7 @@ module _ {M : Type 0} (stands : Stands M) where
           let now = own_now Claimed zero tt refl was untaken in
           wrote_cell Claimed zero tt refl was untaken (Claim r) (turned (Claims r) r me.0) (mine.1, waits) refl
           (λ j n o. absurd (n (sym o ∙ mine.0))) (λ j m n o h. refl) refl refl refl refl (λ q h. h) tt tt tt
-          (record { same = (refl, refl, refl); acted = rests resting; acts = λ e. let bad : Claims r ≡ Aside = e in cc; held = λ q h. h; begun = λ q h. h; binds = λ n q scope e. let bad : Claim r ≡ Bind n q scope = e in cc })
+          (record { same = (refl, refl, refl); acted = rests resting; goes = stays_on resting; acts = λ e. let bad : Claims r ≡ Aside = e in cc; held = λ q h. h; begun = λ q h. h; binds = λ n q scope e. let bad : Claim r ≡ Bind n q scope = e in cc })
           (knows_now Claimed zero tt refl was untaken (Claims r) (
             mine.0,
             now,
@@ -316,7 +319,7 @@ module _ {M : Type 0} (stands : Stands M) where
           wrote_cell Waiting zero tt refl was untaken (Yield r) (turned Resting r me.0)
           (mine.1, staged.1, namer_none _ (joined_at k.world.table) r staged.2) refl
           (λ j n o. absurd (n (sym o ∙ mine.0))) (λ j m n o h. refl) refl refl refl refl (λ q h. h) tt tt tt
-          (record { same = (refl, refl, refl); acted = λ e. let bad : Claims r ≡ Aside = sym claiming ∙ e in cc; acts = λ e. let bad : Resting ≡ Aside = e in cc; held = λ q h. h; begun = λ q h. h; binds = λ n q scope e. let bad : Yield r ≡ Bind n q scope = e in cc })
+          (record { same = (refl, refl, refl); acted = λ e. let bad : Claims r ≡ Aside = sym claiming ∙ e in cc; goes = λ e. let bad : Claims r ≡ Left = sym claiming ∙ e in cc; acts = λ e. let bad : Resting ≡ Aside = e in cc; held = λ q h. h; begun = λ q h. h; binds = λ n q scope e. let bad : Yield r ≡ Bind n q scope = e in cc })
           (knows_now Waiting zero tt refl was untaken Resting tt (λ e. let bad : Waiting ≡ Claimed = e in cc)
           (λ q e h. false≢true (sym e ∙ ap (row_eq q) (subst (λ (z : Stage). IsClaimer z q) claiming h) ∙ row_eq-refl q)))
 
@@ -343,7 +346,7 @@ module _ {M : Type 0} (stands : Stands M) where
           (λ i n o. (waits, refl))
           (λ i m n o h. ap (λ (y : Option (Row × ℕ)). is_partner y m) partner_is ∙ row_ne mine m (λ e. n (sym o ∙ ap k.owner (sym e) ∙ staged.0)))
           refl refl refl refl (λ q h. h) tt tt tt
-          (record { same = (refl, refl, refl); acted = λ e. let bad : Claims mine ≡ Aside = sym claiming ∙ e in cc; acts = λ e. let bad : Joins mine r j ≡ Aside = e in cc; held = λ q h. h; begun = λ q h. h; binds = λ n q scope e. let bad : Join mine own r partner ≡ Bind n q scope = e in cc })
+          (record { same = (refl, refl, refl); acted = λ e. let bad : Claims mine ≡ Aside = sym claiming ∙ e in cc; goes = λ e. let bad : Claims mine ≡ Left = sym claiming ∙ e in cc; acts = λ e. let bad : Joins mine r j ≡ Aside = e in cc; held = λ q h. h; begun = λ q h. h; binds = λ n q scope e. let bad : Join mine own r partner ≡ Bind n q scope = e in cc })
           (learn_cell _ k.owner id (turned (Joins mine r j) r me.0) r (Synched j)
           (knows_now (Synched j) zero range refl was untaken (Joins mine r j)
           (staged.0, else_now (Synched j) zero range refl was untaken mine apart ∙ staged.1, ap joined_of now, ap (λ (y : Option (Row × ℕ)). is_partner y mine) partner_is ∙ row_eq-refl mine)
@@ -366,7 +369,7 @@ module _ {M : Type 0} (stands : Stands M) where
           (ap (λ (y : Joined). with_table k.world (with_cell k.world.table r (Synched y))) known_grant.1)
           (λ i n o. (waits, refl))
           (λ i m n o h. ap (λ (y : Option (Row × ℕ)). is_partner y m) nobody) refl refl refl refl (λ q h. h) tt tt tt
-          (record { same = (refl, refl, refl); acted = rests resting; acts = λ e. let bad : Resting ≡ Aside = e in cc; held = λ q h. h; begun = λ q h. h; binds = λ m q scope e. let bad : Grant r n ≡ Bind m q scope = e in cc })
+          (record { same = (refl, refl, refl); acted = rests resting; goes = stays_on resting; acts = λ e. let bad : Resting ≡ Aside = e in cc; held = λ q h. h; begun = λ q h. h; binds = λ m q scope e. let bad : Grant r n ≡ Bind m q scope = e in cc })
           (learn_cell _ k.owner id (turned Resting r me.0) r (Synched j)
           (knows_now (Synched j) zero range refl was untaken Resting tt
           (λ e. let bad : Synched j ≡ Claimed = e in cc)
@@ -442,7 +445,7 @@ module _ {M : Type 0} (stands : Stands M) where
           takes hs house =
               let stay = results-stay k.world (after_step k.world seat (Take r)).table r.thread results kept (grows-step k.world seat (Take r) kept allowed_take) are in
               keeps_housed stands shape s k id me.0 (took_with r j results me.0) _ hs owner' view at_table refl refl refl (Take r) (λ some_first. (tt, tt)) tt allowed_take
-              (record { same = (refl, refl, refl); acted = rests resting; acts = rests resting; held = λ q h. took_holds me.0.rows r (see_cell r (Taken j) me.0.seen) q h; begun = λ q h. took_begun me.0.rows r (see_cell r (Taken j) me.0.seen) q h; binds = λ n q scope e. let bad : Take r ≡ Bind n q scope = e in cc })
+              (record { same = (refl, refl, refl); acted = rests resting; goes = stays_on resting; acts = rests resting; held = λ q h. took_holds me.0.rows r (see_cell r (Taken j) me.0.seen) q h; begun = λ q h. took_begun me.0.rows r (see_cell r (Taken j) me.0.seen) q h; binds = λ n q scope e. let bad : Take r ≡ Bind n q scope = e in cc })
               (λ t rs. ⊎_elim
               (λ (e : (r.thread, results) ≡ (t, rs)). inr (subst (λ (z : ℕ × List Result). AreResults (ledger_of (after_step k.world seat (Take r)).table) z.0 z.1) e stay))
               (λ (old : Has me.0.results (t, rs)). inl old))
@@ -495,7 +498,7 @@ module _ {M : Type 0} (stands : Stands M) where
           (ap (λ (y : Option Joined). with_table k.world (with_seal k.world.table r y)) (sealed_is k.world.table r other (namer_at k.world r) sealing namer))
           (λ i n o. absurd (n (sym o ∙ mine.0)))
           (λ i m n o h. row_ne other m (λ e. let bad : None ≡ Some j = sym (ap joined_of h) ∙ ap (joined_at k.world.table) (sym e) ∙ staged.2 in cc)) refl refl refl refl (λ q h. h) tt tt tt
-          (record { same = (refl, refl, refl); acted = λ e. let bad : Joins r other j ≡ Aside = sym joining_now ∙ e in cc; acts = λ e. let bad : Resting ≡ Aside = e in cc; held = λ q h. h; begun = λ q h. h; binds = λ n q scope e. let bad : Seal r ≡ Bind n q scope = e in cc })
+          (record { same = (refl, refl, refl); acted = λ e. let bad : Joins r other j ≡ Aside = sym joining_now ∙ e in cc; goes = λ e. let bad : Joins r other j ≡ Left = sym joining_now ∙ e in cc; acts = λ e. let bad : Resting ≡ Aside = e in cc; held = λ q h. h; begun = λ q h. h; binds = λ n q scope e. let bad : Seal r ≡ Bind n q scope = e in cc })
           (learn_cell _ k.owner id (turned Resting r me.0) r (Synched (mirrored other j own))
           (knows_now (Synched (mirrored other j own)) zero range refl was untaken Resting tt
           (λ e. let bad : Synched (mirrored other j own) ≡ Claimed = e in cc)
@@ -736,6 +739,7 @@ module _ {M : Type 0} (stands : Stands M) where
             row_in : Stage → Row
             row_in Resting = a
             row_in Aside = a
+            row_in Left = a
             row_in (Claims m) = m
             row_in (Joins m o j) = m
 

@@ -86,15 +86,18 @@ has_made seat (step ∷ made) s (inl e) = inl (ap (λ (z : Seat × Step). z.1) e
 has_made seat (step ∷ made) s (inr h) = inr (has_made seat made s h)
 
 module _ {M : Type 0} where
-  -- whoever bound a nack is among the passes, and made that step
+  -- whoever made a step of the history is among the passes
+  pub maker_of : (moves : List Move) (views : List (View M)) → Interleaves moves views → (m : Move) (step : Step) → Has moves m → m.step ≡ step → (id : ℕ) × (u : View M) × (get_elem? views id ≡ some u) × Has u.made step
+  maker_of moves views history m step has is = of_move (has_by moves m has) (view_there views m.pass)
+    where
+      of_move : Has (steps_by m.pass moves) (m.seat, m.step) → ((u : View M) × (get_elem? views m.pass ≡ some u)) ⊎ (length views ≤ m.pass) → (id : ℕ) × (u : View M) × (get_elem? views id ≡ some u) × Has u.made step
+      of_move h (inl there) = (m.pass, there.0, there.1, subst (Has there.0.made) is (has_made there.0.seat there.0.made (m.seat, m.step) (subst (λ (l : List (Seat × Step)). Has l (m.seat, m.step)) (history.made m.pass there.0 there.1) h)))
+      of_move h (inr past) = absurd (subst (λ (l : List (Seat × Step)). Has l (m.seat, m.step)) (history.no_others m.pass past) h)
+
+  -- and so is whoever bound a nack
   pub bound_by : (w v : World) (moves : List Move) (views : List (View M)) → Kept w → Plays w (in_order moves) v → Interleaves moves views → (n : NackName) (b : Binding) → binding_at w.table n ≡ None → binding_at v.table n ≡ Some b
       → (id : ℕ) × (u : View M) × (get_elem? views id ≡ some u) × Has u.made (bind_of n b)
   bound_by w v moves views k p history n b none e = ⊎_elim
       (λ (first : binding_at w.table n ≡ Some b). let bad : None ≡ Some b = sym none ∙ first in cc)
-      (λ (o : (m : Move) × Has moves m × (m.step ≡ bind_of n b)). of_move o.0 (has_by moves o.0 o.1) o.2 (view_there views o.0.pass))
+      (λ (o : (m : Move) × Has moves m × (m.step ≡ bind_of n b)). maker_of moves views history o.0 (bind_of n b) o.1 o.2)
       (move_binds w v moves n b k p e)
-    where
-      of_move : (m : Move) → Has (steps_by m.pass moves) (m.seat, m.step) → m.step ≡ bind_of n b → ((u : View M) × (get_elem? views m.pass ≡ some u)) ⊎ (length views ≤ m.pass)
-          → (id : ℕ) × (u : View M) × (get_elem? views id ≡ some u) × Has u.made (bind_of n b)
-      of_move m h is (inl there) = (m.pass, there.0, there.1, subst (Has there.0.made) is (has_made there.0.seat there.0.made (m.seat, m.step) (subst (λ (l : List (Seat × Step)). Has l (m.seat, m.step)) (history.made m.pass there.0 there.1) h)))
-      of_move m h is (inr past) = absurd (subst (λ (l : List (Seat × Step)). Has l (m.seat, m.step)) (history.no_others m.pass past) h)

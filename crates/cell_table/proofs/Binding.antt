@@ -29,7 +29,7 @@ use Rattle.protocol.proofs.Readings.{bound_is, carried_is, says_inside, carried_
 use Rattle.protocol.proofs.Keeping.{holder_same, taken_before}
 use Rattle.cell_table.specs.declared.view.View.{View}
 use Rattle.cell_table.specs.declared.view.Shape.{Shape}
-use Rattle.cell_table.specs.declared.view.Stage.TheVariants.{Aside, Resting}
+use Rattle.cell_table.specs.declared.view.Stage.TheVariants.{Aside, Left, Resting}
 use Rattle.cell_table.specs.Sight.{Has, SawEnded}
 use Rattle.protocol.specs.Acting.{EndsAt, HasStart}
 use Rattle.cell_table.specs.Views.{Knows, bind_of, bound_nack, carried_nack, did, saw_nack, opening_in}
@@ -284,6 +284,9 @@ module _ {M : Type 0} (stands : Stands M) where
         rests : me.0.stage ≢ Aside
         rests e = let bad : Resting ≡ Aside = sym resting ∙ e in cc
 
+        stays_on : me.0.stage ≢ Left
+        stays_on e = let bad : Resting ≡ Left = sym resting ∙ e in cc
+
         -- the row of a bind
         row_bound : Step → Row
         row_bound (Draft x p n) = x
@@ -306,7 +309,7 @@ module _ {M : Type 0} (stands : Stands M) where
             let mine = known.mine (bound_row nack b) held in
             keeps_step stands shape s k id me.0 (bound_nack nack b me.0) _ k.owner view at_table refl refl refl (λ q h. h) (bind_of nack b) tt tt tt
             (known.seat, (mine.1, known.fresh (bound_row nack b) held unopened, alive_unseen k.world me.0.seen nack.thread (stand_ends k.world k.owner id me.0 known (bound_row nack b) (inl (held, unopened))) alive, inside.1, range.scope, free))
-            (record { same = (refl, refl, refl); acted = rests; acts = rests; held = λ q h. h; begun = λ q h. h; binds = λ n q scope e. subst (Has me.0.seen.held) (ap row_bound e) held }) (λ t rs h. inl h)
+            (record { same = (refl, refl, refl); acted = rests; goes = stays_on; acts = rests; held = λ q h. h; begun = λ q h. h; binds = λ n q scope e. subst (Has me.0.seen.held) (ap row_bound e) held }) (λ t rs h. inl h)
             (ap (λ (t : Table). with_nack t nack b) k.table
             ∙ ap (λ (ws : List ℕ). record { threads = shape.threads; rows = shape.rows; words = ws; opening = greatest (opening_in shape) })
             (sym (set_nack shape.offers shape.rows k.few_offers shape.threads s.words k.sized nack (nack_word (Bound b)) inside.0 inside.1) ∙ ap (λ (n : ℕ). widen shape.offers shape.rows shape.threads (slice_set s.words n (nack_word (Bound b)))) (sym here)))

@@ -41,6 +41,7 @@ use Rattle.cell_table.specs.Rule.{AreMachines, Housed, Interleaves, IsToBegin, K
 use Rattle.cell_table.proofs.Following.{knows_owned}
 use Rattle.cell_table.proofs.Truths.{nack_of_carried}
 use Rattle.cell_table.proofs.Housing.{housed_more, housed_view}
+use Rattle.cell_table.proofs.Leaving.{gathers_more, gathers_set, gathers_start}
 use Rattle.cell_table.proofs.Seating.{at_end, seated_more, seated_set, seated_start}
 use Rattle.cell_table.proofs.Turning.{firsts_with, same_made, world_kept}
 
@@ -223,6 +224,7 @@ module _ {M : Type 0} (stands : Stands M) where
       owner = λ r. 0;
       knows = knows_at;
       seated = seated_start shape;
+      gathers = gathers_start (dealer shape 0) refl;
       firsts = λ id v e t. first_there id v e;
       started = λ some_first. starts-begin o shape.rows shape.passes begun low begins (HadStarted o) (acts_in stands shape.first.value.items).starts (λ t stamp h. h);
       ended = λ some_first. ends-begin o shape.rows shape.passes begun low begins (HadEnded o) (acts_in stands shape.first.value.items).ends (λ t h. h);
@@ -469,6 +471,7 @@ module _ {M : Type 0} (stands : Stands M) where
       owner = owner';
       knows = λ j u e t. ⊎_elim (λ old. at_old j u old t) (λ now. subst (λ (z : ℕ × (View M)). Knows h.world owner' z.0 z.1) (λ i. (sym (now.0 ∙ length-set s.views id (dealer shape (k + 1))) i, now.1 i)) its_pass) (at_end (slice_set s.views id (dealer shape (k + 1))) (dealt_pass (dealer shape k)) u j e);
       seated = new_seat;
+      gathers = gathers_more (slice_set s.views id (dealer shape (k + 1))) (dealt_pass (dealer shape k)) refl (gathers_set s.views id (dealer shape k) (dealer shape (k + 1)) view refl (λ e. (refl, e, refl, refl)) h.gathers);
       firsts = λ j u e t. ⊎_elim
           (λ old. firsts_with s.views id (dealer shape k) (dealer shape (k + 1)) (shape.first.value.items, opening_in shape, shape.offers) view refl some_threads h.firsts j u old t)
           (λ now. ap (λ (z : View M). beginning z) (sym now.1))

@@ -1,6 +1,7 @@
 -- The words of a table at its end, and what their ledger says.
-use Rattle.std.proofs.Common.{Option, Bool, false, ◌≡◌, ◌≢◌, ℕ, zero, suc, ◌+◌, ◌<◌, ◌≤◌, List, [], ◌∷◌, length, slice_index, slice_set, slice_get, get_or, sym, refl, ap, ◌∙◌, subst, ⊎_elim, arith, Some, None, ◌*◌}
+use Rattle.std.proofs.Common.{Option, Bool, true, false, inl, inr, ◌≡◌, ◌≢◌, ℕ, zero, suc, ◌+◌, ◌<◌, ◌≤◌, List, [], ◌∷◌, length, slice_index, slice_set, slice_get, get_or, sym, refl, ap, ◌∙◌, subst, ⊎_elim, arith, Some, None, ◌*◌}
 use Rattle.std.proofs.lemmas.List.{ext_get_or, get_or-set_same, get_or-set_other}
+use Rattle.std.proofs.lemmas.Bool.{cases_Bool}
 use mathlib.Core.Option.{some, none}
 use lib.ListN.{get_elem?}
 use Rattle.atomic_table.specs.Table.{Seen as SeenWith, Final}
@@ -10,7 +11,9 @@ use Rattle.protocol_values.specs.declared.NackName.{NackName}
 use Rattle.protocol_values.specs.declared.Binding.{Binding}
 use Rattle.protocol_values.specs.declared.Course.{Course}
 use Rattle.protocol_values.specs.declared.Row.{Row}
-use Rattle.protocol.specs.Kept.{Linked}
+use Rattle.protocol_values.specs.declared.Step.{Step}
+use Rattle.protocol_values.specs.declared.Step.TheVariants.{Open, Take}
+use Rattle.protocol.specs.Kept.{Kept, Linked}
 use Rattle.protocol.specs.declared.opening.Life.{Life}
 use Rattle.protocol.specs.declared.opening.Life.TheVariants as life
 use Rattle.protocol.specs.Openings.{HadEnded, HadStarted, Opening, course_for, greatest, state_in, thread_in, word_for}
@@ -23,15 +26,16 @@ use Rattle.protocol_values.specs.Words.{cell_of}
 use Rattle.protocol_values.specs.declared.Cell.TheVariants.{Fresh}
 use Rattle.std.specs.Prelude.{if◌then◌else◌, unwrap_or}
 use Rattle.std.proofs.lemmas.Option.{same_Some}
-use Rattle.cell_table.specs.Closings.{HandedOut, IsHomeOf}
+use Rattle.cell_table.specs.Closings.{AreInTurn, HandedOut, HasAll, IsHomeOf, IsOpenAt, MadeBy}
 use Rattle.protocol.specs.Growing.{GoesOn, GrowsTo}
 use Rattle.protocol.specs.Ledgers.{Ledger, ledger_of, IsLawful, binding_in, carried_in, course_in, joined_in, offer_in}
 use Rattle.protocol.proofs.Acting.{first_course_at, start_stays}
-use Rattle.protocol.proofs.Beginning.{first_carried}
+use Rattle.protocol.proofs.Beginning.{first_carried, first_cell}
 use Rattle.protocol.proofs.LedgerLemmas.{binding_in_ledger, carried_in_ledger, course_in_ledger, kept_opening, lawful_ledger, joined_in_ledger, offer_in_ledger, opening_in_ledger}
 use Rattle.protocol.proofs.Onward.{grows-schedule}
 use Rattle.protocol.specs.Standing.{AreResults, OffersAs, Result, SomeStands, Stands}
 use Rattle.protocol.proofs.Standing.{stands-ledger}
+use Rattle.cell_table.specs.declared.view.Stage.TheVariants.{Resting}
 use Rattle.cell_table.specs.declared.view.View.{View}
 use Rattle.cell_table.specs.declared.view.Shape.{Shape}
 use Rattle.cell_table.specs.Sight.{Has, IsDraft, SeesOffer, SeesNoOffer}
@@ -40,6 +44,8 @@ use Rattle.cell_table.specs.Views.{Knows, opening_in}
 use Rattle.cell_table.specs.Rule.{Keeps, in_order}
 use Rattle.cell_table.proofs.Allowing.{sized}
 use Rattle.cell_table.proofs.Binding.{nack_from}
+use Rattle.cell_table.proofs.InTurn.{offers_open, taken_before, untaken}
+use Rattle.cell_table.proofs.Whole.{few_gathered, made_by_all, made_open, opener, taker}
 use Rattle.cell_table.proofs.Turning.{world_kept}
 use Rattle.cell_table.proofs.Truths.{own_chose, sees_known, lacks_known}
 
@@ -172,6 +178,62 @@ module _ {M : Type 0} (stands : Stands M) where
           next = λ c x has involved.
               none_later (sized shape ws) (subst (λ (z : Table). Linked z.threads z.rows (cell_at z) (offer_at z) (marks_at z)) table_is (world_kept stands shape final.0 kept).linked) t g h.1.1.1 c x has involved;
         }
+
+    -- the rows of a thread were taken one after another
+    pub final_turns : AreInTurn shape ws
+    final_turns = taken_before (sized shape ws) (subst (λ (z : Table). Linked z.threads z.rows (cell_at z) (offer_at z) (marks_at z)) table_is (world_kept stands shape final.0 kept).linked)
+
+    -- what stands for the thread of a row that is opened and not taken lies at home
+    pub final_home : 0 < length shape.first.value.items → (t g : ℕ) → IsOpenAt shape ws t g → (value : M) × IsHomeOf shape ws slots t value
+    final_home some_first t g open_there =
+        let r : Row = record { thread = t; sync = g } in
+        let home = (kept.housed some_first).at_home r (subst (λ (z : Table). is_fresh (cell_at z r) ≡ false) (sym table_is) open_there.0) (subst (λ (z : Table). is_taken (cell_at z r) ≡ false) (sym table_is) open_there.1) in
+        (home.value, (final.4 t (Some home.value) home.home, (g, open_there)))
+
+    -- a row that offers something and is not committed is such a row
+    pub final_waiting : 0 < length shape.first.value.items → (r : Row) (n : ℕ) (o : Offer) → offer_in (ledger_of (sized shape ws)) r n ≡ Some o → joined_in (ledger_of (sized shape ws)) r ≡ None → (value : M) × IsHomeOf shape ws slots r.thread value
+    final_waiting some_first r n o offers waits = final_home some_first r.thread r.sync (
+      offers_open (sized shape ws) r n o (sym (λ i. offer_in_ledger (sized shape ws) i r n) ∙ offers),
+      untaken (cell_at (sized shape ws) r) (sym (λ i. joined_in_ledger (sized shape ws) i r) ∙ waits),
+    )
+
+    started : Kept kept.start
+    started = kept_opening before shape.rows shape.passes kept.start kept.opens kept.few_rows kept.begins
+
+    first_cells : (r : Row) → cell_at kept.start.table r ≡ Fresh
+    first_cells r = first_cell before kept.start.table kept.begins.words low r
+
+    -- WHERE ALL PASSES ARE HERE: there are no more of them than the table has
+    pub final_few : v.stage ≡ Resting → length v.gathered + 1 ≤ v.passes
+    final_few rests = few_gathered kept.world kept.owner final.0.views id v final.1.1 at_table kept.seated kept.gathers kept.knows rests
+
+    its_maker : HasAll v → (step : Step) → (j : ℕ) × (u : View M) × (get_elem? final.0.views j ≡ some u) × Has u.made step → (steps : List Step) × MadeBy v steps × Has steps step
+    its_maker all step o = made_by_all kept.world kept.owner final.0.views id v final.1.1 at_table kept.seated kept.gathers kept.knows all.0 all.1 step o
+
+    -- one of them opened each row that is opened
+    pub final_opened : HasAll v → (r : Row) → is_fresh (cell_at (sized shape ws) r) ≡ false → (steps : List Step) × MadeBy v steps × Has steps (Open r)
+    final_opened all r open_there = its_maker all (Open r) (opener kept.start kept.world kept.moves final.0.views started kept.played kept.interleaved r (ap is_fresh (first_cells r)) (subst (λ (z : Table). is_fresh (cell_at z r) ≡ false) (sym table_is) open_there))
+
+    -- and each that is taken, one of them took
+    final_taken : HasAll v → (r : Row) → is_taken (cell_at (sized shape ws) r) ≡ true → (steps : List Step) × MadeBy v steps × Has steps (Take r)
+    final_taken all r taken = its_maker all (Take r) (taker kept.start kept.world kept.moves final.0.views started kept.played kept.interleaved r (ap is_taken (first_cells r)) (subst (λ (z : Table). is_taken (cell_at z r) ≡ true) (sym table_is) taken))
+
+    -- a row that one of them opened is opened
+    opened_is : (r : Row) (steps : List Step) → MadeBy v steps → Has steps (Open r) → is_fresh (cell_at (sized shape ws) r) ≡ false
+    opened_is r steps (inl own) h = subst (λ (z : Table). is_fresh (cell_at z r) ≡ false) table_is (made_open kept.start kept.world kept.moves final.0.views started kept.played kept.interleaved id v r final.1.1 (subst (λ (l : List Step). Has l (Open r)) own h))
+    opened_is r steps (inr g) h =
+        let o = kept.gathers.left id v g.0 steps final.1.1 g.1 in
+        subst (λ (z : Table). is_fresh (cell_at z r) ≡ false) table_is (made_open kept.start kept.world kept.moves final.0.views started kept.played kept.interleaved o.0 o.1 r o.2 (subst (λ (l : List Step). Has l (Open r)) (sym o.6) h))
+
+    -- so what stands for the thread of a row that one opened and none took lies at home
+    pub final_kept : 0 < length shape.first.value.items → HasAll v → (r : Row) (steps : List Step) → MadeBy v steps → Has steps (Open r) → ((others : List Step) → MadeBy v others → Has others (Take r) → ⊥) → (value : M) × IsHomeOf shape ws slots r.thread value
+    final_kept some_first all r steps made opens untook = final_home some_first r.thread r.sync (
+      opened_is r steps made opens,
+      ⊎_elim
+          (λ (taken : is_taken (cell_at (sized shape ws) r) ≡ true). let t = final_taken all r taken in absurd (untook t.0 t.1 t.2))
+          (λ (not_taken : is_taken (cell_at (sized shape ws) r) ≡ false). not_taken)
+          (cases_Bool (is_taken (cell_at (sized shape ws) r))),
+    )
 
 -- the ledger of these words, where the greatest stamp before the table is told
 pub sized_ledger : {M : Type 0} (shape : Shape M) (ws : List ℕ) (stamps : ℕ) (l : Ledger) → stamps ≡ greatest (opening_in shape) → l ≡ ledger_of (wide_table shape.offers (record { threads = shape.threads; rows = shape.rows; words = ws; opening = stamps })) → l ≡ ledger_of (sized shape ws)

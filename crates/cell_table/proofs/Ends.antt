@@ -24,7 +24,7 @@ use Rattle.protocol.proofs.Places.{word_lived}
 use Rattle.protocol.proofs.Readings.{binding_after_life, carried_after_life, cell_after_life, course_lived, course_lived_other}
 use Rattle.protocol.proofs.RowLemmas.{same_row}
 use Rattle.cell_table.specs.declared.view.Shape.{Shape}
-use Rattle.cell_table.specs.declared.view.Stage.TheVariants.{Aside, Resting}
+use Rattle.cell_table.specs.declared.view.Stage.TheVariants.{Aside, Left, Resting}
 use Rattle.cell_table.specs.declared.view.View.{View}
 use Rattle.cell_table.specs.Rule.{IsFinishing, Keeps}
 use Rattle.cell_table.specs.Sight.{Has, IsStand, SawEnded}
@@ -158,12 +158,15 @@ module _ {M : Type 0} (stands : Stands M) where
       rests : me.0.stage ≢ Aside
       rests e = let bad : Resting ≡ Aside = sym resting ∙ e in cc
 
+      stays_on : me.0.stage ≢ Left
+      stays_on e = let bad : Resting ≡ Left = sym resting ∙ e in cc
+
       ends_so : Keeps stands shape (stepped s place (course_word (Ended start x.sync)) id me.1 (ended_thread x start me.0) keeps)
       unfolding with_course
       ends_so =
           keeps_housed stands shape s k id me.0 (saw_course x.thread (Ended start x.sync) me.0) _ s.homes k.owner view (at_table stands shape slots id place me x.thread threads rows wide inside here) refl refl refl
           (Finish x) (λ some_first. (tt, does_now stands shape s k id me.0 (after_step k.world at_seat (Finish x)).table x (λ value earlier. stands.ends shape.first.value.items value x.thread earlier) view (grows-step k.world at_seat (Finish x) kept_now allowed) (finishing some_first))) tt allowed
-          (record { same = (refl, refl, refl); acted = rests; acts = rests; held = λ q h. h; begun = λ q h. h; binds = λ n q scope e. let bad : Finish x ≡ Bind n q scope = e in cc }) (λ t rs h. inl h)
+          (record { same = (refl, refl, refl); acted = rests; goes = stays_on; acts = rests; held = λ q h. h; begun = λ q h. h; binds = λ n q scope e. let bad : Finish x ≡ Bind n q scope = e in cc }) (λ t rs h. inl h)
           (ap (λ (v : World). v.table) after_is ∙ ap (λ (t : Table). with_course t x.thread (Ended start x.sync)) k.table ∙ wrote_life stands shape s k place x.thread (course_word (Ended start x.sync)) inside here)
           (length-set s.words place (course_word (Ended start x.sync)))
           (λ j u n e t. subst (λ (v : World). Knows v k.owner j u) (sym after_is) (others_end k.world x start kept_now its_thread range running k.owner id (stand_owned k.world k.owner id me.0 knows x stand) (stand_place k.world k.owner id me.0 knows x stand) j u n (k.knows j u e t)))

@@ -22,7 +22,7 @@ use Rattle.protocol.proofs.Keeping.{held_row, holder_lasted, last_kept_at, open_
 use Rattle.protocol.proofs.Places.{row_inside, word_other}
 use Rattle.cell_table.specs.declared.view.View.{View}
 use Rattle.cell_table.specs.declared.view.Stage.{Stage}
-use Rattle.cell_table.specs.declared.view.Stage.TheVariants.{Resting, Claims, Joins, Aside}
+use Rattle.cell_table.specs.declared.view.Stage.TheVariants.{Resting, Claims, Joins, Aside, Left}
 use Rattle.cell_table.specs.declared.view.Seen.{Seen}
 use Rattle.cell_table.specs.Sight.{Has, IsStand, SawEnded, see_held}
 use Rattle.protocol.specs.Acting.{EndsAt, HasStart}
@@ -50,6 +50,7 @@ pub record Follows (w u : World) : Type 0 where
 staged_follows : (w u : World) (owner : Row → ℕ) (id : ℕ) (stage : Stage) → Follows w u → Staged w owner id stage → Staged u owner id stage
 staged_follows w u owner id Resting f h = tt
 staged_follows w u owner id Aside f h = tt
+staged_follows w u owner id Left f h = tt
 staged_follows w u owner id (Claims m) f h = (h.0, f.claimed m h.1, λ q. ap (λ (o : Option Joined). names o m) (f.joined q) ∙ h.2 q)
 staged_follows w u owner id (Joins m o j) f h = (h.0, f.claimed m h.1, f.joined o ∙ h.2, h.3)
 
@@ -192,6 +193,7 @@ module _ {M : Type 0} where
 staged_owned : (w : World) (owner owner' : Row → ℕ) (j : ℕ) (stage : Stage) → Kept w → ((r : Row) → holder_at w r ≢ None → owner r ≡ j → owner' r ≡ j) → Staged w owner j stage → Staged w owner' j stage
 staged_owned w owner owner' j Resting k o h = tt
 staged_owned w owner owner' j Aside k o h = tt
+staged_owned w owner owner' j Left k o h = tt
 staged_owned w owner owner' j (Claims m) k o h = (o m (open_held w m k (ap is_fresh h.1)) h.0, h.1, h.2)
 staged_owned w owner owner' j (Joins m q i) k o h = (o m (open_held w m k (ap is_fresh h.1)) h.0, h.1, h.2, h.3)
 

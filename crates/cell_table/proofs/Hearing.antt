@@ -4,7 +4,7 @@ use Rattle.std.proofs.lemmas.Bool.{cases_Bool, true≢false}
 use Rattle.std.proofs.Math.Nat.{mod-lt}
 use mathlib.Core.Option.{some}
 use lib.ListN.{get_elem?}
-use Rattle.atomic_table.specs.Table.{Splits, Joins}
+use Rattle.atomic_table.specs.Table.{Joins, Splits, State}
 use Rattle.atomic_table.proofs.Lists.{at_set}
 use Rattle.protocol_values.specs.declared.NackName.{NackName}
 use Rattle.protocol_values.specs.declared.Binding.{Binding}
@@ -19,12 +19,15 @@ use Rattle.cell_table.specs.declared.view.Seen.{Seen}
 use Rattle.cell_table.specs.declared.view.View.{View}
 use Rattle.cell_table.specs.declared.view.Shape.{Shape}
 use Rattle.cell_table.specs.Sight.{Has, SeesOffer, SeesNoOffer}
-use Rattle.cell_table.specs.Views.{Knows, RunsIn, SeesEnd, opening_by, opening_in}
-use Rattle.cell_table.specs.Rule.{Keeps, beginning, at_seat, is_among, drafts_of, told_of, told_pass, heard, heard_pass, spent_pass}
+use Rattle.cell_table.specs.declared.view.Stage.{Stage}
+use Rattle.cell_table.specs.declared.view.Stage.TheVariants.{Aside, Resting}
+use Rattle.cell_table.specs.Views.{IsClaimer, Knows, RunsIn, SeesEnd, opening_by, opening_in}
+use Rattle.cell_table.specs.Rule.{Gathers, IsToBegin, Keeps, Seated, at_seat, beginning, drafts_of, heard, heard_pass, is_among, left_pass, spent_pass, told_last, told_of, told_pass}
 use Rattle.cell_table.proofs.Dealing.{one_more_pass}
-use Rattle.cell_table.proofs.Seating.{at_end, seated_more, seated_seen, seated_spent}
+use Rattle.cell_table.proofs.Seating.{at_end, seated_heard, seated_left, seated_more, seated_seen, seated_spent}
 use Rattle.cell_table.proofs.Offers.{have_row}
 use Rattle.cell_table.proofs.Housing.{housed_more, housed_spent, housed_view}
+use Rattle.cell_table.proofs.Leaving.{gathers_heard, gathers_left, gathers_more, gathers_set}
 use Rattle.cell_table.proofs.Turning.{firsts_with, same_made}
 
 pub has_either : {A : Type 0} (xs ys : List A) (x : A) → Has (xs ++ ys) x → Has xs x ⊎ Has ys x
@@ -135,6 +138,33 @@ module _ (w : World) (owner : Row → ℕ) where
         some_seats : v.seat < w.seats → 0 < w.seats
         some_seats h = omega arith
 
+    -- a pass that leaves knows what it knew
+    knows_left : (id : ℕ) (v : View M) → Knows w owner id v → v.stage ≡ Resting → Knows w owner id (left_pass v)
+    knows_left id v k rests = record {
+      threads = k.threads;
+      rows = k.rows;
+      passes = k.passes;
+      seat = k.seat;
+      undealt = k.undealt;
+      mine = k.mine;
+      calm = λ r h e. subst (λ (stage : Stage). IsClaimer stage r) rests (k.calm r h e);
+      staged = tt;
+      fresh = k.fresh;
+      drafted = k.drafted;
+      opened = k.opened;
+      read = k.read;
+      joined = k.joined;
+      taken = k.taken;
+      bound = k.bound;
+      carried = k.carried;
+      settled = k.settled;
+      started = k.started;
+      ended = k.ended;
+      lasts = k.lasts;
+      lively = k.lively;
+      binds = k.binds;
+    }
+
     knows_heard : (id other : ℕ) (v u : View M) → Knows w owner id v → Knows w owner other u → Knows w owner id (heard_pass v u)
     knows_heard id other v u k l = record {
       threads = k.threads;
@@ -165,64 +195,99 @@ module _ (w : World) (owner : Row → ℕ) where
         more_ends t sees g e = has_left v.seen.ended u.seen.ended (t, g) (sees g e)
 
 module _ {M : Type 0} (stands : Stands M) where
+  -- A pass is told of: it goes on as x, and what is told is u, which makes no steps and is to begin with nothing.
+  module _ (shape : Shape M) (id : ℕ) (v x u : View M) (at_table : 0 < v.threads) (s : State (Option M) (View M)) (k : Keeps stands shape s) (view : get_elem? s.views id ≡ some v)
+      (steps : at_seat v.seat v.made ≡ at_seat x.seat x.made) (nothing : u.made ≡ []) (results : x.results ≡ v.results) (told_results : u.results ≡ v.results) (first : beginning x ≡ beginning v) (told_first : beginning u ≡ beginning v)
+      (begins : (r : Row) → IsToBegin x r → IsToBegin v r) (none_begins : (r : Row) → IsToBegin u r → ⊥)
+      (knows : Knows k.world k.owner id x) (told_knows : (j : ℕ) → Knows k.world k.owner j u)
+      (seated : Seated (slice_set s.views id x ++ u ∷ [])) (gathers : Gathers (slice_set s.views id x ++ u ∷ [])) where
+    abbrev Was : ℕ → View M → Type 0
+    Was j y = (((j ≡ id) × (x ≡ y)) ⊎ ((j ≢ id) × (get_elem? s.views j ≡ some y))) ⊎ (u ≡ y)
+
+    was : (j : ℕ) (y : View M) → get_elem? (slice_set s.views id x ++ u ∷ []) j ≡ some y → Was j y
+    was j y e = ⊎_elim (λ (old : get_elem? (slice_set s.views id x) j ≡ some y). inl (at_set s.views id j x y old)) (λ (now : (j ≡ length (slice_set s.views id x)) × (u ≡ y)). inr now.1) (at_end (slice_set s.views id x) u y j e)
+
+    knows_of : (j : ℕ) (y : View M) → Was j y → 0 < y.threads → Knows k.world k.owner j y
+    knows_of j y (inl (inl a)) t = subst (λ (z : ℕ × (View M)). Knows k.world k.owner z.0 z.1) (λ i. (sym a.0 i, a.1 i)) knows
+    knows_of j y (inl (inr a)) t = k.knows j y a.1 t
+    knows_of j y (inr a) t = subst (λ (z : View M). Knows k.world k.owner j z) a (told_knows j)
+
+    firsts_of : (j : ℕ) (y : View M) → Was j y → 0 < y.threads → beginning y ≡ (shape.first.value.items, opening_in shape, shape.offers)
+    firsts_of j y (inl (inl a)) t = ap (λ (z : View M). beginning z) (sym a.1) ∙ first ∙ k.firsts id v view at_table
+    firsts_of j y (inl (inr a)) t = k.firsts j y a.1 t
+    firsts_of j y (inr a) t = ap (λ (z : View M). beginning z) (sym a) ∙ told_first ∙ k.firsts id v view at_table
+
+    results_of : (j : ℕ) (y : View M) (t : ℕ) (rs : List Result) → Was j y → Has y.results (t, rs) → AreResults (ledger_of k.world.table) t rs
+    results_of j y t rs (inl (inl a)) h = k.results id v t rs view (subst (λ (l : List (ℕ × List Result)). Has l (t, rs)) (ap (λ (z : View M). z.results) (sym a.1) ∙ results) h)
+    results_of j y t rs (inl (inr a)) h = k.results j y t rs a.1 h
+    results_of j y t rs (inr a) h = k.results id v t rs view (subst (λ (l : List (ℕ × List Result)). Has l (t, rs)) (ap (λ (z : View M). z.results) (sym a) ∙ told_results) h)
+
+    keeps_split : Keeps stands shape (record { words = s.words; homes = s.homes; views = slice_set s.views id x ++ u ∷ [] })
+    keeps_split = record {
+      opens = k.opens;
+      few_rows = k.few_rows;
+      few_offers = k.few_offers;
+      sized = k.sized;
+      counts = k.counts;
+      moves = k.moves;
+      interleaved = one_more_pass k.moves (slice_set s.views id x) u (same_made k.moves s.views id v x view k.interleaved steps) nothing;
+      start = k.start;
+      begins = k.begins;
+      world = k.world;
+      played = k.played;
+      table = k.table;
+      owner = k.owner;
+      knows = λ j y e t. knows_of j y (was j y e) t;
+      seated = seated;
+      gathers = gathers;
+      firsts = λ j y e t. firsts_of j y (was j y e) t;
+      started = k.started;
+      ended = k.ended;
+      housed = λ some_first.
+          housed_more stands shape.first.value.items k.world s.homes (slice_set s.views id x) u
+          (housed_view stands shape.first.value.items k.world s.homes s.views id v x view at_table begins (k.housed some_first))
+          (λ r b. absurd (none_begins r b));
+      results = λ j y t rs e h. results_of j y t rs (was j y e) h;
+    }
+
+  some_passes : (w : World) (owner : Row → ℕ) (id : ℕ) (v : View M) → Knows w owner id v → 0 < v.passes
+  some_passes w owner id v knows = let p = knows.passes in let h = knows.seat in omega arith
+
+  -- what is told is to begin with nothing
+  told_begins : (w : World) (owner : Row → ℕ) (id : ℕ) (v : View M) → Knows w owner id v → (r : Row) → IsToBegin (told_pass v) r → ⊥
+  told_begins w owner id v knows r b = ⊎_elim
+      (λ (h : ⊥). h)
+      (λ (d : (r.thread < v.threads) × RunsIn (opening_by v) r.thread × (v.passes ≤ r.thread % v.passes)). let m = mod-lt r.thread (some_passes w owner id v knows) in let far = d.2 in omega arith)
+      b.1
+
   pub tell_allowed : (shape : Shape M) (id : ℕ) (v : View M) → 0 < v.threads → Splits {S = Option M} (Keeps stands shape) id v v (told_pass v)
-  tell_allowed shape id v at_table s k view = record {
-    opens = k.opens;
-    few_rows = k.few_rows;
-    few_offers = k.few_offers;
-    sized = k.sized;
-    counts = k.counts;
-    moves = k.moves;
-    interleaved = one_more_pass k.moves (slice_set s.views id v) (told_pass v) (same_made k.moves s.views id v v view k.interleaved refl) refl;
-    start = k.start;
-    begins = k.begins;
-    world = k.world;
-    played = k.played;
-    table = k.table;
-    owner = k.owner;
-    knows = λ j u e t. ⊎_elim
-        (λ old. before j u old t)
-        (λ (now : (j ≡ length (slice_set s.views id v)) × (told_pass v ≡ u)). subst (λ (z : View M). Knows k.world k.owner j z) now.1 (knows_told k.world k.owner id j v (k.knows id v view at_table)))
-        (at_end (slice_set s.views id v) (told_pass v) u j e);
-    -- what is told stands aside
-    seated = seated_more (slice_set s.views id v) (told_pass v)
-        (record { aside = λ e. (refl, refl); gone = λ e. refl; binders = λ n r scope no. absurd no; begun = λ r no. absurd no })
-        (λ d. omega arith)
-        (λ t moves. absurd (moves refl))
-        (λ t moves. absurd (moves refl))
-        (seated_seen s.views id v v view (refl, refl, refl, refl, refl, λ q h. inl h) refl refl k.seated);
-    firsts = λ j u e t. ⊎_elim
-        (λ old. firsts_with s.views id v v (shape.first.value.items, opening_in shape, shape.offers) view refl at_table k.firsts j u old t)
-        (λ (now : (j ≡ length (slice_set s.views id v)) × (told_pass v ≡ u)). ap (λ (z : View M). beginning z) (sym now.1) ∙ k.firsts id v view at_table)
-        (at_end (slice_set s.views id v) (told_pass v) u j e);
-    started = k.started;
-    ended = k.ended;
-    housed = λ some_first.
-        let before = housed_view stands shape.first.value.items k.world s.homes s.views id v v view at_table (λ r b. b) (k.housed some_first) in
-        housed_more stands shape.first.value.items k.world s.homes (slice_set s.views id v) (told_pass v) before (λ r b. absurd (⊎_elim
-        (λ (h : ⊥). h)
-        (λ (d : (r.thread < v.threads) × RunsIn (opening_by v) r.thread × (v.passes ≤ r.thread % v.passes)). let m = mod-lt r.thread (some_passes (k.knows id v view at_table)) in let far = d.2 in omega arith)
-        b.1));
-    results = λ j u t rs e h. ⊎_elim
-        (λ old. ⊎_elim
-        (λ (a : (j ≡ id) × (v ≡ u)). k.results id v t rs view (subst (λ (z : View M). Has z.results (t, rs)) (sym a.1) h))
-        (λ (a : (j ≢ id) × (get_elem? s.views j ≡ some u)). k.results j u t rs a.1 h)
-        (at_set s.views id j v u old))
-        (λ (now : (j ≡ length (slice_set s.views id v)) × (told_pass v ≡ u)). k.results id v t rs view (subst (λ (z : View M). Has z.results (t, rs)) (sym now.1) h))
-        (at_end (slice_set s.views id v) (told_pass v) u j e);
-  }
-    where
-      some_passes : Knows k.world k.owner id v → 0 < v.passes
-      some_passes knows = let p = knows.passes in let h = knows.seat in omega arith
+  tell_allowed shape id v at_table s k view =
+      let knows = k.knows id v view at_table in
+      keeps_split shape id v v (told_pass v) at_table s k view refl refl refl refl refl refl (λ r b. b) (told_begins k.world k.owner id v knows) knows (λ j. knows_told k.world k.owner id j v knows)
+      -- what is told stands aside
+      (seated_more (slice_set s.views id v) (told_pass v)
+      (record { aside = λ e. (refl, refl); gone = λ e. refl; binders = λ n r scope no. absurd no; begun = λ r no. absurd no })
+      (λ d. omega arith)
+      (λ t moves. absurd (moves refl))
+      (λ t moves. absurd (moves refl))
+      (seated_seen s.views id v v view (refl, refl, refl, refl, refl, λ q h. inl h) refl refl k.seated))
+      (gathers_more (slice_set s.views id v) (told_pass v) refl (gathers_set s.views id v v view refl (λ e. (refl, e, refl, refl)) k.gathers))
 
-      before : (j : ℕ) (u : View M) → get_elem? (slice_set s.views id v) j ≡ some u → 0 < u.threads → Knows k.world k.owner j u
-      before j u e t = ⊎_elim
-          (λ (a : (j ≡ id) × (v ≡ u)). subst (λ (z : ℕ × (View M)). Knows k.world k.owner z.0 z.1) (λ i. (sym a.0 i, a.1 i)) (k.knows id v view at_table))
-          (λ (a : (j ≢ id) × (get_elem? s.views j ≡ some u)). k.knows j u a.1 t)
-          (at_set s.views id j v u e)
+  -- and it leaves the table by that
+  pub leave_allowed : (shape : Shape M) (id : ℕ) (v : View M) → 0 < v.threads → v.stage ≡ Resting → Splits {S = Option M} (Keeps stands shape) id v (left_pass v) (told_last v)
+  leave_allowed shape id v at_table rests s k view =
+      let knows = k.knows id v view at_table in
+      keeps_split shape id v (left_pass v) (told_last v) at_table s k view refl refl refl refl refl refl (λ r b. b) (told_begins k.world k.owner id v knows) (knows_left k.world k.owner id v knows rests) (λ j. knows_told k.world k.owner id j v knows)
+      (seated_more (slice_set s.views id (left_pass v)) (told_last v)
+      (record { aside = λ e. (refl, refl); gone = λ e. refl; binders = λ n r scope no. absurd no; begun = λ r no. absurd no })
+      (λ d. omega arith)
+      (λ t moves. absurd (moves refl))
+      (λ t moves. absurd (moves refl))
+      (seated_left s.views id v view at_table rests k.seated))
+      (gathers_left s.views id v view at_table rests k.seated k.gathers)
 
-  pub hear_allowed : (shape : Shape M) (id : ℕ) (v : View M) (other : ℕ) (w : View M) → 0 < v.threads → 0 < w.threads → w.made ≡ [] → Joins {S = Option M} (Keeps stands shape) id v other w (heard_pass v w) spent_pass
-  hear_allowed shape id v other w at_table told_at nothing s k view apart told = record {
+  pub hear_allowed : (shape : Shape M) (id : ℕ) (v : View M) (other : ℕ) (w : View M) → 0 < v.threads → 0 < w.threads → w.made ≡ [] → w.stage ≡ Aside → Joins {S = Option M} (Keeps stands shape) id v other w (heard_pass v w) spent_pass
+  hear_allowed shape id v other w at_table told_at nothing aside s k view apart told = record {
     opens = k.opens;
     few_rows = k.few_rows;
     few_offers = k.few_offers;
@@ -241,7 +306,8 @@ module _ {M : Type 0} (stands : Stands M) where
         (λ (a : (j ≡ other) × (spent_pass ≡ u)). let z : u.threads ≡ 0 = ap (λ (y : View M). y.threads) (sym a.1) in absurd (omega arith))
         (λ (a : (j ≢ other) × (get_elem? (slice_set s.views id (heard_pass v w)) j ≡ some u)). before j u a.1 t)
         (at_set (slice_set s.views id (heard_pass v w)) other j spent_pass u e);
-    seated = seated_spent (slice_set s.views id (heard_pass v w)) other w told (seated_seen s.views id v (heard_pass v w) view (refl, refl, refl, refl, refl, λ q h. inl h) refl refl k.seated);
+    seated = seated_spent (slice_set s.views id (heard_pass v w)) other w told (seated_heard s.views id v w view k.seated);
+    gathers = gathers_heard s.views id v other w view apart was_there aside k.gathers;
     firsts = λ j u e t. ⊎_elim
         (λ (a : (j ≡ other) × (spent_pass ≡ u)). let z : u.threads ≡ 0 = ap (λ (y : View M). y.threads) (sym a.1) in absurd (omega arith))
         (λ (a : (j ≢ other) × (get_elem? (slice_set s.views id (heard_pass v w)) j ≡ some u)). firsts_with s.views id v (heard_pass v w) (shape.first.value.items, opening_in shape, shape.offers) view refl at_table k.firsts j u a.1 t)
@@ -265,6 +331,12 @@ module _ {M : Type 0} (stands : Stands M) where
       both t rs (inr h) = ⊎_elim
           (λ (a : (other ≡ id) × (heard_pass v w ≡ w)). absurd (apart a.0))
           (λ (a : (other ≢ id) × (get_elem? s.views other ≡ some w)). k.results other w t rs a.1 h)
+          (at_set s.views id other (heard_pass v w) w told)
+
+      was_there : get_elem? s.views other ≡ some w
+      was_there = ⊎_elim
+          (λ (a : (other ≡ id) × (heard_pass v w ≡ w)). absurd (apart a.0))
+          (λ (a : (other ≢ id) × (get_elem? s.views other ≡ some w)). a.1)
           (at_set s.views id other (heard_pass v w) w told)
 
       his : Knows k.world k.owner other w

@@ -13,6 +13,8 @@ pub mod Handing
 pub mod Hearing
 pub mod Homes
 pub mod Housing
+pub mod InTurn
+pub mod Leaving
 pub mod Lives
 pub mod Offers
 pub mod Once
@@ -25,3 +27,4 @@ pub mod Starts
 pub mod Takings
 pub mod Truths
 pub mod Turning
+pub mod Whole

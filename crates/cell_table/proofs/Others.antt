@@ -14,7 +14,7 @@ use Rattle.protocol_values.specs.declared.Cell.TheVariants.{Fresh, Waiting, Clai
 use Rattle.protocol_values.specs.Words.{cell_word, IsCellInRange}
 use Rattle.cell_table.specs.declared.view.View.{View}
 use Rattle.cell_table.specs.declared.view.Stage.{Stage}
-use Rattle.cell_table.specs.declared.view.Stage.TheVariants.{Resting, Claims, Joins, Aside}
+use Rattle.cell_table.specs.declared.view.Stage.TheVariants.{Resting, Claims, Joins, Aside, Left}
 use Rattle.protocol.specs.Tables.{course_at, Table, bound_row, is_row, row_eq, cell_at, is_fresh, joined_at, names, nack_says, word_at, binding_at, bound_by, carried_at, carried_by, is_taken}
 use Rattle.protocol_values.specs.Values.{joined_of}
 use Rattle.protocol.specs.Worlds.{World, holder_at, with_word, with_cell, with_table, first_row}
@@ -129,6 +129,7 @@ module _ (w : World) (x : Row) (c : Cell) (owner : Row → ℕ) (k : Kept w)
       staged_kept : (stage : Stage) → Staged w owner id stage → Staged (with_table w (with_cell w.table x c)) owner id stage
       staged_kept Resting h = tt
       staged_kept Aside h = tt
+      staged_kept Left h = tt
       staged_kept (Claims m) h = (
         h.0,
         stays_claimed m h.1 (claimed_other m h.0 h.1),
@@ -390,6 +391,7 @@ module _ (w : World) (x : Row) (p d : ℕ) (owner : Row → ℕ) (k : Kept w)
   staged_draft : (id : ℕ) (stage : Stage) → Staged w owner id stage → Staged (with_table w (with_word w.table x p d)) owner id stage
   staged_draft id Resting h = tt
   staged_draft id Aside h = tt
+  staged_draft id Left h = tt
   staged_draft id (Claims m) h = (h.0, cells_stay m ∙ h.1, λ q. ap (λ (c : Cell). names (joined_of c) m) (cells_stay q) ∙ h.2 q)
   staged_draft id (Joins m o j) h = (h.0, cells_stay m ∙ h.1, ap joined_of (cells_stay o) ∙ h.2, h.3)
 

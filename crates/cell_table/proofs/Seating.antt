@@ -9,9 +9,9 @@ use Rattle.protocol_values.specs.declared.Row.{Row}
 use Rattle.protocol_values.specs.declared.Step.{Step}
 use Rattle.protocol_values.specs.declared.Step.TheVariants.{Bind}
 use Rattle.cell_table.specs.declared.view.Shape.{Shape}
-use Rattle.cell_table.specs.declared.view.Stage.TheVariants.{Aside}
+use Rattle.cell_table.specs.declared.view.Stage.TheVariants.{Aside, Left, Resting}
 use Rattle.cell_table.specs.declared.view.View.{View}
-use Rattle.cell_table.specs.Rule.{HasActed, Seated, dealer, spent_pass}
+use Rattle.cell_table.specs.Rule.{HasActed, Seated, dealer, heard_pass, left_pass, spent_pass}
 use Rattle.cell_table.specs.Sight.{Has}
 use Rattle.cell_table.specs.Views.{did, saw}
 
@@ -145,10 +145,14 @@ module _ {M : Type 0} where
       begun = λ j u r e. (more_well j u (at_end vs w u j e)).begun r;
     }
 
+  -- how many passes there are, and which have left to this one
+  abbrev pub others_of : View M → ℕ × List (ℕ × List Step)
+  others_of v = (v.passes, v.gathered)
+
   -- A CALL THAT LEARNS
   abbrev pub Stays : View M → View M → Type 0
   Stays v w =
-      (w.threads ≡ v.threads) × (w.passes ≡ v.passes) × (w.dealt ≡ v.dealt) × (w.stage ≡ v.stage) × (w.seen.held ≡ v.seen.held)
+      (w.threads ≡ v.threads) × (others_of w ≡ others_of v) × (w.dealt ≡ v.dealt) × (w.stage ≡ v.stage) × (w.seen.held ≡ v.seen.held)
       × ((r : Row) → Has w.seen.begun r → Has v.seen.begun r ⊎ Has v.seen.held r)
 
   pub saw_stays : (r : Row) (c : Cell) (v : View M) → Stays v (saw r c v)
@@ -163,7 +167,7 @@ module _ {M : Type 0} where
       let well = sits_well vs id v view before in
       seated_set vs id v w view (record {
         acts = λ t s. (subst (λ (n : ℕ). 0 < n) stays.0 t, (λ e. s (stays.3 ∙ e)), seat);
-        deals = λ t d. let p = stays.1 in let q = stays.2 in (subst (λ (n : ℕ). 0 < n) stays.0 t, omega arith, omega arith);
+        deals = λ t d. let p : w.passes ≡ v.passes = ap (λ (z : ℕ × List (ℕ × List Step)). z.0) stays.1 in let q = stays.2 in (subst (λ (n : ℕ). 0 < n) stays.0 t, omega arith, omega arith);
         well = record {
           aside = λ e. let a = well.aside (sym stays.3 ∙ e) in (made ∙ a.0, stays.4 ∙ a.1);
           gone = λ e. made ∙ well.gone (sym stays.0 ∙ e);
@@ -174,8 +178,9 @@ module _ {M : Type 0} where
 
   -- A STEP of a pass
   pub record MovesOn (v w : View M) (step : Step) : Type 0 where
-    pub same : (w.threads ≡ v.threads) × (w.passes ≡ v.passes) × (w.dealt ≡ v.dealt)
+    pub same : (w.threads ≡ v.threads) × (others_of w ≡ others_of v) × (w.dealt ≡ v.dealt)
     pub acted : v.stage ≢ Aside
+    pub goes : v.stage ≢ Left
     pub acts : w.stage ≢ Aside
     pub held : (r : Row) → Has v.seen.held r → Has w.seen.held r
     pub begun : (r : Row) → Has w.seen.begun r → Has v.seen.begun r
@@ -187,7 +192,7 @@ module _ {M : Type 0} where
       let same = on.same in
       seated_set vs id v (did step w) view (record {
         acts = λ t s. (at_table, on.acted, seat);
-        deals = λ t d. let p = same.1 in let q = same.2 in (at_table, omega arith, omega arith);
+        deals = λ t d. let p : w.passes ≡ v.passes = ap (λ (z : ℕ × List (ℕ × List Step)). z.0) same.1 in let q = same.2 in (at_table, omega arith, omega arith);
         well = record {
           aside = λ e. absurd (on.acts e);
           gone = λ e. let p = same.0 in absurd (omega arith);
@@ -196,6 +201,25 @@ module _ {M : Type 0} where
               (λ (old : Has w.made (Bind k r scope)). on.held r (well.binders k r scope (subst (λ (l : List Step). Has l (Bind k r scope)) made old)));
           begun = λ r h. on.held r (well.begun r (on.begun r h));
         };
+      }) before
+
+  -- A PASS THAT HEARS something, or leaves
+  pub seated_heard : (vs : List (View M)) (id : ℕ) (v told : View M) → get_elem? vs id ≡ some v → Seated vs → Seated (slice_set vs id (heard_pass v told))
+  seated_heard vs id v told view before =
+      let well = sits_well vs id v view before in
+      seated_set vs id v (heard_pass v told) view (record {
+        acts = λ t s. (t, s, refl);
+        deals = λ t d. (t, d, omega arith);
+        well = record { aside = λ e. well.aside e; gone = λ e. well.gone e; binders = λ k r scope h. well.binders k r scope h; begun = λ r h. well.begun r h };
+      }) before
+
+  pub seated_left : (vs : List (View M)) (id : ℕ) (v : View M) → get_elem? vs id ≡ some v → 0 < v.threads → v.stage ≡ Resting → Seated vs → Seated (slice_set vs id (left_pass v))
+  seated_left vs id v view at_table rests before =
+      let well = sits_well vs id v view before in
+      seated_set vs id v (left_pass v) view (record {
+        acts = λ t s. (t, (λ e. let bad : Resting ≡ Aside = sym rests ∙ e in cc), refl);
+        deals = λ t d. (t, d, omega arith);
+        well = record { aside = λ e. (let bad : Left ≡ Aside = e in cc); gone = λ e. well.gone e; binders = λ k r scope h. well.binders k r scope h; begun = λ r h. well.begun r h };
       }) before
 
   -- THE PASS THAT HAS TOLD ALL

@@ -33,7 +33,7 @@ use Rattle.cell_table.proofs.Shortness.{same_short_course}
 use Rattle.protocol.proofs.Readings.{binding_after_life, carried_after_life, cell_after_life, course_inside, course_lived, course_lived_other}
 use Rattle.protocol.proofs.RowLemmas.{put, put_other, put_same, row_ne}
 use Rattle.cell_table.specs.declared.view.Shape.{Shape}
-use Rattle.cell_table.specs.declared.view.Stage.TheVariants.{Aside, Resting}
+use Rattle.cell_table.specs.declared.view.Stage.TheVariants.{Aside, Left, Resting}
 use Rattle.cell_table.specs.declared.view.View.{View}
 use Rattle.cell_table.specs.Rule.{IsStarting, IsToBegin, Keeps, Waits}
 use Rattle.cell_table.specs.Sight.{Has, HasSeenLast, IsStand, IsUnseen, SawEnded, see_start}
@@ -254,12 +254,15 @@ module _ {M : Type 0} (stands : Stands M) where
         rests : me.0.stage ≢ Aside
         rests e = let bad : Resting ≡ Aside = sym resting ∙ e in cc
 
+        stays_on : me.0.stage ≢ Left
+        stays_on e = let bad : Resting ≡ Left = sym resting ∙ e in cc
+
         starts : Keeps stands shape (stepped s place (course_word (Running stamp)) id me.1 (started_thread p stamp me.0) keeps)
         unfolding with_course
         starts =
             keeps_housed stands shape s k id me.0 (at_stage me.0.stage (see_start p stamp me.0.seen) me.0) _ s.homes (owner' k.world at_seat p stamp kept its range waiting k.owner id its_rows) view at_table refl refl refl
             (Start me.0.from p) (λ some_first. (does_now stands shape s k id me.0 (after_step k.world at_seat (Start me.0.from p)).table me.0.from (λ value earlier. stands.starts shape.first.value.items value me.0.from.thread earlier p) view (grows-step k.world at_seat (Start me.0.from p) kept allowed) (starting some_first), tt)) tt allowed
-            (record { same = (refl, refl, refl); acted = rests; acts = rests; held = λ q h. inr h; begun = λ q h. h; binds = λ n q scope e. let bad : Start me.0.from p ≡ Bind n q scope = e in cc }) (λ t rs h. inl h)
+            (record { same = (refl, refl, refl); acted = rests; goes = stays_on; acts = rests; held = λ q h. inr h; begun = λ q h. h; binds = λ n q scope e. let bad : Start me.0.from p ≡ Bind n q scope = e in cc }) (λ t rs h. inl h)
             (ap (λ (v : World). v.table) after_is ∙ ap (λ (t : Table). with_course t p (Running stamp)) k.table ∙ wrote_life stands shape s k place p (course_word (Running stamp)) inside here)
             (length-set s.words place (course_word (Running stamp)))
             (λ j u n e t. subst (λ (v : World). Knows v (owner' k.world at_seat p stamp kept its range waiting k.owner id its_rows) j u) (sym after_is) (others_start k.world at_seat p stamp kept its range waiting k.owner id its_rows j u (k.knows j u e t)))

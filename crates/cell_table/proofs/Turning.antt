@@ -35,6 +35,7 @@ use Rattle.cell_table.proofs.Courses.{KeepsLives, plain_lives}
 use Rattle.protocol.specs.Short.{wide_table}
 use Rattle.cell_table.proofs.Counts.{DraftsFew, few_step}
 use Rattle.cell_table.proofs.Housing.{LeavesHomes, housed_step, housed_view}
+use Rattle.cell_table.proofs.Leaving.{gathers_set}
 use Rattle.cell_table.proofs.Seating.{MovesOn, Stays, seated_seen, seated_step}
 
 module _ {M : Type 0} where
@@ -138,6 +139,7 @@ module _ {M : Type 0} (stands : Stands M) where
     owner = k.owner;
     knows = views_with s.views id w k.world k.owner (λ j u n e t. k.knows j u e t) knows;
     seated = seated_seen s.views id v w view stays seat made k.seated;
+    gathers = gathers_set s.views id v w view (ap (λ (z : ℕ × List (ℕ × List Step)). z.1) stays.1) (λ e. (stays.0, stays.3 ∙ e, seat, made)) k.gathers;
     firsts = firsts_with s.views id v w (shape.first.value.items, opening_in shape, shape.offers) view first at_table k.firsts;
     started = k.started;
     ended = k.ended;
@@ -184,6 +186,7 @@ module _ {M : Type 0} (stands : Stands M) where
         owner = owner;
         knows = views_with s.views id (did step w) (after_step k.world at step) owner others knows;
         seated = seated_step s.views id v w step view at_table seat made on k.seated;
+        gathers = gathers_set s.views id v (did step w) view (let same = on.same in ap (λ (z : ℕ × List (ℕ × List Step)). z.1) same.1) (λ e. absurd (on.goes e)) k.gathers;
         firsts = firsts_with s.views id v (did step w) (shape.first.value.items, opening_in shape, shape.offers) view first at_table k.firsts;
         started = λ some_first. starts-step k.world at step kept allowed (HadStarted (opening_in shape)) (acts_in stands shape.first.value.items).starts (k.started some_first) (lives some_first).0;
         ended = λ some_first. ends-step k.world at step kept allowed (HadEnded (opening_in shape)) (acts_in stands shape.first.value.items).ends (k.ended some_first) (lives some_first).1;

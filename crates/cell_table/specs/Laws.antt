@@ -61,8 +61,11 @@ pub record IsLawfulMoment {M : Type 0} (stands : Stands M) (shape : Shape M) (s 
   -- `binder` says who holds
   pub nacks : 0 < length shape.first.value.items → (n : NackName) (b : Binding) → binding_at (table_of shape s) n ≡ Some b
       → (is_fresh (cell_at (table_of shape s) (bound_row n b)) ≡ true) ⊎ IsNackThere stands shape.first.value.items (table_of shape s) n b
-  -- no row is held by two passes, and none was taken by two
+  -- no row is held by two passes
   pub one_holder : (i j : ℕ) (u v : View M) (r : Row) → IsAt s i u → IsAt s j v → Has u.seen.held r → Has v.seen.held r → i ≡ j
+  -- nor do two stand behind the last row of one thread
+  pub one_behind : (i j : ℕ) (u v : View M) (t : ℕ) → IsAt s i u → IsAt s j v → Has u.seen.lasts t → Has v.seen.lasts t → i ≡ j
+  -- and no row was taken by two
   pub one_taker : (i j : ℕ) (u v : View M) (r : Row) → IsAt s i u → IsAt s j v → Has u.made (Take r) → Has v.made (Take r) → i ≡ j
   -- no thread was started by two, and none was ended by two
   pub one_starter : (i j : ℕ) (u v : View M) (p : ℕ) (q r : Row) → IsAt s i u → IsAt s j v → Has u.made (Start q p) → Has v.made (Start r p) → i ≡ j

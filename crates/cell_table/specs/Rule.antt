@@ -10,7 +10,7 @@ use Rattle.protocol_values.specs.declared.Step.{Step}
 use Rattle.protocol_values.specs.declared.Step.TheVariants.{Bind}
 use Rattle.cell_table.specs.declared.view.View.{View}
 use Rattle.cell_table.specs.declared.view.Shape.{Shape}
-use Rattle.cell_table.specs.declared.view.Stage.TheVariants.{Aside, Resting}
+use Rattle.cell_table.specs.declared.view.Stage.TheVariants.{Aside, Left, Resting}
 use Rattle.protocol_values.specs.declared.Offer.{Offer}
 use Rattle.protocol.specs.Acting.{EachEnded, EachStarted, acts_in}
 use Rattle.protocol.specs.Ledgers.{Ledger, ledger_of}
@@ -20,7 +20,7 @@ use Rattle.protocol.specs.Openings.{Begins, HadEnded, HadStarted, IsOpening, Ope
 use Rattle.protocol.specs.Worlds.{World, first_row, Plays, nack_of_row}
 use Rattle.cell_table.specs.declared.view.Seen.{Seen}
 use Rattle.cell_table.specs.Sight.{Has, IsDraft}
-use Rattle.cell_table.specs.Views.{Knows, RunsIn, at_stage, opening_by, opening_in, with_results}
+use Rattle.cell_table.specs.Views.{Knows, RunsIn, opening_by, opening_in}
 use Rattle.protocol.specs.Short.{short_len, wide_table}
 use Rattle.protocol.specs.Tables.{Table, cell_at, course_at, is_fresh, is_row, is_taken, row_eq, word_at}
 use Rattle.protocol_values.specs.Words.{count_of}
@@ -45,6 +45,11 @@ steps_by id (m ∷ moves) = if m.pass == id then (m.seat, m.step) ∷ steps_by i
 abbrev pub at_seat : ℕ → List Step → List (Seat × Step)
 at_seat seat [] = []
 at_seat seat (step ∷ steps) = (record { 0 = seat }, step) ∷ at_seat seat steps
+
+-- no two of these are of one seat
+abbrev pub AreDistinct : List (ℕ × List Step) → Type 0
+AreDistinct [] = Unit {0}
+AreDistinct (x ∷ xs) = ((steps : List Step) → Has xs (x.0, steps) → ⊥) × AreDistinct xs
 
 module _ {M : Type 0} where
   -- what a pass knows of its table's start: what stood for the threads, from what the table goes on, and how many offers a row has room for
@@ -71,6 +76,17 @@ module _ {M : Type 0} where
     pub binders : (id : ℕ) (v : View M) (k : ℕ) (r : Row) (scope : ℕ) → get_elem? views id ≡ some v → Has v.made (Bind k r scope) → Has v.seen.held r
     -- and whoever has begun with a row
     pub begun : (id : ℕ) (v : View M) (r : Row) → get_elem? views id ≡ some v → Has v.seen.begun r → Has v.seen.held r
+
+  -- WHO LEFT THE TABLE, and to whom. A pass that has left makes no more steps, so these are all that it made.
+  abbrev pub HasLeft : List (View M) → ℕ → List Step → Type 0
+  HasLeft views seat steps = (id : ℕ) × (v : View M) × (get_elem? views id ≡ some v) × (0 < v.threads) × (v.stage ≡ Left) × (v.seat ≡ seat) × (v.made ≡ steps)
+
+  pub record Gathers (views : List (View M)) : Type 0 where
+    -- each that a pass has gathered has left
+    pub left : (id : ℕ) (v : View M) (seat : ℕ) (steps : List Step) → get_elem? views id ≡ some v → Has v.gathered (seat, steps) → HasLeft views seat steps
+    -- and is gathered by one pass, once
+    pub once : (i j : ℕ) (u v : View M) (seat : ℕ) (a b : List Step) → get_elem? views i ≡ some u → get_elem? views j ≡ some v → Has u.gathered (seat, a) → Has v.gathered (seat, b) → i ≡ j
+    pub distinct : (id : ℕ) (v : View M) → get_elem? views id ≡ some v → AreDistinct v.gathered
 
   -- the table for which the words stand at this moment
   abbrev pub table_of : {S : Type 0} → Shape M → State S (View M) → Table
@@ -167,6 +183,7 @@ module _ {M : Type 0} (stands : Stands M) where
     -- a pass that is of no table any more knows nothing
     pub knows : (id : ℕ) (v : View M) → get_elem? s.views id ≡ some v → 0 < v.threads → Knows world owner id v
     pub seated : Seated s.views
+    pub gathers : Gathers s.views
     -- a pass knows what stood for the threads at first, from what the table goes on, and how many offers a row has room for
     pub firsts : (id : ℕ) (v : View M) → get_elem? s.views id ≡ some v → 0 < v.threads → beginning v ≡ (shape.first.value.items, opening_in shape, shape.offers)
     -- in a table of machines a thread had started before, or has where what stood for another one had started it, and had ended, or
@@ -202,7 +219,7 @@ module _ {M : Type 0} where
 
   -- the first pass: it has dealt the seats below this one, and holds nothing itself
   abbrev pub dealer : Shape M → ℕ → View M
-  dealer shape k = record { threads = shape.threads; rows = shape.rows; offers = shape.offers; passes = shape.passes; lives = (opening_in shape).threads; nacks = (opening_in shape).nacks; first = shape.first.value.items; results = []; dealt = k; seat = 0; stage = Aside; from = first_row 0; seen = seen_nothing []; made = [] }
+  dealer shape k = record { threads = shape.threads; rows = shape.rows; offers = shape.offers; passes = shape.passes; lives = (opening_in shape).threads; nacks = (opening_in shape).nacks; first = shape.first.value.items; results = []; dealt = k; seat = 0; stage = Aside; from = first_row 0; seen = seen_nothing []; made = []; gathered = [] }
 
 -- the thread runs at first, and falls to seat k
 abbrev pub falls_to : Opening → ℕ → ℕ → ℕ → Bool
@@ -248,11 +265,18 @@ heard s told = record s { opened = s.opened ++ told.opened; words = s.words ++ t
 
 module _ {M : Type 0} where
   abbrev pub told_pass : View M → View M
-  told_pass v = record v { dealt = v.passes; stage = Aside; seen = told_of v.seen; made = [] }
+  told_pass v = record v { dealt = v.passes; stage = Aside; seen = told_of v.seen; made = []; gathered = [] }
+
+  -- the pass that has left, and what it tells then: its seat besides, and the steps that it made
+  abbrev pub left_pass : View M → View M
+  left_pass v = record v { stage = Left }
+
+  abbrev pub told_last : View M → View M
+  told_last v = record v { dealt = v.passes; stage = Aside; seen = told_of v.seen; made = []; gathered = (v.seat, v.made) ∷ [] }
 
   abbrev pub heard_pass : View M → View M → View M
-  heard_pass v told = with_results (v.results ++ told.results) (at_stage v.stage (heard v.seen told.seen) v)
+  heard_pass v told = record v { results = v.results ++ told.results; seen = heard v.seen told.seen; gathered = v.gathered ++ told.gathered }
 
   -- the pass that has told all that it had seen: it is of no table any more
   abbrev pub spent_pass : View M
-  spent_pass = record { threads = 0; rows = 0; offers = 0; passes = 0; lives = []; nacks = []; first = []; results = []; dealt = 0; seat = 0; stage = Resting; from = first_row 0; seen = seen_nothing []; made = [] }
+  spent_pass = record { threads = 0; rows = 0; offers = 0; passes = 0; lives = []; nacks = []; first = []; results = []; dealt = 0; seat = 0; stage = Resting; from = first_row 0; seen = seen_nothing []; made = []; gathered = [] }

@@ -16,7 +16,7 @@ use Rattle.cell_table.specs.declared.view.Seen.{Seen}
 use Rattle.cell_table.specs.declared.view.Shape.{Shape}
 use Rattle.cell_table.specs.declared.view.View.{View}
 use Rattle.cell_table.specs.declared.view.Stage.{Stage}
-use Rattle.cell_table.specs.declared.view.Stage.TheVariants.{Resting, Claims, Joins, Aside}
+use Rattle.cell_table.specs.declared.view.Stage.TheVariants.{Resting, Claims, Joins, Aside, Left}
 use Rattle.protocol.specs.Tables.{course_at, is_fresh, is_taken, names, word_at, cell_at, joined_at, binding_at, bound_row, carried_at}
 use Rattle.protocol.specs.Standing.{Result}
 use Rattle.protocol.specs.Openings.{Opening, is_running, opening_of, thread_in}
@@ -34,6 +34,7 @@ IsClaimer Resting r = ⊥
 IsClaimer (Claims m) r = m ≡ r
 IsClaimer (Joins m o j) r = m ≡ r
 IsClaimer Aside r = ⊥
+IsClaimer Left r = ⊥
 
 -- where a call is between two steps
 abbrev pub Staged : World → (Row → ℕ) → ℕ → Stage → Type 0
@@ -41,6 +42,7 @@ Staged w owner id Resting = Unit {0}
 Staged w owner id (Claims m) = (owner m ≡ id) × (cell_at w.table m ≡ Claimed) × ((q : Row) → names (joined_at w.table q) m ≡ false)
 Staged w owner id (Joins m o j) = (owner m ≡ id) × (cell_at w.table m ≡ Claimed) × (joined_at w.table o ≡ Some j) × (names (Some j) m ≡ true)
 Staged w owner id Aside = Unit {0}
+Staged w owner id Left = Unit {0}
 
 -- from what the table goes on
 abbrev pub opening_in : {M : Type 0} → Shape M → Opening

@@ -1,15 +1,18 @@
 //! The end of a table: its words become a ledger.
 
-ghost use Rattle.std.specs.Prelude.{◌≡◌, ◌*◌, ◌<◌, ◌≤◌, ℕ, IfSome, List, length, None, Some, slice_get};
+ghost use Rattle.std.specs.Prelude.{◌≡◌, ◌+◌, ◌*◌, ◌<◌, ◌≤◌, ℕ, IfNone, IfSome, List, length, None, Some, slice_get};
 ghost use Rattle.protocol.specs.Openings.{HadEnded, HadStarted, greatest, state_in, word_for};
 ghost use Rattle.protocol.specs.Short.{short_len};
 ghost use Rattle.protocol.specs.Tables.{carried_by, cell_at};
-ghost use Rattle.cell_table.specs.Closings.{HandsOut, IsHomeOf, IsOpenAt, words_of};
+ghost use Rattle.cell_table.specs.Closings.{AreInTurn, HandsOut, HandsOutWaiting, HasAll, IsHandedOut, IsHomeOf, IsOpenAt, MadeBy, words_of};
 ghost use Rattle.std.specs.Slots.{slots_items, slots_len, IsFull};
 ghost use Rattle.protocol_values.specs.declared.Course.TheVariants.{Unstarted};
 ghost use Rattle.protocol_values.specs.declared.Joined.{Joined};
 ghost use Rattle.protocol_values.specs.declared.Offer.{Offer};
 ghost use Rattle.protocol_values.specs.declared.Row.{Row};
+ghost use Rattle.protocol_values.specs.declared.Step.{Step};
+ghost use Rattle.protocol_values.specs.declared.Step.TheVariants.{Open, Take};
+ghost use Rattle.cell_table.specs.declared.view.Stage.TheVariants.{Resting};
 ghost use Rattle.protocol_values.specs.declared.NackName.{NackName};
 ghost use Rattle.protocol_values.specs.declared.Binding.{Binding};
 ghost use Rattle.protocol.specs.Ledgers.{IsLawful, binding_in, carried_in, course_in, joined_in, offer_in};
@@ -56,6 +59,10 @@ impl<M: Resident + Drop> Board<M> {
         ensures results { (t : ℕ) (results : List Result) → Has seat.me.0.results (t, results) → AreResults result.0 t results }
         ensures own { (r : Row) (j : Joined) (offers : List Offer) → IsDraft seat.me.0.seen r offers → joined_in result.0 r ≡ Some j → (j.own < length offers) × (offer_in result.0 r j.own ≡ slice_get offers j.own) }
         ensures machines { 0 < length self.shape.first.value.items → HandsOut M.stands self.shape.first.value.items result.0 result.1.items }
+        ensures waiting { 0 < length self.shape.first.value.items → HandsOutWaiting result.0 result.1.items }
+        ensures few { seat.me.0.stage ≡ Resting → length seat.me.0.gathered + 1 ≤ seat.me.0.passes }
+        ensures opened { HasAll seat.me.0 → (r : Row) (n : ℕ) (o : Offer) → offer_in result.0 r n ≡ Some o → (steps : List Step) × MadeBy seat.me.0 steps × Has steps (Open r) }
+        ensures handed { 0 < length self.shape.first.value.items → HasAll seat.me.0 → (r : Row) (steps : List Step) → MadeBy seat.me.0 steps → Has steps (Open r) → ((others : List Step) → MadeBy seat.me.0 others → Has others (Take r) → ⊥) → IsHandedOut result.1.items r.thread }
         ensures count { length result.1.items ≡ length places.items }
         ensures acts { 0 < length self.shape.first.value.items → ActsAs (before_of (opening_in self.shape)) (acts_in M.stands self.shape.first.value.items) result.0 }
     {
@@ -88,10 +95,12 @@ fn take_home<M: Drop>(
 ) -> Vec<Option<M>>
     requires full { IsFull closed.slots }
     requires shape { (shape.now.threads ≤ 64) × (shape.now.rows ≤ 1024) × (shape.now.offers ≤ 8) × (length words.now ≡ shape.now.threads * short_len shape.now.offers shape.now.rows) }
+    requires turns { AreInTurn shape.now words.now }
     requires slots { slots_len closed.slots ≤ shape.now.threads }
     requires places { length places.items ≡ slots_len closed.slots }
     requires empty { (t : ℕ) (value : M) → slice_get places.items t ≡ Some (Some value) → ⊥ }
     ensures home { (t : ℕ) (value : M) → slice_get result.items t ≡ Some (Some value) → IsHomeOf shape.now words.now (slots_items closed.slots) t value }
+    ensures all { (t : ℕ) (value : M) → IsHomeOf shape.now words.now (slots_items closed.slots) t value → slice_get result.items t ≡ Some (Some value) }
     ensures count { length result.items ≡ length places.items }
 {
     let mut closed = closed;
@@ -109,8 +118,10 @@ fn take_home<M: Drop>(
 /// What lies in the slot of the thread, where a row of it is opened that nobody has taken.
 fn at_home<M: Drop>(words: &[u64], shape: &Shape<M>, thread: u8, value: Option<M>) -> Option<M>
     requires shape { (shape.now.threads ≤ 64) × (shape.now.rows ≤ 1024) × (shape.now.offers ≤ 8) × (length words.now ≡ shape.now.threads * short_len shape.now.offers shape.now.rows) }
+    requires turns { AreInTurn shape.now words.now }
     requires thread { thread < shape.now.threads }
-    ensures { (m : M) → result ≡ Some m → (value ≡ Some m) × ((g : ℕ) × IsOpenAt shape.now words.now thread g) }
+    ensures home { (m : M) → result ≡ Some m → (value ≡ Some m) × ((g : ℕ) × IsOpenAt shape.now words.now thread g) }
+    ensures all { (g : ℕ) → IsOpenAt shape.now words.now thread g → result ≡ value }
 {
     match open_row(words, shape, thread) {
         Some(_) => value,
@@ -122,8 +133,10 @@ fn at_home<M: Drop>(words: &[u64], shape: &Shape<M>, thread: u8, value: Option<M
 /// ones, and those that are not opened its last ones, so it is found by halves.
 fn open_row<M>(words: &[u64], shape: &Shape<M>, thread: u8) -> Option<u32>
     requires shape { (shape.now.threads ≤ 64) × (shape.now.rows ≤ 1024) × (shape.now.offers ≤ 8) × (length words.now ≡ shape.now.threads * short_len shape.now.offers shape.now.rows) }
+    requires turns { AreInTurn shape.now words.now }
     requires thread { thread < shape.now.threads }
-    ensures { IfSome result (λ g. IsOpenAt shape.now words.now thread g) }
+    ensures found { IfSome result (λ g. IsOpenAt shape.now words.now thread g) }
+    ensures none { IfNone result ((g : ℕ) → IsOpenAt shape.now words.now thread g → ⊥) }
 {
     let mut from = 0;
     let mut to = shape.rows as u32;

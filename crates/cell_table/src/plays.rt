@@ -2,7 +2,7 @@
 //! `Knows` (`specs/Views`), and of machines `Housed` (`specs/Rule`). With each step stands the clause of these that it
 //! leans on; that the rule then holds again is proved where `steps` makes it (`proofs/Allowing`).
 
-ghost use Rattle.cell_table.specs.Rule.{dealt_one, dealt_pass, heard_pass, spent_pass, told_pass};
+ghost use Rattle.cell_table.specs.Rule.{dealt_one, dealt_pass, heard_pass, left_pass, spent_pass, told_last, told_pass};
 ghost use Rattle.cell_table.specs.Told.{claimed, drafted, finished, glanced, granted, has_begun, has_read, joined, looked, looked_life, looked_nack, opened, sealed, taken, tried_bind, tried_start, turned_to, yielded};
 
 use crate::view::View;
@@ -157,6 +157,15 @@ impl<M> Split<View<M>> for Tell {
     ghost left = { λ v. v };
 
     ghost right = { told_pass };
+}
+
+/// A pass leaves the table: it makes no more steps, and the right part has its seat, and the steps that it made.
+pub struct Leave;
+
+impl<M> Split<View<M>> for Leave {
+    ghost left = { left_pass };
+
+    ghost right = { told_last };
 }
 
 impl<M> JoinSeats<View<M>> for Tell {

@@ -1,12 +1,13 @@
 //! One pass tells another what it has seen.
 
 ghost use Rattle.std.specs.Prelude.{◌≡◌};
-ghost use Rattle.cell_table.specs.Rule.{heard_pass, told_pass};
+ghost use Rattle.cell_table.specs.Rule.{heard_pass, left_pass, told_last, told_pass};
+ghost use Rattle.cell_table.specs.declared.view.Stage.TheVariants.{Resting};
 ghost use Rattle.cell_table.specs.Seats.{Sits, StaysSeated};
 ghost use Rattle.cell_table.specs.Views.{opening_in};
 
 use crate::board::Board;
-use crate::plays::{Glance, Tell};
+use crate::plays::{Glance, Leave, Tell};
 use crate::view::View;
 use atomic_table::Seat;
 use protocol::Resident;
@@ -21,6 +22,21 @@ impl<M: Resident> Board<M> {
         ensures to { to.new.me.0 ≡ heard_pass to.old.me.0 (told_pass from.old.me.0) }
     {
         let told = self.words.shared.split_seat::<Tell>(from);
+        self.words.shared.join_seat::<Tell>(to, told);
+        self.glance(to);
+    }
+
+    /// The same, and `from` leaves the table by it: it makes no more steps. `to` has gathered its seat from now on, and
+    /// the steps that it made.
+    pub fn leave(&self, from: &mut Seat<Option<M>, View<M>>, to: &mut Seat<Option<M>, View<M>>)
+        requires sits { Sits self.now from.old × Sits self.now to.old }
+        requires rests { from.old.me.0.stage ≡ Resting }
+        ensures sits { (from.new.id ≡ from.old.id) × Sits self.now from.new × (to.new.id ≡ to.old.id) × Sits self.now to.new }
+        ensures from { from.new.me.0 ≡ left_pass from.old.me.0 }
+        ensures out { (from.new.me.1 ≡ from.old.me.1) × (to.new.me.1 ≡ to.old.me.1) }
+        ensures to { to.new.me.0 ≡ heard_pass to.old.me.0 (told_last from.old.me.0) }
+    {
+        let told = self.words.shared.split_seat::<Leave>(from);
         self.words.shared.join_seat::<Tell>(to, told);
         self.glance(to);
     }

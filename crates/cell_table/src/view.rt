@@ -30,6 +30,8 @@ pub enum Stage {
     Joins(Row, Row, Joined),
     /// The pass makes no steps: it deals the rows, or is what one pass tells another.
     Aside,
+    /// The pass has left the table: it makes no more steps.
+    Left,
 }
 
 /// What a pass has seen. It only grows, but for the drafts of a held row that is not opened yet.
@@ -86,4 +88,6 @@ pub struct View<M> {
     pub seen: Seen,
     /// The steps of the protocol that the pass has made, the last one first.
     pub made: LinkedList<Step>,
+    /// Of the passes that left the table to this one: their seats, and the steps that they made.
+    pub gathered: LinkedList<(u8, LinkedList<Step>)>,
 }

@@ -54,6 +54,7 @@ returns g c shape s k =
           subst (λ (t : Table). (n : NackName) (b : Binding) → binding_at t n ≡ Some b → (is_fresh (cell_at t (bound_row n b)) ≡ true) ⊎ IsNackThere g.M.Resident.stands shape.first.value.items t n b) k.table
           (nack_stands g.M.Resident.stands shape.first.value.items k.world kept s.homes s.views (k.housed some_first));
       one_holder = λ i j u v r at also held too. sym ((k.knows i u at.0 at.1).mine r held).0 ∙ ((k.knows j v also.0 also.1).mine r too).0;
+      one_behind = λ i j u v t at also last too. sym ((k.knows i u at.0 at.1).lasts t last).0 ∙ ((k.knows j v also.0 also.1).lasts t too).0;
       one_taker = λ i j u v r at also took too.
           taken_once start k.world k.moves s.views i j u v r begun k.played k.interleaved at.0 also.0 took too;
       one_starter = λ i j u v p q r at also started too.

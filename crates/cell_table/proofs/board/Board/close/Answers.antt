@@ -3,13 +3,14 @@ use Rattle.protocol.specs.Ledgers.{IsLawful, Ledger, ledger_of, binding_in, carr
 use Rattle.cell_table.specs.Views.{opening_in}
 use Rattle.protocol.specs.Acting.{ActsAs, EndsAt, HasStart, acts_in, before_of}
 use Rattle.protocol.specs.Standing.{AreResults}
-use Rattle.protocol.proofs.LedgerLemmas.{course_in_ledger}
+use Rattle.protocol.proofs.LedgerLemmas.{course_in_ledger, offer_in_ledger}
 use Rattle.protocol.proofs.Readings.{course_outside}
 use Rattle.std.specs.Slots.{slots_items}
-use Rattle.cell_table.specs.Closings.{HandedOut, IsHomeOf}
+use Rattle.cell_table.specs.Closings.{AreInTurn, HandedOut, IsHomeOf}
 use Rattle.protocol.specs.Short.{wide_table}
 use Rattle.cell_table.proofs.Allowing.{sized}
-use Rattle.cell_table.proofs.Endings.{ended, final_acts, final_before, final_bound, final_carried, final_ended, final_lawful, final_joined, final_lack, final_machine, final_offer, final_over, final_own, final_results, final_started, sized_ledger}
+use Rattle.cell_table.proofs.Endings.{ended, final_acts, final_before, final_bound, final_carried, final_ended, final_few, final_kept, final_lawful, final_joined, final_lack, final_machine, final_offer, final_opened, final_over, final_own, final_results, final_started, final_turns, final_waiting, sized_ledger}
+use Rattle.cell_table.proofs.InTurn.{offers_open}
 use Rattle.cell_table.proofs.board.Board.close.Goals as goal
 
 pub of_short_words-ledger-requires-clause-lawful : goal.of_short_words-ledger-requires-clause-lawful
@@ -143,3 +144,45 @@ returns-clause-machines g c some_first t value h =
     (ended g.M.Resident.stands _ _ _ _ _ _ _ c.args.self.keyed c.copy_words-words.ensures c.close_with-closed.ensures.values.2) some_first t value
     (subst (λ (ws : List ℕ). IsHomeOf c.args.self.shape ws (slots_items c.close_with-closed.result.slots) t value) c.as_slice.ensures.value (c.take_home-machines.ensures.home t value h)) in
     subst (λ (l : Ledger). HandedOut g.M.Resident.stands c.args.self.shape.first.value.items l t value) (sym (sized_ledger c.args.self.shape c.copy_words-words.result.items c.args.self.stamps _ c.args.self.opens.2 c.of_short_words-ledger.ensures)) home
+
+pub take_home-machines-requires-clause-turns : goal.take_home-machines-requires-clause-turns
+take_home-machines-requires-clause-turns g c =
+    let size : c.args.seat.me.0.threads ≡ c.args.self.shape.threads = (search rules) in
+    let some = c.args.self.small.0 in
+    subst (λ (ws : List ℕ). AreInTurn c.args.self.shape ws) (sym c.as_slice.ensures.value) (final_turns g.M.Resident.stands c.args.self.shape c.args.seat.id c.args.seat.me.0 (omega arith) c.copy_words-words.result.items _
+    (ended g.M.Resident.stands _ _ _ _ _ _ _ c.args.self.keyed c.copy_words-words.ensures c.close_with-closed.ensures.values.2))
+
+pub returns-clause-waiting : goal.returns-clause-waiting
+returns-clause-waiting g c some_first r n o offers waits =
+    let size : c.args.seat.me.0.threads ≡ c.args.self.shape.threads = (search rules) in
+    let some = c.args.self.small.0 in
+    let same = sized_ledger c.args.self.shape c.copy_words-words.result.items c.args.self.stamps _ c.args.self.opens.2 c.of_short_words-ledger.ensures in
+    let home = final_waiting g.M.Resident.stands c.args.self.shape c.args.seat.id c.args.seat.me.0 (omega arith) c.copy_words-words.result.items _
+    (ended g.M.Resident.stands _ _ _ _ _ _ _ c.args.self.keyed c.copy_words-words.ensures c.close_with-closed.ensures.values.2) some_first r n o
+    (subst (λ (l : Ledger). offer_in l r n ≡ Some o) same offers) (subst (λ (l : Ledger). joined_in l r ≡ None) same waits) in
+    (home.0, c.take_home-machines.ensures.all r.thread home.0 (subst (λ (ws : List ℕ). IsHomeOf c.args.self.shape ws (slots_items c.close_with-closed.result.slots) r.thread home.0) (sym c.as_slice.ensures.value) home.1))
+
+pub returns-clause-few : goal.returns-clause-few
+returns-clause-few g c rests =
+    let size : c.args.seat.me.0.threads ≡ c.args.self.shape.threads = (search rules) in
+    let some = c.args.self.small.0 in
+    final_few g.M.Resident.stands c.args.self.shape c.args.seat.id c.args.seat.me.0 (omega arith) c.copy_words-words.result.items _
+    (ended g.M.Resident.stands _ _ _ _ _ _ _ c.args.self.keyed c.copy_words-words.ensures c.close_with-closed.ensures.values.2) rests
+
+pub returns-clause-opened : goal.returns-clause-opened
+returns-clause-opened g c all r n o offers =
+    let size : c.args.seat.me.0.threads ≡ c.args.self.shape.threads = (search rules) in
+    let some = c.args.self.small.0 in
+    let same = sized_ledger c.args.self.shape c.copy_words-words.result.items c.args.self.stamps _ c.args.self.opens.2 c.of_short_words-ledger.ensures in
+    let offered : offer_in (ledger_of (sized c.args.self.shape c.copy_words-words.result.items)) r n ≡ Some o = subst (λ (l : Ledger). offer_in l r n ≡ Some o) same offers in
+    final_opened g.M.Resident.stands c.args.self.shape c.args.seat.id c.args.seat.me.0 (omega arith) c.copy_words-words.result.items _
+    (ended g.M.Resident.stands _ _ _ _ _ _ _ c.args.self.keyed c.copy_words-words.ensures c.close_with-closed.ensures.values.2) all r
+    (offers_open (sized c.args.self.shape c.copy_words-words.result.items) r n o (sym (λ i. offer_in_ledger (sized c.args.self.shape c.copy_words-words.result.items) i r n) ∙ offered))
+
+pub returns-clause-handed : goal.returns-clause-handed
+returns-clause-handed g c some_first all r steps made opens untook =
+    let size : c.args.seat.me.0.threads ≡ c.args.self.shape.threads = (search rules) in
+    let some = c.args.self.small.0 in
+    let home = final_kept g.M.Resident.stands c.args.self.shape c.args.seat.id c.args.seat.me.0 (omega arith) c.copy_words-words.result.items _
+    (ended g.M.Resident.stands _ _ _ _ _ _ _ c.args.self.keyed c.copy_words-words.ensures c.close_with-closed.ensures.values.2) some_first all r steps made opens untook in
+    (home.0, c.take_home-machines.ensures.all r.thread home.0 (subst (λ (ws : List ℕ). IsHomeOf c.args.self.shape ws (slots_items c.close_with-closed.result.slots) r.thread home.0) (sym c.as_slice.ensures.value) home.1))

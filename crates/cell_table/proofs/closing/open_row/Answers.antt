@@ -1,0 +1,25 @@
+use Rattle.std.proofs.Common.{◌∙◌, ap, arith, sym}
+use Rattle.protocol.specs.Tables.{is_fresh, is_taken}
+use Rattle.cell_table.proofs.InTurn.{all_taken, none_opened, none_outside}
+use Rattle.cell_table.proofs.closing.open_row.Goals as goal
+
+pub loop-from-init : goal.loop-from-init
+loop-from-init g c = (omega arith, omega arith, (λ k below. absurd (omega (arith, below))), none_outside c.args.shape.now c.args.words.now c.args.thread)
+
+-- the row in the middle was taken
+pub loop-from-preserved-in-Taken : goal.loop-from-preserved-in-Taken
+loop-from-preserved-in-Taken g c = (
+  omega arith,
+  omega arith,
+  all_taken c.args.shape.now c.args.words.now c.args.thread c.requires.turns _ (ap is_taken (sym c.cell_there.ensures ∙ c.in-Taken.is)),
+  c.loop-from.invariant.3,
+)
+
+-- or is not opened
+pub loop-from-preserved : goal.loop-from-preserved
+loop-from-preserved g c = (
+  omega arith,
+  omega arith,
+  c.loop-from.invariant.2,
+  none_opened c.args.shape.now c.args.words.now c.args.thread c.requires.turns _ (ap is_fresh (sym c.cell_there.ensures ∙ c.in-Fresh.is)),
+)
