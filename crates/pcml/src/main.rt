@@ -2,8 +2,10 @@
 #![tactic(auto)]
 
 mod progress;
+mod whole;
 
 use crate::progress::Progress;
+use crate::whole::tell_whole;
 use pcml_tool::{BAD_WORDS, Fault, SystemFiles, command, tell};
 use std::alloc::{AllocError, Global};
 use std::io::{ErrorKind, IsTerminal, Write};
@@ -16,6 +18,9 @@ use std::{env, io, thread};
 
 /// The bytes of stack for which a script may be as deep as its limit lets it.
 const STACK: usize = 1 << 20;
+
+/// The status after a fault, and after some other answers.
+const FAULT: u8 = 1;
 
 /// So many bytes of memory that no limit on them is near.
 const AMPLE: usize = 64 << 20;
@@ -30,8 +35,9 @@ fn run<
     let words: Vec<&str> = words.iter().map(|word| word.as_str()).collect(rt.alloc())?;
     let mut files = SystemFiles::new(rt);
     let mut out = io::writer(rt);
+    let is_seen = person.is_some();
     let mut watch = Progress::new(rt, person);
-    Ok(command(
+    let status = command(
         rt,
         rt.alloc(),
         words.as_slice(),
@@ -39,7 +45,11 @@ fn run<
         &mut out,
         err,
         &mut watch,
-    ))
+    );
+    if is_seen && status == FAULT {
+        tell_whole(rt, &words, &mut files, err);
+    }
+    Ok(status)
 }
 
 /// Runs, and tells why where that fails. It answers the status.

@@ -1,0 +1,80 @@
+//! What a person is told besides, where one looks.
+
+ghost use Rattle.std.specs.Prelude.{IfOk, IfSome};
+ghost use Rattle.pcml_tool.specs.Command.{AnswersWhyScript};
+ghost use Rattle.pcml_tool.specs.declared.from_files.Verdict.TheVariants.{Denied};
+
+use crate::fault::Fault;
+use crate::from_files::{Verdict, why_file};
+use pcml_files::Source;
+use pcml_request::{Request, Running, Search, read_words};
+use std::alloc::Global;
+
+/// The files that a request reads: that of a script whose first fault it does not tell itself, and another one.
+#[derive(Clone, Copy, Debug)]
+pub struct FilesRead<'a> {
+    pub script: Option<&'a str>,
+    pub other: Option<&'a str>,
+}
+
+/// The files that words ask to be read. Words that are not understood ask for none.
+pub fn files_read<'a>(alloc: Global, words: &[&'a str]) -> FilesRead<'a> {
+    match read_words(alloc, words) {
+        Ok(asked) => files_of(asked),
+        Err(_) => FilesRead {
+            script: None,
+            other: None,
+        },
+    }
+}
+
+/// The files that the request reads.
+fn files_of(asked: Request<'_>) -> FilesRead<'_> {
+    let (script, other) = match asked {
+        Request::Run(Running { script, .. })
+        | Request::Outcomes(Search { script, .. })
+        | Request::Check(script) => (Some(script), None),
+        Request::Replay {
+            script,
+            journal,
+            ..
+        }
+        | Request::Why {
+            script,
+            journal,
+            ..
+        }
+        | Request::Chart {
+            script,
+            journal,
+            ..
+        }
+        | Request::Next {
+            script,
+            journal,
+            ..
+        }
+        | Request::Stats {
+            script,
+            journal,
+            ..
+        } => (Some(script), Some(journal)),
+        Request::Play(file) | Request::WhyScript(file) => (None, Some(file)),
+        Request::Meet(_) | Request::Explain(_) | Request::Version => (None, None),
+    };
+    FilesRead { script, other }
+}
+
+/// What `why FILE` tells of the text in the file, where that is no script.
+pub fn first_fault<S: Source>(
+    alloc: Global,
+    source: &mut S,
+    name: &str,
+) -> Result<Option<Vec<u8>>, Fault>
+    ensures { IfOk result (λ told. IfSome told (λ text. AnswersWhyScript (S.holds source.old) name.now Denied text.items)) }
+{
+    match why_file(alloc, source, name)? {
+        (Verdict::Denied, text) => Ok(Some(text)),
+        _ => Ok(None),
+    }
+}
