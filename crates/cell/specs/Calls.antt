@@ -37,6 +37,8 @@ pub record PassOf (M : Type 0) : Type 0 where
   -- the threads whose slots are out with the pass, the last one first, unless the pass turns them, and what lies in each: none
   -- where it was fetched
   pub out : List (ℕ × Option M)
+  -- of the passes that left the table to this one: their seats, and the steps that they made
+  pub gathered : List (ℕ × List Step)
 
 -- those of a table of no machines
 abbrev pub Grid : Type 0
@@ -77,6 +79,10 @@ module _ {M : Type 0} where
   -- it is a table of machines
   abbrev pub IsHousing : GridOf M → Type 0
   IsHousing g = 0 < length g.first
+
+  -- the pass made these steps, or one that left the table to it
+  abbrev pub HasSteps : PassOf M → List Step → Type 0
+  HasSteps p steps = (steps ≡ p.made) ⊎ ((seat : ℕ) × Has p.gathered (seat, steps))
 
   -- MACHINES: of the slots that are out with the pass the front one is the row's thread's, and holds this
   abbrev pub Holds : PassOf M → Row → Option M → Type 0

@@ -10,7 +10,8 @@ ghost use Rattle.protocol_values.specs.declared.Offer.{Offer};
 ghost use Rattle.protocol_values.specs.declared.Row.{Row};
 ghost use Rattle.protocol_values.specs.declared.Cell.TheVariants.{Claimed};
 ghost use Rattle.protocol_values.specs.declared.Course.TheVariants.{Unstarted};
-ghost use Rattle.protocol_values.specs.declared.Step.TheVariants.{Finish, Open};
+ghost use Rattle.protocol_values.specs.declared.Step.TheVariants.{Finish, Open, Take};
+ghost use Rattle.protocol_values.specs.declared.Step.{Step};
 ghost use Rattle.protocol_values.specs.declared.NackName.{NackName};
 ghost use Rattle.protocol_values.specs.declared.Binding.{Binding};
 ghost use Rattle.protocol.specs.Ledgers.{IsLawful, binding_in, carried_in, course_in, joined_in, offer_in};
@@ -42,8 +43,8 @@ ghost use Rattle.cell.specs.Attempts.{
   start_made,
   take_made,
 };
-ghost use Rattle.cell.specs.Calls.{CanFetch, Fetched, Holds, HoldNothing, HoldsAt, IsFollowing, IsHousing, IsNackOf, IsParked, IsPassOf, IsRowOf, IsStandOf, KeepsResults, PassOf, PassView, opening_at};
-ghost use Rattle.cell_table.specs.Closings.{HandsOut};
+ghost use Rattle.cell.specs.Calls.{CanFetch, Fetched, HasSteps, Holds, HoldNothing, HoldsAt, IsFollowing, IsHousing, IsNackOf, IsParked, IsPassOf, IsRowOf, IsStandOf, KeepsResults, PassOf, PassView, opening_at};
+ghost use Rattle.cell_table.specs.Closings.{HandsOut, HandsOutWaiting, IsHandedOut};
 ghost use Rattle.cell_table.specs.Told.{GoesHome};
 ghost use Rattle.cell_table.specs.Rule.{AreMachines, IsFinishing, IsReady, IsStarting, dealt_from, dealt_rows, falls_to, heard, seen_nothing, told_of};
 ghost use Rattle.atomic_table.specs.Table.{rest, turned};
@@ -128,7 +129,7 @@ impl<M> Model for Pass<M> {
 
     ghost Value = { PassOf M };
 
-    ghost view = { λ p. record { of = record { id = p.seat.table_id; threads = p.seat.me.0.threads; rows = p.seat.me.0.rows; offers = p.seat.me.0.offers; passes = p.seat.me.0.passes; lives = p.seat.me.0.lives; nacks = p.seat.me.0.nacks; first = p.seat.me.0.first }; seen = p.seat.me.0.seen; made = p.seat.me.0.made; results = p.seat.me.0.results; out = p.seat.me.1 } };
+    ghost view = { λ p. record { of = record { id = p.seat.table_id; threads = p.seat.me.0.threads; rows = p.seat.me.0.rows; offers = p.seat.me.0.offers; passes = p.seat.me.0.passes; lives = p.seat.me.0.lives; nacks = p.seat.me.0.nacks; first = p.seat.me.0.first }; seen = p.seat.me.0.seen; made = p.seat.me.0.made; results = p.seat.me.0.results; out = p.seat.me.1; gathered = p.seat.me.0.gathered } };
 
     ghost invariant = { λ p. (p.seat.me.0.stage ≡ Resting) × (p.seat.me.0.threads ≡ p.rows.threads) × (p.seat.me.0.rows + 1 ≡ p.rows.rows) × AreFlags p.rows.threads p.rows.rows p.rows.flags.items (places_of p.seat.me.0.rows p.seat.me.0.seen) × (length p.places.items ≡ length p.seat.me.0.first) × HoldNothing p.places.items };
 }
@@ -454,11 +455,29 @@ impl<M: Resident + Drop> Cells<M> {
         ensures own { (r : Row) (j : Joined) (offers : List Offer) → IsDraft pass.seen r offers → joined_in result.0 r ≡ Some j → (j.own < length offers) × (offer_in result.0 r j.own ≡ slice_get offers j.own) }
         ensures count { length result.1.items ≡ length self.first }
         ensures machines { IsHousing self → HandsOut M.stands self.first result.0 result.1.items }
+        ensures waiting { IsHousing self → HandsOutWaiting result.0 result.1.items }
+        ensures few { length pass.gathered + 1 ≤ self.passes }
+        ensures opened { self.passes ≤ length pass.gathered + 1 → (r : Row) (n : ℕ) (o : Offer) → offer_in result.0 r n ≡ Some o → (steps : List Step) × HasSteps pass steps × Has steps (Open r) }
+        ensures handed { IsHousing self → self.passes ≤ length pass.gathered + 1 → (r : Row) (steps : List Step) → HasSteps pass steps → Has steps (Open r) → ((others : List Step) → HasSteps pass others → Has others (Take r) → ⊥) → IsHandedOut result.1.items r.thread }
         ensures acts { IsHousing self → ActsAs (before_of (opening_at self)) (acts_in M.stands self.first) result.0 }
     {
         let Cells { board, spare } = self;
         let Pass { seat, places, .. } = pass;
         board.close(seat, spare, places)
+    }
+
+    /// Tells `to` all that `from` has seen, as `tell` does, and `from` leaves the table by it: `to` has gathered its seat
+    /// from now on, and the steps that it made.
+    pub(crate) fn leave(&self, from: Pass<M>, to: &mut Pass<M>)
+        requires here { IsPassOf self.now from × IsPassOf self.now to.old }
+        ensures here { IsPassOf self.now to.new }
+        ensures made { to.new.made ≡ to.old.made }
+        ensures told { to.new.seen ≡ heard to.old.seen (told_of from.seen) }
+        ensures results { to.new.results ≡ to.old.results ++ from.results }
+        ensures gathered { (seat : ℕ) × (to.new.gathered ≡ to.old.gathered ++ (seat, from.made) ∷ []) }
+    {
+        let Pass { mut seat, .. } = from;
+        self.board.leave(&mut seat, &mut to.seat);
     }
 }
 

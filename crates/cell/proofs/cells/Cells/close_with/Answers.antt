@@ -1,7 +1,8 @@
-use Rattle.std.proofs.Common.{◌<◌, ◌≤◌, ◌∙◌, List, Option, ap, length, subst, sym}
+use Rattle.std.proofs.Common.{◌≡◌, ◌+◌, ◌<◌, ◌≤◌, ◌∙◌, ℕ, arith, List, Option, ap, length, subst, sym}
 use Rattle.protocol.specs.Openings.{state_in, word_for}
 use Rattle.protocol.specs.Tables.{carried_by}
-use Rattle.cell.specs.Calls.{GridOf, PassOf, opening_at}
+use Rattle.protocol_values.specs.declared.Step.{Step}
+use Rattle.cell.specs.Calls.{GridOf, HasSteps, PassOf, opening_at}
 use Rattle.cell_table.specs.Closings.{HandedOut}
 use Rattle.cell_table.specs.Sight.{Has, IsDraft, SeesNoOffer, SeesOffer}
 use Rattle.cell.proofs.cells.Cells.close_with.Goals as goal
@@ -36,3 +37,21 @@ pub returns-clause-carried : goal.returns-clause-carried
 returns-clause-carried g c n there =
     c.close.ensures.carried n (subst (λ (grid : GridOf g.row.M.Denot). n.thread < grid.threads) (sym c.self.view_is) there.0) there.1
     ∙ ap (λ (grid : GridOf g.row.M.Denot). carried_by (word_for (state_in (opening_at grid) n))) c.self.view_is
+
+-- where as many passes are here as the table has
+here_too : (n passes of : ℕ) (a b : List (ℕ × List Step)) → a ≡ b → passes ≡ of → of ≡ n → n ≤ length b + 1 → passes ≤ length a + 1
+here_too n passes of a b same is all few = let size : length a ≡ length b = ap (λ (l : List (ℕ × List Step)). length l) same in omega (arith, size, is, all, few)
+
+pub returns-clause-opened : goal.returns-clause-opened
+returns-clause-opened g c all r n o offers =
+    let few = here_too c.args.self.passes _ c.args.pass.of.passes _ _ (ap (λ (p : PassOf g.row.M.Denot). p.gathered) c.pass.view_is) (ap (λ (p : PassOf g.row.M.Denot). p.of.passes) c.pass.view_is) c.requires.here.3 all in
+    let one = c.close.ensures.opened (c.pass.invariant.0, few) r n o offers in
+    (one.0, subst (λ (p : PassOf g.row.M.Denot). HasSteps p one.0) c.pass.view_is one.1, one.2)
+
+pub returns-clause-handed : goal.returns-clause-handed
+returns-clause-handed g c housed all r steps made opens untook =
+    let is = ap (λ (grid : GridOf g.row.M.Denot). grid.first) c.self.view_is in
+    let few = here_too c.args.self.passes _ c.args.pass.of.passes _ _ (ap (λ (p : PassOf g.row.M.Denot). p.gathered) c.pass.view_is) (ap (λ (p : PassOf g.row.M.Denot). p.of.passes) c.pass.view_is) c.requires.here.3 all in
+    c.close.ensures.handed (subst (λ (first : List (Option g.row.M.Denot)). 0 < length first) (sym is) housed) (c.pass.invariant.0, few) r steps
+    (subst (λ (p : PassOf g.row.M.Denot). HasSteps p steps) (sym c.pass.view_is) made) opens
+    (λ others others_made took. untook others (subst (λ (p : PassOf g.row.M.Denot). HasSteps p others) c.pass.view_is others_made) took)

@@ -1,10 +1,14 @@
-use Rattle.std.proofs.Common.{◌∷◌, [], ◌++◌, Some, sym}
+use Rattle.std.proofs.Common.{◌∷◌, [], ◌++◌, List, Some, subst, sym}
 use Rattle.std.proofs.lemmas.List.Elements.{All-append, All-pop}
 use Rattle.std.specs.Prelude.{All}
 use Rattle.std.specs.Vec.Iter.{into_iter_items}
 use Rattle.cell_table.specs.Rule.{told_of}
 use Rattle.cell.specs.Calls.{IsPassOf, PassOf}
-use Rattle.cell.specs.Hearing.{HasHeard}
+use Rattle.cell.specs.Hearing.{HasGathered, HasHeard}
+use Rattle.cell_table.specs.declared.view.Seen.{Seen}
+use Rattle.cell_table.specs.Sight.{Has, SeesNoOffer, SeesOffer}
+use Rattle.cell_table.proofs.Hearing.{told_bound, told_lack, told_offer}
+use Rattle.cell.proofs.Gathering.{gathers_first, gathers_next}
 use Rattle.cell.proofs.Hearing.{heard_through, kept, told}
 use Rattle.cell.proofs.Lists.{all_head, all_is, all_one, all_rest}
 use Rattle.cell.proofs.cells.Cells.told_one.Goals as goal
@@ -23,10 +27,11 @@ loop-pass-init g c =
       λ (p : PassOf g.row.M.Denot) (more : HasHeard first p) (rest : All (λ (q : PassOf g.row.M.Denot). HasHeard q p) (into_iter_items c.into_iter-pass-iterator.result)).
           all_is (λ (q : PassOf g.row.M.Denot). HasHeard q p) (others ++ first ∷ []) _ (sym c.in-Some.ensures.items)
           (All-append (λ (q : PassOf g.row.M.Denot). HasHeard q p) others (first ∷ []) (all_is (λ (q : PassOf g.row.M.Denot). HasHeard q p) _ _ goes rest) (all_one (λ (q : PassOf g.row.M.Denot). HasHeard q p) first more)),
+      subst (λ (l : List (PassOf g.row.M.Denot)). HasGathered c.args.passes.items l first) (sym goes) (gathers_first c.args.passes.items others first c.in-Some.ensures.items),
     )
 
-pub tell-requires : goal.tell-requires
-tell-requires g c =
+pub leave-requires : goal.leave-requires
+leave-requires g c =
     let P = λ (p : PassOf g.row.M.Denot). IsPassOf c.args.self.now p in
     record { here = (all_head P c.in-Some-pass.pass (into_iter_items c.next.new.self) (all_is P _ _ c.in-Some-pass.ensures.steps.0 c.loop-pass.invariant.3), c.loop-pass.invariant.2) }
 
@@ -35,16 +40,19 @@ loop-pass-preserved g c =
     let P = λ (p : PassOf g.row.M.Denot). IsPassOf c.args.self.now p in
     let from = c.in-Some-pass.pass in
     let to = c.loop-pass.told in
-    let new = c.tell.new.to in
+    let new = c.leave.new.to in
     let left = into_iter_items c.next.new.self in
-    let says = c.tell.ensures in (
+    let says = c.leave.ensures in (
       tt,
       tt,
-      says.here.1,
+      says.here,
       all_rest P from left (all_is P _ _ c.in-Some-pass.ensures.steps.0 c.loop-pass.invariant.3),
       λ (p : PassOf g.row.M.Denot) (more : HasHeard new p) (rest : All (λ (q : PassOf g.row.M.Denot). HasHeard q p) left).
-          let one = heard_through from new p (told from to new says.told says.results.1 says.offers says.lacks says.bound) more in
-          c.loop-pass.invariant.4 p (heard_through to new p (kept to new (told_of from.seen) from.results says.told says.results.1) more)
+          let one = heard_through from new p (told from to new says.told says.results (λ r n o h. subst (λ (s : Seen). SeesOffer s r n o) (sym says.told) (told_offer from.seen to.seen r n o h)) (λ r n h. subst (λ (s : Seen). SeesNoOffer s r n) (sym says.told) (told_lack from.seen to.seen r n h)) (λ n b h. subst (λ (s : Seen). Has s.bound (n, b)) (sym says.told) (told_bound from.seen to.seen n b h))) more in
+          c.loop-pass.invariant.4 p (heard_through to new p (kept to new (told_of from.seen) from.results says.told says.results) more)
           (all_is (λ (q : PassOf g.row.M.Denot). HasHeard q p) (from ∷ left) _ (sym c.in-Some-pass.ensures.steps.0)
           (All-append (λ (q : PassOf g.row.M.Denot). HasHeard q p) (from ∷ []) left (all_one (λ (q : PassOf g.row.M.Denot). HasHeard q p) from one) rest)),
+      gathers_next c.args.passes.items left from to new says.gathered.0
+          (subst (λ (l : List (PassOf g.row.M.Denot)). HasGathered c.args.passes.items l to) c.in-Some-pass.ensures.steps.0 c.loop-pass.invariant.5)
+          says.made says.gathered.1,
     )
