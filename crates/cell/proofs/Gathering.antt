@@ -4,7 +4,7 @@ use Rattle.std.specs.Prelude.{slice_index_or}
 use Rattle.std.proofs.lemmas.List.{length-append}
 use Rattle.protocol_values.specs.declared.Step.{Step}
 use Rattle.cell_table.specs.Sight.{Has}
-use Rattle.cell.specs.Calls.{HasSteps, PassOf}
+use Rattle.cell.specs.Calls.{GathererOf, HasSteps, PassOf}
 use Rattle.cell.specs.Hearing.{HasGathered}
 use Rattle.cell.proofs.Hearing.{has_left, has_right}
 
@@ -28,21 +28,21 @@ in_either (y ∷ xs) ys x (inr h) = ⊎_elim (λ (a : Has xs x). inl (inr a)) (�
 
 module _ {M : Type 0} where
   -- the first one is there, and the others are left
-  pub gathers_first : (passes others : List (PassOf M)) (first : PassOf M) → passes ≡ others ++ first ∷ [] → HasGathered passes others first
+  pub gathers_first : (passes others : List (PassOf M)) (first : GathererOf M) → passes ≡ others ++ first.pass ∷ [] → HasGathered passes others first
   gathers_first passes others first is = record {
     before = first.gathered;
-    count = let size : length passes ≡ length others + 1 = ap (λ (l : List (PassOf M)). length l) is ∙ length-append others (first ∷ []) in omega (arith, size);
-    own = (first, subst (λ (l : List (PassOf M)). Has l first) (sym is) (has_right others (first ∷ []) first (inl refl)), refl);
+    count = let size : length passes ≡ length others + 1 = ap (λ (l : List (PassOf M)). length l) is ∙ length-append others (first.pass ∷ []) in omega (arith, size);
+    own = (first.pass, subst (λ (l : List (PassOf M)). Has l first.pass) (sym is) (has_right others (first.pass ∷ []) first.pass (inl refl)), refl);
     from = λ seat steps h. inl h;
     each = λ q h. ⊎_elim
         (λ (other : Has others q). inr other)
-        (λ (one : Has (first ∷ []) q). inl (inl (⊎_elim (λ (e : first ≡ q). ap (λ (p : PassOf M). p.made) (sym e)) (λ (no : ⊥). absurd no) one)))
-        (in_either others (first ∷ []) q (subst (λ (l : List (PassOf M)). Has l q) is h));
-    within = λ q h. subst (λ (l : List (PassOf M)). Has l q) (sym is) (has_left others (first ∷ []) q h);
+        (λ (one : Has (first.pass ∷ []) q). inl (inl (⊎_elim (λ (e : first.pass ≡ q). ap (λ (p : PassOf M). p.made) (sym e)) (λ (no : ⊥). absurd no) one)))
+        (in_either others (first.pass ∷ []) q (subst (λ (l : List (PassOf M)). Has l q) is h));
+    within = λ q h. subst (λ (l : List (PassOf M)). Has l q) (sym is) (has_left others (first.pass ∷ []) q h);
   }
 
   -- one more leaves
-  pub gathers_next : (passes left : List (PassOf M)) (from to new : PassOf M) (seat : ℕ) → HasGathered passes (from ∷ left) to → new.made ≡ to.made → new.gathered ≡ to.gathered ++ (seat, from.made) ∷ [] → HasGathered passes left new
+  pub gathers_next : (passes left : List (PassOf M)) (from : PassOf M) (to new : GathererOf M) (seat : ℕ) → HasGathered passes (from ∷ left) to → new.pass.made ≡ to.pass.made → new.gathered ≡ to.gathered ++ (seat, from.made) ∷ [] → HasGathered passes left new
   gathers_next passes left from to new seat h made gathered = record {
     before = h.before;
     count = let size : length new.gathered ≡ length to.gathered + 1 = ap (λ (l : List (ℕ × List Step)). length l) gathered ∙ length-append to.gathered ((seat, from.made) ∷ []) in let was = h.count in omega (arith, size, was);
@@ -62,7 +62,7 @@ module _ {M : Type 0} where
       each_of q (inr (inr i)) = inr i
 
   -- WHERE ALL HAVE LEFT, and they are as many as the table has, these are the only steps
-  module _ (passes : List (PassOf M)) (p : PassOf M) (count : ℕ) (h : HasGathered passes [] p) (few : length p.gathered + 1 ≤ count) (all : count ≤ length passes) where
+  module _ (passes : List (PassOf M)) (p : GathererOf M) (count : ℕ) (h : HasGathered passes [] p) (few : length p.gathered + 1 ≤ count) (all : count ≤ length passes) where
     pub all_gathered : count ≤ length p.gathered + 1
     all_gathered = let size = h.count in omega (arith, size, few, all)
 

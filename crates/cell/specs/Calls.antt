@@ -37,7 +37,10 @@ pub record PassOf (M : Type 0) : Type 0 where
   -- the threads whose slots are out with the pass, the last one first, unless the pass turns them, and what lies in each: none
   -- where it was fetched
   pub out : List (ℕ × Option M)
-  -- of the passes that left the table to this one: their seats, and the steps that they made
+
+-- a pass to which others leave the table at its end, with their seats, and the steps that they made
+pub record GathererOf (M : Type 0) : Type 0 where
+  pub pass : PassOf M
   pub gathered : List (ℕ × List Step)
 
 -- those of a table of no machines
@@ -81,8 +84,8 @@ module _ {M : Type 0} where
   IsHousing g = 0 < length g.first
 
   -- the pass made these steps, or one that left the table to it
-  abbrev pub HasSteps : PassOf M → List Step → Type 0
-  HasSteps p steps = (steps ≡ p.made) ⊎ ((seat : ℕ) × Has p.gathered (seat, steps))
+  abbrev pub HasSteps : GathererOf M → List Step → Type 0
+  HasSteps p steps = (steps ≡ p.pass.made) ⊎ ((seat : ℕ) × Has p.gathered (seat, steps))
 
   -- MACHINES: of the slots that are out with the pass the front one is the row's thread's, and holds this
   abbrev pub Holds : PassOf M → Row → Option M → Type 0

@@ -8,7 +8,7 @@ use Rattle.protocol_values.specs.declared.Row.{Row}
 use Rattle.protocol_values.specs.declared.Step.{Step}
 use Rattle.protocol.specs.Standing.{Result}
 use Rattle.cell_table.specs.Sight.{Has, SeesNoOffer, SeesOffer}
-use Rattle.cell.specs.Calls.{HasSteps, PassOf}
+use Rattle.cell.specs.Calls.{GathererOf, HasSteps, PassOf}
 
 pub record HasHeard {M : Type 0} (told p : PassOf M) : Type 0 where
   pub offers : (r : Row) (n : ℕ) (o : Offer) → SeesOffer told.seen r n o → SeesOffer p.seen r n o
@@ -21,10 +21,10 @@ pub record HasHeard {M : Type 0} (told p : PassOf M) : Type 0 where
   pub results : (t : ℕ) (results : List Result) → Has told.results (t, results) → Has p.results (t, results)
 
 -- Of these passes all but those that are left have left the table to this one, which was one of them. Others had before.
-pub record HasGathered {M : Type 0} (passes left : List (PassOf M)) (p : PassOf M) : Type 0 where
+pub record HasGathered {M : Type 0} (passes left : List (PassOf M)) (p : GathererOf M) : Type 0 where
   pub before : List (ℕ × List Step)
   pub count : length p.gathered + 1 + length left ≡ length before + length passes
-  pub own : (q : PassOf M) × Has passes q × (q.made ≡ p.made)
+  pub own : (q : PassOf M) × Has passes q × (q.made ≡ p.pass.made)
   pub from : (seat : ℕ) (steps : List Step) → Has p.gathered (seat, steps) → Has before (seat, steps) ⊎ ((q : PassOf M) × Has passes q × (q.made ≡ steps))
   pub each : (q : PassOf M) → Has passes q → HasSteps p q.made ⊎ Has left q
   pub within : (q : PassOf M) → Has left q → Has passes q

@@ -18,7 +18,7 @@ ghost use Rattle.cell_table.specs.Sight.{Has, SeesNoOffer, SeesOffer};
 ghost use Rattle.cell.specs.Calls.{IsHousing, IsNackOf, IsPassOf, PassOf, opening_at};
 ghost use Rattle.cell.specs.Hearing.{HasGathered, HasHeard};
 
-use crate::cells::{Cells, Pass};
+use crate::cells::{Cells, Gatherer, Pass};
 use protocol::{Ledger, Resident};
 
 impl<M: Resident + Drop> Cells<M> {
@@ -55,17 +55,18 @@ impl<M: Resident + Drop> Cells<M> {
     }
 
     /// One of the passes, to which all others have left the table: it has seen what they saw.
-    fn told_one(&self, passes: Vec<Pass<M>>) -> Pass<M>
+    fn told_one(&self, passes: Vec<Pass<M>>) -> Gatherer<M>
         requires here { All (λ p. IsPassOf self.now p) passes.items }
         requires some { 1 ≤ length passes.items }
-        ensures here { IsPassOf self.now result }
-        ensures told { All (λ p. HasHeard p result) passes.items }
+        ensures here { IsPassOf self.now result.pass }
+        ensures told { All (λ p. HasHeard p result.pass) passes.items }
         ensures gathered { HasGathered passes.items [] result }
     {
         let mut passes = passes;
-        let Some(mut told) = passes.pop() else {
+        let Some(last) = passes.pop() else {
             unreachable!()
         };
+        let mut told = last.into_gatherer();
         for pass in passes {
             self.leave(pass, &mut told);
         }

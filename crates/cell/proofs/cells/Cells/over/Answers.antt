@@ -15,16 +15,16 @@ loop-number-preserved g c =
     c.deal-seat.ensures.pass.1
     ∙ ap (λ (n : ℕ). (dealt_pass (dealer shape n), [])) (let e : c.from-in-loop-number.result ≡ c.loop-number.number = (search rules) in e) in
     let id : c.deal-seat.result.table_id ≡ c.in_ok-board.board.words.shared.table_id = (search rules) in
-    let pass : PassOf g.row.M.Denot = record { of = record { id = c.deal-seat.result.table_id; threads = c.deal-seat.result.me.0.threads; rows = c.deal-seat.result.me.0.rows; offers = c.deal-seat.result.me.0.offers; passes = c.deal-seat.result.me.0.passes; lives = c.deal-seat.result.me.0.lives; nacks = c.deal-seat.result.me.0.nacks; first = c.deal-seat.result.me.0.first }; seen = c.deal-seat.result.me.0.seen; made = c.deal-seat.result.me.0.made; results = c.deal-seat.result.me.0.results; out = c.deal-seat.result.me.1; gathered = c.deal-seat.result.me.0.gathered } in
+    let pass : PassOf g.row.M.Denot = record { of = record { id = c.deal-seat.result.table_id; threads = c.deal-seat.result.me.0.threads; rows = c.deal-seat.result.me.0.rows; offers = c.deal-seat.result.me.0.offers; passes = c.deal-seat.result.me.0.passes; lives = c.deal-seat.result.me.0.lives; nacks = c.deal-seat.result.me.0.nacks; first = c.deal-seat.result.me.0.first }; seen = c.deal-seat.result.me.0.seen; made = c.deal-seat.result.me.0.made; results = c.deal-seat.result.me.0.results; out = c.deal-seat.result.me.1 } in
     let pushed : c.push.new.self.items ≡ c.loop-number.dealt.items ++ pass ∷ [] = (search rules) in
     record {
       here = (search rules);
       dealer = (search rules);
       passes = (search rules);
       count = (search rules);
-      each = each_more (λ (k : ℕ) (p : PassOf g.row.M.Denot). p ≡ record { of = record { id = c.in_ok-board.board.words.shared.table_id; threads = shape.threads; rows = shape.rows; offers = shape.offers; passes = shape.passes; lives = (opening_in shape).threads; nacks = (opening_in shape).nacks; first = shape.first.value.items }; seen = seen_nothing (dealt_from (opening_in shape) shape.threads shape.passes k); made = []; results = []; out = []; gathered = [] })
+      each = each_more (λ (k : ℕ) (p : PassOf g.row.M.Denot). p ≡ record { of = record { id = c.in_ok-board.board.words.shared.table_id; threads = shape.threads; rows = shape.rows; offers = shape.offers; passes = shape.passes; lives = (opening_in shape).threads; nacks = (opening_in shape).nacks; first = shape.first.value.items }; seen = seen_nothing (dealt_from (opening_in shape) shape.threads shape.passes k); made = []; results = []; out = [] })
           c.loop-number.dealt.items c.push.new.self.items pass c.loop-number.number c.loop-number.invariant.count pushed
-          (λ i. record { of = record { id = id i; threads = (dealt i).0.threads; rows = (dealt i).0.rows; offers = (dealt i).0.offers; passes = (dealt i).0.passes; lives = (dealt i).0.lives; nacks = (dealt i).0.nacks; first = (dealt i).0.first }; seen = (dealt i).0.seen; made = (dealt i).0.made; results = (dealt i).0.results; out = (dealt i).1; gathered = (dealt i).0.gathered })
+          (λ i. record { of = record { id = id i; threads = (dealt i).0.threads; rows = (dealt i).0.rows; offers = (dealt i).0.offers; passes = (dealt i).0.passes; lives = (dealt i).0.lives; nacks = (dealt i).0.nacks; first = (dealt i).0.first }; seen = (dealt i).0.seen; made = (dealt i).0.made; results = (dealt i).0.results; out = (dealt i).1 })
           c.loop-number.invariant.each;
     }
 

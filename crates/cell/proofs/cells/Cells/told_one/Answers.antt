@@ -1,4 +1,4 @@
-use Rattle.std.proofs.Common.{◌∷◌, [], ◌++◌, List, Some, subst, sym}
+use Rattle.std.proofs.Common.{◌≡◌, ◌∙◌, ◌∷◌, [], ◌++◌, List, Some, ap, subst, sym}
 use Rattle.std.proofs.lemmas.List.Elements.{All-append, All-pop}
 use Rattle.std.specs.Prelude.{All}
 use Rattle.std.specs.Vec.Iter.{into_iter_items}
@@ -16,18 +16,20 @@ use Rattle.cell.proofs.cells.Cells.told_one.Goals as goal
 pub loop-pass-init : goal.loop-pass-init
 loop-pass-init g c =
     let P = λ (p : PassOf g.row.M.Denot). IsPassOf c.args.self.now p in
-    let first = c.in-Some.told in
+    let first = c.into_gatherer-told.result in
     let others = c.pop.new.self.items in
-    let popped = All-pop P c.args.passes.items others (Some first) c.in-Some.ensures.items c.requires.here in
+    let same : first.pass ≡ c.in-Some.last = c.into_gatherer-told.ensures in
+    let is : c.args.passes.items ≡ others ++ first.pass ∷ [] = c.in-Some.ensures.items ∙ ap (λ (p : PassOf g.row.M.Denot). others ++ p ∷ []) (sym same) in
+    let popped = All-pop P c.args.passes.items others (Some first.pass) is c.requires.here in
     let goes = c.into_iter-pass-iterator.ensures.into_iter_gives.0 in (
       tt,
       tt,
       popped.1,
       all_is P _ _ (sym goes) popped.0,
-      λ (p : PassOf g.row.M.Denot) (more : HasHeard first p) (rest : All (λ (q : PassOf g.row.M.Denot). HasHeard q p) (into_iter_items c.into_iter-pass-iterator.result)).
-          all_is (λ (q : PassOf g.row.M.Denot). HasHeard q p) (others ++ first ∷ []) _ (sym c.in-Some.ensures.items)
-          (All-append (λ (q : PassOf g.row.M.Denot). HasHeard q p) others (first ∷ []) (all_is (λ (q : PassOf g.row.M.Denot). HasHeard q p) _ _ goes rest) (all_one (λ (q : PassOf g.row.M.Denot). HasHeard q p) first more)),
-      subst (λ (l : List (PassOf g.row.M.Denot)). HasGathered c.args.passes.items l first) (sym goes) (gathers_first c.args.passes.items others first c.in-Some.ensures.items),
+      λ (p : PassOf g.row.M.Denot) (more : HasHeard first.pass p) (rest : All (λ (q : PassOf g.row.M.Denot). HasHeard q p) (into_iter_items c.into_iter-pass-iterator.result)).
+          all_is (λ (q : PassOf g.row.M.Denot). HasHeard q p) (others ++ first.pass ∷ []) _ (sym is)
+          (All-append (λ (q : PassOf g.row.M.Denot). HasHeard q p) others (first.pass ∷ []) (all_is (λ (q : PassOf g.row.M.Denot). HasHeard q p) _ _ goes rest) (all_one (λ (q : PassOf g.row.M.Denot). HasHeard q p) first.pass more)),
+      subst (λ (l : List (PassOf g.row.M.Denot)). HasGathered c.args.passes.items l first) (sym goes) (gathers_first c.args.passes.items others first is),
     )
 
 pub leave-requires : goal.leave-requires
@@ -47,9 +49,9 @@ loop-pass-preserved g c =
       tt,
       says.here,
       all_rest P from left (all_is P _ _ c.in-Some-pass.ensures.steps.0 c.loop-pass.invariant.3),
-      λ (p : PassOf g.row.M.Denot) (more : HasHeard new p) (rest : All (λ (q : PassOf g.row.M.Denot). HasHeard q p) left).
-          let one = heard_through from new p (told from to new says.told says.results (λ r n o h. subst (λ (s : Seen). SeesOffer s r n o) (sym says.told) (told_offer from.seen to.seen r n o h)) (λ r n h. subst (λ (s : Seen). SeesNoOffer s r n) (sym says.told) (told_lack from.seen to.seen r n h)) (λ n b h. subst (λ (s : Seen). Has s.bound (n, b)) (sym says.told) (told_bound from.seen to.seen n b h))) more in
-          c.loop-pass.invariant.4 p (heard_through to new p (kept to new (told_of from.seen) from.results says.told says.results) more)
+      λ (p : PassOf g.row.M.Denot) (more : HasHeard new.pass p) (rest : All (λ (q : PassOf g.row.M.Denot). HasHeard q p) left).
+          let one = heard_through from new.pass p (told from to.pass new.pass says.told says.results (λ r n o h. subst (λ (s : Seen). SeesOffer s r n o) (sym says.told) (told_offer from.seen to.pass.seen r n o h)) (λ r n h. subst (λ (s : Seen). SeesNoOffer s r n) (sym says.told) (told_lack from.seen to.pass.seen r n h)) (λ n b h. subst (λ (s : Seen). Has s.bound (n, b)) (sym says.told) (told_bound from.seen to.pass.seen n b h))) more in
+          c.loop-pass.invariant.4 p (heard_through to.pass new.pass p (kept to.pass new.pass (told_of from.seen) from.results says.told says.results) more)
           (all_is (λ (q : PassOf g.row.M.Denot). HasHeard q p) (from ∷ left) _ (sym c.in-Some-pass.ensures.steps.0)
           (All-append (λ (q : PassOf g.row.M.Denot). HasHeard q p) (from ∷ []) left (all_one (λ (q : PassOf g.row.M.Denot). HasHeard q p) from one) rest)),
       gathers_next c.args.passes.items left from to new says.gathered.0
