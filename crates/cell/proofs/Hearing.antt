@@ -12,11 +12,11 @@ use Rattle.cell_table.proofs.Offers.{have_more}
 use Rattle.cell.specs.Calls.{PassOf}
 use Rattle.cell.specs.Hearing.{HasHeard}
 
-has_right : {A : Type 0} (xs ys : List A) (x : A) → Has ys x → Has (xs ++ ys) x
+pub has_right : {A : Type 0} (xs ys : List A) (x : A) → Has ys x → Has (xs ++ ys) x
 has_right [] ys x h = h
 has_right (y ∷ xs) ys x h = inr (has_right xs ys x h)
 
-has_left : {A : Type 0} (xs ys : List A) (x : A) → Has xs x → Has (xs ++ ys) x
+pub has_left : {A : Type 0} (xs ys : List A) (x : A) → Has xs x → Has (xs ++ ys) x
 has_left [] ys x h = absurd h
 has_left (y ∷ xs) ys x (inl e) = inl e
 has_left (y ∷ xs) ys x (inr h) = inr (has_left xs ys x h)

@@ -3,6 +3,7 @@ pub mod Beginning
 pub mod Binding
 pub mod Crossing
 pub mod Flagging
+pub mod Gathering
 pub mod Handing
 pub mod Hearing
 pub mod Lists

@@ -38,6 +38,11 @@ pub record PassOf (M : Type 0) : Type 0 where
   -- where it was fetched
   pub out : List (ℕ × Option M)
 
+-- a pass to which others leave the table at its end, with their seats, and the steps that they made
+pub record GathererOf (M : Type 0) : Type 0 where
+  pub pass : PassOf M
+  pub gathered : List (ℕ × List Step)
+
 -- those of a table of no machines
 abbrev pub Grid : Type 0
 Grid = GridOf Bare
@@ -77,6 +82,10 @@ module _ {M : Type 0} where
   -- it is a table of machines
   abbrev pub IsHousing : GridOf M → Type 0
   IsHousing g = 0 < length g.first
+
+  -- the pass made these steps, or one that left the table to it
+  abbrev pub HasSteps : GathererOf M → List Step → Type 0
+  HasSteps p steps = (steps ≡ p.pass.made) ⊎ ((seat : ℕ) × Has p.gathered (seat, steps))
 
   -- MACHINES: of the slots that are out with the pass the front one is the row's thread's, and holds this
   abbrev pub Holds : PassOf M → Row → Option M → Type 0

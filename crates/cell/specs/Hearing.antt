@@ -1,13 +1,14 @@
 -- What one pass has seen, another has seen too, once it was told.
-use Rattle.std.specs.Prelude.{ℕ, List}
+use Rattle.std.specs.Prelude.{◌≡◌, ◌⊎◌, ◌+◌, ℕ, List, length}
 use Rattle.protocol_values.specs.declared.Binding.{Binding}
 use Rattle.protocol_values.specs.declared.Joined.{Joined}
 use Rattle.protocol_values.specs.declared.NackName.{NackName}
 use Rattle.protocol_values.specs.declared.Offer.{Offer}
 use Rattle.protocol_values.specs.declared.Row.{Row}
+use Rattle.protocol_values.specs.declared.Step.{Step}
 use Rattle.protocol.specs.Standing.{Result}
 use Rattle.cell_table.specs.Sight.{Has, SeesNoOffer, SeesOffer}
-use Rattle.cell.specs.Calls.{PassOf}
+use Rattle.cell.specs.Calls.{GathererOf, HasSteps, PassOf}
 
 pub record HasHeard {M : Type 0} (told p : PassOf M) : Type 0 where
   pub offers : (r : Row) (n : ℕ) (o : Offer) → SeesOffer told.seen r n o → SeesOffer p.seen r n o
@@ -18,3 +19,12 @@ pub record HasHeard {M : Type 0} (told p : PassOf M) : Type 0 where
   pub started : (t stamp : ℕ) → Has told.seen.started (t, stamp) → Has p.seen.started (t, stamp)
   pub ended : (t g : ℕ) → Has told.seen.ended (t, g) → Has p.seen.ended (t, g)
   pub results : (t : ℕ) (results : List Result) → Has told.results (t, results) → Has p.results (t, results)
+
+-- Of these passes all but those that are left have left the table to this one, which was one of them. Others had before.
+pub record HasGathered {M : Type 0} (passes left : List (PassOf M)) (p : GathererOf M) : Type 0 where
+  pub before : List (ℕ × List Step)
+  pub count : length p.gathered + 1 + length left ≡ length before + length passes
+  pub own : (q : PassOf M) × Has passes q × (q.made ≡ p.pass.made)
+  pub from : (seat : ℕ) (steps : List Step) → Has p.gathered (seat, steps) → Has before (seat, steps) ⊎ ((q : PassOf M) × Has passes q × (q.made ≡ steps))
+  pub each : (q : PassOf M) → Has passes q → HasSteps p q.made ⊎ Has left q
+  pub within : (q : PassOf M) → Has left q → Has passes q

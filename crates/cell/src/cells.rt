@@ -10,7 +10,8 @@ ghost use Rattle.protocol_values.specs.declared.Offer.{Offer};
 ghost use Rattle.protocol_values.specs.declared.Row.{Row};
 ghost use Rattle.protocol_values.specs.declared.Cell.TheVariants.{Claimed};
 ghost use Rattle.protocol_values.specs.declared.Course.TheVariants.{Unstarted};
-ghost use Rattle.protocol_values.specs.declared.Step.TheVariants.{Finish, Open};
+ghost use Rattle.protocol_values.specs.declared.Step.TheVariants.{Finish, Open, Take};
+ghost use Rattle.protocol_values.specs.declared.Step.{Step};
 ghost use Rattle.protocol_values.specs.declared.NackName.{NackName};
 ghost use Rattle.protocol_values.specs.declared.Binding.{Binding};
 ghost use Rattle.protocol.specs.Ledgers.{IsLawful, binding_in, carried_in, course_in, joined_in, offer_in};
@@ -42,8 +43,8 @@ ghost use Rattle.cell.specs.Attempts.{
   start_made,
   take_made,
 };
-ghost use Rattle.cell.specs.Calls.{CanFetch, Fetched, Holds, HoldNothing, HoldsAt, IsFollowing, IsHousing, IsNackOf, IsParked, IsPassOf, IsRowOf, IsStandOf, KeepsResults, PassOf, PassView, opening_at};
-ghost use Rattle.cell_table.specs.Closings.{HandsOut};
+ghost use Rattle.cell.specs.Calls.{CanFetch, Fetched, HasSteps, Holds, HoldNothing, HoldsAt, IsFollowing, IsHousing, IsNackOf, IsParked, IsPassOf, IsRowOf, IsStandOf, KeepsResults, PassOf, PassView, opening_at};
+ghost use Rattle.cell_table.specs.Closings.{HandsOut, HandsOutWaiting, IsHandedOut};
 ghost use Rattle.cell_table.specs.Told.{GoesHome};
 ghost use Rattle.cell_table.specs.Rule.{AreMachines, IsFinishing, IsReady, IsStarting, dealt_from, dealt_rows, falls_to, heard, seen_nothing, told_of};
 ghost use Rattle.atomic_table.specs.Table.{rest, turned};
@@ -133,7 +134,35 @@ impl<M> Model for Pass<M> {
     ghost invariant = { λ p. (p.seat.me.0.stage ≡ Resting) × (p.seat.me.0.threads ≡ p.rows.threads) × (p.seat.me.0.rows + 1 ≡ p.rows.rows) × AreFlags p.rows.threads p.rows.rows p.rows.flags.items (places_of p.seat.me.0.rows p.seat.me.0.seen) × (length p.places.items ≡ length p.seat.me.0.first) × HoldNothing p.places.items };
 }
 
+/// A pass to which others leave the table at its end. It makes no more steps.
+#[derive(Drop)]
+pub(crate) struct Gatherer<M> {
+    seat: Seat<Option<M>, View<M>>,
+    /// Room for what the slots hold at the end.
+    places: Vec<Option<M>>,
+}
+
+impl<M> Model for Gatherer<M> {
+    ghost use Rattle.std.specs.Prelude.{◌≡◌, length};
+    ghost use Rattle.cell_table.specs.declared.view.Stage.TheVariants.{Resting};
+    ghost use Rattle.cell.specs.Calls.{GathererOf, HoldNothing};
+
+    ghost Value = { GathererOf M };
+
+    ghost view = { λ p. record { pass = record { of = record { id = p.seat.table_id; threads = p.seat.me.0.threads; rows = p.seat.me.0.rows; offers = p.seat.me.0.offers; passes = p.seat.me.0.passes; lives = p.seat.me.0.lives; nacks = p.seat.me.0.nacks; first = p.seat.me.0.first }; seen = p.seat.me.0.seen; made = p.seat.me.0.made; results = p.seat.me.0.results; out = p.seat.me.1 }; gathered = p.seat.me.0.gathered } };
+
+    ghost invariant = { λ p. (p.seat.me.0.stage ≡ Resting) × (length p.places.items ≡ length p.seat.me.0.first) × HoldNothing p.places.items };
+}
+
 impl<M> Pass<M> {
+    /// The pass, to which others may leave the table from now on.
+    pub(crate) fn into_gatherer(self) -> Gatherer<M>
+        ensures { result.pass ≡ self }
+    {
+        let Pass { seat, places, .. } = self;
+        Gatherer { seat, places }
+    }
+
     /// Whether the pass holds the row, or, where the row's number is that of the table's rows, stands behind the last row
     /// of the thread.
     pub fn holds(&self, row: Row) -> bool
@@ -430,13 +459,13 @@ impl<M: Resident + Drop> Cells<M> {
         ensures own { (r : Row) (j : Joined) (offers : List Offer) → IsDraft pass.seen r offers → joined_in result r ≡ Some j → (j.own < length offers) × (offer_in result r j.own ≡ slice_get offers j.own) }
         ensures acts { IsHousing self → ActsAs (before_of (opening_at self)) (acts_in M.stands self.first) result }
     {
-        self.close_with(pass).0
+        self.close_with(pass.into_gatherer()).0
     }
 
     /// The same, and what stands for the threads of which a row is opened that nobody has taken: it offers what that row
     /// offers. One place for each thread, in a table of machines. What lies in other slots goes with the table.
-    pub(crate) fn close_with(self, pass: Pass<M>) -> (Ledger, Vec<Option<M>>)
-        requires here { IsPassOf self pass }
+    pub(crate) fn close_with(self, by: Gatherer<M>) -> (Ledger, Vec<Option<M>>)
+        requires here { IsPassOf self by.pass }
         ensures size { (result.0.threads ≡ self.threads) × (result.0.rows ≡ self.rows) }
         ensures lawful { IsLawful result.0 }
         ensures opening { result.0.opening ≡ greatest (opening_at self) }
@@ -444,21 +473,39 @@ impl<M: Resident + Drop> Cells<M> {
         ensures over { (t : ℕ) → HadEnded (opening_at self) t → EndsAt (course_in result.0 t) 0 }
         ensures carried { (n : NackName) → IsNackOf self n → carried_in result.0 n ≡ carried_by (word_for (state_in (opening_at self) n)) }
         ensures outside { (t : ℕ) → self.threads ≤ t → course_in result.0 t ≡ Unstarted }
-        ensures started { (t stamp : ℕ) → Has pass.seen.started (t, stamp) → HasStart (course_in result.0 t) stamp }
-        ensures ended { (t g : ℕ) → Has pass.seen.ended (t, g) → EndsAt (course_in result.0 t) g }
-        ensures seen { (r : Row) (j : Joined) → Has pass.seen.joined (r, j) → joined_in result.0 r ≡ Some j }
-        ensures offers { (r : Row) (n : ℕ) (o : Offer) → SeesOffer pass.seen r n o → offer_in result.0 r n ≡ Some o }
-        ensures lacks { (r : Row) (n : ℕ) → SeesNoOffer pass.seen r n → offer_in result.0 r n ≡ None }
-        ensures bound { (n : NackName) (b : Binding) → Has pass.seen.bound (n, b) → binding_in result.0 n ≡ Some b }
-        ensures results { (t : ℕ) (results : List Result) → Has pass.results (t, results) → AreResults result.0 t results }
-        ensures own { (r : Row) (j : Joined) (offers : List Offer) → IsDraft pass.seen r offers → joined_in result.0 r ≡ Some j → (j.own < length offers) × (offer_in result.0 r j.own ≡ slice_get offers j.own) }
+        ensures started { (t stamp : ℕ) → Has by.pass.seen.started (t, stamp) → HasStart (course_in result.0 t) stamp }
+        ensures ended { (t g : ℕ) → Has by.pass.seen.ended (t, g) → EndsAt (course_in result.0 t) g }
+        ensures seen { (r : Row) (j : Joined) → Has by.pass.seen.joined (r, j) → joined_in result.0 r ≡ Some j }
+        ensures offers { (r : Row) (n : ℕ) (o : Offer) → SeesOffer by.pass.seen r n o → offer_in result.0 r n ≡ Some o }
+        ensures lacks { (r : Row) (n : ℕ) → SeesNoOffer by.pass.seen r n → offer_in result.0 r n ≡ None }
+        ensures bound { (n : NackName) (b : Binding) → Has by.pass.seen.bound (n, b) → binding_in result.0 n ≡ Some b }
+        ensures results { (t : ℕ) (results : List Result) → Has by.pass.results (t, results) → AreResults result.0 t results }
+        ensures own { (r : Row) (j : Joined) (offers : List Offer) → IsDraft by.pass.seen r offers → joined_in result.0 r ≡ Some j → (j.own < length offers) × (offer_in result.0 r j.own ≡ slice_get offers j.own) }
         ensures count { length result.1.items ≡ length self.first }
         ensures machines { IsHousing self → HandsOut M.stands self.first result.0 result.1.items }
+        ensures waiting { IsHousing self → HandsOutWaiting result.0 result.1.items }
+        ensures few { length by.gathered + 1 ≤ self.passes }
+        ensures opened { self.passes ≤ length by.gathered + 1 → (r : Row) (n : ℕ) (o : Offer) → offer_in result.0 r n ≡ Some o → (steps : List Step) × HasSteps by steps × Has steps (Open r) }
+        ensures handed { IsHousing self → self.passes ≤ length by.gathered + 1 → (r : Row) (steps : List Step) → HasSteps by steps → Has steps (Open r) → ((others : List Step) → HasSteps by others → Has others (Take r) → ⊥) → IsHandedOut result.1.items r.thread }
         ensures acts { IsHousing self → ActsAs (before_of (opening_at self)) (acts_in M.stands self.first) result.0 }
     {
         let Cells { board, spare } = self;
-        let Pass { seat, places, .. } = pass;
+        let Gatherer { seat, places } = by;
         board.close(seat, spare, places)
+    }
+
+    /// Tells `to` all that `from` has seen, as `tell` does, and `from` leaves the table by it: `to` has gathered its seat
+    /// from now on, and the steps that it made.
+    pub(crate) fn leave(&self, from: Pass<M>, to: &mut Gatherer<M>)
+        requires here { IsPassOf self.now from × IsPassOf self.now to.old.pass }
+        ensures here { IsPassOf self.now to.new.pass }
+        ensures made { to.new.pass.made ≡ to.old.pass.made }
+        ensures told { to.new.pass.seen ≡ heard to.old.pass.seen (told_of from.seen) }
+        ensures results { to.new.pass.results ≡ to.old.pass.results ++ from.results }
+        ensures gathered { (seat : ℕ) × (to.new.gathered ≡ to.old.gathered ++ (seat, from.made) ∷ []) }
+    {
+        let Pass { mut seat, .. } = from;
+        self.board.leave(&mut seat, &mut to.seat);
     }
 }
 

@@ -1,29 +1,31 @@
 //! The end of a table by all of its passes.
 
-ghost use Rattle.std.specs.Prelude.{◌≡◌, ◌<◌, ◌≤◌, ℕ, List, None, Some, All, Contains, false, length};
+ghost use Rattle.std.specs.Prelude.{◌≡◌, ◌<◌, ◌≤◌, [], ℕ, List, None, Some, All, Contains, false, length};
 ghost use Rattle.protocol_values.specs.declared.Binding.{Binding};
 ghost use Rattle.protocol_values.specs.declared.Course.TheVariants.{Unstarted};
 ghost use Rattle.protocol_values.specs.declared.Joined.{Joined};
 ghost use Rattle.protocol_values.specs.declared.NackName.{NackName};
 ghost use Rattle.protocol_values.specs.declared.Offer.{Offer};
 ghost use Rattle.protocol_values.specs.declared.Row.{Row};
+ghost use Rattle.protocol_values.specs.declared.Step.TheVariants.{Open, Take};
 ghost use Rattle.protocol.specs.Acting.{ActsAs, EndsAt, HasStart, acts_in, before_of};
 ghost use Rattle.protocol.specs.Ledgers.{IsLawful, binding_in, carried_in, course_in, joined_in, offer_in};
 ghost use Rattle.protocol.specs.Openings.{HadEnded, HadStarted, greatest, state_in, word_for};
 ghost use Rattle.protocol.specs.Standing.{AreResults, Result};
 ghost use Rattle.protocol.specs.Tables.{carried_by};
-ghost use Rattle.cell_table.specs.Closings.{HandsOut};
+ghost use Rattle.cell_table.specs.Closings.{HandsOut, HandsOutWaiting, IsHandedOut};
 ghost use Rattle.cell_table.specs.Sight.{Has, SeesNoOffer, SeesOffer};
 ghost use Rattle.cell.specs.Calls.{IsHousing, IsNackOf, IsPassOf, PassOf, opening_at};
-ghost use Rattle.cell.specs.Hearing.{HasHeard};
+ghost use Rattle.cell.specs.Hearing.{HasGathered, HasHeard};
 
-use crate::cells::{Cells, Pass};
+use crate::cells::{Cells, Gatherer, Pass};
 use protocol::{Ledger, Resident};
 
 impl<M: Resident + Drop> Cells<M> {
     /// Ends the table: its ledger has all that any of these passes has seen or was told. What stands for the threads of
     /// which a row is opened that nobody has taken is handed out: it offers what that row offers. One place for each
-    /// thread, in a table of machines. What lies in other slots goes with the table.
+    /// thread, in a table of machines. What lies in other slots goes with the table. Where these are all passes of the
+    /// table, one of them opened each row that offers something.
     pub fn close_all(self, passes: Vec<Pass<M>>) -> (Ledger, Vec<Option<M>>)
         requires here { All (λ p. IsPassOf self p) passes.items }
         requires some { 1 ≤ length passes.items }
@@ -43,25 +45,30 @@ impl<M: Resident + Drop> Cells<M> {
         ensures results { (p : PassOf M) (t : ℕ) (results : List Result) → Contains passes.items p → Has p.results (t, results) → AreResults result.0 t results }
         ensures count { length result.1.items ≡ length self.first }
         ensures machines { IsHousing self → HandsOut M.stands self.first result.0 result.1.items }
+        ensures waiting { IsHousing self → HandsOutWaiting result.0 result.1.items }
+        ensures opened { self.passes ≤ length passes.items → (r : Row) (n : ℕ) (o : Offer) → offer_in result.0 r n ≡ Some o → (p : PassOf M) × Contains passes.items p × Has p.made (Open r) }
+        ensures handed { IsHousing self → self.passes ≤ length passes.items → (p : PassOf M) (r : Row) → Contains passes.items p → Has p.made (Open r) → ((q : PassOf M) → Contains passes.items q → Has q.made (Take r) → ⊥) → IsHandedOut result.1.items r.thread }
         ensures acts { IsHousing self → ActsAs (before_of (opening_at self)) (acts_in M.stands self.first) result.0 }
     {
         let told = self.told_one(passes);
         self.close_with(told)
     }
 
-    /// One of the passes, which all others have told what they saw.
-    fn told_one(&self, passes: Vec<Pass<M>>) -> Pass<M>
+    /// One of the passes, to which all others have left the table: it has seen what they saw.
+    fn told_one(&self, passes: Vec<Pass<M>>) -> Gatherer<M>
         requires here { All (λ p. IsPassOf self.now p) passes.items }
         requires some { 1 ≤ length passes.items }
-        ensures here { IsPassOf self.now result }
-        ensures told { All (λ p. HasHeard p result) passes.items }
+        ensures here { IsPassOf self.now result.pass }
+        ensures told { All (λ p. HasHeard p result.pass) passes.items }
+        ensures gathered { HasGathered passes.items [] result }
     {
         let mut passes = passes;
-        let Some(mut told) = passes.pop() else {
+        let Some(last) = passes.pop() else {
             unreachable!()
         };
-        for mut pass in passes {
-            self.tell(&mut pass, &mut told);
+        let mut told = last.into_gatherer();
+        for pass in passes {
+            self.leave(pass, &mut told);
         }
         told
     }
