@@ -5,9 +5,9 @@
 //! table is to be. What is counted is a bound: of a branch the side with more syncs, of a block also what
 //! stands behind an `end`.
 //!
-//! A count above 4294967294 says nothing but that it is large. Of a row that the table has not the workers open none, and
-//! what a thread offers behind its last row its machine tells: so were the bound too small, then commits would be missing
-//! until the run's end, as where the stated rows are too few, and a run in seasons would take more of them.
+//! So no process makes more syncs than are counted, unless the count is 4294967295, which says nothing. On this hangs when
+//! a run asks for more seasons: a table that has fewer rows than are stated is never spent. Of a row that the table has not
+//! the workers open none, and what a thread offers behind its last row its machine tells.
 //!
 //! A sync makes an offer for each base event of its event, and how many these are the text says. So the offers are
 //! counted exactly: the most that some sync makes, also one in the body of a guard or a nack. On this a promise

@@ -5,7 +5,7 @@ use super::scripts::{EITHER_WAY, EXAMPLES, Example, TWO_PAIRS, WITHOUT_COMMITS};
 use cell::{SEAL, StepGate};
 use journal::Record;
 use protocol_values::Commit;
-use runtime::{Gate, OpenGate, RunFault, run, run_gated, work};
+use runtime::{Gate, OpenGate, RunFault, run, run_gated, run_seasons_gated, work};
 use script::{Script, parse};
 use std::process::Abort;
 use std::sync::Wait;
@@ -123,6 +123,17 @@ fn journal_of_two_seals<R: Abort + AllocGlobal + Threads + Wait + Sync>(
     Ok(record.journal)
 }
 
+/// The journal of a run in seasons.
+fn seasons_of_two_seals<R: Abort + AllocGlobal + Threads + Wait + Sync>(
+    rt: &R,
+    script: &Script,
+) -> Result<Vec<Commit>, Fail> {
+    let gate = FirstSealWaits::new();
+    let record = run_seasons_gated(rt, rt.alloc(), script, 4, 256, 1, &gate)?;
+    gate.check(rt);
+    Ok(record.journal)
+}
+
 /// What the workers alone commit.
 fn commits_of_two_seals<R: Abort + AllocGlobal + Threads + Wait + Sync>(
     rt: &R,
@@ -142,6 +153,13 @@ fn two_seals_at_once(rt: HostRuntime) -> Result<(), Fail> {
     let script = parse(rt.alloc(), TWO_PAIRS.as_bytes())?;
     let journal = journal_of_two_seals(&rt, &script)?;
     check_same(&rt, journal.len(), 2, "the commits");
+    let in_seasons = seasons_of_two_seals(&rt, &script)?;
+    check_same(
+        &rt,
+        in_seasons == journal,
+        true,
+        "the commits of a season are these",
+    );
     let commits = commits_of_two_seals(&rt, &script)?;
     check_same(&rt, commits, journal, "what the workers commit");
     Ok(())
@@ -208,6 +226,25 @@ fn check_seals_of<R: Abort + AllocGlobal + Threads + Wait + Sync>(
 fn a_seal_for_each_pair(rt: HostRuntime) -> Result<(), Fail> {
     for example in EXAMPLES.iter() {
         check_seals_of(&rt, example)?;
+    }
+    Ok(())
+}
+
+/// Two processes that meet three times.
+const THREE_MEETINGS: &str =
+    "channel c; process a { loop 3 { sync send c (1); } } process b { loop 3 { x <- sync recv c; } }";
+
+// So in seasons of one row each: were a season not played, its commit would not be sealed.
+#[test]
+fn a_seal_for_each_season(rt: HostRuntime) -> Result<(), Fail> {
+    let script = parse(rt.alloc(), THREE_MEETINGS.as_bytes())?;
+    for workers in &WORKERS {
+        let gate = Seals {
+            made: AtomicU32::new(0),
+        };
+        let record = run_seasons_gated(&rt, rt.alloc(), &script, *workers, 1, 3, &gate)?;
+        check_same(&rt, count_pairs(&record.journal), 3, "the pairs");
+        check_same(&rt, gate.made.load(Ordering::SeqCst), 3, "the seals");
     }
     Ok(())
 }
