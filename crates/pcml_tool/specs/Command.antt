@@ -18,7 +18,7 @@ use Rattle.pcml_tool.specs.declared.fault.Fault.TheVariants as faults
 use Rattle.protocol_schedule.specs.Schedule.{IsFirstBadLine}
 use Rattle.pcml_tool.specs.Play.{IsPlayed, IsFirstRefused}
 use Rattle.pcml_tool.specs.Check.{IsChecked}
-use Rattle.runtime.specs.Seasons.{NeedsSeasons}
+use Rattle.runtime.specs.Played.{NeedsSeasons}
 use Rattle.runtime.specs.Limits.{AreRows, AreSeasons, AreWorkers}
 use Rattle.pcml_tool.specs.Replay.{IsReplayed, IsNoRun, unlawful_line}
 use Rattle.pcml_tool.specs.Chart.{IsCharted}

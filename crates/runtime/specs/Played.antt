@@ -1,14 +1,18 @@
--- Which commits so many seasons can make.
-use Rattle.std.specs.Prelude.{◌≡◌, ◌≤◌, ◌+◌, ◌*◌, ℕ, List, [], length}
+-- Which commits so many seasons can make, and when so many are too few.
+use Rattle.std.specs.Prelude.{◌≡◌, ◌⊎◌, ◌≤◌, ◌+◌, ◌*◌, ℕ, List, [], Some, length, slice_get}
 use Rattle.protocol_values.specs.declared.Commit.{Commit}
 use Rattle.script_tree.specs.Processes.{Proc}
 use Rattle.protocol.specs.Acting.{before_of}
 use Rattle.protocol.specs.Ledgers.{Ledger}
 use Rattle.protocol.specs.Openings.{Opening}
 use Rattle.protocol_values.specs.declared.Offer.{Offer}
+use Rattle.journal_replay.specs.declared.end.End.{End}
+use Rattle.journal_replay.specs.declared.end.End.TheVariants.{Spent}
 use Rattle.journal_replay.specs.Runs.{config_of}
 use Rattle.journal_order.specs.Ledgers.{ProcessOffers}
 use Rattle.journal_order.specs.Behind.{GoesOn, run_on}
+use Rattle.journal.specs.Records.{CompletesRun}
+use Rattle.journal.specs.declared.record.Record.{Record}
 
 -- One season, the n-th: its table has so many rows a process and went on from an opening, where the commits of the seasons before led. It
 -- left a lawful ledger, in which threads did what their processes do there. The ledger's commits, in order and numbered on, stand behind
@@ -48,3 +52,19 @@ pub record NeedsOneMore (ps : List Proc) (rows seasons : ℕ) : Type 0 where
   pub nacks : List ℕ
   pub stands : ProcessOffers ps thread (config_of journal thread) offers nacks
   pub spent : length (config_of before thread) + rows ≤ length (config_of journal thread)
+
+-- a process stands at a sync, with as many results as it has rows
+abbrev pub HasSpent : List End → Type 0
+HasSpent ends = (t : ℕ) × (slice_get ends t ≡ Some Spent)
+
+-- Led on to their end, the commits of the seasons leave a process at a sync, with as many results as all seasons have rows.
+pub record NeedsMoreRows (ps : List Proc) (rows seasons : ℕ) : Type 0 where
+  pub commits : List Commit
+  pub played : ArePlayedWithin ps rows seasons commits
+  pub end : Record
+  pub completes : CompletesRun ps (seasons * rows) commits end
+  pub spent : HasSpent end.ends.items
+
+-- SO MANY SEASONS, of so many rows each, ARE TOO FEW: one more is needed, or more rows than all of them have
+abbrev pub NeedsSeasons : List Proc → ℕ → ℕ → Type 0
+NeedsSeasons ps rows seasons = NeedsOneMore ps rows seasons ⊎ NeedsMoreRows ps rows seasons

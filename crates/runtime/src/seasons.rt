@@ -6,9 +6,9 @@ ghost use Rattle.script.specs.Scripts.{script_of};
 ghost use Rattle.journal.specs.Records.{CompletesRun};
 ghost use Rattle.runtime.specs.Headline.{TellsFreeRun};
 ghost use Rattle.runtime.specs.Limits.{AreRows, AreSeasons, AreWorkers};
-ghost use Rattle.runtime.specs.Played.{ArePlayedWithin};
+ghost use Rattle.runtime.specs.Played.{ArePlayedWithin, HasSpent, NeedsSeasons};
 ghost use Rattle.runtime.specs.Season.{EndsRun};
-ghost use Rattle.runtime.specs.Seasons.{EndSeasons, HasSpent, IsHalt, NeedsSeasons, RefusesCommits};
+ghost use Rattle.runtime.specs.Seasons.{EndSeasons, IsHalt, RefusesCommits};
 ghost use Rattle.runtime.specs.declared.seasons.SeasonFault.TheVariants.{Workers, Rows, Seasons, SeasonCount, Lost, Unlawful};
 
 use crate::bound::rows_used;

@@ -1,6 +1,6 @@
 use Rattle.std.proofs.Common.{subst, sym}
 use Rattle.script.specs.Scripts.{script_of}
-use Rattle.runtime.specs.Seasons.{HasSpent}
+use Rattle.runtime.specs.Played.{HasSpent}
 use Rattle.runtime.proofs.Completed.{free}
 use Rattle.runtime.proofs.seasons.concluded.Goals as goal
 

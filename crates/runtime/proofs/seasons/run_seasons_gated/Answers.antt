@@ -5,8 +5,8 @@ use Rattle.protocol_values.specs.declared.Commit.{Commit}
 use Rattle.script.specs.Scripts.{script_of}
 use Rattle.journal.specs.Records.{CompletesRun}
 use Rattle.journal.specs.declared.record.Record.{Record}
-use Rattle.runtime.specs.Played.{ArePlayedWithin, NoSeason}
-use Rattle.runtime.specs.Seasons.{NeedsSeasons, RefusesCommits}
+use Rattle.runtime.specs.Played.{ArePlayedWithin, NeedsSeasons, NoSeason}
+use Rattle.runtime.specs.Seasons.{RefusesCommits}
 use Rattle.runtime.specs.declared.seasons.SeasonFault.{SeasonFault}
 use Rattle.runtime.specs.declared.seasons.SeasonFault.TheVariants.{Seasons}
 use Rattle.runtime.proofs.seasons.run_seasons_gated.Goals as goal
