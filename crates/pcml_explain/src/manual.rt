@@ -301,7 +301,10 @@ EXIT STATUS
               standard error; or a text that is no script, of which why tells
               that on standard output; or outcomes of which one leaves a
               process waiting or spent, or not all are known, with --waiting
-              or --need, or of which none has the number of --of.
+              or --need, or of which none has the number of --of.  Where
+              standard error is a terminal, the system's reason why a file
+              cannot be read stands behind a fault, or what why FILE tells of
+              a text that is no script.
 
        2      Words that are not understood, a name that no process has, and
               a wish for help: what is to be said of it, or the help, is on
