@@ -1,12 +1,12 @@
 //! What helps against a fault.
 
 use crate::limit::limit_words;
-use crate::nearest::{is_declared_later, nearest};
+use crate::nearest::{declared_later, nearest};
 use crate::site::Site;
 use crate::telling::spelling;
 use script_expected::Kind;
 use script_reader::fault::Problem;
-use script_token::{Symbol, Token};
+use script_token::{Placed, Symbol, Token};
 use std::alloc::{AllocError, Global};
 
 /// Whether the word begins an event.
@@ -65,11 +65,68 @@ fn bad_words(byte: u8) -> &'static str {
     }
 }
 
+/// How a message is sent and received.
+const MESSAGE: &str =
+    "a message is sent by `sync send c (1);`, and received by `x <- sync recv c;`";
+
+/// Of a byte that begins no token, where it stands.
+fn byte_words(site: &Site<'_>, byte: u8) -> &'static str {
+    match byte {
+        b'!' | b'?' if site.expects(Symbol::Arrow) => MESSAGE,
+        b'|' | b'+' if site.expects(Symbol::Semicolon) => "a choice of events is `choose [.., ..]`",
+        _ => bad_words(byte),
+    }
+}
+
+/// Of a word of other languages, which is a name in this one.
+fn foreign_words(name: &str) -> Option<&'static str> {
+    let words = match name {
+        "while" | "for" | "do" | "repeat" | "until" => {
+            "a loop is `loop 3 { sync ..; }` or `forever { sync ..; }`"
+        }
+        "break" | "continue" => {
+            "a loop goes round as often as it says; `end;` ends the whole process"
+        }
+        "return" | "exit" => "`end;` ends the process",
+        "select" | "alt" => "a choice of events is `sync choose [.., ..]`",
+        "go" | "fork" | "start" => "a process is started by `spawn p;`",
+        "var" | "const" | "int" => "a variable is set by `let`",
+        "printf" | "println" | "echo" | "write" => "a value is printed by `print x;`",
+        "chan" | "channels" => "a channel is declared by `channel c;`",
+        "proc" | "thread" | "func" | "fn" | "function" | "def" => {
+            "a process is declared by `process p { .. }`"
+        }
+        _ => return None,
+    };
+    Some(words)
+}
+
+/// Of such a word, where a statement or the text begins with it.
+fn foreign_help(site: &Site<'_>, token: Token<'_>) -> Option<&'static str> {
+    match (site.before(), token) {
+        (_, Token::Name(name)) if site.expects(Symbol::Process) => foreign_words(name),
+        (
+            Some(
+                Placed {
+                    token: Token::Name(name),
+                    ..
+                },
+            ),
+            _,
+        ) if site.expects(Symbol::Arrow) => foreign_words(name),
+        _ => None,
+    }
+}
+
 /// Of a token that the grammar does not allow.
 fn token_words(site: &Site<'_>, token: Token<'_>) -> Option<&'static str> {
+    let foreign = foreign_help(site, token);
+    if foreign.is_some() {
+        return foreign;
+    }
     let words = match token {
         Token::Bad => match site.bytes.get(site.at) {
-            Some(byte) => Some(bad_words(*byte)),
+            Some(byte) => Some(byte_words(site, *byte)),
             None => None,
         },
         Token::Name(_) if site.expects_only(Kind::Number) => {
@@ -96,6 +153,11 @@ fn mark_words(site: &Site<'_>, symbol: Symbol) -> Option<&'static str> {
         "a test has one `=`"
     } else if symbol == Symbol::Equal && site.is_before(Symbol::Less) {
         "write `a < b + 1` for a at most b"
+    } else if symbol == Symbol::Equal
+        && site.expects(Symbol::Arrow)
+        && site.is_behind(1, Symbol::Sync)
+    {
+        "what a sync gives is taken by `names <- sync ..`"
     } else if symbol == Symbol::Equal && site.expects(Symbol::Arrow) {
         "a variable is set by `let`"
     } else if symbol == Symbol::Minus && site.expects(Symbol::Let) {
@@ -128,6 +190,14 @@ fn keyword_words(site: &Site<'_>, symbol: Symbol) -> Option<&'static str> {
     Some(words)
 }
 
+/// Of a block that is open where a process begins or the text ends.
+fn open_help(alloc: Global, site: &Site<'_>) -> Result<String, AllocError> {
+    match site.open_block() {
+        Some(line) => format!(in alloc; "help: the block that line {line} opens has no `}}`\n"),
+        None => Ok(String::new(alloc)),
+    }
+}
+
 fn line(alloc: Global, words: &str) -> Result<String, AllocError> {
     format!(in alloc; "help: {words}\n")
 }
@@ -135,8 +205,11 @@ fn line(alloc: Global, words: &str) -> Result<String, AllocError> {
 /// Of a token that the grammar does not allow: a word that is taken for a name, or a `;` that is not there.
 fn syntax_help(alloc: Global, site: &Site<'_>) -> Result<String, AllocError> {
     let Some(here) = site.here() else {
-        return Ok(String::new(alloc));
+        return open_help(alloc, site);
     };
+    if site.is_here(Symbol::Process) && site.expects(Symbol::Let) {
+        return open_help(alloc, site);
+    }
     if let Some(words) = token_words(site, here.token) {
         return line(alloc, words);
     }
@@ -163,8 +236,12 @@ fn name_help(alloc: Global, site: &Site<'_>) -> Result<String, AllocError> {
     let Token::Name(name) = here.token else {
         return Ok(String::new(alloc));
     };
-    if is_declared_later(&site.tokens[site.place()..], name) {
-        return line(alloc, "a process can be named behind its block alone");
+    match declared_later(&site.tokens[site.place()..], name) {
+        Some(Symbol::Process) => {
+            return line(alloc, "a process can be named behind its block alone");
+        }
+        Some(_) => return line(alloc, "channels are declared before all processes"),
+        None => {}
     }
     match nearest(alloc, site, name)? {
         Some(other) => format!(in alloc;
@@ -175,7 +252,9 @@ fn name_help(alloc: Global, site: &Site<'_>) -> Result<String, AllocError> {
 }
 
 fn twice_words(site: &Site<'_>) -> &'static str {
-    if site.is_before(Symbol::Spawn) {
+    if site.is_behind(1, Symbol::Arrow) && !site.is_behind(2, Symbol::Sync) {
+        MESSAGE
+    } else if site.is_before(Symbol::Spawn) {
         "a process is spawned once"
     } else if site.is_before(Symbol::Channel) || site.is_before(Symbol::Process) {
         "a name is declared once"

@@ -54,20 +54,20 @@ pub(crate) fn nearest<'a>(
     Ok(found)
 }
 
-/// Whether a process of the name is declared behind the fault.
-pub(crate) fn is_declared_later(tokens: &[Placed<'_>], name: &str) -> bool {
-    let mut behind_process = false;
+/// The word by which the name is declared behind the fault: `channel` or `process`, if it is.
+pub(crate) fn declared_later(tokens: &[Placed<'_>], name: &str) -> Option<Symbol> {
+    let mut word = None;
     for placed in tokens {
         match placed.token {
             Token::Name(other) => {
-                if behind_process && name == other {
-                    return true;
+                if word.is_some() && name == other {
+                    return word;
                 }
-                behind_process = false;
+                word = None;
             }
-            Token::Symbol(symbol) => behind_process = symbol == Symbol::Process,
-            Token::Number(_) | Token::Bad => behind_process = false,
+            Token::Symbol(symbol @ (Symbol::Channel | Symbol::Process)) => word = Some(symbol),
+            Token::Symbol(_) | Token::Number(_) | Token::Bad => word = None,
         }
     }
-    false
+    None
 }

@@ -39,6 +39,30 @@ impl<'a> Site<'a> {
         Some(*placed)
     }
 
+    /// Whether so many tokens behind the fault the keyword or the mark stands.
+    pub(crate) fn is_behind(&self, count: usize, symbol: Symbol) -> bool {
+        match self.tokens.get(self.place().saturating_add(count)) {
+            Some(placed) => is_symbol(placed.token, symbol),
+            None => false,
+        }
+    }
+
+    /// The line of the innermost block that is open there, if one is.
+    pub(crate) fn open_block(&self) -> Option<usize> {
+        let mut closed = 0usize;
+        for placed in self.tokens[..self.place()].iter().rev() {
+            if is_symbol(placed.token, Symbol::CloseBrace) {
+                closed = closed.saturating_add(1);
+            } else if is_symbol(placed.token, Symbol::OpenBrace) {
+                if closed == 0 {
+                    return Some(placed.line);
+                }
+                closed -= 1;
+            }
+        }
+        None
+    }
+
     pub(crate) fn is_here(&self, symbol: Symbol) -> bool {
         match self.here() {
             Some(placed) => is_symbol(placed.token, symbol),

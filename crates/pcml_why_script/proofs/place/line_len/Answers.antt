@@ -1,4 +1,4 @@
-use Rattle.std.proofs.Common.{◌≡◌, ◌==◌, sym, true, arith, refl, length}
+use Rattle.std.proofs.Common.{◌≡◌, ◌==◌, sym, arith, length}
 use Rattle.std.proofs.lemmas.Bool.Decides.{Decides-eqb}
 use Rattle.std.proofs.lemmas.List.Sums.{position_or_len_is}
 use Rattle.pcml_why_script.proofs.place.line_len.Goals as goal

@@ -1,5 +1,4 @@
-use Rattle.std.proofs.Common.{◌≡◌, ◌++◌, Global, Result, IfOk, ap, ap₂, ◌∙◌, subst, List, ℕ}
-use Rattle.std.specs.declared.alloc.AllocError.{AllocError}
+use Rattle.std.proofs.Common.{◌≡◌, ◌++◌, Global, ap, ap₂, ◌∙◌, subst, List, ℕ}
 use Rattle.std.specs.String.{string_bytes}
 use Rattle.std.specs.declared.string.String.{String}
 use Rattle.script_token.specs.Tokens.{Token}

@@ -1,11 +1,10 @@
-use Rattle.std.proofs.Common.{◌≡◌, ◌++◌, List, ℕ, Result, Ok, Err, IfOk, sym, ap, ap₂, ◌∙◌, subst, append_assoc}
-use Rattle.std.specs.String.{string_bytes}
+use Rattle.std.proofs.Common.{◌≡◌, ◌++◌, List, ℕ, Result, Ok, Err, IfOk, sym, ap, ◌∙◌, subst}
 use Rattle.script_token.specs.Tokens.{Token}
 use Rattle.script_token.specs.declared.lexeme.Placed.{Placed}
 use Rattle.script_reader.specs.Steps.{bare, told}
 use Rattle.script.specs.Scripts.{script_at, tokens_of}
 use Rattle.pcml_why_script.specs.Places.{excerpt_text, place_left}
-use Rattle.pcml_why_script.specs.Telling.{HasExpected, TellsFault, head_text, stand_text}
+use Rattle.pcml_why_script.specs.Telling.{HasExpected, head_text, stand_text}
 use Rattle.pcml_why_script.proofs.Bare.{bare_is}
 use Rattle.pcml_why_script.proofs.telling.told_fault.Goals as goal
 

@@ -1,4 +1,4 @@
-use Rattle.std.proofs.Common.{◌≡◌, List, Option, None, MatchOption, Err, ap, ◌∙◌, subst, arith}
+use Rattle.std.proofs.Common.{◌≡◌, List, Option, MatchOption, Err, ap, ◌∙◌, subst, arith}
 use Rattle.script_token.specs.Tokens.{Token}
 use Rattle.script_token.specs.declared.lexeme.Placed.{Placed}
 use Rattle.script_reader.specs.declared.fault.Fault.{Fault}
