@@ -18,7 +18,7 @@ pub struct FilesRead<'a> {
 }
 
 /// The files that words ask to be read. Words that are not understood ask for none.
-pub fn files_read<'a>(alloc: Global, words: &[&'a str]) -> FilesRead<'a> {
+pub fn files_read<'a>(alloc: Global, words: &'a [&'a str]) -> FilesRead<'a> {
     match read_words(alloc, words) {
         Ok(asked) => files_of(asked),
         Err(_) => FilesRead {

@@ -251,8 +251,17 @@ fn name_help(alloc: Global, site: &Site<'_>) -> Result<String, AllocError> {
     }
 }
 
+/// Whether a statement begins there that takes nothing from a sync.
+fn begins_other(site: &Site<'_>) -> bool {
+    let begins = site.is_before(Symbol::OpenBrace)
+        || site.is_before(Symbol::CloseBrace)
+        || site.is_before(Symbol::Semicolon);
+    let takes = site.is_behind(1, Symbol::Arrow) && site.is_behind(2, Symbol::Sync);
+    begins && !takes && !site.is_behind(1, Symbol::Comma)
+}
+
 fn twice_words(site: &Site<'_>) -> &'static str {
-    if site.is_behind(1, Symbol::Arrow) && !site.is_behind(2, Symbol::Sync) {
+    if begins_other(site) {
         MESSAGE
     } else if site.is_before(Symbol::Spawn) {
         "a process is spawned once"
