@@ -26,7 +26,7 @@ returns g c =
     let over : IsLedgerOver cells ledger = record { size = closed.size.0; lawful = closed.lawful; before = closed.before; carried = closed.carried; acts = closed.acts } in
     let order : IsOrderOf ledger commits = record { all = told.once; ordered = told.in_order } in
     let added : c.add_renumbered.new.journal.items ≡ before ++ map (renumbered c.args.season.had.items) commits =
-    subst (λ (z : List _ × List Commit). c.add_renumbered.new.journal.items ≡ before ++ map (renumbered z.0) z.1) (λ i. (c.deref.ensures.value i, c.deref-2.ensures.value i)) c.in_ok-add_renumbered.ensures in (
+    subst (λ (z : List _ × List Commit). c.add_renumbered.new.journal.items ≡ before ++ map (renumbered z.0) z.1) (λ i. (c.deref-2.ensures.value i, c.deref-3.ensures.value i)) c.in_ok-add_renumbered.ensures in (
       record {
         few = c.requires.few;
         members = told.members;
