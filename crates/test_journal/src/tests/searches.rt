@@ -1,5 +1,7 @@
 //! What a script can come to, as values.
 
+ghost use Rattle.std.specs.Prelude.{◌≤◌};
+
 use super::check_same;
 use configurations::next_commits;
 use journal_replay::{End, replay};
@@ -26,7 +28,9 @@ fn sent(thread: u8, number: u32) -> Commit {
     }
 }
 
-fn found(alloc: Global, limit: usize) -> Result<Outcomes, Fail> {
+fn found(alloc: Global, limit: usize) -> Result<Outcomes, Fail>
+    requires { 1 ≤ limit }
+{
     let script = parse(alloc, EITHER.as_bytes())?;
     let asked = Asked {
         named: vec![in alloc; true; 3]?,
