@@ -77,11 +77,17 @@ fn why_command<'a>(alloc: Global) -> Result<Command<'a>, AllocError> {
         "JOURNAL",
         "The journal: without it, it is told why the text is no script",
     );
+    let short = flag_argument(
+        alloc,
+        "short",
+        "Without a journal: one line FILE:LINE:COLUMN: TEXT, and nothing where the text is a script",
+    );
     let arguments = vec![in alloc;
         file,
         journal,
         rows_argument(alloc),
         seasons_argument(alloc),
+        short.conflicts_with("journal")?,
     ]?;
     Command::new(alloc, "why")
         .about("Tells why each process stands where it does, or why a text is no script")
@@ -92,7 +98,11 @@ fn why_command<'a>(alloc: Global) -> Result<Command<'a>, AllocError> {
 fn why_request<'a>(why: &ArgMatches<'a>) -> Option<Request<'a>> {
     let script = why.get_str("file")?;
     let Some(journal) = why.get_str("journal") else {
-        return Some(Request::WhyScript(script));
+        return Some(if why.get_flag("short") {
+            Request::WhyShort(script)
+        } else {
+            Request::WhyScript(script)
+        });
     };
     Some(Request::Why {
         script,

@@ -61,6 +61,8 @@ pub enum Request<'a> {
     },
     /// Why the text in the file of this name is no script.
     WhyScript(&'a str),
+    /// The same in one line, as compilers tell it.
+    WhyShort(&'a str),
     /// The chart of the journal in a file, against the script in another, of so many rows a process in each
     /// season: the commits with a stamp from one to another. Where names are given (separated by commas, or `all`),
     /// only the processes of these names have columns of their own, and all others share one.

@@ -4,7 +4,7 @@ use Rattle.std.specs.Io.KnownBytes.{Appends}
 use Rattle.std.specs.Global.{Vec}
 use Rattle.std.specs.Option.{option_copied, option_map}
 use Rattle.pcml_request.specs.declared.request.Request.{Request}
-use Rattle.pcml_request.specs.declared.request.Request.TheVariants.{Meet, Next, Outcomes, Play, Check, Chart, Explain, Replay, Run, Stats, Version, Why, WhyScript}
+use Rattle.pcml_request.specs.declared.request.Request.TheVariants.{Meet, Next, Outcomes, Play, Check, Chart, Explain, Replay, Run, Stats, Version, Why, WhyScript, WhyShort}
 use Rattle.pcml_request.specs.declared.request.Running.{Running}
 use Rattle.pcml_request.specs.declared.request.Search.{Search}
 use Rattle.pcml_request.specs.Requests.{all_rows}
@@ -40,6 +40,7 @@ use Rattle.outcomes.specs.declared.asked.Asked.{Asked}
 use Rattle.outcomes.specs.Asking.{has_unended}
 use Rattle.pcml_outcomes.specs.Told.{AreFound, NamesNeeded, SpellsAsked, asked_for, finding, outcomes_text}
 use Rattle.pcml_tool.specs.Searching.{FailsAsked, IsAskedOf, verdict_of}
+use Rattle.pcml_why_script.specs.Short.{TellsWhyShort}
 use Rattle.pcml_why_script.specs.Telling.{TellsWhyNot}
 use Rattle.script.specs.Sources.{Script}
 use Rattle.script.specs.Spelling.{Spells}
@@ -106,6 +107,14 @@ IsToldWhyNot (Some told) verdict text = (verdict ≡ Denied) × (text ≡ told)
 -- why the text in a file is no script
 abbrev pub AnswersWhyScript : Files → List ℕ → Verdict → List ℕ → Type 0
 AnswersWhyScript Holds name verdict text = (bytes : List ℕ) × Holds name bytes × (told : Option (List ℕ)) × TellsWhyNot bytes told × IsToldWhyNot told verdict text
+
+-- the same in one line: nothing of a text that is a script
+abbrev pub IsToldShort : Option (List ℕ) → Verdict → List ℕ → Type 0
+IsToldShort None verdict text = (verdict ≡ Done) × (text ≡ [])
+IsToldShort (Some told) verdict text = (verdict ≡ Denied) × (text ≡ told)
+
+abbrev pub AnswersWhyShort : Files → List ℕ → Verdict → List ℕ → Type 0
+AnswersWhyShort Holds name verdict text = (bytes : List ℕ) × Holds name bytes × (told : Option (List ℕ)) × TellsWhyShort name bytes told × IsToldShort told verdict text
 
 -- The journal that is asked for is kept in the file that is named; where none is named, or there is no such journal, no file holds
 -- what it did not.
@@ -195,6 +204,7 @@ Answers Holds Keeps (Chart script journal rows seasons from to only) verdict tex
 Answers Holds Keeps (Next script journal rows) verdict text = AnswersNext Holds script.now journal.now rows verdict text
 Answers Holds Keeps (Stats script journal rows seasons) verdict text = AnswersStats Holds script.now journal.now (all_rows rows seasons) verdict text
 Answers Holds Keeps (WhyScript name) verdict text = AnswersWhyScript Holds name.now verdict text
+Answers Holds Keeps (WhyShort name) verdict text = AnswersWhyShort Holds name.now verdict text
 Answers Holds Keeps (Outcomes search) verdict text = AnswersOutcomes Holds Keeps search verdict text
 Answers Holds Keeps (Meet value) Done text = PrintsMeeting value text
 Answers Holds Keeps (Play name) Done text = OfSchedule Holds name.now (λ bytes. IsPlayed bytes text)
@@ -292,6 +302,7 @@ Fails Holds (Check name) fault = FailsParse Holds name.now fault
 Fails Holds (Explain topic) fault = fault ≡ faults.Memory
 Fails Holds (Why script journal rows seasons) fault = FailsReplay Holds script.now journal.now fault
 Fails Holds (WhyScript name) fault = FailsRead (λ bytes. ⊥) fault
+Fails Holds (WhyShort name) fault = FailsRead (λ bytes. ⊥) fault
 Fails Holds (Chart script journal rows seasons from to only) fault = FailsChart Holds script.now journal.now (all_rows rows seasons) (option_copied only) fault
 Fails Holds (Next script journal rows) fault = FailsReplay Holds script.now journal.now fault
 Fails Holds (Stats script journal rows seasons) fault = FailsReplay Holds script.now journal.now fault

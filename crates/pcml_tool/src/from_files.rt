@@ -7,7 +7,7 @@ ghost use Rattle.script.specs.Spelling.{Spells};
 ghost use Rattle.pcml_tool.specs.declared.fault.Fault.TheVariants.{Memory, Unwritten};
 ghost use Rattle.pcml_tool.specs.Check.{IsChecked};
 ghost use Rattle.pcml_tool.specs.Play.{IsPlayed};
-ghost use Rattle.pcml_tool.specs.Command.{AnswersChart, AnswersNext, AnswersReplay, AnswersStats, AnswersWhy, AnswersWhyScript, IsJudged, FailsChart, FailsParse, FailsPlay, FailsRead, FailsReplay, IsToldWhyNot, OfSchedule, printed};
+ghost use Rattle.pcml_tool.specs.Command.{AnswersChart, AnswersNext, AnswersReplay, AnswersStats, AnswersWhy, AnswersWhyScript, AnswersWhyShort, IsJudged, FailsChart, FailsParse, FailsPlay, FailsRead, FailsReplay, IsToldShort, IsToldWhyNot, OfSchedule, printed};
 ghost use Rattle.pcml_tool.specs.declared.from_files.Verdict.TheVariants.{Done};
 ghost use Rattle.pcml_files.specs.Files.{Fits};
 
@@ -17,7 +17,7 @@ use crate::{
     stats_journal, why_journal,
 };
 use pcml_files::{MOST_BYTES, Source};
-use pcml_why_script::why_not;
+use pcml_why_script::{why_not, why_short};
 use script::{Script, parse};
 use std::alloc::Global;
 
@@ -171,6 +171,30 @@ pub(crate) fn why_file<S: Source>(
 {
     let bytes = source.read(name)?;
     told_why_not(alloc, why_not(alloc, &bytes)?)
+}
+
+/// The same in one line that begins with the file's name; nothing, where the text is a script.
+pub(crate) fn why_short_file<S: Source>(
+    alloc: Global,
+    source: &mut S,
+    name: &str,
+) -> Result<(Verdict, Vec<u8>), Fault>
+    ensures done { IfOk result (λ answer. AnswersWhyShort (S.holds source.old) name.now answer.0 answer.1.items) }
+    ensures fault { IfErr result (FailsRead (λ bytes. ⊥)) }
+{
+    let bytes = source.read(name)?;
+    told_short(alloc, why_short(alloc, name, &bytes)?)
+}
+
+/// What is told of it, with the verdict.
+fn told_short(alloc: Global, text: Option<Vec<u8>>) -> Result<(Verdict, Vec<u8>), Fault>
+    ensures told { IfOk result (λ answer. IsToldShort (option_map (λ t. t.items) text) answer.0 answer.1.items) }
+    ensures fault { IfErr result (λ fault. fault ≡ Memory) }
+{
+    match text {
+        Some(text) => Ok((Verdict::Denied, text)),
+        None => Ok((Verdict::Done, Vec::new(alloc))),
+    }
 }
 
 /// The chart of the journal in a file, against the script in another.

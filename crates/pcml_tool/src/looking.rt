@@ -59,7 +59,9 @@ fn files_of(asked: Request<'_>) -> FilesRead<'_> {
             journal,
             ..
         } => (Some(script), Some(journal)),
-        Request::Play(file) | Request::WhyScript(file) => (None, Some(file)),
+        Request::Play(file) | Request::WhyScript(file) | Request::WhyShort(file) => {
+            (None, Some(file))
+        }
         Request::Meet(_) | Request::Explain(_) | Request::Version => (None, None),
     };
     FilesRead { script, other }

@@ -17,7 +17,7 @@ ghost use Rattle.pcml_tool.specs.Run.{TellsAsked};
 use crate::fault::Fault;
 use crate::from_files::{
     Verdict, chart_files, check_file, keep_journal, next_files, play_file, read_script,
-    read_source, replay_files, stats_files, why_file, why_files,
+    read_source, replay_files, stats_files, why_file, why_files, why_short_file,
 };
 use crate::searching::{CUT, asked_of, keep_outcome};
 use crate::{
@@ -243,6 +243,7 @@ fn answer<R: Threads + Wait + Sync, S: Source>(
         Request::Explain(topic) => Ok((Verdict::Done, explain_text(alloc, topic)?)),
         Request::Version => Ok((Verdict::Done, version_text(alloc)?)),
         Request::WhyScript(name) => why_file(alloc, source, name),
+        Request::WhyShort(name) => why_short_file(alloc, source, name),
         Request::Run(_) | Request::Outcomes(_) => unreachable!(),
         Request::Replay { .. }
         | Request::Why { .. }

@@ -1,3 +1,4 @@
 pub mod Places
 pub mod Words
+pub mod Short
 pub mod Telling

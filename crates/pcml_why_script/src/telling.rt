@@ -21,9 +21,9 @@ use script_token::{Placed, Symbol, Tokens, scan, token_starts};
 use std::alloc::{AllocError, Global};
 
 /// The most bytes of a script.
-const TEXT_LEN: usize = 65536;
+pub(crate) const TEXT_LEN: usize = 65536;
 
-fn number_of(problem: Problem) -> u8
+pub(crate) fn number_of(problem: Problem) -> u8
     ensures { result ≡ number_of problem }
 {
     match problem {
@@ -35,7 +35,7 @@ fn number_of(problem: Problem) -> u8
     }
 }
 
-fn problem_words(problem: Problem, left: usize) -> &'static str
+pub(crate) fn problem_words(problem: Problem, left: usize) -> &'static str
     ensures { result.now ≡ problem_words problem left }
 {
     match problem {
@@ -54,7 +54,7 @@ fn problem_words(problem: Problem, left: usize) -> &'static str
 }
 
 /// The line at which so many tokens are left.
-fn line_left(tokens: &Tokens<'_>, left: usize) -> usize
+pub(crate) fn line_left(tokens: &Tokens<'_>, left: usize) -> usize
     ensures { result ≡ line_left (seen tokens.now.placed.items) tokens.now.last_line left }
 {
     let len = tokens.placed.len();
