@@ -17,7 +17,7 @@ _pcml_options() {
   case $1 in
     run) echo --workers --rows --seasons --journal --quiet --why --need --help ;;
     replay) echo --rows --seasons --help ;;
-    why) echo --rows --seasons --help ;;
+    why) echo --rows --seasons --short --help ;;
     chart) echo --rows --seasons --from --to --only --help ;;
     next) echo --rows --help ;;
     outcomes) echo --rows --limit --waiting --need --only --first --journal --of --help ;;

@@ -43,6 +43,7 @@ complete -c pcml -n '__pcml_is replay' -l rows -x -a '256 1024' -d 'How many syn
 complete -c pcml -n '__pcml_is replay' -l seasons -x -d 'How many tables of G rows a process a run may take'
 complete -c pcml -n '__pcml_is why' -l rows -x -a '256 1024' -d 'How many syncs a process may make'
 complete -c pcml -n '__pcml_is why' -l seasons -x -d 'How many tables of G rows a process a run may take'
+complete -c pcml -n '__pcml_is why' -l short -d 'The first fault of a text is one line'
 complete -c pcml -n '__pcml_is chart' -l rows -x -a '256 1024' -d 'How many syncs a process may make'
 complete -c pcml -n '__pcml_is chart' -l seasons -x -d 'How many tables of G rows a process a run may take'
 complete -c pcml -n '__pcml_is chart' -l from -x -d 'The first and the last stamp that is drawn'

@@ -13,7 +13,7 @@ SYNOPSIS
        [--quiet] [--why] [--need NAMES]
        pcml replay FILE JOURNAL [--rows G] [--seasons K]
        pcml why FILE JOURNAL [--rows G] [--seasons K]
-       pcml why FILE
+       pcml why FILE [--short]
        pcml chart FILE JOURNAL [--rows G] [--seasons K] [--from S] [--to S]
        [--only NAMES]
        pcml next FILE JOURNAL [--rows G]
@@ -63,7 +63,7 @@ COMMANDS
               journal it tells why the text is no script: its first fault
               with line and column, the line with a mark under the place,
               what helps where something is known, and what may stand there;
-              of a script, that it is one.
+              of a script, that it is one. With --short it is one line.
 
        chart  Draws a journal against its script, as SVG: a line of life for
               each process, in the journal's order an arrow for each
@@ -210,6 +210,11 @@ OPTIONS
 
        --why  Tells behind the counts of a run why each process stands where
               it does, as why does of its journal.
+
+       --short
+              The first fault of a text is one line, FILE:LINE:COLUMN: TEXT,
+              as compilers tell it and editors know it; of a script nothing
+              is printed.
 
        --need NAMES
               Processes that have to end. NAMES are names with commas

@@ -8,3 +8,4 @@ pub mod Numbering
 pub mod Judging
 pub mod Crossing
 pub mod Columns
+pub mod Wholes

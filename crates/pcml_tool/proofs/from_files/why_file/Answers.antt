@@ -1,24 +1,16 @@
-use Rattle.std.proofs.Common.{◌≡◌, ◌⊎◌, inl, inr, ℕ, zero, suc, ◌<◌, ◌≤◌, List, [], ◌∷◌, length, take, Option, Some, None, Result, Ok, Err, IfOk, ap, subst, arith}
+use Rattle.std.proofs.Common.{◌≡◌, inl, inr, ℕ, List, length, Option, Some, None, ap, subst, arith}
 use Rattle.std.specs.Option.{option_map}
 use Rattle.pcml_files.specs.Files.{IsReadOf}
 use Rattle.pcml_why_script.specs.Telling.{TellsWhyNot}
+use Rattle.pcml_tool.proofs.Wholes.{take_shorter, with_ok}
 use Rattle.pcml_tool.proofs.from_files.why_file.Goals as goal
-
-with_ok : {T E : Type 0} (r : Result T E) (P Q : T → Type 0) → IfOk r P → ((x : T) → P x → Q x) → IfOk r Q
-with_ok (Ok x) P Q h f = f x h
-with_ok (Err e) P Q h f = tt
-
-take-short : (n : ℕ) (xs : List ℕ) → length (take n xs) ≤ length xs
-take-short zero xs = omega arith
-take-short (suc n) [] = omega arith
-take-short (suc n) (x ∷ xs) = (let more = take-short n xs in omega (arith, more))
 
 -- what is told of a beginning that is too large is told of the whole file
 whole_tells : (whole bytes : List ℕ) (told : Option (List ℕ)) → IsReadOf whole bytes → TellsWhyNot bytes told → TellsWhyNot whole told
 whole_tells whole bytes told (inl same) h = subst (λ (bs : List ℕ). TellsWhyNot bs told) same h
 whole_tells whole bytes None (inr large) h = absurd (omega (arith, large.0, h.0))
 whole_tells whole bytes (Some text) (inr large) (inl h) =
-    let shorter = take-short large.1 whole in
+    let shorter = take_shorter large.1 whole in
     let size = ap length large.2 in
     inl (omega (arith, h.0, shorter, size), h.1)
 whole_tells whole bytes (Some text) (inr large) (inr fault) = absurd (omega (arith, large.0, fault.fits))
