@@ -33,6 +33,17 @@ fn tell_unread<R: Files, E: Write>(rt: &R, name: &str, err: &mut E) -> bool {
     }
 }
 
+/// Whether the text in the file begins as a journal does, and so is no script.
+fn begins_as_journal<R: Files + Input + AllocGlobal>(
+    files: &mut SystemFiles<'_, R>,
+    name: &str,
+) -> bool {
+    match files.read(name) {
+        Ok(text) => matches!(text.first(), Some(b'0'..=b'9')),
+        Err(_) => false,
+    }
+}
+
 /// Tells what stands behind the fault that the words came to, if it is one of a file or of a script.
 pub(crate) fn tell_whole<R: Files + Input + AllocGlobal, E: Write>(
     rt: &R,
@@ -50,5 +61,11 @@ pub(crate) fn tell_whole<R: Files + Input + AllocGlobal, E: Write>(
     }
     if let Ok(Some(text)) = first_fault(rt.alloc(), files, name) {
         let _ = err.write_all(&text);
+        if other.is_some() && begins_as_journal(files, name) {
+            let _ = writeln!(
+                err,
+                "help: {name} begins as a journal does, and the script is named first"
+            );
+        }
     }
 }
