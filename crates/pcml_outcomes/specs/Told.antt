@@ -12,7 +12,7 @@ use Rattle.journal_text.specs.Names.{Naming, named, names_of}
 use Rattle.journal_replay.specs.declared.end.End.{End}
 use Rattle.journal_replay.specs.declared.end.End.TheVariants.{Ended, Spent, Waiting}
 use Rattle.outcomes.specs.Asking.{is_told, marked}
-use Rattle.outcomes.specs.Outcomes.{AreAll, AreDifferent, AreOutcomes, CanSpend, LeadsTo, StopsAtFirst, ends_in, ends_of_all, outputs_in}
+use Rattle.outcomes.specs.Outcomes.{AreAll, AreDifferent, AreOutcomes, AreVisited, CanSpend, LeadsTo, StopsAtFirst, ends_in, ends_of_all, outputs_in}
 use Rattle.outcomes.specs.declared.Extent.{Extent}
 use Rattle.outcomes.specs.declared.Extent.TheVariants.{Cut, First, Whole}
 use Rattle.outcomes.specs.declared.asked.Asked.{Asked}
@@ -83,12 +83,15 @@ bytes_of text = option_map (λ v. v.items) text
 -- WHAT WAS FOUND
 
 -- The outcomes are some that the script's processes can come to, of so many rows each, and no two are alike in what is named. They are
--- all where that is said; else so many configurations were seen as may be, or the first was found that is told. And a process is said
--- to be spent only where one can be, and where all was seen wherever one can.
+-- all where that is said; else so many configurations were seen as may be, or the first was found that is told. As many different
+-- configurations were seen as it says. And a process is said to be spent only where one can be, and where all was seen wherever one
+-- can.
 pub record AreFound (s : Script) (rows limit : ℕ) (asked : Asked) (found : Outcomes) : Type 0 where
   pub outcomes : AreOutcomes s.processes rows found.outcomes.items
   pub different : AreDifferent asked.named.items found.outcomes.items
   pub all : found.extent ≡ Whole → AreAll s.processes rows asked.named.items found.outcomes.items
+  pub visited : AreVisited s.processes rows found.extent found.outcomes.items found.visited
+  pub few : found.visited ≤ limit
   pub cut : found.extent ≡ Cut → found.visited ≡ limit
   pub first : StopsAtFirst asked found.extent (ends_of_all found.outcomes.items)
   pub bounded : found.is_bounded ≡ true → CanSpend s.processes rows

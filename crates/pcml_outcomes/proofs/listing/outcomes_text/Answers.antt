@@ -3,7 +3,7 @@ use Rattle.std.proofs.lemmas.Result.{IfOk-weaker}
 use Rattle.script.specs.Scripts.{script_of}
 use Rattle.script_tree.specs.Processes.{Proc}
 use Rattle.journal_lines.proofs.Lining.{run_has_lines}
-use Rattle.outcomes.specs.Outcomes.{AreAll, AreOutcomes, CanSpend}
+use Rattle.outcomes.specs.Outcomes.{AreAll, AreOutcomes, AreVisited, CanSpend}
 use Rattle.outcomes.specs.declared.Extent.TheVariants.{Whole}
 use Rattle.pcml_outcomes.specs.Told.{AreFound}
 use Rattle.pcml_outcomes.proofs.listing.outcomes_text.Goals as goal
@@ -27,6 +27,8 @@ returns g c =
       outcomes = subst (λ (ps : List Proc). AreOutcomes ps rows found.outcomes.items) same told.told;
       different = told.different;
       all = subst (λ (ps : List Proc). found.extent ≡ Whole → AreAll ps rows asked.named.items found.outcomes.items) same told.whole;
+      visited = subst (λ (ps : List Proc). AreVisited ps rows found.extent found.outcomes.items found.visited) same told.visited;
+      few = told.few;
       cut = told.cut;
       first = told.first;
       bounded = subst (λ (ps : List Proc). found.is_bounded ≡ true → CanSpend ps rows) same told.bounded;
