@@ -18,7 +18,7 @@ _pcml_options() {
     run) echo --workers --rows --seasons --journal --quiet --why --need --help ;;
     replay) echo --rows --seasons --help ;;
     why) echo --rows --seasons --short --help ;;
-    chart) echo --rows --seasons --from --to --only --help ;;
+    chart) echo --rows --seasons --from --to --only --as --help ;;
     next) echo --rows --help ;;
     outcomes) echo --rows --limit --waiting --need --only --first --journal --of --help ;;
     stats) echo --rows --seasons --help ;;
@@ -50,6 +50,7 @@ _pcml() {
     --journal) _pcml_files ;;
     --need) _pcml_give all ;;
     --only) _pcml_give all ;;
+    --as) _pcml_give 'mermaid svg' ;;
     --seasons | --from | --to | --limit | --of) ;;
     *) _pcml_argument ;;
   esac

@@ -49,6 +49,7 @@ complete -c pcml -n '__pcml_is chart' -l seasons -x -d 'How many tables of G row
 complete -c pcml -n '__pcml_is chart' -l from -x -d 'The first and the last stamp that is drawn'
 complete -c pcml -n '__pcml_is chart' -l to -x -d 'The first and the last stamp that is drawn'
 complete -c pcml -n '__pcml_is chart' -l only -x -a 'all' -d 'Names of processes'
+complete -c pcml -n '__pcml_is chart' -l as -x -a 'mermaid svg' -d 'svg, as it is without the option'
 complete -c pcml -n '__pcml_is next' -l rows -x -a '256 1024' -d 'How many syncs a process may make'
 complete -c pcml -n '__pcml_is outcomes' -l rows -x -a '256 1024' -d 'How many syncs a process may make'
 complete -c pcml -n '__pcml_is outcomes' -l limit -x -d 'How many configurations are seen'

@@ -7,3 +7,4 @@ pub mod Chart
 pub mod Apart
 pub mod Drawn
 pub mod Plain
+pub mod Mermaid

@@ -14,9 +14,9 @@ use Rattle.journal_text.specs.Texts.{cause_text, message_text}
 use Rattle.pcml_why.specs.Whys.{offer_text}
 use Rattle.pcml_chart_layout.specs.Feet.{printed_text}
 
--- neither `<` nor `>` nor `&`, and no quote
+-- no mark of SVG: neither `<` nor `>` nor `&`, and no quote; and none that ends or leaves a line of a Mermaid diagram: no `;`, `%` or line end
 abbrev pub is_plain : ℕ → Bool
-is_plain b = not (b == 60 || b == 62 || b == 38 || b == 34 || b == 39)
+is_plain b = not (b == 60 || b == 62 || b == 38 || b == 34 || b == 39 || b == 59 || b == 37 || b == 10)
 
 abbrev pub IsPlain : List ℕ → Type 0
 IsPlain text = list_all is_plain text ≡ true

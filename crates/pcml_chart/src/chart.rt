@@ -134,7 +134,7 @@ pub fn chart_text(
 ///
 /// Nothing that is written between the marks can be read as markup: in the names of a script that some text
 /// spells, in the messages and causes of commits that have a line, and in outputs and offers of such values, no
-/// byte is `<`, `>`, `&` or a quote.
+/// byte is `<`, `>`, `&`, `;`, `%`, a quote or a line end.
 pub fn chart_laws()
     ensures apart { MarksAreApart }
     ensures names { NamesArePlain }

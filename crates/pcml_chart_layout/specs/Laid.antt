@@ -8,7 +8,12 @@ use Rattle.pcml_chart_layout.specs.Labels.{label_text}
 use Rattle.pcml_chart_layout.specs.Places.{Layout, bottom, page_height}
 use Rattle.pcml_chart_layout.specs.Widths.{gap_widths, page_width}
 use Rattle.pcml_chart_layout.specs.declared.foot.Foot.{Foot}
+use Rattle.pcml_chart_layout.specs.declared.columns.Columns.{Columns}
 use Rattle.pcml_chart_layout.specs.declared.layout.Layout as code
+
+-- which processes have a column of their own
+abbrev pub own_of : Columns → List Bool
+own_of c = c.own.now
 
 abbrev pub laid : code.Layout → Layout
 laid l = record { own = l.columns.own.now; gaps = l.lines.gaps.items; width = l.width }

@@ -9,7 +9,7 @@ use std::alloc::{AllocError, Global};
 
 /// Which processes have a column of their own, how many these are, and the column of each process.
 #[derive(Drop)]
-pub(crate) struct Columns<'a> {
+pub struct Columns<'a> {
     own: &'a [bool],
     owning: usize,
     places: Vec<usize>,
@@ -22,7 +22,7 @@ impl<'a> Columns<'a> {
     ghost use Rattle.std.specs.Prelude.{◌+◌, IfOk};
     ghost use Rattle.pcml_chart_layout.specs.Places.{columns, has_others, is_own, others_column};
 
-    pub(crate) fn new(alloc: Global, own: &'a [bool]) -> Result<Columns<'a>, AllocError>
+    pub fn new(alloc: Global, own: &'a [bool]) -> Result<Columns<'a>, AllocError>
         requires { length own.now ≤ 64 }
         ensures { IfOk result (λ made. made.own.now ≡ own.now) }
     {
@@ -38,7 +38,7 @@ impl<'a> Columns<'a> {
     }
 
     /// How many processes there are.
-    pub(crate) fn processes(&self) -> usize
+    pub fn processes(&self) -> usize
         ensures { result ≡ length self.now.own.now }
     {
         self.own.len()
@@ -53,20 +53,21 @@ impl<'a> Columns<'a> {
     }
 
     /// Whether the process has.
-    pub(crate) fn is_own(&self, thread: usize) -> bool
+    pub fn is_own(&self, thread: usize) -> bool
         ensures { result ≡ is_own self.now.own.now thread }
     {
         crate::places::is_own(self.own, thread)
     }
 
     /// Whether there are others, which share the last column.
-    pub(crate) fn has_others(&self) -> bool
+    pub fn has_others(&self) -> bool
         ensures { result ≡ has_others self.now.own.now }
     {
         self.owning < self.own.len()
     }
 
-    pub(crate) fn others(&self) -> usize
+    /// The column of the others.
+    pub fn others(&self) -> usize
         ensures { result ≡ others_column self.now.own.now }
     {
         self.owning + 1
@@ -83,7 +84,7 @@ impl<'a> Columns<'a> {
     }
 
     /// The column of the process, from 1 on.
-    pub(crate) fn of(&self, thread: u8) -> usize
+    pub fn of(&self, thread: u8) -> usize
         ensures value { result ≡ column self.now.own.now thread }
         ensures within { result ≤ owners self.now.own.now + 1 }
     {

@@ -62,7 +62,7 @@ fn push_parties(
 }
 
 /// What stands beside the commit.
-pub(crate) fn label_text(
+pub fn label_text(
     alloc: Global,
     script: &Script,
     columns: &Columns<'_>,

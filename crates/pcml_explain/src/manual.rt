@@ -15,7 +15,7 @@ SYNOPSIS
        pcml why FILE JOURNAL [--rows G] [--seasons K]
        pcml why FILE [--short]
        pcml chart FILE JOURNAL [--rows G] [--seasons K] [--from S] [--to S]
-       [--only NAMES]
+       [--only NAMES] [--as FORM]
        pcml next FILE JOURNAL [--rows G]
        pcml outcomes FILE [--rows G] [--limit C] [--waiting] [--need NAMES]
        [--only NAMES] [--first] [--journal TO [--of K]]
@@ -74,7 +74,8 @@ COMMANDS
               is cut, and whole in its title. Of a journal that is no run
               there is no chart: the line that replay prints of it goes to
               standard error, with status 1.  Of more than 1,250 commits the
-              first are drawn, and the heading says so.
+              first are drawn, and the heading says so.  With --as mermaid it
+              prints the same words as the text of a sequence diagram.
 
        next   Prints the line of each commit that may come next where a
               journal leads its script. A journal that is no run is answered
@@ -168,6 +169,11 @@ OPTIONS
               Of outcomes only these are told, with those that --need names:
               how the others end, and what they print, makes no other
               outcome.
+
+       --as FORM
+              svg, as it is without the option, or mermaid: the text of a
+              Mermaid sequence diagram, which GitHub and GitLab draw in a
+              block of the kind mermaid.
 
        --journal TO
               Writes the lines of the journal to the file TO too, whole or

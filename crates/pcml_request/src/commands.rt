@@ -4,7 +4,7 @@ use crate::arguments::{
     arguments_of_journal, file_argument, flag_argument, kept_argument, limit_argument, of_argument,
     optional_file_argument, rows_argument, seasons_argument, stamp_argument,
 };
-use crate::request::{Request, Running, Search, Wanted};
+use crate::request::{Form, Request, Running, Search, Wanted};
 use clap::{Arg, ArgAction, ArgMatches, Command, value_parser};
 use pcml_explain::{Topic, Word};
 use std::alloc::{AllocError, Global};
@@ -120,6 +120,24 @@ fn only_argument<'a>(alloc: Global, help: &'a str) -> Arg<'a> {
         .help(help)
 }
 
+fn form_argument<'a>(alloc: Global) -> Arg<'a> {
+    Arg::new(alloc, "as")
+        .long("as")
+        .action(ArgAction::Set)
+        .value_name("FORM")
+        .value_parser(["svg", "mermaid"].as_slice())
+        .default_value("svg")
+        .help("As what the chart is printed")
+}
+
+/// As what the words behind `chart` want it.
+fn form_of<'a>(chart: &ArgMatches<'a>) -> Form {
+    match chart.get_str("as") {
+        Some("mermaid") => Form::Mermaid,
+        _ => Form::Svg,
+    }
+}
+
 fn chart_command<'a>(alloc: Global) -> Result<Command<'a>, AllocError> {
     let mut arguments = arguments_of_journal(alloc)?;
     arguments.push(stamp_argument(alloc, "from", "1", "The first stamp that is drawn"))?;
@@ -128,8 +146,9 @@ fn chart_command<'a>(alloc: Global) -> Result<Command<'a>, AllocError> {
         alloc,
         "Processes with a column each, with commas between, or all: the others share one",
     ))?;
+    arguments.push(form_argument(alloc))?;
     Command::new(alloc, "chart")
-        .about("Draws a journal as a chart (SVG)")
+        .about("Draws a journal as a chart")
         .args(arguments)
 }
 
@@ -143,6 +162,7 @@ fn chart_request<'a>(chart: &ArgMatches<'a>) -> Option<Request<'a>> {
         from: chart.get_one("from")?,
         to: chart.get_one("to")?,
         only: chart.get_str("only"),
+        form: form_of(chart),
     })
 }
 

@@ -44,6 +44,13 @@ pub struct Running<'a> {
     pub need: Option<&'a str>,
 }
 
+/// As what a chart is drawn: a picture, or the text of a Mermaid diagram.
+#[derive(Clone, Copy, Debug)]
+pub enum Form {
+    Svg,
+    Mermaid,
+}
+
 /// What to print.
 #[derive(Clone, Copy, Debug)]
 pub enum Request<'a> {
@@ -74,6 +81,7 @@ pub enum Request<'a> {
         from: u32,
         to: u32,
         only: Option<&'a str>,
+        form: Form,
     },
     /// Where the journal in a file leads the script in another, of so many rows a process in each season.
     Replay {

@@ -5,6 +5,7 @@ use Rattle.std.specs.Global.{Vec}
 use Rattle.std.specs.Option.{option_copied, option_map}
 use Rattle.pcml_request.specs.declared.request.Request.{Request}
 use Rattle.pcml_request.specs.declared.request.Request.TheVariants.{Meet, Next, Outcomes, Play, Check, Chart, Explain, Replay, Run, Stats, Version, Why, WhyScript, WhyShort}
+use Rattle.pcml_request.specs.declared.request.Form.{Form}
 use Rattle.pcml_request.specs.declared.request.Running.{Running}
 use Rattle.pcml_request.specs.declared.request.Search.{Search}
 use Rattle.pcml_request.specs.Requests.{all_rows}
@@ -90,8 +91,8 @@ abbrev pub AnswersWhy : Files → List ℕ → List ℕ → ℕ → Verdict → 
 AnswersWhy Holds script journal rows verdict text = OfJournal Holds script journal (λ source s read told. IsTold s source rows read told) (λ s read told. IsRefused s rows read told) verdict text
 
 -- of a journal that is no run there is no chart: that is a fault
-abbrev pub AnswersChart : Files → List ℕ → List ℕ → ℕ → Option (List ℕ) → ℕ → ℕ → Verdict → List ℕ → Type 0
-AnswersChart Holds script journal rows only from to verdict text = OfJournal Holds script journal (λ source s read told. IsCharted s rows read only from to told) (λ s read told. ⊥) verdict text
+abbrev pub AnswersChart : Files → List ℕ → List ℕ → ℕ → Option (List ℕ) → ℕ → ℕ → Form → Verdict → List ℕ → Type 0
+AnswersChart Holds script journal rows only from to form verdict text = OfJournal Holds script journal (λ source s read told. IsCharted s rows read only from to form told) (λ s read told. ⊥) verdict text
 
 abbrev pub AnswersNext : Files → List ℕ → List ℕ → ℕ → Verdict → List ℕ → Type 0
 AnswersNext Holds script journal rows verdict text = OfJournal Holds script journal (λ source s read told. IsNext s rows read told) (λ s read told. IsNoRun s rows read told) verdict text
@@ -189,7 +190,7 @@ AsksPlainly asked = Unit {0}
 abbrev pub AsksOfJournal : Request → Type 0
 AsksOfJournal (Replay script journal rows seasons) = Unit {0}
 AsksOfJournal (Why script journal rows seasons) = Unit {0}
-AsksOfJournal (Chart script journal rows seasons from to only) = Unit {0}
+AsksOfJournal (Chart script journal rows seasons from to only form) = Unit {0}
 AsksOfJournal (Next script journal rows) = Unit {0}
 AsksOfJournal (Stats script journal rows seasons) = Unit {0}
 AsksOfJournal asked = ⊥
@@ -200,7 +201,7 @@ AsksOfJournal asked = ⊥
 abbrev pub Answers : Files → Files → Request → Verdict → List ℕ → Type 0
 Answers Holds Keeps (Replay script journal rows seasons) verdict text = AnswersReplay Holds script.now journal.now (all_rows rows seasons) verdict text
 Answers Holds Keeps (Why script journal rows seasons) verdict text = AnswersWhy Holds script.now journal.now (all_rows rows seasons) verdict text
-Answers Holds Keeps (Chart script journal rows seasons from to only) verdict text = AnswersChart Holds script.now journal.now (all_rows rows seasons) (option_copied only) from to verdict text
+Answers Holds Keeps (Chart script journal rows seasons from to only form) verdict text = AnswersChart Holds script.now journal.now (all_rows rows seasons) (option_copied only) from to form verdict text
 Answers Holds Keeps (Next script journal rows) verdict text = AnswersNext Holds script.now journal.now rows verdict text
 Answers Holds Keeps (Stats script journal rows seasons) verdict text = AnswersStats Holds script.now journal.now (all_rows rows seasons) verdict text
 Answers Holds Keeps (WhyScript name) verdict text = AnswersWhyScript Holds name.now verdict text
@@ -303,7 +304,7 @@ Fails Holds (Explain topic) fault = fault ≡ faults.Memory
 Fails Holds (Why script journal rows seasons) fault = FailsReplay Holds script.now journal.now fault
 Fails Holds (WhyScript name) fault = FailsRead (λ bytes. ⊥) fault
 Fails Holds (WhyShort name) fault = FailsRead (λ bytes. ⊥) fault
-Fails Holds (Chart script journal rows seasons from to only) fault = FailsChart Holds script.now journal.now (all_rows rows seasons) (option_copied only) fault
+Fails Holds (Chart script journal rows seasons from to only form) fault = FailsChart Holds script.now journal.now (all_rows rows seasons) (option_copied only) fault
 Fails Holds (Next script journal rows) fault = FailsReplay Holds script.now journal.now fault
 Fails Holds (Stats script journal rows seasons) fault = FailsReplay Holds script.now journal.now fault
 Fails Holds (Outcomes search) fault = FailsOutcomes Holds search fault

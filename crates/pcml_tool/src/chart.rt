@@ -1,15 +1,19 @@
 //! What `chart` prints.
 
-ghost use Rattle.std.specs.Prelude.{◌≡◌, ◌≤◌, IfOk, IfErr};
+ghost use Rattle.std.specs.Prelude.{◌≡◌, ◌≤◌, IfOk, IfErr, length};
 ghost use Rattle.std.specs.Option.{option_copied};
 ghost use Rattle.script.specs.Scripts.{script_of};
-ghost use Rattle.pcml_tool.specs.Chart.{ExplainsChart, IsCharted, of_journal, of_names};
+ghost use Rattle.journal_replay.specs.Replays.{thread_count};
+ghost use Rattle.pcml_tool.specs.Chart.{Draws, ExplainsChart, IsCharted, of_journal, of_names};
 ghost use Rattle.pcml_tool.specs.declared.chart.ChartFault.TheVariants.{Memory};
 
 use crate::reach::{Reached, reach};
+use journal_replay::State;
 use journal_text::JournalFault;
-use pcml_chart::chart_text;
+use pcml_chart::{chart_text, mermaid_text};
 use pcml_need::{NamesFault, named_or_all};
+use pcml_request::Form;
+use protocol_values::Commit;
 use script::Script;
 use std::alloc::{AllocError, Global};
 
@@ -55,7 +59,28 @@ impl From<NamesFault> for ChartFault {
     }
 }
 
-/// The chart of the journal in the bytes, of processes of so many rows each, 1 to 67107840, as SVG: its commits
+/// The chart of the commits in the form.
+fn drawn(
+    alloc: Global,
+    script: &Script,
+    state: &State,
+    own: &[bool],
+    commits: &[Commit],
+    from: u32,
+    to: u32,
+    form: Form,
+) -> Result<Vec<u8>, AllocError>
+    requires threads { thread_count state.now ≡ length (script_of script.now).processes }
+    requires columns { length own.now ≡ length (script_of script.now).processes }
+    ensures { IfOk result (λ text. Draws form (script_of script.now) state.now own.now commits.now from to text.items) }
+{
+    match form {
+        Form::Svg => Ok(chart_text(alloc, script, state, own, commits, from, to)?.into_bytes()),
+        Form::Mermaid => mermaid_text(alloc, script, state, own, commits, from, to),
+    }
+}
+
+/// The chart of the journal in the bytes, of processes of so many rows each, 1 to 67107840, in a form: its commits
 /// with a stamp from `from` to `to`, or to an earlier one where they are more than 1,250. Where names are given, with
 /// commas between, only their processes have columns of their own.
 pub fn chart_journal(
@@ -66,16 +91,26 @@ pub fn chart_journal(
     only: Option<&str>,
     from: u32,
     to: u32,
+    form: Form,
 ) -> Result<Vec<u8>, ChartFault>
     requires { rows ≤ 67107840 }
-    ensures charted { IfOk result (λ text. IsCharted (script_of script.now) rows journal.now (option_copied only.entry) from to text.items) }
+    ensures charted { IfOk result (λ text. IsCharted (script_of script.now) rows journal.now (option_copied only.entry) from to form text.items) }
     ensures fault { IfErr result (ExplainsChart (script_of script.now) rows journal.now (option_copied only.entry)) }
 {
     match reach(alloc, script, journal, rows)? {
         Reached::Run(commits, state) => {
             let own = named_or_all(alloc, script, only)?;
-            let text = chart_text(alloc, script, &state, &own, commits.as_slice(), from, to)?;
-            Ok(text.into_bytes())
+            let text = drawn(
+                alloc,
+                script,
+                &state,
+                &own,
+                commits.as_slice(),
+                from,
+                to,
+                form,
+            )?;
+            Ok(text)
         }
         Reached::NoRun { index, .. } => Err(ChartFault::NoRun(index + 1)),
     }

@@ -17,6 +17,7 @@ use crate::{
     stats_journal, why_journal,
 };
 use pcml_files::{MOST_BYTES, Source};
+use pcml_request::Form;
 use pcml_why_script::{why_not, why_short};
 use script::{Script, parse};
 use std::alloc::Global;
@@ -207,14 +208,24 @@ pub(crate) fn chart_files<S: Source>(
     only: Option<&str>,
     from: u32,
     to: u32,
+    form: Form,
 ) -> Result<Vec<u8>, Fault>
     requires { rows ≤ 67107840 }
-    ensures done { IfOk result (λ text. AnswersChart (S.holds source.old) script.now journal.now rows (option_copied only.entry) from to Done text.items) }
+    ensures done { IfOk result (λ text. AnswersChart (S.holds source.old) script.now journal.now rows (option_copied only.entry) from to form Done text.items) }
     ensures fault { IfErr result (FailsChart (S.holds source.old) script.now journal.now rows (option_copied only.entry)) }
 {
     let script = read_script(alloc, source, script)?;
     let journal = read_bounded(source, journal)?;
-    Ok(chart_journal(alloc, &script, journal.as_slice(), rows, only, from, to)?)
+    Ok(chart_journal(
+        alloc,
+        &script,
+        journal.as_slice(),
+        rows,
+        only,
+        from,
+        to,
+        form,
+    )?)
 }
 
 /// Which commits may come next where the journal in a file leads the script in another.

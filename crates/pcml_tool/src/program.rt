@@ -182,9 +182,10 @@ fn answer_journal<S: Source>(
             from,
             to,
             only,
+            form,
         } => {
             let rows = all_rows(rows, seasons);
-            let text = chart_files(alloc, source, script, journal, rows, only, from, to)?;
+            let text = chart_files(alloc, source, script, journal, rows, only, from, to, form)?;
             Ok((Verdict::Done, text))
         }
         Request::Next {

@@ -2,22 +2,22 @@ use Rattle.std.proofs.Common.{◌≡◌, ℕ, List, Bool, ap, length, subst, sym
 use Rattle.std.specs.Option.{option_copied}
 use Rattle.script.specs.Scripts.{script_of}
 use Rattle.protocol_values.specs.declared.Commit.{Commit}
-use Rattle.pcml_chart.specs.Chart.{IsChart}
 use Rattle.pcml_need.specs.Needs.{named_or_all}
+use Rattle.pcml_tool.specs.Chart.{Draws}
 use Rattle.pcml_tool.specs.Replay.{LeadsTo, Reaches}
 use Rattle.pcml_tool.specs.declared.reach.Reached.{Reached}
 use Rattle.pcml_tool.proofs.Columns.{each-column}
 use Rattle.pcml_tool.proofs.chart.chart_journal.Goals as goal
 
-pub chart_text-requires-clause-threads : goal.chart_text-requires-clause-threads
-chart_text-requires-clause-threads c =
+pub drawn-requires-clause-threads : goal.drawn-requires-clause-threads
+drawn-requires-clause-threads c =
     let s = script_of c.args.script.now in
     let led : LeadsTo s c.args.rows c.args.journal.now c.in-Run.commits.items c.in-Run.state =
     subst (λ (r : Reached). Reaches s c.args.rows c.args.journal.now r) c.in-Run.is c.in_ok-commits.ensures.reached in
     led.stands.strands.stands.count
 
-pub chart_text-requires-clause-columns : goal.chart_text-requires-clause-columns
-chart_text-requires-clause-columns c =
+pub drawn-requires-clause-columns : goal.drawn-requires-clause-columns
+drawn-requires-clause-columns c =
     ap (λ (own : List Bool). length own) (c.deref.ensures.value ∙ c.in_ok-own-in-Run.ensures.named.1) ∙ each-column (script_of c.args.script.now) (option_copied c.args.only)
 
 pub returns-in-Run-clause-charted : goal.returns-in-Run-clause-charted
@@ -33,6 +33,6 @@ returns-in-Run-clause-charted c =
       stands = led.stands;
       named = c.in_ok-own-in-Run.ensures.named.0;
       is =
-          subst (λ (z : List Bool × List Commit × List ℕ). IsChart s c.in-Run.state z.0 z.1 c.args.from c.args.to z.2)
-          (λ i. (own i, c.as_slice.ensures.value i, (sym c.into_bytes.ensures.value i).items)) c.in_ok-text-in-Run.ensures;
+          subst (λ (z : List Bool × List Commit). Draws c.args.form s c.in-Run.state z.0 z.1 c.args.from c.args.to c.in_ok-text-in-Run.text.items)
+          (λ i. (own i, c.as_slice.ensures.value i)) c.in_ok-text-in-Run.ensures;
     }
