@@ -11,3 +11,4 @@ pub mod Faults
 pub mod Command
 pub mod Version
 pub mod Searching
+pub mod Looking

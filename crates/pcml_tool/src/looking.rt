@@ -1,7 +1,10 @@
 //! What a person is told besides, where one looks.
 
-ghost use Rattle.std.specs.Prelude.{IfOk, IfSome};
+ghost use Rattle.std.specs.Prelude.{◌⊎◌, None, IfOk, IfSome};
+ghost use Rattle.pcml_request.specs.declared.request.Request.{Request};
+ghost use Rattle.pcml_request.specs.Requests.{CanBeAnswered};
 ghost use Rattle.pcml_tool.specs.Command.{AnswersWhyScript};
+ghost use Rattle.pcml_tool.specs.Looking.{Are, AreReadBy};
 ghost use Rattle.pcml_tool.specs.declared.from_files.Verdict.TheVariants.{Denied};
 
 use crate::fault::Fault;
@@ -18,7 +21,9 @@ pub struct FilesRead<'a> {
 }
 
 /// The files that words ask to be read. Words that are not understood ask for none.
-pub fn files_read<'a>(alloc: Global, words: &'a [&'a str]) -> FilesRead<'a> {
+pub fn files_read<'a>(alloc: Global, words: &'a [&'a str]) -> FilesRead<'a>
+    ensures { ((asked : Request) × CanBeAnswered asked × AreReadBy asked result) ⊎ Are None None result }
+{
     match read_words(alloc, words) {
         Ok(asked) => files_of(asked),
         Err(_) => FilesRead {
@@ -29,7 +34,9 @@ pub fn files_read<'a>(alloc: Global, words: &'a [&'a str]) -> FilesRead<'a> {
 }
 
 /// The files that the request reads.
-fn files_of(asked: Request<'_>) -> FilesRead<'_> {
+fn files_of(asked: Request<'_>) -> FilesRead<'_>
+    ensures { AreReadBy asked.entry result }
+{
     let (script, other) = match asked {
         Request::Run(Running { script, .. })
         | Request::Outcomes(Search { script, .. })
