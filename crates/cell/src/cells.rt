@@ -108,7 +108,7 @@ impl<M: Resident> Model for Cells<M> {
 
     ghost view = { λ c. record { id = c.board.words.shared.table_id; threads = c.board.shape.threads; rows = c.board.shape.rows; offers = c.board.shape.offers; passes = c.board.shape.passes; lives = c.board.shape.opening.value.threads.items; nacks = c.board.shape.opening.value.nacks.items; first = c.board.shape.first.value.items } };
 
-    ghost invariant = { λ c. (length c.spare.items ≡ c.board.words.shared.table_id.words) × (0 < length c.board.shape.first.value.items → M.houses ≡ true) × (1 ≤ c.board.shape.rows) × (M.houses ≡ false → c.board.shape.offers ≡ 8) };
+    ghost invariant = { λ c. (length c.spare.items ≡ c.board.words.shared.table_id.words) × (0 < length c.board.shape.first.value.items → M.houses ≡ true) × (1 ≤ c.board.shape.rows) × (M.houses ≡ false → c.board.shape.offers ≡ 8) × (c.board.shape.threads ≤ 64) };
 }
 
 /// What a thread calls the table with. It holds rows, and its value is what it has seen.
