@@ -4,6 +4,7 @@
 mod acts;
 mod lanes;
 mod queues;
+mod scans;
 mod searches;
 mod spare;
 mod table;

@@ -1,0 +1,4 @@
+pub mod Growing
+pub mod Making
+pub mod Reading
+pub mod Scanning

@@ -1,0 +1,110 @@
+-- What a search leaves: whom it missed in the directory, and whom it passed by.
+use Rattle.std.specs.Prelude.{Option, Some, None, ◌≡◌, ◌≢◌, ◌⊎◌, ℕ, ◌<◌, ◌+◌, ◌*◌, true, false, List, MatchOption, get_or}
+use Rattle.protocol_values.specs.declared.Direction.{Direction}
+use Rattle.protocol_values.specs.declared.Direction.TheVariants.{Always, Never, OnEnd, OnNack, Recv, Send}
+use Rattle.protocol_values.specs.declared.Row.{Row}
+use Rattle.protocol_values.specs.Values.{directions_meet}
+use Rattle.cell_table.specs.declared.view.Seen.{Seen}
+use Rattle.cell_table.specs.Sight.{Has, HaveDirection, LackOffer, SawCommitted}
+use Rattle.meet_directory.specs.declared.view.View.{View}
+use Rattle.meet_directory.specs.declared.view.Glimpse.{Glimpse}
+use Rattle.meet_directory.specs.Directory.{Missed, Published, Has as HasMark}
+use Rattle.meet_scan.specs.declared.found.Found.{Found}
+use Rattle.meet_scan.specs.declared.found.Found.TheVariants.{Met, Alone, Already, Left}
+use Rattle.meet_scan.specs.Searches.{IsAlone, IsMetWith, Lists}
+
+-- LANES
+
+-- the lane of an offer in this direction, and the one in which those stand that it may meet: two lanes for each channel
+abbrev pub lanes_of : Direction → Option (ℕ × ℕ)
+lanes_of (Send chan atoms) = Some (2 * chan, 2 * chan + 1)
+lanes_of (Recv chan) = Some (2 * chan + 1, 2 * chan)
+lanes_of (Always atoms) = None
+lanes_of (OnNack n) = None
+lanes_of (OnEnd p) = None
+lanes_of Never = None
+
+-- the list tells the row's offers, by their heads that were read
+abbrev pub AreRead : Seen → Row → List (Option Direction) → Type 0
+AreRead s r directions = (n : ℕ) → n < 8 → MatchOption (get_or directions n None) (LackOffer s.words r n) (HaveDirection s.words r n)
+
+-- the row stands in the lane of each listed offer that has one
+abbrev pub ArePublished : List (ℕ × ℕ) → Row → List (Option Direction) → Type 0
+ArePublished marks r directions = (n : ℕ) (d : Direction) (l m : ℕ) → Lists directions n d → lanes_of d ≡ Some (l, m) → Published marks r.thread r.sync l
+
+-- the pass at the directory has written and read no less
+abbrev pub KnowsMore : View → View → Type 0
+KnowsMore v w = ((m : ℕ × ℕ) → HasMark v.marks m → HasMark w.marks m) × ((a : Glimpse) → HasMark v.looks a → HasMark w.looks a)
+
+-- WHO IS PASSED BY
+
+-- offer k of the row was read, and meets an offer in this direction
+abbrev pub MeetsAt : Seen → Row → Direction → ℕ → Type 0
+MeetsAt s r d k = (e : Direction) × HaveDirection s.words r k e × (directions_meet d e ≡ true)
+
+-- it was read, and does not; or the row has no such offer
+abbrev pub MeetsNoneAt : Seen → Row → Direction → ℕ → Type 0
+MeetsNoneAt s r d k = LackOffer s.words r k ⊎ ((e : Direction) × HaveDirection s.words r k e × (directions_meet d e ≡ false))
+
+abbrev pub MeetsNone : Seen → Row → Direction → Type 0
+MeetsNone s r d = (k : ℕ) → k < 8 → MeetsNoneAt s r d k
+
+-- a later row of its thread was seen opened: the row was taken
+abbrev pub IsPast : Seen → Row → Type 0
+IsPast s r = (q : Row) × (q.thread ≡ r.thread) × (r.sync < q.sync) × Has s.opened q
+
+-- the row was seen committed, none of its offers meets the direction, or it was taken
+abbrev pub PassedBy : Seen → Row → Direction → Type 0
+PassedBy s r d = SawCommitted s r ⊎ (MeetsNone s r d ⊎ IsPast s r)
+
+-- each row of thread u was missed in the directory, or passed by
+abbrev pub IsDoneWith : View → Seen → Row → Direction → ℕ → ℕ → ℕ → Type 0
+IsDoneWith v s r d own other u = (q : Row) → q.thread ≡ u → Missed v r.thread r.sync own q.thread q.sync other ⊎ PassedBy s q d
+
+-- WHO IS LEFT
+
+-- A row is left for its offer in this direction, which stands in lane own, by one who looked into lane other: each row of another
+-- thread was missed in the directory, or passed by.
+abbrev pub IsLeft : View → Seen → Row → Direction → ℕ → ℕ → Type 0
+IsLeft v s r d own other = (q : Row) → q.thread < 64 → q.thread ≢ r.thread → Missed v r.thread r.sync own q.thread q.sync other ⊎ PassedBy s q d
+
+-- where an offer in this direction has a lane
+abbrev pub IsLeftFor : View → Seen → Row → Direction → Type 0
+IsLeftFor v s r d = (l m : ℕ) → lanes_of d ≡ Some (l, m) → IsLeft v s r d l m
+
+-- for its offer n, if the row has one
+abbrev pub IsLeftAt : View → Seen → Row → ℕ → Type 0
+IsLeftAt v s r n = LackOffer s.words r n ⊎ ((d : Direction) × HaveDirection s.words r n d × IsLeftFor v s r d)
+
+-- A ROW IS LEFT for all its offers.
+abbrev pub IsLeftRow : View → Seen → Row → Type 0
+IsLeftRow v s r = (n : ℕ) → n < 8 → IsLeftAt v s r n
+
+-- what was found where the row is committed, and else what holds of it
+abbrev pub ComesTo : Seen → Row → Type 0 → Found → Type 0
+ComesTo t r P (Met other) = IsMetWith t r other
+ComesTo t r P Alone = IsAlone t r
+ComesTo t r P Already = SawCommitted t r
+ComesTo t r P Left = P
+
+-- What a scan of all offers came to, by what the pass had seen before it and has seen after it.
+abbrev pub ScansTo : View → Seen → Seen → Row → Found → Type 0
+ScansTo v s t r (Met other) = IsMetWith t r other
+ScansTo v s t r Alone = IsAlone t r
+ScansTo v s t r Already = SawCommitted t r
+ScansTo v s t r Left = IsLeftRow v t r × (¬ SawCommitted s r)
+
+-- NOBODY IS LEFT: of two rows of two threads whose offers i and j meet, each of which was left for that offer, one was seen committed
+-- or taken.
+abbrev pub NobodyLeft : View → Seen → Type 0
+NobodyLeft v s = (q r : Row) (d e : Direction) (i j l m : ℕ) → q.thread < 64 → r.thread < 64 → q.thread ≢ r.thread → i < 8 → j < 8
+    → HaveDirection s.words q i d → HaveDirection s.words r j e → directions_meet d e ≡ true → directions_meet e d ≡ true
+    → IsLeft v s q d l m → IsLeft v s r e m l
+    → (SawCommitted s q ⊎ IsPast s q) ⊎ (SawCommitted s r ⊎ IsPast s r)
+
+-- NO PAIR IS LEFT: of two left rows of two threads of which an offer of the one meets one of the other, one was seen committed or taken.
+abbrev pub NoPairLeft : View → Seen → Type 0
+NoPairLeft v s = (q r : Row) (d e : Direction) (i j : ℕ) → q.thread < 64 → r.thread < 64 → q.thread ≢ r.thread → i < 8 → j < 8
+    → HaveDirection s.words q i d → HaveDirection s.words r j e → directions_meet d e ≡ true
+    → IsLeftRow v s q → IsLeftRow v s r
+    → (SawCommitted s q ⊎ IsPast s q) ⊎ (SawCommitted s r ⊎ IsPast s r)

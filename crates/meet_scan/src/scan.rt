@@ -1,0 +1,330 @@
+//! The scan of the directory: every row that one's own can meet is looked at, whatever the queues show.
+
+ghost use Rattle.std.specs.Prelude.{◌≡◌, ◌≢◌, ◌<◌, ◌≤◌, ℕ, IfNone, IfSome, Some};
+ghost use Rattle.cell_table.specs.Nacks.{CanStandAlone};
+ghost use Rattle.cell.specs.Calls.{IsPassOf, IsRowOf, KeepsResults};
+ghost use Rattle.cell_table.specs.Sight.{Coherent, Has, HaveDirection};
+ghost use Rattle.cell_table.specs.declared.view.Seen.{Seen};
+ghost use Rattle.meet_directory.specs.Directory.{NoPairMissed, Offered, Published};
+ghost use Rattle.meet_directory.specs.Seats.{Sits};
+ghost use Rattle.meet_directory.specs.declared.view.View.{View};
+ghost use Rattle.meet_scan.specs.Leaving.{ArePublished, AreRead, ComesTo, IsDoneWith, IsLeft, IsLeftFor, IsLeftRow, KnowsMore, MeetsAt, MeetsNone, NoPairLeft, NobodyLeft, PassedBy, lanes_of};
+ghost use Rattle.meet_scan.specs.Searches.{Finds, Grows, StandsByNone};
+ghost use Rattle.meet_scan.specs.Steps.{OnlyLooks, SearchMade, found_or_left};
+ghost use Rattle.meet_scan.specs.declared.found.Found.TheVariants.{Left};
+
+use crate::found::Found;
+use crate::own::{commit_alone, leave, own_directions};
+use cell::{Attempt, Cells, Pass, Resident, StepGate};
+use meet_directory::{Directory, DirectoryPass, next_thread};
+use protocol_values::{Cell, Direction, Row};
+
+/// The first offer of an opened row that meets one in this direction.
+fn meeting_offer<M: Resident>(
+    cells: &Cells<M>,
+    pass: &mut Pass<M>,
+    row: Row,
+    direction: Direction,
+) -> Option<u8>
+    requires here { IsPassOf cells.now pass.old × IsRowOf cells.now row }
+    requires opened { Has pass.old.seen.opened row }
+    ensures here { IsPassOf cells.now pass.new }
+    ensures grows { Grows pass.old.seen pass.new.seen }
+    ensures looks { OnlyLooks pass.old pass.new }
+    ensures some { IfSome result (MeetsAt pass.new.seen row direction) }
+    ensures none { IfNone result (MeetsNone pass.new.seen row direction) }
+{
+    for n in 0..8 {
+        if direction.meets(cells.direction(pass, row, n)?) {
+            return Some(n);
+        }
+    }
+    None
+}
+
+/// Tries to meet the row, under the first offer of it that meets one's own. None: it was claimed.
+fn scan_row<G: StepGate, M: Resident>(
+    cells: &Cells<M>,
+    pass: &mut Pass<M>,
+    gate: &G,
+    mine: (Row, u8),
+    direction: Direction,
+    other: Row,
+) -> Option<Found>
+    requires here { IsPassOf cells.now pass.old × IsRowOf cells.now mine.0 × IsRowOf cells.now other }
+    requires opened { Has pass.old.seen.held mine.0 × Has pass.old.seen.opened mine.0 }
+    requires read { HaveDirection pass.old.seen.words mine.0 mine.1 direction }
+    requires apart { mine.0.thread ≢ other.thread }
+    ensures here { IsPassOf cells.now pass.new }
+    ensures grows { Grows pass.old.seen pass.new.seen }
+    ensures results { KeepsResults pass.old pass.new }
+    ensures made { SearchMade mine.0 (found_or_left result) pass.old.made pass.new.made }
+    ensures found { IfSome result (ComesTo pass.new.seen mine.0 (PassedBy pass.new.seen other direction × Has pass.new.seen.opened other)) }
+{
+    match cells.look(pass, other) {
+        Cell::Synched(_) | Cell::Taken(_) => Some(Found::Left),
+        // who published it had opened it, so it is found so
+        Cell::Fresh => None,
+        Cell::Waiting | Cell::Claimed => {
+            let Some(partner) = meeting_offer(cells, pass, other, direction) else {
+                return Some(Found::Left);
+            };
+            match cells.attempt(pass, gate, mine.0, mine.1, other, partner) {
+                Attempt::Met(_) => Some(Found::Met(other)),
+                Attempt::Mine => Some(Found::Already),
+                Attempt::Gone => Some(Found::Left),
+                Attempt::Busy => None,
+                Attempt::Unfit => unreachable!(),
+            }
+        }
+    }
+}
+
+/// Tries to meet the thread's newest row. None: it was claimed.
+fn scan_thread<G: StepGate, M: Resident>(
+    directory: &Directory,
+    scan: &mut DirectoryPass,
+    cells: &Cells<M>,
+    pass: &mut Pass<M>,
+    gate: &G,
+    mine: (Row, u8),
+    direction: Direction,
+    lanes: (u32, u32),
+    other: u8,
+) -> Option<Found>
+    requires here { IsPassOf cells.now pass.old × IsRowOf cells.now mine.0 }
+    requires opened { Has pass.old.seen.held mine.0 × Has pass.old.seen.opened mine.0 }
+    requires read { HaveDirection pass.old.seen.words mine.0 mine.1 direction }
+    requires sits { Sits directory.now scan.old }
+    requires other { (other < 64) × (mine.0.thread ≢ other) }
+    requires published { Published scan.old.me.0.marks mine.0.thread mine.0.sync lanes.0 }
+    ensures here { IsPassOf cells.now pass.new }
+    ensures grows { Grows pass.old.seen pass.new.seen }
+    ensures results { KeepsResults pass.old pass.new }
+    ensures sits { Sits directory.now scan.new }
+    ensures more { KnowsMore scan.old.me.0 scan.new.me.0 }
+    ensures made { SearchMade mine.0 (found_or_left result) pass.old.made pass.new.made }
+    ensures found { IfSome result (ComesTo pass.new.seen mine.0 (IsDoneWith scan.new.me.0 pass.new.seen mine.0 direction lanes.0 lanes.1 other)) }
+{
+    let count = directory.scan_newest(scan, other);
+    if count == 0 {
+        return Some(Found::Left);
+    }
+    if count > 4294967296 {
+        return None;
+    }
+    let newest = Row {
+        thread: other,
+        sync: (count - 1) as u32,
+    };
+    // who published it had it of the table, so it is of it
+    if !cells.has(newest) {
+        return None;
+    }
+    scan_row(cells, pass, gate, mine, direction, newest)
+}
+
+/// Tries to meet the newest row of each thread that has ever offered in the opposite lane. None: one was claimed, and
+/// the others came to nothing.
+fn scan_lane<G: StepGate, M: Resident>(
+    directory: &Directory,
+    scan: &mut DirectoryPass,
+    cells: &Cells<M>,
+    pass: &mut Pass<M>,
+    gate: &G,
+    mine: (Row, u8),
+    direction: Direction,
+    lanes: (u32, u32),
+) -> Option<Found>
+    requires here { IsPassOf cells.now pass.old × IsRowOf cells.now mine.0 }
+    requires opened { Has pass.old.seen.held mine.0 × Has pass.old.seen.opened mine.0 }
+    requires read { HaveDirection pass.old.seen.words mine.0 mine.1 direction }
+    requires sits { Sits directory.now scan.old }
+    requires lane { lanes.1 < directory.now.lanes }
+    requires published { Published scan.old.me.0.marks mine.0.thread mine.0.sync lanes.0 }
+    ensures here { IsPassOf cells.now pass.new }
+    ensures grows { Grows pass.old.seen pass.new.seen }
+    ensures results { KeepsResults pass.old pass.new }
+    ensures sits { Sits directory.now scan.new }
+    ensures more { KnowsMore scan.old.me.0 scan.new.me.0 }
+    ensures made { SearchMade mine.0 (found_or_left result) pass.old.made pass.new.made }
+    ensures found { IfSome result (ComesTo pass.new.seen mine.0 (IsLeft scan.new.me.0 pass.new.seen mine.0 direction lanes.0 lanes.1)) }
+{
+    let word = directory.scan_lane(scan, lanes.1);
+    let mut is_claimed = false;
+    let mut from = 0;
+    while let Some(other) = next_thread(word, from) {
+        from = other + 1;
+        if other == mine.0.thread {
+            continue;
+        }
+        match scan_thread(
+            directory, scan, cells, pass, gate, mine, direction, lanes, other,
+        ) {
+            Some(Found::Left) => continue,
+            Some(Found::Met(other)) => return Some(Found::Met(other)),
+            Some(Found::Alone) => return Some(Found::Alone),
+            Some(Found::Already) => return Some(Found::Already),
+            None => {
+                is_claimed = true;
+                continue;
+            }
+        }
+    }
+    (!is_claimed).then_some(Found::Left)
+}
+
+/// The lane of an offer in this direction, and the opposite one.
+fn lanes(direction: Direction) -> Option<(u32, u32)>
+    ensures { result ≡ lanes_of direction }
+{
+    match direction {
+        Direction::Send { chan, .. } => Some((2 * u32::from(chan), 2 * u32::from(chan) + 1)),
+        Direction::Recv { chan } => Some((2 * u32::from(chan) + 1, 2 * u32::from(chan))),
+        Direction::Never | Direction::Always { .. } | Direction::OnNack(_) | Direction::OnEnd(_) =>
+            None,
+    }
+}
+
+/// Publishes an opened row, with all its offers.
+pub fn publish(
+    directory: &Directory,
+    scan: &mut DirectoryPass,
+    row: Row,
+    directions: &[Option<Direction>; 8],
+)
+    requires sits { Sits directory.now scan.old }
+    requires all { (row.thread < 64) × (512 ≤ directory.now.lanes) }
+    ensures sits { Sits directory.now scan.new }
+    ensures out { ArePublished scan.new.me.0.marks row directions.now }
+{
+    directory.open(scan, row.thread, row.sync);
+    for n in 0..8_usize {
+        if let Some(direction) = directions[n] {
+            offer(directory, scan, row.thread, direction);
+        }
+    }
+}
+
+/// Puts the thread into the lane of an offer in this direction, if it has one.
+fn offer(directory: &Directory, scan: &mut DirectoryPass, thread: u8, direction: Direction)
+    requires sits { Sits directory.now scan.old }
+    requires all { (thread < 64) × (512 ≤ directory.now.lanes) }
+    ensures sits { Sits directory.now scan.new }
+    ensures more { KnowsMore scan.old.me.0 scan.new.me.0 }
+    ensures offered { (l m : ℕ) → lanes_of direction ≡ Some (l, m) → Offered scan.new.me.0.marks thread l }
+{
+    if let Some(own) = lanes(direction) {
+        directory.offer(scan, thread, own.0);
+    }
+}
+
+/// Looks for what one offer of the published row can be committed with. None: a row was claimed that it may meet.
+fn scan_offer<G: StepGate, M: Resident>(
+    directory: &Directory,
+    scan: &mut DirectoryPass,
+    cells: &Cells<M>,
+    pass: &mut Pass<M>,
+    gate: &G,
+    mine: (Row, u8),
+    direction: Direction,
+) -> Option<Found>
+    requires here { IsPassOf cells.now pass.old × IsRowOf cells.now mine.0 }
+    requires opened { Has pass.old.seen.held mine.0 × Has pass.old.seen.opened mine.0 }
+    requires read { HaveDirection pass.old.seen.words mine.0 mine.1 direction }
+    requires sits { Sits directory.now scan.old × (512 ≤ directory.now.lanes) }
+    requires published { (l m : ℕ) → lanes_of direction ≡ Some (l, m) → Published scan.old.me.0.marks mine.0.thread mine.0.sync l }
+    ensures here { IsPassOf cells.now pass.new }
+    ensures grows { Grows pass.old.seen pass.new.seen }
+    ensures results { KeepsResults pass.old pass.new }
+    ensures sits { Sits directory.now scan.new }
+    ensures more { KnowsMore scan.old.me.0 scan.new.me.0 }
+    ensures made { SearchMade mine.0 (found_or_left result) pass.old.made pass.new.made }
+    ensures found { IfSome result (ComesTo pass.new.seen mine.0 (IsLeftFor scan.new.me.0 pass.new.seen mine.0 direction × (¬ CanStandAlone pass.old.seen mine.0 mine.1))) }
+{
+    match lanes(direction) {
+        Some(both) => scan_lane(directory, scan, cells, pass, gate, mine, direction, both),
+        None => Some(commit_alone(cells, pass, mine).unwrap_or(Found::Left)),
+    }
+}
+
+/// Looks, offer by offer, for what the published row can be committed with. None: a row was claimed that it may meet,
+/// and nothing came of the others.
+pub fn scan_offers<G: StepGate, M: Resident>(
+    directory: &Directory,
+    scan: &mut DirectoryPass,
+    cells: &Cells<M>,
+    pass: &mut Pass<M>,
+    gate: &G,
+    row: Row,
+    directions: &[Option<Direction>; 8],
+) -> Option<Found>
+    requires here { IsPassOf cells.now pass.old × IsRowOf cells.now row }
+    requires opened { Has pass.old.seen.held row × Has pass.old.seen.opened row }
+    requires read { AreRead pass.old.seen row directions.now }
+    requires sits { Sits directory.now scan.old × (512 ≤ directory.now.lanes) }
+    requires out { ArePublished scan.old.me.0.marks row directions.now }
+    ensures here { IsPassOf cells.now pass.new }
+    ensures grows { Grows pass.old.seen pass.new.seen }
+    ensures results { KeepsResults pass.old pass.new }
+    ensures sits { Sits directory.now scan.new }
+    ensures more { KnowsMore scan.old.me.0 scan.new.me.0 }
+    ensures made { SearchMade row (found_or_left result) pass.old.made pass.new.made }
+    ensures found { IfSome result (ComesTo pass.new.seen row (IsLeftRow scan.new.me.0 pass.new.seen row × StandsByNone pass.old.seen row directions.now)) }
+{
+    let mut is_claimed = false;
+    for n in 0..8 {
+        let Some(direction) = directions[usize::from(n)] else {
+            continue;
+        };
+        match scan_offer(directory, scan, cells, pass, gate, (row, n), direction) {
+            Some(Found::Left) => continue,
+            Some(Found::Met(other)) => return Some(Found::Met(other)),
+            Some(Found::Alone) => return Some(Found::Alone),
+            Some(Found::Already) => return Some(Found::Already),
+            None => {
+                is_claimed = true;
+                continue;
+            }
+        }
+    }
+    (!is_claimed).then_some(Found::Left)
+}
+
+/// Searches for a row that this one can meet, by the directory alone, and waits for nobody: it publishes the row, and
+/// looks once at each row that it may meet. None: one of them was claimed, and the search is to be made again. Its
+/// caller has a scheduler of his own.
+pub fn search_once<G: StepGate, M: Resident>(
+    directory: &Directory,
+    scan: &mut DirectoryPass,
+    cells: &Cells<M>,
+    pass: &mut Pass<M>,
+    gate: &G,
+    row: Row,
+) -> Option<Found>
+    requires here { IsPassOf cells.now pass.old × IsRowOf cells.now row }
+    requires opened { Has pass.old.seen.held row × Has pass.old.seen.opened row }
+    requires sits { Sits directory.now scan.old }
+    requires all { (row.thread < 64) × (512 ≤ directory.now.lanes) }
+    ensures here { IsPassOf cells.now pass.new }
+    ensures grows { Grows pass.old.seen pass.new.seen }
+    ensures results { KeepsResults pass.old pass.new }
+    ensures sits { Sits directory.now scan.new }
+    ensures made { SearchMade row (found_or_left result) pass.old.made pass.new.made }
+    ensures found { IfSome result (Finds pass.old.seen pass.new.seen row) }
+    ensures left { IfSome result (λ found. found ≡ Left → IsLeftRow scan.new.me.0 pass.new.seen row) }
+{
+    let directions = own_directions(cells, pass, row);
+    publish(directory, scan, row, &directions);
+    match scan_offers(directory, scan, cells, pass, gate, row, &directions)? {
+        Found::Left => Some(leave(cells, pass, row)),
+        found => Some(found),
+    }
+}
+
+/// Of two threads that offer events that meet, and whose searches have both come to an end, one has been committed:
+/// whoever was told all that the two searches saw, at the directory and in the table, has seen that one of the two rows
+/// is committed, or was taken.
+pub fn nobody_is_left()
+    ensures { (threads rows : ℕ) (v : View) (s : Seen) → NoPairMissed v → Coherent threads rows s → NobodyLeft v s × NoPairLeft v s }
+{}
