@@ -17,7 +17,7 @@ use Rattle.cell_table.specs.declared.view.Seen.{Seen}
 use Rattle.cell_table.specs.Sight.{Coherent, Has, HaveDirection, LackOffer, SawCommitted}
 use Rattle.meet_directory.specs.declared.view.View.{View}
 use Rattle.meet_directory.specs.Directory.{HasBit, Missed, NoBitBetween, NoPairMissed, Opened, Published, glimpse, saw, Has as HasMark}
-use Rattle.meet_scan.specs.Leaving.{ArePublished, AreRead, ComesTo, IsDoneWith, IsLeft, IsLeftAt, IsLeftFor, IsPast, KnowsMore, MeetsNoneAt, NoPairLeft, PassedBy, lanes_of}
+use Rattle.meet_scan.specs.Leaving.{ArePublished, AreRead, CannotPass, ComesTo, IsDoneWith, IsHeldUp, IsLeft, IsLeftAt, IsLeftFor, IsPast, KnowsMore, MeetsNoneAt, NoPairLeft, PassedBy, lanes_of}
 use Rattle.meet_scan.specs.Searches.{FoundAt, Grows, LacksAt, Lists}
 use Rattle.meet_scan.specs.Steps.{SearchMade, found_or_left}
 use Rattle.protocol_values.specs.declared.Step.{Step}
@@ -26,8 +26,9 @@ use Rattle.cell_table.proofs.Directions.{sees_direction}
 use Rattle.meet_scan.proofs.Reading.{none_behind}
 use Rattle.meet_scan.specs.declared.found.Found.{Found}
 use Rattle.meet_scan.specs.declared.found.Found.TheVariants.{Met, Alone, Already, Left}
-use Rattle.meet_scan.proofs.Growing.{NeedsPartner, grows_nothing, grows_then, saw_more, stands_never}
+use Rattle.meet_scan.proofs.Growing.{NeedsPartner, grows_nothing, grows_then, saw_more, seen_more, stands_never}
 use Rattle.meet_scan.proofs.Making.{keeps_nothing, keeps_then, made_then, tries_nothing}
+use Rattle.cell.specs.Attempts.{CanMeet}
 use Rattle.cell.specs.Calls.{GridOf, IsPassOf, KeepsResults, PassOf}
 use Rattle.atomic_table.specs.declared.shared.Seat.{Seat}
 use Rattle.meet_directory.specs.declared.directory.Directory.{Directory}
@@ -388,3 +389,38 @@ read_whole t r directions n all to filled k low = by_case (get_or directions k N
     by_case : (o : Option Direction) → get_or directions k None ≡ o → MatchOption o (LackOffer t.words r k) (HaveDirection t.words r k)
     by_case None e = absurd (filled k (omega arith) e)
     by_case (Some d) e = to.have k d e
+
+-- HELD UP stays so
+pub can_meet_more : (s t : Seen) (r : Row) (n : ℕ) (q : Row) (k : ℕ) → Grows s t → CanMeet s r n q k → CanMeet t r n q k
+can_meet_more s t r n q k g can = (can.0, can.1, can.2, seen_more s t r n can.1 g can.3, seen_more s t q k can.2 g can.4, can.5)
+
+pub stops_more : {M : Type 0} (g : GridOf M) (a s t u : Seen) (r q : Row) → Grows a s → Grows t u → CannotPass g s t r q → CannotPass g a u r q
+stops_more g a s t u r q before after (inl far) = inl far
+stops_more g a s t u r q before after (inr (inl none)) = inr (inl none)
+stops_more g a s t u r q before after (inr (inr (inl new))) = inr (inr (inl (λ h. new (before.opened.0 q h))))
+stops_more g a s t u r q before after (inr (inr (inr (n, k, can)))) = inr (inr (inr (n, k, can_meet_more t u r n q k after can)))
+
+pub held_more : {M : Type 0} (g : GridOf M) (v w : View) (a s t u : Seen) (r : Row) → KnowsMore v w → Grows a s → Grows t u → IsHeldUp g v s t r → IsHeldUp g w a u r
+held_more g v w a s t u r more before after held = record {
+  other = held.other;
+  own = held.own;
+  apart = held.apart;
+  named = (held.named.0, more.1 held.named.0 held.named.1, held.named.2, held.named.3, held.named.4);
+  stops = stops_more g a s t u r held.other before after held.stops;
+}
+
+-- the directory named this row
+pub held_by : {M : Type 0} (g : GridOf M) (v w : View) (s t : Seen) (r q : Row) (own count : ℕ) → Published v.marks r.thread r.sync own → w ≡ saw q.thread count v → count ≡ q.sync + 1 → r.thread ≢ q.thread
+    → CannotPass g s t r q → IsHeldUp g w s t r
+held_by g v w s t r q own count published look is apart stops = record { other = q; own = own; apart = apart; named = (glimpse q.thread count v, saw_it v w q.thread count look, published, refl, is); stops = stops }
+
+pub then_none : {P : Type 0} (claimed : Bool) (found : Option Found) → found ≡ then_some (not claimed) Left → (claimed ≡ true → P) → IfNone found P
+then_none {P} false found is holds = subst (λ (f : Option Found). IfNone f P) (sym is) tt
+then_none {P} true found is holds = subst (λ (f : Option Found). IfNone f P) (sym is) (holds refl)
+
+pub none_holds : {P Q : Type 0} (found : Option Found) → (P → Q) → IfNone found P → IfNone found Q
+none_holds None f p = f p
+none_holds (Some x) f p = tt
+
+pub from_again : {P : Type 0} (found : Option Found) → found ≡ None → IfNone found P → P
+from_again {P} found none again = subst (λ (f : Option Found). IfNone f P) none again

@@ -1,9 +1,11 @@
 -- What a search leaves: whom it missed in the directory, and whom it passed by.
-use Rattle.std.specs.Prelude.{Option, Some, None, ◌≡◌, ◌≢◌, ◌⊎◌, ℕ, ◌<◌, ◌+◌, ◌*◌, true, false, List, MatchOption, get_or}
+use Rattle.std.specs.Prelude.{Option, Some, None, ◌≡◌, ◌≢◌, ◌⊎◌, ℕ, ◌<◌, ◌≤◌, ◌+◌, ◌*◌, ◌^◌, true, false, List, MatchOption, get_or}
 use Rattle.protocol_values.specs.declared.Direction.{Direction}
 use Rattle.protocol_values.specs.declared.Direction.TheVariants.{Always, Never, OnEnd, OnNack, Recv, Send}
 use Rattle.protocol_values.specs.declared.Row.{Row}
 use Rattle.protocol_values.specs.Values.{directions_meet}
+use Rattle.cell.specs.Attempts.{CanMeet}
+use Rattle.cell.specs.Calls.{GridOf, IsRowOf}
 use Rattle.cell_table.specs.declared.view.Seen.{Seen}
 use Rattle.cell_table.specs.Sight.{Has, HaveDirection, LackOffer, SawCommitted}
 use Rattle.meet_directory.specs.declared.view.View.{View}
@@ -93,6 +95,25 @@ ScansTo v s t r (Met other) = IsMetWith t r other
 ScansTo v s t r Alone = IsAlone t r
 ScansTo v s t r Already = SawCommitted t r
 ScansTo v s t r Left = IsLeftRow v t r × (¬ SawCommitted s r)
+
+-- WHO IS IN THE WAY
+
+-- Behind the publishing of the row, which offers in lane own, the directory named the other as its thread's newest.
+abbrev pub IsNamed : View → Row → ℕ → Row → Type 0
+IsNamed v r own q = (a : Glimpse) × HasMark v.looks a × Published a.marks r.thread r.sync own × (a.word ≡ q.thread) × (a.found ≡ q.sync + 1)
+
+-- It is no row of the table, it had not been seen opened, or the two can meet.
+abbrev pub CannotPass : {M : Type 0} → GridOf M → Seen → Seen → Row → Row → Type 0
+CannotPass g s t r q = (2 ^ 32 ≤ q.sync) ⊎ ((¬ IsRowOf g q) ⊎ ((¬ Has s.opened q) ⊎ ((n : ℕ) × (k : ℕ) × CanMeet t r n q k)))
+
+-- A search is held up, by what the pass had seen before it and has seen after it: the directory named a row of another thread, which
+-- can meet it and was claimed, or is not there yet.
+pub record IsHeldUp {M : Type 0} (g : GridOf M) (v : View) (s t : Seen) (r : Row) : Type 0 where
+  pub other : Row
+  pub own : ℕ
+  pub apart : r.thread ≢ other.thread
+  pub named : IsNamed v r own other
+  pub stops : CannotPass g s t r other
 
 -- NOBODY IS LEFT: of two rows of two threads whose offers i and j meet, each of which was left for that offer, one was seen committed
 -- or taken.

@@ -8,7 +8,7 @@ ghost use Rattle.cell_table.specs.declared.view.Seen.{Seen};
 ghost use Rattle.meet_directory.specs.Directory.{NoPairMissed, Offered, Published};
 ghost use Rattle.meet_directory.specs.Seats.{Sits};
 ghost use Rattle.meet_directory.specs.declared.view.View.{View};
-ghost use Rattle.meet_scan.specs.Leaving.{ArePublished, AreRead, ComesTo, IsDoneWith, IsLeft, IsLeftFor, IsLeftRow, KnowsMore, MeetsAt, MeetsNone, NoPairLeft, NobodyLeft, PassedBy, lanes_of};
+ghost use Rattle.meet_scan.specs.Leaving.{ArePublished, AreRead, CannotPass, ComesTo, IsDoneWith, IsHeldUp, IsLeft, IsLeftFor, IsLeftRow, KnowsMore, MeetsAt, MeetsNone, NoPairLeft, NobodyLeft, PassedBy, lanes_of};
 ghost use Rattle.meet_scan.specs.Searches.{Finds, Grows, StandsByNone};
 ghost use Rattle.meet_scan.specs.Steps.{OnlyLooks, SearchMade, found_or_left};
 ghost use Rattle.meet_scan.specs.declared.found.Found.TheVariants.{Left};
@@ -60,6 +60,7 @@ fn scan_row<G: StepGate, M: Resident>(
     ensures results { KeepsResults pass.old pass.new }
     ensures made { SearchMade mine.0 (found_or_left result) pass.old.made pass.new.made }
     ensures found { IfSome result (ComesTo pass.new.seen mine.0 (PassedBy pass.new.seen other direction × Has pass.new.seen.opened other)) }
+    ensures again { IfNone result (CannotPass cells.now pass.old.seen pass.new.seen mine.0 other) }
 {
     match cells.look(pass, other) {
         Cell::Synched(_) | Cell::Taken(_) => Some(Found::Left),
@@ -105,6 +106,7 @@ fn scan_thread<G: StepGate, M: Resident>(
     ensures more { KnowsMore scan.old.me.0 scan.new.me.0 }
     ensures made { SearchMade mine.0 (found_or_left result) pass.old.made pass.new.made }
     ensures found { IfSome result (ComesTo pass.new.seen mine.0 (IsDoneWith scan.new.me.0 pass.new.seen mine.0 direction lanes.0 lanes.1 other)) }
+    ensures again { IfNone result (IsHeldUp cells.now scan.new.me.0 pass.old.seen pass.new.seen mine.0) }
 {
     let count = directory.scan_newest(scan, other);
     if count == 0 {
@@ -149,6 +151,7 @@ fn scan_lane<G: StepGate, M: Resident>(
     ensures more { KnowsMore scan.old.me.0 scan.new.me.0 }
     ensures made { SearchMade mine.0 (found_or_left result) pass.old.made pass.new.made }
     ensures found { IfSome result (ComesTo pass.new.seen mine.0 (IsLeft scan.new.me.0 pass.new.seen mine.0 direction lanes.0 lanes.1)) }
+    ensures again { IfNone result (IsHeldUp cells.now scan.new.me.0 pass.old.seen pass.new.seen mine.0) }
 {
     let word = directory.scan_lane(scan, lanes.1);
     let mut is_claimed = false;
@@ -241,6 +244,7 @@ fn scan_offer<G: StepGate, M: Resident>(
     ensures more { KnowsMore scan.old.me.0 scan.new.me.0 }
     ensures made { SearchMade mine.0 (found_or_left result) pass.old.made pass.new.made }
     ensures found { IfSome result (ComesTo pass.new.seen mine.0 (IsLeftFor scan.new.me.0 pass.new.seen mine.0 direction × (¬ CanStandAlone pass.old.seen mine.0 mine.1))) }
+    ensures again { IfNone result (IsHeldUp cells.now scan.new.me.0 pass.old.seen pass.new.seen mine.0) }
 {
     match lanes(direction) {
         Some(both) => scan_lane(directory, scan, cells, pass, gate, mine, direction, both),
@@ -271,6 +275,7 @@ pub fn scan_offers<G: StepGate, M: Resident>(
     ensures more { KnowsMore scan.old.me.0 scan.new.me.0 }
     ensures made { SearchMade row (found_or_left result) pass.old.made pass.new.made }
     ensures found { IfSome result (ComesTo pass.new.seen row (IsLeftRow scan.new.me.0 pass.new.seen row × StandsByNone pass.old.seen row directions.now)) }
+    ensures again { IfNone result (IsHeldUp cells.now scan.new.me.0 pass.old.seen pass.new.seen row) }
 {
     let mut is_claimed = false;
     for n in 0..8 {
@@ -313,6 +318,7 @@ pub fn search_once<G: StepGate, M: Resident>(
     ensures made { SearchMade row (found_or_left result) pass.old.made pass.new.made }
     ensures found { IfSome result (Finds pass.old.seen pass.new.seen row) }
     ensures left { IfSome result (λ found. found ≡ Left → IsLeftRow scan.new.me.0 pass.new.seen row) }
+    ensures again { IfNone result (IsHeldUp cells.now scan.new.me.0 pass.old.seen pass.new.seen row) }
 {
     let directions = own_directions(cells, pass, row);
     publish(directory, scan, row, &directions);

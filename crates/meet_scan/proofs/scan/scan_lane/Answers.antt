@@ -4,7 +4,7 @@ use Rattle.std.proofs.lemmas.Bool.{true≢false}
 use Rattle.meet_scan.specs.declared.found.Found.TheVariants.{Alone, Already, Left, Met}
 use Rattle.meet_scan.proofs.Growing.{grows_nothing}
 use Rattle.meet_scan.proofs.Making.{found_made, none_made}
-use Rattle.meet_scan.proofs.Scanning.{all_done, comes_left, done_next, done_to, goes_then, left_made, more_nothing, published_more, then_comes}
+use Rattle.meet_scan.proofs.Scanning.{all_done, comes_left, done_next, done_to, from_again, goes_then, held_more, left_made, more_nothing, published_more, then_comes, then_none}
 use Rattle.meet_scan.proofs.scan.scan_lane.Goals as goal
 
 pub loop-other-preserved-then-other-mine : goal.loop-other-preserved-then-other-mine
@@ -20,6 +20,7 @@ loop-other-preserved-then-other-mine g c =
       omega (arith, next.1),
       λ free. done_next v v s s r c.args.direction c.args.lanes.0 c.args.lanes.1 c.in-Some.other (more_nothing v) (grows_nothing s)
           (done_to c.args.scan.now.me.0 v s r c.args.direction c.args.lanes.0 c.args.lanes.1 c.loop-other.from c.in-Some.other c.scan_lane-word.result c.requires.published i.1 next.3 (i.3 free)) (λ apart. absurd (apart own)),
+      i.4,
     )
 
 pub scan_thread-requires-clause-published : goal.scan_thread-requires-clause-published
@@ -43,6 +44,7 @@ loop-other-preserved-in-Some-Left g c =
       λ free. done_next v w s t r c.args.direction c.args.lanes.0 c.args.lanes.1 c.in-Some.other call.more call.grows
           (done_to c.args.scan.now.me.0 v s r c.args.direction c.args.lanes.0 c.args.lanes.1 c.loop-other.from c.in-Some.other c.scan_lane-word.result c.requires.published i.1 next.3 (i.3 free))
           (λ apart. comes_left t r _ c.scan_thread.result left call.found),
+      λ claimed. held_more c.args.cells.now v w c.args.pass.now.seen c.args.pass.now.seen s t r call.more (grows_nothing c.args.pass.now.seen) call.grows (i.4 claimed),
     )
 
 -- a row was claimed
@@ -57,7 +59,9 @@ loop-other-preserved g c =
           (record { here = call.here; grows = call.grows; results = call.results; sits = call.sits; more = call.more; made = none_made r c.loop-other.pass.made c.scan_thread.new.pass.made c.scan_thread.result none call.made }),
       call.more.1 _ i.1,
       omega (arith, next.1),
-      λ free. absurd (true≢false free),
+      (λ free. absurd (true≢false free)),
+      (λ claimed. held_more c.args.cells.now c.scan_thread.new.scan.me.0 c.scan_thread.new.scan.me.0 c.args.pass.now.seen c.loop-other.pass.seen c.scan_thread.new.pass.seen c.scan_thread.new.pass.seen r
+          (more_nothing c.scan_thread.new.scan.me.0) i.0.grows (grows_nothing c.scan_thread.new.pass.seen) (from_again c.scan_thread.result none call.again)),
     )
 
 pub returns-clause-found : goal.returns-clause-found
@@ -78,3 +82,6 @@ returns-in-Some-Alone-clause-made g c = found_made c.args.mine.0 c.in-Some-Alone
 
 pub returns-in-Some-Already-clause-made : goal.returns-in-Some-Already-clause-made
 returns-in-Some-Already-clause-made g c = found_made c.args.mine.0 c.in-Some-Already.field-0 Already c.args.pass.now.made c.loop-other.pass.made c.scan_thread.new.pass.made c.in-Some-Already.field-0-is c.loop-other.invariant.0.made c.in-Some-Already.ensures.made
+
+pub returns-clause-again : goal.returns-clause-again
+returns-clause-again g c = then_none c.loop-other.is_claimed c.then_some.result c.then_some.ensures c.loop-other.invariant.4

@@ -1,4 +1,4 @@
-use Rattle.std.proofs.Common.{arith, inl, inr, rules, subst, ◌≡◌, ℕ}
+use Rattle.std.proofs.Common.{arith, inl, inr, rules, subst, sym, ◌≡◌, ℕ}
 use Rattle.std.specs.Prelude.{Some, None, get_or}
 use Rattle.std.proofs.lemmas.Bool.{true≢false}
 use Rattle.meet_scan.specs.Searches.{LacksAt, Lists}
@@ -6,11 +6,11 @@ use Rattle.meet_scan.specs.declared.found.Found.TheVariants.{Alone, Already, Lef
 use Rattle.meet_scan.proofs.Growing.{grows_nothing, stands_more}
 use Rattle.meet_scan.proofs.Making.{found_made, none_made}
 use Rattle.meet_scan.proofs.Reading.{none_listed, stands_by_no_other}
-use Rattle.meet_scan.proofs.Scanning.{comes_left, goes_nothing, goes_then, have_more, lacking_alone, lack_more, left_made, left_next, more_nothing, published_more, read_lacks, read_listed, then_comes}
+use Rattle.meet_scan.proofs.Scanning.{comes_left, from_again, goes_nothing, goes_then, have_more, held_more, lacking_alone, lack_more, left_made, left_next, more_nothing, published_more, read_lacks, read_listed, then_comes, then_none}
 use Rattle.meet_scan.proofs.scan.scan_offers.Goals as goal
 
 pub loop-n-init : goal.loop-n-init
-loop-n-init g c = (goes_nothing c.args.cells.now c.args.directory.now c.args.row c.args.pass.now c.args.scan.now c.requires.here.0 c.requires.sits.0, λ free k low. absurd (omega arith))
+loop-n-init g c = (goes_nothing c.args.cells.now c.args.directory.now c.args.row c.args.pass.now c.args.scan.now c.requires.here.0 c.requires.sits.0, λ free k low. absurd (omega arith), λ claimed. absurd (true≢false (sym claimed)))
 
 -- the row has no such offer
 pub loop-n-preserved-in_default : goal.loop-n-preserved-in_default
@@ -26,6 +26,7 @@ loop-n-preserved-in_default g c =
       i.0,
       λ free. left_next v v s t t r c.loop-n.n (more_nothing v) (grows_nothing t) (i.1 free) (inl (lack_more s t r c.loop-n.n i.0.grows lacks))
           (lacking_alone _ _ s r c.loop-n.n c.requires.here.0.4 lacks),
+      i.2,
     )
 
 pub loop-n-preserved-in-Some-Left : goal.loop-n-preserved-in-Some-Left
@@ -47,6 +48,7 @@ loop-n-preserved-in-Some-Left g c =
       λ free. let came = comes_left u r _ c.scan_offer.result left call.found in
           left_next v w s t u r c.loop-n.n call.more call.grows (i.1 free) (inr (d, have_more t u r c.loop-n.n d call.grows (have_more s t r c.loop-n.n d i.0.grows have), came.0))
           (λ can. came.1 (stands_more s t r c.loop-n.n i.0.grows can)),
+      λ claimed. held_more c.args.cells.now v w s s t u r call.more (grows_nothing s) call.grows (i.2 claimed),
     )
 
 -- a row was claimed
@@ -58,7 +60,9 @@ loop-n-preserved g c =
     let none : c.scan_offer.result ≡ None = (search rules) in (
       goes_then c.args.cells.now c.args.directory.now r c.args.pass.now c.loop-n.pass c.scan_offer.new.pass c.args.scan.now c.loop-n.scan c.scan_offer.new.scan i.0
           (record { here = call.here; grows = call.grows; results = call.results; sits = call.sits; more = call.more; made = none_made r c.loop-n.pass.made c.scan_offer.new.pass.made c.scan_offer.result none call.made }),
-      λ free. absurd (true≢false free),
+      (λ free. absurd (true≢false free)),
+      (λ claimed. held_more c.args.cells.now c.scan_offer.new.scan.me.0 c.scan_offer.new.scan.me.0 c.args.pass.now.seen c.loop-n.pass.seen c.scan_offer.new.pass.seen c.scan_offer.new.pass.seen r
+          (more_nothing c.scan_offer.new.scan.me.0) i.0.grows (grows_nothing c.scan_offer.new.pass.seen) (from_again c.scan_offer.result none call.again)),
     )
 
 pub scan_offer-requires-clause-read : goal.scan_offer-requires-clause-read
@@ -90,3 +94,6 @@ returns-in-Some-Alone-clause-made g c = found_made c.args.row c.in-Some-Alone.fi
 
 pub returns-in-Some-Already-clause-made : goal.returns-in-Some-Already-clause-made
 returns-in-Some-Already-clause-made g c = found_made c.args.row c.in-Some-Already.field-0 Already c.args.pass.now.made c.loop-n.pass.made c.scan_offer.new.pass.made c.in-Some-Already.field-0-is c.loop-n.invariant.0.made c.in-Some-Already.ensures.made
+
+pub returns-clause-again : goal.returns-clause-again
+returns-clause-again g c = then_none c.loop-n.is_claimed c.then_some.result c.then_some.ensures c.loop-n.invariant.2

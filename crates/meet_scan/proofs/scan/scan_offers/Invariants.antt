@@ -1,6 +1,6 @@
-use Rattle.std.proofs.Common.{◌≡◌, ◌<◌, ℕ, false}
+use Rattle.std.proofs.Common.{◌≡◌, ◌<◌, ℕ, false, true}
 use Rattle.cell_table.specs.Nacks.{CanStandAlone}
-use Rattle.meet_scan.specs.Leaving.{IsLeftAt}
+use Rattle.meet_scan.specs.Leaving.{IsHeldUp, IsLeftAt}
 use Rattle.meet_scan.proofs.Scanning.{Goes}
 use Rattle.meet_scan.proofs.scan.scan_offers.Given as goal
 
@@ -8,3 +8,4 @@ use Rattle.meet_scan.proofs.scan.scan_offers.Given as goal
 abbrev pub invariant-loop-n : goal.invariant-loop-n
 invariant-loop-n g l = Goes l.cells l.directory l.row l.fn.pass l.pass l.fn.scan l.scan
     × (l.is_claimed ≡ false → (k : ℕ) → k < l.n → IsLeftAt l.scan.me.0 l.pass.seen l.row k × (¬ CanStandAlone l.fn.pass.seen l.row k))
+    × (l.is_claimed ≡ true → IsHeldUp l.cells l.scan.me.0 l.fn.pass.seen l.pass.seen l.row)

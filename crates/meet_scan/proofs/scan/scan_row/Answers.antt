@@ -1,4 +1,4 @@
-use Rattle.std.proofs.Common.{◌∙◌, inl, subst, sym}
+use Rattle.std.proofs.Common.{◌∙◌, inl, inr, subst, sym}
 use Rattle.cell.proofs.Learning.{learns_look}
 use Rattle.cell_table.specs.declared.view.Seen.{Seen}
 use Rattle.meet_scan.specs.Searches.{Grows}
@@ -37,3 +37,7 @@ pub returns-in-Busy-clause-made : goal.returns-in-Busy-clause-made
 returns-in-Busy-clause-made g c =
     let first = looked_first c.args.mine.0 c.args.pass.now.made c.meeting_offer.new.pass.made (c.meeting_offer.ensures.looks.0 ∙ c.look.ensures.made) in
     one_try c.args.mine.0 c.args.pass.now.made c.meeting_offer.new.pass.made c.attempt.new.pass.made first c.in-Busy.ensures.made
+
+-- the two can meet, and it was claimed
+pub returns-in-Busy-clause-again : goal.returns-in-Busy-clause-again
+returns-in-Busy-clause-again g c = inr (inr (inr (c.args.mine.1, c.in-Some.partner, c.in-Busy.ensures.fits)))

@@ -1,9 +1,9 @@
-use Rattle.std.proofs.Common.{◌≡◌, ◌∙◌, ap}
-use Rattle.std.specs.Prelude.{Some}
+use Rattle.std.proofs.Common.{rules, ◌≡◌, ◌∙◌, ap}
+use Rattle.std.specs.Prelude.{None, Some}
 use Rattle.meet_scan.specs.declared.found.Found.TheVariants.{Left}
-use Rattle.meet_scan.proofs.Growing.{grows_then}
-use Rattle.meet_scan.proofs.Reading.{found_left, stands_nowhere}
-use Rattle.meet_scan.proofs.Scanning.{comes_left, left_at_more, more_nothing}
+use Rattle.meet_scan.proofs.Growing.{grows_nothing, grows_then}
+use Rattle.meet_scan.proofs.Reading.{found_left, if_none, stands_nowhere}
+use Rattle.meet_scan.proofs.Scanning.{comes_left, from_again, held_more, left_at_more, more_nothing}
 use Rattle.meet_scan.proofs.scan.search_once.Goals as goal
 
 pub returns-in-Left-clause-left : goal.returns-in-Left-clause-left
@@ -23,3 +23,12 @@ returns-in-Left-clause-found g c =
     let came = comes_left t c.args.row _ c.scan_offers.result left c.scan_offers.ensures.found in
     found_left s t c.leave.new.pass.seen c.args.row c.leave.result (grows_then s read t c.own_directions-directions.ensures.grows c.scan_offers.ensures.grows) c.leave.ensures.left
     (stands_nowhere s read c.args.row c.own_directions-directions.result c.own_directions-directions.ensures.grows c.own_directions-directions.ensures.short came.1)
+
+pub returns-in_err-found-clause-again : goal.returns-in_err-found-clause-again
+returns-in_err-found-clause-again g c =
+    let v = c.scan_offers.new.scan.me.0 in
+    let read = c.own_directions-directions.new.pass.seen in
+    let t = c.scan_offers.new.pass.seen in
+    let none : c.scan_offers.result ≡ None = (search rules) in
+    if_none c.from_residual.result
+    (held_more c.args.cells.now v v c.args.pass.now.seen read t t c.args.row (more_nothing v) c.own_directions-directions.ensures.grows (grows_nothing t) (from_again c.scan_offers.result none c.scan_offers.ensures.again))
