@@ -199,6 +199,7 @@ pub fn publish(
     requires sits { Sits directory.now scan.old }
     requires all { (row.thread < 64) × (512 ≤ directory.now.lanes) }
     ensures sits { Sits directory.now scan.new }
+    ensures more { KnowsMore scan.old.me.0 scan.new.me.0 }
     ensures out { ArePublished scan.new.me.0.marks row directions.now }
 {
     directory.open(scan, row.thread, row.sync);
@@ -315,6 +316,7 @@ pub fn search_once<G: StepGate, M: Resident>(
     ensures grows { Grows pass.old.seen pass.new.seen }
     ensures results { KeepsResults pass.old pass.new }
     ensures sits { Sits directory.now scan.new }
+    ensures more { KnowsMore scan.old.me.0 scan.new.me.0 }
     ensures made { SearchMade row (found_or_left result) pass.old.made pass.new.made }
     ensures found { IfSome result (Finds pass.old.seen pass.new.seen row) }
     ensures left { IfSome result (λ found. found ≡ Left → IsLeftRow scan.new.me.0 pass.new.seen row) }
