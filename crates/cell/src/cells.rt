@@ -517,6 +517,12 @@ impl<M: Resident> Cells<M> {
         self.board.has(row)
     }
 
+    /// That a table has at most 64 threads. It does nothing when it runs.
+    #[inline(always)]
+    pub fn has_few_threads(&self)
+        ensures { self.now.threads ≤ 64 }
+    {}
+
     /// Opens a held row that is Fresh: its offers stand from now on. In a table of machines the row's machine
     /// was parked for it, and nothing was drafted or bound for it since.
     pub fn open(&self, pass: &mut Pass<M>, row: Row)

@@ -310,8 +310,7 @@ pub fn search_once<G: StepGate, M: Resident>(
 ) -> Option<Found>
     requires here { IsPassOf cells.now pass.old × IsRowOf cells.now row }
     requires opened { Has pass.old.seen.held row × Has pass.old.seen.opened row }
-    requires sits { Sits directory.now scan.old }
-    requires all { (row.thread < 64) × (512 ≤ directory.now.lanes) }
+    requires sits { Sits directory.now scan.old × (512 ≤ directory.now.lanes) }
     ensures here { IsPassOf cells.now pass.new }
     ensures grows { Grows pass.old.seen pass.new.seen }
     ensures results { KeepsResults pass.old pass.new }
@@ -323,6 +322,7 @@ pub fn search_once<G: StepGate, M: Resident>(
     ensures again { IfNone result (IsHeldUp cells.now scan.new.me.0 pass.old.seen pass.new.seen row) }
 {
     let directions = own_directions(cells, pass, row);
+    cells.has_few_threads();
     publish(directory, scan, row, &directions);
     match scan_offers(directory, scan, cells, pass, gate, row, &directions)? {
         Found::Left => Some(leave(cells, pass, row)),
