@@ -521,7 +521,9 @@ impl<M: Resident> Cells<M> {
     #[inline(always)]
     pub fn has_few_threads(&self)
         ensures { self.now.threads ≤ 64 }
-    {}
+    {
+        let _ = &self.board;
+    }
 
     /// Opens a held row that is Fresh: its offers stand from now on. In a table of machines the row's machine
     /// was parked for it, and nothing was drafted or bound for it since.
