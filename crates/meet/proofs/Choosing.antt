@@ -1,6 +1,6 @@
 -- Which offer is put into which room, as the offers are gone through.
 use Rattle.std.proofs.Common.{Bool, true, false, ◌≡◌, ◌<◌, ◌≤◌, ◌+◌, ◌*◌, ℕ, List, inl, inr, refl, ap, sym, subst, ◌∙◌, length, arith}
-use Rattle.std.specs.Prelude.{Option, unwrap_or, IfOk, Result, Ok, Err}
+use Rattle.std.specs.Prelude.{Option, Some, None, unwrap_or, IfOk, IfSome, MatchOption, Result, Ok, Err}
 use Rattle.std.proofs.lemmas.Bool.{ltb-false, ltb-true}
 use Rattle.std.proofs.lemmas.Bool.Decides.{eqb_tells}
 use Rattle.protocol_values.specs.declared.Direction.{Direction}
@@ -11,11 +11,10 @@ use Rattle.cell_table.specs.declared.view.Seen.{Seen}
 use Rattle.meet_queues.specs.declared.lane.LanePass.{LanePass}
 use Rattle.meet_queues.specs.Lanes.{Offered}
 use Rattle.meet.specs.declared.meet.Meet.{Meet}
-use Rattle.meet.specs.declared.rooms.Room.{Room}
-use Rattle.meet.specs.Rooms.{EachPutsOn, PutAt, WaitsIn}
-use Rattle.meet.specs.Searches.{LacksAt, Lists}
+use Rattle.meet.specs.Rooms.{EachPutsOn, MeetsIn, PutAt, WaitsIn}
+use Rattle.meet_scan.specs.Searches.{LacksAt, Lists}
 use Rattle.meet.proofs.Putting.{each_on_nothing, put_at_between}
-use Rattle.meet.proofs.Reading.{few_directions}
+use Rattle.meet_scan.proofs.Reading.{few_directions}
 
 -- an offer waits in one room
 waits_once : (meet : Meet) (d : Direction) (a b : ℕ) → WaitsIn meet d a → WaitsIn meet d b → a ≡ b
@@ -27,7 +26,7 @@ waits_once meet (OnEnd thread) a b first last = first.1 ∙ sym last.1
 waits_once meet Never a b first last = absurd first
 
 -- and there is such a room
-waits_within : (meet : Meet) (d : Direction) (at : ℕ) → length meet.rooms.items ≡ 2 * meet.channels + 2 * meet.threads → WaitsIn meet d at → at < length meet.rooms.items
+pub waits_within : (meet : Meet) (d : Direction) (at : ℕ) → length meet.rooms.items ≡ 2 * meet.channels + 2 * meet.threads → WaitsIn meet d at → at < length meet.rooms.items
 waits_within meet (Send chan atoms) at sized waits = let low = waits.0 in let is = waits.1 in omega arith
 waits_within meet (Recv chan) at sized waits = let low = waits.0 in let is = waits.1 in omega arith
 waits_within meet (OnNack nack) at sized waits = let low = waits.0 in let is = waits.1 in omega arith
@@ -35,10 +34,29 @@ waits_within meet (Always atoms) at sized waits = absurd waits
 waits_within meet (OnEnd thread) at sized waits = let low = waits.0 in let is = waits.1 in omega arith
 waits_within meet Never at sized waits = absurd waits
 
-pub put_where : {E : Type 0} (meet : Meet) (rooms : List Room) (d : Direction) (found : ℕ) (mine : Offered) (ps qs : List LanePass) (r : Result (Unit {0}) E) → length meet.rooms.items ≡ 2 * meet.channels + 2 * meet.threads
-    → rooms ≡ meet.rooms.items → WaitsIn meet d found → IfOk r (λ x. found < length rooms → PutAt found mine ps qs) → IfOk r (λ x. (at : ℕ) → WaitsIn meet d at → PutAt at mine ps qs)
-put_where meet rooms d found mine ps qs (Ok x) sized all waits put = λ at also. subst (λ (n : ℕ). PutAt n mine ps qs) (waits_once meet d found at waits also) (put (subst (λ (rs : List Room). found < length rs) (sym all) (waits_within meet d found sized waits)))
-put_where meet rooms d found mine ps qs (Err e) sized all waits put = tt
+pub meets_within : (meet : Meet) (d : Direction) (at : ℕ) → length meet.rooms.items ≡ 2 * meet.channels + 2 * meet.threads → MeetsIn meet d at → at < length meet.rooms.items
+meets_within meet (Send chan atoms) at sized meets = let low = meets.0 in let is = meets.1 in omega arith
+meets_within meet (Recv chan) at sized meets = let low = meets.0 in let is = meets.1 in omega arith
+meets_within meet (OnNack nack) at sized meets = absurd meets
+meets_within meet (Always atoms) at sized meets = absurd meets
+meets_within meet (OnEnd thread) at sized meets = absurd meets
+meets_within meet Never at sized meets = absurd meets
+
+-- so it is of the room of a nack, and of that of an end
+pub nack_within : (meet : Meet) (thread : ℕ) (room : Option ℕ) → length meet.rooms.items ≡ 2 * meet.channels + 2 * meet.threads
+    → MatchOption room (¬ (thread < meet.threads)) (λ at. (thread < meet.threads) × (at ≡ 2 * meet.channels + thread)) → IfSome room (λ at. at < length meet.rooms.items)
+nack_within meet thread None sized is = tt
+nack_within meet thread (Some at) sized is = let low = is.0 in let same = is.1 in omega arith
+
+pub end_within : (meet : Meet) (thread : ℕ) (room : Option ℕ) → length meet.rooms.items ≡ 2 * meet.channels + 2 * meet.threads
+    → MatchOption room (¬ (thread < meet.threads)) (λ at. (thread < meet.threads) × (at ≡ 2 * meet.channels + meet.threads + thread)) → IfSome room (λ at. at < length meet.rooms.items)
+end_within meet thread None sized is = tt
+end_within meet thread (Some at) sized is = let low = is.0 in let same = is.1 in omega arith
+
+pub put_where : {E : Type 0} (meet : Meet) (d : Direction) (found : ℕ) (mine : Offered) (ps qs : List LanePass) (r : Result (Unit {0}) E)
+    → WaitsIn meet d found → IfOk r (λ x. PutAt found mine ps qs) → IfOk r (λ x. (at : ℕ) → WaitsIn meet d at → PutAt at mine ps qs)
+put_where meet d found mine ps qs (Ok x) waits put = λ at also. subst (λ (n : ℕ). PutAt n mine ps qs) (waits_once meet d found at waits also) put
+put_where meet d found mine ps qs (Err e) waits put = tt
 
 -- THE OFFERS ARE PUT one after another
 abbrev pub ArePut : Meet → Row → List (Option Direction) → List LanePass → List LanePass → ℕ → Type 0

@@ -95,10 +95,10 @@ put_at_set [] n p q waiting low is put = absurd (omega arith)
 put_at_set (x ∷ ps) zero p q waiting low is put = (x, q, refl, refl, subst (λ (y : LanePass). PutMeanwhile y q waiting) is put)
 put_at_set (x ∷ ps) (suc n) p q waiting low is put = put_at_set ps n p q waiting (omega arith) is put
 
-pub put_meanwhile : {E : Type 0} (Low : Type 0) (ps : List LanePass) (n : ℕ) (p q : LanePass) (waiting : Offered) (r : Result (Unit {0}) E) → n < length ps → p ≡ get_or ps n p
-    → MatchResult r (λ x. Joins p q waiting) (λ x. IsSame p q) → IfOk r (λ x. Low → PutAt n waiting ps (set ps n q))
-put_meanwhile Low ps n p q waiting (Ok x) low is joins = λ some. put_at_set ps n p q waiting low is (joins_put p q waiting joins)
-put_meanwhile Low ps n p q waiting (Err e) low is same = tt
+pub put_meanwhile : {E : Type 0} (ps : List LanePass) (n : ℕ) (p q : LanePass) (waiting : Offered) (r : Result (Unit {0}) E) → n < length ps → p ≡ get_or ps n p
+    → MatchResult r (λ x. Joins p q waiting) (λ x. IsSame p q) → IfOk r (λ x. PutAt n waiting ps (set ps n q))
+put_meanwhile ps n p q waiting (Ok x) low is joins = put_at_set ps n p q waiting low is (joins_put p q waiting joins)
+put_meanwhile ps n p q waiting (Err e) low is same = tt
 
 pub put_at_between : (ps qs rs ss : List LanePass) (n : ℕ) (waiting : Offered) → EachPutsOn ps qs → PutAt n waiting qs rs → EachPutsOn rs ss → PutAt n waiting ps ss
 put_at_between [] [] rs ss n waiting before put after = let bad : None ≡ Some put.0 = put.2 in cc
@@ -121,6 +121,11 @@ put_at_between (p ∷ ps) (q ∷ qs) (r ∷ rs) (s ∷ ss) zero waiting before p
 put_at_between (p ∷ ps) (q ∷ qs) (r ∷ rs) (s ∷ ss) (suc n) waiting before put after = put_at_between ps qs rs ss n waiting before.1 put after.1
 
 -- so it is where an earlier call put on
-pub put_at_later : {E : Type 0} (Low : Type 0) (ps qs rs : List LanePass) (n : ℕ) (waiting : Offered) (r : Result (Unit {0}) E) → EachPutsOn ps qs → IfOk r (λ x. Low → PutAt n waiting qs rs) → IfOk r (λ x. Low → PutAt n waiting ps rs)
-put_at_later Low ps qs rs n waiting (Ok x) before put = λ some. put_at_between ps qs rs rs n waiting before (put some) (each_on_nothing rs)
-put_at_later Low ps qs rs n waiting (Err e) before put = tt
+pub put_at_later : {E : Type 0} (ps qs rs : List LanePass) (n : ℕ) (waiting : Offered) (r : Result (Unit {0}) E) → EachPutsOn ps qs → IfOk r (λ x. PutAt n waiting qs rs) → IfOk r (λ x. PutAt n waiting ps rs)
+put_at_later ps qs rs n waiting (Ok x) before put = put_at_between ps qs rs rs n waiting before put (each_on_nothing rs)
+put_at_later ps qs rs n waiting (Err e) before put = tt
+
+-- what a call came to is what its caller comes to
+pub ok_then : {X E P Q : Type 0} (r : Result X E) → (P → Q) → IfOk r (λ x. P) → IfOk r (λ x. Q)
+ok_then (Ok x) f p = f p
+ok_then (Err e) f p = tt

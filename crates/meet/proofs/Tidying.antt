@@ -7,8 +7,8 @@ use Rattle.cell_table.specs.declared.view.Seen.{Seen}
 use Rattle.cell.specs.Calls.{GridOf, IsRowOf}
 use Rattle.cell_table.specs.Sight.{SawCommitted}
 use Rattle.meet.specs.Queues.{Tidies}
-use Rattle.meet.specs.Searches.{Grows}
-use Rattle.meet.proofs.Growing.{saw_more}
+use Rattle.meet_scan.specs.Searches.{Grows}
+use Rattle.meet_scan.proofs.Growing.{saw_more}
 
 pub tidies_more : {M : Type 0} (g : GridOf M) (s t u : Seen) (es after : List (Row × ℕ)) → Grows t u → Tidies g s t es after → Tidies g s u es after
 tidies_more g s t u [] after grows h = h

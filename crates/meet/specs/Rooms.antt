@@ -10,8 +10,10 @@ use Rattle.meet_queues.specs.declared.entries.Entry.{Entry}
 use Rattle.meet_queues.specs.declared.lane.LanePass.{LanePass}
 use Rattle.meet_queues.specs.Lanes.{HasPut, IsLanePassOf, IsSame, Offered, hand_of, pass_count}
 use Rattle.meet.specs.Queues.{Tidies}
+use Rattle.meet_directory.specs.Seats.{Sits}
 use Rattle.meet.specs.declared.meet.Meet.{Meet}
-use Rattle.meet.specs.declared.rooms.MeetPass.{MeetPass}
+use Rattle.meet.specs.declared.meet.MeetPass.{MeetPass}
+use Rattle.meet.specs.declared.rooms.RoomsPass.{RoomsPass}
 use Rattle.meet.specs.declared.rooms.Room.{Room}
 
 -- there are as many passes as rooms, each of the lane of the room at its place
@@ -22,12 +24,16 @@ Serves (r ∷ rs) [] = ⊥
 Serves (r ∷ rs) (p ∷ ps) = IsLanePassOf r.lane p × Serves rs ps
 
 -- each caller has such passes
-abbrev pub EachServes : List Room → List MeetPass → Type 0
-EachServes rooms all = All (λ (p : MeetPass). Serves rooms p.passes.items) all
+abbrev pub EachServes : List Room → List RoomsPass → Type 0
+EachServes rooms all = All (λ (p : RoomsPass). Serves rooms p.passes.items) all
 
--- it is a pass of these lanes, of which there are two for each channel and two for each thread
+-- they are passes of these rooms, of which there are two for each channel and two for each thread
+abbrev pub IsRoomsPassOf : Meet → RoomsPass → Type 0
+IsRoomsPassOf meet p = Serves meet.rooms.items p.passes.items × (length meet.rooms.items ≡ 2 * meet.channels + 2 * meet.threads)
+
+-- it is a pass of these rooms, and of this directory, which has two lanes for each channel that an offer can name
 abbrev pub IsMeetPassOf : Meet → MeetPass → Type 0
-IsMeetPassOf meet p = Serves meet.rooms.items p.passes.items × (length meet.rooms.items ≡ 2 * meet.channels + 2 * meet.threads)
+IsMeetPassOf meet p = IsRoomsPassOf meet p.rooms × Sits meet.directory p.scan × (512 ≤ meet.directory.lanes)
 
 -- the entry was put, or the pass has put as many as it can count
 abbrev pub Joins : LanePass → LanePass → Offered → Type 0
@@ -62,7 +68,7 @@ PutAt at waiting before after =
     (p : LanePass) × (q : LanePass) × (slice_get before at ≡ Some p) × (slice_get after at ≡ Some q) × PutMeanwhile p q waiting
 
 -- What was in hand was put back at this place in its order, but for entries of rows that are now seen committed; nothing is in hand any more.
-abbrev pub PutsBack : {M : Type 0} → GridOf M → Seen → Seen → ℕ → MeetPass → MeetPass → Type 0
+abbrev pub PutsBack : {M : Type 0} → GridOf M → Seen → Seen → ℕ → RoomsPass → RoomsPass → Type 0
 PutsBack g s t at before after = (p : LanePass) → slice_get before.passes.items at ≡ Some p
     → (q : LanePass) × (rest : List Offered) × (after.passes.items ≡ set before.passes.items at q) × Tidies g s t before.in_hand rest × AllJoin p q rest × (after.in_hand ≡ [])
 
@@ -86,5 +92,5 @@ MeetsIn meet (OnEnd thread) at = ⊥
 MeetsIn meet Never at = ⊥
 
 -- each offer of the row that had been seen, and has a room, was put there meanwhile
-abbrev pub PutsOffers : Meet → Seen → Row → MeetPass → MeetPass → Type 0
+abbrev pub PutsOffers : Meet → Seen → Row → RoomsPass → RoomsPass → Type 0
 PutsOffers meet s r before after = (n : ℕ) (d : Direction) (at : ℕ) → SeesDirection s r n d → WaitsIn meet d at → PutAt at (r, n) before.passes.items after.passes.items

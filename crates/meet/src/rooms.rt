@@ -1,11 +1,12 @@
-//! Rooms: lanes of waiting offers, each with counts that tell who has entries of it in hand.
+//! Rooms: lanes of waiting offers, each with counts that tell who has entries of it in hand. Where rows wait for a nack or an
+//! end, the waking goes by these counts.
 
 ghost use Rattle.std.specs.Prelude.{◌≡◌, ◌<◌, ◌++◌, ◌∷◌, [], All, IfOk, MatchResult, length};
 ghost use Rattle.cell.specs.Calls.{IsPassOf};
 ghost use Rattle.meet_queues.specs.Lanes.{IsLanePassOf, IsSame};
 ghost use Rattle.meet.specs.Rooms.{AllJoin, EachPutsOn, EachServes, Joins, PutAt, PutsBack, PutsOn, Serves};
-ghost use Rattle.meet.specs.Searches.{Grows};
-ghost use Rattle.meet.specs.Steps.{OnlyLooks};
+ghost use Rattle.meet_scan.specs.Searches.{Grows};
+ghost use Rattle.meet_scan.specs.Steps.{OnlyLooks};
 
 use crate::queue::Queue;
 use cell::{Cells, Pass, Resident};
@@ -29,7 +30,7 @@ pub(crate) struct Room {
 
 /// One caller's passes of all rooms, and the entries that it has in hand.
 #[derive(Drop)]
-pub struct MeetPass {
+pub(crate) struct RoomsPass {
     pub(crate) passes: Vec<LanePass>,
     pub(crate) in_hand: Queue,
 }
@@ -133,13 +134,13 @@ pub(crate) fn open_rooms(
     alloc: Global,
     count: usize,
     passes: u8,
-) -> Result<(Vec<Room>, Vec<MeetPass>), AllocError>
+) -> Result<(Vec<Room>, Vec<RoomsPass>), AllocError>
     ensures { IfOk result (λ r. (length r.0.items ≡ count) × (length r.1.items ≡ passes) × EachServes r.0.items r.1.items) }
 {
     let mut rooms = Vec::with_capacity(alloc, count)?;
     let mut all = Vec::with_capacity(alloc, usize::from(passes))?;
     for _ in 0..passes {
-        all.push(MeetPass {
+        all.push(RoomsPass {
             passes: Vec::with_capacity(alloc, count)?,
             in_hand: Queue::new(alloc),
         })?;
@@ -154,7 +155,7 @@ pub(crate) fn open_rooms(
 /// The room joins the others, and each caller gets one of its passes.
 fn add_room(
     rooms: &mut Vec<Room>,
-    all: &mut Vec<MeetPass>,
+    all: &mut Vec<RoomsPass>,
     room: Room,
     lane_passes: Vec<LanePass>,
 ) -> Result<(), AllocError>
@@ -174,24 +175,24 @@ fn add_room(
     Ok(())
 }
 
-/// Puts the entry into the room of this number, where there is one.
+/// Puts the entry into the room of this number.
 pub(crate) fn put_into<R: Wait, M: Resident>(
     rt: &R,
     cells: &Cells<M>,
     pass: &mut Pass<M>,
     rooms: &[Room],
-    lanes: &mut MeetPass,
+    lanes: &mut RoomsPass,
     at: usize,
     entry: WaitingOffer,
 ) -> Result<(), AllocError>
     requires cells { IsPassOf cells.now pass.old }
-    requires lanes { Serves rooms.now lanes.old.passes.items }
+    requires lanes { Serves rooms.now lanes.old.passes.items × (at < length rooms.now) }
     ensures here { IsPassOf cells.now pass.new }
     ensures grows { Grows pass.old.seen pass.new.seen }
     ensures looks { OnlyLooks pass.old pass.new }
     ensures lanes { Serves rooms.now lanes.new.passes.items }
     ensures more { EachPutsOn lanes.old.passes.items lanes.new.passes.items }
-    ensures put { IfOk result (λ _. at < length rooms.now → PutAt at entry lanes.old.passes.items lanes.new.passes.items) }
+    ensures put { IfOk result (λ _. PutAt at entry lanes.old.passes.items lanes.new.passes.items) }
 {
     sweep_if_long(rt, cells, pass, rooms, lanes, at)?;
     put_one(rt, rooms, lanes, at, entry)
@@ -203,11 +204,11 @@ fn sweep_if_long<R: Wait, M: Resident>(
     cells: &Cells<M>,
     pass: &mut Pass<M>,
     rooms: &[Room],
-    lanes: &mut MeetPass,
+    lanes: &mut RoomsPass,
     at: usize,
 ) -> Result<(), AllocError>
     requires cells { IsPassOf cells.now pass.old }
-    requires lanes { Serves rooms.now lanes.old.passes.items }
+    requires lanes { Serves rooms.now lanes.old.passes.items × (at < length rooms.now) }
     ensures here { IsPassOf cells.now pass.new }
     ensures grows { Grows pass.old.seen pass.new.seen }
     ensures looks { OnlyLooks pass.old pass.new }
@@ -221,34 +222,28 @@ fn sweep_if_long<R: Wait, M: Resident>(
 }
 
 /// Whether the room's lane is to be swept.
-fn is_long<R: Wait>(rt: &R, rooms: &[Room], lanes: &mut MeetPass, at: usize) -> bool
-    requires { Serves rooms.now lanes.old.passes.items }
+fn is_long<R: Wait>(rt: &R, rooms: &[Room], lanes: &mut RoomsPass, at: usize) -> bool
+    requires { Serves rooms.now lanes.old.passes.items × (at < length rooms.now) }
     ensures lanes { Serves rooms.now lanes.new.passes.items }
     ensures more { EachPutsOn lanes.old.passes.items lanes.new.passes.items }
 {
-    match rooms.get(at) {
-        Some(room) => room.is_long(rt, &mut lanes.passes[at]),
-        None => false,
-    }
+    rooms[at].is_long(rt, &mut lanes.passes[at])
 }
 
 /// Puts the entry at the back of the room's lane.
 fn put_one<R: Wait>(
     rt: &R,
     rooms: &[Room],
-    lanes: &mut MeetPass,
+    lanes: &mut RoomsPass,
     at: usize,
     entry: WaitingOffer,
 ) -> Result<(), AllocError>
-    requires { Serves rooms.now lanes.old.passes.items }
+    requires { Serves rooms.now lanes.old.passes.items × (at < length rooms.now) }
     ensures lanes { Serves rooms.now lanes.new.passes.items }
     ensures more { EachPutsOn lanes.old.passes.items lanes.new.passes.items }
-    ensures put { IfOk result (λ _. at < length rooms.now → PutAt at entry lanes.old.passes.items lanes.new.passes.items) }
+    ensures put { IfOk result (λ _. PutAt at entry lanes.old.passes.items lanes.new.passes.items) }
 {
-    match rooms.get(at) {
-        Some(room) => room.put(rt, &mut lanes.passes[at], entry),
-        None => Ok(()),
-    }
+    rooms[at].put(rt, &mut lanes.passes[at], entry)
 }
 
 /// Removes the entries of committed rows from the room's lane. The others stay in their order.
@@ -257,26 +252,23 @@ fn sweep<R: Wait, M: Resident>(
     cells: &Cells<M>,
     pass: &mut Pass<M>,
     rooms: &[Room],
-    lanes: &mut MeetPass,
+    lanes: &mut RoomsPass,
     at: usize,
 ) -> Result<(), AllocError>
     requires cells { IsPassOf cells.now pass.old }
-    requires lanes { Serves rooms.now lanes.old.passes.items }
+    requires lanes { Serves rooms.now lanes.old.passes.items × (at < length rooms.now) }
     ensures here { IsPassOf cells.now pass.new }
     ensures grows { Grows pass.old.seen pass.new.seen }
     ensures looks { OnlyLooks pass.old pass.new }
     ensures lanes { Serves rooms.now lanes.new.passes.items }
     ensures more { EachPutsOn lanes.old.passes.items lanes.new.passes.items }
 {
-    let Some(room) = rooms.get(at) else {
-        return Ok(());
-    };
-    room.take_up();
+    rooms[at].take_up();
     let taken = take_all(rt, rooms, lanes, at);
     lanes.in_hand.tidy(cells, pass);
-    room.note_left(lanes.in_hand.entries().len());
+    rooms[at].note_left(lanes.in_hand.entries().len());
     let put = put_back(rt, cells, pass, rooms, lanes, at);
-    room.give_back();
+    rooms[at].give_back();
     taken?;
     put
 }
@@ -285,10 +277,10 @@ fn sweep<R: Wait, M: Resident>(
 fn take_all<R: Wait>(
     rt: &R,
     rooms: &[Room],
-    lanes: &mut MeetPass,
+    lanes: &mut RoomsPass,
     at: usize,
 ) -> Result<(), AllocError>
-    requires { Serves rooms.now lanes.old.passes.items }
+    requires { Serves rooms.now lanes.old.passes.items × (at < length rooms.now) }
     ensures lanes { Serves rooms.now lanes.new.passes.items }
     ensures more { EachPutsOn lanes.old.passes.items lanes.new.passes.items }
 {
@@ -305,52 +297,58 @@ fn take_all<R: Wait>(
 pub(crate) fn take_from<R: Wait>(
     rt: &R,
     rooms: &[Room],
-    lanes: &mut MeetPass,
+    lanes: &mut RoomsPass,
     at: usize,
 ) -> Option<WaitingOffer>
-    requires { Serves rooms.now lanes.old.passes.items }
+    requires { Serves rooms.now lanes.old.passes.items × (at < length rooms.now) }
     ensures lanes { Serves rooms.now lanes.new.passes.items }
     ensures more { EachPutsOn lanes.old.passes.items lanes.new.passes.items }
 {
-    let room = rooms.get(at)?;
+    let room = &rooms[at];
     room.lane.take_front(rt, &mut lanes.passes[at])
 }
 
-/// Whether nothing stood in the room's lane at a moment, nor was in anybody's hand then.
-pub(crate) fn is_still(rooms: &[Room], lanes: &mut MeetPass, at: usize) -> bool
-    requires { Serves rooms.now lanes.old.passes.items }
+/// Whether nothing stands in the room's lane.
+pub(crate) fn is_empty(rooms: &[Room], lanes: &mut RoomsPass, at: usize) -> bool
+    requires { Serves rooms.now lanes.old.passes.items × (at < length rooms.now) }
     ensures lanes { Serves rooms.now lanes.new.passes.items }
     ensures more { EachPutsOn lanes.old.passes.items lanes.new.passes.items }
 {
-    match rooms.get(at) {
-        Some(room) => room.is_still(&mut lanes.passes[at]),
-        None => true,
-    }
+    let room = &rooms[at];
+    room.lane.is_empty(&mut lanes.passes[at])
+}
+
+/// Whether nothing stood in the room's lane at a moment, nor was in anybody's hand then.
+pub(crate) fn is_still(rooms: &[Room], lanes: &mut RoomsPass, at: usize) -> bool
+    requires { Serves rooms.now lanes.old.passes.items × (at < length rooms.now) }
+    ensures lanes { Serves rooms.now lanes.new.passes.items }
+    ensures more { EachPutsOn lanes.old.passes.items lanes.new.passes.items }
+{
+    rooms[at].is_still(&mut lanes.passes[at])
 }
 
 /// How many entries stand in the room's lane at a moment.
-pub(crate) fn length_of<R: Wait>(rt: &R, rooms: &[Room], lanes: &mut MeetPass, at: usize) -> usize
-    requires { Serves rooms.now lanes.old.passes.items }
+pub(crate) fn length_of<R: Wait>(rt: &R, rooms: &[Room], lanes: &mut RoomsPass, at: usize) -> usize
+    requires { Serves rooms.now lanes.old.passes.items × (at < length rooms.now) }
     ensures lanes { Serves rooms.now lanes.new.passes.items }
     ensures more { EachPutsOn lanes.old.passes.items lanes.new.passes.items }
 {
-    match rooms.get(at) {
-        Some(room) => room.lane.len(rt, &mut lanes.passes[at]),
-        None => 0,
-    }
+    let room = &rooms[at];
+    room.lane.len(rt, &mut lanes.passes[at])
 }
 
-/// Puts the entries in hand whose rows are not committed back into the room's lane, in their order.
+/// Puts the entries in hand whose rows are not committed back into the room's lane, in their order. Without memory those
+/// that are left are lost.
 pub(crate) fn put_back<R: Wait, M: Resident>(
     rt: &R,
     cells: &Cells<M>,
     pass: &mut Pass<M>,
     rooms: &[Room],
-    lanes: &mut MeetPass,
+    lanes: &mut RoomsPass,
     at: usize,
 ) -> Result<(), AllocError>
     requires cells { IsPassOf cells.now pass.old }
-    requires lanes { Serves rooms.now lanes.old.passes.items }
+    requires lanes { Serves rooms.now lanes.old.passes.items × (at < length rooms.now) }
     ensures here { IsPassOf cells.now pass.new }
     ensures grows { Grows pass.old.seen pass.new.seen }
     ensures looks { OnlyLooks pass.old pass.new }
@@ -359,10 +357,7 @@ pub(crate) fn put_back<R: Wait, M: Resident>(
     ensures put { IfOk result (λ _. PutsBack cells.now pass.old.seen pass.new.seen at lanes.old lanes.new) }
 {
     lanes.in_hand.tidy(cells, pass);
-    let Some(room) = rooms.get(at) else {
-        return Ok(());
-    };
-    room.put_all(rt, &mut lanes.passes[at], lanes.in_hand.entries())?;
+    let put = rooms[at].put_all(rt, &mut lanes.passes[at], lanes.in_hand.entries());
     lanes.in_hand.clear();
-    Ok(())
+    put
 }

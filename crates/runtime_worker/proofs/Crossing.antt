@@ -1,7 +1,7 @@
 -- What workers share may be shared among threads.
 use denote.Param.Send.{IsSend, IsSync, sendable}
 use denote.Param.SendFields.{declared_send, declared_sync}
-use Rattle.meet.proofs.rooms.MeetPass.TheSendSync.{the_send as lanes_send}
+use Rattle.meet.proofs.meet.MeetPass.TheSendSync.{the_send as lanes_send}
 use Rattle.meet_queues.proofs.ends.ReadyEnd.TheSendSync.{the_send as end_send}
 use Rattle.std.proofs.Crossing.{Vec-send, crosses, sync}
 use Rattle.thread.proofs.Crossing.{machine_send}

@@ -167,15 +167,14 @@ fn is_meeting(commits: &[Commit]) -> bool {
     commits == [meeting].as_slice()
 }
 
-/// To search for a row that meets nothing but itself yet: its offers are put in, and those that it finds there
-/// are its own, which it keeps in hand for a while. The other row meets it then, for which no memory is asked.
+/// To search for a row that meets nothing yet: its offers are put in. The other row meets it then, also where memory was
+/// refused: hints alone are lost.
 #[derive(Drop)]
 pub(crate) struct PuttingIn<'a, R> {
     pub(crate) rt: &'a R,
 }
 
 impl<R: AllocGlobal + Wait> Call for PuttingIn<'_, R> {
-    // The search is made once more with ample memory: a second time the row is put in, and still waits.
     fn attempt(&mut self, hoard: &mut Hoard, amount: usize) -> Result<Answer> {
         let rt = self.rt;
         let (cells, mut pass) = table(rt.alloc())?;
@@ -186,10 +185,9 @@ impl<R: AllocGlobal + Wait> Call for PuttingIn<'_, R> {
         hoard.leave(amount)?;
         let first = meet.search(rt, &cells, &mut pass, &mut lanes, &NoGate, row(0));
         hoard.release();
-        let again = meet.search(rt, &cells, &mut pass, &mut lanes, &NoGate, row(0))?;
         let second = meet.search(rt, &cells, &mut pass, &mut lanes, &NoGate, row(1))?;
         let commits = commits_of(cells, pass)?;
-        if again != Found::Left || second != Found::Met(row(0)) || !is_meeting(commits.as_slice()) {
+        if second != Found::Met(row(0)) || !is_meeting(commits.as_slice()) {
             return Ok(Answer::Other);
         }
         match first {

@@ -1,4 +1,4 @@
-//! Searches by the directory alone, on one thread.
+//! Searches by the directory alone, on one thread, and what one pass tells another.
 
 ghost use Rattle.std.specs.Prelude.{◌≡◌, ◌<◌, ◌≤◌, []};
 ghost use Rattle.cell.specs.Calls.{IsPassOf};
@@ -7,6 +7,7 @@ ghost use Rattle.meet_directory.specs.Seats.{Sits};
 ghost use Rattle.protocol.specs.Worlds.{first_row};
 
 use super::table::{always, enter, receive, row, send, table_of_two};
+use super::threads::rooms;
 use cell::{Bare, Cells, NoGate, Pass};
 use meet_directory::{Directory, DirectoryPass};
 use meet_scan::{Found, search_once};
@@ -75,5 +76,19 @@ fn an_always_is_committed_alone(rt: HostRuntime) -> Result<(), Fail> {
     let offers = [receive(0, 0), always()];
     let found = search(&directory, &mut mine, &cells, &mut first, 0, &offers);
     assert!(rt; found == Some(Found::Alone));
+    Ok(())
+}
+
+#[test]
+fn who_was_told_searches_on(rt: HostRuntime) -> Result<(), Fail> {
+    let (cells, mut first, mut second) = table_of_two(rt.alloc(), 1)?;
+    let (meet, mut mine, mut theirs) = rooms(rt.alloc(), 1)?;
+    enter(&cells, &mut first, row(0), &[receive(0, 0)]);
+    let waits = meet.search(&rt, &cells, &mut first, &mut mine, &NoGate, row(0))?;
+    assert!(rt; waits == Found::Left);
+    meet.tell(&mut mine, &mut theirs);
+    enter(&cells, &mut second, row(1), &[send(0, 42)]);
+    let finds = meet.search(&rt, &cells, &mut second, &mut theirs, &NoGate, row(1))?;
+    assert!(rt; finds == Found::Met(row(0)));
     Ok(())
 }

@@ -129,11 +129,11 @@ const NO_ROOM: [Act; 4] = [
         Offers::Two(Single::Receive(1), Single::Send(255, 1)),
     ),
     Act::Search(FIRST, Found::Left),
-    Act::Search(SECOND, Found::Left),
+    Act::Search(SECOND, Found::Met(FIRST)),
 ];
 
 #[test]
-fn what_has_no_room_is_left(rt: HostRuntime) -> Result<(), Fail> {
-    check_acts(&rt, 2, 1, 0, &NO_ROOM, 0)?;
+fn what_has_no_room_is_found_by_the_directory(rt: HostRuntime) -> Result<(), Fail> {
+    check_acts(&rt, 2, 1, 0, &NO_ROOM, 1)?;
     Ok(())
 }

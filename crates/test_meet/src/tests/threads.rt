@@ -1,5 +1,5 @@
-//! Two threads that search at once: no pair is missed, and nobody who waits for a nack or for an end is. No
-//! clause says so, for what stands in lanes are hints.
+//! Two threads that search at once: no pair is missed, as a law says, and nobody who waits for a nack or for an end is.
+//! Of the latter no clause says so, for what stands in lanes are hints.
 
 ghost use Rattle.std.specs.Prelude.{◌≡◌, [], IfOk};
 ghost use Rattle.protocol_values.specs.Words.{IsOfferInRange};
@@ -25,11 +25,11 @@ const TABLES: u32 = 300;
 /// How often a thread looks whether the other has arrived.
 const TURNS: u32 = 10_000;
 
-/// The rooms of one channel and of two threads, and a pass of them for each thread.
-fn rooms(alloc: Global) -> Result<(Meet, MeetPass, MeetPass), AllocError>
+/// The rooms of so many channels and of two threads, and a pass of them for each thread.
+pub(super) fn rooms(alloc: Global, channels: u16) -> Result<(Meet, MeetPass, MeetPass), AllocError>
     ensures { IfOk result (λ m. IsMeetPassOf m.0 m.1 × IsMeetPassOf m.0 m.2) }
 {
-    let (meet, mut all) = Meet::new(alloc, 1, 2, 2)?;
+    let (meet, mut all) = Meet::new(alloc, channels, 2, 2)?;
     let second = last(&meet, &mut all);
     let first = last(&meet, &mut all);
     Ok((meet, first, second))
@@ -114,11 +114,12 @@ fn finish_and_wake<R: Wait>(
     (woken.map(|rows| rows.len()), pass)
 }
 
+// Every other table has no room for the channel, so the directory alone finds the pair.
 #[test]
 fn no_pair_is_missed(rt: HostRuntime) -> Result<(), Fail> {
-    for _ in 0..TABLES {
+    for table in 0..TABLES {
         let (cells, sender, receiver) = table_of_two(rt.alloc(), 1)?;
-        let (meet, first, second) = rooms(rt.alloc())?;
+        let (meet, first, second) = rooms(rt.alloc(), (table % 2) as u16)?;
         let arrived = AtomicU64::new(0);
         let ((sent, mut sender), (received, mut receiver)) = thread::join(
             &rt,
@@ -159,7 +160,7 @@ fn no_pair_is_missed(rt: HostRuntime) -> Result<(), Fail> {
 fn nobody_who_waits_for_a_nack_is_missed(rt: HostRuntime) -> Result<(), Fail> {
     for _ in 0..TABLES {
         let (cells, mut committer, waiter) = table_of_two(rt.alloc(), 1)?;
-        let (meet, first, second) = rooms(rt.alloc())?;
+        let (meet, first, second) = rooms(rt.alloc(), 1)?;
         let arrived = AtomicU64::new(0);
         assert!(rt; enter_bound(&cells, &mut committer));
         let ((woken, mut committer), (found, mut waiter)) = thread::join(
@@ -190,7 +191,7 @@ fn nobody_who_waits_for_a_nack_is_missed(rt: HostRuntime) -> Result<(), Fail> {
 fn nobody_who_waits_for_an_end_is_missed(rt: HostRuntime) -> Result<(), Fail> {
     for _ in 0..TABLES {
         let (cells, ender, waiter) = table_of_two(rt.alloc(), 1)?;
-        let (meet, first, second) = rooms(rt.alloc())?;
+        let (meet, first, second) = rooms(rt.alloc(), 1)?;
         let arrived = AtomicU64::new(0);
         let ((woken, mut ender), (found, mut waiter)) = thread::join(
             &rt,

@@ -4,18 +4,18 @@ use Rattle.std.proofs.lemmas.Option.{get_or_from_slice_get, slice_get-get_or, sl
 use Rattle.meet_queues.proofs.Positioning.{all_at_set}
 use Rattle.meet_queues.specs.declared.lane.LanePass.{LanePass}
 use Rattle.meet_queues.specs.Lanes.{IsLanePassOf}
-use Rattle.meet.specs.declared.rooms.MeetPass.{MeetPass}
+use Rattle.meet.specs.declared.rooms.RoomsPass.{RoomsPass}
 use Rattle.meet.specs.declared.rooms.Room.{Room}
 use Rattle.meet.specs.Rooms.{EachServes, Serves}
 use Rattle.meet.proofs.Serving.{serves_push}
 use Rattle.meet.proofs.rooms.add_room.Goals as goal
 
-abbrev Both : List Room → Room → ℕ → ℕ → MeetPass → Type 0
+abbrev Both : List Room → Room → ℕ → ℕ → RoomsPass → Type 0
 Both rooms room at n p = (n < at → Serves (rooms ++ room ∷ []) p.passes.items) × (at ≤ n → Serves rooms p.passes.items)
 
-at_place : (rooms : List Room) (all : List MeetPass) (n : ℕ) (p : MeetPass) → EachServes rooms all → slice_get all n ≡ Some p → Serves rooms p.passes.items
+at_place : (rooms : List Room) (all : List RoomsPass) (n : ℕ) (p : RoomsPass) → EachServes rooms all → slice_get all n ≡ Some p → Serves rooms p.passes.items
 at_place rooms all n p each is =
-    subst (λ (x : MeetPass). Serves rooms x.passes.items) (get_or_from_slice_get all n p p is) (All-get_or (λ (x : MeetPass). Serves rooms x.passes.items) all n p (slice_get_within all n p is) each)
+    subst (λ (x : RoomsPass). Serves rooms x.passes.items) (get_or_from_slice_get all n p p is) (All-get_or (λ (x : RoomsPass). Serves rooms x.passes.items) all n p (slice_get_within all n p is) each)
 
 pub loop-at-init : goal.loop-at-init
 loop-at-init c = (
@@ -32,7 +32,7 @@ loop-at-preserved c =
     let room = c.args.room in
     let at = c.loop-at.at in
     let old = c.index_mut.result.now in
-    let new : MeetPass = record old { passes = c.push.new.self } in
+    let new : RoomsPass = record old { passes = c.push.new.self } in
     let within : at < length c.loop-at.all.items = (search rules) in
     let is = slice_get_read c.loop-at.all.items (length c.loop-at.all.items) at old refl within c.index_mut.ensures.value in
     let popped = All-pop (IsLanePassOf room.lane) c.loop-at.lane_passes.items c.pop.new.self.items c.pop.result c.pop.ensures.items c.loop-at.invariant.1 in

@@ -1,21 +1,18 @@
 use Rattle.std.proofs.Common.{rules}
 use Rattle.meet.proofs.Serving.{serves_here, serves_now, serves_within}
-use Rattle.meet.proofs.Putting.{each_on_nothing, each_on_set, same_puts_on}
+use Rattle.meet.proofs.Putting.{each_on_set, same_puts_on}
 use Rattle.meet.proofs.rooms.is_long.Goals as goal
 
 pub index_mut-requires : goal.index_mut-requires
-index_mut-requires g c = let less = serves_within c.args.rooms.now c.args.lanes.now.passes.items c.args.at c.requires c.in-Some.ensures.lookup.3.0 in search rules
+index_mut-requires g c = let less = serves_within c.args.rooms.now c.args.lanes.now.passes.items c.args.at c.requires.0 c.requires.1 in search rules
 
 pub is_long-requires : goal.is_long-requires
-is_long-requires g c = serves_here c.args.rooms.now c.args.lanes.now.passes.items c.args.at c.in-Some.room.now c.index_mut.result.now c.requires c.in-Some.ensures.lookup.3.0 c.in-Some.ensures.lookup.1 c.index_mut.ensures.value
+is_long-requires g c = serves_here c.args.rooms.now c.args.lanes.now.passes.items c.args.at c.index-rooms-at.result c.index_mut.result.now c.requires.0 c.requires.1 c.index-rooms-at.is c.index_mut.ensures.value
 
-pub returns-in-Some-clause-lanes : goal.returns-in-Some-clause-lanes
-returns-in-Some-clause-lanes g c = serves_now c.args.rooms.now c.args.lanes.now.passes.items c.args.at c.in-Some.room.now c.is_long.new.lane c.requires c.in-Some.ensures.lookup.3.0 c.in-Some.ensures.lookup.1 c.is_long.ensures.0
+pub returns-clause-lanes : goal.returns-clause-lanes
+returns-clause-lanes g c = serves_now c.args.rooms.now c.args.lanes.now.passes.items c.args.at c.index-rooms-at.result c.is_long.new.lane c.requires.0 c.requires.1 c.index-rooms-at.is c.is_long.ensures.0
 
-pub returns-in-Some-clause-more : goal.returns-in-Some-clause-more
-returns-in-Some-clause-more g c =
+pub returns-clause-more : goal.returns-clause-more
+returns-clause-more g c =
     let old = c.index_mut.result.now in
     each_on_set c.args.lanes.now.passes.items c.args.at old c.is_long.new.lane c.index_mut.ensures.value (same_puts_on old c.is_long.new.lane c.is_long.ensures.1)
-
-pub returns-in-None-clause-more : goal.returns-in-None-clause-more
-returns-in-None-clause-more g c = each_on_nothing c.args.lanes.now.passes.items

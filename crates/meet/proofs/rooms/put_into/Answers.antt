@@ -7,4 +7,4 @@ returns-clause-more g c =
 
 pub returns-clause-put : goal.returns-clause-put
 returns-clause-put g c =
-    put_at_later _ c.args.lanes.now.passes.items c.sweep_if_long.new.lanes.passes.items c.put_one.new.lanes.passes.items c.args.at c.args.entry c.put_one.result c.sweep_if_long.ensures.more c.put_one.ensures.put
+    put_at_later c.args.lanes.now.passes.items c.sweep_if_long.new.lanes.passes.items c.put_one.new.lanes.passes.items c.args.at c.args.entry c.put_one.result c.sweep_if_long.ensures.more c.put_one.ensures.put

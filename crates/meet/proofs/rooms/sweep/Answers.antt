@@ -1,8 +1,5 @@
-use Rattle.meet.proofs.Putting.{each_on_nothing, each_on_then}
+use Rattle.meet.proofs.Putting.{each_on_then}
 use Rattle.meet.proofs.rooms.sweep.Goals as goal
-
-pub returns-in_default-clause-more : goal.returns-in_default-clause-more
-returns-in_default-clause-more g c = each_on_nothing c.args.lanes.now.passes.items
 
 pub returns-in_err-taken-clause-more : goal.returns-in_err-taken-clause-more
 returns-in_err-taken-clause-more g c =

@@ -2,7 +2,7 @@ use Rattle.meet.proofs.Putting.{each_on_nothing, each_on_then}
 use Rattle.meet.proofs.rooms.take_all.Goals as goal
 
 pub loop-init : goal.loop-init
-loop-init g c = (tt, tt, c.requires, each_on_nothing c.args.lanes.now.passes.items)
+loop-init g c = (tt, tt, c.requires.0, each_on_nothing c.args.lanes.now.passes.items)
 
 pub returns-in_default-clause-more : goal.returns-in_default-clause-more
 returns-in_default-clause-more g c =

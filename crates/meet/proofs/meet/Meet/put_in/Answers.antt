@@ -1,11 +1,11 @@
 use Rattle.std.proofs.Common.{◌≡◌, rules, arith, subst}
 use Rattle.std.specs.Prelude.{None, get_or}
-use Rattle.meet.specs.Searches.{LacksAt}
+use Rattle.meet_scan.specs.Searches.{LacksAt}
 use Rattle.meet.proofs.Choosing.{all_put, ended_put, next_put}
-use Rattle.meet.proofs.Growing.{grows_nothing, grows_then}
-use Rattle.meet.proofs.Making.{looks_nothing, looks_then}
+use Rattle.meet_scan.proofs.Growing.{grows_nothing, grows_then}
+use Rattle.meet_scan.proofs.Making.{looks_nothing, looks_then}
 use Rattle.meet.proofs.Putting.{each_on_nothing, each_on_then}
-use Rattle.meet.proofs.Reading.{none_listed}
+use Rattle.meet_scan.proofs.Reading.{none_listed}
 use Rattle.meet.proofs.meet.Meet.put_in.Goals as goal
 
 pub loop-n-init : goal.loop-n-init

@@ -1,73 +1,73 @@
-use Rattle.std.proofs.Common.{◌≡◌, subst}
-use Rattle.std.specs.Prelude.{None, Option}
+use Rattle.std.proofs.Common.{◌≡◌}
+use Rattle.std.specs.Prelude.{None}
 use Rattle.cell.proofs.Meeting.{from_none}
-use Rattle.meet.specs.Searches.{StandsByNone}
-use Rattle.meet.specs.Steps.{SearchMade, found_or_left}
-use Rattle.meet.specs.declared.meet.Found.{Found}
-use Rattle.meet.specs.declared.meet.Found.TheVariants.{Left}
+use Rattle.meet_scan.specs.Searches.{StandsByNone}
+use Rattle.meet_scan.specs.Steps.{SomeSearchMade}
+use Rattle.meet_scan.specs.declared.found.Found.TheVariants.{Left}
+use Rattle.meet_scan.proofs.Growing.{grows_then}
+use Rattle.meet_scan.proofs.Making.{any_error, looked_first, made_looks, made_then, none_made}
+use Rattle.meet_scan.proofs.Reading.{none_found, stands_nowhere}
+use Rattle.meet_scan.proofs.Scanning.{read_more}
 use Rattle.meet.proofs.Choosing.{put_offers}
-use Rattle.meet.proofs.Growing.{grows_then, seen_more}
-use Rattle.meet.proofs.Making.{any_error, left_by, made_looks, made_then, none_made, some_then, tries_nothing}
-use Rattle.meet.proofs.Reading.{found_left, none_found, stands_nowhere}
+use Rattle.meet.proofs.Leaving.{scans_find}
+use Rattle.meet.proofs.Putting.{each_on_nothing}
 use Rattle.meet.proofs.meet.Meet.search.Goals as goal
 
-pub look_each-requires-2-clause-read : goal.look_each-requires-2-clause-read
-look_each-requires-2-clause-read g c n d listed =
+pub scan-found-requires-clause-read : goal.scan-found-requires-clause-read
+scan-found-requires-clause-read g c =
     let read = c.own_directions-directions.new.pass.seen in
-    let looked = c.look_each.new.pass.seen in
-    let t = c.put_in.new.pass.seen in
-    seen_more read t c.args.row n d (grows_then read looked t c.look_each.ensures.grows c.put_in.ensures.grows) (c.own_directions-directions.ensures.seen n d listed)
+    let looked = c.look_each-first.new.pass.seen in
+    let t = c.put_in-put.new.pass.seen in
+    read_more read t c.args.row c.own_directions-directions.result (grows_then read looked t c.look_each-first.ensures.grows c.put_in-put.ensures.grows) c.own_directions-directions.ensures.read
 
--- nothing came of either look
-pub returns-in-None-clause-found : goal.returns-in-None-clause-found
-returns-in-None-clause-found g c =
+-- nothing came of the first look
+pub returns-clause-found : goal.returns-clause-found
+returns-clause-found g c =
     let s = c.args.pass.now.seen in
     let read = c.own_directions-directions.new.pass.seen in
-    let looked = c.look_each.new.pass.seen in
-    let t = c.put_in.new.pass.seen in
-    let u = c.look_each-2.new.pass.seen in
-    let none : c.in_ok-found.field-0 ≡ None = none_found c.in_ok-found.field-0 c.in_default.not-Some in
-    found_left s u c.leave.new.pass.seen c.args.row c.leave.result (grows_then s read u c.own_directions-directions.ensures.grows (grows_then read looked u c.look_each.ensures.grows (grows_then looked t u c.put_in.ensures.grows c.look_each-2.ensures.grows)))
-    c.leave.ensures.left
+    let looked = c.look_each-first.new.pass.seen in
+    let t = c.put_in-put.new.pass.seen in
+    let none : c.look_each-first.result ≡ None = none_found c.look_each-first.result c.in_default.not-Some in
+    scans_find c.scan-found.new.scan.me.0 s t c.scan-found.new.pass.seen c.args.row c.scan-found.result
+    (grows_then s read t c.own_directions-directions.ensures.grows (grows_then read looked t c.look_each-first.ensures.grows c.put_in-put.ensures.grows))
     (stands_nowhere s read c.args.row c.own_directions-directions.result c.own_directions-directions.ensures.grows c.own_directions-directions.ensures.short
-    (from_none c.in_ok-found.field-0 (StandsByNone read c.args.row c.own_directions-directions.result) c.in_ok-found.ensures.none none))
+    (from_none c.look_each-first.result (StandsByNone read c.args.row c.own_directions-directions.result) c.look_each-first.ensures.none none))
+    c.scan-found.ensures.found
 
-pub returns-in_err-found-2-clause-failed : goal.returns-in_err-found-2-clause-failed
-returns-in_err-found-2-clause-failed g c =
-    let none : c.in_ok-found.field-0 ≡ None = none_found c.in_ok-found.field-0 c.in_default.not-Some in
-    any_error _ (some_then c.args.row c.args.pass.now.made c.put_in.new.pass.made c.look_each-2.new.pass.made
-    (made_looks c.args.row Left c.args.pass.now.made c.look_each.new.pass.made c.put_in.new.pass.made
-    (made_then c.args.row Left c.args.pass.now.made c.own_directions-directions.new.pass.made c.look_each.new.pass.made
-    (made_looks c.args.row Left c.args.pass.now.made c.args.pass.now.made c.own_directions-directions.new.pass.made (tries_nothing c.args.row c.args.pass.now.made) c.own_directions-directions.ensures.looks.0)
-    (none_made c.args.row c.own_directions-directions.new.pass.made c.look_each.new.pass.made c.in_ok-found.field-0 none c.in_ok-found.ensures.made))
-    c.put_in.ensures.looks.0)
-    c.in_err-found-2.ensures.failed)
+pub returns-clause-made : goal.returns-clause-made
+returns-clause-made g c =
+    let r = c.args.row in
+    let a = c.args.pass.now.made in
+    let read = c.own_directions-directions.new.pass.made in
+    let looked = c.look_each-first.new.pass.made in
+    let put = c.put_in-put.new.pass.made in
+    let none : c.look_each-first.result ≡ None = none_found c.look_each-first.result c.in_default.not-Some in
+    made_then r c.scan-found.result a put c.scan-found.new.pass.made
+    (made_looks r Left a looked put
+    (made_then r Left a read looked (looked_first r a read c.own_directions-directions.ensures.looks.0) (none_made r read looked c.look_each-first.result none c.look_each-first.ensures.made))
+    c.put_in-put.ensures.looks.0)
+    c.scan-found.ensures.made
 
-pub returns-in-Some-2-clause-made : goal.returns-in-Some-2-clause-made
-returns-in-Some-2-clause-made g c =
-    let none : c.in_ok-found.field-0 ≡ None = none_found c.in_ok-found.field-0 c.in_default.not-Some in
-    made_then c.args.row c.in-Some-2.found c.args.pass.now.made c.put_in.new.pass.made c.look_each-2.new.pass.made
-    (made_looks c.args.row Left c.args.pass.now.made c.look_each.new.pass.made c.put_in.new.pass.made
-    (made_then c.args.row Left c.args.pass.now.made c.own_directions-directions.new.pass.made c.look_each.new.pass.made
-    (made_looks c.args.row Left c.args.pass.now.made c.args.pass.now.made c.own_directions-directions.new.pass.made (tries_nothing c.args.row c.args.pass.now.made) c.own_directions-directions.ensures.looks.0)
-    (none_made c.args.row c.own_directions-directions.new.pass.made c.look_each.new.pass.made c.in_ok-found.field-0 none c.in_ok-found.ensures.made))
-    c.put_in.ensures.looks.0)
-    (subst (λ (f : Option Found). SearchMade c.args.row (found_or_left f) c.put_in.new.pass.made c.look_each-2.new.pass.made) c.in-Some-2.is c.in_ok-found-2.ensures.made)
+pub returns-in_err-put-clause-failed : goal.returns-in_err-put-clause-failed
+returns-in_err-put-clause-failed g c =
+    let r = c.args.row in
+    let a = c.args.pass.now.made in
+    let read = c.own_directions-directions.new.pass.made in
+    let looked = c.look_each-first.new.pass.made in
+    let put = c.put_in-put.new.pass.made in
+    let none : c.look_each-first.result ≡ None = none_found c.look_each-first.result c.in_default.not-Some in
+    let some : SomeSearchMade r a c.scan-found.new.pass.made = (
+      c.scan-found.result,
+      made_then r c.scan-found.result a put c.scan-found.new.pass.made
+          (made_looks r Left a looked put
+          (made_then r Left a read looked (looked_first r a read c.own_directions-directions.ensures.looks.0) (none_made r read looked c.look_each-first.result none c.look_each-first.ensures.made))
+          c.put_in-put.ensures.looks.0)
+          c.scan-found.ensures.made,
+    ) in
+    any_error _ some
 
-pub returns-in-None-clause-made : goal.returns-in-None-clause-made
-returns-in-None-clause-made g c =
-    let none : c.in_ok-found.field-0 ≡ None = none_found c.in_ok-found.field-0 c.in_default.not-Some in
-    left_by c.args.row c.leave.result c.look_each-2.new.pass.seen c.leave.new.pass.seen c.args.pass.now.made c.look_each-2.new.pass.made c.leave.new.pass.made
-    (made_then c.args.row Left c.args.pass.now.made c.put_in.new.pass.made c.look_each-2.new.pass.made
-    (made_looks c.args.row Left c.args.pass.now.made c.look_each.new.pass.made c.put_in.new.pass.made
-    (made_then c.args.row Left c.args.pass.now.made c.own_directions-directions.new.pass.made c.look_each.new.pass.made
-    (made_looks c.args.row Left c.args.pass.now.made c.args.pass.now.made c.own_directions-directions.new.pass.made (tries_nothing c.args.row c.args.pass.now.made) c.own_directions-directions.ensures.looks.0)
-    (none_made c.args.row c.own_directions-directions.new.pass.made c.look_each.new.pass.made c.in_ok-found.field-0 none c.in_ok-found.ensures.made))
-    c.put_in.ensures.looks.0)
-    (none_made c.args.row c.put_in.new.pass.made c.look_each-2.new.pass.made c.in_ok-found-2.field-0 c.in-None.is c.in_ok-found-2.ensures.made))
-    c.leave.ensures.left c.leave.ensures.looks.0
-
-pub returns-in-None-clause-put : goal.returns-in-None-clause-put
-returns-in-None-clause-put g c is =
-    put_offers c.args.self.now c.args.pass.now.seen c.args.row c.own_directions-directions.result c.args.lanes.now.passes.items c.look_each.new.lanes.passes.items c.put_in.new.lanes.passes.items c.look_each-2.new.lanes.passes.items
-    c.own_directions-directions.ensures.whole c.own_directions-directions.ensures.short c.in_ok-put_in.ensures.put c.look_each.ensures.more c.look_each-2.ensures.more
+pub returns-clause-put : goal.returns-clause-put
+returns-clause-put g c is =
+    let put = c.put_in-put.new.lanes.passes.items in
+    put_offers c.args.self.now c.args.pass.now.seen c.args.row c.own_directions-directions.result c.args.lanes.now.rooms.passes.items c.look_each-first.new.lanes.passes.items put put
+    c.own_directions-directions.ensures.whole c.own_directions-directions.ensures.short c.in_ok-put.ensures.put c.look_each-first.ensures.more (each_on_nothing put)

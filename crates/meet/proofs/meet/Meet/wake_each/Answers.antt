@@ -1,10 +1,11 @@
 use Rattle.std.proofs.Common.{rules, sym, subst, ◌++◌, ◌∷◌, [], List}
 use Rattle.protocol_values.specs.declared.Row.{Row}
 use Rattle.cell.specs.Calls.{PassOf}
-use Rattle.meet.specs.Searches.{Grows}
-use Rattle.meet.specs.Steps.{Wakes}
-use Rattle.meet.proofs.Growing.{grows_then}
-use Rattle.meet.proofs.Making.{any_error, keeps_then, wakes_more, wakes_push}
+use Rattle.meet_scan.specs.Searches.{Grows}
+use Rattle.meet.specs.Wakings.{Wakes}
+use Rattle.meet_scan.proofs.Growing.{grows_then}
+use Rattle.meet_scan.proofs.Making.{any_error, keeps_then}
+use Rattle.meet.proofs.Woken.{wakes_more, wakes_push}
 use Rattle.meet.proofs.meet.Meet.wake_each.Goals as goal
 
 pub loop-preserved-in-Continue-1 : goal.loop-preserved-in-Continue-1

@@ -1,10 +1,10 @@
 use Rattle.cell.specs.Calls.{IsPassOf, KeepsResults, PassOf}
-use Rattle.meet.specs.Rooms.{IsMeetPassOf}
-use Rattle.meet.specs.Searches.{Grows}
-use Rattle.meet.specs.Steps.{Wakes}
+use Rattle.meet.specs.Rooms.{IsRoomsPassOf}
+use Rattle.meet_scan.specs.Searches.{Grows}
+use Rattle.meet.specs.Wakings.{Wakes}
 use Rattle.meet.proofs.meet.Meet.wake_each.Given as goal
 
 abbrev pub invariant-loop : goal.invariant-loop
 invariant-loop g l =
-    (goal.iterator-loop g).can_next l.iterator' × (goal.iterator-loop g).is_finite l.iterator' × IsPassOf l.cells l.pass × Grows l.fn.pass.seen l.pass.seen × IsMeetPassOf l.self l.lanes
+    (goal.iterator-loop g).can_next l.iterator' × (goal.iterator-loop g).is_finite l.iterator' × IsPassOf l.cells l.pass × Grows l.fn.pass.seen l.pass.seen × IsRoomsPassOf l.self l.lanes
     × ((from : PassOf g.row.M.Denot) → Grows from.seen l.fn.pass.seen → Wakes l.base from l.fn.pass l.fn.woken.items → Wakes l.base from l.pass l.woken.items) × KeepsResults l.fn.pass l.pass

@@ -1,6 +1,7 @@
 use Rattle.std.proofs.Common.{rules}
-use Rattle.meet.proofs.Growing.{grows_then}
-use Rattle.meet.proofs.Making.{any_error, keeps_then, some_wakes_more, wakes_more, wakes_some}
+use Rattle.meet_scan.proofs.Growing.{grows_then}
+use Rattle.meet_scan.proofs.Making.{any_error, keeps_then}
+use Rattle.meet.proofs.Woken.{some_wakes_more, wakes_more, wakes_some}
 use Rattle.meet.proofs.meet.Meet.wake_room.Goals as goal
 
 pub returns-then-not-shared-clause-woken : goal.returns-then-not-shared-clause-woken

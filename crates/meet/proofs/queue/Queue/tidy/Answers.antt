@@ -1,7 +1,7 @@
 use Rattle.std.proofs.Common.{rules, ◌+◌, ap, set}
 use Rattle.meet.specs.declared.queue.Queue.TheInside.{Inside}
-use Rattle.meet.proofs.Growing.{grows_then, saw_more}
-use Rattle.meet.proofs.Making.{looks_then}
+use Rattle.meet_scan.proofs.Growing.{grows_then, saw_more}
+use Rattle.meet_scan.proofs.Making.{looks_then}
 use Rattle.meet.proofs.Tidying.{cleans_at, cleans_gone, cleans_kept}
 use Rattle.meet.proofs.queue.Queue.tidy.Goals as goal
 use Rattle.meet.proofs.queue.Queue.tidy.Goals.{then-not-saw_committed, else-not-saw_committed}

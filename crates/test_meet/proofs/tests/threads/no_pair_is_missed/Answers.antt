@@ -1,7 +1,7 @@
 use denote.Param.Send.{sendable, param_send}
 use Rattle.std.proofs.Crossing.{crosses}
 use Rattle.meet.proofs.meet.Meet.TheSendSync.{the_sync as meet_sync}
-use Rattle.meet.proofs.rooms.MeetPass.TheSendSync.{the_send as lanes_send}
+use Rattle.meet.proofs.meet.MeetPass.TheSendSync.{the_send as lanes_send}
 use Rattle.test_meet.proofs.Crossing.{bare_cells_sync, bare_pass_send}
 use Rattle.test_meet.proofs.tests.threads.no_pair_is_missed.Lts as lts
 use Rattle.test_meet.proofs.tests.threads.no_pair_is_missed.Goals as goal

@@ -1,7 +1,8 @@
 use Rattle.cell.specs.Calls.{IsPassOf}
-use Rattle.meet.specs.Searches.{Grows, IsBaseOf}
-use Rattle.meet.specs.Steps.{OnlyLooks}
-use Rattle.meet.proofs.meet.wake_entry.Given as goal
+use Rattle.meet_scan.specs.Searches.{Grows}
+use Rattle.meet.specs.Wakings.{IsBaseOf}
+use Rattle.meet_scan.specs.Steps.{OnlyLooks}
+use Rattle.meet.proofs.waking.wake_entry.Given as goal
 
 abbrev pub invariant-loop : goal.invariant-loop
 invariant-loop g l =

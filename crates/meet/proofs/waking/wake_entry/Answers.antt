@@ -1,6 +1,7 @@
-use Rattle.meet.proofs.Growing.{grows_by, grows_then, waits_more, woken_by}
-use Rattle.meet.proofs.Making.{looks_then}
-use Rattle.meet.proofs.meet.wake_entry.Goals as goal
+use Rattle.meet_scan.proofs.Growing.{grows_by, grows_then}
+use Rattle.meet.proofs.Woken.{waits_more, woken_by}
+use Rattle.meet_scan.proofs.Making.{looks_then}
+use Rattle.meet.proofs.waking.wake_entry.Goals as goal
 
 pub returns-in-Given-clause-woken : goal.returns-in-Given-clause-woken
 returns-in-Given-clause-woken g c given =

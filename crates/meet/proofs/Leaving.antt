@@ -1,0 +1,40 @@
+-- What a search came to, by what its scan of the directory came to.
+use Rattle.std.proofs.Common.{◌≡◌, ◌⊎◌, ℕ, inl, inr, subst}
+use Rattle.protocol_values.specs.declared.Row.{Row}
+use Rattle.cell_table.specs.Nacks.{CanStandAlone}
+use Rattle.cell_table.specs.Sight.{SawCommitted}
+use Rattle.cell_table.specs.declared.view.Seen.{Seen}
+use Rattle.meet_directory.specs.declared.view.View.{View}
+use Rattle.meet_scan.specs.Leaving.{IsLeftRow, ScansTo}
+use Rattle.meet_scan.specs.Searches.{Finds, FoundAt, Grows, Leaves}
+use Rattle.meet_scan.specs.declared.found.Found.{Found}
+use Rattle.meet_scan.specs.declared.found.Found.TheVariants.{Met, Alone, Already, Left}
+use Rattle.meet_scan.proofs.Growing.{saw_more}
+use Rattle.meet_scan.proofs.Scanning.{left_at_more, more_nothing}
+
+-- the row was left for all its offers, and then to others
+pub left_scans : (v : View) (s t u : Seen) (r : Row) (found : Found) → Grows s t → Grows t u → IsLeftRow v t r → Leaves t u r found → ScansTo v s u r found
+left_scans v s t u r (Met other) before after left leaves = absurd leaves
+left_scans v s t u r Alone before after left leaves = absurd leaves
+left_scans v s t u r Already before after left leaves = leaves
+left_scans v s t u r Left before after left leaves = ((λ n low. left_at_more v v t u r n (more_nothing v) after (left n low)), λ c. leaves (saw_more s t r before c))
+
+pub scans_find : (v : View) (s t u : Seen) (r : Row) (found : Found) → Grows s t → ((n : ℕ) → ¬ CanStandAlone s r n) → ScansTo v t u r found → Finds s u r found
+scans_find v s t u r (Met other) grows none h = h
+scans_find v s t u r Alone grows none h = h
+scans_find v s t u r Already grows none h = h
+scans_find v s t u r Left grows none h = ((λ c. h.1 (saw_more s t r grows c)), none)
+
+pub scans_left : (v : View) (t u : Seen) (r : Row) (found : Found) → ScansTo v t u r found → found ≡ Left → IsLeftRow v u r
+scans_left v t u r found h is = (subst (λ (f : Found). ScansTo v t u r f) is h).0
+
+-- in any case the row is committed, or left
+pub scans_kept : (v : View) (t u : Seen) (r : Row) (found : Found) → ScansTo v t u r found → SawCommitted u r ⊎ IsLeftRow v u r
+scans_kept v t u r (Met other) h = inl (record { own = h.0; partner = Rattle.std.specs.Prelude.Some (other, h.1); stamp = h.2 }, h.3.0)
+scans_kept v t u r Alone h = inl (h.0, h.1)
+scans_kept v t u r Already h = inl h
+scans_kept v t u r Left h = inr h.0
+
+-- what is committed is not left
+pub found_not_left : {P : Type 0} (t : Seen) (r : Row) (found : Found) → FoundAt t r found → found ≡ Left → P
+found_not_left t r found h is = absurd (subst (λ (f : Found). FoundAt t r f) is h)
