@@ -2,10 +2,6 @@ pub mod Passes
 pub mod Parts
 pub mod MeetingLedger
 pub mod Playing
-pub mod Replaying
 pub mod Running
-pub mod Numbering
-pub mod Judging
 pub mod Crossing
-pub mod Columns
 pub mod Wholes

@@ -18,20 +18,20 @@ use Rattle.pcml_tool.specs.declared.fault.Fault.{Fault}
 use Rattle.pcml_tool.specs.declared.fault.Fault.TheVariants as faults
 use Rattle.protocol_schedule.specs.Schedule.{IsFirstBadLine}
 use Rattle.pcml_tool.specs.Play.{IsPlayed, IsFirstRefused}
-use Rattle.pcml_tool.specs.Check.{IsChecked}
+use Rattle.pcml_texts.specs.Check.{IsChecked}
 use Rattle.runtime.specs.Played.{NeedsSeasons}
 use Rattle.runtime.specs.Limits.{AreRows, AreSeasons, AreWorkers}
-use Rattle.pcml_tool.specs.Replay.{IsReplayed, IsNoRun, unlawful_line}
-use Rattle.pcml_tool.specs.Chart.{IsCharted}
-use Rattle.pcml_tool.specs.Why.{IsRefused, IsTold, IsWhyOf}
+use Rattle.pcml_texts.specs.Replay.{IsReplayed, IsNoRun, unlawful_line}
+use Rattle.pcml_texts.specs.Chart.{IsCharted}
+use Rattle.pcml_texts.specs.Why.{IsRefused, IsTold, IsWhyOf}
 use Rattle.protocol_values.specs.declared.Commit.{Commit}
-use Rattle.pcml_tool.specs.Next.{IsNext}
+use Rattle.pcml_texts.specs.Next.{IsNext}
 use Rattle.pcml_tool.specs.Run.{TellsAsked}
-use Rattle.pcml_tool.specs.Stats.{IsCounted}
+use Rattle.pcml_texts.specs.Stats.{IsCounted}
 use Rattle.pcml_tool.specs.Version.{version_line}
 use Rattle.journal_replay.specs.declared.end.End.{End}
-use Rattle.pcml_tool.specs.declared.replay.Replayed.{Replayed}
-use Rattle.pcml_tool.specs.declared.replay.Replayed.TheVariants as replays
+use Rattle.pcml_texts.specs.declared.replay.Replayed.{Replayed}
+use Rattle.pcml_texts.specs.declared.replay.Replayed.TheVariants as replays
 use Rattle.pcml_tool.specs.declared.from_files.Verdict.{Verdict}
 use Rattle.pcml_tool.specs.declared.from_files.Verdict.TheVariants.{Denied, Done, Lacking, Unlawful}
 use Rattle.journal_text.specs.Journals as journals
@@ -40,7 +40,7 @@ use Rattle.outcomes.specs.declared.Outcomes.{Outcomes as Found}
 use Rattle.outcomes.specs.declared.asked.Asked.{Asked}
 use Rattle.outcomes.specs.Asking.{has_unended}
 use Rattle.pcml_outcomes.specs.Told.{AreFound, NamesNeeded, SpellsAsked, asked_for, finding, outcomes_text}
-use Rattle.pcml_tool.specs.Searching.{FailsAsked, IsAskedOf, verdict_of}
+use Rattle.pcml_tool.specs.Searching.{FailsAsked, IsAskedBy, verdict_of}
 use Rattle.pcml_why_script.specs.Short.{TellsWhyShort}
 use Rattle.pcml_why_script.specs.Telling.{TellsWhyNot}
 use Rattle.script.specs.Sources.{Script}
@@ -130,7 +130,7 @@ pub record AnswersOutcomes (Holds Keeps : Files) (search : Search) (verdict : Ve
   pub s : Script
   pub spells : Spells source s
   pub asked : Asked
-  pub asks : IsAskedOf s search asked
+  pub asks : IsAskedBy s search asked
   pub needed : NamesNeeded asked
   pub found : Found
   pub are : AreFound s search.rows search.limit asked found

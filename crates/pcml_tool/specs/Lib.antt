@@ -1,12 +1,6 @@
 pub mod Meet
 pub mod Play
-pub mod Check
-pub mod Replay
 pub mod Run
-pub mod Chart
-pub mod Why
-pub mod Next
-pub mod Stats
 pub mod Faults
 pub mod Command
 pub mod Version

@@ -5,7 +5,7 @@ ghost use Rattle.std.specs.Option.{option_copied, option_map};
 ghost use Rattle.script.specs.Scripts.{script_of};
 ghost use Rattle.script.specs.Spelling.{Spells};
 ghost use Rattle.pcml_tool.specs.declared.fault.Fault.TheVariants.{Memory, Unwritten};
-ghost use Rattle.pcml_tool.specs.Check.{IsChecked};
+ghost use Rattle.pcml_texts.specs.Check.{IsChecked};
 ghost use Rattle.pcml_tool.specs.Play.{IsPlayed};
 ghost use Rattle.pcml_tool.specs.Command.{AnswersChart, AnswersNext, AnswersReplay, AnswersStats, AnswersWhy, AnswersWhyScript, AnswersWhyShort, IsJudged, FailsChart, FailsParse, FailsPlay, FailsRead, FailsReplay, IsToldShort, IsToldWhyNot, OfSchedule, printed};
 ghost use Rattle.pcml_tool.specs.declared.from_files.Verdict.TheVariants.{Done};

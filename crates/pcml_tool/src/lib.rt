@@ -4,38 +4,29 @@
 //! `program` and `from_files` know.
 #![tactic(auto)]
 
-mod chart;
-mod check;
 mod explain;
 mod fault;
 mod from_files;
 mod looking;
 mod meeting;
-mod next;
 mod play;
 mod program;
-mod reach;
-mod replay;
 mod run;
 mod searching;
-mod stats;
 mod version;
-mod why;
 
-pub use crate::chart::{ChartFault, chart_journal};
-pub use crate::check::check_text;
 pub use crate::explain::explain_text;
 pub use crate::fault::Fault;
 pub use crate::looking::{FilesRead, files_read, first_fault};
 pub use crate::meeting::{MeetFault, meet_text};
-pub use crate::next::next_journal;
 pub use crate::play::{PlayFault, play_laws, play_text};
 pub use crate::program::{BAD_WORDS, command, tell};
-pub use crate::replay::{Replayed, replay_laws, replay_text};
 pub use crate::run::{RunText, run_parts, run_seasons_parts, run_text};
-pub use crate::stats::stats_journal;
 pub use crate::version::version_text;
-pub use crate::why::{why_journal, why_run};
 pub use outcomes::{Unwatched, Watch};
 pub use pcml_files::{Source, SourceFault, SystemFiles};
 pub use pcml_request::Request;
+pub use pcml_texts::{
+    ChartFault, Replayed, chart_journal, check_text, next_journal, replay_laws, replay_text,
+    stats_journal, why_journal, why_run,
+};

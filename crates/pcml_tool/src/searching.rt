@@ -1,67 +1,39 @@
 //! What is asked for of the outcomes, and what is answered.
 
-ghost use Rattle.std.specs.Prelude.{◌≡◌, ◌≢◌, ◌⊎◌, ◌||◌, None, IfErr, IfOk, OnOk, is_some, length, map};
-ghost use Rattle.std.specs.List.{zip};
+ghost use Rattle.std.specs.Prelude.{◌≡◌, ◌≢◌, ◌⊎◌, None, IfErr, IfOk, OnOk, is_some, length};
 ghost use Rattle.std.specs.Option.{option_copied};
 ghost use Rattle.script.specs.Scripts.{script_of};
-ghost use Rattle.outcomes.specs.declared.asked.Told.{Told as WhichTold};
 ghost use Rattle.pcml_outcomes.specs.Told.{NamesNeeded, bytes_of};
 ghost use Rattle.pcml_tool.specs.declared.fault.Fault.TheVariants.{Memory, Unwritten};
 ghost use Rattle.pcml_tool.specs.Command.{KeepsAsked};
-ghost use Rattle.pcml_tool.specs.Searching.{FailsAsked, IsAskedOf, verdict_of};
+ghost use Rattle.pcml_tool.specs.Searching.{FailsAsked, IsAskedBy, verdict_of};
 
 use crate::fault::Fault;
 use crate::from_files::Verdict;
-use outcomes::{Asked, Told};
+use outcomes::Asked;
 use pcml_files::Source;
-use pcml_need::{named_or_all, named_processes};
+use pcml_need::NamesFault;
 use pcml_outcomes::{Finding, OutcomesText};
-use pcml_request::{Search, Wanted};
+use pcml_request::Search;
 use script::Script;
-use std::alloc::{AllocError, Global};
+use std::alloc::Global;
 
 /// What is told behind an answer for which not all was seen.
 pub(crate) const CUT: &str =
     "cut: not all configurations were seen. A larger --limit (up to 4194304) sees more; fewer --rows or messages make fewer. --need and --only tell less of what was seen.\n";
 
-/// The marks of both.
-fn either(alloc: Global, first: &[bool], second: &[bool]) -> Result<Vec<bool>, AllocError>
-    ensures { IfOk result (λ marks. marks.items ≡ map (λ p. p.0 || p.1) (zip first.now second.now)) }
-{
-    first
-        .iter()
-        .zip(second)
-        .map(|(one, other)| *one || *other)
-        .collect(alloc)
-}
-
-/// What is asked for. Of the names of the processes that have to end, and then of those that are named alone, the first
-/// that no process has is a fault.
+/// What a search asks for. Of the names of the processes that have to end, and then of those that are named alone, the
+/// first that no process has is a fault.
 pub(crate) fn asked_of(alloc: Global, script: &Script, search: &Search<'_>) -> Result<Asked, Fault>
-    ensures asked { IfOk result (IsAskedOf (script_of script.now) search.now) }
+    ensures asked { IfOk result (IsAskedBy (script_of script.now) search.now) }
     ensures needed { IfOk result NamesNeeded }
     ensures marks { IfOk result (λ asked. length asked.named.items ≡ length (script_of script.now).processes) }
     ensures fault { IfErr result (FailsAsked (script_of script.now) search.now) }
 {
-    let first = search.first;
-    match search.wanted {
-        Wanted::Each => {
-            let named = named_or_all(alloc, script, search.only)?;
-            let told = Told::Each;
-            Ok(Asked { named, told, first })
-        }
-        Wanted::Waiting => {
-            let named = named_or_all(alloc, script, search.only)?;
-            let told = Told::Waiting;
-            Ok(Asked { named, told, first })
-        }
-        Wanted::Lacking(names) => {
-            let needed = named_processes(alloc, script, names)?;
-            let only = named_or_all(alloc, script, search.only)?;
-            let named = either(alloc, &only, &needed)?;
-            let told = Told::Lacking(needed);
-            Ok(Asked { named, told, first })
-        }
+    match pcml_texts::asked_of(alloc, script, search.wanted, search.only, search.first) {
+        Ok(asked) => Ok(asked),
+        Err(NamesFault::Memory) => Err(Fault::Memory),
+        Err(NamesFault::Unnamed(name)) => Err(Fault::Unnamed(name)),
     }
 }
 

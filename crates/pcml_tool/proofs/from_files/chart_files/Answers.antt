@@ -6,11 +6,11 @@ use Rattle.script.specs.Scripts.{script_of}
 use Rattle.script.specs.Sources.{Script}
 use Rattle.script.specs.Spelling.{Spells}
 use Rattle.pcml_files.specs.Files.{Fits}
-use Rattle.pcml_tool.specs.Chart.{ExplainsChart}
+use Rattle.pcml_texts.specs.Chart.{ExplainsChart}
 use Rattle.pcml_tool.specs.Command.{FailsChart, Files}
 use Rattle.pcml_tool.specs.Faults.{fault_of_chart}
-use Rattle.pcml_tool.specs.declared.chart.ChartFault.{ChartFault}
-use Rattle.pcml_tool.specs.declared.chart.ChartFault.TheVariants.{BadLine, Memory, NoRun, Unnamed}
+use Rattle.pcml_texts.specs.declared.chart.ChartFault.{ChartFault}
+use Rattle.pcml_texts.specs.declared.chart.ChartFault.TheVariants.{BadLine, Memory, NoRun, Unnamed}
 use Rattle.pcml_tool.proofs.from_files.chart_files.Goals as goal
 
 -- a fault of the chart is one of the call

@@ -1,0 +1,5 @@
+pub mod Answers
+pub mod Scripts
+pub mod Names
+pub mod Journals
+pub mod Outcomes

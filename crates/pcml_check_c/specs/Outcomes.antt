@@ -1,0 +1,71 @@
+-- What is told of all that a script can come to.
+use Rattle.std.specs.Prelude.{◌≡◌, ◌⊎◌, ◌≤◌, ℕ, false, List}
+use Rattle.std.specs.Str.{IsUtf8}
+use Rattle.script.specs.FirstFaults.{Tells}
+use Rattle.script.specs.Sources.{Script}
+use Rattle.script.specs.Spelling.{Spells}
+use Rattle.journal_text.specs.Names.{named}
+use Rattle.outcomes.specs.declared.asked.Asked.{Asked}
+use Rattle.outcomes.specs.declared.Outcomes.{Outcomes}
+use Rattle.pcml_need.specs.declared.NamesFault.{NamesFault}
+use Rattle.pcml_need.specs.declared.NamesFault.TheVariants as names
+use Rattle.pcml_request.specs.declared.request.Wanted.{Wanted}
+use Rattle.pcml_outcomes.specs.Told.{AreFound, NamesNeeded, finding, outcomes_text}
+use Rattle.pcml_outcomes.specs.declared.finding.Finding.{Finding}
+use Rattle.pcml_outcomes.specs.declared.finding.Finding.TheVariants as findings
+use Rattle.pcml_texts.specs.Searching.{IsAskedOf, MisnamesAsked}
+use Rattle.pcml_check_c.specs.Names.{Wants, given}
+use Rattle.pcml_check_c.specs.declared.told.Code.{Code}
+use Rattle.pcml_check_c.specs.declared.told.Code.TheVariants.{Done, Open, Stuck}
+use Rattle.pcml_check_c.specs.declared.told.Told.{Told}
+use Rattle.pcml_check_c.specs.declared.refusal.Refusal.{Refusal}
+use Rattle.pcml_check_c.specs.declared.refusal.Refusal.TheVariants as refusals
+
+-- the rows of one season
+abbrev pub AreRows : ℕ → Type 0
+AreRows rows = (1 ≤ rows) × (rows ≤ 1024)
+
+abbrev pub IsLimit : ℕ → Type 0
+IsLimit limit = (1 ≤ limit) × (limit ≤ 4194304)
+
+abbrev pub AreNumbers : ℕ → ℕ → Type 0
+AreNumbers rows limit = AreRows rows × IsLimit limit
+
+abbrev pub code_of_finding : Finding → Code
+code_of_finding findings.Clear = Done
+code_of_finding findings.Stuck = Stuck
+code_of_finding findings.Open = Open
+
+-- what was found of the script that the bytes spell, of what was asked for
+pub record IsSearched (script : List ℕ) (rows limit : ℕ) (need only : List ℕ) (told : Told) : Type 0 where
+  pub numbers : AreNumbers rows limit
+  pub s : Script
+  pub spells : Spells script s
+  pub wanted : Wanted
+  pub wants : Wants (given need) wanted
+  pub asked : Asked
+  pub asks : IsAskedOf s wanted (given only) false asked
+  pub needed : NamesNeeded asked
+  pub found : Outcomes
+  pub are : AreFound s rows limit asked found
+  pub code : told.code ≡ code_of_finding (finding asked found)
+  pub line : told.line ≡ 0
+  pub text : told.text.items ≡ outcomes_text (named s) rows asked found
+
+-- a name that no process of the script has, of those that are needed or of the others
+pub record Misnames (script need only : List ℕ) (fault : NamesFault) : Type 0 where
+  pub s : Script
+  pub spells : Spells script s
+  pub wanted : Wanted
+  pub wants : Wants (given need) wanted
+  pub misnames : MisnamesAsked s wanted (given only) fault
+
+-- bad numbers come first, then names that are no text, a fault of the script, and a name of no process
+abbrev pub RefusesOutcomes : List ℕ → ℕ → ℕ → List ℕ → List ℕ → Refusal → Type 0
+RefusesOutcomes script rows limit need only refusals.Rows = ¬ AreRows rows
+RefusesOutcomes script rows limit need only refusals.Limit = AreRows rows × (¬ IsLimit limit)
+RefusesOutcomes script rows limit need only refusals.NoText = AreNumbers rows limit × ((¬ IsUtf8 need) ⊎ (¬ IsUtf8 only))
+RefusesOutcomes script rows limit need only refusals.Memory = AreNumbers rows limit
+RefusesOutcomes script rows limit need only (refusals.Script fault) = AreNumbers rows limit × Tells script fault
+RefusesOutcomes script rows limit need only (refusals.Unnamed name) = AreNumbers rows limit × Misnames script need only (names.Unnamed name)
+RefusesOutcomes script rows limit need only refusal = ⊥

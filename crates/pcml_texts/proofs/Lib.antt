@@ -1,0 +1,4 @@
+pub mod Replaying
+pub mod Judging
+pub mod Numbering
+pub mod Columns

@@ -1,0 +1,121 @@
+//! What `why` prints.
+
+ghost use Rattle.std.specs.Prelude.{◌≡◌, ◌+◌, ◌≤◌, IfOk, IfErr};
+ghost use Rattle.std.specs.List.{AllByRecursion};
+ghost use Rattle.std.specs.String.{string_bytes};
+ghost use Rattle.script.specs.Scripts.{script_of};
+ghost use Rattle.journal_replay.specs.Replays.{StandsAfter};
+ghost use Rattle.journal_replay.specs.Runs.{BreaksOffAt, IsRun};
+ghost use Rattle.journal_text.specs.Answers.{Explains};
+ghost use Rattle.journal_text.specs.Journals.{HasLine};
+ghost use Rattle.journal_text.specs.Names.{names_of};
+ghost use Rattle.pcml_texts.specs.Replay.{unlawful_line};
+ghost use Rattle.pcml_texts.specs.Why.{IsWhyOf, TellsReason, TellsWhy};
+
+use crate::reach::{Reached, reach};
+use crate::replay::Replayed;
+use journal_replay::{ReplayFault, State, replay};
+use journal_text::JournalFault;
+use pcml_unlawful::{find_reason, push_reason};
+use pcml_why::why_text;
+use pcml_why_numbers::numbered;
+use protocol_values::Commit;
+use script::Script;
+use std::alloc::{AllocError, Global};
+
+/// The line of the commit with which the commits are no run, and behind it why that commit may not come next.
+fn reason_text(
+    alloc: Global,
+    script: &Script,
+    commits: &[Commit],
+    index: usize,
+    line: String,
+    rows: u32,
+) -> Result<Vec<u8>, AllocError>
+    requires rows { rows ≤ 67107840 }
+    requires lines { AllByRecursion (HasLine (names_of (script_of script.now))) commits.now }
+    requires breaks { BreaksOffAt (script_of script.now).processes rows commits.now index }
+    requires line { string_bytes line ≡ unlawful_line (index + 1) }
+    ensures { IfOk result (λ text. TellsReason (script_of script.now) rows commits.now index text.items) }
+{
+    let reason = find_reason(alloc, script.processes(), rows, commits, index)?;
+    let mut text = line;
+    push_reason(&mut text, script, rows, reason)?;
+    Ok(text.into_bytes())
+}
+
+/// Why the processes stand where these commits lead them, which the state tells: the commits are replayed by processes
+/// that print the number of each statement before they begin it.
+fn why_standing(
+    alloc: Global,
+    script: &Script,
+    text: &[u8],
+    commits: &[Commit],
+    state: &State,
+    rows: u32,
+) -> Result<Vec<u8>, AllocError>
+    requires rows { rows ≤ 67107840 }
+    requires stands { StandsAfter (script_of script.now).processes rows commits.now state.now }
+    ensures { IfOk result (λ told. IsWhyOf (script_of script.now) text.now rows commits.now told.items) }
+{
+    let processes = numbered(alloc, script.processes())?;
+    match replay(alloc, processes.as_slice(), rows, commits) {
+        Ok(standing) => {
+            let told = why_text(alloc, script, state, &standing, commits, text, rows)?;
+            Ok(told.into_bytes())
+        }
+        Err(ReplayFault::Memory) => Err(AllocError),
+        Err(ReplayFault::Unlawful(_)) => unreachable!(),
+    }
+}
+
+/// Why the processes of the script, of so many rows each, 1 to 67107840, stand where these commits lead, a run of them.
+pub fn why_run(
+    alloc: Global,
+    script: &Script,
+    text: &[u8],
+    commits: &[Commit],
+    rows: u32,
+) -> Result<Vec<u8>, AllocError>
+    requires rows { rows ≤ 67107840 }
+    requires run { IsRun (script_of script.now).processes rows commits.now }
+    ensures { IfOk result (λ told. IsWhyOf (script_of script.now) text.now rows commits.now told.items) }
+{
+    match replay(alloc, script.processes(), rows, commits) {
+        Ok(state) => why_standing(alloc, script, text, commits, &state, rows),
+        Err(ReplayFault::Memory) => Err(AllocError),
+        Err(ReplayFault::Unlawful(_)) => unreachable!(),
+    }
+}
+
+/// Where the processes of the script, of so many rows each, 1 to 67107840, stand after the journal in the
+/// bytes, at which lines of the script's text, and with whom each could go on; or with which line it is no run, and why.
+///
+/// A journal that is a run is replayed twice: by the processes, and by processes that print the number of each
+/// statement before they begin it.
+pub fn why_journal(
+    alloc: Global,
+    script: &Script,
+    text: &[u8],
+    journal: &[u8],
+    rows: u32,
+) -> Result<Replayed, JournalFault>
+    requires { rows ≤ 67107840 }
+    ensures told { IfOk result (TellsWhy (script_of script.now) text.now rows journal.now) }
+    ensures fault { IfErr result (Explains (script_of script.now) journal.now) }
+{
+    match reach(alloc, script, journal, rows)? {
+        Reached::Run(commits, state) => {
+            let told = why_standing(alloc, script, text, &commits, &state, rows)?;
+            Ok(Replayed::Lawful(told))
+        }
+        Reached::NoRun {
+            commits,
+            index,
+            text,
+        } => {
+            let told = reason_text(alloc, script, &commits, index, text, rows)?;
+            Ok(Replayed::Unlawful(told))
+        }
+    }
+}

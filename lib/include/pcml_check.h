@@ -1,0 +1,121 @@
+/*
+ * pcml_check: checkers for scripts of Concurrent ML's events and for journals of their runs.
+ *
+ * Three duties are yours, and no call can test them:
+ *
+ * 1. No pointer is NULL, also where its length is 0 (pass ""), each describes as many bytes as its length says, and
+ *    `text` overlaps nothing else that is passed; while a call runs, nobody writes what it reads or touches `text`.
+ * 2. malloc, realloc and free are of one allocator, and align each block to 16 bytes, or to the power of two below
+ *    that divides its size.
+ * 3. No call is made from a signal handler, or in the child of a fork of a process with threads.
+ *
+ * Otherwise each argument is free: what is wrong with it is answered by a code. A call keeps nothing, starts no thread
+ * and waits for nobody, so any number of threads may call at once. It gives back all memory that it took.
+ *
+ * The texts are those of the program `pcml`, byte for byte. One is written as snprintf does it: as much as fits before
+ * a NUL goes into text[0] to text[room - 1], the rest of the buffer stays as it is, and `text_len` tells the length of
+ * the whole. Where text_len < room it is whole. A room of 0 writes nothing.
+ *
+ * Link with -lpcml_check.
+ */
+#ifndef PCML_CHECK_H
+#define PCML_CHECK_H
+
+#include <stddef.h>
+#include <stdint.h>
+
+/* Two digits for each of the three numbers of the version: compare it with pcml_check_version(). */
+#define PCML_CHECK_VERSION 10100
+
+#ifdef __cplusplus
+extern "C" {
+#endif
+
+/* What came of a call: below 16 an answer, from 16 on a refusal. */
+enum pcml_code {
+    PCML_DONE = 0,           /* the script, the journal or the outcomes are as they should be; each call says how */
+    PCML_OPEN = 1,           /* the journal is a run that goes on; or what was asked of outcomes is not known */
+    PCML_UNLAWFUL = 2,       /* the journal is no run: `line` is the first with which it is none */
+    PCML_STUCK = 3,          /* a process that has to end waits for ever, or has faulted, in some outcome */
+    PCML_NOT_A_SCRIPT = 4,   /* the text is no script, and `text` tells why */
+
+    PCML_OUT_OF_MEMORY = 16, /* malloc gave none */
+    PCML_BAD_SCRIPT = 17,    /* the script is none: `fault` is 11 to 16, `line` where it stands (0 for fault 16) */
+    PCML_BAD_JOURNAL = 18,   /* `line` is the first that is no line of a journal; `fault` is 21 */
+    PCML_BAD_ROWS = 19,      /* `rows` is out of range */
+    PCML_BAD_LIMIT = 20,     /* `limit` is out of range */
+    PCML_BAD_FORM = 21,      /* `form` is neither PCML_SVG nor PCML_MERMAID */
+    PCML_BAD_NAMES = 22,     /* the names are not UTF-8 */
+    PCML_NO_PROCESS = 23     /* no process has a name that was given; `text` is the first such name */
+};
+
+enum pcml_form { PCML_SVG = 0, PCML_MERMAID = 1 };
+
+typedef struct pcml_answer {
+    uint32_t code;   /* one of enum pcml_code */
+    uint32_t fault;  /* the number that `pcml explain` knows, or 0 */
+    size_t line;     /* from 1, or 0 where nothing stands at a line */
+    size_t text_len; /* the length of the whole text, without its NUL */
+} pcml_answer;
+
+/* The version of the library that is linked. */
+uint32_t pcml_check_version(void);
+
+/*
+ * Is the text a script?
+ *   PCML_DONE            it is; the text is that of `pcml check`: processes 2 channels 1
+ *   PCML_BAD_SCRIPT      it is not: its first fault, and the line
+ *   PCML_OUT_OF_MEMORY
+ */
+pcml_answer pcml_check(const char *script, size_t script_len, char *text, size_t room);
+
+/*
+ * Why is the text no script? The text is that of `pcml why`.
+ *   PCML_NOT_A_SCRIPT    its first fault, with the line, what helps, and what may stand there
+ *   PCML_DONE            it is a script, and the text says so
+ *   PCML_OUT_OF_MEMORY
+ */
+pcml_answer pcml_why_script(const char *script, size_t script_len, char *text, size_t room);
+
+/*
+ * Is the journal a run of the script? The text is that of `pcml replay`. A process makes at most `rows` syncs,
+ * 1 to 67107840: 256 as the program has it, or its --rows times its --seasons.
+ *   PCML_DONE            a run that is maximal: no commit may follow
+ *   PCML_OPEN            a run, and some commit may follow
+ *   PCML_UNLAWFUL        no run: `line` is the first with which it is none
+ *   PCML_BAD_ROWS, PCML_BAD_SCRIPT, PCML_BAD_JOURNAL, PCML_OUT_OF_MEMORY
+ * Of bad numbers, a bad script and a bad journal the first is told, here and below.
+ */
+pcml_answer pcml_check_journal(const char *script, size_t script_len, const char *journal, size_t journal_len,
+                               uint32_t rows, char *text, size_t room);
+
+/*
+ * What can the script come to? The text is that of `pcml outcomes`. A process makes at most `rows` syncs, 1 to 1024
+ * (0 is kept for runs of any length, and refused today). At most `limit` configurations are looked at, 1 to 4194304:
+ * each takes memory, and 1048576 is the program's. `need` and `only` are names of processes with commas between, or
+ * all, as for --need and --only; a length of 0 gives none. An outcome is told where a process of `need` has not ended,
+ * and without `need` each; outcomes that differ in no process of `only` or `need` are one.
+ *   PCML_DONE            with `need`: all was seen, and each process of it ends in every outcome; without: always
+ *   PCML_STUCK           some process of `need` waits for ever, has faulted or was never started in some outcome
+ *   PCML_OPEN            neither is known: the search was cut, or a process had no sync left
+ *   PCML_BAD_ROWS, PCML_BAD_LIMIT, PCML_BAD_NAMES, PCML_BAD_SCRIPT, PCML_NO_PROCESS, PCML_OUT_OF_MEMORY
+ */
+pcml_answer pcml_outcomes(const char *script, size_t script_len, uint32_t rows, uint32_t limit, const char *need,
+                          size_t need_len, const char *only, size_t only_len, char *text, size_t room);
+
+/*
+ * The journal as a chart: the text is that of `pcml chart`, of the commits with a stamp from `from` to `to`
+ * (1 and UINT32_MAX for all; at most 1250 are drawn). `only` is as above: other processes share one column.
+ *   PCML_DONE            it is drawn
+ *   PCML_UNLAWFUL        the journal is no run: `line`, and no text
+ *   PCML_BAD_ROWS, PCML_BAD_FORM, PCML_BAD_NAMES, PCML_BAD_SCRIPT, PCML_BAD_JOURNAL, PCML_NO_PROCESS, PCML_OUT_OF_MEMORY
+ */
+pcml_answer pcml_chart(const char *script, size_t script_len, const char *journal, size_t journal_len, uint32_t rows,
+                       const char *only, size_t only_len, uint32_t from, uint32_t to, uint32_t form, char *text,
+                       size_t room);
+
+#ifdef __cplusplus
+}
+#endif
+
+#endif
