@@ -87,11 +87,11 @@ filled (first ∷ rest) text = take (length rest) text ++ 0 ∷ drop (length tex
 
 -- the answer has these numbers and the length of the text, and the buffer its beginning
 pub record Gives (code fault line : ℕ) (text before after : List ℕ) (a : Answer) : Type 0 where
-  pub code : a.code ≡ code
-  pub fault : a.fault ≡ fault
-  pub line : a.line ≡ line
-  pub len : a.text_len ≡ length text
-  pub text : after ≡ filled before text
+  pub code_is : a.code ≡ code
+  pub fault_is : a.fault ≡ fault
+  pub line_is : a.line ≡ line
+  pub len_is : a.text_len ≡ length text
+  pub text_is : after ≡ filled before text
 
 abbrev pub IsHandedOut : Result Told Refusal → List ℕ → List ℕ → Answer → Type 0
 IsHandedOut (Ok told) before after a = Gives (code_of told.code) 0 told.line told.text.items before after a

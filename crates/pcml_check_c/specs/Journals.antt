@@ -31,7 +31,7 @@ Judges s rows journal code line text = ⊥
 
 -- of the script that the bytes spell
 pub record IsJudged (script journal : List ℕ) (rows : ℕ) (told : Told) : Type 0 where
-  pub rows : AreRows rows
+  pub in_range : AreRows rows
   pub s : Script
   pub spells : Spells script s
   pub judges : Judges s rows journal told.code told.line told.text.items
@@ -57,7 +57,7 @@ Draws s rows journal only from to form Unlawful line text = IsNoRun s rows journ
 Draws s rows journal only from to form code line text = ⊥
 
 pub record IsDrawn (script journal : List ℕ) (rows : ℕ) (only : List ℕ) (from to number : ℕ) (told : Told) : Type 0 where
-  pub rows : AreRows rows
+  pub in_range : AreRows rows
   pub form : Form
   pub is_form : IsForm number form
   pub s : Script

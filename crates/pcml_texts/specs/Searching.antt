@@ -24,9 +24,9 @@ Asks s Waiting only named which = NamesOrAll s only named × (which ≡ told.Wai
 Asks s (Lacking needs) only named which =
     (needed : Vec Bool) × (which ≡ told.Lacking needed) × Names s needs.now needed.items × (unnamed_of s only ≡ None) × (named ≡ either (named_or_all s only) needed.items)
 
-pub record IsAskedOf (s : Script) (wanted : Wanted) (only : Option (List ℕ)) (first : Bool) (asked : Asked) : Type 0 where
+pub record IsAskedOf (s : Script) (wanted : Wanted) (only : Option (List ℕ)) (stops : Bool) (asked : Asked) : Type 0 where
   pub asks : Asks s wanted only asked.named.items asked.told
-  pub first : asked.first ≡ first
+  pub first : asked.first ≡ stops
 
 -- the names that are needed, where some are
 abbrev pub needs : Wanted → Option (List ℕ)

@@ -18,22 +18,22 @@ needed-in told = []
 pub returns-in_ok-named-in-Lacking-clause-asked : goal.returns-in_ok-named-in-Lacking-clause-asked
 returns-in_ok-named-in-Lacking-clause-asked c =
     let s = script_of c.args.script.now in
-    let only = option_copied c.args.search.now.only in
+    let only = option_copied c.args.only in
     let needed = c.in_ok-needed-in-Lacking.needed in
     let marks = c.in_ok-named-in-Lacking.named.items in
-    let first : c.deref.result.now ≡ named_or_all s only = c.deref.ensures.value ∙ c.in_ok-only-in-Lacking.ensures.named.1 in
+    let first : c.deref.result.now ≡ named_or_all s only = c.deref.ensures.value ∙ c.in_ok-others-in-Lacking.ensures.named.1 in
     let named : marks ≡ either (named_or_all s only) needed.items = c.in_ok-named-in-Lacking.ensures ∙ (λ i. either (first i) (c.deref-in-Lacking.ensures.value i)) in
     record {
-      asks = subst (λ (wanted : Wanted). Asks s wanted only marks (Lacking needed)) (sym c.in-Lacking.is) (needed, refl, c.in_ok-needed-in-Lacking.ensures.named, c.in_ok-only-in-Lacking.ensures.named.0, named);
+      asks = subst (λ (wanted : Wanted). Asks s wanted only marks (Lacking needed)) (sym c.in-Lacking.is) (needed, refl, c.in_ok-needed-in-Lacking.ensures.named, c.in_ok-others-in-Lacking.ensures.named.0, named);
       first = refl;
     }
 
 pub returns-in_ok-named-in-Lacking-clause-marks : goal.returns-in_ok-named-in-Lacking-clause-marks
 returns-in_ok-named-in-Lacking-clause-marks c =
     let s = script_of c.args.script.now in
-    let only = option_copied c.args.search.now.only in
+    let only = option_copied c.args.only in
     let needed = c.in_ok-needed-in-Lacking.needed in
-    let first : c.deref.result.now ≡ named_or_all s only = c.deref.ensures.value ∙ c.in_ok-only-in-Lacking.ensures.named.1 in
+    let first : c.deref.result.now ≡ named_or_all s only = c.deref.ensures.value ∙ c.in_ok-others-in-Lacking.ensures.named.1 in
     let one = ap (λ (m : List Bool). length m) first ∙ each-column s only in
     let two = ap (λ (m : List Bool). length m) (c.deref-in-Lacking.ensures.value ∙ c.in_ok-needed-in-Lacking.ensures.named.1) ∙ each-named s c.in-Lacking.names.now in
     ap (λ (m : List Bool). length m) c.in_ok-named-in-Lacking.ensures ∙ each-either s c.deref.result.now c.deref-in-Lacking.result.now one two
@@ -42,8 +42,8 @@ pub returns-in_ok-named-in-Lacking-clause-needed :
     goal.returns-in_ok-named-in-Lacking-clause-needed
 returns-in_ok-named-in-Lacking-clause-needed c needed told t mark =
     let s = script_of c.args.script.now in
-    let only = option_copied c.args.search.now.only in
-    let first : c.deref.result.now ≡ named_or_all s only = c.deref.ensures.value ∙ c.in_ok-only-in-Lacking.ensures.named.1 in
+    let only = option_copied c.args.only in
+    let first : c.deref.result.now ≡ named_or_all s only = c.deref.ensures.value ∙ c.in_ok-others-in-Lacking.ensures.named.1 in
     let one = ap (λ (m : List Bool). length m) first ∙ each-column s only in
     let two = ap (λ (m : List Bool). length m) (c.deref-in-Lacking.ensures.value ∙ c.in_ok-needed-in-Lacking.ensures.named.1) ∙ each-named s c.in-Lacking.names.now in
     let same : needed.items ≡ c.deref-in-Lacking.result.now = sym (ap needed-in told) ∙ sym c.deref-in-Lacking.ensures.value in

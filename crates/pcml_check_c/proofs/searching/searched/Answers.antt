@@ -1,0 +1,31 @@
+use Rattle.std.proofs.Common.{◌∙◌, ℕ, List, Option, ap, false, refl, subst}
+use Rattle.std.specs.Option.{option_copied}
+use Rattle.script.specs.Scripts.{script_of}
+use Rattle.pcml_outcomes.specs.Told.{TellsOutcomes}
+use Rattle.pcml_outcomes.specs.declared.finding.Finding.{Finding}
+use Rattle.pcml_texts.specs.Searching.{IsAskedOf}
+use Rattle.pcml_check_c.specs.Names.{Wants}
+use Rattle.pcml_check_c.specs.Outcomes.{code_of_finding}
+use Rattle.pcml_check_c.proofs.searching.searched.Goals as goal
+
+pub returns-clause-told : goal.returns-clause-told
+returns-clause-told c =
+    let s = script_of c.in_ok-script.script in
+    let wanted = c.wanted_by.result in
+    let asked = c.in_ok-asked.asked in
+    let told : TellsOutcomes s c.args.rows c.args.limit asked _ c.in_ok-listed.listed = c.in_ok-listed.ensures in
+    record {
+      numbers = search;
+      s = s;
+      spells = c.in_ok-script.ensures.found;
+      wanted = wanted;
+      wants = subst (λ (names : Option (List ℕ)). Wants names wanted) c.in_ok-needed.ensures.names c.wanted_by.ensures;
+      asked = asked;
+      asks = subst (λ (names : Option (List ℕ)). IsAskedOf s wanted names false asked) c.in_ok-names.ensures.names c.in_ok-asked.ensures.asked;
+      needed = c.in_ok-asked.ensures.needed;
+      found = told.found;
+      are = told.are;
+      code = c.code_of_finding.ensures ∙ ap (λ (f : Finding). code_of_finding f) told.is.finding_is;
+      line = refl;
+      text = told.is.text;
+    }
