@@ -2,7 +2,6 @@
 use Rattle.std.specs.Prelude.{◌≡◌, ◌⊎◌, ◌||◌, ℕ, Bool, List, Option, None, Some, map}
 use Rattle.std.specs.List.{zip}
 use Rattle.std.specs.Global.{Vec}
-use Rattle.std.specs.Option.{option_copied}
 use Rattle.script.specs.Sources.{Script}
 use Rattle.outcomes.specs.declared.asked.Asked.{Asked}
 use Rattle.outcomes.specs.declared.asked.Told.{Told}
@@ -10,7 +9,6 @@ use Rattle.outcomes.specs.declared.asked.Told.TheVariants as told
 use Rattle.pcml_need.specs.Needs.{MisnamesAny, Names, NamesOrAll, named_or_all, unnamed_of}
 use Rattle.pcml_need.specs.declared.NamesFault.{NamesFault}
 use Rattle.pcml_need.specs.declared.NamesFault.TheVariants as names
-use Rattle.pcml_request.specs.declared.request.Search.{Search}
 use Rattle.pcml_request.specs.declared.request.Wanted.{Wanted}
 use Rattle.pcml_request.specs.declared.request.Wanted.TheVariants.{Each, Lacking, Waiting}
 

@@ -1,4 +1,4 @@
-use Rattle.std.proofs.Common.{◌≡◌, ℕ, List, Bool, ap, length, subst, sym, ◌∙◌}
+use Rattle.std.proofs.Common.{◌≡◌, List, Bool, ap, length, subst, ◌∙◌}
 use Rattle.std.specs.Option.{option_copied}
 use Rattle.script.specs.Scripts.{script_of}
 use Rattle.protocol_values.specs.declared.Commit.{Commit}

@@ -28,11 +28,13 @@ pub returns-clause-judged : goal.returns-clause-judged
 returns-clause-judged c =
     let s = script_of c.args.script.now in
     let broken : Breaks s c.args.rows c.args.journal.now c.in-NoRun.commits.items c.in-NoRun.index (string_bytes c.in-NoRun.text) =
-    subst (λ (r : Reached). Reaches s c.args.rows c.args.journal.now r) c.in-NoRun.is c.in_ok-commits.ensures.reached in
-    (record {
+    subst (λ (r : Reached). Reaches s c.args.rows c.args.journal.now r) c.in-NoRun.is c.in_ok-commits.ensures.reached in (
+      record {
         commits = c.in-NoRun.commits.items;
         spells = broken.spells;
         index = c.in-NoRun.index;
         breaks = broken.breaks;
         is = (λ i. (c.into_bytes.ensures.value i).items) ∙ broken.is;
-      }, refl)
+      },
+      refl,
+    )
