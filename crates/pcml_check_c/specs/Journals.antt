@@ -1,5 +1,5 @@
 -- What is told of a journal.
-use Rattle.std.specs.Prelude.{◌≡◌, ◌≤◌, ◌+◌, ℕ, true, false, List, [], Option}
+use Rattle.std.specs.Prelude.{◌≡◌, ◌≤◌, ◌+◌, ℕ, true, false, List, []}
 use Rattle.std.specs.Str.{IsUtf8}
 use Rattle.script.specs.FirstFaults.{Tells}
 use Rattle.script.specs.Sources.{Script}

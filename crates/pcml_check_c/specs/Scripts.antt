@@ -1,5 +1,5 @@
 -- What is told of a text that is to be a script.
-use Rattle.std.specs.Prelude.{◌≡◌, ℕ, List, Option, None, Some, codes}
+use Rattle.std.specs.Prelude.{◌≡◌, ℕ, List, None, Some, codes}
 use Rattle.script.specs.FirstFaults.{Tells}
 use Rattle.pcml_texts.specs.Check.{IsChecked}
 use Rattle.pcml_why_script.specs.Telling.{TellsWhyNot}

@@ -1,5 +1,4 @@
 use Rattle.std.proofs.Common.{◌∙◌, ℕ, List, Option, ap, false, refl, subst}
-use Rattle.std.specs.Option.{option_copied}
 use Rattle.script.specs.Scripts.{script_of}
 use Rattle.pcml_outcomes.specs.Told.{TellsOutcomes}
 use Rattle.pcml_outcomes.specs.declared.finding.Finding.{Finding}
