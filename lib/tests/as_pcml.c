@@ -2,6 +2,7 @@
    library takes. Other words are left, with status 99. Streams and status are those of the program. */
 #include "pcml_check.h"
 
+#include <errno.h>
 #include <stdio.h>
 #include <stdlib.h>
 #include <string.h>
@@ -12,13 +13,18 @@ static int named;
 static uint32_t rows = 256, seasons = 1, limit = 1048576, from = 1, to = UINT32_MAX, form = PCML_SVG;
 static const char *need = "", *only = "";
 
+static int tell_memory(void) { return fprintf(stderr, "fault 1\n"), 1; }
+
 static int read_file(const char *name) {
     FILE *file = fopen(name, "rb");
+    if (file == NULL && errno == ENOMEM) return exit(tell_memory()), 0;
     if (named == 2 || file == NULL) return 0;
     char *bytes = NULL;
     size_t len = 0, got;
     do {
-        bytes = realloc(bytes, len + 65536);
+        char *more = realloc(bytes, len + 65536);
+        if (more == NULL) return exit(tell_memory()), 0;
+        bytes = more;
         got = fread(bytes + len, 1, 65536, file);
         len += got;
     } while (got != 0);
@@ -56,10 +62,18 @@ static pcml_answer ask(const char *command, char *text, size_t room) {
 /* What the program tells on its error stream of a refusal; the status. */
 static int refuse(pcml_answer a, const char *text) {
     if (a.code == PCML_NO_PROCESS) return fprintf(stderr, "error: no process is named '%s'\n", text), 2;
-    if (a.code == PCML_OUT_OF_MEMORY) return fprintf(stderr, "fault 1\n"), 1;
     if (a.code != PCML_BAD_SCRIPT && a.code != PCML_BAD_JOURNAL) return 99;
     if (a.line == 0) return fprintf(stderr, "fault %u\n", a.fault), 1;
     return fprintf(stderr, "fault %u line %zu\n", a.fault, a.line), 1;
+}
+
+/* Prints the answer as the program does; the status. */
+static int answer(const char *command, pcml_answer a, const char *text) {
+    if (a.code >= PCML_OUT_OF_MEMORY) return refuse(a, text);
+    if (a.code == PCML_UNLAWFUL && !strcmp(command, "chart")) return fprintf(stderr, "unlawful at line %zu\n", a.line), 1;
+    fwrite(text, 1, a.text_len, stdout);
+    if (a.code == PCML_STUCK) return 3;
+    return a.code != PCML_DONE && !(a.code == PCML_OPEN && !strcmp(command, "replay"));
 }
 
 int main(int count, char **words) {
@@ -70,12 +84,14 @@ int main(int count, char **words) {
     if (wanted == 0 || !read_words(count - 2, words + 2) || named != wanted) return 99;
     char first[256];
     pcml_answer a = ask(words[1], first, sizeof first);
+    if (a.code == PCML_OUT_OF_MEMORY) return tell_memory();
     char *text = malloc(a.text_len + 1);
+    if (text == NULL) return tell_memory();
     pcml_answer again = ask(words[1], text, a.text_len + 1);
-    if (text == NULL || again.code == PCML_OUT_OF_MEMORY) a.code = PCML_OUT_OF_MEMORY;
-    else if (memcmp(&a, &again, sizeof a)) return 98;
-    if (a.code >= PCML_OUT_OF_MEMORY) return refuse(a, text);
-    if (a.code == PCML_UNLAWFUL && !strcmp(words[1], "chart")) return fprintf(stderr, "unlawful at line %zu\n", a.line), 1;
-    fwrite(text, 1, a.text_len, stdout);
-    return a.code == PCML_STUCK ? 3 : a.code != PCML_DONE && !(a.code == PCML_OPEN && !strcmp(words[1], "replay"));
+    if (again.code == PCML_OUT_OF_MEMORY) return tell_memory();
+    if (memcmp(&a, &again, sizeof a)) return 98;
+    int status = answer(words[1], a, text);
+    free(text);
+    for (int i = 0; i < named; i++) free(files[i]);
+    return status;
 }
