@@ -10,7 +10,8 @@
  * 3. No call is made from a signal handler, or in the child of a fork of a process with threads.
  *
  * Otherwise each argument is free: what is wrong with it is answered by a code. A call keeps nothing, starts no thread
- * and waits for nobody, so any number of threads may call at once. It gives back all memory that it took.
+ * and waits for nobody, so any number of threads may call at once. It gives back all memory that it took. A script as
+ * deep as it may be takes up to 256 kB of the caller's stack.
  *
  * The texts are those of the program `pcml`, byte for byte. One is written as snprintf does it: as much as fits before
  * a NUL goes into text[0] to text[room - 1], the rest of the buffer stays as it is, and `text_len` tells the length of
