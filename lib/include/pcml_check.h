@@ -5,13 +5,13 @@
  *
  * 1. No pointer is NULL, also where its length is 0 (pass ""), each describes as many bytes as its length says, and
  *    `text` overlaps nothing else that is passed; while a call runs, nobody writes what it reads or touches `text`.
- * 2. malloc, realloc and free are of one allocator, and align each block to 16 bytes, or to the power of two below
- *    that divides its size.
- * 3. No call is made from a signal handler, or in the child of a fork of a process with threads.
+ * 2. malloc, realloc and free are of one allocator, and a block is aligned to each power of two up to 16 that divides
+ *    its size, as those of the C library are.
+ * 3. No call is made from a signal handler, in the child of a fork of a process with threads, or with less than 512 kB
+ *    of stack left (a script as deep as it may be takes 256 kB).
  *
  * Otherwise each argument is free: what is wrong with it is answered by a code. A call keeps nothing, starts no thread
- * and waits for nobody, so any number of threads may call at once. It gives back all memory that it took. A script as
- * deep as it may be takes up to 256 kB of the caller's stack.
+ * and waits for nobody, so any number of threads may call at once. It gives back all memory that it took.
  *
  * The texts are those of the program `pcml`, byte for byte. One is written as snprintf does it: as much as fits before
  * a NUL goes into text[0] to text[room - 1], the rest of the buffer stays as it is, and `text_len` tells the length of

@@ -55,7 +55,10 @@ impl fmt::Display for Refusal {
     fn fmt(&self, f: &mut fmt::Formatter<'_>) -> fmt::Result {
         match self {
             Refusal::OutOfMemory => write!(f, "out of memory"),
-            Refusal::BadScript { fault, line: Some(line) } => write!(f, "fault {fault} line {line} of the script"),
+            Refusal::BadScript {
+                fault,
+                line: Some(line),
+            } => write!(f, "fault {fault} line {line} of the script"),
             Refusal::BadScript { fault, line: None } => write!(f, "fault {fault} of the script"),
             Refusal::BadJournal { line } => write!(f, "line {line} of the journal is of no form"),
             Refusal::BadRows => write!(f, "the number of rows is out of range"),
@@ -105,7 +108,12 @@ pub struct Search<'a> {
 
 impl Default for Search<'_> {
     fn default() -> Self {
-        Search { rows: 256, limit: 1_048_576, need: "", only: "" }
+        Search {
+            rows: 256,
+            limit: 1_048_576,
+            need: "",
+            only: "",
+        }
     }
 }
 
@@ -138,6 +146,18 @@ pub enum Form {
     Mermaid,
 }
 
+/// What comes of drawing a journal.
+#[derive(Clone, Debug, PartialEq, Eq)]
+pub enum Chart {
+    /// What `pcml chart` prints.
+    Drawn(String),
+    /// The journal is no run, and there is nothing to draw.
+    Unlawful {
+        /// The first line, from 1, with which it is none.
+        line: usize,
+    },
+}
+
 /// Whether the library that is linked is of this crate's version.
 pub fn is_same_version() -> bool {
     raw::version() == 10_100
@@ -168,8 +188,13 @@ pub fn why_no_script(text: impl AsRef<[u8]>) -> Result<Option<String>, Refusal> 
 ///
 /// # Errors
 /// [`Refusal::BadRows`], [`Refusal::BadScript`], [`Refusal::BadJournal`], [`Refusal::OutOfMemory`].
-pub fn check_journal(script: impl AsRef<[u8]>, journal: impl AsRef<[u8]>, rows: u32) -> Result<Judged, Refusal> {
-    let (answer, text) = whole(|text| raw::check_journal(script.as_ref(), journal.as_ref(), rows, text));
+pub fn check_journal(
+    script: impl AsRef<[u8]>,
+    journal: impl AsRef<[u8]>,
+    rows: u32,
+) -> Result<Judged, Refusal> {
+    let (answer, text) =
+        whole(|text| raw::check_journal(script.as_ref(), journal.as_ref(), rows, text));
     if let Some(refusal) = refused(&answer, &text) {
         return Err(refusal);
     }
@@ -188,7 +213,8 @@ pub fn check_journal(script: impl AsRef<[u8]>, journal: impl AsRef<[u8]>, rows: 
 /// [`Refusal::OutOfMemory`].
 pub fn outcomes(script: impl AsRef<[u8]>, asked: &Search<'_>) -> Result<Outcomes, Refusal> {
     let (need, only) = (asked.need.as_bytes(), asked.only.as_bytes());
-    let (answer, text) = whole(|text| raw::outcomes(script.as_ref(), asked.rows, asked.limit, need, only, text));
+    let (answer, text) =
+        whole(|text| raw::outcomes(script.as_ref(), asked.rows, asked.limit, need, only, text));
     if let Some(refusal) = refused(&answer, &text) {
         return Err(refusal);
     }
@@ -200,8 +226,8 @@ pub fn outcomes(script: impl AsRef<[u8]>, asked: &Search<'_>) -> Result<Outcomes
     Ok(Outcomes { finding, text })
 }
 
-/// Draws the journal's commits with a stamp in the range; of a journal that is no run the first such line, from 1.
-/// Where `only` is not empty, only its processes have columns of their own.
+/// Draws the journal's commits with a stamp in the range. Where `only` is not empty, only its processes have columns of
+/// their own.
 ///
 /// # Errors
 /// [`Refusal::BadRows`], [`Refusal::BadScript`], [`Refusal::BadJournal`], [`Refusal::NoProcess`],
@@ -213,13 +239,15 @@ pub fn chart(
     only: &str,
     stamps: std::ops::RangeInclusive<u32>,
     form: Form,
-) -> Result<Result<String, usize>, Refusal> {
+) -> Result<Chart, Refusal> {
     let (from, to, form) = (*stamps.start(), *stamps.end(), form as u32);
     let (script, journal, only) = (script.as_ref(), journal.as_ref(), only.as_bytes());
-    let (answer, text) = whole(|text| raw::chart(script, journal, rows, only, from, to, form, text));
+    let (answer, text) =
+        whole(|text| raw::chart(script, journal, rows, only, from, to, form, text));
     match refused(&answer, &text) {
         Some(refusal) => Err(refusal),
-        None => Ok(if answer.code == DONE { Ok(text) } else { Err(answer.line) }),
+        None if answer.code == DONE => Ok(Chart::Drawn(text)),
+        None => Ok(Chart::Unlawful { line: answer.line }),
     }
 }
 
@@ -243,7 +271,10 @@ fn whole(call: impl Fn(&mut [u8]) -> Answer) -> (Answer, String) {
 fn refused(answer: &Answer, text: &str) -> Option<Refusal> {
     Some(match answer.code {
         0..=15 => return None,
-        17 => Refusal::BadScript { fault: answer.fault, line: (answer.line != 0).then_some(answer.line) },
+        17 => Refusal::BadScript {
+            fault: answer.fault,
+            line: (answer.line != 0).then_some(answer.line),
+        },
         18 => Refusal::BadJournal { line: answer.line },
         19 => Refusal::BadRows,
         20 => Refusal::BadLimit,

@@ -13,8 +13,18 @@ mod c {
     use super::Answer;
     extern "C" {
         pub(super) fn pcml_check_version() -> u32;
-        pub(super) fn pcml_check(script: *const u8, script_len: usize, text: *mut u8, room: usize) -> Answer;
-        pub(super) fn pcml_why_script(script: *const u8, script_len: usize, text: *mut u8, room: usize) -> Answer;
+        pub(super) fn pcml_check(
+            script: *const u8,
+            script_len: usize,
+            text: *mut u8,
+            room: usize,
+        ) -> Answer;
+        pub(super) fn pcml_why_script(
+            script: *const u8,
+            script_len: usize,
+            text: *mut u8,
+            room: usize,
+        ) -> Answer;
         pub(super) fn pcml_check_journal(
             script: *const u8,
             script_len: usize,
@@ -71,10 +81,27 @@ pub(crate) fn why_script(script: &[u8], text: &mut [u8]) -> Answer {
 
 pub(crate) fn check_journal(script: &[u8], journal: &[u8], rows: u32, text: &mut [u8]) -> Answer {
     let (s, j) = (script, journal);
-    unsafe { c::pcml_check_journal(s.as_ptr(), s.len(), j.as_ptr(), j.len(), rows, text.as_mut_ptr(), text.len()) }
+    unsafe {
+        c::pcml_check_journal(
+            s.as_ptr(),
+            s.len(),
+            j.as_ptr(),
+            j.len(),
+            rows,
+            text.as_mut_ptr(),
+            text.len(),
+        )
+    }
 }
 
-pub(crate) fn outcomes(script: &[u8], rows: u32, limit: u32, need: &[u8], only: &[u8], text: &mut [u8]) -> Answer {
+pub(crate) fn outcomes(
+    script: &[u8],
+    rows: u32,
+    limit: u32,
+    need: &[u8],
+    only: &[u8],
+    text: &mut [u8],
+) -> Answer {
     let (s, n, o) = (script, need, only);
     unsafe {
         c::pcml_outcomes(
