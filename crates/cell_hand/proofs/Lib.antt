@@ -1,0 +1,4 @@
+pub mod Crossing
+pub mod Looking
+pub mod Sharing
+pub mod Waking

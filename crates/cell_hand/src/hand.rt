@@ -1,0 +1,166 @@
+//! A hand, and the tests that its calls make.
+
+ghost use Rattle.std.specs.Prelude.{◌≡◌, ◌≢◌, ◌⊎◌, ◌<◌, ◌≤◌, ℕ, All, IfErr, IfOk, IsTrue, ◌↔◌, Some, length, slice_get};
+ghost use Rattle.protocol_values.specs.declared.Joined.{Joined};
+ghost use Rattle.protocol_values.specs.declared.Row.{Row};
+ghost use Rattle.protocol.specs.Ledgers.{IsLawful, joined_in};
+ghost use Rattle.cell.specs.Calls.{HoldsAt, IsPassOf, IsRowOf, PassView};
+ghost use Rattle.meet_directory.specs.Seats.{Sits};
+ghost use Rattle.cell_table.specs.Sight.{Has};
+ghost use Rattle.cell_table.specs.Rule.{dealt_rows, seen_nothing};
+ghost use Rattle.cell_hand.specs.Hands.{CanAttempt, CanDraft, HandOf, Looked, NotFresh, NotHere, NotOpened};
+ghost use Rattle.cell_hand.specs.Calls.{AreHands, IsDealt};
+ghost use Rattle.cell_hand.specs.declared.refusal.Refusal.TheVariants.{Memory, NoRow, NotHeld, Range};
+
+use crate::refusal::Refusal;
+use cell::{Bare, Cells, Pass};
+use meet_directory::{Directory, DirectoryPass};
+use protocol::Ledger;
+use protocol_values::{Cell, Course, Row};
+use std::alloc::Global;
+use std::marker::Model;
+use std::sync::Arc;
+
+/// Two lanes for each channel.
+const LANES: u32 = 512;
+
+/// What the hands of one table share.
+#[derive(Drop)]
+pub(crate) struct Table {
+    pub(crate) cells: Cells<Bare>,
+    pub(crate) directory: Directory,
+}
+
+/// A pass, its place at the directory, and its share of the table.
+#[derive(Drop)]
+pub struct Hand {
+    pub(crate) table: Arc<Table>,
+    pub(crate) pass: Pass<Bare>,
+    pub(crate) scan: DirectoryPass,
+}
+
+impl Model for Hand {
+    ghost use Rattle.cell_hand.specs.Hands.{HandOf, IsHand};
+
+    ghost Value = { HandOf };
+
+    ghost view = { λ h. record { table = h.table.value.cells; pass = h.pass; board = h.table.value.directory; scan = h.scan } };
+
+    ghost invariant = { λ h. IsHand (record { table = h.table.value.cells; pass = h.pass; board = h.table.value.directory; scan = h.scan }) };
+}
+
+impl Hand {
+    /// A table of so many threads and rows, and a hand for each of its passes: 1 to 64 threads, 1 to 1024 rows, 1 to 16
+    /// passes. Row 0 of thread t is held by hand `t mod passes`.
+    pub fn deal(alloc: Global, threads: u8, rows: u16, passes: u8) -> Result<Vec<Hand>, Refusal>
+        ensures count { IfOk result (λ hands. length hands.items ≡ passes) }
+        ensures dealt { IfOk result (λ hands. (number : ℕ) (h : HandOf) → slice_get hands.items number ≡ Some h → IsDealt threads rows passes number h) }
+        ensures refused { IfErr result (λ e. (e ≡ Memory) ⊎ (e ≡ Range)) }
+    {
+        if threads < 1 || threads > 64 || rows < 1 || rows > 1024 || passes < 1 || passes > 16 {
+            return Err(Refusal::Range);
+        }
+        let Ok((cells, passes)) = Cells::new(alloc, threads, rows, passes) else {
+            return Err(Refusal::Memory);
+        };
+        let Ok((directory, scan)) = Directory::new(alloc, LANES) else {
+            return Err(Refusal::Memory);
+        };
+        let Ok(table) = Arc::new(alloc, Table { cells, directory }) else {
+            return Err(Refusal::Memory);
+        };
+        Hand::share(alloc, &table, passes, scan)
+    }
+
+    /// A hand for each of the passes.
+    fn share(
+        alloc: Global,
+        table: &Arc<Table>,
+        passes: Vec<Pass<Bare>>,
+        scan: DirectoryPass,
+    ) -> Result<Vec<Hand>, Refusal>
+        requires here { All (λ p. IsPassOf table.now.value.cells p) passes.items }
+        requires sits { Sits table.now.value.directory scan × (512 ≤ table.now.value.directory.lanes) }
+        ensures hands { IfOk result (λ hands. AreHands table.now.value.cells passes.items hands.items) }
+        ensures refused { IfErr result (λ e. e ≡ Memory) }
+    {
+        let mut scan = scan;
+        let mut hands = Vec::new(alloc);
+        for pass in passes {
+            let hand = Hand::of(table, &mut scan, pass)?;
+            let Ok(()) = hands.push(hand) else {
+                return Err(Refusal::Memory);
+            };
+        }
+        Ok(hands)
+    }
+
+    fn of(table: &Arc<Table>, scan: &mut DirectoryPass, pass: Pass<Bare>) -> Result<Hand, Refusal>
+        requires here { IsPassOf table.now.value.cells pass }
+        requires sits { Sits table.now.value.directory scan.old × (512 ≤ table.now.value.directory.lanes) }
+        ensures hand { IfOk result (λ h. (h.table ≡ table.now.value.cells) × (h.pass ≡ pass)) }
+        ensures sits { Sits table.now.value.directory scan.new }
+        ensures refused { IfErr result (λ e. e ≡ Memory) }
+    {
+        let Ok(table) = Arc::try_clone(table) else {
+            return Err(Refusal::Memory);
+        };
+        let place = table.directory.another(scan);
+        Ok(Hand {
+            table,
+            pass,
+            scan: place,
+        })
+    }
+
+    /// Whether the pass holds the row, or, where the row's number is that of the table's rows, stands behind the last row
+    /// of the thread.
+    pub fn holds(&self, row: Row) -> bool
+        ensures { IsTrue result ↔ HoldsAt self.now.pass row }
+    {
+        self.pass.holds(row)
+    }
+
+    /// Tests that the table has the row and the pass holds it.
+    fn test_held(&self, row: Row) -> Result<(), Refusal>
+        ensures held { IfOk result (λ _. IsRowOf self.now.table row × Has self.now.pass.seen.held row) }
+        ensures refused { IfErr result (NotHere self.now row) }
+    {
+        if !self.table.cells.has(row) {
+            return Err(Refusal::NoRow);
+        }
+        if !self.pass.holds(row) {
+            return Err(Refusal::NotHeld);
+        }
+        Ok(())
+    }
+
+    /// Tests that the row can be drafted, bound and opened.
+    pub(crate) fn test_fresh(&mut self, row: Row) -> Result<(), Refusal>
+        ensures looked { Looked self.old self.new }
+        ensures fresh { IfOk result (λ _. CanDraft self.new row × CanDraft self.old row) }
+        ensures refused { IfErr result (NotFresh self.old self.new row) }
+    {
+        self.test_held(row)?;
+        let Cell::Fresh = self.table.cells.look(&mut self.pass, row) else {
+            return Err(Refusal::Opened);
+        };
+        if let Course::Ended(..) = self.table.cells.course(&mut self.pass, row.thread) {
+            return Err(Refusal::Ended);
+        }
+        Ok(())
+    }
+
+    /// Tests that the row can be met.
+    pub(crate) fn test_opened(&mut self, row: Row) -> Result<(), Refusal>
+        ensures looked { Looked self.old self.new }
+        ensures opened { IfOk result (λ _. CanAttempt self.new row) }
+        ensures refused { IfErr result (NotOpened self.old row) }
+    {
+        self.test_held(row)?;
+        match self.table.cells.look(&mut self.pass, row) {
+            Cell::Fresh => Err(Refusal::Fresh),
+            Cell::Waiting | Cell::Claimed | Cell::Synched(_) | Cell::Taken(_) => Ok(()),
+        }
+    }
+}
