@@ -12,6 +12,7 @@ use Rattle.protocol_values.specs.declared.Row.{Row}
 use Rattle.protocol_values.specs.declared.Step.{Step}
 use Rattle.protocol_values.specs.declared.Step.TheVariants.{Bind, Finish, Open, Take}
 use Rattle.protocol.specs.Ledgers.{IsLawful, Ledger, joined_in, offer_in}
+use Rattle.protocol.specs.Openings.{start_opening}
 use Rattle.protocol.specs.Worlds.{first_row, nack_of_row}
 use Rattle.cell.specs.Attempts.{Attempted, Fits, Granted, OnlyDrafts, Took, attempt_made, grant_made, start_made}
 use Rattle.cell.specs.declared.attempt.Attempt.{Attempt}
@@ -19,7 +20,7 @@ use Rattle.cell.specs.declared.granting.Grant.{Grant}
 use Rattle.cell.specs.Calls.{Grid, IsRowOf, PassView}
 use Rattle.cell_table.specs.Nacks.{CanStandAlone, IsSeenBound}
 use Rattle.cell_table.specs.declared.view.Seen.{Seen}
-use Rattle.cell_table.specs.Rule.{dealt_rows, seen_nothing}
+use Rattle.cell_table.specs.Rule.{dealt_from, seen_nothing}
 use Rattle.cell_table.specs.Sight.{Has, IsBefore, IsDraft, IsKnownOpen, IsResult, LackOffer, Redrafts, SawCommitted, SeesOffer, see_cell, see_course}
 use Rattle.meet_scan.specs.Leaving.{IsHeldUp, IsLeftRow, KnowsMore}
 use Rattle.meet_scan.specs.Searches.{Finds, Grows, IsAlone}
@@ -30,11 +31,11 @@ use Rattle.cell_hand.specs.Hands.{CanAttempt, CanDraft, HandOf, Looked, Made, No
 use Rattle.cell_hand.specs.declared.refusal.Refusal.{Refusal}
 use Rattle.cell_hand.specs.declared.refusal.Refusal.TheVariants.{Memory, NoRow, NotHeld, Range}
 
--- a hand of a new table: pass `number` of so many
-abbrev pub IsDealt : ℕ → ℕ → ℕ → ℕ → HandOf → Type 0
-IsDealt threads rows passes number h =
+-- a hand of a new table, where the threads of this mask wait to be started: pass `number` of so many
+abbrev pub IsDealt : ℕ → ℕ → ℕ → ℕ → ℕ → HandOf → Type 0
+IsDealt threads rows later passes number h =
     (h.table.threads ≡ threads) × (h.table.rows ≡ rows) × (h.table.passes ≡ passes)
-    × (h.pass.seen ≡ seen_nothing (dealt_rows threads passes number)) × (h.pass.made ≡ [])
+    × (h.pass.seen ≡ seen_nothing (dealt_from (start_opening threads later) threads passes number)) × (h.pass.made ≡ [])
 
 -- a hand for each of these passes, in their order
 abbrev pub AreHands : Grid → List PassView → List HandOf → Type 0

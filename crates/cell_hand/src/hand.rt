@@ -7,7 +7,6 @@ ghost use Rattle.protocol.specs.Ledgers.{IsLawful, joined_in};
 ghost use Rattle.cell.specs.Calls.{HoldsAt, IsPassOf, IsRowOf, PassView};
 ghost use Rattle.meet_directory.specs.Seats.{Sits};
 ghost use Rattle.cell_table.specs.Sight.{Has};
-ghost use Rattle.cell_table.specs.Rule.{dealt_rows, seen_nothing};
 ghost use Rattle.cell_hand.specs.Hands.{CanAttempt, CanDraft, HandOf, Looked, NotFresh, NotHere, NotOpened};
 ghost use Rattle.cell_hand.specs.Calls.{AreHands, IsDealt};
 ghost use Rattle.cell_hand.specs.declared.refusal.Refusal.TheVariants.{Memory, NoRow, NotHeld, Range};
@@ -51,16 +50,22 @@ impl Model for Hand {
 
 impl Hand {
     /// A table of so many threads and rows, and a hand for each of its passes: 1 to 64 threads, 1 to 1024 rows, 1 to 16
-    /// passes. Row 0 of thread t is held by hand `t mod passes`.
-    pub fn deal(alloc: Global, threads: u8, rows: u16, passes: u8) -> Result<Vec<Hand>, Refusal>
+    /// passes. Row 0 of thread t is held by hand `t mod passes`, unless t is in the mask `later`: then it waits to be started.
+    pub fn deal(
+        alloc: Global,
+        threads: u8,
+        rows: u16,
+        later: u64,
+        passes: u8,
+    ) -> Result<Vec<Hand>, Refusal>
         ensures count { IfOk result (λ hands. length hands.items ≡ passes) }
-        ensures dealt { IfOk result (λ hands. (number : ℕ) (h : HandOf) → slice_get hands.items number ≡ Some h → IsDealt threads rows passes number h) }
+        ensures dealt { IfOk result (λ hands. (number : ℕ) (h : HandOf) → slice_get hands.items number ≡ Some h → IsDealt threads rows later passes number h) }
         ensures refused { IfErr result (λ e. (e ≡ Memory) ⊎ (e ≡ Range)) }
     {
         if threads < 1 || threads > 64 || rows < 1 || rows > 1024 || passes < 1 || passes > 16 {
             return Err(Refusal::Range);
         }
-        let Ok((cells, passes)) = Cells::new(alloc, threads, rows, passes) else {
+        let Ok((cells, passes)) = Cells::new_later(alloc, threads, rows, passes, later) else {
             return Err(Refusal::Memory);
         };
         let Ok((directory, scan)) = Directory::new(alloc, LANES) else {

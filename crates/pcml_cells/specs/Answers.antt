@@ -1,5 +1,5 @@
 -- What a call of C answers: the number of what its hand came to.
-use Rattle.std.specs.Prelude.{IfSome, ⊤, ◌≡◌, ◌⊎◌, ℕ, ◌<◌, Bool, true, false, Option, Some, None, Result, Ok, Err, List, length, slice_get}
+use Rattle.std.specs.Prelude.{IfSome, IsPermutation, ⊤, ◌≡◌, ◌⊎◌, ℕ, ◌<◌, Bool, true, false, Option, Some, None, Result, Ok, Err, List, length, slice_get}
 use Rattle.protocol_values.specs.declared.Cell.{Cell}
 use Rattle.protocol_values.specs.declared.Cell.TheVariants as cell
 use Rattle.protocol_values.specs.declared.Course.{Course}
@@ -23,9 +23,11 @@ use Rattle.protocol_values.specs.declared.Offer.{Offer}
 use Rattle.protocol_values.specs.declared.Row.{Row}
 use Rattle.protocol.specs.Ledgers.{IsLawful, joined_in}
 use Rattle.protocol.specs.Ledgers as ledgers
+use Rattle.protocol_values.specs.Commits.{IsInOrder}
 use Rattle.cell.specs.Calls.{HoldsAt}
 use Rattle.cell_table.specs.Sight.{Has}
-use Rattle.cell_hand.specs.Calls.{Answers, Attempts, Begins, Binds, Bounds, Courses, Drafts, Looks, Reads, Results, Searches}
+use Rattle.cell_hand.specs.Calls.{Answers, Begins, Binds, Bounds, Drafts, IsDealt, Looks, Reads, Results, Searches}
+use Rattle.hand_kept.specs.declared.handle.Handle.{Handle}
 use Rattle.plain_values.specs.declared.commits.PlainCommit.{PlainCommit}
 use Rattle.cell_hand.specs.Hands.{HandOf}
 use Rattle.cell_hand.specs.declared.refusal.Refusal.{Refusal}
@@ -98,12 +100,16 @@ found_number (Some Already) = 2
 found_number (Some Left) = 3
 found_number None = 4
 
--- WHAT A CALL DOES. A pass that is empty, or whose table has ended, stays as it is. Else its hand goes from h to k.
+-- WHAT A CALL DOES. What a pass keeps of a table that has ended stays as it is. Else its hand goes from h to k.
+abbrev pub Does : Kept → Kept → ℕ → (HandOf → HandOf → Type 0) → Type 0
+Does Nothing after answer By = (after ≡ Nothing) × (answer ≡ EMPTY)
+Does (Ledger l) after answer By = (after ≡ Ledger l) × (answer ≡ CLOSED)
+Does (Hand h) after answer By = (k : HandOf) × (after ≡ Hand k) × By h k
+
+-- and an empty pass stays empty
 abbrev pub Told : InHandle → InHandle → ℕ → (HandOf → HandOf → Type 0) → Type 0
-Told None after answer Does = (after ≡ None) × (answer ≡ EMPTY)
-Told (Some Nothing) after answer Does = (after ≡ Some Nothing) × (answer ≡ EMPTY)
-Told (Some (Ledger l)) after answer Does = (after ≡ Some (Ledger l)) × (answer ≡ CLOSED)
-Told (Some (Hand h)) after answer Does = (k : HandOf) × (after ≡ Some (Hand k)) × Does h k
+Told None after answer By = (after ≡ None) × (answer ≡ EMPTY)
+Told (Some before) after answer By = (kept : Kept) × (after ≡ Some kept) × Does before kept answer By
 
 -- it came to something, and that is what the number says
 abbrev pub Numbered : {A : Type 0} → (A → ℕ) → (Result A Refusal → Type 0) → ℕ → Type 0
@@ -113,8 +119,14 @@ Numbered {A} number Came answer = (e : Result A Refusal) × Came e × (answer �
 abbrev pub OutOfRange : HandOf → HandOf → ℕ → Type 0
 OutOfRange h k answer = (k ≡ h) × (answer ≡ 18)
 
+abbrev pub HoldsIn : Kept → Row → Type 0
+HoldsIn Nothing r = ⊥
+HoldsIn (Ledger l) r = ⊥
+HoldsIn (Hand h) r = HoldsAt h.pass r
+
 abbrev pub Holds : InHandle → Row → Type 0
-Holds kept r = (h : HandOf) × (kept ≡ Some (Hand h)) × HoldsAt h.pass r
+Holds None r = ⊥
+Holds (Some kept) r = HoldsIn kept r
 
 -- the offers are those that the structs stand for
 abbrev pub Drafted : HandOf → HandOf → Row → List PlainOffer → ℕ → Type 0
@@ -174,14 +186,14 @@ Searched h k r met answer = (e : Result (Option Found) Refusal) × Searches h k 
 abbrev pub Began : HandOf → HandOf → Row → List PlainOffer → PlainRow → ℕ → Type 0
 Began h k r plain met answer =
     ((offers : List Offer) × AreListed plain offers × (length offers ≡ length plain)
-        × (e : Result (Option Found) Refusal) × Begins h k r offers e × (answer ≡ number_of found_number e) × TellsMet met e)
+    × (e : Result (Option Found) Refusal) × Begins h k r offers e × (answer ≡ number_of found_number e) × TellsMet met e)
     ⊎ (OutOfRange h k answer × ((8 < length plain) ⊎ NotAll plain))
 
 -- What closing does: the pass keeps a lawful ledger, with all that it had seen, or others are left, and it stays as it is.
 abbrev pub Ends : HandOf → InHandle → ℕ → Type 0
 Ends h after answer =
     ((l : ledgers.Ledger) × (after ≡ Some (Ledger l)) × (answer ≡ 0) × IsLawful l × (l.threads ≡ h.table.threads) × (l.rows ≡ h.table.rows)
-        × ((r : Row) (j : Joined) → Has h.pass.seen.joined (r, j) → joined_in l r ≡ Some j))
+    × ((r : Row) (j : Joined) → Has h.pass.seen.joined (r, j) → joined_in l r ≡ Some j))
     ⊎ ((after ≡ Some (Hand h)) × (answer ≡ 24))
 
 abbrev pub Closed : InHandle → InHandle → ℕ → Type 0
@@ -189,3 +201,26 @@ Closed None after answer = (after ≡ None) × (answer ≡ EMPTY)
 Closed (Some Nothing) after answer = (after ≡ Some Nothing) × (answer ≡ EMPTY)
 Closed (Some (Ledger l)) after answer = (after ≡ Some (Ledger l)) × (answer ≡ CLOSED)
 Closed (Some (Hand h)) after answer = Ends h after answer
+
+-- the handles keep the hands of one new table, in their order
+abbrev pub AreDealt : ℕ → ℕ → ℕ → List Handle → Type 0
+AreDealt threads rows later handles =
+    (n : ℕ) (place : Handle) → slice_get handles n ≡ Some place → (h : HandOf) × (place.kept ≡ Some (Hand h)) × IsDealt threads rows later (length handles) n h
+
+-- as many of the commits as there is room for
+abbrev pub AreWritten : List Commit → List PlainCommit → Type 0
+AreWritten commits told = (n : ℕ) (p : PlainCommit) (c : Commit) → slice_get told n ≡ Some p → slice_get commits n ≡ Some c → IsCommit p c
+
+-- the ledger's commits, each once and in their order, and how many there are
+abbrev pub Listed : ledgers.Ledger → List PlainCommit → ℕ → Type 0
+Listed l told count = (commits : List Commit) × IsPermutation (ledgers.commits_in l) commits × IsInOrder commits × (count ≡ length commits) × AreWritten commits told
+
+-- listed, or memory was refused; and of a table that has not ended nothing is
+abbrev pub ListsOf : Kept → List PlainCommit → ℕ → ℕ → Type 0
+ListsOf Nothing told count answer = answer ≡ EMPTY
+ListsOf (Hand h) told count answer = answer ≡ 24
+ListsOf (Ledger l) told count answer = ((answer ≡ 0) × Listed l told count) ⊎ (answer ≡ 17)
+
+abbrev pub Lists : InHandle → List PlainCommit → ℕ → ℕ → Type 0
+Lists None told count answer = answer ≡ EMPTY
+Lists (Some kept) told count answer = ListsOf kept told count answer

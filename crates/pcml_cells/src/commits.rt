@@ -3,12 +3,12 @@
 ghost use Rattle.std.specs.Prelude.{◌≡◌, ◌≢◌, min};
 ghost use Rattle.plain_values.specs.Plain.{row_in};
 ghost use Rattle.cell_hand.specs.Calls.{Attempts, Grants, Takes, Wakes};
-ghost use Rattle.pcml_cells.specs.Answers.{Began, Numbered, Searched, Told, attempt_number, found_number, grant_number, some_number};
+ghost use Rattle.pcml_cells.specs.Answers.{Began, Does, Numbered, Searched, Told, attempt_number, found_number, grant_number, some_number};
 
-use crate::numbers::{CLOSED, EMPTY, RANGE, attempted, found, granted, refused, small};
+use crate::numbers::{CLOSED, EMPTY, RANGE, attempted, found, granted, small, taken};
+use crate::telling::tell_met;
 use cell_hand::Kept;
 use hand_kept::Handle;
-use meet_scan::Found;
 use plain_values::{PlainOffer, PlainRow, read_offers};
 use std::alloc::Global;
 
@@ -28,7 +28,15 @@ pub extern "C" fn pcml_attempt(
     let Some(mut kept) = pass.take(alloc) else {
         return EMPTY;
     };
-    let answer = match &mut *kept {
+    let answer = attempt(&mut kept, mine, own, other, partner);
+    pass.keep(kept);
+    answer
+}
+
+fn attempt(kept: &mut Kept, mine: PlainRow, own: u32, other: PlainRow, partner: u32) -> u32
+    ensures { Does kept.old kept.new result (λ h k. Numbered attempt_number (Attempts h k (row_in mine) (min own 255) (row_in other) (min partner 255)) result) }
+{
+    match kept {
         Kept::Hand(hand) => attempted(hand.attempt(
             mine.read(),
             small(own),
@@ -37,9 +45,7 @@ pub extern "C" fn pcml_attempt(
         )),
         Kept::Ledger(_) => CLOSED,
         Kept::Nothing => EMPTY,
-    };
-    pass.keep(kept);
-    answer
+    }
 }
 
 /// Commits the row alone by this offer. 0 given, 1 the offer does not let it, 2 the row does not wait.
@@ -50,13 +56,19 @@ pub extern "C" fn pcml_grant(alloc: Global, pass: &mut Handle, row: PlainRow, of
     let Some(mut kept) = pass.take(alloc) else {
         return EMPTY;
     };
-    let answer = match &mut *kept {
+    let answer = grant(&mut kept, row, offer);
+    pass.keep(kept);
+    answer
+}
+
+fn grant(kept: &mut Kept, row: PlainRow, offer: u32) -> u32
+    ensures { Does kept.old kept.new result (λ h k. Numbered grant_number (Grants h k (row_in row) (min offer 255)) result) }
+{
+    match kept {
         Kept::Hand(hand) => granted(hand.grant(row.read(), small(offer))),
         Kept::Ledger(_) => CLOSED,
         Kept::Nothing => EMPTY,
-    };
-    pass.keep(kept);
-    answer
+    }
 }
 
 /// Takes a committed row. 0 taken by this call, 1 not committed, or taken before.
@@ -67,17 +79,19 @@ pub extern "C" fn pcml_take(alloc: Global, pass: &mut Handle, row: PlainRow) -> 
     let Some(mut kept) = pass.take(alloc) else {
         return EMPTY;
     };
-    let answer = match &mut *kept {
-        Kept::Hand(hand) => match hand.take(row.read()) {
-            Ok(Some(_)) => 0,
-            Ok(None) => 1,
-            Err(refusal) => refused(refusal),
-        },
-        Kept::Ledger(_) => CLOSED,
-        Kept::Nothing => EMPTY,
-    };
+    let answer = take(&mut kept, row);
     pass.keep(kept);
     answer
+}
+
+fn take(kept: &mut Kept, row: PlainRow) -> u32
+    ensures { Does kept.old kept.new result (λ h k. Numbered some_number (Takes h k (row_in row)) result) }
+{
+    match kept {
+        Kept::Hand(hand) => taken(hand.take(row.read())),
+        Kept::Ledger(_) => CLOSED,
+        Kept::Nothing => EMPTY,
+    }
 }
 
 /// Searches for a row that this held opened one can meet. 0 met, with that row, 1 committed alone, 2 committed before, 3 left
@@ -89,25 +103,26 @@ pub extern "C" fn pcml_search(
     row: PlainRow,
     met: &mut PlainRow,
 ) -> u32
-    ensures { Told pass.old.kept pass.new.kept result (λ h k. Searched h k (row_in row) met.new result) }
+    ensures told { Told pass.old.kept pass.new.kept result (λ h k. Searched h k (row_in row) met.new result) }
     ensures untouched { result ≢ 0 → met.new ≡ met.old }
 {
     let Some(mut kept) = pass.take(alloc) else {
         return EMPTY;
     };
-    let answer = match &mut *kept {
-        Kept::Hand(hand) => {
-            let came = hand.search(row.read());
-            if let Ok(Some(Found::Met(other))) = came {
-                *met = PlainRow::of(other);
-            }
-            found(came)
-        }
-        Kept::Ledger(_) => CLOSED,
-        Kept::Nothing => EMPTY,
-    };
+    let answer = search(&mut kept, row, met);
     pass.keep(kept);
     answer
+}
+
+fn search(kept: &mut Kept, row: PlainRow, met: &mut PlainRow) -> u32
+    ensures told { Does kept.old kept.new result (λ h k. Searched h k (row_in row) met.new result) }
+    ensures untouched { result ≢ 0 → met.new ≡ met.old }
+{
+    match kept {
+        Kept::Hand(hand) => tell_met(hand.search(row.read()), met),
+        Kept::Ledger(_) => CLOSED,
+        Kept::Nothing => EMPTY,
+    }
 }
 
 /// Commits the row alone, if one of its offers lets it. 1 committed by this call, 2 before, 3 no offer lets it, 4 it was
@@ -119,13 +134,19 @@ pub extern "C" fn pcml_wake(alloc: Global, pass: &mut Handle, row: PlainRow) -> 
     let Some(mut kept) = pass.take(alloc) else {
         return EMPTY;
     };
-    let answer = match &mut *kept {
+    let answer = wake(&mut kept, row);
+    pass.keep(kept);
+    answer
+}
+
+fn wake(kept: &mut Kept, row: PlainRow) -> u32
+    ensures { Does kept.old kept.new result (λ h k. Numbered found_number (Wakes h k (row_in row)) result) }
+{
+    match kept {
         Kept::Hand(hand) => found(hand.wake(row.read())),
         Kept::Ledger(_) => CLOSED,
         Kept::Nothing => EMPTY,
-    };
-    pass.keep(kept);
-    answer
+    }
 }
 
 /// Takes the row before this one, where the pass does not hold it yet, drafts the offers, opens the row and searches: the
@@ -138,26 +159,27 @@ pub extern "C" fn pcml_begin(
     offers: &[PlainOffer],
     met: &mut PlainRow,
 ) -> u32
-    ensures { Told pass.old.kept pass.new.kept result (λ h k. Began h k (row_in row) offers.now met.new result) }
+    ensures told { Told pass.old.kept pass.new.kept result (λ h k. Began h k (row_in row) offers.now met.new result) }
     ensures untouched { result ≢ 0 → met.new ≡ met.old }
 {
     let Some(mut kept) = pass.take(alloc) else {
         return EMPTY;
     };
-    let answer = match &mut *kept {
+    let answer = begin(&mut kept, row, offers, met);
+    pass.keep(kept);
+    answer
+}
+
+fn begin(kept: &mut Kept, row: PlainRow, offers: &[PlainOffer], met: &mut PlainRow) -> u32
+    ensures told { Does kept.old kept.new result (λ h k. Began h k (row_in row) offers.now met.new result) }
+    ensures untouched { result ≢ 0 → met.new ≡ met.old }
+{
+    match kept {
         Kept::Hand(hand) => match read_offers(offers) {
-            Some(all) => {
-                let came = hand.begin(row.read(), &all[..offers.len()]);
-                if let Ok(Some(Found::Met(other))) = came {
-                    *met = PlainRow::of(other);
-                }
-                found(came)
-            }
+            Some(all) => tell_met(hand.begin(row.read(), &all[..offers.len()]), met),
             None => RANGE,
         },
         Kept::Ledger(_) => CLOSED,
         Kept::Nothing => EMPTY,
-    };
-    pass.keep(kept);
-    answer
+    }
 }

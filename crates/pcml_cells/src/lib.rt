@@ -9,3 +9,4 @@ mod lives;
 mod numbers;
 mod rows;
 mod tables;
+mod telling;

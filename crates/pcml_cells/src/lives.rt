@@ -3,7 +3,7 @@
 ghost use Rattle.std.specs.Prelude.{◌≡◌, min};
 ghost use Rattle.plain_values.specs.Plain.{row_in};
 ghost use Rattle.cell_hand.specs.Calls.{Finishes, Starts};
-ghost use Rattle.pcml_cells.specs.Answers.{Numbered, Told, done_number, first_number};
+ghost use Rattle.pcml_cells.specs.Answers.{Does, Numbered, Told, done_number, first_number};
 
 use crate::numbers::{CLOSED, EMPTY, done, first, small};
 use cell_hand::Kept;
@@ -19,13 +19,19 @@ pub extern "C" fn pcml_start(alloc: Global, pass: &mut Handle, row: PlainRow, th
     let Some(mut kept) = pass.take(alloc) else {
         return EMPTY;
     };
-    let answer = match &mut *kept {
+    let answer = start(&mut kept, row, thread);
+    pass.keep(kept);
+    answer
+}
+
+fn start(kept: &mut Kept, row: PlainRow, thread: u32) -> u32
+    ensures { Does kept.old kept.new result (λ h k. Numbered first_number (Starts h k (row_in row) (min thread 255)) result) }
+{
+    match kept {
         Kept::Hand(hand) => first(hand.start(row.read(), small(thread))),
         Kept::Ledger(_) => CLOSED,
         Kept::Nothing => EMPTY,
-    };
-    pass.keep(kept);
-    answer
+    }
 }
 
 /// Ends the thread of a held row that is not opened.
@@ -36,11 +42,17 @@ pub extern "C" fn pcml_finish(alloc: Global, pass: &mut Handle, row: PlainRow) -
     let Some(mut kept) = pass.take(alloc) else {
         return EMPTY;
     };
-    let answer = match &mut *kept {
+    let answer = finish(&mut kept, row);
+    pass.keep(kept);
+    answer
+}
+
+fn finish(kept: &mut Kept, row: PlainRow) -> u32
+    ensures { Does kept.old kept.new result (λ h k. Numbered done_number (Finishes h k (row_in row)) result) }
+{
+    match kept {
         Kept::Hand(hand) => done(hand.finish(row.read())),
         Kept::Ledger(_) => CLOSED,
         Kept::Nothing => EMPTY,
-    };
-    pass.keep(kept);
-    answer
+    }
 }

@@ -6,7 +6,7 @@ ghost use Rattle.pcml_cells.specs.Answers.{CLOSED as closed, EMPTY as empty, att
 use cell::{Attempt, Grant};
 use cell_hand::Refusal;
 use meet_scan::Found;
-use protocol_values::{Cell, Course};
+use protocol_values::{Cell, Course, Joined};
 
 /// The pass is empty.
 pub(crate) const EMPTY: u32 = 16;
@@ -115,6 +115,17 @@ pub(crate) fn found(answer: Result<Option<Found>, Refusal>) -> u32
         Ok(Some(Found::Already)) => 2,
         Ok(Some(Found::Left)) => 3,
         Ok(None) => 4,
+        Err(refusal) => refused(refusal),
+    }
+}
+
+/// 0 taken, 1 not.
+pub(crate) fn taken(answer: Result<Option<Joined>, Refusal>) -> u32
+    ensures { result ≡ number_of some_number answer }
+{
+    match answer {
+        Ok(Some(_)) => 0,
+        Ok(None) => 1,
         Err(refusal) => refused(refusal),
     }
 }

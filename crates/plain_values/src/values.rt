@@ -181,7 +181,7 @@ impl PlainOffer {
 /// The offers that these stand for, with `never` behind them. None where there are more than 8, or a number is out of
 /// its range.
 pub fn read_offers(plain: &[PlainOffer]) -> Option<[Offer; 8]>
-    ensures few { IfSome result (λ _. length plain.now ≤ 8) }
+    ensures few { IfSome result (λ offers. (length plain.now ≤ 8) × (length offers ≡ 8)) }
     ensures in_range { IfSome result (All IsOfferInRange) }
     ensures listed { IfSome result (AreListed plain.now) }
     ensures none { IfNone result ((8 < length plain.now) ⊎ NotAll plain.now) }

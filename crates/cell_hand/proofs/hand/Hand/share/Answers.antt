@@ -19,7 +19,7 @@ loop-pass-preserved c =
     let P = λ (p : PassView). IsPassOf cells p in (
       tt,
       tt,
-      ap (λ (hs : List HandOf). passes_of hs ++ left) pushed ∙ one_more hands hand left ∙ ap (λ (p : PassView). passes_of hands ++ p ∷ left) c.in_ok-hand.ensures.hand.1
+      ap (λ (hs : List HandOf). passes_of hs ++ left) pushed ∙ one_more (λ (h : HandOf). h.pass) hands hand left ∙ ap (λ (p : PassView). passes_of hands ++ p ∷ left) c.in_ok-hand.ensures.hand.1
           ∙ ap (λ (ps : List PassView). passes_of hands ++ ps) (sym steps) ∙ c.loop-pass.invariant.2,
       all_is At _ _ (sym pushed) (All-append At hands (hand ∷ []) c.loop-pass.invariant.3 (all_one At hand c.in_ok-hand.ensures.hand.0)),
       all_rest P c.in-Some.pass left (all_is P _ _ steps c.loop-pass.invariant.4),
