@@ -1,7 +1,7 @@
 -- What a handle keeps may go to another thread.
 use denote.Param.Send.{IsSend, IsSync, sendable, view_send}
 use denote.Param.SendFields.{declared_send, declared_sync, variants_send}
-use Rattle.std.proofs.Crossing.{crosses, frees, send, sync}
+use Rattle.std.proofs.Crossing.{crosses, frees, send}
 use Rattle.atomic_table.proofs.owned.Table.TheSendSync as table
 use Rattle.atomic_table.proofs.shared.Seat.TheSendSync as seat
 use Rattle.protocol.specs.contracts.resident.Bare as Bare
@@ -13,7 +13,6 @@ use Rattle.cell_table.specs.contracts.board.Law as Law
 use Rattle.cell_table.specs.contracts.board.LawTableRuleOptionViewShape.TheImpl as rule
 use Rattle.cell.specs.contracts.cells.Cells as Cells
 use Rattle.cell.specs.contracts.cells.Cells.TheInside as CellsInside
-use Rattle.cell.specs.contracts.cells.Pass as Pass
 use Rattle.cell.proofs.cells.Pass.TheSendSync.{the_send as pass_send}
 use Rattle.cell.proofs.Crossing.{cells_sync}
 use Rattle.std.specs.contracts.option.Option as Option

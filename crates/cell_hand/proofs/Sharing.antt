@@ -1,6 +1,6 @@
 -- The hands of a table, one for each pass.
-use Rattle.std.proofs.Common.{◌≡◌, ◌++◌, ◌∙◌, ◌∷◌, List, [], ap, map, option_map, refl, subst, sym, ℕ}
-use Rattle.std.specs.Prelude.{All, IfOk, Ok, Err, Result, Some, slice_get}
+use Rattle.std.proofs.Common.{◌≡◌, ◌++◌, ◌∙◌, ◌∷◌, List, [], ap, map, option_map, refl, subst, ℕ}
+use Rattle.std.specs.Prelude.{IfOk, Ok, Err, Result, Some, slice_get}
 use Rattle.std.proofs.lemmas.Option.{get_or_from_slice_get, slice_get-map, slice_get_within}
 use Rattle.protocol.specs.Openings.{start_opening}
 use Rattle.cell.specs.Calls.{Grid, PassView}

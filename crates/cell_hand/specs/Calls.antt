@@ -1,17 +1,14 @@
 -- What each call comes to, by the hand before it and after it.
-use Rattle.std.specs.Prelude.{⊤, All, map, ◌≡◌, ◌≢◌, ◌⊎◌, ℕ, ◌<◌, ◌≤◌, ◌+◌, Bool, true, false, Option, Some, None, IfSome, IfNone, Result, Ok, Err, List, [], ◌∷◌, slice_get, length}
+use Rattle.std.specs.Prelude.{⊤, All, map, ◌≡◌, ◌⊎◌, ℕ, ◌<◌, ◌≤◌, Bool, true, false, Option, Some, None, IfSome, IfNone, Result, Ok, Err, List, [], ◌∷◌}
 use Rattle.protocol_values.specs.declared.Binding.{Binding}
 use Rattle.protocol_values.specs.declared.Cell.{Cell}
-use Rattle.protocol_values.specs.declared.Commit.{Commit}
 use Rattle.protocol_values.specs.declared.Course.{Course}
 use Rattle.protocol_values.specs.declared.Joined.{Joined}
 use Rattle.protocol_values.specs.declared.Message.{Message}
 use Rattle.protocol_values.specs.declared.NackName.{NackName}
 use Rattle.protocol_values.specs.declared.Offer.{Offer}
 use Rattle.protocol_values.specs.declared.Row.{Row}
-use Rattle.protocol_values.specs.declared.Step.{Step}
 use Rattle.protocol_values.specs.declared.Step.TheVariants.{Bind, Finish, Open, Take}
-use Rattle.protocol.specs.Ledgers.{IsLawful, Ledger, joined_in, offer_in}
 use Rattle.protocol.specs.Openings.{start_opening}
 use Rattle.protocol.specs.Worlds.{first_row, nack_of_row}
 use Rattle.cell.specs.Attempts.{Attempted, Fits, Granted, OnlyDrafts, Took, attempt_made, grant_made, start_made}
@@ -21,7 +18,7 @@ use Rattle.cell.specs.Calls.{Grid, IsRowOf, PassView}
 use Rattle.cell_table.specs.Nacks.{CanStandAlone, IsSeenBound}
 use Rattle.cell_table.specs.declared.view.Seen.{Seen}
 use Rattle.cell_table.specs.Rule.{dealt_from, seen_nothing}
-use Rattle.cell_table.specs.Sight.{Has, IsBefore, IsDraft, IsKnownOpen, IsResult, LackOffer, Redrafts, SawCommitted, SeesOffer, see_cell, see_course}
+use Rattle.cell_table.specs.Sight.{Has, IsBefore, IsDraft, IsExpected, IsExpectedCourse, IsKnownOpen, IsResult, LackOffer, Redrafts, SawCommitted, SeesOffer, see_cell, see_course}
 use Rattle.meet_scan.specs.Leaving.{IsHeldUp, IsLeftRow, KnowsMore}
 use Rattle.meet_scan.specs.Searches.{Finds, Grows, IsAlone}
 use Rattle.meet_scan.specs.Steps.{OnlyLooks, SearchMade, found_or_left}
@@ -29,7 +26,11 @@ use Rattle.meet_scan.specs.declared.found.Found.{Found}
 use Rattle.meet_scan.specs.declared.found.Found.TheVariants.{Alone, Already, Left, Met}
 use Rattle.cell_hand.specs.Hands.{CanAttempt, CanDraft, HandOf, Looked, Made, NotFresh, NotOpened, NotThere, Stays}
 use Rattle.cell_hand.specs.declared.refusal.Refusal.{Refusal}
-use Rattle.cell_hand.specs.declared.refusal.Refusal.TheVariants.{Memory, NoRow, NotHeld, Range}
+use Rattle.cell_hand.specs.declared.refusal.Refusal.TheVariants.{Range}
+
+-- how large a table may be
+abbrev pub CanDeal : ℕ → ℕ → ℕ → Type 0
+CanDeal threads rows passes = (1 ≤ threads) × (threads ≤ 64) × (1 ≤ rows) × (rows ≤ 1024) × (1 ≤ passes) × (passes ≤ 16)
 
 -- a hand of a new table, where the threads of this mask wait to be started: pass `number` of so many
 abbrev pub IsDealt : ℕ → ℕ → ℕ → ℕ → ℕ → HandOf → Type 0
@@ -43,13 +44,13 @@ AreHands table passes hands = (map (λ h. h.pass) hands ≡ passes) × All (λ h
 
 -- READING
 
--- what the cell showed, and nothing else, is seen anew
+-- what the cell showed, and nothing else, is seen anew, and it agrees with all that was seen before
 abbrev pub Looks : HandOf → HandOf → Row → Result Cell Refusal → Type 0
-Looks h k r (Ok cell) = IsRowOf h.table r × Stays h k × (k.pass.seen ≡ see_cell r cell h.pass.seen) × OnlyLooks h.pass k.pass
+Looks h k r (Ok cell) = IsRowOf h.table r × Stays h k × (k.pass.seen ≡ see_cell r cell h.pass.seen) × OnlyLooks h.pass k.pass × IsExpected h.pass.seen r cell
 Looks h k r (Err e) = (k ≡ h) × NotThere h r e
 
 abbrev pub Courses : HandOf → HandOf → ℕ → Result Course Refusal → Type 0
-Courses h k t (Ok course) = Stays h k × (k.pass.seen ≡ see_course t course h.pass.seen) × OnlyLooks h.pass k.pass
+Courses h k t (Ok course) = Stays h k × (k.pass.seen ≡ see_course t course h.pass.seen) × OnlyLooks h.pass k.pass × IsExpectedCourse h.table.rows h.pass.seen t course
 Courses h k t (Err e) = (k ≡ h) × NotThere h (first_row t) e
 
 -- where the nack is bound

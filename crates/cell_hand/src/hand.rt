@@ -1,6 +1,6 @@
 //! A hand, and the tests that its calls make.
 
-ghost use Rattle.std.specs.Prelude.{◌≡◌, ◌≢◌, ◌⊎◌, ◌<◌, ◌≤◌, ℕ, All, IfErr, IfOk, IsTrue, ◌↔◌, Some, length, slice_get};
+ghost use Rattle.std.specs.Prelude.{◌≡◌, ◌≢◌, ◌⊎◌, ◌<◌, ◌≤◌, ℕ, All, IfErr, IfOk, IsTrue, MatchBool, ◌↔◌, Some, length, slice_get};
 ghost use Rattle.protocol_values.specs.declared.Joined.{Joined};
 ghost use Rattle.protocol_values.specs.declared.Row.{Row};
 ghost use Rattle.protocol.specs.Ledgers.{IsLawful, joined_in};
@@ -8,7 +8,7 @@ ghost use Rattle.cell.specs.Calls.{HoldsAt, IsPassOf, IsRowOf, PassView};
 ghost use Rattle.meet_directory.specs.Seats.{Sits};
 ghost use Rattle.cell_table.specs.Sight.{Has};
 ghost use Rattle.cell_hand.specs.Hands.{CanAttempt, CanDraft, HandOf, Looked, NotFresh, NotHere, NotOpened};
-ghost use Rattle.cell_hand.specs.Calls.{AreHands, IsDealt};
+ghost use Rattle.cell_hand.specs.Calls.{AreHands, CanDeal, IsDealt};
 ghost use Rattle.cell_hand.specs.declared.refusal.Refusal.TheVariants.{Memory, NoRow, NotHeld, Range};
 
 use crate::refusal::Refusal;
@@ -48,6 +48,13 @@ impl Model for Hand {
     ghost invariant = { λ h. IsHand (record { table = h.table.value.cells; pass = h.pass; board = h.table.value.directory; scan = h.scan }) };
 }
 
+/// How large a table may be.
+fn can_deal(threads: u8, rows: u16, passes: u8) -> bool
+    ensures { MatchBool result (CanDeal threads rows passes) (¬ CanDeal threads rows passes) }
+{
+    1 <= threads && threads <= 64 && 1 <= rows && rows <= 1024 && 1 <= passes && passes <= 16
+}
+
 impl Hand {
     /// A table of so many threads and rows, and a hand for each of its passes: 1 to 64 threads, 1 to 1024 rows, 1 to 16
     /// passes. Row 0 of thread t is held by hand `t mod passes`, unless t is in the mask `later`: then it waits to be started.
@@ -60,9 +67,10 @@ impl Hand {
     ) -> Result<Vec<Hand>, Refusal>
         ensures count { IfOk result (λ hands. length hands.items ≡ passes) }
         ensures dealt { IfOk result (λ hands. (number : ℕ) (h : HandOf) → slice_get hands.items number ≡ Some h → IsDealt threads rows later passes number h) }
-        ensures refused { IfErr result (λ e. (e ≡ Memory) ⊎ (e ≡ Range)) }
+        ensures range { IfOk result (λ _. CanDeal threads rows passes) }
+        ensures refused { IfErr result (λ e. (e ≡ Memory) ⊎ ((e ≡ Range) × (¬ CanDeal threads rows passes))) }
     {
-        if threads < 1 || threads > 64 || rows < 1 || rows > 1024 || passes < 1 || passes > 16 {
+        if !can_deal(threads, rows, passes) {
             return Err(Refusal::Range);
         }
         let Ok((cells, passes)) = Cells::new_later(alloc, threads, rows, passes, later) else {

@@ -1,5 +1,5 @@
 -- Handles that are filled one after the other.
-use Rattle.std.proofs.Common.{List, Option, Some, [], ap, arith, drop, get_or, inl, length, map, option_map, refl, set, subst, suc, sym, zero, ◌+◌, ◌<◌, ◌∙◌, ◌∷◌, ◌≡◌, ℕ, ⊎_elim, rules}
+use Rattle.std.proofs.Common.{List, Some, [], ap, arith, drop, get_or, length, map, option_map, refl, set, subst, suc, sym, zero, ◌+◌, ◌<◌, ◌∙◌, ◌∷◌, ◌≡◌, ℕ, ⊎_elim}
 use Rattle.std.specs.Prelude.{slice_get}
 use Rattle.std.proofs.lemmas.Bool.{cases_eq}
 use Rattle.std.proofs.lemmas.List.{get_or-set_other, get_or-set_same, length-set}

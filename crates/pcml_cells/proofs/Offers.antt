@@ -1,6 +1,6 @@
 -- The offers that were read, without those behind the last one.
-use Rattle.std.proofs.Common.{List, length, subst, sym, take, ◌<◌, ◌∙◌, ◌≡◌, ◌≤◌, ℕ, ap, arith}
-use Rattle.std.specs.Prelude.{Some, slice_get}
+use Rattle.std.proofs.Common.{List, length, subst, sym, take, ◌<◌, ◌∙◌, ◌≡◌, ◌≤◌, ℕ, ap}
+use Rattle.std.specs.Prelude.{Some}
 use Rattle.std.proofs.lemmas.List.{get_or-take, length-take-le}
 use Rattle.std.proofs.lemmas.Option.{get_or_from_slice_get, slice_get-get_or, slice_get_within}
 use Rattle.protocol_values.specs.declared.Offer.{Offer}

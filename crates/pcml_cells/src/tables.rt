@@ -3,6 +3,7 @@
 ghost use Rattle.std.specs.Prelude.{◌≡◌, ◌≢◌, ◌⊎◌, ℕ, IfOk, None, Some, length, map, slice_get};
 ghost use Rattle.hand_kept.specs.declared.handle.Handle.{Handle as HandleOf};
 ghost use Rattle.cell_hand.specs.declared.kept.Kept.TheVariants.{Hand as ByHand};
+ghost use Rattle.cell_hand.specs.Calls.{CanDeal};
 ghost use Rattle.pcml_cells.specs.Answers.{AreDealt, AreWritten, Closed, Lists, ListsOf};
 
 use crate::numbers::{CLOSED, EMPTY, RANGE, refused};
@@ -23,9 +24,15 @@ pub extern "C" fn pcml_cells_new(
     passes: &mut [Handle],
 ) -> u32
     ensures dealt { result ≡ 0 → AreDealt threads rows later passes.new }
-    ensures refused { result ≢ 0 → (passes.new ≡ passes.old) × ((result ≡ 17) ⊎ (result ≡ 18)) }
+    ensures refused { result ≢ 0 → (passes.new ≡ passes.old) × ((result ≡ 17) ⊎ ((result ≡ 18) × (¬ CanDeal threads rows (length passes.old)))) }
 {
-    if threads > 64 || rows > 1024 || passes.len() > 16 {
+    if threads > 64 {
+        return RANGE;
+    }
+    if rows > 1024 {
+        return RANGE;
+    }
+    if passes.len() > 16 {
         return RANGE;
     }
     let count = passes.len() as u8;

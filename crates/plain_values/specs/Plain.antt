@@ -1,6 +1,6 @@
 -- What structs of numbers stand for.
-use Rattle.std.specs.Prelude.{◌≡◌, ℕ, ◌+◌, ◌*◌, ◌<◌, Option, Some, None, min, List, slice_get}
-use Rattle.protocol_values.specs.Words.{IsAtomInRange, IsMessageInRange, IsOfferInRange}
+use Rattle.std.specs.Prelude.{◌≡◌, ℕ, ◌+◌, ◌*◌, Option, Some, None, min, List, slice_get}
+use Rattle.protocol_values.specs.Words.{IsOfferInRange}
 use Rattle.protocol_values.specs.declared.Atom.{Atom}
 use Rattle.protocol_values.specs.declared.Atom.TheVariants.{Num, Chan, Nack}
 use Rattle.protocol_values.specs.declared.Message.{Message}

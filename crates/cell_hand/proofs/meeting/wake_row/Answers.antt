@@ -1,4 +1,4 @@
-use Rattle.std.proofs.Common.{◌∙◌, ◌≡◌, ◌<◌, ◌+◌, ℕ, ⊎_elim, arith, ap, inl, inr, subst, sym, refl}
+use Rattle.std.proofs.Common.{◌∙◌, ℕ, arith, ap}
 use Rattle.protocol_values.specs.declared.Step.{Step}
 use Rattle.protocol_values.specs.declared.Step.TheVariants.{Grant as GrantRow}
 use Rattle.std.proofs.Common.{List, ◌∷◌}

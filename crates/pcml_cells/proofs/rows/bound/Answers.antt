@@ -1,4 +1,4 @@
-use Rattle.std.proofs.Common.{inl, inr, refl, subst}
+use Rattle.std.proofs.Common.{inl, inr, refl}
 use Rattle.pcml_cells.proofs.InHandles.{by_hand}
 use Rattle.pcml_cells.proofs.rows.bound.Goals as goal
 

@@ -1,5 +1,4 @@
-use Rattle.std.proofs.Common.{subst, ℕ}
-use Rattle.std.specs.Prelude.{min}
+use Rattle.std.proofs.Common.{subst}
 use Rattle.protocol_values.specs.declared.Row.{Row}
 use Rattle.cell_hand.specs.Calls.{Looks}
 use Rattle.pcml_cells.proofs.InHandles.{by_hand}

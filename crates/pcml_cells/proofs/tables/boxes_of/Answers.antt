@@ -1,4 +1,4 @@
-use Rattle.std.proofs.Common.{Box, Global, List, ap, map, sym, ◌++◌, ◌∙◌, ◌∷◌, ◌≡◌}
+use Rattle.std.proofs.Common.{Box, Global, List, ap, map, sym, ◌++◌, ◌∙◌, ◌∷◌}
 use Rattle.std.specs.Vec.Iter.{into_iter_items}
 use Rattle.cell_hand.specs.Hands.{HandOf}
 use Rattle.cell_hand.specs.declared.kept.Kept.{Kept}

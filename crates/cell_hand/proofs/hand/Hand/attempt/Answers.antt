@@ -1,8 +1,6 @@
-use Rattle.std.proofs.Common.{rules, refl, subst}
-use Rattle.std.specs.Prelude.{Ok}
+use Rattle.std.proofs.Common.{rules, refl}
 use Rattle.cell.specs.Calls.{IsRowOf}
-use Rattle.cell_hand.specs.Hands.{HandOf, Looked, CanAttempt}
-use Rattle.cell_hand.specs.Calls.{Attempts}
+use Rattle.cell_hand.specs.Hands.{Looked, CanAttempt}
 use Rattle.cell_hand.specs.contracts.hand.Hand.{the_view}
 use Rattle.meet_scan.proofs.Growing.{grows_by}
 use Rattle.cell_hand.proofs.Looking.{attempts}
