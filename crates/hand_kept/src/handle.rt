@@ -1,4 +1,5 @@
-// What C keeps of a value on the heap: its address, or null.
+//! What C keeps of a value on the heap: its address, or null.
+
 ghost use Rattle.std.specs.Prelude.{◌≡◌, Some, None, IfSome, IfNone};
 ghost use Rattle.hand_kept.specs.Owned.{InHandle, handle_owns, kept_coded};
 
@@ -7,6 +8,7 @@ use cell_hand::Kept;
 use std::alloc::Global;
 use std::marker::Model;
 
+/// The address of what is kept, or null. It lies in the caller's memory.
 #[repr(C)]
 pub struct Handle {
     at: *mut u8,
@@ -79,4 +81,5 @@ impl Drop for Handle {
     }
 }
 
+// what it keeps may go to another thread, and nothing else is at its address
 unsafe impl Send for Handle {}

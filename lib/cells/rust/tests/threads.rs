@@ -1,0 +1,55 @@
+//! Two threads meet, in safe Rust alone; and a pass that is not the last one comes back.
+use puttolive_cells::{table, Found, Message, Offer, Pass, Refused, Row};
+use std::thread;
+
+const ROUNDS: u32 = 1_000;
+
+fn meet(pass: &mut Pass, row: Row, offer: Offer) -> Message {
+    let mut found = pass.begin(row, &[offer]).unwrap();
+    while found == Found::Again {
+        found = pass.search(row).unwrap();
+    }
+    loop {
+        if let Some((_, message)) = pass.answer(row).unwrap() {
+            return message;
+        }
+        thread::yield_now();
+    }
+}
+
+#[test]
+fn two_threads() {
+    let mut passes = table(2, ROUNDS, 2).unwrap();
+    let (mut second, mut first) = (passes.pop().unwrap(), passes.pop().unwrap());
+    let sender = thread::spawn(move || {
+        for sync in 0..ROUNDS {
+            meet(&mut first, Row { thread: 0, sync }, Offer::send(7, Message::number(sync)));
+        }
+        first
+    });
+    let receiver = thread::spawn(move || {
+        let sum = (0..ROUNDS).map(|sync| meet(&mut second, Row { thread: 1, sync }, Offer::recv(7)).atoms[0].value).sum::<u32>();
+        (second, sum)
+    });
+    let first = sender.join().unwrap();
+    let (second, sum) = receiver.join().unwrap();
+    assert_eq!(sum, ROUNDS * (ROUNDS - 1) / 2);
+    let Err((refused, second)) = second.close() else { panic!("another pass was left") };
+    assert_eq!(refused, Refused(24));
+    drop(first);
+    let Ok(commits) = second.close() else { panic!("the last pass closes") };
+    assert_eq!(commits.len(), ROUNDS as usize);
+    for (n, commit) in (0..).zip(&commits) {
+        assert_eq!((commit.stamp, commit.sender.sync, commit.receiver.sync, commit.of), (n + 1, n, n, 7));
+    }
+}
+
+#[test]
+fn refusals() {
+    let mut pass = table(1, 1, 1).unwrap().pop().unwrap();
+    assert_eq!(pass.open(Row { thread: 1, sync: 0 }), Err(Refused(19)));
+    assert_eq!(pass.search(Row::default()), Err(Refused(22)));
+    assert!(pass.holds(Row::default()));
+    assert_eq!(pass.begin(Row::default(), &[Offer::always(Message::default())]), Ok(Found::Alone));
+    assert_eq!(table(0, 1, 1).err(), Some(Refused(18)));
+}
