@@ -1,10 +1,10 @@
-//! Finds the archive: in the folder that PCML_LIBS names, and else in lib/cells/out, where `make -C lib/cells` puts it.
+//! Finds the archive: in the folder that PCML_LIBS names, and else in lib/out, where `lib/build` puts it.
 use std::path::PathBuf;
 
 fn main() {
     println!("cargo:rerun-if-env-changed=PCML_LIBS");
     let folder = std::env::var_os("PCML_LIBS").map_or_else(
-        || PathBuf::from(std::env::var_os("CARGO_MANIFEST_DIR").expect("cargo names its folder")).join("../out"),
+        || PathBuf::from(std::env::var_os("CARGO_MANIFEST_DIR").expect("cargo names its folder")).join("../../out"),
         PathBuf::from,
     );
     let archive = folder.join("libpcml_cells.a");
