@@ -44,7 +44,7 @@ int main(void) {
     for (int i = 0; i < 2; i++) pthread_join(threads[i], NULL);
 
     char text[1024];
-    pcml_answer answer = pcml_check_journal(SCRIPT, strlen(SCRIPT), journal, used, 256, text, sizeof text);
+    pcml_check_answer answer = pcml_check_journal(SCRIPT, strlen(SCRIPT), journal, used, 256, text, sizeof text);
     fputs(text, stdout);
     return answer.code != PCML_DONE;
 }

@@ -52,12 +52,12 @@ enum pcml_code {
 
 enum pcml_form { PCML_SVG = 0, PCML_MERMAID = 1 };
 
-typedef struct pcml_answer {
+typedef struct pcml_check_answer {
     uint32_t code;   /* one of enum pcml_code */
     uint32_t fault;  /* the number that `pcml explain` knows, or 0 */
     size_t line;     /* from 1, or 0 where nothing stands at a line */
     size_t text_len; /* the length of the whole text, without its NUL */
-} pcml_answer;
+} pcml_check_answer;
 
 /* The version of the library that is linked. */
 uint32_t pcml_check_version(void);
@@ -68,7 +68,7 @@ uint32_t pcml_check_version(void);
  *   PCML_BAD_SCRIPT      it is not: its first fault, and the line
  *   PCML_OUT_OF_MEMORY
  */
-pcml_answer pcml_check(const char *script, size_t script_len, char *text, size_t room);
+pcml_check_answer pcml_check(const char *script, size_t script_len, char *text, size_t room);
 
 /*
  * Why is the text no script? The text is that of `pcml why`.
@@ -76,7 +76,7 @@ pcml_answer pcml_check(const char *script, size_t script_len, char *text, size_t
  *   PCML_DONE            it is a script, and the text says so
  *   PCML_OUT_OF_MEMORY
  */
-pcml_answer pcml_why_script(const char *script, size_t script_len, char *text, size_t room);
+pcml_check_answer pcml_why_script(const char *script, size_t script_len, char *text, size_t room);
 
 /*
  * Is the journal a run of the script? The text is that of `pcml replay`. A process makes at most `rows` syncs,
@@ -87,8 +87,8 @@ pcml_answer pcml_why_script(const char *script, size_t script_len, char *text, s
  *   PCML_BAD_ROWS, PCML_BAD_SCRIPT, PCML_BAD_JOURNAL, PCML_OUT_OF_MEMORY
  * Of bad numbers, a bad script and a bad journal the first is told, here and below.
  */
-pcml_answer pcml_check_journal(const char *script, size_t script_len, const char *journal, size_t journal_len,
-                               uint32_t rows, char *text, size_t room);
+pcml_check_answer pcml_check_journal(const char *script, size_t script_len, const char *journal, size_t journal_len,
+                                     uint32_t rows, char *text, size_t room);
 
 /*
  * What can the script come to? The text is that of `pcml outcomes`. A process makes at most `rows` syncs, 1 to 1024
@@ -101,8 +101,9 @@ pcml_answer pcml_check_journal(const char *script, size_t script_len, const char
  *   PCML_OPEN            neither is known: the search was cut, or a process had no sync left
  *   PCML_BAD_ROWS, PCML_BAD_LIMIT, PCML_BAD_NAMES, PCML_BAD_SCRIPT, PCML_NO_PROCESS, PCML_OUT_OF_MEMORY
  */
-pcml_answer pcml_outcomes(const char *script, size_t script_len, uint32_t rows, uint32_t limit, const char *need,
-                          size_t need_len, const char *only, size_t only_len, char *text, size_t room);
+pcml_check_answer pcml_outcomes(const char *script, size_t script_len, uint32_t rows, uint32_t limit,
+                                const char *need, size_t need_len, const char *only, size_t only_len, char *text,
+                                size_t room);
 
 /*
  * The journal as a chart: the text is that of `pcml chart`, of the commits with a stamp from `from` to `to`
@@ -111,9 +112,9 @@ pcml_answer pcml_outcomes(const char *script, size_t script_len, uint32_t rows, 
  *   PCML_UNLAWFUL        the journal is no run: `line`, and no text
  *   PCML_BAD_ROWS, PCML_BAD_FORM, PCML_BAD_NAMES, PCML_BAD_SCRIPT, PCML_BAD_JOURNAL, PCML_NO_PROCESS, PCML_OUT_OF_MEMORY
  */
-pcml_answer pcml_chart(const char *script, size_t script_len, const char *journal, size_t journal_len, uint32_t rows,
-                       const char *only, size_t only_len, uint32_t from, uint32_t to, uint32_t form, char *text,
-                       size_t room);
+pcml_check_answer pcml_chart(const char *script, size_t script_len, const char *journal, size_t journal_len,
+                             uint32_t rows, const char *only, size_t only_len, uint32_t from, uint32_t to,
+                             uint32_t form, char *text, size_t room);
 
 #ifdef __cplusplus
 }

@@ -12,7 +12,7 @@
 static char text[ROOM];
 static int compared, wrong;
 
-static void told(int line, pcml_answer a, uint32_t code, uint32_t fault, size_t at, const char *whole) {
+static void told(int line, pcml_check_answer a, uint32_t code, uint32_t fault, size_t at, const char *whole) {
     compared++;
     if (a.code == code && a.fault == fault && a.line == at && a.text_len == strlen(whole) && !strcmp(text, whole)) return;
     printf("answers.c:%d: code %u fault %u line %zu text_len %zu\n%s", line, a.code, a.fault, a.line, a.text_len, text);
@@ -25,15 +25,15 @@ static const char JOURNAL[] = "1 a.0.0 -> b.0.0 c (42)\n";
 static const char CHOICE[] = "channel c; process a { sync send c (1); } process b { sync send c (2); } process d { x <- sync recv c; print x; }";
 static const char LONG_RUN[] = "channel c; process a { loop 9 { sync send c (1); } } process b { loop 9 { sync recv c; } }";
 
-static pcml_answer check(const char *script) { return pcml_check(TEXT(script), text, ROOM); }
-static pcml_answer why(const char *script) { return pcml_why_script(TEXT(script), text, ROOM); }
-static pcml_answer judge(const char *script, const char *journal, uint32_t rows) {
+static pcml_check_answer check(const char *script) { return pcml_check(TEXT(script), text, ROOM); }
+static pcml_check_answer why(const char *script) { return pcml_why_script(TEXT(script), text, ROOM); }
+static pcml_check_answer judge(const char *script, const char *journal, uint32_t rows) {
     return pcml_check_journal(TEXT(script), TEXT(journal), rows, text, ROOM);
 }
-static pcml_answer outcomes(const char *script, uint32_t rows, uint32_t limit, const char *need, const char *only) {
+static pcml_check_answer outcomes(const char *script, uint32_t rows, uint32_t limit, const char *need, const char *only) {
     return pcml_outcomes(TEXT(script), rows, limit, TEXT(need), TEXT(only), text, ROOM);
 }
-static pcml_answer chart(const char *journal, uint32_t rows, const char *only, uint32_t from, uint32_t to, uint32_t form) {
+static pcml_check_answer chart(const char *journal, uint32_t rows, const char *only, uint32_t from, uint32_t to, uint32_t form) {
     return pcml_chart(TEXT(PAIR), TEXT(journal), rows, TEXT(only), from, to, form, text, ROOM);
 }
 
@@ -125,23 +125,23 @@ static void charts(void) {
 }
 
 /* A buffer of each length has as much of the text as fits before a NUL, and behind that what it had. */
-typedef pcml_answer call(char *into, size_t room);
-static pcml_answer a_script(char *into, size_t room) { return pcml_check(TEXT(PAIR), into, room); }
-static pcml_answer a_mistake(char *into, size_t room) { return pcml_why_script(TEXT("process a { sync receive c; }"), into, room); }
-static pcml_answer a_journal(char *into, size_t room) { return pcml_check_journal(TEXT(PAIR), TEXT(JOURNAL), 9, into, room); }
-static pcml_answer a_search(char *into, size_t room) { return pcml_outcomes(TEXT(CHOICE), 9, 99, "", 0, "", 0, into, room); }
-static pcml_answer a_picture(char *into, size_t room) {
+typedef pcml_check_answer call(char *into, size_t room);
+static pcml_check_answer a_script(char *into, size_t room) { return pcml_check(TEXT(PAIR), into, room); }
+static pcml_check_answer a_mistake(char *into, size_t room) { return pcml_why_script(TEXT("process a { sync receive c; }"), into, room); }
+static pcml_check_answer a_journal(char *into, size_t room) { return pcml_check_journal(TEXT(PAIR), TEXT(JOURNAL), 9, into, room); }
+static pcml_check_answer a_search(char *into, size_t room) { return pcml_outcomes(TEXT(CHOICE), 9, 99, "", 0, "", 0, into, room); }
+static pcml_check_answer a_picture(char *into, size_t room) {
     return pcml_chart(TEXT(PAIR), TEXT(JOURNAL), 9, "", 0, 1, 9, PCML_SVG, into, room);
 }
-static pcml_answer a_name(char *into, size_t room) { return pcml_outcomes(TEXT(PAIR), 9, 99, "nobody", 6, "", 0, into, room); }
-static pcml_answer a_refusal(char *into, size_t room) { return pcml_check_journal(TEXT(PAIR), TEXT(JOURNAL), 0, into, room); }
+static pcml_check_answer a_name(char *into, size_t room) { return pcml_outcomes(TEXT(PAIR), 9, 99, "nobody", 6, "", 0, into, room); }
+static pcml_check_answer a_refusal(char *into, size_t room) { return pcml_check_journal(TEXT(PAIR), TEXT(JOURNAL), 0, into, room); }
 
 static void buffers(call *ask) {
-    pcml_answer whole = ask(text, ROOM);
+    pcml_check_answer whole = ask(text, ROOM);
     for (size_t room = 0; room <= whole.text_len + 3; room++) {
         char *into = malloc(room + 1);
         memset(into, 0x5a, room + 1);
-        pcml_answer a = ask(into, room);
+        pcml_check_answer a = ask(into, room);
         size_t fits = room == 0 ? 0 : whole.text_len < room ? whole.text_len : room - 1;
         int is_right = a.code == whole.code && a.fault == whole.fault && a.line == whole.line && a.text_len == whole.text_len;
         is_right &= !memcmp(into, text, fits) && (room == 0 || into[fits] == 0);

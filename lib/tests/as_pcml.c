@@ -50,7 +50,7 @@ static int read_words(int count, char **words) {
     return 1;
 }
 
-static pcml_answer ask(const char *command, char *text, size_t room) {
+static pcml_check_answer ask(const char *command, char *text, size_t room) {
     if (!strcmp(command, "check")) return pcml_check(files[0], lengths[0], text, room);
     if (!strcmp(command, "why")) return pcml_why_script(files[0], lengths[0], text, room);
     if (!strcmp(command, "replay")) return pcml_check_journal(files[0], lengths[0], files[1], lengths[1], rows * seasons, text, room);
@@ -60,7 +60,7 @@ static pcml_answer ask(const char *command, char *text, size_t room) {
 }
 
 /* What the program tells on its error stream of a refusal; the status. */
-static int refuse(pcml_answer a, const char *text) {
+static int refuse(pcml_check_answer a, const char *text) {
     if (a.code == PCML_NO_PROCESS) return fprintf(stderr, "error: no process is named '%s'\n", text), 2;
     if (a.code != PCML_BAD_SCRIPT && a.code != PCML_BAD_JOURNAL) return 99;
     if (a.line == 0) return fprintf(stderr, "fault %u\n", a.fault), 1;
@@ -68,7 +68,7 @@ static int refuse(pcml_answer a, const char *text) {
 }
 
 /* Prints the answer as the program does; the status. */
-static int answer(const char *command, pcml_answer a, const char *text) {
+static int answer(const char *command, pcml_check_answer a, const char *text) {
     if (a.code >= PCML_OUT_OF_MEMORY) return refuse(a, text);
     if (a.code == PCML_UNLAWFUL && !strcmp(command, "chart")) return fprintf(stderr, "unlawful at line %zu\n", a.line), 1;
     fwrite(text, 1, a.text_len, stdout);
@@ -83,11 +83,11 @@ int main(int count, char **words) {
         if (count > 1 && !strcmp(words[1], COMMANDS[i].name)) wanted = COMMANDS[i].files;
     if (wanted == 0 || !read_words(count - 2, words + 2) || named != wanted) return 99;
     char first[256];
-    pcml_answer a = ask(words[1], first, sizeof first);
+    pcml_check_answer a = ask(words[1], first, sizeof first);
     if (a.code == PCML_OUT_OF_MEMORY) return tell_memory();
     char *text = malloc(a.text_len + 1);
     if (text == NULL) return tell_memory();
-    pcml_answer again = ask(words[1], text, a.text_len + 1);
+    pcml_check_answer again = ask(words[1], text, a.text_len + 1);
     if (again.code == PCML_OUT_OF_MEMORY) return tell_memory();
     if (memcmp(&a, &again, sizeof a)) return 98;
     int status = answer(words[1], a, text);

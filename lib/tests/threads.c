@@ -39,7 +39,7 @@ static void make_deep(void) {
 /* Asks all of a script and a journal, and mixes the answers into the sum. */
 static void ask_all(const char *script, const char *journal, uintptr_t *sum) {
     char text[8192];
-    pcml_answer answers[] = {
+    pcml_check_answer answers[] = {
         pcml_check(TEXT(script), text, sizeof text),
         pcml_why_script(TEXT(script), text, sizeof text),
         pcml_why_script(script, strlen(script) - 3, text, sizeof text),
