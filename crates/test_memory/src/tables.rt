@@ -7,6 +7,7 @@ ghost use Rattle.cell_table.specs.Rule.{dealt_rows, seen_nothing};
 ghost use Rattle.cell_table.specs.Sight.{AreOffers, Has, SawEnded};
 ghost use Rattle.protocol.specs.Worlds.{first_row};
 ghost use Rattle.meet.specs.Rooms.{IsMeetPassOf};
+ghost use Rattle.meet_scan.specs.Searches.{Grows};
 
 use crate::hoard::Hoard;
 use crate::sweep::{Answer, Call, judged};
@@ -167,8 +168,32 @@ fn is_meeting(commits: &[Commit]) -> bool {
     commits == [meeting].as_slice()
 }
 
-/// To search for a row that meets nothing yet: its offers are put in. The other row meets it then, also where memory was
-/// refused: hints alone are lost.
+/// How often a row is searched: its entries fill more than a block of a lane then.
+const SEARCHES: u32 = 40;
+
+/// Searches for the first row again and again.
+fn search_often<R: Wait>(
+    rt: &R,
+    meet: &Meet,
+    cells: &Cells<Bare>,
+    pass: &mut Pass<Bare>,
+    lanes: &mut MeetPass,
+) -> Result<(), AllocError>
+    requires here { IsPassOf cells.now pass.old × IsRowOf cells.now (first_row 0) }
+    requires opened { Has pass.old.seen.held (first_row 0) × Has pass.old.seen.opened (first_row 0) }
+    requires lanes { IsMeetPassOf meet.now lanes.old }
+    ensures here { IsPassOf cells.now pass.new }
+    ensures grows { Grows pass.old.seen pass.new.seen }
+    ensures lanes { IsMeetPassOf meet.now lanes.new }
+{
+    for _ in 0..SEARCHES {
+        meet.search(rt, cells, pass, lanes, &NoGate, row(0))?;
+    }
+    Ok(())
+}
+
+/// To search for a row that meets nothing yet, again and again: its offers are put in. The other row meets it then, also
+/// where memory was refused: hints alone are lost.
 #[derive(Drop)]
 pub(crate) struct PuttingIn<'a, R> {
     pub(crate) rt: &'a R,
@@ -183,7 +208,7 @@ impl<R: AllocGlobal + Wait> Call for PuttingIn<'_, R> {
         enter(&cells, &mut pass, row(0), &offers);
         enter(&cells, &mut pass, row(1), &[receive(3, 0)]);
         hoard.leave(amount)?;
-        let first = meet.search(rt, &cells, &mut pass, &mut lanes, &NoGate, row(0));
+        let first = search_often(rt, &meet, &cells, &mut pass, &mut lanes);
         hoard.release();
         let second = meet.search(rt, &cells, &mut pass, &mut lanes, &NoGate, row(1))?;
         let commits = commits_of(cells, pass)?;
@@ -191,7 +216,7 @@ impl<R: AllocGlobal + Wait> Call for PuttingIn<'_, R> {
             return Ok(Answer::Other);
         }
         match first {
-            Ok(found) => Ok(judged(found == Found::Left)),
+            Ok(()) => Ok(judged(true)),
             Err(_) => Ok(Answer::Refused),
         }
     }
